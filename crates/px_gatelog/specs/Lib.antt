@@ -1,0 +1,12 @@
+pub mod Body
+pub mod First
+pub mod Format
+pub mod Frame
+pub mod Framed
+pub mod GateLog
+pub mod Laws
+pub mod Reading
+pub mod Replay
+pub mod Segment
+pub mod Spelled
+pub mod Start

@@ -1,0 +1,147 @@
+// A log in two segment files.
+ghost use Rattle.std.specs.Prelude.{◌≡◌, ◌≢◌, ◌≤◌, ◌<◌, ◌+◌, ◌^◌, ◌⊎◌, ◌++◌, ◌∷◌, [], ◌↔◌, ℕ, List, length, IsTrue, IfOk, IsErr, OnOk, Ok, Err};
+ghost use Rattle.px_outside.specs.OnDisk.{LeavesOnly, Only, Passes, Rose, Stays, TouchesOnly};
+ghost use Rattle.px_gatelog.specs.Format.{IsNextRecord, LogForm, LogRecord, SegmentRead, with_record};
+
+use crate::append::add_record;
+use crate::replay::replay;
+use crate::segment::{SEGMENT_LIMIT, Segment};
+use crate::start::{is_shut, read_whole, settle};
+use crate::{Frame, LogFault, LogReader};
+use px_outside::Disk;
+use std::alloc::Global;
+
+/// A log. Of its two segment files the newest open one takes the appends.
+#[derive(Drop)]
+pub struct GateLog {
+    pub(crate) first: u64,
+    pub(crate) second: u64,
+    pub(crate) newest: Option<Segment>,
+    /// Whether a closed gate stands at the beginning of the first file. A write over it could open it.
+    pub(crate) first_shut: bool,
+    pub(crate) second_shut: bool,
+    /// Where the next segment stands behind a closed gate, the place of the gate behind its records.
+    pub(crate) laid: Option<u64>,
+    ghost distinct: { first ≢ second },
+}
+
+impl GateLog {
+    ghost use Rattle.px_gatelog.specs.Framed.{record_of};
+    ghost use Rattle.px_gatelog.specs.GateLog.{IsLaid, IsSameLog, IsSettled, StandsFor, is_newest_file, is_open, room_of};
+
+    /// Adds a record to the newest segment. After `Ok` it is there. A stop in the call leaves it whole or not at all.
+    /// It takes no memory.
+    pub fn append<D: Disk>(&mut self, disk: &mut D, frame: &Frame) -> Result<(), LogFault>
+        requires open { is_open self.old }
+
+        ensures done { (form : LogForm) (segments : List SegmentRead) → IsSettled ⟦<D as Disk>⟧ form self.old disk.old segments → IsNextRecord form segments (record_of frame.now)
+            → OnOk result (IsSettled ⟦<D as Disk>⟧ form self.new disk.new (with_record segments (record_of frame.now))) }
+
+        // At each moment of the call a stop leaves the log without the record, or with it.
+        ensures any_moment { (form : LogForm) (segments : List SegmentRead) → IsSettled ⟦<D as Disk>⟧ form self.old disk.old segments → IsNextRecord form segments (record_of frame.now)
+            → LeavesOnly ⟦<D as Disk>⟧ disk.old disk.new (λ moment image.
+            StandsFor form self.old image segments ⊎ StandsFor form self.old image (with_record segments (record_of frame.now))) }
+
+        // The record passes the segment's size, and then no call is made.
+        ensures full { (result ≡ Err LogFault.Full) ↔ (room_of self.old < 7 + length frame.now.body) }
+        ensures untouched { result ≡ Err LogFault.Full → (disk.new ≡ disk.old) × (self.new ≡ self.old) }
+        ensures failed { result ≡ Err LogFault.WriteFault → Rose ⟦<D as Disk>⟧ disk.old disk.new }
+        ensures faults { IsErr result → (result ≡ Err LogFault.Full) ⊎ (result ≡ Err LogFault.WriteFault) }
+        ensures touches { TouchesOnly ⟦<D as Disk>⟧ disk.old disk.new (is_newest_file self.old) }
+        ensures counts { Passes ⟦<D as Disk>⟧ disk.old disk.new 4 }
+        ensures same { IsSameLog self.old self.new }
+        ensures open { is_open self.new }
+    {
+        match self.newest {
+            None => unreachable!(),
+            Some(segment) => {
+                let behind = frame.bytes().len() as u64;
+                if segment.end >= SEGMENT_LIMIT || SEGMENT_LIMIT - segment.end <= behind {
+                    return Err(LogFault::Full);
+                }
+                let file = self.file(segment.in_second);
+                add_record(disk, file, segment.end, frame)?;
+                self.newest = Some(Segment {
+                    in_second: segment.in_second,
+                    generation: segment.generation,
+                    end: segment.end + behind,
+                });
+                Ok(())
+            }
+        }
+    }
+}
+
+impl GateLog {
+    ghost use Rattle.px_gatelog.specs.GateLog.{file_at};
+
+    /// The first or the second file.
+    pub(crate) fn file(&self, in_second: bool) -> u64
+        ensures { result ≡ file_at self.now in_second }
+    {
+        if in_second { self.second } else { self.first }
+    }
+}
+
+impl GateLog {
+    ghost use Rattle.px_gatelog.specs.Start.{IsStart};
+    ghost use Rattle.px_gatelog.specs.GateLog.{is_open as log_is_open, room_of as log_room, steps_left};
+
+    /// Whether the log has an open segment.
+    pub fn is_open(&self) -> bool
+        ensures { IsTrue result ↔ log_is_open self.now }
+    {
+        self.newest.is_some()
+    }
+
+    /// Whether the newest segment has room for a record with a body of so many bytes. Without an open segment there is
+    /// none.
+    pub fn has_room(&self, body: u64) -> bool
+        requires short { body < 2 ^ 32 }
+        ensures { IsTrue result ↔ (7 + body ≤ log_room self.now) }
+    {
+        match self.newest {
+            None => false,
+            Some(segment) => segment.end < SEGMENT_LIMIT && SEGMENT_LIMIT - segment.end >= 7 + body,
+        }
+    }
+
+    /// Opens the log that is in two files. The reader takes the records that count, in order.
+    pub fn start<D: Disk, R: LogReader>(
+        alloc: Global,
+        disk: &mut D,
+        first: u64,
+        second: u64,
+        reader: &mut R,
+    ) -> Result<GateLog, LogFault>
+        requires distinct { first ≢ second }
+
+        // What the files stand for, or the first place that isn't of the format.
+        ensures start { R.has_read reader.old [] → IsTrue D.tells → IsStart ⟦<D as Disk>⟧ (R.form reader.old) (R.has_read reader.new) first second disk.old disk.new result }
+        ensures taken { R.has_read reader.old [] → OnOk result ((records : List LogRecord) × R.has_read reader.new records) }
+
+        // A stop in the call leaves nothing new.
+        ensures quiet { Stays ⟦<D as Disk>⟧ disk.old disk.new }
+        ensures seen { D.seen disk.new ≡ D.seen disk.old }
+        ensures read_failed { result ≡ Err LogFault.ReadFault → Rose ⟦<D as Disk>⟧ disk.old disk.new }
+        ensures write_failed { result ≡ Err LogFault.WriteFault → Rose ⟦<D as Disk>⟧ disk.old disk.new }
+        ensures not_full { result ≢ Err LogFault.Full }
+
+        // No segment is laid out yet.
+        ensures unlaid { IfOk result (λ log. 1 < steps_left log) }
+        ensures counts { Passes ⟦<D as Disk>⟧ disk.old disk.new 6 }
+    {
+        settle(disk, first, second)?;
+        let in_first = read_whole(alloc, disk, first)?;
+        let in_second = read_whole(alloc, disk, second)?;
+        let newest = replay(first, second, &in_first, &in_second, reader)?;
+        Ok(GateLog {
+            first,
+            second,
+            newest,
+            first_shut: is_shut(&in_first),
+            second_shut: is_shut(&in_second),
+            laid: None,
+        })
+    }
+}

@@ -1,0 +1,12 @@
+pub mod Calls
+pub mod Disk
+pub mod Faults
+pub mod Files
+pub mod FolderDisk
+pub mod MemDisk
+pub mod MemStreams
+pub mod Metered
+pub mod Moments
+pub mod OnDisk
+pub mod Replay
+pub mod Written
