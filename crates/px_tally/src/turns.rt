@@ -1,0 +1,46 @@
+//! What one thread does.
+ghost use Rattle.std.specs.Prelude.{◌≡◌, ◌++◌, ◌∷◌, [], OnOk};
+ghost use Rattle.px_turn.specs.Lists.{own};
+ghost use Rattle.px_turn.specs.Seats.{name_of, number, seen, IsSeat};
+ghost use Rattle.px_tally.specs.Marks.{marks, seat_of};
+
+use crate::tally::{Mark, Tally};
+use px_turn::{TurnLock, TurnSeat};
+use std::alloc::AllocError;
+use std::sync::Wait;
+
+// One turn, with one mark.
+fn mark_once<R: Wait>(
+    rt: &R,
+    lock: &TurnLock<Tally>,
+    seat: &mut TurnSeat<Tally>,
+    mark: Mark,
+) -> Result<(), AllocError>
+    requires { IsSeat (name_of lock.now) seat.old × (number seat.old ≡ mark.seat) }
+    ensures seat { IsSeat (name_of lock.now) seat.new × (number seat.new ≡ mark.seat) }
+    ensures marked { OnOk result (own seat_of mark.seat (seen seat.new) ≡ own seat_of mark.seat (seen seat.old) ++ mark ∷ []) }
+{
+    let mut guard = lock.enter(rt, seat);
+    let added = guard.value().add(mark);
+    guard.leave();
+    added
+}
+
+/// Takes so many turns, with a mark in each.
+pub fn mark_turns<R: Wait>(
+    rt: &R,
+    lock: &TurnLock<Tally>,
+    seat: &mut TurnSeat<Tally>,
+    times: u32,
+) -> Result<(), AllocError>
+    requires { IsSeat (name_of lock.now) seat.old }
+    ensures seat { IsSeat (name_of lock.now) seat.new × (number seat.new ≡ number seat.old) }
+    ensures marked { OnOk result (own seat_of (number seat.old) (seen seat.new) ≡ own seat_of (number seat.old) (seen seat.old) ++ marks (number seat.old) times) }
+{
+    let number = seat.number();
+    for turn in 0..times {
+        let mark = Mark { seat: number, turn };
+        mark_once(rt, lock, seat, mark)?;
+    }
+    Ok(())
+}
