@@ -1,0 +1,13 @@
+pub mod Ends
+pub mod Runs
+pub mod Quotes
+pub mod Fronts
+pub mod Determined
+pub mod Readings
+pub mod Cuts
+pub mod Steps
+pub mod Statements
+pub mod Sections
+pub mod OneScript
+pub mod ByLength
+pub mod Longest
