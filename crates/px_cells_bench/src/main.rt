@@ -1,0 +1,91 @@
+//! Times the store in memory and what is visible of cells. `px_cells_bench ROWS` puts cells of so many rows into a store
+//! in two batches, takes what is visible, and keeps what a horizon asks for, and says on standard error how many cells a
+//! second each of them passes; without an argument it does so for a few rows, and prints the counts alone.
+#![tactic(auto)]
+
+use px_cells::{Cell, CellKind, Cells, is_cell_list, visible};
+use px_memstore::MemStore;
+use px_merge::keep_at;
+use std::alloc::{AllocError, Global};
+use std::time::Instant;
+use std::{env, io};
+
+const POINT: u64 = 8;
+
+fn cell(
+    alloc: Global,
+    row: u64,
+    qualifier: u8,
+    stamp: u64,
+    kind: CellKind,
+) -> Result<Cell, AllocError> {
+    let key = Vec::from_slice(alloc, &row.to_be_bytes())?;
+    let value = match kind {
+        CellKind::Put => Vec::from_slice(alloc, b"value")?,
+        _ => Vec::new(alloc),
+    };
+    Ok(Cell::new(key, qualifier, stamp, kind, value))
+}
+
+// Six cells of each second row: a row that was gone once, two versions, a NULL over a value, and a value.
+fn made(alloc: Global, rows: u64, first: u64) -> Result<Cells, AllocError> {
+    let mut cells = Cells::new(alloc);
+    for row in 0..rows {
+        if row % 2 == first {
+            cells.push(cell(alloc, row, 0, 3, CellKind::DeleteFamily)?)?;
+            cells.push(cell(alloc, row, 1, 9, CellKind::Put)?)?;
+            cells.push(cell(alloc, row, 1, 5, CellKind::Put)?)?;
+            cells.push(cell(alloc, row, 2, 7, CellKind::DeleteColumn)?)?;
+            cells.push(cell(alloc, row, 2, 5, CellKind::Put)?)?;
+            cells.push(cell(alloc, row, 3, 4, CellKind::Put)?)?;
+        }
+    }
+    Ok(cells)
+}
+
+fn put(store: &mut MemStore, batch: Cells) {
+    if is_cell_list(batch.as_slice()) && batch.len() as u64 <= store.room() {
+        store.put(batch);
+    }
+}
+
+fn rate(cells: usize, micros: u128) -> u128 {
+    (cells as u128).wrapping_mul(1_000_000) / micros.max(1)
+}
+
+fn run(rt: &HostRuntime, rows: u64, is_timed: bool) -> io::Result<()> {
+    let alloc = rt.alloc();
+    let (even, odd) = (made(alloc, rows, 0)?, made(alloc, rows, 1)?);
+    let mut store = MemStore::new(alloc);
+    store.reserve((even.len() as u64).saturating_add(odd.len() as u64))?;
+    let start = Instant::now(rt)?;
+    put(&mut store, even);
+    put(&mut store, odd);
+    let putting = start.elapsed(rt)?.as_micros();
+    let cells = store.snapshot()?;
+    let n = cells.len();
+    if !is_cell_list(cells.as_slice()) {
+        return Ok(());
+    }
+    let start = Instant::now(rt)?;
+    let seen = visible(alloc, &cells, POINT)?;
+    let seeing = start.elapsed(rt)?.as_micros();
+    let start = Instant::now(rt)?;
+    let kept = keep_at(alloc, &cells, POINT)?;
+    let keeping = start.elapsed(rt)?.as_micros();
+    let (s, k) = (seen.len(), kept.len());
+    if is_timed {
+        let (p, v, h) = (rate(n, putting), rate(n, seeing), rate(n, keeping));
+        eprintln!(rt; "cells a second: put {p}, visible {v}, keep_at {h}")?;
+    }
+    println!(rt; "{n} cells, {s} visible, {k} kept")
+}
+
+fn main(rt: HostRuntime) -> io::Result<()> {
+    let mut words = env::args(&rt)?;
+    let _name = words.next();
+    match words.next() {
+        Some(rows) => run(&rt, rows.as_str().parse::<u64>().unwrap_or(1000), true),
+        None => run(&rt, 8, false),
+    }
+}
