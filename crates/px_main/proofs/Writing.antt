@@ -1,0 +1,197 @@
+-- A batch that was written leaves all as it should be.
+use Rattle.std.proofs.Common.{◌≡◌, ◌≢◌, ℕ, ◌<◌, ◌≤◌, ◌+◌, true, false, List, [], ◌∷◌, ◌++◌, length, Option, Some, None, refl, sym, ◌∙◌, ap, subst, arith, append_assoc, append-nil}
+use Rattle.std.specs.Prelude.{IsSome, IsTrue, sum_by}
+use Rattle.px_values.specs.declared.change.Change.{Change}
+use Rattle.px_values.specs.declared.row.Value.{Value}
+use Rattle.px_outside.specs.declared.disk.Disk.{Ghosts}
+use Rattle.px_trail.specs.declared.entry.Entry.{Entry}
+use Rattle.px_trail.specs.declared.entry.Act.TheVariants.{Wrote, Ended}
+use Rattle.px_trail.specs.Growth.{calls-snoc}
+use Rattle.px_trail.specs.Trail.{Base, IsLegal, batch_of, calls_of}
+use Rattle.px_trail.specs.Count.{counted_change}
+use Rattle.std.specs.Prelude.{String}
+use Rattle.std.specs.BTreeMap.{BTreeMap}
+use Rattle.std.specs.declared.alloc.Global.{Global}
+use Rattle.px_main.specs.declared.put_reader.Stored.{Stored}
+use Rattle.px_trail.specs.One.{begun_entry, ended_entry, wrote_entry}
+use Rattle.px_gatelog.specs.Format.{IsNextRecord, LogForm, LogRecord, SegmentRead, listed, records_of, with_record}
+use Rattle.px_gatelog.specs.Framed.{record_of}
+use Rattle.px_gatelog.specs.GateLog.{GoesOnBy, IsSameLog, is_open, steps_left}
+use Rattle.px_gatelog.specs.declared.segment.Segment.{Segment}
+use Rattle.px_gatelog.specs.declared.gate_log.GateLog.{GateLog}
+use Rattle.px_main.specs.declared.reply.Receipt.{Receipt}
+use Rattle.px_main.specs.declared.store.Store.{Store}
+use Rattle.px_main.specs.Added.{kv_table, session_seat, with_batch, with_begun}
+use Rattle.px_main.specs.Batch.{kv_change}
+use Rattle.px_main.specs.Kept.{Grows, IsAppended, IsKept, IsStopped, IsUpserted, IsWritten}
+use Rattle.px_main.specs.Logged.{IsReady, Logged}
+use Rattle.px_main.specs.Kv.{Tells, kv, what_of}
+use Rattle.px_main.specs.PutForm.{IsPut}
+use Rattle.px_main.proofs.PutLaws.{greatest-append_last, newest-append_last, put_records-append}
+use Rattle.px_main.proofs.PutRight.{wrong_record-next}
+use Rattle.px_main.specs.PutReader.{HoldsPuts}
+use Rattle.px_main.specs.PutRecords.{kv_form, put_record, put_records}
+use Rattle.px_main.specs.Puts.{Put, greatest}
+use Rattle.px_main.specs.Table.{key_of}
+use Rattle.px_main.proofs.Growing.{legal-begun, tells-ended, whole, whole-is, whole-written}
+
+-- ---- the log
+
+records-with : (s : SegmentRead) (segments : List SegmentRead) (r : LogRecord) → records_of (with_record (s ∷ segments) r) ≡ records_of (s ∷ segments) ++ r ∷ []
+records-with s [] r = append_assoc s.records (r ∷ []) [] ∙ ap (λ (l : List LogRecord). l ++ r ∷ []) (sym (append-nil s.records))
+records-with s (t ∷ segments) r = ap (λ (l : List LogRecord). s.records ++ l) (records-with t segments r) ∙ sym (append_assoc s.records (records_of (t ∷ segments)) (r ∷ []))
+
+no_end : {A : Type 0} (l : List A) (x : A) → l ++ x ∷ [] ≢ []
+no_end [] x h = cc
+no_end (y ∷ l) x h = cc
+
+by_newest : (form : LogForm) (newest : Option Segment) (first second : List ℕ) (segments : List SegmentRead) → IsSome newest → GoesOnBy form newest first second segments → segments ≢ []
+by_newest form None first second segments some on = let no : false ≡ true = some in cc
+by_newest form (Some s) first second segments some on = λ none. no_end (listed on.older) (record { generation = s.generation; records = on.records }) (sym on.lists ∙ none)
+
+some_records : (segments : List SegmentRead) (r : LogRecord) → segments ≢ [] → records_of (with_record segments r) ≡ records_of segments ++ r ∷ []
+some_records [] r some = absurd (some refl)
+some_records (s ∷ segments) r some = records-with s segments r
+
+pub logged-more : {D : Type 0} (d : Ghosts D) (disk disk' : D) (log log' : GateLog) (puts : List Put) (x : Put) (number : ℕ) (r : LogRecord)
+    → is_open log → IsAppended d disk disk' log log' r → IsSameLog log log' → number ≡ length puts + 1 → r ≡ put_record number x → IsPut x
+    → Logged d disk log puts → Logged d disk' log' (puts ++ x ∷ [])
+logged-more d disk disk' log log' puts x number r opened appended same next is put logged =
+    let r_is : r ≡ put_record (length puts + 1) x = is ∙ ap (λ (n : ℕ). put_record n x) next in
+    let right : IsNextRecord kv_form logged.segments r =
+    ap (λ (l : List LogRecord). kv_form.wrong l r) logged.records ∙ (ap (λ (s : LogRecord). kv_form.wrong (put_records puts) s) r_is ∙ wrong_record-next puts x put) in
+    let some : logged.segments ≢ [] = by_newest kv_form log.newest (d.seen disk log.first) (d.seen disk log.second) logged.segments opened logged.settled.state.goes_on in
+    record {
+      segments = with_record logged.segments r;
+      settled = appended kv_form logged.segments logged.settled right;
+      records = some_records logged.segments r some ∙ (ap (λ (l : List LogRecord). l ++ r ∷ []) logged.records ∙ (ap (λ (s : LogRecord). put_records puts ++ s ∷ []) r_is ∙ sym (put_records-append puts x)));
+      first = same.first ∙ logged.first;
+      second = same.second ∙ logged.second;
+    }
+
+-- ---- the store
+
+open_ready : (o : Option Segment) (n : ℕ) → IsSome o → o ≡ None → 1 < n
+open_ready None n some none = let no : false ≡ true = some in cc
+open_ready (Some s) n some none = cc
+
+pub ready_open : (log : GateLog) → is_open log → IsReady log
+ready_open log opened = λ none. open_ready log.newest (steps_left log) opened none
+
+module _ {D : Type 0} (d : Ghosts D) (base : Base) (disk disk' : D) (old new : Store) (x : Put) (r : Receipt)
+    (kept : IsKept d base disk old) (put : IsPut x) (later : old.last < x.stamp) (calls : d.calls disk ≤ d.calls disk') where
+  abbrev puts : List Put
+  puts = kept.puts
+
+  above : greatest puts < x.stamp
+  above = let e = kept.holds.last_is in omega arith
+
+  module _ (entries : new.trail.entries ≡ with_batch old.trail.entries (d.calls disk) (d.calls disk') x.stamp (kv_change x.key x.value ∷ []) (key_of x.key ∷ []))
+      (bytes : new.trail.bytes_room ≡ 0) (opened : is_open new.log) (holds : HoldsPuts new.rows new.last new.number (puts ++ x ∷ []))
+      (logged : IsTrue d.tells → Logged d disk' new.log (puts ++ x ∷ [])) where
+    abbrev all : List Entry
+    all = with_batch old.trail.entries (d.calls disk) (d.calls disk') x.stamp (kv_change x.key x.value ∷ []) (key_of x.key ∷ [])
+
+    tells : Tells base all (puts ++ x ∷ [])
+    tells =
+        tells-ended base old.trail.entries puts kept.told x session_seat (d.calls disk) (d.calls disk') (d.calls disk') above kept.calls calls (omega arith)
+        (puts ++ x ∷ []) (λ k point. newest-append_last k point puts x above) (greatest-append_last puts x above)
+
+    all-calls : calls_of all ≡ d.calls disk'
+    all-calls = calls-snoc (with_begun old.trail.entries (d.calls disk) x.stamp (kv_change x.key x.value ∷ []) ++ record { seat = session_seat; calls = d.calls disk'; act = Wrote kv_table x.stamp (key_of x.key ∷ []) } ∷ [])
+        (record { seat = session_seat; calls = d.calls disk'; act = Ended kv_table x.stamp })
+
+    abbrev more : List Entry
+    more = begun_entry session_seat (d.calls disk) kv_table x.stamp (key_of x.key) (what_of x.value)
+        ∷ wrote_entry session_seat (d.calls disk') kv_table x.stamp (key_of x.key) ∷ ended_entry session_seat (d.calls disk') kv_table x.stamp ∷ []
+
+    grows : Grows old.trail.entries new.trail.entries
+    grows = record {
+      added = more;
+      is = entries
+          ∙ (append_assoc (with_begun old.trail.entries (d.calls disk) x.stamp (kv_change x.key x.value ∷ [])) (wrote_entry session_seat (d.calls disk') kv_table x.stamp (key_of x.key) ∷ []) (ended_entry session_seat (d.calls disk') kv_table x.stamp ∷ [])
+          ∙ append_assoc old.trail.entries (begun_entry session_seat (d.calls disk) kv_table x.stamp (key_of x.key) (what_of x.value) ∷ []) (wrote_entry session_seat (d.calls disk') kv_table x.stamp (key_of x.key) ∷ ended_entry session_seat (d.calls disk') kv_table x.stamp ∷ []));
+    }
+
+    pub kept-more : IsKept d base disk' new
+    kept-more = record {
+      puts = puts ++ x ∷ [];
+      told = subst (λ (l : List Entry). Tells base l (puts ++ x ∷ [])) (sym entries) tells;
+      holds = holds;
+      calls = subst (λ (l : List Entry). calls_of l ≤ d.calls disk') (sym entries) (let e = all-calls in omega arith);
+      spare = bytes;
+      ready = ready_open new.log opened;
+      logged = logged;
+    }
+
+    pub upserted : r.table.0 ≡ kv → r.rows ≡ 1 → r.concurrent ≡ [] → r.unfinished ≡ None → r.stamp ≡ x.stamp → r.at ≡ length new.trail.entries
+        → IsUpserted d base disk' old.trail.entries new x.key x.value r
+    upserted table rows concurrent unfinished stamp at = record {
+      kept = kept-more;
+      grows = grows;
+      receipt = record {
+        table = table;
+        rows = rows;
+        concurrent = concurrent;
+        unfinished = unfinished;
+        at = at;
+        batch = whole base old.trail.entries puts kept.told x session_seat (d.calls disk) (d.calls disk') (d.calls disk') above kept.calls calls (omega arith);
+        is = ap (λ (s : ℕ). batch_of kv s new.trail.entries) stamp ∙ (ap (λ (l : List Entry). batch_of kv x.stamp l) entries
+            ∙ whole-is base old.trail.entries puts kept.told x session_seat (d.calls disk) (d.calls disk') (d.calls disk') above kept.calls calls (omega arith));
+        seat = refl;
+        changes = refl;
+        written = whole-written base old.trail.entries puts kept.told x session_seat (d.calls disk) (d.calls disk') (d.calls disk') above kept.calls calls (omega arith);
+        ended = refl;
+      };
+    }
+
+-- ---- the whole of a commit
+
+module _ {D : Type 0} (d : Ghosts D) (base : Base) (disk disk' : D) (old mid new : Store) (x : Put) (r : Receipt)
+    (kept : IsKept d base disk old) (put : IsPut x) (later : old.last < x.stamp) (calls : d.calls disk ≤ d.calls disk')
+    (opened : is_open old.log) (same_log : mid.log ≡ old.log) (same_entries : mid.trail.entries ≡ old.trail.entries) (number : mid.number ≡ old.number + 1)
+    (taken : mid.trail.bytes_room ≡ old.trail.bytes_room + counted_change (kv_change x.key x.value))
+    (framed : record_of mid.frame ≡ put_record (old.number + 1) x) (holds : HoldsPuts mid.rows x.stamp (old.number + 1) (kept.puts ++ x ∷ []))
+    (written : IsWritten d disk disk' mid new x.stamp (kv_change x.key x.value ∷ []) (key_of x.key ∷ [])) where
+  entries_are : new.trail.entries ≡ with_batch old.trail.entries (d.calls disk) (d.calls disk') x.stamp (kv_change x.key x.value ∷ []) (key_of x.key ∷ [])
+  entries_are = written.entries ∙ ap (λ (l : List Entry). with_batch l (d.calls disk) (d.calls disk') x.stamp (kv_change x.key x.value ∷ []) (key_of x.key ∷ [])) same_entries
+
+  spare_is : new.trail.bytes_room ≡ 0
+  spare_is = let a = written.bytes_room in let b = taken in let e = kept.spare in omega arith
+
+  holds_are : HoldsPuts new.rows new.last new.number (kept.puts ++ x ∷ [])
+  holds_are =
+      subst (λ (m : BTreeMap (String Global) Stored). HoldsPuts m new.last new.number (kept.puts ++ x ∷ [])) (sym written.map)
+      (subst (λ (l : ℕ). HoldsPuts mid.rows l new.number (kept.puts ++ x ∷ [])) (sym written.last)
+      (subst (λ (n : ℕ). HoldsPuts mid.rows x.stamp n (kept.puts ++ x ∷ [])) (sym (written.number ∙ number)) holds))
+
+  logged_is : IsTrue d.tells → Logged d disk' new.log (kept.puts ++ x ∷ [])
+  logged_is tells =
+      let before : Logged d disk mid.log kept.puts = subst (λ (l : GateLog). Logged d disk l kept.puts) (sym same_log) (kept.logged tells) in
+      let opened' : is_open mid.log = subst is_open (sym same_log) opened in
+      logged-more d disk disk' mid.log new.log kept.puts x (old.number + 1) (record_of mid.frame) opened' written.appended written.same_log (let e = kept.holds.number_is in omega arith) framed put before
+
+  pub committed : r.table.0 ≡ kv → r.rows ≡ 1 → r.concurrent ≡ [] → r.unfinished ≡ None → r.stamp ≡ x.stamp → r.at ≡ length new.trail.entries
+      → IsUpserted d base disk' old.trail.entries new x.key x.value r
+  committed = upserted d base disk disk' old new x r kept put later calls entries_are spare_is written.opened holds_are logged_is
+
+-- ---- a batch that was begun alone
+
+pub stopped : {D : Type 0} (d : Ghosts D) (base : Base) (disk : D) (old : Store) (new : List Entry) (x : Put) → IsKept d base disk old → old.last < x.stamp
+    → new ≡ with_begun old.trail.entries (d.calls disk) x.stamp (kv_change x.key x.value ∷ []) → IsStopped base old.trail.entries new
+stopped d base disk old new x kept later is =
+    let above : greatest kept.puts < x.stamp = (let e = kept.holds.last_is in omega arith) in
+    record {
+      grows = record { added = begun_entry session_seat (d.calls disk) kv_table x.stamp (key_of x.key) (what_of x.value) ∷ []; is = is };
+      legal = subst (λ (l : List Entry). IsLegal base l) (sym is) (legal-begun base old.trail.entries kept.puts kept.told x session_seat (d.calls disk) (d.calls disk) (d.calls disk) above kept.calls (omega arith) (omega arith));
+    }
+
+-- ---- the same, for those who have the changes and the rows under other names
+
+pub written_as : {D : Type 0} (d : Ghosts D) (disk disk' : D) (mid new : Store) (stamp : ℕ) (changes changes' : List Change) (rows rows' : List (List Value))
+    → changes ≡ changes' → rows ≡ rows' → IsWritten d disk disk' mid new stamp changes rows → IsWritten d disk disk' mid new stamp changes' rows'
+written_as d disk disk' mid new stamp changes changes' rows rows' same_changes same_rows written =
+    subst (λ (l : List Change). IsWritten d disk disk' mid new stamp l rows') same_changes (subst (λ (l : List (List Value)). IsWritten d disk disk' mid new stamp changes l) same_rows written)
+
+pub counted_one : (n : ℕ) (changes : List Change) (c : Change) → n ≡ sum_by counted_change changes → changes ≡ c ∷ [] → n ≡ counted_change c
+counted_one n changes c sum one = sum ∙ (ap (λ (l : List Change). sum_by counted_change l) one ∙ omega arith)

@@ -1,0 +1,13 @@
+use Rattle.std.proofs.Common.{List, sym, subst}
+use Rattle.px_values.specs.declared.row.Value.{Value}
+use Rattle.px_trail.specs.Trail.{AreRowsNow}
+use Rattle.px_main.specs.Kv.{kv}
+use Rattle.px_main.proofs.Answering.{rows_told}
+use Rattle.px_main.proofs.session.answer_select.Goals as goal
+
+pub returns : goal.returns
+returns c = λ base puts told holds. (
+  cc,
+  subst (λ (l : List (List Value)). AreRowsNow base c.args.store.now.trail.entries kv l) (sym c.in-Ok.ensures.rows)
+      (rows_told base c.args.store.now.trail.entries c.args.store.now.rows puts c.args.store.now.last c.args.store.now.number told holds c.in-Ok.ensures.ordered),
+)

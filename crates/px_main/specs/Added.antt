@@ -1,0 +1,24 @@
+-- The entries of a batch of session 1.
+use Rattle.std.specs.Prelude.{ℕ, ◌∷◌, [], ◌++◌, List}
+use Rattle.px_values.specs.declared.change.Change.{Change}
+use Rattle.px_values.specs.declared.name.TableId.{TableId}
+use Rattle.px_values.specs.declared.row.Value.{Value}
+use Rattle.px_trail.specs.declared.entry.Act.TheVariants.{Begun, Wrote, Ended}
+use Rattle.px_trail.specs.declared.entry.Entry.{Entry}
+
+-- the seat of session 1
+abbrev pub session_seat : ℕ
+session_seat = 1
+
+abbrev pub kv_table : TableId
+kv_table = record { 0 = 2 }
+
+abbrev pub with_begun : List Entry → (calls stamp : ℕ) → List Change → List Entry
+with_begun es calls stamp changes = es ++ record { seat = session_seat; calls = calls; act = Begun kv_table stamp changes } ∷ []
+
+-- it began, and after some device calls it was written and ended
+abbrev pub with_batch : List Entry → (begun_at ended_at stamp : ℕ) → List Change → List (List Value) → List Entry
+with_batch es begun_at ended_at stamp changes rows =
+    (with_begun es begun_at stamp changes
+    ++ record { seat = session_seat; calls = ended_at; act = Wrote kv_table stamp rows } ∷ [])
+    ++ record { seat = session_seat; calls = ended_at; act = Ended kv_table stamp } ∷ []

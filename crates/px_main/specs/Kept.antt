@@ -1,0 +1,110 @@
+-- What stays true of the store from statement to statement.
+use Rattle.std.specs.Prelude.{◌≡◌, ◌≤◌, ◌++◌, ◌∷◌, [], ℕ, List, length, IsTrue, Some, None, Ok, true, ◌+◌, sum_by}
+use Rattle.px_outside.specs.OnDisk.{Rose}
+use Rattle.px_outside.specs.declared.disk.Disk.{Ghosts}
+use Rattle.px_values.specs.declared.change.Change.{Change}
+use Rattle.px_values.specs.declared.row.Value.{Value}
+use Rattle.px_trail.specs.declared.entry.Entry.{Entry}
+use Rattle.px_trail.specs.Count.{counted_change}
+use Rattle.px_trail.specs.Trail.{Base, Batch, IsLegal, batch_of, calls_of, unwritten}
+use Rattle.px_gatelog.specs.Format.{IsNextRecord, LogForm, LogRecord, SegmentRead, with_record}
+use Rattle.px_gatelog.specs.Framed.{record_of}
+use Rattle.px_gatelog.specs.GateLog.{IsSameLog, IsSettled, is_open}
+use Rattle.px_gatelog.specs.declared.gate_log.GateLog.{GateLog}
+use Rattle.px_main.specs.declared.reply.Receipt.{Receipt}
+use Rattle.px_main.specs.declared.reply.Refusal.{Refusal}
+use Rattle.px_main.specs.declared.reply.Refusal.TheVariants.{WriteFault}
+use Rattle.px_main.specs.declared.store.Store.{Store}
+use Rattle.px_main.specs.Added.{session_seat, with_batch}
+use Rattle.px_main.specs.Batch.{kv_change}
+use Rattle.px_main.specs.Kv.{Tells, base_by, kv}
+use Rattle.px_main.specs.Logged.{IsReady, Logged, folder_of}
+use Rattle.px_main.specs.PutReader.{HoldsPuts}
+use Rattle.px_main.specs.Puts.{Put}
+
+-- ---- the store
+
+-- the trail, the rows and the log tell the same puts
+pub record IsKept {D : Type 0} (d : Ghosts D) (base : Base) (disk : D) (store : Store) : Type 0 where
+  pub puts : List Put
+  pub told : Tells base store.trail.entries puts
+  pub holds : HoldsPuts store.rows store.last store.number puts
+  pub calls : calls_of store.trail.entries ≤ d.calls disk
+  pub spare : store.trail.bytes_room ≡ 0
+  pub ready : IsReady store.log
+  pub logged : IsTrue d.tells → Logged d disk store.log puts
+
+-- ---- a batch
+
+-- These entries, of which a batch's last is the last, have a batch of this change that was written and has ended, and
+-- the receipt is its.
+pub record IsReceipt (es : List Entry) (key value : List ℕ) (r : Receipt) : Type 0 where
+  pub table : r.table.0 ≡ kv
+  pub rows : r.rows ≡ 1
+  pub concurrent : r.concurrent ≡ []
+  pub unfinished : r.unfinished ≡ None
+  pub at : r.at ≡ length es
+  pub batch : Batch
+  pub is : batch_of kv r.stamp es ≡ Some batch
+  pub seat : batch.seat ≡ session_seat
+  pub changes : batch.changes ≡ kv_change key value ∷ []
+  pub written : unwritten batch ≡ []
+  pub ended : batch.ended ≡ true
+
+-- entries were added
+pub record Grows (old new : List Entry) : Type 0 where
+  pub added : List Entry
+  pub is : new ≡ old ++ added
+
+-- ---- what an UPSERT leaves
+
+-- a batch was begun and never written: its write failed
+pub record IsStopped (base : Base) (old new : List Entry) : Type 0 where
+  pub grows : Grows old new
+  pub legal : IsLegal base new
+
+-- the batch is there, and all goes on
+pub record IsUpserted {D : Type 0} (d : Ghosts D) (base : Base) (disk : D) (old : List Entry) (store : Store) (key value : List ℕ) (r : Receipt) : Type 0 where
+  pub kept : IsKept d base disk store
+  pub grows : Grows old store.trail.entries
+  pub receipt : IsReceipt store.trail.entries key value r
+
+-- ---- an append
+
+-- the log has the record of the frame behind what it had
+abbrev pub IsAppended : {D : Type 0} → Ghosts D → D → D → GateLog → GateLog → LogRecord → Type 0
+IsAppended {D} d disk disk' log log' r =
+    (form : LogForm) (segments : List SegmentRead) → IsSettled d form log disk segments → IsNextRecord form segments r → IsSettled d form log' disk' (with_record segments r)
+
+-- the record in the frame is in the log, and the entries of its batch are in the trail
+pub record IsWritten {D : Type 0} (d : Ghosts D) (disk disk' : D) (old new : Store) (stamp : ℕ) (changes : List Change) (rows : List (List Value)) : Type 0 where
+  pub appended : IsAppended d disk disk' old.log new.log (record_of old.frame)
+  pub same_log : IsSameLog old.log new.log
+  pub opened : is_open new.log
+  pub entries : new.trail.entries ≡ with_batch old.trail.entries (d.calls disk) (d.calls disk') stamp changes rows
+  pub bytes_room : new.trail.bytes_room + sum_by counted_change changes ≡ old.trail.bytes_room
+  pub last : new.last ≡ stamp
+  pub number : new.number ≡ old.number
+  pub map : new.rows ≡ old.rows
+
+-- what a refused batch leaves: all goes on as it was
+pub record IsRefused {D : Type 0} (d : Ghosts D) (base : Base) (disk : D) (old : List Entry) (store : Store) : Type 0 where
+  pub kept : IsKept d base disk store
+  pub same : store.trail.entries ≡ old
+
+-- After a failed write the batch is begun and no more. After another refusal all goes on as it was.
+abbrev pub AfterRefusal : {D : Type 0} → Ghosts D → Base → D → D → List Entry → Store → Refusal → Type 0
+AfterRefusal d base disk disk' old store WriteFault = Rose d disk disk' × IsStopped base old store.trail.entries
+AfterRefusal d base disk disk' old store refusal = IsRefused d base disk' old store
+
+-- ---- an opening
+
+-- the store has what the files stood for, and nothing was done yet
+pub record IsOpened {D : Type 0} (d : Ghosts D) (old new : D) (store : Store) : Type 0 where
+  pub puts : List Put
+  pub entries : store.trail.entries ≡ []
+  pub holds : HoldsPuts store.rows store.last store.number puts
+  pub spare : store.trail.bytes_room ≡ 0
+  pub ready : IsReady store.log
+  pub stood : IsTrue d.tells → folder_of (d.seen old) ≡ Ok (base_by puts)
+  pub logged : IsTrue d.tells → Logged d new store.log puts

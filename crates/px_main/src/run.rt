@@ -1,0 +1,276 @@
+// A run of the program, from its words to its status.
+ghost use Rattle.std.specs.Prelude.{◌≡◌, ◌≢◌, ◌≤◌, ◌⊎◌, [], ℕ, List, Bool, map, IsTrue, true, false, None, Err};
+ghost use Rattle.std.specs.String.{string_bytes};
+ghost use Rattle.px_outside.specs.Metered.{metered_disk};
+ghost use Rattle.px_trail.specs.Trail.{Base};
+ghost use Rattle.px_main.specs.Kept.{IsKept};
+ghost use Rattle.px_main.specs.Printed.{printed};
+ghost use Rattle.px_main.specs.Run.{IsOpenedRun, IsRun, IsUnrun, IsWhole, IsWritten, ended_by_memory, lacked_memory, some_lacked_memory, some_was_refused, status_of, stopped_by, was_refused};
+ghost use Rattle.px_main.specs.Words.{folder_in};
+
+use crate::printing::print_transcripts;
+use crate::reply::{Item, Items, Refusal, Reply, Transcript, Transcripts};
+use crate::session::{Ending, Session, run_script};
+use crate::store::Store;
+use crate::words::folder_word;
+use px_gatelog::LogFault;
+use px_outside::{
+    Clock, CountsCalls, Disk, InputFault, Metered, Sink, Source, read_all, write_all,
+};
+use px_trail::{Entry, Trail};
+use px_values::Line;
+use std::alloc::Global;
+
+/// How a run came to its end.
+#[derive(Clone, Copy, Debug, PartialEq, Eq)]
+pub enum Status {
+    /// Every statement was answered, none refused.
+    Done,
+    /// A statement was refused by its form or by a limit.
+    Refused,
+    /// The words are no command. Nothing was touched.
+    BadWords,
+    /// The disk failed at the call of this number, counted from 1.
+    Device { call: u64 },
+    /// Memory ran out.
+    Memory,
+    /// The folder's file has a place that isn't of the format, counted from 0. Nothing was run.
+    Damaged { file: u64, place: u64 },
+    /// The input failed. Nothing was run.
+    SourceFault,
+    /// The output failed. A part at the front of the replies was written.
+    SinkFault,
+}
+
+/// What a run leaves.
+#[derive(Drop)]
+pub struct Outcome<D> {
+    pub status: Status,
+    pub disk: D,
+    /// What was done to the table, in order.
+    pub trail: Trail,
+    /// The entry that no memory was kept for. There is none yet.
+    pub late: Option<Entry>,
+    pub transcripts: Transcripts,
+    /// Whether memory was refused outside a statement.
+    pub memory: bool,
+}
+
+/// The greatest length of a script that is read, and one byte more.
+const MOST_READ: usize = 67_108_865;
+
+fn lacked(reply: &Reply) -> bool
+    ensures { result ≡ lacked_memory reply.now }
+{
+    match reply {
+        Reply::Refused(Refusal::Memory) => true,
+        _ => false,
+    }
+}
+
+fn refused(reply: &Reply) -> bool
+    ensures { result ≡ was_refused reply.now }
+{
+    match reply {
+        Reply::Refused(refusal) => match refusal {
+            Refusal::Form | Refusal::Limit(_) => true,
+            Refusal::WriteFault | Refusal::Memory => false,
+        },
+        _ => false,
+    }
+}
+
+fn some_lacked(items: &[Item]) -> bool
+    ensures { result ≡ some_lacked_memory items.now }
+{
+    items.iter().any(|item| lacked(&item.reply))
+}
+
+fn some_refused(items: &[Item]) -> bool
+    ensures { result ≡ some_was_refused items.now }
+{
+    items.iter().any(|item| refused(&item.reply))
+}
+
+/// The status of a run whose session ended so, after this many calls of the disk.
+fn status_after(sink_failed: bool, ending: Ending, call: u64, lacked: bool, refused: bool) -> Status
+    ensures { result ≡ status_of sink_failed ending call lacked refused }
+{
+    if sink_failed {
+        return Status::SinkFault;
+    }
+    match ending {
+        Ending::WriteFault => Status::Device { call },
+        Ending::Memory => Status::Memory,
+        Ending::Whole => {
+            if lacked {
+                Status::Memory
+            } else if refused {
+                Status::Refused
+            } else {
+                Status::Done
+            }
+        }
+    }
+}
+
+fn is_memory(ending: Ending) -> bool
+    ensures { result ≡ ended_by_memory ending }
+{
+    matches!(ending, Ending::Memory)
+}
+
+/// Writes the replies. Answers whether the sink failed, and whether no memory was found to print them.
+fn write_replies<O: Sink>(alloc: Global, out: &mut O, transcripts: &Transcripts) -> (bool, bool)
+    ensures written { IsWritten ⟦<O as Sink>⟧ out.old out.new (printed transcripts.now) result.0 result.1 }
+{
+    let mut line = Line::new(alloc);
+    let Ok(()) = print_transcripts(transcripts, &mut line) else {
+        return (false, true);
+    };
+    match write_all(out, line.as_slice()) {
+        Ok(()) => (false, false),
+        Err(_) => (true, false),
+    }
+}
+
+/// What a run leaves but its disk.
+#[derive(Drop)]
+struct Ran {
+    status: Status,
+    trail: Trail,
+    transcripts: Transcripts,
+    memory: bool,
+}
+
+/// Runs a script on the table of an open folder, and writes its replies. The list of transcripts has room for one.
+fn run_store<D: CountsCalls, C: Clock, O: Sink>(
+    alloc: Global,
+    script: &[u8],
+    mut store: Store,
+    disk: &mut D,
+    clock: &mut C,
+    out: &mut O,
+    mut transcripts: Vec<Transcript>,
+) -> Ran
+    requires empty { transcripts.items ≡ [] }
+    requires room { 1 ≤ transcripts.cap }
+    ensures { (base : Base) → IsKept ⟦<D as Disk>⟧ base disk.old store
+        → IsRun ⟦<D as Disk>⟧ ⟦<O as Sink>⟧ base script.now disk.old disk.new out.old out.new result.trail.entries result.transcripts result.memory result.status }
+{
+    let Session { items, ending } = run_script(alloc, &mut store, disk, clock, script);
+    let call = disk.call_count();
+    let lacked = some_lacked(items.as_slice());
+    let refused = some_refused(items.as_slice());
+    transcripts.push_reserved(Transcript {
+        session: 1,
+        round: 1,
+        items,
+    });
+    let transcripts = Transcripts::of(transcripts);
+    let (sink_failed, print_failed) = write_replies(alloc, out, &transcripts);
+    let memory = print_failed || is_memory(ending);
+    Ran {
+        status: status_after(sink_failed, ending, call, memory || lacked, refused),
+        trail: store.into_trail(),
+        transcripts,
+        memory,
+    }
+}
+
+/// What a run leaves that opened no folder.
+fn unrun<D>(alloc: Global, disk: D, status: Status) -> Outcome<D>
+    ensures status { result.status ≡ status }
+    ensures disk { result.disk ≡ disk }
+    ensures entries { result.trail.entries ≡ [] }
+    ensures transcripts { result.transcripts ≡ [] }
+    ensures in_time { result.late ≡ None }
+{
+    Outcome {
+        status,
+        disk,
+        trail: Trail::new(alloc),
+        late: None,
+        transcripts: Transcripts::of(Vec::new(alloc)),
+        memory: matches!(status, Status::Memory),
+    }
+}
+
+/// The status where the log wasn't opened, after this many calls of the disk.
+fn status_unopened(fault: LogFault, call: u64) -> Status
+    ensures { result ≡ stopped_by fault call }
+{
+    match fault {
+        LogFault::ReadFault | LogFault::WriteFault | LogFault::Full => Status::Device { call },
+        LogFault::Damaged { file, place } => Status::Damaged { file, place },
+        LogFault::Memory => Status::Memory,
+    }
+}
+
+/// Opens the folder, runs a script on its table, and writes the replies.
+fn run_folder<D: Disk, C: Clock + Drop, O: Sink>(
+    alloc: Global,
+    script: &[u8],
+    disk: D,
+    mut clock: C,
+    out: &mut O,
+) -> Outcome<D>
+    requires fresh { (D.calls disk ≡ 0) × (D.faults disk ≡ 0) }
+    ensures run { IsOpenedRun ⟦<D as Disk>⟧ ⟦<O as Sink>⟧ script.now disk result.disk out.old out.new result.trail.entries result.transcripts result.memory result.status }
+    ensures in_time { result.late ≡ None }
+{
+    let Ok(transcripts) = Vec::with_capacity(alloc, 1) else {
+        return unrun(alloc, disk, Status::Memory);
+    };
+    let mut metered = Metered::new(disk);
+    match Store::open(alloc, &mut metered) {
+        Err(fault) => {
+            let status = status_unopened(fault, metered.call_count());
+            unrun(alloc, metered.into_disk(), status)
+        }
+        Ok(store) => {
+            let ran = run_store(
+                alloc,
+                script,
+                store,
+                &mut metered,
+                &mut clock,
+                out,
+                transcripts,
+            );
+            Outcome {
+                status: ran.status,
+                disk: metered.into_disk(),
+                trail: ran.trail,
+                late: None,
+                transcripts: ran.transcripts,
+                memory: ran.memory,
+            }
+        }
+    }
+}
+
+/// Runs the program: reads a script from the input, runs its statements on the table KV in the folder that the disk
+/// holds, and writes their replies. The words are those after the program's name. The disk had no call yet.
+pub fn phoenix<D: Disk, C: Clock + Drop, I: Source, O: Sink>(
+    alloc: Global,
+    words: &[String],
+    disk: D,
+    clock: C,
+    input: &mut I,
+    out: &mut O,
+) -> Outcome<D>
+    requires fresh { (D.calls disk ≡ 0) × (D.faults disk ≡ 0) }
+    ensures run { IsUnrun ⟦<D as Disk>⟧ ⟦<I as Source>⟧ disk result.disk input.old input.new out.old out.new (map string_bytes words.now) result.trail.entries result.transcripts result.status
+        ⊎ IsWhole ⟦<D as Disk>⟧ ⟦<I as Source>⟧ ⟦<O as Sink>⟧ disk result.disk input.old input.new out.old out.new (map string_bytes words.now) result.trail.entries result.transcripts result.memory result.status }
+    ensures in_time { result.late ≡ None }
+{
+    if folder_word(words).is_none() {
+        return unrun(alloc, disk, Status::BadWords);
+    }
+    match read_all(alloc, input, MOST_READ) {
+        Ok(script) => run_folder(alloc, &script, disk, clock, out),
+        Err(InputFault::ReadFault) => unrun(alloc, disk, Status::SourceFault),
+        Err(InputFault::Memory) => unrun(alloc, disk, Status::Memory),
+    }
+}

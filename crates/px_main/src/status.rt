@@ -1,0 +1,34 @@
+// What the program tells of its status: a number to the system, and a line to the person.
+use crate::run::Status;
+use std::io::Eprint;
+
+impl Status {
+    /// The exit status.
+    pub fn code(self) -> u8 {
+        match self {
+            Status::Done => 0,
+            Status::Refused => 1,
+            Status::BadWords => 2,
+            Status::Device { .. } => 3,
+            Status::Memory => 4,
+            Status::Damaged { .. } => 5,
+            Status::SourceFault => 6,
+            Status::SinkFault => 7,
+        }
+    }
+}
+
+/// Tells a status from 2 on in a line on standard error. Where that fails, nothing is told.
+pub fn tell<R: Eprint>(rt: &R, status: Status) {
+    let _ = match status {
+        Status::Done | Status::Refused => Ok(()),
+        Status::BadWords => rt.eprintln("bad words"),
+        Status::Device { call } => rt.eprintln(format_args!("device fault at call {call}")),
+        Status::Memory => rt.eprintln("out of memory"),
+        Status::Damaged { file, place } => {
+            rt.eprintln(format_args!("damaged file {file} at {place}"))
+        }
+        Status::SourceFault => rt.eprintln("source fault"),
+        Status::SinkFault => rt.eprintln("sink fault"),
+    };
+}

@@ -1,0 +1,1 @@
+UPSERT INTO KV VALUES ('a','b'); SELECT * FROM KV;
