@@ -1,6 +1,6 @@
 -- When an item of a transcript has the right answer.
-use Rattle.std.specs.Prelude.{◌≡◌, ◌≤◌, ◌⊎◌, ◌∷◌, [], ℕ, Bool, true, false, List, length, take}
-use Rattle.std.specs.List.{list_all}
+use Rattle.std.specs.Prelude.{◌≡◌, ◌≢◌, ◌≤◌, ◌++◌, ◌⊎◌, ◌∷◌, [], ℕ, Bool, true, false, List, length, take}
+use Rattle.std.specs.List.{AllByRecursion, list_all}
 use Rattle.px_values.specs.declared.limit.Limit.TheVariants.{Stamps}
 use Rattle.px_values.specs.declared.print.CountWord.TheVariants.{Affected}
 use Rattle.px_trail.specs.declared.entry.Entry.{Entry}
@@ -8,7 +8,7 @@ use Rattle.px_trail.specs.Trail.{AreRowsNow, Base, greatest_stamp, last_of}
 use Rattle.px_main.specs.declared.reply.Item.{Item}
 use Rattle.px_main.specs.declared.reply.Receipt.{Receipt}
 use Rattle.px_main.specs.declared.reply.Refusal.{Refusal}
-use Rattle.px_main.specs.declared.reply.Refusal.TheVariants.{Form as FormRefusal, Limit as LimitRefusal, Memory}
+use Rattle.px_main.specs.declared.reply.Refusal.TheVariants.{Form as FormRefusal, Limit as LimitRefusal, WriteFault, Memory}
 use Rattle.px_main.specs.declared.reply.Reply.{Reply}
 use Rattle.px_main.specs.declared.reply.Reply.TheVariants.{Rows, Count, Refused}
 use Rattle.px_main.specs.declared.script.Span.{Span}
@@ -64,3 +64,15 @@ AreReplied base es script (s ∷ spans) [] = (is_blank_span script s ≡ true) �
 AreReplied base es script (s ∷ spans) (i ∷ items) =
     ((is_blank_span script s ≡ true) × AreReplied base es script spans (i ∷ items))
     ⊎ ((is_blank_span script s ≡ false) × (i.statement ≡ s) × IsReplied base es (piece_of script s) i × AreReplied base es script spans items)
+
+-- no statement was answered that its write failed
+abbrev pub IsQuiet : List Item → Type 0
+IsQuiet items = AllByRecursion (λ i. i.reply ≢ Refused WriteFault) items
+
+-- the last statement was answered that its write failed, and no other
+pub record LastFailed (items : List Item) : Type 0 where
+  pub before : List Item
+  pub item : Item
+  pub is : items ≡ before ++ item ∷ []
+  pub quiet : IsQuiet before
+  pub failed : item.reply ≡ Refused WriteFault

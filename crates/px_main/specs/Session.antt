@@ -13,13 +13,14 @@ use Rattle.px_main.specs.declared.session.Ending.TheVariants.{Whole, WriteFault,
 use Rattle.px_main.specs.declared.session.Session.{Session}
 use Rattle.px_main.specs.declared.store.Store.{Store}
 use Rattle.px_main.specs.Kept.{IsKept}
-use Rattle.px_main.specs.Replied.{AreReplied}
+use Rattle.px_main.specs.Replied.{AreReplied, IsQuiet, LastFailed}
 use Rattle.px_main.specs.Script.{cut_from, is_form, span}
 
 -- the pieces that were passed are answered, and all goes on
 pub record IsGoing {D : Type 0} (d : Ghosts D) (base : Base) (disk : D) (store : Store) (script : List ℕ) (passed : List Span) (items : List Item) : Type 0 where
   pub kept : IsKept d base disk store
   pub replied : AreReplied base store.trail.entries script passed items
+  pub quiet : IsQuiet items
 
 -- The session ended at a piece, which was answered or not. After a failed write the disk's count of faults has risen,
 -- else all could go on.
@@ -27,6 +28,8 @@ pub record IsEnded {D : Type 0} (d : Ghosts D) (base : Base) (disk disk' : D) (s
   pub legal : IsLegal base store.trail.entries
   pub replied : AreReplied base store.trail.entries script passed items ⊎ AreReplied base store.trail.entries script (passed ++ piece ∷ []) items
   pub early : ending ≢ Whole
+  pub quiet : ending ≢ WriteFault → IsQuiet items
+  pub last : ending ≡ WriteFault → LastFailed items
   pub failed : ending ≡ WriteFault → Rose d disk disk'
   pub kept : ending ≢ WriteFault → IsKept d base disk' store
 
@@ -35,13 +38,16 @@ abbrev pub AfterPiece : {D : Type 0} → Ghosts D → Base → D → D → Store
 AfterPiece d base disk disk' store script passed piece items None = IsGoing d base disk' store script (passed ++ piece ∷ []) items
 AfterPiece d base disk disk' store script passed piece items (Some ending) = IsEnded d base disk disk' store script passed piece items ending
 
--- The items answer the first pieces, in order: all of them where the session came to its end.
+-- The items answer the first pieces, in order: all of them where the session came to its end. A failed write is answered
+-- where it ends the session, and nowhere else.
 pub record AreAnswered (base : Base) (es : List Entry) (script : List ℕ) (spans : List Span) (items : List Item) (ending : Ending) : Type 0 where
   pub passed : List Span
   pub rest : List Span
   pub pieces : passed ++ rest ≡ spans
   pub replied : AreReplied base es script passed items
   pub whole : ending ≡ Whole → rest ≡ []
+  pub quiet : ending ≢ WriteFault → IsQuiet items
+  pub last : ending ≡ WriteFault → LastFailed items
 
 -- after all pieces
 pub record HavePassed {D : Type 0} (d : Ghosts D) (base : Base) (disk disk' : D) (store : Store) (script : List ℕ) (spans : List Span) (items : List Item) (ending : Ending) : Type 0 where
