@@ -1,7 +1,10 @@
 pub mod Compare
 pub mod Equal
 pub mod Limits
+pub mod Literals
 pub mod Order
 pub mod Print
+pub mod Quotes
+pub mod Spells
 pub mod States
 pub mod Types
