@@ -1,11 +1,12 @@
-//! Times the store in memory and what is visible of cells. `px_cells_bench ROWS` puts cells of so many rows into a store
-//! in two batches, takes what is visible, and keeps what a horizon asks for, and says on standard error how many cells a
-//! second each of them passes; without an argument it does so for a few rows, and prints the counts alone.
+//! Times the store in memory, what is visible of cells, and merging. `px_cells_bench ROWS` puts cells of so many rows into
+//! a store in two batches, takes what is visible, keeps what a horizon asks for, and merges the same cells from 2, 8 and
+//! 64 sources. It says on standard error how many cells a second each of them passes; without an argument it does so for
+//! a few rows, and prints the counts alone.
 #![tactic(auto)]
 
 use px_cells::{Cell, CellKind, Cells, is_cell_list, visible};
 use px_memstore::MemStore;
-use px_merge::keep_at;
+use px_merge::{Merged, are_sorted, keep_at};
 use std::alloc::{AllocError, Global};
 use std::time::Instant;
 use std::{env, io};
@@ -27,11 +28,11 @@ fn cell(
     Ok(Cell::new(key, qualifier, stamp, kind, value))
 }
 
-// Six cells of each second row: a row that was gone once, two versions, a NULL over a value, and a value.
-fn made(alloc: Global, rows: u64, first: u64) -> Result<Cells, AllocError> {
+// Of one in so many rows six cells: a row that was gone once, two versions, a NULL over a value, and a value.
+fn made(alloc: Global, rows: u64, count: u64, first: u64) -> Result<Cells, AllocError> {
     let mut cells = Cells::new(alloc);
     for row in 0..rows {
-        if row % 2 == first {
+        if row % count.max(1) == first {
             cells.push(cell(alloc, row, 0, 3, CellKind::DeleteFamily)?)?;
             cells.push(cell(alloc, row, 1, 9, CellKind::Put)?)?;
             cells.push(cell(alloc, row, 1, 5, CellKind::Put)?)?;
@@ -49,13 +50,35 @@ fn put(store: &mut MemStore, batch: Cells) {
     }
 }
 
+// Merges the same cells from so many sources, counts what is given, and says how many microseconds that took.
+fn merge(rt: &HostRuntime, rows: u64, count: u64) -> io::Result<(usize, u128)> {
+    let alloc = rt.alloc();
+    let mut all = Vec::new(alloc);
+    for first in 0..count {
+        all.push(made(alloc, rows, count, first)?)?;
+    }
+    let mut sources = Vec::new(alloc);
+    for cells in &all {
+        sources.push(cells.as_slice())?;
+    }
+    if !are_sorted(&sources) {
+        return Ok((0, 0));
+    }
+    let start = Instant::now(rt)?;
+    let mut given = 0usize;
+    for _cell in Merged::over(alloc, &sources)? {
+        given = given.wrapping_add(1);
+    }
+    Ok((given, start.elapsed(rt)?.as_micros()))
+}
+
 fn rate(cells: usize, micros: u128) -> u128 {
     (cells as u128).wrapping_mul(1_000_000) / micros.max(1)
 }
 
 fn run(rt: &HostRuntime, rows: u64, is_timed: bool) -> io::Result<()> {
     let alloc = rt.alloc();
-    let (even, odd) = (made(alloc, rows, 0)?, made(alloc, rows, 1)?);
+    let (even, odd) = (made(alloc, rows, 2, 0)?, made(alloc, rows, 2, 1)?);
     let mut store = MemStore::new(alloc);
     store.reserve((even.len() as u64).saturating_add(odd.len() as u64))?;
     let start = Instant::now(rt)?;
@@ -78,7 +101,16 @@ fn run(rt: &HostRuntime, rows: u64, is_timed: bool) -> io::Result<()> {
         let (p, v, h) = (rate(n, putting), rate(n, seeing), rate(n, keeping));
         eprintln!(rt; "cells a second: put {p}, visible {v}, keep_at {h}")?;
     }
-    println!(rt; "{n} cells, {s} visible, {k} kept")
+    println!(rt; "{n} cells, {s} visible, {k} kept")?;
+    for count in [2, 8, 64] {
+        let (given, merging) = merge(rt, rows, count)?;
+        if is_timed {
+            let m = rate(given, merging);
+            eprintln!(rt; "cells a second: merged from {count} sources {m}")?;
+        }
+        println!(rt; "{given} cells merged from {count} sources")?;
+    }
+    Ok(())
 }
 
 fn main(rt: HostRuntime) -> io::Result<()> {
