@@ -1,15 +1,14 @@
 -- From a store's answers to a session's.
-use Rattle.std.proofs.Common.{◌≡◌, ◌≢◌, ◌≤◌, ℕ, List, [], ◌∷◌, map, Option, refl, sym, ◌∙◌, ap, subst, arith}
+use Rattle.std.proofs.Common.{◌≡◌, ◌≢◌, ◌≤◌, ℕ, List, [], ◌∷◌, map, Option, refl, sym, ◌∙◌, ap, subst}
 use Rattle.std.proofs.lemmas.List.{append-nil}
 use Rattle.std.specs.Prelude.{String}
 use Rattle.std.specs.String.{string_cmp}
 use Rattle.std.specs.BTreeMap.{BTreeMap, IsOrdered}
 use Rattle.std.specs.declared.alloc.Global.{Global}
 use Rattle.px_outside.specs.declared.disk.Disk.{Ghosts}
-use Rattle.px_values.specs.declared.limit.Limit.TheVariants.{Stamps}
 use Rattle.px_values.specs.declared.print.CountWord.TheVariants.{Affected}
 use Rattle.px_values.specs.States.{Shape}
-use Rattle.px_trail.specs.Trail.{AreRowsNow, Base, greatest_stamp, last_of, shape_or_none}
+use Rattle.px_trail.specs.Trail.{AreRowsNow, Base, shape_or_none}
 use Rattle.px_trail.specs.declared.entry.Entry.{Entry}
 use Rattle.px_main.specs.declared.put_reader.Stored.{Stored}
 use Rattle.px_main.specs.declared.reply.Receipt.{Receipt}
@@ -18,16 +17,20 @@ use Rattle.px_main.specs.declared.reply.Refusal.TheVariants.{Form, Limit, WriteF
 use Rattle.px_main.specs.declared.reply.Reply.{Reply}
 use Rattle.px_main.specs.declared.reply.Reply.TheVariants.{Rows, Count, Refused}
 use Rattle.px_main.specs.declared.session.Answer.{Answer}
+use Rattle.px_main.specs.declared.statement.Statement.TheVariants.{Form as FormStatement}
 use Rattle.px_main.specs.declared.store.Store.{Store}
-use Rattle.px_main.specs.Kept.{AfterRefusal, Grows, IsKept, IsRefused, IsUpserted}
+use Rattle.px_main.specs.Kept.{AfterRefusal, IsKept, IsRefused, IsUpserted}
 use Rattle.px_main.specs.Kv.{Tells, kv}
+use Rattle.px_main.specs.Origin.{Origin}
 use Rattle.px_main.specs.PutReader.{HoldsPuts}
 use Rattle.px_main.specs.Puts.{Put}
 use Rattle.px_main.specs.Ran.{Answered}
-use Rattle.px_main.specs.Refusals.{IsUpsertRefusal}
-use Rattle.px_main.specs.Replied.{AnswersSelect, AnswersUpsert}
+use Rattle.px_main.specs.Refusals.{RefusesUpsert}
+use Rattle.px_main.specs.Replied.{AddsRefused, Answers, AnswersSelect, AnswersUpsert}
 use Rattle.px_main.specs.Table.{row_in}
+use Rattle.px_main.proofs.Rooms.{refuses_memory, refuses_write}
 use Rattle.px_main.proofs.Rows.{rows-now}
+use Rattle.px_main.proofs.Stops.{as_late}
 
 -- ---- the SELECT
 
@@ -38,69 +41,79 @@ rows_told base es rows puts last number told holds ordered =
 
 -- ---- an UPSERT
 
-module _ {D : Type 0} (d : Ghosts D) (base : Base) (disk disk' : D) (old store : Store) (kept : IsKept d base disk old) (key value : List ℕ) where
-  abbrev Right : List Entry → Reply → List Receipt → Type 0
-  Right es reply receipts = AnswersUpsert base es key value reply receipts
+module _ {D : Type 0} (d : Ghosts D) (origin : Origin) (disk disk' : D) (old store : Store) (key value : List ℕ) where
+  abbrev Right : (es added : List Entry) → Reply → List Receipt → Type 0
+  Right es added reply receipts = AnswersUpsert origin es added key value reply receipts
 
-  pub grows_none : (es es' : List Entry) → es' ≡ es → Grows es es'
-  grows_none es es' same = record { added = []; is = same ∙ sym (append-nil es) }
-
-  pub answered_ok : (r : Receipt) (receipts : List Receipt) (a : Answer) → IsUpserted d base disk' old.trail.entries store key value r → a.reply ≡ Count 1 Affected → a.receipts ≡ r ∷ []
-      → Answered d base disk disk' old.trail.entries store a Right
+  pub answered_ok : (r : Receipt) (receipts : List Receipt) (a : Answer) → IsUpserted d origin disk' old.trail.entries store key value r → a.reply ≡ Count 1 Affected → a.receipts ≡ r ∷ []
+      → Answered d origin disk disk' old.trail.entries store a Right
   answered_ok r receipts a up reply given = record {
     grows = up.grows;
     legal = up.kept.told.legal;
-    right = subst (λ (l : Reply). Right store.trail.entries l a.receipts) (sym reply) (refl, refl, (r, given, up.receipt));
+    right = subst (λ (l : Reply). Right store.trail.entries up.grows.added l a.receipts) (sym reply) (refl, refl, (r, given, up.receipt, up.batch), up.fits_log, up.fits_trail);
     goes_on = λ _. up.kept;
     failed = λ e. (let no : Count 1 Affected ≡ Refused WriteFault = sym reply ∙ e in cc);
+    lasts = λ rest. as_late d origin.base store.trail.entries disk' up.kept.told.legal (up.kept.lasts rest);
   }
 
-  refused_kept : (f : Refusal) (a : Answer) → IsRefused d base disk' old.trail.entries store → f ≢ WriteFault → a.reply ≡ Refused f → a.receipts ≡ [] → IsUpsertRefusal f
-      → (f ≡ Limit Stamps → greatest_stamp ≤ old.last) → Answered d base disk disk' old.trail.entries store a Right
-  refused_kept f a left other reply none known stamps = record {
-    grows = grows_none old.trail.entries store.trail.entries left.same;
+  -- what a refusal without a failed write adds
+  nothing_added : (f : Refusal) → f ≢ WriteFault → AddsRefused key value f []
+  nothing_added Form other = refl
+  nothing_added (Limit l) other = refl
+  nothing_added WriteFault other = absurd (other refl)
+  nothing_added Memory other = refl
+
+  refused_kept : (f : Refusal) (a : Answer) → IsRefused d origin disk' old.trail.entries store → f ≢ WriteFault → a.reply ≡ Refused f → a.receipts ≡ [] → RefusesUpsert origin old.trail.entries key value f
+      → Answered d origin disk disk' old.trail.entries store a Right
+  refused_kept f a left other reply none cause = record {
+    grows = record { added = []; is = left.same ∙ sym (append-nil old.trail.entries) };
     legal = left.kept.told.legal;
-    right = subst (λ (l : Reply). Right store.trail.entries l a.receipts) (sym reply) (
-      none,
-      (
-        known,
-        λ e. (
-            let h = stamps e in
-            let old_last : old.last ≡ last_of base kv old.trail.entries = kept.holds.last_is ∙ sym kept.told.last in
-            let same : last_of base kv store.trail.entries ≡ last_of base kv old.trail.entries = ap (λ (l : List Entry). last_of base kv l) left.same in
-            omega arith),
-      ),
-    );
+    right = subst (λ (l : Reply). Right store.trail.entries [] l a.receipts) (sym reply)
+        (none, subst (λ (l : List Entry). RefusesUpsert origin l key value f) (sym left.same) cause, nothing_added f other);
     goes_on = λ _. left.kept;
     failed = λ e. (let same : Refused f ≡ Refused WriteFault = sym reply ∙ e in let is : f ≡ WriteFault = cc in absurd (other is));
+    lasts = λ rest. as_late d origin.base store.trail.entries disk' left.kept.told.legal (left.kept.lasts rest);
   }
 
-  pub answered_err : (f : Refusal) (a : Answer) → AfterRefusal d base disk disk' old.trail.entries store f → a.reply ≡ Refused f → a.receipts ≡ [] → IsUpsertRefusal f
-      → (f ≡ Limit Stamps → greatest_stamp ≤ old.last) → Answered d base disk disk' old.trail.entries store a Right
-  answered_err Form a after reply none known stamps = absurd known
-  answered_err (Limit l) a after reply none known stamps = refused_kept (Limit l) a after (λ e. cc) reply none known stamps
-  answered_err Memory a after reply none known stamps = refused_kept Memory a after (λ e. cc) reply none known stamps
-  answered_err WriteFault a after reply none known stamps = record {
+  pub answered_err : (f : Refusal) (a : Answer) → AfterRefusal d origin disk disk' old.trail.entries store key value f → a.reply ≡ Refused f → a.receipts ≡ [] → RefusesUpsert origin old.trail.entries key value f
+      → Answered d origin disk disk' old.trail.entries store a Right
+  answered_err Form a after reply none cause = absurd cause.known
+  answered_err (Limit l) a after reply none cause = refused_kept (Limit l) a after (λ e. cc) reply none cause
+  answered_err Memory a after reply none cause = refused_kept Memory a after (λ e. cc) reply none cause
+  answered_err WriteFault a after reply none cause = record {
     grows = after.1.grows;
     legal = after.1.legal;
-    right = subst (λ (l : Reply). Right store.trail.entries l a.receipts) (sym reply) (none, (known, λ e. cc));
+    right = subst (λ (l : Reply). Right store.trail.entries after.1.grows.added l a.receipts) (sym reply) (none, refuses_write origin store.trail.entries key value, after.1.begun);
     goes_on = λ other. absurd (other reply);
     failed = λ _. after.0;
+    lasts = after.2;
   }
 
 -- ---- the others
 
-pub answered_same : {D : Type 0} (d : Ghosts D) (base : Base) (disk : D) (store : Store) (kept : IsKept d base disk store) (a : Answer) (Right : List Entry → Reply → List Receipt → Type 0)
-    → a.reply ≢ Refused WriteFault → Right store.trail.entries a.reply a.receipts → Answered d base disk disk store.trail.entries store a Right
-answered_same d base disk store kept a Right other right = record {
+pub answered_same : {D : Type 0} (d : Ghosts D) (origin : Origin) (disk : D) (store : Store) (kept : IsKept d origin disk store) (a : Answer) (Right : (es added : List Entry) → Reply → List Receipt → Type 0)
+    → a.reply ≢ Refused WriteFault → Right store.trail.entries [] a.reply a.receipts → Answered d origin disk disk store.trail.entries store a Right
+answered_same d origin disk store kept a Right other right = record {
   grows = record { added = []; is = sym (append-nil store.trail.entries) };
   legal = kept.told.legal;
   right = right;
   goes_on = λ _. kept;
   failed = λ e. absurd (other e);
+  lasts = λ rest. as_late d origin.base store.trail.entries disk kept.told.legal (kept.lasts rest);
 }
 
-pub select_goes : (base : Base) (es : List Entry) (reply : Reply) (receipts : List Receipt) → AnswersSelect base es reply receipts → reply ≢ Refused WriteFault
-select_goes base es (Rows rows) receipts right = λ e. cc
-select_goes base es (Count rows word) receipts right = absurd right
-select_goes base es (Refused f) receipts right = λ e. (let is : f ≡ Memory = right.1 in let other : f ≡ WriteFault = cc in let no : Memory ≡ WriteFault = sym is ∙ other in cc)
+pub answered_memory : {D : Type 0} (d : Ghosts D) (origin : Origin) (disk : D) (store : Store) (kept : IsKept d origin disk store) (key value : List ℕ) (a : Answer) → a.reply ≡ Refused Memory → a.receipts ≡ []
+    → Answered d origin disk disk store.trail.entries store a (λ es added reply receipts. AnswersUpsert origin es added key value reply receipts)
+answered_memory d origin disk store kept key value a reply none =
+    answered_same d origin disk store kept a _ (λ e. (let no : Refused Memory ≡ Refused WriteFault = sym reply ∙ e in cc))
+    (subst (λ (l : Reply). AnswersUpsert origin store.trail.entries [] key value l a.receipts) (sym reply) (none, refuses_memory origin store.trail.entries key value, refl))
+
+pub answered_form : {D : Type 0} (d : Ghosts D) (origin : Origin) (disk : D) (store : Store) (kept : IsKept d origin disk store) (a : Answer) → a.reply ≡ Refused Form → a.receipts ≡ []
+    → Answered d origin disk disk store.trail.entries store a (λ es added reply receipts. Answers origin es added FormStatement reply receipts)
+answered_form d origin disk store kept a reply none =
+    answered_same d origin disk store kept a _ (λ e. (let no : Refused Form ≡ Refused WriteFault = sym reply ∙ e in cc)) ((reply, none), refl)
+
+pub select_goes : (origin : Origin) (es : List Entry) (reply : Reply) (receipts : List Receipt) → AnswersSelect origin es reply receipts → reply ≢ Refused WriteFault
+select_goes origin es (Rows rows) receipts right = λ e. cc
+select_goes origin es (Count rows word) receipts right = absurd right
+select_goes origin es (Refused f) receipts right = λ e. (let is : f ≡ Memory = right.1 in let other : f ≡ WriteFault = cc in let no : Memory ≡ WriteFault = sym is ∙ other in cc)

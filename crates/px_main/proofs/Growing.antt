@@ -12,15 +12,12 @@ use Rattle.px_values.specs.Order.{row_order}
 use Rattle.px_values.specs.States.{RowState, Shape, apply}
 use Rattle.px_trail.specs.declared.entry.Entry.{Entry}
 use Rattle.px_trail.specs.Trail.{Base, Batch, IsLegal, batch_of, calls_of, last_of, shape_of, state_of, unwritten}
-use Rattle.px_trail.specs.One.{all_written, ended-is, begun-legal, begun_entry, ended-last, ended-legal, ended-quiet, ended-state, ended_entry, state_with, wrote_entry}
+use Rattle.px_trail.specs.Growth.{and_true}
+use Rattle.px_trail.specs.One.{all_written, begun-last, begun-legal, begun-state, begun_entry, ended-is, ended-last, ended-legal, ended-quiet, ended-state, ended-whole, ended_entry, state_with, wrote-last, wrote-legal, wrote-state, wrote_entry}
 use Rattle.px_main.specs.Puts.{Put, greatest, newest}
-use Rattle.px_main.specs.Kv.{Tells, key_text, kv, kv_shape, row_at, state_at, what_of}
+use Rattle.px_main.specs.Kv.{Tells, key_text, kv, kv_shape, row_at, state_at, state_by, what_of}
 use Rattle.px_main.specs.Table.{key_of, row_of}
 use Rattle.px_main.proofs.Rows.{newest-key}
-
-and_true : (a b : Bool) → (a && b) ≡ true → (a ≡ true) × (b ≡ true)
-and_true true b h = (refl, h)
-and_true false b h = cc
 
 -- what KV's change makes of a row
 set_row : (k v : List ℕ) (o : Option Put) → ((x : Put) → o ≡ Some x → x.key ≡ k) → apply kv_shape (key_of k) (row_at o) (what_of v) ≡ Some (row_of k v)
@@ -95,7 +92,19 @@ module _ (base : Base) (es : List Entry) (puts : List Put) (told : Tells base es
   pub legal-begun : IsLegal base begun
   legal-begun = begun-legal base es table x.stamp seat (key_of x.key) (what_of x.value) told.legal above_last stands c0 calls0
 
+  pub begun-states : (key : List Value) (point : ℕ) → state_of base begun kv key point ≡ state_by puts key point
+  begun-states key point = begun-state base es table x.stamp seat (key_of x.key) (what_of x.value) told.legal above_last stands c0 calls0 key point ∙ told.states key point
+
+  pub begun-stamp : last_of base kv begun ≡ x.stamp
+  begun-stamp = begun-last base es table x.stamp seat (key_of x.key) (what_of x.value) told.legal above_last stands c0 calls0
+
   -- ---- the whole batch
+
+  pub legal-wrote : IsLegal base (begun ++ wrote_entry seat c1 table x.stamp (key_of x.key) ∷ [])
+  legal-wrote = wrote-legal base es table x.stamp seat (key_of x.key) (what_of x.value) told.legal above_last stands c0 calls0 c1 calls1 told.quiet
+
+  pub wrote-stamp : last_of base kv (begun ++ wrote_entry seat c1 table x.stamp (key_of x.key) ∷ []) ≡ x.stamp
+  wrote-stamp = wrote-last base es table x.stamp seat (key_of x.key) (what_of x.value) told.legal above_last stands c0 calls0 c1 calls1 told.quiet
 
   -- the batch as the trail then tells it
   abbrev pub whole : Batch
@@ -141,11 +150,17 @@ module _ (base : Base) (es : List Entry) (puts : List Put) (told : Tells base es
     state_here key point (Some k) is =
         subst (λ (l : List Value). state_with base es kv x.stamp (key_of x.key) (what_of x.value) l point ≡ row_at (newest k point more)) (sym (text_key key k is)) (state_at_text k point)
 
+    pub wrote-states : (key : List Value) (point : ℕ) → state_of base (begun ++ wrote_entry seat c1 table x.stamp (key_of x.key) ∷ []) kv key point ≡ state_by more key point
+    wrote-states key point =
+        wrote-state base es table x.stamp seat (key_of x.key) (what_of x.value) told.legal above_last stands c0 calls0 c1 calls1 told.quiet key point
+        ∙ state_here key point (key_text key) refl
+
     pub tells-ended : Tells base ended more
     tells-ended = record {
       legal = ended-legal base es table x.stamp seat (key_of x.key) (what_of x.value) told.legal above_last stands c0 calls0 c1 calls1 told.quiet c2 calls2;
       stands = told.stands;
       quiet = ended-quiet base es table x.stamp seat (key_of x.key) (what_of x.value) told.legal above_last stands c0 calls0 c1 calls1 told.quiet c2 calls2;
+      ended = ended-whole base es table x.stamp seat (key_of x.key) (what_of x.value) told.legal above_last stands c0 calls0 c1 calls1 told.quiet c2 calls2 told.ended;
       last = ended-last base es table x.stamp seat (key_of x.key) (what_of x.value) told.legal above_last stands c0 calls0 c1 calls1 told.quiet c2 calls2 ∙ sym last;
       states = λ key point. ended-state base es table x.stamp seat (key_of x.key) (what_of x.value) told.legal above_last stands c0 calls0 c1 calls1 told.quiet c2 calls2 key point
           ∙ state_here key point (key_text key) refl;

@@ -1,4 +1,5 @@
 pub mod Answering
+pub mod Folders
 pub mod Growing
 pub mod Opening
 pub mod Pieces
@@ -14,11 +15,13 @@ pub mod PutNumbers
 pub mod PutRight
 pub mod PutRows
 pub mod PutTexts
+pub mod Rooms
 pub mod Rows
 pub mod Running
 pub mod Runs
 pub mod Sessions
 pub mod Started
 pub mod Statements
+pub mod Stops
 pub mod Upserts
 pub mod Writing

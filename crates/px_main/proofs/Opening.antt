@@ -1,13 +1,18 @@
 -- The making of the log's first segment leaves its puts.
-use Rattle.std.proofs.Common.{◌≡◌, ℕ, Bool, true, false, List, [], Option, Some, None, refl, sym, ◌∙◌, ap, subst}
+use Rattle.std.proofs.Common.{◌≡◌, ℕ, Bool, true, false, List, [], Option, Some, None, ◌≤◌, ◌⊎◌, inl, inr, refl, sym, ◌∙◌, ap, subst}
+use Rattle.px_outside.specs.Disk.{Image}
+use Rattle.px_outside.specs.Moments.{leaves_then, touches_more, touches_none, touches_then}
+use Rattle.px_outside.specs.OnDisk.{LeavesOnly, TouchesOnly}
 use Rattle.px_outside.specs.declared.disk.Disk.{Ghosts}
 use Rattle.px_gatelog.specs.Format.{LogForm, LogRecord, SegmentRead, records_of}
-use Rattle.px_gatelog.specs.GateLog.{GoesOnBy, IsLaid, IsSameLog, IsSettled, MayStep, after_by, after_step, may_by, next_shut, steps_by, steps_left}
+use Rattle.px_gatelog.specs.GateLog.{GoesOnBy, IsLaid, IsSameLog, IsSettled, MayStep, StandsFor, after_by, after_step, may_by, next_shut, steps_left}
+use Rattle.px_gatelog.specs.Laws.{settled_stands, stands_same}
 use Rattle.px_gatelog.specs.declared.gate_log.GateLog.{GateLog}
 use Rattle.px_gatelog.specs.declared.segment.Segment.{Segment}
-use Rattle.px_main.specs.Logged.{Logged}
+use Rattle.px_main.specs.Logged.{HasPuts, Logged, any_file, log_size}
 use Rattle.px_main.specs.PutRecords.{kv_form, put_records}
 use Rattle.px_main.specs.Puts.{Put}
+use Rattle.px_main.specs.Stops.{LeftByNow}
 
 goes_none : (form : LogForm) (newest : Option Segment) (first second : List ℕ) (segments : List SegmentRead) → newest ≡ None → GoesOnBy form newest first second segments → segments ≡ []
 goes_none form None first second segments none on = on.2
@@ -23,15 +28,20 @@ after_none (Some end) shut log = refl
 after_none None true log = refl
 after_none None false log = refl
 
+size_none : (laid : Option ℕ) (shut : Bool) (log : GateLog) → log_size (after_by laid shut kv_form log [] []) ≡ 17
+size_none (Some end) shut log = refl
+size_none None true log = refl
+size_none None false log = refl
+
 -- what a step of the making promises of a settled log
 abbrev pub StepsOn : {D : Type 0} → Ghosts D → D → D → GateLog → GateLog → Type 0
 StepsOn d disk disk' log log' =
     (form : LogForm) (segments : List SegmentRead) (records : List LogRecord) → IsSettled d form log disk segments → MayStep form log segments records
     → (steps_left log ≡ 1 → IsLaid d log disk records) → IsSettled d form log' disk' (after_step form log segments records)
 
-pub step_kept : {D : Type 0} (d : Ghosts D) (disk disk' : D) (log log' : GateLog) (puts : List Put) → log.newest ≡ None → Logged d disk log puts → StepsOn d disk disk' log log'
-    → (steps_left log ≡ 1 → IsLaid d log disk []) → IsSameLog log log' → Logged d disk' log' puts
-step_kept d disk disk' log log' puts closed logged steps laid same =
+pub step_kept : {D : Type 0} (d : Ghosts D) (disk disk' : D) (log log' : GateLog) (puts : List Put) (size : ℕ) → log.newest ≡ None → Logged d disk log puts size → StepsOn d disk disk' log log'
+    → (steps_left log ≡ 1 → IsLaid d log disk []) → IsSameLog log log' → Logged d disk' log' puts size
+step_kept d disk disk' log log' puts size closed logged steps laid same =
     let none : logged.segments ≡ [] = goes_none kv_form log.newest (d.seen disk log.first) (d.seen disk log.second) logged.segments closed logged.settled.state.goes_on in
     let settled : IsSettled d kv_form log disk [] = subst (λ (l : List SegmentRead). IsSettled d kv_form log disk l) none logged.settled in
     let no_puts : [] ≡ put_records puts = sym (ap records_of none) ∙ logged.records in
@@ -39,14 +49,66 @@ step_kept d disk disk' log log' puts closed logged steps laid same =
       segments = after_step kv_form log [] [];
       settled = steps kv_form [] [] settled (may_none log.laid (next_shut log)) laid;
       records = after_none log.laid (next_shut log) log ∙ no_puts;
+      size_is = size_none log.laid (next_shut log) log ∙ (sym (ap log_size none) ∙ logged.size_is);
       first = same.first ∙ logged.first;
       second = same.second ∙ logged.second;
     }
 
-pub settled_none : {D : Type 0} (d : Ghosts D) (disk : D) (log : GateLog) (puts : List Put) → log.newest ≡ None → Logged d disk log puts → IsSettled d kv_form log disk []
-settled_none d disk log puts closed logged =
+pub settled_none : {D : Type 0} (d : Ghosts D) (disk : D) (log : GateLog) (puts : List Put) (size : ℕ) → log.newest ≡ None → Logged d disk log puts size → IsSettled d kv_form log disk []
+settled_none d disk log puts size closed logged =
     let none : logged.segments ≡ [] = goes_none kv_form log.newest (d.seen disk log.first) (d.seen disk log.second) logged.segments closed logged.settled.state.goes_on in
     subst (λ (l : List SegmentRead). IsSettled d kv_form log disk l) none logged.settled
 
-two_left : (laid : Option ℕ) (shut : Bool) → steps_by laid shut ≡ 1 → (n : ℕ) → n ≡ 2 → n ≡ 2
-two_left laid shut one n h = h
+-- ---- what a stop leaves meanwhile
+
+-- no call
+pub still_has : {D : Type 0} (d : Ghosts D) (disk : D) (log : GateLog) (puts : List Put) (size : ℕ) → LeftByNow d → Logged d disk log puts size → LeavesOnly d disk disk (λ moment image. HasPuts puts log image)
+still_has d disk log puts size up_to_now logged = record {
+  each = λ moment image since is. (
+    logged.segments,
+    settled_stands d kv_form log disk disk logged.segments logged.settled (λ file. ⊥) (touches_none d.calls d.left d.seen up_to_now disk (λ file. ⊥)) (λ file has no. no) moment image since is,
+    logged.records,
+  );
+}
+
+-- what a step of the making promises of a stop in it
+abbrev pub StepLeaves : {D : Type 0} → Ghosts D → D → D → GateLog → Type 0
+StepLeaves d disk disk' log =
+    (form : LogForm) (segments : List SegmentRead) (records : List LogRecord) → IsSettled d form log disk segments → MayStep form log segments records
+    → (steps_left log ≡ 1 → IsLaid d log disk records) → LeavesOnly d disk disk' (λ moment image. StandsFor form log image segments ⊎ StandsFor form log image (after_step form log segments records))
+
+pub step_leaves : {D : Type 0} (d : Ghosts D) (disk disk' : D) (log : GateLog) (puts : List Put) (size : ℕ) → log.newest ≡ None → Logged d disk log puts size → StepLeaves d disk disk' log
+    → (steps_left log ≡ 1 → IsLaid d log disk []) → LeavesOnly d disk disk' (λ moment image. HasPuts puts log image)
+step_leaves d disk disk' log puts size closed logged steps laid =
+    let none : logged.segments ≡ [] = goes_none kv_form log.newest (d.seen disk log.first) (d.seen disk log.second) logged.segments closed logged.settled.state.goes_on in
+    let settled : IsSettled d kv_form log disk [] = subst (λ (l : List SegmentRead). IsSettled d kv_form log disk l) none logged.settled in
+    let no_puts : [] ≡ put_records puts = sym (ap records_of none) ∙ logged.records in
+    let leaves = steps kv_form [] [] settled (may_none log.laid (next_shut log)) laid in
+    record {
+      each = λ moment image since is. elim (leaves.each moment image since is) [
+        | inl stands ↦ ([], stands, no_puts)
+        | inr stands ↦ (after_step kv_form log [] [], stands, after_none log.laid (next_shut log) log ∙ no_puts)
+      ];
+    }
+
+pub has_same : (old new : GateLog) (puts : List Put) (image : Image) → IsSameLog old new → HasPuts puts new image → HasPuts puts old image
+has_same old new puts image same has = (has.0, stands_same kv_form old new image has.0 same has.1, has.2)
+
+pub same_then : (a b c : GateLog) → IsSameLog a b → IsSameLog b c → IsSameLog a c
+same_then a b c first second = record { first = second.first ∙ first.first; second = second.second ∙ first.second }
+
+module _ {D : Type 0} (d : Ghosts D) (first mid last : D) where
+  pub touch_any : (touched : ℕ → Type 0) → TouchesOnly d mid last touched → TouchesOnly d mid last any_file
+  touch_any touched touches = touches_more d.calls d.left d.seen mid last touched any_file (λ file t. tt) touches
+
+  pub touches_on : TouchesOnly d first mid any_file → TouchesOnly d mid last any_file → TouchesOnly d first last any_file
+  touches_on one two = touches_then d.calls d.left d.seen first mid last any_file one two
+
+  pub leaves_on : (log log' : GateLog) (puts : List Put) → IsSameLog log log' → LeavesOnly d first mid (λ moment image. HasPuts puts log image) → TouchesOnly d mid last any_file
+      → LeavesOnly d mid last (λ moment image. HasPuts puts log' image) → LeavesOnly d first last (λ moment image. HasPuts puts log image)
+  leaves_on log log' puts same one touches two =
+      leaves_then d.calls d.left d.seen first mid last any_file (λ moment image. HasPuts puts log image) (λ moment image. HasPuts puts log' image) (λ moment image. HasPuts puts log image) one touches two
+      (λ moment image is has. has) (λ moment image since is has. has_same log log' puts image same has)
+
+pub touches_nothing : {D : Type 0} (d : Ghosts D) (disk : D) → LeftByNow d → TouchesOnly d disk disk any_file
+touches_nothing d disk up_to_now = touches_none d.calls d.left d.seen up_to_now disk any_file

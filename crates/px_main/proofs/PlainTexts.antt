@@ -1,5 +1,5 @@
 -- The texts of a plain piece have no zero byte.
-use Rattle.std.proofs.Common.{◌≡◌, ◌≢◌, ℕ, ◌-◌, ◌<◌, ◌≤◌, ◌&&◌, ◌||◌, nat_lt, not, if◌then◌else◌, Bool, true, false, List, [], ◌∷◌, ◌++◌, length, take, drop, codes, reverse, refl, sym, ◌∙◌, ap, arith}
+use Rattle.std.proofs.Common.{◌≡◌, ◌≢◌, ℕ, ◌-◌, ◌<◌, ◌≤◌, ◌&&◌, ◌||◌, if◌then◌else◌, Bool, true, false, List, [], ◌∷◌, ◌++◌, length, take, drop, codes, reverse, refl, sym, ◌∙◌, ap, arith}
 use Rattle.std.specs.Str.{IsAscii}
 use Rattle.std.specs.List.{AllByRecursion, list_all}
 use Rattle.std.proofs.lemmas.Bool.Decides.{nat_tests}
@@ -11,7 +11,7 @@ use Rattle.px_main.specs.declared.script.Span.{Span}
 use Rattle.px_main.specs.declared.statement.Statement.{Statement}
 use Rattle.px_main.specs.declared.statement.Statement.TheVariants.{Upsert, Select, Form}
 use Rattle.px_main.specs.PutForm.{IsText}
-use Rattle.px_main.specs.Script.{has_bad_line, is_blank, is_form, is_plain, piece_of}
+use Rattle.px_main.specs.Script.{is_blank, is_plain, piece_of}
 use Rattle.px_main.specs.Statement.{Reads, core_of, is_word, skip_blanks}
 use Rattle.px_main.specs.Texts.{HasTexts}
 
@@ -91,12 +91,3 @@ has_texts piece (Upsert key value) plain reads =
     (text_of key.now key_parts.0 reads.key_short, text_of value.now value_parts.0 reads.value_short)
 has_texts piece Select plain reads = tt
 has_texts piece Form plain reads = tt
-
--- a script that isn't left out is plain
-middle : (a b c : Bool) → ((a || not b) || c) ≡ false → b ≡ true
-middle true b c h = cc
-middle false true c h = refl
-middle false false c h = cc
-
-pub plain-script : (script : List ℕ) → is_form script ≡ false → IsPlain script
-plain-script script h = middle (nat_lt 1048576 (length script)) (list_all is_plain script) (has_bad_line true script) h

@@ -1,10 +1,12 @@
 -- The entries of a batch of session 1.
-use Rattle.std.specs.Prelude.{ℕ, ◌∷◌, [], ◌++◌, List}
+use Rattle.std.specs.Prelude.{◌≡◌, ◌⊎◌, ℕ, ◌∷◌, [], ◌++◌, List}
 use Rattle.px_values.specs.declared.change.Change.{Change}
 use Rattle.px_values.specs.declared.name.TableId.{TableId}
 use Rattle.px_values.specs.declared.row.Value.{Value}
 use Rattle.px_trail.specs.declared.entry.Act.TheVariants.{Begun, Wrote, Ended}
 use Rattle.px_trail.specs.declared.entry.Entry.{Entry}
+use Rattle.px_main.specs.Batch.{kv_change}
+use Rattle.px_main.specs.Table.{key_of}
 
 -- the seat of session 1
 abbrev pub session_seat : ℕ
@@ -22,3 +24,15 @@ with_batch es begun_at ended_at stamp changes rows =
     (with_begun es begun_at stamp changes
     ++ record { seat = session_seat; calls = ended_at; act = Wrote kv_table stamp rows } ∷ [])
     ++ record { seat = session_seat; calls = ended_at; act = Ended kv_table stamp } ∷ []
+
+-- ---- what an UPSERT of this key and value adds
+
+-- a batch of this change alone: begun, written and ended
+pub record AddsBatch (key value : List ℕ) (stamp : ℕ) (added : List Entry) : Type 0 where
+  pub begun_at : ℕ
+  pub ended_at : ℕ
+  pub is : added ≡ with_batch [] begun_at ended_at stamp (kv_change key value ∷ []) (key_of key ∷ [])
+
+-- a batch of this change alone, begun and not written; or nothing
+abbrev pub AddsBegun : (key value : List ℕ) → List Entry → Type 0
+AddsBegun key value added = (added ≡ []) ⊎ ((calls stamp : ℕ) × (added ≡ with_begun [] calls stamp (kv_change key value ∷ [])))

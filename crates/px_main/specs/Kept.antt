@@ -1,6 +1,7 @@
 -- What stays true of the store from statement to statement.
-use Rattle.std.specs.Prelude.{◌≡◌, ◌≤◌, ◌++◌, ◌∷◌, [], ℕ, List, length, IsTrue, Some, None, Ok, true, ◌+◌, sum_by}
-use Rattle.px_outside.specs.OnDisk.{Rose}
+use Rattle.std.specs.Prelude.{◌≡◌, ◌≤◌, ◌++◌, ◌∷◌, [], ℕ, List, length, IsTrue, IsSome, Option, Some, None, Ok, true, ◌+◌, sum_by}
+use Rattle.std.specs.List.{AllByRecursion}
+use Rattle.px_outside.specs.OnDisk.{Rose, Stays}
 use Rattle.px_outside.specs.declared.disk.Disk.{Ghosts}
 use Rattle.px_values.specs.declared.change.Change.{Change}
 use Rattle.px_values.specs.declared.row.Value.{Value}
@@ -15,24 +16,29 @@ use Rattle.px_main.specs.declared.reply.Receipt.{Receipt}
 use Rattle.px_main.specs.declared.reply.Refusal.{Refusal}
 use Rattle.px_main.specs.declared.reply.Refusal.TheVariants.{WriteFault}
 use Rattle.px_main.specs.declared.store.Store.{Store}
-use Rattle.px_main.specs.Added.{session_seat, with_batch}
+use Rattle.px_main.specs.Added.{AddsBatch, AddsBegun, session_seat, with_batch}
 use Rattle.px_main.specs.Batch.{kv_change}
 use Rattle.px_main.specs.Kv.{Tells, base_by, kv}
 use Rattle.px_main.specs.Logged.{IsReady, Logged, folder_of}
+use Rattle.px_main.specs.Origin.{FitsLog, FitsTrail, Origin, logged_bytes, size_at_first}
 use Rattle.px_main.specs.PutReader.{HoldsPuts}
 use Rattle.px_main.specs.Puts.{Put}
+use Rattle.px_main.specs.Stops.{Lasts, LastsLate}
 
 -- ---- the store
 
 -- the trail, the rows and the log tell the same puts
-pub record IsKept {D : Type 0} (d : Ghosts D) (base : Base) (disk : D) (store : Store) : Type 0 where
+pub record IsKept {D : Type 0} (d : Ghosts D) (origin : Origin) (disk : D) (store : Store) : Type 0 where
   pub puts : List Put
-  pub told : Tells base store.trail.entries puts
+  pub told : Tells origin.base store.trail.entries puts
   pub holds : HoldsPuts store.rows store.last store.number puts
   pub calls : calls_of store.trail.entries ≤ d.calls disk
   pub spare : store.trail.bytes_room ≡ 0
   pub ready : IsReady store.log
-  pub logged : IsTrue d.tells → Logged d disk store.log puts
+  pub logged : IsTrue d.tells → Logged d disk store.log puts (size_at_first origin.log + logged_bytes store.trail.entries)
+  pub sized : IsSome origin.log → IsTrue d.tells
+  pub early : AllByRecursion (λ e. e.calls ≤ d.calls disk) store.trail.entries
+  pub lasts : IsTrue origin.rest → Lasts d origin.base store.trail.entries disk
 
 -- ---- a batch
 
@@ -58,15 +64,19 @@ pub record Grows (old new : List Entry) : Type 0 where
 
 -- ---- what an UPSERT leaves
 
--- a batch was begun and never written: its write failed
-pub record IsStopped (base : Base) (old new : List Entry) : Type 0 where
+-- a write failed, before the batch was begun or after
+pub record IsStopped (base : Base) (old new : List Entry) (key value : List ℕ) : Type 0 where
   pub grows : Grows old new
+  pub begun : AddsBegun key value grows.added
   pub legal : IsLegal base new
 
 -- the batch is there, and all goes on
-pub record IsUpserted {D : Type 0} (d : Ghosts D) (base : Base) (disk : D) (old : List Entry) (store : Store) (key value : List ℕ) (r : Receipt) : Type 0 where
-  pub kept : IsKept d base disk store
+pub record IsUpserted {D : Type 0} (d : Ghosts D) (origin : Origin) (disk : D) (old : List Entry) (store : Store) (key value : List ℕ) (r : Receipt) : Type 0 where
+  pub kept : IsKept d origin disk store
   pub grows : Grows old store.trail.entries
+  pub batch : AddsBatch key value r.stamp grows.added
+  pub fits_log : FitsLog origin.log store.trail.entries
+  pub fits_trail : FitsTrail store.trail.entries
   pub receipt : IsReceipt store.trail.entries key value r
 
 -- ---- an append
@@ -88,23 +98,27 @@ pub record IsWritten {D : Type 0} (d : Ghosts D) (disk disk' : D) (old new : Sto
   pub map : new.rows ≡ old.rows
 
 -- what a refused batch leaves: all goes on as it was
-pub record IsRefused {D : Type 0} (d : Ghosts D) (base : Base) (disk : D) (old : List Entry) (store : Store) : Type 0 where
-  pub kept : IsKept d base disk store
+pub record IsRefused {D : Type 0} (d : Ghosts D) (origin : Origin) (disk : D) (old : List Entry) (store : Store) : Type 0 where
+  pub kept : IsKept d origin disk store
   pub same : store.trail.entries ≡ old
 
--- After a failed write the batch is begun and no more. After another refusal all goes on as it was.
-abbrev pub AfterRefusal : {D : Type 0} → Ghosts D → Base → D → D → List Entry → Store → Refusal → Type 0
-AfterRefusal d base disk disk' old store WriteFault = Rose d disk disk' × IsStopped base old store.trail.entries
-AfterRefusal d base disk disk' old store refusal = IsRefused d base disk' old store
+-- After a failed write the batch is begun, or not yet, and no more. After another refusal all goes on as it was.
+abbrev pub AfterRefusal : {D : Type 0} → Ghosts D → Origin → D → D → List Entry → Store → (key value : List ℕ) → Refusal → Type 0
+AfterRefusal d origin disk disk' old store key value WriteFault =
+    Rose d disk disk' × IsStopped origin.base old store.trail.entries key value × (IsTrue origin.rest → LastsLate d origin.base store.trail.entries disk')
+AfterRefusal d origin disk disk' old store key value refusal = IsRefused d origin disk' old store
 
 -- ---- an opening
 
 -- the store has what the files stood for, and nothing was done yet
 pub record IsOpened {D : Type 0} (d : Ghosts D) (old new : D) (store : Store) : Type 0 where
   pub puts : List Put
+  pub log : Option ℕ
   pub entries : store.trail.entries ≡ []
   pub holds : HoldsPuts store.rows store.last store.number puts
   pub spare : store.trail.bytes_room ≡ 0
   pub ready : IsReady store.log
-  pub stood : IsTrue d.tells → folder_of (d.seen old) ≡ Ok (base_by puts)
-  pub logged : IsTrue d.tells → Logged d new store.log puts
+  pub stood : IsTrue d.tells → folder_of (d.seen old) ≡ Ok (record { base = base_by puts; log = size_at_first log })
+  pub logged : IsTrue d.tells → Logged d new store.log puts (size_at_first log)
+  pub sized : IsSome log → IsTrue d.tells
+  pub quiet : Stays d old new

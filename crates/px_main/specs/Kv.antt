@@ -6,7 +6,7 @@ use Rattle.px_values.specs.States.{RowState, Shape}
 use Rattle.px_values.specs.declared.change.What.{What}
 use Rattle.px_values.specs.declared.change.What.TheVariants.{Set}
 use Rattle.px_trail.specs.declared.entry.Entry.{Entry}
-use Rattle.px_trail.specs.One.{AllWritten}
+use Rattle.px_trail.specs.One.{AllEnded, AllWritten}
 use Rattle.px_trail.specs.Trail.{Base, IsLegal, last_of, state_of}
 use Rattle.px_main.specs.Puts.{Put, greatest, newest}
 use Rattle.px_main.specs.Table.{row_of}
@@ -61,5 +61,6 @@ pub record Tells (base : Base) (es : List Entry) (puts : List Put) : Type 0 wher
   pub legal : IsLegal base es
   pub stands : base.shape kv ≡ Some kv_shape
   pub quiet : AllWritten es kv
+  pub ended : AllEnded es kv
   pub last : last_of base kv es ≡ greatest puts
   pub states : (key : List Value) (point : ℕ) → state_of base es kv key point ≡ state_by puts key point

@@ -3,6 +3,7 @@ pub mod Batch
 pub mod Kept
 pub mod Kv
 pub mod Logged
+pub mod Origin
 pub mod Printed
 pub mod PutForm
 pub mod PutReader
@@ -17,6 +18,7 @@ pub mod Script
 pub mod Session
 pub mod StampedRow
 pub mod Statement
+pub mod Stops
 pub mod Table
 pub mod Texts
 pub mod Words

@@ -1,14 +1,15 @@
 -- What a run of the program leaves.
-use Rattle.std.specs.Prelude.{◌≡◌, ◌≢◌, ◌<◌, ◌⊎◌, ◌++◌, ◌∷◌, [], ℕ, Bool, true, false, ◌||◌, if◌then◌else◌, List, length, take, drop, IsTrue, None, Ok}
+use Rattle.std.specs.Prelude.{◌≡◌, ◌≢◌, ◌<◌, ◌⊎◌, ◌++◌, ◌∷◌, [], ℕ, Bool, true, false, ◌||◌, ◌+◌, if◌then◌else◌, List, length, take, drop, IsTrue, IsSome, None, Ok}
 use Rattle.std.specs.List.{list_any}
 use Rattle.px_outside.specs.Faults.{FaultsRose}
-use Rattle.px_outside.specs.OnDisk.{Rose}
+use Rattle.px_outside.specs.OnDisk.{Rose, Stays}
 use Rattle.px_outside.specs.declared.disk.Disk.{Ghosts as DiskGhosts}
 use Rattle.px_outside.specs.declared.sink.Sink.{Ghosts as SinkGhosts}
 use Rattle.px_outside.specs.declared.source.Source.{Ghosts as SourceGhosts}
 use Rattle.px_gatelog.specs.declared.fault.LogFault.{LogFault}
 use Rattle.px_gatelog.specs.declared.fault.LogFault.TheVariants.{ReadFault as ReadFaultOfLog, WriteFault as WriteFaultOfLog, Full as FullLog, Damaged as DamagedLog, Memory as MemoryOfLog}
-use Rattle.px_trail.specs.Trail.{Base, IsLegal}
+use Rattle.px_trail.specs.One.{AllEnded}
+use Rattle.px_trail.specs.Trail.{IsLegal}
 use Rattle.px_trail.specs.declared.entry.Entry.{Entry}
 use Rattle.px_main.specs.declared.reply.Item.{Item}
 use Rattle.px_main.specs.declared.reply.Refusal.{Refusal}
@@ -20,11 +21,13 @@ use Rattle.px_main.specs.declared.run.Status.{Status}
 use Rattle.px_main.specs.declared.run.Status.TheVariants.{Done, Refused, BadWords, Device, Memory, Damaged, SourceFault, SinkFault}
 use Rattle.px_main.specs.declared.session.Ending.{Ending}
 use Rattle.px_main.specs.declared.session.Ending.TheVariants.{Whole, WriteFault, Memory as MemoryEnding}
-use Rattle.px_main.specs.Kv.{Tells, base_by}
+use Rattle.px_main.specs.Kv.{Tells, base_by, kv}
 use Rattle.px_main.specs.Logged.{IsDamaged, folder_of}
+use Rattle.px_main.specs.Origin.{Origin, folder_at, logged_bytes, size_at_first}
 use Rattle.px_main.specs.Printed.{printed}
 use Rattle.px_main.specs.Puts.{Put}
 use Rattle.px_main.specs.Session.{AnswersScript}
+use Rattle.px_main.specs.Stops.{LastsLate, NothingPending}
 use Rattle.px_main.specs.Words.{folder_in}
 
 -- ---- the status
@@ -89,6 +92,26 @@ IsWritten {O} k out out' text true print_failed = FaultsRose (k.faults out) (k.f
 IsWritten {O} k out out' text false true = out' ≡ out
 IsWritten {O} k out out' text false false = IsTrue k.tells → k.held out' ≡ k.held out ++ text
 
+-- ---- completeness
+
+-- the statuses that come without a fault of the disk or the sink
+abbrev pub IsQuietStatus : Status → Type 0
+IsQuietStatus Done = Unit {0}
+IsQuietStatus Refused = Unit {0}
+IsQuietStatus BadWords = ⊥
+IsQuietStatus (Device call) = ⊥
+IsQuietStatus Memory = Unit {0}
+IsQuietStatus (Damaged file place) = ⊥
+IsQuietStatus SourceFault = ⊥
+IsQuietStatus SinkFault = ⊥
+
+-- Where no call of the disk failed, the session came to its end, unless memory ran out outside a statement. Where the
+-- sink didn't fail either, the status is Done, Refused or Memory. Done comes only where the session came to its end.
+pub record IsComplete {D O : Type 0} (d : DiskGhosts D) (k : SinkGhosts O) (disk disk' : D) (out out' : O) (ending : Ending) (memory : Bool) (status : Status) : Type 0 where
+  pub answered : ¬ Rose d disk disk' → memory ≡ false → ending ≡ Whole
+  pub quiet : ¬ Rose d disk disk' → ¬ FaultsRose (k.faults out) (k.faults out') → IsQuietStatus status
+  pub done : status ≡ Done → ending ≡ Whole
+
 -- ---- a run
 
 -- session 1 in the first round
@@ -96,20 +119,23 @@ abbrev pub only_transcript : List Item → List Transcript
 only_transcript items = record { session = 1; round = 1; items = items } ∷ []
 
 -- What a script leaves, run on a folder that was opened: the trail, the replies, the bytes, the status and the folder.
-pub record IsRun {D O : Type 0} (d : DiskGhosts D) (k : SinkGhosts O) (base : Base) (script : List ℕ) (disk disk' : D) (out out' : O) (es : List Entry) (transcripts : List Transcript) (memory : Bool) (status : Status) : Type 0 where
+pub record IsRun {D O : Type 0} (d : DiskGhosts D) (k : SinkGhosts O) (origin : Origin) (script : List ℕ) (disk disk' : D) (out out' : O) (es : List Entry) (transcripts : List Transcript) (memory : Bool) (status : Status) : Type 0 where
   pub items : List Item
   pub ending : Ending
   pub sink_failed : Bool
   pub print_failed : Bool
   pub call : ℕ
-  pub trail_is_legal : IsLegal base es
-  pub items_are_replied : AnswersScript base es script items ending
+  pub trail_is_legal : IsLegal origin.base es
+  pub items_are_replied : AnswersScript origin es script 0 items ending
+  pub all_is_ended : ending ≢ WriteFault → AllEnded es kv
   pub transcript_is_theirs : transcripts ≡ only_transcript items
   pub bytes_are_printed : IsWritten k out out' (printed transcripts) sink_failed print_failed
   pub status_is_caused : status ≡ status_of sink_failed ending call (memory || some_lacked_memory items) (some_was_refused items)
-  pub device_failed : ending ≡ WriteFault → Rose d disk disk' × (call ≡ d.calls disk')
+  pub device_failed : ending ≡ WriteFault → Rose d disk disk' × (call ≡ d.first_fault disk')
+  pub run_is_complete : IsComplete d k disk disk' out out' ending memory status
+  pub lasts : IsTrue origin.rest → LastsLate d origin.base es disk'
   pub memory_is : memory ≡ (print_failed || ended_by_memory ending)
-  pub folder_stands : ending ≢ WriteFault → IsTrue d.tells → (puts : List Put) × Tells base es puts × (folder_of (d.seen disk') ≡ Ok (base_by puts))
+  pub folder_stands : ending ≢ WriteFault → IsTrue d.tells → (puts : List Put) × Tells origin.base es puts × (folder_of (d.seen disk') ≡ Ok (record { base = base_by puts; log = size_at_first origin.log + logged_bytes es }))
 
 -- ---- a run that opened no folder
 
@@ -118,13 +144,13 @@ abbrev pub StopsDisk : {D : Type 0} → DiskGhosts D → D → D → Status → 
 StopsDisk d disk disk' Done = ⊥
 StopsDisk d disk disk' Refused = ⊥
 StopsDisk d disk disk' BadWords = ⊥
-StopsDisk d disk disk' (Device call) = Rose d disk disk' × (call ≡ d.calls disk')
+StopsDisk d disk disk' (Device call) = Rose d disk disk' × (call ≡ d.first_fault disk')
 StopsDisk d disk disk' Memory = Unit {0}
 StopsDisk d disk disk' (Damaged file place) = IsTrue d.tells → IsDamaged (d.seen disk) file place
 StopsDisk d disk disk' SourceFault = ⊥
 StopsDisk d disk disk' SinkFault = ⊥
 
--- by the log's answer, after this many calls of the disk
+-- by the log's answer, where this call of the disk was the first that failed
 abbrev pub stopped_by : LogFault → (call : ℕ) → Status
 stopped_by ReadFaultOfLog call = Device call
 stopped_by WriteFaultOfLog call = Device call
@@ -132,17 +158,20 @@ stopped_by FullLog call = Device call
 stopped_by (DamagedLog file place) call = Damaged file place
 stopped_by MemoryOfLog call = Memory
 
--- A folder was opened and a script run on what it stands for, or nothing was run and nothing written.
+-- nothing was run, and nothing was written; a stop leaves nothing new
 pub record IsUnopened {D O : Type 0} (d : DiskGhosts D) (disk disk' : D) (out out' : O) (es : List Entry) (transcripts : List Transcript) (status : Status) : Type 0 where
   pub cause : StopsDisk d disk disk' status
+  pub quiet : Stays d disk disk'
   pub no_entries : es ≡ []
   pub no_replies : transcripts ≡ []
   pub no_bytes : out' ≡ out
 
+-- A folder was opened and a script run on what it stands for, or nothing was run.
 abbrev pub IsOpenedRun : {D O : Type 0} → DiskGhosts D → SinkGhosts O → (script : List ℕ) → D → D → O → O → List Entry → List Transcript → Bool → Status → Type 0
 IsOpenedRun d k script disk disk' out out' es transcripts memory status =
     IsUnopened d disk disk' out out' es transcripts status
-    ⊎ ((base : Base) × (IsTrue d.tells → folder_of (d.seen disk) ≡ Ok base) × IsRun d k base script disk disk' out out' es transcripts memory status)
+    ⊎ ((origin : Origin) × (IsTrue d.tells → folder_of (d.seen disk) ≡ Ok (folder_at origin)) × (IsSome origin.log → IsTrue d.tells)
+    × IsRun d k origin script disk disk' out out' es transcripts memory status × (NothingPending d disk → LastsLate d origin.base es disk'))
 
 -- why nothing was run
 abbrev pub Stops : {D I : Type 0} → DiskGhosts D → SourceGhosts I → D → D → I → I → (words : List (List ℕ)) → Status → Type 0
@@ -150,9 +179,10 @@ Stops d s disk disk' input input' words BadWords = (folder_in words ≡ None) ×
 Stops d s disk disk' input input' words SourceFault = (folder_in words ≢ None) × FaultsRose (s.faults input) (s.faults input') × (disk' ≡ disk)
 Stops d s disk disk' input input' words status = (folder_in words ≢ None) × StopsDisk d disk disk' status
 
--- nothing was run, and nothing was written
+-- nothing was run, and nothing was written; a stop leaves nothing new
 pub record IsUnrun {D I O : Type 0} (d : DiskGhosts D) (s : SourceGhosts I) (disk disk' : D) (input input' : I) (out out' : O) (words : List (List ℕ)) (es : List Entry) (transcripts : List Transcript) (status : Status) : Type 0 where
   pub cause : Stops d s disk disk' input input' words status
+  pub quiet : Stays d disk disk'
   pub no_entries : es ≡ []
   pub no_replies : transcripts ≡ []
   pub no_bytes : out' ≡ out
@@ -166,8 +196,10 @@ most_read = 67108865
 -- The words name a folder, the input was read, and its script was run on what the folder stands for.
 pub record IsWhole {D I O : Type 0} (d : DiskGhosts D) (s : SourceGhosts I) (k : SinkGhosts O) (disk disk' : D) (input input' : I) (out out' : O) (words : List (List ℕ)) (es : List Entry) (transcripts : List Transcript) (memory : Bool) (status : Status) : Type 0 where
   pub script : List ℕ
-  pub base : Base
+  pub origin : Origin
   pub words_name_a_folder : folder_in words ≢ None
   pub input_is_read : IsTrue s.tells → (script ≡ take most_read (s.remaining input)) × (s.remaining input' ≡ drop most_read (s.remaining input))
-  pub base_is_the_folder : IsTrue d.tells → folder_of (d.seen disk) ≡ Ok base
-  pub run : IsRun d k base script disk disk' out out' es transcripts memory status
+  pub origin_is_the_folder : IsTrue d.tells → folder_of (d.seen disk) ≡ Ok (folder_at origin)
+  pub log_is_told : IsSome origin.log → IsTrue d.tells
+  pub run : IsRun d k origin script disk disk' out out' es transcripts memory status
+  pub stops_recover : NothingPending d disk → LastsLate d origin.base es disk'

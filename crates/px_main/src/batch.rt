@@ -1,7 +1,6 @@
 // A batch of one row, and what it takes before it begins.
-ghost use Rattle.std.specs.Prelude.{◌≡◌, ◌<◌, ◌≤◌, ◌+◌, ◌∷◌, [], ◌↔◌, ℕ, List, max, min, length, sum_by, IfOk, OnOk, OnErr, IfErr, Err, MatchOption, ◌≢◌, ◌⊎◌};
+ghost use Rattle.std.specs.Prelude.{◌≡◌, ◌<◌, ◌≤◌, ◌+◌, ◌∷◌, [], ◌↔◌, ℕ, max, min, sum_by, IfOk, OnErr, IfErr, Err, MatchOption, ◌≢◌, ◌⊎◌};
 ghost use Rattle.px_trail.specs.Count.{counted_bytes, counted_change};
-ghost use Rattle.px_main.specs.Table.{key_of};
 ghost use Rattle.px_main.specs.Batch.{kv_change};
 ghost use Rattle.px_main.specs.declared.reply.Refusal.TheVariants.{Limit as LimitRefusal, Memory as MemoryRefusal};
 ghost use Rattle.px_main.specs.Refusals.{IsUpsertRefusal};

@@ -2,6 +2,8 @@
 #![tactic(auto)]
 
 mod batch;
+#[cfg(test)]
+mod fault_tests;
 mod printing;
 mod put;
 mod put_reader;
@@ -11,6 +13,8 @@ mod script;
 mod session;
 mod statement;
 mod status;
+#[cfg(test)]
+mod stop_tests;
 mod store;
 mod table;
 #[cfg(test)]

@@ -1,5 +1,5 @@
 // Printing transcripts.
-ghost use Rattle.std.specs.Prelude.{◌≡◌, ◌++◌, [], List, ℕ, OnOk};
+ghost use Rattle.std.specs.Prelude.{◌≡◌, ◌++◌, [], ℕ, OnOk};
 ghost use Rattle.px_main.specs.Printed.{printed, printed_items, printed_reply, refusal_text};
 
 use crate::reply::{Item, Refusal, Reply, Transcript, Transcripts};

@@ -1,5 +1,5 @@
 // A row of KV as the body of a log's record.
-ghost use Rattle.std.specs.Prelude.{◌≡◌, ◌==◌, ◌≤◌, ◌<◌, ◌+◌, ◌^◌, ◌++◌, ◌∷◌, [], None, length, take, IfErr, IfOk, IfSome, OnOk, Some};
+ghost use Rattle.std.specs.Prelude.{◌≡◌, ◌==◌, ◌≤◌, ◌<◌, ◌+◌, ◌^◌, ◌++◌, ◌∷◌, [], None, length, IfErr, IfOk, IfSome, OnOk, Some};
 ghost use Rattle.std.specs.List.{position, position_or_len};
 ghost use Rattle.std.specs.Int.{from_be_bytes, to_be_bytes, w16, w64};
 ghost use Rattle.px_main.specs.Puts.{put_bytes, put_cell};

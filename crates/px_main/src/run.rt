@@ -1,12 +1,10 @@
 // A run of the program, from its words to its status.
-ghost use Rattle.std.specs.Prelude.{◌≡◌, ◌≢◌, ◌≤◌, ◌⊎◌, [], ℕ, List, Bool, map, IsTrue, true, false, None, Err};
+ghost use Rattle.std.specs.Prelude.{◌≡◌, ◌≢◌, ◌≤◌, ◌⊎◌, [], ℕ, map, true, false, None, Err};
 ghost use Rattle.std.specs.String.{string_bytes};
-ghost use Rattle.px_outside.specs.Metered.{metered_disk};
-ghost use Rattle.px_trail.specs.Trail.{Base};
 ghost use Rattle.px_main.specs.Kept.{IsKept};
+ghost use Rattle.px_main.specs.Origin.{Origin};
 ghost use Rattle.px_main.specs.Printed.{printed};
 ghost use Rattle.px_main.specs.Run.{IsOpenedRun, IsRun, IsUnrun, IsWhole, IsWritten, ended_by_memory, lacked_memory, some_lacked_memory, some_was_refused, status_of, stopped_by, was_refused};
-ghost use Rattle.px_main.specs.Words.{folder_in};
 
 use crate::printing::print_transcripts;
 use crate::reply::{Item, Items, Refusal, Reply, Transcript, Transcripts};
@@ -92,7 +90,7 @@ fn some_refused(items: &[Item]) -> bool
     items.iter().any(|item| refused(&item.reply))
 }
 
-/// The status of a run whose session ended so, after this many calls of the disk.
+/// The status of a run whose session ended so, where this call of the disk was the first that failed.
 fn status_after(sink_failed: bool, ending: Ending, call: u64, lacked: bool, refused: bool) -> Status
     ensures { result ≡ status_of sink_failed ending call lacked refused }
 {
@@ -155,11 +153,12 @@ fn run_store<D: CountsCalls, C: Clock, O: Sink>(
 ) -> Ran
     requires empty { transcripts.items ≡ [] }
     requires room { 1 ≤ transcripts.cap }
-    ensures { (base : Base) → IsKept ⟦<D as Disk>⟧ base disk.old store
-        → IsRun ⟦<D as Disk>⟧ ⟦<O as Sink>⟧ base script.now disk.old disk.new out.old out.new result.trail.entries result.transcripts result.memory result.status }
+    requires nothing_done { store.trail.entries ≡ [] }
+    ensures { (origin : Origin) → IsKept ⟦<D as Disk>⟧ origin disk.old store
+        → IsRun ⟦<D as Disk>⟧ ⟦<O as Sink>⟧ origin script.now disk.old disk.new out.old out.new result.trail.entries result.transcripts result.memory result.status }
 {
     let Session { items, ending } = run_script(alloc, &mut store, disk, clock, script);
-    let call = disk.call_count();
+    let call = disk.first_fault();
     let lacked = some_lacked(items.as_slice());
     let refused = some_refused(items.as_slice());
     transcripts.push_reserved(Transcript {
@@ -196,7 +195,7 @@ fn unrun<D>(alloc: Global, disk: D, status: Status) -> Outcome<D>
     }
 }
 
-/// The status where the log wasn't opened, after this many calls of the disk.
+/// The status where the log wasn't opened, and this call of the disk was the first that failed.
 fn status_unopened(fault: LogFault, call: u64) -> Status
     ensures { result ≡ stopped_by fault call }
 {
@@ -215,7 +214,7 @@ fn run_folder<D: Disk, C: Clock + Drop, O: Sink>(
     mut clock: C,
     out: &mut O,
 ) -> Outcome<D>
-    requires fresh { (D.calls disk ≡ 0) × (D.faults disk ≡ 0) }
+    requires fresh { (D.calls disk ≡ 0) × (D.faults disk ≡ 0) × (D.first_fault disk ≡ 0) }
     ensures run { IsOpenedRun ⟦<D as Disk>⟧ ⟦<O as Sink>⟧ script.now disk result.disk out.old out.new result.trail.entries result.transcripts result.memory result.status }
     ensures in_time { result.late ≡ None }
 {
@@ -225,7 +224,7 @@ fn run_folder<D: Disk, C: Clock + Drop, O: Sink>(
     let mut metered = Metered::new(disk);
     match Store::open(alloc, &mut metered) {
         Err(fault) => {
-            let status = status_unopened(fault, metered.call_count());
+            let status = status_unopened(fault, metered.first_fault());
             unrun(alloc, metered.into_disk(), status)
         }
         Ok(store) => {
@@ -260,7 +259,7 @@ pub fn phoenix<D: Disk, C: Clock + Drop, I: Source, O: Sink>(
     input: &mut I,
     out: &mut O,
 ) -> Outcome<D>
-    requires fresh { (D.calls disk ≡ 0) × (D.faults disk ≡ 0) }
+    requires fresh { (D.calls disk ≡ 0) × (D.faults disk ≡ 0) × (D.first_fault disk ≡ 0) }
     ensures run { IsUnrun ⟦<D as Disk>⟧ ⟦<I as Source>⟧ disk result.disk input.old input.new out.old out.new (map string_bytes words.now) result.trail.entries result.transcripts result.status
         ⊎ IsWhole ⟦<D as Disk>⟧ ⟦<I as Source>⟧ ⟦<O as Sink>⟧ disk result.disk input.old input.new out.old out.new (map string_bytes words.now) result.trail.entries result.transcripts result.memory result.status }
     ensures in_time { result.late ≡ None }

@@ -1,7 +1,7 @@
 // A session: the statements of a script, one after the other.
 ghost use Rattle.std.specs.Prelude.{◌≡◌, ◌≢◌, ◌≤◌, ◌<◌, ◌+◌, ◌++◌, ◌∷◌, [], ◌⊎◌, ℕ, List, length, true, false};
-ghost use Rattle.px_trail.specs.Trail.{Base};
 ghost use Rattle.px_main.specs.Kept.{IsKept};
+ghost use Rattle.px_main.specs.Origin.{Origin};
 ghost use Rattle.px_main.specs.PutForm.{IsText};
 ghost use Rattle.px_main.specs.Kv.{Tells};
 ghost use Rattle.px_main.specs.PutReader.{HoldsPuts};
@@ -53,8 +53,8 @@ fn answer_upsert<D: CountsCalls>(
 ) -> Answer
     requires key { IsText 1000 key.now }
     requires value { IsText 1000 value.now }
-    ensures upserted { (base : Base) → IsKept ⟦<D as Disk>⟧ base disk.old store.old
-        → Answered ⟦<D as Disk>⟧ base disk.old disk.new store.old.trail.entries store.new result (λ es reply receipts. AnswersUpsert base es key.now value.now reply receipts) }
+    ensures upserted { (origin : Origin) → IsKept ⟦<D as Disk>⟧ origin disk.old store.old
+        → Answered ⟦<D as Disk>⟧ origin disk.old disk.new store.old.trail.entries store.new result (λ es added reply receipts. AnswersUpsert origin es added key.now value.now reply receipts) }
     ensures later { (D.calls disk.old ≤ D.calls disk.new) × (D.faults disk.old ≤ D.faults disk.new) }
 {
     let Ok(mut receipts) = Vec::with_capacity(alloc, 1) else {
@@ -78,8 +78,8 @@ fn answer_upsert<D: CountsCalls>(
 
 /// Runs the SELECT. The place of each row is the end of the trail.
 fn answer_select(alloc: Global, store: &Store) -> Answer
-    ensures { (base : Base) (puts : List Put) → Tells base store.now.trail.entries puts → HoldsPuts store.now.rows store.now.last store.now.number puts
-        → AnswersSelect base store.now.trail.entries result.reply result.receipts }
+    ensures { (origin : Origin) (puts : List Put) → Tells origin.base store.now.trail.entries puts → HoldsPuts store.now.rows store.now.last store.now.number puts
+        → AnswersSelect origin store.now.trail.entries result.reply result.receipts }
 {
     let Ok(rows) = store.rows(alloc) else {
         return refused(alloc, Refusal::Memory);
@@ -103,8 +103,8 @@ fn run_statement<D: CountsCalls>(
     statement: &Statement<'_>,
 ) -> Answer
     requires texts { HasTexts statement.now }
-    ensures answered { (base : Base) → IsKept ⟦<D as Disk>⟧ base disk.old store.old
-        → Answered ⟦<D as Disk>⟧ base disk.old disk.new store.old.trail.entries store.new result (λ es reply receipts. Answers base es statement.now reply receipts) }
+    ensures answered { (origin : Origin) → IsKept ⟦<D as Disk>⟧ origin disk.old store.old
+        → Answered ⟦<D as Disk>⟧ origin disk.old disk.new store.old.trail.entries store.new result (λ es added reply receipts. Answers origin es added statement.now reply receipts) }
     ensures later { (D.calls disk.old ≤ D.calls disk.new) × (D.faults disk.old ≤ D.faults disk.new) }
 {
     match statement {
@@ -126,7 +126,7 @@ fn run_piece<D: CountsCalls>(
     requires within { IsWithin span script.now }
     requires plain { list_all is_plain script.now ≡ true }
     ensures statement { result.statement ≡ span }
-    ensures ran { (base : Base) → IsKept ⟦<D as Disk>⟧ base disk.old store.old → HasRun ⟦<D as Disk>⟧ base disk.old disk.new store.old.trail.entries store.new (piece_of script.now span) result }
+    ensures ran { (origin : Origin) → IsKept ⟦<D as Disk>⟧ origin disk.old store.old → HasRun ⟦<D as Disk>⟧ origin disk.old disk.new store.old.trail.entries store.new (piece_of script.now span) result }
     ensures later { (D.calls disk.old ≤ D.calls disk.new) × (D.faults disk.old ≤ D.faults disk.new) }
 {
     let first = store.entries();
@@ -184,8 +184,8 @@ fn pass_piece<D: CountsCalls, C: Clock>(
 ) -> Option<Ending>
     requires within { IsWithin span script.now }
     requires plain { list_all is_plain script.now ≡ true }
-    ensures passed { (base : Base) (passed : List Span) → IsGoing ⟦<D as Disk>⟧ base disk.old store.old script.now passed items.old.items
-        → AfterPiece ⟦<D as Disk>⟧ base disk.old disk.new store.new script.now passed span items.new.items result }
+    ensures passed { (origin : Origin) (from : ℕ) (passed : List Span) → IsGoing ⟦<D as Disk>⟧ origin disk.old store.old script.now from passed items.old.items
+        → AfterPiece ⟦<D as Disk>⟧ origin disk.old disk.new store.new script.now from passed span items.new.items result }
     ensures later { (D.calls disk.old ≤ D.calls disk.new) × (D.faults disk.old ≤ D.faults disk.new) }
 {
     if is_blank_piece(piece_in(script, span)) {
@@ -217,7 +217,7 @@ fn pass_pieces<D: CountsCalls, C: Clock>(
     requires within { All (λ span. IsWithin span script.now) spans.now }
     requires plain { list_all is_plain script.now ≡ true }
     requires empty { items.old.items ≡ [] }
-    ensures passed { (base : Base) → IsKept ⟦<D as Disk>⟧ base disk.old store.old → HavePassed ⟦<D as Disk>⟧ base disk.old disk.new store.new script.now spans.now items.new.items result }
+    ensures passed { (origin : Origin) → IsKept ⟦<D as Disk>⟧ origin disk.old store.old → HavePassed ⟦<D as Disk>⟧ origin disk.old disk.new store.new script.now (length store.old.trail.entries) spans.now items.new.items result }
     ensures later { (D.calls disk.old ≤ D.calls disk.new) × (D.faults disk.old ≤ D.faults disk.new) }
 {
     for i in 0..spans.len() {
@@ -268,7 +268,7 @@ pub fn run_script<D: CountsCalls, C: Clock>(
     clock: &mut C,
     script: &[u8],
 ) -> Session
-    ensures ran { (base : Base) → IsKept ⟦<D as Disk>⟧ base disk.old store.old → HasSession ⟦<D as Disk>⟧ base disk.old disk.new store.new script.now result }
+    ensures ran { (origin : Origin) → IsKept ⟦<D as Disk>⟧ origin disk.old store.old → HasSession ⟦<D as Disk>⟧ origin disk.old disk.new store.new script.now (length store.old.trail.entries) result }
     ensures later { (D.calls disk.old ≤ D.calls disk.new) × (D.faults disk.old ≤ D.faults disk.new) }
 {
     if is_left_out(script) {

@@ -1,18 +1,18 @@
 // The table KV of an open folder: a log on the disk, its rows in memory, and the trail of what was done.
-ghost use Rattle.std.specs.Prelude.{◌≡◌, ◌≢◌, ◌<◌, ◌≤◌, ◌+◌, ◌++◌, ◌∷◌, [], ◌⊎◌, ◌↔◌, ℕ, List, length, map, min, max, IsTrue, IfOk, IfErr, OnOk, OnErr, Ok, Err, IsErr, Some, string_bytes, sum_by};
+ghost use Rattle.std.specs.Prelude.{◌≡◌, ◌≢◌, ◌<◌, ◌≤◌, ◌+◌, ◌++◌, ◌∷◌, [], ◌⊎◌, ◌↔◌, ℕ, List, length, map, min, max, IsTrue, IfOk, IfErr, OnOk, OnErr, Ok, Err, Some, string_bytes, sum_by};
 ghost use Rattle.std.specs.BTreeMap.{Updates};
 ghost use Rattle.std.specs.String.{string_cmp};
-ghost use Rattle.px_outside.specs.OnDisk.{Passes, Rose};
-ghost use Rattle.px_trail.specs.Trail.{Base};
+ghost use Rattle.px_outside.specs.OnDisk.{LeavesOnly, Passes, Rose, TouchesOnly};
 ghost use Rattle.px_trail.specs.Count.{counted_change};
 ghost use Rattle.px_gatelog.specs.Framed.{record_of};
 ghost use Rattle.px_main.specs.Added.{with_batch, with_begun};
 ghost use Rattle.px_main.specs.Batch.{put_in_batch};
 ghost use Rattle.px_gatelog.specs.GateLog.{is_open as is_open_log};
-ghost use Rattle.px_main.specs.Logged.{IsReady, Logged};
+ghost use Rattle.px_main.specs.Logged.{HasPuts, IsReady, Logged, any_file};
 ghost use Rattle.px_main.specs.PutForm.{put_size};
 ghost use Rattle.px_main.specs.Puts.{Put};
-ghost use Rattle.px_main.specs.Refusals.{IsUpsertRefusal};
+ghost use Rattle.px_main.specs.Origin.{Origin};
+ghost use Rattle.px_main.specs.Refusals.{RefusesUpsert};
 ghost use Rattle.px_main.specs.declared.reply.Refusal.TheVariants.{WriteFault as WriteFaultRefusal};
 ghost use Rattle.px_main.specs.PutRecords.{put_record};
 
@@ -151,7 +151,8 @@ fn add_batch(trail: &mut Trail, begun_at: u64, ended_at: u64, told: Told)
 }
 
 impl Store {
-    ghost use Rattle.px_gatelog.specs.GateLog.{is_open, room_of};
+    ghost use Rattle.px_gatelog.specs.GateLog.{is_newest_file, is_open, room_of};
+    ghost use Rattle.px_main.specs.Logged.{LeavesAppended};
     ghost use Rattle.px_main.specs.Kept.{IsAppended, IsKept, IsStopped, IsUpserted, IsWritten};
     ghost use Rattle.px_main.specs.declared.reply.Refusal.TheVariants.{WriteFault};
 
@@ -165,6 +166,8 @@ impl Store {
         ensures err { OnErr result ((result ≡ Err WriteFault) × Rose ⟦<D as Disk>⟧ disk.old disk.new
             × (self.new.trail.entries ≡ with_begun self.old.trail.entries (D.calls disk.old) told.stamp told.changes)) }
         ensures counts { Passes ⟦<D as Disk>⟧ disk.old disk.new 4 }
+        ensures leaves { LeavesAppended ⟦<D as Disk>⟧ disk.old disk.new self.old.log (record_of self.old.frame) }
+        ensures touches { TouchesOnly ⟦<D as Disk>⟧ disk.old disk.new (is_newest_file self.old.log) }
     {
         let begun_at = disk.call_count();
         self.last = told.stamp;
@@ -192,7 +195,7 @@ impl Store {
     ghost use Rattle.px_main.specs.Kept.{AfterRefusal, IsKept as IsStored, IsUpserted as IsAdded};
     ghost use Rattle.px_main.specs.PutForm.{IsPut};
     ghost use Rattle.px_main.specs.declared.reply.Refusal.TheVariants.{Limit as LimitRefusal};
-    ghost use Rattle.px_values.specs.declared.limit.Limit.TheVariants.{Log as LogLimit, Stamps as StampsLimit};
+    ghost use Rattle.px_values.specs.declared.limit.Limit.TheVariants.{Log as LogLimit};
 
     /// Puts a batch into the log, the rows and the trail.
     fn commit<D: CountsCalls>(&mut self, disk: &mut D, batch: Batch) -> Result<Receipt, Refusal>
@@ -201,13 +204,13 @@ impl Store {
         requires put { IsPut (put_in_batch batch) }
         requires short { (length (string_bytes batch.key) ≤ 1000) × (length (string_bytes batch.value) ≤ 1000) }
         requires later { self.old.last < batch.stamp }
-        ensures ok { (base : Base) → IsStored ⟦<D as Disk>⟧ base disk.old self.old
-            → IfOk result (λ r. IsAdded ⟦<D as Disk>⟧ base disk.new self.old.trail.entries self.new (string_bytes batch.key) (string_bytes batch.value) r) }
+        ensures ok { (origin : Origin) → IsStored ⟦<D as Disk>⟧ origin disk.old self.old
+            → IfOk result (λ r. IsAdded ⟦<D as Disk>⟧ origin disk.new self.old.trail.entries self.new (string_bytes batch.key) (string_bytes batch.value) r) }
         ensures stamp { IfOk result (λ r. r.stamp ≡ batch.stamp) }
-        ensures err { (base : Base) → IsStored ⟦<D as Disk>⟧ base disk.old self.old → IfErr result (λ refusal. AfterRefusal ⟦<D as Disk>⟧ base disk.old disk.new self.old.trail.entries self.new refusal) }
+        ensures err { (origin : Origin) → IsStored ⟦<D as Disk>⟧ origin disk.old self.old
+            → IfErr result (λ refusal. AfterRefusal ⟦<D as Disk>⟧ origin disk.old disk.new self.old.trail.entries self.new (string_bytes batch.key) (string_bytes batch.value) refusal) }
+        ensures cause { (origin : Origin) → IsStored ⟦<D as Disk>⟧ origin disk.old self.old → IfErr result (λ refusal. RefusesUpsert origin self.old.trail.entries (string_bytes batch.key) (string_bytes batch.value) refusal) }
         ensures full { result ≡ Err (LimitRefusal LogLimit) → room_in self.old.log < 7 + put_size (string_bytes batch.key) (string_bytes batch.value) }
-        ensures known { IfErr result IsUpsertRefusal }
-        ensures stamps { result ≢ Err (LimitRefusal StampsLimit) }
         ensures fits { OnOk result (7 + put_size (string_bytes batch.key) (string_bytes batch.value) ≤ room_in self.old.log) }
         ensures counts { Passes ⟦<D as Disk>⟧ disk.old disk.new 4 }
     {
@@ -254,10 +257,12 @@ impl Store {
 /// Makes the log's first segment, where none is open.
 fn open_segment<D: Disk>(log: &mut GateLog, disk: &mut D) -> Result<(), Refusal>
     ensures opened { OnOk result (is_open_log log.new) }
-    ensures kept { (puts : List Put) → IsReady log.old → Logged ⟦<D as Disk>⟧ disk.old log.old puts → OnOk result (Logged ⟦<D as Disk>⟧ disk.new log.new puts) }
+    ensures kept { (puts : List Put) (size : ℕ) → IsReady log.old → Logged ⟦<D as Disk>⟧ disk.old log.old puts size → OnOk result (Logged ⟦<D as Disk>⟧ disk.new log.new puts size) }
     ensures err { OnErr result ((result ≡ Err WriteFaultRefusal) × Rose ⟦<D as Disk>⟧ disk.old disk.new) }
     ensures counts { D.calls disk.old ≤ D.calls disk.new }
     ensures faults { D.faults disk.old ≤ D.faults disk.new }
+    ensures leaves { (puts : List Put) (size : ℕ) → IsReady log.old → Logged ⟦<D as Disk>⟧ disk.old log.old puts size → LeavesOnly ⟦<D as Disk>⟧ disk.old disk.new (λ moment image. HasPuts puts log.old image) }
+    ensures touches { TouchesOnly ⟦<D as Disk>⟧ disk.old disk.new any_file }
 {
     if log.is_open() {
         return Ok(());
@@ -277,8 +282,6 @@ impl Store {
     ghost use Rattle.px_main.specs.Kept.{AfterRefusal as Left, IsKept as IsOnGoing, IsOpened, IsUpserted as IsTaken};
     ghost use Rattle.px_main.specs.PutForm.{IsText};
     ghost use Rattle.px_main.specs.Table.{row_in};
-    ghost use Rattle.px_main.specs.declared.reply.Refusal.TheVariants.{Limit as LimitReached};
-    ghost use Rattle.px_values.specs.declared.limit.Limit.TheVariants.{Stamps};
     ghost use Rattle.std.specs.BTreeMap.{IsOrdered};
     ghost use Rattle.px_gatelog.specs.declared.fault.LogFault.TheVariants.{ReadFault as LogReadFault, WriteFault as LogWriteFault, Full as LogFull, Damaged as LogDamaged};
 
@@ -289,6 +292,7 @@ impl Store {
         ensures write_failed { result ≡ Err LogWriteFault → Rose ⟦<D as Disk>⟧ disk.old disk.new }
         ensures not_full { result ≢ Err LogFull }
         ensures damaged { (file place : ℕ) → result ≡ Err (LogDamaged file place) → IsTrue D.tells → IsDamaged (D.seen disk.old) file place }
+        ensures quiet { Stays ⟦<D as Disk>⟧ disk.old disk.new }
         ensures counts { Passes ⟦<D as Disk>⟧ disk.old disk.new 6 }
     {
         let mut reader = PutReader::new(alloc);
@@ -317,12 +321,12 @@ impl Store {
     ) -> Result<Receipt, Refusal>
         requires key { IsText 1000 key.now }
         requires value { IsText 1000 value.now }
-        ensures ok { (base : Base) → IsOnGoing ⟦<D as Disk>⟧ base disk.old self.old
-            → IfOk result (λ r. IsTaken ⟦<D as Disk>⟧ base disk.new self.old.trail.entries self.new key.now value.now r) }
+        ensures ok { (origin : Origin) → IsOnGoing ⟦<D as Disk>⟧ origin disk.old self.old
+            → IfOk result (λ r. IsTaken ⟦<D as Disk>⟧ origin disk.new self.old.trail.entries self.new key.now value.now r) }
         ensures stamp { IfOk result (λ r. (r.stamp ≡ max (self.old.last + 1) (min now 4611686018427387904)) × (r.stamp ≤ 9223372036854775807)) }
-        ensures err { (base : Base) → IsOnGoing ⟦<D as Disk>⟧ base disk.old self.old → IfErr result (λ refusal. Left ⟦<D as Disk>⟧ base disk.old disk.new self.old.trail.entries self.new refusal) }
-        ensures stamps { (result ≡ Err (LimitReached Stamps)) ↔ (9223372036854775807 ≤ self.old.last) }
-        ensures known { IfErr result IsUpsertRefusal }
+        ensures err { (origin : Origin) → IsOnGoing ⟦<D as Disk>⟧ origin disk.old self.old
+            → IfErr result (λ refusal. Left ⟦<D as Disk>⟧ origin disk.old disk.new self.old.trail.entries self.new key.now value.now refusal) }
+        ensures cause { (origin : Origin) → IsOnGoing ⟦<D as Disk>⟧ origin disk.old self.old → IfErr result (λ refusal. RefusesUpsert origin self.old.trail.entries key.now value.now refusal) }
         ensures later { (D.calls disk.old ≤ D.calls disk.new) × (D.faults disk.old ≤ D.faults disk.new) }
     {
         let Some(stamp) = next_stamp(self.last, now) else {

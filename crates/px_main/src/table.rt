@@ -1,7 +1,7 @@
 // The rows of KV, as they stand in memory.
-ghost use Rattle.std.specs.Prelude.{◌≡◌, ◌++◌, ◌∷◌, [], List, ℕ, map, IfOk};
+ghost use Rattle.std.specs.Prelude.{◌≡◌, ◌++◌, ◌∷◌, [], ℕ, map, IfOk};
 ghost use Rattle.std.specs.BTreeMap.{IsOrdered};
-ghost use Rattle.std.specs.String.{string_bytes, string_cmp};
+ghost use Rattle.std.specs.String.{string_cmp};
 ghost use Rattle.px_main.specs.Table.{key_of, row_of, row_in};
 
 use crate::put_reader::Stored;

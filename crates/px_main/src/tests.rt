@@ -1,4 +1,4 @@
-ghost use Rattle.px_outside.specs.MemDisk.{calls as calls_of, faults as faults_of};
+ghost use Rattle.px_outside.specs.MemDisk.{calls as calls_of, faults as faults_of, first_fault as first_fault_of};
 ghost use Rattle.std.specs.Prelude.{◌≡◌};
 
 use crate::run::{Outcome, Status, phoenix};
@@ -6,29 +6,29 @@ use px_outside::{Disk, FixedClock, MemDisk, MemSink, MemSource};
 use std::alloc::{AllocError, Global};
 
 /// The first segment of region 1's log after K 'a', V 'b' at stamp 1.
-const FIRST_SEGMENT: [u8; 68] = [
+pub const FIRST_SEGMENT: [u8; 68] = [
     1, 0x50, 0x48, 0x58, 0x53, 0x45, 0x47, 0x31, 0, 0, 0, 0, 0, 0, 0, 1, 1, 2, 0, 0, 0, 0x2d, 0, 0,
     0, 0, 0, 0, 0, 1, 0, 0, 0, 2, 0, 2, 0x61, 0, 1, 0, 0, 0, 0, 0, 0, 0, 1, 4, 0, 0, 0, 2, 0x61, 0,
     3, 0, 0, 0, 0, 0, 0, 0, 1, 4, 0, 1, 0x62, 0,
 ];
 
-const FIRST_SCRIPT: &str = "UPSERT INTO KV VALUES ('a','b'); SELECT * FROM KV;\n";
+pub const FIRST_SCRIPT: &str = "UPSERT INTO KV VALUES ('a','b'); SELECT * FROM KV;\n";
 
 /// A run on a disk that had no call yet, and what it printed.
 #[derive(Drop)]
-struct Run {
-    outcome: Outcome<MemDisk>,
-    printed: MemSink,
+pub struct Run {
+    pub outcome: Outcome<MemDisk>,
+    pub printed: MemSink,
 }
 
-fn bytes_of(alloc: Global, text: &str) -> Result<Vec<u8>, AllocError> {
+pub fn bytes_of(alloc: Global, text: &str) -> Result<Vec<u8>, AllocError> {
     let mut bytes = Vec::new(alloc);
     bytes.extend_from_slice(text.as_bytes())?;
     Ok(bytes)
 }
 
 /// The words of a line, which are parted by blanks; none of an empty line.
-fn words_of(alloc: Global, line: &str) -> Result<Vec<String>, AllocError> {
+pub fn words_of(alloc: Global, line: &str) -> Result<Vec<String>, AllocError> {
     let mut words = Vec::new(alloc);
     if line.is_empty() {
         return Ok(words);
@@ -39,8 +39,8 @@ fn words_of(alloc: Global, line: &str) -> Result<Vec<String>, AllocError> {
     Ok(words)
 }
 
-fn run_words(alloc: Global, line: &str, disk: MemDisk, script: &str) -> Result<Run, AllocError>
-    requires fresh { (calls_of disk ≡ 0) × (faults_of disk ≡ 0) }
+pub fn run_words(alloc: Global, line: &str, disk: MemDisk, script: &str) -> Result<Run, AllocError>
+    requires fresh { (calls_of disk ≡ 0) × (faults_of disk ≡ 0) × (first_fault_of disk ≡ 0) }
 {
     let words = words_of(alloc, line)?;
     let mut input = MemSource::of(bytes_of(alloc, script)?);
@@ -50,7 +50,7 @@ fn run_words(alloc: Global, line: &str, disk: MemDisk, script: &str) -> Result<R
 }
 
 /// The disk after a run.
-fn disk_of(run: Run) -> MemDisk {
+pub fn disk_of(run: Run) -> MemDisk {
     let Run {
         outcome,
         printed: _,
@@ -67,7 +67,7 @@ fn disk_of(run: Run) -> MemDisk {
 }
 
 /// A run on what is left of a disk.
-fn run_again(alloc: Global, disk: MemDisk, script: &str) -> Result<Run, AllocError> {
+pub fn run_again(alloc: Global, disk: MemDisk, script: &str) -> Result<Run, AllocError> {
     run_words(alloc, "run folder", disk.image(), script)
 }
 
@@ -75,7 +75,7 @@ fn run_new(alloc: Global, script: &str) -> Result<Run, AllocError> {
     run_words(alloc, "run folder", MemDisk::new(alloc), script)
 }
 
-fn is_printed(run: &Run, status: Status, text: &str) -> bool {
+pub fn is_printed(run: &Run, status: Status, text: &str) -> bool {
     run.outcome.status == status && run.printed.held() == text.as_bytes()
 }
 
@@ -155,7 +155,18 @@ fn a_script_with_a_command_is_left_out(rt: HostRuntime) {
 #[test]
 fn bad_words_touch_nothing(rt: HostRuntime) {
     let alloc = rt.alloc();
-    for line in ["", "run", "run ", "run --", "run -d", "runs d", "run d d"] {
+    for line in [
+        "",
+        "run",
+        "run ",
+        "run --",
+        "run -d",
+        "runs d",
+        "run d d",
+        "run run d",
+        "run d --",
+        "run d --lookback -1",
+    ] {
         let Ok(run) = run_words(alloc, line, MemDisk::new(alloc), FIRST_SCRIPT) else {
             panic!(rt; "no memory")
         };

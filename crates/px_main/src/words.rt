@@ -1,7 +1,6 @@
 // The words after the program's name.
-ghost use Rattle.std.specs.Prelude.{◌≡◌, List, ℕ, map, option_map};
+ghost use Rattle.std.specs.Prelude.{◌≡◌, ℕ, map, option_map};
 ghost use Rattle.std.specs.String.{string_bytes};
-ghost use Rattle.std.specs.Option.{option_copied};
 ghost use Rattle.px_main.specs.Words.{folder_in, is_folder, run_word};
 
 /// The folder that the words name, exactly where they are the command `run DIR`. DIR isn't empty and doesn't begin

@@ -5,6 +5,7 @@ ghost use Rattle.px_outside.specs.Calls.{Enters, Keeps};
 ghost use Rattle.px_outside.specs.Replay.{IsCall, LeftAt, all_numbered, contents_after, next_contents};
 
 use crate::copying::copy_front;
+use crate::counts::first_of;
 use crate::mem_file::{MemFile, find, restart_all, update};
 use crate::numbers::is_listed;
 use crate::{CallMade, Choice, DeviceCall, Disk, Failed, Numbers, Stop};
@@ -18,6 +19,8 @@ pub struct MemDisk {
     made: Vec<CallMade>,
     calls: u64,
     faults: u64,
+    /// The number of the first call that failed, 0 where none has.
+    first_fault: u64,
     failing: Option<Numbers>,
     stop: Option<Stop>,
     ghost numbered: { all_numbered calls (reverse made.items) ≡ true },
@@ -96,6 +99,7 @@ impl MemDisk {
             made: Vec::new(alloc),
             calls: 0,
             faults: 0,
+            first_fault: 0,
             failing: None,
             stop: None,
         }
@@ -111,6 +115,7 @@ impl MemDisk {
             made,
             calls: count,
             faults,
+            first_fault,
             failing: _,
             stop,
         } = self;
@@ -120,6 +125,7 @@ impl MemDisk {
             made,
             calls: count,
             faults,
+            first_fault,
             failing: Some(calls),
             stop,
         }
@@ -136,6 +142,7 @@ impl MemDisk {
             made,
             calls,
             faults,
+            first_fault,
             failing,
             stop: _,
         } = self;
@@ -145,6 +152,7 @@ impl MemDisk {
             made,
             calls,
             faults,
+            first_fault,
             failing,
             stop: Some(Stop { call, choice }),
         }
@@ -165,6 +173,7 @@ impl MemDisk {
             made: _,
             calls: _,
             faults: _,
+            first_fault: _,
             failing: _,
             stop: _,
         } = self;
@@ -175,6 +184,7 @@ impl MemDisk {
             made: Vec::new(alloc),
             calls: 0,
             faults: 0,
+            first_fault: 0,
             failing: None,
             stop: None,
         }
@@ -224,6 +234,7 @@ impl MemDisk {
             return Ok(());
         }
         self.faults += 1;
+        self.first_fault = first_of(self.first_fault, number);
         Err(Failed)
     }
 }
@@ -240,7 +251,7 @@ fn bytes_of(files: &[MemFile], number: u64) -> &[u8]
 
 impl Disk for MemDisk {
     ghost use Rattle.std.specs.Prelude.{true, refl};
-    ghost use Rattle.px_outside.specs.MemDisk.{calls as mem_calls, faults as mem_faults, first as mem_first, left as mem_left, seen as mem_seen};
+    ghost use Rattle.px_outside.specs.MemDisk.{calls as mem_calls, faults as mem_faults, first as mem_first, first_fault as mem_first_fault, left as mem_left, seen as mem_seen};
 
     ghost tells = { true };
 
@@ -253,6 +264,8 @@ impl Disk for MemDisk {
     ghost calls = { mem_calls };
 
     ghost faults = { mem_faults };
+
+    ghost first_fault = { mem_first_fault };
 
     ghost told = { λ disk moment file bytes left. refl };
 

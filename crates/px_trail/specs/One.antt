@@ -30,6 +30,10 @@ ended_entry seat calls t s = record { seat = seat; calls = calls; act = Ended t 
 pub record AllWritten (es : List Entry) (t : ℕ) : Type 0 where
   pub each : (s : ℕ) (x : Batch) → batch_of t s es ≡ Some x → unwritten x ≡ []
 
+-- each batch of the table has ended
+pub record AllEnded (es : List Entry) (t : ℕ) : Type 0 where
+  pub each : (s : ℕ) (x : Batch) → batch_of t s es ≡ Some x → x.ended ≡ true
+
 -- the state of a row where this one had the change at the stamp
 abbrev pub state_with : Base → List Entry → ℕ → ℕ → List Value → What → List Value → ℕ → RowState
 state_with b es t s r w r' p = if is_eq (row_order r r') && nat_le s p then apply (shape_of b t) r' (state_of b es t r' p) w else state_of b es t r' p
@@ -63,6 +67,17 @@ module _ (b : Base) (es : List Entry) (tid : TableId) (s seat : ℕ) (r : List V
   unfolding applied
   applied_this shape r' p state true = refl
   applied_this shape r' p state false = refl
+
+  -- The states of all rows after entries that begin the batch and write it.
+  states_after : (more : List Entry) (r' : List Value) (p : ℕ) → AreOf s more → begun t r' more ≡ this_of r' → is_written (es ++ more) t r' s ≡ (is_eq (row_order r r') || false)
+      → state_of b (es ++ more) t r' p ≡ state_with b es t s r w r' p
+  states_after more r' p are changes is =
+      let q : Dated → Bool = λ d. is_written (es ++ more) t r' d.stamp in
+      let adds = written-more b es more t s r' above are in
+      let news : filter q (begun t r' more) ≡ this_of r' = ap (λ l. filter q l) changes ∙ filtered_this q (is_eq (row_order r r')) is in
+      ap (λ l. applied (shape_of b t) r' p (b.state t r' p) l) (adds ∙ ap (λ l. written es t r' ++ l) news)
+      ∙ (applied-append (shape_of b t) r' p (b.state t r' p) (written es t r') (this_of r')
+      ∙ applied_this (shape_of b t) r' p (state_of b es t r' p) (is_eq (row_order r r')))
 
   -- ---- it begins
 
@@ -143,7 +158,7 @@ module _ (b : Base) (es : List Entry) (tid : TableId) (s seat : ℕ) (r : List V
         first = λ r' h. not_pending r';
       }
 
-      wrote-legal : IsLegal b with_wrote
+      pub wrote-legal : IsLegal b with_wrote
       wrote-legal = legal-snoc b with_begun (wrote_entry seat c1 tid s r) begun-legal (record { follows = wrote-follows; calls = (let h = begun-calls in omega arith) })
 
       wrote-is : batch_of t s with_wrote ≡ Some the_written
@@ -152,6 +167,26 @@ module _ (b : Base) (es : List Entry) (tid : TableId) (s seat : ℕ) (r : List V
           batch_of-snoc t s with_begun (wrote_entry seat c1 tid s r)
           ∙ (ap (λ (o : Option Batch). batch_step t s o seat (Wrote tid s (r ∷ []))) begun-is
           ∙ ap (λ (v : Bool). if v then Some the_written else Some the_batch) (same_test t s))
+
+      pub wrote-last : last_of b t with_wrote ≡ s
+      wrote-last = last-snoc b t with_begun (wrote_entry seat c1 tid s r) ∙ begun-last
+
+      wrote-splits : with_wrote ≡ es ++ begun_entry seat c0 tid s r w ∷ wrote_entry seat c1 tid s r ∷ []
+      wrote-splits = append_assoc es (begun_entry seat c0 tid s r w ∷ []) (wrote_entry seat c1 tid s r ∷ [])
+
+      wrote_changes : (r' : List Value) → begun t r' (begun_entry seat c0 tid s r w ∷ wrote_entry seat c1 tid s r ∷ []) ≡ this_of r'
+      unfolding begun begun_by change_of
+      wrote_changes r' = rw (same_number t) (elim (is_eq (row_order r r')) as (λ v. dated s (if v then Some w else None) ++ [] ≡ (if v then this ∷ [] else [])) [ true ↦ refl | false ↦ refl ])
+
+      wrote_this : (r' : List Value) → is_written with_wrote t r' s ≡ (is_eq (row_order r r') || false)
+      unfolding has
+      wrote_this r' = ap (λ (o : Option Batch). is_written_in o r') wrote-is
+
+      -- the states of all rows, once it is written
+      pub wrote-state : (r' : List Value) (p : ℕ) → state_of b with_wrote t r' p ≡ state_with b es t s r w r' p
+      wrote-state r' p =
+          ap (λ (l : List Entry). state_of b l t r' p) wrote-splits
+          ∙ states_after (begun_entry seat c0 tid s r w ∷ wrote_entry seat c1 tid s r ∷ []) r' p (refl, (refl, tt)) (wrote_changes r') (ap (λ (l : List Entry). is_written l t r' s) (sym wrote-splits) ∙ wrote_this r')
 
       pub all_written : unwritten the_written ≡ []
       unfolding has
@@ -216,6 +251,20 @@ module _ (b : Base) (es : List Entry) (tid : TableId) (s seat : ℕ) (r : List V
                   | inr n ↦ quiet.each s' x (sym (batch-others t s s' es more n are) ∙ ap (λ (l : List Entry). batch_of t s' l) (sym ended-splits) ∙ is)
                 ]
 
+        -- and all have ended, if they had before
+        pub ended-whole : AllEnded es t → AllEnded with_ended t
+        ended-whole whole = record { each = each }
+          where
+            each : (s' : ℕ) (x : Batch) → batch_of t s' with_ended ≡ Some x → x.ended ≡ true
+            each s' x is =
+                elim (cases_eq s s') [
+                  | inl h ↦ (let same : batch_of t s with_ended ≡ Some x = subst (λ (u : ℕ). batch_of t u with_ended ≡ Some x) (sym h) is in
+                      let o : Some the_ended ≡ Some x = sym ended-is ∙ same in
+                      let o : the_ended ≡ x = cc in
+                      ap (λ (y : Batch). y.ended) (sym o))
+                  | inr n ↦ whole.each s' x (sym (batch-others t s s' es more n are) ∙ ap (λ (l : List Entry). batch_of t s' l) (sym ended-splits) ∙ is)
+                ]
+
         more_changes : (r' : List Value) → begun t r' more ≡ this_of r'
         unfolding begun begun_by change_of
         more_changes r' = rw (same_number t) (elim (is_eq (row_order r r')) as (λ v. dated s (if v then Some w else None) ++ [] ≡ (if v then this ∷ [] else [])) [ true ↦ refl | false ↦ refl ])
@@ -227,11 +276,5 @@ module _ (b : Base) (es : List Entry) (tid : TableId) (s seat : ℕ) (r : List V
         -- the states of all rows
         pub ended-state : (r' : List Value) (p : ℕ) → state_of b with_ended t r' p ≡ state_with b es t s r w r' p
         ended-state r' p =
-            let q : Dated → Bool = λ d. is_written (es ++ more) t r' d.stamp in
-            let adds = written-more b es more t s r' above are in
-            let of : q this ≡ (is_eq (row_order r r') || false) = ap (λ (l : List Entry). is_written l t r' s) (sym ended-splits) ∙ written_this r' in
-            let news : filter q (begun t r' more) ≡ this_of r' = ap (λ l. filter q l) (more_changes r') ∙ filtered_this q (is_eq (row_order r r')) of in
             ap (λ (l : List Entry). state_of b l t r' p) ended-splits
-            ∙ (ap (λ l. applied (shape_of b t) r' p (b.state t r' p) l) (adds ∙ ap (λ l. written es t r' ++ l) news)
-            ∙ (applied-append (shape_of b t) r' p (b.state t r' p) (written es t r') (this_of r')
-            ∙ applied_this (shape_of b t) r' p (state_of b es t r' p) (is_eq (row_order r r'))))
+            ∙ states_after more r' p are (more_changes r') (ap (λ (l : List Entry). is_written l t r' s) (sym ended-splits) ∙ written_this r')

@@ -6,8 +6,8 @@ use Rattle.px_main.proofs.Answering.{rows_told}
 use Rattle.px_main.proofs.session.answer_select.Goals as goal
 
 pub returns : goal.returns
-returns c = λ base puts told holds. (
+returns c = λ origin puts told holds. (
   cc,
-  subst (λ (l : List (List Value)). AreRowsNow base c.args.store.now.trail.entries kv l) (sym c.in-Ok.ensures.rows)
-      (rows_told base c.args.store.now.trail.entries c.args.store.now.rows puts c.args.store.now.last c.args.store.now.number told holds c.in-Ok.ensures.ordered),
+  subst (λ (l : List (List Value)). AreRowsNow origin.base c.args.store.now.trail.entries kv l) (sym c.in-Ok.ensures.rows)
+      (rows_told origin.base c.args.store.now.trail.entries c.args.store.now.rows puts c.args.store.now.last c.args.store.now.number told holds c.in-Ok.ensures.ordered),
 )

@@ -13,6 +13,6 @@ run_statement-answer-requires g c = record {
 }
 
 pub returns-clause-ran : goal.returns-clause-ran
-returns-clause-ran g c = λ base kept.
-    item_ran g.D.Disk base c.args.disk.now c.run_statement-answer.new.disk c.args.store.now.trail.entries c.run_statement-answer.new.store c.run_statement-answer.result c.read_statement-statement.result
-    c.piece_in.result.now _ _ (c.run_statement-answer.ensures.answered base kept) c.piece_in.ensures.bytes c.read_statement-statement.ensures c.entries-first.ensures c.entries.ensures refl refl
+returns-clause-ran g c = λ origin kept.
+    item_ran g.D.Disk origin c.args.disk.now c.run_statement-answer.new.disk c.args.store.now.trail.entries c.run_statement-answer.new.store c.run_statement-answer.result c.read_statement-statement.result
+    c.piece_in.result.now _ _ (c.run_statement-answer.ensures.answered origin kept) c.piece_in.ensures.bytes c.read_statement-statement.ensures c.entries-first.ensures c.entries.ensures refl refl

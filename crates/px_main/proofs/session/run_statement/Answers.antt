@@ -1,21 +1,27 @@
-use Rattle.std.proofs.Common.{sym, subst}
+use Rattle.std.proofs.Common.{refl, sym, subst}
 use Rattle.px_main.specs.declared.statement.Statement.{Statement}
 use Rattle.px_main.specs.Ran.{Answered}
 use Rattle.px_main.specs.Replied.{Answers}
-use Rattle.px_main.proofs.Answering.{answered_same, select_goes}
+use Rattle.px_main.proofs.Answering.{answered_form, answered_same, select_goes}
 use Rattle.px_main.proofs.session.run_statement.Goals as goal
 
 pub returns-in-Upsert-clause-answered : goal.returns-in-Upsert-clause-answered
-returns-in-Upsert-clause-answered g c = λ base kept.
+returns-in-Upsert-clause-answered g c = λ origin kept.
     subst
-    (λ (s : Statement). Answered g.D.Disk base c.args.disk.now c.answer_upsert.new.disk c.args.store.now.trail.entries c.answer_upsert.new.store c.answer_upsert.result (λ es reply receipts. Answers base es s reply receipts))
-    (sym c.in-Upsert.is) (c.answer_upsert.ensures.upserted base kept)
+    (λ (s : Statement). Answered g.D.Disk origin c.args.disk.now c.answer_upsert.new.disk c.args.store.now.trail.entries c.answer_upsert.new.store c.answer_upsert.result (λ es added reply receipts. Answers origin es added s reply receipts))
+    (sym c.in-Upsert.is) (c.answer_upsert.ensures.upserted origin kept)
 
 pub returns-in-Select-clause-answered : goal.returns-in-Select-clause-answered
-returns-in-Select-clause-answered g c = λ base kept.
-    let right = c.answer_select.ensures base kept.puts kept.told kept.holds in
+returns-in-Select-clause-answered g c = λ origin kept.
+    let right = c.answer_select.ensures origin kept.puts kept.told kept.holds in
     subst
-    (λ (s : Statement). Answered g.D.Disk base c.args.disk.now c.args.disk.now c.args.store.now.trail.entries c.args.store.now c.answer_select.result (λ es reply receipts. Answers base es s reply receipts))
+    (λ (s : Statement). Answered g.D.Disk origin c.args.disk.now c.args.disk.now c.args.store.now.trail.entries c.args.store.now c.answer_select.result (λ es added reply receipts. Answers origin es added s reply receipts))
     (sym c.in-Select.is)
-    (answered_same g.D.Disk base c.args.disk.now c.args.store.now kept c.answer_select.result _
-    (select_goes base c.args.store.now.trail.entries c.answer_select.result.reply c.answer_select.result.receipts right) right)
+    (answered_same g.D.Disk origin c.args.disk.now c.args.store.now kept c.answer_select.result _
+    (select_goes origin c.args.store.now.trail.entries c.answer_select.result.reply c.answer_select.result.receipts right) (right, refl))
+
+pub returns-in-Form-clause-answered : goal.returns-in-Form-clause-answered
+returns-in-Form-clause-answered g c = λ origin kept.
+    subst
+    (λ (s : Statement). Answered g.D.Disk origin c.args.disk.now c.args.disk.now c.args.store.now.trail.entries c.args.store.now c.refused.result (λ es added reply receipts. Answers origin es added s reply receipts))
+    (sym c.in-Form.is) (answered_form g.D.Disk origin c.args.disk.now c.args.store.now kept c.refused.result c.refused.ensures.reply c.refused.ensures.receipts)

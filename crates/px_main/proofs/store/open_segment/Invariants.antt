@@ -1,14 +1,18 @@
-use Rattle.std.proofs.Common.{◌≡◌, ◌≤◌, List, [], None}
-use Rattle.px_gatelog.specs.GateLog.{IsLaid, steps_left}
-use Rattle.px_main.specs.Logged.{IsReady, Logged}
+use Rattle.std.proofs.Common.{◌≡◌, ◌≤◌, ℕ, List, [], None}
+use Rattle.px_outside.specs.OnDisk.{LeavesOnly, TouchesOnly}
+use Rattle.px_gatelog.specs.GateLog.{IsLaid, IsSameLog, steps_left}
+use Rattle.px_main.specs.Logged.{HasPuts, IsReady, Logged, any_file}
 use Rattle.px_main.specs.Puts.{Put}
 use Rattle.px_main.proofs.store.open_segment.Given as goal
 
 abbrev pub invariant-loop : goal.invariant-loop
 invariant-loop g l = record {
   closed : l.log.newest ≡ None;
-  kept : (puts : List Put) → IsReady l.fn.log → Logged g.D.Disk l.fn.disk l.fn.log puts → Logged g.D.Disk l.disk l.log puts;
-  laid : (puts : List Put) → IsReady l.fn.log → Logged g.D.Disk l.fn.disk l.fn.log puts → steps_left l.log ≡ 1 → IsLaid g.D.Disk l.log l.disk [];
+  kept : (puts : List Put) (size : ℕ) → IsReady l.fn.log → Logged g.D.Disk l.fn.disk l.fn.log puts size → Logged g.D.Disk l.disk l.log puts size;
+  laid : (puts : List Put) (size : ℕ) → IsReady l.fn.log → Logged g.D.Disk l.fn.disk l.fn.log puts size → steps_left l.log ≡ 1 → IsLaid g.D.Disk l.log l.disk [];
+  leaves : (puts : List Put) (size : ℕ) → IsReady l.fn.log → Logged g.D.Disk l.fn.disk l.fn.log puts size → LeavesOnly g.D.Disk l.fn.disk l.disk (λ moment image. HasPuts puts l.fn.log image);
+  touches : TouchesOnly g.D.Disk l.fn.disk l.disk any_file;
+  same : IsSameLog l.fn.log l.log;
   calls : g.D.Disk.calls l.fn.disk ≤ g.D.Disk.calls l.disk;
   faults : g.D.Disk.faults l.fn.disk ≤ g.D.Disk.faults l.disk;
 }

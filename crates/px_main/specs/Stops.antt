@@ -1,0 +1,67 @@
+-- What a stop at any moment of a run leaves.
+use Rattle.std.specs.Prelude.{◌≡◌, ◌≤◌, ◌+◌, ◌++◌, ◌∷◌, [], ◌⊎◌, ℕ, nat_le, filter, IsTrue, List, Option, Some, None, Ok}
+use Rattle.px_outside.specs.Disk.{Image}
+use Rattle.px_outside.specs.OnDisk.{IsLeft, Only}
+use Rattle.px_outside.specs.declared.disk.Disk.{Ghosts}
+use Rattle.px_values.specs.declared.row.Value.{Value}
+use Rattle.px_trail.specs.declared.entry.Act.{Act}
+use Rattle.px_trail.specs.declared.entry.Act.TheVariants.{Begun, Wrote, Ended}
+use Rattle.px_trail.specs.declared.entry.Entry.{Entry}
+use Rattle.px_trail.specs.Trail.{Base, IsLegal, last_of, state_of}
+use Rattle.px_main.specs.Kv.{kv}
+use Rattle.px_main.specs.Logged.{folder_of}
+use Rattle.px_main.specs.Origin.{Folder}
+
+-- the entries that were there at a moment
+abbrev pub entries_by : ℕ → List Entry → List Entry
+entries_by moment es = filter (λ e. nat_le e.calls moment) es
+
+-- The image is of the format and stands for these entries: each row has at each point the state that they give it, and
+-- the last stamp is none that they haven't drawn.
+pub record StandsAfter (base : Base) (es : List Entry) (image : Image) : Type 0 where
+  pub found : Folder
+  pub is : folder_of image ≡ Ok found
+  pub states : (key : List Value) (point : ℕ) → found.base.state kv key point ≡ state_of base es kv key point
+  pub last : found.base.last kv ≤ last_of base kv es
+
+abbrev pub late_list : Option Entry → List Entry
+late_list None = []
+late_list (Some e) = e ∷ []
+
+abbrev pub IsWrote : Act → Type 0
+IsWrote (Begun table stamp changes) = ⊥
+IsWrote (Wrote table stamp rows) = Unit {0}
+IsWrote (Ended table stamp) = ⊥
+
+-- the entry comes next after those of the moment, is a batch's write, and comes at most four calls later
+pub record IsNext (es : List Entry) (late : Option Entry) (moment : ℕ) (e : Entry) : Type 0 where
+  pub after : List Entry
+  pub is : entries_by moment es ++ e ∷ after ≡ es ++ late_list late
+  pub wrote : IsWrote e.act
+  pub soon : e.calls ≤ moment + 4
+
+-- the image stands for what was there at the moment, or for this and the write that was under way
+abbrev pub Recovers : Base → List Entry → Option Entry → ℕ → Image → Type 0
+Recovers base es late moment image = StandsAfter base (entries_by moment es) image ⊎ ((e : Entry) × IsNext es late moment e × StandsAfter base (entries_by moment es ++ e ∷ []) image)
+
+-- each image that a stop may leave does, without a late entry
+abbrev pub Lasts : {D : Type 0} → Ghosts D → Base → List Entry → D → Type 0
+Lasts d base es disk = (moment : ℕ) (image : Image) → IsLeft d disk moment image → Recovers base es None moment image
+
+-- The same, with a late entry perhaps: the write of a batch that was begun and whose write failed. With it the trail is
+-- legal.
+pub record LastsLate {D : Type 0} (d : Ghosts D) (base : Base) (es : List Entry) (disk : D) : Type 0 where
+  pub late : Option Entry
+  pub legal : IsLegal base (es ++ late_list late)
+  pub recovers : (moment : ℕ) (image : Image) → IsLeft d disk moment image → Recovers base es late moment image
+
+-- all of the disk's files are on it
+abbrev pub NothingPending : {D : Type 0} → Ghosts D → D → Type 0
+NothingPending d disk = (file : ℕ) → Only d disk file
+
+-- what a disk promises of its outcomes: it tells, and they are of moments up to now
+abbrev pub LeftIsTold : {D : Type 0} → Ghosts D → Type 0
+LeftIsTold {D} d = (disk : D) (moment file : ℕ) (bytes : List ℕ) → d.left disk moment file bytes → IsTrue d.tells
+
+abbrev pub LeftByNow : {D : Type 0} → Ghosts D → Type 0
+LeftByNow {D} d = (disk : D) (moment file : ℕ) (bytes : List ℕ) → d.left disk moment file bytes → moment ≤ d.calls disk
