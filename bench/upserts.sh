@@ -1,0 +1,119 @@
+#!/usr/bin/env bash
+# How long single UPSERTs take: of the program, and of SQLite's command line with one transaction a statement and full
+# syncs, beside what the disk takes for the program's syncs alone. Each run begins in an empty folder, which is removed
+# at the end, and reads one script: a new key of 10 bytes and a value of 100 in each statement. All are run in turn, in
+# some rounds, and the best time of each is told. A machine that has other work needs more rounds.
+# Usage: bench/upserts.sh [UPSERTS [ROUNDS [FOLDER]]]: 1 to 7,000 statements (1,000), rounds (5), and the folder on
+# whose file system it is done (that of the program's build).
+set -eu
+upserts=${1:-1000}
+rounds=${2:-5}
+# A record of such a row from its kind to the gate behind it, in bytes (docs/FORMAT.md).
+record=168
+# The syncs of a new log: three make its segment, two bring the names of its file and its folder to the disk.
+first_syncs=5
+
+fail() {
+    echo "upserts.sh: $1" >&2
+    exit 2
+}
+{ [ "$upserts" -ge 1 ] && [ "$upserts" -le 7000 ] && [ "$rounds" -ge 1 ]; } 2>/dev/null ||
+    fail '1 to 7,000 statements, and at least one round'
+top=$(cd "$(dirname "$0")/.." && pwd)
+program=$top/crates/px_main/out/px_main
+# Proves and builds the program, where that wasn't done yet. An empty script makes no folder.
+"$top/nipuhako" run "$top/crates/px_main/out/none" </dev/null
+work=$(mktemp -d "${3:-$top/crates/px_main/out}/upserts.XXXXXX")
+work=$(cd "$work" && pwd)
+trap 'rm -rf "$work"' EXIT
+
+# A script: its first words, the words before each row, those after it.
+script() {
+    awk -v n="$upserts" -v first="$1" -v before="$2" -v after="$3" 'BEGIN {
+        printf "%s", first
+        value = sprintf("%0100d", 0)
+        for (i = 1; i <= n; i++) printf "%s (\047key%07d\047,\047%s\047)%s;\n", before, i, value, after
+    }'
+}
+table='CREATE TABLE KV (K TEXT NOT NULL PRIMARY KEY, V TEXT) WITHOUT ROWID;'
+script '' 'UPSERT INTO KV VALUES' '' >"$work/nipuhako.sql"
+for mode in DELETE WAL; do
+    script "PRAGMA journal_mode=$mode; PRAGMA synchronous=FULL; $table" 'INSERT INTO KV VALUES' \
+        ' ON CONFLICT (K) DO UPDATE SET V = excluded.V' >"$work/SQLite-$mode.sql"
+done
+
+begin() { rm -rf "$work/run" && mkdir "$work/run" && cd "$work/run" && start=$(date +%s%N); }
+
+# Runs the script of the first word in the folder of `begin`. Further words go before the command.
+run() {
+    local which=$1 && shift
+    case $which in
+        nipuhako) "$@" "$program" run "$work/run" ;;
+        *) HOME=$work "$@" sqlite3 -batch kv.db ;;
+    esac <"$work/$which.sql" >/dev/null
+}
+
+# How many rows a run left, to see that it did its work.
+rows_left() {
+    case $1 in
+        nipuhako) echo 'SELECT * FROM KV' | "$program" run "$work/run" | awk 'END { print $1 }' ;;
+        *) HOME=$work sqlite3 -batch kv.db 'SELECT count(*) FROM KV' ;;
+    esac
+}
+
+declare -A best syncs
+# Keeps the time since $start, in nanoseconds, where it is the best of its name.
+keep() {
+    local took=$(($(date +%s%N) - start))
+    if [ "$took" -lt "${best[$1]:-$((took + 1))}" ]; then best[$1]=$took; fi
+}
+
+time_of() {
+    begin
+    run "$1"
+    keep "$1"
+    [ "$(rows_left "$1")" = "$upserts" ] || fail "$1 didn't keep its rows"
+}
+
+# The syncs of as many records alone: each after a record's bytes at the file's end, then each after a byte in place.
+time_bare() {
+    begin
+    dd if=/dev/zero of=bare bs="$record" count="$upserts" oflag=dsync 2>/dev/null
+    keep appends
+    start=$(date +%s%N)
+    dd if=/dev/zero of=bare bs=1 count="$upserts" conv=notrunc oflag=dsync 2>/dev/null
+    keep gates
+}
+
+timed=(nipuhako)
+if command -v sqlite3 >/dev/null; then timed+=(SQLite-DELETE SQLite-WAL); else
+    echo 'SQLite is not there, so the program is timed alone. Debian has it: apt-get install sqlite3'
+fi
+for ((round = 0; round < rounds; round++)); do
+    time_bare
+    for which in "${timed[@]}"; do time_of "$which"; done
+done
+counted='by the format, as strace is not there to count them'
+syncs[nipuhako]=$((2 * upserts + first_syncs))
+if strace -o /dev/null true 2>/dev/null; then
+    counted='counted by strace in one more run'
+    for which in "${timed[@]}"; do
+        begin
+        run "$which" strace -f -c -e trace=fsync,fdatasync -o "$work/calls"
+        syncs[$which]=$(awk '$NF ~ /^f(data)?sync$/ { n += $4 } END { print n + 0 }' "$work/calls")
+    done
+fi
+
+printf '%s processors, load %s, file system %s\n' "$(nproc)" "$(cut -d' ' -f1 /proc/loadavg)" "$(df --output=fstype "$work" | tail -1)"
+echo "$upserts UPSERTs in a run, best of $rounds runs; syncs $counted"
+for which in "${timed[@]}"; do echo "$which ${best[$which]} ${syncs[$which]:--}"; done |
+    awk -v n="$upserts" -v first="$first_syncs" -v appends="${best[appends]}" -v gates="${best[gates]}" '
+    NR == 1 {
+        own = $2
+        least = (appends * (1 + first / n) + gates) / 1e9
+        printf "a bare sync: %.3f ms after a record, %.3f ms after a byte in place\n", appends / n / 1e6, gates / n / 1e6
+        printf "the %d syncs that the format asks for take %.3f s by that\n", 2 * n + first, least
+        printf "%-13s %9s %7s %11s %14s %15s\n", "", "seconds", "syncs", "per UPSERT", "to bare syncs", "nipuhako to it"
+    }
+    { printf "%-13s %9.3f %7s %11s %14s %15.2f\n", $1, $2 / 1e9, $3, $3 == "-" ? "-" : sprintf("%.2f", $3 / n),
+          NR == 1 ? sprintf("%.2f", $2 / 1e9 / least) : "-", own / $2 }'

@@ -1,0 +1,85 @@
+#!/usr/bin/env bash
+# Runs the built program where the real system fails it, and compares its exit status and its line on standard error:
+# words that are no command, a closed input, a full output, a file in the folder's place, a full and a read-only disk.
+# The last two mount a small file system in memory, which takes root; without it they are left out, and a line says so.
+# Usage: tests/real_faults.sh. Exit status 0 where all is as it should be.
+set -u
+cd "$(dirname "$0")/.." || exit 1
+program=$PWD/nipuhako
+work=$(mktemp -d)
+mounted=$work/mounted
+trap 'umount "$mounted" 2>/dev/null; rm -rf "$work"' EXIT
+wrong=0
+
+# expect NAME STATUS LINE: what the last run gave, in $status and the file err.
+expect() {
+    local line
+    line=$(cat "$work/err")
+    # shellcheck disable=SC2053
+    if [ "$status" = "$2" ] && [[ $line == $3 ]]; then
+        echo "ok: $1: status $status, '$line'"
+    else
+        echo "WRONG: $1: status $status, '$line'; wanted $2, '$3'"
+        wrong=1
+    fi
+}
+
+upsert="UPSERT INTO KV VALUES ('a','b');"
+
+# Builds the program, where that wasn't done yet.
+"$program" run "$work/built" </dev/null >/dev/null 2>&1
+
+bad() {
+    echo "$upsert" | "$program" "$@" >"$work/out" 2>"$work/err"
+    status=$?
+    expect "words: $*" 2 "bad words"
+    [ -s "$work/out" ] && { echo "WRONG: it wrote to its output"; wrong=1; }
+}
+cd "$work" || exit 1
+bad
+bad run
+bad run ''
+bad run -d
+bad run d --
+bad run d --lookback -1
+bad run run d
+[ -e "$work/d" ] && { echo "WRONG: bad words made a folder"; wrong=1; }
+
+"$program" run "$work/closed" <&- >"$work/out" 2>"$work/err"
+status=$?
+expect "closed input" 6 "source fault"
+
+echo "$upsert" | "$program" run "$work/full" >/dev/full 2>"$work/err"
+status=$?
+expect "full output" 7 "sink fault"
+rows=$(echo "SELECT * FROM KV" | "$program" run "$work/full" | tail -1)
+[ "$rows" = "1 row selected" ] || { echo "WRONG: the row isn't there: $rows"; wrong=1; }
+
+echo "a file" >"$work/file"
+echo "$upsert" | "$program" run "$work/file" >"$work/out" 2>"$work/err"
+status=$?
+expect "a file in the folder's place" 3 "device fault at call *"
+
+mkdir "$mounted"
+if ! mount -t tmpfs -o size=16k tmpfs "$mounted" 2>/dev/null; then
+    echo "left out: a full disk and a read-only one, since nothing can be mounted here"
+    exit "$wrong"
+fi
+value=$(printf 'v%.0s' $(seq 900))
+for i in $(seq 30); do echo "UPSERT INTO KV VALUES ('$i','$value');"; done >"$work/many"
+"$program" run "$mounted/kv" <"$work/many" >"$work/out" 2>"$work/err"
+status=$?
+expect "a full disk" 3 "device fault at call *"
+acknowledged=$(grep -c "1 row affected" "$work/out")
+[ "$(tail -1 "$work/out")" = "F2 write fault" ] || { echo "WRONG: the last reply isn't F2"; wrong=1; }
+mount -o remount,ro "$mounted"
+shown=$(echo "SELECT * FROM KV" | "$program" run "$mounted/kv" 2>"$work/err" | tail -1)
+echo "a full disk acknowledged $acknowledged rows; read-only again: '$shown', '$(cat "$work/err")'"
+echo "$upsert" | "$program" run "$mounted/kv" >"$work/out" 2>"$work/err"
+status=$?
+expect "a read-only disk" 3 "device fault at call *"
+mount -o remount,rw,size=1m "$mounted"
+shown=$(echo "SELECT * FROM KV" | "$program" run "$mounted/kv" 2>"$work/err" | tail -1)
+echo "with room again: '$shown'"
+[ "${shown%% *}" -ge "$acknowledged" ] || { echo "WRONG: an acknowledged row is gone"; wrong=1; }
+exit "$wrong"
