@@ -1,0 +1,135 @@
+// Conditions, by descent. The depth says how many more parentheses and NOTs may be open at once.
+ghost use Rattle.std.specs.Prelude.{◌≡◌, [], ◌∷◌};
+ghost use Rattle.px_lex.specs.declared.kind.Kind.TheVariants as k;
+ghost use Rattle.px_ast.specs.Rule.{sees, separated, ◌▹◌};
+ghost use Rattle.px_ast.specs.Grammar as grammar;
+ghost use Rattle.px_parse.specs.Reading.{Gives};
+
+use crate::cursor::{Cursor, word};
+use crate::fault::ReadFault;
+use crate::predicates::predicate;
+use px_ast::{Boxed, Condition, Items};
+use px_lex::kind::Kind;
+use std::alloc::Global;
+
+fn all_of(mut parts: Vec<Condition>) -> Condition
+    ensures { result ≡ grammar.joined Condition.And parts.items }
+{
+    if parts.len() == 1 {
+        return parts.remove(0);
+    }
+    Condition::And(Items::of(parts))
+}
+
+fn any_of(mut parts: Vec<Condition>) -> Condition
+    ensures { result ≡ grammar.joined Condition.Or parts.items }
+{
+    if parts.len() == 1 {
+        return parts.remove(0);
+    }
+    Condition::Or(Items::of(parts))
+}
+
+#[cycle(condition)]
+#[tactic(auto, unfolding(px_ast::specs::Grammar::part))]
+fn part(alloc: Global, tokens: &mut Cursor<'_>, depth: usize) -> Result<Condition, ReadFault>
+    ensures { Gives ((grammar.part depth).at tokens.old) result tokens.new }
+{
+    if depth == 0 {
+        if tokens.sees(Kind::Not) || tokens.sees(Kind::OpenParen) {
+            return Err(ReadFault::TooDeep);
+        }
+        return Ok(Condition::Predicate(predicate(alloc, tokens, 0)?));
+    }
+    if tokens.sees(Kind::Not) {
+        word(tokens, Kind::Not)?;
+        let inner = part(alloc, tokens, depth - 1)?;
+        return Ok(Condition::Not(Boxed::new(alloc, inner)?));
+    }
+    if tokens.sees(Kind::OpenParen) {
+        word(tokens, Kind::OpenParen)?;
+        let inner = disjunction(alloc, tokens, depth - 1)?;
+        word(tokens, Kind::CloseParen)?;
+        return Ok(inner);
+    }
+    Ok(Condition::Predicate(predicate(alloc, tokens, depth)?))
+}
+
+#[cycle(condition)]
+fn next_part(alloc: Global, tokens: &mut Cursor<'_>, depth: usize) -> Result<Condition, ReadFault>
+    ensures { Gives ((k.And ▹ grammar.part depth).at tokens.old) result tokens.new }
+{
+    word(tokens, Kind::And)?;
+    part(alloc, tokens, depth)
+}
+
+#[cycle(condition)]
+fn parts(
+    alloc: Global,
+    tokens: &mut Cursor<'_>,
+    depth: usize,
+) -> Result<Items<Condition>, ReadFault>
+    ensures { Gives ((separated k.And (grammar.part depth)).at tokens.old) result tokens.new }
+{
+    let mut found = Vec::new(alloc);
+    found.push(part(alloc, tokens, depth)?)?;
+    for _turn in 0..tokens.left() {
+        if !tokens.sees(Kind::And) {
+            return Ok(Items::of(found));
+        }
+        found.push(next_part(alloc, tokens, depth)?)?;
+    }
+    Ok(Items::of(found))
+}
+
+#[cycle(condition)]
+#[tactic(auto, unfolding(px_ast::specs::Grammar::conjunction))]
+fn conjunction(alloc: Global, tokens: &mut Cursor<'_>, depth: usize) -> Result<Condition, ReadFault>
+    ensures { Gives ((grammar.conjunction (grammar.part depth)).at tokens.old) result tokens.new }
+{
+    Ok(all_of(parts(alloc, tokens, depth)?.into_vec()))
+}
+
+#[cycle(condition)]
+fn next_conjunction(
+    alloc: Global,
+    tokens: &mut Cursor<'_>,
+    depth: usize,
+) -> Result<Condition, ReadFault>
+    ensures { Gives ((k.Or ▹ grammar.conjunction (grammar.part depth)).at tokens.old) result tokens.new }
+{
+    word(tokens, Kind::Or)?;
+    conjunction(alloc, tokens, depth)
+}
+
+#[cycle(condition)]
+fn conjunctions(
+    alloc: Global,
+    tokens: &mut Cursor<'_>,
+    depth: usize,
+) -> Result<Items<Condition>, ReadFault>
+    ensures { Gives ((separated k.Or (grammar.conjunction (grammar.part depth))).at tokens.old) result tokens.new }
+{
+    let mut found = Vec::new(alloc);
+    found.push(conjunction(alloc, tokens, depth)?)?;
+    for _turn in 0..tokens.left() {
+        if !tokens.sees(Kind::Or) {
+            return Ok(Items::of(found));
+        }
+        found.push(next_conjunction(alloc, tokens, depth)?)?;
+    }
+    Ok(Items::of(found))
+}
+
+/// `conjunction { OR conjunction }`
+#[cycle(condition)]
+#[tactic(auto, unfolding(px_ast::specs::Grammar::disjunction))]
+pub fn disjunction(
+    alloc: Global,
+    tokens: &mut Cursor<'_>,
+    depth: usize,
+) -> Result<Condition, ReadFault>
+    ensures { Gives ((grammar.disjunction (grammar.part depth)).at tokens.old) result tokens.new }
+{
+    Ok(any_of(conjunctions(alloc, tokens, depth)?.into_vec()))
+}

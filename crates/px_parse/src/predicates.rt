@@ -1,0 +1,206 @@
+// Comparisons, IS NULL, IN and BETWEEN.
+ghost use Rattle.std.specs.Prelude.{◌≡◌, [], ◌∷◌};
+ghost use Rattle.px_lex.specs.declared.kind.Kind.TheVariants as k;
+ghost use Rattle.px_ast.specs.Rule.{sees, word, written};
+ghost use Rattle.px_ast.specs.Grammar as grammar;
+ghost use Rattle.px_parse.specs.Reading.{Gives, applied};
+
+use crate::cursor::{Cursor, word};
+use crate::fault::ReadFault;
+use crate::literals::{literal, literals};
+use crate::texts::stored_name;
+use px_ast::{Comparison, Operand, Predicate};
+use px_lex::kind::Kind;
+use std::alloc::Global;
+
+#[tactic(auto, unfolding(px_ast::specs::Grammar::operand))]
+fn operand(alloc: Global, tokens: &mut Cursor<'_>) -> Result<Operand, ReadFault>
+    ensures { Gives (grammar.operand.at tokens.old) result tokens.new }
+{
+    if tokens.sees(Kind::Name) {
+        let token = tokens.take(Kind::Name)?;
+        return Ok(Operand::Column {
+            place: token.place,
+            name: stored_name(alloc, &token)?,
+        });
+    }
+    Ok(Operand::Literal(literal(alloc, tokens)?))
+}
+
+#[tactic(auto, unfolding(px_ast::specs::Grammar::comparison))]
+fn comparison(tokens: &mut Cursor<'_>) -> Result<Comparison, ReadFault>
+    ensures { Gives (grammar.comparison.at tokens.old) result tokens.new }
+{
+    if tokens.sees(Kind::Equal) {
+        word(tokens, Kind::Equal)?;
+        return Ok(Comparison::Equal);
+    }
+    if tokens.sees(Kind::NotEqual) {
+        word(tokens, Kind::NotEqual)?;
+        return Ok(Comparison::NotEqual);
+    }
+    if tokens.sees(Kind::Less) {
+        word(tokens, Kind::Less)?;
+        return Ok(Comparison::Less);
+    }
+    if tokens.sees(Kind::LessEqual) {
+        word(tokens, Kind::LessEqual)?;
+        return Ok(Comparison::LessEqual);
+    }
+    if tokens.sees(Kind::Greater) {
+        word(tokens, Kind::Greater)?;
+        return Ok(Comparison::Greater);
+    }
+    word(tokens, Kind::GreaterEqual)?;
+    Ok(Comparison::GreaterEqual)
+}
+
+#[tactic(auto, unfolding(px_ast::specs::Grammar::compared))]
+fn compared(alloc: Global, tokens: &mut Cursor<'_>, left: Operand) -> Result<Predicate, ReadFault>
+    ensures { Gives (applied (grammar.compared.at tokens.old) left) result tokens.new }
+{
+    let comparison = comparison(tokens)?;
+    let right = operand(alloc, tokens)?;
+    Ok(Predicate::Compare {
+        left,
+        comparison,
+        right,
+    })
+}
+
+/// Takes NOT, if it is written.
+fn negation(tokens: &mut Cursor<'_>) -> Result<bool, ReadFault>
+    ensures { Gives ((written (word k.Not)).at tokens.old) result tokens.new }
+{
+    if tokens.sees(Kind::Not) {
+        word(tokens, Kind::Not)?;
+        Ok(true)
+    } else {
+        Ok(false)
+    }
+}
+
+#[tactic(auto, unfolding(px_ast::specs::Grammar::is_null))]
+fn is_null(tokens: &mut Cursor<'_>, operand: Operand) -> Result<Predicate, ReadFault>
+    ensures { Gives (applied (grammar.is_null.at tokens.old) operand) result tokens.new }
+{
+    word(tokens, Kind::Is)?;
+    let negated = negation(tokens)?;
+    word(tokens, Kind::Null)?;
+    Ok(Predicate::IsNull { operand, negated })
+}
+
+#[tactic(auto, unfolding(px_ast::specs::Grammar::among))]
+fn among(
+    alloc: Global,
+    tokens: &mut Cursor<'_>,
+    negated: bool,
+    operand: Operand,
+) -> Result<Predicate, ReadFault>
+    ensures { Gives (applied (applied (grammar.among.at tokens.old) negated) operand) result tokens.new }
+{
+    word(tokens, Kind::In)?;
+    let literals = literals(alloc, tokens)?;
+    Ok(Predicate::In {
+        operand,
+        negated,
+        literals,
+    })
+}
+
+#[tactic(auto, unfolding(px_ast::specs::Grammar::between))]
+fn between(
+    alloc: Global,
+    tokens: &mut Cursor<'_>,
+    negated: bool,
+    left: Operand,
+) -> Result<Predicate, ReadFault>
+    ensures { Gives (applied (applied (grammar.between.at tokens.old) negated) left) result tokens.new }
+{
+    word(tokens, Kind::Between)?;
+    let low = operand(alloc, tokens)?;
+    word(tokens, Kind::And)?;
+    let high = operand(alloc, tokens)?;
+    Ok(Predicate::Between {
+        operand: left,
+        negated,
+        low,
+        high,
+    })
+}
+
+/// IN or BETWEEN. IN opens a parenthesis, so there is none where no more may be open.
+#[tactic(auto, unfolding(px_ast::specs::Grammar::in_or_between, px_ast::specs::Grammar::among))]
+fn in_or_between(
+    alloc: Global,
+    tokens: &mut Cursor<'_>,
+    depth: usize,
+    negated: bool,
+    left: Operand,
+) -> Result<Predicate, ReadFault>
+    ensures { Gives (applied (applied ((grammar.in_or_between depth).at tokens.old) negated) left) result tokens.new }
+{
+    if tokens.sees(Kind::In) {
+        if depth == 0 {
+            return Err(ReadFault::TooDeep);
+        }
+        return among(alloc, tokens, negated, left);
+    }
+    between(alloc, tokens, negated, left)
+}
+
+#[tactic(auto, unfolding(px_ast::specs::Grammar::ranged))]
+fn ranged(
+    alloc: Global,
+    tokens: &mut Cursor<'_>,
+    depth: usize,
+    left: Operand,
+) -> Result<Predicate, ReadFault>
+    ensures { Gives (applied ((grammar.ranged depth).at tokens.old) left) result tokens.new }
+{
+    let negated = negation(tokens)?;
+    in_or_between(alloc, tokens, depth, negated, left)
+}
+
+fn begins_comparison(tokens: &Cursor<'_>) -> bool
+    ensures { result ≡ sees (k.Equal ∷ k.NotEqual ∷ k.Less ∷ k.LessEqual ∷ k.Greater ∷ k.GreaterEqual ∷ []) tokens.now }
+{
+    tokens.sees(Kind::Equal)
+        || tokens.sees(Kind::NotEqual)
+        || tokens.sees(Kind::Less)
+        || tokens.sees(Kind::LessEqual)
+        || tokens.sees(Kind::Greater)
+        || tokens.sees(Kind::GreaterEqual)
+}
+
+/// What makes a predicate of the operand before it.
+#[tactic(auto, unfolding(px_ast::specs::Grammar::predicate_end, px_ast::specs::Grammar::compared, px_ast::specs::Grammar::comparison, px_ast::specs::Grammar::is_null))]
+fn predicate_end(
+    alloc: Global,
+    tokens: &mut Cursor<'_>,
+    depth: usize,
+    left: Operand,
+) -> Result<Predicate, ReadFault>
+    ensures { Gives (applied ((grammar.predicate_end depth).at tokens.old) left) result tokens.new }
+{
+    if begins_comparison(tokens) {
+        compared(alloc, tokens, left)
+    } else if tokens.sees(Kind::Is) {
+        is_null(tokens, left)
+    } else {
+        ranged(alloc, tokens, depth, left)
+    }
+}
+
+/// A condition without AND, OR and a NOT before it. The depth says how many more parentheses may be opened.
+#[tactic(auto, unfolding(px_ast::specs::Grammar::predicate))]
+pub fn predicate(
+    alloc: Global,
+    tokens: &mut Cursor<'_>,
+    depth: usize,
+) -> Result<Predicate, ReadFault>
+    ensures { Gives ((grammar.predicate depth).at tokens.old) result tokens.new }
+{
+    let left = operand(alloc, tokens)?;
+    predicate_end(alloc, tokens, depth, left)
+}

@@ -1,0 +1,236 @@
+// Statements.
+ghost use Rattle.std.specs.Prelude.{◌≡◌, [], ◌∷◌};
+ghost use Rattle.px_lex.specs.declared.kind.Kind.TheVariants as k;
+ghost use Rattle.px_ast.specs.Rule.{made, maybe, optional, separated, token, ◌or◌, ◌▹◌};
+ghost use Rattle.px_ast.specs.Grammar as grammar;
+ghost use Rattle.px_ast.specs.declared.statement.Statement.TheVariants as statements;
+ghost use Rattle.px_parse.specs.Reading.{Gives};
+
+use crate::columns::keypart_list;
+use crate::conditions::disjunction;
+use crate::cursor::{Cursor, word};
+use crate::definitions::{alter_index, create_index, create_table, drop_index, drop_table};
+use crate::fault::ReadFault;
+use crate::literals::{literals, name, name_list, names};
+use px_ast::{Boxed, Condition, Delete, Items, KeyPart, RowLimit, Select, Statement, Upsert};
+use px_lex::kind::Kind;
+use px_values::{Name, Text};
+use std::alloc::Global;
+
+/// `[( name { , name } )]`
+#[tactic(auto, unfolding(px_ast::specs::Grammar::names))]
+fn columns(alloc: Global, tokens: &mut Cursor<'_>) -> Result<Option<Items<Name>>, ReadFault>
+    ensures { Gives ((maybe grammar.names).at tokens.old) result tokens.new }
+{
+    if tokens.sees(Kind::OpenParen) {
+        Ok(Some(names(alloc, tokens)?))
+    } else {
+        Ok(None)
+    }
+}
+
+#[tactic(auto, unfolding(px_ast::specs::Grammar::upsert))]
+pub fn upsert(alloc: Global, tokens: &mut Cursor<'_>) -> Result<Upsert, ReadFault>
+    ensures { Gives (grammar.upsert.at tokens.old) result tokens.new }
+{
+    word(tokens, Kind::Upsert)?;
+    word(tokens, Kind::Into)?;
+    let table = name(alloc, tokens)?;
+    let columns = columns(alloc, tokens)?;
+    let values_place = tokens.take(Kind::Values)?.place;
+    let values = literals(alloc, tokens)?;
+    Ok(Upsert {
+        table,
+        columns,
+        values_place,
+        values,
+    })
+}
+
+/// `FROM name`
+pub fn from_table(alloc: Global, tokens: &mut Cursor<'_>) -> Result<Name, ReadFault>
+    ensures { Gives ((k.From ▹ grammar.name).at tokens.old) result tokens.new }
+{
+    word(tokens, Kind::From)?;
+    name(alloc, tokens)
+}
+
+/// `[WHERE condition]`
+fn filter(
+    alloc: Global,
+    tokens: &mut Cursor<'_>,
+    depth: usize,
+) -> Result<Option<Boxed<Condition>>, ReadFault>
+    ensures { Gives ((grammar.filter depth).at tokens.old) result tokens.new }
+{
+    if !tokens.sees(Kind::Where) {
+        return Ok(None);
+    }
+    word(tokens, Kind::Where)?;
+    let condition = disjunction(alloc, tokens, depth)?;
+    Ok(Some(Boxed::new(alloc, condition)?))
+}
+
+#[tactic(auto, unfolding(px_ast::specs::Grammar::delete))]
+fn delete(alloc: Global, tokens: &mut Cursor<'_>, depth: usize) -> Result<Delete, ReadFault>
+    ensures { Gives ((grammar.delete depth).at tokens.old) result tokens.new }
+{
+    word(tokens, Kind::Delete)?;
+    let table = from_table(alloc, tokens)?;
+    let filter = filter(alloc, tokens, depth)?;
+    Ok(Delete { table, filter })
+}
+
+/// `[hint]`
+pub fn hint(alloc: Global, tokens: &mut Cursor<'_>) -> Result<Option<Text>, ReadFault>
+    ensures { Gives ((maybe (made grammar.text_of (token k.Hint))).at tokens.old) result tokens.new }
+{
+    if !tokens.sees(Kind::Hint) {
+        return Ok(None);
+    }
+    let token = tokens.take(Kind::Hint)?;
+    Ok(Some(Text::from_str(alloc, token.text)?))
+}
+
+/// `* | name { , name }`
+#[tactic(auto, unfolding(px_ast::specs::Grammar::shown))]
+pub fn shown(alloc: Global, tokens: &mut Cursor<'_>) -> Result<Option<Items<Name>>, ReadFault>
+    ensures { Gives (grammar.shown.at tokens.old) result tokens.new }
+{
+    if tokens.sees(Kind::Star) {
+        word(tokens, Kind::Star)?;
+        return Ok(None);
+    }
+    Ok(Some(name_list(alloc, tokens)?))
+}
+
+/// `[ORDER BY keypart { , keypart }]`
+pub fn order(alloc: Global, tokens: &mut Cursor<'_>) -> Result<Items<KeyPart>, ReadFault>
+    ensures { Gives ((optional (k.Order ▹ k.By ▹ separated k.Comma grammar.keypart)).at tokens.old) result tokens.new }
+{
+    if !tokens.sees(Kind::Order) {
+        return Ok(Items::of(Vec::new(alloc)));
+    }
+    word(tokens, Kind::Order)?;
+    word(tokens, Kind::By)?;
+    keypart_list(alloc, tokens)
+}
+
+/// `[LIMIT number]`
+#[tactic(auto, unfolding(px_ast::specs::Grammar::row_limit))]
+pub fn row_limit(alloc: Global, tokens: &mut Cursor<'_>) -> Result<Option<RowLimit>, ReadFault>
+    ensures { Gives ((maybe grammar.row_limit).at tokens.old) result tokens.new }
+{
+    if !tokens.sees(Kind::Limit) {
+        return Ok(None);
+    }
+    word(tokens, Kind::Limit)?;
+    let token = tokens.take(Kind::Number)?;
+    Ok(Some(RowLimit {
+        place: token.place,
+        digits: Text::from_str(alloc, token.text)?,
+    }))
+}
+
+#[tactic(auto, unfolding(px_ast::specs::Grammar::select))]
+fn select(alloc: Global, tokens: &mut Cursor<'_>, depth: usize) -> Result<Select, ReadFault>
+    ensures { Gives ((grammar.select depth).at tokens.old) result tokens.new }
+{
+    word(tokens, Kind::Select)?;
+    let hint = hint(alloc, tokens)?;
+    let columns = shown(alloc, tokens)?;
+    let table = from_table(alloc, tokens)?;
+    let filter = filter(alloc, tokens, depth)?;
+    let order = order(alloc, tokens)?;
+    let limit = row_limit(alloc, tokens)?;
+    Ok(Select {
+        hint,
+        columns,
+        table,
+        filter,
+        order,
+        limit,
+    })
+}
+
+/// What stands behind CREATE.
+#[tactic(auto, unfolding(px_ast::specs::Grammar::create_table))]
+fn created(alloc: Global, tokens: &mut Cursor<'_>) -> Result<Statement, ReadFault>
+    ensures { Gives ((made statements.CreateTable grammar.create_table or made statements.CreateIndex grammar.create_index).at tokens.old) result tokens.new }
+{
+    if tokens.sees(Kind::Table) {
+        Ok(Statement::CreateTable(create_table(alloc, tokens)?))
+    } else {
+        Ok(Statement::CreateIndex(create_index(alloc, tokens)?))
+    }
+}
+
+pub fn create(alloc: Global, tokens: &mut Cursor<'_>) -> Result<Statement, ReadFault>
+    ensures { Gives ((k.Create ▹ (made statements.CreateTable grammar.create_table or made statements.CreateIndex grammar.create_index)).at tokens.old) result tokens.new }
+{
+    word(tokens, Kind::Create)?;
+    created(alloc, tokens)
+}
+
+/// What stands behind DROP.
+#[tactic(auto, unfolding(px_ast::specs::Grammar::drop_table))]
+fn dropped(alloc: Global, tokens: &mut Cursor<'_>) -> Result<Statement, ReadFault>
+    ensures { Gives ((made statements.DropTable grammar.drop_table or made statements.DropIndex grammar.drop_index).at tokens.old) result tokens.new }
+{
+    if tokens.sees(Kind::Table) {
+        Ok(Statement::DropTable(drop_table(alloc, tokens)?))
+    } else {
+        Ok(Statement::DropIndex(drop_index(alloc, tokens)?))
+    }
+}
+
+pub fn drop_defined(alloc: Global, tokens: &mut Cursor<'_>) -> Result<Statement, ReadFault>
+    ensures { Gives ((k.Drop ▹ (made statements.DropTable grammar.drop_table or made statements.DropIndex grammar.drop_index)).at tokens.old) result tokens.new }
+{
+    word(tokens, Kind::Drop)?;
+    dropped(alloc, tokens)
+}
+
+pub fn alter(alloc: Global, tokens: &mut Cursor<'_>) -> Result<Statement, ReadFault>
+    ensures { Gives ((k.Alter ▹ made statements.AlterIndex grammar.alter_index).at tokens.old) result tokens.new }
+{
+    word(tokens, Kind::Alter)?;
+    Ok(Statement::AlterIndex(alter_index(alloc, tokens)?))
+}
+
+fn explain(alloc: Global, tokens: &mut Cursor<'_>, depth: usize) -> Result<Statement, ReadFault>
+    ensures { Gives ((made statements.Explain (k.Explain ▹ grammar.select depth)).at tokens.old) result tokens.new }
+{
+    word(tokens, Kind::Explain)?;
+    Ok(Statement::Explain(select(alloc, tokens, depth)?))
+}
+
+/// A statement, with at most so many parentheses and NOTs open at once.
+#[tactic(auto, unfolding(px_ast::specs::Grammar::statement, px_ast::specs::Grammar::upsert, px_ast::specs::Grammar::delete))]
+pub fn statement(
+    alloc: Global,
+    tokens: &mut Cursor<'_>,
+    depth: usize,
+) -> Result<Statement, ReadFault>
+    ensures { Gives ((grammar.statement depth).at tokens.old) result tokens.new }
+{
+    if tokens.sees(Kind::Create) {
+        return create(alloc, tokens);
+    }
+    if tokens.sees(Kind::Drop) {
+        return drop_defined(alloc, tokens);
+    }
+    if tokens.sees(Kind::Alter) {
+        return alter(alloc, tokens);
+    }
+    if tokens.sees(Kind::Upsert) {
+        return Ok(Statement::Upsert(upsert(alloc, tokens)?));
+    }
+    if tokens.sees(Kind::Delete) {
+        return Ok(Statement::Delete(delete(alloc, tokens, depth)?));
+    }
+    if tokens.sees(Kind::Explain) {
+        return explain(alloc, tokens, depth);
+    }
+    Ok(Statement::Select(select(alloc, tokens, depth)?))
+}
