@@ -2,7 +2,8 @@
 # How long single UPSERTs take: of the program, and of SQLite's command line with one transaction a statement and full
 # syncs, beside what the disk takes for the program's syncs alone. Each run begins in an empty folder, which is removed
 # at the end, and reads one script: a new key of 10 bytes and a value of 100 in each statement. All are run in turn, in
-# some rounds, and the best time of each is told. A machine that has other work needs more rounds.
+# some rounds, and the best time of each is told. A machine that has other work needs more rounds. Then the first 50
+# statements at most are done again, each in a run of its own on one folder, which adds the start and the opening.
 # Usage: bench/upserts.sh [UPSERTS [ROUNDS [FOLDER]]]: 1 to 7,000 statements (1,000), rounds (5), and the folder on
 # whose file system it is done (that of the program's build).
 set -eu
@@ -93,6 +94,28 @@ for ((round = 0; round < rounds; round++)); do
     time_bare
     for which in "${timed[@]}"; do time_of "$which"; done
 done
+singles=$((upserts < 50 ? upserts : 50))
+# One statement in each run, on one folder.
+time_singles() {
+    local value which=$1 mode=${1#SQLite-}
+    value=$(printf '%0100d' 0)
+    begin
+    if [ "$which" != nipuhako ]; then
+        HOME=$work sqlite3 -batch kv.db "PRAGMA journal_mode=$mode; $table" >/dev/null
+        start=$(date +%s%N)
+    fi
+    for ((i = 1; i <= singles; i++)); do
+        case $which in
+            nipuhako) echo "UPSERT INTO KV VALUES ('key$i','$value');" | "$program" run "$work/run" ;;
+            *) echo "PRAGMA synchronous=FULL; INSERT INTO KV VALUES ('key$i','$value')
+                ON CONFLICT (K) DO UPDATE SET V = excluded.V;" | HOME=$work sqlite3 -batch kv.db ;;
+        esac >/dev/null
+    done
+    keep "single $which"
+}
+for ((round = 0; round < rounds; round++)); do
+    for which in "${timed[@]}"; do time_singles "$which"; done
+done
 counted='by the format, as strace is not there to count them'
 syncs[nipuhako]=$((2 * upserts + first_syncs))
 if strace -o /dev/null true 2>/dev/null; then
@@ -117,3 +140,6 @@ for which in "${timed[@]}"; do echo "$which ${best[$which]} ${syncs[$which]:--}"
     }
     { printf "%-13s %9.3f %7s %11s %14s %15.2f\n", $1, $2 / 1e9, $3, $3 == "-" ? "-" : sprintf("%.2f", $3 / n),
           NR == 1 ? sprintf("%.2f", $2 / 1e9 / least) : "-", own / $2 }'
+for which in "${timed[@]}"; do
+    echo "$which ${best["single $which"]}"
+done | awk -v n="$singles" '{ printf "%s: %.2f ms a run, of %d runs of one UPSERT each\n", $1, $2 / n / 1e6, n }'
