@@ -1,6 +1,8 @@
+use crate::folder::{level_path, missing_levels};
 use crate::*;
 use std::alloc::Global;
 use std::fs;
+use std::path::Path;
 use std::test::Fail;
 
 const FOLDER: &str = "px_outside_test/made";
@@ -26,6 +28,21 @@ fn a_folder_keeps_its_files(rt: HostRuntime) -> Result<(), Fail> {
     fs::write(&rt, "px_outside_test", b"a file".as_slice())?;
     assert!(rt; disk.write(8, 0, b"no folder") == Err(Failed));
     fs::remove_file(&rt, "px_outside_test")?;
+    Ok(())
+}
+
+#[test]
+fn missing_levels_are_counted(rt: HostRuntime) -> Result<(), Fail> {
+    let _ = fs::remove_dir_all(&rt, "px_outside_levels");
+    assert_eq!(rt; missing_levels(&rt, "px_outside_levels"), 1);
+    assert_eq!(rt; missing_levels(&rt, "px_outside_levels/b//c/"), 3);
+    assert_eq!(rt; missing_levels(&rt, "./px_outside_levels/b/./c"), 3);
+    assert_eq!(rt; missing_levels(&rt, "/px_outside_levels/b"), 2);
+    fs::create_dir_all(&rt, "px_outside_levels/b")?;
+    assert_eq!(rt; missing_levels(&rt, "px_outside_levels/b"), 0);
+    assert_eq!(rt; missing_levels(&rt, "px_outside_levels/b/c/d"), 2);
+    fs::remove_dir_all(&rt, "px_outside_levels")?;
+    assert!(rt; level_path(Path::new("")) == "." && level_path(Path::new("a/b")) == "a/b");
     Ok(())
 }
 
