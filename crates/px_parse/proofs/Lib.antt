@@ -14,3 +14,5 @@ pub mod Verdict
 pub mod Telling
 pub mod Well
 pub mod Reading
+pub mod Doubts
+pub mod Capitals

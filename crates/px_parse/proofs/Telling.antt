@@ -156,11 +156,11 @@ allowed_text tokens end read (Ok s) reads h =
 allowed_text tokens end read (Err (faults.LeftOut name)) reads h = inr (inr (read, refl, reads, h.0, h.1))
 allowed_text tokens end read (Err (faults.Unexpected place)) reads h = absurd h
 allowed_text tokens end read (Err faults.TooDeep) reads h = absurd h
-allowed_text tokens end read (Err faults.Memory) reads h = absurd h
+allowed_text tokens end read (Err faults.Memory) reads h = tt
 
 pub allowed_given : (s read : Statement) (r : Result Statement SyntaxFault) → read ≡ s → forbids_null_outside_key s ≡ false → IsAllowed read r → IsAnswered s r
 allowed_given s read (Ok given) e free h = h.0 ∙ e
 allowed_given s read (Err (faults.LeftOut name)) e free h = absurd (let x : true ≡ false = sym h.0 ∙ ap forbids_null_outside_key e ∙ free in cc)
 allowed_given s read (Err (faults.Unexpected place)) e free h = absurd h
 allowed_given s read (Err faults.TooDeep) e free h = absurd h
-allowed_given s read (Err faults.Memory) e free h = absurd h
+allowed_given s read (Err faults.Memory) e free h = refl

@@ -5,8 +5,8 @@ use Rattle.px_lex.specs.Lexemes.{Seen}
 use Rattle.px_lex.specs.declared.kind.Kind.{Kind}
 use Rattle.px_parse.specs.declared.fault.ReadFault.{ReadFault}
 use Rattle.px_parse.specs.declared.fault.ReadFault.TheVariants as faults
-use Rattle.px_ast.specs.Rule.{sees, Outcome, Got, Stuck, Deep, and_then, Rule, many_at, separated, ◌▹◌}
-use Rattle.px_parse.specs.Reading.{Fails}
+use Rattle.px_ast.specs.Rule.{sees, Outcome, Got, Stuck, Deep, and_then, Rule, many_at, many, separated, ◌▹◌}
+use Rattle.px_parse.specs.Reading.{Fails, behind_first}
 
 -- what was read before, and what is still read
 abbrev pub with_front : {A : Type 0} → List A → Outcome (List A) → Outcome (List A)
@@ -66,3 +66,21 @@ pub begins_list : {A : Type 0} (x : Kind) (r : Rule A) (a : A) (start ts : List 
 begins_list x r a start ts read =
     let n : length ts - 0 ≡ length ts = omega arith in
     rw (n, read) (after_first a (many_at (x ▹ r) (length ts) ts))
+
+-- ---- a list of which the first was read
+
+pub begins_behind : {A : Type 0} (x : Kind) (r : Rule A) (a : A) (ts : List Seen) → with_front (a ∷ []) (many_at (x ▹ r) (length ts - 0) ts) ≡ behind_first x r a ts
+begins_behind x r a ts =
+    let n : length ts - 0 ≡ length ts = omega arith in
+    rw n refl
+
+pub first_and_others : {A : Type 0} (x : Kind) (r : Rule A) (a : A) (start ts : List Seen) → r.at start ≡ Got a ts → behind_first x r a ts ≡ (separated x r).at start
+first_and_others x r a start ts read = rw read (after_first a (many_at (x ▹ r) (length ts) ts))
+
+many_none : {A : Type 0} (x : Kind) (r : Rule A) (ts : List Seen) → sees (x ∷ []) ts ≡ false → (many (x ▹ r)).at ts ≡ Got [] ts
+many_none x r [] h = refl
+many_none x r (t ∷ ts) h = rw h refl
+
+-- where the token between doesn't follow, the first is all
+pub only_first : {A : Type 0} (x : Kind) (r : Rule A) (a : A) (start ts : List Seen) → r.at start ≡ Got a ts → sees (x ∷ []) ts ≡ false → (separated x r).at start ≡ Got (a ∷ []) ts
+only_first x r a start ts read none = rw (read, many_none x r ts none) refl

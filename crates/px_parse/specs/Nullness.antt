@@ -22,6 +22,10 @@ in_constraint (Some c) name = names_column c.parts name
 abbrev pub is_key : Option KeyConstraint → Column → Bool
 is_key constraint column = is_written column.key || in_constraint constraint column.name
 
+-- NOT NULL stands at a column without PRIMARY KEY.
+abbrev pub is_in_doubt : Column → Bool
+is_in_doubt column = column.not_null && not (is_written column.key)
+
 -- NOT NULL stands at a column outside the key.
 abbrev pub forbids_null : CreateTable → Bool
 forbids_null table = list_any (λ column. column.not_null && not (is_key table.constraint column)) table.columns

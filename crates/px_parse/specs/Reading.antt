@@ -1,11 +1,12 @@
 -- What a function that reads ensures: the rule's outcome, unless memory runs out. After a fault the cursor stands at it.
 use Rattle.std.specs.Prelude.{◌≡◌, ◌<◌, ℕ, true, false, List, [], ◌∷◌, ◌++◌, Result, Ok, Err}
+use Rattle.px_lex.specs.declared.kind.Kind.{Kind}
 use Rattle.px_lex.specs.declared.kind.Kind.TheVariants as k
 use Rattle.px_lex.specs.declared.token.Token.{Token}
 use Rattle.px_lex.specs.Bytes.{starts, pairs}
 use Rattle.px_lex.specs.Kinds.{same_kind}
 use Rattle.px_lex.specs.Lexemes.{Seen, seen}
-use Rattle.px_ast.specs.Rule.{Outcome, Got, Stuck, Deep, and_then}
+use Rattle.px_ast.specs.Rule.{Outcome, Got, Stuck, Deep, and_then, Rule, many, ◌▹◌}
 use Rattle.px_ast.specs.Grammar.{unquoted}
 use Rattle.px_parse.specs.declared.fault.ReadFault.{ReadFault}
 use Rattle.px_parse.specs.declared.fault.ReadFault.TheVariants as faults
@@ -26,6 +27,10 @@ GivesToken o (Err e) new = Fails o e new
 -- what comes of a function that was read, at this argument
 abbrev pub applied : {A B : Type 0} → Outcome (A → B) → A → Outcome B
 applied o a = and_then o (λ f rest. Got (f a) rest)
+
+-- what comes of a list with this token between, of which the first was read
+abbrev pub behind_first : {A : Type 0} → Kind → Rule A → A → List Seen → Outcome (List A)
+behind_first x r a ts = and_then ((many (x ▹ r)).at ts) (λ others end. Got (a ∷ others) end)
 
 -- ---- tokens as the lexer gives them
 

@@ -152,8 +152,9 @@ IsRefusedAt tokens at end (faults.LeftOut name) =
 IsRefusedAt tokens at end (faults.Unexpected place) =
     (IsFunction tokens at → ⊥) × ((j : ℕ) × Decides tokens at j × (name_left_out (drop j tokens) ≡ None) × (place ≡ place_or (drop j tokens) end))
 
--- the answer to a statement that was read
+-- the answer to a statement that was read, unless memory runs out
 abbrev pub IsAllowed : Statement → Result Statement SyntaxFault → Type 0
 IsAllowed read (Ok s) = (s ≡ read) × (forbids_null_outside_key read ≡ false)
 IsAllowed read (Err (faults.LeftOut name)) = (forbids_null_outside_key read ≡ true) × (name.now ≡ codes "NOT NULL")
+IsAllowed read (Err faults.Memory) = Unit {0}
 IsAllowed read (Err e) = ⊥

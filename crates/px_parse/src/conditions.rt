@@ -3,7 +3,7 @@ ghost use Rattle.std.specs.Prelude.{◌≡◌, [], ◌∷◌};
 ghost use Rattle.px_lex.specs.declared.kind.Kind.TheVariants as k;
 ghost use Rattle.px_ast.specs.Rule.{sees, separated, ◌▹◌};
 ghost use Rattle.px_ast.specs.Grammar as grammar;
-ghost use Rattle.px_parse.specs.Reading.{Gives};
+ghost use Rattle.px_parse.specs.Reading.{Gives, behind_first};
 
 use crate::cursor::{Cursor, word};
 use crate::fault::ReadFault;
@@ -63,16 +63,18 @@ fn next_part(alloc: Global, tokens: &mut Cursor<'_>, depth: usize) -> Result<Con
     part(alloc, tokens, depth)
 }
 
+/// The parts of which the first was read, with AND between them.
 #[cycle(condition)]
-fn parts(
+fn parts_behind(
     alloc: Global,
     tokens: &mut Cursor<'_>,
     depth: usize,
+    first: Condition,
 ) -> Result<Items<Condition>, ReadFault>
-    ensures { Gives ((separated k.And (grammar.part depth)).at tokens.old) result tokens.new }
+    ensures { Gives (behind_first k.And (grammar.part depth) first tokens.old) result tokens.new }
 {
     let mut found = Vec::new(alloc);
-    found.push(part(alloc, tokens, depth)?)?;
+    found.push(first)?;
     for _turn in 0..tokens.left() {
         if !tokens.sees(Kind::And) {
             return Ok(Items::of(found));
@@ -82,12 +84,17 @@ fn parts(
     Ok(Items::of(found))
 }
 
+/// `part { AND part }`. One part alone takes no list, and isn't moved.
 #[cycle(condition)]
 #[tactic(auto, unfolding(px_ast::specs::Grammar::conjunction))]
 fn conjunction(alloc: Global, tokens: &mut Cursor<'_>, depth: usize) -> Result<Condition, ReadFault>
     ensures { Gives ((grammar.conjunction (grammar.part depth)).at tokens.old) result tokens.new }
 {
-    Ok(all_of(parts(alloc, tokens, depth)?.into_vec()))
+    let first = part(alloc, tokens, depth);
+    if tokens.sees(Kind::And) {
+        return Ok(all_of(parts_behind(alloc, tokens, depth, first?)?.into_vec()));
+    }
+    first
 }
 
 #[cycle(condition)]

@@ -1,44 +1,68 @@
 // NOT NULL at columns outside the key.
-ghost use Rattle.std.specs.Prelude.{◌≡◌};
+ghost use Rattle.std.specs.Prelude.{◌≡◌, List, ℕ, IfOk};
+ghost use Rattle.std.specs.BTreeSet.{contains_text};
+ghost use Rattle.std.specs.List.{list_any};
 ghost use Rattle.px_parse.specs.Nullness as spec;
 
 use px_ast::{Column, CreateTable, KeyConstraint, KeyPart, Statement};
-use px_values::Name;
+use std::alloc::{AllocError, Global};
+use std::collections::BTreeSet;
 
-fn names_column(parts: &[KeyPart], name: &Name) -> bool
-    ensures { result ≡ spec.names_column parts.now name.now }
+/// The names of the columns in these parts.
+fn names_of(alloc: Global, parts: &[KeyPart]) -> Result<BTreeSet<String>, AllocError>
+    ensures { IfOk result (λ names. (name : List ℕ) → contains_text names name ≡ spec.names_column parts.now name) }
 {
-    parts
-        .iter()
-        .any(|part| part.column.as_str() == name.as_str())
+    let mut names = BTreeSet::new(alloc);
+    for part in parts {
+        names.insert(String::from_str(alloc, part.column.as_str())?)?;
+    }
+    Ok(names)
 }
 
-/// Whether a column is of the key: PRIMARY KEY stands at it, or the constraint names it.
-fn is_key(constraint: &Option<KeyConstraint>, column: &Column) -> bool
-    ensures { result ≡ spec.is_key constraint.now column.now }
+/// The names of the columns in the constraint.
+fn constrained(
+    alloc: Global,
+    constraint: &Option<KeyConstraint>,
+) -> Result<BTreeSet<String>, AllocError>
+    ensures { IfOk result (λ names. (name : List ℕ) → contains_text names name ≡ spec.in_constraint constraint.now name) }
 {
-    if column.key.is_some() {
-        return true;
-    }
     match constraint {
-        None => false,
-        Some(constraint) => names_column(constraint.parts.as_slice(), &column.name),
+        None => Ok(BTreeSet::new(alloc)),
+        Some(constraint) => names_of(alloc, constraint.parts.as_slice()),
     }
 }
 
-fn forbids_null(table: &CreateTable) -> bool
-    ensures { result ≡ spec.forbids_null table.now }
+/// Whether NOT NULL stands at a column without PRIMARY KEY, so that the constraint decides.
+fn is_in_doubt(column: &Column) -> bool
+    ensures { result ≡ spec.is_in_doubt column.now }
 {
-    table.columns.as_slice().iter().any(|column| column.not_null
-        && !is_key(&table.constraint, column))
+    column.not_null && column.key.is_none()
+}
+
+fn has_doubts(columns: &[Column]) -> bool
+    ensures { result ≡ list_any spec.is_in_doubt columns.now }
+{
+    columns.iter().any(|column| is_in_doubt(column))
+}
+
+/// The constraint's names are sorted once, and only where they decide.
+fn forbids_null(alloc: Global, table: &CreateTable) -> Result<bool, AllocError>
+    ensures { IfOk result (λ forbids. forbids ≡ spec.forbids_null table.now) }
+{
+    let columns = table.columns.as_slice();
+    if !has_doubts(columns) {
+        return Ok(false);
+    }
+    let names = constrained(alloc, &table.constraint)?;
+    Ok(columns.iter().any(|column| is_in_doubt(column) && !names.contains(column.name.as_str())))
 }
 
 /// Whether NOT NULL is written at a column outside the key.
-pub fn forbids_null_outside_key(read: &Statement) -> bool
-    ensures { result ≡ spec.forbids_null_outside_key read.now }
+pub fn forbids_null_outside_key(alloc: Global, read: &Statement) -> Result<bool, AllocError>
+    ensures { IfOk result (λ forbids. forbids ≡ spec.forbids_null_outside_key read.now) }
 {
     match read {
-        Statement::CreateTable(table) => forbids_null(table),
-        _ => false,
+        Statement::CreateTable(table) => forbids_null(alloc, table),
+        _ => Ok(false),
     }
 }

@@ -161,10 +161,10 @@ fn refused(alloc: Global, tokens: &[Token<'_>], at: usize, end: usize) -> Syntax
 }
 
 /// Refuses NOT NULL at a column outside the key.
-fn with_null_allowed(read: Statement) -> Result<Statement, SyntaxFault>
+fn with_null_allowed(alloc: Global, read: Statement) -> Result<Statement, SyntaxFault>
     ensures { spec.IsAllowed read result }
 {
-    if forbids_null_outside_key(&read) {
+    if forbids_null_outside_key(alloc, &read)? {
         return Err(SyntaxFault::LeftOut { name: "NOT NULL" });
     }
     Ok(read)
@@ -191,7 +191,7 @@ fn whole(alloc: Global, tokens: &[Token<'_>], end: usize) -> Result<Statement, S
     ensures only { (s : Statement) → ReadsWithin depth_limit (map seen tokens.now) s → nullness.forbids_null_outside_key s ≡ false → spec.IsAnswered s result }
 {
     match read_tokens(alloc, tokens) {
-        Ok(read) => with_null_allowed(read),
+        Ok(read) => with_null_allowed(alloc, read),
         Err(fault) => Err(refused_whole(alloc, tokens, fault, end)),
     }
 }
