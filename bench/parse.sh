@@ -1,0 +1,10 @@
+#!/usr/bin/env bash
+# Times the parser beside the lexer on three statements of about 1 MiB: an IN list, a chain of ORs, and a CREATE TABLE of many
+# NOT NULL columns which its CONSTRAINT names. Parsing lexes too. Usage: bench/parse.sh [RUNS], of which the least times count.
+set -eu
+runs=${1:-20}
+cd "$(dirname "$0")/../crates/px_parse_bench"
+# Proves and builds the program, where that wasn't done yet.
+rt run >/dev/null 2>&1
+printf '%s processors, load %s\n' "$(nproc)" "$(cut -d' ' -f1 /proc/loadavg)"
+./out/px_parse_bench "$runs"
