@@ -3,7 +3,6 @@ pub mod Folders
 pub mod Growing
 pub mod Opening
 pub mod Pieces
-pub mod PlainTexts
 pub mod PutBodies
 pub mod PutCells
 pub mod PutFields
@@ -21,7 +20,7 @@ pub mod Running
 pub mod Runs
 pub mod Sessions
 pub mod Started
-pub mod Statements
 pub mod Stops
+pub mod Tasks
 pub mod Upserts
 pub mod Writing

@@ -1,5 +1,5 @@
 -- The making of the log's first segment leaves its puts.
-use Rattle.std.proofs.Common.{◌≡◌, ℕ, Bool, true, false, List, [], Option, Some, None, ◌≤◌, ◌⊎◌, inl, inr, refl, sym, ◌∙◌, ap, subst}
+use Rattle.std.proofs.Common.{◌≡◌, ℕ, Bool, true, false, List, [], Option, Some, None, ◌⊎◌, inl, inr, refl, sym, ◌∙◌, ap, subst}
 use Rattle.px_outside.specs.Disk.{Image}
 use Rattle.px_outside.specs.Moments.{leaves_then, touches_more, touches_none, touches_then}
 use Rattle.px_outside.specs.OnDisk.{LeavesOnly, TouchesOnly}
@@ -109,6 +109,12 @@ module _ {D : Type 0} (d : Ghosts D) (first mid last : D) where
   leaves_on log log' puts same one touches two =
       leaves_then d.calls d.left d.seen first mid last any_file (λ moment image. HasPuts puts log image) (λ moment image. HasPuts puts log' image) (λ moment image. HasPuts puts log image) one touches two
       (λ moment image is has. has) (λ moment image since is has. has_same log log' puts image same has)
+
+  -- one step of the making more
+  pub leaves_step : (log log' : GateLog) (puts : List Put) (size : ℕ) (touched : ℕ → Type 0) → IsSameLog log log' → LeavesOnly d first mid (λ moment image. HasPuts puts log image) → TouchesOnly d mid last touched
+      → log'.newest ≡ None → Logged d mid log' puts size → StepLeaves d mid last log' → (steps_left log' ≡ 1 → IsLaid d log' mid []) → LeavesOnly d first last (λ moment image. HasPuts puts log image)
+  leaves_step log log' puts size touched same leaves touches closed logged steps laid =
+      leaves_on log log' puts same leaves (touch_any touched touches) (step_leaves d mid last log' puts size closed logged steps laid)
 
 pub touches_nothing : {D : Type 0} (d : Ghosts D) (disk : D) → LeftByNow d → TouchesOnly d disk disk any_file
 touches_nothing d disk up_to_now = touches_none d.calls d.left d.seen up_to_now disk any_file

@@ -1,95 +1,74 @@
--- One byte more of a script.
-use Rattle.std.proofs.Common.{◌≡◌, ℕ, ◌+◌, ◌<◌, ◌≤◌, ◌==◌, ◌&&◌, ◌||◌, not, if◌then◌else◌, Bool, true, false, List, [], ◌∷◌, length, drop, get_or, refl, ◌∙◌, ap, subst, arith, add-one}
+-- One byte more of a script, and its pieces.
+use Rattle.std.proofs.Common.{◌≡◌, ℕ, ◌+◌, ◌<◌, ◌≤◌, ◌==◌, ◌&&◌, ◌||◌, Bool, true, false, List, [], ◌∷◌, ◌++◌, length, map, drop, get_or, refl, sym, ◌∙◌, ap, subst, arith, add-one, length-append}
 use Rattle.std.proofs.Math.Seq.{drop-cons}
 use Rattle.std.proofs.lemmas.List.{drop_all}
-use Rattle.std.proofs.lemmas.Bool.{eqb-true}
-use Rattle.std.specs.List.{AllByRecursion}
-use Rattle.px_main.specs.declared.script.Span.{Span}
-use Rattle.px_main.specs.Script.{begins_badly, cut_from, has_bad_line, span}
+use Rattle.std.proofs.lemmas.List.Elements.{All-from_recursion}
+use Rattle.std.specs.List.{All, AllByRecursion}
+use Rattle.px_lex.specs.declared.script.Part.{Part}
+use Rattle.px_lex.specs.declared.script.Part.TheVariants as parts
+use Rattle.px_lex.specs.declared.script.Piece.{Piece}
+use Rattle.px_lex.specs.Script.{IsScript, Section, SeenPiece, combined, piece_of, pieces_from, seen_piece}
+use Rattle.px_main.specs.Script.{divides, has_divider}
 
 pub drop-next : (text : List ℕ) (i : ℕ) → i < length text → drop i text ≡ get_or text i 0 ∷ drop (i + 1) text
 drop-next text i within = rw (add-one, drop-cons text i 0)
 
-no_line : (at_start : Bool) (b : ℕ) (rest : List ℕ) → (at_start && begins_badly (b ∷ rest)) ≡ false → has_bad_line at_start (b ∷ rest) ≡ has_bad_line (b == 10) rest
-unfolding has_bad_line
-no_line at_start b rest none = ap (λ v. v || has_bad_line (b == 10) rest) none
+no_line : (at_start : Bool) (b : ℕ) (rest : List ℕ) → (at_start && divides (b ∷ rest)) ≡ false → has_divider at_start (b ∷ rest) ≡ has_divider (b == 10) rest
+unfolding has_divider
+no_line at_start b rest none = ap (λ v. v || has_divider (b == 10) rest) none
 
 -- a line that begins here is no such line, or none begins here
-pub bad_line-next : (text : List ℕ) (i : ℕ) (at_start : Bool) → i < length text → (at_start && begins_badly (drop i text)) ≡ false
-    → has_bad_line at_start (drop i text) ≡ has_bad_line (get_or text i 0 == 10) (drop (i + 1) text)
-bad_line-next text i at_start within none =
+pub divider-next : (text : List ℕ) (i : ℕ) (at_start : Bool) → i < length text → (at_start && divides (drop i text)) ≡ false
+    → has_divider at_start (drop i text) ≡ has_divider (get_or text i 0 == 10) (drop (i + 1) text)
+divider-next text i at_start within none =
     let e = drop-next text i within in
-    let here : (at_start && begins_badly (get_or text i 0 ∷ drop (i + 1) text)) ≡ false = subst (λ (l : List ℕ). (at_start && begins_badly l) ≡ false) e none in
-    ap (λ (l : List ℕ). has_bad_line at_start l) e ∙ no_line at_start (get_or text i 0) (drop (i + 1) text) here
+    let here : (at_start && divides (get_or text i 0 ∷ drop (i + 1) text)) ≡ false = subst (λ (l : List ℕ). (at_start && divides l) ≡ false) e none in
+    ap (λ (l : List ℕ). has_divider at_start l) e ∙ no_line at_start (get_or text i 0) (drop (i + 1) text) here
 
-a_line : (b : ℕ) (rest : List ℕ) → begins_badly (b ∷ rest) ≡ true → has_bad_line true (b ∷ rest) ≡ true
-unfolding has_bad_line
-a_line b rest bad = ap (λ v. v || has_bad_line (b == 10) rest) bad
+a_line : (b : ℕ) (rest : List ℕ) → divides (b ∷ rest) ≡ true → has_divider true (b ∷ rest) ≡ true
+unfolding has_divider
+a_line b rest bad = ap (λ v. v || has_divider (b == 10) rest) bad
 
-pub bad_line-here : (text : List ℕ) (i : ℕ) → i < length text → begins_badly (drop i text) ≡ true → has_bad_line true (drop i text) ≡ true
-bad_line-here text i within bad =
+pub divider-here : (text : List ℕ) (i : ℕ) → i < length text → divides (drop i text) ≡ true → has_divider true (drop i text) ≡ true
+divider-here text i within bad =
     let e = drop-next text i within in
-    let here : begins_badly (get_or text i 0 ∷ drop (i + 1) text) ≡ true = subst (λ (l : List ℕ). begins_badly l ≡ true) e bad in
-    ap (λ (l : List ℕ). has_bad_line true l) e ∙ a_line (get_or text i 0) (drop (i + 1) text) here
+    let here : divides (get_or text i 0 ∷ drop (i + 1) text) ≡ true = subst (λ (l : List ℕ). divides l ≡ true) e bad in
+    ap (λ (l : List ℕ). has_divider true l) e ∙ a_line (get_or text i 0) (drop (i + 1) text) here
 
-pub bad_line-end : (text : List ℕ) (i : ℕ) (at_start : Bool) → length text ≤ i → has_bad_line at_start (drop i text) ≡ false
-unfolding has_bad_line
-bad_line-end text i at_start past = rw (drop_all i text past) refl
-
-cut_step : (start at : ℕ) (quoted : Bool) (b : ℕ) (rest : List ℕ) → cut_from start at quoted (b ∷ rest) ≡
-    (if (b == 59) && not quoted then span start at ∷ cut_from (at + 1) (at + 1) quoted rest else cut_from start (at + 1) (if b == 39 then not quoted else quoted) rest)
-unfolding cut_from
-cut_step start at quoted b rest = refl
-
-cut_semicolon : (start at : ℕ) (quoted : Bool) (b : ℕ) (rest : List ℕ) → b ≡ 59 → quoted ≡ false
-    → cut_from start at quoted (b ∷ rest) ≡ span start at ∷ cut_from (at + 1) (at + 1) quoted rest
-unfolding cut_from
-cut_semicolon start at quoted b rest is outside = rw (is, outside) refl
-
--- a semicolon outside quotes ends the piece
-pub cut-semicolon : (text : List ℕ) (start i : ℕ) (quoted : Bool) → i < length text → get_or text i 0 ≡ 59 → quoted ≡ false
-    → cut_from start i quoted (drop i text) ≡ span start i ∷ cut_from (i + 1) (i + 1) quoted (drop (i + 1) text)
-cut-semicolon text start i quoted within is outside =
-    ap (λ (l : List ℕ). cut_from start i quoted l) (drop-next text i within)
-    ∙ cut_semicolon start i quoted (get_or text i 0) (drop (i + 1) text) is outside
-
--- another byte goes on with the piece
-pub cut-other : (text : List ℕ) (start i : ℕ) (quoted next : Bool) → i < length text → ((get_or text i 0 == 59) && not quoted) ≡ false
-    → (if get_or text i 0 == 39 then not quoted else quoted) ≡ next → cut_from start i quoted (drop i text) ≡ cut_from start (i + 1) next (drop (i + 1) text)
-cut-other text start i quoted next within on after =
-    ap (λ (l : List ℕ). cut_from start i quoted l) (drop-next text i within)
-    ∙ (cut_step start i quoted (get_or text i 0) (drop (i + 1) text)
-    ∙ (ap (λ (v : Bool). if v then span start i ∷ cut_from (i + 1) (i + 1) quoted (drop (i + 1) text) else cut_from start (i + 1) (if get_or text i 0 == 39 then not quoted else quoted) (drop (i + 1) text)) on
-    ∙ ap (λ (q : Bool). cut_from start (i + 1) q (drop (i + 1) text)) after))
-
-pub cut-end : (text : List ℕ) (start i : ℕ) (quoted : Bool) → i ≤ length text → length text ≤ i → cut_from start i quoted (drop i text) ≡ span start (length text) ∷ []
-unfolding cut_from
-cut-end text start i quoted within past =
-    let at_end : i ≡ length text = omega arith in
-    rw (drop_all i text past, at_end) refl
+pub divider-end : (text : List ℕ) (i : ℕ) (at_start : Bool) → length text ≤ i → has_divider at_start (drop i text) ≡ false
+unfolding has_divider
+divider-end text i at_start past = rw (drop_all i text past) refl
 
 pub and_true : (a b : Bool) → (a && b) ≡ true → (a ≡ true) × (b ≡ true)
 and_true true b h = (refl, h)
 and_true false b h = cc
 
-pub is_outside : (b : ℕ) (quoted : Bool) → ((b == 59) && not quoted) ≡ true → (b ≡ 59) × (quoted ≡ false)
-is_outside b true h = absurd (no_false (b == 59) h)
-  where
-    no_false : (v : Bool) → (v && false) ≡ true → ⊥
-    no_false true e = cc
-    no_false false e = cc
-is_outside b false h = (eqb-true b 59 (and_true (b == 59) true h).0, refl)
+-- ---- the pieces of a text of n bytes stand in it
 
-either : (P : Span → Type 0) (v : Bool) (s : Span) (ended on : List Span) → P s → AllByRecursion P ended → AllByRecursion P on → AllByRecursion P (if v then s ∷ ended else on)
-either P true s ended on here there other = (here, there)
-either P false s ended on here there other = other
+abbrev ends_within : ℕ → SeenPiece → Type 0
+ends_within n p = p.place + length p.text ≤ n
 
--- each piece of a text of n bytes stands in it
-pub all_within : (n start at : ℕ) (quoted : Bool) (rest : List ℕ) → start ≤ at → at + length rest ≤ n → AllByRecursion (λ s. (s.start ≤ s.end) × (s.end ≤ n)) (cut_from start at quoted rest)
-unfolding cut_from
-all_within n start at quoted [] ordered bound = ((ordered, omega arith), tt)
-all_within n start at quoted (b ∷ rest) ordered bound =
-    either (λ s. (s.start ≤ s.end) × (s.end ≤ n)) ((b == 59) && not quoted) (span start at) (cut_from (at + 1) (at + 1) quoted rest) (cut_from start (at + 1) (if b == 39 then not quoted else quoted) rest)
-    (ordered, omega arith)
-    (all_within n (at + 1) (at + 1) quoted rest (omega arith) (omega arith))
-    (all_within n start (at + 1) (if b == 39 then not quoted else quoted) rest (omega arith) (omega arith))
+one_more : (n : ℕ) (part : Part) (place : ℕ) (text : List ℕ) (rest : List SeenPiece) → place + length text ≤ n → AllByRecursion (ends_within n) rest → AllByRecursion (ends_within n) (piece_of part place text ++ rest)
+one_more n (parts.Between form) place text rest bound all = all
+one_more n parts.Statement place text rest bound all = (bound, all)
+one_more n parts.Command place text rest bound all = (bound, all)
+
+pieces_within : (n place : ℕ) (xs : List Section) → place + length (combined xs) ≤ n → AllByRecursion (ends_within n) (pieces_from place xs)
+pieces_within n place [] bound = tt
+pieces_within n place (x ∷ xs) bound =
+    let both = length-append x.text (combined xs) in
+    one_more n x.part place x.text (pieces_from (place + length x.text) xs) (omega arith) (pieces_within n (place + length x.text) xs (omega arith))
+
+all_seen : (n : ℕ) (pieces : List Piece) → AllByRecursion (ends_within n) (map seen_piece pieces) → AllByRecursion (λ p. ends_within n (seen_piece p)) pieces
+all_seen n [] all = tt
+all_seen n (p ∷ pieces) all = (all.0, all_seen n pieces all.1)
+
+below : (n most : ℕ) (pieces : List Piece) → n < most → AllByRecursion (λ p. ends_within n (seen_piece p)) pieces → AllByRecursion (λ p. p.place + length p.text.now < most) pieces
+below n most [] short all = tt
+below n most (p ∷ pieces) short all = (omega (arith, all.0, short), below n most pieces short all.1)
+
+pub all_below : (text : List ℕ) (xs : List Section) (pieces : List Piece) (most : ℕ) → length text < most → IsScript text xs → map seen_piece pieces ≡ pieces_from 0 xs → All (λ piece. piece.place + length piece.text.now < most) pieces
+all_below text xs pieces most short cut are =
+    let whole = ap length cut.0 in
+    let all : AllByRecursion (ends_within (length text)) (pieces_from 0 xs) = pieces_within (length text) 0 xs (omega arith) in
+    All-from_recursion _ pieces (below (length text) most pieces short (all_seen (length text) pieces (subst (λ (l : List SeenPiece). AllByRecursion (ends_within (length text)) l) (sym are) all)))

@@ -1,10 +1,11 @@
 -- From a session to a run.
-use Rattle.std.proofs.Common.{◌≡◌, ◌≢◌, inl, ◌||◌, ℕ, Bool, true, false, List, [], Ok, ◌+◌, refl, sym, ◌∙◌, ap, subst}
-use Rattle.std.specs.Prelude.{IsTrue}
+use Rattle.std.proofs.Common.{◌≡◌, ◌≢◌, ◌⊎◌, inl, inr, ◌||◌, ℕ, Bool, true, false, List, [], take, drop, Ok, ◌+◌, refl, sym, ◌∙◌, ap, subst}
+use Rattle.std.specs.Prelude.{IsTrue, None}
 use Rattle.px_outside.specs.Disk.{Image}
 use Rattle.px_outside.specs.OnDisk.{IsLeft, Rose, Stays}
 use Rattle.px_outside.specs.declared.disk.Disk.{Ghosts as DiskGhosts}
 use Rattle.px_outside.specs.declared.sink.Sink.{Ghosts as SinkGhosts}
+use Rattle.px_outside.specs.declared.source.Source.{Ghosts as SourceGhosts}
 use Rattle.px_gatelog.specs.Format.{segments_of}
 use Rattle.px_gatelog.specs.Laws.{on_stands}
 use Rattle.px_gatelog.specs.declared.fault.LogFault.{LogFault}
@@ -14,7 +15,7 @@ use Rattle.px_trail.specs.Trail.{IsLegal}
 use Rattle.px_trail.specs.declared.entry.Entry.{Entry}
 use Rattle.px_main.specs.declared.reply.Transcript.{Transcript}
 use Rattle.px_main.specs.declared.run.Status.{Status}
-use Rattle.px_main.specs.declared.run.Status.TheVariants.{Done}
+use Rattle.px_main.specs.declared.run.Status.TheVariants.{Done, Refused, BadWords, Device, SourceFault, SinkFault, Memory as MemoryStatus, Damaged as DamagedStatus}
 use Rattle.px_main.specs.declared.session.Ending.{Ending}
 use Rattle.px_main.specs.declared.session.Ending.TheVariants.{Whole, WriteFault, Memory as MemoryEnding}
 use Rattle.px_main.specs.declared.session.Session.{Session}
@@ -26,9 +27,10 @@ use Rattle.px_main.specs.Origin.{Origin, logged_bytes, size_at_first}
 use Rattle.px_main.specs.Printed.{printed}
 use Rattle.px_main.specs.Puts.{Put}
 use Rattle.px_main.specs.PutRecords.{kv_form}
-use Rattle.px_main.specs.Run.{IsComplete, IsOpenedRun, IsQuietStatus, IsRun, IsWritten, StopsDisk, ended_by_memory, only_transcript, some_lacked_memory, some_was_refused, quiet_status, status_of, stopped_by, unsunk_status}
+use Rattle.px_main.specs.Run.{IsComplete, IsOpenedRun, IsQuietStatus, IsRun, IsUnrun, IsWhole, IsWritten, Stops, StopsDisk, most_read, ended_by_memory, only_transcript, some_lacked_memory, some_was_refused, quiet_status, status_of, stopped_by, unsunk_status}
 use Rattle.px_main.specs.Session.{AnswersScript, HasSession}
 use Rattle.px_main.specs.Stops.{LastsLate}
+use Rattle.px_main.specs.Words.{folder_in}
 use Rattle.px_main.proofs.Folders.{base-of}
 
 pub or_true : (a b : Bool) → a ≡ true → (a || b) ≡ true
@@ -92,7 +94,7 @@ folder_kept d origin disk store kept tells =
     )
 
 pub run_by : {D O : Type 0} (d : DiskGhosts D) (k : SinkGhosts O) (origin : Origin) (script : List ℕ) (disk disk' : D) (out out' : O) (store : Store) (session : Session) (es : List Entry) (transcripts : List Transcript)
-    (sink_failed print_failed : Bool) (call : ℕ) (memory lacked some refused : Bool) (status : Status) → HasSession d origin disk disk' store script 0 session → es ≡ store.trail.entries → transcripts ≡ only_transcript session.items
+    (sink_failed print_failed : Bool) (call : ℕ) (memory lacked some refused : Bool) (status : Status) → HasSession d origin disk disk' store session.items session.ending (λ given items ending. AnswersScript origin given script 0 items ending) → es ≡ store.trail.entries → transcripts ≡ only_transcript session.items
     → IsWritten k out out' (printed transcripts) sink_failed print_failed → memory ≡ (print_failed || ended_by_memory session.ending) → some ≡ some_lacked_memory session.items → lacked ≡ (memory || some)
     → refused ≡ some_was_refused session.items → status ≡ status_of sink_failed session.ending call lacked refused → call ≡ d.first_fault disk' → IsRun d k origin script disk disk' out out' es transcripts memory status
 run_by d k origin script disk disk' out out' store session es transcripts sink_failed print_failed call memory lacked some refused status has trail theirs written memory_is some_is lacked_is refused_is status_is call_is =
@@ -175,3 +177,30 @@ run_within m d k origin script from to disk disk' out out' es transcripts memory
 -- what is known of a stop on a disk by its first and its last is known of those that are the same
 pub stays_same : {D : Type 0} (d : DiskGhosts D) (disk disk' first last : D) → disk ≡ first → disk' ≡ last → Stays d first last → Stays d disk disk'
 stays_same d disk disk' first last same same' stays = subst (λ x. Stays d x disk') (sym same) (subst (λ x. Stays d first x) (sym same') stays)
+
+-- ---- from a run on an open folder to one of the program
+
+program_stops : {D I : Type 0} (d : DiskGhosts D) (s : SourceGhosts I) (disk disk' : D) (input input' : I) (words : List (List ℕ)) (status : Status) → folder_in words ≢ None → StopsDisk d disk disk' status
+    → Stops d s disk disk' input input' words status
+program_stops d s disk disk' input input' words Done named cause = absurd cause
+program_stops d s disk disk' input input' words Refused named cause = absurd cause
+program_stops d s disk disk' input input' words BadWords named cause = absurd cause
+program_stops d s disk disk' input input' words (Device call) named cause = (named, cause)
+program_stops d s disk disk' input input' words MemoryStatus named cause = (named, cause)
+program_stops d s disk disk' input input' words (DamagedStatus file place) named cause = (named, cause)
+program_stops d s disk disk' input input' words SourceFault named cause = absurd cause
+program_stops d s disk disk' input input' words SinkFault named cause = absurd cause
+
+pub run_whole : {D I O : Type 0} (d : DiskGhosts D) (s : SourceGhosts I) (k : SinkGhosts O) (disk disk' : D) (input input' : I) (out out' : O) (words : List (List ℕ)) (script : List ℕ) (es : List Entry) (transcripts : List Transcript) (memory : Bool) (status : Status)
+    → folder_in words ≢ None → (IsTrue s.tells → (script ≡ take most_read (s.remaining input)) × (s.remaining input' ≡ drop most_read (s.remaining input))) → IsOpenedRun d k script disk disk' out out' es transcripts memory status
+    → IsUnrun d s disk disk' input input' out out' words es transcripts status ⊎ IsWhole d s k disk disk' input input' out out' words es transcripts memory status
+run_whole d s k disk disk' input input' out out' words script es transcripts memory status named read (inl unopened) =
+    inl (record {
+      cause = program_stops d s disk disk' input input' words status named unopened.cause;
+      quiet = unopened.quiet;
+      no_entries = unopened.no_entries;
+      no_replies = unopened.no_replies;
+      no_bytes = unopened.no_bytes;
+    })
+run_whole d s k disk disk' input input' out out' words script es transcripts memory status named read (inr (origin, folder, told, run, lasts)) =
+    inr (record { script = script; origin = origin; words_name_a_folder = named; input_is_read = read; origin_is_the_folder = folder; log_is_told = told; run = run; stops_recover = lasts })

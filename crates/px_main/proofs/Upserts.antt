@@ -10,7 +10,7 @@ use Rattle.px_trail.specs.Trail.{calls_of}
 use Rattle.px_trail.specs.declared.entry.Entry.{Entry}
 use Rattle.px_main.specs.declared.reply.Receipt.{Receipt}
 use Rattle.px_main.specs.declared.reply.Refusal.{Refusal}
-use Rattle.px_main.specs.declared.reply.Refusal.TheVariants.{Form, Limit, WriteFault, Memory}
+use Rattle.px_main.specs.declared.reply.Refusal.TheVariants.{Syntax, LeftOut, Form, Limit, WriteFault, Memory}
 use Rattle.px_main.specs.declared.store.Store.{Store}
 use Rattle.px_main.specs.Kept.{AfterRefusal, IsKept, IsRefused, IsStopped, IsUpserted}
 use Rattle.px_main.specs.Kv.{Tells}
@@ -57,6 +57,8 @@ module _ {D : Type 0} (d : Ghosts D) (left_told : LeftIsTold d) (origin : Origin
 
   after_since : (old mid new : D) (es : List Entry) (store : Store) (key value : List ℕ) (refusal : Refusal) → d.faults old ≤ d.faults mid → AfterRefusal d origin mid new es store key value refusal
       → AfterRefusal d origin old new es store key value refusal
+  after_since old mid new es store key value (Syntax place) later is = is
+  after_since old mid new es store key value (LeftOut name) later is = is
   after_since old mid new es store key value Form later is = is
   after_since old mid new es store key value (Limit l) later is = is
   after_since old mid new es store key value WriteFault later is = (rose_after d old mid new later is.0, is.1, is.2)
@@ -85,6 +87,8 @@ module _ {D : Type 0} (d : Ghosts D) (left_told : LeftIsTold d) (origin : Origin
 
   -- a refusal for want of room in the trail
   after_room : (disk disk' : D) (es : List Entry) (store : Store) (key value : List ℕ) (f : Refusal) → (f ≡ Limit Trail) ⊎ (f ≡ Memory) → IsRefused d origin disk' es store → AfterRefusal d origin disk disk' es store key value f
+  after_room disk disk' es store key value (Syntax place) is left = left
+  after_room disk disk' es store key value (LeftOut name) is left = left
   after_room disk disk' es store key value Form (inl e) left = cc
   after_room disk disk' es store key value Form (inr e) left = cc
   after_room disk disk' es store key value (Limit l) is left = left

@@ -20,5 +20,4 @@ pub mod StampedRow
 pub mod Statement
 pub mod Stops
 pub mod Table
-pub mod Texts
 pub mod Words

@@ -5,7 +5,7 @@ use Rattle.px_values.specs.declared.print.CountWord.TheVariants.{Selected}
 use Rattle.px_values.specs.Limits.{most_of, word_of}
 use Rattle.px_values.specs.Print.{printed_count, printed_rows}
 use Rattle.px_main.specs.declared.reply.Refusal.{Refusal}
-use Rattle.px_main.specs.declared.reply.Refusal.TheVariants.{Form, Limit as LimitRefusal, WriteFault, Memory}
+use Rattle.px_main.specs.declared.reply.Refusal.TheVariants.{Syntax, LeftOut, Form, Limit as LimitRefusal, WriteFault, Memory}
 use Rattle.px_main.specs.declared.reply.Reply.{Reply}
 use Rattle.px_main.specs.declared.reply.Reply.TheVariants.{Rows, Count, Refused}
 use Rattle.px_main.specs.declared.reply.Item.{Item}
@@ -13,6 +13,8 @@ use Rattle.px_main.specs.declared.reply.Transcript.{Transcript}
 
 -- the text of a refusal
 abbrev pub refusal_text : Refusal → List ℕ
+refusal_text (Syntax place) = codes "E01 syntax at byte " ++ decimal place
+refusal_text (LeftOut name) = codes "E02 left out: " ++ name.now
 refusal_text Form = codes "E02 left out: FORM"
 refusal_text (LimitRefusal limit) = codes "E11 limit: " ++ (word_of limit ++ (codes " " ++ decimal (most_of limit)))
 refusal_text WriteFault = codes "F2 write fault"

@@ -1,7 +1,8 @@
 -- What an answered statement leaves.
-use Rattle.std.specs.Prelude.{◌≡◌, ◌≢◌, ℕ, List, length, IsTrue}
+use Rattle.std.specs.Prelude.{◌≡◌, ◌≢◌, List, length, IsTrue}
 use Rattle.px_outside.specs.declared.disk.Disk.{Ghosts}
 use Rattle.px_outside.specs.OnDisk.{Rose}
+use Rattle.px_lex.specs.Script.{SeenPiece}
 use Rattle.px_trail.specs.Trail.{IsLegal}
 use Rattle.px_trail.specs.declared.entry.Entry.{Entry}
 use Rattle.px_main.specs.declared.reply.Receipt.{Receipt}
@@ -28,7 +29,7 @@ pub record Answered {D : Type 0} (d : Ghosts D) (origin : Origin) (disk disk' : 
 
 -- The trail has grown and is legal, and the item answers the piece. After a failed write the disk's count of faults has
 -- risen. Else all goes on.
-pub record HasRun {D : Type 0} (d : Ghosts D) (origin : Origin) (disk disk' : D) (old : List Entry) (store : Store) (piece : List ℕ) (item : Item) : Type 0 where
+pub record HasRun {D : Type 0} (d : Ghosts D) (origin : Origin) (disk disk' : D) (old : List Entry) (store : Store) (piece : SeenPiece) (item : Item) : Type 0 where
   pub grows : Grows old store.trail.entries
   pub legal : IsLegal origin.base store.trail.entries
   pub first : item.evidence.first ≡ length old

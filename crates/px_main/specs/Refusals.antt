@@ -7,7 +7,7 @@ use Rattle.px_trail.specs.Trail.{greatest_stamp, last_of}
 use Rattle.px_main.specs.Kv.{kv}
 use Rattle.px_main.specs.Origin.{Origin, PassesLog, PassesTrail}
 use Rattle.px_main.specs.declared.reply.Refusal.{Refusal}
-use Rattle.px_main.specs.declared.reply.Refusal.TheVariants.{Form, Limit as LimitRefusal, WriteFault, Memory}
+use Rattle.px_main.specs.declared.reply.Refusal.TheVariants.{Syntax, LeftOut, Form, Limit as LimitRefusal, WriteFault, Memory}
 
 -- a limit that a batch of one row can meet
 abbrev pub IsBatchLimit : Limit → Type 0
@@ -17,6 +17,8 @@ IsBatchLimit Trail = Unit {0}
 IsBatchLimit limit = ⊥
 
 abbrev pub IsUpsertRefusal : Refusal → Type 0
+IsUpsertRefusal (Syntax place) = ⊥
+IsUpsertRefusal (LeftOut name) = ⊥
 IsUpsertRefusal Form = ⊥
 IsUpsertRefusal (LimitRefusal limit) = IsBatchLimit limit
 IsUpsertRefusal WriteFault = Unit {0}

@@ -1,24 +1,24 @@
 -- When an item of a transcript has the right answer.
-use Rattle.std.specs.Prelude.{◌≡◌, ◌≢◌, ◌≤◌, ◌++◌, ◌⊎◌, ◌∷◌, [], ℕ, Bool, true, false, List, length, take, drop}
-use Rattle.std.specs.List.{AllByRecursion, list_all}
+use Rattle.std.specs.Prelude.{◌≡◌, ◌≢◌, ◌≤◌, ◌++◌, ◌∷◌, [], ℕ, List, length, take, drop}
+use Rattle.std.specs.List.{AllByRecursion}
+use Rattle.px_lex.specs.Script.{SeenPiece}
 use Rattle.px_values.specs.declared.print.CountWord.TheVariants.{Affected}
 use Rattle.px_trail.specs.declared.entry.Entry.{Entry}
 use Rattle.px_trail.specs.Trail.{AreRowsNow}
 use Rattle.px_main.specs.declared.reply.Item.{Item}
 use Rattle.px_main.specs.declared.reply.Receipt.{Receipt}
 use Rattle.px_main.specs.declared.reply.Refusal.{Refusal}
-use Rattle.px_main.specs.declared.reply.Refusal.TheVariants.{Form as FormRefusal, WriteFault, Memory}
+use Rattle.px_main.specs.declared.reply.Refusal.TheVariants.{WriteFault, Memory}
 use Rattle.px_main.specs.declared.reply.Reply.{Reply}
 use Rattle.px_main.specs.declared.reply.Reply.TheVariants.{Rows, Count, Refused}
-use Rattle.px_main.specs.declared.script.Span.{Span}
-use Rattle.px_main.specs.declared.statement.Statement.{Statement}
-use Rattle.px_main.specs.declared.statement.Statement.TheVariants.{Upsert, Select, Form}
+use Rattle.px_main.specs.declared.statement.Task.{Task}
+use Rattle.px_main.specs.declared.statement.Task.TheVariants.{Upsert, Select, Refused as RefusedTask}
 use Rattle.px_main.specs.Added.{AddsBatch, AddsBegun}
 use Rattle.px_main.specs.Kept.{IsReceipt}
 use Rattle.px_main.specs.Kv.{kv}
 use Rattle.px_main.specs.Origin.{FitsLog, FitsTrail, Origin}
 use Rattle.px_main.specs.Refusals.{RefusesUpsert}
-use Rattle.px_main.specs.Script.{is_blank, piece_of}
+use Rattle.px_main.specs.Script.{span_of}
 use Rattle.px_main.specs.Statement.{Reads}
 
 -- what an UPSERT adds that is refused: nothing, or where its write failed at most that its batch was begun
@@ -39,36 +39,31 @@ AnswersSelect origin es (Rows rows) receipts = (receipts ≡ []) × AreRowsNow o
 AnswersSelect origin es (Count rows word) receipts = ⊥
 AnswersSelect origin es (Refused refusal) receipts = (receipts ≡ []) × (refusal ≡ Memory)
 
-abbrev pub AnswersForm : Reply → List Receipt → Type 0
-AnswersForm reply receipts = (reply ≡ Refused FormRefusal) × (receipts ≡ [])
-
--- the right answer to a statement that added these entries, the last of all
-abbrev pub Answers : Origin → (es added : List Entry) → Statement → Reply → List Receipt → Type 0
+-- the right answer to a task that added these entries, the last of all
+abbrev pub Answers : Origin → (es added : List Entry) → Task → Reply → List Receipt → Type 0
 Answers origin es added (Upsert key value) reply receipts = AnswersUpsert origin es added key.now value.now reply receipts
 Answers origin es added Select reply receipts = AnswersSelect origin es reply receipts × (added ≡ [])
-Answers origin es added Form reply receipts = AnswersForm reply receipts × (added ≡ [])
+Answers origin es added (RefusedTask refusal) reply receipts = (reply ≡ Refused refusal) × (receipts ≡ []) × (added ≡ [])
 
--- The item answers what the piece says, by the entries up to its place in the trail, and the last of them, from its
+-- the right answer to a piece that added these entries, the last of all: to what it asks for
+abbrev pub AnswersPiece : Origin → (es added : List Entry) → SeenPiece → Reply → List Receipt → Type 0
+AnswersPiece origin es added piece reply receipts = (task : Task) × Reads piece task × Answers origin es added task reply receipts
+
+-- The item answers what the piece asks for, by the entries up to its place in the trail, and the last of them, from its
 -- first place on, are those that it added. The places stay as the trail grows.
-pub record IsReplied (origin : Origin) (es : List Entry) (piece : List ℕ) (item : Item) : Type 0 where
-  pub statement : Statement
-  pub reads : Reads piece statement
+pub record IsReplied (origin : Origin) (es : List Entry) (piece : SeenPiece) (item : Item) : Type 0 where
   pub in_order : item.evidence.first ≤ item.evidence.last
   pub within : item.evidence.last ≤ length es
-  pub answer : Answers origin (take item.evidence.last es) (drop item.evidence.first (take item.evidence.last es)) statement item.reply item.evidence.receipts
+  pub answer : AnswersPiece origin (take item.evidence.last es) (drop item.evidence.first (take item.evidence.last es)) piece item.reply item.evidence.receipts
 
-abbrev pub is_blank_span : List ℕ → Span → Bool
-is_blank_span script s = list_all is_blank (piece_of script s)
-
--- One item for each piece that isn't blank, in order. The first begins at a place in the trail, each other where the one
--- before ends, and the last ends at a place.
-unfoldable pub AreReplied : Origin → List Entry → List ℕ → (from to : ℕ) → List Span → List Item → Type 0
-AreReplied origin es script from to [] [] = from ≡ to
-AreReplied origin es script from to [] (i ∷ items) = ⊥
-AreReplied origin es script from to (s ∷ spans) [] = (is_blank_span script s ≡ true) × AreReplied origin es script from to spans []
-AreReplied origin es script from to (s ∷ spans) (i ∷ items) =
-    ((is_blank_span script s ≡ true) × AreReplied origin es script from to spans (i ∷ items))
-    ⊎ ((is_blank_span script s ≡ false) × (i.statement ≡ s) × (i.evidence.first ≡ from) × IsReplied origin es (piece_of script s) i × AreReplied origin es script i.evidence.last to spans items)
+-- One item for each piece, in order. The first begins at a place in the trail, each other where the one before ends, and
+-- the last ends at a place.
+unfoldable pub AreReplied : Origin → List Entry → (from to : ℕ) → List SeenPiece → List Item → Type 0
+AreReplied origin es from to [] [] = from ≡ to
+AreReplied origin es from to [] (i ∷ items) = ⊥
+AreReplied origin es from to (p ∷ pieces) [] = ⊥
+AreReplied origin es from to (p ∷ pieces) (i ∷ items) =
+    (i.statement ≡ span_of p) × (i.evidence.first ≡ from) × IsReplied origin es p i × AreReplied origin es i.evidence.last to pieces items
 
 -- no statement was answered that its write failed
 abbrev pub IsQuiet : List Item → Type 0

@@ -13,7 +13,7 @@ use Rattle.px_trail.specs.Trail.{IsLegal}
 use Rattle.px_trail.specs.declared.entry.Entry.{Entry}
 use Rattle.px_main.specs.declared.reply.Item.{Item}
 use Rattle.px_main.specs.declared.reply.Refusal.{Refusal}
-use Rattle.px_main.specs.declared.reply.Refusal.TheVariants.{Form, Limit, WriteFault as WriteFaultRefusal, Memory as MemoryRefusal}
+use Rattle.px_main.specs.declared.reply.Refusal.TheVariants.{Syntax, LeftOut, Form, Limit, WriteFault as WriteFaultRefusal, Memory as MemoryRefusal}
 use Rattle.px_main.specs.declared.reply.Reply.{Reply}
 use Rattle.px_main.specs.declared.reply.Reply.TheVariants.{Rows, Count, Refused as RefusedReply}
 use Rattle.px_main.specs.declared.reply.Transcript.{Transcript}
@@ -33,12 +33,16 @@ use Rattle.px_main.specs.Words.{folder_in}
 -- ---- the status
 
 abbrev pub is_memory_refusal : Refusal → Bool
+is_memory_refusal (Syntax place) = false
+is_memory_refusal (LeftOut name) = false
 is_memory_refusal Form = false
 is_memory_refusal (Limit limit) = false
 is_memory_refusal WriteFaultRefusal = false
 is_memory_refusal MemoryRefusal = true
 
 abbrev pub is_plain_refusal : Refusal → Bool
+is_plain_refusal (Syntax place) = true
+is_plain_refusal (LeftOut name) = true
 is_plain_refusal Form = true
 is_plain_refusal (Limit limit) = true
 is_plain_refusal WriteFaultRefusal = false
@@ -50,7 +54,7 @@ lacked_memory (Rows rows) = false
 lacked_memory (Count rows word) = false
 lacked_memory (RefusedReply refusal) = is_memory_refusal refusal
 
--- the statement was refused by its form or by a limit
+-- the statement was refused by its text or by a limit
 abbrev pub was_refused : Reply → Bool
 was_refused (Rows rows) = false
 was_refused (Count rows word) = false

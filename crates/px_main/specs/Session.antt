@@ -1,34 +1,33 @@
 -- What a session's statements leave.
-use Rattle.std.specs.Prelude.{◌≡◌, ◌≢◌, ◌⊎◌, ◌++◌, ◌∷◌, [], ℕ, true, false, List, length, IsTrue, Option, Some, None}
+use Rattle.std.specs.Prelude.{◌≡◌, ◌≢◌, ◌⊎◌, ◌++◌, ◌∷◌, [], ℕ, List, length, IsTrue, Option, Some, None}
 use Rattle.px_outside.specs.declared.disk.Disk.{Ghosts}
 use Rattle.px_outside.specs.OnDisk.{Rose}
+use Rattle.px_lex.specs.Script.{IsScript, Section, SeenPiece, pieces_from}
 use Rattle.px_trail.specs.Trail.{IsLegal}
 use Rattle.px_trail.specs.declared.entry.Entry.{Entry}
 use Rattle.px_main.specs.declared.reply.Item.{Item}
-use Rattle.px_main.specs.declared.reply.Refusal.TheVariants.{Form}
+use Rattle.px_main.specs.declared.reply.Refusal.{Refusal}
 use Rattle.px_main.specs.declared.reply.Reply.TheVariants.{Refused}
-use Rattle.px_main.specs.declared.script.Span.{Span}
 use Rattle.px_main.specs.declared.session.Ending.{Ending}
 use Rattle.px_main.specs.declared.session.Ending.TheVariants.{Whole, WriteFault, Memory}
-use Rattle.px_main.specs.declared.session.Session.{Session}
 use Rattle.px_main.specs.declared.store.Store.{Store}
 use Rattle.px_main.specs.Kept.{IsKept}
 use Rattle.px_main.specs.Origin.{Origin}
 use Rattle.px_main.specs.Replied.{AreReplied, IsQuiet, LastFailed}
-use Rattle.px_main.specs.Script.{cut_from, is_form, span}
+use Rattle.px_main.specs.Script.{IsReadable, StopsScript, span}
 use Rattle.px_main.specs.Stops.{LastsLate}
 
 -- the pieces that were passed are answered, and all goes on
-pub record IsGoing {D : Type 0} (d : Ghosts D) (origin : Origin) (disk : D) (store : Store) (script : List ℕ) (from : ℕ) (passed : List Span) (items : List Item) : Type 0 where
+pub record IsGoing {D : Type 0} (d : Ghosts D) (origin : Origin) (disk : D) (store : Store) (from : ℕ) (passed : List SeenPiece) (items : List Item) : Type 0 where
   pub kept : IsKept d origin disk store
-  pub replied : AreReplied origin store.trail.entries script from (length store.trail.entries) passed items
+  pub replied : AreReplied origin store.trail.entries from (length store.trail.entries) passed items
   pub quiet : IsQuiet items
 
 -- The session ended at a piece, which was answered or not. After a failed write the disk's count of faults has risen,
 -- else all could go on.
-pub record IsEnded {D : Type 0} (d : Ghosts D) (origin : Origin) (disk disk' : D) (store : Store) (script : List ℕ) (from : ℕ) (passed : List Span) (piece : Span) (items : List Item) (ending : Ending) : Type 0 where
+pub record IsEnded {D : Type 0} (d : Ghosts D) (origin : Origin) (disk disk' : D) (store : Store) (from : ℕ) (passed : List SeenPiece) (piece : SeenPiece) (items : List Item) (ending : Ending) : Type 0 where
   pub legal : IsLegal origin.base store.trail.entries
-  pub replied : AreReplied origin store.trail.entries script from (length store.trail.entries) passed items ⊎ AreReplied origin store.trail.entries script from (length store.trail.entries) (passed ++ piece ∷ []) items
+  pub replied : AreReplied origin store.trail.entries from (length store.trail.entries) passed items ⊎ AreReplied origin store.trail.entries from (length store.trail.entries) (passed ++ piece ∷ []) items
   pub early : ending ≢ Whole
   pub quiet : ending ≢ WriteFault → IsQuiet items
   pub last : ending ≡ WriteFault → LastFailed items
@@ -37,50 +36,55 @@ pub record IsEnded {D : Type 0} (d : Ghosts D) (origin : Origin) (disk disk' : D
   pub lasts : IsTrue origin.rest → LastsLate d origin.base store.trail.entries disk'
 
 -- after a piece: how the session ended there, if it did
-abbrev pub AfterPiece : {D : Type 0} → Ghosts D → Origin → D → D → Store → List ℕ → (from : ℕ) → List Span → Span → List Item → Option Ending → Type 0
-AfterPiece d origin disk disk' store script from passed piece items None = IsGoing d origin disk' store script from (passed ++ piece ∷ []) items
-AfterPiece d origin disk disk' store script from passed piece items (Some ending) = IsEnded d origin disk disk' store script from passed piece items ending
+abbrev pub AfterPiece : {D : Type 0} → Ghosts D → Origin → D → D → Store → (from : ℕ) → List SeenPiece → SeenPiece → List Item → Option Ending → Type 0
+AfterPiece d origin disk disk' store from passed piece items None = IsGoing d origin disk' store from (passed ++ piece ∷ []) items
+AfterPiece d origin disk disk' store from passed piece items (Some ending) = IsEnded d origin disk disk' store from passed piece items ending
 
 -- The items answer the first pieces, in order: all of them where the session came to its end. What stands in the trail
 -- from the place `from` on is what they added, and nothing else. A failed write is answered where it ends the session, and
 -- nowhere else.
-pub record AreAnswered (origin : Origin) (es : List Entry) (script : List ℕ) (from : ℕ) (spans : List Span) (items : List Item) (ending : Ending) : Type 0 where
-  pub passed : List Span
-  pub rest : List Span
-  pub pieces : passed ++ rest ≡ spans
-  pub replied : AreReplied origin es script from (length es) passed items
+pub record AreAnswered (origin : Origin) (es : List Entry) (from : ℕ) (pieces : List SeenPiece) (items : List Item) (ending : Ending) : Type 0 where
+  pub passed : List SeenPiece
+  pub rest : List SeenPiece
+  pub all : passed ++ rest ≡ pieces
+  pub replied : AreReplied origin es from (length es) passed items
   pub whole : ending ≡ Whole → rest ≡ []
   pub quiet : ending ≢ WriteFault → IsQuiet items
   pub last : ending ≡ WriteFault → LastFailed items
 
--- after all pieces
-pub record HavePassed {D : Type 0} (d : Ghosts D) (origin : Origin) (disk disk' : D) (store : Store) (script : List ℕ) (from : ℕ) (spans : List Span) (items : List Item) (ending : Ending) : Type 0 where
+-- What a session leaves: right answers, by the trail as it stands then. After a failed write the disk's count of faults has
+-- risen, else all could go on.
+pub record HasSession {D : Type 0} (d : Ghosts D) (origin : Origin) (disk disk' : D) (store : Store) (items : List Item) (ending : Ending) (Right : List Entry → List Item → Ending → Type 0) : Type 0 where
   pub legal : IsLegal origin.base store.trail.entries
-  pub answered : AreAnswered origin store.trail.entries script from spans items ending
+  pub answers : Right store.trail.entries items ending
   pub failed : ending ≡ WriteFault → Rose d disk disk'
   pub kept : ending ≢ WriteFault → IsKept d origin disk' store
   pub lasts : IsTrue origin.rest → LastsLate d origin.base store.trail.entries disk'
 
--- the one item of a script that isn't read, at its place in the trail
-abbrev pub left_out : List ℕ → (entries : ℕ) → Item
-left_out script entries = record {
+-- the one item of a script of which nothing is run, at its place in the trail
+abbrev pub stopped : List ℕ → (entries : ℕ) → Refusal → Item
+stopped script entries refusal = record {
   statement = span 0 (length script);
-  reply = Refused Form;
+  reply = Refused refusal;
   evidence = record { receipts = []; places = []; first = entries; last = entries };
 }
 
-abbrev pub IsLeftOut : (entries : ℕ) → List ℕ → List Item → Ending → Type 0
-IsLeftOut entries script items ending = ((items ≡ left_out script entries ∷ []) × (ending ≡ Whole)) ⊎ ((items ≡ []) × (ending ≡ Memory))
+abbrev pub IsStopped : List ℕ → (entries : ℕ) → Refusal → List Item → Ending → Type 0
+IsStopped script entries refusal items ending = ((items ≡ stopped script entries refusal ∷ []) × (ending ≡ Whole)) ⊎ ((items ≡ []) × (ending ≡ Memory))
 
--- the right answers to a script, from a place in the trail on: to all its statements where the session came to its end
-pub record AnswersScript (origin : Origin) (es : List Entry) (script : List ℕ) (from : ℕ) (items : List Item) (ending : Ending) : Type 0 where
-  pub statements : is_form script ≡ false → AreAnswered origin es script from (cut_from 0 0 false script) items ending
-  pub left : is_form script ≡ true → (length es ≡ from) × IsLeftOut from script items ending
+-- no memory was found to cut the script into its pieces
+abbrev pub AnswersNone : List Entry → (from : ℕ) → List Item → Ending → Type 0
+AnswersNone es from items ending = (length es ≡ from) × (items ≡ []) × (ending ≡ Memory)
 
--- after the script
-pub record HasSession {D : Type 0} (d : Ghosts D) (origin : Origin) (disk disk' : D) (store : Store) (script : List ℕ) (from : ℕ) (session : Session) : Type 0 where
-  pub legal : IsLegal origin.base store.trail.entries
-  pub answers : AnswersScript origin store.trail.entries script from session.items session.ending
-  pub failed : session.ending ≡ WriteFault → Rose d disk disk'
-  pub kept : session.ending ≢ WriteFault → IsKept d origin disk' store
-  pub lasts : IsTrue origin.rest → LastsLate d origin.base store.trail.entries disk'
+-- the right answers to the statements and session commands of a script, in the one way in which it is cut into them
+abbrev pub AnswersPieces : Origin → List Entry → List ℕ → (from : ℕ) → List Item → Ending → Type 0
+AnswersPieces origin es script from items ending =
+    AnswersNone es from items ending ⊎ ((xs : List Section) × IsScript script xs × AreAnswered origin es from (pieces_from 0 xs) items ending)
+
+-- nothing of the script is run, and why
+abbrev pub AnswersNothing : List Entry → List ℕ → (from : ℕ) → List Item → Ending → Type 0
+AnswersNothing es script from items ending = (refusal : Refusal) × StopsScript script refusal × (length es ≡ from) × IsStopped script from refusal items ending
+
+-- the right answers to a script, from a place in the trail on
+abbrev pub AnswersScript : Origin → List Entry → List ℕ → (from : ℕ) → List Item → Ending → Type 0
+AnswersScript origin es script from items ending = (IsReadable script × AnswersPieces origin es script from items ending) ⊎ AnswersNothing es script from items ending

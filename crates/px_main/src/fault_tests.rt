@@ -1,12 +1,9 @@
 // Runs in which the disk, the input or the output fails.
-ghost use Rattle.px_outside.specs.MemDisk.{calls as calls_of, faults as faults_of, first_fault as first_fault_of};
-ghost use Rattle.std.specs.Prelude.{◌≡◌};
-
-use crate::run::{Status, phoenix};
+use crate::run::Status;
 use crate::tests::{
-    FIRST_SCRIPT, Run, bytes_of, disk_of, is_printed, run_again, run_words, words_of,
+    FIRST_SCRIPT, Run, bytes_of, disk_of, is_printed, run_again, run_between, run_words,
 };
-use px_outside::{FixedClock, MemDisk, MemSink, MemSource, Numbers};
+use px_outside::{MemDisk, MemSink, MemSource, Numbers};
 use std::alloc::{AllocError, Global};
 
 const NO_ROW: &str = "0 rows selected\n";
@@ -69,23 +66,16 @@ fn each_failed_call_of_the_disk_is_answered(rt: HostRuntime) {
     assert!(rt; ends_so(alloc, 17, Status::Done, 3, whole, ITS_ROW) == Ok(true));
 }
 
-fn run_between(
-    alloc: Global,
-    disk: MemDisk,
-    mut input: MemSource,
-    mut printed: MemSink,
-) -> Result<Run, AllocError>
-    requires fresh { (calls_of disk ≡ 0) × (faults_of disk ≡ 0) × (first_fault_of disk ≡ 0) }
-{
-    let words = words_of(alloc, "run folder")?;
-    let outcome = phoenix(alloc, &words, disk, FixedClock(0), &mut input, &mut printed);
-    Ok(Run { outcome, printed })
-}
-
 /// A run whose input fails at its call of this number.
 fn run_with_input(alloc: Global, call: u64) -> Result<Run, AllocError> {
     let input = MemSource::of(bytes_of(alloc, FIRST_SCRIPT)?).fail_at(only(alloc, call)?);
-    run_between(alloc, MemDisk::new(alloc), input, MemSink::new(alloc))
+    run_between(
+        alloc,
+        "run folder",
+        MemDisk::new(alloc),
+        input,
+        MemSink::new(alloc),
+    )
 }
 
 /// A run whose output fails at its first call, and whose disk fails at its call of this number.
@@ -93,7 +83,7 @@ fn run_with_output(alloc: Global, call: u64) -> Result<Run, AllocError> {
     let disk = MemDisk::new(alloc).fail_at(only(alloc, call)?);
     let input = MemSource::of(bytes_of(alloc, FIRST_SCRIPT)?);
     let printed = MemSink::new(alloc).fail_at(only(alloc, 1)?);
-    run_between(alloc, disk, input, printed)
+    run_between(alloc, "run folder", disk, input, printed)
 }
 
 fn is_unrun(run: Run, status: Status) -> bool {

@@ -10,6 +10,8 @@ mod put_reader;
 mod reply;
 mod run;
 mod script;
+#[cfg(test)]
+mod script_tests;
 mod session;
 mod statement;
 mod status;

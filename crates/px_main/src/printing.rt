@@ -1,5 +1,5 @@
 // Printing transcripts.
-ghost use Rattle.std.specs.Prelude.{◌≡◌, ◌++◌, [], ℕ, OnOk};
+ghost use Rattle.std.specs.Prelude.{◌≡◌, ◌++◌, [], ℕ, OnOk, decimal};
 ghost use Rattle.px_main.specs.Printed.{printed, printed_items, printed_reply, refusal_text};
 
 use crate::reply::{Item, Refusal, Reply, Transcript, Transcripts};
@@ -7,17 +7,31 @@ use itoa::Buffer;
 use px_values::{CountWord, Line, print_count, print_rows};
 use std::alloc::AllocError;
 
+fn print_number(number: u64, to: &mut Line) -> Result<(), AllocError>
+    ensures { OnOk result (to.new ≡ to.old ++ decimal number) }
+{
+    let mut buffer = Buffer::new();
+    to.push_str(buffer.format(number))
+}
+
 fn print_refusal(refusal: Refusal, to: &mut Line) -> Result<(), AllocError>
     ensures { OnOk result (to.new ≡ to.old ++ refusal_text refusal) }
 {
     match refusal {
+        Refusal::Syntax { place } => {
+            to.push_str("E01 syntax at byte ")?;
+            print_number(place, to)
+        }
+        Refusal::LeftOut { name } => {
+            to.push_str("E02 left out: ")?;
+            to.push_str(name)
+        }
         Refusal::Form => to.push_str("E02 left out: FORM"),
         Refusal::Limit(limit) => {
-            let mut buffer = Buffer::new();
             to.push_str("E11 limit: ")?;
             to.push_str(limit.word())?;
             to.push_str(" ")?;
-            to.push_str(buffer.format(limit.most()))
+            print_number(limit.most(), to)
         }
         Refusal::WriteFault => to.push_str("F2 write fault"),
         Refusal::Memory => to.push_str("M1 out of memory"),

@@ -24,7 +24,7 @@ use std::alloc::Global;
 pub enum Status {
     /// Every statement was answered, none refused.
     Done,
-    /// A statement was refused by its form or by a limit.
+    /// A statement was refused by its text or by a limit.
     Refused,
     /// The words are no command. Nothing was touched.
     BadWords,
@@ -71,7 +71,10 @@ fn refused(reply: &Reply) -> bool
 {
     match reply {
         Reply::Refused(refusal) => match refusal {
-            Refusal::Form | Refusal::Limit(_) => true,
+            Refusal::Syntax { place: _ }
+            | Refusal::LeftOut { name: _ }
+            | Refusal::Form
+            | Refusal::Limit(_) => true,
             Refusal::WriteFault | Refusal::Memory => false,
         },
         _ => false,

@@ -1,54 +1,52 @@
-// A script and its pieces.
-ghost use Rattle.std.specs.Prelude.{◌≡◌, not, ◌&&◌, ◌==◌, if◌then◌else◌, length, nat_lt, IfOk, true, false};
-ghost use Rattle.std.specs.List.{All, list_all};
-ghost use Rattle.std.specs.Str.{IsAscii};
-ghost use Rattle.px_main.specs.Script.{IsWithin, begins_badly, cut_from, has_bad_line, is_blank, is_form, is_plain, is_round_end, piece_of};
+// A script, its lines and its pieces.
+ghost use Rattle.std.specs.Prelude.{◌≡◌, ◌<◌, ◌+◌, ◌^◌, ◌&&◌, List, length, map, IfOk, MatchResult, true, false};
+ghost use Rattle.std.specs.List.{All};
+ghost use Rattle.px_lex.specs.Script.{IsScript, Section, pieces_from, seen_piece};
+ghost use Rattle.px_main.specs.Script.{IsReadable, StopsScript, divides, has_divider, is_round_end, span_of};
 
+use crate::reply::Refusal;
+use px_lex::script::{Piece, cut};
+use px_values::Limit;
 use std::alloc::{AllocError, Global};
 
-/// Where a piece stands in its session's text, in bytes: from `start` up to `end`.
+/// Where a statement or a session command stands in its session's text, in bytes: from `start` up to `end`.
 #[derive(Clone, Copy, Debug, PartialEq, Eq)]
 pub struct Span {
     pub start: usize,
     pub end: usize,
 }
 
-/// The greatest length of a script that is read.
-const MOST: usize = 1_048_576;
+/// The greatest length of a script, in bytes.
+const MOST: usize = 67_108_864;
 
-/// Whether the script isn't read at all.
-pub fn is_left_out(script: &[u8]) -> bool
-    ensures form { result ≡ is_form script.now }
-    ensures plain { result ≡ false → IsAscii script.now }
+/// The text of a script; or why nothing of it is run: it is too long, it isn't UTF-8 from a byte on, or a line of it
+/// divides it among rounds and sessions.
+pub fn read_script(script: &[u8]) -> Result<&str, Refusal>
+    ensures { MatchResult result (λ text. (text.now ≡ script.now) × IsReadable script.now) (λ refusal. StopsScript script.now refusal) }
 {
-    is_too_long(script) || !has_plain_bytes(script) || has_command(script)
+    if script.len() > MOST {
+        return Err(Refusal::Limit(Limit::Script));
+    }
+    match str::from_utf8(script) {
+        Err(error) => Err(Refusal::Syntax {
+            place: error.valid_up_to() as u64,
+        }),
+        Ok(text) => {
+            if is_divided(script) {
+                return Err(Refusal::Form);
+            }
+            Ok(text)
+        }
+    }
 }
 
-fn is_too_long(script: &[u8]) -> bool
-    ensures { result ≡ nat_lt 1048576 (length script.now) }
-{
-    script.len() > MOST
-}
-
-fn has_plain_bytes(script: &[u8]) -> bool
-    ensures { result ≡ list_all is_plain script.now }
-{
-    script.iter().all(|byte| is_plain_byte(*byte))
-}
-
-fn is_plain_byte(byte: u8) -> bool
-    ensures { result ≡ is_plain byte }
-{
-    byte == b'\n' || (b' '..=b'~').contains(&byte)
-}
-
-/// Whether a line is a round's end, or begins with a session or a command.
-fn has_command(script: &[u8]) -> bool
-    ensures { result ≡ has_bad_line true script.now }
+/// Whether a line ends a round or names a session.
+fn is_divided(script: &[u8]) -> bool
+    ensures { result ≡ has_divider true script.now }
 {
     let mut at_start = true;
     for i in 0..script.len() {
-        if begins_command(at_start, &script[i..]) {
+        if begins_divider(at_start, &script[i..]) {
             return true;
         }
         at_start = script[i] == b'\n';
@@ -56,13 +54,13 @@ fn has_command(script: &[u8]) -> bool
     false
 }
 
-/// Whether a line begins here that is a round's end, or begins with a session or a command.
-fn begins_command(at_start: bool, text: &[u8]) -> bool
-    ensures { result ≡ (at_start && begins_badly text.now) }
+/// Whether a line begins here that ends a round or names a session.
+fn begins_divider(at_start: bool, text: &[u8]) -> bool
+    ensures { result ≡ (at_start && divides text.now) }
 {
     match text.first() {
         None => false,
-        Some(first) => at_start && (*first == b'@' || *first == b'!' || is_round_end_line(text)),
+        Some(first) => at_start && (*first == b'@' || is_round_end_line(text)),
     }
 }
 
@@ -73,60 +71,21 @@ fn is_round_end_line(text: &[u8]) -> bool
     text.len() >= 3 && matches!(&text[..3], b"---") && (text.len() == 3 || text[3] == b'\n')
 }
 
-/// The pieces of a script: they end at each semicolon outside single quotes, and at the end of the script.
-pub fn pieces(alloc: Global, script: &[u8]) -> Result<Vec<Span>, AllocError>
-    ensures cut { IfOk result (λ spans. spans.items ≡ cut_from 0 0 false script.now) }
-    ensures within { IfOk result (λ spans. All (λ span. IsWithin span script.now) spans.items) }
+/// The statements and the session commands of a script, in order.
+pub fn pieces<'a>(alloc: Global, text: &'a str) -> Result<Vec<Piece<'a>>, AllocError>
+    ensures cut { IfOk result (λ pieces. (xs : List Section) × IsScript text.now xs × (map seen_piece pieces.items ≡ pieces_from 0 xs)) }
+    ensures within { IfOk result (λ pieces. All (λ piece. piece.place + length piece.text.now < 2 ^ 64) pieces.items) }
 {
-    let mut spans = Vec::new(alloc);
-    let mut start = 0;
-    let mut quoted = false;
-    for i in 0..script.len() {
-        let byte = script[i];
-        if ends_piece(byte, quoted) {
-            spans.push(Span { start, end: i })?;
-            start = i + 1;
-            continue;
-        }
-        quoted = is_quoted_after(byte, quoted);
+    cut(alloc, text)
+}
+
+/// Where a piece stands.
+pub fn place_of(piece: &Piece<'_>) -> Span
+    requires { piece.now.place + length piece.now.text.now < 2 ^ 64 }
+    ensures { result ≡ span_of (seen_piece piece.now) }
+{
+    Span {
+        start: piece.place,
+        end: piece.place + piece.text.len(),
     }
-    spans.push(Span {
-        start,
-        end: script.len(),
-    })?;
-    Ok(spans)
-}
-
-/// The bytes of a piece.
-pub fn piece_in(script: &[u8], span: Span) -> &[u8]
-    requires { IsWithin span script.now }
-    ensures bytes { result.now ≡ piece_of script.now span }
-    ensures plain { IsAscii script.now → IsAscii result.now }
-{
-    &script[span.start..span.end]
-}
-
-fn ends_piece(byte: u8, quoted: bool) -> bool
-    ensures { result ≡ ((byte == 59) && not quoted) }
-{
-    byte == b';' && !quoted
-}
-
-fn is_quoted_after(byte: u8, quoted: bool) -> bool
-    ensures { result ≡ (if byte == 39 then not quoted else quoted) }
-{
-    if byte == b'\'' { !quoted } else { quoted }
-}
-
-/// Whether a piece has blanks and line feeds alone, and so is no statement.
-pub fn is_blank_piece(piece: &[u8]) -> bool
-    ensures { result ≡ list_all is_blank piece.now }
-{
-    piece.iter().all(|byte| is_blank_byte(*byte))
-}
-
-pub(crate) fn is_blank_byte(byte: u8) -> bool
-    ensures { result ≡ is_blank byte }
-{
-    byte == b' ' || byte == b'\n'
 }

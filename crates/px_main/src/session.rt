@@ -1,5 +1,5 @@
 // A session: the statements of a script, one after the other.
-ghost use Rattle.std.specs.Prelude.{◌≡◌, ◌≢◌, ◌≤◌, ◌<◌, ◌+◌, ◌++◌, ◌∷◌, [], ◌⊎◌, ℕ, List, length, true, false};
+ghost use Rattle.std.specs.Prelude.{◌≡◌, ◌≢◌, ◌≤◌, ◌<◌, ◌+◌, ◌^◌, [], ◌⊎◌, ℕ, List, length, map, true, false};
 ghost use Rattle.px_main.specs.Kept.{IsKept};
 ghost use Rattle.px_main.specs.Origin.{Origin};
 ghost use Rattle.px_main.specs.PutForm.{IsText};
@@ -7,17 +7,19 @@ ghost use Rattle.px_main.specs.Kv.{Tells};
 ghost use Rattle.px_main.specs.PutReader.{HoldsPuts};
 ghost use Rattle.px_main.specs.Puts.{Put};
 ghost use Rattle.px_main.specs.Ran.{Answered, HasRun};
-ghost use Rattle.px_main.specs.Script.{IsWithin, is_plain, piece_of};
-ghost use Rattle.std.specs.List.{All, list_all};
-ghost use Rattle.px_main.specs.Session.{AfterPiece, HasSession, HavePassed, IsGoing, IsLeftOut};
+ghost use Rattle.std.specs.List.{All};
+ghost use Rattle.px_lex.specs.Script.{SeenPiece, seen_piece};
+ghost use Rattle.px_main.specs.Script.{span_of};
+ghost use Rattle.px_main.specs.Session.{AfterPiece, AnswersPieces, AnswersScript, AreAnswered, HasSession, IsGoing, IsStopped};
 ghost use Rattle.px_main.specs.declared.reply.Refusal.TheVariants.{WriteFault as WriteFaultRefusal};
-ghost use Rattle.px_main.specs.Replied.{Answers, AnswersSelect, AnswersUpsert};
-ghost use Rattle.px_main.specs.Texts.{HasTexts};
+ghost use Rattle.px_main.specs.Replied.{Answers, AnswersPiece, AnswersSelect, AnswersUpsert};
+ghost use Rattle.px_main.specs.Statement.{MayRun};
 
 use crate::reply::{Evidence, Item, Items, Places, Receipts, Refusal, Reply};
-use crate::script::{Span, is_blank_piece, is_left_out, piece_in, pieces};
-use crate::statement::{Statement, read_statement};
+use crate::script::{Span, pieces, place_of, read_script};
+use crate::statement::{Task, read_piece, task_of};
 use crate::store::Store;
+use px_lex::script::Piece;
 use px_outside::{Clock, CountsCalls, Disk};
 use px_values::CountWord;
 use std::alloc::Global;
@@ -94,46 +96,61 @@ fn answer_select(alloc: Global, store: &Store) -> Answer
     }
 }
 
-/// Runs a statement.
-fn run_statement<D: CountsCalls>(
+/// Does what a piece asks for.
+fn run_task<D: CountsCalls>(
     alloc: Global,
     store: &mut Store,
     disk: &mut D,
     now: u64,
-    statement: &Statement<'_>,
+    task: &Task<'_>,
 ) -> Answer
-    requires texts { HasTexts statement.now }
+    requires runs { MayRun task.now }
     ensures answered { (origin : Origin) → IsKept ⟦<D as Disk>⟧ origin disk.old store.old
-        → Answered ⟦<D as Disk>⟧ origin disk.old disk.new store.old.trail.entries store.new result (λ es added reply receipts. Answers origin es added statement.now reply receipts) }
+        → Answered ⟦<D as Disk>⟧ origin disk.old disk.new store.old.trail.entries store.new result (λ es added reply receipts. Answers origin es added task.now reply receipts) }
     ensures later { (D.calls disk.old ≤ D.calls disk.new) × (D.faults disk.old ≤ D.faults disk.new) }
 {
-    match statement {
-        Statement::Upsert { key, value } => answer_upsert(alloc, store, disk, now, key, value),
-        Statement::Select => answer_select(alloc, store),
-        Statement::Form => refused(alloc, Refusal::Form),
+    match task {
+        Task::Upsert { key, value } => answer_upsert(alloc, store, disk, now, key, value),
+        Task::Select => answer_select(alloc, store),
+        Task::Refused(refusal) => refused(alloc, *refusal),
     }
 }
 
-/// Runs the statement of a piece that isn't blank.
+/// Reads a piece, and does what it asks for.
+fn answer_piece<D: CountsCalls>(
+    alloc: Global,
+    store: &mut Store,
+    disk: &mut D,
+    now: u64,
+    piece: &Piece<'_>,
+) -> Answer
+    ensures answered { (origin : Origin) → IsKept ⟦<D as Disk>⟧ origin disk.old store.old
+        → Answered ⟦<D as Disk>⟧ origin disk.old disk.new store.old.trail.entries store.new result (λ es added reply receipts. AnswersPiece origin es added (seen_piece piece.now) reply receipts) }
+    ensures later { (D.calls disk.old ≤ D.calls disk.new) × (D.faults disk.old ≤ D.faults disk.new) }
+{
+    match read_piece(alloc, piece) {
+        Err(refusal) => run_task(alloc, store, disk, now, &Task::Refused(refusal)),
+        Ok(statement) => run_task(alloc, store, disk, now, &task_of(&statement)),
+    }
+}
+
+/// Runs a statement or a session command.
 fn run_piece<D: CountsCalls>(
     alloc: Global,
     store: &mut Store,
     disk: &mut D,
     now: u64,
-    script: &[u8],
-    span: Span,
+    piece: &Piece<'_>,
 ) -> Item
-    requires within { IsWithin span script.now }
-    requires plain { list_all is_plain script.now ≡ true }
-    ensures statement { result.statement ≡ span }
-    ensures ran { (origin : Origin) → IsKept ⟦<D as Disk>⟧ origin disk.old store.old → HasRun ⟦<D as Disk>⟧ origin disk.old disk.new store.old.trail.entries store.new (piece_of script.now span) result }
+    requires within { piece.now.place + length piece.now.text.now < 2 ^ 64 }
+    ensures statement { result.statement ≡ span_of (seen_piece piece.now) }
+    ensures ran { (origin : Origin) → IsKept ⟦<D as Disk>⟧ origin disk.old store.old → HasRun ⟦<D as Disk>⟧ origin disk.old disk.new store.old.trail.entries store.new (seen_piece piece.now) result }
     ensures later { (D.calls disk.old ≤ D.calls disk.new) × (D.faults disk.old ≤ D.faults disk.new) }
 {
     let first = store.entries();
-    let statement = read_statement(piece_in(script, span));
-    let answer = run_statement(alloc, store, disk, now, &statement);
+    let answer = answer_piece(alloc, store, disk, now, piece);
     Item {
-        statement: span,
+        statement: place_of(piece),
         reply: answer.reply,
         evidence: Evidence {
             receipts: answer.receipts,
@@ -172,29 +189,24 @@ fn is_write_fault(reply: &Reply) -> bool
     }
 }
 
-/// Runs the statement of a piece, where it is one, and adds its answer. Tells how the session ends there, where it does.
+/// Runs a piece and adds its answer. Tells how the session ends there, where it does.
 fn pass_piece<D: CountsCalls, C: Clock>(
     alloc: Global,
     store: &mut Store,
     disk: &mut D,
     clock: &mut C,
-    script: &[u8],
-    span: Span,
+    piece: &Piece<'_>,
     items: &mut Vec<Item>,
 ) -> Option<Ending>
-    requires within { IsWithin span script.now }
-    requires plain { list_all is_plain script.now ≡ true }
-    ensures passed { (origin : Origin) (from : ℕ) (passed : List Span) → IsGoing ⟦<D as Disk>⟧ origin disk.old store.old script.now from passed items.old.items
-        → AfterPiece ⟦<D as Disk>⟧ origin disk.old disk.new store.new script.now from passed span items.new.items result }
+    requires within { piece.now.place + length piece.now.text.now < 2 ^ 64 }
+    ensures passed { (origin : Origin) (from : ℕ) (passed : List SeenPiece) → IsGoing ⟦<D as Disk>⟧ origin disk.old store.old from passed items.old.items
+        → AfterPiece ⟦<D as Disk>⟧ origin disk.old disk.new store.new from passed (seen_piece piece.now) items.new.items result }
     ensures later { (D.calls disk.old ≤ D.calls disk.new) × (D.faults disk.old ≤ D.faults disk.new) }
 {
-    if is_blank_piece(piece_in(script, span)) {
-        return None;
-    }
     let Ok(()) = items.reserve(1) else {
         return Some(Ending::Memory);
     };
-    let item = run_piece(alloc, store, disk, clock.now(), script, span);
+    let item = run_piece(alloc, store, disk, clock.now(), piece);
     let failed = is_write_fault(&item.reply);
     items.push_reserved(item);
     if failed {
@@ -204,24 +216,23 @@ fn pass_piece<D: CountsCalls, C: Clock>(
     }
 }
 
-/// Runs the statements of all pieces, and adds their answers.
+/// Runs all pieces and adds their answers.
 fn pass_pieces<D: CountsCalls, C: Clock>(
     alloc: Global,
     store: &mut Store,
     disk: &mut D,
     clock: &mut C,
-    script: &[u8],
-    spans: &[Span],
+    pieces: &[Piece<'_>],
     items: &mut Vec<Item>,
 ) -> Ending
-    requires within { All (λ span. IsWithin span script.now) spans.now }
-    requires plain { list_all is_plain script.now ≡ true }
+    requires within { All (λ piece. piece.place + length piece.text.now < 2 ^ 64) pieces.now }
     requires empty { items.old.items ≡ [] }
-    ensures passed { (origin : Origin) → IsKept ⟦<D as Disk>⟧ origin disk.old store.old → HavePassed ⟦<D as Disk>⟧ origin disk.old disk.new store.new script.now (length store.old.trail.entries) spans.now items.new.items result }
+    ensures passed { (origin : Origin) → IsKept ⟦<D as Disk>⟧ origin disk.old store.old
+        → HasSession ⟦<D as Disk>⟧ origin disk.old disk.new store.new items.new.items result (λ es given ending. AreAnswered origin es (length store.old.trail.entries) (map seen_piece pieces.now) given ending) }
     ensures later { (D.calls disk.old ≤ D.calls disk.new) × (D.faults disk.old ≤ D.faults disk.new) }
 {
-    for i in 0..spans.len() {
-        match pass_piece(alloc, store, disk, clock, script, spans[i], items) {
+    for i in 0..pieces.len() {
+        match pass_piece(alloc, store, disk, clock, &pieces[i], items) {
             None => {}
             Some(ending) => return ending,
         }
@@ -229,9 +240,9 @@ fn pass_pieces<D: CountsCalls, C: Clock>(
     Ending::Whole
 }
 
-/// The answer to a script that isn't read.
-fn leave_out(alloc: Global, entries: u64, script: &[u8]) -> Session
-    ensures { IsLeftOut entries script.now result.items result.ending }
+/// The answer to a script of which nothing is run.
+fn stop_script(alloc: Global, entries: u64, script: &[u8], refusal: Refusal) -> Session
+    ensures { IsStopped script.now entries refusal result.items result.ending }
 {
     let Ok(mut items) = Vec::with_capacity(alloc, 1) else {
         return Session {
@@ -239,7 +250,7 @@ fn leave_out(alloc: Global, entries: u64, script: &[u8]) -> Session
             ending: Ending::Memory,
         };
     };
-    let answer = refused(alloc, Refusal::Form);
+    let answer = refused(alloc, refusal);
     items.push_reserved(Item {
         statement: Span {
             start: 0,
@@ -259,8 +270,34 @@ fn leave_out(alloc: Global, entries: u64, script: &[u8]) -> Session
     }
 }
 
-/// Runs a script: its statements one after the other, up to its end, to a failed write, or to where no memory is found
-/// to keep an answer.
+/// Runs the statements and session commands of a text one after the other, up to its end, to a failed write, or to where
+/// no memory is found to keep an answer.
+fn run_text<D: CountsCalls, C: Clock>(
+    alloc: Global,
+    store: &mut Store,
+    disk: &mut D,
+    clock: &mut C,
+    text: &str,
+) -> Session
+    ensures ran { (origin : Origin) → IsKept ⟦<D as Disk>⟧ origin disk.old store.old
+        → HasSession ⟦<D as Disk>⟧ origin disk.old disk.new store.new result.items result.ending (λ es given ending. AnswersPieces origin es text.now (length store.old.trail.entries) given ending) }
+    ensures later { (D.calls disk.old ≤ D.calls disk.new) × (D.faults disk.old ≤ D.faults disk.new) }
+{
+    let Ok(pieces) = pieces(alloc, text) else {
+        return Session {
+            items: Items::of(Vec::new(alloc)),
+            ending: Ending::Memory,
+        };
+    };
+    let mut items = Vec::new(alloc);
+    let ending = pass_pieces(alloc, store, disk, clock, &pieces, &mut items);
+    Session {
+        items: Items::of(items),
+        ending,
+    }
+}
+
+/// Runs a script, or answers why nothing of it is run.
 pub fn run_script<D: CountsCalls, C: Clock>(
     alloc: Global,
     store: &mut Store,
@@ -268,22 +305,12 @@ pub fn run_script<D: CountsCalls, C: Clock>(
     clock: &mut C,
     script: &[u8],
 ) -> Session
-    ensures ran { (origin : Origin) → IsKept ⟦<D as Disk>⟧ origin disk.old store.old → HasSession ⟦<D as Disk>⟧ origin disk.old disk.new store.new script.now (length store.old.trail.entries) result }
+    ensures ran { (origin : Origin) → IsKept ⟦<D as Disk>⟧ origin disk.old store.old
+        → HasSession ⟦<D as Disk>⟧ origin disk.old disk.new store.new result.items result.ending (λ es given ending. AnswersScript origin es script.now (length store.old.trail.entries) given ending) }
     ensures later { (D.calls disk.old ≤ D.calls disk.new) × (D.faults disk.old ≤ D.faults disk.new) }
 {
-    if is_left_out(script) {
-        return leave_out(alloc, store.entries(), script);
-    }
-    let Ok(spans) = pieces(alloc, script) else {
-        return Session {
-            items: Items::of(Vec::new(alloc)),
-            ending: Ending::Memory,
-        };
-    };
-    let mut items = Vec::new(alloc);
-    let ending = pass_pieces(alloc, store, disk, clock, script, &spans, &mut items);
-    Session {
-        items: Items::of(items),
-        ending,
+    match read_script(script) {
+        Err(refusal) => stop_script(alloc, store.entries(), script, refusal),
+        Ok(text) => run_text(alloc, store, disk, clock, text),
     }
 }

@@ -1,128 +1,153 @@
-// The two forms of statement.
-ghost use Rattle.std.specs.Prelude.{◌≡◌, ◌++◌, ◌∷◌, List, ℕ, codes, MatchOption, reverse};
-ghost use Rattle.std.specs.Str.{IsAscii, bytes_eq};
-ghost use Rattle.px_main.specs.Statement.{IsUnquoted, IsUpsertText, Reads, core_of, is_word, skip_blanks};
+// What a piece of a script asks for.
+ghost use Rattle.std.specs.Prelude.{◌≡◌, ◌≢◌, ◌==◌, not, ℕ, List, MatchOption, IfSome, IfErr, true, false};
+ghost use Rattle.std.specs.List.{list_all};
+ghost use Rattle.px_lex.specs.Script.{seen_piece};
+ghost use Rattle.px_main.specs.PutForm.{IsText};
+ghost use Rattle.px_main.specs.declared.reply.Refusal.TheVariants.{WriteFault};
+ghost use Rattle.px_main.specs.Statement.{IsRead, IsRowOf, IsWhole, IsWordOf, MayRun, Means, ReadsPiece, is_kv, is_word, refusal_by};
 
-use crate::script::is_blank_byte;
+use crate::reply::Refusal;
+use px_ast::{Constant, Literal, Select, Statement, Upsert};
+use px_lex::script::{Piece, PieceKind};
+use px_parse::{SyntaxFault, parse};
+use px_values::{Limit, Name};
+use std::alloc::Global;
 
-/// What a piece says.
+/// What a piece asks for.
 #[derive(Drop)]
-pub enum Statement<'a> {
+pub enum Task<'a> {
+    /// To set the value of a key in KV.
     Upsert { key: &'a str, value: &'a str },
+    /// All rows of KV.
     Select,
-    /// Another text: it is left out as a form.
-    Form,
+    /// Nothing: the piece is refused.
+    Refused(Refusal),
 }
 
-/// Reads a piece.
-pub fn read_statement(piece: &[u8]) -> Statement<'_>
-    requires plain { IsAscii piece.now }
-    ensures { Reads piece.now result }
+/// The greatest length of a statement, in bytes.
+const MOST: usize = 1_048_576;
+
+/// The refusal of a text that is no statement. One that nests too deep isn't run either, as every other one that isn't
+/// built yet.
+fn refusal_of(fault: SyntaxFault) -> Refusal
+    ensures is { result ≡ refusal_by fault }
+    ensures runs { result ≢ WriteFault }
 {
-    let core = without_blanks(piece);
-    if is_select(core) {
-        return Statement::Select;
-    }
-    match upsert_in(core) {
-        None => Statement::Form,
-        Some((key, value)) => Statement::Upsert {
-            key: text_of(key),
-            value: text_of(value),
+    match fault {
+        SyntaxFault::Unexpected { place } => Refusal::Syntax {
+            place: place as u64,
         },
+        SyntaxFault::LeftOut { name } => Refusal::LeftOut { name },
+        SyntaxFault::TooDeep => Refusal::Form,
+        SyntaxFault::Memory => Refusal::Memory,
     }
 }
 
-fn is_select(core: &[u8]) -> bool
-    ensures { result ≡ bytes_eq core.now (codes "SELECT * FROM KV") }
+fn read_statement(alloc: Global, text: &str) -> Result<Statement, Refusal>
+    ensures reads { IsRead text.now result }
+    ensures runs { IfErr result (λ refusal. refusal ≢ WriteFault) }
 {
-    core == b"SELECT * FROM KV".as_slice()
-}
-
-/// The text that ASCII bytes are.
-fn text_of(bytes: &[u8]) -> &str
-    requires plain { IsAscii bytes.now }
-    ensures { result.now ≡ bytes.now }
-{
-    match str::from_utf8(bytes) {
-        Ok(text) => text,
-        Err(_) => unreachable!(),
+    if text.len() > MOST {
+        return Err(Refusal::Limit(Limit::Statement));
+    }
+    match parse(alloc, text) {
+        Ok(statement) => Ok(statement),
+        Err(fault) => Err(refusal_of(fault)),
     }
 }
 
-/// The piece without the blanks and line feeds round it.
-fn without_blanks(piece: &[u8]) -> &[u8]
-    ensures core { result.now ≡ core_of piece.now }
-    ensures plain { IsAscii piece.now → IsAscii result.now }
+/// The statement that a piece is. A session command isn't built yet.
+pub fn read_piece(alloc: Global, piece: &Piece<'_>) -> Result<Statement, Refusal>
+    ensures reads { ReadsPiece (seen_piece piece.now) result }
+    ensures runs { IfErr result (λ refusal. refusal ≢ WriteFault) }
 {
-    without_last_blanks(without_first_blanks(piece))
-}
-
-fn without_first_blanks(piece: &[u8]) -> &[u8]
-    ensures rest { result.now ≡ skip_blanks piece.now }
-    ensures plain { IsAscii piece.now → IsAscii result.now }
-{
-    let mut start = 0;
-    while start < piece.len() && is_blank_byte(piece[start]) {
-        start += 1;
-    }
-    &piece[start..]
-}
-
-fn without_last_blanks(piece: &[u8]) -> &[u8]
-    ensures front { result.now ≡ reverse (skip_blanks (reverse piece.now)) }
-    ensures plain { IsAscii piece.now → IsAscii result.now }
-{
-    let mut end = piece.len();
-    while end > 0 && is_blank_byte(piece[end - 1]) {
-        end -= 1;
-    }
-    &piece[..end]
-}
-
-/// The key and the value of an UPSERT.
-fn upsert_in(core: &[u8]) -> Option<(&[u8], &[u8])>
-    ensures { MatchOption result ((key value : List ℕ) → ¬ IsUpsertText core.now key value) (λ words. IsUpsertText core.now words.0.now words.1.now) }
-{
-    let rest = after(core, b"UPSERT INTO KV VALUES ('")?;
-    let (key, rest) = up_to_quote(rest)?;
-    let rest = after(rest, b"','")?;
-    let (value, rest) = up_to_quote(rest)?;
-    if is_close(rest) && is_short(key) && is_short(value) {
-        Some((key, value))
-    } else {
-        None
+    match piece.kind {
+        PieceKind::Command => Err(Refusal::Form),
+        PieceKind::Statement => read_statement(alloc, piece.text),
     }
 }
 
-fn is_close(rest: &[u8]) -> bool
-    ensures { result ≡ bytes_eq rest.now (codes "')") }
+/// What a statement asks for. All but an UPSERT of two texts into KV and a SELECT of all of KV isn't built yet.
+pub fn task_of(statement: &Statement) -> Task<'_>
+    ensures means { Means statement.now result }
+    ensures runs { MayRun result }
 {
-    matches!(rest, b"')")
-}
-
-/// What follows the front of a text.
-fn after<'a>(text: &'a [u8], front: &[u8]) -> Option<&'a [u8]>
-    ensures { MatchOption result ((rest : List ℕ) → ¬ (text.now ≡ front.now ++ rest)) (λ rest. text.now ≡ front.now ++ rest.now) }
-{
-    text.strip_prefix(front)
-}
-
-/// The bytes before the first quote, and the rest from it on.
-fn up_to_quote(text: &[u8]) -> Option<(&[u8], &[u8])>
-    ensures { MatchOption result ((word rest : List ℕ) → IsUnquoted word → ¬ (text.now ≡ word ++ 39 ∷ rest))
-        (λ parts. IsUnquoted parts.0.now × ((rest : List ℕ) × (parts.1.now ≡ 39 ∷ rest)) × (text.now ≡ parts.0.now ++ parts.1.now)) }
-{
-    for i in 0..text.len() {
-        if text[i] == b'\'' {
-            return Some(text.split_at(i));
+    match statement {
+        Statement::Upsert(upsert) => match row_of(upsert) {
+            Some((key, value)) => Task::Upsert { key, value },
+            None => Task::Refused(Refusal::Form),
+        },
+        Statement::Select(select) => {
+            if is_whole(select) {
+                Task::Select
+            } else {
+                Task::Refused(Refusal::Form)
+            }
         }
+        _ => Task::Refused(Refusal::Form),
     }
-    None
 }
 
-/// Whether a text may be a key or a value.
-fn is_short(text: &[u8]) -> bool
+/// The key and the value of an UPSERT into KV.
+fn row_of(upsert: &Upsert) -> Option<(&str, &str)>
+    ensures row { MatchOption result ((key value : List ℕ) → ¬ IsRowOf upsert.now key value) (λ row. IsRowOf upsert.now row.0.now row.1.now) }
+    ensures texts { IfSome result (λ row. IsText 1000 row.0.now × IsText 1000 row.1.now) }
+{
+    if !is_of_kv(&upsert.table) || upsert.columns.is_some() {
+        return None;
+    }
+    match upsert.values.as_slice() {
+        [key, value] => Some((word_in(key)?, word_in(value)?)),
+        _ => None,
+    }
+}
+
+/// The text that a literal is, where it may be a key or a value.
+fn word_in(literal: &Literal) -> Option<&str>
+    ensures word { MatchOption result ((word : List ℕ) → ¬ IsWordOf literal.now word) (λ word. IsWordOf literal.now word.now) }
+    ensures text { IfSome result (λ word. IsText 1000 word.now) }
+{
+    match &literal.constant {
+        Constant::Text(text) => {
+            let word = text.as_str();
+            if may_stand(word.as_bytes()) {
+                Some(word)
+            } else {
+                None
+            }
+        }
+        _ => None,
+    }
+}
+
+/// Whether a text may be a key or a value: it has 1 to 1,000 bytes, and no zero byte.
+fn may_stand(text: &[u8]) -> bool
     ensures { result ≡ is_word text.now }
 {
-    !text.is_empty() && text.len() <= 1_000
+    !text.is_empty() && text.len() <= 1_000 && has_no_zero(text)
+}
+
+fn has_no_zero(text: &[u8]) -> bool
+    ensures { result ≡ list_all (λ b. not (b == 0)) text.now }
+{
+    text.iter().all(|byte| *byte != 0)
+}
+
+fn is_of_kv(table: &Name) -> bool
+    ensures { result ≡ is_kv table.now }
+{
+    table.as_str().as_bytes() == b"KV".as_slice()
+}
+
+/// Whether a SELECT asks for all of KV, and for nothing more.
+fn is_whole(select: &Select) -> bool
+    ensures whole { result ≡ true → IsWhole select.now }
+    ensures other { result ≡ false → ¬ IsWhole select.now }
+{
+    is_of_kv(&select.table)
+        && select.hint.is_none()
+        && select.columns.is_none()
+        && select.filter.is_none()
+        && select.order.as_slice().is_empty()
+        && select.limit.is_none()
 }

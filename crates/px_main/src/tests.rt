@@ -39,14 +39,26 @@ pub fn words_of(alloc: Global, line: &str) -> Result<Vec<String>, AllocError> {
     Ok(words)
 }
 
-pub fn run_words(alloc: Global, line: &str, disk: MemDisk, script: &str) -> Result<Run, AllocError>
+/// A run of these words on a disk, between this input and this output.
+pub fn run_between(
+    alloc: Global,
+    line: &str,
+    disk: MemDisk,
+    mut input: MemSource,
+    mut printed: MemSink,
+) -> Result<Run, AllocError>
     requires fresh { (calls_of disk ≡ 0) × (faults_of disk ≡ 0) × (first_fault_of disk ≡ 0) }
 {
     let words = words_of(alloc, line)?;
-    let mut input = MemSource::of(bytes_of(alloc, script)?);
-    let mut printed = MemSink::new(alloc);
     let outcome = phoenix(alloc, &words, disk, FixedClock(0), &mut input, &mut printed);
     Ok(Run { outcome, printed })
+}
+
+pub fn run_words(alloc: Global, line: &str, disk: MemDisk, script: &str) -> Result<Run, AllocError>
+    requires fresh { (calls_of disk ≡ 0) × (faults_of disk ≡ 0) × (first_fault_of disk ≡ 0) }
+{
+    let input = MemSource::of(bytes_of(alloc, script)?);
+    run_between(alloc, line, disk, input, MemSink::new(alloc))
 }
 
 /// The disk after a run.
@@ -131,25 +143,6 @@ fn rows_are_kept_in_key_order_over_runs(rt: HostRuntime) {
     };
     let text = "1 row affected\n'a', '2'\n'b', '3'\n2 rows selected\n";
     assert!(rt; is_printed(&again, Status::Done, text));
-}
-
-#[test]
-fn other_statements_are_left_out_one_by_one(rt: HostRuntime) {
-    let script = "DELETE FROM KV; UPSERT INTO KV VALUES ('','b') ; \n; SELECT * FROM KV";
-    let Ok(run) = run_new(rt.alloc(), script) else {
-        panic!(rt; "no memory")
-    };
-    let text = "E02 left out: FORM\nE02 left out: FORM\n0 rows selected\n";
-    assert!(rt; is_printed(&run, Status::Refused, text));
-}
-
-#[test]
-fn a_script_with_a_command_is_left_out(rt: HostRuntime) {
-    let Ok(run) = run_new(rt.alloc(), "UPSERT INTO KV VALUES ('a','b');\n!flush\n") else {
-        panic!(rt; "no memory")
-    };
-    assert!(rt; is_printed(&run, Status::Refused, "E02 left out: FORM\n"));
-    assert_eq!(rt; run.outcome.trail.len(), 0);
 }
 
 #[test]

@@ -1,43 +1,15 @@
-use Rattle.std.proofs.Common.{arith, ◌≤◌, ◌≡◌, ◌+◌, ◌++◌, ◌∷◌, [], false, ℕ, List, drop, length, sym, ◌∙◌, ap, subst, append_assoc}
+use Rattle.std.proofs.Common.{ℕ, ◌≡◌, ◌+◌, ◌<◌, ◌^◌, List, length, map, Result, Ok, Err, arith}
+use Rattle.std.specs.Prelude.{IfOk}
 use Rattle.std.specs.List.{All}
-use Rattle.std.proofs.lemmas.List.Elements.{All-from_recursion}
-use Rattle.px_main.specs.declared.script.Span.{Span}
-use Rattle.px_main.specs.Script.{IsWithin, cut_from, span}
-use Rattle.px_main.proofs.Pieces.{all_within, cut-end, cut-other, cut-semicolon, is_outside}
+use Rattle.px_lex.specs.declared.script.Piece.{Piece}
+use Rattle.px_lex.specs.Script.{IsScript, Section, pieces_from, seen_piece}
+use Rattle.px_main.proofs.Pieces.{all_below}
 use Rattle.px_main.proofs.script.pieces.Goals as goal
 
-pub loop-i-preserved-then-ends_piece : goal.loop-i-preserved-then-ends_piece
-loop-i-preserved-then-ends_piece c =
-    let text : List ℕ = c.args.script.now in
-    let i : ℕ = c.loop-i.i in
-    let ends = is_outside _ c.loop-i.quoted (sym c.ends_piece.ensures ∙ c.if-ends_piece.true) in
-    let rest : List Span = cut_from (i + 1) (i + 1) c.loop-i.quoted (drop (i + 1) text) in
-    ap (λ (l : List Span). l ++ rest) c.in_ok-push.ensures.items
-    ∙ (append_assoc c.loop-i.spans.items (span c.loop-i.start i ∷ []) rest
-    ∙ (ap (λ (l : List Span). c.loop-i.spans.items ++ l) (sym (cut-semicolon text c.loop-i.start i c.loop-i.quoted c.loop-i-test.true ends.0 ends.1))
-    ∙ c.loop-i.invariant))
-
-pub loop-i-preserved : goal.loop-i-preserved
-loop-i-preserved c =
-    let text : List ℕ = c.args.script.now in
-    let i : ℕ = c.loop-i.i in
-    ap (λ (l : List Span). c.loop-i.spans.items ++ l)
-    (sym (cut-other text c.loop-i.start i c.loop-i.quoted c.is_quoted_after-quoted.result c.loop-i-test.true (sym c.ends_piece.ensures ∙ c.if-ends_piece.false) (sym c.is_quoted_after-quoted.ensures)))
-    ∙ c.loop-i.invariant
-
-are_cut : (c : goal.In_ok-push-2) → c.push-2.new.self.items ≡ cut_from 0 0 false c.args.script.now
-are_cut c =
-    let within : c.loop-i.i ≤ length c.args.script.now = c.loop-i.auto.i-end in
-    c.in_ok-push-2.ensures.items
-    ∙ (ap (λ (l : List Span). c.loop-i.spans.items ++ l) (sym (cut-end c.args.script.now c.loop-i.start c.loop-i.i c.loop-i.quoted within c.loop-i-test.false))
-    ∙ c.loop-i.invariant)
+within : {V E : Type 0} (items : V → List Piece) (text : List ℕ) (r : Result V E) → length text < 2 ^ 64 → IfOk r (λ v. (xs : List Section) × IsScript text xs × (map seen_piece (items v) ≡ pieces_from 0 xs))
+    → IfOk r (λ v. All (λ piece. piece.place + length piece.text.now < 2 ^ 64) (items v))
+within items text (Ok v) short cut = all_below text cut.0 (items v) (2 ^ 64) short cut.1 cut.2
+within items text (Err e) short cut = tt
 
 pub returns : goal.returns
-returns c =
-    let text : List ℕ = c.args.script.now in
-    let inside : Span → Type 0 = λ s. IsWithin s text in
-    let all : All inside (cut_from 0 0 false text) = All-from_recursion inside (cut_from 0 0 false text) (all_within (length text) 0 0 false text (omega arith) (omega arith)) in
-    record {
-      cut = are_cut c;
-      within = subst (λ (l : List Span). All inside l) (sym (are_cut c)) all;
-    }
+returns c = record { cut = c.cut.ensures; within = within (λ v. v.items) c.args.text.now c.cut.result (omega arith) c.cut.ensures }

@@ -1,7 +1,7 @@
 use Rattle.std.proofs.Common.{◌≡◌, ◌+◌, [], ◌∙◌, ap, arith, Ok}
 use Rattle.px_gatelog.specs.GateLog.{steps_left}
 use Rattle.px_main.specs.PutRecords.{kv_form}
-use Rattle.px_main.proofs.Opening.{leaves_on, same_then, settled_none, step_kept, step_leaves, still_has, touch_any, touches_on}
+use Rattle.px_main.proofs.Opening.{leaves_step, same_then, settled_none, step_kept, still_has, touch_any, touches_on}
 use Rattle.px_main.proofs.store.open_segment.Goals as goal
 
 pub returns-in-Ok-Rolled-clause-kept : goal.returns-in-Ok-Rolled-clause-kept
@@ -20,10 +20,8 @@ loop-preserved g c = record {
       let two : steps_left c.loop.log ≡ 2 = omega arith in
       c.in-Ok-More.ensures.laid kv_form [] (settled_none g.D.Disk c.loop.disk c.loop.log puts size c.loop.invariant.closed (c.loop.invariant.kept puts size ready logged)) two;
   leaves = λ puts size ready logged.
-      leaves_on g.D.Disk c.args.disk.now c.loop.disk c.roll_step.new.disk c.args.log.now c.loop.log puts c.loop.invariant.same (c.loop.invariant.leaves puts size ready logged)
-      (touch_any g.D.Disk c.args.disk.now c.loop.disk c.roll_step.new.disk _ c.roll_step.ensures.touches)
-      (step_leaves g.D.Disk c.loop.disk c.roll_step.new.disk c.loop.log puts size c.loop.invariant.closed (c.loop.invariant.kept puts size ready logged)
-      (λ form segments records settled may laid. c.roll_step.ensures.any_moment form segments records settled may laid) (c.loop.invariant.laid puts size ready logged));
+      leaves_step g.D.Disk c.args.disk.now c.loop.disk c.roll_step.new.disk c.args.log.now c.loop.log puts size _ c.loop.invariant.same (c.loop.invariant.leaves puts size ready logged) c.roll_step.ensures.touches
+      c.loop.invariant.closed (c.loop.invariant.kept puts size ready logged) (λ form segments records settled may laid. c.roll_step.ensures.any_moment form segments records settled may laid) (c.loop.invariant.laid puts size ready logged);
   touches = touches_on g.D.Disk c.args.disk.now c.loop.disk c.roll_step.new.disk c.loop.invariant.touches (touch_any g.D.Disk c.args.disk.now c.loop.disk c.roll_step.new.disk _ c.roll_step.ensures.touches);
   same = same_then c.args.log.now c.loop.log c.roll_step.new.self c.loop.invariant.same c.roll_step.ensures.same;
   calls = omega (arith, c.roll_step.ensures.counts.later);
@@ -35,14 +33,10 @@ returns-then-is_open-clause-leaves g c = λ puts size ready logged. still_has g.
 
 pub returns-in-Ok-Rolled-clause-leaves : goal.returns-in-Ok-Rolled-clause-leaves
 returns-in-Ok-Rolled-clause-leaves g c = λ puts size ready logged.
-    leaves_on g.D.Disk c.args.disk.now c.loop.disk c.roll_step.new.disk c.args.log.now c.loop.log puts c.loop.invariant.same (c.loop.invariant.leaves puts size ready logged)
-    (touch_any g.D.Disk c.args.disk.now c.loop.disk c.roll_step.new.disk _ c.roll_step.ensures.touches)
-    (step_leaves g.D.Disk c.loop.disk c.roll_step.new.disk c.loop.log puts size c.loop.invariant.closed (c.loop.invariant.kept puts size ready logged)
-    (λ form segments records settled may laid. c.roll_step.ensures.any_moment form segments records settled may laid) (c.loop.invariant.laid puts size ready logged))
+    leaves_step g.D.Disk c.args.disk.now c.loop.disk c.roll_step.new.disk c.args.log.now c.loop.log puts size _ c.loop.invariant.same (c.loop.invariant.leaves puts size ready logged) c.roll_step.ensures.touches
+    c.loop.invariant.closed (c.loop.invariant.kept puts size ready logged) (λ form segments records settled may laid. c.roll_step.ensures.any_moment form segments records settled may laid) (c.loop.invariant.laid puts size ready logged)
 
 pub returns-in-Err-clause-leaves : goal.returns-in-Err-clause-leaves
 returns-in-Err-clause-leaves g c = λ puts size ready logged.
-    leaves_on g.D.Disk c.args.disk.now c.loop.disk c.roll_step.new.disk c.args.log.now c.loop.log puts c.loop.invariant.same (c.loop.invariant.leaves puts size ready logged)
-    (touch_any g.D.Disk c.args.disk.now c.loop.disk c.roll_step.new.disk _ c.roll_step.ensures.touches)
-    (step_leaves g.D.Disk c.loop.disk c.roll_step.new.disk c.loop.log puts size c.loop.invariant.closed (c.loop.invariant.kept puts size ready logged)
-    (λ form segments records settled may laid. c.roll_step.ensures.any_moment form segments records settled may laid) (c.loop.invariant.laid puts size ready logged))
+    leaves_step g.D.Disk c.args.disk.now c.loop.disk c.roll_step.new.disk c.args.log.now c.loop.log puts size _ c.loop.invariant.same (c.loop.invariant.leaves puts size ready logged) c.roll_step.ensures.touches
+    c.loop.invariant.closed (c.loop.invariant.kept puts size ready logged) (λ form segments records settled may laid. c.roll_step.ensures.any_moment form segments records settled may laid) (c.loop.invariant.laid puts size ready logged)
