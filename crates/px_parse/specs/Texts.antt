@@ -39,6 +39,10 @@ abbrev pub begins_with : List Seen → Kind → Bool
 begins_with [] kind = false
 begins_with (t ∷ rest) kind = same_kind t.kind kind
 
+abbrev pub upserts : Statement → Bool
+upserts (statements.Upsert u) = true
+upserts s = false
+
 -- a whole UPSERT
 abbrev pub IsUpsert : List Seen → Type 0
 IsUpsert tokens = (u : Upsert) × ReadsWithin depth_limit tokens (statements.Upsert u)

@@ -44,15 +44,22 @@ fn begins_with(rest: &[Token<'_>], kind: Kind) -> bool
     }
 }
 
+/// Whether it is an UPSERT.
+fn upserts(read: &Statement) -> bool
+    ensures { result ≡ spec.upserts read.now }
+{
+    matches!(read, Statement::Upsert(_))
+}
+
 /// Whether tokens are a whole UPSERT.
 fn is_upsert(alloc: Global, tokens: &[Token<'_>]) -> Result<bool, SyntaxFault>
     requires { AreWell (map seen tokens.now) }
     ensures { spec.Tests (spec.IsUpsert (map seen tokens.now)) result }
 {
     match read_tokens(alloc, tokens) {
-        Ok(Statement::Upsert(_)) => Ok(true),
+        Ok(read) => Ok(upserts(&read)),
         Err(TokenFault::Memory) => Err(SyntaxFault::Memory),
-        _ => Ok(false),
+        Err(_) => Ok(false),
     }
 }
 
