@@ -11,7 +11,7 @@ use crate::fault::ReadFault;
 use crate::texts::{stored_name, stored_text};
 use px_ast::{Constant, Items, Literal, Number};
 use px_lex::kind::Kind;
-use px_values::{Name, Text};
+use px_values::{Name, SmallText};
 use std::alloc::Global;
 
 #[tactic(auto, unfolding(px_ast::specs::Grammar::name))]
@@ -85,7 +85,7 @@ fn number(alloc: Global, tokens: &mut Cursor<'_>) -> Result<Literal, ReadFault>
 {
     let sign = maybe_sign(tokens)?;
     let token = tokens.take(Kind::Number)?;
-    let digits = Text::from_str(alloc, token.text)?;
+    let digits = SmallText::from_str(alloc, token.text)?;
     let (negative, place) = match sign {
         None => (false, token.place),
         Some(sign) => sign,

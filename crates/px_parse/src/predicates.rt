@@ -9,7 +9,7 @@ use crate::cursor::{Cursor, word};
 use crate::fault::ReadFault;
 use crate::literals::{literal, literals};
 use crate::texts::stored_name;
-use px_ast::{Comparison, Operand, Predicate};
+use px_ast::{Boxed, Comparison, Operand, Predicate};
 use px_lex::kind::Kind;
 use std::alloc::Global;
 
@@ -62,8 +62,8 @@ fn compared(alloc: Global, tokens: &mut Cursor<'_>, left: Operand) -> Result<Pre
     let comparison = comparison(tokens)?;
     let right = operand(alloc, tokens)?;
     Ok(Predicate::Compare {
-        left,
         comparison,
+        left,
         right,
     })
 }
@@ -124,8 +124,8 @@ fn between(
     Ok(Predicate::Between {
         operand: left,
         negated,
-        low,
-        high,
+        low: Boxed::new(alloc, low)?,
+        high: Boxed::new(alloc, high)?,
     })
 }
 
