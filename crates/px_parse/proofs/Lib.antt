@@ -16,4 +16,3 @@ pub mod Well
 pub mod Upserts
 pub mod Reading
 pub mod Doubts
-pub mod Capitals

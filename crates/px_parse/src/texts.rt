@@ -1,7 +1,5 @@
 // What the texts of tokens stand for.
 ghost use Rattle.std.specs.Prelude.{◌≡◌, ◌<◌, true, false, IfOk, string_bytes};
-ghost use Rattle.std.specs.Char.{is_ascii_lowercase};
-ghost use Rattle.std.specs.List.{list_any};
 ghost use Rattle.px_lex.specs.Bytes.{pairs, starts};
 ghost use Rattle.px_lex.specs.Kinds.{same_kind};
 ghost use Rattle.px_lex.specs.Lexemes.{seen};
@@ -28,13 +26,6 @@ fn is_enclosed(name: &str) -> bool
     matches!(name.as_bytes(), [b'"', ..])
 }
 
-/// Whether small letters are in a text.
-fn has_small_letters(text: &str) -> bool
-    ensures { result ≡ list_any is_ascii_lowercase text.now }
-{
-    text.as_bytes().iter().any(|b| b.is_ascii_lowercase())
-}
-
 /// The name that a name's token is stored as.
 pub fn stored_name(alloc: Global, token: &Token<'_>) -> Result<Name, AllocError>
     requires kind { same_kind token.now.kind k.Name ≡ true }
@@ -44,11 +35,7 @@ pub fn stored_name(alloc: Global, token: &Token<'_>) -> Result<Name, AllocError>
     if is_enclosed(token.text) {
         return Name::from_str(alloc, between(token.text));
     }
-    if !has_small_letters(token.text) {
-        return Name::from_str(alloc, token.text);
-    }
-    let capitals = token.text.to_ascii_uppercase(alloc)?;
-    Name::from_str(alloc, capitals.as_str())
+    Name::in_capitals(alloc, token.text)
 }
 
 /// The text in which each doubled quote is one.
