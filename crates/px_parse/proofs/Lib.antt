@@ -13,6 +13,7 @@ pub mod Calm
 pub mod Verdict
 pub mod Telling
 pub mod Well
+pub mod Parts
 pub mod Upserts
 pub mod Reading
 pub mod Doubts

@@ -20,6 +20,11 @@ abbrev pub Gives : {A : Type 0} → Outcome A → Result A ReadFault → List Se
 Gives o (Ok a) new = o ≡ Got a new
 Gives o (Err e) new = Fails o e new
 
+-- A function that reads a value and puts it behind those of a list gives the rule's outcome so.
+abbrev pub Puts : {A : Type 0} → Outcome A → List A → Result (Unit {0}) ReadFault → List A → List Seen → Type 0
+Puts {A} o before (Ok _) after new = (a : A) × (after ≡ before ++ a ∷ []) × (o ≡ Got a new)
+Puts o before (Err e) after new = Fails o e new
+
 abbrev pub GivesToken : Outcome Seen → Result Token ReadFault → List Seen → Type 0
 GivesToken o (Ok t) new = o ≡ Got (seen t) new
 GivesToken o (Err e) new = Fails o e new

@@ -3,7 +3,7 @@ ghost use Rattle.std.specs.Prelude.{◌≡◌, [], ◌∷◌};
 ghost use Rattle.px_lex.specs.declared.kind.Kind.TheVariants as k;
 ghost use Rattle.px_ast.specs.Rule.{sees, separated, ◌▹◌};
 ghost use Rattle.px_ast.specs.Grammar as grammar;
-ghost use Rattle.px_parse.specs.Reading.{Gives, behind_first};
+ghost use Rattle.px_parse.specs.Reading.{Gives, Puts, behind_first};
 
 use crate::cursor::{Cursor, word};
 use crate::fault::ReadFault;
@@ -55,12 +55,36 @@ fn part(alloc: Global, tokens: &mut Cursor<'_>, depth: usize) -> Result<Conditio
     Ok(Condition::Predicate(predicate(alloc, tokens, depth)?))
 }
 
+/// Reads a part and puts it behind the others. A predicate isn't moved on its way.
 #[cycle(condition)]
-fn next_part(alloc: Global, tokens: &mut Cursor<'_>, depth: usize) -> Result<Condition, ReadFault>
-    ensures { Gives ((k.And ▹ grammar.part depth).at tokens.old) result tokens.new }
+#[tactic(auto, unfolding(px_ast::specs::Grammar::part))]
+fn put_part(
+    alloc: Global,
+    tokens: &mut Cursor<'_>,
+    depth: usize,
+    to: &mut Vec<Condition>,
+) -> Result<(), ReadFault>
+    ensures { Puts ((grammar.part depth).at tokens.old) to.old.items result to.new.items tokens.new }
+{
+    if depth == 0 || tokens.sees(Kind::Not) || tokens.sees(Kind::OpenParen) {
+        to.push(part(alloc, tokens, depth)?)?;
+        return Ok(());
+    }
+    to.push(Condition::Predicate(predicate(alloc, tokens, depth)?))?;
+    Ok(())
+}
+
+#[cycle(condition)]
+fn put_next_part(
+    alloc: Global,
+    tokens: &mut Cursor<'_>,
+    depth: usize,
+    to: &mut Vec<Condition>,
+) -> Result<(), ReadFault>
+    ensures { Puts ((k.And ▹ grammar.part depth).at tokens.old) to.old.items result to.new.items tokens.new }
 {
     word(tokens, Kind::And)?;
-    part(alloc, tokens, depth)
+    put_part(alloc, tokens, depth, to)
 }
 
 /// The parts of which the first was read, with AND between them.
@@ -79,34 +103,46 @@ fn parts_behind(
         if !tokens.sees(Kind::And) {
             return Ok(Items::of(found));
         }
-        found.push(next_part(alloc, tokens, depth)?)?;
+        put_next_part(alloc, tokens, depth, &mut found)?;
     }
     Ok(Items::of(found))
 }
 
-/// `part { AND part }`. One part alone takes no list, and isn't moved.
+/// Reads `part { AND part }` and puts it behind the others. One part alone takes no list of its own.
 #[cycle(condition)]
 #[tactic(auto, unfolding(px_ast::specs::Grammar::conjunction))]
-fn conjunction(alloc: Global, tokens: &mut Cursor<'_>, depth: usize) -> Result<Condition, ReadFault>
-    ensures { Gives ((grammar.conjunction (grammar.part depth)).at tokens.old) result tokens.new }
-{
-    let first = part(alloc, tokens, depth);
-    if tokens.sees(Kind::And) {
-        return Ok(all_of(parts_behind(alloc, tokens, depth, first?)?.into_vec()));
-    }
-    first
-}
-
-#[cycle(condition)]
-fn next_conjunction(
+fn put_conjunction(
     alloc: Global,
     tokens: &mut Cursor<'_>,
     depth: usize,
-) -> Result<Condition, ReadFault>
-    ensures { Gives ((k.Or ▹ grammar.conjunction (grammar.part depth)).at tokens.old) result tokens.new }
+    to: &mut Vec<Condition>,
+) -> Result<(), ReadFault>
+    ensures { Puts ((grammar.conjunction (grammar.part depth)).at tokens.old) to.old.items result to.new.items tokens.new }
+{
+    put_part(alloc, tokens, depth, to)?;
+    let goes_on = tokens.sees(Kind::And);
+    if !goes_on {
+        return Ok(());
+    }
+    let Some(first) = to.pop() else {
+        unreachable!();
+    };
+    let parts = parts_behind(alloc, tokens, depth, first)?;
+    to.push(all_of(parts.into_vec()))?;
+    Ok(())
+}
+
+#[cycle(condition)]
+fn put_next_conjunction(
+    alloc: Global,
+    tokens: &mut Cursor<'_>,
+    depth: usize,
+    to: &mut Vec<Condition>,
+) -> Result<(), ReadFault>
+    ensures { Puts ((k.Or ▹ grammar.conjunction (grammar.part depth)).at tokens.old) to.old.items result to.new.items tokens.new }
 {
     word(tokens, Kind::Or)?;
-    conjunction(alloc, tokens, depth)
+    put_conjunction(alloc, tokens, depth, to)
 }
 
 #[cycle(condition)]
@@ -118,12 +154,12 @@ fn conjunctions(
     ensures { Gives ((separated k.Or (grammar.conjunction (grammar.part depth))).at tokens.old) result tokens.new }
 {
     let mut found = Vec::new(alloc);
-    found.push(conjunction(alloc, tokens, depth)?)?;
+    put_conjunction(alloc, tokens, depth, &mut found)?;
     for _turn in 0..tokens.left() {
         if !tokens.sees(Kind::Or) {
             return Ok(Items::of(found));
         }
-        found.push(next_conjunction(alloc, tokens, depth)?)?;
+        put_next_conjunction(alloc, tokens, depth, &mut found)?;
     }
     Ok(Items::of(found))
 }

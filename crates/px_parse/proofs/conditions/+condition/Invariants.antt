@@ -7,25 +7,28 @@ use Rattle.px_parse.proofs.Turns.{with_front}
 use Rattle.px_parse.proofs.conditions.+condition.Given as goal
 
 abbrev pub decreases-part : goal.decreases-part
-decreases-part l = 7 * l.depth
+decreases-part l = 8 * l.depth
 
-abbrev pub decreases-next_part : goal.decreases-next_part
-decreases-next_part l = 7 * l.depth + 1
+abbrev pub decreases-put_part : goal.decreases-put_part
+decreases-put_part l = 8 * l.depth + 1
+
+abbrev pub decreases-put_next_part : goal.decreases-put_next_part
+decreases-put_next_part l = 8 * l.depth + 2
 
 abbrev pub decreases-parts_behind : goal.decreases-parts_behind
-decreases-parts_behind l = 7 * l.depth + 2
+decreases-parts_behind l = 8 * l.depth + 3
 
-abbrev pub decreases-conjunction : goal.decreases-conjunction
-decreases-conjunction l = 7 * l.depth + 3
+abbrev pub decreases-put_conjunction : goal.decreases-put_conjunction
+decreases-put_conjunction l = 8 * l.depth + 4
 
-abbrev pub decreases-next_conjunction : goal.decreases-next_conjunction
-decreases-next_conjunction l = 7 * l.depth + 4
+abbrev pub decreases-put_next_conjunction : goal.decreases-put_next_conjunction
+decreases-put_next_conjunction l = 8 * l.depth + 5
 
 abbrev pub decreases-conjunctions : goal.decreases-conjunctions
-decreases-conjunctions l = 7 * l.depth + 5
+decreases-conjunctions l = 8 * l.depth + 6
 
 abbrev pub decreases-disjunction : goal.decreases-disjunction
-decreases-disjunction l = 7 * l.depth + 6
+decreases-disjunction l = 8 * l.depth + 7
 
 abbrev pub invariant-parts_behind-loop-turn : goal.invariant-parts_behind-loop-turn
 invariant-parts_behind-loop-turn l = with_front l.found.items (many_at (k.And ▹ grammar.part l.depth) (l._turn-end - l._turn) l.tokens) ≡ behind_first k.And (grammar.part l.depth) l.fn.first l.fn.tokens
