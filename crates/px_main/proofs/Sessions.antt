@@ -4,6 +4,7 @@ use Rattle.std.proofs.lemmas.List.{append-nil, map-append, take-append-drop, tak
 use Rattle.px_outside.specs.declared.disk.Disk.{Ghosts}
 use Rattle.px_lex.specs.declared.script.Piece.{Piece}
 use Rattle.px_lex.specs.Script.{IsScript, Section, SeenPiece, pieces_from, seen_piece}
+use Rattle.px_lex.proofs.SomeScript.{some_script}
 use Rattle.px_trail.specs.declared.entry.Entry.{Entry}
 use Rattle.px_main.specs.declared.reply.Item.{Item}
 use Rattle.px_main.specs.declared.reply.Refusal.{Refusal}
@@ -163,11 +164,26 @@ unmoved d origin disk store items ending Right kept other right =
       lasts = λ rest. as_late d origin.base store.trail.entries disk kept.told.legal (kept.lasts rest);
     }
 
--- where no memory was found for the pieces
+-- no piece is answered, for want of memory
+none_answered : (origin : Origin) (es : List Entry) (pieces : List SeenPiece) (items : List Item) (ending : Ending) → items ≡ [] → ending ≡ Memory → AreAnswered origin es (length es) pieces items ending
+none_answered origin es pieces items ending none memory =
+    record {
+      passed = [];
+      rest = pieces;
+      all = refl;
+      replied = subst (λ (l : List Item). AreReplied origin es (length es) (length es) [] l) (sym none) (no_pieces origin es (length es));
+      whole = λ e. (let no : Memory ≡ Whole = sym memory ∙ e in cc);
+      quiet = λ _. subst (λ (l : List Item). IsQuiet l) (sym none) tt;
+      last = λ e. (let no : Memory ≡ WriteFault = sym memory ∙ e in cc);
+    }
+
+-- where no memory was found for the pieces: the script has some all the same, and the session ended before the first
 pub session_none : {D : Type 0} (d : Ghosts D) (origin : Origin) (disk : D) (store : Store) (script : List ℕ) (items : List Item) (ending : Ending) → items ≡ [] → ending ≡ Memory → IsKept d origin disk store
     → HasSession d origin disk disk store items ending (λ es given end. AnswersPieces origin es script (length store.trail.entries) given end)
 session_none d origin disk store script items ending none memory kept =
-    unmoved d origin disk store items ending _ kept (λ e. (let no : Memory ≡ WriteFault = sym memory ∙ e in cc)) (inl (refl, none, memory))
+    let cut = some_script script in
+    unmoved d origin disk store items ending _ kept (λ e. (let no : Memory ≡ WriteFault = sym memory ∙ e in cc))
+    (cut.0, cut.1, none_answered origin store.trail.entries (pieces_from 0 cut.0) items ending none memory)
 
 pub session_passed : {D : Type 0} (d : Ghosts D) (origin : Origin) (disk disk' : D) (store : Store) (script : List ℕ) (from : ℕ) (xs : List Section) (pieces : List Piece) (items items' : List Item) (ending : Ending)
     → IsScript script xs → map seen_piece pieces ≡ pieces_from 0 xs → items' ≡ items → HasSession d origin disk disk' store items ending (λ es given end. AreAnswered origin es from (map seen_piece pieces) given end)
@@ -175,7 +191,7 @@ pub session_passed : {D : Type 0} (d : Ghosts D) (origin : Origin) (disk disk' :
 session_passed d origin disk disk' store script from xs pieces items items' ending cut are same passed =
     record {
       legal = passed.legal;
-      answers = inr (
+      answers = (
         xs,
         cut,
         subst (λ (l : List SeenPiece). AreAnswered origin store.trail.entries from l items' ending) are

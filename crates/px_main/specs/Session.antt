@@ -72,14 +72,9 @@ stopped script entries refusal = record {
 abbrev pub IsStopped : List ℕ → (entries : ℕ) → Refusal → List Item → Ending → Type 0
 IsStopped script entries refusal items ending = ((items ≡ stopped script entries refusal ∷ []) × (ending ≡ Whole)) ⊎ ((items ≡ []) × (ending ≡ Memory))
 
--- no memory was found to cut the script into its pieces
-abbrev pub AnswersNone : List Entry → (from : ℕ) → List Item → Ending → Type 0
-AnswersNone es from items ending = (length es ≡ from) × (items ≡ []) × (ending ≡ Memory)
-
 -- the right answers to the statements and session commands of a script, in the one way in which it is cut into them
 abbrev pub AnswersPieces : Origin → List Entry → List ℕ → (from : ℕ) → List Item → Ending → Type 0
-AnswersPieces origin es script from items ending =
-    AnswersNone es from items ending ⊎ ((xs : List Section) × IsScript script xs × AreAnswered origin es from (pieces_from 0 xs) items ending)
+AnswersPieces origin es script from items ending = (xs : List Section) × IsScript script xs × AreAnswered origin es from (pieces_from 0 xs) items ending
 
 -- nothing of the script is run, and why
 abbrev pub AnswersNothing : List Entry → List ℕ → (from : ℕ) → List Item → Ending → Type 0

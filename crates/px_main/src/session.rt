@@ -168,7 +168,7 @@ pub enum Ending {
     Whole,
     /// A write of the last answered statement failed. Statements behind it weren't run.
     WriteFault,
-    /// No memory was found to keep an answer. Statements behind it weren't run.
+    /// No memory was found to cut the script or to keep an answer. Statements from there on weren't run.
     Memory,
 }
 
@@ -271,7 +271,7 @@ fn stop_script(alloc: Global, entries: u64, script: &[u8], refusal: Refusal) -> 
 }
 
 /// Runs the statements and session commands of a text one after the other, up to its end, to a failed write, or to where
-/// no memory is found to keep an answer.
+/// no memory is found to keep an answer. Where none is found to cut the text into them, none is run.
 fn run_text<D: CountsCalls, C: Clock>(
     alloc: Global,
     store: &mut Store,
