@@ -3,6 +3,7 @@ use Rattle.std.proofs.Common.{◌≡◌, ℕ, ◌<◌, ◌≤◌, Bool, true, fa
 use Rattle.std.specs.Prelude.{IsSome}
 use Rattle.std.specs.Str.{bytes_eq}
 use Rattle.std.specs.Ordering.{is_eq}
+use Rattle.std.proofs.lemmas.Bool.{and_parts}
 use Rattle.std.proofs.lemmas.Slice.Eq.{bytes_eq-Decides}
 use Rattle.px_values.specs.declared.row.Value.{Value}
 use Rattle.px_values.specs.declared.row.Value.TheVariants.{Null, Number, Truth, Text}
@@ -12,7 +13,6 @@ use Rattle.px_values.specs.Order.{row_order}
 use Rattle.px_values.specs.States.{RowState, Shape, apply}
 use Rattle.px_trail.specs.declared.entry.Entry.{Entry}
 use Rattle.px_trail.specs.Trail.{Base, Batch, IsLegal, batch_of, calls_of, last_of, shape_of, state_of, unwritten}
-use Rattle.px_trail.specs.Growth.{and_true}
 use Rattle.px_trail.specs.One.{all_written, begun-last, begun-legal, begun-state, begun_entry, ended-is, ended-last, ended-legal, ended-quiet, ended-state, ended-whole, ended_entry, state_with, wrote-last, wrote-legal, wrote-state, wrote_entry}
 use Rattle.px_main.specs.Puts.{Put, greatest, newest}
 use Rattle.px_main.specs.Kv.{Tells, key_text, kv, kv_shape, row_at, state_at, state_by, what_of}
@@ -133,7 +133,7 @@ module _ (base : Base) (es : List Entry) (puts : List Put) (told : Tells base es
         → (if is_eq (row_order (key_of x.key) (key_of k)) && nat_le x.stamp point then apply (shape_of base kv) (key_of k) (state_was k point) (what_of x.value) else state_was k point)
         ≡ row_at (newest k point more)) [
           | true ↦ λ h.
-              let same : k ≡ x.key = (bytes_eq-Decides k x.key).0 (and_true (bytes_eq k x.key) (nat_le x.stamp point) h).0 in
+              let same : k ≡ x.key = (bytes_eq-Decides k x.key).0 (and_parts (bytes_eq k x.key) (nat_le x.stamp point) h).0 in
               let test : (is_eq (row_order (key_of x.key) (key_of k)) && nat_le x.stamp point) ≡ true = ap (λ (b : Bool). b && nat_le x.stamp point) (sym (bytes_flip k x.key)) ∙ h in
               ap (λ (v : Bool). if v then apply (shape_of base kv) (key_of k) (state_was k point) (what_of x.value) else state_was k point) test
               ∙ (with_put k point same ∙ sym (ap row_at (newer k point ∙ ap (λ (v : Bool). if v then Some x else newest k point puts) h)))

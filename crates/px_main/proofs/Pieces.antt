@@ -39,10 +39,6 @@ pub divider-end : (text : List ℕ) (i : ℕ) (at_start : Bool) → length text 
 unfolding has_divider
 divider-end text i at_start past = rw (drop_all i text past) refl
 
-pub and_true : (a b : Bool) → (a && b) ≡ true → (a ≡ true) × (b ≡ true)
-and_true true b h = (refl, h)
-and_true false b h = cc
-
 -- ---- the pieces of a text of n bytes stand in it
 
 abbrev ends_within : ℕ → SeenPiece → Type 0

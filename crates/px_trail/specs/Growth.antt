@@ -3,7 +3,7 @@ use Rattle.std.proofs.Common.{ℕ, ◌≡◌, ◌≢◌, ◌<◌, ◌≤◌, max
 use Rattle.std.proofs.lemmas.Bool.Decides.{Decides-eqb, nat_tests}
 use Rattle.std.proofs.lemmas.List.{append-nil}
 use Rattle.std.proofs.lemmas.List.Elements.{filter-append}
-use Rattle.std.proofs.lemmas.Bool.{ne_eqb}
+use Rattle.std.proofs.lemmas.Bool.{and_parts, ne_eqb}
 use Rattle.std.specs.List.{AllByRecursion}
 use Rattle.px_values.specs.declared.row.Value.{Value}
 use Rattle.px_values.specs.declared.change.What.{What}
@@ -12,12 +12,6 @@ use Rattle.px_trail.specs.declared.entry.Act.{Act}
 use Rattle.px_trail.specs.declared.entry.Act.TheVariants.{Begun, Wrote, Ended}
 use Rattle.px_trail.specs.declared.entry.Entry.{Entry}
 use Rattle.px_trail.specs.Trail.{Base, Batch, Dated, IsLegal, MayCome, applied, batch_from, batch_of, batch_step, begun, begun_batch, begun_by, calls_from, calls_of, change_of, dated, is_written, is_written_in, last_from, last_of, last_step, written}
-
--- ---- tests on rows
-
-pub and_true : (a b : Bool) → (a && b) ≡ true → (a ≡ true) × (b ≡ true)
-and_true true b h = (refl, h)
-and_true false b h = cc
 
 -- ---- one entry more
 
@@ -77,7 +71,7 @@ begins : (t s l seat : ℕ) (act : Act) → (batch_step t s None seat act ≡ No
 unfolding batch_step
 begins t s l seat (Begun t' s' cs) =
     elim ((t'.0 == t) && (s' == s)) as (λ v. ((t'.0 == t) && (s' == s)) ≡ v → ((if v then Some (begun_batch seat cs) else None) ≡ None) ⊎ (s ≤ last_step t l (Begun t' s' cs))) [
-      | true ↦ λ h. inr (let both = and_true (t'.0 == t) (s' == s) h in let hs : s' ≡ s = (Decides-eqb s' s).0 both.1 in let ht : (t'.0 == t) ≡ true = both.0 in rw ht (omega arith))
+      | true ↦ λ h. inr (let both = and_parts (t'.0 == t) (s' == s) h in let hs : s' ≡ s = (Decides-eqb s' s).0 both.1 in let ht : (t'.0 == t) ≡ true = both.0 in rw ht (omega arith))
       | false ↦ λ h. inl refl
     ] refl
 begins t s l seat (Wrote t' s' rows) = inl refl
