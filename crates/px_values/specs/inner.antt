@@ -1,0 +1,2 @@
+pub mod LiteralAnswers
+pub mod SmallTexts
