@@ -8,7 +8,7 @@ use Rattle.std.proofs.lemmas.Slice.Eq.{bytes_eq-Decides}
 use Rattle.px_values.specs.declared.row.Value.{Value}
 use Rattle.px_values.specs.declared.row.Value.TheVariants.{Null, Number, Truth, Text}
 use Rattle.px_values.specs.declared.name.TableId.{TableId}
-use Rattle.px_values.specs.Equal.{row_order-Decides}
+use Rattle.px_values.proofs.Equal.{row_order-Decides}
 use Rattle.px_values.specs.Order.{row_order}
 use Rattle.px_values.specs.States.{RowState, Shape, apply}
 use Rattle.px_trail.specs.declared.entry.Entry.{Entry}

@@ -6,7 +6,7 @@ use px_values::{CountWord, Limit, Rows, TableId};
 use std::marker::Model;
 
 /// Why a statement was refused.
-#[derive(Clone, Copy, Debug, PartialEq, Eq)]
+#[derive(Clone, Copy)]
 pub enum Refusal {
     /// At this byte no statement goes on, counted from the statement's first; or the script isn't UTF-8 from this byte on,
     /// counted from the script's first.

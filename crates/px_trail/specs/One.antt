@@ -8,7 +8,7 @@ use Rattle.std.specs.Ordering.{is_eq}
 use Rattle.px_values.specs.declared.row.Value.{Value}
 use Rattle.px_values.specs.declared.change.What.{What}
 use Rattle.px_values.specs.declared.name.TableId.{TableId}
-use Rattle.px_values.specs.Equal.{row_order-Decides}
+use Rattle.px_values.proofs.Equal.{row_order-Decides}
 use Rattle.px_values.specs.Order.{row_order}
 use Rattle.px_values.specs.States.{RowState, Shape, apply}
 use Rattle.px_trail.specs.declared.entry.Act.TheVariants.{Begun, Wrote, Ended}
