@@ -9,9 +9,9 @@ ghost use Rattle.px_parse.specs.Reading.{Gives};
 use crate::cursor::{Cursor, word};
 use crate::fault::ReadFault;
 use crate::literals::name;
-use px_ast::{Column, Items, KeyConstraint, KeyPart};
+use px_ast::{Column, KeyConstraint, KeyPart};
 use px_lex::kind::Kind;
-use px_values::{ColType, Direction};
+use px_values::{ColType, Direction, Items};
 use std::alloc::Global;
 
 /// The direction that is written, or else ascending.

@@ -8,8 +8,9 @@ ghost use Rattle.px_parse.specs.Reading.{Gives, Puts, behind_first};
 use crate::cursor::{Cursor, word};
 use crate::fault::ReadFault;
 use crate::predicates::predicate;
-use px_ast::{Boxed, Condition, Items};
+use px_ast::{Boxed, Condition};
 use px_lex::kind::Kind;
+use px_values::Items;
 use std::alloc::Global;
 
 fn all_of(mut parts: Vec<Condition>) -> Condition

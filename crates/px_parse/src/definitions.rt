@@ -10,11 +10,11 @@ use crate::cursor::{Cursor, word};
 use crate::fault::ReadFault;
 use crate::literals::{literals, name, names};
 use px_ast::{
-    AlterIndex, Column, CreateIndex, CreateTable, DropIndex, DropTable, IndexAction, Items,
-    KeyConstraint, Literal,
+    AlterIndex, Column, CreateIndex, CreateTable, DropIndex, DropTable, IndexAction, KeyConstraint,
+    Literal,
 };
 use px_lex::kind::Kind;
-use px_values::Name;
+use px_values::{Items, Name};
 use std::alloc::Global;
 
 /// `[IF NOT EXISTS]`

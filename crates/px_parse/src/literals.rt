@@ -9,9 +9,9 @@ ghost use Rattle.px_parse.specs.Reading.{Gives};
 use crate::cursor::{Cursor, word};
 use crate::fault::ReadFault;
 use crate::texts::{stored_name, stored_text};
-use px_ast::{Constant, Items, Literal, Number};
+use px_ast::{Constant, Literal, Number};
 use px_lex::kind::Kind;
-use px_values::{Name, SmallText};
+use px_values::{Items, Name, SmallText};
 use std::alloc::Global;
 
 #[tactic(auto, unfolding(px_ast::specs::Grammar::name))]

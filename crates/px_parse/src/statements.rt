@@ -12,9 +12,9 @@ use crate::cursor::{Cursor, word};
 use crate::definitions::{alter_index, create_index, create_table, drop_index, drop_table};
 use crate::fault::ReadFault;
 use crate::literals::{literals, name, name_list, names};
-use px_ast::{Boxed, Condition, Delete, Items, KeyPart, RowLimit, Select, Statement, Upsert};
+use px_ast::{Boxed, Condition, Delete, KeyPart, RowLimit, Select, Statement, Upsert};
 use px_lex::kind::Kind;
-use px_values::{Name, Text};
+use px_values::{Items, Name, Text};
 use std::alloc::Global;
 
 /// `[( name { , name } )]`
