@@ -3,14 +3,14 @@
 # either direction. Usage: bench/keys.sh [KEYS], how many short keys are written; of the long ones it is a tenth.
 set -eu
 keys=${1:-2000000}
-cd "$(dirname "$0")/../crates/px_keys_bench"
+cd "$(dirname "$0")/../crates/px_bench_keys"
 # Proves and builds the program, where that wasn't done yet.
 rt run >/dev/null 2>&1
 printf '%s processors\n' "$(nproc)"
 long=$(printf 'x%.0s' $(seq 900))
 for direction in asc desc; do
     printf '%s: ' "$direction"
-    ./out/px_keys_bench "$keys" "$direction" 'customer of the north'
+    ./out/px_bench_keys "$keys" "$direction" 'customer of the north'
     printf '%s: ' "$direction"
-    ./out/px_keys_bench "$((keys / 10))" "$direction" "$long"
+    ./out/px_bench_keys "$((keys / 10))" "$direction" "$long"
 done

@@ -1,5 +1,5 @@
 use Rattle.std.proofs.Common.{◌∙◌, ap, sym, take_all, arith}
-use Rattle.px_keys.specs.Written.{bytes_of}
+use Rattle.px_keys.specs.inner.Written.{bytes_of}
 use Rattle.px_keys.proofs.Written.{parts_spelled}
 use Rattle.px_keys.proofs.writing.spell_front.Goals as goal
 

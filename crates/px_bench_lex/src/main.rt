@@ -1,4 +1,4 @@
-//! Times the lexer. `px_lex_bench FILE` cuts a script into pieces, reads the tokens of each, and says the megabytes a second of
+//! Times the lexer. `px_bench_lex FILE` cuts a script into pieces, reads the tokens of each, and says the megabytes a second of
 //! both; without an argument it counts those of a small script, and prints the counts alone.
 #![tactic(auto)]
 

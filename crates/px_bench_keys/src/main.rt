@@ -1,4 +1,4 @@
-//! Times keys of a text and a number. `px_keys_bench KEYS DIRECTION TEXT` says how many of them are written and read a
+//! Times keys of a text and a number. `px_bench_keys KEYS DIRECTION TEXT` says how many of them are written and read a
 //! second, in the direction `asc` or `desc`; without arguments it writes and reads a few, and prints their bytes and values alone.
 #![tactic(auto)]
 
