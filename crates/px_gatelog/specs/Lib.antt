@@ -6,7 +6,9 @@ pub mod Framed
 pub mod GateLog
 pub mod Laws
 pub mod Reading
+pub mod Records
 pub mod Replay
 pub mod Segment
 pub mod Spelled
 pub mod Start
+pub mod Weaker

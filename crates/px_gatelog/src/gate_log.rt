@@ -27,7 +27,7 @@ pub struct GateLog {
 
 impl GateLog {
     ghost use Rattle.px_gatelog.specs.Framed.{record_of};
-    ghost use Rattle.px_gatelog.specs.GateLog.{IsLaid, IsSameLog, IsSettled, StandsFor, is_newest_file, is_open, room_of};
+    ghost use Rattle.px_gatelog.specs.GateLog.{IsLaid, IsSameLog, IsSettled, StandsFor, is_newest_file, is_open, room_of, steps_left as next_steps};
 
     /// Adds a record to the newest segment. After `Ok` it is there. A stop in the call leaves it whole or not at all.
     /// It takes no memory.
@@ -45,12 +45,17 @@ impl GateLog {
         // The record passes the segment's size, and then no call is made.
         ensures full { (result ≡ Err LogFault.Full) ↔ (room_of self.old < 7 + length frame.now.body) }
         ensures untouched { result ≡ Err LogFault.Full → (disk.new ≡ disk.old) × (self.new ≡ self.old) }
+        ensures room { OnOk result (room_of self.new + (6 + length frame.now.body) ≡ room_of self.old) }
         ensures failed { result ≡ Err LogFault.WriteFault → Rose ⟦<D as Disk>⟧ disk.old disk.new }
         ensures faults { IsErr result → (result ≡ Err LogFault.Full) ⊎ (result ≡ Err LogFault.WriteFault) }
         ensures touches { TouchesOnly ⟦<D as Disk>⟧ disk.old disk.new (is_newest_file self.old) }
         ensures counts { Passes ⟦<D as Disk>⟧ disk.old disk.new 4 }
         ensures same { IsSameLog self.old self.new }
         ensures open { is_open self.new }
+
+        // A next segment that is laid out stays so.
+        ensures laid { (records : List LogRecord) → IsLaid ⟦<D as Disk>⟧ self.old disk.old records → IsLaid ⟦<D as Disk>⟧ self.new disk.new records }
+        ensures steps { next_steps self.new ≡ next_steps self.old }
     {
         match self.newest {
             None => unreachable!(),
@@ -80,6 +85,25 @@ impl GateLog {
         ensures { result ≡ file_at self.now in_second }
     {
         if in_second { self.second } else { self.first }
+    }
+}
+
+impl GateLog {
+    ghost use Rattle.px_gatelog.specs.Records.{IsFresh};
+
+    /// The log in two files that were never written. It makes no call.
+    pub fn fresh(first: u64, second: u64) -> GateLog
+        requires distinct { first ≢ second }
+        ensures fresh { IsFresh result first second }
+    {
+        GateLog {
+            first,
+            second,
+            newest: None,
+            first_shut: false,
+            second_shut: false,
+            laid: None,
+        }
     }
 }
 
@@ -130,6 +154,9 @@ impl GateLog {
         // No segment is laid out yet.
         ensures unlaid { IfOk result (λ log. 1 < steps_left log) }
         ensures counts { Passes ⟦<D as Disk>⟧ disk.old disk.new 6 }
+
+        // The reader asks the same of records.
+        ensures same { R.form reader.new ≡ R.form reader.old }
     {
         settle(disk, first, second)?;
         let in_first = read_whole(alloc, disk, first)?;
