@@ -64,7 +64,7 @@ module _ {K S X A : Type 0} (n : Shape K S X A) (w : World K S X) (g : Kept n w)
     at_birth = g.at_birth;
     no_marker_at_birth = g.no_marker_at_birth;
     bare_below_birth = λ k s l. (let r = g.bare_below_birth k s l in record { put = r.put; del = r.del });
-    dels_at_birth = g.dels_at_birth;
+    dels_at_birth = λ k c h. (let r = g.dels_at_birth k c h in (r.0, λ l. r.1 (let i = g.kept_horizon in omega arith)));
     built_decided = g.built_decided;
     raised_decided = g.raised_decided;
     raised_ended = g.raised_ended;

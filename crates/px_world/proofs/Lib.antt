@@ -23,6 +23,9 @@ pub mod Leaving
 pub mod Steppings
 pub mod Worked
 pub mod Beginnings
+pub mod Images
+pub mod Closed
+pub mod IndexCells
 pub mod Changes
 pub mod Decisions
 pub mod Horizons
