@@ -4,14 +4,14 @@
 # while all of them took turns. Usage: bench/turns.sh [TURNS], the turns of all seats together.
 set -eu
 turns=${1:-400000}
-cd "$(dirname "$0")/../crates/px_turn_bench"
+cd "$(dirname "$0")/../crates/px_bench_turn"
 # Proves and builds the program, where that wasn't done yet.
 rt run >/dev/null 2>&1
 printf '%s processors\n' "$(nproc)"
 for which in turn mutex; do
     printf '%s:\n' "$which"
     for seats in 1 2 8 32; do
-        ./out/px_turn_bench "$which" "$seats" "$((turns / seats))"
+        ./out/px_bench_turn "$which" "$seats" "$((turns / seats))"
     done
 done
 file=$(mktemp ./out/sync.XXXXXX)

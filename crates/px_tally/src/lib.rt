@@ -12,6 +12,3 @@ mod two;
 pub use many::all;
 pub use tally::{Mark, Tally};
 pub use two::both;
-
-#[cfg(test)]
-mod tests;

@@ -1,5 +1,5 @@
 //! How long a turn takes, under the turn lock and under std's mutex.
-//! It is called as `px_turn_bench WHICH SEATS TURNS`, where WHICH is `turn` or `mutex`: each of so many threads takes
+//! It is called as `px_bench_turn WHICH SEATS TURNS`, where WHICH is `turn` or `mutex`: each of so many threads takes
 //! so many turns, and leaves a mark in each. It prints the turns a second, and the least and the most turns of a
 //! thread while all of them took turns. With no words it takes a few turns under both, and prints no times.
 //! Nothing is proved of times. `bench/turns.sh` runs it with 1, 2, 8 and 32 seats.
@@ -98,6 +98,6 @@ fn main(rt: HostRuntime) -> io::Result<()> {
         (Some(which), Ok(seats), Ok(turns)) if 0 < seats => measure(
             &rt, alloc, which, seats, turns,
         ),
-        _ => println!(rt; "usage: px_turn_bench turn|mutex SEATS TURNS"),
+        _ => println!(rt; "usage: px_bench_turn turn|mutex SEATS TURNS"),
     }
 }

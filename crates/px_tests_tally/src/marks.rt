@@ -1,4 +1,5 @@
-use super::{all, both};
+//! Threads that leave their marks.
+use px_tally::{all, both};
 use std::test::Fail;
 
 #[test]
