@@ -1,14 +1,11 @@
-pub mod Body
+pub mod inner
+pub mod Damage
 pub mod First
 pub mod Format
-pub mod Frame
 pub mod Framed
 pub mod GateLog
-pub mod Laws
-pub mod Reading
 pub mod Records
-pub mod Replay
 pub mod Segment
-pub mod Spelled
 pub mod Start
+pub mod Steps
 pub mod Weaker

@@ -1,13 +1,13 @@
 // A log in two segment files.
 ghost use Rattle.std.specs.Prelude.{◌≡◌, ◌≢◌, ◌≤◌, ◌<◌, ◌+◌, ◌^◌, ◌⊎◌, ◌++◌, ◌∷◌, [], ◌↔◌, ℕ, List, length, IsTrue, IfOk, IsErr, OnOk, Ok, Err};
 ghost use Rattle.px_outside.specs.OnDisk.{LeavesOnly, Only, Passes, Rose, Stays, TouchesOnly};
-ghost use Rattle.px_gatelog.specs.Format.{IsNextRecord, LogForm, LogRecord, SegmentRead, with_record};
+ghost use Rattle.px_gatelog.specs.Format.{LogForm, LogRecord, SegmentRead, older_of, records_of, segments_of};
 
 use crate::append::add_record;
 use crate::replay::replay;
 use crate::segment::{SEGMENT_LIMIT, Segment};
 use crate::start::{is_shut, read_whole, settle};
-use crate::{Frame, LogFault, LogReader};
+use crate::{AppendFault, Frame, LogReader, StartFault};
 use px_outside::Disk;
 use std::alloc::Global;
 
@@ -27,27 +27,26 @@ pub struct GateLog {
 
 impl GateLog {
     ghost use Rattle.px_gatelog.specs.Framed.{record_of};
-    ghost use Rattle.px_gatelog.specs.GateLog.{IsLaid, IsSameLog, IsSettled, StandsFor, is_newest_file, is_open, room_of, steps_left as next_steps};
+    ghost use Rattle.px_gatelog.specs.GateLog.{IsLaid, IsSameLog, file_at, is_newest_file, is_open, room_of, steps_left};
+    ghost use Rattle.px_gatelog.specs.Records.{IsFresh};
+    ghost use Rattle.px_gatelog.specs.Start.{IsStart};
+    ghost use Rattle.px_gatelog.specs.Steps.{Commits, IsAppend, Reaches};
 
     /// Adds a record to the newest segment. After `Ok` it is there. A stop in the call leaves it whole or not at all.
     /// It takes no memory.
-    pub fn append<D: Disk>(&mut self, disk: &mut D, frame: &Frame) -> Result<(), LogFault>
+    pub fn append<D: Disk>(&mut self, disk: &mut D, frame: &Frame) -> Result<(), AppendFault>
         requires open { is_open self.old }
 
-        ensures done { (form : LogForm) (segments : List SegmentRead) → IsSettled ⟦<D as Disk>⟧ form self.old disk.old segments → IsNextRecord form segments (record_of frame.now)
-            → OnOk result (IsSettled ⟦<D as Disk>⟧ form self.new disk.new (with_record segments (record_of frame.now))) }
+        ensures done { OnOk result (Reaches ⟦<D as Disk>⟧ self.old self.new disk.old disk.new (IsAppend (record_of frame.now))) }
 
         // At each moment of the call a stop leaves the log without the record, or with it.
-        ensures any_moment { (form : LogForm) (segments : List SegmentRead) → IsSettled ⟦<D as Disk>⟧ form self.old disk.old segments → IsNextRecord form segments (record_of frame.now)
-            → LeavesOnly ⟦<D as Disk>⟧ disk.old disk.new (λ moment image.
-            StandsFor form self.old image segments ⊎ StandsFor form self.old image (with_record segments (record_of frame.now))) }
+        ensures any_moment { Commits ⟦<D as Disk>⟧ self.old disk.old disk.new (IsAppend (record_of frame.now)) }
 
         // The record passes the segment's size, and then no call is made.
-        ensures full { (result ≡ Err LogFault.Full) ↔ (room_of self.old < 7 + length frame.now.body) }
-        ensures untouched { result ≡ Err LogFault.Full → (disk.new ≡ disk.old) × (self.new ≡ self.old) }
+        ensures full { (result ≡ Err AppendFault.Full) ↔ (room_of self.old < 7 + length frame.now.body) }
+        ensures untouched { result ≡ Err AppendFault.Full → (disk.new ≡ disk.old) × (self.new ≡ self.old) }
         ensures room { OnOk result (room_of self.new + (6 + length frame.now.body) ≡ room_of self.old) }
-        ensures failed { result ≡ Err LogFault.WriteFault → Rose ⟦<D as Disk>⟧ disk.old disk.new }
-        ensures faults { IsErr result → (result ≡ Err LogFault.Full) ⊎ (result ≡ Err LogFault.WriteFault) }
+        ensures failed { result ≡ Err AppendFault.WriteFault → Rose ⟦<D as Disk>⟧ disk.old disk.new }
         ensures touches { TouchesOnly ⟦<D as Disk>⟧ disk.old disk.new (is_newest_file self.old) }
         ensures counts { Passes ⟦<D as Disk>⟧ disk.old disk.new 4 }
         ensures same { IsSameLog self.old self.new }
@@ -55,14 +54,14 @@ impl GateLog {
 
         // A next segment that is laid out stays so.
         ensures laid { (records : List LogRecord) → IsLaid ⟦<D as Disk>⟧ self.old disk.old records → IsLaid ⟦<D as Disk>⟧ self.new disk.new records }
-        ensures steps { next_steps self.new ≡ next_steps self.old }
+        ensures steps { steps_left self.new ≡ steps_left self.old }
     {
         match self.newest {
             None => unreachable!(),
             Some(segment) => {
                 let behind = frame.bytes().len() as u64;
                 if segment.end >= SEGMENT_LIMIT || SEGMENT_LIMIT - segment.end <= behind {
-                    return Err(LogFault::Full);
+                    return Err(AppendFault::Full);
                 }
                 let file = self.file(segment.in_second);
                 add_record(disk, file, segment.end, frame)?;
@@ -75,10 +74,6 @@ impl GateLog {
             }
         }
     }
-}
-
-impl GateLog {
-    ghost use Rattle.px_gatelog.specs.GateLog.{file_at};
 
     /// The first or the second file.
     pub(crate) fn file(&self, in_second: bool) -> u64
@@ -86,10 +81,6 @@ impl GateLog {
     {
         if in_second { self.second } else { self.first }
     }
-}
-
-impl GateLog {
-    ghost use Rattle.px_gatelog.specs.Records.{IsFresh};
 
     /// The log in two files that were never written. It makes no call.
     pub fn fresh(first: u64, second: u64) -> GateLog
@@ -105,15 +96,10 @@ impl GateLog {
             laid: None,
         }
     }
-}
-
-impl GateLog {
-    ghost use Rattle.px_gatelog.specs.Start.{IsStart};
-    ghost use Rattle.px_gatelog.specs.GateLog.{is_open as log_is_open, room_of as log_room, steps_left};
 
     /// Whether the log has an open segment.
     pub fn is_open(&self) -> bool
-        ensures { IsTrue result ↔ log_is_open self.now }
+        ensures { IsTrue result ↔ is_open self.now }
     {
         self.newest.is_some()
     }
@@ -122,12 +108,19 @@ impl GateLog {
     /// none.
     pub fn has_room(&self, body: u64) -> bool
         requires short { body < 2 ^ 32 }
-        ensures { IsTrue result ↔ (7 + body ≤ log_room self.now) }
+        ensures { IsTrue result ↔ (7 + body ≤ room_of self.now) }
     {
         match self.newest {
             None => false,
             Some(segment) => segment.end < SEGMENT_LIMIT && SEGMENT_LIMIT - segment.end >= 7 + body,
         }
+    }
+
+    /// Whether the next segment is laid out behind its closed gate, so that one step of its making is left.
+    pub fn is_laid(&self) -> bool
+        ensures { IsTrue result ↔ (steps_left self.now ≡ 1) }
+    {
+        self.laid.is_some()
     }
 
     /// Opens the log that is in two files. The reader takes the records that count, in order.
@@ -137,19 +130,22 @@ impl GateLog {
         first: u64,
         second: u64,
         reader: &mut R,
-    ) -> Result<GateLog, LogFault>
+    ) -> Result<GateLog, StartFault>
         requires distinct { first ≢ second }
 
         // What the files stand for, or the first place that isn't of the format.
         ensures start { R.has_read reader.old [] → IsTrue D.tells → IsStart ⟦<D as Disk>⟧ (R.form reader.old) (R.has_read reader.new) first second disk.old disk.new result }
         ensures taken { R.has_read reader.old [] → OnOk result ((records : List LogRecord) × R.has_read reader.new records) }
 
+        // The reader was told which records come before those of the newest segment.
+        ensures older { R.has_read reader.old [] → IsTrue D.tells → OnOk result ((segments : List SegmentRead) → segments_of (R.form reader.old) (D.seen disk.old first) (D.seen disk.old second) ≡ Ok segments
+            → R.has_older reader.new (records_of (older_of segments))) }
+
         // A stop in the call leaves nothing new.
         ensures quiet { Stays ⟦<D as Disk>⟧ disk.old disk.new }
         ensures seen { D.seen disk.new ≡ D.seen disk.old }
-        ensures read_failed { result ≡ Err LogFault.ReadFault → Rose ⟦<D as Disk>⟧ disk.old disk.new }
-        ensures write_failed { result ≡ Err LogFault.WriteFault → Rose ⟦<D as Disk>⟧ disk.old disk.new }
-        ensures not_full { result ≢ Err LogFault.Full }
+        ensures read_failed { result ≡ Err StartFault.ReadFault → Rose ⟦<D as Disk>⟧ disk.old disk.new }
+        ensures write_failed { result ≡ Err StartFault.WriteFault → Rose ⟦<D as Disk>⟧ disk.old disk.new }
 
         // No segment is laid out yet.
         ensures unlaid { IfOk result (λ log. 1 < steps_left log) }
@@ -158,7 +154,10 @@ impl GateLog {
         // The reader asks the same of records.
         ensures same { R.form reader.new ≡ R.form reader.old }
     {
-        settle(disk, first, second)?;
+        match settle(disk, first, second) {
+            Ok(()) => {}
+            Err(_) => return Err(StartFault::WriteFault),
+        }
         let in_first = read_whole(alloc, disk, first)?;
         let in_second = read_whole(alloc, disk, second)?;
         let newest = replay(first, second, &in_first, &in_second, reader)?;

@@ -1,0 +1,7 @@
+pub mod Body
+pub mod Faults
+pub mod Frame
+pub mod Lengths
+pub mod Reading
+pub mod Replay
+pub mod Stages
