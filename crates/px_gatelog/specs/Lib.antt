@@ -4,6 +4,7 @@ pub mod First
 pub mod Format
 pub mod Framed
 pub mod GateLog
+pub mod Reading
 pub mod Records
 pub mod Segment
 pub mod Start

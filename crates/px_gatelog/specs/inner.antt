@@ -2,6 +2,6 @@ pub mod Body
 pub mod Faults
 pub mod Frame
 pub mod Lengths
-pub mod Reading
+pub mod Order
 pub mod Replay
 pub mod Stages
