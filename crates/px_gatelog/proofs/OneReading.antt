@@ -1,13 +1,13 @@
 -- The records of a segment have one reading.
-use Rattle.std.proofs.Common.{◌≡◌, ◌≢◌, ◌⊎◌, inl, inr, ℕ, zero, suc, ◌+◌, ◌^◌, ◌<◌, ◌≤◌, Bool, true, false, ltb, List, [], ◌∷◌, ◌++◌, length, get_or, take, drop, Option, Some, None, Result, Ok, Err, refl, sym, ap, subst, ◌∙◌, append_assoc, arith}
+use Rattle.std.proofs.Common.{◌≡◌, ◌≢◌, inl, inr, ℕ, zero, suc, ◌+◌, ◌^◌, ◌<◌, ◌≤◌, Bool, true, false, List, [], ◌∷◌, ◌++◌, length, get_or, take, drop, Option, Some, None, Result, Ok, Err, refl, sym, ap, subst, ◌∙◌, append_assoc, arith}
 use Rattle.std.specs.List.{AllByRecursion}
 use Rattle.std.specs.Int.{w32, to_be_bytes, from_be_bytes}
-use Rattle.std.proofs.lemmas.Bool.{cases_eq, cases_lt, le-ltb, lt-ltb}
+use Rattle.std.proofs.lemmas.Bool.{cases_eq, cases_lt}
 use Rattle.std.proofs.lemmas.List.{append-nil, length-append, length-take-le, length-drop, take-append-drop, drop-drop}
 use Rattle.std.proofs.lemmas.Nat.{be_bytes_4}
-use Rattle.px_gatelog.specs.Format.{AllFit, AreRight, LogForm, LogRecord, body_len, can_end, record_bytes, record_in, records_at, spelled, with_first}
-use Rattle.px_gatelog.specs.Reading.{AreRecords, IsRecordReading, IsWrongGate, IsWrongRecord}
-use Rattle.px_gatelog.proofs.Spelled.{records_closed, records_first, records_missed, records_short, records_spelled, records_step, records_wrong}
+use Rattle.px_gatelog.specs.Format.{AreRight, LogForm, LogRecord, body_len, can_end, record_bytes, record_in, records_at, spelled, with_first}
+use Rattle.px_gatelog.specs.Reading.{IsRecordReading, IsWrongGate}
+use Rattle.px_gatelog.proofs.Spelled.{records_closed, records_first, records_missed, records_short, records_spelled, records_wrong}
 
 -- records that were read before the others
 abbrev pub with_front : List LogRecord → Result (List LogRecord) ℕ → Result (List LogRecord) ℕ
@@ -101,8 +101,7 @@ whole_record (k ∷ a ∷ b ∷ c ∷ d ∷ behind) all long =
     let bound : n < 2 ^ 32 = omega (arith, four.0, four.1.0, four.1.1.0, four.1.1.1.0) in
     let size : length (take n behind) ≡ n = length-take-le n behind (omega (arith, long)) in
     let number : to_be_bytes w32 (length (take n behind)) ≡ a ∷ b ∷ c ∷ d ∷ [] = ap (to_be_bytes w32) size ∙ be_bytes_4 (a ∷ b ∷ c ∷ d ∷ []) n refl (all_small (a ∷ b ∷ c ∷ d ∷ []) four) refl in
-    let parts : behind ≡ take n behind ++ drop n behind = sym (take-append-drop n behind) in
-    (
+    let parts : behind ≡ take n behind ++ drop n behind = sym (take-append-drop n behind) in (
       ap (λ (l : List ℕ). k ∷ a ∷ b ∷ c ∷ d ∷ l) parts ∙ ap (λ (l : List ℕ). (k ∷ l ++ take n behind) ++ drop n behind) (sym number)
           ∙ ap (λ (l : List ℕ). record_bytes (record { kind = k; body = take n behind }) ++ l) (drop-drop n 5 (k ∷ a ∷ b ∷ c ∷ d ∷ behind)),
       size,
