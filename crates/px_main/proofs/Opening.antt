@@ -1,12 +1,13 @@
 -- The making of the log's first segment leaves its puts.
 use Rattle.std.proofs.Common.{◌≡◌, ℕ, Bool, true, false, List, [], Option, Some, None, ◌⊎◌, inl, inr, refl, sym, ◌∙◌, ap, subst}
 use Rattle.px_outside.specs.Disk.{Image}
-use Rattle.px_outside.specs.Moments.{leaves_then, touches_more, touches_none, touches_then}
+use Rattle.px_outside.proofs.Moments.{leaves_then, touches_more, touches_none, touches_then}
 use Rattle.px_outside.specs.OnDisk.{LeavesOnly, TouchesOnly}
 use Rattle.px_outside.specs.declared.disk.Disk.{Ghosts}
 use Rattle.px_gatelog.specs.Format.{LogForm, LogRecord, SegmentRead, records_of}
+use Rattle.px_gatelog.specs.Steps.{Commits, IsRollStep, Reaches}
 use Rattle.px_gatelog.specs.GateLog.{GoesOnBy, IsLaid, IsSameLog, IsSettled, MayStep, StandsFor, after_by, after_step, may_by, next_shut, steps_left}
-use Rattle.px_gatelog.specs.Laws.{settled_stands, stands_same}
+use Rattle.px_gatelog.proofs.Standing.{settled_stands, stands_same}
 use Rattle.px_gatelog.specs.declared.gate_log.GateLog.{GateLog}
 use Rattle.px_gatelog.specs.declared.segment.Segment.{Segment}
 use Rattle.px_main.specs.Logged.{HasPuts, Logged, any_file, log_size}
@@ -19,7 +20,7 @@ goes_none form None first second segments none on = on.2
 goes_none form (Some s) first second segments none on = cc
 
 may_none : (laid : Option ℕ) (shut : Bool) → may_by laid shut kv_form [] []
-may_none (Some end) shut = tt
+may_none (Some end) shut = (tt, refl)
 may_none None true = tt
 may_none None false = tt
 
@@ -35,9 +36,7 @@ size_none None false log = refl
 
 -- what a step of the making promises of a settled log
 abbrev pub StepsOn : {D : Type 0} → Ghosts D → D → D → GateLog → GateLog → Type 0
-StepsOn d disk disk' log log' =
-    (form : LogForm) (segments : List SegmentRead) (records : List LogRecord) → IsSettled d form log disk segments → MayStep form log segments records
-    → (steps_left log ≡ 1 → IsLaid d log disk records) → IsSettled d form log' disk' (after_step form log segments records)
+StepsOn d disk disk' log log' = Reaches d log log' disk disk' (IsRollStep d log disk)
 
 pub step_kept : {D : Type 0} (d : Ghosts D) (disk disk' : D) (log log' : GateLog) (puts : List Put) (size : ℕ) → log.newest ≡ None → Logged d disk log puts size → StepsOn d disk disk' log log'
     → (steps_left log ≡ 1 → IsLaid d log disk []) → IsSameLog log log' → Logged d disk' log' puts size
@@ -47,7 +46,7 @@ step_kept d disk disk' log log' puts size closed logged steps laid same =
     let no_puts : [] ≡ put_records puts = sym (ap records_of none) ∙ logged.records in
     record {
       segments = after_step kv_form log [] [];
-      settled = steps kv_form [] [] settled (may_none log.laid (next_shut log)) laid;
+      settled = steps kv_form [] (after_step kv_form log [] []) settled ([], may_none log.laid (next_shut log), laid, refl);
       records = after_none log.laid (next_shut log) log ∙ no_puts;
       size_is = size_none log.laid (next_shut log) log ∙ (sym (ap log_size none) ∙ logged.size_is);
       first = same.first ∙ logged.first;
@@ -73,9 +72,7 @@ still_has d disk log puts size up_to_now logged = record {
 
 -- what a step of the making promises of a stop in it
 abbrev pub StepLeaves : {D : Type 0} → Ghosts D → D → D → GateLog → Type 0
-StepLeaves d disk disk' log =
-    (form : LogForm) (segments : List SegmentRead) (records : List LogRecord) → IsSettled d form log disk segments → MayStep form log segments records
-    → (steps_left log ≡ 1 → IsLaid d log disk records) → LeavesOnly d disk disk' (λ moment image. StandsFor form log image segments ⊎ StandsFor form log image (after_step form log segments records))
+StepLeaves d disk disk' log = Commits d log disk disk' (IsRollStep d log disk)
 
 pub step_leaves : {D : Type 0} (d : Ghosts D) (disk disk' : D) (log : GateLog) (puts : List Put) (size : ℕ) → log.newest ≡ None → Logged d disk log puts size → StepLeaves d disk disk' log
     → (steps_left log ≡ 1 → IsLaid d log disk []) → LeavesOnly d disk disk' (λ moment image. HasPuts puts log image)
@@ -83,7 +80,7 @@ step_leaves d disk disk' log puts size closed logged steps laid =
     let none : logged.segments ≡ [] = goes_none kv_form log.newest (d.seen disk log.first) (d.seen disk log.second) logged.segments closed logged.settled.state.goes_on in
     let settled : IsSettled d kv_form log disk [] = subst (λ (l : List SegmentRead). IsSettled d kv_form log disk l) none logged.settled in
     let no_puts : [] ≡ put_records puts = sym (ap records_of none) ∙ logged.records in
-    let leaves = steps kv_form [] [] settled (may_none log.laid (next_shut log)) laid in
+    let leaves = steps kv_form [] (after_step kv_form log [] []) settled ([], may_none log.laid (next_shut log), laid, refl) in
     record {
       each = λ moment image since is. elim (leaves.each moment image since is) [
         | inl stands ↦ ([], stands, no_puts)

@@ -15,7 +15,7 @@ use Rattle.px_trail.specs.Trail.{greatest_stamp, last_of}
 use Rattle.px_gatelog.specs.First.{segment_size}
 use Rattle.px_gatelog.specs.Format.{LogForm, LogRecord, SegmentRead, listed, opened, record_bytes, spelled, with_record}
 use Rattle.px_gatelog.specs.GateLog.{GoesOnBy, bytes_at, is_open, room_in, room_of}
-use Rattle.px_gatelog.specs.Laws.{with_record-listed}
+use Rattle.px_gatelog.proofs.Standing.{with_record-listed}
 use Rattle.px_gatelog.specs.Segment.{IsAt}
 use Rattle.px_gatelog.specs.declared.gate_log.GateLog.{GateLog}
 use Rattle.px_gatelog.specs.declared.segment.Segment.{Segment}

@@ -7,9 +7,9 @@ use Rattle.px_outside.specs.declared.disk.Disk.{Ghosts as DiskGhosts}
 use Rattle.px_outside.specs.declared.sink.Sink.{Ghosts as SinkGhosts}
 use Rattle.px_outside.specs.declared.source.Source.{Ghosts as SourceGhosts}
 use Rattle.px_gatelog.specs.Format.{segments_of}
-use Rattle.px_gatelog.specs.Laws.{on_stands}
-use Rattle.px_gatelog.specs.declared.fault.LogFault.{LogFault}
-use Rattle.px_gatelog.specs.declared.fault.LogFault.TheVariants.{ReadFault, WriteFault as LogWriteFault, Full, Damaged, Memory as LogMemory}
+use Rattle.px_gatelog.proofs.Standing.{on_stands}
+use Rattle.px_gatelog.specs.declared.fault.StartFault.{StartFault}
+use Rattle.px_gatelog.specs.declared.fault.StartFault.TheVariants.{ReadFault, WriteFault as LogWriteFault, Damaged, Memory as LogMemory}
 use Rattle.px_trail.specs.One.{AllEnded}
 use Rattle.px_trail.specs.Trail.{IsLegal}
 use Rattle.px_trail.specs.declared.entry.Entry.{Entry}
@@ -127,15 +127,14 @@ run_by d k origin script disk disk' out out' store session es transcripts sink_f
 
 -- ---- no folder
 
-pub stops_by : {D : Type 0} (d : DiskGhosts D) (disk disk' : D) (fault : LogFault) (call : ℕ) → call ≡ d.first_fault disk' → (fault ≡ ReadFault → Rose d disk disk') → (fault ≡ LogWriteFault → Rose d disk disk') → fault ≢ Full
+pub stops_by : {D : Type 0} (d : DiskGhosts D) (disk disk' : D) (fault : StartFault) (call : ℕ) → call ≡ d.first_fault disk' → (fault ≡ ReadFault → Rose d disk disk') → (fault ≡ LogWriteFault → Rose d disk disk')
     → ((file place : ℕ) → fault ≡ Damaged file place → IsTrue d.tells → IsDamaged (d.seen disk) file place) → StopsDisk d disk disk' (stopped_by fault call)
-stops_by d disk disk' ReadFault call is read write not_full damaged = (read refl, is)
-stops_by d disk disk' LogWriteFault call is read write not_full damaged = (write refl, is)
-stops_by d disk disk' Full call is read write not_full damaged = absurd (not_full refl)
-stops_by d disk disk' (Damaged file place) call is read write not_full damaged = damaged file place refl
-stops_by d disk disk' LogMemory call is read write not_full damaged = tt
+stops_by d disk disk' ReadFault call is read write damaged = (read refl, is)
+stops_by d disk disk' LogWriteFault call is read write damaged = (write refl, is)
+stops_by d disk disk' (Damaged file place) call is read write damaged = damaged file place refl
+stops_by d disk disk' LogMemory call is read write damaged = tt
 
-pub opened_not : {D O : Type 0} (d : DiskGhosts D) (k : SinkGhosts O) (script : List ℕ) (disk disk' : D) (out : O) (es : List Entry) (transcripts : List Transcript) (memory : Bool) (status : Status) (fault : LogFault) (call : ℕ)
+pub opened_not : {D O : Type 0} (d : DiskGhosts D) (k : SinkGhosts O) (script : List ℕ) (disk disk' : D) (out : O) (es : List Entry) (transcripts : List Transcript) (memory : Bool) (status : Status) (fault : StartFault) (call : ℕ)
     → status ≡ stopped_by fault call → StopsDisk d disk disk' (stopped_by fault call) → Stays d disk disk' → es ≡ [] → transcripts ≡ [] → IsOpenedRun d k script disk disk' out out es transcripts memory status
 opened_not d k script disk disk' out es transcripts memory status fault call is stops quiet entries replies =
     inl (record { cause = subst (λ (s : Status). StopsDisk d disk disk' s) (sym is) stops; quiet = quiet; no_entries = entries; no_replies = replies; no_bytes = refl })

@@ -78,7 +78,7 @@ module _ {D : Type 0} (d : Ghosts D) (disk disk' : D) (log : GateLog) (puts : Li
   logged-more log' appended same =
       record {
         segments = with_record logged.segments r;
-        settled = appended kv_form logged.segments logged.settled right_next;
+        settled = appended kv_form logged.segments (with_record logged.segments r) logged.settled (right_next, refl);
         records = records_next;
         size_is =
             let room = roomy_log d disk log puts size opened logged in
@@ -93,7 +93,7 @@ module _ {D : Type 0} (d : Ghosts D) (disk disk' : D) (log : GateLog) (puts : Li
 
   pub leaves_more : LeavesAppended d disk disk' log r → LeavesOnly d disk disk' (λ moment image. HasPuts puts log image ⊎ HasPuts (puts ++ x ∷ []) log image)
   leaves_more leaves = record {
-    each = λ moment image since at. elim ((leaves kv_form logged.segments logged.settled right_next).each moment image since at) [
+    each = λ moment image since at. elim ((leaves kv_form logged.segments (with_record logged.segments r) logged.settled (right_next, refl)).each moment image since at) [
       | inl stands ↦ inl (logged.segments, stands, logged.records)
       | inr stands ↦ inr (with_record logged.segments r, stands, records_next)
     ];

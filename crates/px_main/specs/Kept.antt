@@ -10,6 +10,7 @@ use Rattle.px_trail.specs.Count.{counted_change}
 use Rattle.px_trail.specs.Trail.{Base, Batch, IsLegal, batch_of, calls_of, unwritten}
 use Rattle.px_gatelog.specs.Format.{IsNextRecord, LogForm, LogRecord, SegmentRead, with_record}
 use Rattle.px_gatelog.specs.Framed.{record_of}
+use Rattle.px_gatelog.specs.Steps.{IsAppend, Reaches}
 use Rattle.px_gatelog.specs.GateLog.{IsSameLog, IsSettled, is_open}
 use Rattle.px_gatelog.specs.declared.gate_log.GateLog.{GateLog}
 use Rattle.px_main.specs.declared.reply.Receipt.{Receipt}
@@ -83,8 +84,7 @@ pub record IsUpserted {D : Type 0} (d : Ghosts D) (origin : Origin) (disk : D) (
 
 -- the log has the record of the frame behind what it had
 abbrev pub IsAppended : {D : Type 0} → Ghosts D → D → D → GateLog → GateLog → LogRecord → Type 0
-IsAppended {D} d disk disk' log log' r =
-    (form : LogForm) (segments : List SegmentRead) → IsSettled d form log disk segments → IsNextRecord form segments r → IsSettled d form log' disk' (with_record segments r)
+IsAppended d disk disk' log log' r = Reaches d log log' disk disk' (IsAppend r)
 
 -- the record in the frame is in the log, and the entries of its batch are in the trail
 pub record IsWritten {D : Type 0} (d : Ghosts D) (disk disk' : D) (old new : Store) (stamp : ℕ) (changes : List Change) (rows : List (List Value)) : Type 0 where

@@ -5,6 +5,7 @@ use Rattle.px_outside.specs.OnDisk.{LeavesOnly}
 use Rattle.px_outside.specs.declared.disk.Disk.{Ghosts}
 use Rattle.px_gatelog.specs.First.{segment_size}
 use Rattle.px_gatelog.specs.Format.{IsNextRecord, LogForm, LogPlace, LogRecord, SegmentRead, records_of, segments_of, with_record}
+use Rattle.px_gatelog.specs.Steps.{Commits, IsAppend}
 use Rattle.px_gatelog.specs.GateLog.{IsSettled, StandsFor, steps_left}
 use Rattle.px_gatelog.specs.declared.gate_log.GateLog.{GateLog}
 use Rattle.px_main.specs.Kv.{base_by}
@@ -60,9 +61,7 @@ HasPuts puts log image = (segments : List SegmentRead) × StandsFor kv_form log 
 
 -- what a stop in an append leaves: the log without the record, or with it
 abbrev pub LeavesAppended : {D : Type 0} → Ghosts D → D → D → GateLog → LogRecord → Type 0
-LeavesAppended {D} d disk disk' log r =
-    (form : LogForm) (segments : List SegmentRead) → IsSettled d form log disk segments → IsNextRecord form segments r
-    → LeavesOnly d disk disk' (λ moment image. StandsFor form log image segments ⊎ StandsFor form log image (with_record segments r))
+LeavesAppended d disk disk' log r = Commits d log disk disk' (IsAppend r)
 
 -- of any file
 abbrev pub any_file : ℕ → Type 0

@@ -27,4 +27,4 @@ wrong_record before r = if r.kind == 2 then option_map (λ place. 5 + place) (wr
 
 -- What is asked of KV's log. The records of the older of two open segments count too.
 abbrev pub kv_form : LogForm
-kv_form = record { both = true; wrong = wrong_record }
+kv_form = record { both = true; empty = true; wrong = wrong_record }

@@ -6,8 +6,8 @@ use Rattle.px_outside.specs.OnDisk.{Rose, Stays}
 use Rattle.px_outside.specs.declared.disk.Disk.{Ghosts as DiskGhosts}
 use Rattle.px_outside.specs.declared.sink.Sink.{Ghosts as SinkGhosts}
 use Rattle.px_outside.specs.declared.source.Source.{Ghosts as SourceGhosts}
-use Rattle.px_gatelog.specs.declared.fault.LogFault.{LogFault}
-use Rattle.px_gatelog.specs.declared.fault.LogFault.TheVariants.{ReadFault as ReadFaultOfLog, WriteFault as WriteFaultOfLog, Full as FullLog, Damaged as DamagedLog, Memory as MemoryOfLog}
+use Rattle.px_gatelog.specs.declared.fault.StartFault.{StartFault}
+use Rattle.px_gatelog.specs.declared.fault.StartFault.TheVariants.{ReadFault as ReadFaultOfLog, WriteFault as WriteFaultOfLog, Damaged as DamagedLog, Memory as MemoryOfLog}
 use Rattle.px_trail.specs.One.{AllEnded}
 use Rattle.px_trail.specs.Trail.{IsLegal}
 use Rattle.px_trail.specs.declared.entry.Entry.{Entry}
@@ -155,10 +155,9 @@ StopsDisk d disk disk' SourceFault = ⊥
 StopsDisk d disk disk' SinkFault = ⊥
 
 -- by the log's answer, where this call of the disk was the first that failed
-abbrev pub stopped_by : LogFault → (call : ℕ) → Status
+abbrev pub stopped_by : StartFault → (call : ℕ) → Status
 stopped_by ReadFaultOfLog call = Device call
 stopped_by WriteFaultOfLog call = Device call
-stopped_by FullLog call = Device call
 stopped_by (DamagedLog file place) call = Damaged file place
 stopped_by MemoryOfLog call = Memory
 

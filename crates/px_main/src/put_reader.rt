@@ -40,6 +40,12 @@ impl LogReader for PutReader {
         true
     }
 
+    fn begin_newest(&mut self) {}
+
+    fn may_end(&self) -> bool {
+        true
+    }
+
     fn take(&mut self, kind: u8, body: &[u8]) -> Result<Option<u64>, AllocError> {
         if kind != PUT_RECORD {
             return Ok(Some(0));

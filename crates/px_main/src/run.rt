@@ -11,7 +11,7 @@ use crate::reply::{Item, Items, Refusal, Reply, Transcript, Transcripts};
 use crate::session::{Ending, Session, run_script};
 use crate::store::Store;
 use crate::words::folder_word;
-use px_gatelog::LogFault;
+use px_gatelog::StartFault;
 use px_outside::{
     Clock, CountsCalls, Disk, InputFault, Metered, Sink, Source, read_all, write_all,
 };
@@ -199,13 +199,13 @@ fn unrun<D>(alloc: Global, disk: D, status: Status) -> Outcome<D>
 }
 
 /// The status where the log wasn't opened, and this call of the disk was the first that failed.
-fn status_unopened(fault: LogFault, call: u64) -> Status
+fn status_unopened(fault: StartFault, call: u64) -> Status
     ensures { result ≡ stopped_by fault call }
 {
     match fault {
-        LogFault::ReadFault | LogFault::WriteFault | LogFault::Full => Status::Device { call },
-        LogFault::Damaged { file, place } => Status::Damaged { file, place },
-        LogFault::Memory => Status::Memory,
+        StartFault::ReadFault | StartFault::WriteFault => Status::Device { call },
+        StartFault::Damaged { file, place } => Status::Damaged { file, place },
+        StartFault::Memory => Status::Memory,
     }
 }
 

@@ -21,7 +21,7 @@ use crate::put::{fill_put, put_len};
 use crate::put_reader::{PutReader, Stored};
 use crate::reply::{Receipt, Refusal};
 use crate::table::all_rows;
-use px_gatelog::{Frame, GateLog, LogFault, Rolled};
+use px_gatelog::{Frame, GateLog, Rolled, StartFault};
 use px_outside::{CountsCalls, Disk};
 use px_trail::{Act, Entry, Trail};
 use px_values::{Changes, Limit, Rows, TableId};
@@ -283,14 +283,13 @@ impl Store {
     ghost use Rattle.px_main.specs.PutForm.{IsText};
     ghost use Rattle.px_main.specs.Table.{row_in};
     ghost use Rattle.std.specs.BTreeMap.{IsOrdered};
-    ghost use Rattle.px_gatelog.specs.declared.fault.LogFault.TheVariants.{ReadFault as LogReadFault, WriteFault as LogWriteFault, Full as LogFull, Damaged as LogDamaged};
+    ghost use Rattle.px_gatelog.specs.declared.fault.StartFault.TheVariants.{ReadFault as LogReadFault, WriteFault as LogWriteFault, Damaged as LogDamaged};
 
     /// Opens the table that a folder has: its log is read once. A stop meanwhile leaves the folder as it was.
-    pub fn open<D: Disk>(alloc: Global, disk: &mut D) -> Result<Store, LogFault>
+    pub fn open<D: Disk>(alloc: Global, disk: &mut D) -> Result<Store, StartFault>
         ensures opened { IfOk result (λ store. IsOpened ⟦<D as Disk>⟧ disk.old disk.new store) }
         ensures read_failed { result ≡ Err LogReadFault → Rose ⟦<D as Disk>⟧ disk.old disk.new }
         ensures write_failed { result ≡ Err LogWriteFault → Rose ⟦<D as Disk>⟧ disk.old disk.new }
-        ensures not_full { result ≢ Err LogFull }
         ensures damaged { (file place : ℕ) → result ≡ Err (LogDamaged file place) → IsTrue D.tells → IsDamaged (D.seen disk.old) file place }
         ensures quiet { Stays ⟦<D as Disk>⟧ disk.old disk.new }
         ensures counts { Passes ⟦<D as Disk>⟧ disk.old disk.new 6 }

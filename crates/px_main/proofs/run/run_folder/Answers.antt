@@ -14,7 +14,7 @@ returns-in-Err-clause-run g c =
     c.in-Err.fault c.first_fault.result (c.unrun-in-Err.ensures.status ∙ c.status_unopened-status.ensures)
     (stops_same g.D.Disk c.args.disk c.unrun-in-Err.result.disk c.new-metered.result.disk c.open.new.disk.disk _ (sym c.new-metered.ensures.same) (c.unrun-in-Err.ensures.disk ∙ c.into_disk.ensures)
     (stops_by g.D.Disk c.new-metered.result.disk c.open.new.disk.disk c.in-Err.fault c.first_fault.result c.first_fault.ensures (λ e. c.in-Err.ensures.read_failed (ap Err e)) (λ e. c.in-Err.ensures.write_failed (ap Err e))
-    (λ e. c.in-Err.ensures.not_full (ap Err e)) (λ file place e. c.in-Err.ensures.damaged file place (ap Err e))))
+    (λ file place e. c.in-Err.ensures.damaged file place (ap Err e))))
     (stays_same g.D.Disk c.args.disk c.unrun-in-Err.result.disk c.new-metered.result.disk c.open.new.disk.disk (sym c.new-metered.ensures.same) (c.unrun-in-Err.ensures.disk ∙ c.into_disk.ensures) (record { past = c.open.ensures.quiet.past; now = c.open.ensures.quiet.now; later = c.open.ensures.quiet.later }))
     c.unrun-in-Err.ensures.entries c.unrun-in-Err.ensures.transcripts
 

@@ -7,21 +7,21 @@ use Rattle.px_main.proofs.store.open_segment.Goals as goal
 pub returns-in-Ok-Rolled-clause-kept : goal.returns-in-Ok-Rolled-clause-kept
 returns-in-Ok-Rolled-clause-kept g c = λ puts size ready logged.
     step_kept g.D.Disk c.loop.disk c.roll_step.new.disk c.loop.log c.roll_step.new.self puts size c.loop.invariant.closed (c.loop.invariant.kept puts size ready logged)
-    (λ form segments records settled may laid. c.in-Ok-Rolled.ensures.done form segments records settled may laid) (c.loop.invariant.laid puts size ready logged) c.roll_step.ensures.same
+    c.in-Ok-Rolled.ensures.done (c.loop.invariant.laid puts size ready logged) c.roll_step.ensures.same
 
 pub loop-preserved : goal.loop-preserved
 loop-preserved g c = record {
   closed = c.in-Ok-More.ensures.kept (ap Ok c.in-Ok-More.field-0-is) ∙ c.loop.invariant.closed;
   kept = λ puts size ready logged.
       step_kept g.D.Disk c.loop.disk c.roll_step.new.disk c.loop.log c.roll_step.new.self puts size c.loop.invariant.closed (c.loop.invariant.kept puts size ready logged)
-      (λ form segments records settled may laid. c.in-Ok-More.ensures.done form segments records settled may laid) (c.loop.invariant.laid puts size ready logged) c.roll_step.ensures.same;
+      c.in-Ok-More.ensures.done (c.loop.invariant.laid puts size ready logged) c.roll_step.ensures.same;
   laid = λ puts size ready logged one.
       let more : steps_left c.roll_step.new.self + 1 ≡ steps_left c.loop.log = c.in-Ok-More.ensures.more (ap Ok c.in-Ok-More.field-0-is) in
       let two : steps_left c.loop.log ≡ 2 = omega arith in
       c.in-Ok-More.ensures.laid kv_form [] (settled_none g.D.Disk c.loop.disk c.loop.log puts size c.loop.invariant.closed (c.loop.invariant.kept puts size ready logged)) two;
   leaves = λ puts size ready logged.
       leaves_step g.D.Disk c.args.disk.now c.loop.disk c.roll_step.new.disk c.args.log.now c.loop.log puts size _ c.loop.invariant.same (c.loop.invariant.leaves puts size ready logged) c.roll_step.ensures.touches
-      c.loop.invariant.closed (c.loop.invariant.kept puts size ready logged) (λ form segments records settled may laid. c.roll_step.ensures.any_moment form segments records settled may laid) (c.loop.invariant.laid puts size ready logged);
+      c.loop.invariant.closed (c.loop.invariant.kept puts size ready logged) c.roll_step.ensures.any_moment (c.loop.invariant.laid puts size ready logged);
   touches = touches_on g.D.Disk c.args.disk.now c.loop.disk c.roll_step.new.disk c.loop.invariant.touches (touch_any g.D.Disk c.args.disk.now c.loop.disk c.roll_step.new.disk _ c.roll_step.ensures.touches);
   same = same_then c.args.log.now c.loop.log c.roll_step.new.self c.loop.invariant.same c.roll_step.ensures.same;
   calls = omega (arith, c.roll_step.ensures.counts.later);
@@ -34,9 +34,9 @@ returns-then-is_open-clause-leaves g c = λ puts size ready logged. still_has g.
 pub returns-in-Ok-Rolled-clause-leaves : goal.returns-in-Ok-Rolled-clause-leaves
 returns-in-Ok-Rolled-clause-leaves g c = λ puts size ready logged.
     leaves_step g.D.Disk c.args.disk.now c.loop.disk c.roll_step.new.disk c.args.log.now c.loop.log puts size _ c.loop.invariant.same (c.loop.invariant.leaves puts size ready logged) c.roll_step.ensures.touches
-    c.loop.invariant.closed (c.loop.invariant.kept puts size ready logged) (λ form segments records settled may laid. c.roll_step.ensures.any_moment form segments records settled may laid) (c.loop.invariant.laid puts size ready logged)
+    c.loop.invariant.closed (c.loop.invariant.kept puts size ready logged) c.roll_step.ensures.any_moment (c.loop.invariant.laid puts size ready logged)
 
 pub returns-in-Err-clause-leaves : goal.returns-in-Err-clause-leaves
 returns-in-Err-clause-leaves g c = λ puts size ready logged.
     leaves_step g.D.Disk c.args.disk.now c.loop.disk c.roll_step.new.disk c.args.log.now c.loop.log puts size _ c.loop.invariant.same (c.loop.invariant.leaves puts size ready logged) c.roll_step.ensures.touches
-    c.loop.invariant.closed (c.loop.invariant.kept puts size ready logged) (λ form segments records settled may laid. c.roll_step.ensures.any_moment form segments records settled may laid) (c.loop.invariant.laid puts size ready logged)
+    c.loop.invariant.closed (c.loop.invariant.kept puts size ready logged) c.roll_step.ensures.any_moment (c.loop.invariant.laid puts size ready logged)
