@@ -1,0 +1,6 @@
+pub mod Pieces
+pub mod Reading
+pub mod Chains
+pub mod Numbers
+pub mod Bytes
+pub mod Taking

@@ -1,0 +1,11 @@
+//! Pieces of a format: values that are spelled as bytes, and read back at a place of them.
+//!
+//! A piece is a value with its one spelling, the reading of bytes that begin with it, and the laws between both: what is
+//! spelled is read, nothing else is, and of bytes that begin with no value there is a first wrong place, behind which none
+//! goes on. Larger pieces are put together from smaller ones and keep the laws. The readers here read a byte, a number,
+//! a number of some that stand, and bytes, at a place.
+#![tactic(auto)]
+
+mod read;
+
+pub use read::{Numbered, byte_in, bytes_in, number_in, one_of_in};
