@@ -1,9 +1,9 @@
 -- Bytes of some range, and so many bytes of any value.
-use Rattle.std.proofs.Common.{◌≡◌, ◌<◌, ◌≤◌, ℕ, Bool, true, List, ap, ◌∙◌, arith}
+use Rattle.std.proofs.Common.{◌≡◌, ◌<◌, ◌≤◌, ℕ, Bool, true, List, length, ap, ◌∙◌, arith}
 use Rattle.std.specs.Prelude.{◌&&◌, nat_lt, nat_le}
 use Rattle.std.proofs.lemmas.Bool.{lt-ltb, le-leb}
 use Rattle.px_pieces.specs.Pieces.{Piece, byte, byte_full}
-use Rattle.px_pieces.specs.Chains.{repeat, repeat_full}
+use Rattle.px_pieces.specs.Chains.{repeat, repeat_full, repeat_long}
 
 -- the byte is at least this, and below that
 abbrev pub within : ℕ → ℕ → ℕ → Bool
@@ -26,3 +26,7 @@ bytes n = repeat 0 (one_byte 0 256) n
 pub bytes_full : (n : ℕ) → (bytes n).full
 unfolding bytes
 bytes_full n = repeat_full 0 (one_byte 0 256) (one_byte_full 0 256 (omega arith)) n
+
+pub bytes_long : (n : ℕ) (l : List ℕ) → (bytes n).right l → length l ≡ n
+unfolding bytes
+bytes_long n l right = repeat_long 0 (one_byte 0 256) n l right

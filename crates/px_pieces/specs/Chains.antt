@@ -1,5 +1,6 @@
 -- So many values one after the other, of which each may hang on those before it, and a list behind its length.
-use Rattle.std.proofs.Common.{◌≡◌, ◌++◌, ◌∷◌, [], ℕ, zero, suc, List, length, refl, sym, ap, ◌∙◌}
+use Rattle.std.proofs.Common.{◌≡◌, ◌<◌, ◌++◌, ◌∷◌, [], ℕ, zero, suc, List, length, refl, sym, ap, ◌∙◌, arith}
+use Rattle.std.specs.List.{AllByRecursion}
 use Rattle.px_pieces.specs.Pieces.{Piece, as_full, as_value, followed_by, followed_full, nothing}
 
 abbrev pub first_of : {T : Type 0} → T → List T → T
@@ -88,3 +89,45 @@ module _ {T : Type 0} (d : T) (v : Piece T) (count : Piece ℕ) where
   pub listed_full : count.full → v.full → listed.full
   unfolding listed
   listed_full first full = measured_full (repeat d v) (repeat_long d v) count first (λ n right. repeat_full d v full n)
+
+module _ {T : Type 0} (d : T) (v : Piece T) where
+  -- right values of one piece, and how many they are
+  pub repeat_right : (l : List T) → AllByRecursion v.right l → (repeat d v (length l)).right l
+  unfolding repeat
+  repeat_right [] all = chain_nil d (λ (left : ℕ) (u : Unit {0}). v) (λ (u : Unit {0}) (x : T). u) tt
+  repeat_right (x ∷ l) all = chain_cons d (λ (left : ℕ) (u : Unit {0}). v) (λ (u : Unit {0}) (x : T). u) (length l) tt x l all.0 (repeat_right l all.1)
+
+  pub repeat_all : (n : ℕ) (l : List T) → (repeat d v n).right l → AllByRecursion v.right l
+  unfolding repeat
+  repeat_all n [] right = tt
+  repeat_all zero (x ∷ l) right = absurd (let long = chain_long d (λ (left : ℕ) (u : Unit {0}). v) (λ (u : Unit {0}) (x : T). u) zero tt (x ∷ l) right in omega (arith, long))
+  repeat_all (suc n) (x ∷ l) right = (
+    chain_first d (λ (left : ℕ) (u : Unit {0}). v) (λ (u : Unit {0}) (x : T). u) n tt (x ∷ l) right,
+    repeat_all n l (chain_others d (λ (left : ℕ) (u : Unit {0}). v) (λ (u : Unit {0}) (x : T). u) n tt (x ∷ l) right),
+  )
+
+  pub repeat_full_some : (n : ℕ) → (0 < n → v.full) → (repeat d v n).full
+  unfolding repeat
+  repeat_full_some n full = chain_full d (λ (left : ℕ) (u : Unit {0}). v) (λ (u : Unit {0}) (x : T). u) (λ (n : ℕ) (u : Unit {0}). 0 < n → v.full) (λ n s p. p (omega arith)) (λ n s x p right few. p (omega arith)) n tt full
+
+module _ {T : Type 0} (v : ℕ → Piece (List T)) (long : (n : ℕ) (l : List T) → (v n).right l → length l ≡ n) (count : Piece ℕ) where
+  pub measured_right : (l : List T) → count.right (length l) → (v (length l)).right l → (measured v long count).right l
+  unfolding measured as_value followed_by
+  measured_right l first second = ((first, second), refl)
+
+  pub measured_parts : (l : List T) → (measured v long count).right l → count.right (length l) × (v (length l)).right l
+  unfolding measured as_value followed_by
+  measured_parts l right = right.0
+
+module _ {T : Type 0} (d : T) (v : Piece T) (count : Piece ℕ) where
+  pub listed_right : (l : List T) → count.right (length l) → AllByRecursion v.right l → (listed d v count).right l
+  unfolding listed
+  listed_right l first all = measured_right (repeat d v) (repeat_long d v) count l first (repeat_right d v l all)
+
+  pub listed_parts : (l : List T) → (listed d v count).right l → count.right (length l) × AllByRecursion v.right l
+  unfolding listed
+  listed_parts l right = let parts = measured_parts (repeat d v) (repeat_long d v) count l right in (parts.0, repeat_all d v (length l) l parts.1)
+
+  pub listed_full_some : count.full → ((n : ℕ) → count.right n → 0 < n → v.full) → (listed d v count).full
+  unfolding listed
+  listed_full_some first full = measured_full (repeat d v) (repeat_long d v) count first (λ n right. repeat_full_some d v n (full n right))

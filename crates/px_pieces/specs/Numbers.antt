@@ -125,6 +125,19 @@ module _ (may : ℕ → ℕ → Bool) where
       (chain_full 0 (λ left v. byte (digit_ok may left v)) one_more P (λ n v p. let b = some n v p in byte_full (digit_ok may n v) b.0 b.1)
       (λ n v x p right. kept n (256 * v + x) (and_true (nat_lt x 256) (may n (256 * v + x)) right).1) size 0 start)
 
+module _ (may : ℕ → ℕ → Bool) where
+  digits_last : (k v : ℕ) (bytes : List ℕ) → (digits may (suc k) v).right bytes → may 0 (number_on v bytes) ≡ true
+  unfolding digits byte
+  digits_last k v [] right = absurd (let long = chain_long 0 (λ left v. byte (digit_ok may left v)) one_more (suc k) v [] right in omega (arith, long))
+  digits_last zero v (b ∷ []) right = (and_true (nat_lt b 256) (may 0 (256 * v + b)) (chain_first 0 (λ left v. byte (digit_ok may left v)) one_more zero v (b ∷ []) right)).1
+  digits_last zero v (b ∷ c ∷ bytes) right = absurd (let long = chain_long 0 (λ left v. byte (digit_ok may left v)) one_more (suc zero) v (b ∷ c ∷ bytes) right in omega (arith, long))
+  digits_last (suc k) v (b ∷ bytes) right = digits_last k (256 * v + b) bytes (chain_others 0 (λ left v. byte (digit_ok may left v)) one_more (suc k) v (b ∷ bytes) right)
+
+  -- a right number is allowed
+  pub number_may : (size n : ℕ) → (number_of may (suc size)).right n → may 0 n ≡ true
+  unfolding number_of as_value
+  number_may size n right = ap (may 0) (sym right.1) ∙ digits_last size 0 (bytes_high_first (suc size) n) right.0
+
 -- ---- numbers up to a greatest one
 
 -- the number so far may go on to one that isn't above the greatest
@@ -144,6 +157,10 @@ number size most = number_of (up_to most) size
 pub fits_number : (size most n : ℕ) → n < 256 ^ size → n ≤ most → (number size most).right n
 unfolding number
 fits_number size most n lt le = number_right (up_to most) size n lt (λ left l. le-leb (n / 256 ^ left) (most / 256 ^ left) (div_less n most (256 ^ left) (pow_some left) le))
+
+pub number_most : (size most n : ℕ) → (number (suc size) most).right n → n ≤ most
+unfolding number
+number_most size most n right = let le : n ≤ most / 1 = leb-true n (most / 1) (number_may (up_to most) size n right) in omega (arith, le, div-one most)
 
 pub full_number : (size most : ℕ) → (number size most).full
 unfolding number
@@ -168,6 +185,32 @@ one_of size ns = number_of (begins_one ns) size
 any_true : (t u : Bool) → u ≡ true → (t || u) ≡ true
 any_true true u is = refl
 any_true false u is = is
+
+-- a right one is one of them, and each of them is right
+pub one_of_member : (size : ℕ) (ns : List ℕ) (n : ℕ) → (one_of (suc size) ns).right n → list_any (λ m. m == n) ns ≡ true
+unfolding one_of
+one_of_member size ns n right = whole ns n (number_may (begins_one ns) size n right)
+  where
+    whole : (ns : List ℕ) (n : ℕ) → list_any (λ m. m / 1 == n) ns ≡ true → list_any (λ m. m == n) ns ≡ true
+    whole [] n is = is
+    whole (m ∷ ns) n is = by (m / 1 == n) (list_any (λ m. m / 1 == n) ns) (ap (λ (k : ℕ). k == n) (div-one m)) is (whole ns n)
+      where
+        by : (t u : Bool) → t ≡ (m == n) → (t || u) ≡ true → (u ≡ true → list_any (λ m. m == n) ns ≡ true) → ((m == n) || list_any (λ m. m == n) ns) ≡ true
+        by true u same is more = ap (λ (t : Bool). t || list_any (λ m. m == n) ns) (sym same)
+        by false u same is more = any_true (m == n) (list_any (λ m. m == n) ns) (more is)
+
+pub one_of_right : (size : ℕ) (ns : List ℕ) (n : ℕ) → n < 256 ^ size → list_any (λ m. m == n) ns ≡ true → (one_of size ns).right n
+unfolding one_of
+one_of_right size ns n lt is = number_right (begins_one ns) size n lt (λ left l. begun ns left is)
+  where
+    begun : (ns : List ℕ) (left : ℕ) → list_any (λ m. m == n) ns ≡ true → list_any (λ m. m / 256 ^ left == (n / 256 ^ left)) ns ≡ true
+    begun [] left is = is
+    begun (m ∷ ns) left is = by (m == n) refl is (begun ns left)
+      where
+        by : (t : Bool) → (m == n) ≡ t → (t || list_any (λ m. m == n) ns) ≡ true → (list_any (λ m. m == n) ns ≡ true → list_any (λ m. m / 256 ^ left == (n / 256 ^ left)) ns ≡ true)
+            → ((m / 256 ^ left == (n / 256 ^ left)) || list_any (λ m. m / 256 ^ left == (n / 256 ^ left)) ns) ≡ true
+        by true same is more = ap (λ (t : Bool). t || list_any (λ m. m / 256 ^ left == (n / 256 ^ left)) ns) (eq-eqb (m / 256 ^ left) (n / 256 ^ left) (ap (λ (k : ℕ). k / 256 ^ left) (eqb-true m n same)))
+        by false same is more = any_true (m / 256 ^ left == (n / 256 ^ left)) (list_any (λ m. m / 256 ^ left == (n / 256 ^ left)) ns) (more is)
 
 begins_more : (ns : List ℕ) (left v : ℕ) → begins_one ns (suc left) v ≡ true → (b : ℕ) × (digit_ok (begins_one ns) left v b ≡ true)
 begins_more [] left v is = absurd cc

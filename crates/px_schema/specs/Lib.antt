@@ -1,1 +1,6 @@
 pub mod Texts
+pub mod Parts
+pub mod Format
+pub mod Stands
+pub mod Records
+pub mod Fresh

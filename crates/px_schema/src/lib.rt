@@ -1,4 +1,8 @@
-//! Definitions.
+//! Definitions of tables and indexes as bytes, and what stands after them.
 #![tactic(auto)]
 
-pub fn nothing_yet() {}
+mod item;
+mod standing;
+
+pub use item::CatalogItem;
+pub use standing::Standing;
