@@ -2,7 +2,7 @@
 ghost use Rattle.std.specs.Prelude.{◌≡◌, IfOk};
 
 use crate::{Index, Table};
-use px_ast::Items;
+use px_values::Items;
 use std::alloc::{AllocError, Global};
 
 /// A table and its indexes, as they stood after so many entries of the trail.

@@ -4,12 +4,11 @@ ghost use Rattle.px_tables.specs.Definitions.{index_definition_of};
 
 use crate::KeyPlace;
 use crate::table::copied_places;
-use px_ast::Items;
-use px_values::{IndexId, Name, TableId};
+use px_values::{IndexId, Items, Name, TableId};
 use std::alloc::{AllocError, Global};
 
 /// How far an index is built.
-#[derive(Clone, Copy, Debug, PartialEq, Eq)]
+#[derive(Clone, Copy, PartialEq, Eq)]
 pub enum IndexState {
     Building,
     Active,

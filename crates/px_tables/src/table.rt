@@ -2,8 +2,7 @@
 ghost use Rattle.std.specs.Prelude.{◌≡◌, IfOk, map};
 ghost use Rattle.px_tables.specs.Definitions.{definition_of};
 
-use px_ast::Items;
-use px_values::{ColType, Direction, Key, Name, TableId};
+use px_values::{ColType, Direction, Items, Key, Name, TableId};
 use std::alloc::{AllocError, Global};
 
 /// A column of a table.
@@ -30,7 +29,7 @@ impl TableColumn {
 }
 
 /// A column of a key, by its place in the table, and its direction.
-#[derive(Clone, Copy, Debug, PartialEq, Eq)]
+#[derive(Clone, Copy, PartialEq, Eq)]
 pub struct KeyPlace {
     pub column: u8,
     pub direction: Direction,

@@ -1,7 +1,7 @@
 // Conditions and what they are worth over one row, by the truth tables of the SQL standard.
-use px_ast::{Boxed, Comparison, Items};
+use px_ast::{Boxed, Comparison};
 use px_expr::{Bound, Term, Test, Truth, holds};
-use px_values::{Row, Text, Value};
+use px_values::{Items, Row, Text, Value};
 use std::alloc::{AllocError, Global};
 use std::test::Fail;
 
