@@ -4,3 +4,5 @@ pub mod Format
 pub mod Stands
 pub mod Records
 pub mod Fresh
+pub mod Outcomes
+pub mod Underway

@@ -1,7 +1,7 @@
 use Rattle.std.proofs.Common.{◌+◌, map, sym, ◌∙◌, arith}
 use Rattle.px_pieces.specs.Numbers.{begins_one}
 use Rattle.px_pieces.proofs.Bytewise.{number_start, short_more, standing_cut, standing_done, standing_more, standing_wrong}
-use Rattle.px_pieces.proofs.read.one_of_in.Goals as goal
+use Rattle.px_schema.proofs.numbered.one_of_in.Goals as goal
 
 pub loop-taken-init : goal.loop-taken-init
 loop-taken-init g c = (number_start (begins_one (map g.T.Numbered.number_of c.args.standing.now)) 4 c.args.bytes.now c.args.at c.requires.begins, omega arith)
