@@ -8,7 +8,7 @@ use Rattle.std.proofs.Math.Utf8.{scalar, scalars}
 use Rattle.std.proofs.lemmas.Bool.{cases_lt, le-leb, lt-ltb, leb-true, ltb-true}
 use Rattle.std.proofs.lemmas.Bool.Decides.{nat_tests}
 use Rattle.std.proofs.lemmas.Str.{IsUtf8-nil, IsUtf8-append, IsUtf8-encode, encode_ascii}
-use Rattle.px_keys.specs.PartReading.{GoesOn, char_size}
+use Rattle.px_keys.specs.inner.PartReading.{GoesOn, char_size}
 use Rattle.px_keys.proofs.Characters.{and-true, forms, one, two, three, four}
 use Rattle.px_keys.proofs.CharReading.{Shaped, low-scalar, second_bounds, shaped, size-four, size-one, size-three, size-two, spelt-two, spelt-three, spelt-four}
 use Rattle.px_pieces.specs.Pieces.{byte}

@@ -1,2 +1,5 @@
 pub mod Characters
 pub mod TextSteps
+pub mod Joins
+pub mod PartSteps
+pub mod ListSteps

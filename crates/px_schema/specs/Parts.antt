@@ -2,7 +2,7 @@
 use Rattle.std.proofs.Common.{◌≡◌, ◌<◌, ◌≤◌, ◌+◌, ◌*◌, ◌/◌, ◌%◌, ◌++◌, ◌∷◌, [], ℕ, zero, suc, Bool, true, false, List, length, refl, sym, ap, ◌∙◌, arith}
 use Rattle.std.specs.Prelude.{◌&&◌, ◌==◌, if◌then◌else◌, min, nat_le, nat_lt}
 use Rattle.std.proofs.lemmas.Bool.{leb-true, ltb-true}
-use Rattle.px_values.specs.Types.{code_of}
+use Rattle.px_values.specs.Types.{type_code}
 use Rattle.px_values.specs.declared.column.ColType.{ColType}
 use Rattle.px_values.specs.declared.column.ColType.TheVariants.{TinyInt, SmallInt, Integer, BigInt, UnsignedInt, UnsignedLong, Boolean, Varchar}
 use Rattle.px_values.specs.declared.order.Direction.{Direction}
@@ -56,7 +56,7 @@ type_of (suc (suc (suc (suc (suc (suc zero)))))) = UnsignedLong
 type_of (suc (suc (suc (suc (suc (suc (suc zero))))))) = Boolean
 type_of (suc (suc (suc (suc (suc (suc (suc (suc n)))))))) = Varchar
 
-type_same : (b : ℕ) → 1 ≤ b → b < 9 → code_of (type_of b) ≡ b
+pub type_same : (b : ℕ) → 1 ≤ b → b < 9 → type_code (type_of b) ≡ b
 type_same zero low high = absurd (omega arith)
 type_same (suc zero) low high = refl
 type_same (suc (suc zero)) low high = refl
@@ -68,13 +68,13 @@ type_same (suc (suc (suc (suc (suc (suc (suc zero))))))) low high = refl
 type_same (suc (suc (suc (suc (suc (suc (suc (suc zero)))))))) low high = refl
 type_same (suc (suc (suc (suc (suc (suc (suc (suc (suc n))))))))) low high = absurd (omega arith)
 
-pub type_back : (b : ℕ) → (one_byte 1 9).right b → code_of (type_of b) ≡ b
+pub type_back : (b : ℕ) → (one_byte 1 9).right b → type_code (type_of b) ≡ b
 unfolding one_byte byte
 type_back b is = let range = within_both 1 9 b is in type_same b range.0 range.1
 
 -- the type of a column is its code
 unfoldable pub column_type : Piece ColType
-column_type = as_value type_of code_of (one_byte 1 9) type_back
+column_type = as_value type_of type_code (one_byte 1 9) type_back
 
 abbrev pub bit_of : Bool → ℕ
 bit_of b = if b then 1 else 0
@@ -202,7 +202,7 @@ name_full = measured_full text text_long some_count some_full (λ n right. text_
 
 type_full : column_type.full
 unfolding column_type
-type_full = as_full type_of code_of (one_byte 1 9) type_back (one_byte_full 1 9 (omega arith))
+type_full = as_full type_of type_code (one_byte 1 9) type_back (one_byte_full 1 9 (omega arith))
 
 flag_full : flag.full
 unfolding flag

@@ -3,7 +3,7 @@ use Rattle.std.proofs.Common.{◌≡◌, ◌<◌, ◌≤◌, ◌+◌, ◌∷◌,
 use Rattle.std.specs.Prelude.{◌-◌, ◌&&◌, nat_le, nat_lt}
 use Rattle.std.specs.Str.Lossy.{second_byte_min, second_byte_max}
 use Rattle.std.proofs.lemmas.Bool.{le-leb, lt-ltb, leb-true, ltb-true}
-use Rattle.px_keys.specs.PartReading.{char_size}
+use Rattle.px_keys.specs.inner.PartReading.{char_size}
 use Rattle.px_keys.proofs.CharReading.{second_some}
 use Rattle.px_pieces.specs.Pieces.{Piece, byte, byte_full}
 use Rattle.px_pieces.specs.Chains.{chain, chain_full, chain_long}

@@ -1,6 +1,6 @@
 // What stands.
-use px_ast::Items;
 use px_tables::{Index, Table};
+use px_values::Items;
 
 /// The tables and indexes that stand, and the next number that is drawn.
 #[derive(Drop)]

@@ -1,7 +1,7 @@
 // Reading texts.
 ghost use Rattle.std.specs.Prelude.{◌≡◌, ◌≤◌, ◌<◌, ◌+◌, length, IfOk, IfErr};
 ghost use Rattle.std.specs.Str.Lossy.{second_byte_max, second_byte_min};
-ghost use Rattle.px_keys.specs.PartReading.{char_size};
+ghost use Rattle.px_keys.specs.inner.PartReading.{char_size};
 ghost use Rattle.px_pieces.specs.Taking.{IsStopped, IsTaken};
 ghost use Rattle.px_schema.specs.Texts.{char_next_by, char_ok_by, text};
 ghost use Rattle.px_schema.specs.Underway.{IsState};

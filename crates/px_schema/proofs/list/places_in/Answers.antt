@@ -1,0 +1,16 @@
+use Rattle.std.proofs.Common.{◌+◌}
+use Rattle.px_pieces.specs.Bytes.{one_byte}
+use Rattle.px_schema.specs.Parts.{place, places}
+use Rattle.px_schema.proofs.Joins.{exit_wrong}
+use Rattle.px_schema.proofs.ListSteps.{listed_reads, listed_stopped}
+use Rattle.px_schema.proofs.list.places_in.Goals as goal
+
+pub returns-in_err-count : goal.returns-in_err-count
+unfolding places
+returns-in_err-count c =
+    exit_wrong (places c.args.columns) c.args.bytes.now c.args.at c.from_residual.result c.in_err-count.field-0.0.place c.from_residual.ensures.1
+    (listed_stopped 0 (place c.args.columns) (one_byte 0 256) c.args.bytes.now c.args.at c.in_err-count.field-0.0.place c.in_err-count.ensures.stopped)
+
+pub returns : goal.returns
+unfolding places
+returns c = listed_reads 0 (place c.args.columns) (one_byte 0 256) c.args.bytes.now c.args.at c.in_ok-count.count (c.args.at + 1) c.places_from.result c.in_ok-count.ensures.taken c.places_from.ensures
