@@ -1,0 +1,7 @@
+pub mod Cuts
+pub mod Readings
+pub mod Numbers
+pub mod Taken
+pub mod Appended
+pub mod Snapshots
+pub mod Named

@@ -1,0 +1,42 @@
+-- Numbered batches of cells, and the one sorted list that batches and files have together.
+use Rattle.std.specs.Prelude.{◌<◌, ℕ, ◌&&◌, nat_lt, nat_le, filter, List, [], ◌∷◌, ◌++◌}
+use Rattle.std.specs.List.{AllByRecursion}
+use Rattle.px_cells.specs.CellData.{CellData}
+use Rattle.px_cells.specs.Order.{GoesWith}
+use Rattle.px_merge.specs.Merged.{joined}
+use Rattle.px_merge.specs.Settle.{settle}
+
+-- the cells that were written together, and their number
+pub record Batch : Type 0 where
+  pub number : ℕ
+  pub cells : List CellData
+
+-- the cells of batches, of which the later written stand first
+abbrev pub later_first : List Batch → List CellData
+later_first [] = []
+later_first (b ∷ batches) = later_first batches ++ b.cells
+
+-- each batch has a greater number than those before it
+abbrev pub AreRising : List Batch → Type 0
+AreRising [] = Unit {0}
+AreRising (b ∷ batches) = AllByRecursion (λ c. b.number < c.number) batches × AreRising batches
+
+-- the batches above a number
+abbrev pub above : ℕ → List Batch → List Batch
+above n batches = filter (λ b. nat_lt n b.number) batches
+
+-- the batches above a number, up to another
+abbrev pub between : ℕ → ℕ → List Batch → List Batch
+between m n batches = filter (λ b. nat_lt m b.number && nat_le b.number n) batches
+
+-- what is read of the batches above a number, and of files of which the newest stands first
+abbrev pub cells_over : ℕ → List Batch → List (List CellData) → List CellData
+cells_over flushed batches files = settle (later_first (above flushed batches) ++ joined files)
+
+-- every batch above a number has stamps above the horizon alone
+abbrev pub AreOver : ℕ → List Batch → Type 0
+AreOver horizon batches = AllByRecursion (λ b. AllByRecursion (λ c. horizon < c.stamp) b.cells) batches
+
+-- each cell of the batches is at a qualifier of its kind
+abbrev pub ArePlaced : List Batch → Type 0
+ArePlaced batches = AllByRecursion (λ b. AllByRecursion GoesWith b.cells) batches

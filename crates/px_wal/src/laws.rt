@@ -1,0 +1,41 @@
+// The laws of batches and files, over every list of them.
+ghost use Rattle.std.specs.Prelude.{◌≡◌, ◌≤◌, ◌<◌, ◌∷◌, ◌++◌, [], ℕ, List};
+ghost use Rattle.std.specs.List.{AllByRecursion};
+ghost use Rattle.px_cells.specs.CellData.{CellData};
+ghost use Rattle.px_merge.specs.Kept.{IsKept};
+ghost use Rattle.px_merge.specs.Merged.{joined};
+ghost use Rattle.px_merge.specs.Settle.{settle};
+ghost use Rattle.px_wal.specs.Batches.{AreOver, ArePlaced, AreRising, Batch, above, between, cells_over, later_first};
+
+/// Batches up to a number may stand in a file, the newest, in place of the log.
+pub fn flushed_is_the_same()
+    ensures { (m n : ℕ) (batches : List Batch) (files : List (List CellData)) (file : List CellData) → m ≤ n → AreRising batches
+        → file ≡ settle (later_first (between m n batches)) → cells_over n batches (file ∷ files) ≡ cells_over m batches files }
+{}
+
+/// All files may stand as one, and then the same list stands.
+pub fn compacted_is_the_same()
+    ensures { (n : ℕ) (batches : List Batch) (files : List (List CellData)) (file : List CellData) → file ≡ settle (joined files) → cells_over n batches (file ∷ []) ≡ cells_over n batches files }
+{}
+
+/// What a horizon keeps of the files it keeps of the whole list, where all that stands outside the files is above it.
+pub fn a_horizon_keeps_the_whole()
+    ensures { (n h : ℕ) (batches : List Batch) (files : List (List CellData)) (kept : List CellData) → AreOver h (above n batches) → ArePlaced (above n batches)
+        → IsKept (settle (joined files)) h kept → IsKept (cells_over n batches files) h (cells_over n batches (kept ∷ [])) }
+{}
+
+/// A batch that is written last is read first.
+pub fn the_last_is_read_first()
+    ensures { (n : ℕ) (batches : List Batch) (files : List (List CellData)) (b : Batch) → n < b.number
+        → cells_over n (batches ++ b ∷ []) files ≡ settle (b.cells ++ cells_over n batches files) }
+{}
+
+/// Batches up to the flushed number may go from the log.
+pub fn flushed_batches_may_go()
+    ensures { (n : ℕ) (older newer : List Batch) (files : List (List CellData)) → AllByRecursion (λ b. b.number ≤ n) older → cells_over n newer files ≡ cells_over n (older ++ newer) files }
+{}
+
+/// Where the sorted list of what is read of batches is above a horizon, so is each of their cells.
+pub fn what_is_read_tells_the_stamps()
+    ensures { (h : ℕ) (batches : List Batch) → AllByRecursion (λ c. h < c.stamp) (settle (later_first batches)) → AreOver h batches }
+{}

@@ -1,0 +1,158 @@
+// The log of a region.
+ghost use Rattle.std.specs.Prelude.{◌≡◌, ◌≢◌, ◌≤◌, ◌<◌, ◌+◌, ◌^◌, ◌⊎◌, ◌++◌, ◌∷◌, [], ◌↔◌, ℕ, List, length, IsTrue, IfOk, IsErr, OnOk, Ok, Err, None};
+ghost use Rattle.px_outside.specs.OnDisk.{LeavesOnly, Passes, Rose, Stays, TouchesOnly};
+ghost use Rattle.px_cellbytes.specs.Reading.{IsWritten};
+ghost use Rattle.px_cellbytes.specs.Spelling.{all_bytes};
+ghost use Rattle.px_wal.specs.Batches.{Batch as BatchData};
+
+use crate::files::local_file;
+use crate::frames::fill_batch;
+use crate::reader::BatchReader;
+use px_cells::Cells;
+use px_gatelog::{Frame, GateLog, LogFault, Rolled};
+use px_memstore::MemStore;
+use px_outside::Disk;
+use std::alloc::Global;
+
+/// The log of a region, to which batches of cells are appended.
+#[derive(Drop)]
+pub struct Wal {
+    pub(crate) log: GateLog,
+    /// The number of the last batch; the flushed number where there is none.
+    pub(crate) last: u64,
+}
+
+/// A log that was read, and the cells of its batches above the flushed number.
+#[derive(Drop)]
+pub struct Replayed {
+    pub wal: Wal,
+    pub store: MemStore,
+    /// How many cells these batches have, and the sum of their bytes.
+    pub cells: u64,
+    pub bytes: u64,
+}
+
+impl Wal {
+    ghost use Rattle.px_wal.specs.Wal.{HasBatches, LogStands, is_open as opened_wal, log_files, next_batch, room_of as room_in};
+    ghost use Rattle.px_gatelog.specs.GateLog.{steps_left};
+
+    /// Whether the log has an open segment.
+    pub fn is_open(&self) -> bool
+        ensures { IsTrue result ↔ opened_wal self.now }
+    {
+        self.log.is_open()
+    }
+
+    /// The number of the last batch.
+    pub fn last(&self) -> u64
+        ensures { result ≡ self.now.last }
+    {
+        self.last
+    }
+
+    /// Whether the newest segment has room for a record with a body of so many bytes.
+    pub fn has_room(&self, body: u64) -> bool
+        requires short { body < 2 ^ 32 }
+        ensures { IsTrue result ↔ (7 + body ≤ room_in self.now) }
+    {
+        self.log.has_room(body)
+    }
+
+    /// Appends a batch, and answers its number. After `Ok` it is there. A stop in the call leaves it whole or not at all.
+    /// It takes no memory. It is full where no number is left, or the batch passes the segment's size, and then no call
+    /// is made.
+    pub fn append<D: Disk>(
+        &mut self,
+        disk: &mut D,
+        cells: &Cells,
+        frame: &mut Frame,
+    ) -> Result<u64, LogFault>
+        requires open { opened_wal self.old }
+        requires written { IsWritten cells.now }
+        requires counted { length cells.now < 2 ^ 32 }
+        requires room { 12 + length (all_bytes cells.now) ≤ frame.old.room }
+        requires small { 12 + length (all_bytes cells.now) < 2 ^ 32 }
+        ensures done { (region flushed : ℕ) (batches : List BatchData) → HasBatches ⟦<D as Disk>⟧ region flushed self.old disk.old batches
+            → OnOk result (HasBatches ⟦<D as Disk>⟧ region flushed self.new disk.new (batches ++ next_batch self.old cells.now ∷ [])) }
+
+        // At each moment of the call a stop leaves the log without the batch, or with it.
+        ensures any_moment { (region flushed : ℕ) (batches : List BatchData) → HasBatches ⟦<D as Disk>⟧ region flushed self.old disk.old batches
+            → LeavesOnly ⟦<D as Disk>⟧ disk.old disk.new (λ moment image. LogStands region flushed image batches ⊎ LogStands region flushed image (batches ++ next_batch self.old cells.now ∷ [])) }
+        ensures full { (result ≡ Err LogFault.Full) ↔ ((room_in self.old < 19 + length (all_bytes cells.now)) ⊎ (self.old.last ≡ 18446744073709551615)) }
+        ensures untouched { result ≡ Err LogFault.Full → (disk.new ≡ disk.old) × (self.new ≡ self.old) }
+        ensures failed { result ≡ Err LogFault.WriteFault → Rose ⟦<D as Disk>⟧ disk.old disk.new }
+        ensures faults { IsErr result → (result ≡ Err LogFault.Full) ⊎ (result ≡ Err LogFault.WriteFault) }
+        ensures number { IfOk result (λ n. n ≡ self.old.last + 1) }
+        ensures last { OnOk result (self.new.last ≡ self.old.last + 1) }
+        ensures touches { (region flushed : ℕ) (batches : List BatchData) → HasBatches ⟦<D as Disk>⟧ region flushed self.old disk.old batches → TouchesOnly ⟦<D as Disk>⟧ disk.old disk.new (log_files region) }
+        ensures counts { Passes ⟦<D as Disk>⟧ disk.old disk.new 4 }
+        ensures open { opened_wal self.new }
+        ensures room { OnOk result (room_in self.new + (18 + length (all_bytes cells.now)) ≡ room_in self.old) }
+        ensures frame { frame.old.room ≤ frame.new.room }
+    {
+        let Some(number) = self.last.checked_add(1) else {
+            return Err(LogFault::Full);
+        };
+        fill_batch(frame, number, cells);
+        self.log.append(disk, frame)?;
+        self.last = number;
+        Ok(number)
+    }
+
+    /// Makes one step of the log's first segment: closes the gate of its file where it may be open, or writes the segment
+    /// behind the gate, or opens the gate. The log has the same batches at each moment. It takes no memory.
+    pub fn roll_step<D: Disk>(&mut self, disk: &mut D) -> Result<Rolled, LogFault>
+        requires closed { opened_wal self.old → ⊥ }
+        ensures done { (region flushed : ℕ) (batches : List BatchData) → HasBatches ⟦<D as Disk>⟧ region flushed self.old disk.old batches → OnOk result (HasBatches ⟦<D as Disk>⟧ region flushed self.new disk.new batches) }
+
+        // At each moment of the call a stop leaves the log with the same batches.
+        ensures any_moment { (region flushed : ℕ) (batches : List BatchData) → HasBatches ⟦<D as Disk>⟧ region flushed self.old disk.old batches
+            → LeavesOnly ⟦<D as Disk>⟧ disk.old disk.new (λ moment image. LogStands region flushed image batches) }
+        ensures failed { IsErr result → (result ≡ Err LogFault.WriteFault) × Rose ⟦<D as Disk>⟧ disk.old disk.new }
+        ensures touches { (region flushed : ℕ) (batches : List BatchData) → HasBatches ⟦<D as Disk>⟧ region flushed self.old disk.old batches → TouchesOnly ⟦<D as Disk>⟧ disk.old disk.new (log_files region) }
+        ensures counts { Passes ⟦<D as Disk>⟧ disk.old disk.new 3 }
+
+        // With the last step the segment is open.
+        ensures opened { result ≡ Ok Rolled.Rolled → opened_wal self.new }
+        ensures more { result ≡ Ok Rolled.More → (opened_wal self.new → ⊥) × (steps_left self.new.log + 1 ≡ steps_left self.old.log) }
+        ensures last { self.new.last ≡ self.old.last }
+    {
+        match self.log.roll_step(disk, None) {
+            Ok(rolled) => Ok(rolled),
+            Err(_) => Err(LogFault::WriteFault),
+        }
+    }
+}
+
+impl Wal {
+    ghost use Rattle.px_gatelog.specs.declared.fault.LogFault.TheVariants.{ReadFault as LogReadFault, WriteFault as LogWriteFault, Full as LogFull, Damaged as LogDamaged};
+    ghost use Rattle.px_gatelog.specs.Replay.{IsFirstWrong};
+    ghost use Rattle.px_wal.specs.Files.{file_of};
+    ghost use Rattle.px_wal.specs.Form.{wal_form};
+    ghost use Rattle.px_wal.specs.Wal.{IsReplayed};
+
+    /// Opens the log of a region that was flushed up to a number: 0 where there is no manifest. Batches up to it are
+    /// tested and passed over.
+    pub fn replay<D: Disk>(
+        alloc: Global,
+        disk: &mut D,
+        region: u32,
+        flushed: u64,
+    ) -> Result<Replayed, LogFault>
+        ensures replayed { IsTrue D.tells → IfOk result (λ r. IsReplayed ⟦<D as Disk>⟧ region flushed disk.old disk.new r) }
+        ensures damaged { (file place : ℕ) → result ≡ Err (LogDamaged file place) → IsTrue D.tells
+            → IsFirstWrong (wal_form flushed) (file_of region 0) (file_of region 1) (D.seen disk.old (file_of region 0)) (D.seen disk.old (file_of region 1)) file place }
+        ensures quiet { Stays ⟦<D as Disk>⟧ disk.old disk.new }
+        ensures seen { D.seen disk.new ≡ D.seen disk.old }
+        ensures read_failed { result ≡ Err LogReadFault → Rose ⟦<D as Disk>⟧ disk.old disk.new }
+        ensures write_failed { result ≡ Err LogWriteFault → Rose ⟦<D as Disk>⟧ disk.old disk.new }
+        ensures not_full { result ≢ Err LogFull }
+        ensures counts { Passes ⟦<D as Disk>⟧ disk.old disk.new 6 }
+    {
+        let first = local_file(region, 0);
+        let second = local_file(region, 1);
+        let mut reader = BatchReader::new(alloc, flushed);
+        let log = GateLog::start(alloc, disk, first, second, &mut reader)?;
+        Ok(reader.into_replayed(log))
+    }
+}
