@@ -1,0 +1,7 @@
+pub mod Calls
+pub mod Files
+pub mod FolderDisk
+pub mod Listed
+pub mod MemStreams
+pub mod Metered
+pub mod Replay
