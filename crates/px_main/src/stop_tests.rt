@@ -1,5 +1,5 @@
 // Runs that a stop ends, and folders whose bytes were changed.
-ghost use Rattle.px_outside.specs.MemDisk.{calls as calls_of, faults as faults_of, first_fault as first_fault_of, made as made_of};
+ghost use Rattle.px_outside.specs.MemDisk.{mem_calls as calls_of, mem_faults as faults_of, mem_first_fault as first_fault_of, made as made_of};
 ghost use Rattle.std.specs.Prelude.{◌≡◌, []};
 
 use crate::run::Status;
