@@ -1,0 +1,5 @@
+pub mod Region
+pub mod Promise
+pub mod Giving
+pub mod Opened
+pub mod inner

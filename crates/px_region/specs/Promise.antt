@@ -1,0 +1,35 @@
+-- Room in a region.
+use Rattle.std.specs.Prelude.{◌≡◌, ◌≤◌, ◌<◌, ◌⊎◌, ◌+◌, ◌*◌, ℕ}
+use Rattle.px_wal.specs.Manifest.{is_open as manifest_open, names}
+use Rattle.px_wal.specs.Wal.{is_open as log_open, room_of}
+use Rattle.px_region.specs.declared.region.Region.{Region}
+
+-- the log is open, and a batch appended to it is above the flushed number
+abbrev pub IsReady : Region → Type 0
+IsReady region = log_open region.wal × ((names region.manifest).flushed ≤ region.wal.last)
+
+-- with so many more, the cells or the bytes in the log and promised pass their limit
+abbrev pub PassesLimit : Region → (cells bytes : ℕ) → Type 0
+PassesLimit region cells bytes = (16384 < region.cells + region.promised + cells) ⊎ (16777216 < region.bytes + region.promised_bytes + bytes)
+
+-- the log has numbers and bytes for so many more, each cell in a batch of its own
+abbrev pub HasRoom : Region → (cells bytes : ℕ) → Type 0
+HasRoom region cells bytes = (region.wal.last + (region.promised + cells) ≤ 18446744073709551615) × (7 + (19 * (region.promised + cells) + region.promised_bytes + bytes) ≤ room_of region.wal)
+
+-- log and manifest are open
+abbrev pub IsPrepared : Region → Type 0
+IsPrepared region = log_open region.wal × manifest_open region.manifest
+
+-- the same list in the same files
+pub record IsAlike (old new : Region) : Type 0 where
+  pub number : new.number ≡ old.number
+  pub wal : new.wal ≡ old.wal
+  pub manifest : new.manifest ≡ old.manifest
+  pub store : new.store.cells ≡ old.store.cells
+  pub cells : new.cells ≡ old.cells
+  pub bytes : new.bytes ≡ old.bytes
+
+-- the same room is promised
+pub record IsSamePromise (old new : Region) : Type 0 where
+  pub cells : new.promised ≡ old.promised
+  pub bytes : new.promised_bytes ≡ old.promised_bytes
