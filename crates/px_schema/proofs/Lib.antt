@@ -3,3 +3,5 @@ pub mod TextSteps
 pub mod Joins
 pub mod PartSteps
 pub mod ListSteps
+pub mod TableSteps
+pub mod RecordSteps

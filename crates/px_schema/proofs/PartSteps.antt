@@ -132,3 +132,8 @@ module _ (bytes : List ℕ) (at : ℕ) where
 pub later_descends : (b : ℕ) → (b ≡ 0 → ⊥) → direction_of b ≡ Descending
 later_descends zero some = absurd (some refl)
 later_descends (suc b) some = refl
+
+pub later_disabled : (b : ℕ) → (b ≡ 0 → ⊥) → (b ≡ 1 → ⊥) → state_of b ≡ Disabled
+later_disabled zero some more = absurd (some refl)
+later_disabled (suc zero) some more = absurd (more refl)
+later_disabled (suc (suc b)) some more = refl

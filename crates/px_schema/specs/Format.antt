@@ -19,11 +19,21 @@ use Rattle.px_schema.specs.Parts.{columns, columns_full, greatest_id, greatest_s
 
 -- ---- tables
 
+-- what stands behind a table's columns, behind its name, and behind its number
+abbrev pub keyed : ℕ → Piece (List KeyPlace × List TableRegion)
+keyed n = followed_by (parts n) (λ ps. regions)
+
+abbrev pub defined : Piece (List TableColumn × (List KeyPlace × List TableRegion))
+defined = followed_by columns (λ cs. keyed (length cs))
+
+abbrev pub named : Piece (List ℕ × (List TableColumn × (List KeyPlace × List TableRegion)))
+named = followed_by name (λ m. defined)
+
 unfoldable pub table : Piece Table
 table =
     as_value (λ (x : ℕ × (List ℕ × (List TableColumn × (List KeyPlace × List TableRegion)))). record { id = record { 0 = x.0 }; name = x.1.0; columns = x.1.1.0; key = x.1.1.1.0; regions = x.1.1.1.1 })
     (λ t. (t.id.0, (t.name, (t.columns, (t.key, t.regions)))))
-    (followed_by id (λ n. followed_by name (λ m. followed_by columns (λ cs. followed_by (parts (length cs)) (λ ps. regions))))) (λ x right. refl)
+    (followed_by id (λ n. named)) (λ x right. refl)
 
 -- the number of a table
 abbrev pub number_of_table : Table → ℕ
@@ -42,6 +52,16 @@ width_of (t ∷ ts) n = if t.id.0 == n then length t.columns else width_of ts n
 unfoldable pub birth : Piece ℕ
 birth = number 8 greatest_stamp
 
+-- what stands behind an index's region, behind its name, and behind the number of its table, which has so many columns
+abbrev pub covered : ℕ → Piece (List KeyPlace × List ℕ)
+covered n = followed_by (parts n) (λ ps. places n)
+
+abbrev pub built : ℕ → Piece (IndexState × (ℕ × (ℕ × (List KeyPlace × List ℕ))))
+built n = followed_by state (λ s. followed_by birth (λ b. followed_by id (λ r. covered n)))
+
+abbrev pub called : ℕ → Piece (List ℕ × (IndexState × (ℕ × (ℕ × (List KeyPlace × List ℕ)))))
+called n = followed_by name (λ m. built n)
+
 -- it names one of these tables, and columns of that one
 unfoldable pub index : List Table → Piece Index
 index tables =
@@ -56,9 +76,7 @@ index tables =
       included = x.1.1.1.1.1.1.1;
     })
     (λ i. (i.id.0, (i.table.0, (i.name, (i.state, (i.birth, (i.region, (i.parts, i.included))))))))
-    (followed_by id (λ n. followed_by (one_of 4 (map number_of_table tables)) (λ t. followed_by name (λ m. followed_by state (λ s. followed_by birth (λ b. followed_by id (λ r.
-    followed_by (parts (width_of tables t)) (λ ps. places (width_of tables t)))))))))
-    (λ x right. refl)
+    (followed_by id (λ n. followed_by (one_of 4 (map number_of_table tables)) (λ t. called (width_of tables t)))) (λ x right. refl)
 
 -- ---- what stands
 

@@ -1,5 +1,5 @@
 -- What a reader of pieces answers.
-use Rattle.std.specs.Prelude.{◌==◌, if◌then◌else◌, ℕ, List, Result, Ok, Err}
+use Rattle.std.specs.Prelude.{◌≡◌, ◌≤◌, ◌+◌, ◌==◌, if◌then◌else◌, ℕ, List, Result, Ok, Err}
 use Rattle.px_pieces.specs.Pieces.{Piece}
 use Rattle.px_pieces.specs.Taking.{IsStopped, IsTaken}
 use Rattle.px_schema.specs.declared.fault.DefFault.{DefFault}
@@ -20,3 +20,21 @@ paired x (Err fault) = Err fault
 abbrev pub whole_of : {T : Type 0} → ℕ → Result (T × ℕ) DefFault → Result T DefFault
 whole_of size (Ok x) = if x.1 == size then Ok x.0 else Err (NotADefinition x.1)
 whole_of size (Err fault) = Err fault
+
+-- the same with each place counted from the kind of a record
+abbrev pub in_record_of : {T : Type 0} → Result T DefFault → Result T DefFault
+in_record_of (Ok x) = Ok x
+in_record_of (Err (NotADefinition place)) = Err (NotADefinition (5 + place))
+in_record_of (Err Memory) = Err Memory
+
+-- What a reader of a whole record answers: the value, or the first wrong place. Want of memory says nothing of the record.
+abbrev pub Answers : {T : Type 0} → Result T ℕ → Result T DefFault → Type 0
+Answers reading (Ok x) = reading ≡ Ok x
+Answers reading (Err (NotADefinition place)) = reading ≡ Err place
+Answers reading (Err Memory) = Unit {0}
+
+-- no place of a fault is beyond this
+abbrev pub IsWithin : {T : Type 0} → ℕ → Result T DefFault → Type 0
+IsWithin size (Ok x) = Unit {0}
+IsWithin size (Err (NotADefinition place)) = place ≤ size
+IsWithin size (Err Memory) = Unit {0}
