@@ -4,14 +4,19 @@ use Rattle.std.specs.Prelude.{map, IsSome}
 use Rattle.std.proofs.lemmas.List.{map-append}
 use Rattle.px_outside.specs.Disk.{Image}
 use Rattle.px_outside.specs.OnDisk.{LeavesOnly, TouchesOnly}
-use Rattle.px_outside.specs.Standing.{StandsIn, stands_left}
-use Rattle.px_outside.specs.Moments.{touches_more, touches_none}
+use Rattle.px_outside.specs.Standing.{StandsIn}
+use Rattle.px_outside.proofs.Standing.{stands_left}
+use Rattle.px_outside.proofs.Moments.{touches_more, touches_none}
 use Rattle.px_outside.specs.declared.disk.Disk.{Ghosts}
-use Rattle.px_gatelog.specs.Format.{IsNextRecord, LogRecord, SegmentRead, records_of, segments_of, with_record}
-use Rattle.px_gatelog.specs.GateLog.{IsLaid, IsSameLog, IsSettled, MayStep, StandsFor, after_step, file_at, generation_in, is_newest_file, is_next_file, newest_generation, newest_in, next_side, steps_left}
-use Rattle.px_gatelog.specs.Records.{HasRecords, RecordsStand, append_leaves, appended_records, has_files, may_step, records_kept, records_stand, rolled_leaves, rolled_records, started_records}
+use Rattle.px_gatelog.specs.Format.{IsNextRecord, LogRecord, records_of, segments_of}
+use Rattle.px_gatelog.specs.GateLog.{IsLaid, IsSameLog, file_at, generation_in, is_newest_file, is_next_file, newest_generation, newest_in, next_side, steps_left}
+use Rattle.px_gatelog.specs.Records.{HasRecords, RecordsStand, has_files}
+use Rattle.px_gatelog.specs.Steps.{Commits, IsAppend, IsRollStep, Reaches}
+use Rattle.px_gatelog.proofs.LogRecords.{appended_leaves, appended_records, records_kept, records_stand, rolled_leaves, rolled_records, started_records}
 use Rattle.px_gatelog.specs.First.{segment_size}
 use Rattle.px_gatelog.specs.Start.{Started}
+use Rattle.px_gatelog.specs.declared.fault.AppendFault.{AppendFault}
+use Rattle.px_gatelog.specs.declared.fault.AppendFault.TheVariants as refusal
 use Rattle.px_gatelog.specs.declared.roll.Rolled.{Rolled}
 use Rattle.px_gatelog.specs.declared.roll.Rolled.TheVariants as step
 use Rattle.px_gatelog.specs.declared.segment.Segment.{Segment}
@@ -64,6 +69,11 @@ generation_none (Some s) is full = cc
 pub never_full : (log : GateLog) → log.newest ≡ None → (newest_generation log ≡ 18446744073709551615) ⊎ ((steps_left log ≡ 2) × (67108864 < segment_size [])) → ⊥
 never_full log closed (inl last) = generation_none log.newest closed last
 never_full log closed (inr long) = (let l = long.1 in omega arith)
+
+-- what isn't full has failed
+pub written_or : {P : Type 0} (fault : AppendFault) → (fault ≡ refusal.Full → ⊥) → (fault ≡ refusal.WriteFault → P) → P
+written_or refusal.Full full failed = absurd (full refl)
+written_or refusal.WriteFault full failed = failed refl
 
 -- ---- a step of the making of a segment
 
@@ -123,21 +133,17 @@ module _ {D : Type 0} (d : Ghosts D) (region flushed : ℕ) (old : Wal) (disk : 
     right = right_more flushed batches b has.right is follows
 
     pub append_done : (new : Wal) (disk' : D) → new.last ≡ b.number → IsSameLog old.log new.log → (IsLaid d old.log disk [] → IsLaid d new.log disk' []) → steps_left new.log ≡ steps_left old.log
-        → (IsSettled d (wal_form flushed) old.log disk has.log.segments → IsNextRecord (wal_form flushed) has.log.segments r → IsSettled d (wal_form flushed) new.log disk' (with_record has.log.segments r))
-        → HasBatches d region flushed new disk' (batches ++ b ∷ [])
+        → Reaches d old.log new.log disk disk' (IsAppend r) → HasBatches d region flushed new disk' (batches ++ b ∷ [])
     append_done new disk' last same laid steps done = record {
       log = subst (HasRecords d (wal_form flushed) (file_of region 0) (file_of region 1) disk' new.log) records_are
-          (appended_records d (wal_form flushed) (file_of region 0) (file_of region 1) disk disk' old.log new.log (map batch_record batches) r has.log open_ (done has.log.settled may) same laid steps);
+          (appended_records d (wal_form flushed) (file_of region 0) (file_of region 1) disk disk' old.log new.log (map batch_record batches) r has.log open_ may done same laid steps);
       right = right;
       last = last ∙ sym (last_more flushed batches b);
     }
 
-    pub append_at : (disk' : D)
-        → (IsSettled d (wal_form flushed) old.log disk has.log.segments → IsNextRecord (wal_form flushed) has.log.segments r
-        → LeavesOnly d disk disk' (λ moment image. StandsFor (wal_form flushed) old.log image has.log.segments ⊎ StandsFor (wal_form flushed) old.log image (with_record has.log.segments r)))
-        → LeavesOnly d disk disk' (λ moment image. LogStands region flushed image batches ⊎ LogStands region flushed image (batches ++ b ∷ []))
+    pub append_at : (disk' : D) → Commits d old.log disk disk' (IsAppend r) → LeavesOnly d disk disk' (λ moment image. LogStands region flushed image batches ⊎ LogStands region flushed image (batches ++ b ∷ []))
     append_at disk' leaves =
-        let l = append_leaves d (wal_form flushed) (file_of region 0) (file_of region 1) disk disk' old.log old.log (map batch_record batches) r has.log open_ (leaves has.log.settled may) in
+        let l = appended_leaves d (wal_form flushed) (file_of region 0) (file_of region 1) disk disk' old.log old.log (map batch_record batches) r has.log open_ may leaves in
         record {
           each = λ moment image since left. elim (l.each moment image since left) [
             | inl a ↦ inl (record { records = a; right = has.right })
@@ -148,20 +154,14 @@ module _ {D : Type 0} (d : Ghosts D) (region flushed : ℕ) (old : Wal) (disk : 
   -- ---- the making of the first segment
 
   module _ (closed : old.log.newest ≡ None) where
-    pub roll_at : (disk' : D)
-        → ((segments : List SegmentRead) → IsSettled d (wal_form flushed) old.log disk segments → MayStep (wal_form flushed) old.log segments [] → (steps_left old.log ≡ 1 → IsLaid d old.log disk [])
-        → LeavesOnly d disk disk' (λ moment image. StandsFor (wal_form flushed) old.log image segments ⊎ StandsFor (wal_form flushed) old.log image (after_step (wal_form flushed) old.log segments [])))
-        → LeavesOnly d disk disk' (λ moment image. LogStands region flushed image batches)
+    pub roll_at : (disk' : D) → Commits d old.log disk disk' (IsRollStep d old.log disk) → LeavesOnly d disk disk' (λ moment image. LogStands region flushed image batches)
     roll_at disk' leaves =
         let l = rolled_leaves d (wal_form flushed) (file_of region 0) (file_of region 1) disk disk' old.log old.log (map batch_record batches) has.log closed refl leaves in
         record { each = λ moment image since left. record { records = l.each moment image since left; right = has.right } }
 
-    pub roll_done : (new : Wal) (disk' : D) → new.last ≡ old.last → IsSameLog old.log new.log → (steps_left new.log ≡ 1 → IsLaid d new.log disk' [])
-        → ((segments : List SegmentRead) → IsSettled d (wal_form flushed) old.log disk segments → MayStep (wal_form flushed) old.log segments [] → (steps_left old.log ≡ 1 → IsLaid d old.log disk [])
-        → IsSettled d (wal_form flushed) new.log disk' (after_step (wal_form flushed) old.log segments [])) → HasBatches d region flushed new disk' batches
+    pub roll_done : (new : Wal) (disk' : D) → new.last ≡ old.last → IsSameLog old.log new.log → (steps_left new.log ≡ 1 → IsLaid d new.log disk' []) → Reaches d old.log new.log disk disk' (IsRollStep d old.log disk) → HasBatches d region flushed new disk' batches
     roll_done new disk' last same laid done = record {
-      log = rolled_records d (wal_form flushed) (file_of region 0) (file_of region 1) disk disk' old.log new.log (map batch_record batches) has.log closed refl
-          (done has.log.segments has.log.settled (may_step d (wal_form flushed) (file_of region 0) (file_of region 1) disk disk' old.log new.log (map batch_record batches) has.log closed refl) has.log.laid) same laid;
+      log = rolled_records d (wal_form flushed) (file_of region 0) (file_of region 1) disk disk' old.log new.log (map batch_record batches) has.log closed refl done same laid;
       right = has.right;
       last = last ∙ has.last;
     }

@@ -2,11 +2,13 @@
 use Rattle.std.proofs.Common.{◌≡◌, ◌⊎◌, ℕ, ◌<◌, List, [], ◌∷◌, ◌++◌, Ok, refl, sym, ap, subst, ◌∙◌, arith, inl, inr}
 use Rattle.px_outside.specs.OnDisk.{LeavesOnly, TouchesOnly}
 use Rattle.px_outside.specs.Standing.{StandsIn}
-use Rattle.px_outside.specs.Moments.{touches_more}
+use Rattle.px_outside.proofs.Moments.{touches_more}
 use Rattle.px_outside.specs.declared.disk.Disk.{Ghosts}
-use Rattle.px_gatelog.specs.Format.{AllFit, IsNextRecord, LogRecord, SegmentRead, records_of, segments_of, with_record}
-use Rattle.px_gatelog.specs.GateLog.{IsLaid, IsSameLog, IsSettled, MayStep, StandsFor, after_step, is_newest_file, is_next_file, steps_left}
-use Rattle.px_gatelog.specs.Records.{HasLog, RecordsStand, append_leaves, appended_records, may_next, next_leaves, next_records, records_kept, records_stand, started_records}
+use Rattle.px_gatelog.specs.Format.{AllFit, IsNextRecord, LogRecord, records_of, segments_of}
+use Rattle.px_gatelog.specs.GateLog.{IsLaid, IsSameLog, is_newest_file, is_next_file, steps_left}
+use Rattle.px_gatelog.specs.Records.{HasLog, RecordsStand}
+use Rattle.px_gatelog.specs.Steps.{Commits, IsAppend, IsRollStep, Reaches}
+use Rattle.px_gatelog.proofs.LogRecords.{appended_leaves, appended_records, next_leaves, next_records, records_kept, records_stand, started_records}
 use Rattle.px_gatelog.specs.Start.{Started}
 use Rattle.px_wal.specs.Files.{file_of}
 use Rattle.px_wal.specs.Snapshot.{IsLast, IsSnapshot, SnapshotData, manifest_form, snapshot_record, wrong_snapshot}
@@ -57,12 +59,9 @@ module _ {D : Type 0} (d : Ghosts D) (region : ℕ) (old : Manifest) (disk : D) 
     last_is : IsLast (has.records ++ r ∷ []) s
     last_is = last has.records (ap (λ (x : LogRecord). has.records ++ x ∷ []) record-is)
 
-    pub append_at : (disk' : D)
-        → (IsSettled d manifest_form old.log disk has.log.segments → IsNextRecord manifest_form has.log.segments r
-        → LeavesOnly d disk disk' (λ moment image. StandsFor manifest_form old.log image has.log.segments ⊎ StandsFor manifest_form old.log image (with_record has.log.segments r)))
-        → LeavesOnly d disk disk' (λ moment image. SnapshotStands region image (names old) ⊎ SnapshotStands region image s)
+    pub append_at : (disk' : D) → Commits d old.log disk disk' (IsAppend r) → LeavesOnly d disk disk' (λ moment image. SnapshotStands region image (names old) ⊎ SnapshotStands region image s)
     append_at disk' leaves =
-        let l = append_leaves d manifest_form (file_of region 2) (file_of region 3) disk disk' old.log old.log has.records r has.log open_ (leaves has.log.settled may) in
+        let l = appended_leaves d manifest_form (file_of region 2) (file_of region 3) disk disk' old.log old.log has.records r has.log open_ may leaves in
         record {
           each = λ moment image since left. elim (l.each moment image since left) [
             | inl a ↦ inl (record { records = has.records; stands = a; last = has.last })
@@ -71,8 +70,7 @@ module _ {D : Type 0} (d : Ghosts D) (region : ℕ) (old : Manifest) (disk : D) 
         }
 
     pub append_done : (new : Manifest) (disk' : D) → names new ≡ s → (steps_left old.log ≡ 1 → ⊥) → IsSameLog old.log new.log
-        → (IsLaid d old.log disk (snapshot_record s ∷ []) → IsLaid d new.log disk' (snapshot_record s ∷ [])) → steps_left new.log ≡ steps_left old.log
-        → (IsSettled d manifest_form old.log disk has.log.segments → IsNextRecord manifest_form has.log.segments r → IsSettled d manifest_form new.log disk' (with_record has.log.segments r)) → HasSnapshot d region new disk'
+        → (IsLaid d old.log disk (snapshot_record s ∷ []) → IsLaid d new.log disk' (snapshot_record s ∷ [])) → steps_left new.log ≡ steps_left old.log → Reaches d old.log new.log disk disk' (IsAppend r) → HasSnapshot d region new disk'
     append_done new disk' named unlaid same laid steps done =
         let open_next : HasLog d manifest_form (file_of region 2) (file_of region 3) disk old.log has.records (snapshot_record s ∷ []) = record {
           segments = has.log.segments;
@@ -82,7 +80,7 @@ module _ {D : Type 0} (d : Ghosts D) (region : ℕ) (old : Manifest) (disk : D) 
           records_are = has.log.records_are;
           laid = λ last. absurd (unlaid last);
         } in
-        let log = appended_records d manifest_form (file_of region 2) (file_of region 3) disk disk' old.log new.log has.records r open_next open_ (done has.log.settled may) same laid steps in
+        let log = appended_records d manifest_form (file_of region 2) (file_of region 3) disk disk' old.log new.log has.records r open_next open_ may done same laid steps in
         record {
           records = has.records ++ r ∷ [];
           log = subst (λ (n : SnapshotData). HasLog d manifest_form (file_of region 2) (file_of region 3) disk' new.log (has.records ++ r ∷ []) (snapshot_record n ∷ [])) (sym named) log;
@@ -92,10 +90,7 @@ module _ {D : Type 0} (d : Ghosts D) (region : ℕ) (old : Manifest) (disk : D) 
 
   -- ---- a step of the making of a segment
 
-  pub roll_at : (disk' : D)
-      → ((segments : List SegmentRead) (next : List LogRecord) → IsSettled d manifest_form old.log disk segments → MayStep manifest_form old.log segments next → (steps_left old.log ≡ 1 → IsLaid d old.log disk next)
-      → LeavesOnly d disk disk' (λ moment image. StandsFor manifest_form old.log image segments ⊎ StandsFor manifest_form old.log image (after_step manifest_form old.log segments next)))
-      → LeavesOnly d disk disk' (λ moment image. SnapshotStands region image (names old))
+  pub roll_at : (disk' : D) → Commits d old.log disk disk' (IsRollStep d old.log disk) → LeavesOnly d disk disk' (λ moment image. SnapshotStands region image (names old))
   roll_at disk' leaves =
       let next = snapshot_record (names old) ∷ [] in
       let l = next_leaves d manifest_form (file_of region 2) (file_of region 3) refl disk disk' old.log old.log has.records next has.log (fits (names old) has.right) leaves in
@@ -107,13 +102,10 @@ module _ {D : Type 0} (d : Ghosts D) (region : ℕ) (old : Manifest) (disk : D) 
       }
 
   pub roll_done : (new : Manifest) (disk' : D) → names new ≡ names old → IsSameLog old.log new.log → (steps_left new.log ≡ 1 → IsLaid d new.log disk' (snapshot_record (names old) ∷ []))
-      → ((segments : List SegmentRead) (next : List LogRecord) → IsSettled d manifest_form old.log disk segments → MayStep manifest_form old.log segments next → (steps_left old.log ≡ 1 → IsLaid d old.log disk next)
-      → IsSettled d manifest_form new.log disk' (after_step manifest_form old.log segments next)) → HasSnapshot d region new disk'
+      → Reaches d old.log new.log disk disk' (IsRollStep d old.log disk) → HasSnapshot d region new disk'
   roll_done new disk' named same laid done =
       let next = snapshot_record (names old) ∷ [] in
-      let fit = fits (names old) has.right in
-      let settled = done has.log.segments next has.log.settled (may_next d manifest_form (file_of region 2) (file_of region 3) refl disk disk' old.log new.log has.records next has.log fit) has.log.laid in
-      elim (next_records d manifest_form (file_of region 2) (file_of region 3) refl disk disk' old.log new.log has.records next has.log fit settled same laid) [
+      elim (next_records d manifest_form (file_of region 2) (file_of region 3) refl disk disk' old.log new.log has.records next has.log (fits (names old) has.right) done same laid) [
         | inl log ↦ by has.records log has.last
         | inr log ↦ by next log (last [] refl)
       ]

@@ -7,7 +7,7 @@ use crate::files::local_file;
 use crate::snapshot::Snapshot;
 use crate::snapshot_body::fill_snapshot;
 use crate::snapshot_reader::SnapshotReader;
-use px_gatelog::{Frame, GateLog, LogFault, Rolled};
+use px_gatelog::{AppendFault, Frame, GateLog, Rolled, StartFault};
 use px_outside::Disk;
 use std::alloc::Global;
 
@@ -22,24 +22,22 @@ pub struct Manifest {
 }
 
 impl Manifest {
-    ghost use Rattle.px_gatelog.specs.declared.fault.LogFault.TheVariants.{ReadFault as LogReadFault, WriteFault as LogWriteFault, Full as LogFull, Damaged as LogDamaged};
     ghost use Rattle.px_gatelog.specs.GateLog.{newest_generation};
-    ghost use Rattle.px_gatelog.specs.Replay.{IsFirstWrong};
+    ghost use Rattle.px_gatelog.specs.Damage.{IsFirstWrong};
     ghost use Rattle.px_wal.specs.Files.{file_of};
     ghost use Rattle.px_wal.specs.Snapshot.{IsSnapshot, manifest_form};
     ghost use Rattle.px_wal.specs.SnapshotOf.{files_of, snapshot_of};
     ghost use Rattle.px_wal.specs.Manifest.{HasSnapshot, IsStarted, SnapshotStands, is_open as opened_manifest, manifest_files, names, room_of};
 
     /// Opens the manifest of a region.
-    pub fn start<D: Disk>(alloc: Global, disk: &mut D, region: u32) -> Result<Manifest, LogFault>
+    pub fn start<D: Disk>(alloc: Global, disk: &mut D, region: u32) -> Result<Manifest, StartFault>
         ensures started { IsTrue D.tells → IfOk result (λ m. IsStarted ⟦<D as Disk>⟧ region disk.old disk.new m) }
-        ensures damaged { (file place : ℕ) → result ≡ Err (LogDamaged file place) → IsTrue D.tells
+        ensures damaged { (file place : ℕ) → result ≡ Err (StartFault.Damaged file place) → IsTrue D.tells
             → IsFirstWrong manifest_form (file_of region 2) (file_of region 3) (D.seen disk.old (file_of region 2)) (D.seen disk.old (file_of region 3)) file place }
         ensures quiet { Stays ⟦<D as Disk>⟧ disk.old disk.new }
         ensures seen { D.seen disk.new ≡ D.seen disk.old }
-        ensures read_failed { result ≡ Err LogReadFault → Rose ⟦<D as Disk>⟧ disk.old disk.new }
-        ensures write_failed { result ≡ Err LogWriteFault → Rose ⟦<D as Disk>⟧ disk.old disk.new }
-        ensures not_full { result ≢ Err LogFull }
+        ensures read_failed { result ≡ Err StartFault.ReadFault → Rose ⟦<D as Disk>⟧ disk.old disk.new }
+        ensures write_failed { result ≡ Err StartFault.WriteFault → Rose ⟦<D as Disk>⟧ disk.old disk.new }
         ensures counts { Passes ⟦<D as Disk>⟧ disk.old disk.new 6 }
     {
         let first = local_file(region, 2);
@@ -85,7 +83,7 @@ impl Manifest {
         disk: &mut D,
         snapshot: Snapshot,
         frame: &mut Frame,
-    ) -> Result<(), LogFault>
+    ) -> Result<(), AppendFault>
         requires open { opened_manifest self.old }
         requires still { self.old.rolling ≡ false }
         requires right { IsSnapshot (snapshot_of snapshot) }
@@ -96,10 +94,9 @@ impl Manifest {
         // At each moment of the call a stop leaves what was named, or what is named now.
         ensures any_moment { (region : ℕ) → HasSnapshot ⟦<D as Disk>⟧ region self.old disk.old
             → LeavesOnly ⟦<D as Disk>⟧ disk.old disk.new (λ moment image. SnapshotStands region image (names self.old) ⊎ SnapshotStands region image (snapshot_of snapshot)) }
-        ensures full { (result ≡ Err LogFault.Full) ↔ (room_of self.old < 33 + 20 * length (files_of snapshot)) }
-        ensures untouched { result ≡ Err LogFault.Full → (disk.new ≡ disk.old) × (self.new ≡ self.old) }
-        ensures failed { result ≡ Err LogFault.WriteFault → Rose ⟦<D as Disk>⟧ disk.old disk.new }
-        ensures faults { IsErr result → (result ≡ Err LogFault.Full) ⊎ (result ≡ Err LogFault.WriteFault) }
+        ensures full { (result ≡ Err AppendFault.Full) ↔ (room_of self.old < 33 + 20 * length (files_of snapshot)) }
+        ensures untouched { result ≡ Err AppendFault.Full → (disk.new ≡ disk.old) × (self.new ≡ self.old) }
+        ensures failed { result ≡ Err AppendFault.WriteFault → Rose ⟦<D as Disk>⟧ disk.old disk.new }
         ensures touches { (region : ℕ) → HasSnapshot ⟦<D as Disk>⟧ region self.old disk.old → TouchesOnly ⟦<D as Disk>⟧ disk.old disk.new (manifest_files region) }
         ensures counts { Passes ⟦<D as Disk>⟧ disk.old disk.new 4 }
         ensures open { opened_manifest self.new }
@@ -126,17 +123,16 @@ impl Manifest {
         &mut self,
         disk: &mut D,
         frame: &mut Frame,
-    ) -> Result<Rolled, LogFault>
+    ) -> Result<Rolled, AppendFault>
         requires { 26 + 20 * length (files_of self.old.snapshot) ≤ frame.old.room }
         ensures done { (region : ℕ) → HasSnapshot ⟦<D as Disk>⟧ region self.old disk.old → OnOk result (HasSnapshot ⟦<D as Disk>⟧ region self.new disk.new) }
         ensures named { names self.new ≡ names self.old }
 
         // At each moment of the call a stop leaves what is named.
         ensures any_moment { (region : ℕ) → HasSnapshot ⟦<D as Disk>⟧ region self.old disk.old → LeavesOnly ⟦<D as Disk>⟧ disk.old disk.new (λ moment image. SnapshotStands region image (names self.old)) }
-        ensures full { (result ≡ Err LogFault.Full) ↔ (newest_generation self.old.log ≡ 18446744073709551615) }
-        ensures untouched { result ≡ Err LogFault.Full → disk.new ≡ disk.old }
-        ensures failed { result ≡ Err LogFault.WriteFault → Rose ⟦<D as Disk>⟧ disk.old disk.new }
-        ensures faults { IsErr result → (result ≡ Err LogFault.Full) ⊎ (result ≡ Err LogFault.WriteFault) }
+        ensures full { (result ≡ Err AppendFault.Full) ↔ (newest_generation self.old.log ≡ 18446744073709551615) }
+        ensures untouched { result ≡ Err AppendFault.Full → disk.new ≡ disk.old }
+        ensures failed { result ≡ Err AppendFault.WriteFault → Rose ⟦<D as Disk>⟧ disk.old disk.new }
         ensures touches { (region : ℕ) → HasSnapshot ⟦<D as Disk>⟧ region self.old disk.old → TouchesOnly ⟦<D as Disk>⟧ disk.old disk.new (manifest_files region) }
         ensures counts { Passes ⟦<D as Disk>⟧ disk.old disk.new 3 }
 

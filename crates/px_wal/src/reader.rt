@@ -40,6 +40,8 @@ impl LogReader for BatchReader {
         true
     }
 
+    fn begin_newest(&mut self) {}
+
     fn take(&mut self, kind: u8, body: &[u8]) -> Result<Option<u64>, AllocError> {
         if kind != BATCH_RECORD {
             return Ok(Some(0));

@@ -30,6 +30,8 @@ impl LogReader for SnapshotReader {
         true
     }
 
+    fn begin_newest(&mut self) {}
+
     fn take(&mut self, kind: u8, body: &[u8]) -> Result<Option<u64>, AllocError> {
         if kind != SNAPSHOT_RECORD {
             return Ok(Some(0));

@@ -9,9 +9,9 @@ use crate::files::local_file;
 use crate::frames::fill_batch;
 use crate::reader::BatchReader;
 use px_cells::Cells;
-use px_gatelog::{Frame, GateLog, LogFault, Rolled};
+use px_gatelog::{AppendFault, Frame, GateLog, Rolled, StartFault};
 use px_memstore::MemStore;
-use px_outside::Disk;
+use px_outside::{Disk, Failed};
 use std::alloc::Global;
 
 /// The log of a region, to which batches of cells are appended.
@@ -66,7 +66,7 @@ impl Wal {
         disk: &mut D,
         cells: &Cells,
         frame: &mut Frame,
-    ) -> Result<u64, LogFault>
+    ) -> Result<u64, AppendFault>
         requires open { opened_wal self.old }
         requires written { IsWritten cells.now }
         requires counted { length cells.now < 2 ^ 32 }
@@ -78,10 +78,9 @@ impl Wal {
         // At each moment of the call a stop leaves the log without the batch, or with it.
         ensures any_moment { (region flushed : ℕ) (batches : List BatchData) → HasBatches ⟦<D as Disk>⟧ region flushed self.old disk.old batches
             → LeavesOnly ⟦<D as Disk>⟧ disk.old disk.new (λ moment image. LogStands region flushed image batches ⊎ LogStands region flushed image (batches ++ next_batch self.old cells.now ∷ [])) }
-        ensures full { (result ≡ Err LogFault.Full) ↔ ((room_in self.old < 19 + length (all_bytes cells.now)) ⊎ (self.old.last ≡ 18446744073709551615)) }
-        ensures untouched { result ≡ Err LogFault.Full → (disk.new ≡ disk.old) × (self.new ≡ self.old) }
-        ensures failed { result ≡ Err LogFault.WriteFault → Rose ⟦<D as Disk>⟧ disk.old disk.new }
-        ensures faults { IsErr result → (result ≡ Err LogFault.Full) ⊎ (result ≡ Err LogFault.WriteFault) }
+        ensures full { (result ≡ Err AppendFault.Full) ↔ ((room_in self.old < 19 + length (all_bytes cells.now)) ⊎ (self.old.last ≡ 18446744073709551615)) }
+        ensures untouched { result ≡ Err AppendFault.Full → (disk.new ≡ disk.old) × (self.new ≡ self.old) }
+        ensures failed { result ≡ Err AppendFault.WriteFault → Rose ⟦<D as Disk>⟧ disk.old disk.new }
         ensures number { IfOk result (λ n. n ≡ self.old.last + 1) }
         ensures last { OnOk result (self.new.last ≡ self.old.last + 1) }
         ensures touches { (region flushed : ℕ) (batches : List BatchData) → HasBatches ⟦<D as Disk>⟧ region flushed self.old disk.old batches → TouchesOnly ⟦<D as Disk>⟧ disk.old disk.new (log_files region) }
@@ -91,7 +90,7 @@ impl Wal {
         ensures frame { frame.old.room ≤ frame.new.room }
     {
         let Some(number) = self.last.checked_add(1) else {
-            return Err(LogFault::Full);
+            return Err(AppendFault::Full);
         };
         fill_batch(frame, number, cells);
         self.log.append(disk, frame)?;
@@ -101,14 +100,14 @@ impl Wal {
 
     /// Makes one step of the log's first segment: closes the gate of its file where it may be open, or writes the segment
     /// behind the gate, or opens the gate. The log has the same batches at each moment. It takes no memory.
-    pub fn roll_step<D: Disk>(&mut self, disk: &mut D) -> Result<Rolled, LogFault>
+    pub fn roll_step<D: Disk>(&mut self, disk: &mut D) -> Result<Rolled, Failed>
         requires closed { opened_wal self.old → ⊥ }
         ensures done { (region flushed : ℕ) (batches : List BatchData) → HasBatches ⟦<D as Disk>⟧ region flushed self.old disk.old batches → OnOk result (HasBatches ⟦<D as Disk>⟧ region flushed self.new disk.new batches) }
 
         // At each moment of the call a stop leaves the log with the same batches.
         ensures any_moment { (region flushed : ℕ) (batches : List BatchData) → HasBatches ⟦<D as Disk>⟧ region flushed self.old disk.old batches
             → LeavesOnly ⟦<D as Disk>⟧ disk.old disk.new (λ moment image. LogStands region flushed image batches) }
-        ensures failed { IsErr result → (result ≡ Err LogFault.WriteFault) × Rose ⟦<D as Disk>⟧ disk.old disk.new }
+        ensures failed { IsErr result → Rose ⟦<D as Disk>⟧ disk.old disk.new }
         ensures touches { (region flushed : ℕ) (batches : List BatchData) → HasBatches ⟦<D as Disk>⟧ region flushed self.old disk.old batches → TouchesOnly ⟦<D as Disk>⟧ disk.old disk.new (log_files region) }
         ensures counts { Passes ⟦<D as Disk>⟧ disk.old disk.new 3 }
 
@@ -119,14 +118,13 @@ impl Wal {
     {
         match self.log.roll_step(disk, None) {
             Ok(rolled) => Ok(rolled),
-            Err(_) => Err(LogFault::WriteFault),
+            Err(_fault) => Err(Failed),
         }
     }
 }
 
 impl Wal {
-    ghost use Rattle.px_gatelog.specs.declared.fault.LogFault.TheVariants.{ReadFault as LogReadFault, WriteFault as LogWriteFault, Full as LogFull, Damaged as LogDamaged};
-    ghost use Rattle.px_gatelog.specs.Replay.{IsFirstWrong};
+    ghost use Rattle.px_gatelog.specs.Damage.{IsFirstWrong};
     ghost use Rattle.px_wal.specs.Files.{file_of};
     ghost use Rattle.px_wal.specs.Form.{wal_form};
     ghost use Rattle.px_wal.specs.Wal.{IsReplayed};
@@ -138,15 +136,14 @@ impl Wal {
         disk: &mut D,
         region: u32,
         flushed: u64,
-    ) -> Result<Replayed, LogFault>
+    ) -> Result<Replayed, StartFault>
         ensures replayed { IsTrue D.tells → IfOk result (λ r. IsReplayed ⟦<D as Disk>⟧ region flushed disk.old disk.new r) }
-        ensures damaged { (file place : ℕ) → result ≡ Err (LogDamaged file place) → IsTrue D.tells
+        ensures damaged { (file place : ℕ) → result ≡ Err (StartFault.Damaged file place) → IsTrue D.tells
             → IsFirstWrong (wal_form flushed) (file_of region 0) (file_of region 1) (D.seen disk.old (file_of region 0)) (D.seen disk.old (file_of region 1)) file place }
         ensures quiet { Stays ⟦<D as Disk>⟧ disk.old disk.new }
         ensures seen { D.seen disk.new ≡ D.seen disk.old }
-        ensures read_failed { result ≡ Err LogReadFault → Rose ⟦<D as Disk>⟧ disk.old disk.new }
-        ensures write_failed { result ≡ Err LogWriteFault → Rose ⟦<D as Disk>⟧ disk.old disk.new }
-        ensures not_full { result ≢ Err LogFull }
+        ensures read_failed { result ≡ Err StartFault.ReadFault → Rose ⟦<D as Disk>⟧ disk.old disk.new }
+        ensures write_failed { result ≡ Err StartFault.WriteFault → Rose ⟦<D as Disk>⟧ disk.old disk.new }
         ensures counts { Passes ⟦<D as Disk>⟧ disk.old disk.new 6 }
     {
         let first = local_file(region, 0);

@@ -1,6 +1,6 @@
 use Rattle.std.proofs.Common.{refl, arith, ap, ◌∙◌, ◌≡◌, ◌+◌, ◌<◌, ◌^◌, ℕ, []}
-use Rattle.px_outside.specs.Moments.{touches_none}
-use Rattle.px_wal.specs.Form.{batch_record, wal_form}
+use Rattle.px_outside.proofs.Moments.{touches_none}
+use Rattle.px_wal.specs.Form.{batch_record}
 use Rattle.px_wal.specs.Wal.{log_files, next_batch}
 use Rattle.px_wal.proofs.Appended.{append_at, append_done, log_now, touches_newest}
 use Rattle.px_wal.proofs.wal.Wal.append.Goals as goal
@@ -17,7 +17,7 @@ returns-in_err-append-clause-any_moment g c = λ region flushed batches has.
     let small : c.args.self.now.last + 1 < 2 ^ 64 = omega arith in
     append_at g.D.Disk region flushed c.args.self.now c.args.disk.now batches has (next_batch c.args.self.now c.args.cells.now) c.requires.open
     (record { written = c.requires.written; counted = c.requires.counted; number = small }) refl _ (c.fill_batch.ensures.filled ∙ ap (λ (n : ℕ). batch_record (record { number = n; cells = c.args.cells.now })) number)
-    c.append.new.disk (λ settled may. c.append.ensures.any_moment (wal_form flushed) has.log.segments settled may)
+    c.append.new.disk c.append.ensures.any_moment
 
 pub returns-in_err-append-clause-touches : goal.returns-in_err-append-clause-touches
 returns-in_err-append-clause-touches g c = λ region flushed batches has. touches_newest g.D.Disk region flushed c.args.self.now c.args.disk.now batches has c.append.new.disk c.append.ensures.touches
@@ -28,7 +28,7 @@ returns-clause-done g c = λ region flushed batches has.
     let small : c.args.self.now.last + 1 < 2 ^ 64 = omega arith in
     append_done g.D.Disk region flushed c.args.self.now c.args.disk.now batches has (next_batch c.args.self.now c.args.cells.now) c.requires.open
     (record { written = c.requires.written; counted = c.requires.counted; number = small }) refl _ (c.fill_batch.ensures.filled ∙ ap (λ (n : ℕ). batch_record (record { number = n; cells = c.args.cells.now })) number)
-    _ c.append.new.disk number c.append.ensures.same (c.append.ensures.laid []) c.append.ensures.steps (λ settled may. c.in_ok-append.ensures.done (wal_form flushed) has.log.segments settled may)
+    _ c.append.new.disk number c.append.ensures.same (c.append.ensures.laid []) c.append.ensures.steps c.in_ok-append.ensures.done
 
 pub returns-clause-any_moment : goal.returns-clause-any_moment
 returns-clause-any_moment g c = λ region flushed batches has.
@@ -36,7 +36,7 @@ returns-clause-any_moment g c = λ region flushed batches has.
     let small : c.args.self.now.last + 1 < 2 ^ 64 = omega arith in
     append_at g.D.Disk region flushed c.args.self.now c.args.disk.now batches has (next_batch c.args.self.now c.args.cells.now) c.requires.open
     (record { written = c.requires.written; counted = c.requires.counted; number = small }) refl _ (c.fill_batch.ensures.filled ∙ ap (λ (n : ℕ). batch_record (record { number = n; cells = c.args.cells.now })) number)
-    c.append.new.disk (λ settled may. c.append.ensures.any_moment (wal_form flushed) has.log.segments settled may)
+    c.append.new.disk c.append.ensures.any_moment
 
 pub returns-clause-touches : goal.returns-clause-touches
 returns-clause-touches g c = λ region flushed batches has. touches_newest g.D.Disk region flushed c.args.self.now c.args.disk.now batches has c.append.new.disk c.append.ensures.touches
