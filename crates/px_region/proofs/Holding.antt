@@ -3,8 +3,9 @@ use Rattle.std.proofs.Common.{◌≡◌, ◌⊎◌, ℕ, ◌+◌, ◌*◌, ◌<�
 use Rattle.std.proofs.lemmas.List.{append-nil, length-append, take_more}
 use Rattle.px_outside.specs.Disk.{Image, IsLeft}
 use Rattle.px_outside.specs.OnDisk.{LeavesOnly, TouchesOnly}
-use Rattle.px_outside.specs.Moments.{touches_more, touches_none}
-use Rattle.px_outside.specs.Standing.{StandsIn, stands_left}
+use Rattle.px_outside.proofs.Moments.{touches_more, touches_none}
+use Rattle.px_outside.specs.Standing.{StandsIn}
+use Rattle.px_outside.proofs.Standing.{stands_left}
 use Rattle.px_outside.specs.declared.disk.Disk.{Ghosts}
 use Rattle.px_cells.specs.CellData.{CellData}
 use Rattle.px_cells.specs.Order.{IsSettled}

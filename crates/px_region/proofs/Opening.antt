@@ -3,11 +3,9 @@ use Rattle.std.proofs.Common.{◌≡◌, ℕ, List, [], ◌∷◌, refl, sym, ap
 use Rattle.std.specs.Prelude.{map}
 use Rattle.px_outside.specs.Disk.{Image}
 use Rattle.px_outside.specs.OnDisk.{Stays}
-use Rattle.px_outside.specs.Moments.{stays_touches}
+use Rattle.px_outside.proofs.Moments.{stays_touches}
 use Rattle.px_outside.specs.declared.disk.Disk.{Ghosts}
-use Rattle.px_gatelog.specs.declared.fault.LogFault.{LogFault}
-use Rattle.px_gatelog.specs.declared.fault.LogFault.TheVariants as log
-use Rattle.px_gatelog.specs.Replay.{IsFirstWrong}
+use Rattle.px_gatelog.specs.Damage.{IsFirstWrong}
 use Rattle.px_wal.specs.Batches.{cells_over}
 use Rattle.px_wal.specs.Files.{file_of}
 use Rattle.px_wal.specs.Form.{wal_form}
@@ -22,18 +20,8 @@ use Rattle.px_wal.proofs.Named.{manifest_kept}
 use Rattle.px_region.specs.Region.{Holds, RegionData, Stands}
 use Rattle.px_region.specs.Opened.{IsFirstDamaged}
 use Rattle.px_region.specs.Opened.IsFirstDamaged.{in_file, in_log}
-use Rattle.px_region.specs.inner.Faults.{fault_of}
-use Rattle.px_region.specs.declared.fault.RegionFault.TheVariants.{Damaged}
 use Rattle.px_region.specs.declared.region.Region.{Region}
 use Rattle.px_region.proofs.Holding.{by_fields}
-
--- a log is damaged where the region is said to be
-pub damage_of : (fault : LogFault) (file place : ℕ) → fault_of fault ≡ Damaged file place → fault ≡ log.Damaged file place
-damage_of log.ReadFault file place is = cc
-damage_of log.WriteFault file place is = cc
-damage_of log.Full file place is = cc
-damage_of (log.Damaged f p) file place is = (let a : f ≡ file = cc in let b : p ≡ place = cc in ap (λ (x : ℕ). log.Damaged x p) a ∙ ap (log.Damaged file) b)
-damage_of log.Memory file place is = cc
 
 pub log_damaged : (number : ℕ) (image now : Image) (named : SnapshotData) (flushed file place : ℕ) → now ≡ image → flushed ≡ named.flushed → SnapshotStands number image named
     → IsFirstWrong (wal_form flushed) (file_of number 0) (file_of number 1) (now (file_of number 0)) (now (file_of number 1)) file place → IsFirstDamaged number image file place

@@ -2,4 +2,3 @@ pub mod Region
 pub mod Promise
 pub mod Giving
 pub mod Opened
-pub mod inner

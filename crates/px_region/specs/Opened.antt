@@ -1,7 +1,7 @@
 -- What opening a region answers.
 use Rattle.std.specs.Prelude.{◌≡◌, ◌∷◌, ℕ, List}
 use Rattle.px_outside.specs.Disk.{Image}
-use Rattle.px_gatelog.specs.Replay.{IsFirstWrong}
+use Rattle.px_gatelog.specs.Damage.{IsFirstWrong}
 use Rattle.px_wal.specs.Batches.{Batch}
 use Rattle.px_wal.specs.Files.{file_of}
 use Rattle.px_wal.specs.Form.{wal_form}

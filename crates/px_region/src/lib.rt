@@ -13,7 +13,7 @@ mod region;
 mod reopen;
 mod taker;
 
-pub use fault::RegionFault;
+pub use fault::{JobFault, LookFault, PromiseFault};
 pub use prepare::JobStep;
 pub use region::Region;
 pub use taker::CellTaker;

