@@ -131,3 +131,10 @@ module _ {T : Type 0} (d : T) (v : Piece T) (count : Piece ℕ) where
   pub listed_full_some : count.full → ((n : ℕ) → count.right n → 0 < n → v.full) → (listed d v count).full
   unfolding listed
   listed_full_some first full = measured_full (repeat d v) (repeat_long d v) count first (λ n right. repeat_full_some d v n (full n right))
+
+-- what each piece tells of its value holds of all of a right list
+module _ {S T : Type 0} (d : T) (v : ℕ → S → Piece T) (next : S → T → S) (P : T → Type 0) (tells : (n : ℕ) (s : S) (x : T) → (v n s).right x → P x) where
+  pub chain_all : (n : ℕ) (s : S) (l : List T) → (chain d v next n s).right l → AllByRecursion P l
+  chain_all n s [] right = tt
+  chain_all zero s (x ∷ l) right = absurd (let long = chain_long d v next zero s (x ∷ l) right in omega (arith, long))
+  chain_all (suc n) s (x ∷ l) right = (tells n s x (chain_first d v next n s (x ∷ l) right), chain_all n (next s x) l (chain_others d v next n s (x ∷ l) right))

@@ -138,6 +138,16 @@ module _ (may : ℕ → ℕ → Bool) where
   unfolding number_of as_value
   number_may size n right = ap (may 0) (sym right.1) ∙ digits_last size 0 (bytes_high_first (suc size) n) right.0
 
+  -- and has so many bytes
+  pub number_short : (size n : ℕ) → (number_of may size).right n → n < 256 ^ size
+  unfolding number_of as_value digits
+  number_short size n right =
+      let bytes = bytes_high_first size n in
+      let between = number_between 0 bytes (digits_small may size 0 bytes right.0) in
+      let long : length bytes ≡ size = chain_long 0 (λ left v. byte (digit_ok may left v)) one_more size 0 bytes right.0 in
+      let one : (0 + 1) * 256 ^ length bytes ≡ 256 ^ size = ap (λ (k : ℕ). 1 * 256 ^ k) long ∙ omega arith in
+      omega (arith, between.1, right.1, one)
+
 -- ---- numbers up to a greatest one
 
 -- the number so far may go on to one that isn't above the greatest

@@ -5,3 +5,8 @@ pub mod PartSteps
 pub mod ListSteps
 pub mod TableSteps
 pub mod RecordSteps
+pub mod Spells
+pub mod RecordLaws
+pub mod Numbers
+pub mod Rights
+pub mod After

@@ -1,6 +1,7 @@
 pub mod Texts
 pub mod Parts
 pub mod Format
+pub mod Spelled
 pub mod Stands
 pub mod Records
 pub mod Fresh

@@ -4,6 +4,7 @@
 mod fault;
 mod index;
 mod item;
+pub mod laws;
 mod list;
 mod numbered;
 mod part;
@@ -11,11 +12,13 @@ mod record;
 mod standing;
 mod table;
 mod text;
+mod write;
 
 pub use fault::DefFault;
 pub use item::CatalogItem;
 pub use record::{read_definition, read_snapshot};
 pub use standing::Standing;
+pub use write::{kind_of, write_definition, write_snapshot};
 
 /// The greatest number of a table, an index or a region.
 pub const GREATEST_ID: u64 = 4_294_967_294;
