@@ -57,7 +57,11 @@ fn is_upsert(alloc: Global, tokens: &[Token<'_>]) -> Result<bool, SyntaxFault>
     ensures { spec.Tests (spec.IsUpsert (map seen tokens.now)) result }
 {
     match read_tokens(alloc, tokens) {
-        Ok(read) => Ok(upserts(&read)),
+        Ok(read) => {
+            let is_one = upserts(&read);
+            drop(read);
+            Ok(is_one)
+        }
         Err(TokenFault::Memory) => Err(SyntaxFault::Memory),
         Err(_) => Ok(false),
     }
@@ -171,10 +175,17 @@ fn refused(alloc: Global, tokens: &[Token<'_>], at: usize, end: usize) -> Syntax
 fn with_null_allowed(alloc: Global, read: Statement) -> Result<Statement, SyntaxFault>
     ensures { spec.IsAllowed read result }
 {
-    if forbids_null_outside_key(alloc, &read)? {
-        return Err(SyntaxFault::LeftOut { name: "NOT NULL" });
+    match forbids_null_outside_key(alloc, &read) {
+        Ok(false) => Ok(read),
+        Ok(true) => {
+            drop(read);
+            Err(SyntaxFault::LeftOut { name: "NOT NULL" })
+        }
+        Err(_) => {
+            drop(read);
+            Err(SyntaxFault::Memory)
+        }
     }
-    Ok(read)
 }
 
 /// Refuses the tokens of a whole text, which are no statement.

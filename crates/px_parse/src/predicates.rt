@@ -1,7 +1,7 @@
 // Comparisons, IS NULL, IN and BETWEEN.
 ghost use Rattle.std.specs.Prelude.{◌≡◌, [], ◌∷◌};
 ghost use Rattle.px_lex.specs.declared.kind.Kind.TheVariants as k;
-ghost use Rattle.px_ast.specs.Rule.{sees, word, written};
+ghost use Rattle.px_ast.specs.Rule.{sees, word, written, ◌then◌, ◌▹◌};
 ghost use Rattle.px_ast.specs.Grammar as grammar;
 ghost use Rattle.px_parse.specs.Reading.{Gives, applied};
 
@@ -108,6 +108,27 @@ fn among(
     })
 }
 
+/// `BETWEEN operand AND operand`
+fn ends(
+    alloc: Global,
+    tokens: &mut Cursor<'_>,
+) -> Result<(Boxed<Operand>, Boxed<Operand>), ReadFault>
+    ensures { Gives ((k.Between ▹ (grammar.operand then k.And ▹ grammar.operand)).at tokens.old) result tokens.new }
+{
+    word(tokens, Kind::Between)?;
+    let low = Boxed::new(alloc, operand(alloc, tokens)?)?;
+    let high = behind_and(alloc, tokens)?;
+    Ok((low, high))
+}
+
+/// `AND operand`
+fn behind_and(alloc: Global, tokens: &mut Cursor<'_>) -> Result<Boxed<Operand>, ReadFault>
+    ensures { Gives ((k.And ▹ grammar.operand).at tokens.old) result tokens.new }
+{
+    word(tokens, Kind::And)?;
+    Ok(Boxed::new(alloc, operand(alloc, tokens)?)?)
+}
+
 #[tactic(auto, unfolding(px_ast::specs::Grammar::between))]
 fn between(
     alloc: Global,
@@ -117,16 +138,18 @@ fn between(
 ) -> Result<Predicate, ReadFault>
     ensures { Gives (applied (applied (grammar.between.at tokens.old) negated) left) result tokens.new }
 {
-    word(tokens, Kind::Between)?;
-    let low = operand(alloc, tokens)?;
-    word(tokens, Kind::And)?;
-    let high = operand(alloc, tokens)?;
-    Ok(Predicate::Between {
-        operand: left,
-        negated,
-        low: Boxed::new(alloc, low)?,
-        high: Boxed::new(alloc, high)?,
-    })
+    match ends(alloc, tokens) {
+        Ok((low, high)) => Ok(Predicate::Between {
+            operand: left,
+            negated,
+            low,
+            high,
+        }),
+        Err(fault) => {
+            drop(left);
+            Err(fault)
+        }
+    }
 }
 
 /// IN or BETWEEN. IN opens a parenthesis, so there is none where no more may be open.

@@ -19,7 +19,7 @@ use std::alloc::Global;
 fn pass_predicate(alloc: Global, tokens: &mut Cursor<'_>) -> Result<(), ReadFault>
     ensures { Gives ((made spec.passed (grammar.predicate 1)).at tokens.old) result tokens.new }
 {
-    let _predicate = predicate(alloc, tokens, 1)?;
+    drop(predicate(alloc, tokens, 1)?);
     Ok(())
 }
 
@@ -76,7 +76,7 @@ fn delete(alloc: Global, tokens: &mut Cursor<'_>) -> Result<(), ReadFault>
     ensures { Gives (spec.skimmed_delete.at tokens.old) result tokens.new }
 {
     word(tokens, Kind::Delete)?;
-    let _table = from_table(alloc, tokens)?;
+    drop(from_table(alloc, tokens)?);
     filter(alloc, tokens)?;
     Ok(())
 }
@@ -86,12 +86,12 @@ fn select(alloc: Global, tokens: &mut Cursor<'_>) -> Result<(), ReadFault>
     ensures { Gives (spec.skimmed_select.at tokens.old) result tokens.new }
 {
     word(tokens, Kind::Select)?;
-    let _hint = hint(alloc, tokens)?;
-    let _columns = shown(alloc, tokens)?;
-    let _table = from_table(alloc, tokens)?;
+    drop(hint(alloc, tokens)?);
+    drop(shown(alloc, tokens)?);
+    drop(from_table(alloc, tokens)?);
     filter(alloc, tokens)?;
-    let _order = order(alloc, tokens)?;
-    let _limit = row_limit(alloc, tokens)?;
+    drop(order(alloc, tokens)?);
+    drop(row_limit(alloc, tokens)?);
     Ok(())
 }
 
@@ -108,13 +108,13 @@ pub fn statement(alloc: Global, tokens: &mut Cursor<'_>) -> Result<(), ReadFault
     ensures { Gives (spec.skimmed_statement.at tokens.old) result tokens.new }
 {
     if tokens.sees(Kind::Create) {
-        let _created = create(alloc, tokens)?;
+        drop(create(alloc, tokens)?);
     } else if tokens.sees(Kind::Drop) {
-        let _dropped = drop_defined(alloc, tokens)?;
+        drop(drop_defined(alloc, tokens)?);
     } else if tokens.sees(Kind::Alter) {
-        let _altered = alter(alloc, tokens)?;
+        drop(alter(alloc, tokens)?);
     } else if tokens.sees(Kind::Upsert) {
-        let _upsert = upsert(alloc, tokens)?;
+        drop(upsert(alloc, tokens)?);
     } else if tokens.sees(Kind::Delete) {
         delete(alloc, tokens)?;
     } else if tokens.sees(Kind::Explain) {

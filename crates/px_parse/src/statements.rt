@@ -1,7 +1,7 @@
 // Statements.
 ghost use Rattle.std.specs.Prelude.{◌≡◌, [], ◌∷◌};
 ghost use Rattle.px_lex.specs.declared.kind.Kind.TheVariants as k;
-ghost use Rattle.px_ast.specs.Rule.{made, maybe, optional, separated, token, ◌or◌, ◌▹◌};
+ghost use Rattle.px_ast.specs.Rule.{made, maybe, optional, separated, token, ◌or◌, ◌then◌, ◌▹◌};
 ghost use Rattle.px_ast.specs.Grammar as grammar;
 ghost use Rattle.px_ast.specs.declared.statement.Statement.TheVariants as statements;
 ghost use Rattle.px_parse.specs.Reading.{Gives};
@@ -12,7 +12,7 @@ use crate::cursor::{Cursor, word};
 use crate::definitions::{alter_index, create_index, create_table, drop_index, drop_table};
 use crate::fault::ReadFault;
 use crate::literals::{literals, name, name_list, names};
-use px_ast::{Boxed, Condition, Delete, KeyPart, RowLimit, Select, Statement, Upsert};
+use px_ast::{Boxed, Condition, Delete, KeyPart, Literal, RowLimit, Select, Statement, Upsert};
 use px_lex::kind::Kind;
 use px_values::{Items, Name, Text};
 use std::alloc::Global;
@@ -29,6 +29,30 @@ fn columns(alloc: Global, tokens: &mut Cursor<'_>) -> Result<Option<Items<Name>>
     }
 }
 
+/// `VALUES literals`, and the place of VALUES.
+fn values(alloc: Global, tokens: &mut Cursor<'_>) -> Result<(usize, Items<Literal>), ReadFault>
+    ensures { Gives ((made grammar.place_of (token k.Values) then grammar.literals).at tokens.old) result tokens.new }
+{
+    let place = tokens.take(Kind::Values)?.place;
+    Ok((place, literals(alloc, tokens)?))
+}
+
+type Written = (Option<Items<Name>>, (usize, Items<Literal>));
+
+/// `[names] VALUES literals`
+fn columns_and_values(alloc: Global, tokens: &mut Cursor<'_>) -> Result<Written, ReadFault>
+    ensures { Gives ((maybe grammar.names then made grammar.place_of (token k.Values) then grammar.literals).at tokens.old) result tokens.new }
+{
+    let columns = columns(alloc, tokens)?;
+    match values(alloc, tokens) {
+        Ok(values) => Ok((columns, values)),
+        Err(fault) => {
+            drop(columns);
+            Err(fault)
+        }
+    }
+}
+
 #[tactic(auto, unfolding(px_ast::specs::Grammar::upsert))]
 pub fn upsert(alloc: Global, tokens: &mut Cursor<'_>) -> Result<Upsert, ReadFault>
     ensures { Gives (grammar.upsert.at tokens.old) result tokens.new }
@@ -36,15 +60,18 @@ pub fn upsert(alloc: Global, tokens: &mut Cursor<'_>) -> Result<Upsert, ReadFaul
     word(tokens, Kind::Upsert)?;
     word(tokens, Kind::Into)?;
     let table = name(alloc, tokens)?;
-    let columns = columns(alloc, tokens)?;
-    let values_place = tokens.take(Kind::Values)?.place;
-    let values = literals(alloc, tokens)?;
-    Ok(Upsert {
-        table,
-        columns,
-        values_place,
-        values,
-    })
+    match columns_and_values(alloc, tokens) {
+        Ok((columns, (values_place, values))) => Ok(Upsert {
+            table,
+            columns,
+            values_place,
+            values,
+        }),
+        Err(fault) => {
+            drop(table);
+            Err(fault)
+        }
+    }
 }
 
 /// `FROM name`
@@ -132,25 +159,90 @@ pub fn row_limit(alloc: Global, tokens: &mut Cursor<'_>) -> Result<Option<RowLim
     }))
 }
 
+type End = (Items<KeyPart>, Option<RowLimit>);
+
+/// `[ORDER BY keyparts] [LIMIT number]`
+fn end(alloc: Global, tokens: &mut Cursor<'_>) -> Result<End, ReadFault>
+    ensures { Gives ((optional (k.Order ▹ k.By ▹ separated k.Comma grammar.keypart) then maybe grammar.row_limit).at tokens.old) result tokens.new }
+{
+    let order = order(alloc, tokens)?;
+    match row_limit(alloc, tokens) {
+        Ok(limit) => Ok((order, limit)),
+        Err(fault) => {
+            drop(order);
+            Err(fault)
+        }
+    }
+}
+
+type Filtered = (Option<Boxed<Condition>>, End);
+
+/// `[WHERE condition]`, and what stands behind it.
+fn filtered(alloc: Global, tokens: &mut Cursor<'_>, depth: usize) -> Result<Filtered, ReadFault>
+    ensures { Gives ((grammar.filter depth then optional (k.Order ▹ k.By ▹ separated k.Comma grammar.keypart) then maybe grammar.row_limit).at tokens.old) result tokens.new }
+{
+    let filter = filter(alloc, tokens, depth)?;
+    match end(alloc, tokens) {
+        Ok(end) => Ok((filter, end)),
+        Err(fault) => {
+            drop(filter);
+            Err(fault)
+        }
+    }
+}
+
+type From = (Name, Filtered);
+
+/// `FROM name`, and what stands behind it.
+fn from(alloc: Global, tokens: &mut Cursor<'_>, depth: usize) -> Result<From, ReadFault>
+    ensures { Gives ((k.From ▹ grammar.name then grammar.filter depth then optional (k.Order ▹ k.By ▹ separated k.Comma grammar.keypart) then maybe grammar.row_limit).at tokens.old) result tokens.new }
+{
+    let table = from_table(alloc, tokens)?;
+    match filtered(alloc, tokens, depth) {
+        Ok(filtered) => Ok((table, filtered)),
+        Err(fault) => {
+            drop(table);
+            Err(fault)
+        }
+    }
+}
+
+type Shown = (Option<Items<Name>>, From);
+
+/// The columns, and what stands behind them.
+fn shown_from(alloc: Global, tokens: &mut Cursor<'_>, depth: usize) -> Result<Shown, ReadFault>
+    ensures { Gives ((grammar.shown then k.From ▹ grammar.name then grammar.filter depth then optional (k.Order ▹ k.By ▹ separated k.Comma grammar.keypart) then maybe grammar.row_limit).at tokens.old) result tokens.new }
+{
+    let columns = shown(alloc, tokens)?;
+    match from(alloc, tokens, depth) {
+        Ok(from) => Ok((columns, from)),
+        Err(fault) => {
+            drop(columns);
+            Err(fault)
+        }
+    }
+}
+
 #[tactic(auto, unfolding(px_ast::specs::Grammar::select))]
 fn select(alloc: Global, tokens: &mut Cursor<'_>, depth: usize) -> Result<Select, ReadFault>
     ensures { Gives ((grammar.select depth).at tokens.old) result tokens.new }
 {
     word(tokens, Kind::Select)?;
     let hint = hint(alloc, tokens)?;
-    let columns = shown(alloc, tokens)?;
-    let table = from_table(alloc, tokens)?;
-    let filter = filter(alloc, tokens, depth)?;
-    let order = order(alloc, tokens)?;
-    let limit = row_limit(alloc, tokens)?;
-    Ok(Select {
-        hint,
-        columns,
-        table,
-        filter,
-        order,
-        limit,
-    })
+    match shown_from(alloc, tokens, depth) {
+        Ok((columns, (table, (filter, (order, limit))))) => Ok(Select {
+            hint,
+            columns,
+            table,
+            filter,
+            order,
+            limit,
+        }),
+        Err(fault) => {
+            drop(hint);
+            Err(fault)
+        }
+    }
 }
 
 /// What stands behind CREATE.

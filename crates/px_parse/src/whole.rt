@@ -52,6 +52,7 @@ pub fn read_tokens(alloc: Global, tokens: &[Token<'_>]) -> Result<Statement, Tok
             if cursor.left() == 0 {
                 Ok(read)
             } else {
+                drop(read);
                 Err(TokenFault::Unexpected(tokens.len() - cursor.left()))
             }
         }

@@ -4,4 +4,4 @@ use Rattle.px_parse.proofs.Upserts.{told}
 use Rattle.px_parse.proofs.parsing.is_upsert.Goals as goal
 
 pub returns-in-Ok : goal.returns-in-Ok
-returns-in-Ok c = rw c.upserts.ensures (told (map seen c.args.tokens.now) c.in-Ok.read c.in-Ok.ensures.answer c.in-Ok.ensures.only)
+returns-in-Ok c = rw c.upserts-is_one.ensures (told (map seen c.args.tokens.now) c.in-Ok.read c.in-Ok.ensures.answer c.in-Ok.ensures.only)
