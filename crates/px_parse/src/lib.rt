@@ -22,8 +22,6 @@ mod predicates;
 mod skim;
 mod statements;
 mod syntax;
-#[cfg(test)]
-mod tests;
 mod texts;
 mod whole;
 

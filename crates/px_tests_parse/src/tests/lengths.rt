@@ -1,6 +1,6 @@
 // Texts that are long or nest deep.
 use crate::tests::{printed, repeat, repeating};
-use crate::{SyntaxFault, parse};
+use px_parse::{SyntaxFault, parse};
 use std::test::Fail;
 
 /// How many times which text stands before a condition, what the condition is, and how many times which text stands behind.

@@ -1,5 +1,5 @@
 // Texts that are no statements, with the place where none continues or with what is left out there.
-use crate::{SyntaxFault, parse};
+use px_parse::{SyntaxFault, parse};
 use std::test::Fail;
 
 /// The lexer's faults, and texts that no statement begins with.

@@ -3,8 +3,8 @@ mod lengths;
 mod read;
 mod refused;
 
-use crate::{SyntaxFault, parse};
 use px_ast::print_statement;
+use px_parse::{SyntaxFault, parse};
 use px_values::Line;
 use std::alloc::{AllocError, Global};
 
@@ -12,7 +12,9 @@ use std::alloc::{AllocError, Global};
 fn printed(alloc: Global, text: &str) -> Result<Line, SyntaxFault> {
     let read = parse(alloc, text)?;
     let mut line = Line::new(alloc);
-    print_statement(alloc, &read, &mut line)?;
+    let printed = print_statement(alloc, &read, &mut line);
+    drop(read);
+    printed?;
     Ok(line)
 }
 

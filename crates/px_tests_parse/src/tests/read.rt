@@ -1,7 +1,7 @@
 // Texts that are statements, each with the statement's print: so a text and its neighbours tell which tree was read.
-use crate::parse;
 use crate::tests::{printed, repeating};
 use px_ast::{Constant, Literal, Statement};
+use px_parse::parse;
 use std::alloc::Global;
 use std::process::Abort;
 use std::test::Fail;
@@ -218,7 +218,8 @@ fn placed_text(literal: &Literal) -> Option<(usize, &str)> {
 /// A tree has the places that refusals name.
 #[test]
 fn keeps_places(rt: HostRuntime) {
-    match parse(rt.alloc(), "upsert into kv values ('it''s', 'x')") {
+    let found = parse(rt.alloc(), "upsert into kv values ('it''s', 'x')");
+    match &found {
         Ok(Statement::Upsert(read)) => {
             assert_eq!(rt; read.values_place, 15);
             match read.values.as_slice() {
@@ -231,4 +232,5 @@ fn keeps_places(rt: HostRuntime) {
         }
         _ => assert_eq!(rt; "another outcome", "an UPSERT"),
     }
+    drop(found);
 }
