@@ -3,8 +3,8 @@
 # NOT NULL columns which its CONSTRAINT names. Parsing lexes too. Usage: bench/parse.sh [RUNS], of which the least times count.
 set -eu
 runs=${1:-20}
-cd "$(dirname "$0")/../crates/px_parse_bench"
+cd "$(dirname "$0")/../crates/px_bench_parse"
 # Proves and builds the program, where that wasn't done yet.
 rt run >/dev/null 2>&1
 printf '%s processors, load %s\n' "$(nproc)" "$(cut -d' ' -f1 /proc/loadavg)"
-./out/px_parse_bench "$runs"
+./out/px_bench_parse "$runs"

@@ -1,19 +1,5 @@
-pub mod Laws
-pub mod Words
-pub mod Listing
-pub mod GrammarLaws
-pub mod Quotes
-pub mod ColumnTurns
-pub mod Turns
-pub mod Depth
-pub mod Faults
-pub mod Skimming
-pub mod Alike
-pub mod Calm
-pub mod Verdict
-pub mod Telling
-pub mod Well
-pub mod Parts
-pub mod Upserts
-pub mod Reading
-pub mod Doubts
+mod Telling
+mod Well
+mod Upserts
+mod Reading
+mod Doubts

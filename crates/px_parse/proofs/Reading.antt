@@ -11,7 +11,7 @@ use Rattle.px_ast.specs.declared.statement.Statement.{Statement}
 use Rattle.px_ast.specs.Statements.{ReadsWithin, depth_limit}
 use Rattle.px_parse.specs.declared.syntax.SyntaxFault.{SyntaxFault}
 use Rattle.px_parse.specs.declared.syntax.SyntaxFault.TheVariants as faults
-use Rattle.px_parse.specs.Reading.{AreWell}
+use Rattle.px_words.specs.Tokens.{AreWell}
 use Rattle.px_parse.specs.Texts.{IsTextParse, end_of, Answers}
 use Rattle.px_parse.proofs.Well.{well_before}
 

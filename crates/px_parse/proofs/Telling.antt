@@ -11,8 +11,9 @@ use Rattle.px_ast.specs.declared.statement.Statement.{Statement}
 use Rattle.px_ast.specs.Statements.{ReadsWithin, Reads, depth_limit}
 use Rattle.px_parse.specs.declared.syntax.SyntaxFault.{SyntaxFault}
 use Rattle.px_parse.specs.declared.syntax.SyntaxFault.TheVariants as faults
-use Rattle.px_parse.specs.Parsed.{BeginsOne, NoneGoesOn, IsFirstFault}
-use Rattle.px_parse.specs.Texts.{NoneContinues, StopsAt, begins_with, IsUpsert, Decides, true_token, IsOperandName, IsFunction, IsRefusedText, IsTextParse, IsAnswered, Tests, TellsFirst, IsRefusedAt, IsAllowed}
+use Rattle.px_statements.specs.Parsed.{BeginsOne, NoneGoesOn, IsFirstFault}
+use Rattle.px_parse.specs.Texts.{NoneContinues, StopsAt, begins_with, IsUpsert, Decides, true_token, IsOperandName, IsFunction, IsRefusedText, IsTextParse, IsAnswered}
+use Rattle.px_parse.specs.inner.Telling.{Tests, TellsFirst, IsRefusedAt, IsAllowed}
 use Rattle.px_parse.specs.Nullness.{forbids_null_outside_key}
 
 -- ---- where no statement continues

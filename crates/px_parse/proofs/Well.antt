@@ -13,9 +13,9 @@ use Rattle.px_lex.specs.Bytes.{starts, spells_word, is_letter, is_word, pairs}
 use Rattle.px_lex.specs.Keywords.{keywords, keyword, lookup}
 use Rattle.px_lex.specs.Lexemes.{Seen, Lexeme, IsToken, IsLexeme, AreLexemes, joined, token_of, tokens_from, is_fault, before_fault}
 use Rattle.px_ast.specs.Grammar.{unquoted}
-use Rattle.px_parse.specs.Reading.{IsEnclosed, IsWell, AreWell}
+use Rattle.px_words.specs.Tokens.{IsEnclosed, IsWell, AreWell}
 use Rattle.px_parse.specs.Texts.{true_token}
-use Rattle.px_parse.proofs.Laws.{same_kind-true}
+use Rattle.px_statements.proofs.Laws.{same_kind-true}
 
 pub AreWell-append : (ts us : List Seen) → AreWell ts → AreWell us → AreWell (ts ++ us)
 AreWell-append [] us h i = i

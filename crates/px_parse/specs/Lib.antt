@@ -1,7 +1,4 @@
-pub mod Columns
+pub mod inner
 pub mod LeftOut
 pub mod Nullness
-pub mod Parsed
-pub mod Reading
-pub mod Skim
 pub mod Texts

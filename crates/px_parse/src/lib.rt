@@ -5,25 +5,14 @@
 //! in a statement. Its calls nest no deeper than the bound. It reads the tokens a few times at most, from left to right; the
 //! names of a CONSTRAINT are sorted once, where NOT NULL columns are looked up among them.
 //!
-//! Each rule of the grammar has one function, proved to be the rule's reading (proofs/Laws says what readings are worth).
-//! A statement that nests too deep is read again by `skim`, which keeps a number in place of a tree.
+//! The tokens are read by px_statements. Here their faults become those of a text: a fault of the lexer behind them, what is
+//! left out of the language, and NOT NULL outside the key.
 #![tactic(auto)]
 
-mod columns;
-mod conditions;
-mod cursor;
-mod definitions;
-mod fault;
 mod left_out;
-mod literals;
 mod nullness;
 mod parsing;
-mod predicates;
-mod skim;
-mod statements;
 mod syntax;
-mod texts;
-mod whole;
 
 pub use parsing::parse;
 pub use syntax::SyntaxFault;

@@ -6,24 +6,24 @@ ghost use Rattle.px_ast.specs.declared.statement.Statement.{Statement};
 ghost use Rattle.px_ast.specs.Statements.{ReadsWithin, depth_limit};
 ghost use Rattle.px_parse.specs.declared.syntax.SyntaxFault.TheVariants as faults;
 ghost use Rattle.px_parse.specs.Nullness as nullness;
-ghost use Rattle.px_parse.specs.declared.fault.TokenFault.TheVariants as token_faults;
-ghost use Rattle.px_parse.specs.Parsed.{BeginsOne, IsRefused};
-ghost use Rattle.px_parse.specs.Reading.{AreWell};
+ghost use Rattle.px_statements.specs.declared.fault.TokenFault.TheVariants as token_faults;
+ghost use Rattle.px_statements.specs.Parsed.{BeginsOne, IsRefused};
+ghost use Rattle.px_words.specs.Tokens.{AreWell};
 ghost use Rattle.px_parse.specs.Texts as spec;
+ghost use Rattle.px_parse.specs.inner.Telling as telling;
 
-use crate::fault::TokenFault;
 use crate::left_out::left_out;
 use crate::nullness::forbids_null_outside_key;
 use crate::syntax::SyntaxFault;
-use crate::whole::read_tokens;
 use px_ast::Statement;
 use px_lex::kind::{Kind, same_kind};
 use px_lex::token::{LexFault, Lexed, Token, lex};
+use px_statements::{TokenFault, read_tokens};
 use std::alloc::Global;
 
 /// The fault of the first token, with which no statement goes on.
 fn fault_at(rest: &[Token<'_>], end: usize) -> SyntaxFault
-    ensures { spec.TellsFirst (map seen rest.now) end result }
+    ensures { telling.TellsFirst (map seen rest.now) end result }
 {
     match rest.first() {
         None => SyntaxFault::Unexpected { place: end },
@@ -54,7 +54,7 @@ fn upserts(read: &Statement) -> bool
 /// Whether tokens are a whole UPSERT.
 fn is_upsert(alloc: Global, tokens: &[Token<'_>]) -> Result<bool, SyntaxFault>
     requires { AreWell (map seen tokens.now) }
-    ensures { spec.Tests (spec.IsUpsert (map seen tokens.now)) result }
+    ensures { telling.Tests (spec.IsUpsert (map seen tokens.now)) result }
 {
     match read_tokens(alloc, tokens) {
         Ok(read) => {
@@ -87,7 +87,7 @@ fn with_true<'a>(alloc: Global, tokens: &[Token<'a>]) -> Result<Vec<Token<'a>>, 
 /// Why tokens are no statement.
 fn why_not(alloc: Global, tokens: &[Token<'_>]) -> Option<TokenFault>
     requires { AreWell (map seen tokens.now) }
-    ensures { spec.Explains (map seen tokens.now) result }
+    ensures { telling.Explains (map seen tokens.now) result }
 {
     read_tokens(alloc, tokens).err()
 }
@@ -95,7 +95,7 @@ fn why_not(alloc: Global, tokens: &[Token<'_>]) -> Option<TokenFault>
 /// Whether an operand may stand behind these tokens, as TRUE may. A name may stand there.
 fn takes_operand(alloc: Global, tokens: &[Token<'_>]) -> Result<bool, SyntaxFault>
     requires { AreWell (map seen tokens.now) }
-    ensures { spec.Tests (BeginsOne (map seen tokens.now ++ spec.true_token ∷ [])) result }
+    ensures { telling.Tests (BeginsOne (map seen tokens.now ++ spec.true_token ∷ [])) result }
 {
     let with_true = with_true(alloc, tokens)?;
     match why_not(alloc, with_true.as_slice()) {
@@ -115,7 +115,7 @@ fn takes_operand(alloc: Global, tokens: &[Token<'_>]) -> Result<bool, SyntaxFaul
 fn is_operand(alloc: Global, tokens: &[Token<'_>], at: usize) -> Result<bool, SyntaxFault>
     requires well { AreWell (map seen tokens.now) }
     requires within { at ≤ length tokens.now }
-    ensures { spec.Tests (spec.IsOperandName (map seen tokens.now) at) result }
+    ensures { telling.Tests (spec.IsOperandName (map seen tokens.now) at) result }
 {
     if begins_with(&tokens[at..], Kind::Name) {
         return takes_operand(alloc, &tokens[..at]);
@@ -127,7 +127,7 @@ fn is_operand(alloc: Global, tokens: &[Token<'_>], at: usize) -> Result<bool, Sy
 fn is_function(alloc: Global, tokens: &[Token<'_>], at: usize) -> Result<bool, SyntaxFault>
     requires well { AreWell (map seen tokens.now) }
     requires within { at ≤ length tokens.now }
-    ensures { spec.Tests (spec.IsFunction (map seen tokens.now) at) result }
+    ensures { telling.Tests (spec.IsFunction (map seen tokens.now) at) result }
 {
     if at == 0 {
         return Ok(false);
@@ -156,7 +156,7 @@ fn deciding(alloc: Global, tokens: &[Token<'_>], at: usize) -> Result<usize, Syn
 fn refused(alloc: Global, tokens: &[Token<'_>], at: usize, end: usize) -> SyntaxFault
     requires well { AreWell (map seen tokens.now) }
     requires within { at ≤ length tokens.now }
-    ensures { spec.IsRefusedAt (map seen tokens.now) at end result }
+    ensures { telling.IsRefusedAt (map seen tokens.now) at end result }
 {
     let function = match is_function(alloc, tokens, at) {
         Err(fault) => return fault,
@@ -173,7 +173,7 @@ fn refused(alloc: Global, tokens: &[Token<'_>], at: usize, end: usize) -> Syntax
 
 /// Refuses NOT NULL at a column outside the key.
 fn with_null_allowed(alloc: Global, read: Statement) -> Result<Statement, SyntaxFault>
-    ensures { spec.IsAllowed read result }
+    ensures { telling.IsAllowed read result }
 {
     match forbids_null_outside_key(alloc, &read) {
         Ok(false) => Ok(read),

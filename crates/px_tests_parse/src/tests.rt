@@ -7,6 +7,7 @@ use px_ast::print_statement;
 use px_parse::{SyntaxFault, parse};
 use px_values::Line;
 use std::alloc::{AllocError, Global};
+use std::process::Abort;
 
 /// Parses a text and prints the statement that it is.
 fn printed(alloc: Global, text: &str) -> Result<Line, SyntaxFault> {
@@ -16,6 +17,22 @@ fn printed(alloc: Global, text: &str) -> Result<Line, SyntaxFault> {
     drop(read);
     printed?;
     Ok(line)
+}
+
+/// Whether a text is a statement that prints so.
+fn prints(alloc: Global, text: &str, expected: &str) -> Result<bool, SyntaxFault> {
+    let line = printed(alloc, text)?;
+    Ok(line.as_slice() == expected.as_bytes())
+}
+
+/// A text that prints so.
+fn check(rt: &impl Abort, alloc: Global, text: &str, expected: &str) {
+    assert_eq!(rt; prints(alloc, text, expected), Ok(true), "{text:?}");
+}
+
+/// A text with this fault, or with none.
+fn check_fault(rt: &impl Abort, alloc: Global, text: &str, expected: Option<SyntaxFault>) {
+    assert_eq!(rt; parse(alloc, text).err(), expected, "{text:?}");
 }
 
 fn repeat(to: &mut String, text: &str, times: usize) -> Result<(), AllocError> {

@@ -1,6 +1,7 @@
 // Texts that are long or nest deep.
-use crate::tests::{printed, repeat, repeating};
-use px_parse::{SyntaxFault, parse};
+use crate::tests::{check, check_fault, repeat, repeating};
+use px_parse::SyntaxFault;
+use std::alloc::{AllocError, Global};
 use std::test::Fail;
 
 /// How many times which text stands before a condition, what the condition is, and how many times which text stands behind.
@@ -58,19 +59,24 @@ const LONG: &[(&str, &str, &str)] = &[
     ("UPSERT INTO T VALUES ( 'a'", " , 'a'", " )"),
 ];
 
+fn nested(
+    alloc: Global,
+    before: &str,
+    times: usize,
+    condition: &str,
+    behind: &str,
+    times_behind: usize,
+) -> Result<String, AllocError> {
+    let mut text = repeating(alloc, "SELECT * FROM T WHERE ", before, times, condition)?;
+    repeat(&mut text, behind, times_behind)?;
+    Ok(text)
+}
+
 #[test]
 fn counts_what_is_open(rt: HostRuntime) -> Result<(), Fail> {
     for (before, times, condition, behind, times_behind, expected) in NESTED.iter() {
-        let mut text = repeating(
-            rt.alloc(),
-            "SELECT * FROM T WHERE ",
-            before,
-            *times,
-            condition,
-        )?;
-        repeat(&mut text, behind, *times_behind)?;
-        let found = parse(rt.alloc(), text.as_str()).err();
-        assert_eq!(rt; found, *expected, "{condition:?} in {times} {before:?}");
+        let text = nested(rt.alloc(), before, *times, condition, behind, *times_behind)?;
+        check_fault(&rt, rt.alloc(), text.as_str(), *expected);
     }
     Ok(())
 }
@@ -79,13 +85,7 @@ fn counts_what_is_open(rt: HostRuntime) -> Result<(), Fail> {
 fn reads_long_texts(rt: HostRuntime) -> Result<(), Fail> {
     for (before, repeated, behind) in LONG.iter() {
         let text = repeating(rt.alloc(), before, repeated, 10_000, behind)?;
-        match printed(rt.alloc(), text.as_str()) {
-            Ok(line) => {
-                let same = line.as_slice() == text.as_bytes();
-                assert!(rt; same, "{before:?} {repeated:?}");
-            }
-            Err(fault) => assert_eq!(rt; Some(fault), None, "{before:?} {repeated:?}"),
-        }
+        check(&rt, rt.alloc(), text.as_str(), text.as_str());
     }
     Ok(())
 }

@@ -1,9 +1,7 @@
 // Texts that are statements, each with the statement's print: so a text and its neighbours tell which tree was read.
-use crate::tests::{printed, repeating};
+use crate::tests::{check, repeating};
 use px_ast::{Constant, Literal, Statement};
 use px_parse::parse;
-use std::alloc::Global;
-use std::process::Abort;
 use std::test::Fail;
 
 const QUERIES: &[(&str, &str)] = &[
@@ -180,13 +178,6 @@ const DEFINITIONS: &[(&str, &str)] = &[
     ("ALTER INDEX I ON T REBUILD", "ALTER INDEX I ON T REBUILD"),
 ];
 
-fn check(rt: &impl Abort, alloc: Global, text: &str, expected: &str) {
-    match printed(alloc, text) {
-        Ok(line) => assert_eq!(rt; line.as_slice(), expected.as_bytes(), "{text:?}"),
-        Err(fault) => assert_eq!(rt; Some(fault), None, "{text:?}"),
-    }
-}
-
 #[test]
 fn reads_statements(rt: HostRuntime) {
     for table in [QUERIES, ROWS, DEFINITIONS] {
@@ -208,29 +199,35 @@ fn reads_conditions(rt: HostRuntime) -> Result<(), Fail> {
 }
 
 /// The place of a text, and the text without the quotes that spell it.
-fn placed_text(literal: &Literal) -> Option<(usize, &str)> {
+fn placed_text(literal: &Literal) -> Option<PlacedText<'_>> {
     match &literal.constant {
         Constant::Text(text) => Some((literal.place, text.as_str())),
         _ => None,
     }
 }
 
+type PlacedText<'a> = (usize, &'a str);
+
+/// The places in an UPSERT of two texts.
+fn places_of(read: &Statement) -> Option<(usize, PlacedText<'_>, PlacedText<'_>)> {
+    let Statement::Upsert(upsert) = read else {
+        return None;
+    };
+    let [first, second] = upsert.values.as_slice() else {
+        return None;
+    };
+    Some((
+        upsert.values_place,
+        placed_text(first)?,
+        placed_text(second)?,
+    ))
+}
+
 /// A tree has the places that refusals name.
 #[test]
 fn keeps_places(rt: HostRuntime) {
-    let found = parse(rt.alloc(), "upsert into kv values ('it''s', 'x')");
-    match &found {
-        Ok(Statement::Upsert(read)) => {
-            assert_eq!(rt; read.values_place, 15);
-            match read.values.as_slice() {
-                [first, second] => {
-                    assert_eq!(rt; placed_text(first), Some((23, "it's")));
-                    assert_eq!(rt; placed_text(second), Some((32, "x")));
-                }
-                _ => assert_eq!(rt; "another list", "two values"),
-            }
-        }
-        _ => assert_eq!(rt; "another outcome", "an UPSERT"),
-    }
+    let found = parse(rt.alloc(), "upsert into kv values ('it''s', 'x')").ok();
+    let places = found.as_ref().and_then(|read| places_of(read));
+    assert_eq!(rt; places, Some((15, (23, "it's"), (32, "x"))));
     drop(found);
 }

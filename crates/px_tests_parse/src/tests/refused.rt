@@ -1,6 +1,6 @@
 // Texts that are no statements, with the place where none continues or with what is left out there.
-use px_parse::{SyntaxFault, parse};
-use std::test::Fail;
+use crate::tests::check_fault;
+use px_parse::SyntaxFault;
 
 /// The lexer's faults, and texts that no statement begins with.
 const TEXTS: &[(&str, usize)] = &[
@@ -231,7 +231,7 @@ fn tells_places(rt: HostRuntime) {
     for table in [TEXTS, QUERIES, CONDITIONS, ROWS, DEFINITIONS] {
         for (text, place) in table.iter() {
             let expected = SyntaxFault::Unexpected { place: *place };
-            assert_eq!(rt; parse(rt.alloc(), text).err(), Some(expected), "{text:?}");
+            check_fault(&rt, rt.alloc(), text, Some(expected));
         }
     }
 }
@@ -240,6 +240,6 @@ fn tells_places(rt: HostRuntime) {
 fn tells_what_is_left_out(rt: HostRuntime) {
     for (text, name) in LEFT_OUT.iter() {
         let expected = SyntaxFault::LeftOut { name: *name };
-        assert_eq!(rt; parse(rt.alloc(), text).err(), Some(expected), "{text:?}");
+        check_fault(&rt, rt.alloc(), text, Some(expected));
     }
 }

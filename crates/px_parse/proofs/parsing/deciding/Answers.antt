@@ -2,7 +2,7 @@ use Rattle.std.proofs.Common.{map, take, sym, subst}
 use Rattle.std.specs.List.{take-map}
 use Rattle.px_lex.specs.declared.kind.Kind.TheVariants as k
 use Rattle.px_lex.specs.Lexemes.{seen}
-use Rattle.px_parse.specs.Reading.{AreWell}
+use Rattle.px_words.specs.Tokens.{AreWell}
 use Rattle.px_parse.specs.Texts.{IsUpsert}
 use Rattle.px_parse.proofs.Telling.{decides_behind_on, decides_itself, decides_behind_other, seen_at, holds, denied}
 use Rattle.px_parse.proofs.Well.{AreWell-take}

@@ -2,9 +2,10 @@ use Rattle.std.proofs.Common.{map, sym, subst, ◌∷◌, [], ◌++◌}
 use Rattle.std.specs.List.{take-map}
 use Rattle.px_lex.specs.declared.kind.Kind.TheVariants as k
 use Rattle.px_lex.specs.Lexemes.{seen}
-use Rattle.px_parse.specs.Parsed.{BeginsOne}
-use Rattle.px_parse.specs.Reading.{AreWell}
-use Rattle.px_parse.specs.Texts.{Tests, true_token}
+use Rattle.px_statements.specs.Parsed.{BeginsOne}
+use Rattle.px_words.specs.Tokens.{AreWell}
+use Rattle.px_parse.specs.Texts.{true_token}
+use Rattle.px_parse.specs.inner.Telling.{Tests}
 use Rattle.px_parse.proofs.Telling.{operand_if, no_operand, seen_at}
 use Rattle.px_parse.proofs.Well.{AreWell-take}
 use Rattle.px_parse.proofs.parsing.is_operand.Goals as goal

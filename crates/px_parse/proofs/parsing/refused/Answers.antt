@@ -1,6 +1,7 @@
 use Rattle.std.proofs.Common.{map, sym, subst}
 use Rattle.px_lex.specs.Lexemes.{seen}
-use Rattle.px_parse.specs.Texts.{IsFunction, TellsFirst}
+use Rattle.px_parse.specs.Texts.{IsFunction}
+use Rattle.px_parse.specs.inner.Telling.{TellsFirst}
 use Rattle.px_parse.proofs.Telling.{denied, told, seen_rest}
 use Rattle.px_parse.proofs.parsing.refused.Goals as goal
 

@@ -1,8 +1,8 @@
 use Rattle.std.proofs.Common.{◌∷◌, [], map, length, sym, ap, ◌∙◌, subst, arith, length-append}
 use Rattle.std.proofs.lemmas.List.{length-map}
 use Rattle.px_lex.specs.Lexemes.{Seen, seen}
-use Rattle.px_parse.specs.Parsed.{BeginsOne}
-use Rattle.px_parse.specs.Reading.{AreWell}
+use Rattle.px_statements.specs.Parsed.{BeginsOne}
+use Rattle.px_words.specs.Tokens.{AreWell}
 use Rattle.px_parse.specs.Texts.{true_token}
 use Rattle.px_parse.proofs.Telling.{reads_begin, fault_begins_none}
 use Rattle.px_parse.proofs.Well.{true_well}

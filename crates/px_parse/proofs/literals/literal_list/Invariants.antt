@@ -1,9 +1,0 @@
-use Rattle.std.proofs.Common.{◌≡◌, ◌-◌}
-use Rattle.px_ast.specs.Rule.{many_at, separated, ◌▹◌}
-use Rattle.px_ast.specs.Grammar as grammar
-use Rattle.px_lex.specs.declared.kind.Kind.TheVariants as k
-use Rattle.px_parse.proofs.Turns.{with_front}
-use Rattle.px_parse.proofs.literals.literal_list.Given as goal
-
-abbrev pub invariant-loop-turn : goal.invariant-loop-turn
-invariant-loop-turn l = with_front l.found.items (many_at (k.Comma ▹ grammar.literal) (l._turn-end - l._turn) l.tokens) ≡ (separated k.Comma grammar.literal).at l.fn.tokens
