@@ -47,6 +47,7 @@ impl GateLog {
         ensures untouched { result ≡ Err AppendFault.Full → (disk.new ≡ disk.old) × (self.new ≡ self.old) }
         ensures room { OnOk result (room_of self.new + (6 + length frame.now.body) ≡ room_of self.old) }
         ensures failed { result ≡ Err AppendFault.WriteFault → Rose ⟦<D as Disk>⟧ disk.old disk.new }
+        ensures unfailed { OnOk result (D.faults disk.new ≡ D.faults disk.old) }
         ensures touches { TouchesOnly ⟦<D as Disk>⟧ disk.old disk.new (is_newest_file self.old) }
         ensures counts { Passes ⟦<D as Disk>⟧ disk.old disk.new 4 }
         ensures same { IsSameLog self.old self.new }
@@ -146,6 +147,8 @@ impl GateLog {
         ensures seen { D.seen disk.new ≡ D.seen disk.old }
         ensures read_failed { result ≡ Err StartFault.ReadFault → Rose ⟦<D as Disk>⟧ disk.old disk.new }
         ensures write_failed { result ≡ Err StartFault.WriteFault → Rose ⟦<D as Disk>⟧ disk.old disk.new }
+        ensures unfailed { result ≢ Err StartFault.ReadFault → result ≢ Err StartFault.WriteFault → D.faults disk.new ≡ D.faults disk.old }
+        ensures files { IfOk result (λ log. (log.first ≡ first) × (log.second ≡ second)) }
 
         // No segment is laid out yet.
         ensures unlaid { IfOk result (λ log. 1 < steps_left log) }
