@@ -1,6 +1,5 @@
 pub mod Calls
 pub mod Files
-pub mod FolderDisk
 pub mod Listed
 pub mod MemStreams
 pub mod Metered
