@@ -18,7 +18,7 @@ use px_words::fault::ReadFault;
 use std::alloc::Global;
 
 /// How many parentheses and NOTs may be open at once.
-pub const DEPTH: usize = 64;
+const DEPTH: usize = 64;
 
 /// Why tokens are refused in which more is open than the bound: the first fault, if there is one.
 fn refusal(alloc: Global, tokens: &[Token<'_>]) -> TokenFault
