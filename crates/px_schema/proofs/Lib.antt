@@ -9,4 +9,6 @@ pub mod Spells
 pub mod RecordLaws
 pub mod Numbers
 pub mod Rights
-pub mod After
+pub mod StaysRight
+pub mod Puts
+pub mod Nexts

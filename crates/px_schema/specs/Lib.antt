@@ -3,6 +3,7 @@ pub mod Parts
 pub mod Format
 pub mod Spelled
 pub mod Stands
+pub mod Places
 pub mod Records
 pub mod Fresh
 pub mod Outcomes

@@ -1,6 +1,7 @@
 //! Definitions of tables and indexes as bytes, and what stands after them.
 #![tactic(auto)]
 
+mod after;
 mod fault;
 mod index;
 mod item;
@@ -14,6 +15,7 @@ mod table;
 mod text;
 mod write;
 
+pub use after::fresh;
 pub use fault::DefFault;
 pub use item::CatalogItem;
 pub use record::{read_definition, read_snapshot};

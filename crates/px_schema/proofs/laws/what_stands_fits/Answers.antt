@@ -1,5 +1,5 @@
 use Rattle.px_schema.specs.Fresh.{fresh_right}
-use Rattle.px_schema.proofs.After.{after_right}
+use Rattle.px_schema.proofs.StaysRight.{after_right}
 use Rattle.px_schema.proofs.laws.what_stands_fits.Goals as goal
 
 pub returns-clause-fresh : goal.returns-clause-fresh

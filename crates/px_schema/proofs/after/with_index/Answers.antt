@@ -1,0 +1,24 @@
+use Rattle.std.proofs.Common.{◌≡◌, ◌<◌, ◌≤◌, ◌++◌, ◌∷◌, [], ℕ, List, length, map, subst, sym, ap, ◌∙◌, arith}
+use Rattle.std.proofs.Math.ListN.{set}
+use Rattle.px_tables.specs.declared.index.Index.{Index}
+use Rattle.px_schema.specs.Format.{number_of_index}
+use Rattle.px_schema.specs.Places.{first_at}
+use Rattle.px_schema.proofs.ListSteps.{pushed}
+use Rattle.px_schema.proofs.Puts.{put_index_at, put_index_end}
+use Rattle.px_schema.proofs.after.with_index.Goals as goal
+
+pub returns-then-at-len : goal.returns-then-at-len
+returns-then-at-len c =
+    let items : c.as_slice.result.now ≡ c.args.indexes = c.as_slice.ensures.value ∙ c.into_vec-list.ensures in
+    let at : c.place_of-at.result ≡ first_at (map number_of_index c.args.indexes) c.args.index.id.0 = c.place_of-at.ensures ∙ ap (λ (l : List Index). first_at (map number_of_index l) c.args.index.id.0) items in
+    let long : length c.into_vec-list.result.items ≡ length c.args.indexes = ap length c.into_vec-list.ensures in
+    c.of.ensures ∙ ap (λ (x : Index). set c.into_vec-list.result.items c.place_of-at.result x) c.replace-old.ensures.after ∙ ap (λ (l : List Index). set l c.place_of-at.result c.args.index) c.into_vec-list.ensures
+    ∙ ap (λ (n : ℕ). set c.args.indexes n c.args.index) at ∙ put_index_at c.args.indexes c.args.index (omega (arith, at, long, c.if-at-len.true, c.len.ensures))
+
+pub returns : goal.returns
+returns c =
+    let items : c.as_slice.result.now ≡ c.args.indexes = c.as_slice.ensures.value ∙ c.into_vec-list.ensures in
+    let at : c.place_of-at.result ≡ first_at (map number_of_index c.args.indexes) c.args.index.id.0 = c.place_of-at.ensures ∙ ap (λ (l : List Index). first_at (map number_of_index l) c.args.index.id.0) items in
+    let long : length c.into_vec-list.result.items ≡ length c.args.indexes = ap length c.into_vec-list.ensures in
+    c.of-2.ensures ∙ pushed c.push.result c.push.new.self.items c.into_vec-list.result.items (c.into_vec-list.result.items ++ c.args.index ∷ []) (sym c.is_err.ensures.value ∙ c.if-is_err.false) c.push.ensures.items
+    ∙ ap (λ (l : List Index). l ++ c.args.index ∷ []) c.into_vec-list.ensures ∙ put_index_end c.args.indexes c.args.index (omega (arith, at, long, c.if-at-len.false, c.len.ensures))
