@@ -1,6 +1,7 @@
 pub mod Answering
 pub mod Folders
 pub mod Growing
+pub mod OneSession
 pub mod Opening
 pub mod Pieces
 pub mod PutBodies
@@ -19,6 +20,7 @@ pub mod Rows
 pub mod Running
 pub mod Runs
 pub mod Sessions
+pub mod Stamping
 pub mod Started
 pub mod Stops
 pub mod Tasks

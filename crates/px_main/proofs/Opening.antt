@@ -1,16 +1,16 @@
 -- The making of the log's first segment leaves its puts.
-use Rattle.std.proofs.Common.{◌≡◌, ℕ, Bool, true, false, List, [], Option, Some, None, ◌⊎◌, inl, inr, refl, sym, ◌∙◌, ap, subst}
+use Rattle.std.proofs.Common.{◌≡◌, ℕ, Bool, true, false, if◌then◌else◌, List, [], Option, Some, None, ◌⊎◌, inl, inr, refl, sym, ◌∙◌, ap, subst}
 use Rattle.px_outside.specs.Disk.{Image}
 use Rattle.px_outside.proofs.Moments.{leaves_then, touches_more, touches_none, touches_then}
 use Rattle.px_outside.specs.OnDisk.{LeavesOnly, TouchesOnly}
 use Rattle.px_outside.specs.declared.disk.Disk.{Ghosts}
 use Rattle.px_gatelog.specs.Format.{LogForm, LogRecord, SegmentRead, records_of}
+use Rattle.px_gatelog.specs.GateLog.{GoesOnBy, IsLaid, IsSameLog, IsSettled, MayStep, StandsFor, after_by, after_step, has_file, is_newest_file, is_next_file, may_by, newest_in, next_shut, next_side, steps_left}
 use Rattle.px_gatelog.specs.Steps.{Commits, IsRollStep, Reaches}
-use Rattle.px_gatelog.specs.GateLog.{GoesOnBy, IsLaid, IsSameLog, IsSettled, MayStep, StandsFor, after_by, after_step, may_by, next_shut, steps_left}
 use Rattle.px_gatelog.proofs.Standing.{settled_stands, stands_same}
 use Rattle.px_gatelog.specs.declared.gate_log.GateLog.{GateLog}
 use Rattle.px_gatelog.specs.declared.segment.Segment.{Segment}
-use Rattle.px_main.specs.Logged.{HasPuts, Logged, any_file, log_size}
+use Rattle.px_main.specs.Logged.{HasFiles, HasPuts, Logged, is_log_file, log_size}
 use Rattle.px_main.specs.PutRecords.{kv_form, put_records}
 use Rattle.px_main.specs.Puts.{Put}
 use Rattle.px_main.specs.Stops.{LeftByNow}
@@ -94,24 +94,52 @@ has_same old new puts image same has = (has.0, stands_same kv_form old new image
 pub same_then : (a b c : GateLog) → IsSameLog a b → IsSameLog b c → IsSameLog a c
 same_then a b c first second = record { first = second.first ∙ first.first; second = second.second ∙ first.second }
 
+side_file : (in_second : Bool) (file first second : ℕ) → file ≡ (if in_second then second else first) → (file ≡ first) ⊎ (file ≡ second)
+side_file true file first second is = inr is
+side_file false file first second is = inl is
+
+-- the file in which the next segment is made is one of the log's, and so is that of the newest
+pub next_is_log : (log log' : GateLog) (file : ℕ) → IsSameLog log log' → is_next_file log' file → has_file log file
+next_is_log log log' file same is = elim (side_file (next_side log'.newest) file log'.first log'.second is) [ inl f ↦ inl (f ∙ same.first) | inr f ↦ inr (f ∙ same.second) ]
+
+newest_by : (log : GateLog) (newest : Option Segment) (file : ℕ) → newest_in log newest file → has_file log file
+newest_by log None file is = absurd is
+newest_by log (Some s) file is = side_file s.in_second file log.first log.second is
+
+pub newest_is_log : (log : GateLog) (file : ℕ) → is_newest_file log file → has_file log file
+newest_is_log log file is = newest_by log log.newest file is
+
+pub log_is_first : (log : GateLog) (file : ℕ) → HasFiles log → has_file log file → is_log_file file
+log_is_first log file files (inl f) = inl (f ∙ files.first)
+log_is_first log file files (inr f) = inr (f ∙ files.second)
+
+pub files_same : (log log' : GateLog) → IsSameLog log log' → HasFiles log → HasFiles log'
+files_same log log' same files = record { first = same.first ∙ files.first; second = same.second ∙ files.second }
+
+-- no call
+pub touches_nothing : {D : Type 0} (d : Ghosts D) (disk : D) (touched : ℕ → Type 0) → LeftByNow d → TouchesOnly d disk disk touched
+touches_nothing d disk touched up_to_now = touches_none d.calls d.left d.seen up_to_now disk touched
+
 module _ {D : Type 0} (d : Ghosts D) (first mid last : D) where
-  pub touch_any : (touched : ℕ → Type 0) → TouchesOnly d mid last touched → TouchesOnly d mid last any_file
-  touch_any touched touches = touches_more d.calls d.left d.seen mid last touched any_file (λ file t. tt) touches
+  pub touch_more : (touched more : ℕ → Type 0) → ((file : ℕ) → touched file → more file) → TouchesOnly d mid last touched → TouchesOnly d mid last more
+  touch_more touched more includes touches = touches_more d.calls d.left d.seen mid last touched more includes touches
 
-  pub touches_on : TouchesOnly d first mid any_file → TouchesOnly d mid last any_file → TouchesOnly d first last any_file
-  touches_on one two = touches_then d.calls d.left d.seen first mid last any_file one two
+  pub touches_on : (touched : ℕ → Type 0) → TouchesOnly d first mid touched → TouchesOnly d mid last touched → TouchesOnly d first last touched
+  touches_on touched one two = touches_then d.calls d.left d.seen first mid last touched one two
 
-  pub leaves_on : (log log' : GateLog) (puts : List Put) → IsSameLog log log' → LeavesOnly d first mid (λ moment image. HasPuts puts log image) → TouchesOnly d mid last any_file
+  pub leaves_on : (log log' : GateLog) (puts : List Put) (touched : ℕ → Type 0) → IsSameLog log log' → LeavesOnly d first mid (λ moment image. HasPuts puts log image) → TouchesOnly d mid last touched
       → LeavesOnly d mid last (λ moment image. HasPuts puts log' image) → LeavesOnly d first last (λ moment image. HasPuts puts log image)
-  leaves_on log log' puts same one touches two =
-      leaves_then d.calls d.left d.seen first mid last any_file (λ moment image. HasPuts puts log image) (λ moment image. HasPuts puts log' image) (λ moment image. HasPuts puts log image) one touches two
+  leaves_on log log' puts touched same one touches two =
+      leaves_then d.calls d.left d.seen first mid last touched (λ moment image. HasPuts puts log image) (λ moment image. HasPuts puts log' image) (λ moment image. HasPuts puts log image) one touches two
       (λ moment image is has. has) (λ moment image since is has. has_same log log' puts image same has)
 
   -- one step of the making more
   pub leaves_step : (log log' : GateLog) (puts : List Put) (size : ℕ) (touched : ℕ → Type 0) → IsSameLog log log' → LeavesOnly d first mid (λ moment image. HasPuts puts log image) → TouchesOnly d mid last touched
       → log'.newest ≡ None → Logged d mid log' puts size → StepLeaves d mid last log' → (steps_left log' ≡ 1 → IsLaid d log' mid []) → LeavesOnly d first last (λ moment image. HasPuts puts log image)
   leaves_step log log' puts size touched same leaves touches closed logged steps laid =
-      leaves_on log log' puts same leaves (touch_any touched touches) (step_leaves d mid last log' puts size closed logged steps laid)
+      leaves_on log log' puts touched same leaves touches (step_leaves d mid last log' puts size closed logged steps laid)
 
-pub touches_nothing : {D : Type 0} (d : Ghosts D) (disk : D) → LeftByNow d → TouchesOnly d disk disk any_file
-touches_nothing d disk up_to_now = touches_none d.calls d.left d.seen up_to_now disk any_file
+-- one step of the making more
+pub stepped : {D : Type 0} (d : Ghosts D) (first mid last : D) (log log' : GateLog) → IsSameLog log log' → TouchesOnly d first mid (has_file log) → TouchesOnly d mid last (is_next_file log') → TouchesOnly d first last (has_file log)
+stepped d first mid last log log' same one two =
+    touches_on d first mid last (has_file log) one (touch_more d first mid last (is_next_file log') (has_file log) (λ file is. next_is_log log log' file same is) two)

@@ -23,11 +23,11 @@ added_behind old new grows first last first-is last-is =
     let all : take last new ≡ new = ap (λ (n : ℕ). take n new) last-is ∙ take-length new in
     sym (ap (λ (l : List Entry). drop first l) (all ∙ grows.is) ∙ (ap (λ (n : ℕ). drop n (old ++ grows.added)) first-is ∙ drop-append_seam old grows.added))
 
-pub item_ran : {D : Type 0} (d : Ghosts D) (origin : Origin) (disk disk' : D) (old : List Entry) (store : Store) (a : Answer) (piece : SeenPiece) (item : Item)
-    → Answered d origin disk disk' old store a (λ es added reply receipts. AnswersPiece origin es added piece reply receipts)
-    → item.evidence.first ≡ length old → item.evidence.last ≡ length store.trail.entries → item.reply ≡ a.reply → item.evidence.receipts ≡ a.receipts
-    → HasRun d origin disk disk' old store piece item
-item_ran d origin disk disk' old store a piece item answered first last reply receipts =
+pub item_ran : {D : Type 0} (d : Ghosts D) (origin : Origin) (disk disk' : D) (now : ℕ) (old : List Entry) (store : Store) (a : Answer) (piece : SeenPiece) (item : Item)
+    → Answered d origin disk disk' now old store a (λ es added reply receipts places. AnswersPiece origin es added piece reply receipts places)
+    → item.evidence.first ≡ length old → item.evidence.last ≡ length store.trail.entries → item.reply ≡ a.reply → item.evidence.receipts ≡ a.receipts → item.evidence.places ≡ a.places
+    → HasRun d origin disk disk' now old store piece item
+item_ran d origin disk disk' now old store a piece item answered first last reply receipts places =
     let es : List Entry = store.trail.entries in
     let all : take item.evidence.last es ≡ es = ap (λ (n : ℕ). take n es) last ∙ take-length es in
     record {
@@ -38,10 +38,13 @@ item_ran d origin disk disk' old store a piece item answered first last reply re
       replied = record {
         in_order = (let n = grown_len old es answered.grows in omega arith);
         within = omega arith;
-        answer = subst (λ (l : List Entry). AnswersPiece origin l (drop item.evidence.first (take item.evidence.last es)) piece item.reply item.evidence.receipts) (sym all)
-            (subst (λ (l : List Entry). AnswersPiece origin es l piece item.reply item.evidence.receipts) (added_behind old es answered.grows item.evidence.first item.evidence.last first last)
-            (subst (λ r. AnswersPiece origin es answered.grows.added piece r item.evidence.receipts) (sym reply) (subst (λ r. AnswersPiece origin es answered.grows.added piece a.reply r) (sym receipts) answered.right)));
+        answer = subst (λ (l : List Entry). AnswersPiece origin l (drop item.evidence.first (take item.evidence.last es)) piece item.reply item.evidence.receipts item.evidence.places) (sym all)
+            (subst (λ (l : List Entry). AnswersPiece origin es l piece item.reply item.evidence.receipts item.evidence.places) (added_behind old es answered.grows item.evidence.first item.evidence.last first last)
+            (subst (λ r. AnswersPiece origin es answered.grows.added piece r item.evidence.receipts item.evidence.places) (sym reply)
+            (subst (λ r. AnswersPiece origin es answered.grows.added piece a.reply r item.evidence.places) (sym receipts)
+            (subst (λ (r : List ℕ). AnswersPiece origin es answered.grows.added piece a.reply a.receipts r) (sym places) answered.right))));
       };
+      moves = answered.moves;
       goes_on = λ other. answered.goes_on (λ e. other (reply ∙ e));
       failed = λ e. answered.failed (sym reply ∙ e);
       lasts = answered.lasts;
@@ -56,7 +59,7 @@ replied_later origin es es' piece item grows replied =
     record {
       in_order = replied.in_order;
       within = (let n = grown_len es es' grows in omega arith);
-      answer = subst (λ (l : List Entry). AnswersPiece origin l (drop item.evidence.first l) piece item.reply item.evidence.receipts) (sym same) replied.answer;
+      answer = subst (λ (l : List Entry). AnswersPiece origin l (drop item.evidence.first l) piece item.reply item.evidence.receipts item.evidence.places) (sym same) replied.answer;
     }
 
 pub all_later : (origin : Origin) (es es' : List Entry) (from to : ℕ) (pieces : List SeenPiece) (items : List Item) → Grows es es' → AreReplied origin es from to pieces items

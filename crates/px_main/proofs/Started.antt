@@ -1,6 +1,5 @@
 -- What opening finds.
-use Rattle.std.proofs.Common.{◌≡◌, ◌≤◌, ◌+◌, ℕ, Bool, true, false, List, [], Some, None, Ok, refl, sym, ◌∙◌, ap, subst, arith}
-use Rattle.std.specs.List.{AllByRecursion}
+use Rattle.std.proofs.Common.{◌≡◌, ◌≤◌, ◌+◌, ℕ, Bool, true, false, List, [], Some, None, Ok, refl, sym, ◌∙◌, ap, subst, arith, inl}
 use Rattle.px_outside.specs.OnDisk.{Stays}
 use Rattle.px_outside.specs.declared.disk.Disk.{Ghosts}
 use Rattle.px_trail.specs.Trail.{Batch, applied, batch_from, batch_of, begun, calls_from, calls_of, last_from, unwritten}
@@ -11,15 +10,16 @@ use Rattle.px_main.specs.declared.store.Store.{Store}
 use Rattle.px_main.specs.Kept.{IsKept, IsOpened}
 use Rattle.px_main.specs.Kv.{Tells, base_by, kv}
 use Rattle.px_gatelog.specs.GateLog.{IsSettled, StandsFor}
-use Rattle.px_main.specs.Logged.{IsReady, Logged, first_file, folder_of, log_size, second_file}
+use Rattle.px_main.specs.Added.{AddedBetween}
+use Rattle.px_main.specs.Logged.{HasFiles, IsReady, Logged, first_file, folder_of, log_size, second_file}
 use Rattle.std.specs.Prelude.{IsTrue}
-use Rattle.px_main.specs.Origin.{logged_bytes, size_at_first}
+use Rattle.px_main.specs.Origin.{Origin, logged_bytes, size_at_first}
 use Rattle.px_main.specs.PutReader.{HoldsPuts, HoldsRecords}
 use Rattle.px_main.specs.PutRecords.{kv_form}
 use Rattle.px_main.specs.Puts.{Put}
-use Rattle.px_main.specs.Stops.{Lasts, LeftIsTold, NothingPending}
-use Rattle.px_main.proofs.Folders.{base-of}
-use Rattle.px_main.proofs.Stops.{opened_lasts}
+use Rattle.px_main.specs.Stops.{Lasts, LeftByNow, LeftIsTold}
+use Rattle.px_main.proofs.Folders.{base-of, stands_by}
+use Rattle.px_main.proofs.Opening.{still_has}
 
 no_batch : (t s : ℕ) (x : Batch) → batch_of t s [] ≡ Some x → unwritten x ≡ []
 unfolding batch_from
@@ -48,33 +48,35 @@ no_calls n = omega arith
 nothing_logged : (n : ℕ) (es : List Entry) → es ≡ [] → n + logged_bytes es ≡ n
 nothing_logged n es none = let no : logged_bytes es ≡ 0 = ap logged_bytes none in omega arith
 
-pub opened-kept : {D : Type 0} (d : Ghosts D) (old new : D) (store : Store) (opened : IsOpened d old new store) (rest : Bool) → (IsTrue rest → Lasts d (base_by opened.puts) store.trail.entries new)
-    → IsKept d (record { base = base_by opened.puts; log = opened.log; rest = rest }) new store
-opened-kept d old new store opened rest lasts = record {
+-- what a store that was opened goes on from
+abbrev pub origin_of : {D : Type 0} (d : Ghosts D) (old new : D) (store : Store) → IsOpened d old new store → Origin
+origin_of d old new store opened = record { base = base_by opened.puts; log = opened.log; opened = d.calls new }
+
+-- what a stop leaves from the opening's end on
+lasts_opened : {D : Type 0} (d : Ghosts D) (old new : D) (store : Store) (opened : IsOpened d old new store) → LeftIsTold d → LeftByNow d → Lasts d (base_by opened.puts) (d.calls new) [] new
+lasts_opened d old new store opened left_told up_to_now moment image since is =
+    let base = base_by opened.puts in
+    let told = tells-none opened.puts in
+    let logged = opened.logged (left_told new moment first_file (image first_file) (is first_file)) in
+    inl (stands_by base [] opened.puts image store.log logged.first logged.second opened.holds.allowed told.states (let e = told.last in omega arith)
+    ((still_has d new store.log opened.puts (size_at_first opened.log) up_to_now logged).each moment image since is))
+
+pub opened-kept : {D : Type 0} (d : Ghosts D) (old new : D) (store : Store) (opened : IsOpened d old new store) → LeftIsTold d → LeftByNow d → d.faults old ≡ 0 → IsKept d (origin_of d old new store opened) new store
+opened-kept d old new store opened left_told up_to_now fresh = record {
   puts = opened.puts;
   told = subst (λ (l : List Entry). Tells (base_by opened.puts) l opened.puts) (sym opened.entries) (tells-none opened.puts);
   holds = opened.holds;
   calls = subst (λ (l : List Entry). calls_of l ≤ d.calls new) (sym opened.entries) (no_calls (d.calls new));
   spare = opened.spare;
   ready = opened.ready;
+  files = opened.files;
   logged = λ told. subst (λ (n : ℕ). Logged d new store.log opened.puts n) (sym (nothing_logged (size_at_first opened.log) store.trail.entries opened.entries)) (opened.logged told);
   sized = opened.sized;
-  early = subst (λ (l : List Entry). AllByRecursion (λ (e : Entry). e.calls ≤ d.calls new) l) (sym opened.entries) tt;
-  lasts = lasts;
+  unfailed = opened.unfailed ∙ fresh;
+  opened = omega arith;
+  moments = subst (λ (l : List Entry). AddedBetween (d.calls new) (d.calls new) l) (sym opened.entries) tt;
+  lasts = subst (λ (l : List Entry). Lasts d (base_by opened.puts) (d.calls new) l new) (sym opened.entries) (lasts_opened d old new store opened left_told up_to_now);
 }
-
--- what a stop leaves of an opening
-pub lasts_opened : {D : Type 0} (d : Ghosts D) (old new : D) (store : Store) (opened : IsOpened d old new store) → LeftIsTold d → d.calls old ≡ 0 → NothingPending d old → Lasts d (base_by opened.puts) store.trail.entries new
-lasts_opened d old new store opened left_told fresh nothing =
-    let told = tells-none opened.puts in
-    subst (λ (l : List Entry). Lasts d (base_by opened.puts) l new) (sym opened.entries)
-    (opened_lasts d (base_by opened.puts) opened.puts old new [] left_told fresh opened.quiet nothing
-    (λ tells. record {
-      found = record { base = base_by opened.puts; log = size_at_first opened.log };
-      is = opened.stood tells;
-      states = λ key point. sym (told.states key point);
-      last = (let e = told.last in omega arith);
-    }) tt)
 
 -- ---- the store that was opened
 
@@ -107,10 +109,10 @@ not_told false e is = let no : false ≡ true = is in cc
 told_by : {t : Bool} → t ≡ true → IsTrue t
 told_by is = is
 
-pub opened_by : {D : Type 0} (d : Ghosts D) (old new : D) (store : Store) (tells : Bool) → d.tells ≡ tells → store.trail.entries ≡ [] → store.trail.bytes_room ≡ 0 → IsReady store.log → Stays d old new
+pub opened_by : {D : Type 0} (d : Ghosts D) (old new : D) (store : Store) (tells : Bool) → d.tells ≡ tells → store.trail.entries ≡ [] → store.trail.bytes_room ≡ 0 → IsReady store.log → HasFiles store.log → Stays d old new → d.seen new ≡ d.seen old → d.faults new ≡ d.faults old
     → (IsTrue d.tells → Found d old new store) → (puts : List Put) → HoldsPuts store.rows store.last store.number puts → IsOpened d old new store
-opened_by d old new store true is entries spare ready quiet told puts holds =
+opened_by d old new store true is entries spare ready files quiet sees unfailed told puts holds =
     let found = told is in
-    record { puts = found.puts; log = Some found.size; entries = entries; holds = found.holds; spare = spare; ready = ready; stood = λ _. found.stood; logged = λ _. found.logged; sized = λ _. told_by is; quiet = quiet }
-opened_by d old new store false is entries spare ready quiet told puts holds =
-    record { puts = puts; log = None; entries = entries; holds = holds; spare = spare; ready = ready; stood = λ t. absurd (not_told d.tells is t); logged = λ t. absurd (not_told d.tells is t); sized = λ some. (let no : false ≡ true = some in cc); quiet = quiet }
+    record { puts = found.puts; log = Some found.size; entries = entries; holds = found.holds; spare = spare; ready = ready; files = files; stood = λ _. found.stood; logged = λ _. found.logged; sized = λ _. told_by is; quiet = quiet; sees = sees; unfailed = unfailed }
+opened_by d old new store false is entries spare ready files quiet sees unfailed told puts holds =
+    record { puts = puts; log = None; entries = entries; holds = holds; spare = spare; ready = ready; files = files; stood = λ t. absurd (not_told d.tells is t); logged = λ t. absurd (not_told d.tells is t); sized = λ some. (let no : false ≡ true = some in cc); quiet = quiet; sees = sees; unfailed = unfailed }

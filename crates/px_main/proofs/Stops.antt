@@ -11,13 +11,16 @@ use Rattle.px_trail.specs.declared.entry.Entry.{Entry}
 use Rattle.px_trail.specs.One.{begun_entry, ended_entry, wrote_entry}
 use Rattle.px_trail.specs.Trail.{Base, IsLegal, calls_of}
 use Rattle.px_gatelog.specs.declared.gate_log.GateLog.{GateLog}
-use Rattle.px_main.specs.Added.{kv_table, session_seat}
+use Rattle.px_main.specs.declared.store.Store.{Store}
+use Rattle.px_main.specs.Added.{AddedBetween, kv_table, session_seat}
+use Rattle.px_main.specs.Kept.{IsKept}
 use Rattle.px_main.specs.Kv.{Tells, what_of}
 use Rattle.px_main.specs.Logged.{HasPuts, Logged, first_file, second_file}
 use Rattle.px_main.specs.PutForm.{IsPut}
 use Rattle.px_main.specs.PutRecords.{kv_form}
 use Rattle.px_main.specs.Puts.{Put, greatest}
-use Rattle.px_main.specs.Stops.{Lasts, LastsLate, LeftByNow, LeftIsTold, NothingPending, Recovers, StandsAfter, entries_by, late_list}
+use Rattle.px_main.specs.Origin.{Origin}
+use Rattle.px_main.specs.Stops.{Lasts, LastsLate, LeftByNow, LeftIsTold, Recovers, StandsAfter, entries_by, late_list}
 use Rattle.px_main.specs.Table.{key_of}
 use Rattle.px_main.proofs.Folders.{stands_by}
 use Rattle.px_main.proofs.Growing.{begun-stamp, begun-states, legal-wrote, tells-ended, wrote-stamp, wrote-states}
@@ -45,6 +48,20 @@ pub all_join : (a : ℕ) (es more : List Entry) → AllByRecursion (λ (e : Entr
 all_join a [] more all rest = rest
 all_join a (e ∷ es) more all rest = (all.0, all_join a es more all.1 rest)
 
+-- ---- entries of moments within two
+
+pub by_now : (from to : ℕ) (es : List Entry) → AddedBetween from to es → AllByRecursion (λ (e : Entry). e.calls ≤ to) es
+by_now from to [] all = tt
+by_now from to (e ∷ es) all = (all.0.1, by_now from to es all.1)
+
+pub between_wider : (a b from to : ℕ) (es : List Entry) → a ≤ from → to ≤ b → AddedBetween from to es → AddedBetween a b es
+between_wider a b from to [] low high all = tt
+between_wider a b from to (e ∷ es) low high all = ((let h = all.0.0 in omega arith, let h = all.0.1 in omega arith), between_wider a b from to es low high all.1)
+
+pub between_join : (from to : ℕ) (es more : List Entry) → AddedBetween from to es → AddedBetween from to more → AddedBetween from to (es ++ more)
+between_join from to [] more all rest = rest
+between_join from to (e ∷ es) more all rest = (all.0, between_join from to es more all.1 rest)
+
 -- ---- the trail grows
 
 recovers_more : (base : Base) (es more : List Entry) (late : Option Entry) (moment : ℕ) (image : Image) → AllByRecursion (λ (e : Entry). moment < e.calls) more → Recovers base es None moment image
@@ -66,23 +83,31 @@ recovers_more base es more late moment image all (inr n) =
       subst (λ (l : List Entry). StandsAfter base (l ++ e ∷ []) image) (sym same) n.2,
     )
 
-pub as_late : {D : Type 0} (d : Ghosts D) (base : Base) (es : List Entry) (disk : D) → IsLegal base es → Lasts d base es disk → LastsLate d base es disk
-as_late d base es disk legal lasts = record { late = None; legal = subst (λ (l : List Entry). IsLegal base l) (sym (append-nil es)) legal; recovers = lasts }
+pub as_late : {D : Type 0} (d : Ghosts D) (base : Base) (from : ℕ) (es : List Entry) (disk : D) → IsLegal base es → from ≤ d.calls disk → AddedBetween from (d.calls disk) es → Lasts d base from es disk → LastsLate d base from es disk
+as_late d base from es disk legal begun moments lasts =
+    record { begun = begun; moments = moments; late = None; legal = subst (λ (l : List Entry). IsLegal base l) (sym (append-nil es)) legal; recovers = lasts }
+
+-- of a store from which all goes on
+pub kept_late : {D : Type 0} (d : Ghosts D) (origin : Origin) (disk : D) (store : Store) → IsKept d origin disk store → LastsLate d origin.base origin.opened store.trail.entries disk
+kept_late d origin disk store kept = as_late d origin.base origin.opened store.trail.entries disk kept.told.legal kept.opened kept.moments kept.lasts
 
 -- ---- calls that leave the log's puts
 
-module _ {D : Type 0} (d : Ghosts D) (base : Base) (es : List Entry) (puts : List Put) (size : ℕ) (disk disk' : D) (log : GateLog) (touched : ℕ → Type 0)
-    (told : Tells base es puts) (allowed : AllByRecursion IsPut puts) (early : AllByRecursion (λ (e : Entry). e.calls ≤ d.calls disk) es) (logged : IsTrue d.tells → Logged d disk log puts size)
+module _ {D : Type 0} (d : Ghosts D) (base : Base) (from : ℕ) (es : List Entry) (puts : List Put) (size : ℕ) (disk disk' : D) (log : GateLog) (touched : ℕ → Type 0)
+    (told : Tells base es puts) (allowed : AllByRecursion IsPut puts) (opened : from ≤ d.calls disk) (moments : AddedBetween from (d.calls disk) es) (logged : IsTrue d.tells → Logged d disk log puts size)
     (touches : TouchesOnly d disk disk' touched) (left_told : LeftIsTold d) where
+  early : AllByRecursion (λ (e : Entry). e.calls ≤ d.calls disk) es
+  early = by_now from (d.calls disk) es moments
+
   before : (moment : ℕ) (image : Image) → moment < d.calls disk → IsLeft d disk' moment image → IsLeft d disk moment image
   before moment image past is = λ file. touches.past moment file (image file) past (is file)
 
   tells : (moment : ℕ) (image : Image) → IsLeft d disk' moment image → IsTrue d.tells
   tells moment image is = left_told disk' moment first_file (image first_file) (is first_file)
 
-  pub moved_lasts : (IsTrue d.tells → LeavesOnly d disk disk' (λ moment image. HasPuts puts log image)) → Lasts d base es disk → Lasts d base es disk'
-  moved_lasts leaves lasts moment image is = elim (cases_lt moment (d.calls disk)) [
-    | inl past ↦ lasts moment image (before moment image past is)
+  pub moved_lasts : (IsTrue d.tells → LeavesOnly d disk disk' (λ moment image. HasPuts puts log image)) → Lasts d base from es disk → Lasts d base from es disk'
+  moved_lasts leaves lasts moment image at is = elim (cases_lt moment (d.calls disk)) [
+    | inl past ↦ lasts moment image at (before moment image past is)
     | inr since ↦
         let t = tells moment image is in
         let l = logged t in
@@ -94,7 +119,7 @@ module _ {D : Type 0} (d : Ghosts D) (base : Base) (es : List Entry) (puts : Lis
 
   module _ (x : Put) (above : greatest puts < x.stamp) (calls0 : calls_of es ≤ d.calls disk) (calls1 : d.calls disk ≤ d.calls disk') (four : d.calls disk' ≤ d.calls disk + 4)
       (allowed' : AllByRecursion IsPut (puts ++ x ∷ [])) (leaves : IsTrue d.tells → LeavesOnly d disk disk' (λ moment image. HasPuts puts log image ⊎ HasPuts (puts ++ x ∷ []) log image))
-      (lasts : Lasts d base es disk) where
+      (lasts : Lasts d base from es disk) where
     abbrev c0 : ℕ
     c0 = d.calls disk
 
@@ -133,12 +158,14 @@ module _ {D : Type 0} (d : Ghosts D) (base : Base) (es : List Entry) (puts : Lis
         (let s = wrote-stamp base es puts told x session_seat c0 c1 c1 above calls0 calls1 (omega arith) in let g = greatest-append_last puts x above in omega arith) has
 
     -- the batch was begun, and its write failed
-    pub failed_lasts : LastsLate d base begun disk'
+    pub failed_lasts : LastsLate d base from begun disk'
     failed_lasts = record {
+      begun = omega arith;
+      moments = between_join from c1 es (b ∷ []) (between_wider from c1 from c0 es (omega arith) calls1 moments) ((opened, calls1), tt);
       late = Some w;
       legal = legal-wrote base es puts told x session_seat c0 c1 c1 above calls0 calls1 (omega arith);
-      recovers = λ moment image is. elim (cases_lt moment (d.calls disk)) [
-        | inl past ↦ recovers_more base es (b ∷ []) (Some w) moment image (past, tt) (lasts moment image (before moment image past is))
+      recovers = λ moment image at is. elim (cases_lt moment (d.calls disk)) [
+        | inl past ↦ recovers_more base es (b ∷ []) (Some w) moment image (past, tt) (lasts moment image at (before moment image past is))
         | inr since ↦
             let same = begun_by moment since in
             elim ((leaves (tells moment image is)).each moment image since is) [
@@ -162,11 +189,11 @@ module _ {D : Type 0} (d : Ghosts D) (base : Base) (es : List Entry) (puts : Lis
     grown : ended ≡ es ++ b ∷ w ∷ e ∷ []
     grown = ends ∙ append_assoc es (b ∷ []) (w ∷ e ∷ [])
 
-    pub written_lasts : ((moment : ℕ) (image : Image) → d.calls disk' ≤ moment → IsLeft d disk' moment image → HasPuts all log image) → Lasts d base ended disk'
-    written_lasts settled moment image is = elim (cases_lt moment (d.calls disk)) [
+    pub written_lasts : ((moment : ℕ) (image : Image) → d.calls disk' ≤ moment → IsLeft d disk' moment image → HasPuts all log image) → Lasts d base from ended disk'
+    written_lasts settled moment image at is = elim (cases_lt moment (d.calls disk)) [
       | inl past ↦
           subst (λ (l : List Entry). Recovers base l None moment image) (sym grown)
-          (recovers_more base es (b ∷ w ∷ e ∷ []) None moment image (past, (omega arith, (omega arith, tt))) (lasts moment image (before moment image past is)))
+          (recovers_more base es (b ∷ w ∷ e ∷ []) None moment image (past, (omega arith, (omega arith, tt))) (lasts moment image at (before moment image past is)))
       | inr since ↦ elim (cases_lt moment (d.calls disk')) [
         | inl under ↦
             let same : entries_by moment ended ≡ begun = ap (λ (l : List Entry). entries_by moment l) ends ∙ (by_more moment begun (w ∷ e ∷ []) (under, (under, tt)) ∙ begun_by moment since) in
@@ -188,24 +215,7 @@ module _ {D : Type 0} (d : Ghosts D) (base : Base) (es : List Entry) (puts : Lis
       ]
     ]
 
--- ---- an opening
-
-pub opened_lasts : {D : Type 0} (d : Ghosts D) (base : Base) (puts : List Put) (old new : D) (es : List Entry) → LeftIsTold d → d.calls old ≡ 0 → Stays d old new → NothingPending d old → (IsTrue d.tells → StandsAfter base es (d.seen old))
-    → AllByRecursion (λ (e : Entry). e.calls ≤ 0) es → Lasts d base es new
-opened_lasts d base puts old new es left_told fresh quiet at_rest stood none moment image is =
-    let stands = stood (left_told new moment first_file (image first_file) (is first_file)) in
-    let at : (file : ℕ) → image file ≡ d.seen old file = λ file. at_rest file (image file) (quiet.now moment file (image file) (omega arith) (is file)) in
-    let first = at first_file in
-    let second = at second_file in
-    inl (
-    subst (λ (l : List Entry). StandsAfter base l image) (sym (by_all moment es (all_within 0 moment es (omega arith) none)))
-    (record {
-      found = stands.found;
-      is = ap (λ (l : List ℕ). Rattle.px_main.specs.Logged.folder_in_log (Rattle.px_gatelog.specs.Format.segments_of kv_form l (image second_file))) first
-          ∙ (ap (λ (l : List ℕ). Rattle.px_main.specs.Logged.folder_in_log (Rattle.px_gatelog.specs.Format.segments_of kv_form (d.seen old first_file) l)) second ∙ stands.is);
-      states = stands.states;
-      last = stands.last;
-    }))
+-- ---- no call
 
 -- no call leaves nothing new
 pub stays_none : {D : Type 0} (d : Ghosts D) (old new : D) → LeftByNow d → new ≡ old → Stays d old new

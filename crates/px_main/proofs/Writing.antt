@@ -24,10 +24,10 @@ use Rattle.px_gatelog.specs.declared.segment.Segment.{Segment}
 use Rattle.px_gatelog.specs.declared.gate_log.GateLog.{GateLog}
 use Rattle.px_main.specs.declared.reply.Receipt.{Receipt}
 use Rattle.px_main.specs.declared.store.Store.{Store}
-use Rattle.px_main.specs.Added.{kv_table, session_seat, with_batch, with_begun}
+use Rattle.px_main.specs.Added.{AddedBetween, kv_table, session_seat, with_batch, with_begun}
 use Rattle.px_main.specs.Batch.{kv_change}
 use Rattle.px_main.specs.Kept.{Grows, IsAppended, IsKept, IsStopped, IsUpserted, IsWritten}
-use Rattle.px_main.specs.Logged.{HasPuts, IsReady, LeavesAppended, Logged, first_file}
+use Rattle.px_main.specs.Logged.{HasFiles, HasPuts, IsReady, LeavesAppended, Logged, first_file}
 use Rattle.px_main.specs.Kv.{Tells, kv, what_of}
 use Rattle.px_main.specs.Origin.{FitsLog, FitsTrail, Origin, logged_bytes, size_at_first}
 use Rattle.px_main.specs.PutForm.{IsPut, put_size}
@@ -39,8 +39,8 @@ use Rattle.px_main.specs.Puts.{Put, greatest}
 use Rattle.px_main.specs.Table.{key_of}
 use Rattle.px_main.proofs.Rooms.{counted-batch, fits_log, logged-batch, roomy_log}
 use Rattle.px_main.specs.Stops.{Lasts, LastsLate, LeftByNow, LeftIsTold}
-use Rattle.px_main.proofs.Opening.{has_same, still_has}
-use Rattle.px_main.proofs.Stops.{all_join, all_within, failed_lasts, written_lasts}
+use Rattle.px_main.proofs.Opening.{files_same, has_same, still_has}
+use Rattle.px_main.proofs.Stops.{between_join, between_wider, failed_lasts, written_lasts}
 use Rattle.px_main.proofs.Growing.{legal-begun, tells-ended, whole, whole-is, whole-written}
 
 -- ---- the log
@@ -113,7 +113,7 @@ pub ready_open : (log : GateLog) → is_open log → IsReady log
 ready_open log opened = λ none. open_ready log.newest (steps_left log) opened none
 
 module _ {D : Type 0} (d : Ghosts D) (origin : Origin) (disk disk' : D) (old new : Store) (x : Put) (r : Receipt)
-    (kept : IsKept d origin disk old) (put : IsPut x) (later : old.last < x.stamp) (calls : d.calls disk ≤ d.calls disk') where
+    (kept : IsKept d origin disk old) (put : IsPut x) (later : old.last < x.stamp) (calls : d.calls disk ≤ d.calls disk') (quiet : d.faults disk' ≡ d.faults disk) where
   abbrev puts : List Put
   puts = kept.puts
 
@@ -121,9 +121,9 @@ module _ {D : Type 0} (d : Ghosts D) (origin : Origin) (disk disk' : D) (old new
   above = let e = kept.holds.last_is in omega arith
 
   module _ (entries : new.trail.entries ≡ with_batch old.trail.entries (d.calls disk) (d.calls disk') x.stamp (kv_change x.key x.value ∷ []) (key_of x.key ∷ []))
-      (bytes : new.trail.bytes_room ≡ 0) (opened : is_open new.log) (holds : HoldsPuts new.rows new.last new.number (puts ++ x ∷ []))
+      (bytes : new.trail.bytes_room ≡ 0) (opened : is_open new.log) (files : HasFiles new.log) (holds : HoldsPuts new.rows new.last new.number (puts ++ x ∷ []))
       (logged : IsTrue d.tells → Logged d disk' new.log (puts ++ x ∷ []) (size_at_first origin.log + logged_bytes old.trail.entries + (6 + put_size x.key x.value)))
-      (lasts : IsTrue origin.rest → Lasts d origin.base new.trail.entries disk') where
+      (lasts : Lasts d origin.base origin.opened new.trail.entries disk') where
     abbrev all : List Entry
     all = with_batch old.trail.entries (d.calls disk) (d.calls disk') x.stamp (kv_change x.key x.value ∷ []) (key_of x.key ∷ [])
 
@@ -148,6 +148,9 @@ module _ {D : Type 0} (d : Ghosts D) (origin : Origin) (disk disk' : D) (old new
           ∙ append_assoc old.trail.entries (begun_entry session_seat (d.calls disk) kv_table x.stamp (key_of x.key) (what_of x.value) ∷ []) (wrote_entry session_seat (d.calls disk') kv_table x.stamp (key_of x.key) ∷ ended_entry session_seat (d.calls disk') kv_table x.stamp ∷ []));
     }
 
+    more_now : AddedBetween (d.calls disk) (d.calls disk') more
+    more_now = ((omega arith, calls), ((calls, omega arith), ((calls, omega arith), tt)))
+
     sizes : size_at_first origin.log + logged_bytes old.trail.entries + (6 + put_size x.key x.value) ≡ size_at_first origin.log + logged_bytes new.trail.entries
     sizes = let more = logged-batch old.trail.entries (d.calls disk) (d.calls disk') x.stamp (kv_change x.key x.value) (key_of x.key ∷ []) in let same = ap logged_bytes entries in omega arith
 
@@ -159,19 +162,25 @@ module _ {D : Type 0} (d : Ghosts D) (origin : Origin) (disk disk' : D) (old new
       calls = subst (λ (l : List Entry). calls_of l ≤ d.calls disk') (sym entries) (let e = all-calls in omega arith);
       spare = bytes;
       ready = ready_open new.log opened;
+      files = files;
       logged = λ told. subst (λ (n : ℕ). Logged d disk' new.log (puts ++ x ∷ []) n) sizes (logged told);
       sized = kept.sized;
-      early = subst (λ (l : List Entry). AllByRecursion (λ (e : Entry). e.calls ≤ d.calls disk') l) (sym grows.is)
-          (all_join (d.calls disk') old.trail.entries more (all_within (d.calls disk) (d.calls disk') old.trail.entries calls kept.early) (calls, (omega arith, (omega arith, tt))));
+      unfailed = quiet ∙ kept.unfailed;
+      opened = (let h = kept.opened in omega arith);
+      moments = subst (λ (l : List Entry). AddedBetween origin.opened (d.calls disk') l) (sym grows.is)
+          (between_join origin.opened (d.calls disk') old.trail.entries more (between_wider origin.opened (d.calls disk') origin.opened (d.calls disk) old.trail.entries (omega arith) calls kept.moments)
+          (between_wider origin.opened (d.calls disk') (d.calls disk) (d.calls disk') more kept.opened (omega arith) more_now));
       lasts = lasts;
     }
 
     pub upserted : FitsLog origin.log new.trail.entries → FitsTrail new.trail.entries → r.table.0 ≡ kv → r.rows ≡ 1 → r.concurrent ≡ [] → r.unfinished ≡ None → r.stamp ≡ x.stamp → r.at ≡ length new.trail.entries
-        → IsUpserted d origin disk' old.trail.entries new x.key x.value r
+        → IsUpserted d origin (d.calls disk) disk' old.trail.entries new x.key x.value r
     upserted fits_in_log fits_in_trail table rows concurrent unfinished stamp at = record {
       kept = kept-more;
       grows = grows;
       batch = record { begun_at = d.calls disk; ended_at = d.calls disk'; is = ap (λ (n : ℕ). with_batch [] (d.calls disk) (d.calls disk') n (kv_change x.key x.value ∷ []) (key_of x.key ∷ [])) (sym stamp) };
+      moments = more_now;
+      now = refl;
       fits_log = fits_in_log;
       fits_trail = fits_in_trail;
       receipt = record {
@@ -193,7 +202,7 @@ module _ {D : Type 0} (d : Ghosts D) (origin : Origin) (disk disk' : D) (old new
 -- ---- the whole of a commit
 
 module _ {D : Type 0} (d : Ghosts D) (origin : Origin) (disk disk' : D) (old mid new : Store) (x : Put) (r : Receipt)
-    (kept : IsKept d origin disk old) (put : IsPut x) (later : old.last < x.stamp) (calls : d.calls disk ≤ d.calls disk')
+    (kept : IsKept d origin disk old) (put : IsPut x) (later : old.last < x.stamp) (calls : d.calls disk ≤ d.calls disk') (quiet : d.faults disk' ≡ d.faults disk)
     (opened : is_open old.log) (same_log : mid.log ≡ old.log) (same_entries : mid.trail.entries ≡ old.trail.entries) (number : mid.number ≡ old.number + 1)
     (taken : mid.trail.bytes_room ≡ old.trail.bytes_room + counted_change (kv_change x.key x.value))
     (framed : record_of mid.frame ≡ put_record (old.number + 1) x) (holds : HoldsPuts mid.rows x.stamp (old.number + 1) (kept.puts ++ x ∷ []))
@@ -231,44 +240,45 @@ module _ {D : Type 0} (d : Ghosts D) (origin : Origin) (disk disk' : D) (old mid
   leaves_are leaves tells =
       leaves_more d disk disk' mid.log kept.puts size x (old.number + 1) (record_of mid.frame) (subst is_open (sym same_log) opened) (let e = kept.holds.number_is in omega arith) framed put (before tells) leaves
 
-  lasts_are : LeavesAppended d disk disk' mid.log (record_of mid.frame) → (touched : ℕ → Type 0) → TouchesOnly d disk disk' touched → d.calls disk' ≤ d.calls disk + 4 → IsTrue origin.rest
-      → Lasts d origin.base new.trail.entries disk'
-  lasts_are leaves touched touches four rest =
-      subst (λ (l : List Entry). Lasts d origin.base l disk') (sym entries_are)
-      (written_lasts d origin.base old.trail.entries kept.puts size disk disk' mid.log touched kept.told kept.holds.allowed kept.early before touches left_told x (let e = kept.holds.last_is in omega arith) kept.calls calls four holds.allowed
-      (leaves_are leaves) (kept.lasts rest) settled_are)
+  lasts_are : LeavesAppended d disk disk' mid.log (record_of mid.frame) → (touched : ℕ → Type 0) → TouchesOnly d disk disk' touched → d.calls disk' ≤ d.calls disk + 4
+      → Lasts d origin.base origin.opened new.trail.entries disk'
+  lasts_are leaves touched touches four =
+      subst (λ (l : List Entry). Lasts d origin.base origin.opened l disk') (sym entries_are)
+      (written_lasts d origin.base origin.opened old.trail.entries kept.puts size disk disk' mid.log touched kept.told kept.holds.allowed kept.opened kept.moments before touches left_told x (let e = kept.holds.last_is in omega arith) kept.calls calls four
+      holds.allowed (leaves_are leaves) kept.lasts settled_are)
 
   pub committed : LeavesAppended d disk disk' mid.log (record_of mid.frame) → (touched : ℕ → Type 0) → TouchesOnly d disk disk' touched → d.calls disk' ≤ d.calls disk + 4 → 7 + put_size x.key x.value ≤ room_of old.log → counted_bytes old.trail.entries + old.trail.bytes_room + counted_change (kv_change x.key x.value) ≤ 536870912
       → r.table.0 ≡ kv → r.rows ≡ 1 → r.concurrent ≡ [] → r.unfinished ≡ None → r.stamp ≡ x.stamp → r.at ≡ length new.trail.entries
-      → IsUpserted d origin disk' old.trail.entries new x.key x.value r
+      → IsUpserted d origin (d.calls disk) disk' old.trail.entries new x.key x.value r
   committed leaves touched touches four room most =
       let more = ap logged_bytes entries_are ∙ logged-batch old.trail.entries (d.calls disk) (d.calls disk') x.stamp (kv_change x.key x.value) (key_of x.key ∷ []) in
       let counted = ap counted_bytes entries_are ∙ counted-batch old.trail.entries (d.calls disk) (d.calls disk') x.stamp (kv_change x.key x.value) (key_of x.key ∷ []) in
-      upserted d origin disk disk' old new x r kept put later calls entries_are spare_is written.opened holds_are logged_is (lasts_are leaves touched touches four)
+      upserted d origin disk disk' old new x r kept put later calls quiet entries_are spare_is written.opened (files_same mid.log new.log written.same_log (subst HasFiles (sym same_log) kept.files)) holds_are logged_is (lasts_are leaves touched touches four)
       (fits_log d origin disk old kept x.key x.value opened room origin.log refl new.trail.entries more) (omega arith)
 
 -- ---- a batch that was begun alone
 
 pub stopped : {D : Type 0} (d : Ghosts D) (origin : Origin) (disk : D) (old : Store) (new : List Entry) (x : Put) → IsKept d origin disk old → old.last < x.stamp
-    → new ≡ with_begun old.trail.entries (d.calls disk) x.stamp (kv_change x.key x.value ∷ []) → IsStopped origin.base old.trail.entries new x.key x.value
-stopped d origin disk old new x kept later is =
+    → new ≡ with_begun old.trail.entries (d.calls disk) x.stamp (kv_change x.key x.value ∷ []) → (to : ℕ) → d.calls disk ≤ to → IsStopped origin.base (d.calls disk) to old.trail.entries new x.key x.value x.stamp
+stopped d origin disk old new x kept later is to calls =
     let above : greatest kept.puts < x.stamp = (let e = kept.holds.last_is in omega arith) in
     record {
       grows = record { added = begun_entry session_seat (d.calls disk) kv_table x.stamp (key_of x.key) (what_of x.value) ∷ []; is = is };
-      begun = inr (d.calls disk, x.stamp, refl);
+      begun = inr (d.calls disk, refl);
+      moments = ((omega arith, calls), tt);
       legal = subst (λ (l : List Entry). IsLegal origin.base l) (sym is)
           (legal-begun origin.base old.trail.entries kept.puts kept.told x session_seat (d.calls disk) (d.calls disk) (d.calls disk) above kept.calls (omega arith) (omega arith));
     }
 
 pub stopped_lasts : {D : Type 0} (d : Ghosts D) (origin : Origin) (disk disk' : D) (old : Store) (new : List Entry) (x : Put) (r : LogRecord) (kept : IsKept d origin disk old) → LeftIsTold d → IsPut x → old.last < x.stamp → is_open old.log
     → r ≡ put_record (old.number + 1) x → LeavesAppended d disk disk' old.log r → (touched : ℕ → Type 0) → TouchesOnly d disk disk' touched → d.calls disk ≤ d.calls disk' → d.calls disk' ≤ d.calls disk + 4
-    → new ≡ with_begun old.trail.entries (d.calls disk) x.stamp (kv_change x.key x.value ∷ []) → IsTrue origin.rest → LastsLate d origin.base new disk'
-stopped_lasts d origin disk disk' old new x r kept left_told put later opened framed leaves touched touches calls four is rest =
+    → new ≡ with_begun old.trail.entries (d.calls disk) x.stamp (kv_change x.key x.value ∷ []) → LastsLate d origin.base origin.opened new disk'
+stopped_lasts d origin disk disk' old new x r kept left_told put later opened framed leaves touched touches calls four is =
     let size = size_at_first origin.log + logged_bytes old.trail.entries in
-    subst (λ (l : List Entry). LastsLate d origin.base l disk') (sym is)
-    (failed_lasts d origin.base old.trail.entries kept.puts size disk disk' old.log touched kept.told kept.holds.allowed kept.early kept.logged touches left_told x (let e = kept.holds.last_is in omega arith) kept.calls calls four
+    subst (λ (l : List Entry). LastsLate d origin.base origin.opened l disk') (sym is)
+    (failed_lasts d origin.base origin.opened old.trail.entries kept.puts size disk disk' old.log touched kept.told kept.holds.allowed kept.opened kept.moments kept.logged touches left_told x (let e = kept.holds.last_is in omega arith) kept.calls calls four
     (allowed_more kept.puts x kept.holds.allowed put)
-    (λ tells. leaves_more d disk disk' old.log kept.puts size x (old.number + 1) r opened (let e = kept.holds.number_is in omega arith) framed put (kept.logged tells) leaves) (kept.lasts rest))
+    (λ tells. leaves_more d disk disk' old.log kept.puts size x (old.number + 1) r opened (let e = kept.holds.number_is in omega arith) framed put (kept.logged tells) leaves) kept.lasts)
 
 -- ---- the same, for those who have the changes and the rows under other names
 

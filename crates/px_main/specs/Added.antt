@@ -1,5 +1,6 @@
 -- The entries of a batch of session 1.
-use Rattle.std.specs.Prelude.{◌≡◌, ◌⊎◌, ℕ, ◌∷◌, [], ◌++◌, List}
+use Rattle.std.specs.Prelude.{◌≡◌, ◌≤◌, ◌⊎◌, ℕ, ◌∷◌, [], ◌++◌, List}
+use Rattle.std.specs.List.{AllByRecursion}
 use Rattle.px_values.specs.declared.change.Change.{Change}
 use Rattle.px_values.specs.declared.name.TableId.{TableId}
 use Rattle.px_values.specs.declared.row.Value.{Value}
@@ -25,6 +26,10 @@ with_batch es begun_at ended_at stamp changes rows =
     ++ record { seat = session_seat; calls = ended_at; act = Wrote kv_table stamp rows } ∷ [])
     ++ record { seat = session_seat; calls = ended_at; act = Ended kv_table stamp } ∷ []
 
+-- each was added at one of these moments: the device calls finished before it are within these two counts
+abbrev pub AddedBetween : (from to : ℕ) → List Entry → Type 0
+AddedBetween from to added = AllByRecursion (λ e. (from ≤ e.calls) × (e.calls ≤ to)) added
+
 -- ---- what an UPSERT of this key and value adds
 
 -- a batch of this change alone: begun, written and ended
@@ -34,5 +39,5 @@ pub record AddsBatch (key value : List ℕ) (stamp : ℕ) (added : List Entry) :
   pub is : added ≡ with_batch [] begun_at ended_at stamp (kv_change key value ∷ []) (key_of key ∷ [])
 
 -- a batch of this change alone, begun and not written; or nothing
-abbrev pub AddsBegun : (key value : List ℕ) → List Entry → Type 0
-AddsBegun key value added = (added ≡ []) ⊎ ((calls stamp : ℕ) × (added ≡ with_begun [] calls stamp (kv_change key value ∷ [])))
+abbrev pub AddsBegun : (key value : List ℕ) (stamp : ℕ) → List Entry → Type 0
+AddsBegun key value stamp added = (added ≡ []) ⊎ ((calls : ℕ) × (added ≡ with_begun [] calls stamp (kv_change key value ∷ [])))

@@ -1,6 +1,5 @@
 -- What stays true of the store from statement to statement.
 use Rattle.std.specs.Prelude.{◌≡◌, ◌≤◌, ◌++◌, ◌∷◌, [], ℕ, List, length, IsTrue, IsSome, Option, Some, None, Ok, true, ◌+◌, sum_by}
-use Rattle.std.specs.List.{AllByRecursion}
 use Rattle.px_outside.specs.OnDisk.{Rose, Stays}
 use Rattle.px_outside.specs.declared.disk.Disk.{Ghosts}
 use Rattle.px_values.specs.declared.change.Change.{Change}
@@ -17,10 +16,10 @@ use Rattle.px_main.specs.declared.reply.Receipt.{Receipt}
 use Rattle.px_main.specs.declared.reply.Refusal.{Refusal}
 use Rattle.px_main.specs.declared.reply.Refusal.TheVariants.{WriteFault}
 use Rattle.px_main.specs.declared.store.Store.{Store}
-use Rattle.px_main.specs.Added.{AddsBatch, AddsBegun, session_seat, with_batch}
+use Rattle.px_main.specs.Added.{AddedBetween, AddsBatch, AddsBegun, session_seat, with_batch}
 use Rattle.px_main.specs.Batch.{kv_change}
 use Rattle.px_main.specs.Kv.{Tells, base_by, kv}
-use Rattle.px_main.specs.Logged.{IsReady, Logged, folder_of}
+use Rattle.px_main.specs.Logged.{HasFiles, IsReady, Logged, folder_of}
 use Rattle.px_main.specs.Origin.{FitsLog, FitsTrail, Origin, logged_bytes, size_at_first}
 use Rattle.px_main.specs.PutReader.{HoldsPuts}
 use Rattle.px_main.specs.Puts.{Put}
@@ -28,7 +27,7 @@ use Rattle.px_main.specs.Stops.{Lasts, LastsLate}
 
 -- ---- the store
 
--- the trail, the rows and the log tell the same puts
+-- The trail, the rows and the log tell the same puts. No call of the disk has failed.
 pub record IsKept {D : Type 0} (d : Ghosts D) (origin : Origin) (disk : D) (store : Store) : Type 0 where
   pub puts : List Put
   pub told : Tells origin.base store.trail.entries puts
@@ -36,10 +35,13 @@ pub record IsKept {D : Type 0} (d : Ghosts D) (origin : Origin) (disk : D) (stor
   pub calls : calls_of store.trail.entries ≤ d.calls disk
   pub spare : store.trail.bytes_room ≡ 0
   pub ready : IsReady store.log
+  pub files : HasFiles store.log
   pub logged : IsTrue d.tells → Logged d disk store.log puts (size_at_first origin.log + logged_bytes store.trail.entries)
   pub sized : IsSome origin.log → IsTrue d.tells
-  pub early : AllByRecursion (λ e. e.calls ≤ d.calls disk) store.trail.entries
-  pub lasts : IsTrue origin.rest → Lasts d origin.base store.trail.entries disk
+  pub unfailed : d.faults disk ≡ 0
+  pub opened : origin.opened ≤ d.calls disk
+  pub moments : AddedBetween origin.opened (d.calls disk) store.trail.entries
+  pub lasts : Lasts d origin.base origin.opened store.trail.entries disk
 
 -- ---- a batch
 
@@ -65,17 +67,20 @@ pub record Grows (old new : List Entry) : Type 0 where
 
 -- ---- what an UPSERT leaves
 
--- a write failed, before the batch was begun or after
-pub record IsStopped (base : Base) (old new : List Entry) (key value : List ℕ) : Type 0 where
+-- A write failed, before the batch of this stamp was begun or after. It was begun at a moment within these two.
+pub record IsStopped (base : Base) (from to : ℕ) (old new : List Entry) (key value : List ℕ) (stamp : ℕ) : Type 0 where
   pub grows : Grows old new
-  pub begun : AddsBegun key value grows.added
+  pub begun : AddsBegun key value stamp grows.added
+  pub moments : AddedBetween from to grows.added
   pub legal : IsLegal base new
 
--- the batch is there, and all goes on
-pub record IsUpserted {D : Type 0} (d : Ghosts D) (origin : Origin) (disk : D) (old : List Entry) (store : Store) (key value : List ℕ) (r : Receipt) : Type 0 where
+-- The batch is there, and all goes on. It was begun at a moment from the one up to now, and has ended now.
+pub record IsUpserted {D : Type 0} (d : Ghosts D) (origin : Origin) (from : ℕ) (disk : D) (old : List Entry) (store : Store) (key value : List ℕ) (r : Receipt) : Type 0 where
   pub kept : IsKept d origin disk store
   pub grows : Grows old store.trail.entries
   pub batch : AddsBatch key value r.stamp grows.added
+  pub moments : AddedBetween from (d.calls disk) grows.added
+  pub now : batch.ended_at ≡ d.calls disk
   pub fits_log : FitsLog origin.log store.trail.entries
   pub fits_trail : FitsTrail store.trail.entries
   pub receipt : IsReceipt store.trail.entries key value r
@@ -103,10 +108,10 @@ pub record IsRefused {D : Type 0} (d : Ghosts D) (origin : Origin) (disk : D) (o
   pub same : store.trail.entries ≡ old
 
 -- After a failed write the batch is begun, or not yet, and no more. After another refusal all goes on as it was.
-abbrev pub AfterRefusal : {D : Type 0} → Ghosts D → Origin → D → D → List Entry → Store → (key value : List ℕ) → Refusal → Type 0
-AfterRefusal d origin disk disk' old store key value WriteFault =
-    Rose d disk disk' × IsStopped origin.base old store.trail.entries key value × (IsTrue origin.rest → LastsLate d origin.base store.trail.entries disk')
-AfterRefusal d origin disk disk' old store key value refusal = IsRefused d origin disk' old store
+abbrev pub AfterRefusal : {D : Type 0} → Ghosts D → Origin → D → D → List Entry → Store → (key value : List ℕ) (stamp : ℕ) → Refusal → Type 0
+AfterRefusal d origin disk disk' old store key value stamp WriteFault =
+    Rose d disk disk' × IsStopped origin.base (d.calls disk) (d.calls disk') old store.trail.entries key value stamp × LastsLate d origin.base origin.opened store.trail.entries disk'
+AfterRefusal d origin disk disk' old store key value stamp refusal = IsRefused d origin disk' old store
 
 -- ---- an opening
 
@@ -118,7 +123,10 @@ pub record IsOpened {D : Type 0} (d : Ghosts D) (old new : D) (store : Store) : 
   pub holds : HoldsPuts store.rows store.last store.number puts
   pub spare : store.trail.bytes_room ≡ 0
   pub ready : IsReady store.log
+  pub files : HasFiles store.log
   pub stood : IsTrue d.tells → folder_of (d.seen old) ≡ Ok (record { base = base_by puts; log = size_at_first log })
   pub logged : IsTrue d.tells → Logged d new store.log puts (size_at_first log)
   pub sized : IsSome log → IsTrue d.tells
   pub quiet : Stays d old new
+  pub sees : d.seen new ≡ d.seen old
+  pub unfailed : d.faults new ≡ d.faults old

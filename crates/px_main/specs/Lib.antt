@@ -13,10 +13,12 @@ pub mod Puts
 pub mod Ran
 pub mod Refusals
 pub mod Replied
+pub mod Rounds
 pub mod Run
 pub mod Script
 pub mod Session
 pub mod StampedRow
+pub mod Stamps
 pub mod Statement
 pub mod Stops
 pub mod Table

@@ -63,6 +63,11 @@ HasPuts puts log image = (segments : List SegmentRead) × StandsFor kv_form log 
 abbrev pub LeavesAppended : {D : Type 0} → Ghosts D → D → D → GateLog → LogRecord → Type 0
 LeavesAppended d disk disk' log r = Commits d log disk disk' (IsAppend r)
 
--- of any file
-abbrev pub any_file : ℕ → Type 0
-any_file file = Unit {0}
+-- the files that a run writes: those of region 1's log
+abbrev pub is_log_file : ℕ → Type 0
+is_log_file file = (file ≡ first_file) ⊎ (file ≡ second_file)
+
+-- the log's files are those of region 1
+pub record HasFiles (log : GateLog) : Type 0 where
+  pub first : log.first ≡ first_file
+  pub second : log.second ≡ second_file

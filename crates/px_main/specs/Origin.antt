@@ -1,5 +1,5 @@
 -- What a run goes on from, and which changes its log and its trail have room for.
-use Rattle.std.specs.Prelude.{◌<◌, ◌≤◌, ◌+◌, [], ◌∷◌, ℕ, Bool, List, Option, None, Some, sum_by}
+use Rattle.std.specs.Prelude.{◌<◌, ◌≤◌, ◌+◌, [], ◌∷◌, ℕ, List, Option, None, Some, sum_by}
 use Rattle.px_values.specs.declared.row.Value.{Value}
 use Rattle.px_values.specs.declared.row.Value.TheVariants.{Null, Number, Truth, Text}
 use Rattle.px_values.specs.declared.change.Change.{Change}
@@ -20,12 +20,12 @@ pub record Folder : Type 0 where
   pub base : Base
   pub log : ℕ
 
--- What stands before the first entry of the trail, the bytes of the log then, where the disk tells, and whether it is
--- taken that all of the disk's files were on it then.
+-- What stands before the first entry of the trail, the bytes of the log then, where the disk tells, and the calls of the
+-- disk by then.
 pub record Origin : Type 0 where
   pub base : Base
   pub log : Option ℕ
-  pub rest : Bool
+  pub opened : ℕ
 
 -- ---- the bytes of records
 

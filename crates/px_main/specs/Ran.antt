@@ -1,7 +1,7 @@
 -- What an answered statement leaves.
-use Rattle.std.specs.Prelude.{◌≡◌, ◌≢◌, List, length, IsTrue}
+use Rattle.std.specs.Prelude.{◌≡◌, ◌≢◌, ℕ, List, length}
 use Rattle.px_outside.specs.declared.disk.Disk.{Ghosts}
-use Rattle.px_outside.specs.OnDisk.{Rose}
+use Rattle.px_outside.specs.OnDisk.{Rose, TouchesOnly}
 use Rattle.px_lex.specs.Script.{SeenPiece}
 use Rattle.px_trail.specs.Trail.{IsLegal}
 use Rattle.px_trail.specs.declared.entry.Entry.{Entry}
@@ -12,29 +12,41 @@ use Rattle.px_main.specs.declared.reply.Reply.TheVariants.{Refused}
 use Rattle.px_main.specs.declared.session.Answer.{Answer}
 use Rattle.px_main.specs.declared.store.Store.{Store}
 use Rattle.px_main.specs.declared.reply.Item.{Item}
+use Rattle.px_main.specs.Added.{AddedBetween}
 use Rattle.px_main.specs.Kept.{Grows, IsKept}
+use Rattle.px_main.specs.Logged.{is_log_file}
 use Rattle.px_main.specs.Origin.{Origin}
 use Rattle.px_main.specs.Replied.{IsReplied}
+use Rattle.px_main.specs.Stamps.{AreStamped}
 use Rattle.px_main.specs.Stops.{LastsLate}
 
+-- What a statement adds to the trail while the clock tells this number: entries of moments from its beginning up to its
+-- end, with its stamp by the clock. Of the disk's files it calls those of the log alone.
+pub record Moves {D : Type 0} (d : Ghosts D) (origin : Origin) (disk disk' : D) (now : ℕ) (old added : List Entry) : Type 0 where
+  pub touches : TouchesOnly d disk disk' is_log_file
+  pub moments : AddedBetween (d.calls disk) (d.calls disk') added
+  pub stamped : AreStamped (λ _. now) origin.base old 0 1 added
+
 -- The trail has grown and is legal, and the answer is right by it. After a failed write the disk's count of faults has
--- risen. Else all goes on.
-pub record Answered {D : Type 0} (d : Ghosts D) (origin : Origin) (disk disk' : D) (old : List Entry) (store : Store) (a : Answer) (Right : (es added : List Entry) → Reply → List Receipt → Type 0) : Type 0 where
+-- risen. Else all goes on, and no call of the disk has failed.
+pub record Answered {D : Type 0} (d : Ghosts D) (origin : Origin) (disk disk' : D) (now : ℕ) (old : List Entry) (store : Store) (a : Answer) (Right : (es added : List Entry) → Reply → List Receipt → (places : List ℕ) → Type 0) : Type 0 where
   pub grows : Grows old store.trail.entries
   pub legal : IsLegal origin.base store.trail.entries
-  pub right : Right store.trail.entries grows.added a.reply a.receipts
+  pub right : Right store.trail.entries grows.added a.reply a.receipts a.places
+  pub moves : Moves d origin disk disk' now old grows.added
   pub goes_on : a.reply ≢ Refused WriteFault → IsKept d origin disk' store
   pub failed : a.reply ≡ Refused WriteFault → Rose d disk disk'
-  pub lasts : IsTrue origin.rest → LastsLate d origin.base store.trail.entries disk'
+  pub lasts : LastsLate d origin.base origin.opened store.trail.entries disk'
 
 -- The trail has grown and is legal, and the item answers the piece. After a failed write the disk's count of faults has
--- risen. Else all goes on.
-pub record HasRun {D : Type 0} (d : Ghosts D) (origin : Origin) (disk disk' : D) (old : List Entry) (store : Store) (piece : SeenPiece) (item : Item) : Type 0 where
+-- risen. Else all goes on, and no call of the disk has failed.
+pub record HasRun {D : Type 0} (d : Ghosts D) (origin : Origin) (disk disk' : D) (now : ℕ) (old : List Entry) (store : Store) (piece : SeenPiece) (item : Item) : Type 0 where
   pub grows : Grows old store.trail.entries
   pub legal : IsLegal origin.base store.trail.entries
   pub first : item.evidence.first ≡ length old
   pub last : item.evidence.last ≡ length store.trail.entries
   pub replied : IsReplied origin store.trail.entries piece item
+  pub moves : Moves d origin disk disk' now old grows.added
   pub goes_on : item.reply ≢ Refused WriteFault → IsKept d origin disk' store
   pub failed : item.reply ≡ Refused WriteFault → Rose d disk disk'
-  pub lasts : IsTrue origin.rest → LastsLate d origin.base store.trail.entries disk'
+  pub lasts : LastsLate d origin.base origin.opened store.trail.entries disk'

@@ -1,13 +1,16 @@
 -- What a run of the program leaves.
-use Rattle.std.specs.Prelude.{◌≡◌, ◌≢◌, ◌<◌, ◌⊎◌, ◌++◌, ◌∷◌, [], ℕ, Bool, true, false, ◌||◌, ◌+◌, if◌then◌else◌, List, length, take, drop, IsTrue, IsSome, None, Ok}
-use Rattle.std.specs.List.{list_any}
+use Rattle.std.specs.Prelude.{◌≡◌, ◌≢◌, ◌<◌, ◌≤◌, ◌⊎◌, ◌+◌, ◌++◌, ◌∷◌, [], ℕ, Bool, true, false, ◌||◌, if◌then◌else◌, List, length, take, drop, replicate, IsTrue, IsSome, None, Ok}
+use Rattle.std.specs.List.{AllByRecursion, list_any}
+use Rattle.px_outside.specs.Disk.{Image}
 use Rattle.px_outside.specs.Faults.{FaultsRose}
-use Rattle.px_outside.specs.OnDisk.{Rose, Stays}
+use Rattle.px_outside.specs.OnDisk.{IsLeft, Rose, Stays, TouchesOnly}
+use Rattle.px_outside.specs.declared.clock.Clock.{Ghosts as ClockGhosts}
 use Rattle.px_outside.specs.declared.disk.Disk.{Ghosts as DiskGhosts}
 use Rattle.px_outside.specs.declared.sink.Sink.{Ghosts as SinkGhosts}
 use Rattle.px_outside.specs.declared.source.Source.{Ghosts as SourceGhosts}
 use Rattle.px_gatelog.specs.declared.fault.StartFault.{StartFault}
 use Rattle.px_gatelog.specs.declared.fault.StartFault.TheVariants.{ReadFault as ReadFaultOfLog, WriteFault as WriteFaultOfLog, Damaged as DamagedLog, Memory as MemoryOfLog}
+use Rattle.px_lex.specs.Script.{IsScript, Section, SeenPiece, pieces_from}
 use Rattle.px_trail.specs.One.{AllEnded}
 use Rattle.px_trail.specs.Trail.{IsLegal}
 use Rattle.px_trail.specs.declared.entry.Entry.{Entry}
@@ -17,17 +20,20 @@ use Rattle.px_main.specs.declared.reply.Refusal.TheVariants.{Syntax, LeftOut, Fo
 use Rattle.px_main.specs.declared.reply.Reply.{Reply}
 use Rattle.px_main.specs.declared.reply.Reply.TheVariants.{Rows, Count, Refused as RefusedReply}
 use Rattle.px_main.specs.declared.reply.Transcript.{Transcript}
+use Rattle.px_main.specs.declared.run.Outcome.{Outcome}
 use Rattle.px_main.specs.declared.run.Status.{Status}
 use Rattle.px_main.specs.declared.run.Status.TheVariants.{Done, Refused, BadWords, Device, Memory, Damaged, SourceFault, SinkFault}
-use Rattle.px_main.specs.declared.session.Ending.{Ending}
-use Rattle.px_main.specs.declared.session.Ending.TheVariants.{Whole, WriteFault, Memory as MemoryEnding}
+use Rattle.px_main.specs.declared.session.Ending.TheVariants.{Whole, Memory as MemoryEnding}
 use Rattle.px_main.specs.Kv.{Tells, base_by, kv}
-use Rattle.px_main.specs.Logged.{IsDamaged, folder_of}
+use Rattle.px_main.specs.Logged.{IsDamaged, folder_of, is_log_file}
 use Rattle.px_main.specs.Origin.{Origin, folder_at, logged_bytes, size_at_first}
 use Rattle.px_main.specs.Printed.{printed}
 use Rattle.px_main.specs.Puts.{Put}
-use Rattle.px_main.specs.Session.{AnswersScript}
-use Rattle.px_main.specs.Stops.{LastsLate, NothingPending}
+use Rattle.px_main.specs.Rounds.{AreRounds, SessionAnswers, items_of, some_lacked_room, some_stopped, transcripts_of}
+use Rattle.px_main.specs.Script.{IsReadable, StopsScript}
+use Rattle.px_main.specs.Session.{FailedIn, stopped}
+use Rattle.px_main.specs.Stamps.{AreStamped}
+use Rattle.px_main.specs.Stops.{LastsLate}
 use Rattle.px_main.specs.Words.{folder_in}
 
 -- ---- the status
@@ -70,33 +76,37 @@ some_was_refused items = list_any (λ i. was_refused i.reply) items
 abbrev pub quiet_status : (lacked refused : Bool) → Status
 quiet_status lacked refused = if lacked then Memory else (if refused then Refused else Done)
 
--- without a fault of the sink: a failed write ended the session at this call of the disk, or not
-abbrev pub unsunk_status : Ending → (call : ℕ) → (lacked refused : Bool) → Status
-unsunk_status Whole call lacked refused = quiet_status lacked refused
-unsunk_status WriteFault call lacked refused = Device call
-unsunk_status MemoryEnding call lacked refused = Memory
+-- without a fault of the sink
+abbrev pub unsunk_status : (stopped : Bool) → (call : ℕ) → (lacked refused : Bool) → Status
+unsunk_status true call lacked refused = Device call
+unsunk_status false call lacked refused = quiet_status lacked refused
 
--- The status of a run by its causes: whether the sink failed, how the session ended, the last call of the disk, whether
--- memory was lacked, and whether a statement was refused. Of the causes that stand, the first here names it.
-abbrev pub status_of : (sink_failed : Bool) → Ending → (call : ℕ) → (lacked refused : Bool) → Status
-status_of true ending call lacked refused = SinkFault
-status_of false ending call lacked refused = unsunk_status ending call lacked refused
+-- The status by its causes: the sink failed; a failed write stopped a session, and this call of the disk was the first
+-- that failed; memory was lacked; a statement was refused. Of the causes that stand, the first here names it.
+abbrev pub status_of : (sink_failed stopped : Bool) → (call : ℕ) → (lacked refused : Bool) → Status
+status_of true stopped call lacked refused = SinkFault
+status_of false stopped call lacked refused = unsunk_status stopped call lacked refused
 
-abbrev pub ended_by_memory : Ending → Bool
-ended_by_memory Whole = false
-ended_by_memory WriteFault = false
-ended_by_memory MemoryEnding = true
+-- the exit status
+abbrev pub exit_code : Status → ℕ
+exit_code Done = 0
+exit_code Refused = 1
+exit_code BadWords = 2
+exit_code (Device call) = 3
+exit_code Memory = 4
+exit_code (Damaged file place) = 5
+exit_code SourceFault = 6
+exit_code SinkFault = 7
 
--- ---- what was printed
-
--- All of the replies were written; or the sink failed, and a part at their front was written; or no memory was found to
--- print them, and nothing was written.
-abbrev pub IsWritten : {O : Type 0} → SinkGhosts O → O → O → List ℕ → (sink_failed print_failed : Bool) → Type 0
-IsWritten {O} k out out' text true print_failed = FaultsRose (k.faults out) (k.faults out') × (IsTrue k.tells → (n : ℕ) × (n < length text) × (k.held out' ≡ k.held out ++ take n text))
-IsWritten {O} k out out' text false true = out' ≡ out
-IsWritten {O} k out out' text false false = IsTrue k.tells → k.held out' ≡ k.held out ++ text
-
--- ---- completeness
+abbrev pub is_memory_status : Status → Bool
+is_memory_status Done = false
+is_memory_status Refused = false
+is_memory_status BadWords = false
+is_memory_status (Device call) = false
+is_memory_status Memory = true
+is_memory_status (Damaged file place) = false
+is_memory_status SourceFault = false
+is_memory_status SinkFault = false
 
 -- the statuses that come without a fault of the disk or the sink
 abbrev pub IsQuietStatus : Status → Type 0
@@ -109,37 +119,118 @@ IsQuietStatus (Damaged file place) = ⊥
 IsQuietStatus SourceFault = ⊥
 IsQuietStatus SinkFault = ⊥
 
--- Where no call of the disk failed, the session came to its end, unless memory ran out outside a statement. Where the
--- sink didn't fail either, the status is Done, Refused or Memory. Done comes only where the session came to its end.
-pub record IsComplete {D O : Type 0} (d : DiskGhosts D) (k : SinkGhosts O) (disk disk' : D) (out out' : O) (ending : Ending) (memory : Bool) (status : Status) : Type 0 where
-  pub answered : ¬ Rose d disk disk' → memory ≡ false → ending ≡ Whole
-  pub quiet : ¬ Rose d disk disk' → ¬ FaultsRose (k.faults out) (k.faults out') → IsQuietStatus status
-  pub done : status ≡ Done → ending ≡ Whole
+-- ---- what a run is given and leaves
 
--- ---- a run
+pub record RunGiven (D C I O : Type 0) : Type 0 where
+  pub disk : D
+  pub clock : C
+  pub input : I
+  pub out : O
+  pub words : List (List ℕ)
 
--- session 1 in the first round
-abbrev pub only_transcript : List Item → List Transcript
-only_transcript items = record { session = 1; round = 1; items = items } ∷ []
+pub record RunLeft (D I O : Type 0) : Type 0 where
+  pub outcome : Outcome D
+  pub input : I
+  pub out : O
 
--- What a script leaves, run on a folder that was opened: the trail, the replies, the bytes, the status and the folder.
-pub record IsRun {D O : Type 0} (d : DiskGhosts D) (k : SinkGhosts O) (origin : Origin) (script : List ℕ) (disk disk' : D) (out out' : O) (es : List Entry) (transcripts : List Transcript) (memory : Bool) (status : Status) : Type 0 where
-  pub items : List Item
-  pub ending : Ending
+abbrev pub run_given : {D C I O : Type 0} → D → C → I → O → List (List ℕ) → RunGiven D C I O
+run_given disk clock input out words = record { disk = disk; clock = clock; input = input; out = out; words = words }
+
+abbrev pub run_left : {D I O : Type 0} → Outcome D → I → O → RunLeft D I O
+run_left outcome input out = record { outcome = outcome; input = input; out = out }
+
+-- what an outcome tells beside its disk
+pub record RunTold : Type 0 where
+  pub entries : List Entry
+  pub transcripts : List Transcript
+  pub memory : Bool
+  pub status : Status
+
+abbrev pub run_told : List Entry → List Transcript → Bool → Status → RunTold
+run_told entries transcripts memory status = record { entries = entries; transcripts = transcripts; memory = memory; status = status }
+
+abbrev pub outcome_told : {D : Type 0} → Outcome D → RunTold
+outcome_told outcome = run_told outcome.trail.entries outcome.transcripts outcome.memory outcome.status
+
+-- ---- the replies
+
+-- The bytes that the sink took are the first of the text: all of them, but where the sink failed, or no memory was found
+-- to print them. Where it failed they are fewer than all.
+pub record IsPart {O : Type 0} (k : SinkGhosts O) (out out' : O) (text : List ℕ) (sink_failed print_failed : Bool) : Type 0 where
+  pub n : ℕ
+  pub within : n ≤ length text
+  pub held : k.held out' ≡ k.held out ++ take n text
+  pub all : sink_failed ≡ false → print_failed ≡ false → n ≡ length text
+  pub part : sink_failed ≡ true → n < length text
+
+-- The sink is told to have failed where its count of faults rose, and else it stayed.
+pub record IsWritten {O : Type 0} (k : SinkGhosts O) (out out' : O) (text : List ℕ) (sink_failed print_failed : Bool) : Type 0 where
+  pub bytes : IsTrue k.tells → IsPart k out out' text sink_failed print_failed
+  pub failed : sink_failed ≡ true → FaultsRose (k.faults out) (k.faults out') × (print_failed ≡ false)
+  pub unfailed : sink_failed ≡ false → k.faults out' ≡ k.faults out
+
+-- The rounds of a script of so many sessions, and the pieces of each session in them. One that is run has one round of
+-- one session, with all of its text.
+abbrev pub IsDivided : (count : ℕ) → (script : List ℕ) → (rounds : List (List (List SeenPiece))) → Type 0
+IsDivided count script rounds = (count ≡ 1) × ((xs : List Section) × IsScript script xs × (rounds ≡ (pieces_from 0 xs ∷ []) ∷ []))
+
+-- The right answers to a script that is run, round by round: to all rounds, but where the run was cut off.
+pub record AnswersRounds (origin : Origin) (es : List Entry) (script : List ℕ) (answers : List (List SessionAnswers)) (cut_off : Bool) : Type 0 where
+  pub readable : IsReadable script
+  pub count : ℕ
+  pub rounds : List (List (List SeenPiece))
+  pub divided : IsDivided count script rounds
+  pub passed : List (List (List SeenPiece))
+  pub rest : List (List (List SeenPiece))
+  pub rounds_are : passed ++ rest ≡ rounds
+  pub replied : AreRounds origin es 0 (length es) (replicate count false) passed answers
+  pub all_are_run : cut_off ≡ false → rest ≡ []
+
+-- Nothing of the script is run, and session 1 is told why, unless no memory was found to keep that.
+pub record AnswersNothing (es : List Entry) (script : List ℕ) (answers : List (List SessionAnswers)) : Type 0 where
+  pub refusal : Refusal
+  pub why : StopsScript script refusal
+  pub no_entries : es ≡ []
+  pub told : (answers ≡ (record { items = stopped script 0 refusal ∷ []; ending = Whole } ∷ []) ∷ []) ⊎ (answers ≡ (record { items = []; ending = MemoryEnding } ∷ []) ∷ [])
+
+-- the right answers to a script
+abbrev pub AnswersScript : Origin → List Entry → (script : List ℕ) → List (List SessionAnswers) → (cut_off : Bool) → Type 0
+AnswersScript origin es script answers cut_off = AnswersRounds origin es script answers cut_off ⊎ AnswersNothing es script answers
+
+-- What a script leaves that was run on an open folder, but for the disk: the trail, the replies, the bytes, the status.
+pub record IsAnswered {C O : Type 0} (c : ClockGhosts C) (k : SinkGhosts O) (origin : Origin) (script : List ℕ) (clock : C) (out out' : O) (answers : List (List SessionAnswers)) (call : ℕ) (t : RunTold) : Type 0 where
   pub sink_failed : Bool
   pub print_failed : Bool
-  pub call : ℕ
-  pub trail_is_legal : IsLegal origin.base es
-  pub items_are_replied : AnswersScript origin es script 0 items ending
-  pub all_is_ended : ending ≢ WriteFault → AllEnded es kv
-  pub transcript_is_theirs : transcripts ≡ only_transcript items
-  pub bytes_are_printed : IsWritten k out out' (printed transcripts) sink_failed print_failed
-  pub status_is_caused : status ≡ status_of sink_failed ending call (memory || some_lacked_memory items) (some_was_refused items)
-  pub device_failed : ending ≡ WriteFault → Rose d disk disk' × (call ≡ d.first_fault disk')
-  pub run_is_complete : IsComplete d k disk disk' out out' ending memory status
-  pub lasts : IsTrue origin.rest → LastsLate d origin.base es disk'
-  pub memory_is : memory ≡ (print_failed || ended_by_memory ending)
-  pub folder_stands : ending ≢ WriteFault → IsTrue d.tells → (puts : List Put) × Tells origin.base es puts × (folder_of (d.seen disk') ≡ Ok (record { base = base_by puts; log = size_at_first origin.log + logged_bytes es }))
+  pub trail_is_legal : IsLegal origin.base t.entries
+  pub stamps_are_by_the_clock : IsTrue c.tells → (n : ℕ) × AreStamped (c.times clock) origin.base [] 0 n t.entries
+  pub items_are_replied : AnswersScript origin t.entries script answers (sink_failed || t.memory)
+  pub all_is_ended : some_stopped answers ≡ false → AllEnded t.entries kv
+  pub transcripts_are_theirs : t.transcripts ≡ transcripts_of 1 answers
+  pub bytes_are_printed : IsWritten k out out' (printed t.transcripts) sink_failed print_failed
+  pub memory_is : t.memory ≡ (print_failed || some_lacked_room answers)
+  pub status_is_caused : t.status ≡ status_of sink_failed (some_stopped answers) call (t.memory || some_lacked_memory (items_of answers)) (some_was_refused (items_of answers))
+
+-- ---- the folder
+
+-- Where no call of the disk failed, no session was stopped, and each came to its end, unless memory ran out outside a
+-- statement. Where the sink didn't fail either, the status is Done, Refused or Memory. Done comes only where each session
+-- came to its end.
+pub record IsComplete {D O : Type 0} (d : DiskGhosts D) (k : SinkGhosts O) (disk disk' : D) (out out' : O) (answers : List (List SessionAnswers)) (memory : Bool) (status : Status) : Type 0 where
+  pub answered : ¬ Rose d disk disk' → (some_stopped answers ≡ false) × (memory ≡ false → some_lacked_room answers ≡ false)
+  pub quiet : ¬ Rose d disk disk' → ¬ FaultsRose (k.faults out) (k.faults out') → IsQuietStatus status
+  pub done : status ≡ Done → (some_stopped answers ≡ false) × (some_lacked_room answers ≡ false)
+
+-- What a run leaves of the folder. The statement that was told of a failed write is the one in which a call failed, and
+-- where none was told so no call failed. From the opening's end on each image that a stop may leave stands for what was
+-- there at its moment, and before it the images are those of the beginning.
+pub record KeepsFolder {D O : Type 0} (d : DiskGhosts D) (k : SinkGhosts O) (origin : Origin) (disk disk' : D) (out out' : O) (answers : List (List SessionAnswers)) (call : ℕ) (t : RunTold) : Type 0 where
+  pub faults_are_theirs : AllByRecursion (λ i. i.reply ≡ RefusedReply WriteFaultRefusal → FailedIn d disk' t.entries i) (items_of answers)
+  pub device_failed : some_stopped answers ≡ true → Rose d disk disk' × (call ≡ d.first_fault disk')
+  pub unfailed : some_stopped answers ≡ false → d.faults disk' ≡ 0
+  pub run_is_complete : IsComplete d k disk disk' out out' answers t.memory t.status
+  pub stops_recover : LastsLate d origin.base origin.opened t.entries disk'
+  pub folder_stands : some_stopped answers ≡ false → IsTrue d.tells
+      → (puts : List Put) × Tells origin.base t.entries puts × (folder_of (d.seen disk') ≡ Ok (record { base = base_by puts; log = size_at_first origin.log + logged_bytes t.entries }))
 
 -- ---- a run that opened no folder
 
@@ -149,8 +240,8 @@ StopsDisk d disk disk' Done = ⊥
 StopsDisk d disk disk' Refused = ⊥
 StopsDisk d disk disk' BadWords = ⊥
 StopsDisk d disk disk' (Device call) = Rose d disk disk' × (call ≡ d.first_fault disk')
-StopsDisk d disk disk' Memory = Unit {0}
-StopsDisk d disk disk' (Damaged file place) = IsTrue d.tells → IsDamaged (d.seen disk) file place
+StopsDisk d disk disk' Memory = d.faults disk' ≡ d.faults disk
+StopsDisk d disk disk' (Damaged file place) = (d.faults disk' ≡ d.faults disk) × (IsTrue d.tells → IsDamaged (d.seen disk) file place)
 StopsDisk d disk disk' SourceFault = ⊥
 StopsDisk d disk disk' SinkFault = ⊥
 
@@ -161,34 +252,43 @@ stopped_by WriteFaultOfLog call = Device call
 stopped_by (DamagedLog file place) call = Damaged file place
 stopped_by MemoryOfLog call = Memory
 
--- nothing was run, and nothing was written; a stop leaves nothing new
-pub record IsUnopened {D O : Type 0} (d : DiskGhosts D) (disk disk' : D) (out out' : O) (es : List Entry) (transcripts : List Transcript) (status : Status) : Type 0 where
-  pub cause : StopsDisk d disk disk' status
+-- Nothing was run and nothing written: reads give what they gave, a stop leaves nothing new, and nothing is told but the
+-- status.
+pub record LeavesAll {D O : Type 0} (d : DiskGhosts D) (disk disk' : D) (out out' : O) (t : RunTold) : Type 0 where
   pub quiet : Stays d disk disk'
-  pub no_entries : es ≡ []
-  pub no_replies : transcripts ≡ []
+  pub sees : d.seen disk' ≡ d.seen disk
+  pub no_entries : t.entries ≡ []
+  pub no_replies : t.transcripts ≡ []
   pub no_bytes : out' ≡ out
+  pub memory_is : t.memory ≡ is_memory_status t.status
 
--- A folder was opened and a script run on what it stands for, or nothing was run.
-abbrev pub IsOpenedRun : {D O : Type 0} → DiskGhosts D → SinkGhosts O → (script : List ℕ) → D → D → O → O → List Entry → List Transcript → Bool → Status → Type 0
-IsOpenedRun d k script disk disk' out out' es transcripts memory status =
-    IsUnopened d disk disk' out out' es transcripts status
-    ⊎ ((origin : Origin) × (IsTrue d.tells → folder_of (d.seen disk) ≡ Ok (folder_at origin)) × (IsSome origin.log → IsTrue d.tells)
-    × IsRun d k origin script disk disk' out out' es transcripts memory status × (NothingPending d disk → LastsLate d origin.base es disk'))
+-- A folder was opened: what it stood for, and what the opening left of it. It took six calls at most.
+pub record IsOpen {D : Type 0} (d : DiskGhosts D) (origin : Origin) (disk disk' : D) : Type 0 where
+  pub origin_is_the_folder : IsTrue d.tells → folder_of (d.seen disk) ≡ Ok (folder_at origin)
+  pub log_is_told : IsSome origin.log → IsTrue d.tells
+  pub soon : origin.opened ≤ d.calls disk + 6
+  pub before_it : (moment : ℕ) (image : Image) → moment < origin.opened → IsLeft d disk' moment image → IsLeft d disk (d.calls disk) image
 
--- why nothing was run
-abbrev pub Stops : {D I : Type 0} → DiskGhosts D → SourceGhosts I → D → D → I → I → (words : List (List ℕ)) → Status → Type 0
-Stops d s disk disk' input input' words BadWords = (folder_in words ≡ None) × (disk' ≡ disk) × (input' ≡ input)
-Stops d s disk disk' input input' words SourceFault = (folder_in words ≢ None) × FaultsRose (s.faults input) (s.faults input') × (disk' ≡ disk)
-Stops d s disk disk' input input' words status = (folder_in words ≢ None) × StopsDisk d disk disk' status
+-- a script was run on an open folder
+pub record IsOpenedRun {D C O : Type 0} (d : DiskGhosts D) (c : ClockGhosts C) (k : SinkGhosts O) (script : List ℕ) (disk disk' : D) (clock : C) (out out' : O) (t : RunTold) : Type 0 where
+  pub origin : Origin
+  pub answers : List (List SessionAnswers)
+  pub call : ℕ
+  pub open_ : IsOpen d origin disk disk'
+  pub answered : IsAnswered c k origin script clock out out' answers call t
+  pub keeps : KeepsFolder d k origin disk disk' out out' answers call t
 
--- nothing was run, and nothing was written; a stop leaves nothing new
-pub record IsUnrun {D I O : Type 0} (d : DiskGhosts D) (s : SourceGhosts I) (disk disk' : D) (input input' : I) (out out' : O) (words : List (List ℕ)) (es : List Entry) (transcripts : List Transcript) (status : Status) : Type 0 where
-  pub cause : Stops d s disk disk' input input' words status
-  pub quiet : Stays d disk disk'
-  pub no_entries : es ≡ []
-  pub no_replies : transcripts ≡ []
-  pub no_bytes : out' ≡ out
+-- what a script leaves that is run on an open folder
+pub record RunsOn {D C O : Type 0} (d : DiskGhosts D) (c : ClockGhosts C) (k : SinkGhosts O) (origin : Origin) (script : List ℕ) (disk disk' : D) (clock : C) (out out' : O) (t : RunTold) : Type 0 where
+  pub answers : List (List SessionAnswers)
+  pub call : ℕ
+  pub answered : IsAnswered c k origin script clock out out' answers call t
+  pub keeps : KeepsFolder d k origin disk disk' out out' answers call t
+  pub touches : TouchesOnly d disk disk' is_log_file
+
+-- a folder was opened and a script run on what it stands for, or nothing was run
+abbrev pub OpensOrNot : {D C O : Type 0} → DiskGhosts D → ClockGhosts C → SinkGhosts O → (script : List ℕ) → D → D → C → O → O → RunTold → Type 0
+OpensOrNot d c k script disk disk' clock out out' t = (StopsDisk d disk disk' t.status × LeavesAll d disk disk' out out' t) ⊎ IsOpenedRun d c k script disk disk' clock out out' t
 
 -- ---- the program
 
@@ -196,13 +296,34 @@ pub record IsUnrun {D I O : Type 0} (d : DiskGhosts D) (s : SourceGhosts I) (dis
 abbrev pub most_read : ℕ
 most_read = 67108865
 
--- The words name a folder, the input was read, and its script was run on what the folder stands for.
-pub record IsWhole {D I O : Type 0} (d : DiskGhosts D) (s : SourceGhosts I) (k : SinkGhosts O) (disk disk' : D) (input input' : I) (out out' : O) (words : List (List ℕ)) (es : List Entry) (transcripts : List Transcript) (memory : Bool) (status : Status) : Type 0 where
+-- the input was read to its end, or to one byte more than the greatest script
+abbrev pub ReadsAll : {I : Type 0} → SourceGhosts I → I → I → Type 0
+ReadsAll s input input' = IsTrue s.tells → s.remaining input' ≡ drop most_read (s.remaining input)
+
+-- some bytes at its front were taken, and no more than that
+abbrev pub ReadsSome : {I : Type 0} → SourceGhosts I → I → I → Type 0
+ReadsSome s input input' = IsTrue s.tells → (n : ℕ) × (n ≤ most_read) × (s.remaining input' ≡ drop n (s.remaining input))
+
+-- why nothing was run, and what became of disk and input
+abbrev pub Stops : {D I : Type 0} → DiskGhosts D → SourceGhosts I → D → D → I → I → (words : List (List ℕ)) → Status → Type 0
+Stops d s disk disk' input input' words BadWords = (folder_in words ≡ None) × (disk' ≡ disk) × (input' ≡ input)
+Stops d s disk disk' input input' words SourceFault = (folder_in words ≢ None) × (disk' ≡ disk) × FaultsRose (s.faults input) (s.faults input') × ReadsSome s input input'
+Stops d s disk disk' input input' words Memory = (folder_in words ≢ None) × StopsDisk d disk disk' Memory × ReadsSome s input input'
+Stops d s disk disk' input input' words status = (folder_in words ≢ None) × StopsDisk d disk disk' status × ReadsAll s input input'
+
+-- nothing was run
+pub record IsUnrun {D C I O : Type 0} (d : DiskGhosts D) (s : SourceGhosts I) (given : RunGiven D C I O) (left : RunLeft D I O) : Type 0 where
+  pub cause : Stops d s given.disk left.outcome.disk given.input left.input given.words left.outcome.status
+  pub leaves_all : LeavesAll d given.disk left.outcome.disk given.out left.out (outcome_told left.outcome)
+
+-- the words name a folder, the input was read, and its script was run on what the folder stands for
+pub record IsRun {D C I O : Type 0} (d : DiskGhosts D) (c : ClockGhosts C) (s : SourceGhosts I) (k : SinkGhosts O) (given : RunGiven D C I O) (left : RunLeft D I O) : Type 0 where
   pub script : List ℕ
-  pub origin : Origin
-  pub words_name_a_folder : folder_in words ≢ None
-  pub input_is_read : IsTrue s.tells → (script ≡ take most_read (s.remaining input)) × (s.remaining input' ≡ drop most_read (s.remaining input))
-  pub origin_is_the_folder : IsTrue d.tells → folder_of (d.seen disk) ≡ Ok (folder_at origin)
-  pub log_is_told : IsSome origin.log → IsTrue d.tells
-  pub run : IsRun d k origin script disk disk' out out' es transcripts memory status
-  pub stops_recover : NothingPending d disk → LastsLate d origin.base es disk'
+  pub words_name_a_folder : folder_in given.words ≢ None
+  pub script_is_the_input : IsTrue s.tells → script ≡ take most_read (s.remaining given.input)
+  pub input_is_read : ReadsAll s given.input left.input
+  pub run : IsOpenedRun d c k script given.disk left.outcome.disk given.clock given.out left.out (outcome_told left.outcome)
+
+-- where a call of the disk failed, the status tells the first that did, or that the sink failed too
+abbrev pub FaultsAreTold : {D : Type 0} → DiskGhosts D → D → D → Status → Type 0
+FaultsAreTold d disk disk' status = d.faults disk < d.faults disk' → (status ≡ Device (d.first_fault disk')) ⊎ (status ≡ SinkFault)

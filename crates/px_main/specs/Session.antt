@@ -1,9 +1,10 @@
 -- What a session's statements leave.
-use Rattle.std.specs.Prelude.{◌≡◌, ◌≢◌, ◌⊎◌, ◌++◌, ◌∷◌, [], ℕ, List, length, IsTrue, Option, Some, None}
+use Rattle.std.specs.Prelude.{◌≡◌, ◌≢◌, ◌≤◌, ◌⊎◌, ◌+◌, ◌++◌, ◌∷◌, [], ℕ, List, length, take, IsTrue, Option, Some, None}
+use Rattle.px_outside.specs.declared.clock.Clock.{Ghosts as ClockGhosts}
 use Rattle.px_outside.specs.declared.disk.Disk.{Ghosts}
-use Rattle.px_outside.specs.OnDisk.{Rose}
+use Rattle.px_outside.specs.OnDisk.{Rose, TouchesOnly}
 use Rattle.px_lex.specs.Script.{IsScript, Section, SeenPiece, pieces_from}
-use Rattle.px_trail.specs.Trail.{IsLegal}
+use Rattle.px_trail.specs.Trail.{Base, IsLegal, calls_of}
 use Rattle.px_trail.specs.declared.entry.Entry.{Entry}
 use Rattle.px_main.specs.declared.reply.Item.{Item}
 use Rattle.px_main.specs.declared.reply.Refusal.{Refusal}
@@ -11,10 +12,12 @@ use Rattle.px_main.specs.declared.reply.Reply.TheVariants.{Refused}
 use Rattle.px_main.specs.declared.session.Ending.{Ending}
 use Rattle.px_main.specs.declared.session.Ending.TheVariants.{Whole, WriteFault, Memory}
 use Rattle.px_main.specs.declared.store.Store.{Store}
-use Rattle.px_main.specs.Kept.{IsKept}
+use Rattle.px_main.specs.Kept.{Grows, IsKept}
+use Rattle.px_main.specs.Logged.{is_log_file}
 use Rattle.px_main.specs.Origin.{Origin}
 use Rattle.px_main.specs.Replied.{AreReplied, IsQuiet, LastFailed}
 use Rattle.px_main.specs.Script.{IsReadable, StopsScript, span}
+use Rattle.px_main.specs.Stamps.{AreStamped}
 use Rattle.px_main.specs.Stops.{LastsLate}
 
 -- the pieces that were passed are answered, and all goes on
@@ -23,22 +26,38 @@ pub record IsGoing {D : Type 0} (d : Ghosts D) (origin : Origin) (disk : D) (sto
   pub replied : AreReplied origin store.trail.entries from (length store.trail.entries) passed items
   pub quiet : IsQuiet items
 
+-- The statement of this item failed: with no failed call of the disk before it, and all the entries there that stand
+-- before its own, a call of the disk failed.
+pub record FailedIn {D : Type 0} (d : Ghosts D) (disk' : D) (es : List Entry) (item : Item) : Type 0 where
+  pub before : D
+  pub unfailed : d.faults before ≡ 0
+  pub behind : calls_of (take item.evidence.first es) ≤ d.calls before
+  pub rose : Rose d before disk'
+
+-- the last statement failed, and no other
+pub record FailsLast {D : Type 0} (d : Ghosts D) (disk' : D) (es : List Entry) (items : List Item) : Type 0 where
+  pub before : List Item
+  pub item : Item
+  pub is : items ≡ before ++ item ∷ []
+  pub quiet : IsQuiet before
+  pub failed : FailedIn d disk' es item
+
 -- The session ended at a piece, which was answered or not. After a failed write the disk's count of faults has risen,
 -- else all could go on.
-pub record IsEnded {D : Type 0} (d : Ghosts D) (origin : Origin) (disk disk' : D) (store : Store) (from : ℕ) (passed : List SeenPiece) (piece : SeenPiece) (items : List Item) (ending : Ending) : Type 0 where
+pub record IsEnded {D : Type 0} (d : Ghosts D) (origin : Origin) (disk' : D) (store : Store) (from : ℕ) (passed : List SeenPiece) (piece : SeenPiece) (items : List Item) (ending : Ending) : Type 0 where
   pub legal : IsLegal origin.base store.trail.entries
   pub replied : AreReplied origin store.trail.entries from (length store.trail.entries) passed items ⊎ AreReplied origin store.trail.entries from (length store.trail.entries) (passed ++ piece ∷ []) items
   pub early : ending ≢ Whole
   pub quiet : ending ≢ WriteFault → IsQuiet items
   pub last : ending ≡ WriteFault → LastFailed items
-  pub failed : ending ≡ WriteFault → Rose d disk disk'
+  pub failed : ending ≡ WriteFault → FailsLast d disk' store.trail.entries items
   pub kept : ending ≢ WriteFault → IsKept d origin disk' store
-  pub lasts : IsTrue origin.rest → LastsLate d origin.base store.trail.entries disk'
+  pub lasts : LastsLate d origin.base origin.opened store.trail.entries disk'
 
 -- after a piece: how the session ended there, if it did
-abbrev pub AfterPiece : {D : Type 0} → Ghosts D → Origin → D → D → Store → (from : ℕ) → List SeenPiece → SeenPiece → List Item → Option Ending → Type 0
-AfterPiece d origin disk disk' store from passed piece items None = IsGoing d origin disk' store from (passed ++ piece ∷ []) items
-AfterPiece d origin disk disk' store from passed piece items (Some ending) = IsEnded d origin disk disk' store from passed piece items ending
+abbrev pub AfterPiece : {D : Type 0} → Ghosts D → Origin → D → Store → (from : ℕ) → List SeenPiece → SeenPiece → List Item → Option Ending → Type 0
+AfterPiece d origin disk' store from passed piece items None = IsGoing d origin disk' store from (passed ++ piece ∷ []) items
+AfterPiece d origin disk' store from passed piece items (Some ending) = IsEnded d origin disk' store from passed piece items ending
 
 -- The items answer the first pieces, in order: all of them where the session came to its end. What stands in the trail
 -- from the place `from` on is what they added, and nothing else. A failed write is answered where it ends the session, and
@@ -53,13 +72,21 @@ pub record AreAnswered (origin : Origin) (es : List Entry) (from : ℕ) (pieces 
   pub last : ending ≡ WriteFault → LastFailed items
 
 -- What a session leaves: right answers, by the trail as it stands then. After a failed write the disk's count of faults has
--- risen, else all could go on.
-pub record HasSession {D : Type 0} (d : Ghosts D) (origin : Origin) (disk disk' : D) (store : Store) (items : List Item) (ending : Ending) (Right : List Entry → List Item → Ending → Type 0) : Type 0 where
+-- risen in the last statement, else all could go on.
+pub record HasSession {D : Type 0} (d : Ghosts D) (origin : Origin) (disk' : D) (store : Store) (items : List Item) (ending : Ending) (Right : List Entry → List Item → Ending → Type 0) : Type 0 where
   pub legal : IsLegal origin.base store.trail.entries
   pub answers : Right store.trail.entries items ending
-  pub failed : ending ≡ WriteFault → Rose d disk disk'
+  pub quiet : ending ≢ WriteFault → IsQuiet items
+  pub failed : ending ≡ WriteFault → FailsLast d disk' store.trail.entries items
   pub kept : ending ≢ WriteFault → IsKept d origin disk' store
-  pub lasts : IsTrue origin.rest → LastsLate d origin.base store.trail.entries disk'
+  pub lasts : LastsLate d origin.base origin.opened store.trail.entries disk'
+
+-- What statements add to the trail, one after the other: their stamps are by the clock's numbers, in the order in which it
+-- tells them. Of the disk's files they call those of the log alone.
+pub record MovesOn {D C : Type 0} (d : Ghosts D) (c : ClockGhosts C) (base : Base) (disk disk' : D) (clock clock' : C) (old new : List Entry) : Type 0 where
+  pub touches : TouchesOnly d disk disk' is_log_file
+  pub grows : Grows old new
+  pub stamped : IsTrue c.tells → (told : ℕ) × AreStamped (c.times clock) base old 0 told grows.added × ((n : ℕ) → c.times clock' n ≡ c.times clock (n + told))
 
 -- the one item of a script of which nothing is run, at its place in the trail
 abbrev pub stopped : List ℕ → (entries : ℕ) → Refusal → Item
@@ -77,9 +104,9 @@ abbrev pub AnswersPieces : Origin → List Entry → List ℕ → (from : ℕ) �
 AnswersPieces origin es script from items ending = (xs : List Section) × IsScript script xs × AreAnswered origin es from (pieces_from 0 xs) items ending
 
 -- nothing of the script is run, and why
-abbrev pub AnswersNothing : List Entry → List ℕ → (from : ℕ) → List Item → Ending → Type 0
-AnswersNothing es script from items ending = (refusal : Refusal) × StopsScript script refusal × (length es ≡ from) × IsStopped script from refusal items ending
+abbrev pub StopsSession : List Entry → List ℕ → (from : ℕ) → List Item → Ending → Type 0
+StopsSession es script from items ending = (refusal : Refusal) × StopsScript script refusal × (length es ≡ from) × IsStopped script from refusal items ending
 
--- the right answers to a script, from a place in the trail on
-abbrev pub AnswersScript : Origin → List Entry → List ℕ → (from : ℕ) → List Item → Ending → Type 0
-AnswersScript origin es script from items ending = (IsReadable script × AnswersPieces origin es script from items ending) ⊎ AnswersNothing es script from items ending
+-- the right answers to a script of one session, from a place in the trail on
+abbrev pub AnswersSession : Origin → List Entry → List ℕ → (from : ℕ) → List Item → Ending → Type 0
+AnswersSession origin es script from items ending = (IsReadable script × AnswersPieces origin es script from items ending) ⊎ StopsSession es script from items ending

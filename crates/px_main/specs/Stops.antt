@@ -1,13 +1,14 @@
 -- What a stop at any moment of a run leaves.
 use Rattle.std.specs.Prelude.{◌≡◌, ◌≤◌, ◌+◌, ◌++◌, ◌∷◌, [], ◌⊎◌, ℕ, nat_le, filter, IsTrue, List, Option, Some, None, Ok}
 use Rattle.px_outside.specs.Disk.{Image}
-use Rattle.px_outside.specs.OnDisk.{IsLeft, Only}
+use Rattle.px_outside.specs.OnDisk.{IsLeft}
 use Rattle.px_outside.specs.declared.disk.Disk.{Ghosts}
 use Rattle.px_values.specs.declared.row.Value.{Value}
 use Rattle.px_trail.specs.declared.entry.Act.{Act}
 use Rattle.px_trail.specs.declared.entry.Act.TheVariants.{Begun, Wrote, Ended}
 use Rattle.px_trail.specs.declared.entry.Entry.{Entry}
 use Rattle.px_trail.specs.Trail.{Base, IsLegal, last_of, state_of}
+use Rattle.px_main.specs.Added.{AddedBetween}
 use Rattle.px_main.specs.Kv.{kv}
 use Rattle.px_main.specs.Logged.{folder_of}
 use Rattle.px_main.specs.Origin.{Folder}
@@ -44,20 +45,18 @@ pub record IsNext (es : List Entry) (late : Option Entry) (moment : ℕ) (e : En
 abbrev pub Recovers : Base → List Entry → Option Entry → ℕ → Image → Type 0
 Recovers base es late moment image = StandsAfter base (entries_by moment es) image ⊎ ((e : Entry) × IsNext es late moment e × StandsAfter base (entries_by moment es ++ e ∷ []) image)
 
--- each image that a stop may leave does, without a late entry
-abbrev pub Lasts : {D : Type 0} → Ghosts D → Base → List Entry → D → Type 0
-Lasts d base es disk = (moment : ℕ) (image : Image) → IsLeft d disk moment image → Recovers base es None moment image
+-- each image that a stop may leave from a moment on does, without a late entry
+abbrev pub Lasts : {D : Type 0} → Ghosts D → Base → (from : ℕ) → List Entry → D → Type 0
+Lasts d base from es disk = (moment : ℕ) (image : Image) → from ≤ moment → IsLeft d disk moment image → Recovers base es None moment image
 
 -- The same, with a late entry perhaps: the write of a batch that was begun and whose write failed. With it the trail is
--- legal.
-pub record LastsLate {D : Type 0} (d : Ghosts D) (base : Base) (es : List Entry) (disk : D) : Type 0 where
+-- legal. Each entry was added at a moment from that one up to now.
+pub record LastsLate {D : Type 0} (d : Ghosts D) (base : Base) (from : ℕ) (es : List Entry) (disk : D) : Type 0 where
+  pub begun : from ≤ d.calls disk
+  pub moments : AddedBetween from (d.calls disk) es
   pub late : Option Entry
   pub legal : IsLegal base (es ++ late_list late)
-  pub recovers : (moment : ℕ) (image : Image) → IsLeft d disk moment image → Recovers base es late moment image
-
--- all of the disk's files are on it
-abbrev pub NothingPending : {D : Type 0} → Ghosts D → D → Type 0
-NothingPending d disk = (file : ℕ) → Only d disk file
+  pub recovers : (moment : ℕ) (image : Image) → from ≤ moment → IsLeft d disk moment image → Recovers base es late moment image
 
 -- what a disk promises of its outcomes: it tells, and they are of moments up to now
 abbrev pub LeftIsTold : {D : Type 0} → Ghosts D → Type 0

@@ -1,9 +1,10 @@
 // A batch of one row, and what it takes before it begins.
-ghost use Rattle.std.specs.Prelude.{◌≡◌, ◌<◌, ◌≤◌, ◌+◌, ◌∷◌, [], ◌↔◌, ℕ, max, min, sum_by, IfOk, OnErr, IfErr, Err, MatchOption, ◌≢◌, ◌⊎◌};
+ghost use Rattle.std.specs.Prelude.{◌≡◌, ◌<◌, ◌≤◌, ◌+◌, ◌∷◌, [], ◌↔◌, ℕ, sum_by, IfOk, OnErr, IfErr, Err, MatchOption, ◌≢◌, ◌⊎◌};
 ghost use Rattle.px_trail.specs.Count.{counted_bytes, counted_change};
 ghost use Rattle.px_main.specs.Batch.{kv_change};
 ghost use Rattle.px_main.specs.declared.reply.Refusal.TheVariants.{Limit as LimitRefusal, Memory as MemoryRefusal};
 ghost use Rattle.px_main.specs.Refusals.{IsUpsertRefusal};
+ghost use Rattle.px_main.specs.Stamps.{stamp_after};
 ghost use Rattle.px_values.specs.declared.limit.Limit.TheVariants.{Stamps as StampsLimit, Trail as TrailLimit};
 
 use crate::reply::Refusal;
@@ -30,7 +31,7 @@ pub struct Batch {
 
 /// The next stamp: above the last one, and not before the clock. None where there is no greater one.
 pub fn next_stamp(last: u64, now: u64) -> Option<u64>
-    ensures { MatchOption result (9223372036854775807 ≤ last) (λ stamp. (stamp ≡ max (last + 1) (min now 4611686018427387904)) × (stamp ≤ 9223372036854775807)) }
+    ensures { MatchOption result (9223372036854775807 ≤ last) (λ stamp. (stamp ≡ stamp_after last now) × (stamp ≤ 9223372036854775807)) }
 {
     if last >= Limit::Stamps.most() {
         return None;

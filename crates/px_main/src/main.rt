@@ -3,6 +3,8 @@
 
 mod batch;
 #[cfg(test)]
+mod clock_tests;
+#[cfg(test)]
 mod fault_tests;
 mod printing;
 mod put;
@@ -23,12 +25,12 @@ mod table;
 mod tests;
 mod words;
 
-use px_outside::{FolderDisk, MemDisk, StdSink, StdSource, WallClock};
+use px_outside::{MemDisk, StdSink, StdSource, WallClock};
 use run::{Status, phoenix};
 use std::alloc::AllocError;
 use std::process::ExitCode;
 use std::{env, io};
-use words::folder_word;
+use words::folder_disk;
 
 /// The words after the program's name.
 fn words_of(rt: &HostRuntime) -> io::Result<Vec<String>> {
@@ -44,12 +46,13 @@ fn run_in(rt: &HostRuntime, words: &[String]) -> Result<Status, AllocError> {
     let alloc = rt.alloc();
     let clock = WallClock::new(rt);
     let (mut input, mut out) = (StdSource::new(rt), StdSink::new(rt));
-    let Some(folder) = folder_word(words) else {
-        let disk = MemDisk::new(alloc);
-        return Ok(phoenix(alloc, words, disk, clock, &mut input, &mut out).status);
-    };
-    let disk = FolderDisk::at(rt, alloc, String::from_str(alloc, folder)?);
-    Ok(phoenix(alloc, words, disk, clock, &mut input, &mut out).status)
+    match folder_disk(rt, alloc, words)? {
+        None => {
+            let disk = MemDisk::new(alloc);
+            Ok(phoenix(alloc, words, disk, clock, &mut input, &mut out).status)
+        }
+        Some(disk) => Ok(phoenix(alloc, words, disk, clock, &mut input, &mut out).status),
+    }
 }
 
 fn main(rt: HostRuntime) -> ExitCode {

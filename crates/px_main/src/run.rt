@@ -1,10 +1,13 @@
 // A run of the program, from its words to its status.
 ghost use Rattle.std.specs.Prelude.{◌≡◌, ◌≢◌, ◌≤◌, ◌⊎◌, [], ℕ, map, true, false, None, Err};
 ghost use Rattle.std.specs.String.{string_bytes};
+ghost use Rattle.px_outside.specs.OnDisk.{TouchesOnly};
 ghost use Rattle.px_main.specs.Kept.{IsKept};
+ghost use Rattle.px_main.specs.Logged.{is_log_file};
 ghost use Rattle.px_main.specs.Origin.{Origin};
 ghost use Rattle.px_main.specs.Printed.{printed};
-ghost use Rattle.px_main.specs.Run.{IsOpenedRun, IsRun, IsUnrun, IsWhole, IsWritten, ended_by_memory, lacked_memory, some_lacked_memory, some_was_refused, status_of, stopped_by, was_refused};
+ghost use Rattle.px_main.specs.Rounds.{lacked_room, was_stopped};
+ghost use Rattle.px_main.specs.Run.{FaultsAreTold, IsRun, IsUnrun, IsWritten, OpensOrNot, RunsOn, is_memory_status, lacked_memory, outcome_told, run_given, run_left, run_told, some_lacked_memory, some_was_refused, status_of, stopped_by, was_refused};
 
 use crate::printing::print_transcripts;
 use crate::reply::{Item, Items, Refusal, Reply, Transcript, Transcripts};
@@ -93,30 +96,33 @@ fn some_refused(items: &[Item]) -> bool
     items.iter().any(|item| refused(&item.reply))
 }
 
-/// The status of a run whose session ended so, where this call of the disk was the first that failed.
-fn status_after(sink_failed: bool, ending: Ending, call: u64, lacked: bool, refused: bool) -> Status
-    ensures { result ≡ status_of sink_failed ending call lacked refused }
+/// The status by its causes: whether the sink failed, whether a failed write stopped the session, and the first call of
+/// the disk that failed, whether memory was lacked, and whether a statement was refused.
+fn status_after(sink_failed: bool, stopped: bool, call: u64, lacked: bool, refused: bool) -> Status
+    ensures { result ≡ status_of sink_failed stopped call lacked refused }
 {
     if sink_failed {
-        return Status::SinkFault;
-    }
-    match ending {
-        Ending::WriteFault => Status::Device { call },
-        Ending::Memory => Status::Memory,
-        Ending::Whole => {
-            if lacked {
-                Status::Memory
-            } else if refused {
-                Status::Refused
-            } else {
-                Status::Done
-            }
-        }
+        Status::SinkFault
+    } else if stopped {
+        Status::Device { call }
+    } else if lacked {
+        Status::Memory
+    } else if refused {
+        Status::Refused
+    } else {
+        Status::Done
     }
 }
 
+/// Whether a failed write stopped the session.
+fn is_stopped(ending: Ending) -> bool
+    ensures { result ≡ was_stopped ending }
+{
+    matches!(ending, Ending::WriteFault)
+}
+
 fn is_memory(ending: Ending) -> bool
-    ensures { result ≡ ended_by_memory ending }
+    ensures { result ≡ lacked_room ending }
 {
     matches!(ending, Ending::Memory)
 }
@@ -133,6 +139,13 @@ fn write_replies<O: Sink>(alloc: Global, out: &mut O, transcripts: &Transcripts)
         Ok(()) => (false, false),
         Err(_) => (true, false),
     }
+}
+
+/// The number of the first call of the disk that failed, 0 where none has.
+fn first_failed<D: CountsCalls>(disk: &D) -> u64
+    ensures { result ≡ D.first_fault disk.now }
+{
+    disk.first_fault()
 }
 
 /// What a run leaves but its disk.
@@ -158,10 +171,10 @@ fn run_store<D: CountsCalls, C: Clock, O: Sink>(
     requires room { 1 ≤ transcripts.cap }
     requires nothing_done { store.trail.entries ≡ [] }
     ensures { (origin : Origin) → IsKept ⟦<D as Disk>⟧ origin disk.old store
-        → IsRun ⟦<D as Disk>⟧ ⟦<O as Sink>⟧ origin script.now disk.old disk.new out.old out.new result.trail.entries result.transcripts result.memory result.status }
+        → RunsOn ⟦<D as Disk>⟧ ⟦<C as Clock>⟧ ⟦<O as Sink>⟧ origin script.now disk.old disk.new clock.old out.old out.new (run_told result.trail.entries result.transcripts result.memory result.status) }
 {
     let Session { items, ending } = run_script(alloc, &mut store, disk, clock, script);
-    let call = disk.first_fault();
+    let call = first_failed(disk);
     let lacked = some_lacked(items.as_slice());
     let refused = some_refused(items.as_slice());
     transcripts.push_reserved(Transcript {
@@ -173,7 +186,13 @@ fn run_store<D: CountsCalls, C: Clock, O: Sink>(
     let (sink_failed, print_failed) = write_replies(alloc, out, &transcripts);
     let memory = print_failed || is_memory(ending);
     Ran {
-        status: status_after(sink_failed, ending, call, memory || lacked, refused),
+        status: status_after(
+            sink_failed,
+            is_stopped(ending),
+            call,
+            memory || lacked,
+            refused,
+        ),
         trail: store.into_trail(),
         transcripts,
         memory,
@@ -186,6 +205,7 @@ fn unrun<D>(alloc: Global, disk: D, status: Status) -> Outcome<D>
     ensures disk { result.disk ≡ disk }
     ensures entries { result.trail.entries ≡ [] }
     ensures transcripts { result.transcripts ≡ [] }
+    ensures memory { result.memory ≡ is_memory_status status }
     ensures in_time { result.late ≡ None }
 {
     Outcome {
@@ -218,7 +238,8 @@ fn run_folder<D: Disk, C: Clock + Drop, O: Sink>(
     out: &mut O,
 ) -> Outcome<D>
     requires fresh { (D.calls disk ≡ 0) × (D.faults disk ≡ 0) × (D.first_fault disk ≡ 0) }
-    ensures run { IsOpenedRun ⟦<D as Disk>⟧ ⟦<O as Sink>⟧ script.now disk result.disk out.old out.new result.trail.entries result.transcripts result.memory result.status }
+    ensures run { OpensOrNot ⟦<D as Disk>⟧ ⟦<C as Clock>⟧ ⟦<O as Sink>⟧ script.now disk result.disk clock out.old out.new (outcome_told result) }
+    ensures other_files_stay { TouchesOnly ⟦<D as Disk>⟧ disk result.disk is_log_file }
     ensures in_time { result.late ≡ None }
 {
     let Ok(transcripts) = Vec::with_capacity(alloc, 1) else {
@@ -263,8 +284,10 @@ pub fn phoenix<D: Disk, C: Clock + Drop, I: Source, O: Sink>(
     out: &mut O,
 ) -> Outcome<D>
     requires fresh { (D.calls disk ≡ 0) × (D.faults disk ≡ 0) × (D.first_fault disk ≡ 0) }
-    ensures run { IsUnrun ⟦<D as Disk>⟧ ⟦<I as Source>⟧ disk result.disk input.old input.new out.old out.new (map string_bytes words.now) result.trail.entries result.transcripts result.status
-        ⊎ IsWhole ⟦<D as Disk>⟧ ⟦<I as Source>⟧ ⟦<O as Sink>⟧ disk result.disk input.old input.new out.old out.new (map string_bytes words.now) result.trail.entries result.transcripts result.memory result.status }
+    ensures run { IsUnrun ⟦<D as Disk>⟧ ⟦<I as Source>⟧ (run_given disk clock input.old out.old (map string_bytes words.now)) (run_left result input.new out.new)
+        ⊎ IsRun ⟦<D as Disk>⟧ ⟦<C as Clock>⟧ ⟦<I as Source>⟧ ⟦<O as Sink>⟧ (run_given disk clock input.old out.old (map string_bytes words.now)) (run_left result input.new out.new) }
+    ensures faults_are_told { FaultsAreTold ⟦<D as Disk>⟧ disk result.disk result.status }
+    ensures other_files_stay { TouchesOnly ⟦<D as Disk>⟧ disk result.disk is_log_file }
     ensures in_time { result.late ≡ None }
 {
     if folder_word(words).is_none() {

@@ -10,7 +10,7 @@ ghost use Rattle.px_main.specs.Ran.{Answered, HasRun};
 ghost use Rattle.std.specs.List.{All};
 ghost use Rattle.px_lex.specs.Script.{SeenPiece, seen_piece};
 ghost use Rattle.px_main.specs.Script.{span_of};
-ghost use Rattle.px_main.specs.Session.{AfterPiece, AnswersPieces, AnswersScript, AreAnswered, HasSession, IsGoing, IsStopped};
+ghost use Rattle.px_main.specs.Session.{AfterPiece, AnswersPieces, AnswersSession, AreAnswered, HasSession, IsGoing, IsStopped, MovesOn};
 ghost use Rattle.px_main.specs.declared.reply.Refusal.TheVariants.{WriteFault as WriteFaultRefusal};
 ghost use Rattle.px_main.specs.Replied.{Answers, AnswersPiece, AnswersSelect, AnswersUpsert};
 ghost use Rattle.px_main.specs.Statement.{MayRun};
@@ -55,9 +55,8 @@ fn answer_upsert<D: CountsCalls>(
 ) -> Answer
     requires key { IsText 1000 key.now }
     requires value { IsText 1000 value.now }
-    ensures upserted { (origin : Origin) → IsKept ⟦<D as Disk>⟧ origin disk.old store.old
-        → Answered ⟦<D as Disk>⟧ origin disk.old disk.new store.old.trail.entries store.new result (λ es added reply receipts. AnswersUpsert origin es added key.now value.now reply receipts) }
-    ensures later { (D.calls disk.old ≤ D.calls disk.new) × (D.faults disk.old ≤ D.faults disk.new) }
+    ensures { (origin : Origin) → IsKept ⟦<D as Disk>⟧ origin disk.old store.old
+        → Answered ⟦<D as Disk>⟧ origin disk.old disk.new now store.old.trail.entries store.new result (λ es added reply receipts places. AnswersUpsert origin es added key.now value.now reply receipts places) }
 {
     let Ok(mut receipts) = Vec::with_capacity(alloc, 1) else {
         return refused(alloc, Refusal::Memory);
@@ -81,7 +80,7 @@ fn answer_upsert<D: CountsCalls>(
 /// Runs the SELECT. The place of each row is the end of the trail.
 fn answer_select(alloc: Global, store: &Store) -> Answer
     ensures { (origin : Origin) (puts : List Put) → Tells origin.base store.now.trail.entries puts → HoldsPuts store.now.rows store.now.last store.now.number puts
-        → AnswersSelect origin store.now.trail.entries result.reply result.receipts }
+        → AnswersSelect origin store.now.trail.entries result.reply result.receipts result.places }
 {
     let Ok(rows) = store.rows(alloc) else {
         return refused(alloc, Refusal::Memory);
@@ -105,9 +104,8 @@ fn run_task<D: CountsCalls>(
     task: &Task<'_>,
 ) -> Answer
     requires runs { MayRun task.now }
-    ensures answered { (origin : Origin) → IsKept ⟦<D as Disk>⟧ origin disk.old store.old
-        → Answered ⟦<D as Disk>⟧ origin disk.old disk.new store.old.trail.entries store.new result (λ es added reply receipts. Answers origin es added task.now reply receipts) }
-    ensures later { (D.calls disk.old ≤ D.calls disk.new) × (D.faults disk.old ≤ D.faults disk.new) }
+    ensures { (origin : Origin) → IsKept ⟦<D as Disk>⟧ origin disk.old store.old
+        → Answered ⟦<D as Disk>⟧ origin disk.old disk.new now store.old.trail.entries store.new result (λ es added reply receipts places. Answers origin es added task.now reply receipts places) }
 {
     match task {
         Task::Upsert { key, value } => answer_upsert(alloc, store, disk, now, key, value),
@@ -124,9 +122,8 @@ fn answer_piece<D: CountsCalls>(
     now: u64,
     piece: &Piece<'_>,
 ) -> Answer
-    ensures answered { (origin : Origin) → IsKept ⟦<D as Disk>⟧ origin disk.old store.old
-        → Answered ⟦<D as Disk>⟧ origin disk.old disk.new store.old.trail.entries store.new result (λ es added reply receipts. AnswersPiece origin es added (seen_piece piece.now) reply receipts) }
-    ensures later { (D.calls disk.old ≤ D.calls disk.new) × (D.faults disk.old ≤ D.faults disk.new) }
+    ensures { (origin : Origin) → IsKept ⟦<D as Disk>⟧ origin disk.old store.old
+        → Answered ⟦<D as Disk>⟧ origin disk.old disk.new now store.old.trail.entries store.new result (λ es added reply receipts places. AnswersPiece origin es added (seen_piece piece.now) reply receipts places) }
 {
     match read_piece(alloc, piece) {
         Err(refusal) => run_task(alloc, store, disk, now, &Task::Refused(refusal)),
@@ -144,8 +141,7 @@ fn run_piece<D: CountsCalls>(
 ) -> Item
     requires within { piece.now.place + length piece.now.text.now < 2 ^ 64 }
     ensures statement { result.statement ≡ span_of (seen_piece piece.now) }
-    ensures ran { (origin : Origin) → IsKept ⟦<D as Disk>⟧ origin disk.old store.old → HasRun ⟦<D as Disk>⟧ origin disk.old disk.new store.old.trail.entries store.new (seen_piece piece.now) result }
-    ensures later { (D.calls disk.old ≤ D.calls disk.new) × (D.faults disk.old ≤ D.faults disk.new) }
+    ensures ran { (origin : Origin) → IsKept ⟦<D as Disk>⟧ origin disk.old store.old → HasRun ⟦<D as Disk>⟧ origin disk.old disk.new now store.old.trail.entries store.new (seen_piece piece.now) result }
 {
     let first = store.entries();
     let answer = answer_piece(alloc, store, disk, now, piece);
@@ -200,8 +196,8 @@ fn pass_piece<D: CountsCalls, C: Clock>(
 ) -> Option<Ending>
     requires within { piece.now.place + length piece.now.text.now < 2 ^ 64 }
     ensures passed { (origin : Origin) (from : ℕ) (passed : List SeenPiece) → IsGoing ⟦<D as Disk>⟧ origin disk.old store.old from passed items.old.items
-        → AfterPiece ⟦<D as Disk>⟧ origin disk.old disk.new store.new from passed (seen_piece piece.now) items.new.items result }
-    ensures later { (D.calls disk.old ≤ D.calls disk.new) × (D.faults disk.old ≤ D.faults disk.new) }
+        → AfterPiece ⟦<D as Disk>⟧ origin disk.new store.new from passed (seen_piece piece.now) items.new.items result }
+    ensures moved { (origin : Origin) → IsKept ⟦<D as Disk>⟧ origin disk.old store.old → MovesOn ⟦<D as Disk>⟧ ⟦<C as Clock>⟧ origin.base disk.old disk.new clock.old clock.new store.old.trail.entries store.new.trail.entries }
 {
     let Ok(()) = items.reserve(1) else {
         return Some(Ending::Memory);
@@ -228,8 +224,8 @@ fn pass_pieces<D: CountsCalls, C: Clock>(
     requires within { All (λ piece. piece.place + length piece.text.now < 2 ^ 64) pieces.now }
     requires empty { items.old.items ≡ [] }
     ensures passed { (origin : Origin) → IsKept ⟦<D as Disk>⟧ origin disk.old store.old
-        → HasSession ⟦<D as Disk>⟧ origin disk.old disk.new store.new items.new.items result (λ es given ending. AreAnswered origin es (length store.old.trail.entries) (map seen_piece pieces.now) given ending) }
-    ensures later { (D.calls disk.old ≤ D.calls disk.new) × (D.faults disk.old ≤ D.faults disk.new) }
+        → HasSession ⟦<D as Disk>⟧ origin disk.new store.new items.new.items result (λ es given ending. AreAnswered origin es (length store.old.trail.entries) (map seen_piece pieces.now) given ending) }
+    ensures moved { (origin : Origin) → IsKept ⟦<D as Disk>⟧ origin disk.old store.old → MovesOn ⟦<D as Disk>⟧ ⟦<C as Clock>⟧ origin.base disk.old disk.new clock.old clock.new store.old.trail.entries store.new.trail.entries }
 {
     for i in 0..pieces.len() {
         match pass_piece(alloc, store, disk, clock, &pieces[i], items) {
@@ -280,8 +276,8 @@ fn run_text<D: CountsCalls, C: Clock>(
     text: &str,
 ) -> Session
     ensures ran { (origin : Origin) → IsKept ⟦<D as Disk>⟧ origin disk.old store.old
-        → HasSession ⟦<D as Disk>⟧ origin disk.old disk.new store.new result.items result.ending (λ es given ending. AnswersPieces origin es text.now (length store.old.trail.entries) given ending) }
-    ensures later { (D.calls disk.old ≤ D.calls disk.new) × (D.faults disk.old ≤ D.faults disk.new) }
+        → HasSession ⟦<D as Disk>⟧ origin disk.new store.new result.items result.ending (λ es given ending. AnswersPieces origin es text.now (length store.old.trail.entries) given ending) }
+    ensures moved { (origin : Origin) → IsKept ⟦<D as Disk>⟧ origin disk.old store.old → MovesOn ⟦<D as Disk>⟧ ⟦<C as Clock>⟧ origin.base disk.old disk.new clock.old clock.new store.old.trail.entries store.new.trail.entries }
 {
     let Ok(pieces) = pieces(alloc, text) else {
         return Session {
@@ -306,8 +302,8 @@ pub fn run_script<D: CountsCalls, C: Clock>(
     script: &[u8],
 ) -> Session
     ensures ran { (origin : Origin) → IsKept ⟦<D as Disk>⟧ origin disk.old store.old
-        → HasSession ⟦<D as Disk>⟧ origin disk.old disk.new store.new result.items result.ending (λ es given ending. AnswersScript origin es script.now (length store.old.trail.entries) given ending) }
-    ensures later { (D.calls disk.old ≤ D.calls disk.new) × (D.faults disk.old ≤ D.faults disk.new) }
+        → HasSession ⟦<D as Disk>⟧ origin disk.new store.new result.items result.ending (λ es given ending. AnswersSession origin es script.now (length store.old.trail.entries) given ending) }
+    ensures moved { (origin : Origin) → IsKept ⟦<D as Disk>⟧ origin disk.old store.old → MovesOn ⟦<D as Disk>⟧ ⟦<C as Clock>⟧ origin.base disk.old disk.new clock.old clock.new store.old.trail.entries store.new.trail.entries }
 {
     match read_script(script) {
         Err(refusal) => stop_script(alloc, store.entries(), script, refusal),

@@ -1,10 +1,15 @@
 // What the program tells of its status: a number to the system, and a line to the person.
+ghost use Rattle.std.specs.Prelude.{◌≡◌};
+ghost use Rattle.px_main.specs.Run.{exit_code};
+
 use crate::run::Status;
 use std::io::Eprint;
 
 impl Status {
     /// The exit status.
-    pub fn code(self) -> u8 {
+    pub fn code(self) -> u8
+        ensures { result ≡ exit_code self }
+    {
         match self {
             Status::Done => 0,
             Status::Refused => 1,

@@ -1,5 +1,5 @@
 // The table KV of an open folder: a log on the disk, its rows in memory, and the trail of what was done.
-ghost use Rattle.std.specs.Prelude.{◌≡◌, ◌≢◌, ◌<◌, ◌≤◌, ◌+◌, ◌++◌, ◌∷◌, [], ◌⊎◌, ◌↔◌, ℕ, List, length, map, min, max, IsTrue, IfOk, IfErr, OnOk, OnErr, Ok, Err, Some, string_bytes, sum_by};
+ghost use Rattle.std.specs.Prelude.{◌≡◌, ◌≢◌, ◌<◌, ◌≤◌, ◌+◌, ◌++◌, ◌∷◌, [], ◌⊎◌, ◌↔◌, ℕ, List, length, map, IsTrue, IfOk, IfErr, OnOk, OnErr, Ok, Err, Some, string_bytes, sum_by};
 ghost use Rattle.std.specs.BTreeMap.{Updates};
 ghost use Rattle.std.specs.String.{string_cmp};
 ghost use Rattle.px_outside.specs.OnDisk.{LeavesOnly, Passes, Rose, TouchesOnly};
@@ -7,12 +7,13 @@ ghost use Rattle.px_trail.specs.Count.{counted_change};
 ghost use Rattle.px_gatelog.specs.Framed.{record_of};
 ghost use Rattle.px_main.specs.Added.{with_batch, with_begun};
 ghost use Rattle.px_main.specs.Batch.{put_in_batch};
-ghost use Rattle.px_gatelog.specs.GateLog.{is_open as is_open_log};
-ghost use Rattle.px_main.specs.Logged.{HasPuts, IsReady, Logged, any_file};
+ghost use Rattle.px_gatelog.specs.GateLog.{IsSameLog, has_file, is_open as is_open_log};
+ghost use Rattle.px_main.specs.Logged.{HasPuts, IsReady, Logged};
 ghost use Rattle.px_main.specs.PutForm.{put_size};
 ghost use Rattle.px_main.specs.Puts.{Put};
 ghost use Rattle.px_main.specs.Origin.{Origin};
 ghost use Rattle.px_main.specs.Refusals.{RefusesUpsert};
+ghost use Rattle.px_main.specs.Stamps.{stamp_after};
 ghost use Rattle.px_main.specs.declared.reply.Refusal.TheVariants.{WriteFault as WriteFaultRefusal};
 ghost use Rattle.px_main.specs.PutRecords.{put_record};
 
@@ -165,6 +166,7 @@ impl Store {
         ensures ok { OnOk result (IsWritten ⟦<D as Disk>⟧ disk.old disk.new self.old self.new told.stamp told.changes told.rows) }
         ensures err { OnErr result ((result ≡ Err WriteFault) × Rose ⟦<D as Disk>⟧ disk.old disk.new
             × (self.new.trail.entries ≡ with_begun self.old.trail.entries (D.calls disk.old) told.stamp told.changes)) }
+        ensures unfailed { OnOk result (D.faults disk.new ≡ D.faults disk.old) }
         ensures counts { Passes ⟦<D as Disk>⟧ disk.old disk.new 4 }
         ensures leaves { LeavesAppended ⟦<D as Disk>⟧ disk.old disk.new self.old.log (record_of self.old.frame) }
         ensures touches { TouchesOnly ⟦<D as Disk>⟧ disk.old disk.new (is_newest_file self.old.log) }
@@ -205,14 +207,15 @@ impl Store {
         requires short { (length (string_bytes batch.key) ≤ 1000) × (length (string_bytes batch.value) ≤ 1000) }
         requires later { self.old.last < batch.stamp }
         ensures ok { (origin : Origin) → IsStored ⟦<D as Disk>⟧ origin disk.old self.old
-            → IfOk result (λ r. IsAdded ⟦<D as Disk>⟧ origin disk.new self.old.trail.entries self.new (string_bytes batch.key) (string_bytes batch.value) r) }
+            → IfOk result (λ r. IsAdded ⟦<D as Disk>⟧ origin (D.calls disk.old) disk.new self.old.trail.entries self.new (string_bytes batch.key) (string_bytes batch.value) r) }
         ensures stamp { IfOk result (λ r. r.stamp ≡ batch.stamp) }
         ensures err { (origin : Origin) → IsStored ⟦<D as Disk>⟧ origin disk.old self.old
-            → IfErr result (λ refusal. AfterRefusal ⟦<D as Disk>⟧ origin disk.old disk.new self.old.trail.entries self.new (string_bytes batch.key) (string_bytes batch.value) refusal) }
+            → IfErr result (λ refusal. AfterRefusal ⟦<D as Disk>⟧ origin disk.old disk.new self.old.trail.entries self.new (string_bytes batch.key) (string_bytes batch.value) batch.stamp refusal) }
         ensures cause { (origin : Origin) → IsStored ⟦<D as Disk>⟧ origin disk.old self.old → IfErr result (λ refusal. RefusesUpsert origin self.old.trail.entries (string_bytes batch.key) (string_bytes batch.value) refusal) }
         ensures full { result ≡ Err (LimitRefusal LogLimit) → room_in self.old.log < 7 + put_size (string_bytes batch.key) (string_bytes batch.value) }
         ensures fits { OnOk result (7 + put_size (string_bytes batch.key) (string_bytes batch.value) ≤ room_in self.old.log) }
         ensures counts { Passes ⟦<D as Disk>⟧ disk.old disk.new 4 }
+        ensures touches { TouchesOnly ⟦<D as Disk>⟧ disk.old disk.new (has_file self.old.log) }
     {
         let Some(number) = self.number.checked_add(1) else {
             return Err(Refusal::Memory);
@@ -260,9 +263,10 @@ fn open_segment<D: Disk>(log: &mut GateLog, disk: &mut D) -> Result<(), Refusal>
     ensures kept { (puts : List Put) (size : ℕ) → IsReady log.old → Logged ⟦<D as Disk>⟧ disk.old log.old puts size → OnOk result (Logged ⟦<D as Disk>⟧ disk.new log.new puts size) }
     ensures err { OnErr result ((result ≡ Err WriteFaultRefusal) × Rose ⟦<D as Disk>⟧ disk.old disk.new) }
     ensures counts { D.calls disk.old ≤ D.calls disk.new }
-    ensures faults { D.faults disk.old ≤ D.faults disk.new }
+    ensures unfailed { OnOk result (D.faults disk.new ≡ D.faults disk.old) }
     ensures leaves { (puts : List Put) (size : ℕ) → IsReady log.old → Logged ⟦<D as Disk>⟧ disk.old log.old puts size → LeavesOnly ⟦<D as Disk>⟧ disk.old disk.new (λ moment image. HasPuts puts log.old image) }
-    ensures touches { TouchesOnly ⟦<D as Disk>⟧ disk.old disk.new any_file }
+    ensures touches { TouchesOnly ⟦<D as Disk>⟧ disk.old disk.new (has_file log.old) }
+    ensures same { IsSameLog log.old log.new }
 {
     if log.is_open() {
         return Ok(());
@@ -292,6 +296,8 @@ impl Store {
         ensures write_failed { result ≡ Err LogWriteFault → Rose ⟦<D as Disk>⟧ disk.old disk.new }
         ensures damaged { (file place : ℕ) → result ≡ Err (LogDamaged file place) → IsTrue D.tells → IsDamaged (D.seen disk.old) file place }
         ensures quiet { Stays ⟦<D as Disk>⟧ disk.old disk.new }
+        ensures seen { D.seen disk.new ≡ D.seen disk.old }
+        ensures unfailed { result ≢ Err LogReadFault → result ≢ Err LogWriteFault → D.faults disk.new ≡ D.faults disk.old }
         ensures counts { Passes ⟦<D as Disk>⟧ disk.old disk.new 6 }
     {
         let mut reader = PutReader::new(alloc);
@@ -321,12 +327,12 @@ impl Store {
         requires key { IsText 1000 key.now }
         requires value { IsText 1000 value.now }
         ensures ok { (origin : Origin) → IsOnGoing ⟦<D as Disk>⟧ origin disk.old self.old
-            → IfOk result (λ r. IsTaken ⟦<D as Disk>⟧ origin disk.new self.old.trail.entries self.new key.now value.now r) }
-        ensures stamp { IfOk result (λ r. (r.stamp ≡ max (self.old.last + 1) (min now 4611686018427387904)) × (r.stamp ≤ 9223372036854775807)) }
+            → IfOk result (λ r. IsTaken ⟦<D as Disk>⟧ origin (D.calls disk.old) disk.new self.old.trail.entries self.new key.now value.now r) }
+        ensures stamp { IfOk result (λ r. (r.stamp ≡ stamp_after self.old.last now) × (r.stamp ≤ 9223372036854775807)) }
         ensures err { (origin : Origin) → IsOnGoing ⟦<D as Disk>⟧ origin disk.old self.old
-            → IfErr result (λ refusal. Left ⟦<D as Disk>⟧ origin disk.old disk.new self.old.trail.entries self.new key.now value.now refusal) }
+            → IfErr result (λ refusal. Left ⟦<D as Disk>⟧ origin disk.old disk.new self.old.trail.entries self.new key.now value.now (stamp_after self.old.last now) refusal) }
         ensures cause { (origin : Origin) → IsOnGoing ⟦<D as Disk>⟧ origin disk.old self.old → IfErr result (λ refusal. RefusesUpsert origin self.old.trail.entries key.now value.now refusal) }
-        ensures later { (D.calls disk.old ≤ D.calls disk.new) × (D.faults disk.old ≤ D.faults disk.new) }
+        ensures touches { TouchesOnly ⟦<D as Disk>⟧ disk.old disk.new (has_file self.old.log) }
     {
         let Some(stamp) = next_stamp(self.last, now) else {
             return Err(Refusal::Limit(Limit::Stamps));

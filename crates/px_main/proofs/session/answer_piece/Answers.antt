@@ -1,12 +1,12 @@
 use Rattle.px_main.proofs.Answering.{answered_piece, reads_err, reads_ok}
 use Rattle.px_main.proofs.session.answer_piece.Goals as goal
 
-pub returns-in-Err-clause-answered : goal.returns-in-Err-clause-answered
-returns-in-Err-clause-answered g c = λ origin kept.
-    answered_piece g.D.Disk origin c.args.disk.now c.run_task.new.disk c.args.store.now.trail.entries c.run_task.new.store c.run_task.result _ _
-    (reads_err _ c.read_piece.result c.in-Err.refusal c.in-Err.is c.read_piece.ensures.reads) (c.run_task.ensures.answered origin kept)
+pub returns-in-Err : goal.returns-in-Err
+returns-in-Err g c = λ origin kept.
+    answered_piece g.D.Disk origin c.args.disk.now c.run_task.new.disk c.args.now c.args.store.now.trail.entries c.run_task.new.store c.run_task.result _ _
+    (reads_err _ c.read_piece.result c.in-Err.refusal c.in-Err.is c.read_piece.ensures.reads) (c.run_task.ensures origin kept)
 
-pub returns-in-Ok-clause-answered : goal.returns-in-Ok-clause-answered
-returns-in-Ok-clause-answered g c = λ origin kept.
-    answered_piece g.D.Disk origin c.args.disk.now c.run_task-in-Ok.new.disk c.args.store.now.trail.entries c.run_task-in-Ok.new.store c.run_task-in-Ok.result _ _
-    (reads_ok _ c.read_piece.result c.in-Ok.statement c.task_of.result c.in-Ok.is c.read_piece.ensures.reads c.task_of.ensures.means) (c.run_task-in-Ok.ensures.answered origin kept)
+pub returns-in-Ok : goal.returns-in-Ok
+returns-in-Ok g c = λ origin kept.
+    answered_piece g.D.Disk origin c.args.disk.now c.run_task-in-Ok.new.disk c.args.now c.args.store.now.trail.entries c.run_task-in-Ok.new.store c.run_task-in-Ok.result _ _
+    (reads_ok _ c.read_piece.result c.in-Ok.statement c.task_of.result c.in-Ok.is c.read_piece.ensures.reads c.task_of.ensures.means) (c.run_task-in-Ok.ensures origin kept)

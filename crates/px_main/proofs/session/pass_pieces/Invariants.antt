@@ -2,10 +2,11 @@ use Rattle.std.proofs.Common.{◌≤◌, length, map, take}
 use Rattle.px_lex.specs.Script.{seen_piece}
 use Rattle.px_main.specs.Origin.{Origin}
 use Rattle.px_main.specs.Kept.{IsKept}
-use Rattle.px_main.specs.Session.{IsGoing}
+use Rattle.px_main.specs.Session.{IsGoing, MovesOn}
 use Rattle.px_main.proofs.session.pass_pieces.Given as goal
 
 abbrev pub invariant-loop-i : goal.invariant-loop-i
-invariant-loop-i g l =
-    ((origin : Origin) → IsKept g.D.Disk origin l.initial.disk l.initial.store → IsGoing g.D.Disk origin l.disk l.store (length l.initial.store.trail.entries) (map seen_piece (take l.i l.pieces)) l.items.items)
-    × (g.D.Disk.calls l.initial.disk ≤ g.D.Disk.calls l.disk) × (g.D.Disk.faults l.initial.disk ≤ g.D.Disk.faults l.disk)
+invariant-loop-i g l = record {
+  going : (origin : Origin) → IsKept g.D.Disk origin l.initial.disk l.initial.store → IsGoing g.D.Disk origin l.disk l.store (length l.initial.store.trail.entries) (map seen_piece (take l.i l.pieces)) l.items.items;
+  moved : (origin : Origin) → IsKept g.D.Disk origin l.initial.disk l.initial.store → MovesOn g.D.Disk g.C.Clock origin.base l.initial.disk l.disk l.initial.clock l.clock l.initial.store.trail.entries l.store.trail.entries;
+}

@@ -1,5 +1,6 @@
 use Rattle.std.proofs.Common.{length}
 use Rattle.px_main.proofs.Sessions.{session_read, session_stopped}
+use Rattle.px_main.proofs.Stamping.{moves_none}
 use Rattle.px_main.proofs.session.run_script.Goals as goal
 
 pub returns-in-Err-clause-ran : goal.returns-in-Err-clause-ran
@@ -9,5 +10,8 @@ returns-in-Err-clause-ran g c = λ origin kept.
 
 pub returns-in-Ok-clause-ran : goal.returns-in-Ok-clause-ran
 returns-in-Ok-clause-ran g c = λ origin kept.
-    session_read g.D.Disk origin c.args.disk.now c.run_text.new.disk c.run_text.new.store c.args.script.now _ (length c.args.store.now.trail.entries) c.run_text.result.items c.run_text.result.ending
+    session_read g.D.Disk origin c.run_text.new.disk c.run_text.new.store c.args.script.now _ (length c.args.store.now.trail.entries) c.run_text.result.items c.run_text.result.ending
     c.in-Ok.ensures.0 c.in-Ok.ensures.1 (c.run_text.ensures.ran origin kept)
+
+pub returns-in-Err-clause-moved : goal.returns-in-Err-clause-moved
+returns-in-Err-clause-moved g c = λ origin kept. moves_none g.D.Disk g.C.Clock origin.base c.args.disk.now c.args.clock.now c.args.store.now.trail.entries g.met.D.Disk.up_to_now

@@ -1,7 +1,7 @@
-use Rattle.std.proofs.Common.{◌≡◌, ◌+◌, [], ◌∙◌, ap, arith, Ok}
-use Rattle.px_gatelog.specs.GateLog.{steps_left}
+use Rattle.std.proofs.Common.{rules, ◌≡◌, ◌+◌, [], ◌∙◌, ap, arith, Ok}
+use Rattle.px_gatelog.specs.GateLog.{has_file, steps_left}
 use Rattle.px_main.specs.PutRecords.{kv_form}
-use Rattle.px_main.proofs.Opening.{leaves_step, same_then, settled_none, step_kept, still_has, touch_any, touches_on}
+use Rattle.px_main.proofs.Opening.{leaves_step, same_then, settled_none, step_kept, stepped, still_has, touches_nothing}
 use Rattle.px_main.proofs.store.open_segment.Goals as goal
 
 pub returns-in-Ok-Rolled-clause-kept : goal.returns-in-Ok-Rolled-clause-kept
@@ -22,10 +22,10 @@ loop-preserved g c = record {
   leaves = λ puts size ready logged.
       leaves_step g.D.Disk c.args.disk.now c.loop.disk c.roll_step.new.disk c.args.log.now c.loop.log puts size _ c.loop.invariant.same (c.loop.invariant.leaves puts size ready logged) c.roll_step.ensures.touches
       c.loop.invariant.closed (c.loop.invariant.kept puts size ready logged) c.roll_step.ensures.any_moment (c.loop.invariant.laid puts size ready logged);
-  touches = touches_on g.D.Disk c.args.disk.now c.loop.disk c.roll_step.new.disk c.loop.invariant.touches (touch_any g.D.Disk c.args.disk.now c.loop.disk c.roll_step.new.disk _ c.roll_step.ensures.touches);
+  touches = stepped g.D.Disk c.args.disk.now c.loop.disk c.roll_step.new.disk c.args.log.now c.loop.log c.loop.invariant.same c.loop.invariant.touches c.roll_step.ensures.touches;
   same = same_then c.args.log.now c.loop.log c.roll_step.new.self c.loop.invariant.same c.roll_step.ensures.same;
   calls = omega (arith, c.roll_step.ensures.counts.later);
-  faults = omega (arith, c.roll_step.ensures.counts.faults_later);
+  unfailed = (search rules) ∙ c.loop.invariant.unfailed;
 }
 
 pub returns-then-is_open-clause-leaves : goal.returns-then-is_open-clause-leaves
@@ -40,3 +40,18 @@ pub returns-in-Err-clause-leaves : goal.returns-in-Err-clause-leaves
 returns-in-Err-clause-leaves g c = λ puts size ready logged.
     leaves_step g.D.Disk c.args.disk.now c.loop.disk c.roll_step.new.disk c.args.log.now c.loop.log puts size _ c.loop.invariant.same (c.loop.invariant.leaves puts size ready logged) c.roll_step.ensures.touches
     c.loop.invariant.closed (c.loop.invariant.kept puts size ready logged) c.roll_step.ensures.any_moment (c.loop.invariant.laid puts size ready logged)
+
+pub returns-then-is_open-clause-touches : goal.returns-then-is_open-clause-touches
+returns-then-is_open-clause-touches g c = touches_nothing g.D.Disk c.args.disk.now (has_file c.args.log.now) g.met.D.Disk.up_to_now
+
+pub returns-in-Ok-Rolled-clause-touches : goal.returns-in-Ok-Rolled-clause-touches
+returns-in-Ok-Rolled-clause-touches g c = stepped g.D.Disk c.args.disk.now c.loop.disk c.roll_step.new.disk c.args.log.now c.loop.log c.loop.invariant.same c.loop.invariant.touches c.roll_step.ensures.touches
+
+pub returns-in-Err-clause-touches : goal.returns-in-Err-clause-touches
+returns-in-Err-clause-touches g c = stepped g.D.Disk c.args.disk.now c.loop.disk c.roll_step.new.disk c.args.log.now c.loop.log c.loop.invariant.same c.loop.invariant.touches c.roll_step.ensures.touches
+
+pub returns-in-Ok-Rolled-clause-same : goal.returns-in-Ok-Rolled-clause-same
+returns-in-Ok-Rolled-clause-same g c = same_then c.args.log.now c.loop.log c.roll_step.new.self c.loop.invariant.same c.roll_step.ensures.same
+
+pub returns-in-Err-clause-same : goal.returns-in-Err-clause-same
+returns-in-Err-clause-same g c = same_then c.args.log.now c.loop.log c.roll_step.new.self c.loop.invariant.same c.roll_step.ensures.same

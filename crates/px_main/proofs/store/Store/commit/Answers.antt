@@ -22,7 +22,7 @@ returns-in-Err-clause-err g c = λ origin kept.
     ∙ ap (λ (l : List Change). with_begun c.args.self.now.trail.entries (g.D.Disk.calls c.args.disk.now) c.args.batch.stamp l) c.requires.batch.changes) in
     let number : c.in-Some.number ≡ c.args.self.now.number + 1 = omega arith in (
       c.in-Err.ensures.err.1,
-      stopped g.D.Disk origin c.args.disk.now c.args.self.now c.append_batch.new.self.trail.entries (put_in_batch c.args.batch) kept c.requires.later is,
+      stopped g.D.Disk origin c.args.disk.now c.args.self.now c.append_batch.new.self.trail.entries (put_in_batch c.args.batch) kept c.requires.later is (g.D.Disk.calls c.append_batch.new.disk) c.append_batch.ensures.counts.later,
       stopped_lasts g.D.Disk origin c.args.disk.now c.append_batch.new.disk c.args.self.now c.append_batch.new.self.trail.entries (put_in_batch c.args.batch) _ kept g.met.D.Disk.told c.requires.put c.requires.later c.requires.open
           (c.frame_batch.ensures.framed ∙ ap (λ (n : ℕ). put_record n (put_in_batch c.args.batch)) number) c.append_batch.ensures.leaves _ c.append_batch.ensures.touches c.append_batch.ensures.counts.later
           c.append_batch.ensures.counts.at_most is,
@@ -37,7 +37,7 @@ returns-in-Ok-append_batch-clause-ok g c = λ origin kept.
     let number : c.in-Some.number ≡ c.args.self.now.number + 1 = omega arith in
     let counted : c.in_ok-bytes.bytes ≡ counted_change change = counted_one _ c.args.batch.changes change c.in_ok-bytes.ensures.counted c.requires.batch.changes in
     committed g.D.Disk origin c.args.disk.now c.append_batch.new.disk c.args.self.now _ c.append_batch.new.self (put_in_batch c.args.batch) _ kept c.requires.put c.requires.later
-    c.append_batch.ensures.counts.later c.requires.open refl c.in_ok-bytes.ensures.same number
+    c.append_batch.ensures.counts.later c.in-Ok-append_batch.ensures.unfailed c.requires.open refl c.in_ok-bytes.ensures.same number
     (c.in_ok-bytes.ensures.ok.1 ∙ ap (λ (n : ℕ). c.args.self.now.trail.bytes_room + n) counted)
     (c.frame_batch.ensures.framed ∙ ap (λ (n : ℕ). put_record n (put_in_batch c.args.batch)) number)
     (HoldsPuts-insert c.args.self.now.rows c.store_row.new.rows c.args.self.now.last c.args.self.now.number kept.puts (put_in_batch c.args.batch) c.args.batch.key _ kept.holds c.requires.put c.requires.later refl refl c.in-Ok.ensures.stored)
@@ -47,5 +47,5 @@ returns-in-Ok-append_batch-clause-ok g c = λ origin kept.
 
 pub returns-in_err-bytes-clause-err : goal.returns-in_err-bytes-clause-err
 returns-in_err-bytes-clause-err g c = λ origin kept.
-    left_room g.D.Disk g.met.D.Disk.told origin c.args.disk.now c.args.disk.now c.args.self.now.trail.entries _ (string_bytes c.args.batch.key) (string_bytes c.args.batch.value) c.from_residual.result c.in_err-bytes.field-0.0 (search rules)
+    left_room g.D.Disk g.met.D.Disk.told origin c.args.disk.now c.args.disk.now c.args.self.now.trail.entries _ (string_bytes c.args.batch.key) (string_bytes c.args.batch.value) c.args.batch.stamp c.from_residual.result c.in_err-bytes.field-0.0 (search rules)
     (search rules) (refused_same g.D.Disk g.met.D.Disk.told origin c.args.disk.now c.args.self.now _ kept g.met.D.Disk.up_to_now c.in_err-bytes.ensures.err refl refl refl refl)
