@@ -1,6 +1,7 @@
 #!/usr/bin/env bash
 # Runs the built program where the real system fails it, and compares its exit status and its line on standard error:
-# words that are no command, a closed input, a full output, a file in the folder's place, a full and a read-only disk.
+# words that are no command, a closed input, a full output, a damaged file, little memory, a file in the folder's place, a
+# full and a read-only disk.
 # The last two mount a small file system in memory, which takes root; without it they are left out, and a line says so.
 # Usage: tests/real_faults.sh. Exit status 0 where all is as it should be.
 set -u
@@ -54,6 +55,19 @@ status=$?
 expect "full output" 7 "sink fault"
 rows=$(echo "SELECT * FROM KV" | "$program" run "$work/full" | tail -1)
 [ "$rows" = "1 row selected" ] || { echo "WRONG: the row isn't there: $rows"; wrong=1; }
+
+# The generation of the log's first segment, at bytes 8 to 15, is never 0.
+head -c 8 /dev/zero | dd of="$work/full/0000000100000000.px" bs=1 seek=8 conv=notrunc 2>/dev/null
+echo "$upsert" | "$program" run "$work/full" >"$work/out" 2>"$work/err"
+status=$?
+expect "a damaged file" 5 "damaged file 4294967296 at 8"
+[ -s "$work/out" ] && { echo "WRONG: it wrote to its output"; wrong=1; }
+
+# A script for which the memory that the program may take doesn't do.
+head -c 60000000 /dev/zero | tr '\0' ' ' >"$work/long"
+(ulimit -v 60000 && "$program" run "$work/none" <"$work/long") >"$work/out" 2>"$work/err"
+status=$?
+expect "little memory" 4 "out of memory"
 
 echo "a file" >"$work/file"
 echo "$upsert" | "$program" run "$work/file" >"$work/out" 2>"$work/err"
