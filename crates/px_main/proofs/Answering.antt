@@ -12,8 +12,8 @@ use Rattle.px_lex.specs.Script.{SeenPiece}
 use Rattle.px_ast.specs.declared.statement.Statement.{Statement}
 use Rattle.px_values.specs.declared.print.CountWord.TheVariants.{Affected}
 use Rattle.px_values.specs.States.{Shape}
-use Rattle.px_trail.specs.Trail.{AreRowsNow, Base, last_of, shape_or_none}
-use Rattle.px_trail.specs.declared.entry.Entry.{Entry}
+use Rattle.px_kv_trail.specs.Trail.{AreRowsNow, Base, last_of, shape_or_none}
+use Rattle.px_kv_trail.specs.declared.entry.Entry.{Entry}
 use Rattle.px_main.specs.declared.put_reader.Stored.{Stored}
 use Rattle.px_main.specs.declared.reply.Receipt.{Receipt}
 use Rattle.px_main.specs.declared.reply.Refusal.{Refusal}

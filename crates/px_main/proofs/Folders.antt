@@ -3,8 +3,8 @@ use Rattle.std.proofs.Common.{◌≡◌, ◌≤◌, ℕ, List, Result, Ok, sym, 
 use Rattle.std.specs.List.{AllByRecursion}
 use Rattle.px_outside.specs.Disk.{Image}
 use Rattle.px_values.specs.declared.row.Value.{Value}
-use Rattle.px_trail.specs.declared.entry.Entry.{Entry}
-use Rattle.px_trail.specs.Trail.{Base, last_of, state_of}
+use Rattle.px_kv_trail.specs.declared.entry.Entry.{Entry}
+use Rattle.px_kv_trail.specs.Trail.{Base, last_of, state_of}
 use Rattle.px_gatelog.specs.Format.{LogPlace, SegmentRead, records_of, segments_of}
 use Rattle.px_gatelog.specs.declared.gate_log.GateLog.{GateLog}
 use Rattle.px_main.specs.Kv.{base_by, kv, state_by}

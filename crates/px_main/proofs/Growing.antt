@@ -11,9 +11,9 @@ use Rattle.px_values.specs.declared.name.TableId.{TableId}
 use Rattle.px_values.proofs.Equal.{row_order-Decides}
 use Rattle.px_values.specs.Order.{row_order}
 use Rattle.px_values.specs.States.{RowState, Shape, apply}
-use Rattle.px_trail.specs.declared.entry.Entry.{Entry}
-use Rattle.px_trail.specs.Trail.{Base, Batch, IsLegal, batch_of, calls_of, last_of, shape_of, state_of, unwritten}
-use Rattle.px_trail.specs.One.{all_written, begun-last, begun-legal, begun-state, begun_entry, ended-is, ended-last, ended-legal, ended-quiet, ended-state, ended-whole, ended_entry, state_with, wrote-last, wrote-legal, wrote-state, wrote_entry}
+use Rattle.px_kv_trail.specs.declared.entry.Entry.{Entry}
+use Rattle.px_kv_trail.specs.Trail.{Base, Batch, IsLegal, batch_of, calls_of, last_of, shape_of, state_of, unwritten}
+use Rattle.px_kv_trail.specs.One.{all_written, begun-last, begun-legal, begun-state, begun_entry, ended-is, ended-last, ended-legal, ended-quiet, ended-state, ended-whole, ended_entry, state_with, wrote-last, wrote-legal, wrote-state, wrote_entry}
 use Rattle.px_main.specs.Puts.{Put, greatest, newest}
 use Rattle.px_main.specs.Kv.{Tells, key_text, kv, kv_shape, row_at, state_at, state_by, what_of}
 use Rattle.px_main.specs.Table.{key_of, row_of}
@@ -79,7 +79,7 @@ module _ (base : Base) (es : List Entry) (puts : List Put) (told : Tells base es
   stands = subst (λ (o : Option Shape). IsSome o) (sym told.stands) refl
 
   shape : shape_of base kv ≡ kv_shape
-  shape = ap (λ (o : Option Shape). Rattle.px_trail.specs.Trail.shape_or_none o) told.stands
+  shape = ap (λ (o : Option Shape). Rattle.px_kv_trail.specs.Trail.shape_or_none o) told.stands
 
   abbrev pub begun : List Entry
   begun = es ++ begun_entry seat c0 table x.stamp (key_of x.key) (what_of x.value) ∷ []

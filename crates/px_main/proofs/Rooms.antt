@@ -8,10 +8,10 @@ use Rattle.px_outside.specs.declared.disk.Disk.{Ghosts}
 use Rattle.px_values.specs.declared.change.Change.{Change}
 use Rattle.px_values.specs.declared.limit.Limit.TheVariants.{Log, Stamps, Trail}
 use Rattle.px_values.specs.declared.row.Value.{Value}
-use Rattle.px_trail.specs.declared.entry.Act.TheVariants.{Begun, Wrote, Ended}
-use Rattle.px_trail.specs.declared.entry.Entry.{Entry}
-use Rattle.px_trail.specs.Count.{counted_act, counted_bytes, counted_change}
-use Rattle.px_trail.specs.Trail.{greatest_stamp, last_of}
+use Rattle.px_kv_trail.specs.declared.entry.Act.TheVariants.{Begun, Wrote, Ended}
+use Rattle.px_kv_trail.specs.declared.entry.Entry.{Entry}
+use Rattle.px_kv_trail.specs.Count.{counted_act, counted_bytes, counted_change}
+use Rattle.px_kv_trail.specs.Trail.{greatest_stamp, last_of}
 use Rattle.px_gatelog.specs.First.{segment_size}
 use Rattle.px_gatelog.specs.Format.{LogForm, LogRecord, SegmentRead, listed, opened, record_bytes, spelled, with_record}
 use Rattle.px_gatelog.specs.GateLog.{GoesOnBy, bytes_at, is_open, room_in, room_of}

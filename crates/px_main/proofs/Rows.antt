@@ -16,8 +16,8 @@ use Rattle.std.proofs.lemmas.Map.Text.{is_eq-slice_cmp}
 use Rattle.std.proofs.lemmas.Slice.Eq.{bytes_eq-Decides}
 use Rattle.px_values.specs.declared.row.Value.{Value}
 use Rattle.px_values.specs.Order.{row_order}
-use Rattle.px_trail.specs.declared.entry.Entry.{Entry}
-use Rattle.px_trail.specs.Trail.{AreRowsNow, Base, IsOneOf, greatest_stamp, key_in, shape_of, state_of}
+use Rattle.px_kv_trail.specs.declared.entry.Entry.{Entry}
+use Rattle.px_kv_trail.specs.Trail.{AreRowsNow, Base, IsOneOf, greatest_stamp, key_in, shape_of, state_of}
 use Rattle.px_main.specs.declared.put_reader.Stored.{Stored}
 use Rattle.px_main.specs.Puts.{Put, newest, newest_from, is_newer}
 use Rattle.px_main.specs.Kv.{key_text, kv, kv_shape, row_at, state_at, state_by}

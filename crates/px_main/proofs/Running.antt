@@ -4,7 +4,7 @@ use Rattle.std.proofs.Math.Seq.{drop-append_seam, take-length}
 use Rattle.std.proofs.lemmas.List.{take-append-le}
 use Rattle.px_outside.specs.declared.disk.Disk.{Ghosts}
 use Rattle.px_lex.specs.Script.{SeenPiece}
-use Rattle.px_trail.specs.declared.entry.Entry.{Entry}
+use Rattle.px_kv_trail.specs.declared.entry.Entry.{Entry}
 use Rattle.px_main.specs.declared.reply.Item.{Item}
 use Rattle.px_main.specs.declared.session.Answer.{Answer}
 use Rattle.px_main.specs.declared.store.Store.{Store}

@@ -13,9 +13,9 @@ use Rattle.px_gatelog.specs.Format.{segments_of}
 use Rattle.px_gatelog.proofs.Standing.{on_stands}
 use Rattle.px_gatelog.specs.declared.fault.StartFault.{StartFault}
 use Rattle.px_gatelog.specs.declared.fault.StartFault.TheVariants.{ReadFault, WriteFault as LogWriteFault, Damaged, Memory as LogMemory}
-use Rattle.px_trail.specs.One.{AllEnded}
-use Rattle.px_trail.specs.Trail.{IsLegal}
-use Rattle.px_trail.specs.declared.entry.Entry.{Entry}
+use Rattle.px_kv_trail.specs.One.{AllEnded}
+use Rattle.px_kv_trail.specs.Trail.{IsLegal}
+use Rattle.px_kv_trail.specs.declared.entry.Entry.{Entry}
 use Rattle.px_main.specs.declared.reply.Item.{Item}
 use Rattle.px_main.specs.declared.reply.Refusal.TheVariants.{WriteFault as WriteFaultRefusal}
 use Rattle.px_main.specs.declared.reply.Reply.TheVariants.{Refused as RefusedReply}

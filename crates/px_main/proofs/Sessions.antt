@@ -6,8 +6,8 @@ use Rattle.px_outside.specs.declared.disk.Disk.{Ghosts}
 use Rattle.px_lex.specs.declared.script.Piece.{Piece}
 use Rattle.px_lex.specs.Script.{IsScript, Section, SeenPiece, pieces_from, seen_piece}
 use Rattle.px_lex.proofs.SomeScript.{some_script}
-use Rattle.px_trail.specs.Trail.{calls_of}
-use Rattle.px_trail.specs.declared.entry.Entry.{Entry}
+use Rattle.px_kv_trail.specs.Trail.{calls_of}
+use Rattle.px_kv_trail.specs.declared.entry.Entry.{Entry}
 use Rattle.px_main.specs.declared.reply.Item.{Item}
 use Rattle.px_main.specs.declared.reply.Refusal.{Refusal}
 use Rattle.px_main.specs.declared.reply.Refusal.TheVariants.{WriteFault as WriteFaultRefusal}

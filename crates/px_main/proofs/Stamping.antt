@@ -3,10 +3,10 @@ use Rattle.std.proofs.Common.{◌≡◌, ◌<◌, ◌≤◌, ◌+◌, ◌⊎◌,
 use Rattle.std.specs.Prelude.{IsTrue}
 use Rattle.px_outside.specs.declared.clock.Clock.{Ghosts as ClockGhosts}
 use Rattle.px_outside.specs.declared.disk.Disk.{Ghosts}
-use Rattle.px_trail.specs.declared.entry.Act.{Act}
-use Rattle.px_trail.specs.declared.entry.Act.TheVariants.{Begun, Wrote, Ended}
-use Rattle.px_trail.specs.declared.entry.Entry.{Entry}
-use Rattle.px_trail.specs.Trail.{Base, last_of}
+use Rattle.px_kv_trail.specs.declared.entry.Act.{Act}
+use Rattle.px_kv_trail.specs.declared.entry.Act.TheVariants.{Begun, Wrote, Ended}
+use Rattle.px_kv_trail.specs.declared.entry.Entry.{Entry}
+use Rattle.px_kv_trail.specs.Trail.{Base, last_of}
 use Rattle.px_main.specs.Added.{AddsBatch, AddsBegun, with_batch, with_begun}
 use Rattle.px_main.specs.Batch.{kv_change}
 use Rattle.px_main.specs.Kept.{Grows}

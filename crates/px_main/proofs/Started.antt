@@ -2,9 +2,9 @@
 use Rattle.std.proofs.Common.{◌≡◌, ◌≤◌, ◌+◌, ℕ, Bool, true, false, List, [], Some, None, Ok, refl, sym, ◌∙◌, ap, subst, arith, inl}
 use Rattle.px_outside.specs.OnDisk.{Stays}
 use Rattle.px_outside.specs.declared.disk.Disk.{Ghosts}
-use Rattle.px_trail.specs.Trail.{Batch, applied, batch_from, batch_of, begun, calls_from, calls_of, last_from, unwritten}
-use Rattle.px_trail.specs.Growth.{legal-none}
-use Rattle.px_trail.specs.declared.entry.Entry.{Entry}
+use Rattle.px_kv_trail.specs.Trail.{Batch, applied, batch_from, batch_of, begun, calls_from, calls_of, last_from, unwritten}
+use Rattle.px_kv_trail.specs.Growth.{legal-none}
+use Rattle.px_kv_trail.specs.declared.entry.Entry.{Entry}
 use Rattle.px_gatelog.specs.Format.{SegmentRead, records_of, segments_of}
 use Rattle.px_main.specs.declared.store.Store.{Store}
 use Rattle.px_main.specs.Kept.{IsKept, IsOpened}

@@ -7,9 +7,9 @@ use Rattle.std.proofs.lemmas.List.Elements.{filter-append}
 use Rattle.px_outside.specs.Disk.{Image}
 use Rattle.px_outside.specs.OnDisk.{IsLeft, LeavesOnly, Stays, TouchesOnly}
 use Rattle.px_outside.specs.declared.disk.Disk.{Ghosts}
-use Rattle.px_trail.specs.declared.entry.Entry.{Entry}
-use Rattle.px_trail.specs.One.{begun_entry, ended_entry, wrote_entry}
-use Rattle.px_trail.specs.Trail.{Base, IsLegal, calls_of}
+use Rattle.px_kv_trail.specs.declared.entry.Entry.{Entry}
+use Rattle.px_kv_trail.specs.One.{begun_entry, ended_entry, wrote_entry}
+use Rattle.px_kv_trail.specs.Trail.{Base, IsLegal, calls_of}
 use Rattle.px_gatelog.specs.declared.gate_log.GateLog.{GateLog}
 use Rattle.px_main.specs.declared.store.Store.{Store}
 use Rattle.px_main.specs.Added.{AddedBetween, kv_table, session_seat}

@@ -5,8 +5,8 @@ use Rattle.std.proofs.lemmas.List.{append-nil}
 use Rattle.px_outside.specs.declared.disk.Disk.{Ghosts}
 use Rattle.px_outside.specs.OnDisk.{LeavesOnly, Rose, TouchesOnly}
 use Rattle.px_values.specs.declared.limit.Limit.TheVariants.{Trail}
-use Rattle.px_trail.specs.Trail.{calls_of}
-use Rattle.px_trail.specs.declared.entry.Entry.{Entry}
+use Rattle.px_kv_trail.specs.Trail.{calls_of}
+use Rattle.px_kv_trail.specs.declared.entry.Entry.{Entry}
 use Rattle.px_main.specs.declared.reply.Receipt.{Receipt}
 use Rattle.px_main.specs.declared.reply.Refusal.{Refusal}
 use Rattle.px_main.specs.declared.reply.Refusal.TheVariants.{Syntax, LeftOut, Form, Limit, WriteFault, Memory}

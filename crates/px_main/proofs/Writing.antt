@@ -7,16 +7,16 @@ use Rattle.px_outside.specs.Disk.{Image}
 use Rattle.px_outside.specs.OnDisk.{IsLeft, LeavesOnly, TouchesOnly}
 use Rattle.px_outside.specs.declared.disk.Disk.{Ghosts}
 use Rattle.std.specs.List.{AllByRecursion}
-use Rattle.px_trail.specs.declared.entry.Entry.{Entry}
-use Rattle.px_trail.specs.declared.entry.Act.TheVariants.{Wrote, Ended}
-use Rattle.px_trail.specs.Growth.{calls-snoc}
-use Rattle.px_trail.specs.Trail.{IsLegal, batch_of, calls_of}
-use Rattle.px_trail.specs.Count.{counted_bytes, counted_change}
+use Rattle.px_kv_trail.specs.declared.entry.Entry.{Entry}
+use Rattle.px_kv_trail.specs.declared.entry.Act.TheVariants.{Wrote, Ended}
+use Rattle.px_kv_trail.specs.Growth.{calls-snoc}
+use Rattle.px_kv_trail.specs.Trail.{IsLegal, batch_of, calls_of}
+use Rattle.px_kv_trail.specs.Count.{counted_bytes, counted_change}
 use Rattle.std.specs.Prelude.{String}
 use Rattle.std.specs.BTreeMap.{BTreeMap}
 use Rattle.std.specs.declared.alloc.Global.{Global}
 use Rattle.px_main.specs.declared.put_reader.Stored.{Stored}
-use Rattle.px_trail.specs.One.{begun_entry, ended_entry, wrote_entry}
+use Rattle.px_kv_trail.specs.One.{begun_entry, ended_entry, wrote_entry}
 use Rattle.px_gatelog.specs.Format.{IsNextRecord, LogForm, LogRecord, SegmentRead, listed, records_of, with_record}
 use Rattle.px_gatelog.specs.Framed.{record_of}
 use Rattle.px_gatelog.specs.GateLog.{GoesOnBy, IsSameLog, is_open, room_of, steps_left}

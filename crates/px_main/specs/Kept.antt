@@ -4,9 +4,9 @@ use Rattle.px_outside.specs.OnDisk.{Rose, Stays}
 use Rattle.px_outside.specs.declared.disk.Disk.{Ghosts}
 use Rattle.px_values.specs.declared.change.Change.{Change}
 use Rattle.px_values.specs.declared.row.Value.{Value}
-use Rattle.px_trail.specs.declared.entry.Entry.{Entry}
-use Rattle.px_trail.specs.Count.{counted_change}
-use Rattle.px_trail.specs.Trail.{Base, Batch, IsLegal, batch_of, calls_of, unwritten}
+use Rattle.px_kv_trail.specs.declared.entry.Entry.{Entry}
+use Rattle.px_kv_trail.specs.Count.{counted_change}
+use Rattle.px_kv_trail.specs.Trail.{Base, Batch, IsLegal, batch_of, calls_of, unwritten}
 use Rattle.px_gatelog.specs.Format.{IsNextRecord, LogForm, LogRecord, SegmentRead, with_record}
 use Rattle.px_gatelog.specs.Framed.{record_of}
 use Rattle.px_gatelog.specs.Steps.{IsAppend, Reaches}

@@ -5,9 +5,9 @@ use Rattle.px_values.specs.declared.row.Value.TheVariants.{Null, Number, Truth, 
 use Rattle.px_values.specs.States.{RowState, Shape}
 use Rattle.px_values.specs.declared.change.What.{What}
 use Rattle.px_values.specs.declared.change.What.TheVariants.{Set}
-use Rattle.px_trail.specs.declared.entry.Entry.{Entry}
-use Rattle.px_trail.specs.One.{AllEnded, AllWritten}
-use Rattle.px_trail.specs.Trail.{Base, IsLegal, last_of, state_of}
+use Rattle.px_kv_trail.specs.declared.entry.Entry.{Entry}
+use Rattle.px_kv_trail.specs.One.{AllEnded, AllWritten}
+use Rattle.px_kv_trail.specs.Trail.{Base, IsLegal, last_of, state_of}
 use Rattle.px_main.specs.Puts.{Put, greatest, newest}
 use Rattle.px_main.specs.Table.{row_of}
 

@@ -6,11 +6,11 @@ use Rattle.px_values.specs.declared.change.Change.{Change}
 use Rattle.px_values.specs.declared.change.What.{What}
 use Rattle.px_values.specs.declared.change.What.TheVariants.{Set, Gone}
 use Rattle.px_values.specs.declared.change.Assignment.{Assignment}
-use Rattle.px_trail.specs.declared.entry.Act.{Act}
-use Rattle.px_trail.specs.declared.entry.Act.TheVariants.{Begun, Wrote, Ended}
-use Rattle.px_trail.specs.declared.entry.Entry.{Entry}
-use Rattle.px_trail.specs.Trail.{Base}
-use Rattle.px_trail.specs.Count.{counted_bytes, counted_change}
+use Rattle.px_kv_trail.specs.declared.entry.Act.{Act}
+use Rattle.px_kv_trail.specs.declared.entry.Act.TheVariants.{Begun, Wrote, Ended}
+use Rattle.px_kv_trail.specs.declared.entry.Entry.{Entry}
+use Rattle.px_kv_trail.specs.Trail.{Base}
+use Rattle.px_kv_trail.specs.Count.{counted_bytes, counted_change}
 use Rattle.px_main.specs.Batch.{kv_change}
 use Rattle.px_main.specs.PutForm.{put_size}
 

@@ -3,8 +3,8 @@ use Rattle.std.specs.Prelude.{◌≡◌, ◌≢◌, ℕ, List, length}
 use Rattle.px_outside.specs.declared.disk.Disk.{Ghosts}
 use Rattle.px_outside.specs.OnDisk.{Rose, TouchesOnly}
 use Rattle.px_lex.specs.Script.{SeenPiece}
-use Rattle.px_trail.specs.Trail.{IsLegal}
-use Rattle.px_trail.specs.declared.entry.Entry.{Entry}
+use Rattle.px_kv_trail.specs.Trail.{IsLegal}
+use Rattle.px_kv_trail.specs.declared.entry.Entry.{Entry}
 use Rattle.px_main.specs.declared.reply.Receipt.{Receipt}
 use Rattle.px_main.specs.declared.reply.Refusal.TheVariants.{WriteFault}
 use Rattle.px_main.specs.declared.reply.Reply.{Reply}

@@ -2,8 +2,8 @@
 use Rattle.std.specs.Prelude.{◌≡◌, ◌≤◌, ℕ, List}
 use Rattle.px_values.specs.declared.limit.Limit.{Limit}
 use Rattle.px_values.specs.declared.limit.Limit.TheVariants.{Log, Stamps, Trail}
-use Rattle.px_trail.specs.declared.entry.Entry.{Entry}
-use Rattle.px_trail.specs.Trail.{greatest_stamp, last_of}
+use Rattle.px_kv_trail.specs.declared.entry.Entry.{Entry}
+use Rattle.px_kv_trail.specs.Trail.{greatest_stamp, last_of}
 use Rattle.px_main.specs.Kv.{kv}
 use Rattle.px_main.specs.Origin.{Origin, PassesLog, PassesTrail}
 use Rattle.px_main.specs.declared.reply.Refusal.{Refusal}

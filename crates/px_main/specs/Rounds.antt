@@ -2,7 +2,7 @@
 use Rattle.std.specs.Prelude.{◌≡◌, ◌≢◌, ◌≤◌, ◌<◌, ◌+◌, ◌==◌, ◌⊎◌, ◌++◌, ◌∷◌, [], ℕ, List, filter, length, take, drop, slice_get, Some, Bool, true, false, ◌||◌}
 use Rattle.std.specs.List.{flat_map, list_any}
 use Rattle.px_lex.specs.Script.{SeenPiece}
-use Rattle.px_trail.specs.declared.entry.Entry.{Entry}
+use Rattle.px_kv_trail.specs.declared.entry.Entry.{Entry}
 use Rattle.px_main.specs.declared.reply.Item.{Item}
 use Rattle.px_main.specs.declared.reply.Transcript.{Transcript}
 use Rattle.px_main.specs.declared.session.Ending.{Ending}

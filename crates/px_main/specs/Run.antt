@@ -11,9 +11,9 @@ use Rattle.px_outside.specs.declared.source.Source.{Ghosts as SourceGhosts}
 use Rattle.px_gatelog.specs.declared.fault.StartFault.{StartFault}
 use Rattle.px_gatelog.specs.declared.fault.StartFault.TheVariants.{ReadFault as ReadFaultOfLog, WriteFault as WriteFaultOfLog, Damaged as DamagedLog, Memory as MemoryOfLog}
 use Rattle.px_lex.specs.Script.{IsScript, Section, SeenPiece, pieces_from}
-use Rattle.px_trail.specs.One.{AllEnded}
-use Rattle.px_trail.specs.Trail.{IsLegal}
-use Rattle.px_trail.specs.declared.entry.Entry.{Entry}
+use Rattle.px_kv_trail.specs.One.{AllEnded}
+use Rattle.px_kv_trail.specs.Trail.{IsLegal}
+use Rattle.px_kv_trail.specs.declared.entry.Entry.{Entry}
 use Rattle.px_main.specs.declared.reply.Item.{Item}
 use Rattle.px_main.specs.declared.reply.Refusal.{Refusal}
 use Rattle.px_main.specs.declared.reply.Refusal.TheVariants.{Syntax, LeftOut, Form, Limit, WriteFault as WriteFaultRefusal, Memory as MemoryRefusal}

@@ -4,8 +4,8 @@ use Rattle.px_outside.specs.declared.clock.Clock.{Ghosts as ClockGhosts}
 use Rattle.px_outside.specs.declared.disk.Disk.{Ghosts}
 use Rattle.px_outside.specs.OnDisk.{Rose, TouchesOnly}
 use Rattle.px_lex.specs.Script.{IsScript, Section, SeenPiece, pieces_from}
-use Rattle.px_trail.specs.Trail.{Base, IsLegal, calls_of}
-use Rattle.px_trail.specs.declared.entry.Entry.{Entry}
+use Rattle.px_kv_trail.specs.Trail.{Base, IsLegal, calls_of}
+use Rattle.px_kv_trail.specs.declared.entry.Entry.{Entry}
 use Rattle.px_main.specs.declared.reply.Item.{Item}
 use Rattle.px_main.specs.declared.reply.Refusal.{Refusal}
 use Rattle.px_main.specs.declared.reply.Reply.TheVariants.{Refused}

@@ -1,9 +1,9 @@
 -- The stamps of batches, by the clock.
 use Rattle.std.specs.Prelude.{◌≡◌, ◌<◌, ◌≤◌, ◌+◌, ◌++◌, ◌∷◌, [], ℕ, List, max, min}
-use Rattle.px_trail.specs.declared.entry.Act.{Act}
-use Rattle.px_trail.specs.declared.entry.Act.TheVariants.{Begun, Wrote, Ended}
-use Rattle.px_trail.specs.declared.entry.Entry.{Entry}
-use Rattle.px_trail.specs.Trail.{Base, last_of}
+use Rattle.px_kv_trail.specs.declared.entry.Act.{Act}
+use Rattle.px_kv_trail.specs.declared.entry.Act.TheVariants.{Begun, Wrote, Ended}
+use Rattle.px_kv_trail.specs.declared.entry.Entry.{Entry}
+use Rattle.px_kv_trail.specs.Trail.{Base, last_of}
 
 -- clocks above this number, 2^62, count as it
 abbrev pub latest_clock : ℕ

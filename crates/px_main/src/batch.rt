@@ -1,6 +1,6 @@
 // A batch of one row, and what it takes before it begins.
 ghost use Rattle.std.specs.Prelude.{◌≡◌, ◌<◌, ◌≤◌, ◌+◌, ◌∷◌, [], ◌↔◌, ℕ, sum_by, IfOk, OnErr, IfErr, Err, MatchOption, ◌≢◌, ◌⊎◌};
-ghost use Rattle.px_trail.specs.Count.{counted_bytes, counted_change};
+ghost use Rattle.px_kv_trail.specs.Count.{counted_bytes, counted_change};
 ghost use Rattle.px_main.specs.Batch.{kv_change};
 ghost use Rattle.px_main.specs.declared.reply.Refusal.TheVariants.{Limit as LimitRefusal, Memory as MemoryRefusal};
 ghost use Rattle.px_main.specs.Refusals.{IsUpsertRefusal};
@@ -9,7 +9,7 @@ ghost use Rattle.px_values.specs.declared.limit.Limit.TheVariants.{Stamps as Sta
 
 use crate::reply::Refusal;
 use crate::table::key_row;
-use px_trail::{Trail, TrailFault, changes_bytes};
+use px_kv_trail::{Trail, TrailFault, changes_bytes};
 use px_values::{Assignment, Assignments, Change, Changes, Limit, Rows, Text, Value, What};
 use std::alloc::{AllocError, Global};
 

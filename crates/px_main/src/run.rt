@@ -18,7 +18,7 @@ use px_gatelog::StartFault;
 use px_outside::{
     Clock, CountsCalls, Disk, InputFault, Metered, Sink, Source, read_all, write_all,
 };
-use px_trail::{Entry, Trail};
+use px_kv_trail::{Entry, Trail};
 use px_values::Line;
 use std::alloc::Global;
 

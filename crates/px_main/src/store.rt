@@ -3,7 +3,7 @@ ghost use Rattle.std.specs.Prelude.{◌≡◌, ◌≢◌, ◌<◌, ◌≤◌, �
 ghost use Rattle.std.specs.BTreeMap.{Updates};
 ghost use Rattle.std.specs.String.{string_cmp};
 ghost use Rattle.px_outside.specs.OnDisk.{LeavesOnly, Passes, Rose, TouchesOnly};
-ghost use Rattle.px_trail.specs.Count.{counted_change};
+ghost use Rattle.px_kv_trail.specs.Count.{counted_change};
 ghost use Rattle.px_gatelog.specs.Framed.{record_of};
 ghost use Rattle.px_main.specs.Added.{with_batch, with_begun};
 ghost use Rattle.px_main.specs.Batch.{put_in_batch};
@@ -24,7 +24,7 @@ use crate::reply::{Receipt, Refusal};
 use crate::table::all_rows;
 use px_gatelog::{Frame, GateLog, Rolled, StartFault};
 use px_outside::{CountsCalls, Disk};
-use px_trail::{Act, Entry, Trail};
+use px_kv_trail::{Act, Entry, Trail};
 use px_values::{Changes, Limit, Rows, TableId};
 use std::alloc::{AllocError, Global};
 use std::collections::BTreeMap;

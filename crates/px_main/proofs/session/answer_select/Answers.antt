@@ -1,7 +1,7 @@
 use Rattle.std.proofs.Common.{ℕ, List, length, sym, subst, ap, ◌∙◌}
 use Rattle.std.specs.Prelude.{replicate}
 use Rattle.px_values.specs.declared.row.Value.{Value}
-use Rattle.px_trail.specs.Trail.{AreRowsNow}
+use Rattle.px_kv_trail.specs.Trail.{AreRowsNow}
 use Rattle.px_main.specs.Kv.{kv}
 use Rattle.px_main.proofs.Answering.{rows_told}
 use Rattle.px_main.proofs.session.answer_select.Goals as goal

@@ -1,7 +1,7 @@
 use Rattle.std.proofs.Common.{rules, ◌≡◌, ◌+◌, ◌∷◌, [], ℕ, List, refl, ◌∙◌, ap, arith, string_bytes}
 use Rattle.px_values.specs.declared.change.Change.{Change}
 use Rattle.px_values.specs.declared.limit.Limit.TheVariants.{Trail}
-use Rattle.px_trail.specs.Count.{counted_change}
+use Rattle.px_kv_trail.specs.Count.{counted_change}
 use Rattle.px_main.specs.Added.{with_begun}
 use Rattle.px_main.specs.Batch.{kv_change, put_in_batch}
 use Rattle.px_main.specs.PutRecords.{put_record}

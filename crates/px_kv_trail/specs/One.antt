@@ -11,10 +11,10 @@ use Rattle.px_values.specs.declared.name.TableId.{TableId}
 use Rattle.px_values.proofs.Equal.{row_order-Decides}
 use Rattle.px_values.specs.Order.{row_order}
 use Rattle.px_values.specs.States.{RowState, Shape, apply}
-use Rattle.px_trail.specs.declared.entry.Act.TheVariants.{Begun, Wrote, Ended}
-use Rattle.px_trail.specs.declared.entry.Entry.{Entry}
-use Rattle.px_trail.specs.Trail.{Base, Batch, Dated, Follows, IsAcknowledged, IsLegal, IsPending, applied, batch_of, batch_step, begun, begun_batch, begun_by, calls_of, change_of, dated, has, is_distinct, is_written, is_written_in, last_of, shape_of, state_of, unwritten, written}
-use Rattle.px_trail.specs.Growth.{AreOf, applied-append, batch-none, batch-others, batch_of-snoc, calls-snoc, last-snoc, legal-snoc, written-more}
+use Rattle.px_kv_trail.specs.declared.entry.Act.TheVariants.{Begun, Wrote, Ended}
+use Rattle.px_kv_trail.specs.declared.entry.Entry.{Entry}
+use Rattle.px_kv_trail.specs.Trail.{Base, Batch, Dated, Follows, IsAcknowledged, IsLegal, IsPending, applied, batch_of, batch_step, begun, begun_batch, begun_by, calls_of, change_of, dated, has, is_distinct, is_written, is_written_in, last_of, shape_of, state_of, unwritten, written}
+use Rattle.px_kv_trail.specs.Growth.{AreOf, applied-append, batch-none, batch-others, batch_of-snoc, calls-snoc, last-snoc, legal-snoc, written-more}
 
 -- the three entries of a batch of one change
 abbrev pub begun_entry : (seat calls : ℕ) → TableId → ℕ → List Value → What → Entry

@@ -1,7 +1,7 @@
 // The list of entries, with room that is taken before.
 ghost use Rattle.std.specs.Prelude.{◌≡◌, ◌≢◌, ◌<◌, ◌≤◌, ◌+◌, ◌-◌, ◌++◌, ◌∷◌, [], ◌↔◌, ◌==◌, ◌^◌, min, List, ℕ, length, slice_get, Some, Err, OnOk, IsErr, vec_len, vec_capacity};
-ghost use Rattle.px_trail.specs.Count.{counted_act};
-ghost use Rattle.px_trail.specs.declared.trail.TrailFault.TheVariants.{Limit as LimitFault};
+ghost use Rattle.px_kv_trail.specs.Count.{counted_act};
+ghost use Rattle.px_kv_trail.specs.declared.trail.TrailFault.TheVariants.{Limit as LimitFault};
 
 use crate::count::changes_bytes;
 use crate::{Act, Entry};
@@ -19,8 +19,8 @@ pub enum TrailFault {
 }
 
 impl From<AllocError> for TrailFault {
-    ghost use Rattle.px_trail.specs.Count.{counted_act};
-    ghost use Rattle.px_trail.specs.declared.trail.TrailFault.TheVariants.{Memory};
+    ghost use Rattle.px_kv_trail.specs.Count.{counted_act};
+    ghost use Rattle.px_kv_trail.specs.declared.trail.TrailFault.TheVariants.{Memory};
 
     ghost from_gives = { λ _ f. f ≡ Memory };
 
@@ -43,8 +43,8 @@ pub struct Trail {
 
 impl Model for Trail {
     ghost use Rattle.std.specs.Prelude.{◌≡◌, ◌≤◌, ◌+◌, vec_len, vec_capacity};
-    ghost use Rattle.px_trail.specs.Recorded.{Recorded};
-    ghost use Rattle.px_trail.specs.Count.{counted_bytes};
+    ghost use Rattle.px_kv_trail.specs.Recorded.{Recorded};
+    ghost use Rattle.px_kv_trail.specs.Count.{counted_bytes};
 
     ghost Value = { Recorded };
 
@@ -56,7 +56,7 @@ impl Model for Trail {
 }
 
 impl Trail {
-    ghost use Rattle.px_trail.specs.Count.{counted_act, counted_bytes};
+    ghost use Rattle.px_kv_trail.specs.Count.{counted_act, counted_bytes};
 
     /// A trail without an entry, and without room.
     pub fn new(alloc: Global) -> Trail

@@ -5,9 +5,9 @@ use Rattle.px_values.specs.declared.row.Value.TheVariants.{Null, Number, Truth, 
 use Rattle.px_values.specs.declared.change.Change.{Change}
 use Rattle.px_values.specs.declared.change.What.{What}
 use Rattle.px_values.specs.declared.change.What.TheVariants.{Set, Gone}
-use Rattle.px_trail.specs.declared.entry.Act.{Act}
-use Rattle.px_trail.specs.declared.entry.Act.TheVariants.{Begun, Wrote, Ended}
-use Rattle.px_trail.specs.declared.entry.Entry.{Entry}
+use Rattle.px_kv_trail.specs.declared.entry.Act.{Act}
+use Rattle.px_kv_trail.specs.declared.entry.Act.TheVariants.{Begun, Wrote, Ended}
+use Rattle.px_kv_trail.specs.declared.entry.Entry.{Entry}
 
 -- the bytes of a value: those of a text, eight of a number, one of a truth value, none of NULL
 abbrev pub value_bytes : Value → ℕ

@@ -9,9 +9,9 @@ use Rattle.px_values.specs.declared.change.Change.{Change}
 use Rattle.px_values.specs.declared.change.What.{What}
 use Rattle.px_values.specs.Order.{row_order}
 use Rattle.px_values.specs.States.{RowState, Shape, apply}
-use Rattle.px_trail.specs.declared.entry.Act.{Act}
-use Rattle.px_trail.specs.declared.entry.Act.TheVariants.{Begun, Wrote, Ended}
-use Rattle.px_trail.specs.declared.entry.Entry.{Entry}
+use Rattle.px_kv_trail.specs.declared.entry.Act.{Act}
+use Rattle.px_kv_trail.specs.declared.entry.Act.TheVariants.{Begun, Wrote, Ended}
+use Rattle.px_kv_trail.specs.declared.entry.Entry.{Entry}
 
 -- 1. The base
 

@@ -8,10 +8,10 @@ use Rattle.std.specs.List.{AllByRecursion}
 use Rattle.px_values.specs.declared.row.Value.{Value}
 use Rattle.px_values.specs.declared.change.What.{What}
 use Rattle.px_values.specs.States.{RowState, Shape, apply}
-use Rattle.px_trail.specs.declared.entry.Act.{Act}
-use Rattle.px_trail.specs.declared.entry.Act.TheVariants.{Begun, Wrote, Ended}
-use Rattle.px_trail.specs.declared.entry.Entry.{Entry}
-use Rattle.px_trail.specs.Trail.{Base, Batch, Dated, IsLegal, MayCome, applied, batch_from, batch_of, batch_step, begun, begun_batch, begun_by, calls_from, calls_of, change_of, dated, is_written, is_written_in, last_from, last_of, last_step, written}
+use Rattle.px_kv_trail.specs.declared.entry.Act.{Act}
+use Rattle.px_kv_trail.specs.declared.entry.Act.TheVariants.{Begun, Wrote, Ended}
+use Rattle.px_kv_trail.specs.declared.entry.Entry.{Entry}
+use Rattle.px_kv_trail.specs.Trail.{Base, Batch, Dated, IsLegal, MayCome, applied, batch_from, batch_of, batch_step, begun, begun_batch, begun_by, calls_from, calls_of, change_of, dated, is_written, is_written_in, last_from, last_of, last_step, written}
 
 -- ---- one entry more
 
