@@ -1,0 +1,4 @@
+pub mod Bytes
+pub mod Stamps
+pub mod Rows
+pub mod Verdicts
