@@ -6,7 +6,7 @@ use Rattle.px_world.specs.World.{World, horizon, st, settled, stays, live, passe
 use Rattle.px_world.specs.Events.{End, Raise, Forget, Ready, happens, Comes, set_stamp}
 use Rattle.px_world.specs.Facts.{Facts, Kept}
 use Rattle.px_world.proofs.Told.{verified_there, unpassed_verified, stays-from, live-from}
-use Rattle.px_world.proofs.Newest.{newest-at}
+use Rattle.px_cells.proofs.Newest.{newest-at}
 use Rattle.px_world.proofs.Later.{later}
 use Rattle.px_world.proofs.Steps.{set_stamp-same, set_stamp-other, facts_again, blank_again, marked_again, kept_chain, bare_over, plain_alike}
 

@@ -1,5 +1,4 @@
 pub mod Told
-pub mod Newest
 pub mod Visible
 pub mod States
 pub mod Walk

@@ -1,0 +1,5 @@
+pub mod UpTo
+pub mod Changes
+pub mod Ties
+pub mod Histories
+pub mod Stays
