@@ -65,10 +65,11 @@ def read_readme(crate):
 
 
 def rows(lines, cells, path):
-    """The rows of the table among these lines, but for its head."""
-    table = [line for line in lines if line.startswith("|")]
+    """The rows of the first table among these lines, but for its head."""
+    start = next((i for i, line in enumerate(lines) if line.startswith("|")), len(lines))
+    end = next((i for i in range(start, len(lines)) if not lines[i].startswith("|")), len(lines))
     out = []
-    for line in table[2:]:
+    for line in lines[start + 2 : end]:
         row = [cell.strip() for cell in re.split(r"(?<!\\)\|", line.strip().strip("|"))]
         if len(row) != cells:
             fault(f"{path}: a row has {len(row)} cells, and not {cells}: {line}")

@@ -28,9 +28,16 @@ mod words;
 use px_outside::{MemDisk, StdSink, StdSource, WallClock};
 use run::{Status, phoenix};
 use std::alloc::AllocError;
+use std::fs::File;
 use std::process::ExitCode;
 use std::{env, io};
 use words::folder_disk;
+
+/// The null device, open for reading. Three of them take the descriptors of input, output and errors where these were
+/// closed, so that no file of the folder gets one: a closed input is then empty, and a write to a closed output fails.
+fn null_device(rt: &HostRuntime) -> Option<File> {
+    File::open(rt, "/dev/null").ok()
+}
 
 /// The words after the program's name.
 fn words_of(rt: &HostRuntime) -> io::Result<Vec<String>> {
@@ -41,7 +48,13 @@ fn words_of(rt: &HostRuntime) -> io::Result<Vec<String>> {
     Ok(words)
 }
 
-/// Runs the program on the folder that the words name; where they name none, on no folder.
+/// Tells the status on standard error, and hands it on.
+fn told(rt: &HostRuntime, status: Status) -> Status {
+    status::tell(rt, status);
+    status
+}
+
+/// Runs the program on the folder that the words name, and tells its status; where they name none, on no folder.
 fn run_in(rt: &HostRuntime, words: &[String]) -> Result<Status, AllocError> {
     let alloc = rt.alloc();
     let clock = WallClock::new(rt);
@@ -49,18 +62,30 @@ fn run_in(rt: &HostRuntime, words: &[String]) -> Result<Status, AllocError> {
     match folder_disk(rt, alloc, words)? {
         None => {
             let disk = MemDisk::new(alloc);
-            Ok(phoenix(alloc, words, disk, clock, &mut input, &mut out).status)
+            let status = phoenix(alloc, words, disk, clock, &mut input, &mut out).status;
+            Ok(told(rt, status))
         }
-        Some(disk) => Ok(phoenix(alloc, words, disk, clock, &mut input, &mut out).status),
+        Some(disk) => {
+            let outcome = phoenix(alloc, words, disk, clock, &mut input, &mut out);
+            let status = told(rt, outcome.status);
+            status::tell_fault(rt, outcome.disk.fault());
+            drop(outcome);
+            Ok(status)
+        }
     }
 }
 
 fn main(rt: HostRuntime) -> ExitCode {
+    let _input = null_device(&rt);
+    let _output = null_device(&rt);
+    let _errors = null_device(&rt);
     let status = match words_of(&rt) {
-        Ok(words) => run_in(&rt, &words).unwrap_or(Status::Memory),
-        Err(error) if error.kind() == io::ErrorKind::OutOfMemory => Status::Memory,
-        Err(_) => Status::BadWords,
+        Ok(words) => match run_in(&rt, &words) {
+            Ok(status) => status,
+            Err(_) => told(&rt, Status::Memory),
+        },
+        Err(error) if error.kind() == io::ErrorKind::OutOfMemory => told(&rt, Status::Memory),
+        Err(_) => told(&rt, Status::BadWords),
     };
-    status::tell(&rt, status);
     ExitCode::from(status.code())
 }

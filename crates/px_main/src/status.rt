@@ -3,6 +3,7 @@ ghost use Rattle.std.specs.Prelude.{◌≡◌};
 ghost use Rattle.px_main.specs.Run.{exit_code};
 
 use crate::run::Status;
+use px_outside::FolderFault;
 use std::io::Eprint;
 
 impl Status {
@@ -23,17 +24,25 @@ impl Status {
     }
 }
 
-/// Tells a status from 2 on in a line on standard error. Where that fails, nothing is told.
+/// Tells a status from 2 on in a line on standard error, and of bad words and a damaged file one more, which helps a person.
+/// Where that fails, nothing is told.
 pub fn tell<R: Eprint>(rt: &R, status: Status) {
     let _ = match status {
         Status::Done | Status::Refused => Ok(()),
-        Status::BadWords => rt.eprintln("bad words"),
+        Status::BadWords => rt.eprintln("bad words\nusage: nipuhako run DIR < SCRIPT"),
         Status::Device { call } => rt.eprintln(format_args!("device fault at call {call}")),
         Status::Memory => rt.eprintln("out of memory"),
         Status::Damaged { file, place } => {
-            rt.eprintln(format_args!("damaged file {file} at {place}"))
+            rt.eprintln(format_args!("damaged file {file} at {place}\nin the folder it is {file:016x}.px"))
         }
         Status::SourceFault => rt.eprintln("source fault"),
         Status::SinkFault => rt.eprintln("sink fault"),
     };
+}
+
+/// Tells on standard error what the system said of the first call that failed, and of which file.
+pub fn tell_fault<R: Eprint>(rt: &R, fault: Option<&FolderFault>) {
+    if let Some(fault) = fault {
+        let _ = rt.eprintln(format_args!("{fault}"));
+    }
 }

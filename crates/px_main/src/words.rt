@@ -6,6 +6,7 @@ ghost use Rattle.px_main.specs.Words.{folder_in, is_folder, run_word};
 
 use px_outside::FolderDisk;
 use std::alloc::{AllocError, Global};
+use std::fs::File;
 use std::rt::Files;
 
 /// The folder that the words name, exactly where they are the command `run DIR`. DIR isn't empty and doesn't begin
@@ -41,7 +42,7 @@ fn names_folder(word: &[u8]) -> bool
 }
 
 /// The disk of the folder that the words name, which had no call yet; none where they are no command.
-pub fn folder_disk<R: Files + Drop>(
+pub fn folder_disk<R: Files<File = File> + Drop>(
     rt: R,
     alloc: Global,
     words: &[String],
