@@ -1,4 +1,4 @@
-//! Times the store in memory, what is visible of cells, and merging. `px_cells_bench ROWS` puts cells of so many rows into
+//! Times the store in memory, what is visible of cells, and merging. `px_bench_cells ROWS` puts cells of so many rows into
 //! a store in two batches, takes what is visible, keeps what a horizon asks for, and merges the same cells from 2, 8 and
 //! 64 sources. It says on standard error how many cells a second each of them passes; without an argument it does so for
 //! a few rows, and prints the counts alone.
