@@ -1,5 +1,5 @@
 -- A text is right exactly where its bytes are UTF-8.
-use Rattle.std.proofs.Common.{◌≡◌, ◌≢◌, ◌<◌, ◌≤◌, ◌+◌, ◌/◌, ◌%◌, ◌++◌, ◌∷◌, [], ℕ, zero, suc, Bool, true, false, List, length, inl, inr, ◌⊎◌, refl, sym, ap, subst, ◌∙◌, arith, length-append}
+use Rattle.std.proofs.Common.{◌≡◌, ◌≢◌, ◌<◌, ◌≤◌, ◌+◌, ◌/◌, ◌%◌, ◌++◌, ◌∷◌, [], ℕ, zero, suc, Bool, true, List, length, inl, inr, sym, ap, subst, ◌∙◌, arith}
 use Rattle.std.specs.Prelude.{◌-◌, ◌&&◌, nat_le, nat_lt}
 use Rattle.std.specs.Char.{encode_utf8}
 use Rattle.std.specs.Str.{IsUtf8, encode_utf8_all}
@@ -12,8 +12,8 @@ use Rattle.px_keys.specs.inner.PartReading.{GoesOn, char_size}
 use Rattle.px_keys.proofs.Characters.{and-true, forms, one, two, three, four}
 use Rattle.px_keys.proofs.CharReading.{Shaped, low-scalar, second_bounds, shaped, size-four, size-one, size-three, size-two, spelt-two, spelt-three, spelt-four}
 use Rattle.px_pieces.specs.Pieces.{byte}
-use Rattle.px_pieces.specs.Chains.{chain, chain_cons, chain_first, chain_long, chain_nil, chain_others, chain_parts, first_of, others_of}
-use Rattle.px_schema.specs.Texts.{CharState, char_next, char_next_by, char_ok, char_ok_by, no_char, text}
+use Rattle.px_pieces.specs.Chains.{chain, chain_cons, chain_first, chain_long, chain_nil, chain_others}
+use Rattle.px_schema.specs.Texts.{CharState, char_next, char_ok, no_char, text}
 
 -- the bytes are a right end of a text, where so many bytes of a character are still to come
 Right : ℕ → CharState → List ℕ → Type 0

@@ -1,11 +1,11 @@
 -- How what readers answer is joined.
-use Rattle.std.proofs.Common.{◌≡◌, ◌+◌, ℕ, List, length, Result, Ok, Err, refl, sym, subst, arith}
+use Rattle.std.proofs.Common.{◌≡◌, ℕ, List, Result, Ok, Err, sym, subst}
 use Rattle.std.specs.Prelude.{IfErr, IsErrAnd}
 use Rattle.std.proofs.lemmas.Result.{err_from_is_err_and}
 use Rattle.px_pieces.specs.declared.read.WrongPlace.{WrongPlace}
 use Rattle.px_pieces.specs.Pieces.{Piece, as_value, followed_by}
 use Rattle.px_pieces.specs.Taking.{IsStopped, IsTaken}
-use Rattle.px_pieces.proofs.Takes.{stopped_as, stopped_first, stopped_second, taken_as, taken_then}
+use Rattle.px_pieces.proofs.Takes.{stopped_as, stopped_first, stopped_second, taken_then}
 use Rattle.px_schema.specs.declared.fault.DefFault.{DefFault}
 use Rattle.px_schema.specs.declared.fault.DefFault.TheVariants.{Memory, NotADefinition}
 use Rattle.px_schema.specs.Outcomes.{Reads, paired}

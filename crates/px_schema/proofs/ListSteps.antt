@@ -1,10 +1,10 @@
 -- How the readers of lists go on.
-use Rattle.std.proofs.Common.{◌≡◌, ◌<◌, ◌≤◌, ◌+◌, ◌++◌, ◌∷◌, [], ℕ, zero, suc, List, length, take, drop, Result, Ok, Err, refl, sym, ap, subst, ◌∙◌, arith}
-use Rattle.std.specs.Prelude.{◌-◌, if◌then◌else◌, Bool, false}
+use Rattle.std.proofs.Common.{◌≡◌, ◌<◌, ◌≤◌, ◌+◌, ◌++◌, ◌∷◌, [], ℕ, List, length, Result, Ok, Err, refl, subst, arith}
+use Rattle.std.specs.Prelude.{◌-◌, if◌then◌else◌, false}
 use Rattle.std.specs.Result.{is_err, is_ok}
 use Rattle.px_tables.specs.declared.table.TableRegion.{TableRegion}
-use Rattle.px_pieces.specs.Pieces.{Piece, as_value, followed_by}
-use Rattle.px_pieces.specs.Bytes.{bytes as any_bytes, bytes_long, one_byte}
+use Rattle.px_pieces.specs.Pieces.{Piece, followed_by}
+use Rattle.px_pieces.specs.Bytes.{bytes as any_bytes, bytes_long}
 use Rattle.px_pieces.specs.Chains.{chain, counted, listed, measured, repeat, repeat_long}
 use Rattle.px_pieces.specs.Numbers.{number}
 use Rattle.px_pieces.specs.Taking.{IsPartWay, IsStopped, IsTaken}
@@ -13,7 +13,7 @@ use Rattle.px_schema.specs.declared.fault.DefFault.{DefFault}
 use Rattle.px_schema.specs.declared.fault.DefFault.TheVariants.{Memory, NotADefinition}
 use Rattle.px_schema.specs.Outcomes.{Reads}
 use Rattle.px_schema.specs.Parts.{id, least_key, region}
-use Rattle.px_schema.proofs.Joins.{as_fault, behind_reads, first_reads}
+use Rattle.px_schema.proofs.Joins.{as_fault, behind_reads}
 
 -- ---- a list behind its count
 

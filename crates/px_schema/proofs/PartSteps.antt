@@ -1,15 +1,13 @@
 -- How the readers of names, columns and parts of keys go on.
-use Rattle.std.proofs.Common.{◌≡◌, ◌<◌, ◌≤◌, ◌+◌, ℕ, zero, suc, Bool, List, length, refl, sym, ap, subst, ◌∙◌, arith}
+use Rattle.std.proofs.Common.{◌≡◌, ◌+◌, ℕ, zero, suc, Bool, List, length, refl, sym, ap, subst, ◌∙◌, arith}
 use Rattle.std.specs.Prelude.{◌==◌}
 use Rattle.px_values.specs.Types.{type_code}
 use Rattle.px_values.specs.declared.column.ColType.{ColType}
 use Rattle.px_values.specs.declared.column.ColType.TheVariants.{TinyInt, SmallInt, Integer, BigInt, UnsignedInt, UnsignedLong, Boolean, Varchar}
 use Rattle.px_values.specs.declared.order.Direction.{Direction}
-use Rattle.px_values.specs.declared.order.Direction.TheVariants.{Ascending, Descending}
+use Rattle.px_values.specs.declared.order.Direction.TheVariants.{Descending}
 use Rattle.px_tables.specs.declared.index.IndexState.{IndexState}
-use Rattle.px_tables.specs.declared.index.IndexState.TheVariants.{Building, Active, Disabled}
-use Rattle.px_tables.specs.declared.table.TableColumn.{TableColumn}
-use Rattle.px_tables.specs.declared.table.KeyPlace.{KeyPlace}
+use Rattle.px_tables.specs.declared.index.IndexState.TheVariants.{Disabled}
 use Rattle.px_pieces.specs.Pieces.{as_value, followed_by}
 use Rattle.px_pieces.specs.Bytes.{one_byte}
 use Rattle.px_pieces.specs.Chains.{counted, measured}
@@ -19,7 +17,7 @@ use Rattle.px_schema.specs.declared.fault.DefFault.{DefFault}
 use Rattle.px_schema.specs.Outcomes.{Reads}
 use Rattle.px_schema.specs.Texts.{text, text_long}
 use Rattle.px_schema.specs.Parts.{bit_back, bit_of, column, column_type, direction, direction_back, direction_code, direction_of, flag, name, part, place, some_count, state, state_back, state_code, state_of, type_back, type_of}
-use Rattle.px_schema.proofs.Joins.{as_fault, behind_reads, first_reads}
+use Rattle.px_schema.proofs.Joins.{as_fault, first_reads}
 use Rattle.std.specs.Prelude.{Err}
 
 type_there : (ty : ColType) → type_of (type_code ty) ≡ ty

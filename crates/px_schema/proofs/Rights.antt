@@ -1,5 +1,5 @@
 -- What right tables, indexes and snapshots are, part by part.
-use Rattle.std.proofs.Common.{◌≡◌, ◌<◌, ◌≤◌, ◌+◌, ◌++◌, ◌∷◌, [], ℕ, Bool, true, false, List, length, map, refl, sym, ap, subst, ◌∙◌, arith}
+use Rattle.std.proofs.Common.{◌≡◌, ◌<◌, ◌≤◌, ◌++◌, ◌∷◌, [], ℕ, Bool, true, false, List, length, map, arith}
 use Rattle.std.specs.Prelude.{◌&&◌, nat_le, nat_lt}
 use Rattle.std.specs.List.{AllByRecursion}
 use Rattle.std.proofs.lemmas.Bool.{ltb-true}
@@ -10,13 +10,13 @@ use Rattle.px_tables.specs.declared.table.TableRegion.{TableRegion}
 use Rattle.px_schema.specs.declared.item.CatalogItem.{CatalogItem}
 use Rattle.px_schema.specs.declared.item.CatalogItem.TheVariants.{IndexGone, IndexIs, TableGone, TableIs}
 use Rattle.px_schema.specs.declared.standing.Standing.{Standing}
-use Rattle.px_pieces.specs.Pieces.{Piece, as_value, byte, followed_by}
-use Rattle.px_pieces.specs.Bytes.{bytes, bytes_long, one_byte, within}
+use Rattle.px_pieces.specs.Pieces.{as_value, byte, followed_by}
+use Rattle.px_pieces.specs.Bytes.{bytes, bytes_long, one_byte}
 use Rattle.px_pieces.specs.Chains.{chain_all, listed_parts, measured_parts}
-use Rattle.px_pieces.specs.Numbers.{number, number_most, number_short, one_of, one_of_member, up_to}
+use Rattle.px_pieces.specs.Numbers.{number, number_most, number_short, up_to}
 use Rattle.px_schema.specs.Texts.{text, text_long}
 use Rattle.px_schema.specs.Parts.{column, columns, greatest_id, id, least_key, name, no_column, no_part, no_region, part, parts, place, places, region, regions, regions_from, regions_long, some_count}
-use Rattle.px_schema.specs.Format.{greatest_count, index, indexes_in, most_indexes, no_index, no_table, standing, table, tables_in}
+use Rattle.px_schema.specs.Format.{greatest_count, index, most_indexes, no_index, no_table, standing, table}
 use Rattle.px_schema.specs.Records.{IsRight}
 use Rattle.px_schema.specs.Spelled.{Fits, FitsIndex, FitsSnapshot, FitsTable}
 use Rattle.px_schema.specs.Stands.{index_draws, table_draws}

@@ -1,8 +1,8 @@
 -- How pieces spell what the writers write.
-use Rattle.std.proofs.Common.{◌≡◌, ◌<◌, ◌≤◌, ◌+◌, ◌++◌, ◌∷◌, [], ℕ, zero, suc, Bool, List, length, get_or, take, map, refl, sym, ap, subst, ◌∙◌, arith}
+use Rattle.std.proofs.Common.{◌≡◌, ◌<◌, ◌+◌, ◌++◌, ◌∷◌, [], ℕ, zero, suc, List, length, get_or, take, map, refl, sym, ap, ◌∙◌}
 use Rattle.std.proofs.lemmas.List.{flat_map_more, take_more}
 use Rattle.std.specs.Int.{bytes_high_first}
-use Rattle.std.specs.List.{AllByRecursion, flat_map}
+use Rattle.std.specs.List.{flat_map}
 use Rattle.px_values.specs.Types.{type_code}
 use Rattle.px_tables.specs.declared.index.Index.{Index}
 use Rattle.px_tables.specs.declared.index.IndexState.{IndexState}
@@ -13,11 +13,11 @@ use Rattle.px_tables.specs.declared.table.TableRegion.{TableRegion}
 use Rattle.px_schema.specs.declared.standing.Standing.{Standing}
 use Rattle.px_pieces.specs.Pieces.{Piece, as_value, byte, followed_by, nothing}
 use Rattle.px_pieces.specs.Bytes.{bytes, one_byte}
-use Rattle.px_pieces.specs.Chains.{chain, first_of, listed, measured, others_of, repeat}
+use Rattle.px_pieces.specs.Chains.{chain, listed, measured, repeat}
 use Rattle.px_pieces.specs.Numbers.{begins_one, digit_ok, digits, number, number_of, one_more, one_of, up_to}
 use Rattle.px_schema.specs.Texts.{char_next, char_ok, no_char, text}
 use Rattle.px_schema.specs.Parts.{bit_of, greatest_id, greatest_stamp, state_code, column, column_type, columns, direction, flag, id, least_key, name, no_column, no_part, no_region, part, parts, place, places, region, regions, regions_from, some_count, state}
-use Rattle.px_schema.specs.Format.{birth, greatest_count, index, most_indexes, indexes_in, no_index, no_table, number_of_table, standing, table, tables_in, width_of}
+use Rattle.px_schema.specs.Format.{birth, greatest_count, index, most_indexes, no_index, no_table, number_of_table, standing, table, tables_in, width_of}
 use Rattle.px_schema.specs.Spelled.{column_bytes, index_bytes, list_bytes, name_bytes, part_bytes, region_bytes, standing_bytes, table_bytes}
 
 -- values of which each is spelled by its piece alone

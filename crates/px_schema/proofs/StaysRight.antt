@@ -1,5 +1,5 @@
 -- What stands stays right.
-use Rattle.std.proofs.Common.{◌≡◌, ◌<◌, ◌≤◌, ◌+◌, ◌∷◌, [], ℕ, suc, Bool, true, false, not, cond, List, length, map, refl, sym, ap, subst, ◌∙◌, arith}
+use Rattle.std.proofs.Common.{◌≡◌, ◌<◌, ◌≤◌, ◌+◌, ◌∷◌, [], ℕ, Bool, true, false, not, cond, List, length, map, refl, sym, ap, subst, ◌∙◌, arith}
 use Rattle.std.specs.Prelude.{◌||◌, ◌==◌, filter, if◌then◌else◌, max}
 use Rattle.std.specs.List.{AllByRecursion, list_any}
 use Rattle.std.proofs.lemmas.Bool.{eq-eqb, eqb-false, eqb-true, ne_eqb}
@@ -11,9 +11,9 @@ use Rattle.px_schema.specs.declared.standing.Standing.{Standing}
 use Rattle.px_pieces.specs.Pieces.{as_value, followed_by}
 use Rattle.px_pieces.specs.Chains.{listed_right}
 use Rattle.px_pieces.specs.Numbers.{begins_one, fits_number, number, number_short, one_of, one_of_member, one_of_right}
-use Rattle.px_schema.specs.Format.{called, greatest_count, index, indexes_in, most_indexes, no_index, no_table, number_of_table, standing, table, tables_in, width_of}
+use Rattle.px_schema.specs.Format.{called, greatest_count, index, most_indexes, no_index, no_table, number_of_table, standing, table, width_of}
 use Rattle.px_schema.specs.Records.{IsRight}
-use Rattle.px_schema.specs.Stands.{above, after, index_draws, of_other_tables, other_indexes, other_tables, put_index, put_table, table_draws}
+use Rattle.px_schema.specs.Stands.{above, after, index_draws, of_other_tables, other_tables, put_index, put_table, table_draws}
 use Rattle.px_schema.proofs.Numbers.{filter_all, put_all_indexes, put_all_tables}
 use Rattle.px_schema.proofs.Rights.{index_numbers, standing_indexes, standing_next, standing_tables, table_numbers}
 
@@ -30,13 +30,16 @@ indexes_few (t ∷ ts) l all few = few
 
 standing_right : (s : Standing) → s.next ≤ 4294967295 → length s.tables ≤ greatest_count → AllByRecursion table.right s.tables → length s.indexes ≤ greatest_count → AllByRecursion (index s.tables).right s.indexes → standing.right s
 unfolding standing as_value followed_by
-standing_right s next few_tables tables few_indexes indexes = ((
-  fits_number 4 4294967295 s.next (omega arith) next,
+standing_right s next few_tables tables few_indexes indexes = (
   (
-    listed_right no_table table (number 2 greatest_count) s.tables (fits_number 2 greatest_count (length s.tables) (omega arith) few_tables) tables,
-    listed_right no_index (index s.tables) (number 2 (most_indexes s.tables)) s.indexes (fits_number 2 (most_indexes s.tables) (length s.indexes) (omega arith) (indexes_few s.tables s.indexes indexes few_indexes)) indexes,
+    fits_number 4 4294967295 s.next (omega arith) next,
+    (
+      listed_right no_table table (number 2 greatest_count) s.tables (fits_number 2 greatest_count (length s.tables) (omega arith) few_tables) tables,
+      listed_right no_index (index s.tables) (number 2 (most_indexes s.tables)) s.indexes (fits_number 2 (most_indexes s.tables) (length s.indexes) (omega arith) (indexes_few s.tables s.indexes indexes few_indexes)) indexes,
+    ),
   ),
-), refl)
+  refl,
+)
 
 above_most : (n m : ℕ) (ks : List ℕ) → n ≤ m → AllByRecursion (λ k. k < m) ks → above n ks ≤ m
 above_most n m [] le all = le
@@ -69,13 +72,16 @@ Has n ts = list_any (λ m. m == n) (map number_of_table ts) ≡ true
 
 index_moves : (ts ts' : List Table) (i : Index) → (index ts).right i → (Has i.table.0 ts → Has i.table.0 ts') → width_of ts' i.table.0 ≡ width_of ts i.table.0 → (index ts').right i
 unfolding index as_value followed_by Has one_of
-index_moves ts ts' i right has wide = ((
-  right.0.0,
+index_moves ts ts' i right has wide = (
   (
-    one_of_right 4 (map number_of_table ts') i.table.0 (number_short (begins_one (map number_of_table ts)) 4 i.table.0 right.0.1.0) (has (one_of_member 3 (map number_of_table ts) i.table.0 right.0.1.0)),
-    subst (λ (n : ℕ). (called n).right (i.name, (i.state, (i.birth, (i.region, (i.parts, i.included)))))) (sym wide) right.0.1.1,
+    right.0.0,
+    (
+      one_of_right 4 (map number_of_table ts') i.table.0 (number_short (begins_one (map number_of_table ts)) 4 i.table.0 right.0.1.0) (has (one_of_member 3 (map number_of_table ts) i.table.0 right.0.1.0)),
+      subst (λ (n : ℕ). (called n).right (i.name, (i.state, (i.birth, (i.region, (i.parts, i.included)))))) (sym wide) right.0.1.1,
+    ),
   ),
-), refl)
+  refl,
+)
 
 any_true : (t u : Bool) → u ≡ true → (t || u) ≡ true
 any_true true u is = refl

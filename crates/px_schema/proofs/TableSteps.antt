@@ -1,7 +1,7 @@
 -- How the readers of tables and indexes go on.
-use Rattle.std.proofs.Common.{◌≡◌, ◌<◌, ◌≤◌, ◌+◌, ℕ, Bool, true, false, List, length, drop, get_or, map, Result, Ok, Err, refl, sym, ap, subst, ◌∙◌, arith}
+use Rattle.std.proofs.Common.{◌≡◌, ◌<◌, ◌+◌, ℕ, Bool, List, length, drop, get_or, map, Err, refl, sym, ap, subst, ◌∙◌, arith}
 use Rattle.std.specs.Prelude.{◌==◌, if◌then◌else◌}
-use Rattle.std.proofs.lemmas.List.{drop_more, drop_all}
+use Rattle.std.proofs.lemmas.List.{drop_more}
 use Rattle.std.proofs.lemmas.Bool.{eq-eqb, ne_eqb}
 use Rattle.px_tables.specs.declared.index.Index.{Index}
 use Rattle.px_tables.specs.declared.index.IndexState.{IndexState}
@@ -9,13 +9,12 @@ use Rattle.px_tables.specs.declared.table.KeyPlace.{KeyPlace}
 use Rattle.px_tables.specs.declared.table.Table.{Table}
 use Rattle.px_tables.specs.declared.table.TableColumn.{TableColumn}
 use Rattle.px_tables.specs.declared.table.TableRegion.{TableRegion}
-use Rattle.px_pieces.specs.Pieces.{Piece, as_value, followed_by}
+use Rattle.px_pieces.specs.Pieces.{Piece, followed_by}
 use Rattle.px_pieces.specs.Numbers.{number, one_of}
 use Rattle.px_schema.specs.declared.standing.Standing.{Standing}
 use Rattle.px_pieces.specs.Taking.{IsStopped, IsTaken}
 use Rattle.px_pieces.proofs.Takes.{stopped_as, stopped_first, stopped_second, taken_as, taken_then}
 use Rattle.px_schema.specs.declared.fault.DefFault.{DefFault}
-use Rattle.px_schema.specs.declared.fault.DefFault.TheVariants.{Memory, NotADefinition}
 use Rattle.px_schema.specs.Outcomes.{Reads}
 use Rattle.px_schema.specs.Parts.{id, state}
 use Rattle.px_schema.specs.Format.{birth, built, called, covered, index, indexes_in, named, number_of_table, standing, table, tables_in, width_of}

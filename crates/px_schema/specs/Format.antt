@@ -1,8 +1,8 @@
 -- Definitions and snapshots as pieces of a format.
-use Rattle.std.proofs.Common.{◌≡◌, ◌<◌, ◌≤◌, ◌+◌, ◌^◌, ◌++◌, ◌∷◌, [], ℕ, zero, suc, Bool, true, false, List, length, map, refl, sym, ap, subst, ◌∙◌, arith}
+use Rattle.std.proofs.Common.{◌≡◌, ◌<◌, ◌≤◌, ◌∷◌, [], ℕ, Bool, true, false, List, length, map, refl, arith}
 use Rattle.std.specs.Prelude.{◌&&◌, ◌||◌, ◌==◌, if◌then◌else◌, nat_le, nat_lt}
 use Rattle.std.specs.List.{AllByRecursion, list_any}
-use Rattle.std.proofs.lemmas.Bool.{leb-true, ltb-true}
+use Rattle.std.proofs.lemmas.Bool.{leb-true}
 use Rattle.px_tables.specs.declared.index.Index.{Index}
 use Rattle.px_tables.specs.declared.index.IndexState.{IndexState}
 use Rattle.px_tables.specs.declared.index.IndexState.TheVariants.{Building}
@@ -12,7 +12,7 @@ use Rattle.px_tables.specs.declared.table.TableColumn.{TableColumn}
 use Rattle.px_tables.specs.declared.table.TableRegion.{TableRegion}
 use Rattle.px_schema.specs.declared.standing.Standing.{Standing}
 use Rattle.px_pieces.specs.Pieces.{Piece, as_full, as_value, byte, followed_by, followed_full}
-use Rattle.px_pieces.specs.Bytes.{one_byte, within}
+use Rattle.px_pieces.specs.Bytes.{one_byte}
 use Rattle.px_pieces.specs.Chains.{listed, listed_full_some, listed_parts}
 use Rattle.px_pieces.specs.Numbers.{full_number, number, number_most, one_full, one_of, one_of_member}
 use Rattle.px_schema.specs.Parts.{columns, columns_full, greatest_id, greatest_stamp, id, id_full, name, name_full, no_column, parts, parts_full, places, places_full, regions, regions_full, some_count, state, state_full}

@@ -1,5 +1,5 @@
 -- The fresh catalogue and its bytes.
-use Rattle.std.proofs.Common.{◌≡◌, ◌∷◌, [], ℕ, Bool, true, false, List, length, Ok, refl}
+use Rattle.std.proofs.Common.{◌≡◌, ◌∷◌, [], ℕ, true, false, List, Ok, refl}
 use Rattle.px_values.specs.declared.column.ColType.TheVariants.{Varchar}
 use Rattle.px_values.specs.declared.order.Direction.TheVariants.{Ascending}
 use Rattle.px_tables.specs.declared.table.Table.{Table}

@@ -1,5 +1,5 @@
 -- Definitions and snapshots as bytes. Numbers are big-endian; a list stands behind its length.
-use Rattle.std.specs.Prelude.{◌≡◌, ◌<◌, ◌++◌, ◌∷◌, [], ℕ, List, length}
+use Rattle.std.specs.Prelude.{◌<◌, ◌++◌, ◌∷◌, [], ℕ, List, length}
 use Rattle.std.specs.Int.{bytes_high_first}
 use Rattle.std.specs.List.{AllByRecursion, flat_map}
 use Rattle.px_values.specs.Types.{type_code}

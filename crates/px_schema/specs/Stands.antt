@@ -1,5 +1,5 @@
 -- What stands after a definition, and the numbers that are drawn.
-use Rattle.std.specs.Prelude.{◌≡◌, ◌<◌, ◌≤◌, ◌+◌, ◌==◌, ◌++◌, ◌∷◌, [], ℕ, Bool, not, if◌then◌else◌, max, nat_le, List, filter, map}
+use Rattle.std.specs.Prelude.{◌≡◌, ◌<◌, ◌+◌, ◌==◌, ◌++◌, ◌∷◌, [], ℕ, not, if◌then◌else◌, max, nat_le, List, filter, map}
 use Rattle.std.specs.List.{AllByRecursion}
 use Rattle.px_tables.specs.declared.index.Index.{Index}
 use Rattle.px_tables.specs.declared.table.Table.{Table}

@@ -1,8 +1,8 @@
 -- A text of so many bytes in UTF-8.
-use Rattle.std.proofs.Common.{◌≡◌, ◌<◌, ◌≤◌, ◌+◌, ◌∷◌, [], ℕ, zero, suc, Bool, true, false, List, length, refl, sym, ap, ◌∙◌, arith}
+use Rattle.std.proofs.Common.{◌≡◌, ◌≤◌, ◌+◌, ℕ, zero, suc, Bool, true, false, List, length, refl, ap, ◌∙◌, arith}
 use Rattle.std.specs.Prelude.{◌-◌, ◌&&◌, nat_le, nat_lt}
 use Rattle.std.specs.Str.Lossy.{second_byte_min, second_byte_max}
-use Rattle.std.proofs.lemmas.Bool.{le-leb, lt-ltb, leb-true, ltb-true}
+use Rattle.std.proofs.lemmas.Bool.{le-leb, leb-true}
 use Rattle.px_keys.specs.inner.PartReading.{char_size}
 use Rattle.px_keys.proofs.CharReading.{second_some}
 use Rattle.px_pieces.specs.Pieces.{Piece, byte, byte_full}

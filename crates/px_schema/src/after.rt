@@ -14,8 +14,8 @@ use std::mem;
 
 /// The body of the fresh catalogue's snapshot.
 const FRESH: [u8; 34] = [
-    0, 0, 0, 3, 0, 1, 0, 0, 0, 2, 2, 75, 86, 2, 1, 75, 8, 1, 1, 86, 8, 0, 1, 0, 0, 1, 0, 0, 0, 1, 0, 0,
-    0, 0,
+    0, 0, 0, 3, 0, 1, 0, 0, 0, 2, 2, 75, 86, 2, 1, 75, 8, 1, 1, 86, 8, 0, 1, 0, 0, 1, 0, 0, 0, 1,
+    0, 0, 0, 0,
 ];
 
 /// What stands in a folder without a catalogue: the table KV, of number 2, with region 1.

@@ -17,7 +17,9 @@ use px_values::{IndexId, Items, Name, TableId};
 use std::alloc::Global;
 
 type Covered = (Items<KeyPlace>, Items<u8>);
+
 type Built = (IndexState, (u64, (u32, Covered)));
+
 type Called = (Name, Built);
 
 /// The columns of the table of this number, 0 where none stands.
@@ -106,8 +108,12 @@ pub(crate) fn index_in(
     let number = number_in(bytes, at, 4, GREATEST_ID)?;
     let table = one_of_in(bytes, at + 4, tables)?;
     let columns = columns_of(tables, table);
-    let ((name, (state, (birth, (region, (parts, included))))), end) =
-        called_in(alloc, bytes, at + 8, columns)?;
+    let ((name, (state, (birth, (region, (parts, included))))), end) = called_in(
+        alloc,
+        bytes,
+        at + 8,
+        columns,
+    )?;
     let index = Index {
         id: IndexId(number as u32),
         table: TableId(table),

@@ -18,8 +18,7 @@ pub fn numbers_are_drawn_once()
     ensures up { (s : Standing) (ds : List CatalogItem) → s.next ≤ (after_all s ds).next }
     ensures above { (s : Standing) (d : CatalogItem) → IsBelowNext s → IsBelowNext (after s d) }
     ensures drawn { (s : Standing) (ds : List CatalogItem) → DrawInOrder s ds → IsDrawn s.next (draws_all s ds) }
-{
-}
+{}
 
 /// Definitions and snapshots have one spelling: what is written is read, and from no other bytes.
 pub fn records_have_one_spelling()
@@ -28,8 +27,7 @@ pub fn records_have_one_spelling()
     ensures snapshot_written { (s : Standing) → standing.right s → snapshot_of 1 (standing_bytes s) ≡ Ok s }
     ensures snapshot_read { (kind : ℕ) (body : List ℕ) (s : Standing) → snapshot_of kind body ≡ Ok s → (kind ≡ 1) × standing.right s × (body ≡ standing_bytes s) }
     ensures fresh { snapshot_of 1 fresh_bytes ≡ Ok fresh }
-{
-}
+{}
 
 /// Bytes that are no table, no index or no snapshot have one first wrong place: no value's bytes begin with those up to
 /// it and with it, and those before it can be ended. For an index that needs a right table to name.
@@ -40,12 +38,10 @@ pub fn places_are_first()
     ensures index_full { (t : Table) (ts : List Table) → AllByRecursion table.right (t ∷ ts) → (index (t ∷ ts)).full }
     ensures snapshot { (bytes : List ℕ) (place : ℕ) → reading_of standing bytes ≡ Err place → IsFirstWrong standing bytes place }
     ensures snapshot_full { standing.full }
-{
-}
+{}
 
 /// What stands after a right definition fits a snapshot, where what stood before it did.
 pub fn what_stands_fits()
     ensures fresh { standing.right fresh }
     ensures after { (s : Standing) (d : CatalogItem) → standing.right s → IsRight s d → standing.right (after s d) }
-{
-}
+{}

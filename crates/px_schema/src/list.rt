@@ -4,9 +4,8 @@ ghost use Rattle.px_pieces.specs.Chains.{repeat};
 ghost use Rattle.px_schema.specs.Outcomes.{Reads};
 ghost use Rattle.px_schema.specs.Parts.{column, columns, no_column, no_part, part, parts, place, places, region, regions, regions_from};
 
-use crate::DefFault;
 use crate::part::{column_in, part_in, place_in};
-use crate::{GREATEST_ID, GREATEST_KEY};
+use crate::{DefFault, GREATEST_ID, GREATEST_KEY};
 use px_pieces::{byte_in, bytes_in, number_in};
 use px_tables::{KeyPlace, TableColumn, TableRegion};
 use px_values::{Items, Key};

@@ -31,7 +31,11 @@ impl Numbered for Index {
 }
 
 /// The number of four bytes at a place, which is that of one of these, or the first place at which none of theirs goes on.
-pub(crate) fn one_of_in<T: Numbered>(bytes: &[u8], at: usize, standing: &[T]) -> Result<u32, WrongPlace>
+pub(crate) fn one_of_in<T: Numbered>(
+    bytes: &[u8],
+    at: usize,
+    standing: &[T],
+) -> Result<u32, WrongPlace>
     requires begins { at ≤ length bytes.now }
     ensures taken { IfOk result (λ n. IsTaken (one_of 4 (map T.number_of standing.now)) bytes.now at n (at + 4)) }
     ensures stopped { IfErr result (λ wrong. IsStopped (one_of 4 (map T.number_of standing.now)) bytes.now at wrong.place) }
@@ -40,11 +44,15 @@ pub(crate) fn one_of_in<T: Numbered>(bytes: &[u8], at: usize, standing: &[T]) ->
     for taken in 0..4 {
         let place = at + taken;
         if place == bytes.len() {
-            return Err(WrongPlace { place: place as u64 });
+            return Err(WrongPlace {
+                place: place as u64,
+            });
         }
         let next = value * 256 + u32::from(bytes[place]);
         if !one_begins(standing, 3 - taken, next) {
-            return Err(WrongPlace { place: place as u64 });
+            return Err(WrongPlace {
+                place: place as u64,
+            });
         }
         value = next;
     }

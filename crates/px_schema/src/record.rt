@@ -60,7 +60,9 @@ fn in_record<T>(read: Result<T, DefFault>) -> Result<T, DefFault>
 {
     match read {
         Ok(value) => Ok(value),
-        Err(DefFault::NotADefinition { place }) => Err(DefFault::NotADefinition { place: 5 + place }),
+        Err(DefFault::NotADefinition { place }) => Err(DefFault::NotADefinition {
+            place: 5 + place,
+        }),
         Err(DefFault::Memory) => Err(DefFault::Memory),
     }
 }

@@ -29,7 +29,9 @@ pub(crate) fn with_first<T: Drop, U>(
 }
 
 type Keyed = (Items<KeyPlace>, Items<TableRegion>);
+
 type Defined = (Items<TableColumn>, Keyed);
+
 type Named = (Name, Defined);
 
 /// The key and the regions of a table with so many columns, and the place behind them.

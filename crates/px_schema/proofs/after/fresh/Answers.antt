@@ -1,5 +1,5 @@
 use Rattle.px_schema.specs.Fresh.{fresh, fresh_read}
-use Rattle.std.proofs.Common.{◌≡◌, Ok, ap, sym, ◌∙◌}
+use Rattle.std.proofs.Common.{ap}
 use Rattle.px_pieces.specs.Pieces.{ok_same}
 use Rattle.px_schema.specs.Fresh.{fresh_bytes}
 use Rattle.px_schema.specs.Records.{in_body, snapshot_of}

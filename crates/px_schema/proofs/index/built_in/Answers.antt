@@ -1,8 +1,5 @@
-use Rattle.std.proofs.Common.{◌≡◌, ◌+◌, ℕ, subst, sym, arith}
-use Rattle.px_pieces.specs.Taking.{IsStopped, IsTaken}
-use Rattle.px_schema.specs.Format.{birth, built, covered}
-use Rattle.px_schema.specs.Outcomes.{Reads}
-use Rattle.px_schema.specs.Parts.{id, state}
+use Rattle.px_schema.specs.Format.{birth, built}
+use Rattle.px_schema.specs.Parts.{id}
 use Rattle.px_schema.proofs.Joins.{exit_reads, exit_wrong}
 use Rattle.px_schema.proofs.TableSteps.{built_birth, built_covered, built_region, built_state, built_taken}
 use Rattle.px_schema.proofs.index.built_in.Goals as goal

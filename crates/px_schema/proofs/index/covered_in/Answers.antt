@@ -1,4 +1,4 @@
-use Rattle.std.proofs.Common.{List, length, sym, subst}
+use Rattle.std.proofs.Common.{sym, subst}
 use Rattle.px_schema.specs.Format.{covered}
 use Rattle.px_schema.specs.Outcomes.{Reads}
 use Rattle.px_schema.specs.Parts.{parts, places}

@@ -1,9 +1,8 @@
-use Rattle.std.proofs.Common.{◌+◌, ℕ, subst, sym}
+use Rattle.std.proofs.Common.{◌+◌, ℕ, subst}
 use Rattle.px_pieces.specs.Taking.{IsTaken}
 use Rattle.px_schema.specs.Format.{called, index}
 use Rattle.px_schema.specs.Outcomes.{Reads}
 use Rattle.px_schema.specs.Parts.{id}
-use Rattle.px_schema.specs.declared.fault.DefFault.{DefFault}
 use Rattle.std.specs.Prelude.{Err}
 use Rattle.px_schema.proofs.Joins.{exit_reads, exit_wrong}
 use Rattle.px_schema.proofs.TableSteps.{index_called, index_number, index_table, index_taken}

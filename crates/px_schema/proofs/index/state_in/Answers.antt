@@ -1,4 +1,4 @@
-use Rattle.std.proofs.Common.{ap, arith}
+use Rattle.std.proofs.Common.{ap}
 use Rattle.px_tables.specs.declared.index.IndexState.TheVariants.{Building, Active, Disabled}
 use Rattle.px_schema.specs.Parts.{state, state_of}
 use Rattle.px_schema.proofs.Joins.{exit_stopped}

@@ -1,9 +1,7 @@
 use Rattle.std.proofs.Common.{◌+◌, ◌++◌, ◌∷◌, [], subst, sym, ◌∙◌}
 use Rattle.px_pieces.specs.Chains.{repeat}
 use Rattle.px_pieces.specs.Taking.{IsTaken}
-use Rattle.px_schema.specs.declared.fault.DefFault.TheVariants.{NotADefinition}
 use Rattle.px_schema.specs.Parts.{column, no_column}
-use Rattle.px_schema.proofs.Joins.{exit_wrong}
 use Rattle.px_schema.proofs.ListSteps.{Way, pushed, so_many_done, so_many_fault, so_many_more, so_many_none}
 use Rattle.px_schema.proofs.list.columns_from.Goals as goal
 

@@ -1,8 +1,8 @@
 use Rattle.std.proofs.Common.{◌≡◌, ◌+◌, ℕ, subst, sym, ◌∙◌, arith}
 use Rattle.px_pieces.specs.Taking.{IsStopped, IsTaken}
 use Rattle.px_pieces.specs.Bytes.{bytes as any_bytes}
-use Rattle.px_schema.specs.Parts.{id, least_key, region}
-use Rattle.px_schema.proofs.Joins.{exit_memory, exit_wrong}
+use Rattle.px_schema.specs.Parts.{id, region}
+use Rattle.px_schema.proofs.Joins.{exit_wrong}
 use Rattle.px_schema.proofs.ListSteps.{key_cut, key_short, key_taken, region_first, region_second, region_taken}
 use Rattle.px_schema.proofs.list.region_in.Goals as goal
 

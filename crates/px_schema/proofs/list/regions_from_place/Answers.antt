@@ -1,4 +1,4 @@
-use Rattle.std.proofs.Common.{◌≡◌, ◌-◌, ◌+◌, ◌++◌, ◌<◌, ◌∷◌, [], ℕ, List, subst, sym, ◌∙◌, arith}
+use Rattle.std.proofs.Common.{◌-◌, ◌+◌, ◌++◌, ◌∷◌, [], ℕ, List, subst, sym, ◌∙◌, arith}
 use Rattle.px_tables.specs.declared.table.TableRegion.{TableRegion}
 use Rattle.px_pieces.specs.Taking.{IsPartWay, IsTaken}
 use Rattle.px_schema.specs.Parts.{no_region, region, regions_from}
@@ -6,8 +6,11 @@ use Rattle.px_schema.proofs.ListSteps.{pushed, way_done, way_fault, way_more, wa
 use Rattle.px_schema.proofs.list.regions_from_place.Goals as goal
 
 pub loop-taken-init : goal.loop-taken-init
-loop-taken-init c = (subst (λ (l : List TableRegion). IsPartWay no_region (λ (left most : ℕ). region most) (λ most r. 65535) c.args.count 0 c.args.bytes.now c.args.at l (c.args.count - 0) 0 c.args.at) (sym c.new-list.ensures.items)
-    (way_none no_region (λ (left most : ℕ). region most) (λ most r. 65535) c.args.bytes.now c.args.count 0 c.args.at c.requires.begins), omega arith)
+loop-taken-init c = (
+  subst (λ (l : List TableRegion). IsPartWay no_region (λ (left most : ℕ). region most) (λ most r. 65535) c.args.count 0 c.args.bytes.now c.args.at l (c.args.count - 0) 0 c.args.at) (sym c.new-list.ensures.items)
+      (way_none no_region (λ (left most : ℕ). region most) (λ most r. 65535) c.args.bytes.now c.args.count 0 c.args.at c.requires.begins),
+  omega arith,
+)
 
 pub returns-in-Err : goal.returns-in-Err
 unfolding regions_from

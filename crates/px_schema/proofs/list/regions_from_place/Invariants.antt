@@ -1,4 +1,4 @@
-use Rattle.std.proofs.Common.{◌≡◌, ◌-◌, ◌<◌, ℕ}
+use Rattle.std.proofs.Common.{◌-◌, ◌<◌, ℕ}
 use Rattle.px_pieces.specs.Taking.{IsPartWay}
 use Rattle.px_schema.specs.Parts.{no_region, region}
 use Rattle.px_schema.proofs.list.regions_from_place.Given as goal

@@ -1,4 +1,4 @@
-use Rattle.std.proofs.Common.{refl, ap, arith}
+use Rattle.std.proofs.Common.{ap}
 use Rattle.px_values.specs.declared.order.Direction.TheVariants.{Ascending, Descending}
 use Rattle.px_schema.specs.Parts.{direction, direction_of}
 use Rattle.px_schema.proofs.Joins.{exit_stopped}

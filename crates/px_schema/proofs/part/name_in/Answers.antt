@@ -2,7 +2,7 @@ use Rattle.std.proofs.Common.{◌+◌, ℕ, subst, sym}
 use Rattle.px_pieces.specs.Taking.{IsStopped, IsTaken}
 use Rattle.px_schema.specs.Texts.{text}
 use Rattle.px_schema.specs.Parts.{name}
-use Rattle.px_schema.proofs.Joins.{exit_memory, exit_wrong}
+use Rattle.px_schema.proofs.Joins.{exit_wrong}
 use Rattle.px_schema.proofs.PartSteps.{name_short, name_taken, name_wrong}
 use Rattle.px_schema.proofs.part.name_in.Goals as goal
 

@@ -1,5 +1,5 @@
-use Rattle.std.proofs.Common.{◌≡◌, ◌+◌, ℕ, subst, sym}
-use Rattle.std.specs.Prelude.{IfErr, IfOk, min}
+use Rattle.std.proofs.Common.{◌+◌, ℕ, subst}
+use Rattle.std.specs.Prelude.{IfErr, IfOk}
 use Rattle.px_pieces.specs.Bytes.{one_byte}
 use Rattle.px_pieces.specs.Taking.{IsStopped, IsTaken}
 use Rattle.px_schema.specs.Parts.{place}

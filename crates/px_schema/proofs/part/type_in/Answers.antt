@@ -1,4 +1,3 @@
-use Rattle.std.proofs.Common.{arith}
 use Rattle.px_schema.specs.Parts.{column_type, type_of, type_same}
 use Rattle.px_schema.proofs.Joins.{exit_stopped}
 use Rattle.px_schema.proofs.PartSteps.{type_stopped, type_taken}

@@ -1,4 +1,4 @@
-use Rattle.std.proofs.Common.{◌≡◌, ℕ, subst, sym}
+use Rattle.std.proofs.Common.{ℕ, subst, sym}
 use Rattle.px_schema.specs.Outcomes.{Answers}
 use Rattle.px_schema.specs.Records.{snapshot_of}
 use Rattle.px_schema.specs.Format.{standing}

@@ -3,7 +3,6 @@ use Rattle.px_schema.proofs.Joins.{exit_reads, exit_wrong}
 use Rattle.px_schema.proofs.TableSteps.{standing_first, standing_indexes, standing_tables, standing_taken}
 use Rattle.px_schema.specs.Format.{indexes_in}
 use Rattle.px_schema.specs.Outcomes.{Reads}
-use Rattle.px_schema.specs.declared.fault.DefFault.{DefFault}
 use Rattle.px_pieces.specs.Taking.{IsTaken}
 use Rattle.std.proofs.Common.{subst, Err}
 use Rattle.px_schema.proofs.record.standing_in.Goals as goal

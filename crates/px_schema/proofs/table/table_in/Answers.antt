@@ -1,4 +1,3 @@
-use Rattle.std.proofs.Common.{◌+◌, subst, sym}
 use Rattle.px_schema.specs.Format.{table}
 use Rattle.px_schema.specs.Parts.{id}
 use Rattle.px_schema.proofs.Joins.{exit_reads, exit_wrong}

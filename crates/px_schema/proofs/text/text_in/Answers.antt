@@ -1,7 +1,7 @@
 use Rattle.std.proofs.Common.{◌≡◌, ◌+◌, ◌-◌, ℕ, take, drop, subst, sym, ap, ◌∙◌, arith}
 use Rattle.std.specs.Str.{IsUtf8}
 use Rattle.px_pieces.specs.Taking.{IsTaken}
-use Rattle.px_schema.specs.Texts.{CharState, char_next, text}
+use Rattle.px_schema.specs.Texts.{CharState, text}
 use Rattle.px_schema.specs.Underway.{state_in}
 use Rattle.px_schema.proofs.Characters.{text_utf8}
 use Rattle.px_schema.proofs.TextSteps.{IsTextPart, text_cut, text_done, text_more, text_start, text_wrong}
