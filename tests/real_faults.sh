@@ -1,5 +1,5 @@
 #!/usr/bin/env bash
-# Runs the built program where the real system fails it, and compares its exit status and its line on standard error:
+# Runs the built program where the real system fails it, and compares its exit status and its first line on standard error:
 # words that are no command, a closed input, a full output, a damaged file, little memory, a file in the folder's place, a
 # full and a read-only disk.
 # The last two mount a small file system in memory, which takes root; without it they are left out, and a line says so.
@@ -12,10 +12,10 @@ mounted=$work/mounted
 trap 'umount "$mounted" 2>/dev/null; rm -rf "$work"' EXIT
 wrong=0
 
-# expect NAME STATUS LINE: what the last run gave, in $status and the file err.
+# expect NAME STATUS LINE: what the last run gave, in $status and the first line of the file err.
 expect() {
     local line
-    line=$(cat "$work/err")
+    line=$(head -n 1 "$work/err")
     # shellcheck disable=SC2053
     if [ "$status" = "$2" ] && [[ $line == $3 ]]; then
         echo "ok: $1: status $status, '$line'"
@@ -34,6 +34,7 @@ bad() {
     echo "$upsert" | "$program" "$@" >"$work/out" 2>"$work/err"
     status=$?
     expect "words: $*" 2 "bad words"
+    grep -q "^usage: " "$work/err" || { echo "WRONG: the usage isn't told"; wrong=1; }
     [ -s "$work/out" ] && { echo "WRONG: it wrote to its output"; wrong=1; }
 }
 cd "$work" || exit 1
@@ -48,7 +49,11 @@ bad run run d
 
 "$program" run "$work/closed" <&- >"$work/out" 2>"$work/err"
 status=$?
-expect "closed input" 6 "source fault"
+expect "closed input, which is empty" 0 ""
+[ -s "$work/out" ] && { echo "WRONG: it wrote to its output"; wrong=1; }
+"$program" run "$work/folder" <"$work" >"$work/out" 2>"$work/err"
+status=$?
+expect "a folder for an input" 6 "source fault"
 
 echo "$upsert" | "$program" run "$work/full" >/dev/full 2>"$work/err"
 status=$?
@@ -61,6 +66,7 @@ head -c 8 /dev/zero | dd of="$work/full/0000000100000000.px" bs=1 seek=8 conv=no
 echo "$upsert" | "$program" run "$work/full" >"$work/out" 2>"$work/err"
 status=$?
 expect "a damaged file" 5 "damaged file 4294967296 at 8"
+grep -q " 0000000100000000.px$" "$work/err" || { echo "WRONG: the file's name isn't told"; wrong=1; }
 [ -s "$work/out" ] && { echo "WRONG: it wrote to its output"; wrong=1; }
 
 # A script for which the memory that the program may take doesn't do.
@@ -84,6 +90,7 @@ for i in $(seq 30); do echo "UPSERT INTO KV VALUES ('$i','$value');"; done >"$wo
 "$program" run "$mounted/kv" <"$work/many" >"$work/out" 2>"$work/err"
 status=$?
 expect "a full disk" 3 "device fault at call *"
+grep -q "No space left on device" "$work/err" || { echo "WRONG: the system's words aren't told"; wrong=1; }
 acknowledged=$(grep -c "1 row affected" "$work/out")
 [ "$(tail -1 "$work/out")" = "F2 write fault" ] || { echo "WRONG: the last reply isn't F2"; wrong=1; }
 mount -o remount,ro "$mounted"
