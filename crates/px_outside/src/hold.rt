@@ -15,7 +15,7 @@ pub(crate) enum Hold {
     Held(File),
 }
 
-/// The folder, open for reading.
+/// A file or a folder, open for reading alone.
 pub(crate) fn open_folder<R: Files<File = File>>(rt: &R, path: &str) -> io::Result<File> {
     let mut options = OpenOptions::new();
     options.read(true);
