@@ -5,6 +5,7 @@ set -eu
 rows=${1:-200000}
 cd "$(dirname "$0")/../crates/px_bench_cells"
 # Proves and builds the program, where that wasn't done yet.
-rt run >/dev/null 2>&1
+echo "cells.sh: proving and building first, which takes some minutes where it wasn't done yet" >&2
+rt run >/dev/null
 printf '%s processors\n' "$(nproc)"
 ./out/px_bench_cells "$rows" 2>&1

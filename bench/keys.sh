@@ -5,7 +5,8 @@ set -eu
 keys=${1:-2000000}
 cd "$(dirname "$0")/../crates/px_bench_keys"
 # Proves and builds the program, where that wasn't done yet.
-rt run >/dev/null 2>&1
+echo "keys.sh: proving and building first, which takes some minutes where it wasn't done yet" >&2
+rt run >/dev/null
 printf '%s processors\n' "$(nproc)"
 long=$(printf 'x%.0s' $(seq 900))
 for direction in asc desc; do

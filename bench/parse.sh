@@ -5,6 +5,7 @@ set -eu
 runs=${1:-20}
 cd "$(dirname "$0")/../crates/px_bench_parse"
 # Proves and builds the program, where that wasn't done yet.
-rt run >/dev/null 2>&1
+echo "parse.sh: proving and building first, which takes some minutes where it wasn't done yet" >&2
+rt run >/dev/null
 printf '%s processors, load %s\n' "$(nproc)" "$(cut -d' ' -f1 /proc/loadavg)"
 ./out/px_bench_parse "$runs"

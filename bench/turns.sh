@@ -6,7 +6,8 @@ set -eu
 turns=${1:-400000}
 cd "$(dirname "$0")/../crates/px_bench_turn"
 # Proves and builds the program, where that wasn't done yet.
-rt run >/dev/null 2>&1
+echo "turns.sh: proving and building first, which takes some minutes where it wasn't done yet" >&2
+rt run >/dev/null
 printf '%s processors\n' "$(nproc)"
 for which in turn mutex; do
     printf '%s:\n' "$which"
