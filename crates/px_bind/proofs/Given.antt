@@ -3,7 +3,7 @@ use Rattle.std.proofs.Common.{◌≡◌, ◌<◌, ◌≤◌, ◌+◌, ℕ, List,
 use Rattle.px_ast.specs.declared.literal.Literal.{Literal}
 use Rattle.px_tables.specs.declared.table.TableColumn.{TableColumn}
 use Rattle.px_bind.specs.Upserts.{given_faults, value_faults}
-use Rattle.px_bind.proofs.Walks.{rest_at, rest_is}
+use Rattle.px_resolve.proofs.Walks.{rest_at, rest_is}
 
 pub given_step : (columns : List TableColumn) (places : List ℕ) (values : List Literal) (i : ℕ) (l : Literal) → i < length values → length values ≤ length places → l ≡ get_or values i l
     → given_faults columns (drop i places) (drop i values) ≡ value_faults columns (get_or places i 0) l ++ given_faults columns (drop (i + 1) places) (drop (i + 1) values)

@@ -1,11 +1,4 @@
-pub mod Answers
-pub mod Names
-pub mod Literals
-pub mod Conditions
-pub mod Limits
-pub mod Indexes
-pub mod Tables
 pub mod Hints
 pub mod Queries
-pub mod Upserts
 pub mod Requests
+pub mod Upserts

@@ -7,13 +7,13 @@ use Rattle.px_ast.specs.declared.statement.Select.{Select}
 use Rattle.px_expr.specs.declared.bound.Bound.{Bound}
 use Rattle.px_tables.specs.declared.table.Table.{Table}
 use Rattle.px_tables.specs.declared.table.TableColumn.{TableColumn}
-use Rattle.px_bind.specs.Conditions.{condition_faults, bound_over}
+use Rattle.px_resolve.specs.Conditions.{condition_faults, bound_over}
 use Rattle.px_bind.specs.Hints.{AreHints}
-use Rattle.px_bind.specs.Literals.{number_of, range_if}
-use Rattle.px_bind.specs.Names.{names_of, part_names, place_of, places_from, key_place, known}
-use Rattle.px_bind.specs.declared.conditions.Check.{Check}
-use Rattle.px_bind.specs.declared.conditions.Check.TheVariants.{Names, Operands}
-use Rattle.px_bind.specs.declared.request.BindFault.{BindFault}
+use Rattle.px_resolve.specs.Literals.{number_of, range_if}
+use Rattle.px_resolve.specs.Names.{names_of, part_names, place_of, places_from, key_place, known}
+use Rattle.px_resolve.specs.declared.conditions.Check.{Check}
+use Rattle.px_resolve.specs.declared.conditions.Check.TheVariants.{Names, Operands}
+use Rattle.px_resolve.specs.declared.fault.BindFault.{BindFault}
 use Rattle.px_bind.specs.declared.request.Hint.{Hint}
 use Rattle.px_bind.specs.declared.request.Query.{Query}
 

@@ -6,11 +6,11 @@ use Rattle.px_ast.specs.declared.definition.IndexAction.{IndexAction}
 use Rattle.px_values.specs.declared.name.IndexId.{IndexId}
 use Rattle.px_values.specs.declared.name.TableId.{TableId}
 use Rattle.px_tables.specs.declared.found.Found.{Found}
-use Rattle.px_bind.specs.Indexes.{index_faults, index_of, missing, new_index}
+use Rattle.px_create.specs.Indexes.{index_faults, index_of, missing, new_index}
 use Rattle.px_bind.specs.Queries.{IsQuery, delete_faults, filter_of, select_faults}
-use Rattle.px_bind.specs.Tables.{new_table, table_faults}
+use Rattle.px_create.specs.Tables.{new_table, table_faults}
 use Rattle.px_bind.specs.Upserts.{change_of, upsert_faults}
-use Rattle.px_bind.specs.declared.request.BindFault.{BindFault}
+use Rattle.px_resolve.specs.declared.fault.BindFault.{BindFault}
 use Rattle.px_bind.specs.declared.request.Query.{Query}
 use Rattle.px_bind.specs.declared.request.Request.{Request}
 use Rattle.px_bind.specs.declared.request.Request.TheVariants as r

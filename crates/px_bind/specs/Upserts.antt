@@ -12,10 +12,10 @@ use Rattle.px_ast.specs.declared.statement.Upsert.{Upsert}
 use Rattle.px_tables.specs.declared.table.KeyPlace.{KeyPlace}
 use Rattle.px_tables.specs.declared.table.Table.{Table}
 use Rattle.px_tables.specs.declared.table.TableColumn.{TableColumn}
-use Rattle.px_bind.specs.Names.{names_of, place_of, once, places_from, key_may_be_null}
-use Rattle.px_bind.specs.Literals.{value_of, is_null, literal_faults, mismatch_if}
-use Rattle.px_bind.specs.declared.request.BindFault.{BindFault}
-use Rattle.px_bind.specs.declared.request.BindFault.TheVariants.{NullKey}
+use Rattle.px_resolve.specs.Names.{names_of, place_of, once, places_from, key_may_be_null}
+use Rattle.px_resolve.specs.Literals.{value_of, is_null, literal_faults, mismatch_if}
+use Rattle.px_resolve.specs.declared.fault.BindFault.{BindFault}
+use Rattle.px_resolve.specs.declared.fault.BindFault.TheVariants.{NullKey}
 
 -- the columns that it names, as places: all of the table where it has no list
 abbrev pub named : Table → Upsert → List ℕ

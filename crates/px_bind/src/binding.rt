@@ -1,20 +1,21 @@
 // Statements bound to what stands.
 ghost use Rattle.std.specs.Prelude.{◌≡◌, ◌≤◌, IfOk, false, length};
 ghost use Rattle.std.specs.Option.{option_copied};
-ghost use Rattle.px_bind.specs.Answers.{Finds};
-ghost use Rattle.px_bind.specs.Indexes.{index_faults, index_of, missing, new_index};
+ghost use Rattle.px_resolve.specs.Answers.{Finds};
+ghost use Rattle.px_create.specs.Indexes.{index_faults, index_of, missing, new_index};
 ghost use Rattle.px_bind.specs.Queries.{IsQuery, delete_faults, filter_of, select_faults};
 ghost use Rattle.px_bind.specs.Requests.{Asks, AsksIn, HasPlaces, IsFoundFor, alter_request, drop_request, faults_in, faults_of};
-ghost use Rattle.px_bind.specs.Tables.{new_table, table_faults};
+ghost use Rattle.px_create.specs.Tables.{new_table, table_faults};
 ghost use Rattle.px_bind.specs.Upserts.{change_of, upsert_faults};
 ghost use Rattle.px_bind.specs.declared.request.Query.{Query};
 
-use crate::indexes::{bind_index, bind_index_name};
+use crate::Request;
 use crate::queries::{bind_delete, bind_select};
-use crate::tables::bind_table;
 use crate::upserts::bind_upsert;
-use crate::{BindFault, Request};
 use px_ast::{AlterIndex, CreateIndex, CreateTable, Delete, DropIndex, Select, Statement, Upsert};
+use px_create::indexes::{bind_index, bind_index_name};
+use px_create::tables::bind_table;
+use px_resolve::fault::BindFault;
 use px_tables::{Found, Table};
 use std::alloc::Global;
 

@@ -1,21 +1,16 @@
-//! Statements bound to a table.
+//! Binds a statement to the table that it names: a typed request, or the first refusal.
+//!
+//! In a request, columns are places and literals are values. `faults_of` (specs/Requests) is the list of all that is wrong
+//! with a statement, in the order in which it is answered, and `Asks` what a statement asks for; `bind` answers the
+//! head of that list, or the request. Hints stay names: which can be followed is known when a path is chosen.
 #![tactic(auto)]
 
 mod binding;
-mod conditions;
-mod first_key;
 mod hints;
-mod indexes;
-mod limits;
-mod literals;
-mod named;
-mod names;
-mod places;
 mod queries;
 mod request;
-mod splits;
-mod tables;
 mod upserts;
 
 pub use binding::bind;
-pub use request::{BindFault, Hint, Query, Request};
+pub use px_resolve::fault::BindFault;
+pub use request::{Hint, Query, Request};

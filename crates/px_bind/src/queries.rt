@@ -1,18 +1,19 @@
 // SELECT, EXPLAIN and DELETE.
 ghost use Rattle.std.specs.Prelude.{◌≡◌, ◌≤◌, ◌++◌, [], IfOk, OnOk, length, map};
-ghost use Rattle.px_bind.specs.Answers.{Finds};
-ghost use Rattle.px_bind.specs.Names.{key_place, known, names_of, part_names, place_of};
+ghost use Rattle.px_resolve.specs.Answers.{Finds};
+ghost use Rattle.px_resolve.specs.Names.{key_place, known, names_of, part_names, place_of};
 ghost use Rattle.px_bind.specs.Queries.{IsQuery, delete_faults, filter_faults, filter_of, limit_faults, limit_of, query_of, select_faults, shown_faults, shown_of};
-ghost use Rattle.px_bind.specs.declared.conditions.Check.TheVariants as checks;
+ghost use Rattle.px_resolve.specs.declared.conditions.Check.TheVariants as checks;
 
-use crate::conditions::{Check, bound, check_condition};
 use crate::hints::bind_hints;
-use crate::literals::{check_range, number};
-use crate::names::check_all_known;
-use crate::places::{all_columns, column_places, key_places};
-use crate::{BindFault, Hint, Query};
+use crate::{Hint, Query};
 use px_ast::{Boxed, Condition, Delete, RowLimit, Select};
 use px_expr::Bound;
+use px_resolve::conditions::{Check, bound, check_condition};
+use px_resolve::fault::BindFault;
+use px_resolve::literals::{check_range, number};
+use px_resolve::names::check_all_known;
+use px_resolve::places::{all_columns, column_places, key_places};
 use px_tables::{KeyPlace, Table, TableColumn};
 use px_values::{Items, Name};
 use std::alloc::{AllocError, Global};

@@ -2,15 +2,15 @@
 ghost use Rattle.std.specs.Prelude.{◌≡◌, ◌≤◌, ◌++◌, ◌∷◌, [], All, IfOk, OnOk, length, map, nat_eq, not};
 ghost use Rattle.std.specs.List.{flat_map, slice_get};
 ghost use Rattle.std.specs.Option.{option_copied, option_to_list};
-ghost use Rattle.px_bind.specs.Answers.{Finds};
-ghost use Rattle.px_bind.specs.Literals.{is_null, mismatch_if, value_of};
-ghost use Rattle.px_bind.specs.Names.{key_may_be_null};
+ghost use Rattle.px_resolve.specs.Answers.{Finds};
+ghost use Rattle.px_resolve.specs.Literals.{is_null, mismatch_if, value_of};
+ghost use Rattle.px_resolve.specs.Names.{key_may_be_null};
 ghost use Rattle.px_bind.specs.Upserts.{assigned, assignment_of, change_of, given, given_faults, is_key, list_faults, named, null_key, position_of, upsert_faults, value_faults};
 
-use crate::BindFault;
-use crate::literals::{check_value, is_null_literal, value};
-use crate::names::{all_places, bind_once, copied};
 use px_ast::{Literal, Upsert};
+use px_resolve::fault::BindFault;
+use px_resolve::literals::{check_value, is_null_literal, value};
+use px_resolve::names::{all_places, bind_once, copied};
 use px_tables::{KeyPlace, Table, TableColumn};
 use px_values::{Assignment, Assignments, Change, ColType, Row, Value, What};
 use std::alloc::{AllocError, Global};
@@ -98,16 +98,6 @@ fn given_value(
     match given_literal(places, values, place) {
         Some(literal) => value(alloc, &literal.constant),
         None => Ok(Value::Null),
-    }
-}
-
-/// Whether a primary key column may be NULL: a text without NOT NULL may.
-pub(crate) fn may_be_null(column_type: ColType, not_null: bool) -> bool
-    ensures { result ≡ key_may_be_null column_type not_null }
-{
-    match column_type {
-        ColType::Varchar => !not_null,
-        _ => false,
     }
 }
 

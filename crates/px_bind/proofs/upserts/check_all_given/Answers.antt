@@ -1,7 +1,7 @@
 use Rattle.std.proofs.Common.{◌+◌, get_or, drop}
 use Rattle.px_bind.specs.Upserts.{given_faults, value_faults}
 use Rattle.px_bind.proofs.Given.{given_step}
-use Rattle.px_bind.proofs.Walks.{stops}
+use Rattle.px_resolve.proofs.Walks.{stops}
 use Rattle.px_bind.proofs.upserts.check_all_given.Goals as goal
 
 pub returns-in-Err : goal.returns-in-Err

@@ -2,7 +2,7 @@ use Rattle.std.proofs.Common.{get_or}
 use Rattle.std.proofs.lemmas.List.{get_or_default}
 use Rattle.px_values.specs.declared.order.Direction.TheVariants.{Ascending}
 use Rattle.px_bind.specs.Upserts.{null_key}
-use Rattle.px_bind.proofs.Walks.{flat_stops}
+use Rattle.px_resolve.proofs.Walks.{flat_stops}
 use Rattle.px_bind.proofs.upserts.check_key.Goals as goal
 
 pub returns-in-Err : goal.returns-in-Err

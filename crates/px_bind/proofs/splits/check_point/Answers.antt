@@ -1,6 +1,0 @@
-use Rattle.px_bind.specs.Literals.{literal_faults}
-use Rattle.px_bind.proofs.Walks.{in_front}
-use Rattle.px_bind.proofs.splits.check_point.Goals as goal
-
-pub returns-in-Err : goal.returns-in-Err
-returns-in-Err c = in_front (literal_faults c.args.column.ty c.args.literal.now) _ c.in-Err.fault c.in-Err.ensures
