@@ -194,14 +194,18 @@ def with_reading_list(text):
 
 
 def links():
-    """Each link of a document to a file of the repository leads somewhere."""
+    """Each link of a document, and each path that it names from the top of the repository, leads somewhere."""
     listed = subprocess.run(["git", "ls-files", "*.md"], capture_output=True, text=True, check=True).stdout.split()
     for path in listed:
         if not os.path.exists(path):
             continue
-        for target in re.findall(r"\]\(([^)#]+)[^)]*\)", open(path, encoding="utf-8").read()):
+        text = open(path, encoding="utf-8").read()
+        for target in re.findall(r"\]\(([^)#]+)[^)]*\)", text):
             if "://" not in target and not os.path.exists(os.path.join(os.path.dirname(path), target)):
                 fault(f"{path}: {target} isn't there")
+        for named in re.findall(r"(?<![\w/])(?:crates|docs|tests|tools|bench|examples)/[\w./+-]*\w", text):
+            if "NAME" not in named and "/out" not in named and not os.path.exists(named):
+                fault(f"{path}: {named} isn't there")
 
 
 def main():
