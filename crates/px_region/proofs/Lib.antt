@@ -1,3 +1,4 @@
 pub mod Holding
 pub mod Given
 pub mod Opening
+pub mod OneStanding

@@ -5,3 +5,4 @@ pub mod Taken
 pub mod Appended
 pub mod Snapshots
 pub mod Named
+pub mod OneStanding

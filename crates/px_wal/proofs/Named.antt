@@ -39,7 +39,7 @@ module _ {D : Type 0} (d : Ghosts D) (region : ℕ) (old : Manifest) (disk : D) 
   pub manifest_stands : StandsIn d disk (manifest_files region) (λ image. SnapshotStands region image (names old))
   manifest_stands =
       let stand = records_stand d manifest_form (file_of region 2) (file_of region 3) disk old.log has.records has.log in
-      record { each = λ image left. record { records = has.records; stands = stand.each image left; last = has.last } }
+      record { each = λ image left. record { records = has.records; stands = stand.each image left; last = has.last; right = has.right } }
 
   -- calls on other files leave it so
   pub manifest_kept : (disk' : D) (touched : ℕ → Type 0) → TouchesOnly d disk disk' touched → ((file : ℕ) → manifest_files region file → touched file → ⊥) → HasSnapshot d region old disk'
@@ -64,8 +64,8 @@ module _ {D : Type 0} (d : Ghosts D) (region : ℕ) (old : Manifest) (disk : D) 
         let l = appended_leaves d manifest_form (file_of region 2) (file_of region 3) disk disk' old.log old.log has.records r has.log open_ may leaves in
         record {
           each = λ moment image since left. elim (l.each moment image since left) [
-            | inl a ↦ inl (record { records = has.records; stands = a; last = has.last })
-            | inr z ↦ inr (record { records = has.records ++ r ∷ []; stands = z; last = last_is })
+            | inl a ↦ inl (record { records = has.records; stands = a; last = has.last; right = has.right })
+            | inr z ↦ inr (record { records = has.records ++ r ∷ []; stands = z; last = last_is; right = is })
           ];
         }
 
@@ -96,8 +96,8 @@ module _ {D : Type 0} (d : Ghosts D) (region : ℕ) (old : Manifest) (disk : D) 
       let l = next_leaves d manifest_form (file_of region 2) (file_of region 3) refl disk disk' old.log old.log has.records next has.log (fits (names old) has.right) leaves in
       record {
         each = λ moment image since left. elim (l.each moment image since left) [
-          | inl a ↦ record { records = has.records; stands = a; last = has.last }
-          | inr z ↦ record { records = next; stands = z; last = last [] refl }
+          | inl a ↦ record { records = has.records; stands = a; last = has.last; right = has.right }
+          | inr z ↦ record { records = next; stands = z; last = last [] refl; right = has.right }
         ];
       }
 
@@ -129,7 +129,7 @@ started_by {D} d region old new reader m started more named =
     ap (λ (f : ℕ). segments_of manifest_form (d.seen old f) (d.seen old (file_of region 3))) (sym started.first_is) ∙ ap (λ (f : ℕ). segments_of manifest_form (d.seen old m.log.first) (d.seen old f)) (sym started.second_is) ∙ started.stood in
     let stands : RecordsStand manifest_form (file_of region 2) (file_of region 3) (d.seen old) (records_of started.segments) = (started.segments, read, refl) in
     record {
-      stood = record { records = records_of started.segments; stands = stands; last = is };
+      stood = record { records = records_of started.segments; stands = stands; last = is; right = right };
       has = record {
         records = records_of started.segments;
         log = started_records d manifest_form (file_of region 2) (file_of region 3) (λ records. HoldsLast reader records) old new m.log (records_of started.segments) started more stands;

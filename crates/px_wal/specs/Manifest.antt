@@ -31,6 +31,7 @@ pub record SnapshotStands (region : ℕ) (image : Image) (s : SnapshotData) : Ty
   pub records : List LogRecord
   pub stands : RecordsStand manifest_form (file_of region 2) (file_of region 3) image records
   pub last : IsLast records s
+  pub right : IsSnapshot s
 
 -- The disk tells that the region's manifest names what it says, all of it on the disk, and it goes on from there. A next
 -- segment that is laid out begins with the same.

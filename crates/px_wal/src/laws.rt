@@ -2,10 +2,14 @@
 ghost use Rattle.std.specs.Prelude.{◌≡◌, ◌≤◌, ◌<◌, ◌∷◌, ◌++◌, [], ℕ, List};
 ghost use Rattle.std.specs.List.{AllByRecursion};
 ghost use Rattle.px_cells.specs.CellData.{CellData};
+ghost use Rattle.px_outside.specs.Disk.{Image};
 ghost use Rattle.px_merge.specs.Kept.{IsKept};
 ghost use Rattle.px_merge.specs.Merged.{joined};
 ghost use Rattle.px_merge.specs.Settle.{settle};
 ghost use Rattle.px_wal.specs.Batches.{AreOver, ArePlaced, AreRising, Batch, above, between, cells_over, later_first};
+ghost use Rattle.px_wal.specs.Manifest.{SnapshotStands};
+ghost use Rattle.px_wal.specs.Snapshot.{SnapshotData};
+ghost use Rattle.px_wal.specs.Wal.{LogStands};
 
 /// Batches up to a number may stand in a file, the newest, in place of the log.
 pub fn flushed_is_the_same()
@@ -38,4 +42,10 @@ pub fn flushed_batches_may_go()
 /// Where the sorted list of what is read of batches is above a horizon, so is each of their cells.
 pub fn what_is_read_tells_the_stamps()
     ensures { (h : ℕ) (batches : List Batch) → AllByRecursion (λ c. h < c.stamp) (settle (later_first batches)) → AreOver h batches }
+{}
+
+/// The files of a region's log, or of its manifest, stand for one thing at most.
+pub fn logs_stand_for_one()
+    ensures batches { (region flushed : ℕ) (image : Image) (a b : List Batch) → LogStands region flushed image a → LogStands region flushed image b → a ≡ b }
+    ensures snapshot { (region : ℕ) (image : Image) (s t : SnapshotData) → SnapshotStands region image s → SnapshotStands region image t → s ≡ t }
 {}

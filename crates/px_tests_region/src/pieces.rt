@@ -1,0 +1,112 @@
+// What the tests of regions have together.
+ghost use Rattle.std.specs.Prelude.{◌≡◌, ◌≤◌, ◌<◌, ◌+◌, ◌^◌, true, length, IfOk, OnOk};
+
+use px_cellbytes::read_cells;
+use px_cells::{Cell, CellKind};
+use px_gatelog::Frame;
+use px_outside::MemDisk;
+use px_region::{CellTaker, JobStep, Region};
+use std::alloc::{AllocError, Global};
+
+/// Takes keys and values, one after the other.
+#[derive(Drop)]
+pub struct Values {
+    pub bytes: Vec<u8>,
+}
+
+impl CellTaker for Values {
+    ghost has_taken = { λ t cells. Unit {0} };
+
+    ghost wants = { λ t cells. true };
+
+    fn take(&mut self, cell: &Cell) -> Result<(), AllocError> {
+        self.bytes.extend_from_slice(cell.key())?;
+        self.bytes.extend_from_slice(cell.value())?;
+        Ok(())
+    }
+
+    fn wants_row(&self) -> bool {
+        true
+    }
+}
+
+/// The keys and values that a region shows.
+pub fn shown(alloc: Global, disk: &mut MemDisk, region: &mut Region) -> Option<Vec<u8>> {
+    let mut values = Values {
+        bytes: Vec::new(alloc),
+    };
+    region.scan(disk, b"", None, &mut values).ok()?;
+    Some(values.bytes)
+}
+
+fn push_cell(
+    bytes: &mut Vec<u8>,
+    key: &[u8],
+    qualifier: u8,
+    stamp: u64,
+    value: &[u8],
+) -> Result<(), AllocError> {
+    bytes.push(0)?;
+    bytes.push((key.len() % 256) as u8)?;
+    bytes.extend_from_slice(key)?;
+    bytes.push(qualifier)?;
+    bytes.extend_from_slice(&stamp.to_be_bytes())?;
+    bytes.push(CellKind::Put.code())?;
+    bytes.push(0)?;
+    bytes.push((value.len() % 256) as u8)?;
+    bytes.extend_from_slice(value)?;
+    Ok(())
+}
+
+/// The two cells of a row as bytes: its empty column, and its first value.
+pub fn row(alloc: Global, key: &[u8], stamp: u64, value: &[u8]) -> Result<Vec<u8>, AllocError> {
+    let mut bytes = Vec::new(alloc);
+    push_cell(&mut bytes, key, 1, stamp, b"")?;
+    push_cell(&mut bytes, key, 3, stamp, value)?;
+    Ok(bytes)
+}
+
+/// Writes the cells of bytes as one batch.
+pub fn put(
+    alloc: Global,
+    disk: &mut MemDisk,
+    region: &mut Region,
+    bytes: &[u8],
+    count: u32,
+) -> Option<()>
+    requires few { 1 ≤ count }
+    requires short { length bytes.now < 2 ^ 32 }
+{
+    let mut frame = Frame::with_room(alloc, 12 + bytes.len() as u64).ok()?;
+    let cells = read_cells(alloc, bytes, count).ok()?;
+    region.promise(count as u64, bytes.len() as u64).ok()?;
+    region.apply(disk, cells, &mut frame).ok()?;
+    Some(())
+}
+
+/// Writes a row.
+pub fn put_row(
+    alloc: Global,
+    disk: &mut MemDisk,
+    region: &mut Region,
+    key: &[u8],
+    stamp: u64,
+    value: &[u8],
+) -> Option<()> {
+    let bytes = row(alloc, key, stamp, value).ok()?;
+    if bytes.len() > 1_000_000 {
+        return None;
+    }
+    put(alloc, disk, region, &bytes, 2)
+}
+
+/// Opens a region, and makes its files where there are none.
+pub fn opened(alloc: Global, disk: &mut MemDisk, number: u32) -> Option<Region> {
+    let mut region = Region::reopen(alloc, disk, number).ok()?;
+    for _ in 0..8 {
+        if region.prepare_step(disk).ok()? == JobStep::Done {
+            return Some(region);
+        }
+    }
+    Some(region)
+}
