@@ -4,8 +4,8 @@ ghost use Rattle.std.specs.Prelude.{◌≡◌, false};
 
 use crate::run::phoenix;
 use crate::tests::{Run, bytes_of, disk_of, words_of};
-use px_outside::{Clock, FixedClock, MemDisk, MemSink, MemSource};
 use px_kv_trail::Act;
+use px_outside::{Clock, FixedClock, MemDisk, MemSink, MemSource};
 use std::alloc::{AllocError, Global};
 
 /// The greatest clock that counts as itself.

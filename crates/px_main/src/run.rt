@@ -15,10 +15,10 @@ use crate::session::{Ending, Session, run_script};
 use crate::store::Store;
 use crate::words::folder_word;
 use px_gatelog::StartFault;
+use px_kv_trail::{Entry, Trail};
 use px_outside::{
     Clock, CountsCalls, Disk, InputFault, Metered, Sink, Source, read_all, write_all,
 };
-use px_kv_trail::{Entry, Trail};
 use px_values::Line;
 use std::alloc::Global;
 

@@ -33,7 +33,9 @@ pub fn tell<R: Eprint>(rt: &R, status: Status) {
         Status::Device { call } => rt.eprintln(format_args!("device fault at call {call}")),
         Status::Memory => rt.eprintln("out of memory"),
         Status::Damaged { file, place } => {
-            rt.eprintln(format_args!("damaged file {file} at {place}\nin the folder it is {file:016x}.px"))
+            rt.eprintln(format_args!(
+                "damaged file {file} at {place}\nin the folder it is {file:016x}.px"
+            ))
         }
         Status::SourceFault => rt.eprintln("source fault"),
         Status::SinkFault => rt.eprintln("sink fault"),
