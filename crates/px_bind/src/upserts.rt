@@ -4,13 +4,12 @@ ghost use Rattle.std.specs.List.{flat_map, slice_get};
 ghost use Rattle.std.specs.Option.{option_copied, option_to_list};
 ghost use Rattle.px_resolve.specs.Answers.{Finds};
 ghost use Rattle.px_resolve.specs.Literals.{is_null, mismatch_if, value_of};
-ghost use Rattle.px_resolve.specs.Names.{key_may_be_null};
 ghost use Rattle.px_bind.specs.Upserts.{assigned, assignment_of, change_of, given, given_faults, is_key, list_faults, named, null_key, position_of, upsert_faults, value_faults};
 
 use px_ast::{Literal, Upsert};
 use px_resolve::fault::BindFault;
 use px_resolve::literals::{check_value, is_null_literal, value};
-use px_resolve::names::{all_places, bind_once, copied};
+use px_resolve::names::{all_places, bind_once, copied, may_be_null};
 use px_tables::{KeyPlace, Table, TableColumn};
 use px_values::{Assignment, Assignments, Change, ColType, Row, Value, What};
 use std::alloc::{AllocError, Global};

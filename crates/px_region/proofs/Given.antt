@@ -57,3 +57,6 @@ looked_step start rows one old new before after = omega arith
 
 pub looked_most : (start rows all old : ℕ) → old ≡ min (start + rows) 18446744073709551615 → rows ≤ all → old ≤ start + all
 looked_most start rows all old is le = omega arith
+
+pub looked_least : (start rows old : ℕ) → start < 18446744073709551616 → old ≡ min (start + rows) 18446744073709551615 → start ≤ old
+looked_least start rows old small is = omega arith

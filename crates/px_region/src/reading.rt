@@ -54,6 +54,7 @@ fn give_rows<T: CellTaker>(
     ensures given { (before : List CellData) → T.has_taken taker.old before
         → OnOk result ((n : ℕ) × IsGiven (T.wants taker.old) before cells.now n × T.has_taken taker.new (before ++ take n cells.now) × (looked.new ≡ min (looked.old + rows_before cells.now n) 18446744073709551615)) }
     ensures most { looked.new ≤ looked.old + rows_before cells.now (length cells.now) }
+    ensures least { looked.old ≤ looked.new }
 {
     let _looked = *looked;
     for i in 0..cells.len() {
@@ -110,6 +111,7 @@ impl Region {
             × (self.new.looked ≡ min (self.old.looked + rows_before rows n) 18446744073709551615))) }
         ensures looked { (s : RegionData) → Holds ⟦<D as Disk>⟧ self.old disk.old s
             → (rows : List CellData) × AreRows s.cells low.now (option_copied high.entry) rows × (self.new.looked ≤ self.old.looked + rows_before rows (length rows)) }
+        ensures risen { self.old.looked ≤ self.new.looked }
         ensures alike { IsAlike self.old self.new }
         ensures promised { IsSamePromise self.old self.new }
         ensures untouched { disk.new ≡ disk.old }
