@@ -4,7 +4,8 @@ ghost use Rattle.std.specs.List.{flat_map};
 ghost use Rattle.std.specs.Option.{option_copied};
 ghost use Rattle.px_resolve.specs.Answers.{Finds};
 ghost use Rattle.px_resolve.specs.Literals.{HasText, is_bad_text, literal_faults, range_if, value_of};
-ghost use Rattle.px_keys.specs.Spelling.{part_bytes};
+ghost use Rattle.px_keys.specs.Spelling.{FitsColumn, part_bytes};
+ghost use Rattle.px_values.specs.Types.{HasType};
 ghost use Rattle.px_create.specs.Tables.{is_long, is_not_above, null_split, null_splits, point_faults, points_faults, split_keys, splits_faults};
 
 use crate::first_key::FirstKey;
@@ -142,6 +143,22 @@ fn has_text(value: &Value)
     }
 }
 
+/// The column as one that may be NULL where the value is NULL, whose bytes are the same there.
+fn fitting(column: KeyColumn, value: &Value) -> KeyColumn
+    requires { HasType column.ty value.now }
+    ensures fits { FitsColumn result value.now }
+    ensures same { part_bytes result value.now ≡ part_bytes column value.now }
+{
+    match value {
+        Value::Null => KeyColumn {
+            ty: column.ty,
+            direction: column.direction,
+            may_be_null: true,
+        },
+        _ => column,
+    }
+}
+
 /// A split point as a key part.
 fn split_key(alloc: Global, column: KeyColumn, literal: &Literal) -> Result<Key, AllocError>
     requires { literal_faults column.ty literal.now ≡ [] }
@@ -150,7 +167,7 @@ fn split_key(alloc: Global, column: KeyColumn, literal: &Literal) -> Result<Key,
     let value = value(alloc, &literal.constant)?;
     has_text(&value);
     let part = Part {
-        column,
+        column: fitting(column, &value),
         value: &value,
     };
     let bytes = spell_front(alloc, &[part]);
