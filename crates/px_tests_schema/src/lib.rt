@@ -2,8 +2,8 @@
 //! byte of it.
 #![tactic(auto)]
 
-mod rewritten;
+mod again;
 #[cfg(test)]
 mod tests;
 
-pub use rewritten::rewritten;
+pub use again::rewritten;
