@@ -1,5 +1,5 @@
 // The stamps of runs whose clock stands still, jumps back, or lies beyond what a stamp may be.
-ghost use Rattle.px_outside.specs.MemDisk.{calls as calls_of, faults as faults_of, first_fault as first_fault_of};
+ghost use Rattle.px_outside.specs.MemDisk.{mem_calls as calls_of, mem_faults as faults_of, mem_first_fault as first_fault_of};
 ghost use Rattle.std.specs.Prelude.{◌≡◌, false};
 
 use crate::run::phoenix;
