@@ -1,4 +1,6 @@
 // Definitions to bytes and back.
+ghost use Rattle.std.specs.Prelude.{◌≤◌};
+
 use crate::rewritten;
 use px_schema::{CatalogItem, DefFault, Standing, fresh, read_definition, read_snapshot};
 use px_tables::Table;
@@ -67,31 +69,41 @@ fn changes_are_told(
     step: u8,
 ) -> Result<(), Fail> {
     assert!(rt; body.len() < 10_000);
+    let most = 5 + body.len() as u64;
     let mut changed = Vec::from_slice(alloc, body)?;
-    for at in 0..body.len() {
-        changed[at] = body[at] ^ step;
+    for (at, byte) in body.iter().enumerate() {
+        set(&mut changed, at, *byte ^ step);
+        assert!(rt; changed.len() < 10_000);
         match rewritten(alloc, 2, &changed, standing) {
             Ok(written) => assert_eq!(rt; written.as_slice(), changed.as_slice()),
             Err(DefFault::NotADefinition { place }) => {
                 assert!(rt; place >= 5);
-                assert!(rt; place <= 5 + body.len() as u64);
+                assert!(rt; place <= most);
             }
             Err(DefFault::Memory) => assert!(rt; false),
         }
-        changed[at] = body[at];
+        set(&mut changed, at, *byte);
     }
     Ok(())
 }
 
+fn set(bytes: &mut [u8], at: usize, byte: u8) {
+    if let Some(place) = bytes.get_mut(at) {
+        *place = byte;
+    }
+}
+
 /// A table with a column of every type, a key of two columns of which the second descends, and two regions. Its names
 /// have so many characters of two bytes, and two letters.
-fn every_type(alloc: Global, characters: u8) -> Result<Vec<u8>, Fail> {
+fn every_type(alloc: Global, characters: u8) -> Result<Vec<u8>, Fail>
+    requires { characters ≤ 100 }
+{
     let mut body = Vec::new(alloc);
     body.extend_from_slice(&[0, 0, 0, 9])?;
     push_name(&mut body, characters, b'T')?;
     body.push(8)?;
-    for code in 1..=8u8 {
-        push_name(&mut body, characters, b'0' + code)?;
+    for code in [1u8, 2, 3, 4, 5, 6, 7, 8] {
+        push_name(&mut body, characters, code)?;
         body.extend_from_slice(&[code, u8::from(code == 1)])?;
     }
     // The key: the first column, and the last one descending.
@@ -101,7 +113,9 @@ fn every_type(alloc: Global, characters: u8) -> Result<Vec<u8>, Fail> {
     Ok(body)
 }
 
-fn push_name(body: &mut Vec<u8>, characters: u8, letter: u8) -> Result<(), Fail> {
+fn push_name(body: &mut Vec<u8>, characters: u8, letter: u8) -> Result<(), Fail>
+    requires { characters ≤ 100 }
+{
     body.push(2 * characters + 2)?;
     for _ in 0..characters {
         body.extend_from_slice("é".as_bytes())?;
