@@ -26,6 +26,11 @@ expect() {
     fi
 }
 
+# told WORDS: standard error has these words of the last run.
+told() {
+    grep -q "$1" "$work/err" || { echo "WRONG: it doesn't say '$1'"; wrong=1; }
+}
+
 upsert="UPSERT INTO KV VALUES ('a','b');"
 
 # Builds the program, where that wasn't done yet.
@@ -80,11 +85,6 @@ echo "a file" >"$work/file"
 echo "$upsert" | "$program" run "$work/file" >"$work/out" 2>"$work/err"
 status=$?
 expect "a file in the folder's place" 3 "device fault at call *"
-
-# told WORDS: standard error has these words of the last run.
-told() {
-    grep -q "$1" "$work/err" || { echo "WRONG: it doesn't say '$1'"; wrong=1; }
-}
 
 # A folder that another process uses: nothing is read or written, and each run says so.
 echo "$upsert" | "$program" run "$work/used" >/dev/null
