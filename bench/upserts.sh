@@ -9,7 +9,7 @@
 set -eu
 upserts=${1:-1000}
 rounds=${2:-5}
-# A record of such a row from its kind to the gate behind it, in bytes (docs/FORMAT.md).
+# A record of such a row from its kind to the gate behind it, in bytes (docs/use/FORMAT.md).
 record=168
 # The syncs of a new log: three make its segment, two bring the names of its file and its folder to the disk.
 first_syncs=5
