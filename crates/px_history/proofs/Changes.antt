@@ -7,7 +7,6 @@ use Rattle.px_values.specs.declared.row.Value.{Value}
 use Rattle.px_values.specs.declared.change.Change.{Change}
 use Rattle.px_values.specs.declared.change.What.{What}
 use Rattle.px_values.specs.States.{RowState, Shape}
-use Rattle.px_values.proofs.Equal.{row_order-Decides}
 use Rattle.px_values.specs.Order.{row_order}
 use Rattle.std.specs.Ordering.{is_eq}
 use Rattle.px_trail.specs.declared.entry.Entry.{Entry}
@@ -76,10 +75,6 @@ pub written-zero : {S : Type 0} (h : History S) → written_state h 0 ≡ h.base
 unfolding state_at
 written-zero h = refl
 
-pub and_false : (a c : Bool) → c ≡ false → (a && c) ≡ false
-and_false true c h = h
-and_false false c h = refl
-
 pub number_same : (n : ℕ) → (n == n) ≡ true
 number_same n = eq-eqb n n refl
 
@@ -91,14 +86,6 @@ both_same n m = rw (number_same n, number_same m) refl
 pub below_last : (n : ℕ) (d : Dated) (ds : List Dated) → n < d.stamp → AreUpTo n ds → AllByRecursion (λ x. x.stamp < d.stamp) ds
 below_last n d [] l a = tt
 below_last n d (x ∷ ds) l a = ((let i = a.0 in omega arith), below_last n d ds l a.1)
-
-pub all_push : (P : Dated → Type 0) (ds : List Dated) (d : Dated) → AllByRecursion P ds → P d → AllByRecursion P (ds ++ d ∷ [])
-all_push P [] d a p = (p, tt)
-all_push P (x ∷ ds) d a p = (a.0, all_push P ds d a.1 p)
-
-pub rising_push : (ds : List Dated) (d : Dated) → IsRising ds → AllByRecursion (λ x. x.stamp < d.stamp) ds → IsRising (ds ++ d ∷ [])
-rising_push [] d r a = (tt, tt)
-rising_push (x ∷ ds) d r a = (all_push (λ y. x.stamp < y.stamp) ds d r.0 a.0, rising_push ds d r.1 a.1)
 
 pub listed_left : (d : Dated) (xs ys : List Dated) → IsListed d xs → IsListed d (xs ++ ys)
 unfolding IsListed
@@ -197,50 +184,10 @@ filter_more q q' d same here not_here up (x ∷ ds) r h = elim (cases_eq x.stamp
 
 -- ---- rows of a batch
 
-pub has-append : (xs ys : List (List Value)) (r : List Value) → has (xs ++ ys) r ≡ (has xs r || has ys r)
-unfolding has
-has-append [] ys r = refl
-has-append (x ∷ xs) ys r = ap (λ (v : Bool). is_eq (row_order x r) || v) (has-append xs ys r) ∙ or_assoc (is_eq (row_order x r)) (has xs r) (has ys r)
-  where
-    or_assoc : (a c d : Bool) → (a || (c || d)) ≡ ((a || c) || d)
-    or_assoc true c d = refl
-    or_assoc false c d = refl
-
-pub has-filter : (p : List Value → Bool) (xs : List (List Value)) (r : List Value) → has (filter p xs) r ≡ true → (has xs r ≡ true) × (p r ≡ true)
-unfolding has
-has-filter p [] r h = absurd (false≢true h)
-has-filter p (x ∷ xs) r h = elim (cases_Bool (p x)) [
-  | inl e ↦ elim (cases_Bool (is_eq (row_order x r))) [
-    | inl k ↦ (rw k refl, subst (λ (y : List Value). p y ≡ true) ((row_order-Decides x r).0 k) e)
-    | inr k ↦ (let z = has-filter p xs r (rw (e, k) at h) in (rw (k, z.0) refl, z.1))
-  ]
-  | inr e ↦ (let z = has-filter p xs r (rw e at h) in (let z0 = z.0 in rw z0 (or_true (is_eq (row_order x r))), z.1))
-]
-  where
-    or_true : (a : Bool) → (a || true) ≡ true
-    or_true true = refl
-    or_true false = refl
-
-pub filter-has : (p : List Value → Bool) (xs : List (List Value)) (r : List Value) → has xs r ≡ true → p r ≡ true → has (filter p xs) r ≡ true
-unfolding has
-filter-has p [] r h k = absurd (false≢true h)
-filter-has p (x ∷ xs) r h k = elim (cases_Bool (is_eq (row_order x r))) [
-  | inl e ↦ (let px : p x ≡ true = subst (λ (y : List Value). p y ≡ true) (sym ((row_order-Decides x r).0 e)) k in rw (px, e) refl)
-  | inr e ↦ (let z = filter-has p xs r (rw e at h) k in elim (cases_Bool (p x)) [ inl u ↦ rw (u, e, z) refl | inr u ↦ rw (u, z) refl ])
-]
-
 pub change-has : (cs : List Change) (r : List Value) → has (rows_of cs) r ≡ true → (w : What) × (change_of cs r ≡ Some w)
 unfolding has change_of
 change-has [] r h = absurd (false≢true h)
 change-has (c ∷ cs) r h = elim (cases_Bool (is_eq (row_order c.row r))) [
   | inl e ↦ (c.what, rw e refl)
   | inr e ↦ (let z = change-has cs r (rw e at h) in (z.0, rw e z.1))
-]
-
-pub has-change : (cs : List Change) (r : List Value) (w : What) → change_of cs r ≡ Some w → has (rows_of cs) r ≡ true
-unfolding has change_of
-has-change [] r w h = cc
-has-change (c ∷ cs) r w h = elim (cases_Bool (is_eq (row_order c.row r))) [
-  | inl e ↦ rw e refl
-  | inr e ↦ (let z = has-change cs r w (rw e at h) in rw (e, z) refl)
 ]

@@ -26,7 +26,8 @@ use Rattle.px_world.proofs.Steps.{set_stamp-same, set_stamp-other, set_stamp-bel
 use Rattle.px_history.specs.History.{History, begin_change, write_change, end_change, written_state, expected_state}
 use Rattle.px_history.specs.Rows.{base_history, begun_as, history_step, RowBatch, row_as, row_in, fate_by, ended_by, state_by, IsListed, Tied}
 use Rattle.px_history.proofs.UpTo.{begun-up_to}
-use Rattle.px_history.proofs.Changes.{all_push, and_false, below_last, both_same, change-has, cond_fate, expected_written, filter-has, filter_more, has-append, has-change, has-filter, listed_end, listed_left, number_same, rising_push, state_at-alike, written-counted, written-down, written-skipped, written-zero}
+use Rattle.px_history.proofs.Changes.{below_last, both_same, change-has, cond_fate, expected_written, filter_more, listed_end, listed_left, number_same, state_at-alike, written-counted, written-down, written-skipped, written-zero}
+use Rattle.px_trail.proofs.Orders.{all_push, and_false, filter-has, has-append, has-change, has-filter, rising_push}
 
 -- a batch all of whose rows are written
 pub record CanEnd (es : List Entry) (t s : ℕ) : Type 0 where

@@ -26,7 +26,7 @@ use Rattle.px_merge.specs.Settle.{settle}
 use Rattle.px_wal.specs.Batches.{Batch, above, later_first}
 use Rattle.px_wal.specs.Files.{file_of}
 use Rattle.px_wal.specs.Form.{AreBatches, IsBatch, IsNextNumber, batch_record, byte_count, cell_count, last_of, wal_form, wrong_batch}
-use Rattle.px_wal.specs.Reader.{HoldsRecords}
+use Rattle.px_wal.specs.inner.Reader.{HoldsRecords}
 use Rattle.px_wal.specs.Wal.{HasBatches, IsReplayed, LogStands, is_open, log_files}
 use Rattle.px_wal.specs.declared.reader.BatchReader.{BatchReader}
 use Rattle.px_wal.specs.declared.wal.Wal.{Wal}

@@ -14,7 +14,7 @@ use Rattle.px_wal.specs.Files.{file_of}
 use Rattle.px_wal.specs.Snapshot.{IsLast, IsSnapshot, SnapshotData, manifest_form, snapshot_record, wrong_snapshot}
 use Rattle.px_wal.specs.Snapshot.IsLast.{last}
 use Rattle.px_wal.specs.SnapshotOf.{snapshot_of}
-use Rattle.px_wal.specs.SnapshotReader.{HoldsLast}
+use Rattle.px_wal.specs.inner.SnapshotReader.{HoldsLast}
 use Rattle.px_wal.specs.Manifest.{HasSnapshot, IsStarted, SnapshotStands, is_open, manifest_files, names}
 use Rattle.px_wal.specs.declared.snapshot.Snapshot.{Snapshot}
 use Rattle.px_wal.specs.declared.snapshot_reader.SnapshotReader.{SnapshotReader}

@@ -9,7 +9,7 @@ use Rattle.px_gatelog.specs.Format.{LogForm, LogRecord}
 use Rattle.px_cellbytes.specs.Spelling.{all_bytes}
 use Rattle.px_wal.specs.Batches.{AreRising, Batch, above, later_first}
 use Rattle.px_wal.specs.Form.{AreBatches, IsBatch, IsFirst, IsNextNumber, batch_body, batch_record, byte_count, count_in, fault_place, cell_count, is_next, is_right, is_some, last_number, last_of, number_in, number_place, right_number, wal_form, wrong_batch, wrong_by}
-use Rattle.px_wal.specs.OneReading.{reading}
+use Rattle.px_wal.specs.inner.OneReading.{reading}
 use Rattle.px_wal.proofs.Readings.{cells_of_body, count_of_body, length_of_body, number_of_body, reading_ok, wrong_cells, wrong_number, wrong_some}
 use Rattle.px_wal.proofs.Cuts.{above_drop, above_take}
 

@@ -16,7 +16,7 @@ use Rattle.px_cellbytes.proofs.EveryReading.{every_reading}
 use Rattle.px_cellbytes.proofs.OneReading.{one_reading}
 use Rattle.px_gatelog.specs.Framed.{Framed, record_of}
 use Rattle.px_wal.specs.Batches.{Batch}
-use Rattle.px_wal.specs.OneReading.{AreBytes, WithBytes, cases_bytes, reading, reading_by}
+use Rattle.px_wal.specs.inner.OneReading.{AreBytes, WithBytes, cases_bytes, reading, reading_by}
 use Rattle.px_wal.specs.Form.{batch_body, batch_record, count_in, differs_at, fault_place, number_in, number_place, wrong_by}
 
 reading_by_is : (bytes : List ℕ) (count : ℕ) (w : WithBytes bytes) → AreBytes bytes → IsReading bytes count (reading_by bytes count w)

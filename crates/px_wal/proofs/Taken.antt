@@ -10,7 +10,7 @@ use Rattle.px_cellbytes.specs.Spelling.{all_bytes}
 use Rattle.px_merge.specs.Settle.{settle}
 use Rattle.px_wal.specs.Batches.{Batch, above, later_first}
 use Rattle.px_wal.specs.Form.{AreBatches, IsBatch, batch_body, batch_record, byte_count, cell_count, is_next, is_right, number_in, number_place, right_number, wrong_batch, wrong_by}
-use Rattle.px_wal.specs.Reader.{HoldsBatches, HoldsRecords}
+use Rattle.px_wal.specs.inner.Reader.{HoldsBatches, HoldsRecords}
 use Rattle.px_wal.specs.declared.reader.BatchReader.{BatchReader}
 use Rattle.px_merge.proofs.Settling.{settle_back, settled_is}
 use Rattle.px_wal.proofs.Numbers.{above_more, above_same, bytes_more, cells_more, last_more, later_more, next_number, right_is_last, right_is_next, right_more, some_more}

@@ -9,7 +9,7 @@ use Rattle.px_cellbytes.specs.Reading.{IsWritten, place_of}
 use Rattle.px_cellbytes.specs.Spelling.{all_bytes}
 use Rattle.px_gatelog.specs.Format.{LogForm, LogRecord}
 use Rattle.px_wal.specs.Batches.{AreRising, Batch}
-use Rattle.px_wal.specs.OneReading.{reading}
+use Rattle.px_wal.specs.inner.OneReading.{reading}
 
 -- ---- spelling
 

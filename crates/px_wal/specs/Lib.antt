@@ -1,11 +1,9 @@
 pub mod Batches
-pub mod OneReading
 pub mod Files
 pub mod Form
 pub mod Batch
-pub mod Reader
 pub mod Wal
 pub mod Snapshot
 pub mod SnapshotOf
-pub mod SnapshotReader
 pub mod Manifest
+pub mod inner

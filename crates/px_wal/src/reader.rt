@@ -26,7 +26,7 @@ pub struct BatchReader {
 
 impl LogReader for BatchReader {
     ghost use Rattle.px_wal.specs.Form.{wal_form};
-    ghost use Rattle.px_wal.specs.Reader.{HoldsRecords};
+    ghost use Rattle.px_wal.specs.inner.Reader.{HoldsRecords};
 
     ghost form = { λ reader. wal_form reader.flushed };
 
@@ -61,7 +61,7 @@ impl BatchReader {
     ghost use Rattle.px_wal.specs.Batches.{Batch as BatchData};
     ghost use Rattle.px_wal.specs.Form.{IsBatch, is_next};
     ghost use Rattle.px_wal.specs.Batch.{batch_of};
-    ghost use Rattle.px_wal.specs.Reader.{HoldsBatches};
+    ghost use Rattle.px_wal.specs.inner.Reader.{HoldsBatches};
     ghost use Rattle.px_cellbytes.specs.Spelling.{all_bytes};
     ghost use Rattle.std.specs.Prelude.{◌+◌, length, true};
     ghost use Rattle.px_cells.specs.Order.{IsAscending, IsSettled};

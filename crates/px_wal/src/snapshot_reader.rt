@@ -16,7 +16,7 @@ pub(crate) struct SnapshotReader {
 
 impl LogReader for SnapshotReader {
     ghost use Rattle.px_wal.specs.Snapshot.{manifest_form};
-    ghost use Rattle.px_wal.specs.SnapshotReader.{HoldsLast};
+    ghost use Rattle.px_wal.specs.inner.SnapshotReader.{HoldsLast};
 
     ghost form = { λ _. manifest_form };
 
@@ -48,7 +48,7 @@ impl LogReader for SnapshotReader {
 }
 
 impl SnapshotReader {
-    ghost use Rattle.px_wal.specs.SnapshotReader.{HoldsLast};
+    ghost use Rattle.px_wal.specs.inner.SnapshotReader.{HoldsLast};
     ghost use Rattle.px_gatelog.specs.GateLog.{steps_left};
     ghost use Rattle.std.specs.Prelude.{◌≢◌, false};
 

@@ -4,7 +4,7 @@ use Rattle.px_gatelog.specs.Start.{Started}
 use Rattle.px_gatelog.specs.declared.gate_log.GateLog.{GateLog}
 use Rattle.px_wal.specs.Files.{file_of}
 use Rattle.px_wal.specs.Snapshot.{manifest_form}
-use Rattle.px_wal.specs.SnapshotReader.{HoldsLast}
+use Rattle.px_wal.specs.inner.SnapshotReader.{HoldsLast}
 use Rattle.px_wal.proofs.Named.{started_by}
 use Rattle.px_wal.proofs.manifest.Manifest.start.Goals as goal
 

@@ -4,7 +4,7 @@ use Rattle.px_gatelog.specs.Start.{Started}
 use Rattle.px_gatelog.specs.declared.gate_log.GateLog.{GateLog}
 use Rattle.px_wal.specs.Files.{file_of}
 use Rattle.px_wal.specs.Form.{wal_form}
-use Rattle.px_wal.specs.Reader.{HoldsRecords}
+use Rattle.px_wal.specs.inner.Reader.{HoldsRecords}
 use Rattle.px_wal.proofs.Appended.{replayed_by}
 use Rattle.px_wal.proofs.wal.Wal.replay.Goals as goal
 
