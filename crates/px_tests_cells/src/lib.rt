@@ -7,6 +7,8 @@ mod cellbytes;
 #[cfg(test)]
 mod cells;
 #[cfg(test)]
+mod lines;
+#[cfg(test)]
 mod memstore;
 #[cfg(test)]
 mod merge;

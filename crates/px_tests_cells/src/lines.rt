@@ -1,0 +1,61 @@
+// Cells that are written as words, so that a test holds no list of them over many calls.
+use px_cells::{Cell, CellKind, Cells};
+use std::alloc::{AllocError, Global};
+
+fn kind_of(letter: u8) -> CellKind {
+    match letter {
+        b'D' => CellKind::Delete,
+        b'V' => CellKind::DeleteFamilyVersion,
+        b'C' => CellKind::DeleteColumn,
+        b'F' => CellKind::DeleteFamily,
+        _ => CellKind::Put,
+    }
+}
+
+/// The cell of a word, which has a key and then one byte each for the qualifier, the stamp and the kind, with this value.
+pub(crate) fn cell(alloc: Global, word: &[u8], value: u8) -> Result<Cell, AllocError> {
+    let (key, qualifier, stamp, letter) = match word {
+        [key @ .., qualifier, stamp, letter] => (key, *qualifier, *stamp, *letter),
+        _ => (b"".as_slice(), b'1', b'0', b'P'),
+    };
+    let qualifier = qualifier.saturating_sub(b'0');
+    let stamp = u64::from(stamp.saturating_sub(b'0'));
+    let key = Vec::from_slice(alloc, key)?;
+    match Vec::from_slice(alloc, &[value]) {
+        Ok(value) => Ok(Cell::new(key, qualifier, stamp, kind_of(letter), value)),
+        Err(fault) => {
+            drop(key);
+            Err(fault)
+        }
+    }
+}
+
+/// Puts the cell of a word behind others; its value is the word's last byte.
+pub(crate) fn push_word(alloc: Global, cells: &mut Cells, word: &[u8]) -> Result<(), AllocError> {
+    match word {
+        [front @ .., value] => cells.push(cell(alloc, front, *value)?),
+        [] => Ok(()),
+    }
+}
+
+/// The cells of the words of a line, each with its value.
+pub(crate) fn listed(alloc: Global, line: &str) -> Result<Cells, AllocError> {
+    let mut cells = Cells::new(alloc);
+    for word in line.split(' ') {
+        push_word(alloc, &mut cells, word.as_bytes())?;
+    }
+    Ok(cells)
+}
+
+/// Whether the cells have these values, of one byte each.
+pub(crate) fn have(cells: &[Cell], values: &[u8]) -> bool {
+    if cells.len() != values.len() {
+        return false;
+    }
+    for (cell, value) in cells.iter().zip(values) {
+        if cell.value() != [*value].as_slice() {
+            return false;
+        }
+    }
+    true
+}
