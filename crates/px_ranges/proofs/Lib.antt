@@ -1,0 +1,4 @@
+pub mod Ranges
+pub mod CutBytes
+pub mod Spans
+pub mod Places
