@@ -1,0 +1,302 @@
+-- When a call is refused, and what it leaves.
+use Rattle.std.specs.Prelude.{ℕ, zero, suc, ◌≡◌, ◌≢◌, ◌⊎◌, ◌<◌, ◌≤◌, ◌+◌, ◌-◌, ◌==◌, true, if◌then◌else◌, List, [], ◌∷◌, length, min, sum_by, Option, None, Some, IsSome}
+use Rattle.std.specs.Option.{is_some}
+use Rattle.px_values.specs.Limits.{most_key, most_of}
+use Rattle.px_values.specs.States.{RowState, apply}
+use Rattle.px_values.specs.declared.change.Change.{Change}
+use Rattle.px_values.specs.declared.limit.Limit.{Limit as Bound}
+use Rattle.px_values.specs.declared.limit.Limit.TheVariants as bound
+use Rattle.px_values.specs.declared.row.Value.{Value}
+use Rattle.px_keys.specs.Spelling.{spelled}
+use Rattle.px_tables.specs.declared.index.Index.{Index}
+use Rattle.px_tables.specs.declared.index.IndexState.TheVariants.{Disabled}
+use Rattle.px_tables.specs.declared.index.NewIndex.{NewIndex}
+use Rattle.px_tables.specs.declared.table.NewTable.{NewTable}
+use Rattle.px_tables.specs.declared.table.Table.{Table}
+use Rattle.px_paths.specs.Paths.{columns_on, index_path, key_on, table_path}
+use Rattle.px_trail.specs.declared.entry.Act.{Act}
+use Rattle.px_trail.specs.declared.entry.Act.TheVariants.{Begun, Ended, Missed, Opened, Released, Shut}
+use Rattle.px_trail.specs.declared.entry.Entry.{Entry}
+use Rattle.px_trail.specs.Answers.{IsAmong}
+use Rattle.px_trail.specs.Batches.{Batch, batch_of, has, unwritten}
+use Rattle.px_trail.specs.Count.{counted_bytes, counted_change}
+use Rattle.px_trail.specs.States.{applied, begun, greatest_stamp, state_now}
+use Rattle.px_trail.specs.Trail.{Base, Catalogue, catalogue_of, closing_call, horizon_of, index_of, last_of, shape_of, table_of}
+use Rattle.px_calls.specs.declared.definition.Definition.{Definition}
+use Rattle.px_calls.specs.declared.definition.Definition.TheVariants as d
+use Rattle.px_calls.specs.declared.fault.StepFault.{StepFault}
+use Rattle.px_calls.specs.declared.fault.StepFault.TheVariants.{NameExists, NoTable, NoIndex, Limit, Busy, NotReady, InUse, NotYet, BelowHorizon, ReadFault, WriteFault, Damaged, Closed, Memory}
+use Rattle.px_calls.specs.Known.{Known, Sees, Adds, IsRunning}
+
+-- A refusal has its cause after exactly what the seat has then seen. ReadFault and WriteFault add the entry that tells it;
+-- Closed comes where the server is closed, and the others where it isn't
+abbrev pub Refuses : (StepFault → Known → Type 0) → Known → Known → StepFault → Type 0
+Refuses Cause k k' ReadFault = Cause ReadFault k' × ((call : ℕ) × Adds k k' (Missed call))
+Refuses Cause k k' WriteFault = Cause WriteFault k' × ((call : ℕ) × Adds k k' (Shut call))
+Refuses Cause k k' (Closed call) = Cause (Closed call) k' × Sees k k'
+Refuses Cause k k' f = Cause f k' × Sees k k' × IsRunning k'
+
+-- this device call closed the server
+abbrev pub ClosedBy : ℕ → Known → Type 0
+ClosedBy call k = closing_call k.seen ≡ Some call
+
+-- this place of the file isn't of the format
+abbrev pub IsDamagedAt : Known → ℕ → ℕ → Type 0
+IsDamagedAt k file place = k.damaged file place ≡ true
+
+-- 1. Names, tables and indexes
+
+-- a table or an index has the name
+abbrev pub HasName : Catalogue → List ℕ → Type 0
+HasName c name = ((t : ℕ) × (x : Table) × (c.tables t ≡ Some x) × (x.name ≡ name)) ⊎ ((i : ℕ) × (x : Index) × (c.indexes i ≡ Some x) × (x.name ≡ name))
+
+-- no table has the name
+abbrev pub NamesNoTable : Known → List ℕ → Type 0
+NamesNoTable k name = (t : ℕ) (x : Table) → table_of k.base k.seen t ≡ Some x → x.name ≢ name
+
+-- the table stands
+abbrev pub Stands : Known → ℕ → Type 0
+Stands k t = IsSome (table_of k.base k.seen t)
+
+abbrev pub LacksTable : Known → ℕ → Type 0
+LacksTable k t = table_of k.base k.seen t ≡ None
+
+-- the table has no index of this number
+abbrev pub LacksIndex : Known → ℕ → ℕ → Type 0
+LacksIndex k t i = Stands k t × ((x : Index) → index_of k.base k.seen i ≡ Some x → x.table.0 ≢ t)
+
+-- how many numbers below n have something
+unfoldable pub counted : {A : Type 0} → (ℕ → Option A) → ℕ → ℕ
+counted f zero = 0
+counted f (suc n) = if is_some (f n) then suc (counted f n) else counted f n
+
+-- the index, where it is of that table
+abbrev pub of_table : ℕ → Option Index → Option Index
+of_table t None = None
+of_table t (Some x) = if x.table.0 == t then Some x else None
+
+-- how many tables stand, and how many indexes a table has
+abbrev pub tables_of : Known → ℕ
+tables_of k = let c = catalogue_of k.base k.seen in counted c.tables c.next
+
+abbrev pub indexes_of : Known → ℕ → ℕ
+indexes_of k t = let c = catalogue_of k.base k.seen in counted (λ i. of_table t (c.indexes i)) c.next
+
+-- the next n numbers would pass the greatest
+abbrev pub RunsOut : Known → ℕ → Type 0
+RunsOut k n = most_of bound.Ids + 1 < (catalogue_of k.base k.seen).next + n
+
+-- a row of the table has a state, or a batch of it isn't written
+abbrev pub HasRows : Known → ℕ → Type 0
+HasRows k t = ((r : List Value) × (v : List Value) × (state_now k.base k.seen t r ≡ Some v)) ⊎ ((s : ℕ) × (b : Batch) × (batch_of t s k.seen ≡ Some b) × (unwritten b ≢ []))
+
+-- 2. What is open
+
+-- points and batches of the table after one act more
+abbrev pub uses_step : ℕ → ℕ → Act → ℕ
+uses_step t n (Begun t' s cs) = if t'.0 == t then n + 1 else n
+uses_step t n (Ended t' s) = if t'.0 == t then n - 1 else n
+uses_step t n (Opened t' s scn) = if t'.0 == t then n + 1 else n
+uses_step t n (Released t' s) = if t'.0 == t then n - 1 else n
+uses_step t n act = n
+
+unfoldable pub uses_from : ℕ → ℕ → List Entry → ℕ
+uses_from t n [] = n
+uses_from t n (e ∷ es) = uses_from t (uses_step t n e.act) es
+
+-- how many points and batches of the table are open
+abbrev pub uses_of : ℕ → List Entry → ℕ
+uses_of t es = uses_from t 0 es
+
+abbrev pub IsInUse : Known → ℕ → ℕ → Type 0
+IsInUse k t count = (uses_of t k.seen ≡ count) × (0 < count)
+
+-- 3. Definitions
+
+abbrev pub new_table_cause : NewTable → StepFault → Known → Type 0
+new_table_cause what NameExists k = HasName (catalogue_of k.base k.seen) what.name
+new_table_cause what (Limit bound.Tables count) k = (count ≡ most_of bound.Tables) × (most_of bound.Tables ≤ tables_of k)
+new_table_cause what (Limit bound.Ids count) k = (count ≡ most_of bound.Ids) × RunsOut k (length what.least_keys + 1)
+new_table_cause what (NotReady region) k = region ≡ 0
+new_table_cause what f k = ⊥
+
+abbrev pub new_index_cause : NewIndex → StepFault → Known → Type 0
+new_index_cause what NameExists k = HasName (catalogue_of k.base k.seen) what.name
+new_index_cause what NoTable k = LacksTable k what.table.0
+new_index_cause what (Limit bound.Indexes count) k = (count ≡ most_of bound.Indexes) × (most_of bound.Indexes ≤ indexes_of k what.table.0)
+new_index_cause what (Limit bound.Stamps count) k = (count ≡ most_of bound.Stamps) × (most_of bound.Stamps ≤ last_of k.base what.table.0 k.seen)
+new_index_cause what (Limit bound.Ids count) k = (count ≡ most_of bound.Ids) × RunsOut k 2
+-- while indexes are made of empty tables alone
+new_index_cause what (Limit bound.Build count) k = (count ≡ most_of bound.Build) × HasRows k what.table.0
+new_index_cause what (NotReady region) k = region ≡ 0
+new_index_cause what f k = ⊥
+
+abbrev pub active_cause : ℕ → ℕ → StepFault → Known → Type 0
+active_cause t i NoTable k = LacksTable k t
+active_cause t i NoIndex k = LacksIndex k t i
+active_cause t i (NotReady region) k = region ≡ 0
+active_cause t i f k = ⊥
+
+abbrev pub drop_table_cause : ℕ → StepFault → Known → Type 0
+drop_table_cause t NoTable k = LacksTable k t
+drop_table_cause t (InUse count) k = IsInUse k t count
+drop_table_cause t (NotReady region) k = region ≡ 0
+drop_table_cause t f k = ⊥
+
+abbrev pub drop_index_cause : ℕ → ℕ → StepFault → Known → Type 0
+drop_index_cause t i NoTable k = LacksTable k t
+drop_index_cause t i NoIndex k = LacksIndex k t i
+drop_index_cause t i (InUse count) k = IsInUse k t count
+drop_index_cause t i (NotReady region) k = region ≡ 0
+drop_index_cause t i f k = ⊥
+
+-- of each definition
+abbrev pub definition_cause : Definition → StepFault → Known → Type 0
+definition_cause (d.Table what) f k = new_table_cause what f k
+definition_cause (d.Index what) f k = new_index_cause what f k
+definition_cause (d.Active t i) f k = active_cause t.0 i.0 f k
+definition_cause (d.DropTable t) f k = drop_table_cause t.0 f k
+definition_cause (d.DropIndex t i) f k = drop_index_cause t.0 i.0 f k
+
+abbrev pub define_cause : Definition → StepFault → Known → Type 0
+define_cause x WriteFault k = Unit {0}
+define_cause x (Closed call) k = ClosedBy call k
+define_cause x Memory k = Unit {0}
+define_cause x f k = definition_cause x f k
+
+abbrev pub find_cause : List ℕ → StepFault → Known → Type 0
+find_cause name NoTable k = NamesNoTable k name
+find_cause name (Closed call) k = ClosedBy call k
+find_cause name Memory k = Unit {0}
+find_cause name f k = ⊥
+
+-- 4. Batches
+
+-- the state of a row where all that is begun counts as written
+abbrev pub expected_now : Base → List Entry → ℕ → List Value → RowState
+expected_now b es t r = applied (shape_of b es t) r greatest_stamp (b.state t r greatest_stamp) (begun t r es)
+
+abbrev pub IsLong : List ℕ → Type 0
+IsLong key = most_key < length key
+
+-- the index has a key for the row, and a longer one than keys may be
+abbrev pub IsLongIn : Table → Index → RowState → Type 0
+IsLongIn t x None = ⊥
+IsLongIn t x (Some row) = IsLong (key_on (index_path t x) row)
+
+-- a key that the change needs in a maintained index is too long: that of the row before it, or after it
+pub record IsLongIndexed (b : Base) (es : List Entry) (t : Table) (c : Change) : Type 0 where
+  pub index : Index
+  pub is : index_of b es index.id.0 ≡ Some index
+  pub owner : index.table.0 ≡ t.id.0
+  pub maintained : index.state ≢ Disabled
+  pub long : IsLongIn t index (expected_now b es t.id.0 c.row) ⊎ IsLongIn t index (apply (shape_of b es t.id.0) c.row (expected_now b es t.id.0 c.row) c.what)
+
+-- a key that the changes need is too long: a row key, or a key in an index
+pub record HasLongKey (b : Base) (es : List Entry) (t : ℕ) (cs : List Change) : Type 0 where
+  pub table : Table
+  pub is : table_of b es t ≡ Some table
+  pub change : Change
+  pub among : IsAmong change cs
+  pub long : IsLong (spelled (columns_on (table_path table)) change.row) ⊎ IsLongIndexed b es table change
+
+-- The limits of a batch. Log and Region stand for room that only a flush could make
+abbrev pub batch_limit : ℕ → List Change → Bound → Known → Type 0
+batch_limit t cs bound.Key k = HasLongKey k.base k.seen t cs
+batch_limit t cs bound.Cells k = Unit {0}
+batch_limit t cs bound.Bytes k = Unit {0}
+batch_limit t cs bound.Stamps k = most_of bound.Stamps ≤ last_of k.base t k.seen
+batch_limit t cs bound.Trail k = most_of bound.Trail < counted_bytes k.seen + sum_by counted_change cs
+batch_limit t cs bound.Log k = Unit {0}
+batch_limit t cs bound.Region k = Unit {0}
+batch_limit t cs which k = ⊥
+
+abbrev pub begin_cause : ℕ → List Change → StepFault → Known → Type 0
+begin_cause t cs NoTable k = LacksTable k t
+begin_cause t cs (Limit which count) k = Stands k t × (count ≡ most_of which) × batch_limit t cs which k
+begin_cause t cs (Busy region cells bytes) k = Stands k t
+begin_cause t cs (NotReady region) k = Stands k t
+begin_cause t cs ReadFault k = Stands k t
+begin_cause t cs (Damaged file place) k = Stands k t × IsDamagedAt k file place
+begin_cause t cs (Closed call) k = ClosedBy call k
+begin_cause t cs Memory k = Unit {0}
+begin_cause t cs f k = ⊥
+
+-- of mark and verify_marks
+abbrev pub write_cause : StepFault → Known → Type 0
+write_cause WriteFault k = Unit {0}
+write_cause (Closed call) k = ClosedBy call k
+write_cause f k = ⊥
+
+-- of write: an earlier stamp is pending on a row that this batch is still to write
+pub record IsWaiting (k : Known) (t s earlier : ℕ) : Type 0 where
+  pub smaller : earlier < s
+  pub own : Batch
+  pub own_is : batch_of t s k.seen ≡ Some own
+  pub batch : Batch
+  pub is : batch_of t earlier k.seen ≡ Some batch
+  pub row : List Value
+  pub to_write : has (unwritten own) row ≡ true
+  pub pending : has (unwritten batch) row ≡ true
+
+abbrev pub rows_cause : ℕ → ℕ → StepFault → Known → Type 0
+rows_cause t s (NotYet earlier) k = IsWaiting k t s earlier
+rows_cause t s WriteFault k = Unit {0}
+rows_cause t s (Closed call) k = ClosedBy call k
+rows_cause t s f k = ⊥
+
+-- 5. Points and queries
+
+-- the stamp of a point that is opened after these entries: the last one, or under an SCN at most the one below it
+abbrev pub stamp_at : Option ℕ → ℕ → Base → List Entry → ℕ
+stamp_at None t b es = last_of b t es
+stamp_at (Some scn) t b es = min (scn - 1) (last_of b t es)
+
+-- a batch with a stamp at or below the point isn't written
+pub record IsUndecided (k : Known) (t p stamp : ℕ) : Type 0 where
+  pub below : stamp ≤ p
+  pub batch : Batch
+  pub is : batch_of t stamp k.seen ≡ Some batch
+  pub left : unwritten batch ≢ []
+
+abbrev pub open_cause : ℕ → Option ℕ → StepFault → Known → Type 0
+open_cause t scn NoTable k = LacksTable k t
+open_cause t (Some scn) (BelowHorizon h) k = Stands k t × (horizon_of k.base t k.seen ≡ h) × (scn - 1 < h)
+open_cause t (Some scn) (NotYet stamp) k = Stands k t × (horizon_of k.base t k.seen ≤ scn - 1) × IsUndecided k t (stamp_at (Some scn) t k.base k.seen) stamp
+open_cause t scn (Closed call) k = ClosedBy call k
+open_cause t scn Memory k = Unit {0}
+open_cause t scn f k = ⊥
+
+-- of look and consult
+abbrev pub read_cause : StepFault → Known → Type 0
+read_cause ReadFault k = Unit {0}
+read_cause (Damaged file place) k = IsDamagedAt k file place
+read_cause (Closed call) k = ClosedBy call k
+read_cause Memory k = Unit {0}
+read_cause f k = ⊥
+
+abbrev pub fix_cause : StepFault → Known → Type 0
+fix_cause (Busy region cells bytes) k = Unit {0}
+fix_cause (NotReady region) k = Unit {0}
+fix_cause ReadFault k = Unit {0}
+fix_cause WriteFault k = Unit {0}
+fix_cause (Damaged file place) k = IsDamagedAt k file place
+fix_cause (Closed call) k = ClosedBy call k
+fix_cause Memory k = Unit {0}
+fix_cause f k = ⊥
+
+abbrev pub upkeep_cause : StepFault → Known → Type 0
+upkeep_cause ReadFault k = Unit {0}
+upkeep_cause WriteFault k = Unit {0}
+upkeep_cause (Damaged file place) k = IsDamagedAt k file place
+upkeep_cause (Closed call) k = ClosedBy call k
+upkeep_cause Memory k = Unit {0}
+upkeep_cause f k = ⊥
+
+abbrev pub status_cause : ℕ → StepFault → Known → Type 0
+status_cause t NoTable k = LacksTable k t
+status_cause t ReadFault k = Stands k t
+status_cause t (Damaged file place) k = Stands k t × IsDamagedAt k file place
+status_cause t (Closed call) k = ClosedBy call k
+status_cause t Memory k = Unit {0}
+status_cause t f k = ⊥

@@ -1,0 +1,5 @@
+pub mod Known
+pub mod Requires
+pub mod Causes
+pub mod Looks
+pub mod Calls

@@ -1,0 +1,43 @@
+//! How a seat's batches and points go on from call to call.
+ghost use Rattle.std.specs.Prelude.{◌≡◌, ◌++◌, ◌∷◌, [], ◌⊎◌, ℕ, Bool, List, Some};
+ghost use Rattle.px_values.specs.declared.change.Change.{Change as RowChange};
+ghost use Rattle.px_trail.specs.declared.entry.Act.{Act as Acts};
+ghost use Rattle.px_trail.specs.declared.entry.Act.TheVariants.{Begun, Phase, Opened, Shut};
+ghost use Rattle.px_trail.specs.Answers.{IsAmong};
+ghost use Rattle.px_trail.specs.Batches.{BatchPhase, Marking, Writing, Verifying, Closing};
+ghost use Rattle.px_trail.specs.Trail.{closing_call};
+ghost use Rattle.px_calls.specs.declared.fault.StepFault.{StepFault as Faults};
+ghost use Rattle.px_calls.specs.declared.query.Point.{Point as Points};
+ghost use Rattle.px_calls.specs.declared.ticket.Ticket.{Ticket as Tickets};
+ghost use Rattle.px_calls.specs.Known.{Known, Passes, Sees, Adds, Ran, HasMade, outline};
+ghost use Rattle.px_calls.specs.Requires.{IsOpen, IsShut, TicketIn};
+
+/// Calls one after another are a run: what a seat has then seen begins with what it had seen, and its own entries in the rest are
+/// those of the calls, in order.
+pub fn law_runs()
+    ensures none { (k : Known) → Ran k k [] }
+    ensures sees { (k : Known) → (k' : Known) → Sees k k' → Ran k k' [] }
+    ensures adds { (k : Known) → (k' : Known) → (act : Acts) → Adds k k' act → Ran k k' (act ∷ []) }
+    ensures then { (k : Known) → (a : Known) → (c : Known) → (xs : List Acts) → (ys : List Acts) → Ran k a xs → Ran a c ys → Ran k c (xs ++ ys) }
+    ensures made { (k : Known) → (k' : Known) → (acts : List Acts) → (act : Acts) → Ran k k' acts → IsAmong act acts ⊎ HasMade k act → HasMade k' act }
+    ensures closed { (k : Known) → (k' : Known) → (acts : List Acts) → (call : ℕ) → Ran k k' acts → closing_call k.seen ≡ Some call → closing_call k'.seen ≡ Some call }
+{}
+
+/// A batch is marked first, then written, then verified, and stays where it is under others' entries and under a call that adds no
+/// entry of it.
+pub fn law_tickets()
+    ensures others { (k : Known) → (k' : Known) → (t : Tickets) → (p : BatchPhase) → Passes k k' → TicketIn k t p → TicketIn k' t p }
+    ensures sees { (k : Known) → (k' : Known) → (t : Tickets) → (p : BatchPhase) → Sees k k' → TicketIn k t p → TicketIn k' t p }
+    ensures begins { (k : Known) → (k' : Known) → (t : Tickets) → (cs : List RowChange) → Adds k k' (Begun t.table t.stamp cs) → TicketIn k' t Marking }
+    ensures marks { (k : Known) → (k' : Known) → (t : Tickets) → Adds k k' (Phase t.table t.stamp 1) → TicketIn k t Marking → TicketIn k' t Writing }
+    ensures verifies { (k : Known) → (k' : Known) → (t : Tickets) → Adds k k' (Phase t.table t.stamp 3) → TicketIn k t Verifying → TicketIn k' t Closing }
+    ensures closes { (k : Known) → (k' : Known) → (call : ℕ) → Adds k k' (Shut call) → closing_call k'.seen ≡ Some call }
+    ensures shut { (k : Known) → (k' : Known) → Passes k k' → IsShut k → IsShut k' }
+{}
+
+/// A point is open from its opening on, under others' entries and under calls that open and close nothing.
+pub fn law_points()
+    ensures opens { (k : Known) → (k' : Known) → (p : Points) → (scn : Bool) → Adds k k' (Opened p.table p.stamp scn) → IsOpen k' p }
+    ensures others { (k : Known) → (k' : Known) → (p : Points) → Passes k k' → IsOpen k p → IsOpen k' p }
+    ensures stays { (k : Known) → (k' : Known) → (acts : List Acts) → (p : Points) → Ran k k' acts → outline acts ≡ [] → IsOpen k p → IsOpen k' p }
+{}

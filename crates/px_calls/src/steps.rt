@@ -1,0 +1,121 @@
+// The steps.
+ghost use Rattle.std.specs.Prelude.{◌≡◌, ◌≢◌, length, IfOk, IfErr, IsSome, true, [], ◌<◌, ◌≤◌};
+ghost use Rattle.px_trail.specs.Batches.{Marking, Writing, Verifying, is_distinct, rows_of};
+ghost use Rattle.px_trail.specs.declared.entry.Act.TheVariants.{Ended, Released};
+ghost use Rattle.px_calls.specs.Known.{Known, Sees, Adds};
+ghost use Rattle.px_calls.specs.Requires.{AreFitting, CanAbandon, CanConsult, CanDefine, CanEnd, CanLook, IsOpen, IsScn, TicketIn};
+ghost use Rattle.px_calls.specs.Causes.{Refuses, begin_cause, define_cause, find_cause, fix_cause, open_cause, read_cause, rows_cause, status_cause, upkeep_cause, write_cause};
+ghost use Rattle.px_calls.specs.Calls.{DidBegin, DidConsult, DidCount, DidDefine, DidFind, DidFix, DidLook, DidMark, DidOpen, DidVerify, DidWork, DidWrite, IsReceipt};
+
+use crate::definition::{Definition, Made};
+use crate::fault::StepFault;
+use crate::query::{Chunk, Doubt, Fixing, Held, Path, Point};
+use crate::status::{Status, Work};
+use crate::ticket::{Marks, Receipt, Ticket, Verifies, Writes};
+use px_tables::Found;
+use px_values::{Changes, Key, Name, TableId};
+
+/// One event of the system is one call. Other seats may act between two calls: a call's clauses say what the seat has then
+/// seen, which begins with what it had seen and ends with what the call added.
+pub trait Steps {
+    /// What the seat that calls knows of the trail.
+    ghost known: { Self → Known };
+
+    /// The table of a name, with its indexes.
+    fn find(&mut self, name: &Name) -> Result<Found, StepFault>
+        ensures ok { IfOk result (DidFind (known self.old) (known self.new) name.now) }
+        ensures refused { IfErr result (Refuses (find_cause name.now) (known self.old) (known self.new)) };
+
+    /// Makes a table or an index, makes an index active, or drops one.
+    fn define(&mut self, definition: &Definition) -> Result<Made, StepFault>
+        requires { CanDefine (known self.old) definition.now }
+        ensures ok { IfOk result (DidDefine (known self.old) (known self.new) definition.now) }
+        ensures refused { IfErr result (Refuses (define_cause definition.now) (known self.old) (known self.new)) };
+
+    /// Draws a stamp, and begins the batch.
+    fn begin(&mut self, table: TableId, changes: &Changes) -> Result<Ticket, StepFault>
+        requires some { changes.now ≢ [] }
+        requires rows { length changes.now ≤ 1000 }
+        requires distinct { is_distinct (rows_of changes.now) ≡ true }
+        requires fits { AreFitting (known self.old) table.0 changes.now }
+        ensures ok { IfOk result (DidBegin (known self.old) (known self.new) table changes.now) }
+        ensures refused { IfErr result (Refuses (begin_cause table.0 changes.now) (known self.old) (known self.new)) };
+
+    /// Phase 1 on one region: marks the batch's index rows. It takes no memory.
+    fn mark(&mut self, t: &mut Ticket) -> Result<Marks, StepFault>
+        requires { TicketIn (known self.old) t.old Marking }
+        ensures ticket { t.new ≡ t.old }
+        ensures ok { IfOk result (DidMark (known self.old) (known self.new) t.old) }
+        ensures refused { IfErr result (Refuses write_cause (known self.old) (known self.new)) };
+
+    /// Phase 2 on one region: writes rows, each once no earlier batch is pending on it. It takes no memory.
+    fn write(&mut self, t: &mut Ticket) -> Result<Writes, StepFault>
+        requires { TicketIn (known self.old) t.old Writing }
+        ensures ticket { t.new ≡ t.old }
+        ensures ok { IfOk result (DidWrite (known self.old) (known self.new) t.old) }
+        ensures refused { IfErr result (Refuses (rows_cause t.old.table.0 t.old.stamp) (known self.old) (known self.new)) };
+
+    /// Phase 3 on one region: verifies the index rows of rows that no other batch changed. It takes no memory.
+    fn verify_marks(&mut self, t: &mut Ticket) -> Result<Verifies, StepFault>
+        requires { TicketIn (known self.old) t.old Verifying }
+        ensures ticket { t.new ≡ t.old }
+        ensures ok { IfOk result (DidVerify (known self.old) (known self.new) t.old) }
+        ensures refused { IfErr result (Refuses write_cause (known self.old) (known self.new)) };
+
+    /// Ends the batch. It takes no memory.
+    fn end(&mut self, t: Ticket) -> Receipt
+        requires { CanEnd (known self.old) t }
+        ensures adds { Adds (known self.old) (known self.new) (Ended t.table t.stamp) }
+        ensures receipt { IsReceipt (known self.new) t result };
+
+    /// Gives up a batch that can't go on, since the server is closed.
+    fn abandon(&mut self, t: Ticket)
+        requires { CanAbandon (known self.old) t }
+        ensures { Sees (known self.old) (known self.new) };
+
+    /// Opens a point of the table: a current one, or one as of an SCN.
+    fn open_point(&mut self, table: TableId, scn: Option<u64>) -> Result<Point, StepFault>
+        requires { IsScn scn }
+        ensures ok { IfOk result (DidOpen (known self.old) (known self.new) table scn) }
+        ensures refused { IfErr result (Refuses (open_cause table.0 scn) (known self.old) (known self.new)) };
+
+    /// The next keys of the path past `after`.
+    fn look(&mut self, p: &Point, path: &Path, after: &Option<Key>) -> Result<Chunk, StepFault>
+        requires open { IsOpen (known self.old) p.now }
+        requires path { CanLook p.now path.now }
+        ensures ok { IfOk result (DidLook (known self.old) (known self.new) p.now path.now after.now) }
+        ensures refused { IfErr result (Refuses read_cause (known self.old) (known self.new)) };
+
+    /// The row of a doubt at the point, where its key is the doubt's. Leaves a verdict in the doubt.
+    fn consult(&mut self, p: &Point, d: &mut Doubt) -> Result<Option<Held>, StepFault>
+        requires open { IsOpen (known self.old) p.now }
+        requires doubt { CanConsult p.now d.old }
+        ensures ok { IfOk result (DidConsult (known self.old) (known self.new) p.now d.old d.new) }
+        ensures same { IfErr result (λ f. d.new ≡ d.old) }
+        ensures refused { IfErr result (Refuses read_cause (known self.old) (known self.new)) };
+
+    /// Repairs the index row of a doubt, by a verdict of its own. It may come after the point is closed.
+    fn fix(&mut self, d: &Doubt) -> Result<Fixing, StepFault>
+        requires { IsSome d.now.verdict }
+        ensures ok { IfOk result (DidFix (known self.old) (known self.new) d.now) }
+        ensures refused { IfErr result (Refuses fix_cause (known self.old) (known self.new)) };
+
+    /// Closes the point. It takes no memory.
+    fn close_point(&mut self, p: Point)
+        requires { IsOpen (known self.old) p }
+        ensures { Adds (known self.old) (known self.new) (Released p.table p.stamp) };
+
+    /// One step of one job of upkeep.
+    fn upkeep(&mut self) -> Result<Work, StepFault>
+        ensures ok { IfOk result (DidWork (known self.old) (known self.new)) }
+        ensures refused { IfErr result (Refuses upkeep_cause (known self.old) (known self.new)) };
+
+    /// The table's last stamp and horizon, and counts of its cells, files and index rows.
+    fn status(&mut self, table: TableId) -> Result<Status, StepFault>
+        ensures ok { IfOk result (DidCount (known self.old) (known self.new) table) }
+        ensures refused { IfErr result (Refuses (status_cause table.0) (known self.old) (known self.new)) };
+
+    /// The number of entries that the seat has seen. It is no step.
+    fn seen(&self) -> u64
+        ensures { result ≡ length (known self.now).seen };
+}
