@@ -1,16 +1,18 @@
 //! How a seat's batches and points go on from call to call.
-ghost use Rattle.std.specs.Prelude.{◌≡◌, ◌++◌, ◌∷◌, [], ◌⊎◌, ℕ, Bool, List, Some};
+ghost use Rattle.std.specs.Prelude.{◌≡◌, ◌<◌, ◌≤◌, ◌++◌, ◌∷◌, [], ◌⊎◌, ℕ, Bool, List, Some, length, drop};
 ghost use Rattle.px_values.specs.declared.change.Change.{Change as RowChange};
 ghost use Rattle.px_trail.specs.declared.entry.Act.{Act as Acts};
 ghost use Rattle.px_trail.specs.declared.entry.Act.TheVariants.{Begun, Phase, Opened, Shut};
 ghost use Rattle.px_trail.specs.Answers.{IsAmong};
 ghost use Rattle.px_trail.specs.Batches.{BatchPhase, Marking, Writing, Verifying, Closing};
-ghost use Rattle.px_trail.specs.Trail.{closing_call};
-ghost use Rattle.px_calls.specs.declared.fault.StepFault.{StepFault as Faults};
+ghost use Rattle.px_trail.specs.declared.entry.Entry.{Entry as Entries};
+ghost use Rattle.px_trail.specs.Legal.{IsLegal};
+ghost use Rattle.px_trail.specs.Trail.{Base, acts_by, catalogue_of, closing_call, table_of};
+ghost use Rattle.px_tables.specs.declared.table.Table.{Table as Tables};
 ghost use Rattle.px_calls.specs.declared.query.Point.{Point as Points};
 ghost use Rattle.px_calls.specs.declared.ticket.Ticket.{Ticket as Tickets};
 ghost use Rattle.px_calls.specs.Known.{Known, Passes, Sees, Adds, Ran, HasMade, outline};
-ghost use Rattle.px_calls.specs.Requires.{IsOpen, IsShut, TicketIn};
+ghost use Rattle.px_calls.specs.Requires.{AreFitting, IsOpen, IsShut, TicketIn};
 
 /// Calls one after another are a run: what a seat has then seen begins with what it had seen, and its own entries in the rest are
 /// those of the calls, in order.
@@ -40,4 +42,12 @@ pub fn law_points()
     ensures opens { (k : Known) → (k' : Known) → (p : Points) → (scn : Bool) → Adds k k' (Opened p.table p.stamp scn) → IsOpen k' p }
     ensures others { (k : Known) → (k' : Known) → (p : Points) → Passes k k' → IsOpen k p → IsOpen k' p }
     ensures stays { (k : Known) → (k' : Known) → (acts : List Acts) → (p : Points) → Ran k k' acts → outline acts ≡ [] → IsOpen k p → IsOpen k' p }
+{}
+
+/// What is asked of changes stays true under others' entries, since a table whose number was drawn stays as it is until it is
+/// dropped; and an own act is one since any place before it.
+pub fn law_asked()
+    ensures tables { (b : Base) → (t : ℕ) → (es : List Entries) → (more : List Entries) → (x : Tables) → IsLegal b (es ++ more) → t < (catalogue_of b es).next → table_of b (es ++ more) t ≡ Some x → table_of b es t ≡ Some x }
+    ensures fits { (k : Known) → (k' : Known) → (t : ℕ) → (cs : List RowChange) → Passes k k' → AreFitting k t cs → AreFitting k' t cs }
+    ensures since { (k : Known) → (k' : Known) → (acts : List Acts) → (act : Acts) → (n : ℕ) → n ≤ length k.seen → Ran k k' acts → IsAmong act acts → IsAmong act (acts_by k'.seat (drop n k'.seen)) }
 {}

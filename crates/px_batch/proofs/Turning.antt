@@ -1,0 +1,322 @@
+-- The steps of a batch, arm by arm, over what a seat knows.
+use Rattle.std.proofs.Common.{ℕ, ◌≡◌, ◌≢◌, ◌≤◌, ◌+◌, Ok, Err, Result, Option, None, Some, List, [], ◌∷◌, ◌++◌, length, drop, refl, sym, ◌∙◌, ap, subst, arith, length-append, ◌⊎◌, inl, inr}
+use Rattle.px_values.specs.declared.change.Change.{Change}
+use Rattle.px_values.specs.declared.name.TableId.{TableId}
+use Rattle.px_trail.specs.declared.entry.Act.{Act}
+use Rattle.px_trail.specs.declared.entry.Act.TheVariants as act
+use Rattle.px_trail.specs.declared.entry.Entry.{Entry}
+use Rattle.px_trail.specs.Answers.{IsAmong}
+use Rattle.px_trail.specs.Batches.{Closing, Marking, Verifying, Writing}
+use Rattle.px_trail.specs.Trail.{acts_by, closing_call}
+use Rattle.px_calls.specs.declared.fault.StepFault.{StepFault}
+use Rattle.px_calls.specs.declared.fault.StepFault.TheVariants as step
+use Rattle.px_calls.specs.declared.ticket.Receipt.{Receipt}
+use Rattle.px_calls.specs.declared.ticket.Ticket.{Ticket}
+use Rattle.px_calls.specs.Known.{Known, Passes, Sees, Adds, Ran, HasMade, outline}
+use Rattle.px_calls.specs.Causes.{Refuses, rows_cause, upkeep_cause, write_cause}
+use Rattle.px_calls.specs.Calls.{DidBegin, Finds, IsReceipt, WroteRows}
+use Rattle.px_calls.specs.Requires.{AreFitting, CanAbandon, CanEnd, IsShut, TicketIn}
+use Rattle.px_calls.proofs.Runs.{adds-begun, adds-marked, adds-shut, adds-verified, closing-grows, outline-append, passes-made, passes-shut, passes-ticket, ran-adds, ran-made, ran-none, ran-sees, ran-then, refuses-ticket, sees-ticket}
+use Rattle.px_calls.proofs.Stays.{grown-fits, passes-fits, ran-since, since-stays}
+use Rattle.px_batch.specs.declared.batch.BatchFault.{BatchFault}
+use Rattle.px_batch.specs.declared.batch.BatchFault.TheVariants as fault
+use Rattle.px_batch.specs.declared.batch.BatchState.{BatchState}
+use Rattle.px_batch.specs.declared.batch.BatchState.TheVariants as state
+use Rattle.px_batch.specs.declared.batch.BatchTurn.{BatchTurn}
+use Rattle.px_batch.specs.declared.batch.BatchTurn.TheVariants as turn
+use Rattle.px_batch.specs.Turns.{FaultIs, Fits, HasEnded, HasLeft, IsGoing, IsOutcome, IsSince, IsSinceThen, IsStopping, MadeSince, RanBatch, SoFar, StopIs, Turns, Waits, begun}
+
+-- 1. Places
+
+pub grown : (k k' : Known) (acts : List Act) (n : ℕ) → Ran k k' acts → n ≤ length k.seen → n ≤ length k'.seen
+grown k k' acts n h low =
+    let e : length k'.seen ≡ length k.seen + length h.added = ap length h.seen ∙ length-append k.seen h.added in
+    omega arith
+
+-- the call's own act is one of the seat's
+made : (k k' : Known) (a : Act) → Adds k k' a → HasMade k' a
+unfolding IsAmong
+made k k' a h = ran-made k k' (a ∷ []) a (ran-adds k k' a h) (inl (inl refl))
+
+made_since : (k k' : Known) (a : Act) (n : ℕ) → Adds k k' a → n ≤ length k.seen → IsAmong a (acts_by k'.seat (drop n k'.seen))
+unfolding IsAmong
+made_since k k' a n h low = ran-since k k' (a ∷ []) a n low (ran-adds k k' a h) (inl refl)
+
+shut : (k : Known) (call : ℕ) → closing_call k.seen ≡ Some call → IsShut k
+shut k call h n = cc
+
+-- 2. Calls before there is a ticket
+
+adds_fits : (k k' : Known) (a : Act) (t : ℕ) (cs : List Change) → Adds k k' a → AreFitting k t cs → AreFitting k' t cs
+adds_fits k k' a t cs h f =
+    let e = h.extends in
+    grown-fits h.between k' _ t cs e.seen e.base e.legal (passes-fits k h.between t cs h.sees.passes f)
+
+pub begins : (k k' : Known) (t : Ticket) (table : TableId) (cs : List Change) → DidBegin k k' table cs t → Turns table cs state.Beginning k (state.Marking t) k' turn.Stepped
+begins k k' t table cs h =
+    let r = ran-adds k k' (act.Begun table t.stamp cs) h.adds in
+    let a : Adds k k' (act.Begun t.table t.stamp cs) = subst (λ (n : TableId). Adds k k' (act.Begun n t.stamp cs)) (sym h.table) h.adds in
+    record { acts = act.Begun table t.stamp cs ∷ []; ran = r; fits = (h.table, adds-begun k k' t cs a); told = (tt, refl); since = λ n low. grown k k' _ n r low }
+
+-- a call that adds nothing, and the batch is to be begun or upkeep to be made
+pub settles : (k k' : Known) (table : TableId) (cs : List Change) (old new : BatchState) → ((n : ℕ) → IsSince n old k → n ≤ length k.seen) → ((n : ℕ) → n ≤ length k'.seen → IsSince n new k') → begun table cs old ≡ [] → begun table cs new ≡ [] → IsGoing new → Fits table cs new k' → Sees k k' → Turns table cs old k new k' turn.Stepped
+settles k k' table cs old new from to none none' going fits h =
+    let r = ran-sees k k' h in
+    record { acts = []; ran = r; fits = fits; told = (going, ap (λ (l : List Act). l ++ []) none ∙ sym none'); since = λ n low. to n (grown k k' [] n r (from n low)) }
+
+pub works : (k k' : Known) (table : TableId) (cs : List Change) → AreFitting k table.0 cs → Finds k k' ⊎ ((t : TableId) × (h : ℕ) × Adds k k' (act.Raised t h)) → Turns table cs state.Settling k state.Settling k' turn.Stepped
+works k k' table cs f (inl h) = let r = ran-sees k k' h.sees in record { acts = []; ran = r; fits = passes-fits k k' table.0 cs h.sees.passes f; told = (tt, refl); since = λ n low. grown k k' _ n r low }
+works k k' table cs f (inr h) = let r = ran-adds k k' (act.Raised h.0 h.1) h.2 in record { acts = act.Raised h.0 h.1 ∷ []; ran = r; fits = adds_fits k k' _ table.0 cs h.2 f; told = (tt, refl); since = λ n low. grown k k' _ n r low }
+
+pub idles : (k k' : Known) (table : TableId) (cs : List Change) → AreFitting k table.0 cs → Finds k k' → Turns table cs state.Settling k state.Beginning k' turn.Stepped
+idles k k' table cs f h = settles k k' table cs state.Settling state.Beginning (λ n l. l) (λ n l. l) refl refl tt (passes-fits k k' table.0 cs h.sees.passes f) h.sees
+
+pub is_busy : (k k' : Known) (table : TableId) (cs : List Change) → AreFitting k table.0 cs → Sees k k' → Turns table cs state.Beginning k state.Settling k' turn.Stepped
+is_busy k k' table cs f h = settles k k' table cs state.Beginning state.Settling (λ n l. l) (λ n l. l) refl refl tt (passes-fits k k' table.0 cs h.passes f) h
+
+-- nothing was begun yet
+pub data IsEarly : BatchState → Type 0 where
+  early_begin : IsEarly state.Beginning
+  early_settle : IsEarly state.Settling
+
+early_low : (old : BatchState) (n : ℕ) (k : Known) → IsEarly old → IsSince n old k → n ≤ length k.seen
+early_low old n k early_begin h = h
+early_low old n k early_settle h = h
+
+early_none : (table : TableId) (cs : List Change) (old : BatchState) → IsEarly old → begun table cs old ++ [] ≡ []
+early_none table cs old early_begin = refl
+early_none table cs old early_settle = refl
+
+-- a refusal that adds nothing ends the run
+pub stops : (k k' : Known) (table : TableId) (cs : List Change) (old : BatchState) (f : BatchFault) → IsEarly old → ((n : ℕ) → MadeSince n f k') → FaultIs table cs f k' → Sees k k' → Turns table cs old k state.Over k' (turn.Over (Err f))
+stops k k' table cs old f early since told h =
+    record { acts = []; ran = ran-sees k k' h; fits = tt; told = (refl, (told, inl (early_none table cs old early))); since = λ n low. since n }
+
+-- so does a failed read, and a failed write of upkeep
+pub misses : (k k' : Known) (table : TableId) (cs : List Change) (old : BatchState) → IsEarly old → ((call : ℕ) × Adds k k' (act.Missed call)) → Turns table cs old k state.Over k' (turn.Over (Err fault.ReadFault))
+misses k k' table cs old early h =
+    record {
+      acts = act.Missed h.0 ∷ [];
+      ran = ran-adds k k' (act.Missed h.0) h.1;
+      fits = tt;
+      told = (refl, ((h.0, made k k' (act.Missed h.0) h.1), inl (early_none table cs old early)));
+      since = λ n low. (h.0, made_since k k' (act.Missed h.0) n h.1 (early_low old n k early low));
+    }
+
+pub shuts : (k k' : Known) (table : TableId) (cs : List Change) (old : BatchState) → IsEarly old → ((call : ℕ) × Adds k k' (act.Shut call)) → Turns table cs old k state.Over k' (turn.Over (Err fault.WriteFault))
+shuts k k' table cs old early h =
+    record {
+      acts = act.Shut h.0 ∷ [];
+      ran = ran-adds k k' (act.Shut h.0) h.1;
+      fits = tt;
+      told = (refl, ((h.0, made k k' (act.Shut h.0) h.1), inl (early_none table cs old early)));
+      since = λ n low. (h.0, made_since k k' (act.Shut h.0) n h.1 (early_low old n k early low));
+    }
+
+-- 3. Phase 1
+
+pub marks : (k k' : Known) (t : Ticket) (cs : List Change) → TicketIn k t Marking → Finds k k' → Turns t.table cs (state.Marking t) k (state.Marking t) k' turn.Stepped
+marks k k' t cs i h = let r = ran-sees k k' h.sees in record { acts = []; ran = r; fits = (refl, sees-ticket k k' t Marking h.sees i); told = (tt, refl); since = λ n low. grown k k' _ n r low }
+
+pub marks_all : (k k' : Known) (t : Ticket) (cs : List Change) → TicketIn k t Marking → Adds k k' (act.Phase t.table t.stamp 1) → Turns t.table cs (state.Marking t) k (state.Writing t) k' turn.Stepped
+marks_all k k' t cs i h =
+    let r = ran-adds k k' (act.Phase t.table t.stamp 1) h in
+    record { acts = act.Phase t.table t.stamp 1 ∷ []; ran = r; fits = (refl, adds-marked k k' t h i); told = (tt, refl); since = λ n low. grown k k' _ n r low }
+
+pub mark_fails : (k k' : Known) (t : Ticket) (cs : List Change) → TicketIn k t Marking → Refuses write_cause k k' step.WriteFault → Turns t.table cs (state.Marking t) k (state.Leaving t fault.WriteFault) k' turn.Stepped
+mark_fails k k' t cs i h =
+    let call = h.1.0 in
+    let r = ran-adds k k' (act.Shut call) h.1.1 in
+    record {
+      acts = act.Shut call ∷ [];
+      ran = r;
+      fits = (refl, (shut k' call (adds-shut k k' call h.1.1), inl (refuses-ticket write_cause k k' step.WriteFault t Marking h i)), (call, made k k' (act.Shut call) h.1.1));
+      told = (tt, refl);
+      since = λ n low. (grown k k' _ n r low, (call, made_since k k' (act.Shut call) n h.1.1 low));
+    }
+
+pub mark_closed : (k k' : Known) (t : Ticket) (cs : List Change) (call : ℕ) → TicketIn k t Marking → Refuses write_cause k k' (step.Closed call) → Turns t.table cs (state.Marking t) k (state.Leaving t (fault.Closed call)) k' turn.Stepped
+mark_closed k k' t cs call i h =
+    let r = ran-sees k k' h.1 in
+    record { acts = []; ran = r; fits = (refl, (shut k' call h.0, inl (sees-ticket k k' t Marking h.1 i)), h.0); told = (tt, refl); since = λ n low. (grown k k' _ n r low, tt) }
+
+-- 4. Phase 2
+
+pub writes : (k k' : Known) (t : Ticket) (cs : List Change) → WroteRows k k' t Writing → Turns t.table cs (state.Writing t) k (state.Writing t) k' turn.Stepped
+writes k k' t cs h = let r = ran-adds k k' (act.Wrote t.table t.stamp h.rows) h.adds in record { acts = act.Wrote t.table t.stamp h.rows ∷ []; ran = r; fits = (refl, h.next); told = (tt, refl); since = λ n low. grown k k' _ n r low }
+
+pub writes_all : (k k' : Known) (t : Ticket) (cs : List Change) → WroteRows k k' t Verifying → Turns t.table cs (state.Writing t) k (state.Verifying t) k' turn.Stepped
+writes_all k k' t cs h = let r = ran-adds k k' (act.Wrote t.table t.stamp h.rows) h.adds in record { acts = act.Wrote t.table t.stamp h.rows ∷ []; ran = r; fits = (refl, h.next); told = (tt, refl); since = λ n low. grown k k' _ n r low }
+
+pub waits : (k k' : Known) (t : Ticket) (cs : List Change) (stamp : ℕ) → TicketIn k t Writing → Refuses (rows_cause t.table.0 t.stamp) k k' (step.NotYet stamp) → Turns t.table cs (state.Writing t) k (state.Writing t) k' (turn.Waiting stamp)
+waits k k' t cs stamp i h =
+    let r = ran-sees k k' h.1 in
+    record { acts = []; ran = r; fits = (refl, sees-ticket k k' t Writing h.1 i); told = (tt, refl, record { ticket = t; is = refl; waiting = h.0 }); since = λ n low. grown k k' _ n r low }
+
+pub write_fails : (k k' : Known) (t : Ticket) (cs : List Change) → TicketIn k t Writing → Refuses (rows_cause t.table.0 t.stamp) k k' step.WriteFault → Turns t.table cs (state.Writing t) k (state.Leaving t fault.WriteFault) k' turn.Stepped
+write_fails k k' t cs i h =
+    let call = h.1.0 in
+    let r = ran-adds k k' (act.Shut call) h.1.1 in
+    record {
+      acts = act.Shut call ∷ [];
+      ran = r;
+      fits = (refl, (shut k' call (adds-shut k k' call h.1.1), inr (refuses-ticket (rows_cause t.table.0 t.stamp) k k' step.WriteFault t Writing h i)), (call, made k k' (act.Shut call) h.1.1));
+      told = (tt, refl);
+      since = λ n low. (grown k k' _ n r low, (call, made_since k k' (act.Shut call) n h.1.1 low));
+    }
+
+pub write_closed : (k k' : Known) (t : Ticket) (cs : List Change) (call : ℕ) → TicketIn k t Writing → Refuses (rows_cause t.table.0 t.stamp) k k' (step.Closed call) → Turns t.table cs (state.Writing t) k (state.Leaving t (fault.Closed call)) k' turn.Stepped
+write_closed k k' t cs call i h =
+    let r = ran-sees k k' h.1 in
+    record { acts = []; ran = r; fits = (refl, (shut k' call h.0, inr (sees-ticket k k' t Writing h.1 i)), h.0); told = (tt, refl); since = λ n low. (grown k k' _ n r low, tt) }
+
+-- 5. Phase 3
+
+pub verifies : (k k' : Known) (t : Ticket) (cs : List Change) → TicketIn k t Verifying → Finds k k' → Turns t.table cs (state.Verifying t) k (state.Verifying t) k' turn.Stepped
+verifies k k' t cs i h = let r = ran-sees k k' h.sees in record { acts = []; ran = r; fits = (refl, sees-ticket k k' t Verifying h.sees i); told = (tt, refl); since = λ n low. grown k k' _ n r low }
+
+pub verifies_all : (k k' : Known) (t : Ticket) (cs : List Change) → TicketIn k t Verifying → Adds k k' (act.Phase t.table t.stamp 3) → Turns t.table cs (state.Verifying t) k (state.Ending t) k' turn.Stepped
+verifies_all k k' t cs i h =
+    let r = ran-adds k k' (act.Phase t.table t.stamp 3) h in
+    record { acts = act.Phase t.table t.stamp 3 ∷ []; ran = r; fits = (refl, inl (adds-verified k k' t h i)); told = (tt, refl); since = λ n low. grown k k' _ n r low }
+
+pub verify_fails : (k k' : Known) (t : Ticket) (cs : List Change) → TicketIn k t Verifying → Refuses write_cause k k' step.WriteFault → Turns t.table cs (state.Verifying t) k (state.Ending t) k' turn.Stepped
+verify_fails k k' t cs i h =
+    let call = h.1.0 in
+    let r = ran-adds k k' (act.Shut call) h.1.1 in
+    record {
+      acts = act.Shut call ∷ [];
+      ran = r;
+      fits = (refl, inr (shut k' call (adds-shut k k' call h.1.1), refuses-ticket write_cause k k' step.WriteFault t Verifying h i));
+      told = (tt, refl);
+      since = λ n low. grown k k' _ n r low;
+    }
+
+pub verify_closed : (k k' : Known) (t : Ticket) (cs : List Change) (call : ℕ) → TicketIn k t Verifying → Refuses write_cause k k' (step.Closed call) → Turns t.table cs (state.Verifying t) k (state.Ending t) k' turn.Stepped
+verify_closed k k' t cs call i h =
+    let r = ran-sees k k' h.1 in
+    record { acts = []; ran = r; fits = (refl, inr (shut k' call h.0, sees-ticket k k' t Verifying h.1 i)); told = (tt, refl); since = λ n low. grown k k' _ n r low }
+
+-- 6. The end
+
+pub ends : (k k' : Known) (t : Ticket) (cs : List Change) (r : Receipt) → Adds k k' (act.Ended t.table t.stamp) → IsReceipt k' t r → Turns t.table cs (state.Ending t) k state.Over k' (turn.Over (Ok r))
+ends k k' t cs r h i =
+    let ran = ran-adds k k' (act.Ended t.table t.stamp) h in
+    record {
+      acts = act.Ended t.table t.stamp ∷ [];
+      ran = ran;
+      fits = tt;
+      told = (
+        refl,
+        record {
+          one = ap (λ (n : ℕ). act.Begun t.table n cs ∷ act.Ended t.table n ∷ []) (sym i.stamp);
+          receipt = subst (λ (n : ℕ). IsReceipt k' (record { table = t.table; stamp = n }) r) (sym i.stamp) i;
+        },
+      );
+      since = λ n low. (let g = grown k k' _ n ran low in let at = i.at in omega arith);
+    }
+
+-- what tells a fault that stops a batch stays, since it is in the trail
+stop_made : (f : BatchFault) (k k' : Known) → Passes k k' → StopIs f k → StopIs f k'
+stop_made fault.WriteFault k k' h j = (j.0, passes-made k k' (act.Shut j.0) h j.1)
+stop_made (fault.Closed call) k k' h j = ap closing_call h.seen ∙ closing-grows k.seen h.others call j
+stop_made fault.NoTable k k' h j = absurd j
+stop_made (fault.Limit which count) k k' h j = absurd j
+stop_made fault.ReadFault k k' h j = absurd j
+stop_made (fault.Damaged file place) k k' h j = absurd j
+stop_made fault.Memory k k' h j = absurd j
+
+stop_tells : (table : TableId) (cs : List Change) (f : BatchFault) (k : Known) → StopIs f k → FaultIs table cs f k
+stop_tells table cs fault.WriteFault k j = j
+stop_tells table cs (fault.Closed call) k j = j
+stop_tells table cs fault.NoTable k j = absurd j
+stop_tells table cs (fault.Limit which count) k j = absurd j
+stop_tells table cs fault.ReadFault k j = absurd j
+stop_tells table cs (fault.Damaged file place) k j = absurd j
+stop_tells table cs fault.Memory k j = absurd j
+
+stop_stops : (f : BatchFault) (k : Known) → StopIs f k → IsStopping f
+stop_stops fault.WriteFault k j = tt
+stop_stops (fault.Closed call) k j = tt
+stop_stops fault.NoTable k j = absurd j
+stop_stops (fault.Limit which count) k j = absurd j
+stop_stops fault.ReadFault k j = absurd j
+stop_stops (fault.Damaged file place) k j = absurd j
+stop_stops fault.Memory k j = absurd j
+
+since_made : (f : BatchFault) (k k' : Known) (acts : List Act) (n : ℕ) → n ≤ length k.seen → Ran k k' acts → MadeSince n f k → MadeSince n f k'
+since_made fault.ReadFault k k' acts n low h j = (j.0, since-stays k k' acts (act.Missed j.0) n low h j.1)
+since_made fault.WriteFault k k' acts n low h j = (j.0, since-stays k k' acts (act.Shut j.0) n low h j.1)
+since_made f k k' acts n low h j = tt
+
+pub leaves : (k k' : Known) (t : Ticket) (cs : List Change) (f : BatchFault) → CanAbandon k t → StopIs f k → Sees k k' → Turns t.table cs (state.Leaving t f) k state.Over k' (turn.Over (Err f))
+leaves k k' t cs f can told h =
+    let j = stop_made f k k' h.passes told in
+    record {
+      acts = [];
+      ran = ran-sees k k' h;
+      fits = tt;
+      told = (refl, (stop_tells t.table cs f k' j, inr (stop_stops f k' j, passes-shut k k' h.passes can.0, (t.stamp, refl))));
+      since = λ n low. since_made f k k' [] n low.0 (ran-sees k k' h) low.1;
+    }
+
+-- 7. Whole batches
+
+pub starts : (table : TableId) (cs : List Change) (k : Known) → AreFitting k table.0 cs → SoFar table cs k k state.Beginning
+starts table cs k f = record { acts = []; ran = ran-none k; so_far = refl; fits = f; going = tt; since = omega arith }
+
+joined : (table : TableId) (cs : List Change) (old : BatchState) (xs ys : List Act) → outline xs ≡ begun table cs old → outline (xs ++ ys) ≡ begun table cs old ++ outline ys
+joined table cs old xs ys h = outline-append xs ys ∙ ap (λ (l : List Act). l ++ outline ys) h
+
+pub steps_on : (table : TableId) (cs : List Change) (k0 k k' : Known) (old new : BatchState) → SoFar table cs k0 k old → Turns table cs old k new k' turn.Stepped → SoFar table cs k0 k' new
+steps_on table cs k0 k k' old new h t =
+    record {
+      acts = h.acts ++ t.acts;
+      ran = ran-then k0 k k' h.acts t.acts h.ran t.ran;
+      so_far = joined table cs old h.acts t.acts h.so_far ∙ t.told.1;
+      fits = t.fits;
+      going = t.told.0;
+      since = t.since (length k0.seen) h.since;
+    }
+
+pub waits_on : (table : TableId) (cs : List Change) (k0 k k' : Known) (old new : BatchState) (stamp : ℕ) → SoFar table cs k0 k old → Turns table cs old k new k' (turn.Waiting stamp) → SoFar table cs k0 k' new
+waits_on table cs k0 k k' old new stamp h t =
+    record {
+      acts = h.acts ++ t.acts;
+      ran = ran-then k0 k k' h.acts t.acts h.ran t.ran;
+      so_far = joined table cs old h.acts t.acts h.so_far ∙ t.told.1;
+      fits = t.fits;
+      going = t.told.0;
+      since = t.since (length k0.seen) h.since;
+    }
+
+outcome_by : (table : TableId) (cs : List Change) (k : Known) (r : Result Receipt BatchFault) (xs ys : List Act) → xs ≡ ys → IsOutcome table cs ys k r → IsOutcome table cs xs k r
+outcome_by table cs k r xs ys e h = subst (λ (l : List Act). IsOutcome table cs l k r) (sym e) h
+
+over_since : (n : ℕ) (s : BatchState) (k : Known) (r : Result Receipt BatchFault) → IsSinceThen n s k (turn.Over r) → IsSinceThen n state.Over k (turn.Over r)
+over_since n s k (Ok r) h = h
+over_since n s k (Err f) h = h
+
+pub ends_as : (table : TableId) (cs : List Change) (k0 k k' : Known) (old new : BatchState) (r : Result Receipt BatchFault) → SoFar table cs k0 k old → Turns table cs old k new k' (turn.Over r) → RanBatch table cs k0 k' r
+ends_as table cs k0 k k' old new r h t =
+    record {
+      acts = h.acts ++ t.acts;
+      ran = ran-then k0 k k' h.acts t.acts h.ran t.ran;
+      outcome = outcome_by table cs k' r (outline (h.acts ++ t.acts)) (begun table cs old ++ outline t.acts) (joined table cs old h.acts t.acts h.so_far) t.told.1;
+      since = over_since (length k0.seen) new k' r (t.since (length k0.seen) h.since);
+    }
+
+-- 8. Between two steps
+
+-- entries of other seats leave a run as it is
+pub fits-kept : (table : TableId) (cs : List Change) (s : BatchState) (k k' : Known) → Passes k k' → Fits table cs s k → Fits table cs s k'
+fits-kept table cs state.Beginning k k' h f = passes-fits k k' table.0 cs h f
+fits-kept table cs state.Settling k k' h f = passes-fits k k' table.0 cs h f
+fits-kept table cs (state.Marking t) k k' h f = (f.0, passes-ticket k k' t Marking h f.1)
+fits-kept table cs (state.Writing t) k k' h f = (f.0, passes-ticket k k' t Writing h f.1)
+fits-kept table cs (state.Verifying t) k k' h f = (f.0, passes-ticket k k' t Verifying h f.1)
+fits-kept table cs (state.Ending t) k k' h (e, inl i) = (e, inl (passes-ticket k k' t Closing h i))
+fits-kept table cs (state.Ending t) k k' h (e, inr i) = (e, inr (passes-shut k k' h i.0, passes-ticket k k' t Verifying h i.1))
+fits-kept table cs (state.Leaving t f) k k' h (e, (s, inl i), told) = (e, (passes-shut k k' h s, inl (passes-ticket k k' t Marking h i)), stop_made f k k' h told)
+fits-kept table cs (state.Leaving t f) k k' h (e, (s, inr i), told) = (e, (passes-shut k k' h s, inr (passes-ticket k k' t Writing h i)), stop_made f k k' h told)
+fits-kept table cs state.Over k k' h f = tt

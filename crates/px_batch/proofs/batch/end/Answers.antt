@@ -1,0 +1,9 @@
+use Rattle.std.proofs.Common.{◌≡◌, refl}
+use Rattle.px_batch.specs.declared.batch.BatchFault.TheVariants as fault
+use Rattle.px_batch.specs.declared.batch.BatchState.TheVariants as state
+use Rattle.px_batch.proofs.Turning as turning
+use Rattle.px_batch.proofs.Turning.{early_begin, early_settle}
+use Rattle.px_batch.proofs.batch.end.Goals as goal
+
+pub returns : goal.returns
+returns g c = λ cs. turning.ends _ _ c.args.t cs _ c.end-receipt.ensures.adds c.end-receipt.ensures.receipt

@@ -1,0 +1,9 @@
+use Rattle.std.proofs.Common.{◌≡◌, refl}
+use Rattle.px_batch.specs.declared.batch.BatchFault.TheVariants as fault
+use Rattle.px_batch.specs.declared.batch.BatchState.TheVariants as state
+use Rattle.px_batch.proofs.Turning as turning
+use Rattle.px_batch.proofs.Turning.{early_begin, early_settle}
+use Rattle.px_batch.proofs.batch.leave.Goals as goal
+
+pub returns : goal.returns
+returns g c = λ cs. turning.leaves _ _ c.args.t cs c.args.fault c.requires.can c.requires.told c.abandon.ensures

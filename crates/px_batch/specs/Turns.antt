@@ -1,0 +1,146 @@
+-- What one step of a batch does.
+use Rattle.std.specs.Prelude.{ℕ, ◌≡◌, ◌≢◌, ◌≤◌, Ok, Err, List, [], ◌∷◌, ◌++◌, ◌⊎◌, Result, length, drop}
+use Rattle.px_values.specs.Limits.{most_of}
+use Rattle.px_values.specs.declared.change.Change.{Change}
+use Rattle.px_values.specs.declared.name.TableId.{TableId}
+use Rattle.px_trail.specs.declared.entry.Act.{Act}
+use Rattle.px_trail.specs.declared.entry.Act.TheVariants as act
+use Rattle.px_trail.specs.Answers.{IsAmong}
+use Rattle.px_trail.specs.Batches.{Marking, Writing, Verifying}
+use Rattle.px_trail.specs.Trail.{acts_by}
+use Rattle.px_calls.specs.declared.ticket.Receipt.{Receipt}
+use Rattle.px_calls.specs.declared.ticket.Ticket.{Ticket}
+use Rattle.px_calls.specs.Known.{Known, Ran, HasMade, outline}
+use Rattle.px_calls.specs.Causes.{ClosedBy, IsDamagedAt, IsWaiting, LacksTable, Stands, batch_limit}
+use Rattle.px_calls.specs.Calls.{IsReceipt}
+use Rattle.px_calls.specs.Requires.{AreFitting, CanAbandon, CanEnd, IsShut, TicketIn}
+use Rattle.px_batch.specs.declared.batch.BatchFault.{BatchFault}
+use Rattle.px_batch.specs.declared.batch.BatchFault.TheVariants as fault
+use Rattle.px_batch.specs.declared.batch.BatchState.{BatchState}
+use Rattle.px_batch.specs.declared.batch.BatchState.TheVariants as state
+use Rattle.px_batch.specs.declared.batch.BatchTurn.{BatchTurn}
+use Rattle.px_batch.specs.declared.batch.BatchTurn.TheVariants as turn
+
+-- 1. Faults
+
+-- what tells the fault, in what the seat has then seen
+abbrev pub FaultIs : TableId → List Change → BatchFault → Known → Type 0
+FaultIs table cs fault.NoTable k = LacksTable k table.0
+FaultIs table cs (fault.Limit which count) k = Stands k table.0 × (count ≡ most_of which) × batch_limit table.0 cs which k
+FaultIs table cs fault.ReadFault k = (call : ℕ) × HasMade k (act.Missed call)
+FaultIs table cs fault.WriteFault k = (call : ℕ) × HasMade k (act.Shut call)
+FaultIs table cs (fault.Damaged file place) k = IsDamagedAt k file place
+FaultIs table cs (fault.Closed call) k = ClosedBy call k
+FaultIs table cs fault.Memory k = Unit {0}
+
+-- the entry that tells a failed device call is one of the seat's own after the first n
+abbrev pub MadeSince : ℕ → BatchFault → Known → Type 0
+MadeSince n fault.ReadFault k = (call : ℕ) × IsAmong (act.Missed call) (acts_by k.seat (drop n k.seen))
+MadeSince n fault.WriteFault k = (call : ℕ) × IsAmong (act.Shut call) (acts_by k.seat (drop n k.seen))
+MadeSince n f k = Unit {0}
+
+-- the faults that come to a batch that has begun: the server was closed
+abbrev pub IsStopping : BatchFault → Type 0
+IsStopping fault.WriteFault = Unit {0}
+IsStopping (fault.Closed call) = Unit {0}
+IsStopping f = ⊥
+
+-- what tells such a fault
+abbrev pub StopIs : BatchFault → Known → Type 0
+StopIs fault.WriteFault k = (call : ℕ) × HasMade k (act.Shut call)
+StopIs (fault.Closed call) k = ClosedBy call k
+StopIs f k = ⊥
+
+-- 2. States
+
+-- The state is as the trail tells. Others' entries keep this
+abbrev pub Fits : TableId → List Change → BatchState → Known → Type 0
+Fits table cs state.Beginning k = AreFitting k table.0 cs
+Fits table cs state.Settling k = AreFitting k table.0 cs
+Fits table cs (state.Marking t) k = (t.table ≡ table) × TicketIn k t Marking
+Fits table cs (state.Writing t) k = (t.table ≡ table) × TicketIn k t Writing
+Fits table cs (state.Verifying t) k = (t.table ≡ table) × TicketIn k t Verifying
+Fits table cs (state.Ending t) k = (t.table ≡ table) × CanEnd k t
+Fits table cs (state.Leaving t f) k = (t.table ≡ table) × CanAbandon k t × StopIs f k
+Fits table cs state.Over k = Unit {0}
+
+abbrev pub IsGoing : BatchState → Type 0
+IsGoing state.Over = ⊥
+IsGoing s = Unit {0}
+
+-- what the run has begun and not ended
+abbrev pub begun : TableId → List Change → BatchState → List Act
+begun table cs state.Beginning = []
+begun table cs state.Settling = []
+begun table cs (state.Marking t) = act.Begun table t.stamp cs ∷ []
+begun table cs (state.Writing t) = act.Begun table t.stamp cs ∷ []
+begun table cs (state.Verifying t) = act.Begun table t.stamp cs ∷ []
+begun table cs (state.Ending t) = act.Begun table t.stamp cs ∷ []
+begun table cs (state.Leaving t f) = act.Begun table t.stamp cs ∷ []
+begun table cs state.Over = []
+
+-- a fault that the state tells came after the first n entries
+abbrev pub IsSince : ℕ → BatchState → Known → Type 0
+IsSince n (state.Leaving t f) k = (n ≤ length k.seen) × MadeSince n f k
+IsSince n s k = n ≤ length k.seen
+
+-- 3. Steps
+
+-- the receipt is that of the one batch that the run began and ended
+pub record HasEnded (table : TableId) (cs : List Change) (acts : List Act) (k : Known) (r : Receipt) : Type 0 where
+  pub one : acts ≡ act.Begun table r.stamp cs ∷ act.Ended table r.stamp ∷ []
+  pub receipt : IsReceipt k (record { table = table; stamp = r.stamp }) r
+
+-- nothing was begun; or the server was closed under one batch that was begun
+abbrev pub HasLeft : TableId → List Change → BatchFault → List Act → Known → Type 0
+HasLeft table cs f acts k = (acts ≡ []) ⊎ (IsStopping f × IsShut k × ((stamp : ℕ) × (acts ≡ act.Begun table stamp cs ∷ [])))
+
+-- the batch that waits, and for which
+pub record Waits (k : Known) (old : BatchState) (stamp : ℕ) : Type 0 where
+  pub ticket : Ticket
+  pub is : old ≡ state.Writing ticket
+  pub waiting : IsWaiting k ticket.table.0 ticket.stamp stamp
+
+-- what the run comes to, where `own` is what the seat began and ended for it
+abbrev pub IsOutcome : TableId → List Change → List Act → Known → Result Receipt BatchFault → Type 0
+IsOutcome table cs own k (Ok r) = HasEnded table cs own k r
+IsOutcome table cs own k (Err f) = FaultIs table cs f k × HasLeft table cs f own k
+
+-- what a step came to, where `own` is what the seat began and ended for the run so far
+abbrev pub Told : TableId → List Change → BatchState → List Act → BatchState → Known → BatchTurn → Type 0
+Told table cs old own new k turn.Stepped = IsGoing new × (own ≡ begun table cs new)
+Told table cs old own new k (turn.Waiting stamp) = IsGoing new × (own ≡ begun table cs new) × Waits k old stamp
+Told table cs old own new k (turn.Over r) = (new ≡ state.Over) × IsOutcome table cs own k r
+
+abbrev pub IsSinceThen : ℕ → BatchState → Known → BatchTurn → Type 0
+IsSinceThen n new k turn.Stepped = IsSince n new k
+IsSinceThen n new k (turn.Waiting stamp) = IsSince n new k
+IsSinceThen n new k (turn.Over (Ok r)) = n ≤ r.at
+IsSinceThen n new k (turn.Over (Err f)) = MadeSince n f k
+
+-- one step of a batch
+pub record Turns (table : TableId) (cs : List Change) (old : BatchState) (k : Known) (new : BatchState) (k' : Known) (t : BatchTurn) : Type 0 where
+  pub acts : List Act
+  pub ran : Ran k k' acts
+  pub fits : Fits table cs new k'
+  pub told : Told table cs old (begun table cs old ++ outline acts) new k' t
+  pub since : (n : ℕ) → IsSince n old k → IsSinceThen n new k' t
+
+-- 4. Whole batches
+
+-- A whole batch: on Ok the seat began this one batch and ended it, and none of its own acts begins or ends another. On Err it
+-- began none, or the server was closed under the one that it began; a failed device call is told by an entry of the run
+pub record RanBatch (table : TableId) (cs : List Change) (k k' : Known) (r : Result Receipt BatchFault) : Type 0 where
+  pub acts : List Act
+  pub ran : Ran k k' acts
+  pub outcome : IsOutcome table cs (outline acts) k' r
+  pub since : IsSinceThen (length k.seen) state.Over k' (turn.Over r)
+
+-- a batch on its way: what the seat did so far is to have begun what the run holds
+pub record SoFar (table : TableId) (cs : List Change) (k k' : Known) (s : BatchState) : Type 0 where
+  pub acts : List Act
+  pub ran : Ran k k' acts
+  pub so_far : outline acts ≡ begun table cs s
+  pub fits : Fits table cs s k'
+  pub going : IsGoing s
+  pub since : IsSince (length k.seen) s k'

@@ -1,0 +1,21 @@
+//! How a batch under way goes on, whoever makes its steps.
+ghost use Rattle.std.specs.Prelude.{◌≡◌, ℕ, List, Result};
+ghost use Rattle.px_values.specs.declared.change.Change.{Change as RowChange};
+ghost use Rattle.px_values.specs.declared.name.TableId.{TableId as TableNumber};
+ghost use Rattle.px_calls.specs.declared.ticket.Receipt.{Receipt as Receipts};
+ghost use Rattle.px_calls.specs.Known.{Known, Passes};
+ghost use Rattle.px_calls.specs.Requires.{AreFitting};
+ghost use Rattle.px_batch.specs.declared.batch.BatchFault.{BatchFault as Faults};
+ghost use Rattle.px_batch.specs.declared.batch.BatchState.{BatchState as States};
+ghost use Rattle.px_batch.specs.declared.batch.BatchState.TheVariants.{Beginning};
+ghost use Rattle.px_batch.specs.declared.batch.BatchTurn.TheVariants.{Stepped, Waiting, Over};
+ghost use Rattle.px_batch.specs.Turns.{Fits, RanBatch, SoFar, Turns};
+
+/// Others' entries between two steps leave a batch under way as it is; its own steps carry it on, and its last one is its answer.
+pub fn law_turns()
+    ensures others { (table : TableNumber) → (cs : List RowChange) → (s : States) → (k : Known) → (k' : Known) → Passes k k' → Fits table cs s k → Fits table cs s k' }
+    ensures starts { (table : TableNumber) → (cs : List RowChange) → (k : Known) → AreFitting k table.0 cs → SoFar table cs k k Beginning }
+    ensures steps { (table : TableNumber) → (cs : List RowChange) → (k0 : Known) → (k : Known) → (k' : Known) → (old : States) → (new : States) → SoFar table cs k0 k old → Turns table cs old k new k' Stepped → SoFar table cs k0 k' new }
+    ensures waits { (table : TableNumber) → (cs : List RowChange) → (k0 : Known) → (k : Known) → (k' : Known) → (old : States) → (new : States) → (stamp : ℕ) → SoFar table cs k0 k old → Turns table cs old k new k' (Waiting stamp) → SoFar table cs k0 k' new }
+    ensures ends { (table : TableNumber) → (cs : List RowChange) → (k0 : Known) → (k : Known) → (k' : Known) → (old : States) → (new : States) → (r : Result Receipts Faults) → SoFar table cs k0 k old → Turns table cs old k new k' (Over r) → RanBatch table cs k0 k' r }
+{}

@@ -1,0 +1,11 @@
+use Rattle.px_calls.proofs.Stays.{passes-fits, ran-since, table-was}
+use Rattle.px_calls.proofs.laws.law_asked.Goals as goal
+
+pub returns-clause-tables : goal.returns-clause-tables
+returns-clause-tables c b t es more x legal low now = table-was b t es more x legal low now
+
+pub returns-clause-fits : goal.returns-clause-fits
+returns-clause-fits c k k' t cs h f = passes-fits k k' t cs h f
+
+pub returns-clause-since : goal.returns-clause-since
+returns-clause-since c k k' acts act n low h m = ran-since k k' acts act n low h m
