@@ -1,3 +1,4 @@
 pub mod Runs
 pub mod Points
 pub mod Stays
+pub mod Keys

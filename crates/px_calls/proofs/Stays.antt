@@ -1,6 +1,5 @@
 -- What calls ask stays true while entries come.
-use Rattle.std.proofs.Common.{ℕ, ◌≡◌, ◌≢◌, ◌<◌, ◌≤◌, ◌+◌, ◌-◌, Option, None, Some, List, [], ◌∷◌, ◌++◌, length, drop, refl, sym, ◌∙◌, ap, subst, arith, ◌⊎◌, inl, inr}
-use Rattle.std.specs.List.{AllByRecursion}
+use Rattle.std.proofs.Common.{ℕ, ◌≡◌, ◌<◌, ◌≤◌, None, Some, List, ◌++◌, length, drop, sym, ◌∙◌, ap, subst, arith, inl, inr}
 use Rattle.std.proofs.lemmas.Bool.{cases_eq}
 use Rattle.std.proofs.lemmas.List.{drop-append-le}
 use Rattle.px_values.specs.declared.change.Change.{Change}
@@ -9,12 +8,12 @@ use Rattle.px_trail.specs.declared.entry.Act.{Act}
 use Rattle.px_trail.specs.declared.entry.Act.TheVariants.{Made, IndexMade, IndexState, Dropped}
 use Rattle.px_trail.specs.declared.entry.Entry.{Entry}
 use Rattle.px_trail.specs.Answers.{IsAmong}
-use Rattle.px_trail.specs.Legal.{Follows, IsLegal, MayCome}
+use Rattle.px_trail.specs.Legal.{Follows, IsLegal}
 use Rattle.px_trail.specs.Trail.{Base, Catalogue, acts_by, catalogue_of, catalogue_step, set_number, table_of}
 use Rattle.px_trail.proofs.Growth.{catalogue-snoc, legal-induct}
 use Rattle.px_trail.proofs.Standing.{set_number-other, set_number-same}
 use Rattle.px_calls.specs.Known.{Known, Passes, Ran}
-use Rattle.px_calls.specs.Requires.{AreFitting, FitsTable, IsDrawn}
+use Rattle.px_calls.specs.Requires.{AreFitting}
 use Rattle.px_calls.proofs.Runs.{acts_by-append, among-append, among-front}
 
 -- 1. Tables

@@ -20,7 +20,7 @@ use Rattle.px_trail.specs.declared.entry.Entry.{Entry}
 use Rattle.px_trail.specs.Answers.{IsAmong}
 use Rattle.px_trail.specs.Batches.{Batch, BatchPhase, IsConcurrent, Verifying, Writing, batch_of, has, is_distinct, rows_of, unwritten}
 use Rattle.px_trail.specs.Count.{counted_bytes}
-use Rattle.px_trail.specs.Trail.{Base, horizon_of, index_of, last_of, table_of}
+use Rattle.px_trail.specs.Trail.{Base, catalogue_of, horizon_of, index_of, last_of, table_of}
 use Rattle.px_calls.specs.declared.definition.Definition.{Definition}
 use Rattle.px_calls.specs.declared.definition.Definition.TheVariants as d
 use Rattle.px_calls.specs.declared.definition.Made.{Made as Answered}
@@ -48,7 +48,7 @@ use Rattle.px_calls.specs.declared.ticket.Writes.TheVariants as writes
 use Rattle.px_calls.specs.Known.{Known, Sees, Adds, IsRunning}
 use Rattle.px_calls.specs.Causes.{ClosedBy, HasLongKey, HasRows, stamp_at}
 use Rattle.px_calls.specs.Looks.{IsRowAt, Shows, key_by}
-use Rattle.px_calls.specs.Requires.{TicketIn}
+use Rattle.px_calls.specs.Requires.{FitsRow, TicketIn}
 
 -- a call that adds nothing, on a server that isn't closed
 pub record Finds (k k' : Known) : Type 0 where
@@ -65,6 +65,7 @@ AreRising (x ∷ xs) = AllByRecursion (λ y. x.id.0 < y.id.0) xs × AreRising xs
 -- a table that stands, and all of its indexes in order of number
 pub record IsFound (b : Base) (es : List Entry) (f : Found) : Type 0 where
   pub table : table_of b es f.table.id.0 ≡ Some f.table
+  pub drawn : f.table.id.0 < (catalogue_of b es).next
   pub indexes : (x : Index) → IsAmong x f.indexes ↔ ((index_of b es x.id.0 ≡ Some x) × (x.table.0 ≡ f.table.id.0))
   pub rising : AreRising f.indexes
   pub at : f.at ≡ length es
@@ -156,9 +157,11 @@ pub record DidOpen (k k' : Known) (t : TableId) (scn : Option ℕ) (p : Point) :
   pub found : IsFound k'.base k'.seen p.found
   pub found_table : p.found.table.id ≡ t
 
+-- keys of the path in order, each sure or in doubt; and each row at the point is one that the table may have
 pub record DidLook (k k' : Known) (p : Point) (path : Path) (after : Option (List ℕ)) (c : Chunk) : Type 0 where
   pub finds : Finds k k'
   pub shows : Shows k'.base k'.seen p path after c.found c.next
+  pub fits : (row : List Value) → IsRowAt k'.base k'.seen p row → FitsRow p.found.table row
   pub at : c.at ≡ length k'.seen
 
 -- 4. Doubts
