@@ -186,10 +186,11 @@ pub record IsInFlight (b : Base) (es : List Entry) (d : Doubt) : Type 0 where
   pub is : batch_of table d.stamp es ≡ Some batch
   pub left : has (unwritten batch) row ≡ true
 
--- the row is at the point under the doubt's key
+-- the row is at the point under the doubt's key, and no other is
 pub record IsHeld (k : Known) (p : Point) (d : Doubt) (h : Held) : Type 0 where
   pub row : IsRowAt k.base k.seen p h.row
   pub key : key_by p.found (by.Index d.index) h.row ≡ d.key
+  pub only : (row : List Value) → IsRowAt k.base k.seen p row → key_by p.found (by.Index d.index) row ≡ d.key → row ≡ h.row
   pub at : h.at ≡ length k.seen
 
 -- what `consult` found of a doubt's row: none exactly where no row has the key at the point

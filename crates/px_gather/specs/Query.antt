@@ -1,0 +1,30 @@
+-- What a query asks, and which path may answer it.
+use Rattle.std.specs.Prelude.{ℕ, ◌≡◌, Bool, true, List, Option}
+use Rattle.px_values.specs.declared.row.Value.{Value}
+use Rattle.px_tables.specs.declared.found.Found.{Found}
+use Rattle.px_trail.specs.Answers.{Asked}
+use Rattle.px_calls.specs.declared.query.By.{By}
+use Rattle.px_calls.specs.declared.query.Path.{Path}
+use Rattle.px_calls.specs.declared.query.Point.{Point}
+use Rattle.px_calls.specs.Looks.{is_on, key_by, key_less, shown_by}
+use Rattle.px_calls.specs.Requires.{CanLook, FitsRow}
+
+-- a table, which rows meet the condition, the named columns of a row, how many rows are enough, and whether the path chosen from these
+-- definitions at a stamp would have to be joined back to the table
+pub record Query : Type 0 where
+  pub table : ℕ
+  pub meets : List Value → Bool
+  pub named : List Value → List Value
+  pub limit : Option ℕ
+  pub joins : Found → ℕ → Bool
+
+-- the path may be read at the point, has each row that meets the condition, and shows what the condition and the query name
+pub record IsPathFor (q : Query) (p : Point) (path : Path) : Type 0 where
+  pub can : CanLook p path
+  pub has_all : (row : List Value) → FitsRow p.found.table row → q.meets row ≡ true → is_on path (key_by p.found path.by row) ≡ true
+  pub meets : (row : List Value) → q.meets (shown_by p.found path.by row) ≡ q.meets row
+  pub named : (row : List Value) → q.named (shown_by p.found path.by row) ≡ q.named row
+
+-- what is asked in the order of these keys
+abbrev pub asked : Query → Found → By → Asked
+asked q f by = record { table = q.table; meets = q.meets; named = q.named; path_key = key_by f by; before = λ a b. key_less (key_by f by a) (key_by f by b); limit = q.limit }
