@@ -86,7 +86,7 @@ above_step b t s es seat calls (Some x) (Ended t' s') f h = if_above ((t'.0 == t
 above_step b t s es seat calls None act f h = tt
 above_step b t s es seat calls (Some x) act f h = h
 
-batch-above : (b : Base) (t s : ℕ) (es : List Entry) → IsLegal b es → IsAbove (b.last t) s (batch_of t s es)
+pub batch-above : (b : Base) (t s : ℕ) (es : List Entry) → IsLegal b es → IsAbove (b.last t) s (batch_of t s es)
 unfolding batch_from
 batch-above b t s es legal =
     legal-induct b (λ l. IsAbove (b.last t) s (batch_of t s l))

@@ -1,0 +1,4 @@
+pub mod Group
+pub mod Steps
+pub mod Asks
+pub mod Sound

@@ -1,0 +1,10 @@
+pub mod Rows
+pub mod Regions
+pub mod IndexSteps
+pub mod EntrySteps
+pub mod CellSteps
+pub mod OtherSteps
+pub mod Looks
+pub mod Compacted
+pub mod DataSteps
+pub mod Idle
