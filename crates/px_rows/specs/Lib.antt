@@ -1,0 +1,4 @@
+pub mod inner
+pub mod Keys
+pub mod Spelled
+pub mod Stored
