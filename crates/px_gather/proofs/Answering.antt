@@ -1,13 +1,13 @@
 -- From what was gathered to the answer.
-use Rattle.std.proofs.Common.{ℕ, ◌≡◌, ◌≢◌, ◌<◌, ◌≤◌, ◌-◌, ◌+◌, Bool, true, false, Option, None, Some, List, [], ◌∷◌, ◌++◌, map, length, take, drop, refl, sym, ◌∙◌, ap, subst, arith, ◌⊎◌, inl, inr, length-append, append_assoc}
+use Rattle.std.proofs.Common.{ℕ, ◌≡◌, ◌<◌, ◌≤◌, ◌-◌, ◌+◌, true, false, Option, None, Some, List, [], ◌∷◌, ◌++◌, length, take, drop, sym, ◌∙◌, ap, subst, arith, ◌⊎◌, inl, inr, append_assoc}
 use Rattle.std.proofs.lemmas.List.{take-append-drop, length-take-le}
 use Rattle.std.proofs.Math.Seq.{take-append-add}
 use Rattle.std.proofs.lemmas.Bool.Decides.{nat_tests}
-use Rattle.px_values.specs.States.{RowState, Shape}
+use Rattle.px_values.specs.States.{Shape}
 use Rattle.px_values.specs.declared.row.Value.{Value}
 use Rattle.px_tables.specs.declared.found.Found.{Found}
 use Rattle.px_trail.specs.declared.entry.Entry.{Entry}
-use Rattle.px_trail.specs.Answers.{AreInOrder, Given, HeldNow, IsAmong, IsCurrent, IsCut, IsExact, IsGiven, IsWithin, StoodNow}
+use Rattle.px_trail.specs.Answers.{AreInOrder, Given, IsCut, IsGiven, IsWithin}
 use Rattle.px_trail.specs.Batches.{IsDecided}
 use Rattle.px_trail.specs.Legal.{IsLegal}
 use Rattle.px_trail.specs.States.{key_in, state_now, state_of}
@@ -17,10 +17,10 @@ use Rattle.px_trail.proofs.Standing.{shape-stays}
 use Rattle.px_trail.proofs.States.{decided-stays, state-stays}
 use Rattle.px_calls.specs.declared.query.Point.{Point}
 use Rattle.px_calls.specs.Causes.{stamp_at}
-use Rattle.px_calls.specs.Looks.{IsRowAt, key_less, row_at}
+use Rattle.px_calls.specs.Looks.{IsRowAt, key_less}
 use Rattle.px_calls.proofs.Keys.{asymmetric, irreflexive}
 use Rattle.px_gather.specs.Answers.{IsAnswerBy, IsCurrentOf, IsExactOf, IsPointOf}
-use Rattle.px_gather.specs.Gathered.{AreRisingRows, Collected, Ended, Frame, HasRow, IsCutAt, IsHeldAt, IsRowAfter, Stood, is_within, named_of, opened_at, row_key}
+use Rattle.px_gather.specs.Gathered.{AreRisingRows, Ended, Frame, Stood, is_within, opened_at, row_key}
 use Rattle.px_gather.specs.Query.{Query, asked}
 use Rattle.px_gather.proofs.Gathering.{same_length}
 
@@ -50,11 +50,11 @@ ended_whole : (f : Frame) (es : List Entry) (rows : List Given) → (h : Ended f
 ended_whole f es rows h row stood met = elim (h.complete (row_key f row)) [
   | inl done ↦ (let r = h.gathered.collected.whole row stood met done in inl (record { given = r.given; among = r.among; same = r.same }))
   | inr cut ↦ inr (record {
-      limit = length h.gathered.given;
-      is = cut.full;
-      full = omega arith;
-      behind = λ x among. asymmetric (row_key f x.row) (row_key f row) (cut.before x among);
-    })
+    limit = length h.gathered.given;
+    is = cut.full;
+    full = omega arith;
+    behind = λ x among. asymmetric (row_key f x.row) (row_key f row) (cut.before x among);
+  })
 ]
 
 -- 2. A current point

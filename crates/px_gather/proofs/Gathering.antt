@@ -1,5 +1,5 @@
 -- What a scan gathers, key by key.
-use Rattle.std.proofs.Common.{ℕ, ◌≡◌, ◌≢◌, ◌<◌, ◌≤◌, ◌+◌, not, if◌then◌else◌, Bool, true, false, Option, None, Some, List, [], ◌∷◌, ◌++◌, map, length, take, refl, sym, ◌∙◌, ap, subst, arith, ◌⊎◌, inl, inr, length-append}
+use Rattle.std.proofs.Common.{ℕ, ◌≡◌, ◌≤◌, ◌+◌, not, if◌then◌else◌, Bool, true, false, Option, None, Some, List, [], ◌∷◌, ◌++◌, map, length, take, refl, sym, ◌∙◌, ap, subst, arith, ◌⊎◌, inl, inr, length-append}
 use Rattle.std.proofs.lemmas.List.{take-append-le, append-nil}
 use Rattle.std.proofs.Math.Seq.{take-length}
 use Rattle.std.proofs.lemmas.Bool.Decides.{nat_tests}
@@ -15,15 +15,14 @@ use Rattle.px_calls.specs.declared.query.FoundKey.{FoundKey}
 use Rattle.px_calls.specs.declared.query.FoundKey.TheVariants.{Sure, InDoubt}
 use Rattle.px_calls.specs.declared.query.FoundRow.{FoundRow}
 use Rattle.px_calls.specs.declared.query.Held.{Held}
-use Rattle.px_calls.specs.declared.query.Point.{Point}
 use Rattle.px_tables.specs.declared.found.Found.{Found}
 use Rattle.px_calls.specs.Known.{Known}
 use Rattle.px_calls.specs.Calls.{Consulted, DidLook}
-use Rattle.px_calls.specs.Looks.{IsRightKey, IsRisingFrom, IsRowAt, IsShown, Shows, found_by, is_covered, is_on, is_past, key_by, key_found, key_less, shown_by}
+use Rattle.px_calls.specs.Looks.{IsRightKey, IsRisingFrom, IsRowAt, IsShown, Shows, found_by, is_covered, is_past, key_by, key_found, key_less, shown_by}
 use Rattle.px_calls.specs.Requires.{FitsRow}
 use Rattle.px_calls.proofs.Keys.{asymmetric, irreflexive, not_past, transitive, up_to as chain_up_to}
 use Rattle.px_gather.specs.Query.{IsPathFor, Query}
-use Rattle.px_gather.specs.Gathered.{AreRisingRows, Collected, Ended, Frame, Gathered, HasRow, IsCutAt, IsHeldAt, IsRowAfter, Left, Pending, Stood, is_full, is_within, kept, kept_held, named_of, opened_at, row_key, up_to}
+use Rattle.px_gather.specs.Gathered.{AreRisingRows, Collected, Ended, Frame, Gathered, HasRow, IsHeldAt, IsRowAfter, Left, Pending, Stood, is_full, is_within, kept, kept_held, named_of, opened_at, row_key, up_to}
 
 -- 1. The trail grows
 
@@ -321,23 +320,23 @@ took_sure f es n c x fs next path h =
     let named : f.query.named x.row ≡ f.query.named s.0 = ap f.query.named shown ∙ path.named s.0 in
     elim (f.query.meets x.row) as (λ t. f.query.meets x.row ≡ t → Took f es (Sure x) (if t then record { row = x.row; at = n } ∷ [] else [])) [
       | true ↦ λ is. record {
-          taken = record { row = s.0; at = n } ∷ [];
-          same = ap (λ (r : List Value). record { row = r; at = n } ∷ []) named;
-          is = taken_one f es (Sure x) (record { row = s.0; at = n })
-              (record { from = h.from; to = h.to; held = s.1; met = sym meets ∙ is })
-              (sym (ap (λ (z : FoundRow). z.key) s.2))
-              (λ row stood met given.
-              let e : x ≡ found_by f.point.found f.path.by row = sure_of x f.point.found f.path.by row given in
-              sym named ∙ (ap f.query.named (ap (λ (z : FoundRow). z.row) e) ∙ path.named row));
-        }
+        taken = record { row = s.0; at = n } ∷ [];
+        same = ap (λ (r : List Value). record { row = r; at = n } ∷ []) named;
+        is = taken_one f es (Sure x) (record { row = s.0; at = n })
+            (record { from = h.from; to = h.to; held = s.1; met = sym meets ∙ is })
+            (sym (ap (λ (z : FoundRow). z.key) s.2))
+            (λ row stood met given.
+            let e : x ≡ found_by f.point.found f.path.by row = sure_of x f.point.found f.path.by row given in
+            sym named ∙ (ap f.query.named (ap (λ (z : FoundRow). z.row) e) ∙ path.named row));
+      }
       | false ↦ λ is. record {
-          taken = [];
-          same = refl;
-          is = taken_none f es (Sure x) (λ row stood met given.
-              let e : x ≡ found_by f.point.found f.path.by row = sure_of x f.point.found f.path.by row given in
-              let m : f.query.meets x.row ≡ f.query.meets row = ap f.query.meets (ap (λ (z : FoundRow). z.row) e) ∙ path.meets row in
-              cc);
-        }
+        taken = [];
+        same = refl;
+        is = taken_none f es (Sure x) (λ row stood met given.
+            let e : x ≡ found_by f.point.found f.path.by row = sure_of x f.point.found f.path.by row given in
+            let m : f.query.meets x.row ≡ f.query.meets row = ap f.query.meets (ap (λ (z : FoundRow). z.row) e) ∙ path.meets row in
+            cc);
+      }
     ] refl
 
 -- a row at the point now is one after all entries
@@ -374,23 +373,23 @@ took_doubt f k n c d fs next (Some x) base h seen =
     (let z = stood_now f k n d row base w from stood shown in seen.only row z.0 z.1) in
     elim (f.query.meets x.row) as (λ t. f.query.meets x.row ≡ t → Took f k.seen (InDoubt d) (if t then record { row = x.row; at = x.at } ∷ [] else [])) [
       | true ↦ λ is. record {
-          taken = record { row = x.row; at = x.at } ∷ [];
-          same = refl;
-          is = taken_one f k.seen (InDoubt d) (record { row = x.row; at = x.at })
-              (record {
-                from = (let a = seen.at in omega arith);
-                to = (let a = seen.at in omega arith);
-                held = subst (λ (m : ℕ). IsRowAfter f k.seen m x.row) (sym seen.at) (now_after f k x.row base seen.row);
-                met = is;
-              })
-              (ap (λ (y : By). key_by f.point.found y x.row) w ∙ seen.key)
-              (λ row stood met shown. ap f.query.named (sym (only row stood shown)));
-        }
+        taken = record { row = x.row; at = x.at } ∷ [];
+        same = refl;
+        is = taken_one f k.seen (InDoubt d) (record { row = x.row; at = x.at })
+            (record {
+              from = (let a = seen.at in omega arith);
+              to = (let a = seen.at in omega arith);
+              held = subst (λ (m : ℕ). IsRowAfter f k.seen m x.row) (sym seen.at) (now_after f k x.row base seen.row);
+              met = is;
+            })
+            (ap (λ (y : By). key_by f.point.found y x.row) w ∙ seen.key)
+            (λ row stood met shown. ap f.query.named (sym (only row stood shown)));
+      }
       | false ↦ λ is. record {
-          taken = [];
-          same = refl;
-          is = taken_none f k.seen (InDoubt d) (λ row stood met shown. let e : f.query.meets row ≡ f.query.meets x.row = ap f.query.meets (only row stood shown) in cc);
-        }
+        taken = [];
+        same = refl;
+        is = taken_none f k.seen (InDoubt d) (λ row stood met shown. let e : f.query.meets row ≡ f.query.meets x.row = ap f.query.meets (only row stood shown) in cc);
+      }
     ] refl
 
 -- 7. The scan goes on
@@ -462,9 +461,9 @@ ended-full f es c rows h full = record {
   complete = λ k. elim (done_or_past c k) [
     | inl old ↦ inl old
     | inr past ↦ inr (record {
-        full = full_is f.query.limit (length rows) full h.within ∙ ap Some (same_length f.query rows h.given h.same);
-        before = λ x among. done_before c (row_key f x.row) k (h.collected.passed x among) past;
-      })
+      full = full_is f.query.limit (length rows) full h.within ∙ ap Some (same_length f.query rows h.given h.same);
+      before = λ x among. done_before c (row_key f x.row) k (h.collected.passed x among) past;
+    })
   ];
 }
 

@@ -1,5 +1,5 @@
 -- What a scan has gathered.
-use Rattle.std.specs.Prelude.{ℕ, ◌≡◌, ◌≢◌, ◌⊎◌, ◌<◌, ◌≤◌, nat_le, not, Bool, true, false, if◌then◌else◌, Option, None, Some, List, [], ◌∷◌, map, length, take}
+use Rattle.std.specs.Prelude.{ℕ, ◌≡◌, ◌⊎◌, ◌≤◌, nat_le, not, Bool, true, false, if◌then◌else◌, Option, None, Some, List, [], ◌∷◌, map, length, take}
 use Rattle.px_values.specs.declared.row.Value.{Value}
 use Rattle.px_trail.specs.declared.entry.Entry.{Entry}
 use Rattle.px_trail.specs.Answers.{Given, IsAmong}

@@ -2,6 +2,7 @@
 use Rattle.std.specs.Prelude.{ℕ, ◌≡◌, Bool, true, List, Option}
 use Rattle.px_values.specs.declared.row.Value.{Value}
 use Rattle.px_tables.specs.declared.found.Found.{Found}
+use Rattle.px_tables.specs.declared.table.Table.{Table}
 use Rattle.px_trail.specs.Answers.{Asked}
 use Rattle.px_calls.specs.declared.query.By.{By}
 use Rattle.px_calls.specs.declared.query.Path.{Path}
@@ -9,10 +10,11 @@ use Rattle.px_calls.specs.declared.query.Point.{Point}
 use Rattle.px_calls.specs.Looks.{is_on, key_by, key_less, shown_by}
 use Rattle.px_calls.specs.Requires.{CanLook, FitsRow}
 
--- a table, which rows meet the condition, the named columns of a row, how many rows are enough, and whether the path chosen from these
+-- a table with its definition, which rows meet the condition, the named columns of a row, how many rows are enough, and whether the path chosen from these
 -- definitions at a stamp would have to be joined back to the table
 pub record Query : Type 0 where
   pub table : ℕ
+  pub bound : Table
   pub meets : List Value → Bool
   pub named : List Value → List Value
   pub limit : Option ℕ
