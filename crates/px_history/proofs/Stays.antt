@@ -17,7 +17,7 @@ use Rattle.px_history.proofs.Changes.{from-snoc}
 itself : (h : History RowState) (s : ℕ) → SameChange h h s
 itself h s = record { old = refl; new = refl }
 
-step_same : (sh : Shape) (t : ℕ) (r : List Value) (h : History RowState) (s : ℕ) (a : Act) → IsLater s a → SameChange h (history_step sh t r h a) s
+pub step_same : (sh : Shape) (t : ℕ) (r : List Value) (h : History RowState) (s : ℕ) (a : Act) → IsLater s a → SameChange h (history_step sh t r h a) s
 unfolding history_step
 step_same sh t r h s (Begun t' s' cs) n = by (t'.0 == t) (change_of cs r)
   where

@@ -15,7 +15,8 @@ use Rattle.px_trail.proofs.Batches.{last_step-le}
 use Rattle.px_trail.proofs.Growth.{batch_of-snoc, begun-snoc, last-snoc}
 use Rattle.px_world.specs.Facts.{Kept}
 use Rattle.px_history.specs.History.{History}
-use Rattle.px_history.specs.Rows.{history_step}
+use Rattle.px_history.proofs.Stays.{step_same}
+use Rattle.px_history.specs.Rows.{IsLater, SameChange, history_step}
 use Rattle.px_forms.specs.Indexes.{shape_at}
 use Rattle.px_indexed.specs.Worlds.{world_at, marked_by, times_of, history_at, Indexed}
 use Rattle.px_indexed.specs.Kept.{IndexKept}
@@ -128,3 +129,10 @@ module _ (sh : RowShape) (b : Base) (es : List Entry) (tid : TableId) (raised : 
 
   pub begins_idle : (r : List Value) → begun t r (es ++ e ∷ []) ≡ begun t r es
   begins_idle r = begun-snoc t r es e ∙ (ap (λ l. begun t r es ++ l) (idle.begins r) ∙ append-nil (begun t r es))
+
+-- the states before and after a change stay as they were at its begin, whatever comes later
+pub history_stays : (sh : RowShape) (b : Base) (es : List Entry) (e : Entry) (t : ℕ) (r : List Value) (s : ℕ) → IsLater s e.act → SameChange (history_at sh b es t r) (history_at sh b (es ++ e ∷ []) t r) s
+history_stays sh b es e t r s n =
+    let z = step_same sh t r (history_at sh b es t r) s e.act n in
+    let p = from-snoc sh b es e t r in
+    record { old = ap (λ (h : History RowState). h.old s) p ∙ z.old; new = ap (λ (h : History RowState). h.new s) p ∙ z.new }

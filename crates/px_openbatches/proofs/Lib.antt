@@ -1,0 +1,9 @@
+pub mod Pendings
+pub mod Helds
+pub mod RowViews
+pub mod Mades
+pub mod Hands
+pub mod Readies
+pub mod Shut
+pub mod Flags
+pub mod Meetings
