@@ -106,7 +106,7 @@ left_some (c ∷ cs) ws n = elim (cases_Bool (not (has ws c.row))) [
   | inr e ↦ (let z = left_some cs ws (λ q. n (rw e q)) in rw (e, z) refl)
 ]
 
-left_not_none : (cs : List Change) (ws : List (List Value)) → list_any (λ c. not (has ws c.row)) cs ≡ true → filter (λ r. not (has ws r)) (rows_of cs) ≡ [] → ⊥
+pub left_not_none : (cs : List Change) (ws : List (List Value)) → list_any (λ c. not (has ws c.row)) cs ≡ true → filter (λ r. not (has ws r)) (rows_of cs) ≡ [] → ⊥
 left_not_none [] ws h q = false≢true h
 left_not_none (c ∷ cs) ws h q = elim (cases_Bool (not (has ws c.row))) [
   | inl e ↦ absurd (cons_nil (rw e at q))

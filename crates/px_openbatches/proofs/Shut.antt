@@ -11,7 +11,7 @@ use Rattle.px_world.specs.Shape.{Shape}
 use Rattle.px_world.specs.World.{World, Written}
 use Rattle.px_world.specs.Events.{Event, Verify}
 use Rattle.px_world.specs.Facts.{Kept}
-use Rattle.px_world.specs.Closed.{Closed, IsNoBirth}
+use Rattle.px_world.specs.Closed.{Closed}
 use Rattle.px_world.proofs.Closed.{verify_closes, closed_stays}
 use Rattle.px_world.specs.IndexCells.{Moves}
 use Rattle.px_history.specs.Rows.{row_as, row_in, fate_by, ended_by}
@@ -25,15 +25,11 @@ use Rattle.px_openbatches.proofs.Pendings.{whole_written}
 use Rattle.px_trail.specs.declared.entry.Entry.{Entry}
 use Rattle.px_groupworld.specs.Group.{GroupKept, no_part}
 use Rattle.px_groupworld.proofs.Entries.{rows_of_group}
-use Rattle.px_openbatches.specs.Opens.{AreClosed}
+use Rattle.px_openbatches.specs.Opens.{AreClosed, IsNoBirthOf}
 
 -- once all its rows are written, a batch meets no more
 pub meets_done : (cs : List Change) (h : HeldBatch) → is_left h ≡ false → (meets cs h).met ≡ h.met
 meets_done cs h e = cond-false _ _ _ e
-
-abbrev pub IsNoBirthOf : {K A : Type 0} → Option (Event K A) → Type 0
-IsNoBirthOf None = Unit {0}
-IsNoBirthOf (Some e) = IsNoBirth e
 
 closed_moves : {K S X A : Type 0} (n : Shape K S X A) (w w' : World K S X) (t : ℕ) (o : Option (Event K A)) → IsNoBirthOf o → Moves n o w w' → Kept n w → w.fate t ≡ Written → w.is_ended t ≡ false → Closed n w t → Closed n w' t
 closed_moves n w w' t None b m g f r c = subst (λ x. Closed n x t) (sym m) c

@@ -1,10 +1,11 @@
 -- What stays true of a table's open batches, with their cells.
-use Rattle.std.specs.Prelude.{◌≡◌, ℕ, ◌<◌, ◌≤◌, true, List, length, get_or}
+use Rattle.std.specs.Prelude.{◌≡◌, ℕ, ◌<◌, ◌≤◌, true, List, length, get_or, Option, Some, None}
 use Rattle.std.specs.List.{AllByRecursion}
 use Rattle.px_values.specs.declared.row.Value.{Value}
 use Rattle.px_trail.specs.declared.entry.Entry.{Entry}
 use Rattle.px_trail.specs.Batches.{has, is_distinct, rows_of}
-use Rattle.px_world.specs.Closed.{Closed}
+use Rattle.px_world.specs.Closed.{Closed, IsNoBirth}
+use Rattle.px_world.specs.Events.{Event}
 use Rattle.px_forms.specs.Indexes.{IndexForm}
 use Rattle.px_groupworld.specs.Group.{TableForm, GroupData, IndexPart, no_part, shape_in, world_in}
 use Rattle.px_openbatches.specs.Made.{IsMade}
@@ -28,3 +29,8 @@ pub record OpensKept (f : TableForm) (es : List Entry) (xs : List IndexPart) (hs
 -- at the first n indexes, the marks of each row that isn't concurrent are closed
 pub record AreClosed (f : TableForm) (es : List Entry) (v : GroupData) (h : HeldBatch) (n : ℕ) : Type 0 where
   pub each : (i : ℕ) → i < n → (r : List Value) → has (to_verify h) r ≡ true → Closed (shape_in f v i r) (world_in f es v i r) h.stamp
+
+-- the event makes no index, if there is one
+abbrev pub IsNoBirthOf : {K A : Type 0} → Option (Event K A) → Type 0
+IsNoBirthOf None = Unit {0}
+IsNoBirthOf (Some e) = IsNoBirth e
