@@ -128,7 +128,7 @@ class Cone:
 
 
 def type_of(module):
-    """`px_main.specs.declared.reply.Item` is the type Item of crates/px_main/src/reply.rt."""
+    """`px_ast.specs.declared.statement.Select` is the type Select of crates/px_ast/src/statement.rt."""
     parts = module.split(".")
     below = parts[3:]
     if below and below[-1] == "TheVariants":

@@ -1,37 +1,14 @@
-//! The program: reads a script of statements, runs it on the table KV in a folder, and prints the replies.
+//! The program: it makes the disk of the folder that its words name, and the real clock, input and output, and runs
+//! `px_program` on them, whose call `phoenix` has the whole claim as its contract. It tells the status on standard error and to
+//! the system.
 #![tactic(auto)]
 
-mod batch;
-#[cfg(test)]
-mod clock_tests;
-#[cfg(test)]
-mod fault_tests;
-mod printing;
-mod put;
-mod put_reader;
-mod reply;
-mod run;
-mod script;
-#[cfg(test)]
-mod script_tests;
-mod session;
-mod statement;
-mod status;
-#[cfg(test)]
-mod stop_tests;
-mod store;
-mod table;
-#[cfg(test)]
-mod tests;
-mod words;
-
 use px_outside::{MemDisk, StdSink, StdSource, WallClock};
-use run::{Status, phoenix};
+use px_program::{Status, folder_disk, phoenix, tell, tell_fault};
 use std::alloc::AllocError;
 use std::fs::File;
 use std::process::ExitCode;
 use std::{env, io};
-use words::folder_disk;
 
 /// The null device, open for reading. Three of them take the descriptors of input, output and errors where these were
 /// closed, so that no file of the folder gets one: a closed input is then empty, and a write to a closed output fails.
@@ -50,7 +27,7 @@ fn words_of(rt: &HostRuntime) -> io::Result<Vec<String>> {
 
 /// Tells the status on standard error, and hands it on.
 fn told(rt: &HostRuntime, status: Status) -> Status {
-    status::tell(rt, status);
+    tell(rt, status);
     status
 }
 
@@ -68,7 +45,7 @@ fn run_in(rt: &HostRuntime, words: &[String]) -> Result<Status, AllocError> {
         Some(disk) => {
             let outcome = phoenix(alloc, words, disk, clock, &mut input, &mut out);
             let status = told(rt, outcome.status);
-            status::tell_fault(rt, outcome.disk.fault());
+            tell_fault(rt, outcome.disk.fault());
             drop(outcome);
             Ok(status)
         }

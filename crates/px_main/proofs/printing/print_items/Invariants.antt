@@ -1,6 +1,0 @@
-use Rattle.std.proofs.Common.{◌≡◌, ◌++◌, take}
-use Rattle.px_main.specs.Printed.{printed_items}
-use Rattle.px_main.proofs.printing.print_items.Given as goal
-
-abbrev pub invariant-loop-item : goal.invariant-loop-item
-invariant-loop-item l = l.to ≡ l.initial.to ++ printed_items (take l.item-index l.items)

@@ -1,6 +1,0 @@
-use Rattle.std.proofs.Common.{◌≡◌, ◌++◌, map}
-use Rattle.px_main.specs.Table.{row_in}
-use Rattle.px_main.proofs.table.all_rows.Given as goal
-
-abbrev pub invariant-loop-key : goal.invariant-loop-key
-invariant-loop-key l = l.given.items ++ map row_in l.key-iterator ≡ map row_in l.rows.entries

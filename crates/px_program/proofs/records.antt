@@ -1,0 +1,11 @@
+pub mod Bodies
+pub mod Cells
+pub mod Fields
+pub mod Frames
+pub mod From
+pub mod In
+pub mod Laws
+pub mod Numbers
+pub mod Right
+pub mod Rows
+pub mod Texts

@@ -1,0 +1,89 @@
+// Runs on disks in memory, and what they print.
+ghost use Rattle.px_outside.specs.MemDisk.{mem_calls as calls_of, mem_faults as faults_of, mem_first_fault as first_fault_of};
+ghost use Rattle.std.specs.Prelude.{◌≡◌};
+
+use px_outside::{FixedClock, MemDisk, MemSink, MemSource};
+use px_program::{Outcome, Status, phoenix};
+use std::alloc::{AllocError, Global};
+
+/// The first segment of region 1's log after K 'a', V 'b' at stamp 1.
+pub const FIRST_SEGMENT: [u8; 68] = [
+    1, 0x50, 0x48, 0x58, 0x53, 0x45, 0x47, 0x31, 0, 0, 0, 0, 0, 0, 0, 1, 1, 2, 0, 0, 0, 0x2d, 0, 0,
+    0, 0, 0, 0, 0, 1, 0, 0, 0, 2, 0, 2, 0x61, 0, 1, 0, 0, 0, 0, 0, 0, 0, 1, 4, 0, 0, 0, 2, 0x61, 0,
+    3, 0, 0, 0, 0, 0, 0, 0, 1, 4, 0, 1, 0x62, 0,
+];
+
+pub const FIRST_SCRIPT: &str = "UPSERT INTO KV VALUES ('a','b'); SELECT * FROM KV;\n";
+
+/// A run on a disk that had no call yet, and what it printed.
+#[derive(Drop)]
+pub struct Run {
+    pub outcome: Outcome<MemDisk>,
+    pub printed: MemSink,
+}
+
+pub fn bytes_of(alloc: Global, text: &str) -> Result<Vec<u8>, AllocError> {
+    let mut bytes = Vec::new(alloc);
+    bytes.extend_from_slice(text.as_bytes())?;
+    Ok(bytes)
+}
+
+/// The words of a line, which are parted by blanks; none of an empty line.
+pub fn words_of(alloc: Global, line: &str) -> Result<Vec<String>, AllocError> {
+    let mut words = Vec::new(alloc);
+    if line.is_empty() {
+        return Ok(words);
+    }
+    for word in line.split(' ') {
+        words.push(String::from_str(alloc, word)?)?;
+    }
+    Ok(words)
+}
+
+/// A run of these words on a disk, between this input and this output.
+pub fn run_between(
+    alloc: Global,
+    line: &str,
+    disk: MemDisk,
+    mut input: MemSource,
+    mut printed: MemSink,
+) -> Result<Run, AllocError>
+    requires fresh { (calls_of disk ≡ 0) × (faults_of disk ≡ 0) × (first_fault_of disk ≡ 0) }
+{
+    let words = words_of(alloc, line)?;
+    let outcome = phoenix(alloc, &words, disk, FixedClock(0), &mut input, &mut printed);
+    Ok(Run { outcome, printed })
+}
+
+pub fn run_words(alloc: Global, line: &str, disk: MemDisk, script: &str) -> Result<Run, AllocError>
+    requires fresh { (calls_of disk ≡ 0) × (faults_of disk ≡ 0) × (first_fault_of disk ≡ 0) }
+{
+    let input = MemSource::of(bytes_of(alloc, script)?);
+    run_between(alloc, line, disk, input, MemSink::new(alloc))
+}
+
+/// The disk after a run.
+pub fn disk_of(run: Run) -> MemDisk {
+    let Run {
+        outcome,
+        printed: _,
+    } = run;
+    let Outcome {
+        status: _,
+        disk,
+        trail: _,
+        late: _,
+        transcripts: _,
+        memory: _,
+    } = outcome;
+    disk
+}
+
+/// A run on what is left of a disk.
+pub fn run_again(alloc: Global, disk: MemDisk, script: &str) -> Result<Run, AllocError> {
+    run_words(alloc, "run folder", disk.image(), script)
+}
+
+pub fn is_printed(run: &Run, status: Status, text: &str) -> bool {
+    run.outcome.status == status && run.printed.held() == text.as_bytes()
+}
