@@ -1,0 +1,447 @@
+-- The steps of a query, arm by arm, over what a seat knows.
+use Rattle.std.proofs.Common.{ℕ, ◌≡◌, ◌<◌, ◌≤◌, ◌+◌, Bool, true, false, Option, None, Some, IsSome, Result, Ok, Err, List, [], ◌∷◌, ◌++◌, map, length, take, refl, sym, ◌∙◌, ap, subst, arith, inl, inr, length-append}
+use Rattle.std.specs.Prelude.{Vec}
+use Rattle.std.specs.Option.{is_some}
+use Rattle.std.specs.declared.alloc.Global.{Global}
+use Rattle.std.proofs.lemmas.List.{take-append-le, take_all}
+use Rattle.px_values.specs.declared.name.TableId.{TableId}
+use Rattle.px_tables.specs.declared.index.Index.{Index}
+use Rattle.px_tables.specs.declared.table.Table.{Table}
+use Rattle.px_trail.specs.declared.entry.Act.{Act}
+use Rattle.px_trail.specs.declared.entry.Act.TheVariants as act
+use Rattle.px_trail.specs.declared.entry.Entry.{Entry}
+use Rattle.px_trail.specs.Answers.{Given}
+use Rattle.px_trail.specs.Batches.{IsDecided}
+use Rattle.px_trail.specs.Legal.{Follows, IsLegal, MayCome}
+use Rattle.px_trail.specs.Trail.{Base, acts_by, catalogue_of, horizon_of, horizon_step, last_of, last_step, table_of}
+use Rattle.px_trail.proofs.Growth.{horizon-snoc, last-snoc}
+use Rattle.px_trail.proofs.States.{decided-stays}
+use Rattle.px_calls.specs.declared.fault.StepFault.TheVariants as step
+use Rattle.px_calls.specs.declared.query.By.{By}
+use Rattle.px_calls.specs.declared.query.By.TheVariants as by
+use Rattle.px_calls.specs.declared.query.Chunk.{Chunk}
+use Rattle.px_calls.specs.declared.query.Doubt.{Doubt}
+use Rattle.px_calls.specs.declared.query.Fixing.{Fixing}
+use Rattle.px_calls.specs.declared.query.FoundKey.{FoundKey}
+use Rattle.px_calls.specs.declared.query.FoundKey.TheVariants.{InDoubt}
+use Rattle.px_calls.specs.declared.query.Held.{Held}
+use Rattle.px_calls.specs.declared.query.Path.{Path}
+use Rattle.px_calls.specs.declared.query.Point.{Point}
+use Rattle.px_calls.specs.Known.{Adds, Extends, Known, Passes, Ran, Sees, outline}
+use Rattle.px_calls.specs.Causes.{Refuses, open_cause, stamp_at}
+use Rattle.px_calls.specs.Calls.{DidConsult, DidFix, DidLook, DidOpen, IsFound}
+use Rattle.px_values.specs.Limits.{most_key}
+use Rattle.px_keys.specs.Reading.{IsKey}
+use Rattle.px_paths.specs.Paths.{columns_on}
+use Rattle.px_calls.specs.Looks.{IsRightKey, columns_by, index_columns}
+use Rattle.px_calls.specs.Requires.{CanConsult, CanReadBy, IsDrawn, IsOpen, IsReadable, IsScn, index_in}
+use Rattle.px_calls.proofs.Points.{adds-opened, quiet-open}
+use Rattle.px_calls.proofs.Runs.{may-come, outline-append, ran-adds, ran-none, ran-sees, ran-then}
+use Rattle.px_calls.proofs.Stays.{drawn-stays, table-was}
+use Rattle.px_gather.specs.Answers.{IsAnswerBy, IsPointOf}
+use Rattle.px_gather.specs.Gathered.{Ended, Frame, Gathered, Pending, is_full, kept_held, up_to}
+use Rattle.px_gather.specs.Query.{IsPathFor, Query}
+use Rattle.px_gather.proofs.Answering.{answer-is}
+use Rattle.px_gather.proofs.Gathering as gathering
+use Rattle.px_scan.specs.declared.answer.Answer.{Answer}
+use Rattle.px_scan.specs.declared.answer.Placed.{Placed}
+use Rattle.px_scan.specs.declared.answer.QueryFault.{QueryFault}
+use Rattle.px_scan.specs.declared.answer.QueryFault.TheVariants as fault
+use Rattle.px_scan.specs.declared.answer.QueryTurn.TheVariants as turn
+use Rattle.px_scan.specs.declared.machine.QueryState.{QueryState}
+use Rattle.px_scan.specs.declared.machine.QueryState.TheVariants as state
+use Rattle.px_scan.specs.declared.machine.Rest.{Rest}
+use Rattle.px_scan.specs.declared.machine.Scan.{Scan}
+use Rattle.px_scan.specs.Faults.{FaultIs, MadeSince, QueryFaultIs}
+use Rattle.px_scan.specs.Turns.{AfterFix, AfterLook, Edge, Fits, GoesOn, Grown, HasEnded, IsAnswer, IsAwaited, IsBound, IsGoing, IsNew, IsNext, IsOutcome, IsReading, IsScanning, IsSince, QueryTurns, Quiet, RanQuery, SoFar, frame, frame_of, given_of, opened, opening, point_acts, table_number}
+use Rattle.px_scan.proofs.Quieting.{Later, fault_in, grown-passes, grown-quiet, later-fault, later-grown, later-ran, longer, made-earlier, made-later, quiet-sees}
+
+-- 1. What time leaves
+
+-- a fact of a frame and the entries stays, where more entries leave it
+moved : (P : Frame → List Entry → Type 0) (q : Query) (p : Point) (path : Path) (k k' : Known) → ((es more : List Entry) → P (frame_of q k p path) es → P (frame_of q k p path) (es ++ more)) → Later k k' → P (frame_of q k p path) k.seen → P (frame_of q k' p path) k'.seen
+moved P q p path k k' grows g h =
+    let one : P (frame_of q k p path) k'.seen = subst (λ (l : List Entry). P (frame_of q k p path) l) (sym g.seen) (grows k.seen g.more h) in
+    subst (λ (b : Base). P (record { base = b; point = p; query = q; path = path }) k'.seen) (sym g.base) one
+
+pub later-gathered : (q : Query) (p : Point) (path : Path) (k k' : Known) (done : List ℕ → Bool) (rows : List Given) → Later k k' → Gathered (frame_of q k p path) k.seen done rows → Gathered (frame_of q k' p path) k'.seen done rows
+later-gathered q p path k k' done rows g h = moved (λ f es. Gathered f es done rows) q p path k k' (λ es more. gathering.gathered-grows (frame_of q k p path) es more done rows) g h
+
+pub later-pending : (q : Query) (p : Point) (path : Path) (k k' : Known) (n : ℕ) (keys : List FoundKey) (next : Option (List ℕ)) (rows : List Given) → Later k k' → Pending (frame_of q k p path) k.seen n keys next rows → Pending (frame_of q k' p path) k'.seen n keys next rows
+later-pending q p path k k' n keys next rows g h = moved (λ f es. Pending f es n keys next rows) q p path k k' (λ es more. gathering.pending-grows (frame_of q k p path) es more n keys next rows) g h
+
+pub later-ended : (q : Query) (p : Point) (path : Path) (k k' : Known) (rows : List Given) → Later k k' → Ended (frame_of q k p path) k.seen rows → Ended (frame_of q k' p path) k'.seen rows
+later-ended q p path k k' rows g h = moved (λ f es. Ended f es rows) q p path k k' (λ es more. gathering.ended-grows (frame_of q k p path) es more rows) g h
+
+point-grows : (b : Base) (es more : List Entry) (q : Query) (scn : Option ℕ) (p : Point) → IsPointOf b es q scn p → IsPointOf b (es ++ more) q scn p
+point-grows b es more q scn p h =
+    let at : ℕ = p.found.at in
+    let same : take at es ≡ take at (es ++ more) = sym (take-append-le at es more h.within) in
+    record {
+      table = h.table;
+      is_scn = h.is_scn;
+      within = (let w = h.within in omega (arith, length-append es more));
+      stamp = h.stamp ∙ ap (stamp_at scn q.table b) same;
+      low = subst (λ (l : List Entry). horizon_of b q.table l ≤ p.stamp) same h.low;
+      high = subst (λ (l : List Entry). p.stamp ≤ last_of b q.table l) same h.high;
+      decided = λ is. subst (λ (l : List Entry). IsDecided l q.table p.stamp) same (h.decided is);
+      found = subst (λ (l : List Entry). IsFound b l p.found) same h.found;
+      found_table = h.found_table;
+    }
+
+pub later-point : (k k' : Known) (q : Query) (scn : Option ℕ) (p : Point) → Later k k' → IsPointOf k.base k.seen q scn p → IsPointOf k'.base k'.seen q scn p
+later-point k k' q scn p g h =
+    subst (λ (c : Base). IsPointOf c k'.seen q scn p) (sym g.base) (subst (λ (l : List Entry). IsPointOf k.base l q scn p) (sym g.seen) (point-grows k.base k.seen g.more q scn p h))
+
+pub grown-reading : (k k' : Known) (q : Query) (scn : Option ℕ) (p : Point) → Grown k k' → IsReading k q scn p → IsReading k' q scn p
+grown-reading k k' q scn p g h = record { is_open = quiet-open k k' g.more p g.seen g.quiet g.seat h.is_open; point = later-point k k' q scn p (later-grown k k' g) h.point }
+
+pub grown-scanning : (k k' : Known) (q : Query) (scn : Option ℕ) (x : Scan) (keys : List FoundKey) (next : Option (List ℕ)) (at : ℕ) → Grown k k' → IsScanning k q scn x keys next at → IsScanning k' q scn x keys next at
+grown-scanning k k' q scn x keys next at g h = record { reading = grown-reading k k' q scn x.point g h.reading; path = h.path; pending = later-pending q x.point x.path k k' at keys next (given_of x.rows.items) (later-grown k k' g) h.pending }
+
+-- a query that is bound to its table stays so
+pub bound-stays : (k k' : Known) (q : Query) → Later k k' → IsLegal k'.base k'.seen → IsBound k q → IsBound k' q
+bound-stays k k' q g legal h =
+    let l : IsLegal k.base (k.seen ++ g.more) = subst (λ (b : Base). IsLegal b (k.seen ++ g.more)) g.base (subst (λ (s : List Entry). IsLegal k'.base s) g.seen legal) in
+    let tables : table_of k'.base k'.seen q.table ≡ table_of k.base (k.seen ++ g.more) q.table = ap (λ (b : Base). table_of b k'.seen q.table) g.base ∙ ap (λ (s : List Entry). table_of k.base s q.table) g.seen in
+    let next : (catalogue_of k'.base k'.seen).next ≡ (catalogue_of k.base (k.seen ++ g.more)).next = ap (λ (b : Base). (catalogue_of b k'.seen).next) g.base ∙ ap (λ (s : List Entry). (catalogue_of k.base s).next) g.seen in
+    record {
+      drawn = (let d = drawn-stays k.base q.table k.seen g.more l h.drawn in omega arith);
+      is = λ x now. h.is x (table-was k.base q.table k.seen g.more x l h.drawn (sym tables ∙ now));
+    }
+
+pub fits-kept : (q : Query) (scn : Option ℕ) (s : QueryState) (k k' : Known) → Passes k k' → Fits q scn s k → Fits q scn s k'
+fits-kept q scn (state.Opening rows) k k' h f = (f.0, bound-stays k k' q (later-grown k k' (grown-passes k k' h)) h.legal f.1, f.2)
+fits-kept q scn (state.Looking x a) k k' h f = let g = grown-passes k k' h in (grown-reading k k' q scn x.point g f.0, f.1, later-gathered q x.point x.path k k' (up_to a) (given_of x.rows.items) (later-grown k k' g) f.2)
+fits-kept q scn (state.Consulting x r d) k k' h f = (grown-scanning k k' q scn x (InDoubt d ∷ r.keys.items) r.next r.at (grown-passes k k' h) f.0, f.1)
+fits-kept q scn (state.Fixing x r d) k k' h f = (grown-scanning k k' q scn x r.keys.items r.next r.at (grown-passes k k' h) f.0, f.1)
+fits-kept q scn (state.Settling x r d) k k' h f = (grown-scanning k k' q scn x r.keys.items r.next r.at (grown-passes k k' h) f.0, f.1)
+fits-kept q scn (state.Closing p (Ok rows)) k k' h f = let g = grown-passes k k' h in (grown-reading k k' q scn p g f.0, (f.1.0, f.1.1, later-ended q p f.1.0 k k' (given_of rows.items) (later-grown k k' g) f.1.2))
+fits-kept q scn (state.Closing p (Err e)) k k' h f =
+    let g = grown-passes k k' h in
+    let l = later-grown k k' g in
+    (grown-reading k k' q scn p g f.0, (later-fault q e k k' l f.1.0, made-later p.found.at e k k' f.0.point.within l f.1.1))
+fits-kept q scn state.Over k k' h f = tt
+
+-- 2. States that go on from a point
+
+pub goes-looking : (k : Known) (q : Query) (scn : Option ℕ) (x : Scan) (a : Option (List ℕ)) → IsReading k q scn x.point → IsPathFor q x.point x.path → Gathered (frame q k x) k.seen (up_to a) (given_of x.rows.items) → GoesOn k q scn x.point (state.Looking x a)
+goes-looking k q scn x a h path c = record { fits = (h, path, c); going = tt; opened_is = refl; since = λ n le. le }
+
+pub goes-consulting : (k : Known) (q : Query) (scn : Option ℕ) (x : Scan) (r : Rest) (d : Doubt) → IsScanning k q scn x (InDoubt d ∷ r.keys.items) r.next r.at → is_full q.limit (length (given_of x.rows.items)) ≡ false → GoesOn k q scn x.point (state.Consulting x r d)
+goes-consulting k q scn x r d h f = record { fits = (h, f); going = tt; opened_is = refl; since = λ n le. le }
+
+pub goes-fixing : (k : Known) (q : Query) (scn : Option ℕ) (x : Scan) (r : Rest) (d : Doubt) → IsScanning k q scn x r.keys.items r.next r.at → IsSome d.verdict → GoesOn k q scn x.point (state.Fixing x r d)
+goes-fixing k q scn x r d h v = record { fits = (h, v); going = tt; opened_is = refl; since = λ n le. le }
+
+pub goes-settling : (k : Known) (q : Query) (scn : Option ℕ) (x : Scan) (r : Rest) (d : Doubt) → IsScanning k q scn x r.keys.items r.next r.at → IsSome d.verdict → GoesOn k q scn x.point (state.Settling x r d)
+goes-settling k q scn x r d h v = record { fits = (h, v); going = tt; opened_is = refl; since = λ n le. le }
+
+pub goes-ended : (k : Known) (q : Query) (scn : Option ℕ) (p : Point) (path : Path) (rows : Vec Placed Global) → IsReading k q scn p → IsPathFor q p path → Ended (frame_of q k p path) k.seen (given_of rows.items) → GoesOn k q scn p (state.Closing p (Ok rows))
+goes-ended k q scn p path rows h c e = record { fits = (h, (path, c, e)); going = tt; opened_is = refl; since = λ n le. le }
+
+pub goes-failed : (k : Known) (q : Query) (scn : Option ℕ) (p : Point) (f : QueryFault) → IsReading k q scn p → FaultIs q f k → MadeSince p.found.at f k → GoesOn k q scn p (state.Closing p (Err f))
+goes-failed k q scn p f h told made = record { fits = (h, (told, made)); going = tt; opened_is = refl; since = λ n le. le }
+
+-- a step that went on from a point
+pub steps : (k k' : Known) (q : Query) (scn : Option ℕ) (p : Point) (old new : QueryState) → Quiet k k' → opened old ≡ opening p → ((n : ℕ) → IsSince n old k → n ≤ p.found.at) → GoesOn k' q scn p new → Edge old k new k' → QueryTurns q scn old k new k' turn.Stepped
+steps k k' q scn p old new h was since g edge = record {
+  acts = h.acts;
+  ran = h.ran;
+  fits = g.fits;
+  told = (g.going, ap (λ (l : List Act). l ++ outline h.acts) was ∙ (ap (λ (l : List Act). act.Opened p.table p.stamp p.scn ∷ l) h.quiet ∙ sym g.opened_is));
+  since = λ n s. g.since n (since n s);
+  edge = edge;
+}
+
+-- a step that ended the scan with a fault
+pub fails : (k k' : Known) (q : Query) (scn : Option ℕ) (p : Point) (old new : QueryState) (f : QueryFault) → new ≡ state.Closing p (Err f) → IsReading k q scn p → opened old ≡ opening p → ((n : ℕ) → IsSince n old k → n ≤ p.found.at) → Quiet k k' → FaultIs q f k' → MadeSince p.found.at f k' → Edge old k (state.Closing p (Err f)) k' → QueryTurns q scn old k new k' turn.Stepped
+fails k k' q scn p old new f is h was since quiet told made edge =
+    subst (λ (n : QueryState). QueryTurns q scn old k n k' turn.Stepped) (sym is)
+    (steps k k' q scn p old (state.Closing p (Err f)) quiet was since (goes-failed k' q scn p f (grown-reading k k' q scn p (grown-quiet k k' quiet) h) told made) edge)
+
+-- 3. Looks and doubts
+
+pub looked : (k k' : Known) (q : Query) (scn : Option ℕ) (x : Scan) (a : Option (List ℕ)) (c : Chunk) → Fits q scn (state.Looking x a) k → DidLook k k' x.point x.path a c → IsScanning k' q scn x c.found c.next c.at
+looked k k' q scn x a c h l =
+    let p = l.finds.sees.passes in
+    let rows : List Given = given_of x.rows.items in
+    let base : Gathered (frame q k' x) k.seen (up_to a) rows = subst (λ (b : Base). Gathered (record { base = b; point = x.point; query = q; path = x.path }) k.seen (up_to a) rows) (sym p.base) h.2 in
+    record {
+      reading = grown-reading k k' q scn x.point (grown-passes k k' p) h.0;
+      path = h.1;
+      pending = gathering.looks (frame q k' x) k k' a c p.others rows refl p.seen h.0.point.within h.1 base l;
+    }
+
+-- the index of a doubt may be asked about
+readable : (p : Point) (d : Doubt) (o : Option Index) → IsReadable p o → (x : Index) × (o ≡ Some x)
+readable p d None h = absurd h
+readable p d (Some x) h = (x, refl)
+
+pub can-consult : (k : Known) (q : Query) (scn : Option ℕ) (x : Scan) (keys : List FoundKey) (next : Option (List ℕ)) (at : ℕ) (d : Doubt) → IsScanning k q scn x (InDoubt d ∷ keys) next at → CanConsult x.point d
+can-consult k q scn x keys next at d h =
+    let right : IsRightKey (frame q k x).base (take at k.seen) x.point x.path.by (InDoubt d) = h.pending.left.right (InDoubt d) (gathering.here (InDoubt d) keys) in
+    let can : CanReadBy x.point (by.Index d.index) = subst (CanReadBy x.point) right.0 h.path.can in
+    let i = readable x.point d (index_in x.point.found d.index.0) can in
+    record {
+      index = i.0;
+      is = i.1;
+      key =
+          subst (λ (o : Option Index). IsKey most_key (columns_on (index_columns x.point.found o)) d.key) i.1
+          (subst (λ (b : By). IsKey most_key (columns_on (columns_by x.point.found b)) d.key) right.0 right.1);
+    }
+
+-- the doubt's row is taken, where it was held
+pub consulted : (k k' : Known) (q : Query) (scn : Option ℕ) (x y : Scan) (r : Rest) (d d' : Doubt) (ho : Option Held) → y.point ≡ x.point → y.path ≡ x.path → Fits q scn (state.Consulting x r d) k → DidConsult k k' x.point d d' ho → given_of y.rows.items ≡ given_of x.rows.items ++ kept_held q ho → IsScanning k' q scn y r.keys.items r.next r.at
+consulted k k' q scn x y r d d' ho point path h l rows =
+    let s = grown-scanning k k' q scn x (InDoubt d ∷ r.keys.items) r.next r.at (grown-passes k k' l.finds.sees.passes) h.0 in
+    let one : Pending (frame q k' x) k'.seen r.at r.keys.items r.next (given_of x.rows.items ++ kept_held q ho) = gathering.pending-doubt (frame q k' x) k' r.at d r.keys.items r.next (given_of x.rows.items) ho refl h.1 s.pending l.held in
+    let two : Pending (frame q k' x) k'.seen r.at r.keys.items r.next (given_of y.rows.items) = subst (λ (g : List Given). Pending (frame q k' x) k'.seen r.at r.keys.items r.next g) (sym rows) one in
+    record {
+      reading = subst (IsReading k' q scn) (sym point) s.reading;
+      path = subst (λ (p : Point). IsPathFor q p y.path) (sym point) (subst (IsPathFor q x.point) (sym path) s.path);
+      pending =
+          subst (λ (p : Point). Pending (frame_of q k' p y.path) k'.seen r.at r.keys.items r.next (given_of y.rows.items)) (sym point)
+          (subst (λ (w : Path). Pending (frame_of q k' x.point w) k'.seen r.at r.keys.items r.next (given_of y.rows.items)) (sym path) two);
+    }
+
+pub consults : (k k' : Known) (q : Query) (scn : Option ℕ) (x y : Scan) (r : Rest) (d d' : Doubt) (ho : Option Held) → y.point ≡ x.point → y.path ≡ x.path → Fits q scn (state.Consulting x r d) k → DidConsult k k' x.point d d' ho → given_of y.rows.items ≡ given_of x.rows.items ++ kept_held q ho
+    → QueryTurns q scn (state.Consulting x r d) k (state.Fixing y r d') k' turn.Stepped
+consults k k' q scn x y r d d' ho point path h l rows =
+    steps k k' q scn y.point (state.Consulting x r d) (state.Fixing y r d') (quiet-sees k k' l.finds.sees) (ap opening (sym point)) (λ n le. subst (λ (p : Point). n ≤ p.found.at) (sym point) le)
+    (goes-fixing k' q scn y r d' (consulted k k' q scn x y r d d' ho point path h l rows) l.verdict)
+    (ho, l)
+
+pub after-look : (y : Scan) (after : Option (List ℕ)) (k k' : Known) (c : Chunk) (new : QueryState) → IsNext new → DidLook k k' y.point y.path after c → AfterLook y after k new k'
+after-look y after k k' c (state.Opening rows) n h = absurd n
+after-look y after k k' c (state.Looking x a) n h = (n, (c, h))
+after-look y after k k' c (state.Consulting x r e) n h = (n, (c, h))
+after-look y after k k' c (state.Fixing x r e) n h = absurd n
+after-look y after k k' c (state.Settling x r e) n h = absurd n
+after-look y after k k' c (state.Closing p (Ok u)) n h = (n, (c, h))
+after-look y after k k' c (state.Closing p (Err f)) n h = tt
+after-look y after k k' c state.Over n h = absurd n
+
+pub after-fix : (d : Doubt) (k k' : Known) (w : Fixing) (new : QueryState) → IsNext new → DidFix k k' d w → AfterFix d k new k'
+after-fix d k k' w (state.Opening rows) n h = absurd n
+after-fix d k k' w (state.Looking x a) n h = (n, (w, h))
+after-fix d k k' w (state.Consulting x r e) n h = (n, (w, h))
+after-fix d k k' w (state.Fixing x r e) n h = absurd n
+after-fix d k k' w (state.Settling x r e) n h = absurd n
+after-fix d k k' w (state.Closing p (Ok u)) n h = (n, (w, h))
+after-fix d k k' w (state.Closing p (Err f)) n h = tt
+after-fix d k k' w state.Over n h = absurd n
+
+pub no-memory : (q : Query) (f : QueryFault) (k : Known) → f ≡ fault.Memory → FaultIs q f k
+no-memory q f k is = subst (λ (g : QueryFault). FaultIs q g k) (sym is) tt
+
+pub no-memory-made : (m : ℕ) (f : QueryFault) (k : Known) → f ≡ fault.Memory → MadeSince m f k
+no-memory-made m f k is = subst (λ (g : QueryFault). MadeSince m g k) (sym is) tt
+
+-- 4. The opening
+
+same_last : (t l s : ℕ) (t' : TableId) (scn : Bool) → last_step t l (act.Opened t' s scn) ≡ l
+same_last t l s t' scn = refl
+
+same_horizon : (t h s : ℕ) (t' : TableId) (scn : Bool) → horizon_step t h (act.Opened t' s scn) ≡ h
+same_horizon t h s t' scn = refl
+
+pub opened-point : (k k' : Known) (q : Query) (t : TableId) (scn : Option ℕ) (p : Point) → t.0 ≡ q.table → DidOpen k k' t scn p → IsPointOf k'.base k'.seen q scn p
+unfolding Follows
+opened-point k k' q t scn p number d =
+    let at : p.found.at ≡ length k'.seen = d.found.at in
+    let all : take p.found.at k'.seen ≡ k'.seen = take_all p.found.at k'.seen (omega arith) in
+    let mid = d.adds.between in
+    let e = d.adds.extends in
+    let entry : Entry = record { seat = mid.seat; calls = e.calls; act = act.Opened t p.stamp p.scn } in
+    let may : MayCome mid.base mid.seen entry = may-come mid k' (act.Opened t p.stamp p.scn) e in
+    let last : last_of k'.base t.0 k'.seen ≡ last_of mid.base t.0 mid.seen =
+    ap (λ (b : Base). last_of b t.0 k'.seen) e.base ∙ (ap (last_of mid.base t.0) e.seen ∙ (last-snoc mid.base t.0 mid.seen entry ∙ same_last t.0 (last_of mid.base t.0 mid.seen) p.stamp t p.scn)) in
+    let horizon : horizon_of k'.base t.0 k'.seen ≡ horizon_of mid.base t.0 mid.seen =
+    ap (λ (b : Base). horizon_of b t.0 k'.seen) e.base ∙ (ap (horizon_of mid.base t.0) e.seen ∙ (horizon-snoc mid.base t.0 mid.seen entry ∙ same_horizon t.0 (horizon_of mid.base t.0 mid.seen) p.stamp t p.scn)) in
+    let legal : IsLegal mid.base (mid.seen ++ entry ∷ []) = subst (λ (l : List Entry). IsLegal mid.base l) e.seen (subst (λ (b : Base). IsLegal b k'.seen) e.base e.legal) in
+    let low : horizon_of k'.base t.0 k'.seen ≤ p.stamp = (let f = may.follows.0 in omega arith) in
+    let high : p.stamp ≤ last_of k'.base t.0 k'.seen = (let f = may.follows.1 in omega arith) in
+    let decided : p.scn ≡ true → IsDecided k'.seen t.0 p.stamp = λ is. subst (λ (l : List Entry). IsDecided l t.0 p.stamp) (sym e.seen) (decided-stays mid.base t.0 p.stamp mid.seen (entry ∷ []) legal (may.follows.2 is) may.follows.1) in
+    record {
+      table = ap (λ (u : TableId). u.0) d.table ∙ number;
+      is_scn = d.is_scn;
+      within = omega arith;
+      stamp = d.stamp ∙ (ap (λ (u : ℕ). stamp_at scn u k'.base k'.seen) number ∙ ap (stamp_at scn q.table k'.base) (sym all));
+      low = subst (λ (l : List Entry). horizon_of k'.base q.table l ≤ p.stamp) (sym all) (subst (λ (u : ℕ). horizon_of k'.base u k'.seen ≤ p.stamp) number low);
+      high = subst (λ (l : List Entry). p.stamp ≤ last_of k'.base q.table l) (sym all) (subst (λ (u : ℕ). p.stamp ≤ last_of k'.base u k'.seen) number high);
+      decided = λ is. subst (λ (l : List Entry). IsDecided l q.table p.stamp) (sym all) (subst (λ (u : ℕ). IsDecided k'.seen u p.stamp) number (decided is));
+      found = subst (λ (l : List Entry). IsFound k'.base l p.found) (sym all) d.found;
+      found_table = d.found_table ∙ sym d.table;
+    }
+
+pub opened-reading : (k k' : Known) (q : Query) (t : TableId) (scn : Option ℕ) (p : Point) → t.0 ≡ q.table → DidOpen k k' t scn p → IsReading k' q scn p
+opened-reading k k' q t scn p number d = record {
+  is_open = adds-opened k k' p p.scn (subst (λ (u : TableId). Adds k k' (act.Opened u p.stamp p.scn)) (sym d.table) d.adds);
+  point = opened-point k k' q t scn p number d;
+}
+
+-- the definition in the point is the one that the query was bound to
+pub opened-bound : (k k' : Known) (q : Query) (t : TableId) (scn : Option ℕ) (p : Point) → t.0 ≡ q.table → DidOpen k k' t scn p → IsBound k q → p.found.table ≡ q.bound
+opened-bound k k' q t scn p number d h =
+    let b = bound-stays k k' q (later-ran k k' _ (ran-adds k k' (act.Opened t p.stamp p.scn) d.adds)) d.adds.extends.legal h in
+    b.is p.found.table (ap (λ (n : ℕ). table_of k'.base k'.seen n) (sym (ap (λ (u : TableId). u.0) d.found_table ∙ number)) ∙ d.found.table)
+
+pub opens : (k k' : Known) (q : Query) (scn : Option ℕ) (t : TableId) (rows : Vec Placed Global) (p : Point) (new : QueryState) → t.0 ≡ q.table → DidOpen k k' t scn p → GoesOn k' q scn p new → QueryTurns q scn (state.Opening rows) k new k' turn.Stepped
+opens k k' q scn t rows p new number d g =
+    let ran = ran-adds k k' (act.Opened t p.stamp p.scn) d.adds in
+    record {
+      acts = act.Opened t p.stamp p.scn ∷ [];
+      ran = ran;
+      fits = g.fits;
+      told = (g.going, ap (λ (u : TableId). act.Opened u p.stamp p.scn ∷ []) (sym d.table) ∙ sym g.opened_is);
+      since = λ n h. g.since n (let l = longer k k' n (later-ran k k' _ ran) h in let a = d.found.at in omega arith);
+      edge = tt;
+    }
+
+pub unopened : (k k' : Known) (q : Query) (scn : Option ℕ) (rows : Vec Placed Global) (f : QueryFault) → QueryFaultIs q scn f k' → Sees k k' → ((n : ℕ) → MadeSince n f k') → QueryTurns q scn (state.Opening rows) k state.Over k' (turn.Over (Err f))
+unopened k k' q scn rows f told h made = record {
+  acts = [];
+  ran = ran-sees k k' h;
+  fits = tt;
+  told = (refl, (told, inl refl));
+  since = λ n s. made n;
+  edge = tt;
+}
+
+pub awaits : (k k' : Known) (q : Query) (scn : Option ℕ) (t : TableId) (rows : Vec Placed Global) (stamp : ℕ) → t.0 ≡ q.table → Fits q scn (state.Opening rows) k → Refuses (open_cause t.0 scn) k k' (step.NotYet stamp) → QueryTurns q scn (state.Opening rows) k (state.Opening rows) k' (turn.Waiting stamp)
+awaits k k' q None t rows stamp number f h = absurd h.0
+awaits k k' q (Some scn) t rows stamp number f h =
+    let s = h.1 in
+    let cause = subst (λ (u : ℕ). open_cause u (Some scn) (step.NotYet stamp) k') number h.0 in
+    record {
+      acts = [];
+      ran = ran-sees k k' s;
+      fits = (f.0, bound-stays k k' q (later-grown k k' (grown-passes k k' s.passes)) s.passes.legal f.1, f.2);
+      told = (tt, refl, cause.2);
+      since = λ n le. longer k k' n (later-grown k k' (grown-passes k k' s.passes)) le;
+      edge = tt;
+    }
+
+pub below-horizon : (k k' : Known) (q : Query) (t : TableId) (h : ℕ) (scn : Option ℕ) → t.0 ≡ q.table → Refuses (open_cause t.0 scn) k k' (step.BelowHorizon h) → QueryFaultIs q scn (fault.BelowHorizon h) k' × Sees k k'
+below-horizon k k' q t h None number j = absurd j.0
+below-horizon k k' q t h (Some scn) number j = (subst (λ (u : ℕ). open_cause u (Some scn) (step.BelowHorizon h) k') number j.0, j.1)
+
+pub no-table : (k k' : Known) (q : Query) (t : TableId) (scn : Option ℕ) → t.0 ≡ q.table → Refuses (open_cause t.0 scn) k k' step.NoTable → QueryFaultIs q scn fault.NoTable k' × Sees k k'
+no-table k k' q t None number j = (ap (λ (u : ℕ). table_of k'.base k'.seen u) (sym number) ∙ j.0, j.1)
+no-table k k' q t (Some scn) number j = (ap (λ (u : ℕ). table_of k'.base k'.seen u) (sym number) ∙ j.0, j.1)
+
+pub open-closed : (k k' : Known) (q : Query) (t : TableId) (call : ℕ) (scn : Option ℕ) → Refuses (open_cause t.0 scn) k k' (step.Closed call) → QueryFaultIs q scn (fault.Closed call) k' × Sees k k'
+open-closed k k' q t call None j = (j.0, j.1)
+open-closed k k' q t call (Some scn) j = (j.0, j.1)
+
+pub open-memory : (k k' : Known) (q : Query) (t : TableId) (scn : Option ℕ) → Refuses (open_cause t.0 scn) k k' step.Memory → QueryFaultIs q scn fault.Memory k' × Sees k k'
+open-memory k k' q t None j = (tt, j.1)
+open-memory k k' q t (Some scn) j = (tt, j.1)
+
+-- 5. The closing
+
+acts_are : (b : Base) (es : List Entry) (q : Query) (scn : Option ℕ) (p : Point) → IsPointOf b es q scn p → act.Opened p.table p.stamp p.scn ∷ act.Released p.table p.stamp ∷ [] ≡ point_acts b es q scn p.found.at
+acts_are b es q scn p h =
+    let number : p.table ≡ table_number q = ap (λ (n : ℕ). record { 0 = n }) h.table in
+    ap (λ (t : TableId). act.Opened t p.stamp p.scn ∷ act.Released t p.stamp ∷ []) number
+    ∙ (ap (λ (f : Bool). act.Opened (table_number q) p.stamp f ∷ act.Released (table_number q) p.stamp ∷ []) h.is_scn
+    ∙ ap (λ (s : ℕ). act.Opened (table_number q) s (is_some scn) ∷ act.Released (table_number q) s ∷ []) h.stamp)
+
+pub closes-ok : (k k' : Known) (q : Query) (scn : Option ℕ) (p : Point) (rows : Vec Placed Global) (a : Answer) → Fits q scn (state.Closing p (Ok rows)) k → Adds k k' (act.Released p.table p.stamp)
+    → a.rows ≡ rows → a.first ≡ p.found.at → a.last ≡ length k'.seen → QueryTurns q scn (state.Closing p (Ok rows)) k state.Over k' (turn.Over (Ok a))
+closes-ok k k' q scn p rows a h adds same first last =
+    let ran = ran-adds k k' (act.Released p.table p.stamp) adds in
+    let l = later-ran k k' _ ran in
+    let point : IsPointOf k'.base k'.seen q scn p = later-point k k' q scn p l h.0.point in
+    let path : Path = h.1.0 in
+    let ended : Ended (frame_of q k' p path) k'.seen (given_of rows.items) = later-ended q p path k k' (given_of rows.items) l h.1.2 in
+    let mine : Ended (frame_of q k' p path) k'.seen (given_of a.rows.items) = subst (λ (v : Vec Placed Global). Ended (frame_of q k' p path) k'.seen (given_of v.items)) (sym same) ended in
+    record {
+      acts = act.Released p.table p.stamp ∷ [];
+      ran = ran;
+      fits = tt;
+      told = (
+        refl,
+        (
+          record {
+            point = p;
+            found = subst (λ (n : ℕ). IsFound k'.base (take n k'.seen) p.found) (sym first) point.found;
+            at = sym first;
+            path = path;
+            chosen = h.1.1;
+            answer = answer-is (frame_of q k' p path) k'.seen scn a.first a.last (given_of a.rows.items) point adds.extends.legal mine first last;
+          },
+          acts_are k'.base k'.seen q scn p point ∙ ap (point_acts k'.base k'.seen q scn) (sym first),
+          (let w = point.within in omega arith),
+          last,
+        ),
+      );
+      since = λ n s. (omega arith);
+      edge = tt;
+    }
+
+pub closes-err : (k k' : Known) (q : Query) (scn : Option ℕ) (p : Point) (f : QueryFault) → Fits q scn (state.Closing p (Err f)) k → Adds k k' (act.Released p.table p.stamp) → QueryTurns q scn (state.Closing p (Err f)) k state.Over k' (turn.Over (Err f))
+closes-err k k' q scn p f h adds =
+    let ran = ran-adds k k' (act.Released p.table p.stamp) adds in
+    let l = later-ran k k' _ ran in
+    let number : p.table ≡ table_number q = ap (λ (n : ℕ). record { 0 = n }) h.0.point.table in
+    record {
+      acts = act.Released p.table p.stamp ∷ [];
+      ran = ran;
+      fits = tt;
+      told = (
+        refl,
+        (fault_in q scn f k' (later-fault q f k k' l h.1.0), inr (p.stamp, p.scn, ap (λ (t : TableId). act.Opened t p.stamp p.scn ∷ act.Released t p.stamp ∷ []) number)),
+      );
+      since = λ n s. made-earlier n p.found.at f k' s (made-later p.found.at f k k' h.0.point.within l h.1.1);
+      edge = tt;
+    }
+
+-- 6. A whole query
+
+pub starts : (q : Query) (scn : Option ℕ) (s : QueryState) (k : Known) → IsNew s → IsBound k q → IsScn scn → SoFar q scn k k s
+starts q scn (state.Opening rows) k h b c = record { acts = []; ran = ran-none k; so_far = refl; fits = (h, b, c); going = tt; since = omega arith }
+starts q scn (state.Looking x a) k h b c = absurd h
+starts q scn (state.Consulting x r d) k h b c = absurd h
+starts q scn (state.Fixing x r d) k h b c = absurd h
+starts q scn (state.Settling x r d) k h b c = absurd h
+starts q scn (state.Closing p end) k h b c = absurd h
+starts q scn state.Over k h b c = absurd h
+
+joined : (old : QueryState) (xs ys : List Act) → outline xs ≡ opened old → outline (xs ++ ys) ≡ opened old ++ outline ys
+joined old xs ys h = outline-append xs ys ∙ ap (λ (l : List Act). l ++ outline ys) h
+
+pub steps_on : (q : Query) (scn : Option ℕ) (k0 k k' : Known) (old new : QueryState) → SoFar q scn k0 k old → QueryTurns q scn old k new k' turn.Stepped → SoFar q scn k0 k' new
+steps_on q scn k0 k k' old new h t = record {
+  acts = h.acts ++ t.acts;
+  ran = ran-then k0 k k' h.acts t.acts h.ran t.ran;
+  so_far = joined old h.acts t.acts h.so_far ∙ t.told.1;
+  fits = t.fits;
+  going = t.told.0;
+  since = t.since (length k0.seen) h.since;
+}
+
+pub waits_on : (q : Query) (scn : Option ℕ) (k0 k k' : Known) (old new : QueryState) (stamp : ℕ) → SoFar q scn k0 k old → QueryTurns q scn old k new k' (turn.Waiting stamp) → SoFar q scn k0 k' new
+waits_on q scn k0 k k' old new stamp h t = record {
+  acts = h.acts ++ t.acts;
+  ran = ran-then k0 k k' h.acts t.acts h.ran t.ran;
+  so_far = joined old h.acts t.acts h.so_far ∙ t.told.1;
+  fits = t.fits;
+  going = t.told.0;
+  since = t.since (length k0.seen) h.since;
+}
+
+pub ends_as : (q : Query) (scn : Option ℕ) (k0 k k' : Known) (old new : QueryState) (r : Result Answer QueryFault) → SoFar q scn k0 k old → QueryTurns q scn old k new k' (turn.Over r) → RanQuery q scn k0 k' r
+ends_as q scn k0 k k' old new (Ok a) h t = record {
+  acts = h.acts ++ t.acts;
+  ran = ran-then k0 k k' h.acts t.acts h.ran t.ran;
+  outcome = subst (λ (l : List Act). IsOutcome q scn l k' (Ok a)) (sym (joined old h.acts t.acts h.so_far)) t.told.1;
+  since = t.since (length k0.seen) h.since;
+}
+ends_as q scn k0 k k' old new (Err f) h t = record {
+  acts = h.acts ++ t.acts;
+  ran = ran-then k0 k k' h.acts t.acts h.ran t.ran;
+  outcome = subst (λ (l : List Act). IsOutcome q scn l k' (Err f)) (sym (joined old h.acts t.acts h.so_far)) t.told.1;
+  since = t.since (length k0.seen) h.since;
+}

@@ -1,0 +1,91 @@
+// A whole query.
+ghost use Rattle.std.specs.Prelude.{◌≡◌};
+ghost use Rattle.px_calls.specs.Requires.{IsScn};
+ghost use Rattle.px_scan.specs.Turns.{Fits, IsBound, IsGoing, IsNew, QueryTurns, RanQuery};
+
+use crate::answer::{Answer, QueryFault, QueryTurn};
+use crate::asks::Asks;
+use crate::machine::{self, QueryState};
+use px_calls::Steps;
+use std::alloc::Global;
+use std::sync::Wait;
+use std::{mem, thread};
+
+/// A query on its way. Other seats may act between two of its steps.
+pub struct QueryRun<Q> {
+    query: Q,
+    scn: Option<u64>,
+    state: QueryState,
+    alloc: Global,
+}
+
+impl<Q: Asks> QueryRun<Q> {
+    /// A run that has made no step.
+    pub fn new(alloc: Global, query: Q, scn: Option<u64>) -> QueryRun<Q>
+        ensures query { result.query ≡ query }
+        ensures scn { result.scn ≡ scn }
+        ensures state { IsNew result.state }
+    {
+        QueryRun {
+            query,
+            scn,
+            state: QueryState::Opening(Vec::new(alloc)),
+            alloc,
+        }
+    }
+
+    /// Makes one call.
+    pub fn step<S: Steps>(&mut self, s: &mut S) -> QueryTurn
+        requires fits { Fits (Q.asked self.old.query) self.old.scn self.old.state (S.known s.old) }
+        requires going { IsGoing self.old.state }
+        ensures query { self.new.query ≡ self.old.query }
+        ensures scn { self.new.scn ≡ self.old.scn }
+        ensures turns { QueryTurns (Q.asked self.old.query) self.old.scn self.old.state (S.known s.old) self.new.state (S.known s.new) result }
+    {
+        let state = mem::replace(&mut self.state, QueryState::Over);
+        let (state, turn) = machine::advance(s, self.alloc, &self.query, self.scn, state);
+        machine::let_go(mem::replace(&mut self.state, state));
+        turn
+    }
+
+    /// The query of a run that is over.
+    pub fn finish(self) -> Q
+        requires { self.state ≡ QueryState.Over }
+        ensures { result ≡ self.query }
+    {
+        let QueryRun {
+            query,
+            scn: _scn,
+            state,
+            alloc: _alloc,
+        } = self;
+        machine::let_go(state);
+        query
+    }
+}
+
+/// Answers a query: as of a timestamp exactly the rows of the table then, and else a current answer.
+pub fn run_query<R: Wait, Q: Asks + Drop, S: Steps>(
+    rt: &R,
+    alloc: Global,
+    s: &mut S,
+    query: Q,
+    scn: Option<u64>,
+) -> Result<Answer, QueryFault>
+    requires bound { IsBound (S.known s.old) (Q.asked query) }
+    requires scn { IsScn scn }
+    ensures { RanQuery (Q.asked query) scn (S.known s.old) (S.known s.new) result }
+{
+    let mut run = QueryRun::new(alloc, query, scn);
+    'steps: for _ in rt.forever() {
+        match run.step(s) {
+            QueryTurn::Stepped => {}
+            QueryTurn::Waiting { .. } => thread::yield_now(),
+            QueryTurn::Over(result) => {
+                let _query = run.finish();
+                return result;
+            }
+        }
+    }
+    unreachable!()
+}
