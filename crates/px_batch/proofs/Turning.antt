@@ -1,30 +1,27 @@
 -- The steps of a batch, arm by arm, over what a seat knows.
-use Rattle.std.proofs.Common.{ℕ, ◌≡◌, ◌≢◌, ◌≤◌, ◌+◌, Ok, Err, Result, Option, None, Some, List, [], ◌∷◌, ◌++◌, length, drop, refl, sym, ◌∙◌, ap, subst, arith, length-append, ◌⊎◌, inl, inr}
+use Rattle.std.proofs.Common.{ℕ, ◌≡◌, ◌≤◌, ◌+◌, Ok, Err, Result, Some, List, [], ◌∷◌, ◌++◌, length, drop, refl, sym, ◌∙◌, ap, subst, arith, length-append, ◌⊎◌, inl, inr}
 use Rattle.px_values.specs.declared.change.Change.{Change}
 use Rattle.px_values.specs.declared.name.TableId.{TableId}
 use Rattle.px_trail.specs.declared.entry.Act.{Act}
 use Rattle.px_trail.specs.declared.entry.Act.TheVariants as act
-use Rattle.px_trail.specs.declared.entry.Entry.{Entry}
 use Rattle.px_trail.specs.Answers.{IsAmong}
 use Rattle.px_trail.specs.Batches.{Closing, Marking, Verifying, Writing}
 use Rattle.px_trail.specs.Trail.{acts_by, closing_call}
-use Rattle.px_calls.specs.declared.fault.StepFault.{StepFault}
 use Rattle.px_calls.specs.declared.fault.StepFault.TheVariants as step
 use Rattle.px_calls.specs.declared.ticket.Receipt.{Receipt}
 use Rattle.px_calls.specs.declared.ticket.Ticket.{Ticket}
 use Rattle.px_calls.specs.Known.{Known, Passes, Sees, Adds, Ran, HasMade, outline}
-use Rattle.px_calls.specs.Causes.{Refuses, rows_cause, upkeep_cause, write_cause}
+use Rattle.px_calls.specs.Causes.{Refuses, rows_cause, write_cause}
 use Rattle.px_calls.specs.Calls.{DidBegin, Finds, IsReceipt, WroteRows}
-use Rattle.px_calls.specs.Requires.{AreFitting, CanAbandon, CanEnd, IsShut, TicketIn}
+use Rattle.px_calls.specs.Requires.{AreFitting, CanAbandon, IsShut, TicketIn}
 use Rattle.px_calls.proofs.Runs.{adds-begun, adds-marked, adds-shut, adds-verified, closing-grows, outline-append, passes-made, passes-shut, passes-ticket, ran-adds, ran-made, ran-none, ran-sees, ran-then, refuses-ticket, sees-ticket}
 use Rattle.px_calls.proofs.Stays.{grown-fits, passes-fits, ran-since, since-stays}
 use Rattle.px_batch.specs.declared.batch.BatchFault.{BatchFault}
 use Rattle.px_batch.specs.declared.batch.BatchFault.TheVariants as fault
 use Rattle.px_batch.specs.declared.batch.BatchState.{BatchState}
 use Rattle.px_batch.specs.declared.batch.BatchState.TheVariants as state
-use Rattle.px_batch.specs.declared.batch.BatchTurn.{BatchTurn}
 use Rattle.px_batch.specs.declared.batch.BatchTurn.TheVariants as turn
-use Rattle.px_batch.specs.Turns.{FaultIs, Fits, HasEnded, HasLeft, IsGoing, IsOutcome, IsSince, IsSinceThen, IsStopping, MadeSince, RanBatch, SoFar, StopIs, Turns, Waits, begun}
+use Rattle.px_batch.specs.Turns.{FaultIs, Fits, IsGoing, IsOutcome, IsSince, IsSinceThen, IsStopping, MadeSince, RanBatch, SoFar, StopIs, Turns, begun}
 
 -- 1. Places
 

@@ -1,5 +1,5 @@
 -- What one step of a batch does.
-use Rattle.std.specs.Prelude.{ℕ, ◌≡◌, ◌≢◌, ◌≤◌, Ok, Err, List, [], ◌∷◌, ◌++◌, ◌⊎◌, Result, length, drop}
+use Rattle.std.specs.Prelude.{ℕ, ◌≡◌, ◌≤◌, Ok, Err, List, [], ◌∷◌, ◌++◌, ◌⊎◌, Result, length, drop}
 use Rattle.px_values.specs.Limits.{most_of}
 use Rattle.px_values.specs.declared.change.Change.{Change}
 use Rattle.px_values.specs.declared.name.TableId.{TableId}

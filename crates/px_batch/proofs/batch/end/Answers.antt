@@ -1,6 +1,3 @@
-use Rattle.std.proofs.Common.{◌≡◌, refl}
-use Rattle.px_batch.specs.declared.batch.BatchFault.TheVariants as fault
-use Rattle.px_batch.specs.declared.batch.BatchState.TheVariants as state
 use Rattle.px_batch.proofs.Turning as turning
 use Rattle.px_batch.proofs.Turning.{early_begin, early_settle}
 use Rattle.px_batch.proofs.batch.end.Goals as goal

@@ -1,5 +1,4 @@
-use Rattle.std.proofs.Common.{◌≡◌, ◌∙◌}
-use Rattle.px_batch.specs.declared.batch.BatchState.TheVariants as state
+use Rattle.std.proofs.Common.{◌∙◌}
 use Rattle.px_batch.proofs.Turning as turning
 use Rattle.px_batch.proofs.run.run_batch.Goals as goal
 
