@@ -18,7 +18,8 @@ use Rattle.px_forms.specs.Indexes.{shape_at}
 use Rattle.px_indexed.specs.Worlds.{world_at, begin_event, change_event, row_event, history_at, Indexed}
 use Rattle.px_indexed.specs.Kept.{IndexKept, RowsKept}
 use Rattle.px_world.proofs.IndexCells.{moves_kept}
-use Rattle.px_history.proofs.Changes.{both_same, and_false}
+use Rattle.px_history.proofs.Changes.{both_same}
+use Rattle.px_trail.proofs.Orders.{and_false}
 use Rattle.px_history.proofs.Ties.{batch_here, batch_there, batch_wrote, batch_else, batch_ended, batch_other}
 use Rattle.px_indexed.proofs.IndexSteps.{begin_moves, write_moves, end_moves, phase_moves}
 use Rattle.px_values.specs.States.{Shape as RowShape}

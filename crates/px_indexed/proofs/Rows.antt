@@ -14,7 +14,8 @@ use Rattle.px_trail.specs.Legal.{Follows, IsEndable, IsLegal, IsPhased}
 use Rattle.px_trail.proofs.Growth.{batch_of-snoc, horizon-snoc, last-snoc, legal-induct}
 use Rattle.px_trail.proofs.Batches.{batch-sound, in_closing, in_marking, in_verifying, last_step-le}
 use Rattle.px_history.specs.Rows.{base_history, history_from, Tied}
-use Rattle.px_history.proofs.Changes.{filter-has, from-snoc, has-change}
+use Rattle.px_history.proofs.Changes.{from-snoc}
+use Rattle.px_trail.proofs.Orders.{filter-has, has-change}
 use Rattle.px_history.proofs.Histories.{batch-above, tied_by}
 use Rattle.px_history.proofs.Ties.{CanEnd, tied_base}
 use Rattle.px_indexed.specs.Worlds.{history_at}

@@ -10,7 +10,7 @@ use Rattle.px_values.proofs.Equal.{row_order-Decides}
 use Rattle.px_values.specs.Order.{row_order}
 use Rattle.px_trail.specs.Batches.{change_of, has, rows_of}
 use Rattle.px_openbatches.specs.Pending.{IsHeld, is_left, meets, flagged, meet_flags, HeldBatch}
-use Rattle.px_history.proofs.Changes.{has-append, has-filter, filter-has}
+use Rattle.px_trail.proofs.Orders.{has-append, has-filter, filter-has}
 use Rattle.px_openbatches.proofs.RowViews.{has_is_some}
 
 -- the flags of a batch when another begins

@@ -16,7 +16,8 @@ use Rattle.px_groupworld.specs.Group.{TableForm, GroupData, no_open}
 use Rattle.px_groupworld.specs.Asks.{CanMark, CanVerify}
 use Rattle.px_openbatches.specs.Pending.{IsHeld, to_verify, HeldBatch, IsMet}
 use Rattle.px_openbatches.specs.Opens.{IsReady, form_in}
-use Rattle.px_history.proofs.Changes.{has-filter, filter-has, change-has}
+use Rattle.px_history.proofs.Changes.{change-has}
+use Rattle.px_trail.proofs.Orders.{has-filter, filter-has}
 use Rattle.px_openbatches.proofs.RowViews.{has_is_some}
 use Rattle.px_openbatches.proofs.Mades.{reads_marks, reads_closes, reads_writes, marks_below, closes_below}
 use Rattle.px_openbatches.proofs.Pendings.{some_none}

@@ -19,7 +19,8 @@ use Rattle.px_indexed.specs.Kept.{RowsKept}
 use Rattle.px_openbatches.specs.Made.{RowCells}
 use Rattle.px_openbatches.specs.Pending.{left_as, left_of, is_left, is_in, IsPendingOn, IsWithin, IsRisingFrom, IsHeld, HeldKept, meets, is_pending_in, fresh_held, held_begun, writes_rows, held_wrote, held_ended, HeldBatch, IsMet}
 use Rattle.px_history.proofs.Ties.{batch_here, batch_there}
-use Rattle.px_history.proofs.Changes.{has-append, has-filter, filter-has, has-change, change-has}
+use Rattle.px_history.proofs.Changes.{change-has}
+use Rattle.px_trail.proofs.Orders.{has-append, has-filter, filter-has, has-change}
 use Rattle.px_indexed.proofs.EntrySteps.{there_wrote, here_wrote, there_ended, here_ended, there_phase, here_phase}
 use Rattle.px_openbatches.proofs.Pendings.{some_none, whole_written}
 use Rattle.px_values.specs.States.{Shape as RowShape}

@@ -24,7 +24,8 @@ use Rattle.px_indexed.specs.Kept.{RowsKept, DataKept}
 use Rattle.px_cells.specs.Contents.{value_at}
 use Rattle.px_forms.specs.Rows.{DataForm}
 use Rattle.px_openbatches.specs.Pending.{left_as, left_of, applied_if, after_pending, is_in, IsRisingFrom, IsHeld, HeldKept, HeldBatch}
-use Rattle.px_history.proofs.Changes.{state_at-down, expected_written, written-down, filter-has, has-change, from-snoc}
+use Rattle.px_history.proofs.Changes.{state_at-down, expected_written, written-down, from-snoc}
+use Rattle.px_trail.proofs.Orders.{filter-has, has-change}
 use Rattle.px_history.proofs.Ties.{above, step_is}
 use Rattle.px_indexed.specs.Worlds.{history_at}
 

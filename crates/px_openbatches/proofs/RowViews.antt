@@ -14,7 +14,8 @@ use Rattle.px_cells.specs.CellData.{CellData}
 use Rattle.px_values.proofs.Equal.{row_order-Decides}
 use Rattle.px_values.specs.Order.{row_order}
 use Rattle.px_trail.specs.Batches.{change_of, has, is_distinct, rows_of}
-use Rattle.px_history.proofs.Changes.{has-change, change-has}
+use Rattle.px_history.proofs.Changes.{change-has}
+use Rattle.px_trail.proofs.Orders.{has-change}
 use Rattle.px_world.specs.World.{Status, Absent, Unverified, Verified}
 use Rattle.px_world.specs.Events.{put_over}
 use Rattle.px_cells.specs.Contents.{Contents, stands_at, value_at}

@@ -20,7 +20,8 @@ use Rattle.px_forms.specs.Indexes.{shape_at}
 use Rattle.px_groupworld.specs.Group.{TableForm, GroupData, shape_in, world_in}
 use Rattle.px_groupworld.specs.Steps.{Does, at_index}
 use Rattle.px_openbatches.specs.Pending.{IsHeld, to_verify, meets, is_left, HeldBatch}
-use Rattle.px_history.proofs.Changes.{has-filter, change-has}
+use Rattle.px_history.proofs.Changes.{change-has}
+use Rattle.px_trail.proofs.Orders.{has-filter}
 use Rattle.px_openbatches.proofs.Pendings.{whole_written}
 use Rattle.px_trail.specs.declared.entry.Entry.{Entry}
 use Rattle.px_groupworld.specs.Group.{GroupKept, no_part}
