@@ -1,0 +1,5 @@
+pub mod Stamped
+pub mod WorldStops
+pub mod TableStops
+pub mod StepStops
+pub mod Files
