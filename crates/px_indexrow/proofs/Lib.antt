@@ -1,0 +1,4 @@
+pub mod ClosesSeen
+pub mod KeysHeld
+pub mod MarksSeen
+pub mod Versions
