@@ -19,10 +19,10 @@ use Rattle.px_world.specs.IndexCells.{IndexCells, no_cells, over, status_over, c
 use Rattle.px_world.proofs.IndexCells.{same_cells}
 use Rattle.px_forms.specs.Indexes.{IndexForm, IsIndexForm, IsPlaced, view_of, view_at, status_in, cells_if, shape_at}
 use Rattle.px_forms.proofs.Views.{view_append, view_empty}
-use Rattle.px_indexrow.specs.Lists.{status_cell, family_cell, left_key, status_if, family_if, closes_of, cells_for}
+use Rattle.px_indexrow.specs.Lists.{status_cell, family_cell, erase_cell, left_key, status_if, family_if, closes_of, cells_for}
 use Rattle.px_indexrow.proofs.MarksSeen.{closes_owned, rows_view}
 
-swapped : (a c : List ℕ) → pointwise nat_eq a c ≡ pointwise nat_eq c a
+pub swapped : (a c : List ℕ) → pointwise nat_eq a c ≡ pointwise nat_eq c a
 swapped a c = elim (cases_Bool (pointwise nat_eq a c)) [
   | inl h ↦ h ∙ sym ((bytes_eq-Decides c a).1 (sym ((bytes_eq-Decides a c).0 h)))
   | inr h ↦ elim (cases_Bool (pointwise nat_eq c a)) [
@@ -32,7 +32,7 @@ swapped a c = elim (cases_Bool (pointwise nat_eq a c)) [
 ]
 
 module _ (f : IndexForm) (g : IsIndexForm f) (placed : IsPlaced f) (r : List Value) (k0 : List ℕ) (own : f.owns r k0 ≡ true) (s : ℕ) where
-  abbrev here : List ℕ → ℕ → Bool
+  abbrev pub here : List ℕ → ℕ → Bool
   here k u = nat_eq s u && pointwise nat_eq k k0
 
   owned_if : (k : List ℕ) → pointwise nat_eq k k0 ≡ true → f.owns r k ≡ true
@@ -63,7 +63,7 @@ module _ (f : IndexForm) (g : IsIndexForm f) (placed : IsPlaced f) (r : List Val
   no_column : (c0 : CellData) → c0.qualifier < 2 → (k : List ℕ) (u c : ℕ) (d : CellKind) → (f.owns r k && nat_lt c f.columns) ≡ true → value_at (c0 ∷ []) k (f.place c) u d ≡ None
   no_column c0 l k u c d o = other_place c0 k (f.place c) u d (λ e. (let i = placed.above c (ltb-true c f.columns (and_parts (f.owns r k) (nat_lt c f.columns) o).1) in absurd (omega arith)))
 
-  abbrev verified_alone : IndexCells (List ℕ) (List ℕ)
+  abbrev pub verified_alone : IndexCells (List ℕ) (List ℕ)
   verified_alone = record { status = λ k u. cond (here k u) Verified Absent; put = λ k u c. None; del = λ k u c. false; fam = λ k u. false; ver = λ k u. false }
 
   one_verified : (v a c : Bool) → (c ≡ true → v ≡ true) → (d : Bool) → d ≡ c → cond v (status_in (cond (d && (true && (a && true))) (Some (1 ∷ [])) None)) Absent ≡ cond (a && c) Verified Absent
@@ -92,7 +92,7 @@ module _ (f : IndexForm) (g : IsIndexForm f) (placed : IsPlaced f) (r : List Val
       (λ k u. off_if (f.owns r k) (value_at (status_cell k0 s 1 ∷ []) k 0 u DeleteFamily) (λ o. other_place (status_cell k0 s 1) k 0 u DeleteFamily (λ e. absurd (omega arith))))
       (λ k u. off_if (f.owns r k) (value_at (status_cell k0 s 1 ∷ []) k 0 u DeleteFamilyVersion) (λ o. other_place (status_cell k0 s 1) k 0 u DeleteFamilyVersion (λ e. absurd (omega arith))))
 
-  abbrev retired_alone : IndexCells (List ℕ) (List ℕ)
+  abbrev pub retired_alone : IndexCells (List ℕ) (List ℕ)
   retired_alone = record { status = λ k u. Absent; put = λ k u c. None; del = λ k u c. false; fam = λ k u. here k u; ver = λ k u. false }
 
   one_family : (v a c : Bool) (x : List ℕ) → (c ≡ true → v ≡ true) → (d : Bool) → d ≡ c → (v && is_some (cond (d && (true && (a && true))) (Some x) None)) ≡ (a && c)
@@ -126,6 +126,18 @@ module _ (f : IndexForm) (g : IsIndexForm f) (placed : IsPlaced f) (r : List Val
       (λ k u c. off_if (f.owns r k && nat_lt c f.columns) (value_at (family_cell k0 s ∷ []) k (f.place c) u DeleteColumn) (no_column (family_cell k0 s) (omega arith) k u c DeleteColumn))
       (λ k u. one_family (f.owns r k) (nat_eq s u) (pointwise nat_eq k k0) [] (owned_if k) (pointwise nat_eq k0 k) (swapped k0 k))
       (λ k u. no_version (f.owns r k) (nat_eq s u) (pointwise nat_eq k0 k) [])
+
+  abbrev pub erased_alone : IndexCells (List ℕ) (List ℕ)
+  erased_alone = record { status = λ k u. Absent; put = λ k u c. None; del = λ k u c. false; fam = λ k u. false; ver = λ k u. here k u }
+
+  pub view_erased : view_at f r (erase_cell k0 s ∷ []) ≡ erased_alone
+  unfolding value_at
+  view_erased = same_cells _ _
+      (λ k u. absent_if (f.owns r k) (value_at (erase_cell k0 s ∷ []) k 1 u Put) (other_place (erase_cell k0 s) k 1 u Put (λ e. absurd (omega arith))))
+      (λ k u c. none_if (f.owns r k && nat_lt c f.columns) (value_at (erase_cell k0 s ∷ []) k (f.place c) u Put) (no_column (erase_cell k0 s) (omega arith) k u c Put))
+      (λ k u c. off_if (f.owns r k && nat_lt c f.columns) (value_at (erase_cell k0 s ∷ []) k (f.place c) u DeleteColumn) (no_column (erase_cell k0 s) (omega arith) k u c DeleteColumn))
+      (λ k u. no_version (f.owns r k) (nat_eq s u) (pointwise nat_eq k0 k) [])
+      (λ k u. one_family (f.owns r k) (nat_eq s u) (pointwise nat_eq k k0) [] (owned_if k) (pointwise nat_eq k0 k) (swapped k0 k))
 
 -- ---- the closes of a row are those of its world
 

@@ -1,4 +1,5 @@
 pub mod ClosesSeen
+pub mod FixesSeen
 pub mod KeysHeld
 pub mod MarksSeen
 pub mod Versions

@@ -114,7 +114,7 @@ bytes_swap a c = elim (cases_Bool (pointwise nat_eq a c)) [
 
 -- the view of a list by what stands at its places
 module _ (f : IndexForm) (g : IsIndexForm f) (placed : IsPlaced f) (r : List Value) (k0 : List ℕ) (own : f.owns r k0 ≡ true) (s : ℕ) where
-  abbrev here : List ℕ → ℕ → Bool
+  abbrev pub here : List ℕ → ℕ → Bool
   here k u = nat_eq s u && pointwise nat_eq k k0
 
   -- what is at another key or stamp than these is none
@@ -260,7 +260,7 @@ module _ (f : IndexForm) (g : IsIndexForm f) (placed : IsPlaced f) (r : List Val
 
   -- ---- the cells of the first columns
 
-  abbrev columns_alone : ℕ → (ℕ → Option (List ℕ)) → IndexCells (List ℕ) (List ℕ)
+  abbrev pub columns_alone : ℕ → (ℕ → Option (List ℕ)) → IndexCells (List ℕ) (List ℕ)
   columns_alone m val = record { status = λ k u. Absent; put = λ k u c. cond (here k u && nat_lt c m) (val c) None; del = λ k u c. here k u && (nat_lt c m && is_none (val c)); fam = λ k u. false; ver = λ k u. false }
 
   put_next : (a : Bool) (m c : ℕ) (val : ℕ → Option (List ℕ)) → put_over (cond (a && nat_eq c m) (val m) None) (cond (a && nat_lt c m) (val c) None) ≡ cond (a && nat_lt c (suc m)) (val c) None
@@ -291,7 +291,7 @@ module _ (f : IndexForm) (g : IsIndexForm f) (placed : IsPlaced f) (r : List Val
       or_none true = refl
       or_none false = refl
 
-  view_columns : (state : RowState) (m : ℕ) → m ≤ f.columns → view_at f r (column_cells f k0 s state m) ≡ columns_alone m (f.col state)
+  pub view_columns : (state : RowState) (m : ℕ) → m ≤ f.columns → view_at f r (column_cells f k0 s state m) ≡ columns_alone m (f.col state)
   unfolding column_cells
   view_columns state zero l = view_empty f r ∙ same_cells no_cells (columns_alone 0 (f.col state)) (λ k u. refl)
       (λ k u c. sym (ap (λ v. cond (here k u && v) (f.col state c) None) (le-ltb c 0 (omega arith)) ∙ no (here k u) (f.col state c)))
