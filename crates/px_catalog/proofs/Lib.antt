@@ -1,0 +1,4 @@
+pub mod Holding
+pub mod Opening
+pub mod Rooms
+pub mod Values

@@ -1,0 +1,4 @@
+pub mod Reading
+pub mod Catalogue
+pub mod Damage
+pub mod inner
