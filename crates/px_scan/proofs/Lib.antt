@@ -1,4 +1,4 @@
 pub mod Quieting
-
 pub mod Turning
 pub mod Going
+pub mod Chaining

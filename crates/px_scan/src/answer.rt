@@ -20,20 +20,13 @@ pub struct Answer {
 #[derive(Clone, Copy)]
 pub enum QueryFault {
     NoTable,
-    BelowHorizon {
-        horizon: u64,
-    },
+    BelowHorizon { horizon: u64 },
     /// The chosen path lacks a column that the query names.
     IndexJoin,
     ReadFault,
     WriteFault,
-    Damaged {
-        file: u64,
-        place: u64,
-    },
-    Closed {
-        call: u64,
-    },
+    Damaged { file: u64, place: u64 },
+    Closed { call: u64 },
     Memory,
 }
 
@@ -42,8 +35,6 @@ pub enum QueryFault {
 pub enum QueryTurn {
     Stepped,
     /// The batch of this stamp, at or below the point, isn't written yet.
-    Waiting {
-        stamp: u64,
-    },
+    Waiting { stamp: u64 },
     Over(Result<Answer, QueryFault>),
 }

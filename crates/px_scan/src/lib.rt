@@ -9,10 +9,12 @@
 mod answer;
 mod asks;
 mod keys;
+mod laws;
 mod machine;
 mod run;
 
 pub use answer::{Answer, Placed, QueryFault, QueryTurn};
 pub use asks::{Asks, PathFault};
+pub use laws::{law_doubts, law_turns};
 pub use machine::{QueryState, Rest, Scan};
 pub use run::{QueryRun, run_query};

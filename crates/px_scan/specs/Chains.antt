@@ -1,0 +1,55 @@
+-- A query's turns, one after another.
+use Rattle.std.specs.Prelude.{ℕ, Option, Err, List, [], ◌∷◌}
+use Rattle.px_trail.specs.Answers.{IsAmong}
+use Rattle.px_calls.specs.declared.query.Doubt.{Doubt}
+use Rattle.px_calls.specs.declared.query.Fixing.{Fixing}
+use Rattle.px_calls.specs.declared.query.Held.{Held}
+use Rattle.px_calls.specs.declared.query.Point.{Point}
+use Rattle.px_calls.specs.Calls.{DidConsult, DidFix}
+use Rattle.px_calls.specs.Known.{Known, Passes}
+use Rattle.px_gather.specs.Query.{Query}
+use Rattle.px_scan.specs.declared.answer.QueryTurn.{QueryTurn}
+use Rattle.px_scan.specs.declared.machine.QueryState.{QueryState}
+use Rattle.px_scan.specs.declared.machine.QueryState.TheVariants as state
+use Rattle.px_scan.specs.Turns.{QueryTurns}
+
+-- a step: what the seat knew before and after its call, the state then, and what it came to
+pub record Step : Type 0 where
+  pub before : Known
+  pub after : Known
+  pub state : QueryState
+  pub turn : QueryTurn
+
+-- steps from a state on, with others' entries before each
+abbrev pub AreSteps : Query → Option ℕ → QueryState → Known → List Step → Type 0
+AreSteps q scn s k [] = Unit {0}
+AreSteps q scn s k (o ∷ os) = Passes k o.before × QueryTurns q scn s o.before o.state o.after o.turn × AreSteps q scn o.state o.after os
+
+abbrev pub state_after : QueryState → List Step → QueryState
+state_after s [] = s
+state_after s (o ∷ os) = state_after o.state os
+
+-- the state tells no fault
+abbrev pub IsUnfaulted : QueryState → Type 0
+IsUnfaulted (state.Closing p (Err f)) = ⊥
+IsUnfaulted s = Unit {0}
+
+abbrev pub AreUnfaulted : List Step → Type 0
+AreUnfaulted [] = Unit {0}
+AreUnfaulted (o ∷ os) = IsUnfaulted o.state × AreUnfaulted os
+
+-- one of the steps fixed the doubt
+pub record HasFix (d : Doubt) (os : List Step) : Type 0 where
+  pub step : Step
+  pub among : IsAmong step os
+  pub answer : Fixing
+  pub fixed : DidFix step.before step.after d answer
+
+-- one of the steps consulted the doubt, and one fixed it as that left it
+pub record IsSettled (p : Point) (d : Doubt) (os : List Step) : Type 0 where
+  pub step : Step
+  pub among : IsAmong step os
+  pub left : Doubt
+  pub held : Option Held
+  pub consulted : DidConsult step.before step.after p d left held
+  pub has_fix : HasFix left os

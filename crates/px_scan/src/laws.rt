@@ -1,0 +1,29 @@
+//! How a query under way goes on, whoever makes its steps.
+ghost use Rattle.std.specs.Prelude.{◌≡◌, ◌≤◌, ℕ, List, Option, Result, length};
+ghost use Rattle.px_calls.specs.declared.query.Doubt.{Doubt as Doubts};
+ghost use Rattle.px_calls.specs.Known.{Known, Passes};
+ghost use Rattle.px_calls.specs.Requires.{IsScn};
+ghost use Rattle.px_gather.specs.Query.{Query};
+ghost use Rattle.px_scan.specs.declared.answer.Answer.{Answer as Answers};
+ghost use Rattle.px_scan.specs.declared.answer.QueryFault.{QueryFault as Faults};
+ghost use Rattle.px_scan.specs.declared.answer.QueryTurn.TheVariants.{Stepped, Waiting, Over};
+ghost use Rattle.px_scan.specs.declared.machine.QueryState.{QueryState as States};
+ghost use Rattle.px_scan.specs.declared.machine.QueryState.TheVariants as query_state;
+ghost use Rattle.px_scan.specs.declared.machine.Rest.{Rest as Rests};
+ghost use Rattle.px_scan.specs.declared.machine.Scan.{Scan as Scans};
+ghost use Rattle.px_scan.specs.Chains.{AreSteps, AreUnfaulted, IsSettled, Step, state_after};
+ghost use Rattle.px_scan.specs.Turns.{Fits, IsBound, IsNew, QueryTurns, RanQuery, SoFar};
+
+/// Others' entries between two steps leave a query under way as it is; its own steps carry it on, and its last one is its answer.
+pub fn law_turns()
+    ensures others { (q : Query) → (scn : Option ℕ) → (s : States) → (k : Known) → (k' : Known) → Passes k k' → Fits q scn s k → Fits q scn s k' }
+    ensures starts { (q : Query) → (scn : Option ℕ) → (s : States) → (k : Known) → IsNew s → IsBound k q → IsScn scn → SoFar q scn k k s }
+    ensures steps { (q : Query) → (scn : Option ℕ) → (k0 : Known) → (k : Known) → (k' : Known) → (old : States) → (new : States) → SoFar q scn k0 k old → QueryTurns q scn old k new k' Stepped → SoFar q scn k0 k' new }
+    ensures waits { (q : Query) → (scn : Option ℕ) → (k0 : Known) → (k : Known) → (k' : Known) → (old : States) → (new : States) → (stamp : ℕ) → SoFar q scn k0 k old → QueryTurns q scn old k new k' (Waiting stamp) → SoFar q scn k0 k' new }
+    ensures ends { (q : Query) → (scn : Option ℕ) → (k0 : Known) → (k : Known) → (k' : Known) → (old : States) → (new : States) → (r : Result Answers Faults) → SoFar q scn k0 k old → QueryTurns q scn old k new k' (Over r) → RanQuery q scn k0 k' r }
+{}
+
+/// A doubt that is to be consulted is consulted, and then fixed as that left it, where a query comes to its end without a fault.
+pub fn law_doubts()
+    ensures { (q : Query) → (scn : Option ℕ) → (x : Scans) → (r : Rests) → (d : Doubts) → (k : Known) → (os : List Step) → AreSteps q scn (query_state.Consulting x r d) k os → AreUnfaulted os → state_after (query_state.Consulting x r d) os ≡ query_state.Over → IsSettled x.point d os }
+{}
