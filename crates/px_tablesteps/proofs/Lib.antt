@@ -1,3 +1,4 @@
 pub mod Lists
 pub mod Shuts
 pub mod Steps
+pub mod Upkeep

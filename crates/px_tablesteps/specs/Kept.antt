@@ -4,7 +4,7 @@ use Rattle.std.specs.List.{AllByRecursion}
 use Rattle.px_values.specs.declared.row.Value.{Value}
 use Rattle.px_trail.specs.declared.entry.Entry.{Entry}
 use Rattle.px_groupworld.specs.Group.{TableForm, GroupData, GroupKept, OpenBatch, no_part}
-use Rattle.px_groupworld.specs.Steps.{Events, Does}
+use Rattle.px_groupworld.specs.Steps.{Bears, Events, Does, born_data}
 use Rattle.px_openbatches.specs.Pending.{HeldBatch, is_left}
 use Rattle.px_openbatches.specs.Opens.{AreClosed, IsNoBirthOf, OpensKept}
 
@@ -40,3 +40,8 @@ pub record IsQuietStep (e : Events) (v v' : GroupData) : Type 0 where
   pub opens : v'.opens ≡ v.opens
   pub numbers : (i : ℕ) → i < length v.indexes → (get_or v'.indexes i no_part).id ≡ (get_or v.indexes i no_part).id
   pub born : (i : ℕ) → i < length v.indexes → (get_or v'.indexes i no_part).birth ≡ (get_or v.indexes i no_part).birth
+
+-- an index is born: the table with it is kept, the open batches stay as they are, and nothing comes at the other indexes
+pub record TableBears (f : TableForm) (id s : ℕ) (es : List Entry) (v : GroupData) (es' : List Entry) (hs : List HeldBatch) : Type 0 where
+  pub kept : TableKept f es' (born_data id s v) hs
+  pub bears : Bears f id s es v es'

@@ -5,7 +5,7 @@
 //! Definitions and laws, no code. The group of a table's regions is the code that makes these steps.
 #![tactic(auto)]
 
-ghost use Rattle.std.specs.Prelude.{◌≡◌, ◌<◌, ◌≤◌, ◌+◌, ◌++◌, ◌∷◌, [], ℕ, Bool, true, List, length, get_or, map, is_some};
+ghost use Rattle.std.specs.Prelude.{◌≡◌, ◌<◌, ◌≤◌, ◌+◌, ◌++◌, ◌∷◌, [], ℕ, Bool, true, List, length, get_or, map, Some, is_some};
 ghost use Rattle.std.specs.List.{AllByRecursion};
 ghost use Rattle.std.proofs.Math.ListN.{set};
 ghost use Rattle.px_cells.specs.CellData.{CellData};
@@ -14,23 +14,23 @@ ghost use Rattle.px_cells.specs.Order.{ReadsSame};
 ghost use Rattle.px_values.specs.declared.row.Value.{Value as ColumnValue};
 ghost use Rattle.px_values.specs.declared.change.Change.{Change as RowChange};
 ghost use Rattle.px_values.specs.declared.name.TableId.{TableId as TableNumber};
-ghost use Rattle.px_trail.specs.declared.entry.Act.TheVariants.{Begun, Wrote, Ended, Phase};
+ghost use Rattle.px_trail.specs.declared.entry.Act.TheVariants.{Begun, Wrote, Ended, Phase, Raised};
 ghost use Rattle.px_trail.specs.declared.entry.Entry.{Entry as Entries};
 ghost use Rattle.px_trail.specs.Batches.{IsConcurrent, IsIn, Marking, Verifying, change_of, has, rows_of};
 ghost use Rattle.px_trail.specs.Legal.{MayCome};
 ghost use Rattle.px_trail.specs.Trail.{Base, last_of};
 ghost use Rattle.px_world.specs.Closed.{Closed};
-ghost use Rattle.px_world.specs.Events.{Mark, Verify, Write, End};
-ghost use Rattle.px_forms.specs.Indexes.{IndexForm};
+ghost use Rattle.px_world.specs.Events.{Mark, Verify, Write, End, Raise};
+ghost use Rattle.px_forms.specs.Indexes.{IndexForm, IsIndexForm};
 ghost use Rattle.px_indexed.specs.Idle.{IsElsewhere};
 ghost use Rattle.px_indexed.specs.Worlds.{begin_event, change_event, row_event};
 ghost use Rattle.px_groupworld.specs.Group.{GroupData, no_part, shape_in, table_form, world_in};
-ghost use Rattle.px_groupworld.specs.Steps.{Events, Steps, at_index, nothing, begun_data, cells_data, ended_data, gone_on, wrote_data};
+ghost use Rattle.px_groupworld.specs.Steps.{Events, Steps, at_index, nothing, begun_data, cells_data, ended_data, gone_on, raised_data, wrote_data};
 ghost use Rattle.px_groupworld.specs.Asks.{FitAll};
 ghost use Rattle.px_openbatches.specs.Made.{IsComputed, RowCells, cells_at, cells_for};
 ghost use Rattle.px_openbatches.specs.Pending.{HeldBatch, after_pending, held_begun, held_ended, held_wrote, to_verify};
 ghost use Rattle.px_openbatches.specs.Opens.{form_in};
-ghost use Rattle.px_tablesteps.specs.Kept.{IsQuietStep, TableKept, TableSteps, no_held, open_of};
+ghost use Rattle.px_tablesteps.specs.Kept.{IsQuietStep, TableBears, TableKept, TableSteps, no_held, open_of};
 
 use px_groupworld::Formed;
 
@@ -49,6 +49,12 @@ pub fn law_steps<F: Formed>()
 /// A step of the table's regions alone, that makes no index: the open batches stay as they are.
 pub fn law_other<F: Formed>()
     ensures { (b : Base) → (id : TableNumber) → (index : ℕ → IndexForm) → (es : List Entries) → (v : GroupData) → (hs : List HeldBatch) → TableKept (table_form b id index F.rows) es v hs → (e : Events) → (now : GroupData) → Steps (table_form b id index F.rows) e es v es now → IsQuietStep e v now → TableSteps (table_form b id index F.rows) e es v es now hs }
+{}
+
+/// The table's horizon rises, and an index is born, while batches are open.
+pub fn law_upkeep<F: Formed>()
+    ensures raises { (b : Base) → (id : TableNumber) → (index : ℕ → IndexForm) → (es : List Entries) → (v : GroupData) → (hs : List HeldBatch) → TableKept (table_form b id index F.rows) es v hs → (e : Entries) → MayCome b es e → (h : ℕ) → e.act ≡ Raised id h → TableSteps (table_form b id index F.rows) (λ i r. Some (Raise h)) es v (es ++ e ∷ []) (raised_data h v) hs }
+    ensures bears { (b : Base) → (id : TableNumber) → (index : ℕ → IndexForm) → (es : List Entries) → (v : GroupData) → (hs : List HeldBatch) → TableKept (table_form b id index F.rows) es v hs → (e : Entries) → MayCome b es e → IsElsewhere id e.act → (number : ℕ) → (s : ℕ) → last_of b id.0 es < s → s ≤ last_of b id.0 (es ++ e ∷ []) → IsIndexForm (index number) → TableBears (table_form b id index F.rows) number s es v (es ++ e ∷ []) hs }
 {}
 
 /// Where a batch has verified at each of its indexes, the marks of each of its rows that isn't concurrent are closed there.
