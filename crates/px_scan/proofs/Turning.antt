@@ -1,19 +1,18 @@
 -- The steps of a query, arm by arm, over what a seat knows.
-use Rattle.std.proofs.Common.{ℕ, ◌≡◌, ◌<◌, ◌≤◌, ◌+◌, Bool, true, false, Option, None, Some, IsSome, Result, Ok, Err, List, [], ◌∷◌, ◌++◌, map, length, take, refl, sym, ◌∙◌, ap, subst, arith, inl, inr, length-append}
+use Rattle.std.proofs.Common.{ℕ, ◌≡◌, ◌≤◌, Bool, true, false, Option, None, Some, IsSome, Result, Ok, Err, List, [], ◌∷◌, ◌++◌, length, take, refl, sym, ◌∙◌, ap, subst, arith, inl, inr, length-append}
 use Rattle.std.specs.Prelude.{Vec}
 use Rattle.std.specs.Option.{is_some}
 use Rattle.std.specs.declared.alloc.Global.{Global}
 use Rattle.std.proofs.lemmas.List.{take-append-le, take_all}
 use Rattle.px_values.specs.declared.name.TableId.{TableId}
 use Rattle.px_tables.specs.declared.index.Index.{Index}
-use Rattle.px_tables.specs.declared.table.Table.{Table}
 use Rattle.px_trail.specs.declared.entry.Act.{Act}
 use Rattle.px_trail.specs.declared.entry.Act.TheVariants as act
 use Rattle.px_trail.specs.declared.entry.Entry.{Entry}
 use Rattle.px_trail.specs.Answers.{Given}
 use Rattle.px_trail.specs.Batches.{IsDecided}
 use Rattle.px_trail.specs.Legal.{Follows, IsLegal, MayCome}
-use Rattle.px_trail.specs.Trail.{Base, acts_by, catalogue_of, horizon_of, horizon_step, last_of, last_step, table_of}
+use Rattle.px_trail.specs.Trail.{Base, catalogue_of, horizon_of, horizon_step, last_of, last_step, table_of}
 use Rattle.px_trail.proofs.Growth.{horizon-snoc, last-snoc}
 use Rattle.px_trail.proofs.States.{decided-stays}
 use Rattle.px_calls.specs.declared.fault.StepFault.TheVariants as step
@@ -27,18 +26,18 @@ use Rattle.px_calls.specs.declared.query.FoundKey.TheVariants.{InDoubt}
 use Rattle.px_calls.specs.declared.query.Held.{Held}
 use Rattle.px_calls.specs.declared.query.Path.{Path}
 use Rattle.px_calls.specs.declared.query.Point.{Point}
-use Rattle.px_calls.specs.Known.{Adds, Extends, Known, Passes, Ran, Sees, outline}
+use Rattle.px_calls.specs.Known.{Adds, Known, Passes, Sees, outline}
 use Rattle.px_calls.specs.Causes.{Refuses, open_cause, stamp_at}
 use Rattle.px_calls.specs.Calls.{DidConsult, DidFix, DidLook, DidOpen, IsFound}
 use Rattle.px_values.specs.Limits.{most_key}
 use Rattle.px_keys.specs.Reading.{IsKey}
 use Rattle.px_paths.specs.Paths.{columns_on}
 use Rattle.px_calls.specs.Looks.{IsRightKey, columns_by, index_columns}
-use Rattle.px_calls.specs.Requires.{CanConsult, CanReadBy, IsDrawn, IsOpen, IsReadable, IsScn, index_in}
+use Rattle.px_calls.specs.Requires.{CanConsult, CanReadBy, IsReadable, IsScn, index_in}
 use Rattle.px_calls.proofs.Points.{adds-opened, quiet-open}
 use Rattle.px_calls.proofs.Runs.{may-come, outline-append, ran-adds, ran-none, ran-sees, ran-then}
 use Rattle.px_calls.proofs.Stays.{drawn-stays, table-was}
-use Rattle.px_gather.specs.Answers.{IsAnswerBy, IsPointOf}
+use Rattle.px_gather.specs.Answers.{IsPointOf}
 use Rattle.px_gather.specs.Gathered.{Ended, Frame, Gathered, Pending, is_full, kept_held, up_to}
 use Rattle.px_gather.specs.Query.{IsPathFor, Query}
 use Rattle.px_gather.proofs.Answering.{answer-is}
@@ -53,7 +52,7 @@ use Rattle.px_scan.specs.declared.machine.QueryState.TheVariants as state
 use Rattle.px_scan.specs.declared.machine.Rest.{Rest}
 use Rattle.px_scan.specs.declared.machine.Scan.{Scan}
 use Rattle.px_scan.specs.Faults.{FaultIs, MadeSince, QueryFaultIs}
-use Rattle.px_scan.specs.Turns.{AfterFix, AfterLook, Edge, Fits, GoesOn, Grown, HasEnded, IsAnswer, IsAwaited, IsBound, IsGoing, IsNew, IsNext, IsOutcome, IsReading, IsScanning, IsSince, QueryTurns, Quiet, RanQuery, SoFar, frame, frame_of, given_of, opened, opening, point_acts, table_number}
+use Rattle.px_scan.specs.Turns.{AfterFix, AfterLook, Edge, Fits, GoesOn, Grown, IsBound, IsNew, IsNext, IsOutcome, IsReading, IsScanning, IsSince, QueryTurns, Quiet, RanQuery, SoFar, frame, frame_of, given_of, opened, opening, point_acts, table_number}
 use Rattle.px_scan.proofs.Quieting.{Later, fault_in, grown-passes, grown-quiet, later-fault, later-grown, later-ran, longer, made-earlier, made-later, quiet-sees}
 
 -- 1. What time leaves

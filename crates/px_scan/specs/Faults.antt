@@ -1,5 +1,5 @@
 -- Which refusals end a query, and what tells them.
-use Rattle.std.specs.Prelude.{ℕ, ◌≡◌, ◌<◌, ◌≤◌, ◌-◌, Bool, true, false, Option, None, Some, length, drop, take}
+use Rattle.std.specs.Prelude.{ℕ, ◌≡◌, ◌<◌, ◌≤◌, ◌-◌, Bool, true, false, Option, Some, length, drop, take}
 use Rattle.px_tables.specs.declared.found.Found.{Found}
 use Rattle.px_trail.specs.declared.entry.Act.TheVariants as act
 use Rattle.px_trail.specs.Answers.{IsAmong}

@@ -1,4 +1,3 @@
-use Rattle.std.proofs.Common.{refl}
 use Rattle.px_gather.proofs.Gathering as gathering
 use Rattle.px_scan.proofs.Going as going
 use Rattle.px_scan.proofs.keys.keep_sure.Goals as goal

@@ -1,4 +1,4 @@
-use Rattle.std.proofs.Common.{refl, sym, ◌∙◌}
+use Rattle.std.proofs.Common.{refl}
 use Rattle.px_scan.specs.Turns.{frame}
 use Rattle.px_scan.proofs.Going as going
 use Rattle.px_scan.proofs.Turning as turning

@@ -1,4 +1,4 @@
-use Rattle.std.proofs.Common.{◌≡◌, ◌∙◌}
+use Rattle.std.proofs.Common.{◌∙◌}
 use Rattle.px_scan.proofs.Turning as turning
 use Rattle.px_scan.proofs.run.run_query.Goals as goal
 
