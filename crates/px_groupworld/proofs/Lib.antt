@@ -5,3 +5,4 @@ pub mod Upkeep
 pub mod Queries
 pub mod Births
 pub mod Fresh
+pub mod Makes

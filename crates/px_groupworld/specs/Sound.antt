@@ -31,3 +31,7 @@ pub record IsSoundTable (f : TableForm) (v : GroupData) : Type 0 where
   pub stamps : (r : List Value) (q u : ℕ) (d : CellKind) (x : List ℕ) → value_at v.cells (f.rows.key_of r) q u d ≡ Some x → (u ≤ v.low) ⊎ (f.base.changed f.id.0 r u ≡ true)
   pub spells : (r : List Value) (p : ℕ) → v.low ≤ p → f.rows.spelled (value_at v.cells) r p ≡ f.base.state f.id.0 r p
   pub whole : (r : List Value) → f.rows.IsWhole v.low (value_at v.cells) r
+
+-- a table that was just made
+abbrev pub made_data : GroupData
+made_data = record { high = 0; low = 0; cells = []; indexes = []; opens = [] }

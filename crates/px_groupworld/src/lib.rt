@@ -5,26 +5,28 @@
 //! `law_answers` is what queries may rely on. The code of a table's regions is proved to make these steps.
 #![tactic(auto)]
 
-ghost use Rattle.std.specs.Prelude.{◌≡◌, ◌<◌, ◌≤◌, ◌++◌, ◌∷◌, [], ℕ, List, length, get_or, Bool, true, false, Some};
+ghost use Rattle.std.specs.Prelude.{◌≡◌, ◌<◌, ◌≤◌, ◌++◌, ◌∷◌, [], ℕ, List, length, get_or, Bool, true, false, Some, None};
 ghost use Rattle.px_cells.specs.CellData.{CellData};
 ghost use Rattle.px_cells.specs.Order.{ReadsSame};
 ghost use Rattle.px_values.specs.declared.row.Value.{Value as ColumnValue};
 ghost use Rattle.px_values.specs.declared.change.Change.{Change as RowChange};
 ghost use Rattle.px_values.specs.declared.name.TableId.{TableId as TableNumber};
-ghost use Rattle.px_trail.specs.declared.entry.Act.TheVariants.{Begun, Wrote, Ended, Phase, Raised};
+ghost use Rattle.px_trail.specs.declared.entry.Act.TheVariants.{Made, Begun, Wrote, Ended, Phase, Raised};
 ghost use Rattle.px_trail.specs.declared.entry.Entry.{Entry as Entries};
 ghost use Rattle.px_trail.specs.Batches.{Batch, batch_of, change_of, has};
-ghost use Rattle.px_trail.specs.Legal.{MayCome};
-ghost use Rattle.px_trail.specs.Trail.{Base, last_of};
+ghost use Rattle.px_trail.specs.Legal.{IsLegal, MayCome};
+ghost use Rattle.px_trail.specs.Trail.{Base, IsRightBase, last_of, new_shape};
 ghost use Rattle.px_world.specs.Events.{Mark, Write, Verify, End, Fix, Raise, Forget, Base as BaseVersion, Ready, Comes};
 ghost use Rattle.px_forms.specs.Indexes.{IndexForm, IsIndexForm};
+ghost use Rattle.px_forms.specs.Rows.{IsDataForm};
+ghost use Rattle.px_tables.specs.declared.table.NewTable.{NewTable as TableDefinition};
 ghost use Rattle.px_indexed.specs.Worlds.{begin_event, change_event, row_event};
 ghost use Rattle.px_indexed.specs.Kept.{IsCompacted, ReadsWrites};
 ghost use Rattle.px_indexed.specs.Idle.{IsElsewhere};
 ghost use Rattle.px_groupworld.specs.Group.{GroupData, GroupKept, AllAnswer, table_form, no_part, no_open, shape_in, world_in};
 ghost use Rattle.px_groupworld.specs.Steps.{Steps, Bears, nothing, at_index, begun_data, marked_data, cells_data, wrote_data, ended_data, raised_data, forgot_data, own_forgot_data, ready_data};
 ghost use Rattle.px_groupworld.specs.Asks.{FitAll, CanMark, HasMarked, CanVerify, CanFix, CanBase};
-ghost use Rattle.px_groupworld.specs.Sound.{IsSoundTable};
+ghost use Rattle.px_groupworld.specs.Sound.{IsSoundTable, made_data};
 
 /// How the rows of the tables are spelled, for laws alone.
 pub trait Formed {
@@ -36,6 +38,11 @@ pub trait Formed {
 /// What a sound folder gives is kept before the first entry.
 pub fn law_sound<F: Formed>()
     ensures { (b : Base) → (id : TableNumber) → (index : ℕ → IndexForm) → (v : GroupData) → IsSoundTable (table_form b id index F.rows) v → GroupKept (table_form b id index F.rows) [] v }
+{}
+
+/// A table that is made in the run is kept, without a row and without an index: its number is drawn, so nothing was done to it before.
+pub fn law_made<F: Formed>()
+    ensures { (b : Base) → (id : TableNumber) → (index : ℕ → IndexForm) → IsRightBase b → (es : List Entries) → IsLegal b es → (e : Entries) → MayCome b es e → (what : TableDefinition) → e.act ≡ Made id what → new_shape what ≡ F.rows.shape → IsDataForm F.rows → ((r : List ColumnValue) → (p : ℕ) → F.rows.spelled (λ k q s d. None) r p ≡ None) → ((r : List ColumnValue) → F.rows.IsWhole 0 (λ k q s d. None) r) → GroupKept (table_form b id index F.rows) (es ++ e ∷ []) made_data }
 {}
 
 /// As of a point, a verified top shows the row's state of the trail, the key of that state has a top, and the cells of the rows spell it.
