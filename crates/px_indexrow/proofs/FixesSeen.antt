@@ -1,5 +1,5 @@
 -- What rows see of base versions and of repairs.
-use Rattle.std.proofs.Common.{◌≡◌, ℕ, ◌≤◌, Bool, true, false, cond, not, ◌&&◌, Option, Some, None, List, [], ◌∷◌, ◌++◌, refl, ap, sym, ◌∙◌, arith}
+use Rattle.std.proofs.Common.{◌≡◌, ℕ, Bool, true, false, cond, not, ◌&&◌, Option, Some, None, List, [], ◌∷◌, refl, ap, sym, ◌∙◌, arith}
 use Rattle.std.specs.Prelude.{nat_eq, nat_lt, is_none}
 use Rattle.std.specs.Cmp.Lexicographic.{pointwise}
 use Rattle.px_values.specs.declared.row.Value.{Value}
@@ -12,7 +12,7 @@ use Rattle.px_world.proofs.IndexCells.{same_cells}
 use Rattle.px_forms.specs.Indexes.{IndexForm, IsIndexForm, IsPlaced, view_at, shape_at}
 use Rattle.px_forms.proofs.Views.{view_append, view_empty}
 use Rattle.px_indexrow.specs.Lists.{status_cell, column_cells, version_cells, version_if, base_of, fix_of}
-use Rattle.px_indexrow.proofs.MarksSeen.{view_columns, columns_alone}
+use Rattle.px_indexrow.proofs.MarksSeen.{view_columns}
 use Rattle.px_indexrow.proofs.ClosesSeen.{swapped, view_verified, view_family, view_erased}
 
 module _ (f : IndexForm) (g : IsIndexForm f) (placed : IsPlaced f) (r : List Value) (k0 : List ℕ) (own : f.owns r k0 ≡ true) (s : ℕ) (state : RowState) where

@@ -1,4 +1,5 @@
 pub mod ClosesSeen
+pub mod Dues
 pub mod FixesSeen
 pub mod KeysHeld
 pub mod MarksSeen

@@ -2,6 +2,7 @@
 use Rattle.std.specs.Prelude.{◌≡◌, ℕ, suc, ◌<◌, Bool, true, cond, nat_eq, List, [], ◌∷◌, ◌++◌, map, length, get_or, Option, Some, None}
 use Rattle.std.specs.List.{All}
 use Rattle.std.specs.Ordering.{is_eq}
+use Rattle.px_values.specs.Limits.{most_key}
 use Rattle.px_values.specs.Order.{row_order}
 use Rattle.px_values.specs.States.{RowState}
 use Rattle.px_values.specs.Types.{HasType}
@@ -108,3 +109,8 @@ pub record IsRightIndex (t : Table) (i : Index) : Type 0 where
 abbrev pub FitsState : Table → RowState → Type 0
 FitsState t None = Unit {0}
 FitsState t (Some row) = (length row ≡ length t.columns) × ((c : ℕ) → c < length t.columns → HasType (column_in t.columns c).column_type (get_or row c Null))
+
+-- the key of the state would have more than 1,024 bytes
+abbrev pub IsLong : Table → Index → List Value → RowState → Type 0
+IsLong t i r None = ⊥
+IsLong t i r (Some row) = most_key < length (spelled (index_columns t i) (index_values t i r row))

@@ -1,15 +1,17 @@
 // The cells of index rows.
-ghost use Rattle.std.specs.Prelude.{◌≡◌, ◌≢◌, ◌<◌, ◌≤◌, ℕ, Some, None, IfOk, suc, length, get_or};
+ghost use Rattle.std.specs.Prelude.{◌≡◌, ◌≢◌, ◌<◌, ◌≤◌, ◌⊎◌, ℕ, Some, None, IfOk, suc, length, get_or, ◌∷◌, []};
 ghost use Rattle.std.specs.Option.{option_copied};
 ghost use Rattle.px_keys.specs.Spelling.{Fits};
+ghost use Rattle.px_indexrow.specs.Verdicts.{verdict_of};
 ghost use Rattle.px_rows.specs.Keys.{IsRightTable, row_columns};
-ghost use Rattle.px_indexrow.specs.Form.{FitsState, IsRightIndex, index_form};
-ghost use Rattle.px_indexrow.specs.Lists.{base_of, closes_of, column_cell, left_key, marks_of, status_cell, version_cells, version_if as version_cells_of};
+ghost use Rattle.px_indexrow.specs.Form.{FitsState, IsLong, IsRightIndex, index_form};
+ghost use Rattle.px_indexrow.specs.Lists.{base_of, closes_of, column_cell, fix_of, left_key, marks_of, status_cell, version_cells, version_if as version_cells_of};
 ghost use Rattle.px_indexrow.specs.Form.{bytes_if};
 ghost use Rattle.px_rows.specs.Keys.{column_in};
 ghost use Rattle.px_rows.specs.Stored.{stored};
 ghost use Rattle.px_values.specs.declared.row.Value.TheVariants.{Null as NullValue};
 
+use crate::Repair;
 use crate::keys::state_key;
 use px_cells::{Cell, CellKind, Cells};
 use px_rows::{EMPTY_COLUMN, FIRST_COLUMN, RowFault, stored_value};
@@ -40,6 +42,7 @@ pub fn marks(
     requires old { FitsState table.now old.now }
     requires new { FitsState table.now new.now }
     ensures cells { IfOk result (λ cells. cells ≡ marks_of (index_form table.now index.now) row.now stamp old.now new.now) }
+    ensures too_long { result ≡ Err RowFault.KeyTooLong → IsLong table.now index.now row.now new.now ⊎ IsLong table.now index.now row.now old.now }
     ensures not_a_row { (place : ℕ) → result ≢ Err (RowFault.NotARow place) }
 {
     let new_key = state_key(alloc, table, index, row, new)?;
@@ -68,6 +71,7 @@ pub fn closes(
     requires old { FitsState table.now old.now }
     requires new { FitsState table.now new.now }
     ensures cells { IfOk result (λ cells. cells ≡ closes_of (index_form table.now index.now) row.now stamp old.now new.now) }
+    ensures too_long { result ≡ Err RowFault.KeyTooLong → IsLong table.now index.now row.now new.now ⊎ IsLong table.now index.now row.now old.now }
     ensures not_a_row { (place : ℕ) → result ≢ Err (RowFault.NotARow place) }
 {
     let new_key = state_key(alloc, table, index, row, new)?;
@@ -96,6 +100,7 @@ pub fn base(
     requires fits { Fits (row_columns table.now) row.now }
     requires state { FitsState table.now state.now }
     ensures cells { IfOk result (λ cells. cells ≡ base_of (index_form table.now index.now) row.now stamp state.now) }
+    ensures too_long { result ≡ Err RowFault.KeyTooLong → IsLong table.now index.now row.now state.now }
     ensures not_a_row { (place : ℕ) → result ≢ Err (RowFault.NotARow place) }
 {
     let key = state_key(alloc, table, index, row, state)?;
@@ -103,6 +108,60 @@ pub fn base(
         Ok(cells) => Ok(cells),
         Err(_) => Err(RowFault::Memory),
     }
+}
+
+/// What a repair of a version writes. Where it verifies a version at or below the horizon, that version is given a cell for each
+/// included column of the row there.
+pub fn fix(
+    alloc: Global,
+    table: &Table,
+    index: &Index,
+    key: &[u8],
+    state: &Option<Row>,
+    horizon: u64,
+    stamp: u64,
+    repair: Repair,
+) -> Result<Cells, AllocError>
+    requires table { IsRightTable table.now }
+    requires index { IsRightIndex table.now index.now }
+    requires state { FitsState table.now state.now }
+    requires stands { repair ≡ Repair.Verify → stamp ≤ horizon → state.now ≢ None }
+    ensures { IfOk result (λ cells. cells ≡ fix_of (index_form table.now index.now) horizon state.now key.now stamp (verdict_of repair)) }
+{
+    match repair {
+        Repair::Leave => Ok(Cells::new(alloc)),
+        Repair::Verify => {
+            match state {
+                Some(row) if stamp <= horizon => version(
+                    alloc,
+                    table,
+                    index,
+                    key,
+                    row.as_slice(),
+                    stamp,
+                    VERIFIED,
+                ),
+                _ => one(alloc, status(alloc, key, stamp, VERIFIED)?),
+            }
+        }
+        Repair::Retire => one(
+            alloc,
+            cell(alloc, key, 0, stamp, CellKind::DeleteFamily, &[])?,
+        ),
+        Repair::Erase => one(
+            alloc,
+            cell(alloc, key, 0, stamp, CellKind::DeleteFamilyVersion, &[])?,
+        ),
+    }
+}
+
+/// The list of one cell.
+fn one(alloc: Global, cell: Cell) -> Result<Cells, AllocError>
+    ensures { IfOk result (λ cells. cells ≡ cell ∷ []) }
+{
+    let mut cells = Cells::new(alloc);
+    cells.push(cell)?;
+    Ok(cells)
 }
 
 /// The old key, where the row has left it.

@@ -6,9 +6,11 @@
 #![tactic(auto)]
 
 mod cells;
+mod doubt;
 mod keys;
 mod laws;
 
-pub use cells::{UNVERIFIED, VERIFIED, base, closes, marks};
+pub use cells::{UNVERIFIED, VERIFIED, base, closes, fix, marks};
+pub use doubt::{ChangeFate, Repair, Told, Version, verdict};
 pub use keys::index_key;
 pub use laws::{law_batches, law_index};
