@@ -59,7 +59,7 @@ module _ (sh : RowShape) (b : Base) (es : List Entry) (t : ℕ) (r : List Value)
   row_of h k = ap (λ (o : Option Batch). row_in o r) k.is ∙ (λ i. row_as (change_of (k.changes i) r) (k.written r i) (k.running i))
 
   -- nothing of it is left
-  not_left : (h : HeldBatch) → IsHeld es t h → left_of h r ≡ None → is_undecided (g.fate h.stamp) ≡ false
+  pub not_left : (h : HeldBatch) → IsHeld es t h → left_of h r ≡ None → is_undecided (g.fate h.stamp) ≡ false
   not_left h k n = ap is_undecided (tie.fates h.stamp ∙ ap (λ o. cond (b.changed t r h.stamp) Written (fate_by o)) (row_of h k)) ∙ by (b.changed t r h.stamp) (change_of h.changes r) (has h.written r) n
     where
       by : (c : Bool) (o : Option What) (v : Bool) → left_as o v ≡ None → is_undecided (cond c Written (fate_by (row_as o v false))) ≡ false
@@ -79,7 +79,7 @@ module _ (sh : RowShape) (b : Base) (es : List Entry) (t : ℕ) (r : List Value)
       by (Some x) true n = absurd (some_none n)
       by (Some x) false n = ap (λ y. Some (record { what = y; written = false; ended = false })) (same x n)
 
-  left_undecided : (h : HeldBatch) → IsHeld es t h → (w : What) → left_of h r ≡ Some w → g.fate h.stamp ≡ Undecided
+  pub left_undecided : (h : HeldBatch) → IsHeld es t h → (w : What) → left_of h r ≡ Some w → g.fate h.stamp ≡ Undecided
   left_undecided h k w n = (let q = left_row h k w n in tie.fates h.stamp ∙ (cond-false _ _ _ (tie.fresh h.stamp _ q).1 ∙ ap fate_by q))
 
   -- the state after a pending change
@@ -207,7 +207,7 @@ module _ (f : DataForm) (b : Base) (es : List Entry) (tid : TableId) (raised : �
   all_below p (x ∷ xs) l a = ((let m = held_below x a.0 in omega arith), all_below p xs l a.1)
 
   -- an undecided change is one of an open batch, above the base's
-  open_of : (r : List Value) (s : ℕ) → is_undecided ((hist r).fate s) ≡ true → (b.last t < s) × (is_in s hs ≡ true)
+  pub open_of : (r : List Value) (s : ℕ) → is_undecided ((hist r).fate s) ≡ true → (b.last t < s) × (is_in s hs ≡ true)
   open_of r s u =
       let x = undecided_row (b.changed t r s) (row_in (batch_of t s es) r) (sym (ap is_undecided ((k.tied r).fates s)) ∙ u) in
       let y = row_batch (batch_of t s es) r x.0 x.1.0 in
