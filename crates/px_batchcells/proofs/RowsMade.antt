@@ -15,7 +15,7 @@ use Rattle.px_indexrow.proofs.ClosesSeen.{closes_view}
 use Rattle.px_openbatches.specs.Made.{IsCellOfRow, IsIndexRow}
 
 -- a cell of the stamp that may stand in an index's region
-record MayStand (s : ℕ) (c : CellData) : Type 0 where
+pub record MayStand (s : ℕ) (c : CellData) : Type 0 where
   pub stamp : c.stamp ≡ s
   pub placed : GoesWith c
   pub kind : c.kind ≡ Delete → ⊥
@@ -25,21 +25,21 @@ all_append : (P : CellData → Type 0) (xs ys : List CellData) → AllByRecursio
 all_append P [] ys a b = b
 all_append P (x ∷ xs) ys a b = (a.0, all_append P xs ys a.1 b)
 
-both : (f : IndexForm) (r : List Value) (s : ℕ) (cells : List CellData) → AreOwned f r cells → AllByRecursion (MayStand s) cells → AllByRecursion (IsCellOfRow f r s) cells
+pub both : (f : IndexForm) (r : List Value) (s : ℕ) (cells : List CellData) → AreOwned f r cells → AllByRecursion (MayStand s) cells → AllByRecursion (IsCellOfRow f r s) cells
 both f r s [] a b = tt
 both f r s (c ∷ cells) a b = (record { owned = a.0; stamp = b.0.stamp; placed = b.0.placed; kind = b.0.kind; status = b.0.status }, both f r s cells a.1 b.1)
 
-status_stands : (k : List ℕ) (s byte : ℕ) → MayStand s (status_cell k s byte)
+pub status_stands : (k : List ℕ) (s byte : ℕ) → MayStand s (status_cell k s byte)
 status_stands k s byte = record { stamp = refl; placed = (λ h. absurd (false≢true h), λ e. absurd (omega arith)); kind = λ e. cc; status = λ q e. cc }
 
-family_stands : (k : List ℕ) (s : ℕ) → MayStand s (family_cell k s)
+pub family_stands : (k : List ℕ) (s : ℕ) → MayStand s (family_cell k s)
 family_stands k s = record { stamp = refl; placed = (λ h. refl, λ e. refl); kind = λ e. cc; status = λ q e. absurd (omega arith) }
 
 column_stands : (k : List ℕ) (s q : ℕ) → 2 ≤ q → (v : Option (List ℕ)) → MayStand s (column_cell k s q v)
 column_stands k s q l None = record { stamp = refl; placed = (λ h. absurd (false≢true h), λ e. absurd (omega arith)); kind = λ e. cc; status = λ z e. absurd (omega arith) }
 column_stands k s q l (Some v) = record { stamp = refl; placed = (λ h. absurd (false≢true h), λ e. absurd (omega arith)); kind = λ e. cc; status = λ z e. cc }
 
-columns_stand : (f : IndexForm) → IsPlaced f → (k : List ℕ) (s : ℕ) (state : RowState) (m : ℕ) → m ≤ f.columns → AllByRecursion (MayStand s) (column_cells f k s state m)
+pub columns_stand : (f : IndexForm) → IsPlaced f → (k : List ℕ) (s : ℕ) (state : RowState) (m : ℕ) → m ≤ f.columns → AllByRecursion (MayStand s) (column_cells f k s state m)
 unfolding column_cells
 columns_stand f p k s state zero l = tt
 columns_stand f p k s state (suc m) l = (column_stands k s (f.place m) (p.above m (omega arith)) (f.col state m), columns_stand f p k s state m (omega arith))

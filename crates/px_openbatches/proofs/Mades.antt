@@ -74,7 +74,7 @@ reads_all P [] c a h = absurd h
 reads_all P (x ∷ xs) c a (inl e) = subst P e a.0
 reads_all P (x ∷ xs) c a (inr h) = reads_all P xs c a.1 h.1
 
-all_read : (P : CellData → Type 0) (cells batch : List CellData) → ReadsSame batch cells → AllByRecursion P cells → (c : CellData) → value_at batch c.key c.qualifier c.stamp c.kind ≡ Some c.value → P c
+pub all_read : (P : CellData → Type 0) (cells batch : List CellData) → ReadsSame batch cells → AllByRecursion P cells → (c : CellData) → value_at batch c.key c.qualifier c.stamp c.kind ≡ Some c.value → P c
 all_read P cells batch same a c v = reads_all P cells c a ((same c).0 (reads_from_value batch c.key c.qualifier c.stamp c.kind c.value v))
 
 all_here : (P Q : CellData → Type 0) → ((c : CellData) → P c → Q c) → (cells : List CellData) → AllByRecursion P cells → AllByRecursion Q cells
