@@ -3,14 +3,14 @@ use Rattle.std.proofs.Common.{◌≡◌, ℕ, zero, suc, ◌<◌, ◌≤◌, Boo
 use Rattle.std.specs.Prelude.{nat_eq, nat_lt}
 use Rattle.std.specs.Cmp.Lexicographic.{pointwise}
 use Rattle.std.specs.Option.{option_copied}
-use Rattle.std.proofs.lemmas.Bool.{cases_eq, cond-true, cond-false, lt-ltb, le-ltb}
+use Rattle.std.proofs.lemmas.Bool.{cases_eq, cases_lt, cond-true, cond-false, lt-ltb, le-ltb}
 use Rattle.px_values.specs.States.{RowState, Shape}
 use Rattle.px_values.specs.declared.row.Value.{Value}
 use Rattle.px_world.specs.Events.{Verdict, Leave, ToVerify, ToRetire, ToErase, due}
 use Rattle.px_world.specs.Shape.{all_below, has_key, key_in, same_cell, shows}
 use Rattle.px_world.specs.World.{Fate, Unbegun, Undecided, Written, Lost, World, horizon, is_undecided, is_written, st, vis}
 use Rattle.px_forms.specs.Indexes.{IndexForm, shape_at}
-use Rattle.px_indexrow.specs.Verdicts.{Tells, due_below, due_told, fate_of}
+use Rattle.px_indexrow.specs.Verdicts.{Tells, due_below, due_told, fate_of, is_open}
 use Rattle.px_indexrow.specs.declared.doubt.ChangeFate.{ChangeFate}
 use Rattle.px_indexrow.specs.declared.doubt.ChangeFate.TheVariants as fates
 use Rattle.px_indexrow.specs.declared.doubt.Told.{Told}
@@ -68,17 +68,31 @@ module _ (sh : Shape) (f : IndexForm) (r : List Value) (w : World (List ℕ) Row
   unfolding due has_key shows
   due_by_fate = refl
 
+  -- above the horizon the change decides
   lost_is : cond (nat_lt (horizon w) v.stamp) ToErase (low (horizon w) w.floor) ≡ cond (nat_lt x.horizon v.stamp) ToErase (due_below v x)
   lost_is = (λ i. cond (nat_lt (tells.horizon i) v.stamp) ToErase (low_is i))
 
-  by : (φ : Fate) → w.fate v.stamp ≡ φ → by_fate φ ≡ due_told (fate_of φ) v x
-  by Unbegun e = lost_is
-  by Lost e = lost_is
-  by Undecided e = refl
-  by Written e = (λ i. cond (nat_lt (tells.horizon i) v.stamp) (cond (key_in same v.key.now (tells.new_key e i)) ToVerify ToRetire) (low_is i))
+  by : x.horizon < v.stamp → (φ : Fate) → w.fate v.stamp ≡ φ → by_fate φ ≡ due_told (fate_of φ) v x
+  by l Unbegun e = lost_is
+  by l Lost e = lost_is
+  by l Undecided e = refl
+  by l Written e = (λ i. cond (nat_lt (tells.horizon i) v.stamp) (cond (key_in same v.key.now (tells.new_key l e i)) ToVerify ToRetire) (low_is i))
+
+  -- at or below it what the horizon sees
+  below_is : v.stamp ≤ x.horizon → (φ : Fate) → by_fate φ ≡ cond (is_undecided φ) Leave (due_below v x)
+  below_is l φ = (λ i. cond (is_undecided φ) Leave (cond (nat_lt (tells.horizon i) v.stamp) (cond (is_written φ) (cond (key_in same v.key.now (f.key_of r (w.new v.stamp))) ToVerify ToRetire) ToErase) (low_is i)))
+      ∙ ap (λ (b : Bool). cond (is_undecided φ) Leave (cond b (cond (is_written φ) (cond (key_in same v.key.now (f.key_of r (w.new v.stamp))) ToVerify ToRetire) ToErase) (due_below v x))) (le-ltb x.horizon v.stamp l)
+
+  told_below : v.stamp ≤ x.horizon → (φ : ChangeFate) → cond (is_open φ) Leave (due_below v x) ≡ due_told φ v x
+  told_below l fates.Undecided = refl
+  told_below l fates.Written = sym (cond-false _ _ _ (le-ltb x.horizon v.stamp l))
+  told_below l fates.Lost = sym (cond-false _ _ _ (le-ltb x.horizon v.stamp l))
 
   pub due_is : due (shape_at sh f r) w v.key.now v.stamp ≡ due_told x.fate v x
-  due_is = due_by_fate ∙ (by (w.fate v.stamp) refl ∙ ap (λ (φ : ChangeFate). due_told φ v x) tells.fate)
+  due_is = due_by_fate ∙ elim (cases_lt x.horizon v.stamp) [
+    | inl l ↦ by l (w.fate v.stamp) refl ∙ ap (λ (φ : ChangeFate). due_told φ v x) (tells.fate l)
+    | inr l ↦ below_is l (w.fate v.stamp) ∙ (ap (λ (b : Bool). cond b Leave (due_below v x)) tells.undecided ∙ told_below l x.fate)
+  ]
 
 -- ---- each answer
 

@@ -2,7 +2,7 @@
 --
 -- The table is T (ID BIGINT primary key, CUST VARCHAR, AMT INTEGER, NOTE VARCHAR), and the index is on (AMT DESC) with CUST and NOTE
 -- included. The row is ID 1, first ('bo', 5, NULL) and then ('al', NULL, 'x').
-use Rattle.std.proofs.Common.{◌≡◌, ℕ, Bool, true, false, Some, None, List, [], ◌∷◌, refl}
+use Rattle.std.proofs.Common.{◌≡◌, ℕ, true, false, Some, None, List, [], ◌∷◌, refl}
 use Rattle.std.specs.Prelude.{pos}
 use Rattle.px_cells.specs.declared.kind.CellKind.TheVariants.{Put, DeleteColumn, DeleteFamily}
 use Rattle.px_cells.specs.CellData.{CellData}
@@ -10,7 +10,7 @@ use Rattle.px_tables.specs.declared.index.Index.{Index}
 use Rattle.px_tables.specs.declared.index.IndexState.TheVariants.{Active}
 use Rattle.px_tables.specs.declared.table.Table.{Table}
 use Rattle.px_values.specs.States.{RowState}
-use Rattle.px_values.specs.declared.change.What.TheVariants.{Set, Gone}
+use Rattle.px_values.specs.declared.change.What.TheVariants.{Set}
 use Rattle.px_values.specs.declared.column.ColType.TheVariants.{BigInt, Integer, Varchar}
 use Rattle.px_values.specs.declared.order.Direction.TheVariants.{Ascending, Descending}
 use Rattle.px_values.specs.declared.row.Value.{Value}

@@ -1,12 +1,12 @@
 -- What a repair of a version does, by what is told of the version and its row.
-use Rattle.std.specs.Prelude.{◌≡◌, ℕ, ◌<◌, cond, not, nat_eq, nat_lt, List, None, length, get_or}
+use Rattle.std.specs.Prelude.{◌≡◌, ℕ, ◌<◌, Bool, true, false, cond, not, nat_eq, nat_lt, List, None, length, get_or}
 use Rattle.std.specs.Cmp.Lexicographic.{pointwise}
 use Rattle.std.specs.Option.{option_copied}
 use Rattle.px_world.specs.Shape.{all_below, key_in, same_cell}
 use Rattle.px_values.specs.States.{RowState}
 use Rattle.px_values.specs.declared.row.Value.{Value}
 use Rattle.px_world.specs.Events.{Verdict, Leave, ToVerify, ToRetire, ToErase}
-use Rattle.px_world.specs.World.{Fate, Unbegun, Undecided, Written, Lost, World, horizon, st, vis}
+use Rattle.px_world.specs.World.{Fate, Unbegun, Undecided, Written, Lost, World, horizon, is_undecided, st, vis}
 use Rattle.px_forms.specs.Indexes.{IndexForm}
 use Rattle.px_indexrow.specs.declared.doubt.ChangeFate.{ChangeFate}
 use Rattle.px_indexrow.specs.declared.doubt.ChangeFate.TheVariants as fates
@@ -29,12 +29,20 @@ fate_of Undecided = fates.Undecided
 fate_of Written = fates.Written
 fate_of Lost = fates.Lost
 
--- this is told of the version and its row in the world of the row and the index
+-- the change is undecided
+abbrev pub is_open : ChangeFate → Bool
+is_open fates.Undecided = true
+is_open fates.Written = false
+is_open fates.Lost = false
+
+-- This is told of the version and its row in the world of the row and the index. At or below the horizon only whether the
+-- change is undecided has to be known of it.
 pub record Tells (f : IndexForm) (r : List Value) (w : World (List ℕ) RowState (List ℕ)) (v : Version) (x : Told) : Type 0 where
-  pub fate : fate_of (w.fate v.stamp) ≡ x.fate
+  pub undecided : is_undecided (w.fate v.stamp) ≡ is_open x.fate
+  pub fate : x.horizon < v.stamp → fate_of (w.fate v.stamp) ≡ x.fate
   pub horizon : horizon w ≡ x.horizon
   pub floor : w.floor ≡ x.floor
-  pub new_key : w.fate v.stamp ≡ Written → f.key_of r (w.new v.stamp) ≡ option_copied x.new_key
+  pub new_key : x.horizon < v.stamp → w.fate v.stamp ≡ Written → f.key_of r (w.new v.stamp) ≡ option_copied x.new_key
   pub horizon_key : f.key_of r (st w x.horizon) ≡ option_copied x.horizon_key
   pub count : length v.values.now ≡ f.columns
   pub horizon_count : length x.horizon_values.now ≡ f.columns
