@@ -1,10 +1,13 @@
-// The laws of what the catalogue's files stand for, over every image.
-ghost use Rattle.std.specs.Prelude.{◌≡◌, [], ℕ};
+// The laws of what the catalogue's files stand for, over every image, and of its records.
+ghost use Rattle.std.specs.Prelude.{◌≡◌, ◌≤◌, ◌+◌, [], ℕ, length};
 ghost use Rattle.px_outside.specs.Disk.{Image};
 ghost use Rattle.px_schema.specs.Fresh.{fresh};
+ghost use Rattle.px_schema.specs.Spelled.{body_of};
+ghost use Rattle.px_schema.specs.declared.item.CatalogItem.{CatalogItem};
 ghost use Rattle.px_schema.specs.declared.standing.Standing.{Standing};
 ghost use Rattle.px_catalog.specs.Catalogue.{CatalogueStands};
 ghost use Rattle.px_catalog.specs.Damage.{IsFirstDamaged};
+ghost use Rattle.px_catalog.specs.Limits.{IsWithinLimits};
 
 /// The files of an image stand for one catalogue at most, and for none where they are damaged; they are damaged at one
 /// place.
@@ -17,4 +20,10 @@ pub fn an_image_stands_for_one()
 /// A folder without a catalogue, as those of earlier programs, stands for the fresh one, whatever its other files have.
 pub fn a_folder_without_one_is_fresh()
     ensures { (image : Image) → image 0 ≡ [] → image 1 ≡ [] → CatalogueStands image fresh }
+{}
+
+/// The record of a definition within the limits, with the gate behind it, has at most 32,768 bytes. So a segment that isn't
+/// full has room for it.
+pub fn a_definition_has_room()
+    ensures { (d : CatalogItem) → IsWithinLimits d → 7 + length (body_of d) ≤ 32768 }
 {}
