@@ -1,0 +1,5 @@
+pub mod Named
+pub mod OneAnswer
+pub mod Ranked
+pub mod Planned
+pub mod Columns
