@@ -18,6 +18,8 @@ use Rattle.px_program.specs.declared.store.records.put_reader.Stored.{Stored}
 use Rattle.px_program.specs.declared.store.receipt.Receipt.{Receipt}
 use Rattle.px_program.specs.declared.session.refusal.Refusal.{Refusal}
 use Rattle.px_program.specs.declared.session.refusal.Refusal.TheVariants.{Syntax, LeftOut, Form, Limit, WriteFault, Memory}
+use Rattle.px_program.specs.declared.store.fault.StoreFault.{StoreFault}
+use Rattle.px_program.specs.declared.store.fault.StoreFault.TheVariants as faults
 use Rattle.px_program.specs.declared.session.reply.Reply.{Reply}
 use Rattle.px_program.specs.declared.session.reply.Reply.TheVariants.{Rows, Count, Refused}
 use Rattle.px_program.specs.declared.session.Answer.{Answer}
@@ -31,14 +33,13 @@ use Rattle.px_program.specs.Origin.{Origin}
 use Rattle.px_program.specs.inner.records.Held.{HoldsPuts}
 use Rattle.px_program.specs.records.Puts.{Put}
 use Rattle.px_program.specs.inner.Statement.{Answered}
-use Rattle.px_program.specs.Refusals.{RefusesUpsert}
+use Rattle.px_program.specs.Refusals.{Refuses, store_refusal}
 use Rattle.px_program.specs.Replied.{AddsRefused, Answers, AnswersPiece, AnswersSelect, AnswersUpsert}
 use Rattle.px_program.specs.Stamps.{stamp_after}
 use Rattle.px_program.specs.Statement.{Means, Reads, ReadsPiece}
 use Rattle.px_program.specs.inner.Stops.{LeftByNow}
 use Rattle.px_program.specs.inner.Table.{row_in}
 use Rattle.px_program.proofs.Opening.{log_is_first, touch_more, touches_nothing}
-use Rattle.px_program.proofs.Rooms.{refuses_memory, refuses_write}
 use Rattle.px_program.proofs.Rows.{rows-now}
 use Rattle.px_program.proofs.Stamping.{stamped_batch, stamped_begun, stamped_none}
 use Rattle.px_program.proofs.Stops.{kept_late}
@@ -88,31 +89,30 @@ module _ {D : Type 0} (d : Ghosts D) (origin : Origin) (disk disk' : D) (now : �
   nothing_added WriteFault other = absurd (other refl)
   nothing_added Memory other = refl
 
-  refused_kept : (f : Refusal) (a : Answer) → IsRefused d origin disk' old.trail.entries store → f ≢ WriteFault → a.reply ≡ Refused f → a.receipts ≡ [] → a.places ≡ [] → RefusesUpsert origin old.trail.entries key value f
-      → Answered d origin disk disk' now old.trail.entries store a Right
+  refused_kept : (f : StoreFault) (a : Answer) → IsRefused d origin disk' old.trail.entries store → store_refusal f ≢ WriteFault → a.reply ≡ Refused (store_refusal f) → a.receipts ≡ [] → a.places ≡ []
+      → Refuses origin old.trail.entries key value f → Answered d origin disk disk' now old.trail.entries store a Right
   refused_kept f a left other reply none no_places cause = record {
     grows = record { added = []; is = left.same ∙ sym (append-nil old.trail.entries) };
     legal = left.kept.told.legal;
     right = subst (λ (l : Reply). Right store.trail.entries [] l a.receipts a.places) (sym reply)
-        (none, subst (λ (l : List Entry). RefusesUpsert origin l key value f) (sym left.same) cause, nothing_added f other, no_places);
+        (none, (f, refl, subst (λ (l : List Entry). Refuses origin l key value f) (sym left.same) cause), nothing_added (store_refusal f) other, no_places);
     moves = record { touches = files; moments = tt; stamped = stamped_none (λ (n : ℕ). now) origin.base old.trail.entries 0 1 (omega arith) };
     goes_on = λ _. left.kept;
-    failed = λ e. (let same : Refused f ≡ Refused WriteFault = sym reply ∙ e in let is : f ≡ WriteFault = cc in absurd (other is));
+    failed = λ e. (let same : Refused (store_refusal f) ≡ Refused WriteFault = sym reply ∙ e in let is : store_refusal f ≡ WriteFault = cc in absurd (other is));
     lasts = kept_late d origin disk' store left.kept;
   }
 
-  pub answered_err : (f : Refusal) (a : Answer) → AfterRefusal d origin disk disk' old.trail.entries store key value (stamp_after old.last now) f → a.reply ≡ Refused f → a.receipts ≡ [] → a.places ≡ []
-      → RefusesUpsert origin old.trail.entries key value f → Answered d origin disk disk' now old.trail.entries store a Right
-  answered_err (Syntax place) a after reply none no_places cause = absurd cause.known
-  answered_err (LeftOut name) a after reply none no_places cause = absurd cause.known
-  answered_err Form a after reply none no_places cause = absurd cause.known
-  answered_err (Limit l) a after reply none no_places cause = refused_kept (Limit l) a after (λ e. cc) reply none no_places cause
-  answered_err Memory a after reply none no_places cause = refused_kept Memory a after (λ e. cc) reply none no_places cause
-  answered_err WriteFault a after reply none no_places cause = record {
+  pub answered_err : (f : StoreFault) (a : Answer) → AfterRefusal d origin disk disk' old.trail.entries store key value (stamp_after old.last now) f → a.reply ≡ Refused (store_refusal f) → a.receipts ≡ [] → a.places ≡ []
+      → Refuses origin old.trail.entries key value f → Answered d origin disk disk' now old.trail.entries store a Right
+  answered_err faults.Stamps a after reply none no_places cause = refused_kept faults.Stamps a after (λ e. cc) reply none no_places cause
+  answered_err faults.Log a after reply none no_places cause = refused_kept faults.Log a after (λ e. cc) reply none no_places cause
+  answered_err faults.Trail a after reply none no_places cause = refused_kept faults.Trail a after (λ e. cc) reply none no_places cause
+  answered_err faults.Memory a after reply none no_places cause = refused_kept faults.Memory a after (λ e. cc) reply none no_places cause
+  answered_err faults.WriteFault a after reply none no_places cause = record {
     grows = after.1.grows;
     legal = after.1.legal;
     right = subst (λ (l : Reply). Right store.trail.entries after.1.grows.added l a.receipts a.places) (sym reply)
-        (none, refuses_write origin store.trail.entries key value, (stamp_after old.last now, after.1.begun), no_places);
+        (none, (faults.WriteFault, refl, tt), (stamp_after old.last now, after.1.begun), no_places);
     moves = record {
       touches = files;
       moments = after.1.moments;
@@ -142,7 +142,7 @@ module _ {D : Type 0} (d : Ghosts D) (up_to_now : LeftByNow d) (origin : Origin)
       → Answered d origin disk disk now store.trail.entries store a (λ es added reply receipts places. AnswersUpsert origin es added key value reply receipts places)
   answered_memory key value a reply none no_places =
       answered_same a _ (λ e. (let no : Refused Memory ≡ Refused WriteFault = sym reply ∙ e in cc))
-      (subst (λ (l : Reply). AnswersUpsert origin store.trail.entries [] key value l a.receipts a.places) (sym reply) (none, refuses_memory origin store.trail.entries key value, refl, no_places))
+      (subst (λ (l : Reply). AnswersUpsert origin store.trail.entries [] key value l a.receipts a.places) (sym reply) (none, (faults.Memory, refl, tt), refl, no_places))
 
   pub answered_refused : (a : Answer) (f : Refusal) → f ≢ WriteFault → a.reply ≡ Refused f → a.receipts ≡ [] → a.places ≡ []
       → Answered d origin disk disk now store.trail.entries store a (λ es added reply receipts places. Answers origin es added (RefusedTask f) reply receipts places)

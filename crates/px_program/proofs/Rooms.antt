@@ -1,12 +1,11 @@
 -- The bytes of the log by what was begun, and the causes of the refusals for want of room.
-use Rattle.std.proofs.Common.{◌≡◌, ◌<◌, ◌≤◌, ◌+◌, ◌-◌, ℕ, true, false, List, [], ◌∷◌, ◌++◌, length, length-take, Option, Some, None, Result, Ok, Err, inl, inr, refl, sym, ◌∙◌, ap, subst, arith}
-use Rattle.std.specs.Prelude.{IsSome, IsTrue}
+use Rattle.std.proofs.Common.{◌≡◌, ◌<◌, ◌≤◌, ◌+◌, ◌-◌, ◌⊎◌, ℕ, true, false, List, [], ◌∷◌, ◌++◌, length, length-take, Option, Some, None, Result, Ok, Err, inl, inr, refl, sym, ◌∙◌, ap, subst, arith}
+use Rattle.std.specs.Prelude.{IfErr, IsSome, IsTrue}
 use Rattle.std.proofs.lemmas.Bool.{cases_lt}
 use Rattle.std.proofs.lemmas.List.{length-append}
 use Rattle.std.proofs.lemmas.List.Sums.{sum_by-append}
 use Rattle.px_outside.specs.declared.disk.Disk.{Ghosts}
 use Rattle.px_values.specs.declared.change.Change.{Change}
-use Rattle.px_values.specs.declared.limit.Limit.TheVariants.{Log, Stamps, Trail}
 use Rattle.px_values.specs.declared.row.Value.{Value}
 use Rattle.px_kv_trail.specs.declared.entry.Act.TheVariants.{Begun, Wrote, Ended}
 use Rattle.px_kv_trail.specs.declared.entry.Entry.{Entry}
@@ -19,7 +18,8 @@ use Rattle.px_gatelog.proofs.Standing.{with_record-listed}
 use Rattle.px_gatelog.specs.Segment.{IsAt}
 use Rattle.px_gatelog.specs.declared.gate_log.GateLog.{GateLog}
 use Rattle.px_gatelog.specs.declared.segment.Segment.{Segment}
-use Rattle.px_program.specs.declared.session.refusal.Refusal.TheVariants.{Limit, Memory, WriteFault}
+use Rattle.px_program.specs.declared.store.fault.StoreFault.{StoreFault}
+use Rattle.px_program.specs.declared.store.fault.StoreFault.TheVariants.{Stamps, Log, Trail, WriteFault, Memory}
 use Rattle.px_program.specs.declared.store.Store.{Store}
 use Rattle.px_program.specs.Added.{kv_table, session_seat, with_batch, with_begun}
 use Rattle.px_program.specs.Kv.{kv_change}
@@ -31,7 +31,7 @@ use Rattle.px_program.specs.Origin.{FitsLog, Origin, PassesLog, logged_act, logg
 use Rattle.px_program.specs.records.Body.{put_size}
 use Rattle.px_program.specs.records.Log.{kv_form}
 use Rattle.px_program.specs.records.Puts.{Put}
-use Rattle.px_program.specs.Refusals.{RefusesUpsert}
+use Rattle.px_program.specs.Refusals.{Refuses}
 
 -- ---- the bytes of segments
 
@@ -143,20 +143,26 @@ module _ {D : Type 0} (d : Ghosts D) (origin : Origin) (disk : D) (store : Store
       let c = logged.size_is in
       omega arith
 
-  pub refuses_log : is_open store.log → room_of store.log < 7 + put_size key value → RefusesUpsert origin es key value (Limit Log)
-  refuses_log opened room = record { known = tt; stamps = λ e. cc; log = λ e. passes_log opened room origin.log refl; trail = λ e. cc }
+  pub refuses_log : is_open store.log → room_of store.log < 7 + put_size key value → Refuses origin es key value Log
+  refuses_log opened room = passes_log opened room origin.log refl
 
-  pub refuses_trail : 536870912 < counted_bytes es + store.trail.bytes_room + counted_change (kv_change key value) → RefusesUpsert origin es key value (Limit Trail)
-  refuses_trail most = record { known = tt; stamps = λ e. cc; log = λ e. cc; trail = λ e. (let spare = kept.spare in omega arith) }
+  pub refuses_stamps : greatest_stamp ≤ store.last → Refuses origin es key value Stamps
+  refuses_stamps last = (let same : store.last ≡ last_of origin.base kv es = kept.holds.last_is ∙ sym kept.told.last in omega arith)
 
-  pub refuses_stamps : greatest_stamp ≤ store.last → RefusesUpsert origin es key value (Limit Stamps)
-  refuses_stamps last =
-      record {
-        known = tt;
-        stamps = λ e. (let same : store.last ≡ last_of origin.base kv es = kept.holds.last_is ∙ sym kept.told.last in omega arith);
-        log = λ e. cc;
-        trail = λ e. cc;
-      }
+  refuses_of : (f : StoreFault) → (f ≡ Trail) ⊎ (f ≡ Memory) → (f ≡ Trail → 536870912 < counted_bytes es + store.trail.bytes_room + counted_change (kv_change key value)) → Refuses origin es key value f
+  refuses_of Stamps (inl e) most = cc
+  refuses_of Stamps (inr e) most = cc
+  refuses_of Log (inl e) most = cc
+  refuses_of Log (inr e) most = cc
+  refuses_of Trail is most = (let past = most refl in let spare = kept.spare in omega arith)
+  refuses_of WriteFault is most = tt
+  refuses_of Memory is most = tt
+
+  -- the trail has no room, or memory lacks
+  pub refuses_room : {A : Type 0} (r : Result A StoreFault) (f : StoreFault) → r ≡ Err f → (f ≡ Trail) ⊎ (f ≡ Memory) → (f ≡ Trail → 536870912 < counted_bytes es + store.trail.bytes_room + counted_change (kv_change key value))
+      → IfErr r (λ x. Refuses origin es key value x)
+  refuses_room (Ok x) f is room most = tt
+  refuses_room (Err x) f is room most = (let same : x ≡ f = cc in subst (λ y. Refuses origin es key value y) (sym same) (refuses_of f room most))
 
 -- what isn't refused for the trail's limit is within it
 pub within_most : {A E : Type 0} (r : Result A E) (x : A) (e : E) (n : ℕ) → r ≡ Ok x → (trail_most < n → r ≡ Err e) → n ≤ trail_most
@@ -164,9 +170,3 @@ within_most r x e n ok refused = elim (cases_lt trail_most n) [
   | inl past ↦ (let no = refused past in cc)
   | inr within ↦ within
 ]
-
-pub refuses_memory : (origin : Origin) (es : List Entry) (key value : List ℕ) → RefusesUpsert origin es key value Memory
-refuses_memory origin es key value = record { known = tt; stamps = λ e. cc; log = λ e. cc; trail = λ e. cc }
-
-pub refuses_write : (origin : Origin) (es : List Entry) (key value : List ℕ) → RefusesUpsert origin es key value WriteFault
-refuses_write origin es key value = record { known = tt; stamps = λ e. cc; log = λ e. cc; trail = λ e. cc }

@@ -4,12 +4,11 @@ use Rattle.std.specs.Prelude.{IfErr, IfOk, IsTrue}
 use Rattle.std.proofs.lemmas.List.{append-nil}
 use Rattle.px_outside.specs.declared.disk.Disk.{Ghosts}
 use Rattle.px_outside.specs.OnDisk.{LeavesOnly, Rose, TouchesOnly}
-use Rattle.px_values.specs.declared.limit.Limit.TheVariants.{Trail}
 use Rattle.px_kv_trail.specs.Trail.{calls_of}
 use Rattle.px_kv_trail.specs.declared.entry.Entry.{Entry}
 use Rattle.px_program.specs.declared.store.receipt.Receipt.{Receipt}
-use Rattle.px_program.specs.declared.session.refusal.Refusal.{Refusal}
-use Rattle.px_program.specs.declared.session.refusal.Refusal.TheVariants.{Syntax, LeftOut, Form, Limit, WriteFault, Memory}
+use Rattle.px_program.specs.declared.store.fault.StoreFault.{StoreFault}
+use Rattle.px_program.specs.declared.store.fault.StoreFault.TheVariants.{Stamps, Log, Trail, WriteFault, Memory}
 use Rattle.px_program.specs.declared.store.Store.{Store}
 use Rattle.px_program.specs.inner.Store.{AfterRefusal, IsKept, IsRefused, IsStopped, IsUpserted}
 use Rattle.px_program.specs.Kv.{Tells}
@@ -17,7 +16,7 @@ use Rattle.px_program.specs.Added.{AddedBetween}
 use Rattle.px_gatelog.specs.GateLog.{IsSameLog, has_file}
 use Rattle.px_program.specs.inner.Log.{HasPuts, IsReady, Logged}
 use Rattle.px_program.specs.Origin.{Origin, logged_bytes, size_at_first}
-use Rattle.px_program.specs.Refusals.{RefusesUpsert}
+use Rattle.px_program.specs.Refusals.{Refuses}
 use Rattle.px_program.specs.Stops.{LastsLate}
 use Rattle.px_program.specs.inner.Stops.{Lasts, LeftByNow, LeftIsTold}
 use Rattle.px_program.proofs.Opening.{files_same, still_has, touches_nothing}
@@ -68,7 +67,7 @@ module _ {D : Type 0} (d : Ghosts D) (left_told : LeftIsTold d) (origin : Origin
         receipt = is.receipt;
       }
 
-  pub upserted_as : (from mid : ℕ) (disk : D) (es : List Entry) (store : Store) (key key' value value' : List ℕ) (r : Result Receipt Refusal) → from ≤ mid → key ≡ key' → value ≡ value'
+  pub upserted_as : (from mid : ℕ) (disk : D) (es : List Entry) (store : Store) (key key' value value' : List ℕ) (r : Result Receipt StoreFault) → from ≤ mid → key ≡ key' → value ≡ value'
       → IfOk r (λ x. IsUpserted d origin mid disk es store key value x) → IfOk r (λ x. IsUpserted d origin from disk es store key' value' x)
   upserted_as from mid disk es store key key' value value' (Ok x) later same_key same_value is =
       subst (λ (k : List ℕ). IsUpserted d origin from disk es store k value' x) same_key
@@ -79,17 +78,16 @@ module _ {D : Type 0} (d : Ghosts D) (left_told : LeftIsTold d) (origin : Origin
   stopped_since from mid to old new key value stamp later is =
       record { grows = is.grows; begun = is.begun; moments = between_wider from to mid to is.grows.added later (omega arith) is.moments; legal = is.legal }
 
-  after_since : (old mid new : D) (es : List Entry) (store : Store) (key value : List ℕ) (stamp : ℕ) (refusal : Refusal) → d.calls old ≤ d.calls mid → d.faults mid ≡ d.faults old
-      → AfterRefusal d origin mid new es store key value stamp refusal → AfterRefusal d origin old new es store key value stamp refusal
-  after_since old mid new es store key value stamp (Syntax place) later quiet is = is
-  after_since old mid new es store key value stamp (LeftOut name) later quiet is = is
-  after_since old mid new es store key value stamp Form later quiet is = is
-  after_since old mid new es store key value stamp (Limit l) later quiet is = is
+  after_since : (old mid new : D) (es : List Entry) (store : Store) (key value : List ℕ) (stamp : ℕ) (fault : StoreFault) → d.calls old ≤ d.calls mid → d.faults mid ≡ d.faults old
+      → AfterRefusal d origin mid new es store key value stamp fault → AfterRefusal d origin old new es store key value stamp fault
+  after_since old mid new es store key value stamp Stamps later quiet is = is
+  after_since old mid new es store key value stamp Log later quiet is = is
+  after_since old mid new es store key value stamp Trail later quiet is = is
   after_since old mid new es store key value stamp WriteFault later quiet is =
       (rose_after d old mid new (omega arith) is.0, stopped_since (d.calls old) (d.calls mid) (d.calls new) es store.trail.entries key value stamp later is.1, is.2)
   after_since old mid new es store key value stamp Memory later quiet is = is
 
-  pub left_since : (old mid new : D) (es : List Entry) (store : Store) (key key' value value' : List ℕ) (stamp stamp' : ℕ) (r : Result Receipt Refusal) → d.calls old ≤ d.calls mid → d.faults mid ≡ d.faults old
+  pub left_since : (old mid new : D) (es : List Entry) (store : Store) (key key' value value' : List ℕ) (stamp stamp' : ℕ) (r : Result Receipt StoreFault) → d.calls old ≤ d.calls mid → d.faults mid ≡ d.faults old
       → key ≡ key' → value ≡ value' → stamp ≡ stamp' → IfErr r (λ x. AfterRefusal d origin mid new es store key value stamp x) → IfErr r (λ x. AfterRefusal d origin old new es store key' value' stamp' x)
   left_since old mid new es store key key' value value' stamp stamp' (Ok x) later quiet same_key same_value same_stamp is = tt
   left_since old mid new es store key key' value value' stamp stamp' (Err f) later quiet same_key same_value same_stamp is =
@@ -97,11 +95,11 @@ module _ {D : Type 0} (d : Ghosts D) (left_told : LeftIsTold d) (origin : Origin
       (subst (λ (v : List ℕ). AfterRefusal d origin old new es store key v stamp' f) same_value
       (subst (λ (s : ℕ). AfterRefusal d origin old new es store key value s f) same_stamp (after_since old mid new es store key value stamp f later quiet is)))
 
-  pub refused_as : (es : List Entry) (key key' value value' : List ℕ) (r : Result Receipt Refusal) → key ≡ key' → value ≡ value' → IfErr r (λ f. RefusesUpsert origin es key value f)
-      → IfErr r (λ f. RefusesUpsert origin es key' value' f)
+  pub refused_as : (es : List Entry) (key key' value value' : List ℕ) (r : Result Receipt StoreFault) → key ≡ key' → value ≡ value' → IfErr r (λ f. Refuses origin es key value f)
+      → IfErr r (λ f. Refuses origin es key' value' f)
   refused_as es key key' value value' (Ok x) same_key same_value is = tt
   refused_as es key key' value value' (Err f) same_key same_value is =
-      subst (λ (k : List ℕ). RefusesUpsert origin es k value' f) same_key (subst (λ (v : List ℕ). RefusesUpsert origin es key v f) same_value is)
+      subst (λ (k : List ℕ). Refuses origin es k value' f) same_key (subst (λ (v : List ℕ). Refuses origin es key v f) same_value is)
 
   -- no entry was added
   pub stopped_same : (from to : ℕ) (disk : D) (old : Store) (key value : List ℕ) (stamp : ℕ) → IsKept d origin disk old → IsStopped origin.base from to old.trail.entries old.trail.entries key value stamp
@@ -114,18 +112,16 @@ module _ {D : Type 0} (d : Ghosts D) (left_told : LeftIsTold d) (origin : Origin
       (between_wider origin.opened (d.calls disk') origin.opened (d.calls disk) old.trail.entries (omega arith) touches.later kept.moments) (lasts_moved disk disk' old kept touches leaves)
 
   -- a refusal for want of room in the trail
-  after_room : (disk disk' : D) (es : List Entry) (store : Store) (key value : List ℕ) (stamp : ℕ) (f : Refusal) → (f ≡ Limit Trail) ⊎ (f ≡ Memory) → IsRefused d origin disk' es store
+  after_room : (disk disk' : D) (es : List Entry) (store : Store) (key value : List ℕ) (stamp : ℕ) (f : StoreFault) → (f ≡ Trail) ⊎ (f ≡ Memory) → IsRefused d origin disk' es store
       → AfterRefusal d origin disk disk' es store key value stamp f
-  after_room disk disk' es store key value stamp (Syntax place) is left = left
-  after_room disk disk' es store key value stamp (LeftOut name) is left = left
-  after_room disk disk' es store key value stamp Form (inl e) left = cc
-  after_room disk disk' es store key value stamp Form (inr e) left = cc
-  after_room disk disk' es store key value stamp (Limit l) is left = left
+  after_room disk disk' es store key value stamp Stamps is left = left
+  after_room disk disk' es store key value stamp Log is left = left
+  after_room disk disk' es store key value stamp Trail is left = left
   after_room disk disk' es store key value stamp WriteFault (inl e) left = cc
   after_room disk disk' es store key value stamp WriteFault (inr e) left = cc
   after_room disk disk' es store key value stamp Memory is left = left
 
-  pub left_room : (disk disk' : D) (es : List Entry) (store : Store) (key value : List ℕ) (stamp : ℕ) (r : Result Receipt Refusal) (f : Refusal) → r ≡ Err f → (f ≡ Limit Trail) ⊎ (f ≡ Memory) → IsRefused d origin disk' es store
+  pub left_room : (disk disk' : D) (es : List Entry) (store : Store) (key value : List ℕ) (stamp : ℕ) (r : Result Receipt StoreFault) (f : StoreFault) → r ≡ Err f → (f ≡ Trail) ⊎ (f ≡ Memory) → IsRefused d origin disk' es store
       → IfErr r (λ x. AfterRefusal d origin disk disk' es store key value stamp x)
   left_room disk disk' es store key value stamp (Ok x) f is room left = tt
   left_room disk disk' es store key value stamp (Err x) f is room left =

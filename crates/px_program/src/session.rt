@@ -14,6 +14,7 @@ ghost use Rattle.px_program.specs.inner.Session.{AfterPiece, AnswersPieces, Answ
 ghost use Rattle.px_program.specs.declared.session.refusal.Refusal.TheVariants.{WriteFault as WriteFaultRefusal};
 ghost use Rattle.px_program.specs.Replied.{Answers, AnswersPiece, AnswersSelect, AnswersUpsert};
 ghost use Rattle.px_program.specs.inner.Task.{MayRun};
+ghost use Rattle.px_program.specs.Refusals as spec;
 
 pub mod printing;
 pub mod refusal;
@@ -22,9 +23,10 @@ pub mod script;
 mod statement;
 
 use crate::store::Store;
+use crate::store::fault::StoreFault;
 use px_lex::script::Piece;
 use px_outside::{Clock, CountsCalls, Disk};
-use px_values::CountWord;
+use px_values::{CountWord, Limit};
 use refusal::Refusal;
 use reply::{Evidence, Item, Items, Places, Receipts, Reply};
 use script::{Span, pieces, place_of, read_script};
@@ -47,7 +49,20 @@ fn refused(alloc: Global, refusal: Refusal) -> Answer
     Answer {
         reply: Reply::Refused(refusal),
         receipts: Receipts::of(Vec::new(alloc)),
-        places: Places::of(Vec::new(alloc)),
+        places: Places::none(),
+    }
+}
+
+/// The refusal that tells a fault of the store.
+fn store_refusal(fault: StoreFault) -> Refusal
+    ensures { result ≡ spec.store_refusal fault }
+{
+    match fault {
+        StoreFault::Stamps => Refusal::Limit(Limit::Stamps),
+        StoreFault::Log => Refusal::Limit(Limit::Log),
+        StoreFault::Trail => Refusal::Limit(Limit::Trail),
+        StoreFault::WriteFault => Refusal::WriteFault,
+        StoreFault::Memory => Refusal::Memory,
     }
 }
 
@@ -69,7 +84,7 @@ fn answer_upsert<D: CountsCalls>(
         return refused(alloc, Refusal::Memory);
     };
     match store.upsert(alloc, disk, now, key, value) {
-        Err(refusal) => refused(alloc, refusal),
+        Err(fault) => refused(alloc, store_refusal(fault)),
         Ok(receipt) => {
             receipts.push_reserved(receipt);
             Answer {
@@ -78,7 +93,7 @@ fn answer_upsert<D: CountsCalls>(
                     word: CountWord::Affected,
                 },
                 receipts: Receipts::of(receipts),
-                places: Places::of(Vec::new(alloc)),
+                places: Places::none(),
             }
         }
     }
@@ -92,13 +107,11 @@ fn answer_select(alloc: Global, store: &Store) -> Answer
     let Ok(rows) = store.rows(alloc) else {
         return refused(alloc, Refusal::Memory);
     };
-    let Ok(places) = vec![in alloc; store.entries(); rows.as_slice().len()] else {
-        return refused(alloc, Refusal::Memory);
-    };
+    let places = Places::of(rows.as_slice().len(), store.entries());
     Answer {
         reply: Reply::Rows(rows),
         receipts: Receipts::of(Vec::new(alloc)),
-        places: Places::of(places),
+        places,
     }
 }
 

@@ -12,23 +12,24 @@ ghost use Rattle.px_program.specs.inner.Log.{HasPuts, IsReady, Logged};
 ghost use Rattle.px_program.specs.records.Body.{put_size};
 ghost use Rattle.px_program.specs.records.Puts.{Put};
 ghost use Rattle.px_program.specs.Origin.{Origin};
-ghost use Rattle.px_program.specs.Refusals.{RefusesUpsert};
+ghost use Rattle.px_program.specs.Refusals.{Refuses};
 ghost use Rattle.px_program.specs.Stamps.{stamp_after};
-ghost use Rattle.px_program.specs.declared.session.refusal.Refusal.TheVariants.{Limit as LimitRefusal, WriteFault};
+ghost use Rattle.px_program.specs.declared.store.fault.StoreFault.TheVariants.{Log as LogFull};
 ghost use Rattle.px_program.specs.records.Log.{put_record};
 
 mod batch;
+pub mod fault;
 pub mod receipt;
 mod records;
 mod stamps;
 mod table;
 
-use crate::session::refusal::Refusal;
 use batch::{Batch, take_room};
+use fault::StoreFault;
 use px_gatelog::{Frame, GateLog, Rolled, StartFault};
 use px_kv_trail::{Act, Entry, Trail};
-use px_outside::{CountsCalls, Disk};
-use px_values::{Changes, Limit, Rows, TableId};
+use px_outside::{CountsCalls, Disk, Failed};
+use px_values::{Changes, Rows, TableId};
 use receipt::Receipt;
 use records::put::{fill_put, put_len};
 use records::put_reader::{PutReader, Stored};
@@ -160,10 +161,10 @@ fn add_batch(trail: &mut Trail, begun_at: u64, ended_at: u64, told: Told)
 }
 
 /// Makes the log's first segment, where none is open.
-fn open_segment<D: Disk>(log: &mut GateLog, disk: &mut D) -> Result<(), Refusal>
+fn open_segment<D: Disk>(log: &mut GateLog, disk: &mut D) -> Result<(), Failed>
     ensures opened { OnOk result (is_open log.new) }
     ensures kept { (puts : List Put) (size : ℕ) → IsReady log.old → Logged ⟦<D as Disk>⟧ disk.old log.old puts size → OnOk result (Logged ⟦<D as Disk>⟧ disk.new log.new puts size) }
-    ensures err { OnErr result ((result ≡ Err WriteFault) × Rose ⟦<D as Disk>⟧ disk.old disk.new) }
+    ensures err { OnErr result (Rose ⟦<D as Disk>⟧ disk.old disk.new) }
     ensures counts { D.calls disk.old ≤ D.calls disk.new }
     ensures unfailed { OnOk result (D.faults disk.new ≡ D.faults disk.old) }
     ensures leaves { (puts : List Put) (size : ℕ) → IsReady log.old → Logged ⟦<D as Disk>⟧ disk.old log.old puts size → LeavesOnly ⟦<D as Disk>⟧ disk.old disk.new (λ moment image. HasPuts puts log.old image) }
@@ -177,7 +178,7 @@ fn open_segment<D: Disk>(log: &mut GateLog, disk: &mut D) -> Result<(), Refusal>
         match log.roll_step(disk, None) {
             Ok(Rolled::Rolled) => return Ok(()),
             Ok(Rolled::More) => {}
-            Err(_) => return Err(Refusal::WriteFault),
+            Err(_) => return Err(Failed),
         }
     }
 }
@@ -186,7 +187,6 @@ impl Store {
     ghost use Rattle.std.specs.BTreeMap.{IsOrdered};
     ghost use Rattle.px_outside.specs.OnDisk.{Stays};
     ghost use Rattle.px_gatelog.specs.declared.fault.StartFault.TheVariants.{ReadFault as LogReadFault, WriteFault as LogWriteFault, Damaged as LogDamaged};
-    ghost use Rattle.px_values.specs.declared.limit.Limit.TheVariants.{Log as LogLimit};
     ghost use Rattle.px_program.specs.Folder.{IsDamaged};
     ghost use Rattle.px_program.specs.records.Body.{IsPut, IsText};
     ghost use Rattle.px_program.specs.inner.Batch.{IsBatch};
@@ -195,13 +195,13 @@ impl Store {
     ghost use Rattle.px_program.specs.inner.Table.{row_in};
 
     /// Appends the record in the frame, for which there is room, and adds the entries of its batch.
-    fn append_batch<D: CountsCalls>(&mut self, disk: &mut D, told: Told) -> Result<(), Refusal>
+    fn append_batch<D: CountsCalls>(&mut self, disk: &mut D, told: Told) -> Result<(), Failed>
         requires open { is_open self.old.log }
         requires fits { 7 + length self.old.frame.body ≤ room_of self.old.log }
         requires room { 3 ≤ self.old.trail.room }
         requires bytes { sum_by counted_change told.changes ≤ self.old.trail.bytes_room }
         ensures ok { OnOk result (IsWritten ⟦<D as Disk>⟧ disk.old disk.new self.old self.new told.stamp told.changes told.rows) }
-        ensures err { OnErr result ((result ≡ Err WriteFault) × Rose ⟦<D as Disk>⟧ disk.old disk.new
+        ensures err { OnErr result (Rose ⟦<D as Disk>⟧ disk.old disk.new
             × (self.new.trail.entries ≡ with_begun self.old.trail.entries (D.calls disk.old) told.stamp told.changes)) }
         ensures unfailed { OnOk result (D.faults disk.new ≡ D.faults disk.old) }
         ensures counts { Passes ⟦<D as Disk>⟧ disk.old disk.new 4 }
@@ -222,13 +222,13 @@ impl Store {
                     rows: _,
                 } = told;
                 add_begun(&mut self.trail, begun_at, stamp, changes);
-                Err(Refusal::WriteFault)
+                Err(Failed)
             }
         }
     }
 
     /// Puts a batch into the log, the rows and the trail.
-    fn commit<D: CountsCalls>(&mut self, disk: &mut D, batch: Batch) -> Result<Receipt, Refusal>
+    fn commit<D: CountsCalls>(&mut self, disk: &mut D, batch: Batch) -> Result<Receipt, StoreFault>
         requires open { is_open self.old.log }
         requires batch { IsBatch batch batch.stamp (string_bytes batch.key) (string_bytes batch.value) }
         requires put { IsPut (put_in_batch batch) }
@@ -238,18 +238,18 @@ impl Store {
             → IfOk result (λ r. IsUpserted ⟦<D as Disk>⟧ origin (D.calls disk.old) disk.new self.old.trail.entries self.new (string_bytes batch.key) (string_bytes batch.value) r) }
         ensures stamp { IfOk result (λ r. r.stamp ≡ batch.stamp) }
         ensures err { (origin : Origin) → IsKept ⟦<D as Disk>⟧ origin disk.old self.old
-            → IfErr result (λ refusal. AfterRefusal ⟦<D as Disk>⟧ origin disk.old disk.new self.old.trail.entries self.new (string_bytes batch.key) (string_bytes batch.value) batch.stamp refusal) }
-        ensures cause { (origin : Origin) → IsKept ⟦<D as Disk>⟧ origin disk.old self.old → IfErr result (λ refusal. RefusesUpsert origin self.old.trail.entries (string_bytes batch.key) (string_bytes batch.value) refusal) }
-        ensures full { result ≡ Err (LimitRefusal LogLimit) → room_of self.old.log < 7 + put_size (string_bytes batch.key) (string_bytes batch.value) }
+            → IfErr result (λ fault. AfterRefusal ⟦<D as Disk>⟧ origin disk.old disk.new self.old.trail.entries self.new (string_bytes batch.key) (string_bytes batch.value) batch.stamp fault) }
+        ensures cause { (origin : Origin) → IsKept ⟦<D as Disk>⟧ origin disk.old self.old → IfErr result (λ fault. Refuses origin self.old.trail.entries (string_bytes batch.key) (string_bytes batch.value) fault) }
+        ensures full { result ≡ Err LogFull → room_of self.old.log < 7 + put_size (string_bytes batch.key) (string_bytes batch.value) }
         ensures fits { OnOk result (7 + put_size (string_bytes batch.key) (string_bytes batch.value) ≤ room_of self.old.log) }
         ensures counts { Passes ⟦<D as Disk>⟧ disk.old disk.new 4 }
         ensures touches { TouchesOnly ⟦<D as Disk>⟧ disk.old disk.new (has_file self.old.log) }
     {
         let Some(number) = self.number.checked_add(1) else {
-            return Err(Refusal::Memory);
+            return Err(StoreFault::Memory);
         };
         if !self.log.has_room(record_len(&batch)) {
-            return Err(Refusal::Limit(Limit::Log));
+            return Err(StoreFault::Log);
         }
         let bytes = take_room(&mut self.trail, &batch.changes)?;
         frame_batch(&mut self.frame, number, &batch);
@@ -263,7 +263,7 @@ impl Store {
         } = batch;
         let Ok(()) = store_row(&mut self.rows, key, Stored { stamp, value }) else {
             self.trail.give_back(3, bytes);
-            return Err(Refusal::Memory);
+            return Err(StoreFault::Memory);
         };
         self.number = number;
         let told = Told {
@@ -272,7 +272,7 @@ impl Store {
             rows,
         };
         match self.append_batch(disk, told) {
-            Err(_) => Err(Refusal::WriteFault),
+            Err(_) => Err(StoreFault::WriteFault),
             Ok(()) => Ok(Receipt {
                 table: KV,
                 stamp,
@@ -318,25 +318,25 @@ impl Store {
         now: u64,
         key: &str,
         value: &str,
-    ) -> Result<Receipt, Refusal>
+    ) -> Result<Receipt, StoreFault>
         requires key { IsText 1000 key.now }
         requires value { IsText 1000 value.now }
         ensures ok { (origin : Origin) → IsKept ⟦<D as Disk>⟧ origin disk.old self.old
             → IfOk result (λ r. IsUpserted ⟦<D as Disk>⟧ origin (D.calls disk.old) disk.new self.old.trail.entries self.new key.now value.now r) }
         ensures stamp { IfOk result (λ r. (r.stamp ≡ stamp_after self.old.last now) × (r.stamp ≤ 9223372036854775807)) }
         ensures err { (origin : Origin) → IsKept ⟦<D as Disk>⟧ origin disk.old self.old
-            → IfErr result (λ refusal. AfterRefusal ⟦<D as Disk>⟧ origin disk.old disk.new self.old.trail.entries self.new key.now value.now (stamp_after self.old.last now) refusal) }
-        ensures cause { (origin : Origin) → IsKept ⟦<D as Disk>⟧ origin disk.old self.old → IfErr result (λ refusal. RefusesUpsert origin self.old.trail.entries key.now value.now refusal) }
+            → IfErr result (λ fault. AfterRefusal ⟦<D as Disk>⟧ origin disk.old disk.new self.old.trail.entries self.new key.now value.now (stamp_after self.old.last now) fault) }
+        ensures cause { (origin : Origin) → IsKept ⟦<D as Disk>⟧ origin disk.old self.old → IfErr result (λ fault. Refuses origin self.old.trail.entries key.now value.now fault) }
         ensures touches { TouchesOnly ⟦<D as Disk>⟧ disk.old disk.new (has_file self.old.log) }
     {
         let Some(stamp) = next_stamp(self.last, now) else {
-            return Err(Refusal::Limit(Limit::Stamps));
+            return Err(StoreFault::Stamps);
         };
         let Ok(batch) = Batch::new(alloc, stamp, key, value) else {
-            return Err(Refusal::Memory);
+            return Err(StoreFault::Memory);
         };
         let Ok(()) = open_segment(&mut self.log, disk) else {
-            return Err(Refusal::WriteFault);
+            return Err(StoreFault::WriteFault);
         };
         self.commit(disk, batch)
     }

@@ -13,8 +13,8 @@ use Rattle.px_gatelog.specs.Steps.{IsAppend, Reaches}
 use Rattle.px_gatelog.specs.GateLog.{IsSameLog, is_open}
 use Rattle.px_gatelog.specs.declared.gate_log.GateLog.{GateLog}
 use Rattle.px_program.specs.declared.store.receipt.Receipt.{Receipt}
-use Rattle.px_program.specs.declared.session.refusal.Refusal.{Refusal}
-use Rattle.px_program.specs.declared.session.refusal.Refusal.TheVariants.{WriteFault}
+use Rattle.px_program.specs.declared.store.fault.StoreFault.{StoreFault}
+use Rattle.px_program.specs.declared.store.fault.StoreFault.TheVariants.{WriteFault}
 use Rattle.px_program.specs.declared.store.Store.{Store}
 use Rattle.px_program.specs.Added.{AddedBetween, AddsBatch, AddsBegun, with_batch}
 use Rattle.px_program.specs.Kv.{Tells, base_by}
@@ -93,10 +93,10 @@ pub record IsRefused {D : Type 0} (d : Ghosts D) (origin : Origin) (disk : D) (o
   pub same : store.trail.entries ≡ old
 
 -- After a failed write the batch is begun, or not yet, and no more. After another refusal all goes on as it was.
-abbrev pub AfterRefusal : {D : Type 0} → Ghosts D → Origin → D → D → List Entry → Store → (key value : List ℕ) (stamp : ℕ) → Refusal → Type 0
+abbrev pub AfterRefusal : {D : Type 0} → Ghosts D → Origin → D → D → List Entry → Store → (key value : List ℕ) (stamp : ℕ) → StoreFault → Type 0
 AfterRefusal d origin disk disk' old store key value stamp WriteFault =
     Rose d disk disk' × IsStopped origin.base (d.calls disk) (d.calls disk') old store.trail.entries key value stamp × LastsLate d origin.base origin.opened store.trail.entries disk'
-AfterRefusal d origin disk disk' old store key value stamp refusal = IsRefused d origin disk' old store
+AfterRefusal d origin disk disk' old store key value stamp fault = IsRefused d origin disk' old store
 
 -- ---- an opening
 

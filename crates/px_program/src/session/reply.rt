@@ -1,5 +1,5 @@
 // What a session is answered: transcripts, their items, and the evidence of each.
-ghost use Rattle.std.specs.Prelude.{◌≡◌, List, ℕ};
+ghost use Rattle.std.specs.Prelude.{◌≡◌, [], length, replicate};
 
 use crate::session::refusal::Refusal;
 use crate::session::script::Span;
@@ -17,59 +17,50 @@ pub enum Reply {
     Refused(Refusal),
 }
 
-#[derive(Drop)]
-pub struct Receipts {
-    receipts: Vec<Receipt>,
-}
+pub type Receipts = px_values::Items<Receipt>;
 
-impl Model for Receipts {
-    ghost use Rattle.std.specs.Prelude.{List};
-    ghost use Rattle.px_program.specs.declared.store.receipt.Receipt.{Receipt};
-
-    ghost Value = { List Receipt };
-
-    ghost view = { λ r. r.receipts.items };
-}
-
-impl Receipts {
-    pub fn of(receipts: Vec<Receipt>) -> Receipts
-        ensures { result ≡ receipts.items }
-    {
-        Receipts { receipts }
-    }
-
-    pub fn as_slice(&self) -> &[Receipt]
-        ensures { result.now ≡ self.now }
-    {
-        self.receipts.as_slice()
-    }
-}
-
-/// Numbers of trail entries.
+/// The place of each row of an answer, a number of trail entries: the same for all of them.
 #[derive(Drop)]
 pub struct Places {
-    places: Vec<u64>,
+    rows: usize,
+    place: u64,
 }
 
 impl Model for Places {
-    ghost use Rattle.std.specs.Prelude.{List, ℕ};
+    ghost use Rattle.std.specs.Prelude.{List, ℕ, replicate};
 
     ghost Value = { List ℕ };
 
-    ghost view = { λ p. p.places.items };
+    ghost view = { λ p. replicate p.rows p.place };
 }
 
 impl Places {
-    pub fn of(places: Vec<u64>) -> Places
-        ensures { result ≡ places.items }
+    /// Those of no row.
+    pub fn none() -> Places
+        ensures { result ≡ [] }
     {
-        Places { places }
+        Places { rows: 0, place: 0 }
     }
 
-    pub fn as_slice(&self) -> &[u64]
-        ensures { result.now ≡ self.now }
+    /// Those of so many rows.
+    pub fn of(rows: usize, place: u64) -> Places
+        ensures { result ≡ replicate rows place }
     {
-        self.places.as_slice()
+        Places { rows, place }
+    }
+
+    /// Of how many rows they are.
+    pub fn len(&self) -> usize
+        ensures { result ≡ length self.now }
+    {
+        self.rows
+    }
+
+    /// The place of each row, where there is one.
+    pub fn place(&self) -> u64
+        ensures { self.now ≡ replicate (length self.now) result }
+    {
+        self.place
     }
 }
 
@@ -91,33 +82,7 @@ pub struct Item {
     pub evidence: Evidence,
 }
 
-#[derive(Drop)]
-pub struct Items {
-    items: Vec<Item>,
-}
-
-impl Model for Items {
-    ghost use Rattle.std.specs.Prelude.{List};
-    ghost use Rattle.px_program.specs.declared.session.reply.Item.{Item};
-
-    ghost Value = { List Item };
-
-    ghost view = { λ i. i.items.items };
-}
-
-impl Items {
-    pub fn of(items: Vec<Item>) -> Items
-        ensures { result ≡ items.items }
-    {
-        Items { items }
-    }
-
-    pub fn as_slice(&self) -> &[Item]
-        ensures { result.now ≡ self.now }
-    {
-        self.items.as_slice()
-    }
-}
+pub type Items = px_values::Items<Item>;
 
 /// The answers of a session in a round, in order.
 #[derive(Drop)]
@@ -127,30 +92,4 @@ pub struct Transcript {
     pub items: Items,
 }
 
-#[derive(Drop)]
-pub struct Transcripts {
-    transcripts: Vec<Transcript>,
-}
-
-impl Model for Transcripts {
-    ghost use Rattle.std.specs.Prelude.{List};
-    ghost use Rattle.px_program.specs.declared.session.reply.Transcript.{Transcript};
-
-    ghost Value = { List Transcript };
-
-    ghost view = { λ t. t.transcripts.items };
-}
-
-impl Transcripts {
-    pub fn of(transcripts: Vec<Transcript>) -> Transcripts
-        ensures { result ≡ transcripts.items }
-    {
-        Transcripts { transcripts }
-    }
-
-    pub fn as_slice(&self) -> &[Transcript]
-        ensures { result.now ≡ self.now }
-    {
-        self.transcripts.as_slice()
-    }
-}
+pub type Transcripts = px_values::Items<Transcript>;

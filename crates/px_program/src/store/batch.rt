@@ -2,14 +2,12 @@
 ghost use Rattle.std.specs.Prelude.{◌≡◌, ◌<◌, ◌≤◌, ◌+◌, ◌∷◌, [], ◌↔◌, ℕ, sum_by, IfOk, OnErr, IfErr, Err, MatchOption, ◌≢◌, ◌⊎◌};
 ghost use Rattle.px_kv_trail.specs.Count.{counted_bytes, counted_change};
 ghost use Rattle.px_program.specs.Kv.{kv_change};
-ghost use Rattle.px_program.specs.declared.session.refusal.Refusal.TheVariants.{Limit as LimitRefusal, Memory as MemoryRefusal};
-ghost use Rattle.px_program.specs.Refusals.{IsUpsertRefusal};
-ghost use Rattle.px_values.specs.declared.limit.Limit.TheVariants.{Stamps as StampsLimit, Trail as TrailLimit};
+ghost use Rattle.px_program.specs.declared.store.fault.StoreFault.TheVariants.{Trail as TrailFull, Memory as NoMemory};
 
-use crate::session::refusal::Refusal;
+use crate::store::fault::StoreFault;
 use crate::store::table::key_row;
 use px_kv_trail::{Trail, TrailFault, changes_bytes};
-use px_values::{Assignment, Assignments, Change, Changes, Limit, Rows, Text, Value, What};
+use px_values::{Assignment, Assignments, Change, Changes, Rows, Text, Value, What};
 use std::alloc::{AllocError, Global};
 
 /// A batch of one row, with all the memory that it needs.
@@ -68,20 +66,18 @@ impl Batch {
 
 /// Takes the room of the trail for the three entries of a batch, and answers how many bytes it counts. A refusal
 /// leaves the trail as it was.
-pub fn take_room(trail: &mut Trail, changes: &Changes) -> Result<u64, Refusal>
+pub fn take_room(trail: &mut Trail, changes: &Changes) -> Result<u64, StoreFault>
     ensures counted { IfOk result (λ bytes. bytes ≡ sum_by counted_change changes.now) }
     ensures ok { IfOk result (λ bytes. (trail.new.room ≡ trail.old.room + 3) × (trail.new.bytes_room ≡ trail.old.bytes_room + bytes)) }
     ensures same { trail.new.entries ≡ trail.old.entries }
     ensures err { OnErr result (trail.new ≡ trail.old) }
-    ensures limit { (result ≡ Err (LimitRefusal TrailLimit)) ↔ (536870912 < counted_bytes trail.old.entries + trail.old.bytes_room + sum_by counted_change changes.now) }
-    ensures others { OnErr result ((result ≡ Err (LimitRefusal TrailLimit)) ⊎ (result ≡ Err MemoryRefusal)) }
-    ensures known { IfErr result IsUpsertRefusal }
-    ensures stamps { result ≢ Err (LimitRefusal StampsLimit) }
+    ensures limit { (result ≡ Err TrailFull) ↔ (536870912 < counted_bytes trail.old.entries + trail.old.bytes_room + sum_by counted_change changes.now) }
+    ensures others { OnErr result ((result ≡ Err TrailFull) ⊎ (result ≡ Err NoMemory)) }
 {
     let bytes = changes_bytes(changes.as_slice());
     match trail.reserve(3, bytes) {
         Ok(()) => Ok(bytes),
-        Err(TrailFault::Limit) => Err(Refusal::Limit(Limit::Trail)),
-        Err(TrailFault::Memory) => Err(Refusal::Memory),
+        Err(TrailFault::Limit) => Err(StoreFault::Trail),
+        Err(TrailFault::Memory) => Err(StoreFault::Memory),
     }
 }
