@@ -5,3 +5,4 @@ pub mod KeysHeld
 pub mod MarksSeen
 pub mod Versions
 pub mod Worked
+pub mod StatesFit

@@ -8,7 +8,10 @@ ghost use Rattle.px_rows.specs.Keys.{IsRightTable, row_columns};
 ghost use Rattle.px_tables.specs.declared.index.Index.{Index};
 ghost use Rattle.px_tables.specs.declared.table.Table.{Table};
 ghost use Rattle.px_trail.specs.Batches.{has, is_distinct};
-ghost use Rattle.px_values.specs.States.{RowState, Shape};
+ghost use Rattle.px_values.specs.States.{RowState, Shape, apply};
+ghost use Rattle.px_values.specs.declared.change.What.{What};
+ghost use Rattle.px_rows.specs.Spelled.{FitsTable};
+ghost use Rattle.px_trail.specs.Trail.{table_shape};
 ghost use Rattle.px_values.specs.declared.row.Value.{Value as ColumnValue};
 ghost use Rattle.px_world.specs.Events.{Verdict as Repair};
 ghost use Rattle.px_world.specs.IndexCells.{base_cells, close_cells, fix_cells, mark_cells};
@@ -16,11 +19,12 @@ ghost use Rattle.px_indexrow.specs.Form.{FitsState, IsRightIndex, index_columns,
 ghost use Rattle.px_indexrow.specs.Lists.{AreOwned, base_of, cells_for, closes_of, fix_of, marks_of};
 
 /// The index rows of a table's index keep what an index region asks: a row's keys are its own, and no two rows have one. The key
-/// of a state is its indexed values and the row's primary key.
+/// of a state is its indexed values and the row's primary key, and a change that fits leaves a state that fits.
 pub fn law_index()
     ensures form { (t : Table) (i : Index) → IsIndexForm (index_form t i) }
     ensures placed { (t : Table) (i : Index) → IsRightIndex t i → IsPlaced (index_form t i) }
     ensures key { (t : Table) (i : Index) (r row : List ColumnValue) → IsRightTable t → IsRightIndex t i → Fits (row_columns t) r → FitsState t (Some row) → key_of_state t i r (Some row) ≡ Some (spelled (index_columns t i) (index_values t i r row)) }
+    ensures fits { (t : Table) (r : List ColumnValue) (o : RowState) (w : What) → IsRightTable t → FitsTable t r w → FitsState t o → FitsState t (apply (table_shape t) r o w) }
 {}
 
 /// Of the marks and closes of rows, in any order, each row sees the cells of its own event and no others;
