@@ -1,7 +1,6 @@
 -- An image stands for one thing at most.
 use Rattle.std.proofs.Common.{◌≡◌, ℕ, List, [], sym, ap, subst, ◌∙◌}
 use Rattle.px_outside.specs.Disk.{Image}
-use Rattle.px_cells.specs.CellData.{CellData}
 use Rattle.px_wal.specs.Batches.{Batch, cells_over}
 use Rattle.px_wal.specs.Snapshot.{SnapshotData}
 use Rattle.px_wal.specs.Wal.{LogStands}

@@ -21,6 +21,10 @@ pub record RegionData : Type 0 where
   pub horizon : ℕ
   pub stamp : ℕ
 
+-- The sorted list of what is read of a region.
+abbrev pub read_of : Region → List CellData
+read_of region = region.store.cells
+
 -- a batch is written before all else
 abbrev pub with_batch : RegionData → List CellData → RegionData
 with_batch s cells = record { cells = settle (cells ++ s.cells); horizon = s.horizon; stamp = s.stamp }

@@ -1,9 +1,17 @@
 // The laws of what an image stands for.
 ghost use Rattle.std.specs.Prelude.{◌≡◌, ℕ};
 ghost use Rattle.px_outside.specs.Disk.{Image};
-ghost use Rattle.px_region.specs.Region.{RegionData, Stands};
+ghost use Rattle.px_region.specs.Region.{Holds, RegionData, Stands, read_of};
+ghost use Rattle.px_region.specs.declared.region.Region.{Region as Regions};
+
+use px_outside::Disk;
 
 /// The files of a region stand for one thing at most.
 pub fn an_image_stands_for_one()
     ensures { (number : ℕ) (image : Image) (s t : RegionData) → Stands number image s → Stands number image t → s ≡ t }
+{}
+
+/// What a region has is what is read of it.
+pub fn what_is_held_is_read<D: Disk>()
+    ensures { (region : Regions) (disk : D) (s : RegionData) → Holds ⟦<D as Disk>⟧ region disk s → read_of region ≡ s.cells }
 {}

@@ -16,7 +16,7 @@ pub enum JobStep {
 }
 
 impl Region {
-    ghost use Rattle.px_region.specs.Region.{Holds, RegionData, Stands};
+    ghost use Rattle.px_region.specs.Region.{Holds, RegionData, Stands, read_of};
     ghost use Rattle.px_region.specs.Promise.{IsPrepared, IsSamePromise};
     ghost use Rattle.px_region.specs.declared.fault.JobFault.TheVariants.{WriteFault};
 
@@ -32,6 +32,7 @@ impl Region {
         ensures touches { (s : RegionData) → Holds ⟦<D as Disk>⟧ self.old disk.old s → TouchesOnly ⟦<D as Disk>⟧ disk.old disk.new (HasFile self.old.number) }
         ensures counts { Passes ⟦<D as Disk>⟧ disk.old disk.new 4 }
         ensures promised { IsSamePromise self.old self.new }
+        ensures read { read_of self.new ≡ read_of self.old }
         ensures number { self.new.number ≡ self.old.number }
         ensures looked { self.new.looked ≡ self.old.looked }
     {

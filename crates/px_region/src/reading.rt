@@ -67,7 +67,7 @@ fn give_rows<T: CellTaker>(
 }
 
 impl Region {
-    ghost use Rattle.px_region.specs.Region.{Holds, RegionData};
+    ghost use Rattle.px_region.specs.Region.{Holds, RegionData, read_of};
     ghost use Rattle.px_region.specs.Promise.{IsAlike, IsSamePromise};
     ghost use Rattle.px_outside.specs.OnDisk.{Stays};
     ghost use Rattle.px_cells.specs.Rows.{AreRows, IsRow};
@@ -83,6 +83,7 @@ impl Region {
     ) -> Result<(), LookFault>
         ensures given { (s : RegionData) (before : List CellData) → Holds ⟦<D as Disk>⟧ self.old disk.old s → T.has_taken taker.old before
             → OnOk result ((row : List CellData) × IsRow s.cells key.now row × T.has_taken taker.new (before ++ row)) }
+        ensures read { (before : List CellData) → T.has_taken taker.old before → OnOk result ((row : List CellData) × IsRow (read_of self.old) key.now row × T.has_taken taker.new (before ++ row)) }
         ensures looked { self.new.looked ≡ min (self.old.looked + 1) 18446744073709551615 }
         ensures alike { IsAlike self.old self.new }
         ensures promised { IsSamePromise self.old self.new }
@@ -108,6 +109,9 @@ impl Region {
     ) -> Result<(), LookFault>
         ensures given { (s : RegionData) (before : List CellData) → Holds ⟦<D as Disk>⟧ self.old disk.old s → T.has_taken taker.old before
             → OnOk result ((rows : List CellData) × AreRows s.cells low.now (option_copied high.entry) rows × ((n : ℕ) × IsGiven (T.wants taker.old) before rows n × T.has_taken taker.new (before ++ take n rows)
+            × (self.new.looked ≡ min (self.old.looked + rows_before rows n) 18446744073709551615))) }
+        ensures read { (before : List CellData) → T.has_taken taker.old before
+            → OnOk result ((rows : List CellData) × AreRows (read_of self.old) low.now (option_copied high.entry) rows × ((n : ℕ) × IsGiven (T.wants taker.old) before rows n × T.has_taken taker.new (before ++ take n rows)
             × (self.new.looked ≡ min (self.old.looked + rows_before rows n) 18446744073709551615))) }
         ensures looked { (s : RegionData) → Holds ⟦<D as Disk>⟧ self.old disk.old s
             → (rows : List CellData) × AreRows s.cells low.now (option_copied high.entry) rows × (self.new.looked ≤ self.old.looked + rows_before rows (length rows)) }

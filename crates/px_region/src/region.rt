@@ -62,7 +62,8 @@ fn byte_len(cells: &[Cell]) -> u64
 }
 
 impl Region {
-    ghost use Rattle.px_region.specs.Region.{Holds, RegionData, Stands, with_batch};
+    ghost use Rattle.px_region.specs.Region.{Holds, RegionData, Stands, read_of, with_batch};
+    ghost use Rattle.px_merge.specs.Settle.{settle};
     ghost use Rattle.px_region.specs.Promise.{HasRoom, IsAlike, IsReady, PassesLimit};
     ghost use Rattle.px_outside.specs.OnDisk.{LeavesOnly, Passes, Rose, TouchesOnly};
     ghost use Rattle.px_cells.specs.CellData.{CellData};
@@ -117,6 +118,7 @@ impl Region {
         ensures busy { (a b : ℕ) → (result ≡ Err (Busy a b)) ↔ (IsReady self.old × PassesLimit self.old cells bytes × (a ≡ self.old.cells + self.old.promised) × (b ≡ self.old.bytes + self.old.promised_bytes)) }
         ensures not_ready { (result ≡ Err NotReady) ↔ ((IsReady self.old → ⊥) ⊎ ((PassesLimit self.old cells bytes → ⊥) × (HasRoom self.old cells bytes → ⊥))) }
         ensures alike { IsAlike self.old self.new }
+        ensures read { read_of self.new ≡ read_of self.old }
         ensures looked { self.new.looked ≡ self.old.looked }
     {
         if !self.is_ready() {
@@ -145,6 +147,7 @@ impl Region {
         requires bytes { bytes ≤ self.old.promised_bytes }
         ensures promised { (self.new.promised + cells ≡ self.old.promised) × (self.new.promised_bytes + bytes ≡ self.old.promised_bytes) }
         ensures alike { IsAlike self.old self.new }
+        ensures read { read_of self.new ≡ read_of self.old }
         ensures looked { self.new.looked ≡ self.old.looked }
     {
         self.promised -= cells;
@@ -166,6 +169,8 @@ impl Region {
         requires promised_bytes { length (all_bytes cells) ≤ self.old.promised_bytes }
         requires room { 12 + length (all_bytes cells) ≤ frame.old.room }
         ensures done { (s : RegionData) → Holds ⟦<D as Disk>⟧ self.old disk.old s → OnOk result (Holds ⟦<D as Disk>⟧ self.new disk.new (with_batch s cells)) }
+        ensures read { OnOk result (read_of self.new ≡ settle (cells ++ read_of self.old)) }
+        ensures unread { OnErr result (read_of self.new ≡ read_of self.old) }
 
         // At each moment of the call a stop leaves the region without the batch, or with it.
         ensures any_moment { (s : RegionData) → Holds ⟦<D as Disk>⟧ self.old disk.old s

@@ -3,6 +3,7 @@ use Rattle.px_cells.specs.CellData.{CellData}
 use Rattle.px_cellbytes.specs.Spelling.{all_bytes}
 use Rattle.px_wal.specs.Manifest.{names}
 use Rattle.px_wal.specs.Wal.{next_batch}
+use Rattle.px_merge.proofs.Settling.{settled_is}
 use Rattle.px_wal.proofs.Appended.{written_or}
 use Rattle.px_region.proofs.Holding.{log_leaves, log_more, no_room, touches_log}
 use Rattle.px_region.proofs.region.Region.apply.Goals as goal
@@ -35,3 +36,6 @@ returns-in-Ok-clause-any_moment g c = λ s holds.
 
 pub returns-in-Ok-clause-touches : goal.returns-in-Ok-clause-touches
 returns-in-Ok-clause-touches g c = λ s holds. touches_log g.D.Disk c.args.self.now c.args.disk.now s holds c.append.new.disk (c.append.ensures.touches _ _ holds.batches holds.log)
+
+pub returns-in-Ok-clause-read : goal.returns-in-Ok-clause-read
+returns-in-Ok-clause-read g c = settled_is _ _ c.put.ensures.merged
