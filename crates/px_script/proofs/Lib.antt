@@ -1,0 +1,4 @@
+pub mod Divisions
+pub mod Lines
+pub mod Places
+pub mod Texts
