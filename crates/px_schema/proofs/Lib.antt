@@ -12,3 +12,4 @@ pub mod Rights
 pub mod StaysRight
 pub mod Puts
 pub mod Nexts
+pub mod Counts

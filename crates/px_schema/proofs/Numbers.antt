@@ -106,7 +106,7 @@ next_is s (IndexIs i) = refl
 next_is s (TableGone n) = refl
 next_is s (IndexGone n) = refl
 
-next_drawn : (s : Standing) (d : CatalogItem) → IsDrawn s.next (draws s d) → (after s d).next ≡ s.next + length (draws s d)
+pub next_drawn : (s : Standing) (d : CatalogItem) → IsDrawn s.next (draws s d) → (after s d).next ≡ s.next + length (draws s d)
 next_drawn s d is = next_is s d ∙ sym (above_filter s.next s.next (omega arith) (drawn_by d)) ∙ drawn_above s.next (draws s d) is
 
 pub drawn_in_order : (s : Standing) (ds : List CatalogItem) → DrawInOrder s ds → IsDrawn s.next (draws_all s ds)

@@ -8,3 +8,4 @@ pub mod Records
 pub mod Fresh
 pub mod Outcomes
 pub mod Underway
+pub mod Counts

@@ -6,11 +6,12 @@ ghost use Rattle.px_tables.specs.declared.table.Table.{Table};
 ghost use Rattle.px_pieces.specs.Reading.{IsFirstWrong, reading_of};
 ghost use Rattle.px_schema.specs.declared.item.CatalogItem.{CatalogItem};
 ghost use Rattle.px_schema.specs.declared.standing.Standing.{Standing};
+ghost use Rattle.px_schema.specs.Counts.{HasRoom, IsWithinCounts};
 ghost use Rattle.px_schema.specs.Format.{index, standing, table};
 ghost use Rattle.px_schema.specs.Fresh.{fresh, fresh_bytes};
 ghost use Rattle.px_schema.specs.Records.{IsRight, definition_of, snapshot_of};
 ghost use Rattle.px_schema.specs.Spelled.{body_of, kind_of, standing_bytes};
-ghost use Rattle.px_schema.specs.Stands.{DrawInOrder, IsBelowNext, IsDrawn, after, after_all, draws_all};
+ghost use Rattle.px_schema.specs.Stands.{DrawInOrder, IsBelowNext, IsDrawn, after, after_all, draws, draws_all};
 
 /// The next number never falls, whatever is defined or dropped, and stays above every number of what stands.
 /// Where each definition draws the next numbers, those of a whole run go on without a gap, so none comes twice.
@@ -44,4 +45,11 @@ pub fn places_are_first()
 pub fn what_stands_fits()
     ensures fresh { standing.right fresh }
     ensures after { (s : Standing) (d : CatalogItem) → standing.right s → IsRight s d → standing.right (after s d) }
+{}
+
+/// At most 256 tables stand, at most 8 indexes of each, and no number passes the greatest: the limits hold in the beginning,
+/// and stay so where each definition has room and draws the next numbers.
+pub fn limits_are_kept()
+    ensures fresh { IsWithinCounts fresh }
+    ensures after { (s : Standing) (d : CatalogItem) → IsWithinCounts s → HasRoom s d → IsDrawn s.next (draws s d) → IsWithinCounts (after s d) }
 {}

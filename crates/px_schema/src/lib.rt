@@ -10,6 +10,7 @@ mod list;
 mod numbered;
 mod part;
 mod record;
+mod room;
 mod standing;
 mod table;
 mod text;
