@@ -1,0 +1,3 @@
+pub mod RowCells
+pub mod KeyOrder
+pub mod Cut

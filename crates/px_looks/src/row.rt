@@ -1,0 +1,48 @@
+// The row of a key.
+ghost use Rattle.std.specs.Prelude.{◌≡◌, ◌+◌, IfOk, length, min};
+ghost use Rattle.px_cells.specs.Contents.{value_at};
+ghost use Rattle.px_cells.specs.Sight.{IsPlainRegion};
+ghost use Rattle.px_region.specs.Promise.{IsAlike, IsSamePromise};
+ghost use Rattle.px_region.specs.Region.{read_of};
+ghost use Rattle.px_rows.specs.Keys.{IsRightTable, row_key};
+ghost use Rattle.px_rows.specs.Spelled.{IsPlainAt, row_form};
+
+use crate::gathered::Gathered;
+use px_outside::Disk;
+use px_region::{LookFault, Region};
+use px_rows::row_at;
+use px_tables::Table;
+use px_values::{Row, Value};
+use std::alloc::Global;
+
+/// The row with these primary key values, and this key, that a point sees of a region: none where it doesn't stand.
+///
+/// It is found in logarithmic time by its own cells, and counts as one row looked at. Nothing else of the region or the
+/// disk changes. It is refused with `Memory` alone.
+pub fn row_state<D: Disk>(
+    alloc: Global,
+    disk: &mut D,
+    region: &mut Region,
+    table: &Table,
+    row: &[Value],
+    key: &[u8],
+    point: u64,
+) -> Result<Option<Row>, LookFault>
+    requires table { IsRightTable table.now }
+    requires count { length row.now ≡ length table.now.key }
+    requires key { key.now ≡ row_key table.now row.now }
+    requires region { IsPlainRegion (read_of region.old) }
+    requires plain { IsPlainAt (value_at (read_of region.old)) key.now }
+    ensures state { IfOk result (λ state. state ≡ (row_form table.now).spelled (value_at (read_of region.old)) row.now point) }
+    ensures looked { region.new.looked ≡ min (region.old.looked + 1) 18446744073709551615 }
+    ensures alike { IsAlike region.old region.new }
+    ensures promised { IsSamePromise region.old region.new }
+    ensures untouched { disk.new ≡ disk.old }
+{
+    let mut gathered = Gathered::new(alloc, 1);
+    region.row_versions(disk, key, &mut gathered)?;
+    match row_at(alloc, table, row, &gathered.cells, point) {
+        Ok(state) => Ok(state),
+        Err(_) => Err(LookFault::Memory),
+    }
+}
