@@ -1,5 +1,5 @@
 // The cells of index rows.
-ghost use Rattle.std.specs.Prelude.{◌≡◌, ◌≢◌, ◌<◌, ◌≤◌, ◌⊎◌, ℕ, Some, None, IfOk, suc, length, get_or, ◌∷◌, []};
+ghost use Rattle.std.specs.Prelude.{◌≡◌, ◌≢◌, ◌<◌, ◌≤◌, ◌⊎◌, ℕ, Some, None, IfOk, IsOk, suc, length, get_or, ◌∷◌, []};
 ghost use Rattle.std.specs.Option.{option_copied};
 ghost use Rattle.px_keys.specs.Spelling.{Fits};
 ghost use Rattle.px_indexrow.specs.Verdicts.{verdict_of};
@@ -42,6 +42,7 @@ pub fn marks(
     requires old { FitsState table.now old.now }
     requires new { FitsState table.now new.now }
     ensures cells { IfOk result (λ cells. cells ≡ marks_of (index_form table.now index.now) row.now stamp old.now new.now) }
+    ensures short { IsOk result → (IsLong table.now index.now row.now new.now → ⊥) × (IsLong table.now index.now row.now old.now → ⊥) }
     ensures too_long { result ≡ Err RowFault.KeyTooLong → IsLong table.now index.now row.now new.now ⊎ IsLong table.now index.now row.now old.now }
     ensures not_a_row { (place : ℕ) → result ≢ Err (RowFault.NotARow place) }
 {
@@ -71,6 +72,7 @@ pub fn closes(
     requires old { FitsState table.now old.now }
     requires new { FitsState table.now new.now }
     ensures cells { IfOk result (λ cells. cells ≡ closes_of (index_form table.now index.now) row.now stamp old.now new.now) }
+    ensures short { IsOk result → (IsLong table.now index.now row.now new.now → ⊥) × (IsLong table.now index.now row.now old.now → ⊥) }
     ensures too_long { result ≡ Err RowFault.KeyTooLong → IsLong table.now index.now row.now new.now ⊎ IsLong table.now index.now row.now old.now }
     ensures not_a_row { (place : ℕ) → result ≢ Err (RowFault.NotARow place) }
 {

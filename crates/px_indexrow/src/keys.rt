@@ -1,5 +1,5 @@
 // The keys of index rows.
-ghost use Rattle.std.specs.Prelude.{◌≡◌, ◌≢◌, ◌<◌, ◌≤◌, ℕ, Some, IfOk, length, map};
+ghost use Rattle.std.specs.Prelude.{◌≡◌, ◌≢◌, ◌<◌, ◌≤◌, ℕ, Some, IfOk, IsOk, length, map};
 ghost use Rattle.std.specs.List.{All};
 ghost use Rattle.px_values.specs.Limits.{most_key};
 ghost use Rattle.px_keys.specs.Spelling.{Fits, columns_of, spelled, values_of};
@@ -50,6 +50,7 @@ pub(crate) fn state_key(
     requires fits { Fits (row_columns table.now) row.now }
     requires state { FitsState table.now state.now }
     ensures ok { IfOk result (λ key. key ≡ key_of_state table.now index.now row.now state.now) }
+    ensures short { IsOk result → IsLong table.now index.now row.now state.now → ⊥ }
     ensures too_long { result ≡ Err RowFault.KeyTooLong → IsLong table.now index.now row.now state.now }
     ensures not_a_row { (place : ℕ) → result ≢ Err (RowFault.NotARow place) }
 {

@@ -16,5 +16,5 @@ pub use cells::{EMPTY_COLUMN, FIRST_COLUMN, cells_of};
 pub use fault::RowFault;
 pub use key::{column_of, key_of, row_of_key};
 pub use laws::law_rows;
-pub use reading::row_at;
+pub use reading::{fresh, row_at};
 pub use stored::{read_value, stored_value};

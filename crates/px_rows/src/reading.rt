@@ -104,7 +104,7 @@ fn is_hidden(stamp: u64, family: Option<u64>) -> bool
 }
 
 /// The row with this key in which all other columns are NULL.
-fn fresh(alloc: Global, table: &Table, row: &[Value]) -> Result<Vec<Value>, AllocError>
+pub fn fresh(alloc: Global, table: &Table, row: &[Value]) -> Result<Vec<Value>, AllocError>
     requires table { IsRightTable table.now }
     requires count { length row.now ≡ length table.now.key }
     ensures { IfOk result (λ values. values.items ≡ fresh_row (table_shape table.now) row.now) }
