@@ -1,0 +1,11 @@
+pub mod Notes
+pub mod Server
+pub mod Cells
+pub mod Tables
+pub mod Numbered
+pub mod Regions
+pub mod Explains
+pub mod Opened
+pub mod Round
+pub mod Definitions
+pub mod Forms

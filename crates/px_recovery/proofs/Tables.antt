@@ -1,0 +1,277 @@
+-- A table whose folder goes on, as it was or with a batch in one of its regions.
+use Rattle.std.proofs.Common.{◌≡◌, ◌≢◌, ◌<◌, ◌≤◌, inl, inr, ℕ, zero, suc, true, false, List, [], ◌∷◌, ◌++◌, length, map, get_or, refl, sym, ap, subst, ◌∙◌, arith}
+use Rattle.std.specs.List.{AllByRecursion}
+use Rattle.std.proofs.Math.ListN.{set, length-set}
+use Rattle.std.proofs.lemmas.Bool.{cases_eq}
+use Rattle.std.proofs.lemmas.List.{get_or-set_same, get_or-set_other, length-map}
+use Rattle.px_outside.specs.Parts.{AreDistinct, HasNone}
+use Rattle.px_outside.proofs.Parts.{with_part-here, with_part-other}
+use Rattle.px_cells.specs.CellData.{CellData}
+use Rattle.px_cells.specs.Contents.{Contents, over_contents, value_at}
+use Rattle.px_cells.specs.Order.{ReadsSame}
+use Rattle.px_cells.proofs.Contents.{values_put}
+use Rattle.px_tables.specs.declared.index.Index.{Index}
+use Rattle.px_tables.specs.declared.table.Table.{Table}
+use Rattle.px_tables.specs.declared.table.TableRegion.{TableRegion}
+use Rattle.px_trail.specs.declared.entry.Entry.{Entry}
+use Rattle.px_trail.specs.Trail.{Base, last_of}
+use Rattle.px_indexed.proofs.Regions.{none_above}
+use Rattle.px_groupworld.specs.Group.{GroupData, GroupKept, IndexPart, TableForm, index_in as index_at, no_part}
+use Rattle.px_groupworld.specs.Steps.{with_cells}
+use Rattle.px_tablefolder.specs.Folder.{IndexFiles, IsFilesOf, IsFolderOf, TableFiles, last_cell, no_files}
+use Rattle.px_tablefolder.proofs.Stamped.{cells_within}
+use Rattle.px_region.specs.Region.{RegionData, with_batch}
+use Rattle.px_recovery.specs.Folder.{FolderData, with_region}
+use Rattle.px_recovery.specs.Tables.{AreInRegion, IsOneOf, TellsTable, form_of, index_files, indexes_of, is_active, number_of, number_of_region, region_at, region_of_index, table_files}
+use Rattle.px_recovery.proofs.Cells.{all_batch, cells_else, cells_written, horizon_at, horizon_else, horizon_same, indexes_else, values_batch}
+
+-- ---- places of lists
+
+at_map : {A B : Type 0} (g : A → B) (l : List A) (q : ℕ) (none : B) (d : A) → q < length l → get_or (map g l) q none ≡ g (get_or l q d)
+at_map g [] q none d lt = absurd (omega arith)
+at_map g (y ∷ l) zero none d lt = refl
+at_map g (y ∷ l) (suc q) none d lt = at_map g l q none d (omega arith)
+
+pub none_place : {A : Type 0} (num : A → ℕ) (xs : List A) (k m : ℕ) (none : A) → HasNone num m xs → k < length xs → num (get_or xs k none) ≡ m → ⊥
+none_place num [] k m none all lt is = omega arith
+none_place num (y ∷ xs) zero m none all lt is = all.0 is
+none_place num (y ∷ xs) (suc k) m none all lt is = none_place num xs k m none all.1 (omega arith) is
+
+pub one_place : {A : Type 0} (num : A → ℕ) (xs : List A) (k j : ℕ) (none : A) → AreDistinct num xs → k < length xs → j < length xs → num (get_or xs k none) ≡ num (get_or xs j none) → k ≡ j
+one_place num [] k j none once lk lj same = absurd (omega arith)
+one_place num (y ∷ xs) zero zero none once lk lj same = refl
+one_place num (y ∷ xs) zero (suc j) none once lk lj same = absurd (none_place num xs j (num y) none once.0 (omega arith) (sym same))
+one_place num (y ∷ xs) (suc k) zero none once lk lj same = absurd (none_place num xs k (num y) none once.0 (omega arith) same)
+one_place num (y ∷ xs) (suc k) (suc j) none once lk lj same = ap suc (one_place num xs k j none once.1 (omega arith) (omega arith) same)
+
+none_set : (xs : List IndexPart) (j m : ℕ) (y none : IndexPart) → j < length xs → number_of y ≡ number_of (get_or xs j none) → HasNone number_of m xs → HasNone number_of m (set xs j y)
+none_set [] j m y none lt same all = absurd (omega arith)
+none_set (z ∷ xs) zero m y none lt same all = ((λ is. all.0 (sym same ∙ is)), all.1)
+none_set (z ∷ xs) (suc j) m y none lt same all = (all.0, none_set xs j m y none (omega arith) same all.1)
+
+distinct_set : (xs : List IndexPart) (j : ℕ) (y none : IndexPart) → j < length xs → number_of y ≡ number_of (get_or xs j none) → AreDistinct number_of xs → AreDistinct number_of (set xs j y)
+distinct_set [] j y none lt same once = absurd (omega arith)
+distinct_set (z ∷ xs) zero y none lt same once = (subst (λ (m : ℕ). HasNone number_of m xs) (sym same) once.0, once.1)
+distinct_set (z ∷ xs) (suc j) y none lt same once = (none_set xs j (number_of z) y none (omega arith) same once.0, distinct_set xs j y none (omega arith) same once.1)
+
+-- ---- a folder of a table that goes on
+
+-- each active index of the files is one of these
+abbrev AllActive : List IndexPart → List IndexFiles → Type 0
+AllActive xs ys = (i : ℕ) → i < length ys → (get_or ys i no_files).is_active ≡ true → (j : ℕ) × ((j < length xs) × IsFilesOf (get_or xs j no_part) (get_or ys i no_files))
+
+-- the same indexes, and numbers that may rise
+pub folder_next : (f : TableForm) (es es' : List Entry) (v v' : GroupData) (n n' : TableFiles) → IsFolderOf f es v n → n'.horizon ≡ v'.low → value_at n'.cells ≡ value_at v'.cells → n'.indexes ≡ n.indexes → v'.indexes ≡ v.indexes
+    → v.high ≤ v'.high → last_of f.base f.id.0 es ≤ last_of f.base f.id.0 es' → IsFolderOf f es' v' n'
+folder_next f es es' v v' n n' old horizon cells files parts high last = record {
+  horizon = horizon;
+  cells = cells;
+  active = subst (λ (xs : List IndexPart). AllActive xs n'.indexes) (sym parts) (subst (λ (ys : List IndexFiles). AllActive v.indexes ys) (sym files) old.active);
+  below = subst (λ (ys : List IndexFiles). (i : ℕ) → i < length ys → (get_or ys i no_files).horizon ≤ v'.high) (sym files) (λ i l. (let a = old.below i l in omega arith));
+  others = subst (λ (ys : List IndexFiles). (i : ℕ) → i < length ys → (get_or ys i no_files).is_active ≡ false → ((get_or ys i no_files).birth ≤ last_of f.base f.id.0 es') × (last_cell (get_or ys i no_files).cells ≤ last_of f.base f.id.0 es')) (sym files)
+      (λ i l a. (let o = old.others i l a in let p = o.0 in let q = o.1 in (omega arith, omega arith)));
+}
+
+-- ---- a region of another table
+
+-- it is neither one of the table's rows nor one of its indexes
+pub record IsForeign (f : FolderData) (x : Table) (n : ℕ) : Type 0 where
+  pub rows : HasNone number_of_region n x.regions
+  pub indexes : HasNone region_of_index n (indexes_of x.id.0 f.standing.indexes)
+
+module _ (f : FolderData) (x : Table) (n : ℕ) (s : RegionData) where
+  pub placed_else : (gs : List TableRegion) → HasNone number_of_region n gs → AllByRecursion (λ g. AreInRegion x g.number (f.regions g.number).cells) gs → AllByRecursion (λ g. AreInRegion x g.number ((with_region n s f).regions g.number).cells) gs
+  placed_else [] none all = tt
+  placed_else (g ∷ gs) none all = (subst (λ (r : RegionData). AreInRegion x g.number r.cells) (sym (with_part-other f.regions n s g.number none.0)) all.0, placed_else gs none.1 all.1)
+
+  files_else : IsForeign f x n → table_files (with_region n s f) x ≡ table_files f x
+  files_else foreign = λ i. record { cells = cells_else f.regions n s x.regions foreign.rows i; horizon = horizon_else f.regions n s x.regions foreign.rows i; indexes = indexes_else f.regions n s (indexes_of x.id.0 f.standing.indexes) foreign.indexes i }
+
+  -- the table goes on as it was
+  pub other_table : (b : Base) (es es' : List Entry) (v : GroupData) → TellsTable b es f x v → IsForeign f x n → GroupKept (form_of b f.standing.indexes x) es' v → last_of b x.id.0 es ≤ last_of b x.id.0 es' → TellsTable b es' (with_region n s f) x v
+  other_table b es es' v tells foreign kept last =
+      let form = form_of b f.standing.indexes x in
+      record {
+        kept = kept;
+        files = subst (λ (m : TableFiles). IsFolderOf form es' v m) (sym (files_else foreign))
+            (folder_next form es es' v v (table_files f x) (table_files f x) tells.files tells.files.horizon tells.files.cells refl refl (omega arith) last);
+        placed = placed_else x.regions foreign.rows tells.placed;
+        once = tells.once;
+      }
+
+-- the table goes on where no region changes: its horizon may have risen, and its open batches be others
+pub noted_table : (b : Base) (es es' : List Entry) (f : FolderData) (x : Table) (v v' : GroupData) → TellsTable b es f x v → GroupKept (form_of b f.standing.indexes x) es' v' → last_of b x.id.0 es ≤ last_of b x.id.0 es' → v.high ≤ v'.high → v'.low ≡ v.low
+    → v'.cells ≡ v.cells → v'.indexes ≡ v.indexes → TellsTable b es' f x v'
+noted_table b es es' f x v v' tells kept last high low cells indexes =
+    let form = form_of b f.standing.indexes x in
+    record {
+      kept = kept;
+      files = folder_next form es es' v v' (table_files f x) (table_files f x) tells.files (tells.files.horizon ∙ sym low) (tells.files.cells ∙ ap value_at (sym cells)) refl indexes high last;
+      placed = tells.placed;
+      once = subst (λ (l : List IndexPart). AreDistinct number_of l) (sym indexes) tells.once;
+    }
+
+-- ---- a batch
+
+module _ (b : Base) (es es' : List Entry) (f : FolderData) (x : Table) (v v' : GroupData) (tells : TellsTable b es f x v) (kept : GroupKept (form_of b f.standing.indexes x) es' v') (last : last_of b x.id.0 es ≤ last_of b x.id.0 es')
+    (high : v.high ≤ v'.high) (low : v'.low ≡ v.low) (n : ℕ) (batch : List CellData) where
+  abbrev form : TableForm
+  form = form_of b f.standing.indexes x
+
+  abbrev s : RegionData
+  s = with_batch (f.regions n) batch
+
+  abbrev f' : FolderData
+  f' = with_region n s f
+
+  -- in a region of the table's rows
+  module _ (one : IsOneOf n x.regions) (distinct : AreDistinct number_of_region x.regions) (apart : HasNone region_of_index n (indexes_of x.id.0 f.standing.indexes)) (mine : AreInRegion x n batch)
+      (reads : ReadsSame v'.cells (batch ++ v.cells)) (indexes : v'.indexes ≡ v.indexes) where
+    placed_more : (gs : List TableRegion) → AllByRecursion (λ g. AreInRegion x g.number (f.regions g.number).cells) gs → AllByRecursion (λ g. AreInRegion x g.number (f'.regions g.number).cells) gs
+    placed_more [] all = tt
+    placed_more (g ∷ gs) all = (
+      elim (cases_eq g.number n) [
+        | inl is ↦ subst (λ (m : ℕ). AreInRegion x m (f.regions m).cells → AreInRegion x m (f'.regions m).cells) (sym is)
+            (λ there. subst (λ (r : RegionData). AreInRegion x n r.cells) (sym (with_part-here f.regions n s)) (all_batch (λ c. region_at x c.key ≡ n) (f.regions n) batch mine there)) all.0
+        | inr not ↦ subst (λ (r : RegionData). AreInRegion x g.number r.cells) (sym (with_part-other f.regions n s g.number not)) all.0
+      ],
+      placed_more gs all.1,
+    )
+
+    pub table_wrote : TellsTable b es' f' x v'
+    table_wrote = record {
+      kept = kept;
+      files = folder_next form es es' v v' (table_files f x) (table_files f' x) tells.files
+          (horizon_same f.regions n s refl x.regions ∙ (tells.files.horizon ∙ sym low))
+          (cells_written f.regions n s (region_at x) batch (values_batch (f.regions n) batch) mine x.regions one distinct tells.placed
+          ∙ (ap (λ (c : Contents). over_contents (value_at batch) c) tells.files.cells ∙ sym (values_put batch v.cells v'.cells reads)))
+          (indexes_else f.regions n s (indexes_of x.id.0 f.standing.indexes) apart) indexes high last;
+      placed = placed_more x.regions tells.placed;
+      once = subst (λ (l : List IndexPart). AreDistinct number_of l) (sym indexes) tells.once;
+    }
+
+  -- in the region of an index
+  abbrev stood : List Index
+  stood = indexes_of x.id.0 f.standing.indexes
+
+  module _ (place : ℕ) (i : Index) (there : place < length stood) (at : get_or stood place i ≡ i) (is : i.region ≡ n) (only : (q : ℕ) → q < length stood → q ≢ place → ((get_or stood q i).region ≢ n) × ((get_or stood q i).id.0 ≢ i.id.0))
+      (rows : HasNone number_of_region n x.regions) (j : ℕ) (lt : j < length v.indexes) (id : (get_or v.indexes j no_part).id ≡ i.id.0) (same : value_at (get_or v.indexes j no_part).cells ≡ value_at (f.regions n).cells) (new : List CellData)
+      (reads : ReadsSame new (batch ++ (get_or v.indexes j no_part).cells)) (cells : v'.cells ≡ v.cells) (indexes : v'.indexes ≡ set v.indexes j (with_cells new (get_or v.indexes j no_part))) where
+    abbrev part : IndexPart
+    part = get_or v.indexes j no_part
+
+    -- what is read of the region then
+    read_now : value_at new ≡ value_at (f'.regions n).cells
+    read_now =
+        values_put batch part.cells new reads
+        ∙ (ap (λ (c : Contents). over_contents (value_at batch) c) same
+        ∙ (sym (values_batch (f.regions n) batch) ∙ ap (λ (r : RegionData). value_at r.cells) (sym (with_part-here f.regions n s))))
+
+    horizons : (m : ℕ) → (f'.regions m).horizon ≡ (f.regions m).horizon
+    horizons = horizon_at f.regions n s refl
+
+    old_at : (q : ℕ) → q < length stood → get_or (table_files f x).indexes q no_files ≡ index_files f.regions (get_or stood q i)
+    old_at q l = at_map (index_files f.regions) stood q no_files i l
+
+    new_at : (q : ℕ) → q < length stood → get_or (table_files f' x).indexes q no_files ≡ index_files f'.regions (get_or stood q i)
+    new_at q l = at_map (index_files f'.regions) stood q no_files i l
+
+    old_inside : (q : ℕ) → q < length stood → q < length (table_files f x).indexes
+    old_inside q l = let e = length-map stood (index_files f.regions) in omega arith
+
+    inside : (q : ℕ) → q < length (table_files f' x).indexes → q < length stood
+    inside q l = let e = length-map stood (index_files f'.regions) in omega arith
+
+    inside_set : (k : ℕ) → k < length v.indexes → k < length (set v.indexes j (with_cells new part))
+    inside_set k l = let e = length-set v.indexes j (with_cells new part) in omega arith
+
+    here_old : is_active i.state ≡ true → IsFilesOf part (index_files f.regions i)
+    here_old a =
+        let e : get_or (table_files f x).indexes place no_files ≡ index_files f.regions i = old_at place there ∙ ap (index_files f.regions) at in
+        let o = tells.files.active place (old_inside place there) (ap (λ (y : IndexFiles). y.is_active) e ∙ a) in
+        let m : IsFilesOf (get_or v.indexes o.0 no_part) (index_files f.regions i) = subst (λ (y : IndexFiles). IsFilesOf (get_or v.indexes o.0 no_part) y) e o.1.1 in
+        let k : o.0 ≡ j = one_place number_of v.indexes o.0 j no_part tells.once o.1.0 lt (m.id ∙ sym id) in
+        subst (λ (k : ℕ). IsFilesOf (get_or v.indexes k no_part) (index_files f.regions i)) k m
+
+    here_new : is_active i.state ≡ true → IsFilesOf (with_cells new part) (index_files f'.regions i)
+    here_new a =
+        let o = here_old a in
+        record { id = o.id; cells = read_now ∙ ap (λ (m : ℕ). value_at (f'.regions m).cells) (sym is); birth = o.birth; horizon = o.horizon ∙ sym (horizons i.region); built = o.built }
+
+    abbrev Active : List IndexPart → IndexFiles → Type 0
+    Active xs y = (k : ℕ) × ((k < length xs) × IsFilesOf (get_or xs k no_part) y)
+
+    else_files : (q : ℕ) → (get_or stood q i).region ≢ n → index_files f'.regions (get_or stood q i) ≡ index_files f.regions (get_or stood q i)
+    else_files q not = λ k. (let e = with_part-other f.regions n s (get_or stood q i).region not in
+        record { id = (get_or stood q i).id.0; cells = (e k).cells; birth = (get_or stood q i).birth; horizon = (e k).horizon; is_active = is_active (get_or stood q i).state })
+
+    active_else : (q : ℕ) → q < length stood → q ≢ place → is_active (get_or stood q i).state ≡ true → Active (set v.indexes j (with_cells new part)) (index_files f'.regions (get_or stood q i))
+    active_else q l not a =
+        let o = tells.files.active q (old_inside q l) (ap (λ (y : IndexFiles). y.is_active) (old_at q l) ∙ a) in
+        let m : IsFilesOf (get_or v.indexes o.0 no_part) (index_files f.regions (get_or stood q i)) = subst (λ (y : IndexFiles). IsFilesOf (get_or v.indexes o.0 no_part) y) (old_at q l) o.1.1 in
+        let apart : o.0 ≢ j = (λ e. (only q l not).1 (sym m.id ∙ (ap (λ (k : ℕ). (get_or v.indexes k no_part).id) e ∙ id))) in (
+          o.0,
+          (
+            inside_set o.0 o.1.0,
+            subst (λ (y : IndexFiles). IsFilesOf (get_or (set v.indexes j (with_cells new part)) o.0 no_part) y) (sym (else_files q (only q l not).0))
+                (subst (λ (z : IndexPart). IsFilesOf z (index_files f.regions (get_or stood q i))) (sym (get_or-set_other v.indexes j o.0 (with_cells new part) no_part apart)) m),
+          ),
+        )
+
+    active_here : is_active i.state ≡ true → Active (set v.indexes j (with_cells new part)) (index_files f'.regions i)
+    active_here a = (j, (inside_set j lt, subst (λ (z : IndexPart). IsFilesOf z (index_files f'.regions i)) (sym (get_or-set_same v.indexes j (with_cells new part) no_part lt)) (here_new a)))
+
+    active_at : (q : ℕ) → q < length stood → is_active (get_or stood q i).state ≡ true → Active (set v.indexes j (with_cells new part)) (index_files f'.regions (get_or stood q i))
+    active_at q l a = elim (cases_eq q place) [
+      | inl e ↦
+          let here : get_or stood q i ≡ i = ap (λ (k : ℕ). get_or stood k i) e ∙ at in
+          subst (λ (y : Index). Active (set v.indexes j (with_cells new part)) (index_files f'.regions y)) (sym here) (active_here (ap (λ (y : Index). is_active y.state) (sym here) ∙ a))
+      | inr not ↦ active_else q l not a
+    ]
+
+    abbrev most : ℕ
+    most = last_of b x.id.0 es'
+
+    part_now : get_or v'.indexes j no_part ≡ with_cells new part
+    part_now = ap (λ (l : List IndexPart). get_or l j no_part) indexes ∙ get_or-set_same v.indexes j (with_cells new part) no_part lt
+
+    within_here : last_cell (f'.regions n).cells ≤ most
+    within_here =
+        let l : j < length v'.indexes = subst (λ (l : List IndexPart). j < length l) (sym indexes) (inside_set j lt) in
+        let k = kept.indexes j l in
+        cells_within (f'.regions n).cells most (λ key q u d above.
+        ap (λ (c : Contents). c key q u d) (sym read_now ∙ ap (λ (y : IndexPart). value_at y.cells) (sym part_now))
+        ∙ none_above (index_at form v' j).form most (get_or v'.indexes j no_part).cells k.cells key q u d above)
+
+    others_at : (q : ℕ) → q < length stood → is_active (get_or stood q i).state ≡ false → ((get_or stood q i).birth ≤ most) × (last_cell (f'.regions (get_or stood q i).region).cells ≤ most)
+    others_at q l a =
+        let e = old_at q l in
+        let o = tells.files.others q (old_inside q l) (ap (λ (y : IndexFiles). y.is_active) e ∙ a) in
+        let birth : (get_or stood q i).birth ≤ last_of b x.id.0 es = subst (λ (y : IndexFiles). y.birth ≤ last_of b x.id.0 es) e o.0 in
+        let below : last_cell (f.regions (get_or stood q i).region).cells ≤ last_of b x.id.0 es = subst (λ (y : IndexFiles). last_cell y.cells ≤ last_of b x.id.0 es) e o.1 in (
+          omega (arith, birth, last),
+          elim (cases_eq (get_or stood q i).region n) [
+            | inl same ↦ subst (λ (m : ℕ). last_cell (f'.regions m).cells ≤ most) (sym same) within_here
+            | inr not ↦ subst (λ (r : RegionData). last_cell r.cells ≤ most) (sym (with_part-other f.regions n s (get_or stood q i).region not)) (omega (arith, below, last))
+          ],
+        )
+
+    pub index_wrote : TellsTable b es' f' x v'
+    index_wrote = record {
+      kept = kept;
+      files = record {
+        horizon = horizon_else f.regions n s x.regions rows ∙ (tells.files.horizon ∙ sym low);
+        cells = ap value_at (cells_else f.regions n s x.regions rows) ∙ (tells.files.cells ∙ ap value_at (sym cells));
+        active = λ q l a. subst (λ (xs : List IndexPart). Active xs (get_or (table_files f' x).indexes q no_files)) (sym indexes)
+            (subst (λ (y : IndexFiles). Active (set v.indexes j (with_cells new part)) y) (sym (new_at q (inside q l))) (active_at q (inside q l) (ap (λ (y : IndexFiles). y.is_active) (sym (new_at q (inside q l))) ∙ a)));
+        below = λ q l.
+            let e = old_at q (inside q l) in
+            let o = tells.files.below q (old_inside q (inside q l)) in
+            let h : (f.regions (get_or stood q i).region).horizon ≤ v.high = subst (λ (y : IndexFiles). y.horizon ≤ v.high) e o in
+            let g = horizons (get_or stood q i).region in
+            subst (λ (y : IndexFiles). y.horizon ≤ v'.high) (sym (new_at q (inside q l))) (omega (arith, h, g, high));
+        others = λ q l a. subst (λ (y : IndexFiles). (y.birth ≤ most) × (last_cell y.cells ≤ most)) (sym (new_at q (inside q l))) (others_at q (inside q l) (ap (λ (y : IndexFiles). y.is_active) (sym (new_at q (inside q l))) ∙ a));
+      };
+      placed = placed_else f x n s x.regions rows tells.placed;
+      once = subst (λ (l : List IndexPart). AreDistinct number_of l) (sym indexes) (distinct_set v.indexes j (with_cells new part) no_part lt refl tells.once);
+    }

@@ -1,0 +1,5 @@
+use Rattle.px_recovery.proofs.Round.{sound_stands, stands_sound}
+use Rattle.px_recovery.proofs.law_sound.Goals as goal
+
+pub returns : goal.returns
+returns c = record { sound = stands_sound; stands = sound_stands }

@@ -1,0 +1,125 @@
+//! What the folder of a server stands for at each moment of a run: its catalogue and its regions, each a part with files of its own, and
+//! the trail that tells them. An image that a stop leaves stands for the trail (`StandsAfter`), the disk of a running server for what it goes
+//! on from (`GoesOn`), and `IsServer` is what stays true of it. `law_regions` and `law_definitions` are the calls on one part, `law_tables` the
+//! steps of a table, `law_server` those of a server; `law_tells` and `law_sound` are what the next run begins with.
+//! Definitions and laws, no code.
+#![tactic(auto)]
+
+ghost use Rattle.std.specs.Prelude.{◌≡◌, ◌≢◌, ◌<◌, ◌≤◌, ◌⊎◌, ◌++◌, ◌∷◌, [], ℕ, true, false, List, length, get_or, Some, ◌+◌, suc, IsTrue, None, Option};
+ghost use Rattle.std.proofs.Math.ListN.{set};
+ghost use Rattle.px_outside.specs.Disk.{Image};
+ghost use Rattle.px_outside.specs.OnDisk.{LeavesOnly, TouchesOnly, IsLeft, Stays};
+ghost use Rattle.px_outside.specs.Parts.{with_part};
+ghost use Rattle.px_outside.specs.Standing.{StandsIn};
+ghost use Rattle.px_cells.specs.CellData.{CellData};
+ghost use Rattle.px_cells.specs.Contents.{value_at};
+ghost use Rattle.px_cells.specs.Order.{ReadsSame};
+ghost use Rattle.px_tables.specs.declared.index.Index.{Index};
+ghost use Rattle.px_tables.specs.declared.table.Table.{Table};
+ghost use Rattle.px_trail.specs.declared.entry.Act.TheVariants.{Shut};
+ghost use Rattle.px_trail.specs.declared.entry.Entry.{Entry as Entries};
+ghost use Rattle.px_trail.specs.Lasting.{lasting};
+ghost use Rattle.px_trail.specs.Legal.{MayCome, is_after_shut};
+ghost use Rattle.px_trail.specs.Trail.{Base, catalogue_of, horizon_of, last_of, closing_step};
+ghost use Rattle.px_groupworld.specs.Group.{GroupData, GroupKept, no_part};
+ghost use Rattle.px_groupworld.specs.Steps.{with_cells};
+ghost use Rattle.px_wal.specs.Files.{HasFile};
+ghost use Rattle.px_region.specs.Region.{RegionData, Stands, with_batch};
+ghost use Rattle.px_recovery.specs.Folder.{FolderData, StandsFor, StandsOn, with_region, IsKept, with_standing};
+ghost use Rattle.px_recovery.specs.Stands.{Explains, StandsAfter, AreNumbered, GoesOnBy, TellsCatalogue};
+ghost use Rattle.px_recovery.specs.Tables.{AreInRegion, IsOneOf, form_of, indexes_of, table_in, table_files};
+ghost use Rattle.px_values.specs.declared.row.Value.{Value as ColumnValue};
+ghost use Rattle.px_trail.specs.States.{state_of};
+ghost use Rattle.px_indexed.specs.Idle.{IsElsewhere};
+ghost use Rattle.px_tablefolder.specs.Folder.{folder_high, folder_last};
+ghost use Rattle.px_recovery.specs.Base.{IsSound, IsSoundFolder, base_of};
+ghost use Rattle.px_schema.specs.declared.standing.Standing.{Standing};
+ghost use Rattle.px_catalog.specs.Catalogue.{CatalogueStands, catalogue_files};
+ghost use Rattle.px_recovery.specs.Kept.{GoesOn, IsServer};
+
+use px_outside::Disk;
+
+/// What a server's run begins with, and what its own parts, its catalogue and its groups, have where they go on from a folder.
+pub trait Serves<D> {
+    ghost use Rattle.std.specs.Prelude.{ℕ, List};
+    ghost use Rattle.px_trail.specs.declared.entry.Entry.{Entry};
+    ghost use Rattle.px_trail.specs.Trail.{Base};
+    ghost use Rattle.px_groupworld.specs.Group.{GroupData};
+    ghost use Rattle.px_recovery.specs.Folder.{FolderData};
+
+    ghost base: { Base };
+
+    /// No call was made, nothing is pending, and the first image is sound: of other disks nothing is promised.
+    ghost premise: { Type 0 };
+
+    ghost has: { D → List Entry → FolderData → (ℕ → GroupData) → Type 0 };
+}
+
+/// An entry that doesn't last leaves what an image stands for; and one that is told in the place where the server was closed is
+/// told as well behind that, and behind what may still come then.
+pub fn law_entries()
+    ensures quiet { (b : Base) → (es : List Entries) → (e : Entries) → (image : Image) → MayCome b es e → lasting e ≡ false → StandsAfter b es image → StandsAfter b (es ++ e ∷ []) image }
+    ensures late { (b : Base) → (es : List Entries) → (e : Entries) → (u : Entries) → (image : Image) → is_after_shut e.act ≡ true → StandsAfter b (es ++ u ∷ []) image → StandsAfter b ((es ++ e ∷ []) ++ u ∷ []) image }
+    ensures shut { (b : Base) → (es : List Entries) → (e : Entries) → (u : Entries) → (image : Image) → (call : ℕ) → e.act ≡ Shut call → StandsAfter b (es ++ u ∷ []) image → StandsAfter b ((es ++ e ∷ []) ++ u ∷ []) image }
+{}
+
+/// Calls on the files of one region leave the folder as it was, or with the region's other contents, and so does the disk after
+/// them; no file of a region that is still to be made gets a byte.
+pub fn law_regions<D: Disk>()
+    ensures moves { (old : D) → (new : D) → (f : FolderData) → StandsOn ⟦<D as Disk>⟧ old f → (n : ℕ) → 1 ≤ n → n < f.standing.next → (s : RegionData) → TouchesOnly ⟦<D as Disk>⟧ old new (HasFile n) → LeavesOnly ⟦<D as Disk>⟧ old new (λ moment image. Stands n image (f.regions n) ⊎ Stands n image s) → LeavesOnly ⟦<D as Disk>⟧ old new (λ moment image. StandsFor image f ⊎ StandsFor image (with_region n s f)) }
+    ensures moved { (old : D) → (new : D) → (f : FolderData) → StandsOn ⟦<D as Disk>⟧ old f → (n : ℕ) → 1 ≤ n → n < f.standing.next → (s : RegionData) → TouchesOnly ⟦<D as Disk>⟧ old new (HasFile n) → StandsIn ⟦<D as Disk>⟧ new (HasFile n) (λ image. Stands n image s) → StandsOn ⟦<D as Disk>⟧ new (with_region n s f) }
+    ensures stays { (old : D) → (new : D) → (f : FolderData) → StandsOn ⟦<D as Disk>⟧ old f → (n : ℕ) → 1 ≤ n → n < f.standing.next → TouchesOnly ⟦<D as Disk>⟧ old new (HasFile n) → LeavesOnly ⟦<D as Disk>⟧ old new (λ moment image. Stands n image (f.regions n)) → LeavesOnly ⟦<D as Disk>⟧ old new (λ moment image. StandsFor image f) }
+    ensures kept { (old : D) → (new : D) → (f : FolderData) → StandsOn ⟦<D as Disk>⟧ old f → (n : ℕ) → 1 ≤ n → n < f.standing.next → TouchesOnly ⟦<D as Disk>⟧ old new (HasFile n) → StandsIn ⟦<D as Disk>⟧ new (HasFile n) (λ image. Stands n image (f.regions n)) → StandsOn ⟦<D as Disk>⟧ new f }
+{}
+
+/// A step of one table after which the folder is told: of its open batches and its horizon, with a batch in one region of its rows, or
+/// with one in the region of one of its indexes. All other tables go on as they were.
+pub fn law_tables()
+    ensures none { (b : Base) → (es : List Entries) → (f : FolderData) → (v : ℕ → GroupData) → Explains b es f v → (t : ℕ) → GoesOnBy b es es f v t }
+    ensures entry { (b : Base) → (es : List Entries) → (f : FolderData) → (v : ℕ → GroupData) → Explains b es f v → (t : ℕ) → (e : Entries) → MayCome b es e → catalogue_of b (es ++ e ∷ []) ≡ catalogue_of b es → ((q : ℕ) → (y : Table) → q ≢ t → table_in f.standing.tables q ≡ Some y → IsElsewhere y.id e.act) → GoesOnBy b es (es ++ e ∷ []) f v t }
+    ensures noted { (b : Base) → (es : List Entries) → (more : List Entries) → (f : FolderData) → (v : ℕ → GroupData) → Explains b es f v → (t : ℕ) → GoesOnBy b es more f v t → (x : Table) → table_in f.standing.tables t ≡ Some x → (w : GroupData) → GroupKept (form_of b f.standing.indexes x) more w → (v t).high ≤ w.high → w.low ≡ (v t).low → w.cells ≡ (v t).cells → w.indexes ≡ (v t).indexes → Explains b more f (with_part v t w) }
+    ensures rows { (b : Base) → (es : List Entries) → (more : List Entries) → (f : FolderData) → (v : ℕ → GroupData) → Explains b es f v → (t : ℕ) → GoesOnBy b es more f v t → (x : Table) → table_in f.standing.tables t ≡ Some x → (w : GroupData) → GroupKept (form_of b f.standing.indexes x) more w → (v t).high ≤ w.high → w.low ≡ (v t).low → (n : ℕ) → (batch : List CellData) → IsOneOf n x.regions → AreInRegion x n batch → ReadsSame w.cells (batch ++ (v t).cells) → w.indexes ≡ (v t).indexes → Explains b more (with_region n (with_batch (f.regions n) batch) f) (with_part v t w) }
+    ensures index { (b : Base) → (es : List Entries) → (more : List Entries) → (f : FolderData) → (v : ℕ → GroupData) → Explains b es f v → (t : ℕ) → GoesOnBy b es more f v t → (x : Table) → table_in f.standing.tables t ≡ Some x → (w : GroupData) → GroupKept (form_of b f.standing.indexes x) more w → (v t).high ≤ w.high → w.low ≡ (v t).low → (n : ℕ) → (batch : List CellData) → (place : ℕ) → (i : Index) → place < length (indexes_of x.id.0 f.standing.indexes) → get_or (indexes_of x.id.0 f.standing.indexes) place i ≡ i → i.region ≡ n → (j : ℕ) → j < length (v t).indexes → (get_or (v t).indexes j no_part).id ≡ i.id.0 → value_at (get_or (v t).indexes j no_part).cells ≡ value_at (f.regions n).cells → (cells : List CellData) → ReadsSame cells (batch ++ (get_or (v t).indexes j no_part).cells) → w.cells ≡ (v t).cells → w.indexes ≡ set (v t).indexes j (with_cells cells (get_or (v t).indexes j no_part)) → Explains b more (with_region n (with_batch (f.regions n) batch) f) (with_part v t w) }
+{}
+
+/// The regions of a table's rows and of the indexes that stand have numbers that were drawn.
+pub fn law_numbers()
+    ensures rows { (s : Standing) → AreNumbered s → (t : ℕ) → (n : ℕ) → (x : Table) → table_in s.tables t ≡ Some x → IsOneOf n x.regions → (1 ≤ n) × (n < s.next) }
+    ensures index { (s : Standing) → AreNumbered s → (t : ℕ) → (place : ℕ) → (i : Index) → place < length (indexes_of t s.indexes) → get_or (indexes_of t s.indexes) place i ≡ i → (1 ≤ i.region) × (i.region < s.next) }
+{}
+
+/// What an image tells that stands for a trail: its tables and indexes, the states of its rows from the data horizon on, no horizon above
+/// the trail's, and no last stamp that the trail doesn't have.
+pub fn law_tells()
+    ensures catalogue { (b : Base) → (es : List Entries) → (image : Image) → (s : StandsAfter b es image) → TellsCatalogue s.folder.standing (catalogue_of b es) }
+    ensures states { (b : Base) → (es : List Entries) → (image : Image) → (s : StandsAfter b es image) → (x : Table) → table_in s.folder.standing.tables x.id.0 ≡ Some x → (r : List ColumnValue) → (p : ℕ) → (table_files s.folder x).horizon ≤ p → state_of (base_of s.folder) [] x.id.0 r p ≡ state_of b es x.id.0 r p }
+    ensures horizon { (b : Base) → (es : List Entries) → (image : Image) → (s : StandsAfter b es image) → (x : Table) → table_in s.folder.standing.tables x.id.0 ≡ Some x → folder_high (table_files s.folder x) ≤ horizon_of b x.id.0 es }
+    ensures last { (b : Base) → (es : List Entries) → (image : Image) → (s : StandsAfter b es image) → (x : Table) → table_in s.folder.standing.tables x.id.0 ≡ Some x → folder_last (table_files s.folder x) ≤ last_of b x.id.0 es }
+{}
+
+/// The premise goes round: an image that stands for a trail is sound, and a sound image stands for the empty trail over its own base.
+pub fn law_sound()
+    ensures sound { (b : Base) → (es : List Entries) → (image : Image) → StandsAfter b es image → IsSound image }
+    ensures stands { (f : FolderData) → (image : Image) → StandsFor image f → IsSoundFolder f → StandsAfter (base_of f) [] image }
+{}
+
+/// Calls on the files of the catalogue leave the folder as it was, or with other definitions; a region that is drawn with them has
+/// nothing yet.
+pub fn law_definitions<D: Disk>()
+    ensures moves { (old : D) → (new : D) → (f : FolderData) → StandsOn ⟦<D as Disk>⟧ old f → 1 ≤ f.standing.next → TouchesOnly ⟦<D as Disk>⟧ old new catalogue_files → (s : Standing) → f.standing.next ≤ s.next → ((n : ℕ) → IsKept s (suc n) → IsKept f.standing (suc n) ⊎ (f.standing.next ≤ suc n)) → LeavesOnly ⟦<D as Disk>⟧ old new (λ moment image. CatalogueStands image f.standing ⊎ CatalogueStands image s) → LeavesOnly ⟦<D as Disk>⟧ old new (λ moment image. StandsFor image f ⊎ StandsFor image (with_standing s f)) }
+    ensures moved { (old : D) → (new : D) → (f : FolderData) → StandsOn ⟦<D as Disk>⟧ old f → 1 ≤ f.standing.next → TouchesOnly ⟦<D as Disk>⟧ old new catalogue_files → (s : Standing) → f.standing.next ≤ s.next → ((n : ℕ) → IsKept s (suc n) → IsKept f.standing (suc n) ⊎ (f.standing.next ≤ suc n)) → StandsIn ⟦<D as Disk>⟧ new catalogue_files (λ image. CatalogueStands image s) → StandsOn ⟦<D as Disk>⟧ new (with_standing s f) }
+    ensures stays { (old : D) → (new : D) → (f : FolderData) → StandsOn ⟦<D as Disk>⟧ old f → 1 ≤ f.standing.next → TouchesOnly ⟦<D as Disk>⟧ old new catalogue_files → LeavesOnly ⟦<D as Disk>⟧ old new (λ moment image. CatalogueStands image f.standing) → LeavesOnly ⟦<D as Disk>⟧ old new (λ moment image. StandsFor image f) }
+    ensures kept { (old : D) → (new : D) → (f : FolderData) → StandsOn ⟦<D as Disk>⟧ old f → 1 ≤ f.standing.next → TouchesOnly ⟦<D as Disk>⟧ old new catalogue_files → StandsIn ⟦<D as Disk>⟧ new catalogue_files (λ image. CatalogueStands image f.standing) → StandsOn ⟦<D as Disk>⟧ new f }
+{}
+
+/// What is true of a server stays so: opening and reads, an entry alone, calls that leave what stands, calls of which one failed with
+/// nothing or with an entry under way, and calls of which an entry came that lasts.
+pub fn law_server<D: Disk, S: Serves<D>>()
+    ensures opened { (old : D) → (new : D) → (S.premise → D.calls old ≡ 0) → Stays ⟦<D as Disk>⟧ old new → (S.premise → (image : Image) → IsLeft ⟦<D as Disk>⟧ old (D.calls old) image → StandsAfter S.base [] image) → (S.premise → IsTrue D.tells → GoesOn ⟦<D as Disk>⟧ S.base S.has new []) → IsServer ⟦<D as Disk>⟧ S.base S.premise S.has new [] None None }
+    ensures read { (old : D) → (es : List Entries) → (late : Option Entries) → (closed : Option ℕ) → IsServer ⟦<D as Disk>⟧ S.base S.premise S.has old es late closed → (new : D) → Stays ⟦<D as Disk>⟧ old new → (S.premise → IsTrue D.tells → GoesOn ⟦<D as Disk>⟧ S.base S.has old es → GoesOn ⟦<D as Disk>⟧ S.base S.has new es) → IsServer ⟦<D as Disk>⟧ S.base S.premise S.has new es late closed }
+    ensures noted { (old : D) → (es : List Entries) → (late : Option Entries) → (closed : Option ℕ) → IsServer ⟦<D as Disk>⟧ S.base S.premise S.has old es late closed → (e : Entries) → e.calls ≡ D.calls old → lasting e ≡ false → (S.premise → IsTrue D.tells → MayCome S.base es e) → closing_step closed e.act ≡ closed → (closed ≡ None → S.premise → IsTrue D.tells → GoesOn ⟦<D as Disk>⟧ S.base S.has old es → GoesOn ⟦<D as Disk>⟧ S.base S.has old (es ++ e ∷ [])) → IsServer ⟦<D as Disk>⟧ S.base S.premise S.has old (es ++ e ∷ []) late closed }
+    ensures kept { (old : D) → (es : List Entries) → (late : Option Entries) → (closed : Option ℕ) → IsServer ⟦<D as Disk>⟧ S.base S.premise S.has old es late closed → closed ≡ None → (new : D) → D.calls old ≤ D.calls new → D.calls new ≤ D.calls old + 4 → (S.premise → IsTrue D.tells → (moment : ℕ) → (image : Image) → moment < D.calls old → IsLeft ⟦<D as Disk>⟧ new moment image → IsLeft ⟦<D as Disk>⟧ old moment image) → (GoesOn ⟦<D as Disk>⟧ S.base S.has old es → (moment : ℕ) → (image : Image) → D.calls old ≤ moment → IsLeft ⟦<D as Disk>⟧ new moment image → StandsAfter S.base es image) → (S.premise → IsTrue D.tells → GoesOn ⟦<D as Disk>⟧ S.base S.has old es → GoesOn ⟦<D as Disk>⟧ S.base S.has new es) → IsServer ⟦<D as Disk>⟧ S.base S.premise S.has new es late closed }
+    ensures stopped { (old : D) → (es : List Entries) → (late : Option Entries) → (closed : Option ℕ) → IsServer ⟦<D as Disk>⟧ S.base S.premise S.has old es late closed → closed ≡ None → (new : D) → D.calls old ≤ D.calls new → D.calls new ≤ D.calls old + 4 → (S.premise → IsTrue D.tells → (moment : ℕ) → (image : Image) → moment < D.calls old → IsLeft ⟦<D as Disk>⟧ new moment image → IsLeft ⟦<D as Disk>⟧ old moment image) → (shut : Entries) → (call : ℕ) → shut.act ≡ Shut call → shut.calls ≡ D.calls new → (GoesOn ⟦<D as Disk>⟧ S.base S.has old es → (moment : ℕ) → (image : Image) → D.calls old ≤ moment → IsLeft ⟦<D as Disk>⟧ new moment image → StandsAfter S.base es image) → IsServer ⟦<D as Disk>⟧ S.base S.premise S.has new (es ++ shut ∷ []) None (Some call) }
+    ensures late { (old : D) → (es : List Entries) → (late : Option Entries) → (closed : Option ℕ) → IsServer ⟦<D as Disk>⟧ S.base S.premise S.has old es late closed → closed ≡ None → (new : D) → D.calls old ≤ D.calls new → D.calls new ≤ D.calls old + 4 → (S.premise → IsTrue D.tells → (moment : ℕ) → (image : Image) → moment < D.calls old → IsLeft ⟦<D as Disk>⟧ new moment image → IsLeft ⟦<D as Disk>⟧ old moment image) → (shut : Entries) → (call : ℕ) → shut.act ≡ Shut call → shut.calls ≡ D.calls new → (u : Entries) → lasting u ≡ true → u.calls ≡ D.calls new → (S.premise → IsTrue D.tells → MayCome S.base es u) → (GoesOn ⟦<D as Disk>⟧ S.base S.has old es → (moment : ℕ) → (image : Image) → D.calls old ≤ moment → IsLeft ⟦<D as Disk>⟧ new moment image → StandsAfter S.base es image ⊎ StandsAfter S.base (es ++ u ∷ []) image) → IsServer ⟦<D as Disk>⟧ S.base S.premise S.has new (es ++ shut ∷ []) (Some u) (Some call) }
+    ensures step { (old : D) → (es : List Entries) → (late : Option Entries) → (closed : Option ℕ) → IsServer ⟦<D as Disk>⟧ S.base S.premise S.has old es late closed → closed ≡ None → (new : D) → D.calls old ≤ D.calls new → D.calls new ≤ D.calls old + 4 → (S.premise → IsTrue D.tells → (moment : ℕ) → (image : Image) → moment < D.calls old → IsLeft ⟦<D as Disk>⟧ new moment image → IsLeft ⟦<D as Disk>⟧ old moment image) → (e : Entries) → lasting e ≡ true → e.calls ≡ D.calls new → (S.premise → IsTrue D.tells → MayCome S.base es e) → closing_step None e.act ≡ None → (GoesOn ⟦<D as Disk>⟧ S.base S.has old es → (moment : ℕ) → (image : Image) → D.calls old ≤ moment → IsLeft ⟦<D as Disk>⟧ new moment image → StandsAfter S.base es image ⊎ StandsAfter S.base (es ++ e ∷ []) image) → (S.premise → IsTrue D.tells → GoesOn ⟦<D as Disk>⟧ S.base S.has old es → GoesOn ⟦<D as Disk>⟧ S.base S.has new (es ++ e ∷ [])) → IsServer ⟦<D as Disk>⟧ S.base S.premise S.has new (es ++ e ∷ []) late closed }
+{}
