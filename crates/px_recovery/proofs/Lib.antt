@@ -9,3 +9,4 @@ pub mod Opened
 pub mod Round
 pub mod Definitions
 pub mod Forms
+pub mod Fresh

@@ -16,7 +16,7 @@ use Rattle.px_recovery.proofs.Tables.{IsForeign, none_place, one_place}
 
 -- ---- a table that is found
 
-found_by : (y x : Table) (rest : Option Table) (c : Bool) → (if c then Some y else rest) ≡ Some x → ((c ≡ true) × (y ≡ x)) ⊎ ((c ≡ false) × (rest ≡ Some x))
+pub found_by : (y x : Table) (rest : Option Table) (c : Bool) → (if c then Some y else rest) ≡ Some x → ((c ≡ true) × (y ≡ x)) ⊎ ((c ≡ false) × (rest ≡ Some x))
 found_by y x rest true is = inl (refl, some_is y x is)
   where
     some_is : (a z : Table) → Some a ≡ Some z → a ≡ z

@@ -97,8 +97,10 @@ pub fn law_tells()
     ensures last { (b : Base) → (es : List Entries) → (image : Image) → (s : StandsAfter b es image) → (x : Table) → table_in s.folder.standing.tables x.id.0 ≡ Some x → folder_last (table_files s.folder x) ≤ last_of b x.id.0 es }
 {}
 
-/// The premise goes round: an image that stands for a trail is sound, and a sound image stands for the empty trail over its own base.
+/// The premise goes round: an image that stands for a trail is sound, and a sound image stands for the empty trail over its own base. An
+/// image without a byte is sound.
 pub fn law_sound()
+    ensures nothing { (image : Image) → ((file : ℕ) → image file ≡ []) → IsSound image }
     ensures sound { (b : Base) → (es : List Entries) → (image : Image) → StandsAfter b es image → IsSound image }
     ensures stands { (f : FolderData) → (image : Image) → StandsFor image f → IsSoundFolder f → StandsAfter (base_of f) [] image }
 {}
