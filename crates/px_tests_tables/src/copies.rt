@@ -45,22 +45,40 @@ fn columns(alloc: Global) -> Result<Items<TableColumn>, AllocError> {
     Ok(Items::of(columns))
 }
 
-fn table(alloc: Global) -> Result<Table, AllocError> {
-    let name = Name::from_str(alloc, "T")?;
+/// The columns of the table, and its regions.
+fn lists(alloc: Global) -> Result<(Items<TableColumn>, Items<TableRegion>), AllocError> {
     let columns = columns(alloc)?;
+    match regions(alloc) {
+        Ok(regions) => Ok((columns, regions)),
+        Err(fault) => {
+            drop(columns);
+            Err(fault)
+        }
+    }
+}
+
+fn table(alloc: Global) -> Result<Table, AllocError> {
     let key = key(alloc)?;
-    Ok(Table {
-        id: TableId(5),
-        name,
-        columns,
-        key,
-        regions: regions(alloc)?,
-    })
+    let name = Name::from_str(alloc, "T")?;
+    match lists(alloc) {
+        Ok((columns, regions)) => Ok(Table {
+            id: TableId(5),
+            name,
+            columns,
+            key,
+            regions,
+        }),
+        Err(fault) => {
+            drop(name);
+            Err(fault)
+        }
+    }
 }
 
 fn index(alloc: Global) -> Result<Index, AllocError> {
-    let name = Name::from_str(alloc, "T_A")?;
     let parts = key(alloc)?;
+    let included = vec![in alloc; 0]?;
+    let name = Name::from_str(alloc, "T_A")?;
     Ok(Index {
         id: IndexId(7),
         table: TableId(5),
@@ -69,18 +87,36 @@ fn index(alloc: Global) -> Result<Index, AllocError> {
         birth: 9,
         region: 6,
         parts,
-        included: Items::of(vec![in alloc; 0]?),
+        included: Items::of(included),
     })
+}
+
+fn indexes(alloc: Global) -> Result<Items<Index>, AllocError> {
+    let index = index(alloc)?;
+    Ok(Items::of(vec![in alloc; index]?))
 }
 
 fn found(alloc: Global) -> Result<Found, AllocError> {
     let table = table(alloc)?;
-    let index = index(alloc)?;
-    Ok(Found {
-        table,
-        indexes: Items::of(vec![in alloc; index]?),
-        at: 12,
-    })
+    match indexes(alloc) {
+        Ok(indexes) => Ok(Found {
+            table,
+            indexes,
+            at: 12,
+        }),
+        Err(fault) => {
+            drop(table);
+            Err(fault)
+        }
+    }
+}
+
+/// The copy of a table with its index; the first one is gone.
+fn copy_of_found(alloc: Global) -> Result<Found, AllocError> {
+    let first = found(alloc)?;
+    let copy = first.copied(alloc);
+    drop(first);
+    copy
 }
 
 fn is_new_table(new: &NewTable) -> bool {
@@ -101,27 +137,52 @@ fn is_new_index(new: &NewIndex) -> bool {
         && new.included.as_slice() == [0].as_slice()
 }
 
+fn is_found(found: &Found) -> bool {
+    found.at == 12 && found.table.id == TableId(5) && found.table.regions.as_slice().len() == 2
+}
+
+/// Whether what the table was made from, and a copy of it, are right.
+fn is_table_copied(alloc: Global, table: &Table) -> Result<bool, AllocError> {
+    let new = table.definition(alloc)?;
+    let first = is_new_table(&new);
+    let copy = new.copied(alloc);
+    drop(new);
+    let copy = copy?;
+    let second = is_new_table(&copy);
+    drop(copy);
+    Ok(first && second)
+}
+
+/// The same of the index, which stands as it stood.
+fn is_index_copied(alloc: Global, index: &Index) -> Result<bool, AllocError> {
+    let stands = index.birth == 9 && index.state == IndexState::Building;
+    let new = index.definition(alloc)?;
+    let first = is_new_index(&new);
+    let copy = new.copied(alloc);
+    drop(new);
+    let copy = copy?;
+    let second = is_new_index(&copy);
+    drop(copy);
+    Ok(stands && first && second)
+}
+
+fn is_first_index_copied(alloc: Global, found: &Found) -> Result<bool, AllocError> {
+    match found.indexes.as_slice() {
+        [index] => is_index_copied(alloc, index),
+        _ => Ok(false),
+    }
+}
+
 #[test]
 fn copies_are_the_same(rt: HostRuntime) -> Result<(), Fail> {
     let alloc = rt.alloc();
-    let first = found(alloc)?;
-    let found = first.copied(alloc)?;
-    drop(first);
-    assert_eq!(rt; found.at, 12);
-    assert!(rt; found.table.id == TableId(5));
-    assert_eq!(rt; found.table.regions.as_slice().len(), 2);
-    let new = found.table.definition(alloc)?;
-    assert!(rt; is_new_table(&new));
-    let copy = new.copied(alloc)?;
-    assert!(rt; is_new_table(&copy));
-    let Some(index) = found.indexes.as_slice().first() else {
-        panic!(rt; "no index")
-    };
-    assert_eq!(rt; index.birth, 9);
-    assert!(rt; index.state == IndexState::Building);
-    let new = index.definition(alloc)?;
-    assert!(rt; is_new_index(&new));
-    let copy = new.copied(alloc)?;
-    assert!(rt; is_new_index(&copy));
+    let found = copy_of_found(alloc)?;
+    let same = is_found(&found);
+    let table = is_table_copied(alloc, &found.table);
+    let index = is_first_index_copied(alloc, &found);
+    drop(found);
+    assert!(rt; same);
+    assert!(rt; table?);
+    assert!(rt; index?);
     Ok(())
 }
