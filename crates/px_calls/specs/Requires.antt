@@ -24,6 +24,7 @@ use Rattle.px_tables.specs.declared.table.NewTable.{NewTable}
 use Rattle.px_tables.specs.declared.table.Table.{Table}
 use Rattle.px_tables.specs.declared.table.TableColumn.{TableColumn}
 use Rattle.px_paths.specs.Paths.{columns_on, index_path, is_keyed, table_path, type_in, values_on}
+pub use Rattle.px_paths.specs.Paths.{AreOfTypes, FitsRow}
 use Rattle.px_trail.specs.declared.entry.Act.{Act}
 use Rattle.px_trail.specs.declared.entry.Act.TheVariants.{Based, IndexMade, IndexState}
 use Rattle.px_trail.specs.declared.entry.Entry.{Entry}
@@ -137,18 +138,6 @@ AssignsTo t assignments =
 abbrev pub FitsWhat : Table → What → Type 0
 FitsWhat t (Set assignments) = AssignsTo t assignments × AreOnce (map (λ a. a.column) assignments)
 FitsWhat t Gone = Unit {0}
-
--- each column's value is of its type, or NULL
-abbrev pub AreOfTypes : List TableColumn → List Value → Type 0
-AreOfTypes [] [] = Unit {0}
-AreOfTypes (c ∷ columns) (v ∷ row) = ((v ≡ Null) ⊎ HasType c.column_type v) × AreOfTypes columns row
-AreOfTypes [] (v ∷ row) = ⊥
-AreOfTypes (c ∷ columns) [] = ⊥
-
--- a row as the table may have one: of the columns' types, and its primary key values are a key
-pub record FitsRow (t : Table) (row : List Value) : Type 0 where
-  pub types : AreOfTypes t.columns row
-  pub key : Fits (columns_on (table_path t)) (values_on (table_path t) row)
 
 -- the change is one of this table's rows
 pub record FitsTable (t : Table) (c : Change) : Type 0 where

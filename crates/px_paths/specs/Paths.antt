@@ -1,11 +1,12 @@
 -- The columns of row keys, and what an index shows of a row.
-use Rattle.std.specs.Prelude.{ℕ, ◌+◌, Bool, true, false, ◌&&◌, ◌||◌, not, nat_eq, if◌then◌else◌, List, [], ◌∷◌, ◌++◌, map, filter, Option, Some, None, slice_index_or}
+use Rattle.std.specs.Prelude.{◌≡◌, ◌⊎◌, ℕ, ◌+◌, Bool, true, false, ◌&&◌, ◌||◌, not, nat_eq, if◌then◌else◌, List, [], ◌∷◌, ◌++◌, map, filter, Option, Some, None, slice_index_or}
 use Rattle.std.specs.List.{list_any, slice_get}
+use Rattle.px_values.specs.Types.{HasType}
 use Rattle.px_values.specs.declared.column.ColType.{ColType}
 use Rattle.px_values.specs.declared.column.ColType.TheVariants.{Varchar}
 use Rattle.px_values.specs.declared.row.Value.{Value}
 use Rattle.px_values.specs.declared.row.Value.TheVariants.{Null}
-use Rattle.px_keys.specs.Spelling.{spelled}
+use Rattle.px_keys.specs.Spelling.{Fits, spelled}
 use Rattle.px_keys.specs.declared.parts.KeyColumn.{KeyColumn}
 use Rattle.px_tables.specs.declared.index.Index.{Index}
 use Rattle.px_tables.specs.declared.table.KeyPlace.{KeyPlace}
@@ -85,3 +86,17 @@ shown_from t x place (v ∷ row) = (if is_held t x place then v else Null) ∷ s
 -- the row, with NULL in the columns that the index doesn't hold
 abbrev pub shown_on : Table → Index → List Value → List Value
 shown_on t x row = shown_from t x 0 row
+
+-- 4. Rows of a table
+
+-- each column's value is of its type, or NULL
+abbrev pub AreOfTypes : List TableColumn → List Value → Type 0
+AreOfTypes [] [] = Unit {0}
+AreOfTypes (c ∷ columns) (v ∷ row) = ((v ≡ Null) ⊎ HasType c.column_type v) × AreOfTypes columns row
+AreOfTypes [] (v ∷ row) = ⊥
+AreOfTypes (c ∷ columns) [] = ⊥
+
+-- a row as the table may have one: of the columns' types, and its primary key values are a key
+pub record FitsRow (t : Table) (row : List Value) : Type 0 where
+  pub types : AreOfTypes t.columns row
+  pub key : Fits (columns_on (table_path t)) (values_on (table_path t) row)

@@ -6,6 +6,8 @@
 //! Rows as cells, index rows, the choice of a path and the steps of a query all speak of these.
 #![tactic(auto)]
 
+mod laws;
 mod path;
 
-pub use path::{PathColumn, index_path, table_path};
+pub use laws::law_index_keys;
+pub use path::{PathColumn, index_path, is_held, table_path};

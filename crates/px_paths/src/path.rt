@@ -1,6 +1,7 @@
 // The paths of tables and indexes.
-ghost use Rattle.std.specs.Prelude.{◌≡◌, ◌++◌, IfOk, OnOk, map, filter, not};
-ghost use Rattle.px_paths.specs.Paths.{index_part as index_part_of, index_path as index_path_of, is_keyed as is_keyed_of, key_part as key_part_of, may_be_null_in, table_path as table_path_of, type_in};
+ghost use Rattle.std.specs.Prelude.{◌≡◌, ◌++◌, IfOk, OnOk, map, filter, nat_eq, not};
+ghost use Rattle.std.specs.List.{list_any};
+ghost use Rattle.px_paths.specs.Paths.{index_part as index_part_of, index_path as index_path_of, is_held as is_held_of, is_keyed as is_keyed_of, key_part as key_part_of, may_be_null_in, table_path as table_path_of, type_in};
 
 use px_keys::KeyColumn;
 use px_tables::{Index, KeyPlace, Table, TableColumn};
@@ -103,4 +104,23 @@ pub fn index_path(
     add_parts(&mut path, table, parts)?;
     add_key(&mut path, table, parts)?;
     Ok(Items::of(path))
+}
+
+fn is_included(index: &Index, place: u8) -> bool
+    ensures { result ≡ list_any (λ c. nat_eq c place) index.now.included }
+{
+    index
+        .included
+        .as_slice()
+        .iter()
+        .any(|column| *column == place)
+}
+
+/// Whether the index holds the column at this place: it is indexed, included or of the primary key.
+pub fn is_held(table: &Table, index: &Index, place: u8) -> bool
+    ensures { result ≡ is_held_of table.now index.now place }
+{
+    is_keyed(index.parts.as_slice(), place)
+        || is_keyed(table.key.as_slice(), place)
+        || is_included(index, place)
 }
