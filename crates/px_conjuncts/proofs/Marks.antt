@@ -11,7 +11,7 @@ use Rattle.px_expr.specs.declared.bound.Test.{Test}
 use Rattle.px_ranges.specs.declared.leading.Edge.{Edge}
 use Rattle.px_ranges.specs.declared.leading.Span.{Span}
 use Rattle.px_ranges.specs.declared.leading.Leading.{Leading}
-use Rattle.px_conjuncts.specs.declared.path.PathColumn.{PathColumn}
+use Rattle.px_paths.specs.declared.path.PathColumn.{PathColumn}
 use Rattle.px_conjuncts.specs.Conjuncts.{told_by, equal_in, lower_in, upper_in}
 use Rattle.px_conjuncts.specs.Paths.{or_first, first_told, without_first, span_of, led_by, leading_of, is_told, without_bounds, rest_of, unmarked}
 
@@ -283,7 +283,7 @@ itself (x ∷ xs) (suc n) d l = itself xs n d (omega arith)
 
 -- the column that code reads
 abbrev pub column_at : List PathColumn → ℕ → PathColumn
-column_at path n = get_or path n (record { place = 0; part = record { ty = TinyInt; direction = Ascending; may_be_null = false } })
+column_at path n = get_or path n (record { place = 0; column = record { ty = TinyInt; direction = Ascending; may_be_null = false } })
 
 -- the end of the walk at a column without a value, from what the calls say of their own marks
 pub walk_none : (path : List PathColumn) (cs : List Bound) (marks first found second last : List Bool) (vs : List Value) (i : ℕ) (p : PathColumn) (s : Option Span) → i < length path → p ≡ get_or path i p → first ≡ marks → None ≡ first_told (equal_in p) (unmarked cs first) → unmarked cs found ≡ without_first (equal_in p) (unmarked cs first) → second ≡ found → s ≡ span_of (first_told (lower_in p) (unmarked cs second)) (first_told (upper_in p) (unmarked cs second)) → unmarked cs last ≡ without_bounds p true true (unmarked cs second) → Walked path cs marks vs i → (record { equal = vs; span = s } ≡ leading_of path cs) × (unmarked cs last ≡ rest_of path cs)

@@ -10,10 +10,11 @@ use Rattle.px_expr.specs.declared.bound.Bound.TheVariants as bounds
 use Rattle.px_ranges.specs.Led.{FirstIsIn, IsLed}
 use Rattle.px_ranges.specs.declared.leading.Edge.{Edge}
 use Rattle.px_ranges.specs.declared.leading.Leading.{Leading}
-use Rattle.px_conjuncts.specs.declared.path.PathColumn.{PathColumn}
-use Rattle.px_conjuncts.specs.Conjuncts.{key_of, all_true, told_by, equal_in, lower_in, upper_in}
+use Rattle.px_paths.specs.declared.path.PathColumn.{PathColumn}
+use Rattle.px_conjuncts.specs.Conjuncts.{all_true, told_by, equal_in, lower_in, upper_in}
 use Rattle.px_conjuncts.specs.Paths.{or_first, first_told, without_first, span_of, led_by, leading_of, is_told, without_bounds, rest_of}
 use Rattle.px_conjuncts.proofs.TestSays.{equal_says, bound_says, Over, Under, Says}
+use Rattle.px_paths.specs.Paths.{values_on}
 
 pub each_true : (row : List Value) (b : Bound) (bs : List Bound) → all_true row (b ∷ bs) ↔ (Selects b row × all_true row bs)
 each_true row b bs = (
@@ -136,7 +137,7 @@ in_span (Some a) None x xs = (λ h. (h.0.0, h.0.1, tt), λ h. ((h.0, h.1), tt))
 in_span None (Some b) x xs = (λ h. (h.1.0, tt, h.1.1), λ h. (tt, (h.0, h.2)))
 in_span (Some a) (Some b) x xs = (λ h. (h.0.0, h.0.1, h.1.1), λ h. ((h.0, h.1), (h.0, h.2)))
 
-pub conjuncts_are : (path : List PathColumn) (bs : List Bound) (row : List Value) → all_true row bs ↔ (IsLed (leading_of path bs) (key_of path row) × all_true row (rest_of path bs))
+pub conjuncts_are : (path : List PathColumn) (bs : List Bound) (row : List Value) → all_true row bs ↔ (IsLed (leading_of path bs) (values_on path row) × all_true row (rest_of path bs))
 conjuncts_are [] bs row = (λ h. ((refl, tt), h), λ h. h.1)
 conjuncts_are (p ∷ path) bs row = by_told (conjuncts_are path (without_first (equal_in p) bs) row) (first_told (equal_in p) bs) refl
   where
@@ -146,7 +147,7 @@ conjuncts_are (p ∷ path) bs row = by_told (conjuncts_are path (without_first (
     tails : (x y : Value) (xs ys : List Value) → x ∷ xs ≡ y ∷ ys → xs ≡ ys
     tails x y xs ys e = cc
 
-    by_told : (let left = without_first (equal_in p) bs in all_true row left ↔ (IsLed (leading_of path left) (key_of path row) × all_true row (rest_of path left))) → (o : Option Value) → first_told (equal_in p) bs ≡ o → all_true row bs ↔ (IsLed (leading_of (p ∷ path) bs) (key_of (p ∷ path) row) × all_true row (rest_of (p ∷ path) bs))
+    by_told : (let left = without_first (equal_in p) bs in all_true row left ↔ (IsLed (leading_of path left) (values_on path row) × all_true row (rest_of path left))) → (o : Option Value) → first_told (equal_in p) bs ≡ o → all_true row bs ↔ (IsLed (leading_of (p ∷ path) bs) (values_on (p ∷ path) row) × all_true row (rest_of (p ∷ path) bs))
     by_told rest (Some v) t =
         let left = without_first (equal_in p) bs in
         let more = leading_of path left in
@@ -154,11 +155,11 @@ conjuncts_are (p ∷ path) bs row = by_told (conjuncts_are path (without_first (
         let kept : rest_of (p ∷ path) bs ≡ rest_of path left = ap (λ (o : Option Value). if is_some o then rest_of path left else without_bounds p true true bs) t in
         let first = first_equal p bs row v t in
         let n = length more.equal in
-        subst (λ (l : Leading). all_true row bs ↔ (IsLed l (get_or row p.place Null ∷ key_of path row) × all_true row (rest_of (p ∷ path) bs))) (sym led)
-        (subst (λ (r : List Bound). all_true row bs ↔ (IsLed (record { equal = v ∷ more.equal; span = more.span }) (get_or row p.place Null ∷ key_of path row) × all_true row r)) (sym kept) (
+        subst (λ (l : Leading). all_true row bs ↔ (IsLed l (get_or row p.place Null ∷ values_on path row) × all_true row (rest_of (p ∷ path) bs))) (sym led)
+        (subst (λ (r : List Bound). all_true row bs ↔ (IsLed (record { equal = v ∷ more.equal; span = more.span }) (get_or row p.place Null ∷ values_on path row) × all_true row r)) (sym kept) (
           λ h. (let k = first.0 h in let r = rest.0 k.1 in
-              ((ap (λ (y : Value). y ∷ take n (key_of path row)) k.0 ∙ ap (λ (ys : List Value). v ∷ ys) r.0.0, r.0.1), r.1)),
-          λ h. first.1 (heads (get_or row p.place Null) v (take n (key_of path row)) more.equal h.0.0, rest.1 ((tails (get_or row p.place Null) v (take n (key_of path row)) more.equal h.0.0, h.0.1), h.1)),
+              ((ap (λ (y : Value). y ∷ take n (values_on path row)) k.0 ∙ ap (λ (ys : List Value). v ∷ ys) r.0.0, r.0.1), r.1)),
+          λ h. first.1 (heads (get_or row p.place Null) v (take n (values_on path row)) more.equal h.0.0, rest.1 ((tails (get_or row p.place Null) v (take n (values_on path row)) more.equal h.0.0, h.0.1), h.1)),
         ))
     by_told rest None t =
         let left = without_first (equal_in p) bs in
@@ -167,9 +168,9 @@ conjuncts_are (p ∷ path) bs row = by_told (conjuncts_are path (without_first (
         let led : leading_of (p ∷ path) bs ≡ record { equal = []; span = s } = ap (λ (o : Option Value). led_by o more s) t in
         let kept : rest_of (p ∷ path) bs ≡ without_bounds p true true bs = ap (λ (o : Option Value). if is_some o then rest_of path left else without_bounds p true true bs) t in
         let told = bounds_told p true true bs row in
-        let spans = in_span (first_told (lower_in p) bs) (first_told (upper_in p) bs) (get_or row p.place Null) (key_of path row) in
-        subst (λ (l : Leading). all_true row bs ↔ (IsLed l (get_or row p.place Null ∷ key_of path row) × all_true row (rest_of (p ∷ path) bs))) (sym led)
-        (subst (λ (r : List Bound). all_true row bs ↔ (IsLed (record { equal = []; span = s }) (get_or row p.place Null ∷ key_of path row) × all_true row r)) (sym kept) (
+        let spans = in_span (first_told (lower_in p) bs) (first_told (upper_in p) bs) (get_or row p.place Null) (values_on path row) in
+        subst (λ (l : Leading). all_true row bs ↔ (IsLed l (get_or row p.place Null ∷ values_on path row) × all_true row (rest_of (p ∷ path) bs))) (sym led)
+        (subst (λ (r : List Bound). all_true row bs ↔ (IsLed (record { equal = []; span = s }) (get_or row p.place Null ∷ values_on path row) × all_true row r)) (sym kept) (
           λ h. (let k = told.0 h in ((refl, spans.0 k.0), k.1)),
           λ h. told.1 (spans.1 h.0.1, h.1),
         ))

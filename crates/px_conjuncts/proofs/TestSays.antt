@@ -17,7 +17,7 @@ use Rattle.px_expr.specs.declared.bound.Test.TheVariants.{Compare, IsNull, Betwe
 use Rattle.px_ranges.specs.Led.{Inside, can_bound}
 use Rattle.px_ranges.specs.declared.leading.Edge.{Edge}
 use Rattle.px_ranges.proofs.Ranges.{value_exact, value_same}
-use Rattle.px_conjuncts.specs.declared.path.PathColumn.{PathColumn}
+use Rattle.px_paths.specs.declared.path.PathColumn.{PathColumn}
 use Rattle.px_conjuncts.specs.Conjuncts.{unless_null, at_column, edge, edge_beside, equal_in, lower_in, upper_in}
 
 -- a comparison of two values is told, where neither is NULL
@@ -99,9 +99,9 @@ at_place {A} column place found a e = by_test (nat_eq place column.place) refl
         there t = rw t refl
 
 edge_is : (column : PathColumn) (i : Bool) (v : values.Value) (e : Edge) → edge column i v ≡ Some e → (v ≢ Null) × (e ≡ record { value = v; included = i })
-edge_is column i v e h = by_test (can_bound column.part.ty v) refl
+edge_is column i v e h = by_test (can_bound column.column.ty v) refl
   where
-    never_null : (v : values.Value) → can_bound column.part.ty v ≡ true → v ≢ Null
+    never_null : (v : values.Value) → can_bound column.column.ty v ≡ true → v ≢ Null
     never_null Null t z = cc
     never_null (Number n) t z = cc
     never_null (Truth n) t z = cc
@@ -110,7 +110,7 @@ edge_is column i v e h = by_test (can_bound column.part.ty v) refl
     same : (x y : Edge) → ◌≡◌ {A = Option Edge} (Some x) (Some y) → x ≡ y
     same x y e = cc
 
-    by_test : (b : Bool) → can_bound column.part.ty v ≡ b → (v ≢ Null) × (e ≡ record { value = v; included = i })
+    by_test : (b : Bool) → can_bound column.column.ty v ≡ b → (v ≢ Null) × (e ≡ record { value = v; included = i })
     by_test true t =
         let is : edge column i v ≡ Some (record { value = v; included = i }) = rw t refl in (never_null v t, same e (record { value = v; included = i }) (sym h ∙ is))
     by_test false t = absurd (let n : edge column i v ≡ None = rw t refl in let z : ◌≡◌ {A = Option Edge} None (Some e) = sym n ∙ h in cc)
@@ -223,20 +223,20 @@ two_sided (Some e) (Some d) x S P Q s h k c =
 paired : (column : PathColumn) (place : ℕ) (a b : values.Value) → (((at_column column place (edge_beside column b a) ≡ None) × (at_column column place (edge_beside column a b) ≡ None)) ⊎ (((e : Edge) × (at_column column place (edge_beside column b a) ≡ Some e)) × ((d : Edge) × (at_column column place (edge_beside column a b) ≡ Some d))))
 paired column place a b = by_test (nat_eq place column.place) refl
   where
-    found : (s t : Bool) → can_bound column.part.ty a ≡ s → can_bound column.part.ty b ≡ t → ((edge_beside column b a ≡ None) × (edge_beside column a b ≡ None)) ⊎ (((e : Edge) × (edge_beside column b a ≡ Some e)) × ((d : Edge) × (edge_beside column a b ≡ Some d)))
+    found : (s t : Bool) → can_bound column.column.ty a ≡ s → can_bound column.column.ty b ≡ t → ((edge_beside column b a ≡ None) × (edge_beside column a b ≡ None)) ⊎ (((e : Edge) × (edge_beside column b a ≡ Some e)) × ((d : Edge) × (edge_beside column a b ≡ Some d)))
     found true true e f = inr ((record { value = a; included = true }, rw (f, e) refl), (record { value = b; included = true }, rw (e, f) refl))
     found true false e f = inl (rw f refl, rw (e, f) refl)
     found false true e f = inl (rw (f, e) refl, rw e refl)
     found false false e f = inl (rw f refl, rw e refl)
 
     by_test : (t : Bool) → nat_eq place column.place ≡ t → (((at_column column place (edge_beside column b a) ≡ None) × (at_column column place (edge_beside column a b) ≡ None)) ⊎ (((e : Edge) × (at_column column place (edge_beside column b a) ≡ Some e)) × ((d : Edge) × (at_column column place (edge_beside column a b) ≡ Some d))))
-    by_test true t = rw t (found (can_bound column.part.ty a) (can_bound column.part.ty b) refl refl)
+    by_test true t = rw t (found (can_bound column.column.ty a) (can_bound column.column.ty b) refl refl)
     by_test false t = rw t (inl (refl, refl))
 
 pub from_beside : (column : PathColumn) (place : ℕ) (a b : values.Value) (e : Edge) → at_column column place (edge_beside column b a) ≡ Some e → at_column column place (edge column true a) ≡ Some e
-from_beside column place a b e h = by_test (can_bound column.part.ty b) refl
+from_beside column place a b e h = by_test (can_bound column.column.ty b) refl
   where
-    by_test : (t : Bool) → can_bound column.part.ty b ≡ t → at_column column place (edge column true a) ≡ Some e
+    by_test : (t : Bool) → can_bound column.column.ty b ≡ t → at_column column place (edge column true a) ≡ Some e
     by_test true t = let is : edge_beside column b a ≡ edge column true a = rw t refl in sym (ap (λ (o : Option Edge). at_column column place o) is) ∙ h
     by_test false t = absurd (let is : edge_beside column b a ≡ None = rw t refl in let z : ◌≡◌ {A = Option Edge} None (Some e) = sym (nowhere column place) ∙ sym (ap (λ (o : Option Edge). at_column column place o) is) ∙ h in cc)
 

@@ -12,11 +12,7 @@ use Rattle.px_expr.specs.declared.bound.Bound.TheVariants as bounds
 use Rattle.px_expr.specs.Holds.{Selects}
 use Rattle.px_ranges.specs.Led.{can_bound}
 use Rattle.px_ranges.specs.declared.leading.Edge.{Edge}
-use Rattle.px_conjuncts.specs.declared.path.PathColumn.{PathColumn}
-
--- the values of a row in the order of a path
-abbrev pub key_of : List PathColumn → List Value → List Value
-key_of path row = map (λ p. get_or row p.place Null) path
+use Rattle.px_paths.specs.declared.path.PathColumn.{PathColumn}
 
 -- the parts of the outermost ANDs
 abbrev mutual
@@ -55,11 +51,11 @@ equal_in p t = None
 
 -- a value that can bound the column
 abbrev pub edge : PathColumn → Bool → Value → Option Edge
-edge p included v = if can_bound p.part.ty v then Some (record { value = v; included = included }) else None
+edge p included v = if can_bound p.column.ty v then Some (record { value = v; included = included }) else None
 
 -- the edge of a BETWEEN, of which the other one can bound the column too
 abbrev pub edge_beside : PathColumn → Value → Value → Option Edge
-edge_beside p other v = if can_bound p.part.ty other then edge p true v else None
+edge_beside p other v = if can_bound p.column.ty other then edge p true v else None
 
 -- `>` and `>=` with a literal, and BETWEEN two of them
 abbrev pub lower_in : PathColumn → Test → Option Edge

@@ -10,7 +10,7 @@ use Rattle.px_ranges.specs.declared.leading.Edge.{Edge}
 use Rattle.px_ranges.specs.declared.leading.Span.{Span}
 use Rattle.px_ranges.specs.declared.leading.Leading.{Leading}
 use Rattle.px_conjuncts.specs.Conjuncts.{told_by, equal_in, lower_in, upper_in}
-use Rattle.px_conjuncts.specs.declared.path.PathColumn.{PathColumn}
+use Rattle.px_paths.specs.declared.path.PathColumn.{PathColumn}
 use Rattle.px_conjuncts.specs.declared.path.EqualTo.{EqualTo}
 use Rattle.px_conjuncts.specs.declared.path.EqualTo.TheVariants as e
 use Rattle.px_conjuncts.specs.declared.path.Side.{Side}
@@ -71,11 +71,6 @@ abbrev pub rest_of : List PathColumn → List Bound → List Bound
 rest_of [] bs = bs
 rest_of (p ∷ path) bs =
     if is_some (first_told (equal_in p) bs) then rest_of path (without_first (equal_in p) bs) else without_bounds p true true bs
-
--- ---- the columns of a path in keys
-
-abbrev pub parts_of : List PathColumn → List KeyColumn
-parts_of path = map (λ p. p.part) path
 
 -- ---- as the code has it
 

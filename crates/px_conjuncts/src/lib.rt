@@ -14,5 +14,5 @@ mod walk;
 
 pub use flat::{conjuncts, unmarked};
 pub use laws::{law_condition, law_paths, law_ranged};
-pub use path::{Bounds, EqualTo, PathColumn, Side, Told};
+pub use path::{Bounds, EqualTo, Side, Told};
 pub use walk::{leading, told};

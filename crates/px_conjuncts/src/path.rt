@@ -1,13 +1,5 @@
-// Paths, and what conjuncts tell of them.
-use px_keys::KeyColumn;
+// What conjuncts tell of a path.
 use px_values::Value;
-
-/// A column of a path: its place in the table, and what it is in keys.
-#[derive(Clone, Copy)]
-pub struct PathColumn {
-    pub place: u8,
-    pub part: KeyColumn,
-}
 
 /// What a column is equal to.
 #[derive(Clone, Copy)]

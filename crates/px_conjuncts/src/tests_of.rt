@@ -4,9 +4,10 @@ ghost use Rattle.std.specs.Option.{option_copied, option_map};
 ghost use Rattle.px_conjuncts.specs.Conjuncts.{edge as edge_in, edge_beside, equal_in as equal_of, lower_in as lower_of, told_by, upper_in as upper_of};
 ghost use Rattle.px_conjuncts.specs.Paths.{edge_of, equal_value};
 
-use crate::{EqualTo, PathColumn, Side};
+use crate::{EqualTo, Side};
 use px_ast::Comparison;
 use px_expr::{Bound, Term, Test};
+use px_paths::PathColumn;
 use px_ranges::can_bound;
 use px_values::Value;
 
@@ -35,7 +36,7 @@ pub(crate) fn equal_in(column: PathColumn, conjunct: &Bound) -> Option<EqualTo<'
 fn side(column: PathColumn, value: &Value, included: bool) -> Option<Side<'_>>
     ensures { option_map edge_of result ≡ edge_in column included value.now }
 {
-    if can_bound(column.part, value) {
+    if can_bound(column.column, value) {
         Some(Side { value, included })
     } else {
         None
@@ -46,7 +47,7 @@ fn side(column: PathColumn, value: &Value, included: bool) -> Option<Side<'_>>
 fn side_beside<'a>(column: PathColumn, other: &Value, value: &'a Value) -> Option<Side<'a>>
     ensures { option_map edge_of result ≡ edge_beside column other.now value.now }
 {
-    if can_bound(column.part, other) {
+    if can_bound(column.column, other) {
         side(column, value, true)
     } else {
         None

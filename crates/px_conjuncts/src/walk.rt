@@ -5,8 +5,9 @@ ghost use Rattle.px_conjuncts.specs.Conjuncts.{equal_in as equal_of, lower_in as
 ghost use Rattle.px_conjuncts.specs.Paths.{edge_of, equal_value, first_told, is_told as is_told_by, leading_of, leading_told, or_first, rest_of, span_in, span_of, unmarked, without_bounds, without_first};
 
 use crate::tests_of::{equal_in, lower_in, upper_in};
-use crate::{Bounds, EqualTo, PathColumn, Side, Told};
+use crate::{Bounds, EqualTo, Side, Told};
 use px_expr::Bound;
+use px_paths::PathColumn;
 use px_ranges::{Edge, Leading, Span};
 use px_values::{Items, Value};
 use std::alloc::{AllocError, Global};

@@ -14,7 +14,7 @@ use Rattle.px_values.specs.declared.row.Value.TheVariants.{Null}
 use Rattle.px_values.proofs.ValueOrder.{value_order_total, total_along}
 use Rattle.px_tables.specs.declared.table.KeyPlace.{KeyPlace}
 use Rattle.px_bind.specs.declared.request.Query.{Query}
-use Rattle.px_conjuncts.specs.declared.path.PathColumn.{PathColumn}
+use Rattle.px_paths.specs.declared.path.PathColumn.{PathColumn}
 use Rattle.px_plan.specs.Answers.{by_order, by_path, comes_before, Ascends, shown, cut_off, IsAnswer}
 
 -- ---- the order is total
@@ -34,7 +34,7 @@ order_total (p ∷ order) =
 path_total : (path : List PathColumn) → IsTotalOrder (by_path path)
 path_total [] = total_along (λ a b. refl) none_total
 path_total (p ∷ path) =
-    total_along (λ a b. refl) (then_total (on_total (λ (row : List Value). get_or row p.place Null) (direction_total p.part.direction)) (path_total path))
+    total_along (λ a b. refl) (then_total (on_total (λ (row : List Value). get_or row p.place Null) (direction_total p.column.direction)) (path_total path))
 
 pub before_total : (q : Query) (path : List PathColumn) → IsTotalOrder (comes_before q path)
 before_total q path = total_along (λ a b. refl) (then_total (order_total q.order) (path_total path))
@@ -44,20 +44,20 @@ before_total q path = total_along (λ a b. refl) (then_total (order_total q.orde
 itself : (R : List Value → List Value → Ordering) → IsTotalOrder R → (x : List Value) → R x x ≡ Less → ⊥
 itself R t x e = let a = t.antisymm x x in let z : ◌≡◌ {A = Ordering} Less Greater = sym e ∙ a ∙ ap ordering_reverse e in cc
 
-here : (x : List Value) (xs : List (List Value)) → Contains (x ∷ xs) x
+pub here : (x : List Value) (xs : List (List Value)) → Contains (x ∷ xs) x
 here x xs = (0, omega arith, refl)
 
-there : (x y : List Value) (xs : List (List Value)) → Contains xs y → Contains (x ∷ xs) y
+pub there : (x y : List Value) (xs : List (List Value)) → Contains xs y → Contains (x ∷ xs) y
 there x y xs h = let l = h.1 in (suc h.0, omega arith, h.2)
 
 cases : (x z : List Value) (xs : List (List Value)) (k : ℕ) → k < length (x ∷ xs) → get_or (x ∷ xs) k z ≡ z → (x ≡ z) ⊎ Contains xs z
 cases x z xs zero l e = inl e
 cases x z xs (suc k) l e = inr (k, omega arith, e)
 
-split : (x z : List Value) (xs : List (List Value)) → Contains (x ∷ xs) z → (x ≡ z) ⊎ Contains xs z
+pub split : (x z : List Value) (xs : List (List Value)) → Contains (x ∷ xs) z → (x ≡ z) ⊎ Contains xs z
 split x z xs h = cases x z xs h.0 h.1 h.2
 
-nothing_in : (z : List Value) → Contains [] z → ⊥
+pub nothing_in : (z : List Value) → Contains [] z → ⊥
 nothing_in z h = let l = h.1 in omega arith
 
 -- each later row is behind the first

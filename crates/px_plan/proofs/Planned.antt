@@ -1,21 +1,19 @@
 -- The plan of a query whose condition was taken apart.
-use Rattle.std.proofs.Common.{◌≡◌, ◌↔◌, ℕ, List, refl, sym, ap, subst, ◌∙◌, Option, Some, None, Result, Ok, Err}
+use Rattle.std.proofs.Common.{◌≡◌, ◌↔◌, ℕ, List, sym, subst, Option, Some, None, Result, Ok, Err}
 use Rattle.px_values.specs.declared.row.Value.{Value}
-use Rattle.px_keys.specs.Range.{IsBetween}
 use Rattle.px_expr.specs.declared.bound.Bound.{Bound}
 use Rattle.px_tables.specs.declared.index.Index.{Index}
 use Rattle.px_tables.specs.declared.table.Table.{Table}
 use Rattle.px_tables.specs.declared.found.Found.{Found}
 use Rattle.px_bind.specs.declared.request.Query.{Query}
-use Rattle.px_conjuncts.specs.Conjuncts.{all_true, conjuncts_of_filter, key_of}
-use Rattle.px_conjuncts.specs.Paths.{rest_of}
+use Rattle.px_conjuncts.specs.Conjuncts.{all_true, conjuncts_of_filter}
 use Rattle.px_conjuncts.proofs.Conditions.{condition_is}
 use Rattle.px_conjuncts.proofs.Rests.{conjuncts_are, none_true}
 use Rattle.px_plan.specs.PathColumns.{path_of}
 use Rattle.px_plan.specs.Naming.{named}
-use Rattle.px_plan.specs.Plans.{Answers, HasKey, IsPlan, IsSelected, conjuncts, row_key}
-use Rattle.px_plan.specs.inner.Asked.{AnswersBy, IsPlanOf, asked_of}
-use Rattle.px_plan.specs.declared.choosing.Asked.{Asked}
+use Rattle.px_plan.specs.Plans.{Answers, IsPlan, IsSelected, conjuncts}
+use Rattle.px_plan.specs.Asked.{AnswersBy, IsPlanOf, asked_of}
+use Rattle.px_plan.specs.declared.plan.Asked.{Asked}
 use Rattle.px_plan.specs.declared.plan.Plan.{Plan}
 use Rattle.px_plan.specs.declared.plan.PlanFault.{PlanFault}
 use Rattle.px_plan.specs.declared.plan.PlanFault.TheVariants.{IndexJoin, Memory}

@@ -10,10 +10,9 @@ use Rattle.px_values.specs.declared.row.Value.TheVariants.{Null}
 use Rattle.px_keys.specs.KeyOrder.{parts_order}
 use Rattle.px_tables.specs.declared.table.KeyPlace.{KeyPlace}
 use Rattle.px_bind.specs.declared.request.Query.{Query}
-use Rattle.px_conjuncts.specs.Conjuncts.{key_of}
-use Rattle.px_conjuncts.specs.Paths.{parts_of}
-use Rattle.px_conjuncts.specs.declared.path.PathColumn.{PathColumn}
+use Rattle.px_paths.specs.declared.path.PathColumn.{PathColumn}
 use Rattle.px_plan.specs.Plans.{IsSelected}
+use Rattle.px_paths.specs.Paths.{columns_on, values_on}
 
 -- the order of an ORDER BY
 abbrev pub by_order : List KeyPlace → List Value → List Value → Ordering
@@ -22,7 +21,7 @@ by_order (p ∷ order) a b = ordering_then (compare_of p.direction (get_or a p.c
 
 -- the order of a path: that of its keys
 abbrev pub by_path : List PathColumn → List Value → List Value → Ordering
-by_path path a b = parts_order (parts_of path) (key_of path a) (key_of path b)
+by_path path a b = parts_order (columns_on path) (values_on path a) (values_on path b)
 
 -- rows go by the ORDER BY, and where this leaves it open by the path
 abbrev pub comes_before : Query → List PathColumn → List Value → List Value → Ordering

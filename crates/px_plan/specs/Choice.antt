@@ -14,7 +14,7 @@ use Rattle.px_tables.specs.declared.table.Table.{Table}
 use Rattle.px_bind.specs.declared.request.Hint.{Hint}
 use Rattle.px_bind.specs.declared.request.Hint.TheVariants as hints
 use Rattle.px_ranges.specs.declared.leading.Leading.{Leading}
-use Rattle.px_conjuncts.specs.declared.path.PathColumn.{PathColumn}
+use Rattle.px_paths.specs.declared.path.PathColumn.{PathColumn}
 use Rattle.px_conjuncts.specs.Paths.{leading_of}
 use Rattle.px_plan.specs.PathColumns.{path_of}
 use Rattle.px_plan.specs.Naming.{holds_all}
@@ -48,7 +48,7 @@ same_direction a b = false
 abbrev pub begins_with : List PathColumn → List KeyPlace → Bool
 begins_with path [] = true
 begins_with [] (o ∷ order) = false
-begins_with (p ∷ path) (o ∷ order) = nat_eq p.place o.column && (same_direction p.part.direction o.direction && begins_with path order)
+begins_with (p ∷ path) (o ∷ order) = nat_eq p.place o.column && (same_direction p.column.direction o.direction && begins_with path order)
 
 -- what the conjuncts say of a path
 abbrev pub leading_by : Table → List Bound → Option Index → Leading

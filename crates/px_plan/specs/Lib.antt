@@ -4,4 +4,4 @@ pub mod Choice
 pub mod Plans
 pub mod Explained
 pub mod Answers
-pub mod inner
+pub mod Asked

@@ -1,6 +1,6 @@
 -- The columns that a query names, and the indexes that hold them.
-use Rattle.std.specs.Prelude.{ℕ, Bool, ◌||◌, nat_eq, List, [], ◌∷◌, ◌++◌, map, Option, Some, None}
-use Rattle.std.specs.List.{list_all, list_any}
+use Rattle.std.specs.Prelude.{ℕ, Bool, List, [], ◌∷◌, ◌++◌, map, Option, Some, None}
+use Rattle.std.specs.List.{list_all}
 use Rattle.px_expr.specs.declared.bound.Term.{Term}
 use Rattle.px_expr.specs.declared.bound.Term.TheVariants.{Column, Value as Given}
 use Rattle.px_expr.specs.declared.bound.Test.{Test}
@@ -10,7 +10,7 @@ use Rattle.px_expr.specs.declared.bound.Bound.TheVariants as bounds
 use Rattle.px_tables.specs.declared.index.Index.{Index}
 use Rattle.px_tables.specs.declared.table.Table.{Table}
 use Rattle.px_bind.specs.declared.request.Query.{Query}
-use Rattle.px_plan.specs.PathColumns.{is_at}
+use Rattle.px_paths.specs.Paths.{is_held}
 
 abbrev pub term_columns : Term → List ℕ
 term_columns (Column place) = place ∷ []
@@ -42,9 +42,6 @@ filter_columns (Some b) = columns_in b
 abbrev pub named : Query → List ℕ
 named q = q.shown ++ (filter_columns q.filter ++ map (λ p. p.column) q.order)
 
--- an index holds a column that is indexed, of the primary key, or included
-abbrev pub holds_column : Table → Index → ℕ → Bool
-holds_column t i column = is_at i.parts column || (is_at t.key column || list_any (λ c. nat_eq c column) i.included)
-
+-- an index holds all these columns
 abbrev pub holds_all : Table → Index → List ℕ → Bool
-holds_all t i columns = list_all (holds_column t i) columns
+holds_all t i columns = list_all (is_held t i) columns

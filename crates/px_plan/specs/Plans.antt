@@ -1,6 +1,6 @@
 -- What a plan of a query is.
-use Rattle.std.specs.Prelude.{◌≡◌, ◌↔◌, ℕ, Bool, not, List, length, Option, Some, None, Result, Ok, Err}
-use Rattle.std.specs.Option.{is_some, option_map}
+use Rattle.std.specs.Prelude.{◌≡◌, ◌↔◌, ℕ, not, List, Option, Some, None, Result, Ok, Err}
+use Rattle.std.specs.Option.{option_map}
 use Rattle.px_values.specs.declared.row.Value.{Value}
 use Rattle.px_keys.specs.Range.{IsBetween}
 use Rattle.px_keys.specs.Spelling.{Fits, spelled}
@@ -11,9 +11,9 @@ use Rattle.px_tables.specs.declared.index.Index.{Index}
 use Rattle.px_tables.specs.declared.table.Table.{Table}
 use Rattle.px_bind.specs.declared.request.Query.{Query}
 use Rattle.px_ranges.specs.Led.{IsLed}
-use Rattle.px_conjuncts.specs.Conjuncts.{all_true, conjuncts_of_filter, key_of}
-use Rattle.px_conjuncts.specs.Paths.{parts_of, rest_of}
-use Rattle.px_conjuncts.specs.declared.path.PathColumn.{PathColumn}
+use Rattle.px_conjuncts.specs.Conjuncts.{all_true, conjuncts_of_filter}
+use Rattle.px_conjuncts.specs.Paths.{rest_of}
+use Rattle.px_paths.specs.declared.path.PathColumn.{PathColumn}
 use Rattle.px_plan.specs.PathColumns.{path_of}
 use Rattle.px_plan.specs.Naming.{named}
 use Rattle.px_plan.specs.Choice.{IsBest, Lacks, Takes, candidates, hinted, leading_by, rank_of}
@@ -22,6 +22,7 @@ use Rattle.px_plan.specs.declared.plan.By.TheVariants as bys
 use Rattle.px_plan.specs.declared.plan.Plan.{Plan}
 use Rattle.px_plan.specs.declared.plan.PlanFault.{PlanFault}
 use Rattle.px_plan.specs.declared.plan.PlanFault.TheVariants.{IndexJoin, Memory}
+use Rattle.px_paths.specs.Paths.{columns_on, values_on}
 
 abbrev pub conjuncts : Query → List Bound
 conjuncts q = conjuncts_of_filter q.filter
@@ -39,10 +40,10 @@ IsChosen found point q by =
 
 -- the key of a row on a path, and a row whose key has values of its columns
 abbrev pub row_key : List PathColumn → List Value → List ℕ
-row_key path row = spelled (parts_of path) (key_of path row)
+row_key path row = spelled (columns_on path) (values_on path row)
 
 abbrev pub HasKey : List PathColumn → List Value → Type 0
-HasKey path row = Fits (parts_of path) (key_of path row)
+HasKey path row = Fits (columns_on path) (values_on path row)
 
 abbrev pub key_name : Option Index → By
 key_name None = bys.Table
@@ -60,7 +61,7 @@ pub record IsPlan (t : Table) (q : Query) (by : Option Index) (p : Plan) : Type 
   -- the conjuncts that the keys don't tell
   pub rest : p.rest ≡ rest_of (path_of t by) (conjuncts q)
   -- the keys that are read are just those of the rows that begin as the conjuncts say
-  pub keys : (row : List Value) → HasKey (path_of t by) row → (IsBetween p.bounds.low p.bounds.high (row_key (path_of t by) row) ↔ IsLed (leading_by t (conjuncts q) by) (key_of (path_of t by) row))
+  pub keys : (row : List Value) → HasKey (path_of t by) row → (IsBetween p.bounds.low p.bounds.high (row_key (path_of t by) row) ↔ IsLed (leading_by t (conjuncts q) by) (values_on (path_of t by) row))
   -- so the rows of the query are those whose key is read and of which the rest is true
   pub rows : (row : List Value) → HasKey (path_of t by) row → (IsSelected q.filter row ↔ (IsBetween p.bounds.low p.bounds.high (row_key (path_of t by) row) × all_true row p.rest))
   -- what is shown, in what order, and how many rows

@@ -3,29 +3,19 @@ ghost use Rattle.std.specs.Prelude.{◌≡◌, IfErr, IfOk, length, not};
 ghost use Rattle.std.specs.Option.{option_copied, option_map};
 ghost use Rattle.px_conjuncts.specs.Paths.{unmarked as unmarked_of};
 ghost use Rattle.px_plan.specs.Plans.{Answers, key_name};
-ghost use Rattle.px_plan.specs.inner.Asked.{AnswersBy, FaultFor, IsPlanOf, TakesFor, asked_of};
+ghost use Rattle.px_plan.specs.Asked.{AnswersBy, FaultFor, IsPlanOf, TakesFor, asked_of};
 
 use crate::best::best;
 use crate::hints::hinted;
 use crate::naming::{holds_all, named_columns};
-use crate::reading::{PathReading, reading};
-use crate::{By, Plan, PlanFault};
+use crate::reading::{PathReading, read_by};
+use crate::{Asked, By, Plan, PlanFault};
 use px_bind::{Hint, Query};
 use px_conjuncts::{conjuncts, unmarked};
 use px_expr::Bound;
 use px_tables::{Found, Index, KeyPlace, Table};
 use px_values::{Items, Name};
 use std::alloc::{AllocError, Global};
-
-/// A query whose condition is taken apart.
-#[derive(Drop)]
-pub(crate) struct Asked {
-    pub(crate) hints: Items<Hint>,
-    pub(crate) shown: Items<u8>,
-    pub(crate) conjuncts: Items<Bound>,
-    pub(crate) order: Items<KeyPlace>,
-    pub(crate) limit: Option<u64>,
-}
 
 /// The plan of a query over a table with its indexes, as of a point, or the current one where there is none.
 ///
@@ -46,7 +36,7 @@ pub fn choose(
             return Err(PlanFault::Memory);
         }
     };
-    let plan = match taken_apart(alloc, query) {
+    let plan = match take_apart(alloc, query) {
         Ok(asked) => plan_asked(alloc, asked, columns.as_slice(), found, point),
         Err(_) => Err(PlanFault::Memory),
     };
@@ -54,7 +44,8 @@ pub fn choose(
     plan
 }
 
-fn taken_apart(alloc: Global, query: Query) -> Result<Asked, AllocError>
+/// Takes the condition of a query apart.
+pub fn take_apart(alloc: Global, query: Query) -> Result<Asked, AllocError>
     ensures { IfOk result (λ a. a ≡ asked_of query) }
 {
     let Query {
@@ -82,8 +73,9 @@ fn taken_apart(alloc: Global, query: Query) -> Result<Asked, AllocError>
     }
 }
 
-/// The path of a query, or why it has none.
-fn choose_by<'a>(
+/// The path of a query over a table with its indexes, as of a point, or the current one where there is none: an index, or none for
+/// the table. `columns` are those that the query names. Or why it has none.
+pub fn choose_by<'a>(
     alloc: Global,
     asked: &Asked,
     columns: &[u8],
@@ -146,7 +138,7 @@ fn plan_by(
 ) -> Result<Plan, AllocError>
     ensures { IfOk result (IsPlanOf table.now asked (option_copied by.entry)) }
 {
-    match reading(
+    match read_by(
         alloc,
         table,
         by,

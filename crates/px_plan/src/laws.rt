@@ -2,7 +2,7 @@
 ghost use Rattle.std.specs.Prelude.{◌≡◌, ◌↔◌, List};
 ghost use Rattle.std.specs.List.{Contains};
 ghost use Rattle.px_bind.specs.declared.request.Query.{Query};
-ghost use Rattle.px_conjuncts.specs.declared.path.PathColumn.{PathColumn};
+ghost use Rattle.px_paths.specs.declared.path.PathColumn.{PathColumn};
 ghost use Rattle.px_plan.specs.Answers.{IsAnswer};
 ghost use Rattle.px_values.specs.declared.row.Value.{Value};
 

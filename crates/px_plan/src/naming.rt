@@ -1,11 +1,13 @@
 // The columns that a query names, and the indexes that hold them.
-ghost use Rattle.std.specs.Prelude.{◌≡◌, ◌++◌, IfOk, OnOk, map, nat_eq};
-ghost use Rattle.std.specs.List.{flat_map, list_any};
-ghost use Rattle.px_plan.specs.Naming.{columns_in, filter_columns, holds_all as holds_all_of, holds_column as holds_column_of, named, term_columns, test_columns};
+ghost use Rattle.std.specs.Prelude.{◌≡◌, ◌++◌, IfOk, OnOk, map};
+ghost use Rattle.std.specs.List.{flat_map};
+ghost use Rattle.px_plan.specs.Asked.{columns_asked};
+ghost use Rattle.px_plan.specs.Naming.{columns_in, filter_columns, holds_all as holds_all_of, named, term_columns, test_columns};
 
-use crate::paths::is_at;
+use crate::Asked;
 use px_bind::Query;
 use px_expr::{Bound, Term, Test};
+use px_paths::is_held;
 use px_tables::{Index, KeyPlace, Table};
 use std::alloc::{AllocError, Global};
 
@@ -81,6 +83,16 @@ fn add_order(order: &[KeyPlace], to: &mut Vec<u8>) -> Result<(), AllocError>
     Ok(())
 }
 
+/// The columns that a query names whose condition is taken apart, in text order.
+pub fn asked_columns(alloc: Global, asked: &Asked) -> Result<Vec<u8>, AllocError>
+    ensures { IfOk result (λ columns. columns.items ≡ columns_asked asked.now) }
+{
+    let mut columns = Vec::from_slice(alloc, asked.shown.as_slice())?;
+    add_conditions(asked.conjuncts.as_slice(), &mut columns)?;
+    add_order(asked.order.as_slice(), &mut columns)?;
+    Ok(columns)
+}
+
 /// The columns that a query names, in text order.
 pub(crate) fn named_columns(alloc: Global, query: &Query) -> Result<Vec<u8>, AllocError>
     ensures { IfOk result (λ columns. columns.items ≡ named query.now) }
@@ -91,30 +103,9 @@ pub(crate) fn named_columns(alloc: Global, query: &Query) -> Result<Vec<u8>, All
     Ok(columns)
 }
 
-fn includes(index: &Index, column: u8) -> bool
-    ensures { result ≡ list_any (λ c. nat_eq c column) index.now.included }
-{
-    index
-        .included
-        .as_slice()
-        .iter()
-        .any(|place| *place == column)
-}
-
-/// Whether an index holds a column.
-fn holds_column(table: &Table, index: &Index, column: u8) -> bool
-    ensures { result ≡ holds_column_of table.now index.now column }
-{
-    is_at(index.parts.as_slice(), column)
-        || is_at(table.key.as_slice(), column)
-        || includes(index, column)
-}
-
 /// Whether an index holds all these columns.
 pub(crate) fn holds_all(table: &Table, index: &Index, columns: &[u8]) -> bool
     ensures { result ≡ holds_all_of table.now index.now columns.now }
 {
-    columns
-        .iter()
-        .all(|column| holds_column(table, index, *column))
+    columns.iter().all(|column| is_held(table, index, *column))
 }

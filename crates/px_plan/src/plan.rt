@@ -1,4 +1,5 @@
 // What a query reads.
+use px_bind::Hint;
 use px_expr::Bound;
 use px_ranges::KeyBounds;
 use px_tables::KeyPlace;
@@ -29,6 +30,17 @@ pub struct Plan {
     /// Whether rows are sorted behind the path.
     pub sort: bool,
     pub shown: Items<u8>,
+    pub order: Items<KeyPlace>,
+    pub limit: Option<u64>,
+}
+
+/// A query whose condition is taken apart: its hints, the columns that it shows, the conjuncts of its condition, its ORDER BY,
+/// and its LIMIT. Columns are places in the table.
+#[derive(Drop)]
+pub struct Asked {
+    pub hints: Items<Hint>,
+    pub shown: Items<u8>,
+    pub conjuncts: Items<Bound>,
     pub order: Items<KeyPlace>,
     pub limit: Option<u64>,
 }

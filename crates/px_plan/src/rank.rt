@@ -5,8 +5,9 @@ ghost use Rattle.px_conjuncts.specs.Paths.{leading_told};
 ghost use Rattle.px_plan.specs.Choice.{IsBetter, begins_with as begins_with_of, rank_of, rank_on, same_direction as same_direction_of};
 
 use crate::paths::path_columns;
-use px_conjuncts::{PathColumn, Told, told};
+use px_conjuncts::{Told, told};
 use px_expr::Bound;
+use px_paths::PathColumn;
 use px_tables::{Index, KeyPlace, Table};
 use px_values::Direction;
 use std::alloc::{AllocError, Global};
@@ -14,10 +15,10 @@ use std::alloc::{AllocError, Global};
 /// How many leading columns have a value, whether the next has bounds, and whether the columns behind the equal ones
 /// begin with the ORDER BY's.
 #[derive(Clone, Copy)]
-pub(crate) struct Rank {
-    pub(crate) equal: usize,
-    pub(crate) bounded: bool,
-    pub(crate) ordered: bool,
+pub struct Rank {
+    pub equal: usize,
+    pub bounded: bool,
+    pub ordered: bool,
 }
 
 fn same_direction(a: Direction, b: Direction) -> bool
@@ -38,7 +39,7 @@ fn begins_with(path: &[PathColumn], order: &[KeyPlace]) -> bool
         (_, None) => true,
         (None, Some(_)) => false,
         (Some((column, path)), Some((part, order))) => column.place == part.column
-            && same_direction(column.part.direction, part.direction)
+            && same_direction(column.column.direction, part.direction)
             && begins_with(path, order),
     }
 }

@@ -1,42 +1,44 @@
 // What is read by a path.
 ghost use Rattle.std.specs.Prelude.{◌≡◌, ◌↔◌, IfOk, List, map};
 ghost use Rattle.std.specs.Option.{option_copied};
-ghost use Rattle.px_conjuncts.specs.Paths.{leading_told, parts_of};
+ghost use Rattle.px_conjuncts.specs.Paths.{leading_told};
 ghost use Rattle.px_keys.specs.Range.{IsBetween};
 ghost use Rattle.px_keys.specs.Spelling.{Fits, spelled};
 ghost use Rattle.px_plan.specs.PathColumns.{path_of};
-ghost use Rattle.px_plan.specs.inner.Asked.{IsReading};
+ghost use Rattle.px_plan.specs.Asked.{IsReading};
 ghost use Rattle.px_ranges.specs.Led.{IsFor, IsLed};
 ghost use Rattle.px_values.specs.declared.row.Value.{Value};
+ghost use Rattle.px_paths.specs.Paths.{columns_on};
 
 use crate::paths::path_columns;
 use crate::rank::{Rank, rank_told};
-use px_conjuncts::{PathColumn, Told, leading, told};
+use px_conjuncts::{Told, leading, told};
 use px_expr::Bound;
 use px_keys::KeyColumn;
+use px_paths::PathColumn;
 use px_ranges::{KeyBounds, key_bounds};
 use px_tables::{Index, KeyPlace, Table};
 use std::alloc::{AllocError, Global};
 
 /// The keys that are read, the rank of the path, and a mark at each conjunct that the keys tell.
 #[derive(Drop)]
-pub(crate) struct PathReading {
-    pub(crate) bounds: KeyBounds,
-    pub(crate) rank: Rank,
-    pub(crate) marks: Vec<bool>,
+pub struct PathReading {
+    pub bounds: KeyBounds,
+    pub rank: Rank,
+    pub marks: Vec<bool>,
 }
 
 /// What the columns of a path are in keys.
 fn parts(alloc: Global, path: &[PathColumn]) -> Result<Vec<KeyColumn>, AllocError>
-    ensures { IfOk result (λ parts. parts.items ≡ parts_of path.now) }
+    ensures { IfOk result (λ parts. parts.items ≡ columns_on path.now) }
 {
-    path.iter().map(|column| column.part).collect(alloc)
+    path.iter().map(|column| column.column).collect(alloc)
 }
 
 /// The keys of the rows that begin as was told.
 fn told_bounds(alloc: Global, path: &[PathColumn], told: &Told<'_>) -> Result<KeyBounds, AllocError>
-    requires { IsFor (parts_of path.now) (leading_told told.now).equal (leading_told told.now).span }
-    ensures { IfOk result (λ bounds. (row : List Value) → Fits (parts_of path.now) row → (IsBetween bounds.low bounds.high (spelled (parts_of path.now) row) ↔ IsLed (leading_told told.now) row)) }
+    requires { IsFor (columns_on path.now) (leading_told told.now).equal (leading_told told.now).span }
+    ensures { IfOk result (λ bounds. (row : List Value) → Fits (columns_on path.now) row → (IsBetween bounds.low bounds.high (spelled (columns_on path.now) row) ↔ IsLed (leading_told told.now) row)) }
 {
     let parts = parts(alloc, path)?;
     match leading(alloc, told) {
@@ -84,8 +86,8 @@ fn path_reading(
     }
 }
 
-/// What is read by a path of a table.
-pub(crate) fn reading(
+/// What is read by a path of a table: by an index, or by the table's own keys where there is none.
+pub fn read_by(
     alloc: Global,
     table: &Table,
     by: Option<&Index>,

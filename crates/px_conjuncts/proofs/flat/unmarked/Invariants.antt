@@ -1,5 +1,5 @@
 use Rattle.std.proofs.Common.{◌≡◌, ◌+◌, ◌++◌, drop, length}
-use Rattle.std.specs.Vec.Iter.{into_iter_items, into_iter_len}
+use Rattle.std.specs.Vec.Iter.{into_iter_items}
 use Rattle.px_conjuncts.specs.Paths.{unmarked}
 use Rattle.px_conjuncts.proofs.flat.unmarked.Given as goal
 

@@ -1,4 +1,4 @@
-use Rattle.std.proofs.Common.{◌≡◌, ◌∙◌, List, Bool, ap, arith, sym}
+use Rattle.std.proofs.Common.{◌∙◌, List, Bool, ap, arith, sym}
 use Rattle.px_conjuncts.specs.Conjuncts.{equal_in, told_by}
 use Rattle.px_conjuncts.specs.Paths.{equal_value, first_told, unmarked, without_first}
 use Rattle.px_conjuncts.proofs.Marks.{first_none, first_some}

@@ -4,13 +4,13 @@ use Rattle.px_plan.specs.declared.plan.Plan.{Plan}
 use Rattle.px_plan.specs.declared.plan.PlanFault.{PlanFault}
 use Rattle.px_plan.proofs.Planned.{answers_from}
 use Rattle.px_plan.proofs.choosing.choose.Goals as goal
-use Rattle.px_plan.proofs.choosing.choose.Goals.{in-Ok-taken_apart, in-Err-taken_apart}
+use Rattle.px_plan.proofs.choosing.choose.Goals.{in-Ok-take_apart, in-Err-take_apart}
 
 pub returns : goal.returns
 returns c =
     let found = c.args.found.now in
     let q = c.args.query in
-    elim c.match-taken_apart.branch [
-      | in-Ok-taken_apart w ↦ subst (λ (r : Result Plan PlanFault). Answers found c.args.point q r) (sym w.plan-is) (answers_from found c.args.point q w.in-Ok-taken_apart.asked w.as_slice.result.now w.plan_asked-plan.result w.in-Ok-taken_apart.ensures (w.as_slice.ensures.value ∙ c.in-Ok.ensures) w.plan_asked-plan.ensures)
-      | in-Err-taken_apart w ↦ subst (λ (r : Result Plan PlanFault). Answers found c.args.point q r) (sym w.plan-is) tt
+    elim c.match-take_apart.branch [
+      | in-Ok-take_apart w ↦ subst (λ (r : Result Plan PlanFault). Answers found c.args.point q r) (sym w.plan-is) (answers_from found c.args.point q w.in-Ok-take_apart.asked w.as_slice.result.now w.plan_asked-plan.result w.in-Ok-take_apart.ensures (w.as_slice.ensures.value ∙ c.in-Ok.ensures) w.plan_asked-plan.ensures)
+      | in-Err-take_apart w ↦ subst (λ (r : Result Plan PlanFault). Answers found c.args.point q r) (sym w.plan-is) tt
     ]

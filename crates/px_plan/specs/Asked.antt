@@ -1,6 +1,7 @@
 -- A query whose condition is taken apart, and its plan.
-use Rattle.std.specs.Prelude.{◌≡◌, ◌↔◌, ℕ, Bool, not, List, length, Option, Some, None, Result, Ok, Err}
-use Rattle.std.specs.Option.{option_copied, option_map}
+use Rattle.std.specs.Prelude.{◌≡◌, ◌↔◌, ◌++◌, ℕ, not, List, length, map, Option, Result, Ok, Err}
+use Rattle.std.specs.List.{flat_map}
+use Rattle.std.specs.Option.{option_map}
 use Rattle.px_values.specs.declared.row.Value.{Value}
 use Rattle.px_keys.specs.Range.{IsBetween}
 use Rattle.px_expr.specs.declared.bound.Bound.{Bound}
@@ -11,25 +12,31 @@ use Rattle.px_tables.specs.declared.table.Table.{Table}
 use Rattle.px_bind.specs.declared.request.Query.{Query}
 use Rattle.px_ranges.specs.Led.{IsLed}
 use Rattle.px_ranges.specs.declared.leading.KeyBounds.{KeyBounds}
-use Rattle.px_conjuncts.specs.Conjuncts.{conjuncts_of_filter, key_of}
+use Rattle.px_conjuncts.specs.Conjuncts.{conjuncts_of_filter}
 use Rattle.px_conjuncts.specs.Paths.{leading_of, rest_of, unmarked}
-use Rattle.px_conjuncts.specs.declared.path.PathColumn.{PathColumn}
+use Rattle.px_paths.specs.declared.path.PathColumn.{PathColumn}
 use Rattle.px_ranges.specs.declared.leading.Leading.{Leading}
 use Rattle.px_plan.specs.PathColumns.{path_of}
+use Rattle.px_plan.specs.Naming.{columns_in}
 use Rattle.px_plan.specs.Choice.{IsBest, Lacks, Takes, candidates, hinted, leading_by, rank_of, rank_on}
 use Rattle.px_plan.specs.Plans.{HasKey, key_name, row_key}
-use Rattle.px_plan.specs.declared.choosing.Asked.{Asked}
+use Rattle.px_plan.specs.declared.plan.Asked.{Asked}
 use Rattle.px_plan.specs.declared.reading.PathReading.{PathReading}
 use Rattle.px_plan.specs.declared.plan.Plan.{Plan}
 use Rattle.px_plan.specs.declared.plan.PlanFault.{PlanFault}
 use Rattle.px_plan.specs.declared.plan.PlanFault.TheVariants.{IndexJoin, Memory}
+use Rattle.px_paths.specs.Paths.{values_on}
 
 abbrev pub asked_of : Query → Asked
 asked_of q = record { hints = q.hints; shown = q.shown; conjuncts = conjuncts_of_filter q.filter; order = q.order; limit = q.limit }
 
+-- the columns that it names
+abbrev pub columns_asked : Asked → List ℕ
+columns_asked a = a.shown ++ (flat_map columns_in a.conjuncts ++ map (λ p. p.column) a.order)
+
 -- the keys are just those of the rows that begin so
 abbrev pub AreKeys : List PathColumn → Leading → KeyBounds → Type 0
-AreKeys path l bounds = (row : List Value) → HasKey path row → (IsBetween bounds.low bounds.high (row_key path row) ↔ IsLed l (key_of path row))
+AreKeys path l bounds = (row : List Value) → HasKey path row → (IsBetween bounds.low bounds.high (row_key path row) ↔ IsLed l (values_on path row))
 
 -- what is read by a path
 pub record IsReading (path : List PathColumn) (conjuncts : List Bound) (order : List KeyPlace) (r : PathReading) : Type 0 where
