@@ -9,10 +9,11 @@ use Rattle.px_values.specs.declared.row.Value.{Value}
 use Rattle.px_values.specs.declared.row.Value.TheVariants.{Null}
 use Rattle.px_keys.specs.KeyOrder.{parts_order}
 use Rattle.px_tables.specs.declared.table.KeyPlace.{KeyPlace}
+use Rattle.px_tables.specs.declared.table.Table.{Table}
 use Rattle.px_bind.specs.declared.request.Query.{Query}
 use Rattle.px_paths.specs.declared.path.PathColumn.{PathColumn}
 use Rattle.px_plan.specs.Plans.{IsSelected}
-use Rattle.px_paths.specs.Paths.{columns_on, values_on}
+use Rattle.px_paths.specs.Paths.{columns_on, table_path, values_on}
 
 -- the order of an ORDER BY
 abbrev pub by_order : List KeyPlace → List Value → List Value → Ordering
@@ -46,3 +47,7 @@ pub record IsAnswer (rows : List (List Value)) (q : Query) (path : List PathColu
   pub ascends : Ascends (comes_before q path) sorted
   pub selected : (row : List Value) → Contains sorted row ↔ (Contains rows row × IsSelected q.filter row)
   pub given : answer ≡ map (shown q) (cut_off q.limit sorted)
+
+-- no primary key stands twice among the rows
+abbrev pub AreKeyed : Table → List (List Value) → Type 0
+AreKeyed t rows = (a b : List Value) → Contains rows a → Contains rows b → values_on (table_path t) a ≡ values_on (table_path t) b → a ≡ b
