@@ -1,0 +1,10 @@
+pub mod Assigned
+pub mod Begun
+pub mod FirstRows
+pub mod Flagging
+pub mod Held
+pub mod Left
+pub mod Puts
+pub mod Rows
+pub mod Small
+pub mod Spread

@@ -1,0 +1,105 @@
+use Rattle.std.proofs.Common.{◌≡◌, ◌<◌, ◌∙◌, ◌+◌, ◌++◌, ◌∷◌, [], ℕ, List, length, take, get_or, sym, subst, ap, arith, rules, refl, Err, inl, inr, ◌⊎◌}
+use Rattle.std.specs.List.{AllByRecursion}
+use Rattle.std.proofs.lemmas.List.{take_all}
+use Rattle.px_cells.specs.CellData.{CellData}
+use Rattle.px_cells.specs.Order.{IsApart}
+use Rattle.px_indexrow.specs.Form.{FitsState, IsLong, index_form}
+use Rattle.px_indexrow.proofs.KeysHeld.{form_laws, form_placed}
+use Rattle.px_indexrow.specs.Lists.{marks_of}
+use Rattle.px_keptcells.specs.Kept.{HaveOtherKeys, IsFitting, laid}
+use Rattle.px_keys.specs.Spelling.{Fits}
+use Rattle.px_rows.specs.Keys.{row_columns}
+use Rattle.px_rows.specs.declared.fault.RowFault.{RowFault}
+use Rattle.px_tables.specs.declared.index.Index.{Index}
+use Rattle.px_tables.specs.declared.table.Table.{Table}
+use Rattle.px_values.specs.declared.change.Change.{Change}
+use Rattle.px_values.specs.declared.row.Value.{Value}
+use Rattle.px_phases.specs.declared.transition.Transition.{Transition}
+use Rattle.px_phases.specs.Phases.{HasLongIndexed, IsTransition, mark_parts}
+use Rattle.px_phases.proofs.FirstRows.{IsGood, Owns, long_at, long_next, marks_elsewhere, marks_good, marks_next, new_fits, same_count, transition_at}
+use Rattle.px_phases.proofs.made.marks_of_rows.Goals as goal
+
+pub bounds-transitions-place : goal.bounds-transitions-place
+bounds-transitions-place c = (let n = same_count c.args.table.now c.args.changes.now c.args.transitions.now c.requires.transitions in let l = c.loop-place-test.true in omega arith)
+
+pub marks-requires-clause-fits : goal.marks-requires-clause-fits
+marks-requires-clause-fits c =
+    let w = transition_at c.args.table.now c.args.changes.now c.args.transitions.now c.requires.transitions c.loop-place.place c.index-changes-place.result c.index-transitions-place.result c.loop-place-test.true c.index-changes-place.is c.index-transitions-place.is in
+    subst (λ (r : List Value). Fits (row_columns c.args.table.now) r) (ap (λ (x : Change). x.row) c.index-changes-place.is ∙ sym c.as_slice-row.ensures) w.fits.0
+
+pub marks-requires-clause-old : goal.marks-requires-clause-old
+marks-requires-clause-old c = (transition_at c.args.table.now c.args.changes.now c.args.transitions.now c.requires.transitions c.loop-place.place c.index-changes-place.result c.index-transitions-place.result c.loop-place-test.true c.index-changes-place.is c.index-transitions-place.is).old
+
+pub marks-requires-clause-new : goal.marks-requires-clause-new
+marks-requires-clause-new c = new_fits c.args.table.now c.index-changes-place.result c.index-transitions-place.result c.requires.table (transition_at c.args.table.now c.args.changes.now c.args.transitions.now c.requires.transitions c.loop-place.place c.index-changes-place.result c.index-transitions-place.result c.loop-place-test.true c.index-changes-place.is c.index-transitions-place.is)
+
+pub returns-in_err-cells-clause-too_long : goal.returns-in_err-cells-clause-too_long
+returns-in_err-cells-clause-too_long c e =
+    let t = c.args.table.now in
+    let x = c.index-transitions-place.result in
+    let row : c.as_slice-row.result.now ≡ c.index-changes-place.result.row = c.as_slice-row.ensures ∙ ap (λ (y : Change). y.row) (sym c.index-changes-place.is) in
+    let m : c.marks.result ≡ Err RowFault.KeyTooLong = search rules in
+    let below : c.loop-place.place < length c.args.transitions.now = (let n = same_count c.args.table.now c.args.changes.now c.args.transitions.now c.requires.transitions in let l = c.loop-place-test.true in omega arith) in
+    long_at t c.args.index.now c.args.changes.now c.args.transitions.now c.loop-place.place c.index-changes-place.result x c.loop-place-test.true below c.index-changes-place.is c.index-transitions-place.is
+    (subst (λ (r : List Value). IsLong t c.args.index.now r x.new ⊎ IsLong t c.args.index.now r x.old) row (c.marks.ensures.too_long m))
+
+pub add-requires-clause-fitting : goal.add-requires-clause-fitting
+add-requires-clause-fitting c =
+    let t = c.args.table.now in
+    let x = c.index-transitions-place.result in
+    let row : c.as_slice-row.result.now ≡ c.index-changes-place.result.row = c.as_slice-row.ensures ∙ ap (λ (y : Change). y.row) (sym c.index-changes-place.is) in
+    let short = subst (λ (r : List Value). (IsLong t c.args.index.now r x.new → ⊥) × (IsLong t c.args.index.now r x.old → ⊥)) row (c.in_ok-cells.ensures.short refl) in
+    let good = marks_good t c.args.index.now c.args.stamp c.requires.table c.requires.index (form_laws t c.args.index.now) (form_placed t c.args.index.now c.requires.index) c.ranges.stamp.fits c.index-changes-place.result x (transition_at c.args.table.now c.args.changes.now c.args.transitions.now c.requires.transitions c.loop-place.place c.index-changes-place.result c.index-transitions-place.result c.loop-place-test.true c.index-changes-place.is c.index-transitions-place.is) short.0 short.1 in
+    let is : c.in_ok-cells.cells ≡ marks_of (index_form t c.args.index.now) c.index-changes-place.result.row c.args.stamp x.old x.new = c.in_ok-cells.ensures.cells ∙ ap (λ (r : List Value). marks_of (index_form t c.args.index.now) r c.args.stamp x.old x.new) row in
+    subst (AllByRecursion IsFitting) (sym is) good.fits
+
+pub add-requires-clause-apart : goal.add-requires-clause-apart
+add-requires-clause-apart c =
+    let t = c.args.table.now in
+    let x = c.index-transitions-place.result in
+    let row : c.as_slice-row.result.now ≡ c.index-changes-place.result.row = c.as_slice-row.ensures ∙ ap (λ (y : Change). y.row) (sym c.index-changes-place.is) in
+    let short = subst (λ (r : List Value). (IsLong t c.args.index.now r x.new → ⊥) × (IsLong t c.args.index.now r x.old → ⊥)) row (c.in_ok-cells.ensures.short refl) in
+    let good = marks_good t c.args.index.now c.args.stamp c.requires.table c.requires.index (form_laws t c.args.index.now) (form_placed t c.args.index.now c.requires.index) c.ranges.stamp.fits c.index-changes-place.result x (transition_at c.args.table.now c.args.changes.now c.args.transitions.now c.requires.transitions c.loop-place.place c.index-changes-place.result c.index-transitions-place.result c.loop-place-test.true c.index-changes-place.is c.index-transitions-place.is) short.0 short.1 in
+    let is : c.in_ok-cells.cells ≡ marks_of (index_form t c.args.index.now) c.index-changes-place.result.row c.args.stamp x.old x.new = c.in_ok-cells.ensures.cells ∙ ap (λ (r : List Value). marks_of (index_form t c.args.index.now) r c.args.stamp x.old x.new) row in
+    subst IsApart (sym is) good.apart
+
+pub add-requires-clause-other_keys : goal.add-requires-clause-other_keys
+add-requires-clause-other_keys c =
+    let t = c.args.table.now in
+    let x = c.index-transitions-place.result in
+    let row : c.as_slice-row.result.now ≡ c.index-changes-place.result.row = c.as_slice-row.ensures ∙ ap (λ (y : Change). y.row) (sym c.index-changes-place.is) in
+    let short = subst (λ (r : List Value). (IsLong t c.args.index.now r x.new → ⊥) × (IsLong t c.args.index.now r x.old → ⊥)) row (c.in_ok-cells.ensures.short refl) in
+    let good = marks_good t c.args.index.now c.args.stamp c.requires.table c.requires.index (form_laws t c.args.index.now) (form_placed t c.args.index.now c.requires.index) c.ranges.stamp.fits c.index-changes-place.result x (transition_at c.args.table.now c.args.changes.now c.args.transitions.now c.requires.transitions c.loop-place.place c.index-changes-place.result c.index-transitions-place.result c.loop-place-test.true c.index-changes-place.is c.index-transitions-place.is) short.0 short.1 in
+    let is : c.in_ok-cells.cells ≡ marks_of (index_form t c.args.index.now) c.index-changes-place.result.row c.args.stamp x.old x.new = c.in_ok-cells.ensures.cells ∙ ap (λ (r : List Value). marks_of (index_form t c.args.index.now) r c.args.stamp x.old x.new) row in
+    subst (λ (p : List (List CellData)). HaveOtherKeys (laid p) c.in_ok-cells.cells) (sym c.loop-place.invariant.kept)
+    (marks_elsewhere (index_form t c.args.index.now) c.args.stamp (form_laws t c.args.index.now) (form_placed t c.args.index.now c.requires.index) t c.args.changes.now c.args.transitions.now c.requires.distinct c.requires.transitions c.loop-place.place c.index-changes-place.result c.loop-place-test.true c.index-changes-place.is c.in_ok-cells.cells (subst (AllByRecursion (λ (z : CellData). Owns (index_form t c.args.index.now) c.index-changes-place.result.row z.key)) (sym is) good.own))
+
+pub loop-place-preserved : goal.loop-place-preserved
+loop-place-preserved c =
+    let t = c.args.table.now in
+    let x = c.index-transitions-place.result in
+    let row : c.as_slice-row.result.now ≡ c.index-changes-place.result.row = c.as_slice-row.ensures ∙ ap (λ (y : Change). y.row) (sym c.index-changes-place.is) in
+    let short = subst (λ (r : List Value). (IsLong t c.args.index.now r x.new → ⊥) × (IsLong t c.args.index.now r x.old → ⊥)) row (c.in_ok-cells.ensures.short refl) in
+    let good = marks_good t c.args.index.now c.args.stamp c.requires.table c.requires.index (form_laws t c.args.index.now) (form_placed t c.args.index.now c.requires.index) c.ranges.stamp.fits c.index-changes-place.result x (transition_at c.args.table.now c.args.changes.now c.args.transitions.now c.requires.transitions c.loop-place.place c.index-changes-place.result c.index-transitions-place.result c.loop-place-test.true c.index-changes-place.is c.index-transitions-place.is) short.0 short.1 in
+    let is : c.in_ok-cells.cells ≡ marks_of (index_form t c.args.index.now) c.index-changes-place.result.row c.args.stamp x.old x.new = c.in_ok-cells.ensures.cells ∙ ap (λ (r : List Value). marks_of (index_form t c.args.index.now) r c.args.stamp x.old x.new) row in
+    let below : c.loop-place.place < length c.args.transitions.now = (let n = same_count c.args.table.now c.args.changes.now c.args.transitions.now c.requires.transitions in let l = c.loop-place-test.true in omega arith) in
+    record {
+      kept = c.in_ok-add.ensures.ok ∙ ((λ i. c.loop-place.invariant.kept i ++ is i ∷ []) ∙ sym (marks_next (index_form t c.args.index.now) c.args.stamp c.args.changes.now c.args.transitions.now c.loop-place.place c.index-changes-place.result x c.loop-place-test.true below c.index-changes-place.is c.index-transitions-place.is));
+      short = λ h.
+          (let l = long_next t c.args.index.now c.args.changes.now c.args.transitions.now c.loop-place.place c.index-changes-place.result x c.loop-place-test.true below c.index-changes-place.is c.index-transitions-place.is h c.loop-place.invariant.short in
+          elim l [ inl a ↦ short.0 a | inr a ↦ short.1 a ]);
+    }
+
+pub returns-clause-kept : goal.returns-clause-kept
+returns-clause-kept c =
+    let f = c.loop-place-test.false in
+    let all : take c.loop-place.place c.args.changes.now ≡ c.args.changes.now = take_all c.loop-place.place c.args.changes.now f in
+    let both : take c.loop-place.place c.args.transitions.now ≡ c.args.transitions.now = take_all c.loop-place.place c.args.transitions.now (let n = same_count c.args.table.now c.args.changes.now c.args.transitions.now c.requires.transitions in omega arith) in
+    c.loop-place.invariant.kept ∙ (λ i. mark_parts (index_form c.args.table.now c.args.index.now) c.args.stamp (all i) (both i))
+
+pub returns-clause-short : goal.returns-clause-short
+returns-clause-short c e h =
+    let f = c.loop-place-test.false in
+    let all : take c.loop-place.place c.args.changes.now ≡ c.args.changes.now = take_all c.loop-place.place c.args.changes.now f in
+    let both : take c.loop-place.place c.args.transitions.now ≡ c.args.transitions.now = take_all c.loop-place.place c.args.transitions.now (let n = same_count c.args.table.now c.args.changes.now c.args.transitions.now c.requires.transitions in omega arith) in
+    c.loop-place.invariant.short (subst (λ (xs : List Transition). HasLongIndexed c.args.table.now c.args.index.now (take c.loop-place.place c.args.changes.now) xs) (sym both) (subst (λ (cs : List Change). HasLongIndexed c.args.table.now c.args.index.now cs c.args.transitions.now) (sym all) h))

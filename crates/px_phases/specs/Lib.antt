@@ -1,0 +1,4 @@
+pub mod Batch
+pub mod Begun
+pub mod Phases
+pub mod inner
