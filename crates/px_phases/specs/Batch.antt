@@ -1,11 +1,13 @@
 -- What contracts see of an open batch, and how it stands for what is known of one.
 use Rattle.std.specs.Prelude.{◌≡◌, ℕ, ◌<◌, ◌+◌, Bool, true, false, cond, ◌&&◌, not, List, [], ◌∷◌, length, map, get_or, Option, Some, None, is_some, if◌then◌else◌}
-use Rattle.std.specs.List.{list_any}
+use Rattle.std.specs.List.{AllByRecursion, list_any}
 use Rattle.px_cells.specs.CellData.{CellData}
 use Rattle.px_cells.specs.Order.{ReadsSame}
 use Rattle.px_cellbytes.specs.Reading.{IsWritten}
 use Rattle.px_cellbytes.specs.Spelling.{all_bytes}
 use Rattle.px_openbatches.specs.Pending.{HeldBatch, applied_if, flagged}
+use Rattle.px_rows.specs.Spelled.{FitsTable}
+use Rattle.px_tables.specs.declared.table.Table.{Table}
 use Rattle.px_trail.specs.Batches.{change_of, has, is_distinct, rows_of}
 use Rattle.px_values.specs.States.{RowState, Shape}
 use Rattle.px_values.specs.declared.change.Change.{Change}
@@ -64,3 +66,7 @@ pending_state sh r o (b ∷ bs) = pending_state sh r (applied_if sh r o (left_in
 -- a batch is still to write the row
 abbrev pub is_left_in : List BatchData → List Value → Bool
 is_left_in bs r = list_any (λ b. is_some (left_in b r)) bs
+
+-- each change is one that the table lets in
+abbrev pub AllFit : Table → List Change → Type 0
+AllFit t cs = AllByRecursion (λ c. FitsTable t c.row c.what) cs

@@ -9,9 +9,11 @@ mod batch;
 mod flags;
 mod laws;
 mod made;
+mod pending;
 mod transition;
 
 pub use batch::OpenBatch;
 pub use laws::{law_begun, law_held, law_pending};
 pub use made::{closes_of_rows, marks_of_rows, puts_of_rows};
+pub use pending::{expected, pending_flags};
 pub use transition::{Transition, changed};
