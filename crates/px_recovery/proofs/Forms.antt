@@ -1,5 +1,5 @@
 -- A table that goes on where other definitions stand.
-use Rattle.std.proofs.Common.{◌≡◌, ◌<◌, ◌≤◌, ℕ, List, length, get_or, map, refl, sym, ap, subst, arith}
+use Rattle.std.proofs.Common.{◌≡◌, ◌<◌, ◌≤◌, ℕ, Some, List, length, get_or, map, refl, sym, ◌∙◌, ap, subst, arith}
 use Rattle.px_tables.specs.declared.index.Index.{Index}
 use Rattle.px_tables.specs.declared.table.Table.{Table}
 use Rattle.px_trail.specs.declared.entry.Entry.{Entry}
@@ -34,15 +34,16 @@ other_forms f index es v same k = record {
 
 -- a table of which no index is defined or dropped
 pub same_table : (b : Base) (es es' : List Entry) (f : FolderData) (s : Standing) (x : Table) (v : GroupData) → TellsTable b es f x v → GroupKept (form_of b f.standing.indexes x) es' v → last_of b x.id.0 es ≤ last_of b x.id.0 es'
-    → ((j : ℕ) → j < length v.indexes → form_in x (index_in s.indexes (get_or v.indexes j no_part).id) ≡ form_in x (index_in f.standing.indexes (get_or v.indexes j no_part).id)) → indexes_of x.id.0 s.indexes ≡ indexes_of x.id.0 f.standing.indexes
-    → TellsTable b es' (with_standing s f) x v
-same_table b es es' f s x v tells kept last forms indexes =
+    → ((n : ℕ) (i : Index) → index_in f.standing.indexes n ≡ Some i → i.table.0 ≡ x.id.0 → index_in s.indexes n ≡ Some i) → indexes_of x.id.0 s.indexes ≡ indexes_of x.id.0 f.standing.indexes → TellsTable b es' (with_standing s f) x v
+same_table b es es' f s x v tells kept last stay indexes =
     let form = form_of b f.standing.indexes x in
     let files : IsFolderOf form es' v (table_files (with_standing s f) x) =
     folder_next form es es' v v (table_files f x) (table_files (with_standing s f) x) tells.files tells.files.horizon tells.files.cells (ap (λ (l : List Index). map (index_files f.regions) l) indexes) refl (omega arith) last in
     record {
-      kept = other_forms form (λ i. form_in x (index_in s.indexes i)) es' v forms kept;
+      kept = other_forms form (λ i. form_in x (index_in s.indexes i)) es' v
+          (λ j l. (let h = tells.stand j l in ap (form_in x) (stay (get_or v.indexes j no_part).id h.0 h.1.0 h.1.1 ∙ sym h.1.0))) kept;
       files = record { horizon = files.horizon; cells = files.cells; active = files.active; below = files.below; others = files.others };
       placed = tells.placed;
       once = tells.once;
+      stand = λ j l. (let h = tells.stand j l in (h.0, (stay (get_or v.indexes j no_part).id h.0 h.1.0 h.1.1, h.1.1)));
     }

@@ -48,6 +48,7 @@ fresh_numbered = record {
   some = ((omega arith, tt), tt);
   some_index = tt;
   below = record { tables = ((omega arith, (omega arith, tt)), tt); indexes = tt };
+  least = omega arith;
 }
 
 -- ---- its one table

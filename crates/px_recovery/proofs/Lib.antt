@@ -10,3 +10,8 @@ pub mod Round
 pub mod Definitions
 pub mod Forms
 pub mod Fresh
+pub mod Lookups
+pub mod Drops
+pub mod Makes
+pub mod Ends
+pub mod Births

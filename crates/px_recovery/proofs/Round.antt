@@ -1,6 +1,7 @@
 -- What a run leaves is what the next one begins with.
-use Rattle.std.proofs.Common.{◌≡◌, ◌≤◌, ℕ, Option, Some, None, List, [], ◌∷◌, map, refl, sym, ap, subst, ◌∙◌, arith}
+use Rattle.std.proofs.Common.{◌≡◌, ◌<◌, ◌≤◌, ℕ, Option, Some, None, List, [], ◌∷◌, length, get_or, map, refl, sym, ap, subst, ◌∙◌, arith}
 use Rattle.std.specs.Prelude.{false, ◌==◌}
+use Rattle.std.proofs.lemmas.List.{length-map}
 use Rattle.px_outside.specs.Disk.{Image}
 use Rattle.px_outside.specs.Parts.{AreDistinct, HasNone}
 use Rattle.px_values.specs.declared.row.Value.{Value}
@@ -13,20 +14,21 @@ use Rattle.px_trail.specs.States.{state_of}
 use Rattle.px_trail.specs.Trail.{Base, Catalogue, base_shape, catalogue_from, catalogue_of, horizon_of, last_from, last_of, shape_from}
 use Rattle.px_trail.proofs.Growth.{legal-none}
 use Rattle.px_rows.specs.Spelled.{row_form}
-use Rattle.px_groupworld.specs.Group.{GroupData, TableForm}
+use Rattle.px_groupworld.specs.Group.{GroupData, TableForm, no_part}
 use Rattle.px_groupworld.specs.Sound.{IsSoundTable}
 use Rattle.px_groupworld.proofs.Fresh.{sound_group}
-use Rattle.px_tablefolder.specs.Folder.{IndexFiles, IsFolderBase, IsOpened, folder_changed, folder_high, folder_last, folder_state}
+use Rattle.px_tablefolder.specs.Folder.{IndexFiles, IsFolderBase, IsOpened, folder_changed, folder_high, folder_last, folder_state, no_files}
 use Rattle.px_tablefolder.specs.Stop.{Recovers}
 use Rattle.px_tablefolder.proofs.Stamped.{horizon_within, numbers_within}
 use Rattle.px_tablefolder.proofs.TableStops.{folder_recovers, folder_sound}
 use Rattle.px_region.specs.Region.{RegionData}
 use Rattle.px_recovery.specs.Base.{IsSound, IsSoundFolder, IsSoundPart, base_of, told_of}
 use Rattle.px_recovery.specs.Folder.{FolderData, StandsFor}
-use Rattle.px_recovery.specs.Stands.{Explains, StandsAfter, TellsCatalogue, opened_index, opened_state}
-use Rattle.px_recovery.specs.Tables.{TellsTable, form_of, index_files, index_in, indexes_of, number_of_index, table_files, table_in}
+use Rattle.px_recovery.specs.Stands.{AreNumbered, Explains, StandsAfter, TellsCatalogue, opened_index, opened_state}
+use Rattle.px_recovery.specs.Tables.{HasIndex, TellsTable, form_of, index_files, index_in, indexes_of, number_of_index, table_files, table_in}
 use Rattle.px_recovery.proofs.Notes.{tells_itself}
-use Rattle.px_recovery.proofs.Numbered.{distinct_filter, found_number}
+use Rattle.px_recovery.proofs.Numbered.{distinct_filter, found_number, index_placed}
+use Rattle.px_recovery.proofs.Tables.{at_map}
 use Rattle.px_recovery.proofs.Opened.{is_opened, opened_data, parts_once}
 
 -- ---- the base of a folder
@@ -98,6 +100,17 @@ opened_twice : (o : Option Index) → opened_index o ≡ opened_index (opened_in
 opened_twice None = refl
 opened_twice (Some i) = ap (λ (s : IndexState). Some (record i { state = s })) (state_twice i.state)
 
+no_index : Index
+no_index = record { id = record { 0 = 0 }; table = record { 0 = 0 }; name = []; state = Disabled; birth = 0; region = 0; parts = []; included = [] }
+
+-- an index that is opened stands
+opened_stands : (f : FolderData) (x : Table) → AreNumbered f.standing → (u : GroupData) (j i : ℕ) → i < length (indexes_of x.id.0 f.standing.indexes) → (get_or u.indexes j no_part).id ≡ (get_or (table_files f x).indexes i no_files).id → HasIndex f.standing.indexes x.id.0 (get_or u.indexes j no_part).id
+opened_stands f x numbered u j i l same =
+    let stood = indexes_of x.id.0 f.standing.indexes in
+    let e : (get_or u.indexes j no_part).id ≡ (get_or stood i no_index).id.0 = same ∙ ap (λ (y : IndexFiles). y.id) (at_map (index_files f.regions) stood i no_files no_index l) in
+    let p = index_placed f.standing.indexes x.id.0 i no_index numbered.ids l in
+    subst (λ (n : ℕ). HasIndex f.standing.indexes x.id.0 n) (sym e) (get_or stood i no_index, (p.0, p.1))
+
 pub sound_explains : (f : FolderData) → (s : IsSoundFolder f) → Explains (base_of f) [] f s.opens
 unfolding catalogue_from last_from
 sound_explains f s = record {
@@ -120,6 +133,10 @@ sound_explains f s = record {
         };
         placed = p.placed;
         once = p.once;
+        stand = λ j l.
+            let m = o.each j l in
+            let is = f.standing.indexes in
+            opened_stands f x s.numbered (s.opens t) j m.0 (let e = length-map (indexes_of x.id.0 is) (index_files f.regions) in let k = m.1.0 in omega arith) m.1.1.1.id;
       };
 }
 

@@ -22,12 +22,12 @@ use Rattle.px_tablefolder.specs.Folder.{IndexFiles, IsFilesOf, IsFolderOf, Table
 use Rattle.px_tablefolder.proofs.Stamped.{cells_within}
 use Rattle.px_region.specs.Region.{RegionData, with_batch}
 use Rattle.px_recovery.specs.Folder.{FolderData, with_region}
-use Rattle.px_recovery.specs.Tables.{AreInRegion, IsOneOf, TellsTable, form_of, index_files, indexes_of, is_active, number_of, number_of_region, region_at, region_of_index, table_files}
+use Rattle.px_recovery.specs.Tables.{AreInRegion, HasIndex, IsOneOf, TellsTable, form_of, index_files, indexes_of, is_active, number_of, number_of_region, region_at, region_of_index, table_files}
 use Rattle.px_recovery.proofs.Cells.{all_batch, cells_else, cells_written, horizon_at, horizon_else, horizon_same, indexes_else, values_batch}
 
 -- ---- places of lists
 
-at_map : {A B : Type 0} (g : A → B) (l : List A) (q : ℕ) (none : B) (d : A) → q < length l → get_or (map g l) q none ≡ g (get_or l q d)
+pub at_map : {A B : Type 0} (g : A → B) (l : List A) (q : ℕ) (none : B) (d : A) → q < length l → get_or (map g l) q none ≡ g (get_or l q d)
 at_map g [] q none d lt = absurd (omega arith)
 at_map g (y ∷ l) zero none d lt = refl
 at_map g (y ∷ l) (suc q) none d lt = at_map g l q none d (omega arith)
@@ -53,6 +53,19 @@ distinct_set : (xs : List IndexPart) (j : ℕ) (y none : IndexPart) → j < leng
 distinct_set [] j y none lt same once = absurd (omega arith)
 distinct_set (z ∷ xs) zero y none lt same once = (subst (λ (m : ℕ). HasNone number_of m xs) (sym same) once.0, once.1)
 distinct_set (z ∷ xs) (suc j) y none lt same once = (none_set xs j (number_of z) y none (omega arith) same once.0, distinct_set xs j y none (omega arith) same once.1)
+
+-- each index of these stands, and is of the table
+abbrev pub AllStanding : List Index → ℕ → List IndexPart → Type 0
+AllStanding indexes t xs = (j : ℕ) → j < length xs → HasIndex indexes t (get_or xs j no_part).id
+
+pub standing_set : (indexes : List Index) (t : ℕ) (xs : List IndexPart) (k : ℕ) (y : IndexPart) → y.id ≡ (get_or xs k no_part).id → AllStanding indexes t xs → AllStanding indexes t (set xs k y)
+standing_set indexes t xs k y same all j l =
+    let e = length-set xs k y in
+    let m : j < length xs = omega arith in
+    subst (λ (n : ℕ). HasIndex indexes t n) (sym (elim (cases_eq j k) [
+      | inl q ↦ ap (λ (z : ℕ). (get_or (set xs k y) z no_part).id) q ∙ (ap (λ (z : IndexPart). z.id) (get_or-set_same xs k y no_part (subst (λ (z : ℕ). z < length xs) q m)) ∙ (same ∙ ap (λ (z : ℕ). (get_or xs z no_part).id) (sym q)))
+      | inr q ↦ ap (λ (z : IndexPart). z.id) (get_or-set_other xs k j y no_part q)
+    ])) (all j m)
 
 -- ---- a folder of a table that goes on
 
@@ -97,6 +110,7 @@ module _ (f : FolderData) (x : Table) (n : ℕ) (s : RegionData) where
             (folder_next form es es' v v (table_files f x) (table_files f x) tells.files tells.files.horizon tells.files.cells refl refl (omega arith) last);
         placed = placed_else x.regions foreign.rows tells.placed;
         once = tells.once;
+        stand = tells.stand;
       }
 
 -- the table goes on where no region changes: its horizon may have risen, and its open batches be others
@@ -109,6 +123,7 @@ noted_table b es es' f x v v' tells kept last high low cells indexes =
       files = folder_next form es es' v v' (table_files f x) (table_files f x) tells.files (tells.files.horizon ∙ sym low) (tells.files.cells ∙ ap value_at (sym cells)) refl indexes high last;
       placed = tells.placed;
       once = subst (λ (l : List IndexPart). AreDistinct number_of l) (sym indexes) tells.once;
+      stand = subst (λ (l : List IndexPart). AllStanding f.standing.indexes x.id.0 l) (sym indexes) tells.stand;
     }
 
 -- ---- a batch
@@ -148,6 +163,7 @@ module _ (b : Base) (es es' : List Entry) (f : FolderData) (x : Table) (v v' : G
           (indexes_else f.regions n s (indexes_of x.id.0 f.standing.indexes) apart) indexes high last;
       placed = placed_more x.regions tells.placed;
       once = subst (λ (l : List IndexPart). AreDistinct number_of l) (sym indexes) tells.once;
+      stand = subst (λ (l : List IndexPart). AllStanding f.standing.indexes x.id.0 l) (sym indexes) tells.stand;
     }
 
   -- in the region of an index
@@ -273,5 +289,6 @@ module _ (b : Base) (es es' : List Entry) (f : FolderData) (x : Table) (v v' : G
         others = λ q l a. subst (λ (y : IndexFiles). (y.birth ≤ most) × (last_cell y.cells ≤ most)) (sym (new_at q (inside q l))) (others_at q (inside q l) (ap (λ (y : IndexFiles). y.is_active) (sym (new_at q (inside q l))) ∙ a));
       };
       placed = placed_else f x n s x.regions rows tells.placed;
+      stand = subst (λ (l : List IndexPart). AllStanding f.standing.indexes x.id.0 l) (sym indexes) (standing_set f.standing.indexes x.id.0 v.indexes j (with_cells new part) refl tells.stand);
       once = subst (λ (l : List IndexPart). AreDistinct number_of l) (sym indexes) (distinct_set v.indexes j (with_cells new part) no_part lt refl tells.once);
     }

@@ -48,6 +48,7 @@ pub record AreNumbered (s : Standing) : Type 0 where
   pub some : AllByRecursion (λ t. AllByRecursion (λ g. 1 ≤ g.number) t.regions) s.tables
   pub some_index : AllByRecursion (λ i. 1 ≤ i.region) s.indexes
   pub below : IsBelowNext s
+  pub least : 1 ≤ s.next
 
 -- 2. The folder
 

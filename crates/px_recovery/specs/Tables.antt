@@ -1,5 +1,5 @@
 -- What a folder tells of a table.
-use Rattle.std.specs.Prelude.{◌≡◌, ◌⊎◌, ◌++◌, ◌∷◌, [], ℕ, Bool, true, false, ◌==◌, if◌then◌else◌, max, filter, map, List, Option, Some, None}
+use Rattle.std.specs.Prelude.{◌≡◌, ◌<◌, ◌⊎◌, ◌++◌, ◌∷◌, [], ℕ, length, get_or, Bool, true, false, ◌==◌, if◌then◌else◌, max, filter, map, List, Option, Some, None}
 use Rattle.std.specs.List.{AllByRecursion}
 use Rattle.std.specs.Ordering.{is_le}
 use Rattle.px_outside.specs.Parts.{AreDistinct}
@@ -15,7 +15,7 @@ use Rattle.px_trail.specs.Trail.{Base}
 use Rattle.px_forms.specs.Indexes.{IndexForm}
 use Rattle.px_rows.specs.Spelled.{row_form}
 use Rattle.px_indexrow.specs.Form.{index_form}
-use Rattle.px_groupworld.specs.Group.{GroupData, GroupKept, IndexPart, TableForm, table_form}
+use Rattle.px_groupworld.specs.Group.{GroupData, GroupKept, IndexPart, TableForm, no_part, table_form}
 use Rattle.px_tablefolder.specs.Folder.{IndexFiles, IsFolderOf, TableFiles}
 use Rattle.px_region.specs.Region.{RegionData}
 use Rattle.px_recovery.specs.Folder.{FolderData}
@@ -107,10 +107,15 @@ AreInRegion x n cells = AllByRecursion (λ c. region_at x c.key ≡ n) cells
 abbrev pub number_of : IndexPart → ℕ
 number_of i = i.id
 
--- The folder's files of a table are those of the table v after these entries, which has no index twice, and each of its cells is
--- in the region of its key.
+-- the index of this number stands, and is of this table
+abbrev pub HasIndex : List Index → ℕ → ℕ → Type 0
+HasIndex indexes t n = (i : Index) × ((index_in indexes n ≡ Some i) × (i.table.0 ≡ t))
+
+-- The folder's files of a table are those of the table v after these entries. Each of its cells is in the region of its key, and the
+-- table has no index twice, and none that doesn't stand.
 pub record TellsTable (b : Base) (es : List Entry) (f : FolderData) (x : Table) (v : GroupData) : Type 0 where
   pub kept : GroupKept (form_of b f.standing.indexes x) es v
   pub files : IsFolderOf (form_of b f.standing.indexes x) es v (table_files f x)
   pub placed : AllByRecursion (λ g. AreInRegion x g.number (f.regions g.number).cells) x.regions
   pub once : AreDistinct number_of v.indexes
+  pub stand : (j : ℕ) → j < length v.indexes → HasIndex f.standing.indexes x.id.0 (get_or v.indexes j no_part).id
