@@ -17,11 +17,12 @@ use Rattle.px_forms.proofs.Views.{view_same}
 use Rattle.px_indexed.specs.Worlds.{history_at}
 use Rattle.px_groupworld.specs.Group.{TableForm, GroupData, no_part, shape_in, world_in}
 use Rattle.px_groupworld.specs.Asks.{CanFix}
-use Rattle.px_indexrow.specs.Lists.{AreOwned, column_cell, column_cells, erase_cell, fix_of}
+use Rattle.px_forms.specs.Several.{AreOwned}
+use Rattle.px_indexrow.specs.Lists.{column_cell, column_cells, erase_cell, fix_of}
 use Rattle.px_indexrow.proofs.FixesSeen.{fix_view}
 use Rattle.px_openbatches.specs.Made.{IsCellOfRow}
 use Rattle.px_openbatches.proofs.Mades.{all_read}
-use Rattle.px_openbatches.proofs.RowViews.{others_view}
+use Rattle.px_forms.proofs.RowViews.{others_view}
 use Rattle.px_batchcells.proofs.RowsMade.{MayStand, both, columns_stand, family_stands, status_stands}
 
 erase_stands : (k : List ℕ) (s : ℕ) → MayStand s (erase_cell k s)

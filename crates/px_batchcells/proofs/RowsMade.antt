@@ -9,7 +9,8 @@ use Rattle.px_values.specs.declared.row.Value.{Value}
 use Rattle.px_values.specs.States.{RowState, Shape as RowShape}
 use Rattle.px_world.specs.IndexCells.{mark_cells, close_cells}
 use Rattle.px_forms.specs.Indexes.{IndexForm, IsIndexForm, IsPlaced, shape_at}
-use Rattle.px_indexrow.specs.Lists.{AreOwned, closes_of, column_cell, column_cells, family_cell, family_if, left_key, marks_of, status_cell, status_if, version_if}
+use Rattle.px_forms.specs.Several.{AreOwned}
+use Rattle.px_indexrow.specs.Lists.{closes_of, column_cell, column_cells, family_cell, family_if, left_key, marks_of, status_cell, status_if, version_if}
 use Rattle.px_indexrow.proofs.MarksSeen.{closes_owned, marks_owned, marks_view}
 use Rattle.px_indexrow.proofs.ClosesSeen.{closes_view}
 use Rattle.px_openbatches.specs.Made.{IsCellOfRow, IsIndexRow}

@@ -3,7 +3,7 @@ use Rattle.std.proofs.Common.{◌≡◌, ℕ, ◌<◌, Bool, true, false, cond, 
 use Rattle.std.specs.Prelude.{nat_eq, nat_lt, is_some}
 use Rattle.std.specs.Cmp.Lexicographic.{pointwise}
 use Rattle.std.proofs.lemmas.Slice.Eq.{bytes_eq-Decides}
-use Rattle.std.proofs.lemmas.Bool.{cases_Bool, cond-false, ne_eqb, false≢true, both_ways, and_parts, ltb-true}
+use Rattle.std.proofs.lemmas.Bool.{cases_Bool, cond-false, ne_eqb, false≢true, and_parts, ltb-true}
 use Rattle.px_cells.specs.declared.kind.CellKind.{CellKind}
 use Rattle.px_cells.specs.declared.kind.CellKind.TheVariants.{Put, DeleteFamilyVersion, DeleteColumn, DeleteFamily}
 use Rattle.px_cells.specs.CellData.{CellData}
@@ -19,17 +19,10 @@ use Rattle.px_world.specs.IndexCells.{IndexCells, no_cells, over, status_over, c
 use Rattle.px_world.proofs.IndexCells.{same_cells}
 use Rattle.px_forms.specs.Indexes.{IndexForm, IsIndexForm, IsPlaced, view_of, view_at, status_in, cells_if, shape_at}
 use Rattle.px_forms.proofs.Views.{view_append, view_empty}
-use Rattle.px_indexrow.specs.Lists.{status_cell, family_cell, erase_cell, left_key, status_if, family_if, closes_of, cells_for}
-use Rattle.px_indexrow.proofs.MarksSeen.{closes_owned, rows_view}
-
-pub swapped : (a c : List ℕ) → pointwise nat_eq a c ≡ pointwise nat_eq c a
-swapped a c = elim (cases_Bool (pointwise nat_eq a c)) [
-  | inl h ↦ h ∙ sym ((bytes_eq-Decides c a).1 (sym ((bytes_eq-Decides a c).0 h)))
-  | inr h ↦ elim (cases_Bool (pointwise nat_eq c a)) [
-    | inl g ↦ absurd (both_ways _ h ((bytes_eq-Decides a c).1 (sym ((bytes_eq-Decides c a).0 g))))
-    | inr g ↦ h ∙ sym g
-  ]
-]
+use Rattle.px_indexrow.specs.Lists.{status_cell, family_cell, erase_cell, left_key, status_if, family_if, closes_of}
+use Rattle.px_forms.specs.Several.{cells_for}
+use Rattle.px_forms.proofs.RowViews.{bytes_swap, rows_view}
+use Rattle.px_indexrow.proofs.MarksSeen.{closes_owned}
 
 module _ (f : IndexForm) (g : IsIndexForm f) (placed : IsPlaced f) (r : List Value) (k0 : List ℕ) (own : f.owns r k0 ≡ true) (s : ℕ) where
   abbrev pub here : List ℕ → ℕ → Bool
@@ -86,7 +79,7 @@ module _ (f : IndexForm) (g : IsIndexForm f) (placed : IsPlaced f) (r : List Val
   pub view_verified : view_at f r (status_cell k0 s 1 ∷ []) ≡ verified_alone
   unfolding value_at
   view_verified = same_cells _ _
-      (λ k u. one_verified (f.owns r k) (nat_eq s u) (pointwise nat_eq k k0) (owned_if k) (pointwise nat_eq k0 k) (swapped k0 k))
+      (λ k u. one_verified (f.owns r k) (nat_eq s u) (pointwise nat_eq k k0) (owned_if k) (pointwise nat_eq k0 k) (bytes_swap k0 k))
       (λ k u c. none_if (f.owns r k && nat_lt c f.columns) (value_at (status_cell k0 s 1 ∷ []) k (f.place c) u Put) (no_column (status_cell k0 s 1) (omega arith) k u c Put))
       (λ k u c. off_if (f.owns r k && nat_lt c f.columns) (value_at (status_cell k0 s 1 ∷ []) k (f.place c) u DeleteColumn) (no_column (status_cell k0 s 1) (omega arith) k u c DeleteColumn))
       (λ k u. off_if (f.owns r k) (value_at (status_cell k0 s 1 ∷ []) k 0 u DeleteFamily) (λ o. other_place (status_cell k0 s 1) k 0 u DeleteFamily (λ e. absurd (omega arith))))
@@ -124,7 +117,7 @@ module _ (f : IndexForm) (g : IsIndexForm f) (placed : IsPlaced f) (r : List Val
       (λ k u. absent_if (f.owns r k) (value_at (family_cell k0 s ∷ []) k 1 u Put) (other_place (family_cell k0 s) k 1 u Put (λ e. absurd (omega arith))))
       (λ k u c. none_if (f.owns r k && nat_lt c f.columns) (value_at (family_cell k0 s ∷ []) k (f.place c) u Put) (no_column (family_cell k0 s) (omega arith) k u c Put))
       (λ k u c. off_if (f.owns r k && nat_lt c f.columns) (value_at (family_cell k0 s ∷ []) k (f.place c) u DeleteColumn) (no_column (family_cell k0 s) (omega arith) k u c DeleteColumn))
-      (λ k u. one_family (f.owns r k) (nat_eq s u) (pointwise nat_eq k k0) [] (owned_if k) (pointwise nat_eq k0 k) (swapped k0 k))
+      (λ k u. one_family (f.owns r k) (nat_eq s u) (pointwise nat_eq k k0) [] (owned_if k) (pointwise nat_eq k0 k) (bytes_swap k0 k))
       (λ k u. no_version (f.owns r k) (nat_eq s u) (pointwise nat_eq k0 k) [])
 
   abbrev pub erased_alone : IndexCells (List ℕ) (List ℕ)
@@ -137,7 +130,7 @@ module _ (f : IndexForm) (g : IsIndexForm f) (placed : IsPlaced f) (r : List Val
       (λ k u c. none_if (f.owns r k && nat_lt c f.columns) (value_at (erase_cell k0 s ∷ []) k (f.place c) u Put) (no_column (erase_cell k0 s) (omega arith) k u c Put))
       (λ k u c. off_if (f.owns r k && nat_lt c f.columns) (value_at (erase_cell k0 s ∷ []) k (f.place c) u DeleteColumn) (no_column (erase_cell k0 s) (omega arith) k u c DeleteColumn))
       (λ k u. no_version (f.owns r k) (nat_eq s u) (pointwise nat_eq k0 k) [])
-      (λ k u. one_family (f.owns r k) (nat_eq s u) (pointwise nat_eq k k0) [] (owned_if k) (pointwise nat_eq k0 k) (swapped k0 k))
+      (λ k u. one_family (f.owns r k) (nat_eq s u) (pointwise nat_eq k k0) [] (owned_if k) (pointwise nat_eq k0 k) (bytes_swap k0 k))
 
 -- ---- the closes of a row are those of its world
 

@@ -13,7 +13,8 @@ use Rattle.px_forms.specs.Indexes.{IndexForm, IsIndexForm, IsPlaced, view_at, sh
 use Rattle.px_forms.proofs.Views.{view_append, view_empty}
 use Rattle.px_indexrow.specs.Lists.{status_cell, column_cells, version_cells, version_if, base_of, fix_of}
 use Rattle.px_indexrow.proofs.MarksSeen.{view_columns}
-use Rattle.px_indexrow.proofs.ClosesSeen.{swapped, view_verified, view_family, view_erased}
+use Rattle.px_forms.proofs.RowViews.{bytes_swap}
+use Rattle.px_indexrow.proofs.ClosesSeen.{view_verified, view_family, view_erased}
 
 module _ (f : IndexForm) (g : IsIndexForm f) (placed : IsPlaced f) (r : List Value) (k0 : List ℕ) (own : f.owns r k0 ≡ true) (s : ℕ) (state : RowState) where
   abbrev at_key : List ℕ → ℕ → Bool
@@ -69,7 +70,7 @@ module _ (sh : Shape) (f : IndexForm) (g : IsIndexForm f) (placed : IsPlaced f) 
 
 module _ (sh : Shape) (f : IndexForm) (g : IsIndexForm f) (placed : IsPlaced f) (r : List Value) (h : ℕ) (state : RowState) (k0 : List ℕ) (own : f.owns r k0 ≡ true) (t : ℕ) where
   turn : (k : List ℕ) (u : ℕ) → (nat_eq t u && pointwise nat_eq k k0) ≡ (pointwise nat_eq k0 k && nat_eq t u)
-  turn k u = ap (λ (b : Bool). nat_eq t u && b) (swapped k k0) ∙ and_swap (nat_eq t u) (pointwise nat_eq k0 k)
+  turn k u = ap (λ (b : Bool). nat_eq t u && b) (bytes_swap k k0) ∙ and_swap (nat_eq t u) (pointwise nat_eq k0 k)
     where
       and_swap : (a b : Bool) → (a && b) ≡ (b && a)
       and_swap true true = refl

@@ -1,7 +1,6 @@
 -- The cells of an index row, as lists, for every form of an index.
-use Rattle.std.specs.Prelude.{◌≡◌, ℕ, true, zero, suc, cond, nat_eq, nat_lt, List, [], ◌∷◌, ◌++◌, Option, Some, None}
+use Rattle.std.specs.Prelude.{ℕ, zero, suc, cond, nat_eq, nat_lt, List, [], ◌∷◌, ◌++◌, Option, Some, None}
 use Rattle.std.specs.Cmp.Lexicographic.{pointwise}
-use Rattle.std.specs.List.{AllByRecursion}
 use Rattle.px_cells.specs.declared.kind.CellKind.TheVariants.{Put, DeleteFamilyVersion, DeleteColumn, DeleteFamily}
 use Rattle.px_cells.specs.CellData.{CellData}
 use Rattle.px_values.specs.declared.row.Value.{Value}
@@ -77,14 +76,3 @@ fix_of f h state k t Leave = []
 fix_of f h state k t ToVerify = status_cell k t 1 ∷ cond (nat_lt h t) [] (column_cells f k t state f.columns)
 fix_of f h state k t ToRetire = family_cell k t ∷ []
 fix_of f h state k t ToErase = erase_cell k t ∷ []
-
--- 5. Several rows
-
--- all keys of the cells are the row's
-abbrev pub AreOwned : IndexForm → List Value → List CellData → Type 0
-AreOwned f r cells = AllByRecursion (λ c. f.owns r c.key ≡ true) cells
-
--- the cells of each row, one row after another
-unfoldable pub cells_for : (List Value → List CellData) → List (List Value) → List CellData
-cells_for m [] = []
-cells_for m (r ∷ rows) = m r ++ cells_for m rows

@@ -5,7 +5,7 @@ ghost use Rattle.px_keys.specs.Spelling.{Fits};
 ghost use Rattle.px_indexrow.specs.Verdicts.{verdict_of};
 ghost use Rattle.px_rows.specs.Keys.{IsRightTable, row_columns};
 ghost use Rattle.px_indexrow.specs.Form.{FitsState, IsLong, IsRightIndex, index_form};
-ghost use Rattle.px_indexrow.specs.Lists.{base_of, closes_of, column_cell, fix_of, left_key, marks_of, status_cell, version_cells, version_if as version_cells_of};
+ghost use Rattle.px_indexrow.specs.Lists.{base_of, closes_of, column_cell as included_cell, fix_of, left_key, marks_of, status_cell, version_cells, version_if as version_cells_of};
 ghost use Rattle.px_indexrow.specs.Form.{bytes_if};
 ghost use Rattle.px_rows.specs.Keys.{column_in};
 ghost use Rattle.px_rows.specs.Stored.{stored};
@@ -14,7 +14,7 @@ ghost use Rattle.px_values.specs.declared.row.Value.TheVariants.{Null as NullVal
 use crate::Repair;
 use crate::keys::state_key;
 use px_cells::{Cell, CellKind, Cells};
-use px_rows::{EMPTY_COLUMN, FIRST_COLUMN, RowFault, stored_value};
+use px_rows::{EMPTY_COLUMN, RowFault, cell, column_cell};
 use px_tables::{Index, Table};
 use px_values::{Key, Row, Value};
 use std::alloc::{AllocError, Global};
@@ -250,17 +250,17 @@ fn column(
     requires within { place < length table.now.columns }
     requires most { length table.now.columns ≤ 254 }
     requires state { FitsState table.now (Some state.now) }
-    ensures { IfOk result (λ cell. cell ≡ column_cell key.now stamp (suc (suc place)) (bytes_if (stored (column_in table.now.columns place).column_type (get_or state.now place NullValue)) (get_or state.now place NullValue))) }
+    ensures { IfOk result (λ cell. cell ≡ included_cell key.now stamp (suc (suc place)) (bytes_if (stored (column_in table.now.columns place).column_type (get_or state.now place NullValue)) (get_or state.now place NullValue))) }
 {
-    let qualifier = FIRST_COLUMN + place;
     let value = &state[place as usize];
-    if let Value::Null = value {
-        return cell(alloc, key, qualifier, stamp, CellKind::DeleteColumn, &[]);
-    }
-    let ty = table.columns.as_slice()[place as usize].column_type;
-    let bytes = stored_value(alloc, ty, value)?;
-    let key = Vec::from_slice(alloc, key)?;
-    Ok(Cell::new(key, qualifier, stamp, CellKind::Put, bytes))
+    column_cell(
+        alloc,
+        table.columns.as_slice(),
+        key,
+        place as usize,
+        stamp,
+        value,
+    )
 }
 
 /// The cell of a version's status.
@@ -268,20 +268,4 @@ fn status(alloc: Global, key: &[u8], stamp: u64, byte: u8) -> Result<Cell, Alloc
     ensures { IfOk result (λ cell. cell ≡ status_cell key.now stamp byte) }
 {
     cell(alloc, key, EMPTY_COLUMN, stamp, CellKind::Put, &[byte])
-}
-
-/// A cell with copies of the key and the value.
-fn cell(
-    alloc: Global,
-    key: &[u8],
-    qualifier: u8,
-    stamp: u64,
-    kind: CellKind,
-    value: &[u8],
-) -> Result<Cell, AllocError>
-    ensures { IfOk result (λ cell. cell ≡ record { key = key.now; qualifier = qualifier; stamp = stamp; kind = kind; value = value.now }) }
-{
-    let key = Vec::from_slice(alloc, key)?;
-    let value = Vec::from_slice(alloc, value)?;
-    Ok(Cell::new(key, qualifier, stamp, kind, value))
 }

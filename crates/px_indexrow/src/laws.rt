@@ -16,7 +16,8 @@ ghost use Rattle.px_values.specs.declared.row.Value.{Value as ColumnValue};
 ghost use Rattle.px_world.specs.Events.{Verdict as Repair};
 ghost use Rattle.px_world.specs.IndexCells.{base_cells, close_cells, fix_cells, mark_cells};
 ghost use Rattle.px_indexrow.specs.Form.{FitsState, IsRightIndex, index_columns, index_form, index_values, key_of_state};
-ghost use Rattle.px_indexrow.specs.Lists.{AreOwned, base_of, cells_for, closes_of, fix_of, marks_of};
+ghost use Rattle.px_forms.specs.Several.{AreOwned, cells_for};
+ghost use Rattle.px_indexrow.specs.Lists.{base_of, closes_of, fix_of, marks_of};
 
 /// The index rows of a table's index keep what an index region asks: a row's keys are its own, and no two rows have one. The key
 /// of a state is its indexed values and the row's primary key, and a change that fits leaves a state that fits.

@@ -1,5 +1,5 @@
 -- The rows that a batch met, kept as a truth value for each of its changes.
-use Rattle.std.proofs.Common.{◌≡◌, ℕ, Bool, true, false, cond, ◌&&◌, ◌||◌, filter, length, List, [], ◌∷◌, ◌++◌, refl, ap, sym, ◌∙◌, inl, inr, arith}
+use Rattle.std.proofs.Common.{◌≡◌, ℕ, Bool, true, false, cond, ◌&&◌, ◌||◌, Option, Some, None, filter, length, List, [], ◌∷◌, ◌++◌, refl, ap, sym, ◌∙◌, inl, inr, arith}
 use Rattle.std.specs.Prelude.{is_some}
 use Rattle.std.specs.Ordering.{is_eq}
 use Rattle.std.proofs.lemmas.Bool.{cases_Bool, false≢true}
@@ -10,8 +10,20 @@ use Rattle.px_values.proofs.Equal.{row_order-Decides}
 use Rattle.px_values.specs.Order.{row_order}
 use Rattle.px_trail.specs.Batches.{change_of, has, rows_of}
 use Rattle.px_openbatches.specs.Pending.{IsHeld, is_left, meets, flagged, meet_flags, HeldBatch}
-use Rattle.px_trail.proofs.Orders.{has-append, has-filter, filter-has}
-use Rattle.px_openbatches.proofs.RowViews.{has_is_some}
+use Rattle.px_trail.proofs.Orders.{has-append, has-change, has-filter, filter-has}
+use Rattle.px_values.specs.declared.change.What.{What}
+use Rattle.px_history.proofs.Changes.{change-has}
+
+-- a batch has the rows that it changes
+pub has_is_some : (cs : List Change) (r : List Value) → has (rows_of cs) r ≡ is_some (change_of cs r)
+has_is_some cs r = by (change_of cs r) refl
+  where
+    by : (o : Option What) → change_of cs r ≡ o → has (rows_of cs) r ≡ is_some (change_of cs r)
+    by None e = elim (cases_Bool (has (rows_of cs) r)) [
+      | inl h ↦ (let z = change-has cs r h in let q : None ≡ Some z.0 = sym e ∙ z.1 in cc)
+      | inr h ↦ h ∙ sym (ap is_some e)
+    ]
+    by (Some w) e = has-change cs r w e ∙ sym (ap is_some e)
 
 -- the flags of a batch when another begins
 pub flags_meet : (others : List (List Value)) (vs : List Bool) (rows : List (List Value)) → length vs ≡ length rows → (r : List Value) → has (flagged (meet_flags others vs rows) rows) r ≡ (has (flagged vs rows) r || (has others r && has rows r))

@@ -11,14 +11,15 @@ use Rattle.px_trail.specs.Trail.{last_of}
 use Rattle.px_trail.proofs.Batches.{batch-none}
 use Rattle.px_world.specs.IndexCells.{mark_cells}
 use Rattle.px_forms.specs.Indexes.{IsIndexForm, view_at, shape_at, cells_if}
-use Rattle.px_openbatches.specs.Made.{cells_for, cells_at}
+use Rattle.px_forms.specs.Several.{cells_for}
+use Rattle.px_openbatches.specs.Made.{cells_at}
 use Rattle.px_groupworld.specs.Group.{TableForm, GroupData, no_open}
 use Rattle.px_groupworld.specs.Asks.{CanMark, CanVerify}
 use Rattle.px_openbatches.specs.Pending.{IsHeld, to_verify, HeldBatch, IsMet}
 use Rattle.px_openbatches.specs.Opens.{IsReady, form_in}
 use Rattle.px_history.proofs.Changes.{change-has}
 use Rattle.px_trail.proofs.Orders.{has-filter, filter-has}
-use Rattle.px_openbatches.proofs.RowViews.{has_is_some}
+use Rattle.px_openbatches.proofs.Flags.{has_is_some}
 use Rattle.px_openbatches.proofs.Mades.{reads_marks, reads_closes, reads_writes, marks_below, closes_below}
 use Rattle.px_openbatches.proofs.Pendings.{some_none}
 use Rattle.px_openbatches.proofs.Helds.{same_batch}

@@ -1,6 +1,5 @@
 pub mod Pendings
 pub mod Helds
-pub mod RowViews
 pub mod Mades
 pub mod Hands
 pub mod Readies

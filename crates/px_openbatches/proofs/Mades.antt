@@ -21,17 +21,17 @@ use Rattle.px_world.specs.IndexCells.{IndexCells, mark_cells, close_cells}
 use Rattle.px_forms.specs.Indexes.{view_of, IndexForm, IsIndexForm, view_at, shape_at, cells_if}
 use Rattle.px_forms.specs.Rows.{DataForm}
 use Rattle.px_indexed.specs.Kept.{ReadsWrites, RowsKept, DataKept, AreIndexCells, AreRowCells}
-use Rattle.px_openbatches.specs.Made.{cells_for, RowCells, IsIndexRow, IsRowMade, IsMade, IsComputed, cells_at, IsCellOfRow, IsPutOfRow}
+use Rattle.px_forms.specs.Several.{AreOwned, cells_for}
+use Rattle.px_openbatches.specs.Made.{RowCells, IsIndexRow, IsRowMade, IsMade, IsComputed, cells_at, IsCellOfRow, IsPutOfRow}
 use Rattle.px_groupworld.specs.Group.{TableForm}
 use Rattle.px_openbatches.specs.Pending.{HeldKept, after_pending, HeldBatch}
 use Rattle.px_trail.specs.Trail.{last_of}
 use Rattle.px_openbatches.proofs.Pendings.{begun_old, begun_new}
 use Rattle.px_cells.proofs.Contents.{same_values, values_append, reads_from_value}
-use Rattle.px_openbatches.proofs.RowViews.{rows_view}
+use Rattle.px_forms.proofs.RowViews.{rows_view}
 use Rattle.px_history.specs.Rows.{IsLater, SameChange}
 use Rattle.px_indexed.specs.Worlds.{history_at}
 use Rattle.px_indexed.proofs.Idle.{history_stays}
-use Rattle.px_openbatches.proofs.RowViews.{AreOwned, rows_view}
 
 -- ---- one row's cells
 

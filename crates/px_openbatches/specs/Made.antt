@@ -1,5 +1,5 @@
 -- The cells of a batch's three phases, row by row, as they are made when it begins.
-use Rattle.std.specs.Prelude.{◌≡◌, ℕ, ◌<◌, true, cond, ◌∷◌, [], ◌++◌, List, map, get_or, Some}
+use Rattle.std.specs.Prelude.{◌≡◌, ℕ, ◌<◌, true, cond, ◌∷◌, [], List, map, get_or, Some}
 use Rattle.std.specs.List.{AllByRecursion}
 use Rattle.std.specs.Ordering.{is_eq}
 use Rattle.px_cells.specs.declared.kind.CellKind.{CellKind}
@@ -61,11 +61,6 @@ pub record IsMade (f : TableForm) (es : List Entry) (form : ℕ → IndexForm) (
 unfoldable pub cells_at : (RowCells → List CellData) → List RowCells → List Value → List CellData
 cells_at pick [] r = []
 cells_at pick (x ∷ xs) r = cond (is_eq (row_order x.row r)) (pick x) (cells_at pick xs r)
-
--- the rows' cells, one row after another
-unfoldable pub cells_for : (List Value → List CellData) → List (List Value) → List CellData
-cells_for m [] = []
-cells_for m (r ∷ rows) = m r ++ cells_for m rows
 
 -- what begin computes of a row, from the state that it reads
 pub record IsComputed (f : TableForm) (form : ℕ → IndexForm) (count s : ℕ) (cs : List Change) (old : List Value → RowState) (x : RowCells) : Type 0 where

@@ -26,7 +26,8 @@ ghost use Rattle.px_indexed.specs.Kept.{ReadsWrites};
 ghost use Rattle.px_indexed.specs.Worlds.{history_at};
 ghost use Rattle.px_groupworld.specs.Group.{GroupData, GroupKept, no_open, no_part, table_form};
 ghost use Rattle.px_groupworld.specs.Asks.{CanMark, CanVerify};
-ghost use Rattle.px_openbatches.specs.Made.{IsComputed, RowCells, cells_at, cells_for};
+ghost use Rattle.px_forms.specs.Several.{cells_for};
+ghost use Rattle.px_openbatches.specs.Made.{IsComputed, RowCells, cells_at};
 ghost use Rattle.px_openbatches.specs.Pending.{HeldBatch, HeldKept, IsHeld, after_pending, held_begun, held_ended, held_wrote, to_verify};
 ghost use Rattle.px_openbatches.specs.Opens.{IsReady, OpensKept, form_in};
 

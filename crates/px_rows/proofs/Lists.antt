@@ -3,8 +3,7 @@ use Rattle.std.proofs.Common.{◌≡◌, ◌≢◌, ℕ, zero, suc, ◌<◌, ◌
 use Rattle.std.specs.Prelude.{nat_eq, nat_lt}
 use Rattle.std.specs.Cmp.Lexicographic.{pointwise}
 use Rattle.std.specs.List.{AllByRecursion}
-use Rattle.std.proofs.lemmas.Slice.Eq.{bytes_eq-Decides}
-use Rattle.std.proofs.lemmas.Bool.{cases_Bool, cases_eq, cases_lt, cond-true, cond-false, eq-eqb, ne_eqb, lt-ltb, le-ltb, both_ways}
+use Rattle.std.proofs.lemmas.Bool.{cases_eq, cases_lt, cond-true, cond-false, eq-eqb, ne_eqb, lt-ltb, le-ltb}
 use Rattle.std.proofs.lemmas.List.{take_more}
 use Rattle.px_cells.specs.declared.kind.CellKind.{CellKind}
 use Rattle.px_cells.specs.declared.kind.CellKind.TheVariants.{Put, Delete, DeleteFamilyVersion, DeleteColumn, DeleteFamily}
@@ -21,11 +20,13 @@ use Rattle.px_values.specs.declared.row.Value.TheVariants.{Null, Number, Truth, 
 use Rattle.px_values.specs.declared.change.Assignment.{Assignment}
 use Rattle.px_values.specs.declared.change.What.{What}
 use Rattle.px_values.specs.declared.change.What.TheVariants.{Set, Gone}
+use Rattle.px_forms.proofs.RowViews.{bytes_swap}
 use Rattle.px_rows.specs.Keys.{column_in}
 use Rattle.px_rows.specs.Spelled.{RowForm, FitsColumnOf, FitsWhat, assigned_to, put_value, null_value, change_cells, cells_at, table_form}
 use Rattle.px_rows.specs.Stored.{stored}
 use Rattle.px_rows.specs.inner.Found.{AreOf}
-use Rattle.px_rows.specs.inner.Lists.{put_cell, null_cell, gone_cell, column_cell, column_if, set_cells, change_list}
+use Rattle.px_rows.specs.Cells.{put_cell, null_cell, column_cell}
+use Rattle.px_rows.specs.inner.Lists.{gone_cell, column_if, set_cells, change_list}
 use Rattle.px_rows.proofs.Spelled.{assigned_fits}
 
 -- ---- assignments
@@ -50,15 +51,6 @@ pub assigned_before : (as' : List Assignment) (i : ℕ) (a : Assignment) (c : �
 assigned_before as' i a c l e q = sym (ap (λ (x : List Assignment). assigned_to x c) (take_more as' i a l) ∙ ap (λ (x : Assignment). assigned_to (take i as' ++ x ∷ []) c) (sym e) ∙ assigned_append (take i as') a c ∙ ap (λ (o : Option Value). or_else o (assigned_to (take i as') c)) (cond-false _ _ _ (ne_eqb a.column c q)))
 
 -- ---- what stands at each place
-
-bytes_swap : (a c : List ℕ) → pointwise nat_eq a c ≡ pointwise nat_eq c a
-bytes_swap a c = elim (cases_Bool (pointwise nat_eq a c)) [
-  | inl h ↦ h ∙ sym ((bytes_eq-Decides c a).1 (sym ((bytes_eq-Decides a c).0 h)))
-  | inr h ↦ elim (cases_Bool (pointwise nat_eq c a)) [
-    | inl g ↦ absurd (both_ways _ h ((bytes_eq-Decides a c).1 (sym ((bytes_eq-Decides c a).0 g))))
-    | inr g ↦ h ∙ sym g
-  ]
-]
 
 regroup : {A : Type 0} (a a' b c e : Bool) (x : A) → a ≡ a' → cond (a && (b && (c && e))) (Some x) None ≡ cond (a' && c) (cond (b && e) (Some x) None) None
 regroup true a' b c e x q = by b c e ∙ ap (λ (v : Bool). cond (v && c) (cond (b && e) (Some x) None) None) q

@@ -8,7 +8,8 @@ ghost use Rattle.px_values.specs.Types.{HasType};
 ghost use Rattle.px_rows.specs.Keys.{IsRightTable, column_in, row_key};
 ghost use Rattle.px_rows.specs.Spelled.{FitsColumnOf, FitsTable, FitsWhat, assigned_to, cells_at, table_form};
 ghost use Rattle.px_rows.specs.inner.Found.{AreOf};
-ghost use Rattle.px_rows.specs.inner.Lists.{change_list, column_cell, set_cells};
+ghost use Rattle.px_rows.specs.Cells.{column_cell};
+ghost use Rattle.px_rows.specs.inner.Lists.{change_list, set_cells};
 ghost use Rattle.std.specs.Option.{option_copied};
 
 use crate::{RowFault, key_of, stored_value};
@@ -102,8 +103,8 @@ fn assigned(assignments: &[Assignment], column: usize) -> Option<&Value>
     found
 }
 
-/// The cell of a column: a put of the value, and a DeleteColumn for NULL.
-fn column_cell(
+/// The cell of the column at this place of the table: a put of the value, and a DeleteColumn for NULL.
+pub fn column_cell(
     alloc: Global,
     columns: &[TableColumn],
     key: &[u8],
@@ -126,7 +127,7 @@ fn column_cell(
 }
 
 /// A cell with copies of the key and the value.
-fn cell(
+pub fn cell(
     alloc: Global,
     key: &[u8],
     qualifier: u8,

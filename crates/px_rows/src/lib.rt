@@ -12,7 +12,7 @@ mod laws;
 mod reading;
 mod stored;
 
-pub use cells::{EMPTY_COLUMN, FIRST_COLUMN, cells_of};
+pub use cells::{EMPTY_COLUMN, FIRST_COLUMN, cell, cells_of, column_cell};
 pub use fault::RowFault;
 pub use key::{column_of, key_of, row_of_key};
 pub use laws::law_rows;

@@ -28,7 +28,8 @@ use Rattle.px_groupworld.specs.Steps.{Events, Does, Steps, at_index, nothing, be
 use Rattle.px_groupworld.specs.Asks.{FitAll, HasMarked}
 use Rattle.px_groupworld.proofs.Entries.{group_begun, group_ended, group_idle, group_marked, group_verified_all, group_wrote, rows_of_group}
 use Rattle.px_groupworld.proofs.Cells.{group_mark, group_verify}
-use Rattle.px_openbatches.specs.Made.{IsComputed, RowCells, cells_at, cells_for}
+use Rattle.px_forms.specs.Several.{cells_for}
+use Rattle.px_openbatches.specs.Made.{IsComputed, RowCells, cells_at}
 use Rattle.px_openbatches.specs.Pending.{HeldBatch, IsHeld, IsRisingFrom, after_pending, fresh_held, held_begun, held_ended, held_wrote, is_in, is_left, meets, to_verify, writes_rows}
 use Rattle.px_openbatches.specs.Opens.{IsNoBirthOf, IsReady, OpensKept, form_in}
 use Rattle.px_openbatches.proofs.Hands.{can_mark, can_verify, can_write, verifies}

@@ -1,32 +1,17 @@
 -- The cells of a change, as lists.
 use Rattle.std.specs.Prelude.{ℕ, zero, suc, List, [], ◌∷◌, ◌++◌, length, Option, Some, None}
-use Rattle.px_cells.specs.declared.kind.CellKind.TheVariants.{Put, DeleteColumn, DeleteFamily}
+use Rattle.px_cells.specs.declared.kind.CellKind.TheVariants.{DeleteFamily}
 use Rattle.px_cells.specs.CellData.{CellData}
 use Rattle.px_tables.specs.declared.table.TableColumn.{TableColumn}
 use Rattle.px_values.specs.declared.change.Assignment.{Assignment}
 use Rattle.px_values.specs.declared.change.What.{What}
 use Rattle.px_values.specs.declared.change.What.TheVariants.{Set, Gone}
 use Rattle.px_values.specs.declared.row.Value.{Value}
-use Rattle.px_values.specs.declared.row.Value.TheVariants.{Null, Number, Truth, Text}
-use Rattle.px_rows.specs.Keys.{column_in}
+use Rattle.px_rows.specs.Cells.{column_cell, put_cell}
 use Rattle.px_rows.specs.Spelled.{assigned_to}
-use Rattle.px_rows.specs.Stored.{stored}
-
-abbrev pub put_cell : List ℕ → ℕ → ℕ → List ℕ → CellData
-put_cell k q s v = record { key = k; qualifier = q; stamp = s; kind = Put; value = v }
-
-abbrev pub null_cell : List ℕ → ℕ → ℕ → CellData
-null_cell k q s = record { key = k; qualifier = q; stamp = s; kind = DeleteColumn; value = [] }
 
 abbrev pub gone_cell : List ℕ → ℕ → CellData
 gone_cell k s = record { key = k; qualifier = 0; stamp = s; kind = DeleteFamily; value = [] }
-
--- the cell of a column and a value
-abbrev pub column_cell : List TableColumn → List ℕ → ℕ → ℕ → Value → CellData
-column_cell columns k s c Null = null_cell k (suc (suc c)) s
-column_cell columns k s c (Number n) = put_cell k (suc (suc c)) s (stored (column_in columns c).column_type (Number n))
-column_cell columns k s c (Truth t) = put_cell k (suc (suc c)) s (stored (column_in columns c).column_type (Truth t))
-column_cell columns k s c (Text b) = put_cell k (suc (suc c)) s (stored (column_in columns c).column_type (Text b))
 
 abbrev pub column_if : List TableColumn → List ℕ → ℕ → ℕ → Option Value → List CellData
 column_if columns k s c None = []

@@ -1,29 +1,35 @@
 -- What rows see of several rows' cells.
 use Rattle.std.proofs.Common.{◌≡◌, ◌≢◌, ℕ, Bool, true, false, cond, not, ◌&&◌, ◌||◌, Option, Some, None, List, [], ◌∷◌, refl, ap, sym, ◌∙◌, subst, inl, inr}
-use Rattle.std.specs.Prelude.{nat_lt, is_some}
-use Rattle.std.specs.List.{AllByRecursion}
+use Rattle.std.specs.Prelude.{nat_eq, nat_lt, is_some}
+use Rattle.std.specs.Cmp.Lexicographic.{pointwise}
 use Rattle.std.specs.Ordering.{is_eq}
 use Rattle.std.proofs.lemmas.Slice.Eq.{bytes_eq-Decides}
 use Rattle.std.proofs.lemmas.Bool.{cases_Bool, cond-false, both_ways, and_parts, not-true}
 use Rattle.px_cells.specs.declared.kind.CellKind.{CellKind}
 use Rattle.px_cells.specs.declared.kind.CellKind.TheVariants.{Put, DeleteFamilyVersion, DeleteColumn, DeleteFamily}
 use Rattle.px_values.specs.declared.row.Value.{Value}
-use Rattle.px_values.specs.declared.change.Change.{Change}
-use Rattle.px_values.specs.declared.change.What.{What}
 use Rattle.px_cells.specs.CellData.{CellData}
 use Rattle.px_values.proofs.Equal.{row_order-Decides}
 use Rattle.px_values.specs.Order.{row_order}
-use Rattle.px_trail.specs.Batches.{change_of, has, is_distinct, rows_of}
-use Rattle.px_history.proofs.Changes.{change-has}
-use Rattle.px_trail.proofs.Orders.{has-change}
+use Rattle.px_trail.specs.Batches.{has, is_distinct}
 use Rattle.px_world.specs.World.{Status, Absent, Unverified, Verified}
 use Rattle.px_world.specs.Events.{put_over}
 use Rattle.px_cells.specs.Contents.{Contents, stands_at, value_at}
 use Rattle.px_world.specs.IndexCells.{IndexCells, no_cells, over, status_over}
 use Rattle.px_forms.specs.Indexes.{view_of, status_in, IndexForm, IsIndexForm, view_at, cells_if}
-use Rattle.px_openbatches.specs.Made.{cells_for}
+use Rattle.px_forms.specs.Several.{AreOwned, cells_for}
 use Rattle.px_forms.proofs.Views.{view_append, view_empty}
 use Rattle.px_world.proofs.IndexCells.{same_cells}
+
+-- keys compare alike both ways
+pub bytes_swap : (a c : List ℕ) → pointwise nat_eq a c ≡ pointwise nat_eq c a
+bytes_swap a c = elim (cases_Bool (pointwise nat_eq a c)) [
+  | inl h ↦ h ∙ sym ((bytes_eq-Decides c a).1 (sym ((bytes_eq-Decides a c).0 h)))
+  | inr h ↦ elim (cases_Bool (pointwise nat_eq c a)) [
+    | inl g ↦ absurd (both_ways _ h ((bytes_eq-Decides a c).1 (sym ((bytes_eq-Decides c a).0 g))))
+    | inr g ↦ h ∙ sym g
+  ]
+]
 
 -- ---- a row sees nothing of another's cells
 
@@ -46,10 +52,6 @@ view_none owns columns place g n = same_cells (view_of owns columns place g) no_
     (λ k s c. and_same (owns k && nat_lt c columns) (is_some (g k (place c) s DeleteColumn)) (λ o. ap is_some (n.each k (place c) s DeleteColumn (and_parts (owns k) (nat_lt c columns) o).0)))
     (λ k s. and_same (owns k) (is_some (g k 0 s DeleteFamily)) (λ o. ap is_some (n.each k 0 s DeleteFamily o)))
     (λ k s. and_same (owns k) (is_some (g k 0 s DeleteFamilyVersion)) (λ o. ap is_some (n.each k 0 s DeleteFamilyVersion o)))
-
--- all keys of the cells are the row's
-abbrev pub AreOwned : IndexForm → List Value → List CellData → Type 0
-AreOwned f r cells = AllByRecursion (λ c. f.owns r c.key ≡ true) cells
 
 value_none : (f : IndexForm) → IsIndexForm f → (r r' : List Value) → r ≢ r' → (cells : List CellData) → AreOwned f r cells → (k : List ℕ) (q s : ℕ) (d : CellKind) → f.owns r' k ≡ true → value_at cells k q s d ≡ None
 unfolding value_at
@@ -103,13 +105,3 @@ rows_view f g m seen own sees (x ∷ rows) d r =
           (let other : x ≢ r = λ q. both_ways _ e ((row_order-Decides x r).1 q) in
           rw e ((λ i. over (others_view f g x r other (m x) (own x) i) (rest i))))
     ]
-
-pub has_is_some : (cs : List Change) (r : List Value) → has (rows_of cs) r ≡ is_some (change_of cs r)
-has_is_some cs r = by (change_of cs r) refl
-  where
-    by : (o : Option What) → change_of cs r ≡ o → has (rows_of cs) r ≡ is_some (change_of cs r)
-    by None e = elim (cases_Bool (has (rows_of cs) r)) [
-      | inl h ↦ (let z = change-has cs r h in let q : None ≡ Some z.0 = sym e ∙ z.1 in cc)
-      | inr h ↦ h ∙ sym (ap is_some e)
-    ]
-    by (Some w) e = has-change cs r w e ∙ sym (ap is_some e)
