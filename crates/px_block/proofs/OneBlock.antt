@@ -1,14 +1,14 @@
 -- Bytes begin with one block at most, or have one first fault.
 use Rattle.std.proofs.Common.{◌≡◌, ◌≢◌, ◌⊎◌, ℕ, ◌+◌, ◌^◌, ◌<◌, ◌≤◌, List, [], ◌∷◌, ◌++◌, length, take, drop, Result, Ok, Err, refl, sym, ap, subst, ◌∙◌, arith, append_assoc, length-append, inl, inr}
 use Rattle.std.specs.Int.{w32, from_be_bytes}
-use Rattle.std.proofs.lemmas.List.{append-nil}
+use Rattle.std.proofs.lemmas.List.{append-nil, length-drop}
 use Rattle.std.proofs.lemmas.Nat.{from_be_bytes-to_be_bytes_4}
 use Rattle.px_cells.specs.CellData.{CellData}
 use Rattle.px_cells.specs.Order.{Below}
 use Rattle.px_cellbytes.specs.declared.fault.CellFault.{CellFault}
-use Rattle.px_cellbytes.specs.declared.fault.CellFault.TheVariants.{OutOfOrder}
+use Rattle.px_cellbytes.specs.declared.fault.CellFault.TheVariants.{Short, BadKind, OutOfOrder, Memory}
 use Rattle.px_cellbytes.specs.Spelling.{IsShortEnough, all_bytes, cell_bytes}
-use Rattle.px_cellbytes.specs.Reading.{IsFault, IsInRange, IsLeastFault, IsWritten, moved}
+use Rattle.px_cellbytes.specs.Reading.{IsFault, IsInRange, IsLeastFault, IsWritten, moved, place_of}
 use Rattle.px_cellbytes.specs.Reading.IsFault.{short, bad_kind, out_of_order}
 use Rattle.px_cellbytes.proofs.Bytes.{length-cell_bytes}
 use Rattle.px_cellbytes.proofs.Unique.{cell_same}
@@ -166,3 +166,31 @@ one_reading bytes (Ok xs) (Ok ys) a b = ap (λ (l : List CellData). Ok l) (one_f
 one_reading bytes (Ok xs) (Err f) a b = absurd (block_or_fault bytes xs f a b)
 one_reading bytes (Err f) (Ok xs) a b = absurd (block_or_fault bytes xs f b a)
 one_reading bytes (Err f) (Err g) a b = ap (λ (x : CellFault). Err x) (one_block_fault bytes f g a b)
+
+-- ---- places
+
+fault_within : (before : List CellData) (bytes : List ℕ) (fault : CellFault) → IsFault before bytes fault → place_of fault ≤ length bytes
+fault_within before bytes fault (short p cut e) = (let a = ap place_of e in let b = cut.before in omega arith)
+fault_within before bytes fault (bad_kind inside wrong e) = (let a = ap place_of e in omega arith)
+fault_within before bytes fault (out_of_order front last c tail b fits ranged spelled below e) = (let a = ap place_of e in omega arith)
+
+place_moved : (n : ℕ) (fault : CellFault) → place_of (moved n fault) ≤ n + place_of fault
+place_moved n (Short p) = omega arith
+place_moved n (BadKind p) = omega arith
+place_moved n (OutOfOrder p) = omega arith
+place_moved n Memory = omega arith
+
+body_within : (before : List CellData) (count : ℕ) (bytes : List ℕ) (fault : CellFault) → IsBodyFault before count bytes fault → place_of fault ≤ length bytes
+body_within before count bytes fault b = by b.next
+  where
+    long : length bytes ≡ length (all_bytes b.cells) + length b.rest
+    long = ap (λ (l : List ℕ). length l) b.begin.spelled ∙ length-append (all_bytes b.cells) b.rest
+
+    by : IsNextFault before b.cells b.rest fault → place_of fault ≤ length bytes
+    by (of_cell least under there e) = (let a = ap place_of e in let m = place_moved (length (all_bytes b.cells)) least in let w = fault_within (behind before b.cells) b.rest least there.there in let l = long in omega arith)
+    by (of_count closed full e) = (let a = ap place_of e in let l = long in omega arith)
+
+-- a fault stands within the bytes, or at their end
+pub front_within : (before : List CellData) (bytes : List ℕ) (fault : CellFault) → IsFrontFault before bytes fault → place_of fault ≤ length bytes
+front_within before bytes fault (of_head none e) = (let a = ap place_of e in omega arith)
+front_within before bytes fault (of_body inner has body e) = (let a = ap place_of e in let m = place_moved 4 inner in let w = body_within before (count_in bytes) (drop 4 bytes) inner body in let l = length-drop 4 bytes in let h = has.0 in omega arith)

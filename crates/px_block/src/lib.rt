@@ -9,5 +9,5 @@ pub mod laws;
 mod read;
 mod write;
 
-pub use read::{Front, read_block, read_front};
+pub use read::{Front, has_count, read_block, read_front};
 pub use write::{BLOCK_SIZE, write_block};

@@ -1,5 +1,5 @@
 // Reading a block.
-ghost use Rattle.std.specs.Prelude.{◌≡◌, ◌≢◌, ◌≤◌, ◌<◌, ◌+◌, ◌^◌, ◌++◌, ◌∷◌, ◌⊎◌, [], List, Result, Err, length, take, drop, IfOk, IfErr};
+ghost use Rattle.std.specs.Prelude.{◌≡◌, ◌≢◌, ◌≤◌, ◌<◌, ◌+◌, ◌^◌, ◌++◌, ◌∷◌, ◌⊎◌, [], List, Result, Err, length, take, drop, IsTrue, ◌↔◌, IfOk, IfErr};
 ghost use Rattle.px_cells.specs.CellData.{CellData};
 ghost use Rattle.px_cellbytes.specs.declared.fault.CellFault.{CellFault};
 ghost use Rattle.px_cellbytes.specs.Spelling.{all_bytes};
@@ -60,13 +60,10 @@ pub fn read_front(alloc: Global, bytes: &[u8], before: &[Cell]) -> Result<Front,
     ensures end { IfOk result (λ front. (front.end ≡ length (block_bytes front.cells)) × (front.end ≤ length bytes.now)) }
     ensures fault { IfErr result (λ fault. fault ≢ CellFault.Memory → IsFrontFault before.now bytes.now fault) }
 {
-    if bytes.len() < COUNT {
+    if !has_count(bytes) {
         return Err(CellFault::Short { place: 0 });
     }
     let count = count_of(bytes);
-    if count == 0 {
-        return Err(CellFault::Short { place: 0 });
-    }
     match read_body(alloc, &bytes[COUNT..], count, before) {
         Ok(body) => Ok(Front {
             cells: body.cells,
@@ -74,6 +71,13 @@ pub fn read_front(alloc: Global, bytes: &[u8], before: &[Cell]) -> Result<Front,
         }),
         Err(fault) => Err(moved(COUNT, fault)),
     }
+}
+
+/// Whether the bytes begin with a count of cells that isn't zero.
+pub fn has_count(bytes: &[u8]) -> bool
+    ensures { IsTrue result ↔ HasCount bytes.now }
+{
+    bytes.len() >= COUNT && count_of(bytes) != 0
 }
 
 /// The count at the beginning.

@@ -4,8 +4,8 @@ ghost use Rattle.std.specs.List.{AllByRecursion};
 ghost use Rattle.px_cellbytes.specs.Spelling.{IsShortEnough};
 ghost use Rattle.px_block.specs.Block.{block_bytes, count_bytes};
 
-use px_cellbytes::write_cells;
-use px_cells::Cells;
+use px_cellbytes::write_all;
+use px_cells::Cell;
 use std::alloc::AllocError;
 
 /// A block is closed when its cells have this many bytes or more.
@@ -13,7 +13,7 @@ pub const BLOCK_SIZE: usize = 32_768;
 
 /// Adds the bytes of a block of these cells. It is Ok where there is spare room for them; an Err leaves the bytes as they
 /// were.
-pub fn write_block(cells: &Cells, to: &mut Vec<u8>) -> Result<(), AllocError>
+pub fn write_block(cells: &[Cell], to: &mut Vec<u8>) -> Result<(), AllocError>
     requires short { AllByRecursion IsShortEnough cells.now }
     requires counted { length cells.now < 2 ^ 32 }
     ensures written { OnOk result (to.new.items ≡ to.old.items ++ block_bytes cells.now) }
@@ -22,7 +22,7 @@ pub fn write_block(cells: &Cells, to: &mut Vec<u8>) -> Result<(), AllocError>
 {
     let start = to.len();
     write_count(cells.len() as u32, to)?;
-    if write_cells(cells, to).is_err() {
+    if write_all(cells, to).is_err() {
         to.truncate(start);
         return Err(AllocError);
     }

@@ -1,0 +1,4 @@
+pub mod Blocks
+pub mod Indexes
+pub mod Growing
+pub mod Written

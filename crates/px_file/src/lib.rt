@@ -1,0 +1,18 @@
+//! Files of cells, written and read by blocks.
+//!
+//! A file is `PHXFIL01`, blocks of px_block, an index with the place, the length and the first key of each, and a footer
+//! with the place of the index, the counts of blocks and cells and the greatest stamp. `FileWriter` makes one, a block at a
+//! time, and `RegionFile` keeps of it the index and the footer.
+#![tactic(auto)]
+
+mod adding;
+mod fault;
+mod index;
+mod region_file;
+mod tail;
+mod writer;
+
+pub use fault::MakeFault;
+pub use index::{Index, IndexEntry};
+pub use region_file::RegionFile;
+pub use writer::FileWriter;
