@@ -1,17 +1,16 @@
 -- What is handed out is what a log takes, and the same is read of it.
-use Rattle.std.proofs.Common.{◌≡◌, ◌∙◌, ℕ, ◌+◌, ◌<◌, ◌≤◌, Bool, true, false, cond, ◌⊎◌, inl, inr, List, [], ◌∷◌, ◌++◌, drop, take, get_or, length, refl, ap, sym, subst, arith}
+use Rattle.std.proofs.Common.{◌≡◌, ◌∙◌, ℕ, ◌+◌, ◌<◌, ◌≤◌, Bool, true, false, cond, inl, inr, List, [], ◌∷◌, ◌++◌, drop, get_or, length, refl, ap, sym, subst, arith}
 use Rattle.std.specs.List.{AllByRecursion}
 use Rattle.std.specs.List.Sorted.{IsPermutation}
 use Rattle.std.proofs.Math.ListN.{drop_of_length-le}
 use Rattle.std.proofs.lemmas.Bool.{cases_lt}
 use Rattle.std.proofs.lemmas.List.{drop_more, get_or_default, get_or_past}
-use Rattle.std.proofs.lemmas.List.Sorted.{IsPermutation-append_comm, IsPermutation-refl, IsPermutation-append_left, IsPermutation-trans, length_permutation}
+use Rattle.std.proofs.lemmas.List.Sorted.{IsPermutation-append_comm, IsPermutation-refl, IsPermutation-append_left, IsPermutation-trans}
 use Rattle.px_cells.specs.CellData.{CellData}
-use Rattle.px_cells.specs.Order.{GoesWith, IsApart, IsAscending, ReadsSame}
+use Rattle.px_cells.specs.Order.{GoesWith, IsAscending}
 use Rattle.px_cellbytes.specs.Reading.{IsBare, IsInRange, IsWritten}
-use Rattle.px_cellbytes.specs.Spelling.{IsShortEnough, all_bytes}
+use Rattle.px_cellbytes.specs.Spelling.{IsShortEnough}
 use Rattle.px_keptcells.specs.Kept.{IsFitting, but, laid}
-use Rattle.px_keptcells.proofs.Sorted.{moved_all, moved_apart, moved_bytes, sorted_reads}
 
 each_of : (Q : CellData → Type 0) → ((c : CellData) → IsFitting c → Q c) → (cells : List CellData) → AllByRecursion IsFitting cells → AllByRecursion Q cells
 each_of Q f [] a = tt

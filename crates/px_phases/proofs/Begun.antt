@@ -1,5 +1,5 @@
 -- A batch that begins keeps the cells that its table's begin asks for.
-use Rattle.std.proofs.Common.{◌≡◌, ℕ, zero, suc, ◌+◌, ◌<◌, Bool, true, false, cond, not, ◌&&◌, ◌||◌, Option, Some, None, List, [], ◌∷◌, ◌++◌, map, filter, length, get_or, refl, ap, sym, ◌∙◌, subst, inl, inr, arith}
+use Rattle.std.proofs.Common.{◌≡◌, ℕ, zero, suc, ◌+◌, ◌<◌, Bool, true, false, cond, ◌&&◌, ◌||◌, Some, None, List, [], ◌∷◌, ◌++◌, map, filter, length, get_or, refl, ap, sym, ◌∙◌, subst, inl, inr, arith}
 use Rattle.std.specs.Prelude.{is_some, if◌then◌else◌}
 use Rattle.std.specs.List.{AllByRecursion}
 use Rattle.std.specs.Ordering.{is_eq}
@@ -7,17 +7,15 @@ use Rattle.std.proofs.lemmas.Bool.{cases_Bool, false≢true}
 use Rattle.std.proofs.lemmas.List.{length-map}
 use Rattle.px_cells.specs.CellData.{CellData}
 use Rattle.px_cells.specs.declared.kind.CellKind.{CellKind}
-use Rattle.px_cells.specs.Contents.{value_at}
 use Rattle.px_cells.specs.Order.{GoesWith}
 use Rattle.px_cells.specs.declared.kind.CellKind.TheVariants.{Put, Delete, DeleteFamilyVersion, DeleteColumn, DeleteFamily}
-use Rattle.px_cells.specs.Among.{Has}
 use Rattle.px_cells.proofs.Among.{all_has, has_all, reads_from_has}
 use Rattle.px_cells.proofs.Contents.{value_from_reads}
 use Rattle.px_batchcells.proofs.RowsMade.{closes_made, marks_made}
 use Rattle.px_forms.specs.Indexes.{IndexForm, IsIndexForm, IsPlaced}
 use Rattle.px_groupworld.specs.Group.{table_form}
 use Rattle.px_indexrow.specs.Lists.{closes_of, marks_of}
-use Rattle.px_openbatches.specs.Made.{IsComputed, IsIndexRow, IsPutOfRow, RowCells}
+use Rattle.px_openbatches.specs.Made.{IsComputed, IsIndexRow, IsPutOfRow}
 use Rattle.px_openbatches.specs.Pending.{HeldBatch, flagged, fresh_held, is_pending_in}
 use Rattle.px_rows.specs.Keys.{row_key}
 use Rattle.px_rows.specs.Spelled.{cells_at, change_cells, row_form, table_form as row_table}
@@ -33,7 +31,7 @@ use Rattle.px_values.specs.declared.change.What.TheVariants.{Set, Gone}
 use Rattle.px_values.specs.declared.name.TableId.{TableId}
 use Rattle.px_values.specs.declared.row.Value.{Value}
 use Rattle.px_phases.specs.declared.transition.Transition.{Transition}
-use Rattle.px_phases.specs.Batch.{BatchData, IsHeldAs}
+use Rattle.px_phases.specs.Batch.{IsHeldAs}
 use Rattle.px_phases.specs.Begun.{AreFrom, begun_batch, made_rows, no_form}
 use Rattle.px_phases.specs.Phases.{ArePuts, AreTransitions, IsPut, IsTransition, close_parts, mark_parts}
 use Rattle.px_phases.proofs.Held.{first_new, or_right}

@@ -1,9 +1,9 @@
 -- What is made of the first rows, and of one more.
-use Rattle.std.proofs.Common.{◌≡◌, ℕ, zero, suc, ◌+◌, ◌<◌, ◌≤◌, ◌⊎◌, true, List, [], ◌∷◌, ◌++◌, length, take, get_or, refl, ap, sym, ◌∙◌, subst, inl, inr, arith}
+use Rattle.std.proofs.Common.{◌≡◌, ℕ, zero, suc, ◌+◌, ◌<◌, ◌⊎◌, true, List, [], ◌∷◌, ◌++◌, length, take, get_or, refl, ap, sym, ◌∙◌, subst, inl, inr, arith}
 use Rattle.std.specs.List.{AllByRecursion}
 use Rattle.px_cells.specs.CellData.{CellData}
 use Rattle.px_cells.specs.Order.{IsApart}
-use Rattle.px_forms.specs.Indexes.{IndexForm, IsIndexForm, IsPlaced, shape_at}
+use Rattle.px_forms.specs.Indexes.{IndexForm, IsIndexForm, IsPlaced}
 use Rattle.px_batchcells.proofs.RowsMade.{closes_made, marks_made}
 use Rattle.px_indexrow.proofs.StatesFit.{apply_fits}
 use Rattle.px_indexrow.specs.Form.{FitsState, IsLong, IsRightIndex, index_form}
@@ -13,14 +13,14 @@ use Rattle.px_openbatches.specs.Made.{IsCellOfRow}
 use Rattle.px_rows.specs.Keys.{IsRightTable}
 use Rattle.px_tables.specs.declared.index.Index.{Index}
 use Rattle.px_tables.specs.declared.table.Table.{Table}
-use Rattle.px_trail.specs.Batches.{has, is_distinct, rows_of}
+use Rattle.px_trail.specs.Batches.{is_distinct, rows_of}
 use Rattle.px_trail.specs.Trail.{table_shape}
 use Rattle.px_values.specs.declared.change.Change.{Change}
 use Rattle.px_values.specs.declared.row.Value.{Value}
 use Rattle.px_phases.specs.declared.transition.Transition.{Transition}
 use Rattle.px_phases.specs.Phases.{AreTransitions, HasLongIndexed, IsTransition, close_parts, mark_parts}
 use Rattle.px_phases.proofs.Rows.{AreTheirs, new_at, other_keys}
-use Rattle.px_phases.proofs.Small.{HasSmall, IsSmall, closes_small, fitting, index_small, key_short, marks_small}
+use Rattle.px_phases.proofs.Small.{IsSmall, closes_small, fitting, index_small, key_short, marks_small}
 use Rattle.px_phases.proofs.Spread.{closes_apart, marks_apart}
 
 pub same_count : (t : Table) (cs : List Change) (xs : List Transition) → AreTransitions t cs xs → length xs ≡ length cs

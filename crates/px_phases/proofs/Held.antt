@@ -1,5 +1,5 @@
 -- What an open batch hands out is what its table's steps ask for.
-use Rattle.std.proofs.Common.{◌≡◌, ◌≢◌, ℕ, zero, suc, ◌+◌, ◌<◌, Bool, true, false, cond, not, ◌&&◌, ◌||◌, Option, Some, None, List, [], ◌∷◌, ◌++◌, map, filter, length, get_or, refl, ap, sym, ◌∙◌, subst, inl, inr, arith}
+use Rattle.std.proofs.Common.{◌≡◌, ℕ, suc, ◌+◌, Bool, true, false, cond, not, ◌&&◌, ◌||◌, Option, Some, None, List, [], ◌∷◌, ◌++◌, map, filter, length, get_or, refl, ap, sym, ◌∙◌, subst, inl, inr, arith}
 use Rattle.std.specs.Prelude.{is_some, nat_eq, if◌then◌else◌}
 use Rattle.std.specs.List.{AllByRecursion, list_any}
 use Rattle.std.specs.Ordering.{is_eq}
@@ -178,7 +178,13 @@ module _ (b : BatchData) (h : HeldBatch) (is : IsHeldAs b h) where
 
   pub marked : (parts : List (List CellData)) (rest : List (List (List CellData))) → b.marks ≡ parts ∷ rest → IsHeldAs (record b { marks = rest }) (record h { done = h.done + 1; verified = h.verified })
   marked parts rest e = record {
-    stamp = is.stamp; changes = is.changes; rows = is.rows; distinct = is.distinct; flags = is.flags; met = is.met; written = is.written;
+    stamp = is.stamp;
+    changes = is.changes;
+    rows = is.rows;
+    distinct = is.distinct;
+    flags = is.flags;
+    met = is.met;
+    written = is.written;
     to_mark = (let n = ap length e in let m = is.to_mark in omega arith);
     to_verify = is.to_verify;
     marks = λ k l.
@@ -190,7 +196,13 @@ module _ (b : BatchData) (h : HeldBatch) (is : IsHeldAs b h) where
 
   pub verified : (parts : List (List CellData)) (rest : List (List (List CellData))) → b.closes ≡ parts ∷ rest → IsHeldAs (record b { closes = rest }) (record h { done = h.done; verified = h.verified + 1 })
   verified parts rest e = record {
-    stamp = is.stamp; changes = is.changes; rows = is.rows; distinct = is.distinct; flags = is.flags; met = is.met; written = is.written;
+    stamp = is.stamp;
+    changes = is.changes;
+    rows = is.rows;
+    distinct = is.distinct;
+    flags = is.flags;
+    met = is.met;
+    written = is.written;
     to_mark = is.to_mark;
     to_verify = (let n = ap length e in let m = is.to_verify in omega arith);
     marks = is.marks;
@@ -202,11 +214,19 @@ module _ (b : BatchData) (h : HeldBatch) (is : IsHeldAs b h) where
 
   pub wrote : (parts : List (List CellData)) → b.puts ≡ Some parts → IsHeldAs (record b { puts = None }) (writes_rows h.stamp (rows_of h.changes) h)
   wrote parts e = record {
-    stamp = is.stamp; changes = is.changes; rows = is.rows; distinct = is.distinct; flags = is.flags; met = is.met;
+    stamp = is.stamp;
+    changes = is.changes;
+    rows = is.rows;
+    distinct = is.distinct;
+    flags = is.flags;
+    met = is.met;
     written = λ r.
         ap (λ (v : Bool). has (cond v (h.written ++ rows_of h.changes) h.written) r) (same_stamp h.stamp)
         ∙ (has-append h.written (rows_of h.changes) r ∙ (ap (λ (v : Bool). v || has (rows_of h.changes) r) (is.written r ∙ ap (λ (o : Option (List (List CellData))). not (is_some o) && has (rows_of b.changes) r) e) ∙ ap (λ (cs : List Change). has (rows_of cs) r) is.changes));
-    to_mark = is.to_mark; to_verify = is.to_verify; marks = is.marks; closes = is.closes;
+    to_mark = is.to_mark;
+    to_verify = is.to_verify;
+    marks = is.marks;
+    closes = is.closes;
     puts = λ p q. cc;
   }
     where
@@ -215,9 +235,18 @@ module _ (b : BatchData) (h : HeldBatch) (is : IsHeldAs b h) where
 
   pub other_wrote : (s : ℕ) (rows : List (List Value)) → (h.stamp ≡ s → ⊥) → IsHeldAs b (writes_rows s rows h)
   other_wrote s rows n = record {
-    stamp = is.stamp; changes = is.changes; rows = is.rows; distinct = is.distinct; flags = is.flags; met = is.met;
+    stamp = is.stamp;
+    changes = is.changes;
+    rows = is.rows;
+    distinct = is.distinct;
+    flags = is.flags;
+    met = is.met;
     written = λ r. ap (λ (v : Bool). has (cond v (h.written ++ rows) h.written) r) differs ∙ is.written r;
-    to_mark = is.to_mark; to_verify = is.to_verify; marks = is.marks; closes = is.closes; puts = is.puts;
+    to_mark = is.to_mark;
+    to_verify = is.to_verify;
+    marks = is.marks;
+    closes = is.closes;
+    puts = is.puts;
   }
     where
       differs : nat_eq h.stamp s ≡ false
@@ -272,8 +301,16 @@ module _ (b : BatchData) (h : HeldBatch) (is : IsHeldAs b h) where
 
     pub met_held : IsHeldAs (record b { met = if is_some b.puts then meet_flags (rows_of others) b.met (rows_of b.changes) else b.met }) (meets others h)
     met_held = record {
-      stamp = is.stamp; changes = is.changes; rows = is.rows; distinct = is.distinct;
+      stamp = is.stamp;
+      changes = is.changes;
+      rows = is.rows;
+      distinct = is.distinct;
       flags = flags_stay b.puts;
       met = met_is b.puts refl (is_left h) refl;
-      written = is.written; to_mark = is.to_mark; to_verify = is.to_verify; marks = is.marks; closes = is.closes; puts = is.puts;
+      written = is.written;
+      to_mark = is.to_mark;
+      to_verify = is.to_verify;
+      marks = is.marks;
+      closes = is.closes;
+      puts = is.puts;
     }

@@ -1,5 +1,5 @@
 -- The data cells of rows are such as a log takes, and each row's are its own.
-use Rattle.std.proofs.Common.{◌≡◌, ◌≢◌, ℕ, zero, suc, ◌+◌, ◌<◌, ◌≤◌, Bool, true, false, cond, ◌&&◌, Option, Some, None, List, [], ◌∷◌, ◌++◌, length, take, get_or, refl, ap, sym, ◌∙◌, subst, inl, inr, arith}
+use Rattle.std.proofs.Common.{◌≡◌, ◌≢◌, ℕ, zero, suc, ◌+◌, ◌<◌, ◌≤◌, Bool, true, false, cond, ◌&&◌, Option, Some, None, List, [], ◌∷◌, ◌++◌, length, take, get_or, refl, ap, sym, ◌∙◌, subst, arith}
 use Rattle.std.specs.Prelude.{nat_eq}
 use Rattle.std.specs.Cmp.Lexicographic.{pointwise}
 use Rattle.std.specs.List.{AllByRecursion}
@@ -7,15 +7,14 @@ use Rattle.std.proofs.lemmas.Bool.{eqb-true}
 use Rattle.px_cells.specs.declared.kind.CellKind.{CellKind}
 use Rattle.px_cells.specs.declared.kind.CellKind.TheVariants.{Put, Delete, DeleteFamilyVersion, DeleteColumn, DeleteFamily}
 use Rattle.px_cells.specs.CellData.{CellData}
-use Rattle.px_cells.specs.Among.{Has}
-use Rattle.px_cells.specs.Contents.{or_else, value_at}
-use Rattle.px_cells.specs.Order.{Below, GoesWith, IsApart, IsAscending, IsCellList, Reads, SamePlace}
+use Rattle.px_cells.specs.Contents.{or_else}
+use Rattle.px_cells.specs.Order.{Below, GoesWith, IsApart, IsAscending, SamePlace}
 use Rattle.px_cells.proofs.Among.{all_has, has_all, reads_from_has}
 use Rattle.px_cells.proofs.Contents.{value_from_reads}
 use Rattle.px_cells.proofs.Orders as order
 use Rattle.px_keptcells.specs.Kept.{HaveOtherKeys, IsFitting, laid}
 use Rattle.px_rows.specs.Keys.{IsRightTable, column_in, row_key}
-use Rattle.px_rows.specs.Spelled.{FitsColumnOf, FitsTable, FitsWhat, assigned_to, cells_at, change_cells, family_of, null_value, put_value, set_null, set_put, table_form}
+use Rattle.px_rows.specs.Spelled.{FitsColumnOf, FitsTable, FitsWhat, assigned_to, cells_at, change_cells, null_value, put_value, table_form}
 use Rattle.px_tables.specs.declared.table.Table.{Table}
 use Rattle.px_trail.specs.Batches.{is_distinct, rows_of}
 use Rattle.px_values.specs.Types.{HasType}
@@ -27,7 +26,7 @@ use Rattle.px_values.specs.declared.row.Value.{Value}
 use Rattle.px_values.specs.declared.row.Value.TheVariants.{Null, Number, Truth, Text}
 use Rattle.px_phases.specs.Phases.{ArePuts, IsPut}
 use Rattle.px_phases.proofs.Rows.{AreTheirs, new_at, other_keys}
-use Rattle.px_phases.proofs.Small.{IsSmall, fitting, stored_short}
+use Rattle.px_phases.proofs.Small.{fitting, stored_short}
 
 pub ascending_apart : (cells : List CellData) → IsAscending cells → IsApart cells
 ascending_apart [] a = tt

@@ -1,26 +1,18 @@
 -- The cells of index rows are such as a log takes, and no two of a row have one place.
-use Rattle.std.proofs.Common.{◌≡◌, ℕ, zero, suc, ◌+◌, ◌<◌, ◌≤◌, ◌^◌, Bool, true, false, cond, ◌⊎◌, Option, Some, None, List, [], ◌∷◌, ◌++◌, length, get_or, refl, ap, sym, ◌∙◌, subst, inl, inr, arith}
+use Rattle.std.proofs.Common.{◌≡◌, ℕ, zero, suc, ◌<◌, ◌≤◌, Bool, true, false, cond, Option, Some, None, List, [], ◌∷◌, ◌++◌, length, get_or, refl, subst, arith}
 use Rattle.std.specs.Prelude.{nat_eq}
 use Rattle.std.specs.Cmp.Lexicographic.{pointwise}
 use Rattle.std.specs.List.{AllByRecursion}
-use Rattle.std.specs.Int.{bytes_high_first}
-use Rattle.std.proofs.lemmas.Bool.{cases_Bool, false≢true}
-use Rattle.px_cells.specs.declared.kind.CellKind.TheVariants.{Put, DeleteColumn, DeleteFamily}
 use Rattle.px_cells.specs.CellData.{CellData}
-use Rattle.px_cells.specs.Among.{Has}
-use Rattle.px_cells.specs.Order.{GoesWith, IsApart, SamePlace}
-use Rattle.px_cells.proofs.Among.{all_has, has_all, has_append}
-use Rattle.px_cells.proofs.Keys.{keys_differ}
-use Rattle.px_cellbytes.specs.Reading.{IsBare, IsInRange}
-use Rattle.px_cellbytes.specs.Spelling.{IsShortEnough}
-use Rattle.px_forms.specs.Indexes.{IndexForm, IsIndexForm, IsPlaced}
+use Rattle.px_cells.specs.Order.{GoesWith}
+use Rattle.px_cellbytes.specs.Reading.{IsBare}
+use Rattle.px_forms.specs.Indexes.{IndexForm}
 use Rattle.px_indexrow.specs.Form.{FitsState, IsLong, IsRightIndex, bytes_if, column_bytes, included_at, index_columns, index_form, index_values, key_of_state, owns}
 use Rattle.px_indexrow.specs.Lists.{closes_of, column_cell, column_cells, family_cell, family_if, left_key, marks_of, status_cell, status_if, version_if}
 use Rattle.px_keptcells.specs.Kept.{IsFitting}
-use Rattle.px_keptcells.proofs.Parts.{apart_join}
-use Rattle.px_keys.specs.Spelling.{byte_width, rank, spelled}
+use Rattle.px_keys.specs.Spelling.{rank, spelled}
 use Rattle.px_keys.proofs.Compared.{length-bytes_high_first}
-use Rattle.px_rows.specs.Keys.{IsRightTable, column_in}
+use Rattle.px_rows.specs.Keys.{column_in}
 use Rattle.px_rows.specs.Stored.{stored}
 use Rattle.px_tables.specs.declared.index.Index.{Index}
 use Rattle.px_tables.specs.declared.table.Table.{Table}

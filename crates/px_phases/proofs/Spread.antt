@@ -1,15 +1,14 @@
 -- No two cells of a row's marks, or of what closes them, have one place.
-use Rattle.std.proofs.Common.{◌≡◌, ℕ, zero, suc, ◌<◌, ◌≤◌, Bool, true, false, cond, not, Option, Some, None, List, [], ◌∷◌, ◌++◌, refl, ap, sym, ◌∙◌, subst, inl, inr, arith}
+use Rattle.std.proofs.Common.{◌≡◌, ℕ, zero, suc, ◌<◌, ◌≤◌, Bool, true, false, cond, not, Option, Some, None, List, [], ◌∷◌, refl, ap, sym, ◌∙◌, arith}
 use Rattle.std.specs.Prelude.{nat_eq}
 use Rattle.std.specs.Cmp.Lexicographic.{pointwise}
 use Rattle.std.specs.List.{AllByRecursion}
 use Rattle.px_cells.specs.CellData.{CellData}
-use Rattle.px_cells.specs.Among.{Has}
 use Rattle.px_cells.specs.Order.{IsApart, SamePlace}
 use Rattle.px_cells.proofs.Among.{all_has}
 use Rattle.px_cells.proofs.Keys.{keys_differ}
 use Rattle.px_forms.specs.Indexes.{IndexForm, IsPlaced}
-use Rattle.px_indexrow.specs.Lists.{closes_of, column_cell, column_cells, family_cell, family_if, left_key, marks_of, status_cell, status_if, version_if}
+use Rattle.px_indexrow.specs.Lists.{closes_of, column_cell, column_cells, family_if, left_key, marks_of, status_cell, status_if, version_if}
 use Rattle.px_keptcells.proofs.Parts.{apart_join}
 use Rattle.px_values.specs.States.{RowState}
 use Rattle.px_values.specs.declared.row.Value.{Value}

@@ -1,5 +1,5 @@
 -- A batch that begins.
-use Rattle.std.specs.Prelude.{◌≡◌, ℕ, Bool, false, List, [], ◌∷◌, map, Option, Some, None}
+use Rattle.std.specs.Prelude.{◌≡◌, ℕ, Bool, false, List, [], ◌∷◌, map, Some, None}
 use Rattle.px_cells.specs.CellData.{CellData}
 use Rattle.px_forms.specs.Indexes.{IndexForm}
 use Rattle.px_indexrow.specs.Lists.{closes_of, marks_of}

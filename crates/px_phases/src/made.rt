@@ -39,7 +39,15 @@ pub fn marks_of_rows(
     for place in 0..changes.len() {
         let row = changes[place].row.as_slice();
         let transition = &transitions[place];
-        let cells = marks(alloc, table, index, row, &transition.old, &transition.new, stamp)?;
+        let cells = marks(
+            alloc,
+            table,
+            index,
+            row,
+            &transition.old,
+            &transition.new,
+            stamp,
+        )?;
         kept.add(cells)?;
     }
     Ok(kept)
@@ -66,7 +74,15 @@ pub fn closes_of_rows(
     for place in 0..changes.len() {
         let row = changes[place].row.as_slice();
         let transition = &transitions[place];
-        let cells = closes(alloc, table, index, row, &transition.old, &transition.new, stamp)?;
+        let cells = closes(
+            alloc,
+            table,
+            index,
+            row,
+            &transition.old,
+            &transition.new,
+            stamp,
+        )?;
         kept.add(cells)?;
     }
     Ok(kept)

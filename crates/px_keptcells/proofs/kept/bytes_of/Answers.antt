@@ -1,5 +1,4 @@
-use Rattle.std.proofs.Common.{arith, ap, length, take}
-use Rattle.px_cells.specs.CellData.{CellData}
+use Rattle.std.proofs.Common.{arith, ap, length}
 use Rattle.px_cellbytes.specs.Spelling.{all_bytes}
 use Rattle.px_keptcells.proofs.Parts.{part_bytes_next}
 use Rattle.px_keptcells.proofs.kept.bytes_of.Goals as goal

@@ -1,4 +1,4 @@
-use Rattle.std.proofs.Common.{arith, ap, length}
+use Rattle.std.proofs.Common.{arith}
 use Rattle.px_keptcells.proofs.Parts.{laid_next}
 use Rattle.px_keptcells.proofs.kept.count_of.Goals as goal
 

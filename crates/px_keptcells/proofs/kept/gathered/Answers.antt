@@ -1,4 +1,4 @@
-use Rattle.std.proofs.Common.{◌≡◌, ◌≤◌, ◌<◌, ◌+◌, ◌∙◌, ℕ, List, ◌++◌, ◌∷◌, [], take, length, vec_len, vec_capacity, sym, subst, ap, arith, true, false, Bool, get_or}
+use Rattle.std.proofs.Common.{◌≡◌, ◌<◌, ◌+◌, ◌∙◌, ℕ, List, ◌++◌, take, length, vec_len, vec_capacity, sym, subst, ap, arith, true, false, Bool, get_or}
 use Rattle.std.specs.List.Sorted.{IsPermutation}
 use Rattle.std.proofs.lemmas.List.{take_all}
 use Rattle.px_cells.specs.CellData.{CellData}

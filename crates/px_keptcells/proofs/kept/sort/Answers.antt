@@ -1,7 +1,5 @@
 use Rattle.std.proofs.Common.{rules}
-use Rattle.std.specs.Ordering.{is_lt}
 use Rattle.std.proofs.lemmas.List.Sorted.{answers_always, ranks_by}
-use Rattle.px_cells.specs.Order.{cell_cmp}
 use Rattle.px_cells.proofs.Orders.{cell_cmp_total}
 use Rattle.px_keptcells.proofs.Sorted.{before, sorted_ascending}
 use Rattle.px_keptcells.proofs.kept.sort.Goals as goal

@@ -1,22 +1,20 @@
-use Rattle.std.proofs.Common.{◌≡◌, ◌<◌, ◌∙◌, ◌+◌, ◌++◌, ◌∷◌, [], ℕ, List, length, take, get_or, sym, subst, ap, arith, rules, refl, Err, inl, inr, ◌⊎◌}
+use Rattle.std.proofs.Common.{◌≡◌, ◌<◌, ◌∙◌, ◌++◌, ◌∷◌, [], List, length, take, sym, subst, ap, arith, rules, refl, Err, inl, inr, ◌⊎◌}
 use Rattle.std.specs.List.{AllByRecursion}
 use Rattle.std.proofs.lemmas.List.{take_all}
 use Rattle.px_cells.specs.CellData.{CellData}
 use Rattle.px_cells.specs.Order.{IsApart}
-use Rattle.px_indexrow.specs.Form.{FitsState, IsLong, index_form}
+use Rattle.px_indexrow.specs.Form.{IsLong, index_form}
 use Rattle.px_indexrow.proofs.KeysHeld.{form_laws, form_placed}
 use Rattle.px_indexrow.specs.Lists.{marks_of}
 use Rattle.px_keptcells.specs.Kept.{HaveOtherKeys, IsFitting, laid}
 use Rattle.px_keys.specs.Spelling.{Fits}
 use Rattle.px_rows.specs.Keys.{row_columns}
 use Rattle.px_rows.specs.declared.fault.RowFault.{RowFault}
-use Rattle.px_tables.specs.declared.index.Index.{Index}
-use Rattle.px_tables.specs.declared.table.Table.{Table}
 use Rattle.px_values.specs.declared.change.Change.{Change}
 use Rattle.px_values.specs.declared.row.Value.{Value}
 use Rattle.px_phases.specs.declared.transition.Transition.{Transition}
-use Rattle.px_phases.specs.Phases.{HasLongIndexed, IsTransition, mark_parts}
-use Rattle.px_phases.proofs.FirstRows.{IsGood, Owns, long_at, long_next, marks_elsewhere, marks_good, marks_next, new_fits, same_count, transition_at}
+use Rattle.px_phases.specs.Phases.{HasLongIndexed, mark_parts}
+use Rattle.px_phases.proofs.FirstRows.{Owns, long_at, long_next, marks_elsewhere, marks_good, marks_next, new_fits, same_count, transition_at}
 use Rattle.px_phases.proofs.made.marks_of_rows.Goals as goal
 
 pub bounds-transitions-place : goal.bounds-transitions-place

@@ -1,13 +1,10 @@
-use Rattle.std.proofs.Common.{◌≡◌, ◌≢◌, ◌<◌, ◌≤◌, ◌∙◌, ◌+◌, ◌++◌, ◌∷◌, [], ℕ, List, length, take, get_or, sym, subst, ap, arith, rules, refl, Err}
-use Rattle.std.specs.List.{AllByRecursion}
-use Rattle.std.proofs.lemmas.List.{take_all}
-use Rattle.px_cells.specs.CellData.{CellData}
+use Rattle.std.proofs.Common.{◌≡◌, ◌≤◌, ◌+◌, length, take, sym, subst, arith, rules, Err}
 use Rattle.px_rows.proofs.Spelled.{table_laws}
 use Rattle.px_rows.specs.Keys.{row_key}
-use Rattle.px_rows.specs.Spelled.{FitsTable, row_form}
+use Rattle.px_rows.specs.Spelled.{FitsTable}
 use Rattle.px_rows.specs.declared.fault.RowFault.{RowFault}
 use Rattle.px_values.specs.declared.change.Change.{Change}
-use Rattle.px_phases.specs.Phases.{ArePuts, IsPut}
+use Rattle.px_phases.specs.Phases.{ArePuts}
 use Rattle.px_phases.proofs.Assigned.{all_at}
 use Rattle.px_phases.proofs.Puts.{ascending_apart, put_fits, puts_elsewhere, puts_next}
 use Rattle.px_phases.proofs.made.puts_of_rows.Goals as goal

@@ -1,4 +1,4 @@
-use Rattle.std.proofs.Common.{◌≡◌, ◌∙◌, Some, sym, ap, rules}
+use Rattle.std.proofs.Common.{◌≡◌, Some, rules}
 use Rattle.px_phases.specs.Batch.{left_in}
 use Rattle.px_phases.proofs.Left.{left_fits}
 use Rattle.px_phases.proofs.pending.after.Goals as goal

@@ -1,4 +1,4 @@
-use Rattle.std.proofs.Common.{◌≡◌, ◌∙◌, ap, sym, subst, take}
+use Rattle.std.proofs.Common.{◌∙◌, ap, sym, subst}
 use Rattle.px_indexrow.specs.Form.{FitsState}
 use Rattle.px_openbatches.specs.Pending.{applied_if}
 use Rattle.px_trail.specs.Trail.{table_shape}

@@ -1,8 +1,8 @@
-use Rattle.std.proofs.Common.{◌≡◌, ◌∙◌, ℕ, List, ap, sym, arith, length, length-set, take}
+use Rattle.std.proofs.Common.{◌∙◌, List, ap, sym, length-set, take}
 use Rattle.std.specs.Prelude.{slice_set}
 use Rattle.px_values.specs.States.{assigned}
 use Rattle.px_values.specs.declared.row.Value.{Value}
-use Rattle.px_phases.proofs.Assigned.{all_at, assigned_more}
+use Rattle.px_phases.proofs.Assigned.{assigned_more}
 use Rattle.px_phases.proofs.transition.assigned.Goals as goal
 
 pub loop-assignment-preserved : goal.loop-assignment-preserved

@@ -1,13 +1,8 @@
-use Rattle.std.proofs.Common.{◌≡◌, ◌<◌, ◌∙◌, ℕ, List, sym, ap, subst, length, Some, None}
+use Rattle.std.proofs.Common.{◌≡◌, ◌<◌, ◌∙◌, sym, ap, subst, length}
 use Rattle.std.specs.List.{AllByRecursion}
-use Rattle.std.specs.Option.{unwrap_or}
 use Rattle.px_indexrow.proofs.KeysHeld.{row_count}
-use Rattle.px_rows.specs.Spelled.{FitsTable, FitsWhat}
-use Rattle.px_trail.specs.Trail.{table_shape}
-use Rattle.px_values.specs.States.{RowState, fresh_row}
+use Rattle.px_rows.specs.Spelled.{FitsWhat}
 use Rattle.px_values.specs.declared.change.Assignment.{Assignment}
-use Rattle.px_values.specs.declared.change.What.{What}
-use Rattle.px_values.specs.declared.row.Value.{Value}
 use Rattle.px_phases.proofs.Assigned.{columns_within, values_count}
 use Rattle.px_phases.proofs.transition.changed.Goals as goal
 

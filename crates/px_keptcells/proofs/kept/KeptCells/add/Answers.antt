@@ -1,9 +1,8 @@
-use Rattle.std.proofs.Common.{◌≡◌, ◌≤◌, ◌++◌, ◌∷◌, [], arith, subst, sym, ap, length, vec_len, vec_capacity, List}
+use Rattle.std.proofs.Common.{◌≡◌, ◌++◌, ◌∷◌, [], arith, subst, sym, ap, length, vec_len, List}
 use Rattle.std.specs.List.{AllByRecursion}
 use Rattle.px_cells.specs.CellData.{CellData}
 use Rattle.px_cells.specs.Order.{IsApart}
 use Rattle.px_keptcells.specs.Kept.{HaveOtherKeys, IsFitting, laid}
-use Rattle.px_keptcells.specs.inner.Room.{IsRoomy}
 use Rattle.px_keptcells.proofs.Parts.{either, more_all, more_apart, popped_room}
 use Rattle.px_keptcells.proofs.kept.KeptCells.add.Goals as goal
 
