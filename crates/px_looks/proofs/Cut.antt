@@ -1,8 +1,8 @@
 -- Rows that are given up to one that isn't wanted, and the range that they are.
 use Rattle.std.proofs.Common.{◌≡◌, ℕ, zero, suc, add-one, cond, ◌+◌, ◌-◌, ◌<◌, ◌≤◌, true, false, Bool, Option, Some, List, [], ◌∷◌, ◌++◌, length, take, get_or, refl, ap, sym, subst, ◌∙◌, append_assoc, inl, inr, arith}
-use Rattle.std.specs.Prelude.{min, not, nat_eq}
-use Rattle.std.proofs.lemmas.Bool.{cases_Bool}
-use Rattle.std.proofs.lemmas.List.{length-append}
+use Rattle.std.specs.Prelude.{min, not, nat_eq, nat_lt, drop}
+use Rattle.std.proofs.lemmas.Bool.{cases_Bool, lt-ltb, ltb-true}
+use Rattle.std.proofs.lemmas.List.{length-append, length-take-le, take-append-drop}
 use Rattle.std.specs.Cmp.Lexicographic.{pointwise}
 use Rattle.std.specs.declared.cmp.Ordering.TheVariants.{Less}
 use Rattle.px_cells.specs.declared.kind.CellKind.TheVariants.{Put}
@@ -17,7 +17,7 @@ use Rattle.px_cells.proofs.Orders.{below_from_order, not_below_itself, below_tra
 use Rattle.px_cells.proofs.Orders.Order.{by_key}
 use Rattle.px_region.specs.Giving.{IsGiven, begins_row, key_at, rows_before}
 use Rattle.px_region.proofs.Given.{begins_by, begins_first, begins_next, row_none, row_step}
-use Rattle.px_looks.specs.Keys.{next_key}
+use Rattle.px_looks.specs.Keys.{IsWithin, next_key}
 use Rattle.px_looks.proofs.KeyOrder.{before_up, equal, higher, key_itself, keys_by, less_next, lower, next_less}
 
 abbrev pub no_cell : CellData
@@ -198,3 +198,55 @@ rows_counted held cells c old new is before after =
 
 pub no_rows : (n : ℕ) → n ≡ 0 → n ≡ min (rows_before [] 0) 18446744073709551615
 no_rows n is = (let z = row_none [] in omega arith)
+
+-- ---- what a taker has that wants so many rows
+
+has_at : (cells : List CellData) (i : ℕ) (d : CellData) → i < length cells → Has cells (get_or cells i d)
+has_at [] i d lt = absurd (omega arith)
+has_at (c ∷ cells) zero d lt = inl refl
+has_at (c ∷ cells) (suc i) d lt = inr (has_at cells i d (omega arith))
+
+pub key_in_rows : (all : List CellData) (low : List ℕ) (high : Option (List ℕ)) (rows : List CellData) → AreRows all low high rows → (i : ℕ) → i < length rows → IsWithin low high (key_at rows i)
+key_in_rows all low high rows are i lt = ((are.exact (get_or rows i no_cell)).0 (reads_from_has rows (get_or rows i no_cell) are.ascending (has_at rows i no_cell lt))).1
+
+abbrev pub wants_few : ℕ → List CellData → Bool
+wants_few most l = nat_lt (min (rows_before l (length l)) 18446744073709551615) most
+
+pub record IsTaken (cells : List CellData) (low : List ℕ) (high : Option (List ℕ)) (most rows : ℕ) (got : List CellData) : Type 0 where
+  pub counted : rows ≡ min (rows_before got (length got)) 18446744073709551615
+  pub few : rows_before got (length got) ≤ most
+  pub all : rows < most → AreRows cells low high got
+  pub part : 0 < length got → AreRows cells low (Some (next_key (key_at got (length got - 1)))) got
+  pub within : 0 < length got → IsWithin low high (key_at got (length got - 1))
+
+wanted : (rows most : ℕ) → most ≤ 18446744073709551615 → nat_lt (min rows 18446744073709551615) most ≡ true → rows < most
+wanted rows most fits h = (let l = ltb-true _ _ h in omega arith)
+
+module _ (cells : List CellData) (low : List ℕ) (high : Option (List ℕ)) (most n : ℕ) (all : List CellData) (fits : most ≤ 18446744073709551615) (are : AreRows cells low high all) (given : IsGiven (wants_few most) [] all n) where
+  len : (i : ℕ) → i ≤ length all → length (take i all) ≡ i
+  len i le = length-take-le i all le
+
+  from : 0 < length (take n all) → 0 < n
+  from some = (let l = len n given.within in omega arith)
+
+  rows_of : (i : ℕ) → i ≤ length all → rows_before (take i all) (length (take i all)) ≡ rows_before all i
+  rows_of i le =
+      ap (rows_before (take i all)) (len i le) ∙ sym (rows_front (take i all) (drop i all) i (let l = len i le in omega arith)) ∙ ap (λ (l : List CellData). rows_before l i) (take-append-drop i all)
+
+  last_key : 0 < length (take n all) → key_at (take n all) (length (take n all) - 1) ≡ key_at all (n - 1)
+  last_key some =
+      ap (λ (m : ℕ). key_at (take n all) (m - 1)) (len n given.within)
+      ∙ ap (λ (x : CellData). x.key) (sym (front_at (take n all) (drop n all) (n - 1) no_cell (let l = len n given.within in let f = from some in omega arith))) ∙ ap (λ (l : List CellData). key_at l (n - 1)) (take-append-drop n all)
+
+  fewer : (i : ℕ) → i < n → wants_few most (take i all) ≡ true → rows_before all i < most
+  fewer i lt w = subst (λ (k : ℕ). k < most) (rows_of i (let g = given.within in omega arith)) (wanted (rows_before (take i all) (length (take i all))) most fits w)
+
+  pub taken_by : (rows : ℕ) (got : List CellData) → got ≡ take n all → rows ≡ min (rows_before (take n all) (length (take n all))) 18446744073709551615 → IsTaken cells low high most rows got
+  taken_by rows got is counted = subst (IsTaken cells low high most rows) (sym is)
+      (record {
+        counted = counted;
+        few = subst (λ (k : ℕ). k ≤ most) (sym (rows_of n given.within)) (given_few all (wants_few most) n most given fewer n (omega arith));
+        all = λ less. given_all cells low high all (wants_few most) n are given (lt-ltb _ _ (subst (λ (k : ℕ). k < most) counted less));
+        part = λ some. subst (λ (k : List ℕ). AreRows cells low (Some (next_key k)) (take n all)) (sym (last_key some)) (given_to cells low high all (wants_few most) n are given (from some));
+        within = λ some. subst (IsWithin low high) (sym (last_key some)) (key_in_rows cells low high all are (n - 1) (let f = from some in let w = given.within in omega arith));
+      })

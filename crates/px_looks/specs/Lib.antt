@@ -1,1 +1,4 @@
+pub mod Found
 pub mod Keys
+pub mod Rows
+pub mod inner

@@ -1,10 +1,16 @@
 //! What is read of a table out of its regions.
 //!
-//! `row_state` gives the row that a point sees, by its cells alone. A region is told by what is read of it (`read_of`), so
-//! each promise is about cells, in the words of their forms, and holds wherever the cells lie.
+//! `row_state` gives the row that a point sees, by its cells alone, and `look_rows` the next rows of a table in order, 64 at
+//! most, with none missing. A region is told by what is read of it (`read_of`), so each promise is about cells, in the words of
+//! their forms, and holds wherever the cells lie.
 #![tactic(auto)]
 
 mod gathered;
+mod next;
+mod reader;
 mod row;
+mod rows;
 
+pub use next::NextKeys;
 pub use row::row_state;
+pub use rows::look_rows;

@@ -1,0 +1,17 @@
+use Rattle.std.proofs.Common.{◌≡◌, ◌<◌, ◌≤◌, length}
+use Rattle.std.specs.Option.{option_copied}
+use Rattle.px_cells.specs.Contents.{value_at}
+use Rattle.px_region.specs.Promise.{IsAlike, IsSamePromise}
+use Rattle.px_region.specs.Region.{read_of}
+use Rattle.px_looks.specs.inner.Parts.{FoundTo}
+use Rattle.px_looks.proofs.next.look_next.Given as goal
+
+abbrev pub invariant-loop-round : goal.invariant-loop-round
+invariant-loop-round g l = record {
+  found : FoundTo (g.R.Reader.shows l.reader) (value_at (read_of l.fn.region)) l.initial.from (option_copied l.high) l.from l.found.items;
+  few : length l.found.items < 64;
+  alike : IsAlike l.fn.region l.region;
+  promised : IsSamePromise l.fn.region l.region;
+  risen : l.fn.region.looked ≤ l.region.looked;
+  untouched : l.disk ≡ l.fn.disk;
+}
