@@ -15,3 +15,5 @@ pub mod Drops
 pub mod Makes
 pub mod Ends
 pub mod Births
+pub mod Swaps
+pub mod Readies

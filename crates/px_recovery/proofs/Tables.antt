@@ -49,7 +49,7 @@ none_set [] j m y none lt same all = absurd (omega arith)
 none_set (z ∷ xs) zero m y none lt same all = ((λ is. all.0 (sym same ∙ is)), all.1)
 none_set (z ∷ xs) (suc j) m y none lt same all = (all.0, none_set xs j m y none (omega arith) same all.1)
 
-distinct_set : (xs : List IndexPart) (j : ℕ) (y none : IndexPart) → j < length xs → number_of y ≡ number_of (get_or xs j none) → AreDistinct number_of xs → AreDistinct number_of (set xs j y)
+pub distinct_set : (xs : List IndexPart) (j : ℕ) (y none : IndexPart) → j < length xs → number_of y ≡ number_of (get_or xs j none) → AreDistinct number_of xs → AreDistinct number_of (set xs j y)
 distinct_set [] j y none lt same once = absurd (omega arith)
 distinct_set (z ∷ xs) zero y none lt same once = (subst (λ (m : ℕ). HasNone number_of m xs) (sym same) once.0, once.1)
 distinct_set (z ∷ xs) (suc j) y none lt same once = (none_set xs j (number_of z) y none (omega arith) same once.0, distinct_set xs j y none (omega arith) same once.1)
