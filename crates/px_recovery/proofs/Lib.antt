@@ -17,3 +17,5 @@ pub mod Ends
 pub mod Births
 pub mod Swaps
 pub mod Readies
+pub mod Fewer
+pub mod IndexDrops

@@ -1,10 +1,10 @@
 -- An index becomes active.
-use Rattle.std.proofs.Common.{◌≡◌, ◌≢◌, ◌<◌, ◌≤◌, ◌⊎◌, ◌+◌, inl, inr, ℕ, Bool, true, false, Option, Some, None, List, [], ◌∷◌, ◌++◌, length, get_or, map, refl, sym, ap, subst, ◌∙◌, arith}
+use Rattle.std.proofs.Common.{◌≡◌, ◌≢◌, ◌<◌, ◌≤◌, ◌⊎◌, inl, inr, ℕ, true, false, Option, Some, None, List, [], ◌∷◌, ◌++◌, length, get_or, map, refl, sym, ap, subst, ◌∙◌, arith}
 use Rattle.std.specs.List.{AllByRecursion}
 use Rattle.std.proofs.Math.ListN.{set, length-set}
 use Rattle.std.proofs.lemmas.Bool.{cases_eq, false≢true}
 use Rattle.std.proofs.lemmas.List.{get_or-set_other, get_or-set_same, length-map}
-use Rattle.px_outside.specs.Parts.{AreDistinct, HasNone, with_part}
+use Rattle.px_outside.specs.Parts.{with_part}
 use Rattle.px_outside.proofs.Parts.{with_part-here, with_part-other}
 use Rattle.px_values.specs.declared.name.IndexId.{IndexId}
 use Rattle.px_values.specs.declared.name.TableId.{TableId}
@@ -18,22 +18,20 @@ use Rattle.px_trail.specs.Legal.{MayCome}
 use Rattle.px_trail.specs.Trail.{Base, Catalogue, catalogue_of, catalogue_step, last_of, set_number, with_state}
 use Rattle.px_trail.proofs.Growth.{catalogue-snoc, last-snoc, legal-snoc}
 use Rattle.px_trail.proofs.Standing.{set_number-other, set_number-same}
-use Rattle.px_forms.specs.Indexes.{IndexForm}
 use Rattle.px_indexrow.specs.Form.{index_form, owns}
 use Rattle.px_indexed.specs.Idle.{IsElsewhere}
 use Rattle.px_indexed.proofs.Idle.{act_idle}
-use Rattle.px_groupworld.specs.Group.{GroupData, GroupKept, IndexPart, TableForm, no_part}
+use Rattle.px_groupworld.specs.Group.{GroupData, GroupKept, IndexPart, no_part}
 use Rattle.px_groupworld.specs.Steps.{ready_data}
 use Rattle.px_groupworld.proofs.Entries.{group_idle}
 use Rattle.px_tablefolder.specs.Folder.{IndexFiles, IsFilesOf, last_cell, no_files}
-use Rattle.px_schema.specs.Stands.{above, after, put_index}
+use Rattle.px_schema.specs.Stands.{after, put_index}
 use Rattle.px_schema.specs.declared.item.CatalogItem.TheVariants.{IndexIs}
 use Rattle.px_schema.specs.declared.standing.Standing.{Standing}
 use Rattle.px_schema.proofs.Numbers.{below_next, next_up, put_all_indexes}
 use Rattle.px_recovery.specs.Folder.{FolderData, with_standing}
 use Rattle.px_recovery.specs.Stands.{AreNumbered, Explains, TellsCatalogue, opened_index}
-use Rattle.px_recovery.specs.Tables.{HasIndex, IsOneOf, TellsTable, form_in, form_of, index_files, index_in, indexes_of, is_active, number_of, number_of_index, region_of_index, table_files, table_in}
-use Rattle.px_recovery.proofs.Ends.{index_below}
+use Rattle.px_recovery.specs.Tables.{HasIndex, TellsTable, form_in, form_of, index_files, index_in, indexes_of, is_active, number_of_index, region_of_index, table_in}
 use Rattle.px_recovery.proofs.Forms.{other_forms, same_table}
 use Rattle.px_recovery.proofs.Lookups.{index_first, index_later}
 use Rattle.px_recovery.proofs.Notes.{last_step_up}

@@ -1,5 +1,5 @@
 -- What a folder tells of a table.
-use Rattle.std.specs.Prelude.{◌≡◌, ◌<◌, ◌⊎◌, ◌++◌, ◌∷◌, [], ℕ, length, get_or, Bool, true, false, ◌==◌, if◌then◌else◌, max, filter, map, List, Option, Some, None}
+use Rattle.std.specs.Prelude.{◌≡◌, ◌<◌, ◌⊎◌, ◌++◌, ◌∷◌, [], ℕ, length, get_or, Bool, true, false, ◌==◌, if◌then◌else◌, max, filter, map, List, Option, Some, None, not}
 use Rattle.std.specs.List.{AllByRecursion}
 use Rattle.std.specs.Ordering.{is_le}
 use Rattle.px_outside.specs.Parts.{AreDistinct}
@@ -119,3 +119,7 @@ pub record TellsTable (b : Base) (es : List Entry) (f : FolderData) (x : Table) 
   pub placed : AllByRecursion (λ g. AreInRegion x g.number (f.regions g.number).cells) x.regions
   pub once : AreDistinct number_of v.indexes
   pub stand : (j : ℕ) → j < length v.indexes → HasIndex f.standing.indexes x.id.0 (get_or v.indexes j no_part).id
+
+-- the table without the index of a number, and without an open batch
+abbrev pub without_index : ℕ → GroupData → GroupData
+without_index n v = record v { indexes = filter (λ i. not (i.id == n)) v.indexes; opens = [] }

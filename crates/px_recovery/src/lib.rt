@@ -27,7 +27,7 @@ ghost use Rattle.px_wal.specs.Files.{HasFile};
 ghost use Rattle.px_region.specs.Region.{RegionData, Stands, with_batch};
 ghost use Rattle.px_recovery.specs.Folder.{FolderData, StandsFor, StandsOn, with_region, IsKept, with_standing, AreUnmade};
 ghost use Rattle.px_recovery.specs.Stands.{Explains, StandsAfter, AreNumbered, GoesOnBy, TellsCatalogue};
-ghost use Rattle.px_recovery.specs.Tables.{AreInRegion, IsOneOf, form_of, indexes_of, table_in, table_files, index_files, index_in};
+ghost use Rattle.px_recovery.specs.Tables.{AreInRegion, IsOneOf, form_of, indexes_of, table_in, table_files, index_files, index_in, without_index};
 ghost use Rattle.px_values.specs.declared.row.Value.{Value as ColumnValue};
 ghost use Rattle.px_trail.specs.States.{state_of};
 ghost use Rattle.px_indexed.specs.Idle.{IsElsewhere};
@@ -38,7 +38,7 @@ ghost use Rattle.px_catalog.specs.Catalogue.{CatalogueStands, catalogue_files};
 ghost use Rattle.px_recovery.specs.Kept.{GoesOn, IsServer};
 ghost use Rattle.px_values.specs.declared.name.TableId.{TableId as TableNumber};
 ghost use Rattle.px_schema.specs.Stands.{after};
-ghost use Rattle.px_schema.specs.declared.item.CatalogItem.TheVariants.{IndexIs, TableGone, TableIs};
+ghost use Rattle.px_schema.specs.declared.item.CatalogItem.TheVariants.{IndexGone, IndexIs, TableGone, TableIs};
 ghost use Rattle.px_tables.specs.declared.table.NewTable.{NewTable as TableDefinition};
 ghost use Rattle.px_groupworld.specs.Sound.{made_data};
 ghost use Rattle.px_values.specs.declared.name.IndexId.{IndexId as IndexNumber};
@@ -90,11 +90,12 @@ pub fn law_tables()
     ensures index { (b : Base) → (es : List Entries) → (more : List Entries) → (f : FolderData) → (v : ℕ → GroupData) → Explains b es f v → (t : ℕ) → GoesOnBy b es more f v t → (x : Table) → table_in f.standing.tables t ≡ Some x → (w : GroupData) → GroupKept (form_of b f.standing.indexes x) more w → (v t).high ≤ w.high → w.low ≡ (v t).low → (n : ℕ) → (batch : List CellData) → (place : ℕ) → (i : Index) → place < length (indexes_of x.id.0 f.standing.indexes) → get_or (indexes_of x.id.0 f.standing.indexes) place i ≡ i → i.region ≡ n → (j : ℕ) → j < length (v t).indexes → (get_or (v t).indexes j no_part).id ≡ i.id.0 → value_at (get_or (v t).indexes j no_part).cells ≡ value_at (f.regions n).cells → (cells : List CellData) → ReadsSame cells (batch ++ (get_or (v t).indexes j no_part).cells) → w.cells ≡ (v t).cells → w.indexes ≡ set (v t).indexes j (with_cells cells (get_or (v t).indexes j no_part)) → Explains b more (with_region n (with_batch (f.regions n) batch) f) (with_part v t w) }
 {}
 
-/// A definition or a drop after which the folder is told: a table is made, or dropped with its indexes; an index is made, or becomes active.
+/// A definition or a drop after which the folder is told: a table is made, or dropped with its indexes; an index is made, becomes active, or is dropped.
 pub fn law_catalogue()
     ensures table_made { (b : Base) → IsRightBase b → (es : List Entries) → (f : FolderData) → AreUnmade f → (v : ℕ → GroupData) → Explains b es f v → (e : Entries) → MayCome b es e → (t : TableNumber) → (what : TableDefinition) → e.act ≡ Made t what → Explains b (es ++ e ∷ []) (with_standing (after f.standing (TableIs (made_table f.standing.next t what))) f) (with_part v t.0 made_data) }
     ensures index_made { (b : Base) → (es : List Entries) → (f : FolderData) → AreUnmade f → (v : ℕ → GroupData) → Explains b es f v → (e : Entries) → MayCome b es e → (t : TableNumber) → (i : IndexNumber) → (stamp : ℕ) → (what : IndexDefinition) → e.act ≡ IndexMade t i stamp what → (x : Table) → table_in f.standing.tables t.0 ≡ Some x → Explains b (es ++ e ∷ []) (with_standing (after f.standing (IndexIs (made_index f.standing.next i stamp what))) f) (with_part v t.0 (born_data i.0 stamp (v t.0))) }
     ensures index_ready { (b : Base) → (es : List Entries) → (f : FolderData) → (v : ℕ → GroupData) → Explains b es f v → (e : Entries) → MayCome b es e → (t : TableNumber) → (i : IndexNumber) → (stamp : ℕ) → e.act ≡ IndexState t i Active stamp → (x : Table) → table_in f.standing.tables t.0 ≡ Some x → (z : Index) → index_in f.standing.indexes i.0 ≡ Some z → z.table.0 ≡ t.0 → (j : ℕ) → j < length (v t.0).indexes → (get_or (v t.0).indexes j no_part).id ≡ i.0 → IsFilesOf (record (get_or (v t.0).indexes j no_part) { is_built = true }) (index_files f.regions (record z { state = Active })) → GroupKept (form_of b f.standing.indexes x) (es ++ e ∷ []) (ready_data j (v t.0)) → Explains b (es ++ e ∷ []) (with_standing (after f.standing (IndexIs (record z { state = Active }))) f) (with_part v t.0 (ready_data j (v t.0))) }
+    ensures index_gone { (b : Base) → (es : List Entries) → (f : FolderData) → (v : ℕ → GroupData) → Explains b es f v → (e : Entries) → MayCome b es e → (t : TableNumber) → (i : IndexNumber) → e.act ≡ Dropped t (Some i) → (x : Table) → table_in f.standing.tables t.0 ≡ Some x → (z : Index) → index_in f.standing.indexes i.0 ≡ Some z → z.table.0 ≡ t.0 → (v t.0).opens ≡ [] → Explains b (es ++ e ∷ []) (with_standing (after f.standing (IndexGone i)) f) (with_part v t.0 (without_index i.0 (v t.0))) }
     ensures table_gone { (b : Base) → (es : List Entries) → (f : FolderData) → (v : ℕ → GroupData) → Explains b es f v → (e : Entries) → MayCome b es e → (t : TableNumber) → e.act ≡ Dropped t None → Explains b (es ++ e ∷ []) (with_standing (after f.standing (TableGone t)) f) v }
 {}
 
