@@ -1,0 +1,4 @@
+pub mod Applying
+pub mod Assigning
+pub mod Fresh
+pub mod Nulls
