@@ -30,19 +30,19 @@ use Rattle.px_plan.specs.Plans.{HasKey, IsSelected}
 use Rattle.px_plan.proofs.OneAnswer.{here, nothing_in, one_answer, split, there}
 use Rattle.px_plan.proofs.SomeAnswer.{some_answer}
 
-and_left : (a b : Bool) → (a && b) ≡ true → a ≡ true
+pub and_left : (a b : Bool) → (a && b) ≡ true → a ≡ true
 and_left true b h = refl
 and_left false b h = h
 
-and_right : (a b : Bool) → (a && b) ≡ true → b ≡ true
+pub and_right : (a b : Bool) → (a && b) ≡ true → b ≡ true
 and_right true b h = h
 and_right false b h = absurd (let z : ◌≡◌ {A = Bool} false true = h in cc)
 
-all_left : (p : ℕ → Bool) (xs ys : List ℕ) → list_all p (xs ++ ys) ≡ true → list_all p xs ≡ true
+pub all_left : (p : ℕ → Bool) (xs ys : List ℕ) → list_all p (xs ++ ys) ≡ true → list_all p xs ≡ true
 all_left p [] ys h = refl
 all_left p (x ∷ xs) ys h = ap (λ (b : Bool). b && list_all p xs) (and_left (p x) (list_all p (xs ++ ys)) h) ∙ all_left p xs ys (and_right (p x) (list_all p (xs ++ ys)) h)
 
-all_right : (p : ℕ → Bool) (xs ys : List ℕ) → list_all p (xs ++ ys) ≡ true → list_all p ys ≡ true
+pub all_right : (p : ℕ → Bool) (xs ys : List ℕ) → list_all p (xs ++ ys) ≡ true → list_all p ys ≡ true
 all_right p [] ys h = h
 all_right p (x ∷ xs) ys h = all_right p xs ys (and_right (p x) (list_all p (xs ++ ys)) h)
 
@@ -68,7 +68,7 @@ module _ (t : Table) (x : Index) (a b : List values.Value) (same : (k : ℕ) →
       ∙ ap (λ (v : values.Value). negated_if negated (compared c.GreaterEqual (value_in b term) (value_in b low) and compared c.LessEqual (value_in b term) v)) three
 
   mutual
-    same_truth : (d : Bound) → holds_all t x (columns_in d) ≡ true → truth_of a d ≡ truth_of b d
+    pub same_truth : (d : Bound) → holds_all t x (columns_in d) ≡ true → truth_of a d ≡ truth_of b d
     same_truth (Or' shape parts) h = same_any parts h
     same_truth (And' shape parts) h = same_all parts h
     same_truth (Not' shape part) h = ap opposite (same_all part h)
@@ -90,7 +90,7 @@ module _ (t : Table) (x : Index) (a b : List values.Value) (same : (k : ℕ) →
   same_selected None h s = tt
   same_selected (Some d) h s = sym (same_truth d h) ∙ s
 
-  same_shown : (places : List ℕ) → holds_all t x places ≡ true → map (λ place. get_or a place Null) places ≡ map (λ place. get_or b place Null) places
+  pub same_shown : (places : List ℕ) → holds_all t x places ≡ true → map (λ place. get_or a place Null) places ≡ map (λ place. get_or b place Null) places
   same_shown [] h = refl
   same_shown (p ∷ places) h =
       ap (λ (v : values.Value). v ∷ map (λ place. get_or a place Null) places) (same p (and_left (is_held t x p) (holds_all t x places) h))

@@ -1,5 +1,6 @@
 // What a query asks.
 ghost use Rattle.std.specs.Prelude.{◌≡◌, IfOk, IfErr, true, false};
+ghost use Rattle.px_calls.specs.Calls.{AreRising};
 ghost use Rattle.px_gather.specs.Query.{IsPathFor, Query};
 
 use px_calls::{Path, Point};
@@ -31,7 +32,8 @@ pub trait Asks {
 
     /// The path chosen from the definitions in the point.
     fn path(&self, alloc: Global, point: &Point) -> Result<Path, PathFault>
-        requires { point.now.found.table ≡ (asked self.now).bound }
+        requires bound { point.now.found.table ≡ (asked self.now).bound }
+        requires rising { AreRising point.now.found.indexes }
         ensures ok { IfOk result (IsPathFor (asked self.now) point.now) }
         ensures not_joined { IfOk result (λ path. (asked self.now).joins point.now.found point.now.stamp ≡ false) }
         ensures joined { IfErr result (λ f. f ≡ PathFault.IndexJoin → (asked self.now).joins point.now.found point.now.stamp ≡ true) };

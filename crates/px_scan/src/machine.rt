@@ -1,5 +1,6 @@
 // A query as a machine: each step makes one call.
 ghost use Rattle.std.specs.Prelude.{◌≡◌, ◌++◌, ◌∷◌, [], ℕ, Option, List};
+ghost use Rattle.px_calls.specs.Calls.{AreRising};
 ghost use Rattle.px_calls.specs.Known.{Known};
 ghost use Rattle.px_gather.specs.Gathered.{Pending};
 ghost use Rattle.px_gather.specs.Query.{IsPathFor};
@@ -112,6 +113,7 @@ fn go_on<Q: Asks>(query: &Q, mut x: Scan, rest: Rest) -> QueryState
 /// Chooses the path at a point that was just opened. It makes no call.
 fn follow<Q: Asks>(alloc: Global, query: &Q, point: Point, rows: Vec<Placed>) -> QueryState
     requires bound { point.found.table ≡ (Q.asked query.now).bound }
+    requires rising { AreRising point.found.indexes }
     requires rows { rows.items ≡ [] }
     ensures { (scn : Option ℕ) → (k : Known) → IsReading k (Q.asked query.now) scn point → GoesOn k (Q.asked query.now) scn point result }
 {

@@ -4,6 +4,9 @@ use Rattle.px_scan.proofs.machine.«open».Goals as goal
 pub follow-requires-clause-bound : goal.follow-requires-clause-bound
 follow-requires-clause-bound g c = turning.opened-bound _ _ _ _ _ _ c.table.ensures c.in-Ok.ensures.ok c.requires.1
 
+pub follow-requires-clause-rising : goal.follow-requires-clause-rising
+follow-requires-clause-rising g c = c.in-Ok.ensures.ok.found.rising
+
 pub returns-in-Ok : goal.returns-in-Ok
 returns-in-Ok g c =
     turning.opens _ _ (g.Q.Asks.asked c.args.query.now) c.args.scn c.table.result c.args.rows c.in-Ok.point _ c.table.ensures c.in-Ok.ensures.ok
