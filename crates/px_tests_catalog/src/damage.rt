@@ -29,16 +29,25 @@ const PLACES: [(u64, u8, u64); 16] = [
     (96, 3, 96),
 ];
 
+/// Makes a table and drops it, and writes a byte in file 0.
+fn made_and_hit(alloc: Global, disk: &mut MemDisk, at: u64, byte: u8) -> Option<()> {
+    let mut catalog = Catalog::start(alloc, disk).ok()?;
+    let made = add(alloc, disk, &mut catalog, 2, &table_body(4, 3, b'T'));
+    let dropped = add(alloc, disk, &mut catalog, 4, &[0, 0, 0, 4]);
+    drop(catalog);
+    made?;
+    dropped?;
+    disk.write(0, at, &[byte]).ok()
+}
+
 /// Where the catalogue is damaged after a byte is written in file 0, if nothing is written by opening it.
 fn damage(alloc: Global, at: u64, byte: u8) -> Option<(u64, u64)> {
     let mut disk = MemDisk::new(alloc);
-    let mut catalog = Catalog::start(alloc, &mut disk).ok()?;
-    add(alloc, &mut disk, &mut catalog, 2, &table_body(4, 3, b'T'))?;
-    add(alloc, &mut disk, &mut catalog, 4, &[0, 0, 0, 4])?;
-    drop(catalog);
-    disk.write(0, at, &[byte]).ok()?;
+    let made = made_and_hit(alloc, &mut disk, at, byte).is_some();
     let mut image = disk.image();
-    told(alloc, &mut image)
+    let found = told(alloc, &mut image);
+    drop(image);
+    if made { found } else { None }
 }
 
 /// Where an image is damaged, if nothing is written by opening it.
@@ -70,24 +79,41 @@ fn damage_is_found_at_its_place(rt: HostRuntime) -> Result<(), Fail> {
     Ok(())
 }
 
-fn of_zeros(alloc: Global, file: u64, len: usize) -> Option<MemDisk> {
+/// What opening tells of a file of so many zeros, if nothing is written by it.
+fn told_of_zeros(alloc: Global, file: u64, zeros: &[u8]) -> Option<(u64, u64)> {
     let mut disk = MemDisk::new(alloc);
-    let zeros = vec![in alloc; 0u8; len].ok()?;
-    disk.write(file, 0, zeros.as_slice()).ok()?;
-    Some(disk.image())
+    let written = disk.write(file, 0, zeros).is_ok();
+    let mut image = disk.image();
+    let found = told(alloc, &mut image);
+    drop(image);
+    if written { found } else { None }
+}
+
+/// Whether the fresh catalogue is made where a file has these zeros.
+fn is_made_over(alloc: Global, file: u64, zeros: &[u8]) -> bool {
+    let mut disk = MemDisk::new(alloc);
+    let written = disk.write(file, 0, zeros).is_ok();
+    let mut image = disk.image();
+    let is_fresh = match Catalog::start(alloc, &mut image) {
+        Ok(catalog) => {
+            let is_fresh = catalog.standing().next == 3 && catalog.is_open();
+            drop(catalog);
+            is_fresh
+        }
+        Err(_) => false,
+    };
+    drop(image);
+    written && is_fresh
 }
 
 /// Without an open segment a file of more than 4,096 bytes is damaged.
 #[test]
 fn a_long_file_is_no_empty_folder(rt: HostRuntime) -> Result<(), Fail> {
     let alloc = rt.alloc();
+    let zeros = [0u8; 4_097];
     for file in [0, 1] {
-        let mut long = of_zeros(alloc, file, 4_097).ok_or("not written")?;
-        assert!(rt; told(alloc, &mut long) == Some((file, 0)));
-        let mut short = of_zeros(alloc, file, 4_096).ok_or("not written")?;
-        let catalog = Catalog::start(alloc, &mut short)?;
-        assert!(rt; catalog.standing().next == 3 && catalog.is_open());
-        drop(catalog);
+        assert!(rt; told_of_zeros(alloc, file, &zeros) == Some((file, 0)));
+        assert!(rt; is_made_over(alloc, file, &zeros[1..]));
     }
     Ok(())
 }

@@ -9,25 +9,31 @@ use std::test::Fail;
 const MOST: u64 = 5;
 
 /// Makes tables, drops some, renews the catalogue and makes another; counts what was told to be there.
-fn run(alloc: Global, disk: &mut MemDisk, told: &mut u64) -> Option<()> {
-    let mut catalog = Catalog::start(alloc, disk).ok()?;
-    add(alloc, disk, &mut catalog, 2, &table_body(4, 3, b'T'))?;
+fn steps(alloc: Global, disk: &mut MemDisk, catalog: &mut Catalog, told: &mut u64) -> Option<()> {
+    add(alloc, disk, catalog, 2, &table_body(4, 3, b'T'))?;
     *told = 1;
-    add(alloc, disk, &mut catalog, 2, &table_body(6, 5, b'U'))?;
+    add(alloc, disk, catalog, 2, &table_body(6, 5, b'U'))?;
     *told = 2;
-    add(alloc, disk, &mut catalog, 4, &[0, 0, 0, 6])?;
+    add(alloc, disk, catalog, 4, &[0, 0, 0, 6])?;
     *told = 3;
     for _ in 0..3 {
         catalog.roll_step(disk).ok()?;
     }
-    add(alloc, disk, &mut catalog, 4, &[0, 0, 0, 2])?;
+    add(alloc, disk, catalog, 4, &[0, 0, 0, 2])?;
     *told = 4;
     for _ in 0..3 {
         catalog.roll_step(disk).ok()?;
     }
-    add(alloc, disk, &mut catalog, 2, &table_body(8, 7, b'W'))?;
+    add(alloc, disk, catalog, 2, &table_body(8, 7, b'W'))?;
     *told = 5;
     Some(())
+}
+
+fn run(alloc: Global, disk: &mut MemDisk, told: &mut u64) -> Option<()> {
+    let mut catalog = Catalog::start(alloc, disk).ok()?;
+    let done = steps(alloc, disk, &mut catalog, told);
+    drop(catalog);
+    done
 }
 
 /// The next number and the tables after so many definitions and drops.
@@ -68,19 +74,20 @@ fn count_of(standing: &Standing) -> Option<u64> {
     None
 }
 
+/// After how many of them this stands, and the next number, if it takes one more.
+fn takes_one(alloc: Global, image: &mut MemDisk, catalog: &mut Catalog) -> Option<(u64, u8)> {
+    let count = count_of(catalog.standing())?;
+    let next = (catalog.standing().next % 100) as u8;
+    add(alloc, image, catalog, 2, &table_body(next + 1, next, b'X'))?;
+    Some((count, next))
+}
+
 /// After how many of them an image stands, if it takes one more and is the same when it is opened again.
 fn opens(alloc: Global, image: &mut MemDisk) -> Option<u64> {
     let mut catalog = Catalog::start(alloc, image).ok()?;
-    let count = count_of(catalog.standing())?;
-    let next = (catalog.standing().next % 100) as u8;
-    add(
-        alloc,
-        image,
-        &mut catalog,
-        2,
-        &table_body(next + 1, next, b'X'),
-    )?;
+    let taken = takes_one(alloc, image, &mut catalog);
     drop(catalog);
+    let (count, next) = taken?;
     let again = Catalog::reopen(alloc, image).ok()?;
     let standing = again.standing();
     let more = standing.next == u32::from(next) + 2
@@ -89,13 +96,34 @@ fn opens(alloc: Global, image: &mut MemDisk) -> Option<u64> {
     if more { Some(count) } else { None }
 }
 
+/// How many calls a run makes, if it ends.
+fn calls_of_run(alloc: Global) -> Option<u64> {
+    let mut told = 0;
+    let mut disk = MemDisk::new(alloc);
+    let ended = run(alloc, &mut disk, &mut told).is_some() && told == MOST;
+    let calls = disk.calls_made().len() as u64;
+    drop(disk);
+    if ended { Some(calls) } else { None }
+}
+
+/// Whether a stop in this call leaves what was told, or one more.
+fn is_whole(alloc: Global, call: u64, choice: Choice) -> bool {
+    let mut told = 0;
+    let mut disk = MemDisk::new(alloc).stop_at(call, choice);
+    let ended = run(alloc, &mut disk, &mut told).is_some();
+    let mut image = disk.image();
+    let count = opens(alloc, &mut image);
+    drop(image);
+    match count {
+        Some(count) => !ended && (count == told || count == told.saturating_add(1)),
+        None => false,
+    }
+}
+
 #[test]
 fn a_stop_leaves_a_definition_whole_or_not_at_all(rt: HostRuntime) -> Result<(), Fail> {
     let alloc = rt.alloc();
-    let mut told = 0;
-    let mut disk = MemDisk::new(alloc);
-    assert!(rt; run(alloc, &mut disk, &mut told).is_some() && told == MOST);
-    let calls = disk.calls_made().len() as u64;
+    let calls = calls_of_run(alloc).ok_or("not ended")?;
     assert!(rt; calls > 40 && calls < 60, "{calls}");
     for call in 1..=calls {
         for choice in [
@@ -105,26 +133,14 @@ fn a_stop_leaves_a_definition_whole_or_not_at_all(rt: HostRuntime) -> Result<(),
             Choice::Fill(1),
             Choice::Fill(255),
         ] {
-            let mut there = 0;
-            let mut stopped = MemDisk::new(alloc).stop_at(call, choice);
-            assert!(rt;
-                run(alloc, &mut stopped, &mut there).is_none(),
-                "call {call}"
-            );
-            let mut image = stopped.image();
-            let count = opens(alloc, &mut image).ok_or("not opened")?;
-            assert!(rt;
-                count == there || count == there.saturating_add(1),
-                "call {call}"
-            );
+            assert!(rt; is_whole(alloc, call, choice), "call {call}");
         }
     }
     Ok(())
 }
 
 /// Does the calls before this one again, and of its bytes so many.
-fn cut_short(alloc: Global, calls: &[CallMade], at: usize, bytes: usize) -> Option<MemDisk> {
-    let mut disk = MemDisk::new(alloc);
+fn done_again(disk: &mut MemDisk, calls: &[CallMade], at: usize, bytes: usize) -> Option<()> {
     for (i, made) in calls.iter().enumerate() {
         if made.call == DeviceCall::Write && i < at {
             disk.write(made.file, made.at, made.bytes.as_slice()).ok()?;
@@ -134,7 +150,34 @@ fn cut_short(alloc: Global, calls: &[CallMade], at: usize, bytes: usize) -> Opti
             disk.write(made.file, made.at, front).ok()?;
         }
     }
-    Some(disk)
+    Some(())
+}
+
+/// After how many of them what such a cut leaves stands.
+fn count_of_cut(alloc: Global, calls: &[CallMade], at: usize, bytes: usize) -> Option<u64> {
+    let mut disk = MemDisk::new(alloc);
+    let done = done_again(&mut disk, calls, at, bytes).is_some();
+    let count = opens(alloc, &mut disk);
+    drop(disk);
+    if done { count } else { None }
+}
+
+/// After how many of them the last write leaves the catalogue, or the call in which a cut leaves another.
+fn count_of_cuts(alloc: Global, calls: &[CallMade]) -> Result<u64, usize> {
+    let mut before = 0;
+    for (at, made) in calls.iter().enumerate() {
+        if made.call == DeviceCall::Write {
+            let mut last = before;
+            for bytes in 0..=made.bytes.len() {
+                last = count_of_cut(alloc, calls, at, bytes).ok_or(at)?;
+                if last != before && last != before.saturating_add(1) {
+                    return Err(at);
+                }
+            }
+            before = last;
+        }
+    }
+    Ok(before)
 }
 
 /// A write that is cut inside leaves what stood before it, or what stands after it.
@@ -143,23 +186,10 @@ fn a_write_may_be_cut_anywhere(rt: HostRuntime) -> Result<(), Fail> {
     let alloc = rt.alloc();
     let mut told = 0;
     let mut disk = MemDisk::new(alloc);
-    assert!(rt; run(alloc, &mut disk, &mut told).is_some());
-    let calls = disk.calls_made();
-    let mut before = 0;
-    for (at, made) in calls.iter().enumerate() {
-        if made.call == DeviceCall::Write {
-            for bytes in 0..=made.bytes.len() {
-                let mut image = cut_short(alloc, calls, at, bytes).ok_or("not done")?;
-                let count = opens(alloc, &mut image).ok_or("not opened")?;
-                assert!(rt;
-                    count == before || count == before.saturating_add(1),
-                    "call {at}"
-                );
-            }
-            let mut image = cut_short(alloc, calls, at, made.bytes.len()).ok_or("not done")?;
-            before = opens(alloc, &mut image).ok_or("not opened")?;
-        }
-    }
-    assert!(rt; before == MOST);
+    let ended = run(alloc, &mut disk, &mut told).is_some();
+    let count = count_of_cuts(alloc, disk.calls_made());
+    drop(disk);
+    assert!(rt; ended);
+    assert!(rt; count == Ok(MOST), "{count:?}");
     Ok(())
 }
