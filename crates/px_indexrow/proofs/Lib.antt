@@ -4,5 +4,4 @@ pub mod FixesSeen
 pub mod KeysHeld
 pub mod MarksSeen
 pub mod Versions
-pub mod Worked
 pub mod StatesFit
