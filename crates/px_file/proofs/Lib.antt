@@ -2,3 +2,5 @@ pub mod Blocks
 pub mod Indexes
 pub mod Growing
 pub mod Written
+pub mod Differences
+pub mod Walking

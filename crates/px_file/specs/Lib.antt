@@ -1,3 +1,5 @@
 pub mod Format
 pub mod IndexOf
 pub mod Files
+pub mod Reading
+pub mod inner

@@ -1,6 +1,7 @@
-// Why a file isn't made.
+// Why a file isn't made or read.
 ghost use Rattle.std.specs.Prelude.{◌≡◌};
 ghost use Rattle.px_file.specs.declared.fault.MakeFault.TheVariants.{WriteFault, Memory};
+ghost use Rattle.px_file.specs.declared.fault.FileFault.TheVariants.{ReadFault, Memory as NoMemory};
 
 use px_outside::Failed;
 use std::alloc::AllocError;
@@ -12,6 +13,16 @@ pub enum MakeFault {
     Full,
     /// The disk failed in a write, a cut or a sync.
     WriteFault,
+    Memory,
+}
+
+/// Why a file isn't read.
+#[derive(Clone, Copy, Debug, PartialEq, Eq)]
+pub enum FileFault {
+    /// The disk failed in a read.
+    ReadFault,
+    /// The first place of a file that isn't of the format.
+    Damaged { file: u64, place: u64 },
     Memory,
 }
 
@@ -28,5 +39,21 @@ impl From<AllocError> for MakeFault {
 
     fn from(_fault: AllocError) -> MakeFault {
         MakeFault::Memory
+    }
+}
+
+impl From<Failed> for FileFault {
+    ghost from_gives = { λ _ fault. fault ≡ ReadFault };
+
+    fn from(_fault: Failed) -> FileFault {
+        FileFault::ReadFault
+    }
+}
+
+impl From<AllocError> for FileFault {
+    ghost from_gives = { λ _ fault. fault ≡ NoMemory };
+
+    fn from(_fault: AllocError) -> FileFault {
+        FileFault::Memory
     }
 }
