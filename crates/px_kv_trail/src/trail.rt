@@ -1,11 +1,10 @@
 // The list of entries, with room that is taken before.
-ghost use Rattle.std.specs.Prelude.{◌≡◌, ◌≢◌, ◌<◌, ◌≤◌, ◌+◌, ◌-◌, ◌++◌, ◌∷◌, [], ◌↔◌, ◌==◌, ◌^◌, min, List, ℕ, length, slice_get, Some, Err, OnOk, IsErr, vec_len, vec_capacity};
-ghost use Rattle.px_kv_trail.specs.Count.{counted_act};
+ghost use Rattle.std.specs.Prelude.{◌≡◌, ◌<◌, ◌≤◌, ◌+◌, ◌++◌, ◌∷◌, [], ◌↔◌, ◌==◌, length, slice_get, Some, Err, IfOk, OnOk, IsErr};
+ghost use Rattle.px_kv_trail.specs.Batches.{begun_alone, done_alone};
 ghost use Rattle.px_kv_trail.specs.declared.trail.TrailFault.TheVariants.{Limit as LimitFault};
 
-use crate::count::changes_bytes;
-use crate::{Act, Entry};
-use px_values::Limit;
+use crate::{Act, Entry, TextChange};
+use px_values::{Changes, Limit, Rows, TableId};
 use std::alloc::{AllocError, Global};
 use std::marker::Model;
 
@@ -29,10 +28,71 @@ impl From<AllocError> for TrailFault {
     }
 }
 
-/// The entries of a run, in order. Room for an entry is taken before, so that adding one can't fail.
+/// A batch of one change, as the trail keeps it.
+#[derive(Drop)]
+struct Held {
+    seat: u32,
+    table: TableId,
+    stamp: u64,
+    /// The number of device calls finished before it began.
+    begun_at: u64,
+    /// The same number when it was written and ended, if it was.
+    ended_at: Option<u64>,
+    change: TextChange,
+}
+
+impl Held {
+    ghost use Rattle.px_kv_trail.specs.inner.Held.{entries_in};
+
+    /// How many entries it has.
+    fn count(&self) -> u64
+        ensures { result ≡ length (entries_in self.now) }
+    {
+        match self.ended_at {
+            Some(_) => 3,
+            None => 1,
+        }
+    }
+
+    /// One of its entries, with lists of its own.
+    fn entry(&self, alloc: Global, i: u64) -> Result<Entry, AllocError>
+        requires { i < length (entries_in self.now) }
+        ensures { IfOk result (λ entry. slice_get (entries_in self.now) i ≡ Some entry) }
+    {
+        let (table, stamp) = (self.table, self.stamp);
+        let (calls, act) = match self.ended_at {
+            Some(calls) if i == 1 => {
+                let rows = Rows::of(vec![in alloc; self.change.row(alloc)?]?);
+                (calls, Act::Wrote { table, stamp, rows })
+            }
+            Some(calls) if i > 1 => (calls, Act::Ended { table, stamp }),
+            _ => {
+                let changes = Changes::of(vec![in alloc; self.change.unfolded(alloc)?]?);
+                (
+                    self.begun_at,
+                    Act::Begun {
+                        table,
+                        stamp,
+                        changes,
+                    },
+                )
+            }
+        };
+        Ok(Entry {
+            seat: self.seat,
+            calls,
+            act,
+        })
+    }
+}
+
+/// The entries of a run, in order. Room for an entry is taken before, so that adding one can't fail. Each batch is kept
+/// once: its entries are the view that contracts have of it.
 #[derive(Drop)]
 pub struct Trail {
-    entries: Vec<Entry>,
+    held: Vec<Held>,
+    /// How many entries there are.
+    len: u64,
     /// How many entries may be added.
     room: u64,
     /// The counted bytes of the entries.
@@ -42,21 +102,25 @@ pub struct Trail {
 }
 
 impl Model for Trail {
-    ghost use Rattle.std.specs.Prelude.{◌≡◌, ◌≤◌, ◌+◌, vec_len, vec_capacity};
+    ghost use Rattle.std.specs.Prelude.{◌≡◌, ◌<◌, ◌≤◌, ◌+◌, ◌^◌, length, vec_len, vec_capacity};
     ghost use Rattle.px_kv_trail.specs.Recorded.{Recorded};
     ghost use Rattle.px_kv_trail.specs.Count.{counted_bytes};
+    ghost use Rattle.px_kv_trail.specs.inner.Held.{entries_of};
 
     ghost Value = { Recorded };
 
-    ghost view = { λ t. record { entries = t.entries.items; room = t.room; bytes_room = t.bytes_room } };
+    ghost view = { λ t. record { entries = entries_of t.held.items; room = t.room; bytes_room = t.bytes_room } };
 
-    ghost invariant = { λ t. (vec_len t.entries + t.room ≤ vec_capacity t.entries)
-        × (t.bytes ≡ counted_bytes t.entries.items)
+    ghost invariant = { λ t. (vec_len t.held + t.room ≤ vec_capacity t.held)
+        × (t.len ≡ length (entries_of t.held.items))
+        × (t.len + t.room < 2 ^ 64)
+        × (t.bytes ≡ counted_bytes (entries_of t.held.items))
         × (t.bytes + t.bytes_room ≤ 536870912) };
 }
 
 impl Trail {
-    ghost use Rattle.px_kv_trail.specs.Count.{counted_act, counted_bytes};
+    ghost use Rattle.px_kv_trail.specs.Count.{counted_bytes, counted_change};
+    ghost use Rattle.px_kv_trail.specs.inner.Held.{entries_in};
 
     /// A trail without an entry, and without room.
     pub fn new(alloc: Global) -> Trail
@@ -64,7 +128,8 @@ impl Trail {
         ensures no_room { (result.room ≡ 0) × (result.bytes_room ≡ 0) }
     {
         Trail {
-            entries: Vec::new(alloc),
+            held: Vec::new(alloc),
+            len: 0,
             room: 0,
             bytes: 0,
             bytes_room: 0,
@@ -85,7 +150,10 @@ impl Trail {
         let Some(room) = self.room.checked_add(n) else {
             return Err(TrailFault::Memory);
         };
-        self.entries.reserve(room as usize)?;
+        if room > u64::MAX - self.len {
+            return Err(TrailFault::Memory);
+        }
+        self.held.reserve(room as usize)?;
         self.room = room;
         self.bytes_room += bytes;
         Ok(())
@@ -103,39 +171,96 @@ impl Trail {
         self.bytes_room -= bytes;
     }
 
-    /// Adds an entry at the end. It takes no memory.
-    pub fn push(&mut self, entry: Entry)
+    /// Adds that a batch of one change began, with the seat that began it and the number of device calls finished
+    /// before. It takes no memory.
+    pub fn begin(&mut self, seat: u32, calls: u64, table: TableId, stamp: u64, change: TextChange)
         requires room { 0 < self.old.room }
-        requires bytes { counted_act entry.act ≤ self.old.bytes_room }
-        ensures entries { self.new.entries ≡ self.old.entries ++ entry ∷ [] }
+        requires bytes { counted_change change ≤ self.old.bytes_room }
+        ensures entries { self.new.entries ≡ self.old.entries ++ begun_alone seat calls table stamp change ∷ [] }
         ensures room { self.new.room + 1 ≡ self.old.room }
-        ensures bytes { self.new.bytes_room + counted_act entry.act ≡ self.old.bytes_room }
+        ensures bytes { self.new.bytes_room + counted_change change ≡ self.old.bytes_room }
     {
-        let bytes = entry_bytes(&entry);
-        self.room -= 1;
+        let held = Held {
+            seat,
+            table,
+            stamp,
+            begun_at: calls,
+            ended_at: None,
+            change,
+        };
+        self.keep(1, held);
+    }
+
+    /// Adds that a batch of one change began, and at a later moment was written and ended. It takes no memory.
+    pub fn add_batch(
+        &mut self,
+        seat: u32,
+        begun_at: u64,
+        ended_at: u64,
+        table: TableId,
+        stamp: u64,
+        change: TextChange,
+    )
+        requires room { 3 ≤ self.old.room }
+        requires bytes { counted_change change ≤ self.old.bytes_room }
+        ensures entries { self.new.entries ≡ self.old.entries ++ begun_alone seat begun_at table stamp change ∷ done_alone seat ended_at table stamp change }
+        ensures room { self.new.room + 3 ≡ self.old.room }
+        ensures bytes { self.new.bytes_room + counted_change change ≡ self.old.bytes_room }
+    {
+        let held = Held {
+            seat,
+            table,
+            stamp,
+            begun_at,
+            ended_at: Some(ended_at),
+            change,
+        };
+        self.keep(3, held);
+    }
+
+    /// Adds the entries of a batch, which are so many.
+    fn keep(&mut self, count: u64, held: Held)
+        requires count { count ≡ length (entries_in held) }
+        requires room { count ≤ self.old.room }
+        requires bytes { counted_change held.change ≤ self.old.bytes_room }
+        ensures entries { self.new.entries ≡ self.old.entries ++ entries_in held }
+        ensures room { self.new.room + count ≡ self.old.room }
+        ensures bytes { self.new.bytes_room + counted_change held.change ≡ self.old.bytes_room }
+    {
+        let bytes = held.change.bytes();
+        self.len += count;
+        self.room -= count;
         self.bytes += bytes;
         self.bytes_room -= bytes;
-        self.entries.push_reserved(entry);
+        self.held.push_reserved(held);
     }
 
     pub fn len(&self) -> u64
         ensures { result ≡ length self.now.entries }
     {
-        self.entries.len() as u64
+        self.len
     }
 
     pub fn is_empty(&self) -> bool
         ensures { result ≡ (length self.now.entries == 0) }
     {
-        self.entries.is_empty()
+        self.len == 0
     }
 
-    /// The entry at a place, counted from 0.
-    pub fn entry(&self, i: u64) -> &Entry
+    /// The entry at a place, counted from 0, with lists of its own.
+    pub fn entry(&self, alloc: Global, i: u64) -> Result<Entry, AllocError>
         requires { i < length self.now.entries }
-        ensures { slice_get self.now.entries i ≡ Some result.now }
+        ensures { IfOk result (λ entry. slice_get self.now.entries i ≡ Some entry) }
     {
-        &self.entries[i as usize]
+        let mut left = i;
+        for held in &self.held {
+            let count = held.count();
+            if left < count {
+                return held.entry(alloc, left);
+            }
+            left -= count;
+        }
+        Err(AllocError)
     }
 
     /// The counted bytes of the changes that were begun.
@@ -143,16 +268,5 @@ impl Trail {
         ensures { result ≡ counted_bytes self.now.entries }
     {
         self.bytes
-    }
-}
-
-/// The counted bytes of an entry. Where the sum passes the greatest number, the answer is that number.
-fn entry_bytes(entry: &Entry) -> u64
-    ensures { result ≡ min (counted_act entry.now.act) (2 ^ 64 - 1) }
-{
-    match &entry.act {
-        Act::Begun { changes, .. } => changes_bytes(changes.as_slice()),
-        Act::Wrote { .. } => 0,
-        Act::Ended { .. } => 0,
     }
 }

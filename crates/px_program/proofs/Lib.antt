@@ -1,5 +1,6 @@
 pub mod records
 pub mod Answering
+pub mod Buffers
 pub mod Folders
 pub mod Growing
 pub mod OneSession

@@ -1,8 +1,7 @@
 -- A batch that was written leaves all as it should be.
 use Rattle.std.proofs.Common.{◌≡◌, ◌≢◌, ℕ, ◌<◌, ◌≤◌, ◌+◌, true, false, List, [], ◌∷◌, ◌++◌, length, Option, Some, None, refl, sym, ◌∙◌, ap, subst, arith, append_assoc, append-nil, ◌⊎◌, inl, inr}
-use Rattle.std.specs.Prelude.{IsSome, IsTrue, sum_by}
+use Rattle.std.specs.Prelude.{IsSome, IsTrue}
 use Rattle.px_values.specs.declared.change.Change.{Change}
-use Rattle.px_values.specs.declared.row.Value.{Value}
 use Rattle.px_outside.specs.Disk.{Image}
 use Rattle.px_outside.specs.OnDisk.{IsLeft, LeavesOnly, TouchesOnly}
 use Rattle.px_outside.specs.declared.disk.Disk.{Ghosts}
@@ -208,7 +207,7 @@ module _ {D : Type 0} (d : Ghosts D) (origin : Origin) (disk disk' : D) (old mid
     (opened : is_open old.log) (same_log : mid.log ≡ old.log) (same_entries : mid.trail.entries ≡ old.trail.entries) (number : mid.number ≡ old.number + 1)
     (taken : mid.trail.bytes_room ≡ old.trail.bytes_room + counted_change (kv_change x.key x.value))
     (framed : record_of mid.frame ≡ put_record (old.number + 1) x) (holds : HoldsPuts mid.rows x.stamp (old.number + 1) (kept.puts ++ x ∷ []))
-    (written : IsWritten d disk disk' mid new x.stamp (kv_change x.key x.value ∷ []) (key_of x.key ∷ [])) (left_told : LeftIsTold d) (up_to_now : LeftByNow d) where
+    (written : IsWritten d disk disk' mid new x.stamp (kv_change x.key x.value)) (left_told : LeftIsTold d) (up_to_now : LeftByNow d) where
   entries_are : new.trail.entries ≡ with_batch old.trail.entries (d.calls disk) (d.calls disk') x.stamp (kv_change x.key x.value ∷ []) (key_of x.key ∷ [])
   entries_are = written.entries ∙ ap (λ (l : List Entry). with_batch l (d.calls disk) (d.calls disk') x.stamp (kv_change x.key x.value ∷ []) (key_of x.key ∷ [])) same_entries
 
@@ -282,12 +281,7 @@ stopped_lasts d origin disk disk' old new x r kept left_told put later opened fr
     (allowed_more kept.puts x kept.holds.allowed put)
     (λ tells. leaves_more d disk disk' old.log kept.puts size x (old.number + 1) r opened (let e = kept.holds.number_is in omega arith) framed put (kept.logged tells) leaves) kept.lasts)
 
--- ---- the same, for those who have the changes and the rows under other names
+-- ---- the same, for those who have the change under another name
 
-pub written_as : {D : Type 0} (d : Ghosts D) (disk disk' : D) (mid new : Store) (stamp : ℕ) (changes changes' : List Change) (rows rows' : List (List Value))
-    → changes ≡ changes' → rows ≡ rows' → IsWritten d disk disk' mid new stamp changes rows → IsWritten d disk disk' mid new stamp changes' rows'
-written_as d disk disk' mid new stamp changes changes' rows rows' same_changes same_rows written =
-    subst (λ (l : List Change). IsWritten d disk disk' mid new stamp l rows') same_changes (subst (λ (l : List (List Value)). IsWritten d disk disk' mid new stamp changes l) same_rows written)
-
-pub counted_one : (n : ℕ) (changes : List Change) (c : Change) → n ≡ sum_by counted_change changes → changes ≡ c ∷ [] → n ≡ counted_change c
-counted_one n changes c sum one = sum ∙ (ap (λ (l : List Change). sum_by counted_change l) one ∙ omega arith)
+pub written_as : {D : Type 0} (d : Ghosts D) (disk disk' : D) (mid new : Store) (stamp : ℕ) (change change' : Change) → change ≡ change' → IsWritten d disk disk' mid new stamp change → IsWritten d disk disk' mid new stamp change'
+written_as d disk disk' mid new stamp change change' same written = subst (λ (c : Change). IsWritten d disk disk' mid new stamp c) same written

@@ -6,6 +6,7 @@ pub mod Kv
 pub mod Origin
 pub mod Printed
 pub mod Receipt
+pub mod Receipted
 pub mod Refusals
 pub mod Replied
 pub mod Rounds

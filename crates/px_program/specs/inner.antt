@@ -8,3 +8,4 @@ pub mod Stops
 pub mod Store
 pub mod Table
 pub mod Task
+pub mod TextRows

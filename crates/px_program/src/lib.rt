@@ -16,3 +16,4 @@ pub use session::refusal::Refusal;
 pub use session::reply::{Evidence, Item, Items, Places, Receipts, Reply, Transcript, Transcripts};
 pub use session::script::Span;
 pub use store::receipt::Receipt;
+pub use store::rows::TextRows;

@@ -41,14 +41,14 @@ pub struct Answer {
     pub places: Places,
 }
 
-fn refused(alloc: Global, refusal: Refusal) -> Answer
+fn refused(refusal: Refusal) -> Answer
     ensures reply { result.reply ≡ Reply.Refused refusal }
     ensures receipts { result.receipts ≡ [] }
     ensures places { result.places ≡ [] }
 {
     Answer {
         reply: Reply::Refused(refusal),
-        receipts: Receipts::of(Vec::new(alloc)),
+        receipts: Receipts::none(),
         places: Places::none(),
     }
 }
@@ -80,22 +80,16 @@ fn answer_upsert<D: CountsCalls>(
     ensures { (origin : Origin) → IsKept ⟦<D as Disk>⟧ origin disk.old store.old
         → Answered ⟦<D as Disk>⟧ origin disk.old disk.new now store.old.trail.entries store.new result (λ es added reply receipts places. AnswersUpsert origin es added key.now value.now reply receipts places) }
 {
-    let Ok(mut receipts) = Vec::with_capacity(alloc, 1) else {
-        return refused(alloc, Refusal::Memory);
-    };
     match store.upsert(alloc, disk, now, key, value) {
-        Err(fault) => refused(alloc, store_refusal(fault)),
-        Ok(receipt) => {
-            receipts.push_reserved(receipt);
-            Answer {
-                reply: Reply::Count {
-                    rows: 1,
-                    word: CountWord::Affected,
-                },
-                receipts: Receipts::of(receipts),
-                places: Places::none(),
-            }
-        }
+        Err(fault) => refused(store_refusal(fault)),
+        Ok(receipt) => Answer {
+            reply: Reply::Count {
+                rows: 1,
+                word: CountWord::Affected,
+            },
+            receipts: Receipts::one(receipt),
+            places: Places::none(),
+        },
     }
 }
 
@@ -105,12 +99,12 @@ fn answer_select(alloc: Global, store: &Store) -> Answer
         → AnswersSelect origin store.now.trail.entries result.reply result.receipts result.places }
 {
     let Ok(rows) = store.rows(alloc) else {
-        return refused(alloc, Refusal::Memory);
+        return refused(Refusal::Memory);
     };
-    let places = Places::of(rows.as_slice().len(), store.entries());
+    let places = Places::of(rows.len(), store.entries());
     Answer {
         reply: Reply::Rows(rows),
-        receipts: Receipts::of(Vec::new(alloc)),
+        receipts: Receipts::none(),
         places,
     }
 }
@@ -130,7 +124,7 @@ fn run_task<D: CountsCalls>(
     match task {
         Task::Upsert { key, value } => answer_upsert(alloc, store, disk, now, key, value),
         Task::Select => answer_select(alloc, store),
-        Task::Refused(refusal) => refused(alloc, *refusal),
+        Task::Refused(refusal) => refused(*refusal),
     }
 }
 
@@ -270,7 +264,7 @@ fn stop_script(alloc: Global, entries: u64, script: &[u8], refusal: Refusal) -> 
             ending: Ending::Memory,
         };
     };
-    let answer = refused(alloc, refusal);
+    let answer = refused(refusal);
     items.push_reserved(Item {
         statement: Span {
             start: 0,

@@ -21,18 +21,20 @@ mod batch;
 pub mod fault;
 pub mod receipt;
 mod records;
+pub mod rows;
 mod stamps;
 mod table;
 
 use batch::{Batch, take_room};
 use fault::StoreFault;
 use px_gatelog::{Frame, GateLog, Rolled, StartFault};
-use px_kv_trail::{Act, Entry, Trail};
+use px_kv_trail::{TextChange, Trail};
 use px_outside::{CountsCalls, Disk, Failed};
-use px_values::{Changes, Rows, TableId};
+use px_values::TableId;
 use receipt::Receipt;
 use records::put::{fill_put, put_len};
 use records::put_reader::{PutReader, Stored};
+use rows::TextRows;
 use stamps::next_stamp;
 use std::alloc::{AllocError, Global};
 use std::collections::BTreeMap;
@@ -66,12 +68,11 @@ pub struct Store {
     ghost roomy: { 4096 ≤ frame.room },
 }
 
-/// What a batch is to the trail: its stamp, its changes, and the keys of its rows.
+/// What a batch is to the trail.
 #[derive(Drop)]
 pub(crate) struct Told {
     pub stamp: u64,
-    pub changes: Changes,
-    pub rows: Rows,
+    pub change: TextChange,
 }
 
 /// Sets what stands at a key. Where no memory is found the rows stay as they were.
@@ -113,51 +114,22 @@ fn frame_batch(frame: &mut Frame, number: u64, batch: &Batch)
 }
 
 /// Adds that a batch began.
-fn add_begun(trail: &mut Trail, calls: u64, stamp: u64, changes: Changes)
+fn add_begun(trail: &mut Trail, calls: u64, told: Told)
     requires room { 0 < trail.old.room }
-    requires bytes { sum_by counted_change changes ≤ trail.old.bytes_room }
-    ensures entries { trail.new.entries ≡ with_begun trail.old.entries calls stamp changes }
-    ensures room { trail.new.room + 1 ≡ trail.old.room }
-    ensures bytes { trail.new.bytes_room + sum_by counted_change changes ≡ trail.old.bytes_room }
+    requires bytes { counted_change told.change ≤ trail.old.bytes_room }
+    ensures entries { trail.new.entries ≡ with_begun trail.old.entries calls told.stamp (told.change ∷ []) }
 {
-    trail.push(Entry {
-        seat: SEAT,
-        calls,
-        act: Act::Begun {
-            table: KV,
-            stamp,
-            changes,
-        },
-    });
+    trail.begin(SEAT, calls, KV, told.stamp, told.change);
 }
 
 /// Adds that a batch began, was written and ended.
 fn add_batch(trail: &mut Trail, begun_at: u64, ended_at: u64, told: Told)
     requires room { 3 ≤ trail.old.room }
-    requires bytes { sum_by counted_change told.changes ≤ trail.old.bytes_room }
-    ensures entries { trail.new.entries ≡ with_batch trail.old.entries begun_at ended_at told.stamp told.changes told.rows }
-    ensures bytes { trail.new.bytes_room + sum_by counted_change told.changes ≡ trail.old.bytes_room }
+    requires bytes { counted_change told.change ≤ trail.old.bytes_room }
+    ensures entries { trail.new.entries ≡ with_batch trail.old.entries begun_at ended_at told.stamp (told.change ∷ []) (told.change.row ∷ []) }
+    ensures bytes { trail.new.bytes_room + counted_change told.change ≡ trail.old.bytes_room }
 {
-    let Told {
-        stamp,
-        changes,
-        rows,
-    } = told;
-    add_begun(trail, begun_at, stamp, changes);
-    trail.push(Entry {
-        seat: SEAT,
-        calls: ended_at,
-        act: Act::Wrote {
-            table: KV,
-            stamp,
-            rows,
-        },
-    });
-    trail.push(Entry {
-        seat: SEAT,
-        calls: ended_at,
-        act: Act::Ended { table: KV, stamp },
-    });
+    trail.add_batch(SEAT, begun_at, ended_at, KV, told.stamp, told.change);
 }
 
 /// Makes the log's first segment, where none is open.
@@ -199,10 +171,10 @@ impl Store {
         requires open { is_open self.old.log }
         requires fits { 7 + length self.old.frame.body ≤ room_of self.old.log }
         requires room { 3 ≤ self.old.trail.room }
-        requires bytes { sum_by counted_change told.changes ≤ self.old.trail.bytes_room }
-        ensures ok { OnOk result (IsWritten ⟦<D as Disk>⟧ disk.old disk.new self.old self.new told.stamp told.changes told.rows) }
+        requires bytes { counted_change told.change ≤ self.old.trail.bytes_room }
+        ensures ok { OnOk result (IsWritten ⟦<D as Disk>⟧ disk.old disk.new self.old self.new told.stamp told.change) }
         ensures err { OnErr result (Rose ⟦<D as Disk>⟧ disk.old disk.new
-            × (self.new.trail.entries ≡ with_begun self.old.trail.entries (D.calls disk.old) told.stamp told.changes)) }
+            × (self.new.trail.entries ≡ with_begun self.old.trail.entries (D.calls disk.old) told.stamp (told.change ∷ []))) }
         ensures unfailed { OnOk result (D.faults disk.new ≡ D.faults disk.old) }
         ensures counts { Passes ⟦<D as Disk>⟧ disk.old disk.new 4 }
         ensures leaves { LeavesAppended ⟦<D as Disk>⟧ disk.old disk.new self.old.log (record_of self.old.frame) }
@@ -216,12 +188,7 @@ impl Store {
                 Ok(())
             }
             Err(_) => {
-                let Told {
-                    stamp,
-                    changes,
-                    rows: _,
-                } = told;
-                add_begun(&mut self.trail, begun_at, stamp, changes);
+                add_begun(&mut self.trail, begun_at, told);
                 Err(Failed)
             }
         }
@@ -251,36 +218,22 @@ impl Store {
         if !self.log.has_room(record_len(&batch)) {
             return Err(StoreFault::Log);
         }
-        let bytes = take_room(&mut self.trail, &batch.changes)?;
+        let bytes = take_room(&mut self.trail, &batch.change)?;
         frame_batch(&mut self.frame, number, &batch);
         let Batch {
             stamp,
-            changes,
-            rows,
+            change,
             key,
             value,
-            concurrent,
         } = batch;
         let Ok(()) = store_row(&mut self.rows, key, Stored { stamp, value }) else {
             self.trail.give_back(3, bytes);
             return Err(StoreFault::Memory);
         };
         self.number = number;
-        let told = Told {
-            stamp,
-            changes,
-            rows,
-        };
-        match self.append_batch(disk, told) {
+        match self.append_batch(disk, Told { stamp, change }) {
             Err(_) => Err(StoreFault::WriteFault),
-            Ok(()) => Ok(Receipt {
-                table: KV,
-                stamp,
-                rows: 1,
-                concurrent,
-                unfinished: None,
-                at: self.trail.len(),
-            }),
+            Ok(()) => Ok(Receipt::of(stamp, self.trail.len())),
         }
     }
 
@@ -342,7 +295,7 @@ impl Store {
     }
 
     /// All rows, in the order of their keys.
-    pub fn rows(&self, alloc: Global) -> Result<Rows, AllocError>
+    pub fn rows(&self, alloc: Global) -> Result<TextRows, AllocError>
         ensures rows { IfOk result (λ given. given ≡ map row_in self.now.rows.entries) }
         ensures ordered { OnOk result (IsOrdered string_cmp self.now.rows) }
     {

@@ -2,10 +2,10 @@
 ghost use Rattle.px_outside.specs.MemDisk.{mem_calls as calls_of, mem_faults as faults_of, mem_first_fault as first_fault_of};
 ghost use Rattle.std.specs.Prelude.{◌≡◌, false};
 
-use crate::runs::{Run, bytes_of, disk_of, words_of};
-use px_kv_trail::Act;
+use crate::runs::{bytes_of, words_of};
+use px_kv_trail::{Act, Trail};
 use px_outside::{Clock, FixedClock, MemDisk, MemSink, MemSource};
-use px_program::phoenix;
+use px_program::{Outcome, phoenix};
 use std::alloc::{AllocError, Global};
 
 /// The greatest clock that counts as itself.
@@ -33,30 +33,67 @@ impl Clock for JumpingClock {
     }
 }
 
-fn run_at<C: Clock + Drop>(
-    alloc: Global,
+/// What two UPSERTs left: their stamps, and the disk.
+#[derive(Drop)]
+struct Stamped {
+    first: u64,
+    second: u64,
     disk: MemDisk,
-    clock: C,
-    script: &str,
-) -> Result<Run, AllocError>
-    requires fresh { (calls_of disk ≡ 0) × (faults_of disk ≡ 0) × (first_fault_of disk ≡ 0) }
-{
-    let words = words_of(alloc, "run folder")?;
-    let mut input = MemSource::of(bytes_of(alloc, script)?);
-    let mut printed = MemSink::new(alloc);
-    let outcome = phoenix(alloc, &words, disk, clock, &mut input, &mut printed);
-    Ok(Run { outcome, printed })
 }
 
 /// The stamp of the batch that the entry at this place begins; 0 where it begins none.
-fn stamp_at(run: &Run, place: u64) -> u64 {
-    if place >= run.outcome.trail.len() {
-        return 0;
+fn stamp_at(alloc: Global, trail: &Trail, place: u64) -> Result<u64, AllocError> {
+    if place >= trail.len() {
+        return Ok(0);
     }
-    match &run.outcome.trail.entry(place).act {
+    let entry = trail.entry(alloc, place)?;
+    let stamp = match &entry.act {
         Act::Begun { stamp, .. } => *stamp,
         _ => 0,
+    };
+    drop(entry);
+    Ok(stamp)
+}
+
+/// The stamps and the disk of an outcome.
+fn stamps_of(alloc: Global, outcome: Outcome<MemDisk>) -> Result<Stamped, AllocError> {
+    let Outcome {
+        status: _,
+        disk,
+        trail,
+        late,
+        transcripts,
+        memory: _,
+    } = outcome;
+    drop(late);
+    drop(transcripts);
+    let (first, second) = (stamp_at(alloc, &trail, 0), stamp_at(alloc, &trail, 3));
+    drop(trail);
+    match (first, second) {
+        (Ok(first), Ok(second)) => Ok(Stamped {
+            first,
+            second,
+            disk,
+        }),
+        _ => {
+            drop(disk);
+            Err(AllocError)
+        }
     }
+}
+
+/// A run of the two UPSERTs.
+fn run_at<C: Clock + Drop>(alloc: Global, disk: MemDisk, clock: C) -> Result<Stamped, AllocError>
+    requires fresh { (calls_of disk ≡ 0) × (faults_of disk ≡ 0) × (first_fault_of disk ≡ 0) }
+{
+    let words = words_of(alloc, "run folder")?;
+    let mut input = MemSource::of(bytes_of(alloc, TWO)?);
+    let mut printed = MemSink::new(alloc);
+    let outcome = phoenix(alloc, &words, disk, clock, &mut input, &mut printed);
+    drop(words);
+    drop(input);
+    drop(printed);
+    stamps_of(alloc, outcome)
 }
 
 /// Whether two UPSERTs at this clock have these stamps.
@@ -66,8 +103,8 @@ fn are_stamped<C: Clock + Drop>(
     first: u64,
     second: u64,
 ) -> Result<bool, AllocError> {
-    let run = run_at(alloc, MemDisk::new(alloc), clock, TWO)?;
-    Ok(stamp_at(&run, 0) == first && stamp_at(&run, 3) == second)
+    let run = run_at(alloc, MemDisk::new(alloc), clock)?;
+    Ok(run.first == first && run.second == second)
 }
 
 #[test]
@@ -103,16 +140,15 @@ fn a_clock_beyond_the_latest_counts_as_it(rt: HostRuntime) {
     assert!(rt; are_stamped(alloc, FixedClock(u64::MAX), LATEST, LATEST + 1) == Ok(true));
 }
 
+/// The stamps of two runs, one after the other on one disk, of which the second's clock is behind.
+fn runs_back(alloc: Global) -> Result<bool, AllocError> {
+    let first = run_at(alloc, MemDisk::new(alloc), FixedClock(1_000))?;
+    let Stamped { disk, .. } = first;
+    let second = run_at(alloc, disk.image(), FixedClock(10))?;
+    Ok(second.first == 1_002 && second.second == 1_003)
+}
+
 #[test]
 fn a_clock_that_jumps_back_between_runs_is_passed_over(rt: HostRuntime) {
-    let alloc = rt.alloc();
-    let Ok(first) = run_at(alloc, MemDisk::new(alloc), FixedClock(1_000), TWO) else {
-        panic!(rt; "no memory")
-    };
-    let disk = disk_of(first).image();
-    let Ok(second) = run_at(alloc, disk, FixedClock(10), TWO) else {
-        panic!(rt; "no memory")
-    };
-    assert_eq!(rt; stamp_at(&second, 0), 1_002);
-    assert_eq!(rt; stamp_at(&second, 3), 1_003);
+    assert!(rt; runs_back(rt.alloc()) == Ok(true));
 }

@@ -26,7 +26,7 @@ fn ends_so(
 ) -> Result<bool, AllocError> {
     let disk = MemDisk::new(alloc).fail_at(only(alloc, call)?);
     let run = run_words(alloc, "run folder", disk, FIRST_SCRIPT)?;
-    let as_said = is_printed(&run, status, replies) && run.outcome.trail.len() == entries;
+    let as_said = is_printed(&run, status, replies) && run.entries == entries;
     let next = run_again(alloc, disk_of(run), "SELECT * FROM KV")?;
     Ok(as_said && is_printed(&next, Status::Done, left))
 }
@@ -88,7 +88,7 @@ fn run_with_output(alloc: Global, call: u64) -> Result<Run, AllocError> {
 
 fn is_unrun(run: Run, status: Status) -> bool {
     let printed = is_printed(&run, status, "");
-    printed && run.outcome.trail.len() == 0 && run.outcome.disk.calls_made().is_empty()
+    printed && run.entries == 0 && run.disk.calls_made().is_empty()
 }
 
 #[test]

@@ -1,6 +1,6 @@
 // The first runs: their rows, their file, and words that are no command.
 use crate::runs::{
-    FIRST_SCRIPT, FIRST_SEGMENT, Run, disk_of, is_printed, run_again, run_words, words_of,
+    FIRST_SCRIPT, FIRST_SEGMENT, Run, bytes_of, disk_of, is_printed, run_again, run_words, words_of,
 };
 use px_outside::{Disk, MemDisk};
 use px_program::{Status, folder_disk};
@@ -30,7 +30,7 @@ fn the_first_run_prints_its_row_and_leaves_its_file(rt: HostRuntime) {
     };
     let text = "1 row affected\n'a', 'b'\n1 row selected\n";
     assert!(rt; is_printed(&run, Status::Done, text));
-    assert_eq!(rt; run.outcome.trail.len(), 3);
+    assert_eq!(rt; run.entries, 3);
     let mut disk = disk_of(run);
     assert!(rt; has_file(&mut disk, &FIRST_SEGMENT));
     let Ok(again) = run_again(alloc, disk, FIRST_SCRIPT) else {
@@ -45,7 +45,7 @@ fn an_empty_script_prints_nothing(rt: HostRuntime) {
         panic!(rt; "no memory")
     };
     assert!(rt; is_printed(&run, Status::Done, ""));
-    assert_eq!(rt; run.outcome.trail.len(), 0);
+    assert_eq!(rt; run.entries, 0);
 }
 
 #[test]
@@ -83,7 +83,7 @@ fn bad_words_touch_nothing(rt: HostRuntime) {
             panic!(rt; "no memory")
         };
         assert!(rt; is_printed(&run, Status::BadWords, ""));
-        assert!(rt; run.outcome.disk.calls_made().is_empty());
+        assert!(rt; run.disk.calls_made().is_empty());
     }
 }
 
@@ -103,6 +103,57 @@ fn a_damaged_log_is_refused_at_its_place(rt: HostRuntime) {
         place: 17,
     };
     assert!(rt; is_printed(&run, status, ""));
+}
+
+/// The value of the long row: characters of two, three and four bytes.
+const LONG_VALUE: &str = "\u{fc}\u{20ac}\u{1f600}";
+
+/// The first segment of region 1's log with one row: a key of 1,023 letters, LONG_VALUE, and the greatest stamp.
+fn long_segment(alloc: Global) -> Result<Vec<u8>, AllocError> {
+    let mut bytes = Vec::new(alloc);
+    bytes.extend_from_slice(&FIRST_SEGMENT[..18])?;
+    bytes.extend_from_slice(&[0, 0, 0x08, 0x31])?;
+    bytes.extend_from_slice(&FIRST_SEGMENT[22..34])?;
+    for (qualifier, len, value) in [(1, 0, ""), (3, 9, LONG_VALUE)] {
+        bytes.extend_from_slice(&[4, 0])?;
+        for _ in 0..1_023 {
+            bytes.push(b'k')?;
+        }
+        bytes.extend_from_slice(&[0, qualifier, 0x7f])?;
+        bytes.extend_from_slice(&[0xff, 0xff, 0xff, 0xff, 0xff, 0xff, 0xff, 4])?;
+        bytes.extend_from_slice(&[0, len])?;
+        bytes.extend_from_slice(value.as_bytes())?;
+    }
+    bytes.push(0)?;
+    Ok(bytes)
+}
+
+/// What is printed of the long row, and of an UPSERT for which no stamp is left.
+fn long_replies(alloc: Global) -> Result<Vec<u8>, AllocError> {
+    let mut bytes = bytes_of(alloc, "'")?;
+    for _ in 0..1_023 {
+        bytes.push(b'k')?;
+    }
+    bytes.extend_from_slice(b"', '")?;
+    bytes.extend_from_slice(LONG_VALUE.as_bytes())?;
+    bytes.extend_from_slice(b"'\n1 row selected\nE11 limit: STAMPS 9223372036854775807\n")?;
+    Ok(bytes)
+}
+
+/// Whether the long row is read from its file, and no stamp is left behind it.
+fn reads_the_long_row(alloc: Global) -> Result<bool, AllocError> {
+    let mut disk = MemDisk::new(alloc);
+    let bytes = long_segment(alloc)?;
+    let written = disk.write(4_294_967_296, 0, &bytes).is_ok() && disk.sync(4_294_967_296).is_ok();
+    let script = "SELECT * FROM KV; UPSERT INTO KV VALUES ('a','b')";
+    let run = run_again(alloc, disk, script)?;
+    let replies = long_replies(alloc)?;
+    Ok(written && run.printed.held() == replies.as_slice())
+}
+
+#[test]
+fn a_row_at_its_limits_is_read(rt: HostRuntime) {
+    assert!(rt; reads_the_long_row(rt.alloc()) == Ok(true));
 }
 
 #[test]

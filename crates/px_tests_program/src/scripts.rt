@@ -213,7 +213,7 @@ fn a_deep_statement_is_left_out_as_each_other(rt: HostRuntime) {
         let Ok(run) = run_words(alloc, "run folder", MemDisk::new(alloc), &cut) else {
             panic!(rt; "no memory")
         };
-        assert!(rt; run.outcome.status == Status::Refused);
+        assert!(rt; run.status == Status::Refused);
         assert!(rt; run.printed.held().starts_with(b"E01 syntax at byte "));
     }
 }
@@ -268,7 +268,7 @@ fn a_divided_script_is_left_out_whole(rt: HostRuntime) {
             panic!(rt; "no memory")
         };
         assert!(rt; is_printed(&run, Status::Refused, FORM));
-        assert_eq!(rt; run.outcome.trail.len(), 0);
+        assert_eq!(rt; run.entries, 0);
     }
 }
 
@@ -288,6 +288,6 @@ fn a_script_that_is_no_text_is_refused_at_its_first_bad_byte(rt: HostRuntime) {
             panic!(rt; "no memory")
         };
         assert!(rt; is_printed(&run, Status::Refused, text));
-        assert_eq!(rt; run.outcome.trail.len(), 0);
+        assert_eq!(rt; run.entries, 0);
     }
 }

@@ -25,7 +25,7 @@ fn stopped(
     requires none_made { made_of disk ≡ [] }
 {
     let run = run_words(alloc, "run folder", disk.stop_at(call, choice), script)?;
-    if run.outcome.status != (Status::Device { call }) {
+    if run.status != (Status::Device { call }) {
         return Ok(None);
     }
     Ok(Some(disk_of(run).image()))
@@ -192,7 +192,7 @@ fn file_opens(alloc: Global, bytes: &[u8], opens: Opens) -> Result<bool, AllocEr
                 Opens::NoRow => is_printed(&run, Status::Done, "0 rows selected\n"),
                 Opens::Row(value) => {
                     let row = printed_row(alloc, value)?;
-                    run.outcome.status == Status::Done && run.printed.held() == row.as_slice()
+                    run.status == Status::Done && run.printed.held() == row.as_slice()
                 }
             },
     )

@@ -1,9 +1,8 @@
 -- What stays true of the store from statement to statement.
-use Rattle.std.specs.Prelude.{◌≡◌, ◌≤◌, ◌++◌, [], ℕ, List, IsTrue, IsSome, Option, Ok, ◌+◌, sum_by}
+use Rattle.std.specs.Prelude.{◌≡◌, ◌≤◌, ◌++◌, ◌∷◌, [], ℕ, List, IsTrue, IsSome, Option, Ok, ◌+◌}
 use Rattle.px_outside.specs.OnDisk.{Rose, Stays}
 use Rattle.px_outside.specs.declared.disk.Disk.{Ghosts}
 use Rattle.px_values.specs.declared.change.Change.{Change}
-use Rattle.px_values.specs.declared.row.Value.{Value}
 use Rattle.px_kv_trail.specs.declared.entry.Entry.{Entry}
 use Rattle.px_kv_trail.specs.Count.{counted_change}
 use Rattle.px_kv_trail.specs.Trail.{Base, IsLegal, calls_of}
@@ -77,12 +76,12 @@ abbrev pub IsAppended : {D : Type 0} → Ghosts D → D → D → GateLog → Ga
 IsAppended d disk disk' log log' r = Reaches d log log' disk disk' (IsAppend r)
 
 -- the record in the frame is in the log, and the entries of its batch are in the trail
-pub record IsWritten {D : Type 0} (d : Ghosts D) (disk disk' : D) (old new : Store) (stamp : ℕ) (changes : List Change) (rows : List (List Value)) : Type 0 where
+pub record IsWritten {D : Type 0} (d : Ghosts D) (disk disk' : D) (old new : Store) (stamp : ℕ) (change : Change) : Type 0 where
   pub appended : IsAppended d disk disk' old.log new.log (record_of old.frame)
   pub same_log : IsSameLog old.log new.log
   pub opened : is_open new.log
-  pub entries : new.trail.entries ≡ with_batch old.trail.entries (d.calls disk) (d.calls disk') stamp changes rows
-  pub bytes_room : new.trail.bytes_room + sum_by counted_change changes ≡ old.trail.bytes_room
+  pub entries : new.trail.entries ≡ with_batch old.trail.entries (d.calls disk) (d.calls disk') stamp (change ∷ []) (change.row ∷ [])
+  pub bytes_room : new.trail.bytes_room + counted_change change ≡ old.trail.bytes_room
   pub last : new.last ≡ stamp
   pub number : new.number ≡ old.number
   pub map : new.rows ≡ old.rows

@@ -5,7 +5,7 @@ ghost use Rattle.px_program.specs.Printed.{printed, printed_items, printed_reply
 use crate::session::refusal::Refusal;
 use crate::session::reply::{Item, Reply, Transcript, Transcripts};
 use itoa::Buffer;
-use px_values::{CountWord, Line, print_count, print_rows};
+use px_values::{CountWord, Line, print_count};
 use std::alloc::AllocError;
 
 fn print_number(number: u64, to: &mut Line) -> Result<(), AllocError>
@@ -44,8 +44,8 @@ fn print_reply(reply: &Reply, to: &mut Line) -> Result<(), AllocError>
 {
     match reply {
         Reply::Rows(rows) => {
-            print_rows(rows, to)?;
-            print_count(rows.as_slice().len() as u64, CountWord::Selected, to)?;
+            rows.print(to)?;
+            print_count(rows.len() as u64, CountWord::Selected, to)?;
         }
         Reply::Count { rows, word } => print_count(*rows, *word, to)?,
         Reply::Refused(refusal) => print_refusal(*refusal, to)?,

@@ -1,23 +1,62 @@
 // What a session is answered: transcripts, their items, and the evidence of each.
-ghost use Rattle.std.specs.Prelude.{◌≡◌, [], length, replicate};
+ghost use Rattle.std.specs.Prelude.{◌≡◌, ◌∷◌, [], length, replicate, MatchOption};
 
 use crate::session::refusal::Refusal;
 use crate::session::script::Span;
 use crate::store::receipt::Receipt;
-use px_values::{CountWord, Rows};
+use crate::store::rows::TextRows;
+use px_values::CountWord;
 use std::marker::Model;
 
 /// The answer to a statement.
 #[derive(Drop)]
 pub enum Reply {
     /// The rows of a SELECT.
-    Rows(Rows),
+    Rows(TextRows),
     /// How many rows, and what became of them.
     Count { rows: u64, word: CountWord },
     Refused(Refusal),
 }
 
-pub type Receipts = px_values::Items<Receipt>;
+/// The receipts of an answer: none, or one. They take no memory of their own.
+#[derive(Drop)]
+pub struct Receipts {
+    receipt: Option<Receipt>,
+}
+
+impl Model for Receipts {
+    ghost use Rattle.std.specs.Prelude.{List};
+    ghost use Rattle.px_program.specs.Receipted.{Receipted, at_most_one};
+
+    ghost Value = { List Receipted };
+
+    ghost view = { λ r. at_most_one r.receipt };
+}
+
+impl Receipts {
+    /// Those of an answer without a batch.
+    pub fn none() -> Receipts
+        ensures { result ≡ [] }
+    {
+        Receipts { receipt: None }
+    }
+
+    /// That of one batch.
+    pub fn one(receipt: Receipt) -> Receipts
+        ensures { result ≡ receipt ∷ [] }
+    {
+        Receipts {
+            receipt: Some(receipt),
+        }
+    }
+
+    /// The receipt, where there is one.
+    pub fn first(&self) -> Option<&Receipt>
+        ensures { MatchOption result (self.now ≡ []) (λ receipt. self.now ≡ receipt.now ∷ []) }
+    {
+        self.receipt.as_ref()
+    }
+}
 
 /// The place of each row of an answer, a number of trail entries: the same for all of them.
 #[derive(Drop)]

@@ -12,5 +12,5 @@ returns c = λ origin puts told holds. (
   subst (λ (l : List (List Value)). AreRowsNow origin.base c.args.store.now.trail.entries kv l) (sym c.in-Ok.ensures.rows)
       (rows_told origin.base c.args.store.now.trail.entries c.args.store.now.rows puts c.args.store.now.last c.args.store.now.number told holds c.in-Ok.ensures.ordered),
   c.of-places.ensures
-      ∙ (ap (λ (l : List (List Value)). replicate (length l) c.entries.result) c.as_slice.ensures ∙ ap (λ (n : ℕ). replicate (length c.in-Ok.rows) n) c.entries.ensures),
+      ∙ (ap (λ (n : ℕ). replicate n c.entries.result) c.len.ensures ∙ ap (λ (n : ℕ). replicate (length c.in-Ok.rows) n) c.entries.ensures),
 )

@@ -1,0 +1,50 @@
+#!/usr/bin/env bash
+# How much memory a run takes: for each UPSERT of 30 bytes, for each piece that is no statement, and for the rows of a
+# SELECT, beside what a run with an empty script takes. The greatest resident memory of each run is what the system counts.
+# Usage: bench/memory.sh [UPSERTS [PIECES [ROWS]]] (300000, 1000000, 20000)
+set -eu
+top=$(cd "$(dirname "$0")/.." && pwd)
+program=$top/crates/px_main/out/px_main
+# Proves and builds the program, where that wasn't done yet. An empty script makes no folder.
+"$top/nipuhako" run "$top/crates/px_main/out/none" </dev/null
+exec python3 - "$program" "${1:-300000}" "${2:-1000000}" "${3:-20000}" <<'PY'
+import os, resource, subprocess, sys, tempfile
+
+program, upserts, pieces, rows = sys.argv[1], *map(int, sys.argv[2:])
+work = tempfile.mkdtemp(dir="/dev/shm" if os.path.isdir("/dev/shm") else None)
+
+
+def run(folder, script):
+    """The greatest resident memory of a run in bytes, and what it printed."""
+    with open(work + "/script", "w") as file:
+        file.write(script)
+    reader, writer = os.pipe()
+    child = os.fork()
+    if child == 0:
+        with open(work + "/script") as source, open(work + "/printed", "w") as sink:
+            subprocess.call([program, "run", folder], stdin=source, stdout=sink)
+        os.write(writer, str(resource.getrusage(resource.RUSAGE_CHILDREN).ru_maxrss).encode())
+        os._exit(0)
+    os.waitpid(child, 0)
+    most = int(os.read(reader, 32)) * 1024
+    os.close(reader)
+    os.close(writer)
+    return most, os.path.getsize(work + "/printed")
+
+
+try:
+    none, _ = run(work + "/none", "")
+    script = "UPSERT INTO KV VALUES('a','b');" * upserts
+    most, printed = run(work + "/upserts", script)
+    print(f"{upserts} UPSERTs of 30 bytes: {(most - none) / upserts:.0f} bytes each, of which {(len(script) + printed) / upserts:.0f} are its own and its reply's")
+    script = "X;" * pieces
+    most, printed = run(work + "/pieces", script)
+    print(f"{pieces} pieces X; : {(most - none) / pieces:.0f} bytes each, of which {(len(script) + printed) / pieces:.0f} are its own and its reply's")
+    folder = work + "/rows"
+    run(folder, "".join(f"UPSERT INTO KV VALUES('k{i:05}','v');" for i in range(rows)))
+    opened, _ = run(folder, "")
+    most, printed = run(folder, "SELECT * FROM KV")
+    print(f"a SELECT of {rows} rows: {most - opened} bytes, {(most - opened) / printed:.1f} times the {printed} that it prints")
+finally:
+    subprocess.call(["rm", "-rf", work])
+PY
