@@ -22,8 +22,7 @@ use Rattle.px_tables.specs.declared.index.IndexState.TheVariants as states
 use Rattle.px_tables.specs.declared.index.NewIndex.{NewIndex}
 use Rattle.px_tables.specs.declared.table.NewTable.{NewTable}
 use Rattle.px_tables.specs.declared.table.Table.{Table}
-use Rattle.px_tables.specs.declared.table.TableColumn.{TableColumn}
-use Rattle.px_paths.specs.Paths.{columns_on, index_path, is_keyed, table_path, type_in, values_on}
+use Rattle.px_paths.specs.Paths.{columns_on, index_path, is_keyed, table_path, type_in}
 pub use Rattle.px_paths.specs.Paths.{AreOfTypes, FitsRow}
 use Rattle.px_trail.specs.declared.entry.Act.{Act}
 use Rattle.px_trail.specs.declared.entry.Act.TheVariants.{Based, IndexMade, IndexState}

@@ -1,19 +1,16 @@
 -- What conjuncts say of a path is a range of its keys: each edge can bound its column.
-use Rattle.std.proofs.Common.{◌≡◌, ℕ, Bool, true, false, nat_eq, List, [], ◌∷◌, refl, sym, ap, subst, ◌∙◌, Option, Some, None}
+use Rattle.std.proofs.Common.{◌≡◌, ℕ, Bool, true, false, List, [], ◌∷◌, refl, sym, subst, ◌∙◌, Option, Some, None}
 use Rattle.px_values.specs.declared.row.Value.{Value}
-use Rattle.px_values.specs.declared.row.Value.TheVariants.{Null}
 use Rattle.px_ast.specs.declared.condition.Comparison.TheVariants as c
 use Rattle.px_expr.specs.declared.bound.Term.TheVariants.{Column, Value as Given}
 use Rattle.px_expr.specs.declared.bound.Test.{Test}
-use Rattle.px_expr.specs.declared.bound.Test.TheVariants.{Compare, IsNull, Between}
+use Rattle.px_expr.specs.declared.bound.Test.TheVariants.{Compare, Between}
 use Rattle.px_expr.specs.declared.bound.Bound.{Bound, Or', And', Not'}
 use Rattle.px_expr.specs.declared.bound.Bound.TheVariants as bounds
 use Rattle.px_ranges.specs.Led.{EdgeIsFor, IsFor, can_bound}
 use Rattle.px_ranges.specs.declared.leading.Edge.{Edge}
-use Rattle.px_ranges.specs.declared.leading.Leading.{Leading}
-use Rattle.px_ranges.specs.declared.leading.Span.{Span}
 use Rattle.px_paths.specs.declared.path.PathColumn.{PathColumn}
-use Rattle.px_conjuncts.specs.Conjuncts.{at_column, edge, edge_beside, equal_in, lower_in, told_by, upper_in}
+use Rattle.px_conjuncts.specs.Conjuncts.{at_column, edge, equal_in, lower_in, told_by, upper_in}
 use Rattle.px_conjuncts.specs.Paths.{first_told, leading_of, led_by, or_first, span_of, without_first}
 use Rattle.px_conjuncts.proofs.TestSays.{at_place, from_beside}
 use Rattle.px_paths.specs.Paths.{columns_on}

@@ -1,9 +1,8 @@
 -- What conjuncts say of a path together, and what is left of them.
-use Rattle.std.specs.Prelude.{ℕ, Bool, true, false, if◌then◌else◌, ◌&&◌, not, List, [], ◌∷◌, ◌++◌, map, Option, Some, None}
+use Rattle.std.specs.Prelude.{Bool, true, false, if◌then◌else◌, ◌&&◌, not, List, [], ◌∷◌, map, Option, Some, None}
 use Rattle.std.specs.Option.{is_some, option_map}
 use Rattle.px_values.specs.declared.row.Value.{Value}
 use Rattle.px_values.specs.declared.row.Value.TheVariants.{Null}
-use Rattle.px_keys.specs.declared.parts.KeyColumn.{KeyColumn}
 use Rattle.px_expr.specs.declared.bound.Bound.{Bound}
 use Rattle.px_expr.specs.declared.bound.Test.{Test}
 use Rattle.px_ranges.specs.declared.leading.Edge.{Edge}

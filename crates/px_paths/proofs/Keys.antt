@@ -1,5 +1,5 @@
 -- The keys of a row on the paths of its table.
-use Rattle.std.proofs.Common.{◌≡◌, ◌⊎◌, inl, inr, ℕ, zero, suc, Bool, true, false, not, ◌||◌, if◌then◌else◌, nat_eq, eqb-true, eq-eqb, List, [], ◌∷◌, ◌++◌, map, get_or, filter, slice_get, Option, Some, None, refl, sym, ap, subst, ◌∙◌, arith, ◌+◌}
+use Rattle.std.proofs.Common.{◌≡◌, ◌⊎◌, inl, inr, ℕ, zero, suc, Bool, true, false, not, ◌||◌, if◌then◌else◌, nat_eq, eqb-true, eq-eqb, List, [], ◌∷◌, ◌++◌, map, get_or, filter, slice_get, refl, sym, ap, subst, ◌∙◌, arith, ◌+◌}
 use Rattle.std.specs.List.{list_any}
 use Rattle.px_values.specs.Types.{HasType}
 use Rattle.px_values.specs.declared.row.Value.{Value}

@@ -1,4 +1,4 @@
-use Rattle.std.proofs.Common.{◌≡◌, ◌∙◌, ◌+◌, ◌++◌, ◌∷◌, [], List, Bool, Option, Some, add-one, ap, arith, length, map, subst, suc, sym, ℕ}
+use Rattle.std.proofs.Common.{◌≡◌, ◌∙◌, ◌+◌, ◌++◌, ◌∷◌, [], List, Bool, Some, add-one, ap, length, map, subst, suc, sym, ℕ}
 use Rattle.std.proofs.lemmas.List.{with_items_is, map-append}
 use Rattle.std.specs.Vec.{with_items}
 use Rattle.px_values.specs.declared.row.Value.{Value}
