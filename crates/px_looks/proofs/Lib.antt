@@ -5,3 +5,4 @@ pub mod Rising
 pub mod Among
 pub mod Parts
 pub mod Spelling
+pub mod Stamped

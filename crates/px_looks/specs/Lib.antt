@@ -1,4 +1,5 @@
 pub mod Found
 pub mod Keys
 pub mod Rows
+pub mod Stamps
 pub mod inner

@@ -10,7 +10,9 @@ mod next;
 mod reader;
 mod row;
 mod rows;
+mod stamp;
 
 pub use next::NextKeys;
 pub use row::row_state;
 pub use rows::look_rows;
+pub use stamp::has_cell_of;
