@@ -1,5 +1,6 @@
 pub mod Notes
 pub mod Server
+pub mod Steps
 pub mod Cells
 pub mod Tables
 pub mod Numbered

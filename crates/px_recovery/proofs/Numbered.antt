@@ -2,7 +2,7 @@
 use Rattle.std.proofs.Common.{◌≡◌, ◌≢◌, ◌<◌, ◌≤◌, map, ◌⊎◌, inl, inr, ℕ, zero, suc, Bool, true, false, Option, Some, List, [], ◌∷◌, ◌++◌, length, get_or, refl, sym, ap, subst, ◌∙◌, arith}
 use Rattle.std.specs.Prelude.{filter, if◌then◌else◌, ◌==◌}
 use Rattle.std.specs.List.{AllByRecursion}
-use Rattle.std.proofs.lemmas.Bool.{eq-eqb, eqb-true, ne_eqb}
+use Rattle.std.proofs.lemmas.Bool.{eqb-true}
 use Rattle.px_outside.specs.Parts.{AreDistinct, HasNone}
 use Rattle.px_tables.specs.declared.index.Index.{Index}
 use Rattle.px_tables.specs.declared.table.Table.{Table}
@@ -12,6 +12,7 @@ use Rattle.px_schema.specs.declared.standing.Standing.{Standing}
 use Rattle.px_recovery.specs.Folder.{FolderData}
 use Rattle.px_recovery.specs.Stands.{AreNumbered}
 use Rattle.px_recovery.specs.Tables.{IsOneOf, index_in, indexes_of, number_of_index, number_of_region, region_of_index, table_in}
+use Rattle.px_recovery.proofs.Lookups.{index_first, index_later}
 use Rattle.px_recovery.proofs.Tables.{IsForeign, none_place, one_place}
 
 -- ---- a table that is found
@@ -119,14 +120,6 @@ other_indexes (i ∷ is) t q place none distinct other lt =
     others_by i is t q none distinct.0 other (λ k less. other_indexes is t q k none distinct.1 other less) (i.table.0 == t) refl (i.table.0 == q) refl place lt
 
 -- an index at a place of a table's is found by its number
-index_first : (i : Index) (is : List Index) (n : ℕ) → i.id.0 ≡ n → index_in (i ∷ is) n ≡ Some i
-unfolding index_in
-index_first i is n same = rw (eq-eqb i.id.0 n same) refl
-
-index_later : (i : Index) (is : List Index) (n : ℕ) → i.id.0 ≢ n → index_in (i ∷ is) n ≡ index_in is n
-unfolding index_in
-index_later i is n other = rw (ne_eqb i.id.0 n other) refl
-
 further : (i : Index) (is : List Index) (t : ℕ) (d : Index) → HasNone number_of_index i.id.0 is → ((k : ℕ) → k < length (indexes_of t is) → (index_in is (get_or (indexes_of t is) k d).id.0 ≡ Some (get_or (indexes_of t is) k d)) × ((get_or (indexes_of t is) k d).table.0 ≡ t))
     → (k : ℕ) → k < length (indexes_of t is) → (index_in (i ∷ is) (get_or (indexes_of t is) k d).id.0 ≡ Some (get_or (indexes_of t is) k d)) × ((get_or (indexes_of t is) k d).table.0 ≡ t)
 further i is t d apart rest k l =
