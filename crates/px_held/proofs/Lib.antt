@@ -1,4 +1,5 @@
 pub mod Applying
 pub mod Assigning
+pub mod Finding
 pub mod Fresh
 pub mod Nulls

@@ -1,11 +1,13 @@
-//! Changes of one row that are held, merged into one.
+//! Changes that are held until they are committed, each of another row.
 //!
-//! A batch names each row once, so of two changes of a row that a session holds `merged` makes one. `law_merged` says that the
-//! one does to every state of the row what the two do one after the other.
+//! `hold` adds a change: a batch names each row once, so two changes of a row are merged into one, as `with_change` (specs/Held)
+//! says. `law_merged` says that the one does to every state of the row what the two do one after the other.
 #![tactic(auto)]
 
+mod holding;
 mod laws;
 mod merging;
 
+pub use holding::{HoldFault, hold};
 pub use laws::law_merged;
 pub use merging::merged;
