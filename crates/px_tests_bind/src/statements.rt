@@ -147,13 +147,18 @@ fn read(rt: &impl Abort, alloc: Global, text: &str) -> Statement {
     }
 }
 
-/// The table of a new one, with one region.
-fn standing(alloc: Global, new: NewTable) -> Result<Table, AllocError> {
+/// Region 1, with the empty least key.
+fn one_region(alloc: Global) -> Result<Items<TableRegion>, AllocError> {
     let mut regions = Vec::new(alloc);
     regions.push(TableRegion {
         number: 1,
         least_key: Key::of(Vec::new(alloc)),
     })?;
+    Ok(Items::of(regions))
+}
+
+/// The table of a new one, with these regions.
+fn standing(new: NewTable, regions: Items<TableRegion>) -> Table {
     let NewTable {
         name,
         columns,
@@ -161,13 +166,13 @@ fn standing(alloc: Global, new: NewTable) -> Result<Table, AllocError> {
         least_keys,
     } = new;
     drop(least_keys);
-    Ok(Table {
+    Table {
         id: TableId(2),
         name,
         columns,
         key,
-        regions: Items::of(regions),
-    })
+        regions,
+    }
 }
 
 fn built(new: NewIndex) -> Index {
@@ -189,33 +194,42 @@ fn built(new: NewIndex) -> Index {
     }
 }
 
-/// The table with its index; there is only a table where `index` is none.
-fn found(table: Table, index: Option<Index>, alloc: Global) -> Result<Found, AllocError> {
+/// The list of this index alone.
+fn listed(alloc: Global, index: Index) -> Result<Items<Index>, AllocError> {
     let mut indexes = Vec::new(alloc);
-    if let Some(index) = index {
-        indexes.push(index)?;
+    if indexes.push(index).is_err() {
+        drop(indexes);
+        return Err(AllocError);
     }
-    Ok(Found {
-        table,
-        indexes: Items::of(indexes),
-        at: 0,
-    })
+    Ok(Items::of(indexes))
 }
 
-fn table(rt: &impl Abort, alloc: Global) -> Result<Table, AllocError> {
+fn new_table(rt: &impl Abort, alloc: Global) -> NewTable {
     let statement = read(rt, alloc, TABLE);
     let bound = match &statement {
         Statement::CreateTable(_) => bind(alloc, &statement, None),
         _ => panic!(rt; "no CREATE TABLE"),
     };
+    drop(statement);
     match bound {
         Ok(
             Request::CreateTable {
                 if_not_exists: _,
                 table,
             },
-        ) => standing(alloc, table),
+        ) => table,
         _ => panic!(rt; "no table"),
+    }
+}
+
+fn table(rt: &impl Abort, alloc: Global) -> Result<Table, AllocError> {
+    let new = new_table(rt, alloc);
+    match one_region(alloc) {
+        Ok(regions) => Ok(standing(new, regions)),
+        Err(fault) => {
+            drop(new);
+            Err(fault)
+        }
     }
 }
 
@@ -254,19 +268,58 @@ fn printed(rt: &impl Abort, alloc: Global, text: &str, found: &Found) -> Result<
     }
 }
 
-#[test]
-fn statements_are_bound_or_refused(rt: HostRuntime) -> Result<(), Fail> {
-    let alloc = rt.alloc();
-    let bare = found(table(&rt, alloc)?, None, alloc)?;
-    let index = index(&rt, alloc, &bare);
-    let found = found(table(&rt, alloc)?, Some(index), alloc)?;
+/// The index, bound on the table alone.
+fn first_index(rt: &impl Abort, alloc: Global) -> Result<Index, AllocError> {
+    let table = table(rt, alloc)?;
+    let bare = Found {
+        table,
+        indexes: Items::of(Vec::new(alloc)),
+        at: 0,
+    };
+    let index = index(rt, alloc, &bare);
+    drop(bare);
+    Ok(index)
+}
+
+fn indexes(rt: &impl Abort, alloc: Global) -> Result<Items<Index>, AllocError> {
+    let index = first_index(rt, alloc)?;
+    listed(alloc, index)
+}
+
+/// The table with its index.
+fn found(rt: &impl Abort, alloc: Global) -> Result<Found, AllocError> {
+    let table = table(rt, alloc)?;
+    match indexes(rt, alloc) {
+        Ok(indexes) => Ok(Found {
+            table,
+            indexes,
+            at: 0,
+        }),
+        Err(fault) => {
+            drop(table);
+            Err(fault)
+        }
+    }
+}
+
+/// Tests each line, and gives how many there are.
+fn are_bound(rt: &impl Abort, alloc: Global, found: &Found) -> Result<u32, AllocError> {
     let mut lines = 0u32;
     for line in STATEMENTS.lines() {
         let (text, expected) = line.split_once(" => ").unwrap_or((line, ""));
-        let answer = printed(&rt, alloc, text, &found)?;
+        let answer = printed(rt, alloc, text, found)?;
         assert_eq!(rt; answer.as_slice(), expected.as_bytes(), "{text}");
+        drop(answer);
         lines = lines.saturating_add(1);
     }
-    assert_eq!(rt; lines, 122);
+    Ok(lines)
+}
+
+#[test]
+fn statements_are_bound_or_refused(rt: HostRuntime) -> Result<(), Fail> {
+    let found = found(&rt, rt.alloc())?;
+    let lines = are_bound(&rt, rt.alloc(), &found);
+    drop(found);
+    assert_eq!(rt; lines?, 122);
     Ok(())
 }
