@@ -1,5 +1,5 @@
 -- Blocks, one behind the others.
-use Rattle.std.proofs.Common.{◌≡◌, ℕ, zero, suc, ◌+◌, ◌*◌, ◌^◌, ◌<◌, ◌≤◌, List, [], ◌∷◌, ◌++◌, length, take, get_or, refl, sym, ap, subst, ◌∙◌, arith, append_assoc, length-append, inl, inr}
+use Rattle.std.proofs.Common.{◌≡◌, ℕ, zero, suc, ◌+◌, ◌<◌, ◌≤◌, List, [], ◌∷◌, ◌++◌, length, take, get_or, refl, sym, ap, subst, ◌∙◌, arith, append_assoc, length-append, inl, inr}
 use Rattle.std.specs.Prelude.{max}
 use Rattle.std.specs.List.{AllByRecursion}
 use Rattle.std.proofs.lemmas.List.{append-nil, take_more}
@@ -7,7 +7,7 @@ use Rattle.px_cells.specs.CellData.{CellData}
 use Rattle.px_cellbytes.specs.Spelling.{IsShortEnough, all_bytes, cell_bytes}
 use Rattle.px_cellbytes.proofs.Bytes.{all_bytes-push, length-cell_bytes}
 use Rattle.px_cellbytes.proofs.NextFaults.{last_of}
-use Rattle.px_block.specs.Block.{IsBlock, IsClosed, IsFull, block_bytes}
+use Rattle.px_block.specs.Block.{IsBlock, IsClosed, block_bytes}
 use Rattle.px_block.proofs.Counts.{length-block_bytes}
 use Rattle.px_block.proofs.OneBlock.{no_longer}
 use Rattle.px_file.specs.Format.{blocks_bytes, cells_in, end_of, entry_of, greatest, index_of}

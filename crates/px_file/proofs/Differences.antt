@@ -1,5 +1,5 @@
 -- The first place where bytes differ.
-use Rattle.std.proofs.Common.{◌≡◌, ◌≢◌, ℕ, ◌+◌, ◌<◌, ◌≤◌, List, [], ◌∷◌, ◌++◌, length, take, drop, get_or, refl, sym, ap, subst, ◌∙◌, arith}
+use Rattle.std.proofs.Common.{◌≡◌, ℕ, ◌+◌, ◌<◌, ◌≤◌, List, [], ◌∷◌, ◌++◌, length, take, get_or, sym, ap, ◌∙◌, arith}
 use Rattle.std.proofs.lemmas.List.{get_or-take, length-take, take-take, take_all, take_more}
 use Rattle.px_file.specs.Reading.{DiffersAt, IsOther}
 use Rattle.px_file.specs.Reading.IsOther.{byte, short, long}

@@ -4,3 +4,4 @@ pub mod Growing
 pub mod Written
 pub mod Differences
 pub mod Walking
+pub mod OneBlockOf

@@ -1,9 +1,9 @@
 -- Reading the blocks of a file one after the other.
-use Rattle.std.proofs.Common.{◌≡◌, ◌≢◌, ◌⊎◌, ℕ, ◌+◌, ◌-◌, ◌*◌, ◌^◌, ◌<◌, ◌≤◌, Bool, true, false, List, [], ◌∷◌, ◌++◌, length, take, drop, Result, Ok, Err, refl, sym, ap, subst, ◌∙◌, arith, append_assoc, length-append, inl, inr}
+use Rattle.std.proofs.Common.{◌≡◌, ◌≢◌, ◌⊎◌, ℕ, ◌+◌, ◌-◌, ◌*◌, ◌<◌, ◌≤◌, Bool, true, false, List, [], ◌∷◌, ◌++◌, length, take, drop, refl, sym, ap, subst, ◌∙◌, arith, append_assoc, inl, inr}
 use Rattle.std.specs.Prelude.{IsTrue, ◌↔◌}
 use Rattle.std.specs.Int.{w32, from_be_bytes}
 use Rattle.std.specs.List.{AllByRecursion}
-use Rattle.std.proofs.lemmas.List.{append-nil, drop-drop, drop_at, length-take, take-append-drop, take-take}
+use Rattle.std.proofs.lemmas.List.{drop-drop, drop_at, length-take, take-append-drop, take-take}
 use Rattle.std.proofs.lemmas.Bool.{cases_Bool}
 use Rattle.px_outside.specs.Disk.{Image, Rose, Stays}
 use Rattle.px_outside.specs.OnDisk.{Only}
@@ -16,9 +16,9 @@ use Rattle.px_cellbytes.specs.Reading.{place_of}
 use Rattle.px_block.specs.Block.{IsBlock, IsFull, block_bytes}
 use Rattle.px_block.specs.Reading.{ComesAfter, HasCount, IsFront, IsFrontFault, count_in}
 use Rattle.px_block.proofs.OneBlock.{front_within}
-use Rattle.px_file.specs.Format.{AreBlocks, blocks_bytes, cells_in, end_of, letters, tail_bytes}
+use Rattle.px_file.specs.Format.{blocks_bytes, cells_in, letters, tail_bytes}
 use Rattle.px_file.specs.IndexOf.{IsIndex}
-use Rattle.px_file.specs.Reading.{BeginsWith, DiffersAt, GoesOn, IsFirstWrong, last_block}
+use Rattle.px_file.specs.Reading.{DiffersAt, IsFirstWrong, last_block}
 use Rattle.px_file.specs.Reading.IsFirstWrong.{in_block, in_tail}
 use Rattle.px_file.specs.Files.{HasBlocks}
 use Rattle.px_file.specs.declared.index.Index.{Index}

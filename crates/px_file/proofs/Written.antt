@@ -1,7 +1,6 @@
 -- What stands in a file while it is made.
-use Rattle.std.proofs.Common.{◌≡◌, ℕ, ◌+◌, ◌^◌, ◌<◌, ◌≤◌, Bool, true, false, List, [], ◌∷◌, ◌++◌, length, take, drop, refl, sym, ap, subst, ◌∙◌, arith, append_assoc, length-append}
+use Rattle.std.proofs.Common.{◌≡◌, ℕ, ◌+◌, ◌^◌, ◌<◌, true, List, [], ◌∷◌, ◌++◌, length, take, drop, sym, ap, subst, ◌∙◌, arith, append_assoc, length-append}
 use Rattle.std.specs.Prelude.{IsTrue}
-use Rattle.std.specs.List.{AllByRecursion}
 use Rattle.std.proofs.lemmas.List.{append-nil, drop_all, take_all}
 use Rattle.px_outside.specs.Disk.{written}
 use Rattle.px_outside.specs.declared.disk.Disk.{Ghosts}
@@ -10,7 +9,7 @@ use Rattle.px_outside.proofs.Written.{written_inside}
 use Rattle.px_cells.specs.CellData.{CellData}
 use Rattle.px_block.specs.Block.{IsBlock, IsFull, block_bytes}
 use Rattle.px_block.specs.Reading.{ComesAfter}
-use Rattle.px_file.specs.Format.{AreBlocks, blocks_bytes, cells_in, end_of, file_bytes, letters, tail_bytes, tail_of}
+use Rattle.px_file.specs.Format.{blocks_bytes, cells_in, letters, tail_bytes, tail_of}
 use Rattle.px_file.specs.IndexOf.{IsIndex}
 use Rattle.px_file.specs.Files.{HasBlocks, HasWritten}
 use Rattle.px_file.specs.declared.index.Index.{Index}

@@ -1,5 +1,5 @@
 -- Files of the disk that the program makes and reads.
-use Rattle.std.specs.Prelude.{◌≡◌, ◌++◌, ℕ, true, List, IsTrue}
+use Rattle.std.specs.Prelude.{◌≡◌, ◌++◌, true, List, IsTrue}
 use Rattle.std.specs.List.{AllByRecursion}
 use Rattle.px_outside.specs.declared.disk.Disk.{Ghosts}
 use Rattle.px_outside.specs.OnDisk.{Only}

@@ -10,6 +10,7 @@ pub struct IndexEntry {
     pub(crate) len: u32,
     pub(crate) key: Vec<u8>,
     ghost short: { length key.items < 2 ^ 16 },
+    ghost near: { place < 2 ^ 60 },
 }
 
 impl Model for IndexEntry {

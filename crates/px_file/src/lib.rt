@@ -6,6 +6,7 @@
 #![tactic(auto)]
 
 mod adding;
+mod block;
 mod compare;
 mod fault;
 mod index;

@@ -33,6 +33,28 @@ pub(crate) fn read_at<D: Disk>(
     Ok(n)
 }
 
+/// So many bytes that stand at a place, or as many as there are.
+pub(crate) fn read_bytes<D: Disk>(
+    alloc: Global,
+    disk: &mut D,
+    file: u64,
+    at: u64,
+    len: u32,
+) -> Result<Vec<u8>, FileFault>
+    ensures bytes { IfOk result (λ bytes. IsTrue D.tells → bytes.items ≡ take len (drop at (D.seen disk.old file))) }
+    ensures within { IfOk result (λ bytes. length bytes.items ≤ len) }
+    ensures seen { D.seen disk.new ≡ D.seen disk.old }
+    ensures quiet { Stays ⟦<D as Disk>⟧ disk.old disk.new }
+    ensures failed { result ≡ Err FileFault.ReadFault → Rose ⟦<D as Disk>⟧ disk.old disk.new }
+    ensures whole { (f place : ℕ) → result ≢ Err (FileFault.Damaged f place) }
+    ensures counts { Passes ⟦<D as Disk>⟧ disk.old disk.new 1 }
+{
+    let mut bytes = vec![in alloc; 0u8; len as usize]?;
+    let n = read_at(disk, file, at, &mut bytes)?;
+    bytes.truncate(n);
+    Ok(bytes)
+}
+
 /// The fault of a block that stands at a place of a file.
 pub(crate) fn damaged(file: u64, at: u64, fault: CellFault) -> FileFault
     requires { at + place_of fault < 2 ^ 64 }

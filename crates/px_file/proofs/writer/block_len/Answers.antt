@@ -1,4 +1,4 @@
-use Rattle.std.proofs.Common.{◌≡◌, ◌<◌, length, take, ap, subst, sym, arith}
+use Rattle.std.proofs.Common.{◌≡◌, length, take, ap, subst, sym, arith}
 use Rattle.std.proofs.lemmas.List.{take_all}
 use Rattle.px_block.specs.Block.{IsClosed}
 use Rattle.px_cellbytes.specs.Spelling.{all_bytes}

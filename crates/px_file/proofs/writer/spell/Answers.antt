@@ -1,4 +1,4 @@
-use Rattle.std.proofs.Common.{◌≡◌, ◌≤◌, ◌++◌, length, ap, ◌∙◌, arith}
+use Rattle.std.proofs.Common.{◌++◌, length, ap, ◌∙◌, arith}
 use Rattle.px_block.specs.Block.{block_bytes}
 use Rattle.px_block.proofs.Counts.{length-block_bytes}
 use Rattle.px_block.proofs.OneBlock.{block_count}

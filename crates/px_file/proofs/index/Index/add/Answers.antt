@@ -1,4 +1,4 @@
-use Rattle.std.proofs.Common.{◌≡◌, ◌++◌, ◌∷◌, [], length, ap, arith, length-append}
+use Rattle.std.proofs.Common.{length, ap, arith, length-append}
 use Rattle.px_file.proofs.Blocks.{block_cells, block_longest}
 use Rattle.px_file.proofs.Indexes.{index_added}
 use Rattle.px_file.proofs.index.Index.add.Goals as goal

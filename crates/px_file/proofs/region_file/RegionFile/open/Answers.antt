@@ -1,4 +1,4 @@
-use Rattle.std.proofs.Common.{◌≡◌, ℕ, Err, take, subst, ap, ◌∙◌}
+use Rattle.std.proofs.Common.{◌≡◌, Err, take, subst, ap, ◌∙◌}
 use Rattle.std.specs.Prelude.{IsTrue}
 use Rattle.px_outside.specs.Disk.{Image}
 use Rattle.px_outside.proofs.Moments.{only_stays}

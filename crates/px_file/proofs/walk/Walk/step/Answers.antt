@@ -1,4 +1,4 @@
-use Rattle.std.proofs.Common.{◌≡◌, length, take, drop, refl, ap, ◌∙◌, arith}
+use Rattle.std.proofs.Common.{◌≡◌, take, drop, refl, ap, ◌∙◌, arith}
 use Rattle.std.proofs.lemmas.List.{length-take}
 use Rattle.px_file.specs.declared.fault.FileFault.TheVariants.{Damaged}
 use Rattle.px_file.proofs.Walking.{fault_small, walk_last, walk_more, walk_wrong}

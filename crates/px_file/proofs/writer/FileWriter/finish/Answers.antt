@@ -1,5 +1,4 @@
-use Rattle.std.proofs.Common.{refl, sym, subst, ap, ◌∙◌}
-use Rattle.px_outside.specs.Disk.{written}
+use Rattle.std.proofs.Common.{refl, ◌∙◌}
 use Rattle.px_file.proofs.Written.{file_finished}
 use Rattle.px_file.proofs.writer.FileWriter.finish.Goals as goal
 

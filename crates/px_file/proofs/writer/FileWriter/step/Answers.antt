@@ -1,4 +1,4 @@
-use Rattle.std.proofs.Common.{◌≡◌, ◌<◌, ◌≤◌, length, take, refl, ap, ◌∙◌, arith}
+use Rattle.std.proofs.Common.{take, refl, ◌∙◌, arith}
 use Rattle.std.proofs.lemmas.Bool.{le-leb, leb-true}
 use Rattle.px_file.proofs.Growing.{after_take, written_take}
 use Rattle.px_file.proofs.Written.{block_written}
