@@ -1,6 +1,6 @@
 #!/usr/bin/env bash
 # How much memory a run takes: for each UPSERT of 30 bytes, for each piece that is no statement, and for the rows of a
-# SELECT, beside what a run with an empty script takes. The greatest resident memory of each run is what the system counts.
+# SELECT beside its printed bytes. The greatest resident memory of each run is what the system counts.
 # Usage: bench/memory.sh [UPSERTS [PIECES [ROWS]]] (300000, 1000000, 20000)
 set -eu
 top=$(cd "$(dirname "$0")/.." && pwd)
@@ -42,9 +42,12 @@ try:
     print(f"{pieces} pieces X; : {(most - none) / pieces:.0f} bytes each, of which {(len(script) + printed) / pieces:.0f} are its own and its reply's")
     folder = work + "/rows"
     run(folder, "".join(f"UPSERT INTO KV VALUES('k{i:05}','v');" for i in range(rows)))
-    opened, _ = run(folder, "")
-    most, printed = run(folder, "SELECT * FROM KV")
-    print(f"a SELECT of {rows} rows: {most - opened} bytes, {(most - opened) / printed:.1f} times the {printed} that it prints")
+    # What the opening took is free again, so some SELECTs are compared with more of them.
+    some, printed = run(folder, "SELECT * FROM KV;" * 50)
+    most, printed_by_most = run(folder, "SELECT * FROM KV;" * 150)
+    printed = (printed_by_most - printed) // 100
+    held = (most - some) // 100 - printed
+    print(f"a SELECT of {rows} rows: {held} bytes for its rows, {held / printed:.2f} times the {printed} that it prints")
 finally:
     subprocess.call(["rm", "-rf", work])
 PY
