@@ -1,21 +1,19 @@
 -- Bytes begin with one block at most, or have one first fault.
-use Rattle.std.proofs.Common.{◌≡◌, ◌≢◌, ◌⊎◌, ℕ, ◌+◌, ◌^◌, ◌<◌, ◌≤◌, List, [], ◌∷◌, ◌++◌, length, take, drop, Result, Ok, Err, refl, sym, ap, subst, ◌∙◌, arith, append_assoc, length-append, inl, inr}
-use Rattle.std.specs.Int.{w32, from_be_bytes}
+use Rattle.std.proofs.Common.{◌≡◌, ℕ, ◌+◌, ◌^◌, ◌<◌, ◌≤◌, List, [], ◌∷◌, ◌++◌, length, drop, Result, Ok, Err, refl, sym, ap, subst, ◌∙◌, arith, append_assoc, length-append}
 use Rattle.std.proofs.lemmas.List.{append-nil, length-drop}
-use Rattle.std.proofs.lemmas.Nat.{from_be_bytes-to_be_bytes_4}
 use Rattle.px_cells.specs.CellData.{CellData}
 use Rattle.px_cells.specs.Order.{Below}
 use Rattle.px_cellbytes.specs.declared.fault.CellFault.{CellFault}
 use Rattle.px_cellbytes.specs.declared.fault.CellFault.TheVariants.{Short, BadKind, OutOfOrder, Memory}
-use Rattle.px_cellbytes.specs.Spelling.{IsShortEnough, all_bytes, cell_bytes}
-use Rattle.px_cellbytes.specs.Reading.{IsFault, IsInRange, IsLeastFault, IsWritten, moved, place_of}
+use Rattle.px_cellbytes.specs.Spelling.{all_bytes, cell_bytes}
+use Rattle.px_cellbytes.specs.Reading.{IsFault, IsWritten, moved, place_of}
 use Rattle.px_cellbytes.specs.Reading.IsFault.{short, bad_kind, out_of_order}
 use Rattle.px_cellbytes.proofs.Bytes.{length-cell_bytes}
 use Rattle.px_cellbytes.proofs.Unique.{cell_same}
 use Rattle.px_cellbytes.proofs.OneReading.{AllFit, Compared, compared, least_one, no_fault}
 use Rattle.px_cellbytes.proofs.OneReading.Compared.{longer, shorter}
-use Rattle.px_block.specs.Block.{IsBlock, IsClosed, IsFull, block_bytes, count_bytes}
-use Rattle.px_block.specs.Reading.{AreBlock, BeginWith, ComesAfter, HasCount, IsBlockFault, IsBodyFault, IsFront, IsFrontFault, IsNextFault, IsReading, behind, count_in}
+use Rattle.px_block.specs.Block.{IsClosed, block_bytes, count_bytes}
+use Rattle.px_block.specs.Reading.{AreBlock, ComesAfter, HasCount, IsBlockFault, IsBodyFault, IsFront, IsFrontFault, IsNextFault, IsReading, behind, count_in}
 use Rattle.px_block.specs.Reading.IsNextFault.{of_cell, of_count}
 use Rattle.px_block.specs.Reading.IsFrontFault.{of_head, of_body}
 use Rattle.px_block.specs.Reading.IsBlockFault.{of_front, of_rest}

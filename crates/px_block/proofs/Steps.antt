@@ -11,7 +11,7 @@ use Rattle.px_cellbytes.specs.Reading.{IsLeastFault, moved}
 use Rattle.px_cellbytes.specs.inner.Fields.{IsNextCell}
 use Rattle.px_cellbytes.proofs.NextFaults.{none_last}
 use Rattle.px_cellbytes.proofs.Steps.{HasRead, read_more, read_none}
-use Rattle.px_block.specs.Block.{IsClosed, IsFull, block_bytes}
+use Rattle.px_block.specs.Block.{IsClosed, block_bytes}
 use Rattle.px_block.specs.Reading.{BeginWith, ComesAfter, HasCount, IsBlockFault, IsBodyFault, IsFront, IsFrontFault, behind, count_in}
 use Rattle.px_block.specs.Reading.IsBlockFault.{of_rest}
 use Rattle.px_block.specs.Reading.IsFrontFault.{of_body}

@@ -2,7 +2,7 @@ use Rattle.std.proofs.Common.{◌≡◌, ◌-◌, ◌∷◌, [], ◌++◌, lengt
 use Rattle.std.proofs.lemmas.Grind.{common_steps}
 use Rattle.std.proofs.lemmas.List.{take_rest}
 use Rattle.px_block.specs.Reading.{behind}
-use Rattle.px_block.proofs.Steps.{begun_closed, begun_fault, begun_full, begun_more, begun_none}
+use Rattle.px_block.proofs.Steps.{begun_fault, begun_more}
 use Rattle.px_block.proofs.read.read_body.Goals as goal
 
 pub returns-in-Err-clause-fault : goal.returns-in-Err-clause-fault
