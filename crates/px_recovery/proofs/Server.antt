@@ -126,7 +126,7 @@ module _ {D : Type 0} (d : Ghosts D) (told : (x : D) (moment file : ℕ) (bytes 
 
     -- ---- calls that write
 
-    module _ (running : closed ≡ None) (new : D) (later : d.calls old ≤ d.calls new) (four : d.calls new ≤ d.calls old + 4)
+    module _ (running : closed ≡ None) (new : D) (later : d.calls old ≤ d.calls new)
         (past : premise → IsTrue d.tells → (moment : ℕ) (image : Image) → moment < d.calls old → IsLeft d.left new moment image → IsLeft d.left old moment image) where
       goes_now : premise → IsTrue d.tells → GoesOn d b Has old es
       goes_now given tells = keeps.goes_on running given tells
@@ -203,10 +203,10 @@ module _ {D : Type 0} (d : Ghosts D) (told : (x : D) (moment file : ℕ) (bytes 
         }
 
         -- and the entry u was under way
-        pub late_server : (u : Entry) → lasting u ≡ true → u.calls ≡ d.calls new → (premise → IsTrue d.tells → MayCome b es u)
+        pub late_server : d.calls new ≤ d.calls old + 4 → (u : Entry) → lasting u ≡ true → u.calls ≡ d.calls new → (premise → IsTrue d.tells → MayCome b es u)
             → (GoesOn d b Has old es → (moment : ℕ) (image : Image) → d.calls old ≤ moment → IsLeft d.left new moment image → StandsAfter b es image ⊎ StandsAfter b (es ++ u ∷ []) image)
             → IsServer d b premise Has new (es ++ shut ∷ []) (Some u) (Some call)
-        late_server u lasts_it u-at u-may moves = record {
+        late_server four u lasts_it u-at u-may moves = record {
           early = early_now shut shut_at;
           lasts = λ given.
               let leaves : (moment : ℕ) (image : Image) → d.calls old ≤ moment → IsLeft d.left new moment image → StandsAfter b es image ⊎ StandsAfter b (es ++ u ∷ []) image = λ moment image since is. moves (goes_now given (told new moment 0 (image 0) (is 0))) moment image since is in
@@ -234,7 +234,7 @@ module _ {D : Type 0} (d : Ghosts D) (told : (x : D) (moment file : ℕ) (bytes 
 
       -- ---- of which an entry came that lasts
 
-      module _ (e : Entry) (lasts_it : lasting e ≡ true) (at : e.calls ≡ d.calls new) (may : premise → IsTrue d.tells → MayCome b es e) (unshut : closing_step None e.act ≡ None)
+      module _ (four : d.calls new ≤ d.calls old + 4) (e : Entry) (lasts_it : lasting e ≡ true) (at : e.calls ≡ d.calls new) (may : premise → IsTrue d.tells → MayCome b es e) (unshut : closing_step None e.act ≡ None)
           (moves : GoesOn d b Has old es → (moment : ℕ) (image : Image) → d.calls old ≤ moment → IsLeft d.left new moment image → StandsAfter b es image ⊎ StandsAfter b (es ++ e ∷ []) image)
           (goes : premise → IsTrue d.tells → GoesOn d b Has old es → GoesOn d b Has new (es ++ e ∷ [])) where
         step_stands : premise → Lasts d b (es ++ e ∷ []) None new

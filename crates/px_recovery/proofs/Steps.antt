@@ -32,7 +32,7 @@ one_of (inr a) = a
 
 module _ {D : Type 0} (d : Ghosts D) (told : (x : D) (moment file : ℕ) (bytes : List ℕ) → d.left x moment file bytes → IsTrue d.tells)
     (up_to_now : (x : D) (moment file : ℕ) (bytes : List ℕ) → d.left x moment file bytes → moment ≤ d.calls x) (b : Base) (premise : Type 0) (Has : Parts D)
-    (old : D) (es : List Entry) (late : Option Entry) (closed : Option ℕ) (keeps : IsServer d b premise Has old es late closed) (running : closed ≡ None) (new : D) (later : d.calls old ≤ d.calls new) (four : d.calls new ≤ d.calls old + 4)
+    (old : D) (es : List Entry) (late : Option Entry) (closed : Option ℕ) (keeps : IsServer d b premise Has old es late closed) (running : closed ≡ None) (new : D) (later : d.calls old ≤ d.calls new)
     (past : premise → IsTrue d.tells → (moment : ℕ) (image : Image) → moment < d.calls old → IsLeft d.left new moment image → IsLeft d.left old moment image) where
   goes_then : (es' : List Entry) → ((goes : GoesOn d b Has old es) → MovesFolder d b Has old new es' goes.folder) → GoesOn d b Has old es → GoesOn d b Has new es'
   goes_then es' moves goes = let m = moves goes in record { folder = m.left.folder; groups = m.left.groups; stands = m.on; explains = m.left.explains; has = m.has }
@@ -41,20 +41,20 @@ module _ {D : Type 0} (d : Ghosts D) (told : (x : D) (moment file : ℕ) (bytes 
       → StandsAfter b es image ⊎ StandsAfter b es' image
   left_then es' leaves goes = left_stands d b old new es es' goes.folder goes.groups goes.explains (leaves goes)
 
-  pub wrote_server : (e : Entry) → lasting e ≡ true → e.calls ≡ d.calls new → (premise → IsTrue d.tells → MayCome b es e) → closing_step None e.act ≡ None → ((goes : GoesOn d b Has old es) → MovesFolder d b Has old new (es ++ e ∷ []) goes.folder)
+  pub wrote_server : d.calls new ≤ d.calls old + 4 → (e : Entry) → lasting e ≡ true → e.calls ≡ d.calls new → (premise → IsTrue d.tells → MayCome b es e) → closing_step None e.act ≡ None → ((goes : GoesOn d b Has old es) → MovesFolder d b Has old new (es ++ e ∷ []) goes.folder)
       → IsServer d b premise Has new (es ++ e ∷ []) late closed
-  wrote_server e lasts at may unshut moves =
-      step_server d told up_to_now b premise Has old es late closed keeps running new later four past e lasts at may unshut (left_then (es ++ e ∷ []) (λ goes. (moves goes).left)) (λ given tells. goes_then (es ++ e ∷ []) moves)
+  wrote_server four e lasts at may unshut moves =
+      step_server d told up_to_now b premise Has old es late closed keeps running new later past four e lasts at may unshut (left_then (es ++ e ∷ []) (λ goes. (moves goes).left)) (λ given tells. goes_then (es ++ e ∷ []) moves)
 
   pub marked_server : ((goes : GoesOn d b Has old es) → MovesFolder d b Has old new es goes.folder) → IsServer d b premise Has new es late closed
   marked_server moves =
-      kept_server d told up_to_now b premise Has old es late closed keeps running new later four past (λ goes moment image since is. one_of (left_then es (λ g. (moves g).left) goes moment image since is)) (λ given tells. goes_then es moves)
+      kept_server d told up_to_now b premise Has old es late closed keeps running new later past (λ goes moment image since is. one_of (left_then es (λ g. (moves g).left) goes moment image since is)) (λ given tells. goes_then es moves)
 
   module _ (shut : Entry) (call : ℕ) (shut-is : shut.act ≡ Shut call) (shut_at : shut.calls ≡ d.calls new) where
-    pub failed_server : (u : Entry) → lasting u ≡ true → u.calls ≡ d.calls new → (premise → IsTrue d.tells → MayCome b es u) → ((goes : GoesOn d b Has old es) → LeavesFolder d b old new (es ++ u ∷ []) goes.folder)
+    pub failed_server : d.calls new ≤ d.calls old + 4 → (u : Entry) → lasting u ≡ true → u.calls ≡ d.calls new → (premise → IsTrue d.tells → MayCome b es u) → ((goes : GoesOn d b Has old es) → LeavesFolder d b old new (es ++ u ∷ []) goes.folder)
         → IsServer d b premise Has new (es ++ shut ∷ []) (Some u) (Some call)
-    failed_server u lasts at may leaves = late_server d told up_to_now b premise Has old es late closed keeps running new later four past shut call shut-is shut_at u lasts at may (left_then (es ++ u ∷ []) leaves)
+    failed_server four u lasts at may leaves = late_server d told up_to_now b premise Has old es late closed keeps running new later past shut call shut-is shut_at four u lasts at may (left_then (es ++ u ∷ []) leaves)
 
     pub unmarked_server : ((goes : GoesOn d b Has old es) → LeavesFolder d b old new es goes.folder) → IsServer d b premise Has new (es ++ shut ∷ []) None (Some call)
     unmarked_server leaves =
-        stopped_server d told up_to_now b premise Has old es late closed keeps running new later four past shut call shut-is shut_at (λ goes moment image since is. one_of (left_then es leaves goes moment image since is))
+        stopped_server d told up_to_now b premise Has old es late closed keeps running new later past shut call shut-is shut_at (λ goes moment image since is. one_of (left_then es leaves goes moment image since is))
