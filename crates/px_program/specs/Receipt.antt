@@ -2,7 +2,7 @@
 use Rattle.std.specs.Prelude.{◌≡◌, ◌∷◌, [], ℕ, List, length, Some, None, true}
 use Rattle.px_kv_trail.specs.declared.entry.Entry.{Entry}
 use Rattle.px_kv_trail.specs.Trail.{Batch, batch_of, unwritten}
-use Rattle.px_program.specs.declared.store.receipt.Receipt.{Receipt}
+use Rattle.px_program.specs.Receipted.{Receipted}
 use Rattle.px_program.specs.Added.{session_seat}
 use Rattle.px_program.specs.Kv.{kv_change, kv}
 
@@ -10,7 +10,7 @@ use Rattle.px_program.specs.Kv.{kv_change, kv}
 
 -- These entries, of which a batch's last is the last, have a batch of this change that was written and has ended, and
 -- the receipt is its.
-pub record IsReceipt (es : List Entry) (key value : List ℕ) (r : Receipt) : Type 0 where
+pub record IsReceipt (es : List Entry) (key value : List ℕ) (r : Receipted) : Type 0 where
   pub table : r.table.0 ≡ kv
   pub rows : r.rows ≡ 1
   pub concurrent : r.concurrent ≡ []
