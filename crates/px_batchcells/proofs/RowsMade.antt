@@ -22,7 +22,7 @@ pub record MayStand (s : ℕ) (c : CellData) : Type 0 where
   pub kind : c.kind ≡ Delete → ⊥
   pub status : c.qualifier ≡ 1 → c.kind ≡ DeleteColumn → ⊥
 
-all_append : (P : CellData → Type 0) (xs ys : List CellData) → AllByRecursion P xs → AllByRecursion P ys → AllByRecursion P (xs ++ ys)
+pub all_append : {A : Type 0} (P : A → Type 0) (xs ys : List A) → AllByRecursion P xs → AllByRecursion P ys → AllByRecursion P (xs ++ ys)
 all_append P [] ys a b = b
 all_append P (x ∷ xs) ys a b = (a.0, all_append P xs ys a.1 b)
 
