@@ -5,3 +5,4 @@ pub mod Written
 pub mod Differences
 pub mod Walking
 pub mod OneBlockOf
+pub mod Kept

@@ -10,6 +10,7 @@ mod block;
 mod compare;
 mod fault;
 mod index;
+pub mod laws;
 mod open;
 mod reads;
 mod region_file;
