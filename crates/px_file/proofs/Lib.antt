@@ -6,3 +6,4 @@ pub mod Differences
 pub mod Walking
 pub mod OneBlockOf
 pub mod Kept
+pub mod Ranges

@@ -3,3 +3,4 @@ pub mod IndexOf
 pub mod Files
 pub mod Reading
 pub mod inner
+pub mod Ranges

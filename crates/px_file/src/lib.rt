@@ -14,6 +14,7 @@ pub mod laws;
 mod open;
 mod reads;
 mod region_file;
+mod search;
 mod tail;
 mod walk;
 mod writer;
