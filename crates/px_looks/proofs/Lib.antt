@@ -6,3 +6,4 @@ pub mod Among
 pub mod Parts
 pub mod Spelling
 pub mod Stamped
+pub mod Seen

@@ -2,4 +2,5 @@ pub mod Found
 pub mod Keys
 pub mod Rows
 pub mod Stamps
+pub mod Versions
 pub mod inner

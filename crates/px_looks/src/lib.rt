@@ -11,8 +11,10 @@ mod reader;
 mod row;
 mod rows;
 mod stamp;
+mod version;
 
 pub use next::NextKeys;
 pub use row::row_state;
 pub use rows::look_rows;
 pub use stamp::has_cell_of;
+pub use version::{KeyVersion, key_version};
