@@ -7,7 +7,8 @@ use Rattle.std.proofs.lemmas.Bool.{cases_Bool, eq-eqb, eqb-true, false≢true}
 use Rattle.px_cells.specs.CellData.{CellData}
 use Rattle.px_cells.specs.Order.{ReadsSame}
 use Rattle.px_keptcells.specs.Kept.{but, laid}
-use Rattle.px_openbatches.specs.Made.{RowCells, cells_at, cells_for}
+use Rattle.px_forms.specs.Several.{cells_for}
+use Rattle.px_openbatches.specs.Made.{RowCells, cells_at}
 use Rattle.px_openbatches.specs.Pending.{HeldBatch, flagged, is_left, meet_flags, meets, to_verify, writes_rows}
 use Rattle.px_openbatches.proofs.Flags.{flags_are}
 use Rattle.px_trail.specs.Batches.{change_of, has, is_distinct, rows_of}

@@ -7,7 +7,7 @@ use Rattle.std.proofs.Math.ListN.{drop_of_length-le}
 use Rattle.std.specs.Ordering.{is_eq}
 use Rattle.px_cells.specs.CellData.{CellData}
 use Rattle.px_openbatches.specs.Pending.{HeldBatch, after_pending, applied_if, is_pending_in, left_as, left_of}
-use Rattle.px_openbatches.proofs.RowViews.{has_is_some}
+use Rattle.px_openbatches.proofs.Flags.{has_is_some}
 use Rattle.px_indexrow.proofs.StatesFit.{apply_fits}
 use Rattle.px_indexrow.specs.Form.{FitsState}
 use Rattle.px_rows.specs.Keys.{IsRightTable}
