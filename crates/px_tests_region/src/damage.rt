@@ -1,3 +1,7 @@
+ghost use Rattle.std.specs.Prelude.{◌≡◌, IfSome, length};
+ghost use Rattle.px_wal.specs.Snapshot.{IsSnapshot};
+ghost use Rattle.px_wal.specs.SnapshotOf.{files_of, snapshot_of};
+
 use crate::pieces::{opened, put_row};
 use px_gatelog::{Frame, StartFault};
 use px_outside::{Disk, MemDisk};
@@ -6,21 +10,39 @@ use px_wal::{FileEntry, Manifest, Snapshot};
 use std::alloc::Global;
 use std::test::Fail;
 
-// Where the region is damaged after a byte is written in one of its files.
-fn damage(alloc: Global, file: u64, at: u64, byte: u8) -> Result<Option<(u64, u64)>, Fail> {
-    let mut disk = MemDisk::new(alloc);
-    let mut region = opened(alloc, &mut disk, 1).ok_or("not opened")?;
-    put_row(alloc, &mut disk, &mut region, b"a\0", 1, b"b").ok_or("not put")?;
-    put_row(alloc, &mut disk, &mut region, b"a\0", 2, b"c").ok_or("not put")?;
+// Writes one row twice.
+fn put_two(alloc: Global, disk: &mut MemDisk) -> Option<()> {
+    let mut region = opened(alloc, disk, 1)?;
+    let first = put_row(alloc, disk, &mut region, b"a\0", 1, b"b");
+    let second = put_row(alloc, disk, &mut region, b"a\0", 2, b"c");
     drop(region);
-    disk.write(file, at, &[byte])?;
-    match Region::reopen(alloc, &mut disk, 1) {
-        Err(StartFault::Damaged { file, place }) => Ok(Some((file, place))),
-        Err(_) => Ok(None),
+    first?;
+    second
+}
+
+// Where the region is damaged.
+fn told(alloc: Global, disk: &mut MemDisk) -> Option<(u64, u64)> {
+    match Region::reopen(alloc, disk, 1) {
+        Err(StartFault::Damaged { file, place }) => Some((file, place)),
+        Err(_) => None,
         Ok(region) => {
             drop(region);
-            Ok(None)
+            None
         }
+    }
+}
+
+// Where the region is damaged after a byte is written in one of its files.
+fn damage(alloc: Global, file: u64, at: u64, byte: u8) -> Result<Option<(u64, u64)>, &'static str> {
+    let mut disk = MemDisk::new(alloc);
+    let put = put_two(alloc, &mut disk).is_some();
+    let hit = disk.write(file, at, &[byte]).is_ok();
+    let found = told(alloc, &mut disk);
+    drop(disk);
+    if put && hit {
+        Ok(found)
+    } else {
+        Err("not put")
     }
 }
 
@@ -58,6 +80,30 @@ fn damage_is_found_at_its_place(rt: HostRuntime) -> Result<(), Fail> {
     Ok(())
 }
 
+// Whether a folder with these bytes takes a row.
+fn takes_a_row(alloc: Global, bytes: &[u8]) -> bool {
+    let mut disk = MemDisk::new(alloc);
+    let written = disk.write(4_294_967_296, 0, bytes).is_ok();
+    let put = match opened(alloc, &mut disk, 1) {
+        Some(mut region) => {
+            let put = put_row(alloc, &mut disk, &mut region, b"a\0", 1, b"b").is_some();
+            drop(region);
+            put
+        }
+        None => false,
+    };
+    let ready = match Region::reopen(alloc, &mut disk, 1) {
+        Ok(region) => {
+            let ready = region.is_ready();
+            drop(region);
+            ready
+        }
+        Err(_) => false,
+    };
+    drop(disk);
+    written && put && ready
+}
+
 // A folder that a stop left while its first segment was made has no cells.
 #[test]
 fn a_half_made_segment_is_none(rt: HostRuntime) -> Result<(), Fail> {
@@ -67,34 +113,23 @@ fn a_half_made_segment_is_none(rt: HostRuntime) -> Result<(), Fail> {
         b"\0PHXSEG1\0\0\0\0\0\0\0\x01\0".as_slice(),
         b"\xffrubbish".as_slice(),
     ] {
-        let mut disk = MemDisk::new(alloc);
-        disk.write(4_294_967_296, 0, bytes)?;
-        let mut region = opened(alloc, &mut disk, 1).ok_or("not opened")?;
-        put_row(alloc, &mut disk, &mut region, b"a\0", 1, b"b").ok_or("not put")?;
-        drop(region);
-        let region = Region::reopen(alloc, &mut disk, 1)?;
-        assert!(rt; region.is_ready());
-        drop(region);
+        assert!(rt; takes_a_row(alloc, bytes));
     }
     Ok(())
 }
 
 fn roll(alloc: Global, disk: &mut MemDisk, manifest: &mut Manifest) -> Option<()> {
     let mut frame = Frame::with_room(alloc, manifest.snapshot().body_len()).ok()?;
-    manifest.roll_step(disk, &mut frame).ok()?;
-    Some(())
+    let done = manifest.roll_step(disk, &mut frame).is_ok();
+    drop(frame);
+    if done { Some(()) } else { None }
 }
 
-// Makes a manifest that names a file.
-fn name_file(alloc: Global, disk: &mut MemDisk) -> Option<()> {
-    let mut manifest = Manifest::start(alloc, disk, 1).ok()?;
-    for _ in 0..3 {
-        roll(alloc, disk, &mut manifest)?;
-    }
-    if !manifest.is_open() || manifest.is_rolling() {
-        return None;
-    }
-    let mut frame = Frame::with_room(alloc, 46).ok()?;
+// One file, without its bytes.
+fn with_file(alloc: Global) -> Option<Snapshot>
+    ensures right { IfSome result (λ s. IsSnapshot (snapshot_of s)) }
+    ensures one { IfSome result (λ s. length (files_of s) ≡ 1) }
+{
     let files = vec![in alloc;
         FileEntry {
             local: 5,
@@ -103,29 +138,46 @@ fn name_file(alloc: Global, disk: &mut MemDisk) -> Option<()> {
         },
     ]
     .ok()?;
-    let snapshot = Snapshot {
+    Some(Snapshot {
         flushed: 1,
         horizon: 0,
         stamp: 1,
         compactions: 0,
         files,
+    })
+}
+
+fn append_file(alloc: Global, disk: &mut MemDisk, manifest: &mut Manifest) -> Option<()> {
+    for _ in 0..3 {
+        roll(alloc, disk, manifest)?;
+    }
+    if !manifest.is_open() || manifest.is_rolling() {
+        return None;
+    }
+    let mut frame = Frame::with_room(alloc, 46).ok()?;
+    let done = match with_file(alloc) {
+        Some(snapshot) => manifest.append(disk, snapshot, &mut frame).is_ok(),
+        None => false,
     };
-    manifest.append(disk, snapshot, &mut frame).ok()
+    drop(frame);
+    if done { Some(()) } else { None }
+}
+
+// Makes a manifest that names a file.
+fn name_file(alloc: Global, disk: &mut MemDisk) -> Option<()> {
+    let mut manifest = Manifest::start(alloc, disk, 1).ok()?;
+    let done = append_file(alloc, disk, &mut manifest);
+    drop(manifest);
+    done
 }
 
 #[test]
 fn no_form_of_a_file_is_known(rt: HostRuntime) -> Result<(), Fail> {
-    let alloc = rt.alloc();
-    let mut disk = MemDisk::new(alloc);
-    name_file(alloc, &mut disk).ok_or("not named")?;
-    assert!(rt;
-        matches!(
-            Region::reopen(alloc, &mut disk, 1),
-            Err(StartFault::Damaged {
-                file: 4_294_967_301,
-                place: 0
-            })
-        )
-    );
+    let mut disk = MemDisk::new(rt.alloc());
+    let named = name_file(rt.alloc(), &mut disk).is_some();
+    let found = told(rt.alloc(), &mut disk);
+    drop(disk);
+    assert!(rt; named);
+    assert!(rt; found == Some((4_294_967_301, 0)));
     Ok(())
 }

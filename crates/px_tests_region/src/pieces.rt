@@ -35,8 +35,23 @@ pub fn shown(alloc: Global, disk: &mut MemDisk, region: &mut Region) -> Option<V
     let mut values = Values {
         bytes: Vec::new(alloc),
     };
-    region.scan(disk, b"", None, &mut values).ok()?;
-    Some(values.bytes)
+    match region.scan(disk, b"", None, &mut values) {
+        Ok(()) => Some(values.bytes),
+        Err(_) => {
+            drop(values);
+            None
+        }
+    }
+}
+
+/// Whether this was shown.
+pub fn is_shown(shown: Option<Vec<u8>>, expected: &[u8]) -> bool {
+    let same = match &shown {
+        Some(bytes) => bytes.as_slice() == expected,
+        None => false,
+    };
+    drop(shown);
+    same
 }
 
 fn push_cell(
@@ -77,11 +92,14 @@ pub fn put(
     requires few { 1 ≤ count }
     requires short { length bytes.now < 2 ^ 32 }
 {
-    let mut frame = Frame::with_room(alloc, 12 + bytes.len() as u64).ok()?;
-    let cells = read_cells(alloc, bytes, count).ok()?;
     region.promise(count as u64, bytes.len() as u64).ok()?;
-    region.apply(disk, cells, &mut frame).ok()?;
-    Some(())
+    let mut frame = Frame::with_room(alloc, 12 + bytes.len() as u64).ok()?;
+    let done = match read_cells(alloc, bytes, count) {
+        Ok(cells) => region.apply(disk, cells, &mut frame).is_ok(),
+        Err(_) => false,
+    };
+    drop(frame);
+    if done { Some(()) } else { None }
 }
 
 /// Writes a row.
@@ -103,10 +121,21 @@ pub fn put_row(
 /// Opens a region, and makes its files where there are none.
 pub fn opened(alloc: Global, disk: &mut MemDisk, number: u32) -> Option<Region> {
     let mut region = Region::reopen(alloc, disk, number).ok()?;
-    for _ in 0..8 {
-        if region.prepare_step(disk).ok()? == JobStep::Done {
-            return Some(region);
+    match prepared(disk, &mut region) {
+        Some(()) => Some(region),
+        None => {
+            drop(region);
+            None
         }
     }
-    Some(region)
+}
+
+/// Makes a region's files where there are none.
+fn prepared(disk: &mut MemDisk, region: &mut Region) -> Option<()> {
+    for _ in 0..8 {
+        if region.prepare_step(disk).ok()? == JobStep::Done {
+            return Some(());
+        }
+    }
+    Some(())
 }

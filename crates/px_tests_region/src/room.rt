@@ -1,7 +1,7 @@
 ghost use Rattle.std.specs.Prelude.{◌≡◌, not};
 ghost use Rattle.px_tests_region.specs.Taken.{is_none};
 
-use crate::pieces::{Values, opened, put, put_row, row, shown};
+use crate::pieces::{Values, is_shown, opened, put, put_row, row, shown};
 use px_cells::Cell;
 use px_outside::{Disk, MemDisk};
 use px_region::{CellTaker, PromiseFault, Region};
@@ -31,27 +31,34 @@ impl CellTaker for One {
     }
 }
 
+// Writes one row, and gives what is shown then.
+fn first_row(alloc: Global, disk: &mut MemDisk) -> Option<Vec<u8>> {
+    let mut region = opened(alloc, disk, 1)?;
+    let put = put_row(alloc, disk, &mut region, b"a\0", 1, b"b").is_some();
+    let seen = shown(alloc, disk, &mut region);
+    drop(region);
+    if put {
+        return seen;
+    }
+    drop(seen);
+    None
+}
+
 // The first segment after one row, byte by byte.
 #[test]
 fn the_first_segment_has_68_bytes(rt: HostRuntime) -> Result<(), Fail> {
-    let alloc = rt.alloc();
-    let mut disk = MemDisk::new(alloc);
-    let mut region = opened(alloc, &mut disk, 1).ok_or("not opened")?;
-    put_row(alloc, &mut disk, &mut region, b"a\0", 1, b"b").ok_or("not put")?;
+    let mut disk = MemDisk::new(rt.alloc());
+    let seen = is_shown(first_row(rt.alloc(), &mut disk), b"a\0a\0b");
     let mut bytes = [9u8; 70];
-    assert!(rt; disk.read(4_294_967_296, 0, &mut bytes)? == 68);
+    let read = disk.read(4_294_967_296, 0, &mut bytes).ok();
+    let manifest = disk.len(4_294_967_298).ok();
+    drop(disk);
+    assert!(rt; seen && read == Some(68) && manifest == Some(49));
     assert!(rt; &bytes[..16] == b"\x01PHXSEG1\0\0\0\0\0\0\0\x01".as_slice());
     assert!(rt; &bytes[16..34] == b"\x01\x02\0\0\0\x2d\0\0\0\0\0\0\0\x01\0\0\0\x02".as_slice());
     assert!(rt; &bytes[34..50] == b"\0\x02a\0\x01\0\0\0\0\0\0\0\x01\x04\0\0".as_slice());
     assert!(rt; &bytes[50..67] == b"\0\x02a\0\x03\0\0\0\0\0\0\0\x01\x04\0\x01b".as_slice());
     assert!(rt; &bytes[67..] == b"\0\x09\x09".as_slice());
-    assert!(rt; disk.len(4_294_967_298)? == 49);
-    assert!(rt;
-        shown(alloc, &mut disk, &mut region)
-            .ok_or("not shown")?
-            .as_slice()
-            == b"a\0a\0b".as_slice()
-    );
     Ok(())
 }
 
@@ -68,65 +75,150 @@ fn number_key(i: u64) -> [u8; 7] {
     ]
 }
 
-// Writes 2,000 rows in one batch.
-fn put_rows(alloc: Global, disk: &mut MemDisk, region: &mut Region, batch: u64) -> Option<()> {
+fn push_row(alloc: Global, bytes: &mut Vec<u8>, key: &[u8]) -> Option<()> {
+    let one = row(alloc, key, 7, b"v").ok()?;
+    let done = bytes.extend_from_slice(&one).ok();
+    drop(one);
+    done
+}
+
+// Writes rows of these numbers in one batch.
+fn put_rows(
+    alloc: Global,
+    disk: &mut MemDisk,
+    region: &mut Region,
+    from: u64,
+    to: u64,
+) -> Option<()> {
     let mut bytes = Vec::new(alloc);
-    for i in 0..2_000u64 {
-        let key = number_key(batch.saturating_mul(2_000).saturating_add(i));
-        bytes
-            .extend_from_slice(&row(alloc, &key, 7, b"v").ok()?)
-            .ok()?;
+    let mut cells = 0u32;
+    for i in from..to {
+        push_row(alloc, &mut bytes, &number_key(i))?;
+        cells = cells.saturating_add(2);
     }
-    if bytes.len() > 1_000_000 {
+    if cells == 0 || bytes.len() > 1_000_000 {
         return None;
     }
-    put(alloc, disk, region, &bytes, 4_000)
+    put(alloc, disk, region, &bytes, cells)
+}
+
+// Nothing is promised before the files are made.
+fn is_not_ready(alloc: Global, disk: &mut MemDisk) -> Option<bool> {
+    let mut region = Region::reopen(alloc, disk, 1).ok()?;
+    let refused = region.promise(2, 43) == Err(PromiseFault::NotReady);
+    drop(region);
+    Some(refused)
+}
+
+// An empty log has room for 16,384 cells of 16 MiB, and for no more.
+fn has_room(region: &mut Region) -> bool {
+    let busy = Err(PromiseFault::Busy { cells: 0, bytes: 0 });
+    let none = region.promise(16_385, 0) == busy && region.promise(0, 16_777_217) == busy;
+    let all = region.promise(16_384, 16_777_216) == Ok(());
+    if all {
+        region.give_back(16_384, 16_777_216);
+    }
+    none && all
+}
+
+// Writes 8,192 rows of two cells.
+fn fill(alloc: Global, disk: &mut MemDisk, region: &mut Region) -> Option<()> {
+    for batch in 0..4u64 {
+        put_rows(alloc, disk, region, batch * 2_000, batch * 2_000 + 2_000)?;
+    }
+    put_rows(alloc, disk, region, 8_000, 8_191)?;
+    put_row(alloc, disk, region, &number_key(8_191), 8, b"v")
+}
+
+fn is_ready_again(alloc: Global, disk: &mut MemDisk) -> Option<bool> {
+    let again = Region::reopen(alloc, disk, 1).ok()?;
+    let ready = again.number() == 1 && again.looked() == 0 && again.is_ready();
+    drop(again);
+    Some(ready)
+}
+
+// The versions of one row, in one look.
+fn looks_once(alloc: Global, disk: &mut MemDisk, region: &mut Region) -> bool {
+    let mut values = Values {
+        bytes: Vec::new(alloc),
+    };
+    let done = region.row_versions(disk, b"k00041\0", &mut values).is_ok();
+    let same = values.bytes.as_slice() == b"k00041\0k00041\0v".as_slice();
+    drop(values);
+    done && same && region.looked() == 1
+}
+
+// A taker that wants one row is given no second one.
+fn gives_one(alloc: Global, disk: &mut MemDisk, region: &mut Region) -> bool {
+    let mut one = One {
+        some: false,
+        bytes: Vec::new(alloc),
+    };
+    let done = region
+        .scan(disk, b"k00050", Some(b"k00060"), &mut one)
+        .is_ok();
+    let same = one.bytes.as_slice() == b"v".as_slice();
+    drop(one);
+    done && same && region.looked() == 2
+}
+
+fn gives_ten(alloc: Global, disk: &mut MemDisk, region: &mut Region) -> bool {
+    let mut ten = Values {
+        bytes: Vec::new(alloc),
+    };
+    let done = region
+        .scan(disk, b"k00050", Some(b"k00060"), &mut ten)
+        .is_ok();
+    let all = ten.bytes.len() == 150;
+    drop(ten);
+    done && all && region.looked() == 12
+}
+
+// What isn't so of a region that is filled, and read.
+fn wrong(alloc: Global, disk: &mut MemDisk, region: &mut Region) -> Option<&'static str> {
+    if !has_room(region) {
+        return Some("room");
+    }
+    if fill(alloc, disk, region).is_none() {
+        return Some("fill");
+    }
+    let full = PromiseFault::Busy {
+        cells: 16_384,
+        bytes: 352_256,
+    };
+    if region.promise(1, 0) != Err(full) {
+        return Some("full");
+    }
+    if is_ready_again(alloc, disk) != Some(true) {
+        return Some("again");
+    }
+    if !looks_once(alloc, disk, region) {
+        return Some("row");
+    }
+    if !gives_one(alloc, disk, region) {
+        return Some("one");
+    }
+    if !gives_ten(alloc, disk, region) {
+        return Some("ten");
+    }
+    None
 }
 
 #[test]
 fn a_log_has_16384_cells(rt: HostRuntime) -> Result<(), Fail> {
     let alloc = rt.alloc();
     let mut disk = MemDisk::new(alloc);
-    let mut region = Region::reopen(alloc, &mut disk, 1)?;
-    assert!(rt; region.promise(2, 43) == Err(PromiseFault::NotReady));
-    drop(region);
-    let mut region = opened(alloc, &mut disk, 1).ok_or("not opened")?;
-    assert!(rt; region.promise(16_385, 0) == Err(PromiseFault::Busy { cells: 0, bytes: 0 }));
-    assert!(rt; region.promise(0, 16_777_217) == Err(PromiseFault::Busy { cells: 0, bytes: 0 }));
-    assert!(rt; region.promise(16_384, 16_777_216) == Ok(()));
-    region.give_back(16_384, 16_777_216);
-    for batch in 0..4u64 {
-        put_rows(alloc, &mut disk, &mut region, batch).ok_or("not put")?;
-    }
-    for i in 8_000..8_192u64 {
-        put_row(alloc, &mut disk, &mut region, &number_key(i), i, b"v").ok_or("not put")?;
-    }
-    assert!(rt;
-        region.promise(1, 0)
-            == Err(PromiseFault::Busy {
-                cells: 16_384,
-                bytes: 352_256
-            })
-    );
-    let again = Region::reopen(alloc, &mut disk, 1)?;
-    assert!(rt; again.number() == 1 && again.looked() == 0 && again.is_ready());
-    drop(again);
-    let mut values = Values {
-        bytes: Vec::new(alloc),
+    let early = is_not_ready(alloc, &mut disk);
+    let found = match opened(alloc, &mut disk, 1) {
+        Some(mut region) => {
+            let found = wrong(alloc, &mut disk, &mut region);
+            drop(region);
+            found
+        }
+        None => Some("open"),
     };
-    region.row_versions(&mut disk, b"k00041\0", &mut values)?;
-    assert!(rt; values.bytes.as_slice() == b"k00041\0k00041\0v".as_slice());
-    assert!(rt; region.looked() == 1);
-    let mut one = One {
-        some: false,
-        bytes: Vec::new(alloc),
-    };
-    region.scan(&mut disk, b"k00050", Some(b"k00060"), &mut one)?;
-    assert!(rt; one.bytes.as_slice() == b"v".as_slice() && region.looked() == 2);
-    let mut ten = Values {
-        bytes: Vec::new(alloc),
-    };
-    region.scan(&mut disk, b"k00050", Some(b"k00060"), &mut ten)?;
-    assert!(rt; ten.bytes.len() == 150 && region.looked() == 12);
+    drop(disk);
+    assert!(rt; early == Some(true));
+    assert!(rt; found.is_none(), "{found:?}");
     Ok(())
 }
