@@ -1,4 +1,5 @@
 pub mod Runs
 pub mod Points
 pub mod Stays
+pub mod Activates
 pub mod Keys

@@ -29,7 +29,7 @@ use Rattle.px_trail.specs.declared.entry.Act.TheVariants.{Based, IndexMade, Inde
 use Rattle.px_trail.specs.declared.entry.Entry.{Entry}
 use Rattle.px_trail.specs.Batches.{BatchPhase, IsDecided, IsIn, Closing, Marking, Verifying, Writing, has}
 use Rattle.px_trail.specs.States.{state_of}
-use Rattle.px_trail.specs.Trail.{catalogue_of, closing_call, horizon_of, index_of, open_points, table_of}
+use Rattle.px_trail.specs.Trail.{catalogue_of, closing_call, horizon_of, index_of, last_of, open_points, table_of}
 use Rattle.px_calls.specs.declared.definition.Definition.{Definition}
 use Rattle.px_calls.specs.declared.definition.Definition.TheVariants as d
 use Rattle.px_calls.specs.declared.query.By.{By}
@@ -108,21 +108,28 @@ abbrev pub is_based : List Entry → ℕ → List Value → Bool
 is_based es i r = base_from i r false es
 
 -- the index may become active: it isn't disabled; the seat has a point open at or below its birth, so that no row's state there is
--- forgotten; and at its birth all is written, and each row was based
+-- forgotten; and at its birth, which was drawn, all is written, and each row was based
 pub record CanActivate (k : Known) (t i : ℕ) (x : Index) : Type 0 where
   pub state : x.state ≢ Disabled
   pub stamp : ℕ
   pub below : stamp ≤ x.birth
+  pub known : x.birth ≤ last_of k.base t k.seen
   pub guarded : 0 < open_points k.seat t stamp k.seen
   pub low : horizon_of k.base t k.seen ≤ x.birth
   pub decided : IsDecided k.seen t x.birth
   pub based : (r : List Value) → state_of k.base k.seen t r x.birth ≢ None → is_based k.seen i r ≡ true
 
+-- the numbers were drawn, and if the index stands and is of that table, it may become active
+pub record MayActivate (k : Known) (t i : ℕ) : Type 0 where
+  pub index : IsDrawn k i
+  pub table : IsDrawn k t
+  pub each : (x : Index) → index_of k.base k.seen i ≡ Some x → x.table.0 ≡ t → CanActivate k t i x
+
 -- a definition is one that may be asked for
 abbrev pub CanDefine : Known → Definition → Type 0
 CanDefine k (d.Table what) = IsNewTable what
 CanDefine k (d.Index what) = IsIndexFit k what
-CanDefine k (d.Active t i) = IsDrawn k i.0 × ((x : Index) → index_of k.base k.seen i.0 ≡ Some x → CanActivate k t.0 i.0 x)
+CanDefine k (d.Active t i) = MayActivate k t.0 i.0
 CanDefine k (d.DropTable t) = Unit {0}
 CanDefine k (d.DropIndex t i) = Unit {0}
 

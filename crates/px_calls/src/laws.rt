@@ -12,7 +12,8 @@ ghost use Rattle.px_tables.specs.declared.table.Table.{Table as Tables};
 ghost use Rattle.px_calls.specs.declared.query.Point.{Point as Points};
 ghost use Rattle.px_calls.specs.declared.ticket.Ticket.{Ticket as Tickets};
 ghost use Rattle.px_calls.specs.Known.{Known, Passes, Sees, Adds, Ran, HasMade, outline};
-ghost use Rattle.px_calls.specs.Requires.{AreFitting, IsOpen, IsShut, TicketIn};
+ghost use Rattle.px_calls.specs.declared.definition.Definition.{Definition as Definitions};
+ghost use Rattle.px_calls.specs.Requires.{AreFitting, CanDefine, IsOpen, IsShut, TicketIn};
 
 /// Calls one after another are a run: what a seat has then seen begins with what it had seen, and its own entries in the rest are
 /// those of the calls, in order.
@@ -44,10 +45,11 @@ pub fn law_points()
     ensures stays { (k : Known) → (k' : Known) → (acts : List Acts) → (p : Points) → Ran k k' acts → outline acts ≡ [] → IsOpen k p → IsOpen k' p }
 {}
 
-/// What is asked of changes stays true under others' entries, since a table whose number was drawn stays as it is until it is
-/// dropped; and an own act is one since any place before it.
+/// What is asked of changes and definitions stays true under others' entries, since a table whose number was drawn stays as it is until
+/// it is dropped, and its indexes aren't rebuilt nor disabled while a point is open; and an own act is one since any place before it.
 pub fn law_asked()
     ensures tables { (b : Base) → (t : ℕ) → (es : List Entries) → (more : List Entries) → (x : Tables) → IsLegal b (es ++ more) → t < (catalogue_of b es).next → table_of b (es ++ more) t ≡ Some x → table_of b es t ≡ Some x }
     ensures fits { (k : Known) → (k' : Known) → (t : ℕ) → (cs : List RowChange) → Passes k k' → AreFitting k t cs → AreFitting k' t cs }
+    ensures defines { (k : Known) → (k' : Known) → (x : Definitions) → Passes k k' → CanDefine k x → CanDefine k' x }
     ensures since { (k : Known) → (k' : Known) → (acts : List Acts) → (act : Acts) → (n : ℕ) → n ≤ length k.seen → Ran k k' acts → IsAmong act acts → IsAmong act (acts_by k'.seat (drop n k'.seen)) }
 {}

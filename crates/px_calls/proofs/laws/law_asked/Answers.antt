@@ -1,4 +1,5 @@
 use Rattle.px_calls.proofs.Stays.{passes-fits, ran-since, table-was}
+use Rattle.px_calls.proofs.Activates.{passes-define}
 use Rattle.px_calls.proofs.laws.law_asked.Goals as goal
 
 pub returns-clause-tables : goal.returns-clause-tables
@@ -9,3 +10,6 @@ returns-clause-fits c k k' t cs h f = passes-fits k k' t cs h f
 
 pub returns-clause-since : goal.returns-clause-since
 returns-clause-since c k k' acts act n low h m = ran-since k k' acts act n low h m
+
+pub returns-clause-defines : goal.returns-clause-defines
+returns-clause-defines c k k' x h f = passes-define k k' x h f
