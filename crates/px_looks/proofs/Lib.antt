@@ -7,3 +7,4 @@ pub mod Parts
 pub mod Spelling
 pub mod Stamped
 pub mod Seen
+pub mod IndexKeys

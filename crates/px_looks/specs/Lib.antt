@@ -3,4 +3,5 @@ pub mod Keys
 pub mod Rows
 pub mod Stamps
 pub mod Versions
+pub mod IndexKeys
 pub mod inner

@@ -6,6 +6,7 @@
 #![tactic(auto)]
 
 mod gathered;
+mod keys;
 mod next;
 mod reader;
 mod row;
@@ -13,6 +14,7 @@ mod rows;
 mod stamp;
 mod version;
 
+pub use keys::look_keys;
 pub use next::NextKeys;
 pub use row::row_state;
 pub use rows::look_rows;

@@ -20,10 +20,10 @@ use px_values::Items;
 use std::alloc::{AllocError, Global};
 
 /// The qualifier of the status column.
-const STATUS: u64 = 1;
+pub(crate) const STATUS: u64 = 1;
 
 /// The qualifier of a table's first column.
-const FIRST: u64 = 2;
+pub(crate) const FIRST: u64 = 2;
 
 /// What stands in the status column of a verified version.
 const VERIFIED: u8 = 1;
