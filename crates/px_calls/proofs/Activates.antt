@@ -83,10 +83,10 @@ came b es seat calls t i (IndexMade t' i' s what) x f low of h =
     same b es t i x of (sym (set_number-other i'.0 _ (catalogue_of b es).indexes i (λ e. absurd (let n = f.0 in omega arith))) ∙ h)
 came b es seat calls t i (IndexState t' i' state s) x f low of h = elim (cases_eq i'.0 i) [
   | inl e ↦
-    let c = catalogue_of b es in
-    let is : index_of b es i ≡ Some f.0.index = ap c.indexes (sym e) ∙ f.0.is in
-    let new : with_state state s c.next (c.indexes i'.0) ≡ Some x = sym (ap (λ (m : ℕ). set_number i'.0 (with_state state s c.next (c.indexes i'.0)) c.indexes m) (sym e) ∙ set_number-same i'.0 (with_state state s c.next (c.indexes i'.0)) c.indexes) ∙ h in
-    stated b es t t'.0 i s c.next state f.0.index x is f.0.owner (subst (λ (m : ℕ). MayState b es t'.0 m state s) e f.1) of (ap (with_state state s c.next) (sym f.0.is) ∙ new)
+      let c = catalogue_of b es in
+      let is : index_of b es i ≡ Some f.0.index = ap c.indexes (sym e) ∙ f.0.is in
+      let new : with_state state s c.next (c.indexes i'.0) ≡ Some x = sym (ap (λ (m : ℕ). set_number i'.0 (with_state state s c.next (c.indexes i'.0)) c.indexes m) (sym e) ∙ set_number-same i'.0 (with_state state s c.next (c.indexes i'.0)) c.indexes) ∙ h in
+      stated b es t t'.0 i s c.next state f.0.index x is f.0.owner (subst (λ (m : ℕ). MayState b es t'.0 m state s) e f.1) of (ap (with_state state s c.next) (sym f.0.is) ∙ new)
   | inr e ↦ same b es t i x of (sym (set_number-other i'.0 _ (catalogue_of b es).indexes i e) ∙ h)
 ]
 came b es seat calls t i (Dropped t' None) x f low of h = same b es t i x of (others-some t'.0 (index_of b es i) x h)
@@ -168,8 +168,8 @@ module _ (k : Known) (e : Entry) (t i : ℕ) (legal : IsLegal k.base (k.seen ++ 
         low = (let v = horizon-snoc k.base t k.seen e in omega arith);
         decided = subst (λ (p : ℕ). IsDecided (k.seen ++ e ∷ []) t p) birth (decided-stays k.base t y.birth k.seen (e ∷ []) legal a.decided a.known);
         based = λ r some.
-          (let was : state_of k.base k.seen t r y.birth ≢ None = (λ none. some (ap (λ (p : ℕ). state_of k.base (k.seen ++ e ∷ []) t r p) (sym birth) ∙ (state-stays k.base t r y.birth k.seen (e ∷ []) legal a.decided a.known h.table ∙ none))) in
-          based-snoc i r k.seen e ∙ (ap (λ (v : Bool). base_step i r v e.act) (a.based r was) ∙ base_kept k.base k.seen e.seat e.calls t i r e.act y may.follows h.index loud is of));
+            (let was : state_of k.base k.seen t r y.birth ≢ None = (λ none. some (ap (λ (p : ℕ). state_of k.base (k.seen ++ e ∷ []) t r p) (sym birth) ∙ (state-stays k.base t r y.birth k.seen (e ∷ []) legal a.decided a.known h.table ∙ none))) in
+            based-snoc i r k.seen e ∙ (ap (λ (v : Bool). base_step i r v e.act) (a.based r was) ∙ base_kept k.base k.seen e.seat e.calls t i r e.act y may.follows h.index loud is of));
       }
 
   loud_at : (y : Index) → CanActivate k t i y → IsQuiet k.seen t → ⊥
@@ -219,8 +219,8 @@ alone_no_matter v k t i h = record {
   index = h.index;
   table = h.table;
   each = λ x is of.
-    (let a = h.each x is of in
-    record { state = a.state; stamp = a.stamp; below = a.below; known = a.known; guarded = a.guarded; low = a.low; decided = a.decided; based = a.based });
+      (let a = h.each x is of in
+      record { state = a.state; stamp = a.stamp; below = a.below; known = a.known; guarded = a.guarded; low = a.low; decided = a.decided; based = a.based });
 }
 
 passes-activate : (k k' : Known) (t i : ℕ) → Passes k k' → MayActivate k t i → MayActivate k' t i

@@ -1,7 +1,7 @@
 //! What is read of a table out of its regions.
 //!
-//! `row_state` gives the row that a point sees, by its cells alone, and `look_rows` the next rows of a table in order, 64 at
-//! most, with none missing. A region is told by what is read of it (`read_of`), so each promise is about cells, in the words of
+//! `row_state` gives the row that a point sees, by its cells alone, `look_rows` the next rows of a table in order, 64 at
+//! most, with none missing, and `look_keys` the next keys of an index, each sure or in doubt. A region is told by what is read of it (`read_of`), so each promise is about cells, in the words of
 //! their forms, and holds wherever the cells lie.
 #![tactic(auto)]
 
