@@ -1,6 +1,6 @@
 #!/usr/bin/env bash
 # Scripts at their limits, given to the built program on a folder of its own: the greatest script and one byte more, the
-# greatest statement and one byte more, texts that nest as deep as a statement can. No stack may run out.
+# greatest statement and one byte more, texts that nest as deep as a statement can, line feeds at the end. No stack may run out.
 set -eu
 top=$(cd "$(dirname "$0")/.." && pwd)
 work=$(mktemp -d)
@@ -48,4 +48,12 @@ ends '349,001 literals in IN' 1 'E02 left out: FORM'$'\n'"$none"
 ends '200,000 statements' 1 'E02 left out: FORM'$'\n'"$none"
 printf '%s;\n\xff' "$select" >"$work/script"
 ends 'a script that is no text' 1 'E01 syntax at byte 18'
+
+# A last line feed ends the last line and adds nothing; a carriage return is a character as any other.
+printf 'SELECT' >"$work/script"
+ends 'a statement that breaks off' 1 'E01 syntax at byte 6'
+printf 'SELECT\n' >"$work/script"
+ends 'the same with a last line feed' 1 'E01 syntax at byte 6'
+printf '%s;\r\n%s\n' "$select" "$select" >"$work/script"
+ends 'a line that ends with CR LF' 1 "$none"$'\n''E01 syntax at byte 0'
 exit "$failed"
