@@ -6,6 +6,7 @@ use Rattle.std.specs.List.{AllByRecursion, list_any}
 use Rattle.std.proofs.lemmas.Bool.{cases_lt, eq-eqb, false≢true}
 use Rattle.std.proofs.lemmas.List.Folds.{list_any_at}
 use Rattle.px_cells.specs.CellData.{CellData}
+use Rattle.px_forms.specs.Several.{cells_for}
 use Rattle.px_indexrow.specs.Form.{FitsState, IsLong, IsRightIndex, bytes_if, included_at, index_columns, index_form, index_values, key_of_state, owns}
 use Rattle.px_indexrow.specs.Lists.{base_of, closes_of, column_cell, column_cells, erase_cell, family_cell, family_if, fix_of, left_key, marks_of, status_cell, status_if, version_if}
 use Rattle.px_indexrow.proofs.KeysHeld.{values_fit}
@@ -141,3 +142,10 @@ fix_right t i h state k s ToVerify right f key = (status_right t i k s 1 (inl re
     by false = columns_right t i right k s state f key (length i.included) (omega arith)
 fix_right t i h state k s ToRetire right f key = (family_right t i k s key, tt)
 fix_right t i h state k s ToErase right f key = (erase_right t i k s key, tt)
+
+-- 5. Several rows
+
+pub all_several : (t : Table) (i : Index) (m : List Value → List CellData) (rows : List (List Value)) → AllByRecursion (λ r. AreRight t i (m r)) rows → AreRight t i (cells_for m rows)
+unfolding cells_for
+all_several t i m [] a = tt
+all_several t i m (r ∷ rows) a = all_append (IsRightIndexCell t i) (m r) (cells_for m rows) a.0 (all_several t i m rows a.1)

@@ -5,6 +5,7 @@ ghost use Rattle.px_cells.specs.CellData.{CellData};
 ghost use Rattle.px_cells.specs.Contents.{value_at};
 ghost use Rattle.px_cells.specs.Order.{IsAscending, IsCellList, Reads, ReadsSame};
 ghost use Rattle.px_cells.specs.Sight.{IsPlainRegion};
+ghost use Rattle.px_forms.specs.Several.{cells_for};
 ghost use Rattle.px_indexed.specs.Kept.{AreIndexCells, AreRowCells, IsCompacted};
 ghost use Rattle.px_indexrow.specs.Form.{FitsState, IsLong, IsRightIndex, index_columns, index_form};
 ghost use Rattle.px_indexrow.specs.Lists.{base_of, closes_of, fix_of, marks_of};
@@ -60,13 +61,14 @@ pub fn law_rows_stay()
     ensures compacted { (t : Tables) (old new : List CellData) (h : ℕ) → AreRightRows t old → IsCompacted old new h → AreRightRows t new }
 {}
 
-/// The same of the cells of an index's keys.
+/// The same of the cells of an index's keys, also of several rows.
 pub fn law_keys_stay()
     ensures none { (t : Tables) (i : Indexes) → AreRightKeys t i [] }
     ensures over { (t : Tables) (i : Indexes) (batch old new : List CellData) → AreRightKeys t i batch → AreRightKeys t i old → ReadsSame new (batch ++ old) → AreRightKeys t i new }
     ensures settled { (t : Tables) (i : Indexes) (batch old : List CellData) → AreRightKeys t i batch → AreRightKeys t i old → AreRightKeys t i (settle (batch ++ old)) }
     ensures fewer { (t : Tables) (i : Indexes) (old new : List CellData) → AreRightKeys t i old → ((c : CellData) → Reads new c → Reads old c) → AreRightKeys t i new }
     ensures compacted { (t : Tables) (i : Indexes) (old new : List CellData) (h : ℕ) → AreRightKeys t i old → IsCompacted old new h → AreRightKeys t i new }
+    ensures several { (t : Tables) (i : Indexes) (m : List ColumnValue → List CellData) (rows : List (List ColumnValue)) → AllByRecursion (λ r. AllByRecursion (IsRightIndexCell t i) (m r)) rows → AllByRecursion (IsRightIndexCell t i) (cells_for m rows) }
 {}
 
 /// The cells of a change that fits are right, where the row's key has at most 1,024 bytes.
