@@ -1,0 +1,2 @@
+//! The shape of a table's cells.
+#![tactic(auto)]
