@@ -1,9 +1,9 @@
 -- What a server without a table knows.
-use Rattle.std.proofs.Common.{ℕ, ◌≡◌, ◌<◌, ◌≤◌, ◌⊎◌, inl, inr, Bool, true, Option, None, Some, List, [], ◌∷◌, length, refl, ◌∙◌, ap, arith}
+use Rattle.std.proofs.Common.{ℕ, ◌≡◌, ◌≤◌, inl, inr, true, None, Some, List, [], length, refl, ◌∙◌, ap, arith}
 use Rattle.px_values.specs.declared.change.Change.{Change}
 use Rattle.px_tables.specs.declared.table.Table.{Table}
 use Rattle.px_trail.specs.Batches.{BatchPhase, batch_from, has, is_distinct, rows_of}
-use Rattle.px_trail.specs.Trail.{acts_by, catalogue_from, closing_from, points_from, table_of}
+use Rattle.px_trail.specs.Trail.{acts_by, catalogue_from, closing_from, points_from}
 use Rattle.px_trail.proofs.Growth.{legal-none}
 use Rattle.px_calls.specs.declared.query.Point.{Point}
 use Rattle.px_calls.specs.declared.ticket.Ticket.{Ticket}
