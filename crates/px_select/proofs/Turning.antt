@@ -1,15 +1,12 @@
 -- From the steps of a query to those of a SELECT.
-use Rattle.std.proofs.Common.{ℕ, ◌≡◌, ◌≤◌, ◌++◌, ◌∷◌, [], List, Option, None, Some, Result, Ok, Err, sym, ap, ◌∙◌, subst, inl, inr, length}
-use Rattle.std.specs.Option.{is_some}
+use Rattle.std.proofs.Common.{ℕ, ◌≡◌, ◌≤◌, ◌++◌, List, Option, None, Some, Result, Ok, Err, sym, ap, ◌∙◌, subst, inr, length}
 use Rattle.px_trail.specs.declared.entry.Act.{Act}
-use Rattle.px_trail.specs.Trail.{Base}
-use Rattle.px_calls.specs.Causes.{stamp_at}
 use Rattle.px_calls.specs.Known.{Known, outline}
 use Rattle.px_gather.specs.Query.{Query}
 use Rattle.px_planned.specs.Queries.{query_of}
 use Rattle.px_planned.specs.declared.planned.Planned.{Planned}
 use Rattle.px_scan.specs.Faults.{MadeSince, QueryFaultIs}
-use Rattle.px_scan.specs.Turns.{IsOutcome as IsQueryOutcome, IsSinceThen as IsSinceQuery, OpensAndCloses, QueryTurns, SoFar, opened, point_acts}
+use Rattle.px_scan.specs.Turns.{IsOutcome as IsQueryOutcome, IsSinceThen as IsSinceQuery, QueryTurns, SoFar, opened}
 use Rattle.px_scan.specs.declared.answer.Answer.{Answer}
 use Rattle.px_scan.specs.declared.answer.QueryFault.{QueryFault}
 use Rattle.px_scan.specs.declared.answer.QueryFault.TheVariants as fault
@@ -30,15 +27,19 @@ memory_is q (Some n) k = tt
 
 end_is : (sound : Type 0) (p : Planned) (scn : Option ℕ) (own : List Act) (k : Known) (end : Result Answer QueryFault) (r : Result Selected QueryFault) → IsEnd p.asked end r → IsQueryOutcome sound (query_of p) scn own k end → IsOutcome sound p scn own k r
 end_is sound p scn own k (Ok x) (Ok s) e h =
-    subst (λ (w : Selected). IsOutcome sound p scn own k (Ok w)) (sym e)
-    (record {
-      point = h.0.point;
-      is_point = h.0.is_point;
-      at = h.0.at;
-      path = h.0.path;
-      chosen = h.0.chosen;
-      answer = λ is. select-is k.base k.seen p scn h.0.point h.0.path x.first x.last x.rows.items h.0.chosen (h.0.answer is);
-    }, h.1, h.2, h.3)
+    subst (λ (w : Selected). IsOutcome sound p scn own k (Ok w)) (sym e) (
+      record {
+        point = h.0.point;
+        is_point = h.0.is_point;
+        at = h.0.at;
+        path = h.0.path;
+        chosen = h.0.chosen;
+        answer = λ is. select-is k.base k.seen p scn h.0.point h.0.path x.first x.last x.rows.items h.0.chosen (h.0.answer is);
+      },
+      h.1,
+      h.2,
+      h.3,
+    )
 end_is sound p scn own k (Ok x) (Err f) e h =
     subst (λ (w : QueryFault). IsOutcome sound p scn own k (Err w)) (sym e) (memory_is (query_of p) scn k, inr (_, _, h.1))
 end_is sound p scn own k (Err f) (Ok s) e h = absurd e
