@@ -71,7 +71,7 @@ impl<Q: Asks> QueryRun<Q> {
     }
 }
 
-/// Answers a query: as of a timestamp exactly the rows of the table then, and else a current answer.
+/// Answers a query: as of a timestamp exactly the rows of the table then, and else a current answer, if what was opened is sound.
 pub fn run_query<R: Wait, Q: Asks + Drop, S: Steps>(
     rt: &R,
     alloc: Global,
