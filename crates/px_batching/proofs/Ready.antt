@@ -181,3 +181,7 @@ ready_puts g m r h z e =
     let u : cells_of_rows z ≡ length (laid parts) = ap (λ o. length (laid (puts_in o))) f.1 in
     let v : bytes_of_rows z ≡ byte_count (laid parts) = ap (λ o. byte_count (laid (puts_in o))) f.1 in
     record { at = at; phase_is = p; some = some; parts = parts; kept_is = f.1; rows_are = w.rows some; light = omega arith; room = omega arith; room_bytes = omega arith }
+
+pub ok_one : {T E : Type 0} (r : Result T E) (P Q : Type 0) → OnOk r P → (P → Q) → OnOk r Q
+ok_one (Ok x) P Q p f = f p
+ok_one (Err e) P Q p f = tt

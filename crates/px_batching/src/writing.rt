@@ -85,6 +85,7 @@ pub fn write<D: Disk>(
     requires writing { IsAt group.old place InWriting }
     requires room { 12 + most_bytes ≤ frame.old.room }
     ensures hands { OnErr result (HandsPuts ⟦<D as Disk>⟧ group.old group.new disk.old disk.new place InWriting) }
+    ensures right { OnOk result (IsRightGroup group.new) }
     ensures written { OnOk result (WrotePuts ⟦<D as Disk>⟧ group.old group.new disk.old disk.new place) }
     ensures rows { IfOk result (TakesRows group.old place) }
     ensures failed { IsErr result → Rose ⟦<D as Disk>⟧ disk.old disk.new }
