@@ -13,8 +13,8 @@ ghost use Rattle.std.specs.Prelude.{is_some};
 ghost use Rattle.std.specs.List.{list_any};
 
 use crate::handing::hand;
-use px_gatelog::Frame;
 use px_cells::Cells;
+use px_gatelog::Frame;
 use px_group::{Begun, Group, Phase};
 use px_outside::{Disk, Failed};
 use px_phases::OpenBatch;

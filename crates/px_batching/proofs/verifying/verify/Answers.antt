@@ -1,4 +1,4 @@
-use Rattle.std.proofs.Common.{◌≡◌, ◌<◌, ◌≤◌, refl, inl, inr, arith}
+use Rattle.std.proofs.Common.{refl, inl, inr, arith}
 use Rattle.px_batching.proofs.After.{has_closed, has_closes, still_verifying}
 use Rattle.px_batching.proofs.Places.{within}
 use Rattle.px_batching.proofs.Right.{right_verified}

@@ -1,4 +1,4 @@
-use Rattle.std.proofs.Common.{◌≡◌, ◌+◌, ◌-◌, ◌<◌, ◌≤◌, ℕ, length, min, set, List, ◌∷◌, refl, ap, sym, ◌∙◌, arith}
+use Rattle.std.proofs.Common.{◌≡◌, ◌-◌, length, set, List, refl, ap, arith}
 use Rattle.px_cells.specs.CellData.{CellData}
 use Rattle.px_keptcells.specs.Kept.{laid}
 use Rattle.px_phases.specs.Batch.{BatchData}

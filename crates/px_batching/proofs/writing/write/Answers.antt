@@ -1,6 +1,6 @@
-use Rattle.std.proofs.Common.{◌≡◌, ◌+◌, ◌-◌, ◌<◌, ◌≤◌, ℕ, length, get_or, set, slice_get, List, ◌∷◌, Some, None, refl, ap, sym, ◌∙◌, subst, arith}
+use Rattle.std.proofs.Common.{set, None, refl, ap, ◌∙◌, arith}
 use Rattle.px_group.specs.declared.group.Begun.{Begun}
-use Rattle.px_group.specs.declared.group.Phase.TheVariants.{Verifying, Writing}
+use Rattle.px_group.specs.declared.group.Phase.TheVariants.{Verifying}
 use Rattle.px_batching.proofs.After.{set_twice}
 use Rattle.px_batching.proofs.Places.{within}
 use Rattle.px_batching.proofs.Right.{right_puts}
