@@ -1,33 +1,33 @@
 -- Which entries of a batch may come, and who waits for whom.
-use Rattle.std.proofs.Common.{◌≡◌, ◌≢◌, ℕ, zero, suc, ◌+◌, ◌<◌, ◌≤◌, Bool, true, false, cond, not, if◌then◌else◌, ◌&&◌, ◌||◌, filter, map, length, get_or, slice_get, Option, Some, None, List, [], ◌∷◌, ◌++◌, refl, ap, sym, ◌∙◌, subst, inl, inr, arith}
+use Rattle.std.proofs.Common.{◌≡◌, ◌≢◌, ℕ, suc, ◌<◌, Bool, true, false, not, if◌then◌else◌, ◌&&◌, ◌||◌, length, get_or, slice_get, Option, Some, None, List, [], ◌∷◌, refl, ap, sym, ◌∙◌, subst, inl, inr, arith}
 use Rattle.std.specs.Prelude.{is_some, nat_eq, nat_lt}
-use Rattle.std.specs.List.{AllByRecursion, list_any}
+use Rattle.std.specs.List.{list_any}
 use Rattle.std.specs.Ordering.{is_eq}
 use Rattle.std.proofs.lemmas.Bool.{and_parts, cases_Bool, eqb-true, false≢true}
 use Rattle.std.proofs.lemmas.Bool.Decides.{nat_tests}
+use Rattle.px_outside.specs.declared.disk.Disk.{Ghosts}
 use Rattle.px_values.proofs.Equal.{row_order-Decides}
 use Rattle.px_values.specs.Order.{row_order}
 use Rattle.px_values.specs.declared.change.Change.{Change}
 use Rattle.px_values.specs.declared.change.What.{What}
 use Rattle.px_values.specs.declared.row.Value.{Value}
 use Rattle.px_trail.specs.declared.entry.Entry.{Entry}
-use Rattle.px_trail.specs.Batches.{Batch, IsIn, IsPending, IsSoundBatch, IsSoundOption, batch_of, change_of, has, is_distinct, rows_of, unwritten}
-use Rattle.px_trail.specs.Batches as trail
+use Rattle.px_trail.specs.Batches.{Batch, IsIn, IsPending, IsSoundBatch, IsSoundOption, batch_of, change_of, has, rows_of, unwritten}
 use Rattle.px_trail.specs.Legal.{IsLegal, IsWritable}
 use Rattle.px_trail.specs.Trail.{Base}
-use Rattle.px_trail.proofs.Batches.{batch-sound, in_writing}
+use Rattle.px_trail.proofs.Batches.{batch-sound}
 use Rattle.px_trail.proofs.Orders.{filter-has, has-change, has-filter}
 use Rattle.px_history.proofs.Changes.{change-has}
 use Rattle.px_openbatches.specs.Pending.{HeldBatch, IsHeld, is_in}
 use Rattle.px_openbatches.proofs.Helds.{same_batch}
-use Rattle.px_phases.specs.Batch.{BatchData, IsHeldAs, left_in}
+use Rattle.px_phases.specs.Batch.{IsHeldAs, left_in}
 use Rattle.px_tablesteps.specs.Kept.{no_held}
 use Rattle.px_group.specs.Group.{IsRightBatch, IsRightGroup, IsTallied, as_phase}
 use Rattle.px_group.specs.declared.group.Begun.{Begun}
 use Rattle.px_group.specs.declared.group.Group.{Group}
 use Rattle.px_group.specs.declared.group.Phase.{Phase}
 use Rattle.px_group.specs.declared.group.Phase.TheVariants.{Writing}
-use Rattle.px_batching.specs.Steps.{IsAt, IsBlocked, IsFree, IsSeat, WaitsFor, blocks}
+use Rattle.px_batching.specs.Steps.{HandsCloses, HandsMarks, IsAt, IsBlocked, IsFree, IsSeat, WaitsFor, blocks}
 use Rattle.px_batching.proofs.Pairs.{AreTied, IsTied, each_at, tied_at, to_tied}
 use Rattle.px_batching.proofs.Places.{all_at, same_at}
 use Rattle.px_batching.proofs.Ready.{stage_puts}
@@ -203,3 +203,21 @@ module _ (b : Base) (es : List Entry) (g : Group) (hs : List HeldBatch) (k : IsT
           to_write = own_left row.0 row.1.0;
           pending = told_of_left es t o.earlier (get_or hs o.place no_held) w.1.0 wh w.1.1.batch w.1.1.is row.0 row.1.1;
         })
+
+  -- 3. Where cells go: to the index that the batch marks, or verifies at, next
+
+  pub marks_at : {D : Type 0} (d : Ghosts D) (g' : Group) (disk disk' : D) → (w : HandsMarks d g g' disk disk' m) → h.done ≡ w.place
+  marks_at d g' disk disk' w =
+      (let p = tied_at es t g.batches.items hs ties m w.batch w.step.step.batch in
+      let to_mark = p.1.0.to_mark in
+      let count = p.1.1.count in
+      let next = w.next in
+      omega arith)
+
+  pub closes_at : {D : Type 0} (d : Ghosts D) (g' : Group) (disk disk' : D) → (w : HandsCloses d g g' disk disk' m) → h.verified ≡ w.place
+  closes_at d g' disk disk' w =
+      (let p = tied_at es t g.batches.items hs ties m w.batch w.step.step.batch in
+      let to_close = p.1.0.to_verify in
+      let count = p.1.1.count in
+      let next = w.next in
+      omega arith)

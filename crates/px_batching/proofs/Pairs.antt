@@ -1,11 +1,11 @@
 -- The open batches of a table and what is known of them, side by side.
-use Rattle.std.proofs.Common.{◌≡◌, ◌≢◌, ℕ, zero, suc, ◌+◌, ◌<◌, ◌≤◌, true, false, not, ◌||◌, filter, map, length, get_or, set, remove, slice_get, Option, Some, None, List, [], ◌∷◌, ◌++◌, refl, ap, sym, ◌∙◌, subst, inl, inr, arith}
+use Rattle.std.proofs.Common.{◌≡◌, ℕ, zero, suc, ◌<◌, ◌≤◌, true, false, not, ◌||◌, map, length, get_or, set, remove, slice_get, Some, List, [], ◌∷◌, refl, ap, sym, subst, arith}
 use Rattle.std.specs.Prelude.{nat_eq}
 use Rattle.std.specs.List.{AllByRecursion}
 use Rattle.std.proofs.lemmas.Bool.{ne_eqb, eq-eqb}
 use Rattle.px_trail.specs.declared.entry.Entry.{Entry}
-use Rattle.px_openbatches.specs.Pending.{HeldBatch, HeldKept, IsHeld, IsRisingFrom, held_ended, is_in}
-use Rattle.px_phases.specs.Batch.{AreHeldAs, BatchData, IsHeldAs}
+use Rattle.px_openbatches.specs.Pending.{HeldBatch, IsRisingFrom, held_ended, is_in}
+use Rattle.px_phases.specs.Batch.{AreHeldAs, IsHeldAs}
 use Rattle.px_tablesteps.specs.Kept.{no_held}
 use Rattle.px_group.specs.Group.{AreInPhase, IsInPhase, batch_in}
 use Rattle.px_group.specs.declared.group.Begun.{Begun}

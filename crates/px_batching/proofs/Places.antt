@@ -1,5 +1,5 @@
 -- A list in which one place is changed.
-use Rattle.std.proofs.Common.{◌≡◌, ◌≢◌, ℕ, zero, suc, ◌<◌, Option, Some, None, List, [], ◌∷◌, ◌⊎◌, inl, inr, length, map, get_or, set, slice_get, remove, refl, ap, sym, ◌∙◌, subst, arith}
+use Rattle.std.proofs.Common.{◌≡◌, ◌≢◌, ℕ, zero, suc, ◌<◌, Some, List, [], ◌∷◌, ◌⊎◌, inl, inr, length, set, slice_get, refl, ap, sym, subst, arith}
 use Rattle.std.specs.List.{AllByRecursion}
 
 module _ {A : Type 0} where

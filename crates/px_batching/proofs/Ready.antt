@@ -1,7 +1,6 @@
 -- What a batch hands out next, and the room for it.
-use Rattle.std.proofs.Common.{◌≡◌, ◌≢◌, ℕ, ◌+◌, ◌-◌, ◌<◌, ◌≤◌, List, [], ◌∷◌, length, get_or, sum_by, slice_get, Option, Some, None, Result, Ok, Err, OnOk, true, refl, ap, sym, ◌∙◌, subst, arith}
+use Rattle.std.proofs.Common.{◌≡◌, ℕ, ◌+◌, ◌-◌, ◌<◌, ◌≤◌, List, [], ◌∷◌, length, get_or, sum_by, slice_get, Option, Some, None, Result, Ok, Err, OnOk, true, refl, ap, sym, ◌∙◌, subst, arith}
 use Rattle.std.specs.Prelude.{is_some}
-use Rattle.std.specs.List.{AllByRecursion}
 use Rattle.std.proofs.lemmas.List.Sums.{get_or-le-sum_by}
 use Rattle.std.proofs.lemmas.Option.{get_or_from_slice_get, slice_get-get_or}
 use Rattle.px_cells.specs.CellData.{CellData}
@@ -9,7 +8,7 @@ use Rattle.px_keptcells.specs.Kept.{laid}
 use Rattle.px_trail.specs.Batches.{rows_of}
 use Rattle.px_phases.specs.Batch.{BatchData}
 use Rattle.px_group.specs.Group.{IsRightBatch, IsRightGroup, IsStage}
-use Rattle.px_group.specs.Room.{byte_count, bytes_at, bytes_of_rows, cells_at, cells_of_rows, closes_for, kept_for, marks_for, IsLight}
+use Rattle.px_group.specs.Room.{byte_count, bytes_at, bytes_of_rows, cells_at, cells_of_rows, closes_for, marks_for, IsLight}
 use Rattle.px_group.specs.declared.group.Begun.{Begun}
 use Rattle.px_group.specs.declared.group.Group.{Group}
 use Rattle.px_group.specs.declared.group.IndexRegion.{IndexRegion}
@@ -181,3 +180,7 @@ ready_puts g m r h z e =
     let u : cells_of_rows z ≡ length (laid parts) = ap (λ o. length (laid (puts_in o))) f.1 in
     let v : bytes_of_rows z ≡ byte_count (laid parts) = ap (λ o. byte_count (laid (puts_in o))) f.1 in
     record { at = at; phase_is = p; some = some; parts = parts; kept_is = f.1; rows_are = w.rows some; light = omega arith; room = omega arith; room_bytes = omega arith }
+
+pub ok_one : {T E : Type 0} (r : Result T E) (P Q : Type 0) → OnOk r P → (P → Q) → OnOk r Q
+ok_one (Ok x) P Q p f = f p
+ok_one (Err e) P Q p f = tt

@@ -1,6 +1,5 @@
 -- A table stays right when an open batch of it goes on.
-use Rattle.std.proofs.Common.{◌≡◌, ◌≢◌, ℕ, ◌+◌, ◌≤◌, ◌⊎◌, inl, inr, List, [], ◌∷◌, ◌++◌, length, set, slice_get, Option, Some, None, true, false, refl, ap, sym, ◌∙◌, subst, arith}
-use Rattle.std.specs.Prelude.{is_some}
+use Rattle.std.proofs.Common.{◌≡◌, ℕ, ◌+◌, ◌⊎◌, inl, inr, List, [], ◌∷◌, ◌++◌, length, slice_get, Option, Some, None, refl, ap, sym, ◌∙◌, subst, arith}
 use Rattle.std.specs.List.{AllByRecursion}
 use Rattle.std.proofs.Math.ListN.{length-set}
 use Rattle.px_outside.specs.declared.disk.Disk.{Ghosts}
@@ -12,19 +11,18 @@ use Rattle.px_region.specs.declared.region.Region.{Region}
 use Rattle.px_tables.specs.declared.index.Index.{Index}
 use Rattle.px_tables.specs.declared.table.Table.{Table}
 use Rattle.px_tables.specs.declared.table.TableRegion.{TableRegion}
-use Rattle.px_trail.specs.Batches.{rows_of}
 use Rattle.px_phases.specs.Batch.{AllFit, BatchData}
 use Rattle.px_rows.specs.Keys.{IsRightTable}
 use Rattle.px_cellshapes.specs.Keys.{AreRightKeys}
 use Rattle.px_cellshapes.specs.Rows.{AreRightRows}
 use Rattle.px_group.specs.Group.{AreRightParts, IsRightBatch, IsRightGroup, IsRightPart, IsShaped, IsStage, region_of}
-use Rattle.px_group.specs.Room.{HasRooms, byte_count, closes_for, kept_for, marks_for, puts_for}
+use Rattle.px_group.specs.Room.{byte_count, closes_for, kept_for, marks_for, puts_for}
 use Rattle.px_group.specs.declared.group.Begun.{Begun}
 use Rattle.px_group.specs.declared.group.Group.{Group}
 use Rattle.px_group.specs.declared.group.IndexRegion.{IndexRegion}
 use Rattle.px_group.specs.declared.group.Phase.{Phase}
 use Rattle.px_group.specs.declared.group.Phase.TheVariants.{Marking, Writing, Verifying, Closing}
-use Rattle.px_batching.specs.Steps.{FinishesCloses, FinishesMarks, HandsCloses, HandsMarks, IsBatchStep, IsIndexStep, IsQuietStep, IsRowStep, UsesRoom, WroteCloses, WroteMarks, WrotePuts}
+use Rattle.px_batching.specs.Steps.{FinishesCloses, FinishesMarks, IsBatchStep, IsIndexStep, IsQuietStep, UsesRoom, WroteCloses, WroteMarks, WrotePuts}
 use Rattle.px_batching.proofs.Kept.{next_before}
 use Rattle.px_batching.proofs.Places.{all_at, all_more, all_set, set_cases}
 use Rattle.px_batching.proofs.Rooms.{KeepsLess, less_closes, less_marks, rooms_index, rooms_quiet, rooms_rows}
@@ -225,7 +223,7 @@ module _ {D : Type 0} (d : Ghosts D) (g g' : Group) (disk disk' : D) (m : ℕ) (
       } in
       right_index g g' m h.place x x' h.index h.region (length (laid h.parts)) (byte_count (laid h.parts)) h.step w.room l
       (part_on g.table h.index h.region h.cells (laid (but x.batch.met h.parts)) ry h.writes.number w.written.reads h.handed.reads
-          (keys_laid g.table h.index.index (but x.batch.met h.parts) (all_but (AreRightKeys g.table h.index.index) x.batch.met h.parts shape)))
+      (keys_laid g.table h.index.index (but x.batch.met h.parts) (all_but (AreRightKeys g.table h.index.index) x.batch.met h.parts shape)))
       now r
 
   pub right_puts : WrotePuts d g g' disk disk' m → IsRightGroup g'

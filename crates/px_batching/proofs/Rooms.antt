@@ -1,5 +1,5 @@
 -- The room that batches were promised, once one of them has handed out cells.
-use Rattle.std.proofs.Common.{◌≡◌, ◌≢◌, ℕ, ◌+◌, ◌-◌, ◌≤◌, ◌⊎◌, inl, inr, List, [], ◌∷◌, length, get_or, set, sum_by, slice_get, Option, Some, None, refl, ap, sym, ◌∙◌, subst, arith}
+use Rattle.std.proofs.Common.{◌≡◌, ◌≢◌, ℕ, ◌+◌, ◌≤◌, ◌⊎◌, inl, inr, List, [], ◌∷◌, length, get_or, set, sum_by, slice_get, Option, Some, None, ap, sym, ◌∙◌, subst, arith}
 use Rattle.std.specs.List.{AllByRecursion}
 use Rattle.std.proofs.lemmas.Bool.{cases_eq}
 use Rattle.std.proofs.lemmas.List.Sums.{sum_by-set}
@@ -7,12 +7,12 @@ use Rattle.std.proofs.lemmas.Option.{get_or_from_slice_get}
 use Rattle.px_cells.specs.CellData.{CellData}
 use Rattle.px_keptcells.specs.Kept.{laid}
 use Rattle.px_region.specs.declared.region.Region.{Region}
-use Rattle.px_group.specs.Room.{HasPromised, HasRooms, IsLight, byte_count, bytes_at, bytes_of_rows, cells_at, cells_of_rows, closes_for, kept_for, marks_for, puts_for}
+use Rattle.px_group.specs.Room.{HasRooms, IsLight, byte_count, bytes_at, bytes_of_rows, cells_at, cells_of_rows, closes_for, kept_for, marks_for, puts_for}
 use Rattle.px_phases.specs.Batch.{BatchData}
 use Rattle.px_group.specs.declared.group.Begun.{Begun}
 use Rattle.px_group.specs.declared.group.Group.{Group}
 use Rattle.px_group.specs.declared.group.IndexRegion.{IndexRegion}
-use Rattle.px_batching.specs.Steps.{IsBatchStep, IsIndexStep, IsQuietStep, IsRowStep, UsesRoom}
+use Rattle.px_batching.specs.Steps.{IsIndexStep, IsQuietStep, IsRowStep, UsesRoom}
 use Rattle.px_batching.proofs.Kept.{next_after, next_before, other_same}
 use Rattle.px_batching.proofs.Places.{all_at, all_set, set_cases, within}
 

@@ -1,21 +1,17 @@
 -- What a table shows, when an open batch of it goes on.
-use Rattle.std.proofs.Common.{◌≡◌, ◌≢◌, ℕ, zero, suc, ◌+◌, ◌-◌, ◌<◌, ◌≤◌, true, map, length, get_or, set, slice_get, Some, List, [], ◌∷◌, ◌++◌, refl, ap, sym, ◌∙◌, subst, inl, inr, arith}
+use Rattle.std.proofs.Common.{◌≡◌, ℕ, ◌+◌, ◌<◌, true, length, get_or, set, slice_get, Some, List, [], ◌∷◌, ◌++◌, refl, ap, sym, ◌∙◌, subst, inl, inr, arith}
 use Rattle.std.specs.Prelude.{is_some}
-use Rattle.std.specs.List.{AllByRecursion}
 use Rattle.std.proofs.Math.ListN.{length-set}
-use Rattle.std.proofs.lemmas.Bool.{cases_eq}
 use Rattle.std.proofs.lemmas.List.{get_or-set_other, get_or-set_same}
 use Rattle.px_outside.specs.declared.disk.Disk.{Ghosts}
 use Rattle.px_cells.specs.CellData.{CellData}
 use Rattle.px_cells.specs.Order.{ReadsSame}
-use Rattle.px_keptcells.specs.Kept.{but, laid}
 use Rattle.px_region.specs.Region.{read_of}
 use Rattle.px_region.specs.declared.region.Region.{Region}
 use Rattle.px_tables.specs.declared.index.Index.{Index}
 use Rattle.px_tables.specs.declared.table.Table.{Table}
 use Rattle.px_values.specs.declared.row.Value.{Value}
 use Rattle.px_values.specs.declared.change.Change.{Change}
-use Rattle.px_trail.specs.declared.entry.Act.{Act}
 use Rattle.px_trail.specs.declared.entry.Act.TheVariants.{Ended, Phase as PhaseDone, Wrote}
 use Rattle.px_trail.specs.declared.entry.Entry.{Entry}
 use Rattle.px_trail.specs.Batches.{Batch, IsConcurrent, IsIn, batch_of, change_of, has, rows_of}
@@ -32,9 +28,9 @@ use Rattle.px_rows.specs.Spelled.{row_form}
 use Rattle.px_forms.specs.Several.{cells_for}
 use Rattle.px_openbatches.specs.Made.{RowCells, cells_at}
 use Rattle.px_groupworld.specs.Group.{GroupData, IndexPart, TableForm, no_part, shape_in, table_form, world_in}
-use Rattle.px_groupworld.specs.Steps.{Events, at_index, cells_data, ended_data, gone_on, nothing, with_cells, wrote_data}
+use Rattle.px_groupworld.specs.Steps.{at_index, cells_data, ended_data, gone_on, nothing, with_cells, wrote_data}
 use Rattle.px_openbatches.specs.Pending.{HeldBatch, held_ended, held_wrote, to_verify}
-use Rattle.px_phases.specs.Batch.{BatchData, IsHanded, IsHeldAs}
+use Rattle.px_phases.specs.Batch.{BatchData, IsHeldAs}
 use Rattle.px_phases.proofs.Held.{closes_handed, marks_handed, puts_handed}
 use Rattle.px_tablesteps.specs.Kept.{TableKept, TableSteps, no_held, open_of}
 use Rattle.px_tablesteps.proofs.Steps.{receipt_closed, table_ended, table_mark, table_marked, table_verified, table_verify, table_wrote}

@@ -1,10 +1,8 @@
 -- What the trail tells of a table, when an open batch of it goes on.
-use Rattle.std.proofs.Common.{◌≡◌, ◌≢◌, ℕ, zero, suc, ◌+◌, ◌-◌, ◌<◌, ◌≤◌, Bool, true, false, cond, not, if◌then◌else◌, ◌&&◌, ◌||◌, filter, map, length, get_or, set, remove, slice_get, Option, Some, None, List, [], ◌∷◌, ◌++◌, refl, ap, sym, ◌∙◌, subst, inl, inr, ◌⊎◌, arith}
+use Rattle.std.proofs.Common.{◌≡◌, ◌≢◌, ℕ, ◌+◌, ◌<◌, Bool, true, false, cond, not, if◌then◌else◌, ◌&&◌, ◌||◌, filter, length, get_or, set, slice_get, Some, None, List, [], ◌∷◌, ◌++◌, refl, ap, sym, ◌∙◌, subst, inl, inr}
 use Rattle.std.specs.Prelude.{is_some}
-use Rattle.std.specs.List.{AllByRecursion}
-use Rattle.std.proofs.lemmas.Bool.{cases_Bool, cases_eq, false≢true}
+use Rattle.std.proofs.lemmas.Bool.{cases_eq}
 use Rattle.px_outside.specs.declared.disk.Disk.{Ghosts}
-use Rattle.px_cells.specs.CellData.{CellData}
 use Rattle.px_region.specs.declared.region.Region.{Region}
 use Rattle.px_tables.specs.declared.index.Index.{Index}
 use Rattle.px_tables.specs.declared.table.Table.{Table}
@@ -16,7 +14,7 @@ use Rattle.px_trail.specs.declared.entry.Act.TheVariants.{Ended, Phase as PhaseD
 use Rattle.px_trail.specs.declared.entry.Entry.{Entry}
 use Rattle.px_trail.specs.Batches.{Batch, BatchPhase, batch_of, has, phase_after, phase_of, rows_of, unwritten}
 use Rattle.px_trail.specs.Batches as trail
-use Rattle.px_trail.specs.Trail.{Base, Catalogue, catalogue_of, catalogue_step, horizon_of, horizon_step, last_step, index_of, last_of, open_points, points_step, table_of}
+use Rattle.px_trail.specs.Trail.{Base, Catalogue, catalogue_of, catalogue_step, horizon_of, horizon_step, last_step, index_of, last_of, open_points, points_step}
 use Rattle.px_trail.proofs.Batches.{after-verifying, after-writing, in_marking, in_verifying, in_writing}
 use Rattle.px_trail.proofs.Growth.{catalogue-snoc, horizon-snoc, last-snoc, points-snoc}
 use Rattle.px_trail.proofs.Orders.{has-append}
@@ -29,11 +27,9 @@ use Rattle.px_values.specs.Order.{row_order}
 use Rattle.px_values.proofs.Equal.{row_order-Decides}
 use Rattle.std.specs.Ordering.{is_eq}
 use Rattle.px_openbatches.proofs.Helds.{same_batch}
-use Rattle.px_phases.specs.Batch.{AreHeldAs}
 use Rattle.px_group.specs.declared.group.Begun.{Begun}
 use Rattle.px_group.specs.declared.group.Group.{Group}
 use Rattle.px_group.specs.declared.group.IndexRegion.{IndexRegion}
-use Rattle.px_group.specs.declared.group.OpenPoint.{OpenPoint}
 use Rattle.px_group.specs.declared.group.Phase.{Phase}
 use Rattle.px_group.specs.declared.group.Phase.TheVariants.{Marking, Writing, Verifying, Closing}
 use Rattle.px_batching.specs.Steps.{FinishesCloses, FinishesMarks, HandsCloses, HandsMarks, IsBatchStep, IsIndexStep, LetsGo, WrotePuts}
@@ -233,8 +229,8 @@ module _ (b : Base) (es : List Entry) (e : Entry) (g g' : Group) (hs : List Held
         tallied_on b es (es ++ e ∷ []) g g' hs hs still s.1.points s.1.last s.1.horizon (tells_phase b es e id g.table.id own.stamp p a) k
         (held_after_phase b es e id own.stamp told (record told { phase = p }) takes running (λ r. refl) running hs k.held)
         (subst (λ (l : List Begun). AreTied (es ++ e ∷ []) id l hs) (sym s.1.batches)
-            (subst (λ (l : List HeldBatch). AreTied (es ++ e ∷ []) id (set g.batches.items m s.0) l) (map_same hs)
-                (tied_map es (es ++ e ∷ []) id own.stamp (λ h. h) (stays (record told { phase = p }) takes) g.batches.items hs (to_tied es id g.batches.items hs k.batches k.phases) m s.0 only now)))
+        (subst (λ (l : List HeldBatch). AreTied (es ++ e ∷ []) id (set g.batches.items m s.0) l) (map_same hs)
+        (tied_map es (es ++ e ∷ []) id own.stamp (λ h. h) (stays (record told { phase = p }) takes) g.batches.items hs (to_tied es id g.batches.items hs k.batches k.phases) m s.0 only now)))
 
 module _ (b : Base) (es : List Entry) (e : Entry) (g g' : Group) (hs : List HeldBatch) (r : IsRightGroup g) (k : IsTallied b es g hs) (m : ℕ) where
   pub tallied_marked : FinishesMarks g g' m → e.act ≡ PhaseDone g.table.id (get_or hs m no_held).stamp 1 → IsTallied b (es ++ e ∷ []) g' hs
@@ -278,17 +274,20 @@ module _ (b : Base) (es : List Entry) (e : Entry) (g g' : Group) (hs : List Held
       let written : unwritten (record y { written = y.written ++ rows }) ≡ [] = none_left y.changes y.written rows whole in
       let like : IsHeldAs (record x.batch { puts = None }) (writes_rows own.stamp rows own) = subst (λ (cs : List Change). IsHeldAs (record x.batch { puts = None }) (writes_rows own.stamp (rows_of cs) own)) p.1.0.changes (wrote x.batch own p.1.0 h.hands.parts h.hands.kept) in
       let x' : Begun = record x { phase = Verifying; batch = record x.batch { puts = None }; rows = None } in
-      let now : IsTied (es ++ e ∷ []) t x' (writes_rows own.stamp rows own) = (like, record {
-        batch = record y { written = y.written ++ rows };
-        is = takes.now;
-        phase = (λ i. if w.0 i then trail.Over else phase_after (w.1 i) (unwritten (record y { written = y.written ++ rows }))) ∙ after-verifying (unwritten (record y { written = y.written ++ rows })) written;
-        count = p.1.1.count;
-      }) in
+      let now : IsTied (es ++ e ∷ []) t x' (writes_rows own.stamp rows own) = (
+        like,
+        record {
+          batch = record y { written = y.written ++ rows };
+          is = takes.now;
+          phase = (λ i. if w.0 i then trail.Over else phase_after (w.1 i) (unwritten (record y { written = y.written ++ rows }))) ∙ after-verifying (unwritten (record y { written = y.written ++ rows })) written;
+          count = p.1.1.count;
+        },
+      ) in
       let others : (z : Begun) (v : HeldBatch) → (own.stamp ≡ v.stamp → ⊥) → IsTied es t z v → IsTied (es ++ e ∷ []) t z (writes_rows own.stamp rows v) = λ z v n o. (other_wrote z.batch v o.0 own.stamp rows (λ c. n (sym c)), record { batch = o.1.batch; is = takes.there v.stamp n ∙ o.1.is; phase = o.1.phase; count = o.1.count }) in
       tallied_on b es (es ++ e ∷ []) g g' hs (held_wrote own.stamp rows hs) (still_quiet g g' step.step.table step.indexes) step.step.points step.step.last step.step.horizon (tells_wrote b es e t g.table.id own.stamp rows a) k
       (held_after_wrote b es e t own.stamp y (record y { written = y.written ++ rows }) takes w.0 rows refl w.0 hs k.held)
       (subst (λ (l : List Begun). AreTied (es ++ e ∷ []) t l (held_wrote own.stamp rows hs)) (sym step.step.batches)
-          (tied_map es (es ++ e ∷ []) t own.stamp (writes_rows own.stamp rows) others g.batches.items hs (to_tied es t g.batches.items hs k.batches k.phases) m x' (only b es e g g' hs k m x at) now))
+      (tied_map es (es ++ e ∷ []) t own.stamp (writes_rows own.stamp rows) others g.batches.items hs (to_tied es t g.batches.items hs k.batches k.phases) m x' (only b es e g g' hs k m x at) now))
 
 module _ (b : Base) (es : List Entry) (e : Entry) (g g' : Group) (hs : List HeldBatch) (k : IsTallied b es g hs) (m : ℕ) where
   pub tallied_ended : (x : Begun) → LetsGo g g' m x → e.act ≡ Ended g.table.id (get_or hs m no_held).stamp → IsTallied b (es ++ e ∷ []) g' (held_ended (get_or hs m no_held).stamp hs)
@@ -303,4 +302,4 @@ module _ (b : Base) (es : List Entry) (e : Entry) (g g' : Group) (hs : List Held
       tallied_on b es (es ++ e ∷ []) g g' hs (held_ended own.stamp hs) (still_quiet g g' l.table l.indexes) l.points l.last l.horizon (tells_ended b es e t g.table.id own.stamp a) k
       (held_after_ended b es e t own.stamp y (record y { ended = true }) takes running refl hs k.held)
       (subst (λ (xs : List Begun). AreTied (es ++ e ∷ []) t xs (held_ended own.stamp hs)) (sym l.batches)
-          (tied_removed es (es ++ e ∷ []) t own.stamp (stays b es e g g' hs k m x l.batch (record y { ended = true }) takes) g.batches.items hs (to_tied es t g.batches.items hs k.batches k.phases) m (only b es e g g' hs k m x l.batch) refl p.0))
+      (tied_removed es (es ++ e ∷ []) t own.stamp (stays b es e g g' hs k m x l.batch (record y { ended = true }) takes) g.batches.items hs (to_tied es t g.batches.items hs k.batches k.phases) m (only b es e g g' hs k m x l.batch) refl p.0))

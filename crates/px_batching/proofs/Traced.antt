@@ -1,12 +1,11 @@
 -- What the end of a batch needs of it, whatever became of the regions.
-use Rattle.std.proofs.Common.{◌≡◌, ◌≢◌, ℕ, zero, suc, ◌+◌, ◌<◌, ◌≤◌, Bool, true, false, cond, not, ◌&&◌, ◌||◌, map, length, get_or, set, remove, slice_get, Option, Some, None, List, [], ◌∷◌, ◌++◌, ◌↔◌, refl, ap, sym, ◌∙◌, subst, inl, inr, arith}
+use Rattle.std.proofs.Common.{◌≡◌, ◌≢◌, ℕ, zero, suc, ◌≤◌, Bool, true, false, not, ◌&&◌, ◌||◌, length, set, remove, slice_get, Option, Some, None, List, [], ◌∷◌, ◌++◌, ◌↔◌, refl, ap, sym, ◌∙◌, subst, inl, inr, arith}
 use Rattle.std.specs.Prelude.{is_some}
 use Rattle.std.specs.List.{AllByRecursion}
 use Rattle.std.specs.Ordering.{is_eq}
 use Rattle.std.proofs.lemmas.Bool.{cases_Bool, false≢true}
 use Rattle.std.proofs.lemmas.List.{length-map}
 use Rattle.px_tables.specs.declared.table.Table.{Table}
-use Rattle.px_values.proofs.Equal.{row_order-Decides}
 use Rattle.px_values.specs.Order.{row_order}
 use Rattle.px_values.specs.declared.name.TableId.{TableId}
 use Rattle.px_values.specs.declared.row.Value.{Value}
@@ -21,7 +20,7 @@ use Rattle.px_trail.proofs.Orders.{has-change}
 use Rattle.px_history.proofs.Changes.{change-has}
 use Rattle.px_indexed.specs.Idle.{IsElsewhere}
 use Rattle.px_indexed.proofs.Idle.{act_idle}
-use Rattle.px_openbatches.specs.Pending.{HeldBatch, HeldKept, IsHeld, IsMet, IsRisingFrom, flagged}
+use Rattle.px_openbatches.specs.Pending.{HeldBatch, IsHeld, IsRisingFrom, flagged}
 use Rattle.px_openbatches.proofs.Helds.{concurrent_last, concurrent_more, held_on, left_within}
 use Rattle.px_openbatches.proofs.Meetings.{concurrent_met, met_concurrent}
 use Rattle.px_group.specs.Group.{AreOnce, AreTraced, IsRightBatch, IsRightGroup, IsTallied, IsTraced}
@@ -41,17 +40,20 @@ use Rattle.px_batching.proofs.Trails.{TakesOn, held_other, pending_before, takes
 trace_all : (g : Group) (es : List Entry) (t : ℕ) (xs : List Begun) (hs : List HeldBatch) → AllByRecursion (IsRightBatch g) xs → AreTied es t xs hs → AllByRecursion (IsHeld es t) hs → AllByRecursion (IsTraced es t) xs
 trace_all g es t [] hs r a h = tt
 trace_all g es t (x ∷ xs) [] r a h = absurd a
-trace_all g es t (x ∷ xs) (k ∷ hs) r a h = (record {
-  held = k;
-  is = h.0;
-  stamp = a.0.0.stamp;
-  changes = a.0.0.changes;
-  distinct = a.0.0.distinct;
-  flags = a.0.0.flags;
-  met = a.0.0.met;
-  receipt = r.0.receipt;
-  few = r.0.few;
-}, trace_all g es t xs hs r.1 a.1 h.1)
+trace_all g es t (x ∷ xs) (k ∷ hs) r a h = (
+  record {
+    held = k;
+    is = h.0;
+    stamp = a.0.0.stamp;
+    changes = a.0.0.changes;
+    distinct = a.0.0.distinct;
+    flags = a.0.0.flags;
+    met = a.0.0.met;
+    receipt = r.0.receipt;
+    few = r.0.few;
+  },
+  trace_all g es t xs hs r.1 a.1 h.1,
+)
 
 stamps_above : (es : List Entry) (t q : ℕ) (xs : List Begun) (hs : List HeldBatch) → AreTied es t xs hs → IsRisingFrom q hs → (p : ℕ) → p ≤ q → AllByRecursion (λ (x : Begun). p ≢ x.batch.stamp) xs
 stamps_above es t q [] hs a r p l = tt
@@ -105,7 +107,7 @@ pub traced_step : (es : List Entry) (g g' : Group) (m : ℕ) (x x' : Begun) → 
 traced_step es g g' m x x' s same r = record {
   each = subst (λ (t : Table). AllByRecursion (IsTraced es t.id.0) g'.batches.items) (sym s.table)
       (subst (λ (l : List Begun). AllByRecursion (IsTraced es g.table.id.0) l) (sym s.batches)
-          (all_set (IsTraced es g.table.id.0) g.batches.items m x' (trace_same es g.table.id.0 x x' same (all_at (IsTraced es g.table.id.0) g.batches.items m x s.batch r.each)) r.each));
+      (all_set (IsTraced es g.table.id.0) g.batches.items m x' (trace_same es g.table.id.0 x x' same (all_at (IsTraced es g.table.id.0) g.batches.items m x s.batch r.each)) r.each));
   once = subst AreOnce (sym s.batches) (once_set g.batches.items m x x' s.batch same.stamp r.once);
 }
 
@@ -247,7 +249,7 @@ module _ (es : List Entry) (e : Entry) (tid : TableId) (x : Begun) (r : IsTraced
         elim (concurrent_last es e tid.0 h.stamp q (concurrent_met after tid.0 h.stamp q z.1)) [
           | inl old ↦ r.is.met_to q c old
           | inr now ↦ r.is.met_to q c (r.is.counted q now.other (left_within es tid.0 h r.is e now.within) now.differs (pending_before es e tid.0 h.stamp r.is.batch (record r.is.batch { ended = true }) takes now.other q now.pending))
-        ])
+        ]),
   )
 
   pub receipt_of : (told : Told) → told.rows ≡ length x.receipt → told.concurrent ≡ flagged x.batch.met x.receipt → IsReceiptOf after tid.0 x.batch.stamp told
@@ -260,7 +262,7 @@ module _ (es : List Entry) (e : Entry) (tid : TableId) (x : Begun) (r : IsTraced
         once = ap is_distinct c ∙ (ap (λ (l : List (List Value)). is_distinct (flagged x.batch.met l)) r.receipt ∙ flagged_once x.batch.met (rows_of x.batch.changes) r.distinct);
         concurrent = λ q. (
           λ w. (let z = (met_after q).0 (sym (met q) ∙ w) in (ap (λ (cs : List Change). has (rows_of cs) q) changes_are ∙ z.0, z.1)),
-          λ z. met q ∙ (met_after q).1 (ap (λ (cs : List Change). has (rows_of cs) q) (sym changes_are) ∙ z.0, z.1)
+          λ z. met q ∙ (met_after q).1 (ap (λ (cs : List Change). has (rows_of cs) q) (sym changes_are) ∙ z.0, z.1),
         );
       })
 

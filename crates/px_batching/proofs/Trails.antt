@@ -1,6 +1,6 @@
 -- The open batches of a trail, after an entry of one of them. Nothing is asked of the trail's base.
-use Rattle.std.proofs.Common.{◌≡◌, ◌≢◌, ℕ, zero, suc, ◌+◌, ◌<◌, ◌≤◌, Bool, true, false, cond, not, ◌&&◌, ◌||◌, ◌==◌, if◌then◌else◌, filter, map, length, Option, Some, None, List, [], ◌∷◌, ◌++◌, refl, ap, sym, ◌∙◌, subst, inl, inr, arith}
-use Rattle.std.specs.Prelude.{is_some, nat_eq}
+use Rattle.std.proofs.Common.{◌≡◌, ℕ, ◌≤◌, Bool, true, false, cond, not, ◌&&◌, ◌||◌, ◌==◌, if◌then◌else◌, filter, Option, Some, None, List, [], ◌∷◌, ◌++◌, refl, ap, sym, ◌∙◌, subst, inl, inr, arith}
+use Rattle.std.specs.Prelude.{nat_eq}
 use Rattle.std.specs.List.{AllByRecursion, list_any}
 use Rattle.std.proofs.lemmas.Bool.{cases_Bool, cases_eq, ne_eqb, eq-eqb, eqb-true, false≢true}
 use Rattle.px_values.specs.declared.name.TableId.{TableId}
@@ -8,9 +8,9 @@ use Rattle.px_values.specs.declared.row.Value.{Value}
 use Rattle.px_values.specs.declared.change.Change.{Change}
 use Rattle.px_values.specs.declared.change.What.{What}
 use Rattle.px_trail.specs.declared.entry.Act.{Act}
-use Rattle.px_trail.specs.declared.entry.Act.TheVariants.{Begun, Ended, Phase, Wrote}
+use Rattle.px_trail.specs.declared.entry.Act.TheVariants.{Ended, Phase, Wrote}
 use Rattle.px_trail.specs.declared.entry.Entry.{Entry}
-use Rattle.px_trail.specs.Batches.{Batch, batch_of, batch_step, change_of, has, rows_of, unwritten}
+use Rattle.px_trail.specs.Batches.{Batch, batch_of, batch_step, change_of, has}
 use Rattle.px_trail.specs.Trail.{Base}
 use Rattle.px_trail.proofs.Growth.{batch_of-snoc}
 use Rattle.px_trail.proofs.Orders.{has-append}

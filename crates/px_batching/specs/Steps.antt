@@ -1,5 +1,5 @@
 -- What a step of an open batch does to its table.
-use Rattle.std.specs.Prelude.{◌≡◌, ℕ, ◌+◌, ◌<◌, ◌≤◌, Bool, true, false, ◌&&◌, nat_lt, is_some, List, [], ◌∷◌, length, remove, slice_get, ◌⊎◌, Option, Some, None, Result, Ok, Err}
+use Rattle.std.specs.Prelude.{◌≡◌, ℕ, ◌+◌, ◌<◌, ◌≤◌, Bool, true, false, ◌&&◌, nat_lt, is_some, List, [], ◌∷◌, length, remove, slice_get, ◌⊎◌, Some, None, Result, Ok, Err}
 use Rattle.std.specs.List.{list_any}
 use Rattle.std.proofs.Math.ListN.{set}
 use Rattle.px_outside.specs.declared.disk.Disk.{Ghosts}

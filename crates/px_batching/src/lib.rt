@@ -1,4 +1,8 @@
-//! The steps of an open batch of a table.
+//! The steps of an open batch of a table: it marks its index rows, one index after another, writes its rows, closes the marks of the
+//! rows on which no other batch was pending, and ends. Each step hands the cells that were made when the batch began to one region as
+//! one record, takes no memory, and leaves the table right. The laws say what each step leaves of what the trail tells of the table and
+//! of what the table shows, which of the batch's entries may come, and that the receipt names exactly the concurrent rows.
+//! What is told in an entry, and when, is the server's.
 #![tactic(auto)]
 
 mod ending;

@@ -23,6 +23,7 @@ pub fn mark_index<D: Disk>(
     requires left { HasMarks group.old place }
     requires room { 12 + most_bytes ≤ frame.old.room }
     ensures hands { HandsMarks ⟦<D as Disk>⟧ group.old group.new disk.old disk.new place }
+    ensures right { OnOk result (IsRightGroup group.new) }
     ensures written { OnOk result (WroteMarks ⟦<D as Disk>⟧ group.old group.new disk.old disk.new place) }
     ensures failed { IsErr result → Rose ⟦<D as Disk>⟧ disk.old disk.new }
     ensures frame { frame.old.room ≤ frame.new.room }
@@ -51,6 +52,7 @@ pub fn mark<D: Disk>(
     requires right { IsRightGroup group.old }
     requires marking { IsAt group.old place InMarking }
     requires room { 12 + most_bytes ≤ frame.old.room }
+    ensures right { OnOk result (IsRightGroup group.new) }
     ensures steps { Marked ⟦<D as Disk>⟧ group.old group.new disk.old disk.new place result }
     ensures failed { IsErr result → Rose ⟦<D as Disk>⟧ disk.old disk.new }
     ensures frame { frame.old.room ≤ frame.new.room }

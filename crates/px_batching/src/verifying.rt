@@ -24,6 +24,7 @@ pub fn verify_index<D: Disk>(
     requires left { HasCloses group.old place }
     requires room { 12 + most_bytes ≤ frame.old.room }
     ensures hands { HandsCloses ⟦<D as Disk>⟧ group.old group.new disk.old disk.new place }
+    ensures right { OnOk result (IsRightGroup group.new) }
     ensures written { OnOk result (WroteCloses ⟦<D as Disk>⟧ group.old group.new disk.old disk.new place) }
     ensures failed { IsErr result → Rose ⟦<D as Disk>⟧ disk.old disk.new }
     ensures frame { frame.old.room ≤ frame.new.room }
@@ -62,6 +63,7 @@ pub fn verify<D: Disk>(
     requires right { IsRightGroup group.old }
     requires verifying { IsAt group.old place InVerifying }
     requires room { 12 + most_bytes ≤ frame.old.room }
+    ensures right { OnOk result (IsRightGroup group.new) }
     ensures steps { Verified ⟦<D as Disk>⟧ group.old group.new disk.old disk.new place result }
     ensures failed { IsErr result → Rose ⟦<D as Disk>⟧ disk.old disk.new }
     ensures frame { frame.old.room ≤ frame.new.room }

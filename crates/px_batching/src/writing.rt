@@ -13,8 +13,8 @@ ghost use Rattle.std.specs.Prelude.{is_some};
 ghost use Rattle.std.specs.List.{list_any};
 
 use crate::handing::hand;
-use px_gatelog::Frame;
 use px_cells::Cells;
+use px_gatelog::Frame;
 use px_group::{Begun, Group, Phase};
 use px_outside::{Disk, Failed};
 use px_phases::OpenBatch;
@@ -85,6 +85,7 @@ pub fn write<D: Disk>(
     requires writing { IsAt group.old place InWriting }
     requires room { 12 + most_bytes ≤ frame.old.room }
     ensures hands { OnErr result (HandsPuts ⟦<D as Disk>⟧ group.old group.new disk.old disk.new place InWriting) }
+    ensures right { OnOk result (IsRightGroup group.new) }
     ensures written { OnOk result (WrotePuts ⟦<D as Disk>⟧ group.old group.new disk.old disk.new place) }
     ensures rows { IfOk result (TakesRows group.old place) }
     ensures failed { IsErr result → Rose ⟦<D as Disk>⟧ disk.old disk.new }

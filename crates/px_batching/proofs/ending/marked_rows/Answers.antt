@@ -1,5 +1,4 @@
-use Rattle.std.proofs.Common.{◌≡◌, ◌<◌, ◌≤◌, ◌+◌, ◌++◌, drop, length, take, ap, sym, ◌∙◌, arith}
-use Rattle.px_values.specs.declared.row.Value.{Value}
+use Rattle.std.proofs.Common.{◌<◌, ◌≤◌, ◌+◌, ◌++◌, drop, length, take, ap, sym, ◌∙◌, arith}
 use Rattle.px_openbatches.specs.Pending.{flagged}
 use Rattle.px_batching.proofs.Marked.{goes_at, length_removed, marks_end, none_at, stays_at}
 use Rattle.px_batching.proofs.ending.marked_rows.Goals.{then-next-len+then-mark, then-next-len+else-mark, else-next-len}

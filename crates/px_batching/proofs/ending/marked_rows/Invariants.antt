@@ -1,4 +1,4 @@
-use Rattle.std.proofs.Common.{◌≡◌, ◌≤◌, ◌++◌, drop, length, take, vec_len}
+use Rattle.std.proofs.Common.{◌≡◌, ◌≤◌, ◌++◌, drop, length, take}
 use Rattle.px_openbatches.specs.Pending.{flagged}
 use Rattle.px_batching.proofs.ending.marked_rows.Given as goal
 

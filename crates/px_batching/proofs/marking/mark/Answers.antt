@@ -1,6 +1,7 @@
-use Rattle.std.proofs.Common.{◌≡◌, ◌<◌, ◌≤◌, refl, inl, inr, arith}
+use Rattle.std.proofs.Common.{refl, inl, inr, arith}
 use Rattle.px_batching.proofs.After.{has_marked, has_marks, still_marking}
 use Rattle.px_batching.proofs.Places.{within}
+use Rattle.px_batching.proofs.Right.{right_marked}
 use Rattle.px_batching.proofs.marking.mark.Goals as goal
 
 pub finish_marking-requires : goal.finish_marking-requires
@@ -29,3 +30,12 @@ finish_marking-requires-2 g c =
 
 pub returns-clause-steps : goal.returns-clause-steps
 returns-clause-steps g c = record { middle = c.mark_index.new.group; before = inr c.in_ok-mark_index.ensures.written; last = c.finish_marking-2.ensures }
+
+pub returns-then-to_mark-eq0-clause-right : goal.returns-then-to_mark-eq0-clause-right
+returns-then-to_mark-eq0-clause-right g c = right_marked c.args.group.now c.finish_marking.new.group c.args.place c.requires.right c.finish_marking.ensures
+
+pub returns-then-to_mark-gt0-clause-right : goal.returns-then-to_mark-gt0-clause-right
+returns-then-to_mark-gt0-clause-right g c = c.in_ok-mark_index.ensures.right
+
+pub returns-clause-right : goal.returns-clause-right
+returns-clause-right g c = right_marked c.mark_index.new.group c.finish_marking-2.new.group c.args.place c.in_ok-mark_index.ensures.right c.finish_marking-2.ensures

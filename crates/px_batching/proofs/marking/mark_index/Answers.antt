@@ -1,13 +1,7 @@
-use Rattle.std.proofs.Common.{◌≡◌, ◌+◌, ◌-◌, ◌<◌, ◌≤◌, length, get_or, set, slice_get, List, ◌∷◌, Some, refl, ap, sym, ◌∙◌, subst, arith}
-use Rattle.px_cells.specs.CellData.{CellData}
-use Rattle.px_keptcells.specs.Kept.{laid}
-use Rattle.px_phases.specs.Batch.{BatchData, IsHanded}
-use Rattle.px_group.specs.Room.{byte_count, marks_for}
-use Rattle.px_group.specs.declared.group.Begun.{Begun}
-use Rattle.px_group.specs.declared.group.IndexRegion.{IndexRegion}
-use Rattle.px_group.specs.declared.group.Phase.TheVariants.{Marking}
-use Rattle.px_batching.specs.Steps.{HandsMarks, IsBatchStep, IsIndexStep, UsesRoom}
-use Rattle.px_batching.proofs.Ready.{IsNext, item_at, ok_both, place_for, ready_marks, room_for, uses_same}
+use Rattle.std.proofs.Common.{◌-◌, set, refl, ap, arith}
+use Rattle.px_phases.specs.Batch.{BatchData}
+use Rattle.px_batching.proofs.Right.{right_marks}
+use Rattle.px_batching.proofs.Ready.{item_at, ok_both, ok_one, place_for, ready_marks, room_for, uses_same}
 use Rattle.px_batching.proofs.marking.mark_index.Goals as goal
 
 pub hand-requires : goal.hand-requires
@@ -69,3 +63,6 @@ returns-clause-written g c =
     let t = c.take_marks-cells.ensures n.parts n.rest n.kept_is in
     ok_both c.hand.result _ _ _ c.hand.ensures.written c.hand.ensures.used
     (λ w u. record { hands = returns-clause-hands g c; written = w; room = uses_same _ _ _ _ _ _ u t.0.count t.0.bytes })
+
+pub returns-clause-right : goal.returns-clause-right
+returns-clause-right g c = ok_one c.hand.result _ _ (returns-clause-written g c) (λ w. right_marks g.D.Disk c.args.group.now _ c.args.disk.now c.hand.new.disk c.args.place c.requires.right w)

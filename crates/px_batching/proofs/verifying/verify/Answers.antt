@@ -1,6 +1,7 @@
-use Rattle.std.proofs.Common.{◌≡◌, ◌<◌, ◌≤◌, refl, inl, inr, arith}
+use Rattle.std.proofs.Common.{refl, inl, inr, arith}
 use Rattle.px_batching.proofs.After.{has_closed, has_closes, still_verifying}
 use Rattle.px_batching.proofs.Places.{within}
+use Rattle.px_batching.proofs.Right.{right_verified}
 use Rattle.px_batching.proofs.verifying.verify.Goals as goal
 
 pub finish_verifying-requires : goal.finish_verifying-requires
@@ -29,3 +30,12 @@ finish_verifying-requires-2 g c =
 
 pub returns-clause-steps : goal.returns-clause-steps
 returns-clause-steps g c = record { middle = c.verify_index.new.group; before = inr c.in_ok-verify_index.ensures.written; last = c.finish_verifying-2.ensures }
+
+pub returns-then-to_close-eq0-clause-right : goal.returns-then-to_close-eq0-clause-right
+returns-then-to_close-eq0-clause-right g c = right_verified c.args.group.now c.finish_verifying.new.group c.args.place c.requires.right c.finish_verifying.ensures
+
+pub returns-then-to_close-gt0-clause-right : goal.returns-then-to_close-gt0-clause-right
+returns-then-to_close-gt0-clause-right g c = c.in_ok-verify_index.ensures.right
+
+pub returns-clause-right : goal.returns-clause-right
+returns-clause-right g c = right_verified c.verify_index.new.group c.finish_verifying-2.new.group c.args.place c.in_ok-verify_index.ensures.right c.finish_verifying-2.ensures

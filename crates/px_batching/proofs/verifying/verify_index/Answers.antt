@@ -1,9 +1,10 @@
-use Rattle.std.proofs.Common.{◌≡◌, ◌+◌, ◌-◌, ◌<◌, ◌≤◌, ℕ, length, min, set, List, ◌∷◌, refl, ap, sym, ◌∙◌, arith}
+use Rattle.std.proofs.Common.{◌≡◌, ◌-◌, length, set, List, refl, ap, arith}
 use Rattle.px_cells.specs.CellData.{CellData}
 use Rattle.px_keptcells.specs.Kept.{laid}
 use Rattle.px_phases.specs.Batch.{BatchData}
 use Rattle.px_group.specs.Room.{byte_count}
-use Rattle.px_batching.proofs.Ready.{item_at, ok_both, place_for, ready_closes, room_for, uses_same}
+use Rattle.px_batching.proofs.Right.{right_closes}
+use Rattle.px_batching.proofs.Ready.{item_at, ok_both, ok_one, place_for, ready_closes, room_for, uses_same}
 use Rattle.px_batching.proofs.Shapes.{but_fewer, but_shorter}
 use Rattle.px_batching.proofs.verifying.verify_index.Goals as goal
 
@@ -86,3 +87,6 @@ returns-clause-written g c =
     let weighed = c.bytes-bytes.ensures in
     ok_both c.hand_some.result _ _ _ c.hand_some.ensures.written c.hand_some.ensures.used
     (λ w u. record { hands = returns-clause-hands g c; written = w; room = uses_same _ _ _ _ _ _ u (omega arith) (omega arith) })
+
+pub returns-clause-right : goal.returns-clause-right
+returns-clause-right g c = ok_one c.hand_some.result _ _ (returns-clause-written g c) (λ w. right_closes g.D.Disk c.args.group.now _ c.args.disk.now c.hand_some.new.disk c.args.place c.requires.right w)

@@ -1,8 +1,9 @@
-use Rattle.std.proofs.Common.{◌≡◌, ◌+◌, ◌-◌, ◌<◌, ◌≤◌, ℕ, length, get_or, set, slice_get, List, ◌∷◌, Some, None, refl, ap, sym, ◌∙◌, subst, arith}
+use Rattle.std.proofs.Common.{set, None, refl, ap, ◌∙◌, arith}
 use Rattle.px_group.specs.declared.group.Begun.{Begun}
-use Rattle.px_group.specs.declared.group.Phase.TheVariants.{Verifying, Writing}
+use Rattle.px_group.specs.declared.group.Phase.TheVariants.{Verifying}
 use Rattle.px_batching.proofs.After.{set_twice}
 use Rattle.px_batching.proofs.Places.{within}
+use Rattle.px_batching.proofs.Right.{right_puts}
 use Rattle.px_batching.proofs.Ready.{ready_puts, uses_same}
 use Rattle.px_batching.proofs.writing.write.Goals as goal
 
@@ -92,3 +93,6 @@ returns-in-Ok-clause-rows g c =
     (let z = c.index_mut.result.now in
     let n = ready_puts c.args.group.now c.args.place c.requires.right c.requires.writing z c.index_mut.ensures.value in
     record { batch = z; is = n.at; rows_are = c.take_rows-cells.ensures.rows })
+
+pub returns-in-Ok-clause-right : goal.returns-in-Ok-clause-right
+returns-in-Ok-clause-right g c = right_puts g.D.Disk c.args.group.now _ c.args.disk.now c.hand.new.disk c.args.place c.requires.right (returns-in-Ok-clause-written g c)
