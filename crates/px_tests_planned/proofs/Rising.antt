@@ -1,5 +1,5 @@
 -- Three indexes in order of number.
-use Rattle.std.proofs.Common.{◌≡◌, ◌<◌, ◌∷◌, [], arith}
+use Rattle.std.proofs.Common.{◌≡◌, ◌∷◌, [], arith}
 use Rattle.px_tables.specs.declared.index.Index.{Index}
 use Rattle.px_calls.specs.Calls.{AreRising}
 
