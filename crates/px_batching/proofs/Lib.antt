@@ -1,0 +1,16 @@
+pub mod After
+pub mod Gone
+pub mod Handed
+pub mod Kept
+pub mod Marked
+pub mod May
+pub mod Pairs
+pub mod Places
+pub mod Ready
+pub mod Right
+pub mod Rooms
+pub mod Shapes
+pub mod Tallied
+pub mod Traced
+pub mod Trails
+pub mod Shown
