@@ -1,0 +1,5 @@
+pub mod Paths
+pub mod ShownRows
+pub mod RowsAt
+pub mod KeyLooks
+pub mod RowLooks
