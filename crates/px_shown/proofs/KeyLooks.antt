@@ -91,45 +91,36 @@ module _ (t : Table) (x : Index) (q : ℕ) (k : List ℕ) (g : Contents) (f : Fo
 sure_same : (a b : FoundRow) → ◌≡◌ {A = FoundKey} (Sure a) (Sure b) → a ≡ b
 sure_same a b e = cc
 
-module _ (t : Table) (x : Index) (right : IsRightTable t) (index : IsRightIndex t x) (state : List Value → RowState) (states : AreStates t state) (g : Contents) (q : ℕ) (tells : TellsOf t x g q state)
-    (b : Base) (es : List Entry) (p : Point) (at : (r : List Value) → row_at b es p r ≡ state r) (shape : shape_of b es p.table.0 ≡ table_shape t) (table : p.found.table ≡ t) (is : index_in p.found x.id.0 ≡ Some x) where
-  columns : columns_by p.found (Indexed x.id) ≡ index_path t x
+module _ (t : Table) (x : Index) (p : Point) (table : p.found.table ≡ t) (is : index_in p.found x.id.0 ≡ Some x) where
+  pub columns : columns_by p.found (Indexed x.id) ≡ index_path t x
   columns = ap (index_columns p.found) is ∙ ap (λ (z : Table). index_path z x) table
 
-  key_is : (row : List Value) → key_by p.found (Indexed x.id) row ≡ key_on (index_path t x) row
+  pub key_is : (row : List Value) → key_by p.found (Indexed x.id) row ≡ key_on (index_path t x) row
   key_is row = ap (λ path. key_on path row) columns
 
-  shows_is : (row : List Value) → shown_by p.found (Indexed x.id) row ≡ shown_on t x row
+  pub shows_is : (row : List Value) → shown_by p.found (Indexed x.id) row ≡ shown_on t x row
   shows_is row = ap (λ (o : Option Index). shown_in p.found o row) is ∙ ap (λ (z : Table). shown_on z x row) table
 
   -- a row with the key and what the index shows of it
-  found_is : (row : List Value) (k : List ℕ) (shown : List Value) → key_on (index_path t x) row ≡ k → shown ≡ shown_on t x row → record { key = k; row = shown } ≡ found_by p.found (Indexed x.id) row
+  pub found_is : (row : List Value) (k : List ℕ) (shown : List Value) → key_on (index_path t x) row ≡ k → shown ≡ shown_on t x row → record { key = k; row = shown } ≡ found_by p.found (Indexed x.id) row
   found_is row k shown e h = (λ i. record { key = (sym e ∙ sym (key_is row)) i; row = (h ∙ sym (shows_is row)) i })
 
-  sure_right : (k : List ℕ) (f : FoundRow) → ShowsKey t x q k (at_key g k) (Sure f) → IsRightRow b es p (Indexed x.id) f
-  sure_right k f a =
-      let z = seen_from t x q k g (Sure f) a in elim z.which [
-        | inl h ↦
-            (let s = sure_row t x right index state states g q tells k z.values z.key z.stamp z.seen h.0 (row_of_index t x k) (own_row t x k) in
-            (s.0, state_row t state states b es p at shape (row_of_index t x k) s.0 s.1, sure_same f (record { key = k; row = row_shown t x z.values (λ c. value_seen (at_key g k) c q) }) h.1 ∙ found_is s.0 k (row_shown t x z.values (λ c. value_seen (at_key g k) c q)) s.2 s.3))
-        | inr h ↦ absurd (let w : ◌≡◌ {A = FoundKey} (Sure f) (InDoubt (record { index = x.id; key = k; stamp = z.stamp; verdict = None })) = h in cc)
-      ]
+  module _ (g : Contents) (q : ℕ) where
+    doubt_right : (k : List ℕ) (d : Doubt) → ShowsKey t x q k (at_key g k) (InDoubt d) → IsDoubtOf p.found (Indexed x.id) d
+    doubt_right k d a =
+        let z = seen_from t x q k g (InDoubt d) a in elim z.which [
+          | inl h ↦ absurd (let w : ◌≡◌ {A = FoundKey} (InDoubt d) (Sure (record { key = k; row = row_shown t x z.values (λ c. value_seen (at_key g k) c q) })) = h.1 in cc)
+          | inr h ↦
+              (let same : d ≡ record { index = x.id; key = k; stamp = z.stamp; verdict = None } = doubt_same d _ h in
+              (ap (λ (e : Doubt). Indexed e.index) (sym same), subst (λ (e : Doubt). IsKey most_key (columns_on (columns_by p.found (Indexed x.id))) e.key) (sym same) (subst (λ path. IsKey most_key (columns_on path) k) (sym columns) (z.values, z.key))))
+        ]
+      where
+        doubt_same : (a b : Doubt) → ◌≡◌ {A = FoundKey} (InDoubt a) (InDoubt b) → a ≡ b
+        doubt_same a b e = cc
 
-  doubt_right : (k : List ℕ) (d : Doubt) → ShowsKey t x q k (at_key g k) (InDoubt d) → IsDoubtOf p.found (Indexed x.id) d
-  doubt_right k d a =
-      let z = seen_from t x q k g (InDoubt d) a in elim z.which [
-        | inl h ↦ absurd (let w : ◌≡◌ {A = FoundKey} (InDoubt d) (Sure (record { key = k; row = row_shown t x z.values (λ c. value_seen (at_key g k) c q) })) = h.1 in cc)
-        | inr h ↦
-            (let same : d ≡ record { index = x.id; key = k; stamp = z.stamp; verdict = None } = doubt_same d _ h in
-            (ap (λ (e : Doubt). Indexed e.index) (sym same), subst (λ (e : Doubt). IsKey most_key (columns_on (columns_by p.found (Indexed x.id))) e.key) (sym same) (subst (λ path. IsKey most_key (columns_on path) k) (sym columns) (z.values, z.key))))
-      ]
-    where
-      doubt_same : (a b : Doubt) → ◌≡◌ {A = FoundKey} (InDoubt a) (InDoubt b) → a ≡ b
-      doubt_same a b e = cc
-
-  module _ (short : (k : List ℕ) (s : ℕ) (v : List ℕ) → g k 1 s Put ≡ Some v → length k ≤ most_key) (path : Path) (by : path.by ≡ Indexed x.id) (after : Option (List ℕ)) (fs : List FoundKey) (next : Option (List ℕ)) (n : AreNext (ShowsKey t x q) g path.low path.high after fs next) where
-    pub keys_shown : Shows p path after fs next
-    keys_shown = record {
+    -- what is found is in order, on the path, and each doubt is of the index
+    pub keys_shown : (path : Path) → path.by ≡ Indexed x.id → (after : Option (List ℕ)) (fs : List FoundKey) (next : Option (List ℕ)) → AreNext (ShowsKey t x q) g path.low path.high after fs next → Shows p path after fs next
+    keys_shown path by after fs next n = record {
       rising = n.rising;
       sized = n.sized;
       last = n.last;
@@ -138,6 +129,18 @@ module _ (t : Table) (x : Index) (right : IsRightTable t) (index : IsRightIndex 
       doubts = subst (λ (z : By). AreDoubtsOf p.found z fs) (sym by) (λ d a. doubt_right d.key d (n.right (InDoubt d) a).1);
     }
 
+module _ (t : Table) (x : Index) (right : IsRightTable t) (index : IsRightIndex t x) (state : List Value → RowState) (states : AreStates t state) (g : Contents) (q : ℕ) (tells : TellsOf t x g q state)
+    (b : Base) (es : List Entry) (p : Point) (at : (r : List Value) → row_at b es p r ≡ state r) (shape : shape_of b es p.table.0 ≡ table_shape t) (table : p.found.table ≡ t) (is : index_in p.found x.id.0 ≡ Some x) where
+  sure_right : (k : List ℕ) (f : FoundRow) → ShowsKey t x q k (at_key g k) (Sure f) → IsRightRow b es p (Indexed x.id) f
+  sure_right k f a =
+      let z = seen_from t x q k g (Sure f) a in elim z.which [
+        | inl h ↦
+            (let s = sure_row t x right index state states g q tells k z.values z.key z.stamp z.seen h.0 (row_of_index t x k) (own_row t x k) in
+            (s.0, state_row t state states b es p at shape (row_of_index t x k) s.0 s.1, sure_same f (record { key = k; row = row_shown t x z.values (λ c. value_seen (at_key g k) c q) }) h.1 ∙ found_is t x p table is s.0 k (row_shown t x z.values (λ c. value_seen (at_key g k) c q)) s.2 s.3))
+        | inr h ↦ absurd (let w : ◌≡◌ {A = FoundKey} (Sure f) (InDoubt (record { index = x.id; key = k; stamp = z.stamp; verdict = None })) = h in cc)
+      ]
+
+  module _ (short : (k : List ℕ) (s : ℕ) (v : List ℕ) → g k 1 s Put ≡ Some v → length k ≤ most_key) (path : Path) (by : path.by ≡ Indexed x.id) (after : Option (List ℕ)) (fs : List FoundKey) (next : Option (List ℕ)) (n : AreNext (ShowsKey t x q) g path.low path.high after fs next) where
     module _ (row : List Value) (h : IsRowAt b es p row) (on : is_on path (key_on (index_path t x) row) ≡ true) (past : is_past after (key_on (index_path t x) row) ≡ true) (covered : is_covered next (key_on (index_path t x) row) ≡ true) where
       abbrev k : List ℕ
       k = key_on (index_path t x) row
@@ -158,11 +161,11 @@ module _ (t : Table) (x : Index) (right : IsRightTable t) (index : IsRightIndex 
           let z = sure_row t x right index state states g q tells k values key s seen sure r ((form_laws t x).owned r (state r) k keyed) in
           let same : z.0 ≡ row = some_same (sym z.1 ∙ stands) in
           let among = n.whole k (Sure f) (on_within path k on) past covered (shows_at t x q k g (Sure f) values key s seen (ap (found_with t x k values (λ c. value_seen (at_key g k) c q) s) sure)) in
-          inl (subst (λ (e : FoundRow). IsAmong (Sure e) fs) (found_is row k f.row refl (z.3 ∙ ap (shown_on t x) same)) among)
+          inl (subst (λ (e : FoundRow). IsAmong (Sure e) fs) (found_is t x p table is row k f.row refl (z.3 ∙ ap (shown_on t x) same)) among)
       whole_by false s seen sure key =
           let values = values_on (index_path t x) row in
           let d : Doubt = record { index = x.id; key = k; stamp = s; verdict = None } in
-          inr (d, sym (key_is row), n.whole k (InDoubt d) (on_within path k on) past covered (shows_at t x q k g (InDoubt d) values key s seen (ap (found_with t x k values (λ c. value_seen (at_key g k) c q) s) sure)))
+          inr (d, sym (key_is t x p table is row), n.whole k (InDoubt d) (on_within path k on) past covered (shows_at t x q k g (InDoubt d) values key s seen (ap (found_with t x k values (λ c. value_seen (at_key g k) c q) s) sure)))
 
       row_whole : IsShown fs p.found (Indexed x.id) row
       row_whole =
@@ -175,5 +178,5 @@ module _ (t : Table) (x : Index) (right : IsRightTable t) (index : IsRightIndex 
       right = λ f a. subst (λ (z : By). IsRightRow b es p z f) (sym by) (sure_right f.key f (n.right (Sure f) a).1);
       fits = λ row h. subst (λ (z : Table). FitsRow z row) (sym table) (row_fits t state states (key_in (table_shape t) row) row (row_state t state states b es p at shape row h));
       whole = λ row h. subst (λ (z : By). is_on path (key_by p.found z row) ≡ true → is_past after (key_by p.found z row) ≡ true → is_covered next (key_by p.found z row) ≡ true → IsShown fs p.found z row) (sym by)
-          (subst (λ (k : List ℕ). is_on path k ≡ true → is_past after k ≡ true → is_covered next k ≡ true → IsShown fs p.found (Indexed x.id) row) (sym (key_is row)) (row_whole row h));
+          (subst (λ (k : List ℕ). is_on path k ≡ true → is_past after k ≡ true → is_covered next k ≡ true → IsShown fs p.found (Indexed x.id) row) (sym (key_is t x p table is row)) (row_whole row h));
     }

@@ -3,3 +3,7 @@ pub mod ShownRows
 pub mod RowsAt
 pub mod KeyLooks
 pub mod RowLooks
+pub mod OwnKeys
+pub mod Tables
+pub mod Holders
+pub mod Points

@@ -32,6 +32,21 @@ use Rattle.px_shown.proofs.RowsAt.{on_within, row_fits, row_state, state_row, ta
 sure_same : (a b : FoundRow) → ◌≡◌ {A = FoundKey} (Sure a) (Sure b) → a ≡ b
 sure_same a b e = cc
 
+module _ (t : Table) (g : Contents) (q : ℕ) (p : Point) where
+  no_doubt : (k : List ℕ) (d : Doubt) → ShowsRow t q k (at_key g k) (InDoubt d) → ⊥
+  no_doubt k d a = (let z : ◌≡◌ {A = FoundKey} (InDoubt d) (Sure (record { key = k; row = a.row })) = a.is in cc)
+
+  -- what is found is in order and on the path, and none is a doubt
+  pub rows_shown : (path : Path) → path.by ≡ ByTable → (after : Option (List ℕ)) (fs : List FoundKey) (next : Option (List ℕ)) → AreNext (ShowsRow t q) g path.low path.high after fs next → Shows p path after fs next
+  rows_shown path by after fs next n = record {
+    rising = n.rising;
+    sized = n.sized;
+    last = n.last;
+    on_path = λ f a. within_on path (key_found f) (n.right f a).0;
+    covered = n.covered;
+    doubts = λ d a. absurd (no_doubt d.key d (n.right (InDoubt d) a).1);
+  }
+
 module _ (t : Table) (state : List Value → RowState) (states : AreStates t state) (g : Contents) (q : ℕ) (spells : (r : List Value) → (row_form t).spelled g r q ≡ state r)
     (b : Base) (es : List Entry) (p : Point) (at : (r : List Value) → row_at b es p r ≡ state r) (shape : shape_of b es p.table.0 ≡ table_shape t) (table : p.found.table ≡ t) where
   key_is : (row : List Value) → key_by p.found ByTable row ≡ key_on (table_path t) row
@@ -43,20 +58,7 @@ module _ (t : Table) (state : List Value → RowState) (states : AreStates t sta
       let stands : state a.values ≡ Some a.row = sym (spells a.values) ∙ sym (spelled_here t g a.values q k is) ∙ a.stands in
       (a.row, state_row t state states b es p at shape a.values a.row stands, sure_same f (record { key = k; row = a.row }) a.is ∙ (λ i. record { key = (sym a.key.spells ∙ sym (table_key t state states a.values a.row stands) ∙ sym (key_is a.row)) i; row = a.row }))
 
-  no_doubt : (k : List ℕ) (d : Doubt) → ShowsRow t q k (at_key g k) (InDoubt d) → ⊥
-  no_doubt k d a = (let z : ◌≡◌ {A = FoundKey} (InDoubt d) (Sure (record { key = k; row = a.row })) = a.is in cc)
-
   module _ (path : Path) (by : path.by ≡ ByTable) (after : Option (List ℕ)) (fs : List FoundKey) (next : Option (List ℕ)) (n : AreNext (ShowsRow t q) g path.low path.high after fs next) where
-    pub rows_shown : Shows p path after fs next
-    rows_shown = record {
-      rising = n.rising;
-      sized = n.sized;
-      last = n.last;
-      on_path = λ f a. within_on path (key_found f) (n.right f a).0;
-      covered = n.covered;
-      doubts = λ d a. absurd (no_doubt d.key d (n.right (InDoubt d) a).1);
-    }
-
     row_whole : (row : List Value) → IsRowAt b es p row → is_on path (key_on (table_path t) row) ≡ true → is_past after (key_on (table_path t) row) ≡ true → is_covered next (key_on (table_path t) row) ≡ true → IsShown fs p.found ByTable row
     row_whole row h on past covered =
         let r = key_in (table_shape t) row in

@@ -24,10 +24,10 @@ use Rattle.px_shown.proofs.Paths.{path_is}
 -- ---- values of the columns of a path
 
 -- one of the columns is at this place
-abbrev placed : List PathColumn → ℕ → Bool
+abbrev pub placed : List PathColumn → ℕ → Bool
 placed path c = list_any (λ p. nat_eq p.place c) path
 
-among_row : (path : List PathColumn) (row : List Value) (c : ℕ) → value_among path (values_on path row) c ≡ cond (placed path c) (get_or row c Null) Null
+pub among_row : (path : List PathColumn) (row : List Value) (c : ℕ) → value_among path (values_on path row) c ≡ cond (placed path c) (get_or row c Null) Null
 unfolding value_among
 among_row [] row c = refl
 among_row (p ∷ path) row c = elim (cases_Bool (nat_eq p.place c)) [
@@ -68,7 +68,7 @@ keyed_rest parts (p ∷ ps) c = by (is_keyed parts p.column) refl (keyed_rest pa
     by true e h = skip (is_keyed parts c) (nat_eq p.column c) (is_keyed (rest_of parts ps) c) (is_keyed ps c) (λ z. ap (λ (i : ℕ). is_keyed parts i) (sym (eqb-true p.column c z)) ∙ e) h
     by false e h = swap (is_keyed parts c) (nat_eq p.column c) (is_keyed (rest_of parts ps) c) (is_keyed ps c) h
 
-placed_path : (t : Table) (x : Index) (c : ℕ) → placed (index_path t x) c ≡ (is_keyed x.parts c || is_keyed t.key c)
+pub placed_path : (t : Table) (x : Index) (c : ℕ) → placed (index_path t x) c ≡ (is_keyed x.parts c || is_keyed t.key c)
 placed_path t x c =
     ap (λ (l : List PathColumn). placed l c) (path_is t x)
     ∙ placed_append (map (index_part t) x.parts) (map (key_part t.columns) (rest_of x.parts t.key)) c

@@ -7,4 +7,4 @@
 
 mod laws;
 
-pub use laws::law_paths;
+pub use laws::{law_held, law_keys_shown, law_paths, law_rows_shown};
