@@ -1,5 +1,5 @@
 -- What a repair of a version does, by what is told of the version and its row.
-use Rattle.std.specs.Prelude.{◌≡◌, ℕ, ◌<◌, Bool, true, false, cond, not, nat_eq, nat_lt, List, None, length, get_or}
+use Rattle.std.specs.Prelude.{◌≡◌, ℕ, ◌<◌, ◌≤◌, Bool, true, false, cond, not, nat_eq, nat_lt, List, None, length, get_or}
 use Rattle.std.specs.Cmp.Lexicographic.{pointwise}
 use Rattle.std.specs.Option.{option_copied}
 use Rattle.px_world.specs.Shape.{all_below, key_in, same_cell}
@@ -36,18 +36,18 @@ is_open fates.Written = false
 is_open fates.Lost = false
 
 -- This is told of the version and its row in the world of the row and the index. At or below the horizon only whether the
--- change is undecided has to be known of it.
+-- change is undecided has to be known of it, and above it nothing that the horizon sees.
 pub record Tells (f : IndexForm) (r : List Value) (w : World (List ℕ) RowState (List ℕ)) (v : Version) (x : Told) : Type 0 where
   pub undecided : is_undecided (w.fate v.stamp) ≡ is_open x.fate
   pub fate : x.horizon < v.stamp → fate_of (w.fate v.stamp) ≡ x.fate
   pub horizon : horizon w ≡ x.horizon
   pub floor : w.floor ≡ x.floor
   pub new_key : x.horizon < v.stamp → w.fate v.stamp ≡ Written → f.key_of r (w.new v.stamp) ≡ option_copied x.new_key
-  pub horizon_key : f.key_of r (st w x.horizon) ≡ option_copied x.horizon_key
+  pub horizon_key : v.stamp ≤ x.horizon → f.key_of r (st w x.horizon) ≡ option_copied x.horizon_key
   pub count : length v.values.now ≡ f.columns
   pub horizon_count : length x.horizon_values.now ≡ f.columns
-  pub values : (c : ℕ) → c < f.columns → get_or v.values.now c None ≡ vis w v.key.now x.horizon c
-  pub horizon_values : (c : ℕ) → c < f.columns → get_or x.horizon_values.now c None ≡ f.col (st w x.horizon) c
+  pub values : v.stamp ≤ x.horizon → (c : ℕ) → c < f.columns → get_or v.values.now c None ≡ vis w v.key.now x.horizon c
+  pub horizon_values : v.stamp ≤ x.horizon → (c : ℕ) → c < f.columns → get_or x.horizon_values.now c None ≡ f.col (st w x.horizon) c
 
 -- at or below the horizon: the row's state there decides
 abbrev pub due_below : Version → Told → Verdict
