@@ -9,7 +9,7 @@ ghost use Rattle.px_rows.specs.Keys.{IsRightTable, row_key};
 ghost use Rattle.px_rows.specs.Spelled.{IsPlainAt, row_form};
 
 use crate::gathered::Gathered;
-use px_cells::Cells;
+use px_cells::Cell;
 use px_outside::Disk;
 use px_region::{LookFault, Region};
 use px_rows::row_at;
@@ -58,8 +58,8 @@ pub fn row_cells<D: Disk>(
     disk: &mut D,
     region: &mut Region,
     key: &[u8],
-) -> Result<Cells, LookFault>
-    ensures cells { IfOk result (λ cells. IsRow (read_of region.old) key.now cells) }
+) -> Result<Vec<Cell>, LookFault>
+    ensures cells { IfOk result (λ cells. IsRow (read_of region.old) key.now cells.items) }
     ensures looked { region.new.looked ≡ min (region.old.looked + 1) 18446744073709551615 }
     ensures alike { IsAlike region.old region.new }
     ensures promised { IsSamePromise region.old region.new }

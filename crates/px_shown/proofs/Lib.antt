@@ -7,3 +7,4 @@ pub mod OwnKeys
 pub mod Tables
 pub mod Holders
 pub mod Points
+pub mod Owners

@@ -5,7 +5,8 @@ use Rattle.std.specs.List.{All}
 use Rattle.std.proofs.lemmas.Bool.{and_parts, both_ways, cases_eq, eq-eqb, ne_eqb, not-true}
 use Rattle.std.proofs.lemmas.List.{get_or-set_same, get_or-set_other, length-replicate, length-set}
 use Rattle.std.proofs.lemmas.List.Elements.{All-head, All-tail}
-use Rattle.px_cells.specs.Contents.{Contents}
+use Rattle.px_cells.specs.CellData.{CellData}
+use Rattle.px_cells.specs.Contents.{Contents, cell_of, value_at}
 use Rattle.px_cells.specs.declared.kind.CellKind.TheVariants.{Put}
 use Rattle.px_cells.specs.Sight.{seen_at}
 use Rattle.px_values.specs.States.{RowState, fresh_row, with_values}
@@ -19,6 +20,9 @@ use Rattle.px_world.specs.World.{read_at}
 use Rattle.px_rows.specs.Keys.{IsRightTable, are_distinct, is_part, row_key}
 use Rattle.px_rows.specs.Spelled.{column_at, decoded, overlay, pick, row_form, state_if, table_form}
 use Rattle.px_indexrow.proofs.KeysHeld.{row_count}
+use Rattle.px_cellshapes.specs.Rows.{AreRightRows}
+use Rattle.px_cellshapes.proofs.Each.{none_if}
+use Rattle.px_cellshapes.proofs.Typed.{short_key, spelled_fits}
 use Rattle.px_looks.proofs.Spelling.{seen_stands}
 use Rattle.px_shown.specs.Told.{SpellsRows}
 
@@ -101,3 +105,10 @@ own_key t g right rows r row p e =
       let zero : q.column ≡ 0 + q.column = omega arith in
       overlay_at o 0 fresh q.column Null (omega arith) ∙ ap (λ (n : ℕ). pick (o n) (get_or fresh q.column Null)) (sym zero) ∙ ap (λ (v : Option Value). pick v (get_or fresh q.column Null)) (none q.column h)))
     ∙ with_own t.key r (replicate (length t.columns) Null) right.distinct (row_count t r (rows.short r row p e).fits) (subst (λ (n : ℕ). All (λ p. p.column < n) t.key) (sym (length-replicate (length t.columns) Null)) right.within)
+
+pub spells_rows : (t : Table) (cells : List CellData) → IsRightTable t → AreRightRows t cells → SpellsRows t (value_at cells)
+spells_rows t cells right rows = record {
+  typed = λ r p. spelled_fits t cells rows.each r right p;
+  short = λ r row p e. short_key t cells rows.each r row p e;
+  bare = λ r c s h. none_if (value_at cells (row_key t r) (suc (suc c)) s Put) (λ v e. both_ways _ (rows.each (cell_of (row_key t r) (suc (suc c)) s Put v) e).fits.beside h);
+}

@@ -1,4 +1,4 @@
--- The columns and the values of keys, as paths and as index rows have them.
+-- The values of keys, as paths and as index rows have them.
 use Rattle.std.proofs.Common.{◌≡◌, ℕ, zero, suc, Bool, true, false, cond, not, ◌&&◌, ◌||◌, if◌then◌else◌, List, [], ◌∷◌, ◌++◌, map, filter, get_or, slice_get, refl, ap, sym, ◌∙◌, subst, inl, inr}
 use Rattle.std.specs.Prelude.{nat_eq}
 use Rattle.std.specs.List.{list_any}
@@ -18,53 +18,6 @@ use Rattle.px_paths.specs.Paths.{columns_on, index_part, index_path, is_keyed, i
 use Rattle.px_rows.specs.Keys.{column_in, is_part, key_admits_null, key_column, row_columns}
 use Rattle.px_indexrow.specs.Form.{index_column, index_columns, index_places, index_values, rest_of, value_in}
 
--- ---- columns
-
-type_is : (cs : List TableColumn) (c : ℕ) → type_in (slice_get cs c) ≡ (column_in cs c).column_type
-type_is [] c = refl
-type_is (x ∷ cs) zero = refl
-type_is (x ∷ cs) (suc c) = type_is cs c
-
-admits : (ty : ColType) (nn : Bool) → (is_text ty && not nn) ≡ key_admits_null ty nn
-admits TinyInt nn = refl
-admits SmallInt nn = refl
-admits Integer nn = refl
-admits BigInt nn = refl
-admits UnsignedInt nn = refl
-admits UnsignedLong nn = refl
-admits Boolean nn = refl
-admits Varchar nn = refl
-
-null_is : (cs : List TableColumn) (c : ℕ) → may_be_null_in (slice_get cs c) ≡ key_admits_null (column_in cs c).column_type (column_in cs c).not_null
-null_is [] c = refl
-null_is (x ∷ cs) zero = admits x.column_type x.not_null
-null_is (x ∷ cs) (suc c) = null_is cs c
-
-key_column_is : (cs : List TableColumn) (p : KeyPlace) → (key_part cs p).column ≡ key_column cs p
-key_column_is cs p = (λ i. record { ty = type_is cs p.column i; direction = p.direction; may_be_null = null_is cs p.column i })
-
-key_columns_are : (cs : List TableColumn) (ps : List KeyPlace) → columns_on (map (key_part cs) ps) ≡ map (key_column cs) ps
-key_columns_are cs [] = refl
-key_columns_are cs (p ∷ ps) = (λ i. key_column_is cs p i ∷ key_columns_are cs ps i)
-
-pub table_columns : (t : Table) → columns_on (table_path t) ≡ row_columns t
-table_columns t = key_columns_are t.columns t.key
-
-or_not : (b v : Bool) → (not b || v) ≡ cond b v true
-or_not true v = refl
-or_not false v = refl
-
-index_column_is : (t : Table) (p : KeyPlace) → (index_part t p).column ≡ index_column t p
-index_column_is t p = (λ i. record { ty = type_is t.columns p.column i; direction = p.direction; may_be_null = (or_not (is_keyed t.key p.column) (may_be_null_in (slice_get t.columns p.column)) ∙ ap (λ (v : Bool). cond (is_part t.key p.column) v true) (null_is t.columns p.column)) i })
-
-index_columns_are : (t : Table) (ps : List KeyPlace) → columns_on (map (index_part t) ps) ≡ map (index_column t) ps
-index_columns_are t [] = refl
-index_columns_are t (p ∷ ps) = (λ i. index_column_is t p i ∷ index_columns_are t ps i)
-
--- a part of the primary key is the same in both
-key_index_column : (t : Table) (p : KeyPlace) → is_part t.key p.column ≡ true → (key_part t.columns p).column ≡ index_column t p
-key_index_column t p h = key_column_is t.columns p ∙ (λ i. record { ty = (column_in t.columns p.column).column_type; direction = p.direction; may_be_null = sym (cond-true _ (key_admits_null (column_in t.columns p.column).column_type (column_in t.columns p.column).not_null) true h) i })
-
 -- the parts of the primary key that aren't indexed
 abbrev pub others : List KeyPlace → List KeyPlace → List KeyPlace
 others parts ps = filter (λ p. not (is_keyed parts p.column)) ps
@@ -78,25 +31,6 @@ others_are parts (p ∷ ps) = by (is_keyed parts p.column) (others_are parts ps)
     by true e = e
     by false e = ap (λ (l : List KeyPlace). p ∷ l) e
 
-or_here : (a b : Bool) → a ≡ true → (a || b) ≡ true
-or_here a b h = ap (λ (v : Bool). v || b) h
-
-or_there : (a b : Bool) → b ≡ true → (a || b) ≡ true
-or_there true b h = refl
-or_there false b h = h
-
-self_part : (p : KeyPlace) (ps : List KeyPlace) → is_part (p ∷ ps) p.column ≡ true
-self_part p ps = or_here (nat_eq p.column p.column) (is_part ps p.column) (eq-eqb p.column p.column refl)
-
-rest_columns : (t : Table) (parts ps : List KeyPlace) → ((p : KeyPlace) → is_part ps p.column ≡ true → is_part t.key p.column ≡ true) → columns_on (map (key_part t.columns) (rest_of parts ps)) ≡ map (index_column t) (rest_of parts ps)
-unfolding rest_of
-rest_columns t parts [] h = refl
-rest_columns t parts (p ∷ ps) h = by (is_part parts p.column) (rest_columns t parts ps (λ q e. h q (or_there (nat_eq p.column q.column) (is_part ps q.column) e)))
-  where
-    by : (b : Bool) → columns_on (map (key_part t.columns) (rest_of parts ps)) ≡ map (index_column t) (rest_of parts ps) → columns_on (map (key_part t.columns) (cond b (rest_of parts ps) (p ∷ rest_of parts ps))) ≡ map (index_column t) (cond b (rest_of parts ps) (p ∷ rest_of parts ps))
-    by true e = e
-    by false e = (λ i. key_index_column t p (h p (self_part p ps)) i ∷ e i)
-
 map_append : {A B : Type 0} (f : A → B) (xs ys : List A) → map f (xs ++ ys) ≡ map f xs ++ map f ys
 map_append f [] ys = refl
 map_append f (x ∷ xs) ys = ap (λ (l : List _). f x ∷ l) (map_append f xs ys)
@@ -104,13 +38,6 @@ map_append f (x ∷ xs) ys = ap (λ (l : List _). f x ∷ l) (map_append f xs ys
 -- the path, with the parts that index rows have
 pub path_is : (t : Table) (x : Index) → index_path t x ≡ map (index_part t) x.parts ++ map (key_part t.columns) (rest_of x.parts t.key)
 path_is t x = ap (λ (l : List KeyPlace). map (index_part t) x.parts ++ map (key_part t.columns) l) (others_are x.parts t.key)
-
-pub columns_are : (t : Table) (x : Index) → columns_on (index_path t x) ≡ index_columns t x
-columns_are t x =
-    ap columns_on (path_is t x)
-    ∙ map_append (λ p. p.column) (map (index_part t) x.parts) (map (key_part t.columns) (rest_of x.parts t.key))
-    ∙ (λ i. index_columns_are t x.parts i ++ rest_columns t x.parts t.key (λ p e. e) i)
-    ∙ sym (map_append (index_column t) x.parts (rest_of x.parts t.key))
 
 -- ---- values
 

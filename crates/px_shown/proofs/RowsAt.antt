@@ -26,7 +26,8 @@ use Rattle.px_calls.specs.declared.query.Path.{Path}
 use Rattle.px_calls.specs.declared.query.Point.{Point}
 use Rattle.px_looks.specs.Keys.{IsWithin}
 use Rattle.px_shown.specs.Told.{AreStates}
-use Rattle.px_shown.proofs.Paths.{columns_are, own_values, table_columns, values_are}
+use Rattle.px_cellshapes.proofs.Paths.{index_columns_same, table_columns}
+use Rattle.px_shown.proofs.Paths.{own_values, values_are}
 
 -- ---- keys on a path
 
@@ -93,11 +94,11 @@ module _ (t : Table) (state : List Value → RowState) (states : AreStates t sta
   module _ (x : Index) (right : IsRightTable t) (index : IsRightIndex t x) where
     -- its key in an index
     pub index_key : (r row : List Value) → state r ≡ Some row → key_of_state t x r (Some row) ≡ Some (key_on (index_path t x) row)
-    index_key r row e = key_is t x r row right index (fits_key r row e) (fits_state r row e) ∙ (λ i. Some (spelled (sym (columns_are t x) i) (sym (values_are t x r row (states.own r row e)) i)))
+    index_key r row e = key_is t x r row right index (fits_key r row e) (fits_state r row e) ∙ (λ i. Some (spelled (sym (index_columns_same t x) i) (sym (values_are t x r row (states.own r row e)) i)))
 
     pub index_fits : (r row : List Value) → state r ≡ Some row → Fits (columns_on (index_path t x)) (values_on (index_path t x) row)
     index_fits r row e =
-        subst (λ (cs : List _). Fits cs (values_on (index_path t x) row)) (sym (columns_are t x)) (subst (Fits (index_columns t x)) (sym (values_are t x r row (states.own r row e))) (values_fit t x r row right index (fits_key r row e) (fits_state r row e)))
+        subst (λ (cs : List _). Fits cs (values_on (index_path t x) row)) (sym (index_columns_same t x)) (subst (Fits (index_columns t x)) (sym (values_are t x r row (states.own r row e))) (values_fit t x r row right index (fits_key r row e) (fits_state r row e)))
 
   module _ (b : Base) (es : List Entry) (p : Point) (at : (r : List Value) → row_at b es p r ≡ state r) (shape : shape_of b es p.table.0 ≡ table_shape t) where
     -- a row at the point is the state of its key

@@ -51,7 +51,7 @@ placed_key : (cs : List TableColumn) (ps : List KeyPlace) (c : ℕ) → placed (
 placed_key cs [] c = refl
 placed_key cs (p ∷ ps) c = ap (λ (b : Bool). nat_eq p.column c || b) (placed_key cs ps c)
 
-keyed_rest : (parts ps : List KeyPlace) (c : ℕ) → (is_keyed parts c || is_keyed (rest_of parts ps) c) ≡ (is_keyed parts c || is_keyed ps c)
+pub keyed_rest : (parts ps : List KeyPlace) (c : ℕ) → (is_keyed parts c || is_keyed (rest_of parts ps) c) ≡ (is_keyed parts c || is_keyed ps c)
 unfolding rest_of
 keyed_rest parts [] c = refl
 keyed_rest parts (p ∷ ps) c = by (is_keyed parts p.column) refl (keyed_rest parts ps c)

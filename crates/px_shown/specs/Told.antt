@@ -16,6 +16,7 @@ use Rattle.px_calls.specs.Looks.{IsRowAt, key_by}
 use Rattle.px_calls.specs.Requires.{index_in}
 use Rattle.px_calls.specs.declared.query.By.TheVariants.{Index as Indexed}
 use Rattle.px_calls.specs.declared.query.Point.{Point}
+use Rattle.px_world.specs.Shape.{key_in as holds_key}
 use Rattle.px_rows.specs.Keys.{is_part, row_columns, row_key}
 use Rattle.px_rows.specs.Spelled.{row_form}
 use Rattle.px_indexrow.specs.Form.{FitsState, column_bytes, included_at, key_of_state, owns}
@@ -54,9 +55,9 @@ pub record IsPointOf (t : Table) (p : Point) : Type 0 where
 abbrev pub IsIndexAt : Point → Index → Type 0
 IsIndexAt p x = index_in p.found x.id.0 ≡ Some x
 
+-- it is the key
 abbrev pub is_key_in : List ℕ → Option (List ℕ) → Bool
-is_key_in k None = false
-is_key_in k (Some a) = pointwise nat_eq k a
+is_key_in k o = holds_key (pointwise nat_eq) k o
 
 -- the row's state, where its key in the index is this one
 abbrev pub keyed_if : Table → Index → List Value → List ℕ → RowState → RowState

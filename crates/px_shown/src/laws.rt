@@ -1,5 +1,6 @@
 // What looks find, in the words of a query's steps.
 ghost use Rattle.std.specs.Prelude.{◌≡◌, ◌<◌, ◌≤◌, ℕ, true, List, Option, Some, get_or, length, max};
+ghost use Rattle.px_cells.specs.CellData.{CellData};
 ghost use Rattle.px_cells.specs.Contents.{Contents, value_at};
 ghost use Rattle.px_cells.specs.declared.kind.CellKind.TheVariants.{Put};
 ghost use Rattle.px_calls.specs.Looks.{Shows, ShowsRows};
@@ -7,14 +8,16 @@ ghost use Rattle.px_calls.specs.declared.query.By.TheVariants.{Index as ByIndex,
 ghost use Rattle.px_calls.specs.declared.query.FoundKey.{FoundKey as Finding};
 ghost use Rattle.px_calls.specs.declared.query.Path.{Path as PathData};
 ghost use Rattle.px_calls.specs.declared.query.Point.{Point as PointData};
+ghost use Rattle.px_cellshapes.specs.Rows.{AreRightRows};
 ghost use Rattle.px_forms.specs.Indexes.{IndexForm};
 ghost use Rattle.px_groupworld.specs.Group.{GroupData, GroupKept, no_part, table_form};
-ghost use Rattle.px_indexrow.specs.Form.{IsRightIndex, index_columns, index_form};
-ghost use Rattle.px_keys.specs.Spelling.{IsKeyOf};
+ghost use Rattle.px_indexrow.specs.Form.{IsRightIndex, index_form, owns, row_of_index};
+ghost use Rattle.px_keys.specs.Reading.{IsKey};
+ghost use Rattle.px_keys.specs.Spelling.{Fits, IsKeyOf};
 ghost use Rattle.px_looks.specs.Found.{AreNext};
 ghost use Rattle.px_looks.specs.IndexKeys.{ShowsKey};
 ghost use Rattle.px_looks.specs.Rows.{ShowsRow};
-ghost use Rattle.px_paths.specs.Paths.{columns_on, index_path as path_of_index, owner_of, table_path as path_of_table};
+ghost use Rattle.px_paths.specs.Paths.{columns_on, index_path as path_of_index, owner_of};
 ghost use Rattle.px_rows.specs.Keys.{IsRightTable, row_columns};
 ghost use Rattle.px_rows.specs.Spelled.{row_form};
 ghost use Rattle.px_tables.specs.declared.index.Index.{Index as Indexes};
@@ -25,10 +28,9 @@ ghost use Rattle.px_values.specs.Limits.{most_key};
 ghost use Rattle.px_values.specs.declared.row.Value.{Value as ColumnValue};
 ghost use Rattle.px_shown.specs.Told.{IsHolder, IsIndexAt, IsPointOf, SpellsRows, keyed_if, reach_of};
 
-/// The columns of the keys of a path are those that rows and index rows are spelled with.
-pub fn law_paths()
-    ensures table { (t : Tables) → columns_on (path_of_table t) ≡ row_columns t }
-    ensures index { (t : Tables) (i : Indexes) → columns_on (path_of_index t i) ≡ index_columns t i }
+/// Right cells of rows spell rows of the table, at every point.
+pub fn law_spells()
+    ensures { (t : Tables) (cells : List CellData) → IsRightTable t → AreRightRows t cells → SpellsRows t (value_at cells) }
 {}
 
 /// The next rows of a table are what a look of its path gives: keys in order, and of the rows at the point each, and no other.
@@ -47,4 +49,11 @@ pub fn law_keys_shown()
 /// The row with the primary key values that an index key holds is the one that has the key, if its own key is this one: no other has it.
 pub fn law_held()
     ensures { (t : Tables) (x : Indexes) → IsRightTable t → IsRightIndex t x → (b : Base) (index : ℕ → IndexForm) (es : List Entries) (v : GroupData) → GroupKept (table_form b t.id index (row_form t)) es v → SpellsRows t (value_at v.cells) → (p : PointData) → IsPointOf t p → IsIndexAt p x → v.low ≤ reach_of p → (k : List ℕ) (values : List ColumnValue) → IsKeyOf (columns_on (path_of_index t x)) values k → IsHolder b es p x.id k (keyed_if t x (owner_of t (path_of_index t x) values) k ((row_form t).spelled (value_at v.cells) (owner_of t (path_of_index t x) values) (reach_of p))) }
+{}
+
+/// The primary key values that an index key holds are those among its values; they fit the table's primary key, and the key is theirs.
+pub fn law_owners()
+    ensures read { (t : Tables) (x : Indexes) (k : List ℕ) (values : List ColumnValue) → IsKeyOf (columns_on (path_of_index t x)) values k → owner_of t (path_of_index t x) values ≡ row_of_index t x k }
+    ensures fits { (t : Tables) (x : Indexes) (k : List ℕ) → IsKey most_key (columns_on (path_of_index t x)) k → Fits (row_columns t) (row_of_index t x k) }
+    ensures owns { (t : Tables) (x : Indexes) (k : List ℕ) → owns t x (row_of_index t x k) k ≡ true }
 {}

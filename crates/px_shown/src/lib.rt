@@ -7,4 +7,4 @@
 
 mod laws;
 
-pub use laws::{law_held, law_keys_shown, law_paths, law_rows_shown};
+pub use laws::{law_held, law_keys_shown, law_owners, law_rows_shown, law_spells};

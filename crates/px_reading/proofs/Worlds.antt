@@ -1,0 +1,118 @@
+-- What the cells of a row and the open batches tell of a doubted version is what is due in its world.
+use Rattle.std.proofs.Common.{◌≡◌, ℕ, zero, suc, ◌<◌, ◌≤◌, ◌+◌, max, Bool, true, false, cond, not, ◌&&◌, ◌||◌, Option, Some, None, List, [], ◌∷◌, length, get_or, map, refl, ap, sym, subst, ◌∙◌, inl, inr, arith}
+use Rattle.std.specs.Prelude.{is_some, nat_eq, nat_lt}
+use Rattle.std.specs.List.{list_any, slice_get}
+use Rattle.std.specs.Cmp.Lexicographic.{pointwise}
+use Rattle.std.proofs.lemmas.Bool.{cond-true, cond-false, both_ways, lt-ltb}
+use Rattle.px_cells.specs.CellData.{CellData}
+use Rattle.px_cells.specs.Contents.{value_at}
+use Rattle.px_cells.specs.Rows.{IsRow}
+use Rattle.px_forms.specs.Indexes.{IndexForm, shape_at}
+use Rattle.px_groupworld.specs.Group.{GroupData, GroupKept, no_part, shape_in, table_form, world_in}
+use Rattle.px_indexed.specs.Worlds.{history_at}
+use Rattle.px_indexrow.specs.Form.{index_form, key_of_state, owns, row_of_index}
+use Rattle.px_openbatches.specs.Pending.{HeldBatch, HeldKept, left_of}
+use Rattle.px_phases.specs.Batch.{AreHeldAs, BatchData, IsHeldAs, left_in}
+use Rattle.px_phases.proofs.Left.{left_same}
+use Rattle.px_region.specs.Region.{read_of}
+use Rattle.px_rows.specs.Keys.{row_key}
+use Rattle.px_rows.specs.Spelled.{row_form}
+use Rattle.px_tablereads.specs.Pending.{is_left_at, is_left_in}
+use Rattle.px_tablereads.specs.Told.{AreTold, StandsAt}
+use Rattle.px_tablereads.proofs.Fates.{new_seen, state_seen, undecided_is}
+use Rattle.px_tablereads.proofs.Tells.{written_seen}
+use Rattle.px_trail.specs.Trail.{Base}
+use Rattle.px_trail.specs.declared.entry.Entry.{Entry}
+use Rattle.px_values.specs.States.{RowState, Shape as RowShape}
+use Rattle.px_values.specs.declared.row.Value.{Value}
+use Rattle.px_world.specs.Events.{Verdict, Leave, ToVerify, ToRetire, ToErase, due}
+use Rattle.px_world.specs.Shape.{all_below, has_key, same_cell, shows}
+use Rattle.px_world.specs.World.{Fate, Unbegun, Undecided, Written, Lost, World, horizon, is_undecided, is_written, st, vis}
+use Rattle.px_looks.specs.Stamps.{HasCellOf, has_stamp}
+use Rattle.px_looks.proofs.RowCells.{row_spelled}
+use Rattle.px_looks.proofs.Stamped.{stamp_told}
+use Rattle.px_group.specs.Group.{IsShownBy, IsTallied, batch_in, batches_of, form_of}
+use Rattle.px_group.specs.declared.group.Begun.{Begun}
+use Rattle.px_group.specs.declared.group.Group.{Group}
+use Rattle.px_group.specs.declared.group.IndexRegion.{IndexRegion}
+use Rattle.px_shown.specs.Told.{is_key_in}
+use Rattle.px_reading.specs.Doubts.{IsToldBy, above_verdict, horizon_at, is_left_of, is_pending}
+
+-- ---- open batches
+
+pending_same : (s : ℕ) (r : List Value) (ms : List Begun) (hs : List HeldBatch) → AreHeldAs (map batch_in ms) hs → list_any (is_left_of s r) ms ≡ is_left_in hs s r
+pending_same s r [] [] a = refl
+pending_same s r [] (h ∷ hs) a = absurd a
+pending_same s r (m ∷ ms) [] a = absurd a
+pending_same s r (m ∷ ms) (h ∷ hs) a = (λ i. (nat_eq (sym a.0.stamp i) s && is_some (left_same m.batch h a.0 r i)) || pending_same s r ms hs a.1 i)
+
+-- ---- truth values
+
+same_truth : (a b : Bool) → (a ≡ true → b ≡ true) → (b ≡ true → a ≡ true) → a ≡ b
+same_truth true b f g = sym (f refl)
+same_truth false true f g = g refl
+same_truth false false f g = refl
+
+above_is : (φ : Fate) (stands keyed : Bool) → is_undecided φ ≡ false → is_written φ ≡ stands → (other : Bool) → (φ ≡ Written → other ≡ keyed) → cond (is_undecided φ) Leave (cond (is_written φ) (cond other ToVerify ToRetire) ToErase) ≡ above_verdict stands keyed
+above_is Unbegun stands keyed u e other h = ap (λ (b : Bool). above_verdict b keyed) e
+above_is Undecided stands keyed u e other h = absurd (let z : ◌≡◌ {A = Bool} true false = u in cc)
+above_is Written stands keyed u e other h = (λ i. cond (h refl i) ToVerify ToRetire) ∙ ap (λ (b : Bool). above_verdict b keyed) e
+above_is Lost stands keyed u e other h = ap (λ (b : Bool). above_verdict b keyed) e
+
+due_high : (sh : RowShape) (f : IndexForm) (r : List Value) (w : World (List ℕ) RowState (List ℕ)) (k : List ℕ) (s : ℕ) → nat_lt (horizon w) s ≡ true → due (shape_at sh f r) w k s ≡ cond (is_undecided (w.fate s)) Leave (cond (is_written (w.fate s)) (cond (is_key_in k (f.key_of r (w.new s))) ToVerify ToRetire) ToErase)
+unfolding due has_key shows
+due_high sh f r w k s l =
+    ap (λ (c : Bool). cond (is_undecided (w.fate s)) Leave (cond c (cond (is_written (w.fate s)) (cond (is_key_in k (f.key_of r (w.new s))) ToVerify ToRetire) ToErase) (cond (not (is_key_in k (f.key_of r (st w (horizon w))))) ToRetire
+    (cond (all_below f.columns (λ c. same_cell (pointwise nat_eq) (vis w k (horizon w) c) (f.col (st w (horizon w)) c))) ToVerify (cond (nat_lt w.floor s) ToErase ToVerify))))) l
+
+module _ (b : Base) (index : ℕ → IndexForm) (es : List Entry) (g : Group) (v : GroupData) (hs : List HeldBatch) (tallied : IsTallied b es g hs) (shown : IsShownBy b index es g v hs) (told : IsToldBy b index es g v)
+    (place : ℕ) (x : IndexRegion) (at : slice_get g.indexes.items place ≡ Some x) (r : List Value) (cells : List CellData) (row : IsRow (read_of g.rows) (row_key g.table r) cells) where
+  abbrev w : World (List ℕ) RowState (List ℕ)
+  w = world_in (form_of b index g) es v place r
+
+  kept : GroupKept (form_of b index g) es v
+  kept = shown.kept.group
+
+  form : index (get_or v.indexes place no_part).id ≡ index_form g.table x.index
+  form = ap index (shown.parts place x at).id ∙ shown.forms place x at
+
+  high : v.high ≡ g.horizon
+  high = sym kept.high ∙ tallied.horizon
+
+  pub undecided : (s : ℕ) → is_undecided (w.fate s) ≡ is_pending g s r
+  undecided s = undecided_is (form_of b index g) es v kept hs shown.kept.opens.held place r s ∙ sym (pending_same s r g.batches.items hs tallied.batches)
+
+  pub horizon_is : horizon w ≡ horizon_at g x
+  horizon_is = (λ i. max ((shown.parts place x at).birth i) (high i))
+
+  -- what is spelled of the row's cells is what all cells spell
+  spelled_is : (p : ℕ) → (row_form g.table).spelled (value_at cells) r p ≡ (row_form g.table).spelled (value_at v.cells) r p
+  spelled_is p = row_spelled (read_of g.rows) cells (row_key g.table r) row g.table r p refl ∙ ap (λ (l : List CellData). (row_form g.table).spelled (value_at l) r p) (sym shown.rows)
+
+  pub state_is : (p : ℕ) → v.low ≤ p → st w p ≡ (row_form g.table).spelled (value_at cells) r p
+  state_is p low = state_seen (form_of b index g) es v kept place r p low ∙ sym (spelled_is p)
+
+  pub written_is : (s : ℕ) → v.low < s → is_written (w.fate s) ≡ has_stamp s cells
+  written_is s low =
+      let law = written_seen (form_of b index g) es v kept told.told r s low in
+      let stamped = stamp_told (read_of g.rows) cells (row_key g.table r) s row in
+      same_truth (is_written (w.fate s)) (has_stamp s cells)
+      (λ e. (let z = law.0 e in stamped.1 (record { qualifier = z.qualifier; kind = z.kind; value = z.value; is = subst (λ (l : List CellData). value_at l (row_key g.table r) z.qualifier s z.kind ≡ Some z.value) shown.rows z.is })))
+      (λ e. (let z = stamped.0 e in law.1 (record { qualifier = z.qualifier; kind = z.kind; value = z.value; is = subst (λ (l : List CellData). value_at l (row_key g.table r) z.qualifier s z.kind ≡ Some z.value) (sym shown.rows) z.is })))
+
+  module _ (key : List ℕ) (s : ℕ) where
+    abbrev keyed : Bool
+    keyed = is_key_in key (key_of_state g.table x.index r ((row_form g.table).spelled (value_at cells) r s))
+
+    new_keyed : horizon_at g x < s → w.fate s ≡ Written → is_key_in key ((index (get_or v.indexes place no_part).id).key_of r (w.new s)) ≡ keyed
+    new_keyed above e =
+        let low : v.low ≤ s = (let z = kept.low in let y = high in omega arith) in
+        let new = new_seen (form_of b index g) es v kept place r s low (omega arith) e ∙ sym (spelled_is s) in
+        (λ i. is_key_in key ((form i).key_of r (new i)))
+
+    -- above the horizon
+    pub due_above : is_pending g s r ≡ false → horizon_at g x < s → due (shape_in (form_of b index g) v place r) w key s ≡ above_verdict (has_stamp s cells) keyed
+    due_above open above =
+        let low : v.low < s = (let z = kept.low in let y = high in omega arith) in
+        due_high (row_form g.table).shape (index (get_or v.indexes place no_part).id) r w key s (ap (λ (h : ℕ). nat_lt h s) horizon_is ∙ lt-ltb (horizon_at g x) s above)
+        ∙ above_is (w.fate s) (has_stamp s cells) keyed (undecided s ∙ open) (written_is s low) (is_key_in key ((index (get_or v.indexes place no_part).id).key_of r (w.new s))) (new_keyed above)

@@ -1,0 +1,18 @@
+//! What is read of a table for a query: the next rows of its own path, the next keys of an index, and the row of a doubted key.
+//!
+//! `look_rows` and `look_keys` give what `look` promises of a table's path and of an index's, and `consult` the row that holds a doubt's
+//! key, with what is to be done with the version. Each reads the regions of the group as they are now, and changes nothing that is
+//! read of them (`HasLooked`). What it shows of rows holds where the opened folder was sound.
+#![tactic(auto)]
+
+mod consult;
+mod doubted;
+mod due;
+mod laws;
+mod look;
+
+pub use consult::{Consulted, consult, version_of_doubt};
+pub use doubted::{Doubted, row_of_doubt};
+pub use due::due_of;
+pub use laws::law_looked;
+pub use look::{look_keys, look_rows};
