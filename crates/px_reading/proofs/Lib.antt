@@ -1,2 +1,3 @@
 pub mod Looked
 pub mod Worlds
+pub mod Flight

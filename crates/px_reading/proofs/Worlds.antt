@@ -8,9 +8,10 @@ use Rattle.px_cells.specs.CellData.{CellData}
 use Rattle.px_cells.specs.Contents.{value_at}
 use Rattle.px_cells.specs.Rows.{IsRow}
 use Rattle.px_forms.specs.Indexes.{IndexForm, shape_at}
-use Rattle.px_groupworld.specs.Group.{GroupData, GroupKept, no_part, shape_in, table_form, world_in}
+use Rattle.px_groupworld.specs.Group.{GroupData, GroupKept, index_in, no_part, shape_in, table_form, world_in}
 use Rattle.px_indexed.specs.Worlds.{history_at}
-use Rattle.px_indexrow.specs.Form.{index_form, key_of_state, owns, row_of_index}
+use Rattle.px_indexed.proofs.Looks.{vis_is}
+use Rattle.px_indexrow.specs.Form.{included_at, index_form, key_of_state, owns, row_of_index}
 use Rattle.px_openbatches.specs.Pending.{HeldBatch, HeldKept, left_of}
 use Rattle.px_phases.specs.Batch.{AreHeldAs, BatchData, IsHeldAs, left_in}
 use Rattle.px_phases.proofs.Left.{left_same}
@@ -25,9 +26,13 @@ use Rattle.px_trail.specs.Trail.{Base}
 use Rattle.px_trail.specs.declared.entry.Entry.{Entry}
 use Rattle.px_values.specs.States.{RowState, Shape as RowShape}
 use Rattle.px_values.specs.declared.row.Value.{Value}
+use Rattle.px_wal.specs.Manifest.{names}
 use Rattle.px_world.specs.Events.{Verdict, Leave, ToVerify, ToRetire, ToErase, due}
 use Rattle.px_world.specs.Shape.{all_below, has_key, same_cell, shows}
 use Rattle.px_world.specs.World.{Fate, Unbegun, Undecided, Written, Lost, World, horizon, is_undecided, is_written, st, vis}
+use Rattle.px_looks.specs.Found.{at_key}
+use Rattle.px_looks.specs.Versions.{stamp_seen, value_seen, version_at, version_of}
+use Rattle.px_looks.specs.declared.version.KeyVersion.{KeyVersion}
 use Rattle.px_looks.specs.Stamps.{HasCellOf, has_stamp}
 use Rattle.px_looks.proofs.RowCells.{row_spelled}
 use Rattle.px_looks.proofs.Stamped.{stamp_told}
@@ -36,15 +41,25 @@ use Rattle.px_group.specs.declared.group.Begun.{Begun}
 use Rattle.px_group.specs.declared.group.Group.{Group}
 use Rattle.px_group.specs.declared.group.IndexRegion.{IndexRegion}
 use Rattle.px_shown.specs.Told.{is_key_in}
-use Rattle.px_reading.specs.Doubts.{IsToldBy, above_verdict, horizon_at, is_left_of, is_pending}
+use Rattle.px_reading.specs.Doubts.{IsBelow, IsToldBy, above_verdict, horizon_at, is_left_of, is_pending, version_seen}
 
 -- ---- open batches
 
-pending_same : (s : ℕ) (r : List Value) (ms : List Begun) (hs : List HeldBatch) → AreHeldAs (map batch_in ms) hs → list_any (is_left_of s r) ms ≡ is_left_in hs s r
+pub pending_same : (s : ℕ) (r : List Value) (ms : List Begun) (hs : List HeldBatch) → AreHeldAs (map batch_in ms) hs → list_any (is_left_of s r) ms ≡ is_left_in hs s r
 pending_same s r [] [] a = refl
 pending_same s r [] (h ∷ hs) a = absurd a
 pending_same s r (m ∷ ms) [] a = absurd a
 pending_same s r (m ∷ ms) (h ∷ hs) a = (λ i. (nat_eq (sym a.0.stamp i) s && is_some (left_same m.batch h a.0 r i)) || pending_same s r ms hs a.1 i)
+
+-- ---- lists and versions
+
+get_or-map_at : (f : ℕ → Option (List ℕ)) (xs : List ℕ) (i : ℕ) → i < length xs → get_or (map f xs) i None ≡ f (get_or xs i 0)
+get_or-map_at f [] i l = absurd (omega arith)
+get_or-map_at f (x ∷ xs) zero l = refl
+get_or-map_at f (x ∷ xs) (suc i) l = get_or-map_at f xs i (omega arith)
+
+same_version : (a b : KeyVersion) → Some a ≡ Some b → a ≡ b
+same_version a b e = cc
 
 -- ---- truth values
 
@@ -116,3 +131,30 @@ module _ (b : Base) (index : ℕ → IndexForm) (es : List Entry) (g : Group) (v
         let low : v.low < s = (let z = kept.low in let y = high in omega arith) in
         due_high (row_form g.table).shape (index (get_or v.indexes place no_part).id) r w key s (ap (λ (h : ℕ). nat_lt h s) horizon_is ∙ lt-ltb (horizon_at g x) s above)
         ∙ above_is (w.fate s) (has_stamp s cells) keyed (undecided s ∙ open) (written_is s low) (is_key_in key ((index (get_or v.indexes place no_part).id).key_of r (w.new s))) (new_keyed above)
+
+    -- the values of the version that is seen, at or below the horizon
+    values_seen : (version : KeyVersion) → version_seen g x key s ≡ Some version → s ≤ horizon_at g x → version.values ≡ map (λ c. value_seen (at_key (value_at (read_of x.region)) key) (suc (suc c)) (horizon_at g x)) x.index.included
+    values_seen version e below =
+        let p : max s (horizon_at g x) ≡ horizon_at g x = omega arith in
+        by (stamp_seen (at_key (value_at (read_of x.region)) key) 1 (horizon_at g x)) (ap (λ (n : ℕ). version_at (at_key (value_at (read_of x.region)) key) x.index.included n) (sym p) ∙ e)
+      where
+        by : (o : Option ℕ) → version_of (at_key (value_at (read_of x.region)) key) x.index.included (horizon_at g x) o ≡ Some version → version.values ≡ map (λ c. value_seen (at_key (value_at (read_of x.region)) key) (suc (suc c)) (horizon_at g x)) x.index.included
+        by None e = absurd (let z : ◌≡◌ {A = Option KeyVersion} None (Some version) = e in cc)
+        by (Some u) e = ap (λ (z : KeyVersion). z.values) (sym (same_version _ version e))
+
+    module _ (mine : owns g.table x.index r key ≡ true) (there : place < length v.indexes) where
+      vis_at : (c : ℕ) → c < length x.index.included → vis w key (horizon_at g x) c ≡ value_seen (at_key (value_at (read_of x.region)) key) (suc (suc (included_at x.index c))) (horizon_at g x)
+      vis_at c l =
+          vis_is (row_form g.table).shape b es g.table.id.0 v.high (index_in (form_of b index g) v place) r key (ap (λ (z : IndexForm). z.owns r key) form ∙ mine) c (subst (λ (z : IndexForm). c < z.columns) (sym form) l) (horizon_at g x)
+          ∙ (λ i. value_seen (at_key (value_at ((shown.parts place x at).cells i)) key) ((form i).place c) (horizon_at g x))
+
+      pub below : (version : KeyVersion) → version_seen g x key s ≡ Some version → is_pending g s r ≡ false → s ≤ horizon_at g x → IsBelow g.table x.index r cells key s (horizon_at g x) (max x.index.birth (names x.region.manifest).horizon) version.values w
+      below version e open low = record {
+        decided = undecided s ∙ open;
+        horizon_is = horizon_is;
+        floor_is = (λ i. max ((shown.parts place x at).birth i) (told.own place x at i));
+        state = state_is (horizon_at g x) (let z = kept.low in let y = high in omega arith);
+        values_are = λ c l. (ap (λ (l : List (Option (List ℕ))). get_or l c None) (values_seen version e low)
+          ∙ get_or-map_at (λ c. value_seen (at_key (value_at (read_of x.region)) key) (suc (suc c)) (horizon_at g x)) x.index.included c l
+          ∙ sym (vis_at c l));
+      }

@@ -14,5 +14,5 @@ mod look;
 pub use consult::{Consulted, consult, version_of_doubt};
 pub use doubted::{Doubted, row_of_doubt};
 pub use due::due_of;
-pub use laws::law_looked;
+pub use laws::{law_in_flight, law_looked};
 pub use look::{look_keys, look_rows};
