@@ -1,5 +1,5 @@
 -- A table with its regions: what its code rests on, what the trail tells of it, and what it shows.
-use Rattle.std.specs.Prelude.{◌≡◌, ◌≢◌, ℕ, ◌<◌, ◌≤◌, ◌+◌, true, false, ◌&&◌, ◌==◌, Bool, List, [], ◌∷◌, length, map, get_or, slice_get, sum_by, Some, if◌then◌else◌, IsTrue}
+use Rattle.std.specs.Prelude.{◌≡◌, ◌≢◌, ℕ, ◌<◌, ◌≤◌, ◌+◌, true, false, ◌&&◌, ◌==◌, Bool, List, [], ◌∷◌, length, map, get_or, slice_get, sum_by, Some, None, is_some, if◌then◌else◌, IsTrue}
 use Rattle.std.specs.List.{AllByRecursion}
 use Rattle.px_cells.specs.CellData.{CellData}
 use Rattle.px_region.specs.Region.{read_of}
@@ -10,7 +10,7 @@ use Rattle.px_tables.specs.declared.index.IndexState.TheVariants.{Building, Acti
 use Rattle.px_tables.specs.declared.table.Table.{Table}
 use Rattle.px_tables.specs.declared.table.TableRegion.{TableRegion}
 use Rattle.px_trail.specs.declared.entry.Entry.{Entry}
-use Rattle.px_trail.specs.Batches.{BatchPhase, batch_of, is_distinct, phase_of, rows_of}
+use Rattle.px_trail.specs.Batches.{BatchPhase, batch_of, has, is_distinct, phase_of, rows_of}
 use Rattle.px_trail.specs.Batches as trail
 use Rattle.px_trail.specs.Trail.{Base, horizon_of, index_of, last_of, open_points, table_of}
 use Rattle.px_forms.specs.Indexes.{IndexForm}
@@ -18,7 +18,8 @@ use Rattle.px_rows.specs.Keys.{IsRightTable}
 use Rattle.px_rows.specs.Spelled.{row_form}
 use Rattle.px_indexrow.specs.Form.{IsRightIndex, index_form}
 use Rattle.px_groupworld.specs.Group.{GroupData, IndexPart, TableForm, no_part, table_form}
-use Rattle.px_openbatches.specs.Pending.{HeldBatch, HeldKept}
+use Rattle.px_openbatches.specs.Pending.{HeldBatch, HeldKept, IsHeld, flagged}
+use Rattle.px_values.specs.declared.row.Value.{Value}
 use Rattle.px_phases.specs.Batch.{AllFit, AreHeldAs, BatchData}
 use Rattle.px_tablesteps.specs.Kept.{TableKept}
 use Rattle.px_group.specs.declared.group.Begun.{Begun}
@@ -27,7 +28,7 @@ use Rattle.px_group.specs.declared.group.IndexRegion.{IndexRegion}
 use Rattle.px_group.specs.declared.group.OpenPoint.{OpenPoint}
 use Rattle.px_group.specs.declared.group.Phase.{Phase}
 use Rattle.px_group.specs.declared.group.Phase.TheVariants.{Marking, Writing, Verifying, Closing}
-use Rattle.px_group.specs.Room.{HasRooms}
+use Rattle.px_group.specs.Room.{HasRooms, closes_for, marks_for, puts_for}
 use Rattle.px_cellshapes.specs.Keys.{AreRightKeys}
 use Rattle.px_cellshapes.specs.Rows.{AreRightRows}
 
@@ -41,13 +42,40 @@ pub record IsRightPart (t : Table) (x : IndexRegion) : Type 0 where
   pub maintained : x.index.state ≢ Disabled
   pub keys : AreRightKeys t x.index (read_of x.region)
 
--- the batch marks indexes of the table, and its changes are ones that the table lets in
+-- what a batch keeps in each phase: it marks all indexes, then writes its rows, then closes the marks
+abbrev pub IsStage : Phase → ℕ → BatchData → Type 0
+IsStage Marking count b = (is_some b.puts ≡ true) × (length b.closes ≡ count)
+IsStage Writing count b = (is_some b.puts ≡ true) × (length b.closes ≡ count) × (b.marks ≡ [])
+IsStage Verifying count b = (b.puts ≡ None) × (b.marks ≡ [])
+IsStage Closing count b = (b.puts ≡ None) × (b.marks ≡ []) × (b.closes ≡ [])
+
+-- the rows of each part are of the index's shape
+abbrev pub AreRightParts : Table → Index → List (List CellData) → Type 0
+AreRightParts t i parts = AllByRecursion (AreRightKeys t i) parts
+
+-- what it keeps for each region has the region's shape
+pub record IsShaped (g : Group) (m : Begun) : Type 0 where
+  pub puts : AllByRecursion (AreRightRows g.table) (puts_for m)
+  pub marks : (i : ℕ) (x : IndexRegion) → slice_get g.indexes.items i ≡ Some x → AreRightParts g.table x.index (marks_for i m)
+  pub closes : (i : ℕ) (x : IndexRegion) → slice_get g.indexes.items i ≡ Some x → AreRightParts g.table x.index (closes_for i m)
+
+-- the batch has at most so many rows
+abbrev pub most_rows : ℕ
+most_rows = 1000
+
+-- the batch marks indexes of the table, and its changes are ones that the table lets in; it has its rows twice, to hand them out
 pub record IsRightBatch (g : Group) (m : Begun) : Type 0 where
   pub count : m.count ≤ length g.indexes.items
   pub marks : length m.batch.marks ≤ m.count
   pub closes : length m.batch.closes ≤ m.count
   pub fit : AllFit g.table m.batch.changes
   pub distinct : is_distinct (rows_of m.batch.changes) ≡ true
+  pub some : m.batch.changes ≢ []
+  pub few : length m.batch.changes ≤ most_rows
+  pub stage : IsStage m.phase m.count m.batch
+  pub rows : is_some m.batch.puts ≡ true → m.rows ≡ Some (rows_of m.batch.changes)
+  pub receipt : m.receipt ≡ rows_of m.batch.changes
+  pub shaped : IsShaped g m
 
 abbrev pub region_of : Region → TableRegion
 region_of rows = record { number = rows.number; least_key = [] }
@@ -107,6 +135,22 @@ pub record IsTallied (b : Base) (es : List Entry) (g : Group) (hs : List HeldBat
   pub batches : AreHeldAs (batches_of g) hs
   pub phases : AreInPhase es g.table.id.0 g.batches.items hs
   pub points : (seat s : ℕ) → open_points seat g.table.id.0 s es ≡ points_in seat s g.points.items
+
+-- What its end needs of an open batch, whatever became of the regions: it is the trail's, it has its rows for the receipt, and it knows
+-- which of them it met.
+pub record IsTraced (es : List Entry) (t : ℕ) (m : Begun) : Type 0 where
+  pub held : HeldBatch
+  pub is : IsHeld es t held
+  pub stamp : held.stamp ≡ m.batch.stamp
+  pub changes : held.changes ≡ m.batch.changes
+  pub distinct : is_distinct (rows_of m.batch.changes) ≡ true
+  pub flags : length m.batch.met ≡ length (rows_of m.batch.changes)
+  pub met : (r : List Value) → has held.met r ≡ has (flagged m.batch.met (rows_of m.batch.changes)) r
+  pub receipt : m.receipt ≡ rows_of m.batch.changes
+  pub few : length m.batch.changes ≤ most_rows
+
+abbrev pub AreTraced : List Entry → Group → Type 0
+AreTraced es g = AllByRecursion (IsTraced es g.table.id.0) g.batches.items
 
 -- 3. What it shows, where what was opened is sound
 

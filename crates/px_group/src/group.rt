@@ -1,9 +1,10 @@
 // A table with its regions.
-ghost use Rattle.std.specs.Prelude.{◌≡◌, ◌<◌, ◌+◌, length, IfSome, IfNone, slice_get, Some, IsSome};
+ghost use Rattle.std.specs.Prelude.{◌≡◌, ℕ, ◌<◌, length, IfSome, IfNone, slice_get, Some};
 
 use px_phases::OpenBatch;
 use px_region::Region;
 use px_tables::{Index, Table};
+use px_values::Rows;
 
 /// What a batch does next: it marks its index rows, writes its rows, verifies the marks, or ends.
 #[derive(Clone, Copy, PartialEq, Eq)]
@@ -21,6 +22,10 @@ pub struct Begun {
     /// It marks and verifies the first so many indexes.
     pub count: usize,
     pub batch: OpenBatch,
+    /// Its rows, for the entry that they are written, until then.
+    pub rows: Option<Rows>,
+    /// Its rows once more, for the receipt.
+    pub receipt: Rows,
 }
 
 /// An index that is maintained, and its region.

@@ -17,8 +17,8 @@ use Rattle.px_tables.specs.declared.table.Table.{Table}
 use Rattle.px_tables.specs.declared.table.TableRegion.{TableRegion}
 use Rattle.px_trail.specs.Trail.{Base, index_of}
 use Rattle.px_trail.specs.declared.entry.Entry.{Entry}
-use Rattle.px_group.specs.Group.{AreStanding, IsPartOf, IsRightBatch, IsRightGroup, IsRightPart, IsShownBy, IsTallied, is_built}
-use Rattle.px_group.specs.Room.{HasPromised, HasRooms}
+use Rattle.px_group.specs.Group.{AreRightParts, AreStanding, IsPartOf, IsRightBatch, IsRightGroup, IsRightPart, IsShownBy, IsTallied, is_built}
+use Rattle.px_group.specs.Room.{HasPromised, HasRooms, closes_for, marks_for}
 use Rattle.px_group.specs.declared.group.Begun.{Begun}
 use Rattle.px_group.specs.declared.group.Group.{Group}
 use Rattle.px_group.specs.declared.group.IndexRegion.{IndexRegion}
@@ -81,7 +81,14 @@ module _ (g g' : Group) (looked : HasLooked g g') where
   same = (λ i. record { table = looked.table i; rows = g'.rows; indexes = g'.indexes; batches = looked.batches i; points = looked.points i; last = looked.last i; horizon = looked.horizon i })
 
   right_batch : (m : Begun) → IsRightBatch g m → IsRightBatch h m
-  right_batch m k = record k { count = (let n = looked_length g.indexes.items g'.indexes.items looked.indexes in subst (λ (c : ℕ). m.count ≤ c) (sym n) k.count) }
+  right_batch m k = record k {
+    count = (let n = looked_length g.indexes.items g'.indexes.items looked.indexes in subst (λ (c : ℕ). m.count ≤ c) (sym n) k.count);
+    shaped = record {
+      puts = k.shaped.puts;
+      marks = λ i y e. (let z = looked_back g.indexes.items g'.indexes.items looked.indexes i y e in subst (λ (j : Index). AreRightParts g.table j (marks_for i m)) (sym z.1.1.index) (k.shaped.marks i z.0 z.1.0));
+      closes = λ i y e. (let z = looked_back g.indexes.items g'.indexes.items looked.indexes i y e in subst (λ (j : Index). AreRightParts g.table j (closes_for i m)) (sym z.1.1.index) (k.shaped.closes i z.0 z.1.0));
+    };
+  }
 
   all_map : {A : Type 0} (P Q : A → Type 0) → ((a : A) → P a → Q a) → (as' : List A) → AllByRecursion P as' → AllByRecursion Q as'
   all_map P Q f [] k = tt
