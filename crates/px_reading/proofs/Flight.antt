@@ -1,16 +1,13 @@
 -- A change that an open batch is still to write is in flight, and no other is.
-use Rattle.std.proofs.Common.{◌≡◌, ℕ, Bool, true, false, not, ◌&&◌, ◌||◌, ◌⊎◌, Option, Some, None, List, [], ◌∷◌, map, refl, ap, sym, subst, ◌∙◌, inl, inr}
-use Rattle.std.specs.Prelude.{is_some, nat_eq, ◌↔◌}
-use Rattle.std.specs.List.{AllByRecursion, list_any, slice_get}
-use Rattle.std.proofs.lemmas.Bool.{and_parts, both_ways, cases_Bool, eq-eqb, eqb-true, not-true}
+use Rattle.std.proofs.Common.{◌≡◌, ℕ, Bool, true, false, not, ◌&&◌, ◌||◌, ◌⊎◌, Option, Some, None, List, [], ◌∷◌, refl, ap, sym, subst, ◌∙◌, inl, inr}
+use Rattle.std.specs.Prelude.{is_some, nat_eq}
+use Rattle.std.specs.List.{AllByRecursion, slice_get}
+use Rattle.std.proofs.lemmas.Bool.{and_parts, cases_Bool, eqb-true}
 use Rattle.px_indexrow.specs.Form.{row_of_index}
-use Rattle.px_keys.specs.Spelling.{IsKeyOf}
-use Rattle.px_openbatches.specs.Pending.{HeldBatch, HeldKept, IsHeld, is_in, left_as, left_of}
+use Rattle.px_openbatches.specs.Pending.{HeldBatch, IsHeld, is_in, left_as, left_of}
 use Rattle.px_openbatches.proofs.Flags.{has_is_some}
-use Rattle.px_paths.specs.Paths.{columns_on, index_path, owner_of}
 use Rattle.px_tablereads.specs.Pending.{is_left_in}
 use Rattle.px_tables.specs.declared.index.Index.{Index}
-use Rattle.px_tables.specs.declared.table.Table.{Table}
 use Rattle.px_trail.specs.Batches.{Batch, batch_of, change_of, has, rows_of, unwritten}
 use Rattle.px_trail.specs.Trail.{Base, index_of, table_of}
 use Rattle.px_trail.specs.declared.entry.Entry.{Entry}
@@ -19,7 +16,7 @@ use Rattle.px_values.specs.declared.change.Change.{Change}
 use Rattle.px_values.specs.declared.change.What.{What}
 use Rattle.px_values.specs.declared.name.IndexId.{IndexId}
 use Rattle.px_values.specs.declared.row.Value.{Value}
-use Rattle.px_calls.specs.Calls.{IsInFlight, IsOwner}
+use Rattle.px_calls.specs.Calls.{IsInFlight}
 use Rattle.px_calls.specs.declared.query.Doubt.{Doubt}
 use Rattle.px_shown.proofs.Owners.{owner_read}
 use Rattle.px_group.specs.Group.{IsTallied}
@@ -116,6 +113,10 @@ module _ (b : Base) (es : List Entry) (g : Group) (hs : List HeldBatch) (tallied
         left = z.1.1;
       }
 
+  none_left : (y : Batch) → unwritten y ≡ [] → has (unwritten y) r ≡ true → ⊥
+  unfolding has
+  none_left y e h = (let z : ◌≡◌ {A = Bool} false true = ap (λ (rows : List (List Value)). has rows r) (sym e) ∙ h in cc)
+
   pub flight_pending : ((y : Batch) → batch_of g.table.id.0 d.stamp es ≡ Some y → y.ended ≡ true → unwritten y ≡ []) → IsInFlight b es d → is_pending g d.stamp r ≡ true
   flight_pending done f =
       let o = f.owner in
@@ -126,7 +127,7 @@ module _ (b : Base) (es : List Entry) (g : Group) (hs : List HeldBatch) (tallied
       let is : batch_of g.table.id.0 d.stamp es ≡ Some f.batch = subst (λ (t : ℕ). batch_of t d.stamp es ≡ Some f.batch) same_id f.is in
       let left : has (unwritten f.batch) r ≡ true = subst (λ (w : List Value). has (unwritten f.batch) w ≡ true) owned f.left in
       let running : f.batch.ended ≡ false = elim (cases_Bool f.batch.ended) [
-        | inl e ↦ absurd (let z : ◌≡◌ {A = Bool} false true = ap (λ (rows : List (List Value)). has rows r) (sym (done f.batch is e)) ∙ left in cc)
+        | inl e ↦ absurd (none_left f.batch (done f.batch is e) left)
         | inr e ↦ e
       ] in
       pending_same d.stamp r g.batches.items hs tallied.batches ∙ flight_from es g.table.id.0 hs tallied.held.each d.stamp r (tallied.held.all d.stamp f.batch is running) f.batch is left

@@ -1,24 +1,21 @@
 -- A group that was looked at is as it was.
-use Rattle.std.proofs.Common.{◌≡◌, ◌≢◌, ℕ, zero, suc, ◌<◌, ◌≤◌, ◌+◌, Option, Some, None, List, [], ◌∷◌, length, set, refl, ap, sym, subst, ◌∙◌, arith}
+use Rattle.std.proofs.Common.{◌≡◌, ℕ, zero, suc, ◌<◌, ◌≤◌, Some, None, List, [], ◌∷◌, length, set, get_or, refl, ap, sym, subst, ◌∙◌, arith}
 use Rattle.std.specs.List.{AllByRecursion, slice_get}
-use Rattle.px_cells.specs.CellData.{CellData}
 use Rattle.px_cellshapes.specs.Keys.{AreRightKeys}
 use Rattle.px_cellshapes.specs.Rows.{AreRightRows}
 use Rattle.px_forms.specs.Indexes.{IndexForm}
-use Rattle.px_groupworld.specs.Group.{GroupData, IndexPart, no_part}
+use Rattle.px_groupworld.specs.Group.{GroupData, IndexPart}
 use Rattle.px_indexrow.specs.Form.{IsRightIndex, index_form}
 use Rattle.px_openbatches.specs.Pending.{HeldBatch}
 use Rattle.px_region.specs.Promise.{IsAlike, IsSamePromise}
 use Rattle.px_region.specs.Region.{read_of}
 use Rattle.px_region.specs.declared.region.Region.{Region}
 use Rattle.px_tables.specs.declared.index.Index.{Index}
-use Rattle.px_tables.specs.declared.index.IndexState.TheVariants.{Disabled}
 use Rattle.px_tables.specs.declared.table.Table.{Table}
-use Rattle.px_tables.specs.declared.table.TableRegion.{TableRegion}
 use Rattle.px_trail.specs.Trail.{Base, index_of}
 use Rattle.px_trail.specs.declared.entry.Entry.{Entry}
-use Rattle.px_group.specs.Group.{AreRightParts, AreStanding, IsPartOf, IsRightBatch, IsRightGroup, IsRightPart, IsShownBy, IsTallied, is_built}
-use Rattle.px_group.specs.Room.{HasPromised, HasRooms, closes_for, marks_for}
+use Rattle.px_group.specs.Group.{AreRightParts, IsPartOf, IsRightBatch, IsRightGroup, IsRightPart, IsShownBy, IsTallied, is_built}
+use Rattle.px_group.specs.Room.{HasPromised, closes_for, marks_for}
 use Rattle.px_group.specs.declared.group.Begun.{Begun}
 use Rattle.px_group.specs.declared.group.Group.{Group}
 use Rattle.px_group.specs.declared.group.IndexRegion.{IndexRegion}
@@ -33,9 +30,9 @@ looked_length (x ∷ xs) [] h = absurd h
 looked_length (x ∷ xs) (y ∷ ys) h = ap suc (looked_length xs ys h.1)
 
 -- an index of the one and that of the other
-record Looked (x y : IndexRegion) : Type 0 where
-  index : y.index ≡ x.index
-  region : IsLookedAt x.region y.region
+pub record Looked (x y : IndexRegion) : Type 0 where
+  pub index : y.index ≡ x.index
+  pub region : IsLookedAt x.region y.region
 
 get_same : {A : Type 0} (a b : A) → Some a ≡ Some b → a ≡ b
 get_same a b e = cc
@@ -81,7 +78,16 @@ module _ (g g' : Group) (looked : HasLooked g g') where
   same = (λ i. record { table = looked.table i; rows = g'.rows; indexes = g'.indexes; batches = looked.batches i; points = looked.points i; last = looked.last i; horizon = looked.horizon i })
 
   right_batch : (m : Begun) → IsRightBatch g m → IsRightBatch h m
-  right_batch m k = record k {
+  right_batch m k = record {
+    marks = k.marks;
+    closes = k.closes;
+    fit = k.fit;
+    distinct = k.distinct;
+    some = k.some;
+    few = k.few;
+    stage = k.stage;
+    rows = k.rows;
+    receipt = k.receipt;
     count = (let n = looked_length g.indexes.items g'.indexes.items looked.indexes in subst (λ (c : ℕ). m.count ≤ c) (sym n) k.count);
     shaped = record {
       puts = k.shaped.puts;
@@ -190,7 +196,30 @@ looked_then g h j k l = record {
 }
 
 -- one index is looked at
-pub one_look : (xs : List IndexRegion) (i : ℕ) (x : IndexRegion) (region : Region) → slice_get xs i ≡ Some x → IsLookedAt x.region region → AreLookedAt xs (set xs i (record x { region = region }))
-one_look [] i x region e l = absurd (let z : None ≡ Some x = e in cc)
-one_look (y ∷ xs) zero x region e l = (let same = get_same y x e in ((ap (λ (z : IndexRegion). z.index) (sym same), subst (λ (z : IndexRegion). IsLookedAt z.region region) (sym same) l), no_looks xs))
-one_look (y ∷ xs) (suc i) x region e l = ((refl, no_look y.region), one_look xs i x region e l)
+one_look : (xs : List IndexRegion) (i : ℕ) → i < length xs → (d part y : IndexRegion) → part ≡ get_or xs i d → y.index ≡ part.index → IsLookedAt part.region y.region → AreLookedAt xs (set xs i y)
+one_look [] i m d part y e n l = absurd (omega arith)
+one_look (x ∷ xs) zero m d part y e n l = ((n ∙ ap (λ (z : IndexRegion). z.index) e, subst (λ (z : IndexRegion). IsLookedAt z.region y.region) e l), no_looks xs)
+one_look (x ∷ xs) (suc i) m d part y e n l = ((refl, no_look x.region), one_look xs i (omega arith) d part y e n l)
+
+pub looked_index : (g : Group) (i : ℕ) → i < length g.indexes.items → (d part : IndexRegion) → part ≡ get_or g.indexes.items i d → (region : Region) → IsAlike part.region region → IsSamePromise part.region region → AreLookedAt g.indexes.items (set g.indexes.items i (record { index = part.index; region = region }))
+looked_index g i m d part e region a p = one_look g.indexes.items i m d part (record { index = part.index; region = region }) e refl (record { alike = a; promised = p })
+
+-- ---- one of them
+
+pub all_at : {A : Type 0} (P : A → Type 0) (xs : List A) → AllByRecursion P xs → (i : ℕ) → i < length xs → (d : A) → P (get_or xs i d)
+all_at P [] a i l d = absurd (omega arith)
+all_at P (x ∷ xs) a zero l d = a.0
+all_at P (x ∷ xs) a (suc i) l d = all_at P xs a.1 i (omega arith) d
+
+any_same : {A : Type 0} (y x : A) → Some y ≡ Some x → y ≡ x
+any_same y x e = cc
+
+pub got : {A : Type 0} (xs : List A) (i : ℕ) (x d : A) → slice_get xs i ≡ Some x → get_or xs i d ≡ x
+got [] i x d e = absurd (let z : None ≡ Some x = e in cc)
+got (y ∷ xs) zero x d e = any_same y x e
+got (y ∷ xs) (suc i) x d e = got xs i x d e
+
+pub part_at : {A : Type 0} (P : A → Type 0) (xs : List A) → AllByRecursion P xs → (i : ℕ) (x : A) → slice_get xs i ≡ Some x → P x
+part_at P [] a i x e = absurd (let z : None ≡ Some x = e in cc)
+part_at P (y ∷ xs) a zero x e = subst P (any_same y x e) a.0
+part_at P (y ∷ xs) a (suc i) x e = part_at P xs a.1 i x e

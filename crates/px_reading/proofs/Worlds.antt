@@ -1,25 +1,23 @@
 -- What the cells of a row and the open batches tell of a doubted version is what is due in its world.
-use Rattle.std.proofs.Common.{◌≡◌, ℕ, zero, suc, ◌<◌, ◌≤◌, ◌+◌, max, Bool, true, false, cond, not, ◌&&◌, ◌||◌, Option, Some, None, List, [], ◌∷◌, length, get_or, map, refl, ap, sym, subst, ◌∙◌, inl, inr, arith}
+use Rattle.std.proofs.Common.{◌≡◌, ℕ, zero, suc, ◌<◌, ◌≤◌, max, Bool, true, false, cond, not, ◌&&◌, ◌||◌, Option, Some, None, List, [], ◌∷◌, length, get_or, map, refl, ap, sym, subst, ◌∙◌, arith}
 use Rattle.std.specs.Prelude.{is_some, nat_eq, nat_lt}
 use Rattle.std.specs.List.{list_any, slice_get}
 use Rattle.std.specs.Cmp.Lexicographic.{pointwise}
-use Rattle.std.proofs.lemmas.Bool.{cond-true, cond-false, both_ways, lt-ltb}
+use Rattle.std.proofs.lemmas.Bool.{lt-ltb}
 use Rattle.px_cells.specs.CellData.{CellData}
 use Rattle.px_cells.specs.Contents.{value_at}
 use Rattle.px_cells.specs.Rows.{IsRow}
 use Rattle.px_forms.specs.Indexes.{IndexForm, shape_at}
-use Rattle.px_groupworld.specs.Group.{GroupData, GroupKept, index_in, no_part, shape_in, table_form, world_in}
-use Rattle.px_indexed.specs.Worlds.{history_at}
+use Rattle.px_groupworld.specs.Group.{GroupData, GroupKept, index_in, no_part, shape_in, world_in}
 use Rattle.px_indexed.proofs.Looks.{vis_is}
-use Rattle.px_indexrow.specs.Form.{included_at, index_form, key_of_state, owns, row_of_index}
-use Rattle.px_openbatches.specs.Pending.{HeldBatch, HeldKept, left_of}
-use Rattle.px_phases.specs.Batch.{AreHeldAs, BatchData, IsHeldAs, left_in}
+use Rattle.px_indexrow.specs.Form.{included_at, index_form, key_of_state, owns}
+use Rattle.px_openbatches.specs.Pending.{HeldBatch}
+use Rattle.px_phases.specs.Batch.{AreHeldAs}
 use Rattle.px_phases.proofs.Left.{left_same}
 use Rattle.px_region.specs.Region.{read_of}
 use Rattle.px_rows.specs.Keys.{row_key}
 use Rattle.px_rows.specs.Spelled.{row_form}
-use Rattle.px_tablereads.specs.Pending.{is_left_at, is_left_in}
-use Rattle.px_tablereads.specs.Told.{AreTold, StandsAt}
+use Rattle.px_tablereads.specs.Pending.{is_left_in}
 use Rattle.px_tablereads.proofs.Fates.{new_seen, state_seen, undecided_is}
 use Rattle.px_tablereads.proofs.Tells.{written_seen}
 use Rattle.px_trail.specs.Trail.{Base}
@@ -27,16 +25,16 @@ use Rattle.px_trail.specs.declared.entry.Entry.{Entry}
 use Rattle.px_values.specs.States.{RowState, Shape as RowShape}
 use Rattle.px_values.specs.declared.row.Value.{Value}
 use Rattle.px_wal.specs.Manifest.{names}
-use Rattle.px_world.specs.Events.{Verdict, Leave, ToVerify, ToRetire, ToErase, due}
+use Rattle.px_world.specs.Events.{Leave, ToVerify, ToRetire, ToErase, due}
 use Rattle.px_world.specs.Shape.{all_below, has_key, same_cell, shows}
 use Rattle.px_world.specs.World.{Fate, Unbegun, Undecided, Written, Lost, World, horizon, is_undecided, is_written, st, vis}
 use Rattle.px_looks.specs.Found.{at_key}
 use Rattle.px_looks.specs.Versions.{stamp_seen, value_seen, version_at, version_of}
 use Rattle.px_looks.specs.declared.version.KeyVersion.{KeyVersion}
-use Rattle.px_looks.specs.Stamps.{HasCellOf, has_stamp}
+use Rattle.px_looks.specs.Stamps.{has_stamp}
 use Rattle.px_looks.proofs.RowCells.{row_spelled}
 use Rattle.px_looks.proofs.Stamped.{stamp_told}
-use Rattle.px_group.specs.Group.{IsShownBy, IsTallied, batch_in, batches_of, form_of}
+use Rattle.px_group.specs.Group.{IsShownBy, IsTallied, batch_in, form_of}
 use Rattle.px_group.specs.declared.group.Begun.{Begun}
 use Rattle.px_group.specs.declared.group.Group.{Group}
 use Rattle.px_group.specs.declared.group.IndexRegion.{IndexRegion}
@@ -127,10 +125,10 @@ module _ (b : Base) (index : ℕ → IndexForm) (es : List Entry) (g : Group) (v
 
     -- above the horizon
     pub due_above : is_pending g s r ≡ false → horizon_at g x < s → due (shape_in (form_of b index g) v place r) w key s ≡ above_verdict (has_stamp s cells) keyed
-    due_above open above =
+    due_above free above =
         let low : v.low < s = (let z = kept.low in let y = high in omega arith) in
         due_high (row_form g.table).shape (index (get_or v.indexes place no_part).id) r w key s (ap (λ (h : ℕ). nat_lt h s) horizon_is ∙ lt-ltb (horizon_at g x) s above)
-        ∙ above_is (w.fate s) (has_stamp s cells) keyed (undecided s ∙ open) (written_is s low) (is_key_in key ((index (get_or v.indexes place no_part).id).key_of r (w.new s))) (new_keyed above)
+        ∙ above_is (w.fate s) (has_stamp s cells) keyed (undecided s ∙ free) (written_is s low) (is_key_in key ((index (get_or v.indexes place no_part).id).key_of r (w.new s))) (new_keyed above)
 
     -- the values of the version that is seen, at or below the horizon
     values_seen : (version : KeyVersion) → version_seen g x key s ≡ Some version → s ≤ horizon_at g x → version.values ≡ map (λ c. value_seen (at_key (value_at (read_of x.region)) key) (suc (suc c)) (horizon_at g x)) x.index.included
@@ -149,12 +147,12 @@ module _ (b : Base) (index : ℕ → IndexForm) (es : List Entry) (g : Group) (v
           ∙ (λ i. value_seen (at_key (value_at ((shown.parts place x at).cells i)) key) ((form i).place c) (horizon_at g x))
 
       pub below : (version : KeyVersion) → version_seen g x key s ≡ Some version → is_pending g s r ≡ false → s ≤ horizon_at g x → IsBelow g.table x.index r cells key s (horizon_at g x) (max x.index.birth (names x.region.manifest).horizon) version.values w
-      below version e open low = record {
-        decided = undecided s ∙ open;
+      below version e free low = record {
+        decided = undecided s ∙ free;
         horizon_is = horizon_is;
         floor_is = (λ i. max ((shown.parts place x at).birth i) (told.own place x at i));
         state = state_is (horizon_at g x) (let z = kept.low in let y = high in omega arith);
         values_are = λ c l. (ap (λ (l : List (Option (List ℕ))). get_or l c None) (values_seen version e low)
-          ∙ get_or-map_at (λ c. value_seen (at_key (value_at (read_of x.region)) key) (suc (suc c)) (horizon_at g x)) x.index.included c l
-          ∙ sym (vis_at c l));
+            ∙ get_or-map_at (λ c. value_seen (at_key (value_at (read_of x.region)) key) (suc (suc c)) (horizon_at g x)) x.index.included c l
+            ∙ sym (vis_at c l));
       }

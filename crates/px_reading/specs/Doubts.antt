@@ -6,7 +6,7 @@ use Rattle.px_cells.specs.Contents.{value_at}
 use Rattle.px_cells.specs.Order.{IsCellList}
 use Rattle.px_forms.specs.Indexes.{IndexForm}
 use Rattle.px_groupworld.specs.Group.{GroupData, no_part}
-use Rattle.px_indexrow.specs.Form.{FitsState}
+use Rattle.px_indexrow.specs.Form.{FitsState, bytes_if}
 use Rattle.px_keys.specs.Reading.{IsKey}
 use Rattle.px_keys.specs.Spelling.{Fits}
 use Rattle.px_looks.specs.Found.{at_key}
@@ -15,7 +15,8 @@ use Rattle.px_looks.specs.declared.version.KeyVersion.{KeyVersion}
 use Rattle.px_paths.specs.Paths.{columns_on, index_path}
 use Rattle.px_phases.specs.Batch.{left_in}
 use Rattle.px_region.specs.Region.{read_of}
-use Rattle.px_rows.specs.Keys.{row_columns, row_key}
+use Rattle.px_rows.specs.Keys.{column_in, row_columns, row_key}
+use Rattle.px_rows.specs.Stored.{stored}
 use Rattle.px_rows.specs.Spelled.{IsPlainAt, row_form}
 use Rattle.px_rows.specs.inner.Found.{AreOf}
 use Rattle.px_tablereads.specs.Told.{AreTold}
@@ -26,6 +27,7 @@ use Rattle.px_trail.specs.declared.entry.Entry.{Entry}
 use Rattle.px_values.specs.Limits.{most_key}
 use Rattle.px_values.specs.States.{RowState}
 use Rattle.px_values.specs.declared.row.Value.{Value}
+use Rattle.px_values.specs.declared.row.Value.TheVariants.{Null}
 use Rattle.px_wal.specs.Manifest.{names}
 use Rattle.px_world.specs.Events.{Verdict, ToVerify, ToRetire, ToErase}
 use Rattle.px_world.specs.World.{World, horizon, is_undecided, st, vis}
@@ -66,6 +68,11 @@ pub record IsRowOf (t : Table) (r : List Value) (cells : List CellData) : Type 0
   pub own : AreOf (row_key t r) cells
   pub plain : IsPlainAt (value_at cells) (row_key t r)
   pub typed : (p : ℕ) → FitsState t ((row_form t).spelled (value_at cells) r p)
+
+-- the bytes of a column's value, none of NULL
+abbrev pub state_bytes : Table → RowState → ℕ → Option (List ℕ)
+state_bytes t None c = None
+state_bytes t (Some row) c = bytes_if (stored (column_in t.columns c).column_type (get_or row c Null)) (get_or row c Null)
 
 -- what is due above the horizon: of a change that was written the version is verified at the row's new key and retired at another, and of
 -- another change it is erased
