@@ -58,9 +58,13 @@ module _ (t : Table) (x : Index) (right : IsRightTable t) (index : IsRightIndex 
       let z = key_row t x k r (state r) told.0 in
       let row = z.0 in
       let is : key_on (index_path t x) row ≡ k = some_same (sym (index_key t state states x right index r row z.1) ∙ sym (ap (key_of_state t x r) z.1) ∙ told.0) in
-      let same : values ≡ values_on (index_path t x) row = (spelled_same (columns_on (index_path t x)) values (values_on (index_path t x) row) [] [] key.fits (index_fits t state states x right index r row z.1) (ap (λ (l : List ℕ). l ++ []) (key.spells ∙ sym is))).0 in
-      (row, z.1, is, ap (λ (vs : List Value). row_shown t x vs (λ c. value_seen (at_key g k) c q)) same
-        ∙ shown_is t x row (fits_state t state states r row z.1) (λ c. value_seen (at_key g k) c q) (λ c l. told.1 c l ∙ ap (λ (o : RowState). column_bytes t x o c) z.1))
+      let same : values ≡ values_on (index_path t x) row = (spelled_same (columns_on (index_path t x)) values (values_on (index_path t x) row) [] [] key.fits (index_fits t state states x right index r row z.1) (ap (λ (l : List ℕ). l ++ []) (key.spells ∙ sym is))).0 in (
+        row,
+        z.1,
+        is,
+        ap (λ (vs : List Value). row_shown t x vs (λ c. value_seen (at_key g k) c q)) same
+            ∙ shown_is t x row (fits_state t state states r row z.1) (λ c. value_seen (at_key g k) c q) (λ c l. told.1 c l ∙ ap (λ (o : RowState). column_bytes t x o c) z.1),
+      )
 
 -- ---- what is found at a key
 
@@ -80,6 +84,7 @@ module _ (t : Table) (x : Index) (q : ℕ) (k : List ℕ) (g : Contents) (f : Fo
           → ((is_verified (g k 1 s Put) ≡ true) × (f ≡ Sure (record { key = k; row = row_shown t x a.values (λ c. value_seen (at_key g k) c q) }))) ⊎ (f ≡ InDoubt (record { index = x.id; key = k; stamp = s; verdict = None }))
       pick s true e h = inl (e, sym h)
       pick s false e h = inr (sym h)
+
       by : (o : Option ℕ) → stamp_seen (at_key g k) 1 q ≡ o → found_of t x k a.values (at_key g k) q o ≡ Some f → Seen t x q k g f
       by None is e = absurd (let z : None ≡ Some f = e in cc)
       by (Some s) is e = record { values = a.values; key = a.key; stamp = s; seen = is; which = pick s (is_verified (g k 1 s Put)) refl (some_same e) }

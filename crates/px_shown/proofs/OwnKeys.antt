@@ -102,8 +102,8 @@ own_key t g right rows r row p e =
     ∙ columns_of (overlay o 0 fresh) t.key
     ∙ map_same (λ q. get_or (overlay o 0 fresh) q.column Null) (λ q. get_or fresh q.column Null) t.key
     (λ q h. (let inside = part_within (length t.columns) t.key right.within q.column h in
-      let zero : q.column ≡ 0 + q.column = omega arith in
-      overlay_at o 0 fresh q.column Null (omega arith) ∙ ap (λ (n : ℕ). pick (o n) (get_or fresh q.column Null)) (sym zero) ∙ ap (λ (v : Option Value). pick v (get_or fresh q.column Null)) (none q.column h)))
+    let zero : q.column ≡ 0 + q.column = omega arith in
+    overlay_at o 0 fresh q.column Null (omega arith) ∙ ap (λ (n : ℕ). pick (o n) (get_or fresh q.column Null)) (sym zero) ∙ ap (λ (v : Option Value). pick v (get_or fresh q.column Null)) (none q.column h)))
     ∙ with_own t.key r (replicate (length t.columns) Null) right.distinct (row_count t r (rows.short r row p e).fits) (subst (λ (n : ℕ). All (λ p. p.column < n) t.key) (sym (length-replicate (length t.columns) Null)) right.within)
 
 pub spells_rows : (t : Table) (cells : List CellData) → IsRightTable t → AreRightRows t cells → SpellsRows t (value_at cells)

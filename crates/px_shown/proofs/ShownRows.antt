@@ -60,10 +60,12 @@ keyed_rest parts (p ∷ ps) c = by (is_keyed parts p.column) refl (keyed_rest pa
     swap true b d e h = refl
     swap false true d e h = refl
     swap false false d e h = h
+
     skip : (a b d e : Bool) → (b ≡ true → a ≡ true) → (a || d) ≡ (a || e) → (a || d) ≡ (a || (b || e))
     skip true b d e z h = refl
     skip false true d e z h = absurd (true≢false (sym (z refl)))
     skip false false d e z h = h
+
     by : (b : Bool) → is_keyed parts p.column ≡ b → (is_keyed parts c || is_keyed (rest_of parts ps) c) ≡ (is_keyed parts c || is_keyed ps c) → (is_keyed parts c || is_keyed (cond b (rest_of parts ps) (p ∷ rest_of parts ps)) c) ≡ (is_keyed parts c || (nat_eq p.column c || is_keyed ps c))
     by true e h = skip (is_keyed parts c) (nat_eq p.column c) (is_keyed (rest_of parts ps) c) (is_keyed ps c) (λ z. ap (λ (i : ℕ). is_keyed parts i) (sym (eqb-true p.column c z)) ∙ e) h
     by false e h = swap (is_keyed parts c) (nat_eq p.column c) (is_keyed (rest_of parts ps) c) (is_keyed ps c) h
@@ -150,5 +152,5 @@ module _ (t : Table) (x : Index) (row : List Value) (typed : FitsState t (Some r
   pub shown_is : row_shown t x (values_on (index_path t x) row) seen ≡ shown_on t x row
   shown_is = same_lists (columns_shown t x (values_on (index_path t x) row) seen (length t.columns)) (shown_on t x row) (count_shown (length t.columns) ∙ sym typed.0 ∙ sym (length_from t x 0 row))
       (λ c d l. (let inside : c < length t.columns = (let z = count_shown (length t.columns) in omega arith) in
-        let here : c < length row = (let z = typed.0 in omega arith) in
-        (let zero : c ≡ 0 + c = omega arith in at_shown (length t.columns) c d inside ∙ column_is c inside ∙ ap (λ (i : ℕ). cond (is_held t x i) (get_or row c Null) Null) zero ∙ sym (at_from t x 0 row c d here))))
+      let here : c < length row = (let z = typed.0 in omega arith) in
+      (let zero : c ≡ 0 + c = omega arith in at_shown (length t.columns) c d inside ∙ column_is c inside ∙ ap (λ (i : ℕ). cond (is_held t x i) (get_or row c Null) Null) zero ∙ sym (at_from t x 0 row c d here))))
