@@ -1,11 +1,11 @@
 mod Distinct
-mod Each
-mod KeysRead
-mod Paths
-mod RowsRead
-mod Steps
+pub mod Each
+pub mod KeysRead
+pub mod Paths
+pub mod RowsRead
+pub mod Steps
 mod StoredValues
 mod Tests
-mod Typed
-mod WrittenKeys
+pub mod Typed
+pub mod WrittenKeys
 mod WrittenRows

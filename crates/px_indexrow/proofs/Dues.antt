@@ -55,11 +55,11 @@ module _ (sh : Shape) (f : IndexForm) (r : List Value) (w : World (List ℕ) Row
   abbrev low : ℕ → ℕ → Verdict
   low h floor = cond (not (key_in same v.key.now (f.key_of r (st w h)))) ToRetire (cond (all_below f.columns (λ c. same_cell same (vis w v.key.now h c) (f.col (st w h) c))) ToVerify (cond (nat_lt floor v.stamp) ToErase ToVerify))
 
-  values_same : all_below f.columns (λ c. same_cell same (vis w v.key.now x.horizon c) (f.col (st w x.horizon) c)) ≡ all_below (length v.values.now) (λ c. same_cell same (get_or v.values.now c None) (get_or x.horizon_values.now c None))
-  values_same = below_same f.columns _ _ (λ c l. (λ i. same_cell same (sym (tells.values c l) i) (sym (tells.horizon_values c l) i))) ∙ ap (λ (n : ℕ). all_below n (λ c. same_cell same (get_or v.values.now c None) (get_or x.horizon_values.now c None))) (sym tells.count)
+  values_same : v.stamp ≤ x.horizon → all_below f.columns (λ c. same_cell same (vis w v.key.now x.horizon c) (f.col (st w x.horizon) c)) ≡ all_below (length v.values.now) (λ c. same_cell same (get_or v.values.now c None) (get_or x.horizon_values.now c None))
+  values_same m = below_same f.columns _ _ (λ c l. (λ i. same_cell same (sym (tells.values m c l) i) (sym (tells.horizon_values m c l) i))) ∙ ap (λ (n : ℕ). all_below n (λ c. same_cell same (get_or v.values.now c None) (get_or x.horizon_values.now c None))) (sym (tells.count m))
 
-  low_is : low (horizon w) w.floor ≡ due_below v x
-  low_is = (λ i. low (tells.horizon i) (tells.floor i)) ∙ (λ i. cond (not (key_in same v.key.now (tells.horizon_key i))) ToRetire (cond (values_same i) ToVerify (cond (nat_lt x.floor v.stamp) ToErase ToVerify)))
+  low_is : v.stamp ≤ x.horizon → low (horizon w) w.floor ≡ due_below v x
+  low_is m = (λ i. low (tells.horizon i) (tells.floor i)) ∙ (λ i. cond (not (tells.horizon_key m i)) ToRetire (cond (values_same m i) ToVerify (cond (nat_lt x.floor v.stamp) ToErase ToVerify)))
 
   abbrev by_fate : Fate → Verdict
   by_fate φ = cond (is_undecided φ) Leave (cond (nat_lt (horizon w) v.stamp) (cond (is_written φ) (cond (key_in same v.key.now (f.key_of r (w.new v.stamp))) ToVerify ToRetire) ToErase) (low (horizon w) w.floor))
@@ -69,18 +69,18 @@ module _ (sh : Shape) (f : IndexForm) (r : List Value) (w : World (List ℕ) Row
   due_by_fate = refl
 
   -- above the horizon the change decides
-  lost_is : cond (nat_lt (horizon w) v.stamp) ToErase (low (horizon w) w.floor) ≡ cond (nat_lt x.horizon v.stamp) ToErase (due_below v x)
-  lost_is = (λ i. cond (nat_lt (tells.horizon i) v.stamp) ToErase (low_is i))
+  above_is : x.horizon < v.stamp → (a : Verdict) → cond (nat_lt (horizon w) v.stamp) a (low (horizon w) w.floor) ≡ cond (nat_lt x.horizon v.stamp) a (due_below v x)
+  above_is l a = (λ i. cond (nat_lt (tells.horizon i) v.stamp) a (low (horizon w) w.floor)) ∙ cond-true _ _ _ (lt-ltb x.horizon v.stamp l) ∙ sym (cond-true _ _ _ (lt-ltb x.horizon v.stamp l))
 
   by : x.horizon < v.stamp → (φ : Fate) → w.fate v.stamp ≡ φ → by_fate φ ≡ due_told (fate_of φ) v x
-  by l Unbegun e = lost_is
-  by l Lost e = lost_is
+  by l Unbegun e = above_is l ToErase
+  by l Lost e = above_is l ToErase
   by l Undecided e = refl
-  by l Written e = (λ i. cond (nat_lt (tells.horizon i) v.stamp) (cond (key_in same v.key.now (tells.new_key l e i)) ToVerify ToRetire) (low_is i))
+  by l Written e = above_is l (cond (key_in same v.key.now (f.key_of r (w.new v.stamp))) ToVerify ToRetire) ∙ (λ i. cond (nat_lt x.horizon v.stamp) (cond (tells.new_key l e i) ToVerify ToRetire) (due_below v x))
 
   -- at or below it what the horizon sees
   below_is : v.stamp ≤ x.horizon → (φ : Fate) → by_fate φ ≡ cond (is_undecided φ) Leave (due_below v x)
-  below_is l φ = (λ i. cond (is_undecided φ) Leave (cond (nat_lt (tells.horizon i) v.stamp) (cond (is_written φ) (cond (key_in same v.key.now (f.key_of r (w.new v.stamp))) ToVerify ToRetire) ToErase) (low_is i)))
+  below_is l φ = (λ i. cond (is_undecided φ) Leave (cond (nat_lt (tells.horizon i) v.stamp) (cond (is_written φ) (cond (key_in same v.key.now (f.key_of r (w.new v.stamp))) ToVerify ToRetire) ToErase) (low_is l i)))
       ∙ ap (λ (b : Bool). cond (is_undecided φ) Leave (cond b (cond (is_written φ) (cond (key_in same v.key.now (f.key_of r (w.new v.stamp))) ToVerify ToRetire) ToErase) (due_below v x))) (le-ltb x.horizon v.stamp l)
 
   told_below : v.stamp ≤ x.horizon → (φ : ChangeFate) → cond (is_open φ) Leave (due_below v x) ≡ due_told φ v x

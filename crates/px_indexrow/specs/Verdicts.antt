@@ -1,5 +1,5 @@
 -- What a repair of a version does, by what is told of the version and its row.
-use Rattle.std.specs.Prelude.{◌≡◌, ℕ, ◌<◌, Bool, true, false, cond, not, nat_eq, nat_lt, List, None, length, get_or}
+use Rattle.std.specs.Prelude.{◌≡◌, ℕ, ◌<◌, ◌≤◌, Bool, true, false, cond, not, nat_eq, nat_lt, List, Option, None, length, get_or}
 use Rattle.std.specs.Cmp.Lexicographic.{pointwise}
 use Rattle.std.specs.Option.{option_copied}
 use Rattle.px_world.specs.Shape.{all_below, key_in, same_cell}
@@ -35,29 +35,32 @@ is_open fates.Undecided = true
 is_open fates.Written = false
 is_open fates.Lost = false
 
+-- the version's key is this one
+abbrev pub is_key : Version → Option (List ℕ) → Bool
+is_key v k = key_in (pointwise nat_eq) v.key.now k
+
 -- This is told of the version and its row in the world of the row and the index. At or below the horizon only whether the
--- change is undecided has to be known of it.
+-- change is undecided has to be known of it, and above it nothing that the horizon sees.
 pub record Tells (f : IndexForm) (r : List Value) (w : World (List ℕ) RowState (List ℕ)) (v : Version) (x : Told) : Type 0 where
   pub undecided : is_undecided (w.fate v.stamp) ≡ is_open x.fate
   pub fate : x.horizon < v.stamp → fate_of (w.fate v.stamp) ≡ x.fate
   pub horizon : horizon w ≡ x.horizon
   pub floor : w.floor ≡ x.floor
-  pub new_key : x.horizon < v.stamp → w.fate v.stamp ≡ Written → f.key_of r (w.new v.stamp) ≡ option_copied x.new_key
-  pub horizon_key : f.key_of r (st w x.horizon) ≡ option_copied x.horizon_key
-  pub count : length v.values.now ≡ f.columns
-  pub horizon_count : length x.horizon_values.now ≡ f.columns
-  pub values : (c : ℕ) → c < f.columns → get_or v.values.now c None ≡ vis w v.key.now x.horizon c
-  pub horizon_values : (c : ℕ) → c < f.columns → get_or x.horizon_values.now c None ≡ f.col (st w x.horizon) c
+  pub new_key : x.horizon < v.stamp → w.fate v.stamp ≡ Written → is_key v (f.key_of r (w.new v.stamp)) ≡ is_key v (option_copied x.new_key)
+  pub horizon_key : v.stamp ≤ x.horizon → is_key v (f.key_of r (st w x.horizon)) ≡ is_key v (option_copied x.horizon_key)
+  pub count : v.stamp ≤ x.horizon → length v.values.now ≡ f.columns
+  pub values : v.stamp ≤ x.horizon → (c : ℕ) → c < f.columns → get_or v.values.now c None ≡ vis w v.key.now x.horizon c
+  pub horizon_values : v.stamp ≤ x.horizon → (c : ℕ) → c < f.columns → get_or x.horizon_values.now c None ≡ f.col (st w x.horizon) c
 
 -- at or below the horizon: the row's state there decides
 abbrev pub due_below : Version → Told → Verdict
 due_below v x =
-    cond (not (key_in (pointwise nat_eq) v.key.now (option_copied x.horizon_key))) ToRetire
+    cond (not (is_key v (option_copied x.horizon_key))) ToRetire
     (cond (all_below (length v.values.now) (λ c. same_cell (pointwise nat_eq) (get_or v.values.now c None) (get_or x.horizon_values.now c None))) ToVerify
     (cond (nat_lt x.floor v.stamp) ToErase ToVerify))
 
 -- what is due by what is told
 abbrev pub due_told : ChangeFate → Version → Told → Verdict
 due_told fates.Undecided v x = Leave
-due_told fates.Written v x = cond (nat_lt x.horizon v.stamp) (cond (key_in (pointwise nat_eq) v.key.now (option_copied x.new_key)) ToVerify ToRetire) (due_below v x)
+due_told fates.Written v x = cond (nat_lt x.horizon v.stamp) (cond (is_key v (option_copied x.new_key)) ToVerify ToRetire) (due_below v x)
 due_told fates.Lost v x = cond (nat_lt x.horizon v.stamp) ToErase (due_below v x)

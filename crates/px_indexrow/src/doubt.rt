@@ -9,7 +9,7 @@ ghost use Rattle.px_values.specs.declared.row.Value.{Value as ColumnValue};
 ghost use Rattle.px_world.specs.Events.{due};
 ghost use Rattle.px_world.specs.Shape.{all_below, key_in, same_cell};
 ghost use Rattle.px_world.specs.World.{World};
-ghost use Rattle.px_indexrow.specs.Verdicts.{Tells, due_below, verdict_of};
+ghost use Rattle.px_indexrow.specs.Verdicts.{Tells, due_below, due_told, verdict_of};
 
 use px_values::Items;
 
@@ -53,7 +53,8 @@ pub struct Told<'a> {
 /// What a repair of the version does. Above the horizon its own change decides, and at or below it the row's state there.
 pub fn verdict(version: &Version<'_>, told: &Told<'_>) -> Repair
     requires { length version.now.values.now ≡ length told.now.horizon_values.now }
-    ensures { (sh : Shape) (f : IndexForm) (r : List ColumnValue) (w : World (List ℕ) RowState (List ℕ)) → Tells f r w version.now told.now → verdict_of result ≡ due (shape_at sh f r) w version.now.key.now version.now.stamp }
+    ensures told { verdict_of result ≡ due_told told.now.fate version.now told.now }
+    ensures due { (sh : Shape) (f : IndexForm) (r : List ColumnValue) (w : World (List ℕ) RowState (List ℕ)) → Tells f r w version.now told.now → verdict_of result ≡ due (shape_at sh f r) w version.now.key.now version.now.stamp }
 {
     match told.fate {
         ChangeFate::Undecided => Repair::Leave,

@@ -29,7 +29,7 @@ use px_values::{Key, Row, Value};
 use std::alloc::{AllocError, Global};
 
 /// The value of a column among those of a key, or NULL.
-fn value_among(
+pub fn value_among(
     alloc: Global,
     path: &[PathColumn],
     values: &[Value],
@@ -220,7 +220,7 @@ impl<'a> Reader for KeyReader<'a> {
 }
 
 /// The columns of the keys of a path.
-fn columns_of(alloc: Global, path: &[PathColumn]) -> Result<Vec<KeyColumn>, AllocError>
+pub fn columns_of(alloc: Global, path: &[PathColumn]) -> Result<Vec<KeyColumn>, AllocError>
     ensures { IfOk result (λ columns. columns.items ≡ columns_on path.now) }
 {
     let mut columns = Vec::with_capacity(alloc, path.len())?;

@@ -1,8 +1,8 @@
 //! What is read of a table out of its regions.
 //!
 //! `row_state` gives the row that a point sees, by its cells alone, `look_rows` the next rows of a table in order, 64 at
-//! most, with none missing, and `look_keys` the next keys of an index, each sure or in doubt. A region is told by what is read of it (`read_of`), so each promise is about cells, in the words of
-//! their forms, and holds wherever the cells lie.
+//! most, with none missing, and `look_keys` the next keys of an index, each sure or in doubt. A region is told by what is
+//! read of it (`read_of`), so each promise is about cells, in the words of their forms, and holds wherever the cells lie.
 #![tactic(auto)]
 
 mod gathered;
@@ -14,9 +14,9 @@ mod rows;
 mod stamp;
 mod version;
 
-pub use keys::look_keys;
+pub use keys::{columns_of, look_keys, value_among};
 pub use next::NextKeys;
-pub use row::row_state;
+pub use row::{row_cells, row_state};
 pub use rows::look_rows;
-pub use stamp::has_cell_of;
+pub use stamp::{any_of_stamp, has_cell_of};
 pub use version::{KeyVersion, key_version};

@@ -1,6 +1,7 @@
 // The row of a key.
 ghost use Rattle.std.specs.Prelude.{◌≡◌, ◌+◌, IfOk, length, min};
 ghost use Rattle.px_cells.specs.Contents.{value_at};
+ghost use Rattle.px_cells.specs.Rows.{IsRow};
 ghost use Rattle.px_cells.specs.Sight.{IsPlainRegion};
 ghost use Rattle.px_region.specs.Promise.{IsAlike, IsSamePromise};
 ghost use Rattle.px_region.specs.Region.{read_of};
@@ -8,6 +9,7 @@ ghost use Rattle.px_rows.specs.Keys.{IsRightTable, row_key};
 ghost use Rattle.px_rows.specs.Spelled.{IsPlainAt, row_form};
 
 use crate::gathered::Gathered;
+use px_cells::Cell;
 use px_outside::Disk;
 use px_region::{LookFault, Region};
 use px_rows::row_at;
@@ -45,4 +47,25 @@ pub fn row_state<D: Disk>(
         Ok(state) => Ok(state),
         Err(_) => Err(LookFault::Memory),
     }
+}
+
+/// The cells of a key, in their order.
+///
+/// They are found in logarithmic time, and count as one row looked at. Nothing else of the region or the disk changes. It is
+/// refused with `Memory` alone.
+pub fn row_cells<D: Disk>(
+    alloc: Global,
+    disk: &mut D,
+    region: &mut Region,
+    key: &[u8],
+) -> Result<Vec<Cell>, LookFault>
+    ensures cells { IfOk result (λ cells. IsRow (read_of region.old) key.now cells.items) }
+    ensures looked { region.new.looked ≡ min (region.old.looked + 1) 18446744073709551615 }
+    ensures alike { IsAlike region.old region.new }
+    ensures promised { IsSamePromise region.old region.new }
+    ensures untouched { disk.new ≡ disk.old }
+{
+    let mut gathered = Gathered::new(alloc, 1);
+    region.row_versions(disk, key, &mut gathered)?;
+    Ok(gathered.cells)
 }

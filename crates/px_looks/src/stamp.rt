@@ -12,7 +12,7 @@ use px_region::{LookFault, Region};
 use std::alloc::Global;
 
 /// Whether one of the cells has the stamp.
-fn any_of(cells: &[Cell], stamp: u64) -> bool
+pub fn any_of_stamp(cells: &[Cell], stamp: u64) -> bool
     ensures { result ≡ has_stamp stamp cells.now }
 {
     cells.iter().any(|cell| cell.stamp() == stamp)
@@ -38,5 +38,5 @@ pub fn has_cell_of<D: Disk>(
 {
     let mut gathered = Gathered::new(alloc, 1);
     region.row_versions(disk, key, &mut gathered)?;
-    Ok(any_of(&gathered.cells, stamp))
+    Ok(any_of_stamp(&gathered.cells, stamp))
 }

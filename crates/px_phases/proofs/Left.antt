@@ -23,7 +23,7 @@ use Rattle.px_values.specs.declared.change.What.{What}
 use Rattle.px_values.specs.declared.row.Value.{Value}
 use Rattle.px_phases.specs.Batch.{AllFit, AreHeldAs, BatchData, IsHeldAs, is_left_in, left_in, pending_state}
 
-left_same : (b : BatchData) (h : HeldBatch) → IsHeldAs b h → (r : List Value) → left_in b r ≡ left_of h r
+pub left_same : (b : BatchData) (h : HeldBatch) → IsHeldAs b h → (r : List Value) → left_in b r ≡ left_of h r
 left_same b h is r = by b.puts refl (change_of b.changes r) refl
   where
     written : (o : Option (List (List CellData))) → b.puts ≡ o → has h.written r ≡ (not (is_some o) && is_some (change_of b.changes r))

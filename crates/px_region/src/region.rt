@@ -69,6 +69,7 @@ impl Region {
     ghost use Rattle.px_cells.specs.CellData.{CellData};
     ghost use Rattle.px_cellbytes.specs.Reading.{IsWritten};
     ghost use Rattle.px_wal.specs.Files.{HasFile};
+    ghost use Rattle.px_wal.specs.Manifest.{names};
     ghost use Rattle.px_region.specs.declared.fault.PromiseFault.TheVariants.{Busy, NotReady};
 
     /// Its number.
@@ -76,6 +77,13 @@ impl Region {
         ensures { result ≡ self.now.number }
     {
         self.number
+    }
+
+    /// Up to which stamp its files were compacted.
+    pub fn horizon(&self) -> u64
+        ensures { result ≡ (names self.now.manifest).horizon }
+    {
+        self.manifest.snapshot().horizon
     }
 
     /// Whether its log is open, and a batch appended to it counts. The last batch of a folder that no program left may lie

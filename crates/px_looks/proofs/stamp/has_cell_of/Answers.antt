@@ -10,4 +10,4 @@ returns-clause-stands g c =
     let z = c.in_ok-row_versions.ensures.read [] (c.new-gathered.ensures.cells, no_rows _ c.new-gathered.ensures.rows) in
     let is = subst (IsRow (read_of c.args.region.now) c.args.key.now) (sym (c.deref.ensures.value ∙ z.2.0)) z.1 in
     let told = stamp_told (read_of c.args.region.now) c.deref.result.now c.args.key.now c.args.stamp is in
-    ((λ h. told.0 (sym c.any_of.ensures ∙ h)), (λ h. c.any_of.ensures ∙ told.1 h))
+    ((λ h. told.0 (sym c.any_of_stamp.ensures ∙ h)), (λ h. c.any_of_stamp.ensures ∙ told.1 h))

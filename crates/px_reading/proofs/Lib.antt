@@ -1,0 +1,4 @@
+pub mod Looked
+pub mod Worlds
+pub mod Flight
+pub mod Looks

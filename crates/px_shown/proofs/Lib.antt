@@ -1,0 +1,10 @@
+pub mod Paths
+pub mod ShownRows
+pub mod RowsAt
+pub mod KeyLooks
+pub mod RowLooks
+pub mod OwnKeys
+pub mod Tables
+pub mod Holders
+pub mod Points
+pub mod Owners
