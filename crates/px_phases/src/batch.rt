@@ -96,6 +96,21 @@ impl OpenBatch {
         self.closes.len()
     }
 
+    /// For each change, whether another batch was pending on its row.
+    pub fn met(&self) -> &[bool]
+        ensures { result.now ≡ self.now.met }
+    {
+        self.met.as_slice()
+    }
+
+    /// What closes the marks at the next index, those of the rows too on which another batch was pending.
+    pub fn next_closes(&self) -> &KeptCells
+        requires { 0 < length self.now.closes }
+        ensures { (parts : List (List CellData)) (rest : List (List (List CellData))) → self.now.closes ≡ parts ∷ rest → result.now ≡ parts }
+    {
+        &self.closes[0]
+    }
+
     /// Another batch begins with these changes. Where this one is still to write its rows, it was met on those of its rows that
     /// the other changes too.
     pub fn meet(&mut self, others: &Changes)

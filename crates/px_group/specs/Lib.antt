@@ -1,0 +1,3 @@
+pub mod Group
+pub mod Room
+pub mod Writing
