@@ -10,9 +10,9 @@ use std::process::Abort;
 use std::test::Fail;
 
 /// The key of the row with the number 5, and that of its index row where C is 'b'.
-const ROW: [u8; 1] = [0x85];
+static ROW: [u8; 1] = [0x85];
 
-const INDEX_ROW: [u8; 3] = [0x62, 0, 0x85];
+static INDEX_ROW: [u8; 3] = [0x62, 0, 0x85];
 
 fn column(alloc: Global, name: &str, column_type: ColType) -> Result<TableColumn, AllocError> {
     let name = Name::from_str(alloc, name)?;
@@ -75,6 +75,24 @@ fn index(alloc: Global, parts: &[u8], included: &[u8]) -> Result<Index, AllocErr
         parts,
         included: Items::of(included),
     })
+}
+
+/// A cell at the stamp 9.
+#[derive(Clone, Copy)]
+struct Tried {
+    key: &'static [u8],
+    qualifier: u8,
+    kind: CellKind,
+    value: &'static [u8],
+}
+
+fn case(key: &'static [u8], qualifier: u8, kind: CellKind, value: &'static [u8]) -> Tried {
+    Tried {
+        key,
+        qualifier,
+        kind,
+        value,
+    }
 }
 
 fn cell(
@@ -191,70 +209,57 @@ fn is_key_cell(
     }
 }
 
-#[test]
-fn right_cells_of_rows(rt: HostRuntime) -> Result<(), Fail> {
-    assert!(rt; is_row_cell(rt.alloc(), &ROW, 0, CellKind::DeleteFamily, &[])?);
-    assert!(rt; is_row_cell(rt.alloc(), &ROW, 1, CellKind::Put, &[])?);
-    assert!(rt; is_row_cell(rt.alloc(), &ROW, 3, CellKind::Put, b"bo")?);
-    assert!(rt; is_row_cell(rt.alloc(), &ROW, 3, CellKind::DeleteColumn, &[])?);
-    assert!(rt;
-        is_row_cell(
-            rt.alloc(),
-            &ROW,
-            4,
-            CellKind::Put,
-            &[0x7f, 0xff, 0xff, 0xff]
-        )?
-    );
-    Ok(())
+/// Whether each of these cells is right in the table with the primary key ID, or each isn't.
+fn row_cells_are(alloc: Global, cases: &[Tried], right: bool) -> Result<bool, AllocError> {
+    for case in cases {
+        if is_row_cell(alloc, case.key, case.qualifier, case.kind, case.value)? != right {
+            return Ok(false);
+        }
+    }
+    Ok(true)
+}
+
+/// Whether each of these cells is right in the index of C that includes A, or each isn't.
+fn key_cells_are(alloc: Global, cases: &[Tried], right: bool) -> Result<bool, AllocError> {
+    for case in cases {
+        if is_key_cell(alloc, case.key, case.qualifier, case.kind, case.value)? != right {
+            return Ok(false);
+        }
+    }
+    Ok(true)
 }
 
 #[test]
+fn cells_of_rows(rt: HostRuntime) -> Result<(), Fail> {
+    let right = [
+        case(&ROW, 0, CellKind::DeleteFamily, &[]),
+        case(&ROW, 1, CellKind::Put, &[]),
+        case(&ROW, 3, CellKind::Put, b"bo"),
+        case(&ROW, 3, CellKind::DeleteColumn, &[]),
+        case(&ROW, 4, CellKind::Put, &[0x7f, 0xff, 0xff, 0xff]),
+    ];
+    assert!(rt; row_cells_are(rt.alloc(), &right, true)?);
+    Ok(())
+}
+
+/// No key, Delete, a marker of one version, an empty column with a value, a column of the key and one that isn't there, bytes that
+/// are no text of a column, and a number past its type.
+#[test]
 fn wrong_cells_of_rows(rt: HostRuntime) -> Result<(), Fail> {
-    assert!(rt;
-        !is_row_cell(rt.alloc(), &[0x85, 0], 1, CellKind::Put, &[])?,
-        "key"
-    );
-    assert!(rt;
-        !is_row_cell(rt.alloc(), &[], 1, CellKind::Put, &[])?,
-        "no key"
-    );
-    assert!(rt;
-        !is_row_cell(rt.alloc(), &ROW, 3, CellKind::Delete, &[])?,
-        "Delete"
-    );
-    assert!(rt;
-        !is_row_cell(rt.alloc(), &ROW, 0, CellKind::DeleteFamilyVersion, &[])?,
-        "version"
-    );
-    assert!(rt;
-        !is_row_cell(rt.alloc(), &ROW, 1, CellKind::Put, &[1])?,
-        "empty column"
-    );
-    assert!(rt;
-        !is_row_cell(rt.alloc(), &ROW, 2, CellKind::Put, &[0x85])?,
-        "column of the key"
-    );
-    assert!(rt;
-        !is_row_cell(rt.alloc(), &ROW, 5, CellKind::Put, &[1])?,
-        "no column"
-    );
-    assert!(rt;
-        !is_row_cell(rt.alloc(), &ROW, 3, CellKind::Put, &[0xff])?,
-        "no text"
-    );
-    assert!(rt;
-        !is_row_cell(rt.alloc(), &ROW, 3, CellKind::Put, &[])?,
-        "empty text"
-    );
-    assert!(rt;
-        !is_row_cell(rt.alloc(), &ROW, 3, CellKind::Put, &[0x62, 0])?,
-        "zero in a text"
-    );
-    assert!(rt;
-        !is_row_cell(rt.alloc(), &ROW, 4, CellKind::Put, &[0x80, 0, 0, 0])?,
-        "too large"
-    );
+    let wrong = [
+        case(&[0x85, 0], 1, CellKind::Put, &[]),
+        case(&[], 1, CellKind::Put, &[]),
+        case(&ROW, 3, CellKind::Delete, &[]),
+        case(&ROW, 0, CellKind::DeleteFamilyVersion, &[]),
+        case(&ROW, 1, CellKind::Put, &[1]),
+        case(&ROW, 2, CellKind::Put, &[0x85]),
+        case(&ROW, 5, CellKind::Put, &[1]),
+        case(&ROW, 3, CellKind::Put, &[0xff]),
+        case(&ROW, 3, CellKind::Put, &[]),
+        case(&ROW, 3, CellKind::Put, &[0x62, 0]),
+        case(&ROW, 4, CellKind::Put, &[0x80, 0, 0, 0]),
+    ];
+    assert!(rt; row_cells_are(rt.alloc(), &wrong, false)?);
     Ok(())
 }
 
@@ -265,57 +270,62 @@ fn keys_of_1024_bytes(rt: HostRuntime) -> Result<(), Fail> {
     Ok(())
 }
 
-/// Cells of one key, of which the last is right, and then wrong.
+/// Three cells of one row, of which the last puts these bytes.
+fn three_cells(alloc: Global, last: &[u8]) -> Result<Cells, AllocError> {
+    let mut cells = Cells::new(alloc);
+    cells.push(cell(alloc, &ROW, 1, CellKind::Put, &[])?)?;
+    cells.push(cell(alloc, &ROW, 3, CellKind::Put, b"bo")?)?;
+    cells.push(cell(alloc, &ROW, 4, CellKind::Put, last)?)?;
+    Ok(cells)
+}
+
+fn are_right_with(alloc: Global, last: &[u8]) -> Result<bool, AllocError> {
+    let cells = three_cells(alloc, last)?;
+    match table(alloc, &[0]) {
+        Ok(table) => {
+            let right = are_rows(alloc, &table, &cells);
+            drop(table);
+            drop(cells);
+            right
+        }
+        Err(fault) => {
+            drop(cells);
+            Err(fault)
+        }
+    }
+}
+
 #[test]
 fn the_last_cell_counts(rt: HostRuntime) -> Result<(), Fail> {
-    let table = table(rt.alloc(), &[0])?;
-    let mut cells = Cells::new(rt.alloc());
-    cells.push(cell(rt.alloc(), &ROW, 1, CellKind::Put, &[])?)?;
-    cells.push(cell(rt.alloc(), &ROW, 3, CellKind::Put, b"bo")?)?;
-    assert!(rt; are_rows(rt.alloc(), &table, &cells)?);
-    cells.push(cell(rt.alloc(), &ROW, 4, CellKind::Put, &[0xff; 4])?)?;
-    assert!(rt; !are_rows(rt.alloc(), &table, &cells)?);
+    assert!(rt; are_right_with(rt.alloc(), &[0; 4])?);
+    assert!(rt; !are_right_with(rt.alloc(), &[0xff; 4])?);
     Ok(())
 }
 
 #[test]
 fn cells_of_an_index(rt: HostRuntime) -> Result<(), Fail> {
-    assert!(rt;
-        is_key_cell(
-            rt.alloc(),
-            &INDEX_ROW,
-            0,
-            CellKind::DeleteFamilyVersion,
-            &[]
-        )?
-    );
-    assert!(rt; is_key_cell(rt.alloc(), &INDEX_ROW, 1, CellKind::Put, &[1])?);
-    assert!(rt; is_key_cell(rt.alloc(), &INDEX_ROW, 1, CellKind::Put, &[2])?);
-    assert!(rt; is_key_cell(rt.alloc(), &INDEX_ROW, 4, CellKind::Put, &[0, 0, 0, 7])?);
-    assert!(rt;
-        !is_key_cell(rt.alloc(), &[0x62, 0], 1, CellKind::Put, &[1])?,
-        "key"
-    );
-    assert!(rt;
-        !is_key_cell(rt.alloc(), &INDEX_ROW, 1, CellKind::Put, &[3])?,
-        "status"
-    );
-    assert!(rt;
-        !is_key_cell(rt.alloc(), &INDEX_ROW, 1, CellKind::DeleteColumn, &[])?,
-        "no status"
-    );
-    assert!(rt;
-        !is_key_cell(rt.alloc(), &INDEX_ROW, 4, CellKind::Delete, &[])?,
-        "Delete"
-    );
-    assert!(rt;
-        !is_key_cell(rt.alloc(), &INDEX_ROW, 3, CellKind::Put, b"b")?,
-        "not included"
-    );
-    assert!(rt;
-        !is_key_cell(rt.alloc(), &INDEX_ROW, 4, CellKind::Put, &[0xff; 4])?,
-        "too large"
-    );
+    let right = [
+        case(&INDEX_ROW, 0, CellKind::DeleteFamilyVersion, &[]),
+        case(&INDEX_ROW, 1, CellKind::Put, &[1]),
+        case(&INDEX_ROW, 1, CellKind::Put, &[2]),
+        case(&INDEX_ROW, 4, CellKind::Put, &[0, 0, 0, 7]),
+    ];
+    assert!(rt; key_cells_are(rt.alloc(), &right, true)?);
+    Ok(())
+}
+
+/// No key, another status and none, Delete, a column that isn't included, and a number past its type.
+#[test]
+fn wrong_cells_of_an_index(rt: HostRuntime) -> Result<(), Fail> {
+    let wrong = [
+        case(&[0x62, 0], 1, CellKind::Put, &[1]),
+        case(&INDEX_ROW, 1, CellKind::Put, &[3]),
+        case(&INDEX_ROW, 1, CellKind::DeleteColumn, &[]),
+        case(&INDEX_ROW, 4, CellKind::Delete, &[]),
+        case(&INDEX_ROW, 3, CellKind::Put, b"b"),
+        case(&INDEX_ROW, 4, CellKind::Put, &[0xff; 4]),
+    ];
+    assert!(rt; key_cells_are(rt.alloc(), &wrong, false)?);
     Ok(())
 }
 
@@ -343,11 +353,15 @@ fn is_index(alloc: Global, parts: &[u8], included: &[u8]) -> Result<bool, AllocE
 }
 
 #[test]
-fn definitions(rt: HostRuntime) -> Result<(), Fail> {
-    assert!(rt; is_table(rt.alloc(), &[0])?);
+fn tables(rt: HostRuntime) -> Result<(), Fail> {
     assert!(rt; is_table(rt.alloc(), &[2, 1])?);
     assert!(rt; !is_table(rt.alloc(), &[3])?);
     assert!(rt; !is_table(rt.alloc(), &[0, 0])?);
+    Ok(())
+}
+
+#[test]
+fn indexes(rt: HostRuntime) -> Result<(), Fail> {
     assert!(rt; is_index(rt.alloc(), &[1], &[2, 0])?);
     assert!(rt; !is_index(rt.alloc(), &[3], &[2])?);
     assert!(rt; !is_index(rt.alloc(), &[1], &[3])?);
