@@ -30,15 +30,15 @@ tallied_beside : (b : Base) (es : List Entry) (g : Group) (hs : List HeldBatch) 
     → (g' : Group) → IsSameBeside g g' → ((seat u : ℕ) → open_points seat g.table.id.0 u (es ++ e ∷ []) ≡ points_in seat u g'.points.items) → IsTallied b (es ++ e ∷ []) g' hs
 tallied_beside b es g hs k e elsewhere catalogue last g' same points = (let
     idle : IsIdle g.table.id e = act_idle g.table.id e elsewhere
-  in record {
-    standing = standing_still b es (es ++ e ∷ []) g g' (catalogue-snoc b es e ∙ catalogue) same k.standing;
-    last = ap (λ (x : Table). last_of b x.id.0 (es ++ e ∷ [])) same.table ∙ (last-snoc b g.table.id.0 es e ∙ (last ∙ (k.last ∙ sym same.last)));
-    horizon = ap (λ (x : Table). horizon_of b x.id.0 (es ++ e ∷ [])) same.table ∙ (horizon-snoc b g.table.id.0 es e ∙ (idle.horizon _ ∙ (k.horizon ∙ sym same.horizon)));
-    held = subst (λ (x : Table). HeldKept b (es ++ e ∷ []) x.id.0 hs) (sym same.table) (held_still b es g.table.id e idle.still hs k.held);
-    batches = subst (λ (xs : List Begun). AreHeldAs (map batch_in xs) hs) (sym same.batches) k.batches;
-    phases = subst (λ (x : Table). AreInPhase (es ++ e ∷ []) x.id.0 g'.batches.items hs) (sym same.table) (subst (λ (xs : List Begun). AreInPhase (es ++ e ∷ []) g.table.id.0 xs hs) (sym same.batches) (phases_still b es g.table.id e idle.still g.batches.items hs k.phases));
-    points = λ seat u. ap (λ (x : Table). open_points seat x.id.0 u (es ++ e ∷ [])) same.table ∙ points seat u;
-  })
+    in record {
+      standing = standing_still b es (es ++ e ∷ []) g g' (catalogue-snoc b es e ∙ catalogue) same k.standing;
+      last = ap (λ (x : Table). last_of b x.id.0 (es ++ e ∷ [])) same.table ∙ (last-snoc b g.table.id.0 es e ∙ (last ∙ (k.last ∙ sym same.last)));
+      horizon = ap (λ (x : Table). horizon_of b x.id.0 (es ++ e ∷ [])) same.table ∙ (horizon-snoc b g.table.id.0 es e ∙ (idle.horizon _ ∙ (k.horizon ∙ sym same.horizon)));
+      held = subst (λ (x : Table). HeldKept b (es ++ e ∷ []) x.id.0 hs) (sym same.table) (held_still b es g.table.id e idle.still hs k.held);
+      batches = subst (λ (xs : List Begun). AreHeldAs (map batch_in xs) hs) (sym same.batches) k.batches;
+      phases = subst (λ (x : Table). AreInPhase (es ++ e ∷ []) x.id.0 g'.batches.items hs) (sym same.table) (subst (λ (xs : List Begun). AreInPhase (es ++ e ∷ []) g.table.id.0 xs hs) (sym same.batches) (phases_still b es g.table.id e idle.still g.batches.items hs k.phases));
+      points = λ seat u. ap (λ (x : Table). open_points seat x.id.0 u (es ++ e ∷ [])) same.table ∙ points seat u;
+    })
 
 and_own : (u v w : Bool) → v ≡ true → (u && (v && w)) ≡ (u && w)
 and_own u true w h = refl

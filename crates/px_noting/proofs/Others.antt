@@ -1,12 +1,12 @@
 -- An entry of another table, and of what the trail tells of points.
-use Rattle.std.proofs.Common.{ℕ, ◌≡◌, ◌≢◌, ◌<◌, ◌≤◌, ◌+◌, ◌-◌, max, ◌==◌, ◌&&◌, if◌then◌else◌, Bool, true, false, Option, None, Some, List, [], ◌∷◌, ◌++◌, refl, sym, ◌∙◌, ap, subst}
+use Rattle.std.proofs.Common.{ℕ, ◌≡◌, ◌==◌, ◌&&◌, if◌then◌else◌, Bool, true, false, List, [], ◌∷◌, ◌++◌, refl, sym, ◌∙◌}
 use Rattle.std.proofs.lemmas.Bool.{ne_eqb}
 use Rattle.px_values.specs.declared.name.TableId.{TableId}
 use Rattle.px_trail.specs.declared.entry.Act.{Act}
 use Rattle.px_trail.specs.declared.entry.Act.TheVariants.{Made, IndexMade, IndexState, Dropped, Begun, Phase, Wrote, Ended, Opened, Released, Raised, Fixed, Based, Missed, Shut}
 use Rattle.px_trail.specs.declared.entry.Entry.{Entry}
 use Rattle.px_trail.specs.Batches.{batch_of}
-use Rattle.px_trail.specs.Trail.{Base, last_step, horizon_step, open_points, points_step}
+use Rattle.px_trail.specs.Trail.{Base, last_step, points_step}
 use Rattle.px_trail.proofs.Growth.{batch_of-snoc, horizon-snoc, last-snoc, points-snoc}
 use Rattle.px_indexed.specs.Idle.{IsElsewhere}
 use Rattle.px_indexed.proofs.Idle.{IsIdle, IsStill, act_idle}
@@ -104,17 +104,16 @@ module _ (b : Base) (es : List Entry) (tid : TableId) (e : Entry) (idle : IsStil
   phases_still (m ∷ ms) [] p = tt
   phases_still (m ∷ ms) (h ∷ hs) p = (record { batch = p.0.batch; is = still_batch h.stamp ∙ p.0.is; phase = p.0.phase; count = p.0.count }, phases_still ms hs p.1)
 
-  -- where the entry draws no stamp of the table, and opens and closes none of its points
 -- where the entry is no event of the group, and opens and closes none of its points
 pub tallied_apart : (b : Base) (es : List Entry) (g : Group) (hs : List HeldBatch) → IsTallied b es g hs → (e : Entry) → IsApart g.table.id e.act → AreStanding b (es ++ e ∷ []) g → IsTallied b (es ++ e ∷ []) g hs
 tallied_apart b es g hs k e apart standing = (let
     idle : IsIdle g.table.id e = act_idle g.table.id e (apart_elsewhere g.table.id e.act apart)
-  in record {
-    standing = standing;
-    last = last-snoc b g.table.id.0 es e ∙ (apart_last g.table.id _ e.act apart ∙ k.last);
-    horizon = horizon-snoc b g.table.id.0 es e ∙ (idle.horizon _ ∙ k.horizon);
-    held = held_still b es g.table.id e idle.still hs k.held;
-    batches = k.batches;
-    phases = phases_still b es g.table.id e idle.still g.batches.items hs k.phases;
-    points = λ seat s. points-snoc seat g.table.id.0 s es e ∙ (apart_points g.table.id seat s _ e.seat e.act apart ∙ k.points seat s);
-  })
+    in record {
+      standing = standing;
+      last = last-snoc b g.table.id.0 es e ∙ (apart_last g.table.id _ e.act apart ∙ k.last);
+      horizon = horizon-snoc b g.table.id.0 es e ∙ (idle.horizon _ ∙ k.horizon);
+      held = held_still b es g.table.id e idle.still hs k.held;
+      batches = k.batches;
+      phases = phases_still b es g.table.id e idle.still g.batches.items hs k.phases;
+      points = λ seat s. points-snoc seat g.table.id.0 s es e ∙ (apart_points g.table.id seat s _ e.seat e.act apart ∙ k.points seat s);
+    })

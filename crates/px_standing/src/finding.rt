@@ -25,12 +25,7 @@ fn indexes_copied(
 }
 
 /// The table at a place with all of its indexes, as they stand after so many entries of the trail.
-pub fn found(
-    alloc: Global,
-    standing: &Standing,
-    place: usize,
-    at: u64,
-) -> Result<Found, AllocError>
+pub fn found(alloc: Global, standing: &Standing, place: usize, at: u64) -> Result<Found, AllocError>
     requires { place < length standing.now.tables }
     ensures table { IfOk result (λ f. (none : Table) → f.table ≡ get_or standing.now.tables place none) }
     ensures indexes { IfOk result (λ f. f.indexes ≡ indexes_of f.table.id.0 standing.now.indexes) }

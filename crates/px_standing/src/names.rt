@@ -5,7 +5,7 @@ ghost use Rattle.px_standing.specs.Agrees.{IsUnused};
 
 use px_schema::Standing;
 use px_tables::{Index, Table};
-use px_values::Name;
+use px_values::{Name, TableId};
 
 /// The place of the table of a name among those that stand.
 pub fn table_place(standing: &Standing, name: &Name) -> Option<usize>
@@ -16,6 +16,21 @@ pub fn table_place(standing: &Standing, name: &Name) -> Option<usize>
     let tables = standing.tables.as_slice();
     for place in 0..tables.len() {
         if tables[place].name.as_str() == name.as_str() {
+            return Some(place);
+        }
+    }
+    None
+}
+
+/// The place of the table of a number among those that stand.
+pub fn numbered_place(standing: &Standing, table: TableId) -> Option<usize>
+    ensures found { IfSome result (λ p. p < length standing.now.tables) }
+    ensures numbered { IfSome result (λ p. (none : Table) → (get_or standing.now.tables p none).id ≡ table) }
+    ensures none { IfNone result (AllByRecursion (λ (t : Table). t.id.0 ≢ table.0) standing.now.tables) }
+{
+    let tables = standing.tables.as_slice();
+    for place in 0..tables.len() {
+        if tables[place].id == table {
             return Some(place);
         }
     }
@@ -38,6 +53,5 @@ fn is_free_of_indexes(indexes: &[Index], name: &Name) -> bool
 pub fn is_free(standing: &Standing, name: &Name) -> bool
     ensures { IsTrue result ↔ IsUnused standing.now name.now }
 {
-    table_place(standing, name).is_none()
-        && is_free_of_indexes(standing.indexes.as_slice(), name)
+    table_place(standing, name).is_none() && is_free_of_indexes(standing.indexes.as_slice(), name)
 }

@@ -1,4 +1,4 @@
-use Rattle.std.proofs.Common.{◌≡◌, ◌<◌, ℕ, take, drop}
+use Rattle.std.proofs.Common.{◌<◌, drop}
 use Rattle.px_group.specs.Group.{points_in}
 use Rattle.px_noting.proofs.points.place_of.Given as goal
 
