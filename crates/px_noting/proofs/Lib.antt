@@ -1,0 +1,4 @@
+pub mod Others
+pub mod OpenPoints
+pub mod Removed
+pub mod Shown

@@ -1,0 +1,27 @@
+// What entries alone leave of a group.
+ghost use Rattle.std.specs.Prelude.{◌≡◌, ◌++◌, ◌∷◌, [], ◌<◌, ℕ, Bool, List};
+ghost use Rattle.px_forms.specs.Indexes.{IndexForm};
+ghost use Rattle.px_group.specs.declared.group.Group.{Group};
+ghost use Rattle.px_group.specs.declared.group.OpenPoint.{OpenPoint};
+ghost use Rattle.px_group.specs.Group.{AreStanding, IsShownBy, IsTallied};
+ghost use Rattle.px_groupworld.specs.Group.{GroupData};
+ghost use Rattle.px_indexed.specs.Idle.{IsElsewhere};
+ghost use Rattle.px_openbatches.specs.Pending.{HeldBatch};
+ghost use Rattle.px_trail.specs.declared.entry.Act.TheVariants.{Opened, Released};
+ghost use Rattle.px_trail.specs.declared.entry.Entry.{Entry};
+ghost use Rattle.px_trail.specs.Legal.{MayCome};
+ghost use Rattle.px_trail.specs.Trail.{Base};
+ghost use Rattle.px_noting.specs.Apart.{IsApart};
+ghost use Rattle.px_noting.specs.Points.{HasOpened, HasReleased};
+
+/// An entry of another table leaves what the trail tells of a group; it and an entry of points, repairs and indexes leave what it shows.
+pub fn law_others()
+    ensures tallied { (b : Base) → (es : List Entry) → (g : Group) → (hs : List HeldBatch) → IsTallied b es g hs → (e : Entry) → IsApart g.table.id e.act → AreStanding b (es ++ e ∷ []) g → IsTallied b (es ++ e ∷ []) g hs }
+    ensures shown { (b : Base) → (index : ℕ → IndexForm) → (es : List Entry) → (g : Group) → (v : GroupData) → (hs : List HeldBatch) → IsShownBy b index es g v hs → (e : Entry) → MayCome b es e → IsElsewhere g.table.id e.act → IsShownBy b index (es ++ e ∷ []) g v hs }
+{}
+
+/// The open points of a group stay those of the trail where one is opened or closed.
+pub fn law_points()
+    ensures opened { (b : Base) → (es : List Entry) → (g : Group) → (hs : List HeldBatch) → IsTallied b es g hs → (e : Entry) → (s : ℕ) → (scn : Bool) → e.act ≡ Opened g.table.id s scn → (g' : Group) → HasOpened g g' e.seat s → IsTallied b (es ++ e ∷ []) g' hs }
+    ensures released { (b : Base) → (es : List Entry) → (g : Group) → (hs : List HeldBatch) → IsTallied b es g hs → (e : Entry) → (s : ℕ) → e.act ≡ Released g.table.id s → (g' : Group) → HasReleased g g' e.seat s → IsTallied b (es ++ e ∷ []) g' hs }
+{}
