@@ -1,8 +1,5 @@
 -- The row that an index key holds.
-use Rattle.std.proofs.Common.{◌≡◌, ◌≢◌, ℕ, suc, ◌<◌, Bool, true, false, cond, ◌||◌, Option, Some, None, List, [], ◌∷◌, ◌++◌, map, length, get_or, refl, ap, sym, subst, ◌∙◌, inl, inr}
-use Rattle.std.specs.Prelude.{nat_eq}
-use Rattle.std.specs.List.{list_any}
-use Rattle.std.specs.Cmp.Lexicographic.{pointwise}
+use Rattle.std.proofs.Common.{◌≡◌, ℕ, Bool, true, false, ◌||◌, Option, Some, None, List, [], ◌++◌, get_or, refl, ap, sym, subst, ◌∙◌, inl, inr}
 use Rattle.std.proofs.lemmas.Bool.{cases_Bool, cond-true, cond-false, both_ways}
 use Rattle.std.proofs.lemmas.Slice.Eq.{bytes_eq-Decides}
 use Rattle.px_values.specs.States.{RowState}
@@ -11,13 +8,12 @@ use Rattle.px_values.specs.declared.row.Value.TheVariants.{Null}
 use Rattle.px_keys.specs.Spelling.{IsKeyOf}
 use Rattle.px_keys.proofs.KeyOrders.{spelled_same}
 use Rattle.px_tables.specs.declared.index.Index.{Index}
-use Rattle.px_tables.specs.declared.table.KeyPlace.{KeyPlace}
 use Rattle.px_tables.specs.declared.table.Table.{Table}
 use Rattle.px_trail.specs.States.{key_in}
 use Rattle.px_trail.specs.Trail.{Base, shape_of, table_shape}
 use Rattle.px_trail.specs.declared.entry.Entry.{Entry}
 use Rattle.px_paths.specs.Paths.{columns_on, index_path, is_keyed, key_on, owner_of, value_among, values_on}
-use Rattle.px_rows.specs.Keys.{IsRightTable, is_part}
+use Rattle.px_rows.specs.Keys.{IsRightTable}
 use Rattle.px_indexrow.specs.Form.{IsRightIndex, key_of_state}
 use Rattle.px_calls.specs.Looks.{IsRowAt, key_by, row_at}
 use Rattle.px_calls.specs.Requires.{index_in}
@@ -27,7 +23,7 @@ use Rattle.px_shown.specs.Told.{AreStates, IsHolder, is_key_in, keyed_if}
 use Rattle.px_shown.proofs.KeyLooks.{key_is}
 use Rattle.px_shown.proofs.OwnKeys.{columns_of, map_same}
 use Rattle.px_shown.proofs.RowsAt.{index_fits, index_key, row_state, some_same, state_row}
-use Rattle.px_shown.proofs.ShownRows.{among_row, placed, placed_path}
+use Rattle.px_shown.proofs.ShownRows.{among_row, placed_path}
 
 -- the primary key values of a row are among those of its index key
 pub owner_is : (t : Table) (x : Index) (row : List Value) → owner_of t (index_path t x) (values_on (index_path t x) row) ≡ key_in (table_shape t) row

@@ -1,17 +1,14 @@
 -- What is found at the keys of an index is what a look of its path shows.
-use Rattle.std.proofs.Common.{◌≡◌, ◌≢◌, ℕ, zero, suc, ◌<◌, ◌≤◌, Bool, true, false, cond, ◌⊎◌, inl, inr, Option, Some, None, List, [], ◌∷◌, ◌++◌, length, refl, ap, sym, subst, ◌∙◌, arith}
-use Rattle.std.specs.Prelude.{is_some}
-use Rattle.std.proofs.lemmas.Bool.{cases_Bool}
+use Rattle.std.proofs.Common.{◌≡◌, ℕ, ◌≤◌, Bool, true, false, ◌⊎◌, inl, inr, Option, Some, None, List, [], ◌++◌, length, refl, ap, sym, subst, ◌∙◌}
 use Rattle.px_cells.specs.Contents.{Contents}
 use Rattle.px_cells.specs.declared.kind.CellKind.TheVariants.{Put}
 use Rattle.px_values.proofs.Equal.{row_order-Decides}
 use Rattle.px_values.specs.Limits.{most_key}
 use Rattle.px_values.specs.States.{RowState}
 use Rattle.px_values.specs.declared.row.Value.{Value}
-use Rattle.px_keys.specs.Spelling.{IsKeyOf, spelled}
+use Rattle.px_keys.specs.Spelling.{IsKeyOf}
 use Rattle.px_keys.specs.Reading.{IsKey}
 use Rattle.px_keys.proofs.KeyOrders.{spelled_same}
-use Rattle.px_tables.specs.declared.found.Found.{Found}
 use Rattle.px_tables.specs.declared.index.Index.{Index}
 use Rattle.px_tables.specs.declared.table.Table.{Table}
 use Rattle.px_trail.specs.Answers.{IsAmong}
@@ -21,7 +18,7 @@ use Rattle.px_trail.specs.declared.entry.Entry.{Entry}
 use Rattle.px_paths.specs.Paths.{FitsRow, columns_on, index_path, key_on, shown_on, values_on}
 use Rattle.px_rows.specs.Keys.{IsRightTable}
 use Rattle.px_indexrow.proofs.KeysHeld.{form_laws}
-use Rattle.px_indexrow.specs.Form.{IsRightIndex, column_bytes, included_at, key_of_state, owns, row_of_index}
+use Rattle.px_indexrow.specs.Form.{IsRightIndex, column_bytes, key_of_state, owns, row_of_index}
 use Rattle.px_calls.specs.Looks.{AreDoubtsOf, IsDoubtOf, IsRightRow, IsRowAt, IsShown, Shows, ShowsRows, columns_by, found_by, index_columns, is_covered, is_on, is_past, key_by, key_found, row_at, shown_by, shown_in}
 use Rattle.px_calls.specs.Requires.{index_in}
 use Rattle.px_calls.specs.declared.query.By.{By}
@@ -37,7 +34,7 @@ use Rattle.px_looks.specs.IndexKeys.{ShowsKey, found_of, found_with, row_shown}
 use Rattle.px_looks.specs.Versions.{is_verified, stamp_seen, value_seen}
 use Rattle.px_looks.proofs.Spelling.{seen_stands}
 use Rattle.px_shown.specs.Told.{AreStates, TellsOf}
-use Rattle.px_shown.proofs.RowsAt.{fits_key, fits_state, index_fits, index_key, on_within, row_fits, row_state, some_same, state_row, within_on}
+use Rattle.px_shown.proofs.RowsAt.{fits_state, index_fits, index_key, on_within, row_fits, row_state, some_same, state_row, within_on}
 use Rattle.px_shown.proofs.ShownRows.{shown_is}
 
 -- a key's own row

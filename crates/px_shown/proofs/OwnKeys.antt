@@ -1,5 +1,5 @@
 -- A row that cells spell has the values of its primary key at its columns.
-use Rattle.std.proofs.Common.{◌≡◌, ◌≢◌, ℕ, zero, suc, ◌+◌, ◌<◌, Bool, true, false, cond, not, ◌&&◌, ◌||◌, Option, Some, None, List, [], ◌∷◌, map, length, get_or, replicate, refl, ap, sym, ◌∙◌, subst, inl, inr, arith}
+use Rattle.std.proofs.Common.{◌≡◌, ℕ, zero, suc, ◌+◌, ◌<◌, Bool, true, false, not, ◌||◌, Option, Some, None, List, [], ◌∷◌, map, length, get_or, replicate, refl, ap, sym, ◌∙◌, subst, inl, inr, arith}
 use Rattle.std.specs.Prelude.{nat_eq, slice_set}
 use Rattle.std.specs.List.{All}
 use Rattle.std.proofs.lemmas.Bool.{and_parts, both_ways, cases_eq, eq-eqb, ne_eqb, not-true}
@@ -23,7 +23,6 @@ use Rattle.px_indexrow.proofs.KeysHeld.{row_count}
 use Rattle.px_cellshapes.specs.Rows.{AreRightRows}
 use Rattle.px_cellshapes.proofs.Each.{none_if}
 use Rattle.px_cellshapes.proofs.Typed.{short_key, spelled_fits}
-use Rattle.px_looks.proofs.Spelling.{seen_stands}
 use Rattle.px_shown.specs.Told.{SpellsRows}
 
 overlay_at : (o : ℕ → Option Value) (i : ℕ) (xs : List Value) (c : ℕ) (d : Value) → c < length xs → get_or (overlay o i xs) c d ≡ pick (o (i + c)) (get_or xs c d)

@@ -1,22 +1,17 @@
 -- The values of keys, as paths and as index rows have them.
-use Rattle.std.proofs.Common.{◌≡◌, ℕ, zero, suc, Bool, true, false, cond, not, ◌&&◌, ◌||◌, if◌then◌else◌, List, [], ◌∷◌, ◌++◌, map, filter, get_or, slice_get, refl, ap, sym, ◌∙◌, subst, inl, inr}
+use Rattle.std.proofs.Common.{◌≡◌, ℕ, Bool, true, false, cond, not, List, [], ◌∷◌, ◌++◌, map, filter, get_or, refl, ap, sym, ◌∙◌, inl, inr}
 use Rattle.std.specs.Prelude.{nat_eq}
-use Rattle.std.specs.List.{list_any}
-use Rattle.std.proofs.lemmas.Bool.{cases_Bool, cond-true, cond-false, eq-eqb, eqb-true}
-use Rattle.px_values.specs.declared.column.ColType.{ColType}
-use Rattle.px_values.specs.declared.column.ColType.TheVariants.{TinyInt, SmallInt, Integer, BigInt, UnsignedInt, UnsignedLong, Boolean, Varchar}
+use Rattle.std.proofs.lemmas.Bool.{cases_Bool, cond-true, cond-false, eqb-true}
 use Rattle.px_values.specs.declared.row.Value.{Value}
 use Rattle.px_values.specs.declared.row.Value.TheVariants.{Null}
-use Rattle.px_keys.specs.declared.parts.KeyColumn.{KeyColumn}
 use Rattle.px_tables.specs.declared.index.Index.{Index}
 use Rattle.px_tables.specs.declared.table.KeyPlace.{KeyPlace}
 use Rattle.px_tables.specs.declared.table.Table.{Table}
 use Rattle.px_tables.specs.declared.table.TableColumn.{TableColumn}
 use Rattle.px_trail.specs.States.{key_in}
 use Rattle.px_trail.specs.Trail.{table_shape}
-use Rattle.px_paths.specs.Paths.{columns_on, index_part, index_path, is_keyed, is_text, key_part, may_be_null_in, table_path, type_in, values_on}
-use Rattle.px_rows.specs.Keys.{column_in, is_part, key_admits_null, key_column, row_columns}
-use Rattle.px_indexrow.specs.Form.{index_column, index_columns, index_places, index_values, rest_of, value_in}
+use Rattle.px_paths.specs.Paths.{index_part, index_path, is_keyed, key_part, table_path, values_on}
+use Rattle.px_indexrow.specs.Form.{index_places, index_values, rest_of, value_in}
 
 -- the parts of the primary key that aren't indexed
 abbrev pub others : List KeyPlace → List KeyPlace → List KeyPlace

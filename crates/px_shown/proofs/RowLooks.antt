@@ -14,7 +14,7 @@ use Rattle.px_paths.specs.Paths.{FitsRow, key_on, table_path}
 use Rattle.px_rows.specs.Keys.{row_columns, row_key}
 use Rattle.px_rows.specs.Spelled.{row_form}
 use Rattle.px_rows.proofs.KeysBack.{row_key-fits}
-use Rattle.px_calls.specs.Looks.{AreDoubtsOf, IsDoubtOf, IsRightRow, IsRowAt, IsShown, Shows, ShowsRows, found_by, is_covered, is_on, is_past, key_by, key_found, row_at}
+use Rattle.px_calls.specs.Looks.{IsRightRow, IsRowAt, IsShown, Shows, ShowsRows, is_covered, is_on, is_past, key_by, key_found, row_at}
 use Rattle.px_calls.specs.declared.query.By.{By}
 use Rattle.px_calls.specs.declared.query.By.TheVariants.{Table as ByTable}
 use Rattle.px_calls.specs.declared.query.Doubt.{Doubt}

@@ -1,5 +1,5 @@
 -- Keys of a path, and the rows of a table at a point.
-use Rattle.std.proofs.Common.{◌≡◌, ◌≢◌, ℕ, zero, suc, ◌<◌, Bool, true, false, cond, not, ◌&&◌, ◌⊎◌, inl, inr, Option, Some, None, List, [], ◌∷◌, map, length, get_or, refl, ap, sym, subst, ◌∙◌, arith}
+use Rattle.std.proofs.Common.{◌≡◌, ◌≢◌, ℕ, suc, ◌<◌, true, not, ◌&&◌, inr, Option, Some, None, List, [], ◌∷◌, length, get_or, refl, ap, sym, subst, ◌∙◌, arith}
 use Rattle.std.specs.Ordering.{is_lt}
 use Rattle.std.specs.declared.cmp.Ordering.{Ordering}
 use Rattle.std.specs.declared.cmp.Ordering.TheVariants.{Less, Equal, Greater}
@@ -10,7 +10,7 @@ use Rattle.px_values.specs.Types.{HasType}
 use Rattle.px_values.specs.States.{RowState, Shape}
 use Rattle.px_values.specs.declared.row.Value.{Value}
 use Rattle.px_values.specs.declared.row.Value.TheVariants.{Null}
-use Rattle.px_keys.specs.Spelling.{Fits, IsKeyOf, spelled}
+use Rattle.px_keys.specs.Spelling.{Fits, spelled}
 use Rattle.px_tables.specs.declared.index.Index.{Index}
 use Rattle.px_tables.specs.declared.table.Table.{Table}
 use Rattle.px_tables.specs.declared.table.TableColumn.{TableColumn}
@@ -18,8 +18,8 @@ use Rattle.px_trail.specs.States.{key_in}
 use Rattle.px_trail.specs.Trail.{Base, shape_of, table_shape}
 use Rattle.px_trail.specs.declared.entry.Entry.{Entry}
 use Rattle.px_paths.specs.Paths.{AreOfTypes, FitsRow, columns_on, index_path, key_on, table_path, values_on}
-use Rattle.px_rows.specs.Keys.{IsRightTable, column_in, row_columns, row_key}
-use Rattle.px_indexrow.specs.Form.{FitsState, IsRightIndex, index_columns, index_values, key_of_state}
+use Rattle.px_rows.specs.Keys.{IsRightTable, column_in, row_columns}
+use Rattle.px_indexrow.specs.Form.{FitsState, IsRightIndex, index_columns, key_of_state}
 use Rattle.px_indexrow.proofs.KeysHeld.{key_is, values_fit}
 use Rattle.px_calls.specs.Looks.{IsRowAt, is_below, is_on, row_at}
 use Rattle.px_calls.specs.declared.query.Path.{Path}

@@ -1,5 +1,5 @@
 -- What an index shows of a row.
-use Rattle.std.proofs.Common.{◌≡◌, ◌≢◌, ℕ, zero, suc, ◌+◌, ◌<◌, Bool, true, false, cond, not, ◌||◌, if◌then◌else◌, Option, Some, None, List, [], ◌∷◌, ◌++◌, map, length, get_or, refl, ap, sym, ◌∙◌, subst, inl, inr, arith}
+use Rattle.std.proofs.Common.{◌≡◌, ℕ, zero, suc, ◌+◌, ◌<◌, Bool, true, false, cond, ◌||◌, Option, Some, List, [], ◌∷◌, ◌++◌, map, length, get_or, refl, ap, sym, ◌∙◌, subst, inl, inr, arith}
 use Rattle.std.specs.Prelude.{nat_eq}
 use Rattle.std.specs.List.{list_any}
 use Rattle.std.proofs.lemmas.Bool.{cases_Bool, cases_lt, cond-true, cond-false, eqb-true, true≢false}
@@ -15,9 +15,9 @@ use Rattle.px_tables.specs.declared.table.TableColumn.{TableColumn}
 use Rattle.px_paths.specs.Paths.{index_part, index_path, is_held, is_keyed, key_part, shown_from, shown_on, value_among, values_on}
 use Rattle.px_paths.specs.declared.path.PathColumn.{PathColumn}
 use Rattle.px_rows.specs.Keys.{column_in}
-use Rattle.px_rows.specs.Stored.{stored, value_of}
+use Rattle.px_rows.specs.Stored.{stored}
 use Rattle.px_rows.proofs.KeysBack.{value_back}
-use Rattle.px_indexrow.specs.Form.{FitsState, IsRightIndex, bytes_if, column_bytes, included_at, rest_of}
+use Rattle.px_indexrow.specs.Form.{FitsState, bytes_if, column_bytes, included_at, rest_of}
 use Rattle.px_looks.specs.IndexKeys.{column_shown, columns_shown, is_included, row_shown, value_from}
 use Rattle.px_shown.proofs.Paths.{path_is}
 

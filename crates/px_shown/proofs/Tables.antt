@@ -1,29 +1,24 @@
 -- What is kept of a table tells the states of its rows, and its index cells tell of them.
-use Rattle.std.proofs.Common.{◌≡◌, ℕ, suc, ◌<◌, ◌≤◌, Bool, true, false, cond, Option, Some, None, List, [], ◌∷◌, length, get_or, max, refl, ap, sym, subst, ◌∙◌, arith}
-use Rattle.std.specs.Prelude.{nat_eq}
-use Rattle.std.specs.Cmp.Lexicographic.{pointwise}
-use Rattle.px_cells.specs.CellData.{CellData}
+use Rattle.std.proofs.Common.{◌≡◌, ℕ, ◌<◌, ◌≤◌, Bool, true, false, cond, Option, Some, None, List, length, get_or, max, ap, sym, subst, ◌∙◌}
 use Rattle.px_cells.specs.Contents.{Contents, value_at}
-use Rattle.px_cells.specs.Sight.{seen_at}
 use Rattle.px_cells.specs.declared.kind.CellKind.TheVariants.{Put}
 use Rattle.px_values.specs.States.{RowState}
 use Rattle.px_values.specs.declared.name.TableId.{TableId}
 use Rattle.px_values.specs.declared.row.Value.{Value}
-use Rattle.px_keys.specs.Spelling.{IsKeyOf}
 use Rattle.px_tables.specs.declared.index.Index.{Index}
 use Rattle.px_tables.specs.declared.table.Table.{Table}
-use Rattle.px_trail.specs.States.{key_in, state_of}
-use Rattle.px_trail.specs.Trail.{Base, last_of, table_shape}
+use Rattle.px_trail.specs.States.{state_of}
+use Rattle.px_trail.specs.Trail.{Base, last_of}
 use Rattle.px_trail.specs.declared.entry.Entry.{Entry}
-use Rattle.px_world.specs.Shape.{IsShown, Shape, has_key, key_in as holds_key}
-use Rattle.px_world.specs.World.{Absent, Status, Unverified, Verified, World, read_at, top, vis}
-use Rattle.px_forms.specs.Indexes.{IndexForm, IsIndexForm, shape_at, status_in}
+use Rattle.px_world.specs.Shape.{Shape, has_key, key_in as holds_key}
+use Rattle.px_world.specs.World.{Absent, Unverified, Verified, top}
+use Rattle.px_forms.specs.Indexes.{IndexForm, shape_at, status_in}
 use Rattle.px_forms.proofs.Views.{lawful_at}
-use Rattle.px_rows.specs.Keys.{IsRightTable, row_columns, row_key}
+use Rattle.px_rows.specs.Keys.{IsRightTable}
 use Rattle.px_rows.specs.Spelled.{row_form}
 use Rattle.px_indexrow.specs.Form.{FitsState, index_form}
 use Rattle.px_indexed.specs.Kept.{AreIndexCells}
-use Rattle.px_indexed.specs.Worlds.{Indexed, world_at}
+use Rattle.px_indexed.specs.Worlds.{Indexed}
 use Rattle.px_indexed.proofs.Looks.{top_seen, vis_is}
 use Rattle.px_indexed.proofs.Regions.{bare_at}
 use Rattle.px_groupworld.specs.Group.{GroupData, GroupKept, index_in, no_part, table_form, world_in}

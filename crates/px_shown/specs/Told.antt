@@ -1,5 +1,5 @@
 -- What the cells of an index tell of the states of its table's rows.
-use Rattle.std.specs.Prelude.{◌≡◌, ◌≢◌, ℕ, suc, ◌<◌, Bool, true, false, cond, nat_eq, if◌then◌else◌, List, length, Option, None, Some}
+use Rattle.std.specs.Prelude.{◌≡◌, ◌≢◌, ℕ, suc, ◌<◌, Bool, true, cond, nat_eq, if◌then◌else◌, List, length, Option, None, Some}
 use Rattle.std.specs.Cmp.Lexicographic.{pointwise}
 use Rattle.px_cells.specs.Contents.{Contents}
 use Rattle.px_cells.specs.declared.kind.CellKind.TheVariants.{Put}
