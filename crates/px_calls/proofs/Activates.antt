@@ -1,22 +1,20 @@
 -- What a definition asks stays true while others' entries come: a point that the seat has open keeps the table's indexes.
-use Rattle.std.proofs.Common.{ℕ, ◌≡◌, ◌≢◌, ◌<◌, ◌≤◌, ◌+◌, ◌==◌, ◌||◌, if◌then◌else◌, Bool, true, false, Option, None, Some, List, [], ◌∷◌, ◌++◌, refl, sym, ◌∙◌, ap, subst, arith, append_assoc, inl, inr}
+use Rattle.std.proofs.Common.{ℕ, ◌≡◌, ◌≢◌, ◌<◌, ◌≤◌, ◌==◌, ◌||◌, if◌then◌else◌, Bool, true, false, Option, None, Some, List, [], ◌∷◌, ◌++◌, refl, sym, ◌∙◌, ap, subst, arith, append_assoc, inl, inr}
 use Rattle.std.proofs.lemmas.Bool.{cases_eq, ne_eqb}
 use Rattle.std.proofs.lemmas.Bool.Decides.{Decides-eqb}
 use Rattle.std.proofs.lemmas.List.{append-nil}
 use Rattle.px_values.specs.declared.row.Value.{Value}
-use Rattle.px_values.specs.States.{RowState}
 use Rattle.px_tables.specs.declared.index.Index.{Index}
 use Rattle.px_tables.specs.declared.index.IndexState.{IndexState as BuildState}
 use Rattle.px_tables.specs.declared.index.IndexState.TheVariants.{Building, Active, Disabled}
 use Rattle.px_tables.specs.declared.index.NewIndex.{NewIndex}
-use Rattle.px_tables.specs.declared.table.Table.{Table}
 use Rattle.px_trail.specs.declared.entry.Act.{Act}
 use Rattle.px_trail.specs.declared.entry.Act.TheVariants.{Based, Dropped, IndexMade, IndexState, Made, Raised}
 use Rattle.px_trail.specs.declared.entry.Entry.{Entry}
 use Rattle.px_trail.specs.Batches.{IsDecided, has}
 use Rattle.px_trail.specs.Legal.{Follows, IsLegal, IsQuiet, MayCome, MayState}
 use Rattle.px_trail.specs.States.{state_of}
-use Rattle.px_trail.specs.Trail.{Base, Catalogue, acts_by, catalogue_of, catalogue_step, horizon_of, horizon_step, index_of, last_of, last_step, of_others, open_points, set_number, table_of, with_state}
+use Rattle.px_trail.specs.Trail.{Base, Catalogue, acts_by, catalogue_of, catalogue_step, horizon_of, horizon_step, index_of, last_of, of_others, open_points, set_number, table_of, with_state}
 use Rattle.px_trail.proofs.Batches.{last_step-le}
 use Rattle.px_trail.proofs.Growth.{acts_by-none, catalogue-snoc, horizon-snoc, last-snoc, legal-prefix}
 use Rattle.px_trail.proofs.Standing.{points-kept, set_number-other, set_number-same}
@@ -150,11 +148,11 @@ abbrev grown : Known → List Entry → Known
 grown k more = record { seat = k.seat; base = k.base; damaged = k.damaged; alone = k.alone; seen = k.seen ++ more }
 
 -- one entry of another seat
-module _ (k : Known) (e : Entry) (t i : ℕ) (legal : IsLegal k.base (k.seen ++ e ∷ [])) (apart : acts_by k.seat (e ∷ []) ≡ []) (h : MayActivate k t i) where
+module _ (sound : Type 0) (k : Known) (e : Entry) (t i : ℕ) (legal : IsLegal k.base (k.seen ++ e ∷ [])) (apart : acts_by k.seat (e ∷ []) ≡ []) (h : MayActivate sound k t i) where
   may : MayCome k.base k.seen e
   may = legal.each k.seen e [] refl
 
-  more : (x y : Index) → index_of k.base k.seen i ≡ Some y → y.table.0 ≡ t → (IsQuiet k.seen t → ⊥) → y.birth ≡ x.birth → x.state ≢ Disabled → CanActivate k t i y → CanActivate (grown k (e ∷ [])) t i x
+  more : (x y : Index) → index_of k.base k.seen i ≡ Some y → y.table.0 ≡ t → (IsQuiet k.seen t → ⊥) → y.birth ≡ x.birth → x.state ≢ Disabled → CanActivate sound k t i y → CanActivate sound (grown k (e ∷ [])) t i x
   more x y is of loud birth state a =
       let points = points-kept k.seat t a.stamp k.seen (e ∷ []) apart in
       let low = low_step k.base k.seen e.seat e.calls k.seat t a.stamp y.birth e.act may.follows a.guarded a.below a.low in
@@ -167,22 +165,22 @@ module _ (k : Known) (e : Entry) (t i : ℕ) (legal : IsLegal k.base (k.seen ++ 
         guarded = (let u = a.guarded in omega arith);
         low = (let v = horizon-snoc k.base t k.seen e in omega arith);
         decided = subst (λ (p : ℕ). IsDecided (k.seen ++ e ∷ []) t p) birth (decided-stays k.base t y.birth k.seen (e ∷ []) legal a.decided a.known);
-        based = λ r some.
+        based = λ is_sound r some.
             (let was : state_of k.base k.seen t r y.birth ≢ None = (λ none. some (ap (λ (p : ℕ). state_of k.base (k.seen ++ e ∷ []) t r p) (sym birth) ∙ (state-stays k.base t r y.birth k.seen (e ∷ []) legal a.decided a.known h.table ∙ none))) in
-            based-snoc i r k.seen e ∙ (ap (λ (v : Bool). base_step i r v e.act) (a.based r was) ∙ base_kept k.base k.seen e.seat e.calls t i r e.act y may.follows h.index loud is of));
+            based-snoc i r k.seen e ∙ (ap (λ (v : Bool). base_step i r v e.act) (a.based is_sound r was) ∙ base_kept k.base k.seen e.seat e.calls t i r e.act y may.follows h.index loud is of));
       }
 
-  loud_at : (y : Index) → CanActivate k t i y → IsQuiet k.seen t → ⊥
+  loud_at : (y : Index) → CanActivate sound k t i y → IsQuiet k.seen t → ⊥
   loud_at y a q = let z = q.points k.seat a.stamp in let g = a.guarded in absurd (omega arith)
 
-  each : (x : Index) → index_of k.base (k.seen ++ e ∷ []) i ≡ Some x → x.table.0 ≡ t → CanActivate (grown k (e ∷ [])) t i x
+  each : (x : Index) → index_of k.base (k.seen ++ e ∷ []) i ≡ Some x → x.table.0 ≡ t → CanActivate sound (grown k (e ∷ [])) t i x
   each x is of =
       let c = came k.base k.seen e.seat e.calls t i e.act x may.follows h.index of (sym (ap (λ (u : Catalogue). u.indexes i) (catalogue-snoc k.base k.seen e)) ∙ is) in
       let a = h.each c.index c.is c.owner in
       let loud = loud_at c.index a in
       more x c.index c.is c.owner loud (c.birth loud) (c.state loud a.state) a
 
-  activates : MayActivate (grown k (e ∷ [])) t i
+  activates : MayActivate sound (grown k (e ∷ [])) t i
   activates = record {
     index = drawn-stays k.base i k.seen (e ∷ []) legal h.index;
     table = drawn-stays k.base t k.seen (e ∷ []) legal h.table;
@@ -194,14 +192,14 @@ unfolding acts_by
 one_apart n e apart = ap (λ (v : Bool). if v then e.act ∷ [] else []) (ne_eqb e.seat n apart)
 
 -- entries of other seats
-activates-all : (k : Known) (others : List Entry) (t i : ℕ) → IsLegal k.base (k.seen ++ others) → acts_by k.seat others ≡ [] → MayActivate k t i → MayActivate (grown k others) t i
-activates-all k [] t i legal apart h = subst (λ (l : List Entry). MayActivate (record k { seen = l }) t i) (sym (append-nil k.seen)) h
-activates-all k (e ∷ others) t i legal apart h =
+activates-all : (sound : Type 0) (k : Known) (others : List Entry) (t i : ℕ) → IsLegal k.base (k.seen ++ others) → acts_by k.seat others ≡ [] → MayActivate sound k t i → MayActivate sound (grown k others) t i
+activates-all sound k [] t i legal apart h = subst (λ (l : List Entry). MayActivate sound (record k { seen = l }) t i) (sym (append-nil k.seen)) h
+activates-all sound k (e ∷ others) t i legal apart h =
     let split : k.seen ++ e ∷ others ≡ (k.seen ++ e ∷ []) ++ others = sym (append_assoc k.seen (e ∷ []) others) in
     let none = acts_by-none k.seat e others apart in
     let l : IsLegal k.base ((k.seen ++ e ∷ []) ++ others) = subst (λ (l : List Entry). IsLegal k.base l) split legal in
-    let one = activates k e t i (legal-prefix k.base (k.seen ++ e ∷ []) others l) (one_apart k.seat e none.0) h in
-    subst (λ (l : List Entry). MayActivate (record k { seen = l }) t i) (sym split) (activates-all (grown k (e ∷ [])) others t i l none.1 one)
+    let one = activates sound k e t i (legal-prefix k.base (k.seen ++ e ∷ []) others l) (one_apart k.seat e none.0) h in
+    subst (λ (l : List Entry). MayActivate sound (record k { seen = l }) t i) (sym split) (activates-all sound (grown k (e ∷ [])) others t i l none.1 one)
 
 fits_index : (k k' : Known) (what : NewIndex) → Passes k k' → IsIndexFit k what → IsIndexFit k' what
 fits_index k k' what p h =
@@ -214,8 +212,8 @@ fits_index k k' what p h =
     }
 
 -- whether others act is nothing to it
-alone_no_matter : (v : Bool) (k : Known) (t i : ℕ) → MayActivate k t i → MayActivate (record k { alone = v }) t i
-alone_no_matter v k t i h = record {
+alone_no_matter : (sound : Type 0) (v : Bool) (k : Known) (t i : ℕ) → MayActivate sound k t i → MayActivate sound (record k { alone = v }) t i
+alone_no_matter sound v k t i h = record {
   index = h.index;
   table = h.table;
   each = λ x is of.
@@ -223,15 +221,15 @@ alone_no_matter v k t i h = record {
       record { state = a.state; stamp = a.stamp; below = a.below; known = a.known; guarded = a.guarded; low = a.low; decided = a.decided; based = a.based });
 }
 
-passes-activate : (k k' : Known) (t i : ℕ) → Passes k k' → MayActivate k t i → MayActivate k' t i
-passes-activate k k' t i p h =
+passes-activate : (sound : Type 0) (k k' : Known) (t i : ℕ) → Passes k k' → MayActivate sound k t i → MayActivate sound k' t i
+passes-activate sound k k' t i p h =
     let legal : IsLegal k.base (k.seen ++ p.others) = subst (λ (b : Base). IsLegal b (k.seen ++ p.others)) p.base (subst (λ (s : List Entry). IsLegal k'.base s) p.seen p.legal) in
-    let all = activates-all k p.others t i legal p.apart h in
-    subst (λ (z : Known). MayActivate z t i) (λ j. record { seat = sym p.seat j; base = sym p.base j; damaged = sym p.damaged j; alone = k'.alone; seen = sym p.seen j }) (alone_no_matter k'.alone (grown k p.others) t i all)
+    let all = activates-all sound k p.others t i legal p.apart h in
+    subst (λ (z : Known). MayActivate sound z t i) (λ j. record { seat = sym p.seat j; base = sym p.base j; damaged = sym p.damaged j; alone = k'.alone; seen = sym p.seen j }) (alone_no_matter sound k'.alone (grown k p.others) t i all)
 
-pub passes-define : (k k' : Known) (x : Definition) → Passes k k' → CanDefine k x → CanDefine k' x
-passes-define k k' (d.Table what) p h = h
-passes-define k k' (d.Index what) p h = fits_index k k' what p h
-passes-define k k' (d.Active t i) p h = passes-activate k k' t.0 i.0 p h
-passes-define k k' (d.DropTable t) p h = h
-passes-define k k' (d.DropIndex t i) p h = h
+pub passes-define : (sound : Type 0) (k k' : Known) (x : Definition) → Passes k k' → CanDefine sound k x → CanDefine sound k' x
+passes-define sound k k' (d.Table what) p h = h
+passes-define sound k k' (d.Index what) p h = fits_index k k' what p h
+passes-define sound k k' (d.Active t i) p h = passes-activate sound k k' t.0 i.0 p h
+passes-define sound k k' (d.DropTable t) p h = h
+passes-define sound k k' (d.DropIndex t i) p h = h

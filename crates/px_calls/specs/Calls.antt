@@ -47,8 +47,8 @@ use Rattle.px_calls.specs.declared.ticket.Writes.{Writes}
 use Rattle.px_calls.specs.declared.ticket.Writes.TheVariants as writes
 use Rattle.px_calls.specs.Known.{Known, Sees, Adds, IsRunning}
 use Rattle.px_calls.specs.Causes.{ClosedBy, HasLongKey, HasRows, stamp_at}
-use Rattle.px_calls.specs.Looks.{IsRowAt, Shows, key_by}
-use Rattle.px_calls.specs.Requires.{FitsRow, TicketIn}
+use Rattle.px_calls.specs.Looks.{IsRowAt, Shows, ShowsRows, key_by}
+use Rattle.px_calls.specs.Requires.{TicketIn}
 
 -- a call that adds nothing, on a server that isn't closed
 pub record Finds (k k' : Known) : Type 0 where
@@ -90,27 +90,27 @@ act_of (d.DropTable t) m = Dropped t None
 act_of (d.DropIndex t i) m = Dropped t (Some i)
 
 -- A new table and what is dropped have no stamp; what stands keeps its number. A new index draws a stamp, of a table without
--- rows, where nothing is under way
-abbrev pub IsMade : Definition → Known → Answered → Type 0
-IsMade (d.Table what) k m = m.stamp ≡ 0
-IsMade (d.Index what) k m = (m.stamp ≤ most_of bound.Stamps) × (HasRows k what.table.0 → ⊥)
-IsMade (d.Active t i) k m = m.number ≡ i.0
-IsMade (d.DropTable t) k m = (m.number ≡ t.0) × (m.stamp ≡ 0)
-IsMade (d.DropIndex t i) k m = (m.number ≡ i.0) × (m.stamp ≡ 0)
+-- rows, where nothing is under way; what is told of rows, if what was opened is sound
+abbrev pub IsMade : Type 0 → Definition → Known → Answered → Type 0
+IsMade sound (d.Table what) k m = m.stamp ≡ 0
+IsMade sound (d.Index what) k m = (m.stamp ≤ most_of bound.Stamps) × (sound → HasRows k what.table.0 → ⊥)
+IsMade sound (d.Active t i) k m = m.number ≡ i.0
+IsMade sound (d.DropTable t) k m = (m.number ≡ t.0) × (m.stamp ≡ 0)
+IsMade sound (d.DropIndex t i) k m = (m.number ≡ i.0) × (m.stamp ≡ 0)
 
-pub record DidDefine (k k' : Known) (x : Definition) (m : Answered) : Type 0 where
+pub record DidDefine (sound : Type 0) (k k' : Known) (x : Definition) (m : Answered) : Type 0 where
   pub adds : Adds k k' (act_of x m)
-  pub made : IsMade x k' m
+  pub made : IsMade sound x k' m
   pub at : m.at ≡ length k'.seen
 
 -- 2. Batches
 
-pub record DidBegin (k k' : Known) (t : TableId) (cs : List Change) (ticket : Ticket) : Type 0 where
+pub record DidBegin (sound : Type 0) (k k' : Known) (t : TableId) (cs : List Change) (ticket : Ticket) : Type 0 where
   pub table : ticket.table ≡ t
   pub adds : Adds k k' (Begun t ticket.stamp cs)
   pub stamp : ticket.stamp ≤ most_of bound.Stamps
   pub trail : counted_bytes k'.seen ≤ most_of bound.Trail
-  pub short : HasLongKey k'.base adds.between.seen t.0 cs → ⊥
+  pub short : sound → HasLongKey k'.base adds.between.seen t.0 cs → ⊥
 
 abbrev pub DidMark : Known → Known → Ticket → Marks → Type 0
 DidMark k k' t marks.More = Finds k k'
@@ -157,11 +157,11 @@ pub record DidOpen (k k' : Known) (t : TableId) (scn : Option ℕ) (p : Point) :
   pub found : IsFound k'.base k'.seen p.found
   pub found_table : p.found.table.id ≡ t
 
--- keys of the path in order, each sure or in doubt; and each row at the point is one that the table may have
-pub record DidLook (k k' : Known) (p : Point) (path : Path) (after : Option (List ℕ)) (c : Chunk) : Type 0 where
+-- keys of the path in order, each sure or in doubt; and of the rows at the point what is there, if what was opened is sound
+pub record DidLook (sound : Type 0) (k k' : Known) (p : Point) (path : Path) (after : Option (List ℕ)) (c : Chunk) : Type 0 where
   pub finds : Finds k k'
-  pub shows : Shows k'.base k'.seen p path after c.found c.next
-  pub fits : (row : List Value) → IsRowAt k'.base k'.seen p row → FitsRow p.found.table row
+  pub shows : Shows p path after c.found c.next
+  pub rows : sound → ShowsRows k'.base k'.seen p path after c.found c.next
   pub at : c.at ≡ length k'.seen
 
 -- 4. Doubts
@@ -198,15 +198,16 @@ abbrev pub Consulted : Known → Point → Doubt → Option Held → Type 0
 Consulted k p d None = (row : List Value) → IsRowAt k.base k.seen p row → key_by p.found (by.Index d.index) row ≢ d.key
 Consulted k p d (Some h) = IsHeld k p d h
 
--- it leaves the verdict in the doubt, which is to leave the version exactly where its change is in flight
-pub record DidConsult (k k' : Known) (p : Point) (d d' : Doubt) (h : Option Held) : Type 0 where
+-- it leaves the verdict in the doubt, which is to leave the version exactly where its change is in flight; and it finds the doubt's row, if what was
+-- opened is sound
+pub record DidConsult (sound : Type 0) (k k' : Known) (p : Point) (d d' : Doubt) (h : Option Held) : Type 0 where
   pub finds : Finds k k'
   pub index : d'.index ≡ d.index
   pub key : d'.key ≡ d.key
   pub stamp : d'.stamp ≡ d.stamp
   pub verdict : IsSome d'.verdict
   pub leave : (d'.verdict ≡ Some Leave) ↔ IsInFlight k'.base k'.seen d
-  pub held : Consulted k' p d h
+  pub held : sound → Consulted k' p d h
 
 -- the repair was made, but never where the change is in flight; or the version no longer stands unverified; or it does, and its
 -- change is in flight

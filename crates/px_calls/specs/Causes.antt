@@ -120,16 +120,16 @@ new_table_cause what (Limit bound.Ids count) k = (count ≡ most_of bound.Ids) �
 new_table_cause what (NotReady region) k = region ≡ 0
 new_table_cause what f k = ⊥
 
-abbrev pub new_index_cause : NewIndex → StepFault → Known → Type 0
-new_index_cause what NameExists k = HasName (catalogue_of k.base k.seen) what.name
-new_index_cause what NoTable k = LacksTable k what.table.0
-new_index_cause what (Limit bound.Indexes count) k = (count ≡ most_of bound.Indexes) × (most_of bound.Indexes ≤ indexes_of k what.table.0)
-new_index_cause what (Limit bound.Stamps count) k = (count ≡ most_of bound.Stamps) × (most_of bound.Stamps ≤ last_of k.base what.table.0 k.seen)
-new_index_cause what (Limit bound.Ids count) k = (count ≡ most_of bound.Ids) × RunsOut k 2
+abbrev pub new_index_cause : Type 0 → NewIndex → StepFault → Known → Type 0
+new_index_cause sound what NameExists k = HasName (catalogue_of k.base k.seen) what.name
+new_index_cause sound what NoTable k = LacksTable k what.table.0
+new_index_cause sound what (Limit bound.Indexes count) k = (count ≡ most_of bound.Indexes) × (most_of bound.Indexes ≤ indexes_of k what.table.0)
+new_index_cause sound what (Limit bound.Stamps count) k = (count ≡ most_of bound.Stamps) × (most_of bound.Stamps ≤ last_of k.base what.table.0 k.seen)
+new_index_cause sound what (Limit bound.Ids count) k = (count ≡ most_of bound.Ids) × RunsOut k 2
 -- while indexes are made of empty tables alone
-new_index_cause what (Limit bound.Build count) k = (count ≡ most_of bound.Build) × HasRows k what.table.0
-new_index_cause what (NotReady region) k = region ≡ 0
-new_index_cause what f k = ⊥
+new_index_cause sound what (Limit bound.Build count) k = (count ≡ most_of bound.Build) × (sound → HasRows k what.table.0)
+new_index_cause sound what (NotReady region) k = region ≡ 0
+new_index_cause sound what f k = ⊥
 
 abbrev pub active_cause : ℕ → ℕ → StepFault → Known → Type 0
 active_cause t i NoTable k = LacksTable k t
@@ -151,18 +151,19 @@ drop_index_cause t i (NotReady region) k = region ≡ 0
 drop_index_cause t i f k = ⊥
 
 -- of each definition
-abbrev pub definition_cause : Definition → StepFault → Known → Type 0
-definition_cause (d.Table what) f k = new_table_cause what f k
-definition_cause (d.Index what) f k = new_index_cause what f k
-definition_cause (d.Active t i) f k = active_cause t.0 i.0 f k
-definition_cause (d.DropTable t) f k = drop_table_cause t.0 f k
-definition_cause (d.DropIndex t i) f k = drop_index_cause t.0 i.0 f k
+abbrev pub definition_cause : Type 0 → Definition → StepFault → Known → Type 0
+definition_cause sound (d.Table what) f k = new_table_cause what f k
+definition_cause sound (d.Index what) f k = new_index_cause sound what f k
+definition_cause sound (d.Active t i) f k = active_cause t.0 i.0 f k
+definition_cause sound (d.DropTable t) f k = drop_table_cause t.0 f k
+definition_cause sound (d.DropIndex t i) f k = drop_index_cause t.0 i.0 f k
 
-abbrev pub define_cause : Definition → StepFault → Known → Type 0
-define_cause x WriteFault k = Unit {0}
-define_cause x (Closed call) k = ClosedBy call k
-define_cause x Memory k = Unit {0}
-define_cause x f k = definition_cause x f k
+-- what is told of rows rests on what was opened being sound
+abbrev pub define_cause : Type 0 → Definition → StepFault → Known → Type 0
+define_cause sound x WriteFault k = Unit {0}
+define_cause sound x (Closed call) k = ClosedBy call k
+define_cause sound x Memory k = Unit {0}
+define_cause sound x f k = definition_cause sound x f k
 
 abbrev pub find_cause : List ℕ → StepFault → Known → Type 0
 find_cause name NoTable k = NamesNoTable k name
@@ -200,27 +201,28 @@ pub record HasLongKey (b : Base) (es : List Entry) (t : ℕ) (cs : List Change) 
   pub among : IsAmong change cs
   pub long : IsLong (spelled (columns_on (table_path table)) change.row) ⊎ IsLongIndexed b es table change
 
--- The limits of a batch. Log and Region stand for room that only a flush could make
-abbrev pub batch_limit : ℕ → List Change → Bound → Known → Type 0
-batch_limit t cs bound.Key k = HasLongKey k.base k.seen t cs
-batch_limit t cs bound.Cells k = Unit {0}
-batch_limit t cs bound.Bytes k = Unit {0}
-batch_limit t cs bound.Stamps k = most_of bound.Stamps ≤ last_of k.base t k.seen
-batch_limit t cs bound.Trail k = most_of bound.Trail < counted_bytes k.seen + sum_by counted_change cs
-batch_limit t cs bound.Log k = Unit {0}
-batch_limit t cs bound.Region k = Unit {0}
-batch_limit t cs which k = ⊥
+-- The limits of a batch. That a key is too long is told of rows, where what was opened is sound. Log and Region stand for room that
+-- only a flush could make
+abbrev pub batch_limit : Type 0 → ℕ → List Change → Bound → Known → Type 0
+batch_limit sound t cs bound.Key k = sound → HasLongKey k.base k.seen t cs
+batch_limit sound t cs bound.Cells k = Unit {0}
+batch_limit sound t cs bound.Bytes k = Unit {0}
+batch_limit sound t cs bound.Stamps k = most_of bound.Stamps ≤ last_of k.base t k.seen
+batch_limit sound t cs bound.Trail k = most_of bound.Trail < counted_bytes k.seen + sum_by counted_change cs
+batch_limit sound t cs bound.Log k = Unit {0}
+batch_limit sound t cs bound.Region k = Unit {0}
+batch_limit sound t cs which k = ⊥
 
-abbrev pub begin_cause : ℕ → List Change → StepFault → Known → Type 0
-begin_cause t cs NoTable k = LacksTable k t
-begin_cause t cs (Limit which count) k = Stands k t × (count ≡ most_of which) × batch_limit t cs which k
-begin_cause t cs (Busy region cells bytes) k = Stands k t
-begin_cause t cs (NotReady region) k = Stands k t
-begin_cause t cs ReadFault k = Stands k t
-begin_cause t cs (Damaged file place) k = Stands k t × IsDamagedAt k file place
-begin_cause t cs (Closed call) k = ClosedBy call k
-begin_cause t cs Memory k = Unit {0}
-begin_cause t cs f k = ⊥
+abbrev pub begin_cause : Type 0 → ℕ → List Change → StepFault → Known → Type 0
+begin_cause sound t cs NoTable k = LacksTable k t
+begin_cause sound t cs (Limit which count) k = Stands k t × (count ≡ most_of which) × batch_limit sound t cs which k
+begin_cause sound t cs (Busy region cells bytes) k = Stands k t
+begin_cause sound t cs (NotReady region) k = Stands k t
+begin_cause sound t cs ReadFault k = Stands k t
+begin_cause sound t cs (Damaged file place) k = Stands k t × IsDamagedAt k file place
+begin_cause sound t cs (Closed call) k = ClosedBy call k
+begin_cause sound t cs Memory k = Unit {0}
+begin_cause sound t cs f k = ⊥
 
 -- of mark and verify_marks
 abbrev pub write_cause : StepFault → Known → Type 0

@@ -22,7 +22,7 @@ use Rattle.px_calls.specs.declared.query.FoundKey.TheVariants.{Sure, InDoubt}
 use Rattle.px_calls.specs.declared.query.FoundRow.{FoundRow}
 use Rattle.px_calls.specs.declared.query.Path.{Path}
 use Rattle.px_calls.specs.declared.query.Point.{Point}
-use Rattle.px_calls.specs.Requires.{index_in}
+use Rattle.px_calls.specs.Requires.{FitsRow, index_in}
 
 -- 1. Keys
 
@@ -97,10 +97,13 @@ IsRisingFrom low (f ∷ fs) = (is_past low (key_found f) ≡ true) × IsRisingFr
 abbrev pub IsDoubtOf : Found → By → Doubt → Type 0
 IsDoubtOf f by d = (by ≡ Indexed d.index) × IsKey most_key (columns_on (columns_by f by)) d.key
 
+-- each doubt among the keys is one
+abbrev pub AreDoubtsOf : Found → By → List FoundKey → Type 0
+AreDoubtsOf f by fs = (d : Doubt) → IsAmong (InDoubt d) fs → IsDoubtOf f by d
+
 -- a sure key has its row at the point
-abbrev pub IsRightKey : Base → List Entry → Point → By → FoundKey → Type 0
-IsRightKey b es p by (InDoubt d) = IsDoubtOf p.found by d
-IsRightKey b es p by (Sure f) = (row : List Value) × IsRowAt b es p row × (f ≡ found_by p.found by row)
+abbrev pub IsRightRow : Base → List Entry → Point → By → FoundRow → Type 0
+IsRightRow b es p by f = (row : List Value) × IsRowAt b es p row × (f ≡ found_by p.found by row)
 
 -- the row is given, sure or in doubt
 abbrev pub IsShown : List FoundKey → Found → By → List Value → Type 0
@@ -111,15 +114,20 @@ abbrev pub IsSized : List FoundKey → Option (List ℕ) → Type 0
 IsSized fs None = length fs ≤ 64
 IsSized fs (Some n) = length fs ≡ 64
 
--- What `look` gives: at most 64 keys of the path past `after`, in order, and of the rows at the point each whose key is not
--- past `next`, which is one of them
-pub record Shows (b : Base) (es : List Entry) (p : Point) (path : Path) (after : Option (List ℕ)) (fs : List FoundKey) (next : Option (List ℕ)) : Type 0 where
+-- What `look` gives: at most 64 keys of the path past `after`, in order, up to `next`, which is one of them
+pub record Shows (p : Point) (path : Path) (after : Option (List ℕ)) (fs : List FoundKey) (next : Option (List ℕ)) : Type 0 where
   pub rising : IsRisingFrom after fs
   pub sized : IsSized fs next
   pub last : (n : List ℕ) → next ≡ Some n → (f : FoundKey) × IsAmong f fs × (key_found f ≡ n)
   pub on_path : (f : FoundKey) → IsAmong f fs → is_on path (key_found f) ≡ true
   pub covered : (f : FoundKey) → IsAmong f fs → is_covered next (key_found f) ≡ true
-  pub right : (f : FoundKey) → IsAmong f fs → IsRightKey b es p path.by f
+  pub doubts : AreDoubtsOf p.found path.by fs
+
+-- What it gives of the rows at the point, each of which is one that the table may have: sure keys have one, and each is given whose key is past `after`
+-- and not past `next`
+pub record ShowsRows (b : Base) (es : List Entry) (p : Point) (path : Path) (after : Option (List ℕ)) (fs : List FoundKey) (next : Option (List ℕ)) : Type 0 where
+  pub right : (f : FoundRow) → IsAmong (Sure f) fs → IsRightRow b es p path.by f
+  pub fits : (row : List Value) → IsRowAt b es p row → FitsRow p.found.table row
   pub whole : (row : List Value) → IsRowAt b es p row
       → is_on path (key_by p.found path.by row) ≡ true → is_past after (key_by p.found path.by row) ≡ true → is_covered next (key_by p.found path.by row) ≡ true
       → IsShown fs p.found path.by row

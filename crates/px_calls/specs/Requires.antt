@@ -108,8 +108,8 @@ abbrev pub is_based : List Entry → ℕ → List Value → Bool
 is_based es i r = base_from i r false es
 
 -- the index may become active: it isn't disabled; the seat has a point open at or below its birth, so that no row's state there is
--- forgotten; and at its birth, which was drawn, all is written, and each row was based
-pub record CanActivate (k : Known) (t i : ℕ) (x : Index) : Type 0 where
+-- forgotten; and at its birth, which was drawn, all is written, and each row was based, if what was opened is sound
+pub record CanActivate (sound : Type 0) (k : Known) (t i : ℕ) (x : Index) : Type 0 where
   pub state : x.state ≢ Disabled
   pub stamp : ℕ
   pub below : stamp ≤ x.birth
@@ -117,21 +117,21 @@ pub record CanActivate (k : Known) (t i : ℕ) (x : Index) : Type 0 where
   pub guarded : 0 < open_points k.seat t stamp k.seen
   pub low : horizon_of k.base t k.seen ≤ x.birth
   pub decided : IsDecided k.seen t x.birth
-  pub based : (r : List Value) → state_of k.base k.seen t r x.birth ≢ None → is_based k.seen i r ≡ true
+  pub based : sound → (r : List Value) → state_of k.base k.seen t r x.birth ≢ None → is_based k.seen i r ≡ true
 
 -- the numbers were drawn, and if the index stands and is of that table, it may become active
-pub record MayActivate (k : Known) (t i : ℕ) : Type 0 where
+pub record MayActivate (sound : Type 0) (k : Known) (t i : ℕ) : Type 0 where
   pub index : IsDrawn k i
   pub table : IsDrawn k t
-  pub each : (x : Index) → index_of k.base k.seen i ≡ Some x → x.table.0 ≡ t → CanActivate k t i x
+  pub each : (x : Index) → index_of k.base k.seen i ≡ Some x → x.table.0 ≡ t → CanActivate sound k t i x
 
 -- a definition is one that may be asked for
-abbrev pub CanDefine : Known → Definition → Type 0
-CanDefine k (d.Table what) = IsNewTable what
-CanDefine k (d.Index what) = IsIndexFit k what
-CanDefine k (d.Active t i) = MayActivate k t.0 i.0
-CanDefine k (d.DropTable t) = Unit {0}
-CanDefine k (d.DropIndex t i) = Unit {0}
+abbrev pub CanDefine : Type 0 → Known → Definition → Type 0
+CanDefine sound k (d.Table what) = IsNewTable what
+CanDefine sound k (d.Index what) = IsIndexFit k what
+CanDefine sound k (d.Active t i) = MayActivate sound k t.0 i.0
+CanDefine sound k (d.DropTable t) = Unit {0}
+CanDefine sound k (d.DropIndex t i) = Unit {0}
 
 -- 3. Changes
 

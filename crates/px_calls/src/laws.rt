@@ -15,6 +15,8 @@ ghost use Rattle.px_calls.specs.Known.{Known, Passes, Sees, Adds, Ran, HasMade, 
 ghost use Rattle.px_calls.specs.declared.definition.Definition.{Definition as Definitions};
 ghost use Rattle.px_calls.specs.Requires.{AreFitting, CanDefine, IsOpen, IsShut, TicketIn};
 
+use crate::steps::Steps;
+
 /// Calls one after another are a run: what a seat has then seen begins with what it had seen, and its own entries in the rest are
 /// those of the calls, in order.
 pub fn law_runs()
@@ -47,9 +49,9 @@ pub fn law_points()
 
 /// What is asked of changes and definitions stays true under others' entries, since a table whose number was drawn stays as it is until
 /// it is dropped, and its indexes aren't rebuilt nor disabled while a point is open; and an own act is one since any place before it.
-pub fn law_asked()
+pub fn law_asked<S: Steps>()
     ensures tables { (b : Base) → (t : ℕ) → (es : List Entries) → (more : List Entries) → (x : Tables) → IsLegal b (es ++ more) → t < (catalogue_of b es).next → table_of b (es ++ more) t ≡ Some x → table_of b es t ≡ Some x }
     ensures fits { (k : Known) → (k' : Known) → (t : ℕ) → (cs : List RowChange) → Passes k k' → AreFitting k t cs → AreFitting k' t cs }
-    ensures defines { (k : Known) → (k' : Known) → (x : Definitions) → Passes k k' → CanDefine k x → CanDefine k' x }
+    ensures defines { (k : Known) → (k' : Known) → (x : Definitions) → Passes k k' → CanDefine S.sound k x → CanDefine S.sound k' x }
     ensures since { (k : Known) → (k' : Known) → (acts : List Acts) → (act : Acts) → (n : ℕ) → n ≤ length k.seen → Ran k k' acts → IsAmong act acts → IsAmong act (acts_by k'.seat (drop n k'.seen)) }
 {}

@@ -21,6 +21,9 @@ pub trait Steps {
     /// What the seat that calls knows of the trail.
     ghost known: { Self → Known };
 
+    /// That what was opened is sound. What is told of rows and index rows rests on it; what is told of the trail doesn't.
+    ghost sound: { Type 0 };
+
     /// The table of a name, with its indexes.
     fn find(&mut self, name: &Name) -> Result<Found, StepFault>
         ensures ok { IfOk result (DidFind (known self.old) (known self.new) name.now) }
@@ -28,9 +31,9 @@ pub trait Steps {
 
     /// Makes a table or an index, makes an index active, or drops one.
     fn define(&mut self, definition: &Definition) -> Result<Made, StepFault>
-        requires { CanDefine (known self.old) definition.now }
-        ensures ok { IfOk result (DidDefine (known self.old) (known self.new) definition.now) }
-        ensures refused { IfErr result (Refuses (define_cause definition.now) (known self.old) (known self.new)) };
+        requires { CanDefine sound (known self.old) definition.now }
+        ensures ok { IfOk result (DidDefine sound (known self.old) (known self.new) definition.now) }
+        ensures refused { IfErr result (Refuses (define_cause sound definition.now) (known self.old) (known self.new)) };
 
     /// Draws a stamp, and begins the batch.
     fn begin(&mut self, table: TableId, changes: &Changes) -> Result<Ticket, StepFault>
@@ -38,8 +41,8 @@ pub trait Steps {
         requires rows { length changes.now ≤ 1000 }
         requires distinct { is_distinct (rows_of changes.now) ≡ true }
         requires fits { AreFitting (known self.old) table.0 changes.now }
-        ensures ok { IfOk result (DidBegin (known self.old) (known self.new) table changes.now) }
-        ensures refused { IfErr result (Refuses (begin_cause table.0 changes.now) (known self.old) (known self.new)) };
+        ensures ok { IfOk result (DidBegin sound (known self.old) (known self.new) table changes.now) }
+        ensures refused { IfErr result (Refuses (begin_cause sound table.0 changes.now) (known self.old) (known self.new)) };
 
     /// Phase 1 on one region: marks the batch's index rows. It takes no memory.
     fn mark(&mut self, t: &mut Ticket) -> Result<Marks, StepFault>
@@ -83,14 +86,14 @@ pub trait Steps {
     fn look(&mut self, p: &Point, path: &Path, after: &Option<Key>) -> Result<Chunk, StepFault>
         requires open { IsOpen (known self.old) p.now }
         requires path { CanLook p.now path.now }
-        ensures ok { IfOk result (DidLook (known self.old) (known self.new) p.now path.now after.now) }
+        ensures ok { IfOk result (DidLook sound (known self.old) (known self.new) p.now path.now after.now) }
         ensures refused { IfErr result (Refuses read_cause (known self.old) (known self.new)) };
 
     /// The row of a doubt at the point, where its key is the doubt's. Leaves a verdict in the doubt.
     fn consult(&mut self, p: &Point, d: &mut Doubt) -> Result<Option<Held>, StepFault>
         requires open { IsOpen (known self.old) p.now }
         requires doubt { CanConsult p.now d.old }
-        ensures ok { IfOk result (DidConsult (known self.old) (known self.new) p.now d.old d.new) }
+        ensures ok { IfOk result (DidConsult sound (known self.old) (known self.new) p.now d.old d.new) }
         ensures same { IfErr result (λ f. d.new ≡ d.old) }
         ensures refused { IfErr result (Refuses read_cause (known self.old) (known self.new)) };
 

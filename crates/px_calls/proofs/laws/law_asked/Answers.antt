@@ -3,13 +3,13 @@ use Rattle.px_calls.proofs.Activates.{passes-define}
 use Rattle.px_calls.proofs.laws.law_asked.Goals as goal
 
 pub returns-clause-tables : goal.returns-clause-tables
-returns-clause-tables c b t es more x legal low now = table-was b t es more x legal low now
+returns-clause-tables g c b t es more x legal low now = table-was b t es more x legal low now
 
 pub returns-clause-fits : goal.returns-clause-fits
-returns-clause-fits c k k' t cs h f = passes-fits k k' t cs h f
+returns-clause-fits g c k k' t cs h f = passes-fits k k' t cs h f
 
 pub returns-clause-since : goal.returns-clause-since
-returns-clause-since c k k' acts act n low h m = ran-since k k' acts act n low h m
+returns-clause-since g c k k' acts act n low h m = ran-since k k' acts act n low h m
 
 pub returns-clause-defines : goal.returns-clause-defines
-returns-clause-defines c k k' x h f = passes-define k k' x h f
+returns-clause-defines g c k k' x h f = passes-define g.S.Steps.sound k k' x h f
