@@ -69,8 +69,8 @@ fn refused(f: StepFault) -> (DefineState, DefineTurn)
 
 /// Makes the definition.
 fn define<S: Steps>(s: &mut S, definition: &Definition) -> (DefineState, DefineTurn)
-    requires { CanDefine (S.known s.old) definition.now }
-    ensures { Turns definition.now DefineState.Defining (S.known s.old) result.0 (S.known s.new) result.1 }
+    requires { CanDefine S.sound (S.known s.old) definition.now }
+    ensures { Turns S.sound definition.now DefineState.Defining (S.known s.old) result.0 (S.known s.new) result.1 }
 {
     match s.define(definition) {
         Ok(made) => (DefineState::Over, DefineTurn::Over(Ok(made))),
@@ -80,7 +80,7 @@ fn define<S: Steps>(s: &mut S, definition: &Definition) -> (DefineState, DefineT
 
 /// Upkeep, until there is none left. Then the definition is tried again.
 fn settle<S: Steps>(s: &mut S) -> (DefineState, DefineTurn)
-    ensures { (x : Definitions) → CanDefine (S.known s.old) x → Turns x DefineState.Settling (S.known s.old) result.0 (S.known s.new) result.1 }
+    ensures { (x : Definitions) → CanDefine S.sound (S.known s.old) x → Turns S.sound x DefineState.Settling (S.known s.old) result.0 (S.known s.new) result.1 }
 {
     match s.upkeep() {
         Ok(Work::Did) => (DefineState::Settling, DefineTurn::Stepped),
@@ -110,10 +110,10 @@ impl DefineRun {
 
     /// Makes one call.
     pub fn step<S: Steps>(&mut self, s: &mut S) -> DefineTurn
-        requires fits { Fits self.old.definition self.old.state (S.known s.old) }
+        requires fits { Fits S.sound self.old.definition self.old.state (S.known s.old) }
         requires going { IsGoing self.old.state }
         ensures definition { self.new.definition ≡ self.old.definition }
-        ensures turns { Turns self.old.definition self.old.state (S.known s.old) self.new.state (S.known s.new) result }
+        ensures turns { Turns S.sound self.old.definition self.old.state (S.known s.old) self.new.state (S.known s.new) result }
     {
         let (state, turn) = match self.state {
             DefineState::Defining => define(s, &self.definition),
