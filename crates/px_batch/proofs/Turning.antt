@@ -49,27 +49,27 @@ adds_fits k k' a t cs h f =
     let e = h.extends in
     grown-fits h.between k' _ t cs e.seen e.base e.legal (passes-fits k h.between t cs h.sees.passes f)
 
-pub begins : (k k' : Known) (t : Ticket) (table : TableId) (cs : List Change) → DidBegin k k' table cs t → Turns table cs state.Beginning k (state.Marking t) k' turn.Stepped
-begins k k' t table cs h =
+pub begins : (sound : Type 0) (k k' : Known) (t : Ticket) (table : TableId) (cs : List Change) → DidBegin sound k k' table cs t → Turns sound table cs state.Beginning k (state.Marking t) k' turn.Stepped
+begins sound k k' t table cs h =
     let r = ran-adds k k' (act.Begun table t.stamp cs) h.adds in
     let a : Adds k k' (act.Begun t.table t.stamp cs) = subst (λ (n : TableId). Adds k k' (act.Begun n t.stamp cs)) (sym h.table) h.adds in
     record { acts = act.Begun table t.stamp cs ∷ []; ran = r; fits = (h.table, adds-begun k k' t cs a); told = (tt, refl); since = λ n low. grown k k' _ n r low }
 
 -- a call that adds nothing, and the batch is to be begun or upkeep to be made
-pub settles : (k k' : Known) (table : TableId) (cs : List Change) (old new : BatchState) → ((n : ℕ) → IsSince n old k → n ≤ length k.seen) → ((n : ℕ) → n ≤ length k'.seen → IsSince n new k') → begun table cs old ≡ [] → begun table cs new ≡ [] → IsGoing new → Fits table cs new k' → Sees k k' → Turns table cs old k new k' turn.Stepped
-settles k k' table cs old new from to none none' going fits h =
+pub settles : (sound : Type 0) (k k' : Known) (table : TableId) (cs : List Change) (old new : BatchState) → ((n : ℕ) → IsSince n old k → n ≤ length k.seen) → ((n : ℕ) → n ≤ length k'.seen → IsSince n new k') → begun table cs old ≡ [] → begun table cs new ≡ [] → IsGoing new → Fits table cs new k' → Sees k k' → Turns sound table cs old k new k' turn.Stepped
+settles sound k k' table cs old new from to none none' going fits h =
     let r = ran-sees k k' h in
     record { acts = []; ran = r; fits = fits; told = (going, ap (λ (l : List Act). l ++ []) none ∙ sym none'); since = λ n low. to n (grown k k' [] n r (from n low)) }
 
-pub works : (k k' : Known) (table : TableId) (cs : List Change) → AreFitting k table.0 cs → Finds k k' ⊎ ((t : TableId) × (h : ℕ) × Adds k k' (act.Raised t h)) → Turns table cs state.Settling k state.Settling k' turn.Stepped
-works k k' table cs f (inl h) = let r = ran-sees k k' h.sees in record { acts = []; ran = r; fits = passes-fits k k' table.0 cs h.sees.passes f; told = (tt, refl); since = λ n low. grown k k' _ n r low }
-works k k' table cs f (inr h) = let r = ran-adds k k' (act.Raised h.0 h.1) h.2 in record { acts = act.Raised h.0 h.1 ∷ []; ran = r; fits = adds_fits k k' _ table.0 cs h.2 f; told = (tt, refl); since = λ n low. grown k k' _ n r low }
+pub works : (sound : Type 0) (k k' : Known) (table : TableId) (cs : List Change) → AreFitting k table.0 cs → Finds k k' ⊎ ((t : TableId) × (h : ℕ) × Adds k k' (act.Raised t h)) → Turns sound table cs state.Settling k state.Settling k' turn.Stepped
+works sound k k' table cs f (inl h) = let r = ran-sees k k' h.sees in record { acts = []; ran = r; fits = passes-fits k k' table.0 cs h.sees.passes f; told = (tt, refl); since = λ n low. grown k k' _ n r low }
+works sound k k' table cs f (inr h) = let r = ran-adds k k' (act.Raised h.0 h.1) h.2 in record { acts = act.Raised h.0 h.1 ∷ []; ran = r; fits = adds_fits k k' _ table.0 cs h.2 f; told = (tt, refl); since = λ n low. grown k k' _ n r low }
 
-pub idles : (k k' : Known) (table : TableId) (cs : List Change) → AreFitting k table.0 cs → Finds k k' → Turns table cs state.Settling k state.Beginning k' turn.Stepped
-idles k k' table cs f h = settles k k' table cs state.Settling state.Beginning (λ n l. l) (λ n l. l) refl refl tt (passes-fits k k' table.0 cs h.sees.passes f) h.sees
+pub idles : (sound : Type 0) (k k' : Known) (table : TableId) (cs : List Change) → AreFitting k table.0 cs → Finds k k' → Turns sound table cs state.Settling k state.Beginning k' turn.Stepped
+idles sound k k' table cs f h = settles sound k k' table cs state.Settling state.Beginning (λ n l. l) (λ n l. l) refl refl tt (passes-fits k k' table.0 cs h.sees.passes f) h.sees
 
-pub is_busy : (k k' : Known) (table : TableId) (cs : List Change) → AreFitting k table.0 cs → Sees k k' → Turns table cs state.Beginning k state.Settling k' turn.Stepped
-is_busy k k' table cs f h = settles k k' table cs state.Beginning state.Settling (λ n l. l) (λ n l. l) refl refl tt (passes-fits k k' table.0 cs h.passes f) h
+pub is_busy : (sound : Type 0) (k k' : Known) (table : TableId) (cs : List Change) → AreFitting k table.0 cs → Sees k k' → Turns sound table cs state.Beginning k state.Settling k' turn.Stepped
+is_busy sound k k' table cs f h = settles sound k k' table cs state.Beginning state.Settling (λ n l. l) (λ n l. l) refl refl tt (passes-fits k k' table.0 cs h.passes f) h
 
 -- nothing was begun yet
 pub data IsEarly : BatchState → Type 0 where
@@ -85,13 +85,13 @@ early_none table cs old early_begin = refl
 early_none table cs old early_settle = refl
 
 -- a refusal that adds nothing ends the run
-pub stops : (k k' : Known) (table : TableId) (cs : List Change) (old : BatchState) (f : BatchFault) → IsEarly old → ((n : ℕ) → MadeSince n f k') → FaultIs table cs f k' → Sees k k' → Turns table cs old k state.Over k' (turn.Over (Err f))
-stops k k' table cs old f early since told h =
+pub stops : (sound : Type 0) (k k' : Known) (table : TableId) (cs : List Change) (old : BatchState) (f : BatchFault) → IsEarly old → ((n : ℕ) → MadeSince n f k') → FaultIs sound table cs f k' → Sees k k' → Turns sound table cs old k state.Over k' (turn.Over (Err f))
+stops sound k k' table cs old f early since told h =
     record { acts = []; ran = ran-sees k k' h; fits = tt; told = (refl, (told, inl (early_none table cs old early))); since = λ n low. since n }
 
 -- so does a failed read, and a failed write of upkeep
-pub misses : (k k' : Known) (table : TableId) (cs : List Change) (old : BatchState) → IsEarly old → ((call : ℕ) × Adds k k' (act.Missed call)) → Turns table cs old k state.Over k' (turn.Over (Err fault.ReadFault))
-misses k k' table cs old early h =
+pub misses : (sound : Type 0) (k k' : Known) (table : TableId) (cs : List Change) (old : BatchState) → IsEarly old → ((call : ℕ) × Adds k k' (act.Missed call)) → Turns sound table cs old k state.Over k' (turn.Over (Err fault.ReadFault))
+misses sound k k' table cs old early h =
     record {
       acts = act.Missed h.0 ∷ [];
       ran = ran-adds k k' (act.Missed h.0) h.1;
@@ -100,8 +100,8 @@ misses k k' table cs old early h =
       since = λ n low. (h.0, made_since k k' (act.Missed h.0) n h.1 (early_low old n k early low));
     }
 
-pub shuts : (k k' : Known) (table : TableId) (cs : List Change) (old : BatchState) → IsEarly old → ((call : ℕ) × Adds k k' (act.Shut call)) → Turns table cs old k state.Over k' (turn.Over (Err fault.WriteFault))
-shuts k k' table cs old early h =
+pub shuts : (sound : Type 0) (k k' : Known) (table : TableId) (cs : List Change) (old : BatchState) → IsEarly old → ((call : ℕ) × Adds k k' (act.Shut call)) → Turns sound table cs old k state.Over k' (turn.Over (Err fault.WriteFault))
+shuts sound k k' table cs old early h =
     record {
       acts = act.Shut h.0 ∷ [];
       ran = ran-adds k k' (act.Shut h.0) h.1;
@@ -112,16 +112,16 @@ shuts k k' table cs old early h =
 
 -- 3. Phase 1
 
-pub marks : (k k' : Known) (t : Ticket) (cs : List Change) → TicketIn k t Marking → Finds k k' → Turns t.table cs (state.Marking t) k (state.Marking t) k' turn.Stepped
-marks k k' t cs i h = let r = ran-sees k k' h.sees in record { acts = []; ran = r; fits = (refl, sees-ticket k k' t Marking h.sees i); told = (tt, refl); since = λ n low. grown k k' _ n r low }
+pub marks : (sound : Type 0) (k k' : Known) (t : Ticket) (cs : List Change) → TicketIn k t Marking → Finds k k' → Turns sound t.table cs (state.Marking t) k (state.Marking t) k' turn.Stepped
+marks sound k k' t cs i h = let r = ran-sees k k' h.sees in record { acts = []; ran = r; fits = (refl, sees-ticket k k' t Marking h.sees i); told = (tt, refl); since = λ n low. grown k k' _ n r low }
 
-pub marks_all : (k k' : Known) (t : Ticket) (cs : List Change) → TicketIn k t Marking → Adds k k' (act.Phase t.table t.stamp 1) → Turns t.table cs (state.Marking t) k (state.Writing t) k' turn.Stepped
-marks_all k k' t cs i h =
+pub marks_all : (sound : Type 0) (k k' : Known) (t : Ticket) (cs : List Change) → TicketIn k t Marking → Adds k k' (act.Phase t.table t.stamp 1) → Turns sound t.table cs (state.Marking t) k (state.Writing t) k' turn.Stepped
+marks_all sound k k' t cs i h =
     let r = ran-adds k k' (act.Phase t.table t.stamp 1) h in
     record { acts = act.Phase t.table t.stamp 1 ∷ []; ran = r; fits = (refl, adds-marked k k' t h i); told = (tt, refl); since = λ n low. grown k k' _ n r low }
 
-pub mark_fails : (k k' : Known) (t : Ticket) (cs : List Change) → TicketIn k t Marking → Refuses write_cause k k' step.WriteFault → Turns t.table cs (state.Marking t) k (state.Leaving t fault.WriteFault) k' turn.Stepped
-mark_fails k k' t cs i h =
+pub mark_fails : (sound : Type 0) (k k' : Known) (t : Ticket) (cs : List Change) → TicketIn k t Marking → Refuses write_cause k k' step.WriteFault → Turns sound t.table cs (state.Marking t) k (state.Leaving t fault.WriteFault) k' turn.Stepped
+mark_fails sound k k' t cs i h =
     let call = h.1.0 in
     let r = ran-adds k k' (act.Shut call) h.1.1 in
     record {
@@ -132,26 +132,26 @@ mark_fails k k' t cs i h =
       since = λ n low. (grown k k' _ n r low, (call, made_since k k' (act.Shut call) n h.1.1 low));
     }
 
-pub mark_closed : (k k' : Known) (t : Ticket) (cs : List Change) (call : ℕ) → TicketIn k t Marking → Refuses write_cause k k' (step.Closed call) → Turns t.table cs (state.Marking t) k (state.Leaving t (fault.Closed call)) k' turn.Stepped
-mark_closed k k' t cs call i h =
+pub mark_closed : (sound : Type 0) (k k' : Known) (t : Ticket) (cs : List Change) (call : ℕ) → TicketIn k t Marking → Refuses write_cause k k' (step.Closed call) → Turns sound t.table cs (state.Marking t) k (state.Leaving t (fault.Closed call)) k' turn.Stepped
+mark_closed sound k k' t cs call i h =
     let r = ran-sees k k' h.1 in
     record { acts = []; ran = r; fits = (refl, (shut k' call h.0, inl (sees-ticket k k' t Marking h.1 i)), h.0); told = (tt, refl); since = λ n low. (grown k k' _ n r low, tt) }
 
 -- 4. Phase 2
 
-pub writes : (k k' : Known) (t : Ticket) (cs : List Change) → WroteRows k k' t Writing → Turns t.table cs (state.Writing t) k (state.Writing t) k' turn.Stepped
-writes k k' t cs h = let r = ran-adds k k' (act.Wrote t.table t.stamp h.rows) h.adds in record { acts = act.Wrote t.table t.stamp h.rows ∷ []; ran = r; fits = (refl, h.next); told = (tt, refl); since = λ n low. grown k k' _ n r low }
+pub writes : (sound : Type 0) (k k' : Known) (t : Ticket) (cs : List Change) → WroteRows k k' t Writing → Turns sound t.table cs (state.Writing t) k (state.Writing t) k' turn.Stepped
+writes sound k k' t cs h = let r = ran-adds k k' (act.Wrote t.table t.stamp h.rows) h.adds in record { acts = act.Wrote t.table t.stamp h.rows ∷ []; ran = r; fits = (refl, h.next); told = (tt, refl); since = λ n low. grown k k' _ n r low }
 
-pub writes_all : (k k' : Known) (t : Ticket) (cs : List Change) → WroteRows k k' t Verifying → Turns t.table cs (state.Writing t) k (state.Verifying t) k' turn.Stepped
-writes_all k k' t cs h = let r = ran-adds k k' (act.Wrote t.table t.stamp h.rows) h.adds in record { acts = act.Wrote t.table t.stamp h.rows ∷ []; ran = r; fits = (refl, h.next); told = (tt, refl); since = λ n low. grown k k' _ n r low }
+pub writes_all : (sound : Type 0) (k k' : Known) (t : Ticket) (cs : List Change) → WroteRows k k' t Verifying → Turns sound t.table cs (state.Writing t) k (state.Verifying t) k' turn.Stepped
+writes_all sound k k' t cs h = let r = ran-adds k k' (act.Wrote t.table t.stamp h.rows) h.adds in record { acts = act.Wrote t.table t.stamp h.rows ∷ []; ran = r; fits = (refl, h.next); told = (tt, refl); since = λ n low. grown k k' _ n r low }
 
-pub waits : (k k' : Known) (t : Ticket) (cs : List Change) (stamp : ℕ) → TicketIn k t Writing → Refuses (rows_cause t.table.0 t.stamp) k k' (step.NotYet stamp) → Turns t.table cs (state.Writing t) k (state.Writing t) k' (turn.Waiting stamp)
-waits k k' t cs stamp i h =
+pub waits : (sound : Type 0) (k k' : Known) (t : Ticket) (cs : List Change) (stamp : ℕ) → TicketIn k t Writing → Refuses (rows_cause t.table.0 t.stamp) k k' (step.NotYet stamp) → Turns sound t.table cs (state.Writing t) k (state.Writing t) k' (turn.Waiting stamp)
+waits sound k k' t cs stamp i h =
     let r = ran-sees k k' h.1 in
     record { acts = []; ran = r; fits = (refl, sees-ticket k k' t Writing h.1 i); told = (tt, refl, record { ticket = t; is = refl; waiting = h.0 }); since = λ n low. grown k k' _ n r low }
 
-pub write_fails : (k k' : Known) (t : Ticket) (cs : List Change) → TicketIn k t Writing → Refuses (rows_cause t.table.0 t.stamp) k k' step.WriteFault → Turns t.table cs (state.Writing t) k (state.Leaving t fault.WriteFault) k' turn.Stepped
-write_fails k k' t cs i h =
+pub write_fails : (sound : Type 0) (k k' : Known) (t : Ticket) (cs : List Change) → TicketIn k t Writing → Refuses (rows_cause t.table.0 t.stamp) k k' step.WriteFault → Turns sound t.table cs (state.Writing t) k (state.Leaving t fault.WriteFault) k' turn.Stepped
+write_fails sound k k' t cs i h =
     let call = h.1.0 in
     let r = ran-adds k k' (act.Shut call) h.1.1 in
     record {
@@ -162,23 +162,23 @@ write_fails k k' t cs i h =
       since = λ n low. (grown k k' _ n r low, (call, made_since k k' (act.Shut call) n h.1.1 low));
     }
 
-pub write_closed : (k k' : Known) (t : Ticket) (cs : List Change) (call : ℕ) → TicketIn k t Writing → Refuses (rows_cause t.table.0 t.stamp) k k' (step.Closed call) → Turns t.table cs (state.Writing t) k (state.Leaving t (fault.Closed call)) k' turn.Stepped
-write_closed k k' t cs call i h =
+pub write_closed : (sound : Type 0) (k k' : Known) (t : Ticket) (cs : List Change) (call : ℕ) → TicketIn k t Writing → Refuses (rows_cause t.table.0 t.stamp) k k' (step.Closed call) → Turns sound t.table cs (state.Writing t) k (state.Leaving t (fault.Closed call)) k' turn.Stepped
+write_closed sound k k' t cs call i h =
     let r = ran-sees k k' h.1 in
     record { acts = []; ran = r; fits = (refl, (shut k' call h.0, inr (sees-ticket k k' t Writing h.1 i)), h.0); told = (tt, refl); since = λ n low. (grown k k' _ n r low, tt) }
 
 -- 5. Phase 3
 
-pub verifies : (k k' : Known) (t : Ticket) (cs : List Change) → TicketIn k t Verifying → Finds k k' → Turns t.table cs (state.Verifying t) k (state.Verifying t) k' turn.Stepped
-verifies k k' t cs i h = let r = ran-sees k k' h.sees in record { acts = []; ran = r; fits = (refl, sees-ticket k k' t Verifying h.sees i); told = (tt, refl); since = λ n low. grown k k' _ n r low }
+pub verifies : (sound : Type 0) (k k' : Known) (t : Ticket) (cs : List Change) → TicketIn k t Verifying → Finds k k' → Turns sound t.table cs (state.Verifying t) k (state.Verifying t) k' turn.Stepped
+verifies sound k k' t cs i h = let r = ran-sees k k' h.sees in record { acts = []; ran = r; fits = (refl, sees-ticket k k' t Verifying h.sees i); told = (tt, refl); since = λ n low. grown k k' _ n r low }
 
-pub verifies_all : (k k' : Known) (t : Ticket) (cs : List Change) → TicketIn k t Verifying → Adds k k' (act.Phase t.table t.stamp 3) → Turns t.table cs (state.Verifying t) k (state.Ending t) k' turn.Stepped
-verifies_all k k' t cs i h =
+pub verifies_all : (sound : Type 0) (k k' : Known) (t : Ticket) (cs : List Change) → TicketIn k t Verifying → Adds k k' (act.Phase t.table t.stamp 3) → Turns sound t.table cs (state.Verifying t) k (state.Ending t) k' turn.Stepped
+verifies_all sound k k' t cs i h =
     let r = ran-adds k k' (act.Phase t.table t.stamp 3) h in
     record { acts = act.Phase t.table t.stamp 3 ∷ []; ran = r; fits = (refl, inl (adds-verified k k' t h i)); told = (tt, refl); since = λ n low. grown k k' _ n r low }
 
-pub verify_fails : (k k' : Known) (t : Ticket) (cs : List Change) → TicketIn k t Verifying → Refuses write_cause k k' step.WriteFault → Turns t.table cs (state.Verifying t) k (state.Ending t) k' turn.Stepped
-verify_fails k k' t cs i h =
+pub verify_fails : (sound : Type 0) (k k' : Known) (t : Ticket) (cs : List Change) → TicketIn k t Verifying → Refuses write_cause k k' step.WriteFault → Turns sound t.table cs (state.Verifying t) k (state.Ending t) k' turn.Stepped
+verify_fails sound k k' t cs i h =
     let call = h.1.0 in
     let r = ran-adds k k' (act.Shut call) h.1.1 in
     record {
@@ -189,15 +189,15 @@ verify_fails k k' t cs i h =
       since = λ n low. grown k k' _ n r low;
     }
 
-pub verify_closed : (k k' : Known) (t : Ticket) (cs : List Change) (call : ℕ) → TicketIn k t Verifying → Refuses write_cause k k' (step.Closed call) → Turns t.table cs (state.Verifying t) k (state.Ending t) k' turn.Stepped
-verify_closed k k' t cs call i h =
+pub verify_closed : (sound : Type 0) (k k' : Known) (t : Ticket) (cs : List Change) (call : ℕ) → TicketIn k t Verifying → Refuses write_cause k k' (step.Closed call) → Turns sound t.table cs (state.Verifying t) k (state.Ending t) k' turn.Stepped
+verify_closed sound k k' t cs call i h =
     let r = ran-sees k k' h.1 in
     record { acts = []; ran = r; fits = (refl, inr (shut k' call h.0, sees-ticket k k' t Verifying h.1 i)); told = (tt, refl); since = λ n low. grown k k' _ n r low }
 
 -- 6. The end
 
-pub ends : (k k' : Known) (t : Ticket) (cs : List Change) (r : Receipt) → Adds k k' (act.Ended t.table t.stamp) → IsReceipt k' t r → Turns t.table cs (state.Ending t) k state.Over k' (turn.Over (Ok r))
-ends k k' t cs r h i =
+pub ends : (sound : Type 0) (k k' : Known) (t : Ticket) (cs : List Change) (r : Receipt) → Adds k k' (act.Ended t.table t.stamp) → IsReceipt k' t r → Turns sound t.table cs (state.Ending t) k state.Over k' (turn.Over (Ok r))
+ends sound k k' t cs r h i =
     let ran = ran-adds k k' (act.Ended t.table t.stamp) h in
     record {
       acts = act.Ended t.table t.stamp ∷ [];
@@ -223,14 +223,14 @@ stop_made fault.ReadFault k k' h j = absurd j
 stop_made (fault.Damaged file place) k k' h j = absurd j
 stop_made fault.Memory k k' h j = absurd j
 
-stop_tells : (table : TableId) (cs : List Change) (f : BatchFault) (k : Known) → StopIs f k → FaultIs table cs f k
-stop_tells table cs fault.WriteFault k j = j
-stop_tells table cs (fault.Closed call) k j = j
-stop_tells table cs fault.NoTable k j = absurd j
-stop_tells table cs (fault.Limit which count) k j = absurd j
-stop_tells table cs fault.ReadFault k j = absurd j
-stop_tells table cs (fault.Damaged file place) k j = absurd j
-stop_tells table cs fault.Memory k j = absurd j
+stop_tells : (sound : Type 0) (table : TableId) (cs : List Change) (f : BatchFault) (k : Known) → StopIs f k → FaultIs sound table cs f k
+stop_tells sound table cs fault.WriteFault k j = j
+stop_tells sound table cs (fault.Closed call) k j = j
+stop_tells sound table cs fault.NoTable k j = absurd j
+stop_tells sound table cs (fault.Limit which count) k j = absurd j
+stop_tells sound table cs fault.ReadFault k j = absurd j
+stop_tells sound table cs (fault.Damaged file place) k j = absurd j
+stop_tells sound table cs fault.Memory k j = absurd j
 
 stop_stops : (f : BatchFault) (k : Known) → StopIs f k → IsStopping f
 stop_stops fault.WriteFault k j = tt
@@ -246,14 +246,14 @@ since_made fault.ReadFault k k' acts n low h j = (j.0, since-stays k k' acts (ac
 since_made fault.WriteFault k k' acts n low h j = (j.0, since-stays k k' acts (act.Shut j.0) n low h j.1)
 since_made f k k' acts n low h j = tt
 
-pub leaves : (k k' : Known) (t : Ticket) (cs : List Change) (f : BatchFault) → CanAbandon k t → StopIs f k → Sees k k' → Turns t.table cs (state.Leaving t f) k state.Over k' (turn.Over (Err f))
-leaves k k' t cs f can told h =
+pub leaves : (sound : Type 0) (k k' : Known) (t : Ticket) (cs : List Change) (f : BatchFault) → CanAbandon k t → StopIs f k → Sees k k' → Turns sound t.table cs (state.Leaving t f) k state.Over k' (turn.Over (Err f))
+leaves sound k k' t cs f can told h =
     let j = stop_made f k k' h.passes told in
     record {
       acts = [];
       ran = ran-sees k k' h;
       fits = tt;
-      told = (refl, (stop_tells t.table cs f k' j, inr (stop_stops f k' j, passes-shut k k' h.passes can.0, (t.stamp, refl))));
+      told = (refl, (stop_tells sound t.table cs f k' j, inr (stop_stops f k' j, passes-shut k k' h.passes can.0, (t.stamp, refl))));
       since = λ n low. since_made f k k' [] n low.0 (ran-sees k k' h) low.1;
     }
 
@@ -265,8 +265,8 @@ starts table cs k f = record { acts = []; ran = ran-none k; so_far = refl; fits 
 joined : (table : TableId) (cs : List Change) (old : BatchState) (xs ys : List Act) → outline xs ≡ begun table cs old → outline (xs ++ ys) ≡ begun table cs old ++ outline ys
 joined table cs old xs ys h = outline-append xs ys ∙ ap (λ (l : List Act). l ++ outline ys) h
 
-pub steps_on : (table : TableId) (cs : List Change) (k0 k k' : Known) (old new : BatchState) → SoFar table cs k0 k old → Turns table cs old k new k' turn.Stepped → SoFar table cs k0 k' new
-steps_on table cs k0 k k' old new h t =
+pub steps_on : (sound : Type 0) (table : TableId) (cs : List Change) (k0 k k' : Known) (old new : BatchState) → SoFar table cs k0 k old → Turns sound table cs old k new k' turn.Stepped → SoFar table cs k0 k' new
+steps_on sound table cs k0 k k' old new h t =
     record {
       acts = h.acts ++ t.acts;
       ran = ran-then k0 k k' h.acts t.acts h.ran t.ran;
@@ -276,8 +276,8 @@ steps_on table cs k0 k k' old new h t =
       since = t.since (length k0.seen) h.since;
     }
 
-pub waits_on : (table : TableId) (cs : List Change) (k0 k k' : Known) (old new : BatchState) (stamp : ℕ) → SoFar table cs k0 k old → Turns table cs old k new k' (turn.Waiting stamp) → SoFar table cs k0 k' new
-waits_on table cs k0 k k' old new stamp h t =
+pub waits_on : (sound : Type 0) (table : TableId) (cs : List Change) (k0 k k' : Known) (old new : BatchState) (stamp : ℕ) → SoFar table cs k0 k old → Turns sound table cs old k new k' (turn.Waiting stamp) → SoFar table cs k0 k' new
+waits_on sound table cs k0 k k' old new stamp h t =
     record {
       acts = h.acts ++ t.acts;
       ran = ran-then k0 k k' h.acts t.acts h.ran t.ran;
@@ -287,19 +287,19 @@ waits_on table cs k0 k k' old new stamp h t =
       since = t.since (length k0.seen) h.since;
     }
 
-outcome_by : (table : TableId) (cs : List Change) (k : Known) (r : Result Receipt BatchFault) (xs ys : List Act) → xs ≡ ys → IsOutcome table cs ys k r → IsOutcome table cs xs k r
-outcome_by table cs k r xs ys e h = subst (λ (l : List Act). IsOutcome table cs l k r) (sym e) h
+outcome_by : (sound : Type 0) (table : TableId) (cs : List Change) (k : Known) (r : Result Receipt BatchFault) (xs ys : List Act) → xs ≡ ys → IsOutcome sound table cs ys k r → IsOutcome sound table cs xs k r
+outcome_by sound table cs k r xs ys e h = subst (λ (l : List Act). IsOutcome sound table cs l k r) (sym e) h
 
 over_since : (n : ℕ) (s : BatchState) (k : Known) (r : Result Receipt BatchFault) → IsSinceThen n s k (turn.Over r) → IsSinceThen n state.Over k (turn.Over r)
 over_since n s k (Ok r) h = h
 over_since n s k (Err f) h = h
 
-pub ends_as : (table : TableId) (cs : List Change) (k0 k k' : Known) (old new : BatchState) (r : Result Receipt BatchFault) → SoFar table cs k0 k old → Turns table cs old k new k' (turn.Over r) → RanBatch table cs k0 k' r
-ends_as table cs k0 k k' old new r h t =
+pub ends_as : (sound : Type 0) (table : TableId) (cs : List Change) (k0 k k' : Known) (old new : BatchState) (r : Result Receipt BatchFault) → SoFar table cs k0 k old → Turns sound table cs old k new k' (turn.Over r) → RanBatch sound table cs k0 k' r
+ends_as sound table cs k0 k k' old new r h t =
     record {
       acts = h.acts ++ t.acts;
       ran = ran-then k0 k k' h.acts t.acts h.ran t.ran;
-      outcome = outcome_by table cs k' r (outline (h.acts ++ t.acts)) (begun table cs old ++ outline t.acts) (joined table cs old h.acts t.acts h.so_far) t.told.1;
+      outcome = outcome_by sound table cs k' r (outline (h.acts ++ t.acts)) (begun table cs old ++ outline t.acts) (joined table cs old h.acts t.acts h.so_far) t.told.1;
       since = over_since (length k0.seen) new k' r (t.since (length k0.seen) h.since);
     }
 

@@ -24,14 +24,14 @@ use Rattle.px_batch.specs.declared.batch.BatchTurn.TheVariants as turn
 -- 1. Faults
 
 -- what tells the fault, in what the seat has then seen
-abbrev pub FaultIs : TableId → List Change → BatchFault → Known → Type 0
-FaultIs table cs fault.NoTable k = LacksTable k table.0
-FaultIs table cs (fault.Limit which count) k = Stands k table.0 × (count ≡ most_of which) × batch_limit table.0 cs which k
-FaultIs table cs fault.ReadFault k = (call : ℕ) × HasMade k (act.Missed call)
-FaultIs table cs fault.WriteFault k = (call : ℕ) × HasMade k (act.Shut call)
-FaultIs table cs (fault.Damaged file place) k = IsDamagedAt k file place
-FaultIs table cs (fault.Closed call) k = ClosedBy call k
-FaultIs table cs fault.Memory k = Unit {0}
+abbrev pub FaultIs : Type 0 → TableId → List Change → BatchFault → Known → Type 0
+FaultIs sound table cs fault.NoTable k = LacksTable k table.0
+FaultIs sound table cs (fault.Limit which count) k = Stands k table.0 × (count ≡ most_of which) × batch_limit sound table.0 cs which k
+FaultIs sound table cs fault.ReadFault k = (call : ℕ) × HasMade k (act.Missed call)
+FaultIs sound table cs fault.WriteFault k = (call : ℕ) × HasMade k (act.Shut call)
+FaultIs sound table cs (fault.Damaged file place) k = IsDamagedAt k file place
+FaultIs sound table cs (fault.Closed call) k = ClosedBy call k
+FaultIs sound table cs fault.Memory k = Unit {0}
 
 -- the entry that tells a failed device call is one of the seat's own after the first n
 abbrev pub MadeSince : ℕ → BatchFault → Known → Type 0
@@ -102,15 +102,15 @@ pub record Waits (k : Known) (old : BatchState) (stamp : ℕ) : Type 0 where
   pub waiting : IsWaiting k ticket.table.0 ticket.stamp stamp
 
 -- what the run comes to, where `own` is what the seat began and ended for it
-abbrev pub IsOutcome : TableId → List Change → List Act → Known → Result Receipt BatchFault → Type 0
-IsOutcome table cs own k (Ok r) = HasEnded table cs own k r
-IsOutcome table cs own k (Err f) = FaultIs table cs f k × HasLeft table cs f own k
+abbrev pub IsOutcome : Type 0 → TableId → List Change → List Act → Known → Result Receipt BatchFault → Type 0
+IsOutcome sound table cs own k (Ok r) = HasEnded table cs own k r
+IsOutcome sound table cs own k (Err f) = FaultIs sound table cs f k × HasLeft table cs f own k
 
 -- what a step came to, where `own` is what the seat began and ended for the run so far
-abbrev pub Told : TableId → List Change → BatchState → List Act → BatchState → Known → BatchTurn → Type 0
-Told table cs old own new k turn.Stepped = IsGoing new × (own ≡ begun table cs new)
-Told table cs old own new k (turn.Waiting stamp) = IsGoing new × (own ≡ begun table cs new) × Waits k old stamp
-Told table cs old own new k (turn.Over r) = (new ≡ state.Over) × IsOutcome table cs own k r
+abbrev pub Told : Type 0 → TableId → List Change → BatchState → List Act → BatchState → Known → BatchTurn → Type 0
+Told sound table cs old own new k turn.Stepped = IsGoing new × (own ≡ begun table cs new)
+Told sound table cs old own new k (turn.Waiting stamp) = IsGoing new × (own ≡ begun table cs new) × Waits k old stamp
+Told sound table cs old own new k (turn.Over r) = (new ≡ state.Over) × IsOutcome sound table cs own k r
 
 abbrev pub IsSinceThen : ℕ → BatchState → Known → BatchTurn → Type 0
 IsSinceThen n new k turn.Stepped = IsSince n new k
@@ -119,21 +119,21 @@ IsSinceThen n new k (turn.Over (Ok r)) = n ≤ r.at
 IsSinceThen n new k (turn.Over (Err f)) = MadeSince n f k
 
 -- one step of a batch
-pub record Turns (table : TableId) (cs : List Change) (old : BatchState) (k : Known) (new : BatchState) (k' : Known) (t : BatchTurn) : Type 0 where
+pub record Turns (sound : Type 0) (table : TableId) (cs : List Change) (old : BatchState) (k : Known) (new : BatchState) (k' : Known) (t : BatchTurn) : Type 0 where
   pub acts : List Act
   pub ran : Ran k k' acts
   pub fits : Fits table cs new k'
-  pub told : Told table cs old (begun table cs old ++ outline acts) new k' t
+  pub told : Told sound table cs old (begun table cs old ++ outline acts) new k' t
   pub since : (n : ℕ) → IsSince n old k → IsSinceThen n new k' t
 
 -- 4. Whole batches
 
 -- A whole batch: on Ok the seat began this one batch and ended it, and none of its own acts begins or ends another. On Err it
 -- began none, or the server was closed under the one that it began; a failed device call is told by an entry of the run
-pub record RanBatch (table : TableId) (cs : List Change) (k k' : Known) (r : Result Receipt BatchFault) : Type 0 where
+pub record RanBatch (sound : Type 0) (table : TableId) (cs : List Change) (k k' : Known) (r : Result Receipt BatchFault) : Type 0 where
   pub acts : List Act
   pub ran : Ran k k' acts
-  pub outcome : IsOutcome table cs (outline acts) k' r
+  pub outcome : IsOutcome sound table cs (outline acts) k' r
   pub since : IsSinceThen (length k.seen) state.Over k' (turn.Over r)
 
 -- a batch on its way: what the seat did so far is to have begun what the run holds

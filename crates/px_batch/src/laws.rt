@@ -11,11 +11,13 @@ ghost use Rattle.px_batch.specs.declared.batch.BatchState.TheVariants.{Beginning
 ghost use Rattle.px_batch.specs.declared.batch.BatchTurn.TheVariants.{Stepped, Waiting, Over};
 ghost use Rattle.px_batch.specs.Turns.{Fits, RanBatch, SoFar, Turns};
 
+use px_calls::Steps;
+
 /// Others' entries between two steps leave a batch under way as it is; its own steps carry it on, and its last one is its answer.
-pub fn law_turns()
+pub fn law_turns<S: Steps>()
     ensures others { (table : TableNumber) → (cs : List RowChange) → (s : States) → (k : Known) → (k' : Known) → Passes k k' → Fits table cs s k → Fits table cs s k' }
     ensures starts { (table : TableNumber) → (cs : List RowChange) → (k : Known) → AreFitting k table.0 cs → SoFar table cs k k Beginning }
-    ensures steps { (table : TableNumber) → (cs : List RowChange) → (k0 : Known) → (k : Known) → (k' : Known) → (old : States) → (new : States) → SoFar table cs k0 k old → Turns table cs old k new k' Stepped → SoFar table cs k0 k' new }
-    ensures waits { (table : TableNumber) → (cs : List RowChange) → (k0 : Known) → (k : Known) → (k' : Known) → (old : States) → (new : States) → (stamp : ℕ) → SoFar table cs k0 k old → Turns table cs old k new k' (Waiting stamp) → SoFar table cs k0 k' new }
-    ensures ends { (table : TableNumber) → (cs : List RowChange) → (k0 : Known) → (k : Known) → (k' : Known) → (old : States) → (new : States) → (r : Result Receipts Faults) → SoFar table cs k0 k old → Turns table cs old k new k' (Over r) → RanBatch table cs k0 k' r }
+    ensures steps { (table : TableNumber) → (cs : List RowChange) → (k0 : Known) → (k : Known) → (k' : Known) → (old : States) → (new : States) → SoFar table cs k0 k old → Turns S.sound table cs old k new k' Stepped → SoFar table cs k0 k' new }
+    ensures waits { (table : TableNumber) → (cs : List RowChange) → (k0 : Known) → (k : Known) → (k' : Known) → (old : States) → (new : States) → (stamp : ℕ) → SoFar table cs k0 k old → Turns S.sound table cs old k new k' (Waiting stamp) → SoFar table cs k0 k' new }
+    ensures ends { (table : TableNumber) → (cs : List RowChange) → (k0 : Known) → (k : Known) → (k' : Known) → (old : States) → (new : States) → (r : Result Receipts Faults) → SoFar table cs k0 k old → Turns S.sound table cs old k new k' (Over r) → RanBatch S.sound table cs k0 k' r }
 {}

@@ -43,7 +43,7 @@ impl BatchRun {
         requires going { IsGoing self.old.state }
         ensures table { self.new.table ≡ self.old.table }
         ensures changes { self.new.changes ≡ self.old.changes }
-        ensures turns { Turns self.old.table self.old.changes self.old.state (S.known s.old) self.new.state (S.known s.new) result }
+        ensures turns { Turns S.sound self.old.table self.old.changes self.old.state (S.known s.old) self.new.state (S.known s.new) result }
     {
         let state = mem::replace(&mut self.state, BatchState::Over);
         let (state, turn) = batch::advance(s, self.table, &self.changes, state);
@@ -75,7 +75,7 @@ pub fn run_batch<R: Wait, S: Steps>(
     requires rows { length changes ≤ 1000 }
     requires distinct { is_distinct (rows_of changes) ≡ true }
     requires fits { AreFitting (S.known s.old) table.0 changes }
-    ensures { RanBatch table changes (S.known s.old) (S.known s.new) result }
+    ensures { RanBatch S.sound table changes (S.known s.old) (S.known s.new) result }
 {
     let mut run = BatchRun::new(table, changes);
     'steps: for _ in rt.forever() {

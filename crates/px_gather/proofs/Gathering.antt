@@ -15,14 +15,15 @@ use Rattle.px_calls.specs.declared.query.FoundKey.{FoundKey}
 use Rattle.px_calls.specs.declared.query.FoundKey.TheVariants.{Sure, InDoubt}
 use Rattle.px_calls.specs.declared.query.FoundRow.{FoundRow}
 use Rattle.px_calls.specs.declared.query.Held.{Held}
+use Rattle.px_calls.specs.declared.query.Path.{Path}
+use Rattle.px_calls.specs.declared.query.Point.{Point}
 use Rattle.px_tables.specs.declared.found.Found.{Found}
 use Rattle.px_calls.specs.Known.{Known}
-use Rattle.px_calls.specs.Calls.{Consulted, DidLook}
-use Rattle.px_calls.specs.Looks.{IsRightKey, IsRisingFrom, IsRowAt, IsShown, Shows, found_by, is_covered, is_past, key_by, key_found, key_less, shown_by}
-use Rattle.px_calls.specs.Requires.{FitsRow}
+use Rattle.px_calls.specs.Calls.{Consulted}
+use Rattle.px_calls.specs.Looks.{IsRisingFrom, IsRowAt, IsShown, Shows, ShowsRows, found_by, is_covered, is_past, key_by, key_found, key_less, shown_by}
 use Rattle.px_calls.proofs.Keys.{asymmetric, irreflexive, not_past, transitive, up_to as chain_up_to}
 use Rattle.px_gather.specs.Query.{IsPathFor, Query}
-use Rattle.px_gather.specs.Gathered.{AreRisingRows, Collected, Ended, Frame, Gathered, HasRow, IsHeldAt, IsRowAfter, Left, Pending, Stood, is_full, is_within, kept, kept_held, named_of, opened_at, row_key, up_to}
+use Rattle.px_gather.specs.Gathered.{AreRisingRows, Collected, Ended, Frame, Gathered, HasRow, IsHeldAt, IsRightKey, IsRowAfter, Left, Pending, Stood, is_full, is_within, kept, kept_held, named_of, opened_at, row_key, up_to}
 
 -- 1. The trail grows
 
@@ -249,8 +250,12 @@ starts_covered : (after next : Option (List ℕ)) (a : List ℕ) → ((n : List 
 starts_covered after None a onward done = refl
 starts_covered after (Some n) a onward done = less_done a n (done_before after a n done (onward n refl))
 
-left_start : (f : Frame) (es : List Entry) (after : Option (List ℕ)) (fs : List FoundKey) (next : Option (List ℕ)) → opened_at f ≤ length es → IsPathFor f.query f.point f.path → ((row : List Value) → IsRowAt f.base es f.point row → FitsRow f.point.found.table row) → Shows f.base es f.point f.path after fs next → Left f es (length es) after fs next
-left_start f es after fs next from path fits h =
+right_key : (b : Base) (es : List Entry) (p : Point) (path : Path) (after : Option (List ℕ)) (fs : List FoundKey) (next : Option (List ℕ)) → Shows p path after fs next → ShowsRows b es p path after fs next → (g : FoundKey) → IsAmong g fs → IsRightKey b es p path.by g
+right_key b es p path after fs next h rows (Sure x) among = rows.right x among
+right_key b es p path after fs next h rows (InDoubt d) among = h.doubts d among
+
+left_start : (f : Frame) (es : List Entry) (after : Option (List ℕ)) (fs : List FoundKey) (next : Option (List ℕ)) → opened_at f ≤ length es → IsPathFor f.query f.point f.path → Shows f.point f.path after fs next → ShowsRows f.base es f.point f.path after fs next → Left f es (length es) after fs next
+left_start f es after fs next from path h rows =
     let all : take (length es) es ≡ es = take-length es in
     record {
       from = from;
@@ -258,10 +263,10 @@ left_start f es after fs next from path fits h =
       rising = h.rising;
       before = λ a done. starts_covered after next a (onward after fs next h.rising h.last) done;
       covered = h.covered;
-      right = λ g among. subst (λ (l : List Entry). IsRightKey f.base l f.point f.path.by g) (sym all) (h.right g among);
+      right = λ g among. subst (λ (l : List Entry). IsRightKey f.base l f.point f.path.by g) (sym all) (right_key f.base es f.point f.path after fs next h rows g among);
       whole = λ row at met past covered.
           let now : IsRowAt f.base es f.point row = subst (λ (l : List Entry). IsRowAt f.base l f.point row) all at in
-          h.whole row now (path.has_all row (fits row now) met) past covered;
+          rows.whole row now (path.has_all row (rows.fits row now) met) past covered;
     }
 
 collected_end : (f : Frame) (es : List Entry) (n : ℕ) (c : Option (List ℕ)) (next : Option (List ℕ)) (xs : List Given) → Left f es n c [] next → Collected f es (up_to c) xs → Collected f es (is_covered next) xs
@@ -486,14 +491,14 @@ gathered-none f es = record {
 
 -- a look begins a chunk
 pub looks : (f : Frame) (k k' : Known) (after : Option (List ℕ)) (c : Chunk) (more : List Entry) (rows : List Given)
-    → f.base ≡ k'.base → k'.seen ≡ k.seen ++ more → opened_at f ≤ length k.seen → IsPathFor f.query f.point f.path → Gathered f k.seen (up_to after) rows → DidLook k k' f.point f.path after c → Pending f k'.seen c.at c.found c.next rows
-looks f k k' after c more rows base seen from path h l =
+    → f.base ≡ k'.base → k'.seen ≡ k.seen ++ more → opened_at f ≤ length k.seen → IsPathFor f.query f.point f.path
+    → Gathered f k.seen (up_to after) rows → Shows f.point f.path after c.found c.next → ShowsRows k'.base k'.seen f.point f.path after c.found c.next → c.at ≡ length k'.seen → Pending f k'.seen c.at c.found c.next rows
+looks f k k' after c more rows base seen from path h shows given at =
     let e = ap (λ (m : List Entry). length m) seen in
-    let shows : Shows f.base k'.seen f.point f.path after c.found c.next = subst (λ (b : Base). Shows b k'.seen f.point f.path after c.found c.next) (sym base) l.shows in
-    let fits : (row : List Value) → IsRowAt f.base k'.seen f.point row → FitsRow f.point.found.table row = λ row at. l.fits row (subst (λ (b : Base). IsRowAt b k'.seen f.point row) base at) in
-    let left = left_start f k'.seen after c.found c.next (omega (arith, length-append k.seen more)) path fits shows in
+    let here : ShowsRows f.base k'.seen f.point f.path after c.found c.next = subst (λ (b : Base). ShowsRows b k'.seen f.point f.path after c.found c.next) (sym base) given in
+    let left = left_start f k'.seen after c.found c.next (omega (arith, length-append k.seen more)) path shows here in
     record {
       cursor = after;
-      left = subst (λ (m : ℕ). Left f k'.seen m after c.found c.next) (sym l.at) left;
+      left = subst (λ (m : ℕ). Left f k'.seen m after c.found c.next) (sym at) left;
       gathered = subst (λ (s : List Entry). Gathered f s (up_to after) rows) (sym seen) (gathered-grows f k.seen more (up_to after) rows h);
     }

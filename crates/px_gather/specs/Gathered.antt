@@ -4,11 +4,13 @@ use Rattle.px_values.specs.declared.row.Value.{Value}
 use Rattle.px_trail.specs.declared.entry.Entry.{Entry}
 use Rattle.px_trail.specs.Answers.{Given, IsAmong}
 use Rattle.px_trail.specs.Trail.{Base}
+use Rattle.px_calls.specs.declared.query.By.{By}
 use Rattle.px_calls.specs.declared.query.FoundKey.{FoundKey}
+use Rattle.px_calls.specs.declared.query.FoundKey.TheVariants.{Sure, InDoubt}
 use Rattle.px_calls.specs.declared.query.Held.{Held}
 use Rattle.px_calls.specs.declared.query.Path.{Path}
 use Rattle.px_calls.specs.declared.query.Point.{Point}
-use Rattle.px_calls.specs.Looks.{IsRightKey, IsRisingFrom, IsRowAt, IsShown, is_covered, is_past, key_by, key_found, key_less}
+use Rattle.px_calls.specs.Looks.{IsDoubtOf, IsRightRow, IsRisingFrom, IsRowAt, IsShown, is_covered, is_past, key_by, key_found, key_less}
 use Rattle.px_gather.specs.Query.{Query}
 
 -- a scan: what stood before the trail, the point that it reads at, the query that it answers, and the path that it follows
@@ -103,6 +105,11 @@ pub record Ended (f : Frame) (es : List Entry) (rows : List Given) : Type 0 wher
   pub complete : (k : List ℕ) → (done k ≡ true) ⊎ IsCutAt f gathered.given k
 
 -- 4. Keys that are still to be gone through
+
+-- a sure key has its row at the point, and a doubt is of the index that is read
+abbrev pub IsRightKey : Base → List Entry → Point → By → FoundKey → Type 0
+IsRightKey b es p by (Sure f) = IsRightRow b es p by f
+IsRightKey b es p by (InDoubt d) = IsDoubtOf p.found by d
 
 -- what a look gave, after n entries, and is still to be gone through
 pub record Left (f : Frame) (es : List Entry) (n : ℕ) (cursor : Option (List ℕ)) (fs : List FoundKey) (next : Option (List ℕ)) : Type 0 where

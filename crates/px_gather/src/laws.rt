@@ -13,8 +13,8 @@ ghost use Rattle.px_calls.specs.declared.query.FoundKey.TheVariants.{Sure, InDou
 ghost use Rattle.px_calls.specs.declared.query.FoundRow.{FoundRow as FoundRows};
 ghost use Rattle.px_calls.specs.declared.query.Held.{Held as Helds};
 ghost use Rattle.px_calls.specs.Known.{Known};
-ghost use Rattle.px_calls.specs.Calls.{Consulted, DidLook};
-ghost use Rattle.px_calls.specs.Looks.{is_covered};
+ghost use Rattle.px_calls.specs.Calls.{Consulted};
+ghost use Rattle.px_calls.specs.Looks.{Shows, ShowsRows, is_covered};
 ghost use Rattle.px_gather.specs.Answers.{IsAnswerBy, IsExactOf, IsPointOf};
 ghost use Rattle.px_gather.specs.Gathered.{Ended, Frame, Gathered, Pending, is_full, kept, kept_held, opened_at, up_to};
 ghost use Rattle.px_gather.specs.Query.{IsPathFor, Query};
@@ -23,7 +23,7 @@ ghost use Rattle.px_gather.specs.Query.{IsPathFor, Query};
 /// of the path, and where LIMIT rows are found.
 pub fn law_gathers()
     ensures none { (f : Frame) → (es : List Entries) → Gathered f es (up_to None) [] }
-    ensures looks { (f : Frame) → (k : Known) → (k' : Known) → (after : Option (List ℕ)) → (c : Chunks) → (more : List Entries) → (rows : List Given) → f.base ≡ k'.base → k'.seen ≡ k.seen ++ more → opened_at f ≤ length k.seen → IsPathFor f.query f.point f.path → Gathered f k.seen (up_to after) rows → DidLook k k' f.point f.path after c → Pending f k'.seen c.at c.found c.next rows }
+    ensures looks { (f : Frame) → (k : Known) → (k' : Known) → (after : Option (List ℕ)) → (c : Chunks) → (more : List Entries) → (rows : List Given) → f.base ≡ k'.base → k'.seen ≡ k.seen ++ more → opened_at f ≤ length k.seen → IsPathFor f.query f.point f.path → Gathered f k.seen (up_to after) rows → Shows f.point f.path after c.found c.next → ShowsRows k'.base k'.seen f.point f.path after c.found c.next → c.at ≡ length k'.seen → Pending f k'.seen c.at c.found c.next rows }
     ensures sure { (f : Frame) → (es : List Entries) → (n : ℕ) → (x : FoundRows) → (fs : List FoundKeys) → (next : Option (List ℕ)) → (rows : List Given) → IsPathFor f.query f.point f.path → is_full f.query.limit (length rows) ≡ false → Pending f es n (Sure x ∷ fs) next rows → Pending f es n fs next (rows ++ kept f.query x.row n) }
     ensures doubt { (f : Frame) → (k : Known) → (n : ℕ) → (d : Doubts) → (fs : List FoundKeys) → (next : Option (List ℕ)) → (rows : List Given) → (held : Option Helds) → f.base ≡ k.base → is_full f.query.limit (length rows) ≡ false → Pending f k.seen n (InDoubt d ∷ fs) next rows → Consulted k f.point d held → Pending f k.seen n fs next (rows ++ kept_held f.query held) }
     ensures grows { (f : Frame) → (es : List Entries) → (more : List Entries) → (n : ℕ) → (fs : List FoundKeys) → (next : Option (List ℕ)) → (rows : List Given) → Pending f es n fs next rows → Pending f (es ++ more) n fs next rows }

@@ -48,40 +48,40 @@ works d (state.Closing x (Ok v)) h u = absurd h
 works d (state.Closing x (Err f)) h u = absurd u
 works d state.Over h u = absurd h
 
-pub fixed_at_last : (q : Query) (scn : Option ℕ) (d : Doubt) (s : QueryState) (k : Known) (os : List Step) → IsToFix s d → AreSteps q scn s k os → AreUnfaulted os → state_after s os ≡ state.Over → HasFix d os
-fixed_at_last q scn d (state.Opening rows) k os t h u e = absurd t
-fixed_at_last q scn d (state.Looking x a) k os t h u e = absurd t
-fixed_at_last q scn d (state.Consulting x r z) k os t h u e = absurd t
-fixed_at_last q scn d (state.Closing x end) k os t h u e = absurd t
-fixed_at_last q scn d state.Over k os t h u e = absurd t
-fixed_at_last q scn d (state.Fixing x r z) k [] t h u e = cc
-fixed_at_last q scn d (state.Settling x r z) k [] t h u e = cc
-fixed_at_last q scn d (state.Fixing x r z) k (o ∷ os) t h u e =
+pub fixed_at_last : (sound : Type 0) (q : Query) (scn : Option ℕ) (d : Doubt) (s : QueryState) (k : Known) (os : List Step) → IsToFix s d → AreSteps sound q scn s k os → AreUnfaulted os → state_after s os ≡ state.Over → HasFix d os
+fixed_at_last sound q scn d (state.Opening rows) k os t h u e = absurd t
+fixed_at_last sound q scn d (state.Looking x a) k os t h u e = absurd t
+fixed_at_last sound q scn d (state.Consulting x r z) k os t h u e = absurd t
+fixed_at_last sound q scn d (state.Closing x end) k os t h u e = absurd t
+fixed_at_last sound q scn d state.Over k os t h u e = absurd t
+fixed_at_last sound q scn d (state.Fixing x r z) k [] t h u e = cc
+fixed_at_last sound q scn d (state.Settling x r z) k [] t h u e = cc
+fixed_at_last sound q scn d (state.Fixing x r z) k (o ∷ os) t h u e =
     elim (fixes z o o.state refl h.1.edge u.0) [
-      | inl more ↦ later d z o os t (fixed_at_last q scn z o.state o.after os more h.2 u.1 e)
+      | inl more ↦ later d z o os t (fixed_at_last sound q scn z o.state o.after os more h.2 u.1 e)
       | inr fix ↦ first d o os fix.0 (subst (λ (y : Doubt). DidFix o.before o.after y fix.0) t fix.1)
     ]
-fixed_at_last q scn d (state.Settling x r z) k (o ∷ os) t h u e =
-    later d z o os t (fixed_at_last q scn z o.state o.after os (works z o.state h.1.edge u.0) h.2 u.1 e)
+fixed_at_last sound q scn d (state.Settling x r z) k (o ∷ os) t h u e =
+    later d z o os t (fixed_at_last sound q scn z o.state o.after os (works z o.state h.1.edge u.0) h.2 u.1 e)
 
-settles : (q : Query) (scn : Option ℕ) (x : Scan) (d : Doubt) (o : Step) (os : List Step) (s : QueryState) → AfterConsult x d o.before s o.after → IsUnfaulted s → AreSteps q scn s o.after os → AreUnfaulted os → state_after s os ≡ state.Over → IsSettled x.point d (o ∷ os)
+settles : (sound : Type 0) (q : Query) (scn : Option ℕ) (x : Scan) (d : Doubt) (o : Step) (os : List Step) (s : QueryState) → AfterConsult sound x d o.before s o.after → IsUnfaulted s → AreSteps sound q scn s o.after os → AreUnfaulted os → state_after s os ≡ state.Over → IsSettled sound x.point d (o ∷ os)
 unfolding IsAmong
-settles q scn x d o os (state.Opening rows) h u rest v e = absurd h
-settles q scn x d o os (state.Looking y a) h u rest v e = absurd h
-settles q scn x d o os (state.Consulting y r z) h u rest v e = absurd h
-settles q scn x d o os (state.Fixing y r z) h u rest v e = record {
+settles sound q scn x d o os (state.Opening rows) h u rest v e = absurd h
+settles sound q scn x d o os (state.Looking y a) h u rest v e = absurd h
+settles sound q scn x d o os (state.Consulting y r z) h u rest v e = absurd h
+settles sound q scn x d o os (state.Fixing y r z) h u rest v e = record {
   step = o;
   among = inl refl;
   left = z;
   held = h.0;
   consulted = h.1;
-  has_fix = later z z o os refl (fixed_at_last q scn z (state.Fixing y r z) o.after os refl rest v e);
+  has_fix = later z z o os refl (fixed_at_last sound q scn z (state.Fixing y r z) o.after os refl rest v e);
 }
-settles q scn x d o os (state.Settling y r z) h u rest v e = absurd h
-settles q scn x d o os (state.Closing y (Ok w)) h u rest v e = absurd h
-settles q scn x d o os (state.Closing y (Err f)) h u rest v e = absurd u
-settles q scn x d o os state.Over h u rest v e = absurd h
+settles sound q scn x d o os (state.Settling y r z) h u rest v e = absurd h
+settles sound q scn x d o os (state.Closing y (Ok w)) h u rest v e = absurd h
+settles sound q scn x d o os (state.Closing y (Err f)) h u rest v e = absurd u
+settles sound q scn x d o os state.Over h u rest v e = absurd h
 
-pub settled : (q : Query) (scn : Option ℕ) (x : Scan) (r : Rest) (d : Doubt) (k : Known) (os : List Step) → AreSteps q scn (state.Consulting x r d) k os → AreUnfaulted os → state_after (state.Consulting x r d) os ≡ state.Over → IsSettled x.point d os
-settled q scn x r d k [] h u e = cc
-settled q scn x r d k (o ∷ os) h u e = settles q scn x d o os o.state h.1.edge u.0 h.2 u.1 e
+pub settled : (sound : Type 0) (q : Query) (scn : Option ℕ) (x : Scan) (r : Rest) (d : Doubt) (k : Known) (os : List Step) → AreSteps sound q scn (state.Consulting x r d) k os → AreUnfaulted os → state_after (state.Consulting x r d) os ≡ state.Over → IsSettled sound x.point d os
+settled sound q scn x r d k [] h u e = cc
+settled sound q scn x r d k (o ∷ os) h u e = settles sound q scn x d o os o.state h.1.edge u.0 h.2 u.1 e

@@ -5,11 +5,12 @@ use Rattle.std.specs.Option.{is_some}
 use Rattle.std.specs.declared.alloc.Global.{Global}
 use Rattle.std.proofs.lemmas.List.{take-append-le, take_all}
 use Rattle.px_values.specs.declared.name.TableId.{TableId}
+use Rattle.px_tables.specs.declared.found.Found.{Found}
 use Rattle.px_tables.specs.declared.index.Index.{Index}
 use Rattle.px_trail.specs.declared.entry.Act.{Act}
 use Rattle.px_trail.specs.declared.entry.Act.TheVariants as act
 use Rattle.px_trail.specs.declared.entry.Entry.{Entry}
-use Rattle.px_trail.specs.Answers.{Given}
+use Rattle.px_trail.specs.Answers.{Given, IsAmong}
 use Rattle.px_trail.specs.Batches.{IsDecided}
 use Rattle.px_trail.specs.Legal.{Follows, IsLegal, MayCome}
 use Rattle.px_trail.specs.Trail.{Base, catalogue_of, horizon_of, horizon_step, last_of, last_step, table_of}
@@ -32,7 +33,7 @@ use Rattle.px_calls.specs.Calls.{DidConsult, DidFix, DidLook, DidOpen, IsFound}
 use Rattle.px_values.specs.Limits.{most_key}
 use Rattle.px_keys.specs.Reading.{IsKey}
 use Rattle.px_paths.specs.Paths.{columns_on}
-use Rattle.px_calls.specs.Looks.{IsRightKey, columns_by, index_columns}
+use Rattle.px_calls.specs.Looks.{AreDoubtsOf, IsDoubtOf, columns_by, index_columns}
 use Rattle.px_calls.specs.Requires.{CanConsult, CanReadBy, IsReadable, IsScn, index_in}
 use Rattle.px_calls.proofs.Points.{adds-opened, quiet-open}
 use Rattle.px_calls.proofs.Runs.{may-come, outline-append, ran-adds, ran-none, ran-sees, ran-then}
@@ -95,8 +96,8 @@ later-point k k' q scn p g h =
 pub grown-reading : (k k' : Known) (q : Query) (scn : Option ℕ) (p : Point) → Grown k k' → IsReading k q scn p → IsReading k' q scn p
 grown-reading k k' q scn p g h = record { is_open = quiet-open k k' g.more p g.seen g.quiet g.seat h.is_open; point = later-point k k' q scn p (later-grown k k' g) h.point }
 
-pub grown-scanning : (k k' : Known) (q : Query) (scn : Option ℕ) (x : Scan) (keys : List FoundKey) (next : Option (List ℕ)) (at : ℕ) → Grown k k' → IsScanning k q scn x keys next at → IsScanning k' q scn x keys next at
-grown-scanning k k' q scn x keys next at g h = record { reading = grown-reading k k' q scn x.point g h.reading; path = h.path; pending = later-pending q x.point x.path k k' at keys next (given_of x.rows.items) (later-grown k k' g) h.pending }
+pub grown-scanning : (sound : Type 0) (k k' : Known) (q : Query) (scn : Option ℕ) (x : Scan) (keys : List FoundKey) (next : Option (List ℕ)) (at : ℕ) → Grown k k' → IsScanning sound k q scn x keys next at → IsScanning sound k' q scn x keys next at
+grown-scanning sound k k' q scn x keys next at g h = record { reading = grown-reading k k' q scn x.point g h.reading; path = h.path; doubts = h.doubts; pending = λ is_sound. later-pending q x.point x.path k k' at keys next (given_of x.rows.items) (later-grown k k' g) (h.pending is_sound) }
 
 -- a query that is bound to its table stays so
 pub bound-stays : (k k' : Known) (q : Query) → Later k k' → IsLegal k'.base k'.seen → IsBound k q → IsBound k' q
@@ -109,42 +110,42 @@ bound-stays k k' q g legal h =
       is = λ x now. h.is x (table-was k.base q.table k.seen g.more x l h.drawn (sym tables ∙ now));
     }
 
-pub fits-kept : (q : Query) (scn : Option ℕ) (s : QueryState) (k k' : Known) → Passes k k' → Fits q scn s k → Fits q scn s k'
-fits-kept q scn (state.Opening rows) k k' h f = (f.0, bound-stays k k' q (later-grown k k' (grown-passes k k' h)) h.legal f.1, f.2)
-fits-kept q scn (state.Looking x a) k k' h f = let g = grown-passes k k' h in (grown-reading k k' q scn x.point g f.0, f.1, later-gathered q x.point x.path k k' (up_to a) (given_of x.rows.items) (later-grown k k' g) f.2)
-fits-kept q scn (state.Consulting x r d) k k' h f = (grown-scanning k k' q scn x (InDoubt d ∷ r.keys.items) r.next r.at (grown-passes k k' h) f.0, f.1)
-fits-kept q scn (state.Fixing x r d) k k' h f = (grown-scanning k k' q scn x r.keys.items r.next r.at (grown-passes k k' h) f.0, f.1)
-fits-kept q scn (state.Settling x r d) k k' h f = (grown-scanning k k' q scn x r.keys.items r.next r.at (grown-passes k k' h) f.0, f.1)
-fits-kept q scn (state.Closing p (Ok rows)) k k' h f = let g = grown-passes k k' h in (grown-reading k k' q scn p g f.0, (f.1.0, f.1.1, later-ended q p f.1.0 k k' (given_of rows.items) (later-grown k k' g) f.1.2))
-fits-kept q scn (state.Closing p (Err e)) k k' h f =
+pub fits-kept : (sound : Type 0) (q : Query) (scn : Option ℕ) (s : QueryState) (k k' : Known) → Passes k k' → Fits sound q scn s k → Fits sound q scn s k'
+fits-kept sound q scn (state.Opening rows) k k' h f = (f.0, bound-stays k k' q (later-grown k k' (grown-passes k k' h)) h.legal f.1, f.2)
+fits-kept sound q scn (state.Looking x a) k k' h f = let g = grown-passes k k' h in (grown-reading k k' q scn x.point g f.0, f.1, λ is_sound. later-gathered q x.point x.path k k' (up_to a) (given_of x.rows.items) (later-grown k k' g) (f.2 is_sound))
+fits-kept sound q scn (state.Consulting x r d) k k' h f = (grown-scanning sound k k' q scn x (InDoubt d ∷ r.keys.items) r.next r.at (grown-passes k k' h) f.0, f.1)
+fits-kept sound q scn (state.Fixing x r d) k k' h f = (grown-scanning sound k k' q scn x r.keys.items r.next r.at (grown-passes k k' h) f.0, f.1)
+fits-kept sound q scn (state.Settling x r d) k k' h f = (grown-scanning sound k k' q scn x r.keys.items r.next r.at (grown-passes k k' h) f.0, f.1)
+fits-kept sound q scn (state.Closing p (Ok rows)) k k' h f = let g = grown-passes k k' h in (grown-reading k k' q scn p g f.0, (f.1.0, f.1.1, λ is_sound. later-ended q p f.1.0 k k' (given_of rows.items) (later-grown k k' g) (f.1.2 is_sound)))
+fits-kept sound q scn (state.Closing p (Err e)) k k' h f =
     let g = grown-passes k k' h in
     let l = later-grown k k' g in
     (grown-reading k k' q scn p g f.0, (later-fault q e k k' l f.1.0, made-later p.found.at e k k' f.0.point.within l f.1.1))
-fits-kept q scn state.Over k k' h f = tt
+fits-kept sound q scn state.Over k k' h f = tt
 
 -- 2. States that go on from a point
 
-pub goes-looking : (k : Known) (q : Query) (scn : Option ℕ) (x : Scan) (a : Option (List ℕ)) → IsReading k q scn x.point → IsPathFor q x.point x.path → Gathered (frame q k x) k.seen (up_to a) (given_of x.rows.items) → GoesOn k q scn x.point (state.Looking x a)
-goes-looking k q scn x a h path c = record { fits = (h, path, c); going = tt; opened_is = refl; since = λ n le. le }
+pub goes-looking : (sound : Type 0) (k : Known) (q : Query) (scn : Option ℕ) (x : Scan) (a : Option (List ℕ)) → IsReading k q scn x.point → IsPathFor q x.point x.path → (sound → Gathered (frame q k x) k.seen (up_to a) (given_of x.rows.items)) → GoesOn sound k q scn x.point (state.Looking x a)
+goes-looking sound k q scn x a h path c = record { fits = (h, path, c); going = tt; opened_is = refl; since = λ n le. le }
 
-pub goes-consulting : (k : Known) (q : Query) (scn : Option ℕ) (x : Scan) (r : Rest) (d : Doubt) → IsScanning k q scn x (InDoubt d ∷ r.keys.items) r.next r.at → is_full q.limit (length (given_of x.rows.items)) ≡ false → GoesOn k q scn x.point (state.Consulting x r d)
-goes-consulting k q scn x r d h f = record { fits = (h, f); going = tt; opened_is = refl; since = λ n le. le }
+pub goes-consulting : (sound : Type 0) (k : Known) (q : Query) (scn : Option ℕ) (x : Scan) (r : Rest) (d : Doubt) → IsScanning sound k q scn x (InDoubt d ∷ r.keys.items) r.next r.at → (sound → is_full q.limit (length (given_of x.rows.items)) ≡ false) → GoesOn sound k q scn x.point (state.Consulting x r d)
+goes-consulting sound k q scn x r d h f = record { fits = (h, f); going = tt; opened_is = refl; since = λ n le. le }
 
-pub goes-fixing : (k : Known) (q : Query) (scn : Option ℕ) (x : Scan) (r : Rest) (d : Doubt) → IsScanning k q scn x r.keys.items r.next r.at → IsSome d.verdict → GoesOn k q scn x.point (state.Fixing x r d)
-goes-fixing k q scn x r d h v = record { fits = (h, v); going = tt; opened_is = refl; since = λ n le. le }
+pub goes-fixing : (sound : Type 0) (k : Known) (q : Query) (scn : Option ℕ) (x : Scan) (r : Rest) (d : Doubt) → IsScanning sound k q scn x r.keys.items r.next r.at → IsSome d.verdict → GoesOn sound k q scn x.point (state.Fixing x r d)
+goes-fixing sound k q scn x r d h v = record { fits = (h, v); going = tt; opened_is = refl; since = λ n le. le }
 
-pub goes-settling : (k : Known) (q : Query) (scn : Option ℕ) (x : Scan) (r : Rest) (d : Doubt) → IsScanning k q scn x r.keys.items r.next r.at → IsSome d.verdict → GoesOn k q scn x.point (state.Settling x r d)
-goes-settling k q scn x r d h v = record { fits = (h, v); going = tt; opened_is = refl; since = λ n le. le }
+pub goes-settling : (sound : Type 0) (k : Known) (q : Query) (scn : Option ℕ) (x : Scan) (r : Rest) (d : Doubt) → IsScanning sound k q scn x r.keys.items r.next r.at → IsSome d.verdict → GoesOn sound k q scn x.point (state.Settling x r d)
+goes-settling sound k q scn x r d h v = record { fits = (h, v); going = tt; opened_is = refl; since = λ n le. le }
 
-pub goes-ended : (k : Known) (q : Query) (scn : Option ℕ) (p : Point) (path : Path) (rows : Vec Placed Global) → IsReading k q scn p → IsPathFor q p path → Ended (frame_of q k p path) k.seen (given_of rows.items) → GoesOn k q scn p (state.Closing p (Ok rows))
-goes-ended k q scn p path rows h c e = record { fits = (h, (path, c, e)); going = tt; opened_is = refl; since = λ n le. le }
+pub goes-ended : (sound : Type 0) (k : Known) (q : Query) (scn : Option ℕ) (p : Point) (path : Path) (rows : Vec Placed Global) → IsReading k q scn p → IsPathFor q p path → (sound → Ended (frame_of q k p path) k.seen (given_of rows.items)) → GoesOn sound k q scn p (state.Closing p (Ok rows))
+goes-ended sound k q scn p path rows h c e = record { fits = (h, (path, c, e)); going = tt; opened_is = refl; since = λ n le. le }
 
-pub goes-failed : (k : Known) (q : Query) (scn : Option ℕ) (p : Point) (f : QueryFault) → IsReading k q scn p → FaultIs q f k → MadeSince p.found.at f k → GoesOn k q scn p (state.Closing p (Err f))
-goes-failed k q scn p f h told made = record { fits = (h, (told, made)); going = tt; opened_is = refl; since = λ n le. le }
+pub goes-failed : (sound : Type 0) (k : Known) (q : Query) (scn : Option ℕ) (p : Point) (f : QueryFault) → IsReading k q scn p → FaultIs q f k → MadeSince p.found.at f k → GoesOn sound k q scn p (state.Closing p (Err f))
+goes-failed sound k q scn p f h told made = record { fits = (h, (told, made)); going = tt; opened_is = refl; since = λ n le. le }
 
 -- a step that went on from a point
-pub steps : (k k' : Known) (q : Query) (scn : Option ℕ) (p : Point) (old new : QueryState) → Quiet k k' → opened old ≡ opening p → ((n : ℕ) → IsSince n old k → n ≤ p.found.at) → GoesOn k' q scn p new → Edge old k new k' → QueryTurns q scn old k new k' turn.Stepped
-steps k k' q scn p old new h was since g edge = record {
+pub steps : (sound : Type 0) (k k' : Known) (q : Query) (scn : Option ℕ) (p : Point) (old new : QueryState) → Quiet k k' → opened old ≡ opening p → ((n : ℕ) → IsSince n old k → n ≤ p.found.at) → GoesOn sound k' q scn p new → Edge sound old k new k' → QueryTurns sound q scn old k new k' turn.Stepped
+steps sound k k' q scn p old new h was since g edge = record {
   acts = h.acts;
   ran = h.ran;
   fits = g.fits;
@@ -154,22 +155,23 @@ steps k k' q scn p old new h was since g edge = record {
 }
 
 -- a step that ended the scan with a fault
-pub fails : (k k' : Known) (q : Query) (scn : Option ℕ) (p : Point) (old new : QueryState) (f : QueryFault) → new ≡ state.Closing p (Err f) → IsReading k q scn p → opened old ≡ opening p → ((n : ℕ) → IsSince n old k → n ≤ p.found.at) → Quiet k k' → FaultIs q f k' → MadeSince p.found.at f k' → Edge old k (state.Closing p (Err f)) k' → QueryTurns q scn old k new k' turn.Stepped
-fails k k' q scn p old new f is h was since quiet told made edge =
-    subst (λ (n : QueryState). QueryTurns q scn old k n k' turn.Stepped) (sym is)
-    (steps k k' q scn p old (state.Closing p (Err f)) quiet was since (goes-failed k' q scn p f (grown-reading k k' q scn p (grown-quiet k k' quiet) h) told made) edge)
+pub fails : (sound : Type 0) (k k' : Known) (q : Query) (scn : Option ℕ) (p : Point) (old new : QueryState) (f : QueryFault) → new ≡ state.Closing p (Err f) → IsReading k q scn p → opened old ≡ opening p → ((n : ℕ) → IsSince n old k → n ≤ p.found.at) → Quiet k k' → FaultIs q f k' → MadeSince p.found.at f k' → Edge sound old k (state.Closing p (Err f)) k' → QueryTurns sound q scn old k new k' turn.Stepped
+fails sound k k' q scn p old new f is h was since quiet told made edge =
+    subst (λ (n : QueryState). QueryTurns sound q scn old k n k' turn.Stepped) (sym is)
+    (steps sound k k' q scn p old (state.Closing p (Err f)) quiet was since (goes-failed sound k' q scn p f (grown-reading k k' q scn p (grown-quiet k k' quiet) h) told made) edge)
 
 -- 3. Looks and doubts
 
-pub looked : (k k' : Known) (q : Query) (scn : Option ℕ) (x : Scan) (a : Option (List ℕ)) (c : Chunk) → Fits q scn (state.Looking x a) k → DidLook k k' x.point x.path a c → IsScanning k' q scn x c.found c.next c.at
-looked k k' q scn x a c h l =
+pub looked : (sound : Type 0) (k k' : Known) (q : Query) (scn : Option ℕ) (x : Scan) (a : Option (List ℕ)) (c : Chunk) → Fits sound q scn (state.Looking x a) k → DidLook sound k k' x.point x.path a c → IsScanning sound k' q scn x c.found c.next c.at
+looked sound k k' q scn x a c h l =
     let p = l.finds.sees.passes in
     let rows : List Given = given_of x.rows.items in
-    let base : Gathered (frame q k' x) k.seen (up_to a) rows = subst (λ (b : Base). Gathered (record { base = b; point = x.point; query = q; path = x.path }) k.seen (up_to a) rows) (sym p.base) h.2 in
+    let base : sound → Gathered (frame q k' x) k.seen (up_to a) rows = λ is_sound. subst (λ (b : Base). Gathered (record { base = b; point = x.point; query = q; path = x.path }) k.seen (up_to a) rows) (sym p.base) (h.2 is_sound) in
     record {
       reading = grown-reading k k' q scn x.point (grown-passes k k' p) h.0;
       path = h.1;
-      pending = gathering.looks (frame q k' x) k k' a c p.others rows refl p.seen h.0.point.within h.1 base l;
+      doubts = l.shows.doubts;
+      pending = λ is_sound. gathering.looks (frame q k' x) k k' a c p.others rows refl p.seen h.0.point.within h.1 (base is_sound) l.shows (l.rows is_sound) l.at;
     }
 
 -- the index of a doubt may be asked about
@@ -177,9 +179,9 @@ readable : (p : Point) (d : Doubt) (o : Option Index) → IsReadable p o → (x 
 readable p d None h = absurd h
 readable p d (Some x) h = (x, refl)
 
-pub can-consult : (k : Known) (q : Query) (scn : Option ℕ) (x : Scan) (keys : List FoundKey) (next : Option (List ℕ)) (at : ℕ) (d : Doubt) → IsScanning k q scn x (InDoubt d ∷ keys) next at → CanConsult x.point d
-can-consult k q scn x keys next at d h =
-    let right : IsRightKey (frame q k x).base (take at k.seen) x.point x.path.by (InDoubt d) = h.pending.left.right (InDoubt d) (gathering.here (InDoubt d) keys) in
+pub can-consult : (sound : Type 0) (k : Known) (q : Query) (scn : Option ℕ) (x : Scan) (keys : List FoundKey) (next : Option (List ℕ)) (at : ℕ) (d : Doubt) → IsScanning sound k q scn x (InDoubt d ∷ keys) next at → CanConsult x.point d
+can-consult sound k q scn x keys next at d h =
+    let right : IsDoubtOf x.point.found x.path.by d = h.doubts d (gathering.here (InDoubt d) keys) in
     let can : CanReadBy x.point (by.Index d.index) = subst (CanReadBy x.point) right.0 h.path.can in
     let i = readable x.point d (index_in x.point.found d.index.0) can in
     record {
@@ -190,36 +192,42 @@ can-consult k q scn x keys next at d h =
           (subst (λ (b : By). IsKey most_key (columns_on (columns_by x.point.found b)) d.key) right.0 right.1);
     }
 
+-- the doubts behind a key
+pub fewer-doubts : (f : Found) (w : By) (key : FoundKey) (keys : List FoundKey) → AreDoubtsOf f w (key ∷ keys) → AreDoubtsOf f w keys
+unfolding IsAmong
+fewer-doubts f w key keys h d among = h d (inr among)
+
 -- the doubt's row is taken, where it was held
-pub consulted : (k k' : Known) (q : Query) (scn : Option ℕ) (x y : Scan) (r : Rest) (d d' : Doubt) (ho : Option Held) → y.point ≡ x.point → y.path ≡ x.path → Fits q scn (state.Consulting x r d) k → DidConsult k k' x.point d d' ho → given_of y.rows.items ≡ given_of x.rows.items ++ kept_held q ho → IsScanning k' q scn y r.keys.items r.next r.at
-consulted k k' q scn x y r d d' ho point path h l rows =
-    let s = grown-scanning k k' q scn x (InDoubt d ∷ r.keys.items) r.next r.at (grown-passes k k' l.finds.sees.passes) h.0 in
-    let one : Pending (frame q k' x) k'.seen r.at r.keys.items r.next (given_of x.rows.items ++ kept_held q ho) = gathering.pending-doubt (frame q k' x) k' r.at d r.keys.items r.next (given_of x.rows.items) ho refl h.1 s.pending l.held in
-    let two : Pending (frame q k' x) k'.seen r.at r.keys.items r.next (given_of y.rows.items) = subst (λ (g : List Given). Pending (frame q k' x) k'.seen r.at r.keys.items r.next g) (sym rows) one in
+pub consulted : (sound : Type 0) (k k' : Known) (q : Query) (scn : Option ℕ) (x y : Scan) (r : Rest) (d d' : Doubt) (ho : Option Held) → y.point ≡ x.point → y.path ≡ x.path → Fits sound q scn (state.Consulting x r d) k → DidConsult sound k k' x.point d d' ho → given_of y.rows.items ≡ given_of x.rows.items ++ kept_held q ho → IsScanning sound k' q scn y r.keys.items r.next r.at
+consulted sound k k' q scn x y r d d' ho point path h l rows =
+    let s = grown-scanning sound k k' q scn x (InDoubt d ∷ r.keys.items) r.next r.at (grown-passes k k' l.finds.sees.passes) h.0 in
+    let one : sound → Pending (frame q k' x) k'.seen r.at r.keys.items r.next (given_of x.rows.items ++ kept_held q ho) = λ is_sound. gathering.pending-doubt (frame q k' x) k' r.at d r.keys.items r.next (given_of x.rows.items) ho refl (h.1 is_sound) (s.pending is_sound) (l.held is_sound) in
+    let two : sound → Pending (frame q k' x) k'.seen r.at r.keys.items r.next (given_of y.rows.items) = λ is_sound. subst (λ (g : List Given). Pending (frame q k' x) k'.seen r.at r.keys.items r.next g) (sym rows) (one is_sound) in
     record {
       reading = subst (IsReading k' q scn) (sym point) s.reading;
       path = subst (λ (p : Point). IsPathFor q p y.path) (sym point) (subst (IsPathFor q x.point) (sym path) s.path);
-      pending =
+      doubts = subst (λ (p : Point). AreDoubtsOf p.found y.path.by r.keys.items) (sym point) (subst (λ (w : Path). AreDoubtsOf x.point.found w.by r.keys.items) (sym path) (fewer-doubts x.point.found x.path.by (InDoubt d) r.keys.items s.doubts));
+      pending = λ is_sound.
           subst (λ (p : Point). Pending (frame_of q k' p y.path) k'.seen r.at r.keys.items r.next (given_of y.rows.items)) (sym point)
-          (subst (λ (w : Path). Pending (frame_of q k' x.point w) k'.seen r.at r.keys.items r.next (given_of y.rows.items)) (sym path) two);
+          (subst (λ (w : Path). Pending (frame_of q k' x.point w) k'.seen r.at r.keys.items r.next (given_of y.rows.items)) (sym path) (two is_sound));
     }
 
-pub consults : (k k' : Known) (q : Query) (scn : Option ℕ) (x y : Scan) (r : Rest) (d d' : Doubt) (ho : Option Held) → y.point ≡ x.point → y.path ≡ x.path → Fits q scn (state.Consulting x r d) k → DidConsult k k' x.point d d' ho → given_of y.rows.items ≡ given_of x.rows.items ++ kept_held q ho
-    → QueryTurns q scn (state.Consulting x r d) k (state.Fixing y r d') k' turn.Stepped
-consults k k' q scn x y r d d' ho point path h l rows =
-    steps k k' q scn y.point (state.Consulting x r d) (state.Fixing y r d') (quiet-sees k k' l.finds.sees) (ap opening (sym point)) (λ n le. subst (λ (p : Point). n ≤ p.found.at) (sym point) le)
-    (goes-fixing k' q scn y r d' (consulted k k' q scn x y r d d' ho point path h l rows) l.verdict)
+pub consults : (sound : Type 0) (k k' : Known) (q : Query) (scn : Option ℕ) (x y : Scan) (r : Rest) (d d' : Doubt) (ho : Option Held) → y.point ≡ x.point → y.path ≡ x.path → Fits sound q scn (state.Consulting x r d) k → DidConsult sound k k' x.point d d' ho → given_of y.rows.items ≡ given_of x.rows.items ++ kept_held q ho
+    → QueryTurns sound q scn (state.Consulting x r d) k (state.Fixing y r d') k' turn.Stepped
+consults sound k k' q scn x y r d d' ho point path h l rows =
+    steps sound k k' q scn y.point (state.Consulting x r d) (state.Fixing y r d') (quiet-sees k k' l.finds.sees) (ap opening (sym point)) (λ n le. subst (λ (p : Point). n ≤ p.found.at) (sym point) le)
+    (goes-fixing sound k' q scn y r d' (consulted sound k k' q scn x y r d d' ho point path h l rows) l.verdict)
     (ho, l)
 
-pub after-look : (y : Scan) (after : Option (List ℕ)) (k k' : Known) (c : Chunk) (new : QueryState) → IsNext new → DidLook k k' y.point y.path after c → AfterLook y after k new k'
-after-look y after k k' c (state.Opening rows) n h = absurd n
-after-look y after k k' c (state.Looking x a) n h = (n, (c, h))
-after-look y after k k' c (state.Consulting x r e) n h = (n, (c, h))
-after-look y after k k' c (state.Fixing x r e) n h = absurd n
-after-look y after k k' c (state.Settling x r e) n h = absurd n
-after-look y after k k' c (state.Closing p (Ok u)) n h = (n, (c, h))
-after-look y after k k' c (state.Closing p (Err f)) n h = tt
-after-look y after k k' c state.Over n h = absurd n
+pub after-look : (sound : Type 0) (y : Scan) (after : Option (List ℕ)) (k k' : Known) (c : Chunk) (new : QueryState) → IsNext new → DidLook sound k k' y.point y.path after c → AfterLook sound y after k new k'
+after-look sound y after k k' c (state.Opening rows) n h = absurd n
+after-look sound y after k k' c (state.Looking x a) n h = (n, (c, h))
+after-look sound y after k k' c (state.Consulting x r e) n h = (n, (c, h))
+after-look sound y after k k' c (state.Fixing x r e) n h = absurd n
+after-look sound y after k k' c (state.Settling x r e) n h = absurd n
+after-look sound y after k k' c (state.Closing p (Ok u)) n h = (n, (c, h))
+after-look sound y after k k' c (state.Closing p (Err f)) n h = tt
+after-look sound y after k k' c state.Over n h = absurd n
 
 pub after-fix : (d : Doubt) (k k' : Known) (w : Fixing) (new : QueryState) → IsNext new → DidFix k k' d w → AfterFix d k new k'
 after-fix d k k' w (state.Opening rows) n h = absurd n
@@ -286,8 +294,8 @@ opened-bound k k' q t scn p number d h =
     let b = bound-stays k k' q (later-ran k k' _ (ran-adds k k' (act.Opened t p.stamp p.scn) d.adds)) d.adds.extends.legal h in
     b.is p.found.table (ap (λ (n : ℕ). table_of k'.base k'.seen n) (sym (ap (λ (u : TableId). u.0) d.found_table ∙ number)) ∙ d.found.table)
 
-pub opens : (k k' : Known) (q : Query) (scn : Option ℕ) (t : TableId) (rows : Vec Placed Global) (p : Point) (new : QueryState) → t.0 ≡ q.table → DidOpen k k' t scn p → GoesOn k' q scn p new → QueryTurns q scn (state.Opening rows) k new k' turn.Stepped
-opens k k' q scn t rows p new number d g =
+pub opens : (sound : Type 0) (k k' : Known) (q : Query) (scn : Option ℕ) (t : TableId) (rows : Vec Placed Global) (p : Point) (new : QueryState) → t.0 ≡ q.table → DidOpen k k' t scn p → GoesOn sound k' q scn p new → QueryTurns sound q scn (state.Opening rows) k new k' turn.Stepped
+opens sound k k' q scn t rows p new number d g =
     let ran = ran-adds k k' (act.Opened t p.stamp p.scn) d.adds in
     record {
       acts = act.Opened t p.stamp p.scn ∷ [];
@@ -298,8 +306,8 @@ opens k k' q scn t rows p new number d g =
       edge = tt;
     }
 
-pub unopened : (k k' : Known) (q : Query) (scn : Option ℕ) (rows : Vec Placed Global) (f : QueryFault) → QueryFaultIs q scn f k' → Sees k k' → ((n : ℕ) → MadeSince n f k') → QueryTurns q scn (state.Opening rows) k state.Over k' (turn.Over (Err f))
-unopened k k' q scn rows f told h made = record {
+pub unopened : (sound : Type 0) (k k' : Known) (q : Query) (scn : Option ℕ) (rows : Vec Placed Global) (f : QueryFault) → QueryFaultIs q scn f k' → Sees k k' → ((n : ℕ) → MadeSince n f k') → QueryTurns sound q scn (state.Opening rows) k state.Over k' (turn.Over (Err f))
+unopened sound k k' q scn rows f told h made = record {
   acts = [];
   ran = ran-sees k k' h;
   fits = tt;
@@ -308,9 +316,9 @@ unopened k k' q scn rows f told h made = record {
   edge = tt;
 }
 
-pub awaits : (k k' : Known) (q : Query) (scn : Option ℕ) (t : TableId) (rows : Vec Placed Global) (stamp : ℕ) → t.0 ≡ q.table → Fits q scn (state.Opening rows) k → Refuses (open_cause t.0 scn) k k' (step.NotYet stamp) → QueryTurns q scn (state.Opening rows) k (state.Opening rows) k' (turn.Waiting stamp)
-awaits k k' q None t rows stamp number f h = absurd h.0
-awaits k k' q (Some scn) t rows stamp number f h =
+pub awaits : (sound : Type 0) (k k' : Known) (q : Query) (scn : Option ℕ) (t : TableId) (rows : Vec Placed Global) (stamp : ℕ) → t.0 ≡ q.table → Fits sound q scn (state.Opening rows) k → Refuses (open_cause t.0 scn) k k' (step.NotYet stamp) → QueryTurns sound q scn (state.Opening rows) k (state.Opening rows) k' (turn.Waiting stamp)
+awaits sound k k' q None t rows stamp number f h = absurd h.0
+awaits sound k k' q (Some scn) t rows stamp number f h =
     let s = h.1 in
     let cause = subst (λ (u : ℕ). open_cause u (Some scn) (step.NotYet stamp) k') number h.0 in
     record {
@@ -347,15 +355,15 @@ acts_are b es q scn p h =
     ∙ (ap (λ (f : Bool). act.Opened (table_number q) p.stamp f ∷ act.Released (table_number q) p.stamp ∷ []) h.is_scn
     ∙ ap (λ (s : ℕ). act.Opened (table_number q) s (is_some scn) ∷ act.Released (table_number q) s ∷ []) h.stamp)
 
-pub closes-ok : (k k' : Known) (q : Query) (scn : Option ℕ) (p : Point) (rows : Vec Placed Global) (a : Answer) → Fits q scn (state.Closing p (Ok rows)) k → Adds k k' (act.Released p.table p.stamp)
-    → a.rows ≡ rows → a.first ≡ p.found.at → a.last ≡ length k'.seen → QueryTurns q scn (state.Closing p (Ok rows)) k state.Over k' (turn.Over (Ok a))
-closes-ok k k' q scn p rows a h adds same first last =
+pub closes-ok : (sound : Type 0) (k k' : Known) (q : Query) (scn : Option ℕ) (p : Point) (rows : Vec Placed Global) (a : Answer) → Fits sound q scn (state.Closing p (Ok rows)) k → Adds k k' (act.Released p.table p.stamp)
+    → a.rows ≡ rows → a.first ≡ p.found.at → a.last ≡ length k'.seen → QueryTurns sound q scn (state.Closing p (Ok rows)) k state.Over k' (turn.Over (Ok a))
+closes-ok sound k k' q scn p rows a h adds same first last =
     let ran = ran-adds k k' (act.Released p.table p.stamp) adds in
     let l = later-ran k k' _ ran in
     let point : IsPointOf k'.base k'.seen q scn p = later-point k k' q scn p l h.0.point in
     let path : Path = h.1.0 in
-    let ended : Ended (frame_of q k' p path) k'.seen (given_of rows.items) = later-ended q p path k k' (given_of rows.items) l h.1.2 in
-    let mine : Ended (frame_of q k' p path) k'.seen (given_of a.rows.items) = subst (λ (v : Vec Placed Global). Ended (frame_of q k' p path) k'.seen (given_of v.items)) (sym same) ended in
+    let ended : sound → Ended (frame_of q k' p path) k'.seen (given_of rows.items) = λ is_sound. later-ended q p path k k' (given_of rows.items) l (h.1.2 is_sound) in
+    let mine : sound → Ended (frame_of q k' p path) k'.seen (given_of a.rows.items) = λ is_sound. subst (λ (v : Vec Placed Global). Ended (frame_of q k' p path) k'.seen (given_of v.items)) (sym same) (ended is_sound) in
     record {
       acts = act.Released p.table p.stamp ∷ [];
       ran = ran;
@@ -367,9 +375,10 @@ closes-ok k k' q scn p rows a h adds same first last =
             point = p;
             found = subst (λ (n : ℕ). IsFound k'.base (take n k'.seen) p.found) (sym first) point.found;
             at = sym first;
+            is_point = point;
             path = path;
             chosen = h.1.1;
-            answer = answer-is (frame_of q k' p path) k'.seen scn a.first a.last (given_of a.rows.items) point adds.extends.legal mine first last;
+            answer = λ is_sound. answer-is (frame_of q k' p path) k'.seen scn a.first a.last (given_of a.rows.items) point adds.extends.legal (mine is_sound) first last;
           },
           acts_are k'.base k'.seen q scn p point ∙ ap (point_acts k'.base k'.seen q scn) (sym first),
           (let w = point.within in omega arith),
@@ -380,8 +389,8 @@ closes-ok k k' q scn p rows a h adds same first last =
       edge = tt;
     }
 
-pub closes-err : (k k' : Known) (q : Query) (scn : Option ℕ) (p : Point) (f : QueryFault) → Fits q scn (state.Closing p (Err f)) k → Adds k k' (act.Released p.table p.stamp) → QueryTurns q scn (state.Closing p (Err f)) k state.Over k' (turn.Over (Err f))
-closes-err k k' q scn p f h adds =
+pub closes-err : (sound : Type 0) (k k' : Known) (q : Query) (scn : Option ℕ) (p : Point) (f : QueryFault) → Fits sound q scn (state.Closing p (Err f)) k → Adds k k' (act.Released p.table p.stamp) → QueryTurns sound q scn (state.Closing p (Err f)) k state.Over k' (turn.Over (Err f))
+closes-err sound k k' q scn p f h adds =
     let ran = ran-adds k k' (act.Released p.table p.stamp) adds in
     let l = later-ran k k' _ ran in
     let number : p.table ≡ table_number q = ap (λ (n : ℕ). record { 0 = n }) h.0.point.table in
@@ -399,20 +408,20 @@ closes-err k k' q scn p f h adds =
 
 -- 6. A whole query
 
-pub starts : (q : Query) (scn : Option ℕ) (s : QueryState) (k : Known) → IsNew s → IsBound k q → IsScn scn → SoFar q scn k k s
-starts q scn (state.Opening rows) k h b c = record { acts = []; ran = ran-none k; so_far = refl; fits = (h, b, c); going = tt; since = omega arith }
-starts q scn (state.Looking x a) k h b c = absurd h
-starts q scn (state.Consulting x r d) k h b c = absurd h
-starts q scn (state.Fixing x r d) k h b c = absurd h
-starts q scn (state.Settling x r d) k h b c = absurd h
-starts q scn (state.Closing p end) k h b c = absurd h
-starts q scn state.Over k h b c = absurd h
+pub starts : (sound : Type 0) (q : Query) (scn : Option ℕ) (s : QueryState) (k : Known) → IsNew s → IsBound k q → IsScn scn → SoFar sound q scn k k s
+starts sound q scn (state.Opening rows) k h b c = record { acts = []; ran = ran-none k; so_far = refl; fits = (h, b, c); going = tt; since = omega arith }
+starts sound q scn (state.Looking x a) k h b c = absurd h
+starts sound q scn (state.Consulting x r d) k h b c = absurd h
+starts sound q scn (state.Fixing x r d) k h b c = absurd h
+starts sound q scn (state.Settling x r d) k h b c = absurd h
+starts sound q scn (state.Closing p end) k h b c = absurd h
+starts sound q scn state.Over k h b c = absurd h
 
 joined : (old : QueryState) (xs ys : List Act) → outline xs ≡ opened old → outline (xs ++ ys) ≡ opened old ++ outline ys
 joined old xs ys h = outline-append xs ys ∙ ap (λ (l : List Act). l ++ outline ys) h
 
-pub steps_on : (q : Query) (scn : Option ℕ) (k0 k k' : Known) (old new : QueryState) → SoFar q scn k0 k old → QueryTurns q scn old k new k' turn.Stepped → SoFar q scn k0 k' new
-steps_on q scn k0 k k' old new h t = record {
+pub steps_on : (sound : Type 0) (q : Query) (scn : Option ℕ) (k0 k k' : Known) (old new : QueryState) → SoFar sound q scn k0 k old → QueryTurns sound q scn old k new k' turn.Stepped → SoFar sound q scn k0 k' new
+steps_on sound q scn k0 k k' old new h t = record {
   acts = h.acts ++ t.acts;
   ran = ran-then k0 k k' h.acts t.acts h.ran t.ran;
   so_far = joined old h.acts t.acts h.so_far ∙ t.told.1;
@@ -421,8 +430,8 @@ steps_on q scn k0 k k' old new h t = record {
   since = t.since (length k0.seen) h.since;
 }
 
-pub waits_on : (q : Query) (scn : Option ℕ) (k0 k k' : Known) (old new : QueryState) (stamp : ℕ) → SoFar q scn k0 k old → QueryTurns q scn old k new k' (turn.Waiting stamp) → SoFar q scn k0 k' new
-waits_on q scn k0 k k' old new stamp h t = record {
+pub waits_on : (sound : Type 0) (q : Query) (scn : Option ℕ) (k0 k k' : Known) (old new : QueryState) (stamp : ℕ) → SoFar sound q scn k0 k old → QueryTurns sound q scn old k new k' (turn.Waiting stamp) → SoFar sound q scn k0 k' new
+waits_on sound q scn k0 k k' old new stamp h t = record {
   acts = h.acts ++ t.acts;
   ran = ran-then k0 k k' h.acts t.acts h.ran t.ran;
   so_far = joined old h.acts t.acts h.so_far ∙ t.told.1;
@@ -431,16 +440,16 @@ waits_on q scn k0 k k' old new stamp h t = record {
   since = t.since (length k0.seen) h.since;
 }
 
-pub ends_as : (q : Query) (scn : Option ℕ) (k0 k k' : Known) (old new : QueryState) (r : Result Answer QueryFault) → SoFar q scn k0 k old → QueryTurns q scn old k new k' (turn.Over r) → RanQuery q scn k0 k' r
-ends_as q scn k0 k k' old new (Ok a) h t = record {
+pub ends_as : (sound : Type 0) (q : Query) (scn : Option ℕ) (k0 k k' : Known) (old new : QueryState) (r : Result Answer QueryFault) → SoFar sound q scn k0 k old → QueryTurns sound q scn old k new k' (turn.Over r) → RanQuery sound q scn k0 k' r
+ends_as sound q scn k0 k k' old new (Ok a) h t = record {
   acts = h.acts ++ t.acts;
   ran = ran-then k0 k k' h.acts t.acts h.ran t.ran;
-  outcome = subst (λ (l : List Act). IsOutcome q scn l k' (Ok a)) (sym (joined old h.acts t.acts h.so_far)) t.told.1;
+  outcome = subst (λ (l : List Act). IsOutcome sound q scn l k' (Ok a)) (sym (joined old h.acts t.acts h.so_far)) t.told.1;
   since = t.since (length k0.seen) h.since;
 }
-ends_as q scn k0 k k' old new (Err f) h t = record {
+ends_as sound q scn k0 k k' old new (Err f) h t = record {
   acts = h.acts ++ t.acts;
   ran = ran-then k0 k k' h.acts t.acts h.ran t.ran;
-  outcome = subst (λ (l : List Act). IsOutcome q scn l k' (Err f)) (sym (joined old h.acts t.acts h.so_far)) t.told.1;
+  outcome = subst (λ (l : List Act). IsOutcome sound q scn l k' (Err f)) (sym (joined old h.acts t.acts h.so_far)) t.told.1;
   since = t.since (length k0.seen) h.since;
 }

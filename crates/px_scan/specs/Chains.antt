@@ -21,9 +21,9 @@ pub record Step : Type 0 where
   pub turn : QueryTurn
 
 -- steps from a state on, with others' entries before each
-abbrev pub AreSteps : Query → Option ℕ → QueryState → Known → List Step → Type 0
-AreSteps q scn s k [] = Unit {0}
-AreSteps q scn s k (o ∷ os) = Passes k o.before × QueryTurns q scn s o.before o.state o.after o.turn × AreSteps q scn o.state o.after os
+abbrev pub AreSteps : Type 0 → Query → Option ℕ → QueryState → Known → List Step → Type 0
+AreSteps sound q scn s k [] = Unit {0}
+AreSteps sound q scn s k (o ∷ os) = Passes k o.before × QueryTurns sound q scn s o.before o.state o.after o.turn × AreSteps sound q scn o.state o.after os
 
 abbrev pub state_after : QueryState → List Step → QueryState
 state_after s [] = s
@@ -46,10 +46,10 @@ pub record HasFix (d : Doubt) (os : List Step) : Type 0 where
   pub fixed : DidFix step.before step.after d answer
 
 -- one of the steps consulted the doubt, and one fixed it as that left it
-pub record IsSettled (p : Point) (d : Doubt) (os : List Step) : Type 0 where
+pub record IsSettled (sound : Type 0) (p : Point) (d : Doubt) (os : List Step) : Type 0 where
   pub step : Step
   pub among : IsAmong step os
   pub left : Doubt
   pub held : Option Held
-  pub consulted : DidConsult step.before step.after p d left held
+  pub consulted : DidConsult sound step.before step.after p d left held
   pub has_fix : HasFix left os

@@ -3,12 +3,14 @@ use Rattle.std.specs.Prelude.{ℕ, ◌≡◌, ◌≤◌, ◌⊎◌, Bool, false,
 use Rattle.std.specs.declared.alloc.Global.{Global}
 use Rattle.std.specs.Option.{is_some}
 use Rattle.px_values.specs.declared.name.TableId.{TableId}
+use Rattle.px_tables.specs.declared.found.Found.{Found}
 use Rattle.px_tables.specs.declared.table.Table.{Table}
 use Rattle.px_trail.specs.declared.entry.Act.{Act}
 use Rattle.px_trail.specs.declared.entry.Act.TheVariants as act
 use Rattle.px_trail.specs.declared.entry.Entry.{Entry}
 use Rattle.px_trail.specs.Answers.{Given}
 use Rattle.px_trail.specs.Trail.{Base, acts_by, table_of}
+use Rattle.px_calls.specs.declared.query.By.{By}
 use Rattle.px_calls.specs.declared.query.Chunk.{Chunk}
 use Rattle.px_calls.specs.declared.query.Doubt.{Doubt}
 use Rattle.px_calls.specs.declared.query.Fixing.{Fixing}
@@ -20,6 +22,7 @@ use Rattle.px_calls.specs.declared.query.Point.{Point}
 use Rattle.px_calls.specs.Known.{Known, Ran, outline}
 use Rattle.px_calls.specs.Causes.{IsUndecided, stamp_at}
 use Rattle.px_calls.specs.Calls.{DidConsult, DidFix, DidLook, IsFound}
+use Rattle.px_calls.specs.Looks.{AreDoubtsOf}
 use Rattle.px_calls.specs.Requires.{IsDrawn, IsOpen, IsScn}
 use Rattle.px_gather.specs.Answers.{IsAnswerBy, IsPointOf}
 use Rattle.px_gather.specs.Gathered.{Ended, Frame, Gathered, Pending, is_full, up_to}
@@ -74,26 +77,27 @@ pub record IsReading (k : Known) (q : Query) (scn : Option ℕ) (p : Point) : Ty
   pub is_open : IsOpen k p
   pub point : IsPointOf k.base k.seen q scn p
 
--- a scan on its way, of which these keys are left
-pub record IsScanning (k : Known) (q : Query) (scn : Option ℕ) (x : Scan) (keys : List FoundKey) (next : Option (List ℕ)) (at : ℕ) : Type 0 where
+-- a scan on its way, of which these keys are left; and what it has gathered, if what was opened is sound
+pub record IsScanning (sound : Type 0) (k : Known) (q : Query) (scn : Option ℕ) (x : Scan) (keys : List FoundKey) (next : Option (List ℕ)) (at : ℕ) : Type 0 where
   pub reading : IsReading k q scn x.point
   pub path : IsPathFor q x.point x.path
-  pub pending : Pending (frame q k x) k.seen at keys next (given_of x.rows.items)
+  pub doubts : AreDoubtsOf x.point.found x.path.by keys
+  pub pending : sound → Pending (frame q k x) k.seen at keys next (given_of x.rows.items)
 
 -- how a scan ended, whose point is still to be closed
-abbrev pub HasEnded : Known → Query → Point → Result (Vec Placed Global) QueryFault → Type 0
-HasEnded k q p (Ok rows) = (path : Path) × IsPathFor q p path × Ended (frame_of q k p path) k.seen (given_of rows.items)
-HasEnded k q p (Err f) = FaultIs q f k × MadeSince p.found.at f k
+abbrev pub HasEnded : Type 0 → Known → Query → Point → Result (Vec Placed Global) QueryFault → Type 0
+HasEnded sound k q p (Ok rows) = (path : Path) × IsPathFor q p path × (sound → Ended (frame_of q k p path) k.seen (given_of rows.items))
+HasEnded sound k q p (Err f) = FaultIs q f k × MadeSince p.found.at f k
 
--- The state is as the trail tells. Others' entries keep this
-abbrev pub Fits : Query → Option ℕ → QueryState → Known → Type 0
-Fits q scn (state.Opening rows) k = (rows.items ≡ []) × IsBound k q × IsScn scn
-Fits q scn (state.Looking x after) k = IsReading k q scn x.point × IsPathFor q x.point x.path × Gathered (frame q k x) k.seen (up_to after) (given_of x.rows.items)
-Fits q scn (state.Consulting x rest d) k = IsScanning k q scn x (InDoubt d ∷ rest.keys.items) rest.next rest.at × (is_full q.limit (length (given_of x.rows.items)) ≡ false)
-Fits q scn (state.Fixing x rest d) k = IsScanning k q scn x rest.keys.items rest.next rest.at × IsSome d.verdict
-Fits q scn (state.Settling x rest d) k = IsScanning k q scn x rest.keys.items rest.next rest.at × IsSome d.verdict
-Fits q scn (state.Closing p end) k = IsReading k q scn p × HasEnded k q p end
-Fits q scn state.Over k = Unit {0}
+-- The state is as the trail tells, and what was gathered is right if what was opened is sound. Others' entries keep this
+abbrev pub Fits : Type 0 → Query → Option ℕ → QueryState → Known → Type 0
+Fits sound q scn (state.Opening rows) k = (rows.items ≡ []) × IsBound k q × IsScn scn
+Fits sound q scn (state.Looking x after) k = IsReading k q scn x.point × IsPathFor q x.point x.path × (sound → Gathered (frame q k x) k.seen (up_to after) (given_of x.rows.items))
+Fits sound q scn (state.Consulting x rest d) k = IsScanning sound k q scn x (InDoubt d ∷ rest.keys.items) rest.next rest.at × (sound → is_full q.limit (length (given_of x.rows.items)) ≡ false)
+Fits sound q scn (state.Fixing x rest d) k = IsScanning sound k q scn x rest.keys.items rest.next rest.at × IsSome d.verdict
+Fits sound q scn (state.Settling x rest d) k = IsScanning sound k q scn x rest.keys.items rest.next rest.at × IsSome d.verdict
+Fits sound q scn (state.Closing p end) k = IsReading k q scn p × HasEnded sound k q p end
+Fits sound q scn state.Over k = Unit {0}
 
 abbrev pub IsNew : QueryState → Type 0
 IsNew (state.Opening rows) = rows.items ≡ []
@@ -138,19 +142,20 @@ point_acts b es q scn first = let s = stamp_at scn q.table b (take first es) in 
 abbrev pub OpensAndCloses : Query → List Act → Type 0
 OpensAndCloses q acts = (stamp : ℕ) × (scn : Bool) × (acts ≡ act.Opened (table_number q) stamp scn ∷ act.Released (table_number q) stamp ∷ [])
 
--- the answer, in the order of the keys of a path that was chosen from the definitions in the point
-pub record IsAnswer (k : Known) (q : Query) (scn : Option ℕ) (a : Answer) : Type 0 where
+-- The answer, in the order of the keys of a path that was chosen from the definitions in the point. It is right if what was opened is sound
+pub record IsAnswer (sound : Type 0) (k : Known) (q : Query) (scn : Option ℕ) (a : Answer) : Type 0 where
   pub point : Point
   pub found : IsFound k.base (take a.first k.seen) point.found
   pub at : point.found.at ≡ a.first
+  pub is_point : IsPointOf k.base k.seen q scn point
   pub path : Path
   pub chosen : IsPathFor q point path
-  pub answer : IsAnswerBy k.base k.seen q scn point.found path.by a.first a.last (given_of a.rows.items)
+  pub answer : sound → IsAnswerBy k.base k.seen q scn point.found path.by a.first a.last (given_of a.rows.items)
 
 -- What a query came to, where `own` is what the seat began, ended, opened, closed and defined for it
-abbrev pub IsOutcome : Query → Option ℕ → List Act → Known → Result Answer QueryFault → Type 0
-IsOutcome q scn own k (Ok a) = IsAnswer k q scn a × (own ≡ point_acts k.base k.seen q scn a.first) × (a.first ≤ a.last) × (a.last ≡ length k.seen)
-IsOutcome q scn own k (Err f) = QueryFaultIs q scn f k × ((own ≡ []) ⊎ OpensAndCloses q own)
+abbrev pub IsOutcome : Type 0 → Query → Option ℕ → List Act → Known → Result Answer QueryFault → Type 0
+IsOutcome sound q scn own k (Ok a) = IsAnswer sound k q scn a × (own ≡ point_acts k.base k.seen q scn a.first) × (a.first ≤ a.last) × (a.last ≡ length k.seen)
+IsOutcome sound q scn own k (Err f) = QueryFaultIs q scn f k × ((own ≡ []) ⊎ OpensAndCloses q own)
 
 -- 4. Steps
 
@@ -159,10 +164,10 @@ abbrev pub IsAwaited : Query → Option ℕ → QueryState → Known → ℕ →
 IsAwaited q (Some scn) (state.Opening rows) k stamp = IsUndecided k q.table (stamp_at (Some scn) q.table k.base k.seen) stamp
 IsAwaited q scn s k stamp = ⊥
 
-abbrev pub Told : Query → Option ℕ → List Act → QueryState → QueryState → Known → QueryTurn → Type 0
-Told q scn own old new k turn.Stepped = IsGoing new × (own ≡ opened new)
-Told q scn own old new k (turn.Waiting stamp) = IsGoing new × (own ≡ opened new) × IsAwaited q scn old k stamp
-Told q scn own old new k (turn.Over r) = (new ≡ state.Over) × IsOutcome q scn own k r
+abbrev pub Told : Type 0 → Query → Option ℕ → List Act → QueryState → QueryState → Known → QueryTurn → Type 0
+Told sound q scn own old new k turn.Stepped = IsGoing new × (own ≡ opened new)
+Told sound q scn own old new k (turn.Waiting stamp) = IsGoing new × (own ≡ opened new) × IsAwaited q scn old k stamp
+Told sound q scn own old new k (turn.Over r) = (new ≡ state.Over) × IsOutcome sound q scn own k r
 
 abbrev pub IsSinceThen : ℕ → QueryState → Known → QueryTurn → Type 0
 IsSinceThen n new k turn.Stepped = IsSince n new k
@@ -177,14 +182,14 @@ IsNext (state.Consulting x rest d) = Unit {0}
 IsNext (state.Closing p end) = Unit {0}
 IsNext s = ⊥
 
-abbrev pub AfterLook : Scan → Option (List ℕ) → Known → QueryState → Known → Type 0
-AfterLook x after k (state.Closing p (Err f)) k' = Unit {0}
-AfterLook x after k new k' = IsNext new × ((c : Chunk) × DidLook k k' x.point x.path after c)
+abbrev pub AfterLook : Type 0 → Scan → Option (List ℕ) → Known → QueryState → Known → Type 0
+AfterLook sound x after k (state.Closing p (Err f)) k' = Unit {0}
+AfterLook sound x after k new k' = IsNext new × ((c : Chunk) × DidLook sound k k' x.point x.path after c)
 
-abbrev pub AfterConsult : Scan → Doubt → Known → QueryState → Known → Type 0
-AfterConsult x d k (state.Fixing y rest d') k' = (h : Option Held) × DidConsult k k' x.point d d' h
-AfterConsult x d k (state.Closing p (Err f)) k' = Unit {0}
-AfterConsult x d k new k' = ⊥
+abbrev pub AfterConsult : Type 0 → Scan → Doubt → Known → QueryState → Known → Type 0
+AfterConsult sound x d k (state.Fixing y rest d') k' = (h : Option Held) × DidConsult sound k k' x.point d d' h
+AfterConsult sound x d k (state.Closing p (Err f)) k' = Unit {0}
+AfterConsult sound x d k new k' = ⊥
 
 abbrev pub AfterFix : Doubt → Known → QueryState → Known → Type 0
 AfterFix d k (state.Settling y rest d') k' = d' ≡ d
@@ -199,25 +204,25 @@ AfterWork d new = ⊥
 
 -- A look is made, and gone through up to its next doubt. Each doubt is consulted once. With the verdict that this left it is then fixed, and `fix`
 -- is called again after upkeep until it answers; or the scan ends with a fault
-abbrev pub Edge : QueryState → Known → QueryState → Known → Type 0
-Edge (state.Looking x after) k new k' = AfterLook x after k new k'
-Edge (state.Consulting x rest d) k new k' = AfterConsult x d k new k'
-Edge (state.Fixing x rest d) k new k' = AfterFix d k new k'
-Edge (state.Settling x rest d) k new k' = AfterWork d new
-Edge s k new k' = Unit {0}
+abbrev pub Edge : Type 0 → QueryState → Known → QueryState → Known → Type 0
+Edge sound (state.Looking x after) k new k' = AfterLook sound x after k new k'
+Edge sound (state.Consulting x rest d) k new k' = AfterConsult sound x d k new k'
+Edge sound (state.Fixing x rest d) k new k' = AfterFix d k new k'
+Edge sound (state.Settling x rest d) k new k' = AfterWork d new
+Edge sound s k new k' = Unit {0}
 
 -- one step of a query
-pub record QueryTurns (q : Query) (scn : Option ℕ) (old : QueryState) (k : Known) (new : QueryState) (k' : Known) (t : QueryTurn) : Type 0 where
+pub record QueryTurns (sound : Type 0) (q : Query) (scn : Option ℕ) (old : QueryState) (k : Known) (new : QueryState) (k' : Known) (t : QueryTurn) : Type 0 where
   pub acts : List Act
   pub ran : Ran k k' acts
-  pub fits : Fits q scn new k'
-  pub told : Told q scn (opened old ++ outline acts) old new k' t
+  pub fits : Fits sound q scn new k'
+  pub told : Told sound q scn (opened old ++ outline acts) old new k' t
   pub since : (n : ℕ) → IsSince n old k → IsSinceThen n new k' t
-  pub edge : Edge old k new k'
+  pub edge : Edge sound old k new k'
 
 -- a state that goes on from a point
-pub record GoesOn (k : Known) (q : Query) (scn : Option ℕ) (p : Point) (new : QueryState) : Type 0 where
-  pub fits : Fits q scn new k
+pub record GoesOn (sound : Type 0) (k : Known) (q : Query) (scn : Option ℕ) (p : Point) (new : QueryState) : Type 0 where
+  pub fits : Fits sound q scn new k
   pub going : IsGoing new
   pub opened_is : opened new ≡ opening p
   pub since : (n : ℕ) → n ≤ p.found.at → IsSince n new k
@@ -229,20 +234,25 @@ StopsAt f es at keys next stop.End rows = Pending f es at [] next rows
 StopsAt f es at keys next stop.Full rows = Ended f es rows
 StopsAt f es at keys next stop.NoMemory rows = Unit {0}
 
+-- the doubts that are left where the sure keys end are of the index that is read
+abbrev pub AreStillDoubts : Found → By → List FoundKey → Stop → Type 0
+AreStillDoubts f by keys (stop.Doubt d) = AreDoubtsOf f by (InDoubt d ∷ keys)
+AreStillDoubts f by keys s = Unit {0}
+
 -- 5. Whole queries
 
 -- a whole query: its answer or its fault, and of the seat's own acts those that opened its point and closed it
-pub record RanQuery (q : Query) (scn : Option ℕ) (k k' : Known) (r : Result Answer QueryFault) : Type 0 where
+pub record RanQuery (sound : Type 0) (q : Query) (scn : Option ℕ) (k k' : Known) (r : Result Answer QueryFault) : Type 0 where
   pub acts : List Act
   pub ran : Ran k k' acts
-  pub outcome : IsOutcome q scn (outline acts) k' r
+  pub outcome : IsOutcome sound q scn (outline acts) k' r
   pub since : IsSinceThen (length k.seen) state.Over k' (turn.Over r)
 
 -- a query on its way: what the seat did so far is to have opened what the run holds
-pub record SoFar (q : Query) (scn : Option ℕ) (k k' : Known) (s : QueryState) : Type 0 where
+pub record SoFar (sound : Type 0) (q : Query) (scn : Option ℕ) (k k' : Known) (s : QueryState) : Type 0 where
   pub acts : List Act
   pub ran : Ran k k' acts
   pub so_far : outline acts ≡ opened s
-  pub fits : Fits q scn s k'
+  pub fits : Fits sound q scn s k'
   pub going : IsGoing s
   pub since : IsSince (length k.seen) s k'

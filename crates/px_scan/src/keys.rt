@@ -1,9 +1,12 @@
 // Going through the keys of a chunk.
 ghost use Rattle.std.specs.Prelude.{◌≡◌, ◌++◌, ℕ, Option, List, IfErr, OnOk, length};
+ghost use Rattle.px_tables.specs.declared.found.Found.{Found as FoundTable};
 ghost use Rattle.px_trail.specs.declared.entry.Entry.{Entry};
+ghost use Rattle.px_calls.specs.declared.query.By.{By as Bys};
+ghost use Rattle.px_calls.specs.Looks.{AreDoubtsOf};
 ghost use Rattle.px_gather.specs.Gathered.{Frame, Pending, is_full as is_full_of, kept, kept_held};
 ghost use Rattle.px_gather.specs.Query.{IsPathFor};
-ghost use Rattle.px_scan.specs.Turns.{StopsAt, given_of};
+ghost use Rattle.px_scan.specs.Turns.{AreStillDoubts, StopsAt, given_of};
 
 use crate::answer::{Placed, QueryFault};
 use crate::asks::Asks;
@@ -73,7 +76,8 @@ pub(crate) fn keep_sure<Q: Asks>(
     at: u64,
     rows: &mut Vec<Placed>,
 ) -> Stop
-    ensures { (f : Frame) → (es : List Entry) → (next : Option (List ℕ)) → f.query ≡ Q.asked query.now → IsPathFor f.query f.point f.path → Pending f es at keys.old.items next (given_of rows.old.items) → StopsAt f es at keys.new.items next result (given_of rows.new.items) }
+    ensures gathers { (f : Frame) → (es : List Entry) → (next : Option (List ℕ)) → f.query ≡ Q.asked query.now → IsPathFor f.query f.point f.path → Pending f es at keys.old.items next (given_of rows.old.items) → StopsAt f es at keys.new.items next result (given_of rows.new.items) }
+    ensures doubts { (f : FoundTable) → (w : Bys) → AreDoubtsOf f w keys.old.items → AreStillDoubts f w keys.new.items result }
 {
     'keys: while let Some(key) = keys.pop_front() {
         if is_full(query, rows.as_slice()) {

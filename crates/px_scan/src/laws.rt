@@ -14,16 +14,18 @@ ghost use Rattle.px_scan.specs.declared.machine.Scan.{Scan as Scans};
 ghost use Rattle.px_scan.specs.Chains.{AreSteps, AreUnfaulted, IsSettled, Step, state_after};
 ghost use Rattle.px_scan.specs.Turns.{Fits, IsBound, IsNew, QueryTurns, RanQuery, SoFar};
 
+use px_calls::Steps;
+
 /// Others' entries between two steps leave a query under way as it is; its own steps carry it on, and its last one is its answer.
-pub fn law_turns()
-    ensures others { (q : Query) → (scn : Option ℕ) → (s : States) → (k : Known) → (k' : Known) → Passes k k' → Fits q scn s k → Fits q scn s k' }
-    ensures starts { (q : Query) → (scn : Option ℕ) → (s : States) → (k : Known) → IsNew s → IsBound k q → IsScn scn → SoFar q scn k k s }
-    ensures steps { (q : Query) → (scn : Option ℕ) → (k0 : Known) → (k : Known) → (k' : Known) → (old : States) → (new : States) → SoFar q scn k0 k old → QueryTurns q scn old k new k' Stepped → SoFar q scn k0 k' new }
-    ensures waits { (q : Query) → (scn : Option ℕ) → (k0 : Known) → (k : Known) → (k' : Known) → (old : States) → (new : States) → (stamp : ℕ) → SoFar q scn k0 k old → QueryTurns q scn old k new k' (Waiting stamp) → SoFar q scn k0 k' new }
-    ensures ends { (q : Query) → (scn : Option ℕ) → (k0 : Known) → (k : Known) → (k' : Known) → (old : States) → (new : States) → (r : Result Answers Faults) → SoFar q scn k0 k old → QueryTurns q scn old k new k' (Over r) → RanQuery q scn k0 k' r }
+pub fn law_turns<S: Steps>()
+    ensures others { (q : Query) → (scn : Option ℕ) → (s : States) → (k : Known) → (k' : Known) → Passes k k' → Fits S.sound q scn s k → Fits S.sound q scn s k' }
+    ensures starts { (q : Query) → (scn : Option ℕ) → (s : States) → (k : Known) → IsNew s → IsBound k q → IsScn scn → SoFar S.sound q scn k k s }
+    ensures steps { (q : Query) → (scn : Option ℕ) → (k0 : Known) → (k : Known) → (k' : Known) → (old : States) → (new : States) → SoFar S.sound q scn k0 k old → QueryTurns S.sound q scn old k new k' Stepped → SoFar S.sound q scn k0 k' new }
+    ensures waits { (q : Query) → (scn : Option ℕ) → (k0 : Known) → (k : Known) → (k' : Known) → (old : States) → (new : States) → (stamp : ℕ) → SoFar S.sound q scn k0 k old → QueryTurns S.sound q scn old k new k' (Waiting stamp) → SoFar S.sound q scn k0 k' new }
+    ensures ends { (q : Query) → (scn : Option ℕ) → (k0 : Known) → (k : Known) → (k' : Known) → (old : States) → (new : States) → (r : Result Answers Faults) → SoFar S.sound q scn k0 k old → QueryTurns S.sound q scn old k new k' (Over r) → RanQuery S.sound q scn k0 k' r }
 {}
 
 /// A doubt that is to be consulted is consulted, and then fixed as that left it, where a query comes to its end without a fault.
-pub fn law_doubts()
-    ensures { (q : Query) → (scn : Option ℕ) → (x : Scans) → (r : Rests) → (d : Doubts) → (k : Known) → (os : List Step) → AreSteps q scn (query_state.Consulting x r d) k os → AreUnfaulted os → state_after (query_state.Consulting x r d) os ≡ query_state.Over → IsSettled x.point d os }
+pub fn law_doubts<S: Steps>()
+    ensures { (q : Query) → (scn : Option ℕ) → (x : Scans) → (r : Rests) → (d : Doubts) → (k : Known) → (os : List Step) → AreSteps S.sound q scn (query_state.Consulting x r d) k os → AreUnfaulted os → state_after (query_state.Consulting x r d) os ≡ query_state.Over → IsSettled S.sound x.point d os }
 {}

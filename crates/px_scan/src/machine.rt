@@ -2,10 +2,8 @@
 ghost use Rattle.std.specs.Prelude.{◌≡◌, ◌++◌, ◌∷◌, [], ℕ, Option, List};
 ghost use Rattle.px_calls.specs.Calls.{AreRising};
 ghost use Rattle.px_calls.specs.Known.{Known};
-ghost use Rattle.px_gather.specs.Gathered.{Pending};
-ghost use Rattle.px_gather.specs.Query.{IsPathFor};
 ghost use Rattle.px_scan.specs.Faults.{IsScanFault, fault_of as fault_is, is_busy as is_busy_of};
-ghost use Rattle.px_scan.specs.Turns.{Fits, GoesOn, IsGoing, IsNext, IsReading, QueryTurns, frame, given_of};
+ghost use Rattle.px_scan.specs.Turns.{Fits, GoesOn, IsGoing, IsNext, IsReading, IsScanning, QueryTurns};
 
 use crate::answer::{Answer, Placed, QueryFault, QueryTurn};
 use crate::asks::{Asks, PathFault};
@@ -88,9 +86,9 @@ fn ended(x: Scan) -> QueryState
     QueryState::Closing(point, Ok(rows))
 }
 
-/// What comes next, where the keys before the rest are gone through. It makes no call.
-fn go_on<Q: Asks>(query: &Q, mut x: Scan, rest: Rest) -> QueryState
-    ensures goes { (scn : Option ℕ) → (k : Known) → IsReading k (Q.asked query.now) scn x.point → IsPathFor (Q.asked query.now) x.point x.path → Pending (frame (Q.asked query.now) k x) k.seen rest.at rest.keys.items rest.next (given_of x.rows.items) → GoesOn k (Q.asked query.now) scn x.point result }
+/// What comes next, where the keys before the rest are gone through. It makes no call; `S` names what was opened.
+fn go_on<Q: Asks, S: Steps>(query: &Q, mut x: Scan, rest: Rest) -> QueryState
+    ensures goes { (scn : Option ℕ) → (k : Known) → IsScanning S.sound k (Q.asked query.now) scn x rest.keys.items rest.next rest.at → GoesOn S.sound k (Q.asked query.now) scn x.point result }
     ensures next { IsNext result }
 {
     let Rest { mut keys, next, at } = rest;
@@ -110,12 +108,17 @@ fn go_on<Q: Asks>(query: &Q, mut x: Scan, rest: Rest) -> QueryState
     }
 }
 
-/// Chooses the path at a point that was just opened. It makes no call.
-fn follow<Q: Asks>(alloc: Global, query: &Q, point: Point, rows: Vec<Placed>) -> QueryState
+/// Chooses the path at a point that was just opened. It makes no call; `S` names what was opened.
+fn follow<Q: Asks, S: Steps>(
+    alloc: Global,
+    query: &Q,
+    point: Point,
+    rows: Vec<Placed>,
+) -> QueryState
     requires bound { point.found.table ≡ (Q.asked query.now).bound }
     requires rising { AreRising point.found.indexes }
     requires rows { rows.items ≡ [] }
-    ensures { (scn : Option ℕ) → (k : Known) → IsReading k (Q.asked query.now) scn point → GoesOn k (Q.asked query.now) scn point result }
+    ensures { (scn : Option ℕ) → (k : Known) → IsReading k (Q.asked query.now) scn point → GoesOn S.sound k (Q.asked query.now) scn point result }
 {
     match query.path(alloc, &point) {
         Ok(path) => QueryState::Looking(Scan { point, path, rows }, None),
@@ -132,11 +135,14 @@ fn open<Q: Asks, S: Steps>(
     scn: Option<u64>,
     rows: Vec<Placed>,
 ) -> (QueryState, QueryTurn)
-    requires { Fits (Q.asked query.now) scn (QueryState.Opening rows) (S.known s.old) }
-    ensures { QueryTurns (Q.asked query.now) scn (QueryState.Opening rows) (S.known s.old) result.0 (S.known s.new) result.1 }
+    requires { Fits S.sound (Q.asked query.now) scn (QueryState.Opening rows) (S.known s.old) }
+    ensures { QueryTurns S.sound (Q.asked query.now) scn (QueryState.Opening rows) (S.known s.old) result.0 (S.known s.new) result.1 }
 {
     match s.open_point(query.table(), scn) {
-        Ok(point) => (follow(alloc, query, point, rows), QueryTurn::Stepped),
+        Ok(point) => (
+            follow::<Q, S>(alloc, query, point, rows),
+            QueryTurn::Stepped,
+        ),
         Err(StepFault::NotYet { stamp }) => {
             (QueryState::Opening(rows), QueryTurn::Waiting { stamp })
         }
@@ -176,11 +182,11 @@ fn look<Q: Asks, S: Steps>(
     x: Scan,
     after: Option<Key>,
 ) -> (QueryState, QueryTurn)
-    requires { Fits (Q.asked query.now) scn (QueryState.Looking x after) (S.known s.old) }
-    ensures { QueryTurns (Q.asked query.now) scn (QueryState.Looking x after) (S.known s.old) result.0 (S.known s.new) result.1 }
+    requires { Fits S.sound (Q.asked query.now) scn (QueryState.Looking x after) (S.known s.old) }
+    ensures { QueryTurns S.sound (Q.asked query.now) scn (QueryState.Looking x after) (S.known s.old) result.0 (S.known s.new) result.1 }
 {
     match s.look(&x.point, &x.path, &after) {
-        Ok(chunk) => (go_on(query, x, rest_of(chunk)), QueryTurn::Stepped),
+        Ok(chunk) => (go_on::<Q, S>(query, x, rest_of(chunk)), QueryTurn::Stepped),
         Err(f) => (failed(x, fault_of(f)), QueryTurn::Stepped),
     }
 }
@@ -194,8 +200,8 @@ fn consult<Q: Asks, S: Steps>(
     rest: Rest,
     mut doubt: Doubt,
 ) -> (QueryState, QueryTurn)
-    requires { Fits (Q.asked query.now) scn (QueryState.Consulting x rest doubt) (S.known s.old) }
-    ensures { QueryTurns (Q.asked query.now) scn (QueryState.Consulting x rest doubt) (S.known s.old) result.0 (S.known s.new) result.1 }
+    requires { Fits S.sound (Q.asked query.now) scn (QueryState.Consulting x rest doubt) (S.known s.old) }
+    ensures { QueryTurns S.sound (Q.asked query.now) scn (QueryState.Consulting x rest doubt) (S.known s.old) result.0 (S.known s.new) result.1 }
 {
     match s.consult(&x.point, &mut doubt) {
         Ok(held) => match keep_held(query, held, &mut x.rows) {
@@ -215,11 +221,11 @@ fn fix<Q: Asks, S: Steps>(
     rest: Rest,
     doubt: Doubt,
 ) -> (QueryState, QueryTurn)
-    requires { Fits (Q.asked query.now) scn (QueryState.Fixing x rest doubt) (S.known s.old) }
-    ensures { QueryTurns (Q.asked query.now) scn (QueryState.Fixing x rest doubt) (S.known s.old) result.0 (S.known s.new) result.1 }
+    requires { Fits S.sound (Q.asked query.now) scn (QueryState.Fixing x rest doubt) (S.known s.old) }
+    ensures { QueryTurns S.sound (Q.asked query.now) scn (QueryState.Fixing x rest doubt) (S.known s.old) result.0 (S.known s.new) result.1 }
 {
     match s.fix(&doubt) {
-        Ok(_) => (go_on(query, x, rest), QueryTurn::Stepped),
+        Ok(_) => (go_on::<Q, S>(query, x, rest), QueryTurn::Stepped),
         Err(f) => {
             if is_busy(f) {
                 return (QueryState::Settling(x, rest, doubt), QueryTurn::Stepped);
@@ -238,8 +244,8 @@ fn settle<Q: Asks, S: Steps>(
     rest: Rest,
     doubt: Doubt,
 ) -> (QueryState, QueryTurn)
-    requires { Fits (Q.asked query.now) scn (QueryState.Settling x rest doubt) (S.known s.old) }
-    ensures { QueryTurns (Q.asked query.now) scn (QueryState.Settling x rest doubt) (S.known s.old) result.0 (S.known s.new) result.1 }
+    requires { Fits S.sound (Q.asked query.now) scn (QueryState.Settling x rest doubt) (S.known s.old) }
+    ensures { QueryTurns S.sound (Q.asked query.now) scn (QueryState.Settling x rest doubt) (S.known s.old) result.0 (S.known s.new) result.1 }
 {
     match s.upkeep() {
         Ok(Work::Did) => (QueryState::Settling(x, rest, doubt), QueryTurn::Stepped),
@@ -256,8 +262,8 @@ fn close<Q: Asks, S: Steps>(
     point: Point,
     end: Result<Vec<Placed>, QueryFault>,
 ) -> (QueryState, QueryTurn)
-    requires { Fits (Q.asked query.now) scn (QueryState.Closing point end) (S.known s.old) }
-    ensures { QueryTurns (Q.asked query.now) scn (QueryState.Closing point end) (S.known s.old) result.0 (S.known s.new) result.1 }
+    requires { Fits S.sound (Q.asked query.now) scn (QueryState.Closing point end) (S.known s.old) }
+    ensures { QueryTurns S.sound (Q.asked query.now) scn (QueryState.Closing point end) (S.known s.old) result.0 (S.known s.new) result.1 }
 {
     let first = point.found.at;
     s.close_point(point);
@@ -279,9 +285,9 @@ pub(crate) fn advance<Q: Asks, S: Steps>(
     scn: Option<u64>,
     state: QueryState,
 ) -> (QueryState, QueryTurn)
-    requires fits { Fits (Q.asked query.now) scn state (S.known s.old) }
+    requires fits { Fits S.sound (Q.asked query.now) scn state (S.known s.old) }
     requires going { IsGoing state }
-    ensures { QueryTurns (Q.asked query.now) scn state (S.known s.old) result.0 (S.known s.new) result.1 }
+    ensures { QueryTurns S.sound (Q.asked query.now) scn state (S.known s.old) result.0 (S.known s.new) result.1 }
 {
     match state {
         QueryState::Opening(rows) => open(s, alloc, query, scn, rows),

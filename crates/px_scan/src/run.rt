@@ -36,11 +36,11 @@ impl<Q: Asks> QueryRun<Q> {
 
     /// Makes one call.
     pub fn step<S: Steps>(&mut self, s: &mut S) -> QueryTurn
-        requires fits { Fits (Q.asked self.old.query) self.old.scn self.old.state (S.known s.old) }
+        requires fits { Fits S.sound (Q.asked self.old.query) self.old.scn self.old.state (S.known s.old) }
         requires going { IsGoing self.old.state }
         ensures query { self.new.query ≡ self.old.query }
         ensures scn { self.new.scn ≡ self.old.scn }
-        ensures turns { QueryTurns (Q.asked self.old.query) self.old.scn self.old.state (S.known s.old) self.new.state (S.known s.new) result }
+        ensures turns { QueryTurns S.sound (Q.asked self.old.query) self.old.scn self.old.state (S.known s.old) self.new.state (S.known s.new) result }
     {
         let state = mem::replace(&mut self.state, QueryState::Over);
         let (state, turn) = machine::advance(s, self.alloc, &self.query, self.scn, state);
@@ -74,7 +74,7 @@ pub fn run_query<R: Wait, Q: Asks + Drop, S: Steps>(
 ) -> Result<Answer, QueryFault>
     requires bound { IsBound (S.known s.old) (Q.asked query) }
     requires scn { IsScn scn }
-    ensures { RanQuery (Q.asked query) scn (S.known s.old) (S.known s.new) result }
+    ensures { RanQuery S.sound (Q.asked query) scn (S.known s.old) (S.known s.new) result }
 {
     let mut run = QueryRun::new(alloc, query, scn);
     'steps: for _ in rt.forever() {

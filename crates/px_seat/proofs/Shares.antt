@@ -59,29 +59,29 @@ table_shared : (what : NewTable) (which : Bound) (count : ℕ) (k : Known) → n
 table_shared what bound.Tables count k h = h
 table_shared what which count k h = h
 
-index_shared : (what : NewIndex) (which : Bound) (count : ℕ) (k : Known) → new_index_cause what (Limit which count) k → new_index_cause what (Limit which count) (shared k)
-index_shared what bound.Indexes count k h = h
-index_shared what which count k h = h
+index_shared : (sound : Type 0) (what : NewIndex) (which : Bound) (count : ℕ) (k : Known) → new_index_cause sound what (Limit which count) k → new_index_cause sound what (Limit which count) (shared k)
+index_shared sound what bound.Indexes count k h = h
+index_shared sound what which count k h = h
 
-pub define_shared : (x : Definition) → IsShared (define_cause x)
-define_shared (d.Table what) (Limit which count) k h = table_shared what which count k h
-define_shared (d.Table what) f k h = h
-define_shared (d.Index what) (Limit which count) k h = index_shared what which count k h
-define_shared (d.Index what) f k h = h
-define_shared (d.Active t i) Memory k h = h
-define_shared (d.Active t i) f k h = h
-define_shared (d.DropTable t) Memory k h = h
-define_shared (d.DropTable t) f k h = h
-define_shared (d.DropIndex t i) Memory k h = h
-define_shared (d.DropIndex t i) f k h = h
+pub define_shared : (sound : Type 0) (x : Definition) → IsShared (define_cause sound x)
+define_shared sound (d.Table what) (Limit which count) k h = table_shared what which count k h
+define_shared sound (d.Table what) f k h = h
+define_shared sound (d.Index what) (Limit which count) k h = index_shared sound what which count k h
+define_shared sound (d.Index what) f k h = h
+define_shared sound (d.Active t i) Memory k h = h
+define_shared sound (d.Active t i) f k h = h
+define_shared sound (d.DropTable t) Memory k h = h
+define_shared sound (d.DropTable t) f k h = h
+define_shared sound (d.DropIndex t i) Memory k h = h
+define_shared sound (d.DropIndex t i) f k h = h
 
-limit_shared : (t : ℕ) (cs : List Change) (which : Bound) (k : Known) → batch_limit t cs which k → batch_limit t cs which (shared k)
-limit_shared t cs bound.Key k h = h
-limit_shared t cs which k h = h
+limit_shared : (sound : Type 0) (t : ℕ) (cs : List Change) (which : Bound) (k : Known) → batch_limit sound t cs which k → batch_limit sound t cs which (shared k)
+limit_shared sound t cs bound.Key k h = h
+limit_shared sound t cs which k h = h
 
-pub begin_shared : (t : ℕ) (cs : List Change) → IsShared (begin_cause t cs)
-begin_shared t cs (Limit which count) k h = (h.0, h.1, limit_shared t cs which k h.2)
-begin_shared t cs f k h = h
+pub begin_shared : (sound : Type 0) (t : ℕ) (cs : List Change) → IsShared (begin_cause sound t cs)
+begin_shared sound t cs (Limit which count) k h = (h.0, h.1, limit_shared sound t cs which k h.2)
+begin_shared sound t cs f k h = h
 
 pub write_shared : IsShared write_cause
 write_shared WriteFault k h = h
@@ -118,15 +118,15 @@ status_shared t f k h = h
 pub find-shared : (k a c : Known) (name : List ℕ) (f : Found) → k.alone ≡ false → Passes k a → DidFind a c name f → DidFind k (shared c) name f
 find-shared k a c name f apart h j = record { finds = finds-shared k a c apart h j.finds; name_is = j.name_is; found = j.found }
 
-made-shared : (x : Definition) (k : Known) (m : Made) → IsMade x k m → IsMade x (shared k) m
-made-shared (d.Table what) k m h = h
-made-shared x k m h = h
+made-shared : (sound : Type 0) (x : Definition) (k : Known) (m : Made) → IsMade sound x k m → IsMade sound x (shared k) m
+made-shared sound (d.Table what) k m h = h
+made-shared sound x k m h = h
 
-pub define-shared : (k a c : Known) (x : Definition) (m : Made) → k.alone ≡ false → Passes k a → DidDefine a c x m → DidDefine k (shared c) x m
-define-shared k a c x m apart h j = record { adds = adds-shared k a c (act_of x m) apart h j.adds; made = made-shared x c m j.made; at = j.at }
+pub define-shared : (sound : Type 0) (k a c : Known) (x : Definition) (m : Made) → k.alone ≡ false → Passes k a → DidDefine sound a c x m → DidDefine sound k (shared c) x m
+define-shared sound k a c x m apart h j = record { adds = adds-shared k a c (act_of x m) apart h j.adds; made = made-shared sound x c m j.made; at = j.at }
 
-pub begin-shared : (k a c : Known) (t : TableId) (cs : List Change) (x : Ticket) → k.alone ≡ false → Passes k a → DidBegin a c t cs x → DidBegin k (shared c) t cs x
-begin-shared k a c t cs x apart h j = record {
+pub begin-shared : (sound : Type 0) (k a c : Known) (t : TableId) (cs : List Change) (x : Ticket) → k.alone ≡ false → Passes k a → DidBegin sound a c t cs x → DidBegin sound k (shared c) t cs x
+begin-shared sound k a c t cs x apart h j = record {
   table = j.table;
   adds = adds-shared k a c (Begun t x.stamp cs) apart h j.adds;
   stamp = j.stamp;
@@ -188,22 +188,22 @@ open-shared k a c t scn p apart h j = record {
   found_table = j.found_table;
 }
 
-pub look-shared : (k a c : Known) (p : Point) (path : Path) (after : Option (List ℕ)) (x : Chunk) → k.alone ≡ false → Passes k a → DidLook a c p path after x → DidLook k (shared c) p path after x
-look-shared k a c p path after x apart h j = record { finds = finds-shared k a c apart h j.finds; shows = j.shows; fits = j.fits; at = j.at }
+pub look-shared : (sound : Type 0) (k a c : Known) (p : Point) (path : Path) (after : Option (List ℕ)) (x : Chunk) → k.alone ≡ false → Passes k a → DidLook sound a c p path after x → DidLook sound k (shared c) p path after x
+look-shared sound k a c p path after x apart h j = record { finds = finds-shared k a c apart h j.finds; shows = j.shows; rows = j.rows; at = j.at }
 
 held-shared : (k : Known) (p : Point) (d : Doubt) (o : Option Held) → Consulted k p d o → Consulted (shared k) p d o
 held-shared k p d None h = h
 held-shared k p d (Some x) h = record { row = h.row; key = h.key; only = h.only; at = h.at }
 
-pub consult-shared : (k a c : Known) (p : Point) (d d' : Doubt) (o : Option Held) → k.alone ≡ false → Passes k a → DidConsult a c p d d' o → DidConsult k (shared c) p d d' o
-consult-shared k a c p d d' o apart h j = record {
+pub consult-shared : (sound : Type 0) (k a c : Known) (p : Point) (d d' : Doubt) (o : Option Held) → k.alone ≡ false → Passes k a → DidConsult sound a c p d d' o → DidConsult sound k (shared c) p d d' o
+consult-shared sound k a c p d d' o apart h j = record {
   finds = finds-shared k a c apart h j.finds;
   index = j.index;
   key = j.key;
   stamp = j.stamp;
   verdict = j.verdict;
   leave = j.leave;
-  held = held-shared c p d o j.held;
+  held = λ is_sound. held-shared c p d o (j.held is_sound);
 }
 
 pub fix-grew : (k k' : Known) (d : Doubt) (x : Fixing) → k.alone ≡ true → DidFix k k' d x → Grew k k'

@@ -123,11 +123,11 @@ impl<S: Single, B: Based> Owned<S, B> {
 
     /// Makes a table or an index, makes an index active, or drops one.
     pub(crate) fn define(&mut self, definition: &Definition) -> Result<Made, StepFault>
-        requires { CanDefine (S.known self.old) definition.now }
+        requires { CanDefine S.sound (S.known self.old) definition.now }
         ensures grew { Grew (S.known self.old) (S.known self.new) }
         ensures owned { IsOwned B.base B.damaged (S.known self.new) }
-        ensures ok { IfOk result (DidDefine (S.known self.old) (S.known self.new) definition.now) }
-        ensures refused { IfErr result (Refuses (define_cause definition.now) (S.known self.old) (S.known self.new)) }
+        ensures ok { IfOk result (DidDefine S.sound (S.known self.old) (S.known self.new) definition.now) }
+        ensures refused { IfErr result (Refuses (define_cause S.sound definition.now) (S.known self.old) (S.known self.new)) }
     {
         self.core.define(definition)
     }
@@ -140,8 +140,8 @@ impl<S: Single, B: Based> Owned<S, B> {
         requires fits { AreFitting (S.known self.old) table.0 changes.now }
         ensures grew { Grew (S.known self.old) (S.known self.new) }
         ensures owned { IsOwned B.base B.damaged (S.known self.new) }
-        ensures ok { IfOk result (DidBegin (S.known self.old) (S.known self.new) table changes.now) }
-        ensures refused { IfErr result (Refuses (begin_cause table.0 changes.now) (S.known self.old) (S.known self.new)) }
+        ensures ok { IfOk result (DidBegin S.sound (S.known self.old) (S.known self.new) table changes.now) }
+        ensures refused { IfErr result (Refuses (begin_cause S.sound table.0 changes.now) (S.known self.old) (S.known self.new)) }
     {
         self.core.begin(table, changes)
     }
@@ -229,7 +229,7 @@ impl<S: Single, B: Based> Owned<S, B> {
         requires path { CanLook p.now path.now }
         ensures grew { Grew (S.known self.old) (S.known self.new) }
         ensures owned { IsOwned B.base B.damaged (S.known self.new) }
-        ensures ok { IfOk result (DidLook (S.known self.old) (S.known self.new) p.now path.now after.now) }
+        ensures ok { IfOk result (DidLook S.sound (S.known self.old) (S.known self.new) p.now path.now after.now) }
         ensures refused { IfErr result (Refuses read_cause (S.known self.old) (S.known self.new)) }
     {
         self.core.look(p, path, after)
@@ -241,7 +241,7 @@ impl<S: Single, B: Based> Owned<S, B> {
         requires doubt { CanConsult p.now d.old }
         ensures grew { Grew (S.known self.old) (S.known self.new) }
         ensures owned { IsOwned B.base B.damaged (S.known self.new) }
-        ensures ok { IfOk result (DidConsult (S.known self.old) (S.known self.new) p.now d.old d.new) }
+        ensures ok { IfOk result (DidConsult S.sound (S.known self.old) (S.known self.new) p.now d.old d.new) }
         ensures same { IfErr result (λ f. d.new ≡ d.old) }
         ensures refused { IfErr result (Refuses read_cause (S.known self.old) (S.known self.new)) }
     {

@@ -84,6 +84,8 @@ impl<'a, R: Wait, S: Single, N: LockNamed, B: Based> SeatAt<'a, R, S, N, B> {
 impl<'a, R: Wait, S: Single, N: LockNamed, B: Based> Steps for SeatAt<'a, R, S, N, B> {
     ghost known = { λ s. mine s.id B.base B.damaged (list_seen s.seat) };
 
+    ghost sound = { S.sound };
+
     fn find(&mut self, name: &Name) -> Result<Found, StepFault> {
         let mut guard = self.lock.enter(self.rt, &mut self.seat);
         let server = guard.value();

@@ -3,4 +3,4 @@ use Rattle.px_batch.proofs.Turning.{early_begin, early_settle}
 use Rattle.px_batch.proofs.batch.leave.Goals as goal
 
 pub returns : goal.returns
-returns g c = λ cs. turning.leaves _ _ c.args.t cs c.args.fault c.requires.can c.requires.told c.abandon.ensures
+returns g c = λ cs. turning.leaves _ _ _ c.args.t cs c.args.fault c.requires.can c.requires.told c.abandon.ensures

@@ -5,7 +5,7 @@ pub returns-clause-none : goal.returns-clause-none
 returns-clause-none c f es = gathering.gathered-none f es
 
 pub returns-clause-looks : goal.returns-clause-looks
-returns-clause-looks c f k k' after x more rows base seen from path h l = gathering.looks f k k' after x more rows base seen from path h l
+returns-clause-looks c f k k' after x more rows base seen from path h shows given at = gathering.looks f k k' after x more rows base seen from path h shows given at
 
 pub returns-clause-sure : goal.returns-clause-sure
 returns-clause-sure c f es n x fs next rows path free h = gathering.pending-sure f es n x fs next rows path free h

@@ -2,16 +2,25 @@ use Rattle.px_gather.proofs.Gathering as gathering
 use Rattle.px_scan.proofs.Going as going
 use Rattle.px_scan.proofs.keys.keep_sure.Goals as goal
 
-pub returns-then-is_full : goal.returns-then-is_full
-returns-then-is_full g c = λ f es next q path h.
-    gathering.pending-full _ _ _ _ _ _ (c.keys.invariant f es next q path h) (going.full-of f _ _ _ _ _ q c.as_slice.ensures.value c.is_full.ensures c.if-is_full.true)
+pub keys-init : goal.keys-init
+keys-init g c = record { rows = λ f es next q path h. h; doubts = λ f w h. h }
+
+pub returns-then-is_full-clause-gathers : goal.returns-then-is_full-clause-gathers
+returns-then-is_full-clause-gathers g c = λ f es next q path h.
+    gathering.pending-full _ _ _ _ _ _ (c.keys.invariant.rows f es next q path h) (going.full-of f _ _ _ _ _ q c.as_slice.ensures.value c.is_full.ensures c.if-is_full.true)
 
 pub keys-preserved : goal.keys-preserved
-keys-preserved g c = λ f es next q path h.
-    going.sure-on f es _ next _ _ _ _ _ _ _ q path (c.keys.invariant f es next q path h) c.in-Some.ensures.items c.in-Sure.is (going.full-of f _ _ _ _ _ q c.as_slice.ensures.value c.is_full.ensures c.if-is_full.false) c.in-Ok.ensures.ok
+keys-preserved g c = record {
+  rows = λ f es next q path h.
+      going.sure-on f es _ next _ _ _ _ _ _ _ q path (c.keys.invariant.rows f es next q path h) c.in-Some.ensures.items c.in-Sure.is (going.full-of f _ _ _ _ _ q c.as_slice.ensures.value c.is_full.ensures c.if-is_full.false) c.in-Ok.ensures.ok;
+  doubts = λ f w h. going.sure-doubts f w _ _ _ (c.keys.invariant.doubts f w h) c.in-Some.ensures.items;
+}
 
-pub returns-in-InDoubt : goal.returns-in-InDoubt
-returns-in-InDoubt g c = λ f es next q path h. (
+pub returns-in-InDoubt-clause-gathers : goal.returns-in-InDoubt-clause-gathers
+returns-in-InDoubt-clause-gathers g c = λ f es next q path h. (
   going.full-of f _ _ _ _ _ q c.as_slice.ensures.value c.is_full.ensures c.if-is_full.false,
-  going.doubt-on f es _ next _ _ _ _ _ (c.keys.invariant f es next q path h) c.in-Some.ensures.items c.in-InDoubt.is,
+  going.doubt-on f es _ next _ _ _ _ _ (c.keys.invariant.rows f es next q path h) c.in-Some.ensures.items c.in-InDoubt.is,
 )
+
+pub returns-in-InDoubt-clause-doubts : goal.returns-in-InDoubt-clause-doubts
+returns-in-InDoubt-clause-doubts g c = λ f w h. going.doubt-doubts f w _ _ _ _ (c.keys.invariant.doubts f w h) c.in-Some.ensures.items c.in-InDoubt.is

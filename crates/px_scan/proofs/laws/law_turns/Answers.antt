@@ -2,16 +2,16 @@ use Rattle.px_scan.proofs.Turning.{ends_as, fits-kept, starts, steps_on, waits_o
 use Rattle.px_scan.proofs.laws.law_turns.Goals as goal
 
 pub returns-clause-others : goal.returns-clause-others
-returns-clause-others c q scn s k k' h f = fits-kept q scn s k k' h f
+returns-clause-others g c q scn s k k' h f = fits-kept g.S.Steps.sound q scn s k k' h f
 
 pub returns-clause-starts : goal.returns-clause-starts
-returns-clause-starts c q scn s k h b i = starts q scn s k h b i
+returns-clause-starts g c q scn s k h b i = starts g.S.Steps.sound q scn s k h b i
 
 pub returns-clause-steps : goal.returns-clause-steps
-returns-clause-steps c q scn k0 k k' old new h t = steps_on q scn k0 k k' old new h t
+returns-clause-steps g c q scn k0 k k' old new h t = steps_on g.S.Steps.sound q scn k0 k k' old new h t
 
 pub returns-clause-waits : goal.returns-clause-waits
-returns-clause-waits c q scn k0 k k' old new stamp h t = waits_on q scn k0 k k' old new stamp h t
+returns-clause-waits g c q scn k0 k k' old new stamp h t = waits_on g.S.Steps.sound q scn k0 k k' old new stamp h t
 
 pub returns-clause-ends : goal.returns-clause-ends
-returns-clause-ends c q scn k0 k k' old new r h t = ends_as q scn k0 k k' old new r h t
+returns-clause-ends g c q scn k0 k k' old new r h t = ends_as g.S.Steps.sound q scn k0 k k' old new r h t

@@ -13,17 +13,17 @@ pub returns-then-is_busy : goal.returns-then-is_busy
 returns-then-is_busy g c =
     let yes : is_busy c.in-Err.f ≡ true = cc in
     let quiet = quieting.fix_busy _ _ c.in-Err.f c.in-Err.ensures.refused yes in
-    turning.steps _ _ (g.Q.Asks.asked c.args.query.now) c.args.scn c.args.x.point _ _ quiet refl (λ n le. le)
-    (turning.goes-settling _ _ _ c.args.x c.args.rest c.args.doubt (turning.grown-scanning _ _ _ _ _ _ _ _ (quieting.grown-quiet _ _ quiet) c.requires.0) c.requires.1) refl
+    turning.steps g.S.Steps.sound _ _ (g.Q.Asks.asked c.args.query.now) c.args.scn c.args.x.point _ _ quiet refl (λ n le. le)
+    (turning.goes-settling g.S.Steps.sound _ _ _ c.args.x c.args.rest c.args.doubt (turning.grown-scanning g.S.Steps.sound _ _ _ _ _ _ _ _ (quieting.grown-quiet _ _ quiet) c.requires.0) c.requires.1) refl
 
 pub returns-in-Ok : goal.returns-in-Ok
 returns-in-Ok g c =
     let quiet = quieting.quiet-fixes _ _ _ _ c.in-Ok.ensures.ok in
-    let s = turning.grown-scanning _ _ _ _ _ _ _ _ (quieting.grown-quiet _ _ quiet) c.requires.0 in
-    turning.steps _ _ (g.Q.Asks.asked c.args.query.now) c.args.scn c.args.x.point _ _ quiet refl (λ n le. le) (c.go_on.ensures.goes c.args.scn _ s.reading s.path s.pending) (turning.after-fix _ _ _ _ _ c.go_on.ensures.next c.in-Ok.ensures.ok)
+    let s = turning.grown-scanning g.S.Steps.sound _ _ _ _ _ _ _ _ (quieting.grown-quiet _ _ quiet) c.requires.0 in
+    turning.steps g.S.Steps.sound _ _ (g.Q.Asks.asked c.args.query.now) c.args.scn c.args.x.point _ _ quiet refl (λ n le. le) (c.go_on.ensures.goes c.args.scn _ s) (turning.after-fix _ _ _ _ _ c.go_on.ensures.next c.in-Ok.ensures.ok)
 
 pub returns-else-is_busy : goal.returns-else-is_busy
 returns-else-is_busy g c =
     let no : is_busy c.in-Err.f ≡ false = cc in
     let e = quieting.fix_ends (g.Q.Asks.asked c.args.query.now) _ _ c.in-Err.f c.in-Err.ensures.refused no in
-    turning.fails _ _ (g.Q.Asks.asked c.args.query.now) c.args.scn c.args.x.point _ _ _ c.failed.ensures c.requires.0.reading refl (λ n le. le) e.quiet (rw c.fault_of.ensures e.told) (rw c.fault_of.ensures (e.made c.args.x.point.found.at c.requires.0.reading.point.within)) tt
+    turning.fails g.S.Steps.sound _ _ (g.Q.Asks.asked c.args.query.now) c.args.scn c.args.x.point _ _ _ c.failed.ensures c.requires.0.reading refl (λ n le. le) e.quiet (rw c.fault_of.ensures e.told) (rw c.fault_of.ensures (e.made c.args.x.point.found.at c.requires.0.reading.point.within)) tt

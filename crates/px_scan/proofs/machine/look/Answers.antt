@@ -9,11 +9,11 @@ fault_of-requires g c = (quieting.read_ends (g.Q.Asks.asked c.args.query.now) _ 
 
 pub returns-in-Ok : goal.returns-in-Ok
 returns-in-Ok g c =
-    let l = turning.looked _ _ (g.Q.Asks.asked c.args.query.now) c.args.scn c.args.x c.args.after _ c.requires c.in-Ok.ensures.ok in
-    turning.steps _ _ (g.Q.Asks.asked c.args.query.now) c.args.scn c.args.x.point _ _ (quieting.quiet-sees _ _ c.in-Ok.ensures.ok.finds.sees) refl (λ n le. le)
-    (c.go_on.ensures.goes c.args.scn _ l.reading l.path (going.rest-pending _ _ _ _ _ c.rest_of.result c.rest_of.ensures.keys c.rest_of.ensures.next c.rest_of.ensures.at l)) (turning.after-look c.args.x c.args.after _ _ _ _ c.go_on.ensures.next c.in-Ok.ensures.ok)
+    let l = turning.looked g.S.Steps.sound _ _ (g.Q.Asks.asked c.args.query.now) c.args.scn c.args.x c.args.after _ c.requires c.in-Ok.ensures.ok in
+    turning.steps g.S.Steps.sound _ _ (g.Q.Asks.asked c.args.query.now) c.args.scn c.args.x.point _ _ (quieting.quiet-sees _ _ c.in-Ok.ensures.ok.finds.sees) refl (λ n le. le)
+    (c.go_on.ensures.goes c.args.scn _ (going.rest-scanning g.S.Steps.sound _ _ _ _ _ c.rest_of.result c.rest_of.ensures.keys c.rest_of.ensures.next c.rest_of.ensures.at l)) (turning.after-look g.S.Steps.sound c.args.x c.args.after _ _ _ _ c.go_on.ensures.next c.in-Ok.ensures.ok)
 
 pub returns : goal.returns
 returns g c =
     let e = quieting.read_ends (g.Q.Asks.asked c.args.query.now) _ _ c.in-Err.f c.in-Err.ensures.refused in
-    turning.fails _ _ (g.Q.Asks.asked c.args.query.now) c.args.scn c.args.x.point _ _ _ c.failed.ensures c.requires.0 refl (λ n le. le) e.quiet (rw c.fault_of.ensures e.told) (rw c.fault_of.ensures (e.made c.args.x.point.found.at c.requires.0.point.within)) tt
+    turning.fails g.S.Steps.sound _ _ (g.Q.Asks.asked c.args.query.now) c.args.scn c.args.x.point _ _ _ c.failed.ensures c.requires.0 refl (λ n le. le) e.quiet (rw c.fault_of.ensures e.told) (rw c.fault_of.ensures (e.made c.args.x.point.found.at c.requires.0.point.within)) tt

@@ -10,16 +10,16 @@ fault_of-requires g c = (quieting.work_ends (g.Q.Asks.asked c.args.query.now) _ 
 pub returns-in-Ok-Did : goal.returns-in-Ok-Did
 returns-in-Ok-Did g c =
     let quiet = quieting.quiet-works _ _ work.Did (rw c.in-Ok-Did.field-0-is at c.in-Ok-Did.ensures.ok) in
-    turning.steps _ _ (g.Q.Asks.asked c.args.query.now) c.args.scn c.args.x.point _ _ quiet refl (λ n le. le)
-    (turning.goes-settling _ _ _ c.args.x c.args.rest c.args.doubt (turning.grown-scanning _ _ _ _ _ _ _ _ (quieting.grown-quiet _ _ quiet) c.requires.0) c.requires.1) refl
+    turning.steps g.S.Steps.sound _ _ (g.Q.Asks.asked c.args.query.now) c.args.scn c.args.x.point _ _ quiet refl (λ n le. le)
+    (turning.goes-settling g.S.Steps.sound _ _ _ c.args.x c.args.rest c.args.doubt (turning.grown-scanning g.S.Steps.sound _ _ _ _ _ _ _ _ (quieting.grown-quiet _ _ quiet) c.requires.0) c.requires.1) refl
 
 pub returns-in-Ok-Idle : goal.returns-in-Ok-Idle
 returns-in-Ok-Idle g c =
     let quiet = quieting.quiet-works _ _ work.Idle (rw c.in-Ok-Idle.field-0-is at c.in-Ok-Idle.ensures.ok) in
-    turning.steps _ _ (g.Q.Asks.asked c.args.query.now) c.args.scn c.args.x.point _ _ quiet refl (λ n le. le)
-    (turning.goes-fixing _ _ _ c.args.x c.args.rest c.args.doubt (turning.grown-scanning _ _ _ _ _ _ _ _ (quieting.grown-quiet _ _ quiet) c.requires.0) c.requires.1) refl
+    turning.steps g.S.Steps.sound _ _ (g.Q.Asks.asked c.args.query.now) c.args.scn c.args.x.point _ _ quiet refl (λ n le. le)
+    (turning.goes-fixing g.S.Steps.sound _ _ _ c.args.x c.args.rest c.args.doubt (turning.grown-scanning g.S.Steps.sound _ _ _ _ _ _ _ _ (quieting.grown-quiet _ _ quiet) c.requires.0) c.requires.1) refl
 
 pub returns-in-Err : goal.returns-in-Err
 returns-in-Err g c =
     let e = quieting.work_ends (g.Q.Asks.asked c.args.query.now) _ _ c.in-Err.f c.in-Err.ensures.refused in
-    turning.fails _ _ (g.Q.Asks.asked c.args.query.now) c.args.scn c.args.x.point _ _ _ c.failed.ensures c.requires.0.reading refl (λ n le. le) e.quiet (rw c.fault_of.ensures e.told) (rw c.fault_of.ensures (e.made c.args.x.point.found.at c.requires.0.reading.point.within)) tt
+    turning.fails g.S.Steps.sound _ _ (g.Q.Asks.asked c.args.query.now) c.args.scn c.args.x.point _ _ _ c.failed.ensures c.requires.0.reading refl (λ n le. le) e.quiet (rw c.fault_of.ensures e.told) (rw c.fault_of.ensures (e.made c.args.x.point.found.at c.requires.0.reading.point.within)) tt

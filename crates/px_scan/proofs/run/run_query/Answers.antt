@@ -4,24 +4,24 @@ use Rattle.px_scan.proofs.run.run_query.Goals as goal
 
 pub steps-init : goal.steps-init
 steps-init g c = record {
-  so_far = turning.starts (g.Q.Asks.asked c.args.query) c.args.scn _ (g.S.Steps.known c.args.s.now) c.new-run.ensures.state c.requires.bound c.requires.scn;
+  so_far = turning.starts g.S.Steps.sound (g.Q.Asks.asked c.args.query) c.args.scn _ (g.S.Steps.known c.args.s.now) c.new-run.ensures.state c.requires.bound c.requires.scn;
   query = c.new-run.ensures.query;
   scn = c.new-run.ensures.scn;
 }
 
 pub steps-preserved-in-Stepped : goal.steps-preserved-in-Stepped
 steps-preserved-in-Stepped g c = record {
-  so_far = turning.steps_on _ _ _ _ _ _ _ c.steps.invariant.so_far (rw (c.steps.invariant.query, c.steps.invariant.scn) at c.in-Stepped.ensures.turns);
+  so_far = turning.steps_on g.S.Steps.sound _ _ _ _ _ _ _ c.steps.invariant.so_far (rw (c.steps.invariant.query, c.steps.invariant.scn) at c.in-Stepped.ensures.turns);
   query = c.step.ensures.query ∙ c.steps.invariant.query;
   scn = c.step.ensures.scn ∙ c.steps.invariant.scn;
 }
 
 pub steps-preserved : goal.steps-preserved
 steps-preserved g c = record {
-  so_far = turning.waits_on _ _ _ _ _ _ _ _ c.steps.invariant.so_far (rw (c.steps.invariant.query, c.steps.invariant.scn) at c.in-Waiting.ensures.turns);
+  so_far = turning.waits_on g.S.Steps.sound _ _ _ _ _ _ _ _ c.steps.invariant.so_far (rw (c.steps.invariant.query, c.steps.invariant.scn) at c.in-Waiting.ensures.turns);
   query = c.step.ensures.query ∙ c.steps.invariant.query;
   scn = c.step.ensures.scn ∙ c.steps.invariant.scn;
 }
 
 pub returns-in-Over : goal.returns-in-Over
-returns-in-Over g c = turning.ends_as _ _ _ _ _ _ _ _ c.steps.invariant.so_far (rw (c.steps.invariant.query, c.steps.invariant.scn) at c.in-Over.ensures.turns)
+returns-in-Over g c = turning.ends_as g.S.Steps.sound _ _ _ _ _ _ _ _ c.steps.invariant.so_far (rw (c.steps.invariant.query, c.steps.invariant.scn) at c.in-Over.ensures.turns)

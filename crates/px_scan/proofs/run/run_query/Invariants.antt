@@ -6,7 +6,7 @@ use Rattle.px_scan.proofs.run.run_query.Given as goal
 abbrev pub invariant-steps : goal.invariant-steps
 invariant-steps g l =
     record {
-      so_far : SoFar (g.Q.Asks.asked l.fn.query) l.fn.scn (g.S.Steps.known l.fn.s) (g.S.Steps.known l.s) l.run.state;
+      so_far : SoFar g.S.Steps.sound (g.Q.Asks.asked l.fn.query) l.fn.scn (g.S.Steps.known l.fn.s) (g.S.Steps.known l.s) l.run.state;
       query : l.run.query ≡ l.fn.query;
       scn : l.run.scn ≡ l.fn.scn;
     }

@@ -44,7 +44,7 @@ returns-clause-ok g c =
     me.is_seat.1 c.enter-guard.ensures.seen now c.act_as.ensures.known c.act_as.ensures.owned in
     let new = grows.knows g.S.Steps.known g.B.Based.base g.B.Based.damaged me.id (list_seen me.seat) c.act_as.new.self c.begin-reply.new.self (list_seen c.leave.new.self.1.0) e c.begin-reply.ensures.grew c.leave.ensures.seen in
     let old = mine me.id g.B.Based.base g.B.Based.damaged (list_seen me.seat) in
-    subst (λ (k : Known). IfOk c.begin-reply.result (DidBegin old k c.args.table c.args.changes.now)) (sym new) (grows.if_ok _ _ c.begin-reply.result (λ x h. shares.begin-shared _ _ _ c.args.table c.args.changes.now x refl e.passes h) c.begin-reply.ensures.ok)
+    subst (λ (k : Known). IfOk c.begin-reply.result (DidBegin g.S.Steps.sound old k c.args.table c.args.changes.now)) (sym new) (grows.if_ok _ _ c.begin-reply.result (λ x h. shares.begin-shared g.S.Steps.sound _ _ _ c.args.table c.args.changes.now x refl e.passes h) c.begin-reply.ensures.ok)
 
 pub returns-clause-refused : goal.returns-clause-refused
 returns-clause-refused g c =
@@ -54,4 +54,4 @@ returns-clause-refused g c =
     me.is_seat.1 c.enter-guard.ensures.seen now c.act_as.ensures.known c.act_as.ensures.owned in
     let new = grows.knows g.S.Steps.known g.B.Based.base g.B.Based.damaged me.id (list_seen me.seat) c.act_as.new.self c.begin-reply.new.self (list_seen c.leave.new.self.1.0) e c.begin-reply.ensures.grew c.leave.ensures.seen in
     let old = mine me.id g.B.Based.base g.B.Based.damaged (list_seen me.seat) in
-    subst (λ (k : Known). IfErr c.begin-reply.result (Refuses (begin_cause c.args.table.0 c.args.changes.now) old k)) (sym new) (grows.if_err _ _ c.begin-reply.result (λ f h. grows.refuses-shared (begin_cause c.args.table.0 c.args.changes.now) old (g.S.Steps.known c.act_as.new.self) (g.S.Steps.known c.begin-reply.new.self) f (shares.begin_shared c.args.table.0 c.args.changes.now) refl e.passes h) c.begin-reply.ensures.refused)
+    subst (λ (k : Known). IfErr c.begin-reply.result (Refuses (begin_cause g.S.Steps.sound c.args.table.0 c.args.changes.now) old k)) (sym new) (grows.if_err _ _ c.begin-reply.result (λ f h. grows.refuses-shared (begin_cause g.S.Steps.sound c.args.table.0 c.args.changes.now) old (g.S.Steps.known c.act_as.new.self) (g.S.Steps.known c.begin-reply.new.self) f (shares.begin_shared g.S.Steps.sound c.args.table.0 c.args.changes.now) refl e.passes h) c.begin-reply.ensures.refused)

@@ -44,7 +44,7 @@ returns-clause-ok g c =
     me.is_seat.1 c.enter-guard.ensures.seen now c.act_as.ensures.known c.act_as.ensures.owned in
     let new = grows.knows g.S.Steps.known g.B.Based.base g.B.Based.damaged me.id (list_seen me.seat) c.act_as.new.self c.look-reply.new.self (list_seen c.leave.new.self.1.0) e c.look-reply.ensures.grew c.leave.ensures.seen in
     let old = mine me.id g.B.Based.base g.B.Based.damaged (list_seen me.seat) in
-    subst (λ (k : Known). IfOk c.look-reply.result (DidLook old k c.args.p.now c.args.path.now c.args.after.now)) (sym new) (grows.if_ok _ _ c.look-reply.result (λ x h. shares.look-shared _ _ _ c.args.p.now c.args.path.now c.args.after.now x refl e.passes h) c.look-reply.ensures.ok)
+    subst (λ (k : Known). IfOk c.look-reply.result (DidLook g.S.Steps.sound old k c.args.p.now c.args.path.now c.args.after.now)) (sym new) (grows.if_ok _ _ c.look-reply.result (λ x h. shares.look-shared g.S.Steps.sound _ _ _ c.args.p.now c.args.path.now c.args.after.now x refl e.passes h) c.look-reply.ensures.ok)
 
 pub returns-clause-refused : goal.returns-clause-refused
 returns-clause-refused g c =
