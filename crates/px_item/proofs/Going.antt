@@ -114,8 +114,7 @@ module _ (sound : Type 0) (before : ℕ) (asked : Asked) where
   state_passes : (st : ItemState) (k k' : Known) → Passes k k' → FitsState sound before asked st k → FitsState sound before asked st k'
   state_passes (state.Finding x) k k' h f = f
   state_passes (state.Changing x run room) k k' h f =
-      let j = f.1 in
-      (
+      let j = f.1 in (
         f.0,
         record {
           upsert = j.upsert;
@@ -132,8 +131,7 @@ module _ (sound : Type 0) (before : ℕ) (asked : Asked) where
         f.2,
       )
   state_passes (state.Dropping x run) k k' h f =
-      let j = f.1 in
-      (
+      let j = f.1 in (
         f.0,
         record {
           found = j.found;
@@ -170,8 +168,7 @@ module _ (sound : Type 0) (before : ℕ) (asked : Asked) where
       let later = of_ran k k' acts ran in
       let j = f.state.1 in
       let F : TableId × List Change → Type 0 = λ q. batch.Fits q.0 q.1 new.state k' in
-      let G : TableId × List Change → Type 0 = λ q. batch.begun old.table old.changes old.state ++ outline acts ≡ batch.begun q.0 q.1 new.state in
-      (
+      let G : TableId × List Change → Type 0 = λ q. batch.begun old.table old.changes old.state ++ outline acts ≡ batch.begun q.0 q.1 new.state in (
         record {
           begins = f.begins;
           within = longer k k' asked.first later f.within;
@@ -324,8 +321,7 @@ module _ (sound : Type 0) (before : ℕ) (asked : Asked) where
       let b = bound_here k (table_named x) f fits.within found named in
       let F : BatchState → Type 0 = λ z. batch.Fits run.table run.changes z k × batch.IsGoing z × batch.IsSince before z k × ([] ≡ batch.begun run.table run.changes z) in
       let G : TableId × List Change → Type 0 = λ q. AreFitting k q.0.0 q.1 in
-      let begins = subst F (sym n.5) (subst G (λ i. (sym n.3 i, sym n.4 i)) (fitting k f (change_of f.table n.0) found n.6), tt, omega arith, refl) in
-      (
+      let begins = subst F (sym n.5) (subst G (λ i. (sym n.3 i, sym n.4 i)) (fitting k f (change_of f.table n.0) found n.6), tt, omega arith, refl) in (
         record {
           begins = fits.begins;
           within = fits.within;
@@ -352,8 +348,7 @@ module _ (sound : Type 0) (before : ℕ) (asked : Asked) where
       let b = bound_here k (table_named x) f fits.within found named in
       let F : DefineState → Type 0 = λ z. define.Fits sound run.definition z k × define.IsGoing z in
       let begins = subst F (sym n.2) (may_drop k f x run.definition n.1, tt) in
-      let dropping : IsDropping sound asked x run k = record { found = f; bound = b; right = n.0; definition = n.1; fits = begins.0; going = begins.1 } in
-      (
+      let dropping : IsDropping sound asked x run k = record { found = f; bound = b; right = n.0; definition = n.1; fits = begins.0; going = begins.1 } in (
         record {
           begins = fits.begins;
           within = fits.within;

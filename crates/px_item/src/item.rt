@@ -49,12 +49,7 @@ pub enum ItemTurn<'a> {
 }
 
 /// Begins a piece, when the session has seen `first` entries. It makes no call.
-pub fn begin<'a>(
-    alloc: Global,
-    piece: Piece<'a>,
-    settings: Settings,
-    first: u64,
-) -> Begun<'a>
+pub fn begin<'a>(alloc: Global, piece: Piece<'a>, settings: Settings, first: u64) -> Begun<'a>
     ensures { Begins settings (seen_piece piece.entry) first result }
 {
     match read_piece(alloc, piece, settings, first) {
@@ -80,12 +75,7 @@ fn over(alloc: Global, asked: Asked<'_>, reply: Reply) -> Answered
 }
 
 /// Goes on with a statement whose table was found. It makes no call.
-fn follow<'a>(
-    alloc: Global,
-    asked: Asked<'a>,
-    statement: Statement,
-    found: Found,
-) -> ItemTurn<'a>
+fn follow<'a>(alloc: Global, asked: Asked<'a>, statement: Statement, found: Found) -> ItemTurn<'a>
     ensures { spec.Follows asked.entry statement found result }
 {
     let next = binding::next_of(alloc, &statement, &found);
@@ -126,7 +116,12 @@ fn find<'a, S: Steps>(
 }
 
 /// One row, by its receipt.
-fn one_row(asked: Asked<'_>, receipt: Receipt, mut receipts: Vec<Receipt>, alloc: Global) -> Answered
+fn one_row(
+    asked: Asked<'_>,
+    receipt: Receipt,
+    mut receipts: Vec<Receipt>,
+    alloc: Global,
+) -> Answered
     requires room { spec.HasRoomForOne receipts }
     ensures { spec.IsOneRow asked.entry receipt result }
 {

@@ -59,12 +59,7 @@ fn parsed<'a>(
     Read::Asks(asked, statement)
 }
 
-fn read_statement<'a>(
-    alloc: Global,
-    piece: Piece<'a>,
-    settings: Settings,
-    first: u64,
-) -> Read<'a>
+fn read_statement<'a>(alloc: Global, piece: Piece<'a>, settings: Settings, first: u64) -> Read<'a>
     requires { piece.kind ≡ PieceKind.Statement }
     ensures { spec.ReadsAs settings (seen_piece piece.entry) first result }
 {
