@@ -5,13 +5,14 @@ use Rattle.std.proofs.Math.Seq.{take-append-add}
 use Rattle.std.proofs.lemmas.Bool.Decides.{nat_tests}
 use Rattle.px_values.specs.States.{Shape}
 use Rattle.px_values.specs.declared.row.Value.{Value}
+use Rattle.px_values.specs.declared.row.Value.TheVariants.{Text}
 use Rattle.px_tables.specs.declared.found.Found.{Found}
 use Rattle.px_trail.specs.declared.entry.Entry.{Entry}
 use Rattle.px_trail.specs.Answers.{AreInOrder, Given, IsCut, IsGiven, IsWithin}
 use Rattle.px_trail.specs.Batches.{IsDecided}
 use Rattle.px_trail.specs.Legal.{IsLegal}
 use Rattle.px_trail.specs.States.{key_in, state_now, state_of}
-use Rattle.px_trail.specs.Trail.{Base, catalogue_of, horizon_of, last_of, shape_of}
+use Rattle.px_trail.specs.Trail.{Base, catalogue_of, horizon_of, last_of, shape_of, table_of, table_shape}
 use Rattle.px_trail.proofs.Growth.{legal-prefix}
 use Rattle.px_trail.proofs.Standing.{shape-stays}
 use Rattle.px_trail.proofs.States.{decided-stays, state-stays}
@@ -23,6 +24,7 @@ use Rattle.px_gather.specs.Answers.{IsAnswerBy, IsCurrentOf, IsExactOf, IsPointO
 use Rattle.px_gather.specs.Gathered.{AreRisingRows, Ended, Frame, Stood, is_within, opened_at, row_key}
 use Rattle.px_gather.specs.Query.{Query, asked}
 use Rattle.px_gather.proofs.Gathering.{same_length}
+use Rattle.px_gather.proofs.Shapes.{shape-of-table}
 
 -- 1. The order and the limit
 
@@ -48,7 +50,7 @@ limited f es rows h =
 ended_whole : (f : Frame) (es : List Entry) (rows : List Given) → (h : Ended f es rows) → (row : List Value) → Stood f es row → f.query.meets row ≡ true
     → IsGiven (asked f.query f.point.found f.path.by) h.gathered.given row ⊎ IsCut (asked f.query f.point.found f.path.by) h.gathered.given row
 ended_whole f es rows h row stood met = elim (h.complete (row_key f row)) [
-  | inl done ↦ (let r = h.gathered.collected.whole row stood met done in inl (record { given = r.given; among = r.among; same = r.same }))
+  | inl done ↦ (let r = h.gathered.collected.whole row stood met done in inl (record { given = r.given; among = r.among; same = ap (λ (k : List ℕ). Text k ∷ f.query.named r.given.row) r.key ∙ ap (λ (l : List Value). Text (row_key f row) ∷ l) r.same }))
   | inr cut ↦ inr (record {
     limit = length h.gathered.given;
     is = cut.full;
@@ -139,8 +141,8 @@ module _ (b : Base) (es : List Entry) (p : Point) (t at : ℕ) (fixed : IsFixed 
       let one : state_of b (take n es) p.table.0 (key_in (shape_of b (take n es) p.table.0) row) p.stamp ≡ Some row = subst (λ (u : ℕ). state_of b (take n es) u (key_in (shape_of b (take n es) u) row) p.stamp ≡ Some row) (sym table) (key_same n row from ∙ h) in
       rw is one
 
-pub exact : (f : Frame) (es : List Entry) (rows : List Given) → f.point.scn ≡ true → f.point.table.0 ≡ f.query.table → IsFixed f.base es f.query.table f.point.stamp (opened_at f) → Ended f es rows → IsExactOf f.base es f.query f.point.found f.path.by f.point.stamp rows
-exact f es rows is table fixed h = record {
+pub exact : (f : Frame) (es : List Entry) (rows : List Given) → f.point.scn ≡ true → f.point.table.0 ≡ f.query.table → shape_of f.base es f.query.table ≡ table_shape f.point.found.table → IsFixed f.base es f.query.table f.point.stamp (opened_at f) → Ended f es rows → IsExactOf f.base es f.query f.point.found f.path.by f.point.stamp rows
+exact f es rows is table shape fixed h = record {
   given = h.gathered.given;
   same = h.gathered.same;
   decided = subst (λ (l : List Entry). IsDecided l f.query.table f.point.stamp) (sym fixed.is) (decided-stays f.base f.query.table f.point.stamp fixed.pre fixed.more fixed.legal fixed.decided fixed.low);
@@ -153,6 +155,8 @@ exact f es rows is table fixed h = record {
     whole = λ row at met.
         ended_whole f es rows h row (record { all = λ n from to. at_exact f.base es f.point f.query.table (opened_at f) fixed is table n row from at }) met;
   };
+  shape = shape;
+  fits = λ row at. h.fits row (record { all = λ n from to. at_exact f.base es f.point f.query.table (opened_at f) fixed is table n row from at });
 }
 
 -- what the point's own words make of the trail
@@ -171,6 +175,18 @@ point-fixed b es q scn p h legal is =
       from = (let w = h.within in omega (arith, length-take-le p.found.at es w));
     }
 
+-- and the table's shape
+pub point-shape : (b : Base) (es : List Entry) (q : Query) (scn : Option ℕ) (p : Point) → IsPointOf b es q scn p → IsLegal b es → shape_of b es q.table ≡ table_shape p.found.table
+point-shape b es q scn p h legal =
+    let cut : take p.found.at es ++ drop p.found.at es ≡ es = take-append-drop p.found.at es in
+    let number : p.found.table.id.0 ≡ q.table = ap (λ t. t.0) h.found_table ∙ h.table in
+    let whole : IsLegal b (take p.found.at es ++ drop p.found.at es) = subst (λ (l : List Entry). IsLegal b l) (sym cut) legal in
+    let drawn : q.table < (catalogue_of b (take p.found.at es)).next = subst (λ (t : ℕ). t < (catalogue_of b (take p.found.at es)).next) number h.found.drawn in
+    let stands : table_of b (take p.found.at es) q.table ≡ Some p.found.table = subst (λ (t : ℕ). table_of b (take p.found.at es) t ≡ Some p.found.table) number h.found.table in
+    ap (λ (l : List Entry). shape_of b l q.table) (sym cut)
+    ∙ (shape-stays b q.table (take p.found.at es) (drop p.found.at es) whole drawn
+    ∙ shape-of-table b (take p.found.at es) q.table p.found.table stands)
+
 -- 4. Whole answers
 
 -- what was gathered at its end is the answer
@@ -179,7 +195,7 @@ answer-is f es None first last rows h legal c begin end = subst (λ (n : ℕ). I
 answer-is f es (Some scn) first last rows h legal c begin end =
     let at : f.point.stamp ≡ stamp_at (Some scn) f.query.table f.base (take first es) = h.stamp ∙ ap (λ (n : ℕ). stamp_at (Some scn) f.query.table f.base (take n es)) (sym begin) in
     let low : horizon_of f.base f.query.table (take first es) ≤ f.point.stamp = subst (λ (n : ℕ). horizon_of f.base f.query.table (take n es) ≤ f.point.stamp) (sym begin) h.low in (
-      subst (λ (n : ℕ). IsExactOf f.base es f.query f.point.found f.path.by n rows) at (exact f es rows h.is_scn h.table (point-fixed f.base es f.query (Some scn) f.point h legal h.is_scn) c),
+      subst (λ (n : ℕ). IsExactOf f.base es f.query f.point.found f.path.by n rows) at (exact f es rows h.is_scn h.table (point-shape f.base es f.query (Some scn) f.point h legal) (point-fixed f.base es f.query (Some scn) f.point h legal h.is_scn) c),
       subst (λ (n : ℕ). horizon_of f.base f.query.table (take first es) ≤ n) at low,
     )
 
@@ -199,4 +215,6 @@ exact-stays b es more q found by p rows legal low drawn h =
         within = h.exact.within;
         whole = λ row at met. h.exact.whole row (sym (same row) ∙ at) met;
       };
+      shape = shape ∙ h.shape;
+      fits = λ row at. h.fits row (sym (same row) ∙ at);
     }

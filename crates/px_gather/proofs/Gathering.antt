@@ -21,6 +21,7 @@ use Rattle.px_tables.specs.declared.found.Found.{Found}
 use Rattle.px_calls.specs.Known.{Known}
 use Rattle.px_calls.specs.Calls.{Consulted}
 use Rattle.px_calls.specs.Looks.{IsRisingFrom, IsRowAt, IsShown, Shows, ShowsRows, found_by, is_covered, is_past, key_by, key_found, key_less, shown_by}
+use Rattle.px_calls.specs.Requires.{FitsRow}
 use Rattle.px_calls.proofs.Keys.{asymmetric, irreflexive, not_past, transitive, up_to as chain_up_to}
 use Rattle.px_gather.specs.Query.{IsPathFor, Query}
 use Rattle.px_gather.specs.Gathered.{AreRisingRows, Collected, Ended, Frame, Gathered, HasRow, IsHeldAt, IsRightKey, IsRowAfter, Left, Pending, Stood, is_full, is_within, kept, kept_held, named_of, opened_at, row_key, up_to}
@@ -45,6 +46,7 @@ collected-grows f es more done xs h = record {
   passed = h.passed;
   rising = h.rising;
   whole = λ row stood met is_done. h.whole row (stood-shrinks f es more row stood) met is_done;
+  fits = λ k is_done row stood. h.fits k is_done row (stood-shrinks f es more row stood);
 }
 
 pub gathered-grows : (f : Frame) (es more : List Entry) (done : List ℕ → Bool) (rows : List Given) → Gathered f es done rows → Gathered f (es ++ more) done rows
@@ -60,6 +62,7 @@ left-grows f es more n c fs next h =
       before = h.before;
       covered = h.covered;
       right = λ g among. subst (λ (l : List Entry). IsRightKey f.base l f.point f.path.by g) (sym same) (h.right g among);
+      fits = λ row at. h.fits row (row-shrinks f es more n row h.to at);
       whole = λ row at met past covered. h.whole row (row-shrinks f es more n row h.to at) met past covered;
     }
 
@@ -68,7 +71,7 @@ pending-grows f es more n fs next rows h = record { cursor = h.cursor; left = le
 
 pub ended-grows : (f : Frame) (es more : List Entry) (rows : List Given) → Ended f es rows → Ended f (es ++ more) rows
 unfolding gathered-grows
-ended-grows f es more rows h = record { done = h.done; gathered = gathered-grows f es more h.done rows h.gathered; complete = h.complete }
+ended-grows f es more rows h = record { done = h.done; gathered = gathered-grows f es more h.done rows h.gathered; complete = h.complete; fits = λ row stood. h.fits row (stood-shrinks f es more row stood) }
 
 -- 2. The order
 
@@ -193,6 +196,7 @@ left_step f es n c g fs next h =
       before = λ k done. covered_on next (key_found g) k (h.covered g (here g fs)) done;
       covered = λ x among. h.covered x (there x g fs among);
       right = λ x among. h.right x (there x g fs among);
+      fits = h.fits;
       whole = λ row at met past covered.
           elim (shown_split g fs f.point.found f.path.by row (h.whole row at met (past_on c (key_found g) (row_key f row) head.0 past) covered)) [
             | inl one ↦ (let z = shown_key (g ∷ []) f.point.found f.path.by row one in absurd (less_self (key_found g) (row_key f row) past (ap key_found (among_one z.0 g z.1) ∙ z.2)))
@@ -201,10 +205,10 @@ left_step f es n c g fs next h =
     }
 
 has-left : (f : Frame) (xs ys : List Given) (row : List Value) → HasRow f xs row → HasRow f (xs ++ ys) row
-has-left f xs ys row h = record { given = h.given; among = among-left h.given xs ys h.among; same = h.same }
+has-left f xs ys row h = record { given = h.given; among = among-left h.given xs ys h.among; key = h.key; same = h.same }
 
 has-right : (f : Frame) (xs ys : List Given) (row : List Value) → HasRow f ys row → HasRow f (xs ++ ys) row
-has-right f xs ys row h = record { given = h.given; among = among-right h.given xs ys h.among; same = h.same }
+has-right f xs ys row h = record { given = h.given; among = among-right h.given xs ys h.among; key = h.key; same = h.same }
 
 collected_step : (f : Frame) (es : List Entry) (n : ℕ) (c : Option (List ℕ)) (g : FoundKey) (fs : List FoundKey) (next : Option (List ℕ)) (xs taken : List Given)
     → Left f es n c (g ∷ fs) next → Collected f es (up_to c) xs → TakenIs f es g taken → Collected f es (up_to (Some (key_found g))) (xs ++ taken)
@@ -233,6 +237,7 @@ collected_step f es n c g fs next xs taken h j t =
                   absurd (no_less kf (row_key f row) done (subst (λ (k : List ℕ). key_less kf k ≡ true) z.2 (rising_past kf fs head.1 z.0 z.1))))
             ]
           ];
+      fits = λ k done row stood. h.fits row (stood.all n h.from h.to);
     }
 
 -- 5. The end of a chunk
@@ -267,6 +272,7 @@ left_start f es after fs next from path h rows =
       whole = λ row at met past covered.
           let now : IsRowAt f.base es f.point row = subst (λ (l : List Entry). IsRowAt f.base l f.point row) all at in
           rows.whole row now (path.has_all row (rows.fits row now) met) past covered;
+      fits = λ row at. rows.fits row (subst (λ (l : List Entry). IsRowAt f.base l f.point row) all at);
     }
 
 collected_end : (f : Frame) (es : List Entry) (n : ℕ) (c : Option (List ℕ)) (next : Option (List ℕ)) (xs : List Given) → Left f es n c [] next → Collected f es (up_to c) xs → Collected f es (is_covered next) xs
@@ -279,6 +285,7 @@ collected_end f es n c next xs h j = record {
         | inl old ↦ j.whole row stood met old
         | inr past ↦ absurd (nothing_shown f.point.found f.path.by row (h.whole row (stood.all n h.from h.to) met past covered))
       ];
+  fits = λ k covered row stood. h.fits row (stood.all n h.from h.to);
 }
 
 -- 6. What one key gives
@@ -308,7 +315,9 @@ taken_one f es g x held key whole = record {
   one = inr (x, refl);
   held = λ y among. one_row x y (λ (z : Given). IsHeldAt f es z) held among;
   key = λ y among. one_row x y (λ (z : Given). row_key f z.row ≡ key_found g) key among;
-  whole = λ row stood met shown. record { given = x; among = here x []; same = whole row stood met shown };
+  whole = λ row stood met shown.
+      let z = shown_key (g ∷ []) f.point.found f.path.by row shown in
+      record { given = x; among = here x []; key = key ∙ (ap key_found (among_one z.0 g z.1) ∙ z.2); same = whole row stood met shown };
 }
 
 -- what one key gave, and what was kept of it
@@ -456,13 +465,14 @@ full_is (Some l) n h j = let e : l ≡ n = grind (arith, nat_tests) in ap Some e
 
 -- the keys ended
 pub ended-all : (f : Frame) (es : List Entry) (rows : List Given) → Gathered f es (is_covered None) rows → Ended f es rows
-ended-all f es rows h = record { done = is_covered None; gathered = h; complete = λ k. inl refl }
+ended-all f es rows h = record { done = is_covered None; gathered = h; complete = λ k. inl refl; fits = λ row stood. h.collected.fits [] refl row stood }
 
 -- LIMIT rows were found
-pub ended-full : (f : Frame) (es : List Entry) (c : Option (List ℕ)) (rows : List Given) → Gathered f es (up_to c) rows → is_full f.query.limit (length rows) ≡ true → Ended f es rows
-ended-full f es c rows h full = record {
+pub ended-full : (f : Frame) (es : List Entry) (c : Option (List ℕ)) (rows : List Given) → Gathered f es (up_to c) rows → is_full f.query.limit (length rows) ≡ true → ((row : List Value) → Stood f es row → FitsRow f.point.found.table row) → Ended f es rows
+ended-full f es c rows h full fits = record {
   done = up_to c;
   gathered = h;
+  fits = fits;
   complete = λ k. elim (done_or_past c k) [
     | inl old ↦ inl old
     | inr past ↦ inr (record {
@@ -473,7 +483,7 @@ ended-full f es c rows h full = record {
 }
 
 pub pending-full : (f : Frame) (es : List Entry) (n : ℕ) (fs : List FoundKey) (next : Option (List ℕ)) (rows : List Given) → Pending f es n fs next rows → is_full f.query.limit (length rows) ≡ true → Ended f es rows
-pending-full f es n fs next rows h full = ended-full f es h.cursor rows h.gathered full
+pending-full f es n fs next rows h full = ended-full f es h.cursor rows h.gathered full (λ row stood. h.left.fits row (stood.all n h.left.from h.left.to))
 
 none_within : (limit : Option ℕ) → is_within limit 0 ≡ true
 none_within None = refl
@@ -485,7 +495,7 @@ unfolding AreRisingRows
 gathered-none f es = record {
   given = [];
   same = refl;
-  collected = record { held = λ x among. absurd (no x among); passed = λ x among. absurd (no x among); rising = tt; whole = λ row stood met done. cc };
+  collected = record { held = λ x among. absurd (no x among); passed = λ x among. absurd (no x among); rising = tt; whole = λ row stood met done. cc; fits = λ k done. cc };
   within = none_within f.query.limit;
 }
 

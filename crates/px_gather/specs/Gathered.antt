@@ -11,6 +11,7 @@ use Rattle.px_calls.specs.declared.query.Held.{Held}
 use Rattle.px_calls.specs.declared.query.Path.{Path}
 use Rattle.px_calls.specs.declared.query.Point.{Point}
 use Rattle.px_calls.specs.Looks.{IsDoubtOf, IsRightRow, IsRisingFrom, IsRowAt, IsShown, is_covered, is_past, key_by, key_found, key_less}
+use Rattle.px_calls.specs.Requires.{FitsRow}
 use Rattle.px_gather.specs.Query.{Query}
 
 -- a scan: what stood before the trail, the point that it reads at, the query that it answers, and the path that it follows
@@ -52,10 +53,11 @@ unfoldable pub AreRisingRows : Frame → List Given → Type 0
 AreRisingRows f [] = Unit {0}
 AreRisingRows f (x ∷ xs) = ((y : Given) → IsAmong y xs → key_less (row_key f x.row) (row_key f y.row) ≡ true) × AreRisingRows f xs
 
--- a row with these named values is given
+-- a row with this key and these named values is given
 pub record HasRow (f : Frame) (xs : List Given) (row : List Value) : Type 0 where
   pub given : Given
   pub among : IsAmong given xs
+  pub key : row_key f given.row ≡ row_key f row
   pub same : f.query.named given.row ≡ f.query.named row
 
 -- the keys up to one
@@ -64,12 +66,13 @@ up_to None k = false
 up_to (Some last) k = not (key_less last k)
 
 -- what was gathered of the keys that are done with: each row was held at its place and meets the condition, they are in order, and each
--- row that stood and meets it is given
+-- row that stood and meets it is given. Where a key is done with, each row that stood is one that the table may have
 pub record Collected (f : Frame) (es : List Entry) (done : List ℕ → Bool) (xs : List Given) : Type 0 where
   pub held : (x : Given) → IsAmong x xs → IsHeldAt f es x
   pub passed : (x : Given) → IsAmong x xs → done (row_key f x.row) ≡ true
   pub rising : AreRisingRows f xs
   pub whole : (row : List Value) → Stood f es row → f.query.meets row ≡ true → done (row_key f row) ≡ true → HasRow f xs row
+  pub fits : (k : List ℕ) → done k ≡ true → (row : List Value) → Stood f es row → FitsRow f.point.found.table row
 
 -- with this LIMIT so many rows are enough
 abbrev pub is_full : Option ℕ → ℕ → Bool
@@ -103,6 +106,7 @@ pub record Ended (f : Frame) (es : List Entry) (rows : List Given) : Type 0 wher
   pub done : List ℕ → Bool
   pub gathered : Gathered f es done rows
   pub complete : (k : List ℕ) → (done k ≡ true) ⊎ IsCutAt f gathered.given k
+  pub fits : (row : List Value) → Stood f es row → FitsRow f.point.found.table row
 
 -- 4. Keys that are still to be gone through
 
@@ -119,6 +123,7 @@ pub record Left (f : Frame) (es : List Entry) (n : ℕ) (cursor : Option (List �
   pub before : (k : List ℕ) → up_to cursor k ≡ true → is_covered next k ≡ true
   pub covered : (g : FoundKey) → IsAmong g fs → is_covered next (key_found g) ≡ true
   pub right : (g : FoundKey) → IsAmong g fs → IsRightKey f.base (take n es) f.point f.path.by g
+  pub fits : (row : List Value) → IsRowAfter f es n row → FitsRow f.point.found.table row
   pub whole : (row : List Value) → IsRowAfter f es n row → f.query.meets row ≡ true → is_past cursor (row_key f row) ≡ true → is_covered next (row_key f row) ≡ true
       → IsShown fs f.point.found f.path.by row
 

@@ -1,6 +1,7 @@
 -- What a query asks, and which path may answer it.
-use Rattle.std.specs.Prelude.{ℕ, ◌≡◌, Bool, true, List, Option}
+use Rattle.std.specs.Prelude.{ℕ, ◌≡◌, Bool, true, List, ◌∷◌, Option}
 use Rattle.px_values.specs.declared.row.Value.{Value}
+use Rattle.px_values.specs.declared.row.Value.TheVariants.{Text}
 use Rattle.px_tables.specs.declared.found.Found.{Found}
 use Rattle.px_tables.specs.declared.table.Table.{Table}
 use Rattle.px_trail.specs.Answers.{Asked}
@@ -27,6 +28,10 @@ pub record IsPathFor (q : Query) (p : Point) (path : Path) : Type 0 where
   pub meets : (row : List Value) → q.meets (shown_by p.found path.by row) ≡ q.meets row
   pub named : (row : List Value) → q.named (shown_by p.found path.by row) ≡ q.named row
 
+-- a row is told by its key and its named values
+abbrev pub told_by : Query → Found → By → List Value → List Value
+told_by q f by row = Text (key_by f by row) ∷ q.named row
+
 -- what is asked in the order of these keys
 abbrev pub asked : Query → Found → By → Asked
-asked q f by = record { table = q.table; meets = q.meets; named = q.named; path_key = key_by f by; before = λ a b. key_less (key_by f by a) (key_by f by b); limit = q.limit }
+asked q f by = record { table = q.table; meets = q.meets; named = told_by q f by; path_key = key_by f by; before = λ a b. key_less (key_by f by a) (key_by f by b); limit = q.limit }

@@ -48,6 +48,13 @@ impl<Q: Asks> QueryRun<Q> {
         turn
     }
 
+    /// The query that it answers.
+    pub fn query(&self) -> &Q
+        ensures { result.now ≡ self.now.query }
+    {
+        &self.query
+    }
+
     /// The query of a run that is over.
     pub fn finish(self) -> Q
         requires { self.state ≡ QueryState.Over }

@@ -1,9 +1,9 @@
 -- What a server without a table knows.
-use Rattle.std.proofs.Common.{ℕ, ◌≡◌, ◌<◌, ◌≤◌, ◌⊎◌, inl, inr, Bool, true, Option, None, Some, List, [], ◌∷◌, length, refl, ◌∙◌, ap, arith}
+use Rattle.std.proofs.Common.{ℕ, ◌≡◌, ◌≤◌, inl, inr, true, None, Some, List, [], length, refl, sym, subst, ◌∙◌, ap, arith}
 use Rattle.px_values.specs.declared.change.Change.{Change}
 use Rattle.px_tables.specs.declared.table.Table.{Table}
 use Rattle.px_trail.specs.Batches.{BatchPhase, batch_from, has, is_distinct, rows_of}
-use Rattle.px_trail.specs.Trail.{acts_by, catalogue_from, closing_from, points_from, table_of}
+use Rattle.px_trail.specs.Trail.{acts_by, catalogue_from, closing_from, points_from}
 use Rattle.px_trail.proofs.Growth.{legal-none}
 use Rattle.px_calls.specs.declared.query.Point.{Point}
 use Rattle.px_calls.specs.declared.ticket.Ticket.{Ticket}
@@ -11,6 +11,8 @@ use Rattle.px_calls.specs.Known.{IsRunning, Sees}
 use Rattle.px_calls.specs.Calls.{Finds}
 use Rattle.px_calls.specs.Causes.{LacksTable, NamesNoTable}
 use Rattle.px_calls.specs.Requires.{AreFitting, CanAbandon, CanEnd, IsDrawn, IsOpen, TicketIn}
+use Rattle.px_planned.specs.Queries.{query_of}
+use Rattle.px_planned.specs.declared.planned.Planned.{Planned}
 use Rattle.px_scan.specs.Turns.{IsBound}
 use Rattle.px_tests_steps.specs.Bare.{all_rows, bare, empty, one_gone}
 
@@ -82,3 +84,7 @@ fits cs = record { drawn = drawn; each = λ x h. none_some x h }
 pub bound : IsBound bare all_rows
 unfolding catalogue_from
 bound = record { drawn = drawn; is = λ x h. none_some x h }
+
+pub bound_to : (p : Planned) → p.table.id.0 ≡ 3 → IsBound bare (query_of p)
+unfolding catalogue_from
+bound_to p e = record { drawn = subst (λ (t : ℕ). IsDrawn bare t) (sym e) drawn; is = λ x h. none_some x h }

@@ -1,9 +1,7 @@
 -- A server without a table.
-use Rattle.std.specs.Prelude.{ℕ, true, false, List, [], ◌∷◌, Option, None, pos}
-use Rattle.px_values.specs.declared.name.TableId.{TableId}
+use Rattle.std.specs.Prelude.{true, false, List, [], ◌∷◌, None, pos}
 use Rattle.px_values.specs.declared.change.Change.{Change}
 use Rattle.px_values.specs.declared.change.What.TheVariants.{Gone}
-use Rattle.px_values.specs.declared.row.Value.{Value}
 use Rattle.px_values.specs.declared.row.Value.TheVariants.{Number}
 use Rattle.px_tables.specs.declared.table.Table.{Table}
 use Rattle.px_trail.specs.Trail.{Base}

@@ -17,6 +17,8 @@ impl Steps for Bare {
 
     ghost known = { λ _. bare };
 
+    ghost sound = { Unit {0} };
+
     fn find(&mut self, _name: &Name) -> Result<Found, StepFault> {
         Err(StepFault::NoTable)
     }

@@ -1,0 +1,4 @@
+pub mod Final
+pub mod Named
+pub mod Exactly
+pub mod Selecting

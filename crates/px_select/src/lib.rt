@@ -1,0 +1,13 @@
+//! One SELECT, a step at a time, over any steps.
+//!
+//! A run wraps the query machine of px_scan: each of its steps makes one call of `Steps`, and other seats may act between two of them. When
+//! the scan is over, its rows are sorted by the ORDER BY, cut at the LIMIT and shown, and handed out with the places at which they were held.
+//! The states of a run are px_scan's, so that what stays true of a query between two steps stays true of a SELECT; what its last
+//! step says is the answer of px_answers, or a fault with its cause.
+#![tactic(auto)]
+
+mod laws;
+mod run;
+
+pub use laws::law_turns;
+pub use run::{SelectRun, SelectTurn, Selected, run_select};
