@@ -28,7 +28,8 @@ use Rattle.px_group.specs.declared.group.OpenPoint.{OpenPoint}
 use Rattle.px_group.specs.declared.group.Phase.{Phase}
 use Rattle.px_group.specs.declared.group.Phase.TheVariants.{Marking, Writing, Verifying, Closing}
 use Rattle.px_group.specs.Room.{HasRooms}
-use Rattle.px_cellshapes.specs.Shapes.{AreRightKeys, AreRightRows}
+use Rattle.px_cellshapes.specs.Keys.{AreRightKeys}
+use Rattle.px_cellshapes.specs.Rows.{AreRightRows}
 
 -- 1. What the code rests on, whatever the folder held
 
