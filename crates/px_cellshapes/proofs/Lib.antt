@@ -1,0 +1,11 @@
+mod Distinct
+mod Each
+mod KeysRead
+mod Paths
+mod RowsRead
+mod Steps
+mod StoredValues
+mod Tests
+mod Typed
+mod WrittenKeys
+mod WrittenRows
