@@ -25,6 +25,9 @@ use Rattle.px_catalog.proofs.Holding.{catalogue_kept, catalogue_stands}
 use Rattle.px_wal.specs.Files.{HasFile, file_of}
 use Rattle.px_recovery.specs.Folder.{AreFresh, AreUnmade, FolderData, IsEmptyFrom, IsKept, PartStands, StandsFor, StandsOn, from, owns, part_of, region_numbers, regions_of}
 use Rattle.px_recovery.proofs.Definitions.{catalogue_stays}
+use Rattle.px_recovery.specs.Base.{IsSound, IsSoundFolder}
+use Rattle.px_catalog.proofs.Opening.{stands_once}
+use Rattle.px_folder.proofs.Same.{one_sound}
 use Rattle.px_folder.specs.Damage.{IsDamagedBelow, IsDamagedIn, IsWhole, in_numbers, in_region}
 use Rattle.px_folder.specs.Drawn.{AreDrawn, IsDrawn, IsDrawnIndex, IsDrawnTable}
 use Rattle.px_folder.specs.Read.{IsReadOn, data_at, folder_by, number_of}
@@ -228,6 +231,13 @@ module _ {D : Type 0} (d : Ghosts D) (old mid new : D) (touches : TouchesOnly d 
 
     pub folder_stood : CatalogueStands (d.seen old) (standing_of c) → IsEmptyFrom (standing_of c).next (d.seen old) → StandsFor (d.seen old) (folder_by (standing_of c) rs)
     folder_stood = read_stood (standing_of c) rs drawn moved d old new all_before
+
+    -- a sound image stands for what was read of it
+    pub folder_sound : CatalogueStands (d.seen old) (standing_of c) → IsSound (d.seen old) → StandsFor (d.seen old) (folder_by (standing_of c) rs) × IsSoundFolder (folder_by (standing_of c) rs)
+    folder_sound catalogue sound =
+        let same = stands_once (d.seen old) sound.folder.standing (standing_of c) (sound.stands.parts 0 tt) catalogue in
+        let stood = folder_stood catalogue (subst (λ (s : Standing). IsEmptyFrom s.next (d.seen old)) same sound.stands.fresh) in
+        (stood, one_sound (d.seen old) sound.folder (folder_by (standing_of c) rs) sound.stands stood sound.sound)
 
     pub folder_stands : HasCatalogue d c mid → AreFresh d old (standing_of c).next → StandsOn d new (folder_by (standing_of c) rs)
     folder_stands has fresh = read_stands (standing_of c) rs drawn moved d old new all_before (catalogue_stands d c new (catalogue_after d old mid new touches quiet same c has)) (all_touches d old mid new touches quiet same) fresh

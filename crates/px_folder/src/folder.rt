@@ -3,7 +3,8 @@ ghost use Rattle.std.specs.Prelude.{◌≡◌, ◌≢◌, ◌≤◌, ◌*◌, �
 ghost use Rattle.std.specs.Ordering.{nat_cmp};
 ghost use Rattle.px_outside.specs.OnDisk.{LeavesOnly, Passes, Rose, Stays, TouchesOnly};
 ghost use Rattle.px_outside.specs.Parts.{AreDistinct};
-ghost use Rattle.px_catalog.specs.Catalogue.{HasCatalogue, catalogue_files, is_open as opened_catalogue, standing_of};
+ghost use Rattle.px_catalog.specs.Catalogue.{CatalogueStands, HasCatalogue, catalogue_files, is_open as opened_catalogue, standing_of};
+ghost use Rattle.px_recovery.specs.Base.{IsSound, IsSoundFolder};
 ghost use Rattle.px_recovery.specs.Folder.{AreFresh, FolderData, IsEmptyFrom, StandsFor, StandsOn, region_numbers};
 ghost use Rattle.px_folder.specs.Read.{IsReadOn, folder_of, number_of};
 ghost use Rattle.px_folder.specs.Drawn.{AreDrawn};
@@ -95,8 +96,11 @@ impl Folder {
         ensures sorted { IfOk result (λ w. IsSorted nat_cmp (map number_of w.regions.items)) }
         ensures open { IfOk result (λ w. opened_catalogue w.catalog) }
 
+        ensures definitions { IsTrue D.tells → IfOk result (λ w. CatalogueStands (D.seen disk.old) (standing_of w.catalog)) }
+
         // The files stood for what was read, where no file of a region that is still to be made has a byte.
         ensures stood { IsTrue D.tells → IfOk result (λ w. IsEmptyFrom (standing_of w.catalog).next (D.seen disk.old) → StandsFor (D.seen disk.old) (folder_of w)) }
+        ensures sound { IsTrue D.tells → IsSound (D.seen disk.old) → IfOk result (λ w. StandsFor (D.seen disk.old) (folder_of w) × IsSoundFolder (folder_of w)) }
         ensures stands { IsTrue D.tells → IfOk result (λ w. AreFresh ⟦<D as Disk>⟧ disk.old (standing_of w.catalog).next → StandsOn ⟦<D as Disk>⟧ disk.new (folder_of w)) }
         ensures catalogue { IsTrue D.tells → IfOk result (λ w. HasCatalogue ⟦<D as Disk>⟧ w.catalog disk.new) }
         ensures read { IsTrue D.tells → IfOk result (λ w. All (IsReadOn ⟦<D as Disk>⟧ disk.old disk.new) w.regions.items) }

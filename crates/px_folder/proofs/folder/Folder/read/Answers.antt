@@ -7,7 +7,7 @@ use Rattle.px_recovery.proofs.Definitions.{catalogue_stays}
 use Rattle.px_folder.specs.Damage.{IsDamagedBelow, below}
 use Rattle.px_folder.specs.Drawn.{AreDrawn}
 use Rattle.px_folder.specs.Read.{number_of}
-use Rattle.px_folder.proofs.Reading.{all_touches, below_before, catalogue_after, folder_read, folder_stands, folder_stood, leaves_folder}
+use Rattle.px_folder.proofs.Reading.{all_touches, below_before, catalogue_after, folder_read, folder_sound, folder_stands, folder_stood, leaves_folder}
 use Rattle.px_folder.proofs.folder.Folder.read.Goals as goal
 
 pub returns-in_err-catalog-clause-any_moment : goal.returns-in_err-catalog-clause-any_moment
@@ -29,6 +29,22 @@ returns-in-Ok-clause-stood g c = λ tells.
     let read = c.in-Ok.ensures.read tells in
     let started = c.in_ok-catalog.ensures.started tells in
     folder_stood d old mid new touches quiet same c.in_ok-catalog.catalog rs drawn moved read started.0
+
+pub returns-in-Ok-clause-sound : goal.returns-in-Ok-clause-sound
+returns-in-Ok-clause-sound g c = λ tells sound.
+    let d = g.D.Disk in
+    let old = c.args.disk.now in
+    let mid = c.start.new.disk in
+    let new = c.read_regions.new.disk in
+    let quiet = c.read_regions.ensures.quiet in
+    let same = c.read_regions.ensures.seen in
+    let touches = c.start.ensures.touches tells in
+    let rs = c.in-Ok.regions.items in
+    let drawn = subst AreDrawn c.standing.ensures c.in-Ok.ensures.drawn in
+    let moved = subst (λ (x : Standing). IsPermutation (region_numbers x) (map number_of rs)) c.standing.ensures c.in-Ok.ensures.numbers in
+    let read = c.in-Ok.ensures.read tells in
+    let started = c.in_ok-catalog.ensures.started tells in
+    folder_sound d old mid new touches quiet same c.in_ok-catalog.catalog rs drawn moved read started.0 sound
 
 pub returns-in-Ok-clause-stands : goal.returns-in-Ok-clause-stands
 returns-in-Ok-clause-stands g c = λ tells.
