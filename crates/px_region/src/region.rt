@@ -70,7 +70,6 @@ impl Region {
     ghost use Rattle.px_cells.specs.CellData.{CellData};
     ghost use Rattle.px_cellbytes.specs.Reading.{IsWritten};
     ghost use Rattle.px_wal.specs.Files.{HasFile};
-    ghost use Rattle.px_wal.specs.Manifest.{names};
     ghost use Rattle.px_region.specs.declared.fault.PromiseFault.TheVariants.{Busy, NotReady};
 
     /// The region of a number of which no file was ever written. It makes no call.
@@ -97,13 +96,6 @@ impl Region {
         ensures { result ≡ self.now.number }
     {
         self.number
-    }
-
-    /// Up to which stamp its files were compacted.
-    pub fn horizon(&self) -> u64
-        ensures { result ≡ (names self.now.manifest).horizon }
-    {
-        self.manifest.snapshot().horizon
     }
 
     /// Whether its log is open, and a batch appended to it counts. The last batch of a folder that no program left may lie
