@@ -10,7 +10,7 @@ use Rattle.px_tables.specs.declared.index.NewIndex.{NewIndex}
 use Rattle.px_tables.specs.declared.table.KeyPlace.{KeyPlace}
 use Rattle.px_tables.specs.declared.table.NewTable.{NewTable}
 use Rattle.px_tables.specs.declared.table.Table.{Table}
-use Rattle.px_trail.specs.Trail.{made_index, made_table}
+use Rattle.px_trail.specs.Trail.{made_index, made_table, numbered}
 use Rattle.px_rows.specs.Keys.{IsRightTable, are_distinct, is_part}
 use Rattle.px_indexrow.specs.Form.{IsRightIndex}
 use Rattle.px_calls.specs.Requires.{AreOnce, IsNewIndex, IsNewTable}
@@ -55,3 +55,8 @@ new_index_right t n id s what h = record {
   within = λ c l. all_get (λ m. m < length t.columns) what.included c l h.included;
   once = λ c d l m q. once_same what.included h.included_once c d l m q;
 }
+
+-- a table that isn't split has one region
+pub one_region : (n : ℕ) (id : TableId) (what : NewTable) → what.least_keys ≡ [] ∷ [] → (made_table n id what).regions ≡ (record { number = n; least_key = [] }) ∷ []
+unfolding numbered
+one_region n id what e = ap (numbered n) e

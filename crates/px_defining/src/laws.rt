@@ -31,6 +31,7 @@ ghost use Rattle.px_defining.specs.Defined.{HasActive, HasIndexLess, HasIndexMor
 /// A table is made: nothing was known of its number, so the trail tells of no stamp, batch, point or index, and it shows no row.
 pub fn law_table()
     ensures new { (n : ℕ) → (id : TableNumber) → (what : TableDefinition) → IsNewTable what → IsRightTable (made_table n id what) }
+    ensures one { (n : ℕ) → (id : TableNumber) → (what : TableDefinition) → what.least_keys ≡ [] ∷ [] → (made_table n id what).regions ≡ (record { number = n; least_key = [] }) ∷ [] }
     ensures right { (t : TableData) → (g : Tables) → IsRightTable t → IsNewGroup t g → IsRightGroup g }
     ensures tallied { (b : Base) → IsRightBase b → (es : List Entries) → IsLegal b es → (e : Entries) → MayCome b es e → (id : TableNumber) → (what : TableDefinition) → e.act ≡ Made id what → (t : TableData) → t ≡ made_table (catalogue_of b es).next id what → (g : Tables) → IsNewGroup t g → IsTallied b (es ++ e ∷ []) g [] }
     ensures shown { (b : Base) → IsRightBase b → (es : List Entries) → IsLegal b es → (e : Entries) → MayCome b es e → (id : TableNumber) → (what : TableDefinition) → e.act ≡ Made id what → (index : ℕ → IndexForm) → (t : TableData) → t ≡ made_table (catalogue_of b es).next id what → (g : Tables) → IsNewGroup t g → IsShownBy b index (es ++ e ∷ []) g made_data [] }
