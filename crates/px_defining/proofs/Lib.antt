@@ -13,3 +13,4 @@ pub mod ShownMore
 pub mod ShownActive
 pub mod ShownLess
 pub mod Once
+pub mod Pending

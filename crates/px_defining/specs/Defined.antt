@@ -1,6 +1,6 @@
 -- What a definition does to a table.
-use Rattle.std.specs.Prelude.{◌≡◌, ◌≢◌, ◌++◌, ◌∷◌, [], ◌==◌, ℕ, List, Some, filter, not, slice_get}
-use Rattle.std.specs.List.{AllByRecursion}
+use Rattle.std.specs.Prelude.{◌≡◌, ◌≢◌, ◌++◌, ◌∷◌, [], ◌==◌, ℕ, Bool, true, false, List, Some, filter, not, slice_get}
+use Rattle.std.specs.List.{AllByRecursion, list_any}
 use Rattle.std.proofs.Math.ListN.{set}
 use Rattle.px_region.specs.Fresh.{IsFreshRegion}
 use Rattle.px_tables.specs.declared.index.Index.{Index}
@@ -10,6 +10,8 @@ use Rattle.px_groupworld.specs.Group.{GroupData}
 use Rattle.px_group.specs.Group.{region_of}
 use Rattle.px_group.specs.declared.group.Group.{Group}
 use Rattle.px_group.specs.declared.group.IndexRegion.{IndexRegion}
+use Rattle.px_group.specs.declared.group.Phase.{Phase}
+use Rattle.px_group.specs.declared.group.Phase.TheVariants.{Marking, Writing, Verifying, Closing}
 
 -- all but the indexes and the last stamp is as it was
 pub record IsSameBeside (g g' : Group) : Type 0 where
@@ -78,3 +80,14 @@ pub record HasIndexLess (g g' : Group) (n : ℕ) : Type 0 where
 -- what the table shows then, where no batch is open
 abbrev pub dropped_data : ℕ → GroupData → GroupData
 dropped_data n v = record v { indexes = filter (λ i. not (i.id == n)) v.indexes; opens = [] }
+
+-- a batch in this phase is still to write its rows
+abbrev pub is_to_write : Phase → Bool
+is_to_write Marking = true
+is_to_write Writing = true
+is_to_write Verifying = false
+is_to_write Closing = false
+
+-- an open batch of the table is
+abbrev pub has_to_write : Group → Bool
+has_to_write g = list_any (λ m. is_to_write m.phase) g.batches.items

@@ -1,10 +1,10 @@
 // What a definition does to a table.
 ghost use Rattle.std.specs.Prelude.{◌≡◌, ◌<◌, ◌∷◌, [], ℕ, length, slice_get, vec_len, vec_capacity, IfSome, IfNone, Some, OnOk};
-ghost use Rattle.px_defining.specs.Defined.{HasActive, HasIndexLess, HasIndexMore, IsNewGroup, IsSame};
+ghost use Rattle.px_defining.specs.Defined.{HasActive, HasIndexLess, HasIndexMore, IsNewGroup, IsSame, has_to_write, is_to_write as before_writes};
 ghost use Rattle.px_tables.specs.declared.table.TableRegion.{TableRegion};
 ghost use Rattle.px_group.specs.declared.group.IndexRegion.{IndexRegion as IndexRegions};
 
-use px_group::{Group, IndexRegion};
+use px_group::{Group, IndexRegion, Phase};
 use px_region::Region;
 use px_tables::{Index, IndexState, Table};
 use px_values::IndexId;
@@ -67,4 +67,21 @@ pub fn drop_index(group: &mut Group, id: IndexId)
     ensures { HasIndexLess group.old group.new id.0 }
 {
     group.indexes.retain(|part| part.index.id.0 != id.0);
+}
+
+/// Whether a batch in this phase is still to write its rows.
+fn is_to_write(phase: Phase) -> bool
+    ensures { result ≡ before_writes phase }
+{
+    match phase {
+        Phase::Marking | Phase::Writing => true,
+        Phase::Verifying | Phase::Closing => false,
+    }
+}
+
+/// Whether a batch of the table is still to write its rows.
+pub fn has_pending(group: &Group) -> bool
+    ensures { result ≡ has_to_write group.now }
+{
+    group.batches.iter().any(|begun| is_to_write(begun.phase))
 }

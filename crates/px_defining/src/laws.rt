@@ -1,5 +1,5 @@
 // What the trail tells of a table, and what the table shows, after a definition.
-ghost use Rattle.std.specs.Prelude.{◌≡◌, ◌≢◌, ◌≤◌, ◌++◌, ◌∷◌, [], ℕ, List, Some, None};
+ghost use Rattle.std.specs.Prelude.{◌≡◌, ◌≢◌, ◌≤◌, ◌++◌, ◌↔◌, true, ◌∷◌, [], ℕ, List, Some, None};
 ghost use Rattle.px_calls.specs.Requires.{IsNewIndex, IsNewTable};
 ghost use Rattle.px_forms.specs.Indexes.{IndexForm};
 ghost use Rattle.px_group.specs.Group.{IsRightGroup, IsShownBy, IsTallied, form_of};
@@ -16,7 +16,7 @@ ghost use Rattle.px_tables.specs.declared.index.NewIndex.{NewIndex as IndexDefin
 ghost use Rattle.px_tables.specs.declared.table.NewTable.{NewTable as TableDefinition};
 ghost use Rattle.px_tables.specs.declared.table.Table.{Table as TableData};
 ghost use Rattle.px_tablesteps.specs.Kept.{TableBears, TableSteps};
-ghost use Rattle.px_trail.specs.Batches.{IsDecided};
+ghost use Rattle.px_trail.specs.Batches.{Batch, IsDecided, batch_of, unwritten};
 ghost use Rattle.px_trail.specs.Legal.{IsLegal, MayCome};
 ghost use Rattle.px_trail.specs.States.{state_of};
 ghost use Rattle.px_trail.specs.Trail.{Base, IsRightBase, catalogue_of, horizon_of, made_index, made_table};
@@ -26,7 +26,7 @@ ghost use Rattle.px_values.specs.declared.name.IndexId.{IndexId as IndexNumber};
 ghost use Rattle.px_values.specs.declared.name.TableId.{TableId as TableNumber};
 ghost use Rattle.px_values.specs.declared.row.Value.{Value as ColumnValue};
 ghost use Rattle.px_world.specs.Events.{Comes, Ready};
-ghost use Rattle.px_defining.specs.Defined.{HasActive, HasIndexLess, HasIndexMore, HasOnce, IsNewGroup, IsOnlyAt, dropped_data};
+ghost use Rattle.px_defining.specs.Defined.{HasActive, HasIndexLess, HasIndexMore, HasOnce, IsNewGroup, IsOnlyAt, dropped_data, has_to_write};
 
 /// A table is made: nothing was known of its number, so the trail tells of no stamp, batch, point or index, and it shows no row.
 pub fn law_table()
@@ -71,4 +71,9 @@ pub fn law_once()
     ensures born { (b : Base) → IsRightBase b → (es : List Entries) → IsLegal b es → (e : Entries) → MayCome b es e → (g : Tables) → (h : Tables) → (i : Indexes) → (hs : List HeldBatch) → IsTallied b es g hs → HasIndexMore g h i → (id : IndexNumber) → (s : ℕ) → (what : IndexDefinition) → e.act ≡ IndexMade g.table.id id s what → i ≡ made_index (catalogue_of b es).next id s what → HasOnce g → HasOnce h }
     ensures active { (g : Tables) → (h : Tables) → (place : ℕ) → HasActive g h place → HasOnce g → HasOnce h }
     ensures dropped { (g : Tables) → (h : Tables) → (n : ℕ) → HasIndexLess g h n → HasOnce g → HasOnce h }
+{}
+
+/// A batch of the table is still to write its rows exactly where the trail has one of which a row isn't written.
+pub fn law_pending()
+    ensures { (b : Base) → (es : List Entries) → IsLegal b es → (g : Tables) → (hs : List HeldBatch) → IsTallied b es g hs → (has_to_write g ≡ true) ↔ ((s : ℕ) × (y : Batch) × (batch_of g.table.id.0 s es ≡ Some y) × (unwritten y ≢ [])) }
 {}
