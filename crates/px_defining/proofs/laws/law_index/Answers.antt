@@ -1,8 +1,0 @@
-use Rattle.px_defining.proofs.News.{new_index_right}
-use Rattle.px_defining.proofs.Right.{right_more}
-use Rattle.px_defining.proofs.ShownMore.{bears, shown_more}
-use Rattle.px_defining.proofs.TalliedMore.{tallied_more}
-use Rattle.px_defining.proofs.laws.law_index.Goals as goal
-
-pub returns : goal.returns
-returns c = record { new = new_index_right; right = right_more; tallied = tallied_more; shown = shown_more; bears = bears }

@@ -1,5 +1,0 @@
-use Rattle.px_defining.proofs.Once.{once_active, once_less, once_more, once_new, only_at}
-use Rattle.px_defining.proofs.laws.law_once.Goals as goal
-
-pub returns : goal.returns
-returns c = record { only = only_at; made = once_new; born = once_more; active = once_active; dropped = once_less }

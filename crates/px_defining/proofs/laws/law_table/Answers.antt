@@ -1,8 +1,0 @@
-use Rattle.px_defining.proofs.News.{new_table_right, one_region}
-use Rattle.px_defining.proofs.Right.{right_new}
-use Rattle.px_defining.proofs.ShownTable.{shown_new}
-use Rattle.px_defining.proofs.TalliedTable.{tallied_new}
-use Rattle.px_defining.proofs.laws.law_table.Goals as goal
-
-pub returns : goal.returns
-returns c = record { new = new_table_right; one = one_region; right = right_new; tallied = tallied_new; shown = shown_new }
