@@ -1,0 +1,16 @@
+pub mod Numbers
+pub mod Lists
+pub mod News
+pub mod Right
+pub mod Going
+pub mod TalliedTable
+pub mod TalliedMore
+pub mod TalliedActive
+pub mod TalliedLess
+pub mod Ready
+pub mod ShownTable
+pub mod ShownMore
+pub mod ShownActive
+pub mod ShownLess
+pub mod Once
+pub mod Pending
