@@ -25,7 +25,7 @@ use Rattle.px_wal.proofs.Cuts.{written_last}
 use Rattle.px_wal.proofs.Named.{manifest_kept, manifest_stands}
 use Rattle.px_wal.proofs.Numbers.{above_more, bytes_more, cells_more}
 use Rattle.px_wal.proofs.Taken.{settle_more}
-use Rattle.px_region.specs.Region.{Holds, RegionData, Stands, with_batch}
+use Rattle.px_region.specs.Region.{Holds, RegionData, Stands, data_of, with_batch}
 use Rattle.px_region.specs.Promise.{IsAlike}
 use Rattle.px_region.specs.declared.region.Region.{Region}
 
@@ -110,6 +110,10 @@ module _ {D : Type 0} (d : Ghosts D) (region : Region) (disk : D) (s : RegionDat
   -- its store has what it has
   pub store_is_all : region.store.cells ≡ s.cells
   store_is_all = holds.store ∙ ap settle (sym (append-nil (later_first (above (names region.manifest).flushed holds.batches)))) ∙ sym holds.cells
+
+  -- what is read of it and named by its manifest is what it has
+  pub held_data : data_of region ≡ s
+  held_data = λ i. record { cells = store_is_all i; horizon = sym holds.horizon i; stamp = sym holds.stamp i }
 
   image_by : (image : Image) → SnapshotStands region.number image (names region.manifest) → LogStands region.number (names region.manifest).flushed image holds.batches → Stands region.number image s
   image_by image manifest log = record {

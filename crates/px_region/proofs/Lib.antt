@@ -2,3 +2,4 @@ pub mod Holding
 pub mod Given
 pub mod Opening
 pub mod OneStanding
+pub mod Fresh

@@ -2,3 +2,4 @@ pub mod Region
 pub mod Promise
 pub mod Giving
 pub mod Opened
+pub mod Fresh

@@ -25,6 +25,10 @@ pub record RegionData : Type 0 where
 abbrev pub read_of : Region → List CellData
 read_of region = region.store.cells
 
+-- What is read of a region, and the horizon and the greatest stamp that its manifest names.
+abbrev pub data_of : Region → RegionData
+data_of region = record { cells = read_of region; horizon = (names region.manifest).horizon; stamp = (names region.manifest).stamp }
+
 -- a batch is written before all else
 abbrev pub with_batch : RegionData → List CellData → RegionData
 with_batch s cells = record { cells = settle (cells ++ s.cells); horizon = s.horizon; stamp = s.stamp }

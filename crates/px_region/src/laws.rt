@@ -1,6 +1,7 @@
 // The laws of what an image stands for.
 ghost use Rattle.std.specs.Prelude.{◌≡◌, ℕ};
 ghost use Rattle.px_outside.specs.Disk.{Image};
+ghost use Rattle.px_region.specs.Fresh.{IsBlank, IsFreshRegion, no_data};
 ghost use Rattle.px_region.specs.Region.{Holds, RegionData, Stands, read_of};
 ghost use Rattle.px_region.specs.declared.region.Region.{Region as Regions};
 
@@ -14,4 +15,9 @@ pub fn an_image_stands_for_one()
 /// What a region has is what is read of it.
 pub fn what_is_held_is_read<D: Disk>()
     ensures { (region : Regions) (disk : D) (s : RegionData) → Holds ⟦<D as Disk>⟧ region disk s → read_of region ≡ s.cells }
+{}
+
+/// Where no file of it has a byte, a fresh region has nothing.
+pub fn what_is_fresh_has_nothing<D: Disk>()
+    ensures { (number : ℕ) (region : Regions) (disk : D) → IsFreshRegion number region → IsBlank ⟦<D as Disk>⟧ number disk → Holds ⟦<D as Disk>⟧ region disk no_data }
 {}

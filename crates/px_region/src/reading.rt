@@ -67,11 +67,27 @@ fn give_rows<T: CellTaker>(
 }
 
 impl Region {
-    ghost use Rattle.px_region.specs.Region.{Holds, RegionData, read_of};
+    ghost use Rattle.px_cells.specs.Order.{IsAscending};
+    ghost use Rattle.px_region.specs.Region.{Holds, RegionData, data_of, read_of};
     ghost use Rattle.px_region.specs.Promise.{IsAlike, IsSamePromise};
     ghost use Rattle.px_outside.specs.OnDisk.{Stays};
     ghost use Rattle.px_cells.specs.Rows.{AreRows, IsRow};
     ghost use Rattle.std.specs.Option.{option_copied};
+
+    /// The sorted list of what is read of it, which is lent and not counted as looked at.
+    pub fn sorted_cells(&self) -> &[Cell]
+        ensures cells { result.now ≡ read_of self.now }
+        ensures sorted { IsAscending (read_of self.now) }
+    {
+        self.store.as_slice()
+    }
+
+    /// The horizon that its manifest names.
+    pub fn horizon(&self) -> u64
+        ensures { result ≡ (data_of self.now).horizon }
+    {
+        self.manifest.snapshot().horizon
+    }
 
     /// Gives the cells of one row, all its versions, in order. They are found in logarithmic time, and not copied. It is
     /// refused with `Memory` where the taker is.

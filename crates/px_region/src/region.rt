@@ -1,5 +1,5 @@
 // A region, and what is written to it.
-ghost use Rattle.std.specs.Prelude.{◌≡◌, ◌≢◌, ◌≤◌, ◌<◌, ◌+◌, ◌*◌, ◌^◌, ◌⊎◌, ◌++◌, ◌↔◌, ℕ, List, length, IsTrue, IfOk, IsErr, OnOk, OnErr, Ok, Err, false};
+ghost use Rattle.std.specs.Prelude.{◌≡◌, ◌≢◌, ◌≤◌, ◌<◌, ◌+◌, ◌*◌, ◌^◌, ◌⊎◌, ◌++◌, ◌↔◌, [], ℕ, List, length, IsTrue, IfOk, IsErr, OnOk, OnErr, Ok, Err, false};
 ghost use Rattle.std.specs.List.{AllByRecursion};
 ghost use Rattle.px_cellbytes.specs.Spelling.{IsShortEnough, all_bytes};
 ghost use Rattle.px_wal.specs.Wal.{is_open as opened_wal, room_of as wal_room};
@@ -65,25 +65,37 @@ impl Region {
     ghost use Rattle.px_region.specs.Region.{Holds, RegionData, Stands, read_of, with_batch};
     ghost use Rattle.px_merge.specs.Settle.{settle};
     ghost use Rattle.px_region.specs.Promise.{HasRoom, IsAlike, IsReady, PassesLimit};
+    ghost use Rattle.px_region.specs.Fresh.{IsFreshRegion};
     ghost use Rattle.px_outside.specs.OnDisk.{LeavesOnly, Passes, Rose, TouchesOnly};
     ghost use Rattle.px_cells.specs.CellData.{CellData};
     ghost use Rattle.px_cellbytes.specs.Reading.{IsWritten};
     ghost use Rattle.px_wal.specs.Files.{HasFile};
-    ghost use Rattle.px_wal.specs.Manifest.{names};
     ghost use Rattle.px_region.specs.declared.fault.PromiseFault.TheVariants.{Busy, NotReady};
+
+    /// The region of a number of which no file was ever written. It makes no call.
+    pub fn fresh(alloc: Global, number: u32) -> Region
+        ensures fresh { IsFreshRegion number result }
+        ensures read { read_of result ≡ [] }
+    {
+        Region {
+            alloc,
+            number,
+            wal: Wal::fresh(number),
+            manifest: Manifest::fresh(alloc, number),
+            store: MemStore::new(alloc),
+            cells: 0,
+            bytes: 0,
+            promised: 0,
+            promised_bytes: 0,
+            looked: 0,
+        }
+    }
 
     /// Its number.
     pub fn number(&self) -> u32
         ensures { result ≡ self.now.number }
     {
         self.number
-    }
-
-    /// Up to which stamp its files were compacted.
-    pub fn horizon(&self) -> u64
-        ensures { result ≡ (names self.now.manifest).horizon }
-    {
-        self.manifest.snapshot().horizon
     }
 
     /// Whether its log is open, and a batch appended to it counts. The last batch of a folder that no program left may lie

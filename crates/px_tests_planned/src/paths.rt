@@ -159,11 +159,7 @@ fn new_index(rt: &impl Abort, alloc: Global, text: &str, found: &Found) -> NewIn
 }
 
 /// The three indexes, in order of number.
-fn three_indexes(
-    rt: &impl Abort,
-    alloc: Global,
-    found: &Found,
-) -> Result<Items<Index>, AllocError>
+fn three_indexes(rt: &impl Abort, alloc: Global, found: &Found) -> Result<Items<Index>, AllocError>
     ensures { IfOk result AreRising }
 {
     let mut indexes = Vec::new(alloc);
@@ -205,12 +201,7 @@ fn query(rt: &impl Abort, alloc: Global, text: &str, found: &Found) -> Query {
 }
 
 /// A query on the table.
-fn planned(
-    rt: &impl Abort,
-    alloc: Global,
-    text: &str,
-    found: &Found,
-) -> Result<Planned, AllocError>
+fn planned(rt: &impl Abort, alloc: Global, text: &str, found: &Found) -> Result<Planned, AllocError>
     ensures { IfOk result (λ p. p.table ≡ found.now.table) }
 {
     let query = query(rt, alloc, text, found);
@@ -241,12 +232,7 @@ fn shape(path: Result<Path, PathFault>) -> (u32, bool, bool) {
 }
 
 /// The path of a query at a point of the table.
-fn path_at(
-    alloc: Global,
-    planned: &Planned,
-    stamp: u64,
-    found: Found,
-) -> (u32, bool, bool)
+fn path_at(alloc: Global, planned: &Planned, stamp: u64, found: Found) -> (u32, bool, bool)
     requires bound { found.table ≡ planned.now.table }
     requires rising { AreRising found.indexes }
 {

@@ -6,3 +6,4 @@ pub mod Appended
 pub mod Snapshots
 pub mod Named
 pub mod OneStanding
+pub mod Fresh

@@ -1,12 +1,12 @@
 -- A manifest that the program appends to.
-use Rattle.std.specs.Prelude.{◌∷◌, [], ℕ, List}
+use Rattle.std.specs.Prelude.{◌≡◌, ◌∷◌, [], ℕ, List}
 use Rattle.px_outside.specs.Disk.{Image}
 use Rattle.px_outside.specs.declared.disk.Disk.{Ghosts}
 use Rattle.px_gatelog.specs.Format.{LogRecord}
 use Rattle.px_gatelog.specs.GateLog.{is_open as log_is_open, room_of as log_room}
-use Rattle.px_gatelog.specs.Records.{HasLog, RecordsStand, has_files}
+use Rattle.px_gatelog.specs.Records.{HasLog, IsFresh, RecordsStand, has_files}
 use Rattle.px_wal.specs.Files.{file_of}
-use Rattle.px_wal.specs.Snapshot.{IsLast, IsSnapshot, SnapshotData, manifest_form, snapshot_record}
+use Rattle.px_wal.specs.Snapshot.{IsLast, IsSnapshot, SnapshotData, manifest_form, nothing_named, snapshot_record}
 use Rattle.px_wal.specs.SnapshotOf.{snapshot_of}
 use Rattle.px_wal.specs.declared.manifest.Manifest.{Manifest}
 
@@ -45,3 +45,8 @@ pub record HasSnapshot {D : Type 0} (d : Ghosts D) (region : ℕ) (m : Manifest)
 pub record IsStarted {D : Type 0} (d : Ghosts D) (region : ℕ) (old new : D) (m : Manifest) : Type 0 where
   pub stood : SnapshotStands region (d.seen old) (names m)
   pub has : HasSnapshot d region m new
+
+-- the manifest of a region of which no file was ever written names nothing
+pub record IsFreshManifest (region : ℕ) (m : Manifest) : Type 0 where
+  pub log : IsFresh m.log (file_of region 2) (file_of region 3)
+  pub named : names m ≡ nothing_named

@@ -4,7 +4,7 @@ use Rattle.px_outside.specs.Disk.{Image}
 use Rattle.px_outside.specs.declared.disk.Disk.{Ghosts}
 use Rattle.px_cells.specs.CellData.{CellData}
 use Rattle.px_gatelog.specs.GateLog.{is_open as log_is_open, room_of as log_room}
-use Rattle.px_gatelog.specs.Records.{HasRecords, RecordsStand, has_files}
+use Rattle.px_gatelog.specs.Records.{HasRecords, IsFresh, RecordsStand, has_files}
 use Rattle.px_merge.specs.Settle.{settle}
 use Rattle.px_wal.specs.Batches.{Batch, above, later_first}
 use Rattle.px_wal.specs.Files.{file_of}
@@ -53,3 +53,10 @@ pub record IsReplayed {D : Type 0} (d : Ghosts D) (region flushed : ℕ) (old ne
   pub stood : LogStands region flushed (d.seen old) batches
   pub has : HasBatches d region flushed r.wal new batches
   pub stored : Stored flushed batches r
+
+-- ---- a region of which no file was ever written
+
+-- its log has no batch
+pub record IsFreshLog (region : ℕ) (wal : Wal) : Type 0 where
+  pub log : IsFresh wal.log (file_of region 0) (file_of region 1)
+  pub last : wal.last ≡ 0

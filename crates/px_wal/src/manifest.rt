@@ -27,7 +27,20 @@ impl Manifest {
     ghost use Rattle.px_wal.specs.Files.{file_of};
     ghost use Rattle.px_wal.specs.Snapshot.{IsSnapshot, manifest_form};
     ghost use Rattle.px_wal.specs.SnapshotOf.{files_of, snapshot_of};
-    ghost use Rattle.px_wal.specs.Manifest.{HasSnapshot, IsStarted, SnapshotStands, is_open as opened_manifest, manifest_files, names, room_of};
+    ghost use Rattle.px_wal.specs.Manifest.{HasSnapshot, IsFreshManifest, IsStarted, SnapshotStands, is_open as opened_manifest, manifest_files, names, room_of};
+
+    /// The manifest of a region of which no file was ever written. It names nothing, and makes no call.
+    pub fn fresh(alloc: Global, region: u32) -> Manifest
+        ensures fresh { IsFreshManifest region result }
+    {
+        let first = local_file(region, 2);
+        let second = local_file(region, 3);
+        Manifest {
+            log: GateLog::fresh(first, second),
+            snapshot: Snapshot::nothing(alloc),
+            rolling: false,
+        }
+    }
 
     /// Opens the manifest of a region.
     pub fn start<D: Disk>(alloc: Global, disk: &mut D, region: u32) -> Result<Manifest, StartFault>

@@ -33,8 +33,20 @@ pub struct Replayed {
 }
 
 impl Wal {
-    ghost use Rattle.px_wal.specs.Wal.{HasBatches, LogStands, is_open as opened_wal, log_files, next_batch, room_of as room_in};
+    ghost use Rattle.px_wal.specs.Wal.{HasBatches, IsFreshLog, LogStands, is_open as opened_wal, log_files, next_batch, room_of as room_in};
     ghost use Rattle.px_gatelog.specs.GateLog.{steps_left};
+
+    /// The log of a region of which no file was ever written. It makes no call.
+    pub fn fresh(region: u32) -> Wal
+        ensures fresh { IsFreshLog region result }
+    {
+        let first = local_file(region, 0);
+        let second = local_file(region, 1);
+        Wal {
+            log: GateLog::fresh(first, second),
+            last: 0,
+        }
+    }
 
     /// Whether the log has an open segment.
     pub fn is_open(&self) -> bool

@@ -1,0 +1,5 @@
+pub mod Local
+pub mod Once
+pub mod Found
+pub mod Reading
+pub mod Same

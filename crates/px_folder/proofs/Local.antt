@@ -1,0 +1,50 @@
+-- What the files of a region stand for, and where they are damaged, depends on these files alone.
+use Rattle.std.proofs.Common.{◌≡◌, ◌<◌, ℕ, List, map, refl, sym, ap, subst, ◌∙◌, arith}
+use Rattle.px_outside.specs.Disk.{Image}
+use Rattle.px_gatelog.specs.Damage.{IsFirstWrong}
+use Rattle.px_gatelog.specs.Format.{LogForm, LogRecord, segments_of}
+use Rattle.px_gatelog.specs.Records.{RecordsStand}
+use Rattle.px_wal.specs.Batches.{Batch}
+use Rattle.px_wal.specs.Files.{HasFile, file_of}
+use Rattle.px_wal.specs.Form.{batch_record, wal_form}
+use Rattle.px_wal.specs.Manifest.{SnapshotStands}
+use Rattle.px_wal.specs.Snapshot.{SnapshotData, manifest_form}
+use Rattle.px_wal.specs.Wal.{LogStands}
+use Rattle.px_region.specs.Opened.{IsFirstDamaged, in_file, in_log, in_manifest}
+use Rattle.px_region.specs.Region.{RegionData, Stands}
+
+module _ (number : ℕ) (image other : Image) (same : (file : ℕ) → HasFile number file → image file ≡ other file) where
+  at : (local : ℕ) → local < 4294967296 → image (file_of number local) ≡ other (file_of number local)
+  at local short = same (file_of number local) (record { local = local; is = refl; short = short })
+
+  records_local : (form : LogForm) (a b : ℕ) → a < 4294967296 → b < 4294967296 → (records : List LogRecord) → RecordsStand form (file_of number a) (file_of number b) image records → RecordsStand form (file_of number a) (file_of number b) other records
+  records_local form a b la lb records r = (r.0, (λ i. segments_of form (sym (at a la) i) (sym (at b lb) i)) ∙ r.1, r.2)
+
+  snapshot_local : (s : SnapshotData) → SnapshotStands number image s → SnapshotStands number other s
+  snapshot_local s x = record { records = x.records; stands = records_local manifest_form 2 3 (omega arith) (omega arith) x.records x.stands; last = x.last; right = x.right }
+
+  log_local : (flushed : ℕ) (batches : List Batch) → LogStands number flushed image batches → LogStands number flushed other batches
+  log_local flushed batches x = record { records = records_local (wal_form flushed) 0 1 (omega arith) (omega arith) (map batch_record batches) x.records; right = x.right }
+
+  pub stands_local : (s : RegionData) → Stands number image s → Stands number other s
+  stands_local s x = record {
+    named = x.named;
+    batches = x.batches;
+    manifest = snapshot_local x.named x.manifest;
+    no_file = x.no_file;
+    log = log_local x.named.flushed x.batches x.log;
+    cells = x.cells;
+    horizon = x.horizon;
+    stamp = x.stamp;
+  }
+
+  wrong_local : (form : LogForm) (a b : ℕ) → a < 4294967296 → b < 4294967296 → (file place : ℕ) → IsFirstWrong form (file_of number a) (file_of number b) (image (file_of number a)) (image (file_of number b)) file place
+      → IsFirstWrong form (file_of number a) (file_of number b) (other (file_of number a)) (other (file_of number b)) file place
+  wrong_local form a b la lb file place w =
+      subst (λ (x : List ℕ). IsFirstWrong form (file_of number a) (file_of number b) x (other (file_of number b)) file place) (at a la)
+      (subst (λ (x : List ℕ). IsFirstWrong form (file_of number a) (file_of number b) (image (file_of number a)) x file place) (at b lb) w)
+
+  pub damaged_local : (file place : ℕ) → IsFirstDamaged number image file place → IsFirstDamaged number other file place
+  damaged_local file place (in_manifest w) = in_manifest (wrong_local manifest_form 2 3 (omega arith) (omega arith) file place w)
+  damaged_local file place (in_log named stands w) = in_log named (snapshot_local named stands) (wrong_local (wal_form named.flushed) 0 1 (omega arith) (omega arith) file place w)
+  damaged_local file place (in_file named batches f files stands log is at_file at_place) = in_file named batches f files (snapshot_local named stands) (log_local named.flushed batches log) is at_file at_place

@@ -1,0 +1,30 @@
+-- A folder that was read.
+use Rattle.std.specs.Prelude.{◌≡◌, ◌==◌, if◌then◌else◌, ℕ, List, [], ◌∷◌}
+use Rattle.px_outside.specs.declared.disk.Disk.{Ghosts}
+use Rattle.px_region.specs.Region.{Holds, RegionData, Stands, data_of}
+use Rattle.px_region.specs.declared.region.Region.{Region}
+use Rattle.px_schema.specs.declared.standing.Standing.{Standing}
+use Rattle.px_catalog.specs.Catalogue.{standing_of}
+use Rattle.px_recovery.specs.Folder.{FolderData, no_data}
+use Rattle.px_folder.specs.declared.folder.Folder.{Folder}
+
+abbrev pub number_of : Region → ℕ
+number_of r = r.number
+
+-- what was read of the region of a number; nothing where none was read
+unfoldable pub data_at : List Region → ℕ → RegionData
+data_at [] n = no_data
+data_at (r ∷ rs) n = if r.number == n then data_of r else data_at rs n
+
+-- what stands, and what was read of the regions
+abbrev pub folder_by : Standing → List Region → FolderData
+folder_by s regions = record { standing = s; regions = data_at regions }
+
+-- what a folder that was read stands for
+abbrev pub folder_of : Folder → FolderData
+folder_of w = folder_by (standing_of w.catalog) w.regions.items
+
+-- what was read of a region is what its files stood for, and the region goes on from there
+pub record IsReadOn {D : Type 0} (d : Ghosts D) (old new : D) (r : Region) : Type 0 where
+  pub stood : Stands r.number (d.seen old) (data_of r)
+  pub holds : Holds d r new (data_of r)

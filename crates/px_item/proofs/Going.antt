@@ -1,0 +1,590 @@
+-- How an item goes on.
+use Rattle.std.proofs.Common.{ℕ, ◌≡◌, ◌≤◌, ◌+◌, true, false, Option, None, Some, Result, Ok, Err, List, [], ◌∷◌, ◌++◌, length, take, drop, refl, sym, ◌∙◌, ap, subst, arith, length-append, ◌⊎◌, inl, inr}
+use Rattle.std.proofs.lemmas.List.{append-nil, drop-append-le, take-append-le}
+use Rattle.std.proofs.Math.Seq.{take-length}
+use Rattle.px_lex.specs.Script.{SeenPiece, seen_piece}
+use Rattle.px_ast.specs.declared.statement.Statement.{Statement}
+use Rattle.px_ast.specs.declared.statement.Statement.TheVariants as s
+use Rattle.px_values.specs.declared.change.Change.{Change}
+use Rattle.px_values.specs.declared.name.IndexId.{IndexId}
+use Rattle.px_values.specs.declared.name.TableId.{TableId}
+use Rattle.std.specs.Option.{option_map}
+use Rattle.px_resolve.specs.Answers.{IsFirst}
+use Rattle.px_resolve.specs.declared.fault.BindFault.{BindFault}
+use Rattle.px_create.specs.Indexes.{index_of}
+use Rattle.px_bind.specs.Requests.{faults_in}
+use Rattle.px_bind.specs.Upserts.{change_of, upsert_faults}
+use Rattle.px_tables.specs.declared.found.Found.{Found}
+use Rattle.px_tables.specs.declared.table.Table.{Table}
+use Rattle.px_trail.specs.declared.entry.Act.{Act}
+use Rattle.px_trail.specs.declared.entry.Entry.{Entry}
+use Rattle.px_trail.specs.Answers.{IsAmong}
+use Rattle.px_trail.specs.Batches.{has, is_distinct, rows_of}
+use Rattle.px_trail.specs.Trail.{Base, acts_by, table_of}
+use Rattle.px_calls.specs.declared.definition.Definition.{Definition}
+use Rattle.px_calls.specs.declared.definition.Definition.TheVariants as d
+use Rattle.px_calls.specs.declared.definition.Made.{Made}
+use Rattle.px_calls.specs.declared.fault.StepFault.{StepFault}
+use Rattle.px_calls.specs.declared.fault.StepFault.TheVariants as step
+use Rattle.px_calls.specs.declared.ticket.Receipt.{Receipt}
+use Rattle.px_calls.specs.Known.{Known, Passes, Ran, Sees, outline}
+use Rattle.px_calls.specs.Causes.{NamesNoTable, Refuses, find_cause}
+use Rattle.px_calls.specs.Calls.{DidFind, IsFound}
+use Rattle.px_calls.specs.Requires.{AreFitting, CanDefine, FitsTable, IsScn}
+use Rattle.px_calls.proofs.Runs.{acts_by-append, among-front, ran-sees}
+use Rattle.px_batch.specs.Turns as batch
+use Rattle.px_batch.specs.declared.batch.BatchFault.{BatchFault}
+use Rattle.px_batch.specs.declared.batch.BatchFault.TheVariants as unmade
+use Rattle.px_batch.specs.declared.batch.BatchState.{BatchState}
+use Rattle.px_batch.specs.declared.batch.BatchState.TheVariants as batches
+use Rattle.px_batch.specs.declared.batch.BatchTurn.TheVariants as bt
+use Rattle.px_batch.specs.declared.run.BatchRun.{BatchRun}
+use Rattle.px_batch.proofs.Turning as turning
+use Rattle.px_commands.specs.declared.command.Command.{Command}
+use Rattle.px_defining.specs.Turns as define
+use Rattle.px_defining.specs.declared.define.DefineFault.{DefineFault}
+use Rattle.px_defining.specs.declared.define.DefineRun.{DefineRun}
+use Rattle.px_defining.specs.declared.define.DefineState.{DefineState}
+use Rattle.px_defining.specs.declared.define.DefineState.TheVariants as defines
+use Rattle.px_defining.specs.declared.define.DefineTurn.TheVariants as dt
+use Rattle.px_defining.proofs.Defining as defining
+use Rattle.px_reply.specs.declared.reply.Reply.{Reply}
+use Rattle.px_reply.specs.declared.reply.Reply.TheVariants as reply
+use Rattle.px_reply.specs.declared.refusal.Refusal.TheVariants as refusal
+use Rattle.px_item.specs.declared.answered.Answered.{Answered}
+use Rattle.px_item.specs.declared.answered.Asked.{Asked}
+use Rattle.px_item.specs.declared.answered.Settings.{Settings}
+use Rattle.px_item.specs.declared.item.ItemRun.{ItemRun}
+use Rattle.px_item.specs.declared.item.ItemState.{ItemState}
+use Rattle.px_item.specs.declared.item.ItemState.TheVariants as state
+use Rattle.px_item.specs.declared.item.ItemTurn.{ItemTurn}
+use Rattle.px_item.specs.declared.item.ItemTurn.TheVariants as turn
+use Rattle.px_item.specs.Right as right
+use Rattle.px_item.specs.Right.{Follows, FollowsTo, HasRoomForOne, IsAtOnce, IsBoundTo, IsChanged, IsDropped, IsRead, IsRight, IsTold, MayRun, Says, after, changes, drop_of, one_change, plain, table_named, unfound}
+use Rattle.px_item.specs.Turns.{Fits, FitsState, IsAsking, IsBegun, IsChanging, IsDropping, Turns, begun}
+use Rattle.px_item.proofs.Plain.{batch_plain, batch_since_plain, define_plain, define_since_plain, defined_plain, ended_plain, outcome_plain, query_since_plain}
+use Rattle.px_gather.specs.Query.{Query}
+use Rattle.px_planned.specs.Queries.{query_of}
+use Rattle.px_planned.specs.declared.planned.Planned.{Planned}
+use Rattle.px_scan.specs.Turns as scan
+use Rattle.px_scan.specs.declared.answer.QueryFault.{QueryFault}
+use Rattle.px_scan.specs.declared.machine.QueryState.{QueryState}
+use Rattle.px_scan.specs.declared.machine.QueryState.TheVariants as reading
+use Rattle.px_scan.proofs.Turning as scanning
+use Rattle.px_select.specs.Selecting as selecting
+use Rattle.px_select.specs.Selecting.{SelectTurns}
+use Rattle.px_select.specs.declared.run.SelectRun.{SelectRun}
+use Rattle.px_select.specs.declared.run.SelectTurn.TheVariants as ended
+use Rattle.px_select.specs.declared.run.Selected.{Selected}
+
+-- 1. More entries
+
+pub record Later (k k' : Known) : Type 0 where
+  pub more : List Entry
+  pub seen : k'.seen ≡ k.seen ++ more
+  pub base : k'.base ≡ k.base
+
+of_ran : (k k' : Known) (acts : List Act) → Ran k k' acts → Later k k'
+of_ran k k' acts h = record { more = h.added; seen = h.seen; base = h.base }
+
+of_passes : (k k' : Known) → Passes k k' → Later k k'
+of_passes k k' h = record { more = h.others; seen = h.seen; base = h.base }
+
+longer : (k k' : Known) (n : ℕ) → Later k k' → n ≤ length k.seen → n ≤ length k'.seen
+longer k k' n h low = let e = ap length h.seen in let len = length-append k.seen h.more in omega arith
+
+bound_later : (k k' : Known) (first : ℕ) (f : Found) (name : List ℕ) → Later k k' → IsBoundTo k.base k.seen first f name → IsBoundTo k'.base k'.seen first f name
+bound_later k k' first f name h b =
+    let same : take b.place k.seen ≡ take b.place k'.seen = sym (take-append-le b.place k.seen h.more b.within) ∙ ap (take b.place) (sym h.seen) in
+    let F : Base × List Entry → Type 0 = λ q. IsFound q.0 q.1 f in
+    record { place = b.place; from = b.from; within = longer k k' b.place h b.within; found = subst F (λ i. (sym h.base i, same i)) b.found; named = b.named }
+
+-- 2. A batch under others' entries
+
+since_more : (k k' : Known) (act : Act) (n : ℕ) → Passes k k' → n ≤ length k.seen → IsAmong act (acts_by k.seat (drop n k.seen)) → IsAmong act (acts_by k'.seat (drop n k'.seen))
+since_more k k' act n h low i =
+    let e : acts_by k'.seat (drop n k'.seen) ≡ acts_by k.seat (drop n k.seen) ++ acts_by k.seat h.others =
+    ap (λ (m : ℕ). acts_by m (drop n k'.seen)) h.seat
+    ∙ (ap (λ (l : List Entry). acts_by k.seat (drop n l)) h.seen ∙ (ap (acts_by k.seat) (drop-append-le n k.seen h.others low) ∙ acts_by-append k.seat (drop n k.seen) h.others)) in
+    subst (λ (l : List Act). IsAmong act l) (sym e) (among-front act (acts_by k.seat (drop n k.seen)) (acts_by k.seat h.others) i)
+
+made_more : (k k' : Known) (f : BatchFault) (n : ℕ) → Passes k k' → n ≤ length k.seen → batch.MadeSince n f k → batch.MadeSince n f k'
+made_more k k' unmade.ReadFault n h low m = (m.0, since_more k k' _ n h low m.1)
+made_more k k' unmade.WriteFault n h low m = (m.0, since_more k k' _ n h low m.1)
+made_more k k' f n h low m = tt
+
+since_passes : (k k' : Known) (st : BatchState) (n : ℕ) → Passes k k' → batch.IsSince n st k → batch.IsSince n st k'
+since_passes k k' batches.Beginning n h i = longer k k' n (of_passes k k' h) i
+since_passes k k' batches.Settling n h i = longer k k' n (of_passes k k' h) i
+since_passes k k' (batches.Marking t) n h i = longer k k' n (of_passes k k' h) i
+since_passes k k' (batches.Writing t) n h i = longer k k' n (of_passes k k' h) i
+since_passes k k' (batches.Verifying t) n h i = longer k k' n (of_passes k k' h) i
+since_passes k k' (batches.Ending t) n h i = longer k k' n (of_passes k k' h) i
+since_passes k k' (batches.Leaving t f) n h i = (longer k k' n (of_passes k k' h) i.0, made_more k k' f n h i.0 i.1)
+since_passes k k' batches.Over n h i = longer k k' n (of_passes k k' h) i
+
+drops_change : (f : Found) (x : Statement) (y : Definition) → drop_of f x ≡ Some y → changes x ≡ true
+drops_change f (s.DropTable t) y h = refl
+drops_change f (s.DropIndex i) y h = refl
+drops_change f (s.CreateTable t) y h = refl
+drops_change f (s.CreateIndex t) y h = refl
+drops_change f (s.AlterIndex t) y h = refl
+drops_change f (s.Upsert t) y h = refl
+drops_change f (s.Delete t) y h = refl
+drops_change f (s.Select t) y h = cc
+drops_change f (s.Explain t) y h = cc
+
+-- a SELECT under others' entries
+select_since : (n : ℕ) (st : QueryState) (k k' : Known) → Passes k k' → scan.IsSince n st k → scan.IsSince n st k'
+select_since n (reading.Opening rows) k k' h i = longer k k' n (of_passes k k' h) i
+select_since n (reading.Looking x a) k k' h i = i
+select_since n (reading.Consulting x r e) k k' h i = i
+select_since n (reading.Fixing x r e) k k' h i = i
+select_since n (reading.Settling x r e) k k' h i = i
+select_since n (reading.Closing p e) k k' h i = i
+select_since n reading.Over k k' h i = tt
+
+-- a SELECT that has made no step
+new_select : (sound : Type 0) (q : Query) (scn : Option ℕ) (st : QueryState) (k : Known) → scan.IsNew st → scan.IsBound k q → IsScn scn → scan.Fits sound q scn st k × scan.IsGoing st × ([] ≡ scan.opened st) × ((n : ℕ) → n ≤ length k.seen → scan.IsSince n st k)
+new_select sound q scn (reading.Opening rows) k new bound ok = ((new, bound, ok), tt, refl, λ n low. low)
+new_select sound q scn (reading.Looking x a) k new bound ok = absurd new
+new_select sound q scn (reading.Consulting x r e) k new bound ok = absurd new
+new_select sound q scn (reading.Fixing x r e) k new bound ok = absurd new
+new_select sound q scn (reading.Settling x r e) k new bound ok = absurd new
+new_select sound q scn (reading.Closing p e) k new bound ok = absurd new
+new_select sound q scn reading.Over k new bound ok = absurd new
+
+module _ (sound : Type 0) (before : ℕ) (asked : Asked) where
+  first_low : (a : Answered) → a.first ≡ asked.first → asked.first ≤ a.first
+  first_low a e = omega arith
+
+  first_within : (k : Known) (a : Answered) → asked.first ≤ length k.seen → a.first ≡ asked.first → a.first ≤ length k.seen
+  first_within k a low e = omega arith
+
+  state_passes : (st : ItemState) (k k' : Known) → Passes k k' → FitsState sound before asked st k → FitsState sound before asked st k'
+  state_passes (state.Finding x) k k' h f = f
+  state_passes (state.Changing x run room) k k' h f =
+      let j = f.1 in (
+        f.0,
+        record {
+          upsert = j.upsert;
+          is = j.is;
+          found = j.found;
+          bound = bound_later k k' asked.first j.found j.upsert.table (of_passes k k' h) j.bound;
+          right = j.right;
+          table = j.table;
+          changes = j.changes;
+          fits = turning.fits-kept run.table run.changes run.state k k' h j.fits;
+          going = j.going;
+          since = since_passes k k' run.state before h j.since;
+        },
+        f.2,
+      )
+  state_passes (state.Dropping x run) k k' h f =
+      let j = f.1 in (
+        f.0,
+        record {
+          found = j.found;
+          bound = bound_later k k' asked.first j.found (table_named x) (of_passes k k' h) j.bound;
+          right = j.right;
+          definition = j.definition;
+          fits = defining.fits-kept sound run.definition run.state k k' h j.fits;
+          going = j.going;
+        },
+      )
+  state_passes (state.Selecting x run) k k' h f =
+      let j = f.1 in (
+        f.0,
+        record {
+          select = j.select;
+          is = j.is;
+          found = j.found;
+          bound = bound_later k k' before j.found j.select.table (of_passes k k' h) j.bound;
+          planned = j.planned;
+          scn = j.scn;
+          fits = scanning.fits-kept sound (query_of run.scan.query) run.scan.scn run.scan.state k k' h j.fits;
+          going = j.going;
+          since = select_since before run.scan.state k k' h j.since;
+          first = select_since asked.first run.scan.state k k' h j.first;
+        },
+      )
+
+  pub fits_passes : (st : ItemState) (k k' : Known) → Passes k k' → Fits sound before asked st k → Fits sound before asked st k'
+  fits_passes st k k' h f = record { begins = f.begins; within = longer k k' asked.first (of_passes k k' h) f.within; state = state_passes st k k' h f.state }
+
+  no_stop : (own : List Act) (k : Known) (f : Found) (cs : List Change) → batch.HasLeft f.table.id cs unmade.NoTable own k → own ≡ []
+  no_stop own k f cs (inl e) = e
+  no_stop own k f cs (inr e) = absurd e.0
+
+  not_changed : (x : Statement) (u : _) (f : Found) (e : BatchFault) (k : Known) (own : List Act) (a : Answered) → x ≡ s.Upsert u → IsRead (seen_piece asked.piece) (Ok x) → asked.settings.scn ≡ None → IsBoundTo k.base k.seen a.first f u.table
+      → upsert_faults f.table u ≡ [] → batch.FaultIs sound f.table.id (one_change f u) e k × batch.HasLeft f.table.id (one_change f u) e own k → batch.MadeSince before e k
+      → right.Refuses a (right.batch_refusal (table_named x) e) asked.settings ⊎ (right.Refuses a refusal.Memory asked.settings × (e ≡ unmade.NoTable)) → IsRight sound (plain k) before own asked.settings (seen_piece asked.piece) a
+  not_changed x u f e k own a is read free bound none left since (inl says) =
+      right.is_not_changed u f e (subst (λ (y : Statement). IsRead (seen_piece asked.piece) (Ok y)) is read) free bound none (batch_plain sound f.table.id (one_change f u) e k left.0) (batch_since_plain before e k since) left.1
+      (subst (λ (y : Statement). right.Refuses a (right.batch_refusal (table_named y) e) asked.settings) is says)
+  not_changed x u f e k own a is read free bound none left since (inr says) =
+      right.is_at_once (right.is_lacking says.0) (no_stop own k f (one_change f u) (subst (λ (g : BatchFault). batch.HasLeft f.table.id (one_change f u) g own k) says.1 left.1))
+
+  -- 3. A batch goes on, and is over
+
+  pub change_goes_on : (x : Statement) (old new : BatchRun) (room : _) (k k' : Known) (acts : List Act) → Fits sound before asked (state.Changing x old room) k → new.table ≡ old.table → new.changes ≡ old.changes → Ran k k' acts
+      → batch.Fits old.table old.changes new.state k' → batch.IsGoing new.state → batch.begun old.table old.changes old.state ++ outline acts ≡ batch.begun old.table old.changes new.state → batch.IsSince before new.state k'
+      → Fits sound before asked (state.Changing x new room) k' × (batch.begun old.table old.changes old.state ++ outline acts ≡ begun (state.Changing x new room))
+  change_goes_on x old new room k k' acts f table changes ran fits going sum since =
+      let later = of_ran k k' acts ran in
+      let j = f.state.1 in
+      let F : TableId × List Change → Type 0 = λ q. batch.Fits q.0 q.1 new.state k' in
+      let G : TableId × List Change → Type 0 = λ q. batch.begun old.table old.changes old.state ++ outline acts ≡ batch.begun q.0 q.1 new.state in (
+        record {
+          begins = f.begins;
+          within = longer k k' asked.first later f.within;
+          state = (
+            f.state.0,
+            record {
+              upsert = j.upsert;
+              is = j.is;
+              found = j.found;
+              bound = bound_later k k' asked.first j.found j.upsert.table later j.bound;
+              right = j.right;
+              table = table ∙ j.table;
+              changes = changes ∙ j.changes;
+              fits = subst F (λ i. (sym table i, sym changes i)) fits;
+              going = going;
+              since = since;
+            },
+            f.state.2,
+          );
+        },
+        subst G (λ i. (sym table i, sym changes i)) sum,
+      )
+
+  pub change_is_over : (x : Statement) (old new : BatchRun) (room : _) (k k' : Known) (r : Result Receipt BatchFault) (a : Answered) → Fits sound before asked (state.Changing x old room) k → batch.Turns sound old.table old.changes old.state k new.state k' (bt.Over r)
+      → IsChanged asked x r a → Turns sound before asked (state.Changing x old room) k k' (turn.Over a)
+  change_is_over x old new room k k' (Ok r) a f t c =
+      let later = of_ran k k' t.acts t.ran in
+      let j = f.state.1 in
+      let own = batch.begun old.table old.changes old.state ++ outline t.acts in
+      let F : TableId × List Change → Type 0 = λ q. batch.HasEnded q.0 q.1 own k' r in
+      let ended = subst F (λ i. (j.table i, j.changes i)) t.told.1 in
+      let bound = subst (λ (n : ℕ). IsBoundTo k'.base k'.seen n j.found j.upsert.table) (sym c.0) (bound_later k k' asked.first j.found j.upsert.table later j.bound) in
+      record {
+        acts = t.acts;
+        ran = t.ran;
+        told = (
+          first_low a c.0,
+          first_within k' a (longer k k' asked.first later f.within) c.0,
+          right.is_changed j.upsert j.found r (subst (λ (y : Statement). IsRead (seen_piece asked.piece) (Ok y)) j.is f.state.0.read) (f.state.0.free (ap changes j.is)) bound j.right (ended_plain j.found.table.id (one_change j.found j.upsert) own k' r ended) c.1,
+        );
+      }
+  change_is_over x old new room k k' (Err e) a f t c =
+      let later = of_ran k k' t.acts t.ran in
+      let j = f.state.1 in
+      let own = batch.begun old.table old.changes old.state ++ outline t.acts in
+      let F : TableId × List Change → Type 0 = λ q. batch.FaultIs sound q.0 q.1 e k' × batch.HasLeft q.0 q.1 e own k' in
+      let left = subst F (λ i. (j.table i, j.changes i)) t.told.1 in
+      let bound = subst (λ (n : ℕ). IsBoundTo k'.base k'.seen n j.found j.upsert.table) (sym c.0) (bound_later k k' asked.first j.found j.upsert.table later j.bound) in
+      record { acts = t.acts; ran = t.ran; told = (first_low a c.0, first_within k' a (longer k k' asked.first later f.within) c.0, not_changed x j.upsert j.found e k' own a j.is f.state.0.read (f.state.0.free (ap changes j.is)) bound j.right left (t.since before j.since) c.1) }
+
+  -- 4. A definition goes on, and is over
+
+  pub drop_goes_on : (x : Statement) (old new : DefineRun) (k k' : Known) (acts : List Act) → Fits sound before asked (state.Dropping x old) k → new.definition ≡ old.definition → Ran k k' acts → define.Fits sound old.definition new.state k'
+      → define.IsGoing new.state → Fits sound before asked (state.Dropping x new) k'
+  drop_goes_on x old new k k' acts f definition ran fits going =
+      let later = of_ran k k' acts ran in
+      let j = f.state.1 in
+      record {
+        begins = f.begins;
+        within = longer k k' asked.first later f.within;
+        state = (
+          f.state.0,
+          record {
+            found = j.found;
+            bound = bound_later k k' asked.first j.found (table_named x) later j.bound;
+            right = j.right;
+            definition = j.definition ∙ ap Some (sym definition);
+            fits = subst (λ (y : Definition). define.Fits sound y new.state k') (sym definition) fits;
+            going = going;
+          },
+        );
+      }
+
+  not_dropped : (x : Statement) (f : Found) (e : DefineFault) (y : Definition) (k : Known) (own : List Act) (a : Answered) → IsRead (seen_piece asked.piece) (Ok x) → asked.settings.scn ≡ None → IsBoundTo k.base k.seen a.first f (table_named x)
+      → faults_in f x ≡ [] → drop_of f x ≡ Some y → define.FaultIs sound y e k → define.MadeSince before e k → own ≡ [] → Says a (right.undefined x e) asked.settings ⊎ right.Refuses a refusal.Memory asked.settings
+      → IsRight sound (plain k) before own asked.settings (seen_piece asked.piece) a
+  not_dropped x f e y k own a read free bound none is told since quiet (inl says) = right.is_not_dropped x f e y read free bound none is (define_plain sound y e k told) (define_since_plain before e k since) quiet says
+  not_dropped x f e y k own a read free bound none is told since quiet (inr says) = right.is_at_once (right.is_lacking says) quiet
+
+  pub drop_is_over : (x : Statement) (old new : DefineRun) (k k' : Known) (r : Result Made DefineFault) (a : Answered) → Fits sound before asked (state.Dropping x old) k → define.Turns sound old.definition old.state k new.state k' (dt.Over r)
+      → IsDropped asked x r a → Turns sound before asked (state.Dropping x old) k k' (turn.Over a)
+  drop_is_over x old new k k' (Ok m) a f t c =
+      let later = of_ran k k' t.acts t.ran in
+      let j = f.state.1 in
+      let bound = subst (λ (n : ℕ). IsBoundTo k'.base k'.seen n j.found (table_named x)) (sym c.0) (bound_later k k' asked.first j.found (table_named x) later j.bound) in
+      record {
+        acts = t.acts;
+        ran = t.ran;
+        told = (first_low a c.0, first_within k' a (longer k k' asked.first later f.within) c.0, right.is_dropped x j.found m old.definition f.state.0.read (f.state.0.free (drops_change j.found x old.definition j.definition)) bound j.right j.definition (defined_plain sound old.definition (outline t.acts) k' m t.told.1) c.1);
+      }
+  drop_is_over x old new k k' (Err e) a f t c =
+      let later = of_ran k k' t.acts t.ran in
+      let j = f.state.1 in
+      let low = f.begins in
+      let within = f.within in
+      let bound = subst (λ (n : ℕ). IsBoundTo k'.base k'.seen n j.found (table_named x)) (sym c.0) (bound_later k k' asked.first j.found (table_named x) later j.bound) in
+      record {
+        acts = t.acts;
+        ran = t.ran;
+        told = (first_low a c.0, first_within k' a (longer k k' asked.first later f.within) c.0, not_dropped x j.found e old.definition k' (outline t.acts) a f.state.0.read (f.state.0.free (drops_change j.found x old.definition j.definition)) bound j.right j.definition t.told.1.0 (t.since before (omega arith)) t.told.1.1 c.1);
+      }
+
+  -- a SELECT goes on, and is over
+
+  pub select_goes_on : (x : Statement) (old new : SelectRun) (k k' : Known) (acts : List Act) → Fits sound before asked (state.Selecting x old) k → new.scan.query ≡ old.scan.query → new.scan.scn ≡ old.scan.scn → Ran k k' acts
+      → scan.Fits sound (query_of old.scan.query) old.scan.scn new.scan.state k' → scan.IsGoing new.scan.state → scan.IsSince before new.scan.state k' → scan.IsSince asked.first new.scan.state k' → Fits sound before asked (state.Selecting x new) k'
+  select_goes_on x old new k k' acts f query scn ran fits going since first =
+      let later = of_ran k k' acts ran in
+      let j = f.state.1 in
+      let F : Planned × Option ℕ → Type 0 = λ q. scan.Fits sound (query_of q.0) q.1 new.scan.state k' in
+      record {
+        begins = f.begins;
+        within = longer k k' asked.first later f.within;
+        state = (
+          f.state.0,
+          record {
+            select = j.select;
+            is = j.is;
+            found = j.found;
+            bound = bound_later k k' before j.found j.select.table later j.bound;
+            planned = subst (λ (z : Planned). right.IsAskedOf j.found j.select z) (sym query) j.planned;
+            scn = scn ∙ j.scn;
+            fits = subst F (λ i. (sym query i, sym scn i)) fits;
+            going = going;
+            since = since;
+            first = first;
+          },
+        );
+      }
+
+  pub select_is_over : (x : Statement) (old new : SelectRun) (k k' : Known) (r : Result Selected QueryFault) (a : Answered) → Fits sound before asked (state.Selecting x old) k
+      → SelectTurns sound old.scan.query old.scan.scn old.scan.state k new.scan.state k' (ended.Over r) → right.IsSelection asked x r a → Turns sound before asked (state.Selecting x old) k k' (turn.Over a)
+  select_is_over x old new k k' (Ok r) a f t c =
+      let later = of_ran k k' t.acts t.ran in
+      let j = f.state.1 in
+      let own = scan.opened old.scan.state ++ outline t.acts in
+      let bound = bound_later k k' before j.found j.select.table later j.bound in
+      let out = outcome_plain sound old.scan.query asked.settings.scn own k' (Ok r) (subst (λ (z : Option ℕ). selecting.IsOutcome sound old.scan.query z own k' (Ok r)) j.scn t.told.1) in
+      let first = c.first in
+      let since = t.since asked.first j.first in
+      let ends = t.told.1.2 in
+      let last = t.told.1.3 in
+      record {
+        acts = t.acts;
+        ran = t.ran;
+        told = (omega arith, omega arith, right.is_selected j.select j.found old.scan.query r (subst (λ (y : Statement). IsRead (seen_piece asked.piece) (Ok y)) j.is f.state.0.read) bound j.planned out c);
+      }
+  select_is_over x old new k k' (Err e) a f t c =
+      let later = of_ran k k' t.acts t.ran in
+      let j = f.state.1 in
+      let own = scan.opened old.scan.state ++ outline t.acts in
+      let bound = bound_later k k' before j.found j.select.table later j.bound in
+      let out = outcome_plain sound old.scan.query asked.settings.scn own k' (Err e) (subst (λ (z : Option ℕ). selecting.IsOutcome sound old.scan.query z own k' (Err e)) j.scn t.told.1) in
+      let F : Statement → Type 0 = λ y. right.Refuses a (right.query_refusal (table_named y) e) asked.settings ⊎ right.Refuses a refusal.Memory asked.settings in
+      record {
+        acts = t.acts;
+        ran = t.ran;
+        told = (
+          first_low a c.0,
+          first_within k' a (longer k k' asked.first later f.within) c.0,
+          right.is_not_selected j.select j.found old.scan.query e (subst (λ (y : Statement). IsRead (seen_piece asked.piece) (Ok y)) j.is f.state.0.read) bound j.planned out (query_since_plain before e k' (t.since before j.since)) (subst F j.is c.1),
+        );
+      }
+
+  -- 5. Its table was found
+
+  some_same : (x y : Table) → Some x ≡ Some y → x ≡ y
+  some_same x y h = cc
+
+  -- what an UPSERT asks for fits its table, and so may be begun
+  fitting : (k : Known) (f : Found) (c : Change) → IsFound k.base k.seen f → FitsTable f.table c → AreFitting k f.table.id.0 (c ∷ [])
+  fitting k f c found fits = record { drawn = found.drawn; each = λ y is. (subst (λ (z : Table). FitsTable z c) (some_same f.table y (sym found.table ∙ is)) fits, tt) }
+
+  bound_here : (k : Known) (name : List ℕ) (f : Found) → asked.first ≤ length k.seen → IsFound k.base k.seen f → f.table.name ≡ name → IsBoundTo k.base k.seen asked.first f name
+  bound_here k name f low found named = record { place = length k.seen; from = low; within = omega arith; found = subst (λ (l : List Entry). IsFound k.base l f) (sym (take-length k.seen)) found; named = named }
+
+  some_definition : (x y : Definition) → Some x ≡ Some y → x ≡ y
+  some_definition x y h = cc
+
+  one_index : (k : Known) (t : TableId) (o : Option IndexId) (y : Definition) → option_map (λ n. d.DropIndex t n) o ≡ Some y → CanDefine sound k y
+  one_index k t None y h = cc
+  one_index k t (Some n) y h = subst (λ (z : Definition). CanDefine sound k z) (some_definition (d.DropIndex t n) y h) tt
+
+  may_drop : (k : Known) (f : Found) (x : Statement) (y : Definition) → drop_of f x ≡ Some y → CanDefine sound k y
+  may_drop k f (s.DropTable t) y h = subst (λ (z : Definition). CanDefine sound k z) (some_definition (d.DropTable f.table.id) y h) tt
+  may_drop k f (s.DropIndex i) y h = one_index k f.table.id (index_of f.indexes i.name) y h
+  may_drop k f x y h = cc
+
+  plain_told : (x : Statement) (f : Found) (k : Known) (own : List Act) (r : Reply) (a : Answered) → IsRead (seen_piece asked.piece) (Ok x) → MayRun asked.settings x → IsBoundTo k.base k.seen a.first f (table_named x)
+      → (r ≡ reply.Refused refusal.Memory) ⊎ ((fault : BindFault) × IsFirst (faults_in f x) fault × (r ≡ reply.Refused (right.bind_refusal fault))) → Says a r asked.settings → own ≡ [] → IsRight sound (plain k) before own asked.settings (seen_piece asked.piece) a
+  plain_told x f k own r a read free bound (inl e) says quiet = right.is_at_once (right.is_lacking (says.0 ∙ e, says.1, says.2, says.3)) quiet
+  plain_told x f k own r a read free bound (inr e) says quiet = right.is_wrong x f e.0 read free bound e.1 (says.0 ∙ e.2, says.1, says.2, says.3) quiet
+
+  told_without : (x : Statement) (f : Found) (k : Known) (own : List Act) (r : Reply) (a : Answered) → IsRead (seen_piece asked.piece) (Ok x) → MayRun asked.settings x → IsBoundTo k.base k.seen a.first f (table_named x) → IsTold f x r
+      → Says a r asked.settings → own ≡ [] → IsRight sound (plain k) before own asked.settings (seen_piece asked.piece) a
+  told_without (s.DropIndex i) f k own r a read free bound (inl e) says quiet = right.is_at_once (right.is_lacking (says.0 ∙ e, says.1, says.2, says.3)) quiet
+  told_without (s.DropIndex i) f k own r a read free bound (inr (inl e)) says quiet = right.is_wrong (s.DropIndex i) f e.0 read free bound e.1 (says.0 ∙ e.2, says.1, says.2, says.3) quiet
+  told_without (s.DropIndex i) f k own r a read free bound (inr (inr e)) says quiet = right.is_index_absent i f read (free refl) bound e.0 e.1 (says.0 ∙ e.2, says.1, says.2, says.3) quiet
+  told_without (s.CreateTable y) f k own r a read free bound h says quiet = plain_told (s.CreateTable y) f k own r a read free bound h says quiet
+  told_without (s.DropTable y) f k own r a read free bound h says quiet = plain_told (s.DropTable y) f k own r a read free bound h says quiet
+  told_without (s.CreateIndex y) f k own r a read free bound h says quiet = plain_told (s.CreateIndex y) f k own r a read free bound h says quiet
+  told_without (s.AlterIndex y) f k own r a read free bound h says quiet = plain_told (s.AlterIndex y) f k own r a read free bound h says quiet
+  told_without (s.Upsert y) f k own r a read free bound h says quiet = plain_told (s.Upsert y) f k own r a read free bound h says quiet
+  told_without (s.Delete y) f k own r a read free bound h says quiet = plain_told (s.Delete y) f k own r a read free bound h says quiet
+  told_without (s.Select y) f k own r a read free bound h says quiet = plain_told (s.Select y) f k own r a read free bound h says quiet
+  told_without (s.Explain y) f k own r a read free bound h says quiet = plain_told (s.Explain y) f k own r a read free bound h says quiet
+
+  goes_from : (x : Statement) (f : Found) (k : Known) (st : ItemState) → Fits sound before asked (state.Finding x) k → IsFound k.base k.seen f → f.table.name ≡ table_named x → FollowsTo asked.settings.scn x f st → Fits sound before asked st k × ([] ≡ begun st)
+  goes_from x f k (state.Finding y) fits found named to = absurd to
+  goes_from x f k (state.Changing y run room) fits found named (same, n) =
+      let low = fits.begins in
+      let within = fits.within in
+      let b = bound_here k (table_named x) f fits.within found named in
+      let F : BatchState → Type 0 = λ z. batch.Fits run.table run.changes z k × batch.IsGoing z × batch.IsSince before z k × ([] ≡ batch.begun run.table run.changes z) in
+      let G : TableId × List Change → Type 0 = λ q. AreFitting k q.0.0 q.1 in
+      let begins = subst F (sym n.5) (subst G (λ i. (sym n.3 i, sym n.4 i)) (fitting k f (change_of f.table n.0) found n.6), tt, omega arith, refl) in (
+        record {
+          begins = fits.begins;
+          within = fits.within;
+          state = (
+            subst (λ (z : Statement). IsAsking asked z) (sym same) fits.state,
+            record {
+              upsert = n.0;
+              is = same ∙ n.1;
+              found = f;
+              bound = subst (λ (z : Statement). IsBoundTo k.base k.seen asked.first f (table_named z)) n.1 b;
+              right = n.2;
+              table = n.3;
+              changes = n.4;
+              fits = begins.0;
+              going = begins.1;
+              since = begins.2;
+            },
+            n.7,
+          );
+        },
+        begins.3,
+      )
+  goes_from x f k (state.Dropping y run) fits found named (same, n) =
+      let b = bound_here k (table_named x) f fits.within found named in
+      let F : DefineState → Type 0 = λ z. define.Fits sound run.definition z k × define.IsGoing z in
+      let begins = subst F (sym n.2) (may_drop k f x run.definition n.1, tt) in
+      let dropping : IsDropping sound asked x run k = record { found = f; bound = b; right = n.0; definition = n.1; fits = begins.0; going = begins.1 } in (
+        record {
+          begins = fits.begins;
+          within = fits.within;
+          state = (subst (λ (z : Statement). IsAsking asked z) (sym same) fits.state, subst (λ (z : Statement). IsDropping sound asked z run k) (sym same) dropping);
+        },
+        refl,
+      )
+  goes_from x f k (state.Selecting y run) fits found named (same, n) =
+      let low = fits.begins in
+      let b = bound_here k (table_named x) f fits.within found named in
+      let wide : IsBoundTo k.base k.seen before f (table_named x) = record { place = b.place; from = (let u = b.from in omega arith); within = b.within; found = b.found; named = b.named } in
+      let is : run.scan.query ≡ record { table = f.table; asked = Rattle.px_plan.specs.Asked.asked_of n.2.1.0 } = n.2.1.2 in
+      let bound : scan.IsBound k (query_of run.scan.query) = subst (λ (z : Planned). scan.IsBound k (query_of z)) (sym is) (record { drawn = found.drawn; is = λ t has. sym (some_same f.table t (sym found.table ∙ has)) }) in
+      let valid : IsScn run.scan.scn = subst IsScn (sym n.3) n.5 in
+      let new = new_select sound (query_of run.scan.query) run.scan.scn run.scan.state k n.4 bound valid in
+      let within = fits.within in (
+        record {
+          begins = fits.begins;
+          within = fits.within;
+          state = (
+            subst (λ (z : Statement). IsAsking asked z) (sym same) fits.state,
+            record {
+              select = n.0;
+              is = same ∙ n.1;
+              found = f;
+              bound = subst (λ (z : Statement). IsBoundTo k.base k.seen before f (table_named z)) n.1 wide;
+              planned = n.2;
+              scn = n.3;
+              fits = new.0;
+              going = new.1;
+              since = new.3 before (omega arith);
+              first = new.3 asked.first within;
+            },
+          );
+        },
+        new.2,
+      )
+
+  fits_later : (x : Statement) (k k' : Known) → Later k k' → Fits sound before asked (state.Finding x) k → Fits sound before asked (state.Finding x) k'
+  fits_later x k k' h f = record { begins = f.begins; within = longer k k' asked.first h f.within; state = f.state }
+
+  pub found_one : (x : Statement) (f : Found) (k k' : Known) (t : ItemTurn) → Fits sound before asked (state.Finding x) k → DidFind k k' (table_named x) f → Follows asked x f t → Turns sound before asked (state.Finding x) k k' t
+  found_one x f k k' (turn.Stepped r) fits did to =
+      let ran = ran-sees k k' did.finds.sees in
+      let went = goes_from x f k' r.state (fits_later x k k' (of_ran k k' [] ran) fits) did.found did.name_is to.1 in
+      record { acts = []; ran = ran; told = (to.0, went.0, went.1) }
+  found_one x f k k' (turn.Waiting r) fits did to = absurd to
+  found_one x f k k' (turn.Over a) fits did to =
+      let ran = ran-sees k k' did.finds.sees in
+      let later = fits_later x k k' (of_ran k k' [] ran) fits in
+      let b = subst (λ (n : ℕ). IsBoundTo k'.base k'.seen n f (table_named x)) (sym to.0) (bound_here k' (table_named x) f later.within did.found did.name_is) in
+      record { acts = []; ran = ran; told = (first_low a to.0, first_within k' a later.within to.0, told_without x f k' [] to.1.0 a fits.state.read fits.state.free b to.1.1 to.1.2 refl) }
+
+  -- 6. It was not
+
+  lacking_here : (k : Known) (name : List ℕ) → asked.first ≤ length k.seen → NamesNoTable k name → right.IsLacking k asked.first name
+  lacking_here k name low none =
+      record {
+        place = length k.seen;
+        from = low;
+        within = omega arith;
+        none = subst (λ (l : List Entry). NamesNoTable (record { seat = k.seat; base = k.base; damaged = k.damaged; alone = false; seen = l }) name) (sym (take-length k.seen)) none;
+      }
+
+  lacking_plain : (k : Known) (n : ℕ) (name : List ℕ) → right.IsLacking k n name → right.IsLacking (plain k) n name
+  lacking_plain k n name h = record { place = h.place; from = h.from; within = h.within; none = h.none }
+
+  unfound_so : (x : Statement) (f : StepFault) (k k' : Known) (r : Reply) (a : Answered) (own : List Act) → Fits sound before asked (state.Finding x) k' → find_cause (table_named x) f k' → a.first ≡ asked.first → (r ≡ unfound x f) ⊎ (r ≡ reply.Refused refusal.Memory)
+      → Says a r asked.settings → own ≡ [] → IsRight sound (plain k') before own asked.settings (seen_piece asked.piece) a
+  unfound_so x f k k' r a own fits cause first (inr e) says quiet = right.is_at_once (right.is_lacking (says.0 ∙ e, says.1, says.2, says.3)) quiet
+  unfound_so x step.NoTable k k' r a own fits cause first (inl e) says quiet =
+      let l = subst (λ (n : ℕ). right.IsLacking (plain k') n (table_named x)) (sym first) (lacking_plain k' asked.first (table_named x) (lacking_here k' (table_named x) fits.within cause)) in
+      right.is_unfound x fits.state.read fits.state.free l (says.0 ∙ e, says.1, says.2, says.3) quiet
+  unfound_so x (step.Closed call) k k' r a own fits cause first (inl e) says quiet = right.is_closed x call fits.state.read cause (says.0 ∙ e, says.1, says.2, says.3) quiet
+  unfound_so x f k k' r a own fits cause first (inl e) says quiet = right.is_at_once (right.is_lacking (says.0 ∙ e, says.1, says.2, says.3)) quiet
+
+  quiet_find : (x : Statement) (f : StepFault) (k k' : Known) → Refuses (find_cause (table_named x)) k k' f → find_cause (table_named x) f k' × Sees k k'
+  quiet_find x step.ReadFault k k' h = absurd h.0
+  quiet_find x step.WriteFault k k' h = absurd h.0
+  quiet_find x (step.Closed call) k k' h = h
+  quiet_find x step.NameExists k k' h = absurd h.0
+  quiet_find x step.NoTable k k' h = (h.0, h.1)
+  quiet_find x step.NoIndex k k' h = absurd h.0
+  quiet_find x (step.Limit which count) k k' h = absurd h.0
+  quiet_find x (step.Busy region cells bytes) k k' h = absurd h.0
+  quiet_find x (step.NotReady region) k k' h = absurd h.0
+  quiet_find x (step.InUse count) k k' h = absurd h.0
+  quiet_find x (step.NotYet stamp) k k' h = absurd h.0
+  quiet_find x (step.BelowHorizon horizon) k k' h = absurd h.0
+  quiet_find x (step.Damaged file place) k k' h = absurd h.0
+  quiet_find x step.Memory k k' h = (h.0, h.1)
+
+  pub found_none : (x : Statement) (f : StepFault) (k k' : Known) (r : Reply) (a : Answered) → Fits sound before asked (state.Finding x) k → Refuses (find_cause (table_named x)) k k' f → a.first ≡ asked.first
+      → (r ≡ unfound x f) ⊎ (r ≡ reply.Refused refusal.Memory) → Says a r asked.settings → Turns sound before asked (state.Finding x) k k' (turn.Over a)
+  found_none x f k k' r a fits h first told says =
+      let q = quiet_find x f k k' h in
+      let ran = ran-sees k k' q.1 in
+      record { acts = []; ran = ran; told = (first_low a first, first_within k' a (fits_later x k k' (of_ran k k' [] ran) fits).within first, unfound_so x f k k' r a [] (fits_later x k k' (of_ran k k' [] ran) fits) q.0 first told says refl) }
+
+-- 7. Commands
+
+pub commanded_so : (st : Settings) (p : SeenPiece) (c : Command) (first : ℕ) (a : Answered) → right.IsCommandRead p (Ok c) → right.IsCommanded st c first a → IsAtOnce st p a
+commanded_so st p c first a read (at, inl (built, says)) = right.is_command c read built says
+commanded_so st p c first a read (at, inr (built, says)) = right.is_command_not_built c read built says
+
+-- 8. One change
+
+pub one_distinct : (x : Change) → is_distinct (rows_of (x ∷ [])) ≡ true
+unfolding is_distinct has
+one_distinct x = refl

@@ -1,0 +1,162 @@
+-- What is told of the trail alone doesn't depend on whether others act.
+use Rattle.std.proofs.Common.{ℕ, ◌≡◌, Option, None, Some, Result, Ok, Err, List}
+use Rattle.px_values.specs.declared.change.Change.{Change}
+use Rattle.px_values.specs.declared.limit.Limit.{Limit}
+use Rattle.px_values.specs.declared.limit.Limit.TheVariants as bound
+use Rattle.px_values.specs.declared.name.TableId.{TableId}
+use Rattle.px_tables.specs.declared.index.NewIndex.{NewIndex}
+use Rattle.px_tables.specs.declared.table.NewTable.{NewTable}
+use Rattle.px_trail.specs.declared.entry.Act.{Act}
+use Rattle.px_trail.specs.Batches.{Batch}
+use Rattle.px_calls.specs.declared.definition.Definition.{Definition}
+use Rattle.px_calls.specs.declared.definition.Definition.TheVariants as d
+use Rattle.px_calls.specs.declared.definition.Made.{Made}
+use Rattle.px_calls.specs.declared.fault.StepFault.{StepFault}
+use Rattle.px_calls.specs.declared.fault.StepFault.TheVariants as step
+use Rattle.px_calls.specs.declared.ticket.Receipt.{Receipt}
+use Rattle.px_calls.specs.Calls.{IsFinished, IsMade}
+use Rattle.px_calls.specs.Causes.{batch_limit, definition_cause, new_index_cause, new_table_cause}
+use Rattle.px_calls.specs.Known.{Known}
+use Rattle.px_batch.specs.Turns as batch
+use Rattle.px_batch.specs.declared.batch.BatchFault.{BatchFault}
+use Rattle.px_batch.specs.declared.batch.BatchFault.TheVariants as unmade
+use Rattle.px_defining.specs.Turns as define
+use Rattle.px_defining.specs.declared.define.DefineFault.{DefineFault}
+use Rattle.px_defining.specs.declared.define.DefineFault.TheVariants as undone
+use Rattle.px_gather.specs.Query.{Query}
+use Rattle.px_planned.specs.Queries.{query_of}
+use Rattle.px_planned.specs.declared.planned.Planned.{Planned}
+use Rattle.px_scan.specs.Faults.{IsJoined, MadeSince, QueryFaultIs}
+use Rattle.px_scan.specs.declared.answer.QueryFault.{QueryFault}
+use Rattle.px_scan.specs.declared.answer.QueryFault.TheVariants as unread
+use Rattle.px_select.specs.Selecting.{IsOutcome}
+use Rattle.px_select.specs.declared.run.Selected.{Selected}
+use Rattle.px_item.specs.Right.{plain}
+
+limit_plain : (sound : Type 0) (t : ℕ) (cs : List Change) (which : Limit) (k : Known) → batch_limit sound t cs which k → batch_limit sound t cs which (plain k)
+limit_plain sound t cs bound.Key k h = h
+limit_plain sound t cs bound.Cells k h = h
+limit_plain sound t cs bound.Bytes k h = h
+limit_plain sound t cs bound.Stamps k h = h
+limit_plain sound t cs bound.Trail k h = h
+limit_plain sound t cs bound.Log k h = h
+limit_plain sound t cs bound.Region k h = h
+limit_plain sound t cs which k h = h
+
+pub batch_plain : (sound : Type 0) (t : TableId) (cs : List Change) (f : BatchFault) (k : Known) → batch.FaultIs sound t cs f k → batch.FaultIs sound t cs f (plain k)
+batch_plain sound t cs unmade.NoTable k h = h
+batch_plain sound t cs (unmade.Limit which count) k h = (h.0, h.1, limit_plain sound t.0 cs which k h.2)
+batch_plain sound t cs unmade.ReadFault k h = h
+batch_plain sound t cs unmade.WriteFault k h = h
+batch_plain sound t cs (unmade.Damaged file place) k h = h
+batch_plain sound t cs (unmade.Closed call) k h = h
+batch_plain sound t cs unmade.Memory k h = h
+
+pub batch_since_plain : (n : ℕ) (f : BatchFault) (k : Known) → batch.MadeSince n f k → batch.MadeSince n f (plain k)
+batch_since_plain n unmade.ReadFault k h = h
+batch_since_plain n unmade.WriteFault k h = h
+batch_since_plain n f k h = h
+
+finished_plain : (u : Option ℕ) (b : Batch) (k : Known) → IsFinished u b k → IsFinished u b (plain k)
+finished_plain None b k h = h
+finished_plain (Some call) b k h = h
+
+pub ended_plain : (t : TableId) (cs : List Change) (own : List Act) (k : Known) (r : Receipt) → batch.HasEnded t cs own k r → batch.HasEnded t cs own (plain k) r
+ended_plain t cs own k r h =
+    let i = h.receipt in
+    record {
+      one = h.one;
+      receipt = record { table = i.table; stamp = i.stamp; at = i.at; batch = i.batch; is = i.is; rows = i.rows; once = i.once; concurrent = i.concurrent; finished = finished_plain r.unfinished i.batch k i.finished };
+    }
+
+table_plain : (what : NewTable) (f : StepFault) (k : Known) → new_table_cause what f k → new_table_cause what f (plain k)
+table_plain what step.NameExists k h = h
+table_plain what (step.Limit bound.Tables count) k h = h
+table_plain what (step.Limit bound.Ids count) k h = h
+table_plain what (step.Limit which count) k h = h
+table_plain what (step.NotReady region) k h = h
+table_plain what f k h = h
+
+index_plain : (sound : Type 0) (what : NewIndex) (f : StepFault) (k : Known) → new_index_cause sound what f k → new_index_cause sound what f (plain k)
+index_plain sound what step.NameExists k h = h
+index_plain sound what step.NoTable k h = h
+index_plain sound what (step.Limit bound.Indexes count) k h = h
+index_plain sound what (step.Limit bound.Stamps count) k h = h
+index_plain sound what (step.Limit bound.Ids count) k h = h
+index_plain sound what (step.Limit bound.Build count) k h = h
+index_plain sound what (step.Limit which count) k h = h
+index_plain sound what (step.NotReady region) k h = h
+index_plain sound what f k h = h
+
+cause_plain : (sound : Type 0) (x : Definition) (f : StepFault) (k : Known) → definition_cause sound x f k → definition_cause sound x f (plain k)
+cause_plain sound (d.Table what) f k h = table_plain what f k h
+cause_plain sound (d.Index what) f k h = index_plain sound what f k h
+cause_plain sound (d.Active t i) step.NoTable k h = h
+cause_plain sound (d.Active t i) step.NoIndex k h = h
+cause_plain sound (d.Active t i) (step.NotReady region) k h = h
+cause_plain sound (d.Active t i) f k h = h
+cause_plain sound (d.DropTable t) step.NoTable k h = h
+cause_plain sound (d.DropTable t) (step.InUse count) k h = h
+cause_plain sound (d.DropTable t) (step.NotReady region) k h = h
+cause_plain sound (d.DropTable t) f k h = h
+cause_plain sound (d.DropIndex t i) step.NoTable k h = h
+cause_plain sound (d.DropIndex t i) step.NoIndex k h = h
+cause_plain sound (d.DropIndex t i) (step.InUse count) k h = h
+cause_plain sound (d.DropIndex t i) (step.NotReady region) k h = h
+cause_plain sound (d.DropIndex t i) f k h = h
+
+pub define_plain : (sound : Type 0) (x : Definition) (f : DefineFault) (k : Known) → define.FaultIs sound x f k → define.FaultIs sound x f (plain k)
+define_plain sound x undone.NameExists k h = cause_plain sound x step.NameExists k h
+define_plain sound x undone.NoTable k h = cause_plain sound x step.NoTable k h
+define_plain sound x undone.NoIndex k h = cause_plain sound x step.NoIndex k h
+define_plain sound x (undone.Limit which count) k h = cause_plain sound x (step.Limit which count) k h
+define_plain sound x undone.ReadFault k h = h
+define_plain sound x undone.WriteFault k h = h
+define_plain sound x (undone.Damaged file place) k h = h
+define_plain sound x (undone.Closed call) k h = h
+define_plain sound x undone.Memory k h = h
+
+pub define_since_plain : (n : ℕ) (f : DefineFault) (k : Known) → define.MadeSince n f k → define.MadeSince n f (plain k)
+define_since_plain n undone.ReadFault k h = h
+define_since_plain n undone.WriteFault k h = h
+define_since_plain n f k h = h
+
+made_plain : (sound : Type 0) (x : Definition) (k : Known) (m : Made) → IsMade sound x k m → IsMade sound x (plain k) m
+made_plain sound (d.Table what) k m h = h
+made_plain sound (d.Index what) k m h = h
+made_plain sound (d.Active t i) k m h = h
+made_plain sound (d.DropTable t) k m h = h
+made_plain sound (d.DropIndex t i) k m h = h
+
+pub defined_plain : (sound : Type 0) (x : Definition) (own : List Act) (k : Known) (m : Made) → define.HasDefined sound x own k m → define.HasDefined sound x own (plain k) m
+defined_plain sound x own k m h = record { one = h.one; made = made_plain sound x k m h.made; at = h.at }
+
+joined_plain : (q : Query) (k : Known) → IsJoined q k → IsJoined q (plain k)
+joined_plain q k j = record { found = j.found; within = j.within; is = j.is; table = j.table; stamp = j.stamp; joins = j.joins }
+
+query_plain : (q : Query) (scn : Option ℕ) (f : QueryFault) (k : Known) → QueryFaultIs q scn f k → QueryFaultIs q scn f (plain k)
+query_plain q None unread.NoTable k h = h
+query_plain q (Some n) unread.NoTable k h = h
+query_plain q None (unread.BelowHorizon b) k h = absurd h
+query_plain q (Some n) (unread.BelowHorizon b) k h = h
+query_plain q None unread.IndexJoin k h = joined_plain q k h
+query_plain q (Some n) unread.IndexJoin k h = joined_plain q k h
+query_plain q None unread.ReadFault k h = h
+query_plain q (Some n) unread.ReadFault k h = h
+query_plain q None unread.WriteFault k h = h
+query_plain q (Some n) unread.WriteFault k h = h
+query_plain q None (unread.Damaged file place) k h = h
+query_plain q (Some n) (unread.Damaged file place) k h = h
+query_plain q None (unread.Closed call) k h = h
+query_plain q (Some n) (unread.Closed call) k h = h
+query_plain q None unread.Memory k h = h
+query_plain q (Some n) unread.Memory k h = h
+
+pub query_since_plain : (n : ℕ) (f : QueryFault) (k : Known) → MadeSince n f k → MadeSince n f (plain k)
+query_since_plain n unread.ReadFault k h = h
+query_since_plain n unread.WriteFault k h = h
+query_since_plain n f k h = h
+
+pub outcome_plain : (sound : Type 0) (p : Planned) (scn : Option ℕ) (own : List Act) (k : Known) (r : Result Selected QueryFault) → IsOutcome sound p scn own k r → IsOutcome sound p scn own (plain k) r
+outcome_plain sound p scn own k (Ok a) h = (record { point = h.0.point; is_point = h.0.is_point; at = h.0.at; path = h.0.path; chosen = h.0.chosen; answer = h.0.answer }, h.1, h.2, h.3)
+outcome_plain sound p scn own k (Err f) h = (query_plain (query_of p) scn f k h.0, h.1)

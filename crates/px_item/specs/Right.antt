@@ -1,0 +1,381 @@
+-- What is right to answer to a statement or a session command, by what the seat has then seen.
+use Rattle.std.specs.Prelude.{ℕ, ◌≡◌, ◌≤◌, ◌<◌, ◌+◌, ◌⊎◌, Bool, true, false, if◌then◌else◌, List, [], ◌∷◌, length, take, min, vec_capacity, Option, None, Some, Result, Ok, Err, Vec}
+use Rattle.std.specs.Global.{Global}
+use Rattle.std.specs.Option.{is_some, option_map}
+use Rattle.px_values.specs.Limits.{most_of}
+use Rattle.px_values.specs.declared.change.Change.{Change}
+use Rattle.px_values.specs.declared.limit.Limit.TheVariants as bound
+use Rattle.px_values.specs.declared.name.TableId.{TableId}
+use Rattle.px_values.specs.declared.print.CountWord.TheVariants.{Affected}
+use Rattle.px_lex.specs.Lexemes.{IsReading, Lexeme}
+use Rattle.px_lex.specs.Script.{SeenPiece, seen_piece}
+use Rattle.px_lex.specs.declared.script.PieceKind.TheVariants as kinds
+use Rattle.px_ast.specs.declared.statement.Statement.{Statement}
+use Rattle.px_ast.specs.declared.statement.Statement.TheVariants as s
+use Rattle.px_ast.specs.declared.statement.Upsert.{Upsert}
+use Rattle.px_ast.specs.declared.definition.DropIndex.{DropIndex}
+use Rattle.px_parse.specs.Texts as texts
+use Rattle.px_parse.specs.declared.syntax.SyntaxFault.{SyntaxFault}
+use Rattle.px_parse.specs.declared.syntax.SyntaxFault.TheVariants as syntax
+use Rattle.px_commands.specs.Commands as said
+use Rattle.px_commands.specs.declared.command.Command.{Command}
+use Rattle.px_commands.specs.declared.command.Command.TheVariants as commands
+use Rattle.px_commands.specs.declared.command.CommandFault.{CommandFault}
+use Rattle.px_commands.specs.declared.command.CommandFault.TheVariants as command
+use Rattle.px_tables.specs.declared.found.Found.{Found}
+use Rattle.px_tables.specs.declared.table.Table.{Table}
+use Rattle.px_resolve.specs.Answers.{IsFirst}
+use Rattle.px_resolve.specs.declared.fault.BindFault.{BindFault}
+use Rattle.px_resolve.specs.declared.fault.BindFault.TheVariants as bind
+use Rattle.px_create.specs.Indexes.{index_of}
+use Rattle.px_ast.specs.declared.statement.Select.{Select}
+use Rattle.px_bind.specs.Queries.{IsQuery, select_faults}
+use Rattle.px_bind.specs.declared.request.Query.{Query}
+use Rattle.px_plan.specs.Asked.{asked_of}
+use Rattle.px_planned.specs.declared.planned.Planned.{Planned}
+use Rattle.px_scan.specs.Faults as scan
+use Rattle.px_scan.specs.Turns as scanning
+use Rattle.px_scan.specs.declared.answer.QueryFault.{QueryFault}
+use Rattle.px_scan.specs.declared.answer.QueryFault.TheVariants as unread
+use Rattle.px_select.specs.Selecting as selecting
+use Rattle.px_select.specs.declared.run.Selected.{Selected}
+use Rattle.px_calls.specs.Requires.{IsScn}
+use Rattle.px_bind.specs.Requests.{faults_in}
+use Rattle.px_bind.specs.Upserts.{change_of, upsert_faults}
+use Rattle.px_trail.specs.declared.entry.Act.{Act}
+use Rattle.px_trail.specs.declared.entry.Entry.{Entry}
+use Rattle.px_trail.specs.Trail.{Base}
+use Rattle.px_calls.specs.declared.definition.Definition.{Definition}
+use Rattle.px_calls.specs.declared.definition.Definition.TheVariants as d
+use Rattle.px_calls.specs.declared.definition.Made.{Made}
+use Rattle.px_calls.specs.declared.fault.StepFault.{StepFault}
+use Rattle.px_calls.specs.declared.fault.StepFault.TheVariants as step
+use Rattle.px_calls.specs.declared.ticket.Receipt.{Receipt}
+use Rattle.px_calls.specs.Calls.{IsFound}
+use Rattle.px_calls.specs.Causes.{ClosedBy, NamesNoTable}
+use Rattle.px_calls.specs.Known.{Known}
+use Rattle.px_calls.specs.Requires.{FitsTable}
+use Rattle.px_batch.specs.Turns as batch
+use Rattle.px_batch.specs.declared.batch.BatchFault.{BatchFault}
+use Rattle.px_batch.specs.declared.batch.BatchFault.TheVariants as unmade
+use Rattle.px_batch.specs.declared.batch.BatchState.TheVariants as batches
+use Rattle.px_defining.specs.Turns as define
+use Rattle.px_defining.specs.declared.define.DefineFault.{DefineFault}
+use Rattle.px_defining.specs.declared.define.DefineFault.TheVariants as undone
+use Rattle.px_defining.specs.declared.define.DefineState.TheVariants as defines
+use Rattle.px_reply.specs.declared.refusal.Refusal.{Refusal}
+use Rattle.px_reply.specs.declared.refusal.Refusal.TheVariants as refusal
+use Rattle.px_reply.specs.declared.reply.Defined.{Defined}
+use Rattle.px_reply.specs.declared.reply.Defined.TheVariants as defined
+use Rattle.px_reply.specs.declared.reply.Reply.{Reply}
+use Rattle.px_reply.specs.declared.reply.Reply.TheVariants as reply
+use Rattle.px_item.specs.declared.answered.Answered.{Answered}
+use Rattle.px_item.specs.declared.answered.Asked.{Asked}
+use Rattle.px_item.specs.declared.answered.Settings.{Settings}
+use Rattle.px_item.specs.declared.binding.Next.{Next}
+use Rattle.px_item.specs.declared.binding.Next.TheVariants as next
+use Rattle.px_item.specs.declared.item.ItemState.{ItemState}
+use Rattle.px_item.specs.declared.item.ItemState.TheVariants as state
+use Rattle.px_item.specs.declared.item.ItemTurn.{ItemTurn}
+use Rattle.px_item.specs.declared.item.ItemTurn.TheVariants as turn
+use Rattle.px_item.specs.declared.reading.Read.{Read}
+use Rattle.px_item.specs.declared.reading.Read.TheVariants as read
+
+-- ---- what a seat knows
+
+-- whoever else acts
+abbrev pub plain : Known → Known
+plain k = record { seat = k.seat; base = k.base; damaged = k.damaged; alone = false; seen = k.seen }
+
+-- what it knew after the first n entries
+abbrev pub after : ℕ → Known → Known
+after n k = record { seat = k.seat; base = k.base; damaged = k.damaged; alone = false; seen = take n k.seen }
+
+-- ---- how refusals of lower layers are told
+
+abbrev pub syntax_refusal : SyntaxFault → Refusal
+syntax_refusal (syntax.Unexpected place) = refusal.Syntax place
+syntax_refusal (syntax.LeftOut name) = refusal.LeftOut name
+syntax_refusal syntax.TooDeep = refusal.Limit bound.Depth
+syntax_refusal syntax.Memory = refusal.Memory
+
+-- counted from the `!`. A text is shorter than the greatest place
+abbrev pub behind_mark : ℕ → ℕ
+behind_mark place = min (place + 1) 18446744073709551615
+
+abbrev pub command_refusal : CommandFault → Refusal
+command_refusal (command.Syntax place) = refusal.Syntax (behind_mark place)
+command_refusal (command.OutOfRange place) = refusal.OutOfRange (behind_mark place)
+command_refusal command.Memory = refusal.Memory
+
+abbrev pub bind_refusal : BindFault → Refusal
+bind_refusal (bind.NoIndex name) = refusal.NoIndex name
+bind_refusal (bind.NoColumn name) = refusal.NoColumn name
+bind_refusal (bind.Twice name) = refusal.Twice name
+bind_refusal (bind.Mismatch place) = refusal.Mismatch place
+bind_refusal (bind.OutOfRange place) = refusal.OutOfRange place
+bind_refusal (bind.NullKey name) = refusal.NullKey name
+bind_refusal (bind.Passed limit) = refusal.Limit limit
+bind_refusal bind.Memory = refusal.Memory
+
+abbrev pub batch_refusal : List ℕ → BatchFault → Refusal
+batch_refusal name unmade.NoTable = refusal.NoTable name
+batch_refusal name (unmade.Limit which count) = refusal.Limit which
+batch_refusal name unmade.ReadFault = refusal.ReadFault
+batch_refusal name unmade.WriteFault = refusal.WriteFault
+batch_refusal name (unmade.Damaged file place) = refusal.Damaged file place
+batch_refusal name (unmade.Closed call) = refusal.Closed call
+batch_refusal name unmade.Memory = refusal.Memory
+
+-- ---- statements
+
+-- the table that a statement names
+abbrev pub table_named : Statement → List ℕ
+table_named (s.CreateTable t) = t.name
+table_named (s.DropTable t) = t.name
+table_named (s.CreateIndex i) = i.table
+table_named (s.DropIndex i) = i.table
+table_named (s.AlterIndex i) = i.table
+table_named (s.Upsert u) = u.table
+table_named (s.Delete x) = x.table
+table_named (s.Select q) = q.table
+table_named (s.Explain q) = q.table
+
+abbrev pub is_upsert : Statement → Bool
+is_upsert (s.Upsert u) = true
+is_upsert x = false
+
+abbrev pub drops_index : Statement → Bool
+drops_index (s.DropIndex i) = true
+drops_index x = false
+
+abbrev pub is_select : Statement → Bool
+is_select (s.Select q) = true
+is_select x = false
+
+-- the statements whose answers are built
+abbrev pub is_built : Statement → Bool
+is_built (s.Upsert u) = true
+is_built (s.DropTable t) = true
+is_built (s.DropIndex i) = true
+is_built (s.Select q) = true
+is_built x = false
+
+-- the statements that change something, which none may under an SCN
+abbrev pub changes : Statement → Bool
+changes (s.Select q) = false
+changes (s.Explain q) = false
+changes x = true
+
+abbrev pub MayRun : Settings → Statement → Type 0
+MayRun st x = changes x ≡ true → st.scn ≡ None
+
+-- the statement's table doesn't stand
+abbrev pub table_absent : Statement → Reply
+table_absent (s.DropTable t) = if t.if_exists then reply.Defined defined.TableAbsent else reply.Refused (refusal.NoTable t.name)
+table_absent x = reply.Refused (refusal.NoTable (table_named x))
+
+-- the statement's index doesn't stand
+abbrev pub index_absent : Statement → Reply
+index_absent (s.DropIndex i) = if i.if_exists then reply.Defined defined.IndexAbsent else reply.Refused (refusal.NoIndex i.name)
+index_absent x = reply.Refused refusal.Memory
+
+-- the statement's table wasn't found
+abbrev pub unfound : Statement → StepFault → Reply
+unfound x step.NoTable = table_absent x
+unfound x (step.Closed call) = reply.Refused (refusal.Closed call)
+unfound x f = reply.Refused refusal.Memory
+
+abbrev pub undefined : Statement → DefineFault → Reply
+undefined x undone.NoTable = table_absent x
+undefined x undone.NoIndex = index_absent x
+undefined x (undone.Limit which count) = reply.Refused (refusal.Limit which)
+undefined x undone.ReadFault = reply.Refused refusal.ReadFault
+undefined x undone.WriteFault = reply.Refused refusal.WriteFault
+undefined x (undone.Damaged file place) = reply.Refused (refusal.Damaged file place)
+undefined x (undone.Closed call) = reply.Refused (refusal.Closed call)
+undefined x f = reply.Refused refusal.Memory
+
+-- the word of what was dropped
+abbrev pub word_of : Statement → Defined
+word_of (s.DropIndex i) = defined.IndexDropped
+word_of x = defined.TableDropped
+
+-- the definition that a statement asks for
+abbrev pub drop_of : Found → Statement → Option Definition
+drop_of f (s.DropTable t) = Some (d.DropTable f.table.id)
+drop_of f (s.DropIndex i) = option_map (λ n. d.DropIndex f.table.id n) (index_of f.indexes i.name)
+drop_of f x = None
+
+-- ---- pieces
+
+-- the statement that a piece is, or why it is none
+abbrev pub IsRead : SeenPiece → Result Statement SyntaxFault → Type 0
+IsRead p r = (p.kind ≡ kinds.Statement) × ((xs : List Lexeme) × IsReading p.text xs × texts.Answers p.text xs r)
+
+-- the session command that a piece is behind its `!`, or why it is none
+abbrev pub IsCommandRead : SeenPiece → Result Command CommandFault → Type 0
+IsCommandRead p r = (p.kind ≡ kinds.Command) × ((text : List ℕ) × (p.text ≡ 33 ∷ text) × ((xs : List Lexeme) × IsReading text xs × said.Answers text xs r))
+
+-- the commands whose answers are built
+abbrev pub is_command_built : Command → Bool
+is_command_built (commands.Scn n) = true
+is_command_built (commands.Autocommit on) = on
+is_command_built commands.Commit = true
+is_command_built c = false
+
+-- ---- answers
+
+-- it says this, rests on no receipt and no place, and leaves these settings
+abbrev pub Says : Answered → Reply → Settings → Type 0
+Says a r st = (a.reply ≡ r) × (a.receipts ≡ []) × (a.places ≡ []) × (a.after ≡ st)
+
+abbrev pub Refuses : Answered → Refusal → Settings → Type 0
+Refuses a r st = Says a (reply.Refused r) st
+
+-- what a command that is built is answered
+abbrev pub SaysOf : Settings → Command → Answered → Type 0
+SaysOf st (commands.Scn n) a = Says a (reply.Scn n) (record { scn = n })
+SaysOf st (commands.Autocommit on) a = Says a (reply.Autocommit on) st
+SaysOf st c a = Says a (reply.Count 0 Affected) st
+
+-- what is answered without a call
+pub data IsAtOnce (st : Settings) (p : SeenPiece) (a : Answered) : Type 0 where
+  is_long : p.kind ≡ kinds.Statement → most_of bound.Statement < length p.text → Refuses a (refusal.Limit bound.Statement) st → IsAtOnce st p a
+  is_not_read : (e : SyntaxFault) → IsRead p (Err e) → Refuses a (syntax_refusal e) st → IsAtOnce st p a
+  is_not_built : (x : Statement) → IsRead p (Ok x) → is_built x ≡ false → Refuses a refusal.Form st → IsAtOnce st p a
+  is_under_scn : (x : Statement) → IsRead p (Ok x) → changes x ≡ true → is_some st.scn ≡ true → Refuses a refusal.UnderScn st → IsAtOnce st p a
+  is_no_command : (e : CommandFault) → IsCommandRead p (Err e) → Refuses a (command_refusal e) st → IsAtOnce st p a
+  is_command : (c : Command) → IsCommandRead p (Ok c) → is_command_built c ≡ true → SaysOf st c a → IsAtOnce st p a
+  is_command_not_built : (c : Command) → IsCommandRead p (Ok c) → is_command_built c ≡ false → Refuses a refusal.Form st → IsAtOnce st p a
+  is_lacking : Refuses a refusal.Memory st → IsAtOnce st p a
+
+-- a table of this name stood after some entry from `first` on, with its indexes
+pub record IsBoundTo (b : Base) (es : List Entry) (first : ℕ) (f : Found) (name : List ℕ) : Type 0 where
+  pub place : ℕ
+  pub from : first ≤ place
+  pub within : place ≤ length es
+  pub found : IsFound b (take place es) f
+  pub named : f.table.name ≡ name
+
+-- no table of this name stood after some entry from `first` on
+pub record IsLacking (k : Known) (first : ℕ) (name : List ℕ) : Type 0 where
+  pub place : ℕ
+  pub from : first ≤ place
+  pub within : place ≤ length k.seen
+  pub none : NamesNoTable (after place k) name
+
+-- the table's batch of this one change
+abbrev pub one_change : Found → Upsert → List Change
+one_change f u = change_of f.table u ∷ []
+
+-- the query that a SELECT asks for, with the table that it was bound to
+abbrev pub IsAskedOf : Found → Select → Planned → Type 0
+IsAskedOf f q x = (select_faults f.table.columns q ≡ []) × ((query : Query) × IsQuery f.table q query × (x ≡ record { table = f.table; asked = asked_of query }))
+
+abbrev pub query_refusal : List ℕ → QueryFault → Refusal
+query_refusal name unread.NoTable = refusal.NoTable name
+query_refusal name (unread.BelowHorizon h) = refusal.BelowHorizon h
+query_refusal name unread.IndexJoin = refusal.IndexJoin
+query_refusal name unread.ReadFault = refusal.ReadFault
+query_refusal name unread.WriteFault = refusal.WriteFault
+query_refusal name (unread.Damaged file place) = refusal.Damaged file place
+query_refusal name (unread.Closed call) = refusal.Closed call
+query_refusal name unread.Memory = refusal.Memory
+
+-- the rows that are shown, each with its place, and the place of the point's opening
+pub record ShowsRows (a : Answered) (r : Selected) (st : Settings) : Type 0 where
+  pub rows : a.reply ≡ reply.Rows r.shown.rows
+  pub receipts : a.receipts ≡ []
+  pub places : a.places ≡ r.shown.places
+  pub first : a.first ≡ r.first
+  pub after : a.after ≡ st
+
+-- what is right, where `own` is what the seat began, ended, opened, closed and defined for it since it had seen the first `before` entries
+pub data IsRight (sound : Type 0) (k : Known) (before : ℕ) (own : List Act) (st : Settings) (p : SeenPiece) (a : Answered) : Type 0 where
+  is_at_once : IsAtOnce st p a → own ≡ [] → IsRight sound k before own st p a
+  is_unfound : (x : Statement) → IsRead p (Ok x) → MayRun st x → IsLacking k a.first (table_named x) → Says a (table_absent x) st → own ≡ [] → IsRight sound k before own st p a
+  is_closed : (x : Statement) (call : ℕ) → IsRead p (Ok x) → ClosedBy call k → Refuses a (refusal.Closed call) st → own ≡ [] → IsRight sound k before own st p a
+  is_wrong : (x : Statement) (f : Found) (fault : BindFault) → IsRead p (Ok x) → MayRun st x → IsBoundTo k.base k.seen a.first f (table_named x) → IsFirst (faults_in f x) fault → Refuses a (bind_refusal fault) st → own ≡ []
+      → IsRight sound k before own st p a
+  -- an UPSERT is one batch of one row, and its receipt is told
+  is_changed : (u : Upsert) (f : Found) (r : Receipt) → IsRead p (Ok (s.Upsert u)) → st.scn ≡ None → IsBoundTo k.base k.seen a.first f u.table → upsert_faults f.table u ≡ [] → batch.HasEnded f.table.id (one_change f u) own k r
+      → (a.reply ≡ reply.Count 1 Affected) × (a.receipts ≡ r ∷ []) × (a.places ≡ []) × (a.after ≡ st) → IsRight sound k before own st p a
+  is_not_changed : (u : Upsert) (f : Found) (fault : BatchFault) → IsRead p (Ok (s.Upsert u)) → st.scn ≡ None → IsBoundTo k.base k.seen a.first f u.table → upsert_faults f.table u ≡ [] → batch.FaultIs sound f.table.id (one_change f u) fault k
+      → batch.MadeSince before fault k → batch.HasLeft f.table.id (one_change f u) fault own k → Refuses a (batch_refusal u.table fault) st → IsRight sound k before own st p a
+  -- a DROP is one entry
+  is_dropped : (x : Statement) (f : Found) (m : Made) (e : Definition) → IsRead p (Ok x) → st.scn ≡ None → IsBoundTo k.base k.seen a.first f (table_named x) → faults_in f x ≡ [] → drop_of f x ≡ Some e → define.HasDefined sound e own k m
+      → Says a (reply.Defined (word_of x)) st → IsRight sound k before own st p a
+  is_not_dropped : (x : Statement) (f : Found) (fault : DefineFault) (e : Definition) → IsRead p (Ok x) → st.scn ≡ None → IsBoundTo k.base k.seen a.first f (table_named x) → faults_in f x ≡ [] → drop_of f x ≡ Some e → define.FaultIs sound e fault k
+      → define.MadeSince before fault k → own ≡ [] → Says a (undefined x fault) st → IsRight sound k before own st p a
+  is_index_absent : (i : DropIndex) (f : Found) → IsRead p (Ok (s.DropIndex i)) → st.scn ≡ None → IsBoundTo k.base k.seen a.first f i.table → i.if_exists ≡ true → index_of f.indexes i.name ≡ None → Says a (reply.Defined defined.IndexAbsent) st → own ≡ []
+      → IsRight sound k before own st p a
+  -- a SELECT is answered at a point, by a path that is chosen there: exactly, under an SCN; and else as it is current
+  is_selected : (q : Select) (f : Found) (x : Planned) (r : Selected) → IsRead p (Ok (s.Select q)) → IsBoundTo k.base k.seen before f q.table → IsAskedOf f q x → selecting.IsOutcome sound x st.scn own k (Ok r) → ShowsRows a r st
+      → IsRight sound k before own st p a
+  is_not_selected : (q : Select) (f : Found) (x : Planned) (fault : QueryFault) → IsRead p (Ok (s.Select q)) → IsBoundTo k.base k.seen before f q.table → IsAskedOf f q x → selecting.IsOutcome sound x st.scn own k (Err fault) → scan.MadeSince before fault k
+      → Refuses a (query_refusal q.table fault) st ⊎ Refuses a refusal.Memory st → IsRight sound k before own st p a
+
+-- ---- parts of the way there
+
+abbrev pub IsCommanded : Settings → Command → ℕ → Answered → Type 0
+IsCommanded st c first a = (a.first ≡ first) × (((is_command_built c ≡ true) × SaysOf st c a) ⊎ ((is_command_built c ≡ false) × Refuses a refusal.Form st))
+
+abbrev pub ReadsAs : Settings → SeenPiece → ℕ → Read → Type 0
+ReadsAs st p first (read.Told a) = IsAtOnce st p a × (a.first ≡ first)
+ReadsAs st p first (read.Asks asked x) = (seen_piece asked.piece ≡ p) × (asked.settings ≡ st) × (asked.first ≡ first) × IsRead p (Ok x) × MayRun st x
+
+abbrev pub HasRoomForOne : Vec Receipt Global → Type 0
+HasRoomForOne v = (v.items ≡ []) × (0 < vec_capacity v)
+
+-- what comes of a batch of one change of this table
+abbrev pub IsBatchOf : Table → TableId → Change → Next → Type 0
+IsBatchOf x t c (next.Change run room) = (run.table ≡ t) × (run.changes ≡ c ∷ []) × (run.state ≡ batches.Beginning) × FitsTable x c × HasRoomForOne room
+IsBatchOf x t c (next.Drop run) = ⊥
+IsBatchOf x t c (next.Select run) = ⊥
+IsBatchOf x t c (next.Tell r) = r ≡ reply.Refused refusal.Memory
+
+abbrev pub IsTold : Found → Statement → Reply → Type 0
+IsTold f (s.DropIndex i) r = (r ≡ reply.Refused refusal.Memory) ⊎ (((fault : BindFault) × IsFirst (faults_in f (s.DropIndex i)) fault × (r ≡ reply.Refused (bind_refusal fault)))
+    ⊎ ((i.if_exists ≡ true) × (index_of f.indexes i.name ≡ None) × (r ≡ reply.Defined defined.IndexAbsent)))
+IsTold f x r = (r ≡ reply.Refused refusal.Memory) ⊎ ((fault : BindFault) × IsFirst (faults_in f x) fault × (r ≡ reply.Refused (bind_refusal fault)))
+
+-- what comes of a query on this table
+abbrev pub IsPlannedOf : Table → Option ℕ → Query → Next → Type 0
+IsPlannedOf t scn q (next.Select run) = (run.scan.query ≡ record { table = t; asked = asked_of q }) × (run.scan.scn ≡ scn) × scanning.IsNew run.scan.state
+IsPlannedOf t scn q (next.Tell r) = r ≡ reply.Refused refusal.Memory
+IsPlannedOf t scn q n = ⊥
+
+-- what comes of a statement whose table was found
+abbrev pub IsNext : Option ℕ → Found → Statement → Next → Type 0
+IsNext scn f x (next.Change run room) = (u : Upsert) × (x ≡ s.Upsert u) × (upsert_faults f.table u ≡ []) × (run.table ≡ f.table.id) × (run.changes ≡ one_change f u) × (run.state ≡ batches.Beginning) × FitsTable f.table (change_of f.table u) × HasRoomForOne room
+IsNext scn f x (next.Drop run) = (faults_in f x ≡ []) × (drop_of f x ≡ Some run.definition) × (run.state ≡ defines.Defining)
+IsNext scn f x (next.Select run) = (q : Select) × (x ≡ s.Select q) × IsAskedOf f q run.scan.query × (run.scan.scn ≡ scn) × scanning.IsNew run.scan.state × IsScn scn
+IsNext scn f x (next.Tell r) = IsTold f x r
+
+-- the state in which a statement goes on whose table was found
+abbrev pub FollowsTo : Option ℕ → Statement → Found → ItemState → Type 0
+FollowsTo scn x f (state.Finding y) = ⊥
+FollowsTo scn x f (state.Changing y run room) = (y ≡ x) × IsNext scn f x (next.Change run room)
+FollowsTo scn x f (state.Dropping y run) = (y ≡ x) × IsNext scn f x (next.Drop run)
+FollowsTo scn x f (state.Selecting y run) = (y ≡ x) × IsNext scn f x (next.Select run)
+
+abbrev pub Follows : Asked → Statement → Found → ItemTurn → Type 0
+Follows asked x f (turn.Stepped r) = (r.asked ≡ asked) × FollowsTo asked.settings.scn x f r.state
+Follows asked x f (turn.Waiting r) = ⊥
+Follows asked x f (turn.Over a) = (a.first ≡ asked.first) × ((r : Reply) × IsTold f x r × Says a r asked.settings)
+
+abbrev pub IsOneRow : Asked → Receipt → Answered → Type 0
+IsOneRow asked r a = (a.first ≡ asked.first) × ((a.reply ≡ reply.Count 1 Affected) × (a.receipts ≡ r ∷ []) × (a.places ≡ []) × (a.after ≡ asked.settings))
+
+abbrev pub IsChanged : Asked → Statement → Result Receipt BatchFault → Answered → Type 0
+IsChanged asked x (Ok r) a = IsOneRow asked r a
+IsChanged asked x (Err f) a = (a.first ≡ asked.first) × (Refuses a (batch_refusal (table_named x) f) asked.settings ⊎ (Refuses a refusal.Memory asked.settings × (f ≡ unmade.NoTable)))
+
+abbrev pub IsDropped : Asked → Statement → Result Made DefineFault → Answered → Type 0
+IsDropped asked x (Ok m) a = (a.first ≡ asked.first) × Says a (reply.Defined (word_of x)) asked.settings
+IsDropped asked x (Err f) a = (a.first ≡ asked.first) × (Says a (undefined x f) asked.settings ⊎ Refuses a refusal.Memory asked.settings)
+
+abbrev pub IsSelection : Asked → Statement → Result Selected QueryFault → Answered → Type 0
+IsSelection asked x (Ok r) a = ShowsRows a r asked.settings
+IsSelection asked x (Err f) a = (a.first ≡ asked.first) × (Refuses a (query_refusal (table_named x) f) asked.settings ⊎ Refuses a refusal.Memory asked.settings)

@@ -1,0 +1,112 @@
+-- What one step of an item does.
+use Rattle.std.specs.Prelude.{ℕ, ◌≡◌, ◌≤◌, ◌++◌, List, [], length, None, Some, Ok}
+use Rattle.px_lex.specs.Script.{SeenPiece, seen_piece}
+use Rattle.px_ast.specs.declared.statement.Statement.{Statement}
+use Rattle.px_ast.specs.declared.statement.Statement.TheVariants as s
+use Rattle.px_ast.specs.declared.statement.Upsert.{Upsert}
+use Rattle.px_tables.specs.declared.found.Found.{Found}
+use Rattle.px_ast.specs.declared.statement.Select.{Select}
+use Rattle.px_planned.specs.Queries.{query_of}
+use Rattle.px_scan.specs.Turns as scan
+use Rattle.px_select.specs.declared.run.SelectRun.{SelectRun}
+use Rattle.px_bind.specs.Requests.{faults_in}
+use Rattle.px_bind.specs.Upserts.{upsert_faults}
+use Rattle.px_trail.specs.declared.entry.Act.{Act}
+use Rattle.px_calls.specs.Known.{Known, Ran, outline}
+use Rattle.px_batch.specs.declared.run.BatchRun.{BatchRun}
+use Rattle.px_batch.specs.Turns as batch
+use Rattle.px_defining.specs.declared.define.DefineRun.{DefineRun}
+use Rattle.px_defining.specs.Turns as define
+use Rattle.px_item.specs.declared.answered.Asked.{Asked}
+use Rattle.px_item.specs.declared.answered.Settings.{Settings}
+use Rattle.px_item.specs.declared.item.Begun.{Begun}
+use Rattle.px_item.specs.declared.item.Begun.TheVariants as begins
+use Rattle.px_item.specs.declared.item.ItemRun.{ItemRun}
+use Rattle.px_item.specs.declared.item.ItemState.{ItemState}
+use Rattle.px_item.specs.declared.item.ItemState.TheVariants as state
+use Rattle.px_item.specs.declared.item.ItemTurn.{ItemTurn}
+use Rattle.px_item.specs.declared.item.ItemTurn.TheVariants as turn
+use Rattle.px_item.specs.Right.{HasRoomForOne, IsAskedOf, MayRun, IsAtOnce, IsBoundTo, IsRead, IsRight, drop_of, one_change, plain, table_named}
+
+-- the statement was read, and may change something
+pub record IsAsking (asked : Asked) (x : Statement) : Type 0 where
+  pub read : IsRead (seen_piece asked.piece) (Ok x)
+  pub free : MayRun asked.settings x
+
+-- the batch of an UPSERT is under way
+pub record IsChanging (before : ℕ) (asked : Asked) (x : Statement) (run : BatchRun) (k : Known) : Type 0 where
+  pub upsert : Upsert
+  pub is : x ≡ s.Upsert upsert
+  pub found : Found
+  pub bound : IsBoundTo k.base k.seen asked.first found upsert.table
+  pub right : upsert_faults found.table upsert ≡ []
+  pub table : run.table ≡ found.table.id
+  pub changes : run.changes ≡ one_change found upsert
+  pub fits : batch.Fits run.table run.changes run.state k
+  pub going : batch.IsGoing run.state
+  pub since : batch.IsSince before run.state k
+
+-- a definition is under way
+pub record IsDropping (sound : Type 0) (asked : Asked) (x : Statement) (run : DefineRun) (k : Known) : Type 0 where
+  pub found : Found
+  pub bound : IsBoundTo k.base k.seen asked.first found (table_named x)
+  pub right : faults_in found x ≡ []
+  pub definition : drop_of found x ≡ Some run.definition
+  pub fits : define.Fits sound run.definition run.state k
+  pub going : define.IsGoing run.state
+
+-- a SELECT is under way
+pub record IsSelecting (sound : Type 0) (before : ℕ) (asked : Asked) (x : Statement) (run : SelectRun) (k : Known) : Type 0 where
+  pub select : Select
+  pub is : x ≡ s.Select select
+  pub found : Found
+  pub bound : IsBoundTo k.base k.seen before found select.table
+  pub planned : IsAskedOf found select run.scan.query
+  pub scn : run.scan.scn ≡ asked.settings.scn
+  pub fits : scan.Fits sound (query_of run.scan.query) run.scan.scn run.scan.state k
+  pub going : scan.IsGoing run.scan.state
+  pub since : scan.IsSince before run.scan.state k
+  pub first : scan.IsSince asked.first run.scan.state k
+
+abbrev pub FitsState : Type 0 → ℕ → Asked → ItemState → Known → Type 0
+FitsState sound before asked (state.Finding x) k = IsAsking asked x
+FitsState sound before asked (state.Changing x run room) k = IsAsking asked x × IsChanging before asked x run k × HasRoomForOne room
+FitsState sound before asked (state.Dropping x run) k = IsAsking asked x × IsDropping sound asked x run k
+FitsState sound before asked (state.Selecting x run) k = IsAsking asked x × IsSelecting sound before asked x run k
+
+-- The state is as the trail tells. Others' entries keep this
+pub record Fits (sound : Type 0) (before : ℕ) (asked : Asked) (st : ItemState) (k : Known) : Type 0 where
+  pub begins : before ≤ asked.first
+  pub within : asked.first ≤ length k.seen
+  pub state : FitsState sound before asked st k
+
+-- what the item has begun and not ended
+abbrev pub begun : ItemState → List Act
+begun (state.Finding x) = []
+begun (state.Changing x run room) = batch.begun run.table run.changes run.state
+begun (state.Dropping x run) = []
+begun (state.Selecting x run) = scan.opened run.scan.state
+
+-- it goes on, or is over and rightly answered, where `own` is what the seat began, ended, opened, closed and defined for it so far
+abbrev pub Told : Type 0 → ℕ → Asked → List Act → Known → ItemTurn → Type 0
+Told sound before asked own k (turn.Stepped r) = (r.asked ≡ asked) × Fits sound before asked r.state k × (own ≡ begun r.state)
+Told sound before asked own k (turn.Waiting r) = (r.asked ≡ asked) × Fits sound before asked r.state k × (own ≡ begun r.state)
+Told sound before asked own k (turn.Over a) = (asked.first ≤ a.first) × (a.first ≤ length k.seen) × IsRight sound (plain k) before own asked.settings (seen_piece asked.piece) a
+
+-- one step of an item
+pub record Turns (sound : Type 0) (before : ℕ) (asked : Asked) (old : ItemState) (k k' : Known) (t : ItemTurn) : Type 0 where
+  pub acts : List Act
+  pub ran : Ran k k' acts
+  pub told : Told sound before asked (begun old ++ outline acts) k' t
+
+-- an item that has made no step
+pub record IsBegun (st : Settings) (p : SeenPiece) (r : ItemRun) : Type 0 where
+  pub piece : seen_piece r.asked.piece ≡ p
+  pub settings : r.asked.settings ≡ st
+  pub statement : Statement
+  pub asks : IsAsking r.asked statement
+  pub state : r.state ≡ state.Finding statement
+
+abbrev pub Begins : Settings → SeenPiece → ℕ → Begun → Type 0
+Begins st p first (begins.Told a) = IsAtOnce st p a × (a.first ≡ first)
+Begins st p first (begins.Under r) = IsBegun st p r × (r.asked.first ≡ first)

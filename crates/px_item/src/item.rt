@@ -1,0 +1,351 @@
+// One item on its way: each step makes one call.
+ghost use Rattle.std.specs.Prelude.{◌≡◌, ℕ};
+ghost use Rattle.px_lex.specs.Script.{seen_piece};
+ghost use Rattle.px_item.specs.Right as spec;
+ghost use Rattle.px_item.specs.Turns.{Begins, Fits, Turns};
+
+use crate::answered::{Answered, Asked, Settings, told};
+use crate::binding::{self, Next};
+use crate::reading::{Read, read_piece};
+use crate::refusing::{table_named, unchanged, undefined, unfound, unselected};
+use px_ast::Statement;
+use px_batch::{BatchFault, BatchRun, BatchTurn};
+use px_calls::{Made, Receipt, Steps};
+use px_defining::{DefineFault, DefineRun, DefineTurn};
+use px_lex::script::Piece;
+use px_reply::{Defined, Reply};
+use px_scan::QueryFault;
+use px_select::{SelectRun, SelectTurn, Selected};
+use px_sorted::Shown;
+use px_tables::Found;
+use px_values::{CountWord, Items};
+use std::alloc::Global;
+
+/// What the next step of an item is.
+pub enum ItemState {
+    /// The table that the statement names is to be found.
+    Finding(Statement),
+    /// Its batch is under way. There is room for the receipt.
+    Changing(Statement, BatchRun, Vec<Receipt>),
+    /// What it drops is being dropped.
+    Dropping(Statement, DefineRun),
+    /// It is being selected.
+    Selecting(Statement, SelectRun),
+}
+
+/// An item on its way. Other seats may act between two of its steps.
+pub struct ItemRun<'a> {
+    pub asked: Asked<'a>,
+    pub state: ItemState,
+}
+
+/// What a piece came to without a call.
+pub enum Begun<'a> {
+    Told(Answered),
+    Under(ItemRun<'a>),
+}
+
+/// What one step came to.
+pub enum ItemTurn<'a> {
+    Stepped(ItemRun<'a>),
+    /// The same step is to be tried again.
+    Waiting(ItemRun<'a>),
+    Over(Answered),
+}
+
+/// Begins a piece, when the session has seen `first` entries. It makes no call.
+pub fn begin<'a>(alloc: Global, piece: Piece<'a>, settings: Settings, first: u64) -> Begun<'a>
+    ensures { Begins settings (seen_piece piece.entry) first result }
+{
+    match read_piece(alloc, piece, settings, first) {
+        Read::Told(answered) => Begun::Told(answered),
+        Read::Asks(asked, statement) => Begun::Under(ItemRun {
+            asked,
+            state: ItemState::Finding(statement),
+        }),
+    }
+}
+
+/// What is told without a receipt.
+fn over(alloc: Global, asked: Asked<'_>, reply: Reply) -> Answered
+    ensures says { spec.Says result reply asked.entry.settings }
+    ensures first { result.first ≡ asked.entry.first }
+{
+    let Asked {
+        piece: _piece,
+        settings,
+        first,
+    } = asked;
+    told(alloc, reply, first, settings)
+}
+
+/// Goes on with a statement whose table was found. It makes no call.
+fn follow<'a>(alloc: Global, asked: Asked<'a>, statement: Statement, found: Found) -> ItemTurn<'a>
+    ensures { spec.Follows asked.entry statement found result }
+{
+    let next = binding::next_of(alloc, &statement, &found, asked.settings.scn);
+    drop(found);
+    match next {
+        Next::Change(run, receipts) => ItemTurn::Stepped(ItemRun {
+            asked,
+            state: ItemState::Changing(statement, run, receipts),
+        }),
+        Next::Drop(run) => ItemTurn::Stepped(ItemRun {
+            asked,
+            state: ItemState::Dropping(statement, run),
+        }),
+        Next::Select(run) => ItemTurn::Stepped(ItemRun {
+            asked,
+            state: ItemState::Selecting(statement, run),
+        }),
+        Next::Tell(reply) => {
+            drop(statement);
+            ItemTurn::Over(over(alloc, asked, reply))
+        }
+    }
+}
+
+/// Finds the statement's table.
+fn find<'a, S: Steps>(
+    alloc: Global,
+    s: &mut S,
+    asked: Asked<'a>,
+    statement: Statement,
+) -> ItemTurn<'a>
+    ensures { (before : ℕ) → Fits S.sound before asked.entry (ItemState.Finding statement) (S.known s.old) → Turns S.sound before asked.entry (ItemState.Finding statement) (S.known s.old) (S.known s.new) result }
+{
+    match s.find(table_named(&statement)) {
+        Ok(found) => follow(alloc, asked, statement, found),
+        Err(fault) => {
+            let reply = unfound(alloc, &statement, fault);
+            drop(statement);
+            ItemTurn::Over(over(alloc, asked, reply))
+        }
+    }
+}
+
+/// One row, by its receipt.
+fn one_row(
+    asked: Asked<'_>,
+    receipt: Receipt,
+    mut receipts: Vec<Receipt>,
+    alloc: Global,
+) -> Answered
+    requires room { spec.HasRoomForOne receipts }
+    ensures { spec.IsOneRow asked.entry receipt result }
+{
+    let Asked {
+        piece: _piece,
+        settings,
+        first,
+    } = asked;
+    receipts.push_reserved(receipt);
+    Answered {
+        reply: Reply::Count {
+            rows: 1,
+            word: CountWord::Affected,
+        },
+        receipts: Items::of(receipts),
+        places: Items::of(Vec::new(alloc)),
+        first,
+        after: settings,
+    }
+}
+
+/// What a batch came to.
+fn changed(
+    alloc: Global,
+    asked: Asked<'_>,
+    statement: Statement,
+    receipts: Vec<Receipt>,
+    came: Result<Receipt, BatchFault>,
+) -> Answered
+    requires room { spec.HasRoomForOne receipts }
+    ensures { spec.IsChanged asked.entry statement came result }
+{
+    match came {
+        Ok(receipt) => {
+            drop(statement);
+            one_row(asked, receipt, receipts, alloc)
+        }
+        Err(fault) => {
+            let reply = unchanged(alloc, &statement, fault);
+            drop(statement);
+            drop(receipts);
+            over(alloc, asked, reply)
+        }
+    }
+}
+
+/// Goes on with a batch.
+fn change<'a, S: Steps>(
+    alloc: Global,
+    s: &mut S,
+    asked: Asked<'a>,
+    statement: Statement,
+    mut run: BatchRun,
+    receipts: Vec<Receipt>,
+) -> ItemTurn<'a>
+    requires { (before : ℕ) × Fits S.sound before asked (ItemState.Changing statement run receipts) (S.known s.old) }
+    ensures { (before : ℕ) → Fits S.sound before asked.entry (ItemState.Changing statement run receipts) (S.known s.old) → Turns S.sound before asked.entry (ItemState.Changing statement run receipts) (S.known s.old) (S.known s.new) result }
+{
+    match run.step(s) {
+        BatchTurn::Stepped => ItemTurn::Stepped(ItemRun {
+            asked,
+            state: ItemState::Changing(statement, run, receipts),
+        }),
+        BatchTurn::Waiting { .. } => ItemTurn::Waiting(ItemRun {
+            asked,
+            state: ItemState::Changing(statement, run, receipts),
+        }),
+        BatchTurn::Over(result) => {
+            run.finish();
+            ItemTurn::Over(changed(alloc, asked, statement, receipts, result))
+        }
+    }
+}
+
+/// The word of what was dropped.
+fn word_of(statement: &Statement) -> Defined
+    ensures { result ≡ spec.word_of statement.now }
+{
+    match statement {
+        Statement::DropIndex(_) => Defined::IndexDropped,
+        _ => Defined::TableDropped,
+    }
+}
+
+/// What a definition came to.
+fn dropped(
+    alloc: Global,
+    asked: Asked<'_>,
+    statement: Statement,
+    came: Result<Made, DefineFault>,
+) -> Answered
+    ensures { spec.IsDropped asked.entry statement came result }
+{
+    let reply = match came {
+        Ok(_made) => Reply::Defined(word_of(&statement)),
+        Err(fault) => undefined(alloc, &statement, fault),
+    };
+    drop(statement);
+    over(alloc, asked, reply)
+}
+
+/// Goes on with a definition.
+fn let_drop<'a, S: Steps>(
+    alloc: Global,
+    s: &mut S,
+    asked: Asked<'a>,
+    statement: Statement,
+    mut run: DefineRun,
+) -> ItemTurn<'a>
+    requires { (before : ℕ) × Fits S.sound before asked (ItemState.Dropping statement run) (S.known s.old) }
+    ensures { (before : ℕ) → Fits S.sound before asked.entry (ItemState.Dropping statement run) (S.known s.old) → Turns S.sound before asked.entry (ItemState.Dropping statement run) (S.known s.old) (S.known s.new) result }
+{
+    match run.step(s) {
+        DefineTurn::Stepped => ItemTurn::Stepped(ItemRun {
+            asked,
+            state: ItemState::Dropping(statement, run),
+        }),
+        DefineTurn::Waiting { .. } => ItemTurn::Waiting(ItemRun {
+            asked,
+            state: ItemState::Dropping(statement, run),
+        }),
+        DefineTurn::Over(result) => {
+            drop(run);
+            ItemTurn::Over(dropped(alloc, asked, statement, result))
+        }
+    }
+}
+
+/// The rows of a SELECT.
+fn rows_of(alloc: Global, asked: Asked<'_>, selected: Selected) -> Answered
+    ensures { spec.ShowsRows result selected asked.entry.settings }
+{
+    let Asked {
+        piece: _piece,
+        settings,
+        first: _first,
+    } = asked;
+    let Selected {
+        shown,
+        first,
+        last: _last,
+    } = selected;
+    let Shown { rows, places } = shown;
+    Answered {
+        reply: Reply::Rows(rows),
+        receipts: Items::of(Vec::new(alloc)),
+        places,
+        first,
+        after: settings,
+    }
+}
+
+/// What a SELECT came to.
+fn selected(
+    alloc: Global,
+    asked: Asked<'_>,
+    statement: Statement,
+    came: Result<Selected, QueryFault>,
+) -> Answered
+    ensures { spec.IsSelection asked.entry statement came result }
+{
+    match came {
+        Ok(selected) => {
+            drop(statement);
+            rows_of(alloc, asked, selected)
+        }
+        Err(fault) => {
+            let reply = unselected(alloc, &statement, fault);
+            drop(statement);
+            over(alloc, asked, reply)
+        }
+    }
+}
+
+/// Goes on with a SELECT.
+fn select<'a, S: Steps>(
+    alloc: Global,
+    s: &mut S,
+    asked: Asked<'a>,
+    statement: Statement,
+    mut run: SelectRun,
+) -> ItemTurn<'a>
+    requires { (before : ℕ) × Fits S.sound before asked (ItemState.Selecting statement run) (S.known s.old) }
+    ensures { (before : ℕ) → Fits S.sound before asked.entry (ItemState.Selecting statement run) (S.known s.old) → Turns S.sound before asked.entry (ItemState.Selecting statement run) (S.known s.old) (S.known s.new) result }
+{
+    match run.step(s) {
+        SelectTurn::Stepped => ItemTurn::Stepped(ItemRun {
+            asked,
+            state: ItemState::Selecting(statement, run),
+        }),
+        SelectTurn::Waiting { .. } => ItemTurn::Waiting(ItemRun {
+            asked,
+            state: ItemState::Selecting(statement, run),
+        }),
+        SelectTurn::Over(came) => {
+            run.finish();
+            ItemTurn::Over(selected(alloc, asked, statement, came))
+        }
+    }
+}
+
+impl<'a> ItemRun<'a> {
+    /// Makes one call.
+    pub fn step<S: Steps>(self, alloc: Global, s: &mut S) -> ItemTurn<'a>
+        requires { (before : ℕ) × Fits S.sound before self.asked self.state (S.known s.old) }
+        ensures { (before : ℕ) → Fits S.sound before self.entry.asked self.entry.state (S.known s.old) → Turns S.sound before self.entry.asked self.entry.state (S.known s.old) (S.known s.new) result }
+    {
+        let ItemRun { asked, state } = self;
+        match state {
+            ItemState::Finding(statement) => find(alloc, s, asked, statement),
+            ItemState::Changing(statement, run, receipts) => {
+                change(alloc, s, asked, statement, run, receipts)
+            }
+            ItemState::Dropping(statement, run) => let_drop(alloc, s, asked, statement, run),
+            ItemState::Selecting(statement, run) => select(alloc, s, asked, statement, run),
+        }
+    }
+}

@@ -1,0 +1,4 @@
+pub mod Lists
+pub mod Bases
+pub mod Groups
+pub mod Building

@@ -1,0 +1,109 @@
+-- What a session's items answer, one after another, and what a session comes to in a round.
+use Rattle.std.specs.Prelude.{ℕ, ◌≡◌, ◌≤◌, Bool, true, false, if◌then◌else◌, List, [], ◌∷◌, ◌++◌, length, take, drop}
+use Rattle.std.specs.List.{list_any}
+use Rattle.px_lex.specs.Script.{SeenPiece}
+use Rattle.px_script.specs.Pieces.{span_of}
+use Rattle.px_trail.specs.declared.entry.Act.{Act}
+use Rattle.px_trail.specs.declared.entry.Entry.{Entry}
+use Rattle.px_trail.specs.Trail.{acts_by}
+use Rattle.px_calls.specs.Known.{Known, outline}
+use Rattle.px_reply.specs.declared.refusal.Refusal.{Refusal}
+use Rattle.px_reply.specs.declared.refusal.Refusal.TheVariants as refusal
+use Rattle.px_reply.specs.declared.reply.Reply.{Reply}
+use Rattle.px_reply.specs.declared.reply.Reply.TheVariants.{Refused}
+use Rattle.px_reply.specs.declared.transcript.Item.{Item}
+use Rattle.px_reply.specs.declared.transcript.Transcript.{Transcript}
+use Rattle.px_item.specs.declared.answered.Answered.{Answered}
+use Rattle.px_item.specs.declared.answered.Settings.{Settings}
+use Rattle.px_item.specs.Right.{IsRight, after}
+use Rattle.px_session.specs.declared.state.Ending.{Ending}
+use Rattle.px_session.specs.declared.state.Ending.TheVariants.{Whole, Fatal, Memory}
+use Rattle.px_session.specs.declared.state.SessionState.{SessionState}
+
+-- ---- one item
+
+abbrev pub is_closing : Refusal → Bool
+is_closing refusal.WriteFault = true
+is_closing (refusal.Closed call) = true
+is_closing r = false
+
+-- the session is stopped by it
+abbrev pub is_fatal : Reply → Bool
+is_fatal (Refused r) = is_closing r
+is_fatal r = false
+
+-- what the seat itself began, ended, opened, closed and defined after the first n entries
+abbrev pub own_since : ℕ → ℕ → List Entry → List Act
+own_since seat n es = outline (acts_by seat (drop n es))
+
+-- what an item says, with the settings after it
+abbrev pub answer_of : Item → Settings → Answered
+answer_of i st = record { reply = i.reply; receipts = i.evidence.receipts; places = i.evidence.places; first = i.evidence.first; after = st }
+
+-- The item answers the piece under these settings, by the entries up to its last, and leaves those. Its own are those of its seat since the item
+-- before, which ended after n
+pub record IsReplied (sound : Type 0) (k : Known) (n : ℕ) (st : Settings) (p : SeenPiece) (i : Item) (st' : Settings) : Type 0 where
+  pub statement : i.statement ≡ span_of p
+  pub begins : n ≤ i.evidence.first
+  pub ends : i.evidence.first ≤ i.evidence.last
+  pub within : i.evidence.last ≤ length k.seen
+  pub right : IsRight sound (after i.evidence.last k) n (own_since k.seat n (take i.evidence.last k.seen)) st p (answer_of i st')
+
+-- ---- the items of a session, one after another
+
+-- where a session stands between two items: its settings, and the pieces that are left
+pub record Standing : Type 0 where
+  pub settings : Settings
+  pub left : List SeenPiece
+
+-- each item answers the next piece, from the place n to the place m
+abbrev pub AreReplied : Type 0 → Known → ℕ → Standing → List Item → ℕ → Standing → Type 0
+AreReplied sound k n at [] m to = (n ≡ m) × (at ≡ to)
+AreReplied sound k n at (i ∷ is) m to =
+    (p : SeenPiece) × (rest : List SeenPiece) × (st : Settings) × (at.left ≡ p ∷ rest) × IsReplied sound k n at.settings p i st × AreReplied sound k i.evidence.last (record { settings = st; left = rest }) is m to
+
+abbrev pub has_fatal : List Item → Bool
+has_fatal items = list_any (λ i. is_fatal i.reply) items
+
+-- the last item stops the session, and no other
+pub record LastFatal (items : List Item) : Type 0 where
+  pub before : List Item
+  pub item : Item
+  pub is : items ≡ before ++ item ∷ []
+  pub quiet : has_fatal before ≡ false
+  pub fatal : is_fatal item.reply ≡ true
+
+-- how it ended: all is answered; or it was stopped; or memory ran out
+abbrev pub EndsAs : Ending → List SeenPiece → List Item → Type 0
+EndsAs Whole left items = (left ≡ []) × (has_fatal items ≡ false)
+EndsAs Fatal left items = LastFatal items
+EndsAs Memory left items = has_fatal items ≡ false
+
+-- ---- a session in a round
+
+-- a stopped session has nothing to run
+abbrev pub place_from : ℕ → Bool → ℕ
+place_from count stopped = if stopped then count else 0
+
+abbrev pub at_first : SessionState → List SeenPiece → Standing
+at_first st ps = record { settings = st.settings; left = drop (place_from (length ps) st.stopped) ps }
+
+abbrev pub is_stopped : Ending → Bool
+is_stopped Whole = false
+is_stopped Fatal = true
+is_stopped Memory = false
+
+abbrev pub state_after : Ending → Settings → SessionState
+state_after e st = record { settings = st; stopped = is_stopped e }
+
+-- Of the entries from the place `from` up to the place `to` those of this seat that begin, end, open, close and define are those of
+-- the items, in order, and no others; each item is answered by the trail at its end
+pub record IsAnswered (sound : Type 0) (k : Known) (from to : ℕ) (st : SessionState) (ps : List SeenPiece) (t : Transcript) (st' : SessionState) (e : Ending) : Type 0 where
+  pub last : ℕ
+  pub standing : Standing
+  pub replied : AreReplied sound k from (at_first st ps) t.items last standing
+  pub in_round : last ≤ to
+  pub within : to ≤ length k.seen
+  pub rest : own_since k.seat last (take to k.seen) ≡ []
+  pub ends : EndsAs e standing.left t.items
+  pub state : st' ≡ state_after e standing.settings
