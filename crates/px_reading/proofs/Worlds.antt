@@ -86,7 +86,7 @@ module _ (b : Base) (index : ℕ → IndexForm) (es : List Entry) (g : Group) (v
   kept : GroupKept (form_of b index g) es v
   kept = shown.kept.group
 
-  form : index (get_or v.indexes place no_part).id ≡ index_form g.table x.index
+  pub form : index (get_or v.indexes place no_part).id ≡ index_form g.table x.index
   form = ap index (shown.parts place x at).id ∙ shown.forms place x at
 
   high : v.high ≡ g.horizon

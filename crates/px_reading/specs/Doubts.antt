@@ -31,6 +31,7 @@ use Rattle.px_values.specs.declared.row.Value.TheVariants.{Null}
 use Rattle.px_wal.specs.Manifest.{names}
 use Rattle.px_world.specs.Events.{Verdict, ToVerify, ToRetire, ToErase}
 use Rattle.px_world.specs.World.{World, horizon, is_undecided, st, vis}
+use Rattle.px_shown.specs.Told.{is_key_in}
 use Rattle.px_group.specs.Group.{form_of}
 use Rattle.px_group.specs.declared.group.Begun.{Begun}
 use Rattle.px_group.specs.declared.group.Group.{Group}
@@ -87,3 +88,13 @@ pub record IsBelow (t : Table) (x : Index) (r : List Value) (cells : List CellDa
   pub floor_is : w.floor ≡ floor
   pub state : st w h ≡ (row_form t).spelled (value_at cells) r h
   pub values_are : (c : ℕ) → c < length x.included → get_or values c None ≡ vis w k h c
+
+-- the same for any form of an index, by the values that are seen, and by the row's key and values at the horizon
+pub record IsBelowBy (f : IndexForm) (r : List Value) (w : World (List ℕ) RowState (List ℕ)) (k : List ℕ) (s h floor : ℕ) (seen : List (Option (List ℕ))) (own : Option (List ℕ)) (values : List (Option (List ℕ))) : Type 0 where
+  pub decided : is_undecided (w.fate s) ≡ false
+  pub horizon_is : horizon w ≡ h
+  pub floor_is : w.floor ≡ floor
+  pub keyed : is_key_in k (f.key_of r (st w h)) ≡ is_key_in k own
+  pub count : length seen ≡ f.columns
+  pub seen_are : (c : ℕ) → c < f.columns → get_or seen c None ≡ vis w k h c
+  pub values_are : (c : ℕ) → c < f.columns → get_or values c None ≡ f.col (st w h) c
