@@ -1,0 +1,7 @@
+pub mod Found
+pub mod Lists
+pub mod Noted
+pub mod Opened
+pub mod Pointed
+pub mod Released
+pub mod Seen
