@@ -7,8 +7,10 @@
 
 mod finding;
 mod founded;
+mod laws;
 mod points;
 mod server;
 
 pub use founded::Founded;
+pub use laws::law_points;
 pub use server::Server;
