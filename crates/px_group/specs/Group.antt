@@ -149,8 +149,14 @@ pub record IsTraced (es : List Entry) (t : ℕ) (m : Begun) : Type 0 where
   pub receipt : m.receipt ≡ rows_of m.batch.changes
   pub few : length m.batch.changes ≤ most_rows
 
-abbrev pub AreTraced : List Entry → Group → Type 0
-AreTraced es g = AllByRecursion (IsTraced es g.table.id.0) g.batches.items
+-- each batch has a stamp of its own
+abbrev pub AreOnce : List Begun → Type 0
+AreOnce [] = Unit {0}
+AreOnce (m ∷ ms) = AllByRecursion (λ x. m.batch.stamp ≢ x.batch.stamp) ms × AreOnce ms
+
+pub record AreTraced (es : List Entry) (g : Group) : Type 0 where
+  pub each : AllByRecursion (IsTraced es g.table.id.0) g.batches.items
+  pub once : AreOnce g.batches.items
 
 -- 3. What it shows, where what was opened is sound
 

@@ -75,7 +75,7 @@ module _ (g g' : Group) (beside : IsSameBeside g g') where
 
   traced_beside : (b : Base) (es : List Entry) (e : Entry) → IsElsewhere g.table.id e.act → AreTraced es g → AreTraced (es ++ e ∷ []) g'
   traced_beside b es e n all = (let
-      traced : AreTraced (es ++ e ∷ []) moved = traced_elsewhere b es g.table.id e n g.batches.items all
+      traced : AreTraced (es ++ e ∷ []) moved = record { each = traced_elsewhere b es g.table.id e n g.batches.items all.each; once = all.once }
       in subst (AreTraced (es ++ e ∷ [])) (sym (same_group g g' beside)) traced)
 
   disk_beside : {D : Type 0} (d : Ghosts D) (disk : D) (f : FolderData) → IsOnDisk d disk f g → IsOnDisk d disk f g'
@@ -114,7 +114,7 @@ module _ (b : Base) (es : List Entry) (e : Entry) (may : MayCome b es e) (still 
   right_set all = all_set number_in IsRightGroup IsRightGroup groups place g g' l is once (λ h other r. r) (right_beside g g' beside (all_at IsRightGroup groups place g l is all)) all
 
   pub traced_set : AllByRecursion (AreTraced es) groups → AllByRecursion (AreTraced es') groups'
-  traced_set all = all_set number_in (AreTraced es) (AreTraced es') groups place g g' l is once (λ h other t. traced_elsewhere b es h.table.id e (elsewhere h.table.id) h.batches.items t)
+  traced_set all = all_set number_in (AreTraced es) (AreTraced es') groups place g g' l is once (λ h other t. record { each = traced_elsewhere b es h.table.id e (elsewhere h.table.id) h.batches.items t.each; once = t.once })
       (traced_beside g g' beside b es e (elsewhere g.table.id) (all_at (AreTraced es) groups place g l is all)) all
 
   module _ (here : (hs : List HeldBatch) → IsTallied b es g hs → IsTallied b es' g' hs) where
