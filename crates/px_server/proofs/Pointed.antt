@@ -164,6 +164,7 @@ module _ {D : Type 0} (d : Ghosts D) (tells_left : (x : D) (moment file : ℕ) (
 
   told_then : IsTold b (es ++ e ∷ []) closed (standing_of catalog) standing
   told_then = record {
+    base = k.told.base;
     legal = legal-snoc b es e k.told.legal may;
     closing = closing-snoc es e ∙ (ap (λ (o : Option ℕ). closing_step o e.act) k.told.closing ∙ unshut);
     agrees = subst (λ (c : Catalogue). Agrees standing c) (sym (catalogue-snoc b es e ∙ still (catalogue_of b es))) k.told.agrees;

@@ -6,7 +6,7 @@ use Rattle.px_tables.specs.declared.index.Index.{Index}
 use Rattle.px_tables.specs.declared.table.Table.{Table}
 use Rattle.px_trail.specs.Legal.{IsLegal}
 use Rattle.px_trail.specs.Recorded.{Recorded}
-use Rattle.px_trail.specs.Trail.{Base, catalogue_of, closing_call, open_points}
+use Rattle.px_trail.specs.Trail.{Base, IsCatalogue, base_catalogue, catalogue_of, closing_call, open_points}
 use Rattle.px_trail.specs.declared.entry.Entry.{Entry}
 use Rattle.px_forms.specs.Indexes.{IndexForm}
 use Rattle.px_groupworld.specs.Group.{GroupData}
@@ -34,8 +34,9 @@ number_in g = g.table.id.0
 
 -- 1. Definitions
 
--- The trail is legal, and tells what stands. On the disk the same stands, but for an index that was building when the folder was opened.
+-- What stood before is a right catalogue, the trail is legal, and tells what stands. On the disk the same stands, but for an index that was building when the folder was opened.
 pub record IsTold (b : Base) (es : List Entry) (closed : Option ℕ) (stored standing : Standing) : Type 0 where
+  pub base : IsCatalogue (base_catalogue b)
   pub legal : IsLegal b es
   pub closing : closing_call es ≡ closed
   pub agrees : Agrees standing (catalogue_of b es)
