@@ -1,5 +1,6 @@
 -- An entry of another table, and of what the trail tells of points.
 use Rattle.std.proofs.Common.{ℕ, ◌≡◌, ◌==◌, ◌&&◌, if◌then◌else◌, Bool, true, false, List, [], ◌∷◌, ◌++◌, refl, sym, ◌∙◌}
+use Rattle.std.specs.List.{AllByRecursion}
 use Rattle.std.proofs.lemmas.Bool.{ne_eqb}
 use Rattle.px_values.specs.declared.name.TableId.{TableId}
 use Rattle.px_trail.specs.declared.entry.Act.{Act}
@@ -14,7 +15,7 @@ use Rattle.px_openbatches.specs.Pending.{HeldBatch, HeldKept, IsHeld}
 use Rattle.px_openbatches.proofs.Helds.{all_more, held_on}
 use Rattle.px_group.specs.declared.group.Begun.{Begun as OpenBatch}
 use Rattle.px_group.specs.declared.group.Group.{Group}
-use Rattle.px_group.specs.Group.{AreInPhase, AreStanding, IsTallied}
+use Rattle.px_group.specs.Group.{AreInPhase, AreStanding, IsTallied, IsTraced}
 use Rattle.px_noting.specs.Apart.{IsApart}
 
 -- what is of another table is elsewhere
@@ -99,6 +100,27 @@ module _ (b : Base) (es : List Entry) (tid : TableId) (e : Entry) (idle : IsStil
     all = λ u y q n. held.all u y (sym (still_batch u) ∙ q) n;
   }
 
+  held_one : (h : HeldBatch) → IsHeld es t h → IsHeld (es ++ e ∷ []) t h
+  held_one h q = held_on es t h q e (λ u r p. record { batch = p.batch; is = sym (still_batch u) ∙ p.is; what = p.what; left = p.left }) h.written (λ l. l) q.batch (still_batch h.stamp ∙ q.is) q.changes q.written q.running
+
+  -- and what their end needs of them
+  pub traced_still : (ms : List OpenBatch) → AllByRecursion (IsTraced es t) ms → AllByRecursion (IsTraced (es ++ e ∷ []) t) ms
+  traced_still [] all = tt
+  traced_still (m ∷ ms) all = (
+    record {
+      held = all.0.held;
+      is = held_one all.0.held all.0.is;
+      stamp = all.0.stamp;
+      changes = all.0.changes;
+      distinct = all.0.distinct;
+      flags = all.0.flags;
+      met = all.0.met;
+      receipt = all.0.receipt;
+      few = all.0.few;
+    },
+    traced_still ms all.1,
+  )
+
   pub phases_still : (ms : List OpenBatch) (hs : List HeldBatch) → AreInPhase es t ms hs → AreInPhase (es ++ e ∷ []) t ms hs
   phases_still [] hs p = tt
   phases_still (m ∷ ms) [] p = tt
@@ -117,3 +139,7 @@ tallied_apart b es g hs k e apart standing = (let
       phases = phases_still b es g.table.id e idle.still g.batches.items hs k.phases;
       points = λ seat s. points-snoc seat g.table.id.0 s es e ∙ (apart_points g.table.id seat s _ e.seat e.act apart ∙ k.points seat s);
     })
+
+-- and what the end of its batches needs, also where nothing else is known of the group
+pub traced_elsewhere : (b : Base) (es : List Entry) (tid : TableId) (e : Entry) → IsElsewhere tid e.act → (ms : List OpenBatch) → AllByRecursion (IsTraced es tid.0) ms → AllByRecursion (IsTraced (es ++ e ∷ []) tid.0) ms
+traced_elsewhere b es tid e n = traced_still b es tid e (act_idle tid e n).still

@@ -11,8 +11,8 @@ no_point = record { seat = 0; stamp = 0 }
 pub record IsSameBeside (g g' : Group) : Type 0 where
   pub table : g'.table ≡ g.table
   pub rows : g'.rows ≡ g.rows
-  pub indexes : g'.indexes.items ≡ g.indexes.items
-  pub batches : g'.batches.items ≡ g.batches.items
+  pub indexes : g'.indexes ≡ g.indexes
+  pub batches : g'.batches ≡ g.batches
   pub last : g'.last ≡ g.last
   pub horizon : g'.horizon ≡ g.horizon
 

@@ -1,0 +1,119 @@
+-- What is true of every server.
+use Rattle.std.specs.Prelude.{◌≡◌, ◌≤◌, ◌+◌, ℕ, List, length, map, slice_get, sum_by, Option, None, Some}
+use Rattle.std.specs.List.{AllByRecursion}
+use Rattle.px_outside.specs.declared.disk.Disk.{Ghosts}
+use Rattle.px_tables.specs.declared.index.Index.{Index}
+use Rattle.px_tables.specs.declared.table.Table.{Table}
+use Rattle.px_trail.specs.Legal.{IsLegal}
+use Rattle.px_trail.specs.Recorded.{Recorded}
+use Rattle.px_trail.specs.Trail.{Base, IsCatalogue, base_catalogue, catalogue_of, closing_call, open_points}
+use Rattle.px_trail.specs.declared.entry.Entry.{Entry}
+use Rattle.px_forms.specs.Indexes.{IndexForm}
+use Rattle.px_groupworld.specs.Group.{GroupData}
+use Rattle.px_openbatches.specs.Pending.{HeldBatch}
+use Rattle.px_region.specs.Region.{Holds}
+use Rattle.px_schema.specs.declared.standing.Standing.{Standing}
+use Rattle.px_catalog.specs.Catalogue.{HasCatalogue, standing_of}
+use Rattle.px_catalog.specs.declared.catalog.Catalog.{Catalog}
+use Rattle.px_group.specs.Group.{AreTraced, IsRightGroup, IsShownBy, IsTallied, points_in}
+use Rattle.px_group.specs.declared.group.Begun.{Begun}
+use Rattle.px_group.specs.declared.group.Group.{Group}
+use Rattle.px_group.specs.declared.group.IndexRegion.{IndexRegion}
+use Rattle.px_group.specs.declared.group.Phase.{Phase}
+use Rattle.px_group.specs.declared.group.Phase.TheVariants.{Marking, Writing, Verifying, Closing}
+use Rattle.px_recovery.specs.Folder.{FolderData}
+use Rattle.px_recovery.specs.Kept.{IsServer}
+use Rattle.px_recovery.specs.Tables.{form_in, index_in}
+use Rattle.px_standing.specs.Agrees.{Agrees, opened_standing}
+
+abbrev pub table_in_group : Group → Table
+table_in_group g = g.table
+
+abbrev pub number_in : Group → ℕ
+number_in g = g.table.id.0
+
+-- 1. Definitions
+
+-- What stood before is a right catalogue, the trail is legal, and tells what stands. On the disk the same stands, but for an index that was building when the folder was opened.
+pub record IsTold (b : Base) (es : List Entry) (closed : Option ℕ) (stored standing : Standing) : Type 0 where
+  pub base : IsCatalogue (base_catalogue b)
+  pub legal : IsLegal b es
+  pub closing : closing_call es ≡ closed
+  pub agrees : Agrees standing (catalogue_of b es)
+  pub same : opened_standing stored ≡ opened_standing standing
+
+-- 2. Tables with their regions
+
+abbrev pub HasPoints : List Entry → Group → Type 0
+HasPoints es g = (seat s : ℕ) → open_points seat g.table.id.0 s es ≡ points_in seat s g.points.items
+
+pub record HasTallied (b : Base) (es : List Entry) (g : Group) : Type 0 where
+  pub held : List HeldBatch
+  pub tallied : IsTallied b es g held
+
+-- One group for each table that stands, in their order. The open points are the trail's at all times. All else of a group is so until a write
+-- fails; then its batches have what their end needs.
+pub record AreGroups (b : Base) (es : List Entry) (closed : Option ℕ) (tables : List Table) (groups : List Group) : Type 0 where
+  pub stand : map table_in_group groups ≡ tables
+  pub points : AllByRecursion (HasPoints es) groups
+  pub right : closed ≡ None → AllByRecursion IsRightGroup groups
+  pub tallied : closed ≡ None → AllByRecursion (HasTallied b es) groups
+  pub traced : (call : ℕ) → closed ≡ Some call → AllByRecursion (AreTraced es) groups
+
+-- 3. Contents
+
+abbrev pub forms_in : List Index → Table → ℕ → IndexForm
+forms_in indexes x = λ n. form_in x (index_in indexes n)
+
+-- the group shows what these data of its table have
+pub record HasShown (b : Base) (es : List Entry) (indexes : List Index) (v : ℕ → GroupData) (g : Group) : Type 0 where
+  pub held : List HeldBatch
+  pub tallied : IsTallied b es g held
+  pub shown : IsShownBy b (forms_in indexes g.table) es g (v g.table.id.0) held
+
+pub record AreShown (b : Base) (es : List Entry) (indexes : List Index) (groups : List Group) : Type 0 where
+  pub told : ℕ → GroupData
+  pub each : AllByRecursion (HasShown b es indexes told) groups
+
+-- 4. The disk
+
+-- each region of the group goes on from what the folder has in it
+pub record IsOnDisk {D : Type 0} (d : Ghosts D) (disk : D) (f : FolderData) (g : Group) : Type 0 where
+  pub rows : Holds d g.rows disk (f.regions g.rows.number)
+  pub indexes : (i : ℕ) (x : IndexRegion) → slice_get g.indexes.items i ≡ Some x → Holds d x.region disk (f.regions x.region.number)
+
+-- what the server's own parts have where they go on from a folder with these tables
+pub record HasParts {D : Type 0} (d : Ghosts D) (b : Base) (catalog : Catalog) (groups : List Group) (disk : D) (es : List Entry) (f : FolderData) (v : ℕ → GroupData) : Type 0 where
+  pub stored : HasCatalogue d catalog disk
+  pub standing : f.standing ≡ standing_of catalog
+  pub regions : AllByRecursion (IsOnDisk d disk f) groups
+  pub shown : AllByRecursion (HasShown b es f.standing.indexes v) groups
+
+-- 5. Room in the trail
+
+-- the entries that a batch still owes
+abbrev pub steps_of : Phase → ℕ
+steps_of Marking = 4
+steps_of Writing = 3
+steps_of Verifying = 2
+steps_of Closing = 1
+
+abbrev pub owed_by : Begun → ℕ
+owed_by m = steps_of m.phase
+
+-- those of a group: one for each open point too
+abbrev pub owed : Group → ℕ
+owed g = length g.points.items + sum_by owed_by g.batches.items
+
+-- and one for the failed write that closes the server, unless it is closed
+abbrev pub HasTrailRoom : List Group → Recorded → Type 0
+HasTrailRoom groups trail = 1 + sum_by owed groups ≤ trail.room
+
+-- 6. All of it
+
+pub record IsKept {D : Type 0} (d : Ghosts D) (b : Base) (sound premise : Type 0) (disk : D) (catalog : Catalog) (standing : Standing) (groups : List Group) (trail : Recorded) (late : Option Entry) (closed : Option ℕ) : Type 0 where
+  pub told : IsTold b trail.entries closed (standing_of catalog) standing
+  pub each : AreGroups b trail.entries closed standing.tables groups
+  pub shown : sound → closed ≡ None → AreShown b trail.entries standing.indexes groups
+  pub server : IsServer d b premise (HasParts d b catalog groups) disk trail.entries late closed
+  pub room : HasTrailRoom groups trail

@@ -1,0 +1,17 @@
+// What a group tells of points.
+ghost use Rattle.std.specs.Prelude.{◌≡◌, ◌≤◌, ℕ, List, false, None, is_some};
+ghost use Rattle.std.specs.List.{AllByRecursion};
+ghost use Rattle.px_group.specs.Group.{IsTallied};
+ghost use Rattle.px_group.specs.declared.group.Begun.{Begun};
+ghost use Rattle.px_group.specs.declared.group.Group.{Group};
+ghost use Rattle.px_openbatches.specs.Pending.{HeldBatch};
+ghost use Rattle.px_trail.specs.Batches.{IsDecided};
+ghost use Rattle.px_trail.specs.Legal.{IsLegal};
+ghost use Rattle.px_trail.specs.Trail.{Base, open_points, table_of};
+ghost use Rattle.px_trail.specs.declared.entry.Entry.{Entry};
+
+/// All is written at or below a point where no open batch at or below it is still to write; and a table that doesn't stand has no open point.
+pub fn law_points()
+    ensures decided { (b : Base) → (es : List Entry) → (g : Group) → (hs : List HeldBatch) → IsLegal b es → IsTallied b es g hs → (p : ℕ) → AllByRecursion (λ (m : Begun). m.batch.stamp ≤ p → is_some m.batch.puts ≡ false) g.batches.items → IsDecided es g.table.id.0 p }
+    ensures none { (b : Base) → (es : List Entry) → IsLegal b es → (t : ℕ) → table_of b es t ≡ None → (seat : ℕ) → (s : ℕ) → open_points seat t s es ≡ 0 }
+{}

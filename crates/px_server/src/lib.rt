@@ -1,0 +1,16 @@
+//! The server: a catalogue and tables with their regions on a disk, and the trail of all that was done.
+//!
+//! Its invariant (`IsKept`) says what the trail tells of definitions and groups, what the groups show where the opened folder is sound, and
+//! that each image that a stop may leave of any moment recovers. Each method has the clause of its step in `Steps` (px_calls), word by
+//! word; `finish` hands out what is promised of the disk.
+#![tactic(auto)]
+
+mod finding;
+mod founded;
+mod laws;
+mod points;
+mod server;
+
+pub use founded::Founded;
+pub use laws::law_points;
+pub use server::Server;

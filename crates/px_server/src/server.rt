@@ -1,0 +1,101 @@
+// A server.
+ghost use Rattle.std.specs.Prelude.{◌≡◌, ℕ, List, length};
+ghost use Rattle.px_outside.specs.OnDisk.{IsLeft};
+
+use crate::Founded;
+use px_catalog::Catalog;
+use px_gatelog::Frame;
+use px_group::Group;
+use px_outside::{Clock, CountsCalls, Disk};
+use px_schema::Standing;
+use px_seat::Based;
+use px_trail::{Entry, Trail};
+use std::alloc::Global;
+use std::marker::{Model, PhantomData};
+
+/// A server. At each moment so far a stop leaves a folder that stands for what had been done, or for this and the one lasting thing that
+/// was under way.
+#[derive(Drop)]
+pub struct Server<D: CountsCalls, C: Clock, B: Based + Founded> {
+    pub(crate) alloc: Global,
+    /// The seat that acts.
+    pub(crate) seat: u32,
+    pub(crate) disk: D,
+    pub(crate) clock: C,
+    /// How long versions are kept, in milliseconds.
+    pub(crate) lookback: u64,
+    /// The definitions on the disk.
+    pub(crate) catalog: Catalog,
+    /// The same as the trail tells them: an index that was building when the folder was opened is disabled.
+    pub(crate) standing: Standing,
+    /// One for each table that stands, in their order.
+    pub(crate) groups: Vec<Group>,
+    pub(crate) trail: Trail,
+    /// What the step would have added whose failed write closed the server.
+    pub(crate) late: Option<Entry>,
+    /// The device call that closed it.
+    pub(crate) closed: Option<u64>,
+    pub(crate) frame: Frame,
+    pub(crate) of: PhantomData<B>,
+}
+
+impl<D: CountsCalls, C: Clock, B: Based + Founded> Model for Server<D, C, B> {
+    ghost use Rattle.std.specs.Prelude.{◌≤◌};
+    ghost use Rattle.px_server.specs.Kept.{IsKept};
+    ghost use Rattle.px_server.specs.Shown.{Shown};
+
+    ghost Value = { Shown };
+
+    ghost view = { λ s. record { seat = s.seat; entries = s.trail.entries; late = s.late; closed = s.closed } };
+
+    ghost invariant = { λ s. IsKept ⟦<D as Disk>⟧ B.base B.sound B.premise s.disk s.catalog s.standing s.groups.items s.trail s.late s.closed × (8388620 ≤ s.frame.room) };
+}
+
+impl<D: CountsCalls, C: Clock, B: Based + Founded> Server<D, C, B> {
+    /// Lets a seat act.
+    pub fn act_as(&mut self, seat: u32)
+        ensures { self.new ≡ record self.old { seat = seat } }
+    {
+        self.seat = seat;
+    }
+
+    /// The number of entries.
+    pub fn seen(&self) -> u64
+        ensures { result ≡ length self.now.entries }
+    {
+        self.trail.len()
+    }
+}
+
+impl<D: CountsCalls, C: Clock + Drop, B: Based + Founded> Server<D, C, B> {
+    ghost use Rattle.px_recovery.specs.Stands.{Recovers};
+
+    /// The disk, what was done, and what is late. Each image that a stop may leave at a moment of the run recovers.
+    pub fn finish(self) -> (D, Trail, Option<Entry>)
+        ensures entries { result.1.entries ≡ self.entries }
+        ensures late { result.2 ≡ self.late }
+        ensures recovers { B.premise → (moment : ℕ) (image : ℕ → List ℕ) → IsLeft ⟦<D as Disk>⟧ result.0 moment image → Recovers B.base result.1.entries result.2 moment image }
+    {
+        let Server {
+            alloc: _,
+            seat: _,
+            disk,
+            clock,
+            lookback: _,
+            catalog,
+            standing,
+            groups,
+            trail,
+            late,
+            closed: _,
+            frame,
+            of: _,
+        } = self;
+        drop(clock);
+        drop(catalog);
+        drop(standing);
+        drop(groups);
+        drop(frame);
+        (disk, trail, late)
+    }
+}
