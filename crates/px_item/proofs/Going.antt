@@ -30,7 +30,7 @@ use Rattle.px_calls.specs.declared.ticket.Receipt.{Receipt}
 use Rattle.px_calls.specs.Known.{Known, Passes, Ran, Sees, outline}
 use Rattle.px_calls.specs.Causes.{NamesNoTable, Refuses, find_cause}
 use Rattle.px_calls.specs.Calls.{DidFind, IsFound}
-use Rattle.px_calls.specs.Requires.{AreFitting, CanDefine, FitsTable}
+use Rattle.px_calls.specs.Requires.{AreFitting, CanDefine, FitsTable, IsScn}
 use Rattle.px_calls.proofs.Runs.{acts_by-append, among-front, ran-sees}
 use Rattle.px_batch.specs.Turns as batch
 use Rattle.px_batch.specs.declared.batch.BatchFault.{BatchFault}
@@ -60,9 +60,22 @@ use Rattle.px_item.specs.declared.item.ItemState.TheVariants as state
 use Rattle.px_item.specs.declared.item.ItemTurn.{ItemTurn}
 use Rattle.px_item.specs.declared.item.ItemTurn.TheVariants as turn
 use Rattle.px_item.specs.Right as right
-use Rattle.px_item.specs.Right.{Follows, FollowsTo, HasRoomForOne, IsAtOnce, IsBoundTo, IsChanged, IsDropped, IsRead, IsRight, IsTold, Says, after, drop_of, one_change, plain, table_named, unfound}
+use Rattle.px_item.specs.Right.{Follows, FollowsTo, HasRoomForOne, IsAtOnce, IsBoundTo, IsChanged, IsDropped, IsRead, IsRight, IsTold, MayRun, Says, after, changes, drop_of, one_change, plain, table_named, unfound}
 use Rattle.px_item.specs.Turns.{Fits, FitsState, IsAsking, IsBegun, IsChanging, IsDropping, Turns, begun}
-use Rattle.px_item.proofs.Plain.{batch_plain, batch_since_plain, define_plain, define_since_plain, defined_plain, ended_plain}
+use Rattle.px_item.proofs.Plain.{batch_plain, batch_since_plain, define_plain, define_since_plain, defined_plain, ended_plain, outcome_plain, query_since_plain}
+use Rattle.px_gather.specs.Query.{Query}
+use Rattle.px_planned.specs.Queries.{query_of}
+use Rattle.px_planned.specs.declared.planned.Planned.{Planned}
+use Rattle.px_scan.specs.Turns as scan
+use Rattle.px_scan.specs.declared.answer.QueryFault.{QueryFault}
+use Rattle.px_scan.specs.declared.machine.QueryState.{QueryState}
+use Rattle.px_scan.specs.declared.machine.QueryState.TheVariants as reading
+use Rattle.px_scan.proofs.Turning as scanning
+use Rattle.px_select.specs.Selecting as selecting
+use Rattle.px_select.specs.Selecting.{SelectTurns}
+use Rattle.px_select.specs.declared.run.SelectRun.{SelectRun}
+use Rattle.px_select.specs.declared.run.SelectTurn.TheVariants as ended
+use Rattle.px_select.specs.declared.run.Selected.{Selected}
 
 -- 1. More entries
 
@@ -110,7 +123,44 @@ since_passes k k' (batches.Ending t) n h i = longer k k' n (of_passes k k' h) i
 since_passes k k' (batches.Leaving t f) n h i = (longer k k' n (of_passes k k' h) i.0, made_more k k' f n h i.0 i.1)
 since_passes k k' batches.Over n h i = longer k k' n (of_passes k k' h) i
 
+drops_change : (f : Found) (x : Statement) (y : Definition) → drop_of f x ≡ Some y → changes x ≡ true
+drops_change f (s.DropTable t) y h = refl
+drops_change f (s.DropIndex i) y h = refl
+drops_change f (s.CreateTable t) y h = refl
+drops_change f (s.CreateIndex t) y h = refl
+drops_change f (s.AlterIndex t) y h = refl
+drops_change f (s.Upsert t) y h = refl
+drops_change f (s.Delete t) y h = refl
+drops_change f (s.Select t) y h = cc
+drops_change f (s.Explain t) y h = cc
+
+-- a SELECT under others' entries
+select_since : (n : ℕ) (st : QueryState) (k k' : Known) → Passes k k' → scan.IsSince n st k → scan.IsSince n st k'
+select_since n (reading.Opening rows) k k' h i = longer k k' n (of_passes k k' h) i
+select_since n (reading.Looking x a) k k' h i = i
+select_since n (reading.Consulting x r e) k k' h i = i
+select_since n (reading.Fixing x r e) k k' h i = i
+select_since n (reading.Settling x r e) k k' h i = i
+select_since n (reading.Closing p e) k k' h i = i
+select_since n reading.Over k k' h i = tt
+
+-- a SELECT that has made no step
+new_select : (sound : Type 0) (q : Query) (scn : Option ℕ) (st : QueryState) (k : Known) → scan.IsNew st → scan.IsBound k q → IsScn scn → scan.Fits sound q scn st k × scan.IsGoing st × ([] ≡ scan.opened st) × ((n : ℕ) → n ≤ length k.seen → scan.IsSince n st k)
+new_select sound q scn (reading.Opening rows) k new bound ok = ((new, bound, ok), tt, refl, λ n low. low)
+new_select sound q scn (reading.Looking x a) k new bound ok = absurd new
+new_select sound q scn (reading.Consulting x r e) k new bound ok = absurd new
+new_select sound q scn (reading.Fixing x r e) k new bound ok = absurd new
+new_select sound q scn (reading.Settling x r e) k new bound ok = absurd new
+new_select sound q scn (reading.Closing p e) k new bound ok = absurd new
+new_select sound q scn reading.Over k new bound ok = absurd new
+
 module _ (sound : Type 0) (before : ℕ) (asked : Asked) where
+  first_low : (a : Answered) → a.first ≡ asked.first → asked.first ≤ a.first
+  first_low a e = omega arith
+
+  first_within : (k : Known) (a : Answered) → asked.first ≤ length k.seen → a.first ≡ asked.first → a.first ≤ length k.seen
+  first_within k a low e = omega arith
+
   state_passes : (st : ItemState) (k k' : Known) → Passes k k' → FitsState sound before asked st k → FitsState sound before asked st k'
   state_passes (state.Finding x) k k' h f = f
   state_passes (state.Changing x run room) k k' h f =
@@ -140,6 +190,22 @@ module _ (sound : Type 0) (before : ℕ) (asked : Asked) where
           definition = j.definition;
           fits = defining.fits-kept sound run.definition run.state k k' h j.fits;
           going = j.going;
+        },
+      )
+  state_passes (state.Selecting x run) k k' h f =
+      let j = f.1 in (
+        f.0,
+        record {
+          select = j.select;
+          is = j.is;
+          found = j.found;
+          bound = bound_later k k' before j.found j.select.table (of_passes k k' h) j.bound;
+          planned = j.planned;
+          scn = j.scn;
+          fits = scanning.fits-kept sound (query_of run.scan.query) run.scan.scn run.scan.state k k' h j.fits;
+          going = j.going;
+          since = select_since before run.scan.state k k' h j.since;
+          first = select_since asked.first run.scan.state k k' h j.first;
         },
       )
 
@@ -205,8 +271,9 @@ module _ (sound : Type 0) (before : ℕ) (asked : Asked) where
         acts = t.acts;
         ran = t.ran;
         told = (
-          c.0,
-          right.is_changed j.upsert j.found r (subst (λ (y : Statement). IsRead (seen_piece asked.piece) (Ok y)) j.is f.state.0.read) f.state.0.free bound j.right (ended_plain j.found.table.id (one_change j.found j.upsert) own k' r ended) c.1,
+          first_low a c.0,
+          first_within k' a (longer k k' asked.first later f.within) c.0,
+          right.is_changed j.upsert j.found r (subst (λ (y : Statement). IsRead (seen_piece asked.piece) (Ok y)) j.is f.state.0.read) (f.state.0.free (ap changes j.is)) bound j.right (ended_plain j.found.table.id (one_change j.found j.upsert) own k' r ended) c.1,
         );
       }
   change_is_over x old new room k k' (Err e) a f t c =
@@ -216,7 +283,7 @@ module _ (sound : Type 0) (before : ℕ) (asked : Asked) where
       let F : TableId × List Change → Type 0 = λ q. batch.FaultIs sound q.0 q.1 e k' × batch.HasLeft q.0 q.1 e own k' in
       let left = subst F (λ i. (j.table i, j.changes i)) t.told.1 in
       let bound = subst (λ (n : ℕ). IsBoundTo k'.base k'.seen n j.found j.upsert.table) (sym c.0) (bound_later k k' asked.first j.found j.upsert.table later j.bound) in
-      record { acts = t.acts; ran = t.ran; told = (c.0, not_changed x j.upsert j.found e k' own a j.is f.state.0.read f.state.0.free bound j.right left (t.since before j.since) c.1) }
+      record { acts = t.acts; ran = t.ran; told = (first_low a c.0, first_within k' a (longer k k' asked.first later f.within) c.0, not_changed x j.upsert j.found e k' own a j.is f.state.0.read (f.state.0.free (ap changes j.is)) bound j.right left (t.since before j.since) c.1) }
 
   -- 4. A definition goes on, and is over
 
@@ -256,7 +323,7 @@ module _ (sound : Type 0) (before : ℕ) (asked : Asked) where
       record {
         acts = t.acts;
         ran = t.ran;
-        told = (c.0, right.is_dropped x j.found m old.definition f.state.0.read f.state.0.free bound j.right j.definition (defined_plain sound old.definition (outline t.acts) k' m t.told.1) c.1);
+        told = (first_low a c.0, first_within k' a (longer k k' asked.first later f.within) c.0, right.is_dropped x j.found m old.definition f.state.0.read (f.state.0.free (drops_change j.found x old.definition j.definition)) bound j.right j.definition (defined_plain sound old.definition (outline t.acts) k' m t.told.1) c.1);
       }
   drop_is_over x old new k k' (Err e) a f t c =
       let later = of_ran k k' t.acts t.ran in
@@ -267,7 +334,69 @@ module _ (sound : Type 0) (before : ℕ) (asked : Asked) where
       record {
         acts = t.acts;
         ran = t.ran;
-        told = (c.0, not_dropped x j.found e old.definition k' (outline t.acts) a f.state.0.read f.state.0.free bound j.right j.definition t.told.1.0 (t.since before (omega arith)) t.told.1.1 c.1);
+        told = (first_low a c.0, first_within k' a (longer k k' asked.first later f.within) c.0, not_dropped x j.found e old.definition k' (outline t.acts) a f.state.0.read (f.state.0.free (drops_change j.found x old.definition j.definition)) bound j.right j.definition t.told.1.0 (t.since before (omega arith)) t.told.1.1 c.1);
+      }
+
+  -- a SELECT goes on, and is over
+
+  pub select_goes_on : (x : Statement) (old new : SelectRun) (k k' : Known) (acts : List Act) → Fits sound before asked (state.Selecting x old) k → new.scan.query ≡ old.scan.query → new.scan.scn ≡ old.scan.scn → Ran k k' acts
+      → scan.Fits sound (query_of old.scan.query) old.scan.scn new.scan.state k' → scan.IsGoing new.scan.state → scan.IsSince before new.scan.state k' → scan.IsSince asked.first new.scan.state k' → Fits sound before asked (state.Selecting x new) k'
+  select_goes_on x old new k k' acts f query scn ran fits going since first =
+      let later = of_ran k k' acts ran in
+      let j = f.state.1 in
+      let F : Planned × Option ℕ → Type 0 = λ q. scan.Fits sound (query_of q.0) q.1 new.scan.state k' in
+      record {
+        begins = f.begins;
+        within = longer k k' asked.first later f.within;
+        state = (
+          f.state.0,
+          record {
+            select = j.select;
+            is = j.is;
+            found = j.found;
+            bound = bound_later k k' before j.found j.select.table later j.bound;
+            planned = subst (λ (z : Planned). right.IsAskedOf j.found j.select z) (sym query) j.planned;
+            scn = scn ∙ j.scn;
+            fits = subst F (λ i. (sym query i, sym scn i)) fits;
+            going = going;
+            since = since;
+            first = first;
+          },
+        );
+      }
+
+  pub select_is_over : (x : Statement) (old new : SelectRun) (k k' : Known) (r : Result Selected QueryFault) (a : Answered) → Fits sound before asked (state.Selecting x old) k
+      → SelectTurns sound old.scan.query old.scan.scn old.scan.state k new.scan.state k' (ended.Over r) → right.IsSelection asked x r a → Turns sound before asked (state.Selecting x old) k k' (turn.Over a)
+  select_is_over x old new k k' (Ok r) a f t c =
+      let later = of_ran k k' t.acts t.ran in
+      let j = f.state.1 in
+      let own = scan.opened old.scan.state ++ outline t.acts in
+      let bound = bound_later k k' before j.found j.select.table later j.bound in
+      let out = outcome_plain sound old.scan.query asked.settings.scn own k' (Ok r) (subst (λ (z : Option ℕ). selecting.IsOutcome sound old.scan.query z own k' (Ok r)) j.scn t.told.1) in
+      let first = c.first in
+      let since = t.since asked.first j.first in
+      let ends = t.told.1.2 in
+      let last = t.told.1.3 in
+      record {
+        acts = t.acts;
+        ran = t.ran;
+        told = (omega arith, omega arith, right.is_selected j.select j.found old.scan.query r (subst (λ (y : Statement). IsRead (seen_piece asked.piece) (Ok y)) j.is f.state.0.read) bound j.planned out c);
+      }
+  select_is_over x old new k k' (Err e) a f t c =
+      let later = of_ran k k' t.acts t.ran in
+      let j = f.state.1 in
+      let own = scan.opened old.scan.state ++ outline t.acts in
+      let bound = bound_later k k' before j.found j.select.table later j.bound in
+      let out = outcome_plain sound old.scan.query asked.settings.scn own k' (Err e) (subst (λ (z : Option ℕ). selecting.IsOutcome sound old.scan.query z own k' (Err e)) j.scn t.told.1) in
+      let F : Statement → Type 0 = λ y. right.Refuses a (right.query_refusal (table_named y) e) asked.settings ⊎ right.Refuses a refusal.Memory asked.settings in
+      record {
+        acts = t.acts;
+        ran = t.ran;
+        told = (
+          first_low a c.0,
+          first_within k' a (longer k k' asked.first later f.within) c.0,
+          right.is_not_selected j.select j.found old.scan.query e (subst (λ (y : Statement). IsRead (seen_piece asked.piece) (Ok y)) j.is f.state.0.read) bound j.planned out (query_since_plain before e k' (t.since before j.since)) (subst F j.is c.1),
+        );
       }
 
   -- 5. Its table was found
@@ -294,16 +423,16 @@ module _ (sound : Type 0) (before : ℕ) (asked : Asked) where
   may_drop k f (s.DropIndex i) y h = one_index k f.table.id (index_of f.indexes i.name) y h
   may_drop k f x y h = cc
 
-  plain_told : (x : Statement) (f : Found) (k : Known) (own : List Act) (r : Reply) (a : Answered) → IsRead (seen_piece asked.piece) (Ok x) → asked.settings.scn ≡ None → IsBoundTo k.base k.seen a.first f (table_named x)
+  plain_told : (x : Statement) (f : Found) (k : Known) (own : List Act) (r : Reply) (a : Answered) → IsRead (seen_piece asked.piece) (Ok x) → MayRun asked.settings x → IsBoundTo k.base k.seen a.first f (table_named x)
       → (r ≡ reply.Refused refusal.Memory) ⊎ ((fault : BindFault) × IsFirst (faults_in f x) fault × (r ≡ reply.Refused (right.bind_refusal fault))) → Says a r asked.settings → own ≡ [] → IsRight sound (plain k) before own asked.settings (seen_piece asked.piece) a
   plain_told x f k own r a read free bound (inl e) says quiet = right.is_at_once (right.is_lacking (says.0 ∙ e, says.1, says.2, says.3)) quiet
   plain_told x f k own r a read free bound (inr e) says quiet = right.is_wrong x f e.0 read free bound e.1 (says.0 ∙ e.2, says.1, says.2, says.3) quiet
 
-  told_without : (x : Statement) (f : Found) (k : Known) (own : List Act) (r : Reply) (a : Answered) → IsRead (seen_piece asked.piece) (Ok x) → asked.settings.scn ≡ None → IsBoundTo k.base k.seen a.first f (table_named x) → IsTold f x r
+  told_without : (x : Statement) (f : Found) (k : Known) (own : List Act) (r : Reply) (a : Answered) → IsRead (seen_piece asked.piece) (Ok x) → MayRun asked.settings x → IsBoundTo k.base k.seen a.first f (table_named x) → IsTold f x r
       → Says a r asked.settings → own ≡ [] → IsRight sound (plain k) before own asked.settings (seen_piece asked.piece) a
   told_without (s.DropIndex i) f k own r a read free bound (inl e) says quiet = right.is_at_once (right.is_lacking (says.0 ∙ e, says.1, says.2, says.3)) quiet
   told_without (s.DropIndex i) f k own r a read free bound (inr (inl e)) says quiet = right.is_wrong (s.DropIndex i) f e.0 read free bound e.1 (says.0 ∙ e.2, says.1, says.2, says.3) quiet
-  told_without (s.DropIndex i) f k own r a read free bound (inr (inr e)) says quiet = right.is_index_absent i f read free bound e.0 e.1 (says.0 ∙ e.2, says.1, says.2, says.3) quiet
+  told_without (s.DropIndex i) f k own r a read free bound (inr (inr e)) says quiet = right.is_index_absent i f read (free refl) bound e.0 e.1 (says.0 ∙ e.2, says.1, says.2, says.3) quiet
   told_without (s.CreateTable y) f k own r a read free bound h says quiet = plain_told (s.CreateTable y) f k own r a read free bound h says quiet
   told_without (s.DropTable y) f k own r a read free bound h says quiet = plain_told (s.DropTable y) f k own r a read free bound h says quiet
   told_without (s.CreateIndex y) f k own r a read free bound h says quiet = plain_told (s.CreateIndex y) f k own r a read free bound h says quiet
@@ -313,7 +442,7 @@ module _ (sound : Type 0) (before : ℕ) (asked : Asked) where
   told_without (s.Select y) f k own r a read free bound h says quiet = plain_told (s.Select y) f k own r a read free bound h says quiet
   told_without (s.Explain y) f k own r a read free bound h says quiet = plain_told (s.Explain y) f k own r a read free bound h says quiet
 
-  goes_from : (x : Statement) (f : Found) (k : Known) (st : ItemState) → Fits sound before asked (state.Finding x) k → IsFound k.base k.seen f → f.table.name ≡ table_named x → FollowsTo x f st → Fits sound before asked st k × ([] ≡ begun st)
+  goes_from : (x : Statement) (f : Found) (k : Known) (st : ItemState) → Fits sound before asked (state.Finding x) k → IsFound k.base k.seen f → f.table.name ≡ table_named x → FollowsTo asked.settings.scn x f st → Fits sound before asked st k × ([] ≡ begun st)
   goes_from x f k (state.Finding y) fits found named to = absurd to
   goes_from x f k (state.Changing y run room) fits found named (same, n) =
       let low = fits.begins in
@@ -356,6 +485,36 @@ module _ (sound : Type 0) (before : ℕ) (asked : Asked) where
         },
         refl,
       )
+  goes_from x f k (state.Selecting y run) fits found named (same, n) =
+      let low = fits.begins in
+      let b = bound_here k (table_named x) f fits.within found named in
+      let wide : IsBoundTo k.base k.seen before f (table_named x) = record { place = b.place; from = (let u = b.from in omega arith); within = b.within; found = b.found; named = b.named } in
+      let is : run.scan.query ≡ record { table = f.table; asked = Rattle.px_plan.specs.Asked.asked_of n.2.1.0 } = n.2.1.2 in
+      let bound : scan.IsBound k (query_of run.scan.query) = subst (λ (z : Planned). scan.IsBound k (query_of z)) (sym is) (record { drawn = found.drawn; is = λ t has. sym (some_same f.table t (sym found.table ∙ has)) }) in
+      let valid : IsScn run.scan.scn = subst IsScn (sym n.3) n.5 in
+      let new = new_select sound (query_of run.scan.query) run.scan.scn run.scan.state k n.4 bound valid in
+      let within = fits.within in (
+        record {
+          begins = fits.begins;
+          within = fits.within;
+          state = (
+            subst (λ (z : Statement). IsAsking asked z) (sym same) fits.state,
+            record {
+              select = n.0;
+              is = same ∙ n.1;
+              found = f;
+              bound = subst (λ (z : Statement). IsBoundTo k.base k.seen before f (table_named z)) n.1 wide;
+              planned = n.2;
+              scn = n.3;
+              fits = new.0;
+              going = new.1;
+              since = new.3 before (omega arith);
+              first = new.3 asked.first within;
+            },
+          );
+        },
+        new.2,
+      )
 
   fits_later : (x : Statement) (k k' : Known) → Later k k' → Fits sound before asked (state.Finding x) k → Fits sound before asked (state.Finding x) k'
   fits_later x k k' h f = record { begins = f.begins; within = longer k k' asked.first h f.within; state = f.state }
@@ -370,7 +529,7 @@ module _ (sound : Type 0) (before : ℕ) (asked : Asked) where
       let ran = ran-sees k k' did.finds.sees in
       let later = fits_later x k k' (of_ran k k' [] ran) fits in
       let b = subst (λ (n : ℕ). IsBoundTo k'.base k'.seen n f (table_named x)) (sym to.0) (bound_here k' (table_named x) f later.within did.found did.name_is) in
-      record { acts = []; ran = ran; told = (to.0, told_without x f k' [] to.1.0 a fits.state.read fits.state.free b to.1.1 to.1.2 refl) }
+      record { acts = []; ran = ran; told = (first_low a to.0, first_within k' a later.within to.0, told_without x f k' [] to.1.0 a fits.state.read fits.state.free b to.1.1 to.1.2 refl) }
 
   -- 6. It was not
 
@@ -416,7 +575,7 @@ module _ (sound : Type 0) (before : ℕ) (asked : Asked) where
   found_none x f k k' r a fits h first told says =
       let q = quiet_find x f k k' h in
       let ran = ran-sees k k' q.1 in
-      record { acts = []; ran = ran; told = (first, unfound_so x f k k' r a [] (fits_later x k k' (of_ran k k' [] ran) fits) q.0 first told says refl) }
+      record { acts = []; ran = ran; told = (first_low a first, first_within k' a (fits_later x k k' (of_ran k k' [] ran) fits).within first, unfound_so x f k k' r a [] (fits_later x k k' (of_ran k k' [] ran) fits) q.0 first told says refl) }
 
 -- 7. Commands
 

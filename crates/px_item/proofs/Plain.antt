@@ -1,5 +1,5 @@
 -- What is told of the trail alone doesn't depend on whether others act.
-use Rattle.std.proofs.Common.{ℕ, ◌≡◌, Option, None, Some, List}
+use Rattle.std.proofs.Common.{ℕ, ◌≡◌, Option, None, Some, Result, Ok, Err, List}
 use Rattle.px_values.specs.declared.change.Change.{Change}
 use Rattle.px_values.specs.declared.limit.Limit.{Limit}
 use Rattle.px_values.specs.declared.limit.Limit.TheVariants as bound
@@ -23,6 +23,14 @@ use Rattle.px_batch.specs.declared.batch.BatchFault.TheVariants as unmade
 use Rattle.px_defining.specs.Turns as define
 use Rattle.px_defining.specs.declared.define.DefineFault.{DefineFault}
 use Rattle.px_defining.specs.declared.define.DefineFault.TheVariants as undone
+use Rattle.px_gather.specs.Query.{Query}
+use Rattle.px_planned.specs.Queries.{query_of}
+use Rattle.px_planned.specs.declared.planned.Planned.{Planned}
+use Rattle.px_scan.specs.Faults.{IsJoined, MadeSince, QueryFaultIs}
+use Rattle.px_scan.specs.declared.answer.QueryFault.{QueryFault}
+use Rattle.px_scan.specs.declared.answer.QueryFault.TheVariants as unread
+use Rattle.px_select.specs.Selecting.{IsOutcome}
+use Rattle.px_select.specs.declared.run.Selected.{Selected}
 use Rattle.px_item.specs.Right.{plain}
 
 limit_plain : (sound : Type 0) (t : ℕ) (cs : List Change) (which : Limit) (k : Known) → batch_limit sound t cs which k → batch_limit sound t cs which (plain k)
@@ -122,3 +130,33 @@ made_plain sound (d.DropIndex t i) k m h = h
 
 pub defined_plain : (sound : Type 0) (x : Definition) (own : List Act) (k : Known) (m : Made) → define.HasDefined sound x own k m → define.HasDefined sound x own (plain k) m
 defined_plain sound x own k m h = record { one = h.one; made = made_plain sound x k m h.made; at = h.at }
+
+joined_plain : (q : Query) (k : Known) → IsJoined q k → IsJoined q (plain k)
+joined_plain q k j = record { found = j.found; within = j.within; is = j.is; table = j.table; stamp = j.stamp; joins = j.joins }
+
+query_plain : (q : Query) (scn : Option ℕ) (f : QueryFault) (k : Known) → QueryFaultIs q scn f k → QueryFaultIs q scn f (plain k)
+query_plain q None unread.NoTable k h = h
+query_plain q (Some n) unread.NoTable k h = h
+query_plain q None (unread.BelowHorizon b) k h = absurd h
+query_plain q (Some n) (unread.BelowHorizon b) k h = h
+query_plain q None unread.IndexJoin k h = joined_plain q k h
+query_plain q (Some n) unread.IndexJoin k h = joined_plain q k h
+query_plain q None unread.ReadFault k h = h
+query_plain q (Some n) unread.ReadFault k h = h
+query_plain q None unread.WriteFault k h = h
+query_plain q (Some n) unread.WriteFault k h = h
+query_plain q None (unread.Damaged file place) k h = h
+query_plain q (Some n) (unread.Damaged file place) k h = h
+query_plain q None (unread.Closed call) k h = h
+query_plain q (Some n) (unread.Closed call) k h = h
+query_plain q None unread.Memory k h = h
+query_plain q (Some n) unread.Memory k h = h
+
+pub query_since_plain : (n : ℕ) (f : QueryFault) (k : Known) → MadeSince n f k → MadeSince n f (plain k)
+query_since_plain n unread.ReadFault k h = h
+query_since_plain n unread.WriteFault k h = h
+query_since_plain n f k h = h
+
+pub outcome_plain : (sound : Type 0) (p : Planned) (scn : Option ℕ) (own : List Act) (k : Known) (r : Result Selected QueryFault) → IsOutcome sound p scn own k r → IsOutcome sound p scn own (plain k) r
+outcome_plain sound p scn own k (Ok a) h = (record { point = h.0.point; is_point = h.0.is_point; at = h.0.at; path = h.0.path; chosen = h.0.chosen; answer = h.0.answer }, h.1, h.2, h.3)
+outcome_plain sound p scn own k (Err f) h = (query_plain (query_of p) scn f k h.0, h.1)

@@ -28,6 +28,18 @@ use Rattle.px_resolve.specs.Answers.{IsFirst}
 use Rattle.px_resolve.specs.declared.fault.BindFault.{BindFault}
 use Rattle.px_resolve.specs.declared.fault.BindFault.TheVariants as bind
 use Rattle.px_create.specs.Indexes.{index_of}
+use Rattle.px_ast.specs.declared.statement.Select.{Select}
+use Rattle.px_bind.specs.Queries.{IsQuery, select_faults}
+use Rattle.px_bind.specs.declared.request.Query.{Query}
+use Rattle.px_plan.specs.Asked.{asked_of}
+use Rattle.px_planned.specs.declared.planned.Planned.{Planned}
+use Rattle.px_scan.specs.Faults as scan
+use Rattle.px_scan.specs.Turns as scanning
+use Rattle.px_scan.specs.declared.answer.QueryFault.{QueryFault}
+use Rattle.px_scan.specs.declared.answer.QueryFault.TheVariants as unread
+use Rattle.px_select.specs.Selecting as selecting
+use Rattle.px_select.specs.declared.run.Selected.{Selected}
+use Rattle.px_calls.specs.Requires.{IsScn}
 use Rattle.px_bind.specs.Requests.{faults_in}
 use Rattle.px_bind.specs.Upserts.{change_of, upsert_faults}
 use Rattle.px_trail.specs.declared.entry.Act.{Act}
@@ -137,12 +149,26 @@ abbrev pub drops_index : Statement → Bool
 drops_index (s.DropIndex i) = true
 drops_index x = false
 
--- the statements whose answers are built. Each of them changes something
+abbrev pub is_select : Statement → Bool
+is_select (s.Select q) = true
+is_select x = false
+
+-- the statements whose answers are built
 abbrev pub is_built : Statement → Bool
 is_built (s.Upsert u) = true
 is_built (s.DropTable t) = true
 is_built (s.DropIndex i) = true
+is_built (s.Select q) = true
 is_built x = false
+
+-- the statements that change something, which none may under an SCN
+abbrev pub changes : Statement → Bool
+changes (s.Select q) = false
+changes (s.Explain q) = false
+changes x = true
+
+abbrev pub MayRun : Settings → Statement → Type 0
+MayRun st x = changes x ≡ true → st.scn ≡ None
 
 -- the statement's table doesn't stand
 abbrev pub table_absent : Statement → Reply
@@ -218,7 +244,7 @@ pub data IsAtOnce (st : Settings) (p : SeenPiece) (a : Answered) : Type 0 where
   is_long : p.kind ≡ kinds.Statement → most_of bound.Statement < length p.text → Refuses a (refusal.Limit bound.Statement) st → IsAtOnce st p a
   is_not_read : (e : SyntaxFault) → IsRead p (Err e) → Refuses a (syntax_refusal e) st → IsAtOnce st p a
   is_not_built : (x : Statement) → IsRead p (Ok x) → is_built x ≡ false → Refuses a refusal.Form st → IsAtOnce st p a
-  is_under_scn : (x : Statement) → IsRead p (Ok x) → is_some st.scn ≡ true → Refuses a refusal.UnderScn st → IsAtOnce st p a
+  is_under_scn : (x : Statement) → IsRead p (Ok x) → changes x ≡ true → is_some st.scn ≡ true → Refuses a refusal.UnderScn st → IsAtOnce st p a
   is_no_command : (e : CommandFault) → IsCommandRead p (Err e) → Refuses a (command_refusal e) st → IsAtOnce st p a
   is_command : (c : Command) → IsCommandRead p (Ok c) → is_command_built c ≡ true → SaysOf st c a → IsAtOnce st p a
   is_command_not_built : (c : Command) → IsCommandRead p (Ok c) → is_command_built c ≡ false → Refuses a refusal.Form st → IsAtOnce st p a
@@ -243,12 +269,34 @@ pub record IsLacking (k : Known) (first : ℕ) (name : List ℕ) : Type 0 where
 abbrev pub one_change : Found → Upsert → List Change
 one_change f u = change_of f.table u ∷ []
 
+-- the query that a SELECT asks for, with the table that it was bound to
+abbrev pub IsAskedOf : Found → Select → Planned → Type 0
+IsAskedOf f q x = (select_faults f.table.columns q ≡ []) × ((query : Query) × IsQuery f.table q query × (x ≡ record { table = f.table; asked = asked_of query }))
+
+abbrev pub query_refusal : List ℕ → QueryFault → Refusal
+query_refusal name unread.NoTable = refusal.NoTable name
+query_refusal name (unread.BelowHorizon h) = refusal.BelowHorizon h
+query_refusal name unread.IndexJoin = refusal.IndexJoin
+query_refusal name unread.ReadFault = refusal.ReadFault
+query_refusal name unread.WriteFault = refusal.WriteFault
+query_refusal name (unread.Damaged file place) = refusal.Damaged file place
+query_refusal name (unread.Closed call) = refusal.Closed call
+query_refusal name unread.Memory = refusal.Memory
+
+-- the rows that are shown, each with its place, and the place of the point's opening
+pub record ShowsRows (a : Answered) (r : Selected) (st : Settings) : Type 0 where
+  pub rows : a.reply ≡ reply.Rows r.shown.rows
+  pub receipts : a.receipts ≡ []
+  pub places : a.places ≡ r.shown.places
+  pub first : a.first ≡ r.first
+  pub after : a.after ≡ st
+
 -- what is right, where `own` is what the seat began, ended, opened, closed and defined for it since it had seen the first `before` entries
 pub data IsRight (sound : Type 0) (k : Known) (before : ℕ) (own : List Act) (st : Settings) (p : SeenPiece) (a : Answered) : Type 0 where
   is_at_once : IsAtOnce st p a → own ≡ [] → IsRight sound k before own st p a
-  is_unfound : (x : Statement) → IsRead p (Ok x) → st.scn ≡ None → IsLacking k a.first (table_named x) → Says a (table_absent x) st → own ≡ [] → IsRight sound k before own st p a
+  is_unfound : (x : Statement) → IsRead p (Ok x) → MayRun st x → IsLacking k a.first (table_named x) → Says a (table_absent x) st → own ≡ [] → IsRight sound k before own st p a
   is_closed : (x : Statement) (call : ℕ) → IsRead p (Ok x) → ClosedBy call k → Refuses a (refusal.Closed call) st → own ≡ [] → IsRight sound k before own st p a
-  is_wrong : (x : Statement) (f : Found) (fault : BindFault) → IsRead p (Ok x) → st.scn ≡ None → IsBoundTo k.base k.seen a.first f (table_named x) → IsFirst (faults_in f x) fault → Refuses a (bind_refusal fault) st → own ≡ []
+  is_wrong : (x : Statement) (f : Found) (fault : BindFault) → IsRead p (Ok x) → MayRun st x → IsBoundTo k.base k.seen a.first f (table_named x) → IsFirst (faults_in f x) fault → Refuses a (bind_refusal fault) st → own ≡ []
       → IsRight sound k before own st p a
   -- an UPSERT is one batch of one row, and its receipt is told
   is_changed : (u : Upsert) (f : Found) (r : Receipt) → IsRead p (Ok (s.Upsert u)) → st.scn ≡ None → IsBoundTo k.base k.seen a.first f u.table → upsert_faults f.table u ≡ [] → batch.HasEnded f.table.id (one_change f u) own k r
@@ -262,6 +310,11 @@ pub data IsRight (sound : Type 0) (k : Known) (before : ℕ) (own : List Act) (s
       → define.MadeSince before fault k → own ≡ [] → Says a (undefined x fault) st → IsRight sound k before own st p a
   is_index_absent : (i : DropIndex) (f : Found) → IsRead p (Ok (s.DropIndex i)) → st.scn ≡ None → IsBoundTo k.base k.seen a.first f i.table → i.if_exists ≡ true → index_of f.indexes i.name ≡ None → Says a (reply.Defined defined.IndexAbsent) st → own ≡ []
       → IsRight sound k before own st p a
+  -- a SELECT is answered at a point, by a path that is chosen there: exactly, under an SCN; and else as it is current
+  is_selected : (q : Select) (f : Found) (x : Planned) (r : Selected) → IsRead p (Ok (s.Select q)) → IsBoundTo k.base k.seen before f q.table → IsAskedOf f q x → selecting.IsOutcome sound x st.scn own k (Ok r) → ShowsRows a r st
+      → IsRight sound k before own st p a
+  is_not_selected : (q : Select) (f : Found) (x : Planned) (fault : QueryFault) → IsRead p (Ok (s.Select q)) → IsBoundTo k.base k.seen before f q.table → IsAskedOf f q x → selecting.IsOutcome sound x st.scn own k (Err fault) → scan.MadeSince before fault k
+      → Refuses a (query_refusal q.table fault) st ⊎ Refuses a refusal.Memory st → IsRight sound k before own st p a
 
 -- ---- parts of the way there
 
@@ -270,7 +323,7 @@ IsCommanded st c first a = (a.first ≡ first) × (((is_command_built c ≡ true
 
 abbrev pub ReadsAs : Settings → SeenPiece → ℕ → Read → Type 0
 ReadsAs st p first (read.Told a) = IsAtOnce st p a × (a.first ≡ first)
-ReadsAs st p first (read.Asks asked x) = (seen_piece asked.piece ≡ p) × (asked.settings ≡ st) × (asked.first ≡ first) × IsRead p (Ok x) × (st.scn ≡ None)
+ReadsAs st p first (read.Asks asked x) = (seen_piece asked.piece ≡ p) × (asked.settings ≡ st) × (asked.first ≡ first) × IsRead p (Ok x) × MayRun st x
 
 abbrev pub HasRoomForOne : Vec Receipt Global → Type 0
 HasRoomForOne v = (v.items ≡ []) × (0 < vec_capacity v)
@@ -279,6 +332,7 @@ HasRoomForOne v = (v.items ≡ []) × (0 < vec_capacity v)
 abbrev pub IsBatchOf : Table → TableId → Change → Next → Type 0
 IsBatchOf x t c (next.Change run room) = (run.table ≡ t) × (run.changes ≡ c ∷ []) × (run.state ≡ batches.Beginning) × FitsTable x c × HasRoomForOne room
 IsBatchOf x t c (next.Drop run) = ⊥
+IsBatchOf x t c (next.Select run) = ⊥
 IsBatchOf x t c (next.Tell r) = r ≡ reply.Refused refusal.Memory
 
 abbrev pub IsTold : Found → Statement → Reply → Type 0
@@ -286,20 +340,28 @@ IsTold f (s.DropIndex i) r = (r ≡ reply.Refused refusal.Memory) ⊎ (((fault :
     ⊎ ((i.if_exists ≡ true) × (index_of f.indexes i.name ≡ None) × (r ≡ reply.Defined defined.IndexAbsent)))
 IsTold f x r = (r ≡ reply.Refused refusal.Memory) ⊎ ((fault : BindFault) × IsFirst (faults_in f x) fault × (r ≡ reply.Refused (bind_refusal fault)))
 
+-- what comes of a query on this table
+abbrev pub IsPlannedOf : Table → Option ℕ → Query → Next → Type 0
+IsPlannedOf t scn q (next.Select run) = (run.scan.query ≡ record { table = t; asked = asked_of q }) × (run.scan.scn ≡ scn) × scanning.IsNew run.scan.state
+IsPlannedOf t scn q (next.Tell r) = r ≡ reply.Refused refusal.Memory
+IsPlannedOf t scn q n = ⊥
+
 -- what comes of a statement whose table was found
-abbrev pub IsNext : Found → Statement → Next → Type 0
-IsNext f x (next.Change run room) = (u : Upsert) × (x ≡ s.Upsert u) × (upsert_faults f.table u ≡ []) × (run.table ≡ f.table.id) × (run.changes ≡ one_change f u) × (run.state ≡ batches.Beginning) × FitsTable f.table (change_of f.table u) × HasRoomForOne room
-IsNext f x (next.Drop run) = (faults_in f x ≡ []) × (drop_of f x ≡ Some run.definition) × (run.state ≡ defines.Defining)
-IsNext f x (next.Tell r) = IsTold f x r
+abbrev pub IsNext : Option ℕ → Found → Statement → Next → Type 0
+IsNext scn f x (next.Change run room) = (u : Upsert) × (x ≡ s.Upsert u) × (upsert_faults f.table u ≡ []) × (run.table ≡ f.table.id) × (run.changes ≡ one_change f u) × (run.state ≡ batches.Beginning) × FitsTable f.table (change_of f.table u) × HasRoomForOne room
+IsNext scn f x (next.Drop run) = (faults_in f x ≡ []) × (drop_of f x ≡ Some run.definition) × (run.state ≡ defines.Defining)
+IsNext scn f x (next.Select run) = (q : Select) × (x ≡ s.Select q) × IsAskedOf f q run.scan.query × (run.scan.scn ≡ scn) × scanning.IsNew run.scan.state × IsScn scn
+IsNext scn f x (next.Tell r) = IsTold f x r
 
 -- the state in which a statement goes on whose table was found
-abbrev pub FollowsTo : Statement → Found → ItemState → Type 0
-FollowsTo x f (state.Finding y) = ⊥
-FollowsTo x f (state.Changing y run room) = (y ≡ x) × IsNext f x (next.Change run room)
-FollowsTo x f (state.Dropping y run) = (y ≡ x) × IsNext f x (next.Drop run)
+abbrev pub FollowsTo : Option ℕ → Statement → Found → ItemState → Type 0
+FollowsTo scn x f (state.Finding y) = ⊥
+FollowsTo scn x f (state.Changing y run room) = (y ≡ x) × IsNext scn f x (next.Change run room)
+FollowsTo scn x f (state.Dropping y run) = (y ≡ x) × IsNext scn f x (next.Drop run)
+FollowsTo scn x f (state.Selecting y run) = (y ≡ x) × IsNext scn f x (next.Select run)
 
 abbrev pub Follows : Asked → Statement → Found → ItemTurn → Type 0
-Follows asked x f (turn.Stepped r) = (r.asked ≡ asked) × FollowsTo x f r.state
+Follows asked x f (turn.Stepped r) = (r.asked ≡ asked) × FollowsTo asked.settings.scn x f r.state
 Follows asked x f (turn.Waiting r) = ⊥
 Follows asked x f (turn.Over a) = (a.first ≡ asked.first) × ((r : Reply) × IsTold f x r × Says a r asked.settings)
 
@@ -313,3 +375,7 @@ IsChanged asked x (Err f) a = (a.first ≡ asked.first) × (Refuses a (batch_ref
 abbrev pub IsDropped : Asked → Statement → Result Made DefineFault → Answered → Type 0
 IsDropped asked x (Ok m) a = (a.first ≡ asked.first) × Says a (reply.Defined (word_of x)) asked.settings
 IsDropped asked x (Err f) a = (a.first ≡ asked.first) × (Says a (undefined x f) asked.settings ⊎ Refuses a refusal.Memory asked.settings)
+
+abbrev pub IsSelection : Asked → Statement → Result Selected QueryFault → Answered → Type 0
+IsSelection asked x (Ok r) a = ShowsRows a r asked.settings
+IsSelection asked x (Err f) a = (a.first ≡ asked.first) × (Refuses a (query_refusal (table_named x) f) asked.settings ⊎ Refuses a refusal.Memory asked.settings)

@@ -5,6 +5,10 @@ use Rattle.px_ast.specs.declared.statement.Statement.{Statement}
 use Rattle.px_ast.specs.declared.statement.Statement.TheVariants as s
 use Rattle.px_ast.specs.declared.statement.Upsert.{Upsert}
 use Rattle.px_tables.specs.declared.found.Found.{Found}
+use Rattle.px_ast.specs.declared.statement.Select.{Select}
+use Rattle.px_planned.specs.Queries.{query_of}
+use Rattle.px_scan.specs.Turns as scan
+use Rattle.px_select.specs.declared.run.SelectRun.{SelectRun}
 use Rattle.px_bind.specs.Requests.{faults_in}
 use Rattle.px_bind.specs.Upserts.{upsert_faults}
 use Rattle.px_trail.specs.declared.entry.Act.{Act}
@@ -22,12 +26,12 @@ use Rattle.px_item.specs.declared.item.ItemState.{ItemState}
 use Rattle.px_item.specs.declared.item.ItemState.TheVariants as state
 use Rattle.px_item.specs.declared.item.ItemTurn.{ItemTurn}
 use Rattle.px_item.specs.declared.item.ItemTurn.TheVariants as turn
-use Rattle.px_item.specs.Right.{HasRoomForOne, IsAtOnce, IsBoundTo, IsRead, IsRight, drop_of, one_change, plain, table_named}
+use Rattle.px_item.specs.Right.{HasRoomForOne, IsAskedOf, MayRun, IsAtOnce, IsBoundTo, IsRead, IsRight, drop_of, one_change, plain, table_named}
 
 -- the statement was read, and may change something
 pub record IsAsking (asked : Asked) (x : Statement) : Type 0 where
   pub read : IsRead (seen_piece asked.piece) (Ok x)
-  pub free : asked.settings.scn ≡ None
+  pub free : MayRun asked.settings x
 
 -- the batch of an UPSERT is under way
 pub record IsChanging (before : ℕ) (asked : Asked) (x : Statement) (run : BatchRun) (k : Known) : Type 0 where
@@ -51,10 +55,24 @@ pub record IsDropping (sound : Type 0) (asked : Asked) (x : Statement) (run : De
   pub fits : define.Fits sound run.definition run.state k
   pub going : define.IsGoing run.state
 
+-- a SELECT is under way
+pub record IsSelecting (sound : Type 0) (before : ℕ) (asked : Asked) (x : Statement) (run : SelectRun) (k : Known) : Type 0 where
+  pub select : Select
+  pub is : x ≡ s.Select select
+  pub found : Found
+  pub bound : IsBoundTo k.base k.seen before found select.table
+  pub planned : IsAskedOf found select run.scan.query
+  pub scn : run.scan.scn ≡ asked.settings.scn
+  pub fits : scan.Fits sound (query_of run.scan.query) run.scan.scn run.scan.state k
+  pub going : scan.IsGoing run.scan.state
+  pub since : scan.IsSince before run.scan.state k
+  pub first : scan.IsSince asked.first run.scan.state k
+
 abbrev pub FitsState : Type 0 → ℕ → Asked → ItemState → Known → Type 0
 FitsState sound before asked (state.Finding x) k = IsAsking asked x
 FitsState sound before asked (state.Changing x run room) k = IsAsking asked x × IsChanging before asked x run k × HasRoomForOne room
 FitsState sound before asked (state.Dropping x run) k = IsAsking asked x × IsDropping sound asked x run k
+FitsState sound before asked (state.Selecting x run) k = IsAsking asked x × IsSelecting sound before asked x run k
 
 -- The state is as the trail tells. Others' entries keep this
 pub record Fits (sound : Type 0) (before : ℕ) (asked : Asked) (st : ItemState) (k : Known) : Type 0 where
@@ -67,12 +85,13 @@ abbrev pub begun : ItemState → List Act
 begun (state.Finding x) = []
 begun (state.Changing x run room) = batch.begun run.table run.changes run.state
 begun (state.Dropping x run) = []
+begun (state.Selecting x run) = scan.opened run.scan.state
 
 -- it goes on, or is over and rightly answered, where `own` is what the seat began, ended, opened, closed and defined for it so far
 abbrev pub Told : Type 0 → ℕ → Asked → List Act → Known → ItemTurn → Type 0
 Told sound before asked own k (turn.Stepped r) = (r.asked ≡ asked) × Fits sound before asked r.state k × (own ≡ begun r.state)
 Told sound before asked own k (turn.Waiting r) = (r.asked ≡ asked) × Fits sound before asked r.state k × (own ≡ begun r.state)
-Told sound before asked own k (turn.Over a) = (a.first ≡ asked.first) × IsRight sound (plain k) before own asked.settings (seen_piece asked.piece) a
+Told sound before asked own k (turn.Over a) = (asked.first ≤ a.first) × (a.first ≤ length k.seen) × IsRight sound (plain k) before own asked.settings (seen_piece asked.piece) a
 
 -- one step of an item
 pub record Turns (sound : Type 0) (before : ℕ) (asked : Asked) (old : ItemState) (k k' : Known) (t : ItemTurn) : Type 0 where

@@ -1,15 +1,18 @@
 // What a statement asks for, where its table was found.
-ghost use Rattle.std.specs.Prelude.{◌≡◌, ◌≤◌, ◌∷◌, [], true, length, IfOk};
+ghost use Rattle.std.specs.Prelude.{◌≡◌, ◌≤◌, ◌∷◌, [], ℕ, Option, true, length, IfOk};
+ghost use Rattle.px_calls.specs.Requires.{IsScn};
 ghost use Rattle.px_item.specs.Right as spec;
 
 use crate::refusing::bind_refusal;
 use px_ast::Statement;
 use px_batch::BatchRun;
-use px_bind::{Request, bind};
+use px_bind::{Query, Request, bind};
 use px_calls::{Definition, Receipt};
 use px_defining::DefineRun;
 use px_fitting::fits;
+use px_planned::Planned;
 use px_reply::{Defined, Refusal, Reply};
+use px_select::SelectRun;
 use px_tables::{Found, Table};
 use px_values::{Change, Changes, Items, TableId};
 use std::alloc::{AllocError, Global};
@@ -22,6 +25,7 @@ pub(crate) enum Next {
     /// With room for the batch's receipt.
     Change(BatchRun, Vec<Receipt>),
     Drop(DefineRun),
+    Select(SelectRun),
     Tell(Reply),
 }
 
@@ -66,7 +70,7 @@ fn batch_of(alloc: Global, of: &Table, table: TableId, change: Change) -> Next
 fn upserted(alloc: Global, statement: &Statement, found: &Found) -> Next
     requires upserts { spec.is_upsert statement.now ≡ true }
     requires places { length found.now.table.columns ≤ 255 }
-    ensures { spec.IsNext found.now statement.now result }
+    ensures { (scn : Option ℕ) → spec.IsNext scn found.now statement.now result }
 {
     match bind(alloc, statement, Some(found)) {
         Ok(Request::Upsert { table, change }) => batch_of(alloc, &found.table, table, change),
@@ -81,7 +85,7 @@ fn upserted(alloc: Global, statement: &Statement, found: &Found) -> Next
 fn index_dropped(alloc: Global, statement: &Statement, found: &Found) -> Next
     requires drops { spec.drops_index statement.now ≡ true }
     requires places { length found.now.table.columns ≤ 255 }
-    ensures { spec.IsNext found.now statement.now result }
+    ensures { (scn : Option ℕ) → spec.IsNext scn found.now statement.now result }
 {
     match bind(alloc, statement, Some(found)) {
         Ok(Request::DropIndex { table, index }) => {
@@ -96,9 +100,54 @@ fn index_dropped(alloc: Global, statement: &Statement, found: &Found) -> Next
     }
 }
 
+/// Whether a point may be opened as of it.
+fn is_scn(scn: Option<u64>) -> bool
+    ensures { result ≡ true → IsScn scn }
+{
+    match scn {
+        Some(number) => 0 < number && number <= 9_223_372_036_854_775_808,
+        None => true,
+    }
+}
+
+/// A query on the table that it was bound to.
+fn planned(alloc: Global, table: &Table, query: Query, scn: Option<u64>) -> Next
+    ensures { spec.IsPlannedOf table.now scn query result }
+{
+    let table = match table.copied(alloc) {
+        Ok(table) => table,
+        Err(_) => {
+            drop(query);
+            return Next::Tell(Reply::Refused(Refusal::Memory));
+        }
+    };
+    match Planned::new(alloc, table, query) {
+        Ok(planned) => Next::Select(SelectRun::new(alloc, planned, scn)),
+        Err(_) => Next::Tell(Reply::Refused(Refusal::Memory)),
+    }
+}
+
+fn selected(alloc: Global, statement: &Statement, found: &Found, scn: Option<u64>) -> Next
+    requires selects { spec.is_select statement.now ≡ true }
+    requires places { length found.now.table.columns ≤ 255 }
+    ensures { spec.IsNext scn found.now statement.now result }
+{
+    if !is_scn(scn) {
+        return Next::Tell(Reply::Refused(Refusal::Memory));
+    }
+    match bind(alloc, statement, Some(found)) {
+        Ok(Request::Select(query)) => planned(alloc, &found.table, query, scn),
+        Ok(other) => {
+            drop(other);
+            Next::Tell(Reply::Refused(Refusal::Memory))
+        }
+        Err(fault) => Next::Tell(Reply::Refused(bind_refusal(fault))),
+    }
+}
+
 /// What comes of a statement whose table was found. It makes no call.
-pub(crate) fn next_of(alloc: Global, statement: &Statement, found: &Found) -> Next
-    ensures { spec.IsNext found.now statement.now result }
+pub(crate) fn next_of(alloc: Global, statement: &Statement, found: &Found, scn: Option<u64>) -> Next
+    ensures { spec.IsNext scn found.now statement.now result }
 {
     if found.table.columns.as_slice().len() > MOST_PLACES {
         return Next::Tell(Reply::Refused(Refusal::Memory));
@@ -109,6 +158,7 @@ pub(crate) fn next_of(alloc: Global, statement: &Statement, found: &Found) -> Ne
             Next::Drop(DefineRun::new(Definition::DropTable(found.table.id)))
         }
         Statement::DropIndex(_) => index_dropped(alloc, statement, found),
+        Statement::Select(_) => selected(alloc, statement, found, scn),
         _ => Next::Tell(Reply::Refused(Refusal::Memory)),
     }
 }

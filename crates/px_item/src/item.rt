@@ -7,13 +7,16 @@ ghost use Rattle.px_item.specs.Turns.{Begins, Fits, Turns};
 use crate::answered::{Answered, Asked, Settings, told};
 use crate::binding::{self, Next};
 use crate::reading::{Read, read_piece};
-use crate::refusing::{table_named, unchanged, undefined, unfound};
+use crate::refusing::{table_named, unchanged, undefined, unfound, unselected};
 use px_ast::Statement;
 use px_batch::{BatchFault, BatchRun, BatchTurn};
 use px_calls::{Made, Receipt, Steps};
 use px_defining::{DefineFault, DefineRun, DefineTurn};
 use px_lex::script::Piece;
 use px_reply::{Defined, Reply};
+use px_scan::QueryFault;
+use px_select::{SelectRun, SelectTurn, Selected};
+use px_sorted::Shown;
 use px_tables::Found;
 use px_values::{CountWord, Items};
 use std::alloc::Global;
@@ -26,6 +29,8 @@ pub enum ItemState {
     Changing(Statement, BatchRun, Vec<Receipt>),
     /// What it drops is being dropped.
     Dropping(Statement, DefineRun),
+    /// It is being selected.
+    Selecting(Statement, SelectRun),
 }
 
 /// An item on its way. Other seats may act between two of its steps.
@@ -78,7 +83,7 @@ fn over(alloc: Global, asked: Asked<'_>, reply: Reply) -> Answered
 fn follow<'a>(alloc: Global, asked: Asked<'a>, statement: Statement, found: Found) -> ItemTurn<'a>
     ensures { spec.Follows asked.entry statement found result }
 {
-    let next = binding::next_of(alloc, &statement, &found);
+    let next = binding::next_of(alloc, &statement, &found, asked.settings.scn);
     drop(found);
     match next {
         Next::Change(run, receipts) => ItemTurn::Stepped(ItemRun {
@@ -88,6 +93,10 @@ fn follow<'a>(alloc: Global, asked: Asked<'a>, statement: Statement, found: Foun
         Next::Drop(run) => ItemTurn::Stepped(ItemRun {
             asked,
             state: ItemState::Dropping(statement, run),
+        }),
+        Next::Select(run) => ItemTurn::Stepped(ItemRun {
+            asked,
+            state: ItemState::Selecting(statement, run),
         }),
         Next::Tell(reply) => {
             drop(statement);
@@ -250,6 +259,79 @@ fn let_drop<'a, S: Steps>(
     }
 }
 
+/// The rows of a SELECT.
+fn rows_of(alloc: Global, asked: Asked<'_>, selected: Selected) -> Answered
+    ensures { spec.ShowsRows result selected asked.entry.settings }
+{
+    let Asked {
+        piece: _piece,
+        settings,
+        first: _first,
+    } = asked;
+    let Selected {
+        shown,
+        first,
+        last: _last,
+    } = selected;
+    let Shown { rows, places } = shown;
+    Answered {
+        reply: Reply::Rows(rows),
+        receipts: Items::of(Vec::new(alloc)),
+        places,
+        first,
+        after: settings,
+    }
+}
+
+/// What a SELECT came to.
+fn selected(
+    alloc: Global,
+    asked: Asked<'_>,
+    statement: Statement,
+    came: Result<Selected, QueryFault>,
+) -> Answered
+    ensures { spec.IsSelection asked.entry statement came result }
+{
+    match came {
+        Ok(selected) => {
+            drop(statement);
+            rows_of(alloc, asked, selected)
+        }
+        Err(fault) => {
+            let reply = unselected(alloc, &statement, fault);
+            drop(statement);
+            over(alloc, asked, reply)
+        }
+    }
+}
+
+/// Goes on with a SELECT.
+fn select<'a, S: Steps>(
+    alloc: Global,
+    s: &mut S,
+    asked: Asked<'a>,
+    statement: Statement,
+    mut run: SelectRun,
+) -> ItemTurn<'a>
+    requires { (before : ℕ) × Fits S.sound before asked (ItemState.Selecting statement run) (S.known s.old) }
+    ensures { (before : ℕ) → Fits S.sound before asked.entry (ItemState.Selecting statement run) (S.known s.old) → Turns S.sound before asked.entry (ItemState.Selecting statement run) (S.known s.old) (S.known s.new) result }
+{
+    match run.step(s) {
+        SelectTurn::Stepped => ItemTurn::Stepped(ItemRun {
+            asked,
+            state: ItemState::Selecting(statement, run),
+        }),
+        SelectTurn::Waiting { .. } => ItemTurn::Waiting(ItemRun {
+            asked,
+            state: ItemState::Selecting(statement, run),
+        }),
+        SelectTurn::Over(came) => {
+            run.finish();
+            ItemTurn::Over(selected(alloc, asked, statement, came))
+        }
+    }
+}
+
 impl<'a> ItemRun<'a> {
     /// Makes one call.
     pub fn step<S: Steps>(self, alloc: Global, s: &mut S) -> ItemTurn<'a>
@@ -263,6 +345,7 @@ impl<'a> ItemRun<'a> {
                 change(alloc, s, asked, statement, run, receipts)
             }
             ItemState::Dropping(statement, run) => let_drop(alloc, s, asked, statement, run),
+            ItemState::Selecting(statement, run) => select(alloc, s, asked, statement, run),
         }
     }
 }

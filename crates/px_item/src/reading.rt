@@ -28,8 +28,18 @@ fn is_built(statement: &Statement) -> bool
 {
     matches!(
         statement,
-        Statement::Upsert(_) | Statement::DropTable(_) | Statement::DropIndex(_)
+        Statement::Upsert(_)
+            | Statement::DropTable(_)
+            | Statement::DropIndex(_)
+            | Statement::Select(_)
     )
+}
+
+/// Whether the statement changes something.
+fn changes(statement: &Statement) -> bool
+    ensures { result ≡ spec.changes statement.now }
+{
+    !matches!(statement, Statement::Select(_) | Statement::Explain(_))
 }
 
 /// A statement that the grammar reads.
@@ -47,7 +57,7 @@ fn parsed<'a>(
         drop(statement);
         return Read::Told(refused(alloc, Refusal::Form, first, settings));
     }
-    if settings.scn.is_some() {
+    if changes(&statement) && settings.scn.is_some() {
         drop(statement);
         return Read::Told(refused(alloc, Refusal::UnderScn, first, settings));
     }

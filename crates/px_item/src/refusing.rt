@@ -12,6 +12,7 @@ use px_defining::DefineFault;
 use px_parse::SyntaxFault;
 use px_reply::{Defined, Refusal, Reply};
 use px_resolve::fault::BindFault;
+use px_scan::QueryFault;
 use px_values::{Limit, Name};
 use std::alloc::Global;
 
@@ -169,5 +170,23 @@ pub(crate) fn undefined(alloc: Global, statement: &Statement, fault: DefineFault
         DefineFault::Damaged { file, place } => Reply::Refused(Refusal::Damaged { file, place }),
         DefineFault::Closed { call } => Reply::Refused(Refusal::Closed { call }),
         DefineFault::NameExists | DefineFault::Memory => Reply::Refused(Refusal::Memory),
+    }
+}
+
+/// What is told of a SELECT that has no answer.
+pub(crate) fn unselected(alloc: Global, statement: &Statement, fault: QueryFault) -> Reply
+    ensures { (result ≡ Refused (spec.query_refusal (spec.table_named statement.now) fault)) ⊎ (result ≡ Refused Memory) }
+{
+    match fault {
+        QueryFault::NoTable => no_table(alloc, table_named(statement)),
+        QueryFault::BelowHorizon { horizon } => {
+            Reply::Refused(Refusal::BelowHorizon { horizon })
+        }
+        QueryFault::IndexJoin => Reply::Refused(Refusal::IndexJoin),
+        QueryFault::ReadFault => Reply::Refused(Refusal::ReadFault),
+        QueryFault::WriteFault => Reply::Refused(Refusal::WriteFault),
+        QueryFault::Damaged { file, place } => Reply::Refused(Refusal::Damaged { file, place }),
+        QueryFault::Closed { call } => Reply::Refused(Refusal::Closed { call }),
+        QueryFault::Memory => Reply::Refused(Refusal::Memory),
     }
 }

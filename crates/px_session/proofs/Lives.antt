@@ -11,6 +11,8 @@ use Rattle.px_script.specs.Pieces.{span_of}
 use Rattle.px_script.specs.declared.piece.Span.{Span}
 use Rattle.px_trail.specs.declared.entry.Act.{Act}
 use Rattle.px_trail.specs.declared.entry.Entry.{Entry}
+use Rattle.px_trail.specs.Trail.{acts_by}
+use Rattle.std.proofs.lemmas.List.{take-append-le}
 use Rattle.px_calls.specs.Known.{Known, Passes, Ran, outline}
 use Rattle.px_calls.proofs.Runs.{ran-none, ran-then}
 use Rattle.px_reply.specs.declared.transcript.Item.{Item}
@@ -241,10 +243,11 @@ module _ (sound : Type 0) (began : SessionState) where
       let o = of_ran k k' t.acts t.ran in
       let d = live.doing in
       let first = t.told.0 in
+      let last_low = t.told.1 in
       let low = d.fits.begins in
       let within = longer k k' t.acts old.asked.first o d.fits.within in
       let own : own_since k'.seat run.before k'.seen ≡ begun old.state ++ outline t.acts = own_on k k' t.acts run.before o live.within ∙ ap (λ (l : List Act). l ++ outline t.acts) d.own in
-      let r = subst (λ (l : List Act). IsRight sound (plain k') run.before l old.asked.settings (seen_piece old.asked.piece) a) (sym own) t.told.1 in
+      let r = subst (λ (l : List Act). IsRight sound (plain k') run.before l old.asked.settings (seen_piece old.asked.piece) a) (sym own) t.told.2 in
       record {
         acts = t.acts;
         ran = t.ran;
@@ -331,3 +334,43 @@ module _ (sound : Type 0) (began : SessionState) where
         ends = subst (λ (l : List Item). EndsAs e (standing run).left l) (sym items) ends;
         state = state ∙ (λ j. state_after (live.stopped j) e (settings_of (sym idle j)));
       }
+
+-- 9. What was answered, in a longer trail
+
+later : (k k' : Known) (more : List Entry) → k'.seat ≡ k.seat → k'.base ≡ k.base → k'.damaged ≡ k.damaged → k'.seen ≡ k.seen ++ more → Onward k k' (acts_by k.seat more)
+later k k' more seat base damaged seen = record { more = more; seen = seen; own = refl; seat = seat; base = base; damaged = damaged }
+
+pub stays : (sound : Type 0) (k k' : Known) (more : List Entry) (from to : ℕ) (st : SessionState) (ps : List SeenPiece) (t : Transcript) (st' : SessionState) (e : Ending) → k'.seat ≡ k.seat → k'.base ≡ k.base → k'.damaged ≡ k.damaged → k'.seen ≡ k.seen ++ more
+    → IsAnswered sound k from to st ps t st' e → IsAnswered sound k' from to st ps t st' e
+stays sound k k' more from to st ps t st' e seat base damaged seen h =
+    let o = later k k' more seat base damaged seen in
+    let same : take to k'.seen ≡ take to k.seen = ap (take to) seen ∙ take-append-le to k.seen more h.within in
+    record {
+      last = h.last;
+      standing = h.standing;
+      replied = told_on sound k k' (acts_by k.seat more) from (at_first st ps) t.items h.last h.standing o h.replied;
+      in_round = h.in_round;
+      within = longer k k' (acts_by k.seat more) to o h.within;
+      rest = ap (λ (n : ℕ). own_since n h.last (take to k'.seen)) seat ∙ (ap (own_since k.seat h.last) same ∙ h.rest);
+      ends = h.ends;
+      state = h.state;
+    }
+
+-- others' entries, up to the end of the round
+pub grows : (sound : Type 0) (k k' : Known) (more : List Entry) (from : ℕ) (st : SessionState) (ps : List SeenPiece) (t : Transcript) (st' : SessionState) (e : Ending) → k'.seat ≡ k.seat → k'.base ≡ k.base → k'.damaged ≡ k.damaged → k'.seen ≡ k.seen ++ more
+    → outline (acts_by k.seat more) ≡ [] → IsAnswered sound k from (length k.seen) st ps t st' e → IsAnswered sound k' from (length k'.seen) st ps t st' e
+grows sound k k' more from st ps t st' e seat base damaged seen quiet h =
+    let o = later k k' more seat base damaged seen in
+    let low : h.last ≤ length k.seen = h.in_round in
+    let here : own_since k.seat h.last k.seen ≡ [] = ap (λ (l : List Entry). own_since k.seat h.last l) (sym (take-length k.seen)) ∙ h.rest in
+    let whole : own_since k'.seat h.last k'.seen ≡ [] = own_on k k' (acts_by k.seat more) h.last o low ∙ (ap (λ (l : List Act). l ++ outline (acts_by k.seat more)) here ∙ quiet) in
+    record {
+      last = h.last;
+      standing = h.standing;
+      replied = told_on sound k k' (acts_by k.seat more) from (at_first st ps) t.items h.last h.standing o h.replied;
+      in_round = longer k k' (acts_by k.seat more) h.last o low;
+      within = omega arith;
+      rest = ap (λ (l : List Entry). own_since k'.seat h.last l) (take-length k'.seen) ∙ whole;
+      ends = h.ends;
+      state = h.state;
+    }

@@ -9,6 +9,6 @@ mod laws;
 mod run;
 mod state;
 
-pub use laws::law_sessions;
+pub use laws::{law_answers, law_sessions};
 pub use run::{Doing, SessionRun, SessionTurn, run_to_end};
 pub use state::{Ending, SessionState};
