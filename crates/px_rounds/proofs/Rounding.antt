@@ -11,12 +11,10 @@ use Rattle.px_trail.specs.Trail.{acts_by}
 use Rattle.px_calls.specs.Known.{Known}
 use Rattle.px_reply.specs.declared.transcript.Transcript.{Transcript}
 use Rattle.px_session.specs.declared.run.SessionRun.{SessionRun}
-use Rattle.px_session.specs.declared.state.Ending.{Ending}
 use Rattle.px_session.specs.declared.state.SessionState.{SessionState}
 use Rattle.px_session.specs.Live.{seen_of}
-use Rattle.px_session.specs.Replies.{IsAnswered, at_first, own_since}
-use Rattle.px_session.proofs.Fronts.{Onward, longer, told_on}
-use Rattle.px_session.proofs.Lives.{begins}
+use Rattle.px_session.specs.Replies.{IsAnswered}
+use Rattle.px_session.proofs.Lives.{begins, stays as stays_answered}
 use Rattle.px_rounds.specs.Rounds.{HasRound, IsToldIn, text_in}
 use Rattle.px_rounds.specs.Turns.{as_seat, AreLive, GoesOn, IsNoSession, IsSingle, Turned}
 use Rattle.px_rounds.specs.inner.Desks.{AreCut, AreFirst, AreTold, IsCut, IsTold}
@@ -87,25 +85,8 @@ module _ (sound : Type 0) where
 
   -- 2. In a longer trail
 
-  onward : (n : ℕ) (k k' : Known) → (h : GoesOn k k') → Onward (as_seat n k) (as_seat n k') (acts_by n h.more)
-  onward n k k' h = record { more = h.more; seen = h.seen; own = refl; seat = refl; base = h.base; damaged = h.damaged }
-
   front_is : (k k' : Known) (to : ℕ) → GoesOn k k' → to ≤ length k.seen → take to k'.seen ≡ take to k.seen
   front_is k k' to h le = ap (take to) h.seen ∙ take-append-le to k.seen h.more le
-
-  answered_on : (n : ℕ) (k k' : Known) (from to : ℕ) (st : SessionState) (ps : List SeenPiece) (t : Transcript) (st' : SessionState) (e : Ending) → GoesOn k k' → IsAnswered sound (as_seat n k) from to st ps t st' e → IsAnswered sound (as_seat n k') from to st ps t st' e
-  answered_on n k k' from to st ps t st' e goes h =
-      let o = onward n k k' goes in
-      record {
-        last = h.last;
-        standing = h.standing;
-        replied = told_on sound (as_seat n k) (as_seat n k') _ from (at_first st ps) t.items h.last h.standing o h.replied;
-        in_round = h.in_round;
-        within = longer (as_seat n k) (as_seat n k') _ to o h.within;
-        rest = ap (own_since n h.last) (front_is k k' to goes h.within) ∙ h.rest;
-        ends = h.ends;
-        state = h.state;
-      }
 
   told_on_in : (n : ℕ) (k k' : Known) (from to number : ℕ) (st : SessionState) (text : List ℕ) (t : Transcript) (st' : SessionState) (memory memory' : Bool) → GoesOn k k' → (memory' ≡ false → memory ≡ false) → IsToldIn sound (as_seat n k) from to number st text t st' memory
       → IsToldIn sound (as_seat n k') from to number st text t st' memory'
@@ -115,7 +96,7 @@ module _ (sound : Type 0) where
     sections = h.sections;
     cut = h.cut;
     ending = h.ending;
-    answered = answered_on n k k' from to st (pieces_from 0 h.sections) t st' h.ending goes h.answered;
+    answered = stays_answered sound (as_seat n k) (as_seat n k') goes.more from to st (pieces_from 0 h.sections) t st' h.ending refl goes.base goes.damaged goes.seen h.answered;
     whole = λ no. h.whole (less no);
   }
 
