@@ -119,6 +119,7 @@ module _ (sound : Type 0) (began : SessionState) where
         ends = h.ends;
         idle = h.idle;
         room = h.room;
+        stopped = h.stopped;
         placed = h.placed;
       }
 
@@ -148,6 +149,7 @@ module _ (sound : Type 0) (began : SessionState) where
         ends = subst G (λ i. (sym h.ending i, sym h.items i)) refl;
         idle = not_at_end run.ending run.doing h.ending;
         room = room_idle run.doing began.settings _ _ h.doing;
+        stopped = h.stopped;
         placed = h.placed;
       }
 
@@ -183,6 +185,7 @@ module _ (sound : Type 0) (began : SessionState) where
         ends = subst G (λ x. (sym push.ending x, sym push.items x)) (ends_snoc run.items.items i (standing run').left (is_fatal a.reply) refl (quiet_so_far run.ending _ run.items.items going live.ends));
         idle = subst (λ (e : Option Ending). IdleAtEnd e run'.doing) (sym push.ending) (idle_at_end (is_fatal a.reply) run'.doing (is_idle run'.doing a.after push.doing));
         room = room_idle run'.doing a.after _ _ push.doing;
+        stopped = push.stopped ∙ live.stopped;
         placed = subst (λ v. Rattle.px_session.specs.Live.ArePlaced v.items) (sym push.same.pieces) live.placed;
       }
 
@@ -223,6 +226,7 @@ module _ (sound : Type 0) (began : SessionState) where
         ends = live.ends;
         idle = not_at_end run.ending (Under new span) going;
         room = live.room;
+        stopped = live.stopped;
         placed = live.placed;
       } in
       record {
@@ -288,13 +292,14 @@ module _ (sound : Type 0) (began : SessionState) where
         ends = live.ends;
         idle = not_at_end run.ending _ going;
         room = room;
+        stopped = live.stopped;
         placed = live.placed;
       } in
       subst (λ (x : SessionRun). IsLive sound k began x) (sym j.is) now
 
   -- the round ends
   pub finishes : (k : Known) (run : SessionRun) (st : Settings) (e : Ending) → IsLive sound k began (with_doing run (Idle st)) → run.ending ≡ None → EndsAs e (drop run.next (seen_of run)) run.items.items → IsLive sound k began (record (with_doing run (Idle st)) { ending = Some e })
-  finishes k run st e live going ends = record { replied = live.replied; within = live.within; doing = live.doing; ends = ends; idle = tt; room = tt; placed = live.placed }
+  finishes k run st e live going ends = record { replied = live.replied; within = live.within; doing = live.doing; ends = ends; idle = tt; room = tt; stopped = live.stopped; placed = live.placed }
 
   quiet_now : (k : Known) (run : SessionRun) (st : Settings) → IsLive sound k began (with_doing run (Idle st)) → run.ending ≡ None → has_fatal run.items.items ≡ false
   quiet_now k run st live going = quiet_so_far run.ending _ run.items.items going live.ends
@@ -310,11 +315,11 @@ module _ (sound : Type 0) (began : SessionState) where
   reserved k run st v e live =
       let F : List Item → Type 0 = λ l. AreReplied sound k run.from (at_first began (seen_of run)) l run.before (record { settings = st; left = drop run.next (seen_of run) }) in
       let G : List Item → Type 0 = λ l. EndsSoFar run.ending (drop run.next (seen_of run)) l in
-      record { replied = subst F (sym e) live.replied; within = live.within; doing = live.doing; ends = subst G (sym e) live.ends; idle = live.idle; room = tt; placed = live.placed }
+      record { replied = subst F (sym e) live.replied; within = live.within; doing = live.doing; ends = subst G (sym e) live.ends; idle = live.idle; room = tt; stopped = live.stopped; placed = live.placed }
 
   -- 8. The end
 
-  pub is_answered : (k : Known) (run : SessionRun) (e : Ending) (st : Settings) (t : Transcript) (st' : SessionState) → run.ending ≡ Some e → run.doing ≡ Idle st → t.items ≡ run.items.items → st' ≡ state_after e st → IsLive sound k began run
+  pub is_answered : (k : Known) (run : SessionRun) (e : Ending) (st : Settings) (t : Transcript) (st' : SessionState) → run.ending ≡ Some e → run.doing ≡ Idle st → t.items ≡ run.items.items → st' ≡ state_after run.stopped e st → IsLive sound k began run
       → IsAnswered sound k run.from (length k.seen) began (seen_of run) t st' e
   is_answered k run e st t st' ended idle items state live =
       let ends : EndsAs e (standing run).left run.items.items = subst (λ (x : Option Ending). EndsSoFar x (standing run).left run.items.items) ended live.ends in
@@ -327,7 +332,7 @@ module _ (sound : Type 0) (began : SessionState) where
         within = omega arith;
         rest = ap (own_since k.seat run.before) (take-length k.seen) ∙ none;
         ends = subst (λ (l : List Item). EndsAs e (standing run).left l) (sym items) ends;
-        state = state ∙ ap (state_after e) (ap settings_of (sym idle));
+        state = state ∙ (λ j. state_after (live.stopped j) e (settings_of (sym idle j)));
       }
 
 -- 9. What was answered, in a longer trail

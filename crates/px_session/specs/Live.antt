@@ -84,6 +84,7 @@ pub record IsLive (sound : Type 0) (k : Known) (began : SessionState) (run : Ses
   pub ends : EndsSoFar run.ending (standing run).left run.items.items
   pub idle : IdleAtEnd run.ending run.doing
   pub room : HasRoom run.doing (length run.items.items) (vec_capacity run.items)
+  pub stopped : run.stopped ≡ began.stopped
   pub placed : ArePlaced run.pieces.items
 
 -- the same session of the same round
@@ -101,6 +102,7 @@ pub record StartsFrom (began : SessionState) (from : ℕ) (run : SessionRun) : T
   pub doing : run.doing ≡ Idle began.settings
   pub items : run.items.items ≡ []
   pub ending : run.ending ≡ None
+  pub stopped : run.stopped ≡ began.stopped
   pub placed : ArePlaced run.pieces.items
 
 -- one step
@@ -128,6 +130,7 @@ pub record IsPushed (run : SessionRun) (span : Span) (a : Answered) (last : ℕ)
   pub before : run'.before ≡ last
   pub doing : run'.doing ≡ Idle a.after
   pub ending : run'.ending ≡ fatal_ending (is_fatal a.reply)
+  pub stopped : run'.stopped ≡ run.stopped
   pub same : IsSame run run'
 
 -- the next piece was begun: it is answered, or under way

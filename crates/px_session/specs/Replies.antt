@@ -1,5 +1,5 @@
 -- What a session's items answer, one after another, and what a session comes to in a round.
-use Rattle.std.specs.Prelude.{ℕ, ◌≡◌, ◌≤◌, Bool, true, false, if◌then◌else◌, List, [], ◌∷◌, ◌++◌, length, take, drop}
+use Rattle.std.specs.Prelude.{ℕ, ◌≡◌, ◌≤◌, Bool, true, false, ◌||◌, if◌then◌else◌, List, [], ◌∷◌, ◌++◌, length, take, drop}
 use Rattle.std.specs.List.{list_any}
 use Rattle.px_lex.specs.Script.{SeenPiece}
 use Rattle.px_script.specs.Pieces.{span_of}
@@ -93,8 +93,9 @@ is_stopped Whole = false
 is_stopped Fatal = true
 is_stopped Memory = false
 
-abbrev pub state_after : Ending → Settings → SessionState
-state_after e st = record { settings = st; stopped = is_stopped e }
+-- a session stays stopped
+abbrev pub state_after : (stopped : Bool) → Ending → Settings → SessionState
+state_after stopped e st = record { settings = st; stopped = stopped || is_stopped e }
 
 -- Of the entries from the place `from` up to the place `to` those of this seat that begin, end, open, close and define are those of
 -- the items, in order, and no others; each item is answered by the trail at its end
@@ -106,4 +107,4 @@ pub record IsAnswered (sound : Type 0) (k : Known) (from to : ℕ) (st : Session
   pub within : to ≤ length k.seen
   pub rest : own_since k.seat last (take to k.seen) ≡ []
   pub ends : EndsAs e standing.left t.items
-  pub state : st' ≡ state_after e standing.settings
+  pub state : st' ≡ state_after st.stopped e standing.settings

@@ -48,6 +48,7 @@ pub struct SessionRun<'a> {
     pub pieces: Vec<Piece<'a>>,
     pub next: usize,
     pub from: u64,
+    pub stopped: bool,
     pub before: u64,
     pub doing: Doing<'a>,
     pub items: Vec<Item>,
@@ -94,23 +95,40 @@ impl<'a> SessionRun<'a> {
         ensures starts { IfOk result (StartsFrom state from) }
         ensures err { IfErr result (λ s. s ≡ state) }
     {
-        let pieces = match pieces(alloc, text) {
-            Ok(pieces) => pieces,
-            Err(_) => return Err(state),
-        };
+        match pieces(alloc, text) {
+            Ok(pieces) => Ok(SessionRun::of(alloc, session, round, pieces, state, from)),
+            Err(_) => Err(state),
+        }
+    }
+
+    /// A session of these pieces at the beginning of a round, when it has seen `from` entries.
+    pub fn of(
+        alloc: Global,
+        session: u32,
+        round: u64,
+        pieces: Vec<Piece<'a>>,
+        state: SessionState,
+        from: u64,
+    ) -> SessionRun<'a>
+        requires placed { ArePlaced pieces.items }
+        ensures pieces { result.pieces ≡ pieces.entry }
+        ensures named { (result.session ≡ session) × (result.round ≡ round) }
+        ensures starts { StartsFrom state from result }
+    {
         let SessionState { settings, stopped } = state;
         let next = place_from(pieces.len(), stopped);
-        Ok(SessionRun {
+        SessionRun {
             session,
             round,
             pieces,
             next,
             from,
+            stopped,
             before: from,
             doing: Doing::Idle(settings),
             items: Vec::new(alloc),
             ending: None,
-        })
+        }
     }
 
     fn set_doing(&mut self, doing: Doing<'a>)
@@ -264,6 +282,7 @@ impl<'a> SessionRun<'a> {
             pieces,
             next: _next,
             from: _from,
+            stopped,
             before: _before,
             doing,
             items,
@@ -279,7 +298,7 @@ impl<'a> SessionRun<'a> {
             round,
             items: Items::of(items),
         };
-        (transcript, state_after(ending, settings), ending)
+        (transcript, state_after(stopped, ending, settings), ending)
     }
 }
 

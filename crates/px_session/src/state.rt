@@ -33,12 +33,12 @@ pub(crate) fn is_fatal(reply: &Reply) -> bool
     }
 }
 
-/// What the session has after a round that ended so.
-pub(crate) fn state_after(ending: Ending, settings: Settings) -> SessionState
-    ensures { result ≡ spec.state_after ending settings }
+/// What the session has after a round that ended so, where it was stopped before or not.
+pub(crate) fn state_after(stopped: bool, ending: Ending, settings: Settings) -> SessionState
+    ensures { result ≡ spec.state_after stopped ending settings }
 {
     SessionState {
         settings,
-        stopped: ending == Ending::Fatal,
+        stopped: stopped || ending == Ending::Fatal,
     }
 }

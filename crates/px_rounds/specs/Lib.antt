@@ -1,0 +1,4 @@
+pub mod inner
+pub mod Turns
+pub mod Rounds
+pub mod Written

@@ -1,0 +1,21 @@
+-- A server without a table.
+use Rattle.std.specs.Prelude.{ℕ, true, false, [], None}
+use Rattle.px_trail.specs.Trail.{Base}
+use Rattle.px_calls.specs.Known.{Known}
+
+-- no table stands
+abbrev pub empty : Base
+empty = record {
+  tables = λ t. None;
+  indexes = λ i. None;
+  next = 1;
+  last = λ t. 0;
+  horizon = λ t. 0;
+  data_horizon = λ t. 0;
+  state = λ t r p. None;
+  changed = λ t r p. false;
+}
+
+-- what a seat knows of it
+abbrev pub bare : ℕ → Known
+bare seat = record { seat = seat; base = empty; damaged = λ file place. false; alone = true; seen = [] }
