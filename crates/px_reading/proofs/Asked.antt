@@ -110,7 +110,7 @@ module _ (g h : Group) (looked : HasLooked g h) where
     looked_due f b index es v hs tallied shown told stands =
         let y = looked_on g.indexes.items h.indexes.items looked.indexes place x at in
         let found : DueAt b index es v h.table r = f y.0 y.1.0 b index es v hs (still_tallied g h looked b es hs tallied) (still_shown g h looked b index es v hs shown) (looked_told b index es v told)
-            (λ low none. stands (subst (λ (n : ℕ). s ≤ n) (horizon_looked x y.0 y.1.1) low) (sym seen_is ∙ none)) in
+        (λ low none. stands (subst (λ (n : ℕ). s ≤ n) (horizon_looked x y.0 y.1.1) low) (sym seen_is ∙ none)) in
         subst (DueAt b index es v g.table) row (subst (λ (t : Table). DueAt b index es v t r) looked.table found)
 
 -- ---- the row at the point
@@ -133,7 +133,7 @@ module _ (g : Group) (right : IsRightGroup g) (place : ℕ) (x : IndexRegion) (a
       let low : v.low ≤ reach_of p = (let a = kept.low in let c = kept.high in let d = reach in omega arith) in
       let held = row_held g.table right.table b index es v kept spells p of low x.index right_index index_at k key.0 key.1 in
       let spelled : (row_form g.table).spelled (value_at cells) own point ≡ (row_form g.table).spelled (value_at v.cells) own (reach_of p) =
-          row_spelled (read_of g.rows) cells (row_key g.table own) is g.table own point refl ∙ (λ i. (row_form g.table).spelled (value_at (sym shown.rows i)) own (sym reach i)) in
+      row_spelled (read_of g.rows) cells (row_key g.table own) is g.table own point refl ∙ (λ i. (row_form g.table).spelled (value_at (sym shown.rows i)) own (sym reach i)) in
       let same : owner_of g.table (index_path g.table x.index) key.0 ≡ own = owner_read g.table x.index k key.0 key.1 in
       let held2 = subst (λ (r : List Value). IsHolder b es p x.index.id k (keyed_if g.table x.index r k ((row_form g.table).spelled (value_at v.cells) r (reach_of p)))) same held in
       subst (IsHolder b es p x.index.id k) (sym (e ∙ ap (keyed_if g.table x.index own k) spelled)) held2

@@ -144,6 +144,6 @@ module _ (b : Base) (index : ℕ → IndexForm) (es : List Entry) (g : Group) (v
           let z = given_some seen (stands low) in
           let found : Told part.index h floor z.0 = from_some (Told part.index h floor) seen z.0 z.1 judged in
           let at_x : Told x.index (horizon_at g x) (max x.index.birth (names x.region.manifest).horizon) z.0 = (subst (λ (n : ℕ). Told x.index (horizon_at g x) n z.0) (floor_is ∙ ap (λ (y : IndexRegion). max y.index.birth (names y.region.manifest).horizon) part_at)
-              (subst (λ (n : ℕ). Told x.index n floor z.0) horizon_same (subst (λ (y : IndexRegion). Told y.index h floor z.0) part_at found))) in
+          (subst (λ (n : ℕ). Told x.index n floor z.0) horizon_same (subst (λ (y : IndexRegion). Told y.index h floor z.0) part_at found))) in
           at_x (row_form g.table).shape w (below b index es g v hs tallied shown told place x at r cells row k s mine inside z.0 (sym seen_is ∙ z.1) free low)
           ∙ ap (λ (f : IndexForm). due (shape_at (row_form g.table).shape f r) w k s) (sym (form_at b index es g v hs tallied shown told place x at r cells row))

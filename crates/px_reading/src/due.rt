@@ -50,9 +50,7 @@ pub(crate) fn greater(a: u64, b: u64) -> u64
 fn is_left(batches: &[Begun], stamp: u64, row: &[Value]) -> bool
     ensures { result ≡ list_any (is_left_of stamp row.now) batches.now }
 {
-    batches
-        .iter()
-        .any(|begun| begun.batch.stamp() == stamp && begun.batch.left_of(row).is_some())
+    batches.iter().any(|begun| begun.batch.stamp() == stamp && begun.batch.left_of(row).is_some())
 }
 
 /// The index key of a row's state, if it has at most 1,024 bytes.
@@ -243,15 +241,7 @@ fn due_below(
             horizon,
             floor,
         )),
-        None => Ok(judged(
-            key,
-            stamp,
-            &values,
-            bytes_if(&own),
-            &values,
-            horizon,
-            floor,
-        )),
+        None => Ok(judged(key, stamp, &values, bytes_if(&own), &values, horizon, floor)),
     }
 }
 
