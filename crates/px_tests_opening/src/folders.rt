@@ -31,7 +31,7 @@ pub struct Found {
     pub cells: usize,
 }
 
-fn found(opened: &Opened) -> Found {
+fn counted(opened: &Opened) -> Found {
     let mut found = Found {
         groups: opened.groups.len(),
         indexes: 0,
@@ -53,7 +53,7 @@ fn found(opened: &Opened) -> Found {
 pub fn opened<D: Disk>(alloc: Global, disk: &mut D) -> Result<Found, OpenFault> {
     match open(alloc, disk) {
         Ok(opened) => {
-            let found = found(&opened);
+            let found = counted(&opened);
             drop(opened);
             Ok(found)
         }
