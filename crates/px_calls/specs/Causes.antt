@@ -86,9 +86,13 @@ indexes_of k t = let c = catalogue_of k.base k.seen in counted (λ i. of_table t
 abbrev pub RunsOut : Known → ℕ → Type 0
 RunsOut k n = most_of bound.Ids + 1 < (catalogue_of k.base k.seen).next + n
 
--- a row of the table has a state, or a batch of it isn't written
-abbrev pub HasRows : Known → ℕ → Type 0
-HasRows k t = ((r : List Value) × (v : List Value) × (state_now k.base k.seen t r ≡ Some v)) ⊎ ((s : ℕ) × (b : Batch) × (batch_of t s k.seen ≡ Some b) × (unwritten b ≢ []))
+-- a row of the table has a state
+abbrev pub HasState : Known → ℕ → Type 0
+HasState k t = (r : List Value) × (v : List Value) × (state_now k.base k.seen t r ≡ Some v)
+
+-- a batch of the table isn't written
+abbrev pub HasUnwritten : Known → ℕ → Type 0
+HasUnwritten k t = (s : ℕ) × (b : Batch) × (batch_of t s k.seen ≡ Some b) × (unwritten b ≢ [])
 
 -- 2. What is open
 
@@ -127,7 +131,7 @@ new_index_cause sound what (Limit bound.Indexes count) k = (count ≡ most_of bo
 new_index_cause sound what (Limit bound.Stamps count) k = (count ≡ most_of bound.Stamps) × (most_of bound.Stamps ≤ last_of k.base what.table.0 k.seen)
 new_index_cause sound what (Limit bound.Ids count) k = (count ≡ most_of bound.Ids) × RunsOut k 2
 -- while indexes are made of empty tables alone
-new_index_cause sound what (Limit bound.Build count) k = (count ≡ most_of bound.Build) × (sound → HasRows k what.table.0)
+new_index_cause sound what (Limit bound.Build count) k = (count ≡ most_of bound.Build) × (HasUnwritten k what.table.0 ⊎ (sound → HasState k what.table.0))
 new_index_cause sound what (NotReady region) k = region ≡ 0
 new_index_cause sound what f k = ⊥
 
