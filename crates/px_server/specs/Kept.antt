@@ -6,7 +6,7 @@ use Rattle.px_tables.specs.declared.index.Index.{Index}
 use Rattle.px_tables.specs.declared.table.Table.{Table}
 use Rattle.px_trail.specs.Legal.{IsLegal}
 use Rattle.px_trail.specs.Recorded.{Recorded}
-use Rattle.px_trail.specs.Trail.{Base, IsCatalogue, base_catalogue, catalogue_of, closing_call, open_points}
+use Rattle.px_trail.specs.Trail.{Base, IsRightBase, catalogue_of, closing_call, open_points}
 use Rattle.px_trail.specs.declared.entry.Entry.{Entry}
 use Rattle.px_forms.specs.Indexes.{IndexForm}
 use Rattle.px_groupworld.specs.Group.{GroupData}
@@ -21,6 +21,8 @@ use Rattle.px_group.specs.declared.group.Group.{Group}
 use Rattle.px_group.specs.declared.group.IndexRegion.{IndexRegion}
 use Rattle.px_group.specs.declared.group.Phase.{Phase}
 use Rattle.px_group.specs.declared.group.Phase.TheVariants.{Marking, Writing, Verifying, Closing}
+use Rattle.px_defined.specs.Defined.{HasOnce}
+use Rattle.px_reading.specs.Doubts.{IsToldBy}
 use Rattle.px_recovery.specs.Folder.{FolderData}
 use Rattle.px_recovery.specs.Kept.{IsServer}
 use Rattle.px_recovery.specs.Tables.{form_in, index_in}
@@ -34,9 +36,9 @@ number_in g = g.table.id.0
 
 -- 1. Definitions
 
--- What stood before is a right catalogue, the trail is legal, and tells what stands. On the disk the same stands, but for an index that was building when the folder was opened.
+-- What stood before is right, the trail is legal, and tells what stands. On the disk the same stands, but for an index that was building when the folder was opened.
 pub record IsTold (b : Base) (es : List Entry) (closed : Option ℕ) (stored standing : Standing) : Type 0 where
-  pub base : IsCatalogue (base_catalogue b)
+  pub base : IsRightBase b
   pub legal : IsLegal b es
   pub closing : closing_call es ≡ closed
   pub agrees : Agrees standing (catalogue_of b es)
@@ -58,6 +60,7 @@ pub record AreGroups (b : Base) (es : List Entry) (closed : Option ℕ) (tables 
   pub points : AllByRecursion (HasPoints es) groups
   pub right : closed ≡ None → AllByRecursion IsRightGroup groups
   pub tallied : closed ≡ None → AllByRecursion (HasTallied b es) groups
+  pub once : closed ≡ None → AllByRecursion HasOnce groups
   pub traced : (call : ℕ) → closed ≡ Some call → AllByRecursion (AreTraced es) groups
 
 -- 3. Contents
@@ -65,11 +68,12 @@ pub record AreGroups (b : Base) (es : List Entry) (closed : Option ℕ) (tables 
 abbrev pub forms_in : List Index → Table → ℕ → IndexForm
 forms_in indexes x = λ n. form_in x (index_in indexes n)
 
--- the group shows what these data of its table have
+-- the group shows what these data of its table have, and a repair may rest on them
 pub record HasShown (b : Base) (es : List Entry) (indexes : List Index) (v : ℕ → GroupData) (g : Group) : Type 0 where
   pub held : List HeldBatch
   pub tallied : IsTallied b es g held
   pub shown : IsShownBy b (forms_in indexes g.table) es g (v g.table.id.0) held
+  pub told : IsToldBy b (forms_in indexes g.table) es g (v g.table.id.0)
 
 pub record AreShown (b : Base) (es : List Entry) (indexes : List Index) (groups : List Group) : Type 0 where
   pub told : ℕ → GroupData
