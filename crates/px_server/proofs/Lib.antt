@@ -1,3 +1,4 @@
+pub mod Blamed
 pub mod Decided
 pub mod Found
 pub mod Lists

@@ -1,12 +1,15 @@
 -- What is true of every server.
-use Rattle.std.specs.Prelude.{◌≡◌, ◌≤◌, ◌+◌, ℕ, List, length, map, slice_get, sum_by, Option, None, Some}
-use Rattle.std.specs.List.{AllByRecursion}
+use Rattle.std.specs.Prelude.{◌≡◌, ◌≤◌, ◌<◌, ◌+◌, ◌⊎◌, ℕ, Bool, true, false, List, length, map, slice_get, sum_by, Option, None, Some}
+use Rattle.std.specs.List.{AllByRecursion, list_any}
+use Rattle.px_outside.specs.Disk.{last_count}
 use Rattle.px_outside.specs.declared.disk.Disk.{Ghosts}
 use Rattle.px_tables.specs.declared.index.Index.{Index}
 use Rattle.px_tables.specs.declared.table.Table.{Table}
 use Rattle.px_trail.specs.Legal.{IsLegal}
 use Rattle.px_trail.specs.Recorded.{Recorded}
 use Rattle.px_trail.specs.Trail.{Base, IsRightBase, catalogue_of, closing_call, open_points}
+use Rattle.px_trail.specs.declared.entry.Act.{Act}
+use Rattle.px_trail.specs.declared.entry.Act.TheVariants.{Missed, Shut}
 use Rattle.px_trail.specs.declared.entry.Entry.{Entry}
 use Rattle.px_forms.specs.Indexes.{IndexForm}
 use Rattle.px_groupworld.specs.Group.{GroupData}
@@ -113,7 +116,23 @@ owed g = length g.points.items + sum_by owed_by g.batches.items
 abbrev pub HasTrailRoom : List Group → Recorded → Type 0
 HasTrailRoom groups trail = 1 + sum_by owed groups ≤ trail.room
 
--- 6. All of it
+-- 6. Faults
+
+-- the act tells that a device call failed
+abbrev pub tells_fault : Act → Bool
+tells_fault (Missed call) = true
+tells_fault (Shut call) = true
+tells_fault act = false
+
+-- an entry does
+abbrev pub has_told : List Entry → Bool
+has_told es = list_any (λ e. tells_fault e.act) es
+
+-- a device call has failed, or a count of the disk stands at its last value
+abbrev pub HasFailed : {D : Type 0} → Ghosts D → D → Type 0
+HasFailed d disk = (0 < d.faults disk) ⊎ ((last_count ≤ d.calls disk) ⊎ (last_count ≤ d.faults disk))
+
+-- 7. All of it
 
 pub record IsKept {D : Type 0} (d : Ghosts D) (b : Base) (sound premise : Type 0) (disk : D) (catalog : Catalog) (standing : Standing) (groups : List Group) (trail : Recorded) (late : Option Entry) (closed : Option ℕ) : Type 0 where
   pub told : IsTold b trail.entries closed (standing_of catalog) standing
@@ -121,3 +140,4 @@ pub record IsKept {D : Type 0} (d : Ghosts D) (b : Base) (sound premise : Type 0
   pub shown : sound → closed ≡ None → AreShown b trail.entries standing.indexes groups
   pub server : IsServer d b premise (HasParts d b catalog groups) disk trail.entries late closed
   pub room : HasTrailRoom groups trail
+  pub blamed : has_told trail.entries ≡ true → HasFailed d disk
