@@ -58,7 +58,7 @@ AreAscending [] = Unit {0}
 AreAscending (k ∷ ks) = AllByRecursion (λ m. is_lt (slice_cmp nat_cmp k m) ≡ true) ks × AreAscending ks
 
 -- a table as a CREATE TABLE makes one: names and places stand once and within their limits, and the least keys ascend from the
--- empty one
+-- empty one, which is the only one while no table is split
 pub record IsNewTable (what : NewTable) : Type 0 where
   pub name : length what.name ≤ most_of Name
   pub columns : length what.columns ≤ most_of Columns
@@ -71,6 +71,7 @@ pub record IsNewTable (what : NewTable) : Type 0 where
   pub ascending : AreAscending what.least_keys
   pub short : AllByRecursion (λ k. length k ≤ most_key) what.least_keys
   pub regions : length what.least_keys ≤ most_of Regions
+  pub one : what.least_keys ≡ [] ∷ []
 
 -- an index of the table as a CREATE INDEX makes one
 pub record IsNewIndex (t : Table) (what : NewIndex) : Type 0 where
