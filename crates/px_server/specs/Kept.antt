@@ -113,8 +113,12 @@ abbrev pub owed : Group → ℕ
 owed g = length g.points.items + sum_by owed_by g.batches.items
 
 -- and one for the failed write that closes the server, unless it is closed
-abbrev pub HasTrailRoom : List Group → Recorded → Type 0
-HasTrailRoom groups trail = 1 + sum_by owed groups ≤ trail.room
+abbrev pub spare : Option ℕ → ℕ
+spare None = 1
+spare (Some call) = 0
+
+abbrev pub HasTrailRoom : Option ℕ → List Group → Recorded → Type 0
+HasTrailRoom closed groups trail = spare closed + sum_by owed groups ≤ trail.room
 
 -- 6. Faults
 
@@ -139,5 +143,5 @@ pub record IsKept {D : Type 0} (d : Ghosts D) (b : Base) (sound premise : Type 0
   pub each : AreGroups b trail.entries closed standing.tables groups
   pub shown : sound → closed ≡ None → AreShown b trail.entries standing.indexes groups
   pub server : IsServer d b premise (HasParts d b catalog groups) disk trail.entries late closed
-  pub room : HasTrailRoom groups trail
+  pub room : HasTrailRoom closed groups trail
   pub blamed : has_told trail.entries ≡ true → HasFailed d disk
