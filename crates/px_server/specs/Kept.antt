@@ -39,13 +39,14 @@ number_in g = g.table.id.0
 
 -- 1. Definitions
 
--- What stood before is right, the trail is legal, and tells what stands. On the disk the same stands, but for an index that was building when the folder was opened.
+-- What stood before is right, the trail is legal, and tells what stands. On the disk the same stands until a write fails, but for an index that was
+-- building when the folder was opened.
 pub record IsTold (b : Base) (es : List Entry) (closed : Option ℕ) (stored standing : Standing) : Type 0 where
   pub base : IsRightBase b
   pub legal : IsLegal b es
   pub closing : closing_call es ≡ closed
   pub agrees : Agrees standing (catalogue_of b es)
-  pub same : opened_standing stored ≡ opened_standing standing
+  pub same : closed ≡ None → opened_standing stored ≡ opened_standing standing
 
 -- 2. Tables with their regions
 
