@@ -20,6 +20,7 @@ use Rattle.px_trail.specs.declared.entry.Entry.{Entry}
 use Rattle.px_trail.specs.Answers.{IsAmong}
 use Rattle.px_trail.specs.Batches.{Batch, BatchPhase, IsConcurrent, Verifying, Writing, batch_of, has, is_distinct, rows_of, unwritten}
 use Rattle.px_trail.specs.Count.{counted_bytes}
+use Rattle.px_trail.specs.States.{state_of}
 use Rattle.px_trail.specs.Trail.{Base, catalogue_of, horizon_of, index_of, last_of, table_of}
 use Rattle.px_calls.specs.declared.definition.Definition.{Definition}
 use Rattle.px_calls.specs.declared.definition.Definition.TheVariants as d
@@ -46,7 +47,7 @@ use Rattle.px_calls.specs.declared.ticket.Verifies.TheVariants as verifies
 use Rattle.px_calls.specs.declared.ticket.Writes.{Writes}
 use Rattle.px_calls.specs.declared.ticket.Writes.TheVariants as writes
 use Rattle.px_calls.specs.Known.{Known, Sees, Adds, IsRunning}
-use Rattle.px_calls.specs.Causes.{ClosedBy, HasLongKey, HasState, HasUnwritten, stamp_at}
+use Rattle.px_calls.specs.Causes.{ClosedBy, HasLongKey, HasUnwritten, stamp_at}
 use Rattle.px_calls.specs.Looks.{IsRowAt, Shows, ShowsRows, key_by}
 use Rattle.px_calls.specs.Requires.{TicketIn}
 
@@ -89,11 +90,15 @@ act_of (d.Active t i) m = IndexState t i Active m.stamp
 act_of (d.DropTable t) m = Dropped t None
 act_of (d.DropIndex t i) m = Dropped t (Some i)
 
+-- no row of the table has a state at the stamp
+abbrev pub HasNoRow : Known → ℕ → ℕ → Type 0
+HasNoRow k t s = (r : List Value) → state_of k.base k.seen t r s ≡ None
+
 -- A new table and what is dropped have no stamp; what stands keeps its number. A new index draws a stamp, of a table where all is
--- written, and which has no rows, if what was opened is sound
+-- written, and which has no row at that stamp, if what was opened is sound
 abbrev pub IsMade : Type 0 → Definition → Known → Answered → Type 0
 IsMade sound (d.Table what) k m = m.stamp ≡ 0
-IsMade sound (d.Index what) k m = (m.stamp ≤ most_of bound.Stamps) × (HasUnwritten k what.table.0 → ⊥) × (sound → HasState k what.table.0 → ⊥)
+IsMade sound (d.Index what) k m = (m.stamp ≤ most_of bound.Stamps) × (HasUnwritten k what.table.0 → ⊥) × (sound → HasNoRow k what.table.0 m.stamp)
 IsMade sound (d.Active t i) k m = m.number ≡ i.0
 IsMade sound (d.DropTable t) k m = (m.number ≡ t.0) × (m.stamp ≡ 0)
 IsMade sound (d.DropIndex t i) k m = (m.number ≡ i.0) × (m.stamp ≡ 0)
