@@ -3,7 +3,9 @@ pub mod Decided
 pub mod Found
 pub mod Lists
 pub mod Noted
+pub mod OpenBatches
 pub mod Opened
 pub mod Pointed
 pub mod Released
 pub mod Seen
+pub mod Told

@@ -50,28 +50,35 @@ with_parts d b premise Has Then disk es late closed k goes = record {
 abbrev NoParts : (D : Type 0) → Parts D
 NoParts D = λ disk es f v. Unit {0}
 
+-- an entry that doesn't last, after which the parts go on: other parts may go on than before
+module _ {D : Type 0} (d : Ghosts D) (tells_left : (x : D) (moment file : ℕ) (bytes : List ℕ) → d.left x moment file bytes → IsTrue d.tells)
+    (up_to_now : (x : D) (moment file : ℕ) (bytes : List ℕ) → d.left x moment file bytes → moment ≤ d.calls x) (b : Base) (premise : Type 0) (Has Then : Parts D)
+    (disk : D) (es : List Entry) (late : Option Entry) (closed : Option ℕ) (k : IsServer d b premise Has disk es late closed) (e : Entry) (at : e.calls ≡ d.calls disk) (quiet : lasting e ≡ false) (may : MayCome b es e)
+    (unshut : closing_step closed e.act ≡ closed) (goes : closed ≡ None → GoesOn d b Has disk es → GoesOn d b Then disk (es ++ e ∷ [])) where
+  bare : {l : List Entry} {H : Parts D} → GoesOn d b H disk l → GoesOn d b (NoParts D) disk l
+  bare g = record { folder = g.folder; groups = g.groups; stands = g.stands; explains = g.explains; has = tt }
+
+  plain : IsServer d b premise (NoParts D) disk es late closed
+  plain = with_parts d b premise Has (NoParts D) disk es late closed k (λ running given tells. bare (k.goes_on running given tells))
+
+  then_on : closed ≡ None → premise → IsTrue d.tells → GoesOn d b Then disk (es ++ e ∷ [])
+  then_on running given tells = goes running (k.goes_on running given tells)
+
+  pub server_goes : IsServer d b premise Then disk (es ++ e ∷ []) late closed
+  server_goes = with_parts d b premise (NoParts D) Then disk (es ++ e ∷ []) late closed
+      (noted_server d tells_left up_to_now b premise (NoParts D) disk es late closed plain e at quiet (λ given tells. may) unshut (λ running given tells before. bare (then_on running given tells))) then_on
+
 module _ {D : Type 0} (d : Ghosts D) (tells_left : (x : D) (moment file : ℕ) (bytes : List ℕ) → d.left x moment file bytes → IsTrue d.tells)
     (up_to_now : (x : D) (moment file : ℕ) (bytes : List ℕ) → d.left x moment file bytes → moment ≤ d.calls x) (b : Base) (premise : Type 0) (Has Then : Parts D)
     (disk : D) (es : List Entry) (late : Option Entry) (closed : Option ℕ) (k : IsServer d b premise Has disk es late closed) (e : Entry) (at : e.calls ≡ d.calls disk) (quiet : lasting e ≡ false) (may : MayCome b es e)
     (unshut : closing_step closed e.act ≡ closed) (still : (c : Catalogue) → catalogue_step c e.act ≡ c) (elsewhere : (t : TableId) → IsElsewhere t e.act)
     (parts : closed ≡ None → (f : FolderData) (v : ℕ → GroupData) → Has disk es f v → Then disk (es ++ e ∷ []) f v) where
-  plain : IsServer d b premise (NoParts D) disk es late closed
-  plain = with_parts d b premise Has (NoParts D) disk es late closed k (λ running given tells.
-      let goes = k.goes_on running given tells in
-      record { folder = goes.folder; groups = goes.groups; stands = goes.stands; explains = goes.explains; has = tt })
-
-  plain_noted : IsServer d b premise (NoParts D) disk (es ++ e ∷ []) late closed
-  plain_noted = noted_server d tells_left up_to_now b premise (NoParts D) disk es late closed plain e at quiet (λ given tells. may) unshut (λ running given tells goes.
-      record { folder = goes.folder; groups = goes.groups; stands = goes.stands; explains = explains_idle b es goes.folder goes.groups goes.explains e may still elsewhere; has = tt })
-
-  -- the server's parts may change beside
+  -- of no table at all
   pub server_noted : IsServer d b premise Then disk (es ++ e ∷ []) late closed
-  server_noted = with_parts d b premise (NoParts D) Then disk (es ++ e ∷ []) late closed plain_noted (λ running given tells.
-      let goes = k.goes_on running given tells in
-      record {
-        folder = goes.folder;
-        groups = goes.groups;
-        stands = goes.stands;
-        explains = explains_idle b es goes.folder goes.groups goes.explains e may still elsewhere;
-        has = parts running goes.folder goes.groups goes.has;
-      })
+  server_noted = server_goes d tells_left up_to_now b premise Has Then disk es late closed k e at quiet may unshut (λ running goes. record {
+    folder = goes.folder;
+    groups = goes.groups;
+    stands = goes.stands;
+    explains = explains_idle b es goes.folder goes.groups goes.explains e may still elsewhere;
+    has = parts running goes.folder goes.groups goes.has;
+  })

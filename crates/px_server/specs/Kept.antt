@@ -1,10 +1,11 @@
 -- What is true of every server.
-use Rattle.std.specs.Prelude.{◌≡◌, ◌≤◌, ◌<◌, ◌+◌, ◌⊎◌, ℕ, Bool, true, false, List, length, map, slice_get, sum_by, Option, None, Some}
+use Rattle.std.specs.Prelude.{◌≡◌, ◌≤◌, ◌<◌, ◌+◌, ◌⊎◌, ◌==◌, ℕ, Bool, true, false, List, [], length, map, slice_get, sum_by, Option, None, Some}
 use Rattle.std.specs.List.{AllByRecursion, list_any}
 use Rattle.px_outside.specs.Disk.{last_count}
 use Rattle.px_outside.specs.declared.disk.Disk.{Ghosts}
 use Rattle.px_tables.specs.declared.index.Index.{Index}
 use Rattle.px_tables.specs.declared.table.Table.{Table}
+use Rattle.px_trail.specs.Batches.{Batch, batch_of, unwritten}
 use Rattle.px_trail.specs.Legal.{IsLegal}
 use Rattle.px_trail.specs.Recorded.{Recorded}
 use Rattle.px_trail.specs.Trail.{Base, IsRightBase, catalogue_of, closing_call, open_points}
@@ -39,10 +40,11 @@ number_in g = g.table.id.0
 
 -- 1. Definitions
 
--- What stood before is right, the trail is legal, and tells what stands. On the disk the same stands until a write fails, but for an index that was
+-- What stood before is right, and no table's horizon was above its last stamp; the trail is legal, and tells what stands. On the disk the same stands until a write fails, but for an index that was
 -- building when the folder was opened.
 pub record IsTold (b : Base) (es : List Entry) (closed : Option ℕ) (stored standing : Standing) : Type 0 where
   pub base : IsRightBase b
+  pub low : (t : ℕ) → b.horizon t ≤ b.last t
   pub legal : IsLegal b es
   pub closing : closing_call es ≡ closed
   pub agrees : Agrees standing (catalogue_of b es)
@@ -57,8 +59,12 @@ pub record HasTallied (b : Base) (es : List Entry) (g : Group) : Type 0 where
   pub held : List HeldBatch
   pub tallied : IsTallied b es g held
 
+-- each batch of the table that is written and hasn't ended is there
+abbrev pub HasBegun : List Entry → Group → Type 0
+HasBegun es g = (s : ℕ) (y : Batch) → batch_of g.table.id.0 s es ≡ Some y → y.ended ≡ false → unwritten y ≡ [] → list_any (λ m. m.batch.stamp == s) g.batches.items ≡ true
+
 -- One group for each table that stands, in their order. The open points are the trail's at all times. All else of a group is so until a write
--- fails; then its batches have what their end needs.
+-- fails; then those that may end are there, and have what their end needs.
 pub record AreGroups (b : Base) (es : List Entry) (closed : Option ℕ) (tables : List Table) (groups : List Group) : Type 0 where
   pub stand : map table_in_group groups ≡ tables
   pub points : AllByRecursion (HasPoints es) groups
@@ -66,6 +72,7 @@ pub record AreGroups (b : Base) (es : List Entry) (closed : Option ℕ) (tables 
   pub tallied : closed ≡ None → AllByRecursion (HasTallied b es) groups
   pub once : closed ≡ None → AllByRecursion HasOnce groups
   pub traced : (call : ℕ) → closed ≡ Some call → AllByRecursion (AreTraced es) groups
+  pub begun : (call : ℕ) → closed ≡ Some call → AllByRecursion (HasBegun es) groups
 
 -- 3. Contents
 
