@@ -1,11 +1,17 @@
+pub mod Acted
+pub mod Beside
 pub mod Blamed
 pub mod Decided
+pub mod Ended
 pub mod Found
 pub mod Lists
+pub mod Low
 pub mod Noted
 pub mod OpenBatches
 pub mod Opened
+pub mod PointOpened
 pub mod Pointed
 pub mod Released
+pub mod Room
 pub mod Seen
 pub mod Told
