@@ -13,5 +13,6 @@ pub mod PointOpened
 pub mod Pointed
 pub mod Released
 pub mod Room
+pub mod Running
 pub mod Seen
 pub mod Told
