@@ -62,7 +62,7 @@ fn byte_len(cells: &[Cell]) -> u64
 }
 
 impl Region {
-    ghost use Rattle.px_region.specs.Region.{Holds, RegionData, Stands, read_of, with_batch};
+    ghost use Rattle.px_region.specs.Region.{Holds, RegionData, Stands, data_of, read_of, with_batch};
     ghost use Rattle.px_merge.specs.Settle.{settle};
     ghost use Rattle.px_region.specs.Promise.{HasRoom, IsAlike, IsReady, PassesLimit};
     ghost use Rattle.px_region.specs.Fresh.{IsFreshRegion};
@@ -202,6 +202,7 @@ impl Region {
         ensures counts { Passes ⟦<D as Disk>⟧ disk.old disk.new 4 }
         ensures number { self.new.number ≡ self.old.number }
         ensures looked { self.new.looked ≡ self.old.looked }
+        ensures horizon { (data_of self.new).horizon ≡ (data_of self.old).horizon }
         ensures frame { frame.old.room ≤ frame.new.room }
     {
         let count = cells.len() as u64;
