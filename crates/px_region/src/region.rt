@@ -64,7 +64,7 @@ fn byte_len(cells: &[Cell]) -> u64
 impl Region {
     ghost use Rattle.px_region.specs.Region.{Holds, RegionData, Stands, data_of, read_of, with_batch};
     ghost use Rattle.px_merge.specs.Settle.{settle};
-    ghost use Rattle.px_region.specs.Promise.{HasRoom, IsAlike, IsReady, PassesLimit};
+    ghost use Rattle.px_region.specs.Promise.{HasOpenLog, HasRoom, IsAlike, IsReady, PassesLimit};
     ghost use Rattle.px_region.specs.Fresh.{IsFreshRegion};
     ghost use Rattle.px_outside.specs.OnDisk.{LeavesOnly, Passes, Rose, TouchesOnly};
     ghost use Rattle.px_cells.specs.CellData.{CellData};
@@ -96,6 +96,13 @@ impl Region {
         ensures { result ≡ self.now.number }
     {
         self.number
+    }
+
+    /// Whether its log is open.
+    pub fn has_log(&self) -> bool
+        ensures { IsTrue result ↔ HasOpenLog self.now }
+    {
+        self.wal.is_open()
     }
 
     /// Whether its log is open, and a batch appended to it counts. The last batch of a folder that no program left may lie
