@@ -18,6 +18,7 @@ pub mod PointOpened
 pub mod Pointed
 pub mod Released
 pub mod Room
+pub mod Running
 pub mod Seen
 pub mod Told
 pub mod Written
