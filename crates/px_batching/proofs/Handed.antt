@@ -23,6 +23,7 @@ module _ {D : Type 0} (d : Ghosts D) (region : Region) (disk : D) (up_to_now : (
   pub writes_none : (cells : List CellData) → WritesTo d region region disk disk cells
   writes_none cells = record {
     number = refl;
+    horizon = refl;
     leaves = λ s holds. record { each = λ moment image later left. inl ((stands_now d region disk s holds up_to_now).each moment image later left) };
     touches = λ s holds. touches_none d.calls d.left d.seen up_to_now disk (HasFile region.number);
     counts = record { later = omega arith; at_most = omega arith; faults_later = omega arith; begun = refl };

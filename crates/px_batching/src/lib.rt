@@ -18,4 +18,4 @@ pub use laws::{
 };
 pub use marking::{finish_marking, mark, mark_index};
 pub use verifying::{finish_verifying, verify, verify_index};
-pub use writing::{blocker, write};
+pub use writing::{Unwritten, blocker, write};

@@ -1,5 +1,5 @@
 // The second phase of a batch.
-ghost use Rattle.std.specs.Prelude.{◌≡◌, ◌≤◌, ◌<◌, ◌+◌, ℕ, IfNone, IfOk, IfSome, length, slice_get, List, None, true, IsErr, OnErr, OnOk, Some};
+ghost use Rattle.std.specs.Prelude.{◌≡◌, ◌≤◌, ◌<◌, ◌+◌, ℕ, IfErr, IfNone, IfOk, IfSome, length, slice_get, List, None, true, IsErr, OnErr, OnOk, Some};
 ghost use Rattle.px_outside.specs.OnDisk.{Rose};
 ghost use Rattle.px_group.specs.Group.{IsRightGroup};
 ghost use Rattle.px_group.specs.Room.{most_bytes};
@@ -73,6 +73,12 @@ fn take_rows(begun: &mut Begun) -> Taken
     Taken { cells, rows }
 }
 
+/// The rows of a write that failed, for the entry that was under way.
+#[derive(Drop)]
+pub struct Unwritten {
+    pub rows: Rows,
+}
+
 /// Hands the rows of the batch at this place to the region of the rows, and gives their primary key values back, for the entry that
 /// tells that they are written.
 pub fn write<D: Disk>(
@@ -80,7 +86,7 @@ pub fn write<D: Disk>(
     disk: &mut D,
     frame: &mut Frame,
     place: usize,
-) -> Result<Rows, Failed>
+) -> Result<Rows, Unwritten>
     requires right { IsRightGroup group.old }
     requires writing { IsAt group.old place InWriting }
     requires room { 12 + most_bytes ≤ frame.old.room }
@@ -88,6 +94,7 @@ pub fn write<D: Disk>(
     ensures right { OnOk result (IsRightGroup group.new) }
     ensures written { OnOk result (WrotePuts ⟦<D as Disk>⟧ group.old group.new disk.old disk.new place) }
     ensures rows { IfOk result (TakesRows group.old place) }
+    ensures late { IfErr result (λ u. TakesRows group.old place u.rows) }
     ensures failed { IsErr result → Rose ⟦<D as Disk>⟧ disk.old disk.new }
     ensures frame { frame.old.room ≤ frame.new.room }
 {
@@ -97,9 +104,6 @@ pub fn write<D: Disk>(
             group.batches[place].phase = Phase::Verifying;
             Ok(rows)
         }
-        Err(fault) => {
-            drop(rows);
-            Err(fault)
-        }
+        Err(Failed) => Err(Unwritten { rows }),
     }
 }

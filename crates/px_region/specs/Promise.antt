@@ -4,6 +4,9 @@ use Rattle.px_wal.specs.Manifest.{is_open as manifest_open, names}
 use Rattle.px_wal.specs.Wal.{is_open as log_open, room_of}
 use Rattle.px_region.specs.declared.region.Region.{Region}
 
+abbrev pub HasOpenLog : Region → Type 0
+HasOpenLog region = log_open region.wal
+
 -- the log is open, and a batch appended to it is above the flushed number
 abbrev pub IsReady : Region → Type 0
 IsReady region = log_open region.wal × ((names region.manifest).flushed ≤ region.wal.last)

@@ -16,12 +16,13 @@ pub enum JobStep {
 }
 
 impl Region {
-    ghost use Rattle.px_region.specs.Region.{Holds, RegionData, Stands, read_of};
+    ghost use Rattle.px_region.specs.Region.{Holds, RegionData, Stands, data_of, read_of};
     ghost use Rattle.px_region.specs.Promise.{IsPrepared, IsSamePromise};
-    ghost use Rattle.px_region.specs.declared.fault.JobFault.TheVariants.{WriteFault};
+    ghost use Rattle.px_region.specs.declared.fault.JobFault.TheVariants.{Memory, WriteFault};
 
     /// Makes one step of the first segment of its log, where none is open, or else of its manifest. What the region stands
-    /// for stays at each moment. After `Done` both are open; where both were, no call is made.
+    /// for stays at each moment. After `Done` both are open; where both were, no call is made. Where no memory is found, nothing
+    /// was done.
     pub fn prepare_step<D: Disk>(&mut self, disk: &mut D) -> Result<JobStep, JobFault>
         ensures done { (s : RegionData) → Holds ⟦<D as Disk>⟧ self.old disk.old s → OnOk result (Holds ⟦<D as Disk>⟧ self.new disk.new s) }
 
@@ -29,11 +30,13 @@ impl Region {
         ensures any_moment { (s : RegionData) → Holds ⟦<D as Disk>⟧ self.old disk.old s → LeavesOnly ⟦<D as Disk>⟧ disk.old disk.new (λ moment image. Stands self.old.number image s) }
         ensures prepared { result ≡ Ok JobStep.Done → IsPrepared self.new }
         ensures failed { result ≡ Err WriteFault → Rose ⟦<D as Disk>⟧ disk.old disk.new }
+        ensures refused { result ≡ Err Memory → (self.new ≡ self.old) × (disk.new ≡ disk.old) }
         ensures touches { (s : RegionData) → Holds ⟦<D as Disk>⟧ self.old disk.old s → TouchesOnly ⟦<D as Disk>⟧ disk.old disk.new (HasFile self.old.number) }
         ensures counts { Passes ⟦<D as Disk>⟧ disk.old disk.new 4 }
         ensures promised { IsSamePromise self.old self.new }
         ensures read { read_of self.new ≡ read_of self.old }
         ensures number { self.new.number ≡ self.old.number }
+        ensures horizon { (data_of self.new).horizon ≡ (data_of self.old).horizon }
         ensures looked { self.new.looked ≡ self.old.looked }
     {
         if !self.wal.is_open() {

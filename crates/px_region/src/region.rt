@@ -62,9 +62,9 @@ fn byte_len(cells: &[Cell]) -> u64
 }
 
 impl Region {
-    ghost use Rattle.px_region.specs.Region.{Holds, RegionData, Stands, read_of, with_batch};
+    ghost use Rattle.px_region.specs.Region.{Holds, RegionData, Stands, data_of, read_of, with_batch};
     ghost use Rattle.px_merge.specs.Settle.{settle};
-    ghost use Rattle.px_region.specs.Promise.{HasRoom, IsAlike, IsReady, PassesLimit};
+    ghost use Rattle.px_region.specs.Promise.{HasOpenLog, HasRoom, IsAlike, IsReady, PassesLimit};
     ghost use Rattle.px_region.specs.Fresh.{IsFreshRegion};
     ghost use Rattle.px_outside.specs.OnDisk.{LeavesOnly, Passes, Rose, TouchesOnly};
     ghost use Rattle.px_cells.specs.CellData.{CellData};
@@ -96,6 +96,13 @@ impl Region {
         ensures { result ≡ self.now.number }
     {
         self.number
+    }
+
+    /// Whether its log is open.
+    pub fn has_log(&self) -> bool
+        ensures { IsTrue result ↔ HasOpenLog self.now }
+    {
+        self.wal.is_open()
     }
 
     /// Whether its log is open, and a batch appended to it counts. The last batch of a folder that no program left may lie
@@ -202,6 +209,7 @@ impl Region {
         ensures counts { Passes ⟦<D as Disk>⟧ disk.old disk.new 4 }
         ensures number { self.new.number ≡ self.old.number }
         ensures looked { self.new.looked ≡ self.old.looked }
+        ensures horizon { (data_of self.new).horizon ≡ (data_of self.old).horizon }
         ensures frame { frame.old.room ≤ frame.new.room }
     {
         let count = cells.len() as u64;

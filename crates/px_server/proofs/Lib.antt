@@ -1,12 +1,17 @@
 pub mod Acted
 pub mod Beside
 pub mod Blamed
+pub mod Changed
 pub mod Decided
+pub mod Elsewhere
 pub mod Ended
 pub mod Found
+pub mod Framed
+pub mod Handed
 pub mod Lists
 pub mod Low
 pub mod Noted
+pub mod Numbers
 pub mod OpenBatches
 pub mod Opened
 pub mod PointOpened
@@ -16,3 +21,4 @@ pub mod Room
 pub mod Running
 pub mod Seen
 pub mod Told
+pub mod Written

@@ -45,3 +45,7 @@ none_map f num n (x ∷ xs) none = (none.0, none_map f num n xs none.1)
 pub distinct_map : {A B : Type 0} (f : A → B) (num : B → ℕ) (xs : List A) → AreDistinct num (map f xs) → AreDistinct (λ x. num (f x)) xs
 distinct_map f num [] once = tt
 distinct_map f num (x ∷ xs) once = (none_map f num (num (f x)) xs once.0, distinct_map f num xs once.1)
+
+pub all_both : {A : Type 0} (P Q : A → Type 0) (xs : List A) → AllByRecursion P xs → AllByRecursion Q xs → AllByRecursion (λ x. P x × Q x) xs
+all_both P Q [] ps qs = tt
+all_both P Q (x ∷ xs) ps qs = ((ps.0, qs.0), all_both P Q xs ps.1 qs.1)

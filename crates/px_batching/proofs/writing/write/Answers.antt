@@ -94,5 +94,11 @@ returns-in-Ok-clause-rows g c =
     let n = ready_puts c.args.group.now c.args.place c.requires.right c.requires.writing z c.index_mut.ensures.value in
     record { batch = z; is = n.at; rows_are = c.take_rows-cells.ensures.rows })
 
+pub returns-in-Err-clause-late : goal.returns-in-Err-clause-late
+returns-in-Err-clause-late g c =
+    (let z = c.index_mut.result.now in
+    let n = ready_puts c.args.group.now c.args.place c.requires.right c.requires.writing z c.index_mut.ensures.value in
+    record { batch = z; is = n.at; rows_are = c.take_rows-cells.ensures.rows })
+
 pub returns-in-Ok-clause-right : goal.returns-in-Ok-clause-right
 returns-in-Ok-clause-right g c = right_puts g.D.Disk c.args.group.now _ c.args.disk.now c.hand.new.disk c.args.place c.requires.right (returns-in-Ok-clause-written g c)
