@@ -5,11 +5,14 @@
 //! word; `finish` hands out what is promised of the disk.
 #![tactic(auto)]
 
+mod beginning;
 mod finding;
 mod founded;
 mod laws;
 mod points;
+mod readying;
 mod server;
+mod taking;
 
 pub use founded::Founded;
 pub use laws::law_points;

@@ -1,0 +1,105 @@
+// Batches begin.
+ghost use Rattle.std.specs.Prelude.{◌≡◌, ◌≢◌, ◌≤◌, [], IfErr, IfOk, OnErr, OnOk, length, true};
+ghost use Rattle.px_calls.specs.Calls.{DidBegin};
+ghost use Rattle.px_calls.specs.Causes.{Refuses, begin_cause};
+ghost use Rattle.px_calls.specs.Requires.{AreFitting};
+ghost use Rattle.px_group.specs.Group.{IsRightGroup};
+ghost use Rattle.px_phases.specs.Batch.{AllFit};
+ghost use Rattle.px_trail.specs.Batches.{is_distinct, rows_of};
+ghost use Rattle.px_beginning.specs.Leaves.{KeepsRooms, LeavesGroup};
+ghost use Rattle.px_server.specs.Beginning.{HasTaken, LetsIn, IsUnbegun};
+ghost use Rattle.px_server.specs.Shown.{known_by};
+
+use crate::readying::{Ready, Started, ready_of};
+use crate::taking::take_room;
+use crate::{Founded, Server};
+use px_beginning::{admit, law_begins};
+use px_calls::{StepFault, Ticket};
+use px_group::Group;
+use px_outside::{Clock, CountsCalls, Disk};
+use px_seat::Based;
+use px_standing::numbered_place;
+use px_trail::{Act, Entry, Trail};
+use px_values::{Changes, TableId};
+use std::alloc::Global;
+
+/// Lets a batch of these changes begin, while the clock shows this, and takes room for its entries. A refused one leaves all as it was,
+/// but how many rows were looked at.
+fn let_in<D: Disk>(
+    alloc: Global,
+    disk: &mut D,
+    group: &mut Group,
+    trail: &mut Trail,
+    changes: &Changes,
+    clock: u64,
+) -> Result<Started, StepFault>
+    requires right { IsRightGroup group.old }
+    requires fit { AllFit group.old.table changes.now }
+    requires distinct { is_distinct (rows_of changes.now) ≡ true }
+    requires some { changes.now ≢ [] }
+    requires few { length changes.now ≤ 1000 }
+    ensures begun { IfOk result (LetsIn group.old group.new changes.now clock) }
+    ensures taken { OnOk result (HasTaken trail.old trail.new changes.now) }
+    ensures refused { IfErr result (IsUnbegun group.old trail.old.entries changes.now clock) }
+    ensures leaves { OnErr result (LeavesGroup group.old group.new × KeepsRooms group.old group.new) }
+    ensures trail { OnErr result (trail.new ≡ trail.old) }
+    ensures untouched { disk.new ≡ disk.old }
+{
+    law_begins();
+    let ready = ready_of(alloc, disk, group, changes, clock)?;
+    match take_room(group, trail, &ready) {
+        Ok(()) => {
+            let Ready { prepared, started } = ready;
+            admit(group, prepared);
+            Ok(started)
+        }
+        Err(fault) => {
+            drop(ready);
+            Err(fault)
+        }
+    }
+}
+
+impl<D: CountsCalls, C: Clock, B: Based + Founded> Server<D, C, B> {
+    /// Draws a stamp, and begins the batch.
+    pub fn begin(&mut self, table: TableId, changes: &Changes) -> Result<Ticket, StepFault>
+        requires some { changes.now ≢ [] }
+        requires rows { length changes.now ≤ 1000 }
+        requires distinct { is_distinct (rows_of changes.now) ≡ true }
+        requires fits { AreFitting (known_by B.base B.damaged self.old) table.0 changes.now }
+        ensures ok { IfOk result (DidBegin B.sound (known_by B.base B.damaged self.old) (known_by B.base B.damaged self.new) table changes.now) }
+        ensures refused { IfErr result (Refuses (begin_cause B.sound table.0 changes.now) (known_by B.base B.damaged self.old) (known_by B.base B.damaged self.new)) }
+    {
+        if let Some(call) = self.closed {
+            return Err(StepFault::Closed { call });
+        }
+        let Some(place) = numbered_place(&self.standing, table) else {
+            return Err(StepFault::NoTable);
+        };
+        let clock = self.clock.now();
+        let begun = let_in(
+            self.alloc,
+            &mut self.disk,
+            &mut self.groups[place],
+            &mut self.trail,
+            changes,
+            clock,
+        );
+        match begun {
+            Ok(started) => {
+                let Started { stamp, changes } = started;
+                self.trail.push(Entry {
+                    seat: self.seat,
+                    calls: self.disk.call_count(),
+                    act: Act::Begun {
+                        table,
+                        stamp,
+                        changes,
+                    },
+                });
+                Ok(Ticket { table, stamp })
+            }
+            Err(fault) => Err(fault),
+        }
+    }
+}
