@@ -1,0 +1,30 @@
+use Rattle.std.proofs.Common.{◌≡◌, ℕ, Option, List, ap, sym, subst, ◌∙◌}
+use Rattle.px_calls.specs.Looks.{Shows, ShowsRows}
+use Rattle.px_calls.specs.declared.query.By.TheVariants.{Index as ByIndex}
+use Rattle.px_reading.proofs.Looks.{ok_map}
+use Rattle.px_pointreads.proofs.Asked.{above_keys, active_at, found_in, not_looked, there_is}
+use Rattle.px_pointreads.proofs.looking.look.Goals as goal
+
+pub returns-in-Table-clause-keys : goal.returns-in-Table-clause-keys
+returns-in-Table-clause-keys g c = ok_map _ _ (λ n h. subst (λ (o : Option (List ℕ)). Shows c.args.p.now c.args.path.now o n.found n.next) c.bytes_if-past.ensures (h c.args.p.now c.args.path.now c.in-Table.is (sym c.as_slice-low.ensures) (sym c.bytes_if-high.ensures))) c.look_rows.result c.look_rows.ensures.keys
+
+pub returns-in-Some-clause-keys : goal.returns-in-Some-clause-keys
+returns-in-Some-clause-keys g c = ok_map _ _ (λ n h.
+    (let f = found_in c.args.p.now c.in-Index.index c.args.group.now.indexes.items c.deref.result.now c.in-Some.place c.deref.ensures.value c.in-Some.ensures.within c.in-Some.ensures.part in
+    let z = there_is c.args.group.now.indexes.items c.in-Some.place f.within in
+    let part = f.part z.0 z.1 in
+    let by : c.args.path.now.by ≡ ByIndex z.0.index.id = c.in-Index.is ∙ ap ByIndex (sym part.id) in
+    subst (λ (o : Option (List ℕ)). Shows c.args.p.now c.args.path.now o n.found n.next) c.bytes_if-past.ensures (h z.0 z.1 c.args.p.now c.requires.at.of.found part.at c.args.path.now by (sym c.as_slice-low.ensures) (sym c.bytes_if-high.ensures)))) c.look_keys.result c.look_keys.ensures.keys
+
+pub returns-in-Some-clause-rows : goal.returns-in-Some-clause-rows
+returns-in-Some-clause-rows g c = ok_map _ _ (λ n h b index es v hs tallied shown.
+    (let f = found_in c.args.p.now c.in-Index.index c.args.group.now.indexes.items c.deref.result.now c.in-Some.place c.deref.ensures.value c.in-Some.ensures.within c.in-Some.ensures.part in
+    let z = there_is c.args.group.now.indexes.items c.in-Some.place f.within in
+    let part = f.part z.0 z.1 in
+    let by : c.args.path.now.by ≡ ByIndex z.0.index.id = c.in-Index.is ∙ ap ByIndex (sym part.id) in
+    subst (λ (o : Option (List ℕ)). ShowsRows b es c.args.p.now c.args.path.now o n.found n.next) c.bytes_if-past.ensures
+    (h z.0 z.1 b index es v hs shown (active_at c.args.group.now c.args.p.now c.requires.at c.in-Index.index z.0 part c.args.path.now c.in-Index.is c.requires.path) c.args.p.now c.requires.at.of part.at (sym c.reach-in-Some.ensures)
+    (above_keys c.args.group.now c.args.p.now c.requires.at c.in-Index.index z.0 part b es hs tallied c.reach-in-Some.result c.reach-in-Some.ensures) c.args.path.now by (sym c.as_slice-low.ensures) (sym c.bytes_if-high.ensures)))) c.look_keys.result c.look_keys.ensures.rows
+
+pub returns-in-None-clause-looked : goal.returns-in-None-clause-looked
+returns-in-None-clause-looked g c = not_looked c.args.group.now

@@ -1,0 +1,18 @@
+-- Which groups and indexes are read at a point.
+use Rattle.std.specs.Prelude.{◌≡◌, ◌≤◌, ℕ, List, slice_get, Some}
+use Rattle.px_calls.specs.declared.query.Point.{Point}
+use Rattle.px_shown.specs.Told.{IsIndexAt, IsPointOf, reach_of}
+use Rattle.px_values.specs.declared.name.IndexId.{IndexId}
+use Rattle.px_group.specs.declared.group.Group.{Group}
+use Rattle.px_group.specs.declared.group.IndexRegion.{IndexRegion}
+
+-- the table stands as it was when the point was opened, and isn't forgotten there
+pub record IsReadAt (g : Group) (p : Point) : Type 0 where
+  pub of : IsPointOf g.table p
+  pub above : g.horizon ≤ reach_of p
+
+-- so does the index, which was born at or below what the point sees
+pub record IsPartAt (p : Point) (i : IndexId) (x : IndexRegion) : Type 0 where
+  pub id : x.index.id ≡ i
+  pub at : IsIndexAt p x.index
+  pub born : x.index.birth ≤ reach_of p

@@ -1,0 +1,6 @@
+pub mod Dues
+pub mod Fitting
+pub mod Handing
+pub mod Right
+pub mod Shown
+pub mod Verdicts

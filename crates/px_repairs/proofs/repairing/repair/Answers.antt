@@ -1,0 +1,29 @@
+use Rattle.std.proofs.Common.{refl}
+use Rattle.px_keptcells.specs.Kept.{laid}
+use Rattle.px_reading.proofs.Looked.{looked_index, no_look}
+use Rattle.px_repairs.proofs.Handing.{got_some, repaired_by}
+use Rattle.px_repairs.proofs.repairing.repair.Goals as goal
+
+pub returns-clause-repaired : goal.returns-clause-repaired
+returns-clause-repaired g c =
+    repaired_by g.D.Disk c.args.group.now _ c.args.disk.now c.write.new.disk c.args.place (laid c.args.kept) c.index_mut.result.now c.write.new.region
+    record {
+      index = got_some c.args.group.now.indexes.items c.args.place _ c.index_mut.result.now c.requires.there c.index_mut.ensures.value;
+      indexes = refl;
+      table = refl;
+      rows = refl;
+      batches = refl;
+      points = refl;
+      last = refl;
+      horizon = refl;
+    }
+    (λ looked. record {
+      table = refl;
+      rows = no_look c.args.group.now.rows;
+      indexes = looked_index c.args.group.now c.args.place c.requires.there _ c.index_mut.result.now c.index_mut.ensures.value c.write.new.region looked.alike looked.promised;
+      batches = refl;
+      points = refl;
+      last = refl;
+      horizon = refl;
+    })
+    c.write.result c.write.ensures.written

@@ -1,0 +1,39 @@
+// A repair, from the look to the write.
+ghost use Rattle.std.specs.Prelude.{◌≡◌, ◌<◌, length, Err};
+ghost use Rattle.px_outside.specs.OnDisk.{Rose};
+ghost use Rattle.px_group.specs.Group.{IsRightGroup};
+ghost use Rattle.px_repairs.specs.Repairs.{Fixes};
+
+use crate::judging::{Judged, judge};
+use crate::repairing::{RepairFault, repair};
+use px_calls::Fixing;
+use px_group::Group;
+use px_outside::Disk;
+use std::alloc::Global;
+
+/// Repairs the version of a stamp at a key of the index at a place, by a verdict of its own.
+///
+/// Where it is refused for want of room or memory, nothing changes. Where the disk fails, no call may follow.
+pub fn fix<D: Disk>(
+    alloc: Global,
+    disk: &mut D,
+    group: &mut Group,
+    place: usize,
+    key: &[u8],
+    stamp: u64,
+) -> Result<Fixing, RepairFault>
+    requires right { IsRightGroup group.old }
+    requires there { place < length group.old.indexes.items }
+    ensures fixes { Fixes ⟦<D as Disk>⟧ group.old group.new disk.old disk.new place key.now stamp result }
+    ensures failed { result ≡ Err RepairFault.WriteFault → Rose ⟦<D as Disk>⟧ disk.old disk.new }
+{
+    match judge(alloc, disk, group, place, key, stamp) {
+        Ok(Judged::Gone) => Ok(Fixing::Gone),
+        Ok(Judged::InFlight) => Ok(Fixing::InFlight),
+        Ok(Judged::Due(kept)) => match repair(alloc, disk, group, place, kept) {
+            Ok(()) => Ok(Fixing::Fixed),
+            Err(fault) => Err(fault),
+        },
+        Err(_) => Err(RepairFault::Memory),
+    }
+}
