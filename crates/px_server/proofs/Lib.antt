@@ -7,6 +7,7 @@ pub mod Decided
 pub mod Elsewhere
 pub mod Ended
 pub mod FitsRows
+pub mod Ends
 pub mod Found
 pub mod Framed
 pub mod Handed

@@ -6,6 +6,7 @@
 #![tactic(auto)]
 
 mod beginning;
+mod ending;
 mod finding;
 mod founded;
 mod laws;

@@ -1,0 +1,70 @@
+use Rattle.std.proofs.Common.{◌≡◌, refl, sym, ap, subst, ◌∙◌}
+use Rattle.px_calls.specs.Calls.{IsReceipt}
+use Rattle.px_calls.specs.Known.{Adds}
+use Rattle.px_calls.specs.Requires.{CanEnd}
+use Rattle.px_trail.specs.declared.entry.Act.TheVariants.{Ended as EndedAct}
+use Rattle.px_group.specs.declared.group.Group.{Group}
+use Rattle.px_standing.proofs.Looked.{lacks}
+use Rattle.px_server.specs.Shown.{Shown, known_by}
+use Rattle.px_server.proofs.Ended.{written_batch}
+use Rattle.px_server.proofs.Ends.{end_stamp, ends, has_end, receipt}
+use Rattle.px_server.proofs.Released.{place_in}
+use Rattle.px_server.proofs.PointOpened.{one_there}
+use Rattle.px_server.proofs.Running.{none_running}
+use Rattle.px_server.proofs.Seen.{one_more}
+use Rattle.px_server.proofs.server.Server.end.Goals as goal
+
+pub unreachable-requires : goal.unreachable-requires
+unreachable-requires g c =
+    let s = c.self.inside in
+    let b = g.B.Based.base in
+    let told = c.self.invariant.0.told in
+    let can : CanEnd (known_by b g.B.Based.damaged (record { seat = s.seat; entries = s.trail.entries; late = s.late; closed = s.closed })) c.args.t = subst (λ (v : Shown). CanEnd (known_by b g.B.Based.damaged v) c.args.t) (sym c.self.view_is) c.requires in
+    let w = written_batch b s.trail.entries told.legal s.seat c.args.t.table.0 c.args.t.stamp can in
+    none_running b s.trail.entries told.legal c.args.t.table.0 c.args.t.stamp w.batch w.is w.running (lacks b s.trail.entries s.standing told.agrees c.args.t.table.0 c.in_default.ensures.none)
+
+pub unreachable-requires-in_default-batch_place : goal.unreachable-requires-in_default-batch_place
+unreachable-requires-in_default-batch_place g c =
+    let s = c.self.inside in
+    let b = g.B.Based.base in
+    let can : CanEnd (known_by b g.B.Based.damaged (record { seat = s.seat; entries = s.trail.entries; late = s.late; closed = s.closed })) c.args.t = subst (λ (v : Shown). CanEnd (known_by b g.B.Based.damaged v) c.args.t) (sym c.self.view_is) c.requires in
+    has_end g.D.Disk b g.B.Founded.sound g.B.Founded.premise s.disk s.catalog s.standing s.groups.items s.trail s.late s.closed c.self.invariant.0 c.args.t.table c.in-Some.place c.index.result.now c.in-Some.ensures.found c.in-Some.ensures.numbered (sym c.index.ensures) c.args.t.stamp
+    s.seat can c.in_default-batch_place.ensures.none
+
+pub invariant_of-self : goal.invariant_of-self
+invariant_of-self g c =
+    let s = c.self.inside in
+    let b = g.B.Based.base in
+    let kept = c.self.invariant.0 in
+    let can : CanEnd (known_by b g.B.Based.damaged (record { seat = s.seat; entries = s.trail.entries; late = s.late; closed = s.closed })) c.args.t = subst (λ (v : Shown). CanEnd (known_by b g.B.Based.damaged v) c.args.t) (sym c.self.view_is) c.requires in
+    let place = c.in-Some in
+    let same : c.index.result.now ≡ c.index_mut.result.now = one_there s.groups.items place.place c.index.result.now c.index_mut.result.now (place_in s.groups.items s.standing.tables kept.each.stand place.place place.ensures.found) (sym c.index.ensures) (sym c.index_mut.ensures.value) in
+    let x = c.end-rows.ensures in
+    let stamp = end_stamp c.index.result.now c.index_mut.result.now same c.in-Some-batch_place.batch c.args.t.stamp c.in-Some-batch_place.ensures.found x.batch x.goes.batch in (
+      ends g.D.Disk b g.B.Founded.sound g.B.Founded.premise s.disk s.catalog s.standing s.groups.items s.trail s.late s.closed kept c.args.t.table place.place c.index_mut.result.now place.ensures.found place.ensures.numbered (sym c.index_mut.ensures.value) c.args.t.stamp
+          s.seat can c.in-Some-batch_place.batch x.batch x.goes.batch stamp c.call_count.result c.call_count.ensures g.met.D.Disk.told g.met.D.Disk.up_to_now c.end-rows.new.group x.goes c.push.new.self c.push.ensures.entries c.push.ensures.room,
+      c.self.invariant.1,
+    )
+
+pub returns-clause-adds : goal.returns-clause-adds
+returns-clause-adds g c =
+    let s = c.self.inside in
+    let told = c.self.invariant.0.told in
+    let v : Shown = record { seat = s.seat; entries = s.trail.entries; late = s.late; closed = s.closed } in
+    let v' : Shown = record { seat = s.seat; entries = c.push.new.self.entries; late = s.late; closed = s.closed } in
+    subst (λ (w : Shown). Adds (known_by g.B.Based.base g.B.Based.damaged w) (known_by g.B.Based.base g.B.Based.damaged v') (EndedAct c.args.t.table c.args.t.stamp)) c.self.view_is
+    (one_more (known_by g.B.Based.base g.B.Based.damaged v) c.push.new.self.entries c.call_count.result (EndedAct c.args.t.table c.args.t.stamp) told.legal c.push.ensures.entries (invariant_of-self g c).0.told.legal)
+
+pub returns-clause-receipt : goal.returns-clause-receipt
+returns-clause-receipt g c =
+    let s = c.self.inside in
+    let b = g.B.Based.base in
+    let kept = c.self.invariant.0 in
+    let can : CanEnd (known_by b g.B.Based.damaged (record { seat = s.seat; entries = s.trail.entries; late = s.late; closed = s.closed })) c.args.t = subst (λ (v : Shown). CanEnd (known_by b g.B.Based.damaged v) c.args.t) (sym c.self.view_is) c.requires in
+    let place = c.in-Some in
+    let same : c.index.result.now ≡ c.index_mut.result.now = one_there s.groups.items place.place c.index.result.now c.index_mut.result.now (place_in s.groups.items s.standing.tables kept.each.stand place.place place.ensures.found) (sym c.index.ensures) (sym c.index_mut.ensures.value) in
+    let x = c.end-rows.ensures in
+    let stamp = end_stamp c.index.result.now c.index_mut.result.now same c.in-Some-batch_place.batch c.args.t.stamp c.in-Some-batch_place.ensures.found x.batch x.goes.batch in
+    subst (λ (n : _). IsReceipt (record { seat = s.seat; base = b; damaged = g.B.Based.damaged; alone = _; seen = c.push.new.self.entries }) c.args.t (record { table = c.args.t.table; stamp = c.args.t.stamp; rows = c.end-rows.result.rows; concurrent = c.end-rows.result.concurrent; unfinished = s.closed; at = n })) (sym c.len.ensures)
+    (receipt g.D.Disk b g.B.Founded.sound g.B.Founded.premise s.disk s.catalog s.standing s.groups.items s.trail s.late s.closed kept c.args.t.table place.place c.index_mut.result.now place.ensures.found place.ensures.numbered (sym c.index_mut.ensures.value) c.args.t.stamp
+    s.seat can c.in-Some-batch_place.batch x.batch x.goes.batch stamp c.call_count.result c.call_count.ensures g.B.Based.damaged c.end-rows.new.group c.end-rows.result x refl c.push.new.self c.push.ensures.entries (invariant_of-self g c).0.told.closing)
