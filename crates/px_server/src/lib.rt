@@ -9,6 +9,7 @@ mod beginning;
 mod finding;
 mod founded;
 mod laws;
+mod opening;
 mod points;
 mod readying;
 mod server;
@@ -16,4 +17,5 @@ mod taking;
 
 pub use founded::Founded;
 pub use laws::law_points;
+pub use opening::law_starts;
 pub use server::Server;
