@@ -1,12 +1,11 @@
 -- What a run begins with is a base.
-use Rattle.std.proofs.Common.{◌≡◌, ◌<◌, ◌≤◌, inl, inr, ℕ, zero, suc, Bool, true, false, ◌&&◌, Option, Some, None, List, [], ◌∷◌, refl, sym, ap, subst, ◌∙◌, arith}
+use Rattle.std.proofs.Common.{◌≡◌, ◌≤◌, inl, inr, ℕ, suc, Bool, true, false, ◌&&◌, Option, Some, None, List, refl, sym, ap, ◌∙◌, arith}
 use Rattle.std.specs.Prelude.{max, nat_lt}
 use Rattle.std.proofs.lemmas.Bool.{cases_lt, and_parts, false≢true}
 use Rattle.px_values.specs.declared.row.Value.{Value}
-use Rattle.px_values.specs.States.{RowState}
 use Rattle.px_tables.specs.declared.table.Table.{Table}
 use Rattle.px_cells.specs.Contents.{value_at}
-use Rattle.px_trail.specs.Trail.{Base, IsBase}
+use Rattle.px_trail.specs.Trail.{IsBase}
 use Rattle.px_forms.specs.Rows.{DataForm, IsDataForm}
 use Rattle.px_rows.specs.Spelled.{row_form}
 use Rattle.px_rows.proofs.Spelled.{table_laws}

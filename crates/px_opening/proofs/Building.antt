@@ -1,11 +1,11 @@
 -- Groups that are made of what was read.
-use Rattle.std.proofs.Common.{◌≡◌, ◌≢◌, ◌<◌, ◌≤◌, ◌+◌, ℕ, zero, suc, Bool, true, false, List, [], ◌∷◌, ◌++◌, length, take, get_or, map, refl, sym, ap, subst, ◌∙◌, append_assoc, arith, inl, inr, Some}
+use Rattle.std.proofs.Common.{◌≡◌, ◌<◌, ◌+◌, ℕ, zero, suc, Bool, true, false, List, [], ◌∷◌, ◌++◌, length, take, get_or, map, refl, sym, ap, subst, ◌∙◌, append_assoc, arith, inl, inr, Some}
 use Rattle.std.specs.Prelude.{◌==◌, cond, filter, max, slice_get, IfOk, IsPermutation, Result, Ok, Err}
 use Rattle.std.specs.List.{All, AllByRecursion, flat_map}
-use Rattle.std.proofs.lemmas.Bool.{cases_Bool, false≢true}
+use Rattle.std.proofs.lemmas.Bool.{cases_Bool}
 use Rattle.std.proofs.lemmas.List.{append-nil, map-append, take_more}
 use Rattle.std.proofs.lemmas.Grind.{flat_map-append}
-use Rattle.std.proofs.lemmas.List.Elements.{All-append, All-from_recursion, All-get_or, All-weaker, filter-append, filter_more, recursion_from_All}
+use Rattle.std.proofs.lemmas.List.Elements.{All-from_recursion, All-get_or, All-weaker, filter-append, filter_more, recursion_from_All}
 use Rattle.std.proofs.lemmas.List.Sorted.{All-permutation, IsPermutation-append_right, IsPermutation-cons, IsPermutation-map, IsPermutation-trans}
 use Rattle.px_cells.specs.CellData.{CellData}
 use Rattle.px_tables.specs.declared.index.Index.{Index}
@@ -32,7 +32,8 @@ use Rattle.px_gatelog.specs.declared.fault.StartFault.{StartFault}
 use Rattle.px_gatelog.specs.declared.fault.StartFault.TheVariants as start
 use Rattle.px_opening.specs.declared.fault.OpenFault.TheVariants.{Damaged}
 use Rattle.px_opening.specs.inner.Faults.{of_start}
-use Rattle.px_opening.proofs.Lists.{each_table, some_is}
+use Rattle.px_standing.specs.Agrees.{number_of_table}
+use Rattle.px_opening.proofs.Lists.{each_table, rising_once, some_is}
 use Rattle.px_catalog.specs.Catalogue.{standing_of}
 use Rattle.px_opening.specs.Opened.{IsDataOf, IsGroupOf, IsOpenedRight, IsPartRead, IsPartRight, all_regions, files_by, folder_in, index_in, is_standing, region_in, regions_in, regions_of, table_in_group}
 use Rattle.px_opening.specs.declared.opened.Opened.{Opened}
@@ -221,7 +222,7 @@ right_for s right t found = All-weaker (IsRightOf s.tables) (λ i. i.table.0 ≡
 -- a table at a place is found by its number
 pub found_at : (s : Standing) → AreRight s → (k : ℕ) (t : Table) → k < length s.tables → t ≡ get_or s.tables k t → table_in s.tables t.id.0 ≡ Some t
 found_at s right k t lt is =
-    subst (λ (x : Table). table_in s.tables x.id.0 ≡ Some x) (sym is) (All-get_or (λ x. table_in s.tables x.id.0 ≡ Some x) s.tables k t lt (All-from_recursion (λ x. table_in s.tables x.id.0 ≡ Some x) s.tables (each_table s.tables right.tables_once)))
+    subst (λ (x : Table). table_in s.tables x.id.0 ≡ Some x) (sym is) (All-get_or (λ x. table_in s.tables x.id.0 ≡ Some x) s.tables k t lt (All-from_recursion (λ x. table_in s.tables x.id.0 ≡ Some x) s.tables (each_table s.tables (rising_once number_of_table s.tables right.tables_rise))))
 
 -- the tables of the groups with one more
 pub tables_next : (ts : List Table) (k : ℕ) (t : Table) (gs : List Group) (g : Group) → k < length ts → t ≡ get_or ts k t → g.table ≡ t → map table_in_group gs ≡ take k ts → map table_in_group (gs ++ g ∷ []) ≡ take (k + 1) ts

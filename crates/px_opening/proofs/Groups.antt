@@ -1,32 +1,26 @@
 -- What holds of a folder that was opened.
-use Rattle.std.proofs.Common.{◌≡◌, ◌≢◌, ◌<◌, ◌≤◌, inl, inr, ℕ, zero, suc, Bool, true, false, Option, Some, None, List, [], ◌∷◌, ◌++◌, length, map, get_or, refl, sym, ap, subst, ◌∙◌, arith}
+use Rattle.std.proofs.Common.{◌≡◌, ◌≢◌, ◌<◌, ℕ, zero, suc, Bool, true, false, Some, None, List, [], ◌∷◌, length, map, get_or, refl, sym, ap, subst, ◌∙◌, arith}
 use Rattle.std.proofs.lemmas.Bool.{eq-eqb}
 use Rattle.std.specs.Prelude.{◌==◌, filter, slice_get, sum_by, if◌then◌else◌}
 use Rattle.std.specs.List.{All, AllByRecursion}
 use Rattle.std.proofs.lemmas.List.{append-nil, length-map}
 use Rattle.std.proofs.lemmas.List.Elements.{All-from_recursion, recursion_from_All}
 use Rattle.px_outside.specs.Parts.{AreDistinct, HasNone}
-use Rattle.px_cells.specs.CellData.{CellData}
 use Rattle.px_tables.specs.declared.index.Index.{Index}
 use Rattle.px_tables.specs.declared.index.IndexState.{IndexState}
 use Rattle.px_tables.specs.declared.index.IndexState.TheVariants.{Building, Active, Disabled}
 use Rattle.px_tables.specs.declared.table.Table.{Table}
 use Rattle.px_tables.specs.declared.table.TableRegion.{TableRegion}
 use Rattle.px_trail.specs.Batches.{batch_from}
-use Rattle.px_trail.specs.Trail.{Base, IsRightBase, catalogue_from, horizon_from, last_from, points_from}
+use Rattle.px_trail.specs.Trail.{Base, IsRightBase, catalogue_from, catalogue_of, horizon_from, last_from, points_from}
 use Rattle.px_groupworld.specs.Group.{GroupData, GroupKept, IndexPart, TableForm, no_part}
-use Rattle.px_groupworld.specs.Sound.{IsSoundTable}
 use Rattle.px_groupworld.proofs.Fresh.{sound_group}
 use Rattle.px_openbatches.specs.Pending.{HeldKept}
 use Rattle.px_phases.specs.Batch.{AreHeldAs}
-use Rattle.px_tablesteps.specs.Kept.{TableKept}
 use Rattle.px_tablefolder.specs.Folder.{IndexFiles, TableFiles, folder_high, folder_last, folder_state}
 use Rattle.px_tablefolder.proofs.TableStops.{folder_sound}
 use Rattle.px_region.specs.Region.{RegionData, data_of, read_of}
-use Rattle.px_region.specs.declared.region.Region.{Region}
-use Rattle.px_schema.specs.declared.standing.Standing.{Standing}
-use Rattle.px_catalog.specs.Catalogue.{standing_of}
-use Rattle.px_group.specs.Group.{AreInPhase, AreStanding, IsPartOf, IsRightBatch, IsRightGroup, IsRightPart, IsShownBy, IsTallied, batch_in, is_built, points_in, region_of}
+use Rattle.px_group.specs.Group.{AreInPhase, AreStanding, IsRightBatch, IsRightGroup, IsRightPart, IsShownBy, IsTallied, batch_in, is_built, points_in}
 use Rattle.px_group.specs.Room.{HasRooms, IsLight, bytes_at, bytes_of_rows, cells_at, cells_of_rows}
 use Rattle.px_group.specs.declared.group.Begun.{Begun}
 use Rattle.px_group.specs.declared.group.Group.{Group}
@@ -40,15 +34,16 @@ use Rattle.px_recovery.specs.Tables as recovery
 use Rattle.px_recovery.proofs.Numbered.{all_found, distinct_filter, found_number}
 use Rattle.px_recovery.proofs.Opened.{is_opened, opened_data, opened_part, parts_once}
 use Rattle.px_recovery.proofs.Round.{is_base, sound_explains}
-use Rattle.px_rows.specs.Keys.{IsRightTable}
 use Rattle.px_rows.specs.Spelled.{row_form}
 use Rattle.px_indexrow.specs.Form.{IsRightIndex}
-use Rattle.px_folder.specs.Drawn.{AreDrawn, IsDrawnIndex, IsDrawnTable}
+use Rattle.px_folder.specs.Drawn.{IsDrawn, IsDrawnIndex, IsDrawnTable}
 use Rattle.px_opening.specs.Definitions.{AreRight, IsOneRegion, IsRightDefinition, IsRightOf, first_number}
-use Rattle.px_opening.specs.Opened.{IsDataOf, IsGroupOf, IsOpenedRight, IsPartRight, folder_in, index_in, is_standing, table_in_group}
+use Rattle.px_opening.specs.Opened.{IsGroupOf, IsOpenedAs, IsOpenedRight, IsPartRight, folder_in, index_in, is_standing, table_in_group}
 use Rattle.px_opening.specs.declared.opened.Opened.{Opened}
+use Rattle.px_schema.specs.Stands.{index_draws, table_draws}
+use Rattle.px_standing.specs.Agrees.{Agrees, IsInOrder, as_opened, number_of_table, opened_standing}
 use Rattle.px_opening.proofs.Bases.{rows_base}
-use Rattle.px_opening.proofs.Lists.{IsFound, IsIn, active_opened, all_both, all_in, all_mapped, all_slice, each_index, each_table, found_in, in_filter, in_mapped, index_number, opened_from, opened_some, some_is}
+use Rattle.px_opening.proofs.Lists.{IsFound, IsIn, active_opened, all_both, all_in, all_mapped, all_slice, each_index, each_table, found_in, in_filter, in_mapped, index_number, index_opened, opened_from, opened_some, rising_map, rising_once, some_is, all_weaker, drawn_numbers}
 
 -- ---- the tables of a sound folder, as their files show them
 
@@ -125,7 +120,7 @@ module _ (f : FolderData) (g : Group) (own : IsGroupOf f.regions f.standing.inde
       subst (λ (x : Table). IsRightIndex x i) same r.right
 
   found_parts : AllByRecursion (λ (x : IndexRegion). IsFound indexes t x.index) g.indexes.items
-  found_parts = all_mapped (IsFound indexes t) index_in g.indexes.items (subst (λ (l : List Index). AllByRecursion (IsFound indexes t) l) (sym own.indexes_are) (each_index indexes t right.indexes_once))
+  found_parts = all_mapped (IsFound indexes t) index_in g.indexes.items (subst (λ (l : List Index). AllByRecursion (IsFound indexes t) l) (sym own.indexes_are) (each_index indexes t (rising_once number_of_index indexes right.indexes_rise)))
 
   known : AllByRecursion (IsKnownPart f.regions indexes g.table) g.indexes.items
   known = all_both (λ x. IsFound indexes t x.index) (IsPartRight f.regions g.table) (IsKnownPart f.regions indexes g.table)
@@ -256,6 +251,13 @@ module _ (f : FolderData) (g : Group) (own : IsGroupOf f.regions f.standing.inde
   abbrev form : TableForm
   form = form_of b indexes g.table
 
+  pub opened_group : IsOpenedAs f g shown
+  opened_group = record {
+    base = is_base f g.table found;
+    opened = is_opened files;
+    horizons = λ i x is. ap (λ (p : IndexPart). p.horizon) (ap (λ (l : List IndexPart). get_or l i no_part) parts_are ∙ at_part g.indexes.items i x is);
+  }
+
   module _ (sound : IsSoundFolder f) where
     kept : GroupKept form [] shown
     kept = sound_group form shown (shown_part f sound t g.table found).sound
@@ -292,7 +294,7 @@ module _ (o : Opened) (r : IsOpenedRight o) where
   known_groups = all_both (λ g. IsGroupOf f.regions f.standing.indexes g × IsRightDefinition g.table) (λ g. table_in f.standing.tables g.table.id.0 ≡ Some g.table) (IsKnownGroup f) (λ g p found. record { own = p.0; found = found; defined = p.1 }) groups
       (all_both (IsGroupOf f.regions f.standing.indexes) (λ g. IsRightDefinition g.table) (λ g. IsGroupOf f.regions f.standing.indexes g × IsRightDefinition g.table) (λ g a c. (a, c)) groups (recursion_from_All (IsGroupOf f.regions f.standing.indexes) groups r.groups)
       (of_tables IsRightDefinition (recursion_from_All IsRightDefinition f.standing.tables r.right.tables)))
-      (of_tables (λ x. table_in f.standing.tables x.id.0 ≡ Some x) (each_table f.standing.tables r.right.tables_once))
+      (of_tables (λ x. table_in f.standing.tables x.id.0 ≡ Some x) (each_table f.standing.tables (rising_once number_of_table f.standing.tables r.right.tables_rise)))
 
   each_group : (Q : Group → Type 0) → ((g : Group) → IsKnownGroup f g → Q g) → All Q groups
   each_group Q to = All-from_recursion Q groups (all_both (IsKnownGroup f) (IsKnownGroup f) Q (λ g k same. to g k) groups known_groups known_groups)
@@ -307,6 +309,10 @@ module _ (o : Opened) (r : IsOpenedRight o) where
   all_shown sound = each_group (λ g. IsShownBy (base_of f) (λ n. form_in g.table (recovery.index_in f.standing.indexes n)) [] g (shown_of f g.table.id.0) [])
       (λ g k. subst (λ (v : GroupData). IsShownBy (base_of f) (λ n. form_in g.table (recovery.index_in f.standing.indexes n)) [] g v []) (sym (ap (told_of (λ x. opened_data (table_files f x)) no_data) k.found))
       (shown_group f g k.own r.right k.found k.defined sound))
+
+  pub all_opened : All (λ g. IsOpenedAs f g (shown_of f g.table.id.0)) groups
+  all_opened = each_group (λ g. IsOpenedAs f g (shown_of f g.table.id.0))
+      (λ g k. subst (λ (v : GroupData). IsOpenedAs f g v) (sym (ap (told_of (λ x. opened_data (table_files f x)) no_data) k.found)) (opened_group f g k.own r.right k.found k.defined))
 
   -- the base
 
@@ -340,4 +346,36 @@ module _ (o : Opened) (r : IsOpenedRight o) where
     last = λ t is. none_told (λ x. folder_last (table_files f x)) 0 t is;
     horizon = λ t is. (none_told (λ x. folder_high (table_files f x)) 0 t is, none_told (λ x. (table_files f x).horizon) 0 t is);
     state = λ t row p is. none_told (λ x. folder_state (row_form x) (table_files f x) row p) None t is;
+  }
+
+  -- what stands
+
+  below_tables : (n : ℕ) (ts : List Table) → AllByRecursion (IsDrawnTable n) ts → AllByRecursion (λ (t : Table). AllByRecursion (λ (k : ℕ). k < n) (table_draws t)) ts
+  below_tables n [] all = tt
+  below_tables n (t ∷ ts) all = (
+    drawn_numbers (λ (k : ℕ). k < n) (λ (x : TableRegion). x.number) t.regions t.id.0 (all_weaker (λ (x : TableRegion). IsDrawn n x.number) (λ (x : TableRegion). x.number < n) (λ x d. d.below) t.regions (recursion_from_All (λ (x : TableRegion). IsDrawn n x.number) t.regions all.0.regions)) all.0.id,
+    below_tables n ts all.1,
+  )
+
+  below_indexes : (n : ℕ) (is : List Index) → AllByRecursion (IsDrawnIndex n) is → AllByRecursion (λ (i : Index). AllByRecursion (λ (k : ℕ). k < n) (index_draws i)) (map as_opened is)
+  below_indexes n [] all = tt
+  below_indexes n (i ∷ is) all = ((all.0.region.below, (all.0.id, tt)), below_indexes n is all.1)
+
+  pub opened_order : IsInOrder (opened_standing f.standing)
+  opened_order = record {
+    tables = r.right.tables_rise;
+    indexes = rising_map as_opened number_of_index f.standing.indexes r.right.indexes_rise;
+    below = record {
+      tables = below_tables f.standing.next f.standing.tables (recursion_from_All (IsDrawnTable f.standing.next) f.standing.tables r.drawn.tables);
+      indexes = below_indexes f.standing.next f.standing.indexes (recursion_from_All (IsDrawnIndex f.standing.next) f.standing.indexes r.drawn.indexes);
+    };
+  }
+
+  pub opened_agrees : Agrees (opened_standing f.standing) (catalogue_of (base_of f) [])
+  unfolding catalogue_from
+  opened_agrees = record {
+    order = opened_order;
+    next = refl;
+    tables = λ t. refl;
+    indexes = λ n. index_opened f.standing.indexes n;
   }

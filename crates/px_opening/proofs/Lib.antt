@@ -1,4 +1,5 @@
 pub mod Lists
+pub mod Rising
 pub mod Bases
 pub mod Groups
 pub mod Building

@@ -1,8 +1,8 @@
 -- Tables and indexes that are found by their numbers.
-use Rattle.std.proofs.Common.{◌≡◌, ◌≢◌, ◌<◌, ◌⊎◌, inl, inr, ℕ, zero, suc, Bool, true, false, Option, Some, None, List, [], ◌∷◌, map, refl, sym, ap, subst, ◌∙◌, arith}
+use Rattle.std.proofs.Common.{◌≡◌, ◌≢◌, ◌<◌, ◌⊎◌, inl, inr, ℕ, zero, suc, Bool, true, false, Option, Some, None, List, [], ◌∷◌, ◌++◌, map, refl, sym, ap, subst, ◌∙◌, arith}
 use Rattle.std.specs.Prelude.{◌==◌, if◌then◌else◌, filter, slice_get}
-use Rattle.std.specs.List.{All, AllByRecursion}
-use Rattle.std.proofs.lemmas.Bool.{cases_Bool, cases_eq, eq-eqb, eqb-true, ne_eqb, false≢true}
+use Rattle.std.specs.List.{AllByRecursion}
+use Rattle.std.proofs.lemmas.Bool.{eq-eqb, eqb-true, ne_eqb, false≢true}
 use Rattle.std.proofs.lemmas.List.Elements.{All-filter, All-from_get_or, filter_passes, recursion_from_All}
 use Rattle.px_outside.specs.Parts.{AreDistinct, HasNone}
 use Rattle.px_tables.specs.declared.index.Index.{Index}
@@ -12,7 +12,7 @@ use Rattle.px_tables.specs.declared.table.Table.{Table}
 use Rattle.px_recovery.specs.Stands.{opened_index, opened_state}
 use Rattle.px_recovery.specs.Tables.{index_in, indexes_of, is_active, number_of_index, table_in}
 use Rattle.px_recovery.proofs.Numbered.{index_placed}
-use Rattle.px_opening.specs.Definitions.{number_of_table}
+use Rattle.px_standing.specs.Agrees.{AreRisingBy, as_opened, number_of_table}
 use Rattle.px_opening.specs.Opened.{is_standing}
 
 -- ---- lists
@@ -32,6 +32,28 @@ pub all_slice : {A : Type 0} (P : A → Type 0) (xs : List A) (i : ℕ) (x : A) 
 all_slice P [] i x all is = absurd cc
 all_slice P (y ∷ ys) zero x all is = subst P (some_is y x is) all.0
 all_slice P (y ∷ ys) (suc i) x all is = all_slice P ys i x all.1 is
+
+pub all_weaker : {A : Type 0} (P Q : A → Type 0) → ((x : A) → P x → Q x) → (xs : List A) → AllByRecursion P xs → AllByRecursion Q xs
+all_weaker P Q to [] all = tt
+all_weaker P Q to (x ∷ xs) all = (to x all.0, all_weaker P Q to xs all.1)
+
+-- what stands in the order of its numbers has none of them twice
+pub rising_once : {A : Type 0} (num : A → ℕ) (xs : List A) → AreRisingBy num xs → AreDistinct num xs
+rising_once num [] up = tt
+rising_once num (x ∷ xs) up = (all_weaker (λ y. num x < num y) (λ y. num y ≢ num x) (λ y l same. omega (arith, l, same)) xs up.0, rising_once num xs up.1)
+
+all_mapped_back : {A B : Type 0} (P : B → Type 0) (g : A → B) (xs : List A) → AllByRecursion (λ x. P (g x)) xs → AllByRecursion P (map g xs)
+all_mapped_back P g [] all = tt
+all_mapped_back P g (x ∷ xs) all = (all.0, all_mapped_back P g xs all.1)
+
+pub rising_map : {A B : Type 0} (g : A → B) (num : B → ℕ) (xs : List A) → AreRisingBy (λ x. num (g x)) xs → AreRisingBy num (map g xs)
+rising_map g num [] up = tt
+rising_map g num (x ∷ xs) up = (all_mapped_back (λ y. num (g x) < num y) g xs up.0, rising_map g num xs up.1)
+
+-- numbers of these, and one more
+pub drawn_numbers : {A : Type 0} (P : ℕ → Type 0) (num : A → ℕ) (xs : List A) (n : ℕ) → AllByRecursion (λ x. P (num x)) xs → P n → AllByRecursion P (map num xs ++ n ∷ [])
+drawn_numbers P num [] n all last = (last, tt)
+drawn_numbers P num (x ∷ xs) n all last = (all.0, drawn_numbers P num xs n all.1 last)
 
 -- it is one of these
 abbrev pub IsIn : {A : Type 0} → A → List A → Type 0
@@ -142,3 +164,13 @@ opened_from None y is = absurd cc
 opened_from (Some z) y is =
     let e : record z { state = opened_state z.state } ≡ y = some_is (record z { state = opened_state z.state }) y is in
     (z, (refl, (ap (λ (i : Index). i.id.0) e, ap (λ (i : Index). i.table.0) e)))
+
+-- an index is found among those that are opened as it is opened
+found_opened : (i : Index) (o p : Option Index) → o ≡ opened_index p → (c : Bool) → (if c then Some (as_opened i) else o) ≡ opened_index (if c then Some i else p)
+found_opened i o p same true = refl
+found_opened i o p same false = same
+
+pub index_opened : (is : List Index) (n : ℕ) → index_in (map as_opened is) n ≡ opened_index (index_in is n)
+unfolding index_in
+index_opened [] n = refl
+index_opened (i ∷ is) n = found_opened i (index_in (map as_opened is) n) (index_in is n) (index_opened is n) (i.id.0 == n)

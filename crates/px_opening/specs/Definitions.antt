@@ -1,7 +1,6 @@
 -- Definitions that a server lets in.
 use Rattle.std.specs.Prelude.{◌≡◌, ℕ, List, [], ◌∷◌, Some}
 use Rattle.std.specs.List.{All}
-use Rattle.px_outside.specs.Parts.{AreDistinct}
 use Rattle.px_tables.specs.declared.index.Index.{Index}
 use Rattle.px_tables.specs.declared.table.Table.{Table}
 use Rattle.px_tables.specs.declared.table.TableRegion.{TableRegion}
@@ -9,9 +8,7 @@ use Rattle.px_rows.specs.Keys.{IsRightTable}
 use Rattle.px_indexrow.specs.Form.{IsRightIndex}
 use Rattle.px_schema.specs.declared.standing.Standing.{Standing}
 use Rattle.px_recovery.specs.Tables.{number_of_index, table_in}
-
-abbrev pub number_of_table : Table → ℕ
-number_of_table t = t.id.0
+use Rattle.px_standing.specs.Agrees.{AreRisingBy, number_of_table}
 
 -- the number of the first region
 abbrev pub first_number : List TableRegion → ℕ
@@ -34,9 +31,9 @@ pub record IsRightOf (tables : List Table) (i : Index) : Type 0 where
   pub stands : table_in tables i.table.0 ≡ Some table
   pub right : IsRightIndex table i
 
--- Each definition is right, and no number of a table or of an index stands twice.
+-- Each definition is right, and tables and indexes stand in the order of their numbers.
 pub record AreRight (s : Standing) : Type 0 where
   pub tables : All IsRightDefinition s.tables
   pub indexes : All (IsRightOf s.tables) s.indexes
-  pub tables_once : AreDistinct number_of_table s.tables
-  pub indexes_once : AreDistinct number_of_index s.indexes
+  pub tables_rise : AreRisingBy number_of_table s.tables
+  pub indexes_rise : AreRisingBy number_of_index s.indexes

@@ -1,22 +1,24 @@
 -- What was read of a folder, and what holds of it whatever the folder held.
-use Rattle.std.specs.Prelude.{◌≡◌, ◌++◌, ℕ, Bool, List, [], ◌∷◌, map, filter, IsPermutation}
+use Rattle.std.specs.Prelude.{◌≡◌, ◌++◌, ℕ, Bool, List, [], ◌∷◌, Some, map, filter, get_or, slice_get, IsPermutation}
 use Rattle.std.specs.List.{All, flat_map}
 use Rattle.px_outside.specs.Parts.{AreDistinct}
 use Rattle.px_tables.specs.declared.index.Index.{Index}
 use Rattle.px_tables.specs.declared.table.Table.{Table}
+use Rattle.px_rows.specs.Spelled.{row_form}
+use Rattle.px_groupworld.specs.Group.{GroupData, no_part}
 use Rattle.px_cellshapes.specs.Keys.{AreRightKeys}
 use Rattle.px_cellshapes.specs.Rows.{AreRightRows}
-use Rattle.px_tablefolder.specs.Folder.{TableFiles, folder_high, folder_last}
+use Rattle.px_tablefolder.specs.Folder.{IsFolderBase, IsOpened, TableFiles, folder_high, folder_last}
 use Rattle.px_region.specs.Region.{RegionData, data_of, read_of}
 use Rattle.px_region.specs.declared.region.Region.{Region}
-use Rattle.px_schema.specs.declared.standing.Standing.{Standing}
 use Rattle.px_catalog.specs.Catalogue.{standing_of}
 use Rattle.px_group.specs.declared.group.Group.{Group}
 use Rattle.px_group.specs.declared.group.IndexRegion.{IndexRegion}
+use Rattle.px_recovery.specs.Base.{base_of}
 use Rattle.px_recovery.specs.Folder.{FolderData, region_numbers}
 use Rattle.px_recovery.specs.Tables.{indexes_of, is_active, table_files}
 use Rattle.px_folder.specs.Drawn.{AreDrawn}
-use Rattle.px_folder.specs.Read.{data_at, folder_by, number_of}
+use Rattle.px_folder.specs.Read.{folder_by, number_of}
 use Rattle.px_opening.specs.Definitions.{AreRight, first_number}
 use Rattle.px_opening.specs.declared.opened.Opened.{Opened}
 
@@ -75,6 +77,12 @@ pub record IsGroupOf (f : ℕ → RegionData) (indexes : List Index) (g : Group)
   pub horizon : g.horizon ≡ folder_high (files_by f indexes g.table)
   pub batches : g.batches.items ≡ []
   pub points : g.points.items ≡ []
+
+-- The table's files open as this, by the folder's base, and each index is forgotten up to the horizon of its region.
+pub record IsOpenedAs (f : FolderData) (g : Group) (v : GroupData) : Type 0 where
+  pub base : IsFolderBase (base_of f) g.table.id.0 (row_form g.table) (table_files f g.table)
+  pub opened : IsOpened (table_files f g.table) v
+  pub horizons : (i : ℕ) (x : IndexRegion) → slice_get g.indexes.items i ≡ Some x → (get_or v.indexes i no_part).horizon ≡ (data_of x.region).horizon
 
 -- what holds of each folder that is opened
 pub record IsOpenedRight (o : Opened) : Type 0 where

@@ -1,9 +1,12 @@
 // Whether definitions are right.
-ghost use Rattle.std.specs.Prelude.{◌≡◌, ◌↔◌, IsTrue};
+ghost use Rattle.std.specs.Prelude.{◌≡◌, ◌<◌, ◌↔◌, IsTrue};
+ghost use Rattle.std.specs.List.{AllByRecursion};
 ghost use Rattle.std.specs.Option.{option_copied};
-ghost use Rattle.px_outside.specs.Parts.{AreDistinct, HasNone};
+ghost use Rattle.px_tables.specs.declared.index.Index.{Index as DefinedIndex};
+ghost use Rattle.px_tables.specs.declared.table.Table.{Table as DefinedTable};
 ghost use Rattle.px_recovery.specs.Tables.{number_of_index, table_in};
-ghost use Rattle.px_opening.specs.Definitions.{AreRight, IsOneRegion, IsRightDefinition, IsRightOf, number_of_table};
+ghost use Rattle.px_standing.specs.Agrees.{AreRisingBy, number_of_table};
+ghost use Rattle.px_opening.specs.Definitions.{AreRight, IsOneRegion, IsRightDefinition, IsRightOf};
 
 use px_cellshapes::{is_right_index, is_right_table};
 use px_schema::Standing;
@@ -51,47 +54,47 @@ fn is_right_of(tables: &[Table], index: &Index) -> bool
     }
 }
 
-/// Whether no table has the number.
-fn has_no_table(number: u32, tables: &[Table]) -> bool
-    ensures { IsTrue result ↔ HasNone number_of_table number tables.now }
+/// Whether the tables stand in the order of their numbers, which are greater than this one.
+fn are_tables_above(number: u32, tables: &[Table]) -> bool
+    ensures { IsTrue result ↔ (AllByRecursion (λ (t : DefinedTable). number < t.id.0) tables.now × AreRisingBy number_of_table tables.now) }
 {
     match tables {
         [] => true,
-        [first, others @ ..] => first.id.0 != number && has_no_table(number, others),
+        [first, others @ ..] => number < first.id.0 && are_tables_above(first.id.0, others),
     }
 }
 
-/// Whether no number of a table stands twice.
-fn are_tables_distinct(tables: &[Table]) -> bool
-    ensures { IsTrue result ↔ AreDistinct number_of_table tables.now }
+/// Whether the tables stand in the order of their numbers.
+fn are_tables_rising(tables: &[Table]) -> bool
+    ensures { IsTrue result ↔ AreRisingBy number_of_table tables.now }
 {
     match tables {
         [] => true,
-        [first, others @ ..] => has_no_table(first.id.0, others) && are_tables_distinct(others),
+        [first, others @ ..] => are_tables_above(first.id.0, others),
     }
 }
 
-/// Whether no index has the number.
-fn has_no_index(number: u32, indexes: &[Index]) -> bool
-    ensures { IsTrue result ↔ HasNone number_of_index number indexes.now }
+/// Whether the indexes stand in the order of their numbers, which are greater than this one.
+fn are_indexes_above(number: u32, indexes: &[Index]) -> bool
+    ensures { IsTrue result ↔ (AllByRecursion (λ (i : DefinedIndex). number < i.id.0) indexes.now × AreRisingBy number_of_index indexes.now) }
 {
     match indexes {
         [] => true,
-        [first, others @ ..] => first.id.0 != number && has_no_index(number, others),
+        [first, others @ ..] => number < first.id.0 && are_indexes_above(first.id.0, others),
     }
 }
 
-/// Whether no number of an index stands twice.
-fn are_indexes_distinct(indexes: &[Index]) -> bool
-    ensures { IsTrue result ↔ AreDistinct number_of_index indexes.now }
+/// Whether the indexes stand in the order of their numbers.
+fn are_indexes_rising(indexes: &[Index]) -> bool
+    ensures { IsTrue result ↔ AreRisingBy number_of_index indexes.now }
 {
     match indexes {
         [] => true,
-        [first, others @ ..] => has_no_index(first.id.0, others) && are_indexes_distinct(others),
+        [first, others @ ..] => are_indexes_above(first.id.0, others),
     }
 }
 
-/// Whether each definition is right, and no number of a table or of an index stands twice.
+/// Whether each definition is right, and tables and indexes stand in the order of their numbers.
 pub(crate) fn are_right(standing: &Standing) -> bool
     ensures { IsTrue result ↔ AreRight standing.now }
 {
@@ -99,6 +102,6 @@ pub(crate) fn are_right(standing: &Standing) -> bool
     let indexes = standing.indexes.as_slice();
     tables.iter().all(|table| is_right_definition(table))
         && indexes.iter().all(|index| is_right_of(tables, index))
-        && are_tables_distinct(tables)
-        && are_indexes_distinct(indexes)
+        && are_tables_rising(tables)
+        && are_indexes_rising(indexes)
 }

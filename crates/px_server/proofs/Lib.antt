@@ -29,6 +29,8 @@ pub mod Released
 pub mod Room
 pub mod Running
 pub mod Seen
+pub mod Started
+pub mod Starts
 pub mod Told
 pub mod Written
 pub mod Unbegun

@@ -2,3 +2,4 @@ pub mod Beginning
 pub mod Kept
 pub mod Points
 pub mod Shown
+pub mod Started

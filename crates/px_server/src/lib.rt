@@ -10,6 +10,7 @@ mod ending;
 mod finding;
 mod founded;
 mod laws;
+mod opening;
 mod points;
 mod readying;
 mod server;
@@ -17,4 +18,5 @@ mod taking;
 
 pub use founded::Founded;
 pub use laws::law_points;
+pub use opening::law_starts;
 pub use server::Server;

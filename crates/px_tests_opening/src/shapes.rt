@@ -35,6 +35,33 @@ fn wrong_definitions_are_damage(rt: HostRuntime) -> Result<(), Fail> {
     Ok(())
 }
 
+// What is opened of a folder with these two indexes, which are defined in this order.
+fn indexed(alloc: Global, first: &[u8], second: &[u8]) -> Option<Result<Found, OpenFault>>
+    requires first_short { length first.now < 2 ^ 32 }
+    requires second_short { length second.now < 2 ^ 32 }
+{
+    let mut disk = MemDisk::new(alloc);
+    let done = define(alloc, &mut disk, 3, first).is_some()
+        && define(alloc, &mut disk, 3, second).is_some();
+    let found = opened(alloc, &mut disk);
+    drop(disk);
+    if done { Some(found) } else { None }
+}
+
+#[test]
+fn definitions_stand_in_the_order_of_their_numbers(rt: HostRuntime) -> Result<(), Fail> {
+    let alloc = rt.alloc();
+    let damaged = Some(Err(OpenFault::Damaged { file: 0, place: 0 }));
+    let early = index_body(4, 3, 2, 0);
+    let late = index_body(6, 5, 2, 0);
+    assert!(rt;
+        matches!(indexed(alloc, &early, &late), Some(Ok(_))),
+        "rising"
+    );
+    assert!(rt; indexed(alloc, &late, &early) == damaged, "falling");
+    Ok(())
+}
+
 // Where the folder with one cell in region 1 is damaged.
 fn celled(alloc: Global, cell: &[u8]) -> Option<Result<Found, OpenFault>>
     requires short { length cell.now < 2 ^ 32 }

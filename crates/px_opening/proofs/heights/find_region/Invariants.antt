@@ -1,4 +1,3 @@
-use Rattle.std.proofs.Common.{◌≡◌}
 use Rattle.px_opening.proofs.heights.find_region.Given as goal
 
 abbrev pub invariant-loop-region : goal.invariant-loop-region

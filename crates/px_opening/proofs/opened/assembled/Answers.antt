@@ -1,10 +1,10 @@
-use Rattle.std.proofs.Common.{List, map, subst, sym, ◌≡◌, ◌∙◌, rules}
+use Rattle.std.proofs.Common.{subst, ◌∙◌, rules}
 use Rattle.std.specs.List.{All}
 use Rattle.px_catalog.specs.Catalogue.{standing_of}
 use Rattle.px_schema.specs.declared.standing.Standing.{Standing}
 use Rattle.px_folder.specs.Read.{data_at}
 use Rattle.px_opening.specs.Definitions.{AreRight}
-use Rattle.px_opening.specs.Opened.{IsGroupOf, table_in_group}
+use Rattle.px_opening.specs.Opened.{IsGroupOf}
 use Rattle.px_opening.proofs.Building.{data_all, folder_moved, opened_right}
 use Rattle.px_opening.proofs.opened.assembled.Goals as goal
 

@@ -1,14 +1,11 @@
 use Rattle.std.proofs.Common.{◌≡◌, ◌<◌, ◌∙◌, ◌++◌, ◌∷◌, [], List, length, map, get_or, ap, sym, subst, rules}
 use Rattle.std.specs.Prelude.{IsPermutation}
-use Rattle.std.specs.List.{All}
-use Rattle.std.proofs.lemmas.List.{map-append, take_more}
 use Rattle.std.proofs.lemmas.List.Elements.{All-push, All-same}
-use Rattle.std.proofs.lemmas.List.Sorted.{All-permutation}
 use Rattle.px_tables.specs.declared.index.Index.{Index}
 use Rattle.px_tables.specs.declared.table.Table.{Table}
 use Rattle.px_indexrow.specs.Form.{IsRightIndex}
 use Rattle.px_group.specs.declared.group.Group.{Group}
-use Rattle.px_opening.specs.Opened.{IsDataOf, IsGroupOf, regions_in, table_in_group}
+use Rattle.px_opening.specs.Opened.{IsGroupOf, regions_in, table_in_group}
 use Rattle.px_opening.proofs.Building.{found_at, group_same, groups_rest, moved_group, right_for, tables_next}
 use Rattle.px_opening.proofs.opened.make_groups.Goals as goal
 

@@ -1,8 +1,6 @@
-use Rattle.std.proofs.Common.{◌≡◌, ◌++◌, ℕ, map, take}
+use Rattle.std.proofs.Common.{◌≡◌, ◌++◌, map, take}
 use Rattle.std.specs.Prelude.{IsPermutation, filter}
 use Rattle.std.specs.List.{All}
-use Rattle.px_cellshapes.specs.Keys.{AreRightKeys}
-use Rattle.px_region.specs.Region.{RegionData, read_of}
 use Rattle.px_recovery.specs.Tables.{indexes_of}
 use Rattle.px_opening.specs.Opened.{IsPartRead, index_in, is_standing, region_in}
 use Rattle.px_opening.proofs.parts.take_indexes.Given as goal
