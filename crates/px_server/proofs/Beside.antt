@@ -23,7 +23,7 @@ use Rattle.px_noting.proofs.Shown.{shown_elsewhere}
 use Rattle.px_reading.specs.Doubts.{IsToldBy}
 use Rattle.px_recovery.specs.Folder.{FolderData}
 use Rattle.px_server.specs.Kept.{HasBegun, HasPoints, HasShown, HasTallied, IsOnDisk, forms_in, number_in}
-use Rattle.px_server.proofs.Lists.{all_at, all_set}
+use Rattle.px_server.proofs.Lists.{all_set}
 use Rattle.px_server.proofs.OpenBatches.{begun_elsewhere}
 use Rattle.px_server.proofs.Told.{told_elsewhere}
 

@@ -3,6 +3,7 @@ pub mod Begun
 pub mod Beside
 pub mod Blamed
 pub mod Changed
+pub mod Counted
 pub mod Decided
 pub mod Elsewhere
 pub mod Ended

@@ -1,5 +1,5 @@
 -- A table's horizon is at most its last stamp.
-use Rattle.std.proofs.Common.{◌≡◌, ◌≤◌, max, ℕ, Bool, true, false, ◌==◌, if◌then◌else◌, Option, Some, None, List, [], ◌∷◌, ◌++◌, refl, subst, arith}
+use Rattle.std.proofs.Common.{◌≡◌, ◌≤◌, ℕ, Bool, true, false, ◌==◌, if◌then◌else◌, Option, Some, None, List, [], ◌∷◌, ◌++◌, refl, subst, arith}
 use Rattle.std.proofs.lemmas.Bool.{eqb-true}
 use Rattle.px_tables.specs.declared.table.Table.{Table}
 use Rattle.px_tablefolder.specs.Folder.{IndexFiles, folder_high, folder_last, greatest_horizon, greatest_number}

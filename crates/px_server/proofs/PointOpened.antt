@@ -1,5 +1,5 @@
 -- A point is opened, or none is.
-use Rattle.std.proofs.Common.{◌≡◌, ◌<◌, ◌≤◌, ◌+◌, ◌-◌, ◌⊎◌, ◌&&◌, inl, inr, ℕ, zero, suc, Bool, true, false, Option, Some, None, List, [], ◌∷◌, ◌++◌, length, get_or, map, min, refl, sym, ap, subst, ◌∙◌, arith}
+use Rattle.std.proofs.Common.{◌≡◌, ◌<◌, ◌≤◌, ◌+◌, ◌-◌, ◌⊎◌, ◌&&◌, inl, inr, ℕ, zero, suc, Bool, true, false, Option, Some, None, List, [], ◌∷◌, ◌++◌, length, get_or, min, refl, sym, ap, subst, ◌∙◌, arith}
 use Rattle.std.specs.Prelude.{IsSome, IsTrue, is_some, nat_le, slice_get, sum_by}
 use Rattle.std.specs.List.{AllByRecursion, slice_set}
 use Rattle.std.proofs.lemmas.Bool.{and_parts, false≢true}
@@ -8,14 +8,13 @@ use Rattle.px_outside.specs.declared.disk.Disk.{Ghosts}
 use Rattle.px_values.specs.declared.name.TableId.{TableId}
 use Rattle.px_tables.specs.declared.found.Found.{Found}
 use Rattle.px_tables.specs.declared.table.Table.{Table}
-use Rattle.px_trail.specs.declared.entry.Act.{Act}
 use Rattle.px_trail.specs.declared.entry.Act.TheVariants.{Opened}
 use Rattle.px_trail.specs.declared.entry.Entry.{Entry}
 use Rattle.px_trail.specs.Batches.{Batch, IsDecided, IsIn, batch_of, phase_of}
 use Rattle.px_trail.specs.Batches as trail
 use Rattle.px_trail.specs.Legal.{Follows, IsLegal, MayCome}
 use Rattle.px_trail.specs.Recorded.{Recorded}
-use Rattle.px_trail.specs.Trail.{Base, Catalogue, catalogue_of, catalogue_step, closing_call, closing_step, horizon_of, last_of, last_step, table_of}
+use Rattle.px_trail.specs.Trail.{Base, Catalogue, catalogue_step, closing_call, closing_step, horizon_of, last_of, table_of}
 use Rattle.px_trail.proofs.Growth.{last-snoc}
 use Rattle.px_openbatches.specs.Pending.{HeldBatch}
 use Rattle.px_phases.specs.Batch.{BatchData}
@@ -32,16 +31,14 @@ use Rattle.px_noting.specs.Points.{HasOpened, IsSameBeside}
 use Rattle.px_noting.proofs.OpenPoints.{points_opened, tallied_opened}
 use Rattle.px_recovery.specs.Tables.{indexes_of}
 use Rattle.px_recovery.proofs.Server.{newest_early}
-use Rattle.px_standing.specs.Agrees.{Agrees}
 use Rattle.px_standing.proofs.Looked.{found_at}
-use Rattle.px_calls.specs.Calls.{DidOpen, IsFound}
+use Rattle.px_calls.specs.Calls.{DidOpen}
 use Rattle.px_calls.specs.Causes.{IsUndecided, Refuses, Stands, open_cause, stamp_at}
-use Rattle.px_calls.specs.Known.{Adds, IsRunning, Known, Sees}
+use Rattle.px_calls.specs.Known.{Known}
 use Rattle.px_calls.specs.declared.fault.StepFault.{StepFault}
 use Rattle.px_calls.specs.declared.fault.StepFault.TheVariants.{BelowHorizon, Memory, NoTable, NotYet}
-use Rattle.px_calls.specs.declared.query.Point.{Point}
 use Rattle.px_server.specs.Kept.{HasTallied, IsKept, IsTold, owed_by}
-use Rattle.px_server.specs.Points.{HasLeft, HasNoneLeft, IsNoPointOf, IsPointOf, is_left_at, point_under}
+use Rattle.px_server.specs.Points.{HasLeft, HasNoneLeft, IsNoPointOf, IsPointOf, point_under}
 use Rattle.px_server.proofs.Acted.{acted_still, once_at, points_at, right_at, same_acted, tallied_at}
 use Rattle.px_server.proofs.Decided.{decided}
 use Rattle.px_server.proofs.Ended.{IsLeftBatch, left_batch}

@@ -1,5 +1,5 @@
 -- Room in the trail for what a group owes.
-use Rattle.std.proofs.Common.{◌≡◌, ◌<◌, ◌≤◌, ◌+◌, ℕ, zero, suc, Option, Some, List, [], ◌∷◌, length, get_or, refl, sym, ap, ◌∙◌, arith}
+use Rattle.std.proofs.Common.{◌≡◌, ◌<◌, ◌≤◌, ◌+◌, ℕ, zero, suc, Option, Some, List, [], ◌∷◌, length, get_or, ap, arith}
 use Rattle.std.specs.Prelude.{remove, slice_get, sum_by}
 use Rattle.std.specs.List.{slice_set}
 use Rattle.std.proofs.lemmas.List.Sums.{get_or-le-sum_by, sum_by-remove, sum_by-set}
@@ -10,7 +10,7 @@ use Rattle.px_group.specs.declared.group.Group.{Group}
 use Rattle.px_group.specs.declared.group.OpenPoint.{OpenPoint}
 use Rattle.px_group.specs.declared.group.Phase.{Phase}
 use Rattle.px_group.specs.declared.group.Phase.TheVariants.{Marking, Writing, Verifying, Closing}
-use Rattle.px_server.specs.Kept.{HasTrailRoom, owed, owed_by, spare, steps_of}
+use Rattle.px_server.specs.Kept.{HasTrailRoom, owed, owed_by, steps_of}
 
 -- the group owes so many entries less as were added
 pub room_set : (groups : List Group) (place : ℕ) (g g' : Group) → place < length groups → get_or groups place g ≡ g → (closed : Option ℕ) (trail trail' : Recorded) → HasTrailRoom closed groups trail → owed g' + trail.room ≤ owed g + trail'.room → HasTrailRoom closed (slice_set groups place g') trail'

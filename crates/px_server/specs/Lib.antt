@@ -1,4 +1,5 @@
 pub mod Beginning
+pub mod Counts
 pub mod Kept
 pub mod Points
 pub mod Shown

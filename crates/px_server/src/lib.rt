@@ -14,6 +14,7 @@ mod opening;
 mod points;
 mod readying;
 mod server;
+mod status;
 mod taking;
 
 pub use founded::Founded;

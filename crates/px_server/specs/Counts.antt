@@ -1,0 +1,26 @@
+-- What a status counts.
+use Rattle.std.specs.Prelude.{◌≡◌, ◌==◌, ◌&&◌, ℕ, Bool, filter, length, nat_eq, not, List, [], ◌∷◌}
+use Rattle.std.specs.Cmp.Lexicographic.{pointwise}
+use Rattle.px_cells.specs.CellData.{CellData}
+use Rattle.px_cells.specs.Visible.{IsView}
+use Rattle.px_forms.specs.Indexes.{verified_byte}
+use Rattle.px_tables.specs.declared.index.Index.{Index}
+use Rattle.px_calls.specs.declared.status.IndexCount.{IndexCount}
+
+-- the count of an index, but for its keys
+abbrev pub count_as : Index → IndexCount
+count_as x = record { index = x.id; name = x.name; state = x.state; unverified = 0 }
+
+-- a count without its keys
+abbrev pub bare : IndexCount → IndexCount
+bare c = record c { unverified = 0 }
+
+-- the cell is the status of an index row that isn't verified
+abbrev pub is_unverified : CellData → Bool
+is_unverified c = (c.qualifier == 1) && not (pointwise nat_eq c.value (verified_byte ∷ []))
+
+-- so many of what a point above all stamps sees of these cells are
+pub record AreUnverified (cells : List CellData) (n : ℕ) : Type 0 where
+  pub seen : List CellData
+  pub view : IsView cells 18446744073709551615 seen
+  pub count : n ≡ length (filter is_unverified seen)

@@ -1,0 +1,122 @@
+// What a table's status counts.
+ghost use Rattle.std.specs.Prelude.{◌≡◌, ◌<◌, ◌≤◌, IfErr, IfOk, filter, length, map};
+ghost use Rattle.px_cells.specs.Order.{IsCellList};
+ghost use Rattle.px_calls.specs.Calls.{DidCount};
+ghost use Rattle.px_calls.specs.Causes.{Refuses, status_cause};
+ghost use Rattle.px_group.specs.Group.{IsRightGroup};
+ghost use Rattle.px_recovery.specs.Tables.{indexes_of};
+ghost use Rattle.px_server.specs.Counts.{AreUnverified, bare, count_as, is_unverified};
+ghost use Rattle.px_server.specs.Shown.{known_by};
+
+use crate::{Founded, Server};
+use px_calls::{IndexCount, IndexCounts, Status, StepFault};
+use px_cells::{Cell, visible_in};
+use px_defined::index_place;
+use px_group::Group;
+use px_outside::{Clock, CountsCalls};
+use px_seat::Based;
+use px_standing::numbered_place;
+use px_tables::Index;
+use px_values::{Items, Name, TableId};
+use std::alloc::{AllocError, Global};
+
+/// The qualifier of the column that has the status of an index row.
+const STATUS: u8 = 1;
+
+/// What stands there in a verified one.
+const VERIFIED: u8 = 1;
+
+/// Whether the cell is the status of an index row that isn't verified.
+fn is_unverified(cell: &Cell) -> bool
+    ensures { result ≡ is_unverified cell.now }
+{
+    cell.qualifier() == STATUS && cell.value() != [VERIFIED].as_slice()
+}
+
+/// How many of the cells are.
+fn unverified_among(cells: &[Cell]) -> u64
+    ensures { result ≡ length (filter is_unverified cells.now) }
+{
+    cells.iter().filter(|cell| is_unverified(cell)).count() as u64
+}
+
+/// How many keys of an index with these cells have a newest version that isn't verified.
+fn unverified_in(alloc: Global, cells: &[Cell]) -> Result<u64, AllocError>
+    requires { IsCellList cells.now }
+    ensures { IfOk result (AreUnverified cells.now) }
+{
+    let seen = visible_in(alloc, cells, u64::MAX)?;
+    Ok(unverified_among(seen.as_slice()))
+}
+
+/// The count of an index; one that is disabled has no keys.
+fn count_of(alloc: Global, group: &Group, index: &Index) -> Result<IndexCount, AllocError>
+    requires { IsRightGroup group.now }
+    ensures { IfOk result (λ c. bare c ≡ count_as index.now) }
+{
+    let unverified = match index_place(group, index.id) {
+        Some(place) => unverified_in(alloc, group.indexes[place].region.sorted_cells())?,
+        None => 0,
+    };
+    let name = Name::from_str(alloc, index.name.as_str())?;
+    Ok(IndexCount {
+        index: index.id,
+        name,
+        state: index.state,
+        unverified,
+    })
+}
+
+/// The counts of a table's indexes, in order of number.
+fn counts_of(
+    alloc: Global,
+    group: &Group,
+    indexes: &[Index],
+    table: TableId,
+) -> Result<IndexCounts, AllocError>
+    requires { IsRightGroup group.now }
+    ensures { IfOk result (λ cs. map bare cs ≡ map count_as (indexes_of table.0 indexes.now)) }
+{
+    let mut counts = Vec::new(alloc);
+    for index in indexes {
+        if index.table == table {
+            counts.push(count_of(alloc, group, index)?)?;
+        }
+    }
+    Ok(Items::of(counts))
+}
+
+/// How many cells the regions of a table and of its indexes have.
+fn cells_in(group: &Group) -> u64 {
+    let mut cells = group.rows.sorted_cells().len() as u64;
+    for part in group.indexes.as_slice() {
+        cells = cells.saturating_add(part.region.sorted_cells().len() as u64);
+    }
+    cells
+}
+
+impl<D: CountsCalls, C: Clock, B: Based + Founded> Server<D, C, B> {
+    /// The table's last stamp and horizon, and counts of its cells, files and index rows. All cells stand in logs: no region has a file of cells.
+    pub fn status(&mut self, table: TableId) -> Result<Status, StepFault>
+        ensures ok { IfOk result (DidCount (known_by B.base B.damaged self.old) (known_by B.base B.damaged self.new) table) }
+        ensures refused { IfErr result (Refuses (status_cause table.0) (known_by B.base B.damaged self.old) (known_by B.base B.damaged self.new)) }
+    {
+        if let Some(call) = self.closed {
+            return Err(StepFault::Closed { call });
+        }
+        let Some(place) = numbered_place(&self.standing, table) else {
+            return Err(StepFault::NoTable);
+        };
+        let group = &self.groups[place];
+        match counts_of(self.alloc, group, self.standing.indexes.as_slice(), table) {
+            Ok(indexes) => Ok(Status {
+                last: group.last,
+                horizon: group.horizon,
+                cells: cells_in(group),
+                files: 0,
+                indexes,
+            }),
+            Err(_) => Err(StepFault::Memory),
+        }
+    }
+}
