@@ -27,6 +27,7 @@ pub mod Pointed
 pub mod Refusing
 pub mod Released
 pub mod Room
+pub mod RowsTold
 pub mod Running
 pub mod Seen
 pub mod Started
@@ -34,3 +35,7 @@ pub mod Starts
 pub mod Told
 pub mod Written
 pub mod Unbegun
+pub mod Ticketed
+pub mod Told
+pub mod Written
+pub mod Wrote

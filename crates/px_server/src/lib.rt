@@ -15,6 +15,7 @@ mod points;
 mod readying;
 mod server;
 mod taking;
+mod writing;
 
 pub use founded::Founded;
 pub use laws::law_points;
