@@ -25,6 +25,7 @@ pub mod OwnRows
 pub mod PointOpened
 pub mod Pointed
 pub mod Refusing
+pub mod Prepared
 pub mod Released
 pub mod Room
 pub mod RowsTold
@@ -35,6 +36,7 @@ pub mod Starts
 pub mod Told
 pub mod Written
 pub mod Unbegun
+pub mod Stepped
 pub mod Ticketed
 pub mod Told
 pub mod Written

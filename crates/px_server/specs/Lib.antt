@@ -3,3 +3,4 @@ pub mod Kept
 pub mod Points
 pub mod Shown
 pub mod Started
+pub mod Upkeep

@@ -15,6 +15,7 @@ mod points;
 mod readying;
 mod server;
 mod taking;
+mod upkeep;
 mod writing;
 
 pub use founded::Founded;
