@@ -26,8 +26,10 @@ pub mod OwnRows
 pub mod PointOpened
 pub mod Pointed
 pub mod Refusing
+pub mod Prepared
 pub mod Released
 pub mod Room
+pub mod RowsTold
 pub mod Running
 pub mod Seen
 pub mod Started
@@ -35,3 +37,8 @@ pub mod Starts
 pub mod Told
 pub mod Written
 pub mod Unbegun
+pub mod Stepped
+pub mod Ticketed
+pub mod Told
+pub mod Written
+pub mod Wrote

@@ -4,3 +4,4 @@ pub mod Kept
 pub mod Points
 pub mod Shown
 pub mod Started
+pub mod Upkeep

@@ -16,6 +16,8 @@ mod readying;
 mod server;
 mod status;
 mod taking;
+mod upkeep;
+mod writing;
 
 pub use founded::Founded;
 pub use laws::law_points;

@@ -1,0 +1,78 @@
+use Rattle.std.proofs.Common.{◌≡◌, ◌<◌, ◌∙◌, None, Some, List, length, refl, sym, subst}
+use Rattle.px_calls.specs.Calls.{DidWork}
+use Rattle.px_calls.specs.Causes.{Refuses, upkeep_cause}
+use Rattle.px_calls.specs.declared.fault.StepFault.TheVariants.{Closed, Memory, WriteFault}
+use Rattle.px_calls.specs.declared.status.Work.TheVariants.{Did, Idle}
+use Rattle.px_group.specs.declared.group.Group.{Group}
+use Rattle.px_server.specs.Shown.{Shown, known_by}
+use Rattle.px_server.proofs.Found.{closed_by}
+use Rattle.px_server.proofs.Stepped.{did_work, stepped, stopped, work_failed, work_no_memory}
+use Rattle.px_server.proofs.server.Server.upkeep.Goals as goal
+
+pub returns-in-Some-clause-refused : goal.returns-in-Some-clause-refused
+returns-in-Some-clause-refused g c =
+    let s = c.self.inside in
+    let b = g.B.Based.base in
+    let told = c.self.invariant.0.told in
+    let v : Shown = record { seat = s.seat; entries = s.trail.entries; late = s.late; closed = s.closed } in
+    subst (λ (w : Shown). Refuses upkeep_cause (known_by b g.B.Based.damaged w) (known_by b g.B.Based.damaged w) (Closed c.in-Some.call)) c.self.view_is
+    (closed_by (known_by b g.B.Based.damaged v) told.legal s.closed told.closing c.in-Some.call c.in-Some.is)
+
+pub returns-in_default-unlogged_table-clause-ok : goal.returns-in_default-unlogged_table-clause-ok
+returns-in_default-unlogged_table-clause-ok g c =
+    let s = c.self.inside in
+    let b = g.B.Based.base in
+    let told = c.self.invariant.0.told in
+    let v : Shown = record { seat = s.seat; entries = s.trail.entries; late = s.late; closed = s.closed } in
+    subst (λ (w : Shown). DidWork (known_by b g.B.Based.damaged w) (known_by b g.B.Based.damaged w) Idle) c.self.view_is (did_work (known_by b g.B.Based.damaged v) told.legal (told.closing ∙ c.in_default.is) Idle)
+
+pub invariant_of-self : goal.invariant_of-self
+invariant_of-self g c =
+    let s = c.self.inside in (
+      stepped g.D.Disk g.met.D.Disk.told g.met.D.Disk.up_to_now g.B.Based.base g.B.Founded.sound g.B.Founded.premise s.disk s.catalog s.standing s.groups.items s.trail s.late s.closed c.self.invariant.0 c.in_default.is
+          c.in-Some-unlogged_table.place c.index_mut-group.result.now c.step_table.new.group (subst (λ (gs : List Group). c.in-Some-unlogged_table.place < length gs) c.as_slice.ensures.value c.in-Some-unlogged_table.ensures.found.0) (sym c.index_mut-group.ensures.value) c.step_table.new.disk c.in-Ok.ensures.ok,
+      c.self.invariant.1,
+    )
+
+pub invariant_of-self-in-Err-Memory : goal.invariant_of-self-in-Err-Memory
+invariant_of-self-in-Err-Memory g c =
+    let s = c.self.inside in (
+      stepped g.D.Disk g.met.D.Disk.told g.met.D.Disk.up_to_now g.B.Based.base g.B.Founded.sound g.B.Founded.premise s.disk s.catalog s.standing s.groups.items s.trail s.late s.closed c.self.invariant.0 c.in_default.is
+          c.in-Some-unlogged_table.place c.index_mut-group.result.now c.step_table.new.group (subst (λ (gs : List Group). c.in-Some-unlogged_table.place < length gs) c.as_slice.ensures.value c.in-Some-unlogged_table.ensures.found.0) (sym c.index_mut-group.ensures.value) c.step_table.new.disk ((rw c.in-Err-Memory.field-0-is at c.in-Err-Memory.ensures.refused) refl),
+      c.self.invariant.1,
+    )
+
+pub invariant_of-self-in-Err-WriteFault : goal.invariant_of-self-in-Err-WriteFault
+invariant_of-self-in-Err-WriteFault g c =
+    let s = c.self.inside in
+    let failed = (rw c.in-Err-WriteFault.field-0-is at c.in-Err-WriteFault.ensures.failed) refl in (
+      stopped g.D.Disk g.met.D.Disk.told g.met.D.Disk.up_to_now g.B.Based.base g.B.Founded.sound g.B.Founded.premise s.disk s.catalog s.standing s.groups.items s.trail s.late s.closed c.self.invariant.0 c.in_default.is
+          c.in-Some-unlogged_table.place c.index_mut-group.result.now c.step_table.new.group (subst (λ (gs : List Group). c.in-Some-unlogged_table.place < length gs) c.as_slice.ensures.value c.in-Some-unlogged_table.ensures.found.0) (sym c.index_mut-group.ensures.value) c.step_table.new.disk failed.0 c.call_count-calls.result s.seat c.call_count-calls.ensures failed.1 c.push.new.self c.push.ensures.entries c.push.ensures.room,
+      c.self.invariant.1,
+    )
+
+pub returns-in-Ok-clause-ok : goal.returns-in-Ok-clause-ok
+returns-in-Ok-clause-ok g c =
+    let s = c.self.inside in
+    let b = g.B.Based.base in
+    let told = c.self.invariant.0.told in
+    let v : Shown = record { seat = s.seat; entries = s.trail.entries; late = s.late; closed = s.closed } in
+    subst (λ (w : Shown). DidWork (known_by b g.B.Based.damaged w) (known_by b g.B.Based.damaged v) Did) c.self.view_is (did_work (known_by b g.B.Based.damaged v) told.legal (told.closing ∙ c.in_default.is) Did)
+
+pub returns-in-Err-Memory-clause-refused : goal.returns-in-Err-Memory-clause-refused
+returns-in-Err-Memory-clause-refused g c =
+    let s = c.self.inside in
+    let b = g.B.Based.base in
+    let told = c.self.invariant.0.told in
+    let v : Shown = record { seat = s.seat; entries = s.trail.entries; late = s.late; closed = s.closed } in
+    subst (λ (w : Shown). Refuses upkeep_cause (known_by b g.B.Based.damaged w) (known_by b g.B.Based.damaged v) Memory) c.self.view_is (work_no_memory (known_by b g.B.Based.damaged v) told.legal (told.closing ∙ c.in_default.is))
+
+pub returns-in-Err-WriteFault-clause-refused : goal.returns-in-Err-WriteFault-clause-refused
+returns-in-Err-WriteFault-clause-refused g c =
+    let s = c.self.inside in
+    let b = g.B.Based.base in
+    let told = c.self.invariant.0.told in
+    let v : Shown = record { seat = s.seat; entries = s.trail.entries; late = s.late; closed = s.closed } in
+    let v' : Shown = record { seat = s.seat; entries = c.push.new.self.entries; late = s.late; closed = Some c.call_count-calls.result } in
+    subst (λ (w : Shown). Refuses upkeep_cause (known_by b g.B.Based.damaged w) (known_by b g.B.Based.damaged v') WriteFault) c.self.view_is
+    (work_failed (known_by b g.B.Based.damaged v) told.legal c.push.new.self.entries c.call_count-calls.result c.call_count-calls.result c.push.ensures.entries (invariant_of-self-in-Err-WriteFault g c).0.told.legal)

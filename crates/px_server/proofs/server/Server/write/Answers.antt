@@ -1,0 +1,187 @@
+use Rattle.std.proofs.Common.{◌≡◌, ◌<◌, ◌≤◌, ◌∙◌, ℕ, Option, None, Some, List, [], ◌∷◌, ◌++◌, length, refl, sym, ap, subst, slice_get, arith}
+use Rattle.std.specs.List.{slice_set}
+use Rattle.px_trail.specs.declared.entry.Act.TheVariants.{Wrote}
+use Rattle.px_trail.specs.declared.entry.Entry.{Entry}
+use Rattle.px_trail.specs.Batches.{IsIn, Verifying as InVerifying, Writing as InWriting}
+use Rattle.px_trail.specs.Count.{counted_act}
+use Rattle.px_trail.proofs.Batches.{in_writing}
+use Rattle.px_calls.specs.Calls.{DidWrite}
+use Rattle.px_calls.specs.Causes.{Refuses, rows_cause}
+use Rattle.px_calls.specs.declared.fault.StepFault.TheVariants.{Closed, NotYet, WriteFault}
+use Rattle.px_calls.specs.declared.ticket.Writes.TheVariants.{AllWritten}
+use Rattle.px_group.specs.declared.group.Group.{Group}
+use Rattle.px_group.specs.declared.group.Begun.{Begun}
+use Rattle.px_group.specs.declared.group.Phase.TheVariants.{Writing}
+use Rattle.px_batching.specs.Steps.{IsBlocked, IsFree}
+use Rattle.px_server.specs.Kept.{IsKept}
+use Rattle.px_server.specs.Shown.{Shown, known_by}
+use Rattle.px_server.proofs.Found.{closed_by}
+use Rattle.px_server.proofs.RowsTold.{blocked_waits, did_write, not_yet, unwritten_kept, write_failed, writing_there, wrote_in, wrote_kept}
+use Rattle.px_server.proofs.Ticketed.{batch_somewhere, same_read, stands_somewhere, there, ticket_in}
+use Rattle.px_server.proofs.server.Server.write.Goals as goal
+
+pub returns-in-Some-clause-refused : goal.returns-in-Some-clause-refused
+returns-in-Some-clause-refused g c =
+    let s = c.self.inside in
+    let b = g.B.Based.base in
+    let told = c.self.invariant.0.told in
+    let t = c.args.t.now in
+    let v : Shown = record { seat = s.seat; entries = s.trail.entries; late = s.late; closed = s.closed } in
+    subst (λ (w : Shown). Refuses (rows_cause t.table.0 t.stamp) (known_by b g.B.Based.damaged w) (known_by b g.B.Based.damaged w) (Closed c.in-Some.call)) c.self.view_is
+    (closed_by (known_by b g.B.Based.damaged v) told.legal s.closed told.closing c.in-Some.call c.in-Some.is)
+
+pub unreachable-requires : goal.unreachable-requires
+unreachable-requires g c =
+    let s = c.self.inside in
+    let b = g.B.Based.base in
+    let t = c.args.t.now in
+    let v : Shown = record { seat = s.seat; entries = s.trail.entries; late = s.late; closed = s.closed } in
+    let mine : IsIn s.trail.entries s.seat t.table.0 t.stamp InWriting = ticket_in b g.B.Based.damaged t InWriting v c.args.self.now c.self.view_is c.requires in
+    stands_somewhere g.D.Disk b g.B.Founded.sound g.B.Founded.premise s.disk s.catalog s.standing s.groups.items s.trail s.late s.closed c.self.invariant.0 t s.seat Writing mine (in_writing mine.batch mine.phase).0 c.in_default-numbered_place.ensures.none
+
+pub unreachable-requires-in_default-batch_place : goal.unreachable-requires-in_default-batch_place
+unreachable-requires-in_default-batch_place g c =
+    let s = c.self.inside in
+    let b = g.B.Based.base in
+    let t = c.args.t.now in
+    let v : Shown = record { seat = s.seat; entries = s.trail.entries; late = s.late; closed = s.closed } in
+    let mine : IsIn s.trail.entries s.seat t.table.0 t.stamp InWriting = ticket_in b g.B.Based.damaged t InWriting v c.args.self.now c.self.view_is c.requires in
+    batch_somewhere g.D.Disk b g.B.Founded.sound g.B.Founded.premise s.disk s.catalog s.standing s.groups.items s.trail s.late s.closed c.self.invariant.0 t s.seat Writing mine (in_writing mine.batch mine.phase).0
+    c.in_default.is c.in-Some-numbered_place.place c.in-Some-numbered_place.ensures.found c.in-Some-numbered_place.ensures.numbered c.index.result.now c.index.ensures c.in_default-batch_place.ensures.none
+
+pub returns-in-Some-blocker-clause-refused : goal.returns-in-Some-blocker-clause-refused
+returns-in-Some-blocker-clause-refused g c =
+    let s = c.self.inside in
+    let b = g.B.Based.base in
+    let told = c.self.invariant.0.told in
+    let t = c.args.t.now in
+    let v : Shown = record { seat = s.seat; entries = s.trail.entries; late = s.late; closed = s.closed } in
+    let mine : IsIn s.trail.entries s.seat t.table.0 t.stamp InWriting = ticket_in b g.B.Based.damaged t InWriting v c.args.self.now c.self.view_is c.requires in
+    let place = c.in-Some-numbered_place.place in
+    let m = c.in-Some-batch_place.batch in
+    let h = c.index.result.now in
+    let inside = there g.D.Disk b g.B.Founded.sound g.B.Founded.premise s.disk s.catalog s.standing s.groups.items s.trail s.late s.closed c.self.invariant.0 t s.seat Writing mine (in_writing mine.batch mine.phase).0
+    c.in_default.is place c.in-Some-numbered_place.ensures.found c.in-Some-numbered_place.ensures.numbered h c.index.ensures in
+    let same : c.index-2.result.now ≡ h = same_read s.groups.items place c.index-2.result.now h inside c.index-2.ensures c.index.ensures in
+    let blocked : IsBlocked h m c.in-Some-blocker.stamp = subst (λ (x : Group). IsBlocked x m c.in-Some-blocker.stamp) same c.in-Some-blocker.ensures.blocked in
+    subst (λ (w : Shown). Refuses (rows_cause t.table.0 t.stamp) (known_by b g.B.Based.damaged w) (known_by b g.B.Based.damaged w) (NotYet c.in-Some-blocker.stamp)) c.self.view_is
+    (not_yet (known_by b g.B.Based.damaged v) told.legal t (told.closing ∙ c.in_default.is) c.in-Some-blocker.stamp
+    (blocked_waits g.D.Disk g.met.D.Disk.told g.met.D.Disk.up_to_now b g.B.Founded.sound g.B.Founded.premise s.disk s.catalog s.standing s.groups.items s.trail s.late s.closed c.self.invariant.0 t s.seat mine
+    c.in_default.is place c.in-Some-numbered_place.ensures.found c.in-Some-numbered_place.ensures.numbered h c.index.ensures m c.in-Some-batch_place.ensures.found.0 c.in-Some-batch_place.ensures.found.1
+    c.in-Some-blocker.stamp blocked))
+
+pub write-outcome-requires-clause-writing : goal.write-outcome-requires-clause-writing
+write-outcome-requires-clause-writing g c =
+    let s = c.self.inside in
+    let b = g.B.Based.base in
+    let told = c.self.invariant.0.told in
+    let t = c.args.t.now in
+    let v : Shown = record { seat = s.seat; entries = s.trail.entries; late = s.late; closed = s.closed } in
+    let mine : IsIn s.trail.entries s.seat t.table.0 t.stamp InWriting = ticket_in b g.B.Based.damaged t InWriting v c.args.self.now c.self.view_is c.requires in
+    let place = c.in-Some-numbered_place.place in
+    let m = c.in-Some-batch_place.batch in
+    let h = c.index.result.now in
+    let inside = there g.D.Disk b g.B.Founded.sound g.B.Founded.premise s.disk s.catalog s.standing s.groups.items s.trail s.late s.closed c.self.invariant.0 t s.seat Writing mine (in_writing mine.batch mine.phase).0
+    c.in_default.is place c.in-Some-numbered_place.ensures.found c.in-Some-numbered_place.ensures.numbered h c.index.ensures in
+    let y = c.index_mut-group.result.now in
+    let one : y ≡ h = same_read s.groups.items place y h inside c.index_mut-group.ensures.value c.index.ensures in
+    let l : m < length y.batches.items = subst (λ (x : Group). m < length x.batches.items) (sym one) c.in-Some-batch_place.ensures.found.0 in
+    let stamp : (x : Begun) → slice_get y.batches.items m ≡ Some x → x.batch.stamp ≡ t.stamp = subst (λ (z : Group). (x : Begun) → slice_get z.batches.items m ≡ Some x → x.batch.stamp ≡ t.stamp) (sym one) c.in-Some-batch_place.ensures.found.1 in
+    writing_there g.D.Disk g.met.D.Disk.told g.met.D.Disk.up_to_now b g.B.Founded.sound g.B.Founded.premise s.disk s.catalog s.standing s.groups.items s.trail s.late s.closed c.self.invariant.0 t s.seat mine
+    c.in_default.is place c.in-Some-numbered_place.ensures.found c.in-Some-numbered_place.ensures.numbered y c.index_mut-group.ensures.value m l stamp
+
+pub push-requires-clause-bytes : goal.push-requires-clause-bytes
+push-requires-clause-bytes g c = subst (λ (x : Entry). counted_act x.act ≤ c.self.inside.trail.bytes_room) (sym c.wrote.ensures) (omega arith)
+
+pub invariant_of-self : goal.invariant_of-self
+invariant_of-self g c =
+    let s = c.self.inside in
+    let b = g.B.Based.base in
+    let told = c.self.invariant.0.told in
+    let t = c.args.t.now in
+    let v : Shown = record { seat = s.seat; entries = s.trail.entries; late = s.late; closed = s.closed } in
+    let mine : IsIn s.trail.entries s.seat t.table.0 t.stamp InWriting = ticket_in b g.B.Based.damaged t InWriting v c.args.self.now c.self.view_is c.requires in
+    let place = c.in-Some-numbered_place.place in
+    let m = c.in-Some-batch_place.batch in
+    let h = c.index.result.now in
+    let inside = there g.D.Disk b g.B.Founded.sound g.B.Founded.premise s.disk s.catalog s.standing s.groups.items s.trail s.late s.closed c.self.invariant.0 t s.seat Writing mine (in_writing mine.batch mine.phase).0
+    c.in_default.is place c.in-Some-numbered_place.ensures.found c.in-Some-numbered_place.ensures.numbered h c.index.ensures in
+    let y = c.index_mut-group.result.now in
+    let one : y ≡ h = same_read s.groups.items place y h inside c.index_mut-group.ensures.value c.index.ensures in
+    let two : c.index-2.result.now ≡ h = same_read s.groups.items place c.index-2.result.now h inside c.index-2.ensures c.index.ensures in
+    let free : IsFree y m = subst (λ (x : Group). IsFree x m) (two ∙ sym one) c.in_default-blocker.ensures.free in
+    let l : m < length y.batches.items = subst (λ (x : Group). m < length x.batches.items) (sym one) c.in-Some-batch_place.ensures.found.0 in
+    let stamp : (x : Begun) → slice_get y.batches.items m ≡ Some x → x.batch.stamp ≡ t.stamp = subst (λ (z : Group). (x : Begun) → slice_get z.batches.items m ≡ Some x → x.batch.stamp ≡ t.stamp) (sym one) c.in-Some-batch_place.ensures.found.1 in (
+      wrote_kept g.D.Disk g.met.D.Disk.told g.met.D.Disk.up_to_now b g.B.Founded.sound g.B.Founded.premise s.disk s.catalog s.standing s.groups.items s.trail s.late s.closed c.self.invariant.0 t s.seat mine
+          c.in_default.is place c.in-Some-numbered_place.ensures.found c.in-Some-numbered_place.ensures.numbered y c.index_mut-group.ensures.value m l stamp
+          c.write-outcome.new.group c.write-outcome.new.disk free c.in-Ok.rows c.in-Ok.ensures.rows c.call_count-calls.result c.call_count-calls.ensures c.in-Ok.ensures.written c.push.new.self
+          (c.push.ensures.entries ∙ ap (λ (e : Entry). s.trail.entries ++ e ∷ []) c.wrote.ensures) c.push.ensures.room,
+      (let f = c.write-outcome.ensures.frame in let w = c.self.invariant.1 in omega (arith, f, w)),
+    )
+
+pub invariant_of-self-in-Err : goal.invariant_of-self-in-Err
+invariant_of-self-in-Err g c =
+    let s = c.self.inside in
+    let b = g.B.Based.base in
+    let told = c.self.invariant.0.told in
+    let t = c.args.t.now in
+    let v : Shown = record { seat = s.seat; entries = s.trail.entries; late = s.late; closed = s.closed } in
+    let mine : IsIn s.trail.entries s.seat t.table.0 t.stamp InWriting = ticket_in b g.B.Based.damaged t InWriting v c.args.self.now c.self.view_is c.requires in
+    let place = c.in-Some-numbered_place.place in
+    let m = c.in-Some-batch_place.batch in
+    let h = c.index.result.now in
+    let inside = there g.D.Disk b g.B.Founded.sound g.B.Founded.premise s.disk s.catalog s.standing s.groups.items s.trail s.late s.closed c.self.invariant.0 t s.seat Writing mine (in_writing mine.batch mine.phase).0
+    c.in_default.is place c.in-Some-numbered_place.ensures.found c.in-Some-numbered_place.ensures.numbered h c.index.ensures in
+    let y = c.index_mut-group.result.now in
+    let one : y ≡ h = same_read s.groups.items place y h inside c.index_mut-group.ensures.value c.index.ensures in
+    let two : c.index-2.result.now ≡ h = same_read s.groups.items place c.index-2.result.now h inside c.index-2.ensures c.index.ensures in
+    let free : IsFree y m = subst (λ (x : Group). IsFree x m) (two ∙ sym one) c.in_default-blocker.ensures.free in
+    let l : m < length y.batches.items = subst (λ (x : Group). m < length x.batches.items) (sym one) c.in-Some-batch_place.ensures.found.0 in
+    let stamp : (x : Begun) → slice_get y.batches.items m ≡ Some x → x.batch.stamp ≡ t.stamp = subst (λ (z : Group). (x : Begun) → slice_get z.batches.items m ≡ Some x → x.batch.stamp ≡ t.stamp) (sym one) c.in-Some-batch_place.ensures.found.1 in (
+      subst (λ (o : Option Entry). IsKept g.D.Disk b g.B.Founded.sound g.B.Founded.premise c.write-outcome.new.disk s.catalog s.standing (slice_set s.groups.items place c.write-outcome.new.group) c.push-in-Err.new.self o (Some c.call_count-calls.result))
+          (sym (c.keep.ensures ∙ ap Some c.wrote-in-Err.ensures))
+          (unwritten_kept g.D.Disk g.met.D.Disk.told g.met.D.Disk.up_to_now b g.B.Founded.sound g.B.Founded.premise s.disk s.catalog s.standing s.groups.items s.trail s.late s.closed c.self.invariant.0 t s.seat mine
+          c.in_default.is place c.in-Some-numbered_place.ensures.found c.in-Some-numbered_place.ensures.numbered y c.index_mut-group.ensures.value m l stamp
+          c.write-outcome.new.group c.write-outcome.new.disk free c.in-Err.field-0.rows c.in-Err.ensures.late c.call_count-calls.result c.call_count-calls.ensures c.in-Err.ensures.hands (c.in-Err.ensures.failed refl) c.push-in-Err.new.self
+          c.push-in-Err.ensures.entries c.push-in-Err.ensures.room),
+      (let f = c.write-outcome.ensures.frame in let w = c.self.invariant.1 in omega (arith, f, w)),
+    )
+
+pub returns-in-Ok-clause-ok : goal.returns-in-Ok-clause-ok
+returns-in-Ok-clause-ok g c =
+    let s = c.self.inside in
+    let b = g.B.Based.base in
+    let told = c.self.invariant.0.told in
+    let t = c.args.t.now in
+    let v : Shown = record { seat = s.seat; entries = s.trail.entries; late = s.late; closed = s.closed } in
+    let mine : IsIn s.trail.entries s.seat t.table.0 t.stamp InWriting = ticket_in b g.B.Based.damaged t InWriting v c.args.self.now c.self.view_is c.requires in
+    let place = c.in-Some-numbered_place.place in
+    let m = c.in-Some-batch_place.batch in
+    let h = c.index.result.now in
+    let inside = there g.D.Disk b g.B.Founded.sound g.B.Founded.premise s.disk s.catalog s.standing s.groups.items s.trail s.late s.closed c.self.invariant.0 t s.seat Writing mine (in_writing mine.batch mine.phase).0
+    c.in_default.is place c.in-Some-numbered_place.ensures.found c.in-Some-numbered_place.ensures.numbered h c.index.ensures in
+    let y = c.index_mut-group.result.now in
+    let one : y ≡ h = same_read s.groups.items place y h inside c.index_mut-group.ensures.value c.index.ensures in
+    let two : c.index-2.result.now ≡ h = same_read s.groups.items place c.index-2.result.now h inside c.index-2.ensures c.index.ensures in
+    let free : IsFree y m = subst (λ (x : Group). IsFree x m) (two ∙ sym one) c.in_default-blocker.ensures.free in
+    let l : m < length y.batches.items = subst (λ (x : Group). m < length x.batches.items) (sym one) c.in-Some-batch_place.ensures.found.0 in
+    let stamp : (x : Begun) → slice_get y.batches.items m ≡ Some x → x.batch.stamp ≡ t.stamp = subst (λ (z : Group). (x : Begun) → slice_get z.batches.items m ≡ Some x → x.batch.stamp ≡ t.stamp) (sym one) c.in-Some-batch_place.ensures.found.1 in
+    let after : c.push.new.self.entries ≡ s.trail.entries ++ record { seat = s.seat; calls = c.call_count-calls.result; act = Wrote t.table t.stamp c.in-Ok.rows } ∷ [] = c.push.ensures.entries ∙ ap (λ (e : Entry). s.trail.entries ++ e ∷ []) c.wrote.ensures in
+    let v' : Shown = record { seat = s.seat; entries = c.push.new.self.entries; late = s.late; closed = s.closed } in
+    let next : IsIn c.push.new.self.entries s.seat t.table.0 t.stamp InVerifying = subst (λ (es : List Entry). IsIn es s.seat t.table.0 t.stamp InVerifying) (sym after)
+    (wrote_in g.D.Disk g.met.D.Disk.told g.met.D.Disk.up_to_now b g.B.Founded.sound g.B.Founded.premise s.disk s.catalog s.standing s.groups.items s.trail s.late s.closed c.self.invariant.0 t s.seat mine
+    c.in_default.is place c.in-Some-numbered_place.ensures.found c.in-Some-numbered_place.ensures.numbered y c.index_mut-group.ensures.value m l stamp
+    c.write-outcome.new.group c.write-outcome.new.disk free c.in-Ok.rows c.in-Ok.ensures.rows c.call_count-calls.result c.call_count-calls.ensures c.in-Ok.ensures.written) in
+    subst (λ (w : Shown). DidWrite (known_by b g.B.Based.damaged w) (known_by b g.B.Based.damaged v') t AllWritten) c.self.view_is
+    (did_write (known_by b g.B.Based.damaged v) told.legal t c.push.new.self.entries c.call_count-calls.result c.in-Ok.rows after (invariant_of-self g c).0.told.legal next)
+
+pub returns-in-Err-clause-refused : goal.returns-in-Err-clause-refused
+returns-in-Err-clause-refused g c =
+    let s = c.self.inside in
+    let b = g.B.Based.base in
+    let told = c.self.invariant.0.told in
+    let t = c.args.t.now in
+    let v : Shown = record { seat = s.seat; entries = s.trail.entries; late = s.late; closed = s.closed } in
+    let v' : Shown = record { seat = s.seat; entries = c.push-in-Err.new.self.entries; late = c.keep.new.late; closed = Some c.call_count-calls.result } in
+    subst (λ (w : Shown). Refuses (rows_cause t.table.0 t.stamp) (known_by b g.B.Based.damaged w) (known_by b g.B.Based.damaged v') WriteFault) c.self.view_is
+    (write_failed (known_by b g.B.Based.damaged v) told.legal t c.push-in-Err.new.self.entries c.call_count-calls.result c.call_count-calls.result c.push-in-Err.ensures.entries (invariant_of-self-in-Err g c).0.told.legal)
