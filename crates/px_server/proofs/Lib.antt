@@ -1,8 +1,12 @@
 pub mod Acted
 pub mod Beside
 pub mod Blamed
+pub mod Catalogued
 pub mod Decided
+pub mod Defines
+pub mod Drawn
 pub mod Ended
+pub mod Forms
 pub mod Found
 pub mod Lists
 pub mod Low
@@ -13,5 +17,8 @@ pub mod PointOpened
 pub mod Pointed
 pub mod Released
 pub mod Room
+pub mod SameStanding
 pub mod Seen
+pub mod Stopped
 pub mod Told
+pub mod Wrote
