@@ -6,6 +6,7 @@ pub mod Decided
 pub mod Defines
 pub mod Drawn
 pub mod Ended
+pub mod Fields
 pub mod Forms
 pub mod Found
 pub mod Lists
@@ -20,5 +21,10 @@ pub mod Room
 pub mod SameStanding
 pub mod Seen
 pub mod Stopped
+pub mod TableCauses
+pub mod TableRecord
+pub mod TableSteps
+pub mod Tables
 pub mod Told
+pub mod Uses
 pub mod Wrote

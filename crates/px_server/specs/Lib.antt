@@ -1,3 +1,4 @@
 pub mod Kept
 pub mod Points
 pub mod Shown
+pub mod inner

@@ -5,6 +5,7 @@
 //! word; `finish` hands out what is promised of the disk.
 #![tactic(auto)]
 
+mod defining;
 mod finding;
 mod founded;
 mod laws;
