@@ -5,3 +5,4 @@ pub mod Points
 pub mod Shown
 pub mod Started
 pub mod Upkeep
+pub mod inner

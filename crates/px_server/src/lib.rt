@@ -7,6 +7,7 @@
 
 mod beginning;
 mod ending;
+mod defining;
 mod finding;
 mod founded;
 mod laws;

@@ -1,0 +1,114 @@
+use Rattle.std.proofs.Common.{rules, inl, inr, ◌++◌, ◌∷◌, ◌∙◌, [], List, Err, refl, sym, ap, subst}
+use Rattle.px_tables.specs.declared.table.NewTable.{NewTable}
+use Rattle.px_tables.specs.declared.table.Table.{Table}
+use Rattle.px_trail.specs.declared.entry.Act.TheVariants.{Made as MadeAct, Shut}
+use Rattle.px_trail.specs.declared.entry.Entry.{Entry}
+use Rattle.px_calls.specs.Calls.{DidDefine}
+use Rattle.px_calls.specs.Causes.{Refuses, define_cause}
+use Rattle.px_calls.specs.declared.definition.Definition.TheVariants.{Table as NewTableOf}
+use Rattle.px_calls.specs.declared.definition.Made.{Made as Answered}
+use Rattle.px_calls.specs.declared.fault.StepFault.TheVariants.{Memory}
+use Rattle.px_schema.specs.Records.{IsRight}
+use Rattle.px_schema.specs.declared.item.CatalogItem.TheVariants.{TableIs}
+use Rattle.px_schema.specs.declared.standing.Standing.{Standing}
+use Rattle.px_catalog.specs.Catalogue.{standing_of}
+use Rattle.px_server.specs.Shown.{Shown, known_by}
+use Rattle.px_server.specs.inner.Making.{MayMake}
+use Rattle.px_server.proofs.TableCauses.{did_make, refused_memory, refused_unmade, table_full}
+use Rattle.px_server.proofs.TableRecord.{made_right}
+use Rattle.px_server.proofs.TableSteps.{making_failed, making_kept, on_ok, unwritten_refused}
+use Rattle.px_server.proofs.server.Server.define_table.Goals as goal
+
+pub returns-in-Err-clause-refused : goal.returns-in-Err-clause-refused
+returns-in-Err-clause-refused g c =
+    let s = c.self.inside in
+    let b = g.B.Based.base in
+    let told = c.self.invariant.0.told in
+    let v : Shown = record { seat = s.seat; entries = s.trail.entries; late = s.late; closed = s.closed } in
+    subst (λ (w : Shown). Refuses (define_cause g.B.Founded.sound (NewTableOf c.args.what.now)) (known_by b g.B.Based.damaged w) (known_by b g.B.Based.damaged w) c.in-Err.fault) c.self.view_is
+    (refused_unmade g.B.Founded.sound (known_by b g.B.Based.damaged v) told.legal s.closed told.closing s.standing told.agrees c.args.what.now c.in-Err.fault c.in-Err.ensures.refused)
+
+pub returns-in_default-parts_of-clause-refused : goal.returns-in_default-parts_of-clause-refused
+returns-in_default-parts_of-clause-refused g c =
+    let s = c.self.inside in
+    let b = g.B.Based.base in
+    let told = c.self.invariant.0.told in
+    let may : MayMake s.standing s.closed c.args.what.now = on_ok c.check_table.result (MayMake s.standing s.closed c.args.what.now) c.check_table.ensures.ok (λ e is. search rules) in
+    let v : Shown = record { seat = s.seat; entries = s.trail.entries; late = s.late; closed = s.closed } in
+    subst (λ (w : Shown). Refuses (define_cause g.B.Founded.sound (NewTableOf c.args.what.now)) (known_by b g.B.Based.damaged w) (known_by b g.B.Based.damaged w) Memory) c.self.view_is
+    (refused_memory g.B.Founded.sound (known_by b g.B.Based.damaged v) told.legal s.closed told.closing may.running (NewTableOf c.args.what.now))
+
+pub returns-in_default-take_room-clause-refused : goal.returns-in_default-take_room-clause-refused
+returns-in_default-take_room-clause-refused g c =
+    let s = c.self.inside in
+    let b = g.B.Based.base in
+    let told = c.self.invariant.0.told in
+    let may : MayMake s.standing s.closed c.args.what.now = on_ok c.check_table.result (MayMake s.standing s.closed c.args.what.now) c.check_table.ensures.ok (λ e is. search rules) in
+    let v : Shown = record { seat = s.seat; entries = s.trail.entries; late = s.late; closed = s.closed } in
+    subst (λ (w : Shown). Refuses (define_cause g.B.Founded.sound (NewTableOf c.args.what.now)) (known_by b g.B.Based.damaged w) (record (known_by b g.B.Based.damaged v) { seen = c.take_room.new.trail.entries }) Memory) c.self.view_is
+    (subst (λ (es : List Entry). Refuses (define_cause g.B.Founded.sound (NewTableOf c.args.what.now)) (known_by b g.B.Based.damaged v) (record (known_by b g.B.Based.damaged v) { seen = es }) Memory) (sym c.take_room.ensures.same)
+    (refused_memory g.B.Founded.sound (known_by b g.B.Based.damaged v) told.legal s.closed told.closing may.running (NewTableOf c.args.what.now)))
+
+pub append-requires : goal.append-requires
+append-requires g c =
+    let s = c.self.inside in
+    let may : MayMake s.standing s.closed c.args.what.now = on_ok c.check_table.result (MayMake s.standing s.closed c.args.what.now) c.check_table.ensures.ok (λ e is. search rules) in
+    record {
+      right = subst (λ (i : Table). IsRight (standing_of s.catalog) (TableIs i)) (sym c.in-Ok.ensures.item_is)
+          (made_right (standing_of s.catalog) s.standing s.closed c.args.what.now (ap (λ (st : Standing). st.tables) (c.self.invariant.0.told.same may.running)) c.requires may);
+    }
+
+pub invariant_of-self-in-Ok-append : goal.invariant_of-self-in-Ok-append
+invariant_of-self-in-Ok-append g c =
+    let s = c.self.inside in
+    let may : MayMake s.standing s.closed c.args.what.now = on_ok c.check_table.result (MayMake s.standing s.closed c.args.what.now) c.check_table.ensures.ok (λ e is. search rules) in (
+      making_kept g.D.Disk g.met.D.Disk.told g.met.D.Disk.up_to_now g.B.Based.base g.B.Founded.sound g.B.Founded.premise s.disk s.catalog s.standing s.groups.items s.trail s.late s.closed c.self.invariant.0
+          c.append.new.disk c.append.new.self c.append.ensures.counts c.append.ensures.touches s.seat c.take_room.new.trail c.take_room.ensures.same c.in-Ok-take_room.ensures.ok.1 c.take_room.new.groups.items c.take_room.ensures.groups
+          c.args.what.now c.requires may c.in-Ok.parts.item c.in-Ok.parts.group c.in-Ok.parts.standing c.in-Ok.parts.copy c.in-Ok.ensures c.append.ensures.any_moment
+          c.in-Ok-append.ensures.done c.in-Ok-append.ensures.defined c.replace-before.new.dest c.replace-before.ensures.after c.push_reserved.new.self.items c.push_reserved.ensures.items
+          c.push.new.self c.call_count.result c.call_count.ensures c.push.ensures.entries c.push.ensures.room,
+      c.self.invariant.1,
+    )
+
+pub invariant_of-self-in-Err-append : goal.invariant_of-self-in-Err-append
+invariant_of-self-in-Err-append g c =
+    let s = c.self.inside in
+    let may : MayMake s.standing s.closed c.args.what.now = on_ok c.check_table.result (MayMake s.standing s.closed c.args.what.now) c.check_table.ensures.ok (λ e is. search rules) in (
+      making_failed g.D.Disk g.met.D.Disk.told g.met.D.Disk.up_to_now g.B.Based.base g.B.Founded.sound g.B.Founded.premise s.disk s.catalog s.standing s.groups.items s.trail s.late s.closed c.self.invariant.0
+          c.append.new.disk c.append.new.self c.append.ensures.counts c.append.ensures.touches s.seat c.take_room.new.trail c.take_room.ensures.same c.in-Ok-take_room.ensures.ok.1 c.take_room.new.groups.items c.take_room.ensures.groups
+          c.args.what.now c.requires may c.in-Ok.parts.item c.in-Ok.parts.group c.in-Ok.parts.standing c.in-Ok.parts.copy c.in-Ok.ensures c.append.ensures.any_moment
+          c.unwritten.new.trail c.unwritten.new.late c.unwritten.new.closed c.in-Err-append.fault (λ e. c.in-Err-append.ensures.untouched (elim e [ inl x ↦ inl (ap Err x) | inr x ↦ inr (ap Err x) ])) (λ e. c.in-Err-append.ensures.failed (ap Err e))
+          c.unwritten.ensures.kept c.unwritten.ensures.shut c.unwritten.ensures.room,
+      c.self.invariant.1,
+    )
+
+pub returns-in-Ok-append-clause-ok : goal.returns-in-Ok-append-clause-ok
+returns-in-Ok-append-clause-ok g c =
+    let s = c.self.inside in
+    let b = g.B.Based.base in
+    let told = c.self.invariant.0.told in
+    let v : Shown = record { seat = s.seat; entries = s.trail.entries; late = s.late; closed = s.closed } in
+    let v' : Shown = record { seat = s.seat; entries = c.push.new.self.entries; late = s.late; closed = s.closed } in
+    let id = c.in-Ok.parts.group.table.id in
+    let m : Answered = record { number = id.0; stamp = 0; at = c.len.result } in
+    subst (λ (w : Shown). DidDefine g.B.Founded.sound (known_by b g.B.Based.damaged w) (known_by b g.B.Based.damaged v') (NewTableOf c.args.what.now) m) c.self.view_is
+    (did_make g.B.Founded.sound (known_by b g.B.Based.damaged v) told.legal s.closed told.closing c.push.new.self.entries c.call_count.result (invariant_of-self-in-Ok-append g c).0.told.legal c.args.what.now m refl c.len.ensures
+    (c.push.ensures.entries ∙ (ap (λ (es : List Entry). es ++ record { seat = s.seat; calls = c.call_count.result; act = MadeAct id c.in-Ok.parts.copy } ∷ []) c.take_room.ensures.same
+    ∙ ap (λ (w : NewTable). s.trail.entries ++ record { seat = s.seat; calls = c.call_count.result; act = MadeAct id w } ∷ []) c.in-Ok.ensures.copy_is)))
+
+pub returns-in-Err-append-clause-refused : goal.returns-in-Err-append-clause-refused
+returns-in-Err-append-clause-refused g c =
+    let s = c.self.inside in
+    let b = g.B.Based.base in
+    let told = c.self.invariant.0.told in
+    let may : MayMake s.standing s.closed c.args.what.now = on_ok c.check_table.result (MayMake s.standing s.closed c.args.what.now) c.check_table.ensures.ok (λ e is. search rules) in
+    let v : Shown = record { seat = s.seat; entries = s.trail.entries; late = s.late; closed = s.closed } in
+    let v' : Shown = record { seat = s.seat; entries = c.unwritten.new.trail.entries; late = c.unwritten.new.late; closed = c.unwritten.new.closed } in
+    let calls = g.D.Disk.calls c.append.new.disk in
+    subst (λ (w : Shown). Refuses (define_cause g.B.Founded.sound (NewTableOf c.args.what.now)) (known_by b g.B.Based.damaged w) (known_by b g.B.Based.damaged v') c.unwritten.result) c.self.view_is
+    (unwritten_refused g.B.Founded.sound (known_by b g.B.Based.damaged v) told.legal s.closed told.closing (NewTableOf c.args.what.now)
+    (table_full g.B.Founded.sound (known_by b g.B.Based.damaged v) told.legal s.closed told.closing may.running c.args.what.now)
+    (refused_memory g.B.Founded.sound (known_by b g.B.Based.damaged v) told.legal s.closed told.closing may.running (NewTableOf c.args.what.now))
+    c.unwritten.result c.unwritten.new.trail.entries calls (invariant_of-self-in-Err-append g c).0.told.legal c.in-Err-append.fault c.unwritten.ensures.full c.unwritten.ensures.memory c.unwritten.ensures.failed
+    (λ n. (c.unwritten.ensures.kept n).0 ∙ c.take_room.ensures.same)
+    (λ e. (c.unwritten.ensures.shut e).0 ∙ ap (λ (es : List Entry). es ++ record { seat = s.seat; calls = calls; act = Shut calls } ∷ []) c.take_room.ensures.same))

@@ -1,0 +1,132 @@
+use Rattle.std.proofs.Common.{rules, inl, inr, ◌≡◌, ◌++◌, ◌∷◌, ◌∙◌, ◌+◌, [], List, None, Err, length, refl, sym, ap, subst, arith}
+use Rattle.std.specs.Prelude.{◌==◌, not}
+use Rattle.std.proofs.lemmas.Fn.{filter_same}
+use Rattle.px_trail.specs.declared.entry.Act.TheVariants.{Dropped, Shut}
+use Rattle.px_trail.specs.declared.entry.Entry.{Entry}
+use Rattle.px_calls.specs.Calls.{DidDefine}
+use Rattle.px_calls.specs.Causes.{Refuses, define_cause}
+use Rattle.px_calls.specs.declared.definition.Definition.TheVariants.{DropTable as DropTableOf}
+use Rattle.px_calls.specs.declared.definition.Made.{Made as Answered}
+use Rattle.px_calls.specs.declared.fault.StepFault.TheVariants.{Closed, InUse, Memory, NoTable}
+use Rattle.px_schema.specs.declared.standing.Standing.{Standing}
+use Rattle.px_catalog.specs.Catalogue.{standing_of}
+use Rattle.px_group.specs.declared.group.Group.{Group}
+use Rattle.px_server.specs.Shown.{Shown, known_by}
+use Rattle.px_server.proofs.Released.{none_of}
+use Rattle.px_server.proofs.TableCauses.{did_drop, drop_full, drop_in_use, drop_no_table, refused_closed, refused_memory}
+use Rattle.px_server.proofs.TableRecord.{gone_right}
+use Rattle.px_server.proofs.TableSteps.{dropping_failed, dropping_kept, table_uses, unwritten_refused}
+use Rattle.px_server.proofs.server.Server.drop_table.Goals as goal
+
+pub returns-in-Some-clause-refused : goal.returns-in-Some-clause-refused
+returns-in-Some-clause-refused g c =
+    let s = c.self.inside in
+    let b = g.B.Based.base in
+    let told = c.self.invariant.0.told in
+    let v : Shown = record { seat = s.seat; entries = s.trail.entries; late = s.late; closed = s.closed } in
+    subst (λ (w : Shown). Refuses (define_cause g.B.Founded.sound (DropTableOf c.args.table)) (known_by b g.B.Based.damaged w) (known_by b g.B.Based.damaged w) (Closed c.in-Some.call)) c.self.view_is
+    (refused_closed g.B.Founded.sound (known_by b g.B.Based.damaged v) told.legal s.closed told.closing (DropTableOf c.args.table) c.in-Some.call c.in-Some.is)
+
+pub returns-in_default-numbered_place-clause-refused : goal.returns-in_default-numbered_place-clause-refused
+returns-in_default-numbered_place-clause-refused g c =
+    let s = c.self.inside in
+    let b = g.B.Based.base in
+    let told = c.self.invariant.0.told in
+    let v : Shown = record { seat = s.seat; entries = s.trail.entries; late = s.late; closed = s.closed } in
+    let running : s.closed ≡ None = none_of s.closed (λ x is. search rules) in
+    subst (λ (w : Shown). Refuses (define_cause g.B.Founded.sound (DropTableOf c.args.table)) (known_by b g.B.Based.damaged w) (known_by b g.B.Based.damaged w) (NoTable)) c.self.view_is
+    (drop_no_table g.B.Founded.sound (known_by b g.B.Based.damaged v) told.legal s.closed told.closing s.standing told.agrees running c.args.table c.in_default-numbered_place.ensures.none)
+
+pub returns-then-count-gt0-clause-refused : goal.returns-then-count-gt0-clause-refused
+returns-then-count-gt0-clause-refused g c =
+    let s = c.self.inside in
+    let b = g.B.Based.base in
+    let told = c.self.invariant.0.told in
+    let v : Shown = record { seat = s.seat; entries = s.trail.entries; late = s.late; closed = s.closed } in
+    let running : s.closed ≡ None = none_of s.closed (λ x is. search rules) in
+    subst (λ (w : Shown). Refuses (define_cause g.B.Founded.sound (DropTableOf c.args.table)) (known_by b g.B.Based.damaged w) (known_by b g.B.Based.damaged w) (InUse c.uses-count.result)) c.self.view_is
+    (drop_in_use g.B.Founded.sound (known_by b g.B.Based.damaged v) told.legal s.closed told.closing running c.args.table c.uses-count.result (table_uses g.D.Disk b g.B.Founded.sound g.B.Founded.premise s.disk s.catalog s.standing s.groups.items s.trail s.late s.closed c.self.invariant.0 running c.args.table c.in-Some-numbered_place.place c.in-Some-numbered_place.ensures.found c.in-Some-numbered_place.ensures.numbered c.index.result.now (sym c.index.ensures) ∙ sym c.uses-count.ensures) c.if-count-gt0.true)
+
+pub returns-in_default-standing_after-clause-refused : goal.returns-in_default-standing_after-clause-refused
+returns-in_default-standing_after-clause-refused g c =
+    let s = c.self.inside in
+    let b = g.B.Based.base in
+    let told = c.self.invariant.0.told in
+    let v : Shown = record { seat = s.seat; entries = s.trail.entries; late = s.late; closed = s.closed } in
+    let running : s.closed ≡ None = none_of s.closed (λ x is. search rules) in
+    subst (λ (w : Shown). Refuses (define_cause g.B.Founded.sound (DropTableOf c.args.table)) (known_by b g.B.Based.damaged w) (known_by b g.B.Based.damaged w) (Memory)) c.self.view_is
+    (refused_memory g.B.Founded.sound (known_by b g.B.Based.damaged v) told.legal s.closed told.closing running (DropTableOf c.args.table))
+
+pub returns-in_default-take_entry-clause-refused : goal.returns-in_default-take_entry-clause-refused
+returns-in_default-take_entry-clause-refused g c =
+    let s = c.self.inside in
+    let b = g.B.Based.base in
+    let told = c.self.invariant.0.told in
+    let v : Shown = record { seat = s.seat; entries = s.trail.entries; late = s.late; closed = s.closed } in
+    let running : s.closed ≡ None = none_of s.closed (λ x is. search rules) in
+    subst (λ (w : Shown). Refuses (define_cause g.B.Founded.sound (DropTableOf c.args.table)) (known_by b g.B.Based.damaged w) (record (known_by b g.B.Based.damaged v) { seen = c.take_entry.new.trail.entries }) Memory) c.self.view_is
+    (subst (λ (es : List Entry). Refuses (define_cause g.B.Founded.sound (DropTableOf c.args.table)) (known_by b g.B.Based.damaged v) (record (known_by b g.B.Based.damaged v) { seen = es }) Memory) (sym c.take_entry.ensures.same)
+    (refused_memory g.B.Founded.sound (known_by b g.B.Based.damaged v) told.legal s.closed told.closing running (DropTableOf c.args.table)))
+
+pub append-requires : goal.append-requires
+append-requires g c =
+    let s = c.self.inside in
+    let running : s.closed ≡ None = none_of s.closed (λ x is. search rules) in
+    record {
+      right = gone_right (standing_of s.catalog) s.standing c.args.table c.in-Some-numbered_place.place c.index.result.now.table (ap (λ (st : Standing). st.tables) (c.self.invariant.0.told.same running)) c.in-Some-numbered_place.ensures.found
+          (c.in-Some-numbered_place.ensures.numbered c.index.result.now.table) (search rules);
+    }
+
+pub invariant_of-self-in-Ok-append : goal.invariant_of-self-in-Ok-append
+invariant_of-self-in-Ok-append g c =
+    let s = c.self.inside in
+    let running : s.closed ≡ None = none_of s.closed (λ x is. search rules) in
+    let unused : length c.index.result.now.points.items + length c.index.result.now.batches.items ≡ 0 = (let n = c.uses-count.ensures in let z = c.if-count-gt0.false in omega (arith, n, z)) in (
+      dropping_kept g.D.Disk g.met.D.Disk.told g.met.D.Disk.up_to_now g.B.Based.base g.B.Founded.sound g.B.Founded.premise s.disk s.catalog s.standing s.groups.items s.trail s.late s.closed c.self.invariant.0
+          c.append.new.disk c.append.new.self c.append.ensures.counts c.append.ensures.touches s.seat c.take_entry.new.trail c.take_entry.ensures.same c.in-Ok-take_entry.ensures.ok s.groups.items refl
+          running c.args.table c.in-Some-numbered_place.place c.in-Some-numbered_place.ensures.found c.in-Some-numbered_place.ensures.numbered c.index.result.now (sym c.index.ensures) unused c.append.ensures.any_moment
+          c.in-Ok-append.ensures.done c.in-Ok-append.ensures.defined c.replace-before.new.dest (c.replace-before.ensures.after ∙ c.in-Ok.ensures) c.retain.new.self.items
+          (filter_same _ (λ (x : Group). not (x.table.id.0 == c.args.table.0)) _ (λ x v f' k. search rules) _ _ c.retain.ensures.filtered)
+          c.push.new.self c.call_count.result c.call_count.ensures c.push.ensures.entries c.push.ensures.room,
+      c.self.invariant.1,
+    )
+
+pub invariant_of-self-in-Err : goal.invariant_of-self-in-Err
+invariant_of-self-in-Err g c =
+    let s = c.self.inside in
+    let running : s.closed ≡ None = none_of s.closed (λ x is. search rules) in
+    let unused : length c.index.result.now.points.items + length c.index.result.now.batches.items ≡ 0 = (let n = c.uses-count.ensures in let z = c.if-count-gt0.false in omega (arith, n, z)) in (
+      dropping_failed g.D.Disk g.met.D.Disk.told g.met.D.Disk.up_to_now g.B.Based.base g.B.Founded.sound g.B.Founded.premise s.disk s.catalog s.standing s.groups.items s.trail s.late s.closed c.self.invariant.0
+          c.append.new.disk c.append.new.self c.append.ensures.counts c.append.ensures.touches s.seat c.take_entry.new.trail c.take_entry.ensures.same c.in-Ok-take_entry.ensures.ok s.groups.items refl
+          running c.args.table c.in-Some-numbered_place.place c.in-Some-numbered_place.ensures.found c.in-Some-numbered_place.ensures.numbered c.index.result.now (sym c.index.ensures) unused c.append.ensures.any_moment
+          c.unwritten.new.trail c.unwritten.new.late c.unwritten.new.closed c.in-Err.fault (λ e. c.in-Err.ensures.untouched (elim e [ inl x ↦ inl (ap Err x) | inr x ↦ inr (ap Err x) ])) (λ e. c.in-Err.ensures.failed (ap Err e))
+          c.unwritten.ensures.kept c.unwritten.ensures.shut c.unwritten.ensures.room,
+      c.self.invariant.1,
+    )
+
+pub returns-in-Ok-append-clause-ok : goal.returns-in-Ok-append-clause-ok
+returns-in-Ok-append-clause-ok g c =
+    let s = c.self.inside in
+    let b = g.B.Based.base in
+    let told = c.self.invariant.0.told in
+    let v : Shown = record { seat = s.seat; entries = s.trail.entries; late = s.late; closed = s.closed } in
+    let v' : Shown = record { seat = s.seat; entries = c.push.new.self.entries; late = s.late; closed = s.closed } in
+    let m : Answered = record { number = c.args.table.0; stamp = 0; at = c.len.result } in
+    subst (λ (w : Shown). DidDefine g.B.Founded.sound (known_by b g.B.Based.damaged w) (known_by b g.B.Based.damaged v') (DropTableOf c.args.table) m) c.self.view_is
+    (did_drop g.B.Founded.sound (known_by b g.B.Based.damaged v) told.legal s.closed told.closing c.push.new.self.entries c.call_count.result (invariant_of-self-in-Ok-append g c).0.told.legal c.args.table m refl refl c.len.ensures
+    (c.push.ensures.entries ∙ ap (λ (es : List Entry). es ++ record { seat = s.seat; calls = c.call_count.result; act = Dropped c.args.table None } ∷ []) c.take_entry.ensures.same))
+
+pub returns-in-Err-clause-refused : goal.returns-in-Err-clause-refused
+returns-in-Err-clause-refused g c =
+    let s = c.self.inside in
+    let b = g.B.Based.base in
+    let told = c.self.invariant.0.told in
+    let v : Shown = record { seat = s.seat; entries = s.trail.entries; late = s.late; closed = s.closed } in
+    let running : s.closed ≡ None = none_of s.closed (λ x is. search rules) in
+    let v' : Shown = record { seat = s.seat; entries = c.unwritten.new.trail.entries; late = c.unwritten.new.late; closed = c.unwritten.new.closed } in
+    let calls = g.D.Disk.calls c.append.new.disk in
+    subst (λ (w : Shown). Refuses (define_cause g.B.Founded.sound (DropTableOf c.args.table)) (known_by b g.B.Based.damaged w) (known_by b g.B.Based.damaged v') c.unwritten.result) c.self.view_is
+    (unwritten_refused g.B.Founded.sound (known_by b g.B.Based.damaged v) told.legal s.closed told.closing (DropTableOf c.args.table) (drop_full g.B.Founded.sound (known_by b g.B.Based.damaged v) told.legal s.closed told.closing running c.args.table) (refused_memory g.B.Founded.sound (known_by b g.B.Based.damaged v) told.legal s.closed told.closing running (DropTableOf c.args.table))
+    c.unwritten.result c.unwritten.new.trail.entries calls (invariant_of-self-in-Err g c).0.told.legal c.in-Err.fault c.unwritten.ensures.full c.unwritten.ensures.memory c.unwritten.ensures.failed
+    (λ n. (c.unwritten.ensures.kept n).0 ∙ c.take_entry.ensures.same)
+    (λ e. (c.unwritten.ensures.shut e).0 ∙ ap (λ (es : List Entry). es ++ record { seat = s.seat; calls = calls; act = Shut calls } ∷ []) c.take_entry.ensures.same))
