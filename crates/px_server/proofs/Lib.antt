@@ -17,6 +17,7 @@ pub mod LetIn
 pub mod Letting
 pub mod Lists
 pub mod LongKeys
+pub mod Looked
 pub mod Low
 pub mod Noted
 pub mod Numbers
@@ -26,6 +27,7 @@ pub mod OwnRows
 pub mod PointOpened
 pub mod Pointed
 pub mod Refusing
+pub mod ReadAt
 pub mod Released
 pub mod Room
 pub mod Running
