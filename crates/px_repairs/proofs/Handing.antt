@@ -7,8 +7,10 @@ use Rattle.px_cells.specs.CellData.{CellData}
 use Rattle.px_keptcells.specs.Kept.{laid}
 use Rattle.px_merge.specs.Settle.{settle}
 use Rattle.px_wal.specs.Files.{HasFile}
+use Rattle.px_wal.specs.Manifest.{names}
+use Rattle.px_wal.specs.declared.manifest.Manifest.{Manifest}
 use Rattle.px_region.specs.Promise.{IsAlike}
-use Rattle.px_region.specs.Region.{Holds, RegionData, Stands, read_of, with_batch}
+use Rattle.px_region.specs.Region.{Holds, RegionData, Stands, data_of, read_of, with_batch}
 use Rattle.px_region.specs.declared.region.Region.{Region}
 use Rattle.px_region.proofs.Holding.{holds_alike}
 use Rattle.px_batching.proofs.Handed.{reads_settled}
@@ -42,10 +44,11 @@ alike_then a b c k l = record {
 -- ---- cells
 
 module _ {D : Type 0} (d : Ghosts D) (old taken new : Region) (disk disk' : D) (cells : List CellData) (alike : IsAlike old taken) where
-  pub writes_taken : new.number ≡ taken.number → ((s : RegionData) → Holds d taken disk s → LeavesOnly d disk disk' (λ moment image. Stands taken.number image s ⊎ Stands taken.number image (with_batch s cells)))
+  pub writes_taken : new.number ≡ taken.number → (data_of new).horizon ≡ (data_of taken).horizon → ((s : RegionData) → Holds d taken disk s → LeavesOnly d disk disk' (λ moment image. Stands taken.number image s ⊎ Stands taken.number image (with_batch s cells)))
       → ((s : RegionData) → Holds d taken disk s → TouchesOnly d disk disk' (HasFile taken.number)) → Passes d disk disk' 4 → WritesTo d old new disk disk' cells
-  writes_taken number leaves touches counts = record {
+  writes_taken number horizon leaves touches counts = record {
     number = number ∙ alike.number;
+    horizon = horizon ∙ ap (λ (m : Manifest). (names m).horizon) alike.manifest;
     leaves = λ s holds. subst (λ (n : ℕ). LeavesOnly d disk disk' (λ moment image. Stands n image s ⊎ Stands n image (with_batch s cells))) alike.number (leaves s (holds_alike d old disk s holds taken alike));
     touches = λ s holds. subst (λ (n : ℕ). TouchesOnly d disk disk' (HasFile n)) alike.number (touches s (holds_alike d old disk s holds taken alike));
     counts = counts;

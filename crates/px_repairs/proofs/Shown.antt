@@ -144,5 +144,5 @@ module _ {D : Type 0} (d : Ghosts D) (g g' : Group) (disk disk' : D) (place : �
     forms = forms_now g g' place w.index w.region w.step v inside index shown.forms;
   }
 
-  pub repaired_told : (names w.region.manifest).horizon ≡ (names w.index.region.manifest).horizon → IsToldBy b index es g' fixed
-  repaired_told same = told_now g g' place w.index w.region w.step v inside b index es same told
+  pub repaired_told : IsToldBy b index es g' fixed
+  repaired_told = told_now g g' place w.index w.region w.step v inside b index es w.wrote.hands.writes.horizon told

@@ -25,6 +25,7 @@ pub mod LetIn
 pub mod Letting
 pub mod Lists
 pub mod LongKeys
+pub mod Looked
 pub mod Low
 pub mod Noted
 pub mod Numbers
@@ -35,6 +36,7 @@ pub mod PointOpened
 pub mod Pointed
 pub mod Refusing
 pub mod Prepared
+pub mod ReadAt
 pub mod Released
 pub mod Room
 pub mod RowsTold

@@ -13,6 +13,7 @@ mod founded;
 mod laws;
 mod opening;
 mod points;
+mod reading;
 mod readying;
 mod server;
 mod status;

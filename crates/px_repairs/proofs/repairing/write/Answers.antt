@@ -14,7 +14,7 @@ returns-in-Ok-applied-clause-written g c =
       hands = record {
         cells = c.hand.result;
         handed = record { written = c.hand.ensures.written; reads = c.hand.ensures.reads; count = c.hand.ensures.count; bytes = c.hand.ensures.bytes };
-        writes = writes_taken d c.args.region.now c.take.new.region c.apply-applied.new.self c.args.disk.now c.apply-applied.new.disk c.hand.result c.take.ensures.alike a.number a.any_moment a.touches a.counts;
+        writes = writes_taken d c.args.region.now c.take.new.region c.apply-applied.new.self c.args.disk.now c.apply-applied.new.disk c.hand.result c.take.ensures.alike a.number a.horizon a.any_moment a.touches a.counts;
       };
       written = written_taken d c.args.region.now c.take.new.region c.apply-applied.new.self c.args.disk.now c.apply-applied.new.disk c.hand.result c.take.ensures.alike c.in-Ok-applied.ensures.done c.in-Ok-applied.ensures.read;
       room = record {
@@ -30,5 +30,5 @@ returns-in-Err-applied-clause-written g c =
     record {
       cells = c.hand.result;
       handed = record { written = c.hand.ensures.written; reads = c.hand.ensures.reads; count = c.hand.ensures.count; bytes = c.hand.ensures.bytes };
-      writes = writes_taken d c.args.region.now c.take.new.region c.apply-applied.new.self c.args.disk.now c.apply-applied.new.disk c.hand.result c.take.ensures.alike a.number a.any_moment a.touches a.counts;
+      writes = writes_taken d c.args.region.now c.take.new.region c.apply-applied.new.self c.args.disk.now c.apply-applied.new.disk c.hand.result c.take.ensures.alike a.number a.horizon a.any_moment a.touches a.counts;
     }

@@ -1,0 +1,93 @@
+// Reading at a point.
+ghost use Rattle.std.specs.Prelude.{◌≡◌, ◌↔◌, IfErr, IfOk, List, None, Some};
+ghost use Rattle.px_calls.specs.Calls.{DidConsult, DidLook};
+ghost use Rattle.px_calls.specs.Causes.{Refuses, read_cause};
+ghost use Rattle.px_calls.specs.Requires.{CanConsult, CanLook, IsOpen};
+ghost use Rattle.px_values.specs.declared.row.Value.{Value as ColumnValue};
+ghost use Rattle.px_server.specs.Shown.{known_by};
+
+use crate::{Founded, Server};
+use px_calls::{Chunk, Doubt, Held, Path, Point, StepFault, Verdict};
+use px_indexrow::Repair;
+use px_looks::NextKeys;
+use px_outside::{Clock, CountsCalls};
+use px_pointreads::{consult, look, point_place};
+use px_seat::Based;
+use px_values::{Key, Row};
+
+/// The chunk of these keys, after so many entries.
+fn chunk(next: NextKeys, at: u64) -> Chunk
+    ensures { (result.found ≡ next.found) × ((result.next ≡ next.next) × (result.at ≡ at)) }
+{
+    let NextKeys { found, next } = next;
+    Chunk { found, next, at }
+}
+
+/// The row with the number of entries after which it stands so.
+fn held(row: Option<Row>, at: u64) -> Option<Held>
+    ensures none { row ≡ None → result ≡ None }
+    ensures some { (r : List ColumnValue) → row ≡ Some r → result ≡ Some (record { row = r; at = at }) }
+{
+    match row {
+        Some(row) => Some(Held { row, at }),
+        None => None,
+    }
+}
+
+/// The verdict of a repair.
+fn verdict_of(repair: Repair) -> Verdict
+    ensures { (result ≡ Verdict.Leave) ↔ (repair ≡ Repair.Leave) }
+{
+    match repair {
+        Repair::Leave => Verdict::Leave,
+        Repair::Verify => Verdict::Verify,
+        Repair::Retire => Verdict::Retire,
+        Repair::Erase => Verdict::Erase,
+    }
+}
+
+impl<D: CountsCalls, C: Clock, B: Based + Founded> Server<D, C, B> {
+    /// The next keys of the path past `after`.
+    pub fn look(&mut self, p: &Point, path: &Path, after: &Option<Key>) -> Result<Chunk, StepFault>
+        requires open { IsOpen (known_by B.base B.damaged self.old) p.now }
+        requires path { CanLook p.now path.now }
+        ensures ok { IfOk result (DidLook B.sound (known_by B.base B.damaged self.old) (known_by B.base B.damaged self.new) p.now path.now after.now) }
+        ensures refused { IfErr result (Refuses read_cause (known_by B.base B.damaged self.old) (known_by B.base B.damaged self.new)) }
+    {
+        if let Some(call) = self.closed {
+            return Err(StepFault::Closed { call });
+        }
+        let Some(place) = point_place(&self.groups, p) else {
+            return Err(StepFault::Memory);
+        };
+        let group = &mut self.groups[place];
+        match look(self.alloc, &mut self.disk, group, p, path, after) {
+            Ok(next) => Ok(chunk(next, self.trail.len())),
+            Err(_) => Err(StepFault::Memory),
+        }
+    }
+
+    /// The row of a doubt at the point, where its key is the doubt's. Leaves a verdict in the doubt.
+    pub fn consult(&mut self, p: &Point, d: &mut Doubt) -> Result<Option<Held>, StepFault>
+        requires open { IsOpen (known_by B.base B.damaged self.old) p.now }
+        requires doubt { CanConsult p.now d.old }
+        ensures ok { IfOk result (DidConsult B.sound (known_by B.base B.damaged self.old) (known_by B.base B.damaged self.new) p.now d.old d.new) }
+        ensures same { IfErr result (λ f. d.new ≡ d.old) }
+        ensures refused { IfErr result (Refuses read_cause (known_by B.base B.damaged self.old) (known_by B.base B.damaged self.new)) }
+    {
+        if let Some(call) = self.closed {
+            return Err(StepFault::Closed { call });
+        }
+        let Some(place) = point_place(&self.groups, p) else {
+            return Err(StepFault::Memory);
+        };
+        let group = &mut self.groups[place];
+        match consult(self.alloc, &mut self.disk, group, p, d) {
+            Ok(consulted) => {
+                d.verdict = Some(verdict_of(consulted.verdict));
+                Ok(held(consulted.row, self.trail.len()))
+            }
+            Err(_) => Err(StepFault::Memory),
+        }
+    }
+}
