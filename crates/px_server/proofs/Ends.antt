@@ -1,8 +1,8 @@
 -- What the end of a batch, and its giving up, leave of a server.
 use Rattle.std.proofs.Common.{◌≡◌, ◌≢◌, ◌<◌, ◌≤◌, ◌+◌, ◌⊎◌, ◌==◌, ◌||◌, inl, inr, ℕ, zero, suc, Bool, true, false, not, Option, Some, None, List, [], ◌∷◌, ◌++◌, length, get_or, refl, sym, ap, subst, ◌∙◌, arith}
-use Rattle.std.specs.Prelude.{IsTrue, nat_le, remove, slice_get, sum_by}
+use Rattle.std.specs.Prelude.{IfNone, IfSome, IsTrue, remove, slice_get, sum_by}
 use Rattle.std.specs.List.{list_any, slice_set}
-use Rattle.std.proofs.lemmas.Bool.{cases_eq, false≢true, ne_eqb}
+use Rattle.std.proofs.lemmas.Bool.{false≢true, ne_eqb}
 use Rattle.px_outside.specs.declared.disk.Disk.{Ghosts}
 use Rattle.px_values.specs.declared.name.TableId.{TableId}
 use Rattle.px_tables.specs.declared.table.Table.{Table}
@@ -10,29 +10,29 @@ use Rattle.px_trail.specs.declared.entry.Act.TheVariants.{Ended}
 use Rattle.px_trail.specs.declared.entry.Entry.{Entry}
 use Rattle.px_trail.specs.Batches.{Batch, IsIn, batch_of, phase_of}
 use Rattle.px_trail.specs.Batches as phases
-use Rattle.px_trail.specs.Legal.{Follows, IsEndable, IsLegal, MayCome}
+use Rattle.px_trail.specs.Legal.{Follows, IsEndable, MayCome}
 use Rattle.px_trail.specs.Recorded.{Recorded}
 use Rattle.px_trail.specs.Trail.{Base, Catalogue, catalogue_of, catalogue_step, closing_call, closing_step}
 use Rattle.px_trail.proofs.Batches.{in_closing, in_marking, in_writing}
 use Rattle.px_trail.proofs.Growth.{catalogue-snoc}
 use Rattle.px_schema.specs.declared.standing.Standing.{Standing}
-use Rattle.px_catalog.specs.Catalogue.{standing_of}
 use Rattle.px_catalog.specs.declared.catalog.Catalog.{Catalog}
-use Rattle.px_group.specs.Group.{AreTraced, IsRightGroup}
+use Rattle.px_group.specs.Group.{AreTraced}
 use Rattle.px_group.specs.declared.group.Begun.{Begun}
 use Rattle.px_group.specs.declared.group.Group.{Group}
 use Rattle.px_batching.specs.Receipts.{IsReceiptOf}
-use Rattle.px_batching.specs.Steps.{Ends, GoesAway, LetsGo}
+use Rattle.px_batching.specs.Steps.{Ends, LetsGo}
 use Rattle.px_batching.specs.declared.ending.Told.{Told}
 use Rattle.px_batching.proofs.Traced.{receipt_ends, traced_of}
 use Rattle.px_recovery.proofs.Server.{newest_early}
 use Rattle.px_calls.specs.Calls.{IsFinished, IsReceipt}
-use Rattle.px_calls.specs.Known.{Known}
-use Rattle.px_server.specs.Kept.{HasBegun, HasTallied, IsKept, IsTold, owed, owed_by}
+use Rattle.px_server.specs.Ending.{HasVerified}
+use Rattle.px_server.specs.Kept.{HasBegun, IsKept, owed_by}
 use Rattle.px_server.proofs.Acted.{acted, acted_still, begun_at, once_at, points_at, right_at, tallied_at, traced_at}
 use Rattle.px_server.proofs.Ended.{IsLeftBatch, IsWrittenBatch, ended_acted, ended_is, gone_acted, left_batch, no_marks, written_batch}
 use Rattle.px_server.proofs.OpenBatches.{begun_tallied}
 use Rattle.px_server.proofs.Released.{group_of, place_in}
+use Rattle.px_server.proofs.Verified.{verified_done}
 use Rattle.px_server.proofs.Room.{batch_goes, batch_owes, room_some}
 
 unshut_by : (o : Option ℕ) (t : TableId) (s : ℕ) → closing_step o (Ended t s) ≡ o
@@ -69,6 +69,14 @@ left_running es seat t s (inr i) = (i.batch, (i.is, (in_writing i.batch i.phase)
 pub closed_some : (es : List Entry) (closed : Option ℕ) → closing_call es ≡ closed → closing_call es ≢ None → (call : ℕ) × (closed ≡ Some call)
 closed_some es None closing not = absurd (not closing)
 closed_some es (Some call) closing not = (call, refl)
+
+pub if_none : {A : Type 0} (P : Type 0) (o : Option A) → IfNone o P → o ≡ None → P
+if_none P None f is = f
+if_none P (Some a) f is = absurd cc
+
+pub if_some : {A : Type 0} (P : A → Type 0) (o : Option A) → IfSome o P → (a : A) → o ≡ Some a → P a
+if_some P None f a is = absurd cc
+if_some P (Some x) f a is = subst P (same_some x a is) f
 
 -- the batch that was found is the one at its place
 pub end_stamp : (g h : Group) → g ≡ h → (m s : ℕ) → (m < length g.batches.items) × ((x : Begun) → slice_get g.batches.items m ≡ Some x → x.batch.stamp ≡ s) → (x : Begun) → slice_get h.batches.items m ≡ Some x → x.batch.stamp ≡ s
@@ -156,9 +164,9 @@ module _ {D : Type 0} (d : Ghosts D) (b : Base) (sound premise : Type 0) (disk :
             in omega (arith, fewer, batches, points, room))
 
         -- its receipt
-        pub receipt : (damaged : ℕ → ℕ → Bool) (g' : Group) (told : Told) (x' : Ends g g' m told) → x'.batch ≡ x → (trail' : Recorded) → trail'.entries ≡ es ++ e ∷ [] → closing_call trail'.entries ≡ closed
-            → IsReceipt (record { seat = seat; base = b; damaged = damaged; alone = true; seen = trail'.entries }) (record { table = t; stamp = s }) (record { table = t; stamp = s; rows = told.rows; concurrent = told.concurrent; unfinished = closed; at = length trail'.entries })
-        receipt damaged g' told x' same trail' entries closing = record {
+        pub receipt : (damaged : ℕ → ℕ → Bool) (g' : Group) (told : Told) (x' : Ends g g' m told) → x'.batch ≡ x → (trail' : Recorded) → trail'.entries ≡ es ++ e ∷ [] → closing_call trail'.entries ≡ closed → (u : Option ℕ) → (u ≡ None → (closed ≡ None) ⊎ HasVerified es t.0 s) → ((call : ℕ) → u ≡ Some call → closed ≡ Some call)
+            → IsReceipt (record { seat = seat; base = b; damaged = damaged; alone = true; seen = trail'.entries }) (record { table = t; stamp = s }) (record { table = t; stamp = s; rows = told.rows; concurrent = told.concurrent; unfinished = u; at = length trail'.entries })
+        receipt damaged g' told x' same trail' entries closing u none some = record {
           table = refl;
           stamp = refl;
           at = refl;
@@ -167,7 +175,7 @@ module _ {D : Type 0} (d : Ghosts D) (b : Base) (sound premise : Type 0) (disk :
           rows = here.rows;
           once = here.once;
           concurrent = here.concurrent;
-          finished = finished closed refl;
+          finished = finished u refl;
         }
           where
             there : IsReceiptOf (es ++ e ∷ []) g.table.id.0 x'.batch.batch.stamp told
@@ -182,9 +190,13 @@ module _ {D : Type 0} (d : Ghosts D) (b : Base) (sound premise : Type 0) (disk :
             phase_is : here.batch.phase ≡ written.batch.phase
             phase_is = ap (λ (y : Batch). y.phase) (same_some here.batch (record written.batch { ended = true }) (sym here.is ∙ after))
 
-            finished : (o : Option ℕ) → closed ≡ o → IsFinished o here.batch (record { seat = seat; base = b; damaged = damaged; alone = true; seen = trail'.entries })
-            finished None running = (let n = closing_phase es t.0 s written.batch written.is seat (running_end es closed k.told.closing running seat t.0 s can) in let m = phase_is in omega (arith, n, m))
-            finished (Some call) shut = closing ∙ shut
+            done : (closed ≡ None) ⊎ HasVerified es t.0 s → 2 ≤ written.batch.phase
+            done (inl running) = closing_phase es t.0 s written.batch written.is seat (running_end es closed k.told.closing running seat t.0 s can)
+            done (inr v) = (let y = verified_done b es k.told.legal t.0 s v in subst (λ (z : Batch). 2 ≤ z.phase) (same_some y.batch written.batch (sym y.is ∙ written.is)) y.phase)
+
+            finished : (o : Option ℕ) → u ≡ o → IsFinished o here.batch (record { seat = seat; base = b; damaged = damaged; alone = true; seen = trail'.entries })
+            finished None is = (let n = done (none is) in let m = phase_is in omega (arith, n, m))
+            finished (Some call) is = closing ∙ some call is
 
   -- ---- it is given up
 

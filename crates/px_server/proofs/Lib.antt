@@ -53,5 +53,6 @@ pub mod Ticketed
 pub mod Told
 pub mod Unbegun
 pub mod Uses
+pub mod Verified
 pub mod Written
 pub mod Wrote

@@ -1,5 +1,6 @@
 pub mod Beginning
 pub mod Counts
+pub mod Ending
 pub mod Kept
 pub mod Points
 pub mod Shown

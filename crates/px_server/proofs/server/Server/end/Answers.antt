@@ -1,13 +1,13 @@
-use Rattle.std.proofs.Common.{◌≡◌, refl, sym, ap, subst, ◌∙◌}
+use Rattle.std.proofs.Common.{◌≡◌, ◌⊎◌, ℕ, None, Some, refl, sym, subst}
 use Rattle.px_calls.specs.Calls.{IsReceipt}
 use Rattle.px_calls.specs.Known.{Adds}
 use Rattle.px_calls.specs.Requires.{CanEnd}
 use Rattle.px_trail.specs.declared.entry.Act.TheVariants.{Ended as EndedAct}
-use Rattle.px_group.specs.declared.group.Group.{Group}
 use Rattle.px_standing.proofs.Looked.{lacks}
+use Rattle.px_server.specs.Ending.{HasVerified}
 use Rattle.px_server.specs.Shown.{Shown, known_by}
 use Rattle.px_server.proofs.Ended.{written_batch}
-use Rattle.px_server.proofs.Ends.{end_stamp, ends, has_end, receipt}
+use Rattle.px_server.proofs.Ends.{end_stamp, ends, has_end, if_none, if_some, receipt}
 use Rattle.px_server.proofs.Released.{place_in}
 use Rattle.px_server.proofs.PointOpened.{one_there}
 use Rattle.px_server.proofs.Running.{none_running}
@@ -58,6 +58,7 @@ returns-clause-adds g c =
 pub returns-clause-receipt : goal.returns-clause-receipt
 returns-clause-receipt g c =
     let s = c.self.inside in
+    let u = c.unfinished_by-unfinished in
     let b = g.B.Based.base in
     let kept = c.self.invariant.0 in
     let can : CanEnd (known_by b g.B.Based.damaged (record { seat = s.seat; entries = s.trail.entries; late = s.late; closed = s.closed })) c.args.t = subst (λ (v : Shown). CanEnd (known_by b g.B.Based.damaged v) c.args.t) (sym c.self.view_is) c.requires in
@@ -65,6 +66,7 @@ returns-clause-receipt g c =
     let same : c.index.result.now ≡ c.index_mut.result.now = one_there s.groups.items place.place c.index.result.now c.index_mut.result.now (place_in s.groups.items s.standing.tables kept.each.stand place.place place.ensures.found) (sym c.index.ensures) (sym c.index_mut.ensures.value) in
     let x = c.end-rows.ensures in
     let stamp = end_stamp c.index.result.now c.index_mut.result.now same c.in-Some-batch_place.batch c.args.t.stamp c.in-Some-batch_place.ensures.found x.batch x.goes.batch in
-    subst (λ (n : _). IsReceipt (record { seat = s.seat; base = b; damaged = g.B.Based.damaged; alone = _; seen = c.push.new.self.entries }) c.args.t (record { table = c.args.t.table; stamp = c.args.t.stamp; rows = c.end-rows.result.rows; concurrent = c.end-rows.result.concurrent; unfinished = s.closed; at = n })) (sym c.len.ensures)
+    subst (λ (n : _). IsReceipt (record { seat = s.seat; base = b; damaged = g.B.Based.damaged; alone = _; seen = c.push.new.self.entries }) c.args.t (record { table = c.args.t.table; stamp = c.args.t.stamp; rows = c.end-rows.result.rows; concurrent = c.end-rows.result.concurrent; unfinished = u.result; at = n })) (sym c.len.ensures)
     (receipt g.D.Disk b g.B.Founded.sound g.B.Founded.premise s.disk s.catalog s.standing s.groups.items s.trail s.late s.closed kept c.args.t.table place.place c.index_mut.result.now place.ensures.found place.ensures.numbered (sym c.index_mut.ensures.value) c.args.t.stamp
-    s.seat can c.in-Some-batch_place.batch x.batch x.goes.batch stamp c.call_count.result c.call_count.ensures g.B.Based.damaged c.end-rows.new.group c.end-rows.result x refl c.push.new.self c.push.ensures.entries (invariant_of-self g c).0.told.closing)
+    s.seat can c.in-Some-batch_place.batch x.batch x.goes.batch stamp c.call_count.result c.call_count.ensures g.B.Based.damaged c.end-rows.new.group c.end-rows.result x refl c.push.new.self c.push.ensures.entries (invariant_of-self g c).0.told.closing u.result
+    (if_none ((s.closed ≡ None) ⊎ HasVerified s.trail.entries c.args.t.table.0 c.args.t.stamp) u.result u.ensures.none) (if_some (λ (call : ℕ). s.closed ≡ Some call) u.result u.ensures.some))
