@@ -6,8 +6,8 @@
 #![tactic(auto)]
 
 mod beginning;
-mod ending;
 mod defining;
+mod ending;
 mod finding;
 mod founded;
 mod laws;
