@@ -44,16 +44,14 @@ use Rattle.px_recovery.specs.Stands.{Explains, TellsCatalogue, opened_index, ope
 use Rattle.px_recovery.specs.Tables.{IsOneOf, form_in, index_in}
 use Rattle.px_recovery.proofs.Definitions.{catalogue_moved, catalogue_moves}
 use Rattle.px_recovery.proofs.Numbered.{rows_number}
-use Rattle.px_recovery.proofs.Steps.{failed_server}
 use Rattle.px_standing.specs.Agrees.{Agrees, opened_standing}
 use Rattle.px_server.specs.Kept.{AreGroups, AreShown, HasFailed, HasParts, HasPoints, HasShown, HasTallied, HasTrailRoom, IsKept, IsOnDisk, IsTold, forms_in, has_told, number_in, table_in_group}
+use Rattle.px_server.proofs.Changed.{lasting_server, late_entry}
 use Rattle.px_server.proofs.Blamed.{blamed_on, blamed_quiet}
 use Rattle.px_server.proofs.Defines.{Defines, defines_apart, defines_lasts, defines_none, defines_quiet, defines_unshut, index_back, index_on, table_other}
 use Rattle.px_server.proofs.Drawn.{named_after, regions_in}
 use Rattle.px_server.proofs.Forms.{shown_forms, told_forms}
-use Rattle.px_server.proofs.Noted.{with_parts}
 use Rattle.px_server.proofs.Stopped.{stopped_same}
-use Rattle.px_server.proofs.Lasted.{wrote_then}
 
 pub all_pairs : {A : Type 0} (P Q : A → Type 0) (xs : List A) → AllByRecursion P xs → AllByRecursion Q xs → AllByRecursion (λ x. P x × Q x) xs
 all_pairs P Q [] p q = tt
@@ -245,9 +243,7 @@ module _ {D : Type 0} (d : Ghosts D) (tells_left : (x : D) (moment file : ℕ) (
       → IsKept d b sound premise disk' catalog' standing groups trail' (Some e) (Some call)
   define_failed shut call shut-is shut_at failed catalog' trail' entries room =
       stopped_same d b sound premise disk catalog standing groups trail late closed k running disk' passes.later shut call shut-is shut_at catalog' (Some e)
-      (with_parts d b premise Has (HasParts d b catalog' groups) disk' (es ++ shut ∷ []) (Some e) (Some call)
-      (failed_server d tells_left up_to_now b premise Has disk es late closed k.server running disk' passes.later past shut call shut-is shut_at passes.at_most e (defines_lasts t e.act own) at (λ given tells. may) leaves_folder)
-      (λ none given tells. absurd cc))
+      (late_entry d tells_left up_to_now b premise Has (HasParts d b catalog' groups) disk es late closed k.server running disk' passes.later past shut call shut-is shut_at passes.at_most e (defines_lasts t e.act own) at may leaves_folder)
       failed trail' entries room
 
   -- the record is there
@@ -333,7 +329,7 @@ module _ {D : Type 0} (d : Ghosts D) (tells_left : (x : D) (moment file : ℕ) (
           in subst (λ (ys : List Entry). AreShown b ys standing'.indexes groups') (sym entries)
           (record { told = moved s.told; each = shown_now standing.indexes standing'.indexes (agreed_forms standing (catalogue_of b es) k.told.agrees) (agreed_forms standing' (catalogue_of b now) agrees) s.told s.each }));
       server = subst (λ (ys : List Entry). IsServer d b premise (HasParts d b catalog' groups') disk' ys late closed) (sym entries)
-          (wrote_then d tells_left up_to_now b premise Has (HasParts d b catalog' groups') disk es late closed k.server running disk' passes.later past passes.at_most e (defines_lasts t e.act own) at may (defines_unshut t e.act own) moves);
+          (lasting_server d tells_left up_to_now b premise Has (HasParts d b catalog' groups') disk es late closed k.server running disk' passes.later past passes.at_most e (defines_lasts t e.act own) at may (defines_unshut t e.act own) moves);
       room = room;
       blamed = subst (λ (ys : List Entry). has_told ys ≡ true → HasFailed d disk') (sym entries) (blamed_quiet d disk' es e (defines_quiet t e.act own) (blamed_on d disk disk' es passes.later passes.faults_later k.blamed));
     }

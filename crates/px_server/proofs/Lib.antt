@@ -17,7 +17,6 @@ pub mod Forms
 pub mod Found
 pub mod Framed
 pub mod Handed
-pub mod Lasted
 pub mod Left
 pub mod LetIn
 pub mod Letting
