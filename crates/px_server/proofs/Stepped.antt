@@ -28,7 +28,7 @@ use Rattle.px_calls.specs.declared.status.Work.{Work}
 use Rattle.px_calls.specs.declared.status.Work.TheVariants.{Did, Idle}
 use Rattle.px_trail.specs.Legal.{IsLegal}
 use Rattle.px_server.specs.Kept.{HasTallied, IsKept, IsOnDisk, number_in, owed}
-use Rattle.px_server.specs.Upkeep.{Stepped, Steps, StepsIndex, StepsRows}
+use Rattle.px_server.specs.Upkeep.{SteppedTable, StepsIndex, StepsRows, StepsTable}
 use Rattle.px_server.proofs.Handed.{index_handed, rows_handed}
 use Rattle.px_server.proofs.Lists.{all_at}
 use Rattle.px_server.proofs.OpenBatches.{stamp_in}
@@ -123,18 +123,18 @@ module _ {D : Type 0} (d : Ghosts D) (tells_left : (x : D) (moment file : ℕ) (
 
   -- ---- of either
 
-  pub stepped : Stepped d g g' disk disk' → IsKept d b sound premise disk' catalog standing then trail late closed
+  pub stepped : SteppedTable d g g' disk disk' → IsKept d b sound premise disk' catalog standing then trail late closed
   stepped (inl (same, still)) =
       subst (λ (x : D). IsKept d b sound premise x catalog standing then trail late closed) (sym still)
       (subst (λ (gs : List Group). IsKept d b sound premise disk catalog standing gs trail late closed) (sym (ap (slice_set groups place) same ∙ put_back groups place g is)) k)
   stepped (inr (inl s)) = rows_stepped s.rows s.written
   stepped (inr (inr s)) = index_stepped s.index s.written
 
-  pub stopped : Steps d g g' disk disk' → (calls seat : ℕ) → calls ≡ d.calls disk' → Rose d disk disk' → (trail' : Recorded) → trail'.entries ≡ es ++ record { seat = seat; calls = calls; act = Shut calls } ∷ [] → trail'.room + 1 ≡ trail.room
+  pub stopped : StepsTable d g g' disk disk' → (calls seat : ℕ) → calls ≡ d.calls disk' → Rose d disk disk' → (trail' : Recorded) → trail'.entries ≡ es ++ record { seat = seat; calls = calls; act = Shut calls } ∷ [] → trail'.room + 1 ≡ trail.room
       → IsKept d b sound premise disk' catalog standing then trail' late (Some calls)
   stopped steps calls seat at rose trail' entries room = subst (λ (o : Option Entry). IsKept d b sound premise disk' catalog standing then trail' o (Some calls)) (sym (k.server.unlate running)) (by steps)
     where
-      by : Steps d g g' disk disk' → IsKept d b sound premise disk' catalog standing then trail' None (Some calls)
+      by : StepsTable d g g' disk disk' → IsKept d b sound premise disk' catalog standing then trail' None (Some calls)
       by (inl s) = rows_stopped s (record { seat = seat; calls = calls; act = Shut calls }) calls refl at rose trail' entries room
       by (inr s) = index_stopped s (record { seat = seat; calls = calls; act = Shut calls }) calls refl at rose trail' entries room
 

@@ -50,9 +50,9 @@ pub record SteppedIndex {D : Type 0} (d : Ghosts D) (g g' : Group) (disk disk' :
   pub written : HasWritten d index.index.region index.region disk disk' []
 
 -- a step of one region of the table
-abbrev pub Steps : {D : Type 0} → Ghosts D → Group → Group → D → D → Type 0
-Steps d g g' disk disk' = StepsRows d g g' disk disk' ⊎ StepsIndex d g g' disk disk'
+abbrev pub StepsTable : {D : Type 0} → Ghosts D → Group → Group → D → D → Type 0
+StepsTable d g g' disk disk' = StepsRows d g g' disk disk' ⊎ StepsIndex d g g' disk disk'
 
 -- one that succeeded, or none was due
-abbrev pub Stepped : {D : Type 0} → Ghosts D → Group → Group → D → D → Type 0
-Stepped d g g' disk disk' = ((g' ≡ g) × (disk' ≡ disk)) ⊎ (SteppedRows d g g' disk disk' ⊎ SteppedIndex d g g' disk disk')
+abbrev pub SteppedTable : {D : Type 0} → Ghosts D → Group → Group → D → D → Type 0
+SteppedTable d g g' disk disk' = ((g' ≡ g) × (disk' ≡ disk)) ⊎ (SteppedRows d g g' disk disk' ⊎ SteppedIndex d g g' disk disk')

@@ -9,7 +9,7 @@ ghost use Rattle.px_group.specs.declared.group.IndexRegion.{IndexRegion as Part}
 ghost use Rattle.px_outside.specs.OnDisk.{Rose};
 ghost use Rattle.px_region.specs.declared.fault.JobFault.TheVariants.{Memory, WriteFault};
 ghost use Rattle.px_server.specs.Shown.{known_by};
-ghost use Rattle.px_server.specs.Upkeep.{HasLogOf, HasLogs, Stepped, Steps, StepsOn};
+ghost use Rattle.px_server.specs.Upkeep.{HasLogOf, HasLogs, SteppedTable, StepsOn, StepsTable};
 
 use crate::{Founded, Server};
 use px_calls::{StepFault, Work};
@@ -64,9 +64,9 @@ fn unlogged_table(groups: &[Group]) -> Option<usize>
 
 /// Makes a step of the log of the first region of the table that has none. Where no memory is found, the table goes on as well.
 fn step_table<D: Disk>(group: &mut Group, disk: &mut D) -> Result<JobStep, JobFault>
-    ensures ok { OnOk result (Stepped ⟦<D as Disk>⟧ group.old group.new disk.old disk.new) }
-    ensures failed { result ≡ Err WriteFault → Steps ⟦<D as Disk>⟧ group.old group.new disk.old disk.new × Rose ⟦<D as Disk>⟧ disk.old disk.new }
-    ensures refused { result ≡ Err Memory → Stepped ⟦<D as Disk>⟧ group.old group.new disk.old disk.new }
+    ensures ok { OnOk result (SteppedTable ⟦<D as Disk>⟧ group.old group.new disk.old disk.new) }
+    ensures failed { result ≡ Err WriteFault → StepsTable ⟦<D as Disk>⟧ group.old group.new disk.old disk.new × Rose ⟦<D as Disk>⟧ disk.old disk.new }
+    ensures refused { result ≡ Err Memory → SteppedTable ⟦<D as Disk>⟧ group.old group.new disk.old disk.new }
 {
     if !group.rows.has_log() {
         return step_region(&mut group.rows, disk);
