@@ -69,4 +69,4 @@ returns-clause-receipt g c =
     subst (λ (n : _). IsReceipt (record { seat = s.seat; base = b; damaged = g.B.Based.damaged; alone = _; seen = c.push.new.self.entries }) c.args.t (record { table = c.args.t.table; stamp = c.args.t.stamp; rows = c.end-rows.result.rows; concurrent = c.end-rows.result.concurrent; unfinished = u.result; at = n })) (sym c.len.ensures)
     (receipt g.D.Disk b g.B.Founded.sound g.B.Founded.premise s.disk s.catalog s.standing s.groups.items s.trail s.late s.closed kept c.args.t.table place.place c.index_mut.result.now place.ensures.found place.ensures.numbered (sym c.index_mut.ensures.value) c.args.t.stamp
     s.seat can c.in-Some-batch_place.batch x.batch x.goes.batch stamp c.call_count.result c.call_count.ensures g.B.Based.damaged c.end-rows.new.group c.end-rows.result x refl c.push.new.self c.push.ensures.entries (invariant_of-self g c).0.told.closing u.result
-    (if_none ((s.closed ≡ None) ⊎ HasVerified s.trail.entries c.args.t.table.0 c.args.t.stamp) u.result u.ensures.none) (if_some (λ (call : ℕ). s.closed ≡ Some call) u.result u.ensures.some))
+    (if_none ((s.closed ≡ None) ⊎ HasVerified s.trail.entries c.args.t.table.0 c.args.t.stamp) u.result u.ensures.none) (λ call named. (if_some (λ (n : ℕ). (s.closed ≡ Some n) × (HasVerified s.trail.entries c.args.t.table.0 c.args.t.stamp → ⊥)) u.result u.ensures.some call named).0))
