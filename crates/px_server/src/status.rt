@@ -1,11 +1,11 @@
 // What a table's status counts.
-ghost use Rattle.std.specs.Prelude.{◌≡◌, ◌<◌, ◌≤◌, IfErr, IfOk, filter, length, map};
+ghost use Rattle.std.specs.Prelude.{◌≡◌, ◌<◌, ◌≤◌, IfErr, IfOk, filter, length, map, min};
 ghost use Rattle.px_cells.specs.Order.{IsCellList};
 ghost use Rattle.px_calls.specs.Calls.{DidCount};
 ghost use Rattle.px_calls.specs.Causes.{Refuses, status_cause};
 ghost use Rattle.px_group.specs.Group.{IsRightGroup};
 ghost use Rattle.px_recovery.specs.Tables.{indexes_of};
-ghost use Rattle.px_server.specs.Counts.{AreUnverified, bare, count_as, is_unverified};
+ghost use Rattle.px_server.specs.Counts.{AreUnverified, bare, cells_of, count_as, is_unverified};
 ghost use Rattle.px_server.specs.Shown.{known_by};
 
 use crate::{Founded, Server};
@@ -87,7 +87,9 @@ fn counts_of(
 }
 
 /// How many cells the regions of a table and of its indexes have.
-fn cells_in(group: &Group) -> u64 {
+fn cells_in(group: &Group) -> u64
+    ensures { result ≡ min (cells_of group.now) 18446744073709551615 }
+{
     let mut cells = group.rows.sorted_cells().len() as u64;
     for part in group.indexes.as_slice() {
         cells = cells.saturating_add(part.region.sorted_cells().len() as u64);
