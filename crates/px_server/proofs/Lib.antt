@@ -29,6 +29,7 @@ pub mod Numbers
 pub mod OpenBatches
 pub mod Opened
 pub mod OwnRows
+pub mod PointMoved
 pub mod PointOpened
 pub mod Pointed
 pub mod Prepared

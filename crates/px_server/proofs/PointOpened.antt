@@ -44,9 +44,8 @@ use Rattle.px_server.proofs.Decided.{decided}
 use Rattle.px_server.proofs.Ended.{IsLeftBatch, left_batch}
 use Rattle.px_server.proofs.Low.{horizon_low}
 use Rattle.px_server.proofs.OpenBatches.{phase_told}
-use Rattle.px_server.proofs.Pointed.{pointed}
+use Rattle.px_server.proofs.PointMoved.{pointed}
 use Rattle.px_server.proofs.Released.{group_of, place_in}
-use Rattle.px_server.proofs.Room.{room_set}
 use Rattle.px_server.proofs.Seen.{one_more, stays}
 
 unshut_by : (o : Option ℕ) (t : TableId) (s : ℕ) (scn : Bool) → closing_step o (Opened t s scn) ≡ o
@@ -211,10 +210,9 @@ module _ {D : Type 0} (d : Ghosts D) (b : Base) (sound premise : Type 0)
           pointed d tells_left up_to_now b sound premise disk catalog standing groups trail late closed k e at refl refl may (unshut_by closed t s (is_some scn)) (still_by t s (is_some scn)) (λ x. tt) place g g' inside is opened.same
           (λ x other same. other (sym same ∙ ap (λ (y : TableId). y.0) (sym own)))
           (points_opened es g (points_at d b sound premise disk catalog standing groups trail late closed k place g inside is) e s (is_some scn) act_is g' opened) (λ hs tallied. tallied_opened b es g hs tallied e s (is_some scn) act_is g' opened) trail' entries
-          (room_set groups place g g' inside is closed trail trail' k.room
           (let
           batches : sum_by owed_by g'.batches.items ≡ sum_by owed_by g.batches.items = ap (λ xs. sum_by owed_by xs.items) opened.same.batches
-          in omega (arith, batches, more, room)))
+          in omega (arith, batches, more, room))
 
       -- what is answered
       pub did_open : (damaged : ℕ → ℕ → Bool) (trail' : Recorded) → trail'.entries ≡ es ++ e ∷ [] → IsTold b trail'.entries closed (standing_of catalog) standing → (f : Found) → ((none : Table) → f.table ≡ get_or standing.tables place none) → f.indexes ≡ indexes_of f.table.id.0 standing.indexes → f.at ≡ length trail'.entries

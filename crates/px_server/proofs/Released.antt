@@ -4,7 +4,6 @@ use Rattle.std.specs.Prelude.{IsTrue, sum_by}
 use Rattle.std.specs.List.{slice_set}
 use Rattle.std.proofs.lemmas.Bool.{false≢true}
 use Rattle.std.proofs.lemmas.List.{length-map}
-use Rattle.std.proofs.lemmas.List.Sums.{sum_by-set}
 use Rattle.px_outside.specs.declared.disk.Disk.{Ghosts}
 use Rattle.px_values.specs.declared.name.TableId.{TableId}
 use Rattle.px_tables.specs.declared.table.Table.{Table}
@@ -20,9 +19,9 @@ use Rattle.px_group.specs.declared.group.Group.{Group}
 use Rattle.px_noting.specs.Points.{HasReleased}
 use Rattle.px_noting.proofs.OpenPoints.{points_released, tallied_released}
 use Rattle.px_recovery.proofs.Server.{newest_early}
-use Rattle.px_server.specs.Kept.{HasPoints, IsKept, owed, owed_by, table_in_group}
+use Rattle.px_server.specs.Kept.{HasPoints, IsKept, owed_by, table_in_group}
 use Rattle.px_server.proofs.Lists.{all_at}
-use Rattle.px_server.proofs.Pointed.{pointed}
+use Rattle.px_server.proofs.PointMoved.{pointed}
 
 pub none_of : (o : Option ℕ) → ((x : ℕ) → o ≡ Some x → ⊥) → o ≡ None
 none_of None not = refl
@@ -92,11 +91,5 @@ module _ {D : Type 0} (d : Ghosts D) (tells_left : (x : D) (moment file : ℕ) (
       (λ x other same. other (sym same ∙ ap (λ (y : TableId). y.0) (sym own)))
       (points_released es g here e s act_is g' released) (λ hs tallied. tallied_released b es g hs tallied e s act_is g' released) trail' entries
       (let
-      one = sum_by-set owed groups place g' g inside
-      in let
-      was : owed (get_or groups place g) ≡ owed g = ap owed is
-      in let
       batches : sum_by owed_by g'.batches.items ≡ sum_by owed_by g.batches.items = ap (λ xs. sum_by owed_by xs.items) released.same.batches
-      in let
-      before = k.room
-      in omega (arith, one, was, batches, fewer, before, room))
+      in omega (arith, batches, fewer, room))
