@@ -24,11 +24,14 @@ pub mod Lists
 pub mod LongKeys
 pub mod Looked
 pub mod Low
+pub mod MarkSteps
+pub mod Marked
 pub mod Noted
 pub mod Numbers
 pub mod OpenBatches
 pub mod Opened
 pub mod OwnRows
+pub mod Phased
 pub mod PointMoved
 pub mod PointOpened
 pub mod Pointed

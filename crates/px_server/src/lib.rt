@@ -11,6 +11,7 @@ mod ending;
 mod finding;
 mod founded;
 mod laws;
+mod marking;
 mod opening;
 mod points;
 mod reading;
