@@ -1,1 +1,3 @@
+pub mod Fitting
+pub mod Indexing
 pub mod Making

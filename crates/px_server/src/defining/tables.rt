@@ -60,7 +60,7 @@ fn check_table(closed: Option<u64>, standing: &Standing, what: &NewTable) -> Res
 }
 
 /// A limit that would be passed.
-fn limit(which: Limit) -> StepFault
+pub(crate) fn limit(which: Limit) -> StepFault
     ensures { result ≡ LimitFault which (most_of which) }
 {
     StepFault::Limit {

@@ -1,0 +1,306 @@
+use Rattle.std.proofs.Common.{rules, ◌≡◌, ◌≢◌, ◌<◌, ◌≤◌, ◌⊎◌, ◌+◌, ◌^◌, inl, inr, ℕ, true, false, IsSome, Option, None, Some, Err, List, [], ◌∷◌, ◌++◌, length, get_or, refl, sym, ap, subst, ◌∙◌, arith}
+use Rattle.std.specs.List.{slice_set}
+use Rattle.std.proofs.lemmas.Bool.{false≢true}
+use Rattle.px_values.specs.declared.name.IndexId.{IndexId}
+use Rattle.px_values.specs.declared.name.TableId.{TableId}
+use Rattle.px_tables.specs.declared.index.Index.{Index}
+use Rattle.px_tables.specs.declared.table.Table.{Table}
+use Rattle.px_trail.specs.Legal.{IsLegal}
+use Rattle.px_trail.specs.Trail.{Base, horizon_of, last_of, table_of}
+use Rattle.px_trail.specs.declared.entry.Act.TheVariants as act
+use Rattle.px_trail.specs.declared.entry.Entry.{Entry}
+use Rattle.px_calls.specs.Calls.{DidDefine}
+use Rattle.px_calls.specs.Causes.{HasState, Refuses, define_cause}
+use Rattle.px_calls.specs.Known.{IsRunning, Known}
+use Rattle.px_calls.specs.Requires.{IsIndexFit, IsNewIndex}
+use Rattle.px_calls.specs.declared.definition.Definition.TheVariants as definition
+use Rattle.px_calls.specs.declared.fault.StepFault.{StepFault}
+use Rattle.px_calls.specs.declared.fault.StepFault.TheVariants.{Closed, InUse, Memory, NoIndex, NoTable, NotReady}
+use Rattle.px_schema.specs.declared.standing.Standing.{Standing}
+use Rattle.px_standing.proofs.Looked.{lacks}
+use Rattle.px_server.specs.Kept.{HasTallied, IsKept}
+use Rattle.px_server.specs.Shown.{Shown, known_by}
+use Rattle.px_server.proofs.Found.{closed_by}
+use Rattle.px_server.proofs.Lists.{all_at}
+use Rattle.px_server.proofs.Released.{group_of, place_in}
+use Rattle.px_server.proofs.Seen.{stays}
+use Rattle.px_server.proofs.Unwritten.{no_memory, reserved, unwritten_kept, unwritten_refused}
+use Rattle.px_calls.specs.declared.definition.Made.{Made as Answered}
+use Rattle.px_group.specs.declared.group.Group.{Group}
+use Rattle.px_server.specs.inner.Indexing.{MayMakeIndex}
+use Rattle.px_server.proofs.IndexFits.{fits_made}
+use Rattle.px_server.proofs.IndexSteps.{making_did, making_failed, making_kept, making_refused}
+use Rattle.px_server.proofs.Reserved.{same_there}
+use Rattle.px_server.proofs.server.Server.make_index.Goals as goal
+
+pub unreachable-requires : goal.unreachable-requires
+unreachable-requires g c = (let
+    s = c.self.inside
+    in let
+    k = c.self.invariant.0
+    in let
+    b = g.B.Based.base
+    in let
+    v : Shown = record { seat = s.seat; entries = s.trail.entries; late = s.late; closed = s.closed }
+    in let
+    may : MayMakeIndex (known_by b g.B.Based.damaged v) c.args.what.now = subst (λ (w : Shown). MayMakeIndex (known_by b g.B.Based.damaged w) c.args.what.now) (sym c.self.view_is) c.requires.may
+    in let
+    none : table_of b s.trail.entries c.args.what.now.table.0 ≡ None = lacks b s.trail.entries s.standing k.told.agrees c.args.what.now.table.0 c.in_default.ensures.none
+    in
+    false≢true (subst (λ (o : Option Table). IsSome o) none may.stands))
+
+pub next_stamp-stamp-requires : goal.next_stamp-stamp-requires
+next_stamp-stamp-requires g c = (let
+    s = c.self.inside
+    in let
+    k = c.self.invariant.0
+    in let
+    b = g.B.Based.base
+    in let
+    v : Shown = record { seat = s.seat; entries = s.trail.entries; late = s.late; closed = s.closed }
+    in let
+    may : MayMakeIndex (known_by b g.B.Based.damaged v) c.args.what.now = subst (λ (w : Shown). MayMakeIndex (known_by b g.B.Based.damaged w) c.args.what.now) (sym c.self.view_is) c.requires.may
+    in let
+    running : s.closed ≡ None = sym k.told.closing ∙ may.running
+    in let
+    l = place_in s.groups.items s.standing.tables k.each.stand c.in-Some.place c.in-Some.ensures.found
+    in let
+    h = c.index.result.now
+    in let
+    h_is : get_or s.groups.items c.in-Some.place h ≡ h = sym c.index.ensures
+    in let
+    own : h.table.id ≡ c.args.what.now.table = group_of s.groups.items s.standing.tables k.each.stand c.in-Some.place h l h_is c.args.what.now.table c.in-Some.ensures.numbered
+    in let
+    tallied : HasTallied b s.trail.entries h = all_at (HasTallied b s.trail.entries) s.groups.items c.in-Some.place h l h_is (k.each.tallied running)
+    in let
+    last_is : last_of b c.args.what.now.table.0 s.trail.entries ≡ h.last = ap (λ (t : TableId). last_of b t.0 s.trail.entries) (sym own) ∙ tallied.tallied.last
+    in let
+    low = may.stamps
+    in
+    omega (arith, low, last_is))
+
+pub returns-in-Err-clause-refused : goal.returns-in-Err-clause-refused
+returns-in-Err-clause-refused g c = (let
+    s = c.self.inside
+    in let
+    k = c.self.invariant.0
+    in let
+    b = g.B.Based.base
+    in let
+    v : Shown = record { seat = s.seat; entries = s.trail.entries; late = s.late; closed = s.closed }
+    in let
+    may : MayMakeIndex (known_by b g.B.Based.damaged v) c.args.what.now = subst (λ (w : Shown). MayMakeIndex (known_by b g.B.Based.damaged w) c.args.what.now) (sym c.self.view_is) c.requires.may
+    in let
+    running : s.closed ≡ None = sym k.told.closing ∙ may.running
+    in
+    subst (λ (f : StepFault). Refuses (define_cause g.B.Founded.sound (definition.Index c.args.what.now)) (known_by b g.B.Based.damaged c.args.self.now) (known_by b g.B.Based.damaged v) f) (sym c.in-Err.ensures.refused)
+    (subst (λ (w : Shown). Refuses (define_cause g.B.Founded.sound (definition.Index c.args.what.now)) (known_by b g.B.Based.damaged w) (known_by b g.B.Based.damaged v) Memory) c.self.view_is
+    (no_memory g.B.Founded.sound (known_by b g.B.Based.damaged v) k.told.legal s.closed k.told.closing running (definition.Index c.args.what.now))))
+
+pub returns-in_default-take_entry-clause-refused : goal.returns-in_default-take_entry-clause-refused
+returns-in_default-take_entry-clause-refused g c = (let
+    s = c.self.inside
+    in let
+    k = c.self.invariant.0
+    in let
+    b = g.B.Based.base
+    in let
+    v : Shown = record { seat = s.seat; entries = s.trail.entries; late = s.late; closed = s.closed }
+    in let
+    may : MayMakeIndex (known_by b g.B.Based.damaged v) c.args.what.now = subst (λ (w : Shown). MayMakeIndex (known_by b g.B.Based.damaged w) c.args.what.now) (sym c.self.view_is) c.requires.may
+    in let
+    running : s.closed ≡ None = sym k.told.closing ∙ may.running
+    in
+    subst (λ (es : List Entry). Refuses (define_cause g.B.Founded.sound (definition.Index c.args.what.now)) (known_by b g.B.Based.damaged c.args.self.now) (known_by b g.B.Based.damaged (record v { entries = es })) Memory) (sym c.take_entry.ensures.same)
+    (subst (λ (w : Shown). Refuses (define_cause g.B.Founded.sound (definition.Index c.args.what.now)) (known_by b g.B.Based.damaged w) (known_by b g.B.Based.damaged v) Memory) c.self.view_is
+    (no_memory g.B.Founded.sound (known_by b g.B.Based.damaged v) k.told.legal s.closed k.told.closing running (definition.Index c.args.what.now))))
+
+pub invariant_of-self-in_default-reserve_index : goal.invariant_of-self-in_default-reserve_index
+invariant_of-self-in_default-reserve_index g c = (let
+    s = c.self.inside
+    in let
+    k = c.self.invariant.0
+    in let
+    b = g.B.Based.base
+    in let
+    l = place_in s.groups.items s.standing.tables k.each.stand c.in-Some.place c.in-Some.ensures.found
+    in let
+    h1 = c.index_mut.result.now
+    in let
+    h1_is : get_or s.groups.items c.in-Some.place h1 ≡ h1 = sym c.index_mut.ensures.value
+    in (
+      reserved g.D.Disk b g.B.Founded.sound g.B.Founded.premise s.disk s.catalog s.standing s.groups.items s.trail s.late s.closed k c.in-Some.place h1 c.reserve_index.new.group l h1_is c.reserve_index.ensures.same c.take_entry.new.trail c.take_entry.ensures.same c.take_entry.ensures.least,
+      c.self.invariant.1,
+    ))
+
+pub returns-in_default-reserve_index-clause-refused : goal.returns-in_default-reserve_index-clause-refused
+returns-in_default-reserve_index-clause-refused g c = (let
+    s = c.self.inside
+    in let
+    k = c.self.invariant.0
+    in let
+    b = g.B.Based.base
+    in let
+    v : Shown = record { seat = s.seat; entries = s.trail.entries; late = s.late; closed = s.closed }
+    in let
+    may : MayMakeIndex (known_by b g.B.Based.damaged v) c.args.what.now = subst (λ (w : Shown). MayMakeIndex (known_by b g.B.Based.damaged w) c.args.what.now) (sym c.self.view_is) c.requires.may
+    in let
+    running : s.closed ≡ None = sym k.told.closing ∙ may.running
+    in
+    subst (λ (es : List Entry). Refuses (define_cause g.B.Founded.sound (definition.Index c.args.what.now)) (known_by b g.B.Based.damaged c.args.self.now) (known_by b g.B.Based.damaged (record v { entries = es })) Memory) (sym c.take_entry.ensures.same)
+    (subst (λ (w : Shown). Refuses (define_cause g.B.Founded.sound (definition.Index c.args.what.now)) (known_by b g.B.Based.damaged w) (known_by b g.B.Based.damaged v) Memory) c.self.view_is
+    (no_memory g.B.Founded.sound (known_by b g.B.Based.damaged v) k.told.legal s.closed k.told.closing running (definition.Index c.args.what.now))))
+
+pub append-requires : goal.append-requires
+append-requires g c = (let
+    s = c.self.inside
+    in let
+    k = c.self.invariant.0
+    in let
+    b = g.B.Based.base
+    in let
+    v : Shown = record { seat = s.seat; entries = s.trail.entries; late = s.late; closed = s.closed }
+    in let
+    may : MayMakeIndex (known_by b g.B.Based.damaged v) c.args.what.now = subst (λ (w : Shown). MayMakeIndex (known_by b g.B.Based.damaged w) c.args.what.now) (sym c.self.view_is) c.requires.may
+    in let
+    running : s.closed ≡ None = sym k.told.closing ∙ may.running
+    in let
+    fit : IsIndexFit (known_by b g.B.Based.damaged v) c.args.what.now = subst (λ (w : Shown). IsIndexFit (known_by b g.B.Based.damaged w) c.args.what.now) (sym c.self.view_is) c.requires.fits
+    in let
+    l = place_in s.groups.items s.standing.tables k.each.stand c.in-Some.place c.in-Some.ensures.found
+    in let
+    h = c.index.result.now
+    in let
+    h_is : get_or s.groups.items c.in-Some.place h ≡ h = sym c.index.ensures
+    in let
+    own : h.table.id ≡ c.args.what.now.table = group_of s.groups.items s.standing.tables k.each.stand c.in-Some.place h l h_is c.args.what.now.table c.in-Some.ensures.numbered
+    in let
+    tallied : HasTallied b s.trail.entries h = all_at (HasTallied b s.trail.entries) s.groups.items c.in-Some.place h l h_is (k.each.tallied running)
+    in let
+    stands : table_of b s.trail.entries c.args.what.now.table.0 ≡ Some h.table = ap (λ (t : TableId). table_of b s.trail.entries t.0) (sym own) ∙ tallied.tallied.standing.table
+    in let
+    short : c.args.what.now.table.0 < 256 ^ 4 = search rules
+    in
+    record { right = fits_made g.D.Disk b g.B.Founded.sound g.B.Founded.premise s.disk s.catalog s.standing s.groups.items s.trail s.late s.closed k running c.in-Some.place h l h_is c.args.what.now own (fit.fits h.table stands) short c.next_stamp-stamp.result c.in-Ok.made c.in-Ok.ensures.ok })
+
+pub invariant_of-self-in-Ok-append : goal.invariant_of-self-in-Ok-append
+invariant_of-self-in-Ok-append g c = (let
+    s = c.self.inside
+    in let
+    k = c.self.invariant.0
+    in let
+    b = g.B.Based.base
+    in let
+    v : Shown = record { seat = s.seat; entries = s.trail.entries; late = s.late; closed = s.closed }
+    in let
+    may : MayMakeIndex (known_by b g.B.Based.damaged v) c.args.what.now = subst (λ (w : Shown). MayMakeIndex (known_by b g.B.Based.damaged w) c.args.what.now) (sym c.self.view_is) c.requires.may
+    in let
+    running : s.closed ≡ None = sym k.told.closing ∙ may.running
+    in let
+    fit : IsIndexFit (known_by b g.B.Based.damaged v) c.args.what.now = subst (λ (w : Shown). IsIndexFit (known_by b g.B.Based.damaged w) c.args.what.now) (sym c.self.view_is) c.requires.fits
+    in let
+    l = place_in s.groups.items s.standing.tables k.each.stand c.in-Some.place c.in-Some.ensures.found
+    in let
+    h = c.index_mut.result.now
+    in let
+    h_is : get_or s.groups.items c.in-Some.place h ≡ h = sym c.index_mut.ensures.value
+    in let
+    own : h.table.id ≡ c.args.what.now.table = group_of s.groups.items s.standing.tables k.each.stand c.in-Some.place h l h_is c.args.what.now.table c.in-Some.ensures.numbered
+    in let
+    above : h.last < c.next_stamp-stamp.result = (let a = c.next_stamp-stamp.ensures.above in let same = ap (λ (x : Group). x.last) (same_there s.groups.items c.in-Some.place h c.index.result.now l h_is (sym c.index.ensures)) in omega (arith, a, same))
+    in
+    (making_kept g.D.Disk g.met.D.Disk.told g.met.D.Disk.up_to_now b g.B.Based.damaged g.B.Founded.sound g.B.Founded.premise s.disk s.catalog s.standing s.groups.items s.trail s.late s.closed k running c.in-Some.place h l h_is s.seat c.take_entry.new.trail c.take_entry.ensures.same c.in-Ok-take_entry.ensures.ok c.append.new.disk c.append.new.self c.append.ensures.counts c.append.ensures.touches c.args.what.now own may fit c.next_stamp-stamp.result above c.next_stamp-stamp.ensures.most c.in-Ok.made c.in-Ok.ensures.ok c.reserve_index.new.group c.reserve_index.ensures.same c.append.ensures.any_moment c.in-Ok-append.ensures.done c.in-Ok-append.ensures.defined c.index_mut-in-Ok-append.result.now c.index_mut-in-Ok-append.ensures.value c.add_index.new.group c.add_index.ensures c.replace-before.new.dest c.replace-before.ensures.after c.push.new.self c.call_count.result c.call_count.ensures c.push.ensures.entries c.push.ensures.room, c.self.invariant.1))
+
+pub invariant_of-self-in-Err-append : goal.invariant_of-self-in-Err-append
+invariant_of-self-in-Err-append g c = (let
+    s = c.self.inside
+    in let
+    k = c.self.invariant.0
+    in let
+    b = g.B.Based.base
+    in let
+    v : Shown = record { seat = s.seat; entries = s.trail.entries; late = s.late; closed = s.closed }
+    in let
+    may : MayMakeIndex (known_by b g.B.Based.damaged v) c.args.what.now = subst (λ (w : Shown). MayMakeIndex (known_by b g.B.Based.damaged w) c.args.what.now) (sym c.self.view_is) c.requires.may
+    in let
+    running : s.closed ≡ None = sym k.told.closing ∙ may.running
+    in let
+    fit : IsIndexFit (known_by b g.B.Based.damaged v) c.args.what.now = subst (λ (w : Shown). IsIndexFit (known_by b g.B.Based.damaged w) c.args.what.now) (sym c.self.view_is) c.requires.fits
+    in let
+    l = place_in s.groups.items s.standing.tables k.each.stand c.in-Some.place c.in-Some.ensures.found
+    in let
+    h = c.index_mut.result.now
+    in let
+    h_is : get_or s.groups.items c.in-Some.place h ≡ h = sym c.index_mut.ensures.value
+    in let
+    own : h.table.id ≡ c.args.what.now.table = group_of s.groups.items s.standing.tables k.each.stand c.in-Some.place h l h_is c.args.what.now.table c.in-Some.ensures.numbered
+    in let
+    above : h.last < c.next_stamp-stamp.result = (let a = c.next_stamp-stamp.ensures.above in let same = ap (λ (x : Group). x.last) (same_there s.groups.items c.in-Some.place h c.index.result.now l h_is (sym c.index.ensures)) in omega (arith, a, same))
+    in
+    (making_failed g.D.Disk g.met.D.Disk.told g.met.D.Disk.up_to_now b g.B.Based.damaged g.B.Founded.sound g.B.Founded.premise s.disk s.catalog s.standing s.groups.items s.trail s.late s.closed k running c.in-Some.place h l h_is s.seat c.take_entry.new.trail c.take_entry.ensures.same c.in-Ok-take_entry.ensures.ok c.append.new.disk c.append.new.self c.append.ensures.counts c.append.ensures.touches c.args.what.now own may fit c.next_stamp-stamp.result above c.next_stamp-stamp.ensures.most c.in-Ok.made c.in-Ok.ensures.ok c.reserve_index.new.group c.reserve_index.ensures.same c.append.ensures.any_moment c.unwritten.new.trail c.unwritten.new.late c.unwritten.new.closed c.in-Err-append.fault (λ e. c.in-Err-append.ensures.untouched (elim e [ inl x ↦ inl (ap Err x) | inr x ↦ inr (ap Err x) ])) (λ e. c.in-Err-append.ensures.failed (ap Err e)) c.unwritten.ensures.kept c.unwritten.ensures.shut c.unwritten.ensures.room, c.self.invariant.1))
+
+pub returns-in-Ok-append-clause-ok : goal.returns-in-Ok-append-clause-ok
+returns-in-Ok-append-clause-ok g c = (let
+    s = c.self.inside
+    in let
+    k = c.self.invariant.0
+    in let
+    b = g.B.Based.base
+    in let
+    v : Shown = record { seat = s.seat; entries = s.trail.entries; late = s.late; closed = s.closed }
+    in let
+    may : MayMakeIndex (known_by b g.B.Based.damaged v) c.args.what.now = subst (λ (w : Shown). MayMakeIndex (known_by b g.B.Based.damaged w) c.args.what.now) (sym c.self.view_is) c.requires.may
+    in let
+    running : s.closed ≡ None = sym k.told.closing ∙ may.running
+    in let
+    fit : IsIndexFit (known_by b g.B.Based.damaged v) c.args.what.now = subst (λ (w : Shown). IsIndexFit (known_by b g.B.Based.damaged w) c.args.what.now) (sym c.self.view_is) c.requires.fits
+    in let
+    l = place_in s.groups.items s.standing.tables k.each.stand c.in-Some.place c.in-Some.ensures.found
+    in let
+    h = c.index_mut.result.now
+    in let
+    h_is : get_or s.groups.items c.in-Some.place h ≡ h = sym c.index_mut.ensures.value
+    in let
+    own : h.table.id ≡ c.args.what.now.table = group_of s.groups.items s.standing.tables k.each.stand c.in-Some.place h l h_is c.args.what.now.table c.in-Some.ensures.numbered
+    in let
+    above : h.last < c.next_stamp-stamp.result = (let a = c.next_stamp-stamp.ensures.above in let same = ap (λ (x : Group). x.last) (same_there s.groups.items c.in-Some.place h c.index.result.now l h_is (sym c.index.ensures)) in omega (arith, a, same))
+    in let
+    empty : g.B.Founded.sound → HasState (known_by b g.B.Based.damaged v) c.args.what.now.table.0 → ⊥ = subst (λ (w : Shown). g.B.Founded.sound → HasState (known_by b g.B.Based.damaged w) c.args.what.now.table.0 → ⊥) (sym c.self.view_is) c.requires.empty
+    in let
+    v' : Shown = record { seat = s.seat; entries = c.push.new.self.entries; late = s.late; closed = s.closed }
+    in let
+    m : Answered = record { number = c.in-Ok.made.index.id.0; stamp = c.next_stamp-stamp.result; at = c.len.result }
+    in
+    subst (λ (w : Shown). DidDefine g.B.Founded.sound (known_by b g.B.Based.damaged w) (known_by b g.B.Based.damaged v') (definition.Index c.args.what.now) m) c.self.view_is
+    (making_did g.D.Disk g.met.D.Disk.told g.met.D.Disk.up_to_now b g.B.Based.damaged g.B.Founded.sound g.B.Founded.premise s.disk s.catalog s.standing s.groups.items s.trail s.late s.closed k running c.in-Some.place h l h_is s.seat c.take_entry.new.trail c.take_entry.ensures.same c.in-Ok-take_entry.ensures.ok c.append.new.disk c.append.new.self c.append.ensures.counts c.append.ensures.touches c.args.what.now own may fit c.next_stamp-stamp.result above c.next_stamp-stamp.ensures.most c.in-Ok.made c.in-Ok.ensures.ok c.reserve_index.new.group c.reserve_index.ensures.same c.append.ensures.any_moment c.in-Ok-append.ensures.done c.in-Ok-append.ensures.defined c.index_mut-in-Ok-append.result.now c.index_mut-in-Ok-append.ensures.value c.add_index.new.group c.add_index.ensures c.replace-before.new.dest c.replace-before.ensures.after c.push.new.self c.call_count.result c.call_count.ensures c.push.ensures.entries c.push.ensures.room empty c.len.result c.len.ensures))
+
+pub returns-in-Err-append-clause-refused : goal.returns-in-Err-append-clause-refused
+returns-in-Err-append-clause-refused g c = (let
+    s = c.self.inside
+    in let
+    k = c.self.invariant.0
+    in let
+    b = g.B.Based.base
+    in let
+    v : Shown = record { seat = s.seat; entries = s.trail.entries; late = s.late; closed = s.closed }
+    in let
+    may : MayMakeIndex (known_by b g.B.Based.damaged v) c.args.what.now = subst (λ (w : Shown). MayMakeIndex (known_by b g.B.Based.damaged w) c.args.what.now) (sym c.self.view_is) c.requires.may
+    in let
+    running : s.closed ≡ None = sym k.told.closing ∙ may.running
+    in let
+    fit : IsIndexFit (known_by b g.B.Based.damaged v) c.args.what.now = subst (λ (w : Shown). IsIndexFit (known_by b g.B.Based.damaged w) c.args.what.now) (sym c.self.view_is) c.requires.fits
+    in let
+    l = place_in s.groups.items s.standing.tables k.each.stand c.in-Some.place c.in-Some.ensures.found
+    in let
+    h = c.index_mut.result.now
+    in let
+    h_is : get_or s.groups.items c.in-Some.place h ≡ h = sym c.index_mut.ensures.value
+    in let
+    own : h.table.id ≡ c.args.what.now.table = group_of s.groups.items s.standing.tables k.each.stand c.in-Some.place h l h_is c.args.what.now.table c.in-Some.ensures.numbered
+    in let
+    above : h.last < c.next_stamp-stamp.result = (let a = c.next_stamp-stamp.ensures.above in let same = ap (λ (x : Group). x.last) (same_there s.groups.items c.in-Some.place h c.index.result.now l h_is (sym c.index.ensures)) in omega (arith, a, same))
+    in let
+    v' : Shown = record { seat = s.seat; entries = c.unwritten.new.trail.entries; late = c.unwritten.new.late; closed = c.unwritten.new.closed }
+    in
+    subst (λ (w : Shown). Refuses (define_cause g.B.Founded.sound (definition.Index c.args.what.now)) (known_by b g.B.Based.damaged w) (known_by b g.B.Based.damaged v') c.unwritten.result) c.self.view_is
+    (making_refused g.D.Disk g.met.D.Disk.told g.met.D.Disk.up_to_now b g.B.Based.damaged g.B.Founded.sound g.B.Founded.premise s.disk s.catalog s.standing s.groups.items s.trail s.late s.closed k running c.in-Some.place h l h_is s.seat c.take_entry.new.trail c.take_entry.ensures.same c.in-Ok-take_entry.ensures.ok c.append.new.disk c.append.new.self c.append.ensures.counts c.append.ensures.touches c.args.what.now own may fit c.next_stamp-stamp.result above c.next_stamp-stamp.ensures.most c.in-Ok.made c.in-Ok.ensures.ok c.reserve_index.new.group c.reserve_index.ensures.same c.append.ensures.any_moment c.unwritten.new.trail c.unwritten.new.late c.unwritten.new.closed c.in-Err-append.fault (λ e. c.in-Err-append.ensures.untouched (elim e [ inl x ↦ inl (ap Err x) | inr x ↦ inr (ap Err x) ])) (λ e. c.in-Err-append.ensures.failed (ap Err e)) c.unwritten.ensures.kept c.unwritten.ensures.shut c.unwritten.ensures.room c.unwritten.result c.unwritten.ensures.full c.unwritten.ensures.memory c.unwritten.ensures.failed))
