@@ -17,6 +17,7 @@ pub mod Fields
 pub mod FitsRows
 pub mod Forms
 pub mod Found
+pub mod Fixes
 pub mod Framed
 pub mod GoneKept
 pub mod Handed

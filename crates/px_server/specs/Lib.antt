@@ -3,6 +3,7 @@ pub mod Counts
 pub mod Ending
 pub mod Kept
 pub mod Points
+pub mod Repairs
 pub mod Shown
 pub mod Started
 pub mod Upkeep

@@ -9,6 +9,7 @@ mod beginning;
 mod defining;
 mod ending;
 mod finding;
+mod fixing;
 mod founded;
 mod laws;
 mod marking;

@@ -1,0 +1,206 @@
+use Rattle.std.proofs.Common.{rules, ◌≡◌, ◌∙◌, ◌<◌, None, List, length, sym, subst, arith}
+use Rattle.std.proofs.Common.{◌≤◌, ◌+◌, ◌++◌, ◌∷◌, [], suc, zero, ap, Some, refl}
+use Rattle.std.specs.Prelude.{IfErr, IfOk, Option, ℕ}
+use Rattle.std.specs.List.{slice_set}
+use Rattle.px_calls.specs.Calls.{DidFix, Finds, IsInFlight}
+use Rattle.px_calls.specs.Causes.{Refuses, fix_cause}
+use Rattle.px_calls.specs.declared.fault.StepFault.TheVariants.{Closed, Memory}
+use Rattle.px_trail.specs.declared.entry.Entry.{Entry}
+use Rattle.px_server.specs.Repairs.{Stays}
+use Rattle.px_server.specs.Kept.{IsKept}
+use Rattle.px_repairs.specs.Repairs.{Fixes}
+use Rattle.px_calls.specs.Known.{Adds}
+use Rattle.px_calls.specs.declared.query.Fixing.{Fixing}
+use Rattle.px_trail.specs.declared.entry.Act.TheVariants.{Fixed as FixedAct, Shut as ShutAct}
+use Rattle.px_trail.specs.Legal.{IsLegal}
+use Rattle.px_server.proofs.Seen.{one_more}
+use Rattle.px_server.specs.Shown.{Shown, known_by}
+use Rattle.px_server.proofs.Fixes.{doubt_at, answers_ok, answers_refused, failed_kept, failed_of, fix_stayed, fixed_flight, fixed_kept, fixed_of, other_trail, stayed, stayed_flight}
+use Rattle.px_server.proofs.Found.{closed_by}
+use Rattle.px_server.proofs.ReadAt.{finds, inside}
+use Rattle.px_server.proofs.Released.{none_of}
+use Rattle.px_server.proofs.Seen.{stays}
+use Rattle.px_server.proofs.server.Server.fix.Goals as goal
+
+pub returns-in-Some-clause-refused : goal.returns-in-Some-clause-refused
+returns-in-Some-clause-refused g c =
+    let s = c.self.inside in
+    let told = c.self.invariant.0.told in
+    let v : Shown = record { seat = s.seat; entries = s.trail.entries; late = s.late; closed = s.closed } in
+    subst (λ (w : Shown). Refuses fix_cause (known_by g.B.Based.base g.B.Based.damaged w) (known_by g.B.Based.base g.B.Based.damaged w) (Closed c.in-Some.call)) c.self.view_is
+    (closed_by (known_by g.B.Based.base g.B.Based.damaged v) told.legal s.closed told.closing c.in-Some.call c.in-Some.is)
+
+pub returns-in_default-doubt_place-clause-ok : goal.returns-in_default-doubt_place-clause-ok
+returns-in_default-doubt_place-clause-ok g c =
+    let s = c.self.inside in
+    let told = c.self.invariant.0.told in
+    let v : Shown = record { seat = s.seat; entries = s.trail.entries; late = s.late; closed = s.closed } in
+    let running : s.closed ≡ None = none_of s.closed (λ x is. search rules) in
+    subst (λ (w : Shown). Finds (known_by g.B.Based.base g.B.Based.damaged w) (known_by g.B.Based.base g.B.Based.damaged w)) c.self.view_is
+    (finds (known_by g.B.Based.base g.B.Based.damaged v) told.legal s.closed told.closing running)
+
+pub returns-in_default-copied-clause-refused : goal.returns-in_default-copied-clause-refused
+returns-in_default-copied-clause-refused g c =
+    let s = c.self.inside in
+    let told = c.self.invariant.0.told in
+    let v : Shown = record { seat = s.seat; entries = s.trail.entries; late = s.late; closed = s.closed } in
+    let running : s.closed ≡ None = none_of s.closed (λ x is. search rules) in
+    subst (λ (w : Shown). Refuses fix_cause (known_by g.B.Based.base g.B.Based.damaged w) (known_by g.B.Based.base g.B.Based.damaged w) Memory) c.self.view_is
+    (tt, stays (known_by g.B.Based.base g.B.Based.damaged v) told.legal, told.closing ∙ running)
+
+pub index-requires : goal.index-requires
+index-requires g c = (let l = (doubt_at c.self.inside.groups.items c.deref.result.now c.in-Some-doubt_place.at.group c.in-Some-doubt_place.at.index c.args.d.now.index c.index_mut-group.result.now _ c.deref.ensures.value c.in-Some-doubt_place.ensures.within c.in-Some-doubt_place.ensures.numbered c.index_mut-group.ensures.value).0 in let o = c.index_mut-group.result.now.indexes.ok.0 in omega arith)
+
+pub fix-fixed-requires-clause-there : goal.fix-fixed-requires-clause-there
+fix-fixed-requires-clause-there g c = (doubt_at c.self.inside.groups.items c.deref.result.now c.in-Some-doubt_place.at.group c.in-Some-doubt_place.at.index c.args.d.now.index c.index_mut-group.result.now _ c.deref.ensures.value c.in-Some-doubt_place.ensures.within c.in-Some-doubt_place.ensures.numbered c.index_mut-group.ensures.value).0
+
+pub returns-then-is_err-clause-refused : goal.returns-then-is_err-clause-refused
+returns-then-is_err-clause-refused g c =
+    let s = c.self.inside in
+    let b = g.B.Based.base in
+    let k = c.self.invariant.0 in
+    let told = k.told in
+    let v : Shown = record { seat = s.seat; entries = s.trail.entries; late = s.late; closed = s.closed } in
+    let running : s.closed ≡ None = none_of s.closed (λ x is. search rules) in
+    subst (λ (w : Shown). Refuses fix_cause (known_by b g.B.Based.damaged w) (known_by b g.B.Based.damaged (record v { entries = c.reserve.new.self.entries })) Memory) c.self.view_is
+    (subst (λ (es : List Entry). Refuses fix_cause (known_by b g.B.Based.damaged v) (known_by b g.B.Based.damaged (record v { entries = es })) Memory) (sym c.reserve.ensures.same)
+    (tt, stays (known_by b g.B.Based.damaged v) told.legal, told.closing ∙ running))
+
+pub invariant_of-self-then-has_stayed : goal.invariant_of-self-then-has_stayed
+invariant_of-self-then-has_stayed g c =
+    let s = c.self.inside in
+    let b = g.B.Based.base in
+    let k = c.self.invariant.0 in
+    let told = k.told in
+    let v : Shown = record { seat = s.seat; entries = s.trail.entries; late = s.late; closed = s.closed } in
+    let running : s.closed ≡ None = none_of s.closed (λ x is. search rules) in
+    let l : c.in-Some-doubt_place.at.group < length s.groups.items = inside s.groups.items c.deref.result.now c.in-Some-doubt_place.at.group c.deref.ensures.value c.in-Some-doubt_place.ensures.within in
+    let named = (doubt_at s.groups.items c.deref.result.now c.in-Some-doubt_place.at.group c.in-Some-doubt_place.at.index c.args.d.now.index c.index_mut-group.result.now _ c.deref.ensures.value c.in-Some-doubt_place.ensures.within c.in-Some-doubt_place.ensures.numbered c.index_mut-group.ensures.value).1 in
+    let here : Stays c.fix-fixed.result = search rules in
+    let h = stayed g.D.Disk c.index_mut-group.result.now c.fix-fixed.new.group s.disk c.fix-fixed.new.disk c.in-Some-doubt_place.at.index c.as_slice.result.now c.args.d.now.stamp c.fix-fixed.result here c.fix-fixed.ensures.fixes in (
+      other_trail g.D.Disk b g.B.Founded.sound g.B.Founded.premise c.fix-fixed.new.disk s.catalog s.standing (slice_set s.groups.items c.in-Some-doubt_place.at.group c.fix-fixed.new.group) s.trail c.give_back.new.self s.late s.closed
+          (fix_stayed g.D.Disk g.met.D.Disk.told g.met.D.Disk.up_to_now b g.B.Founded.sound g.B.Founded.premise s.disk s.catalog s.standing s.groups.items s.trail s.late s.closed k running c.in-Some-doubt_place.at.group c.index_mut-group.result.now c.fix-fixed.new.group l (sym c.index_mut-group.ensures.value) c.fix-fixed.new.disk h)
+          (c.give_back.ensures.same ∙ c.reserve.ensures.same) (let r = c.give_back.ensures.room in let o : c.reserve.new.self.room ≡ s.trail.room + 1 = search rules in omega (arith, r, o)),
+      c.self.invariant.1,
+    )
+
+pub returns-then-has_stayed-clause-ok : goal.returns-then-has_stayed-clause-ok
+returns-then-has_stayed-clause-ok g c =
+    let s = c.self.inside in
+    let b = g.B.Based.base in
+    let k = c.self.invariant.0 in
+    let told = k.told in
+    let v : Shown = record { seat = s.seat; entries = s.trail.entries; late = s.late; closed = s.closed } in
+    let running : s.closed ≡ None = none_of s.closed (λ x is. search rules) in
+    let l : c.in-Some-doubt_place.at.group < length s.groups.items = inside s.groups.items c.deref.result.now c.in-Some-doubt_place.at.group c.deref.ensures.value c.in-Some-doubt_place.ensures.within in
+    let named = (doubt_at s.groups.items c.deref.result.now c.in-Some-doubt_place.at.group c.in-Some-doubt_place.at.index c.args.d.now.index c.index_mut-group.result.now _ c.deref.ensures.value c.in-Some-doubt_place.ensures.within c.in-Some-doubt_place.ensures.numbered c.index_mut-group.ensures.value).1 in
+    let here : Stays c.fix-fixed.result = search rules in
+    let h = stayed g.D.Disk c.index_mut-group.result.now c.fix-fixed.new.group s.disk c.fix-fixed.new.disk c.in-Some-doubt_place.at.index c.as_slice.result.now c.args.d.now.stamp c.fix-fixed.result here c.fix-fixed.ensures.fixes in
+    let same : c.as_slice.result.now ≡ c.args.d.now.key = search rules in
+    let fixes = subst (λ (kk : List ℕ). Fixes g.D.Disk c.index_mut-group.result.now c.fix-fixed.new.group s.disk c.fix-fixed.new.disk c.in-Some-doubt_place.at.index kk c.args.d.now.stamp c.fix-fixed.result) same c.fix-fixed.ensures.fixes in
+    subst (λ (w : Shown). IfOk c.answered.result (DidFix (known_by b g.B.Based.damaged w) (known_by b g.B.Based.damaged (record v { entries = c.give_back.new.self.entries })) c.args.d.now)) c.self.view_is
+    (subst (λ (es : List Entry). IfOk c.answered.result (DidFix (known_by b g.B.Based.damaged v) (known_by b g.B.Based.damaged (record v { entries = es })) c.args.d.now)) (sym (c.give_back.ensures.same ∙ c.reserve.ensures.same))
+    (answers_ok g.D.Disk c.index_mut-group.result.now c.fix-fixed.new.group s.disk c.fix-fixed.new.disk c.in-Some-doubt_place.at.index c.number-region.result (known_by b g.B.Based.damaged v) (known_by b g.B.Based.damaged v) c.args.d.now
+      (finds (known_by b g.B.Based.damaged v) told.legal s.closed told.closing running)
+      (stayed_flight g.D.Disk g.met.D.Disk.told g.met.D.Disk.up_to_now b g.B.Founded.sound g.B.Founded.premise s.disk s.catalog s.standing s.groups.items s.trail s.late s.closed k running c.in-Some-doubt_place.at.group c.index_mut-group.result.now c.fix-fixed.new.group l (sym c.index_mut-group.ensures.value) c.fix-fixed.new.disk h c.in-Some-doubt_place.at.index c.args.d.now named)
+      c.fix-fixed.result here fixes c.answered.result c.answered.ensures))
+
+pub returns-then-has_stayed-clause-refused : goal.returns-then-has_stayed-clause-refused
+returns-then-has_stayed-clause-refused g c =
+    let s = c.self.inside in
+    let b = g.B.Based.base in
+    let k = c.self.invariant.0 in
+    let told = k.told in
+    let v : Shown = record { seat = s.seat; entries = s.trail.entries; late = s.late; closed = s.closed } in
+    let running : s.closed ≡ None = none_of s.closed (λ x is. search rules) in
+    let l : c.in-Some-doubt_place.at.group < length s.groups.items = inside s.groups.items c.deref.result.now c.in-Some-doubt_place.at.group c.deref.ensures.value c.in-Some-doubt_place.ensures.within in
+    let named = (doubt_at s.groups.items c.deref.result.now c.in-Some-doubt_place.at.group c.in-Some-doubt_place.at.index c.args.d.now.index c.index_mut-group.result.now _ c.deref.ensures.value c.in-Some-doubt_place.ensures.within c.in-Some-doubt_place.ensures.numbered c.index_mut-group.ensures.value).1 in
+    let here : Stays c.fix-fixed.result = search rules in
+    let h = stayed g.D.Disk c.index_mut-group.result.now c.fix-fixed.new.group s.disk c.fix-fixed.new.disk c.in-Some-doubt_place.at.index c.as_slice.result.now c.args.d.now.stamp c.fix-fixed.result here c.fix-fixed.ensures.fixes in
+    subst (λ (w : Shown). IfErr c.answered.result (Refuses fix_cause (known_by b g.B.Based.damaged w) (known_by b g.B.Based.damaged (record v { entries = c.give_back.new.self.entries })))) c.self.view_is
+    (subst (λ (es : List Entry). IfErr c.answered.result (Refuses fix_cause (known_by b g.B.Based.damaged v) (known_by b g.B.Based.damaged (record v { entries = es })))) (sym (c.give_back.ensures.same ∙ c.reserve.ensures.same))
+    (answers_refused g.D.Disk c.index_mut-group.result.now c.fix-fixed.new.group s.disk c.fix-fixed.new.disk c.in-Some-doubt_place.at.index c.number-region.result (known_by b g.B.Based.damaged v) (known_by b g.B.Based.damaged v) c.args.d.now
+      (finds (known_by b g.B.Based.damaged v) told.legal s.closed told.closing running)
+      (stayed_flight g.D.Disk g.met.D.Disk.told g.met.D.Disk.up_to_now b g.B.Founded.sound g.B.Founded.premise s.disk s.catalog s.standing s.groups.items s.trail s.late s.closed k running c.in-Some-doubt_place.at.group c.index_mut-group.result.now c.fix-fixed.new.group l (sym c.index_mut-group.ensures.value) c.fix-fixed.new.disk h c.in-Some-doubt_place.at.index c.args.d.now named)
+      c.fix-fixed.result here c.answered.result c.answered.ensures))
+
+pub invariant_of-self-in-Ok-fixed : goal.invariant_of-self-in-Ok-fixed
+invariant_of-self-in-Ok-fixed g c =
+    let s = c.self.inside in
+    let b = g.B.Based.base in
+    let k = c.self.invariant.0 in
+    let told = k.told in
+    let v : Shown = record { seat = s.seat; entries = s.trail.entries; late = s.late; closed = s.closed } in
+    let running : s.closed ≡ None = none_of s.closed (λ x is. search rules) in
+    let l : c.in-Some-doubt_place.at.group < length s.groups.items = inside s.groups.items c.deref.result.now c.in-Some-doubt_place.at.group c.deref.ensures.value c.in-Some-doubt_place.ensures.within in
+    let named = (doubt_at s.groups.items c.deref.result.now c.in-Some-doubt_place.at.group c.in-Some-doubt_place.at.index c.args.d.now.index c.index_mut-group.result.now _ c.deref.ensures.value c.in-Some-doubt_place.ensures.within c.in-Some-doubt_place.ensures.numbered c.index_mut-group.ensures.value).1 in
+    let never : Stays c.fix-fixed.result → ⊥ = λ st. search rules in
+    let f = (fixed_of g.D.Disk c.index_mut-group.result.now c.fix-fixed.new.group s.disk c.fix-fixed.new.disk c.in-Some-doubt_place.at.index c.as_slice.result.now c.args.d.now.stamp c.fix-fixed.result c.in-Ok-fixed.fixing never c.in-Ok-fixed.is c.fix-fixed.ensures.fixes).0 in
+    let o : c.reserve.new.self.room ≡ s.trail.room + 1 = search rules in
+    let p = c.push.ensures.room in (
+      fixed_kept g.D.Disk g.met.D.Disk.told g.met.D.Disk.up_to_now b g.B.Founded.sound g.B.Founded.premise s.disk s.catalog s.standing s.groups.items s.trail s.late s.closed k running c.in-Some-doubt_place.at.group c.index_mut-group.result.now c.fix-fixed.new.group l (sym c.index_mut-group.ensures.value) c.fix-fixed.new.disk
+        c.in-Some-doubt_place.at.index c.as_slice.result.now c.args.d.now.stamp f s.seat c.call_count-calls.result c.args.d.now.index c.in-Ok.key named c.call_count-calls.ensures c.push.new.self (c.push.ensures.entries ∙ ap (λ (es : List Entry). es ++ (record { seat = s.seat; calls = c.call_count-calls.result; act = FixedAct c.args.d.now.index c.in-Ok.key }) ∷ []) c.reserve.ensures.same) (omega (arith, o, p)),
+      c.self.invariant.1,
+    )
+
+pub returns-in-Ok-fixed-clause-ok : goal.returns-in-Ok-fixed-clause-ok
+returns-in-Ok-fixed-clause-ok g c =
+    let s = c.self.inside in
+    let b = g.B.Based.base in
+    let k = c.self.invariant.0 in
+    let told = k.told in
+    let v : Shown = record { seat = s.seat; entries = s.trail.entries; late = s.late; closed = s.closed } in
+    let running : s.closed ≡ None = none_of s.closed (λ x is. search rules) in
+    let l : c.in-Some-doubt_place.at.group < length s.groups.items = inside s.groups.items c.deref.result.now c.in-Some-doubt_place.at.group c.deref.ensures.value c.in-Some-doubt_place.ensures.within in
+    let named = (doubt_at s.groups.items c.deref.result.now c.in-Some-doubt_place.at.group c.in-Some-doubt_place.at.index c.args.d.now.index c.index_mut-group.result.now _ c.deref.ensures.value c.in-Some-doubt_place.ensures.within c.in-Some-doubt_place.ensures.numbered c.index_mut-group.ensures.value).1 in
+    let never : Stays c.fix-fixed.result → ⊥ = λ st. search rules in
+    let same : c.as_slice.result.now ≡ c.args.d.now.key = search rules in
+    let fixes = subst (λ (kk : List ℕ). Fixes g.D.Disk c.index_mut-group.result.now c.fix-fixed.new.group s.disk c.fix-fixed.new.disk c.in-Some-doubt_place.at.index kk c.args.d.now.stamp c.fix-fixed.result) same c.fix-fixed.ensures.fixes in
+    let f = fixed_of g.D.Disk c.index_mut-group.result.now c.fix-fixed.new.group s.disk c.fix-fixed.new.disk c.in-Some-doubt_place.at.index c.args.d.now.key c.args.d.now.stamp c.fix-fixed.result c.in-Ok-fixed.fixing never c.in-Ok-fixed.is fixes in
+    let key_is : c.in-Ok.key ≡ c.args.d.now.key = search rules in
+    let v' : Shown = record v { entries = c.push.new.self.entries } in
+    let pushed : c.push.new.self.entries ≡ s.trail.entries ++ (record { seat = s.seat; calls = c.call_count-calls.result; act = FixedAct c.args.d.now.index c.in-Ok.key }) ∷ [] = c.push.ensures.entries ∙ ap (λ (es : List Entry). es ++ (record { seat = s.seat; calls = c.call_count-calls.result; act = FixedAct c.args.d.now.index c.in-Ok.key }) ∷ []) c.reserve.ensures.same in
+    let adds = one_more (known_by b g.B.Based.damaged v) c.push.new.self.entries c.call_count-calls.result (FixedAct c.args.d.now.index c.in-Ok.key) told.legal pushed (invariant_of-self-in-Ok-fixed g c).0.told.legal in
+    let es' : List Entry = s.trail.entries ++ (record { seat = s.seat; calls = c.call_count-calls.result; act = FixedAct c.args.d.now.index c.in-Ok.key }) ∷ [] in
+    let flight : IsInFlight b c.push.new.self.entries c.args.d.now → ⊥ = subst (λ (es : List Entry). IsInFlight b es c.args.d.now → ⊥) (sym pushed)
+      (fixed_flight g.D.Disk g.met.D.Disk.told g.met.D.Disk.up_to_now b g.B.Founded.sound g.B.Founded.premise s.disk s.catalog s.standing s.groups.items s.trail s.late s.closed k running c.in-Some-doubt_place.at.group c.index_mut-group.result.now c.fix-fixed.new.group l (sym c.index_mut-group.ensures.value) c.fix-fixed.new.disk
+        c.in-Some-doubt_place.at.index c.args.d.now f.0 named s.seat c.call_count-calls.result c.args.d.now.index c.in-Ok.key (subst (λ (es : List Entry). IsLegal b es) pushed (invariant_of-self-in-Ok-fixed g c).0.told.legal)) in
+    subst (λ (w : Shown). DidFix (known_by b g.B.Based.damaged w) (known_by b g.B.Based.damaged v') c.args.d.now c.in-Ok-fixed.fixing) c.self.view_is
+    (subst (λ (x : Fixing). DidFix (known_by b g.B.Based.damaged v) (known_by b g.B.Based.damaged v') c.args.d.now x) (sym f.1)
+    (subst (λ (kk : List ℕ). Adds (known_by b g.B.Based.damaged v) (known_by b g.B.Based.damaged v') (FixedAct c.args.d.now.index kk)) key_is adds, flight))
+
+pub invariant_of-self-in-Err : goal.invariant_of-self-in-Err
+invariant_of-self-in-Err g c =
+    let s = c.self.inside in
+    let b = g.B.Based.base in
+    let k = c.self.invariant.0 in
+    let told = k.told in
+    let v : Shown = record { seat = s.seat; entries = s.trail.entries; late = s.late; closed = s.closed } in
+    let running : s.closed ≡ None = none_of s.closed (λ x is. search rules) in
+    let l : c.in-Some-doubt_place.at.group < length s.groups.items = inside s.groups.items c.deref.result.now c.in-Some-doubt_place.at.group c.deref.ensures.value c.in-Some-doubt_place.ensures.within in
+    let named = (doubt_at s.groups.items c.deref.result.now c.in-Some-doubt_place.at.group c.in-Some-doubt_place.at.index c.args.d.now.index c.index_mut-group.result.now _ c.deref.ensures.value c.in-Some-doubt_place.ensures.within c.in-Some-doubt_place.ensures.numbered c.index_mut-group.ensures.value).1 in
+    let never : Stays c.fix-fixed.result → ⊥ = λ st. search rules in
+    let f = (failed_of g.D.Disk c.index_mut-group.result.now c.fix-fixed.new.group s.disk c.fix-fixed.new.disk c.in-Some-doubt_place.at.index c.as_slice.result.now c.args.d.now.stamp c.fix-fixed.result c.in-Err.field-0 never c.in-Err.is c.fix-fixed.ensures.fixes) in
+    let o : c.reserve.new.self.room ≡ s.trail.room + 1 = search rules in
+    let p = c.push-in-Err.ensures.room in
+    let unlate : s.late ≡ None = k.server.unlate running in
+    let shut : Entry = record { seat = s.seat; calls = c.call_count-calls.result; act = ShutAct c.call_count-calls.result } in (
+      subst (λ (la : Option Entry). IsKept g.D.Disk b g.B.Founded.sound g.B.Founded.premise c.fix-fixed.new.disk s.catalog s.standing (slice_set s.groups.items c.in-Some-doubt_place.at.group c.fix-fixed.new.group) c.push-in-Err.new.self la (Some c.call_count-calls.result)) (sym unlate)
+      (failed_kept g.D.Disk g.met.D.Disk.told g.met.D.Disk.up_to_now b g.B.Founded.sound g.B.Founded.premise s.disk s.catalog s.standing s.groups.items s.trail s.late s.closed k running c.in-Some-doubt_place.at.group c.index_mut-group.result.now c.fix-fixed.new.group l (sym c.index_mut-group.ensures.value) c.fix-fixed.new.disk
+        c.in-Some-doubt_place.at.index c.as_slice.result.now c.args.d.now.stamp f.0.looked f.0.has f.0.kept f.0.due f.0.hands shut c.call_count-calls.result refl c.call_count-calls.ensures (c.fix-fixed.ensures.failed f.1) c.push-in-Err.new.self (c.push-in-Err.ensures.entries ∙ ap (λ (es : List Entry). es ++ shut ∷ []) c.reserve.ensures.same) (omega (arith, o, p))),
+      c.self.invariant.1,
+    )
+
+pub returns-in-Err-clause-refused : goal.returns-in-Err-clause-refused
+returns-in-Err-clause-refused g c =
+    let s = c.self.inside in
+    let b = g.B.Based.base in
+    let k = c.self.invariant.0 in
+    let told = k.told in
+    let v : Shown = record { seat = s.seat; entries = s.trail.entries; late = s.late; closed = s.closed } in
+    let running : s.closed ≡ None = none_of s.closed (λ x is. search rules) in
+    let shut : Entry = record { seat = s.seat; calls = c.call_count-calls.result; act = ShutAct c.call_count-calls.result } in
+    let pushed : c.push-in-Err.new.self.entries ≡ s.trail.entries ++ shut ∷ [] = c.push-in-Err.ensures.entries ∙ ap (λ (es : List Entry). es ++ shut ∷ []) c.reserve.ensures.same in
+    let v' : Shown = record v { entries = c.push-in-Err.new.self.entries } in
+    (tt, (c.call_count-calls.result, subst (λ (w : Shown). Adds (known_by b g.B.Based.damaged w) (known_by b g.B.Based.damaged v') (ShutAct c.call_count-calls.result)) c.self.view_is
+      (one_more (known_by b g.B.Based.damaged v) c.push-in-Err.new.self.entries c.call_count-calls.result (ShutAct c.call_count-calls.result) told.legal pushed (invariant_of-self-in-Err g c).0.told.legal)))

@@ -1,0 +1,115 @@
+// Repairs.
+ghost use Rattle.std.specs.Prelude.{◌≡◌, ◌↔◌, IfErr, IfOk, IsSome, IsTrue};
+ghost use Rattle.px_calls.specs.Calls.{DidFix};
+ghost use Rattle.px_calls.specs.Causes.{Refuses, fix_cause};
+ghost use Rattle.px_server.specs.Shown.{known_by};
+ghost use Rattle.px_server.specs.Repairs.{Answers, Stays};
+
+use crate::{Founded, Server};
+use px_calls::{Doubt, Fixing, StepFault};
+use px_outside::{Clock, CountsCalls};
+use px_pointreads::doubt_place;
+use px_repairs::RepairFault;
+use px_seat::Based;
+use px_trail::{Act, Entry};
+use px_values::Key;
+use std::alloc::{AllocError, Global};
+
+/// Another key with the same bytes.
+fn copied(alloc: Global, key: &Key) -> Result<Key, AllocError>
+    ensures { IfOk result (λ k. k ≡ key.now) }
+{
+    let bytes = Vec::from_slice(alloc, key.as_slice())?;
+    Ok(Key::of(bytes))
+}
+
+/// Whether nothing was written.
+fn has_stayed(fixed: &Result<Fixing, RepairFault>) -> bool
+    ensures { IsTrue result ↔ Stays fixed.now }
+{
+    match fixed {
+        Ok(Fixing::Fixed) => false,
+        Ok(_) => true,
+        Err(RepairFault::WriteFault) => false,
+        Err(_) => true,
+    }
+}
+
+/// What is answered of a repair in the region of a number.
+fn answered(fixed: Result<Fixing, RepairFault>, region: u32) -> Result<Fixing, StepFault>
+    ensures { Answers region fixed result }
+{
+    match fixed {
+        Ok(fixing) => Ok(fixing),
+        Err(RepairFault::Busy { cells, bytes }) => Err(StepFault::Busy {
+            region,
+            cells,
+            bytes,
+        }),
+        Err(RepairFault::NotReady) => Err(StepFault::NotReady { region }),
+        Err(RepairFault::WriteFault) => Err(StepFault::WriteFault),
+        Err(RepairFault::Memory) => Err(StepFault::Memory),
+    }
+}
+
+impl<D: CountsCalls, C: Clock, B: Based + Founded> Server<D, C, B> {
+    /// Repairs the index row of a doubt, by a verdict of its own. It may come after the point is closed.
+    pub fn fix(&mut self, d: &Doubt) -> Result<Fixing, StepFault>
+        requires { IsSome d.now.verdict }
+        ensures ok { IfOk result (DidFix (known_by B.base B.damaged self.old) (known_by B.base B.damaged self.new) d.now) }
+        ensures refused { IfErr result (Refuses fix_cause (known_by B.base B.damaged self.old) (known_by B.base B.damaged self.new)) }
+    {
+        if let Some(call) = self.closed {
+            return Err(StepFault::Closed { call });
+        }
+        let Some(at) = doubt_place(&self.groups, d.index) else {
+            return Ok(Fixing::Gone);
+        };
+        let Ok(key) = copied(self.alloc, &d.key) else {
+            return Err(StepFault::Memory);
+        };
+        if self.trail.reserve(1, 0).is_err() {
+            drop(key);
+            return Err(StepFault::Memory);
+        }
+        let group = &mut self.groups[at.group];
+        let region = group.indexes[at.index].region.number();
+        let fixed = px_repairs::fix(
+            self.alloc,
+            &mut self.disk,
+            group,
+            at.index,
+            d.key.as_slice(),
+            d.stamp,
+        );
+        if has_stayed(&fixed) {
+            drop(key);
+            self.trail.give_back(1, 0);
+            return answered(fixed, region);
+        }
+        let calls = self.disk.call_count();
+        match fixed {
+            Ok(fixing) => {
+                self.trail.push(Entry {
+                    seat: self.seat,
+                    calls,
+                    act: Act::Fixed {
+                        index: d.index,
+                        key,
+                    },
+                });
+                Ok(fixing)
+            }
+            Err(_) => {
+                drop(key);
+                self.closed = Some(calls);
+                self.trail.push(Entry {
+                    seat: self.seat,
+                    calls,
+                    act: Act::Shut { call: calls },
+                });
+                Err(StepFault::WriteFault)
+            }
+        }
+    }
+}
