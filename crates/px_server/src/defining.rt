@@ -3,6 +3,7 @@ pub(crate) mod failing;
 pub(crate) mod index_causes;
 pub(crate) mod index_gone;
 pub(crate) mod index_made;
+pub(crate) mod index_ready;
 pub(crate) mod prepared;
 pub(crate) mod rows;
 pub(crate) mod spelled;

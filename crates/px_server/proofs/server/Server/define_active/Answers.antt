@@ -1,0 +1,479 @@
+use Rattle.std.proofs.Common.{rules, ◌≡◌, ◌≢◌, ◌<◌, ◌≤◌, ◌⊎◌, ◌+◌, ◌^◌, inl, inr, ℕ, true, false, IsSome, Option, None, Some, Err, List, [], ◌∷◌, ◌++◌, length, get_or, slice_get, refl, sym, ap, subst, ◌∙◌, arith}
+use Rattle.std.specs.List.{slice_set}
+use Rattle.std.proofs.lemmas.Bool.{false≢true}
+use Rattle.px_values.specs.declared.name.IndexId.{IndexId}
+use Rattle.px_values.specs.declared.name.TableId.{TableId}
+use Rattle.px_tables.specs.declared.index.Index.{Index}
+use Rattle.px_tables.specs.declared.table.Table.{Table}
+use Rattle.px_trail.specs.Legal.{IsLegal}
+use Rattle.px_trail.specs.Trail.{Base, horizon_of, last_of, table_of}
+use Rattle.px_trail.specs.declared.entry.Act.TheVariants as act
+use Rattle.px_trail.specs.declared.entry.Entry.{Entry}
+use Rattle.px_calls.specs.Calls.{DidDefine}
+use Rattle.px_calls.specs.Causes.{HasState, Refuses, define_cause}
+use Rattle.px_calls.specs.Known.{IsRunning, Known}
+use Rattle.px_calls.specs.Requires.{MayActivate}
+use Rattle.px_calls.specs.declared.definition.Definition.TheVariants as definition
+use Rattle.px_calls.specs.declared.fault.StepFault.{StepFault}
+use Rattle.px_calls.specs.declared.fault.StepFault.TheVariants.{Closed, InUse, Memory, NoIndex, NoTable, NotReady}
+use Rattle.px_schema.specs.declared.standing.Standing.{Standing}
+use Rattle.px_standing.proofs.Looked.{lacks}
+use Rattle.px_server.specs.Kept.{HasTallied, IsKept}
+use Rattle.px_server.specs.Shown.{Shown, known_by}
+use Rattle.px_server.proofs.Found.{closed_by}
+use Rattle.px_server.proofs.Lists.{all_at}
+use Rattle.px_server.proofs.Released.{group_of, place_in}
+use Rattle.px_server.proofs.Seen.{stays}
+use Rattle.px_server.proofs.Unwritten.{no_memory, reserved, unwritten_kept, unwritten_refused}
+use Rattle.px_calls.specs.declared.definition.Made.{Made as Answered}
+use Rattle.px_group.specs.declared.group.Group.{Group}
+use Rattle.px_group.specs.Group.{IsRightGroup}
+use Rattle.px_defined.proofs.Lists.{within}
+use Rattle.px_reading.proofs.Looked.{looked_length}
+use Rattle.px_server.proofs.ActiveSteps.{activating_did, activating_failed, activating_kept, activating_refused, fits_active, got_at}
+use Rattle.px_server.proofs.IndexActivating.{no_index, part}
+use Rattle.px_server.proofs.Looked.{looked_kept}
+use Rattle.px_server.proofs.Reserved.{roomy, same_there, set_there}
+use Rattle.px_server.proofs.server.Server.define_active.Goals as goal
+
+pub returns-in-Some-clause-refused : goal.returns-in-Some-clause-refused
+returns-in-Some-clause-refused g c = (let
+    s = c.self.inside
+    in let
+    k = c.self.invariant.0
+    in let
+    b = g.B.Based.base
+    in let
+    v : Shown = record { seat = s.seat; entries = s.trail.entries; late = s.late; closed = s.closed }
+    in
+    subst (λ (w : Shown). Refuses (define_cause g.B.Founded.sound (definition.Active c.args.table c.args.index)) (known_by b g.B.Based.damaged w) (known_by b g.B.Based.damaged w) (Closed c.in-Some.call)) c.self.view_is
+    (closed_by (known_by b g.B.Based.damaged v) k.told.legal s.closed k.told.closing c.in-Some.call c.in-Some.is))
+
+pub returns-in_default-numbered_place-clause-refused : goal.returns-in_default-numbered_place-clause-refused
+returns-in_default-numbered_place-clause-refused g c = (let
+    s = c.self.inside
+    in let
+    k = c.self.invariant.0
+    in let
+    b = g.B.Based.base
+    in let
+    v : Shown = record { seat = s.seat; entries = s.trail.entries; late = s.late; closed = s.closed }
+    in let
+    running : s.closed ≡ None = c.in_default.is
+    in
+    subst (λ (w : Shown). Refuses (define_cause g.B.Founded.sound (definition.Active c.args.table c.args.index)) (known_by b g.B.Based.damaged w) (known_by b g.B.Based.damaged w) NoTable) c.self.view_is
+    ((lacks b s.trail.entries s.standing k.told.agrees c.args.table.0 c.in_default-numbered_place.ensures.none, stays (known_by b g.B.Based.damaged v) k.told.legal, k.told.closing ∙ running)))
+
+pub returns-in_default-index_place-clause-refused : goal.returns-in_default-index_place-clause-refused
+returns-in_default-index_place-clause-refused g c = (let
+    s = c.self.inside
+    in let
+    k = c.self.invariant.0
+    in let
+    b = g.B.Based.base
+    in let
+    v : Shown = record { seat = s.seat; entries = s.trail.entries; late = s.late; closed = s.closed }
+    in let
+    running : s.closed ≡ None = c.in_default.is
+    in let
+    may : MayActivate g.B.Founded.sound (known_by b g.B.Based.damaged v) c.args.table.0 c.args.index.0 = subst (λ (w : Shown). MayActivate g.B.Founded.sound (known_by b g.B.Based.damaged w) c.args.table.0 c.args.index.0) (sym c.self.view_is) (record { index = c.requires.index; table = c.requires.table; each = c.requires.each })
+    in let
+    l = place_in s.groups.items s.standing.tables k.each.stand c.in-Some-numbered_place.place c.in-Some-numbered_place.ensures.found
+    in let
+    h = c.index-group.result.now
+    in let
+    h_is : get_or s.groups.items c.in-Some-numbered_place.place h ≡ h = sym c.index-group.ensures
+    in let
+    own : h.table.id ≡ c.args.table = group_of s.groups.items s.standing.tables k.each.stand c.in-Some-numbered_place.place h l h_is c.args.table c.in-Some-numbered_place.ensures.numbered
+    in
+    subst (λ (w : Shown). Refuses (define_cause g.B.Founded.sound (definition.Active c.args.table c.args.index)) (known_by b g.B.Based.damaged w) (known_by b g.B.Based.damaged w) NoIndex) c.self.view_is
+    ((no_index g.D.Disk g.met.D.Disk.told g.met.D.Disk.up_to_now b g.B.Based.damaged g.B.Founded.sound g.B.Founded.premise s.disk s.catalog s.standing s.groups.items s.trail s.late s.closed k running c.in-Some-numbered_place.place h l h_is s.seat c.args.table own c.args.index may c.in_default-index_place.ensures.none, stays (known_by b g.B.Based.damaged v) k.told.legal, k.told.closing ∙ running)))
+
+pub returns-in-Err-clause-refused : goal.returns-in-Err-clause-refused
+returns-in-Err-clause-refused g c = (let
+    s = c.self.inside
+    in let
+    k = c.self.invariant.0
+    in let
+    b = g.B.Based.base
+    in let
+    v : Shown = record { seat = s.seat; entries = s.trail.entries; late = s.late; closed = s.closed }
+    in let
+    running : s.closed ≡ None = c.in_default.is
+    in
+    subst (λ (f : StepFault). Refuses (define_cause g.B.Founded.sound (definition.Active c.args.table c.args.index)) (known_by b g.B.Based.damaged c.args.self.now) (known_by b g.B.Based.damaged c.args.self.now) f) (sym c.in-Err.ensures.refused)
+    (subst (λ (w : Shown). Refuses (define_cause g.B.Founded.sound (definition.Active c.args.table c.args.index)) (known_by b g.B.Based.damaged w) (known_by b g.B.Based.damaged w) Memory) c.self.view_is
+    (no_memory g.B.Founded.sound (known_by b g.B.Based.damaged v) k.told.legal s.closed k.told.closing running (definition.Active c.args.table c.args.index))))
+
+pub is_filled-requires : goal.is_filled-requires
+is_filled-requires g c = (let
+    s = c.self.inside
+    in let
+    k = c.self.invariant.0
+    in let
+    b = g.B.Based.base
+    in let
+    v : Shown = record { seat = s.seat; entries = s.trail.entries; late = s.late; closed = s.closed }
+    in let
+    running : s.closed ≡ None = c.in_default.is
+    in let
+    l = place_in s.groups.items s.standing.tables k.each.stand c.in-Some-numbered_place.place c.in-Some-numbered_place.ensures.found
+    in let
+    h = c.index_mut.result.now
+    in let
+    h_is : get_or s.groups.items c.in-Some-numbered_place.place h ≡ h = sym c.index_mut.ensures.value
+    in let
+    own : h.table.id ≡ c.args.table = group_of s.groups.items s.standing.tables k.each.stand c.in-Some-numbered_place.place h l h_is c.args.table c.in-Some-numbered_place.ensures.numbered
+    in
+    record { right = all_at IsRightGroup s.groups.items c.in-Some-numbered_place.place h l h_is (k.each.right running) })
+
+pub invariant_of-self : goal.invariant_of-self
+invariant_of-self g c = (let
+    s = c.self.inside
+    in let
+    k = c.self.invariant.0
+    in let
+    b = g.B.Based.base
+    in let
+    v : Shown = record { seat = s.seat; entries = s.trail.entries; late = s.late; closed = s.closed }
+    in let
+    running : s.closed ≡ None = c.in_default.is
+    in let
+    l = place_in s.groups.items s.standing.tables k.each.stand c.in-Some-numbered_place.place c.in-Some-numbered_place.ensures.found
+    in let
+    h = c.index_mut.result.now
+    in let
+    h_is : get_or s.groups.items c.in-Some-numbered_place.place h ≡ h = sym c.index_mut.ensures.value
+    in let
+    own : h.table.id ≡ c.args.table = group_of s.groups.items s.standing.tables k.each.stand c.in-Some-numbered_place.place h l h_is c.args.table c.in-Some-numbered_place.ensures.numbered
+    in let
+    kd : IsKept g.D.Disk b g.B.Founded.sound g.B.Founded.premise c.is_filled.new.disk s.catalog s.standing s.groups.items s.trail s.late s.closed = subst (λ (y : g.row.D.Denot). IsKept g.D.Disk b g.B.Founded.sound g.B.Founded.premise y s.catalog s.standing s.groups.items s.trail s.late s.closed) (sym c.is_filled.ensures.untouched) k
+    in
+    (looked_kept g.D.Disk b g.B.Founded.sound g.B.Founded.premise c.is_filled.new.disk s.catalog s.standing s.groups.items s.trail s.late s.closed kd c.in-Some-numbered_place.place h c.is_filled.new.group l h_is c.is_filled.ensures.looked, c.self.invariant.1))
+
+pub invariant_of-self-in-Err-is_filled : goal.invariant_of-self-in-Err-is_filled
+invariant_of-self-in-Err-is_filled g c = (let
+    s = c.self.inside
+    in let
+    k = c.self.invariant.0
+    in let
+    b = g.B.Based.base
+    in let
+    v : Shown = record { seat = s.seat; entries = s.trail.entries; late = s.late; closed = s.closed }
+    in let
+    running : s.closed ≡ None = c.in_default.is
+    in let
+    l = place_in s.groups.items s.standing.tables k.each.stand c.in-Some-numbered_place.place c.in-Some-numbered_place.ensures.found
+    in let
+    h = c.index_mut.result.now
+    in let
+    h_is : get_or s.groups.items c.in-Some-numbered_place.place h ≡ h = sym c.index_mut.ensures.value
+    in let
+    own : h.table.id ≡ c.args.table = group_of s.groups.items s.standing.tables k.each.stand c.in-Some-numbered_place.place h l h_is c.args.table c.in-Some-numbered_place.ensures.numbered
+    in let
+    kd : IsKept g.D.Disk b g.B.Founded.sound g.B.Founded.premise c.is_filled.new.disk s.catalog s.standing s.groups.items s.trail s.late s.closed = subst (λ (y : g.row.D.Denot). IsKept g.D.Disk b g.B.Founded.sound g.B.Founded.premise y s.catalog s.standing s.groups.items s.trail s.late s.closed) (sym c.is_filled.ensures.untouched) k
+    in
+    (looked_kept g.D.Disk b g.B.Founded.sound g.B.Founded.premise c.is_filled.new.disk s.catalog s.standing s.groups.items s.trail s.late s.closed kd c.in-Some-numbered_place.place h c.is_filled.new.group l h_is c.is_filled.ensures.looked, c.self.invariant.1))
+
+pub returns-in-Ok-true-clause-refused : goal.returns-in-Ok-true-clause-refused
+returns-in-Ok-true-clause-refused g c = (let
+    s = c.self.inside
+    in let
+    k = c.self.invariant.0
+    in let
+    b = g.B.Based.base
+    in let
+    v : Shown = record { seat = s.seat; entries = s.trail.entries; late = s.late; closed = s.closed }
+    in let
+    running : s.closed ≡ None = c.in_default.is
+    in
+    subst (λ (w : Shown). Refuses (define_cause g.B.Founded.sound (definition.Active c.args.table c.args.index)) (known_by b g.B.Based.damaged w) (known_by b g.B.Based.damaged v) (NotReady 0)) c.self.view_is
+    ((refl, stays (known_by b g.B.Based.damaged v) k.told.legal, k.told.closing ∙ running)))
+
+pub returns-in-Err-is_filled-clause-refused : goal.returns-in-Err-is_filled-clause-refused
+returns-in-Err-is_filled-clause-refused g c = (let
+    s = c.self.inside
+    in let
+    k = c.self.invariant.0
+    in let
+    b = g.B.Based.base
+    in let
+    v : Shown = record { seat = s.seat; entries = s.trail.entries; late = s.late; closed = s.closed }
+    in let
+    running : s.closed ≡ None = c.in_default.is
+    in
+    subst (λ (f : StepFault). Refuses (define_cause g.B.Founded.sound (definition.Active c.args.table c.args.index)) (known_by b g.B.Based.damaged c.args.self.now) (known_by b g.B.Based.damaged v) f) (sym c.in-Err-is_filled.ensures.refused)
+    (subst (λ (w : Shown). Refuses (define_cause g.B.Founded.sound (definition.Active c.args.table c.args.index)) (known_by b g.B.Based.damaged w) (known_by b g.B.Based.damaged v) Memory) c.self.view_is
+    (no_memory g.B.Founded.sound (known_by b g.B.Based.damaged v) k.told.legal s.closed k.told.closing running (definition.Active c.args.table c.args.index))))
+
+pub invariant_of-self-in_default-take_entry : goal.invariant_of-self-in_default-take_entry
+invariant_of-self-in_default-take_entry g c = (let
+    s = c.self.inside
+    in let
+    k = c.self.invariant.0
+    in let
+    b = g.B.Based.base
+    in let
+    v : Shown = record { seat = s.seat; entries = s.trail.entries; late = s.late; closed = s.closed }
+    in let
+    running : s.closed ≡ None = c.in_default.is
+    in let
+    l = place_in s.groups.items s.standing.tables k.each.stand c.in-Some-numbered_place.place c.in-Some-numbered_place.ensures.found
+    in let
+    h = c.index_mut.result.now
+    in let
+    h_is : get_or s.groups.items c.in-Some-numbered_place.place h ≡ h = sym c.index_mut.ensures.value
+    in let
+    own : h.table.id ≡ c.args.table = group_of s.groups.items s.standing.tables k.each.stand c.in-Some-numbered_place.place h l h_is c.args.table c.in-Some-numbered_place.ensures.numbered
+    in let
+    kd : IsKept g.D.Disk b g.B.Founded.sound g.B.Founded.premise c.is_filled.new.disk s.catalog s.standing s.groups.items s.trail s.late s.closed = subst (λ (y : g.row.D.Denot). IsKept g.D.Disk b g.B.Founded.sound g.B.Founded.premise y s.catalog s.standing s.groups.items s.trail s.late s.closed) (sym c.is_filled.ensures.untouched) k
+    in
+    (roomy g.D.Disk b g.B.Founded.sound g.B.Founded.premise c.is_filled.new.disk s.catalog s.standing (slice_set s.groups.items c.in-Some-numbered_place.place c.is_filled.new.group) s.trail s.late s.closed (looked_kept g.D.Disk b g.B.Founded.sound g.B.Founded.premise c.is_filled.new.disk s.catalog s.standing s.groups.items s.trail s.late s.closed kd c.in-Some-numbered_place.place h c.is_filled.new.group l h_is c.is_filled.ensures.looked) c.take_entry.new.trail c.take_entry.ensures.same c.take_entry.ensures.least, c.self.invariant.1))
+
+pub returns-in_default-take_entry-clause-refused : goal.returns-in_default-take_entry-clause-refused
+returns-in_default-take_entry-clause-refused g c = (let
+    s = c.self.inside
+    in let
+    k = c.self.invariant.0
+    in let
+    b = g.B.Based.base
+    in let
+    v : Shown = record { seat = s.seat; entries = s.trail.entries; late = s.late; closed = s.closed }
+    in let
+    running : s.closed ≡ None = c.in_default.is
+    in
+    subst (λ (es : List Entry). Refuses (define_cause g.B.Founded.sound (definition.Active c.args.table c.args.index)) (known_by b g.B.Based.damaged c.args.self.now) (known_by b g.B.Based.damaged (record v { entries = es })) Memory) (sym c.take_entry.ensures.same)
+    (subst (λ (w : Shown). Refuses (define_cause g.B.Founded.sound (definition.Active c.args.table c.args.index)) (known_by b g.B.Based.damaged w) (known_by b g.B.Based.damaged v) Memory) c.self.view_is
+    (no_memory g.B.Founded.sound (known_by b g.B.Based.damaged v) k.told.legal s.closed k.told.closing running (definition.Active c.args.table c.args.index))))
+
+pub append-requires : goal.append-requires
+append-requires g c = (let
+    s = c.self.inside
+    in let
+    k = c.self.invariant.0
+    in let
+    b = g.B.Based.base
+    in let
+    v : Shown = record { seat = s.seat; entries = s.trail.entries; late = s.late; closed = s.closed }
+    in let
+    running : s.closed ≡ None = c.in_default.is
+    in let
+    may : MayActivate g.B.Founded.sound (known_by b g.B.Based.damaged v) c.args.table.0 c.args.index.0 = subst (λ (w : Shown). MayActivate g.B.Founded.sound (known_by b g.B.Based.damaged w) c.args.table.0 c.args.index.0) (sym c.self.view_is) (record { index = c.requires.index; table = c.requires.table; each = c.requires.each })
+    in let
+    l = place_in s.groups.items s.standing.tables k.each.stand c.in-Some-numbered_place.place c.in-Some-numbered_place.ensures.found
+    in let
+    h = c.index_mut.result.now
+    in let
+    h_is : get_or s.groups.items c.in-Some-numbered_place.place h ≡ h = sym c.index_mut.ensures.value
+    in let
+    own : h.table.id ≡ c.args.table = group_of s.groups.items s.standing.tables k.each.stand c.in-Some-numbered_place.place h l h_is c.args.table c.in-Some-numbered_place.ensures.numbered
+    in let
+    kd : IsKept g.D.Disk b g.B.Founded.sound g.B.Founded.premise c.is_filled.new.disk s.catalog s.standing s.groups.items s.trail s.late s.closed = subst (λ (y : g.row.D.Denot). IsKept g.D.Disk b g.B.Founded.sound g.B.Founded.premise y s.catalog s.standing s.groups.items s.trail s.late s.closed) (sym c.is_filled.ensures.untouched) k
+    in let
+    x = c.index-part.result.now
+    in let
+    same = same_there s.groups.items c.in-Some-numbered_place.place c.index-group.result.now h l (sym c.index-group.ensures) h_is
+    in let
+    x0_is : slice_get c.index-group.result.now.indexes.items c.in-Some-index_place.at ≡ Some x = got_at c.index-group.result.now.indexes.items c.in-Some-index_place.at x c.in-Some-index_place.ensures.found.0 c.index-part.ensures
+    in let
+    id : x.index.id ≡ c.args.index = c.in-Some-index_place.ensures.found.1 x x0_is
+    in let
+    x_is : slice_get h.indexes.items c.in-Some-index_place.at ≡ Some x = ap (λ (y : Group). slice_get y.indexes.items c.in-Some-index_place.at) (sym same) ∙ x0_is
+    in let
+    short : c.args.table.0 < 256 ^ 4 = search rules
+    in let
+    here = part g.D.Disk g.met.D.Disk.told g.met.D.Disk.up_to_now b g.B.Based.damaged g.B.Founded.sound g.B.Founded.premise s.disk s.catalog s.standing s.groups.items s.trail s.late s.closed k running c.in-Some-numbered_place.place h l h_is s.seat c.args.table own c.args.index may c.in-Some-index_place.at x x_is id
+    in
+    record { right = fits_active g.D.Disk g.met.D.Disk.told g.met.D.Disk.up_to_now b g.B.Based.damaged g.B.Founded.sound g.B.Founded.premise c.is_filled.new.disk s.catalog s.standing s.groups.items s.trail s.late s.closed kd running c.in-Some-numbered_place.place h l h_is s.seat c.args.table own c.args.index may c.in-Some-index_place.at x x_is id c.in-Ok.made c.in-Ok.ensures.ok (subst (λ (y : TableId). y.0 < 256 ^ 4) (sym (here.table ∙ own)) short) })
+
+pub make_active-requires : goal.make_active-requires
+make_active-requires g c = (let
+    s = c.self.inside
+    in let
+    k = c.self.invariant.0
+    in let
+    b = g.B.Based.base
+    in let
+    v : Shown = record { seat = s.seat; entries = s.trail.entries; late = s.late; closed = s.closed }
+    in let
+    running : s.closed ≡ None = c.in_default.is
+    in let
+    l = place_in s.groups.items s.standing.tables k.each.stand c.in-Some-numbered_place.place c.in-Some-numbered_place.ensures.found
+    in let
+    h = c.index_mut.result.now
+    in let
+    h_is : get_or s.groups.items c.in-Some-numbered_place.place h ≡ h = sym c.index_mut.ensures.value
+    in let
+    own : h.table.id ≡ c.args.table = group_of s.groups.items s.standing.tables k.each.stand c.in-Some-numbered_place.place h l h_is c.args.table c.in-Some-numbered_place.ensures.numbered
+    in let
+    x = c.index-part.result.now
+    in let
+    same = same_there s.groups.items c.in-Some-numbered_place.place c.index-group.result.now h l (sym c.index-group.ensures) h_is
+    in let
+    x0_is : slice_get c.index-group.result.now.indexes.items c.in-Some-index_place.at ≡ Some x = got_at c.index-group.result.now.indexes.items c.in-Some-index_place.at x c.in-Some-index_place.ensures.found.0 c.index-part.ensures
+    in let
+    id : x.index.id ≡ c.args.index = c.in-Some-index_place.ensures.found.1 x x0_is
+    in let
+    x_is : slice_get h.indexes.items c.in-Some-index_place.at ≡ Some x = ap (λ (y : Group). slice_get y.indexes.items c.in-Some-index_place.at) (sym same) ∙ x0_is
+    in let
+    there : c.index_mut-in-Ok-append.result.now ≡ c.is_filled.new.group = c.index_mut-in-Ok-append.ensures.value ∙ set_there s.groups.items c.in-Some-numbered_place.place c.is_filled.new.group c.index_mut-in-Ok-append.result.now l
+    in let
+    long = looked_length h.indexes.items c.is_filled.new.group.indexes.items c.is_filled.ensures.looked.indexes
+    in let
+    low = within h.indexes.items c.in-Some-index_place.at x x_is
+    in let
+    count = ap (λ (y : Group). length y.indexes.items) there
+    in
+    omega (arith, long, low, count))
+
+pub invariant_of-self-in-Ok-append : goal.invariant_of-self-in-Ok-append
+invariant_of-self-in-Ok-append g c = (let
+    s = c.self.inside
+    in let
+    k = c.self.invariant.0
+    in let
+    b = g.B.Based.base
+    in let
+    v : Shown = record { seat = s.seat; entries = s.trail.entries; late = s.late; closed = s.closed }
+    in let
+    running : s.closed ≡ None = c.in_default.is
+    in let
+    may : MayActivate g.B.Founded.sound (known_by b g.B.Based.damaged v) c.args.table.0 c.args.index.0 = subst (λ (w : Shown). MayActivate g.B.Founded.sound (known_by b g.B.Based.damaged w) c.args.table.0 c.args.index.0) (sym c.self.view_is) (record { index = c.requires.index; table = c.requires.table; each = c.requires.each })
+    in let
+    l = place_in s.groups.items s.standing.tables k.each.stand c.in-Some-numbered_place.place c.in-Some-numbered_place.ensures.found
+    in let
+    h = c.index_mut.result.now
+    in let
+    h_is : get_or s.groups.items c.in-Some-numbered_place.place h ≡ h = sym c.index_mut.ensures.value
+    in let
+    own : h.table.id ≡ c.args.table = group_of s.groups.items s.standing.tables k.each.stand c.in-Some-numbered_place.place h l h_is c.args.table c.in-Some-numbered_place.ensures.numbered
+    in let
+    kd : IsKept g.D.Disk b g.B.Founded.sound g.B.Founded.premise c.is_filled.new.disk s.catalog s.standing s.groups.items s.trail s.late s.closed = subst (λ (y : g.row.D.Denot). IsKept g.D.Disk b g.B.Founded.sound g.B.Founded.premise y s.catalog s.standing s.groups.items s.trail s.late s.closed) (sym c.is_filled.ensures.untouched) k
+    in let
+    x = c.index-part.result.now
+    in let
+    same = same_there s.groups.items c.in-Some-numbered_place.place c.index-group.result.now h l (sym c.index-group.ensures) h_is
+    in let
+    x0_is : slice_get c.index-group.result.now.indexes.items c.in-Some-index_place.at ≡ Some x = got_at c.index-group.result.now.indexes.items c.in-Some-index_place.at x c.in-Some-index_place.ensures.found.0 c.index-part.ensures
+    in let
+    id : x.index.id ≡ c.args.index = c.in-Some-index_place.ensures.found.1 x x0_is
+    in let
+    x_is : slice_get h.indexes.items c.in-Some-index_place.at ≡ Some x = ap (λ (y : Group). slice_get y.indexes.items c.in-Some-index_place.at) (sym same) ∙ x0_is
+    in
+    (activating_kept g.D.Disk g.met.D.Disk.told g.met.D.Disk.up_to_now b g.B.Based.damaged g.B.Founded.sound g.B.Founded.premise c.is_filled.new.disk s.catalog s.standing s.groups.items s.trail s.late s.closed kd running c.in-Some-numbered_place.place h l h_is s.seat c.args.table own c.args.index may c.in-Some-index_place.at x x_is id c.in-Ok.made c.in-Ok.ensures.ok c.is_filled.new.group c.is_filled.ensures.looked c.in-Ok-false.field-0 c.in-Ok-false.field-0-test c.in-Ok-false.ensures.rows c.take_entry.new.trail c.take_entry.ensures.same c.in-Ok-take_entry.ensures.ok c.append.new.disk c.append.new.self c.append.ensures.counts c.append.ensures.touches c.append.ensures.any_moment c.in-Ok-append.ensures.done c.in-Ok-append.ensures.defined c.index_mut-in-Ok-append.result.now c.index_mut-in-Ok-append.ensures.value c.make_active.new.group c.make_active.ensures c.replace-before.new.dest c.replace-before.ensures.after c.push.new.self c.call_count.result c.call_count.ensures c.push.ensures.entries c.push.ensures.room, c.self.invariant.1))
+
+pub invariant_of-self-in-Err-append : goal.invariant_of-self-in-Err-append
+invariant_of-self-in-Err-append g c = (let
+    s = c.self.inside
+    in let
+    k = c.self.invariant.0
+    in let
+    b = g.B.Based.base
+    in let
+    v : Shown = record { seat = s.seat; entries = s.trail.entries; late = s.late; closed = s.closed }
+    in let
+    running : s.closed ≡ None = c.in_default.is
+    in let
+    may : MayActivate g.B.Founded.sound (known_by b g.B.Based.damaged v) c.args.table.0 c.args.index.0 = subst (λ (w : Shown). MayActivate g.B.Founded.sound (known_by b g.B.Based.damaged w) c.args.table.0 c.args.index.0) (sym c.self.view_is) (record { index = c.requires.index; table = c.requires.table; each = c.requires.each })
+    in let
+    l = place_in s.groups.items s.standing.tables k.each.stand c.in-Some-numbered_place.place c.in-Some-numbered_place.ensures.found
+    in let
+    h = c.index_mut.result.now
+    in let
+    h_is : get_or s.groups.items c.in-Some-numbered_place.place h ≡ h = sym c.index_mut.ensures.value
+    in let
+    own : h.table.id ≡ c.args.table = group_of s.groups.items s.standing.tables k.each.stand c.in-Some-numbered_place.place h l h_is c.args.table c.in-Some-numbered_place.ensures.numbered
+    in let
+    kd : IsKept g.D.Disk b g.B.Founded.sound g.B.Founded.premise c.is_filled.new.disk s.catalog s.standing s.groups.items s.trail s.late s.closed = subst (λ (y : g.row.D.Denot). IsKept g.D.Disk b g.B.Founded.sound g.B.Founded.premise y s.catalog s.standing s.groups.items s.trail s.late s.closed) (sym c.is_filled.ensures.untouched) k
+    in let
+    x = c.index-part.result.now
+    in let
+    same = same_there s.groups.items c.in-Some-numbered_place.place c.index-group.result.now h l (sym c.index-group.ensures) h_is
+    in let
+    x0_is : slice_get c.index-group.result.now.indexes.items c.in-Some-index_place.at ≡ Some x = got_at c.index-group.result.now.indexes.items c.in-Some-index_place.at x c.in-Some-index_place.ensures.found.0 c.index-part.ensures
+    in let
+    id : x.index.id ≡ c.args.index = c.in-Some-index_place.ensures.found.1 x x0_is
+    in let
+    x_is : slice_get h.indexes.items c.in-Some-index_place.at ≡ Some x = ap (λ (y : Group). slice_get y.indexes.items c.in-Some-index_place.at) (sym same) ∙ x0_is
+    in
+    (activating_failed g.D.Disk g.met.D.Disk.told g.met.D.Disk.up_to_now b g.B.Based.damaged g.B.Founded.sound g.B.Founded.premise c.is_filled.new.disk s.catalog s.standing s.groups.items s.trail s.late s.closed kd running c.in-Some-numbered_place.place h l h_is s.seat c.args.table own c.args.index may c.in-Some-index_place.at x x_is id c.in-Ok.made c.in-Ok.ensures.ok c.is_filled.new.group c.is_filled.ensures.looked c.in-Ok-false.field-0 c.in-Ok-false.field-0-test c.in-Ok-false.ensures.rows c.take_entry.new.trail c.take_entry.ensures.same c.in-Ok-take_entry.ensures.ok c.append.new.disk c.append.new.self c.append.ensures.counts c.append.ensures.touches c.append.ensures.any_moment c.unwritten.new.trail c.unwritten.new.late c.unwritten.new.closed c.in-Err-append.fault (λ e. c.in-Err-append.ensures.untouched (elim e [ inl x ↦ inl (ap Err x) | inr x ↦ inr (ap Err x) ])) (λ e. c.in-Err-append.ensures.failed (ap Err e)) c.unwritten.ensures.kept c.unwritten.ensures.shut c.unwritten.ensures.room, c.self.invariant.1))
+
+pub returns-in-Ok-append-clause-ok : goal.returns-in-Ok-append-clause-ok
+returns-in-Ok-append-clause-ok g c = (let
+    s = c.self.inside
+    in let
+    k = c.self.invariant.0
+    in let
+    b = g.B.Based.base
+    in let
+    v : Shown = record { seat = s.seat; entries = s.trail.entries; late = s.late; closed = s.closed }
+    in let
+    running : s.closed ≡ None = c.in_default.is
+    in let
+    may : MayActivate g.B.Founded.sound (known_by b g.B.Based.damaged v) c.args.table.0 c.args.index.0 = subst (λ (w : Shown). MayActivate g.B.Founded.sound (known_by b g.B.Based.damaged w) c.args.table.0 c.args.index.0) (sym c.self.view_is) (record { index = c.requires.index; table = c.requires.table; each = c.requires.each })
+    in let
+    l = place_in s.groups.items s.standing.tables k.each.stand c.in-Some-numbered_place.place c.in-Some-numbered_place.ensures.found
+    in let
+    h = c.index_mut.result.now
+    in let
+    h_is : get_or s.groups.items c.in-Some-numbered_place.place h ≡ h = sym c.index_mut.ensures.value
+    in let
+    own : h.table.id ≡ c.args.table = group_of s.groups.items s.standing.tables k.each.stand c.in-Some-numbered_place.place h l h_is c.args.table c.in-Some-numbered_place.ensures.numbered
+    in let
+    kd : IsKept g.D.Disk b g.B.Founded.sound g.B.Founded.premise c.is_filled.new.disk s.catalog s.standing s.groups.items s.trail s.late s.closed = subst (λ (y : g.row.D.Denot). IsKept g.D.Disk b g.B.Founded.sound g.B.Founded.premise y s.catalog s.standing s.groups.items s.trail s.late s.closed) (sym c.is_filled.ensures.untouched) k
+    in let
+    x = c.index-part.result.now
+    in let
+    same = same_there s.groups.items c.in-Some-numbered_place.place c.index-group.result.now h l (sym c.index-group.ensures) h_is
+    in let
+    x0_is : slice_get c.index-group.result.now.indexes.items c.in-Some-index_place.at ≡ Some x = got_at c.index-group.result.now.indexes.items c.in-Some-index_place.at x c.in-Some-index_place.ensures.found.0 c.index-part.ensures
+    in let
+    id : x.index.id ≡ c.args.index = c.in-Some-index_place.ensures.found.1 x x0_is
+    in let
+    x_is : slice_get h.indexes.items c.in-Some-index_place.at ≡ Some x = ap (λ (y : Group). slice_get y.indexes.items c.in-Some-index_place.at) (sym same) ∙ x0_is
+    in let
+    v' : Shown = record { seat = s.seat; entries = c.push.new.self.entries; late = s.late; closed = s.closed }
+    in let
+    m : Answered = record { number = c.args.index.0; stamp = x.index.birth; at = c.len.result }
+    in
+    subst (λ (w : Shown). DidDefine g.B.Founded.sound (known_by b g.B.Based.damaged w) (known_by b g.B.Based.damaged v') (definition.Active c.args.table c.args.index) m) c.self.view_is
+    (activating_did g.D.Disk g.met.D.Disk.told g.met.D.Disk.up_to_now b g.B.Based.damaged g.B.Founded.sound g.B.Founded.premise c.is_filled.new.disk s.catalog s.standing s.groups.items s.trail s.late s.closed kd running c.in-Some-numbered_place.place h l h_is s.seat c.args.table own c.args.index may c.in-Some-index_place.at x x_is id c.in-Ok.made c.in-Ok.ensures.ok c.is_filled.new.group c.is_filled.ensures.looked c.in-Ok-false.field-0 c.in-Ok-false.field-0-test c.in-Ok-false.ensures.rows c.take_entry.new.trail c.take_entry.ensures.same c.in-Ok-take_entry.ensures.ok c.append.new.disk c.append.new.self c.append.ensures.counts c.append.ensures.touches c.append.ensures.any_moment c.in-Ok-append.ensures.done c.in-Ok-append.ensures.defined c.index_mut-in-Ok-append.result.now c.index_mut-in-Ok-append.ensures.value c.make_active.new.group c.make_active.ensures c.replace-before.new.dest c.replace-before.ensures.after c.push.new.self c.call_count.result c.call_count.ensures c.push.ensures.entries c.push.ensures.room c.len.result c.len.ensures))
+
+pub returns-in-Err-append-clause-refused : goal.returns-in-Err-append-clause-refused
+returns-in-Err-append-clause-refused g c = (let
+    s = c.self.inside
+    in let
+    k = c.self.invariant.0
+    in let
+    b = g.B.Based.base
+    in let
+    v : Shown = record { seat = s.seat; entries = s.trail.entries; late = s.late; closed = s.closed }
+    in let
+    running : s.closed ≡ None = c.in_default.is
+    in let
+    may : MayActivate g.B.Founded.sound (known_by b g.B.Based.damaged v) c.args.table.0 c.args.index.0 = subst (λ (w : Shown). MayActivate g.B.Founded.sound (known_by b g.B.Based.damaged w) c.args.table.0 c.args.index.0) (sym c.self.view_is) (record { index = c.requires.index; table = c.requires.table; each = c.requires.each })
+    in let
+    l = place_in s.groups.items s.standing.tables k.each.stand c.in-Some-numbered_place.place c.in-Some-numbered_place.ensures.found
+    in let
+    h = c.index_mut.result.now
+    in let
+    h_is : get_or s.groups.items c.in-Some-numbered_place.place h ≡ h = sym c.index_mut.ensures.value
+    in let
+    own : h.table.id ≡ c.args.table = group_of s.groups.items s.standing.tables k.each.stand c.in-Some-numbered_place.place h l h_is c.args.table c.in-Some-numbered_place.ensures.numbered
+    in let
+    kd : IsKept g.D.Disk b g.B.Founded.sound g.B.Founded.premise c.is_filled.new.disk s.catalog s.standing s.groups.items s.trail s.late s.closed = subst (λ (y : g.row.D.Denot). IsKept g.D.Disk b g.B.Founded.sound g.B.Founded.premise y s.catalog s.standing s.groups.items s.trail s.late s.closed) (sym c.is_filled.ensures.untouched) k
+    in let
+    x = c.index-part.result.now
+    in let
+    same = same_there s.groups.items c.in-Some-numbered_place.place c.index-group.result.now h l (sym c.index-group.ensures) h_is
+    in let
+    x0_is : slice_get c.index-group.result.now.indexes.items c.in-Some-index_place.at ≡ Some x = got_at c.index-group.result.now.indexes.items c.in-Some-index_place.at x c.in-Some-index_place.ensures.found.0 c.index-part.ensures
+    in let
+    id : x.index.id ≡ c.args.index = c.in-Some-index_place.ensures.found.1 x x0_is
+    in let
+    x_is : slice_get h.indexes.items c.in-Some-index_place.at ≡ Some x = ap (λ (y : Group). slice_get y.indexes.items c.in-Some-index_place.at) (sym same) ∙ x0_is
+    in let
+    v' : Shown = record { seat = s.seat; entries = c.unwritten.new.trail.entries; late = c.unwritten.new.late; closed = c.unwritten.new.closed }
+    in
+    subst (λ (w : Shown). Refuses (define_cause g.B.Founded.sound (definition.Active c.args.table c.args.index)) (known_by b g.B.Based.damaged w) (known_by b g.B.Based.damaged v') c.unwritten.result) c.self.view_is
+    (activating_refused g.D.Disk g.met.D.Disk.told g.met.D.Disk.up_to_now b g.B.Based.damaged g.B.Founded.sound g.B.Founded.premise c.is_filled.new.disk s.catalog s.standing s.groups.items s.trail s.late s.closed kd running c.in-Some-numbered_place.place h l h_is s.seat c.args.table own c.args.index may c.in-Some-index_place.at x x_is id c.in-Ok.made c.in-Ok.ensures.ok c.is_filled.new.group c.is_filled.ensures.looked c.in-Ok-false.field-0 c.in-Ok-false.field-0-test c.in-Ok-false.ensures.rows c.take_entry.new.trail c.take_entry.ensures.same c.in-Ok-take_entry.ensures.ok c.append.new.disk c.append.new.self c.append.ensures.counts c.append.ensures.touches c.append.ensures.any_moment c.unwritten.new.trail c.unwritten.new.late c.unwritten.new.closed c.in-Err-append.fault (λ e. c.in-Err-append.ensures.untouched (elim e [ inl x ↦ inl (ap Err x) | inr x ↦ inr (ap Err x) ])) (λ e. c.in-Err-append.ensures.failed (ap Err e)) c.unwritten.ensures.kept c.unwritten.ensures.shut c.unwritten.ensures.room c.unwritten.result c.unwritten.ensures.full c.unwritten.ensures.memory c.unwritten.ensures.failed))
