@@ -15,9 +15,9 @@ pub mod Ended
 pub mod Ends
 pub mod Fields
 pub mod FitsRows
+pub mod Fixes
 pub mod Forms
 pub mod Found
-pub mod Fixes
 pub mod Framed
 pub mod GoneKept
 pub mod Handed
