@@ -19,6 +19,7 @@ mod reading;
 mod readying;
 mod server;
 mod status;
+mod steps;
 mod taking;
 mod upkeep;
 mod writing;
