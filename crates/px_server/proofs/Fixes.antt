@@ -301,7 +301,7 @@ module _ {D : Type 0} (d : Ghosts D) (tells_left : (x : D) (moment file : ℕ) (
 
   pub stayed_flight : HasStayed g g' disk disk' → (at : ℕ) (q : Doubt) → ((x : IndexRegion) → slice_get g.indexes.items at ≡ Some x → x.index.id ≡ q.index) → IsUnderWay g' at q.key q.stamp → IsInFlight b es2 q
   stayed_flight h at q named = (let k' = fix_stayed d tells_left up_to_now b sound premise disk catalog standing groups trail late closed k running place g g' l is disk' h
-    in in_flight_at b es2 k.told.legal g' (all_at IsRightGroup then2 place g' inside2 is2 (k'.each.right running)) (all_at (HasTallied b es2) then2 place g' inside2 is2 (k'.each.tallied running)) at q (named_looked g g' h.looked at q.index named))
+      in in_flight_at b es2 k.told.legal g' (all_at IsRightGroup then2 place g' inside2 is2 (k'.each.right running)) (all_at (HasTallied b es2) then2 place g' inside2 is2 (k'.each.tallied running)) at q (named_looked g g' h.looked at q.index named))
 
   pub fixed_kept : (at : ℕ) (key : List ℕ) (s : ℕ) → HasFixed d g g' disk disk' at key s → (seat calls : ℕ) (i : IndexId) (bytes : List ℕ) → ((x : IndexRegion) → slice_get g.indexes.items at ≡ Some x → x.index.id ≡ i) → calls ≡ d.calls disk'
       → (trail' : Recorded) → trail'.entries ≡ es2 ++ record { seat = seat; calls = calls; act = Fixed i bytes } ∷ [] → trail.room ≤ trail'.room → IsKept d b sound premise disk' catalog standing then2 trail' late closed

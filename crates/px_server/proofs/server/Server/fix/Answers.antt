@@ -101,9 +101,9 @@ returns-then-has_stayed-clause-ok g c =
     subst (λ (w : Shown). IfOk c.answered.result (DidFix (known_by b g.B.Based.damaged w) (known_by b g.B.Based.damaged (record v { entries = c.give_back.new.self.entries })) c.args.d.now)) c.self.view_is
     (subst (λ (es : List Entry). IfOk c.answered.result (DidFix (known_by b g.B.Based.damaged v) (known_by b g.B.Based.damaged (record v { entries = es })) c.args.d.now)) (sym (c.give_back.ensures.same ∙ c.reserve.ensures.same))
     (answers_ok g.D.Disk c.index_mut-group.result.now c.fix-fixed.new.group s.disk c.fix-fixed.new.disk c.in-Some-doubt_place.at.index c.number-region.result (known_by b g.B.Based.damaged v) (known_by b g.B.Based.damaged v) c.args.d.now
-      (finds (known_by b g.B.Based.damaged v) told.legal s.closed told.closing running)
-      (stayed_flight g.D.Disk g.met.D.Disk.told g.met.D.Disk.up_to_now b g.B.Founded.sound g.B.Founded.premise s.disk s.catalog s.standing s.groups.items s.trail s.late s.closed k running c.in-Some-doubt_place.at.group c.index_mut-group.result.now c.fix-fixed.new.group l (sym c.index_mut-group.ensures.value) c.fix-fixed.new.disk h c.in-Some-doubt_place.at.index c.args.d.now named)
-      c.fix-fixed.result here fixes c.answered.result c.answered.ensures))
+    (finds (known_by b g.B.Based.damaged v) told.legal s.closed told.closing running)
+    (stayed_flight g.D.Disk g.met.D.Disk.told g.met.D.Disk.up_to_now b g.B.Founded.sound g.B.Founded.premise s.disk s.catalog s.standing s.groups.items s.trail s.late s.closed k running c.in-Some-doubt_place.at.group c.index_mut-group.result.now c.fix-fixed.new.group l (sym c.index_mut-group.ensures.value) c.fix-fixed.new.disk h c.in-Some-doubt_place.at.index c.args.d.now named)
+    c.fix-fixed.result here fixes c.answered.result c.answered.ensures))
 
 pub returns-then-has_stayed-clause-refused : goal.returns-then-has_stayed-clause-refused
 returns-then-has_stayed-clause-refused g c =
@@ -120,9 +120,9 @@ returns-then-has_stayed-clause-refused g c =
     subst (λ (w : Shown). IfErr c.answered.result (Refuses fix_cause (known_by b g.B.Based.damaged w) (known_by b g.B.Based.damaged (record v { entries = c.give_back.new.self.entries })))) c.self.view_is
     (subst (λ (es : List Entry). IfErr c.answered.result (Refuses fix_cause (known_by b g.B.Based.damaged v) (known_by b g.B.Based.damaged (record v { entries = es })))) (sym (c.give_back.ensures.same ∙ c.reserve.ensures.same))
     (answers_refused g.D.Disk c.index_mut-group.result.now c.fix-fixed.new.group s.disk c.fix-fixed.new.disk c.in-Some-doubt_place.at.index c.number-region.result (known_by b g.B.Based.damaged v) (known_by b g.B.Based.damaged v) c.args.d.now
-      (finds (known_by b g.B.Based.damaged v) told.legal s.closed told.closing running)
-      (stayed_flight g.D.Disk g.met.D.Disk.told g.met.D.Disk.up_to_now b g.B.Founded.sound g.B.Founded.premise s.disk s.catalog s.standing s.groups.items s.trail s.late s.closed k running c.in-Some-doubt_place.at.group c.index_mut-group.result.now c.fix-fixed.new.group l (sym c.index_mut-group.ensures.value) c.fix-fixed.new.disk h c.in-Some-doubt_place.at.index c.args.d.now named)
-      c.fix-fixed.result here c.answered.result c.answered.ensures))
+    (finds (known_by b g.B.Based.damaged v) told.legal s.closed told.closing running)
+    (stayed_flight g.D.Disk g.met.D.Disk.told g.met.D.Disk.up_to_now b g.B.Founded.sound g.B.Founded.premise s.disk s.catalog s.standing s.groups.items s.trail s.late s.closed k running c.in-Some-doubt_place.at.group c.index_mut-group.result.now c.fix-fixed.new.group l (sym c.index_mut-group.ensures.value) c.fix-fixed.new.disk h c.in-Some-doubt_place.at.index c.args.d.now named)
+    c.fix-fixed.result here c.answered.result c.answered.ensures))
 
 pub invariant_of-self-in-Ok-fixed : goal.invariant_of-self-in-Ok-fixed
 invariant_of-self-in-Ok-fixed g c =
@@ -139,7 +139,7 @@ invariant_of-self-in-Ok-fixed g c =
     let o : c.reserve.new.self.room ≡ s.trail.room + 1 = search rules in
     let p = c.push.ensures.room in (
       fixed_kept g.D.Disk g.met.D.Disk.told g.met.D.Disk.up_to_now b g.B.Founded.sound g.B.Founded.premise s.disk s.catalog s.standing s.groups.items s.trail s.late s.closed k running c.in-Some-doubt_place.at.group c.index_mut-group.result.now c.fix-fixed.new.group l (sym c.index_mut-group.ensures.value) c.fix-fixed.new.disk
-        c.in-Some-doubt_place.at.index c.as_slice.result.now c.args.d.now.stamp f s.seat c.call_count-calls.result c.args.d.now.index c.in-Ok.key named c.call_count-calls.ensures c.push.new.self (c.push.ensures.entries ∙ ap (λ (es : List Entry). es ++ (record { seat = s.seat; calls = c.call_count-calls.result; act = FixedAct c.args.d.now.index c.in-Ok.key }) ∷ []) c.reserve.ensures.same) (omega (arith, o, p)),
+          c.in-Some-doubt_place.at.index c.as_slice.result.now c.args.d.now.stamp f s.seat c.call_count-calls.result c.args.d.now.index c.in-Ok.key named c.call_count-calls.ensures c.push.new.self (c.push.ensures.entries ∙ ap (λ (es : List Entry). es ++ (record { seat = s.seat; calls = c.call_count-calls.result; act = FixedAct c.args.d.now.index c.in-Ok.key }) ∷ []) c.reserve.ensures.same) (omega (arith, o, p)),
       c.self.invariant.1,
     )
 
@@ -163,8 +163,8 @@ returns-in-Ok-fixed-clause-ok g c =
     let adds = one_more (known_by b g.B.Based.damaged v) c.push.new.self.entries c.call_count-calls.result (FixedAct c.args.d.now.index c.in-Ok.key) told.legal pushed (invariant_of-self-in-Ok-fixed g c).0.told.legal in
     let es' : List Entry = s.trail.entries ++ (record { seat = s.seat; calls = c.call_count-calls.result; act = FixedAct c.args.d.now.index c.in-Ok.key }) ∷ [] in
     let flight : IsInFlight b c.push.new.self.entries c.args.d.now → ⊥ = subst (λ (es : List Entry). IsInFlight b es c.args.d.now → ⊥) (sym pushed)
-      (fixed_flight g.D.Disk g.met.D.Disk.told g.met.D.Disk.up_to_now b g.B.Founded.sound g.B.Founded.premise s.disk s.catalog s.standing s.groups.items s.trail s.late s.closed k running c.in-Some-doubt_place.at.group c.index_mut-group.result.now c.fix-fixed.new.group l (sym c.index_mut-group.ensures.value) c.fix-fixed.new.disk
-        c.in-Some-doubt_place.at.index c.args.d.now f.0 named s.seat c.call_count-calls.result c.args.d.now.index c.in-Ok.key (subst (λ (es : List Entry). IsLegal b es) pushed (invariant_of-self-in-Ok-fixed g c).0.told.legal)) in
+    (fixed_flight g.D.Disk g.met.D.Disk.told g.met.D.Disk.up_to_now b g.B.Founded.sound g.B.Founded.premise s.disk s.catalog s.standing s.groups.items s.trail s.late s.closed k running c.in-Some-doubt_place.at.group c.index_mut-group.result.now c.fix-fixed.new.group l (sym c.index_mut-group.ensures.value) c.fix-fixed.new.disk
+    c.in-Some-doubt_place.at.index c.args.d.now f.0 named s.seat c.call_count-calls.result c.args.d.now.index c.in-Ok.key (subst (λ (es : List Entry). IsLegal b es) pushed (invariant_of-self-in-Ok-fixed g c).0.told.legal)) in
     subst (λ (w : Shown). DidFix (known_by b g.B.Based.damaged w) (known_by b g.B.Based.damaged v') c.args.d.now c.in-Ok-fixed.fixing) c.self.view_is
     (subst (λ (x : Fixing). DidFix (known_by b g.B.Based.damaged v) (known_by b g.B.Based.damaged v') c.args.d.now x) (sym f.1)
     (subst (λ (kk : List ℕ). Adds (known_by b g.B.Based.damaged v) (known_by b g.B.Based.damaged v') (FixedAct c.args.d.now.index kk)) key_is adds, flight))
@@ -186,8 +186,8 @@ invariant_of-self-in-Err g c =
     let unlate : s.late ≡ None = k.server.unlate running in
     let shut : Entry = record { seat = s.seat; calls = c.call_count-calls.result; act = ShutAct c.call_count-calls.result } in (
       subst (λ (la : Option Entry). IsKept g.D.Disk b g.B.Founded.sound g.B.Founded.premise c.fix-fixed.new.disk s.catalog s.standing (slice_set s.groups.items c.in-Some-doubt_place.at.group c.fix-fixed.new.group) c.push-in-Err.new.self la (Some c.call_count-calls.result)) (sym unlate)
-      (failed_kept g.D.Disk g.met.D.Disk.told g.met.D.Disk.up_to_now b g.B.Founded.sound g.B.Founded.premise s.disk s.catalog s.standing s.groups.items s.trail s.late s.closed k running c.in-Some-doubt_place.at.group c.index_mut-group.result.now c.fix-fixed.new.group l (sym c.index_mut-group.ensures.value) c.fix-fixed.new.disk
-        c.in-Some-doubt_place.at.index c.as_slice.result.now c.args.d.now.stamp f.0.looked f.0.has f.0.kept f.0.due f.0.hands shut c.call_count-calls.result refl c.call_count-calls.ensures (c.fix-fixed.ensures.failed f.1) c.push-in-Err.new.self (c.push-in-Err.ensures.entries ∙ ap (λ (es : List Entry). es ++ shut ∷ []) c.reserve.ensures.same) (omega (arith, o, p))),
+          (failed_kept g.D.Disk g.met.D.Disk.told g.met.D.Disk.up_to_now b g.B.Founded.sound g.B.Founded.premise s.disk s.catalog s.standing s.groups.items s.trail s.late s.closed k running c.in-Some-doubt_place.at.group c.index_mut-group.result.now c.fix-fixed.new.group l (sym c.index_mut-group.ensures.value) c.fix-fixed.new.disk
+          c.in-Some-doubt_place.at.index c.as_slice.result.now c.args.d.now.stamp f.0.looked f.0.has f.0.kept f.0.due f.0.hands shut c.call_count-calls.result refl c.call_count-calls.ensures (c.fix-fixed.ensures.failed f.1) c.push-in-Err.new.self (c.push-in-Err.ensures.entries ∙ ap (λ (es : List Entry). es ++ shut ∷ []) c.reserve.ensures.same) (omega (arith, o, p))),
       c.self.invariant.1,
     )
 
@@ -201,6 +201,11 @@ returns-in-Err-clause-refused g c =
     let running : s.closed ≡ None = none_of s.closed (λ x is. search rules) in
     let shut : Entry = record { seat = s.seat; calls = c.call_count-calls.result; act = ShutAct c.call_count-calls.result } in
     let pushed : c.push-in-Err.new.self.entries ≡ s.trail.entries ++ shut ∷ [] = c.push-in-Err.ensures.entries ∙ ap (λ (es : List Entry). es ++ shut ∷ []) c.reserve.ensures.same in
-    let v' : Shown = record v { entries = c.push-in-Err.new.self.entries } in
-    (tt, (c.call_count-calls.result, subst (λ (w : Shown). Adds (known_by b g.B.Based.damaged w) (known_by b g.B.Based.damaged v') (ShutAct c.call_count-calls.result)) c.self.view_is
-      (one_more (known_by b g.B.Based.damaged v) c.push-in-Err.new.self.entries c.call_count-calls.result (ShutAct c.call_count-calls.result) told.legal pushed (invariant_of-self-in-Err g c).0.told.legal)))
+    let v' : Shown = record v { entries = c.push-in-Err.new.self.entries } in (
+      tt,
+      (
+        c.call_count-calls.result,
+        subst (λ (w : Shown). Adds (known_by b g.B.Based.damaged w) (known_by b g.B.Based.damaged v') (ShutAct c.call_count-calls.result)) c.self.view_is
+            (one_more (known_by b g.B.Based.damaged v) c.push-in-Err.new.self.entries c.call_count-calls.result (ShutAct c.call_count-calls.result) told.legal pushed (invariant_of-self-in-Err g c).0.told.legal),
+      ),
+    )
