@@ -49,7 +49,7 @@ use Rattle.px_server.proofs.Handed.{IndexGoes, IndexShows, ToIndex, index_handed
 use Rattle.px_server.proofs.Lists.{all_at}
 use Rattle.px_server.proofs.Looked.{looked_kept, looked_owed}
 use Rattle.px_server.proofs.OpenBatches.{stamp_in}
-use Rattle.px_server.proofs.Pointed.{pointed}
+use Rattle.px_server.proofs.PointMoved.{pointed}
 use Rattle.px_server.proofs.ReadAt.{inside as inside_groups}
 
 -- ---- lists
@@ -205,10 +205,15 @@ module _ {D : Type 0} (d : Ghosts D) (tells_left : (x : D) (moment file : ℕ) (
       same : slice_set groups place g ≡ groups = set_same groups place g l is
       in let
       here : HasPoints trail.entries g = all_at (HasPoints trail.entries) groups place g l is k.each.points
+      in let
+      -- the same entries, with the room that is left behind the entry
+      roomy : Recorded = record trail { room = trail'.room }
+      in let
+      kept : IsKept d b sound premise disk catalog standing groups roomy late closed = record { told = k.told; each = k.each; shown = k.shown; server = k.server; room = room; blamed = k.blamed }
       in subst (λ (gs : List Group). IsKept d b sound premise disk catalog standing gs trail' late closed) same
-      (pointed d tells_left up_to_now b sound premise disk catalog standing groups trail late closed k e called refl refl may_fix (unshut_by closed) still_by (λ t. tt) place g g l is (record { table = refl; rows = refl; indexes = refl; batches = refl; last = refl; horizon = refl })
+      (pointed d tells_left up_to_now b sound premise disk catalog standing groups roomy late closed kept e called refl refl may_fix (unshut_by closed) still_by (λ t. tt) place g g l is (record { table = refl; rows = refl; indexes = refl; batches = refl; last = refl; horizon = refl })
       (λ t other. tt) (λ q s. points-snoc q g.table.id.0 s trail.entries e ∙ (apart_points g.table.id q s (open_points q g.table.id.0 s trail.entries) seat (Fixed i key) tt ∙ here q s))
-      (λ hs t. tallied_apart b trail.entries g hs t e tt (standing_on t.standing)) trail' entries (subst (λ (gs : List Group). HasTrailRoom closed gs trail') (sym same) room)))
+      (λ hs t. tallied_apart b trail.entries g hs t e tt (standing_on t.standing)) trail' entries (omega arith)))
 
 -- ---- what became of the version
 
