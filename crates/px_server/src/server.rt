@@ -68,13 +68,17 @@ impl<D: CountsCalls, C: Clock, B: Based + Founded> Server<D, C, B> {
 }
 
 impl<D: CountsCalls, C: Clock + Drop, B: Based + Founded> Server<D, C, B> {
+    ghost use Rattle.std.specs.Prelude.{true};
     ghost use Rattle.px_recovery.specs.Stands.{Recovers};
+    ghost use Rattle.px_server.specs.Kept.{HasFailed, has_told};
 
-    /// The disk, what was done, and what is late. Each image that a stop may leave at a moment of the run recovers.
+    /// The disk, what was done, and what is late. Each image that a stop may leave at a moment of the run recovers, and where an entry tells
+    /// that a call of the disk failed, one has.
     pub fn finish(self) -> (D, Trail, Option<Entry>)
         ensures entries { result.1.entries ≡ self.entries }
         ensures late { result.2 ≡ self.late }
         ensures recovers { B.premise → (moment : ℕ) (image : ℕ → List ℕ) → IsLeft ⟦<D as Disk>⟧ result.0 moment image → Recovers B.base result.1.entries result.2 moment image }
+        ensures blamed { has_told result.1.entries ≡ true → HasFailed ⟦<D as Disk>⟧ result.0 }
     {
         let Server {
             alloc: _,
