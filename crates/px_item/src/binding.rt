@@ -4,10 +4,11 @@ ghost use Rattle.px_calls.specs.Requires.{IsScn};
 ghost use Rattle.px_item.specs.Right as spec;
 
 use crate::refusing::bind_refusal;
-use px_ast::Statement;
+use px_ast::{CreateTable, Statement};
 use px_batch::BatchRun;
 use px_bind::{Query, Request, bind};
 use px_calls::{Definition, Receipt};
+use px_create::tables::bind_table;
 use px_defining::DefineRun;
 use px_fitting::fits;
 use px_planned::Planned;
@@ -27,6 +28,37 @@ pub(crate) enum Next {
     Drop(DefineRun),
     Select(SelectRun),
     Tell(Reply),
+}
+
+/// The definition that a CREATE TABLE asks for.
+fn created(alloc: Global, create: &CreateTable) -> Result<DefineRun, Refusal>
+    requires { spec.is_none_of create.now.splits ≡ true }
+    ensures { spec.IsCreation create.now result }
+{
+    match bind_table(alloc, create) {
+        Ok(table) => {
+            if table.key.as_slice().is_empty() {
+                drop(table);
+                return Err(Refusal::Memory);
+            }
+            Ok(DefineRun::new(Definition::Table(table)))
+        }
+        Err(fault) => Err(bind_refusal(fault)),
+    }
+}
+
+/// The definition that a statement asks for, where that is a CREATE TABLE, which asks for no table that stands. It makes no call.
+pub(crate) fn creation_of(
+    alloc: Global,
+    statement: &Statement,
+) -> Option<Result<DefineRun, Refusal>>
+    requires { spec.is_built statement.now ≡ true }
+    ensures { spec.IsCreationIf statement.now result }
+{
+    match statement {
+        Statement::CreateTable(create) => Some(created(alloc, create)),
+        _ => None,
+    }
 }
 
 /// A list of one change.
