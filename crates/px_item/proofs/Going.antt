@@ -14,7 +14,10 @@ use Rattle.px_resolve.specs.Answers.{IsFirst}
 use Rattle.px_resolve.specs.declared.fault.BindFault.{BindFault}
 use Rattle.px_create.specs.Indexes.{index_of}
 use Rattle.px_create.specs.Tables.{new_table, table_faults}
+use Rattle.px_ast.specs.declared.statement.Select.{Select}
+use Rattle.px_bind.specs.Queries.{IsQuery, select_faults}
 use Rattle.px_bind.specs.Requests.{faults_in}
+use Rattle.px_bind.specs.declared.request.Query.{Query as Asks}
 use Rattle.px_bind.specs.Upserts.{change_of, upsert_faults}
 use Rattle.px_tables.specs.declared.found.Found.{Found}
 use Rattle.px_tables.specs.declared.table.Table.{Table}
@@ -503,7 +506,13 @@ module _ (sound : Type 0) (before : ℕ) (asked : Asked) where
   plain_told x f k own r a read free bound (inl e) says quiet = right.is_at_once (right.is_lacking (says.0 ∙ e, says.1, says.2, says.3)) quiet
   plain_told x f k own r a read free bound (inr e) says quiet = right.is_wrong x f e.0 read free bound e.1 (says.0 ∙ e.2, says.1, says.2, says.3) quiet
 
-  told_without : (x : Statement) (f : Found) (k : Known) (own : List Act) (r : Reply) (a : Answered) → IsRead (seen_piece asked.piece) (Ok x) → MayRun asked.settings x → IsBoundTo k.base k.seen a.first f (table_named x) → IsTold f x r
+  explained_so : (q : Select) (f : Found) (x : Asks) (k : Known) (own : List Act) (r : Reply) (a : Answered) → IsRead (seen_piece asked.piece) (Ok (s.Explain q)) → IsBoundTo k.base k.seen a.first f q.table → select_faults f.table.columns q ≡ []
+      → IsQuery f.table q x → right.IsExplanation f (right.point_of asked.settings.scn) x r → Says a r asked.settings → own ≡ [] → IsRight sound (plain k) before own asked.settings (seen_piece asked.piece) a
+  explained_so q f x k own r a read bound none is (inl e) says quiet = right.is_at_once (right.is_lacking (says.0 ∙ e, says.1, says.2, says.3)) quiet
+  explained_so q f x k own r a read bound none is (inr (inl e)) says quiet = right.is_explained q f e.0 read bound (none, (x, is, e.1)) (says.0 ∙ e.2, says.1, says.2, says.3) quiet
+  explained_so q f x k own r a read bound none is (inr (inr e)) says quiet = right.is_not_explained q f read bound (none, (x, is, e.0)) (says.0 ∙ e.1, says.1, says.2, says.3) quiet
+
+  told_without : (x : Statement) (f : Found) (k : Known) (own : List Act) (r : Reply) (a : Answered) → IsRead (seen_piece asked.piece) (Ok x) → MayRun asked.settings x → IsBoundTo k.base k.seen a.first f (table_named x) → IsTold asked.settings.scn f x r
       → Says a r asked.settings → own ≡ [] → IsRight sound (plain k) before own asked.settings (seen_piece asked.piece) a
   told_without (s.DropIndex i) f k own r a read free bound (inl e) says quiet = right.is_at_once (right.is_lacking (says.0 ∙ e, says.1, says.2, says.3)) quiet
   told_without (s.DropIndex i) f k own r a read free bound (inr (inl e)) says quiet = right.is_wrong (s.DropIndex i) f e.0 read free bound e.1 (says.0 ∙ e.2, says.1, says.2, says.3) quiet
@@ -515,7 +524,9 @@ module _ (sound : Type 0) (before : ℕ) (asked : Asked) where
   told_without (s.Upsert y) f k own r a read free bound h says quiet = plain_told (s.Upsert y) f k own r a read free bound h says quiet
   told_without (s.Delete y) f k own r a read free bound h says quiet = plain_told (s.Delete y) f k own r a read free bound h says quiet
   told_without (s.Select y) f k own r a read free bound h says quiet = plain_told (s.Select y) f k own r a read free bound h says quiet
-  told_without (s.Explain y) f k own r a read free bound h says quiet = plain_told (s.Explain y) f k own r a read free bound h says quiet
+  told_without (s.Explain q) f k own r a read free bound (inl e) says quiet = right.is_at_once (right.is_lacking (says.0 ∙ e, says.1, says.2, says.3)) quiet
+  told_without (s.Explain q) f k own r a read free bound (inr (inl e)) says quiet = right.is_wrong (s.Explain q) f e.0 read free bound e.1 (says.0 ∙ e.2, says.1, says.2, says.3) quiet
+  told_without (s.Explain q) f k own r a read free bound (inr (inr e)) says quiet = explained_so q f e.1.0 k own r a read bound e.0 e.1.1 e.1.2 says quiet
 
   goes_from : (x : Statement) (f : Found) (k : Known) (st : ItemState) → Fits sound before asked (state.Finding x) k → IsFound k.base k.seen f → f.table.name ≡ table_named x → FollowsTo asked.settings.scn x f st → Fits sound before asked st k × ([] ≡ begun st)
   goes_from x f k (state.Finding y) fits found named to = absurd to

@@ -1,5 +1,5 @@
 -- What is right to answer to a statement or a session command, by what the seat has then seen.
-use Rattle.std.specs.Prelude.{ℕ, ◌≡◌, ◌≤◌, ◌<◌, ◌+◌, ◌⊎◌, Bool, true, false, if◌then◌else◌, List, [], ◌∷◌, length, take, min, vec_capacity, Option, None, Some, Result, Ok, Err, Vec}
+use Rattle.std.specs.Prelude.{ℕ, ◌≡◌, ◌≤◌, ◌<◌, ◌+◌, ◌-◌, ◌⊎◌, Bool, true, false, if◌then◌else◌, List, [], ◌∷◌, length, take, min, vec_capacity, Option, None, Some, Result, Ok, Err, Vec}
 use Rattle.std.specs.Global.{Global}
 use Rattle.std.specs.Option.{is_some, option_map}
 use Rattle.px_values.specs.Limits.{most_of}
@@ -34,6 +34,11 @@ use Rattle.px_ast.specs.declared.statement.Select.{Select}
 use Rattle.px_bind.specs.Queries.{IsQuery, select_faults}
 use Rattle.px_bind.specs.declared.request.Query.{Query}
 use Rattle.px_plan.specs.Asked.{asked_of}
+use Rattle.px_plan.specs.Explained.{explained}
+use Rattle.px_plan.specs.Plans as plans
+use Rattle.px_plan.specs.declared.plan.Plan.{Plan}
+use Rattle.px_plan.specs.declared.plan.PlanFault.{PlanFault}
+use Rattle.px_plan.specs.declared.plan.PlanFault.TheVariants.{IndexJoin}
 use Rattle.px_planned.specs.declared.planned.Planned.{Planned}
 use Rattle.px_scan.specs.Faults as scan
 use Rattle.px_scan.specs.Turns as scanning
@@ -156,6 +161,10 @@ abbrev pub is_select : Statement → Bool
 is_select (s.Select q) = true
 is_select x = false
 
+abbrev pub is_explain : Statement → Bool
+is_explain (s.Explain q) = true
+is_explain x = false
+
 abbrev pub creates_table : Statement → Bool
 creates_table (s.CreateTable t) = true
 creates_table x = false
@@ -171,6 +180,7 @@ is_built (s.Upsert u) = true
 is_built (s.DropTable t) = true
 is_built (s.DropIndex i) = true
 is_built (s.Select q) = true
+is_built (s.Explain q) = true
 is_built x = false
 
 -- the statements that change something, which none may under an SCN
@@ -313,6 +323,15 @@ pub record ShowsRows (a : Answered) (r : Selected) (st : Settings) : Type 0 wher
   pub first : a.first ≡ r.first
   pub after : a.after ≡ st
 
+-- the point of an EXPLAIN: as of the SCN, or the current one
+abbrev pub point_of : Option ℕ → Option ℕ
+point_of None = None
+point_of (Some scn) = Some (scn - 1)
+
+-- the plan of a query of an EXPLAIN, in which nothing is wrong, with the definitions that it was bound to; or why it has none
+abbrev pub IsPlanned : Found → Option ℕ → Select → Result Plan PlanFault → Type 0
+IsPlanned f scn q r = (select_faults f.table.columns q ≡ []) × ((x : Query) × IsQuery f.table q x × plans.Answers f (point_of scn) x r)
+
 -- what is right, where `own` is what the seat began, ended, opened, closed and defined for it since it had seen the first `before` entries
 pub data IsRight (sound : Type 0) (k : Known) (before : ℕ) (own : List Act) (st : Settings) (p : SeenPiece) (a : Answered) : Type 0 where
   is_at_once : IsAtOnce st p a → own ≡ [] → IsRight sound k before own st p a
@@ -342,6 +361,9 @@ pub data IsRight (sound : Type 0) (k : Known) (before : ℕ) (own : List Act) (s
       → IsRight sound k before own st p a
   is_not_selected : (q : Select) (f : Found) (x : Planned) (fault : QueryFault) → IsRead p (Ok (s.Select q)) → IsBoundTo k.base k.seen before f q.table → IsAskedOf f q x → selecting.IsOutcome sound x st.scn own k (Err fault) → scan.MadeSince before fault k
       → Refuses a (query_refusal q.table fault) st ⊎ Refuses a refusal.Memory st → IsRight sound k before own st p a
+  -- an EXPLAIN tells the path by the definitions alone
+  is_explained : (q : Select) (f : Found) (x : Plan) → IsRead p (Ok (s.Explain q)) → IsBoundTo k.base k.seen a.first f q.table → IsPlanned f st.scn q (Ok x) → Says a (reply.Explained (explained x)) st → own ≡ [] → IsRight sound k before own st p a
+  is_not_explained : (q : Select) (f : Found) → IsRead p (Ok (s.Explain q)) → IsBoundTo k.base k.seen a.first f q.table → IsPlanned f st.scn q (Err IndexJoin) → Refuses a refusal.IndexJoin st → own ≡ [] → IsRight sound k before own st p a
 
 -- ---- parts of the way there
 
@@ -374,10 +396,16 @@ IsBatchOf x t c (next.Drop run) = ⊥
 IsBatchOf x t c (next.Select run) = ⊥
 IsBatchOf x t c (next.Tell r) = r ≡ reply.Refused refusal.Memory
 
-abbrev pub IsTold : Found → Statement → Reply → Type 0
-IsTold f (s.DropIndex i) r = (r ≡ reply.Refused refusal.Memory) ⊎ (((fault : BindFault) × IsFirst (faults_in f (s.DropIndex i)) fault × (r ≡ reply.Refused (bind_refusal fault)))
+-- what is told of the plan of a query
+abbrev pub IsExplanation : Found → Option ℕ → Query → Reply → Type 0
+IsExplanation f point x r = (r ≡ reply.Refused refusal.Memory) ⊎ (((p : Plan) × plans.Answers f point x (Ok p) × (r ≡ reply.Explained (explained p))) ⊎ (plans.Answers f point x (Err IndexJoin) × (r ≡ reply.Refused refusal.IndexJoin)))
+
+abbrev pub IsTold : Option ℕ → Found → Statement → Reply → Type 0
+IsTold scn f (s.DropIndex i) r = (r ≡ reply.Refused refusal.Memory) ⊎ (((fault : BindFault) × IsFirst (faults_in f (s.DropIndex i)) fault × (r ≡ reply.Refused (bind_refusal fault)))
     ⊎ ((i.if_exists ≡ true) × (index_of f.indexes i.name ≡ None) × (r ≡ reply.Defined defined.IndexAbsent)))
-IsTold f x r = (r ≡ reply.Refused refusal.Memory) ⊎ ((fault : BindFault) × IsFirst (faults_in f x) fault × (r ≡ reply.Refused (bind_refusal fault)))
+IsTold scn f (s.Explain q) r = (r ≡ reply.Refused refusal.Memory) ⊎ (((fault : BindFault) × IsFirst (faults_in f (s.Explain q)) fault × (r ≡ reply.Refused (bind_refusal fault)))
+    ⊎ ((select_faults f.table.columns q ≡ []) × ((x : Query) × IsQuery f.table q x × IsExplanation f (point_of scn) x r)))
+IsTold scn f x r = (r ≡ reply.Refused refusal.Memory) ⊎ ((fault : BindFault) × IsFirst (faults_in f x) fault × (r ≡ reply.Refused (bind_refusal fault)))
 
 -- what comes of a query on this table
 abbrev pub IsPlannedOf : Table → Option ℕ → Query → Next → Type 0
@@ -390,7 +418,7 @@ abbrev pub IsNext : Option ℕ → Found → Statement → Next → Type 0
 IsNext scn f x (next.Change run room) = (u : Upsert) × (x ≡ s.Upsert u) × (upsert_faults f.table u ≡ []) × (run.table ≡ f.table.id) × (run.changes ≡ one_change f u) × (run.state ≡ batches.Beginning) × FitsTable f.table (change_of f.table u) × HasRoomForOne room
 IsNext scn f x (next.Drop run) = (faults_in f x ≡ []) × (drop_of f x ≡ Some run.definition) × (run.state ≡ defines.Defining)
 IsNext scn f x (next.Select run) = (q : Select) × (x ≡ s.Select q) × IsAskedOf f q run.scan.query × (run.scan.scn ≡ scn) × scanning.IsNew run.scan.state × IsScn scn
-IsNext scn f x (next.Tell r) = IsTold f x r
+IsNext scn f x (next.Tell r) = IsTold scn f x r
 
 -- the state in which a statement goes on whose table was found
 abbrev pub FollowsTo : Option ℕ → Statement → Found → ItemState → Type 0
@@ -403,7 +431,7 @@ FollowsTo scn x f (state.Selecting y run) = (y ≡ x) × IsNext scn f x (next.Se
 abbrev pub Follows : Asked → Statement → Found → ItemTurn → Type 0
 Follows asked x f (turn.Stepped r) = (r.asked ≡ asked) × FollowsTo asked.settings.scn x f r.state
 Follows asked x f (turn.Waiting r) = ⊥
-Follows asked x f (turn.Over a) = (a.first ≡ asked.first) × ((r : Reply) × IsTold f x r × Says a r asked.settings)
+Follows asked x f (turn.Over a) = (a.first ≡ asked.first) × ((r : Reply) × IsTold asked.settings.scn f x r × Says a r asked.settings)
 
 abbrev pub IsOneRow : Asked → Receipt → Answered → Type 0
 IsOneRow asked r a = (a.first ≡ asked.first) × ((a.reply ≡ reply.Count 1 Affected) × (a.receipts ≡ r ∷ []) × (a.places ≡ []) × (a.after ≡ asked.settings))

@@ -11,11 +11,12 @@ use px_calls::{Definition, Receipt};
 use px_create::tables::bind_table;
 use px_defining::DefineRun;
 use px_fitting::fits;
+use px_plan::{PlanFault, choose, explain};
 use px_planned::Planned;
 use px_reply::{Defined, Refusal, Reply};
 use px_select::SelectRun;
 use px_tables::{Found, Table};
-use px_values::{Change, Changes, Items, TableId};
+use px_values::{Change, Changes, Items, Line, TableId};
 use std::alloc::{AllocError, Global};
 
 /// The most columns that have a place of one byte.
@@ -177,6 +178,59 @@ fn selected(alloc: Global, statement: &Statement, found: &Found, scn: Option<u64
     }
 }
 
+/// The point of an EXPLAIN: as of the SCN, or the current one.
+fn point_of(scn: Option<u64>) -> Option<u64>
+    requires { IsScn scn }
+    ensures { result ≡ spec.point_of scn }
+{
+    match scn {
+        Some(number) => Some(number - 1),
+        None => None,
+    }
+}
+
+/// What is told of the plan of a query.
+fn explanation(alloc: Global, query: Query, found: &Found, point: Option<u64>) -> Reply
+    ensures { spec.IsExplanation found.now point query result }
+{
+    match choose(alloc, query, found, point) {
+        Ok(plan) => {
+            let mut lines = Line::new(alloc);
+            let came = explain(&plan, &mut lines);
+            drop(plan);
+            match came {
+                Ok(()) => Reply::Explained(lines),
+                Err(_) => {
+                    drop(lines);
+                    Reply::Refused(Refusal::Memory)
+                }
+            }
+        }
+        Err(PlanFault::IndexJoin) => Reply::Refused(Refusal::IndexJoin),
+        Err(PlanFault::Memory) => Reply::Refused(Refusal::Memory),
+    }
+}
+
+fn explained(alloc: Global, statement: &Statement, found: &Found, scn: Option<u64>) -> Next
+    requires explains { spec.is_explain statement.now ≡ true }
+    requires places { length found.now.table.columns ≤ 255 }
+    ensures { spec.IsNext scn found.now statement.now result }
+{
+    if !is_scn(scn) {
+        return Next::Tell(Reply::Refused(Refusal::Memory));
+    }
+    match bind(alloc, statement, Some(found)) {
+        Ok(Request::Explain(query)) => {
+            Next::Tell(explanation(alloc, query, found, point_of(scn)))
+        }
+        Ok(other) => {
+            drop(other);
+            Next::Tell(Reply::Refused(Refusal::Memory))
+        }
+        Err(fault) => Next::Tell(Reply::Refused(bind_refusal(fault))),
+    }
+}
+
 /// What comes of a statement whose table was found. It makes no call.
 pub(crate) fn next_of(alloc: Global, statement: &Statement, found: &Found, scn: Option<u64>) -> Next
     ensures { spec.IsNext scn found.now statement.now result }
@@ -191,6 +245,7 @@ pub(crate) fn next_of(alloc: Global, statement: &Statement, found: &Found, scn: 
         }
         Statement::DropIndex(_) => index_dropped(alloc, statement, found),
         Statement::Select(_) => selected(alloc, statement, found, scn),
+        Statement::Explain(_) => explained(alloc, statement, found, scn),
         _ => Next::Tell(Reply::Refused(Refusal::Memory)),
     }
 }

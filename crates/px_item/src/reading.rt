@@ -31,7 +31,8 @@ fn is_built(statement: &Statement) -> bool
         Statement::Upsert(_)
         | Statement::DropTable(_)
         | Statement::DropIndex(_)
-        | Statement::Select(_) => true,
+        | Statement::Select(_)
+        | Statement::Explain(_) => true,
         _ => false,
     }
 }
