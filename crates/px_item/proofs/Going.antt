@@ -1,8 +1,9 @@
 -- How an item goes on.
-use Rattle.std.proofs.Common.{ℕ, ◌≡◌, ◌≤◌, ◌+◌, true, false, Option, None, Some, Result, Ok, Err, List, [], ◌∷◌, ◌++◌, length, take, drop, refl, sym, ◌∙◌, ap, subst, arith, length-append, ◌⊎◌, inl, inr}
-use Rattle.std.proofs.lemmas.List.{append-nil, drop-append-le, take-append-le}
+use Rattle.std.proofs.Common.{ℕ, ◌≡◌, ◌≤◌, true, false, Option, None, Some, Result, Ok, Err, List, [], ◌∷◌, ◌++◌, length, take, drop, refl, sym, ◌∙◌, ap, subst, arith, length-append, ◌⊎◌, inl, inr}
+use Rattle.std.proofs.lemmas.List.{drop-append-le, take-append-le}
 use Rattle.std.proofs.Math.Seq.{take-length}
 use Rattle.px_lex.specs.Script.{SeenPiece, seen_piece}
+use Rattle.px_ast.specs.declared.definition.CreateTable.{CreateTable}
 use Rattle.px_ast.specs.declared.statement.Statement.{Statement}
 use Rattle.px_ast.specs.declared.statement.Statement.TheVariants as s
 use Rattle.px_values.specs.declared.change.Change.{Change}
@@ -12,7 +13,11 @@ use Rattle.std.specs.Option.{option_map}
 use Rattle.px_resolve.specs.Answers.{IsFirst}
 use Rattle.px_resolve.specs.declared.fault.BindFault.{BindFault}
 use Rattle.px_create.specs.Indexes.{index_of}
+use Rattle.px_create.specs.Tables.{new_table, table_faults}
+use Rattle.px_ast.specs.declared.statement.Select.{Select}
+use Rattle.px_bind.specs.Queries.{IsQuery, select_faults}
 use Rattle.px_bind.specs.Requests.{faults_in}
+use Rattle.px_bind.specs.declared.request.Query.{Query as Asks}
 use Rattle.px_bind.specs.Upserts.{change_of, upsert_faults}
 use Rattle.px_tables.specs.declared.found.Found.{Found}
 use Rattle.px_tables.specs.declared.table.Table.{Table}
@@ -20,7 +25,7 @@ use Rattle.px_trail.specs.declared.entry.Act.{Act}
 use Rattle.px_trail.specs.declared.entry.Entry.{Entry}
 use Rattle.px_trail.specs.Answers.{IsAmong}
 use Rattle.px_trail.specs.Batches.{has, is_distinct, rows_of}
-use Rattle.px_trail.specs.Trail.{Base, acts_by, table_of}
+use Rattle.px_trail.specs.Trail.{Base, acts_by}
 use Rattle.px_calls.specs.declared.definition.Definition.{Definition}
 use Rattle.px_calls.specs.declared.definition.Definition.TheVariants as d
 use Rattle.px_calls.specs.declared.definition.Made.{Made}
@@ -45,7 +50,6 @@ use Rattle.px_defining.specs.Turns as define
 use Rattle.px_defining.specs.declared.define.DefineFault.{DefineFault}
 use Rattle.px_defining.specs.declared.define.DefineRun.{DefineRun}
 use Rattle.px_defining.specs.declared.define.DefineState.{DefineState}
-use Rattle.px_defining.specs.declared.define.DefineState.TheVariants as defines
 use Rattle.px_defining.specs.declared.define.DefineTurn.TheVariants as dt
 use Rattle.px_defining.proofs.Defining as defining
 use Rattle.px_reply.specs.declared.reply.Reply.{Reply}
@@ -54,14 +58,13 @@ use Rattle.px_reply.specs.declared.refusal.Refusal.TheVariants as refusal
 use Rattle.px_item.specs.declared.answered.Answered.{Answered}
 use Rattle.px_item.specs.declared.answered.Asked.{Asked}
 use Rattle.px_item.specs.declared.answered.Settings.{Settings}
-use Rattle.px_item.specs.declared.item.ItemRun.{ItemRun}
 use Rattle.px_item.specs.declared.item.ItemState.{ItemState}
 use Rattle.px_item.specs.declared.item.ItemState.TheVariants as state
 use Rattle.px_item.specs.declared.item.ItemTurn.{ItemTurn}
 use Rattle.px_item.specs.declared.item.ItemTurn.TheVariants as turn
 use Rattle.px_item.specs.Right as right
-use Rattle.px_item.specs.Right.{Follows, FollowsTo, HasRoomForOne, IsAtOnce, IsBoundTo, IsChanged, IsDropped, IsRead, IsRight, IsTold, MayRun, Says, after, changes, drop_of, one_change, plain, table_named, unfound}
-use Rattle.px_item.specs.Turns.{Fits, FitsState, IsAsking, IsBegun, IsChanging, IsDropping, Turns, begun}
+use Rattle.px_item.specs.Right.{Follows, FollowsTo, HasRoomForOne, IsAtOnce, IsBoundTo, IsChanged, IsDefined, IsRead, IsRight, IsTold, MayRun, Says, after, changes, drop_of, one_change, plain, table_named, unfound}
+use Rattle.px_item.specs.Turns.{Fits, FitsState, IsAsking, IsDropping, Turns, begun}
 use Rattle.px_item.proofs.Plain.{batch_plain, batch_since_plain, define_plain, define_since_plain, defined_plain, ended_plain, outcome_plain, query_since_plain}
 use Rattle.px_gather.specs.Query.{Query}
 use Rattle.px_planned.specs.Queries.{query_of}
@@ -192,6 +195,19 @@ module _ (sound : Type 0) (before : ℕ) (asked : Asked) where
           going = j.going;
         },
       )
+  state_passes (state.Creating x run) k k' h f =
+      let j = f.1 in (
+        f.0,
+        record {
+          create = j.create;
+          is = j.is;
+          whole = j.whole;
+          right = j.right;
+          definition = j.definition;
+          fits = defining.fits-kept sound run.definition run.state k k' h j.fits;
+          going = j.going;
+        },
+      )
   state_passes (state.Selecting x run) k k' h f =
       let j = f.1 in (
         f.0,
@@ -315,7 +331,7 @@ module _ (sound : Type 0) (before : ℕ) (asked : Asked) where
   not_dropped x f e y k own a read free bound none is told since quiet (inr says) = right.is_at_once (right.is_lacking says) quiet
 
   pub drop_is_over : (x : Statement) (old new : DefineRun) (k k' : Known) (r : Result Made DefineFault) (a : Answered) → Fits sound before asked (state.Dropping x old) k → define.Turns sound old.definition old.state k new.state k' (dt.Over r)
-      → IsDropped asked x r a → Turns sound before asked (state.Dropping x old) k k' (turn.Over a)
+      → IsDefined asked x r a → Turns sound before asked (state.Dropping x old) k k' (turn.Over a)
   drop_is_over x old new k k' (Ok m) a f t c =
       let later = of_ran k k' t.acts t.ran in
       let j = f.state.1 in
@@ -335,6 +351,68 @@ module _ (sound : Type 0) (before : ℕ) (asked : Asked) where
         acts = t.acts;
         ran = t.ran;
         told = (first_low a c.0, first_within k' a (longer k k' asked.first later f.within) c.0, not_dropped x j.found e old.definition k' (outline t.acts) a f.state.0.read (f.state.0.free (drops_change j.found x old.definition j.definition)) bound j.right j.definition t.told.1.0 (t.since before (omega arith)) t.told.1.1 c.1);
+      }
+
+  -- a CREATE TABLE goes on, and is over
+
+  pub create_goes_on : (x : Statement) (old new : DefineRun) (k k' : Known) (acts : List Act) → Fits sound before asked (state.Creating x old) k → new.definition ≡ old.definition → Ran k k' acts → define.Fits sound old.definition new.state k'
+      → define.IsGoing new.state → Fits sound before asked (state.Creating x new) k'
+  create_goes_on x old new k k' acts f definition ran fits going =
+      let j = f.state.1 in
+      record {
+        begins = f.begins;
+        within = longer k k' asked.first (of_ran k k' acts ran) f.within;
+        state = (
+          f.state.0,
+          record {
+            create = j.create;
+            is = j.is;
+            whole = j.whole;
+            right = j.right;
+            definition = definition ∙ j.definition;
+            fits = subst (λ (y : Definition). define.Fits sound y new.state k') (sym definition) fits;
+            going = going;
+          },
+        );
+      }
+
+  not_created : (t : CreateTable) (e : DefineFault) (k : Known) (own : List Act) (a : Answered) → IsRead (seen_piece asked.piece) (Ok (s.CreateTable t)) → right.is_none_of t.splits ≡ true → asked.settings.scn ≡ None → table_faults t ≡ []
+      → define.FaultIs sound (d.Table (new_table t)) e k → define.MadeSince before e k → own ≡ [] → Says a (right.undefined (s.CreateTable t) e) asked.settings ⊎ right.Refuses a refusal.Memory asked.settings
+      → IsRight sound (plain k) before own asked.settings (seen_piece asked.piece) a
+  not_created t e k own a read whole free none told since quiet (inl says) = right.is_not_created t e read whole free none (define_plain sound (d.Table (new_table t)) e k told) (define_since_plain before e k since) quiet says
+  not_created t e k own a read whole free none told since quiet (inr says) = right.is_at_once (right.is_lacking says) quiet
+
+  pub create_is_over : (x : Statement) (old new : DefineRun) (k k' : Known) (r : Result Made DefineFault) (a : Answered) → Fits sound before asked (state.Creating x old) k → define.Turns sound old.definition old.state k new.state k' (dt.Over r)
+      → IsDefined asked x r a → Turns sound before asked (state.Creating x old) k k' (turn.Over a)
+  create_is_over x old new k k' (Ok m) a f t c =
+      let j = f.state.1 in
+      let read = subst (λ (y : Statement). IsRead (seen_piece asked.piece) (Ok y)) j.is f.state.0.read in
+      let made = subst (λ (y : Definition). define.HasDefined sound y (outline t.acts) k' m) j.definition t.told.1 in
+      let says = subst (λ (y : Statement). Says a (reply.Defined (right.word_of y)) asked.settings) j.is c.1 in
+      record {
+        acts = t.acts;
+        ran = t.ran;
+        told = (
+          first_low a c.0,
+          first_within k' a (longer k k' asked.first (of_ran k k' t.acts t.ran) f.within) c.0,
+          right.is_created j.create m read j.whole (f.state.0.free (ap changes j.is)) j.right (defined_plain sound (d.Table (new_table j.create)) (outline t.acts) k' m made) says,
+        );
+      }
+  create_is_over x old new k k' (Err e) a f t c =
+      let j = f.state.1 in
+      let low = f.begins in
+      let within = f.within in
+      let read = subst (λ (y : Statement). IsRead (seen_piece asked.piece) (Ok y)) j.is f.state.0.read in
+      let fault = subst (λ (y : Definition). define.FaultIs sound y e k') j.definition t.told.1.0 in
+      let F : Statement → Type 0 = λ y. Says a (right.undefined y e) asked.settings ⊎ right.Refuses a refusal.Memory asked.settings in
+      record {
+        acts = t.acts;
+        ran = t.ran;
+        told = (
+          first_low a c.0,
+          first_within k' a (longer k k' asked.first (of_ran k k' t.acts t.ran) f.within) c.0,
+          not_created j.create e k' (outline t.acts) a read j.whole (f.state.0.free (ap changes j.is)) j.right fault (t.since before (omega arith)) t.told.1.1 (subst F j.is c.1),
+        );
       }
 
   -- a SELECT goes on, and is over
@@ -428,7 +506,13 @@ module _ (sound : Type 0) (before : ℕ) (asked : Asked) where
   plain_told x f k own r a read free bound (inl e) says quiet = right.is_at_once (right.is_lacking (says.0 ∙ e, says.1, says.2, says.3)) quiet
   plain_told x f k own r a read free bound (inr e) says quiet = right.is_wrong x f e.0 read free bound e.1 (says.0 ∙ e.2, says.1, says.2, says.3) quiet
 
-  told_without : (x : Statement) (f : Found) (k : Known) (own : List Act) (r : Reply) (a : Answered) → IsRead (seen_piece asked.piece) (Ok x) → MayRun asked.settings x → IsBoundTo k.base k.seen a.first f (table_named x) → IsTold f x r
+  explained_so : (q : Select) (f : Found) (x : Asks) (k : Known) (own : List Act) (r : Reply) (a : Answered) → IsRead (seen_piece asked.piece) (Ok (s.Explain q)) → IsBoundTo k.base k.seen a.first f q.table → select_faults f.table.columns q ≡ []
+      → IsQuery f.table q x → right.IsExplanation f (right.point_of asked.settings.scn) x r → Says a r asked.settings → own ≡ [] → IsRight sound (plain k) before own asked.settings (seen_piece asked.piece) a
+  explained_so q f x k own r a read bound none is (inl e) says quiet = right.is_at_once (right.is_lacking (says.0 ∙ e, says.1, says.2, says.3)) quiet
+  explained_so q f x k own r a read bound none is (inr (inl e)) says quiet = right.is_explained q f e.0 read bound (none, (x, is, e.1)) (says.0 ∙ e.2, says.1, says.2, says.3) quiet
+  explained_so q f x k own r a read bound none is (inr (inr e)) says quiet = right.is_not_explained q f read bound (none, (x, is, e.0)) (says.0 ∙ e.1, says.1, says.2, says.3) quiet
+
+  told_without : (x : Statement) (f : Found) (k : Known) (own : List Act) (r : Reply) (a : Answered) → IsRead (seen_piece asked.piece) (Ok x) → MayRun asked.settings x → IsBoundTo k.base k.seen a.first f (table_named x) → IsTold asked.settings.scn f x r
       → Says a r asked.settings → own ≡ [] → IsRight sound (plain k) before own asked.settings (seen_piece asked.piece) a
   told_without (s.DropIndex i) f k own r a read free bound (inl e) says quiet = right.is_at_once (right.is_lacking (says.0 ∙ e, says.1, says.2, says.3)) quiet
   told_without (s.DropIndex i) f k own r a read free bound (inr (inl e)) says quiet = right.is_wrong (s.DropIndex i) f e.0 read free bound e.1 (says.0 ∙ e.2, says.1, says.2, says.3) quiet
@@ -440,7 +524,9 @@ module _ (sound : Type 0) (before : ℕ) (asked : Asked) where
   told_without (s.Upsert y) f k own r a read free bound h says quiet = plain_told (s.Upsert y) f k own r a read free bound h says quiet
   told_without (s.Delete y) f k own r a read free bound h says quiet = plain_told (s.Delete y) f k own r a read free bound h says quiet
   told_without (s.Select y) f k own r a read free bound h says quiet = plain_told (s.Select y) f k own r a read free bound h says quiet
-  told_without (s.Explain y) f k own r a read free bound h says quiet = plain_told (s.Explain y) f k own r a read free bound h says quiet
+  told_without (s.Explain q) f k own r a read free bound (inl e) says quiet = right.is_at_once (right.is_lacking (says.0 ∙ e, says.1, says.2, says.3)) quiet
+  told_without (s.Explain q) f k own r a read free bound (inr (inl e)) says quiet = right.is_wrong (s.Explain q) f e.0 read free bound e.1 (says.0 ∙ e.2, says.1, says.2, says.3) quiet
+  told_without (s.Explain q) f k own r a read free bound (inr (inr e)) says quiet = explained_so q f e.1.0 k own r a read bound e.0 e.1.1 e.1.2 says quiet
 
   goes_from : (x : Statement) (f : Found) (k : Known) (st : ItemState) → Fits sound before asked (state.Finding x) k → IsFound k.base k.seen f → f.table.name ≡ table_named x → FollowsTo asked.settings.scn x f st → Fits sound before asked st k × ([] ≡ begun st)
   goes_from x f k (state.Finding y) fits found named to = absurd to
@@ -485,6 +571,7 @@ module _ (sound : Type 0) (before : ℕ) (asked : Asked) where
         },
         refl,
       )
+  goes_from x f k (state.Creating y run) fits found named to = absurd to
   goes_from x f k (state.Selecting y run) fits found named (same, n) =
       let low = fits.begins in
       let b = bound_here k (table_named x) f fits.within found named in

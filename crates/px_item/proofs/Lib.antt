@@ -1,2 +1,4 @@
 pub mod Plain
+pub mod Newly
+pub mod Starting
 pub mod Going

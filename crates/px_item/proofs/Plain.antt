@@ -1,5 +1,5 @@
 -- What is told of the trail alone doesn't depend on whether others act.
-use Rattle.std.proofs.Common.{ℕ, ◌≡◌, Option, None, Some, Result, Ok, Err, List}
+use Rattle.std.proofs.Common.{ℕ, Option, None, Some, Result, Ok, Err, List}
 use Rattle.px_values.specs.declared.change.Change.{Change}
 use Rattle.px_values.specs.declared.limit.Limit.{Limit}
 use Rattle.px_values.specs.declared.limit.Limit.TheVariants as bound

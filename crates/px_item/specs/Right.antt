@@ -1,5 +1,5 @@
 -- What is right to answer to a statement or a session command, by what the seat has then seen.
-use Rattle.std.specs.Prelude.{ℕ, ◌≡◌, ◌≤◌, ◌<◌, ◌+◌, ◌⊎◌, Bool, true, false, if◌then◌else◌, List, [], ◌∷◌, length, take, min, vec_capacity, Option, None, Some, Result, Ok, Err, Vec}
+use Rattle.std.specs.Prelude.{ℕ, ◌≡◌, ◌≤◌, ◌<◌, ◌+◌, ◌-◌, ◌⊎◌, Bool, true, false, if◌then◌else◌, List, [], ◌∷◌, length, take, min, vec_capacity, Option, None, Some, Result, Ok, Err, Vec}
 use Rattle.std.specs.Global.{Global}
 use Rattle.std.specs.Option.{is_some, option_map}
 use Rattle.px_values.specs.Limits.{most_of}
@@ -13,6 +13,7 @@ use Rattle.px_lex.specs.declared.script.PieceKind.TheVariants as kinds
 use Rattle.px_ast.specs.declared.statement.Statement.{Statement}
 use Rattle.px_ast.specs.declared.statement.Statement.TheVariants as s
 use Rattle.px_ast.specs.declared.statement.Upsert.{Upsert}
+use Rattle.px_ast.specs.declared.definition.CreateTable.{CreateTable}
 use Rattle.px_ast.specs.declared.definition.DropIndex.{DropIndex}
 use Rattle.px_parse.specs.Texts as texts
 use Rattle.px_parse.specs.declared.syntax.SyntaxFault.{SyntaxFault}
@@ -28,10 +29,16 @@ use Rattle.px_resolve.specs.Answers.{IsFirst}
 use Rattle.px_resolve.specs.declared.fault.BindFault.{BindFault}
 use Rattle.px_resolve.specs.declared.fault.BindFault.TheVariants as bind
 use Rattle.px_create.specs.Indexes.{index_of}
+use Rattle.px_create.specs.Tables.{new_table, table_faults}
 use Rattle.px_ast.specs.declared.statement.Select.{Select}
 use Rattle.px_bind.specs.Queries.{IsQuery, select_faults}
 use Rattle.px_bind.specs.declared.request.Query.{Query}
 use Rattle.px_plan.specs.Asked.{asked_of}
+use Rattle.px_plan.specs.Explained.{explained}
+use Rattle.px_plan.specs.Plans as plans
+use Rattle.px_plan.specs.declared.plan.Plan.{Plan}
+use Rattle.px_plan.specs.declared.plan.PlanFault.{PlanFault}
+use Rattle.px_plan.specs.declared.plan.PlanFault.TheVariants.{IndexJoin}
 use Rattle.px_planned.specs.declared.planned.Planned.{Planned}
 use Rattle.px_scan.specs.Faults as scan
 use Rattle.px_scan.specs.Turns as scanning
@@ -54,7 +61,7 @@ use Rattle.px_calls.specs.declared.ticket.Receipt.{Receipt}
 use Rattle.px_calls.specs.Calls.{IsFound}
 use Rattle.px_calls.specs.Causes.{ClosedBy, NamesNoTable}
 use Rattle.px_calls.specs.Known.{Known}
-use Rattle.px_calls.specs.Requires.{FitsTable}
+use Rattle.px_calls.specs.Requires.{FitsTable, IsNewTable}
 use Rattle.px_batch.specs.Turns as batch
 use Rattle.px_batch.specs.declared.batch.BatchFault.{BatchFault}
 use Rattle.px_batch.specs.declared.batch.BatchFault.TheVariants as unmade
@@ -62,6 +69,7 @@ use Rattle.px_batch.specs.declared.batch.BatchState.TheVariants as batches
 use Rattle.px_defining.specs.Turns as define
 use Rattle.px_defining.specs.declared.define.DefineFault.{DefineFault}
 use Rattle.px_defining.specs.declared.define.DefineFault.TheVariants as undone
+use Rattle.px_defining.specs.declared.define.DefineRun.{DefineRun}
 use Rattle.px_defining.specs.declared.define.DefineState.TheVariants as defines
 use Rattle.px_reply.specs.declared.refusal.Refusal.{Refusal}
 use Rattle.px_reply.specs.declared.refusal.Refusal.TheVariants as refusal
@@ -153,12 +161,26 @@ abbrev pub is_select : Statement → Bool
 is_select (s.Select q) = true
 is_select x = false
 
--- the statements whose answers are built
+abbrev pub is_explain : Statement → Bool
+is_explain (s.Explain q) = true
+is_explain x = false
+
+abbrev pub creates_table : Statement → Bool
+creates_table (s.CreateTable t) = true
+creates_table x = false
+
+abbrev pub is_none_of : {X : Type 0} → List X → Bool
+is_none_of [] = true
+is_none_of (x ∷ xs) = false
+
+-- the statements whose answers are built: a new table has one region
 abbrev pub is_built : Statement → Bool
+is_built (s.CreateTable t) = is_none_of t.splits
 is_built (s.Upsert u) = true
 is_built (s.DropTable t) = true
 is_built (s.DropIndex i) = true
 is_built (s.Select q) = true
+is_built (s.Explain q) = true
 is_built x = false
 
 -- the statements that change something, which none may under an SCN
@@ -170,8 +192,9 @@ changes x = true
 abbrev pub MayRun : Settings → Statement → Type 0
 MayRun st x = changes x ≡ true → st.scn ≡ None
 
--- the statement's table doesn't stand
+-- the statement's table doesn't stand. A CREATE TABLE asks for none
 abbrev pub table_absent : Statement → Reply
+table_absent (s.CreateTable t) = reply.Refused refusal.Memory
 table_absent (s.DropTable t) = if t.if_exists then reply.Defined defined.TableAbsent else reply.Refused (refusal.NoTable t.name)
 table_absent x = reply.Refused (refusal.NoTable (table_named x))
 
@@ -180,6 +203,11 @@ abbrev pub index_absent : Statement → Reply
 index_absent (s.DropIndex i) = if i.if_exists then reply.Defined defined.IndexAbsent else reply.Refused (refusal.NoIndex i.name)
 index_absent x = reply.Refused refusal.Memory
 
+-- the name of what the statement makes stands
+abbrev pub name_taken : Statement → Reply
+name_taken (s.CreateTable t) = if t.if_not_exists then reply.Defined defined.TableKept else reply.Refused (refusal.NameExists t.name)
+name_taken x = reply.Refused refusal.Memory
+
 -- the statement's table wasn't found
 abbrev pub unfound : Statement → StepFault → Reply
 unfound x step.NoTable = table_absent x
@@ -187,6 +215,7 @@ unfound x (step.Closed call) = reply.Refused (refusal.Closed call)
 unfound x f = reply.Refused refusal.Memory
 
 abbrev pub undefined : Statement → DefineFault → Reply
+undefined x undone.NameExists = name_taken x
 undefined x undone.NoTable = table_absent x
 undefined x undone.NoIndex = index_absent x
 undefined x (undone.Limit which count) = reply.Refused (refusal.Limit which)
@@ -196,8 +225,9 @@ undefined x (undone.Damaged file place) = reply.Refused (refusal.Damaged file pl
 undefined x (undone.Closed call) = reply.Refused (refusal.Closed call)
 undefined x f = reply.Refused refusal.Memory
 
--- the word of what was dropped
+-- the word of what was made or dropped
 abbrev pub word_of : Statement → Defined
+word_of (s.CreateTable t) = defined.TableCreated
 word_of (s.DropIndex i) = defined.IndexDropped
 word_of x = defined.TableDropped
 
@@ -245,6 +275,8 @@ pub data IsAtOnce (st : Settings) (p : SeenPiece) (a : Answered) : Type 0 where
   is_not_read : (e : SyntaxFault) → IsRead p (Err e) → Refuses a (syntax_refusal e) st → IsAtOnce st p a
   is_not_built : (x : Statement) → IsRead p (Ok x) → is_built x ≡ false → Refuses a refusal.Form st → IsAtOnce st p a
   is_under_scn : (x : Statement) → IsRead p (Ok x) → changes x ≡ true → is_some st.scn ≡ true → Refuses a refusal.UnderScn st → IsAtOnce st p a
+  -- a CREATE TABLE asks for no table that stands, and so what is wrong with it is told at once
+  is_wrong_table : (t : CreateTable) (fault : BindFault) → IsRead p (Ok (s.CreateTable t)) → is_none_of t.splits ≡ true → st.scn ≡ None → IsFirst (table_faults t) fault → Refuses a (bind_refusal fault) st → IsAtOnce st p a
   is_no_command : (e : CommandFault) → IsCommandRead p (Err e) → Refuses a (command_refusal e) st → IsAtOnce st p a
   is_command : (c : Command) → IsCommandRead p (Ok c) → is_command_built c ≡ true → SaysOf st c a → IsAtOnce st p a
   is_command_not_built : (c : Command) → IsCommandRead p (Ok c) → is_command_built c ≡ false → Refuses a refusal.Form st → IsAtOnce st p a
@@ -291,6 +323,15 @@ pub record ShowsRows (a : Answered) (r : Selected) (st : Settings) : Type 0 wher
   pub first : a.first ≡ r.first
   pub after : a.after ≡ st
 
+-- the point of an EXPLAIN: as of the SCN, or the current one
+abbrev pub point_of : Option ℕ → Option ℕ
+point_of None = None
+point_of (Some scn) = Some (scn - 1)
+
+-- the plan of a query of an EXPLAIN, in which nothing is wrong, with the definitions that it was bound to; or why it has none
+abbrev pub IsPlanned : Found → Option ℕ → Select → Result Plan PlanFault → Type 0
+IsPlanned f scn q r = (select_faults f.table.columns q ≡ []) × ((x : Query) × IsQuery f.table q x × plans.Answers f (point_of scn) x r)
+
 -- what is right, where `own` is what the seat began, ended, opened, closed and defined for it since it had seen the first `before` entries
 pub data IsRight (sound : Type 0) (k : Known) (before : ℕ) (own : List Act) (st : Settings) (p : SeenPiece) (a : Answered) : Type 0 where
   is_at_once : IsAtOnce st p a → own ≡ [] → IsRight sound k before own st p a
@@ -308,6 +349,11 @@ pub data IsRight (sound : Type 0) (k : Known) (before : ℕ) (own : List Act) (s
       → Says a (reply.Defined (word_of x)) st → IsRight sound k before own st p a
   is_not_dropped : (x : Statement) (f : Found) (fault : DefineFault) (e : Definition) → IsRead p (Ok x) → st.scn ≡ None → IsBoundTo k.base k.seen a.first f (table_named x) → faults_in f x ≡ [] → drop_of f x ≡ Some e → define.FaultIs sound e fault k
       → define.MadeSince before fault k → own ≡ [] → Says a (undefined x fault) st → IsRight sound k before own st p a
+  -- a CREATE TABLE is one entry
+  is_created : (t : CreateTable) (m : Made) → IsRead p (Ok (s.CreateTable t)) → is_none_of t.splits ≡ true → st.scn ≡ None → table_faults t ≡ [] → define.HasDefined sound (d.Table (new_table t)) own k m → Says a (reply.Defined defined.TableCreated) st
+      → IsRight sound k before own st p a
+  is_not_created : (t : CreateTable) (fault : DefineFault) → IsRead p (Ok (s.CreateTable t)) → is_none_of t.splits ≡ true → st.scn ≡ None → table_faults t ≡ [] → define.FaultIs sound (d.Table (new_table t)) fault k → define.MadeSince before fault k → own ≡ []
+      → Says a (undefined (s.CreateTable t) fault) st → IsRight sound k before own st p a
   is_index_absent : (i : DropIndex) (f : Found) → IsRead p (Ok (s.DropIndex i)) → st.scn ≡ None → IsBoundTo k.base k.seen a.first f i.table → i.if_exists ≡ true → index_of f.indexes i.name ≡ None → Says a (reply.Defined defined.IndexAbsent) st → own ≡ []
       → IsRight sound k before own st p a
   -- a SELECT is answered at a point, by a path that is chosen there: exactly, under an SCN; and else as it is current
@@ -315,6 +361,9 @@ pub data IsRight (sound : Type 0) (k : Known) (before : ℕ) (own : List Act) (s
       → IsRight sound k before own st p a
   is_not_selected : (q : Select) (f : Found) (x : Planned) (fault : QueryFault) → IsRead p (Ok (s.Select q)) → IsBoundTo k.base k.seen before f q.table → IsAskedOf f q x → selecting.IsOutcome sound x st.scn own k (Err fault) → scan.MadeSince before fault k
       → Refuses a (query_refusal q.table fault) st ⊎ Refuses a refusal.Memory st → IsRight sound k before own st p a
+  -- an EXPLAIN tells the path by the definitions alone
+  is_explained : (q : Select) (f : Found) (x : Plan) → IsRead p (Ok (s.Explain q)) → IsBoundTo k.base k.seen a.first f q.table → IsPlanned f st.scn q (Ok x) → Says a (reply.Explained (explained x)) st → own ≡ [] → IsRight sound k before own st p a
+  is_not_explained : (q : Select) (f : Found) → IsRead p (Ok (s.Explain q)) → IsBoundTo k.base k.seen a.first f q.table → IsPlanned f st.scn q (Err IndexJoin) → Refuses a refusal.IndexJoin st → own ≡ [] → IsRight sound k before own st p a
 
 -- ---- parts of the way there
 
@@ -323,7 +372,19 @@ IsCommanded st c first a = (a.first ≡ first) × (((is_command_built c ≡ true
 
 abbrev pub ReadsAs : Settings → SeenPiece → ℕ → Read → Type 0
 ReadsAs st p first (read.Told a) = IsAtOnce st p a × (a.first ≡ first)
-ReadsAs st p first (read.Asks asked x) = (seen_piece asked.piece ≡ p) × (asked.settings ≡ st) × (asked.first ≡ first) × IsRead p (Ok x) × MayRun st x
+ReadsAs st p first (read.Asks asked x) = (seen_piece asked.piece ≡ p) × (asked.settings ≡ st) × (asked.first ≡ first) × IsRead p (Ok x) × MayRun st x × (is_built x ≡ true)
+
+-- what a CREATE TABLE asks for, or the first of all that is wrong with it
+abbrev pub IsCreation : CreateTable → Result DefineRun Refusal → Type 0
+IsCreation t (Ok run) = (table_faults t ≡ []) × (run.definition ≡ d.Table (new_table t)) × (run.state ≡ defines.Defining) × IsNewTable (new_table t)
+IsCreation t (Err r) = (r ≡ refusal.Memory) ⊎ ((fault : BindFault) × IsFirst (table_faults t) fault × (r ≡ bind_refusal fault))
+
+-- only a CREATE TABLE is bound before its first call
+abbrev pub IsCreationIf : Statement → Option (Result DefineRun Refusal) → Type 0
+IsCreationIf (s.CreateTable t) (Some r) = IsCreation t r
+IsCreationIf (s.CreateTable t) None = ⊥
+IsCreationIf x (Some r) = ⊥
+IsCreationIf x None = Unit {0}
 
 abbrev pub HasRoomForOne : Vec Receipt Global → Type 0
 HasRoomForOne v = (v.items ≡ []) × (0 < vec_capacity v)
@@ -335,10 +396,16 @@ IsBatchOf x t c (next.Drop run) = ⊥
 IsBatchOf x t c (next.Select run) = ⊥
 IsBatchOf x t c (next.Tell r) = r ≡ reply.Refused refusal.Memory
 
-abbrev pub IsTold : Found → Statement → Reply → Type 0
-IsTold f (s.DropIndex i) r = (r ≡ reply.Refused refusal.Memory) ⊎ (((fault : BindFault) × IsFirst (faults_in f (s.DropIndex i)) fault × (r ≡ reply.Refused (bind_refusal fault)))
+-- what is told of the plan of a query
+abbrev pub IsExplanation : Found → Option ℕ → Query → Reply → Type 0
+IsExplanation f point x r = (r ≡ reply.Refused refusal.Memory) ⊎ (((p : Plan) × plans.Answers f point x (Ok p) × (r ≡ reply.Explained (explained p))) ⊎ (plans.Answers f point x (Err IndexJoin) × (r ≡ reply.Refused refusal.IndexJoin)))
+
+abbrev pub IsTold : Option ℕ → Found → Statement → Reply → Type 0
+IsTold scn f (s.DropIndex i) r = (r ≡ reply.Refused refusal.Memory) ⊎ (((fault : BindFault) × IsFirst (faults_in f (s.DropIndex i)) fault × (r ≡ reply.Refused (bind_refusal fault)))
     ⊎ ((i.if_exists ≡ true) × (index_of f.indexes i.name ≡ None) × (r ≡ reply.Defined defined.IndexAbsent)))
-IsTold f x r = (r ≡ reply.Refused refusal.Memory) ⊎ ((fault : BindFault) × IsFirst (faults_in f x) fault × (r ≡ reply.Refused (bind_refusal fault)))
+IsTold scn f (s.Explain q) r = (r ≡ reply.Refused refusal.Memory) ⊎ (((fault : BindFault) × IsFirst (faults_in f (s.Explain q)) fault × (r ≡ reply.Refused (bind_refusal fault)))
+    ⊎ ((select_faults f.table.columns q ≡ []) × ((x : Query) × IsQuery f.table q x × IsExplanation f (point_of scn) x r)))
+IsTold scn f x r = (r ≡ reply.Refused refusal.Memory) ⊎ ((fault : BindFault) × IsFirst (faults_in f x) fault × (r ≡ reply.Refused (bind_refusal fault)))
 
 -- what comes of a query on this table
 abbrev pub IsPlannedOf : Table → Option ℕ → Query → Next → Type 0
@@ -351,19 +418,20 @@ abbrev pub IsNext : Option ℕ → Found → Statement → Next → Type 0
 IsNext scn f x (next.Change run room) = (u : Upsert) × (x ≡ s.Upsert u) × (upsert_faults f.table u ≡ []) × (run.table ≡ f.table.id) × (run.changes ≡ one_change f u) × (run.state ≡ batches.Beginning) × FitsTable f.table (change_of f.table u) × HasRoomForOne room
 IsNext scn f x (next.Drop run) = (faults_in f x ≡ []) × (drop_of f x ≡ Some run.definition) × (run.state ≡ defines.Defining)
 IsNext scn f x (next.Select run) = (q : Select) × (x ≡ s.Select q) × IsAskedOf f q run.scan.query × (run.scan.scn ≡ scn) × scanning.IsNew run.scan.state × IsScn scn
-IsNext scn f x (next.Tell r) = IsTold f x r
+IsNext scn f x (next.Tell r) = IsTold scn f x r
 
 -- the state in which a statement goes on whose table was found
 abbrev pub FollowsTo : Option ℕ → Statement → Found → ItemState → Type 0
 FollowsTo scn x f (state.Finding y) = ⊥
 FollowsTo scn x f (state.Changing y run room) = (y ≡ x) × IsNext scn f x (next.Change run room)
 FollowsTo scn x f (state.Dropping y run) = (y ≡ x) × IsNext scn f x (next.Drop run)
+FollowsTo scn x f (state.Creating y run) = ⊥
 FollowsTo scn x f (state.Selecting y run) = (y ≡ x) × IsNext scn f x (next.Select run)
 
 abbrev pub Follows : Asked → Statement → Found → ItemTurn → Type 0
 Follows asked x f (turn.Stepped r) = (r.asked ≡ asked) × FollowsTo asked.settings.scn x f r.state
 Follows asked x f (turn.Waiting r) = ⊥
-Follows asked x f (turn.Over a) = (a.first ≡ asked.first) × ((r : Reply) × IsTold f x r × Says a r asked.settings)
+Follows asked x f (turn.Over a) = (a.first ≡ asked.first) × ((r : Reply) × IsTold asked.settings.scn f x r × Says a r asked.settings)
 
 abbrev pub IsOneRow : Asked → Receipt → Answered → Type 0
 IsOneRow asked r a = (a.first ≡ asked.first) × ((a.reply ≡ reply.Count 1 Affected) × (a.receipts ≡ r ∷ []) × (a.places ≡ []) × (a.after ≡ asked.settings))
@@ -372,9 +440,9 @@ abbrev pub IsChanged : Asked → Statement → Result Receipt BatchFault → Ans
 IsChanged asked x (Ok r) a = IsOneRow asked r a
 IsChanged asked x (Err f) a = (a.first ≡ asked.first) × (Refuses a (batch_refusal (table_named x) f) asked.settings ⊎ (Refuses a refusal.Memory asked.settings × (f ≡ unmade.NoTable)))
 
-abbrev pub IsDropped : Asked → Statement → Result Made DefineFault → Answered → Type 0
-IsDropped asked x (Ok m) a = (a.first ≡ asked.first) × Says a (reply.Defined (word_of x)) asked.settings
-IsDropped asked x (Err f) a = (a.first ≡ asked.first) × (Says a (undefined x f) asked.settings ⊎ Refuses a refusal.Memory asked.settings)
+abbrev pub IsDefined : Asked → Statement → Result Made DefineFault → Answered → Type 0
+IsDefined asked x (Ok m) a = (a.first ≡ asked.first) × Says a (reply.Defined (word_of x)) asked.settings
+IsDefined asked x (Err f) a = (a.first ≡ asked.first) × (Says a (undefined x f) asked.settings ⊎ Refuses a refusal.Memory asked.settings)
 
 abbrev pub IsSelection : Asked → Statement → Result Selected QueryFault → Answered → Type 0
 IsSelection asked x (Ok r) a = ShowsRows a r asked.settings

@@ -1,9 +1,10 @@
 -- What one step of an item does.
-use Rattle.std.specs.Prelude.{ℕ, ◌≡◌, ◌≤◌, ◌++◌, List, [], length, None, Some, Ok}
+use Rattle.std.specs.Prelude.{ℕ, ◌≡◌, ◌≤◌, ◌++◌, true, false, List, [], length, Some, Ok}
 use Rattle.px_lex.specs.Script.{SeenPiece, seen_piece}
 use Rattle.px_ast.specs.declared.statement.Statement.{Statement}
 use Rattle.px_ast.specs.declared.statement.Statement.TheVariants as s
 use Rattle.px_ast.specs.declared.statement.Upsert.{Upsert}
+use Rattle.px_ast.specs.declared.definition.CreateTable.{CreateTable}
 use Rattle.px_tables.specs.declared.found.Found.{Found}
 use Rattle.px_ast.specs.declared.statement.Select.{Select}
 use Rattle.px_planned.specs.Queries.{query_of}
@@ -11,7 +12,9 @@ use Rattle.px_scan.specs.Turns as scan
 use Rattle.px_select.specs.declared.run.SelectRun.{SelectRun}
 use Rattle.px_bind.specs.Requests.{faults_in}
 use Rattle.px_bind.specs.Upserts.{upsert_faults}
+use Rattle.px_create.specs.Tables.{new_table, table_faults}
 use Rattle.px_trail.specs.declared.entry.Act.{Act}
+use Rattle.px_calls.specs.declared.definition.Definition.TheVariants as d
 use Rattle.px_calls.specs.Known.{Known, Ran, outline}
 use Rattle.px_batch.specs.declared.run.BatchRun.{BatchRun}
 use Rattle.px_batch.specs.Turns as batch
@@ -26,7 +29,7 @@ use Rattle.px_item.specs.declared.item.ItemState.{ItemState}
 use Rattle.px_item.specs.declared.item.ItemState.TheVariants as state
 use Rattle.px_item.specs.declared.item.ItemTurn.{ItemTurn}
 use Rattle.px_item.specs.declared.item.ItemTurn.TheVariants as turn
-use Rattle.px_item.specs.Right.{HasRoomForOne, IsAskedOf, MayRun, IsAtOnce, IsBoundTo, IsRead, IsRight, drop_of, one_change, plain, table_named}
+use Rattle.px_item.specs.Right.{HasRoomForOne, IsAskedOf, MayRun, IsAtOnce, IsBoundTo, IsCreation, IsRead, IsRight, creates_table, drop_of, is_none_of, one_change, plain, table_named}
 
 -- the statement was read, and may change something
 pub record IsAsking (asked : Asked) (x : Statement) : Type 0 where
@@ -55,6 +58,16 @@ pub record IsDropping (sound : Type 0) (asked : Asked) (x : Statement) (run : De
   pub fits : define.Fits sound run.definition run.state k
   pub going : define.IsGoing run.state
 
+-- a CREATE TABLE is under way
+pub record IsCreating (sound : Type 0) (x : Statement) (run : DefineRun) (k : Known) : Type 0 where
+  pub create : CreateTable
+  pub is : x ≡ s.CreateTable create
+  pub whole : is_none_of create.splits ≡ true
+  pub right : table_faults create ≡ []
+  pub definition : run.definition ≡ d.Table (new_table create)
+  pub fits : define.Fits sound run.definition run.state k
+  pub going : define.IsGoing run.state
+
 -- a SELECT is under way
 pub record IsSelecting (sound : Type 0) (before : ℕ) (asked : Asked) (x : Statement) (run : SelectRun) (k : Known) : Type 0 where
   pub select : Select
@@ -72,6 +85,7 @@ abbrev pub FitsState : Type 0 → ℕ → Asked → ItemState → Known → Type
 FitsState sound before asked (state.Finding x) k = IsAsking asked x
 FitsState sound before asked (state.Changing x run room) k = IsAsking asked x × IsChanging before asked x run k × HasRoomForOne room
 FitsState sound before asked (state.Dropping x run) k = IsAsking asked x × IsDropping sound asked x run k
+FitsState sound before asked (state.Creating x run) k = IsAsking asked x × IsCreating sound x run k
 FitsState sound before asked (state.Selecting x run) k = IsAsking asked x × IsSelecting sound before asked x run k
 
 -- The state is as the trail tells. Others' entries keep this
@@ -85,6 +99,7 @@ abbrev pub begun : ItemState → List Act
 begun (state.Finding x) = []
 begun (state.Changing x run room) = batch.begun run.table run.changes run.state
 begun (state.Dropping x run) = []
+begun (state.Creating x run) = []
 begun (state.Selecting x run) = scan.opened run.scan.state
 
 -- it goes on, or is over and rightly answered, where `own` is what the seat began, ended, opened, closed and defined for it so far
@@ -99,13 +114,21 @@ pub record Turns (sound : Type 0) (before : ℕ) (asked : Asked) (old : ItemStat
   pub ran : Ran k k' acts
   pub told : Told sound before asked (begun old ++ outline acts) k' t
 
+-- the state before the first step: a CREATE TABLE is bound by then
+abbrev pub IsStart : Statement → ItemState → Type 0
+IsStart x (state.Finding y) = (y ≡ x) × (creates_table x ≡ false)
+IsStart x (state.Changing y run room) = ⊥
+IsStart x (state.Dropping y run) = ⊥
+IsStart x (state.Creating y run) = (y ≡ x) × ((t : CreateTable) × (x ≡ s.CreateTable t) × (is_none_of t.splits ≡ true) × IsCreation t (Ok run))
+IsStart x (state.Selecting y run) = ⊥
+
 -- an item that has made no step
 pub record IsBegun (st : Settings) (p : SeenPiece) (r : ItemRun) : Type 0 where
   pub piece : seen_piece r.asked.piece ≡ p
   pub settings : r.asked.settings ≡ st
   pub statement : Statement
   pub asks : IsAsking r.asked statement
-  pub state : r.state ≡ state.Finding statement
+  pub state : IsStart statement r.state
 
 abbrev pub Begins : Settings → SeenPiece → ℕ → Begun → Type 0
 Begins st p first (begins.Told a) = IsAtOnce st p a × (a.first ≡ first)

@@ -4,17 +4,19 @@ ghost use Rattle.px_calls.specs.Requires.{IsScn};
 ghost use Rattle.px_item.specs.Right as spec;
 
 use crate::refusing::bind_refusal;
-use px_ast::Statement;
+use px_ast::{CreateTable, Statement};
 use px_batch::BatchRun;
 use px_bind::{Query, Request, bind};
 use px_calls::{Definition, Receipt};
+use px_create::tables::bind_table;
 use px_defining::DefineRun;
 use px_fitting::fits;
+use px_plan::{PlanFault, choose, explain};
 use px_planned::Planned;
 use px_reply::{Defined, Refusal, Reply};
 use px_select::SelectRun;
 use px_tables::{Found, Table};
-use px_values::{Change, Changes, Items, TableId};
+use px_values::{Change, Changes, Items, Line, TableId};
 use std::alloc::{AllocError, Global};
 
 /// The most columns that have a place of one byte.
@@ -27,6 +29,37 @@ pub(crate) enum Next {
     Drop(DefineRun),
     Select(SelectRun),
     Tell(Reply),
+}
+
+/// The definition that a CREATE TABLE asks for.
+fn created(alloc: Global, create: &CreateTable) -> Result<DefineRun, Refusal>
+    requires { spec.is_none_of create.now.splits ≡ true }
+    ensures { spec.IsCreation create.now result }
+{
+    match bind_table(alloc, create) {
+        Ok(table) => {
+            if table.key.as_slice().is_empty() {
+                drop(table);
+                return Err(Refusal::Memory);
+            }
+            Ok(DefineRun::new(Definition::Table(table)))
+        }
+        Err(fault) => Err(bind_refusal(fault)),
+    }
+}
+
+/// The definition that a statement asks for, where that is a CREATE TABLE, which asks for no table that stands. It makes no call.
+pub(crate) fn creation_of(
+    alloc: Global,
+    statement: &Statement,
+) -> Option<Result<DefineRun, Refusal>>
+    requires { spec.is_built statement.now ≡ true }
+    ensures { spec.IsCreationIf statement.now result }
+{
+    match statement {
+        Statement::CreateTable(create) => Some(created(alloc, create)),
+        _ => None,
+    }
 }
 
 /// A list of one change.
@@ -145,6 +178,59 @@ fn selected(alloc: Global, statement: &Statement, found: &Found, scn: Option<u64
     }
 }
 
+/// The point of an EXPLAIN: as of the SCN, or the current one.
+fn point_of(scn: Option<u64>) -> Option<u64>
+    requires { IsScn scn }
+    ensures { result ≡ spec.point_of scn }
+{
+    match scn {
+        Some(number) => Some(number - 1),
+        None => None,
+    }
+}
+
+/// What is told of the plan of a query.
+fn explanation(alloc: Global, query: Query, found: &Found, point: Option<u64>) -> Reply
+    ensures { spec.IsExplanation found.now point query result }
+{
+    match choose(alloc, query, found, point) {
+        Ok(plan) => {
+            let mut lines = Line::new(alloc);
+            let came = explain(&plan, &mut lines);
+            drop(plan);
+            match came {
+                Ok(()) => Reply::Explained(lines),
+                Err(_) => {
+                    drop(lines);
+                    Reply::Refused(Refusal::Memory)
+                }
+            }
+        }
+        Err(PlanFault::IndexJoin) => Reply::Refused(Refusal::IndexJoin),
+        Err(PlanFault::Memory) => Reply::Refused(Refusal::Memory),
+    }
+}
+
+fn explained(alloc: Global, statement: &Statement, found: &Found, scn: Option<u64>) -> Next
+    requires explains { spec.is_explain statement.now ≡ true }
+    requires places { length found.now.table.columns ≤ 255 }
+    ensures { spec.IsNext scn found.now statement.now result }
+{
+    if !is_scn(scn) {
+        return Next::Tell(Reply::Refused(Refusal::Memory));
+    }
+    match bind(alloc, statement, Some(found)) {
+        Ok(Request::Explain(query)) => {
+            Next::Tell(explanation(alloc, query, found, point_of(scn)))
+        }
+        Ok(other) => {
+            drop(other);
+            Next::Tell(Reply::Refused(Refusal::Memory))
+        }
+        Err(fault) => Next::Tell(Reply::Refused(bind_refusal(fault))),
+    }
+}
+
 /// What comes of a statement whose table was found. It makes no call.
 pub(crate) fn next_of(alloc: Global, statement: &Statement, found: &Found, scn: Option<u64>) -> Next
     ensures { spec.IsNext scn found.now statement.now result }
@@ -159,6 +245,7 @@ pub(crate) fn next_of(alloc: Global, statement: &Statement, found: &Found, scn: 
         }
         Statement::DropIndex(_) => index_dropped(alloc, statement, found),
         Statement::Select(_) => selected(alloc, statement, found, scn),
+        Statement::Explain(_) => explained(alloc, statement, found, scn),
         _ => Next::Tell(Reply::Refused(Refusal::Memory)),
     }
 }

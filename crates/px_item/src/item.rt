@@ -1,5 +1,5 @@
 // One item on its way: each step makes one call.
-ghost use Rattle.std.specs.Prelude.{◌≡◌, ℕ};
+ghost use Rattle.std.specs.Prelude.{◌≡◌, ℕ, true, Ok};
 ghost use Rattle.px_lex.specs.Script.{seen_piece};
 ghost use Rattle.px_item.specs.Right as spec;
 ghost use Rattle.px_item.specs.Turns.{Begins, Fits, Turns};
@@ -29,6 +29,8 @@ pub enum ItemState {
     Changing(Statement, BatchRun, Vec<Receipt>),
     /// What it drops is being dropped.
     Dropping(Statement, DefineRun),
+    /// Its table is being made.
+    Creating(Statement, DefineRun),
     /// It is being selected.
     Selecting(Statement, SelectRun),
 }
@@ -59,10 +61,30 @@ pub fn begin<'a>(alloc: Global, piece: Piece<'a>, settings: Settings, first: u64
 {
     match read_piece(alloc, piece, settings, first) {
         Read::Told(answered) => Begun::Told(answered),
-        Read::Asks(asked, statement) => Begun::Under(ItemRun {
+        Read::Asks(asked, statement) => start(alloc, asked, statement),
+    }
+}
+
+/// Begins a statement that is built. A CREATE TABLE is bound, and the table of any other is to be found. It makes no call.
+fn start<'a>(alloc: Global, asked: Asked<'a>, statement: Statement) -> Begun<'a>
+    requires read { spec.IsRead (seen_piece asked.piece) (Ok statement) }
+    requires free { spec.MayRun asked.settings statement }
+    requires built { spec.is_built statement ≡ true }
+    ensures { Begins asked.entry.settings (seen_piece asked.entry.piece) asked.entry.first result }
+{
+    match binding::creation_of(alloc, &statement) {
+        None => Begun::Under(ItemRun {
             asked,
             state: ItemState::Finding(statement),
         }),
+        Some(Ok(run)) => Begun::Under(ItemRun {
+            asked,
+            state: ItemState::Creating(statement, run),
+        }),
+        Some(Err(refusal)) => {
+            drop(statement);
+            Begun::Told(over(alloc, asked, Reply::Refused(refusal)))
+        }
     }
 }
 
@@ -205,24 +227,25 @@ fn change<'a, S: Steps>(
     }
 }
 
-/// The word of what was dropped.
+/// The word of what was made or dropped.
 fn word_of(statement: &Statement) -> Defined
     ensures { result ≡ spec.word_of statement.now }
 {
     match statement {
+        Statement::CreateTable(_) => Defined::TableCreated,
         Statement::DropIndex(_) => Defined::IndexDropped,
         _ => Defined::TableDropped,
     }
 }
 
 /// What a definition came to.
-fn dropped(
+fn defined(
     alloc: Global,
     asked: Asked<'_>,
     statement: Statement,
     came: Result<Made, DefineFault>,
 ) -> Answered
-    ensures { spec.IsDropped asked.entry statement came result }
+    ensures { spec.IsDefined asked.entry statement came result }
 {
     let reply = match came {
         Ok(_made) => Reply::Defined(word_of(&statement)),
@@ -232,7 +255,7 @@ fn dropped(
     over(alloc, asked, reply)
 }
 
-/// Goes on with a definition.
+/// Goes on with a DROP.
 fn let_drop<'a, S: Steps>(
     alloc: Global,
     s: &mut S,
@@ -254,7 +277,34 @@ fn let_drop<'a, S: Steps>(
         }),
         DefineTurn::Over(result) => {
             drop(run);
-            ItemTurn::Over(dropped(alloc, asked, statement, result))
+            ItemTurn::Over(defined(alloc, asked, statement, result))
+        }
+    }
+}
+
+/// Goes on with a CREATE TABLE.
+fn create<'a, S: Steps>(
+    alloc: Global,
+    s: &mut S,
+    asked: Asked<'a>,
+    statement: Statement,
+    mut run: DefineRun,
+) -> ItemTurn<'a>
+    requires { (before : ℕ) × Fits S.sound before asked (ItemState.Creating statement run) (S.known s.old) }
+    ensures { (before : ℕ) → Fits S.sound before asked.entry (ItemState.Creating statement run) (S.known s.old) → Turns S.sound before asked.entry (ItemState.Creating statement run) (S.known s.old) (S.known s.new) result }
+{
+    match run.step(s) {
+        DefineTurn::Stepped => ItemTurn::Stepped(ItemRun {
+            asked,
+            state: ItemState::Creating(statement, run),
+        }),
+        DefineTurn::Waiting { .. } => ItemTurn::Waiting(ItemRun {
+            asked,
+            state: ItemState::Creating(statement, run),
+        }),
+        DefineTurn::Over(result) => {
+            drop(run);
+            ItemTurn::Over(defined(alloc, asked, statement, result))
         }
     }
 }
@@ -345,6 +395,7 @@ impl<'a> ItemRun<'a> {
                 change(alloc, s, asked, statement, run, receipts)
             }
             ItemState::Dropping(statement, run) => let_drop(alloc, s, asked, statement, run),
+            ItemState::Creating(statement, run) => create(alloc, s, asked, statement, run),
             ItemState::Selecting(statement, run) => select(alloc, s, asked, statement, run),
         }
     }

@@ -1,8 +1,9 @@
 //! What a session answers to one statement or session command, a step at a time, over any steps.
 //!
-//! `begin` reads the piece and makes no call: a piece that isn't read, a form that isn't built, or a setting is answered at once. Any other
-//! is a run, whose steps make one call each: its table is found, the statement bound to it, and its batch or definition made. What
-//! it comes to is right by what the seat has then seen (specs/Right), whatever others did between its steps.
+//! `begin` reads the piece and makes no call: a piece that isn't read, a form that isn't built, a table that can't be made, or a
+//! setting is answered at once. Any other is a run, whose steps make one call each: its table is found, unless it makes one, the
+//! statement bound to it, and its batch or definition made. What it comes to is right by what the seat has then seen (specs/Right),
+//! whatever others did between its steps.
 #![tactic(auto)]
 
 mod answered;

@@ -26,13 +26,15 @@ pub(crate) enum Read<'a> {
 fn is_built(statement: &Statement) -> bool
     ensures { result ≡ spec.is_built statement.now }
 {
-    matches!(
-        statement,
+    match statement {
+        Statement::CreateTable(create) => create.splits.as_slice().is_empty(),
         Statement::Upsert(_)
-            | Statement::DropTable(_)
-            | Statement::DropIndex(_)
-            | Statement::Select(_)
-    )
+        | Statement::DropTable(_)
+        | Statement::DropIndex(_)
+        | Statement::Select(_)
+        | Statement::Explain(_) => true,
+        _ => false,
+    }
 }
 
 /// Whether the statement changes something.

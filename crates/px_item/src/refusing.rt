@@ -104,6 +104,7 @@ pub(crate) fn table_absent(alloc: Global, statement: &Statement) -> Reply
     ensures { (result ≡ spec.table_absent statement.now) ⊎ (result ≡ Refused Memory) }
 {
     match statement {
+        Statement::CreateTable(_) => Reply::Refused(Refusal::Memory),
         Statement::DropTable(dropped) => {
             if dropped.if_exists {
                 Reply::Defined(Defined::TableAbsent)
@@ -125,6 +126,32 @@ fn index_absent(alloc: Global, statement: &Statement) -> Reply
                 Reply::Defined(Defined::IndexAbsent)
             } else {
                 no_index(alloc, &dropped.name)
+            }
+        }
+        _ => Reply::Refused(Refusal::Memory),
+    }
+}
+
+/// A table or an index has the name.
+fn name_exists(alloc: Global, name: &Name) -> Reply
+    ensures { (result ≡ Refused (Refusal.NameExists name.now)) ⊎ (result ≡ Refused Memory) }
+{
+    match Name::from_str(alloc, name.as_str()) {
+        Ok(name) => Reply::Refused(Refusal::NameExists(name)),
+        Err(_) => Reply::Refused(Refusal::Memory),
+    }
+}
+
+/// The name of what the statement makes stands.
+fn name_taken(alloc: Global, statement: &Statement) -> Reply
+    ensures { (result ≡ spec.name_taken statement.now) ⊎ (result ≡ Refused Memory) }
+{
+    match statement {
+        Statement::CreateTable(create) => {
+            if create.if_not_exists {
+                Reply::Defined(Defined::TableKept)
+            } else {
+                name_exists(alloc, &create.name)
             }
         }
         _ => Reply::Refused(Refusal::Memory),
@@ -162,6 +189,7 @@ pub(crate) fn undefined(alloc: Global, statement: &Statement, fault: DefineFault
     ensures { (result ≡ spec.undefined statement.now fault) ⊎ (result ≡ Refused Memory) }
 {
     match fault {
+        DefineFault::NameExists => name_taken(alloc, statement),
         DefineFault::NoTable => table_absent(alloc, statement),
         DefineFault::NoIndex => index_absent(alloc, statement),
         DefineFault::Limit { which, count: _ } => Reply::Refused(Refusal::Limit(which)),
@@ -169,7 +197,7 @@ pub(crate) fn undefined(alloc: Global, statement: &Statement, fault: DefineFault
         DefineFault::WriteFault => Reply::Refused(Refusal::WriteFault),
         DefineFault::Damaged { file, place } => Reply::Refused(Refusal::Damaged { file, place }),
         DefineFault::Closed { call } => Reply::Refused(Refusal::Closed { call }),
-        DefineFault::NameExists | DefineFault::Memory => Reply::Refused(Refusal::Memory),
+        DefineFault::Memory => Reply::Refused(Refusal::Memory),
     }
 }
 

@@ -1,5 +1,5 @@
 -- Entries that come later change nothing of what was told.
-use Rattle.std.proofs.Common.{ℕ, ◌≡◌, ◌≤◌, ◌+◌, Bool, false, List, [], ◌∷◌, ◌++◌, length, take, drop, refl, sym, ◌∙◌, ap, subst, arith, length-append}
+use Rattle.std.proofs.Common.{ℕ, ◌≡◌, ◌≤◌, Bool, false, List, [], ◌∷◌, ◌++◌, length, take, drop, refl, sym, ◌∙◌, ap, subst, arith, length-append}
 use Rattle.std.proofs.lemmas.List.{append-nil, drop-append-le, take-append-le}
 use Rattle.std.proofs.Math.Seq.{drop-length}
 use Rattle.px_lex.specs.Script.{SeenPiece}
@@ -10,7 +10,7 @@ use Rattle.px_calls.specs.Known.{Known, Passes, Ran, outline}
 use Rattle.px_calls.proofs.Runs.{acts_by-append, outline-append}
 use Rattle.px_reply.specs.declared.transcript.Item.{Item}
 use Rattle.px_item.specs.declared.answered.Settings.{Settings}
-use Rattle.px_item.specs.Right.{IsRight, after}
+use Rattle.px_item.specs.Right.{IsRight}
 use Rattle.px_session.specs.Replies.{AreReplied, IsReplied, Standing, answer_of, own_since}
 
 -- 1. What a seat did since a place

@@ -20,20 +20,19 @@ use Rattle.px_reply.specs.declared.transcript.Transcript.{Transcript}
 use Rattle.px_item.specs.declared.answered.Answered.{Answered}
 use Rattle.px_item.specs.declared.answered.Settings.{Settings}
 use Rattle.px_item.specs.declared.item.ItemRun.{ItemRun}
-use Rattle.px_item.specs.declared.item.ItemState.{ItemState}
-use Rattle.px_item.specs.declared.item.ItemState.TheVariants as state
 use Rattle.px_item.specs.declared.item.ItemTurn.TheVariants as turn
 use Rattle.px_item.specs.Right.{IsAtOnce, IsRight, after, plain}
 use Rattle.px_item.specs.Right as right
-use Rattle.px_item.specs.Turns.{Fits, IsAsking, IsBegun, Turns, begun}
+use Rattle.px_item.specs.Turns.{Fits, IsBegun, Turns, begun}
+use Rattle.px_item.proofs.Starting.{starts_fitting}
 use Rattle.px_item.proofs.Going.{fits_passes}
 use Rattle.px_session.specs.declared.run.Doing.{Doing}
 use Rattle.px_session.specs.declared.run.Doing.TheVariants.{Idle, Under, Taken}
 use Rattle.px_session.specs.declared.run.SessionRun.{SessionRun}
 use Rattle.px_session.specs.declared.state.Ending.{Ending}
-use Rattle.px_session.specs.declared.state.Ending.TheVariants.{Whole, Fatal, Memory}
+use Rattle.px_session.specs.declared.state.Ending.TheVariants.{Whole, Memory}
 use Rattle.px_session.specs.declared.state.SessionState.{SessionState}
-use Rattle.px_session.specs.Replies.{AreReplied, EndsAs, IsAnswered, IsReplied, Standing, answer_of, at_first, has_fatal, is_fatal, own_since, place_from, state_after}
+use Rattle.px_session.specs.Replies.{AreReplied, EndsAs, IsAnswered, IsReplied, Standing, at_first, has_fatal, is_fatal, own_since, place_from, state_after}
 use Rattle.px_session.specs.Live.{EndsSoFar, HasRoom, IdleAtEnd, IsDoing, IsIdle, IsLive, IsPushed, IsSame, IsStarted, IsUnder, StartsFrom, StepsOn, UnderWay, fatal_ending, item_of, seen_of, settings_of, standing, with_doing}
 use Rattle.px_session.proofs.Fronts.{Onward, longer, of_passes, of_ran, own_at_end, own_on, own_passes, same_known, told_on, told_snoc}
 
@@ -259,9 +258,7 @@ module _ (sound : Type 0) (began : SessionState) where
   -- 7. The next piece
 
   fits_first : (k : Known) (before : ℕ) (st : Settings) (p : Piece) (r : ItemRun) → before ≤ r.asked.first → r.asked.first ≤ length k.seen → IsBegun st (seen_piece p) r → Fits sound before r.asked r.state k × (begun r.state ≡ [])
-  fits_first k before st p r low within b =
-      let F : ItemState → Type 0 = λ x. Fits sound before r.asked x k × (begun x ≡ []) in
-      subst F (sym b.state) (record { begins = low; within = within; state = b.asks }, refl)
+  fits_first k before st p r low within b = starts_fitting sound before st (seen_piece p) r k low within b
 
   pub starts : (k : Known) (run run' : SessionRun) (st : Settings) (p : Piece) (first : ℕ) → first ≡ length k.seen → IsLive sound k began (with_doing run (Idle st)) → run.ending ≡ None → length run.items.items < vec_capacity run.items
       → slice_get run.pieces.items run.next ≡ Some p → UnderWay run st p first run' → IsLive sound k began run'

@@ -19,4 +19,4 @@ returns-in-Waiting g c = λ before f.
 pub returns-in-Over : goal.returns-in-Over
 returns-in-Over g c = λ before f.
     let a = c.args in
-    drop_is_over g.S.Steps.sound before a.asked a.statement a.run c.step.new.self _ _ _ c.dropped.result f c.in-Over.ensures.turns c.dropped.ensures
+    drop_is_over g.S.Steps.sound before a.asked a.statement a.run c.step.new.self _ _ _ c.defined.result f c.in-Over.ensures.turns c.defined.ensures
