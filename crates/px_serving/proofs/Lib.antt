@@ -1,0 +1,3 @@
+pub mod Flat
+pub mod Ran
+pub mod Serving

@@ -1,0 +1,5 @@
+pub mod inner
+pub mod Answers
+pub mod Run
+pub mod Status
+pub mod Words

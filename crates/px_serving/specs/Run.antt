@@ -1,0 +1,127 @@
+-- What a run of the program leaves.
+use Rattle.std.specs.Prelude.{◌≡◌, ◌≢◌, ◌<◌, ◌≤◌, ◌⊎◌, ℕ, Bool, true, false, List, [], length, take, drop, IsTrue, Option, None, Some}
+use Rattle.px_outside.specs.Disk.{Image}
+use Rattle.px_outside.specs.Faults.{FaultsRose}
+use Rattle.px_outside.specs.OnDisk.{IsLeft, Rose}
+use Rattle.px_outside.specs.declared.disk.Disk.{Ghosts as DiskGhosts}
+use Rattle.px_outside.specs.declared.sink.Sink.{Ghosts as SinkGhosts}
+use Rattle.px_outside.specs.declared.source.Source.{Ghosts as SourceGhosts}
+use Rattle.px_trail.specs.declared.entry.Entry.{Entry}
+use Rattle.px_trail.specs.Legal.{IsLegal}
+use Rattle.px_trail.specs.Trail.{Base}
+use Rattle.px_calls.specs.Known.{Known}
+use Rattle.px_reply.specs.Printed.{printed}
+use Rattle.px_reply.specs.declared.transcript.Transcript.{Transcript}
+use Rattle.px_recovery.specs.Base.{IsSound, IsSoundFolder, base_of}
+use Rattle.px_recovery.specs.Folder.{FolderData, IsEmptyFrom, StandsFor}
+use Rattle.px_recovery.specs.Stands.{Recovers}
+use Rattle.px_folder.specs.Damage.{IsFirstDamaged}
+use Rattle.px_rounds.specs.Written.{IsWritten}
+use Rattle.px_server.specs.Kept.{HasFailed, has_told}
+use Rattle.px_server.specs.Started.{StartsSound}
+use Rattle.px_serving.specs.Answers.{AnswersScript}
+use Rattle.px_serving.specs.Status.{causes_of, is_memory_status, items_of, status_of}
+use Rattle.px_serving.specs.Words.{folder_in}
+use Rattle.px_serving.specs.declared.outcome.Outcome.{Outcome}
+use Rattle.px_serving.specs.declared.status.Status.{Status}
+use Rattle.px_serving.specs.declared.status.Status.TheVariants.{Done, Refused, BadWords, Device, Memory, Damaged, SourceFault, SinkFault}
+
+-- ---- what a run is given and leaves
+
+pub record RunGiven (D I O : Type 0) : Type 0 where
+  pub disk : D
+  pub input : I
+  pub out : O
+  pub words : List (List ℕ)
+
+pub record RunLeft (D I O : Type 0) : Type 0 where
+  pub outcome : Outcome D
+  pub input : I
+  pub out : O
+
+abbrev pub run_given : {D I O : Type 0} → D → I → O → List (List ℕ) → RunGiven D I O
+run_given disk input out words = record { disk = disk; input = input; out = out; words = words }
+
+abbrev pub run_left : {D I O : Type 0} → Outcome D → I → O → RunLeft D I O
+run_left outcome input out = record { outcome = outcome; input = input; out = out }
+
+-- ---- the input
+
+-- the greatest length of a script that is read, and one byte more
+abbrev pub most_read : ℕ
+most_read = 67108865
+
+-- the input was read to its end, or to one byte more than the greatest script
+abbrev pub ReadsAll : {I : Type 0} → SourceGhosts I → I → I → Type 0
+ReadsAll s input input' = IsTrue s.tells → s.remaining input' ≡ drop most_read (s.remaining input)
+
+-- some bytes at its front were taken, and no more than that
+abbrev pub ReadsSome : {I : Type 0} → SourceGhosts I → I → I → Type 0
+ReadsSome s input input' = IsTrue s.tells → (n : ℕ) × (n ≤ most_read) × (s.remaining input' ≡ drop n (s.remaining input))
+
+-- ---- the trail
+
+-- the folder that was there, as it was read, and what the trail's first entry is told over
+pub record IsOrigin {D : Type 0} (d : DiskGhosts D) (disk : D) (folder : FolderData) : Type 0 where
+  pub stands : IsTrue d.tells → IsEmptyFrom folder.standing.next (d.seen disk) → StandsFor (d.seen disk) folder
+  pub sound : IsTrue d.tells → IsSound (d.seen disk) → StandsFor (d.seen disk) folder × IsSoundFolder folder
+
+-- no place of a file that is read behind the opening is damaged: none is read
+abbrev pub undamaged : ℕ → ℕ → Bool
+undamaged file place = false
+
+-- what is known at the end, whichever seat acts
+abbrev pub known_over : Base → ℕ → List Entry → Known
+known_over base seat es = record { seat = seat; base = base; damaged = undamaged; alone = true; seen = es }
+
+-- ---- a run that opened no folder
+
+-- why no folder was opened, on a disk from before to after
+abbrev pub StopsDisk : {D : Type 0} → DiskGhosts D → D → D → Status → Type 0
+StopsDisk d disk disk' (Device call) = Rose d disk disk' × (call ≡ d.first_fault disk')
+StopsDisk d disk disk' Memory = Unit {0}
+StopsDisk d disk disk' (Damaged file place) = IsTrue d.tells → IsFirstDamaged (d.seen disk) file place ⊎ (place ≡ 0)
+StopsDisk d disk disk' status = ⊥
+
+-- why nothing was run, and what became of disk and input
+abbrev pub Stops : {D I : Type 0} → DiskGhosts D → SourceGhosts I → D → D → I → I → (words : List (List ℕ)) → Status → Type 0
+Stops d s disk disk' input input' words BadWords = (folder_in words ≡ None) × (disk' ≡ disk) × (input' ≡ input)
+Stops d s disk disk' input input' words SourceFault = (folder_in words ≢ None) × (disk' ≡ disk) × FaultsRose (s.faults input) (s.faults input') × ReadsSome s input input'
+Stops d s disk disk' input input' words Memory = (folder_in words ≢ None) × StopsDisk d disk disk' Memory × ReadsSome s input input'
+Stops d s disk disk' input input' words status = (folder_in words ≢ None) × StopsDisk d disk disk' status × ReadsAll s input input'
+
+-- Nothing was run: nothing is told but the status, no byte is written, and each image that a stop may leave recovers
+pub record IsUnrun {D I O : Type 0} (d : DiskGhosts D) (s : SourceGhosts I) (given : RunGiven D I O) (left : RunLeft D I O) : Type 0 where
+  pub cause : Stops d s given.disk left.outcome.disk given.input left.input given.words left.outcome.status
+  pub no_entries : left.outcome.trail.entries ≡ []
+  pub no_late : left.outcome.late ≡ None
+  pub no_replies : left.outcome.transcripts ≡ []
+  pub no_bytes : left.out ≡ given.out
+  pub memory_is : left.outcome.memory ≡ is_memory_status left.outcome.status
+  pub stops_recover : (starts : StartsSound d given.disk) → (moment : ℕ) (image : Image) → IsLeft d left.outcome.disk moment image → Recovers (base_of starts.sound.folder) [] None moment image
+
+-- ---- a run
+
+-- The words name a folder, the input was read, and its script was run on what the folder stood for
+pub record IsRun {D I O : Type 0} (d : DiskGhosts D) (s : SourceGhosts I) (k : SinkGhosts O) (given : RunGiven D I O) (left : RunLeft D I O) : Type 0 where
+  pub words_name_a_folder : folder_in given.words ≢ None
+  pub script : List ℕ
+  pub script_is_the_input : IsTrue s.tells → script ≡ take most_read (s.remaining given.input)
+  pub input_is_read : ReadsAll s given.input left.input
+  -- what was there, and the trail of what was done to it
+  pub folder : FolderData
+  pub origin_is_the_folder : IsOrigin d given.disk folder
+  pub trail_is_legal : IsLegal (base_of folder) left.outcome.trail.entries
+  -- the sessions are answered, round by round; what is told of rows is told where the folder was sound
+  pub seat : ℕ
+  pub sink_failed : Bool
+  pub items_are_replied : AnswersScript (IsSoundFolder folder) (known_over (base_of folder) seat left.outcome.trail.entries) 0 script left.outcome.transcripts sink_failed left.outcome.memory
+  pub bytes_are_printed : IsWritten k given.out left.out (printed left.outcome.transcripts) sink_failed left.outcome.memory
+  -- each image that a stop may leave at a moment of the run stands for what was there then, or for this and the one entry under way
+  pub stops_recover : StartsSound d given.disk → (moment : ℕ) (image : Image) → IsLeft d left.outcome.disk moment image → Recovers (base_of folder) left.outcome.trail.entries left.outcome.late moment image
+  pub status_is_caused : left.outcome.status ≡ status_of sink_failed (d.first_fault left.outcome.disk) left.outcome.memory (causes_of (items_of left.outcome.transcripts))
+  pub faults_are_theirs : has_told left.outcome.trail.entries ≡ true → HasFailed d left.outcome.disk
+
+-- where a call of the disk failed, the status tells the first that did, or that the sink failed too
+abbrev pub FaultsAreTold : {D : Type 0} → DiskGhosts D → D → D → Status → Type 0
+FaultsAreTold d disk disk' status = d.faults disk < d.faults disk' → (status ≡ Device (d.first_fault disk')) ⊎ (status ≡ SinkFault)

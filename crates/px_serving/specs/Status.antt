@@ -1,0 +1,107 @@
+-- The status of a run, by its causes.
+use Rattle.std.specs.Prelude.{ℕ, zero, suc, Bool, true, false, ◌||◌, if◌then◌else◌, List, [], ◌∷◌, Option, None, Some}
+use Rattle.std.specs.List.{flat_map, list_any}
+use Rattle.px_reply.specs.Refusals.{cause_of}
+use Rattle.px_reply.specs.declared.refusal.Cause.{Cause}
+use Rattle.px_reply.specs.declared.refusal.Cause.TheVariants.{Statement, Device as OfDevice, Closing, Memory as NoMemory}
+use Rattle.px_reply.specs.declared.refusal.Refusal.{Refusal}
+use Rattle.px_reply.specs.declared.refusal.Refusal.TheVariants.{Damaged as DamagedRefusal}
+use Rattle.px_reply.specs.declared.reply.Reply.{Reply}
+use Rattle.px_reply.specs.declared.reply.Reply.TheVariants.{Refused as RefusedReply}
+use Rattle.px_reply.specs.declared.transcript.Item.{Item}
+use Rattle.px_reply.specs.declared.transcript.Transcript.{Transcript}
+use Rattle.px_serving.specs.declared.causes.Causes.{Causes}
+use Rattle.px_serving.specs.declared.causes.Place.{Place}
+use Rattle.px_serving.specs.declared.status.Status.{Status}
+use Rattle.px_serving.specs.declared.status.Status.TheVariants.{Done, Refused, BadWords, Device, Memory, Damaged, SourceFault, SinkFault}
+
+-- ---- what stands among replies
+
+abbrev pub is_memory : Cause → Bool
+is_memory Statement = false
+is_memory OfDevice = false
+is_memory Closing = false
+is_memory NoMemory = true
+
+abbrev pub is_statement : Cause → Bool
+is_statement Statement = true
+is_statement OfDevice = false
+is_statement Closing = false
+is_statement NoMemory = false
+
+-- the statement was refused as out of memory
+abbrev pub lacked_memory : Reply → Bool
+lacked_memory (RefusedReply refusal) = is_memory (cause_of refusal)
+lacked_memory reply = false
+
+-- the statement was refused by itself, by definitions or rows: a reply with E
+abbrev pub was_refused : Reply → Bool
+was_refused (RefusedReply refusal) = is_statement (cause_of refusal)
+was_refused reply = false
+
+abbrev pub place_of : Refusal → Option Place
+place_of (DamagedRefusal file place) = Some (record { file = file; place = place })
+place_of refusal = None
+
+-- the place that the statement found damaged
+abbrev pub damage_of : Reply → Option Place
+damage_of (RefusedReply refusal) = place_of refusal
+damage_of reply = None
+
+abbrev pub or_else : Option Place → Option Place → Option Place
+or_else None other = other
+or_else (Some p) other = Some p
+
+abbrev pub first_damage : List Item → Option Place
+first_damage [] = None
+first_damage (i ∷ items) = or_else (damage_of i.reply) (first_damage items)
+
+-- the items of all transcripts, in order
+abbrev pub items_of : List Transcript → List Item
+items_of ts = flat_map (λ t. t.items) ts
+
+abbrev pub some_lacked : List Item → Bool
+some_lacked items = list_any (λ i. lacked_memory i.reply) items
+
+abbrev pub some_refused : List Item → Bool
+some_refused items = list_any (λ i. was_refused i.reply) items
+
+-- the first place that was found damaged, and whether statements lacked memory, or were refused
+abbrev pub causes_of : List Item → Causes
+causes_of items = record { damaged = first_damage items; lacked = some_lacked items; refused = some_refused items }
+
+-- ---- the status
+
+-- without a fault of the disk or the sink, and without a damaged place
+abbrev pub quiet_status : (lacked refused : Bool) → Status
+quiet_status lacked refused = if lacked then Memory else (if refused then Refused else Done)
+
+abbrev pub whole_status : Option Place → (lacked refused : Bool) → Status
+whole_status None lacked refused = quiet_status lacked refused
+whole_status (Some p) lacked refused = Damaged p.file p.place
+
+-- without a fault of the sink, where this call of the disk was the first that failed, and 0 stands for none
+abbrev pub unsunk_status : (failed : ℕ) → (memory : Bool) → Causes → Status
+unsunk_status zero memory c = whole_status c.damaged (memory || c.lacked) c.refused
+unsunk_status (suc n) memory c = Device (suc n)
+
+-- The status by its causes: the sink failed; a call of the disk failed, and this was the first; a place is damaged; memory was lacked; a statement
+-- was refused. Of the causes that stand, the first here names it.
+abbrev pub status_of : (sink_failed : Bool) → (failed : ℕ) → (memory : Bool) → Causes → Status
+status_of true failed memory c = SinkFault
+status_of false failed memory c = unsunk_status failed memory c
+
+-- the exit status
+abbrev pub exit_code : Status → ℕ
+exit_code Done = 0
+exit_code Refused = 1
+exit_code BadWords = 2
+exit_code (Device call) = 3
+exit_code Memory = 4
+exit_code (Damaged file place) = 5
+exit_code SourceFault = 6
+exit_code SinkFault = 7
+
+abbrev pub is_memory_status : Status → Bool
+is_memory_status Memory = true
+is_memory_status status = false

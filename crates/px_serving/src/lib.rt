@@ -1,0 +1,20 @@
+//! The program over the server, as a library: its one call `phoenix` reads a script of SQL sessions, runs it on the tables in a folder,
+//! and prints the replies, over any disk, clock, input and output.
+//!
+//! Its contract says what was run and answered, what the folder stands for after a stop at any moment, and the status by its causes.
+//! The program calls px_program, until this says all that px_program says.
+#![tactic(auto)]
+
+mod causes;
+mod outcome;
+mod replies;
+mod run;
+mod served;
+mod status;
+mod watched;
+mod words;
+
+pub use outcome::Outcome;
+pub use run::phoenix;
+pub use status::{Status, tell, tell_fault};
+pub use words::folder_disk;
