@@ -61,11 +61,12 @@ module _ (sound : Type 0) where
         fits = tt;
         told = (refl, record { one = outlined x m; made = h.made; at = h.at });
         since = λ n low. (let g = grown k k' _ n r low in let at = h.at in omega arith);
+        adds = h.adds;
       }
 
   -- a refusal that adds nothing
   plain : (k k' : Known) (x : Definition) (old : DefineState) (f : DefineFault) → ((n : ℕ) → MadeSince n f k') → FaultIs sound x f k' → Sees k k' → Turns sound x old k state.Over k' (turn.Over (Err f))
-  plain k k' x old f since told h = record { acts = []; ran = ran-sees k k' h; fits = tt; told = (refl, (told, refl)); since = λ n low. since n }
+  plain k k' x old f since told h = record { acts = []; ran = ran-sees k k' h; fits = tt; told = (refl, (told, refl)); since = λ n low. since n; adds = tt }
 
   shuts : (k k' : Known) (x : Definition) (old : DefineState) → ((call : ℕ) × Adds k k' (act.Shut call)) → Turns sound x old k state.Over k' (turn.Over (Err fault.WriteFault))
   shuts k k' x old h =
@@ -75,6 +76,7 @@ module _ (sound : Type 0) where
         fits = tt;
         told = (refl, ((h.0, made k k' (act.Shut h.0) h.1), refl));
         since = λ n low. (h.0, made_since k k' (act.Shut h.0) n h.1 low);
+        adds = tt;
       }
 
   misses : (k k' : Known) (x : Definition) (old : DefineState) → ((call : ℕ) × Adds k k' (act.Missed call)) → Turns sound x old k state.Over k' (turn.Over (Err fault.ReadFault))
@@ -85,6 +87,7 @@ module _ (sound : Type 0) where
         fits = tt;
         told = (refl, ((h.0, made k k' (act.Missed h.0) h.1), refl));
         since = λ n low. (h.0, made_since k k' (act.Missed h.0) n h.1 low);
+        adds = tt;
       }
 
   -- no definition is refused so
@@ -110,10 +113,10 @@ module _ (sound : Type 0) where
   refuses k k' x (step.Busy region cells bytes) can h = plain k k' x state.Defining fault.Memory (λ n. tt) tt h.1
   refuses k k' x (step.NotReady region) can h =
       let r = ran-sees k k' h.1 in
-      record { acts = []; ran = r; fits = passes-define sound k k' x h.1.passes can; told = (tt, refl); since = λ n low. grown k k' _ n r low }
+      record { acts = []; ran = r; fits = passes-define sound k k' x h.1.passes can; told = (tt, refl); since = λ n low. grown k k' _ n r low; adds = tt }
   refuses k k' x (step.InUse count) can h =
       let r = ran-sees k k' h.1 in
-      record { acts = []; ran = r; fits = passes-define sound k k' x h.1.passes can; told = (tt, refl, h.0); since = λ n low. grown k k' _ n r low }
+      record { acts = []; ran = r; fits = passes-define sound k k' x h.1.passes can; told = (tt, refl, h.0); since = λ n low. grown k k' _ n r low; adds = tt }
   refuses k k' x (step.NotYet stamp) can h = plain k k' x state.Defining fault.Memory (λ n. tt) tt h.1
   refuses k k' x (step.BelowHorizon horizon) can h = plain k k' x state.Defining fault.Memory (λ n. tt) tt h.1
   refuses k k' x step.ReadFault can h = misses k k' x state.Defining h.1
@@ -129,11 +132,11 @@ module _ (sound : Type 0) where
   raised k k' x t h a can = rises-define sound a.between k' x t h a.extends (passes-define sound k a.between x a.sees.passes can)
 
   pub works : (k k' : Known) (x : Definition) → CanDefine sound k x → Finds k k' ⊎ ((t : TableId) × (h : ℕ) × Adds k k' (act.Raised t h)) → Turns sound x state.Settling k state.Settling k' turn.Stepped
-  works k k' x can (inl h) = let r = ran-sees k k' h.sees in record { acts = []; ran = r; fits = passes-define sound k k' x h.sees.passes can; told = (tt, refl); since = λ n low. grown k k' _ n r low }
-  works k k' x can (inr h) = let r = ran-adds k k' (act.Raised h.0 h.1) h.2 in record { acts = act.Raised h.0 h.1 ∷ []; ran = r; fits = raised k k' x h.0 h.1 h.2 can; told = (tt, refl); since = λ n low. grown k k' _ n r low }
+  works k k' x can (inl h) = let r = ran-sees k k' h.sees in record { acts = []; ran = r; fits = passes-define sound k k' x h.sees.passes can; told = (tt, refl); since = λ n low. grown k k' _ n r low; adds = tt }
+  works k k' x can (inr h) = let r = ran-adds k k' (act.Raised h.0 h.1) h.2 in record { acts = act.Raised h.0 h.1 ∷ []; ran = r; fits = raised k k' x h.0 h.1 h.2 can; told = (tt, refl); since = λ n low. grown k k' _ n r low; adds = tt }
 
   pub idles : (k k' : Known) (x : Definition) → CanDefine sound k x → Finds k k' → Turns sound x state.Settling k state.Defining k' turn.Stepped
-  idles k k' x can h = let r = ran-sees k k' h.sees in record { acts = []; ran = r; fits = passes-define sound k k' x h.sees.passes can; told = (tt, refl); since = λ n low. grown k k' _ n r low }
+  idles k k' x can h = let r = ran-sees k k' h.sees in record { acts = []; ran = r; fits = passes-define sound k k' x h.sees.passes can; told = (tt, refl); since = λ n low. grown k k' _ n r low; adds = tt }
 
   pub upkeep_refuses : (k k' : Known) (x : Definition) (f : StepFault) → Refuses upkeep_cause k k' f → Turns sound x state.Settling k state.Over k' (turn.Over (Err (fault_of f)))
   upkeep_refuses k k' x step.ReadFault h = misses k k' x state.Settling h.1

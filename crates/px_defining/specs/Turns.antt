@@ -8,7 +8,7 @@ use Rattle.px_calls.specs.declared.definition.Definition.{Definition}
 use Rattle.px_calls.specs.declared.definition.Made.{Made}
 use Rattle.px_calls.specs.declared.fault.StepFault.{StepFault}
 use Rattle.px_calls.specs.declared.fault.StepFault.TheVariants as step
-use Rattle.px_calls.specs.Known.{Known, Ran, HasMade, outline}
+use Rattle.px_calls.specs.Known.{Adds, Known, Ran, HasMade, outline}
 use Rattle.px_calls.specs.Causes.{ClosedBy, IsDamagedAt, definition_cause}
 use Rattle.px_calls.specs.Calls.{IsMade, act_of}
 use Rattle.px_calls.specs.Requires.{CanDefine}
@@ -98,6 +98,11 @@ IsSinceThen n k (turn.Waiting count) = n ≤ length k.seen
 IsSinceThen n k (turn.Over (Ok m)) = n ≤ m.at
 IsSinceThen n k (turn.Over (Err f)) = MadeSince n f k
 
+-- the definition's entry is the last that the seat has then seen
+abbrev pub AddsThen : Definition → Known → Known → DefineTurn → Type 0
+AddsThen x k k' (turn.Over (Ok m)) = Adds k k' (act_of x m)
+AddsThen x k k' t = Unit {0}
+
 -- one step of a definition
 pub record Turns (sound : Type 0) (x : Definition) (old : DefineState) (k : Known) (new : DefineState) (k' : Known) (t : DefineTurn) : Type 0 where
   pub acts : List Act
@@ -105,3 +110,4 @@ pub record Turns (sound : Type 0) (x : Definition) (old : DefineState) (k : Know
   pub fits : Fits sound x new k'
   pub told : Told sound x (outline acts) new k' t
   pub since : (n : ℕ) → n ≤ length k.seen → IsSinceThen n k' t
+  pub adds : AddsThen x k k' t

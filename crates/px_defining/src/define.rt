@@ -108,6 +108,17 @@ impl DefineRun {
         }
     }
 
+    /// The definition that it made, or would have made.
+    pub fn finish(self) -> Definition
+        ensures { result ≡ self.definition }
+    {
+        let DefineRun {
+            definition,
+            state: _state,
+        } = self;
+        definition
+    }
+
     /// Makes one call.
     pub fn step<S: Steps>(&mut self, s: &mut S) -> DefineTurn
         requires fits { Fits S.sound self.old.definition self.old.state (S.known s.old) }

@@ -246,3 +246,12 @@ module _ {D : Type 0} (d : Ghosts D) (old mid new : D) (touches : TouchesOnly d 
 pub ok_then : {A E : Type 0} (P Q : A → Type 0) → ((x : A) → P x → Q x) → (r : Result A E) → IfOk r P → IfOk r Q
 ok_then P Q to (Ok x) holds = to x holds
 ok_then P Q to (Err e) holds = tt
+
+-- the calls of a folder that is read
+pub folder_counts : {D : Type 0} (d : Ghosts D) (old mid new : D) (s t : Standing) → s ≡ t → Passes d old mid 17 → Passes d mid new (12 * length (region_numbers s)) → Passes d old new (17 + 12 * length (region_numbers t))
+folder_counts d old mid new s t same first second = subst (λ (x : Standing). Passes d old new (17 + 12 * length (region_numbers x))) same (record {
+  later = omega (arith, first.later, second.later);
+  at_most = omega (arith, first.at_most, second.at_most);
+  faults_later = omega (arith, first.faults_later, second.faults_later);
+  begun = second.begun ∙ first.begun;
+})

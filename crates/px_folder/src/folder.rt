@@ -1,5 +1,5 @@
 // Reading a folder.
-ghost use Rattle.std.specs.Prelude.{◌≡◌, ◌≢◌, ◌≤◌, ◌*◌, ℕ, List, length, map, All, IsTrue, IfOk, Err, IsPermutation, IsSorted};
+ghost use Rattle.std.specs.Prelude.{◌≡◌, ◌≢◌, ◌≤◌, ◌+◌, ◌*◌, ℕ, List, length, map, All, IsTrue, IfOk, Err, IsPermutation, IsSorted};
 ghost use Rattle.std.specs.Ordering.{nat_cmp};
 ghost use Rattle.px_outside.specs.OnDisk.{LeavesOnly, Passes, Rose, Stays, TouchesOnly};
 ghost use Rattle.px_outside.specs.Parts.{AreDistinct};
@@ -111,6 +111,9 @@ impl Folder {
         ensures damaged { (file place : ℕ) → result ≡ Err (StartFault.Damaged file place) → IsTrue D.tells → IsFirstDamaged (D.seen disk.old) file place }
         ensures read_failed { result ≡ Err StartFault.ReadFault → Rose ⟦<D as Disk>⟧ disk.old disk.new }
         ensures write_failed { result ≡ Err StartFault.WriteFault → Rose ⟦<D as Disk>⟧ disk.old disk.new }
+
+        // It takes 17 calls at most, and 12 for each region.
+        ensures counts { IfOk result (λ w. Passes ⟦<D as Disk>⟧ disk.old disk.new (17 + 12 * length (region_numbers (standing_of w.catalog)))) }
     {
         let catalog = Catalog::start(alloc, disk)?;
         match read_regions(alloc, disk, catalog.standing()) {

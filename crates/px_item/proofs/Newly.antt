@@ -1,4 +1,4 @@
--- The table that a CREATE TABLE asks for is one that may be made.
+-- The table that a CREATE TABLE asks for is one that may be made, and so is the index of a CREATE INDEX.
 use Rattle.std.proofs.Common.{◌≡◌, ◌≢◌, ℕ, suc, ◌<◌, ◌≤◌, ◌+◌, Bool, true, false, if◌then◌else◌, ◌&&◌, ◌||◌, Option, None, Some, List, [], ◌∷◌, ◌++◌, length, map, take, refl, sym, ◌∙◌, ap, subst, arith, length-append}
 use Rattle.std.specs.Prelude.{nat_eq, nat_lt}
 use Rattle.std.specs.List.{AllByRecursion, flat_map, slice_get}
@@ -13,17 +13,21 @@ use Rattle.px_values.specs.declared.order.Direction.{Direction}
 use Rattle.px_values.specs.declared.limit.Limit.{Limit}
 use Rattle.px_values.specs.declared.limit.Limit.TheVariants as limits
 use Rattle.px_ast.specs.declared.definition.Column.{Column}
+use Rattle.px_ast.specs.declared.definition.CreateIndex.{CreateIndex}
 use Rattle.px_ast.specs.declared.definition.CreateTable.{CreateTable}
 use Rattle.px_ast.specs.declared.definition.KeyConstraint.{KeyConstraint}
 use Rattle.px_ast.specs.declared.definition.KeyPart.{KeyPart}
 use Rattle.px_ast.specs.declared.literal.Literal.{Literal}
 use Rattle.px_tables.specs.declared.table.KeyPlace.{KeyPlace}
+use Rattle.px_tables.specs.declared.table.Table.{Table}
 use Rattle.px_tables.specs.declared.table.TableColumn.{TableColumn}
-use Rattle.px_resolve.specs.Names.{is_among, key_place, name_faults, once, part_names, place_of}
+use Rattle.px_resolve.specs.Names.{is_among, key_place, name_faults, names_of, once, part_names, place_of}
 use Rattle.px_resolve.specs.declared.fault.BindFault.TheVariants.{NoColumn, Passed, Twice}
+use Rattle.px_create.specs.Indexes.{index_faults, new_index}
 use Rattle.px_create.specs.Limits.{name_limit, passed}
 use Rattle.px_create.specs.Tables.{constraint_faults, constraint_key, constraint_limit, first_key, inline_key, is_keyed, key_of, limits_of_table, named_before, new_column, new_names, new_table, null_faults, repeated, split_keys, splits_faults, table_faults, table_name_faults, twice_if}
-use Rattle.px_calls.specs.Requires.{AreApart, AreAscending, AreOnce, IsNewTable}
+use Rattle.px_paths.specs.Paths.{is_keyed as in_key}
+use Rattle.px_calls.specs.Requires.{AreApart, AreAscending, AreOnce, IsNewIndex, IsNewTable}
 use Rattle.px_item.specs.Right.{is_none_of}
 
 -- 1. Lists of nothing
@@ -273,4 +277,84 @@ new_table_fits t whole none keyed =
       short = region.short;
       regions = region.regions;
       one = one;
+    }
+
+-- 7. The index
+
+names_map : (cs : List TableColumn) → length (names_of cs) ≡ length cs
+names_map [] = refl
+names_map (c ∷ cs) = ap suc (names_map cs)
+
+-- what is wrong with the first name, and with the others
+split_given : (names : List (List ℕ)) (seen : List ℕ) (n : List ℕ) (given : List (List ℕ)) → once names seen (n ∷ given) ≡ []
+    → (place_of names n < length names) × (is_among seen (place_of names n) ≡ false) × (once names (seen ++ place_of names n ∷ []) given ≡ [])
+split_given names seen n given h =
+    let a = none_of_both (name_faults names seen n) (once names (seen ++ place_of names n ∷ []) given) h in
+    let k = is_known (nat_lt (place_of names n) (length names)) (is_among seen (place_of names n)) n a.0 in (ltb-true (place_of names n) (length names) k.0, k.1, a.1)
+
+among_less : (names : List (List ℕ)) (seen : List ℕ) (p : ℕ) (given : List (List ℕ)) → AllByRecursion (λ (c : ℕ). is_among (seen ++ p ∷ []) c ≡ false) (map (place_of names) given)
+    → AllByRecursion (λ (c : ℕ). is_among seen c ≡ false) (map (place_of names) given) × AllByRecursion (λ (m : ℕ). m ≢ p) (map (place_of names) given)
+among_less names seen p [] h = (tt, tt)
+among_less names seen p (n ∷ given) h =
+    let r = among_less names seen p given h.1 in
+    let a = not_among seen p (place_of names n) h.0 in ((a.0, r.0), (a.1, r.1))
+
+-- the places of names that stand once, none of them named before
+record OncePlaced (names : List (List ℕ)) (seen : List ℕ) (given : List (List ℕ)) : Type 0 where
+  within : AllByRecursion (λ (c : ℕ). c < length names) (map (place_of names) given)
+  apart : AllByRecursion (λ (c : ℕ). is_among seen c ≡ false) (map (place_of names) given)
+  once : AreOnce (map (place_of names) given)
+
+once_placed : (names : List (List ℕ)) (seen : List ℕ) (given : List (List ℕ)) → once names seen given ≡ [] → OncePlaced names seen given
+unfolding AreOnce
+once_placed names seen [] h = record { within = tt; apart = tt; once = tt }
+once_placed names seen (n ∷ given) h =
+    let s = split_given names seen n given h in
+    let r = once_placed names (seen ++ place_of names n ∷ []) given s.2 in
+    let a = among_less names seen (place_of names n) given r.apart in
+    record { within = (s.0, r.within); apart = (s.1, a.0); once = (a.1, r.once) }
+
+either : (a b : Bool) → a ≡ false → b ≡ false → (a || b) ≡ false
+either true b h g = cc
+either false b h g = g
+
+among_both : (xs ys : List ℕ) (c : ℕ) → is_among (xs ++ ys) c ≡ false → (is_among xs c ≡ false) × (is_among ys c ≡ false)
+among_both [] ys c h = (refl, h)
+among_both (x ∷ xs) ys c h =
+    let n = neither (nat_eq x c) (is_among (xs ++ ys) c) h in
+    let r = among_both xs ys c n.1 in (either (nat_eq x c) (is_among xs c) n.0 r.0, r.1)
+
+unkeyed : (ps : List KeyPlace) (c : ℕ) → is_among (map (λ (p : KeyPlace). p.column) ps) c ≡ false → in_key ps c ≡ false
+unkeyed [] c h = refl
+unkeyed (p ∷ ps) c h = (let n = neither (nat_eq p.column c) (is_among (map (λ (q : KeyPlace). q.column) ps) c) h in either (nat_eq p.column c) (in_key ps c) n.0 (unkeyed ps c n.1))
+
+part_places : (names : List (List ℕ)) (ps : List KeyPart) → map (place_of names) (part_names ps) ≡ map (λ (p : KeyPlace). p.column) (map (key_place names) ps)
+part_places names [] = refl
+part_places names (p ∷ ps) = ap (λ (l : List ℕ). place_of names p.column ∷ l) (part_places names ps)
+
+-- what isn't among the places of the parts and of the key is none of their columns
+alone : (names : List (List ℕ)) (ps : List KeyPart) (key : List KeyPlace) (cs : List ℕ) → AllByRecursion (λ (c : ℕ). is_among (map (place_of names) (part_names ps) ++ map (λ (p : KeyPlace). p.column) key) c ≡ false) cs
+    → AllByRecursion (λ (c : ℕ). (in_key (map (key_place names) ps) c ≡ false) × (in_key key c ≡ false)) cs
+alone names ps key [] h = tt
+alone names ps key (c ∷ cs) h =
+    let b = among_both (map (place_of names) (part_names ps)) (map (λ (p : KeyPlace). p.column) key) c h.0 in
+    let parts = subst (λ (l : List ℕ). is_among l c ≡ false) (part_places names ps) b.0 in
+    ((unkeyed (map (key_place names) ps) c parts, unkeyed key c b.1), alone names ps key cs h.1)
+
+pub new_index_fits : (t : Table) (i : CreateIndex) → index_faults t i ≡ [] → (new_index t i).parts ≢ [] → IsNewIndex t (new_index t i)
+new_index_fits t i none some =
+    let names = names_of t.columns in
+    let seen = map (place_of names) (part_names i.parts) ++ map (λ (p : KeyPlace). p.column) t.key in
+    let a = none_of_both (once names [] (part_names i.parts)) (once names seen i.include ++ name_limit i.name) none in
+    let b = none_of_both (once names seen i.include) (name_limit i.name) a.1 in
+    let placed = once_placed names seen i.include b.0 in
+    let long = names_map t.columns in
+    record {
+      name = within limits.Name (length i.name) b.1;
+      parts = some;
+      places = subst (λ (q : ℕ). AllByRecursion (λ (p : KeyPlace). p.column < q) (map (key_place names) i.parts)) long (once_within names [] i.parts a.0);
+      once = (once_apart names [] i.parts a.0).1;
+      included = subst (λ (q : ℕ). AllByRecursion (λ (c : ℕ). c < q) (map (place_of names) i.include)) long placed.within;
+      included_once = placed.once;
+      included_alone = alone names i.parts t.key (map (place_of names) i.include) placed.apart;
     }

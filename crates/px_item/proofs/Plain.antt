@@ -1,5 +1,6 @@
 -- What is told of the trail alone doesn't depend on whether others act.
-use Rattle.std.proofs.Common.{ℕ, Option, None, Some, Result, Ok, Err, List}
+use Rattle.std.proofs.Common.{ℕ, Option, None, Some, Result, Ok, Err, List, [], refl, sym}
+use Rattle.std.proofs.lemmas.List.{append-nil}
 use Rattle.px_values.specs.declared.change.Change.{Change}
 use Rattle.px_values.specs.declared.limit.Limit.{Limit}
 use Rattle.px_values.specs.declared.limit.Limit.TheVariants as bound
@@ -23,6 +24,10 @@ use Rattle.px_batch.specs.declared.batch.BatchFault.TheVariants as unmade
 use Rattle.px_defining.specs.Turns as define
 use Rattle.px_defining.specs.declared.define.DefineFault.{DefineFault}
 use Rattle.px_defining.specs.declared.define.DefineFault.TheVariants as undone
+use Rattle.px_indexing.specs.Turns as indexing
+use Rattle.px_indexing.specs.declared.index.IndexFault.{IndexFault}
+use Rattle.px_indexing.specs.declared.index.IndexFault.TheVariants as unbuilt
+use Rattle.px_indexing.specs.declared.index.Indexed.{Indexed}
 use Rattle.px_gather.specs.Query.{Query}
 use Rattle.px_planned.specs.Queries.{query_of}
 use Rattle.px_planned.specs.declared.planned.Planned.{Planned}
@@ -31,6 +36,9 @@ use Rattle.px_scan.specs.declared.answer.QueryFault.{QueryFault}
 use Rattle.px_scan.specs.declared.answer.QueryFault.TheVariants as unread
 use Rattle.px_select.specs.Selecting.{IsOutcome}
 use Rattle.px_select.specs.declared.run.Selected.{Selected}
+use Rattle.px_deleting.specs.Deleting as deleting
+use Rattle.px_deleting.specs.declared.deleted.Removed.{Removed}
+use Rattle.px_deleting.proofs.Past.{Later, all-later, found-later}
 use Rattle.px_item.specs.Right.{plain}
 
 limit_plain : (sound : Type 0) (t : ℕ) (cs : List Change) (which : Limit) (k : Known) → batch_limit sound t cs which k → batch_limit sound t cs which (plain k)
@@ -131,6 +139,23 @@ made_plain sound (d.DropIndex t i) k m h = h
 pub defined_plain : (sound : Type 0) (x : Definition) (own : List Act) (k : Known) (m : Made) → define.HasDefined sound x own k m → define.HasDefined sound x own (plain k) m
 defined_plain sound x own k m h = record { one = h.one; made = made_plain sound x k m h.made; at = h.at }
 
+past_plain : (was k : Known) → indexing.IsPast was k → indexing.IsPast was (plain k)
+past_plain was k h = record { more = h.more; seen = h.seen; seat = h.seat; base = h.base; damaged = h.damaged }
+
+refused_plain : (sound : Type 0) (n : ℕ) (x : Definition) (f : DefineFault) (k : Known) → indexing.WasRefused sound n x f k → indexing.WasRefused sound n x f (plain k)
+refused_plain sound n x f k h = record { was = h.was; past = past_plain h.was k h.past; from = h.from; cause = h.cause; since = h.since }
+
+was_made_plain : (sound : Type 0) (n : ℕ) (what : NewIndex) (m : Made) (k : Known) → indexing.WasMade sound n what m k → indexing.WasMade sound n what m (plain k)
+was_made_plain sound n what m k h = record { was = h.was; past = past_plain h.was k h.past; from = h.from; made = h.made; at = h.at }
+
+active_plain : (what : NewIndex) (i : Indexed) (k : Known) → indexing.BecameActive what i k → indexing.BecameActive what i (plain k)
+active_plain what i k h = record { was = h.was; past = past_plain h.was k h.past; index = h.index; is = h.is; state = h.state; definition = h.definition; at = h.at; behind = h.behind }
+
+pub indexed_plain : (sound : Type 0) (n : ℕ) (what : NewIndex) (own : List Act) (k : Known) (r : Result Indexed IndexFault) → indexing.IsOutcome sound n what own k r → indexing.IsOutcome sound n what own (plain k) r
+indexed_plain sound n what own k (Ok i) h = (was_made_plain sound n what i.made k h.0, active_plain what i k h.1, h.2)
+indexed_plain sound n what own k (Err (unbuilt.Unmade f)) h = (refused_plain sound n (d.Index what) f k h.0, h.1)
+indexed_plain sound n what own k (Err (unbuilt.Inactive m f)) h = (was_made_plain sound n what m k h.0, refused_plain sound n (indexing.activation what m) f k h.1, h.2)
+
 joined_plain : (q : Query) (k : Known) → IsJoined q k → IsJoined q (plain k)
 joined_plain q k j = record { found = j.found; within = j.within; is = j.is; table = j.table; stamp = j.stamp; joins = j.joins }
 
@@ -160,3 +185,40 @@ query_since_plain n f k h = h
 pub outcome_plain : (sound : Type 0) (p : Planned) (scn : Option ℕ) (own : List Act) (k : Known) (r : Result Selected QueryFault) → IsOutcome sound p scn own k r → IsOutcome sound p scn own (plain k) r
 outcome_plain sound p scn own k (Ok a) h = (record { point = h.0.point; is_point = h.0.is_point; at = h.0.at; path = h.0.path; chosen = h.0.chosen; answer = h.0.answer }, h.1, h.2, h.3)
 outcome_plain sound p scn own k (Err f) h = (query_plain (query_of p) scn f k h.0, h.1)
+
+later_plain : (k : Known) → Later k (plain k)
+later_plain k = record { more = []; seen = sym (append-nil k.seen); base = refl; seat = refl }
+
+pub removed_plain : (sound : Type 0) (p : Planned) (own : List Act) (k : Known) (rs : List Receipt) (m : Removed) → deleting.HasRemoved sound p own k rs m → deleting.HasRemoved sound p own (plain k) rs m
+removed_plain sound p own k rs m h =
+    let now = later_plain k in
+    record {
+      changes = h.changes;
+      parts = h.parts;
+      finding = h.finding;
+      making = h.making;
+      found = found-later sound p k (plain k) m.first h.finding h.changes now h.found;
+      made = all-later k (plain k) p.table.id h.parts rs h.making now h.made;
+      split = h.split;
+      rows = h.rows;
+      own_is = h.own_is;
+    }
+
+pub stopped_plain : (sound : Type 0) (p : Planned) (own : List Act) (k : Known) (rs : List Receipt) (f : BatchFault) → deleting.HasStopped sound p own k rs f → deleting.HasStopped sound p own (plain k) rs f
+stopped_plain sound p own k rs f h =
+    let now = later_plain k in
+    record {
+      changes = h.changes;
+      parts = h.parts;
+      rest = h.rest;
+      first = h.first;
+      finding = h.finding;
+      making = h.making;
+      stopping = h.stopping;
+      found = found-later sound p k (plain k) h.first h.finding h.changes now h.found;
+      made = all-later k (plain k) p.table.id h.parts rs h.making now h.made;
+      split = h.split;
+      some = h.some;
+      outcome = (batch_plain sound p.table.id (Rattle.std.specs.Prelude.take 1000 h.rest) f k h.outcome.0, h.outcome.1);
+      own_is = h.own_is;
+    }

@@ -12,7 +12,9 @@ use Rattle.px_lex.specs.Script.{SeenPiece, seen_piece}
 use Rattle.px_lex.specs.declared.script.PieceKind.TheVariants as kinds
 use Rattle.px_ast.specs.declared.statement.Statement.{Statement}
 use Rattle.px_ast.specs.declared.statement.Statement.TheVariants as s
+use Rattle.px_ast.specs.declared.statement.Delete.{Delete}
 use Rattle.px_ast.specs.declared.statement.Upsert.{Upsert}
+use Rattle.px_ast.specs.declared.definition.CreateIndex.{CreateIndex}
 use Rattle.px_ast.specs.declared.definition.CreateTable.{CreateTable}
 use Rattle.px_ast.specs.declared.definition.DropIndex.{DropIndex}
 use Rattle.px_parse.specs.Texts as texts
@@ -28,10 +30,10 @@ use Rattle.px_tables.specs.declared.table.Table.{Table}
 use Rattle.px_resolve.specs.Answers.{IsFirst}
 use Rattle.px_resolve.specs.declared.fault.BindFault.{BindFault}
 use Rattle.px_resolve.specs.declared.fault.BindFault.TheVariants as bind
-use Rattle.px_create.specs.Indexes.{index_of}
+use Rattle.px_create.specs.Indexes.{index_faults, index_of, new_index}
 use Rattle.px_create.specs.Tables.{new_table, table_faults}
 use Rattle.px_ast.specs.declared.statement.Select.{Select}
-use Rattle.px_bind.specs.Queries.{IsQuery, select_faults}
+use Rattle.px_bind.specs.Queries.{IsQuery, delete_faults, filter_of, select_faults}
 use Rattle.px_bind.specs.declared.request.Query.{Query}
 use Rattle.px_plan.specs.Asked.{asked_of}
 use Rattle.px_plan.specs.Explained.{explained}
@@ -46,6 +48,13 @@ use Rattle.px_scan.specs.declared.answer.QueryFault.{QueryFault}
 use Rattle.px_scan.specs.declared.answer.QueryFault.TheVariants as unread
 use Rattle.px_select.specs.Selecting as selecting
 use Rattle.px_select.specs.declared.run.Selected.{Selected}
+use Rattle.px_expr.specs.declared.bound.Bound.{Bound}
+use Rattle.px_deleting.specs.Asking.{planned_for}
+use Rattle.px_deleting.specs.Deleting as deleting
+use Rattle.px_deleting.specs.declared.deleted.DeleteFault.{DeleteFault}
+use Rattle.px_deleting.specs.declared.deleted.DeleteFault.TheVariants as undeleted
+use Rattle.px_deleting.specs.declared.deleted.Deleted.{Deleted}
+use Rattle.px_deleting.specs.declared.deleted.Removed.{Removed}
 use Rattle.px_calls.specs.Requires.{IsScn}
 use Rattle.px_bind.specs.Requests.{faults_in}
 use Rattle.px_bind.specs.Upserts.{change_of, upsert_faults}
@@ -61,7 +70,7 @@ use Rattle.px_calls.specs.declared.ticket.Receipt.{Receipt}
 use Rattle.px_calls.specs.Calls.{IsFound}
 use Rattle.px_calls.specs.Causes.{ClosedBy, NamesNoTable}
 use Rattle.px_calls.specs.Known.{Known}
-use Rattle.px_calls.specs.Requires.{FitsTable, IsNewTable}
+use Rattle.px_calls.specs.Requires.{FitsTable, IsNewIndex, IsNewTable}
 use Rattle.px_batch.specs.Turns as batch
 use Rattle.px_batch.specs.declared.batch.BatchFault.{BatchFault}
 use Rattle.px_batch.specs.declared.batch.BatchFault.TheVariants as unmade
@@ -71,6 +80,11 @@ use Rattle.px_defining.specs.declared.define.DefineFault.{DefineFault}
 use Rattle.px_defining.specs.declared.define.DefineFault.TheVariants as undone
 use Rattle.px_defining.specs.declared.define.DefineRun.{DefineRun}
 use Rattle.px_defining.specs.declared.define.DefineState.TheVariants as defines
+use Rattle.px_indexing.specs.Turns as indexing
+use Rattle.px_indexing.specs.declared.index.IndexFault.{IndexFault}
+use Rattle.px_indexing.specs.declared.index.IndexFault.TheVariants as unbuilt
+use Rattle.px_indexing.specs.declared.index.IndexRun.TheVariants as indexes
+use Rattle.px_indexing.specs.declared.index.Indexed.{Indexed}
 use Rattle.px_reply.specs.declared.refusal.Refusal.{Refusal}
 use Rattle.px_reply.specs.declared.refusal.Refusal.TheVariants as refusal
 use Rattle.px_reply.specs.declared.reply.Defined.{Defined}
@@ -153,6 +167,10 @@ abbrev pub is_upsert : Statement → Bool
 is_upsert (s.Upsert u) = true
 is_upsert x = false
 
+abbrev pub is_delete : Statement → Bool
+is_delete (s.Delete x) = true
+is_delete x = false
+
 abbrev pub drops_index : Statement → Bool
 drops_index (s.DropIndex i) = true
 drops_index x = false
@@ -177,7 +195,9 @@ is_none_of (x ∷ xs) = false
 abbrev pub is_built : Statement → Bool
 is_built (s.CreateTable t) = is_none_of t.splits
 is_built (s.Upsert u) = true
+is_built (s.Delete x) = true
 is_built (s.DropTable t) = true
+is_built (s.CreateIndex i) = true
 is_built (s.DropIndex i) = true
 is_built (s.Select q) = true
 is_built (s.Explain q) = true
@@ -201,11 +221,13 @@ table_absent x = reply.Refused (refusal.NoTable (table_named x))
 -- the statement's index doesn't stand
 abbrev pub index_absent : Statement → Reply
 index_absent (s.DropIndex i) = if i.if_exists then reply.Defined defined.IndexAbsent else reply.Refused (refusal.NoIndex i.name)
+index_absent (s.CreateIndex i) = reply.Refused (refusal.NoIndex i.name)
 index_absent x = reply.Refused refusal.Memory
 
 -- the name of what the statement makes stands
 abbrev pub name_taken : Statement → Reply
 name_taken (s.CreateTable t) = if t.if_not_exists then reply.Defined defined.TableKept else reply.Refused (refusal.NameExists t.name)
+name_taken (s.CreateIndex i) = if i.if_not_exists then reply.Defined defined.IndexKept else reply.Refused (refusal.NameExists i.name)
 name_taken x = reply.Refused refusal.Memory
 
 -- the statement's table wasn't found
@@ -225,9 +247,15 @@ undefined x (undone.Damaged file place) = reply.Refused (refusal.Damaged file pl
 undefined x (undone.Closed call) = reply.Refused (refusal.Closed call)
 undefined x f = reply.Refused refusal.Memory
 
+-- why an index doesn't stand active
+abbrev pub index_fault : IndexFault → DefineFault
+index_fault (unbuilt.Unmade f) = f
+index_fault (unbuilt.Inactive m f) = f
+
 -- the word of what was made or dropped
 abbrev pub word_of : Statement → Defined
 word_of (s.CreateTable t) = defined.TableCreated
+word_of (s.CreateIndex i) = defined.IndexCreated
 word_of (s.DropIndex i) = defined.IndexDropped
 word_of x = defined.TableDropped
 
@@ -323,6 +351,10 @@ pub record ShowsRows (a : Answered) (r : Selected) (st : Settings) : Type 0 wher
   pub first : a.first ≡ r.first
   pub after : a.after ≡ st
 
+-- the query by which a DELETE finds its rows, with the table that it was bound to
+abbrev pub deletion_query : Found → Delete → Planned
+deletion_query f x = planned_for f.table (filter_of f.table.columns x.filter)
+
 -- the point of an EXPLAIN: as of the SCN, or the current one
 abbrev pub point_of : Option ℕ → Option ℕ
 point_of None = None
@@ -331,6 +363,10 @@ point_of (Some scn) = Some (scn - 1)
 -- the plan of a query of an EXPLAIN, in which nothing is wrong, with the definitions that it was bound to; or why it has none
 abbrev pub IsPlanned : Found → Option ℕ → Select → Result Plan PlanFault → Type 0
 IsPlanned f scn q r = (select_faults f.table.columns q ≡ []) × ((x : Query) × IsQuery f.table q x × plans.Answers f (point_of scn) x r)
+
+-- a batch of a DELETE wasn't made. Memory may lack for the name of a table that doesn't stand
+abbrev pub StopsAt : Reply → List ℕ → BatchFault → Type 0
+StopsAt r name f = (r ≡ reply.Refused (batch_refusal name f)) ⊎ ((r ≡ reply.Refused refusal.Memory) × (f ≡ unmade.NoTable))
 
 -- what is right, where `own` is what the seat began, ended, opened, closed and defined for it since it had seen the first `before` entries
 pub data IsRight (sound : Type 0) (k : Known) (before : ℕ) (own : List Act) (st : Settings) (p : SeenPiece) (a : Answered) : Type 0 where
@@ -354,6 +390,11 @@ pub data IsRight (sound : Type 0) (k : Known) (before : ℕ) (own : List Act) (s
       → IsRight sound k before own st p a
   is_not_created : (t : CreateTable) (fault : DefineFault) → IsRead p (Ok (s.CreateTable t)) → is_none_of t.splits ≡ true → st.scn ≡ None → table_faults t ≡ [] → define.FaultIs sound (d.Table (new_table t)) fault k → define.MadeSince before fault k → own ≡ []
       → Says a (undefined (s.CreateTable t) fault) st → IsRight sound k before own st p a
+  -- a CREATE INDEX is made, and then made active, while its point is open; or refused, and what was made stays building
+  is_index_made : (i : CreateIndex) (f : Found) (n : Indexed) → IsRead p (Ok (s.CreateIndex i)) → st.scn ≡ None → IsBoundTo k.base k.seen a.first f i.table → index_faults f.table i ≡ [] → indexing.IsOutcome sound a.first (new_index f.table i) own k (Ok n)
+      → Says a (reply.Defined defined.IndexCreated) st → IsRight sound k before own st p a
+  is_index_not_made : (i : CreateIndex) (f : Found) (why : IndexFault) → IsRead p (Ok (s.CreateIndex i)) → st.scn ≡ None → IsBoundTo k.base k.seen a.first f i.table → index_faults f.table i ≡ []
+      → indexing.IsOutcome sound a.first (new_index f.table i) own k (Err why) → Says a (undefined (s.CreateIndex i) (index_fault why)) st ⊎ Refuses a refusal.Memory st → IsRight sound k before own st p a
   is_index_absent : (i : DropIndex) (f : Found) → IsRead p (Ok (s.DropIndex i)) → st.scn ≡ None → IsBoundTo k.base k.seen a.first f i.table → i.if_exists ≡ true → index_of f.indexes i.name ≡ None → Says a (reply.Defined defined.IndexAbsent) st → own ≡ []
       → IsRight sound k before own st p a
   -- a SELECT is answered at a point, by a path that is chosen there: exactly, under an SCN; and else as it is current
@@ -361,6 +402,15 @@ pub data IsRight (sound : Type 0) (k : Known) (before : ℕ) (own : List Act) (s
       → IsRight sound k before own st p a
   is_not_selected : (q : Select) (f : Found) (x : Planned) (fault : QueryFault) → IsRead p (Ok (s.Select q)) → IsBoundTo k.base k.seen before f q.table → IsAskedOf f q x → selecting.IsOutcome sound x st.scn own k (Err fault) → scan.MadeSince before fault k
       → Refuses a (query_refusal q.table fault) st ⊎ Refuses a refusal.Memory st → IsRight sound k before own st p a
+  -- a DELETE removes the rows that a current query found, in batches, and their receipts are told with the number of rows
+  is_deleted : (x : Delete) (f : Found) (m : Removed) → IsRead p (Ok (s.Delete x)) → st.scn ≡ None → IsBoundTo k.base k.seen a.first f x.table → delete_faults f.table.columns x ≡ [] → deleting.HasRemoved sound (deletion_query f x) own k a.receipts m
+      → a.first ≤ m.first → (a.reply ≡ reply.Count m.rows Affected) × (a.places ≡ []) × (a.after ≡ st) → IsRight sound k before own st p a
+  -- one of its batches isn't made, and none behind it; the receipts of those before it are told
+  is_not_deleted : (x : Delete) (f : Found) (fault : BatchFault) → IsRead p (Ok (s.Delete x)) → st.scn ≡ None → IsBoundTo k.base k.seen a.first f x.table → delete_faults f.table.columns x ≡ [] → deleting.HasStopped sound (deletion_query f x) own k a.receipts fault
+      → batch.MadeSince a.first fault k → StopsAt a.reply x.table fault → (a.places ≡ []) × (a.after ≡ st) → IsRight sound k before own st p a
+  -- its rows weren't found, and none is removed
+  is_not_found : (x : Delete) (f : Found) (fault : QueryFault) → IsRead p (Ok (s.Delete x)) → st.scn ≡ None → IsBoundTo k.base k.seen a.first f x.table → delete_faults f.table.columns x ≡ [] → selecting.IsOutcome sound (deletion_query f x) None own k (Err fault)
+      → scan.MadeSince a.first fault k → Refuses a (query_refusal x.table fault) st ⊎ Refuses a refusal.Memory st → IsRight sound k before own st p a
   -- an EXPLAIN tells the path by the definitions alone
   is_explained : (q : Select) (f : Found) (x : Plan) → IsRead p (Ok (s.Explain q)) → IsBoundTo k.base k.seen a.first f q.table → IsPlanned f st.scn q (Ok x) → Says a (reply.Explained (explained x)) st → own ≡ [] → IsRight sound k before own st p a
   is_not_explained : (q : Select) (f : Found) → IsRead p (Ok (s.Explain q)) → IsBoundTo k.base k.seen a.first f q.table → IsPlanned f st.scn q (Err IndexJoin) → Refuses a refusal.IndexJoin st → own ≡ [] → IsRight sound k before own st p a
@@ -393,7 +443,9 @@ HasRoomForOne v = (v.items ≡ []) × (0 < vec_capacity v)
 abbrev pub IsBatchOf : Table → TableId → Change → Next → Type 0
 IsBatchOf x t c (next.Change run room) = (run.table ≡ t) × (run.changes ≡ c ∷ []) × (run.state ≡ batches.Beginning) × FitsTable x c × HasRoomForOne room
 IsBatchOf x t c (next.Drop run) = ⊥
+IsBatchOf x t c (next.Index run) = ⊥
 IsBatchOf x t c (next.Select run) = ⊥
+IsBatchOf x t c (next.Delete run) = ⊥
 IsBatchOf x t c (next.Tell r) = r ≡ reply.Refused refusal.Memory
 
 -- what is told of the plan of a query
@@ -413,20 +465,29 @@ IsPlannedOf t scn q (next.Select run) = (run.scan.query ≡ record { table = t; 
 IsPlannedOf t scn q (next.Tell r) = r ≡ reply.Refused refusal.Memory
 IsPlannedOf t scn q n = ⊥
 
+-- what comes of the condition of a DELETE of rows of this table
+abbrev pub IsDeletionOf : Table → Option Bound → Next → Type 0
+IsDeletionOf t filter (next.Delete run) = deleting.IsNew (planned_for t filter) run.state
+IsDeletionOf t filter (next.Tell r) = r ≡ reply.Refused refusal.Memory
+IsDeletionOf t filter n = ⊥
+
 -- what comes of a statement whose table was found
 abbrev pub IsNext : Option ℕ → Found → Statement → Next → Type 0
 IsNext scn f x (next.Change run room) = (u : Upsert) × (x ≡ s.Upsert u) × (upsert_faults f.table u ≡ []) × (run.table ≡ f.table.id) × (run.changes ≡ one_change f u) × (run.state ≡ batches.Beginning) × FitsTable f.table (change_of f.table u) × HasRoomForOne room
 IsNext scn f x (next.Drop run) = (faults_in f x ≡ []) × (drop_of f x ≡ Some run.definition) × (run.state ≡ defines.Defining)
+IsNext scn f x (next.Index run) = (i : CreateIndex) × (x ≡ s.CreateIndex i) × (index_faults f.table i ≡ []) × (run ≡ indexes.Opening (new_index f.table i)) × IsNewIndex f.table (new_index f.table i)
 IsNext scn f x (next.Select run) = (q : Select) × (x ≡ s.Select q) × IsAskedOf f q run.scan.query × (run.scan.scn ≡ scn) × scanning.IsNew run.scan.state × IsScn scn
+IsNext scn f x (next.Delete run) = (y : Delete) × (x ≡ s.Delete y) × (delete_faults f.table.columns y ≡ []) × deleting.IsNew (deletion_query f y) run.state
 IsNext scn f x (next.Tell r) = IsTold scn f x r
 
 -- the state in which a statement goes on whose table was found
 abbrev pub FollowsTo : Option ℕ → Statement → Found → ItemState → Type 0
 FollowsTo scn x f (state.Finding y) = ⊥
 FollowsTo scn x f (state.Changing y run room) = (y ≡ x) × IsNext scn f x (next.Change run room)
-FollowsTo scn x f (state.Dropping y run) = (y ≡ x) × IsNext scn f x (next.Drop run)
-FollowsTo scn x f (state.Creating y run) = ⊥
+FollowsTo scn x f (state.Defining y run) = (y ≡ x) × IsNext scn f x (next.Drop run)
+FollowsTo scn x f (state.Indexing y run) = (y ≡ x) × IsNext scn f x (next.Index run)
 FollowsTo scn x f (state.Selecting y run) = (y ≡ x) × IsNext scn f x (next.Select run)
+FollowsTo scn x f (state.Deleting y run) = (y ≡ x) × IsNext scn f x (next.Delete run)
 
 abbrev pub Follows : Asked → Statement → Found → ItemTurn → Type 0
 Follows asked x f (turn.Stepped r) = (r.asked ≡ asked) × FollowsTo asked.settings.scn x f r.state
@@ -444,6 +505,19 @@ abbrev pub IsDefined : Asked → Statement → Result Made DefineFault → Answe
 IsDefined asked x (Ok m) a = (a.first ≡ asked.first) × Says a (reply.Defined (word_of x)) asked.settings
 IsDefined asked x (Err f) a = (a.first ≡ asked.first) × (Says a (undefined x f) asked.settings ⊎ Refuses a refusal.Memory asked.settings)
 
+abbrev pub IsIndexed : Asked → Statement → Result Indexed IndexFault → Answered → Type 0
+IsIndexed asked x (Ok n) a = (a.first ≡ asked.first) × Says a (reply.Defined (word_of x)) asked.settings
+IsIndexed asked x (Err why) a = (a.first ≡ asked.first) × (Says a (undefined x (index_fault why)) asked.settings ⊎ Refuses a refusal.Memory asked.settings)
+
 abbrev pub IsSelection : Asked → Statement → Result Selected QueryFault → Answered → Type 0
 IsSelection asked x (Ok r) a = ShowsRows a r asked.settings
 IsSelection asked x (Err f) a = (a.first ≡ asked.first) × (Refuses a (query_refusal (table_named x) f) asked.settings ⊎ Refuses a refusal.Memory asked.settings)
+
+-- what is told of the end of a DELETE
+abbrev pub TellsEnd : Statement → Result Removed DeleteFault → Reply → Type 0
+TellsEnd x (Ok m) r = r ≡ reply.Count m.rows Affected
+TellsEnd x (Err (undeleted.Unread f)) r = (r ≡ reply.Refused (query_refusal (table_named x) f)) ⊎ (r ≡ reply.Refused refusal.Memory)
+TellsEnd x (Err (undeleted.Unmade f)) r = StopsAt r (table_named x) f
+
+abbrev pub IsDeletion : Asked → Statement → Deleted → Answered → Type 0
+IsDeletion asked x d a = (a.first ≡ asked.first) × TellsEnd x d.end a.reply × (a.receipts ≡ d.receipts.items) × (a.places ≡ []) × (a.after ≡ asked.settings)

@@ -1,17 +1,23 @@
 -- What one step of an item does.
-use Rattle.std.specs.Prelude.{ℕ, ◌≡◌, ◌≤◌, ◌++◌, true, false, List, [], length, Some, Ok}
+use Rattle.std.specs.Prelude.{ℕ, ◌≡◌, ◌≤◌, ◌++◌, ◌⊎◌, true, false, List, [], length, Some, Ok}
 use Rattle.px_lex.specs.Script.{SeenPiece, seen_piece}
 use Rattle.px_ast.specs.declared.statement.Statement.{Statement}
 use Rattle.px_ast.specs.declared.statement.Statement.TheVariants as s
+use Rattle.px_ast.specs.declared.statement.Delete.{Delete}
 use Rattle.px_ast.specs.declared.statement.Upsert.{Upsert}
+use Rattle.px_ast.specs.declared.definition.CreateIndex.{CreateIndex}
 use Rattle.px_ast.specs.declared.definition.CreateTable.{CreateTable}
 use Rattle.px_tables.specs.declared.found.Found.{Found}
 use Rattle.px_ast.specs.declared.statement.Select.{Select}
 use Rattle.px_planned.specs.Queries.{query_of}
 use Rattle.px_scan.specs.Turns as scan
 use Rattle.px_select.specs.declared.run.SelectRun.{SelectRun}
+use Rattle.px_deleting.specs.Deleting as deleting
+use Rattle.px_deleting.specs.declared.run.DeleteRun.{DeleteRun}
+use Rattle.px_bind.specs.Queries.{delete_faults}
 use Rattle.px_bind.specs.Requests.{faults_in}
 use Rattle.px_bind.specs.Upserts.{upsert_faults}
+use Rattle.px_create.specs.Indexes.{index_faults, new_index}
 use Rattle.px_create.specs.Tables.{new_table, table_faults}
 use Rattle.px_trail.specs.declared.entry.Act.{Act}
 use Rattle.px_calls.specs.declared.definition.Definition.TheVariants as d
@@ -20,6 +26,8 @@ use Rattle.px_batch.specs.declared.run.BatchRun.{BatchRun}
 use Rattle.px_batch.specs.Turns as batch
 use Rattle.px_defining.specs.declared.define.DefineRun.{DefineRun}
 use Rattle.px_defining.specs.Turns as define
+use Rattle.px_indexing.specs.declared.index.IndexRun.{IndexRun}
+use Rattle.px_indexing.specs.Turns as indexing
 use Rattle.px_item.specs.declared.answered.Asked.{Asked}
 use Rattle.px_item.specs.declared.answered.Settings.{Settings}
 use Rattle.px_item.specs.declared.item.Begun.{Begun}
@@ -29,7 +37,7 @@ use Rattle.px_item.specs.declared.item.ItemState.{ItemState}
 use Rattle.px_item.specs.declared.item.ItemState.TheVariants as state
 use Rattle.px_item.specs.declared.item.ItemTurn.{ItemTurn}
 use Rattle.px_item.specs.declared.item.ItemTurn.TheVariants as turn
-use Rattle.px_item.specs.Right.{HasRoomForOne, IsAskedOf, MayRun, IsAtOnce, IsBoundTo, IsCreation, IsRead, IsRight, creates_table, drop_of, is_none_of, one_change, plain, table_named}
+use Rattle.px_item.specs.Right.{HasRoomForOne, IsAskedOf, MayRun, IsAtOnce, IsBoundTo, IsCreation, IsRead, IsRight, creates_table, drop_of, is_none_of, one_change, plain, deletion_query, table_named}
 
 -- the statement was read, and may change something
 pub record IsAsking (asked : Asked) (x : Statement) : Type 0 where
@@ -49,7 +57,7 @@ pub record IsChanging (before : ℕ) (asked : Asked) (x : Statement) (run : Batc
   pub going : batch.IsGoing run.state
   pub since : batch.IsSince before run.state k
 
--- a definition is under way
+-- a DROP is under way
 pub record IsDropping (sound : Type 0) (asked : Asked) (x : Statement) (run : DefineRun) (k : Known) : Type 0 where
   pub found : Found
   pub bound : IsBoundTo k.base k.seen asked.first found (table_named x)
@@ -68,6 +76,15 @@ pub record IsCreating (sound : Type 0) (x : Statement) (run : DefineRun) (k : Kn
   pub fits : define.Fits sound run.definition run.state k
   pub going : define.IsGoing run.state
 
+-- a CREATE INDEX is under way
+pub record IsIndexing (sound : Type 0) (asked : Asked) (x : Statement) (run : IndexRun) (k : Known) : Type 0 where
+  pub create : CreateIndex
+  pub is : x ≡ s.CreateIndex create
+  pub found : Found
+  pub bound : IsBoundTo k.base k.seen asked.first found create.table
+  pub right : index_faults found.table create ≡ []
+  pub fits : indexing.Fits sound asked.first (new_index found.table create) run k
+
 -- a SELECT is under way
 pub record IsSelecting (sound : Type 0) (before : ℕ) (asked : Asked) (x : Statement) (run : SelectRun) (k : Known) : Type 0 where
   pub select : Select
@@ -81,46 +98,62 @@ pub record IsSelecting (sound : Type 0) (before : ℕ) (asked : Asked) (x : Stat
   pub since : scan.IsSince before run.scan.state k
   pub first : scan.IsSince asked.first run.scan.state k
 
-abbrev pub FitsState : Type 0 → ℕ → Asked → ItemState → Known → Type 0
-FitsState sound before asked (state.Finding x) k = IsAsking asked x
-FitsState sound before asked (state.Changing x run room) k = IsAsking asked x × IsChanging before asked x run k × HasRoomForOne room
-FitsState sound before asked (state.Dropping x run) k = IsAsking asked x × IsDropping sound asked x run k
-FitsState sound before asked (state.Creating x run) k = IsAsking asked x × IsCreating sound x run k
-FitsState sound before asked (state.Selecting x run) k = IsAsking asked x × IsSelecting sound before asked x run k
+-- a DELETE is under way, and this was done for it: the changes of its finished batches stand in the trail alone
+pub record IsDeleting (sound : Type 0) (asked : Asked) (own : List Act) (x : Statement) (run : DeleteRun) (k : Known) : Type 0 where
+  pub delete : Delete
+  pub is : x ≡ s.Delete delete
+  pub found : Found
+  pub bound : IsBoundTo k.base k.seen asked.first found delete.table
+  pub right : delete_faults found.table.columns delete ≡ []
+  pub fits : deleting.Fits sound (deletion_query found delete) run.state k
+  pub going : deleting.IsGoing run.state
+  pub done : deleting.HasDone sound (deletion_query found delete) own run.state k
+  pub since : deleting.IsSince asked.first run.state k
 
--- The state is as the trail tells. Others' entries keep this
-pub record Fits (sound : Type 0) (before : ℕ) (asked : Asked) (st : ItemState) (k : Known) : Type 0 where
+abbrev pub FitsState : Type 0 → ℕ → Asked → List Act → ItemState → Known → Type 0
+FitsState sound before asked own (state.Finding x) k = IsAsking asked x
+FitsState sound before asked own (state.Changing x run room) k = IsAsking asked x × IsChanging before asked x run k × HasRoomForOne room
+FitsState sound before asked own (state.Defining x run) k = IsAsking asked x × (IsDropping sound asked x run k ⊎ IsCreating sound x run k)
+FitsState sound before asked own (state.Indexing x run) k = IsAsking asked x × IsIndexing sound asked x run k
+FitsState sound before asked own (state.Selecting x run) k = IsAsking asked x × IsSelecting sound before asked x run k
+FitsState sound before asked own (state.Deleting x run) k = IsAsking asked x × IsDeleting sound asked own x run k
+
+-- what the item has begun and not ended. What a DELETE has done is in IsDeleting
+abbrev pub HasBegun : List Act → ItemState → Type 0
+HasBegun own (state.Finding x) = own ≡ []
+HasBegun own (state.Changing x run room) = own ≡ batch.begun run.table run.changes run.state
+HasBegun own (state.Defining x run) = own ≡ []
+HasBegun own (state.Indexing x run) = own ≡ indexing.begun run
+HasBegun own (state.Selecting x run) = own ≡ scan.opened run.scan.state
+HasBegun own (state.Deleting x run) = Unit {0}
+
+-- The state is as the trail tells, where `own` is what the seat began, ended, opened, closed and defined for the item so far. Others' entries keep this
+pub record Fits (sound : Type 0) (before : ℕ) (asked : Asked) (own : List Act) (st : ItemState) (k : Known) : Type 0 where
   pub begins : before ≤ asked.first
   pub within : asked.first ≤ length k.seen
-  pub state : FitsState sound before asked st k
-
--- what the item has begun and not ended
-abbrev pub begun : ItemState → List Act
-begun (state.Finding x) = []
-begun (state.Changing x run room) = batch.begun run.table run.changes run.state
-begun (state.Dropping x run) = []
-begun (state.Creating x run) = []
-begun (state.Selecting x run) = scan.opened run.scan.state
+  pub state : FitsState sound before asked own st k
+  pub done : HasBegun own st
 
 -- it goes on, or is over and rightly answered, where `own` is what the seat began, ended, opened, closed and defined for it so far
 abbrev pub Told : Type 0 → ℕ → Asked → List Act → Known → ItemTurn → Type 0
-Told sound before asked own k (turn.Stepped r) = (r.asked ≡ asked) × Fits sound before asked r.state k × (own ≡ begun r.state)
-Told sound before asked own k (turn.Waiting r) = (r.asked ≡ asked) × Fits sound before asked r.state k × (own ≡ begun r.state)
+Told sound before asked own k (turn.Stepped r) = (r.asked ≡ asked) × Fits sound before asked own r.state k
+Told sound before asked own k (turn.Waiting r) = (r.asked ≡ asked) × Fits sound before asked own r.state k
 Told sound before asked own k (turn.Over a) = (asked.first ≤ a.first) × (a.first ≤ length k.seen) × IsRight sound (plain k) before own asked.settings (seen_piece asked.piece) a
 
--- one step of an item
-pub record Turns (sound : Type 0) (before : ℕ) (asked : Asked) (old : ItemState) (k k' : Known) (t : ItemTurn) : Type 0 where
+-- one step of an item, for which this was done before it
+pub record Turns (sound : Type 0) (before : ℕ) (asked : Asked) (own : List Act) (k k' : Known) (t : ItemTurn) : Type 0 where
   pub acts : List Act
   pub ran : Ran k k' acts
-  pub told : Told sound before asked (begun old ++ outline acts) k' t
+  pub told : Told sound before asked (own ++ outline acts) k' t
 
 -- the state before the first step: a CREATE TABLE is bound by then
 abbrev pub IsStart : Statement → ItemState → Type 0
 IsStart x (state.Finding y) = (y ≡ x) × (creates_table x ≡ false)
 IsStart x (state.Changing y run room) = ⊥
-IsStart x (state.Dropping y run) = ⊥
-IsStart x (state.Creating y run) = (y ≡ x) × ((t : CreateTable) × (x ≡ s.CreateTable t) × (is_none_of t.splits ≡ true) × IsCreation t (Ok run))
+IsStart x (state.Defining y run) = (y ≡ x) × ((t : CreateTable) × (x ≡ s.CreateTable t) × (is_none_of t.splits ≡ true) × IsCreation t (Ok run))
+IsStart x (state.Indexing y run) = ⊥
 IsStart x (state.Selecting y run) = ⊥
+IsStart x (state.Deleting y run) = ⊥
 
 -- an item that has made no step
 pub record IsBegun (st : Settings) (p : SeenPiece) (r : ItemRun) : Type 0 where

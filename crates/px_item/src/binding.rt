@@ -1,16 +1,21 @@
 // What a statement asks for, where its table was found.
 ghost use Rattle.std.specs.Prelude.{◌≡◌, ◌≤◌, ◌∷◌, [], ℕ, Option, true, length, IfOk};
 ghost use Rattle.px_calls.specs.Requires.{IsScn};
+ghost use Rattle.px_ast.specs.declared.statement.Statement.TheVariants as s;
 ghost use Rattle.px_item.specs.Right as spec;
 
 use crate::refusing::bind_refusal;
-use px_ast::{CreateTable, Statement};
+use px_ast::{CreateIndex, CreateTable, Statement};
 use px_batch::BatchRun;
 use px_bind::{Query, Request, bind};
 use px_calls::{Definition, Receipt};
+use px_create::indexes::bind_index;
 use px_create::tables::bind_table;
 use px_defining::DefineRun;
+use px_deleting::DeleteRun;
+use px_expr::Bound;
 use px_fitting::fits;
+use px_indexing::IndexRun;
 use px_plan::{PlanFault, choose, explain};
 use px_planned::Planned;
 use px_reply::{Defined, Refusal, Reply};
@@ -27,7 +32,9 @@ pub(crate) enum Next {
     /// With room for the batch's receipt.
     Change(BatchRun, Vec<Receipt>),
     Drop(DefineRun),
+    Index(IndexRun),
     Select(SelectRun),
+    Delete(DeleteRun),
     Tell(Reply),
 }
 
@@ -133,6 +140,23 @@ fn index_dropped(alloc: Global, statement: &Statement, found: &Found) -> Next
     }
 }
 
+/// The index that a CREATE INDEX asks for. The grammar reads none without a column.
+fn index_created(alloc: Global, create: &CreateIndex, found: &Found) -> Next
+    requires places { length found.now.table.columns ≤ 255 }
+    ensures { (scn : Option ℕ) → spec.IsNext scn found.now (s.CreateIndex create.now) result }
+{
+    match bind_index(alloc, &found.table, create) {
+        Ok(index) => {
+            if index.parts.as_slice().is_empty() {
+                drop(index);
+                return Next::Tell(Reply::Refused(Refusal::Memory));
+            }
+            Next::Index(IndexRun::new(index))
+        }
+        Err(fault) => Next::Tell(Reply::Refused(bind_refusal(fault))),
+    }
+}
+
 /// Whether a point may be opened as of it.
 fn is_scn(scn: Option<u64>) -> bool
     ensures { result ≡ true → IsScn scn }
@@ -170,6 +194,43 @@ fn selected(alloc: Global, statement: &Statement, found: &Found, scn: Option<u64
     }
     match bind(alloc, statement, Some(found)) {
         Ok(Request::Select(query)) => planned(alloc, &found.table, query, scn),
+        Ok(other) => {
+            drop(other);
+            Next::Tell(Reply::Refused(Refusal::Memory))
+        }
+        Err(fault) => Next::Tell(Reply::Refused(bind_refusal(fault))),
+    }
+}
+
+/// The removal of the rows of a table that meet a condition.
+fn deletion(alloc: Global, table: &Table, filter: Option<Bound>) -> Next
+    ensures { spec.IsDeletionOf table.now filter result }
+{
+    let table = match table.copied(alloc) {
+        Ok(table) => table,
+        Err(_) => {
+            drop(filter);
+            return Next::Tell(Reply::Refused(Refusal::Memory));
+        }
+    };
+    match DeleteRun::new(alloc, table, filter) {
+        Ok(run) => Next::Delete(run),
+        Err(_) => Next::Tell(Reply::Refused(Refusal::Memory)),
+    }
+}
+
+fn deleted(alloc: Global, statement: &Statement, found: &Found) -> Next
+    requires deletes { spec.is_delete statement.now ≡ true }
+    requires places { length found.now.table.columns ≤ 255 }
+    ensures { (scn : Option ℕ) → spec.IsNext scn found.now statement.now result }
+{
+    match bind(alloc, statement, Some(found)) {
+        Ok(
+            Request::Delete {
+                table: _table,
+                filter,
+            },
+        ) => deletion(alloc, &found.table, filter),
         Ok(other) => {
             drop(other);
             Next::Tell(Reply::Refused(Refusal::Memory))
@@ -243,7 +304,9 @@ pub(crate) fn next_of(alloc: Global, statement: &Statement, found: &Found, scn: 
         Statement::DropTable(_) => {
             Next::Drop(DefineRun::new(Definition::DropTable(found.table.id)))
         }
+        Statement::CreateIndex(create) => index_created(alloc, create, found),
         Statement::DropIndex(_) => index_dropped(alloc, statement, found),
+        Statement::Delete(_) => deleted(alloc, statement, found),
         Statement::Select(_) => selected(alloc, statement, found, scn),
         Statement::Explain(_) => explained(alloc, statement, found, scn),
         _ => Next::Tell(Reply::Refused(Refusal::Memory)),

@@ -1,6 +1,7 @@
 // One item on its way: each step makes one call.
-ghost use Rattle.std.specs.Prelude.{◌≡◌, ℕ, true, Ok};
+ghost use Rattle.std.specs.Prelude.{◌≡◌, ℕ, true, List, Ok};
 ghost use Rattle.px_lex.specs.Script.{seen_piece};
+ghost use Rattle.px_trail.specs.declared.entry.Act.{Act};
 ghost use Rattle.px_item.specs.Right as spec;
 ghost use Rattle.px_item.specs.Turns.{Begins, Fits, Turns};
 
@@ -12,6 +13,8 @@ use px_ast::Statement;
 use px_batch::{BatchFault, BatchRun, BatchTurn};
 use px_calls::{Made, Receipt, Steps};
 use px_defining::{DefineFault, DefineRun, DefineTurn};
+use px_deleting::{DeleteFault, DeleteRun, DeleteTurn, Deleted};
+use px_indexing::{IndexFault, IndexRun, IndexTurn, Indexed};
 use px_lex::script::Piece;
 use px_reply::{Defined, Reply};
 use px_scan::QueryFault;
@@ -27,12 +30,14 @@ pub enum ItemState {
     Finding(Statement),
     /// Its batch is under way. There is room for the receipt.
     Changing(Statement, BatchRun, Vec<Receipt>),
-    /// What it drops is being dropped.
-    Dropping(Statement, DefineRun),
-    /// Its table is being made.
-    Creating(Statement, DefineRun),
+    /// What it makes or drops is being defined.
+    Defining(Statement, DefineRun),
+    /// Its index is being made.
+    Indexing(Statement, IndexRun),
     /// It is being selected.
     Selecting(Statement, SelectRun),
+    /// Its rows are being deleted.
+    Deleting(Statement, DeleteRun),
 }
 
 /// An item on its way. Other seats may act between two of its steps.
@@ -79,7 +84,7 @@ fn start<'a>(alloc: Global, asked: Asked<'a>, statement: Statement) -> Begun<'a>
         }),
         Some(Ok(run)) => Begun::Under(ItemRun {
             asked,
-            state: ItemState::Creating(statement, run),
+            state: ItemState::Defining(statement, run),
         }),
         Some(Err(refusal)) => {
             drop(statement);
@@ -114,11 +119,19 @@ fn follow<'a>(alloc: Global, asked: Asked<'a>, statement: Statement, found: Foun
         }),
         Next::Drop(run) => ItemTurn::Stepped(ItemRun {
             asked,
-            state: ItemState::Dropping(statement, run),
+            state: ItemState::Defining(statement, run),
+        }),
+        Next::Index(run) => ItemTurn::Stepped(ItemRun {
+            asked,
+            state: ItemState::Indexing(statement, run),
         }),
         Next::Select(run) => ItemTurn::Stepped(ItemRun {
             asked,
             state: ItemState::Selecting(statement, run),
+        }),
+        Next::Delete(run) => ItemTurn::Stepped(ItemRun {
+            asked,
+            state: ItemState::Deleting(statement, run),
         }),
         Next::Tell(reply) => {
             drop(statement);
@@ -134,7 +147,7 @@ fn find<'a, S: Steps>(
     asked: Asked<'a>,
     statement: Statement,
 ) -> ItemTurn<'a>
-    ensures { (before : ℕ) → Fits S.sound before asked.entry (ItemState.Finding statement) (S.known s.old) → Turns S.sound before asked.entry (ItemState.Finding statement) (S.known s.old) (S.known s.new) result }
+    ensures { (before : ℕ) → (own : List Act) → Fits S.sound before asked.entry own (ItemState.Finding statement) (S.known s.old) → Turns S.sound before asked.entry own (S.known s.old) (S.known s.new) result }
 {
     match s.find(table_named(&statement)) {
         Ok(found) => follow(alloc, asked, statement, found),
@@ -208,8 +221,8 @@ fn change<'a, S: Steps>(
     mut run: BatchRun,
     receipts: Vec<Receipt>,
 ) -> ItemTurn<'a>
-    requires { (before : ℕ) × Fits S.sound before asked (ItemState.Changing statement run receipts) (S.known s.old) }
-    ensures { (before : ℕ) → Fits S.sound before asked.entry (ItemState.Changing statement run receipts) (S.known s.old) → Turns S.sound before asked.entry (ItemState.Changing statement run receipts) (S.known s.old) (S.known s.new) result }
+    requires { (before : ℕ) × (own : List Act) × Fits S.sound before asked own (ItemState.Changing statement run receipts) (S.known s.old) }
+    ensures { (before : ℕ) → (own : List Act) → Fits S.sound before asked.entry own (ItemState.Changing statement run receipts) (S.known s.old) → Turns S.sound before asked.entry own (S.known s.old) (S.known s.new) result }
 {
     match run.step(s) {
         BatchTurn::Stepped => ItemTurn::Stepped(ItemRun {
@@ -233,6 +246,7 @@ fn word_of(statement: &Statement) -> Defined
 {
     match statement {
         Statement::CreateTable(_) => Defined::TableCreated,
+        Statement::CreateIndex(_) => Defined::IndexCreated,
         Statement::DropIndex(_) => Defined::IndexDropped,
         _ => Defined::TableDropped,
     }
@@ -255,25 +269,25 @@ fn defined(
     over(alloc, asked, reply)
 }
 
-/// Goes on with a DROP.
-fn let_drop<'a, S: Steps>(
+/// Goes on with a definition.
+fn define<'a, S: Steps>(
     alloc: Global,
     s: &mut S,
     asked: Asked<'a>,
     statement: Statement,
     mut run: DefineRun,
 ) -> ItemTurn<'a>
-    requires { (before : ℕ) × Fits S.sound before asked (ItemState.Dropping statement run) (S.known s.old) }
-    ensures { (before : ℕ) → Fits S.sound before asked.entry (ItemState.Dropping statement run) (S.known s.old) → Turns S.sound before asked.entry (ItemState.Dropping statement run) (S.known s.old) (S.known s.new) result }
+    requires { (before : ℕ) × (own : List Act) × Fits S.sound before asked own (ItemState.Defining statement run) (S.known s.old) }
+    ensures { (before : ℕ) → (own : List Act) → Fits S.sound before asked.entry own (ItemState.Defining statement run) (S.known s.old) → Turns S.sound before asked.entry own (S.known s.old) (S.known s.new) result }
 {
     match run.step(s) {
         DefineTurn::Stepped => ItemTurn::Stepped(ItemRun {
             asked,
-            state: ItemState::Dropping(statement, run),
+            state: ItemState::Defining(statement, run),
         }),
         DefineTurn::Waiting { .. } => ItemTurn::Waiting(ItemRun {
             asked,
-            state: ItemState::Dropping(statement, run),
+            state: ItemState::Defining(statement, run),
         }),
         DefineTurn::Over(result) => {
             drop(run);
@@ -282,30 +296,50 @@ fn let_drop<'a, S: Steps>(
     }
 }
 
-/// Goes on with a CREATE TABLE.
-fn create<'a, S: Steps>(
+/// Why an index doesn't stand active.
+fn fault_of(fault: IndexFault) -> DefineFault
+    ensures { result ≡ spec.index_fault fault }
+{
+    match fault {
+        IndexFault::Unmade(fault) => fault,
+        IndexFault::Inactive(_made, fault) => fault,
+    }
+}
+
+/// What a CREATE INDEX came to.
+fn indexed(
+    alloc: Global,
+    asked: Asked<'_>,
+    statement: Statement,
+    came: Result<Indexed, IndexFault>,
+) -> Answered
+    ensures { spec.IsIndexed asked.entry statement came result }
+{
+    let reply = match came {
+        Ok(_indexed) => Reply::Defined(word_of(&statement)),
+        Err(fault) => undefined(alloc, &statement, fault_of(fault)),
+    };
+    drop(statement);
+    over(alloc, asked, reply)
+}
+
+/// Goes on with a CREATE INDEX.
+fn index<'a, S: Steps>(
     alloc: Global,
     s: &mut S,
     asked: Asked<'a>,
     statement: Statement,
-    mut run: DefineRun,
+    run: IndexRun,
 ) -> ItemTurn<'a>
-    requires { (before : ℕ) × Fits S.sound before asked (ItemState.Creating statement run) (S.known s.old) }
-    ensures { (before : ℕ) → Fits S.sound before asked.entry (ItemState.Creating statement run) (S.known s.old) → Turns S.sound before asked.entry (ItemState.Creating statement run) (S.known s.old) (S.known s.new) result }
+    requires { (before : ℕ) × (own : List Act) × Fits S.sound before asked own (ItemState.Indexing statement run) (S.known s.old) }
+    ensures { (before : ℕ) → (own : List Act) → Fits S.sound before asked.entry own (ItemState.Indexing statement run) (S.known s.old) → Turns S.sound before asked.entry own (S.known s.old) (S.known s.new) result }
 {
     match run.step(s) {
-        DefineTurn::Stepped => ItemTurn::Stepped(ItemRun {
+        IndexTurn::Stepped(run) => ItemTurn::Stepped(ItemRun {
             asked,
-            state: ItemState::Creating(statement, run),
+            state: ItemState::Indexing(statement, run),
         }),
-        DefineTurn::Waiting { .. } => ItemTurn::Waiting(ItemRun {
-            asked,
-            state: ItemState::Creating(statement, run),
-        }),
-        DefineTurn::Over(result) => {
-            drop(run);
-            ItemTurn::Over(defined(alloc, asked, statement, result))
-        }
+        IndexTurn::Over(came) => ItemTurn::Over(indexed(alloc, asked, statement, came)),
     }
 }
 
@@ -363,8 +397,8 @@ fn select<'a, S: Steps>(
     statement: Statement,
     mut run: SelectRun,
 ) -> ItemTurn<'a>
-    requires { (before : ℕ) × Fits S.sound before asked (ItemState.Selecting statement run) (S.known s.old) }
-    ensures { (before : ℕ) → Fits S.sound before asked.entry (ItemState.Selecting statement run) (S.known s.old) → Turns S.sound before asked.entry (ItemState.Selecting statement run) (S.known s.old) (S.known s.new) result }
+    requires { (before : ℕ) × (own : List Act) × Fits S.sound before asked own (ItemState.Selecting statement run) (S.known s.old) }
+    ensures { (before : ℕ) → (own : List Act) → Fits S.sound before asked.entry own (ItemState.Selecting statement run) (S.known s.old) → Turns S.sound before asked.entry own (S.known s.old) (S.known s.new) result }
 {
     match run.step(s) {
         SelectTurn::Stepped => ItemTurn::Stepped(ItemRun {
@@ -382,11 +416,66 @@ fn select<'a, S: Steps>(
     }
 }
 
+/// What a DELETE came to.
+fn deleted(alloc: Global, asked: Asked<'_>, statement: Statement, came: Deleted) -> Answered
+    ensures { spec.IsDeletion asked.entry statement came result }
+{
+    let Deleted { receipts, end } = came;
+    let reply = match end {
+        Ok(removed) => Reply::Count {
+            rows: removed.rows,
+            word: CountWord::Affected,
+        },
+        Err(DeleteFault::Unread(fault)) => unselected(alloc, &statement, fault),
+        Err(DeleteFault::Unmade(fault)) => unchanged(alloc, &statement, fault),
+    };
+    drop(statement);
+    let Asked {
+        piece: _piece,
+        settings,
+        first,
+    } = asked;
+    Answered {
+        reply,
+        receipts: Items::of(receipts),
+        places: Items::of(Vec::new(alloc)),
+        first,
+        after: settings,
+    }
+}
+
+/// Goes on with a DELETE.
+fn delete<'a, S: Steps>(
+    alloc: Global,
+    s: &mut S,
+    asked: Asked<'a>,
+    statement: Statement,
+    mut run: DeleteRun,
+) -> ItemTurn<'a>
+    requires { (before : ℕ) × (own : List Act) × Fits S.sound before asked own (ItemState.Deleting statement run) (S.known s.old) }
+    ensures { (before : ℕ) → (own : List Act) → Fits S.sound before asked.entry own (ItemState.Deleting statement run) (S.known s.old) → Turns S.sound before asked.entry own (S.known s.old) (S.known s.new) result }
+{
+    match run.step(s) {
+        DeleteTurn::Stepped => ItemTurn::Stepped(ItemRun {
+            asked,
+            state: ItemState::Deleting(statement, run),
+        }),
+        DeleteTurn::Waiting { .. } => ItemTurn::Waiting(ItemRun {
+            asked,
+            state: ItemState::Deleting(statement, run),
+        }),
+        DeleteTurn::Over(came) => {
+            run.finish();
+            ItemTurn::Over(deleted(alloc, asked, statement, came))
+        }
+    }
+}
+
 impl<'a> ItemRun<'a> {
     /// Makes one call.
     pub fn step<S: Steps>(self, alloc: Global, s: &mut S) -> ItemTurn<'a>
-        requires { (before : ℕ) × Fits S.sound before self.asked self.state (S.known s.old) }
-        ensures { (before : ℕ) → Fits S.sound before self.entry.asked self.entry.state (S.known s.old) → Turns S.sound before self.entry.asked self.entry.state (S.known s.old) (S.known s.new) result }
+        requires { (before : ℕ) × (own : List Act) × Fits S.sound before self.asked own self.state (S.known s.old) }
+        ensures { (before : ℕ) → (own : List Act) → Fits S.sound before self.entry.asked own self.entry.state (S.known s.old) → Turns S.sound before self.entry.asked own (S.known s.old) (S.known s.new) result }
     {
         let ItemRun { asked, state } = self;
         match state {
@@ -394,9 +483,10 @@ impl<'a> ItemRun<'a> {
             ItemState::Changing(statement, run, receipts) => {
                 change(alloc, s, asked, statement, run, receipts)
             }
-            ItemState::Dropping(statement, run) => let_drop(alloc, s, asked, statement, run),
-            ItemState::Creating(statement, run) => create(alloc, s, asked, statement, run),
+            ItemState::Defining(statement, run) => define(alloc, s, asked, statement, run),
+            ItemState::Indexing(statement, run) => index(alloc, s, asked, statement, run),
             ItemState::Selecting(statement, run) => select(alloc, s, asked, statement, run),
+            ItemState::Deleting(statement, run) => delete(alloc, s, asked, statement, run),
         }
     }
 }

@@ -9,13 +9,13 @@ ghost use Rattle.px_item.specs.declared.answered.Settings.{Settings as Set};
 ghost use Rattle.px_item.specs.declared.item.ItemRun.{ItemRun as Runs};
 ghost use Rattle.px_item.specs.declared.item.ItemState.{ItemState as States};
 ghost use Rattle.px_item.specs.Right.{IsAtOnce, IsRight, plain};
-ghost use Rattle.px_item.specs.Turns.{Fits, IsBegun, begun};
+ghost use Rattle.px_item.specs.Turns.{Fits, IsBegun};
 
 use px_calls::Steps;
 
 /// An item that was begun is as the trail tells, and so it stays under others' entries; what is told at once is right.
 pub fn law_items<S: Steps>()
-    ensures begins { (st : Set) → (p : SeenPiece) → (r : Runs) → (k : Known) → (before : ℕ) → before ≤ r.asked.first → r.asked.first ≤ length k.seen → IsBegun st p r → Fits S.sound before r.asked r.state k }
-    ensures others { (before : ℕ) → (asked : Asks) → (s : States) → (k : Known) → (k' : Known) → Passes k k' → Fits S.sound before asked s k → Fits S.sound before asked s k' }
+    ensures begins { (st : Set) → (p : SeenPiece) → (r : Runs) → (k : Known) → (before : ℕ) → before ≤ r.asked.first → r.asked.first ≤ length k.seen → IsBegun st p r → Fits S.sound before r.asked [] r.state k }
+    ensures others { (before : ℕ) → (asked : Asks) → (own : List Acts) → (s : States) → (k : Known) → (k' : Known) → Passes k k' → Fits S.sound before asked own s k → Fits S.sound before asked own s k' }
     ensures at_once { (st : Set) → (p : SeenPiece) → (a : Answers) → (k : Known) → (before : ℕ) → IsAtOnce st p a → IsRight S.sound (plain k) before [] st p a }
 {}

@@ -128,6 +128,7 @@ fn index_absent(alloc: Global, statement: &Statement) -> Reply
                 no_index(alloc, &dropped.name)
             }
         }
+        Statement::CreateIndex(create) => no_index(alloc, &create.name),
         _ => Reply::Refused(Refusal::Memory),
     }
 }
@@ -152,6 +153,13 @@ fn name_taken(alloc: Global, statement: &Statement) -> Reply
                 Reply::Defined(Defined::TableKept)
             } else {
                 name_exists(alloc, &create.name)
+            }
+        }
+        Statement::CreateIndex(index) => {
+            if index.if_not_exists {
+                Reply::Defined(Defined::IndexKept)
+            } else {
+                name_exists(alloc, &index.name)
             }
         }
         _ => Reply::Refused(Refusal::Memory),

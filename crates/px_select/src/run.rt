@@ -90,6 +90,13 @@ impl SelectRun {
         }
     }
 
+    /// The query that it answers.
+    pub fn planned(&self) -> &Planned
+        ensures { result.now ≡ self.now.scan.query }
+    {
+        self.scan.query()
+    }
+
     /// Lets a run go that is over.
     pub fn finish(self)
         requires { self.scan.state ≡ query_state.Over }

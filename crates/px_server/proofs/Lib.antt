@@ -14,6 +14,7 @@ pub mod Elsewhere
 pub mod Ended
 pub mod Ends
 pub mod Fields
+pub mod Finished
 pub mod FitsRows
 pub mod Fixes
 pub mod Forms
@@ -68,6 +69,7 @@ pub mod Running
 pub mod SameStanding
 pub mod Seen
 pub mod ShownAt
+pub mod Stamping
 pub mod Started
 pub mod Starts
 pub mod Stepped

@@ -5,6 +5,7 @@ pub mod Kept
 pub mod Points
 pub mod Repairs
 pub mod Shown
+pub mod Stamps
 pub mod Started
 pub mod Upkeep
 pub mod inner

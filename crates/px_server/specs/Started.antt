@@ -1,5 +1,5 @@
 -- A server begins over a folder that was opened.
-use Rattle.std.specs.Prelude.{◌≡◌, ◌≤◌, ℕ}
+use Rattle.std.specs.Prelude.{◌≡◌, ◌≤◌, ℕ, List}
 use Rattle.std.specs.List.{All}
 use Rattle.px_outside.specs.Disk.{Image}
 use Rattle.px_outside.specs.OnDisk.{IsLeft, LeavesOnly, Only}
@@ -7,6 +7,10 @@ use Rattle.px_outside.specs.declared.disk.Disk.{Ghosts}
 use Rattle.px_catalog.specs.Catalogue.{HasCatalogue}
 use Rattle.px_recovery.specs.Base.{IsSound, IsSoundFolder}
 use Rattle.px_recovery.specs.Folder.{FolderData, StandsFor, StandsOn}
+use Rattle.px_recovery.specs.Stands.{Explains}
+use Rattle.px_groupworld.specs.Group.{GroupData}
+use Rattle.px_trail.specs.Trail.{Base}
+use Rattle.px_trail.specs.declared.entry.Entry.{Entry}
 use Rattle.px_region.specs.Region.{Holds, data_of}
 use Rattle.px_region.specs.declared.region.Region.{Region}
 use Rattle.px_opening.specs.Opened.{all_regions, folder_in}
@@ -34,3 +38,10 @@ pub record IsOpenedOn {D : Type 0} (d : Ghosts D) (disk : D) (o : Opened) : Type
   pub stands : StandsOn d disk (folder_in o)
   pub catalogue : HasCatalogue d o.catalog disk
   pub regions : All (HoldsOwn d disk) (all_regions o)
+
+-- Whatever a stop leaves, the disk stands for a folder that base and entries tell.
+pub record StandsBy {D : Type 0} (d : Ghosts D) (b : Base) (disk : D) (es : List Entry) : Type 0 where
+  pub folder : FolderData
+  pub groups : ℕ → GroupData
+  pub stands : StandsOn d disk folder
+  pub explains : Explains b es folder groups

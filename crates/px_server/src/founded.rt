@@ -1,17 +1,25 @@
 // What a server's run begins with.
+ghost use Rattle.std.specs.Prelude.{ℕ};
+
 use std::marker::Brand;
 
-/// That what was opened is sound, and what the disk's promise rests on. Each call of a program picks them, beside `Based`.
+/// That what was opened is sound, what the disk's promise rests on, and what the clock has to tell. Each call of a program picks them, beside
+/// `Based`.
 pub trait Founded {
     /// What was opened is sound.
     ghost sound: { Type 0 };
 
     /// No call was made, nothing is pending, and the first image is sound: of other disks nothing is promised.
     ghost premise: { Type 0 };
+
+    /// The numbers that the clock would tell from the beginning on.
+    ghost times: { ℕ → ℕ };
 }
 
 impl Founded for Brand {
     ghost sound = { Unit {0} };
 
     ghost premise = { Unit {0} };
+
+    ghost times = { λ n. 0 };
 }

@@ -1,8 +1,8 @@
 //! The server: a catalogue and tables with their regions on a disk, and the trail of all that was done.
 //!
-//! Its invariant (`IsKept`) says what the trail tells of definitions and groups, what the groups show where the opened folder is sound, and
-//! that each image that a stop may leave of any moment recovers. Each method has the clause of its step in `Steps` (px_calls), word by
-//! word; `finish` hands out what is promised of the disk.
+//! Its invariant (`IsKept`, `IsByClock`) says what the trail tells of definitions and groups, what the groups show where the opened folder is
+//! sound, that each image that a stop may leave of any moment recovers, and that stamps are by the clock. Each method has the clause of its
+//! step in `Steps` (px_calls), word by word; `finish` hands out what is promised of the disk and of the stamps.
 #![tactic(auto)]
 
 mod beginning;

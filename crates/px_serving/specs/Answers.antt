@@ -26,8 +26,9 @@ stopped_item fault n = record { statement = record { start = 0; end = n }; reply
 abbrev pub stopped_by : ScriptFault → ℕ → List Transcript
 stopped_by fault n = record { session = 1; round = 1; items = stopped_item fault n ∷ [] } ∷ []
 
--- Nothing of the script is run, and session 1 is told why, unless no memory was found to keep that
-pub record IsStopped (script : List ℕ) (ts : List Transcript) (memory : Bool) : Type 0 where
+-- Nothing of the script is run, and session 1 is told why, unless no memory was found to keep that. The trail has no entry from the place `from` on
+pub record IsStopped (k : Known) (from : ℕ) (script : List ℕ) (ts : List Transcript) (memory : Bool) : Type 0 where
+  pub still : length k.seen ≡ from
   pub fault : ScriptFault
   pub why : StopsScript script fault
   pub told : (ts ≡ stopped_by fault (length script)) ⊎ ((ts ≡ []) × (memory ≡ true))
@@ -39,4 +40,4 @@ pub record IsAnswered (sound : Type 0) (k : Known) (from : ℕ) (script : List �
 
 -- the answers to a script
 abbrev pub AnswersScript : Type 0 → Known → ℕ → List ℕ → List Transcript → (sink_failed memory : Bool) → Type 0
-AnswersScript sound k from script ts sink_failed memory = IsAnswered sound k from script ts sink_failed memory ⊎ IsStopped script ts memory
+AnswersScript sound k from script ts sink_failed memory = IsAnswered sound k from script ts sink_failed memory ⊎ IsStopped k from script ts memory

@@ -1,25 +1,32 @@
 -- What a run of the program leaves.
-use Rattle.std.specs.Prelude.{◌≡◌, ◌≢◌, ◌<◌, ◌≤◌, ◌⊎◌, ℕ, Bool, true, false, List, [], length, take, drop, IsTrue, Option, None, Some}
+use Rattle.std.specs.Prelude.{◌≡◌, ◌≢◌, ◌<◌, ◌≤◌, ◌+◌, ◌*◌, ◌⊎◌, ℕ, Bool, true, false, List, [], length, take, drop, IsTrue, Option, None, Some}
 use Rattle.px_outside.specs.Disk.{Image}
 use Rattle.px_outside.specs.Faults.{FaultsRose}
-use Rattle.px_outside.specs.OnDisk.{IsLeft, Rose}
+use Rattle.px_outside.specs.OnDisk.{IsLeft, Only, TouchesOnly, Rose}
+use Rattle.px_outside.specs.declared.clock.Clock.{Ghosts as ClockGhosts}
 use Rattle.px_outside.specs.declared.disk.Disk.{Ghosts as DiskGhosts}
 use Rattle.px_outside.specs.declared.sink.Sink.{Ghosts as SinkGhosts}
 use Rattle.px_outside.specs.declared.source.Source.{Ghosts as SourceGhosts}
 use Rattle.px_trail.specs.declared.entry.Entry.{Entry}
 use Rattle.px_trail.specs.Legal.{IsLegal}
-use Rattle.px_trail.specs.Trail.{Base}
+use Rattle.px_trail.specs.Trail.{Base, closing_call}
 use Rattle.px_calls.specs.Known.{Known}
 use Rattle.px_reply.specs.Printed.{printed}
 use Rattle.px_reply.specs.declared.transcript.Transcript.{Transcript}
+use Rattle.px_catalog.specs.Catalogue.{catalogue_files}
 use Rattle.px_recovery.specs.Base.{IsSound, IsSoundFolder, base_of}
-use Rattle.px_recovery.specs.Folder.{FolderData, IsEmptyFrom, StandsFor}
+use Rattle.px_recovery.specs.Folder.{FolderData, IsEmptyFrom, StandsFor, from, region_numbers}
+use Rattle.px_recovery.specs.Kept.{IsLate}
 use Rattle.px_recovery.specs.Stands.{Recovers}
 use Rattle.px_folder.specs.Damage.{IsFirstDamaged}
 use Rattle.px_rounds.specs.Written.{IsWritten}
 use Rattle.px_server.specs.Kept.{HasFailed, has_told}
-use Rattle.px_server.specs.Started.{StartsSound}
+use Rattle.px_server.specs.Started.{StartsSound, StandsBy}
+use Rattle.px_session.specs.Replies.{has_fatal}
+use Rattle.px_server.specs.Stamps.{AreStamped}
 use Rattle.px_serving.specs.Answers.{AnswersScript}
+use Rattle.px_serving.specs.Complete.{IsComplete}
+use Rattle.px_serving.specs.Ended.{AllEnded}
 use Rattle.px_serving.specs.Status.{causes_of, is_memory_status, items_of, status_of}
 use Rattle.px_serving.specs.Words.{folder_in}
 use Rattle.px_serving.specs.declared.outcome.Outcome.{Outcome}
@@ -28,8 +35,9 @@ use Rattle.px_serving.specs.declared.status.Status.TheVariants.{Done, Refused, B
 
 -- ---- what a run is given and leaves
 
-pub record RunGiven (D I O : Type 0) : Type 0 where
+pub record RunGiven (D C I O : Type 0) : Type 0 where
   pub disk : D
+  pub clock : C
   pub input : I
   pub out : O
   pub words : List (List ℕ)
@@ -39,8 +47,8 @@ pub record RunLeft (D I O : Type 0) : Type 0 where
   pub input : I
   pub out : O
 
-abbrev pub run_given : {D I O : Type 0} → D → I → O → List (List ℕ) → RunGiven D I O
-run_given disk input out words = record { disk = disk; input = input; out = out; words = words }
+abbrev pub run_given : {D C I O : Type 0} → D → C → I → O → List (List ℕ) → RunGiven D C I O
+run_given disk clock input out words = record { disk = disk; clock = clock; input = input; out = out; words = words }
 
 abbrev pub run_left : {D I O : Type 0} → Outcome D → I → O → RunLeft D I O
 run_left outcome input out = record { outcome = outcome; input = input; out = out }
@@ -66,6 +74,12 @@ pub record IsOrigin {D : Type 0} (d : DiskGhosts D) (disk : D) (folder : FolderD
   pub stands : IsTrue d.tells → IsEmptyFrom folder.standing.next (d.seen disk) → StandsFor (d.seen disk) folder
   pub sound : IsTrue d.tells → IsSound (d.seen disk) → StandsFor (d.seen disk) folder × IsSoundFolder folder
 
+-- The folder that reads give is sound, and no file of a region that is still to be drawn has a byte, whatever a stop leaves. All else that reads
+-- give may still be lost by a stop, as after a process was killed.
+pub record ReadsSound {D : Type 0} (d : DiskGhosts D) (disk : D) : Type 0 where
+  pub sound : IsSound (d.seen disk)
+  pub fresh : (file : ℕ) → from sound.folder.standing.next file → Only d disk file
+
 -- no place of a file that is read behind the opening is damaged: none is read
 abbrev pub undamaged : ℕ → ℕ → Bool
 undamaged file place = false
@@ -90,20 +104,22 @@ Stops d s disk disk' input input' words SourceFault = (folder_in words ≢ None)
 Stops d s disk disk' input input' words Memory = (folder_in words ≢ None) × StopsDisk d disk disk' Memory × ReadsSome s input input'
 Stops d s disk disk' input input' words status = (folder_in words ≢ None) × StopsDisk d disk disk' status × ReadsAll s input input'
 
--- Nothing was run: nothing is told but the status, no byte is written, and each image that a stop may leave recovers
-pub record IsUnrun {D I O : Type 0} (d : DiskGhosts D) (s : SourceGhosts I) (given : RunGiven D I O) (left : RunLeft D I O) : Type 0 where
+-- Nothing was run: nothing is told but the status, no byte is written, all files but the catalogue's stay as they were, and each image that a stop may
+-- leave recovers
+pub record IsUnrun {D C I O : Type 0} (d : DiskGhosts D) (s : SourceGhosts I) (given : RunGiven D C I O) (left : RunLeft D I O) : Type 0 where
   pub cause : Stops d s given.disk left.outcome.disk given.input left.input given.words left.outcome.status
   pub no_entries : left.outcome.trail.entries ≡ []
   pub no_late : left.outcome.late ≡ None
   pub no_replies : left.outcome.transcripts ≡ []
   pub no_bytes : left.out ≡ given.out
   pub memory_is : left.outcome.memory ≡ is_memory_status left.outcome.status
+  pub others_stay : IsTrue d.tells → TouchesOnly d given.disk left.outcome.disk catalogue_files
   pub stops_recover : (starts : StartsSound d given.disk) → (moment : ℕ) (image : Image) → IsLeft d left.outcome.disk moment image → Recovers (base_of starts.sound.folder) [] None moment image
 
 -- ---- a run
 
 -- The words name a folder, the input was read, and its script was run on what the folder stood for
-pub record IsRun {D I O : Type 0} (d : DiskGhosts D) (s : SourceGhosts I) (k : SinkGhosts O) (given : RunGiven D I O) (left : RunLeft D I O) : Type 0 where
+pub record IsRun {D C I O : Type 0} (d : DiskGhosts D) (c : ClockGhosts C) (s : SourceGhosts I) (k : SinkGhosts O) (given : RunGiven D C I O) (left : RunLeft D I O) : Type 0 where
   pub words_name_a_folder : folder_in given.words ≢ None
   pub script : List ℕ
   pub script_is_the_input : IsTrue s.tells → script ≡ take most_read (s.remaining given.input)
@@ -112,6 +128,8 @@ pub record IsRun {D I O : Type 0} (d : DiskGhosts D) (s : SourceGhosts I) (k : S
   pub folder : FolderData
   pub origin_is_the_folder : IsOrigin d given.disk folder
   pub trail_is_legal : IsLegal (base_of folder) left.outcome.trail.entries
+  -- each stamp that was drawn is the one behind its table's last by a number that the clock told, each by a later one
+  pub stamps_are_by_the_clock : IsTrue c.tells → (n : ℕ) × AreStamped (c.times given.clock) (base_of folder) [] 0 n left.outcome.trail.entries
   -- the sessions are answered, round by round; what is told of rows is told where the folder was sound
   pub seat : ℕ
   pub sink_failed : Bool
@@ -119,8 +137,21 @@ pub record IsRun {D I O : Type 0} (d : DiskGhosts D) (s : SourceGhosts I) (k : S
   pub bytes_are_printed : IsWritten k given.out left.out (printed left.outcome.transcripts) sink_failed left.outcome.memory
   -- each image that a stop may leave at a moment of the run stands for what was there then, or for this and the one entry under way
   pub stops_recover : StartsSound d given.disk → (moment : ℕ) (image : Image) → IsLeft d left.outcome.disk moment image → Recovers (base_of folder) left.outcome.trail.entries left.outcome.late moment image
+  -- and so does each at a moment from the opening's end on, where a stop may lose what reads gave at first; before it a stop leaves the files as at first, but for the catalogue's
+  pub opened : ℕ
+  pub opened_soon : opened ≤ d.calls given.disk + (17 + 12 * length (region_numbers folder.standing))
+  pub opened_within : opened ≤ d.calls left.outcome.disk
+  pub before_it : (moment file : ℕ) (bytes : List ℕ) → d.calls given.disk ≤ moment → moment < opened → ¬ catalogue_files file → d.left left.outcome.disk moment file bytes → d.left given.disk (d.calls given.disk) file bytes
+  pub stops_recover_later : ReadsSound d given.disk → (moment : ℕ) (image : Image) → opened ≤ moment → IsLeft d left.outcome.disk moment image → Recovers (base_of folder) left.outcome.trail.entries left.outcome.late moment image
+  -- unless a failed write closed the server, no entry is late, and the folder stands for what base and trail give; the late one may come where it was closed
+  pub folder_stands : closing_call left.outcome.trail.entries ≡ None → ReadsSound d given.disk → IsTrue d.tells → StandsBy d (base_of folder) left.outcome.disk left.outcome.trail.entries
+  pub late_is_of_a_failed_write : closing_call left.outcome.trail.entries ≡ None → left.outcome.late ≡ None
+  pub late_is_where_it_closed : (u : Entry) → left.outcome.late ≡ Some u → ReadsSound d given.disk → IsTrue d.tells → IsLate (base_of folder) left.outcome.trail.entries u
   pub status_is_caused : left.outcome.status ≡ status_of sink_failed (d.first_fault left.outcome.disk) left.outcome.memory (causes_of (items_of left.outcome.transcripts))
   pub faults_are_theirs : has_told left.outcome.trail.entries ≡ true → HasFailed d left.outcome.disk
+  -- where no session is stopped, each batch has ended, and each point is closed
+  pub all_is_ended : has_fatal (items_of left.outcome.transcripts) ≡ false → AllEnded left.outcome.trail.entries
+  pub run_is_complete : IsComplete d k left.outcome.disk given.out left.out script left.outcome.transcripts left.outcome.memory left.outcome.status
 
 -- where a call of the disk failed, the status tells the first that did, or that the sink failed too
 abbrev pub FaultsAreTold : {D : Type 0} → DiskGhosts D → D → D → Status → Type 0

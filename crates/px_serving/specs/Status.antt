@@ -102,6 +102,17 @@ exit_code (Damaged file place) = 5
 exit_code SourceFault = 6
 exit_code SinkFault = 7
 
+-- the statuses that come where nothing fails outside
+abbrev pub IsQuietStatus : Status → Type 0
+IsQuietStatus Done = Unit {0}
+IsQuietStatus Refused = Unit {0}
+IsQuietStatus BadWords = ⊥
+IsQuietStatus (Device call) = ⊥
+IsQuietStatus Memory = Unit {0}
+IsQuietStatus (Damaged file place) = ⊥
+IsQuietStatus SourceFault = ⊥
+IsQuietStatus SinkFault = ⊥
+
 abbrev pub is_memory_status : Status → Bool
 is_memory_status Memory = true
 is_memory_status status = false

@@ -10,6 +10,7 @@ mod outcome;
 mod replies;
 mod run;
 mod served;
+mod since;
 mod status;
 mod watched;
 mod words;

@@ -1,5 +1,5 @@
 // A run of the program, from its words to its status.
-ghost use Rattle.std.specs.Prelude.{◌≡◌, ◌<◌, ◌⊎◌, [], None, map, IsTrue, ℕ};
+ghost use Rattle.std.specs.Prelude.{◌≡◌, ◌<◌, ◌≤◌, ◌⊎◌, [], None, map, IsTrue, ℕ, List};
 ghost use Rattle.std.specs.String.{string_bytes};
 ghost use Rattle.px_outside.specs.Disk.{Image};
 ghost use Rattle.px_outside.specs.OnDisk.{IsLeft};
@@ -15,11 +15,12 @@ ghost use Rattle.px_server.specs.Started.{IsOpenedOn, StartsSound};
 ghost use Rattle.px_serving.specs.Answers.{AnswersScript};
 ghost use Rattle.px_serving.specs.Run.{FaultsAreTold, IsRun, IsUnrun, run_given, run_left, undamaged};
 ghost use Rattle.px_serving.specs.Status.{is_memory_status};
-ghost use Rattle.px_serving.specs.inner.Running.{RanOn, RanOpened, stopped_by};
+ghost use Rattle.px_serving.specs.inner.Running.{IsOpenedNow, RanOn, RanOpened, StoodBefore, IsLeftSince, stopped_by};
 
 use crate::causes::{causes_in, status_after};
 use crate::outcome::{Outcome, unrun};
 use crate::served::run_script;
+use crate::since::{Later, Since};
 use crate::status::Status;
 use crate::watched::Watched;
 use crate::words::folder_word;
@@ -68,7 +69,8 @@ fn serve<R: Wait, D: CountsCalls, C: Clock + Drop, O: Sink, B: Based + Founded>(
     run_script(rt, alloc, server, script, out)
 }
 
-/// Runs a script over a folder that was opened, and writes its replies. `B` tells the base, whether the folder is sound, and the premise.
+/// Runs a script over a folder that was opened, and writes its replies. `B` tells the base, whether the folder is sound, the premise, and what
+/// the clock has to tell.
 fn run_over<R: Wait, D: CountsCalls, C: Clock + Drop, O: Sink, B: Based + Founded>(
     rt: &R,
     alloc: Global,
@@ -83,7 +85,8 @@ fn run_over<R: Wait, D: CountsCalls, C: Clock + Drop, O: Sink, B: Based + Founde
     requires damaged { B.damaged ≡ undamaged }
     requires sound { B.sound → IsSoundFolder (folder_in opened) }
     requires disk { B.premise → IsTrue D.tells → IsOpenedOn ⟦<D as Disk>⟧ disk opened }
-    ensures { RanOpened ⟦<D as Disk>⟧ ⟦<O as Sink>⟧ B.base B.sound B.premise script.now disk out.old out.new result }
+    requires times { IsTrue C.tells → (n : ℕ) → C.times clock n ≡ B.times n }
+    ensures { RanOpened ⟦<D as Disk>⟧ ⟦<C as Clock>⟧ ⟦<O as Sink>⟧ B.base B.sound B.premise (IsLeft ⟦<D as Disk>⟧) B.times script.now disk out.old out.new result }
 {
     match Server::<D, C, B>::over(alloc, disk, clock, LOOKBACK, opened) {
         Err(disk) => {
@@ -112,6 +115,48 @@ fn run_over<R: Wait, D: CountsCalls, C: Clock + Drop, O: Sink, B: Based + Founde
     }
 }
 
+/// The same on a disk of which stops are told from the opening's end on, and earlier ones where the folder stood for what was opened before.
+fn run_since<R: Wait, D: CountsCalls, C: Clock + Drop, O: Sink, B: Based + Founded + Since>(
+    rt: &R,
+    alloc: Global,
+    script: &[u8],
+    disk: D,
+    opened: Opened,
+    clock: C,
+    out: &mut O,
+) -> Outcome<D>
+    requires right { IsOpenedRight opened }
+    requires base { B.base ≡ base_of (folder_in opened) }
+    requires damaged { B.damaged ≡ undamaged }
+    requires sound { B.sound → IsSoundFolder (folder_in opened) }
+    requires opened { B.premise → IsTrue D.tells → IsOpenedNow ⟦<D as Disk>⟧ disk opened }
+    requires from { B.from ≡ D.calls disk }
+    requires all { B.all → StoodBefore ⟦<D as Disk>⟧ disk opened }
+    requires was { (moment : ℕ) → (file : ℕ) → (bytes : List ℕ) → moment < B.from → D.left disk moment file bytes → B.was moment file bytes }
+    requires times { IsTrue C.tells → (n : ℕ) → C.times clock n ≡ B.times n }
+    ensures ran { RanOpened ⟦<D as Disk>⟧ ⟦<C as Clock>⟧ ⟦<O as Sink>⟧ B.base B.sound B.premise (IsLeftSince ⟦<D as Disk>⟧ B.from B.all) B.times script.now disk out.old out.new result }
+    ensures begun { B.from ≤ D.calls result.disk }
+    ensures past { (moment : ℕ) → (file : ℕ) → (bytes : List ℕ) → moment < B.from → D.left result.disk moment file bytes → B.was moment file bytes }
+{
+    let later = Later::<D, B>::new(disk);
+    let Outcome {
+        status,
+        disk,
+        trail,
+        late,
+        transcripts,
+        memory,
+    } = run_over::<R, Later<D, B>, C, O, B>(rt, alloc, script, later, opened, clock, out);
+    Outcome {
+        status,
+        disk: disk.into_disk(),
+        trail,
+        late,
+        transcripts,
+        memory,
+    }
+}
+
 /// Runs a script over a folder that was opened.
 fn run_opened<R: Wait, D: CountsCalls, C: Clock + Drop, O: Sink>(
     rt: &R,
@@ -123,9 +168,11 @@ fn run_opened<R: Wait, D: CountsCalls, C: Clock + Drop, O: Sink>(
     out: &mut O,
 ) -> Outcome<D>
     requires right { IsOpenedRight opened }
-    ensures { RanOpened ⟦<D as Disk>⟧ ⟦<O as Sink>⟧ (base_of (folder_in opened)) (IsSoundFolder (folder_in opened)) (IsTrue D.tells → IsOpenedOn ⟦<D as Disk>⟧ disk opened) script.now disk out.old out.new result }
+    ensures ran { RanOpened ⟦<D as Disk>⟧ ⟦<C as Clock>⟧ ⟦<O as Sink>⟧ (base_of (folder_in opened)) (IsSoundFolder (folder_in opened)) (IsTrue D.tells → IsOpenedNow ⟦<D as Disk>⟧ disk opened) (IsLeftSince ⟦<D as Disk>⟧ (D.calls disk) (StoodBefore ⟦<D as Disk>⟧ disk opened)) (C.times clock) script.now disk out.old out.new result }
+    ensures begun { D.calls disk ≤ D.calls result.disk }
+    ensures past { (moment : ℕ) → (file : ℕ) → (bytes : List ℕ) → moment < D.calls disk → D.left result.disk moment file bytes → D.left disk moment file bytes }
 {
-    run_over::<R, D, C, O, Brand>(rt, alloc, script, disk, opened, clock, out)
+    run_since::<R, D, C, O, Brand>(rt, alloc, script, disk, opened, clock, out)
 }
 
 /// Opens the folder, and runs a script on its tables.
@@ -137,7 +184,7 @@ fn run_on<R: Wait, D: CountsCalls, C: Clock + Drop, O: Sink>(
     clock: C,
     out: &mut O,
 ) -> Outcome<D>
-    ensures { RanOn ⟦<D as Disk>⟧ ⟦<O as Sink>⟧ script.now disk out.old out.new result }
+    ensures { RanOn ⟦<D as Disk>⟧ ⟦<C as Clock>⟧ ⟦<O as Sink>⟧ script.now clock disk out.old out.new result }
 {
     law_starts::<D>();
     match open(alloc, &mut disk) {
@@ -159,7 +206,7 @@ fn run_folder<R: Wait, D: Disk, C: Clock + Drop, O: Sink>(
     out: &mut O,
 ) -> Outcome<D>
     requires fresh { (D.calls disk ≡ 0) × (D.faults disk ≡ 0) × (D.first_fault disk ≡ 0) }
-    ensures run { RanOn ⟦<D as Disk>⟧ ⟦<O as Sink>⟧ script.now disk out.old out.new result }
+    ensures run { RanOn ⟦<D as Disk>⟧ ⟦<C as Clock>⟧ ⟦<O as Sink>⟧ script.now clock disk out.old out.new result }
     ensures known { 0 < D.faults result.disk → 0 < D.first_fault result.disk }
     ensures failed { 0 < D.first_fault result.disk → 0 < D.faults result.disk }
 {
@@ -208,8 +255,8 @@ pub fn phoenix<R: Wait, D: Disk, C: Clock + Drop, I: Source, O: Sink>(
     out: &mut O,
 ) -> Outcome<D>
     requires fresh { (D.calls disk ≡ 0) × (D.faults disk ≡ 0) × (D.first_fault disk ≡ 0) }
-    ensures run { IsUnrun ⟦<D as Disk>⟧ ⟦<I as Source>⟧ (run_given disk input.old out.old (map string_bytes words.now)) (run_left result input.new out.new)
-        ⊎ IsRun ⟦<D as Disk>⟧ ⟦<I as Source>⟧ ⟦<O as Sink>⟧ (run_given disk input.old out.old (map string_bytes words.now)) (run_left result input.new out.new) }
+    ensures run { IsUnrun ⟦<D as Disk>⟧ ⟦<I as Source>⟧ (run_given disk clock input.old out.old (map string_bytes words.now)) (run_left result input.new out.new)
+        ⊎ IsRun ⟦<D as Disk>⟧ ⟦<C as Clock>⟧ ⟦<I as Source>⟧ ⟦<O as Sink>⟧ (run_given disk clock input.old out.old (map string_bytes words.now)) (run_left result input.new out.new) }
     ensures faults_are_told { FaultsAreTold ⟦<D as Disk>⟧ disk result.disk result.status }
 {
     if folder_word(words).is_none() {

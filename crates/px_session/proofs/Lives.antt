@@ -18,12 +18,13 @@ use Rattle.px_calls.proofs.Runs.{ran-none, ran-then}
 use Rattle.px_reply.specs.declared.transcript.Item.{Item}
 use Rattle.px_reply.specs.declared.transcript.Transcript.{Transcript}
 use Rattle.px_item.specs.declared.answered.Answered.{Answered}
+use Rattle.px_item.specs.declared.answered.Asked.{Asked}
 use Rattle.px_item.specs.declared.answered.Settings.{Settings}
 use Rattle.px_item.specs.declared.item.ItemRun.{ItemRun}
 use Rattle.px_item.specs.declared.item.ItemTurn.TheVariants as turn
 use Rattle.px_item.specs.Right.{IsAtOnce, IsRight, after, plain}
 use Rattle.px_item.specs.Right as right
-use Rattle.px_item.specs.Turns.{Fits, IsBegun, Turns, begun}
+use Rattle.px_item.specs.Turns.{Fits, IsBegun, Turns}
 use Rattle.px_item.proofs.Starting.{starts_fitting}
 use Rattle.px_item.proofs.Going.{fits_passes}
 use Rattle.px_session.specs.declared.run.Doing.{Doing}
@@ -105,7 +106,9 @@ module _ (sound : Type 0) (began : SessionState) where
   doing_passes : (k k' : Known) (n : ℕ) (left : List SeenPiece) (d : Doing) → Passes k k' → n ≤ length k.seen → IsDoing sound k n left d → IsDoing sound k' n left d
   doing_passes k k' n left (Idle st) p le h = own_passes k k' n (of_passes k k' p) le ∙ h
   doing_passes k k' n left (Under r span) p le h =
-      record { rest = h.rest; next = h.next; span_is = h.span_is; fits = fits_passes sound n r.asked r.state k k' p h.fits; own = own_passes k k' n (of_passes k k' p) le ∙ h.own }
+      let own = own_passes k k' n (of_passes k k' p) le in
+      let fits = fits_passes sound n r.asked (own_since k.seat n k.seen) r.state k k' p h.fits in
+      record { rest = h.rest; next = h.next; span_is = h.span_is; fits = subst (λ (l : List Act). Fits sound n r.asked l r.state k') (sym own) fits }
   doing_passes k k' n left Taken p le h = absurd h
 
   pub live_passes : (run : SessionRun) (k k' : Known) → Passes k k' → IsLive sound k began run → IsLive sound k' began run
@@ -205,12 +208,13 @@ module _ (sound : Type 0) (began : SessionState) where
   }
 
   -- the item goes on
-  pub goes_on : (k k' : Known) (run run' : SessionRun) (old new : ItemRun) (span : Span) (acts : List Act) → IsLive sound k began (with_doing run (Under old span)) → run.ending ≡ None → Ran k k' acts → new.asked ≡ old.asked → Fits sound run.before old.asked new.state k'
-      → begun old.state ++ outline acts ≡ begun new.state → run' ≡ with_doing run (Under new span) → StepsOn sound began k (with_doing run (Under old span)) k' run'
-  goes_on k k' run run' old new span acts live going ran asked fits sum is =
+  pub goes_on : (k k' : Known) (run run' : SessionRun) (old new : ItemRun) (span : Span) (acts : List Act) → IsLive sound k began (with_doing run (Under old span)) → run.ending ≡ None → Ran k k' acts → new.asked ≡ old.asked
+      → Fits sound run.before old.asked (own_since k.seat run.before k.seen ++ outline acts) new.state k' → run' ≡ with_doing run (Under new span) → StepsOn sound began k (with_doing run (Under old span)) k' run'
+  goes_on k k' run run' old new span acts live going ran asked fits is =
       let o = of_ran k k' acts ran in
       let d = live.doing in
-      let own : own_since k'.seat run.before k'.seen ≡ begun new.state = own_on k k' acts run.before o live.within ∙ (ap (λ (l : List Act). l ++ outline acts) d.own ∙ sum) in
+      let own : own_since k'.seat run.before k'.seen ≡ own_since k.seat run.before k.seen ++ outline acts = own_on k k' acts run.before o live.within in
+      let F : Asked × List Act → Type 0 = λ q. Fits sound run.before q.0 q.1 new.state k' in
       let at = told_on sound k k' acts run.from _ run.items.items run.before _ o live.replied in
       let now : IsLive sound k' began (with_doing run (Under new span)) = record {
         replied = subst (λ (q : _). AreReplied sound k' run.from (at_first began (seen_of run)) run.items.items run.before (record { settings = q.settings; left = drop run.next (seen_of run) })) (sym asked) at;
@@ -219,8 +223,7 @@ module _ (sound : Type 0) (began : SessionState) where
           rest = d.rest;
           next = d.next ∙ ap (λ q. seen_piece q.piece ∷ d.rest) (sym asked);
           span_is = d.span_is ∙ ap (λ q. span_of (seen_piece q.piece)) (sym asked);
-          fits = subst (λ q. Fits sound run.before q new.state k') (sym asked) fits;
-          own = own;
+          fits = subst F (λ i. (sym asked i, sym own i)) fits;
         };
         ends = live.ends;
         idle = not_at_end run.ending (Under new span) going;
@@ -236,7 +239,7 @@ module _ (sound : Type 0) (began : SessionState) where
       }
 
   -- the item is over
-  pub is_over : (k k' : Known) (run run' : SessionRun) (old : ItemRun) (span : Span) (a : Answered) (last : ℕ) → IsLive sound k began (with_doing run (Under old span)) → run.ending ≡ None → Turns sound run.before old.asked old.state k k' (turn.Over a)
+  pub is_over : (k k' : Known) (run run' : SessionRun) (old : ItemRun) (span : Span) (a : Answered) (last : ℕ) → IsLive sound k began (with_doing run (Under old span)) → run.ending ≡ None → Turns sound run.before old.asked (own_since k.seat run.before k.seen) k k' (turn.Over a)
       → last ≡ length k'.seen → IsPushed run span a last run' → StepsOn sound began k (with_doing run (Under old span)) k' run'
   is_over k k' run run' old span a last live going t here push =
       let o = of_ran k k' t.acts t.ran in
@@ -245,7 +248,7 @@ module _ (sound : Type 0) (began : SessionState) where
       let last_low = t.told.1 in
       let low = d.fits.begins in
       let within = longer k k' t.acts old.asked.first o d.fits.within in
-      let own : own_since k'.seat run.before k'.seen ≡ begun old.state ++ outline t.acts = own_on k k' t.acts run.before o live.within ∙ ap (λ (l : List Act). l ++ outline t.acts) d.own in
+      let own : own_since k'.seat run.before k'.seen ≡ own_since k.seat run.before k.seen ++ outline t.acts = own_on k k' t.acts run.before o live.within in
       let r = subst (λ (l : List Act). IsRight sound (plain k') run.before l old.asked.settings (seen_piece old.asked.piece) a) (sym own) t.told.2 in
       record {
         acts = t.acts;
@@ -257,7 +260,7 @@ module _ (sound : Type 0) (began : SessionState) where
 
   -- 7. The next piece
 
-  fits_first : (k : Known) (before : ℕ) (st : Settings) (p : Piece) (r : ItemRun) → before ≤ r.asked.first → r.asked.first ≤ length k.seen → IsBegun st (seen_piece p) r → Fits sound before r.asked r.state k × (begun r.state ≡ [])
+  fits_first : (k : Known) (before : ℕ) (st : Settings) (p : Piece) (r : ItemRun) → before ≤ r.asked.first → r.asked.first ≤ length k.seen → IsBegun st (seen_piece p) r → Fits sound before r.asked [] r.state k
   fits_first k before st p r low within b = starts_fitting sound before st (seen_piece p) r k low within b
 
   pub starts : (k : Known) (run run' : SessionRun) (st : Settings) (p : Piece) (first : ℕ) → first ≡ length k.seen → IsLive sound k began (with_doing run (Idle st)) → run.ending ≡ None → length run.items.items < vec_capacity run.items
@@ -283,8 +286,7 @@ module _ (sound : Type 0) (began : SessionState) where
           rest = _;
           next = next ∙ ap (λ (q : SeenPiece). q ∷ drop (suc run.next) (seen_of run)) (sym j.begun.piece);
           span_is = ap span_of (sym j.begun.piece);
-          fits = fits.0;
-          own = live.doing ∙ sym fits.1;
+          fits = subst (λ (l : List Act). Fits sound run.before r.asked l r.state k) (sym live.doing) fits;
         };
         ends = live.ends;
         idle = not_at_end run.ending _ going;

@@ -12,7 +12,7 @@ use Rattle.px_item.specs.declared.answered.Answered.{Answered}
 use Rattle.px_item.specs.declared.answered.Settings.{Settings}
 use Rattle.px_item.specs.declared.item.ItemRun.{ItemRun}
 use Rattle.px_item.specs.Right.{IsAtOnce}
-use Rattle.px_item.specs.Turns.{Fits, IsBegun, begun}
+use Rattle.px_item.specs.Turns.{Fits, IsBegun}
 use Rattle.px_session.specs.declared.run.Doing.{Doing}
 use Rattle.px_session.specs.declared.run.Doing.TheVariants.{Idle, Under, Taken}
 use Rattle.px_session.specs.declared.run.SessionRun.{SessionRun}
@@ -41,13 +41,12 @@ seen_of run = map seen_piece run.pieces.items
 abbrev pub standing : SessionRun → Standing
 standing run = record { settings = settings_of run.doing; left = drop run.next (seen_of run) }
 
--- the item of the next piece is under way: what the seat did for it so far is what the run holds
+-- the item of the next piece is under way: what the seat did since the last item is what it did for this one
 pub record IsUnder (sound : Type 0) (k : Known) (before : ℕ) (left : List SeenPiece) (r : ItemRun) (span : Span) : Type 0 where
   pub rest : List SeenPiece
   pub next : left ≡ seen_piece r.asked.piece ∷ rest
   pub span_is : span ≡ span_of (seen_piece r.asked.piece)
-  pub fits : Fits sound before r.asked r.state k
-  pub own : own_since k.seat before k.seen ≡ begun r.state
+  pub fits : Fits sound before r.asked (own_since k.seat before k.seen) r.state k
 
 -- What the session does, as the trail tells it: nothing since its last item, or the item of the next piece
 abbrev pub IsDoing : Type 0 → Known → ℕ → List SeenPiece → Doing → Type 0

@@ -14,6 +14,7 @@ use Rattle.px_calls.specs.Requires.{AreFitting, CanAbandon, CanEnd, IsDrawn, IsO
 use Rattle.px_planned.specs.Queries.{query_of}
 use Rattle.px_planned.specs.declared.planned.Planned.{Planned}
 use Rattle.px_scan.specs.Turns.{IsBound}
+use Rattle.px_deleting.specs.Deleting.{CanBegin}
 use Rattle.px_tests_steps.specs.Bare.{all_rows, bare, empty, one_gone}
 
 pub sees : Sees bare bare
@@ -88,3 +89,7 @@ bound = record { drawn = drawn; is = λ x h. none_some x h }
 pub bound_to : (p : Planned) → p.table.id.0 ≡ 3 → IsBound bare (query_of p)
 unfolding catalogue_from
 bound_to p e = record { drawn = subst (λ (t : ℕ). IsDrawn bare t) (sym e) drawn; is = λ x h. none_some x h }
+
+-- what a DELETE asks of its first step
+pub begins_on : (p : Planned) → p.table.id.0 ≡ 3 → CanBegin bare p
+begins_on p e = record { legal = legal-none empty; bound = bound_to p e }

@@ -8,3 +8,9 @@ returns-in-DropIndex c = c.index_dropped.ensures c.args.scn
 
 pub returns-in-Explain : goal.returns-in-Explain
 returns-in-Explain c = c.explained.ensures
+
+pub returns-in-CreateIndex : goal.returns-in-CreateIndex
+returns-in-CreateIndex c = rw c.in-CreateIndex.is (c.index_created.ensures c.args.scn)
+
+pub returns-in-Delete : goal.returns-in-Delete
+returns-in-Delete c = c.deleted.ensures c.args.scn

@@ -4,7 +4,7 @@ use Rattle.px_item.proofs.Going.{fits_passes}
 use Rattle.px_item.proofs.laws.law_items.Goals as goal
 
 pub returns-clause-others : goal.returns-clause-others
-returns-clause-others g c = λ before asked s k k' h f. fits_passes g.S.Steps.sound before asked s k k' h f
+returns-clause-others g c = λ before asked own s k k' h f. fits_passes g.S.Steps.sound before asked own s k k' h f
 
 pub returns-clause-at_once : goal.returns-clause-at_once
 returns-clause-at_once g c = λ st p a k before h. right.is_at_once h refl

@@ -1,11 +1,12 @@
 use Rattle.std.proofs.Common.{◌≡◌, inl, subst, sym, rules}
 use Rattle.std.proofs.lemmas.List.Sorted.{All-permutation}
 use Rattle.std.specs.List.{All}
-use Rattle.std.specs.Prelude.{IsPermutation}
+use Rattle.std.specs.Prelude.{◌+◌, ◌*◌, length, IsPermutation}
+use Rattle.px_outside.specs.OnDisk.{Passes}
 use Rattle.px_catalog.specs.Catalogue.{standing_of}
 use Rattle.px_catalog.specs.declared.catalog.Catalog.{Catalog}
 use Rattle.px_recovery.specs.Base.{IsSoundFolder}
-use Rattle.px_recovery.specs.Folder.{AreFresh, FolderData, IsEmptyFrom, StandsFor, StandsOn}
+use Rattle.px_recovery.specs.Folder.{AreFresh, FolderData, IsEmptyFrom, StandsFor, StandsOn, region_numbers}
 use Rattle.px_folder.specs.Read.{IsReadOn, folder_of}
 use Rattle.px_folder.proofs.Reading.{ok_then}
 use Rattle.px_opening.specs.Opened.{all_regions, folder_in}
@@ -59,3 +60,9 @@ returns-clause-read g c = λ tells.
     let new = c.read.new.disk in
     let rs = w.regions.items in
     ok_then (λ (o : Opened). IsPermutation rs (all_regions o)) (λ (o : Opened). All (IsReadOn d old new) (all_regions o)) (λ o moved. All-permutation (IsReadOn d old new) rs (all_regions o) moved (c.in_ok-catalog.ensures.read tells)) c.assembled.result c.assembled.ensures.moved
+
+pub returns-clause-counts : goal.returns-clause-counts
+returns-clause-counts g c =
+    let w = c.in_ok-catalog.field-0 in
+    ok_then (λ (o : Opened). o.catalog ≡ w.catalog) (λ (o : Opened). Passes g.D.Disk c.args.disk.now c.read.new.disk (17 + 12 * length (region_numbers (standing_of o.catalog))))
+    (λ o same. subst (λ (k : Catalog). Passes g.D.Disk c.args.disk.now c.read.new.disk (17 + 12 * length (region_numbers (standing_of k)))) (sym same) c.in_ok-catalog.ensures.counts) c.assembled.result c.assembled.ensures.catalogue

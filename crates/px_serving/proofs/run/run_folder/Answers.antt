@@ -6,5 +6,5 @@ use Rattle.px_serving.proofs.run.run_folder.Goals as goal
 
 pub returns-clause-run : goal.returns-clause-run
 returns-clause-run g c =
-    ran_through g.D.Disk (λ m. watched_disk (metered_disk m)) g.O.Sink c.args.script.now c.new-counted.result c.args.out.now c.run_on-status.new.out c.run_on-status.result c.args.disk c.into_disk-2.result
+    ran_through g.D.Disk (λ m. watched_disk (metered_disk m)) g.C.Clock g.O.Sink c.args.script.now c.args.clock c.new-counted.result c.args.out.now c.run_on-status.new.out c.run_on-status.result c.args.disk c.into_disk-2.result
     (ap watched_disk c.new-counted.ensures.same ∙ c.new.ensures.same) (c.into_disk-2.ensures ∙ ap watched_disk c.into_disk.ensures) c.run_on-status.ensures

@@ -1,12 +1,15 @@
 use Rattle.std.proofs.Common.{IsTrue}
 use Rattle.px_recovery.specs.Base.{IsSoundFolder, base_of}
 use Rattle.px_opening.specs.Opened.{folder_in}
-use Rattle.px_server.specs.Started.{IsOpenedOn}
 use Rattle.px_serving.specs.Run.{undamaged}
+use Rattle.px_serving.specs.inner.Running.{IsOpenedNow, StoodBefore}
 use Rattle.px_serving.proofs.run.run_opened.Given as goal
 
-abbrev pub ghosts-run_over-B-Based : goal.ghosts-run_over-B-Based
-ghosts-run_over-B-Based g a = record { base = base_of (folder_in a.opened); damaged = undamaged }
+abbrev pub ghosts-run_since-B-Based : goal.ghosts-run_since-B-Based
+ghosts-run_since-B-Based g a = record { base = base_of (folder_in a.opened); damaged = undamaged }
 
-abbrev pub ghosts-run_over-B-Founded : goal.ghosts-run_over-B-Founded
-ghosts-run_over-B-Founded g a = record { sound = IsSoundFolder (folder_in a.opened); premise = IsTrue g.D.Disk.tells → IsOpenedOn g.D.Disk a.disk a.opened }
+abbrev pub ghosts-run_since-B-Founded : goal.ghosts-run_since-B-Founded
+ghosts-run_since-B-Founded g a = record { sound = IsSoundFolder (folder_in a.opened); premise = IsTrue g.D.Disk.tells → IsOpenedNow g.D.Disk a.disk a.opened; times = g.C.Clock.times a.clock }
+
+abbrev pub ghosts-run_since-B-Since : goal.ghosts-run_since-B-Since
+ghosts-run_since-B-Since g a = record { from = g.D.Disk.calls a.disk; all = StoodBefore g.D.Disk a.disk a.opened; was = λ moment file bytes. g.D.Disk.left a.disk moment file bytes }

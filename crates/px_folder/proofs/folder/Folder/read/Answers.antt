@@ -7,7 +7,7 @@ use Rattle.px_recovery.proofs.Definitions.{catalogue_stays}
 use Rattle.px_folder.specs.Damage.{IsDamagedBelow, below}
 use Rattle.px_folder.specs.Drawn.{AreDrawn}
 use Rattle.px_folder.specs.Read.{number_of}
-use Rattle.px_folder.proofs.Reading.{all_touches, below_before, catalogue_after, folder_read, folder_sound, folder_stands, folder_stood, leaves_folder}
+use Rattle.px_folder.proofs.Reading.{all_touches, below_before, catalogue_after, folder_counts, folder_read, folder_sound, folder_stands, folder_stood, leaves_folder}
 use Rattle.px_folder.proofs.folder.Folder.read.Goals as goal
 
 pub returns-in_err-catalog-clause-any_moment : goal.returns-in_err-catalog-clause-any_moment
@@ -113,6 +113,9 @@ returns-in-Ok-clause-touches g c = λ tells.
     let quiet = c.read_regions.ensures.quiet in
     let same = c.read_regions.ensures.seen in
     all_touches d old mid new (c.start.ensures.touches tells) quiet same
+
+pub returns-in-Ok-clause-counts : goal.returns-in-Ok-clause-counts
+returns-in-Ok-clause-counts g c = folder_counts g.D.Disk c.args.disk.now c.start.new.disk c.read_regions.new.disk c.standing.result.now c.in_ok-catalog.catalog.standing c.standing.ensures c.start.ensures.counts c.read_regions.ensures.counts
 
 pub returns-in-Err-clause-any_moment : goal.returns-in-Err-clause-any_moment
 returns-in-Err-clause-any_moment g c = λ tells f stood on some.

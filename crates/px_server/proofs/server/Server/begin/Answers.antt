@@ -1,5 +1,7 @@
-use Rattle.std.proofs.Common.{rules, ◌≡◌, ◌≤◌, ◌++◌, ◌∷◌, [], None, sym, ap, subst, ◌∙◌, arith}
+use Rattle.std.proofs.Common.{rules, ◌≡◌, ◌≤◌, ◌++◌, ◌∷◌, [], ℕ, None, refl, sym, ap, subst, ◌∙◌, arith}
 use Rattle.std.specs.List.{slice_set}
+use Rattle.px_trail.specs.Recorded.{Recorded}
+use Rattle.px_trail.specs.Trail.{last_of}
 use Rattle.px_trail.specs.declared.entry.Act.TheVariants.{Begun as BegunAct}
 use Rattle.px_trail.specs.declared.entry.Entry.{Entry}
 use Rattle.px_trail.specs.States.{greatest_stamp}
@@ -7,15 +9,18 @@ use Rattle.px_calls.specs.Calls.{DidBegin}
 use Rattle.px_calls.specs.Causes.{Refuses, begin_cause}
 use Rattle.px_calls.specs.Requires.{AreFitting}
 use Rattle.px_calls.specs.declared.fault.StepFault.TheVariants.{Closed, NoTable}
+use Rattle.px_turns.specs.Turns.{drawn}
 use Rattle.px_standing.proofs.Looked.{lacks}
 use Rattle.px_server.specs.Kept.{IsKept}
 use Rattle.px_server.specs.Shown.{Shown, known_by}
+use Rattle.px_server.specs.Stamps.{draw}
 use Rattle.px_server.proofs.Begun.{drawn_above}
 use Rattle.px_server.proofs.Found.{closed_by}
 use Rattle.px_server.proofs.Left.{left_none}
 use Rattle.px_server.proofs.Letting.{begun_kept, fit_here, last_here, left_kept, long_there, right_here, short_there, stands_here}
 use Rattle.px_server.proofs.Refusing.{begun_no_table, did_begin, unbegun}
 use Rattle.px_server.proofs.Released.{none_of}
+use Rattle.px_server.proofs.Stamping.{drawn_by_clock, read_by_clock, same_by_clock}
 use Rattle.px_server.proofs.server.Server.begin.Goals as goal
 
 pub returns-in-Some-clause-refused : goal.returns-in-Some-clause-refused
@@ -62,13 +67,18 @@ invariant_of-self g c =
     let m = c.in-Ok.ensures.begun in
     let taken = c.in-Ok.ensures.taken in
     let stamp = drawn_above c.index_mut.result.now.last c.now-clock.result c.in-Ok.started.stamp m.stamp in
+    let last : last_of b c.args.table.0 s.trail.entries ≡ c.index_mut.result.now.last = last_here g.D.Disk b g.B.Founded.sound g.B.Founded.premise s.disk s.catalog s.standing s.groups.items s.trail s.late s.closed c.self.invariant.0 running c.args.table c.in-Some-numbered_place.place c.index_mut.result.now c.in-Some-numbered_place.ensures.found c.in-Some-numbered_place.ensures.numbered (sym c.index_mut.ensures.value) in
     let e : Entry = record { seat = s.seat; calls = c.call_count.result; act = BegunAct c.args.table c.in-Ok.started.stamp cs } in
     let entries : c.push.new.self.entries ≡ s.trail.entries ++ e ∷ [] = c.push.ensures.entries
     ∙ (λ i. taken.entries i ++ record { seat = s.seat; calls = c.call_count.result; act = BegunAct c.args.table c.in-Ok.started.stamp (m.changes i) } ∷ []) in (
       subst (λ disk. IsKept g.D.Disk b g.B.Founded.sound g.B.Founded.premise disk s.catalog s.standing (slice_set s.groups.items c.in-Some-numbered_place.place c.let_in-begun.new.group) c.push.new.self s.late s.closed) (sym c.let_in-begun.ensures.untouched)
           (begun_kept g.D.Disk b g.B.Founded.sound g.B.Founded.premise s.disk s.catalog s.standing s.groups.items s.trail s.late s.closed c.self.invariant.0 running c.args.table c.in-Some-numbered_place.place c.index_mut.result.now c.in-Some-numbered_place.ensures.found c.in-Some-numbered_place.ensures.numbered (sym c.index_mut.ensures.value) g.met.D.Disk.told g.met.D.Disk.up_to_now s.seat c.call_count.result c.in-Ok.started.stamp (c.call_count.ensures ∙ ap g.D.Disk.calls c.let_in-begun.ensures.untouched) cs c.requires.distinct c.requires.some fit stamp.0 stamp.1
           m.taken c.let_in-begun.new.group m.leaves m.batch m.is m.admits m.before m.after c.push.new.self entries (let less = c.push.ensures.room in let more = taken.room in omega (arith, less, more))),
-      c.self.invariant.1,
+      (
+        c.self.invariant.1.0,
+        drawn_by_clock g.C.Clock g.B.Founded.times g.B.Based.base s.clock s.trail.entries c.self.invariant.1.1 c.now-clock.new.self c.now-clock.ensures.rest c.push.new.self.entries e (draw c.args.table.0 c.in-Ok.started.stamp) entries refl
+            (λ tells. ap (λ (n : ℕ). drawn (last_of b c.args.table.0 s.trail.entries) n) (sym (c.now-clock.ensures.time tells)) ∙ (ap (λ (n : ℕ). drawn n c.now-clock.result) last ∙ m.stamp)),
+      ),
     )
 
 pub invariant_of-self-in-Err : goal.invariant_of-self-in-Err
@@ -80,7 +90,12 @@ invariant_of-self-in-Err g c =
       subst (λ disk. IsKept g.D.Disk b g.B.Founded.sound g.B.Founded.premise disk s.catalog s.standing (slice_set s.groups.items c.in-Some-numbered_place.place c.let_in-begun.new.group) c.let_in-begun.new.trail s.late s.closed) (sym c.let_in-begun.ensures.untouched)
           (subst (λ trail. IsKept g.D.Disk b g.B.Founded.sound g.B.Founded.premise s.disk s.catalog s.standing (slice_set s.groups.items c.in-Some-numbered_place.place c.let_in-begun.new.group) trail s.late s.closed) (sym c.in-Err.ensures.trail)
           (left_kept g.D.Disk b g.B.Founded.sound g.B.Founded.premise s.disk s.catalog s.standing s.groups.items s.trail s.late s.closed c.self.invariant.0 running c.args.table c.in-Some-numbered_place.place c.index_mut.result.now c.in-Some-numbered_place.ensures.found c.in-Some-numbered_place.ensures.numbered (sym c.index_mut.ensures.value) c.let_in-begun.new.group c.in-Err.ensures.leaves.0 c.in-Err.ensures.leaves.1)),
-      c.self.invariant.1,
+      (
+        c.self.invariant.1.0,
+        same_by_clock g.C.Clock g.B.Founded.times b c.now-clock.new.self s.trail.entries
+            (read_by_clock g.C.Clock g.B.Founded.times g.B.Based.base s.clock s.trail.entries c.self.invariant.1.1 c.now-clock.new.self c.now-clock.ensures.rest)
+            c.let_in-begun.new.trail.entries (ap (λ (t : Recorded). t.entries) c.in-Err.ensures.trail),
+      ),
     )
 
 pub returns-in-Ok-clause-ok : goal.returns-in-Ok-clause-ok

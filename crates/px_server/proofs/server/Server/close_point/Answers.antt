@@ -1,4 +1,4 @@
-use Rattle.std.proofs.Common.{◌≡◌, ◌<◌, sym, subst, arith}
+use Rattle.std.proofs.Common.{◌≡◌, ◌<◌, refl, sym, subst, arith}
 use Rattle.px_calls.specs.Known.{Adds}
 use Rattle.px_calls.specs.Requires.{IsOpen}
 use Rattle.px_trail.specs.Trail.{open_points}
@@ -8,6 +8,7 @@ use Rattle.px_server.specs.Shown.{Shown, known_by}
 use Rattle.px_server.proofs.Opened.{none_open}
 use Rattle.px_server.proofs.Released.{closes, has_point}
 use Rattle.px_server.proofs.Seen.{one_more}
+use Rattle.px_server.proofs.Stamping.{more_by_clock}
 use Rattle.px_server.proofs.server.Server.close_point.Goals as goal
 
 pub close_point-requires : goal.close_point-requires
@@ -24,7 +25,7 @@ invariant_of-self g c =
       closes g.D.Disk g.met.D.Disk.told g.met.D.Disk.up_to_now g.B.Based.base g.B.Founded.sound g.B.Founded.premise s.disk s.catalog s.standing s.groups.items s.trail s.late s.closed c.self.invariant.0
           s.seat c.call_count.result c.args.p.stamp c.args.p.table c.call_count.ensures open_ c.in-Some.place c.index_mut.result.now c.in-Some.ensures.found c.in-Some.ensures.numbered (sym c.index_mut.ensures.value)
           c.close_point.new.group c.close_point.ensures.released c.close_point.ensures.count c.push.new.self c.push.ensures.entries c.push.ensures.room,
-      c.self.invariant.1,
+      (c.self.invariant.1.0, more_by_clock g.C.Clock g.B.Founded.times g.B.Based.base s.clock s.trail.entries c.self.invariant.1.1 c.push.new.self.entries (record { seat = s.seat; calls = c.call_count.result; act = ReleasedAct c.args.p.table c.args.p.stamp }) c.push.ensures.entries refl),
     )
 
 pub unreachable-requires : goal.unreachable-requires

@@ -4,6 +4,7 @@ use Rattle.std.proofs.lemmas.Bool.{false≢true}
 use Rattle.px_values.specs.declared.name.IndexId.{IndexId}
 use Rattle.px_values.specs.declared.name.TableId.{TableId}
 use Rattle.px_tables.specs.declared.index.Index.{Index}
+use Rattle.px_tables.specs.declared.index.IndexState.TheVariants.{Active}
 use Rattle.px_tables.specs.declared.table.Table.{Table}
 use Rattle.px_trail.specs.Legal.{IsLegal}
 use Rattle.px_trail.specs.Trail.{Base, horizon_of, last_of, table_of}
@@ -24,6 +25,7 @@ use Rattle.px_server.proofs.Found.{closed_by}
 use Rattle.px_server.proofs.Lists.{all_at}
 use Rattle.px_server.proofs.Released.{group_of, place_in}
 use Rattle.px_server.proofs.Seen.{stays}
+use Rattle.px_server.proofs.Stamping.{more_by_clock, same_by_clock, unwritten_by_clock}
 use Rattle.px_server.proofs.Unwritten.{no_memory, reserved, unwritten_kept, unwritten_refused}
 use Rattle.px_calls.specs.declared.definition.Made.{Made as Answered}
 use Rattle.px_group.specs.declared.group.Group.{Group}
@@ -228,7 +230,7 @@ invariant_of-self-in_default-take_entry g c = (let
     in let
     kd : IsKept g.D.Disk b g.B.Founded.sound g.B.Founded.premise c.is_filled.new.disk s.catalog s.standing s.groups.items s.trail s.late s.closed = subst (λ (y : g.row.D.Denot). IsKept g.D.Disk b g.B.Founded.sound g.B.Founded.premise y s.catalog s.standing s.groups.items s.trail s.late s.closed) (sym c.is_filled.ensures.untouched) k
     in
-    (roomy g.D.Disk b g.B.Founded.sound g.B.Founded.premise c.is_filled.new.disk s.catalog s.standing (slice_set s.groups.items c.in-Some-numbered_place.place c.is_filled.new.group) s.trail s.late s.closed (looked_kept g.D.Disk b g.B.Founded.sound g.B.Founded.premise c.is_filled.new.disk s.catalog s.standing s.groups.items s.trail s.late s.closed kd c.in-Some-numbered_place.place h c.is_filled.new.group l h_is c.is_filled.ensures.looked) c.take_entry.new.trail c.take_entry.ensures.same c.take_entry.ensures.least, c.self.invariant.1))
+    (roomy g.D.Disk b g.B.Founded.sound g.B.Founded.premise c.is_filled.new.disk s.catalog s.standing (slice_set s.groups.items c.in-Some-numbered_place.place c.is_filled.new.group) s.trail s.late s.closed (looked_kept g.D.Disk b g.B.Founded.sound g.B.Founded.premise c.is_filled.new.disk s.catalog s.standing s.groups.items s.trail s.late s.closed kd c.in-Some-numbered_place.place h c.is_filled.new.group l h_is c.is_filled.ensures.looked) c.take_entry.new.trail c.take_entry.ensures.same c.take_entry.ensures.least, (c.self.invariant.1.0, same_by_clock g.C.Clock g.B.Founded.times g.B.Based.base s.clock s.trail.entries c.self.invariant.1.1 c.take_entry.new.trail.entries c.take_entry.ensures.same)))
 
 pub returns-in_default-take_entry-clause-refused : goal.returns-in_default-take_entry-clause-refused
 returns-in_default-take_entry-clause-refused g c = (let
@@ -360,7 +362,7 @@ invariant_of-self-in-Ok-append g c = (let
     in let
     x_is : slice_get h.indexes.items c.in-Some-index_place.at ≡ Some x = ap (λ (y : Group). slice_get y.indexes.items c.in-Some-index_place.at) (sym same) ∙ x0_is
     in
-    (activating_kept g.D.Disk g.met.D.Disk.told g.met.D.Disk.up_to_now b g.B.Based.damaged g.B.Founded.sound g.B.Founded.premise c.is_filled.new.disk s.catalog s.standing s.groups.items s.trail s.late s.closed kd running c.in-Some-numbered_place.place h l h_is s.seat c.args.table own c.args.index may c.in-Some-index_place.at x x_is id c.in-Ok.made c.in-Ok.ensures.ok c.is_filled.new.group c.is_filled.ensures.looked c.in-Ok-false.field-0 c.in-Ok-false.field-0-test c.in-Ok-false.ensures.rows c.take_entry.new.trail c.take_entry.ensures.same c.in-Ok-take_entry.ensures.ok c.append.new.disk c.append.new.self c.append.ensures.counts c.append.ensures.touches c.append.ensures.any_moment c.in-Ok-append.ensures.done c.in-Ok-append.ensures.defined c.index_mut-in-Ok-append.result.now c.index_mut-in-Ok-append.ensures.value c.make_active.new.group c.make_active.ensures c.replace-before.new.dest c.replace-before.ensures.after c.push.new.self c.call_count.result c.call_count.ensures c.push.ensures.entries c.push.ensures.room, c.self.invariant.1))
+    (activating_kept g.D.Disk g.met.D.Disk.told g.met.D.Disk.up_to_now b g.B.Based.damaged g.B.Founded.sound g.B.Founded.premise c.is_filled.new.disk s.catalog s.standing s.groups.items s.trail s.late s.closed kd running c.in-Some-numbered_place.place h l h_is s.seat c.args.table own c.args.index may c.in-Some-index_place.at x x_is id c.in-Ok.made c.in-Ok.ensures.ok c.is_filled.new.group c.is_filled.ensures.looked c.in-Ok-false.field-0 c.in-Ok-false.field-0-test c.in-Ok-false.ensures.rows c.take_entry.new.trail c.take_entry.ensures.same c.in-Ok-take_entry.ensures.ok c.append.new.disk c.append.new.self c.append.ensures.counts c.append.ensures.touches c.append.ensures.any_moment c.in-Ok-append.ensures.done c.in-Ok-append.ensures.defined c.index_mut-in-Ok-append.result.now c.index_mut-in-Ok-append.ensures.value c.make_active.new.group c.make_active.ensures c.replace-before.new.dest c.replace-before.ensures.after c.push.new.self c.call_count.result c.call_count.ensures c.push.ensures.entries c.push.ensures.room, (c.self.invariant.1.0, more_by_clock g.C.Clock g.B.Founded.times g.B.Based.base s.clock s.trail.entries c.self.invariant.1.1 c.push.new.self.entries (record { seat = s.seat; calls = c.call_count.result; act = act.IndexState c.args.table c.args.index Active c.index-part.result.now.index.birth }) (c.push.ensures.entries ∙ ap (λ (es : List Entry). es ++ (record { seat = s.seat; calls = c.call_count.result; act = act.IndexState c.args.table c.args.index Active c.index-part.result.now.index.birth }) ∷ []) c.take_entry.ensures.same) refl)))
 
 pub invariant_of-self-in-Err-append : goal.invariant_of-self-in-Err-append
 invariant_of-self-in-Err-append g c = (let
@@ -396,7 +398,7 @@ invariant_of-self-in-Err-append g c = (let
     in let
     x_is : slice_get h.indexes.items c.in-Some-index_place.at ≡ Some x = ap (λ (y : Group). slice_get y.indexes.items c.in-Some-index_place.at) (sym same) ∙ x0_is
     in
-    (activating_failed g.D.Disk g.met.D.Disk.told g.met.D.Disk.up_to_now b g.B.Based.damaged g.B.Founded.sound g.B.Founded.premise c.is_filled.new.disk s.catalog s.standing s.groups.items s.trail s.late s.closed kd running c.in-Some-numbered_place.place h l h_is s.seat c.args.table own c.args.index may c.in-Some-index_place.at x x_is id c.in-Ok.made c.in-Ok.ensures.ok c.is_filled.new.group c.is_filled.ensures.looked c.in-Ok-false.field-0 c.in-Ok-false.field-0-test c.in-Ok-false.ensures.rows c.take_entry.new.trail c.take_entry.ensures.same c.in-Ok-take_entry.ensures.ok c.append.new.disk c.append.new.self c.append.ensures.counts c.append.ensures.touches c.append.ensures.any_moment c.unwritten.new.trail c.unwritten.new.late c.unwritten.new.closed c.in-Err-append.fault (λ e. c.in-Err-append.ensures.untouched (elim e [ inl x ↦ inl (ap Err x) | inr x ↦ inr (ap Err x) ])) (λ e. c.in-Err-append.ensures.failed (ap Err e)) c.unwritten.ensures.kept c.unwritten.ensures.shut c.unwritten.ensures.room, c.self.invariant.1))
+    (activating_failed g.D.Disk g.met.D.Disk.told g.met.D.Disk.up_to_now b g.B.Based.damaged g.B.Founded.sound g.B.Founded.premise c.is_filled.new.disk s.catalog s.standing s.groups.items s.trail s.late s.closed kd running c.in-Some-numbered_place.place h l h_is s.seat c.args.table own c.args.index may c.in-Some-index_place.at x x_is id c.in-Ok.made c.in-Ok.ensures.ok c.is_filled.new.group c.is_filled.ensures.looked c.in-Ok-false.field-0 c.in-Ok-false.field-0-test c.in-Ok-false.ensures.rows c.take_entry.new.trail c.take_entry.ensures.same c.in-Ok-take_entry.ensures.ok c.append.new.disk c.append.new.self c.append.ensures.counts c.append.ensures.touches c.append.ensures.any_moment c.unwritten.new.trail c.unwritten.new.late c.unwritten.new.closed c.in-Err-append.fault (λ e. c.in-Err-append.ensures.untouched (elim e [ inl x ↦ inl (ap Err x) | inr x ↦ inr (ap Err x) ])) (λ e. c.in-Err-append.ensures.failed (ap Err e)) c.unwritten.ensures.kept c.unwritten.ensures.shut c.unwritten.ensures.room, (c.self.invariant.1.0, unwritten_by_clock g.C.Clock g.B.Founded.times g.B.Based.base s.clock s.trail.entries c.self.invariant.1.1 c.in-Err-append.fault c.unwritten.new.trail.entries (record { seat = s.seat; calls = g.D.Disk.calls c.append.new.disk; act = act.Shut (g.D.Disk.calls c.append.new.disk) }) (λ n. (c.unwritten.ensures.kept n).0 ∙ c.take_entry.ensures.same) (λ e. (c.unwritten.ensures.shut e).0 ∙ ap (λ (es : List Entry). es ++ (record { seat = s.seat; calls = g.D.Disk.calls c.append.new.disk; act = act.Shut (g.D.Disk.calls c.append.new.disk) }) ∷ []) c.take_entry.ensures.same) refl)))
 
 pub returns-in-Ok-append-clause-ok : goal.returns-in-Ok-append-clause-ok
 returns-in-Ok-append-clause-ok g c = (let

@@ -14,6 +14,7 @@ use Rattle.px_schema.specs.declared.standing.Standing.{Standing}
 use Rattle.px_catalog.specs.Catalogue.{standing_of}
 use Rattle.px_server.specs.Shown.{Shown, known_by}
 use Rattle.px_server.specs.inner.Making.{MayMake}
+use Rattle.px_server.proofs.Stamping.{more_by_clock, unwritten_by_clock}
 use Rattle.px_server.proofs.TableCauses.{did_make, refused_memory, refused_unmade, table_full}
 use Rattle.px_server.proofs.TableRecord.{made_right}
 use Rattle.px_server.proofs.TableSteps.{making_failed, making_kept, on_ok, unwritten_refused}
@@ -67,7 +68,7 @@ invariant_of-self-in-Ok-append g c =
           c.args.what.now c.requires may c.in-Ok.parts.item c.in-Ok.parts.group c.in-Ok.parts.standing c.in-Ok.parts.copy c.in-Ok.ensures c.append.ensures.any_moment
           c.in-Ok-append.ensures.done c.in-Ok-append.ensures.defined c.replace-before.new.dest c.replace-before.ensures.after c.push_reserved.new.self.items c.push_reserved.ensures.items
           c.push.new.self c.call_count.result c.call_count.ensures c.push.ensures.entries c.push.ensures.room,
-      c.self.invariant.1,
+      (c.self.invariant.1.0, more_by_clock g.C.Clock g.B.Founded.times g.B.Based.base s.clock s.trail.entries c.self.invariant.1.1 c.push.new.self.entries (record { seat = s.seat; calls = c.call_count.result; act = MadeAct c.in-Ok.parts.group.table.id c.in-Ok.parts.copy }) (c.push.ensures.entries ∙ ap (λ (es : List Entry). es ++ (record { seat = s.seat; calls = c.call_count.result; act = MadeAct c.in-Ok.parts.group.table.id c.in-Ok.parts.copy }) ∷ []) c.take_room.ensures.same) refl),
     )
 
 pub invariant_of-self-in-Err-append : goal.invariant_of-self-in-Err-append
@@ -79,7 +80,7 @@ invariant_of-self-in-Err-append g c =
           c.args.what.now c.requires may c.in-Ok.parts.item c.in-Ok.parts.group c.in-Ok.parts.standing c.in-Ok.parts.copy c.in-Ok.ensures c.append.ensures.any_moment
           c.unwritten.new.trail c.unwritten.new.late c.unwritten.new.closed c.in-Err-append.fault (λ e. c.in-Err-append.ensures.untouched (elim e [ inl x ↦ inl (ap Err x) | inr x ↦ inr (ap Err x) ])) (λ e. c.in-Err-append.ensures.failed (ap Err e))
           c.unwritten.ensures.kept c.unwritten.ensures.shut c.unwritten.ensures.room,
-      c.self.invariant.1,
+      (c.self.invariant.1.0, unwritten_by_clock g.C.Clock g.B.Founded.times g.B.Based.base s.clock s.trail.entries c.self.invariant.1.1 c.in-Err-append.fault c.unwritten.new.trail.entries (record { seat = s.seat; calls = g.D.Disk.calls c.append.new.disk; act = Shut (g.D.Disk.calls c.append.new.disk) }) (λ n. (c.unwritten.ensures.kept n).0 ∙ c.take_room.ensures.same) (λ e. (c.unwritten.ensures.shut e).0 ∙ ap (λ (es : List Entry). es ++ (record { seat = s.seat; calls = g.D.Disk.calls c.append.new.disk; act = Shut (g.D.Disk.calls c.append.new.disk) }) ∷ []) c.take_room.ensures.same) refl),
     )
 
 pub returns-in-Ok-append-clause-ok : goal.returns-in-Ok-append-clause-ok

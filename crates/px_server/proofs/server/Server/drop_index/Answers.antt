@@ -24,6 +24,7 @@ use Rattle.px_server.proofs.Found.{closed_by}
 use Rattle.px_server.proofs.Lists.{all_at}
 use Rattle.px_server.proofs.Released.{group_of, place_in}
 use Rattle.px_server.proofs.Seen.{stays}
+use Rattle.px_server.proofs.Stamping.{more_by_clock, unwritten_by_clock}
 use Rattle.px_server.proofs.Unwritten.{no_memory, reserved, unwritten_kept, unwritten_refused}
 use Rattle.px_calls.specs.declared.definition.Made.{Made as Answered}
 use Rattle.px_group.specs.declared.group.Group.{Group}
@@ -180,7 +181,7 @@ invariant_of-self-in-Ok-append g c = (let
     in let
     h2_is : c.index_mut.result.now ≡ h = same_there s.groups.items c.in-Some-numbered_place.place c.index_mut.result.now h l (sym c.index_mut.ensures.value) h_is
     in
-    (dropping_kept g.D.Disk g.met.D.Disk.told g.met.D.Disk.up_to_now b g.B.Based.damaged g.B.Founded.sound g.B.Founded.premise s.disk s.catalog s.standing s.groups.items s.trail s.late s.closed k running c.in-Some-numbered_place.place h l h_is s.seat c.take_entry.new.trail c.take_entry.ensures.same c.in-Ok-take_entry.ensures.ok c.append.new.disk c.append.new.self c.append.ensures.counts c.append.ensures.touches c.args.table own c.args.index has unused c.append.ensures.any_moment c.in-Ok-append.ensures.done c.in-Ok-append.ensures.defined c.index_mut.result.now h2_is c.drop_index.new.group c.drop_index.ensures c.replace-before.new.dest (c.replace-before.ensures.after ∙ c.in-Ok.ensures) c.push.new.self c.call_count.result c.call_count.ensures c.push.ensures.entries c.push.ensures.room, c.self.invariant.1))
+    (dropping_kept g.D.Disk g.met.D.Disk.told g.met.D.Disk.up_to_now b g.B.Based.damaged g.B.Founded.sound g.B.Founded.premise s.disk s.catalog s.standing s.groups.items s.trail s.late s.closed k running c.in-Some-numbered_place.place h l h_is s.seat c.take_entry.new.trail c.take_entry.ensures.same c.in-Ok-take_entry.ensures.ok c.append.new.disk c.append.new.self c.append.ensures.counts c.append.ensures.touches c.args.table own c.args.index has unused c.append.ensures.any_moment c.in-Ok-append.ensures.done c.in-Ok-append.ensures.defined c.index_mut.result.now h2_is c.drop_index.new.group c.drop_index.ensures c.replace-before.new.dest (c.replace-before.ensures.after ∙ c.in-Ok.ensures) c.push.new.self c.call_count.result c.call_count.ensures c.push.ensures.entries c.push.ensures.room, (c.self.invariant.1.0, more_by_clock g.C.Clock g.B.Founded.times g.B.Based.base s.clock s.trail.entries c.self.invariant.1.1 c.push.new.self.entries (record { seat = s.seat; calls = c.call_count.result; act = act.Dropped c.args.table (Some c.args.index) }) (c.push.ensures.entries ∙ ap (λ (es : List Entry). es ++ (record { seat = s.seat; calls = c.call_count.result; act = act.Dropped c.args.table (Some c.args.index) }) ∷ []) c.take_entry.ensures.same) refl)))
 
 pub invariant_of-self-in-Err : goal.invariant_of-self-in-Err
 invariant_of-self-in-Err g c = (let
@@ -206,7 +207,7 @@ invariant_of-self-in-Err g c = (let
     in let
     unused : length h.points.items + length h.batches.items ≡ 0 = (let n = c.uses-count.ensures in let z = c.if-count-gt0.false in omega (arith, n, z))
     in
-    (dropping_failed g.D.Disk g.met.D.Disk.told g.met.D.Disk.up_to_now b g.B.Based.damaged g.B.Founded.sound g.B.Founded.premise s.disk s.catalog s.standing s.groups.items s.trail s.late s.closed k running c.in-Some-numbered_place.place h l h_is s.seat c.take_entry.new.trail c.take_entry.ensures.same c.in-Ok-take_entry.ensures.ok c.append.new.disk c.append.new.self c.append.ensures.counts c.append.ensures.touches c.args.table own c.args.index has unused c.append.ensures.any_moment c.unwritten.new.trail c.unwritten.new.late c.unwritten.new.closed c.in-Err.fault (λ e. c.in-Err.ensures.untouched (elim e [ inl x ↦ inl (ap Err x) | inr x ↦ inr (ap Err x) ])) (λ e. c.in-Err.ensures.failed (ap Err e)) c.unwritten.ensures.kept c.unwritten.ensures.shut c.unwritten.ensures.room, c.self.invariant.1))
+    (dropping_failed g.D.Disk g.met.D.Disk.told g.met.D.Disk.up_to_now b g.B.Based.damaged g.B.Founded.sound g.B.Founded.premise s.disk s.catalog s.standing s.groups.items s.trail s.late s.closed k running c.in-Some-numbered_place.place h l h_is s.seat c.take_entry.new.trail c.take_entry.ensures.same c.in-Ok-take_entry.ensures.ok c.append.new.disk c.append.new.self c.append.ensures.counts c.append.ensures.touches c.args.table own c.args.index has unused c.append.ensures.any_moment c.unwritten.new.trail c.unwritten.new.late c.unwritten.new.closed c.in-Err.fault (λ e. c.in-Err.ensures.untouched (elim e [ inl x ↦ inl (ap Err x) | inr x ↦ inr (ap Err x) ])) (λ e. c.in-Err.ensures.failed (ap Err e)) c.unwritten.ensures.kept c.unwritten.ensures.shut c.unwritten.ensures.room, (c.self.invariant.1.0, unwritten_by_clock g.C.Clock g.B.Founded.times g.B.Based.base s.clock s.trail.entries c.self.invariant.1.1 c.in-Err.fault c.unwritten.new.trail.entries (record { seat = s.seat; calls = g.D.Disk.calls c.append.new.disk; act = act.Shut (g.D.Disk.calls c.append.new.disk) }) (λ n. (c.unwritten.ensures.kept n).0 ∙ c.take_entry.ensures.same) (λ e. (c.unwritten.ensures.shut e).0 ∙ ap (λ (es : List Entry). es ++ (record { seat = s.seat; calls = g.D.Disk.calls c.append.new.disk; act = act.Shut (g.D.Disk.calls c.append.new.disk) }) ∷ []) c.take_entry.ensures.same) refl)))
 
 pub returns-in-Ok-append-clause-ok : goal.returns-in-Ok-append-clause-ok
 returns-in-Ok-append-clause-ok g c = (let

@@ -13,6 +13,7 @@ use Rattle.px_catalog.specs.Catalogue.{standing_of}
 use Rattle.px_group.specs.declared.group.Group.{Group}
 use Rattle.px_server.specs.Shown.{Shown, known_by}
 use Rattle.px_server.proofs.Released.{none_of}
+use Rattle.px_server.proofs.Stamping.{more_by_clock, unwritten_by_clock}
 use Rattle.px_server.proofs.TableCauses.{did_drop, drop_full, drop_in_use, drop_no_table, refused_closed, refused_memory}
 use Rattle.px_server.proofs.TableRecord.{gone_right}
 use Rattle.px_server.proofs.TableSteps.{dropping_failed, dropping_kept, table_uses, unwritten_refused}
@@ -88,7 +89,7 @@ invariant_of-self-in-Ok-append g c =
           c.in-Ok-append.ensures.done c.in-Ok-append.ensures.defined c.replace-before.new.dest (c.replace-before.ensures.after ∙ c.in-Ok.ensures) c.retain.new.self.items
           (filter_same _ (λ (x : Group). not (x.table.id.0 == c.args.table.0)) _ (λ x v f' k. search rules) _ _ c.retain.ensures.filtered)
           c.push.new.self c.call_count.result c.call_count.ensures c.push.ensures.entries c.push.ensures.room,
-      c.self.invariant.1,
+      (c.self.invariant.1.0, more_by_clock g.C.Clock g.B.Founded.times g.B.Based.base s.clock s.trail.entries c.self.invariant.1.1 c.push.new.self.entries (record { seat = s.seat; calls = c.call_count.result; act = Dropped c.args.table None }) (c.push.ensures.entries ∙ ap (λ (es : List Entry). es ++ (record { seat = s.seat; calls = c.call_count.result; act = Dropped c.args.table None }) ∷ []) c.take_entry.ensures.same) refl),
     )
 
 pub invariant_of-self-in-Err : goal.invariant_of-self-in-Err
@@ -101,7 +102,7 @@ invariant_of-self-in-Err g c =
           running c.args.table c.in-Some-numbered_place.place c.in-Some-numbered_place.ensures.found c.in-Some-numbered_place.ensures.numbered c.index.result.now (sym c.index.ensures) unused c.append.ensures.any_moment
           c.unwritten.new.trail c.unwritten.new.late c.unwritten.new.closed c.in-Err.fault (λ e. c.in-Err.ensures.untouched (elim e [ inl x ↦ inl (ap Err x) | inr x ↦ inr (ap Err x) ])) (λ e. c.in-Err.ensures.failed (ap Err e))
           c.unwritten.ensures.kept c.unwritten.ensures.shut c.unwritten.ensures.room,
-      c.self.invariant.1,
+      (c.self.invariant.1.0, unwritten_by_clock g.C.Clock g.B.Founded.times g.B.Based.base s.clock s.trail.entries c.self.invariant.1.1 c.in-Err.fault c.unwritten.new.trail.entries (record { seat = s.seat; calls = g.D.Disk.calls c.append.new.disk; act = Shut (g.D.Disk.calls c.append.new.disk) }) (λ n. (c.unwritten.ensures.kept n).0 ∙ c.take_entry.ensures.same) (λ e. (c.unwritten.ensures.shut e).0 ∙ ap (λ (es : List Entry). es ++ (record { seat = s.seat; calls = g.D.Disk.calls c.append.new.disk; act = Shut (g.D.Disk.calls c.append.new.disk) }) ∷ []) c.take_entry.ensures.same) refl),
     )
 
 pub returns-in-Ok-append-clause-ok : goal.returns-in-Ok-append-clause-ok

@@ -12,6 +12,7 @@ use Rattle.px_server.proofs.Released.{place_in}
 use Rattle.px_server.proofs.PointOpened.{one_there}
 use Rattle.px_server.proofs.Running.{none_running}
 use Rattle.px_server.proofs.Seen.{one_more}
+use Rattle.px_server.proofs.Stamping.{more_by_clock}
 use Rattle.px_server.proofs.server.Server.end.Goals as goal
 
 pub unreachable-requires : goal.unreachable-requires
@@ -43,7 +44,7 @@ invariant_of-self g c =
     let stamp = end_stamp c.index.result.now c.index_mut.result.now same c.in-Some-batch_place.batch c.args.t.stamp c.in-Some-batch_place.ensures.found x.batch x.goes.batch in (
       ends g.D.Disk b g.B.Founded.sound g.B.Founded.premise s.disk s.catalog s.standing s.groups.items s.trail s.late s.closed kept c.args.t.table place.place c.index_mut.result.now place.ensures.found place.ensures.numbered (sym c.index_mut.ensures.value) c.args.t.stamp
           s.seat can c.in-Some-batch_place.batch x.batch x.goes.batch stamp c.call_count.result c.call_count.ensures g.met.D.Disk.told g.met.D.Disk.up_to_now c.end-rows.new.group x.goes c.push.new.self c.push.ensures.entries c.push.ensures.room,
-      c.self.invariant.1,
+      (c.self.invariant.1.0, more_by_clock g.C.Clock g.B.Founded.times g.B.Based.base s.clock s.trail.entries c.self.invariant.1.1 c.push.new.self.entries (record { seat = s.seat; calls = c.call_count.result; act = EndedAct c.args.t.table c.args.t.stamp }) c.push.ensures.entries refl),
     )
 
 pub returns-clause-adds : goal.returns-clause-adds

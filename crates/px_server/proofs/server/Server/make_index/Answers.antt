@@ -9,6 +9,7 @@ use Rattle.px_trail.specs.Legal.{IsLegal}
 use Rattle.px_trail.specs.Trail.{Base, horizon_of, last_of, table_of}
 use Rattle.px_trail.specs.declared.entry.Act.TheVariants as act
 use Rattle.px_trail.specs.declared.entry.Entry.{Entry}
+use Rattle.px_turns.specs.Turns.{drawn}
 use Rattle.px_calls.specs.Calls.{DidDefine}
 use Rattle.px_calls.specs.Causes.{HasState, Refuses, define_cause}
 use Rattle.px_calls.specs.Known.{IsRunning, Known}
@@ -20,17 +21,19 @@ use Rattle.px_schema.specs.declared.standing.Standing.{Standing}
 use Rattle.px_standing.proofs.Looked.{lacks}
 use Rattle.px_server.specs.Kept.{HasTallied, IsKept}
 use Rattle.px_server.specs.Shown.{Shown, known_by}
+use Rattle.px_server.specs.Stamps.{draw}
 use Rattle.px_server.proofs.Found.{closed_by}
 use Rattle.px_server.proofs.Lists.{all_at}
 use Rattle.px_server.proofs.Released.{group_of, place_in}
 use Rattle.px_server.proofs.Seen.{stays}
+use Rattle.px_server.proofs.Stamping.{drawn_by_clock, read_by_clock, same_by_clock, unwritten_by_clock}
 use Rattle.px_server.proofs.Unwritten.{no_memory, reserved, unwritten_kept, unwritten_refused}
 use Rattle.px_calls.specs.declared.definition.Made.{Made as Answered}
 use Rattle.px_group.specs.declared.group.Group.{Group}
 use Rattle.px_server.specs.inner.Indexing.{MayMakeIndex}
 use Rattle.px_server.proofs.IndexFits.{fits_made}
 use Rattle.px_server.proofs.IndexSteps.{making_did, making_failed, making_kept, making_refused}
-use Rattle.px_server.proofs.Reserved.{same_there}
+use Rattle.px_server.proofs.Reserved.{roomy, same_there}
 use Rattle.px_server.proofs.server.Server.make_index.Goals as goal
 
 pub unreachable-requires : goal.unreachable-requires
@@ -79,6 +82,14 @@ next_stamp-stamp-requires g c = (let
     in
     omega (arith, low, last_is))
 
+pub invariant_of-self : goal.invariant_of-self
+invariant_of-self g c = (let
+    s = c.self.inside
+    in let
+    b = g.B.Based.base
+    in
+    (c.self.invariant.0, (c.self.invariant.1.0, read_by_clock g.C.Clock g.B.Founded.times b s.clock s.trail.entries c.self.invariant.1.1 c.next_stamp-stamp.new.clock c.next_stamp-stamp.ensures.rest)))
+
 pub returns-in-Err-clause-refused : goal.returns-in-Err-clause-refused
 returns-in-Err-clause-refused g c = (let
     s = c.self.inside
@@ -96,6 +107,16 @@ returns-in-Err-clause-refused g c = (let
     subst (λ (f : StepFault). Refuses (define_cause g.B.Founded.sound (definition.Index c.args.what.now)) (known_by b g.B.Based.damaged c.args.self.now) (known_by b g.B.Based.damaged v) f) (sym c.in-Err.ensures.refused)
     (subst (λ (w : Shown). Refuses (define_cause g.B.Founded.sound (definition.Index c.args.what.now)) (known_by b g.B.Based.damaged w) (known_by b g.B.Based.damaged v) Memory) c.self.view_is
     (no_memory g.B.Founded.sound (known_by b g.B.Based.damaged v) k.told.legal s.closed k.told.closing running (definition.Index c.args.what.now))))
+
+pub invariant_of-self-in_default-take_entry : goal.invariant_of-self-in_default-take_entry
+invariant_of-self-in_default-take_entry g c = (let
+    s = c.self.inside
+    in let
+    b = g.B.Based.base
+    in (
+      roomy g.D.Disk b g.B.Founded.sound g.B.Founded.premise s.disk s.catalog s.standing s.groups.items s.trail s.late s.closed c.self.invariant.0 c.take_entry.new.trail c.take_entry.ensures.same c.take_entry.ensures.least,
+      (c.self.invariant.1.0, same_by_clock g.C.Clock g.B.Founded.times b c.next_stamp-stamp.new.clock s.trail.entries (read_by_clock g.C.Clock g.B.Founded.times b s.clock s.trail.entries c.self.invariant.1.1 c.next_stamp-stamp.new.clock c.next_stamp-stamp.ensures.rest) c.take_entry.new.trail.entries c.take_entry.ensures.same),
+    ))
 
 pub returns-in_default-take_entry-clause-refused : goal.returns-in_default-take_entry-clause-refused
 returns-in_default-take_entry-clause-refused g c = (let
@@ -130,7 +151,7 @@ invariant_of-self-in_default-reserve_index g c = (let
     h1_is : get_or s.groups.items c.in-Some.place h1 ≡ h1 = sym c.index_mut.ensures.value
     in (
       reserved g.D.Disk b g.B.Founded.sound g.B.Founded.premise s.disk s.catalog s.standing s.groups.items s.trail s.late s.closed k c.in-Some.place h1 c.reserve_index.new.group l h1_is c.reserve_index.ensures.same c.take_entry.new.trail c.take_entry.ensures.same c.take_entry.ensures.least,
-      c.self.invariant.1,
+      (c.self.invariant.1.0, same_by_clock g.C.Clock g.B.Founded.times b c.next_stamp-stamp.new.clock s.trail.entries (read_by_clock g.C.Clock g.B.Founded.times b s.clock s.trail.entries c.self.invariant.1.1 c.next_stamp-stamp.new.clock c.next_stamp-stamp.ensures.rest) c.take_entry.new.trail.entries c.take_entry.ensures.same),
     ))
 
 pub returns-in_default-reserve_index-clause-refused : goal.returns-in_default-reserve_index-clause-refused
@@ -208,8 +229,22 @@ invariant_of-self-in-Ok-append g c = (let
     own : h.table.id ≡ c.args.what.now.table = group_of s.groups.items s.standing.tables k.each.stand c.in-Some.place h l h_is c.args.what.now.table c.in-Some.ensures.numbered
     in let
     above : h.last < c.next_stamp-stamp.result = (let a = c.next_stamp-stamp.ensures.above in let same = ap (λ (x : Group). x.last) (same_there s.groups.items c.in-Some.place h c.index.result.now l h_is (sym c.index.ensures)) in omega (arith, a, same))
-    in
-    (making_kept g.D.Disk g.met.D.Disk.told g.met.D.Disk.up_to_now b g.B.Based.damaged g.B.Founded.sound g.B.Founded.premise s.disk s.catalog s.standing s.groups.items s.trail s.late s.closed k running c.in-Some.place h l h_is s.seat c.take_entry.new.trail c.take_entry.ensures.same c.in-Ok-take_entry.ensures.ok c.append.new.disk c.append.new.self c.append.ensures.counts c.append.ensures.touches c.args.what.now own may fit c.next_stamp-stamp.result above c.next_stamp-stamp.ensures.most c.in-Ok.made c.in-Ok.ensures.ok c.reserve_index.new.group c.reserve_index.ensures.same c.append.ensures.any_moment c.in-Ok-append.ensures.done c.in-Ok-append.ensures.defined c.index_mut-in-Ok-append.result.now c.index_mut-in-Ok-append.ensures.value c.add_index.new.group c.add_index.ensures c.replace-before.new.dest c.replace-before.ensures.after c.push.new.self c.call_count.result c.call_count.ensures c.push.ensures.entries c.push.ensures.room, c.self.invariant.1))
+    in let
+    tallied : HasTallied b s.trail.entries h = all_at (HasTallied b s.trail.entries) s.groups.items c.in-Some.place h l h_is (k.each.tallied running)
+    in let
+    there = same_there s.groups.items c.in-Some.place h c.index.result.now l h_is (sym c.index.ensures)
+    in let
+    last_is : last_of b c.args.what.now.table.0 s.trail.entries ≡ c.index.result.now.last = ap (λ (t : TableId). last_of b t.0 s.trail.entries) (sym own) ∙ (tallied.tallied.last ∙ ap (λ (x : Group). x.last) there)
+    in let
+    e : Entry = record { seat = s.seat; calls = c.call_count.result; act = act.IndexMade c.args.what.now.table c.in-Ok.made.index.id c.next_stamp-stamp.result c.in-Ok.made.what }
+    in (
+      making_kept g.D.Disk g.met.D.Disk.told g.met.D.Disk.up_to_now b g.B.Based.damaged g.B.Founded.sound g.B.Founded.premise s.disk s.catalog s.standing s.groups.items s.trail s.late s.closed k running c.in-Some.place h l h_is s.seat c.take_entry.new.trail c.take_entry.ensures.same c.in-Ok-take_entry.ensures.ok c.append.new.disk c.append.new.self c.append.ensures.counts c.append.ensures.touches c.args.what.now own may fit c.next_stamp-stamp.result above c.next_stamp-stamp.ensures.most c.in-Ok.made c.in-Ok.ensures.ok c.reserve_index.new.group c.reserve_index.ensures.same c.append.ensures.any_moment c.in-Ok-append.ensures.done c.in-Ok-append.ensures.defined c.index_mut-in-Ok-append.result.now c.index_mut-in-Ok-append.ensures.value c.add_index.new.group c.add_index.ensures c.replace-before.new.dest c.replace-before.ensures.after c.push.new.self c.call_count.result c.call_count.ensures c.push.ensures.entries c.push.ensures.room,
+      (
+        c.self.invariant.1.0,
+        drawn_by_clock g.C.Clock g.B.Founded.times b s.clock s.trail.entries c.self.invariant.1.1 c.next_stamp-stamp.new.clock c.next_stamp-stamp.ensures.rest c.push.new.self.entries e (draw c.args.what.now.table.0 c.next_stamp-stamp.result) (c.push.ensures.entries ∙ ap (λ (es : List Entry). es ++ e ∷ []) c.take_entry.ensures.same) refl
+            (λ tells. ap (λ (n : ℕ). drawn n (g.C.Clock.times s.clock 0)) last_is ∙ c.next_stamp-stamp.ensures.drawn tells),
+      ),
+    ))
 
 pub invariant_of-self-in-Err-append : goal.invariant_of-self-in-Err-append
 invariant_of-self-in-Err-append g c = (let
@@ -236,8 +271,16 @@ invariant_of-self-in-Err-append g c = (let
     own : h.table.id ≡ c.args.what.now.table = group_of s.groups.items s.standing.tables k.each.stand c.in-Some.place h l h_is c.args.what.now.table c.in-Some.ensures.numbered
     in let
     above : h.last < c.next_stamp-stamp.result = (let a = c.next_stamp-stamp.ensures.above in let same = ap (λ (x : Group). x.last) (same_there s.groups.items c.in-Some.place h c.index.result.now l h_is (sym c.index.ensures)) in omega (arith, a, same))
-    in
-    (making_failed g.D.Disk g.met.D.Disk.told g.met.D.Disk.up_to_now b g.B.Based.damaged g.B.Founded.sound g.B.Founded.premise s.disk s.catalog s.standing s.groups.items s.trail s.late s.closed k running c.in-Some.place h l h_is s.seat c.take_entry.new.trail c.take_entry.ensures.same c.in-Ok-take_entry.ensures.ok c.append.new.disk c.append.new.self c.append.ensures.counts c.append.ensures.touches c.args.what.now own may fit c.next_stamp-stamp.result above c.next_stamp-stamp.ensures.most c.in-Ok.made c.in-Ok.ensures.ok c.reserve_index.new.group c.reserve_index.ensures.same c.append.ensures.any_moment c.unwritten.new.trail c.unwritten.new.late c.unwritten.new.closed c.in-Err-append.fault (λ e. c.in-Err-append.ensures.untouched (elim e [ inl x ↦ inl (ap Err x) | inr x ↦ inr (ap Err x) ])) (λ e. c.in-Err-append.ensures.failed (ap Err e)) c.unwritten.ensures.kept c.unwritten.ensures.shut c.unwritten.ensures.room, c.self.invariant.1))
+    in let
+    shut : Entry = record { seat = s.seat; calls = g.D.Disk.calls c.append.new.disk; act = act.Shut (g.D.Disk.calls c.append.new.disk) }
+    in (
+      making_failed g.D.Disk g.met.D.Disk.told g.met.D.Disk.up_to_now b g.B.Based.damaged g.B.Founded.sound g.B.Founded.premise s.disk s.catalog s.standing s.groups.items s.trail s.late s.closed k running c.in-Some.place h l h_is s.seat c.take_entry.new.trail c.take_entry.ensures.same c.in-Ok-take_entry.ensures.ok c.append.new.disk c.append.new.self c.append.ensures.counts c.append.ensures.touches c.args.what.now own may fit c.next_stamp-stamp.result above c.next_stamp-stamp.ensures.most c.in-Ok.made c.in-Ok.ensures.ok c.reserve_index.new.group c.reserve_index.ensures.same c.append.ensures.any_moment c.unwritten.new.trail c.unwritten.new.late c.unwritten.new.closed c.in-Err-append.fault (λ e. c.in-Err-append.ensures.untouched (elim e [ inl x ↦ inl (ap Err x) | inr x ↦ inr (ap Err x) ])) (λ e. c.in-Err-append.ensures.failed (ap Err e)) c.unwritten.ensures.kept c.unwritten.ensures.shut c.unwritten.ensures.room,
+      (
+        c.self.invariant.1.0,
+        unwritten_by_clock g.C.Clock g.B.Founded.times b c.next_stamp-stamp.new.clock s.trail.entries (read_by_clock g.C.Clock g.B.Founded.times b s.clock s.trail.entries c.self.invariant.1.1 c.next_stamp-stamp.new.clock c.next_stamp-stamp.ensures.rest) c.in-Err-append.fault c.unwritten.new.trail.entries shut
+            (λ n. (c.unwritten.ensures.kept n).0 ∙ c.take_entry.ensures.same) (λ e. (c.unwritten.ensures.shut e).0 ∙ ap (λ (es : List Entry). es ++ shut ∷ []) c.take_entry.ensures.same) refl,
+      ),
+    ))
 
 pub returns-in-Ok-append-clause-ok : goal.returns-in-Ok-append-clause-ok
 returns-in-Ok-append-clause-ok g c = (let

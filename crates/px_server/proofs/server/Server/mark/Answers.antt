@@ -17,6 +17,7 @@ use Rattle.px_server.specs.Shown.{Shown, known_by}
 use Rattle.px_server.proofs.Found.{closed_by}
 use Rattle.px_server.proofs.MarkSteps.{marked_all, marked_more, marks_all, marks_kept, marks_shut}
 use Rattle.px_server.proofs.Seen.{one_more, stays}
+use Rattle.px_server.proofs.Stamping.{more_by_clock}
 use Rattle.px_server.proofs.Ticketed.{batch_is, batch_somewhere, own_table, same_read, stands_somewhere, there}
 use Rattle.px_server.proofs.server.Server.mark.Goals as goal
 
@@ -62,7 +63,7 @@ invariant_of-self g c =
     let w = marked_more g.D.Disk h c.mark-outcome.new.group s.disk c.mark-outcome.new.disk c.in-Some-batch_place.batch c.mark-outcome.result c.in-Ok.marked c.in-Ok.is c.in-More.is c.mark-outcome.ensures.steps in (
       marks_kept g.D.Disk g.met.D.Disk.told g.met.D.Disk.up_to_now g.B.Based.base g.B.Founded.sound g.B.Founded.premise s.disk s.catalog s.standing s.groups.items s.trail s.late s.closed c.self.invariant.0 c.in_default.is
           place h c.mark-outcome.new.group inside (sym c.index_mut-group.ensures.value) c.in-Some-batch_place.batch c.mark-outcome.new.disk w w.hands.writes.horizon,
-      (let was = c.self.invariant.1 in let more = c.mark-outcome.ensures.frame in omega (arith, was, more)),
+      ((let was = c.self.invariant.1.0 in let more = c.mark-outcome.ensures.frame in omega (arith, was, more)), c.self.invariant.1.1),
     )
 
 pub invariant_of-self-in-AllMarked : goal.invariant_of-self-in-AllMarked
@@ -82,7 +83,7 @@ invariant_of-self-in-AllMarked g c =
           (subst (λ (q : Group). (x : Begun) → slice_get q.batches.items c.in-Some-batch_place.batch ≡ Some x → x.batch.stamp ≡ c.args.t.now.stamp) same c.in-Some-batch_place.ensures.found.1)
           e c.call_count-calls.ensures c.push.new.self (subst (λ (x : Entry). c.push.new.self.entries ≡ s.trail.entries ++ x ∷ []) c.done.ensures c.push.ensures.entries) c.push.ensures.room all (λ o. o.hands.writes.horizon)
           (ap (λ (x : TableId). PhaseAct x c.args.t.now.stamp 1) (sym own)) phase,
-      (let was = c.self.invariant.1 in let more = c.mark-outcome.ensures.frame in omega (arith, was, more)),
+      ((let was = c.self.invariant.1.0 in let more = c.mark-outcome.ensures.frame in omega (arith, was, more)), more_by_clock g.C.Clock g.B.Founded.times g.B.Based.base s.clock s.trail.entries c.self.invariant.1.1 c.push.new.self.entries e (subst (λ (x : Entry). c.push.new.self.entries ≡ s.trail.entries ++ x ∷ []) c.done.ensures c.push.ensures.entries) refl),
     )
 
 pub invariant_of-self-in-Err : goal.invariant_of-self-in-Err
@@ -98,7 +99,7 @@ invariant_of-self-in-Err g c =
     shut c.call_count-calls.result refl c.call_count-calls.ensures (c.in-Err.ensures.failed refl) c.push-in-Err.new.self c.push-in-Err.ensures.entries c.push-in-Err.ensures.room c.in-Err.ensures.steps in (
       subst (λ o. IsKept g.D.Disk g.B.Based.base g.B.Founded.sound g.B.Founded.premise c.mark-outcome.new.disk s.catalog s.standing (Rattle.std.specs.List.slice_set s.groups.items place c.mark-outcome.new.group) c.push-in-Err.new.self o (Some c.call_count-calls.result))
           (sym (c.self.invariant.0.server.unlate c.in_default.is)) kept,
-      (let was = c.self.invariant.1 in let more = c.mark-outcome.ensures.frame in omega (arith, was, more)),
+      ((let was = c.self.invariant.1.0 in let more = c.mark-outcome.ensures.frame in omega (arith, was, more)), more_by_clock g.C.Clock g.B.Founded.times g.B.Based.base s.clock s.trail.entries c.self.invariant.1.1 c.push-in-Err.new.self.entries shut c.push-in-Err.ensures.entries refl),
     )
 
 pub returns-in-More-clause-ok : goal.returns-in-More-clause-ok

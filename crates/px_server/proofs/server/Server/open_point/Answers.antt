@@ -1,4 +1,4 @@
-use Rattle.std.proofs.Common.{rules, ◌≡◌, Bool, None, [], ◌∷◌, ◌++◌, sym, ap, subst, ◌∙◌}
+use Rattle.std.proofs.Common.{rules, ◌≡◌, Bool, None, [], ◌∷◌, ◌++◌, refl, sym, ap, subst, ◌∙◌}
 use Rattle.std.proofs.lemmas.Result.{err_from_is_err_and}
 use Rattle.px_calls.specs.Calls.{DidOpen}
 use Rattle.px_calls.specs.Causes.{Refuses, open_cause}
@@ -14,6 +14,7 @@ use Rattle.px_server.specs.Shown.{Shown, known_by}
 use Rattle.px_server.proofs.Found.{closed_by}
 use Rattle.px_server.proofs.PointOpened.{did_open, no_point, one_there, open_no_memory, open_no_table, opens, opens_none, own, right_here, told_here}
 use Rattle.px_server.proofs.Released.{none_of, place_in}
+use Rattle.px_server.proofs.Stamping.{more_by_clock, same_by_clock}
 use Rattle.px_server.proofs.server.Server.open_point.Goals as goal
 
 pub returns-in-Some-clause-refused : goal.returns-in-Some-clause-refused
@@ -70,10 +71,11 @@ pub invariant_of-self : goal.invariant_of-self
 invariant_of-self g c =
     let s = c.self.inside in
     let running : s.closed ≡ None = none_of s.closed (λ x is. search rules) in
+    let trail : c.note_point.new.trail ≡ s.trail = search rules in
     let place = c.in-Some-numbered_place in (
       opens_none g.D.Disk g.B.Based.base g.B.Founded.sound g.B.Founded.premise s.disk s.catalog s.standing s.groups.items s.trail s.late s.closed c.self.invariant.0 running c.args.table place.place c.index_mut.result.now place.ensures.found place.ensures.numbered (sym c.index_mut.ensures.value)
           c.note_point.new.group c.in-Err.ensures.same (search rules) c.note_point.new.trail (search rules),
-      c.self.invariant.1,
+      (c.self.invariant.1.0, same_by_clock g.C.Clock g.B.Founded.times g.B.Based.base s.clock s.trail.entries c.self.invariant.1.1 c.note_point.new.trail.entries (ap (λ (t : Recorded). t.entries) trail)),
     )
 
 pub returns-in-Err-clause-refused : goal.returns-in-Err-clause-refused
@@ -102,7 +104,7 @@ invariant_of-self-2 g c =
       opens g.D.Disk g.B.Based.base g.B.Founded.sound g.B.Founded.premise s.disk s.catalog s.standing s.groups.items s.trail s.late s.closed kept running c.args.table place.place c.index_mut.result.now place.ensures.found place.ensures.numbered (sym c.index_mut.ensures.value)
           c.args.scn c.in_ok-stamp.stamp point g.met.D.Disk.told g.met.D.Disk.up_to_now s.seat c.call_count.result c.call_count.ensures c.note_point.new.group made.opened made.count c.note_point.new.trail
           (made.entries ∙ ap (λ (v : Bool). s.trail.entries ++ record { seat = s.seat; calls = c.call_count.result; act = OpenedAct c.args.table c.in_ok-stamp.stamp v } ∷ []) c.is_some-scn.ensures) made.room,
-      c.self.invariant.1,
+      (c.self.invariant.1.0, more_by_clock g.C.Clock g.B.Founded.times g.B.Based.base s.clock s.trail.entries c.self.invariant.1.1 c.note_point.new.trail.entries (record { seat = s.seat; calls = c.call_count.result; act = OpenedAct c.args.table c.in_ok-stamp.stamp c.is_some-scn.result }) made.entries refl),
     )
 
 pub returns-clause-ok : goal.returns-clause-ok

@@ -1,3 +1,5 @@
+use Rattle.std.specs.Prelude.{[]}
+use Rattle.px_server.proofs.Stamping.{first_by_clock, same_by_clock}
 use Rattle.px_server.proofs.Started.{kept_first}
 use Rattle.px_server.proofs.server.Server.over.Goals as goal
 
@@ -5,5 +7,8 @@ pub invariant_of-result : goal.invariant_of-result
 invariant_of-result g c = (
   kept_first c.args.opened c.requires.right g.D.Disk g.met.D.Disk.told c.args.disk g.B.Based.base c.requires.base g.B.Founded.sound g.B.Founded.premise c.requires.sound c.requires.disk c.in-Some.beside.standing c.in-Some.ensures.standing
       c.in-Some.beside.trail c.in-Some.ensures.trail.0 c.in-Some.ensures.trail.1,
-  c.in-Some.ensures.frame,
+  (
+    c.in-Some.ensures.frame,
+    same_by_clock g.C.Clock g.B.Founded.times g.B.Based.base c.args.clock [] (first_by_clock g.C.Clock g.B.Founded.times g.B.Based.base c.args.clock c.requires.times) c.in-Some.beside.trail.entries c.in-Some.ensures.trail.0,
+  ),
 )

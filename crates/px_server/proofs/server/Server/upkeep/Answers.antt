@@ -1,4 +1,5 @@
 use Rattle.std.proofs.Common.{◌≡◌, ◌<◌, ◌∙◌, None, Some, List, length, refl, sym, subst}
+use Rattle.px_trail.specs.declared.entry.Act.TheVariants.{Shut}
 use Rattle.px_calls.specs.Calls.{DidWork}
 use Rattle.px_calls.specs.Causes.{Refuses, upkeep_cause}
 use Rattle.px_calls.specs.declared.fault.StepFault.TheVariants.{Closed, Memory, WriteFault}
@@ -6,6 +7,7 @@ use Rattle.px_calls.specs.declared.status.Work.TheVariants.{Did, Idle}
 use Rattle.px_group.specs.declared.group.Group.{Group}
 use Rattle.px_server.specs.Shown.{Shown, known_by}
 use Rattle.px_server.proofs.Found.{closed_by}
+use Rattle.px_server.proofs.Stamping.{more_by_clock}
 use Rattle.px_server.proofs.Stepped.{did_work, stepped, stopped, work_failed, work_no_memory}
 use Rattle.px_server.proofs.server.Server.upkeep.Goals as goal
 
@@ -48,7 +50,7 @@ invariant_of-self-in-Err-WriteFault g c =
     let failed = (rw c.in-Err-WriteFault.field-0-is at c.in-Err-WriteFault.ensures.failed) refl in (
       stopped g.D.Disk g.met.D.Disk.told g.met.D.Disk.up_to_now g.B.Based.base g.B.Founded.sound g.B.Founded.premise s.disk s.catalog s.standing s.groups.items s.trail s.late s.closed c.self.invariant.0 c.in_default.is
           c.in-Some-unlogged_table.place c.index_mut-group.result.now c.step_table.new.group (subst (λ (gs : List Group). c.in-Some-unlogged_table.place < length gs) c.as_slice.ensures.value c.in-Some-unlogged_table.ensures.found.0) (sym c.index_mut-group.ensures.value) c.step_table.new.disk failed.0 c.call_count-calls.result s.seat c.call_count-calls.ensures failed.1 c.push.new.self c.push.ensures.entries c.push.ensures.room,
-      c.self.invariant.1,
+      (c.self.invariant.1.0, more_by_clock g.C.Clock g.B.Founded.times g.B.Based.base s.clock s.trail.entries c.self.invariant.1.1 c.push.new.self.entries (record { seat = s.seat; calls = c.call_count-calls.result; act = Shut c.call_count-calls.result }) c.push.ensures.entries refl),
     )
 
 pub returns-in-Ok-clause-ok : goal.returns-in-Ok-clause-ok

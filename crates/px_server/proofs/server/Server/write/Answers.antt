@@ -1,6 +1,6 @@
 use Rattle.std.proofs.Common.{◌≡◌, ◌<◌, ◌≤◌, ◌∙◌, ℕ, Option, None, Some, List, [], ◌∷◌, ◌++◌, length, refl, sym, ap, subst, slice_get, arith}
 use Rattle.std.specs.List.{slice_set}
-use Rattle.px_trail.specs.declared.entry.Act.TheVariants.{Wrote}
+use Rattle.px_trail.specs.declared.entry.Act.TheVariants.{Shut, Wrote}
 use Rattle.px_trail.specs.declared.entry.Entry.{Entry}
 use Rattle.px_trail.specs.Batches.{IsIn, Verifying as InVerifying, Writing as InWriting}
 use Rattle.px_trail.specs.Count.{counted_act}
@@ -17,6 +17,7 @@ use Rattle.px_server.specs.Kept.{IsKept}
 use Rattle.px_server.specs.Shown.{Shown, known_by}
 use Rattle.px_server.proofs.Found.{closed_by}
 use Rattle.px_server.proofs.RowsTold.{blocked_waits, did_write, not_yet, unwritten_kept, write_failed, writing_there, wrote_in, wrote_kept}
+use Rattle.px_server.proofs.Stamping.{more_by_clock}
 use Rattle.px_server.proofs.Ticketed.{batch_somewhere, same_read, stands_somewhere, there, ticket_in}
 use Rattle.px_server.proofs.server.Server.write.Goals as goal
 
@@ -116,7 +117,7 @@ invariant_of-self g c =
           c.in_default.is place c.in-Some-numbered_place.ensures.found c.in-Some-numbered_place.ensures.numbered y c.index_mut-group.ensures.value m l stamp
           c.write-outcome.new.group c.write-outcome.new.disk free c.in-Ok.rows c.in-Ok.ensures.rows c.call_count-calls.result c.call_count-calls.ensures c.in-Ok.ensures.written c.push.new.self
           (c.push.ensures.entries ∙ ap (λ (e : Entry). s.trail.entries ++ e ∷ []) c.wrote.ensures) c.push.ensures.room,
-      (let f = c.write-outcome.ensures.frame in let w = c.self.invariant.1 in omega (arith, f, w)),
+      ((let f = c.write-outcome.ensures.frame in let w = c.self.invariant.1.0 in omega (arith, f, w)), more_by_clock g.C.Clock g.B.Founded.times g.B.Based.base s.clock s.trail.entries c.self.invariant.1.1 c.push.new.self.entries (record { seat = s.seat; calls = c.call_count-calls.result; act = Wrote t.table t.stamp c.in-Ok.rows }) (c.push.ensures.entries ∙ ap (λ (e : Entry). s.trail.entries ++ e ∷ []) c.wrote.ensures) refl),
     )
 
 pub invariant_of-self-in-Err : goal.invariant_of-self-in-Err
@@ -144,7 +145,7 @@ invariant_of-self-in-Err g c =
           c.in_default.is place c.in-Some-numbered_place.ensures.found c.in-Some-numbered_place.ensures.numbered y c.index_mut-group.ensures.value m l stamp
           c.write-outcome.new.group c.write-outcome.new.disk free c.in-Err.field-0.rows c.in-Err.ensures.late c.call_count-calls.result c.call_count-calls.ensures c.in-Err.ensures.hands (c.in-Err.ensures.failed refl) c.push-in-Err.new.self
           c.push-in-Err.ensures.entries c.push-in-Err.ensures.room),
-      (let f = c.write-outcome.ensures.frame in let w = c.self.invariant.1 in omega (arith, f, w)),
+      ((let f = c.write-outcome.ensures.frame in let w = c.self.invariant.1.0 in omega (arith, f, w)), more_by_clock g.C.Clock g.B.Founded.times g.B.Based.base s.clock s.trail.entries c.self.invariant.1.1 c.push-in-Err.new.self.entries (record { seat = s.seat; calls = c.call_count-calls.result; act = Shut c.call_count-calls.result }) c.push-in-Err.ensures.entries refl),
     )
 
 pub returns-in-Ok-clause-ok : goal.returns-in-Ok-clause-ok

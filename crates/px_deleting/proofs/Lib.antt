@@ -1,0 +1,4 @@
+pub mod Past
+pub mod Going
+pub mod Whole
+pub mod Counting

@@ -1,0 +1,93 @@
+-- What was done stays so while entries come.
+use Rattle.std.proofs.Common.{ℕ, ◌≡◌, List, [], ◌∷◌, ◌++◌, refl, sym, ap, subst, ◌∙◌, arith, append_assoc}
+use Rattle.std.proofs.lemmas.List.{append-nil}
+use Rattle.std.specs.List.{AllByRecursion}
+use Rattle.px_values.specs.declared.change.Change.{Change}
+use Rattle.px_values.specs.declared.name.TableId.{TableId}
+use Rattle.px_tables.specs.declared.table.Table.{Table}
+use Rattle.px_trail.specs.declared.entry.Act.{Act}
+use Rattle.px_trail.specs.declared.entry.Entry.{Entry}
+use Rattle.px_trail.specs.Legal.{IsLegal}
+use Rattle.px_trail.specs.Trail.{Base, catalogue_of, table_of}
+use Rattle.px_calls.specs.declared.ticket.Receipt.{Receipt}
+use Rattle.px_calls.specs.Known.{Known, Passes, Ran}
+use Rattle.px_calls.specs.Requires.{AreFitting, FitsTable}
+use Rattle.px_calls.proofs.Stays.{drawn-stays, grown-fits, table-was}
+use Rattle.px_planned.specs.declared.planned.Planned.{Planned}
+use Rattle.px_deleting.specs.Deleting.{AreMade, CanBegin, HasFound, HasMade, WasKnown}
+
+-- 1. Moments
+
+-- what is seen later
+pub record Later (k k' : Known) : Type 0 where
+  pub more : List Entry
+  pub seen : k'.seen ≡ k.seen ++ more
+  pub base : k'.base ≡ k.base
+  pub seat : k'.seat ≡ k.seat
+
+pub ran-later : (k k' : Known) (acts : List Act) → Ran k k' acts → Later k k'
+ran-later k k' acts h = record { more = h.added; seen = h.seen; base = h.base; seat = h.seat }
+
+pub passes-later : (k k' : Known) → Passes k k' → Later k k'
+passes-later k k' h = record { more = h.others; seen = h.seen; base = h.base; seat = h.seat }
+
+pub was-now : (k : Known) → WasKnown k k
+was-now k = record { more = []; seen = sym (append-nil k.seen); base = refl; seat = refl }
+
+pub was-later : (past k k' : Known) → Later k k' → WasKnown past k → WasKnown past k'
+was-later past k k' h w = record {
+  more = w.more ++ h.more;
+  seen = h.seen ∙ (ap (λ (l : List Entry). l ++ h.more) w.seen ∙ append_assoc past.seen w.more h.more);
+  base = h.base ∙ w.base;
+  seat = h.seat ∙ w.seat;
+}
+
+-- 2. What was found and made
+
+pub found-later : (sound : Type 0) (p : Planned) (k k' : Known) (first : ℕ) (acts : List Act) (cs : List Change) → Later k k' → HasFound sound p k first acts cs → HasFound sound p k' first acts cs
+found-later sound p k k' first acts cs h f = record { past = f.past; was = was-later f.past k k' h f.was; answer = f.answer; opened = f.opened; outcome = f.outcome; removals = f.removals }
+
+pub made-later : (k k' : Known) (t : TableId) (cs : List Change) (acts : List Act) (r : Receipt) → Later k k' → HasMade k t cs acts r → HasMade k' t cs acts r
+made-later k k' t cs acts r h m = record { past = m.past; was = was-later m.past k k' h m.was; ended = m.ended }
+
+pub all-later : (k k' : Known) (t : TableId) (parts : List (List Change)) (rs : List Receipt) (acts : List Act) → Later k k' → AreMade k t parts rs acts → AreMade k' t parts rs acts
+all-later k k' t [] [] acts h m = m
+all-later k k' t [] (r ∷ rs) acts h m = absurd m
+all-later k k' t (cs ∷ parts) [] acts h m = absurd m
+all-later k k' t (cs ∷ parts) (r ∷ rs) acts h m = (m.0, m.1, m.2, made-later k k' t cs m.0 r h m.3, all-later k k' t parts rs m.1 h m.4)
+
+-- one batch more
+pub made-more : (k : Known) (t : TableId) (parts : List (List Change)) (rs : List Receipt) (acts : List Act) (cs : List Change) (r : Receipt) (mine : List Act) → AreMade k t parts rs acts → HasMade k t cs mine r
+    → AreMade k t (parts ++ cs ∷ []) (rs ++ r ∷ []) (acts ++ mine)
+made-more k t [] [] acts cs r mine m h = (mine, [], ap (λ (l : List Act). l ++ mine) m ∙ sym (append-nil mine), h, refl)
+made-more k t [] (x ∷ rs) acts cs r mine m h = absurd m
+made-more k t (c ∷ parts) [] acts cs r mine m h = absurd m
+made-more k t (c ∷ parts) (x ∷ rs) acts cs r mine m h =
+    (m.0, m.1 ++ mine, ap (λ (l : List Act). l ++ mine) m.2 ∙ append_assoc m.0 m.1 mine, m.3, made-more k t parts rs m.1 cs r mine m.4 h)
+
+-- 3. The table
+
+-- a query that was bound stays so
+pub can-later : (k k' : Known) (p : Planned) → Later k k' → IsLegal k'.base k'.seen → CanBegin k p → CanBegin k' p
+can-later k k' p h legal c =
+    let t = p.table.id.0 in
+    let l : IsLegal k.base (k.seen ++ h.more) = subst (λ (b : Base). IsLegal b (k.seen ++ h.more)) h.base (subst (λ (s : List Entry). IsLegal k'.base s) h.seen legal) in
+    let tables : table_of k'.base k'.seen t ≡ table_of k.base (k.seen ++ h.more) t = ap (λ (b : Base). table_of b k'.seen t) h.base ∙ ap (λ (s : List Entry). table_of k.base s t) h.seen in
+    let next : (catalogue_of k'.base k'.seen).next ≡ (catalogue_of k.base (k.seen ++ h.more)).next = ap (λ (b : Base). (catalogue_of b k'.seen).next) h.base ∙ ap (λ (s : List Entry). (catalogue_of k.base s).next) h.seen in
+    record {
+      legal = legal;
+      bound = record {
+        drawn = (let d = drawn-stays k.base t k.seen h.more l c.bound.drawn in omega arith);
+        is = λ x now. c.bound.is x (table-was k.base t k.seen h.more x l c.bound.drawn (sym tables ∙ now));
+      };
+    }
+
+pub fitting-later : (k k' : Known) (t : ℕ) (cs : List Change) → Later k k' → IsLegal k'.base k'.seen → AreFitting k t cs → AreFitting k' t cs
+fitting-later k k' t cs h legal f = grown-fits k k' h.more t cs h.seen h.base legal f
+
+-- changes that fit the table to which the query was bound
+pub fitting-now : (k : Known) (p : Planned) (cs : List Change) → CanBegin k p → AllByRecursion (FitsTable p.table) cs → AreFitting k p.table.id.0 cs
+fitting-now k p cs c f = record {
+  drawn = c.bound.drawn;
+  each = λ x now. subst (λ (y : Table). AllByRecursion (FitsTable y) cs) (sym (c.bound.is x now)) f;
+}

@@ -1,0 +1,22 @@
+use Rattle.std.proofs.Common.{refl}
+use Rattle.px_item.proofs.Going.{define_goes_on, define_is_over}
+use Rattle.px_item.proofs.item.define.Goals as goal
+
+pub returns-in-Stepped : goal.returns-in-Stepped
+returns-in-Stepped g c = λ before own f.
+    let a = c.args in
+    let t = c.in-Stepped.ensures.turns in
+    let w = define_goes_on g.S.Steps.sound before a.asked own a.statement a.run c.step.new.self _ _ t.acts f c.in-Stepped.ensures.definition t.ran t.fits t.told.0 t.told.1 in
+    record { acts = t.acts; ran = t.ran; told = (refl, w) }
+
+pub returns-in-Waiting : goal.returns-in-Waiting
+returns-in-Waiting g c = λ before own f.
+    let a = c.args in
+    let t = c.in-Waiting.ensures.turns in
+    let w = define_goes_on g.S.Steps.sound before a.asked own a.statement a.run c.step.new.self _ _ t.acts f c.in-Waiting.ensures.definition t.ran t.fits t.told.0 t.told.1 in
+    record { acts = t.acts; ran = t.ran; told = (refl, w) }
+
+pub returns-in-Over : goal.returns-in-Over
+returns-in-Over g c = λ before own f.
+    let a = c.args in
+    define_is_over g.S.Steps.sound before a.asked own a.statement a.run c.step.new.self _ _ _ c.defined.result f c.in-Over.ensures.turns c.defined.ensures
