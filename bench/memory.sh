@@ -1,13 +1,14 @@
 #!/usr/bin/env bash
-# How much memory a run takes: for each UPSERT of 30 bytes, for each piece that is no statement, and for the rows of a
+# How much memory a run takes: for each UPSERT of 35 bytes into a row of its own, for each piece that is no statement, and for the rows of a
 # SELECT beside its printed bytes. The greatest resident memory of each run is what the system counts.
-# Usage: bench/memory.sh [UPSERTS [PIECES [ROWS]]] (300000, 1000000, 20000)
+# Usage: bench/memory.sh [UPSERTS [PIECES [ROWS]]] (8000, 1000000, 8000)
+# A region holds 8,192 such rows until flushes come.
 set -eu
 top=$(cd "$(dirname "$0")/.." && pwd)
 program=$top/crates/px_main/out/px_main
-# Proves and builds the program, where that wasn't done yet. An empty script makes no folder.
+# Proves and builds the program, where that wasn't done yet.
 "$top/nipuhako" run "$top/crates/px_main/out/none" </dev/null
-exec python3 - "$program" "${1:-300000}" "${2:-1000000}" "${3:-20000}" <<'PY'
+exec python3 - "$program" "${1:-8000}" "${2:-1000000}" "${3:-8000}" <<'PY'
 import os, resource, subprocess, sys, tempfile
 
 program, upserts, pieces, rows = sys.argv[1], *map(int, sys.argv[2:])
@@ -34,9 +35,9 @@ def run(folder, script):
 
 try:
     none, _ = run(work + "/none", "")
-    script = "UPSERT INTO KV VALUES('a','b');" * upserts
+    script = "".join(f"UPSERT INTO KV VALUES('k{i:05}','v');" for i in range(upserts))
     most, printed = run(work + "/upserts", script)
-    print(f"{upserts} UPSERTs of 30 bytes: {(most - none) / upserts:.0f} bytes each, of which {(len(script) + printed) / upserts:.0f} are its own and its reply's")
+    print(f"{upserts} UPSERTs of 35 bytes: {(most - none) / upserts:.0f} bytes each, of which {(len(script) + printed) / upserts:.0f} are its own and its reply's")
     script = "X;" * pieces
     most, printed = run(work + "/pieces", script)
     print(f"{pieces} pieces X; : {(most - none) / pieces:.0f} bytes each, of which {(len(script) + printed) / pieces:.0f} are its own and its reply's")

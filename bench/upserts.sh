@@ -11,8 +11,8 @@ upserts=${1:-1000}
 rounds=${2:-5}
 # A record of such a row from its kind to the gate behind it, in bytes (docs/use/FORMAT.md).
 record=168
-# The syncs of a new log: three make its segment, two bring the names of its file and its folder to the disk.
-first_syncs=5
+# The syncs of a new folder beside its rows: of the catalogue, of the log, and of the names of their files and of the folder.
+first_syncs=9
 
 fail() {
     echo "upserts.sh: $1" >&2
@@ -22,8 +22,9 @@ fail() {
     fail '1 to 7,000 statements, and at least one round'
 top=$(cd "$(dirname "$0")/.." && pwd)
 program=$top/crates/px_main/out/px_main
-# Proves and builds the program, where that wasn't done yet. An empty script makes no folder.
+# Proves and builds the program, where that wasn't done yet.
 "$top/nipuhako" run "$top/crates/px_main/out/none" </dev/null
+rm -rf "$top/crates/px_main/out/none"
 work=$(mktemp -d "${3:-$top/crates/px_main/out}/upserts.XXXXXX")
 work=$(cd "$work" && pwd)
 trap 'rm -rf "$work"' EXIT

@@ -171,12 +171,12 @@ else
 fi
 
 mkdir "$mounted"
-if ! mount -t tmpfs -o size=16k tmpfs "$mounted" 2>/dev/null; then
+if ! mount -t tmpfs -o size=64k tmpfs "$mounted" 2>/dev/null; then
     echo "left out: a full disk and a read-only one, since nothing can be mounted here"
     exit "$wrong"
 fi
 value=$(printf 'v%.0s' $(seq 900))
-for i in $(seq 30); do echo "UPSERT INTO KV VALUES ('$i','$value');"; done >"$work/many"
+for i in $(seq 100); do echo "UPSERT INTO KV VALUES ('$i','$value');"; done >"$work/many"
 "$program" run "$mounted/kv" <"$work/many" >"$work/out" 2>"$work/err"
 status=$?
 expect "a full disk" 3 "device fault at call *"

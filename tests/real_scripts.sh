@@ -38,14 +38,16 @@ ends 'a statement of one byte more' 1 'E11 limit: STATEMENT 1048576'$'\n'"$none"
 { printf '%s WHERE ' "$select"; times '((((' 262000; printf ';%s' "$select"; } >"$work/script"
 ends '1,048,000 open parentheses' 1 'E01 syntax at byte 1048023'$'\n'"$none"
 { printf '%s WHERE ' "$select"; times 'NOT ' 262000; printf 'K = 1;%s' "$select"; } >"$work/script"
-ends '262,000 NOTs' 1 'E02 left out: FORM'$'\n'"$none"
+ends '262,000 NOTs' 1 'E11 limit: DEPTH 64'$'\n'"$none"
+{ printf '%s WHERE ' "$select"; times "K = 'a' OR " 95000; printf "K = 'a';%s" "$select"; } >"$work/script"
+ends '95,000 ORs' 0 "$none"$'\n'"$none"
 { printf '%s WHERE ' "$select"; times 'K = 1 OR ' 116000; printf 'K = 1;%s' "$select"; } >"$work/script"
-ends '116,000 ORs' 1 'E02 left out: FORM'$'\n'"$none"
-{ printf '%s WHERE K IN (1' "$select"; times ', 1' 349000; printf ');%s' "$select"; } >"$work/script"
-ends '349,001 literals in IN' 1 'E02 left out: FORM'$'\n'"$none"
+ends '116,000 ORs of another class' 1 'E06 type mismatch at byte 27'$'\n'"$none"
+{ printf "%s WHERE K IN ('a'" "$select"; times ", 'a'" 209000; printf ');%s' "$select"; } >"$work/script"
+ends '209,001 literals in IN' 0 "$none"$'\n'"$none"
 
 { times "SELECT * FROM KV LIMIT 1;" 200000; printf '%s' "$select"; } >"$work/script"
-ends '200,000 statements' 1 'E02 left out: FORM'$'\n'"$none"
+ends '200,000 statements' 0 "$none"$'\n'"$none"
 printf '%s;\n\xff' "$select" >"$work/script"
 ends 'a script that is no text' 1 'E01 syntax at byte 18'
 
@@ -56,4 +58,8 @@ printf 'SELECT\n' >"$work/script"
 ends 'the same with a last line feed' 1 'E01 syntax at byte 6'
 printf '%s;\r\n%s\n' "$select" "$select" >"$work/script"
 ends 'a line that ends with CR LF' 1 "$none"$'\n''E01 syntax at byte 0'
+
+# Rounds and sessions, up to the greatest session.
+{ for i in $(seq 2 32); do printf '@%s UPSERT INTO KV VALUES ("x",1);\n' "$i"; done; printf -- '---\n@32 %s\n' "$select"; } >"$work/script"
+ends '32 sessions' 1 "@32"$'\n'"$none"
 exit "$failed"

@@ -8,6 +8,7 @@ use px_program::{Status, folder_disk, phoenix, tell, tell_fault};
 use std::alloc::AllocError;
 use std::fs::File;
 use std::process::ExitCode;
+use std::sync::Wait;
 use std::{env, io};
 
 /// The null device, open for reading. Three of them take the descriptors of input, output and errors where these were
@@ -31,19 +32,20 @@ fn told(rt: &HostRuntime, status: Status) -> Status {
     status
 }
 
-/// Runs the program on the folder that the words name, and tells its status; where they name none, on no folder.
-fn run_in(rt: &HostRuntime, words: &[String]) -> Result<Status, AllocError> {
+/// Runs the program on the folder that the words name, and tells its status; where they name none, on no folder. The sessions
+/// wait for their turns by `wait`.
+fn run_in<W: Wait>(rt: &HostRuntime, wait: &W, words: &[String]) -> Result<Status, AllocError> {
     let alloc = rt.alloc();
     let clock = WallClock::new(rt);
     let (mut input, mut out) = (StdSource::new(rt), StdSink::new(rt));
     match folder_disk(rt, alloc, words)? {
         None => {
             let disk = MemDisk::new(alloc);
-            let status = phoenix(alloc, words, disk, clock, &mut input, &mut out).status;
+            let status = phoenix(wait, alloc, words, disk, clock, &mut input, &mut out).status;
             Ok(told(rt, status))
         }
         Some(disk) => {
-            let outcome = phoenix(alloc, words, disk, clock, &mut input, &mut out);
+            let outcome = phoenix(wait, alloc, words, disk, clock, &mut input, &mut out);
             let status = told(rt, outcome.status);
             tell_fault(rt, outcome.disk.fault());
             drop(outcome);
@@ -57,7 +59,7 @@ fn main(rt: HostRuntime) -> ExitCode {
     let _output = null_device(&rt);
     let _errors = null_device(&rt);
     let status = match words_of(&rt) {
-        Ok(words) => match run_in(&rt, &words) {
+        Ok(words) => match run_in(&rt, &rt, &words) {
             Ok(status) => status,
             Err(_) => told(&rt, Status::Memory),
         },

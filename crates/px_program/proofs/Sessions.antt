@@ -1,249 +1,263 @@
--- From piece to piece, and a session's end.
-use Rattle.std.proofs.Common.{◌≡◌, ◌≢◌, ◌<◌, ◌≤◌, ◌+◌, ◌⊎◌, inl, inr, ℕ, List, [], ◌∷◌, ◌++◌, length, map, take, drop, get_or, refl, sym, ◌∙◌, ap, subst, arith}
-use Rattle.std.proofs.Math.Seq.{take-length}
-use Rattle.std.proofs.lemmas.List.{append-nil, map-append, take-append-drop, take-append-le, take_more, take_all}
-use Rattle.px_outside.specs.declared.disk.Disk.{Ghosts}
-use Rattle.px_lex.specs.declared.script.Piece.{Piece}
-use Rattle.px_lex.specs.Script.{IsScript, Section, SeenPiece, pieces_from, seen_piece}
-use Rattle.px_lex.proofs.SomeScript.{some_script}
-use Rattle.px_kv_trail.specs.Trail.{calls_of}
-use Rattle.px_kv_trail.specs.declared.entry.Entry.{Entry}
-use Rattle.px_program.specs.declared.session.reply.Item.{Item}
-use Rattle.px_program.specs.declared.session.refusal.Refusal.{Refusal}
-use Rattle.px_program.specs.declared.session.refusal.Refusal.TheVariants.{WriteFault as WriteFaultRefusal}
-use Rattle.px_program.specs.declared.session.reply.Reply.TheVariants.{Refused}
-use Rattle.px_program.specs.declared.session.Ending.{Ending}
-use Rattle.px_program.specs.declared.session.Ending.TheVariants.{Whole, WriteFault, Memory}
-use Rattle.px_program.specs.declared.store.Store.{Store}
-use Rattle.px_program.specs.inner.Store.{IsKept}
-use Rattle.px_program.specs.inner.Statement.{HasRun}
-use Rattle.px_program.specs.Origin.{Origin}
-use Rattle.px_program.specs.Replied.{IsQuiet, LastFailed}
-use Rattle.px_program.specs.inner.Statement.{AreReplied}
-use Rattle.px_program.specs.Script.{IsReadable, StopsScript, lines_of, span_of}
-use Rattle.px_program.specs.Replied.{FailedIn}
-use Rattle.px_program.specs.inner.Session.{AnswersPieces, AnswersSession, AreAnswered, FailsLast, HasSession, IsEnded, IsGoing, IsStopped}
-use Rattle.px_program.proofs.Stops.{kept_late}
-use Rattle.px_program.proofs.Running.{all_later, all_more}
+-- What the items of a run leave together: one that tells of the disk has an entry that tells it; where none stops its session, each seat has ended and
+-- closed all that it began and opened; and where memory wasn't lacked, each session came to its end.
+use Rattle.std.proofs.Common.{ℕ, zero, suc, ◌≡◌, ◌≢◌, ◌≤◌, ◌<◌, ◌+◌, ◌||◌, Bool, true, false, Some, List, [], ◌∷◌, ◌++◌, length, map, take, drop, replicate, refl, sym, ◌∙◌, ap, subst, arith, inl, inr, ⊎_elim}
+use Rattle.std.specs.Prelude.{slice_get}
+use Rattle.std.specs.List.{list_any}
+use Rattle.std.proofs.lemmas.Bool.{cases_lt, false≢true}
+use Rattle.std.proofs.lemmas.Grind.{flat_map-append}
+use Rattle.std.proofs.lemmas.List.{append-nil}
+use Rattle.std.proofs.lemmas.List.Elements.{filter-append}
+use Rattle.std.proofs.lemmas.List.Folds.{list_any-append}
+use Rattle.px_lex.specs.Script.{SeenPiece, pieces_from}
+use Rattle.px_script.specs.Pieces.{span_of}
+use Rattle.px_script.specs.declared.script.SessionText.{SessionText}
+use Rattle.px_trail.specs.Trail.{acts_by}
+use Rattle.px_trail.specs.declared.entry.Entry.{Entry}
+use Rattle.px_calls.specs.Known.{Known, is_turn, outline}
+use Rattle.px_calls.proofs.Runs.{acts_by-append}
+use Rattle.px_reply.specs.declared.transcript.Item.{Item}
+use Rattle.px_reply.specs.declared.transcript.Transcript.{Transcript}
+use Rattle.px_item.specs.Right.{after}
+use Rattle.px_session.specs.Replies.{AreReplied, EndsAs, IsAnswered, Standing, answer_of, at_first, has_fatal, is_fatal, is_stopped, own_since, place_from}
+use Rattle.px_session.specs.declared.state.Ending.{Ending}
+use Rattle.px_session.specs.declared.state.Ending.TheVariants.{Fatal, Memory, Whole}
+use Rattle.px_session.specs.declared.state.SessionState.{SessionState}
+use Rattle.px_rounds.specs.Rounds.{AreRounds, HasRound, IsToldIn, first_state, in_order, text_in}
+use Rattle.px_rounds.specs.Turns.{as_seat}
+use Rattle.px_rounds.proofs.Lists.{get_lt, get_some, some_same}
+use Rattle.px_server.specs.Kept.{has_told}
+use Rattle.px_program.specs.Complete.{AreWholeRounds, IsWhole, IsWholeRound, some_tell_disk, tells_disk}
+use Rattle.px_program.specs.Run.{undamaged}
+use Rattle.px_program.specs.Status.{items_of}
+use Rattle.px_program.proofs.Balanced.{IsBalanced, balanced-append, balanced-none}
+use Rattle.px_program.proofs.Flat.{any_of}
+use Rattle.px_program.proofs.Items.{fair, told_front}
 
--- ---- a piece
+-- ---- 1. Lists
 
-quiet_more : (items : List Item) (item : Item) → IsQuiet items → item.reply ≢ Refused WriteFaultRefusal → IsQuiet (items ++ item ∷ [])
-quiet_more [] item quiet other = (other, tt)
-quiet_more (i ∷ items) item quiet other = (quiet.0, quiet_more items item quiet.1 other)
+pub or_elim : {A : Type 0} (a b : Bool) → (a ≡ true → A) → (b ≡ true → A) → (a || b) ≡ true → A
+or_elim true b f g h = f refl
+or_elim false b f g h = g h
 
-pub passed_more : {D : Type 0} (d : Ghosts D) (origin : Origin) (disk disk' : D) (now : ℕ) (old store : Store) (from : ℕ) (passed : List SeenPiece) (piece : SeenPiece) (items : List Item) (item : Item) (items' : List Item)
-    → IsGoing d origin disk old from passed items → item.statement ≡ span_of piece → HasRun d origin disk disk' now old.trail.entries store piece item
-    → items' ≡ items ++ item ∷ [] → AreReplied origin store.trail.entries from (length store.trail.entries) (passed ++ piece ∷ []) items'
-passed_more d origin disk disk' now old store from passed piece items item items' going is ran all =
-    let es : List Entry = store.trail.entries in
-    subst (λ (l : List Item). AreReplied origin es from (length es) (passed ++ piece ∷ []) l) (sym all)
-    (subst (λ (n : ℕ). AreReplied origin es from n (passed ++ piece ∷ []) (items ++ item ∷ [])) ran.last
-    (all_more origin es from (length old.trail.entries) passed items piece item is ran.first ran.replied (all_later origin old.trail.entries es from (length old.trail.entries) passed items ran.grows going.replied)))
+pub or_none : (a b : Bool) → (a || b) ≡ false → (a ≡ false) × (b ≡ false)
+or_none true b h = absurd (false≢true (sym h))
+or_none false b h = (refl, h)
 
-pub passed_on : {D : Type 0} (d : Ghosts D) (origin : Origin) (disk disk' : D) (now : ℕ) (old store : Store) (from : ℕ) (passed : List SeenPiece) (piece : SeenPiece) (items : List Item) (item : Item) (items' : List Item)
-    → IsGoing d origin disk old from passed items → item.statement ≡ span_of piece → HasRun d origin disk disk' now old.trail.entries store piece item
-    → items' ≡ items ++ item ∷ [] → item.reply ≢ Refused WriteFaultRefusal → IsGoing d origin disk' store from (passed ++ piece ∷ []) items'
-passed_on d origin disk disk' now old store from passed piece items item items' going is ran all other =
+front_then : {A : Type 0} (b c : ℕ) (xs : List A) → b ≤ c → take c xs ≡ take b xs ++ drop b (take c xs)
+front_then zero c xs h = refl
+front_then (suc b) zero xs h = absurd (omega arith)
+front_then (suc b) (suc c) [] h = refl
+front_then (suc b) (suc c) (x ∷ xs) h = ap (λ l. x ∷ l) (front_then b c xs (omega arith))
+
+-- what lies between two places, by what lies before and after one between them
+seam : {A : Type 0} (a b c : ℕ) (xs : List A) → a ≤ b → b ≤ c → drop a (take c xs) ≡ drop a (take b xs) ++ drop b (take c xs)
+seam zero b c xs h j = front_then b c xs j
+seam (suc a) zero c xs h j = absurd (omega arith)
+seam (suc a) (suc b) zero xs h j = absurd (omega arith)
+seam (suc a) (suc b) (suc c) [] h j = refl
+seam (suc a) (suc b) (suc c) (x ∷ xs) h j = seam a b c xs (omega arith) (omega arith)
+
+none_between : {A : Type 0} (n : ℕ) (xs : List A) → drop n (take n xs) ≡ []
+none_between zero xs = refl
+none_between (suc n) [] = refl
+none_between (suc n) (x ∷ xs) = none_between n xs
+
+-- the place of an element that passes
+any_at : {A : Type 0} (p : A → Bool) (xs : List A) → list_any p xs ≡ true → (i : ℕ) × (x : A) × (slice_get xs i ≡ Some x) × (p x ≡ true)
+any_at p [] h = absurd (false≢true h)
+any_at p (x ∷ xs) h = or_elim (p x) (list_any p xs) (λ tell. (zero, x, refl, tell)) (λ more. let r = any_at p xs more in (suc r.0, r.1, r.2, r.3)) h
+
+none_at : {A : Type 0} (p : A → Bool) (xs : List A) (i : ℕ) (x : A) → list_any p xs ≡ false → slice_get xs i ≡ Some x → p x ≡ false
+none_at p [] i x quiet is = absurd (past i is)
+  where
+    past : (i : ℕ) → slice_get [] i ≡ Some x → ⊥
+    past i e = cc
+none_at p (y ∷ ys) zero x quiet is = ap p (sym (some_same y x is)) ∙ (or_none (p y) (list_any p ys) quiet).0
+none_at p (y ∷ ys) (suc i) x quiet is = none_at p ys i x (or_none (p y) (list_any p ys) quiet).1 is
+
+-- ---- 2. What a seat did
+
+own_then : (seat a b c : ℕ) (es : List Entry) → a ≤ b → b ≤ c → own_since seat a (take c es) ≡ own_since seat a (take b es) ++ own_since seat b (take c es)
+own_then seat a b c es h j =
+    ap (λ (l : List Entry). outline (acts_by seat l)) (seam a b c es h j)
+    ∙ (ap outline (acts_by-append seat (drop a (take b es)) (drop b (take c es))) ∙ filter-append is_turn (acts_by seat (drop a (take b es))) (acts_by seat (drop b (take c es))))
+
+own_none : (seat n m : ℕ) (es : List Entry) → n ≡ m → own_since seat n (take m es) ≡ []
+unfolding acts_by
+own_none seat n m es e = ap (λ (q : ℕ). own_since seat q (take m es)) e ∙ ap (λ (l : List Entry). outline (acts_by seat l)) (none_between m es)
+
+balanced_then : (seat a b c : ℕ) (es : List Entry) → a ≤ b → b ≤ c → IsBalanced (own_since seat a (take b es)) → IsBalanced (own_since seat b (take c es)) → IsBalanced (own_since seat a (take c es))
+balanced_then seat a b c es h j x y = subst IsBalanced (sym (own_then seat a b c es h j)) (balanced-append _ _ x y)
+
+-- items between two places: one that tells of the disk has an entry that tells it; and where none stops the session, its seat leaves nothing under way
+record AreFair (k : Known) (n m : ℕ) (items : List Item) : Type 0 where
+  told : some_tell_disk items ≡ true → has_told k.seen ≡ true
+  balanced : has_fatal items ≡ false → IsBalanced (own_since k.seat n (take m k.seen))
+
+module _ (sound : Type 0) where
+  forward : (k : Known) (n : ℕ) (at : Standing) (items : List Item) (m : ℕ) (to : Standing) → AreReplied sound k n at items m to → n ≤ m
+  forward k n at [] m to h = (let e = h.0 in omega arith)
+  forward k n at (i ∷ is) m to h = (let a = h.4.begins in let b = h.4.ends in let c = forward k i.evidence.last (record { settings = h.2; left = h.1 }) is m to h.5 in omega arith)
+
+  -- ---- 3. A session in a round
+
+  items_fair : (k : Known) → k.damaged ≡ undamaged → (n : ℕ) (at : Standing) (items : List Item) (m : ℕ) (to : Standing) → AreReplied sound k n at items m to → AreFair k n m items
+  items_fair k whole n at [] m to h = record { told = λ tell. absurd (false≢true tell); balanced = λ go. subst IsBalanced (sym (own_none k.seat n m k.seen h.0)) balanced-none }
+  items_fair k whole n at (i ∷ is) m to h =
+      let last = i.evidence.last in
+      let one = fair sound (after last k) whole n (own_since k.seat n (take last k.seen)) at.settings h.0 (answer_of i h.2) h.4.right in
+      let others = items_fair k whole last (record { settings = h.2; left = h.1 }) is m to h.5 in
+      let low : n ≤ last = (let a = h.4.begins in let b = h.4.ends in omega arith) in
+      let high : last ≤ m = forward k last (record { settings = h.2; left = h.1 }) is m to h.5 in
+      record {
+        told = λ tell. or_elim (tells_disk i.reply) (some_tell_disk is) (λ here. told_front last k.seen (one.told here)) others.told tell;
+        balanced = λ go. (let none = or_none (is_fatal i.reply) (has_fatal is) go in balanced_then k.seat n last m k.seen low high (one.balanced none.0) (others.balanced none.1));
+      }
+
+  session_fair : (k : Known) (from to : ℕ) (st : SessionState) (ps : List SeenPiece) (t : Transcript) (st' : SessionState) (e : Ending) → k.damaged ≡ undamaged → IsAnswered sound k from to st ps t st' e → AreFair k from to t.items
+  session_fair k from to st ps t st' e whole h =
+      let items = items_fair k whole from (at_first st ps) t.items h.last h.standing h.replied in
+      record {
+        told = items.told;
+        balanced = λ go. balanced_then k.seat from h.last to k.seen (forward k from (at_first st ps) t.items h.last h.standing h.replied) h.in_round (items.balanced go) (subst IsBalanced (sym h.rest) balanced-none);
+      }
+
+  -- ---- 4. Rounds
+
+  module _ (k : Known) (whole : k.damaged ≡ undamaged) where
+    at_seat : (from to number : ℕ) (states : List SessionState) (round : List SessionText) (ts : List Transcript) (states' : List SessionState) (memory : Bool) → HasRound sound k from to number states round ts states' memory
+        → (i : ℕ) (t : Transcript) → slice_get ts i ≡ Some t → AreFair (as_seat (i + 1) k) from to t.items
+    at_seat from to number states round ts states' memory h i t is =
+        let low = get_lt ts t i is in
+        let st = get_some states i (let c = h.count in omega arith) in
+        let st' = get_some states' i (let c = h.count in let c' = h.count' in omega arith) in
+        let told = h.each i st.0 t st'.0 st.1 is st'.1 in
+        session_fair (as_seat (i + 1) k) from to st.0 (pieces_from 0 told.sections) t st'.0 told.ending whole told.answered
+
+    round_told : (from to number : ℕ) (states : List SessionState) (round : List SessionText) (ts : List Transcript) (states' : List SessionState) (memory : Bool) → HasRound sound k from to number states round ts states' memory → some_tell_disk (items_of ts) ≡ true → has_told k.seen ≡ true
+    round_told from to number states round ts states' memory h tell =
+        let at = any_at (λ (t : Transcript). some_tell_disk t.items) ts (any_of (λ (i : Item). tells_disk i.reply) ts ∙ tell) in
+        (at_seat from to number states round ts states' memory h at.0 at.1 at.2).told at.3
+
+    round_balanced : (from to number : ℕ) (states : List SessionState) (round : List SessionText) (ts : List Transcript) (states' : List SessionState) (memory : Bool) → HasRound sound k from to number states round ts states' memory → has_fatal (items_of ts) ≡ false
+        → (seat : ℕ) → IsBalanced (own_since seat from (take to k.seen))
+    round_balanced from to number states round ts states' memory h go zero = subst IsBalanced (sym (ap outline (h.others zero (inl refl)))) balanced-none
+    round_balanced from to number states round ts states' memory h go (suc i) = ⊎_elim
+        (λ (low : i < length states).
+        let t = get_some ts i (let c = h.count in omega arith) in
+        let none = none_at (λ (t : Transcript). has_fatal t.items) ts i t.0 (any_of (λ (j : Item). is_fatal j.reply) ts ∙ go) t.1 in
+        let up : i + 1 ≡ suc i = omega arith in
+        subst (λ (seat : ℕ). IsBalanced (own_since seat from (take to k.seen))) up ((at_seat from to number states round ts states' memory h i t.0 t.1).balanced none))
+        (λ (past : length states ≤ i). subst IsBalanced (sym (ap outline (h.others (suc i) (inr (omega arith))))) balanced-none)
+        (cases_lt i (length states))
+
+    items_next : (ts : List Transcript) (tss : List (List Transcript)) → items_of (in_order (ts ∷ tss)) ≡ items_of ts ++ items_of (in_order tss)
+    items_next ts tss = flat_map-append (λ (t : Transcript). t.items) ts (in_order tss)
+
+    any_next : (p : Item → Bool) (ts : List Transcript) (tss : List (List Transcript)) → list_any p (items_of (in_order (ts ∷ tss))) ≡ (list_any p (items_of ts) || list_any p (items_of (in_order tss)))
+    any_next p ts tss = ap (list_any p) (items_next ts tss) ∙ list_any-append p (items_of ts) (items_of (in_order tss))
+
+    pub rounds_told : (from number : ℕ) (states : List SessionState) (rounds : List (List SessionText)) (tss : List (List Transcript)) (to : ℕ) (states' : List SessionState) (memory : Bool) → AreRounds sound k from number states rounds tss to states' memory
+        → some_tell_disk (items_of (in_order tss)) ≡ true → has_told k.seen ≡ true
+    rounds_told from number states [] [] to states' memory h tell = absurd (false≢true tell)
+    rounds_told from number states (r ∷ rs) (ts ∷ tss) to states' memory h tell = or_elim (some_tell_disk (items_of ts)) (some_tell_disk (items_of (in_order tss)))
+        (λ here. round_told from h.0 number states r ts h.1 memory h.2 here)
+        (λ more. rounds_told h.0 (number + 1) h.1 rs tss to states' memory h.3 more)
+        (sym (any_next (λ (i : Item). tells_disk i.reply) ts tss) ∙ tell)
+    rounds_told from number states [] (ts ∷ tss) to states' memory h tell = absurd h
+    rounds_told from number states (r ∷ rs) [] to states' memory h tell = absurd h
+
+    rounds_forward : (from number : ℕ) (states : List SessionState) (rounds : List (List SessionText)) (tss : List (List Transcript)) (to : ℕ) (states' : List SessionState) (memory : Bool) → AreRounds sound k from number states rounds tss to states' memory → from ≤ to
+    rounds_forward from number states [] [] to states' memory h = (let e = h.0 in omega arith)
+    rounds_forward from number states (r ∷ rs) (ts ∷ tss) to states' memory h = (let a = h.2.forward in let b = rounds_forward h.0 (number + 1) h.1 rs tss to states' memory h.3 in omega arith)
+    rounds_forward from number states [] (ts ∷ tss) to states' memory h = absurd h
+    rounds_forward from number states (r ∷ rs) [] to states' memory h = absurd h
+
+    pub rounds_balanced : (from number : ℕ) (states : List SessionState) (rounds : List (List SessionText)) (tss : List (List Transcript)) (to : ℕ) (states' : List SessionState) (memory : Bool) → AreRounds sound k from number states rounds tss to states' memory
+        → has_fatal (items_of (in_order tss)) ≡ false → (seat : ℕ) → IsBalanced (own_since seat from (take to k.seen))
+    rounds_balanced from number states [] [] to states' memory h go seat = subst IsBalanced (sym (own_none seat from to k.seen h.0)) balanced-none
+    rounds_balanced from number states (r ∷ rs) (ts ∷ tss) to states' memory h go seat =
+        let none = or_none (has_fatal (items_of ts)) (has_fatal (items_of (in_order tss))) (sym (any_next (λ (i : Item). is_fatal i.reply) ts tss) ∙ go) in
+        balanced_then seat from h.0 to k.seen h.2.forward (rounds_forward h.0 (number + 1) h.1 rs tss to states' memory h.3)
+        (round_balanced from h.0 number states r ts h.1 memory h.2 none.0 seat)
+        (rounds_balanced h.0 (number + 1) h.1 rs tss to states' memory h.3 none.1 seat)
+    rounds_balanced from number states [] (ts ∷ tss) to states' memory h go seat = absurd h
+    rounds_balanced from number states (r ∷ rs) [] to states' memory h go seat = absurd h
+
+-- ---- 5. Sessions that came to their end
+
+-- no session is stopped
+pub AreGoing : List SessionState → Type 0
+AreGoing states = (i : ℕ) (st : SessionState) → slice_get states i ≡ Some st → st.stopped ≡ false
+
+pub fresh_going : (n : ℕ) → AreGoing (replicate n first_state)
+unfolding AreGoing
+fresh_going n i st is = all n i is
+  where
+    all : (n i : ℕ) → slice_get (replicate n first_state) i ≡ Some st → st.stopped ≡ false
+    all zero i e = absurd (past i e)
+      where
+        past : (i : ℕ) → slice_get [] i ≡ Some st → ⊥
+        past i e = cc
+    all (suc n) zero e = ap (λ (x : SessionState). x.stopped) (sym (some_same first_state st e))
+    all (suc n) (suc i) e = all n i e
+
+-- a session ends whole, unless it is stopped or memory is lacked
+ended_whole : (e : Ending) (left : List SeenPiece) (items : List Item) → e ≢ Memory → EndsAs e left items → has_fatal items ≡ false → (e ≡ Whole) × (left ≡ [])
+ended_whole Whole left items lacks h go = (refl, h.0)
+ended_whole Fatal left items lacks h go =
+    absurd (false≢true (sym go ∙ (ap has_fatal h.is ∙ (list_any-append (λ (j : Item). is_fatal j.reply) h.before (h.item ∷ []) ∙ (ap (λ (v : Bool). v || (is_fatal h.item.reply || false)) h.quiet ∙ ap (λ (v : Bool). v || false) h.fatal)))))
+ended_whole Memory left items lacks h go = absurd (lacks refl)
+
+module _ (sound : Type 0) where
+  spans : (k : Known) (n : ℕ) (at : Standing) (items : List Item) (m : ℕ) (to : Standing) → AreReplied sound k n at items m to → map span_of at.left ≡ map (λ i. i.statement) items ++ map span_of to.left
+  spans k n at [] m to h = ap (λ (x : Standing). map span_of x.left) h.1
+  spans k n at (i ∷ is) m to h =
+      ap (map span_of) h.3
+      ∙ (ap (λ l. span_of h.0 ∷ l) (spans k i.evidence.last (record { settings = h.2; left = h.1 }) is m to h.5)
+      ∙ ap (λ x. x ∷ map (λ i. i.statement) is ++ map span_of to.left) (sym h.4.statement))
+
+  whole_session : (k : Known) (from to number : ℕ) (st : SessionState) (text : List ℕ) (t : Transcript) (st' : SessionState) (memory : Bool) → memory ≡ false → st.stopped ≡ false → has_fatal t.items ≡ false → IsToldIn sound k from to number st text t st' memory
+      → IsWhole text t × (st'.stopped ≡ false)
+  whole_session k from to number st text t st' memory enough goes go h =
+      let a = h.answered in
+      let ps = pieces_from 0 h.sections in
+      let e = ended_whole h.ending a.standing.left t.items (h.whole enough) a.ends go in
+      let all : (at_first st ps).left ≡ ps = ap (λ (v : Bool). drop (place_from (length ps) v) ps) goes in
+      let each : map (λ i. i.statement) t.items ≡ map span_of ps =
+      sym (append-nil (map (λ i. i.statement) t.items))
+      ∙ (ap (λ (l : List SeenPiece). map (λ i. i.statement) t.items ++ map span_of l) (sym e.1) ∙ (sym (spans k from (at_first st ps) t.items a.last a.standing a.replied) ∙ ap (map span_of) all)) in
+      let still : st'.stopped ≡ false = ap (λ (x : SessionState). x.stopped) a.state ∙ (ap (λ (v : Bool). v || is_stopped h.ending) goes ∙ ap is_stopped e.0) in
+      (record { sections = h.sections; cut = h.cut; each = each }, still)
+
+  whole_round : (k : Known) (from to number : ℕ) (states : List SessionState) (round : List SessionText) (ts : List Transcript) (states' : List SessionState) (memory : Bool) → memory ≡ false → AreGoing states → has_fatal (items_of ts) ≡ false
+      → HasRound sound k from to number states round ts states' memory → IsWholeRound (length states) round ts × AreGoing states'
+  unfolding AreGoing
+  whole_round k from to number states round ts states' memory enough goes go h = (
     record {
-      kept = ran.goes_on other;
-      replied = passed_more d origin disk disk' now old store from passed piece items item items' going is ran all;
-      quiet = subst (λ (l : List Item). IsQuiet l) (sym all) (quiet_more items item going.quiet other);
-    }
+      count = h.count;
+      each = λ i t is.
+          let st = get_some states i (let c = h.count in let l = get_lt ts t i is in omega arith) in
+          let st' = get_some states' i (let c = h.count in let c' = h.count' in let l = get_lt ts t i is in omega arith) in
+          (at i st.0 t st'.0 st.1 is st'.1).0;
+    },
+    (λ i st' is.
+        let st = get_some states i (let c' = h.count' in let l = get_lt states' st' i is in omega arith) in
+        let t = get_some ts i (let c = h.count in let c' = h.count' in let l = get_lt states' st' i is in omega arith) in
+        (at i st.0 t.0 st' st.1 t.1 is).1),
+  )
+    where
+      at : (i : ℕ) (st : SessionState) (t : Transcript) (st' : SessionState) → slice_get states i ≡ Some st → slice_get ts i ≡ Some t → slice_get states' i ≡ Some st' → IsWhole (text_in round (i + 1)) t × (st'.stopped ≡ false)
+      at i st t st' e f g = whole_session (as_seat (i + 1) k) from to number st (text_in round (i + 1)) t st' memory enough (goes i st e) (none_at (λ (t : Transcript). has_fatal t.items) ts i t (any_of (λ (j : Item). is_fatal j.reply) ts ∙ go) f) (h.each i st t st' e f g)
 
--- the statement failed that added to these entries
-failed_in : {D : Type 0} (d : Ghosts D) (origin : Origin) (disk disk' : D) (now : ℕ) (old store : Store) (piece : SeenPiece) (item : Item) → IsKept d origin disk old → HasRun d origin disk disk' now old.trail.entries store piece item
-    → item.reply ≡ Refused WriteFaultRefusal → FailedIn d disk' store.trail.entries item
-failed_in d origin disk disk' now old store piece item kept ran failed =
-    let es : List Entry = old.trail.entries in
-    let front : take item.evidence.first store.trail.entries ≡ es =
-    ap (λ (l : List Entry). take item.evidence.first l) ran.grows.is ∙ (ap (λ (n : ℕ). take n (es ++ ran.grows.added)) ran.first ∙ (take-append-le (length es) es ran.grows.added (omega arith) ∙ take-length es)) in
-    record { before = disk; unfailed = kept.unfailed; behind = (let h = kept.calls in let e = ap calls_of front in omega arith); rose = ran.failed failed }
-
-pub passed_failed : {D : Type 0} (d : Ghosts D) (origin : Origin) (disk disk' : D) (now : ℕ) (old store : Store) (from : ℕ) (passed : List SeenPiece) (piece : SeenPiece) (items : List Item) (item : Item) (items' : List Item)
-    → IsGoing d origin disk old from passed items → item.statement ≡ span_of piece → HasRun d origin disk disk' now old.trail.entries store piece item
-    → items' ≡ items ++ item ∷ [] → item.reply ≡ Refused WriteFaultRefusal → IsEnded d origin disk' store from passed piece items' WriteFault
-passed_failed d origin disk disk' now old store from passed piece items item items' going is ran all failed =
-    record {
-      legal = ran.legal;
-      replied = inr (passed_more d origin disk disk' now old store from passed piece items item items' going is ran all);
-      early = λ e. cc;
-      quiet = λ other. absurd (other refl);
-      last = λ _. record { before = items; item = item; is = all; quiet = going.quiet; failed = failed };
-      failed = λ _. record { before = items; item = item; is = all; quiet = going.quiet; failed = failed_in d origin disk disk' now old store piece item going.kept ran failed };
-      kept = λ other. absurd (other refl);
-      lasts = ran.lasts;
-    }
-
--- no memory was found to keep an answer
-pub passed_lacking : {D : Type 0} (d : Ghosts D) (origin : Origin) (disk : D) (store : Store) (from : ℕ) (passed : List SeenPiece) (piece : SeenPiece) (items items' : List Item) → items' ≡ items
-    → IsGoing d origin disk store from passed items → IsEnded d origin disk store from passed piece items' Memory
-passed_lacking d origin disk store from passed piece items items' same going =
-    record {
-      legal = going.kept.told.legal;
-      replied = inl (subst (λ (l : List Item). AreReplied origin store.trail.entries from (length store.trail.entries) passed l) (sym same) going.replied);
-      early = λ e. cc;
-      quiet = λ other. subst (λ (l : List Item). IsQuiet l) (sym same) going.quiet;
-      last = λ e. cc;
-      failed = λ e. cc;
-      kept = λ other. going.kept;
-      lasts = kept_late d origin disk store going.kept;
-    }
-
--- ---- all pieces
-
-pub next_pieces : (pieces : List Piece) (i : ℕ) (p : Piece) → i < length pieces → map seen_piece (take (i + 1) pieces) ≡ map seen_piece (take i pieces) ++ seen_piece (get_or pieces i p) ∷ []
-next_pieces pieces i p within = ap (λ (l : List Piece). map seen_piece l) (take_more pieces i p within) ∙ map-append seen_piece (take i pieces) (get_or pieces i p ∷ [])
-
--- the pieces up to a place, and those from it on
-parted : (pieces : List Piece) (n : ℕ) → map seen_piece (take n pieces) ++ map seen_piece (drop n pieces) ≡ map seen_piece pieces
-parted pieces n = sym (map-append seen_piece (take n pieces) (drop n pieces)) ∙ ap (λ (l : List Piece). map seen_piece l) (take-append-drop n pieces)
-
-answered_some : (origin : Origin) (es : List Entry) (from : ℕ) (pieces : List Piece) (i : ℕ) (p : Piece) (items : List Item) (ending : Ending) → i < length pieces → ending ≢ Whole → (ending ≢ WriteFault → IsQuiet items) → (ending ≡ WriteFault → LastFailed items)
-    → AreReplied origin es from (length es) (map seen_piece (take i pieces)) items ⊎ AreReplied origin es from (length es) (map seen_piece (take i pieces) ++ seen_piece (get_or pieces i p) ∷ []) items
-    → AreAnswered origin es from (map seen_piece pieces) items ending
-answered_some origin es from pieces i p items ending within early quiet last (inl replied) =
-    record { passed = map seen_piece (take i pieces); rest = map seen_piece (drop i pieces); all = parted pieces i; replied = replied; whole = λ e. absurd (early e); quiet = quiet; last = last }
-answered_some origin es from pieces i p items ending within early quiet last (inr replied) =
-    record {
-      passed = map seen_piece (take (i + 1) pieces);
-      rest = map seen_piece (drop (i + 1) pieces);
-      all = parted pieces (i + 1);
-      replied = subst (λ (l : List SeenPiece). AreReplied origin es from (length es) l items) (sym (next_pieces pieces i p within)) replied;
-      whole = λ e. absurd (early e);
-      quiet = quiet;
-      last = last;
-    }
-
-pub ended_there : {D : Type 0} (d : Ghosts D) (origin : Origin) (disk : D) (store : Store) (from : ℕ) (pieces : List Piece) (i : ℕ) (p : Piece) (items : List Item) (ending : Ending)
-    → i < length pieces → IsEnded d origin disk store from (map seen_piece (take i pieces)) (seen_piece (get_or pieces i p)) items ending
-    → HasSession d origin disk store items ending (λ es given end. AreAnswered origin es from (map seen_piece pieces) given end)
-ended_there d origin disk store from pieces i p items ending within ended =
-    record {
-      legal = ended.legal;
-      answers = answered_some origin store.trail.entries from pieces i p items ending within ended.early ended.quiet ended.last ended.replied;
-      quiet = ended.quiet;
-      failed = ended.failed;
-      kept = ended.kept;
-      lasts = ended.lasts;
-    }
-
-pub passed_whole : {D : Type 0} (d : Ghosts D) (origin : Origin) (disk : D) (store : Store) (from : ℕ) (pieces : List Piece) (i : ℕ) (items : List Item)
-    → length pieces ≤ i → IsGoing d origin disk store from (map seen_piece (take i pieces)) items
-    → HasSession d origin disk store items Whole (λ es given end. AreAnswered origin es from (map seen_piece pieces) given end)
-passed_whole d origin disk store from pieces i items all going =
-    let same : map seen_piece (take i pieces) ≡ map seen_piece pieces = ap (λ (l : List Piece). map seen_piece l) (take_all i pieces all) in
-    record {
-      legal = going.kept.told.legal;
-      answers = record {
-        passed = map seen_piece pieces;
-        rest = [];
-        all = append-nil (map seen_piece pieces);
-        replied = subst (λ (l : List SeenPiece). AreReplied origin store.trail.entries from (length store.trail.entries) l items) same going.replied;
-        whole = λ _. refl;
-        quiet = λ _. going.quiet;
-        last = λ e. cc;
-      };
-      quiet = λ _. going.quiet;
-      failed = λ e. cc;
-      kept = λ _. going.kept;
-      lasts = kept_late d origin disk store going.kept;
-    }
-
-no_pieces : (origin : Origin) (es : List Entry) (from : ℕ) → AreReplied origin es from from [] []
-unfolding AreReplied
-no_pieces origin es from = refl
-
-pub nothing_yet : {D : Type 0} (d : Ghosts D) (origin : Origin) (disk : D) (store : Store) (items : List Item) → items ≡ [] → IsKept d origin disk store
-    → IsGoing d origin disk store (length store.trail.entries) [] items
-nothing_yet d origin disk store items none kept =
-    let from : ℕ = length store.trail.entries in
-    record {
-      kept = kept;
-      replied = subst (λ (l : List Item). AreReplied origin store.trail.entries from from [] l) (sym none) (no_pieces origin store.trail.entries from);
-      quiet = subst (λ (l : List Item). IsQuiet l) (sym none) tt;
-    }
-
--- ---- a script
-
--- a session in which nothing was done
-unmoved : {D : Type 0} (d : Ghosts D) (origin : Origin) (disk : D) (store : Store) (items : List Item) (ending : Ending) (Right : List Entry → List Item → Ending → Type 0) → IsKept d origin disk store → ending ≢ WriteFault
-    → IsQuiet items → Right store.trail.entries items ending → HasSession d origin disk store items ending Right
-unmoved d origin disk store items ending Right kept other quiet right =
-    record {
-      legal = kept.told.legal;
-      answers = right;
-      quiet = λ _. quiet;
-      failed = λ e. absurd (other e);
-      kept = λ _. kept;
-      lasts = kept_late d origin disk store kept;
-    }
-
--- no piece is answered, for want of memory
-none_answered : (origin : Origin) (es : List Entry) (pieces : List SeenPiece) (items : List Item) (ending : Ending) → items ≡ [] → ending ≡ Memory → AreAnswered origin es (length es) pieces items ending
-none_answered origin es pieces items ending none memory =
-    record {
-      passed = [];
-      rest = pieces;
-      all = refl;
-      replied = subst (λ (l : List Item). AreReplied origin es (length es) (length es) [] l) (sym none) (no_pieces origin es (length es));
-      whole = λ e. (let no : Memory ≡ Whole = sym memory ∙ e in cc);
-      quiet = λ _. subst (λ (l : List Item). IsQuiet l) (sym none) tt;
-      last = λ e. (let no : Memory ≡ WriteFault = sym memory ∙ e in cc);
-    }
-
--- where no memory was found for the pieces: the script has some all the same, and the session ended before the first
-pub session_none : {D : Type 0} (d : Ghosts D) (origin : Origin) (disk : D) (store : Store) (script : List ℕ) (items : List Item) (ending : Ending) → items ≡ [] → ending ≡ Memory → IsKept d origin disk store
-    → HasSession d origin disk store items ending (λ es given end. AnswersPieces origin es script (length store.trail.entries) given end)
-session_none d origin disk store script items ending none memory kept =
-    let cut = some_script script in
-    unmoved d origin disk store items ending _ kept (λ e. (let no : Memory ≡ WriteFault = sym memory ∙ e in cc)) (subst (λ (l : List Item). IsQuiet l) (sym none) tt)
-    (cut.0, cut.1, none_answered origin store.trail.entries (pieces_from 0 cut.0) items ending none memory)
-
-pub session_passed : {D : Type 0} (d : Ghosts D) (origin : Origin) (disk' : D) (store : Store) (script : List ℕ) (from : ℕ) (xs : List Section) (pieces : List Piece) (items items' : List Item) (ending : Ending)
-    → IsScript script xs → map seen_piece pieces ≡ pieces_from 0 xs → items' ≡ items → HasSession d origin disk' store items ending (λ es given end. AreAnswered origin es from (map seen_piece pieces) given end)
-    → HasSession d origin disk' store items' ending (λ es given end. AnswersPieces origin es script from given end)
-session_passed d origin disk' store script from xs pieces items items' ending cut are same passed =
-    record {
-      legal = passed.legal;
-      answers = (
-        xs,
-        cut,
-        subst (λ (l : List SeenPiece). AreAnswered origin store.trail.entries from l items' ending) are
-            (subst (λ (l : List Item). AreAnswered origin store.trail.entries from (map seen_piece pieces) l ending) (sym same) passed.answers),
-      );
-      quiet = λ other. subst (λ (l : List Item). IsQuiet l) (sym same) (passed.quiet other);
-      failed = λ e. subst (λ (l : List Item). FailsLast d disk' store.trail.entries l) (sym same) (passed.failed e);
-      kept = passed.kept;
-      lasts = passed.lasts;
-    }
-
-pub session_read : {D : Type 0} (d : Ghosts D) (origin : Origin) (disk' : D) (store : Store) (script text : List ℕ) (from : ℕ) (items : List Item) (ending : Ending) → text ≡ lines_of script → IsReadable script
-    → HasSession d origin disk' store items ending (λ es given end. AnswersPieces origin es text from given end)
-    → HasSession d origin disk' store items ending (λ es given end. AnswersSession origin es script from given end)
-session_read d origin disk' store script text from items ending same readable passed =
-    record {
-      legal = passed.legal;
-      answers = inl (readable, subst (λ (t : List ℕ). AnswersPieces origin store.trail.entries t from items ending) same passed.answers);
-      quiet = passed.quiet;
-      failed = passed.failed;
-      kept = passed.kept;
-      lasts = passed.lasts;
-    }
-
-stopped_ends : (script : List ℕ) (entries : ℕ) (refusal : Refusal) (items : List Item) (ending : Ending) → IsStopped script entries refusal items ending → ending ≢ WriteFault
-stopped_ends script entries refusal items ending (inl is) = λ e. (let no : Whole ≡ WriteFault = sym is.1 ∙ e in cc)
-stopped_ends script entries refusal items ending (inr is) = λ e. (let no : Memory ≡ WriteFault = sym is.1 ∙ e in cc)
-
--- the one item isn't told of a failed write
-stopped_quiet : (script : List ℕ) (entries : ℕ) (refusal : Refusal) (items : List Item) (ending : Ending) → StopsScript script refusal → IsStopped script entries refusal items ending → IsQuiet items
-stopped_quiet script entries refusal items ending stops (inl is) =
-    subst (λ (l : List Item). IsQuiet l) (sym is.0) (λ e. (let write : refusal ≡ WriteFaultRefusal = cc in subst (λ r. StopsScript script r) write stops), tt)
-stopped_quiet script entries refusal items ending stops (inr is) = subst (λ (l : List Item). IsQuiet l) (sym is.0) tt
-
-pub session_stopped : {D : Type 0} (d : Ghosts D) (origin : Origin) (disk : D) (store : Store) (script : List ℕ) (entries : ℕ) (refusal : Refusal) (items : List Item) (ending : Ending) → IsKept d origin disk store
-    → entries ≡ length store.trail.entries → StopsScript script refusal → IsStopped script entries refusal items ending
-    → HasSession d origin disk store items ending (λ es given end. AnswersSession origin es script (length store.trail.entries) given end)
-session_stopped d origin disk store script entries refusal items ending kept here stops stopped =
-    unmoved d origin disk store items ending _ kept (stopped_ends script entries refusal items ending stopped) (stopped_quiet script entries refusal items ending stops stopped)
-    (inr (refusal, stops, refl, subst (λ (n : ℕ). IsStopped script n refusal items ending) here stopped))
+  pub whole_rounds : (k : Known) (n from number : ℕ) (states : List SessionState) (rounds : List (List SessionText)) (tss : List (List Transcript)) (to : ℕ) (states' : List SessionState) (memory : Bool) → memory ≡ false → length states ≡ n → AreGoing states → has_fatal (items_of (in_order tss)) ≡ false
+      → AreRounds sound k from number states rounds tss to states' memory → AreWholeRounds n rounds tss
+  whole_rounds k n from number states [] [] to states' memory enough count goes go h = tt
+  whole_rounds k n from number states (r ∷ rs) (ts ∷ tss) to states' memory enough count goes go h =
+      let both : has_fatal (items_of (in_order (ts ∷ tss))) ≡ (has_fatal (items_of ts) || has_fatal (items_of (in_order tss))) =
+      ap has_fatal (flat_map-append (λ (t : Transcript). t.items) ts (in_order tss)) ∙ list_any-append (λ (i : Item). is_fatal i.reply) (items_of ts) (items_of (in_order tss)) in
+      let none = or_none (has_fatal (items_of ts)) (has_fatal (items_of (in_order tss))) (sym both ∙ go) in
+      let one = whole_round k from h.0 number states r ts h.1 memory enough goes none.0 h.2 in
+      (subst (λ (m : ℕ). IsWholeRound m r ts) count one.0, whole_rounds k n h.0 (number + 1) h.1 rs tss to states' memory enough (h.2.count' ∙ count) one.1 none.1 h.3)
+  whole_rounds k n from number states [] (ts ∷ tss) to states' memory enough count goes go h = absurd h
+  whole_rounds k n from number states (r ∷ rs) [] to states' memory enough count goes go h = absurd h

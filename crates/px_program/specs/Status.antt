@@ -1,65 +1,95 @@
 -- The status of a run, by its causes.
-use Rattle.std.specs.Prelude.{ℕ, Bool, true, false, if◌then◌else◌, List}
-use Rattle.std.specs.List.{list_any}
-use Rattle.px_program.specs.declared.session.reply.Item.{Item}
-use Rattle.px_program.specs.declared.session.refusal.Refusal.{Refusal}
-use Rattle.px_program.specs.declared.session.refusal.Refusal.TheVariants.{Syntax, LeftOut, Form, Limit, WriteFault as WriteFaultRefusal, Memory as MemoryRefusal}
-use Rattle.px_program.specs.declared.session.reply.Reply.{Reply}
-use Rattle.px_program.specs.declared.session.reply.Reply.TheVariants.{Rows, Count, Refused as RefusedReply}
-use Rattle.px_program.specs.declared.program.status.Status.{Status}
-use Rattle.px_program.specs.declared.program.status.Status.TheVariants.{Done, Refused, BadWords, Device, Memory, Damaged, SourceFault, SinkFault}
-use Rattle.px_program.specs.Replied.{stopped}
+use Rattle.std.specs.Prelude.{ℕ, zero, suc, Bool, true, false, ◌||◌, if◌then◌else◌, List, [], ◌∷◌, Option, None, Some}
+use Rattle.std.specs.List.{flat_map, list_any}
+use Rattle.px_reply.specs.Refusals.{cause_of}
+use Rattle.px_reply.specs.declared.refusal.Cause.{Cause}
+use Rattle.px_reply.specs.declared.refusal.Cause.TheVariants.{Statement, Device as OfDevice, Closing, Memory as NoMemory}
+use Rattle.px_reply.specs.declared.refusal.Refusal.{Refusal}
+use Rattle.px_reply.specs.declared.refusal.Refusal.TheVariants.{Damaged as DamagedRefusal}
+use Rattle.px_reply.specs.declared.reply.Reply.{Reply}
+use Rattle.px_reply.specs.declared.reply.Reply.TheVariants.{Refused as RefusedReply}
+use Rattle.px_reply.specs.declared.transcript.Item.{Item}
+use Rattle.px_reply.specs.declared.transcript.Transcript.{Transcript}
+use Rattle.px_program.specs.declared.causes.Causes.{Causes}
+use Rattle.px_program.specs.declared.causes.Place.{Place}
+use Rattle.px_program.specs.declared.status.Status.{Status}
+use Rattle.px_program.specs.declared.status.Status.TheVariants.{Done, Refused, BadWords, Device, Memory, Damaged, SourceFault, SinkFault}
 
--- ---- the status
+-- ---- what stands among replies
 
-abbrev pub is_memory_refusal : Refusal → Bool
-is_memory_refusal (Syntax place) = false
-is_memory_refusal (LeftOut name) = false
-is_memory_refusal Form = false
-is_memory_refusal (Limit limit) = false
-is_memory_refusal WriteFaultRefusal = false
-is_memory_refusal MemoryRefusal = true
+abbrev pub is_memory : Cause → Bool
+is_memory Statement = false
+is_memory OfDevice = false
+is_memory Closing = false
+is_memory NoMemory = true
 
-abbrev pub is_plain_refusal : Refusal → Bool
-is_plain_refusal (Syntax place) = true
-is_plain_refusal (LeftOut name) = true
-is_plain_refusal Form = true
-is_plain_refusal (Limit limit) = true
-is_plain_refusal WriteFaultRefusal = false
-is_plain_refusal MemoryRefusal = false
+abbrev pub is_statement : Cause → Bool
+is_statement Statement = true
+is_statement OfDevice = false
+is_statement Closing = false
+is_statement NoMemory = false
 
 -- the statement was refused as out of memory
 abbrev pub lacked_memory : Reply → Bool
-lacked_memory (Rows rows) = false
-lacked_memory (Count rows word) = false
-lacked_memory (RefusedReply refusal) = is_memory_refusal refusal
+lacked_memory (RefusedReply refusal) = is_memory (cause_of refusal)
+lacked_memory reply = false
 
--- the statement was refused by its text or by a limit
+-- the statement was refused by itself, by definitions or rows: a reply with E
 abbrev pub was_refused : Reply → Bool
-was_refused (Rows rows) = false
-was_refused (Count rows word) = false
-was_refused (RefusedReply refusal) = is_plain_refusal refusal
+was_refused (RefusedReply refusal) = is_statement (cause_of refusal)
+was_refused reply = false
 
-abbrev pub some_lacked_memory : List Item → Bool
-some_lacked_memory items = list_any (λ i. lacked_memory i.reply) items
+abbrev pub place_of : Refusal → Option Place
+place_of (DamagedRefusal file place) = Some (record { file = file; place = place })
+place_of refusal = None
 
-abbrev pub some_was_refused : List Item → Bool
-some_was_refused items = list_any (λ i. was_refused i.reply) items
+-- the place that the statement found damaged
+abbrev pub damage_of : Reply → Option Place
+damage_of (RefusedReply refusal) = place_of refusal
+damage_of reply = None
 
--- without a fault of the disk or the sink
+abbrev pub or_else : Option Place → Option Place → Option Place
+or_else None other = other
+or_else (Some p) other = Some p
+
+abbrev pub first_damage : List Item → Option Place
+first_damage [] = None
+first_damage (i ∷ items) = or_else (damage_of i.reply) (first_damage items)
+
+-- the items of all transcripts, in order
+abbrev pub items_of : List Transcript → List Item
+items_of ts = flat_map (λ t. t.items) ts
+
+abbrev pub some_lacked : List Item → Bool
+some_lacked items = list_any (λ i. lacked_memory i.reply) items
+
+abbrev pub some_refused : List Item → Bool
+some_refused items = list_any (λ i. was_refused i.reply) items
+
+-- the first place that was found damaged, and whether statements lacked memory, or were refused
+abbrev pub causes_of : List Item → Causes
+causes_of items = record { damaged = first_damage items; lacked = some_lacked items; refused = some_refused items }
+
+-- ---- the status
+
+-- without a fault of the disk or the sink, and without a damaged place
 abbrev pub quiet_status : (lacked refused : Bool) → Status
 quiet_status lacked refused = if lacked then Memory else (if refused then Refused else Done)
 
--- without a fault of the sink
-abbrev pub unsunk_status : (stopped : Bool) → (call : ℕ) → (lacked refused : Bool) → Status
-unsunk_status true call lacked refused = Device call
-unsunk_status false call lacked refused = quiet_status lacked refused
+abbrev pub whole_status : Option Place → (lacked refused : Bool) → Status
+whole_status None lacked refused = quiet_status lacked refused
+whole_status (Some p) lacked refused = Damaged p.file p.place
 
--- The status by its causes: the sink failed; a failed write stopped a session, and this call of the disk was the first
--- that failed; memory was lacked; a statement was refused. Of the causes that stand, the first here names it.
-abbrev pub status_of : (sink_failed stopped : Bool) → (call : ℕ) → (lacked refused : Bool) → Status
-status_of true stopped call lacked refused = SinkFault
-status_of false stopped call lacked refused = unsunk_status stopped call lacked refused
+-- without a fault of the sink, where this call of the disk was the first that failed, and 0 stands for none
+abbrev pub unsunk_status : (failed : ℕ) → (memory : Bool) → Causes → Status
+unsunk_status zero memory c = whole_status c.damaged (memory || c.lacked) c.refused
+unsunk_status (suc n) memory c = Device (suc n)
+
+-- The status by its causes: the sink failed; a call of the disk failed, and this was the first; a place is damaged; memory was lacked; a statement
+-- was refused. Of the causes that stand, the first here names it.
+abbrev pub status_of : (sink_failed : Bool) → (failed : ℕ) → (memory : Bool) → Causes → Status
+status_of true failed memory c = SinkFault
+status_of false failed memory c = unsunk_status failed memory c
 
 -- the exit status
 abbrev pub exit_code : Status → ℕ
@@ -72,17 +102,7 @@ exit_code (Damaged file place) = 5
 exit_code SourceFault = 6
 exit_code SinkFault = 7
 
-abbrev pub is_memory_status : Status → Bool
-is_memory_status Done = false
-is_memory_status Refused = false
-is_memory_status BadWords = false
-is_memory_status (Device call) = false
-is_memory_status Memory = true
-is_memory_status (Damaged file place) = false
-is_memory_status SourceFault = false
-is_memory_status SinkFault = false
-
--- the statuses that come without a fault of the disk or the sink
+-- the statuses that come where nothing fails outside
 abbrev pub IsQuietStatus : Status → Type 0
 IsQuietStatus Done = Unit {0}
 IsQuietStatus Refused = Unit {0}
@@ -92,3 +112,7 @@ IsQuietStatus Memory = Unit {0}
 IsQuietStatus (Damaged file place) = ⊥
 IsQuietStatus SourceFault = ⊥
 IsQuietStatus SinkFault = ⊥
+
+abbrev pub is_memory_status : Status → Bool
+is_memory_status Memory = true
+is_memory_status status = false

@@ -1,11 +1,2 @@
-pub mod records
-pub mod Batch
-pub mod Log
-pub mod Opening
-pub mod Session
-pub mod Statement
-pub mod Stops
-pub mod Store
-pub mod Table
-pub mod Task
-pub mod TextRows
+pub mod Running
+pub mod Watched

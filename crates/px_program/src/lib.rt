@@ -1,19 +1,21 @@
-//! The program as a library: its one call `phoenix` reads a script of statements, runs it on the table KV in a folder, and
-//! prints the replies, over any disk, clock, input and output.
+//! The program as a library: its one call `phoenix` reads a script of SQL sessions, runs it on the tables in a folder,
+//! and prints the replies, over any disk, clock, input and output.
 //!
-//! Its contract is the whole claim: what was run and answered, what the folder stands for after it and after a stop at any
-//! moment, and the status by its causes. `px_main` makes the real disk, clock, input and output, and calls it.
+//! Its contract says what was run and answered, what the folder stands for after a stop at any moment, and the status by its causes.
+//! `px_main` makes the real disk, clock, input and output, and calls it.
 #![tactic(auto)]
 
-mod program;
-mod session;
-mod store;
+mod causes;
+mod outcome;
+mod replies;
+mod run;
+mod served;
+mod since;
+mod status;
+mod watched;
+mod words;
 
-pub use program::run::{Outcome, phoenix};
-pub use program::status::{Status, tell, tell_fault};
-pub use program::words::folder_disk;
-pub use session::refusal::Refusal;
-pub use session::reply::{Evidence, Item, Items, Places, Receipts, Reply, Transcript, Transcripts};
-pub use session::script::Span;
-pub use store::receipt::Receipt;
-pub use store::rows::TextRows;
+pub use outcome::Outcome;
+pub use run::phoenix;
+pub use status::{Status, tell, tell_fault};
+pub use words::folder_disk;

@@ -5,6 +5,7 @@ use crate::runs::{
 use px_outside::{MemDisk, MemSink, MemSource, Numbers};
 use px_program::Status;
 use std::alloc::{AllocError, Global};
+use std::sync::Wait;
 
 const NO_ROW: &str = "0 rows selected\n";
 
@@ -16,7 +17,8 @@ fn only(alloc: Global, number: u64) -> Result<Numbers, AllocError> {
 
 /// Whether the first run has this status, entries and replies where that call alone fails, and a run on what is left
 /// shows these rows.
-fn ends_so(
+fn ends_so<R: Wait>(
+    rt: &R,
     alloc: Global,
     call: u64,
     status: Status,
@@ -25,14 +27,15 @@ fn ends_so(
     left: &str,
 ) -> Result<bool, AllocError> {
     let disk = MemDisk::new(alloc).fail_at(only(alloc, call)?);
-    let run = run_words(alloc, "run folder", disk, FIRST_SCRIPT)?;
+    let run = run_words(rt, alloc, "run folder", disk, FIRST_SCRIPT)?;
     let as_said = is_printed(&run, status, replies) && run.entries == entries;
-    let next = run_again(alloc, disk_of(run), "SELECT * FROM KV")?;
+    let next = run_again(rt, alloc, disk_of(run), "SELECT * FROM KV")?;
     Ok(as_said && is_printed(&next, Status::Done, left))
 }
 
 /// The same, for each call from the first to the last.
-fn end_so(
+fn end_so<R: Wait>(
+    rt: &R,
     alloc: Global,
     first: u64,
     last: u64,
@@ -41,35 +44,44 @@ fn end_so(
     left: &str,
 ) -> Result<bool, AllocError> {
     for call in first..=last {
-        if !ends_so(alloc, call, Status::Device { call }, entries, replies, left)? {
+        if !ends_so(
+            rt,
+            alloc,
+            call,
+            Status::Device { call },
+            entries,
+            replies,
+            left,
+        )? {
             return Ok(false);
         }
     }
     Ok(true)
 }
 
-// The first run makes 16 calls.
+// The first run makes 37 calls.
 #[test]
 fn each_failed_call_of_the_disk_is_answered(rt: HostRuntime) {
     let alloc = rt.alloc();
     let failed = "F2 write fault\n";
-    // The opening: a sync of each file, and then the length and the bytes of each.
-    assert!(rt; end_so(alloc, 1, 6, 0, "", NO_ROW) == Ok(true));
-    // The segment: its gate closed, its header, its gate opened, each with a sync.
-    assert!(rt; end_so(alloc, 7, 12, 0, failed, NO_ROW) == Ok(true));
-    // The record and its sync, and the write that opens its gate. The batch has begun.
-    assert!(rt; end_so(alloc, 13, 15, 1, failed, NO_ROW) == Ok(true));
+    // The opening, with a fresh catalogue.
+    assert!(rt; end_so(&rt, alloc, 1, 27, 0, "", NO_ROW) == Ok(true));
+    // The log of the table's region: a segment with its gate closed, its header, its gate opened, each with a sync.
+    assert!(rt; end_so(&rt, alloc, 28, 33, 1, failed, NO_ROW) == Ok(true));
+    // The record and its sync, and the write that opens its gate. The batch has begun, and its first phase is done.
+    assert!(rt; end_so(&rt, alloc, 34, 36, 3, failed, NO_ROW) == Ok(true));
     // The sync of that gate, which stays open here.
-    assert!(rt; end_so(alloc, 16, 16, 1, failed, ITS_ROW) == Ok(true));
+    assert!(rt; end_so(&rt, alloc, 37, 37, 3, failed, ITS_ROW) == Ok(true));
     // There is no call more.
     let whole = "1 row affected\n'a', 'b'\n1 row selected\n";
-    assert!(rt; ends_so(alloc, 17, Status::Done, 3, whole, ITS_ROW) == Ok(true));
+    assert!(rt; ends_so(&rt, alloc, 38, Status::Done, 7, whole, ITS_ROW) == Ok(true));
 }
 
 /// A run whose input fails at its call of this number.
-fn run_with_input(alloc: Global, call: u64) -> Result<Run, AllocError> {
+fn run_with_input<R: Wait>(rt: &R, alloc: Global, call: u64) -> Result<Run, AllocError> {
     let input = MemSource::of(bytes_of(alloc, FIRST_SCRIPT)?).fail_at(only(alloc, call)?);
     run_between(
+        rt,
         alloc,
         "run folder",
         MemDisk::new(alloc),
@@ -79,11 +91,11 @@ fn run_with_input(alloc: Global, call: u64) -> Result<Run, AllocError> {
 }
 
 /// A run whose output fails at its first call, and whose disk fails at its call of this number.
-fn run_with_output(alloc: Global, call: u64) -> Result<Run, AllocError> {
+fn run_with_output<R: Wait>(rt: &R, alloc: Global, call: u64) -> Result<Run, AllocError> {
     let disk = MemDisk::new(alloc).fail_at(only(alloc, call)?);
     let input = MemSource::of(bytes_of(alloc, FIRST_SCRIPT)?);
     let printed = MemSink::new(alloc).fail_at(only(alloc, 1)?);
-    run_between(alloc, "run folder", disk, input, printed)
+    run_between(rt, alloc, "run folder", disk, input, printed)
 }
 
 fn is_unrun(run: Run, status: Status) -> bool {
@@ -96,22 +108,22 @@ fn a_failed_input_or_output_is_answered(rt: HostRuntime) {
     let alloc = rt.alloc();
     // The input is read twice: the script, and its end.
     for call in 1..3 {
-        let Ok(run) = run_with_input(alloc, call) else {
+        let Ok(run) = run_with_input(&rt, alloc, call) else {
             panic!(rt; "no memory")
         };
         assert!(rt; is_unrun(run, Status::SourceFault));
     }
     // The output is written once, behind all statements. Its fault goes before one of the disk.
-    for call in 13..18 {
-        let Ok(run) = run_with_output(alloc, call) else {
+    for call in 34..39 {
+        let Ok(run) = run_with_output(&rt, alloc, call) else {
             panic!(rt; "no memory")
         };
         assert!(rt; is_printed(&run, Status::SinkFault, ""));
     }
-    let Ok(run) = run_with_output(alloc, 17) else {
+    let Ok(run) = run_with_output(&rt, alloc, 38) else {
         panic!(rt; "no memory")
     };
-    let Ok(next) = run_again(alloc, disk_of(run), "SELECT * FROM KV") else {
+    let Ok(next) = run_again(&rt, alloc, disk_of(run), "SELECT * FROM KV") else {
         panic!(rt; "no memory")
     };
     assert!(rt; is_printed(&next, Status::Done, ITS_ROW));

@@ -1,14 +1,12 @@
 // The first runs: their rows, their file, and words that are no command.
 use crate::runs::{
-    FIRST_SCRIPT, FIRST_SEGMENT, Run, bytes_of, disk_of, is_printed, run_again, run_words, words_of,
+    FIRST_SCRIPT, FIRST_SEGMENT, bytes_of, disk_of, is_printed, run_again, run_new, run_words,
+    words_of,
 };
 use px_outside::{Disk, MemDisk};
 use px_program::{Status, folder_disk};
 use std::alloc::{AllocError, Global};
-
-fn run_new(alloc: Global, script: &str) -> Result<Run, AllocError> {
-    run_words(alloc, "run folder", MemDisk::new(alloc), script)
-}
+use std::sync::Wait;
 
 /// Whether the first file of region 1's log has exactly these bytes.
 fn has_file(disk: &mut MemDisk, bytes: &[u8]) -> bool {
@@ -25,15 +23,15 @@ fn has_file(disk: &mut MemDisk, bytes: &[u8]) -> bool {
 #[test]
 fn the_first_run_prints_its_row_and_leaves_its_file(rt: HostRuntime) {
     let alloc = rt.alloc();
-    let Ok(run) = run_new(alloc, FIRST_SCRIPT) else {
+    let Ok(run) = run_new(&rt, alloc, FIRST_SCRIPT) else {
         panic!(rt; "no memory")
     };
     let text = "1 row affected\n'a', 'b'\n1 row selected\n";
     assert!(rt; is_printed(&run, Status::Done, text));
-    assert_eq!(rt; run.entries, 3);
+    assert_eq!(rt; run.entries, 7);
     let mut disk = disk_of(run);
     assert!(rt; has_file(&mut disk, &FIRST_SEGMENT));
-    let Ok(again) = run_again(alloc, disk, FIRST_SCRIPT) else {
+    let Ok(again) = run_again(&rt, alloc, disk, FIRST_SCRIPT) else {
         panic!(rt; "no memory")
     };
     assert!(rt; is_printed(&again, Status::Done, text));
@@ -41,7 +39,7 @@ fn the_first_run_prints_its_row_and_leaves_its_file(rt: HostRuntime) {
 
 #[test]
 fn an_empty_script_prints_nothing(rt: HostRuntime) {
-    let Ok(run) = run_new(rt.alloc(), "") else {
+    let Ok(run) = run_new(&rt, rt.alloc(), "") else {
         panic!(rt; "no memory")
     };
     assert!(rt; is_printed(&run, Status::Done, ""));
@@ -52,12 +50,12 @@ fn an_empty_script_prints_nothing(rt: HostRuntime) {
 fn rows_are_kept_in_key_order_over_runs(rt: HostRuntime) {
     let alloc = rt.alloc();
     let first = "UPSERT INTO KV VALUES ('b','1');\nUPSERT INTO KV VALUES ('a','2');";
-    let Ok(run) = run_new(alloc, first) else {
+    let Ok(run) = run_new(&rt, alloc, first) else {
         panic!(rt; "no memory")
     };
     assert!(rt; is_printed(&run, Status::Done, "1 row affected\n1 row affected\n"));
     let then = "UPSERT INTO KV VALUES ('b','3'); SELECT * FROM KV";
-    let Ok(again) = run_again(alloc, disk_of(run), then) else {
+    let Ok(again) = run_again(&rt, alloc, disk_of(run), then) else {
         panic!(rt; "no memory")
     };
     let text = "1 row affected\n'a', '2'\n'b', '3'\n2 rows selected\n";
@@ -79,7 +77,7 @@ fn bad_words_touch_nothing(rt: HostRuntime) {
         "run d --",
         "run d --lookback -1",
     ] {
-        let Ok(run) = run_words(alloc, line, MemDisk::new(alloc), FIRST_SCRIPT) else {
+        let Ok(run) = run_words(&rt, alloc, line, MemDisk::new(alloc), FIRST_SCRIPT) else {
             panic!(rt; "no memory")
         };
         assert!(rt; is_printed(&run, Status::BadWords, ""));
@@ -95,7 +93,7 @@ fn a_damaged_log_is_refused_at_its_place(rt: HostRuntime) {
     bytes[17] = 3;
     assert!(rt; disk.write(4_294_967_296, 0, &bytes).is_ok());
     assert!(rt; disk.sync(4_294_967_296).is_ok());
-    let Ok(run) = run_again(alloc, disk, FIRST_SCRIPT) else {
+    let Ok(run) = run_again(&rt, alloc, disk, FIRST_SCRIPT) else {
         panic!(rt; "no memory")
     };
     let status = Status::Damaged {
@@ -141,19 +139,19 @@ fn long_replies(alloc: Global) -> Result<Vec<u8>, AllocError> {
 }
 
 /// Whether the long row is read from its file, and no stamp is left behind it.
-fn reads_the_long_row(alloc: Global) -> Result<bool, AllocError> {
+fn reads_the_long_row<R: Wait>(rt: &R, alloc: Global) -> Result<bool, AllocError> {
     let mut disk = MemDisk::new(alloc);
     let bytes = long_segment(alloc)?;
     let written = disk.write(4_294_967_296, 0, &bytes).is_ok() && disk.sync(4_294_967_296).is_ok();
     let script = "SELECT * FROM KV; UPSERT INTO KV VALUES ('a','b')";
-    let run = run_again(alloc, disk, script)?;
+    let run = run_again(rt, alloc, disk, script)?;
     let replies = long_replies(alloc)?;
     Ok(written && run.printed.held() == replies.as_slice())
 }
 
 #[test]
 fn a_row_at_its_limits_is_read(rt: HostRuntime) {
-    assert!(rt; reads_the_long_row(rt.alloc()) == Ok(true));
+    assert!(rt; reads_the_long_row(&rt, rt.alloc()) == Ok(true));
 }
 
 #[test]

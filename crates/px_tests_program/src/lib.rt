@@ -1,16 +1,26 @@
 //! Tests of px_program over its one call, on disks in memory: what scripts print, each call of the disk, the input or the output
-//! failing, stops at each call, clocks that jump, and folders that aren't of the format.
+//! failing, stops at each call, clocks that jump, folders that aren't of the format, and sessions in rounds.
 #![tactic(auto)]
 
 #[cfg(test)]
 mod clocks;
 #[cfg(test)]
+mod deletes;
+#[cfg(test)]
 mod faults;
 #[cfg(test)]
 mod first;
+#[cfg(test)]
+mod indexes;
 #[cfg(test)]
 mod runs;
 #[cfg(test)]
 mod scripts;
 #[cfg(test)]
+mod sessions;
+#[cfg(test)]
 mod stops;
+#[cfg(test)]
+mod tables;
+#[cfg(test)]
+mod truth;

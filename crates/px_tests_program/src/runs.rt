@@ -5,8 +5,9 @@ ghost use Rattle.std.specs.Prelude.{◌≡◌};
 use px_outside::{FixedClock, MemDisk, MemSink, MemSource};
 use px_program::{Outcome, Status, phoenix};
 use std::alloc::{AllocError, Global};
+use std::sync::Wait;
 
-/// The first segment of region 1's log after K 'a', V 'b' at stamp 1.
+/// The first segment of KV's log after K 'a', V 'b' at stamp 1.
 pub const FIRST_SEGMENT: [u8; 68] = [
     1, 0x50, 0x48, 0x58, 0x53, 0x45, 0x47, 0x31, 0, 0, 0, 0, 0, 0, 0, 1, 1, 2, 0, 0, 0, 0x2d, 0, 0,
     0, 0, 0, 0, 0, 1, 0, 0, 0, 2, 0, 2, 0x61, 0, 1, 0, 0, 0, 0, 0, 0, 0, 1, 4, 0, 0, 0, 2, 0x61, 0,
@@ -65,7 +66,8 @@ pub fn words_of(alloc: Global, line: &str) -> Result<Vec<String>, AllocError> {
 }
 
 /// A run of these words on a disk, between this input and this output.
-pub fn run_between(
+pub fn run_between<R: Wait>(
+    rt: &R,
     alloc: Global,
     line: &str,
     disk: MemDisk,
@@ -75,15 +77,29 @@ pub fn run_between(
     requires fresh { (calls_of disk ≡ 0) × (faults_of disk ≡ 0) × (first_fault_of disk ≡ 0) }
 {
     let words = words_of(alloc, line)?;
-    let outcome = phoenix(alloc, &words, disk, FixedClock(0), &mut input, &mut printed);
+    let outcome = phoenix(
+        rt,
+        alloc,
+        &words,
+        disk,
+        FixedClock(0),
+        &mut input,
+        &mut printed,
+    );
     Ok(run_of(outcome, printed))
 }
 
-pub fn run_words(alloc: Global, line: &str, disk: MemDisk, script: &str) -> Result<Run, AllocError>
+pub fn run_words<R: Wait>(
+    rt: &R,
+    alloc: Global,
+    line: &str,
+    disk: MemDisk,
+    script: &str,
+) -> Result<Run, AllocError>
     requires fresh { (calls_of disk ≡ 0) × (faults_of disk ≡ 0) × (first_fault_of disk ≡ 0) }
 {
     let input = MemSource::of(bytes_of(alloc, script)?);
-    run_between(alloc, line, disk, input, MemSink::new(alloc))
+    run_between(rt, alloc, line, disk, input, MemSink::new(alloc))
 }
 
 /// The disk after a run.
@@ -99,10 +115,32 @@ pub fn disk_of(run: Run) -> MemDisk {
 }
 
 /// A run on what is left of a disk.
-pub fn run_again(alloc: Global, disk: MemDisk, script: &str) -> Result<Run, AllocError> {
-    run_words(alloc, "run folder", disk.image(), script)
+pub fn run_again<R: Wait>(
+    rt: &R,
+    alloc: Global,
+    disk: MemDisk,
+    script: &str,
+) -> Result<Run, AllocError> {
+    run_words(rt, alloc, "run folder", disk.image(), script)
 }
 
 pub fn is_printed(run: &Run, status: Status, text: &str) -> bool {
     run.status == status && run.printed.held() == text.as_bytes()
+}
+
+/// A run on an empty folder.
+pub fn run_new<R: Wait>(rt: &R, alloc: Global, script: &str) -> Result<Run, AllocError> {
+    run_words(rt, alloc, "run folder", MemDisk::new(alloc), script)
+}
+
+/// Whether a script ends so on an empty folder, and prints this.
+pub fn ends<R: Wait>(
+    rt: &R,
+    alloc: Global,
+    script: &str,
+    status: Status,
+    text: &str,
+) -> Result<bool, AllocError> {
+    let run = run_new(rt, alloc, script)?;
+    Ok(is_printed(&run, status, text))
 }

@@ -1,8 +1,9 @@
 // Scripts and what they print.
-use crate::runs::{Run, is_printed, run_between, run_words};
+use crate::runs::{Run, ends, is_printed, run_between, run_words};
 use px_outside::{MemDisk, MemSink, MemSource};
 use px_program::Status;
 use std::alloc::{AllocError, Global};
+use std::sync::Wait;
 
 const FORM: &str = "E02 left out: FORM\n";
 
@@ -10,27 +11,27 @@ const ADDED: &str = "1 row affected\n";
 
 const NO_ROW: &str = "0 rows selected\n";
 
-/// Whether a script ends so on an empty folder, and prints this.
-fn ends(alloc: Global, script: &str, status: Status, text: &str) -> Result<bool, AllocError> {
-    let run = run_words(alloc, "run folder", MemDisk::new(alloc), script)?;
-    Ok(is_printed(&run, status, text))
-}
-
 /// Whether a statement is refused with this text, and the one behind it runs.
-fn is_refused(alloc: Global, statement: &str, text: &str) -> Result<bool, AllocError> {
+fn is_refused<R: Wait>(
+    rt: &R,
+    alloc: Global,
+    statement: &str,
+    text: &str,
+) -> Result<bool, AllocError> {
     let mut script = String::from_str(alloc, statement)?;
     script.push_str(";\nSELECT * FROM KV;\n")?;
     let mut printed = String::from_str(alloc, text)?;
     printed.push_str(NO_ROW)?;
-    ends(alloc, &script, Status::Refused, &printed)
+    ends(rt, alloc, &script, Status::Refused, &printed)
 }
 
 /// The bytes of a run's script that are no text may be any.
-fn run_bytes(alloc: Global, bytes: &[u8]) -> Result<Run, AllocError> {
+fn run_bytes<R: Wait>(rt: &R, alloc: Global, bytes: &[u8]) -> Result<Run, AllocError> {
     let mut script = Vec::new(alloc);
     script.extend_from_slice(bytes)?;
     let disk = MemDisk::new(alloc);
     run_between(
+        rt,
         alloc,
         "run folder",
         disk,
@@ -67,17 +68,17 @@ fn the_two_statements_run_however_spelled(rt: HostRuntime) {
         "-- a comment; with a semicolon\nUPSERT INTO \"KV\" VALUES /* ' */ ('a', 'b')\n;\n/* ; */ SELECT * FROM KV;",
         "--- no line of dashes alone\nUPSERT INTO KV VALUES ('a','b');\n ---\nSELECT * FROM KV\n----\n;",
     ] {
-        assert!(rt; ends(alloc, script, Status::Done, both) == Ok(true));
+        assert!(rt; ends(&rt, alloc, script, Status::Done, both) == Ok(true));
     }
     let quoted = "upsert into kv values ('it''s', 'x'); -- end\nselect * from kv";
     let text = "1 row affected\n'it''s', 'x'\n1 row selected\n";
-    assert!(rt; ends(alloc, quoted, Status::Done, text) == Ok(true));
+    assert!(rt; ends(&rt, alloc, quoted, Status::Done, text) == Ok(true));
     let divided = "UPSERT INTO KV VALUES (';', '--'); SELECT * FROM KV";
     let text = "1 row affected\n';', '--'\n1 row selected\n";
-    assert!(rt; ends(alloc, divided, Status::Done, text) == Ok(true));
+    assert!(rt; ends(&rt, alloc, divided, Status::Done, text) == Ok(true));
     let accented = "UPSERT INTO KV VALUES ('é', '\n'); SELECT * FROM KV";
     let text = "1 row affected\n'é', '\n'\n1 row selected\n";
-    assert!(rt; ends(alloc, accented, Status::Done, text) == Ok(true));
+    assert!(rt; ends(&rt, alloc, accented, Status::Done, text) == Ok(true));
 }
 
 #[test]
@@ -102,7 +103,7 @@ fn a_text_that_is_no_statement_is_refused_at_its_place(rt: HostRuntime) {
             "E02 left out: NOT NULL\n",
         ),
     ] {
-        assert!(rt; is_refused(alloc, statement, text) == Ok(true));
+        assert!(rt; is_refused(&rt, alloc, statement, text) == Ok(true));
     }
     for (script, text) in [
         ("SELECT * FROM KV WHERE K = 'a", "E01 syntax at byte 27\n"),
@@ -112,7 +113,7 @@ fn a_text_that_is_no_statement_is_refused_at_its_place(rt: HostRuntime) {
         ),
         ("SELECT * FROM \"KV; SELECT", "E01 syntax at byte 14\n"),
     ] {
-        assert!(rt; ends(alloc, script, Status::Refused, text) == Ok(true));
+        assert!(rt; ends(&rt, alloc, script, Status::Refused, text) == Ok(true));
     }
 }
 
@@ -128,12 +129,12 @@ fn a_last_line_feed_adds_nothing(rt: HostRuntime) {
             "SELECT * FROM KV;SELECT\n",
             "0 rows selected\nE01 syntax at byte 6\n",
         ),
-        ("!\n", FORM),
+        ("!\n", "E01 syntax at byte 1\n"),
     ] {
-        assert!(rt; ends(alloc, script, Status::Refused, text) == Ok(true));
+        assert!(rt; ends(&rt, alloc, script, Status::Refused, text) == Ok(true));
     }
     for (script, text) in [("\n", ""), ("SELECT * FROM KV\n", NO_ROW), ("-- end\n", "")] {
-        assert!(rt; ends(alloc, script, Status::Done, text) == Ok(true));
+        assert!(rt; ends(&rt, alloc, script, Status::Done, text) == Ok(true));
     }
 }
 
@@ -141,64 +142,99 @@ fn a_last_line_feed_adds_nothing(rt: HostRuntime) {
 fn what_is_not_built_is_left_out_piece_by_piece(rt: HostRuntime) {
     let alloc = rt.alloc();
     for statement in [
-        "UPSERT INTO KV (K, V) VALUES ('a', 'b')",
-        "UPSERT INTO \"kv\" VALUES ('a', 'b')",
-        "UPSERT INTO T VALUES ('a', 'b')",
-        "UPSERT INTO KV VALUES ('a')",
-        "UPSERT INTO KV VALUES ('a', 'b', 'c')",
-        "UPSERT INTO KV VALUES ('a', NULL)",
-        "UPSERT INTO KV VALUES (1, 'b')",
-        "UPSERT INTO KV VALUES (TRUE, 'b')",
-        "UPSERT INTO KV VALUES ('', 'b')",
-        "UPSERT INTO KV VALUES ('a', '')",
-        "UPSERT INTO KV VALUES ('a\0', 'b')",
-        "UPSERT INTO KV VALUES ('a', '\0')",
-        "SELECT K FROM KV",
-        "SELECT K, V FROM KV",
-        "SELECT * FROM T",
-        "SELECT /*+ NO_INDEX */ * FROM KV",
-        "SELECT * FROM KV WHERE K = 'a'",
-        "SELECT * FROM KV ORDER BY K",
-        "SELECT * FROM KV LIMIT 1",
-        "EXPLAIN SELECT * FROM KV",
-        "DELETE FROM KV",
-        "DELETE FROM KV WHERE K = 'a'",
-        "CREATE TABLE T (A BIGINT PRIMARY KEY)",
-        "CREATE TABLE T (A BIGINT)",
-        "DROP TABLE IF EXISTS T",
-        "CREATE INDEX I ON T (A)",
-        "DROP INDEX I ON T",
-        "ALTER INDEX I ON T REBUILD",
+        "CREATE TABLE T (A BIGINT PRIMARY KEY) SPLIT ON (5)",
+        "ALTER INDEX I ON KV REBUILD",
+        "ALTER INDEX I ON KV DISABLE",
     ] {
-        assert!(rt; is_refused(alloc, statement, FORM) == Ok(true));
+        assert!(rt; is_refused(&rt, alloc, statement, FORM) == Ok(true));
     }
-    let script = "SELECT * FROM KV;\n  !flush; SELECT * FROM KV\nSELECT * FROM KV;\n!";
-    let text = "0 rows selected\nE02 left out: FORM\n0 rows selected\nE02 left out: FORM\n";
-    assert!(rt; ends(alloc, script, Status::Refused, text) == Ok(true));
+    let script =
+        "SELECT * FROM KV;\n  !flush\nSELECT * FROM KV;\n!compact\n!status KV\n!autocommit off\n";
+    let text =
+        "0 rows selected\nE02 left out: FORM\n0 rows selected\nE02 left out: FORM\nE02 left out: FORM\nE02 left out: FORM\n";
+    assert!(rt; ends(&rt, alloc, script, Status::Refused, text) == Ok(true));
 }
 
 #[test]
-fn a_key_and_a_value_have_at_most_1000_bytes(rt: HostRuntime) {
+fn commands_are_read_behind_their_mark(rt: HostRuntime) {
     let alloc = rt.alloc();
+    for (script, text) in [
+        ("!commit", "0 rows affected\n"),
+        ("!autocommit on", "autocommit on\n"),
+        (" \t!scn 7", "scn 7\n"),
+        ("! scn 5\n!scn off", "scn 5\nscn off\n"),
+        ("!scn 9223372036854775807", "scn 9223372036854775807\n"),
+        ("SELECT * FROM KV\n!scn 7", "E01 syntax at byte 17\n"),
+    ] {
+        let status = if text.starts_with("E") {
+            Status::Refused
+        } else {
+            Status::Done
+        };
+        assert!(rt; ends(&rt, alloc, script, status, text) == Ok(true));
+    }
+    for (script, text) in [
+        ("!", "E01 syntax at byte 1\n"),
+        ("!nothing", "E01 syntax at byte 1\n"),
+        ("!scn", "E01 syntax at byte 4\n"),
+        ("!scn abc", "E01 syntax at byte 5\n"),
+        ("!scn 4 5", "E01 syntax at byte 7\n"),
+        ("!scn 0", "E07 value out of range at byte 5\n"),
+        (
+            "!scn 9223372036854775808",
+            "E07 value out of range at byte 5\n",
+        ),
+    ] {
+        assert!(rt; ends(&rt, alloc, script, Status::Refused, text) == Ok(true));
+    }
+}
+
+#[test]
+fn a_text_has_at_most_65535_bytes(rt: HostRuntime) {
+    let alloc = rt.alloc();
+    let long = "E07 value out of range at byte 28\n";
     for (text, times, answer, status) in [
-        ("v", 1_000, ADDED, Status::Done),
-        ("v", 1_001, FORM, Status::Refused),
-        ("''", 1_000, ADDED, Status::Done),
-        ("''", 1_001, FORM, Status::Refused),
-        ("é", 500, ADDED, Status::Done),
-        ("é", 501, FORM, Status::Refused),
+        ("v", 65_535, ADDED, Status::Done),
+        ("v", 65_536, long, Status::Refused),
+        ("''", 65_535, ADDED, Status::Done),
+        ("''", 65_536, long, Status::Refused),
+        ("é", 32_767, ADDED, Status::Done),
+        ("é", 32_768, long, Status::Refused),
     ] {
         let Ok(script) = with_value(alloc, text, times) else {
             panic!(rt; "no memory")
         };
-        assert!(rt; ends(alloc, &script, status, answer) == Ok(true));
+        assert!(rt; ends(&rt, alloc, &script, status, answer) == Ok(true));
     }
 }
 
 #[test]
-fn a_deep_statement_is_left_out_as_each_other(rt: HostRuntime) {
+fn a_row_key_has_at_most_1024_bytes(rt: HostRuntime) {
     let alloc = rt.alloc();
-    for times in [64, 65, 100] {
+    for (times, answer, status) in [
+        (1_023, ADDED, Status::Done),
+        (1_024, "E11 limit: KEY 1024\n", Status::Refused),
+    ] {
+        let (Ok(key), Ok(mut script)) = (
+            repeated(alloc, "k", times),
+            String::from_str(alloc, "UPSERT INTO KV VALUES ('"),
+        ) else {
+            panic!(rt; "no memory")
+        };
+        assert!(rt; script.push_str(&key).is_ok());
+        assert!(rt; script.push_str("', 'v');").is_ok());
+        assert!(rt; ends(&rt, alloc, &script, status, answer) == Ok(true));
+    }
+}
+
+#[test]
+fn a_condition_nests_64_deep(rt: HostRuntime) {
+    let alloc = rt.alloc();
+    for (times, answer, status) in [
+        (64, NO_ROW, Status::Done),
+        (65, "E11 limit: DEPTH 64\n", Status::Refused),
+        (100, "E11 limit: DEPTH 64\n", Status::Refused),
+    ] {
         let (Ok(open), Ok(close)) = (repeated(alloc, "(", times), repeated(alloc, ")", times))
         else {
             panic!(rt; "no memory")
@@ -209,8 +245,8 @@ fn a_deep_statement_is_left_out_as_each_other(rt: HostRuntime) {
         ) else {
             panic!(rt; "no memory")
         };
-        assert!(rt; is_refused(alloc, &whole, FORM) == Ok(true));
-        let Ok(run) = run_words(alloc, "run folder", MemDisk::new(alloc), &cut) else {
+        assert!(rt; ends(&rt, alloc, &whole, status, answer) == Ok(true));
+        let Ok(run) = run_words(&rt, alloc, "run folder", MemDisk::new(alloc), &cut) else {
             panic!(rt; "no memory")
         };
         assert!(rt; run.status == Status::Refused);
@@ -247,28 +283,7 @@ fn a_statement_has_at_most_1048576_bytes(rt: HostRuntime) {
             panic!(rt; "no memory")
         };
         assert!(rt; printed.push_str(NO_ROW).is_ok());
-        assert!(rt; ends(alloc, &script, status, &printed) == Ok(true));
-    }
-}
-
-#[test]
-fn a_divided_script_is_left_out_whole(rt: HostRuntime) {
-    let alloc = rt.alloc();
-    for script in [
-        "---",
-        "---\n",
-        "UPSERT INTO KV VALUES ('a','b');\n---\nSELECT * FROM KV;",
-        "UPSERT INTO KV VALUES ('a','b');\n@2 SELECT * FROM KV;",
-        "@1",
-        "@",
-        "UPSERT INTO KV VALUES ('a','\n---\n');",
-        "/*\n@*/",
-    ] {
-        let Ok(run) = run_words(alloc, "run folder", MemDisk::new(alloc), script) else {
-            panic!(rt; "no memory")
-        };
-        assert!(rt; is_printed(&run, Status::Refused, FORM));
-        assert_eq!(rt; run.entries, 0);
+        assert!(rt; ends(&rt, alloc, &script, status, &printed) == Ok(true));
     }
 }
 
@@ -284,7 +299,7 @@ fn a_script_that_is_no_text_is_refused_at_its_first_bad_byte(rt: HostRuntime) {
         (b"\xc3\xa9\xc3".as_slice(), "E01 syntax at byte 2\n"),
         (b"---\n\xed\xa0\x80".as_slice(), "E01 syntax at byte 4\n"),
     ] {
-        let Ok(run) = run_bytes(alloc, script) else {
+        let Ok(run) = run_bytes(&rt, alloc, script) else {
             panic!(rt; "no memory")
         };
         assert!(rt; is_printed(&run, Status::Refused, text));

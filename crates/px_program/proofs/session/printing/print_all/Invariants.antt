@@ -1,6 +1,0 @@
-use Rattle.std.proofs.Common.{◌≡◌, ◌++◌, take}
-use Rattle.px_program.specs.Printed.{printed}
-use Rattle.px_program.proofs.session.printing.print_all.Given as goal
-
-abbrev pub invariant-loop-transcript : goal.invariant-loop-transcript
-invariant-loop-transcript l = l.to ≡ l.initial.to ++ printed (take l.transcript-index l.transcripts)

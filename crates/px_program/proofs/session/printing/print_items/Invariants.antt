@@ -1,6 +1,0 @@
-use Rattle.std.proofs.Common.{◌≡◌, ◌++◌, take}
-use Rattle.px_program.specs.Printed.{printed_items}
-use Rattle.px_program.proofs.session.printing.print_items.Given as goal
-
-abbrev pub invariant-loop-item : goal.invariant-loop-item
-invariant-loop-item l = l.to ≡ l.initial.to ++ printed_items (take l.item-index l.items)

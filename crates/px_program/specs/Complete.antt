@@ -1,0 +1,98 @@
+-- What a run comes to where nothing fails outside.
+use Rattle.std.specs.Prelude.{ℕ, ◌≡◌, ◌<◌, ◌⊎◌, ◌+◌, Bool, true, false, Some, List, [], ◌∷◌, length, map, slice_get}
+use Rattle.std.specs.List.{list_any}
+use Rattle.px_outside.specs.Disk.{last_count}
+use Rattle.px_outside.specs.Faults.{FaultsRose}
+use Rattle.px_outside.specs.declared.disk.Disk.{Ghosts as DiskGhosts}
+use Rattle.px_outside.specs.declared.sink.Sink.{Ghosts as SinkGhosts}
+use Rattle.px_lex.specs.Script.{IsScript, Section, pieces_from}
+use Rattle.px_script.specs.Pieces.{span_of}
+use Rattle.px_script.specs.Scripts.{StopsScript, script_of}
+use Rattle.px_script.specs.declared.script.ScriptFault.{ScriptFault}
+use Rattle.px_script.specs.declared.script.SessionText.{SessionText}
+use Rattle.px_reply.specs.Refusals.{cause_of}
+use Rattle.px_reply.specs.declared.refusal.Cause.{Cause}
+use Rattle.px_reply.specs.declared.refusal.Cause.TheVariants.{Statement, Device, Closing, Memory}
+use Rattle.px_reply.specs.declared.reply.Reply.{Reply}
+use Rattle.px_reply.specs.declared.reply.Reply.TheVariants.{Refused}
+use Rattle.px_reply.specs.declared.transcript.Item.{Item}
+use Rattle.px_reply.specs.declared.transcript.Transcript.{Transcript}
+use Rattle.px_rounds.specs.Rounds.{AreWithin, in_order, text_in}
+use Rattle.px_server.specs.Kept.{HasFailed}
+use Rattle.px_session.specs.Replies.{has_fatal}
+use Rattle.px_program.specs.Answers.{stopped_by}
+use Rattle.px_program.specs.Status.{IsQuietStatus, items_of}
+use Rattle.px_program.specs.declared.status.Status.{Status}
+use Rattle.px_program.specs.declared.status.Status.TheVariants.{Done}
+
+-- ---- replies
+
+abbrev pub is_of_disk : Cause → Bool
+is_of_disk Statement = false
+is_of_disk Device = true
+is_of_disk Closing = true
+is_of_disk Memory = false
+
+-- the statement was refused for the disk's sake: a call failed, in it or before, or a place is damaged
+abbrev pub tells_disk : Reply → Bool
+tells_disk (Refused refusal) = is_of_disk (cause_of refusal)
+tells_disk reply = false
+
+abbrev pub some_tell_disk : List Item → Bool
+some_tell_disk items = list_any (λ i. tells_disk i.reply) items
+
+abbrev pub is_refusal : Reply → Bool
+is_refusal (Refused refusal) = true
+is_refusal reply = false
+
+abbrev pub some_refusal : List Item → Bool
+some_refusal items = list_any (λ i. is_refusal i.reply) items
+
+-- ---- sessions that came to their end
+
+-- a session in a round: each piece of its text has its item, in order, and there are no others
+pub record IsWhole (text : List ℕ) (t : Transcript) : Type 0 where
+  pub sections : List Section
+  pub cut : IsScript text sections
+  pub each : map (λ i. i.statement) t.items ≡ map span_of (pieces_from 0 sections)
+
+-- all sessions of a round, from 1 on
+pub record IsWholeRound (sessions : ℕ) (round : List SessionText) (ts : List Transcript) : Type 0 where
+  pub count : length ts ≡ sessions
+  pub each : (i : ℕ) (t : Transcript) → slice_get ts i ≡ Some t → IsWhole (text_in round (i + 1)) t
+
+abbrev pub AreWholeRounds : ℕ → List (List SessionText) → List (List Transcript) → Type 0
+AreWholeRounds sessions [] [] = Unit {0}
+AreWholeRounds sessions (round ∷ rounds) (ts ∷ tss) = IsWholeRound sessions round ts × AreWholeRounds sessions rounds tss
+AreWholeRounds sessions rounds tss = ⊥
+
+-- each statement of each session of the script has its reply
+pub record IsWholeScript (script : List ℕ) (ts : List Transcript) : Type 0 where
+  pub sessions : ℕ
+  pub within : AreWithin sessions (script_of script)
+  pub rounds : List (List Transcript)
+  pub flat : ts ≡ in_order rounds
+  pub whole : AreWholeRounds sessions (script_of script) rounds
+
+-- nothing of the script is run, and session 1 is told why
+abbrev pub IsToldWhy : List ℕ → List Transcript → Type 0
+IsToldWhy script ts = (fault : ScriptFault) × StopsScript script fault × (ts ≡ stopped_by fault (length script))
+
+-- ---- runs
+
+-- each statement of each session was answered, and none refused; no memory was lacked, and the sink took all
+pub record IsAnsweredWhole {O : Type 0} (k : SinkGhosts O) (out out' : O) (script : List ℕ) (ts : List Transcript) (memory : Bool) : Type 0 where
+  pub whole : IsWholeScript script ts
+  pub none_refused : some_refusal (items_of ts) ≡ false
+  pub enough : memory ≡ false
+  pub sent : k.faults out' ≡ k.faults out
+
+-- Where no call of the disk failed, no statement is refused for the disk's sake, and so none stops its session. Where the sink didn't fail either, the
+-- status is Done, Refused or Memory; and each session comes to its end, unless memory was lacked outside a statement, or nothing of the script is run.
+-- Done comes only where each statement of each session was answered, and none refused, unless the count of calls stands at its last value.
+pub record IsComplete {D O : Type 0} (d : DiskGhosts D) (k : SinkGhosts O) (disk : D) (out out' : O) (script : List ℕ) (ts : List Transcript) (memory : Bool) (status : Status) : Type 0 where
+  pub answered : (HasFailed d disk → ⊥) → some_tell_disk (items_of ts) ≡ false
+  pub goes_on : (HasFailed d disk → ⊥) → has_fatal (items_of ts) ≡ false
+  pub quiet : (HasFailed d disk → ⊥) → (FaultsRose (k.faults out) (k.faults out') → ⊥) → IsQuietStatus status
+  pub ended : (HasFailed d disk → ⊥) → (FaultsRose (k.faults out) (k.faults out') → ⊥) → memory ≡ false → IsWholeScript script ts ⊎ IsToldWhy script ts
+  pub done : status ≡ Done → d.calls disk < last_count → IsAnsweredWhole k out out' script ts memory

@@ -1,3 +1,0 @@
-pub mod Held
-pub mod Reading
-pub mod Row

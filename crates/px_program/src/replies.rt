@@ -1,0 +1,60 @@
+// The reply to a script of which nothing is run.
+ghost use Rattle.std.specs.Prelude.{◌≡◌, IfOk};
+ghost use Rattle.px_program.specs.Answers as spec;
+ghost use Rattle.px_reply.specs.Printed.{printed};
+ghost use Rattle.px_rounds.specs.Written.{WritesRound};
+
+use px_outside::{Sink, write_all};
+use px_reply::{Evidence, Item, Refusal, Reply, Transcript, Transcripts, print_transcripts};
+use px_script::{ScriptFault, Span};
+use px_values::{Items, Limit, Line};
+use std::alloc::{AllocError, Global};
+
+/// How it is told that nothing of a script is run.
+fn refusal_of(fault: ScriptFault) -> Refusal
+    ensures { result ≡ spec.refusal_of fault }
+{
+    match fault {
+        ScriptFault::TooLong => Refusal::Limit(Limit::Script),
+        ScriptFault::NotUtf8 { place } => Refusal::Syntax { place },
+        ScriptFault::Memory => Refusal::Memory,
+    }
+}
+
+/// Session 1 is told in the first round why nothing is run.
+pub fn stopped(alloc: Global, fault: ScriptFault, len: usize) -> Result<Transcripts, AllocError>
+    ensures { IfOk result (λ ts. ts ≡ spec.stopped_by fault len) }
+{
+    let mut transcripts = Vec::with_capacity(alloc, 1)?;
+    let mut items = Vec::with_capacity(alloc, 1)?;
+    items.push_reserved(Item {
+        statement: Span { start: 0, end: len },
+        reply: Reply::Refused(refusal_of(fault)),
+        evidence: Evidence {
+            receipts: Items::of(Vec::new(alloc)),
+            places: Items::of(Vec::new(alloc)),
+            first: 0,
+            last: 0,
+        },
+    });
+    transcripts.push_reserved(Transcript {
+        session: 1,
+        round: 1,
+        items: Items::of(items),
+    });
+    Ok(Items::of(transcripts))
+}
+
+/// Writes the replies. Answers whether the sink failed, and whether no memory was found to print them.
+pub fn write_replies<O: Sink>(alloc: Global, answers: &Transcripts, out: &mut O) -> (bool, bool)
+    ensures { WritesRound ⟦<O as Sink>⟧ out.old out.new (printed answers.now) result.0 result.1 }
+{
+    let mut line = Line::new(alloc);
+    let Ok(()) = print_transcripts(answers, &mut line) else {
+        return (false, true);
+    };
+    match write_all(out, line.as_slice()) {
+        Ok(()) => (false, false),
+        Err(_) => (true, false),
+    }
+}

@@ -1,0 +1,270 @@
+// A run of the program, from its words to its status.
+ghost use Rattle.std.specs.Prelude.{◌≡◌, ◌<◌, ◌≤◌, ◌⊎◌, [], None, map, IsTrue, ℕ, List};
+ghost use Rattle.std.specs.String.{string_bytes};
+ghost use Rattle.px_outside.specs.Disk.{Image};
+ghost use Rattle.px_outside.specs.OnDisk.{IsLeft};
+ghost use Rattle.px_opening.specs.Opened.{IsOpenedRight, folder_in};
+ghost use Rattle.px_opening.specs.declared.fault.OpenFault.TheVariants as fault;
+ghost use Rattle.px_recovery.specs.Base.{IsSoundFolder, base_of};
+ghost use Rattle.px_recovery.specs.Stands.{Recovers};
+ghost use Rattle.px_reply.specs.Printed.{printed};
+ghost use Rattle.px_rounds.specs.Turns.{GoesOn};
+ghost use Rattle.px_rounds.specs.Written.{IsWritten};
+ghost use Rattle.px_server.specs.Shown.{known_by};
+ghost use Rattle.px_server.specs.Started.{IsOpenedOn, StartsSound};
+ghost use Rattle.px_program.specs.Answers.{AnswersScript};
+ghost use Rattle.px_program.specs.Run.{FaultsAreTold, IsRun, IsUnrun, run_given, run_left, undamaged};
+ghost use Rattle.px_program.specs.Status.{is_memory_status};
+ghost use Rattle.px_program.specs.inner.Running.{IsOpenedNow, RanOn, RanOpened, StoodBefore, IsLeftSince, stopped_by};
+
+use crate::causes::{causes_in, status_after};
+use crate::outcome::{Outcome, unrun};
+use crate::served::run_script;
+use crate::since::{Later, Since};
+use crate::status::Status;
+use crate::watched::Watched;
+use crate::words::folder_word;
+use px_opening::{OpenFault, Opened, open};
+use px_outside::{Clock, CountsCalls, Disk, InputFault, Metered, Sink, Source, read_all};
+use px_rounds::Rounds;
+use px_seat::Based;
+use px_server::{Founded, Server, law_starts};
+use std::alloc::Global;
+use std::marker::Brand;
+use std::sync::Wait;
+
+/// The greatest length of a script that is read, and one byte more.
+const MOST_READ: usize = 67_108_865;
+
+/// How long versions are kept, in milliseconds: three days.
+const LOOKBACK: u64 = 259_200_000;
+
+/// The status where the folder wasn't opened, and this call of the disk was the first that failed, 0 where none has.
+fn status_unopened(fault: OpenFault, failed: u64) -> Status
+    ensures { result ≡ stopped_by fault failed }
+{
+    if failed != 0 {
+        return Status::Device { call: failed };
+    }
+    match fault {
+        OpenFault::ReadFault | OpenFault::WriteFault => Status::Device { call: 0 },
+        OpenFault::Damaged { file, place } => Status::Damaged { file, place },
+        OpenFault::Memory => Status::Memory,
+    }
+}
+
+/// Runs a script on a server with which nothing was done, and writes its replies.
+fn serve<R: Wait, D: CountsCalls, C: Clock + Drop, O: Sink, B: Based + Founded>(
+    rt: &R,
+    alloc: Global,
+    server: Server<D, C, B>,
+    script: &[u8],
+    out: &mut O,
+) -> Rounds<Server<D, C, B>>
+    requires { server.entries ≡ [] }
+    ensures goes { GoesOn (known_by B.base B.damaged server) (known_by B.base B.damaged result.server) }
+    ensures answered { AnswersScript B.sound (known_by B.base B.damaged result.server) 0 script.now result.transcripts result.sink_failed result.memory }
+    ensures written { IsWritten ⟦<O as Sink>⟧ out.old out.new (printed result.transcripts) result.sink_failed result.memory }
+{
+    run_script(rt, alloc, server, script, out)
+}
+
+/// Runs a script over a folder that was opened, and writes its replies. `B` tells the base, whether the folder is sound, the premise, and what
+/// the clock has to tell.
+fn run_over<R: Wait, D: CountsCalls, C: Clock + Drop, O: Sink, B: Based + Founded>(
+    rt: &R,
+    alloc: Global,
+    script: &[u8],
+    disk: D,
+    opened: Opened,
+    clock: C,
+    out: &mut O,
+) -> Outcome<D>
+    requires right { IsOpenedRight opened }
+    requires base { B.base ≡ base_of (folder_in opened) }
+    requires damaged { B.damaged ≡ undamaged }
+    requires sound { B.sound → IsSoundFolder (folder_in opened) }
+    requires disk { B.premise → IsTrue D.tells → IsOpenedOn ⟦<D as Disk>⟧ disk opened }
+    requires times { IsTrue C.tells → (n : ℕ) → C.times clock n ≡ B.times n }
+    ensures { RanOpened ⟦<D as Disk>⟧ ⟦<C as Clock>⟧ ⟦<O as Sink>⟧ B.base B.sound B.premise (IsLeft ⟦<D as Disk>⟧) B.times script.now disk out.old out.new result }
+{
+    match Server::<D, C, B>::over(alloc, disk, clock, LOOKBACK, opened) {
+        Err(disk) => {
+            let status = status_unopened(OpenFault::Memory, disk.first_fault());
+            unrun(alloc, disk, status)
+        }
+        Ok(server) => {
+            let Rounds {
+                server,
+                transcripts,
+                sink_failed,
+                memory,
+            } = serve(rt, alloc, server, script, out);
+            let (disk, trail, late) = server.finish();
+            let causes = causes_in(transcripts.as_slice());
+            let status = status_after(sink_failed, disk.first_fault(), memory, causes);
+            Outcome {
+                status,
+                disk,
+                trail,
+                late,
+                transcripts,
+                memory,
+            }
+        }
+    }
+}
+
+/// The same on a disk of which stops are told from the opening's end on, and earlier ones where the folder stood for what was opened before.
+fn run_since<R: Wait, D: CountsCalls, C: Clock + Drop, O: Sink, B: Based + Founded + Since>(
+    rt: &R,
+    alloc: Global,
+    script: &[u8],
+    disk: D,
+    opened: Opened,
+    clock: C,
+    out: &mut O,
+) -> Outcome<D>
+    requires right { IsOpenedRight opened }
+    requires base { B.base ≡ base_of (folder_in opened) }
+    requires damaged { B.damaged ≡ undamaged }
+    requires sound { B.sound → IsSoundFolder (folder_in opened) }
+    requires opened { B.premise → IsTrue D.tells → IsOpenedNow ⟦<D as Disk>⟧ disk opened }
+    requires from { B.from ≡ D.calls disk }
+    requires all { B.all → StoodBefore ⟦<D as Disk>⟧ disk opened }
+    requires was { (moment : ℕ) → (file : ℕ) → (bytes : List ℕ) → moment < B.from → D.left disk moment file bytes → B.was moment file bytes }
+    requires times { IsTrue C.tells → (n : ℕ) → C.times clock n ≡ B.times n }
+    ensures ran { RanOpened ⟦<D as Disk>⟧ ⟦<C as Clock>⟧ ⟦<O as Sink>⟧ B.base B.sound B.premise (IsLeftSince ⟦<D as Disk>⟧ B.from B.all) B.times script.now disk out.old out.new result }
+    ensures begun { B.from ≤ D.calls result.disk }
+    ensures past { (moment : ℕ) → (file : ℕ) → (bytes : List ℕ) → moment < B.from → D.left result.disk moment file bytes → B.was moment file bytes }
+{
+    let later = Later::<D, B>::new(disk);
+    let Outcome {
+        status,
+        disk,
+        trail,
+        late,
+        transcripts,
+        memory,
+    } = run_over::<R, Later<D, B>, C, O, B>(rt, alloc, script, later, opened, clock, out);
+    Outcome {
+        status,
+        disk: disk.into_disk(),
+        trail,
+        late,
+        transcripts,
+        memory,
+    }
+}
+
+/// Runs a script over a folder that was opened.
+fn run_opened<R: Wait, D: CountsCalls, C: Clock + Drop, O: Sink>(
+    rt: &R,
+    alloc: Global,
+    script: &[u8],
+    disk: D,
+    opened: Opened,
+    clock: C,
+    out: &mut O,
+) -> Outcome<D>
+    requires right { IsOpenedRight opened }
+    ensures ran { RanOpened ⟦<D as Disk>⟧ ⟦<C as Clock>⟧ ⟦<O as Sink>⟧ (base_of (folder_in opened)) (IsSoundFolder (folder_in opened)) (IsTrue D.tells → IsOpenedNow ⟦<D as Disk>⟧ disk opened) (IsLeftSince ⟦<D as Disk>⟧ (D.calls disk) (StoodBefore ⟦<D as Disk>⟧ disk opened)) (C.times clock) script.now disk out.old out.new result }
+    ensures begun { D.calls disk ≤ D.calls result.disk }
+    ensures past { (moment : ℕ) → (file : ℕ) → (bytes : List ℕ) → moment < D.calls disk → D.left result.disk moment file bytes → D.left disk moment file bytes }
+{
+    run_since::<R, D, C, O, Brand>(rt, alloc, script, disk, opened, clock, out)
+}
+
+/// Opens the folder, and runs a script on its tables.
+fn run_on<R: Wait, D: CountsCalls, C: Clock + Drop, O: Sink>(
+    rt: &R,
+    alloc: Global,
+    script: &[u8],
+    mut disk: D,
+    clock: C,
+    out: &mut O,
+) -> Outcome<D>
+    ensures { RanOn ⟦<D as Disk>⟧ ⟦<C as Clock>⟧ ⟦<O as Sink>⟧ script.now clock disk out.old out.new result }
+{
+    law_starts::<D>();
+    match open(alloc, &mut disk) {
+        Err(fault) => {
+            let status = status_unopened(fault, disk.first_fault());
+            unrun(alloc, disk, status)
+        }
+        Ok(opened) => run_opened(rt, alloc, script, disk, opened, clock, out),
+    }
+}
+
+/// Runs a script on the tables of the folder that the disk holds. Its calls are counted.
+fn run_folder<R: Wait, D: Disk, C: Clock + Drop, O: Sink>(
+    rt: &R,
+    alloc: Global,
+    script: &[u8],
+    disk: D,
+    clock: C,
+    out: &mut O,
+) -> Outcome<D>
+    requires fresh { (D.calls disk ≡ 0) × (D.faults disk ≡ 0) × (D.first_fault disk ≡ 0) }
+    ensures run { RanOn ⟦<D as Disk>⟧ ⟦<C as Clock>⟧ ⟦<O as Sink>⟧ script.now clock disk out.old out.new result }
+    ensures known { 0 < D.faults result.disk → 0 < D.first_fault result.disk }
+    ensures failed { 0 < D.first_fault result.disk → 0 < D.faults result.disk }
+{
+    let counted = Metered::new(Watched::new(disk));
+    let Outcome {
+        status,
+        disk,
+        trail,
+        late,
+        transcripts,
+        memory,
+    } = run_on(rt, alloc, script, counted, clock, out);
+    Outcome {
+        status,
+        disk: disk.into_disk().into_disk(),
+        trail,
+        late,
+        transcripts,
+        memory,
+    }
+}
+
+/// What a run leaves that made no call of the disk.
+fn untouched<D: Disk>(alloc: Global, disk: D, status: Status) -> Outcome<D>
+    ensures status { result.status ≡ status }
+    ensures disk { result.disk ≡ disk }
+    ensures entries { result.trail.entries ≡ [] }
+    ensures late { result.late ≡ None }
+    ensures transcripts { result.transcripts ≡ [] }
+    ensures memory { result.memory ≡ is_memory_status status }
+    ensures recovers { (starts : StartsSound ⟦<D as Disk>⟧ disk) → (moment : ℕ) → (image : Image) → IsLeft ⟦<D as Disk>⟧ disk moment image → Recovers (base_of starts.sound.folder) [] None moment image }
+{
+    law_starts::<D>();
+    unrun(alloc, disk, status)
+}
+
+/// Runs the program: reads a script from the input, runs its sessions on the tables in the folder that the disk holds, and writes their
+/// replies. The words are those after the program's name. The disk had no call yet.
+pub fn phoenix<R: Wait, D: Disk, C: Clock + Drop, I: Source, O: Sink>(
+    rt: &R,
+    alloc: Global,
+    words: &[String],
+    disk: D,
+    clock: C,
+    input: &mut I,
+    out: &mut O,
+) -> Outcome<D>
+    requires fresh { (D.calls disk ≡ 0) × (D.faults disk ≡ 0) × (D.first_fault disk ≡ 0) }
+    ensures run { IsUnrun ⟦<D as Disk>⟧ ⟦<I as Source>⟧ (run_given disk clock input.old out.old (map string_bytes words.now)) (run_left result input.new out.new)
+        ⊎ IsRun ⟦<D as Disk>⟧ ⟦<C as Clock>⟧ ⟦<I as Source>⟧ ⟦<O as Sink>⟧ (run_given disk clock input.old out.old (map string_bytes words.now)) (run_left result input.new out.new) }
+    ensures faults_are_told { FaultsAreTold ⟦<D as Disk>⟧ disk result.disk result.status }
+{
+    if folder_word(words).is_none() {
+        return untouched(alloc, disk, Status::BadWords);
+    }
+    match read_all(alloc, input, MOST_READ) {
+        Ok(script) => run_folder(rt, alloc, &script, disk, clock, out),
+        Err(InputFault::ReadFault) => untouched(alloc, disk, Status::SourceFault),
+        Err(InputFault::Memory) => untouched(alloc, disk, Status::Memory),
+    }
+}

@@ -1,7 +1,0 @@
-pub mod inner
-pub mod Answers
-pub mod Complete
-pub mod Ended
-pub mod Run
-pub mod Status
-pub mod Words

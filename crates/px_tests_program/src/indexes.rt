@@ -1,0 +1,211 @@
+// Covered indexes: which queries use them, what these give, and what is there after stops between a batch's phases.
+use crate::runs::{Run, disk_of, ends, is_printed, run_again, run_new, run_words};
+use px_outside::{Choice, MemDisk};
+use px_program::Status;
+use std::alloc::{AllocError, Global};
+use std::sync::Wait;
+
+/// A table of orders with an index that covers their amounts, which is born at stamp 1.
+const SET_UP: &str =
+    "CREATE TABLE ORDERS (ID BIGINT NOT NULL PRIMARY KEY, CUST VARCHAR, AMT INTEGER, NOTE VARCHAR);
+CREATE INDEX BY_CUST ON ORDERS (CUST) INCLUDE (AMT);
+";
+
+const MADE: &str = "table created\nindex created\n";
+
+/// Two orders, at the stamps 2 and 3.
+const TWO: &str = "UPSERT INTO ORDERS (ID, CUST, AMT) VALUES (1,'bo',5);
+UPSERT INTO ORDERS (ID, CUST, AMT) VALUES (2,'al',7);
+";
+
+const ADDED: &str = "1 row affected\n1 row affected\n";
+
+/// Whether the set-up with two orders, and these statements behind it, end so and print this.
+fn with_orders<R: Wait>(
+    rt: &R,
+    alloc: Global,
+    statements: &str,
+    status: Status,
+    text: &str,
+) -> Result<bool, AllocError> {
+    let (mut script, mut printed) = (
+        String::from_str(alloc, SET_UP)?,
+        String::from_str(alloc, MADE)?,
+    );
+    script.push_str(TWO)?;
+    script.push_str(statements)?;
+    printed.push_str(ADDED)?;
+    printed.push_str(text)?;
+    ends(rt, alloc, &script, status, &printed)
+}
+
+#[test]
+fn a_query_reads_the_index_that_covers_it(rt: HostRuntime) {
+    let alloc = rt.alloc();
+    for (statements, text) in [
+        (
+            "SELECT ID, CUST, AMT FROM ORDERS WHERE CUST = 'al';",
+            "2, 'al', 7\n1 row selected\n",
+        ),
+        (
+            "EXPLAIN SELECT ID, CUST, AMT FROM ORDERS WHERE CUST = 'al';",
+            "SCAN INDEX BY_CUST OF ORDERS\nKEY EQUAL 1 RANGE 0\n",
+        ),
+        (
+            "SELECT NOTE FROM ORDERS WHERE CUST = 'al'; EXPLAIN SELECT NOTE FROM ORDERS WHERE CUST = 'al';",
+            "null\n1 row selected\nSCAN TABLE ORDERS\nKEY EQUAL 0 RANGE 0\nFILTER\n",
+        ),
+        (
+            "UPSERT INTO ORDERS (ID, CUST) VALUES (1,'zed');
+SELECT ID, CUST, AMT FROM ORDERS WHERE CUST = 'bo'; SELECT ID, CUST, AMT FROM ORDERS WHERE CUST = 'zed';
+!scn 4
+SELECT ID, CUST, AMT FROM ORDERS WHERE CUST = 'bo';",
+            "1 row affected\n0 rows selected\n1, 'zed', 5\n1 row selected\nscn 4\n1, 'bo', 5\n1 row selected\n",
+        ),
+        (
+            "UPSERT INTO ORDERS (ID, CUST, AMT) VALUES (2,'',NULL);
+SELECT ID, CUST, AMT FROM ORDERS WHERE CUST IS NULL; SELECT ID, CUST FROM ORDERS ORDER BY CUST;",
+            "1 row affected\n2, null, null\n1 row selected\n2, null\n1, 'bo'\n2 rows selected\n",
+        ),
+        (
+            "SELECT CUST FROM ORDERS; SELECT CUST FROM ORDERS WHERE AMT > 5;",
+            "'bo'\n'al'\n2 rows selected\n'al'\n1 row selected\n",
+        ),
+    ] {
+        assert!(rt; with_orders(&rt, alloc, statements, Status::Done, text) == Ok(true));
+    }
+    let hinted = "SELECT /*+ INDEX(ORDERS BY_CUST) */ NOTE FROM ORDERS WHERE CUST = 'al';";
+    assert!(rt;
+        with_orders(
+            &rt,
+            alloc,
+            hinted,
+            Status::Refused,
+            "E02 left out: INDEX JOIN\n"
+        ) == Ok(true)
+    );
+}
+
+#[test]
+fn indexes_are_made_kept_and_dropped(rt: HostRuntime) {
+    let alloc = rt.alloc();
+    for (statements, text) in [
+        (
+            "CREATE INDEX BY_CUST ON ORDERS (AMT);",
+            "E03 name exists: BY_CUST\n",
+        ),
+        ("CREATE INDEX KV ON ORDERS (AMT);", "E03 name exists: KV\n"),
+        (
+            "CREATE INDEX I ON NOWHERE (AMT);",
+            "E05 no such table: NOWHERE\n",
+        ),
+        ("CREATE INDEX I ON ORDERS (NO);", "E04 no such column: NO\n"),
+        (
+            "CREATE INDEX I ON ORDERS (AMT, AMT);",
+            "E10 column named twice: AMT\n",
+        ),
+        (
+            "CREATE INDEX I ON ORDERS (AMT) INCLUDE (ID);",
+            "E10 column named twice: ID\n",
+        ),
+        ("CREATE INDEX I ON ORDERS (AMT);", "E11 limit: BUILD 0\n"),
+        (
+            "DROP INDEX BY_CUST ON ORDERS; DROP INDEX BY_CUST ON ORDERS;",
+            "index dropped\nE09 no such index: BY_CUST\n",
+        ),
+        (
+            "!scn 3\nCREATE INDEX I ON ORDERS (AMT);",
+            "scn 3\nE13 not under scn\n",
+        ),
+    ] {
+        assert!(rt; with_orders(&rt, alloc, statements, Status::Refused, text) == Ok(true));
+    }
+    for (statements, text) in [
+        (
+            "CREATE INDEX IF NOT EXISTS BY_CUST ON ORDERS (AMT);",
+            "index kept\n",
+        ),
+        (
+            "DROP INDEX BY_CUST ON ORDERS; EXPLAIN SELECT ID FROM ORDERS WHERE CUST = 'al';",
+            "index dropped\nSCAN TABLE ORDERS\nKEY EQUAL 0 RANGE 0\nFILTER\n",
+        ),
+        (
+            "DROP TABLE ORDERS; CREATE TABLE BY_CUST (A BIGINT PRIMARY KEY);",
+            "table dropped\ntable created\n",
+        ),
+    ] {
+        assert!(rt; with_orders(&rt, alloc, statements, Status::Done, text) == Ok(true));
+    }
+}
+
+/// What both orders are, by the table and by the index.
+const BOTH: &str = "SELECT ID, CUST, AMT FROM ORDERS WHERE ID >= 0;
+SELECT ID, CUST, AMT FROM ORDERS WHERE CUST = 'bo';
+SELECT ID, CUST, AMT FROM ORDERS WHERE CUST = 'zed';
+";
+
+const BEFORE: &str =
+    "1, 'bo', 5\n2, 'al', 7\n2 rows selected\n1, 'bo', 5\n1 row selected\n0 rows selected\n";
+
+const AFTER: &str =
+    "1, 'zed', 5\n2, 'al', 7\n2 rows selected\n0 rows selected\n1, 'zed', 5\n1 row selected\n";
+
+/// Whether what a stop leaves in that call of the UPSERT shows the rows of before or of after it, twice; none where the call isn't made.
+fn shows_one<R: Wait>(
+    rt: &R,
+    alloc: Global,
+    disk: MemDisk,
+    call: u64,
+    choice: Choice,
+) -> Result<Option<bool>, AllocError> {
+    let script = "UPSERT INTO ORDERS (ID, CUST) VALUES (1,'zed');";
+    let run = run_words(
+        rt,
+        alloc,
+        "run folder",
+        disk.image().stop_at(call, choice),
+        script,
+    )?;
+    if run.status == Status::Done {
+        drop(run);
+        return Ok(None);
+    }
+    let again = run_again(rt, alloc, disk_of(run), BOTH)?;
+    let (is_before, is_after) = (
+        is_printed(&again, Status::Done, BEFORE),
+        is_printed(&again, Status::Done, AFTER),
+    );
+    // What the first run repaired stays so.
+    let more = run_again(rt, alloc, disk_of(again), BOTH)?;
+    let stays = is_printed(&more, Status::Done, if is_before { BEFORE } else { AFTER });
+    Ok(Some((is_before || is_after) && stays))
+}
+
+/// The orders, on a disk.
+fn orders<R: Wait>(rt: &R, alloc: Global) -> Result<Run, AllocError> {
+    let mut script = String::from_str(alloc, SET_UP)?;
+    script.push_str(TWO)?;
+    run_new(rt, alloc, &script)
+}
+
+#[test]
+fn a_row_that_moves_is_there_once_after_a_stop_at_each_call(rt: HostRuntime) {
+    let alloc = rt.alloc();
+    for choice in [Choice::Old, Choice::New, Choice::Fill(1), Choice::Fill(255)] {
+        let mut calls = 0;
+        for call in 1..200 {
+            let Ok(run) = orders(&rt, alloc) else {
+                panic!(rt; "no memory")
+            };
+            let Ok(shown) = shows_one(&rt, alloc, disk_of(run), call, choice) else {
+                panic!(rt; "no memory")
+            };
+            let Some(is_right) = shown else {
+                break;
+            };
+            assert!(rt; is_right);
+            calls = call;
+        }
+        assert!(rt; calls >= 12);
+    }
+}
