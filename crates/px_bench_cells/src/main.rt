@@ -1,7 +1,7 @@
 //! Times the store in memory, what is visible of cells, and merging. `px_bench_cells ROWS` puts cells of so many rows into
-//! a store in two batches, takes what is visible, keeps what a horizon asks for, and merges the same cells from 2, 8 and
-//! 64 sources. It says on standard error how many cells a second each of them passes; without an argument it does so for
-//! a few rows, and prints the counts alone.
+//! a store in two batches, takes what is visible, keeps what a horizon asks for, changes one row as often (8,192 times at
+//! most), and merges the same cells from 2, 8 and 64 sources. It says on standard error how many cells a second each of
+//! them passes; without an argument it does so for a few rows, and prints the counts alone.
 #![tactic(auto)]
 
 use px_cells::{Cell, CellKind, Cells, is_cell_list, visible};
@@ -12,6 +12,9 @@ use std::time::Instant;
 use std::{env, io};
 
 const POINT: u64 = 8;
+
+// How often one row is changed at the most: a region has room for so many changes of two cells.
+const MOST: u64 = 8_192;
 
 fn cell(
     alloc: Global,
@@ -72,6 +75,23 @@ fn merge(rt: &HostRuntime, rows: u64, count: u64) -> io::Result<(usize, u128)> {
     Ok((given, start.elapsed(rt)?.as_micros()))
 }
 
+// Changes one row so many times, each time by two cells, and says how many cells it has then and how many microseconds that took.
+fn change(rt: &HostRuntime, changes: u64) -> io::Result<(usize, u128)> {
+    let alloc = rt.alloc();
+    let mut store = MemStore::new(alloc);
+    let start = Instant::now(rt)?;
+    for stamp in 0..changes {
+        let mut batch = Cells::new(alloc);
+        batch.push(cell(alloc, 0, 1, stamp, CellKind::Put)?)?;
+        batch.push(cell(alloc, 0, 2, stamp, CellKind::Put)?)?;
+        store.reserve(2)?;
+        put(&mut store, batch);
+    }
+    let took = start.elapsed(rt)?.as_micros();
+    let key = Vec::from_slice(alloc, &0u64.to_be_bytes())?;
+    Ok((store.row(&key).len(), took))
+}
+
 fn rate(cells: usize, micros: u128) -> u128 {
     (cells as u128).wrapping_mul(1_000_000) / micros.max(1)
 }
@@ -102,6 +122,12 @@ fn run(rt: &HostRuntime, rows: u64, is_timed: bool) -> io::Result<()> {
         eprintln!(rt; "cells a second: put {p}, visible {v}, keep_at {h}")?;
     }
     println!(rt; "{n} cells, {s} visible, {k} kept")?;
+    let (c, changing) = change(rt, rows.min(MOST))?;
+    if is_timed {
+        let r = rate(c / 2, changing);
+        eprintln!(rt; "changes of one row a second, until it has {c} cells: {r}")?;
+    }
+    println!(rt; "{c} cells of one row")?;
     for count in [2, 8, 64] {
         let (given, merging) = merge(rt, rows, count)?;
         if is_timed {

@@ -2,6 +2,7 @@
 ghost use Rattle.std.specs.Prelude.{◌≡◌, ◌≢◌, ◌<◌, [], ℕ, List, length, get_or, IsTrue, IfOk, Err};
 ghost use Rattle.px_outside.specs.OnDisk.{Passes, Rose, Stays};
 ghost use Rattle.px_cells.specs.CellData.{CellData};
+ghost use Rattle.px_cells.specs.Order.{IsCellList};
 ghost use Rattle.px_file.specs.Files.{HasBlocks};
 
 use crate::FileFault;
@@ -43,6 +44,7 @@ impl RegionFile {
     ) -> Result<Cells, FileFault>
         requires { number < length self.now.index.entries.items }
         ensures cells { (blocks : List (List CellData)) → HasBlocks ⟦<D as Disk>⟧ self.now disk.old blocks → IsTrue D.tells → IfOk result (λ cells. cells ≡ get_or blocks number []) }
+        ensures listed { IfOk result (λ cells. IsCellList cells) }
         ensures damaged { (blocks : List (List CellData)) (at place : ℕ) → HasBlocks ⟦<D as Disk>⟧ self.now disk.old blocks → IsTrue D.tells → result ≢ Err (FileFault.Damaged at place) }
         ensures file { (at place : ℕ) → result ≡ Err (FileFault.Damaged at place) → at ≡ self.now.file }
         ensures seen { D.seen disk.new ≡ D.seen disk.old }

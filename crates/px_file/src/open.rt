@@ -150,6 +150,7 @@ impl RegionFile {
         ensures seen { D.seen disk.new ≡ D.seen disk.old }
         ensures quiet { Stays ⟦<D as Disk>⟧ disk.old disk.new }
         ensures failed { result ≡ Err FileFault.ReadFault → Rose ⟦<D as Disk>⟧ disk.old disk.new }
+        ensures faults { D.faults disk.old ≤ D.faults disk.new }
     {
         match read_letters(disk, file) {
             Ok(()) => {}
@@ -175,6 +176,7 @@ fn finish<D: Disk>(
     ensures seen { D.seen disk.new ≡ D.seen disk.old }
     ensures quiet { Stays ⟦<D as Disk>⟧ disk.old disk.new }
     ensures failed { result ≡ Err FileFault.ReadFault → Rose ⟦<D as Disk>⟧ disk.old disk.new }
+    ensures faults { D.faults disk.old ≤ D.faults disk.new }
 {
     match read_tail(alloc, disk, file, &index) {
         Ok(()) => Ok(RegionFile { file, index }),

@@ -1,9 +1,10 @@
 // Finding the blocks of a range of keys.
-ghost use Rattle.std.specs.Prelude.{◌≡◌, ◌≤◌, ◌<◌, List, length};
+ghost use Rattle.std.specs.Prelude.{◌≡◌, ◌≤◌, ◌<◌, List, drop, length};
 ghost use Rattle.std.specs.Ordering.{is_lt};
 ghost use Rattle.px_cells.specs.CellData.{CellData};
 ghost use Rattle.px_cells.specs.Order.{key_cmp};
-ghost use Rattle.px_file.specs.Format.{AreBlocks, index_of};
+ghost use Rattle.px_cells.specs.Rows.{AllFrom};
+ghost use Rattle.px_file.specs.Format.{AreBlocks, cells_in, index_of};
 ghost use Rattle.px_file.specs.IndexOf.{IsIndex};
 ghost use Rattle.px_file.specs.Ranges.{AreBelow, IsFirstBlock};
 
@@ -30,5 +31,15 @@ impl RegionFile {
         ensures first { (blocks : List (List CellData)) → AreBlocks blocks → IsIndex self.now.index blocks → IsFirstBlock blocks key.now result }
     {
         begin_below(&self.index.entries, key).saturating_sub(1)
+    }
+    /// How many blocks begin below a key. It takes logarithmic time.
+    pub fn blocks_below(&self, key: &[u8]) -> usize
+        ensures within { result ≤ length self.now.index.entries.items }
+        ensures below { (blocks : List (List CellData)) → AreBlocks blocks → IsIndex self.now.index blocks → AreBelow blocks key.now result }
+
+        // No cell behind these blocks is below the key.
+        ensures from { (blocks : List (List CellData)) → AreBlocks blocks → IsIndex self.now.index blocks → AllFrom key.now (cells_in (drop result blocks)) }
+    {
+        begin_below(&self.index.entries, key)
     }
 }

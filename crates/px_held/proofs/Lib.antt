@@ -1,5 +1,6 @@
 pub mod Applying
 pub mod Assigning
+pub mod Batches
 pub mod Finding
 pub mod Fresh
 pub mod Nulls

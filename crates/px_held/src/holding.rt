@@ -64,6 +64,7 @@ pub fn hold(
     ensures ok { OnOk result (held.new.items ≡ spec.with_change (table_shape table.now) held.old.items change) }
     ensures err { OnErr result (held.new.items ≡ held.old.items) }
     ensures fault { IfErr result (λ fault. spec.IsFull fault held.old.items change.row) }
+    ensures rows { length held.old.items ≤ 1000 → length held.new.items ≤ 1000 }
 {
     match place_of(held.as_slice(), change.row.as_slice()) {
         Some(place) => match merged(alloc, table, &held[place].what, change.what) {
@@ -82,6 +83,7 @@ fn add(held: &mut Vec<Change>, change: Change) -> Result<(), HoldFault>
     ensures ok { OnOk result (held.new.items ≡ held.old.items ++ change ∷ []) }
     ensures err { OnErr result (held.new.items ≡ held.old.items) }
     ensures fault { IfErr result (λ fault. spec.IsManyRows fault held.old.items) }
+    ensures rows { length held.old.items ≤ 1000 → length held.new.items ≤ 1000 }
 {
     if held.len() >= MOST_ROWS {
         drop(change);

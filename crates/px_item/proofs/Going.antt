@@ -1,5 +1,6 @@
 -- How an item goes on.
-use Rattle.std.proofs.Common.{ℕ, ◌≡◌, ◌<◌, ◌≤◌, true, false, Option, None, Some, Result, Ok, Err, List, [], ◌∷◌, ◌++◌, length, take, drop, refl, sym, ◌∙◌, ap, subst, arith, length-append, ◌⊎◌, inl, inr, ⊎_elim}
+use Rattle.std.proofs.Common.{ℕ, ◌≡◌, ◌<◌, ◌≤◌, ◌&&◌, not, Bool, true, false, Option, None, Some, Result, Ok, Err, List, [], ◌∷◌, ◌++◌, length, take, drop, refl, sym, ◌∙◌, ap, subst, arith, length-append, ◌⊎◌, inl, inr, ⊎_elim, Vec}
+use Rattle.std.specs.Global.{Global}
 use Rattle.std.proofs.lemmas.List.{append-nil, drop-append-le, take-append-le}
 use Rattle.std.proofs.Math.Seq.{take-length}
 use Rattle.px_lex.specs.Script.{SeenPiece, seen_piece}
@@ -48,7 +49,17 @@ use Rattle.px_batch.specs.declared.batch.BatchState.TheVariants as batches
 use Rattle.px_batch.specs.declared.batch.BatchTurn.TheVariants as bt
 use Rattle.px_batch.specs.declared.run.BatchRun.{BatchRun}
 use Rattle.px_batch.proofs.Turning as turning
-use Rattle.px_commands.specs.declared.command.Command.{Command}
+use Rattle.px_held.specs.HeldData.{HeldData}
+use Rattle.px_calls.specs.declared.status.Status.{Status}
+use Rattle.px_commanding.specs.Commits as commits
+use Rattle.px_commanding.specs.Counts as counts
+use Rattle.px_commanding.specs.declared.commit.CommitRun.{CommitRun}
+use Rattle.px_commanding.specs.declared.commit.CommitTurn.TheVariants as ct
+use Rattle.px_commanding.specs.declared.count.CountFault.{CountFault}
+use Rattle.px_commanding.specs.declared.count.CountRun.{CountRun}
+use Rattle.px_commanding.specs.declared.count.CountTurn.TheVariants as nt
+use Rattle.px_commanding.proofs.Committing as commanding
+use Rattle.px_commanding.proofs.Counting as numbering
 use Rattle.px_defining.specs.Turns as define
 use Rattle.px_defining.specs.declared.define.DefineFault.{DefineFault}
 use Rattle.px_defining.specs.declared.define.DefineRun.{DefineRun}
@@ -73,9 +84,9 @@ use Rattle.px_item.specs.declared.item.ItemState.TheVariants as state
 use Rattle.px_item.specs.declared.item.ItemTurn.{ItemTurn}
 use Rattle.px_item.specs.declared.item.ItemTurn.TheVariants as turn
 use Rattle.px_item.specs.Right as right
-use Rattle.px_item.specs.Right.{Follows, FollowsTo, HasRoomForOne, IsAtOnce, IsBoundTo, IsChanged, IsDefined, IsDeletion, IsIndexed, IsRead, IsRight, IsTold, MayRun, Says, after, changes, deletion_query, drop_of, one_change, plain, table_named, unfound}
-use Rattle.px_item.specs.Turns.{Fits, FitsState, IsAsking, IsCreating, IsDropping, IsIndexing, Turns}
-use Rattle.px_item.proofs.Plain.{batch_plain, batch_since_plain, define_plain, define_since_plain, defined_plain, ended_plain, indexed_plain, outcome_plain, query_since_plain, removed_plain, stopped_plain}
+use Rattle.px_item.specs.Right.{AsksToCommit, Follows, FollowsTo, GoesToCommit, IsCommitted, IsCounted, MakesWay, holds, HasRoomForOne, IsAtOnce, IsBoundTo, IsChanged, IsDefined, IsDeletion, IsIndexed, IsRead, IsRight, IsTold, MayRun, Says, after, changes, deletion_query, drop_of, one_change, plain, table_named, unfound}
+use Rattle.px_item.specs.Turns.{Fits, FitsState, IsAsking, IsCommitting, IsCreating, IsDropping, IsIndexing, Turns}
+use Rattle.px_item.proofs.Plain.{asks_plain, committed_plain, count_since_plain, counted_plain, batch_plain, batch_since_plain, define_plain, define_since_plain, defined_plain, ended_plain, indexed_plain, outcome_plain, query_since_plain, removed_plain, stopped_plain}
 use Rattle.px_gather.specs.Query.{Query}
 use Rattle.px_planned.specs.Queries.{query_of}
 use Rattle.px_planned.specs.declared.planned.Planned.{Planned}
@@ -146,6 +157,11 @@ since_passes k k' (batches.Ending t) n h i = longer k k' n (of_passes k k' h) i
 since_passes k k' (batches.Leaving t f) n h i = (longer k k' n (of_passes k k' h) i.0, made_more k k' f n h i.0 i.1)
 since_passes k k' batches.Over n h i = longer k k' n (of_passes k k' h) i
 
+-- a commit under others' entries
+commit_since : (n : ℕ) (r : CommitRun) (k k' : Known) → Passes k k' → commits.IsSince n r k → commits.IsSince n r k'
+commit_since n Rattle.px_commanding.specs.declared.commit.CommitRun.TheVariants.Finding k k' h i = longer k k' n (of_passes k k' h) i
+commit_since n (Rattle.px_commanding.specs.declared.commit.CommitRun.TheVariants.Changing run room) k k' h i = since_passes k k' run.state n h i
+
 drops_change : (f : Found) (x : Statement) (y : Definition) → drop_of f x ≡ Some y → changes x ≡ true
 drops_change f (s.DropTable t) y h = refl
 drops_change f (s.DropIndex i) y h = refl
@@ -193,6 +209,25 @@ new_delete sound p (deletes.Finding run) k new can =
 new_delete sound p (deletes.Removing run left) k new can = absurd new
 new_delete sound p deletes.Over k new can = absurd new
 
+-- why a commit is made, under more entries
+asks_later : (k k' : Known) (first : ℕ) (st : Settings) (p : SeenPiece) (h : HeldData) (again : Bool) → Later k k' → AsksToCommit k first st p h again → AsksToCommit k' first st p h again
+asks_later k k' first st p h true later (inl a) = inl a
+asks_later k k' first st p h true later (inr m) =
+    inr (record { upsert = m.upsert; found = m.found; read = m.read; free = m.free; off = m.off; bound = bound_later k k' first m.found m.upsert.table later m.bound; right = m.right; other = m.other })
+asks_later k k' first st p h false later a = a
+
+some_data : (x y : HeldData) → Some x ≡ Some y → x ≡ y
+some_data x y h = cc
+
+-- autocommit is on, or off
+on_when : (b : Bool) → (not b && true) ≡ false → b ≡ true
+on_when true e = refl
+on_when false e = absurd (Rattle.std.proofs.lemmas.Bool.false≢true (sym e))
+
+off_when : (b c : Bool) → (not b && c) ≡ true → b ≡ false
+off_when true c e = absurd (Rattle.std.proofs.lemmas.Bool.false≢true e)
+off_when false c e = refl
+
 -- `mine` is what was done for the item so far
 module _ (sound : Type 0) (before : ℕ) (asked : Asked) (mine : List Act) where
   first_low : (a : Answered) → a.first ≡ asked.first → asked.first ≤ a.first
@@ -232,6 +267,7 @@ module _ (sound : Type 0) (before : ℕ) (asked : Asked) (mine : List Act) where
         record {
           upsert = j.upsert;
           is = j.is;
+          alone = j.alone;
           found = j.found;
           bound = bound_later k k' asked.first j.found j.upsert.table (of_passes k k' h) j.bound;
           right = j.right;
@@ -287,6 +323,15 @@ module _ (sound : Type 0) (before : ℕ) (asked : Asked) (mine : List Act) where
           since = delete_since asked.first run.state k k' h j.since;
         },
       )
+  state_passes (state.Committing again run) k k' h f =
+      record {
+        held = f.held;
+        is = f.is;
+        asks = asks_later k k' asked.first asked.settings (seen_piece asked.piece) f.held again (of_passes k k' h) f.asks;
+        fits = commanding.fits-kept f.held run k k' h f.fits;
+        since = commit_since before run k k' h f.since;
+      }
+  state_passes (state.Counting name run) k k' h f = record { read = f.read; fits = numbering.fits-kept asked.first name run k k' h f.fits }
 
   pub fits_passes : (st : ItemState) (k k' : Known) → Passes k k' → Fits sound before asked mine st k → Fits sound before asked mine st k'
   fits_passes st k k' h f = record { begins = f.begins; within = longer k k' asked.first (of_passes k k' h) f.within; state = state_passes st k k' h f.state; done = f.done }
@@ -299,13 +344,13 @@ module _ (sound : Type 0) (before : ℕ) (asked : Asked) (mine : List Act) where
   no_stop own k f cs (inl e) = e
   no_stop own k f cs (inr e) = absurd e.0
 
-  not_changed : (x : Statement) (u : _) (f : Found) (e : BatchFault) (k : Known) (own : List Act) (a : Answered) → x ≡ s.Upsert u → IsRead (seen_piece asked.piece) (Ok x) → asked.settings.scn ≡ None → IsBoundTo k.base k.seen a.first f u.table
+  not_changed : (x : Statement) (u : _) (f : Found) (e : BatchFault) (k : Known) (own : List Act) (a : Answered) → x ≡ s.Upsert u → IsRead (seen_piece asked.piece) (Ok x) → asked.settings.scn ≡ None → asked.settings.autocommit ≡ true → IsBoundTo k.base k.seen a.first f u.table
       → upsert_faults f.table u ≡ [] → batch.FaultIs sound f.table.id (one_change f u) e k × batch.HasLeft f.table.id (one_change f u) e own k → batch.MadeSince before e k
       → right.Refuses a (right.batch_refusal (table_named x) e) asked.settings ⊎ (right.Refuses a refusal.Memory asked.settings × (e ≡ unmade.NoTable)) → IsRight sound (plain k) before own asked.settings (seen_piece asked.piece) a
-  not_changed x u f e k own a is read free bound none left since (inl says) =
-      right.is_not_changed u f e (subst (λ (y : Statement). IsRead (seen_piece asked.piece) (Ok y)) is read) free bound none (batch_plain sound f.table.id (one_change f u) e k left.0) (batch_since_plain before e k since) left.1
+  not_changed x u f e k own a is read free alone bound none left since (inl says) =
+      right.is_not_changed u f e (subst (λ (y : Statement). IsRead (seen_piece asked.piece) (Ok y)) is read) free alone bound none (batch_plain sound f.table.id (one_change f u) e k left.0) (batch_since_plain before e k since) left.1
       (subst (λ (y : Statement). right.Refuses a (right.batch_refusal (table_named y) e) asked.settings) is says)
-  not_changed x u f e k own a is read free bound none left since (inr says) =
+  not_changed x u f e k own a is read free alone bound none left since (inr says) =
       right.is_at_once (right.is_lacking says.0) (no_stop own k f (one_change f u) (subst (λ (g : BatchFault). batch.HasLeft f.table.id (one_change f u) g own k) says.1 left.1))
 
   -- 3. A batch goes on, and is over
@@ -326,6 +371,7 @@ module _ (sound : Type 0) (before : ℕ) (asked : Asked) (mine : List Act) where
           record {
             upsert = j.upsert;
             is = j.is;
+            alone = j.alone;
             found = j.found;
             bound = bound_later k k' asked.first j.found j.upsert.table later j.bound;
             right = j.right;
@@ -355,7 +401,7 @@ module _ (sound : Type 0) (before : ℕ) (asked : Asked) (mine : List Act) where
         told = (
           first_low a c.0,
           first_within k' a (longer k k' asked.first later f.within) c.0,
-          right.is_changed j.upsert j.found r (subst (λ (y : Statement). IsRead (seen_piece asked.piece) (Ok y)) j.is f.state.0.read) (f.state.0.free (ap changes j.is)) bound j.right (ended_plain j.found.table.id (one_change j.found j.upsert) own k' r ended) c.1,
+          right.is_changed j.upsert j.found r (subst (λ (y : Statement). IsRead (seen_piece asked.piece) (Ok y)) j.is f.state.0.read) (f.state.0.free (ap changes j.is)) j.alone bound j.right (ended_plain j.found.table.id (one_change j.found j.upsert) own k' r ended) c.1,
         );
       }
   change_is_over x old new room k k' (Err e) a f t c =
@@ -365,7 +411,7 @@ module _ (sound : Type 0) (before : ℕ) (asked : Asked) (mine : List Act) where
       let F : TableId × List Change × List Act → Type 0 = λ q. batch.FaultIs sound q.0 q.1 e k' × batch.HasLeft q.0 q.1 e q.2 k' in
       let left = subst F (λ i. (j.table i, j.changes i, sym (and_then _ t.acts f.done) i)) t.told.1 in
       let bound = subst (λ (n : ℕ). IsBoundTo k'.base k'.seen n j.found j.upsert.table) (sym c.0) (bound_later k k' asked.first j.found j.upsert.table later j.bound) in
-      record { acts = t.acts; ran = t.ran; told = (first_low a c.0, first_within k' a (longer k k' asked.first later f.within) c.0, not_changed x j.upsert j.found e k' own a j.is f.state.0.read (f.state.0.free (ap changes j.is)) bound j.right left (t.since before j.since) c.1) }
+      record { acts = t.acts; ran = t.ran; told = (first_low a c.0, first_within k' a (longer k k' asked.first later f.within) c.0, not_changed x j.upsert j.found e k' own a j.is f.state.0.read (f.state.0.free (ap changes j.is)) j.alone bound j.right left (t.since before j.since) c.1) }
 
   -- 4. A definition goes on, and is over
 
@@ -602,22 +648,25 @@ module _ (sound : Type 0) (before : ℕ) (asked : Asked) (mine : List Act) where
       let told = t.told mine j.done in
       record { acts = t.acts; ran = t.ran; told = (refl, delete_stays x old new k k' t.acts f t.ran t.fits told.0 told.1 (t.since asked.first j.since)) }
 
+  deletes_alone : (x : Statement) (y : Delete) → x ≡ s.Delete y → IsAsking asked x → asked.settings.autocommit ≡ true
+  deletes_alone x y is asking = on_when asked.settings.autocommit (ap (right.is_held_deletion asked.settings) (sym is) ∙ asking.alone)
+
   deletion_told : (x : Statement) (y : Delete) (f : Found) (k : Known) (own : List Act) (rs : List Receipt) (e : Result Removed DeleteFault) (a : Answered) → x ≡ s.Delete y → IsAsking asked x → IsBoundTo k.base k.seen a.first f y.table → delete_faults f.table.columns y ≡ []
-      → deleting.IsEnd sound (deletion_query f y) own k rs e → deleting.IsEndSince a.first e k → right.TellsEnd x e a.reply → a.receipts ≡ rs → a.places ≡ [] → a.after ≡ asked.settings → IsRight sound (plain k) before own asked.settings (seen_piece asked.piece) a
+      → deleting.IsEnd sound (deletion_query f y) own k rs e → deleting.IsEndSince a.first e k → right.TellsEnd x e a.reply → a.receipts ≡ rs → a.places ≡ [] → a.after ≡ Rattle.px_item.specs.declared.answered.After.TheVariants.Next asked.settings → IsRight sound (plain k) before own asked.settings (seen_piece asked.piece) a
   deletion_told x y f k own rs (Ok m) a is asking bound none end since tells receipts places after =
       let read = subst (λ (z : Statement). IsRead (seen_piece asked.piece) (Ok z)) is asking.read in
       let h = removed_plain sound (deletion_query f y) own k rs m end in
-      right.is_deleted y f m read (asking.free (ap changes is)) bound none (subst (λ (l : List Receipt). deleting.HasRemoved sound (deletion_query f y) own (plain k) l m) (sym receipts) h) since (tells, places, after)
+      right.is_deleted y f m read (asking.free (ap changes is)) (deletes_alone x y is asking) bound none (subst (λ (l : List Receipt). deleting.HasRemoved sound (deletion_query f y) own (plain k) l m) (sym receipts) h) since (tells, places, after)
   deletion_told x y f k own rs (Err (undeleted.Unread e)) a is asking bound none end since tells receipts places after =
       let read = subst (λ (z : Statement). IsRead (seen_piece asked.piece) (Ok z)) is asking.read in
       let out = outcome_plain sound (deletion_query f y) None own k (Err e) end.1 in
       let F : Statement → Type 0 = λ z. (a.reply ≡ reply.Refused (right.query_refusal (table_named z) e)) ⊎ (a.reply ≡ reply.Refused refusal.Memory) in
       let quiet = receipts ∙ end.0 in
-      right.is_not_found y f e read (asking.free (ap changes is)) bound none out (query_since_plain a.first e k since) (⊎_elim (λ h. inl (h, quiet, places, after)) (λ h. inr (h, quiet, places, after)) (subst F is tells))
+      right.is_not_found y f e read (asking.free (ap changes is)) (deletes_alone x y is asking) bound none out (query_since_plain a.first e k since) (⊎_elim (λ h. inl (h, quiet, places, after)) (λ h. inr (h, quiet, places, after)) (subst F is tells))
   deletion_told x y f k own rs (Err (undeleted.Unmade e)) a is asking bound none end since tells receipts places after =
       let read = subst (λ (z : Statement). IsRead (seen_piece asked.piece) (Ok z)) is asking.read in
       let h = stopped_plain sound (deletion_query f y) own k rs e end in
-      right.is_not_deleted y f e read (asking.free (ap changes is)) bound none (subst (λ (l : List Receipt). deleting.HasStopped sound (deletion_query f y) own (plain k) l e) (sym receipts) h) (batch_since_plain a.first e k since)
+      right.is_not_deleted y f e read (asking.free (ap changes is)) (deletes_alone x y is asking) bound none (subst (λ (l : List Receipt). deleting.HasStopped sound (deletion_query f y) own (plain k) l e) (sym receipts) h) (batch_since_plain a.first e k since)
       (subst (λ (z : Statement). right.StopsAt a.reply (table_named z) e) is tells) (places, after)
 
   pub delete_is_over : (x : Statement) (old new : DeleteRun) (k k' : Known) (d : Deleted) (a : Answered) → Fits sound before asked mine (state.Deleting x old) k
@@ -697,9 +746,11 @@ module _ (sound : Type 0) (before : ℕ) (asked : Asked) (mine : List Act) where
   told_without (s.Explain q) f k own r a read free bound (inr (inl e)) says quiet = right.is_wrong (s.Explain q) f e.0 read free bound e.1 (says.0 ∙ e.2, says.1, says.2, says.3) quiet
   told_without (s.Explain q) f k own r a read free bound (inr (inr e)) says quiet = explained_so q f e.1.0 k own r a read bound e.0 e.1.1 e.1.2 says quiet
 
-  goes_from : (x : Statement) (f : Found) (k : Known) (st : ItemState) → Fits sound before asked mine (state.Finding x) k → IsLegal k.base k.seen → IsFound k.base k.seen f → f.table.name ≡ table_named x → FollowsTo asked.settings.scn x f st → Fits sound before asked mine st k
-  goes_from x f k (state.Finding y) fits legal found named to = absurd to
-  goes_from x f k (state.Changing y run room) fits legal found named (same, n) =
+  goes_from : (x : Statement) (f : Found) (k : Known) (st : ItemState) → Fits sound before asked mine (state.Finding x) k → IsLegal k.base k.seen → IsFound k.base k.seen f → f.table.name ≡ table_named x → holds asked.settings x ≡ false → FollowsTo asked.settings.scn x f st → Fits sound before asked mine st k
+  goes_from x f k (state.Finding y) fits legal found named off to = absurd to
+  goes_from x f k (state.Committing again run) fits legal found named off to = absurd to
+  goes_from x f k (state.Counting name run) fits legal found named off to = absurd to
+  goes_from x f k (state.Changing y run room) fits legal found named off (same, n) =
       let low = fits.begins in
       let within = fits.within in
       let b = bound_here k (table_named x) f fits.within found named in
@@ -714,6 +765,7 @@ module _ (sound : Type 0) (before : ℕ) (asked : Asked) (mine : List Act) where
           record {
             upsert = n.0;
             is = same ∙ n.1;
+            alone = on_when asked.settings.autocommit (ap (holds asked.settings) (sym n.1) ∙ off);
             found = f;
             bound = subst (λ (z : Statement). IsBoundTo k.base k.seen asked.first f (table_named z)) n.1 b;
             right = n.2;
@@ -727,7 +779,7 @@ module _ (sound : Type 0) (before : ℕ) (asked : Asked) (mine : List Act) where
         );
         done = fits.done ∙ begins.3;
       }
-  goes_from x f k (state.Defining y run) fits legal found named (same, n) =
+  goes_from x f k (state.Defining y run) fits legal found named off (same, n) =
       let b = bound_here k (table_named x) f fits.within found named in
       let F : DefineState → Type 0 = λ z. define.Fits sound run.definition z k × define.IsGoing z in
       let begins = subst F (sym n.2) (may_drop k f x run.definition n.1, tt) in
@@ -738,7 +790,7 @@ module _ (sound : Type 0) (before : ℕ) (asked : Asked) (mine : List Act) where
         state = (subst (λ (z : Statement). IsAsking asked z) (sym same) fits.state, inl (subst (λ (z : Statement). IsDropping sound asked z run k) (sym same) dropping));
         done = fits.done;
       }
-  goes_from x f k (state.Indexing y run) fits legal found named (same, n) =
+  goes_from x f k (state.Indexing y run) fits legal found named off (same, n) =
       let what = new_index f.table n.0 in
       let b = bound_here k (table_named x) f fits.within found named in
       let F : IndexRun → Type 0 = λ r. indexing.Fits sound asked.first what r k × ([] ≡ indexing.begun r) in
@@ -752,7 +804,7 @@ module _ (sound : Type 0) (before : ℕ) (asked : Asked) (mine : List Act) where
         );
         done = fits.done ∙ new.1;
       }
-  goes_from x f k (state.Selecting y run) fits legal found named (same, n) =
+  goes_from x f k (state.Selecting y run) fits legal found named off (same, n) =
       let low = fits.begins in
       let b = bound_here k (table_named x) f fits.within found named in
       let wide : IsBoundTo k.base k.seen before f (table_named x) = record { place = b.place; from = (let u = b.from in omega arith); within = b.within; found = b.found; named = b.named } in
@@ -781,7 +833,7 @@ module _ (sound : Type 0) (before : ℕ) (asked : Asked) (mine : List Act) where
         );
         done = fits.done ∙ new.2;
       }
-  goes_from x f k (state.Deleting y run) fits legal found named (same, n) =
+  goes_from x f k (state.Deleting y run) fits legal found named off (same, n) =
       let b = bound_here k (table_named x) f fits.within found named in
       let p = deletion_query f n.0 in
       let bound : scan.IsBound k (query_of p) = record { drawn = found.drawn; is = λ t has. sym (some_same f.table t (sym found.table ∙ has)) } in
@@ -813,17 +865,177 @@ module _ (sound : Type 0) (before : ℕ) (asked : Asked) (mine : List Act) where
   nothing_more : mine ≡ [] → mine ++ [] ≡ []
   nothing_more same = append-nil mine ∙ same
 
-  pub found_one : (x : Statement) (f : Found) (k k' : Known) (t : ItemTurn) → Fits sound before asked mine (state.Finding x) k → DidFind k k' (table_named x) f → Follows asked x f t → Turns sound before asked mine k k' t
-  found_one x f k k' (turn.Stepped r) fits did to =
+  pub found_one : (x : Statement) (f : Found) (k k' : Known) (t : ItemTurn) → Fits sound before asked mine (state.Finding x) k → holds asked.settings x ≡ false → DidFind k k' (table_named x) f → Follows asked x f t → Turns sound before asked mine k k' t
+  found_one x f k k' (turn.Stepped r) fits off did to =
       let ran = ran-sees k k' did.finds.sees in
-      let went = goes_from x f k' r.state (fits_later x k k' (of_ran k k' [] ran) fits) did.finds.sees.passes.legal did.found did.name_is to.1 in
+      let went = goes_from x f k' r.state (fits_later x k k' (of_ran k k' [] ran) fits) did.finds.sees.passes.legal did.found did.name_is off to.1 in
       record { acts = []; ran = ran; told = (to.0, subst (λ (l : List Act). Fits sound before asked l r.state k') (sym (append-nil mine)) went) }
-  found_one x f k k' (turn.Waiting r) fits did to = absurd to
-  found_one x f k k' (turn.Over a) fits did to =
+  found_one x f k k' (turn.Waiting r) fits off did to = absurd to
+  found_one x f k k' (turn.Over a) fits off did to =
       let ran = ran-sees k k' did.finds.sees in
       let later = fits_later x k k' (of_ran k k' [] ran) fits in
       let b = subst (λ (n : ℕ). IsBoundTo k'.base k'.seen n f (table_named x)) (sym to.0) (bound_here k' (table_named x) f later.within did.found did.name_is) in
       record { acts = []; ran = ran; told = (first_low a to.0, first_within k' a later.within to.0, told_without x f k' (mine ++ []) to.1.0 a fits.state.read fits.state.free b to.1.1 to.1.2 (nothing_more fits.done)) }
+
+  -- its row is held, or what was held is committed first
+  module _ (x : Statement) (f : Found) (k k' : Known) (fits : Fits sound before asked mine (state.Finding x) k) (on : holds asked.settings x ≡ true) (did : DidFind k k' (table_named x) f) where
+    found_ran : Ran k k' []
+    found_ran = ran-sees k k' did.finds.sees
+
+    found_fits : Fits sound before asked mine (state.Finding x) k'
+    found_fits = fits_later x k k' (of_ran k k' [] found_ran) fits
+
+    found_bound : IsBoundTo k'.base k'.seen asked.first f (table_named x)
+    found_bound = bound_here k' (table_named x) f found_fits.within did.found did.name_is
+
+    held_off : asked.settings.autocommit ≡ false
+    held_off = off_when asked.settings.autocommit (right.is_upsert x) on
+
+    bound_by : (a : Answered) → a.first ≡ asked.first → IsBoundTo (plain k').base (plain k').seen a.first f (table_named x)
+    bound_by a first = subst (λ (n : ℕ). IsBoundTo k'.base k'.seen n f (table_named x)) (sym first) found_bound
+
+    held_over : (a : Answered) → a.first ≡ asked.first → IsRight sound (plain k') before (mine ++ []) asked.settings (seen_piece asked.piece) a → Turns sound before asked mine k k' (turn.Over a)
+    held_over a first right = record { acts = []; ran = found_ran; told = (first_low a first, first_within k' a found_fits.within first, right) }
+
+    to_commit : (u : Rattle.px_ast.specs.declared.statement.Upsert.Upsert) (st : ItemState) → x ≡ s.Upsert u → upsert_faults f.table u ≡ [] → GoesToCommit asked f.table st → Fits sound before asked mine st k'
+    to_commit u (state.Finding y) is none g = absurd g
+    to_commit u (state.Changing y run room) is none g = absurd g
+    to_commit u (state.Defining y run) is none g = absurd g
+    to_commit u (state.Indexing y run) is none g = absurd g
+    to_commit u (state.Selecting y run) is none g = absurd g
+    to_commit u (state.Deleting y run) is none g = absurd g
+    to_commit u (state.Counting name run) is none g = absurd g
+    to_commit u (state.Committing again run) is none g =
+        let h = g.2.0 in
+        let low = found_fits.begins in
+        let within = found_fits.within in
+        let way : MakesWay k' asked.first asked.settings (seen_piece asked.piece) h = record {
+          upsert = u;
+          found = f;
+          read = subst (λ (y : Statement). IsRead (seen_piece asked.piece) (Ok y)) is found_fits.state.read;
+          free = found_fits.state.free (ap changes is);
+          off = held_off;
+          bound = subst (λ (y : Statement). IsBoundTo k'.base k'.seen asked.first f (table_named y)) is found_bound;
+          right = none;
+          other = g.2.2;
+        } in
+        let F : CommitRun → Type 0 = λ r. commits.Fits h r k' × commits.IsSince before r k' × ([] ≡ commits.begun r) in
+        let new = subst F (sym g.1) (tt, omega arith, refl) in
+        record {
+          begins = found_fits.begins;
+          within = found_fits.within;
+          state = record { held = h; is = g.2.1; asks = subst (λ (b : Bool). AsksToCommit k' asked.first asked.settings (seen_piece asked.piece) h b) (sym g.0) (inr way); fits = new.0; since = new.1 };
+          done = found_fits.done ∙ new.2;
+        }
+
+    pub held_one : (t : ItemTurn) → right.Holds asked x f t → Turns sound before asked mine k k' t
+    held_one t (inl h) =
+        let a = h.0 in
+        let quiet = nothing_more fits.done in
+        let over = held_over a h.2 (⊎_elim
+        (λ lacks. right.is_at_once (right.is_lacking lacks) quiet)
+        (λ e. right.is_wrong x f e.0 found_fits.state.read found_fits.state.free (bound_by a h.2) e.1 e.2 quiet) h.3) in
+        subst (λ (y : ItemTurn). Turns sound before asked mine k k' y) (sym h.1) over
+    held_one (turn.Stepped r) (inr h) =
+        let went = to_commit h.0 r.state h.1 h.2 h.3.1 in
+        record { acts = []; ran = found_ran; told = (h.3.0, subst (λ (l : List Act). Fits sound before asked l r.state k') (sym (append-nil mine)) went) }
+    held_one (turn.Waiting r) (inr h) = absurd h.3
+    held_one (turn.Over a) (inr h) =
+        let u = h.0 in
+        let is = h.1 in
+        let none = h.2 in
+        let first = h.3.0 in
+        let quiet = nothing_more fits.done in
+        let read = subst (λ (y : Statement). IsRead (seen_piece asked.piece) (Ok y)) is found_fits.state.read in
+        let free = found_fits.state.free (ap changes is) in
+        let b = subst (λ (y : Statement). IsBoundTo k'.base k'.seen a.first f (table_named y)) is (bound_by a first) in
+        held_over a first (⊎_elim
+        (λ lacks. right.is_at_once (right.is_lacking lacks) quiet)
+        (λ more. ⊎_elim
+        (λ held. right.is_held u f held.0 read free held_off b none held.1 held.2 quiet)
+        (λ full. right.is_full u f read free held_off b none full.0 full.1 quiet) more) h.3.1)
+
+  -- what is held is committed
+
+  held_is : (again : Bool) (run : CommitRun) (h : HeldData) (k : Known) → asked.settings.held ≡ Some h → (f : IsCommitting before asked again run k) → f.held ≡ h
+  held_is again run h k is f = some_data f.held h (sym f.is ∙ is)
+
+  pub commit_fits : (again : Bool) (run : CommitRun) (h : HeldData) (k : Known) → asked.settings.held ≡ Some h → IsCommitting before asked again run k → commits.Fits h run k
+  commit_fits again run h k is f = subst (λ (x : HeldData). commits.Fits x run k) (held_is again run h k is f) f.fits
+
+  asks_now : (again : Bool) (run : CommitRun) (h : HeldData) (k k' : Known) → asked.settings.held ≡ Some h → IsCommitting before asked again run k → Later k k' → AsksToCommit k' asked.first asked.settings (seen_piece asked.piece) h again
+  asks_now again run h k k' is f later =
+      asks_later k k' asked.first asked.settings (seen_piece asked.piece) h again later (subst (λ (x : HeldData). AsksToCommit k asked.first asked.settings (seen_piece asked.piece) x again) (held_is again run h k is f) f.asks)
+
+  commit_stays : (again : Bool) (old new : CommitRun) (h : HeldData) (k k' : Known) (acts : List Act) → asked.settings.held ≡ Some h → Fits sound before asked mine (state.Committing again old) k → Ran k k' acts → commits.Fits h new k' → commits.begun old ++ outline acts ≡ commits.begun new
+      → commits.IsSince before new k' → Fits sound before asked (mine ++ outline acts) (state.Committing again new) k'
+  commit_stays again old new h k k' acts is f ran fits sum since =
+      let later = of_ran k k' acts ran in
+      record {
+        begins = f.begins;
+        within = longer k k' asked.first later f.within;
+        state = record { held = h; is = is; asks = asks_now again old h k k' is f.state later; fits = fits; since = since };
+        done = and_then (commits.begun old) acts f.done ∙ sum;
+      }
+
+  pub commit_goes_on : (again : Bool) (old new : CommitRun) (h : HeldData) (k k' : Known) → asked.settings.held ≡ Some h → Fits sound before asked mine (state.Committing again old) k → commits.Turns sound h old k k' (ct.Stepped new)
+      → Turns sound before asked mine k k' (turn.Stepped (record { asked = asked; state = state.Committing again new }))
+  commit_goes_on again old new h k k' is f t = record { acts = t.acts; ran = t.ran; told = (refl, commit_stays again old new h k k' t.acts is f t.ran t.told.0 t.told.1 (t.since before f.state.since)) }
+
+  pub commit_waits : (again : Bool) (old new : CommitRun) (h : HeldData) (k k' : Known) → asked.settings.held ≡ Some h → Fits sound before asked mine (state.Committing again old) k → commits.Turns sound h old k k' (ct.Waiting new)
+      → Turns sound before asked mine k k' (turn.Waiting (record { asked = asked; state = state.Committing again new }))
+  commit_waits again old new h k k' is f t = record { acts = t.acts; ran = t.ran; told = (refl, commit_stays again old new h k k' t.acts is f t.ran t.told.0 t.told.1 (t.since before f.state.since)) }
+
+  commit_told : (again : Bool) (h : HeldData) (k : Known) (own : List Act) (r : Result (Vec Receipt Global) BatchFault) (a : Answered) → asked.settings.held ≡ Some h → AsksToCommit k a.first asked.settings (seen_piece asked.piece) h again → commits.IsOutcome sound h own k r
+      → commits.IsSinceThen before k (ct.Over r) → right.CommitTold asked h again r a → IsRight sound (plain k) before own asked.settings (seen_piece asked.piece) a
+  commit_told again h k own (Ok rs) a is asks out since c = right.is_committed again h rs is (asks_plain k a.first asked.settings (seen_piece asked.piece) h again asks) (committed_plain sound h own k (Ok rs) out) c
+  commit_told again h k own (Err e) a is asks out since c =
+      right.is_not_committed again h e is (asks_plain k a.first asked.settings (seen_piece asked.piece) h again asks) (committed_plain sound h own k (Err e) out) (batch_since_plain before e k since) c.0 (c.1, c.2, c.3)
+
+  pub commit_is_over : (again : Bool) (old : CommitRun) (h : HeldData) (k k' : Known) (r : Result (Vec Receipt Global) BatchFault) (a : Answered) → asked.settings.held ≡ Some h → Fits sound before asked mine (state.Committing again old) k → commits.Turns sound h old k k' (ct.Over r)
+      → IsCommitted asked again r a → Turns sound before asked mine k k' (turn.Over a)
+  commit_is_over again old h k k' r a is f t c =
+      let later = of_ran k k' t.acts t.ran in
+      let first = c.0 in
+      let same : c.1.0 ≡ h = some_data c.1.0 h (sym c.1.1 ∙ is) in
+      let asks = subst (λ (n : ℕ). AsksToCommit k' n asked.settings (seen_piece asked.piece) h again) (sym first) (asks_now again old h k k' is f.state later) in
+      let told = subst (λ (x : HeldData). right.CommitTold asked x again r a) same c.1.2 in
+      let own = mine ++ outline t.acts in
+      let out = subst (λ (l : List Act). commits.IsOutcome sound h l k' r) (sym (and_then (commits.begun old) t.acts f.done)) t.told in
+      record { acts = t.acts; ran = t.ran; told = (first_low a first, first_within k' a (longer k k' asked.first later f.within) first, commit_told again h k' own r a is asks out (t.since before f.state.since) told) }
+
+  -- a table is counted
+
+  pub count_goes_on : (name : List ℕ) (old new : CountRun) (k k' : Known) → Fits sound before asked mine (state.Counting name old) k → ((n : ℕ) → counts.Fits n name old k → counts.Turns n name old k k' (nt.Stepped new))
+      → Turns sound before asked mine k k' (turn.Stepped (record { asked = asked; state = state.Counting name new }))
+  count_goes_on name old new k k' f turns =
+      let t = turns asked.first f.state.fits in
+      let later = of_ran k k' t.acts t.ran in
+      record { acts = t.acts; ran = t.ran; told = (refl, record { begins = f.begins; within = longer k k' asked.first later f.within; state = record { read = f.state.read; fits = t.told }; done = and_then [] t.acts f.done ∙ t.quiet }) }
+
+  count_told : (name : List ℕ) (k : Known) (own : List Act) (r : Result Status CountFault) (a : Answered) → right.IsCommandRead (seen_piece asked.piece) (Ok (Rattle.px_commands.specs.declared.command.Command.TheVariants.Status name)) → counts.IsOutcome a.first name k r → counts.IsSinceThen before k (nt.Over r)
+      → IsCounted asked name r a → own ≡ [] → IsRight sound (plain k) before own asked.settings (seen_piece asked.piece) a
+  count_told name k own (Ok x) a read out since c quiet = right.is_counted name x read (counted_plain a.first name k (Ok x) out) c.1 quiet
+  count_told name k own (Err e) a read out since c quiet = right.is_not_counted name e read (counted_plain a.first name k (Err e) out) (count_since_plain before e k since) c.1 quiet
+
+  counted_first : (name : List ℕ) (r : Result Status CountFault) (a : Answered) → IsCounted asked name r a → a.first ≡ asked.first
+  counted_first name (Ok x) a c = c.0
+  counted_first name (Err e) a c = c.0
+
+  pub count_is_over : (name : List ℕ) (old : CountRun) (k k' : Known) (r : Result Status CountFault) (a : Answered) → Fits sound before asked mine (state.Counting name old) k → ((n : ℕ) → counts.Fits n name old k → counts.Turns n name old k k' (nt.Over r))
+      → IsCounted asked name r a → Turns sound before asked mine k k' (turn.Over a)
+  count_is_over name old k k' r a f turns c =
+      let t = turns asked.first f.state.fits in
+      let later = of_ran k k' t.acts t.ran in
+      let first = counted_first name r a c in
+      let low = f.begins in
+      let within = f.within in
+      let out = subst (λ (n : ℕ). counts.IsOutcome n name k' r) (sym first) t.told in
+      record {
+        acts = t.acts;
+        ran = t.ran;
+        told = (first_low a first, first_within k' a (longer k k' asked.first later f.within) first, count_told name k' (mine ++ outline t.acts) r a f.state.read out (t.since before (omega arith)) c (and_then [] t.acts f.done ∙ t.quiet));
+      }
 
   -- 6. It was not
 
@@ -871,13 +1083,7 @@ module _ (sound : Type 0) (before : ℕ) (asked : Asked) (mine : List Act) where
       let ran = ran-sees k k' q.1 in
       record { acts = []; ran = ran; told = (first_low a first, first_within k' a (fits_later x k k' (of_ran k k' [] ran) fits).within first, unfound_so x f k k' r a (mine ++ []) (fits_later x k k' (of_ran k k' [] ran) fits) q.0 first told says (nothing_more fits.done)) }
 
--- 7. Commands
-
-pub commanded_so : (st : Settings) (p : SeenPiece) (c : Command) (first : ℕ) (a : Answered) → right.IsCommandRead p (Ok c) → right.IsCommanded st c first a → IsAtOnce st p a
-commanded_so st p c first a read (at, inl (built, says)) = right.is_command c read built says
-commanded_so st p c first a read (at, inr (built, says)) = right.is_command_not_built c read built says
-
--- 8. One change
+-- 7. One change
 
 pub one_distinct : (x : Change) → is_distinct (rows_of (x ∷ [])) ≡ true
 unfolding is_distinct has

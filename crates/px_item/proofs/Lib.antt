@@ -1,3 +1,4 @@
+pub mod Again
 pub mod Plain
 pub mod Newly
 pub mod Starting

@@ -1,5 +1,8 @@
 -- What is told of the trail alone doesn't depend on whether others act.
-use Rattle.std.proofs.Common.{ℕ, Option, None, Some, Result, Ok, Err, List, [], refl, sym}
+use Rattle.std.proofs.Common.{ℕ, Bool, true, false, Option, None, Some, Result, Ok, Err, List, [], Vec, refl, sym, ◌⊎◌, inl, inr}
+use Rattle.std.specs.Global.{Global}
+use Rattle.px_lex.specs.Script.{SeenPiece}
+use Rattle.px_item.specs.declared.answered.Settings.{Settings}
 use Rattle.std.proofs.lemmas.List.{append-nil}
 use Rattle.px_values.specs.declared.change.Change.{Change}
 use Rattle.px_values.specs.declared.limit.Limit.{Limit}
@@ -39,7 +42,13 @@ use Rattle.px_select.specs.declared.run.Selected.{Selected}
 use Rattle.px_deleting.specs.Deleting as deleting
 use Rattle.px_deleting.specs.declared.deleted.Removed.{Removed}
 use Rattle.px_deleting.proofs.Past.{Later, all-later, found-later}
-use Rattle.px_item.specs.Right.{plain}
+use Rattle.px_commanding.specs.Commits as commits
+use Rattle.px_commanding.specs.Counts as counts
+use Rattle.px_commanding.specs.declared.count.CountFault.{CountFault}
+use Rattle.px_commanding.specs.declared.count.CountFault.TheVariants as uncounted
+use Rattle.px_held.specs.HeldData.{HeldData}
+use Rattle.px_calls.specs.declared.status.Status.{Status}
+use Rattle.px_item.specs.Right.{MakesWay, AsksToCommit, plain}
 
 limit_plain : (sound : Type 0) (t : ℕ) (cs : List Change) (which : Limit) (k : Known) → batch_limit sound t cs which k → batch_limit sound t cs which (plain k)
 limit_plain sound t cs bound.Key k h = h
@@ -222,3 +231,40 @@ stopped_plain sound p own k rs f h =
       outcome = (batch_plain sound p.table.id (Rattle.std.specs.Prelude.take 1000 h.rest) f k h.outcome.0, h.outcome.1);
       own_is = h.own_is;
     }
+
+commit_plain : (sound : Type 0) (h : HeldData) (f : BatchFault) (k : Known) → commits.FaultIs sound h f k → commits.FaultIs sound h f (plain k)
+commit_plain sound h unmade.NoTable k i = i
+commit_plain sound h (unmade.Limit which count) k i = (i.0, i.1, limit_plain sound h.table.0 h.changes which k i.2)
+commit_plain sound h unmade.ReadFault k i = i
+commit_plain sound h unmade.WriteFault k i = i
+commit_plain sound h (unmade.Damaged file place) k i = i
+commit_plain sound h (unmade.Closed call) k i = i
+commit_plain sound h unmade.Memory k i = i
+
+pub committed_plain : (sound : Type 0) (h : HeldData) (own : List Act) (k : Known) (r : Result (Vec Receipt Global) BatchFault) → commits.IsOutcome sound h own k r → commits.IsOutcome sound h own (plain k) r
+committed_plain sound h own k (Ok rs) o = (o.0, o.1, ended_plain h.table h.changes own k o.0 o.2)
+committed_plain sound h own k (Err f) o = (commit_plain sound h f k o.0, o.1)
+
+pub asks_plain : (k : Known) (first : ℕ) (st : Settings) (p : SeenPiece) (h : HeldData) (again : Bool) → AsksToCommit k first st p h again → AsksToCommit (plain k) first st p h again
+asks_plain k first st p h true (inl a) = inl a
+asks_plain k first st p h true (inr m) = inr (record { upsert = m.upsert; found = m.found; read = m.read; free = m.free; off = m.off; bound = m.bound; right = m.right; other = m.other })
+asks_plain k first st p h false a = a
+
+was_found_plain : (n : ℕ) (name : List ℕ) (t : TableId) (k : Known) → counts.WasFound n name t k → counts.WasFound n name t (plain k)
+was_found_plain n name t k w = record { place = w.place; from = w.from; within = w.within; found = w.found; is = w.is; named = w.named; number = w.number }
+
+uncounted_plain : (n : ℕ) (name : List ℕ) (f : CountFault) (k : Known) → counts.FaultIs n name f k → counts.FaultIs n name f (plain k)
+uncounted_plain n name uncounted.NoTable k (inl i) = inl i
+uncounted_plain n name uncounted.NoTable k (inr i) = inr (i.0, was_found_plain n name i.0 k i.1, i.2)
+uncounted_plain n name uncounted.ReadFault k i = i
+uncounted_plain n name (uncounted.Damaged file place) k i = i
+uncounted_plain n name (uncounted.Closed call) k i = i
+uncounted_plain n name uncounted.Memory k i = i
+
+pub counted_plain : (n : ℕ) (name : List ℕ) (k : Known) (r : Result Status CountFault) → counts.IsOutcome n name k r → counts.IsOutcome n name (plain k) r
+counted_plain n name k (Ok x) o = (o.0, was_found_plain n name o.0 k o.1, record { last = o.2.last; horizon = o.2.horizon; each = o.2.each; rising = o.2.rising; all = o.2.all })
+counted_plain n name k (Err f) o = uncounted_plain n name f k o
+
+pub count_since_plain : (n : ℕ) (f : CountFault) (k : Known) → counts.MadeSince n f k → counts.MadeSince n f (plain k)
+count_since_plain n uncounted.ReadFault k h = h
+count_since_plain n f k h = h

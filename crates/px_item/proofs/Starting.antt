@@ -1,6 +1,12 @@
 -- How an item begins.
-use Rattle.std.proofs.Common.{ℕ, ◌≡◌, ◌≤◌, true, length, Some, Ok, Err, [], refl, sym, ◌∙◌, ap, subst, inl, inr}
-use Rattle.px_lex.specs.Script.{SeenPiece}
+use Rattle.std.proofs.Common.{ℕ, ◌≡◌, ◌≢◌, ◌≤◌, Bool, true, false, length, Option, None, Some, Ok, Err, [], refl, sym, ◌∙◌, ap, subst, inl, inr, arith}
+use Rattle.px_lex.specs.Script.{SeenPiece, seen_piece}
+use Rattle.px_held.specs.HeldData.{HeldData}
+use Rattle.px_commands.specs.declared.command.Command.{Command}
+use Rattle.px_commanding.specs.Commits as commits
+use Rattle.px_commanding.specs.Counts as counts
+use Rattle.px_commanding.specs.declared.commit.CommitRun.{CommitRun}
+use Rattle.px_commanding.specs.declared.count.CountRun.{CountRun}
 use Rattle.px_ast.specs.declared.statement.Statement.{Statement}
 use Rattle.px_ast.specs.declared.statement.Statement.TheVariants as s
 use Rattle.px_calls.specs.declared.definition.Definition.{Definition}
@@ -16,7 +22,7 @@ use Rattle.px_item.specs.declared.item.ItemRun.{ItemRun}
 use Rattle.px_item.specs.declared.item.ItemState.{ItemState}
 use Rattle.px_item.specs.declared.item.ItemState.TheVariants as state
 use Rattle.px_item.specs.Right as right
-use Rattle.px_item.specs.Right.{IsAtOnce, IsCreation, IsCreationIf, IsRead, MayRun, Refuses, creates_table, is_built, is_none_of}
+use Rattle.px_item.specs.Right.{AsksCommit, AsksToCommit, IsAtOnce, IsCreation, IsCreationIf, IsRead, MayRun, Refuses, creates_table, is_built, is_none_of}
 use Rattle.px_item.specs.Turns.{Fits, FitsState, HasBegun, IsAsking, IsBegun, IsStart}
 
 pub refused_so : (st : Settings) (p : SeenPiece) (x : Statement) (r : Refusal) (a : Answered) → IsRead p (Ok x) → MayRun st x → is_built x ≡ true → IsCreationIf x (Some (Err r)) → Refuses a r st → IsAtOnce st p a
@@ -24,21 +30,49 @@ refused_so st p (s.CreateTable t) r a read free built (inl e) says = right.is_la
 refused_so st p (s.CreateTable t) r a read free built (inr e) says = right.is_wrong_table t e.0 read built (free refl) e.1 (says.0 ∙ ap reply.Refused e.2, says.1, says.2, says.3)
 refused_so st p x r a read free built h says = absurd h
 
-start_state : (sound : Type 0) (before : ℕ) (asked : Asked) (x : Statement) (st : ItemState) (k : Known) → IsAsking asked x → IsStart x st → FitsState sound before asked [] st k × HasBegun [] st
-start_state sound before asked x (state.Finding y) k a i = (subst (λ (z : Statement). IsAsking asked z) (sym i.0) a, refl)
-start_state sound before asked x (state.Changing y run room) k a i = absurd i
-start_state sound before asked x (state.Defining y run) k a i =
+pub none_is : (o : Option HeldData) → Rattle.std.specs.Option.is_some o ≡ false → o ≡ None
+none_is None e = refl
+none_is (Some h) e = cc
+
+-- what a command is answered at once
+pub commanded_so : (st : Settings) (p : SeenPiece) (c d : Command) (a : Answered) (first : ℕ) → right.IsCommandRead p (Ok c) → c ≡ d → right.SaysOf st d a → a.first ≡ first → IsAtOnce st p a × (a.first ≡ first)
+commanded_so st p c d a first read is says here = (right.is_command c read (subst (λ (y : Command). right.SaysOf st y a) (sym is) says), here)
+
+pub uncommanded_so : (st : Settings) (p : SeenPiece) (c d : Command) (a : Answered) (first : ℕ) → right.IsCommandRead p (Ok c) → c ≡ d → right.is_command_built d ≡ false → Refuses a Rattle.px_reply.specs.declared.refusal.Refusal.TheVariants.Form st → a.first ≡ first → IsAtOnce st p a × (a.first ≡ first)
+uncommanded_so st p c d a first read is built says here = (right.is_command_not_built c read (ap right.is_command_built is ∙ built) says, here)
+
+-- why a command commits what is held
+asks_itself : (k : Known) (first : ℕ) (st : Settings) (p : SeenPiece) (h : HeldData) (again : Bool) → AsksCommit p again → AsksToCommit k first st p h again
+asks_itself k first st p h true a = inl a
+asks_itself k first st p h false a = a
+
+some_held : (o : Option HeldData) → o ≢ None → (h : HeldData) × (o ≡ Some h)
+some_held None some = absurd (some refl)
+some_held (Some h) some = (h, refl)
+
+start_state : (sound : Type 0) (before : ℕ) (asked : Asked) (st : ItemState) (k : Known) → before ≤ asked.first → asked.first ≤ length k.seen → IsStart asked st → FitsState sound before asked [] st k × HasBegun [] st
+start_state sound before asked (state.Finding y) k low within i = (i.0, refl)
+start_state sound before asked (state.Changing y run room) k low within i = absurd i
+start_state sound before asked (state.Defining y run) k low within i =
     let c = i.1.3 in
     let F : Definition × DefineState → Type 0 = λ q. define.Fits sound q.0 q.1 k × define.IsGoing q.1 in
     let fits = subst F (λ j. (sym c.1 j, sym c.2 j)) (c.3, tt) in (
-      (subst (λ (z : Statement). IsAsking asked z) (sym i.0) a, inr record { create = i.1.0; is = i.0 ∙ i.1.1; whole = i.1.2; right = c.0; definition = c.1; fits = fits.0; going = fits.1 }),
+      (i.0, inr record { create = i.1.0; is = i.1.1; whole = i.1.2; right = c.0; definition = c.1; fits = fits.0; going = fits.1 }),
       refl,
     )
-start_state sound before asked x (state.Indexing y run) k a i = absurd i
-start_state sound before asked x (state.Selecting y run) k a i = absurd i
-start_state sound before asked x (state.Deleting y run) k a i = absurd i
+start_state sound before asked (state.Indexing y run) k low within i = absurd i
+start_state sound before asked (state.Selecting y run) k low within i = absurd i
+start_state sound before asked (state.Deleting y run) k low within i = absurd i
+start_state sound before asked (state.Committing again run) k low within i =
+    let h = some_held asked.settings.held i.1 in
+    let F : CommitRun → Type 0 = λ r. commits.Fits h.0 r k × commits.IsSince before r k × ([] ≡ commits.begun r) in
+    let new = subst F (sym i.2) (tt, omega arith, refl) in
+    (record { held = h.0; is = h.1; asks = asks_itself k asked.first asked.settings (seen_piece asked.piece) h.0 again i.0; fits = new.0; since = new.1 }, new.2)
+start_state sound before asked (state.Counting name run) k low within i =
+    let F : CountRun → Type 0 = λ r. counts.Fits asked.first name r k in
+    (record { read = i.0; fits = subst F (sym i.1) within }, refl)
 
 -- an item that was begun is as the trail tells, and has begun nothing of its own
 pub starts_fitting : (sound : Type 0) (before : ℕ) (st : Settings) (p : SeenPiece) (r : ItemRun) (k : Known) → before ≤ r.asked.first → r.asked.first ≤ length k.seen → IsBegun st p r → Fits sound before r.asked [] r.state k
 starts_fitting sound before st p r k low within b =
-    let s = start_state sound before r.asked b.statement r.state k b.asks b.state in record { begins = low; within = within; state = s.0; done = s.1 }
+    let s = start_state sound before r.asked r.state k low within b.state in record { begins = low; within = within; state = s.0; done = s.1 }

@@ -1,12 +1,12 @@
 -- What is right to answer to a statement or a session command, by what the seat has then seen.
-use Rattle.std.specs.Prelude.{ℕ, ◌≡◌, ◌≤◌, ◌<◌, ◌+◌, ◌-◌, ◌⊎◌, Bool, true, false, if◌then◌else◌, List, [], ◌∷◌, length, take, min, vec_capacity, Option, None, Some, Result, Ok, Err, Vec}
+use Rattle.std.specs.Prelude.{ℕ, ◌≡◌, ◌≢◌, ◌≤◌, ◌<◌, ◌+◌, ◌-◌, ◌⊎◌, ◌&&◌, not, Bool, true, false, if◌then◌else◌, List, [], ◌∷◌, length, take, min, vec_capacity, Option, None, Some, Result, Ok, Err, Vec}
 use Rattle.std.specs.Global.{Global}
 use Rattle.std.specs.Option.{is_some, option_map}
 use Rattle.px_values.specs.Limits.{most_of}
 use Rattle.px_values.specs.declared.change.Change.{Change}
 use Rattle.px_values.specs.declared.limit.Limit.TheVariants as bound
 use Rattle.px_values.specs.declared.name.TableId.{TableId}
-use Rattle.px_values.specs.declared.print.CountWord.TheVariants.{Affected}
+use Rattle.px_values.specs.declared.print.CountWord.TheVariants.{Affected, Held}
 use Rattle.px_lex.specs.Lexemes.{IsReading, Lexeme}
 use Rattle.px_lex.specs.Script.{SeenPiece, seen_piece}
 use Rattle.px_lex.specs.declared.script.PieceKind.TheVariants as kinds
@@ -20,11 +20,19 @@ use Rattle.px_ast.specs.declared.definition.DropIndex.{DropIndex}
 use Rattle.px_parse.specs.Texts as texts
 use Rattle.px_parse.specs.declared.syntax.SyntaxFault.{SyntaxFault}
 use Rattle.px_parse.specs.declared.syntax.SyntaxFault.TheVariants as syntax
+use Rattle.px_commanding.specs.Commits as commits
+use Rattle.px_commanding.specs.Counts as counts
+use Rattle.px_commanding.specs.declared.commit.CommitRun.TheVariants as committing
+use Rattle.px_commanding.specs.declared.count.CountFault.{CountFault}
+use Rattle.px_commanding.specs.declared.count.CountFault.TheVariants as uncounted
 use Rattle.px_commands.specs.Commands as said
 use Rattle.px_commands.specs.declared.command.Command.{Command}
 use Rattle.px_commands.specs.declared.command.Command.TheVariants as commands
 use Rattle.px_commands.specs.declared.command.CommandFault.{CommandFault}
 use Rattle.px_commands.specs.declared.command.CommandFault.TheVariants as command
+use Rattle.px_held.specs.HeldData.{HeldData, HoldsOne, with_more}
+use Rattle.px_held.specs.declared.holding.HoldFault.{HoldFault}
+use Rattle.px_held.specs.declared.holding.HoldFault.TheVariants as unheld
 use Rattle.px_tables.specs.declared.found.Found.{Found}
 use Rattle.px_tables.specs.declared.table.Table.{Table}
 use Rattle.px_resolve.specs.Answers.{IsFirst}
@@ -61,11 +69,13 @@ use Rattle.px_bind.specs.Upserts.{change_of, upsert_faults}
 use Rattle.px_trail.specs.declared.entry.Act.{Act}
 use Rattle.px_trail.specs.declared.entry.Entry.{Entry}
 use Rattle.px_trail.specs.Trail.{Base}
+use Rattle.px_trail.specs.Batches.{has, rows_of}
 use Rattle.px_calls.specs.declared.definition.Definition.{Definition}
 use Rattle.px_calls.specs.declared.definition.Definition.TheVariants as d
 use Rattle.px_calls.specs.declared.definition.Made.{Made}
 use Rattle.px_calls.specs.declared.fault.StepFault.{StepFault}
 use Rattle.px_calls.specs.declared.fault.StepFault.TheVariants as step
+use Rattle.px_calls.specs.declared.status.Status.{Status}
 use Rattle.px_calls.specs.declared.ticket.Receipt.{Receipt}
 use Rattle.px_calls.specs.Calls.{IsFound}
 use Rattle.px_calls.specs.Causes.{ClosedBy, NamesNoTable}
@@ -91,6 +101,8 @@ use Rattle.px_reply.specs.declared.reply.Defined.{Defined}
 use Rattle.px_reply.specs.declared.reply.Defined.TheVariants as defined
 use Rattle.px_reply.specs.declared.reply.Reply.{Reply}
 use Rattle.px_reply.specs.declared.reply.Reply.TheVariants as reply
+use Rattle.px_item.specs.declared.answered.After.{After}
+use Rattle.px_item.specs.declared.answered.After.TheVariants as next_is
 use Rattle.px_item.specs.declared.answered.Answered.{Answered}
 use Rattle.px_item.specs.declared.answered.Asked.{Asked}
 use Rattle.px_item.specs.declared.answered.Settings.{Settings}
@@ -148,6 +160,30 @@ batch_refusal name unmade.WriteFault = refusal.WriteFault
 batch_refusal name (unmade.Damaged file place) = refusal.Damaged file place
 batch_refusal name (unmade.Closed call) = refusal.Closed call
 batch_refusal name unmade.Memory = refusal.Memory
+
+abbrev pub count_refusal : List ℕ → CountFault → Refusal
+count_refusal name uncounted.NoTable = refusal.NoTable name
+count_refusal name uncounted.ReadFault = refusal.ReadFault
+count_refusal name (uncounted.Damaged file place) = refusal.Damaged file place
+count_refusal name (uncounted.Closed call) = refusal.Closed call
+count_refusal name uncounted.Memory = refusal.Memory
+
+-- ---- settings
+
+abbrev pub with_scn : Settings → Option ℕ → Settings
+with_scn st scn = record { scn = scn; autocommit = st.autocommit; held = st.held }
+
+abbrev pub with_autocommit : Settings → Bool → Settings
+with_autocommit st on = record { scn = st.scn; autocommit = on; held = st.held }
+
+-- what was held is held no more
+abbrev pub emptied : Settings → Settings
+emptied st = record { scn = st.scn; autocommit = st.autocommit; held = None }
+
+-- after a commit: the piece is asked once more, or the next one is
+abbrev pub onward : Bool → Settings → After
+onward true st = next_is.Again st
+onward false st = next_is.Next st
 
 -- ---- statements
 
@@ -208,6 +244,14 @@ abbrev pub changes : Statement → Bool
 changes (s.Select q) = false
 changes (s.Explain q) = false
 changes x = true
+
+-- its row is held
+abbrev pub holds : Settings → Statement → Bool
+holds st x = not st.autocommit && is_upsert x
+
+-- its rows would be held, which isn't built
+abbrev pub is_held_deletion : Settings → Statement → Bool
+is_held_deletion st x = not st.autocommit && is_delete x
 
 abbrev pub MayRun : Settings → Statement → Type 0
 MayRun st x = changes x ≡ true → st.scn ≡ None
@@ -278,35 +322,44 @@ IsCommandRead p r = (p.kind ≡ kinds.Command) × ((text : List ℕ) × (p.text 
 -- the commands whose answers are built
 abbrev pub is_command_built : Command → Bool
 is_command_built (commands.Scn n) = true
-is_command_built (commands.Autocommit on) = on
+is_command_built (commands.Autocommit on) = true
 is_command_built commands.Commit = true
+is_command_built (commands.Status name) = true
 is_command_built c = false
 
 -- ---- answers
 
--- it says this, rests on no receipt and no place, and leaves these settings
+-- it says this, rests on no receipt and no place, and leaves these settings to the next piece
 abbrev pub Says : Answered → Reply → Settings → Type 0
-Says a r st = (a.reply ≡ r) × (a.receipts ≡ []) × (a.places ≡ []) × (a.after ≡ st)
+Says a r st = (a.reply ≡ r) × (a.receipts ≡ []) × (a.places ≡ []) × (a.after ≡ next_is.Next st)
 
 abbrev pub Refuses : Answered → Refusal → Settings → Type 0
 Refuses a r st = Says a (reply.Refused r) st
 
--- what a command that is built is answered
+-- what a command is answered that makes no call: a commit makes none where nothing is held
 abbrev pub SaysOf : Settings → Command → Answered → Type 0
-SaysOf st (commands.Scn n) a = Says a (reply.Scn n) (record { scn = n })
-SaysOf st (commands.Autocommit on) a = Says a (reply.Autocommit on) st
-SaysOf st c a = Says a (reply.Count 0 Affected) st
+SaysOf st (commands.Scn n) a = Says a (reply.Scn n) (with_scn st n)
+SaysOf st (commands.Autocommit true) a = (st.held ≡ None) × Says a (reply.Autocommit true) (with_autocommit st true)
+SaysOf st (commands.Autocommit false) a = Says a (reply.Autocommit false) (with_autocommit st false)
+SaysOf st commands.Commit a = (st.held ≡ None) × Says a (reply.Count 0 Affected) st
+SaysOf st c a = ⊥
+
+-- the command asks for a commit of what is held: to go on with the command itself, or for its own sake
+abbrev pub AsksCommit : SeenPiece → (again : Bool) → Type 0
+AsksCommit p true = IsCommandRead p (Ok (commands.Autocommit true))
+AsksCommit p false = IsCommandRead p (Ok commands.Commit)
 
 -- what is answered without a call
 pub data IsAtOnce (st : Settings) (p : SeenPiece) (a : Answered) : Type 0 where
   is_long : p.kind ≡ kinds.Statement → most_of bound.Statement < length p.text → Refuses a (refusal.Limit bound.Statement) st → IsAtOnce st p a
   is_not_read : (e : SyntaxFault) → IsRead p (Err e) → Refuses a (syntax_refusal e) st → IsAtOnce st p a
   is_not_built : (x : Statement) → IsRead p (Ok x) → is_built x ≡ false → Refuses a refusal.Form st → IsAtOnce st p a
+  is_held_as_whole : (x : Statement) → IsRead p (Ok x) → is_held_deletion st x ≡ true → Refuses a refusal.Form st → IsAtOnce st p a
   is_under_scn : (x : Statement) → IsRead p (Ok x) → changes x ≡ true → is_some st.scn ≡ true → Refuses a refusal.UnderScn st → IsAtOnce st p a
   -- a CREATE TABLE asks for no table that stands, and so what is wrong with it is told at once
   is_wrong_table : (t : CreateTable) (fault : BindFault) → IsRead p (Ok (s.CreateTable t)) → is_none_of t.splits ≡ true → st.scn ≡ None → IsFirst (table_faults t) fault → Refuses a (bind_refusal fault) st → IsAtOnce st p a
   is_no_command : (e : CommandFault) → IsCommandRead p (Err e) → Refuses a (command_refusal e) st → IsAtOnce st p a
-  is_command : (c : Command) → IsCommandRead p (Ok c) → is_command_built c ≡ true → SaysOf st c a → IsAtOnce st p a
+  is_command : (c : Command) → IsCommandRead p (Ok c) → SaysOf st c a → IsAtOnce st p a
   is_command_not_built : (c : Command) → IsCommandRead p (Ok c) → is_command_built c ≡ false → Refuses a refusal.Form st → IsAtOnce st p a
   is_lacking : Refuses a refusal.Memory st → IsAtOnce st p a
 
@@ -329,6 +382,38 @@ pub record IsLacking (k : Known) (first : ℕ) (name : List ℕ) : Type 0 where
 abbrev pub one_change : Found → Upsert → List Change
 one_change f u = change_of f.table u ∷ []
 
+-- ---- changes that are held
+
+-- this change of the table is held with what was held before, all of the same table
+abbrev pub HoldsNow : Table → Change → Option HeldData → Option HeldData → Type 0
+HoldsNow t c None (Some h') = HoldsOne t c h'
+HoldsNow t c (Some h) (Some h') = (h.table ≡ t.id) × (h' ≡ with_more t h c)
+HoldsNow t c o None = ⊥
+
+-- so, and no other setting has changed
+abbrev pub IsHolding : Table → Change → Settings → Settings → Type 0
+IsHolding t c st st' = (st'.scn ≡ st.scn) × (st'.autocommit ≡ st.autocommit) × HoldsNow t c st.held st'.held
+
+-- as many rows of the table are held as may be, and none is this one
+abbrev pub IsFullOf : Table → Change → Option HeldData → Type 0
+IsFullOf t c o = (h : HeldData) × (o ≡ Some h) × (h.table ≡ t.id) × (1000 ≤ length h.changes) × (has (rows_of h.changes) c.row ≡ false)
+
+-- an UPSERT in which nothing is wrong, of another table than the one of what is held
+pub record MakesWay (k : Known) (first : ℕ) (st : Settings) (p : SeenPiece) (h : HeldData) : Type 0 where
+  pub upsert : Upsert
+  pub found : Found
+  pub read : IsRead p (Ok (s.Upsert upsert))
+  pub free : st.scn ≡ None
+  pub off : st.autocommit ≡ false
+  pub bound : IsBoundTo k.base k.seen first found upsert.table
+  pub right : upsert_faults found.table upsert ≡ []
+  pub other : found.table.id ≢ h.table
+
+-- Why what is held is committed: the piece is a commit; or it turns autocommit on, or changes another table, and is asked once more behind it
+abbrev pub AsksToCommit : Known → (first : ℕ) → Settings → SeenPiece → HeldData → (again : Bool) → Type 0
+AsksToCommit k first st p h true = AsksCommit p true ⊎ MakesWay k first st p h
+AsksToCommit k first st p h false = AsksCommit p false
+
 -- the query that a SELECT asks for, with the table that it was bound to
 abbrev pub IsAskedOf : Found → Select → Planned → Type 0
 IsAskedOf f q x = (select_faults f.table.columns q ≡ []) × ((query : Query) × IsQuery f.table q query × (x ≡ record { table = f.table; asked = asked_of query }))
@@ -349,7 +434,7 @@ pub record ShowsRows (a : Answered) (r : Selected) (st : Settings) : Type 0 wher
   pub receipts : a.receipts ≡ []
   pub places : a.places ≡ r.shown.places
   pub first : a.first ≡ r.first
-  pub after : a.after ≡ st
+  pub after : a.after ≡ next_is.Next st
 
 -- the query by which a DELETE finds its rows, with the table that it was bound to
 abbrev pub deletion_query : Found → Delete → Planned
@@ -376,10 +461,25 @@ pub data IsRight (sound : Type 0) (k : Known) (before : ℕ) (own : List Act) (s
   is_wrong : (x : Statement) (f : Found) (fault : BindFault) → IsRead p (Ok x) → MayRun st x → IsBoundTo k.base k.seen a.first f (table_named x) → IsFirst (faults_in f x) fault → Refuses a (bind_refusal fault) st → own ≡ []
       → IsRight sound k before own st p a
   -- an UPSERT is one batch of one row, and its receipt is told
-  is_changed : (u : Upsert) (f : Found) (r : Receipt) → IsRead p (Ok (s.Upsert u)) → st.scn ≡ None → IsBoundTo k.base k.seen a.first f u.table → upsert_faults f.table u ≡ [] → batch.HasEnded f.table.id (one_change f u) own k r
-      → (a.reply ≡ reply.Count 1 Affected) × (a.receipts ≡ r ∷ []) × (a.places ≡ []) × (a.after ≡ st) → IsRight sound k before own st p a
-  is_not_changed : (u : Upsert) (f : Found) (fault : BatchFault) → IsRead p (Ok (s.Upsert u)) → st.scn ≡ None → IsBoundTo k.base k.seen a.first f u.table → upsert_faults f.table u ≡ [] → batch.FaultIs sound f.table.id (one_change f u) fault k
+  is_changed : (u : Upsert) (f : Found) (r : Receipt) → IsRead p (Ok (s.Upsert u)) → st.scn ≡ None → st.autocommit ≡ true → IsBoundTo k.base k.seen a.first f u.table → upsert_faults f.table u ≡ [] → batch.HasEnded f.table.id (one_change f u) own k r
+      → (a.reply ≡ reply.Count 1 Affected) × (a.receipts ≡ r ∷ []) × (a.places ≡ []) × (a.after ≡ next_is.Next st) → IsRight sound k before own st p a
+  is_not_changed : (u : Upsert) (f : Found) (fault : BatchFault) → IsRead p (Ok (s.Upsert u)) → st.scn ≡ None → st.autocommit ≡ true → IsBoundTo k.base k.seen a.first f u.table → upsert_faults f.table u ≡ [] → batch.FaultIs sound f.table.id (one_change f u) fault k
       → batch.MadeSince before fault k → batch.HasLeft f.table.id (one_change f u) fault own k → Refuses a (batch_refusal u.table fault) st → IsRight sound k before own st p a
+  -- without autocommit an UPSERT is held, and nothing is done for it; or it isn't, where too many rows would be
+  is_held : (u : Upsert) (f : Found) (st' : Settings) → IsRead p (Ok (s.Upsert u)) → st.scn ≡ None → st.autocommit ≡ false → IsBoundTo k.base k.seen a.first f u.table → upsert_faults f.table u ≡ [] → IsHolding f.table (change_of f.table u) st st'
+      → Says a (reply.Count 1 Held) st' → own ≡ [] → IsRight sound k before own st p a
+  is_full : (u : Upsert) (f : Found) → IsRead p (Ok (s.Upsert u)) → st.scn ≡ None → st.autocommit ≡ false → IsBoundTo k.base k.seen a.first f u.table → upsert_faults f.table u ≡ [] → IsFullOf f.table (change_of f.table u) st.held
+      → Refuses a (refusal.Limit bound.Rows) st → own ≡ [] → IsRight sound k before own st p a
+  -- a commit is one batch of exactly what is held, and its receipt is told; whatever came of it, nothing is held then
+  is_committed : (again : Bool) (h : HeldData) (rs : Vec Receipt Global) → st.held ≡ Some h → AsksToCommit k a.first st p h again → commits.IsOutcome sound h own k (Ok rs)
+      → (a.reply ≡ reply.Count (length h.changes) Affected) × (a.receipts ≡ rs.items) × (a.places ≡ []) × (a.after ≡ onward again (emptied st)) → IsRight sound k before own st p a
+  -- where it is refused, what asked for it isn't asked once more
+  is_not_committed : (again : Bool) (h : HeldData) (fault : BatchFault) → st.held ≡ Some h → AsksToCommit k a.first st p h again → commits.IsOutcome sound h own k (Err fault) → batch.MadeSince before fault k
+      → StopsAt a.reply h.name fault → (a.receipts ≡ []) × (a.places ≡ []) × (a.after ≡ next_is.Next (emptied st)) → IsRight sound k before own st p a
+  -- a status tells of the table that was found
+  is_counted : (name : List ℕ) (s : Status) → IsCommandRead p (Ok (commands.Status name)) → counts.IsOutcome a.first name k (Ok s) → Says a (reply.Status s) st → own ≡ [] → IsRight sound k before own st p a
+  is_not_counted : (name : List ℕ) (fault : CountFault) → IsCommandRead p (Ok (commands.Status name)) → counts.IsOutcome a.first name k (Err fault) → counts.MadeSince before fault k
+      → Refuses a (count_refusal name fault) st ⊎ Refuses a refusal.Memory st → own ≡ [] → IsRight sound k before own st p a
   -- a DROP is one entry
   is_dropped : (x : Statement) (f : Found) (m : Made) (e : Definition) → IsRead p (Ok x) → st.scn ≡ None → IsBoundTo k.base k.seen a.first f (table_named x) → faults_in f x ≡ [] → drop_of f x ≡ Some e → define.HasDefined sound e own k m
       → Says a (reply.Defined (word_of x)) st → IsRight sound k before own st p a
@@ -403,26 +503,31 @@ pub data IsRight (sound : Type 0) (k : Known) (before : ℕ) (own : List Act) (s
   is_not_selected : (q : Select) (f : Found) (x : Planned) (fault : QueryFault) → IsRead p (Ok (s.Select q)) → IsBoundTo k.base k.seen before f q.table → IsAskedOf f q x → selecting.IsOutcome sound x st.scn own k (Err fault) → scan.MadeSince before fault k
       → Refuses a (query_refusal q.table fault) st ⊎ Refuses a refusal.Memory st → IsRight sound k before own st p a
   -- a DELETE removes the rows that a current query found, in batches, and their receipts are told with the number of rows
-  is_deleted : (x : Delete) (f : Found) (m : Removed) → IsRead p (Ok (s.Delete x)) → st.scn ≡ None → IsBoundTo k.base k.seen a.first f x.table → delete_faults f.table.columns x ≡ [] → deleting.HasRemoved sound (deletion_query f x) own k a.receipts m
-      → a.first ≤ m.first → (a.reply ≡ reply.Count m.rows Affected) × (a.places ≡ []) × (a.after ≡ st) → IsRight sound k before own st p a
+  is_deleted : (x : Delete) (f : Found) (m : Removed) → IsRead p (Ok (s.Delete x)) → st.scn ≡ None → st.autocommit ≡ true → IsBoundTo k.base k.seen a.first f x.table → delete_faults f.table.columns x ≡ [] → deleting.HasRemoved sound (deletion_query f x) own k a.receipts m
+      → a.first ≤ m.first → (a.reply ≡ reply.Count m.rows Affected) × (a.places ≡ []) × (a.after ≡ next_is.Next st) → IsRight sound k before own st p a
   -- one of its batches isn't made, and none behind it; the receipts of those before it are told
-  is_not_deleted : (x : Delete) (f : Found) (fault : BatchFault) → IsRead p (Ok (s.Delete x)) → st.scn ≡ None → IsBoundTo k.base k.seen a.first f x.table → delete_faults f.table.columns x ≡ [] → deleting.HasStopped sound (deletion_query f x) own k a.receipts fault
-      → batch.MadeSince a.first fault k → StopsAt a.reply x.table fault → (a.places ≡ []) × (a.after ≡ st) → IsRight sound k before own st p a
+  is_not_deleted : (x : Delete) (f : Found) (fault : BatchFault) → IsRead p (Ok (s.Delete x)) → st.scn ≡ None → st.autocommit ≡ true → IsBoundTo k.base k.seen a.first f x.table → delete_faults f.table.columns x ≡ [] → deleting.HasStopped sound (deletion_query f x) own k a.receipts fault
+      → batch.MadeSince a.first fault k → StopsAt a.reply x.table fault → (a.places ≡ []) × (a.after ≡ next_is.Next st) → IsRight sound k before own st p a
   -- its rows weren't found, and none is removed
-  is_not_found : (x : Delete) (f : Found) (fault : QueryFault) → IsRead p (Ok (s.Delete x)) → st.scn ≡ None → IsBoundTo k.base k.seen a.first f x.table → delete_faults f.table.columns x ≡ [] → selecting.IsOutcome sound (deletion_query f x) None own k (Err fault)
+  is_not_found : (x : Delete) (f : Found) (fault : QueryFault) → IsRead p (Ok (s.Delete x)) → st.scn ≡ None → st.autocommit ≡ true → IsBoundTo k.base k.seen a.first f x.table → delete_faults f.table.columns x ≡ [] → selecting.IsOutcome sound (deletion_query f x) None own k (Err fault)
       → scan.MadeSince a.first fault k → Refuses a (query_refusal x.table fault) st ⊎ Refuses a refusal.Memory st → IsRight sound k before own st p a
   -- an EXPLAIN tells the path by the definitions alone
   is_explained : (q : Select) (f : Found) (x : Plan) → IsRead p (Ok (s.Explain q)) → IsBoundTo k.base k.seen a.first f q.table → IsPlanned f st.scn q (Ok x) → Says a (reply.Explained (explained x)) st → own ≡ [] → IsRight sound k before own st p a
   is_not_explained : (q : Select) (f : Found) → IsRead p (Ok (s.Explain q)) → IsBoundTo k.base k.seen a.first f q.table → IsPlanned f st.scn q (Err IndexJoin) → Refuses a refusal.IndexJoin st → own ≡ [] → IsRight sound k before own st p a
 
--- ---- parts of the way there
+-- a piece is asked once more: what was held was committed, and is held no more
+pub record MadeWay (st st' : Settings) (r : Reply) : Type 0 where
+  pub held : st.held ≢ None
+  pub none : st'.held ≡ None
+  pub reply : (n : ℕ) × (r ≡ reply.Count n Affected)
 
-abbrev pub IsCommanded : Settings → Command → ℕ → Answered → Type 0
-IsCommanded st c first a = (a.first ≡ first) × (((is_command_built c ≡ true) × SaysOf st c a) ⊎ ((is_command_built c ≡ false) × Refuses a refusal.Form st))
+-- ---- parts of the way there
 
 abbrev pub ReadsAs : Settings → SeenPiece → ℕ → Read → Type 0
 ReadsAs st p first (read.Told a) = IsAtOnce st p a × (a.first ≡ first)
-ReadsAs st p first (read.Asks asked x) = (seen_piece asked.piece ≡ p) × (asked.settings ≡ st) × (asked.first ≡ first) × IsRead p (Ok x) × MayRun st x × (is_built x ≡ true)
+ReadsAs st p first (read.Asks asked x) = (seen_piece asked.piece ≡ p) × (asked.settings ≡ st) × (asked.first ≡ first) × IsRead p (Ok x) × MayRun st x × (is_built x ≡ true) × (is_held_deletion st x ≡ false)
+ReadsAs st p first (read.Commits asked again) = (seen_piece asked.piece ≡ p) × (asked.settings ≡ st) × (asked.first ≡ first) × AsksCommit p again × (st.held ≢ None)
+ReadsAs st p first (read.Counts asked name) = (seen_piece asked.piece ≡ p) × (asked.settings ≡ st) × (asked.first ≡ first) × IsCommandRead p (Ok (commands.Status name))
 
 -- what a CREATE TABLE asks for, or the first of all that is wrong with it
 abbrev pub IsCreation : CreateTable → Result DefineRun Refusal → Type 0
@@ -447,6 +552,31 @@ IsBatchOf x t c (next.Index run) = ⊥
 IsBatchOf x t c (next.Select run) = ⊥
 IsBatchOf x t c (next.Delete run) = ⊥
 IsBatchOf x t c (next.Tell r) = r ≡ reply.Refused refusal.Memory
+
+-- the change of an UPSERT of a row of this table, or the first of all that is wrong with it
+abbrev pub IsRowOf : Found → Statement → Result Change Refusal → Type 0
+IsRowOf f x (Ok c) = (length f.table.columns ≤ 255) × ((u : Upsert) × (x ≡ s.Upsert u) × (upsert_faults f.table u ≡ []) × (c ≡ change_of f.table u))
+IsRowOf f x (Err r) = (r ≡ refusal.Memory) ⊎ ((fault : BindFault) × IsFirst (faults_in f x) fault × (r ≡ bind_refusal fault))
+
+-- changes of another table are held
+abbrev pub IsOfAnother : Option HeldData → TableId → Type 0
+IsOfAnother None t = ⊥
+IsOfAnother (Some h) t = t ≢ h.table
+
+abbrev pub IsOfNoOther : Option HeldData → TableId → Type 0
+IsOfNoOther None t = Unit {0}
+IsOfNoOther (Some h) t = h.table ≡ t
+
+-- what is held after one change more, or why it is the same
+abbrev pub Adds : Table → Option HeldData → Change → Option HeldData → Result (Unit {0}) HoldFault → Type 0
+Adds t o c o' (Ok u) = HoldsNow t c o o'
+Adds t o c o' (Err unheld.Rows) = (o' ≡ o) × IsFullOf t c o
+Adds t o c o' (Err unheld.Memory) = o' ≡ o
+
+abbrev pub held_reply : Result (Unit {0}) HoldFault → Reply
+held_reply (Ok u) = reply.Count 1 Held
+held_reply (Err unheld.Rows) = reply.Refused (refusal.Limit bound.Rows)
+held_reply (Err unheld.Memory) = reply.Refused refusal.Memory
 
 -- what is told of the plan of a query
 abbrev pub IsExplanation : Found → Option ℕ → Query → Reply → Type 0
@@ -488,14 +618,32 @@ FollowsTo scn x f (state.Defining y run) = (y ≡ x) × IsNext scn f x (next.Dro
 FollowsTo scn x f (state.Indexing y run) = (y ≡ x) × IsNext scn f x (next.Index run)
 FollowsTo scn x f (state.Selecting y run) = (y ≡ x) × IsNext scn f x (next.Select run)
 FollowsTo scn x f (state.Deleting y run) = (y ≡ x) × IsNext scn f x (next.Delete run)
+FollowsTo scn x f (state.Committing again run) = ⊥
+FollowsTo scn x f (state.Counting name run) = ⊥
 
 abbrev pub Follows : Asked → Statement → Found → ItemTurn → Type 0
 Follows asked x f (turn.Stepped r) = (r.asked ≡ asked) × FollowsTo asked.settings.scn x f r.state
 Follows asked x f (turn.Waiting r) = ⊥
 Follows asked x f (turn.Over a) = (a.first ≡ asked.first) × ((r : Reply) × IsTold asked.settings.scn f x r × Says a r asked.settings)
 
+-- what was held is to be committed before
+abbrev pub GoesToCommit : Asked → Table → ItemState → Type 0
+GoesToCommit asked t (state.Committing again run) = (again ≡ true) × (run ≡ committing.Finding) × ((h : HeldData) × (asked.settings.held ≡ Some h) × (t.id ≢ h.table))
+GoesToCommit asked t st = ⊥
+
+-- what comes of one change more of the table
+abbrev pub Keeps : Asked → Table → Change → ItemTurn → Type 0
+Keeps asked t c (turn.Stepped r) = (r.asked ≡ asked) × GoesToCommit asked t r.state
+Keeps asked t c (turn.Waiting r) = ⊥
+Keeps asked t c (turn.Over a) = (a.first ≡ asked.first) × (Refuses a refusal.Memory asked.settings ⊎ (((st' : Settings) × IsHolding t c asked.settings st' × Says a (reply.Count 1 Held) st') ⊎ (IsFullOf t c asked.settings.held × Refuses a (refusal.Limit bound.Rows) asked.settings)))
+
+-- what comes of an UPSERT whose table was found, where its row is held
+abbrev pub Holds : Asked → Statement → Found → ItemTurn → Type 0
+Holds asked x f t = ((a : Answered) × (t ≡ turn.Over a) × (a.first ≡ asked.first) × (Refuses a refusal.Memory asked.settings ⊎ ((fault : BindFault) × IsFirst (faults_in f x) fault × Refuses a (bind_refusal fault) asked.settings)))
+    ⊎ ((u : Upsert) × (x ≡ s.Upsert u) × (upsert_faults f.table u ≡ []) × Keeps asked f.table (change_of f.table u) t)
+
 abbrev pub IsOneRow : Asked → Receipt → Answered → Type 0
-IsOneRow asked r a = (a.first ≡ asked.first) × ((a.reply ≡ reply.Count 1 Affected) × (a.receipts ≡ r ∷ []) × (a.places ≡ []) × (a.after ≡ asked.settings))
+IsOneRow asked r a = (a.first ≡ asked.first) × ((a.reply ≡ reply.Count 1 Affected) × (a.receipts ≡ r ∷ []) × (a.places ≡ []) × (a.after ≡ next_is.Next asked.settings))
 
 abbrev pub IsChanged : Asked → Statement → Result Receipt BatchFault → Answered → Type 0
 IsChanged asked x (Ok r) a = IsOneRow asked r a
@@ -520,4 +668,17 @@ TellsEnd x (Err (undeleted.Unread f)) r = (r ≡ reply.Refused (query_refusal (t
 TellsEnd x (Err (undeleted.Unmade f)) r = StopsAt r (table_named x) f
 
 abbrev pub IsDeletion : Asked → Statement → Deleted → Answered → Type 0
-IsDeletion asked x d a = (a.first ≡ asked.first) × TellsEnd x d.end a.reply × (a.receipts ≡ d.receipts.items) × (a.places ≡ []) × (a.after ≡ asked.settings)
+IsDeletion asked x d a = (a.first ≡ asked.first) × TellsEnd x d.end a.reply × (a.receipts ≡ d.receipts.items) × (a.places ≡ []) × (a.after ≡ next_is.Next asked.settings)
+
+-- what is told of the end of a commit
+abbrev pub CommitTold : Asked → HeldData → (again : Bool) → Result (Vec Receipt Global) BatchFault → Answered → Type 0
+CommitTold asked h again (Ok rs) a = (a.reply ≡ reply.Count (length h.changes) Affected) × (a.receipts ≡ rs.items) × (a.places ≡ []) × (a.after ≡ onward again (emptied asked.settings))
+CommitTold asked h again (Err fault) a = StopsAt a.reply h.name fault × (a.receipts ≡ []) × (a.places ≡ []) × (a.after ≡ next_is.Next (emptied asked.settings))
+
+abbrev pub IsCommitted : Asked → (again : Bool) → Result (Vec Receipt Global) BatchFault → Answered → Type 0
+IsCommitted asked again r a = (a.first ≡ asked.first) × ((h : HeldData) × (asked.settings.held ≡ Some h) × CommitTold asked h again r a)
+
+-- what is told of the end of a status
+abbrev pub IsCounted : Asked → List ℕ → Result Status CountFault → Answered → Type 0
+IsCounted asked name (Ok x) a = (a.first ≡ asked.first) × Says a (reply.Status x) asked.settings
+IsCounted asked name (Err f) a = (a.first ≡ asked.first) × (Refuses a (count_refusal name f) asked.settings ⊎ Refuses a refusal.Memory asked.settings)

@@ -1,5 +1,5 @@
 -- What one step of an item does.
-use Rattle.std.specs.Prelude.{ℕ, ◌≡◌, ◌≤◌, ◌++◌, ◌⊎◌, true, false, List, [], length, Some, Ok}
+use Rattle.std.specs.Prelude.{ℕ, ◌≡◌, ◌≢◌, ◌≤◌, ◌++◌, ◌⊎◌, Bool, true, false, List, [], length, None, Some, Ok}
 use Rattle.px_lex.specs.Script.{SeenPiece, seen_piece}
 use Rattle.px_ast.specs.declared.statement.Statement.{Statement}
 use Rattle.px_ast.specs.declared.statement.Statement.TheVariants as s
@@ -22,6 +22,14 @@ use Rattle.px_create.specs.Tables.{new_table, table_faults}
 use Rattle.px_trail.specs.declared.entry.Act.{Act}
 use Rattle.px_calls.specs.declared.definition.Definition.TheVariants as d
 use Rattle.px_calls.specs.Known.{Known, Ran, outline}
+use Rattle.px_held.specs.HeldData.{HeldData}
+use Rattle.px_commands.specs.declared.command.Command.TheVariants as commands
+use Rattle.px_commanding.specs.Commits as commits
+use Rattle.px_commanding.specs.Counts as counts
+use Rattle.px_commanding.specs.declared.commit.CommitRun.{CommitRun}
+use Rattle.px_commanding.specs.declared.commit.CommitRun.TheVariants as committing
+use Rattle.px_commanding.specs.declared.count.CountRun.{CountRun}
+use Rattle.px_commanding.specs.declared.count.CountRun.TheVariants as counting
 use Rattle.px_batch.specs.declared.run.BatchRun.{BatchRun}
 use Rattle.px_batch.specs.Turns as batch
 use Rattle.px_defining.specs.declared.define.DefineRun.{DefineRun}
@@ -37,17 +45,19 @@ use Rattle.px_item.specs.declared.item.ItemState.{ItemState}
 use Rattle.px_item.specs.declared.item.ItemState.TheVariants as state
 use Rattle.px_item.specs.declared.item.ItemTurn.{ItemTurn}
 use Rattle.px_item.specs.declared.item.ItemTurn.TheVariants as turn
-use Rattle.px_item.specs.Right.{HasRoomForOne, IsAskedOf, MayRun, IsAtOnce, IsBoundTo, IsCreation, IsRead, IsRight, creates_table, drop_of, is_none_of, one_change, plain, deletion_query, table_named}
+use Rattle.px_item.specs.Right.{AsksCommit, AsksToCommit, HasRoomForOne, IsAskedOf, MayRun, IsAtOnce, IsBoundTo, IsCommandRead, IsCreation, IsRead, IsRight, creates_table, drop_of, is_held_deletion, is_none_of, one_change, plain, deletion_query, table_named}
 
 -- the statement was read, and may change something
 pub record IsAsking (asked : Asked) (x : Statement) : Type 0 where
   pub read : IsRead (seen_piece asked.piece) (Ok x)
   pub free : MayRun asked.settings x
+  pub alone : is_held_deletion asked.settings x ≡ false
 
 -- the batch of an UPSERT is under way
 pub record IsChanging (before : ℕ) (asked : Asked) (x : Statement) (run : BatchRun) (k : Known) : Type 0 where
   pub upsert : Upsert
   pub is : x ≡ s.Upsert upsert
+  pub alone : asked.settings.autocommit ≡ true
   pub found : Found
   pub bound : IsBoundTo k.base k.seen asked.first found upsert.table
   pub right : upsert_faults found.table upsert ≡ []
@@ -110,6 +120,19 @@ pub record IsDeleting (sound : Type 0) (asked : Asked) (own : List Act) (x : Sta
   pub done : deleting.HasDone sound (deletion_query found delete) own run.state k
   pub since : deleting.IsSince asked.first run.state k
 
+-- what is held is being committed
+pub record IsCommitting (before : ℕ) (asked : Asked) (again : Bool) (run : CommitRun) (k : Known) : Type 0 where
+  pub held : HeldData
+  pub is : asked.settings.held ≡ Some held
+  pub asks : AsksToCommit k asked.first asked.settings (seen_piece asked.piece) held again
+  pub fits : commits.Fits held run k
+  pub since : commits.IsSince before run k
+
+-- a table is being counted
+pub record IsCounting (asked : Asked) (name : List ℕ) (run : CountRun) (k : Known) : Type 0 where
+  pub read : IsCommandRead (seen_piece asked.piece) (Ok (commands.Status name))
+  pub fits : counts.Fits asked.first name run k
+
 abbrev pub FitsState : Type 0 → ℕ → Asked → List Act → ItemState → Known → Type 0
 FitsState sound before asked own (state.Finding x) k = IsAsking asked x
 FitsState sound before asked own (state.Changing x run room) k = IsAsking asked x × IsChanging before asked x run k × HasRoomForOne room
@@ -117,6 +140,8 @@ FitsState sound before asked own (state.Defining x run) k = IsAsking asked x × 
 FitsState sound before asked own (state.Indexing x run) k = IsAsking asked x × IsIndexing sound asked x run k
 FitsState sound before asked own (state.Selecting x run) k = IsAsking asked x × IsSelecting sound before asked x run k
 FitsState sound before asked own (state.Deleting x run) k = IsAsking asked x × IsDeleting sound asked own x run k
+FitsState sound before asked own (state.Committing again run) k = IsCommitting before asked again run k
+FitsState sound before asked own (state.Counting name run) k = IsCounting asked name run k
 
 -- what the item has begun and not ended. What a DELETE has done is in IsDeleting
 abbrev pub HasBegun : List Act → ItemState → Type 0
@@ -126,6 +151,8 @@ HasBegun own (state.Defining x run) = own ≡ []
 HasBegun own (state.Indexing x run) = own ≡ indexing.begun run
 HasBegun own (state.Selecting x run) = own ≡ scan.opened run.scan.state
 HasBegun own (state.Deleting x run) = Unit {0}
+HasBegun own (state.Committing again run) = own ≡ commits.begun run
+HasBegun own (state.Counting name run) = own ≡ []
 
 -- The state is as the trail tells, where `own` is what the seat began, ended, opened, closed and defined for the item so far. Others' entries keep this
 pub record Fits (sound : Type 0) (before : ℕ) (asked : Asked) (own : List Act) (st : ItemState) (k : Known) : Type 0 where
@@ -147,21 +174,21 @@ pub record Turns (sound : Type 0) (before : ℕ) (asked : Asked) (own : List Act
   pub told : Told sound before asked (own ++ outline acts) k' t
 
 -- the state before the first step: a CREATE TABLE is bound by then
-abbrev pub IsStart : Statement → ItemState → Type 0
-IsStart x (state.Finding y) = (y ≡ x) × (creates_table x ≡ false)
-IsStart x (state.Changing y run room) = ⊥
-IsStart x (state.Defining y run) = (y ≡ x) × ((t : CreateTable) × (x ≡ s.CreateTable t) × (is_none_of t.splits ≡ true) × IsCreation t (Ok run))
-IsStart x (state.Indexing y run) = ⊥
-IsStart x (state.Selecting y run) = ⊥
-IsStart x (state.Deleting y run) = ⊥
+abbrev pub IsStart : Asked → ItemState → Type 0
+IsStart asked (state.Finding x) = IsAsking asked x × (creates_table x ≡ false)
+IsStart asked (state.Changing x run room) = ⊥
+IsStart asked (state.Defining x run) = IsAsking asked x × ((t : CreateTable) × (x ≡ s.CreateTable t) × (is_none_of t.splits ≡ true) × IsCreation t (Ok run))
+IsStart asked (state.Indexing x run) = ⊥
+IsStart asked (state.Selecting x run) = ⊥
+IsStart asked (state.Deleting x run) = ⊥
+IsStart asked (state.Committing again run) = AsksCommit (seen_piece asked.piece) again × (asked.settings.held ≢ None) × (run ≡ committing.Finding)
+IsStart asked (state.Counting name run) = IsCommandRead (seen_piece asked.piece) (Ok (commands.Status name)) × (run ≡ counting.Finding)
 
 -- an item that has made no step
 pub record IsBegun (st : Settings) (p : SeenPiece) (r : ItemRun) : Type 0 where
   pub piece : seen_piece r.asked.piece ≡ p
   pub settings : r.asked.settings ≡ st
-  pub statement : Statement
-  pub asks : IsAsking r.asked statement
-  pub state : IsStart statement r.state
+  pub state : IsStart r.asked r.state
 
 abbrev pub Begins : Settings → SeenPiece → ℕ → Begun → Type 0
 Begins st p first (begins.Told a) = IsAtOnce st p a × (a.first ≡ first)

@@ -2,15 +2,27 @@
 ghost use Rattle.std.specs.Prelude.{◌≡◌, []};
 ghost use Rattle.px_item.specs.Right.{Says};
 
+use px_held::HeldChanges;
 use px_lex::script::Piece;
 use px_reply::{Places, Receipts, Refusal, Reply};
 use px_values::Items;
 use std::alloc::Global;
 
-/// The settings of a session: the SCN of its statements.
+/// The settings of a session: the SCN of its statements, whether each is committed by itself, and the changes that are held where it isn't.
 #[derive(Drop)]
 pub struct Settings {
     pub scn: Option<u64>,
+    pub autocommit: bool,
+    pub held: Option<HeldChanges>,
+}
+
+/// The settings after an item, and what is asked for next.
+#[derive(Drop)]
+pub enum After {
+    /// The next piece.
+    Next(Settings),
+    /// The same piece once more: what it makes way for was committed first.
+    Again(Settings),
 }
 
 /// A statement or a session command, the settings that it is asked under, and how many entries the session had seen before its first step.
@@ -28,7 +40,7 @@ pub struct Answered {
     pub receipts: Receipts,
     pub places: Places,
     pub first: u64,
-    pub after: Settings,
+    pub after: After,
 }
 
 /// A reply that rests on no receipt.
@@ -41,7 +53,7 @@ pub(crate) fn told(alloc: Global, reply: Reply, first: u64, after: Settings) -> 
         receipts: Items::of(Vec::new(alloc)),
         places: Items::of(Vec::new(alloc)),
         first,
-        after,
+        after: After::Next(after),
     }
 }
 

@@ -107,6 +107,29 @@ fn batch_of(alloc: Global, of: &Table, table: TableId, change: Change) -> Next
     }
 }
 
+/// The change of an UPSERT whose table was found.
+pub(crate) fn row_of(alloc: Global, statement: &Statement, found: &Found) -> Result<Change, Refusal>
+    requires { spec.is_upsert statement.now ≡ true }
+    ensures { spec.IsRowOf found.now statement.now result }
+{
+    if found.table.columns.as_slice().len() > MOST_PLACES {
+        return Err(Refusal::Memory);
+    }
+    match bind(alloc, statement, Some(found)) {
+        Ok(
+            Request::Upsert {
+                table: _table,
+                change,
+            },
+        ) => Ok(change),
+        Ok(other) => {
+            drop(other);
+            Err(Refusal::Memory)
+        }
+        Err(fault) => Err(bind_refusal(fault)),
+    }
+}
+
 fn upserted(alloc: Global, statement: &Statement, found: &Found) -> Next
     requires upserts { spec.is_upsert statement.now ≡ true }
     requires places { length found.now.table.columns ≤ 255 }

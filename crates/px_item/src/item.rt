@@ -1,17 +1,20 @@
 // One item on its way: each step makes one call.
-ghost use Rattle.std.specs.Prelude.{◌≡◌, ℕ, true, List, Ok};
+ghost use Rattle.std.specs.Prelude.{◌≡◌, ℕ, true, false, List, Ok};
 ghost use Rattle.px_lex.specs.Script.{seen_piece};
 ghost use Rattle.px_trail.specs.declared.entry.Act.{Act};
 ghost use Rattle.px_item.specs.Right as spec;
 ghost use Rattle.px_item.specs.Turns.{Begins, Fits, Turns};
 
-use crate::answered::{Answered, Asked, Settings, told};
+use crate::answered::{After, Answered, Asked, Settings, told};
 use crate::binding::{self, Next};
+use crate::commanding::{commit, count};
+use crate::holding::{hold, holds};
 use crate::reading::{Read, read_piece};
 use crate::refusing::{table_named, unchanged, undefined, unfound, unselected};
 use px_ast::Statement;
 use px_batch::{BatchFault, BatchRun, BatchTurn};
 use px_calls::{Made, Receipt, Steps};
+use px_commanding::{CommitRun, CountRun};
 use px_defining::{DefineFault, DefineRun, DefineTurn};
 use px_deleting::{DeleteFault, DeleteRun, DeleteTurn, Deleted};
 use px_indexing::{IndexFault, IndexRun, IndexTurn, Indexed};
@@ -21,7 +24,7 @@ use px_scan::QueryFault;
 use px_select::{SelectRun, SelectTurn, Selected};
 use px_sorted::Shown;
 use px_tables::Found;
-use px_values::{CountWord, Items};
+use px_values::{CountWord, Items, Name};
 use std::alloc::Global;
 
 /// What the next step of an item is.
@@ -38,6 +41,10 @@ pub enum ItemState {
     Selecting(Statement, SelectRun),
     /// Its rows are being deleted.
     Deleting(Statement, DeleteRun),
+    /// What is held is being committed; then the piece is asked once more, or is answered by it.
+    Committing(bool, CommitRun),
+    /// The table of this name is being counted.
+    Counting(Name, CountRun),
 }
 
 /// An item on its way. Other seats may act between two of its steps.
@@ -67,6 +74,14 @@ pub fn begin<'a>(alloc: Global, piece: Piece<'a>, settings: Settings, first: u64
     match read_piece(alloc, piece, settings, first) {
         Read::Told(answered) => Begun::Told(answered),
         Read::Asks(asked, statement) => start(alloc, asked, statement),
+        Read::Commits(asked, again) => Begun::Under(ItemRun {
+            asked,
+            state: ItemState::Committing(again, CommitRun::new()),
+        }),
+        Read::Counts(asked, name) => Begun::Under(ItemRun {
+            asked,
+            state: ItemState::Counting(name, CountRun::new()),
+        }),
     }
 }
 
@@ -74,6 +89,7 @@ pub fn begin<'a>(alloc: Global, piece: Piece<'a>, settings: Settings, first: u64
 fn start<'a>(alloc: Global, asked: Asked<'a>, statement: Statement) -> Begun<'a>
     requires read { spec.IsRead (seen_piece asked.piece) (Ok statement) }
     requires free { spec.MayRun asked.settings statement }
+    requires alone { spec.is_held_deletion asked.settings statement ≡ false }
     requires built { spec.is_built statement ≡ true }
     ensures { Begins asked.entry.settings (seen_piece asked.entry.piece) asked.entry.first result }
 {
@@ -94,7 +110,7 @@ fn start<'a>(alloc: Global, asked: Asked<'a>, statement: Statement) -> Begun<'a>
 }
 
 /// What is told without a receipt.
-fn over(alloc: Global, asked: Asked<'_>, reply: Reply) -> Answered
+pub(crate) fn over(alloc: Global, asked: Asked<'_>, reply: Reply) -> Answered
     ensures says { spec.Says result reply asked.entry.settings }
     ensures first { result.first ≡ asked.entry.first }
 {
@@ -150,7 +166,13 @@ fn find<'a, S: Steps>(
     ensures { (before : ℕ) → (own : List Act) → Fits S.sound before asked.entry own (ItemState.Finding statement) (S.known s.old) → Turns S.sound before asked.entry own (S.known s.old) (S.known s.new) result }
 {
     match s.find(table_named(&statement)) {
-        Ok(found) => follow(alloc, asked, statement, found),
+        Ok(found) => {
+            if holds(&asked.settings, &statement) {
+                hold(alloc, asked, statement, found)
+            } else {
+                follow(alloc, asked, statement, found)
+            }
+        }
         Err(fault) => {
             let reply = unfound(alloc, &statement, fault);
             drop(statement);
@@ -183,7 +205,7 @@ fn one_row(
         receipts: Items::of(receipts),
         places: Items::of(Vec::new(alloc)),
         first,
-        after: settings,
+        after: After::Next(settings),
     }
 }
 
@@ -363,7 +385,7 @@ fn rows_of(alloc: Global, asked: Asked<'_>, selected: Selected) -> Answered
         receipts: Items::of(Vec::new(alloc)),
         places,
         first,
-        after: settings,
+        after: After::Next(settings),
     }
 }
 
@@ -440,7 +462,7 @@ fn deleted(alloc: Global, asked: Asked<'_>, statement: Statement, came: Deleted)
         receipts: Items::of(receipts),
         places: Items::of(Vec::new(alloc)),
         first,
-        after: settings,
+        after: After::Next(settings),
     }
 }
 
@@ -487,6 +509,8 @@ impl<'a> ItemRun<'a> {
             ItemState::Indexing(statement, run) => index(alloc, s, asked, statement, run),
             ItemState::Selecting(statement, run) => select(alloc, s, asked, statement, run),
             ItemState::Deleting(statement, run) => delete(alloc, s, asked, statement, run),
+            ItemState::Committing(again, run) => commit(alloc, s, asked, again, run),
+            ItemState::Counting(name, run) => count(alloc, s, asked, name, run),
         }
     }
 }

@@ -1,5 +1,6 @@
 // A piece, as far as it is answered without a call.
-ghost use Rattle.std.specs.Prelude.{◌≡◌, ◌∷◌, MatchOption};
+ghost use Rattle.std.specs.Prelude.{◌≡◌, ◌∷◌, MatchOption, Ok};
+ghost use Rattle.px_values.specs.declared.print.CountWord.TheVariants.{Affected};
 ghost use Rattle.px_lex.specs.Script.{seen_piece};
 ghost use Rattle.px_item.specs.Right as spec;
 
@@ -10,7 +11,7 @@ use px_commands::{Command, read_command};
 use px_lex::script::{Piece, PieceKind};
 use px_parse::parse;
 use px_reply::{Refusal, Reply};
-use px_values::{CountWord, Limit};
+use px_values::{CountWord, Limit, Name};
 use std::alloc::Global;
 
 /// The greatest length of a statement, in bytes.
@@ -20,6 +21,10 @@ const MOST_STATEMENT: usize = 1_048_576;
 pub(crate) enum Read<'a> {
     Told(Answered),
     Asks(Asked<'a>, Statement),
+    /// What is held is to be committed; then the piece is asked once more, or is answered by it.
+    Commits(Asked<'a>, bool),
+    /// The table of this name is to be counted.
+    Counts(Asked<'a>, Name),
 }
 
 /// Whether the statement's form is built.
@@ -46,6 +51,13 @@ fn changes(statement: &Statement) -> bool
     !matches!(statement, Statement::Select(_) | Statement::Explain(_))
 }
 
+/// Whether the statement's rows would be held, which isn't built.
+fn is_held_deletion(settings: &Settings, statement: &Statement) -> bool
+    ensures { result ≡ spec.is_held_deletion settings.now statement.now }
+{
+    !settings.autocommit && matches!(statement, Statement::Delete(_))
+}
+
 /// A statement that the grammar reads.
 fn parsed<'a>(
     alloc: Global,
@@ -58,6 +70,10 @@ fn parsed<'a>(
     ensures { spec.ReadsAs settings (seen_piece piece.entry) first result }
 {
     if !is_built(&statement) {
+        drop(statement);
+        return Read::Told(refused(alloc, Refusal::Form, first, settings));
+    }
+    if is_held_deletion(&settings, &statement) {
         drop(statement);
         return Read::Told(refused(alloc, Refusal::Form, first, settings));
     }
@@ -87,27 +103,100 @@ fn read_statement<'a>(alloc: Global, piece: Piece<'a>, settings: Settings, first
     }
 }
 
-/// What a command is answered.
-fn commanded(alloc: Global, command: Command, settings: Settings, first: u64) -> Answered
-    ensures { spec.IsCommanded settings command first result }
+/// What is asked under the settings with autocommit so.
+fn switched(alloc: Global, on: bool, settings: Settings, first: u64) -> Answered
+    ensures says { spec.Says result (Reply.Autocommit on) (spec.with_autocommit settings on) }
+    ensures first { result.first ≡ first }
+{
+    let Settings {
+        scn,
+        autocommit: _autocommit,
+        held,
+    } = settings;
+    let after = Settings {
+        scn,
+        autocommit: on,
+        held,
+    };
+    told(alloc, Reply::Autocommit(on), first, after)
+}
+
+/// What is asked under the settings with this SCN.
+fn read_as_of(alloc: Global, scn: Option<u64>, settings: Settings, first: u64) -> Answered
+    ensures says { spec.Says result (Reply.Scn scn) (spec.with_scn settings scn) }
+    ensures first { result.first ≡ first }
+{
+    let Settings {
+        scn: _scn,
+        autocommit,
+        held,
+    } = settings;
+    let after = Settings {
+        scn,
+        autocommit,
+        held,
+    };
+    told(alloc, Reply::Scn(scn), first, after)
+}
+
+/// No changes are held, and none is committed.
+fn none_committed(alloc: Global, settings: Settings, first: u64) -> Answered
+    ensures says { spec.Says result (Reply.Count 0 Affected) settings }
+    ensures first { result.first ≡ first }
+{
+    let reply = Reply::Count {
+        rows: 0,
+        word: CountWord::Affected,
+    };
+    told(alloc, reply, first, settings)
+}
+
+/// What a command is answered, or asks for.
+fn commanded<'a>(
+    alloc: Global,
+    piece: Piece<'a>,
+    command: Command,
+    settings: Settings,
+    first: u64,
+) -> Read<'a>
+    requires { spec.IsCommandRead (seen_piece piece) (Ok command) }
+    ensures { spec.ReadsAs settings (seen_piece piece.entry) first result }
 {
     match command {
-        Command::Scn(scn) => {
-            drop(settings);
-            told(alloc, Reply::Scn(scn), first, Settings { scn })
-        }
-        Command::Autocommit(true) => told(alloc, Reply::Autocommit(true), first, settings),
-        Command::Commit => {
-            let reply = Reply::Count {
-                rows: 0,
-                word: CountWord::Affected,
+        Command::Scn(scn) => Read::Told(read_as_of(alloc, scn, settings, first)),
+        Command::Autocommit(false) => Read::Told(switched(alloc, false, settings, first)),
+        Command::Autocommit(true) => {
+            if settings.held.is_none() {
+                return Read::Told(switched(alloc, true, settings, first));
+            }
+            let asked = Asked {
+                piece,
+                settings,
+                first,
             };
-            told(alloc, reply, first, settings)
+            Read::Commits(asked, true)
         }
-        other => {
-            drop(other);
-            refused(alloc, Refusal::Form, first, settings)
+        Command::Commit => {
+            if settings.held.is_none() {
+                return Read::Told(none_committed(alloc, settings, first));
+            }
+            let asked = Asked {
+                piece,
+                settings,
+                first,
+            };
+            Read::Commits(asked, false)
         }
+        Command::Status(name) => {
+            let asked = Asked {
+                piece,
+                settings,
+                first,
+            };
+            Read::Counts(asked, name)
+        }
+        Command::Flush => Read::Told(refused(alloc, Refusal::Form, first, settings)),
+        Command::Compact => Read::Told(refused(alloc, Refusal::Form, first, settings)),
     }
 }
 
@@ -118,17 +207,16 @@ fn behind_mark(text: &str) -> Option<&str>
     text.strip_prefix('!')
 }
 
-fn read_told(alloc: Global, piece: Piece<'_>, settings: Settings, first: u64) -> Answered
+fn read_line<'a>(alloc: Global, piece: Piece<'a>, settings: Settings, first: u64) -> Read<'a>
     requires { piece.kind ≡ PieceKind.Command }
-    ensures at_once { spec.IsAtOnce settings (seen_piece piece.entry) result }
-    ensures first { result.first ≡ first }
+    ensures { spec.ReadsAs settings (seen_piece piece.entry) first result }
 {
     let Some(text) = behind_mark(piece.text) else {
-        return refused(alloc, Refusal::Memory, first, settings);
+        return Read::Told(refused(alloc, Refusal::Memory, first, settings));
     };
     match read_command(alloc, text) {
-        Ok(command) => commanded(alloc, command, settings, first),
-        Err(fault) => refused(alloc, command_refusal(fault), first, settings),
+        Ok(command) => commanded(alloc, piece, command, settings, first),
+        Err(fault) => Read::Told(refused(alloc, command_refusal(fault), first, settings)),
     }
 }
 
@@ -143,6 +231,6 @@ pub(crate) fn read_piece<'a>(
 {
     match piece.kind {
         PieceKind::Statement => read_statement(alloc, piece, settings, first),
-        PieceKind::Command => Read::Told(read_told(alloc, piece, settings, first)),
+        PieceKind::Command => read_line(alloc, piece, settings, first),
     }
 }

@@ -7,6 +7,7 @@ ghost use Rattle.px_item.specs.Right as spec;
 use px_ast::Statement;
 use px_batch::BatchFault;
 use px_calls::StepFault;
+use px_commanding::CountFault;
 use px_commands::CommandFault;
 use px_defining::DefineFault;
 use px_parse::SyntaxFault;
@@ -189,6 +190,34 @@ pub(crate) fn unchanged(alloc: Global, statement: &Statement, fault: BatchFault)
         BatchFault::Damaged { file, place } => Reply::Refused(Refusal::Damaged { file, place }),
         BatchFault::Closed { call } => Reply::Refused(Refusal::Closed { call }),
         BatchFault::Memory => Reply::Refused(Refusal::Memory),
+    }
+}
+
+/// What is told of a commit that wasn't made.
+pub(crate) fn uncommitted(alloc: Global, name: &Name, fault: BatchFault) -> Reply
+    ensures { spec.StopsAt result name.now fault }
+{
+    match fault {
+        BatchFault::NoTable => no_table(alloc, name),
+        BatchFault::Limit { which, count: _ } => Reply::Refused(Refusal::Limit(which)),
+        BatchFault::ReadFault => Reply::Refused(Refusal::ReadFault),
+        BatchFault::WriteFault => Reply::Refused(Refusal::WriteFault),
+        BatchFault::Damaged { file, place } => Reply::Refused(Refusal::Damaged { file, place }),
+        BatchFault::Closed { call } => Reply::Refused(Refusal::Closed { call }),
+        BatchFault::Memory => Reply::Refused(Refusal::Memory),
+    }
+}
+
+/// What is told of a table that has no status.
+pub(crate) fn uncounted(alloc: Global, name: &Name, fault: CountFault) -> Reply
+    ensures { (result ≡ Refused (spec.count_refusal name.now fault)) ⊎ (result ≡ Refused Memory) }
+{
+    match fault {
+        CountFault::NoTable => no_table(alloc, name),
+        CountFault::ReadFault => Reply::Refused(Refusal::ReadFault),
+        CountFault::Damaged { file, place } => Reply::Refused(Refusal::Damaged { file, place }),
+        CountFault::Closed { call } => Reply::Refused(Refusal::Closed { call }),
+        CountFault::Memory => Reply::Refused(Refusal::Memory),
     }
 }
 

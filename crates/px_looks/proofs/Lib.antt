@@ -1,6 +1,7 @@
 pub mod RowCells
 pub mod KeyOrder
 pub mod Cut
+pub mod Ends
 pub mod Rising
 pub mod Among
 pub mod Parts

@@ -1,3 +1,4 @@
 pub mod Among
+pub mod Lent
 pub mod Parts
 pub mod Seen

@@ -5,8 +5,8 @@
 //! read of it (`read_of`), so each promise is about cells, in the words of their forms, and holds wherever the cells lie.
 #![tactic(auto)]
 
-mod gathered;
 mod keys;
+mod lent;
 mod next;
 mod reader;
 mod row;

@@ -16,7 +16,7 @@ ghost use Rattle.px_looks.specs.Found.{AreFoundIn, AreNext, at_key};
 ghost use Rattle.px_looks.specs.Keys.{next_key};
 ghost use Rattle.px_looks.specs.inner.Parts.{FoundTo, IsFirst, end_or};
 
-use crate::gathered::{Gathered, gather};
+use crate::lent::{Lent, lend};
 use crate::reader::{Reader, find_all};
 use px_calls::FoundKey;
 use px_outside::Disk;
@@ -51,15 +51,15 @@ fn key_after(alloc: Global, key: &[u8]) -> Result<Key, AllocError>
     Ok(Key::of(bytes))
 }
 
-/// Where the rows behind the gathered ones begin, if as many were gathered as were wanted.
-fn end_of(alloc: Global, gathered: &Gathered, most: u64) -> Result<Option<Key>, AllocError>
-    ensures { IfOk result (λ end. MatchOption end ((gathered.now.rows < most) ⊎ (length gathered.now.cells.items ≡ 0)) (λ e. (0 < length gathered.now.cells.items) × (e ≡ next_key (key_at gathered.now.cells.items (length gathered.now.cells.items - 1))))) }
+/// Where the rows behind the lent ones begin, if as many were lent as were wanted.
+fn end_of(alloc: Global, lent: &Lent<'_>, most: u64) -> Result<Option<Key>, AllocError>
+    ensures { IfOk result (λ end. MatchOption end ((lent.now.rows < most) ⊎ (length lent.now.cells.now ≡ 0)) (λ e. (0 < length lent.now.cells.now) × (e ≡ next_key (key_at lent.now.cells.now (length lent.now.cells.now - 1))))) }
 {
-    let count = gathered.cells.len();
-    if gathered.rows < most || count == 0 {
+    let count = lent.cells.len();
+    if lent.rows < most || count == 0 {
         return Ok(None);
     }
-    let end = key_after(alloc, gathered.cells[count - 1].key())?;
+    let end = key_after(alloc, lent.cells[count - 1].key())?;
     Ok(Some(end))
 }
 
@@ -86,13 +86,16 @@ fn look_part<D: Disk, R: Reader>(
     ensures untouched { disk.new ≡ disk.old }
 {
     reader.law();
-    let gathered = gather(alloc, disk, region, low, high, most)?;
-    let Ok(end) = end_of(alloc, &gathered, most) else {
+    let _disk = disk;
+    let lent = lend(region, low, high, most);
+    let rows = lent.rows;
+    let Ok(end) = end_of(alloc, &lent, most) else {
         return Err(LookFault::Memory);
     };
-    let Ok(found) = find_all(alloc, reader, &gathered.cells) else {
+    let Ok(found) = find_all(alloc, reader, lent.cells) else {
         return Err(LookFault::Memory);
     };
+    region.look_at(rows);
     Ok(Part { found, end })
 }
 

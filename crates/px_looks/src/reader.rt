@@ -1,5 +1,5 @@
 // What is shown at the keys of cells.
-ghost use Rattle.std.specs.Prelude.{◌≡◌, ◌+◌, ◌<◌, ◌≤◌, ℕ, List, Some, length, IfOk, OnOk, MatchOption};
+ghost use Rattle.std.specs.Prelude.{◌≡◌, ◌+◌, ◌<◌, ◌≤◌, ℕ, List, Some, true, length, IfOk, OnOk, MatchOption};
 ghost use Rattle.px_cells.specs.declared.kind.CellKind.{CellKind as CellKinds};
 ghost use Rattle.px_cells.specs.Contents.{value_at};
 ghost use Rattle.px_cells.specs.Order.{IsCellList};
@@ -10,6 +10,7 @@ ghost use Rattle.px_calls.specs.declared.query.FoundKey.{FoundKey as Finding};
 ghost use Rattle.px_looks.specs.Found.{RowContents, at_key};
 ghost use Rattle.px_looks.specs.inner.Among.{FoundAmong};
 
+use crate::lent::row_end;
 use px_calls::FoundKey;
 use px_cells::{Cell, row_in};
 use std::alloc::{AllocError, Global};
@@ -41,15 +42,7 @@ pub(crate) trait Reader {
         ensures some { (k : List ℕ) (h : RowContents) (f : Finding) → shows self.now k h f → (q s : ℕ) × (d : CellKinds) × (v : List ℕ) × (h q s d ≡ Some v) };
 }
 
-/// Whether a row begins with a cell of a sorted list.
-fn begins_at(cells: &[Cell], i: usize) -> bool
-    requires { i < length cells.now }
-    ensures { result ≡ begins_row cells.now i }
-{
-    i == 0 || cells[i - 1].key() != cells[i].key()
-}
-
-/// Adds what is shown of the row that begins with a cell, if one does.
+/// Adds what is shown of the row that begins with a cell.
 fn add_found<R: Reader>(
     alloc: Global,
     reader: &R,
@@ -58,14 +51,12 @@ fn add_found<R: Reader>(
     found: &mut Vec<FoundKey>,
 ) -> Result<(), AllocError>
     requires within { i < length cells.now }
+    requires begins { begins_row cells.now i ≡ true }
     requires list { IsCellList cells.now }
     requires admits { (j : ℕ) → j < length cells.now → R.admits reader.now (key_at cells.now j) (at_key (value_at cells.now) (key_at cells.now j)) }
     ensures found { FoundAmong (R.shows reader.now) cells.now i found.old.items → OnOk result (FoundAmong (R.shows reader.now) cells.now (i + 1) found.new.items) }
     ensures few { length found.old.items ≤ rows_before cells.now i → OnOk result (length found.new.items ≤ rows_before cells.now (i + 1)) }
 {
-    if !begins_at(cells, i) {
-        return Ok(());
-    }
     let key = cells[i].key();
     reader.law();
     match reader.read(alloc, key, row_in(cells, key)) {
@@ -90,8 +81,10 @@ pub(crate) fn find_all<R: Reader>(
     ensures few { IfOk result (λ found. length found.items ≤ rows_before cells.now (length cells.now)) }
 {
     let mut found = Vec::new(alloc);
-    for i in 0..cells.len() {
+    let mut i = 0usize;
+    while i < cells.len() {
         add_found(alloc, reader, cells, i, &mut found)?;
+        i = row_end(cells, i);
     }
     Ok(found)
 }

@@ -8,8 +8,7 @@ ghost use Rattle.px_region.specs.Region.{read_of};
 ghost use Rattle.px_rows.specs.Keys.{IsRightTable, row_key};
 ghost use Rattle.px_rows.specs.Spelled.{IsPlainAt, row_form};
 
-use crate::gathered::Gathered;
-use px_cells::Cell;
+use px_cells::{Cell, Cells};
 use px_outside::Disk;
 use px_region::{LookFault, Region};
 use px_rows::row_at;
@@ -19,7 +18,7 @@ use std::alloc::Global;
 
 /// The row with these primary key values, and this key, that a point sees of a region: none where it doesn't stand.
 ///
-/// It is found in logarithmic time by its own cells, and counts as one row looked at. Nothing else of the region or the
+/// It is found in logarithmic time by its own cells, of each column by the newest up to the point, and counts as one row looked at. Nothing else of the region or the
 /// disk changes. It is refused with `Memory` alone.
 pub fn row_state<D: Disk>(
     alloc: Global,
@@ -41,17 +40,17 @@ pub fn row_state<D: Disk>(
     ensures promised { IsSamePromise region.old region.new }
     ensures untouched { disk.new ≡ disk.old }
 {
-    let mut gathered = Gathered::new(alloc, 1);
-    region.row_versions(disk, key, &mut gathered)?;
-    match row_at(alloc, table, row, &gathered.cells, point) {
-        Ok(state) => Ok(state),
-        Err(_) => Err(LookFault::Memory),
-    }
+    let _disk = disk;
+    region.look_at(1);
+    let Ok(state) = row_at(alloc, table, row, region.row(key), point) else {
+        return Err(LookFault::Memory);
+    };
+    Ok(state)
 }
 
 /// The cells of a key, in their order.
 ///
-/// They are found in logarithmic time, and count as one row looked at. Nothing else of the region or the disk changes. It is
+/// They are found in logarithmic time and copied, and count as one row looked at. Nothing else of the region or the disk changes. It is
 /// refused with `Memory` alone.
 pub fn row_cells<D: Disk>(
     alloc: Global,
@@ -65,7 +64,10 @@ pub fn row_cells<D: Disk>(
     ensures promised { IsSamePromise region.old region.new }
     ensures untouched { disk.new ≡ disk.old }
 {
-    let mut gathered = Gathered::new(alloc, 1);
-    region.row_versions(disk, key, &mut gathered)?;
-    Ok(gathered.cells)
+    let _disk = disk;
+    region.look_at(1);
+    match Cells::from_slice(alloc, region.row(key)) {
+        Ok(cells) => Ok(cells.into_vec()),
+        Err(_) => Err(LookFault::Memory),
+    }
 }

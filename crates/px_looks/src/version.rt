@@ -11,7 +11,6 @@ ghost use Rattle.px_looks.specs.Found.{at_key};
 ghost use Rattle.px_looks.specs.Versions.{HasNoDelete, version_at};
 ghost use Rattle.px_looks.specs.inner.Seen.{AreSeen, cell_in, value_in as column_value};
 
-use crate::gathered::Gathered;
 use px_cells::{Cell, Cells, visible_in};
 use px_outside::Disk;
 use px_region::{LookFault, Region};
@@ -138,10 +137,10 @@ pub fn key_version<D: Disk>(
     ensures promised { IsSamePromise region.old region.new }
     ensures untouched { disk.new ≡ disk.old }
 {
-    let mut gathered = Gathered::new(alloc, 1);
-    region.row_versions(disk, key, &mut gathered)?;
-    match version_in(alloc, &gathered.cells, index.included.as_slice(), point) {
-        Ok(version) => Ok(version),
-        Err(_) => Err(LookFault::Memory),
-    }
+    let _disk = disk;
+    region.look_at(1);
+    let Ok(version) = version_in(alloc, region.row(key), index.included.as_slice(), point) else {
+        return Err(LookFault::Memory);
+    };
+    Ok(version)
 }

@@ -29,10 +29,10 @@ use Rattle.px_rounds.specs.Rounds.{fresh}
 use Rattle.px_rounds.specs.Written.{IsWritten}
 use Rattle.px_server.specs.Kept.{HasFailed, has_told}
 use Rattle.px_program.specs.Answers.{AnswersScript, stopped_by}
-use Rattle.px_program.specs.Complete.{AreWholeRounds, IsComplete, IsToldWhy, IsWholeScript, is_of_disk, is_refusal, some_refusal, some_tell_disk, tells_disk}
+use Rattle.px_program.specs.Complete.{AreWholeRounds, IsComplete, IsToldWhy, IsWholeScript, is_any}
 use Rattle.px_program.specs.Ended.{AllEnded}
 use Rattle.px_program.specs.Run.{undamaged}
-use Rattle.px_program.specs.Status.{IsQuietStatus, causes_of, damage_of, first_damage, is_memory, is_statement, items_of, lacked_memory, or_else, place_of, quiet_status, some_lacked, some_refused, status_of, was_refused, whole_status}
+use Rattle.px_program.specs.Status.{IsQuietStatus, causes_of, damage_of, first_damage, is_memory, is_of_disk, is_statement, items_of, or_else, place_of, quiet_status, refused_by, some_refused_by, status_of, whole_status}
 use Rattle.px_program.specs.declared.causes.Causes.{Causes}
 use Rattle.px_program.specs.declared.causes.Place.{Place}
 use Rattle.px_program.specs.declared.status.Status.{Status}
@@ -54,25 +54,25 @@ closing_tells refusal.WriteFault h = absurd (false≢true (sym h))
 closing_tells (refusal.Closed call) h = absurd (false≢true (sym h))
 closing_tells r h = refl
 
-fatal_tells : (r : Reply) → tells_disk r ≡ false → is_fatal r ≡ false
+fatal_tells : (r : Reply) → refused_by is_of_disk r ≡ false → is_fatal r ≡ false
 fatal_tells (RefusedReply r) h = closing_tells r h
 fatal_tells r h = refl
 
-none_fatal : (items : List Item) → some_tell_disk items ≡ false → has_fatal items ≡ false
-none_fatal items h = all_none (λ i. tells_disk i.reply) (λ i. is_fatal i.reply) (λ i none. fatal_tells i.reply none) items h
+none_fatal : (items : List Item) → some_refused_by is_of_disk items ≡ false → has_fatal items ≡ false
+none_fatal items h = all_none (λ i. refused_by is_of_disk i.reply) (λ i. is_fatal i.reply) (λ i none. fatal_tells i.reply none) items h
 
 place_tells : (r : Refusal) → is_of_disk (cause_of r) ≡ false → place_of r ≡ None
 place_tells (refusal.Damaged file place) h = absurd (false≢true (sym h))
 place_tells r h = refl
 
-damage_tells : (r : Reply) → tells_disk r ≡ false → damage_of r ≡ None
+damage_tells : (r : Reply) → refused_by is_of_disk r ≡ false → damage_of r ≡ None
 damage_tells (RefusedReply r) h = place_tells r h
 damage_tells r h = refl
 
-none_damaged : (items : List Item) → some_tell_disk items ≡ false → first_damage items ≡ None
+none_damaged : (items : List Item) → some_refused_by is_of_disk items ≡ false → first_damage items ≡ None
 none_damaged [] h = refl
 none_damaged (i ∷ items) h =
-    let both = or_none (tells_disk i.reply) (some_tell_disk items) h in
+    let both = or_none (refused_by is_of_disk i.reply) (some_refused_by is_of_disk items) h in
     ap (λ (o : Option Place). or_else o (first_damage items)) (damage_tells i.reply both.0) ∙ none_damaged items both.1
 
 no_cause : (c : Cause) → is_of_disk c ≡ false → is_memory c ≡ false → is_statement c ≡ false → true ≡ false
@@ -81,17 +81,17 @@ no_cause cause.Device a b c = a
 no_cause cause.Closing a b c = a
 no_cause cause.Memory a b c = b
 
-refusal_is : (r : Reply) → tells_disk r ≡ false → lacked_memory r ≡ false → was_refused r ≡ false → is_refusal r ≡ false
+refusal_is : (r : Reply) → refused_by is_of_disk r ≡ false → refused_by is_memory r ≡ false → refused_by is_statement r ≡ false → refused_by is_any r ≡ false
 refusal_is (RefusedReply r) a b c = no_cause (cause_of r) a b c
 refusal_is r a b c = refl
 
-none_refused : (items : List Item) → some_tell_disk items ≡ false → some_lacked items ≡ false → some_refused items ≡ false → some_refusal items ≡ false
+none_refused : (items : List Item) → some_refused_by is_of_disk items ≡ false → some_refused_by is_memory items ≡ false → some_refused_by is_statement items ≡ false → some_refused_by is_any items ≡ false
 none_refused [] a b c = refl
 none_refused (i ∷ items) a b c =
-    let x = or_none (tells_disk i.reply) (some_tell_disk items) a in
-    let y = or_none (lacked_memory i.reply) (some_lacked items) b in
-    let z = or_none (was_refused i.reply) (some_refused items) c in
-    ap (λ (v : Bool). v || some_refusal items) (refusal_is i.reply x.0 y.0 z.0) ∙ none_refused items x.1 y.1 z.1
+    let x = or_none (refused_by is_of_disk i.reply) (some_refused_by is_of_disk items) a in
+    let y = or_none (refused_by is_memory i.reply) (some_refused_by is_memory items) b in
+    let z = or_none (refused_by is_statement i.reply) (some_refused_by is_statement items) c in
+    ap (λ (v : Bool). v || some_refused_by is_any items) (refusal_is i.reply x.0 y.0 z.0) ∙ none_refused items x.1 y.1 z.1
 
 -- ---- 2. The status
 
@@ -129,7 +129,7 @@ done_by false (suc n) memory c h = cc
 
 -- ---- 3. The script
 
-stopped_quiet : (f : ScriptFault) (n : ℕ) → some_tell_disk (items_of (stopped_by f n)) ≡ false
+stopped_quiet : (f : ScriptFault) (n : ℕ) → some_refused_by is_of_disk (items_of (stopped_by f n)) ≡ false
 stopped_quiet unread.TooLong n = refl
 stopped_quiet (unread.NotUtf8 place) n = refl
 stopped_quiet unread.Memory n = refl
@@ -140,13 +140,13 @@ no_entries (e ∷ es) h = absurd (omega arith)
 
 module _ (sound : Type 0) (k : Known) (script : List ℕ) (ts : List Transcript) (sink_failed memory : Bool) where
   -- a reply that tells of the disk has an entry that tells it
-  script_told : k.damaged ≡ undamaged → AnswersScript sound k 0 script ts sink_failed memory → some_tell_disk (items_of ts) ≡ true → has_told k.seen ≡ true
+  script_told : k.damaged ≡ undamaged → AnswersScript sound k 0 script ts sink_failed memory → some_refused_by is_of_disk (items_of ts) ≡ true → has_told k.seen ≡ true
   script_told whole (inl a) tell =
       let r = a.ran.ran in
-      rounds_told sound k whole 0 1 (fresh a.ran.sessions) r.passed r.done (length k.seen) a.ran.states memory r.answered (sym (ap (λ (l : List Transcript). some_tell_disk (items_of l)) r.flat) ∙ tell)
+      rounds_told sound k whole 0 1 (fresh a.ran.sessions) r.passed r.done (length k.seen) a.ran.states memory r.answered (sym (ap (λ (l : List Transcript). some_refused_by is_of_disk (items_of l)) r.flat) ∙ tell)
   script_told whole (inr h) tell = absurd (false≢true (sym (⊎_elim
-      (λ is. ap (λ (l : List Transcript). some_tell_disk (items_of l)) is ∙ stopped_quiet h.fault (length script))
-      (λ none. ap (λ (l : List Transcript). some_tell_disk (items_of l)) none.0) h.told) ∙ tell))
+      (λ is. ap (λ (l : List Transcript). some_refused_by is_of_disk (items_of l)) is ∙ stopped_quiet h.fault (length script))
+      (λ none. ap (λ (l : List Transcript). some_refused_by is_of_disk (items_of l)) none.0) h.told) ∙ tell))
 
   all_own : (seat : ℕ) → own_since seat 0 (take (length k.seen) k.seen) ≡ outline (acts_by seat k.seen)
   all_own seat = ap (λ (l : List Entry). outline (acts_by seat l)) (take-length k.seen)
@@ -183,8 +183,8 @@ module _ (sound : Type 0) (k : Known) (script : List ℕ) (ts : List Transcript)
 
   module _ {D O : Type 0} (d : DiskGhosts D) (s : SinkGhosts O) (disk : D) (out out' : O) (text : List ℕ) (status : Status) (whole : k.damaged ≡ undamaged) (answers : AnswersScript sound k 0 script ts sink_failed memory) (written : IsWritten s out out' text sink_failed memory)
       (is : status ≡ status_of sink_failed (d.first_fault disk) memory (causes_of (items_of ts))) (blamed : has_told k.seen ≡ true → HasFailed d disk) (first : 0 < d.faults disk → 0 < d.first_fault disk) (some : 0 < d.first_fault disk → 0 < d.faults disk) where
-    untold : (HasFailed d disk → ⊥) → some_tell_disk (items_of ts) ≡ false
-    untold fine = ⊎_elim (λ tell. absurd (fine (blamed (script_told whole answers tell)))) (λ none. none) (cases_Bool (some_tell_disk (items_of ts)))
+    untold : (HasFailed d disk → ⊥) → some_refused_by is_of_disk (items_of ts) ≡ false
+    untold fine = ⊎_elim (λ tell. absurd (fine (blamed (script_told whole answers tell)))) (λ none. none) (cases_Bool (some_refused_by is_of_disk (items_of ts)))
 
     unfailed : (HasFailed d disk → ⊥) → d.first_fault disk ≡ 0
     unfailed fine = ⊎_elim (λ (up : 0 < d.first_fault disk). absurd (fine (inl (some up)))) (λ (low : d.first_fault disk ≤ 0). omega arith) (cases_lt 0 (d.first_fault disk))
@@ -203,9 +203,9 @@ module _ (sound : Type 0) (k : Known) (script : List ℕ) (ts : List Transcript)
           ]
         ])
 
-    whole_done : status ≡ Done → IsWholeScript script ts ⊎ IsToldWhy script ts → some_refusal (items_of ts) ≡ false → IsWholeScript script ts
+    whole_done : status ≡ Done → IsWholeScript script ts ⊎ IsToldWhy script ts → some_refused_by is_any (items_of ts) ≡ false → IsWholeScript script ts
     whole_done done (inl w) none = w
-    whole_done done (inr why) none = absurd (false≢true (sym none ∙ ap (λ (l : List Transcript). some_refusal (items_of l)) why.2))
+    whole_done done (inr why) none = absurd (false≢true (sym none ∙ ap (λ (l : List Transcript). some_refused_by is_any (items_of l)) why.2))
 
     pub complete : IsComplete d s disk out out' script ts memory status
     complete = record {

@@ -6,7 +6,7 @@ use Rattle.std.specs.Option.{is_some}
 use Rattle.std.proofs.lemmas.Bool.{false≢true}
 use Rattle.px_reply.specs.declared.transcript.Item.{Item}
 use Rattle.px_reply.specs.declared.transcript.Transcript.{Transcript}
-use Rattle.px_program.specs.Status.{causes_of, damage_of, first_damage, items_of, lacked_memory, or_else, some_lacked, some_refused, was_refused}
+use Rattle.px_program.specs.Status.{causes_of, damage_of, first_damage, is_memory, is_statement, items_of, or_else, refused_by, some_refused_by}
 use Rattle.px_program.specs.declared.causes.Place.{Place}
 
 any_both : {A : Type 0} (p : A → Bool) (xs ys : List A) → list_any p (xs ++ ys) ≡ list_any p xs || list_any p ys
@@ -36,8 +36,8 @@ pub passed_here : (left : List Transcript) (t : Transcript) (ts : List Transcrip
 passed_here left t ts None x is here some told = ap (λ o. or_else o (first_damage (items_of ts))) here ∙ (sym (damage_next t ts) ∙ (sym (ap (λ l. first_damage (items_of l)) is) ∙ told))
 passed_here left t ts (Some p) x is here some told = absurd (false≢true some)
 
-pub causes_are : (ts : List Transcript) (d : Option Place) (l r : Bool) → d ≡ first_damage (items_of ts) → l ≡ list_any (λ t. some_lacked t.items) ts → r ≡ list_any (λ t. some_refused t.items) ts → record { damaged = d; lacked = l; refused = r } ≡ causes_of (items_of ts)
+pub causes_are : (ts : List Transcript) (d : Option Place) (l r : Bool) → d ≡ first_damage (items_of ts) → l ≡ list_any (λ t. some_refused_by is_memory t.items) ts → r ≡ list_any (λ t. some_refused_by is_statement t.items) ts → record { damaged = d; lacked = l; refused = r } ≡ causes_of (items_of ts)
 causes_are ts d l r is lacked refused =
-    let a : l ≡ some_lacked (items_of ts) = lacked ∙ any_of (λ i. lacked_memory i.reply) ts in
-    let b : r ≡ some_refused (items_of ts) = refused ∙ any_of (λ i. was_refused i.reply) ts in
+    let a : l ≡ some_refused_by is_memory (items_of ts) = lacked ∙ any_of (λ i. refused_by is_memory i.reply) ts in
+    let b : r ≡ some_refused_by is_statement (items_of ts) = refused ∙ any_of (λ i. refused_by is_statement i.reply) ts in
     rw is (rw a (rw b refl))

@@ -4,7 +4,13 @@ use Rattle.std.proofs.Common.{ℕ, zero, suc, ◌≡◌, ◌⊎◌, ◌||◌, �
 use Rattle.std.proofs.lemmas.Bool.{false≢true}
 use Rattle.px_values.specs.declared.change.Change.{Change}
 use Rattle.px_values.specs.declared.name.TableId.{TableId}
-use Rattle.px_values.specs.declared.print.CountWord.TheVariants.{Affected}
+use Rattle.px_values.specs.declared.print.CountWord.TheVariants.{Affected, Held}
+use Rattle.px_values.specs.declared.limit.Limit.TheVariants.{Rows}
+use Rattle.px_held.specs.HeldData.{HeldData}
+use Rattle.px_commanding.specs.Commits as commits
+use Rattle.px_commanding.specs.Counts as counts
+use Rattle.px_commanding.specs.declared.count.CountFault.{CountFault}
+use Rattle.px_commanding.specs.declared.count.CountFault.TheVariants as uncounted
 use Rattle.px_lex.specs.Script.{SeenPiece}
 use Rattle.px_ast.specs.declared.statement.Statement.{Statement}
 use Rattle.px_ast.specs.declared.statement.Statement.TheVariants as s
@@ -57,7 +63,7 @@ use Rattle.px_item.specs.declared.answered.Answered.{Answered}
 use Rattle.px_item.specs.declared.answered.Settings.{Settings}
 use Rattle.px_session.specs.Replies.{is_fatal}
 use Rattle.px_server.specs.Kept.{has_told, tells_fault}
-use Rattle.px_program.specs.Complete.{tells_disk}
+use Rattle.px_program.specs.Status.{is_of_disk, refused_by}
 use Rattle.px_program.specs.Run.{undamaged}
 use Rattle.px_program.proofs.Balanced.{IsBalanced, balanced-batch, balanced-definition, balanced-none, balanced-point, balanced-append, balanced-within}
 
@@ -115,52 +121,55 @@ told_more (e ∷ es) more h =
 
 -- ---- 2. Replies that don't tell of the disk
 
-either : (v : Bool) (x y : Reply) → tells_disk x ≡ false → tells_disk y ≡ false → tells_disk (if v then x else y) ≡ false
+either : (v : Bool) (x y : Reply) → refused_by is_of_disk x ≡ false → refused_by is_of_disk y ≡ false → refused_by is_of_disk (if v then x else y) ≡ false
 either true x y h j = h
 either false x y h j = j
 
-syntax_quiet : (f : SyntaxFault) → tells_disk (reply.Refused (syntax_refusal f)) ≡ false
+syntax_quiet : (f : SyntaxFault) → refused_by is_of_disk (reply.Refused (syntax_refusal f)) ≡ false
 syntax_quiet (syntax.Unexpected place) = refl
 syntax_quiet f = refl
 
-command_quiet : (f : CommandFault) → tells_disk (reply.Refused (command_refusal f)) ≡ false
+command_quiet : (f : CommandFault) → refused_by is_of_disk (reply.Refused (command_refusal f)) ≡ false
 command_quiet (command.Syntax place) = refl
 command_quiet f = refl
 
-bind_quiet : (f : BindFault) → tells_disk (reply.Refused (bind_refusal f)) ≡ false
+bind_quiet : (f : BindFault) → refused_by is_of_disk (reply.Refused (bind_refusal f)) ≡ false
 bind_quiet (bind.NoIndex name) = refl
 bind_quiet f = refl
 
-absent_quiet : (x : Statement) → tells_disk (table_absent x) ≡ false
+absent_quiet : (x : Statement) → refused_by is_of_disk (table_absent x) ≡ false
 absent_quiet (s.CreateTable t) = refl
 absent_quiet (s.DropTable t) = either t.if_exists (reply.Defined defined.TableAbsent) (reply.Refused (refusal.NoTable t.name)) refl refl
 absent_quiet x = refl
 
-index_quiet : (x : Statement) → tells_disk (index_absent x) ≡ false
+index_quiet : (x : Statement) → refused_by is_of_disk (index_absent x) ≡ false
 index_quiet (s.CreateIndex i) = refl
 index_quiet (s.DropIndex i) = either i.if_exists (reply.Defined defined.IndexAbsent) (reply.Refused (refusal.NoIndex i.name)) refl refl
 index_quiet x = refl
 
-name_quiet : (x : Statement) → tells_disk (name_taken x) ≡ false
+name_quiet : (x : Statement) → refused_by is_of_disk (name_taken x) ≡ false
 name_quiet (s.CreateTable t) = either t.if_not_exists (reply.Defined defined.TableKept) (reply.Refused (refusal.NameExists t.name)) refl refl
 name_quiet (s.CreateIndex i) = either i.if_not_exists (reply.Defined defined.IndexKept) (reply.Refused (refusal.NameExists i.name)) refl refl
 name_quiet x = refl
 
-says_quiet : (st : Settings) (c : Command) (a : Answered) → SaysOf st c a → tells_disk a.reply ≡ false
-says_quiet st (commands.Scn n) a says = ap tells_disk says.0
-says_quiet st (commands.Autocommit on) a says = ap tells_disk says.0
-says_quiet st c a says = ap tells_disk says.0
+says_quiet : (st : Settings) (c : Command) (a : Answered) → SaysOf st c a → refused_by is_of_disk a.reply ≡ false
+says_quiet st (commands.Scn n) a says = ap (refused_by is_of_disk) says.0
+says_quiet st (commands.Autocommit true) a says = ap (refused_by is_of_disk) says.1.0
+says_quiet st (commands.Autocommit false) a says = ap (refused_by is_of_disk) says.0
+says_quiet st commands.Commit a says = ap (refused_by is_of_disk) says.1.0
+says_quiet st c a says = absurd says
 
-at_once_quiet : (st : Settings) (p : SeenPiece) (a : Answered) → IsAtOnce st p a → tells_disk a.reply ≡ false
-at_once_quiet st p a (right.is_long kind long says) = ap tells_disk says.0
-at_once_quiet st p a (right.is_not_read e read says) = ap tells_disk says.0 ∙ syntax_quiet e
-at_once_quiet st p a (right.is_not_built x read built says) = ap tells_disk says.0
-at_once_quiet st p a (right.is_under_scn x read may scn says) = ap tells_disk says.0
-at_once_quiet st p a (right.is_wrong_table t fault read whole scn first says) = ap tells_disk says.0 ∙ bind_quiet fault
-at_once_quiet st p a (right.is_no_command e read says) = ap tells_disk says.0 ∙ command_quiet e
-at_once_quiet st p a (right.is_command c read built says) = says_quiet st c a says
-at_once_quiet st p a (right.is_command_not_built c read built says) = ap tells_disk says.0
-at_once_quiet st p a (right.is_lacking says) = ap tells_disk says.0
+at_once_quiet : (st : Settings) (p : SeenPiece) (a : Answered) → IsAtOnce st p a → refused_by is_of_disk a.reply ≡ false
+at_once_quiet st p a (right.is_long kind long says) = ap (refused_by is_of_disk) says.0
+at_once_quiet st p a (right.is_not_read e read says) = ap (refused_by is_of_disk) says.0 ∙ syntax_quiet e
+at_once_quiet st p a (right.is_not_built x read built says) = ap (refused_by is_of_disk) says.0
+at_once_quiet st p a (right.is_under_scn x read may scn says) = ap (refused_by is_of_disk) says.0
+at_once_quiet st p a (right.is_wrong_table t fault read whole scn first says) = ap (refused_by is_of_disk) says.0 ∙ bind_quiet fault
+at_once_quiet st p a (right.is_no_command e read says) = ap (refused_by is_of_disk) says.0 ∙ command_quiet e
+at_once_quiet st p a (right.is_command c read says) = says_quiet st c a says
+at_once_quiet st p a (right.is_held_as_whole x read held says) = ap (refused_by is_of_disk) says.0
+at_once_quiet st p a (right.is_command_not_built c read built says) = ap (refused_by is_of_disk) says.0
+at_once_quiet st p a (right.is_lacking says) = ap (refused_by is_of_disk) says.0
 
 -- ---- 3. What a DELETE did
 
@@ -179,7 +188,7 @@ made_balanced k t (cs ∷ parts) (r ∷ rs) acts m =
 
 -- a reply that tells of the disk has an entry that tells it; and one that doesn't stop its session leaves nothing under way
 pub record IsFair (k : Known) (own : List Act) (r : Reply) : Type 0 where
-  pub told : tells_disk r ≡ true → has_told k.seen ≡ true
+  pub told : refused_by is_of_disk r ≡ true → has_told k.seen ≡ true
   pub balanced : is_fatal r ≡ false → IsBalanced own
 
 -- no place is damaged
@@ -187,7 +196,7 @@ undamaged_at : (k : Known) → k.damaged ≡ undamaged → (file place : ℕ) �
 undamaged_at k whole file place h = false≢true (sym (ap (λ (f : ℕ → ℕ → Bool). f file place) whole) ∙ h)
 
 -- a definition that was refused for the disk's sake has an entry that tells it
-defining_told : (sound : Type 0) (k : Known) → k.damaged ≡ undamaged → (x : Definition) (y : Statement) (f : DefineFault) → define.FaultIs sound x f k → tells_disk (undefined y f) ≡ true → has_told k.seen ≡ true
+defining_told : (sound : Type 0) (k : Known) → k.damaged ≡ undamaged → (x : Definition) (y : Statement) (f : DefineFault) → define.FaultIs sound x f k → refused_by is_of_disk (undefined y f) ≡ true → has_told k.seen ≡ true
 defining_told sound k whole x y undone.ReadFault is tell = told_by k.seat (Missed is.0) k.seen refl is.1
 defining_told sound k whole x y undone.WriteFault is tell = told_by k.seat (Shut is.0) k.seen refl is.1
 defining_told sound k whole x y (undone.Damaged file place) is tell = absurd (undamaged_at k whole file place is)
@@ -198,7 +207,7 @@ defining_told sound k whole x y undone.NoIndex is tell = absurd (false≢true (s
 defining_told sound k whole x y f is tell = absurd (false≢true tell)
 
 -- and so has one that was refused earlier
-refused_told : (sound : Type 0) (k : Known) → k.damaged ≡ undamaged → (n : ℕ) (x : Definition) (y : Statement) (f : DefineFault) → indexing.WasRefused sound n x f k → tells_disk (undefined y f) ≡ true → has_told k.seen ≡ true
+refused_told : (sound : Type 0) (k : Known) → k.damaged ≡ undamaged → (n : ℕ) (x : Definition) (y : Statement) (f : DefineFault) → indexing.WasRefused sound n x f k → refused_by is_of_disk (undefined y f) ≡ true → has_told k.seen ≡ true
 refused_told sound k whole n x y f w tell =
     subst (λ (es : List Entry). has_told es ≡ true) (sym w.past.seen) (told_more w.was.seen w.past.more (defining_told sound w.was (sym w.past.damaged ∙ whole) x y f w.cause tell))
 
@@ -211,12 +220,12 @@ third t = t.2
 
 module _ (sound : Type 0) (k : Known) (whole : k.damaged ≡ undamaged) where
   Told : Reply → Type 0
-  Told r = tells_disk r ≡ true → has_told k.seen ≡ true
+  Told r = refused_by is_of_disk r ≡ true → has_told k.seen ≡ true
 
   no_damage : (file place : ℕ) → IsDamagedAt k file place → ⊥
   no_damage = undamaged_at k whole
 
-  not_told : (r : Reply) → tells_disk r ≡ false → Told r
+  not_told : (r : Reply) → refused_by is_of_disk r ≡ false → Told r
   unfolding Told
   not_told r quiet tell = absurd (false≢true (sym quiet ∙ tell))
 
@@ -257,20 +266,20 @@ module _ (sound : Type 0) (k : Known) (whole : k.damaged ≡ undamaged) where
   -- nothing was done for it
   idle : (own : List Act) (a r : Reply) → own ≡ [] → a ≡ r → Told r → IsFair k own a
   unfolding Told
-  idle own a r none says told = record { told = λ tell. told (sym (ap tells_disk says) ∙ tell); balanced = λ go. subst IsBalanced (sym none) balanced-none }
+  idle own a r none says told = record { told = λ tell. told (sym (ap (refused_by is_of_disk) says) ∙ tell); balanced = λ go. subst IsBalanced (sym none) balanced-none }
 
   -- this was done for it, and the reply doesn't tell of the disk
-  did : (own acts : List Act) (a r : Reply) → own ≡ acts → IsBalanced acts → a ≡ r → tells_disk r ≡ false → IsFair k own a
-  did own acts a r is balanced says quiet = record { told = λ tell. absurd (false≢true (sym (ap tells_disk says ∙ quiet) ∙ tell)); balanced = λ go. subst IsBalanced (sym is) balanced }
+  did : (own acts : List Act) (a r : Reply) → own ≡ acts → IsBalanced acts → a ≡ r → refused_by is_of_disk r ≡ false → IsFair k own a
+  did own acts a r is balanced says quiet = record { told = λ tell. absurd (false≢true (sym (ap (refused_by is_of_disk) says ∙ quiet) ∙ tell)); balanced = λ go. subst IsBalanced (sym is) balanced }
 
-  still : (own : List Act) (a r : Reply) → own ≡ [] → a ≡ r → tells_disk r ≡ false → IsFair k own a
+  still : (own : List Act) (a r : Reply) → own ≡ [] → a ≡ r → refused_by is_of_disk r ≡ false → IsFair k own a
   still own a r none says quiet = did own [] a r none balanced-none says quiet
 
   -- a SELECT that was refused
   not_selected : (name : List ℕ) (q : Query) (scn : Option ℕ) (f : QueryFault) (own : List Act) (a : Reply) → QueryFaultIs q scn f k → ((own ≡ []) ⊎ OpensAndCloses q own) → (a ≡ reply.Refused (query_refusal name f)) ⊎ (a ≡ reply.Refused refusal.Memory) → IsFair k own a
   unfolding Told
-  not_selected name q scn f own a is left (inl says) = record { told = λ tell. query_told name q scn f is (sym (ap tells_disk says) ∙ tell); balanced = λ go. query_balanced q own left }
-  not_selected name q scn f own a is left (inr says) = record { told = λ tell. absurd (false≢true (sym (ap tells_disk says) ∙ tell)); balanced = λ go. query_balanced q own left }
+  not_selected name q scn f own a is left (inl says) = record { told = λ tell. query_told name q scn f is (sym (ap (refused_by is_of_disk) says) ∙ tell); balanced = λ go. query_balanced q own left }
+  not_selected name q scn f own a is left (inr says) = record { told = λ tell. absurd (false≢true (sym (ap (refused_by is_of_disk) says) ∙ tell)); balanced = λ go. query_balanced q own left }
 
   -- a DELETE that was stopped at one of its batches
   stopped_balanced : (name : List ℕ) (p : Planned) (own : List Act) (rs : List Receipt) (f : BatchFault) → deleting.HasStopped sound p own k rs f → is_fatal (reply.Refused (batch_refusal name f)) ≡ false → IsBalanced own
@@ -283,11 +292,11 @@ module _ (sound : Type 0) (k : Known) (whole : k.damaged ≡ undamaged) where
   not_deleted : (name : List ℕ) (p : Planned) (own : List Act) (rs : List Receipt) (f : BatchFault) (a : Reply) → deleting.HasStopped sound p own k rs f → right.StopsAt a name f → IsFair k own a
   unfolding Told
   not_deleted name p own rs f a h (inl says) = record {
-    told = λ tell. batch_told name p.table.id (take 1000 h.rest) f h.outcome.0 (sym (ap tells_disk says) ∙ tell);
+    told = λ tell. batch_told name p.table.id (take 1000 h.rest) f h.outcome.0 (sym (ap (refused_by is_of_disk) says) ∙ tell);
     balanced = λ go. stopped_balanced name p own rs f h (sym (ap is_fatal says) ∙ go);
   }
   not_deleted name p own rs f a h (inr lacks) = record {
-    told = λ tell. absurd (false≢true (sym (ap tells_disk lacks.0) ∙ tell));
+    told = λ tell. absurd (false≢true (sym (ap (refused_by is_of_disk) lacks.0) ∙ tell));
     balanced = λ go. stopped_balanced name p own rs f h (ap (λ (g : BatchFault). is_fatal (reply.Refused (batch_refusal name g))) lacks.1);
   }
 
@@ -299,8 +308,44 @@ module _ (sound : Type 0) (k : Known) (whole : k.damaged ≡ undamaged) where
 
   index_unmade : (own : List Act) (a r : Reply) → IsBalanced own × Told r → (a ≡ r) ⊎ (a ≡ reply.Refused refusal.Memory) → IsFair k own a
   unfolding Told
-  index_unmade own a r o (inl says) = record { told = λ tell. o.1 (sym (ap tells_disk says) ∙ tell); balanced = λ go. o.0 }
-  index_unmade own a r o (inr says) = record { told = λ tell. absurd (false≢true (sym (ap tells_disk says) ∙ tell)); balanced = λ go. o.0 }
+  index_unmade own a r o (inl says) = record { told = λ tell. o.1 (sym (ap (refused_by is_of_disk) says) ∙ tell); balanced = λ go. o.0 }
+  index_unmade own a r o (inr says) = record { told = λ tell. absurd (false≢true (sym (ap (refused_by is_of_disk) says) ∙ tell)); balanced = λ go. o.0 }
+
+  -- a commit that was refused
+  commit_told : (name : List ℕ) (h : HeldData) (f : BatchFault) → commits.FaultIs sound h f k → Told (reply.Refused (batch_refusal name f))
+  unfolding Told
+  commit_told name h unmade.NoTable is tell = absurd (false≢true tell)
+  commit_told name h (unmade.Limit which count) is tell = absurd (false≢true tell)
+  commit_told name h unmade.ReadFault is tell = told_by k.seat (Missed is.0) k.seen refl is.1
+  commit_told name h unmade.WriteFault is tell = told_by k.seat (Shut is.0) k.seen refl is.1
+  commit_told name h (unmade.Damaged file place) is tell = absurd (no_damage file place is)
+  commit_told name h (unmade.Closed call) is tell = closed_by call k.seen is
+  commit_told name h unmade.Memory is tell = absurd (false≢true tell)
+
+  not_committed : (h : HeldData) (f : BatchFault) (own : List Act) (a : Reply) → commits.IsOutcome sound h own k (Err f) → right.StopsAt a h.name f → IsFair k own a
+  unfolding Told
+  not_committed h f own a o (inl says) = record {
+    told = λ tell. commit_told h.name h f o.0 (sym (ap (refused_by is_of_disk) says) ∙ tell);
+    balanced = λ go. batch_balanced h.name h.table h.changes f own o.1 (sym (ap is_fatal says) ∙ go);
+  }
+  not_committed h f own a o (inr lacks) = record {
+    told = λ tell. absurd (false≢true (sym (ap (refused_by is_of_disk) lacks.0) ∙ tell));
+    balanced = λ go. batch_balanced h.name h.table h.changes f own o.1 (ap (λ (g : BatchFault). is_fatal (reply.Refused (batch_refusal h.name g))) lacks.1);
+  }
+
+  -- a table that wasn't counted
+  count_told : (n : ℕ) (name : List ℕ) (f : CountFault) → counts.FaultIs n name f k → Told (reply.Refused (right.count_refusal name f))
+  unfolding Told
+  count_told n name uncounted.NoTable is tell = absurd (false≢true tell)
+  count_told n name uncounted.ReadFault is tell = told_by k.seat (Missed is.0) k.seen refl is.1
+  count_told n name (uncounted.Damaged file place) is tell = absurd (no_damage file place is)
+  count_told n name (uncounted.Closed call) is tell = closed_by call k.seen is
+  count_told n name uncounted.Memory is tell = absurd (false≢true tell)
+
+  not_counted : (n : ℕ) (name : List ℕ) (f : CountFault) (own : List Act) (a : Reply) → counts.FaultIs n name f k → own ≡ [] → (a ≡ reply.Refused (right.count_refusal name f)) ⊎ (a ≡ reply.Refused refusal.Memory) → IsFair k own a
+  unfolding Told
+  not_counted n name f own a is none (inl says) = idle own a (reply.Refused (right.count_refusal name f)) none says (count_told n name f is)
+  not_counted n name f own a is none (inr says) = still own a (reply.Refused refusal.Memory) none says refl
 
   -- each form of answer
   pub fair : (before : ℕ) (own : List Act) (st : Settings) (p : SeenPiece) (a : Answered) → IsRight sound k before own st p a → IsFair k own a.reply
@@ -309,9 +354,15 @@ module _ (sound : Type 0) (k : Known) (whole : k.damaged ≡ undamaged) where
   fair before own st p a (right.is_unfound x read may lacking says none) = still own a.reply (table_absent x) none says.0 (absent_quiet x)
   fair before own st p a (right.is_closed x call read closed says none) = idle own a.reply (reply.Refused (refusal.Closed call)) none says.0 (λ tell. closed_by call k.seen closed)
   fair before own st p a (right.is_wrong x f fault read may bound first says none) = still own a.reply (reply.Refused (bind_refusal fault)) none says.0 (bind_quiet fault)
-  fair before own st p a (right.is_changed u f r read scn bound fits ended says) = did own _ a.reply (reply.Count 1 Affected) ended.one (balanced-batch f.table.id r.stamp (one_change f u)) says.0 refl
-  fair before own st p a (right.is_not_changed u f fault read scn bound fits is since left says) = record {
-    told = λ tell. batch_told u.table f.table.id (one_change f u) fault is (sym (ap tells_disk says.0) ∙ tell);
+  fair before own st p a (right.is_held u f st' read scn off bound fits holding says none) = still own a.reply (reply.Count 1 Held) none says.0 refl
+  fair before own st p a (right.is_full u f read scn off bound fits full says none) = still own a.reply (reply.Refused (refusal.Limit Rows)) none says.0 refl
+  fair before own st p a (right.is_committed again h rs held asks outcome says) = did own _ a.reply (reply.Count _ Affected) outcome.2.one (balanced-batch h.table outcome.0.stamp h.changes) says.0 refl
+  fair before own st p a (right.is_not_committed again h fault held asks outcome since stops says) = not_committed h fault own a.reply outcome stops
+  fair before own st p a (right.is_counted name s read outcome says none) = still own a.reply (reply.Status s) none says.0 refl
+  fair before own st p a (right.is_not_counted name fault read outcome since says none) = not_counted a.first name fault own a.reply outcome none (⊎_elim (λ is. inl is.0) (λ is. inr is.0) says)
+  fair before own st p a (right.is_changed u f r read scn on bound fits ended says) = did own _ a.reply (reply.Count 1 Affected) ended.one (balanced-batch f.table.id r.stamp (one_change f u)) says.0 refl
+  fair before own st p a (right.is_not_changed u f fault read scn on bound fits is since left says) = record {
+    told = λ tell. batch_told u.table f.table.id (one_change f u) fault is (sym (ap (refused_by is_of_disk) says.0) ∙ tell);
     balanced = λ go. batch_balanced u.table f.table.id (one_change f u) fault own left (sym (ap is_fatal says.0) ∙ go);
   }
   fair before own st p a (right.is_dropped x f m e read scn bound fits is made says) = did own _ a.reply (reply.Defined (word_of x)) made.one (balanced-definition e m) says.0 refl
@@ -319,7 +370,7 @@ module _ (sound : Type 0) (k : Known) (whole : k.damaged ≡ undamaged) where
   fair before own st p a (right.is_created t m read one scn fits made says) = did own _ a.reply (reply.Defined defined.TableCreated) made.one (balanced-definition (d.Table (new_table t)) m) says.0 refl
   fair before own st p a (right.is_not_created t fault read one scn fits why since none says) = idle own a.reply (undefined (s.CreateTable t) fault) none says.0 (define_told (d.Table (new_table t)) (s.CreateTable t) fault why)
   fair before own st p a (right.is_index_made i f n read scn bound fits outcome says) = record {
-    told = λ tell. absurd (false≢true (sym (ap tells_disk says.0) ∙ tell));
+    told = λ tell. absurd (false≢true (sym (ap (refused_by is_of_disk) says.0) ∙ tell));
     balanced = λ go. held (new_index f.table i) own _ (third outcome) (balanced-append _ _ (balanced-definition (d.Index (new_index f.table i)) n.made) (balanced-definition (indexing.activation (new_index f.table i) n.made) n.active));
   }
   fair before own st p a (right.is_index_not_made i f why read scn bound fits outcome says) =
@@ -328,11 +379,11 @@ module _ (sound : Type 0) (k : Known) (whole : k.damaged ≡ undamaged) where
   fair before own st p a (right.is_selected q f x r read bound asked outcome shows) = did own _ a.reply (reply.Rows r.shown.rows) outcome.1 (balanced-point _ _ _) shows.rows refl
   fair before own st p a (right.is_not_selected q f x fault read bound asked outcome since says) =
       not_selected q.table (query_of x) st.scn fault own a.reply outcome.0 outcome.1 (⊎_elim (λ is. inl is.0) (λ is. inr is.0) says)
-  fair before own st p a (right.is_deleted x f m read scn bound fits h first says) =
+  fair before own st p a (right.is_deleted x f m read scn on bound fits h first says) =
       did own _ a.reply (reply.Count m.rows Affected) h.own_is
       (balanced-append h.finding h.making (found_balanced sound (right.deletion_query f x) k m.first h.finding h.changes h.found) (made_balanced k f.table.id h.parts a.receipts h.making h.made)) says.0 refl
-  fair before own st p a (right.is_not_deleted x f fault read scn bound fits h since stops says) = not_deleted x.table (right.deletion_query f x) own a.receipts fault a.reply h stops
-  fair before own st p a (right.is_not_found x f fault read scn bound fits outcome since says) =
+  fair before own st p a (right.is_not_deleted x f fault read scn on bound fits h since stops says) = not_deleted x.table (right.deletion_query f x) own a.receipts fault a.reply h stops
+  fair before own st p a (right.is_not_found x f fault read scn on bound fits outcome since says) =
       not_selected x.table (query_of (right.deletion_query f x)) None fault own a.reply outcome.0 outcome.1 (⊎_elim (λ is. inl is.0) (λ is. inr is.0) says)
   fair before own st p a (right.is_explained q f x read bound planned says none) = still own a.reply (reply.Explained (explained x)) none says.0 refl
   fair before own st p a (right.is_not_explained q f read bound planned says none) = still own a.reply (reply.Refused refusal.IndexJoin) none says.0 refl

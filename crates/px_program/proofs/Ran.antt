@@ -2,7 +2,7 @@
 use Rattle.std.proofs.Common.{◌≡◌, ◌≢◌, ◌<◌, ◌≤◌, ◌⊎◌, ◌+◌, ◌*◌, inl, inr, ℕ, zero, suc, Bool, true, false, List, [], None, IsTrue, refl, sym, ap, subst, ◌∙◌, arith}
 use Rattle.std.specs.Prelude.{Option, Some, drop, length, take, map, option_map}
 use Rattle.std.specs.Option.{is_some}
-use Rattle.std.proofs.lemmas.Bool.{false≢true}
+use Rattle.std.proofs.lemmas.Bool.{cases_lt, false≢true}
 use Rattle.px_outside.specs.Disk.{Image}
 use Rattle.px_outside.specs.Faults.{FaultsRose}
 use Rattle.px_outside.specs.OnDisk.{IsLeft, Passes, Rose, TouchesOnly}
@@ -20,11 +20,15 @@ use Rattle.px_opening.specs.declared.fault.OpenFault.{OpenFault}
 use Rattle.px_opening.specs.declared.fault.OpenFault.TheVariants as fault
 use Rattle.px_opening.specs.declared.opened.Opened.{Opened}
 use Rattle.px_catalog.specs.Catalogue.{catalogue_files}
+use Rattle.px_trail.specs.Trail.{Base}
+use Rattle.px_trail.specs.declared.entry.Entry.{Entry}
+use Rattle.px_server.specs.Others.{OthersStay, beginning_at, part_files}
 use Rattle.px_server.specs.Started.{IsOpenedOn, KeepsFolder, StartsSound}
 use Rattle.px_program.specs.Run.{IsRun, IsUnrun, ReadsAll, ReadsSome, Stops, known_over, most_read, run_given, run_left, ReadsSound}
 use Rattle.px_program.proofs.Stops.{starts_reads}
 use Rattle.px_program.specs.Status.{is_memory_status}
 use Rattle.px_program.specs.Words.{folder_in as folder_named}
+use Rattle.px_program.specs.inner.Outcomes.{with_disk}
 use Rattle.px_program.specs.inner.Running.{IsCausedBy, IsOpenedNow, LeavesNothing, RanFolder, RanOn, RanOpened, RanOver, StoodBefore, Unopened, IsLeftSince, at_least, stopped_by}
 use Rattle.px_program.specs.declared.outcome.Outcome.{Outcome}
 use Rattle.px_program.specs.declared.status.Status.{Status}
@@ -42,6 +46,19 @@ keeps_still d disk up starts f k on least = record {
         unmade = on.unmade;
       });
 }
+
+-- files of no part stay from the opening on, and the opening touches the catalogue's alone
+others_joined : {D : Type 0} (d : DiskGhosts D) (b : Base) (old mid new : D) (es : List Entry) → TouchesOnly d old mid catalogue_files → ((moment file : ℕ) (bytes : List ℕ) → moment < d.calls mid → d.left new moment file bytes → d.left mid moment file bytes)
+    → OthersStay d b (beginning_at d mid) new es → OthersStay d b (beginning_at d old) new es
+others_joined d b old mid new es touches past k = record {
+  later = omega (arith, touches.later, k.later);
+  left = λ moment file bytes since other is. left moment file bytes since other is (cases_lt moment (d.calls mid));
+  seen = λ file other. k.seen file other ∙ touches.sees file (λ own. other (inl own));
+}
+  where
+    left : (moment file : ℕ) (bytes : List ℕ) → d.calls old ≤ moment → (part_files b es file → ⊥) → d.left new moment file bytes → (moment < d.calls mid) ⊎ (d.calls mid ≤ moment) → d.left old (d.calls old) file bytes
+    left moment file bytes since other is (inl before) = touches.others moment file bytes since (λ own. other (inl own)) (past moment file bytes before is)
+    left moment file bytes since other is (inr after) = touches.others (d.calls mid) file bytes touches.later (λ own. other (inl own)) (k.left moment file bytes after other is)
 
 -- why a folder wasn't opened
 pub caused_by : {D : Type 0} (d : DiskGhosts D) (old new : D) (f : OpenFault) → (f ≡ fault.ReadFault → Rose d old new) → (f ≡ fault.WriteFault → Rose d old new)
@@ -70,7 +87,7 @@ module _ {D C O : Type 0} (d : DiskGhosts D) (c : ClockGhosts C) (k : SinkGhosts
       → Passes d old new (17 + 12 * length (region_numbers (folder_in w).standing)) → (IsTrue d.tells → TouchesOnly d old new catalogue_files)
       → (StartsSound d old → IsTrue d.tells → IsOpenedOn d new w) → (ReadsSound d old → IsTrue d.tells → IsOpenedNow d new w)
       → d.calls new ≤ d.calls o.disk → ((moment file : ℕ) (bytes : List ℕ) → moment < d.calls new → d.left o.disk moment file bytes → d.left new moment file bytes)
-      → RanOpened d c k (base_of (folder_in w)) (IsSoundFolder (folder_in w)) (IsTrue d.tells → IsOpenedNow d new w) (IsLeftSince d (d.calls new) (StoodBefore d new w)) (c.times clock) script new out out' o → RanOn d c k script clock old out out' o
+      → RanOpened d c k (base_of (folder_in w)) (IsSoundFolder (folder_in w)) (IsTrue d.tells → IsOpenedNow d new w) (beginning_at d new) (IsLeftSince d (d.calls new) (StoodBefore d new w)) (c.times clock) script new out out' o → RanOn d c k script clock old out out' o
   opened_ran tells_left w stood sound passes touches opened now within past (inl r) = inl (record {
     folder = folder_in w;
     origin = record { stands = stood; sound = sound };
@@ -91,6 +108,7 @@ module _ {D C O : Type 0} (d : DiskGhosts D) (c : ClockGhosts C) (k : SinkGhosts
       late_is = λ u is reads tells. r.late_is u is (now reads) tells;
       status = r.status;
       blamed = r.blamed;
+      others = λ reads tells. others_joined d (base_of (folder_in w)) old new o.disk o.trail.entries (touches tells) past (r.others (now reads) tells);
     };
   })
     where
@@ -110,10 +128,6 @@ module _ {D C O : Type 0} (d : DiskGhosts D) (c : ClockGhosts C) (k : SinkGhosts
 abbrev pub through : {D E : Type 0} → DiskGhosts D → (E → D) → DiskGhosts E
 through d of = record { tells = d.tells; seen = λ m. d.seen (of m); first = λ m. d.first (of m); left = λ m. d.left (of m); calls = λ m. d.calls (of m); faults = λ m. d.faults (of m); first_fault = λ m. d.first_fault (of m) }
 
--- the same outcome with the disk under its own
-abbrev pub moved : {D E : Type 0} → (E → D) → Outcome E → Outcome D
-moved of o = record { status = o.status; disk = of o.disk; trail = o.trail; late = o.late; transcripts = o.transcripts; memory = o.memory }
-
 module _ {D E C O : Type 0} (d : DiskGhosts D) (of : E → D) (c : ClockGhosts C) (k : SinkGhosts O) (script : List ℕ) (clock : C) (m : E) (out out' : O) (o : Outcome E) where
   stands_through : (x : E) (f : FolderData) → StandsOn (through d of) x f → StandsOn d (of x) f
   stands_through x f s = record {
@@ -132,7 +146,7 @@ module _ {D E C O : Type 0} (d : DiskGhosts D) (of : E → D) (c : ClockGhosts C
   told_through opened moment (inl starts) = inl (starts_through starts)
   told_through opened moment (inr since) = inr since
 
-  folder_through : RanFolder (through d of) c k script clock m out out' o → RanFolder d c k script clock (of m) out out' (moved of o)
+  folder_through : RanFolder (through d of) c k script clock m out out' o → RanFolder d c k script clock (of m) out out' (with_disk (of o.disk) o)
   folder_through r = record {
     folder = r.folder;
     origin = record { stands = r.origin.stands; sound = r.origin.sound };
@@ -155,6 +169,7 @@ module _ {D E C O : Type 0} (d : DiskGhosts D) (of : E → D) (c : ClockGhosts C
       late_is = λ u is reads tells. r.over.late_is u is (reads_through reads) tells;
       status = r.over.status;
       blamed = r.over.blamed;
+      others = λ reads tells. (let k = r.over.others (reads_through reads) tells in record { later = k.later; left = k.left; seen = k.seen });
     };
   }
 
@@ -164,7 +179,7 @@ module _ {D E C O : Type 0} (d : DiskGhosts D) (of : E → D) (c : ClockGhosts C
   caused_through (fault.Damaged file place) caused = caused
   caused_through fault.Memory caused = caused
 
-  unopened_through : Unopened (through d of) m out out' o → Unopened d (of m) out out' (moved of o)
+  unopened_through : Unopened (through d of) m out out' o → Unopened d (of m) out out' (with_disk (of o.disk) o)
   unfolding starts_through
   unopened_through u = record {
     fault = u.fault;
@@ -175,14 +190,14 @@ module _ {D E C O : Type 0} (d : DiskGhosts D) (of : E → D) (c : ClockGhosts C
     recovers = λ starts moment image left. u.recovers (starts_through starts) moment image left;
   }
 
-  run_through : RanOn (through d of) c k script clock m out out' o → RanOn d c k script clock (of m) out out' (moved of o)
+  run_through : RanOn (through d of) c k script clock m out out' o → RanOn d c k script clock (of m) out out' (with_disk (of o.disk) o)
   run_through (inl r) = inl (folder_through r)
   run_through (inr u) = inr (unopened_through u)
 
   -- what a run on the disk leaves, where it began with this disk under its own
-  pub ran_through : (disk back : D) → of m ≡ disk → back ≡ of o.disk → RanOn (through d of) c k script clock m out out' o → RanOn d c k script clock disk out out' (record { status = o.status; disk = back; trail = o.trail; late = o.late; transcripts = o.transcripts; memory = o.memory })
-  ran_through disk back is end r = subst (λ (x : D). RanOn d c k script clock x out out' (record { status = o.status; disk = back; trail = o.trail; late = o.late; transcripts = o.transcripts; memory = o.memory })) is
-      (subst (λ (x : D). RanOn d c k script clock (of m) out out' (record { status = o.status; disk = x; trail = o.trail; late = o.late; transcripts = o.transcripts; memory = o.memory })) (sym end) (run_through r))
+  pub ran_through : (disk back : D) → of m ≡ disk → back ≡ of o.disk → RanOn (through d of) c k script clock m out out' o → RanOn d c k script clock disk out out' (with_disk back o)
+  ran_through disk back is end r =
+      subst (λ (x : D). RanOn d c k script clock x out out' (with_disk back o)) is (subst (λ (x : D). RanOn d c k script clock (of m) out out' (with_disk x o)) (sym end) (run_through r))
 
 -- ---- the whole run
 
@@ -224,9 +239,9 @@ module _ {D C I O : Type 0} (d : DiskGhosts D) (c : ClockGhosts C) (s : SourceGh
   stops_by fresh failed (fault.Damaged file place) zero is caused = (named, caused, read)
   stops_by fresh failed fault.Memory zero is caused = (named, tt, some_read)
 
-  pub run_of : (script : List ℕ) → (IsTrue s.tells → script ≡ take most_read (s.remaining input)) → d.faults disk ≡ 0 → (0 < d.faults o.disk → 0 < d.first_fault o.disk) → (0 < d.first_fault o.disk → 0 < d.faults o.disk) → RanOn d c k script clock disk out out' o
+  pub run_of : (script : List ℕ) → (IsTrue s.tells → script ≡ take most_read (s.remaining input)) → d.calls disk ≡ 0 → d.faults disk ≡ 0 → (0 < d.faults o.disk → 0 < d.first_fault o.disk) → (0 < d.first_fault o.disk → 0 < d.faults o.disk) → RanOn d c k script clock disk out out' o
       → IsUnrun d s (run_given disk clock input out words) (run_left o input' out') ⊎ IsRun d c s k (run_given disk clock input out words) (run_left o input' out')
-  run_of script is fresh known failed (inl r) = inr (record {
+  run_of script is none fresh known failed (inl r) = inr (record {
     words_name_a_folder = named;
     script = script;
     script_is_the_input = is;
@@ -245,6 +260,9 @@ module _ {D C I O : Type 0} (d : DiskGhosts D) (c : ClockGhosts C) (s : SourceGh
     opened_within = r.within;
     before_it = r.before;
     stops_recover_later = λ reads moment image since left. r.over.recovers reads moment image (inr since, left);
+    other_files_stay = λ reads tells. (let
+        k = r.over.others reads tells
+        in record { later = k.later; past = λ moment file bytes before left. absurd (omega (arith, none, before)); others = k.left; sees = k.seen });
     folder_stands = r.over.stands;
     late_is_of_a_failed_write = r.over.unlate;
     late_is_where_it_closed = r.over.late_is;
@@ -253,7 +271,7 @@ module _ {D C I O : Type 0} (d : DiskGhosts D) (c : ClockGhosts C) (s : SourceGh
     all_is_ended = script_ended (IsSoundFolder r.folder) (known_over (base_of r.folder) r.over.seat o.trail.entries) script o.transcripts r.over.sink_failed o.memory refl r.over.replied;
     run_is_complete = complete (IsSoundFolder r.folder) (known_over (base_of r.folder) r.over.seat o.trail.entries) script o.transcripts r.over.sink_failed o.memory d k o.disk out out' (printed o.transcripts) o.status refl r.over.replied r.over.written r.over.status r.over.blamed known failed;
   })
-  run_of script is fresh known failed (inr u) = inl (record {
+  run_of script is none fresh known failed (inr u) = inl (record {
     cause = subst (λ (x : Status). Stops d s disk o.disk input input' words x) (sym u.status) (stops_by fresh failed u.fault (d.first_fault o.disk) refl u.caused);
     no_entries = u.nothing.entries;
     no_late = u.nothing.late;

@@ -1,6 +1,6 @@
 -- What the items of a run leave together: one that tells of the disk has an entry that tells it; where none stops its session, each seat has ended and
 -- closed all that it began and opened; and where memory wasn't lacked, each session came to its end.
-use Rattle.std.proofs.Common.{ℕ, zero, suc, ◌≡◌, ◌≢◌, ◌≤◌, ◌<◌, ◌+◌, ◌||◌, Bool, true, false, Some, List, [], ◌∷◌, ◌++◌, length, map, take, drop, replicate, refl, sym, ◌∙◌, ap, subst, arith, inl, inr, ⊎_elim}
+use Rattle.std.proofs.Common.{ℕ, zero, suc, ◌≡◌, ◌≢◌, ◌≤◌, ◌<◌, ◌+◌, ◌||◌, Bool, true, false, None, Some, List, [], ◌∷◌, ◌++◌, length, map, take, drop, replicate, refl, sym, ◌∙◌, ap, subst, arith, inl, inr, ⊎_elim}
 use Rattle.std.specs.Prelude.{slice_get}
 use Rattle.std.specs.List.{list_any}
 use Rattle.std.proofs.lemmas.Bool.{cases_lt, false≢true}
@@ -10,6 +10,8 @@ use Rattle.std.proofs.lemmas.List.Elements.{filter-append}
 use Rattle.std.proofs.lemmas.List.Folds.{list_any-append}
 use Rattle.px_lex.specs.Script.{SeenPiece, pieces_from}
 use Rattle.px_script.specs.Pieces.{span_of}
+use Rattle.px_script.specs.declared.piece.Span.{Span}
+use Rattle.px_item.proofs.Again.{again_only}
 use Rattle.px_script.specs.declared.script.SessionText.{SessionText}
 use Rattle.px_trail.specs.Trail.{acts_by}
 use Rattle.px_trail.specs.declared.entry.Entry.{Entry}
@@ -18,7 +20,10 @@ use Rattle.px_calls.proofs.Runs.{acts_by-append}
 use Rattle.px_reply.specs.declared.transcript.Item.{Item}
 use Rattle.px_reply.specs.declared.transcript.Transcript.{Transcript}
 use Rattle.px_item.specs.Right.{after}
-use Rattle.px_session.specs.Replies.{AreReplied, EndsAs, IsAnswered, Standing, answer_of, at_first, has_fatal, is_fatal, is_stopped, own_since, place_from}
+use Rattle.px_item.specs.declared.answered.After.{After}
+use Rattle.px_item.specs.declared.answered.After.TheVariants as next_is
+use Rattle.px_item.specs.declared.answered.Settings.{Settings}
+use Rattle.px_session.specs.Replies.{AreReplied, EndsAs, IsAnswered, IsReplied, Standing, answer_of, onward, at_first, has_fatal, is_fatal, is_stopped, own_since, place_from}
 use Rattle.px_session.specs.declared.state.Ending.{Ending}
 use Rattle.px_session.specs.declared.state.Ending.TheVariants.{Fatal, Memory, Whole}
 use Rattle.px_session.specs.declared.state.SessionState.{SessionState}
@@ -26,9 +31,9 @@ use Rattle.px_rounds.specs.Rounds.{AreRounds, HasRound, IsToldIn, first_state, i
 use Rattle.px_rounds.specs.Turns.{as_seat}
 use Rattle.px_rounds.proofs.Lists.{get_lt, get_some, some_same}
 use Rattle.px_server.specs.Kept.{has_told}
-use Rattle.px_program.specs.Complete.{AreWholeRounds, IsWhole, IsWholeRound, some_tell_disk, tells_disk}
+use Rattle.px_program.specs.Complete.{AreItemsOf, AreWholeRounds, IsCommit, IsWhole, IsWholeRound}
 use Rattle.px_program.specs.Run.{undamaged}
-use Rattle.px_program.specs.Status.{items_of}
+use Rattle.px_program.specs.Status.{is_of_disk, items_of, refused_by, some_refused_by}
 use Rattle.px_program.proofs.Balanced.{IsBalanced, balanced-append, balanced-none}
 use Rattle.px_program.proofs.Flat.{any_of}
 use Rattle.px_program.proofs.Items.{fair, told_front}
@@ -91,13 +96,13 @@ balanced_then seat a b c es h j x y = subst IsBalanced (sym (own_then seat a b c
 
 -- items between two places: one that tells of the disk has an entry that tells it; and where none stops the session, its seat leaves nothing under way
 record AreFair (k : Known) (n m : ℕ) (items : List Item) : Type 0 where
-  told : some_tell_disk items ≡ true → has_told k.seen ≡ true
+  told : some_refused_by is_of_disk items ≡ true → has_told k.seen ≡ true
   balanced : has_fatal items ≡ false → IsBalanced (own_since k.seat n (take m k.seen))
 
 module _ (sound : Type 0) where
   forward : (k : Known) (n : ℕ) (at : Standing) (items : List Item) (m : ℕ) (to : Standing) → AreReplied sound k n at items m to → n ≤ m
   forward k n at [] m to h = (let e = h.0 in omega arith)
-  forward k n at (i ∷ is) m to h = (let a = h.4.begins in let b = h.4.ends in let c = forward k i.evidence.last (record { settings = h.2; left = h.1 }) is m to h.5 in omega arith)
+  forward k n at (i ∷ is) m to h = (let a = h.4.begins in let b = h.4.ends in let c = forward k i.evidence.last (onward h.2 h.0 h.1) is m to h.5 in omega arith)
 
   -- ---- 3. A session in a round
 
@@ -106,11 +111,11 @@ module _ (sound : Type 0) where
   items_fair k whole n at (i ∷ is) m to h =
       let last = i.evidence.last in
       let one = fair sound (after last k) whole n (own_since k.seat n (take last k.seen)) at.settings h.0 (answer_of i h.2) h.4.right in
-      let others = items_fair k whole last (record { settings = h.2; left = h.1 }) is m to h.5 in
+      let others = items_fair k whole last (onward h.2 h.0 h.1) is m to h.5 in
       let low : n ≤ last = (let a = h.4.begins in let b = h.4.ends in omega arith) in
-      let high : last ≤ m = forward k last (record { settings = h.2; left = h.1 }) is m to h.5 in
+      let high : last ≤ m = forward k last (onward h.2 h.0 h.1) is m to h.5 in
       record {
-        told = λ tell. or_elim (tells_disk i.reply) (some_tell_disk is) (λ here. told_front last k.seen (one.told here)) others.told tell;
+        told = λ tell. or_elim (refused_by is_of_disk i.reply) (some_refused_by is_of_disk is) (λ here. told_front last k.seen (one.told here)) others.told tell;
         balanced = λ go. (let none = or_none (is_fatal i.reply) (has_fatal is) go in balanced_then k.seat n last m k.seen low high (one.balanced none.0) (others.balanced none.1));
       }
 
@@ -134,9 +139,9 @@ module _ (sound : Type 0) where
         let told = h.each i st.0 t st'.0 st.1 is st'.1 in
         session_fair (as_seat (i + 1) k) from to st.0 (pieces_from 0 told.sections) t st'.0 told.ending whole told.answered
 
-    round_told : (from to number : ℕ) (states : List SessionState) (round : List SessionText) (ts : List Transcript) (states' : List SessionState) (memory : Bool) → HasRound sound k from to number states round ts states' memory → some_tell_disk (items_of ts) ≡ true → has_told k.seen ≡ true
+    round_told : (from to number : ℕ) (states : List SessionState) (round : List SessionText) (ts : List Transcript) (states' : List SessionState) (memory : Bool) → HasRound sound k from to number states round ts states' memory → some_refused_by is_of_disk (items_of ts) ≡ true → has_told k.seen ≡ true
     round_told from to number states round ts states' memory h tell =
-        let at = any_at (λ (t : Transcript). some_tell_disk t.items) ts (any_of (λ (i : Item). tells_disk i.reply) ts ∙ tell) in
+        let at = any_at (λ (t : Transcript). some_refused_by is_of_disk t.items) ts (any_of (λ (i : Item). refused_by is_of_disk i.reply) ts ∙ tell) in
         (at_seat from to number states round ts states' memory h at.0 at.1 at.2).told at.3
 
     round_balanced : (from to number : ℕ) (states : List SessionState) (round : List SessionText) (ts : List Transcript) (states' : List SessionState) (memory : Bool) → HasRound sound k from to number states round ts states' memory → has_fatal (items_of ts) ≡ false
@@ -158,12 +163,12 @@ module _ (sound : Type 0) where
     any_next p ts tss = ap (list_any p) (items_next ts tss) ∙ list_any-append p (items_of ts) (items_of (in_order tss))
 
     pub rounds_told : (from number : ℕ) (states : List SessionState) (rounds : List (List SessionText)) (tss : List (List Transcript)) (to : ℕ) (states' : List SessionState) (memory : Bool) → AreRounds sound k from number states rounds tss to states' memory
-        → some_tell_disk (items_of (in_order tss)) ≡ true → has_told k.seen ≡ true
+        → some_refused_by is_of_disk (items_of (in_order tss)) ≡ true → has_told k.seen ≡ true
     rounds_told from number states [] [] to states' memory h tell = absurd (false≢true tell)
-    rounds_told from number states (r ∷ rs) (ts ∷ tss) to states' memory h tell = or_elim (some_tell_disk (items_of ts)) (some_tell_disk (items_of (in_order tss)))
+    rounds_told from number states (r ∷ rs) (ts ∷ tss) to states' memory h tell = or_elim (some_refused_by is_of_disk (items_of ts)) (some_refused_by is_of_disk (items_of (in_order tss)))
         (λ here. round_told from h.0 number states r ts h.1 memory h.2 here)
         (λ more. rounds_told h.0 (number + 1) h.1 rs tss to states' memory h.3 more)
-        (sym (any_next (λ (i : Item). tells_disk i.reply) ts tss) ∙ tell)
+        (sym (any_next (λ (i : Item). refused_by is_of_disk i.reply) ts tss) ∙ tell)
     rounds_told from number states [] (ts ∷ tss) to states' memory h tell = absurd h
     rounds_told from number states (r ∷ rs) [] to states' memory h tell = absurd h
 
@@ -209,24 +214,44 @@ ended_whole Fatal left items lacks h go =
     absurd (false≢true (sym go ∙ (ap has_fatal h.is ∙ (list_any-append (λ (j : Item). is_fatal j.reply) h.before (h.item ∷ []) ∙ (ap (λ (v : Bool). v || (is_fatal h.item.reply || false)) h.quiet ∙ ap (λ (v : Bool). v || false) h.fatal)))))
 ended_whole Memory left items lacks h go = absurd (lacks refl)
 
+-- the first item is that of the first piece, and no commit before it
+abbrev pub FirstAlone : List Span → List Item → Type 0
+FirstAlone [] items = Unit {0}
+FirstAlone (p ∷ ps) [] = ⊥
+FirstAlone (p ∷ ps) (i ∷ items) = (i.statement ≡ p) × AreItemsOf ps items
+
 module _ (sound : Type 0) where
-  spans : (k : Known) (n : ℕ) (at : Standing) (items : List Item) (m : ℕ) (to : Standing) → AreReplied sound k n at items m to → map span_of at.left ≡ map (λ i. i.statement) items ++ map span_of to.left
-  spans k n at [] m to h = ap (λ (x : Standing). map span_of x.left) h.1
-  spans k n at (i ∷ is) m to h =
-      ap (map span_of) h.3
-      ∙ (ap (λ l. span_of h.0 ∷ l) (spans k i.evidence.last (record { settings = h.2; left = h.1 }) is m to h.5)
-      ∙ ap (λ x. x ∷ map (λ i. i.statement) is ++ map span_of to.left) (sym h.4.statement))
+  -- an item of a piece, and those behind it; where nothing is held, no commit stands in front of it
+  AreSpans : Settings → List SeenPiece → List Item → Type 0
+  AreSpans st ps items = AreItemsOf (map span_of ps) items × (st.held ≡ None → FirstAlone (map span_of ps) items)
+
+  behind_commit : (p : Span) (ps : List Span) (items : List Item) → FirstAlone (p ∷ ps) items → (j : Item) × (rest : List Item) × (items ≡ j ∷ rest) × (j.statement ≡ p) × AreItemsOf ps rest
+  behind_commit p ps [] h = absurd h
+  behind_commit p ps (j ∷ rest) h = (j, rest, refl, h.0, h.1)
+
+  one_span : (k : Known) (n : ℕ) (st : Settings) (i : Item) (is : List Item) (p : SeenPiece) (rest : List SeenPiece) (next : After) → IsReplied sound k n st p i next → AreSpans (onward next p rest).settings (onward next p rest).left is → AreSpans st (p ∷ rest) (i ∷ is)
+  unfolding AreSpans
+  one_span k n st i is p rest (next_is.Next st') r more = ((r.statement, inl more.0), λ none. (r.statement, more.0))
+  one_span k n st i is p rest (next_is.Again st') r more =
+      let way = again_only (answer_of i (next_is.Again st')) st' refl sound (after i.evidence.last k) n (own_since k.seat n (take i.evidence.last k.seen)) st p r.right in
+      let next = behind_commit (span_of p) (map span_of rest) is (more.1 way.none) in
+      ((r.statement, inr (next.0, next.1, way.reply, next.2, next.3, next.4)), λ none. absurd (way.held none))
+
+  spans : (k : Known) (n : ℕ) (at : Standing) (items : List Item) (m : ℕ) (to : Standing) → AreReplied sound k n at items m to → to.left ≡ [] → AreSpans at.settings at.left items
+  unfolding AreSpans
+  spans k n at [] m to h none = subst (λ (l : List SeenPiece). AreSpans at.settings l []) (sym (ap (λ (x : Standing). x.left) h.1 ∙ none)) (refl, λ e. tt)
+  spans k n at (i ∷ is) m to h none =
+      subst (λ (l : List SeenPiece). AreSpans at.settings l (i ∷ is)) (sym h.3) (one_span k n at.settings i is h.0 h.1 h.2 h.4 (spans k i.evidence.last (onward h.2 h.0 h.1) is m to h.5 none))
 
   whole_session : (k : Known) (from to number : ℕ) (st : SessionState) (text : List ℕ) (t : Transcript) (st' : SessionState) (memory : Bool) → memory ≡ false → st.stopped ≡ false → has_fatal t.items ≡ false → IsToldIn sound k from to number st text t st' memory
       → IsWhole text t × (st'.stopped ≡ false)
+  unfolding AreSpans
   whole_session k from to number st text t st' memory enough goes go h =
       let a = h.answered in
       let ps = pieces_from 0 h.sections in
       let e = ended_whole h.ending a.standing.left t.items (h.whole enough) a.ends go in
       let all : (at_first st ps).left ≡ ps = ap (λ (v : Bool). drop (place_from (length ps) v) ps) goes in
-      let each : map (λ i. i.statement) t.items ≡ map span_of ps =
-      sym (append-nil (map (λ i. i.statement) t.items))
-      ∙ (ap (λ (l : List SeenPiece). map (λ i. i.statement) t.items ++ map span_of l) (sym e.1) ∙ (sym (spans k from (at_first st ps) t.items a.last a.standing a.replied) ∙ ap (map span_of) all)) in
+      let each : AreItemsOf (map span_of ps) t.items = subst (λ (l : List SeenPiece). AreItemsOf (map span_of l) t.items) all (spans k from (at_first st ps) t.items a.last a.standing a.replied e.1).0 in
       let still : st'.stopped ≡ false = ap (λ (x : SessionState). x.stopped) a.state ∙ (ap (λ (v : Bool). v || is_stopped h.ending) goes ∙ ap is_stopped e.0) in
       (record { sections = h.sections; cut = h.cut; each = each }, still)
 

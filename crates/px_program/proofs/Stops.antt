@@ -21,6 +21,7 @@ use Rattle.px_folder.specs.Read.{IsReadOn}
 use Rattle.px_folder.proofs.Same.{one_base}
 use Rattle.px_opening.specs.Opened.{all_regions, folder_in}
 use Rattle.px_opening.specs.declared.opened.Opened.{Opened}
+use Rattle.px_server.specs.Others.{Beginning, BeginsAt}
 use Rattle.px_server.specs.Started.{HoldsOwn, IsOpenedOn, StartsSound}
 use Rattle.px_program.specs.Run.{ReadsSound}
 use Rattle.px_program.specs.inner.Running.{IsOpenedNow, RanOpened, StoodBefore, IsLeftSince, at_least}
@@ -92,6 +93,9 @@ module _ {D : Type 0} (d : DiskGhosts D) (tell : ℕ → Type 0) (disk : D) wher
     short = λ none. (λ bytes left. (k.short none).0 bytes left.1, λ bytes left. (k.short none).1 bytes left.1);
   }
 
+  pub begins_later : (began : Beginning) → BeginsAt d began disk → BeginsAt (later d tell) began disk
+  begins_later began k = record { moment = k.moment; left = λ file bytes is. k.left file bytes is.1; seen = k.seen }
+
   stands_later : (f : FolderData) → StandsOn d disk f → StandsOn (later d tell) disk f
   stands_later f k = record {
     parts = λ n kept. record { each = λ image left. (k.parts n kept).each image (λ file own. (left file own).1) };
@@ -135,9 +139,9 @@ module _ {D : Type 0} (d : DiskGhosts D) (up_to_now : (x : D) (moment file : ℕ
       each moment image (inr since) left = stands_left d up_to_now disk (folder_in o) k.stands moment image (omega (arith, now, since)) left
 
   -- what a run over it leaves of the disk itself
-  pub ran_later : {C O : Type 0} (c : ClockGhosts C) (k : SinkGhosts O) (base : Base) (sound premise : Type 0) (times : ℕ → ℕ) (script : List ℕ) (disk : D) (out out' : O) (o : Outcome D) → at ≤ d.calls o.disk
-      → RanOpened (later d (at_least at all)) c k base sound premise (IsLeft (later d (at_least at all))) times script disk out out' o → RanOpened d c k base sound premise (IsLeftSince d at all) times script disk out out' o
-  ran_later c k base sound premise times script disk out out' o within (inl r) = inl (record {
+  pub ran_later : {C O : Type 0} (c : ClockGhosts C) (k : SinkGhosts O) (base : Base) (sound premise : Type 0) (began : Beginning) (times : ℕ → ℕ) (script : List ℕ) (disk : D) (out out' : O) (o : Outcome D) → at ≤ d.calls o.disk → at ≡ began.moment
+      → RanOpened (later d (at_least at all)) c k base sound premise began (IsLeft (later d (at_least at all))) times script disk out out' o → RanOpened d c k base sound premise began (IsLeftSince d at all) times script disk out out' o
+  ran_later c k base sound premise began times script disk out out' o within now (inl r) = inl (record {
     legal = r.legal;
     stamped = r.stamped;
     seat = r.seat;
@@ -152,5 +156,8 @@ module _ {D : Type 0} (d : DiskGhosts D) (up_to_now : (x : D) (moment file : ℕ
     late_is = r.late_is;
     status = r.status;
     blamed = r.blamed;
+    others = λ given tells. (let
+        s = r.others given tells
+        in record { later = s.later; left = λ moment file bytes since other is. s.left moment file bytes since other (inr (omega (arith, now, since)), is); seen = s.seen });
   })
-  ran_later c k base sound premise times script disk out out' o within (inr l) = inr (record { status = l.status; back = l.back; nothing = record { entries = l.nothing.entries; late = l.nothing.late; transcripts = l.nothing.transcripts; memory = l.nothing.memory; unwritten = l.nothing.unwritten } })
+  ran_later c k base sound premise began times script disk out out' o within now (inr l) = inr (record { status = l.status; back = l.back; nothing = record { entries = l.nothing.entries; late = l.nothing.late; transcripts = l.nothing.transcripts; memory = l.nothing.memory; unwritten = l.nothing.unwritten } })

@@ -1,60 +1,49 @@
 -- What a run comes to where nothing fails outside.
 use Rattle.std.specs.Prelude.{ℕ, ◌≡◌, ◌<◌, ◌⊎◌, ◌+◌, Bool, true, false, Some, List, [], ◌∷◌, length, map, slice_get}
-use Rattle.std.specs.List.{list_any}
+use Rattle.px_values.specs.declared.print.CountWord.TheVariants.{Affected}
 use Rattle.px_outside.specs.Disk.{last_count}
 use Rattle.px_outside.specs.Faults.{FaultsRose}
 use Rattle.px_outside.specs.declared.disk.Disk.{Ghosts as DiskGhosts}
 use Rattle.px_outside.specs.declared.sink.Sink.{Ghosts as SinkGhosts}
 use Rattle.px_lex.specs.Script.{IsScript, Section, pieces_from}
 use Rattle.px_script.specs.Pieces.{span_of}
+use Rattle.px_script.specs.declared.piece.Span.{Span}
 use Rattle.px_script.specs.Scripts.{StopsScript, script_of}
 use Rattle.px_script.specs.declared.script.ScriptFault.{ScriptFault}
 use Rattle.px_script.specs.declared.script.SessionText.{SessionText}
-use Rattle.px_reply.specs.Refusals.{cause_of}
 use Rattle.px_reply.specs.declared.refusal.Cause.{Cause}
-use Rattle.px_reply.specs.declared.refusal.Cause.TheVariants.{Statement, Device, Closing, Memory}
-use Rattle.px_reply.specs.declared.reply.Reply.{Reply}
-use Rattle.px_reply.specs.declared.reply.Reply.TheVariants.{Refused}
+use Rattle.px_reply.specs.declared.reply.Reply.TheVariants.{Count}
 use Rattle.px_reply.specs.declared.transcript.Item.{Item}
 use Rattle.px_reply.specs.declared.transcript.Transcript.{Transcript}
 use Rattle.px_rounds.specs.Rounds.{AreWithin, in_order, text_in}
 use Rattle.px_server.specs.Kept.{HasFailed}
 use Rattle.px_session.specs.Replies.{has_fatal}
 use Rattle.px_program.specs.Answers.{stopped_by}
-use Rattle.px_program.specs.Status.{IsQuietStatus, items_of}
+use Rattle.px_program.specs.Status.{IsQuietStatus, is_of_disk, items_of, some_refused_by}
 use Rattle.px_program.specs.declared.status.Status.{Status}
 use Rattle.px_program.specs.declared.status.Status.TheVariants.{Done}
 
--- ---- replies
-
-abbrev pub is_of_disk : Cause → Bool
-is_of_disk Statement = false
-is_of_disk Device = true
-is_of_disk Closing = true
-is_of_disk Memory = false
-
--- the statement was refused for the disk's sake: a call failed, in it or before, or a place is damaged
-abbrev pub tells_disk : Reply → Bool
-tells_disk (Refused refusal) = is_of_disk (cause_of refusal)
-tells_disk reply = false
-
-abbrev pub some_tell_disk : List Item → Bool
-some_tell_disk items = list_any (λ i. tells_disk i.reply) items
-
-abbrev pub is_refusal : Reply → Bool
-is_refusal (Refused refusal) = true
-is_refusal reply = false
-
-abbrev pub some_refusal : List Item → Bool
-some_refusal items = list_any (λ i. is_refusal i.reply) items
+-- a cause of whatever kind
+abbrev pub is_any : Cause → Bool
+is_any cause = true
 
 -- ---- sessions that came to their end
 
--- a session in a round: each piece of its text has its item, in order, and there are no others
+-- the item is a commit of so many rows, which was made
+abbrev pub IsCommit : Item → Type 0
+IsCommit i = (n : ℕ) × (i.reply ≡ Count n Affected)
+
+-- each piece has its item, in order; in front of one stands the commit that was made before it, where one was; and there are no others
+abbrev pub AreItemsOf : List Span → List Item → Type 0
+AreItemsOf [] items = items ≡ []
+AreItemsOf (p ∷ ps) [] = ⊥
+AreItemsOf (p ∷ ps) (i ∷ items) = (i.statement ≡ p) × (AreItemsOf ps items ⊎ ((j : Item) × (rest : List Item) × IsCommit i × (items ≡ j ∷ rest) × (j.statement ≡ p) × AreItemsOf ps rest))
+
+-- a session in a round: each piece of its text has its item
 pub record IsWhole (text : List ℕ) (t : Transcript) : Type 0 where
   pub sections : List Section
   pub cut : IsScript text sections
-  pub each : map (λ i. i.statement) t.items ≡ map span_of (pieces_from 0 sections)
+  pub each : AreItemsOf (map span_of (pieces_from 0 sections)) t.items
 
 -- all sessions of a round, from 1 on
 pub record IsWholeRound (sessions : ℕ) (round : List SessionText) (ts : List Transcript) : Type 0 where
@@ -83,7 +72,7 @@ IsToldWhy script ts = (fault : ScriptFault) × StopsScript script fault × (ts �
 -- each statement of each session was answered, and none refused; no memory was lacked, and the sink took all
 pub record IsAnsweredWhole {O : Type 0} (k : SinkGhosts O) (out out' : O) (script : List ℕ) (ts : List Transcript) (memory : Bool) : Type 0 where
   pub whole : IsWholeScript script ts
-  pub none_refused : some_refusal (items_of ts) ≡ false
+  pub none_refused : some_refused_by is_any (items_of ts) ≡ false
   pub enough : memory ≡ false
   pub sent : k.faults out' ≡ k.faults out
 
@@ -91,7 +80,7 @@ pub record IsAnsweredWhole {O : Type 0} (k : SinkGhosts O) (out out' : O) (scrip
 -- status is Done, Refused or Memory; and each session comes to its end, unless memory was lacked outside a statement, or nothing of the script is run.
 -- Done comes only where each statement of each session was answered, and none refused, unless the count of calls stands at its last value.
 pub record IsComplete {D O : Type 0} (d : DiskGhosts D) (k : SinkGhosts O) (disk : D) (out out' : O) (script : List ℕ) (ts : List Transcript) (memory : Bool) (status : Status) : Type 0 where
-  pub answered : (HasFailed d disk → ⊥) → some_tell_disk (items_of ts) ≡ false
+  pub answered : (HasFailed d disk → ⊥) → some_refused_by is_of_disk (items_of ts) ≡ false
   pub goes_on : (HasFailed d disk → ⊥) → has_fatal (items_of ts) ≡ false
   pub quiet : (HasFailed d disk → ⊥) → (FaultsRose (k.faults out) (k.faults out') → ⊥) → IsQuietStatus status
   pub ended : (HasFailed d disk → ⊥) → (FaultsRose (k.faults out) (k.faults out') → ⊥) → memory ≡ false → IsWholeScript script ts ⊎ IsToldWhy script ts

@@ -21,6 +21,7 @@ use Rattle.px_recovery.specs.Stands.{Recovers}
 use Rattle.px_folder.specs.Damage.{IsFirstDamaged}
 use Rattle.px_rounds.specs.Written.{IsWritten}
 use Rattle.px_server.specs.Kept.{HasFailed, has_told}
+use Rattle.px_server.specs.Others.{part_files}
 use Rattle.px_server.specs.Started.{StartsSound, StandsBy}
 use Rattle.px_session.specs.Replies.{has_fatal}
 use Rattle.px_server.specs.Stamps.{AreStamped}
@@ -143,6 +144,8 @@ pub record IsRun {D C I O : Type 0} (d : DiskGhosts D) (c : ClockGhosts C) (s : 
   pub opened_within : opened ≤ d.calls left.outcome.disk
   pub before_it : (moment file : ℕ) (bytes : List ℕ) → d.calls given.disk ≤ moment → moment < opened → ¬ catalogue_files file → d.left left.outcome.disk moment file bytes → d.left given.disk (d.calls given.disk) file bytes
   pub stops_recover_later : ReadsSound d given.disk → (moment : ℕ) (image : Image) → opened ≤ moment → IsLeft d left.outcome.disk moment image → Recovers (base_of folder) left.outcome.trail.entries left.outcome.late moment image
+  -- the catalogue's files and those of the regions that tables and indexes had since the beginning are touched, and no others
+  pub other_files_stay : ReadsSound d given.disk → IsTrue d.tells → TouchesOnly d given.disk left.outcome.disk (part_files (base_of folder) left.outcome.trail.entries)
   -- unless a failed write closed the server, no entry is late, and the folder stands for what base and trail give; the late one may come where it was closed
   pub folder_stands : closing_call left.outcome.trail.entries ≡ None → ReadsSound d given.disk → IsTrue d.tells → StandsBy d (base_of folder) left.outcome.disk left.outcome.trail.entries
   pub late_is_of_a_failed_write : closing_call left.outcome.trail.entries ≡ None → left.outcome.late ≡ None

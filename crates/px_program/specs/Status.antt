@@ -17,27 +17,29 @@ use Rattle.px_program.specs.declared.status.Status.TheVariants.{Done, Refused, B
 
 -- ---- what stands among replies
 
+-- kinds of causes: want of memory; the statement itself, definitions or rows; and the disk, of which a call failed, in the statement or before, or
+-- a place is damaged
 abbrev pub is_memory : Cause → Bool
-is_memory Statement = false
-is_memory OfDevice = false
-is_memory Closing = false
 is_memory NoMemory = true
+is_memory cause = false
 
 abbrev pub is_statement : Cause → Bool
 is_statement Statement = true
-is_statement OfDevice = false
-is_statement Closing = false
-is_statement NoMemory = false
+is_statement cause = false
 
--- the statement was refused as out of memory
-abbrev pub lacked_memory : Reply → Bool
-lacked_memory (RefusedReply refusal) = is_memory (cause_of refusal)
-lacked_memory reply = false
+abbrev pub is_of_disk : Cause → Bool
+is_of_disk Statement = false
+is_of_disk OfDevice = true
+is_of_disk Closing = true
+is_of_disk NoMemory = false
 
--- the statement was refused by itself, by definitions or rows: a reply with E
-abbrev pub was_refused : Reply → Bool
-was_refused (RefusedReply refusal) = is_statement (cause_of refusal)
-was_refused reply = false
+-- the statement was refused, with a cause of this kind
+abbrev pub refused_by : (Cause → Bool) → Reply → Bool
+refused_by kind (RefusedReply refusal) = kind (cause_of refusal)
+refused_by kind reply = false
+
+abbrev pub some_refused_by : (Cause → Bool) → List Item → Bool
+some_refused_by kind items = list_any (λ i. refused_by kind i.reply) items
 
 abbrev pub place_of : Refusal → Option Place
 place_of (DamagedRefusal file place) = Some (record { file = file; place = place })
@@ -60,15 +62,9 @@ first_damage (i ∷ items) = or_else (damage_of i.reply) (first_damage items)
 abbrev pub items_of : List Transcript → List Item
 items_of ts = flat_map (λ t. t.items) ts
 
-abbrev pub some_lacked : List Item → Bool
-some_lacked items = list_any (λ i. lacked_memory i.reply) items
-
-abbrev pub some_refused : List Item → Bool
-some_refused items = list_any (λ i. was_refused i.reply) items
-
 -- the first place that was found damaged, and whether statements lacked memory, or were refused
 abbrev pub causes_of : List Item → Causes
-causes_of items = record { damaged = first_damage items; lacked = some_lacked items; refused = some_refused items }
+causes_of items = record { damaged = first_damage items; lacked = some_refused_by is_memory items; refused = some_refused_by is_statement items }
 
 -- ---- the status
 

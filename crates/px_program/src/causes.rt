@@ -2,7 +2,7 @@
 ghost use Rattle.std.specs.Prelude.{◌≡◌};
 ghost use Rattle.std.specs.List.{list_any};
 ghost use Rattle.px_program.specs.Status as spec;
-ghost use Rattle.px_program.specs.Status.{causes_of, items_of, status_of};
+ghost use Rattle.px_program.specs.Status.{causes_of, is_memory, is_statement, items_of, refused_by, some_refused_by, status_of};
 
 use crate::status::Status;
 use px_reply::{Cause, Item, Refusal, Reply, Transcript};
@@ -38,7 +38,7 @@ fn damage_of(reply: &Reply) -> Option<Place>
 }
 
 fn lacked(reply: &Reply) -> bool
-    ensures { result ≡ spec.lacked_memory reply.now }
+    ensures { result ≡ refused_by is_memory reply.now }
 {
     match reply {
         Reply::Refused(refusal) => matches!(refusal.cause(), Cause::Memory),
@@ -47,7 +47,7 @@ fn lacked(reply: &Reply) -> bool
 }
 
 fn refused(reply: &Reply) -> bool
-    ensures { result ≡ spec.was_refused reply.now }
+    ensures { result ≡ refused_by is_statement reply.now }
 {
     match reply {
         Reply::Refused(refusal) => matches!(refusal.cause(), Cause::Statement),
@@ -56,13 +56,13 @@ fn refused(reply: &Reply) -> bool
 }
 
 fn some_lacked(items: &[Item]) -> bool
-    ensures { result ≡ spec.some_lacked items.now }
+    ensures { result ≡ some_refused_by is_memory items.now }
 {
     items.iter().any(|item| lacked(&item.reply))
 }
 
 fn some_refused(items: &[Item]) -> bool
-    ensures { result ≡ spec.some_refused items.now }
+    ensures { result ≡ some_refused_by is_statement items.now }
 {
     items.iter().any(|item| refused(&item.reply))
 }
@@ -98,7 +98,7 @@ fn damage_in(transcripts: &[Transcript]) -> Option<Place>
 }
 
 fn any_lacked(transcripts: &[Transcript]) -> bool
-    ensures { result ≡ list_any (λ t. spec.some_lacked t.items) transcripts.now }
+    ensures { result ≡ list_any (λ t. some_refused_by is_memory t.items) transcripts.now }
 {
     transcripts
         .iter()
@@ -106,7 +106,7 @@ fn any_lacked(transcripts: &[Transcript]) -> bool
 }
 
 fn any_refused(transcripts: &[Transcript]) -> bool
-    ensures { result ≡ list_any (λ t. spec.some_refused t.items) transcripts.now }
+    ensures { result ≡ list_any (λ t. some_refused_by is_statement t.items) transcripts.now }
 {
     transcripts
         .iter()

@@ -22,6 +22,34 @@ pub struct Outcome<D> {
     pub memory: bool,
 }
 
+impl<D> Outcome<D> {
+    ghost use Rattle.px_program.specs.inner.Outcomes.{with_disk};
+
+    /// The same with what is made of its disk.
+    pub fn map_disk<E, F: FnOnce(D) -> E>(self, make: F) -> Outcome<E>
+        requires { F.IsAlwaysCallable make }
+        ensures disk { F.post make self.disk result.disk }
+        ensures rest { result ≡ with_disk result.disk self }
+    {
+        let Outcome {
+            status,
+            disk,
+            trail,
+            late,
+            transcripts,
+            memory,
+        } = self;
+        Outcome {
+            status,
+            disk: make(disk),
+            trail,
+            late,
+            transcripts,
+            memory,
+        }
+    }
+}
+
 /// What a run leaves that opened no folder.
 pub fn unrun<D>(alloc: Global, disk: D, status: Status) -> Outcome<D>
     ensures status { result.status ≡ status }

@@ -10,6 +10,7 @@ ghost use Rattle.px_recovery.specs.Stands.{Recovers};
 ghost use Rattle.px_reply.specs.Printed.{printed};
 ghost use Rattle.px_rounds.specs.Turns.{GoesOn};
 ghost use Rattle.px_rounds.specs.Written.{IsWritten};
+ghost use Rattle.px_server.specs.Others.{BeginsAt, beginning_at};
 ghost use Rattle.px_server.specs.Shown.{known_by};
 ghost use Rattle.px_server.specs.Started.{IsOpenedOn, StartsSound};
 ghost use Rattle.px_program.specs.Answers.{AnswersScript};
@@ -85,8 +86,9 @@ fn run_over<R: Wait, D: CountsCalls, C: Clock + Drop, O: Sink, B: Based + Founde
     requires damaged { B.damaged ≡ undamaged }
     requires sound { B.sound → IsSoundFolder (folder_in opened) }
     requires disk { B.premise → IsTrue D.tells → IsOpenedOn ⟦<D as Disk>⟧ disk opened }
+    requires began { BeginsAt ⟦<D as Disk>⟧ B.began disk }
     requires times { IsTrue C.tells → (n : ℕ) → C.times clock n ≡ B.times n }
-    ensures { RanOpened ⟦<D as Disk>⟧ ⟦<C as Clock>⟧ ⟦<O as Sink>⟧ B.base B.sound B.premise (IsLeft ⟦<D as Disk>⟧) B.times script.now disk out.old out.new result }
+    ensures { RanOpened ⟦<D as Disk>⟧ ⟦<C as Clock>⟧ ⟦<O as Sink>⟧ B.base B.sound B.premise B.began (IsLeft ⟦<D as Disk>⟧) B.times script.now disk out.old out.new result }
 {
     match Server::<D, C, B>::over(alloc, disk, clock, LOOKBACK, opened) {
         Err(disk) => {
@@ -130,31 +132,19 @@ fn run_since<R: Wait, D: CountsCalls, C: Clock + Drop, O: Sink, B: Based + Found
     requires damaged { B.damaged ≡ undamaged }
     requires sound { B.sound → IsSoundFolder (folder_in opened) }
     requires opened { B.premise → IsTrue D.tells → IsOpenedNow ⟦<D as Disk>⟧ disk opened }
+    requires began { BeginsAt ⟦<D as Disk>⟧ B.began disk }
     requires from { B.from ≡ D.calls disk }
     requires all { B.all → StoodBefore ⟦<D as Disk>⟧ disk opened }
     requires was { (moment : ℕ) → (file : ℕ) → (bytes : List ℕ) → moment < B.from → D.left disk moment file bytes → B.was moment file bytes }
     requires times { IsTrue C.tells → (n : ℕ) → C.times clock n ≡ B.times n }
-    ensures ran { RanOpened ⟦<D as Disk>⟧ ⟦<C as Clock>⟧ ⟦<O as Sink>⟧ B.base B.sound B.premise (IsLeftSince ⟦<D as Disk>⟧ B.from B.all) B.times script.now disk out.old out.new result }
+    ensures ran { RanOpened ⟦<D as Disk>⟧ ⟦<C as Clock>⟧ ⟦<O as Sink>⟧ B.base B.sound B.premise B.began (IsLeftSince ⟦<D as Disk>⟧ B.from B.all) B.times script.now disk out.old out.new result }
     ensures begun { B.from ≤ D.calls result.disk }
     ensures past { (moment : ℕ) → (file : ℕ) → (bytes : List ℕ) → moment < B.from → D.left result.disk moment file bytes → B.was moment file bytes }
 {
     let later = Later::<D, B>::new(disk);
-    let Outcome {
-        status,
-        disk,
-        trail,
-        late,
-        transcripts,
-        memory,
-    } = run_over::<R, Later<D, B>, C, O, B>(rt, alloc, script, later, opened, clock, out);
-    Outcome {
-        status,
-        disk: disk.into_disk(),
-        trail,
-        late,
-        transcripts,
-        memory,
-    }
+    run_over::<R, Later<D, B>, C, O, B>(rt, alloc, script, later, opened, clock, out).map_disk(
+        Later::<D, B>::into_disk,
+    )
 }
 
 /// Runs a script over a folder that was opened.
@@ -168,7 +158,7 @@ fn run_opened<R: Wait, D: CountsCalls, C: Clock + Drop, O: Sink>(
     out: &mut O,
 ) -> Outcome<D>
     requires right { IsOpenedRight opened }
-    ensures ran { RanOpened ⟦<D as Disk>⟧ ⟦<C as Clock>⟧ ⟦<O as Sink>⟧ (base_of (folder_in opened)) (IsSoundFolder (folder_in opened)) (IsTrue D.tells → IsOpenedNow ⟦<D as Disk>⟧ disk opened) (IsLeftSince ⟦<D as Disk>⟧ (D.calls disk) (StoodBefore ⟦<D as Disk>⟧ disk opened)) (C.times clock) script.now disk out.old out.new result }
+    ensures ran { RanOpened ⟦<D as Disk>⟧ ⟦<C as Clock>⟧ ⟦<O as Sink>⟧ (base_of (folder_in opened)) (IsSoundFolder (folder_in opened)) (IsTrue D.tells → IsOpenedNow ⟦<D as Disk>⟧ disk opened) (beginning_at ⟦<D as Disk>⟧ disk) (IsLeftSince ⟦<D as Disk>⟧ (D.calls disk) (StoodBefore ⟦<D as Disk>⟧ disk opened)) (C.times clock) script.now disk out.old out.new result }
     ensures begun { D.calls disk ≤ D.calls result.disk }
     ensures past { (moment : ℕ) → (file : ℕ) → (bytes : List ℕ) → moment < D.calls disk → D.left result.disk moment file bytes → D.left disk moment file bytes }
 {
@@ -211,22 +201,9 @@ fn run_folder<R: Wait, D: Disk, C: Clock + Drop, O: Sink>(
     ensures failed { 0 < D.first_fault result.disk → 0 < D.faults result.disk }
 {
     let counted = Metered::new(Watched::new(disk));
-    let Outcome {
-        status,
-        disk,
-        trail,
-        late,
-        transcripts,
-        memory,
-    } = run_on(rt, alloc, script, counted, clock, out);
-    Outcome {
-        status,
-        disk: disk.into_disk().into_disk(),
-        trail,
-        late,
-        transcripts,
-        memory,
-    }
+    run_on(rt, alloc, script, counted, clock, out)
+        .map_disk(Metered::<Watched<D>>::into_disk)
+        .map_disk(Watched::<D>::into_disk)
 }
 
 /// What a run leaves that made no call of the disk.

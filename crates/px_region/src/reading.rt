@@ -89,6 +89,31 @@ impl Region {
         self.manifest.snapshot().horizon
     }
 
+    /// The cells of one row, all its versions, in order. They are found in logarithmic time and lent, and not counted as looked at.
+    pub fn row(&self, key: &[u8]) -> &[Cell]
+        ensures { IsRow (read_of self.now) key.now result.now }
+    {
+        self.store.row(key)
+    }
+
+    /// The cells of the rows from a key on and, if one is given, up to before another, in order. They are found in logarithmic
+    /// time and lent, and not counted as looked at.
+    pub fn rows(&self, low: &[u8], high: Option<&[u8]>) -> &[Cell]
+        ensures { AreRows (read_of self.now) low.now (option_copied high.entry) result.now }
+    {
+        self.store.rows(low, high)
+    }
+
+    /// Counts so many rows as looked at.
+    pub fn look_at(&mut self, rows: u64)
+        ensures looked { self.new.looked ≡ min (self.old.looked + rows) 18446744073709551615 }
+        ensures risen { self.old.looked ≤ self.new.looked }
+        ensures alike { IsAlike self.old self.new }
+        ensures promised { IsSamePromise self.old self.new }
+    {
+        self.looked = self.looked.saturating_add(rows);
+    }
+
     /// Gives the cells of one row, all its versions, in order. They are found in logarithmic time, and not copied. It is
     /// refused with `Memory` where the taker is.
     pub fn row_versions<D: Disk, T: CellTaker>(
@@ -143,8 +168,8 @@ impl Region {
         }
     }
 
-    /// How many rows were looked at: `row_versions` raises it by one, and `scan` by the rows that it gives. It stands still
-    /// at its last value.
+    /// How many rows were looked at: `row_versions` raises it by one, `scan` by the rows that it gives, and `look_at` by those
+    /// that were lent and read. It stands still at its last value.
     pub fn looked(&self) -> u64
         ensures { result ≡ self.now.looked }
     {

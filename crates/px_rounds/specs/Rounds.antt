@@ -1,5 +1,5 @@
 -- What rounds leave.
-use Rattle.std.specs.Prelude.{ℕ, replicate, ◌≡◌, ◌≢◌, ◌≤◌, ◌+◌, ◌==◌, Bool, false, if◌then◌else◌, None, Some, List, [], ◌∷◌, ◌++◌, length, take, drop, slice_get}
+use Rattle.std.specs.Prelude.{ℕ, replicate, ◌≡◌, ◌≢◌, ◌≤◌, ◌+◌, ◌==◌, Bool, true, false, if◌then◌else◌, None, Some, List, [], ◌∷◌, ◌++◌, length, take, drop, slice_get}
 use Rattle.std.specs.List.{All, flat_map}
 use Rattle.px_lex.specs.Script.{IsScript, Section, pieces_from}
 use Rattle.px_script.specs.declared.script.SessionText.{SessionText}
@@ -50,7 +50,7 @@ in_order tss = flat_map (λ ts. ts) tss
 
 -- a session's first state
 abbrev pub first_state : SessionState
-first_state = record { settings = record { scn = None }; stopped = false }
+first_state = record { settings = record { scn = None; autocommit = true; held = None }; stopped = false }
 
 -- the states of so many sessions before the first round
 abbrev pub fresh : ℕ → List SessionState

@@ -67,7 +67,11 @@ fn first_state() -> SessionState
     ensures { result ≡ spec.first_state }
 {
     SessionState {
-        settings: Settings { scn: None },
+        settings: Settings {
+            scn: None,
+            autocommit: true,
+            held: None,
+        },
         stopped: false,
     }
 }

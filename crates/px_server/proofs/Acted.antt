@@ -36,8 +36,10 @@ use Rattle.px_recovery.proofs.Numbered.{found_number}
 use Rattle.px_rows.specs.Spelled.{row_form}
 use Rattle.px_standing.specs.Agrees.{Agrees}
 use Rattle.px_server.specs.Kept.{AreGroups, AreShown, HasBegun, HasFailed, HasParts, HasPoints, HasShown, HasTallied, IsKept, IsOnDisk, IsTold, forms_in, has_told, number_in, owed, table_in_group, tells_fault}
+use Rattle.px_server.specs.Others.{Beginning, OthersStay}
 use Rattle.px_server.proofs.Beside.{GoOthers, begun_then, disk_then, once_then, others_noted, others_still, own_shown, points_then, right_then, shown_then, tallied_then, traced_then}
 use Rattle.px_server.proofs.Blamed.{blamed_quiet}
+use Rattle.px_server.proofs.Others.{others_more}
 use Rattle.px_server.proofs.Lists.{all_at, map_set}
 use Rattle.px_server.proofs.Noted.{server_goes, with_parts}
 use Rattle.px_server.proofs.Pointed.{disk_beside, distinct_groups, once_beside, right_beside}
@@ -115,7 +117,7 @@ same_acted d disk b es closed g g' beside points open_ right told once running =
 
 -- ---- the groups of a server
 
-module _ {D : Type 0} (d : Ghosts D) (b : Base) (sound premise : Type 0) (disk : D) (catalog : Catalog) (standing : Standing) (groups : List Group) (trail : Recorded) (late : Option Entry) (closed : Option ℕ) (k : IsKept d b sound premise disk catalog standing groups trail late closed)
+module _ {D : Type 0} (d : Ghosts D) (b : Base) (sound premise : Type 0) (began : Beginning) (disk : D) (catalog : Catalog) (standing : Standing) (groups : List Group) (trail : Recorded) (late : Option Entry) (closed : Option ℕ) (k : IsKept d b sound premise began disk catalog standing groups trail late closed)
     (place : ℕ) (g : Group) (l : place < length groups) (is : get_or groups place g ≡ g) where
   abbrev es : List Entry
   es = trail.entries
@@ -198,7 +200,7 @@ module _ {D : Type 0} (d : Ghosts D) (b : Base) (sound premise : Type 0) (disk :
 
   -- ---- without an entry
 
-  pub acted_still : (g' : Group) → IsActed d disk b es es closed g g' → owed g' ≤ owed g → IsKept d b sound premise disk catalog standing (slice_set groups place g') trail late closed
+  pub acted_still : (g' : Group) → IsActed d disk b es es closed g g' → owed g' ≤ owed g → IsKept d b sound premise began disk catalog standing (slice_set groups place g') trail late closed
   acted_still g' a less = (let
       o = others_still b es (number_in g)
       in record {
@@ -209,6 +211,7 @@ module _ {D : Type 0} (d : Ghosts D) (b : Base) (sound premise : Type 0) (disk :
             (λ running given tells. goes_then g' es o a running (λ f v told. by_none b es f v told (number_in g)) (k.server.goes_on running given tells));
         room = room_set groups place g g' l is closed trail trail k.room (omega (arith, less));
         blamed = k.blamed;
+        others = k.others;
       })
 
   -- ---- with an entry of its table
@@ -235,7 +238,7 @@ module _ {D : Type 0} (d : Ghosts D) (b : Base) (sound premise : Type 0) (disk :
       same = k.told.same;
     }
 
-    pub acted : IsKept d b sound premise disk catalog standing (slice_set groups place g') trail' late closed
+    pub acted : IsKept d b sound premise began disk catalog standing (slice_set groups place g') trail' late closed
     acted = (let
         then = slice_set groups place g'
         in record {
@@ -246,4 +249,5 @@ module _ {D : Type 0} (d : Ghosts D) (b : Base) (sound premise : Type 0) (disk :
               (server_goes d tells_left up_to_now b premise (HasParts d b catalog groups) (HasParts d b catalog then) disk es late closed k.server e at quiet may unshut (λ running goes. goes_then g' es' o a running by goes));
           room = room_set groups place g g' l is closed trail trail' k.room less;
           blamed = subst (λ (ys : List Entry). has_told ys ≡ true → HasFailed d disk) (sym entries) (blamed_quiet d disk es e calm k.blamed);
+          others = λ given tells. subst (λ (ys : List Entry). OthersStay d b began disk ys) (sym entries) (others_more d b began es (e ∷ []) disk (k.others given tells));
         })

@@ -27,6 +27,7 @@ use Rattle.px_catalog.specs.declared.fault.CatalogFault.TheVariants.{Full, Memor
 use Rattle.px_group.specs.declared.group.Group.{Group}
 use Rattle.px_defined.specs.Defined.{HasActive}
 use Rattle.px_server.specs.Kept.{HasTrailRoom, IsKept, owed}
+use Rattle.px_server.specs.Others.{Beginning}
 use Rattle.px_server.specs.inner.Fitting.{IsIndexToActivate}
 use Rattle.px_server.specs.inner.Indexing.{HasRowAt}
 use Rattle.px_server.proofs.Reserved.{roomy, set_long, set_there}
@@ -58,8 +59,8 @@ got_at (y ∷ ys) zero x l is = ap Some (sym is)
 got_at (y ∷ ys) (suc m) x l is = got_at ys m x (omega (arith, l)) is
 
 module _ {D : Type 0} (d : Ghosts D) (tells_left : (x : D) (moment file : ℕ) (bytes : List ℕ) → d.left x moment file bytes → IsTrue d.tells)
-    (up_to_now : (x : D) (moment file : ℕ) (bytes : List ℕ) → d.left x moment file bytes → moment ≤ d.calls x) (b : Base) (damaged : ℕ → ℕ → Bool) (sound premise : Type 0)
-    (disk : D) (catalog : Catalog) (standing : Standing) (groups : List Group) (trail : Recorded) (late : Option Entry) (closed : Option ℕ) (k : IsKept d b sound premise disk catalog standing groups trail late closed) (running : closed ≡ None)
+    (up_to_now : (x : D) (moment file : ℕ) (bytes : List ℕ) → d.left x moment file bytes → moment ≤ d.calls x) (b : Base) (damaged : ℕ → ℕ → Bool) (sound premise : Type 0) (began : Beginning)
+    (disk : D) (catalog : Catalog) (standing : Standing) (groups : List Group) (trail : Recorded) (late : Option Entry) (closed : Option ℕ) (k : IsKept d b sound premise began disk catalog standing groups trail late closed) (running : closed ≡ None)
     (place : ℕ) (g : Group) (l : place < length groups) (g_is : get_or groups place g ≡ g) (seat : ℕ) (t : TableId) (mine : g.table.id ≡ t) (i : IndexId) (may : MayActivate sound (record { seat = seat; base = b; damaged = damaged; alone = true; seen = trail.entries }) t.0 i.0)
     (m : ℕ) (x : IndexRegion) (x_is : slice_get g.indexes.items m ≡ Some x) (id : x.index.id ≡ i) (p : IndexToActivate) (made : IsIndexToActivate standing x.index p) where
   abbrev known : List Entry → Known
@@ -71,9 +72,9 @@ module _ {D : Type 0} (d : Ghosts D) (tells_left : (x : D) (moment file : ℕ) (
   -- its record may be written
   pub fits_active : x.index.table.0 < 256 ^ 4 → IsRight (standing_of catalog) (IndexIs p.item)
   fits_active short = (let
-      here = part d tells_left up_to_now b damaged sound premise disk catalog standing groups trail late closed k running place g l g_is seat t mine i may m x x_is id
+      here = part d tells_left up_to_now b damaged sound premise began disk catalog standing groups trail late closed k running place g l g_is seat t mine i may m x x_is id
       in
-      fits_index d b sound premise disk catalog standing groups trail late closed k running place g l g_is p.item
+      fits_index d b sound premise began disk catalog standing groups trail late closed k running place g l g_is p.item
       (subst (λ (z : Index). IsRightIndex g.table z) (sym made.item_is) (record { parts = here.index.parts; within = here.index.within; once = here.index.once }))
       (ap (λ (z : Index). z.table) made.item_is ∙ here.table) (subst (λ (z : Index). z.table.0 < 256 ^ 4) (sym made.item_is) short) made.can)
 
@@ -84,11 +85,11 @@ module _ {D : Type 0} (d : Ghosts D) (tells_left : (x : D) (moment file : ℕ) (
     abbrev groups1 : List Group
     groups1 = slice_set groups place g1
 
-    k0 : IsKept d b sound premise disk catalog standing groups1 trail late closed
-    k0 = looked_kept d b sound premise disk catalog standing groups trail late closed k place g g1 l g_is looked
+    k0 : IsKept d b sound premise began disk catalog standing groups1 trail late closed
+    k0 = looked_kept d b sound premise began disk catalog standing groups trail late closed k place g g1 l g_is looked
 
-    k1 : IsKept d b sound premise disk catalog standing groups1 mid late closed
-    k1 = roomy d b sound premise disk catalog standing groups1 trail late closed k0 mid mid_same (omega (arith, mid_room))
+    k1 : IsKept d b sound premise began disk catalog standing groups1 mid late closed
+    k1 = roomy d b sound premise began disk catalog standing groups1 trail late closed k0 mid mid_same (omega (arith, mid_room))
 
     l1 : place < length groups1
     l1 = (let n = set_long groups place g1 in omega (arith, n, l))
@@ -118,7 +119,7 @@ module _ {D : Type 0} (d : Ghosts D) (tells_left : (x : D) (moment file : ℕ) (
     none_at es same = subst (λ (z : Index). (index : ℕ → IndexForm) (v : GroupData) (hs : List HeldBatch) → IsShownBy b index es g1 v hs → (r : List Value) → state_of b es g1.table.id.0 r z.birth ≡ None) (sym index1)
         (none_seen g g1 looked x.index.birth has empty rows b es
         (subst (λ (u : TableId). horizon_of b u.0 es ≤ x.index.birth) (ap (λ (u : Table). u.id) (sym looked.table)) (subst (λ (ys : List Entry). horizon_of b g.table.id.0 ys ≤ x.index.birth) (sym same)
-        (low d tells_left up_to_now b damaged sound premise disk catalog standing groups trail late closed k running place g l g_is seat t mine i may m x x_is id))))
+        (low d tells_left up_to_now b damaged sound premise began disk catalog standing groups trail late closed k running place g l g_is seat t mine i may m x x_is id))))
 
     enough : 2 + sum_by owed groups1 ≤ mid.room
     enough = (let before = subst (λ (z : Option ℕ). HasTrailRoom z groups1 trail) running k0.room in omega (arith, before, mid_room))
@@ -131,24 +132,24 @@ module _ {D : Type 0} (d : Ghosts D) (tells_left : (x : D) (moment file : ℕ) (
       entries1 : trail'.entries ≡ mid.entries ++ record { seat = seat; calls = calls; act = IndexState t i Active x1.0.index.birth } ∷ []
       entries1 = subst (λ (z : Index). trail'.entries ≡ mid.entries ++ record { seat = seat; calls = calls; act = IndexState t i Active z.birth } ∷ []) (sym index1) entries
 
-      pub activating_kept : IsKept d b sound premise disk' catalog' now (slice_set groups1 place g2) trail' late closed
-      activating_kept = subst (λ (st : Standing). IsKept d b sound premise disk' catalog' st (slice_set groups1 place g2) trail' late closed) (sym now_is)
-          (activate_kept d tells_left up_to_now b damaged sound premise disk catalog standing groups1 mid late closed k1 running place g1 l1 (there g1) seat t mine1 i may1 m x1.0 x1.1.0 id1 (none_at mid.entries mid_same) p made1 disk' passes touches leaves calls at
+      pub activating_kept : IsKept d b sound premise began disk' catalog' now (slice_set groups1 place g2) trail' late closed
+      activating_kept = subst (λ (st : Standing). IsKept d b sound premise began disk' catalog' st (slice_set groups1 place g2) trail' late closed) (sym now_is)
+          (activate_kept d tells_left up_to_now b damaged sound premise began disk catalog standing groups1 mid late closed k1 running place g1 l1 (there g1) seat t mine1 i may1 m x1.0 x1.1.0 id1 (none_at mid.entries mid_same) p made1 disk' passes touches leaves calls at
           g2 active1 catalog' stored defined trail' entries1 room enough)
 
       pub activating_did : (n : ℕ) → n ≡ length trail'.entries → DidDefine sound (known trail.entries) (known trail'.entries) (definition.Active t i) (record { number = i.0; stamp = x.index.birth; at = n })
       activating_did n long = subst (λ (es : List Entry). DidDefine sound (known es) (known trail'.entries) (definition.Active t i) (record { number = i.0; stamp = x.index.birth; at = n })) mid_same
           (subst (λ (z : Index). DidDefine sound (known mid.entries) (known trail'.entries) (definition.Active t i) (record { number = i.0; stamp = z.birth; at = n })) index1
-          (activate_did d tells_left up_to_now b damaged sound premise disk catalog standing groups1 mid late closed k1 running place g1 l1 (there g1) seat t mine1 i may1 m x1.0 x1.1.0 id1 (none_at mid.entries mid_same) p made1 disk' passes touches leaves calls at
+          (activate_did d tells_left up_to_now b damaged sound premise began disk catalog standing groups1 mid late closed k1 running place g1 l1 (there g1) seat t mine1 i may1 m x1.0 x1.1.0 id1 (none_at mid.entries mid_same) p made1 disk' passes touches leaves calls at
           g2 active1 catalog' stored defined trail' entries1 room enough n long))
 
     module _ (trail' : Recorded) (late' : Option Entry) (closed' : Option ℕ) (fault : CatalogFault) (untouched : (fault ≡ Full) ⊎ (fault ≡ Memory) → (disk' ≡ disk) × (catalog' ≡ catalog)) (rose : fault ≡ WriteFault → Rose d disk disk')
         (kept : fault ≢ WriteFault → (trail'.entries ≡ mid.entries) × (late' ≡ late) × (closed' ≡ closed))
         (shut : fault ≡ WriteFault → (trail'.entries ≡ mid.entries ++ record { seat = seat; calls = d.calls disk'; act = Shut (d.calls disk') } ∷ []) × (late' ≡ Some (record { seat = seat; calls = d.calls disk'; act = IndexState t i Active x.index.birth })) × (closed' ≡ Some (d.calls disk')))
         (room : trail'.room + 1 ≡ mid.room) where
-      pub activating_failed : IsKept d b sound premise disk' catalog' standing groups1 trail' late' closed'
-      activating_failed = unwritten_kept d b sound premise disk catalog standing groups1 trail late closed k0 running disk' catalog' (record { seat = seat; calls = d.calls disk'; act = IndexState t i Active x1.0.index.birth })
-          (activate_failed d tells_left up_to_now b damaged sound premise disk catalog standing groups1 trail late closed k0 running place g1 l1 (there g1) seat t mine1 i may m x1.0 x1.1.0 id1 (none_at trail.entries refl) p made1 disk' passes touches leaves (d.calls disk') refl)
+      pub activating_failed : IsKept d b sound premise began disk' catalog' standing groups1 trail' late' closed'
+      activating_failed = unwritten_kept d b sound premise began disk catalog standing groups1 trail late closed k0 running disk' catalog' (record { seat = seat; calls = d.calls disk'; act = IndexState t i Active x1.0.index.birth })
+          (activate_failed d tells_left up_to_now b damaged sound premise began disk catalog standing groups1 trail late closed k0 running place g1 l1 (there g1) seat t mine1 i may m x1.0 x1.1.0 id1 (none_at trail.entries refl) p made1 disk' passes touches leaves (d.calls disk') refl)
           trail' late' closed' seat (omega (arith, room, mid_room)) fault untouched rose
           (λ no. ((kept no).0 ∙ mid_same, (kept no).1, (kept no).2))
           (λ is. (

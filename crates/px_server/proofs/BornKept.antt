@@ -47,6 +47,7 @@ use Rattle.px_recovery.proofs.Births.{index_made as folder_made}
 use Rattle.px_standing.specs.Agrees.{Agrees, opened_standing}
 use Rattle.px_standing.proofs.Defined.{index_made as agrees_made}
 use Rattle.px_server.specs.Kept.{HasFailed, HasPoints, HasShown, HasTallied, HasTrailRoom, IsKept, IsOnDisk, owed, owed_by}
+use Rattle.px_server.specs.Others.{Beginning}
 use Rattle.px_server.proofs.Catalogued.{AreForms, define_failed}
 use Rattle.px_server.proofs.Defines.{Defines}
 use Rattle.px_server.proofs.Drawn.{regions_in}
@@ -67,8 +68,8 @@ or_none true is = refl
 or_none false is = is
 
 module _ {D : Type 0} (d : Ghosts D) (tells_left : (x : D) (moment file : ℕ) (bytes : List ℕ) → d.left x moment file bytes → IsTrue d.tells)
-    (up_to_now : (x : D) (moment file : ℕ) (bytes : List ℕ) → d.left x moment file bytes → moment ≤ d.calls x) (b : Base) (sound premise : Type 0)
-    (disk : D) (catalog : Catalog) (standing : Standing) (groups : List Group) (trail : Recorded) (late : Option Entry) (closed : Option ℕ) (k : IsKept d b sound premise disk catalog standing groups trail late closed) (running : closed ≡ None)
+    (up_to_now : (x : D) (moment file : ℕ) (bytes : List ℕ) → d.left x moment file bytes → moment ≤ d.calls x) (b : Base) (sound premise : Type 0) (began : Beginning)
+    (disk : D) (catalog : Catalog) (standing : Standing) (groups : List Group) (trail : Recorded) (late : Option Entry) (closed : Option ℕ) (k : IsKept d b sound premise began disk catalog standing groups trail late closed) (running : closed ≡ None)
     (t : TableId) (i : IndexId) (s : ℕ) (what : NewIndex) (e : Entry) (is : e.act ≡ IndexMade t i s what) (may : MayCome b trail.entries e) (disk' : D) (at : e.calls ≡ d.calls disk') (passes : Passes d disk disk' 4)
     (touches : HasCatalogue d catalog disk → TouchesOnly d disk disk' catalogue_files)
     (leaves : HasCatalogue d catalog disk → LeavesOnly d disk disk' (λ moment image. CatalogueStands image (standing_of catalog) ⊎ CatalogueStands image (after (standing_of catalog) (IndexIs (made_index standing.next i s what)))))
@@ -124,9 +125,9 @@ module _ {D : Type 0} (d : Ghosts D) (tells_left : (x : D) (moment file : ℕ) (
 
   -- the call failed
   pub born_failed : (shut : Entry) (call : ℕ) → shut.act ≡ Shut call → shut.calls ≡ d.calls disk' → HasFailed d disk' → (catalog' : Catalog) (trail' : Recorded) → trail'.entries ≡ es ++ shut ∷ [] → HasTrailRoom (Some call) groups trail'
-      → IsKept d b sound premise disk' catalog' standing groups trail' (Some e) (Some call)
+      → IsKept d b sound premise began disk' catalog' standing groups trail' (Some e) (Some call)
   born_failed shut call shut-is shut_at failed catalog' trail' entries room =
-      define_failed d tells_left up_to_now b sound premise disk catalog standing groups trail late closed k running disk' (IndexIs y) passes touches leaves regions t e own may at (λ v. with_part v t.0 (born_data i.0 s (v t.0))) explains shut call shut-is shut_at failed catalog' trail' entries room
+      define_failed d tells_left up_to_now b sound premise began disk catalog standing groups trail late closed k running disk' (IndexIs y) passes touches leaves regions t e own may at (λ v. with_part v t.0 (born_data i.0 s (v t.0))) explains shut call shut-is shut_at failed catalog' trail' entries room
 
   agrees : Agrees (after standing (IndexIs y)) (catalogue_of b es')
   agrees = subst (λ (x : Catalogue). Agrees (after standing (IndexIs y)) x) (sym (catalogue-snoc b es e ∙ ap (catalogue_step c) is)) (agrees_made standing c k.told.agrees t i s what number)
@@ -173,9 +174,9 @@ module _ {D : Type 0} (d : Ghosts D) (tells_left : (x : D) (moment file : ℕ) (
         blank = record { tells = tells; only = λ file its. fresh.on_disk file (from_next file its); none = λ file its. fresh.empty file (from_next file its) }
 
     pub born_kept : (catalog' : Catalog) → (HasCatalogue d catalog disk → HasCatalogue d catalog' disk') → standing_of catalog' ≡ after (standing_of catalog) (IndexIs y) → (trail' : Recorded) → trail'.entries ≡ es ++ e ∷ [] → trail'.room + 1 ≡ trail.room → 2 + sum_by owed groups ≤ trail.room
-        → IsKept d b sound premise disk' catalog' (after standing (IndexIs y)) (slice_set groups place g') trail' late closed
+        → IsKept d b sound premise began disk' catalog' (after standing (IndexIs y)) (slice_set groups place g') trail' late closed
     born_kept catalog' stored defined trail' entries room enough =
-        index_kept d tells_left up_to_now b sound premise disk catalog standing groups trail late closed k running disk' (IndexIs y) passes touches leaves regions t e own may at (born_data i.0 s) explains catalog' stored defined agrees refl
+        index_kept d tells_left up_to_now b sound premise began disk catalog standing groups trail late closed k running disk' (IndexIs y) passes touches leaves regions t e own may at (born_data i.0 s) explains catalog' stored defined agrees refl
         place g g' l g_is mine more.beside.table (same_owed g g' more.beside)
         (λ p. tallied'.tallied.points) own_right own_once (has_tallied_born b k.told.base es k.told.legal e may t i s what is g g' mine more') (has_shown_born b k.told.base es k.told.legal e may t i s what is g g' mine more') own_disk
         trail' entries room enough

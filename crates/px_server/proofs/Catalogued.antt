@@ -46,11 +46,13 @@ use Rattle.px_recovery.proofs.Definitions.{catalogue_moved, catalogue_moves}
 use Rattle.px_recovery.proofs.Numbered.{rows_number}
 use Rattle.px_standing.specs.Agrees.{Agrees, opened_standing}
 use Rattle.px_server.specs.Kept.{AreGroups, AreShown, HasFailed, HasParts, HasPoints, HasShown, HasTallied, HasTrailRoom, IsKept, IsOnDisk, IsTold, forms_in, has_told, number_in, table_in_group}
+use Rattle.px_server.specs.Others.{Beginning, OthersStay}
 use Rattle.px_server.proofs.Changed.{lasting_server, late_entry}
 use Rattle.px_server.proofs.Blamed.{blamed_on, blamed_quiet}
 use Rattle.px_server.proofs.Defines.{Defines, defines_apart, defines_lasts, defines_none, defines_quiet, defines_unshut, index_back, index_on, table_other}
 use Rattle.px_server.proofs.Drawn.{named_after, regions_in}
 use Rattle.px_server.proofs.Forms.{shown_forms, told_forms}
+use Rattle.px_server.proofs.Others.{others_more, others_on}
 use Rattle.px_server.proofs.Stopped.{stopped_same}
 
 pub all_pairs : {A : Type 0} (P Q : A → Type 0) (xs : List A) → AllByRecursion P xs → AllByRecursion Q xs → AllByRecursion (λ x. P x × Q x) xs
@@ -186,8 +188,8 @@ module _ {D : Type 0} (d : Ghosts D) (disk disk' : D) (touches : TouchesOnly d d
 -- ---- the server
 
 module _ {D : Type 0} (d : Ghosts D) (tells_left : (x : D) (moment file : ℕ) (bytes : List ℕ) → d.left x moment file bytes → IsTrue d.tells)
-    (up_to_now : (x : D) (moment file : ℕ) (bytes : List ℕ) → d.left x moment file bytes → moment ≤ d.calls x) (b : Base) (sound premise : Type 0)
-    (disk : D) (catalog : Catalog) (standing : Standing) (groups : List Group) (trail : Recorded) (late : Option Entry) (closed : Option ℕ) (k : IsKept d b sound premise disk catalog standing groups trail late closed) (running : closed ≡ None)
+    (up_to_now : (x : D) (moment file : ℕ) (bytes : List ℕ) → d.left x moment file bytes → moment ≤ d.calls x) (b : Base) (sound premise : Type 0) (began : Beginning)
+    (disk : D) (catalog : Catalog) (standing : Standing) (groups : List Group) (trail : Recorded) (late : Option Entry) (closed : Option ℕ) (k : IsKept d b sound premise began disk catalog standing groups trail late closed) (running : closed ≡ None)
     -- the record, as `Catalog::append` has it
     (disk' : D) (item : CatalogItem) (passes : Passes d disk disk' 4) (touches : HasCatalogue d catalog disk → TouchesOnly d disk disk' catalogue_files)
     (leaves : HasCatalogue d catalog disk → LeavesOnly d disk disk' (λ moment image. CatalogueStands image (standing_of catalog) ⊎ CatalogueStands image (after (standing_of catalog) item)))
@@ -210,6 +212,9 @@ module _ {D : Type 0} (d : Ghosts D) (tells_left : (x : D) (moment file : ℕ) (
 
   past : premise → IsTrue d.tells → (moment : ℕ) (image : Image) → moment < d.calls disk → IsLeft d.left disk' moment image → IsLeft d.left disk moment image
   past given tells moment image before is file = (touches (k.server.goes_on running given tells).has.stored).past moment file (image file) before (is file)
+
+  others_on_disk : premise → IsTrue d.tells → OthersStay d b began disk' es
+  others_on_disk given tells = others_on d b began es disk disk' catalogue_files (λ file own. inl own) (touches (k.server.goes_on running given tells).has.stored) (k.others given tells)
 
   drawn : (s : Standing) → s ≡ standing_of catalog → (m : ℕ) → IsAmong (suc m) (region_numbers (after s item)) → IsAmong (suc m) (region_numbers s) ⊎ (s.next ≤ suc m)
   drawn s is m among = elim (named_after (suc m) s item among) [
@@ -240,11 +245,11 @@ module _ {D : Type 0} (d : Ghosts D) (tells_left : (x : D) (moment file : ℕ) (
 
   -- the call failed: the server is closed, and the entry is late
   pub define_failed : (shut : Entry) (call : ℕ) → shut.act ≡ Shut call → shut.calls ≡ d.calls disk' → HasFailed d disk' → (catalog' : Catalog) (trail' : Recorded) → trail'.entries ≡ es ++ shut ∷ [] → HasTrailRoom (Some call) groups trail'
-      → IsKept d b sound premise disk' catalog' standing groups trail' (Some e) (Some call)
+      → IsKept d b sound premise began disk' catalog' standing groups trail' (Some e) (Some call)
   define_failed shut call shut-is shut_at failed catalog' trail' entries room =
-      stopped_same d b sound premise disk catalog standing groups trail late closed k running disk' passes.later shut call shut-is shut_at catalog' (Some e)
+      stopped_same d b sound premise began disk catalog standing groups trail late closed k running disk' passes.later shut call shut-is shut_at catalog' (Some e)
       (late_entry d tells_left up_to_now b premise Has (HasParts d b catalog' groups) disk es late closed k.server running disk' passes.later past shut call shut-is shut_at passes.at_most e (defines_lasts t e.act own) at may leaves_folder)
-      failed trail' entries room
+      failed others_on_disk trail' entries room
 
   -- the record is there
   module _ (catalog' : Catalog) (stored : HasCatalogue d catalog disk → HasCatalogue d catalog' disk') (defined : standing_of catalog' ≡ after (standing_of catalog) item)
@@ -320,7 +325,7 @@ module _ {D : Type 0} (d : Ghosts D) (tells_left : (x : D) (moment file : ℕ) (
           };
         })
 
-    pub define_kept : IsKept d b sound premise disk' catalog' standing' groups' trail' late closed
+    pub define_kept : IsKept d b sound premise began disk' catalog' standing' groups' trail' late closed
     define_kept = record {
       told = subst (λ (ys : List Entry). IsTold b ys closed (standing_of catalog') standing') (sym entries) told_now;
       each = subst (λ (ys : List Entry). AreGroups b ys closed standing'.tables groups') (sym entries) each_now;
@@ -332,4 +337,5 @@ module _ {D : Type 0} (d : Ghosts D) (tells_left : (x : D) (moment file : ℕ) (
           (lasting_server d tells_left up_to_now b premise Has (HasParts d b catalog' groups') disk es late closed k.server running disk' passes.later past passes.at_most e (defines_lasts t e.act own) at may (defines_unshut t e.act own) moves);
       room = room;
       blamed = subst (λ (ys : List Entry). has_told ys ≡ true → HasFailed d disk') (sym entries) (blamed_quiet d disk' es e (defines_quiet t e.act own) (blamed_on d disk disk' es passes.later passes.faults_later k.blamed));
+      others = λ given tells. subst (λ (ys : List Entry). OthersStay d b began disk' ys) (sym entries) (others_more d b began es (e ∷ []) disk' (others_on_disk given tells));
     }

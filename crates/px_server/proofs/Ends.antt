@@ -28,6 +28,7 @@ use Rattle.px_recovery.proofs.Server.{newest_early}
 use Rattle.px_calls.specs.Calls.{IsFinished, IsReceipt}
 use Rattle.px_server.specs.Ending.{HasVerified}
 use Rattle.px_server.specs.Kept.{HasBegun, IsKept, owed_by}
+use Rattle.px_server.specs.Others.{Beginning}
 use Rattle.px_server.proofs.Acted.{acted, acted_still, begun_at, once_at, points_at, right_at, tallied_at, traced_at}
 use Rattle.px_server.proofs.Ended.{IsLeftBatch, IsWrittenBatch, ended_acted, ended_is, gone_acted, left_batch, no_marks, written_batch}
 use Rattle.px_server.proofs.OpenBatches.{begun_tallied}
@@ -84,7 +85,7 @@ end_stamp g h same m s found x at = found.1 x (ap (λ (f : Group). slice_get f.b
 
 -- ---- the server
 
-module _ {D : Type 0} (d : Ghosts D) (b : Base) (sound premise : Type 0) (disk : D) (catalog : Catalog) (standing : Standing) (groups : List Group) (trail : Recorded) (late : Option Entry) (closed : Option ℕ) (k : IsKept d b sound premise disk catalog standing groups trail late closed)
+module _ {D : Type 0} (d : Ghosts D) (b : Base) (sound premise : Type 0) (began : Beginning) (disk : D) (catalog : Catalog) (standing : Standing) (groups : List Group) (trail : Recorded) (late : Option Entry) (closed : Option ℕ) (k : IsKept d b sound premise began disk catalog standing groups trail late closed)
     (t : TableId) (place : ℕ) (g : Group) (l : place < length standing.tables) (number : (none : Table) → (get_or standing.tables place none).id ≡ t) (is : get_or groups place g ≡ g) (s : ℕ) where
   abbrev es : List Entry
   es = trail.entries
@@ -99,15 +100,15 @@ module _ {D : Type 0} (d : Ghosts D) (b : Base) (sound premise : Type 0) (disk :
   begun_here = by closed refl
     where
       by : (o : Option ℕ) → closed ≡ o → HasBegun es g
-      by None running = (let told = tallied_at d b sound premise disk catalog standing groups trail late closed k place g inside is running in begun_tallied b es g told.held told.tallied)
-      by (Some call) shut = begun_at d b sound premise disk catalog standing groups trail late closed k place g inside is call shut
+      by None running = (let told = tallied_at d b sound premise began disk catalog standing groups trail late closed k place g inside is running in begun_tallied b es g told.held told.tallied)
+      by (Some call) shut = begun_at d b sound premise began disk catalog standing groups trail late closed k place g inside is call shut
 
   traced_here : AreTraced es g
   traced_here = by closed refl
     where
       by : (o : Option ℕ) → closed ≡ o → AreTraced es g
-      by None running = (let told = tallied_at d b sound premise disk catalog standing groups trail late closed k place g inside is running in traced_of b es g told.held (right_at d b sound premise disk catalog standing groups trail late closed k place g inside is running) told.tallied)
-      by (Some call) shut = traced_at d b sound premise disk catalog standing groups trail late closed k place g inside is call shut
+      by None running = (let told = tallied_at d b sound premise began disk catalog standing groups trail late closed k place g inside is running in traced_of b es g told.held (right_at d b sound premise began disk catalog standing groups trail late closed k place g inside is running) told.tallied)
+      by (Some call) shut = traced_at d b sound premise began disk catalog standing groups trail late closed k place g inside is call shut
 
   module _ (seat : ℕ) (can : IsEndable es seat t.0 s) where
     written : IsWrittenBatch es seat t.0 s
@@ -139,21 +140,21 @@ module _ {D : Type 0} (d : Ghosts D) (b : Base) (sound premise : Type 0) (disk :
 
         marks : closed ≡ None → x.batch.marks ≡ []
         marks running = (let
-            told = tallied_at d b sound premise disk catalog standing groups trail late closed k place g inside is running
+            told = tallied_at d b sound premise began disk catalog standing groups trail late closed k place g inside is running
             in let
             i = running_end es closed k.told.closing running seat t.0 s can
             in let
             here : batch_of g.table.id.0 x.batch.stamp es ≡ Some i.batch = ap (λ (y : TableId). batch_of y.0 x.batch.stamp es) own ∙ (ap (λ (n : ℕ). batch_of t.0 n es) stamp ∙ i.is)
-            in no_marks b es g told.held (right_at d b sound premise disk catalog standing groups trail late closed k place g inside is running) told.tallied m x at i.batch here i.phase)
+            in no_marks b es g told.held (right_at d b sound premise began disk catalog standing groups trail late closed k place g inside is running) told.tallied m x at i.batch here i.phase)
 
         pub ends : (tells_left : (y : D) (moment file : ℕ) (bytes : List ℕ) → d.left y moment file bytes → IsTrue d.tells) → ((y : D) (moment file : ℕ) (bytes : List ℕ) → d.left y moment file bytes → moment ≤ d.calls y)
-            → (g' : Group) → LetsGo g g' m x → (trail' : Recorded) → trail'.entries ≡ es ++ e ∷ [] → trail'.room + 1 ≡ trail.room → IsKept d b sound premise disk catalog standing (slice_set groups place g') trail' late closed
+            → (g' : Group) → LetsGo g g' m x → (trail' : Recorded) → trail'.entries ≡ es ++ e ∷ [] → trail'.room + 1 ≡ trail.room → IsKept d b sound premise began disk catalog standing (slice_set groups place g') trail' late closed
         ends tells_left up_to_now g' goes trail' entries room =
-            acted d b sound premise disk catalog standing groups trail late closed k place g inside is tells_left up_to_now e calls_is refl refl may (unshut_by closed t s) (catalogue-snoc b es e ∙ still_by t s (catalogue_of b es))
+            acted d b sound premise began disk catalog standing groups trail late closed k place g inside is tells_left up_to_now e calls_is refl refl may (unshut_by closed t s) (catalogue-snoc b es e ∙ still_by t s (catalogue_of b es))
             (λ y other same. other (sym same ∙ ap (λ (z : TableId). z.0) (sym own))) g'
-            (ended_acted d disk g g' m x goes b es e may act_is closed (points_at d b sound premise disk catalog standing groups trail late closed k place g inside is)
-            (λ running. right_at d b sound premise disk catalog standing groups trail late closed k place g inside is running) (λ running. tallied_at d b sound premise disk catalog standing groups trail late closed k place g inside is running)
-            (λ running. once_at d b sound premise disk catalog standing groups trail late closed k place g inside is running) (λ call shut. traced_here) (λ call shut. begun_here) marks)
+            (ended_acted d disk g g' m x goes b es e may act_is closed (points_at d b sound premise began disk catalog standing groups trail late closed k place g inside is)
+            (λ running. right_at d b sound premise began disk catalog standing groups trail late closed k place g inside is running) (λ running. tallied_at d b sound premise began disk catalog standing groups trail late closed k place g inside is running)
+            (λ running. once_at d b sound premise began disk catalog standing groups trail late closed k place g inside is running) (λ call shut. traced_here) (λ call shut. begun_here) marks)
             trail' entries
             (let
             fewer = batch_goes g.batches.items m x at
@@ -201,12 +202,12 @@ module _ {D : Type 0} (d : Ghosts D) (b : Base) (sound premise : Type 0) (disk :
   -- ---- it is given up
 
   module _ (call : ℕ) (shut : closed ≡ Some call) (seat : ℕ) (can : IsIn es seat t.0 s phases.Marking ⊎ IsIn es seat t.0 s phases.Writing) where
-    pub goes_away : (m : ℕ) (x : Begun) → x.batch.stamp ≡ s → slice_get g.batches.items m ≡ Some x → (g' : Group) → LetsGo g g' m x → IsKept d b sound premise disk catalog standing (slice_set groups place g') trail late closed
+    pub goes_away : (m : ℕ) (x : Begun) → x.batch.stamp ≡ s → slice_get g.batches.items m ≡ Some x → (g' : Group) → LetsGo g g' m x → IsKept d b sound premise began disk catalog standing (slice_set groups place g') trail late closed
     goes_away m x stamp at g' goes = (let
         left : IsLeftBatch es g.table.id.0 x.batch.stamp =
         subst (λ (y : TableId). IsLeftBatch es y.0 x.batch.stamp) (sym own) (subst (λ (n : ℕ). IsLeftBatch es t.0 n) (sym stamp) (left_batch b es k.told.legal seat t.0 s can))
-        in acted_still d b sound premise disk catalog standing groups trail late closed k place g inside is g'
-        (gone_acted d disk g g' m x goes b es left closed call shut (points_at d b sound premise disk catalog standing groups trail late closed k place g inside is) traced_here begun_here)
+        in acted_still d b sound premise began disk catalog standing groups trail late closed k place g inside is g'
+        (gone_acted d disk g g' m x goes b es left closed call shut (points_at d b sound premise began disk catalog standing groups trail late closed k place g inside is) traced_here begun_here)
         (let
         fewer = batch_goes g.batches.items m x at
         in let

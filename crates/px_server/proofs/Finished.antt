@@ -8,10 +8,11 @@ use Rattle.px_schema.specs.declared.standing.Standing.{Standing}
 use Rattle.px_catalog.specs.declared.catalog.Catalog.{Catalog}
 use Rattle.px_group.specs.declared.group.Group.{Group}
 use Rattle.px_server.specs.Kept.{IsKept}
+use Rattle.px_server.specs.Others.{Beginning}
 use Rattle.px_server.specs.Started.{StandsBy}
 
-module _ {D : Type 0} (d : Ghosts D) (b : Base) (sound premise : Type 0) (disk : D) (catalog : Catalog) (standing : Standing) (groups : List Group) (trail : Recorded) (late : Option Entry) (closed : Option ℕ)
-    (k : IsKept d b sound premise disk catalog standing groups trail late closed) (open_ : closing_call trail.entries ≡ None) where
+module _ {D : Type 0} (d : Ghosts D) (b : Base) (sound premise : Type 0) (began : Beginning) (disk : D) (catalog : Catalog) (standing : Standing) (groups : List Group) (trail : Recorded) (late : Option Entry) (closed : Option ℕ)
+    (k : IsKept d b sound premise began disk catalog standing groups trail late closed) (open_ : closing_call trail.entries ≡ None) where
   running : closed ≡ None
   running = sym k.server.closing ∙ open_
 

@@ -39,12 +39,11 @@ use Rattle.px_repairs.specs.Repairs.{Fixes, HandsRepair, HasFailed, HasFixed, Ha
 use Rattle.px_repairs.specs.declared.repairing.RepairFault.{RepairFault}
 use Rattle.px_repairs.specs.declared.repairing.RepairFault.TheVariants.{Busy, NotReady, WriteFault, Memory}
 use Rattle.px_repairs.proofs.Handing.{got_some}
-use Rattle.px_catalog.specs.Catalogue.{standing_of}
-use Rattle.px_recovery.specs.Kept.{IsServer}
 use Rattle.px_server.specs.Repairs.{Answers, Stays}
 use Rattle.px_repairs.proofs.Right.{right_repaired, tallied_repaired, traced_repaired}
 use Rattle.px_repairs.proofs.Shown.{repair_steps, repaired_shown}
-use Rattle.px_server.specs.Kept.{AreGroups, AreShown, HasFailed as HasFault, HasParts, HasPoints, HasTallied, HasTrailRoom, IsKept, IsTold, has_told, owed, owed_by}
+use Rattle.px_server.specs.Kept.{HasPoints, HasTallied, HasTrailRoom, IsKept, owed, owed_by}
+use Rattle.px_server.specs.Others.{Beginning}
 use Rattle.px_server.proofs.Handed.{IndexGoes, IndexShows, ToIndex, index_handed, index_shut}
 use Rattle.px_server.proofs.Lists.{all_at}
 use Rattle.px_server.proofs.Looked.{looked_kept, looked_owed}
@@ -75,8 +74,8 @@ set_same (y ∷ xs) zero x l is = ap (λ z. z ∷ xs) (sym is)
 set_same (y ∷ xs) (suc i) x l is = ap (λ l. y ∷ l) (set_same xs i x (omega (arith, l)) is)
 
 module _ {D : Type 0} (d : Ghosts D) (tells_left : (x : D) (moment file : ℕ) (bytes : List ℕ) → d.left x moment file bytes → IsTrue d.tells)
-    (up_to_now : (x : D) (moment file : ℕ) (bytes : List ℕ) → d.left x moment file bytes → moment ≤ d.calls x) (b : Base) (sound premise : Type 0)
-    (disk : D) (catalog : Catalog) (standing : Standing) (groups : List Group) (trail : Recorded) (late : Option Entry) (closed : Option ℕ) (k : IsKept d b sound premise disk catalog standing groups trail late closed)
+    (up_to_now : (x : D) (moment file : ℕ) (bytes : List ℕ) → d.left x moment file bytes → moment ≤ d.calls x) (b : Base) (sound premise : Type 0) (began : Beginning)
+    (disk : D) (catalog : Catalog) (standing : Standing) (groups : List Group) (trail : Recorded) (late : Option Entry) (closed : Option ℕ) (k : IsKept d b sound premise began disk catalog standing groups trail late closed)
     (running : closed ≡ None) (place : ℕ) (g g' : Group) (l : place < length groups) (is : get_or groups place g ≡ g) (disk' : D) where
   abbrev es : List Entry
   es = trail.entries
@@ -84,8 +83,8 @@ module _ {D : Type 0} (d : Ghosts D) (tells_left : (x : D) (moment file : ℕ) (
   abbrev then : List Group
   then = slice_set groups place g'
 
-  pub fix_stayed : HasStayed g g' disk disk' → IsKept d b sound premise disk' catalog standing then trail late closed
-  fix_stayed h = subst (λ (x : D). IsKept d b sound premise x catalog standing then trail late closed) (sym h.untouched) (looked_kept d b sound premise disk catalog standing groups trail late closed k place g g' l is h.looked)
+  pub fix_stayed : HasStayed g g' disk disk' → IsKept d b sound premise began disk' catalog standing then trail late closed
+  fix_stayed h = subst (λ (x : D). IsKept d b sound premise began x catalog standing then trail late closed) (sym h.untouched) (looked_kept d b sound premise began disk catalog standing groups trail late closed k place g g' l is h.looked)
 
   module _ (at : ℕ) (key : List ℕ) (s : ℕ) where
     goes_by : (looked : Group) (kept : List CellData) → IsRepair looked at key s kept → (x : IndexRegion) → slice_get looked.indexes.items at ≡ Some x → (put : List CellData) → ReadsSame put kept → IndexGoes b es es looked at x put
@@ -102,8 +101,8 @@ module _ {D : Type 0} (d : Ghosts D) (tells_left : (x : D) (moment file : ℕ) (
       abbrev before : List Group
       before = slice_set groups place looked
 
-      kept_before : IsKept d b sound premise disk catalog standing before trail late closed
-      kept_before = looked_kept d b sound premise disk catalog standing groups trail late closed k place g looked l is has
+      kept_before : IsKept d b sound premise began disk catalog standing before trail late closed
+      kept_before = looked_kept d b sound premise began disk catalog standing groups trail late closed k place g looked l is has
 
       inside : place < length before
       inside = (let n = length_set groups place looked in omega (arith, n, l))
@@ -133,9 +132,9 @@ module _ {D : Type 0} (d : Ghosts D) (tells_left : (x : D) (moment file : ℕ) (
           told = record { each = told.told.each };
         }
 
-        pub written_kept : IsKept d b sound premise disk' catalog standing then trail late closed
-        written_kept = subst (λ (gs : List Group). IsKept d b sound premise disk' catalog standing gs trail late closed) (set_twice groups place looked g')
-            (index_handed d tells_left up_to_now b sound premise disk catalog standing before trail late closed kept_before running place looked g' inside is_before disk' at w.index w.region w.wrote.hands.cells to_index w.wrote.hands.writes w.wrote.written w.wrote.hands.writes.horizon
+        pub written_kept : IsKept d b sound premise began disk' catalog standing then trail late closed
+        written_kept = subst (λ (gs : List Group). IsKept d b sound premise began disk' catalog standing gs trail late closed) (set_twice groups place looked g')
+            (index_handed d tells_left up_to_now b sound premise began disk catalog standing before trail late closed kept_before running place looked g' inside is_before disk' at w.index w.region w.wrote.hands.cells to_index w.wrote.hands.writes w.wrote.written w.wrote.hands.writes.horizon
             (right_repaired d looked g' disk disk' at key s kept right_before due w) (λ hs. hs) (λ hs t. tallied_repaired d looked g' disk disk' at kept b es hs t (record { index = w.index; region = w.region; step = w.step; hands = w.wrote.hands })) shows owed_written)
 
         pub stands_written : (i : IndexId) → ((x : IndexRegion) → slice_get g.indexes.items at ≡ Some x → x.index.id ≡ i) → (y : Index) × (index_of b es i.0 ≡ Some y)
@@ -157,16 +156,16 @@ module _ {D : Type 0} (d : Ghosts D) (tells_left : (x : D) (moment file : ℕ) (
         owed_failed : owed g' ≡ owed looked
         owed_failed = (let p = ap (λ q. length q.items) w.step.points in let m = ap (λ q. sum_by owed_by q.items) w.step.batches in omega (arith, p, m))
 
-        pub failed_kept : IsKept d b sound premise disk' catalog standing then trail' None (Some call)
-        failed_kept = subst (λ (gs : List Group). IsKept d b sound premise disk' catalog standing gs trail' None (Some call)) (set_twice groups place looked g')
-            (index_shut d tells_left up_to_now b sound premise disk catalog standing before trail late closed kept_before running place looked g' inside is_before disk' at w.index w.region w.hands.cells to_failed w.hands.writes
+        pub failed_kept : IsKept d b sound premise began disk' catalog standing then trail' None (Some call)
+        failed_kept = subst (λ (gs : List Group). IsKept d b sound premise began disk' catalog standing gs trail' None (Some call)) (set_twice groups place looked g')
+            (index_shut d tells_left up_to_now b sound premise began disk catalog standing before trail late closed kept_before running place looked g' inside is_before disk' at w.index w.region w.hands.cells to_failed w.hands.writes
             shut call shut-is shut_at rose (λ t. traced_repaired d looked g' disk disk' at kept es t w) (ap (λ q. map stamp_in q.items) w.step.batches) (goes_by looked kept due w.index w.step.index w.hands.cells w.hands.handed.reads) trail' entries (let o = owed_failed in omega (arith, o, room)))
 
 -- ---- the entry
 
 module _ {D : Type 0} (d : Ghosts D) (tells_left : (x : D) (moment file : ℕ) (bytes : List ℕ) → d.left x moment file bytes → IsTrue d.tells)
-    (up_to_now : (x : D) (moment file : ℕ) (bytes : List ℕ) → d.left x moment file bytes → moment ≤ d.calls x) (b : Base) (sound premise : Type 0)
-    (disk : D) (catalog : Catalog) (standing : Standing) (groups : List Group) (trail : Recorded) (late : Option Entry) (closed : Option ℕ) (k : IsKept d b sound premise disk catalog standing groups trail late closed)
+    (up_to_now : (x : D) (moment file : ℕ) (bytes : List ℕ) → d.left x moment file bytes → moment ≤ d.calls x) (b : Base) (sound premise : Type 0) (began : Beginning)
+    (disk : D) (catalog : Catalog) (standing : Standing) (groups : List Group) (trail : Recorded) (late : Option Entry) (closed : Option ℕ) (k : IsKept d b sound premise began disk catalog standing groups trail late closed)
     (running : closed ≡ None) (place : ℕ) (g : Group) (l : place < length groups) (is : get_or groups place g ≡ g) (seat calls : ℕ) (i : IndexId) (key : List ℕ) (called : calls ≡ d.calls disk) (stands : (y : Index) × (index_of b trail.entries i.0 ≡ Some y)) where
   abbrev e : Entry
   e = record { seat = seat; calls = calls; act = Fixed i key }
@@ -200,7 +199,7 @@ module _ {D : Type 0} (d : Ghosts D) (tells_left : (x : D) (moment file : ℕ) (
         all = λ y at of_table maintained. a.all y (ap (λ (c : Catalogue). c.indexes y.id.0) (sym same) ∙ at) of_table maintained;
       })
 
-  pub noted_kept : (trail' : Recorded) → trail'.entries ≡ trail.entries ++ e ∷ [] → HasTrailRoom closed groups trail' → IsKept d b sound premise disk catalog standing groups trail' late closed
+  pub noted_kept : (trail' : Recorded) → trail'.entries ≡ trail.entries ++ e ∷ [] → HasTrailRoom closed groups trail' → IsKept d b sound premise began disk catalog standing groups trail' late closed
   noted_kept trail' entries room = (let
       same : slice_set groups place g ≡ groups = set_same groups place g l is
       in let
@@ -209,9 +208,9 @@ module _ {D : Type 0} (d : Ghosts D) (tells_left : (x : D) (moment file : ℕ) (
       -- the same entries, with the room that is left behind the entry
       roomy : Recorded = record trail { room = trail'.room }
       in let
-      kept : IsKept d b sound premise disk catalog standing groups roomy late closed = record { told = k.told; each = k.each; shown = k.shown; server = k.server; room = room; blamed = k.blamed }
-      in subst (λ (gs : List Group). IsKept d b sound premise disk catalog standing gs trail' late closed) same
-      (pointed d tells_left up_to_now b sound premise disk catalog standing groups roomy late closed kept e called refl refl may_fix (unshut_by closed) still_by (λ t. tt) place g g l is (record { table = refl; rows = refl; indexes = refl; batches = refl; last = refl; horizon = refl })
+      kept : IsKept d b sound premise began disk catalog standing groups roomy late closed = record { told = k.told; each = k.each; shown = k.shown; server = k.server; room = room; blamed = k.blamed; others = k.others }
+      in subst (λ (gs : List Group). IsKept d b sound premise began disk catalog standing gs trail' late closed) same
+      (pointed d tells_left up_to_now b sound premise began disk catalog standing groups roomy late closed kept e called refl refl may_fix (unshut_by closed) still_by (λ t. tt) place g g l is (record { table = refl; rows = refl; indexes = refl; batches = refl; last = refl; horizon = refl })
       (λ t other. tt) (λ q s. points-snoc q g.table.id.0 s trail.entries e ∙ (apart_points g.table.id q s (open_points q g.table.id.0 s trail.entries) seat (Fixed i key) tt ∙ here q s))
       (λ hs t. tallied_apart b trail.entries g hs t e tt (standing_on t.standing)) trail' entries (omega arith)))
 
@@ -246,19 +245,6 @@ pub doubt_at : (groups xs : List Group) (place at : ℕ) (i : IndexId) (g dflt :
     → (at < length g.indexes.items) × ((x : IndexRegion) → slice_get g.indexes.items at ≡ Some x → x.index.id ≡ i)
 doubt_at groups xs place at i g dflt same l found is = found g (ap (λ (ys : List Group). slice_get ys place) same ∙ got_some groups place dflt g (inside_groups groups xs place same l) is)
 
--- ---- another trail with the same entries
-
-module _ {D : Type 0} (d : Ghosts D) (b : Base) (sound premise : Type 0) (disk : D) (catalog : Catalog) (standing : Standing) (groups : List Group) (trail trail' : Recorded) (late : Option Entry) (closed : Option ℕ) (k : IsKept d b sound premise disk catalog standing groups trail late closed) where
-  pub other_trail : trail'.entries ≡ trail.entries → trail.room ≤ trail'.room → IsKept d b sound premise disk catalog standing groups trail' late closed
-  other_trail same room = record {
-    told = subst (λ (ys : List Entry). IsTold b ys closed (standing_of catalog) standing) (sym same) k.told;
-    each = subst (λ (ys : List Entry). AreGroups b ys closed standing.tables groups) (sym same) k.each;
-    shown = λ given running. subst (λ (ys : List Entry). AreShown b ys standing.indexes groups) (sym same) (k.shown given running);
-    server = subst (λ (ys : List Entry). IsServer d b premise (HasParts d b catalog groups) disk ys late closed) (sym same) k.server;
-    room = (let before = k.room in omega (arith, before, room));
-    blamed = subst (λ (ys : List Entry). has_told ys ≡ true → HasFault d disk) (sym same) k.blamed;
-  }
-
 -- ---- what is in flight
 
 module _ (b : Base) (es : List Entry) (legal : IsLegal b es) (g : Group) (right : IsRightGroup g) (tallied : HasTallied b es g) (at : ℕ) (d : Doubt) (named : (x : IndexRegion) → slice_get g.indexes.items at ≡ Some x → x.index.id ≡ d.index) where
@@ -289,8 +275,8 @@ standing_snoc b es g seat calls i key a = (let
 -- ---- a repair, as a whole
 
 module _ {D : Type 0} (d : Ghosts D) (tells_left : (x : D) (moment file : ℕ) (bytes : List ℕ) → d.left x moment file bytes → IsTrue d.tells)
-    (up_to_now : (x : D) (moment file : ℕ) (bytes : List ℕ) → d.left x moment file bytes → moment ≤ d.calls x) (b : Base) (sound premise : Type 0)
-    (disk : D) (catalog : Catalog) (standing : Standing) (groups : List Group) (trail : Recorded) (late : Option Entry) (closed : Option ℕ) (k : IsKept d b sound premise disk catalog standing groups trail late closed)
+    (up_to_now : (x : D) (moment file : ℕ) (bytes : List ℕ) → d.left x moment file bytes → moment ≤ d.calls x) (b : Base) (sound premise : Type 0) (began : Beginning)
+    (disk : D) (catalog : Catalog) (standing : Standing) (groups : List Group) (trail : Recorded) (late : Option Entry) (closed : Option ℕ) (k : IsKept d b sound premise began disk catalog standing groups trail late closed)
     (running : closed ≡ None) (place : ℕ) (g g' : Group) (l : place < length groups) (is : get_or groups place g ≡ g) (disk' : D) where
   abbrev es2 : List Entry
   es2 = trail.entries
@@ -305,24 +291,24 @@ module _ {D : Type 0} (d : Ghosts D) (tells_left : (x : D) (moment file : ℕ) (
   is2 = got_set groups place g' g' l
 
   pub stayed_flight : HasStayed g g' disk disk' → (at : ℕ) (q : Doubt) → ((x : IndexRegion) → slice_get g.indexes.items at ≡ Some x → x.index.id ≡ q.index) → IsUnderWay g' at q.key q.stamp → IsInFlight b es2 q
-  stayed_flight h at q named = (let k' = fix_stayed d tells_left up_to_now b sound premise disk catalog standing groups trail late closed k running place g g' l is disk' h
+  stayed_flight h at q named = (let k' = fix_stayed d tells_left up_to_now b sound premise began disk catalog standing groups trail late closed k running place g g' l is disk' h
       in in_flight_at b es2 k.told.legal g' (all_at IsRightGroup then2 place g' inside2 is2 (k'.each.right running)) (all_at (HasTallied b es2) then2 place g' inside2 is2 (k'.each.tallied running)) at q (named_looked g g' h.looked at q.index named))
 
   pub fixed_kept : (at : ℕ) (key : List ℕ) (s : ℕ) → HasFixed d g g' disk disk' at key s → (seat calls : ℕ) (i : IndexId) (bytes : List ℕ) → ((x : IndexRegion) → slice_get g.indexes.items at ≡ Some x → x.index.id ≡ i) → calls ≡ d.calls disk'
-      → (trail' : Recorded) → trail'.entries ≡ es2 ++ record { seat = seat; calls = calls; act = Fixed i bytes } ∷ [] → trail.room ≤ trail'.room → IsKept d b sound premise disk' catalog standing then2 trail' late closed
+      → (trail' : Recorded) → trail'.entries ≡ es2 ++ record { seat = seat; calls = calls; act = Fixed i bytes } ∷ [] → trail.room ≤ trail'.room → IsKept d b sound premise began disk' catalog standing then2 trail' late closed
   fixed_kept at key s f seat calls i bytes named called trail' entries room = (let
-      k' = written_kept d tells_left up_to_now b sound premise disk catalog standing groups trail late closed k running place g g' l is disk' at key s f.looked f.has f.kept f.due f.wrote
-      in noted_kept d tells_left up_to_now b sound premise disk' catalog standing then2 trail late closed k' running place g' inside2 is2 seat calls i bytes called
-      (stands_written d tells_left up_to_now b sound premise disk catalog standing groups trail late closed k running place g g' l is disk' at key s f.looked f.has f.kept f.due f.wrote i named)
+      k' = written_kept d tells_left up_to_now b sound premise began disk catalog standing groups trail late closed k running place g g' l is disk' at key s f.looked f.has f.kept f.due f.wrote
+      in noted_kept d tells_left up_to_now b sound premise began disk' catalog standing then2 trail late closed k' running place g' inside2 is2 seat calls i bytes called
+      (stands_written d tells_left up_to_now b sound premise began disk catalog standing groups trail late closed k running place g g' l is disk' at key s f.looked f.has f.kept f.due f.wrote i named)
       trail' entries (let before = k'.room in omega (arith, before, room)))
 
   pub fixed_flight : (at : ℕ) (q : Doubt) → HasFixed d g g' disk disk' at q.key q.stamp → ((x : IndexRegion) → slice_get g.indexes.items at ≡ Some x → x.index.id ≡ q.index) → (seat calls : ℕ) (i : IndexId) (bytes : List ℕ)
       → IsLegal b (es2 ++ record { seat = seat; calls = calls; act = Fixed i bytes } ∷ []) → IsInFlight b (es2 ++ record { seat = seat; calls = calls; act = Fixed i bytes } ∷ []) q → ⊥
   fixed_flight at q f named seat calls i bytes legal = (let
       e : Entry = record { seat = seat; calls = calls; act = Fixed i bytes } in let
-      t = tallied_before d tells_left up_to_now b sound premise disk catalog standing groups trail late closed k running place g g' l is disk' at q.key q.stamp f.looked f.has f.kept f.due f.wrote in let
+      t = tallied_before d tells_left up_to_now b sound premise began disk catalog standing groups trail late closed k running place g g' l is disk' at q.key q.stamp f.looked f.has f.kept f.due f.wrote in let
       t' : HasTallied b (es2 ++ e ∷ []) f.looked = record { held = t.held; tallied = tallied_apart b es2 f.looked t.held t.tallied e tt (standing_snoc b es2 f.looked seat calls i bytes t.tallied.standing) }
-      in not_in_flight b (es2 ++ e ∷ []) legal f.looked (right_before d tells_left up_to_now b sound premise disk catalog standing groups trail late closed k running place g g' l is disk' at q.key q.stamp f.looked f.has) t' at q (named_looked g f.looked f.has at q.index named) f.kept f.due)
+      in not_in_flight b (es2 ++ e ∷ []) legal f.looked (right_before d tells_left up_to_now b sound premise began disk catalog standing groups trail late closed k running place g g' l is disk' at q.key q.stamp f.looked f.has) t' at q (named_looked g f.looked f.has at q.index named) f.kept f.due)
 
 -- ---- what is answered
 

@@ -40,6 +40,7 @@ use Rattle.px_recovery.proofs.IndexDrops.{index_gone as folder_gone}
 use Rattle.px_standing.specs.Agrees.{Agrees}
 use Rattle.px_standing.proofs.Defined.{index_gone as agrees_gone}
 use Rattle.px_server.specs.Kept.{HasFailed, HasPoints, HasShown, HasTallied, HasTrailRoom, IsKept, IsOnDisk, owed}
+use Rattle.px_server.specs.Others.{Beginning}
 use Rattle.px_server.proofs.BornKept.{same_owed}
 use Rattle.px_server.proofs.Catalogued.{define_failed}
 use Rattle.px_server.proofs.Defines.{Defines}
@@ -54,8 +55,8 @@ some_table None x is = absurd cc
 some_table (Some z) x is = (let same : record z { state = opened_state z.state } ≡ record x { state = opened_state x.state } = cc in (z, (refl, ap (λ (w : Index). w.table) same)))
 
 module _ {D : Type 0} (d : Ghosts D) (tells_left : (x : D) (moment file : ℕ) (bytes : List ℕ) → d.left x moment file bytes → IsTrue d.tells)
-    (up_to_now : (x : D) (moment file : ℕ) (bytes : List ℕ) → d.left x moment file bytes → moment ≤ d.calls x) (b : Base) (sound premise : Type 0)
-    (disk : D) (catalog : Catalog) (standing : Standing) (groups : List Group) (trail : Recorded) (late : Option Entry) (closed : Option ℕ) (k : IsKept d b sound premise disk catalog standing groups trail late closed) (running : closed ≡ None)
+    (up_to_now : (x : D) (moment file : ℕ) (bytes : List ℕ) → d.left x moment file bytes → moment ≤ d.calls x) (b : Base) (sound premise : Type 0) (began : Beginning)
+    (disk : D) (catalog : Catalog) (standing : Standing) (groups : List Group) (trail : Recorded) (late : Option Entry) (closed : Option ℕ) (k : IsKept d b sound premise began disk catalog standing groups trail late closed) (running : closed ≡ None)
     (i : IndexId) (place : ℕ) (g : Group) (l : place < length groups) (g_is : get_or groups place g ≡ g) (e : Entry) (is : e.act ≡ Dropped g.table.id (Some i)) (may : MayCome b trail.entries e)
     (x : Index) (stands : index_of b trail.entries i.0 ≡ Some x) (of_table : x.table.0 ≡ g.table.id.0) (none : g.batches.items ≡ [])
     (disk' : D) (at : e.calls ≡ d.calls disk') (passes : Passes d disk disk' 4) (touches : HasCatalogue d catalog disk → TouchesOnly d disk disk' catalogue_files)
@@ -95,9 +96,9 @@ module _ {D : Type 0} (d : Ghosts D) (tells_left : (x : D) (moment file : ℕ) (
 
   -- the call failed
   pub gone_failed : (shut : Entry) (call : ℕ) → shut.act ≡ Shut call → shut.calls ≡ d.calls disk' → HasFailed d disk' → (catalog' : Catalog) (trail' : Recorded) → trail'.entries ≡ es ++ shut ∷ [] → HasTrailRoom (Some call) groups trail'
-      → IsKept d b sound premise disk' catalog' standing groups trail' (Some e) (Some call)
+      → IsKept d b sound premise began disk' catalog' standing groups trail' (Some e) (Some call)
   gone_failed shut call shut-is shut_at failed catalog' trail' entries room =
-      define_failed d tells_left up_to_now b sound premise disk catalog standing groups trail late closed k running disk' (IndexGone i) passes touches leaves regions t e own may at (λ v. with_part v t.0 (dropped_data i.0 (v t.0))) explains shut call shut-is shut_at failed catalog' trail' entries room
+      define_failed d tells_left up_to_now b sound premise began disk catalog standing groups trail late closed k running disk' (IndexGone i) passes touches leaves regions t e own may at (λ v. with_part v t.0 (dropped_data i.0 (v t.0))) explains shut call shut-is shut_at failed catalog' trail' entries room
 
   agrees : Agrees (after standing (IndexGone i)) (catalogue_of b es')
   agrees = subst (λ (w : Catalogue). Agrees (after standing (IndexGone i)) w) (sym (catalogue-snoc b es e ∙ ap (catalogue_step c) is)) (agrees_gone standing c k.told.agrees t i)
@@ -114,9 +115,9 @@ module _ {D : Type 0} (d : Ghosts D) (tells_left : (x : D) (moment file : ℕ) (
     }
 
     pub gone_kept : (catalog' : Catalog) → (HasCatalogue d catalog disk → HasCatalogue d catalog' disk') → standing_of catalog' ≡ after (standing_of catalog) (IndexGone i) → (trail' : Recorded) → trail'.entries ≡ es ++ e ∷ [] → trail'.room + 1 ≡ trail.room → 2 + sum_by owed groups ≤ trail.room
-        → IsKept d b sound premise disk' catalog' (after standing (IndexGone i)) (slice_set groups place g') trail' late closed
+        → IsKept d b sound premise began disk' catalog' (after standing (IndexGone i)) (slice_set groups place g') trail' late closed
     gone_kept catalog' stored defined trail' entries room enough =
-        index_kept d tells_left up_to_now b sound premise disk catalog standing groups trail late closed k running disk' (IndexGone i) passes touches leaves regions t e own may at (dropped_data i.0) explains catalog' stored defined agrees refl
+        index_kept d tells_left up_to_now b sound premise began disk catalog standing groups trail late closed k running disk' (IndexGone i) passes touches leaves regions t e own may at (dropped_data i.0) explains catalog' stored defined agrees refl
         place g g' l g_is refl less.beside.table (same_owed g g' less.beside)
         (λ p. tallied'.tallied.points) (right_less g g' i.0 less none) (once_less g g' i.0 less) (has_tallied_gone b es e may t i is g g' refl less) (has_shown_gone b es e may t i is g g' refl less none) own_disk
         trail' entries room enough

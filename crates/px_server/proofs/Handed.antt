@@ -50,6 +50,7 @@ use Rattle.px_recovery.specs.Tables.{table_in}
 use Rattle.px_recovery.proofs.Explains.{index_batch, rows_batch}
 use Rattle.px_recovery.proofs.Numbered.{index_number, rows_number}
 use Rattle.px_server.specs.Kept.{HasPoints, HasShown, HasTallied, IsKept, IsOnDisk, forms_in, number_in, owed, tells_fault}
+use Rattle.px_server.specs.Others.{Beginning, IsRegion}
 use Rattle.px_server.proofs.Beside.{own_shown}
 use Rattle.px_server.proofs.Elsewhere.{GoesOnIn, IsOfTable, no_entry, one_entry}
 use Rattle.px_server.proofs.Framed.{region_framed, region_here, rows_in_region}
@@ -137,8 +138,8 @@ has_shown b es' g g' table indexes v w hs' tallied shown told own =
     (record { told = subst (λ (x : Table). AreTold (table_form b x.id (forms_in indexes g.table) (row_form x)) es' w) (sym table) told; own = own })
 
 module _ {D : Type 0} (d : Ghosts D) (tells_left : (x : D) (moment file : ℕ) (bytes : List ℕ) → d.left x moment file bytes → IsTrue d.tells)
-    (up_to_now : (x : D) (moment file : ℕ) (bytes : List ℕ) → d.left x moment file bytes → moment ≤ d.calls x) (b : Base) (sound premise : Type 0)
-    (disk : D) (catalog : Catalog) (standing : Standing) (groups : List Group) (trail : Recorded) (late : Option Entry) (closed : Option ℕ) (k : IsKept d b sound premise disk catalog standing groups trail late closed)
+    (up_to_now : (x : D) (moment file : ℕ) (bytes : List ℕ) → d.left x moment file bytes → moment ≤ d.calls x) (b : Base) (sound premise : Type 0) (began : Beginning)
+    (disk : D) (catalog : Catalog) (standing : Standing) (groups : List Group) (trail : Recorded) (late : Option Entry) (closed : Option ℕ) (k : IsKept d b sound premise began disk catalog standing groups trail late closed)
     (running : closed ≡ None) (place : ℕ) (g g' : Group) (l : place < length groups) (is : get_or groups place g ≡ g) (disk' : D) where
   abbrev es : List Entry
   es = trail.entries
@@ -172,6 +173,9 @@ module _ {D : Type 0} (d : Ghosts D) (tells_left : (x : D) (moment file : ℕ) (
 
     rows_holds : (f : FolderData) → IsOnDisk d disk f g → Holds d g.rows disk (f.regions g.rows.number)
     rows_holds f on = on.rows
+
+    rows_stand : IsRegion (catalogue_of b es) g.rows.number
+    rows_stand = inl (record { number = t; table = g.table; stands = standing_here.table; own = rows_one g right_here })
 
     abbrev rows_changed : FolderData → FolderData
     rows_changed f = with_region g.rows.number (with_batch (f.regions g.rows.number) cells) f
@@ -221,32 +225,32 @@ module _ {D : Type 0} (d : Ghosts D) (tells_left : (x : D) (moment file : ℕ) (
 
     -- all calls succeeded, and no entry is added
     pub rows_handed : HasWritten d g.rows new disk disk' cells → IsSameHorizon g.rows new → IsRightGroup g' → (next : List HeldBatch → List HeldBatch) → ((hs : List HeldBatch) → IsTallied b es g hs → IsTallied b es g' (next hs)) → RowsShow b es es g g' next new → owed g' ≤ owed g
-        → IsKept d b sound premise disk' catalog standing then trail late closed
+        → IsKept d b sound premise began disk' catalog standing then trail late closed
     rows_handed written horizons right next tallied show room =
-        handed d tells_left up_to_now b sound premise disk catalog standing groups trail late closed k running place g g' l is to.table to.points disk' g.rows new cells writes rows_lacks rows_drawn rows_holds
+        handed d tells_left up_to_now b sound premise began disk catalog standing groups trail late closed k running place g g' l is to.table to.points disk' g.rows new cells writes rows_lacks rows_drawn rows_holds rows_stand
         right next (same_once g g' to.indexes) written (rows_on_disk written) tallied
         (rows_shows written horizons es (no_entry b es k.told.legal t) next tallied show) (rows_moves written horizons es (no_entry b es k.told.legal t) next tallied show) room
 
     -- with an entry that lasts
     pub rows_told : HasWritten d g.rows new disk disk' cells → IsSameHorizon g.rows new → IsRightGroup g' → (e : Entry) → lasting e ≡ true → e.calls ≡ d.calls disk' → IsOfTable b es t e → tells_fault e.act ≡ false → (next : List HeldBatch → List HeldBatch)
         → ((hs : List HeldBatch) → IsTallied b es g hs → IsTallied b (es ++ e ∷ []) g' (next hs)) → HasPoints (es ++ e ∷ []) g' → RowsShow b es (es ++ e ∷ []) g g' next new → (trail' : Recorded) → trail'.entries ≡ es ++ e ∷ [] → owed g' + trail.room ≤ owed g + trail'.room
-        → IsKept d b sound premise disk' catalog standing then trail' late closed
+        → IsKept d b sound premise began disk' catalog standing then trail' late closed
     rows_told written horizons right e lasts at of quiet next tallied points' show trail' entries room =
-        handed_told d tells_left up_to_now b sound premise disk catalog standing groups trail late closed k running place g g' l is to.table to.points disk' g.rows new cells writes rows_lacks rows_drawn rows_holds
+        handed_told d tells_left up_to_now b sound premise began disk catalog standing groups trail late closed k running place g g' l is to.table to.points disk' g.rows new cells writes rows_lacks rows_drawn rows_holds rows_stand
         right next (same_once g g' to.indexes) written (rows_on_disk written) e lasts at of quiet tallied points'
         (rows_shows written horizons (es ++ e ∷ []) (one_entry b es k.told.legal t e of) next tallied show) (rows_moves written horizons (es ++ e ∷ []) (one_entry b es k.told.legal t e of) next tallied show) trail' entries room
 
     -- a call failed: nothing was under way, or an entry
     pub rows_shut : (shut : Entry) (call : ℕ) → shut.act ≡ Shut call → shut.calls ≡ d.calls disk' → Rose d disk disk' → (AreTraced es g → AreTraced es g') → map stamp_in g'.batches.items ≡ map stamp_in g.batches.items → RowsGo b es es g cells → (trail' : Recorded) → trail'.entries ≡ es ++ shut ∷ [] → owed g' + trail.room ≤ owed g + trail'.room + 1
-        → IsKept d b sound premise disk' catalog standing then trail' None (Some call)
+        → IsKept d b sound premise began disk' catalog standing then trail' None (Some call)
     rows_shut shut call shut-is shut_at rose traced stamps go trail' entries room =
-        handed_shut d tells_left up_to_now b sound premise disk catalog standing groups trail late closed k running place g g' l is to.table to.points disk' g.rows new cells writes rows_lacks rows_drawn rows_holds
+        handed_shut d tells_left up_to_now b sound premise began disk catalog standing groups trail late closed k running place g g' l is to.table to.points disk' g.rows new cells writes rows_lacks rows_drawn rows_holds rows_stand
         shut call shut-is shut_at rose traced stamps trail' entries room (rows_tells es (no_entry b es k.told.legal t) go)
 
     pub rows_late : (shut : Entry) (call : ℕ) → shut.act ≡ Shut call → shut.calls ≡ d.calls disk' → Rose d disk disk' → (AreTraced es g → AreTraced es g') → map stamp_in g'.batches.items ≡ map stamp_in g.batches.items → (u : Entry) → lasting u ≡ true → u.calls ≡ d.calls disk' → IsOfTable b es t u → RowsGo b es (es ++ u ∷ []) g cells
-        → (trail' : Recorded) → trail'.entries ≡ es ++ shut ∷ [] → owed g' + trail.room ≤ owed g + trail'.room + 1 → IsKept d b sound premise disk' catalog standing then trail' (Some u) (Some call)
+        → (trail' : Recorded) → trail'.entries ≡ es ++ shut ∷ [] → owed g' + trail.room ≤ owed g + trail'.room + 1 → IsKept d b sound premise began disk' catalog standing then trail' (Some u) (Some call)
     rows_late shut call shut-is shut_at rose traced stamps u lasts at of go trail' entries room =
-        handed_late d tells_left up_to_now b sound premise disk catalog standing groups trail late closed k running place g g' l is to.table to.points disk' g.rows new cells writes rows_lacks rows_drawn rows_holds
+        handed_late d tells_left up_to_now b sound premise began disk catalog standing groups trail late closed k running place g g' l is to.table to.points disk' g.rows new cells writes rows_lacks rows_drawn rows_holds rows_stand
         shut call shut-is shut_at rose traced stamps trail' entries room u lasts at of.may (rows_tells (es ++ u ∷ []) (one_entry b es k.told.legal t u of) go)
 
   -- ---- the region of an index
@@ -277,6 +281,9 @@ module _ {D : Type 0} (d : Ghosts D) (tells_left : (x : D) (moment file : ℕ) (
 
     index_holds : (f : FolderData) → IsOnDisk d disk f g → Holds d x.region disk (f.regions n)
     index_holds f on = on.indexes i x to.index
+
+    index_stands : IsRegion (catalogue_of b es) n
+    index_stands = inr (record { number = x.index.id.0; index = x.index; stands = standing_here.index i x to.index; own = part.number })
 
     abbrev index_changed : FolderData → FolderData
     index_changed f = with_region n (with_batch (f.regions n) cells) f
@@ -343,15 +350,15 @@ module _ {D : Type 0} (d : Ghosts D) (tells_left : (x : D) (moment file : ℕ) (
 
     -- all calls succeeded, and no entry is added
     pub index_handed : HasWritten d x.region new disk disk' cells → IsSameHorizon x.region new → IsRightGroup g' → (next : List HeldBatch → List HeldBatch) → ((hs : List HeldBatch) → IsTallied b es g hs → IsTallied b es g' (next hs)) → IndexShows b es es g g' next i new → owed g' ≤ owed g
-        → IsKept d b sound premise disk' catalog standing then trail late closed
+        → IsKept d b sound premise began disk' catalog standing then trail late closed
     index_handed written horizons right next tallied show room =
-        handed d tells_left up_to_now b sound premise disk catalog standing groups trail late closed k running place g g' l is to.table to.points disk' x.region new cells writes index_lacks index_drawn index_holds
+        handed d tells_left up_to_now b sound premise began disk catalog standing groups trail late closed k running place g g' l is to.table to.points disk' x.region new cells writes index_lacks index_drawn index_holds index_stands
         right next (set_once g g' i x new to.index to.indexes) written (index_on_disk written) tallied
         (index_show written horizons es (no_entry b es k.told.legal t) next tallied show) (index_moves written horizons es (no_entry b es k.told.legal t) next tallied show) room
 
     -- a call failed with nothing under way
     pub index_shut : (shut : Entry) (call : ℕ) → shut.act ≡ Shut call → shut.calls ≡ d.calls disk' → Rose d disk disk' → (AreTraced es g → AreTraced es g') → map stamp_in g'.batches.items ≡ map stamp_in g.batches.items → IndexGoes b es es g i x cells → (trail' : Recorded) → trail'.entries ≡ es ++ shut ∷ [] → owed g' + trail.room ≤ owed g + trail'.room + 1
-        → IsKept d b sound premise disk' catalog standing then trail' None (Some call)
+        → IsKept d b sound premise began disk' catalog standing then trail' None (Some call)
     index_shut shut call shut-is shut_at rose traced stamps go trail' entries room =
-        handed_shut d tells_left up_to_now b sound premise disk catalog standing groups trail late closed k running place g g' l is to.table to.points disk' x.region new cells writes index_lacks index_drawn index_holds
+        handed_shut d tells_left up_to_now b sound premise began disk catalog standing groups trail late closed k running place g g' l is to.table to.points disk' x.region new cells writes index_lacks index_drawn index_holds index_stands
         shut call shut-is shut_at rose traced stamps trail' entries room (index_tells es (no_entry b es k.told.legal t) go)

@@ -42,6 +42,7 @@ use Rattle.px_reading.specs.Looked.{AreLookedAt, HasLooked, IsLookedAt}
 use Rattle.px_reading.proofs.Looked.{still_shown}
 use Rattle.px_recovery.specs.Tables.{index_in}
 use Rattle.px_server.specs.Kept.{HasFailed, HasTallied, HasTrailRoom, IsKept, owed}
+use Rattle.px_server.specs.Others.{Beginning}
 use Rattle.px_server.specs.declared.defining.prepared.IndexToActivate.{IndexToActivate}
 use Rattle.px_server.specs.inner.Fitting.{IsIndexToActivate}
 use Rattle.px_server.specs.inner.Indexing.{HasRowAt}
@@ -91,8 +92,8 @@ none_seen g h l s has empty rows b es low index v hs shown r = (let
 -- ---- an index of the group
 
 module _ {D : Type 0} (d : Ghosts D) (tells_left : (x : D) (moment file : ℕ) (bytes : List ℕ) → d.left x moment file bytes → IsTrue d.tells)
-    (up_to_now : (x : D) (moment file : ℕ) (bytes : List ℕ) → d.left x moment file bytes → moment ≤ d.calls x) (b : Base) (damaged : ℕ → ℕ → Bool) (sound premise : Type 0)
-    (disk : D) (catalog : Catalog) (standing : Standing) (groups : List Group) (trail : Recorded) (late : Option Entry) (closed : Option ℕ) (k : IsKept d b sound premise disk catalog standing groups trail late closed) (running : closed ≡ None)
+    (up_to_now : (x : D) (moment file : ℕ) (bytes : List ℕ) → d.left x moment file bytes → moment ≤ d.calls x) (b : Base) (damaged : ℕ → ℕ → Bool) (sound premise : Type 0) (began : Beginning)
+    (disk : D) (catalog : Catalog) (standing : Standing) (groups : List Group) (trail : Recorded) (late : Option Entry) (closed : Option ℕ) (k : IsKept d b sound premise began disk catalog standing groups trail late closed) (running : closed ≡ None)
     (place : ℕ) (g : Group) (l : place < length groups) (g_is : get_or groups place g ≡ g) (seat : ℕ) (t : TableId) (mine : g.table.id ≡ t) (i : IndexId) (may : MayActivate sound (record { seat = seat; base = b; damaged = damaged; alone = true; seen = trail.entries }) t.0 i.0) where
   abbrev es : List Entry
   es = trail.entries
@@ -153,20 +154,20 @@ module _ {D : Type 0} (d : Ghosts D) (tells_left : (x : D) (moment file : ℕ) (
 
       may_come : MayCome b es e
       may_come = subst (λ (n : ℕ). MayCome b es (record { seat = seat; calls = n; act = IndexState t i Active x.index.birth })) (sym at)
-          (may_ready d b sound premise disk catalog standing groups trail late closed k running disk' passes.later seat t i x.index index_is owner)
+          (may_ready d b sound premise began disk catalog standing groups trail late closed k running disk' passes.later seat t i x.index index_is owner)
 
       leaves_y : HasCatalogue d catalog disk → LeavesOnly d disk disk' (λ moment image. CatalogueStands image (standing_of catalog) ⊎ CatalogueStands image (after (standing_of catalog) (IndexIs y)))
       leaves_y = subst (λ (z : Index). HasCatalogue d catalog disk → LeavesOnly d disk disk' (λ moment image. CatalogueStands image (standing_of catalog) ⊎ CatalogueStands image (after (standing_of catalog) (IndexIs z)))) made.item_is leaves
 
       pub activate_failed : (shut : Entry) (call : ℕ) → shut.act ≡ Shut call → shut.calls ≡ d.calls disk' → HasFailed d disk' → (catalog' : Catalog) (trail' : Recorded) → trail'.entries ≡ es ++ shut ∷ [] → HasTrailRoom (Some call) groups trail'
-          → IsKept d b sound premise disk' catalog' standing groups trail' (Some e) (Some call)
-      activate_failed = ready_failed d tells_left up_to_now b sound premise disk catalog standing groups trail late closed k running i x.index.birth place g l g_is e act_is may_come m x x_is id low decided none disk' at passes touches leaves_y
+          → IsKept d b sound premise began disk' catalog' standing groups trail' (Some e) (Some call)
+      activate_failed = ready_failed d tells_left up_to_now b sound premise began disk catalog standing groups trail late closed k running i x.index.birth place g l g_is e act_is may_come m x x_is id low decided none disk' at passes touches leaves_y
 
       module _ (g' : Group) (active : HasActive g g' m) (catalog' : Catalog) (stored : HasCatalogue d catalog disk → HasCatalogue d catalog' disk') (defined : standing_of catalog' ≡ after (standing_of catalog) (IndexIs p.item))
           (trail' : Recorded) (entries : trail'.entries ≡ es ++ e ∷ []) (room : trail'.room + 1 ≡ trail.room) (enough : 2 + sum_by owed groups ≤ trail.room) where
-        pub activate_kept : IsKept d b sound premise disk' catalog' p.standing (slice_set groups place g') trail' late closed
-        activate_kept = subst (λ (st : Standing). IsKept d b sound premise disk' catalog' st (slice_set groups place g') trail' late closed) (sym (made.standing ∙ ap (λ (z : Index). after standing (IndexIs z)) made.item_is))
-            (ready_kept d tells_left up_to_now b sound premise disk catalog standing groups trail late closed k running i x.index.birth place g l g_is e act_is may_come m x x_is id low decided none disk' at passes touches leaves_y
+        pub activate_kept : IsKept d b sound premise began disk' catalog' p.standing (slice_set groups place g') trail' late closed
+        activate_kept = subst (λ (st : Standing). IsKept d b sound premise began disk' catalog' st (slice_set groups place g') trail' late closed) (sym (made.standing ∙ ap (λ (z : Index). after standing (IndexIs z)) made.item_is))
+            (ready_kept d tells_left up_to_now b sound premise began disk catalog standing groups trail late closed k running i x.index.birth place g l g_is e act_is may_come m x x_is id low decided none disk' at passes touches leaves_y
             g' active catalog' stored (defined ∙ ap (λ (z : Index). after (standing_of catalog) (IndexIs z)) made.item_is) trail' entries room enough)
 
         pub activate_did : (n : ℕ) → n ≡ length trail'.entries → DidDefine sound before (record { seat = seat; base = b; damaged = damaged; alone = true; seen = trail'.entries }) (definition.Active t i) (record { number = i.0; stamp = x.index.birth; at = n })

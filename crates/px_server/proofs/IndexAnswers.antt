@@ -24,6 +24,7 @@ use Rattle.px_schema.specs.declared.standing.Standing.{Standing}
 use Rattle.px_catalog.specs.declared.catalog.Catalog.{Catalog}
 use Rattle.px_group.specs.declared.group.Group.{Group}
 use Rattle.px_server.specs.Kept.{HasShown, IsKept}
+use Rattle.px_server.specs.Others.{Beginning}
 use Rattle.px_server.proofs.IndexTold.{batch_same, none_from, state_same}
 use Rattle.px_server.proofs.Lists.{all_at}
 use Rattle.px_server.proofs.Seen.{one_more}
@@ -33,7 +34,7 @@ none_by None not = refl
 none_by (Some v) not = absurd (not v refl)
 
 -- an index is made
-module _ {D : Type 0} (g : Ghosts D) (b : Base) (sound premise : Type 0) (disk : D) (catalog : Catalog) (standing : Standing) (groups : List Group) (trail : Recorded) (late : Option Entry) (closed : Option ℕ) (k : IsKept g b sound premise disk catalog standing groups trail late closed) (running : closed ≡ None)
+module _ {D : Type 0} (g : Ghosts D) (b : Base) (sound premise : Type 0) (began : Beginning) (disk : D) (catalog : Catalog) (standing : Standing) (groups : List Group) (trail : Recorded) (late : Option Entry) (closed : Option ℕ) (k : IsKept g b sound premise began disk catalog standing groups trail late closed) (running : closed ≡ None)
     (place : ℕ) (h : Group) (l : place < length groups) (h_is : get_or groups place h ≡ h) (seat : ℕ) (damaged : ℕ → ℕ → Bool) (what : NewIndex) (mine : h.table.id ≡ what.table) where
   abbrev es : List Entry
   es = trail.entries

@@ -27,6 +27,7 @@ use Rattle.px_recovery.specs.Folder.{AreFresh, AreUnmade, FolderData, IsAmong, r
 use Rattle.px_recovery.specs.Stands.{Explains}
 use Rattle.px_standing.specs.Agrees.{Agrees, opened_standing}
 use Rattle.px_server.specs.Kept.{HasPoints, HasShown, HasTallied, HasTrailRoom, IsKept, IsOnDisk, number_in, owed, table_in_group}
+use Rattle.px_server.specs.Others.{Beginning}
 use Rattle.px_server.proofs.Catalogued.{AreForms, define_kept}
 use Rattle.px_server.proofs.Defines.{Defines}
 use Rattle.px_server.proofs.Drawn.{regions_in}
@@ -35,8 +36,8 @@ use Rattle.px_server.proofs.Pointed.{distinct_groups}
 use Rattle.px_server.proofs.SameStanding.{same_after}
 
 module _ {D : Type 0} (d : Ghosts D) (tells_left : (x : D) (moment file : ℕ) (bytes : List ℕ) → d.left x moment file bytes → IsTrue d.tells)
-    (up_to_now : (x : D) (moment file : ℕ) (bytes : List ℕ) → d.left x moment file bytes → moment ≤ d.calls x) (b : Base) (sound premise : Type 0)
-    (disk : D) (catalog : Catalog) (standing : Standing) (groups : List Group) (trail : Recorded) (late : Option Entry) (closed : Option ℕ) (k : IsKept d b sound premise disk catalog standing groups trail late closed) (running : closed ≡ None)
+    (up_to_now : (x : D) (moment file : ℕ) (bytes : List ℕ) → d.left x moment file bytes → moment ≤ d.calls x) (b : Base) (sound premise : Type 0) (began : Beginning)
+    (disk : D) (catalog : Catalog) (standing : Standing) (groups : List Group) (trail : Recorded) (late : Option Entry) (closed : Option ℕ) (k : IsKept d b sound premise began disk catalog standing groups trail late closed) (running : closed ≡ None)
     (disk' : D) (item : CatalogItem) (passes : Passes d disk disk' 4) (touches : HasCatalogue d catalog disk → TouchesOnly d disk disk' catalogue_files)
     (leaves : HasCatalogue d catalog disk → LeavesOnly d disk disk' (λ moment image. CatalogueStands image (standing_of catalog) ⊎ CatalogueStands image (after (standing_of catalog) item)))
     (regions : (n : ℕ) → IsAmong n (regions_in item) → IsAmong n (region_numbers (standing_of catalog)) ⊎ ((standing_of catalog).next ≤ n))
@@ -74,9 +75,9 @@ module _ {D : Type 0} (d : Ghosts D) (tells_left : (x : D) (moment file : ℕ) (
       was : owed (get_or groups place g) ≡ owed g = ap owed is
       in omega (arith, one, was, same_owed, room, enough))
 
-  pub index_kept : (trail' : Recorded) → trail'.entries ≡ es ++ e ∷ [] → trail'.room + 1 ≡ trail.room → 2 + sum_by owed groups ≤ trail.room → IsKept d b sound premise disk' catalog' (after standing item) (slice_set groups place g') trail' late closed
+  pub index_kept : (trail' : Recorded) → trail'.entries ≡ es ++ e ∷ [] → trail'.room + 1 ≡ trail.room → 2 + sum_by owed groups ≤ trail.room → IsKept d b sound premise began disk' catalog' (after standing item) (slice_set groups place g') trail' late closed
   index_kept trail' entries room enough =
-      define_kept d tells_left up_to_now b sound premise disk catalog standing groups trail late closed k running disk' item passes touches leaves regions t e own may at (λ v. with_part v t.0 (change (v t.0))) explains
+      define_kept d tells_left up_to_now b sound premise began disk catalog standing groups trail late closed k running disk' item passes touches leaves regions t e own may at (λ v. with_part v t.0 (change (v t.0))) explains
       catalog' stored defined (after standing item) agrees (ap opened_standing defined ∙ same_after (standing_of catalog) standing item (k.told.same running))
       (slice_set groups place g') (map_set table_in_group groups place g g' l is same ∙ (k.each.stand ∙ sym tables)) Own carries
       (λ v q other. with_part-other v t.0 (change (v t.0)) q other)

@@ -26,6 +26,7 @@ use Rattle.px_catalog.specs.declared.catalog.Catalog.{Catalog}
 use Rattle.px_group.specs.declared.group.Group.{Group}
 use Rattle.px_defined.specs.Defined.{HasIndexLess}
 use Rattle.px_server.specs.Kept.{HasFailed, HasTallied, HasTrailRoom, IsKept, owed}
+use Rattle.px_server.specs.Others.{Beginning}
 use Rattle.px_server.specs.inner.Indexing.{HasIndexOf}
 use Rattle.px_server.proofs.GoneKept.{gone_failed, gone_kept}
 use Rattle.px_server.proofs.IndexAnswers.{did_drop}
@@ -39,8 +40,8 @@ no_more n [] none = refl
 no_more n (x ∷ xs) none = absurd (omega (arith, none))
 
 module _ {D : Type 0} (d : Ghosts D) (tells_left : (x : D) (moment file : ℕ) (bytes : List ℕ) → d.left x moment file bytes → IsTrue d.tells)
-    (up_to_now : (x : D) (moment file : ℕ) (bytes : List ℕ) → d.left x moment file bytes → moment ≤ d.calls x) (b : Base) (damaged : ℕ → ℕ → Bool) (sound premise : Type 0)
-    (disk : D) (catalog : Catalog) (standing : Standing) (groups : List Group) (trail : Recorded) (late : Option Entry) (closed : Option ℕ) (k : IsKept d b sound premise disk catalog standing groups trail late closed) (running : closed ≡ None)
+    (up_to_now : (x : D) (moment file : ℕ) (bytes : List ℕ) → d.left x moment file bytes → moment ≤ d.calls x) (b : Base) (damaged : ℕ → ℕ → Bool) (sound premise : Type 0) (began : Beginning)
+    (disk : D) (catalog : Catalog) (standing : Standing) (groups : List Group) (trail : Recorded) (late : Option Entry) (closed : Option ℕ) (k : IsKept d b sound premise began disk catalog standing groups trail late closed) (running : closed ≡ None)
     (place : ℕ) (g : Group) (l : place < length groups) (g_is : get_or groups place g ≡ g) (seat : ℕ) (t : TableId) (mine : g.table.id ≡ t) (i : IndexId) where
   abbrev es : List Entry
   es = trail.entries
@@ -75,7 +76,7 @@ module _ {D : Type 0} (d : Ghosts D) (tells_left : (x : D) (moment file : ℕ) (
 
     may_come : MayCome b es e
     may_come = subst (λ (n : ℕ). MayCome b es (record { seat = seat; calls = n; act = Dropped t (Some i) })) (sym at)
-        (may_drop d b sound premise disk catalog standing groups trail late closed k running disk' passes.later seat t i found.0 found.1.0 found.1.1 quiet)
+        (may_drop d b sound premise began disk catalog standing groups trail late closed k running disk' passes.later seat t i found.0 found.1.0 found.1.1 quiet)
 
     act_is : e.act ≡ Dropped g.table.id (Some i)
     act_is = ap (λ (u : TableId). Dropped u (Some i)) (sym mine)
@@ -87,24 +88,24 @@ module _ {D : Type 0} (d : Ghosts D) (tells_left : (x : D) (moment file : ℕ) (
     none = no_more (length g.points.items) g.batches.items unused
 
     pub drop_failed : (shut : Entry) (call : ℕ) → shut.act ≡ Shut call → shut.calls ≡ d.calls disk' → HasFailed d disk' → (catalog' : Catalog) (trail' : Recorded) → trail'.entries ≡ es ++ shut ∷ [] → HasTrailRoom (Some call) groups trail'
-        → IsKept d b sound premise disk' catalog' standing groups trail' (Some e) (Some call)
-    drop_failed = gone_failed d tells_left up_to_now b sound premise disk catalog standing groups trail late closed k running i place g l g_is e act_is may_come found.0 found.1.0 own none disk' at passes touches leaves
+        → IsKept d b sound premise began disk' catalog' standing groups trail' (Some e) (Some call)
+    drop_failed = gone_failed d tells_left up_to_now b sound premise began disk catalog standing groups trail late closed k running i place g l g_is e act_is may_come found.0 found.1.0 own none disk' at passes touches leaves
 
     module _ (g' : Group) (less : HasIndexLess g g' i.0) (catalog' : Catalog) (stored : HasCatalogue d catalog disk → HasCatalogue d catalog' disk') (defined : standing_of catalog' ≡ after (standing_of catalog) (IndexGone i))
         (standing' : Standing) (standing_is : standing' ≡ after standing (IndexGone i)) (trail' : Recorded) (entries : trail'.entries ≡ es ++ e ∷ []) (room : trail'.room + 1 ≡ trail.room) (enough : 2 + sum_by owed groups ≤ trail.room) where
-      pub drop_kept : IsKept d b sound premise disk' catalog' standing' (slice_set groups place g') trail' late closed
-      drop_kept = subst (λ (st : Standing). IsKept d b sound premise disk' catalog' st (slice_set groups place g') trail' late closed) (sym standing_is)
-          (gone_kept d tells_left up_to_now b sound premise disk catalog standing groups trail late closed k running i place g l g_is e act_is may_come found.0 found.1.0 own none disk' at passes touches leaves
+      pub drop_kept : IsKept d b sound premise began disk' catalog' standing' (slice_set groups place g') trail' late closed
+      drop_kept = subst (λ (st : Standing). IsKept d b sound premise began disk' catalog' st (slice_set groups place g') trail' late closed) (sym standing_is)
+          (gone_kept d tells_left up_to_now b sound premise began disk catalog standing groups trail late closed k running i place g l g_is e act_is may_come found.0 found.1.0 own none disk' at passes touches leaves
           g' less catalog' stored defined trail' entries room enough)
 
       pub drop_did : (n : ℕ) → n ≡ length trail'.entries → DidDefine sound before (record { seat = seat; base = b; damaged = damaged; alone = true; seen = trail'.entries }) (definition.DropIndex t i) (record { number = i.0; stamp = 0; at = n })
       drop_did n long = did_drop sound before k.told.legal t i calls trail'.entries entries drop_kept.told.legal n long
 
 -- no such index of the table at a place
-pub no_index_at : {D : Type 0} (d : Ghosts D) (b : Base) (sound premise : Type 0) (disk : D) (catalog : Catalog) (standing : Standing) (groups : List Group) (trail : Recorded) (late : Option Entry) (closed : Option ℕ) → IsKept d b sound premise disk catalog standing groups trail late closed → closed ≡ None
+pub no_index_at : {D : Type 0} (d : Ghosts D) (b : Base) (sound premise : Type 0) (began : Beginning) (disk : D) (catalog : Catalog) (standing : Standing) (groups : List Group) (trail : Recorded) (late : Option Entry) (closed : Option ℕ) → IsKept d b sound premise began disk catalog standing groups trail late closed → closed ≡ None
     → (place : ℕ) → place < length standing.tables → (t : TableId) → ((none : Table) → (get_or standing.tables place none).id ≡ t) → (i : IndexId) (seat : ℕ) (damaged : ℕ → ℕ → Bool) → (HasIndexOf standing.indexes t i → ⊥)
     → LacksIndex (record { seat = seat; base = b; damaged = damaged; alone = true; seen = trail.entries }) t.0 i.0
-no_index_at d b sound premise disk catalog standing groups trail late closed k running place l t number i seat damaged not = (let
+no_index_at d b sound premise began disk catalog standing groups trail late closed k running place l t number i seat damaged not = (let
     found = λ (x : Table). ap (λ (u : TableId). table_of b trail.entries u.0) (sym (number x)) ∙ stands_at b trail.entries standing k.told.agrees place l x
     in (some_of standing.tables place l (λ x. table_of b trail.entries t.0 ≡ Some (get_or standing.tables place x)) found (λ x is. subst (λ (o : Option Table). IsSome o) (sym is) refl), lacks_of b trail.entries standing k.told.agrees t i not))
   where

@@ -26,6 +26,7 @@ use Rattle.px_recovery.specs.Tables.{table_in}
 use Rattle.px_group.specs.Group.{IsRightGroup}
 use Rattle.px_group.specs.declared.group.Group.{Group}
 use Rattle.px_server.specs.Kept.{HasTallied, IsKept}
+use Rattle.px_server.specs.Others.{Beginning}
 use Rattle.px_server.specs.declared.defining.prepared.IndexToMake.{IndexToMake}
 use Rattle.px_server.specs.inner.Fitting.{CanRecord, IsIndexToMake}
 use Rattle.px_server.specs.inner.Indexing.{HasIndexOf}
@@ -43,7 +44,7 @@ among_numbers [] t i has = absurd has
 among_numbers (x ∷ xs) t i (inl own) = ap (λ v. v || list_any (λ m. m == i.0) (map (λ (y : Index). y.id.0) xs)) (eq-eqb x.id.0 i.0 (ap (λ (n : IndexId). n.0) own.0))
 among_numbers (x ∷ xs) t i (inr later) = ap (λ v. (x.id.0 == i.0) || v) (among_numbers xs t i later) ∙ or_true (x.id.0 == i.0)
 
-module _ {D : Type 0} (d : Ghosts D) (b : Base) (sound premise : Type 0) (disk : D) (catalog : Catalog) (standing : Standing) (groups : List Group) (trail : Recorded) (late : Option Entry) (closed : Option ℕ) (k : IsKept d b sound premise disk catalog standing groups trail late closed) (running : closed ≡ None) where
+module _ {D : Type 0} (d : Ghosts D) (b : Base) (sound premise : Type 0) (began : Beginning) (disk : D) (catalog : Catalog) (standing : Standing) (groups : List Group) (trail : Recorded) (late : Option Entry) (closed : Option ℕ) (k : IsKept d b sound premise began disk catalog standing groups trail late closed) (running : closed ≡ None) where
   -- the definition of an index
   pub fits_index : (place : ℕ) (g : Group) → place < length groups → get_or groups place g ≡ g → (i : Index) → IsRightIndex g.table i → i.table ≡ g.table.id → i.table.0 < 256 ^ 4 → CanRecord standing i → IsRight (standing_of catalog) (IndexIs i)
   fits_index place g l g_is i right own short can = (let

@@ -30,6 +30,7 @@ use Rattle.px_catalog.specs.declared.catalog.Catalog.{Catalog}
 use Rattle.px_group.specs.declared.group.Group.{Group}
 use Rattle.px_defined.specs.Defined.{HasIndexMore}
 use Rattle.px_server.specs.Kept.{HasFailed, HasTallied, HasTrailRoom, IsKept, owed}
+use Rattle.px_server.specs.Others.{Beginning}
 use Rattle.px_server.specs.declared.defining.prepared.IndexToMake.{IndexToMake}
 use Rattle.px_server.specs.inner.Fitting.{IsIndexToMake}
 use Rattle.px_server.specs.inner.Indexing.{MayMakeIndex}
@@ -39,8 +40,8 @@ use Rattle.px_server.proofs.IndexMay.{may_make}
 use Rattle.px_server.proofs.Lists.{all_at}
 
 module _ {D : Type 0} (d : Ghosts D) (tells_left : (x : D) (moment file : ℕ) (bytes : List ℕ) → d.left x moment file bytes → IsTrue d.tells)
-    (up_to_now : (x : D) (moment file : ℕ) (bytes : List ℕ) → d.left x moment file bytes → moment ≤ d.calls x) (b : Base) (damaged : ℕ → ℕ → Bool) (sound premise : Type 0)
-    (disk : D) (catalog : Catalog) (standing : Standing) (groups : List Group) (trail : Recorded) (late : Option Entry) (closed : Option ℕ) (k : IsKept d b sound premise disk catalog standing groups trail late closed) (running : closed ≡ None)
+    (up_to_now : (x : D) (moment file : ℕ) (bytes : List ℕ) → d.left x moment file bytes → moment ≤ d.calls x) (b : Base) (damaged : ℕ → ℕ → Bool) (sound premise : Type 0) (began : Beginning)
+    (disk : D) (catalog : Catalog) (standing : Standing) (groups : List Group) (trail : Recorded) (late : Option Entry) (closed : Option ℕ) (k : IsKept d b sound premise began disk catalog standing groups trail late closed) (running : closed ≡ None)
     (place : ℕ) (g : Group) (l : place < length groups) (g_is : get_or groups place g ≡ g) (seat : ℕ) (what : NewIndex) (mine : g.table.id ≡ what.table)
     (may : MayMakeIndex (record { seat = seat; base = b; damaged = damaged; alone = true; seen = trail.entries }) what) (fit : IsIndexFit (record { seat = seat; base = b; damaged = damaged; alone = true; seen = trail.entries }) what)
     (s : ℕ) (above : g.last < s) (most : s ≤ most_of Stamps) (p : IndexToMake) (made : IsIndexToMake standing s what p)
@@ -80,24 +81,24 @@ module _ {D : Type 0} (d : Ghosts D) (tells_left : (x : D) (moment file : ℕ) (
   may_come : MayCome b es e
   may_come = subst (λ (n : ℕ). MayCome b es (record { seat = seat; calls = n; act = e.act })) (sym at)
       (subst (λ (act : Act). MayCome b es (record { seat = seat; calls = d.calls disk'; act = act })) (sym act_is)
-      (may_make d b sound premise disk catalog standing groups trail late closed k running disk' passes.later seat what.table i s what refl may.free may.stands refl (let n = last_is in omega (arith, n, above))))
+      (may_make d b sound premise began disk catalog standing groups trail late closed k running disk' passes.later seat what.table i s what refl may.free may.stands refl (let n = last_is in omega (arith, n, above))))
 
   leaves_y : HasCatalogue d catalog disk → LeavesOnly d disk disk' (λ moment image. CatalogueStands image (standing_of catalog) ⊎ CatalogueStands image (after (standing_of catalog) (IndexIs y)))
   leaves_y = subst (λ (x : Index). HasCatalogue d catalog disk → LeavesOnly d disk disk' (λ moment image. CatalogueStands image (standing_of catalog) ⊎ CatalogueStands image (after (standing_of catalog) (IndexIs x)))) item_is leaves
 
   pub make_failed : (shut : Entry) (call : ℕ) → shut.act ≡ Shut call → shut.calls ≡ d.calls disk' → HasFailed d disk' → (catalog' : Catalog) (trail' : Recorded) → trail'.entries ≡ es ++ shut ∷ [] → HasTrailRoom (Some call) groups trail'
-      → IsKept d b sound premise disk' catalog' standing groups trail' (Some e) (Some call)
-  make_failed = born_failed d tells_left up_to_now b sound premise disk catalog standing groups trail late closed k running what.table i s what e act_is may_come disk' at passes touches leaves_y place g l g_is mine fits
+      → IsKept d b sound premise began disk' catalog' standing groups trail' (Some e) (Some call)
+  make_failed = born_failed d tells_left up_to_now b sound premise began disk catalog standing groups trail late closed k running what.table i s what e act_is may_come disk' at passes touches leaves_y place g l g_is mine fits
 
   module _ (g' : Group) (more : HasIndexMore g g' p.index) (catalog' : Catalog) (stored : HasCatalogue d catalog disk → HasCatalogue d catalog' disk') (defined : standing_of catalog' ≡ after (standing_of catalog) (IndexIs p.item))
       (trail' : Recorded) (entries : trail'.entries ≡ es ++ e ∷ []) (room : trail'.room + 1 ≡ trail.room) (enough : 2 + sum_by owed groups ≤ trail.room) where
-    pub make_kept : IsKept d b sound premise disk' catalog' p.standing (slice_set groups place g') trail' late closed
-    make_kept = subst (λ (st : Standing). IsKept d b sound premise disk' catalog' st (slice_set groups place g') trail' late closed) (sym (made.standing ∙ ap (λ (x : Index). after standing (IndexIs x)) made.index))
-        (born_kept d tells_left up_to_now b sound premise disk catalog standing groups trail late closed k running what.table i s what e act_is may_come disk' at passes touches leaves_y place g l g_is mine fits
+    pub make_kept : IsKept d b sound premise began disk' catalog' p.standing (slice_set groups place g') trail' late closed
+    make_kept = subst (λ (st : Standing). IsKept d b sound premise began disk' catalog' st (slice_set groups place g') trail' late closed) (sym (made.standing ∙ ap (λ (x : Index). after standing (IndexIs x)) made.index))
+        (born_kept d tells_left up_to_now b sound premise began disk catalog standing groups trail late closed k running what.table i s what e act_is may_come disk' at passes touches leaves_y place g l g_is mine fits
         g' (subst (λ (x : Index). HasIndexMore g g' x) made.index more) catalog' stored (defined ∙ ap (λ (x : Index). after (standing_of catalog) (IndexIs x)) item_is) trail' entries room enough)
 
     pub make_did : (sound → HasState (record { seat = seat; base = b; damaged = damaged; alone = true; seen = es }) what.table.0 → ⊥) → (n : ℕ) → n ≡ length trail'.entries
         → DidDefine sound (record { seat = seat; base = b; damaged = damaged; alone = true; seen = es }) (record { seat = seat; base = b; damaged = damaged; alone = true; seen = trail'.entries }) (definition.Index what) (record { number = p.index.id.0; stamp = s; at = n })
     make_did empty n long = subst (λ (x : Index). DidDefine sound (record { seat = seat; base = b; damaged = damaged; alone = true; seen = es }) (record { seat = seat; base = b; damaged = damaged; alone = true; seen = trail'.entries }) (definition.Index what) (record { number = x.id.0; stamp = s; at = n })) (sym made.index)
-        (did_make d b sound premise disk catalog standing groups trail late closed k running place g l g_is seat damaged what mine may.written empty i s (let n' = last_is in omega (arith, n', above)) most calls trail'.entries
+        (did_make d b sound premise began disk catalog standing groups trail late closed k running place g l g_is seat damaged what mine may.written empty i s (let n' = last_is in omega (arith, n', above)) most calls trail'.entries
         (entries ∙ ap (λ (act : Act). es ++ record { seat = seat; calls = calls; act = act } ∷ []) act_is) make_kept.told.legal n long)

@@ -18,8 +18,9 @@ use Rattle.px_catalog.specs.declared.catalog.Catalog.{Catalog}
 use Rattle.px_group.specs.declared.group.Group.{Group}
 use Rattle.px_recovery.proofs.Server.{newest_early}
 use Rattle.px_server.specs.Kept.{IsKept}
+use Rattle.px_server.specs.Others.{Beginning}
 
-module _ {D : Type 0} (d : Ghosts D) (b : Base) (sound premise : Type 0) (disk : D) (catalog : Catalog) (standing : Standing) (groups : List Group) (trail : Recorded) (late : Option Entry) (closed : Option ℕ) (k : IsKept d b sound premise disk catalog standing groups trail late closed) (running : closed ≡ None)
+module _ {D : Type 0} (d : Ghosts D) (b : Base) (sound premise : Type 0) (began : Beginning) (disk : D) (catalog : Catalog) (standing : Standing) (groups : List Group) (trail : Recorded) (late : Option Entry) (closed : Option ℕ) (k : IsKept d b sound premise began disk catalog standing groups trail late closed) (running : closed ≡ None)
     (disk' : D) (later : d.calls disk ≤ d.calls disk') (seat : ℕ) (t : TableId) (i : IndexId) where
   abbrev es : List Entry
   es = trail.entries

@@ -32,6 +32,7 @@ use Rattle.px_catalog.specs.declared.fault.CatalogFault.TheVariants.{Full, Memor
 use Rattle.px_group.specs.declared.group.Group.{Group}
 use Rattle.px_defined.specs.Defined.{HasIndexLess, HasIndexMore, IsSame}
 use Rattle.px_server.specs.Kept.{HasTrailRoom, IsKept, owed}
+use Rattle.px_server.specs.Others.{Beginning}
 use Rattle.px_server.specs.declared.defining.prepared.IndexToMake.{IndexToMake}
 use Rattle.px_server.specs.inner.Fitting.{IsIndexToMake}
 use Rattle.px_server.specs.inner.Indexing.{HasIndexOf, MayMakeIndex}
@@ -41,8 +42,8 @@ use Rattle.px_server.proofs.Reserved.{roomy, set_long, set_there}
 use Rattle.px_server.proofs.Unwritten.{reserved, unwritten_kept, unwritten_refused}
 
 module _ {D : Type 0} (d : Ghosts D) (tells_left : (x : D) (moment file : ℕ) (bytes : List ℕ) → d.left x moment file bytes → IsTrue d.tells)
-    (up_to_now : (x : D) (moment file : ℕ) (bytes : List ℕ) → d.left x moment file bytes → moment ≤ d.calls x) (b : Base) (damaged : ℕ → ℕ → Bool) (sound premise : Type 0)
-    (disk : D) (catalog : Catalog) (standing : Standing) (groups : List Group) (trail : Recorded) (late : Option Entry) (closed : Option ℕ) (k : IsKept d b sound premise disk catalog standing groups trail late closed) (running : closed ≡ None)
+    (up_to_now : (x : D) (moment file : ℕ) (bytes : List ℕ) → d.left x moment file bytes → moment ≤ d.calls x) (b : Base) (damaged : ℕ → ℕ → Bool) (sound premise : Type 0) (began : Beginning)
+    (disk : D) (catalog : Catalog) (standing : Standing) (groups : List Group) (trail : Recorded) (late : Option Entry) (closed : Option ℕ) (k : IsKept d b sound premise began disk catalog standing groups trail late closed) (running : closed ≡ None)
     (place : ℕ) (g : Group) (l : place < length groups) (g_is : get_or groups place g ≡ g) (seat : ℕ) (mid : Recorded) (mid_same : mid.entries ≡ trail.entries) (mid_room : mid.room ≡ trail.room + 1)
     (disk' : D) (catalog' : Catalog) (passes : Passes d disk disk' 4) (touches : HasCatalogue d catalog disk → TouchesOnly d disk disk' catalogue_files) where
   abbrev known : List Entry → Known
@@ -56,11 +57,11 @@ module _ {D : Type 0} (d : Ghosts D) (tells_left : (x : D) (moment file : ℕ) (
     abbrev groups1 : List Group
     groups1 = slice_set groups place g1
 
-    k1 : IsKept d b sound premise disk catalog standing groups1 mid late closed
-    k1 = reserved d b sound premise disk catalog standing groups trail late closed k place g g1 l g_is same mid mid_same (omega (arith, mid_room))
+    k1 : IsKept d b sound premise began disk catalog standing groups1 mid late closed
+    k1 = reserved d b sound premise began disk catalog standing groups trail late closed k place g g1 l g_is same mid mid_same (omega (arith, mid_room))
 
-    k0 : IsKept d b sound premise disk catalog standing groups1 trail late closed
-    k0 = reserved d b sound premise disk catalog standing groups trail late closed k place g g1 l g_is same trail refl (omega arith)
+    k0 : IsKept d b sound premise began disk catalog standing groups1 trail late closed
+    k0 = reserved d b sound premise began disk catalog standing groups trail late closed k place g g1 l g_is same trail refl (omega arith)
 
     l1 : place < length groups1
     l1 = (let n = set_long groups place g1 in omega (arith, n, l))
@@ -88,14 +89,14 @@ module _ {D : Type 0} (d : Ghosts D) (tells_left : (x : D) (moment file : ℕ) (
       more1 : HasIndexMore g1 g2 p.index
       more1 = subst (λ (x : Group). HasIndexMore x g2 p.index) (h_is ∙ there h) more
 
-      pub making_kept : IsKept d b sound premise disk' catalog' now (slice_set groups1 place g2) trail' late closed
-      making_kept = subst (λ (st : Standing). IsKept d b sound premise disk' catalog' st (slice_set groups1 place g2) trail' late closed) (sym now_is)
-          (make_kept d tells_left up_to_now b damaged sound premise disk catalog standing groups1 mid late closed k1 running place g1 l1 (there g1) seat what mine1 may1 fit1 s above1 most p made disk' passes touches leaves calls at
+      pub making_kept : IsKept d b sound premise began disk' catalog' now (slice_set groups1 place g2) trail' late closed
+      making_kept = subst (λ (st : Standing). IsKept d b sound premise began disk' catalog' st (slice_set groups1 place g2) trail' late closed) (sym now_is)
+          (make_kept d tells_left up_to_now b damaged sound premise began disk catalog standing groups1 mid late closed k1 running place g1 l1 (there g1) seat what mine1 may1 fit1 s above1 most p made disk' passes touches leaves calls at
           g2 more1 catalog' stored defined trail' entries room enough)
 
       pub making_did : (sound → HasState (known trail.entries) what.table.0 → ⊥) → (n : ℕ) → n ≡ length trail'.entries → DidDefine sound (known trail.entries) (known trail'.entries) (definition.Index what) (record { number = p.index.id.0; stamp = s; at = n })
       making_did empty n long = subst (λ (es : List Entry). DidDefine sound (known es) (known trail'.entries) (definition.Index what) (record { number = p.index.id.0; stamp = s; at = n })) mid_same
-          (make_did d tells_left up_to_now b damaged sound premise disk catalog standing groups1 mid late closed k1 running place g1 l1 (there g1) seat what mine1 may1 fit1 s above1 most p made disk' passes touches leaves calls at
+          (make_did d tells_left up_to_now b damaged sound premise began disk catalog standing groups1 mid late closed k1 running place g1 l1 (there g1) seat what mine1 may1 fit1 s above1 most p made disk' passes touches leaves calls at
           g2 more1 catalog' stored defined trail' entries room enough (subst (λ (es : List Entry). sound → HasState (known es) what.table.0 → ⊥) (sym mid_same) empty) n long)
 
     module _ (trail' : Recorded) (late' : Option Entry) (closed' : Option ℕ) (fault : CatalogFault) (untouched : (fault ≡ Full) ⊎ (fault ≡ Memory) → (disk' ≡ disk) × (catalog' ≡ catalog)) (rose : fault ≡ WriteFault → Rose d disk disk')
@@ -105,9 +106,9 @@ module _ {D : Type 0} (d : Ghosts D) (tells_left : (x : D) (moment file : ℕ) (
       abbrev u : Entry
       u = record { seat = seat; calls = d.calls disk'; act = IndexMade what.table p.index.id s p.what }
 
-      pub making_failed : IsKept d b sound premise disk' catalog' standing groups1 trail' late' closed'
-      making_failed = unwritten_kept d b sound premise disk catalog standing groups1 trail late closed k0 running disk' catalog' u
-          (make_failed d tells_left up_to_now b damaged sound premise disk catalog standing groups1 trail late closed k0 running place g1 l1 (there g1) seat what mine1 may fit s above1 most p made disk' passes touches leaves (d.calls disk') refl)
+      pub making_failed : IsKept d b sound premise began disk' catalog' standing groups1 trail' late' closed'
+      making_failed = unwritten_kept d b sound premise began disk catalog standing groups1 trail late closed k0 running disk' catalog' u
+          (make_failed d tells_left up_to_now b damaged sound premise began disk catalog standing groups1 trail late closed k0 running place g1 l1 (there g1) seat what mine1 may fit s above1 most p made disk' passes touches leaves (d.calls disk') refl)
           trail' late' closed' seat (omega (arith, room, mid_room)) fault untouched rose
           (λ no. ((kept no).0 ∙ mid_same, (kept no).1, (kept no).2))
           (λ is. ((shut is).0 ∙ ap (λ (es : List Entry). es ++ record { seat = seat; calls = d.calls disk'; act = Shut (d.calls disk') } ∷ []) mid_same, (shut is).1, (shut is).2))
@@ -120,8 +121,8 @@ module _ {D : Type 0} (d : Ghosts D) (tells_left : (x : D) (moment file : ℕ) (
 
   module _ (t : TableId) (mine : g.table.id ≡ t) (i : IndexId) (has : HasIndexOf standing.indexes t i) (unused : length g.points.items + length g.batches.items ≡ 0)
       (leaves : HasCatalogue d catalog disk → LeavesOnly d disk disk' (λ moment image. CatalogueStands image (standing_of catalog) ⊎ CatalogueStands image (after (standing_of catalog) (IndexGone i)))) where
-    km : IsKept d b sound premise disk catalog standing groups mid late closed
-    km = roomy d b sound premise disk catalog standing groups trail late closed k mid mid_same (omega (arith, mid_room))
+    km : IsKept d b sound premise began disk catalog standing groups mid late closed
+    km = roomy d b sound premise began disk catalog standing groups trail late closed k mid mid_same (omega (arith, mid_room))
 
     spare_enough : 2 + sum_by owed groups ≤ mid.room
     spare_enough = (let before = subst (λ (x : Option ℕ). HasTrailRoom x groups trail) running k.room in omega (arith, before, mid_room))
@@ -131,22 +132,22 @@ module _ {D : Type 0} (d : Ghosts D) (tells_left : (x : D) (moment file : ℕ) (
       less1 : HasIndexLess g g2 i.0
       less1 = subst (λ (x : Group). HasIndexLess x g2 i.0) h_is less
 
-      pub dropping_kept : IsKept d b sound premise disk' catalog' now (slice_set groups place g2) trail' late closed
-      dropping_kept = drop_kept d tells_left up_to_now b damaged sound premise disk catalog standing groups mid late closed km running place g l g_is seat t mine i has unused disk' passes touches leaves calls at
+      pub dropping_kept : IsKept d b sound premise began disk' catalog' now (slice_set groups place g2) trail' late closed
+      dropping_kept = drop_kept d tells_left up_to_now b damaged sound premise began disk catalog standing groups mid late closed km running place g l g_is seat t mine i has unused disk' passes touches leaves calls at
           g2 less1 catalog' stored defined now now_is trail' entries room spare_enough
 
       pub dropping_did : (n : ℕ) → n ≡ length trail'.entries → DidDefine sound (known trail.entries) (known trail'.entries) (definition.DropIndex t i) (record { number = i.0; stamp = 0; at = n })
       dropping_did n long = subst (λ (es : List Entry). DidDefine sound (known es) (known trail'.entries) (definition.DropIndex t i) (record { number = i.0; stamp = 0; at = n })) mid_same
-          (drop_did d tells_left up_to_now b damaged sound premise disk catalog standing groups mid late closed km running place g l g_is seat t mine i has unused disk' passes touches leaves calls at
+          (drop_did d tells_left up_to_now b damaged sound premise began disk catalog standing groups mid late closed km running place g l g_is seat t mine i has unused disk' passes touches leaves calls at
           g2 less1 catalog' stored defined now now_is trail' entries room spare_enough n long)
 
     module _ (trail' : Recorded) (late' : Option Entry) (closed' : Option ℕ) (fault : CatalogFault) (untouched : (fault ≡ Full) ⊎ (fault ≡ Memory) → (disk' ≡ disk) × (catalog' ≡ catalog)) (rose : fault ≡ WriteFault → Rose d disk disk')
         (kept : fault ≢ WriteFault → (trail'.entries ≡ mid.entries) × (late' ≡ late) × (closed' ≡ closed))
         (shut : fault ≡ WriteFault → (trail'.entries ≡ mid.entries ++ record { seat = seat; calls = d.calls disk'; act = Shut (d.calls disk') } ∷ []) × (late' ≡ Some (record { seat = seat; calls = d.calls disk'; act = Dropped t (Some i) })) × (closed' ≡ Some (d.calls disk')))
         (room : trail'.room + 1 ≡ mid.room) where
-      pub dropping_failed : IsKept d b sound premise disk' catalog' standing groups trail' late' closed'
-      dropping_failed = unwritten_kept d b sound premise disk catalog standing groups trail late closed k running disk' catalog' (record { seat = seat; calls = d.calls disk'; act = Dropped t (Some i) })
-          (drop_failed d tells_left up_to_now b damaged sound premise disk catalog standing groups trail late closed k running place g l g_is seat t mine i has unused disk' passes touches leaves (d.calls disk') refl)
+      pub dropping_failed : IsKept d b sound premise began disk' catalog' standing groups trail' late' closed'
+      dropping_failed = unwritten_kept d b sound premise began disk catalog standing groups trail late closed k running disk' catalog' (record { seat = seat; calls = d.calls disk'; act = Dropped t (Some i) })
+          (drop_failed d tells_left up_to_now b damaged sound premise began disk catalog standing groups trail late closed k running place g l g_is seat t mine i has unused disk' passes touches leaves (d.calls disk') refl)
           trail' late' closed' seat (omega (arith, room, mid_room)) fault untouched rose
           (λ no. ((kept no).0 ∙ mid_same, (kept no).1, (kept no).2))
           (λ is. ((shut is).0 ∙ ap (λ (es : List Entry). es ++ record { seat = seat; calls = d.calls disk'; act = Shut (d.calls disk') } ∷ []) mid_same, (shut is).1, (shut is).2))

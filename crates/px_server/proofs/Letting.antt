@@ -31,6 +31,7 @@ use Rattle.px_beginning.proofs.Expected.{counted_on}
 use Rattle.px_beginning.proofs.Leaves.{right_after, shown_after, tallied_after}
 use Rattle.px_beginning.proofs.Promised.{rooms_kept}
 use Rattle.px_server.specs.Kept.{HasShown, HasTallied, IsKept, forms_in}
+use Rattle.px_server.specs.Others.{Beginning}
 use Rattle.px_server.proofs.Acted.{acted, acted_still, once_at, points_at, right_at, tallied_at}
 use Rattle.px_server.proofs.Begun.{begun_acted, owed_begun}
 use Rattle.px_server.proofs.FitsRows.{all_fit}
@@ -46,7 +47,7 @@ unshut_by (Some c) t s cs = refl
 some_of : {A : Type 0} (o : Option A) (x : A) → o ≡ Some x → IsSome o
 some_of o x is = subst IsSome (sym is) refl
 
-module _ {D : Type 0} (d : Ghosts D) (b : Base) (sound premise : Type 0) (disk : D) (catalog : Catalog) (standing : Standing) (groups : List Group) (trail : Recorded) (late : Option Entry) (closed : Option ℕ) (k : IsKept d b sound premise disk catalog standing groups trail late closed)
+module _ {D : Type 0} (d : Ghosts D) (b : Base) (sound premise : Type 0) (began : Beginning) (disk : D) (catalog : Catalog) (standing : Standing) (groups : List Group) (trail : Recorded) (late : Option Entry) (closed : Option ℕ) (k : IsKept d b sound premise began disk catalog standing groups trail late closed)
     (running : closed ≡ None) (t : TableId) (place : ℕ) (g : Group) (l : place < length standing.tables) (number : (none : Table) → (get_or standing.tables place none).id ≡ t) (is : get_or groups place g ≡ g) where
   abbrev es : List Entry
   es = trail.entries
@@ -58,10 +59,10 @@ module _ {D : Type 0} (d : Ghosts D) (b : Base) (sound premise : Type 0) (disk :
   own = group_of groups standing.tables k.each.stand place g inside is t number
 
   pub right_here : IsRightGroup g
-  right_here = right_at d b sound premise disk catalog standing groups trail late closed k place g inside is running
+  right_here = right_at d b sound premise began disk catalog standing groups trail late closed k place g inside is running
 
   tallied_here : HasTallied b es g
-  tallied_here = tallied_at d b sound premise disk catalog standing groups trail late closed k place g inside is running
+  tallied_here = tallied_at d b sound premise began disk catalog standing groups trail late closed k place g inside is running
 
   stands_as : table_of b es t.0 ≡ Some g.table
   stands_as = ap (λ (u : TableId). table_of b es u.0) (sym own) ∙ tallied_here.tallied.standing.table
@@ -80,9 +81,9 @@ module _ {D : Type 0} (d : Ghosts D) (b : Base) (sound premise : Type 0) (disk :
   pub left_right : (g' : Group) → LeavesGroup g g' → KeepsRooms g g' → IsRightGroup g'
   left_right g' leaves keeps = right_after g g' leaves right_here (rooms_kept g g' leaves keeps right_here.rooms)
 
-  pub left_kept : (g' : Group) → LeavesGroup g g' → KeepsRooms g g' → IsKept d b sound premise disk catalog standing (slice_set groups place g') trail late closed
-  left_kept g' leaves keeps = acted_still d b sound premise disk catalog standing groups trail late closed k place g inside is g'
-      (left_acted g g' leaves d disk b es closed running (points_at d b sound premise disk catalog standing groups trail late closed k place g inside is) (left_right g' leaves keeps) tallied_here (once_at d b sound premise disk catalog standing groups trail late closed k place g inside is running))
+  pub left_kept : (g' : Group) → LeavesGroup g g' → KeepsRooms g g' → IsKept d b sound premise began disk catalog standing (slice_set groups place g') trail late closed
+  left_kept g' leaves keeps = acted_still d b sound premise began disk catalog standing groups trail late closed k place g inside is g'
+      (left_acted g g' leaves d disk b es closed running (points_at d b sound premise began disk catalog standing groups trail late closed k place g inside is) (left_right g' leaves keeps) tallied_here (once_at d b sound premise began disk catalog standing groups trail late closed k place g inside is running))
       (let same = left_owed g g' leaves in omega (arith, same))
 
   -- ---- keys
@@ -139,10 +140,10 @@ module _ {D : Type 0} (d : Ghosts D) (b : Base) (sound premise : Type 0) (disk :
     base : IsTableBase b taken.table.id.0
     base = record { rows = λ r. k.told.base.rows taken.table.id.0 r; low = k.told.low taken.table.id.0 }
 
-    pub begun_kept : (trail' : Recorded) → trail'.entries ≡ es ++ e ∷ [] → trail'.room ≡ trail.room + 4 → IsKept d b sound premise disk catalog standing (slice_set groups place g') trail' late closed
+    pub begun_kept : (trail' : Recorded) → trail'.entries ≡ es ++ e ∷ [] → trail'.room ≡ trail.room + 4 → IsKept d b sound premise began disk catalog standing (slice_set groups place g') trail' late closed
     begun_kept trail' entries room =
-        acted d b sound premise disk catalog standing groups trail late closed k place g inside is tells_left up_to_now e at refl refl may_begin (unshut_by closed t s cs) still
+        acted d b sound premise began disk catalog standing groups trail late closed k place g inside is tells_left up_to_now e at refl refl may_begin (unshut_by closed t s cs) still
         (λ u other same. other (sym same ∙ ap (λ (v : TableId). v.0) (sym own)))
         g' (begun_acted g taken g' leaves s cs bd batch admits before after (subst (λ (x : Table). AllFit x cs) (sym leaves.table) fit) early b es e may_begin act_is base d disk closed running k.told.legal tallied_here
-        (once_at d b sound premise disk catalog standing groups trail late closed k place g inside is running))
+        (once_at d b sound premise began disk catalog standing groups trail late closed k place g inside is running))
         trail' entries (let more = owed_begun g taken g' bd leaves admits in omega (arith, more, room))

@@ -50,6 +50,7 @@ pub mod Marked
 pub mod Noted
 pub mod Numbers
 pub mod OpenBatches
+pub mod Others
 pub mod Opened
 pub mod OwnRows
 pub mod Phased

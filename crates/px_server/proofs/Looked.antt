@@ -24,6 +24,7 @@ use Rattle.px_reading.proofs.Asked.{looked_told}
 use Rattle.px_reading.proofs.Looked.{looked_back, still_right, still_shown, still_tallied}
 use Rattle.px_recovery.specs.Folder.{FolderData}
 use Rattle.px_server.specs.Kept.{AreGroups, AreShown, HasBegun, HasParts, HasPoints, HasShown, HasTallied, HasTrailRoom, IsKept, IsOnDisk, forms_in, number_in, owed, table_in_group}
+use Rattle.px_server.specs.Others.{Beginning}
 use Rattle.px_server.proofs.Lists.{all_at, all_set, map_set}
 use Rattle.px_server.proofs.Noted.{with_parts}
 use Rattle.px_server.proofs.Pointed.{distinct_groups}
@@ -99,8 +100,8 @@ module _ (g g' : Group) (looked : HasLooked g g') where
 
 -- ---- the server
 
-module _ {D : Type 0} (d : Ghosts D) (b : Base) (sound premise : Type 0) (disk : D) (catalog : Catalog) (standing : Standing) (groups : List Group) (trail : Recorded) (late : Option Entry) (closed : Option ℕ)
-    (k : IsKept d b sound premise disk catalog standing groups trail late closed) (place : ℕ) (g g' : Group) (l : place < length groups) (is : get_or groups place g ≡ g) (looked : HasLooked g g') where
+module _ {D : Type 0} (d : Ghosts D) (b : Base) (sound premise : Type 0) (began : Beginning) (disk : D) (catalog : Catalog) (standing : Standing) (groups : List Group) (trail : Recorded) (late : Option Entry) (closed : Option ℕ)
+    (k : IsKept d b sound premise began disk catalog standing groups trail late closed) (place : ℕ) (g g' : Group) (l : place < length groups) (is : get_or groups place g ≡ g) (looked : HasLooked g g') where
   abbrev es : List Entry
   es = trail.entries
 
@@ -132,7 +133,7 @@ module _ {D : Type 0} (d : Ghosts D) (b : Base) (sound premise : Type 0) (disk :
       before = k.room
       in omega (arith, one, was, now, before))
 
-  pub looked_kept : IsKept d b sound premise disk catalog standing then trail late closed
+  pub looked_kept : IsKept d b sound premise began disk catalog standing then trail late closed
   looked_kept = record {
     told = k.told;
     each = record {
@@ -152,4 +153,5 @@ module _ {D : Type 0} (d : Ghosts D) (b : Base) (sound premise : Type 0) (disk :
         in record { folder = goes.folder; groups = goes.groups; stands = goes.stands; explains = goes.explains; has = parts_then goes.folder goes.groups goes.has }));
     room = room_then;
     blamed = k.blamed;
+    others = k.others;
   }

@@ -20,13 +20,14 @@ use Rattle.px_noting.specs.Apart.{IsApart}
 use Rattle.px_noting.specs.Points.{IsSameBeside}
 use Rattle.px_noting.proofs.Shown.{shown_elsewhere}
 use Rattle.px_server.specs.Kept.{HasPoints, IsKept, number_in, owed, tells_fault}
+use Rattle.px_server.specs.Others.{Beginning}
 use Rattle.px_server.proofs.Acted.{IsActed, acted, begun_at, once_at, right_at, tallied_at, traced_at}
 use Rattle.px_server.proofs.Pointed.{begun_beside, disk_beside, once_beside, right_beside, shown_beside, told_beside, traced_beside}
 use Rattle.px_server.proofs.Told.{told_elsewhere}
 
 module _ {D : Type 0} (d : Ghosts D) (tells_left : (x : D) (moment file : ℕ) (bytes : List ℕ) → d.left x moment file bytes → IsTrue d.tells)
-    (up_to_now : (x : D) (moment file : ℕ) (bytes : List ℕ) → d.left x moment file bytes → moment ≤ d.calls x) (b : Base) (sound premise : Type 0)
-    (disk : D) (catalog : Catalog) (standing : Standing) (groups : List Group) (trail : Recorded) (late : Option Entry) (closed : Option ℕ) (k : IsKept d b sound premise disk catalog standing groups trail late closed)
+    (up_to_now : (x : D) (moment file : ℕ) (bytes : List ℕ) → d.left x moment file bytes → moment ≤ d.calls x) (b : Base) (sound premise : Type 0) (began : Beginning)
+    (disk : D) (catalog : Catalog) (standing : Standing) (groups : List Group) (trail : Recorded) (late : Option Entry) (closed : Option ℕ) (k : IsKept d b sound premise began disk catalog standing groups trail late closed)
     (e : Entry) (at : e.calls ≡ d.calls disk) (quiet : lasting e ≡ false) (calm : tells_fault e.act ≡ false) (may : MayCome b trail.entries e) (unshut : closing_step closed e.act ≡ closed) (still : (c : Catalogue) → catalogue_step c e.act ≡ c)
     (elsewhere : (t : TableId) → IsElsewhere t e.act) (place : ℕ) (g g' : Group) (l : place < length groups) (is : get_or groups place g ≡ g) (beside : IsSameBeside g g') (apart : (t : TableId) → t.0 ≢ number_in g → IsApart t e.act)
     (points : HasPoints (trail.entries ++ e ∷ []) g') (here : (hs : List HeldBatch) → IsTallied b trail.entries g hs → IsTallied b (trail.entries ++ e ∷ []) g' hs)
@@ -38,11 +39,11 @@ module _ {D : Type 0} (d : Ghosts D) (tells_left : (x : D) (moment file : ℕ) (
   own = record {
     table = beside.table;
     points = points;
-    right = λ running. right_beside g g' beside (right_at d b sound premise disk catalog standing groups trail late closed k place g l is running);
-    tallied = λ running. (let t = tallied_at d b sound premise disk catalog standing groups trail late closed k place g l is running in record { held = t.held; tallied = here t.held t.tallied });
-    once = λ running. once_beside g g' beside (once_at d b sound premise disk catalog standing groups trail late closed k place g l is running);
-    traced = λ call shut. traced_beside g g' beside b es e (elsewhere g.table.id) (traced_at d b sound premise disk catalog standing groups trail late closed k place g l is call shut);
-    begun = λ call shut. begun_beside g g' beside es e (elsewhere g.table.id) (begun_at d b sound premise disk catalog standing groups trail late closed k place g l is call shut);
+    right = λ running. right_beside g g' beside (right_at d b sound premise began disk catalog standing groups trail late closed k place g l is running);
+    tallied = λ running. (let t = tallied_at d b sound premise began disk catalog standing groups trail late closed k place g l is running in record { held = t.held; tallied = here t.held t.tallied });
+    once = λ running. once_beside g g' beside (once_at d b sound premise began disk catalog standing groups trail late closed k place g l is running);
+    traced = λ call shut. traced_beside g g' beside b es e (elsewhere g.table.id) (traced_at d b sound premise began disk catalog standing groups trail late closed k place g l is call shut);
+    begun = λ call shut. begun_beside g g' beside es e (elsewhere g.table.id) (begun_at d b sound premise began disk catalog standing groups trail late closed k place g l is call shut);
     shown = λ running index v hs tallied shown told. record {
       after = v;
       held = hs;
@@ -57,5 +58,5 @@ module _ {D : Type 0} (d : Ghosts D) (tells_left : (x : D) (moment file : ℕ) (
     on_disk = λ running f on. disk_beside g g' beside d disk f on;
   }
 
-  pub pointed : IsKept d b sound premise disk catalog standing (slice_set groups place g') trail' late closed
-  pointed = acted d b sound premise disk catalog standing groups trail late closed k place g l is tells_left up_to_now e at quiet calm may unshut (catalogue-snoc b es e ∙ still (catalogue_of b es)) apart g' own trail' entries less
+  pub pointed : IsKept d b sound premise began disk catalog standing (slice_set groups place g') trail' late closed
+  pointed = acted d b sound premise began disk catalog standing groups trail late closed k place g l is tells_left up_to_now e at quiet calm may unshut (catalogue-snoc b es e ∙ still (catalogue_of b es)) apart g' own trail' entries less

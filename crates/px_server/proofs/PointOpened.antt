@@ -38,6 +38,7 @@ use Rattle.px_calls.specs.Known.{Known}
 use Rattle.px_calls.specs.declared.fault.StepFault.{StepFault}
 use Rattle.px_calls.specs.declared.fault.StepFault.TheVariants.{BelowHorizon, Memory, NoTable, NotYet}
 use Rattle.px_server.specs.Kept.{HasTallied, IsKept, IsTold, owed_by}
+use Rattle.px_server.specs.Others.{Beginning}
 use Rattle.px_server.specs.Points.{HasLeft, HasNoneLeft, IsNoPointOf, IsPointOf, point_under}
 use Rattle.px_server.proofs.Acted.{acted_still, once_at, points_at, right_at, same_acted, tallied_at}
 use Rattle.px_server.proofs.Decided.{decided}
@@ -143,8 +144,8 @@ open_no_memory k legal closed closing running t scn = (tt, stays k legal, closin
 
 -- ---- the server
 
-module _ {D : Type 0} (d : Ghosts D) (b : Base) (sound premise : Type 0)
-    (disk : D) (catalog : Catalog) (standing : Standing) (groups : List Group) (trail : Recorded) (late : Option Entry) (closed : Option ℕ) (k : IsKept d b sound premise disk catalog standing groups trail late closed)
+module _ {D : Type 0} (d : Ghosts D) (b : Base) (sound premise : Type 0) (began : Beginning)
+    (disk : D) (catalog : Catalog) (standing : Standing) (groups : List Group) (trail : Recorded) (late : Option Entry) (closed : Option ℕ) (k : IsKept d b sound premise began disk catalog standing groups trail late closed)
     (running : closed ≡ None) (t : TableId) (place : ℕ) (g : Group) (l : place < length standing.tables) (number : (none : Table) → (get_or standing.tables place none).id ≡ t) (is : get_or groups place g ≡ g) where
   abbrev es : List Entry
   es = trail.entries
@@ -156,18 +157,18 @@ module _ {D : Type 0} (d : Ghosts D) (b : Base) (sound premise : Type 0)
   own = group_of groups standing.tables k.each.stand place g inside is t number
 
   pub right_here : IsRightGroup g
-  right_here = right_at d b sound premise disk catalog standing groups trail late closed k place g inside is running
+  right_here = right_at d b sound premise began disk catalog standing groups trail late closed k place g inside is running
 
   pub told_here : HasTallied b es g
-  told_here = tallied_at d b sound premise disk catalog standing groups trail late closed k place g inside is running
+  told_here = tallied_at d b sound premise began disk catalog standing groups trail late closed k place g inside is running
 
   low : g.horizon ≤ g.last
   low = (let n = horizon_low b k.told.low es k.told.legal g.table.id.0 in let h = told_here.tallied.horizon in let m = told_here.tallied.last in omega (arith, n, h, m))
 
   -- the groups as they are where no room was found
-  pub opens_none : (g' : Group) → IsSameBeside g g' → g'.points.items ≡ g.points.items → (trail' : Recorded) → trail' ≡ trail → IsKept d b sound premise disk catalog standing (slice_set groups place g') trail' late closed
-  opens_none g' beside points trail' same = subst (λ (r : Recorded). IsKept d b sound premise disk catalog standing (slice_set groups place g') r late closed) (sym same)
-      (acted_still d b sound premise disk catalog standing groups trail late closed k place g inside is g' (same_acted d disk b es closed g g' beside points (points_at d b sound premise disk catalog standing groups trail late closed k place g inside is) right_here told_here (once_at d b sound premise disk catalog standing groups trail late closed k place g inside is running) running)
+  pub opens_none : (g' : Group) → IsSameBeside g g' → g'.points.items ≡ g.points.items → (trail' : Recorded) → trail' ≡ trail → IsKept d b sound premise began disk catalog standing (slice_set groups place g') trail' late closed
+  opens_none g' beside points trail' same = subst (λ (r : Recorded). IsKept d b sound premise began disk catalog standing (slice_set groups place g') r late closed) (sym same)
+      (acted_still d b sound premise began disk catalog standing groups trail late closed k place g inside is g' (same_acted d disk b es closed g g' beside points (points_at d b sound premise began disk catalog standing groups trail late closed k place g inside is) right_here told_here (once_at d b sound premise began disk catalog standing groups trail late closed k place g inside is running) running)
       (let
       count : length g'.points.items ≡ length g.points.items = ap length points
       in let
@@ -205,11 +206,11 @@ module _ {D : Type 0} (d : Ghosts D) (b : Base) (sound premise : Type 0)
       act_is : e.act ≡ Opened g.table.id s (is_some scn)
       act_is = ap (λ (x : TableId). Opened x s (is_some scn)) (sym own)
 
-      pub opens : (g' : Group) → HasOpened g g' seat s → length g'.points.items ≡ length g.points.items + 1 → (trail' : Recorded) → trail'.entries ≡ es ++ e ∷ [] → trail'.room ≡ trail.room + 1 → IsKept d b sound premise disk catalog standing (slice_set groups place g') trail' late closed
+      pub opens : (g' : Group) → HasOpened g g' seat s → length g'.points.items ≡ length g.points.items + 1 → (trail' : Recorded) → trail'.entries ≡ es ++ e ∷ [] → trail'.room ≡ trail.room + 1 → IsKept d b sound premise began disk catalog standing (slice_set groups place g') trail' late closed
       opens g' opened more trail' entries room =
-          pointed d tells_left up_to_now b sound premise disk catalog standing groups trail late closed k e at refl refl may (unshut_by closed t s (is_some scn)) (still_by t s (is_some scn)) (λ x. tt) place g g' inside is opened.same
+          pointed d tells_left up_to_now b sound premise began disk catalog standing groups trail late closed k e at refl refl may (unshut_by closed t s (is_some scn)) (still_by t s (is_some scn)) (λ x. tt) place g g' inside is opened.same
           (λ x other same. other (sym same ∙ ap (λ (y : TableId). y.0) (sym own)))
-          (points_opened es g (points_at d b sound premise disk catalog standing groups trail late closed k place g inside is) e s (is_some scn) act_is g' opened) (λ hs tallied. tallied_opened b es g hs tallied e s (is_some scn) act_is g' opened) trail' entries
+          (points_opened es g (points_at d b sound premise began disk catalog standing groups trail late closed k place g inside is) e s (is_some scn) act_is g' opened) (λ hs tallied. tallied_opened b es g hs tallied e s (is_some scn) act_is g' opened) trail' entries
           (let
           batches : sum_by owed_by g'.batches.items ≡ sum_by owed_by g.batches.items = ap (λ xs. sum_by owed_by xs.items) opened.same.batches
           in omega (arith, batches, more, room))

@@ -48,6 +48,7 @@ use Rattle.px_recovery.proofs.Readies.{index_ready as folder_ready}
 use Rattle.px_standing.specs.Agrees.{Agrees, opened_standing}
 use Rattle.px_standing.proofs.Defined.{index_ready as agrees_ready}
 use Rattle.px_server.specs.Kept.{HasFailed, HasPoints, HasShown, HasTallied, HasTrailRoom, IsKept, IsOnDisk, forms_in, owed}
+use Rattle.px_server.specs.Others.{Beginning}
 use Rattle.px_server.proofs.BornKept.{or_none, same_owed}
 use Rattle.px_server.proofs.Catalogued.{define_failed}
 use Rattle.px_server.proofs.Defines.{Defines}
@@ -66,8 +67,8 @@ some_opened None x is = absurd cc
 some_opened (Some z) x is = (let same : record z { state = opened_state z.state } ≡ record x { state = opened_state x.state } = cc in (z, (refl, ap activated same)))
 
 module _ {D : Type 0} (d : Ghosts D) (tells_left : (x : D) (moment file : ℕ) (bytes : List ℕ) → d.left x moment file bytes → IsTrue d.tells)
-    (up_to_now : (x : D) (moment file : ℕ) (bytes : List ℕ) → d.left x moment file bytes → moment ≤ d.calls x) (b : Base) (sound premise : Type 0)
-    (disk : D) (catalog : Catalog) (standing : Standing) (groups : List Group) (trail : Recorded) (late : Option Entry) (closed : Option ℕ) (k : IsKept d b sound premise disk catalog standing groups trail late closed) (running : closed ≡ None)
+    (up_to_now : (x : D) (moment file : ℕ) (bytes : List ℕ) → d.left x moment file bytes → moment ≤ d.calls x) (b : Base) (sound premise : Type 0) (began : Beginning)
+    (disk : D) (catalog : Catalog) (standing : Standing) (groups : List Group) (trail : Recorded) (late : Option Entry) (closed : Option ℕ) (k : IsKept d b sound premise began disk catalog standing groups trail late closed) (running : closed ≡ None)
     (i : IndexId) (s : ℕ) (place : ℕ) (g : Group) (l : place < length groups) (g_is : get_or groups place g ≡ g) (e : Entry) (is : e.act ≡ IndexState g.table.id i Active s) (may : MayCome b trail.entries e)
     (m : ℕ) (x : IndexRegion) (x_is : slice_get g.indexes.items m ≡ Some x) (id : x.index.id ≡ i)
     (low : horizon_of b g.table.id.0 trail.entries ≤ x.index.birth) (decided : IsDecided trail.entries g.table.id.0 x.index.birth)
@@ -139,9 +140,9 @@ module _ {D : Type 0} (d : Ghosts D) (tells_left : (x : D) (moment file : ℕ) (
 
   -- the call failed
   pub ready_failed : (shut : Entry) (call : ℕ) → shut.act ≡ Shut call → shut.calls ≡ d.calls disk' → HasFailed d disk' → (catalog' : Catalog) (trail' : Recorded) → trail'.entries ≡ es ++ shut ∷ [] → HasTrailRoom (Some call) groups trail'
-      → IsKept d b sound premise disk' catalog' standing groups trail' (Some e) (Some call)
+      → IsKept d b sound premise began disk' catalog' standing groups trail' (Some e) (Some call)
   ready_failed shut call shut-is shut_at failed catalog' trail' entries room =
-      define_failed d tells_left up_to_now b sound premise disk catalog standing groups trail late closed k running disk' (IndexIs y) passes touches leaves regions t e own may at (λ v. with_part v t.0 (ready_data m (v t.0))) explains shut call shut-is shut_at failed catalog' trail' entries room
+      define_failed d tells_left up_to_now b sound premise began disk catalog standing groups trail late closed k running disk' (IndexIs y) passes touches leaves regions t e own may at (λ v. with_part v t.0 (ready_data m (v t.0))) explains shut call shut-is shut_at failed catalog' trail' entries room
 
   agrees : Agrees (after standing (IndexIs y)) (catalogue_of b es')
   agrees = subst (λ (w : Catalogue). Agrees (after standing (IndexIs y)) w) (sym (catalogue-snoc b es e ∙ ap (catalogue_step c) is)) (agrees_ready standing c k.told.agrees t i s x.index in_standing)
@@ -178,9 +179,9 @@ module _ {D : Type 0} (d : Ghosts D) (tells_left : (x : D) (moment file : ℕ) (
     }
 
     pub ready_kept : (catalog' : Catalog) → (HasCatalogue d catalog disk → HasCatalogue d catalog' disk') → standing_of catalog' ≡ after (standing_of catalog) (IndexIs y) → (trail' : Recorded) → trail'.entries ≡ es ++ e ∷ [] → trail'.room + 1 ≡ trail.room → 2 + sum_by owed groups ≤ trail.room
-        → IsKept d b sound premise disk' catalog' (after standing (IndexIs y)) (slice_set groups place g') trail' late closed
+        → IsKept d b sound premise began disk' catalog' (after standing (IndexIs y)) (slice_set groups place g') trail' late closed
     ready_kept catalog' stored defined trail' entries room enough =
-        index_kept d tells_left up_to_now b sound premise disk catalog standing groups trail late closed k running disk' (IndexIs y) passes touches leaves regions t e own may at (ready_data m) explains catalog' stored defined agrees refl
+        index_kept d tells_left up_to_now b sound premise began disk catalog standing groups trail late closed k running disk' (IndexIs y) passes touches leaves regions t e own may at (ready_data m) explains catalog' stored defined agrees refl
         place g g' l g_is refl a.beside.table (same_owed g g' a.beside)
         (λ p. tallied'.tallied.points) (right_active g g' m a) (once_active g g' m a) (has_tallied_ready b es e may t i s is g g' refl m a id' once)
         (λ xs xs' forms forms'. has_shown_ready b es e may t i s is g g' refl m a id' low' decided' none' xs xs' forms forms' once) own_disk

@@ -20,6 +20,7 @@ use Rattle.px_noting.specs.Points.{HasReleased}
 use Rattle.px_noting.proofs.OpenPoints.{points_released, tallied_released}
 use Rattle.px_recovery.proofs.Server.{newest_early}
 use Rattle.px_server.specs.Kept.{HasPoints, IsKept, owed_by, table_in_group}
+use Rattle.px_server.specs.Others.{Beginning}
 use Rattle.px_server.proofs.Lists.{all_at}
 use Rattle.px_server.proofs.PointMoved.{pointed}
 
@@ -52,8 +53,8 @@ group_of groups tables is place g l at t number = ap (λ (x : Table). x.id) (sym
 -- ---- the server
 
 module _ {D : Type 0} (d : Ghosts D) (tells_left : (x : D) (moment file : ℕ) (bytes : List ℕ) → d.left x moment file bytes → IsTrue d.tells)
-    (up_to_now : (x : D) (moment file : ℕ) (bytes : List ℕ) → d.left x moment file bytes → moment ≤ d.calls x) (b : Base) (sound premise : Type 0)
-    (disk : D) (catalog : Catalog) (standing : Standing) (groups : List Group) (trail : Recorded) (late : Option Entry) (closed : Option ℕ) (k : IsKept d b sound premise disk catalog standing groups trail late closed)
+    (up_to_now : (x : D) (moment file : ℕ) (bytes : List ℕ) → d.left x moment file bytes → moment ≤ d.calls x) (b : Base) (sound premise : Type 0) (began : Beginning)
+    (disk : D) (catalog : Catalog) (standing : Standing) (groups : List Group) (trail : Recorded) (late : Option Entry) (closed : Option ℕ) (k : IsKept d b sound premise began disk catalog standing groups trail late closed)
     (seat calls s : ℕ) (t : TableId) (at : calls ≡ d.calls disk) (open_ : 0 < open_points seat t.0 s trail.entries) (place : ℕ) (g : Group) (l : place < length standing.tables) (number : (none : Table) → (get_or standing.tables place none).id ≡ t) (is : get_or groups place g ≡ g) where
   abbrev es : List Entry
   es = trail.entries
@@ -85,9 +86,9 @@ module _ {D : Type 0} (d : Ghosts D) (tells_left : (x : D) (moment file : ℕ) (
   act_is : e.act ≡ Released g.table.id s
   act_is = ap (λ (x : TableId). Released x s) (sym own)
 
-  pub closes : (g' : Group) → HasReleased g g' seat s → length g'.points.items + 1 ≡ length g.points.items → (trail' : Recorded) → trail'.entries ≡ es ++ e ∷ [] → trail'.room + 1 ≡ trail.room → IsKept d b sound premise disk catalog standing (slice_set groups place g') trail' late closed
+  pub closes : (g' : Group) → HasReleased g g' seat s → length g'.points.items + 1 ≡ length g.points.items → (trail' : Recorded) → trail'.entries ≡ es ++ e ∷ [] → trail'.room + 1 ≡ trail.room → IsKept d b sound premise began disk catalog standing (slice_set groups place g') trail' late closed
   closes g' released fewer trail' entries room =
-      pointed d tells_left up_to_now b sound premise disk catalog standing groups trail late closed k e at refl refl may (unshut_by closed t s) (still_by t s) (λ x. tt) place g g' inside is released.same
+      pointed d tells_left up_to_now b sound premise began disk catalog standing groups trail late closed k e at refl refl may (unshut_by closed t s) (still_by t s) (λ x. tt) place g g' inside is released.same
       (λ x other same. other (sym same ∙ ap (λ (y : TableId). y.0) (sym own)))
       (points_released es g here e s act_is g' released) (λ hs tallied. tallied_released b es g hs tallied e s act_is g' released) trail' entries
       (let

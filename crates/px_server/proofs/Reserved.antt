@@ -16,17 +16,19 @@ use Rattle.px_reading.specs.Looked.{AreLookedAt, HasLooked, IsLookedAt}
 use Rattle.px_reading.proofs.Looked.{no_look, no_looks}
 use Rattle.px_recovery.specs.Kept.{IsServer}
 use Rattle.px_server.specs.Kept.{AreGroups, AreShown, HasFailed, HasParts, IsKept, IsTold, has_told}
+use Rattle.px_server.specs.Others.{Beginning, OthersStay}
 
 -- of the trail
-pub roomy : {D : Type 0} (d : Ghosts D) (b : Base) (sound premise : Type 0) (disk : D) (catalog : Catalog) (standing : Standing) (groups : List Group) (trail : Recorded) (late : Option Entry) (closed : Option ℕ) → IsKept d b sound premise disk catalog standing groups trail late closed
-    → (trail' : Recorded) → trail'.entries ≡ trail.entries → trail.room ≤ trail'.room → IsKept d b sound premise disk catalog standing groups trail' late closed
-roomy d b sound premise disk catalog standing groups trail late closed k trail' same more = record {
+pub roomy : {D : Type 0} (d : Ghosts D) (b : Base) (sound premise : Type 0) (began : Beginning) (disk : D) (catalog : Catalog) (standing : Standing) (groups : List Group) (trail : Recorded) (late : Option Entry) (closed : Option ℕ) → IsKept d b sound premise began disk catalog standing groups trail late closed
+    → (trail' : Recorded) → trail'.entries ≡ trail.entries → trail.room ≤ trail'.room → IsKept d b sound premise began disk catalog standing groups trail' late closed
+roomy d b sound premise began disk catalog standing groups trail late closed k trail' same more = record {
   told = subst (λ (es : List Entry). IsTold b es closed (standing_of catalog) standing) (sym same) k.told;
   each = subst (λ (es : List Entry). AreGroups b es closed standing.tables groups) (sym same) k.each;
   shown = λ given running. subst (λ (es : List Entry). AreShown b es standing.indexes groups) (sym same) (k.shown given running);
   server = subst (λ (es : List Entry). IsServer d b premise (HasParts d b catalog groups) disk es late closed) (sym same) k.server;
   room = (let room = k.room in omega (arith, room, more));
   blamed = subst (λ (es : List Entry). has_told es ≡ true → HasFailed d disk) (sym same) k.blamed;
+  others = λ given tells. subst (λ (es : List Entry). OthersStay d b began disk es) (sym same) (k.others given tells);
 }
 
 -- of a group

@@ -43,6 +43,7 @@ use Rattle.px_calls.specs.declared.fault.StepFault.TheVariants.{NotYet, WriteFau
 use Rattle.px_calls.specs.declared.ticket.Ticket.{Ticket}
 use Rattle.px_calls.specs.declared.ticket.Writes.TheVariants.{AllWritten}
 use Rattle.px_server.specs.Kept.{HasPoints, HasTallied, IsKept, number_in, owed, owed_by, steps_of}
+use Rattle.px_server.specs.Others.{Beginning}
 use Rattle.px_server.proofs.Elsewhere.{IsOfTable}
 use Rattle.px_server.proofs.Handed.{rows_late, rows_told}
 use Rattle.px_server.proofs.Lists.{all_at}
@@ -80,8 +81,8 @@ seat_then es t s seat calls rows mine y there =
     ∙ mine.mine
 
 module _ {D : Type 0} (d : Ghosts D) (tells_left : (x : D) (moment file : ℕ) (bytes : List ℕ) → d.left x moment file bytes → IsTrue d.tells)
-    (up_to_now : (x : D) (moment file : ℕ) (bytes : List ℕ) → d.left x moment file bytes → moment ≤ d.calls x) (b : Base) (sound premise : Type 0)
-    (disk : D) (catalog : Catalog) (standing : Standing) (groups : List Group) (trail : Recorded) (late : Option Entry) (closed : Option ℕ) (k : IsKept d b sound premise disk catalog standing groups trail late closed)
+    (up_to_now : (x : D) (moment file : ℕ) (bytes : List ℕ) → d.left x moment file bytes → moment ≤ d.calls x) (b : Base) (sound premise : Type 0) (began : Beginning)
+    (disk : D) (catalog : Catalog) (standing : Standing) (groups : List Group) (trail : Recorded) (late : Option Entry) (closed : Option ℕ) (k : IsKept d b sound premise began disk catalog standing groups trail late closed)
     (running : closed ≡ None) (place : ℕ) (g g' : Group) (l : place < length groups) (is : get_or groups place g ≡ g) (disk' : D) (m : ℕ) (phase : Phase) (o : HandsPuts d g g' disk disk' m phase) (free : IsFree g m)
     (t : TableId) (s seat calls : ℕ) (own : g.table.id ≡ t) (stamp : o.batch.batch.stamp ≡ s) (mine : IsIn trail.entries seat t.0 s InWriting) (rows : List (List Value)) (rows_are : rows ≡ rows_of o.batch.batch.changes) (at : calls ≡ d.calls disk') where
   abbrev es : List Entry
@@ -138,9 +139,9 @@ module _ {D : Type 0} (d : Ghosts D) (tells_left : (x : D) (moment file : ℕ) (
 
   -- a call failed: the entry is late
   pub write_late : (shut : Entry) (call : ℕ) → shut.act ≡ Shut call → shut.calls ≡ d.calls disk' → Rose d disk disk' → phase ≡ Writing → (trail' : Recorded) → trail'.entries ≡ es ++ shut ∷ [] → trail'.room + 1 ≡ trail.room
-      → IsKept d b sound premise disk' catalog standing (slice_set groups place g') trail' (Some e) (Some call)
+      → IsKept d b sound premise began disk' catalog standing (slice_set groups place g') trail' (Some e) (Some call)
   write_late shut call shut-is shut_at rose still trail' entries room =
-      rows_late d tells_left up_to_now b sound premise disk catalog standing groups trail late closed k running place g g' l is disk' o.region o.cells (wrote_to d g g' disk disk' m phase o) o.writes
+      rows_late d tells_left up_to_now b sound premise began disk catalog standing groups trail late closed k running place g g' l is disk' o.region o.cells (wrote_to d g g' disk disk' m phase o) o.writes
       shut call shut-is shut_at rose (λ traced. traced_puts d g g' disk disk' m es traced phase o) (ap (map stamp_in) o.step.step.batches ∙ stamps_set g.batches.items m x _ o.step.step.batch refl) e refl at of (wrote_goes d b es g g' disk disk' m phase o e may act) trail' entries
       (let
       one = owed_on g g' m x _ o.step.step
@@ -151,8 +152,8 @@ module _ {D : Type 0} (d : Ghosts D) (tells_left : (x : D) (moment file : ℕ) (
       in omega (arith, one, was, now, room))
 
 module _ {D : Type 0} (d : Ghosts D) (tells_left : (x : D) (moment file : ℕ) (bytes : List ℕ) → d.left x moment file bytes → IsTrue d.tells)
-    (up_to_now : (x : D) (moment file : ℕ) (bytes : List ℕ) → d.left x moment file bytes → moment ≤ d.calls x) (b : Base) (sound premise : Type 0)
-    (disk : D) (catalog : Catalog) (standing : Standing) (groups : List Group) (trail : Recorded) (late : Option Entry) (closed : Option ℕ) (k : IsKept d b sound premise disk catalog standing groups trail late closed)
+    (up_to_now : (x : D) (moment file : ℕ) (bytes : List ℕ) → d.left x moment file bytes → moment ≤ d.calls x) (b : Base) (sound premise : Type 0) (began : Beginning)
+    (disk : D) (catalog : Catalog) (standing : Standing) (groups : List Group) (trail : Recorded) (late : Option Entry) (closed : Option ℕ) (k : IsKept d b sound premise began disk catalog standing groups trail late closed)
     (running : closed ≡ None) (place : ℕ) (g g' : Group) (l : place < length groups) (is : get_or groups place g ≡ g) (disk' : D) (m : ℕ) (w : WrotePuts d g g' disk disk' m) (free : IsFree g m)
     (t : TableId) (s seat calls : ℕ) (own : g.table.id ≡ t) (stamp : w.hands.batch.batch.stamp ≡ s) (mine : IsIn trail.entries seat t.0 s InWriting) (rows : List (List Value)) (rows_are : rows ≡ rows_of w.hands.batch.batch.changes) (at : calls ≡ d.calls disk') where
   abbrev es2 : List Entry
@@ -162,10 +163,10 @@ module _ {D : Type 0} (d : Ghosts D) (tells_left : (x : D) (moment file : ℕ) (
   e2 = record { seat = seat; calls = calls; act = Wrote t s rows }
 
   abbrev may2 : MayCome b es2 e2
-  may2 = may d tells_left up_to_now b sound premise disk catalog standing groups trail late closed k running place g g' l is disk' m Verifying w.hands free t s seat calls own stamp mine rows rows_are at
+  may2 = may d tells_left up_to_now b sound premise began disk catalog standing groups trail late closed k running place g g' l is disk' m Verifying w.hands free t s seat calls own stamp mine rows rows_are at
 
   abbrev act2 : e2.act ≡ Wrote g.table.id w.hands.batch.batch.stamp (rows_of w.hands.batch.batch.changes)
-  act2 = act d tells_left up_to_now b sound premise disk catalog standing groups trail late closed k running place g g' l is disk' m Verifying w.hands free t s seat calls own stamp mine rows rows_are at
+  act2 = act d tells_left up_to_now b sound premise began disk catalog standing groups trail late closed k running place g g' l is disk' m Verifying w.hands free t s seat calls own stamp mine rows rows_are at
 
   right2 : IsRightGroup g
   right2 = all_at IsRightGroup groups place g l is (k.each.right running)
@@ -174,12 +175,12 @@ module _ {D : Type 0} (d : Ghosts D) (tells_left : (x : D) (moment file : ℕ) (
   tallied_then hs a = tallied_wrote b es2 e2 g g' hs right2 a m d disk disk' w (act2 ∙ ap (λ (n : ℕ). Wrote g.table.id n (rows_of w.hands.batch.batch.changes)) (sym (stamp_is b es2 g hs a m w.hands.batch w.hands.step.step.batch)))
 
   -- all calls succeeded
-  pub write_told : (trail' : Recorded) → trail'.entries ≡ es2 ++ e2 ∷ [] → trail'.room + 1 ≡ trail.room → IsKept d b sound premise disk' catalog standing (slice_set groups place g') trail' late closed
+  pub write_told : (trail' : Recorded) → trail'.entries ≡ es2 ++ e2 ∷ [] → trail'.room + 1 ≡ trail.room → IsKept d b sound premise began disk' catalog standing (slice_set groups place g') trail' late closed
   write_told trail' entries room =
-      rows_told d tells_left up_to_now b sound premise disk catalog standing groups trail late closed k running place g g' l is disk' w.hands.region w.hands.cells (wrote_to d g g' disk disk' m Verifying w.hands) w.hands.writes
-      w.written w.hands.writes.horizon (right_puts d g g' disk disk' m right2 w) e2 refl at (of d tells_left up_to_now b sound premise disk catalog standing groups trail late closed k running place g g' l is disk' m Verifying w.hands free t s seat calls own stamp mine rows rows_are at) refl
+      rows_told d tells_left up_to_now b sound premise began disk catalog standing groups trail late closed k running place g g' l is disk' w.hands.region w.hands.cells (wrote_to d g g' disk disk' m Verifying w.hands) w.hands.writes
+      w.written w.hands.writes.horizon (right_puts d g g' disk disk' m right2 w) e2 refl at (of d tells_left up_to_now b sound premise began disk catalog standing groups trail late closed k running place g g' l is disk' m Verifying w.hands free t s seat calls own stamp mine rows rows_are at) refl
       (λ hs. held_wrote (own_of m hs).stamp (rows_of w.hands.batch.batch.changes) hs) tallied_then
-      (points_then d tells_left up_to_now b sound premise disk catalog standing groups trail late closed k running place g g' l is disk' m Verifying w.hands free t s seat calls own stamp mine rows rows_are at)
+      (points_then d tells_left up_to_now b sound premise began disk catalog standing groups trail late closed k running place g g' l is disk' m Verifying w.hands free t s seat calls own stamp mine rows rows_are at)
       (wrote_shows d b es2 g g' disk disk' m right2 w e2 may2 act2) trail' entries
       (let
       one = owed_on g g' m w.hands.batch _ w.hands.step.step
@@ -221,29 +222,29 @@ module _ (k : Known) (legal : IsLegal k.base k.seen) (t : Ticket) where
 -- ---- the ticket's batch, where the server has it
 
 module _ {D : Type 0} (d : Ghosts D) (tells_left : (x : D) (moment file : ℕ) (bytes : List ℕ) → d.left x moment file bytes → IsTrue d.tells)
-    (up_to_now : (x : D) (moment file : ℕ) (bytes : List ℕ) → d.left x moment file bytes → moment ≤ d.calls x) (b : Base) (sound premise : Type 0) (disk : D) (catalog : Catalog) (standing : Standing) (groups : List Group) (trail : Recorded) (late : Option Entry) (closed : Option ℕ)
-    (k : IsKept d b sound premise disk catalog standing groups trail late closed) (t : Ticket) (seat : ℕ) (mine : IsIn trail.entries seat t.table.0 t.stamp InWriting) (running : closed ≡ None) (place : ℕ) (found : place < length standing.tables)
+    (up_to_now : (x : D) (moment file : ℕ) (bytes : List ℕ) → d.left x moment file bytes → moment ≤ d.calls x) (b : Base) (sound premise : Type 0) (began : Beginning) (disk : D) (catalog : Catalog) (standing : Standing) (groups : List Group) (trail : Recorded) (late : Option Entry) (closed : Option ℕ)
+    (k : IsKept d b sound premise began disk catalog standing groups trail late closed) (t : Ticket) (seat : ℕ) (mine : IsIn trail.entries seat t.table.0 t.stamp InWriting) (running : closed ≡ None) (place : ℕ) (found : place < length standing.tables)
     (numbered : (none : Table) → (get_or standing.tables place none).id ≡ t.table) (g : Group) (read : g ≡ get_or groups place g) (m : ℕ) (l : m < length g.batches.items) (stamp : (x : Begun) → slice_get g.batches.items m ≡ Some x → x.batch.stamp ≡ t.stamp) where
   open_ : mine.batch.ended ≡ false
   open_ = (in_writing mine.batch mine.phase).0
 
   pub writing_there : IsAt g m Writing
-  writing_there = batch_is d b sound premise disk catalog standing groups trail late closed k t seat Writing mine open_ running place found numbered g read m l stamp
+  writing_there = batch_is d b sound premise began disk catalog standing groups trail late closed k t seat Writing mine open_ running place found numbered g read m l stamp
 
   -- where it is blocked it waits for the other
   pub blocked_waits : (earlier : ℕ) → IsBlocked g m earlier → WaitsFor trail.entries t.table.0 t.stamp earlier
   blocked_waits earlier blocked = (let
-      a = tallied_there d b sound premise disk catalog standing groups trail late closed k t seat Writing mine open_ running place found numbered g read
+      a = tallied_there d b sound premise began disk catalog standing groups trail late closed k t seat Writing mine open_ running place found numbered g read
       in let
-      w = waits b trail.entries g a.held a.tallied m (right_there d b sound premise disk catalog standing groups trail late closed k t seat Writing mine open_ running place found numbered g read) writing_there earlier blocked
-      in subst (λ (u : TableId). WaitsFor trail.entries u.0 t.stamp earlier) (own_table d b sound premise disk catalog standing groups trail late closed k t seat Writing mine open_ running place found numbered g read)
+      w = waits b trail.entries g a.held a.tallied m (right_there d b sound premise began disk catalog standing groups trail late closed k t seat Writing mine open_ running place found numbered g read) writing_there earlier blocked
+      in subst (λ (u : TableId). WaitsFor trail.entries u.0 t.stamp earlier) (own_table d b sound premise began disk catalog standing groups trail late closed k t seat Writing mine open_ running place found numbered g read)
       (subst (λ (n : ℕ). WaitsFor trail.entries g.table.id.0 n earlier) (stamp writing_there.batch writing_there.is) w))
 
   inside : place < length groups
-  inside = there d b sound premise disk catalog standing groups trail late closed k t seat Writing mine open_ running place found numbered g read
+  inside = there d b sound premise began disk catalog standing groups trail late closed k t seat Writing mine open_ running place found numbered g read
 
   own_is : g.table.id ≡ t.table
-  own_is = own_table d b sound premise disk catalog standing groups trail late closed k t seat Writing mine open_ running place found numbered g read
+  own_is = own_table d b sound premise began disk catalog standing groups trail late closed k t seat Writing mine open_ running place found numbered g read
 
   rows_same : (rows : List (List Value)) → TakesRows g m rows → (x : Begun) → slice_get g.batches.items m ≡ Some x → rows ≡ rows_of x.batch.changes
   rows_same rows r x at = r.rows_are ∙ ap (λ (z : Begun). rows_of z.batch.changes) (same_at g.batches.items m r.batch x r.is at)
@@ -253,19 +254,19 @@ module _ {D : Type 0} (d : Ghosts D) (tells_left : (x : D) (moment file : ℕ) (
 
   module _ (g' : Group) (disk' : D) (free : IsFree g m) (rows : List (List Value)) (takes : TakesRows g m rows) (calls : ℕ) (at : calls ≡ d.calls disk') where
     -- its rows are written
-    pub wrote_kept : WrotePuts d g g' disk disk' m → (trail' : Recorded) → trail'.entries ≡ trail.entries ++ entry calls rows ∷ [] → trail'.room + 1 ≡ trail.room → IsKept d b sound premise disk' catalog standing (slice_set groups place g') trail' late closed
+    pub wrote_kept : WrotePuts d g g' disk disk' m → (trail' : Recorded) → trail'.entries ≡ trail.entries ++ entry calls rows ∷ [] → trail'.room + 1 ≡ trail.room → IsKept d b sound premise began disk' catalog standing (slice_set groups place g') trail' late closed
     wrote_kept w trail' entries room =
-        write_told d tells_left up_to_now b sound premise disk catalog standing groups trail late closed k running place g g' inside (sym read) disk' m w free t.table t.stamp seat calls own_is (stamp w.hands.batch w.hands.step.step.batch) mine
+        write_told d tells_left up_to_now b sound premise began disk catalog standing groups trail late closed k running place g g' inside (sym read) disk' m w free t.table t.stamp seat calls own_is (stamp w.hands.batch w.hands.step.step.batch) mine
         rows (rows_same rows takes w.hands.batch w.hands.step.step.batch) at trail' entries room
 
     pub wrote_in : WrotePuts d g g' disk disk' m → IsIn (trail.entries ++ entry calls rows ∷ []) seat t.table.0 t.stamp InVerifying
     wrote_in w =
-        verifies_then d tells_left up_to_now b sound premise disk catalog standing groups trail late closed k running place g g' inside (sym read) disk' m w free t.table t.stamp seat calls own_is (stamp w.hands.batch w.hands.step.step.batch) mine
+        verifies_then d tells_left up_to_now b sound premise began disk catalog standing groups trail late closed k running place g g' inside (sym read) disk' m w free t.table t.stamp seat calls own_is (stamp w.hands.batch w.hands.step.step.batch) mine
         rows (rows_same rows takes w.hands.batch w.hands.step.step.batch) at
 
     -- or a call failed
     pub unwritten_kept : HandsPuts d g g' disk disk' m Writing → Rose d disk disk' → (trail' : Recorded) → trail'.entries ≡ trail.entries ++ record { seat = seat; calls = calls; act = Shut calls } ∷ [] → trail'.room + 1 ≡ trail.room
-        → IsKept d b sound premise disk' catalog standing (slice_set groups place g') trail' (Some (entry calls rows)) (Some calls)
+        → IsKept d b sound premise began disk' catalog standing (slice_set groups place g') trail' (Some (entry calls rows)) (Some calls)
     unwritten_kept o rose trail' entries room =
-        write_late d tells_left up_to_now b sound premise disk catalog standing groups trail late closed k running place g g' inside (sym read) disk' m Writing o free t.table t.stamp seat calls own_is (stamp o.batch o.step.step.batch) mine
+        write_late d tells_left up_to_now b sound premise began disk catalog standing groups trail late closed k running place g g' inside (sym read) disk' m Writing o free t.table t.stamp seat calls own_is (stamp o.batch o.step.step.batch) mine
         rows (rows_same rows takes o.batch o.step.step.batch) at (record { seat = seat; calls = calls; act = Shut calls }) calls refl at rose refl trail' entries room

@@ -44,6 +44,7 @@ use Rattle.px_opening.specs.declared.opened.Opened.{Opened}
 use Rattle.px_opening.proofs.Groups.{all_opened, all_right, all_shown, all_tallied, opened_agrees, right_base, shown_explains, shown_of}
 use Rattle.px_opening.proofs.Lists.{all_both, all_mapped, all_slice, index_opened, rising_once}
 use Rattle.px_server.specs.Kept.{AreGroups, HasParts, HasPoints, HasShown, HasTallied, IsKept, IsOnDisk, IsTold, forms_in, owed, owed_by}
+use Rattle.px_server.specs.Others.{Beginning, OthersStay}
 use Rattle.px_server.specs.Started.{HoldsOwn, IsOpenedOn}
 use Rattle.px_server.proofs.Lists.{all_weaker, distinct_map}
 use Rattle.px_server.proofs.Low.{low_base}
@@ -216,21 +217,22 @@ module _ (o : Opened) (r : IsOpenedRight o) where
       late_is = λ u is. absurd cc;
     }
 
-    kept_over : (sound premise : Type 0) → (sound → IsSoundFolder f) → (premise → IsTrue d.tells → IsOpenedOn d disk o) → (room bytes : ℕ) → room ≡ 1 → IsKept d b sound premise disk o.catalog (opened_standing stored) groups (record { entries = []; room = room; bytes_room = bytes }) None None
-    kept_over sound premise sounds on room bytes one = record {
+    kept_over : (sound premise : Type 0) (began : Beginning) → (sound → IsSoundFolder f) → (premise → IsTrue d.tells → IsOpenedOn d disk o) → OthersStay d b began disk [] → (room bytes : ℕ) → room ≡ 1 → IsKept d b sound premise began disk o.catalog (opened_standing stored) groups (record { entries = []; room = room; bytes_room = bytes }) None None
+    kept_over sound premise began sounds on others room bytes one = record {
       told = told_first;
       each = groups_first;
       shown = λ given running. record { told = shown_of f; each = all_weaker (HasShown b [] stored.indexes (shown_of f)) (HasShown b [] (map as_opened stored.indexes) (shown_of f)) (λ g s. shown_opened b [] stored.indexes (shown_of f) g s) groups (shown_first (sounds given)) };
       server = server_first premise on;
       room = (let none = owes_nothing f groups own in omega (arith, none, one));
       blamed = λ told. absurd (false≢true told);
+      others = λ given tells. others;
     }
 
     -- a server with nothing done
-    pub kept_first : (b' : Base) → b' ≡ b → (sound premise : Type 0) → (sound → IsSoundFolder f) → (premise → IsTrue d.tells → IsOpenedOn d disk o) → (standing : Standing) → standing ≡ opened_standing stored → (trail : Recorded) → trail.entries ≡ [] → trail.room ≡ 1
-        → IsKept d b' sound premise disk o.catalog standing groups trail None None
-    kept_first b' base sound premise sounds on standing stands trail none one =
-        subst (λ (x : Base). IsKept d x sound premise disk o.catalog standing groups trail None None) (sym base)
-        (subst (λ (x : Standing). IsKept d b sound premise disk o.catalog x groups trail None None) (sym stands)
-        (subst (λ (es : List Entry). IsKept d b sound premise disk o.catalog (opened_standing stored) groups (record { entries = es; room = trail.room; bytes_room = trail.bytes_room }) None None) (sym none)
-        (kept_over sound premise sounds on trail.room trail.bytes_room one)))
+    pub kept_first : (b' : Base) → b' ≡ b → (sound premise : Type 0) (began : Beginning) → (sound → IsSoundFolder f) → (premise → IsTrue d.tells → IsOpenedOn d disk o) → OthersStay d b began disk [] → (standing : Standing) → standing ≡ opened_standing stored → (trail : Recorded) → trail.entries ≡ [] → trail.room ≡ 1
+        → IsKept d b' sound premise began disk o.catalog standing groups trail None None
+    kept_first b' base sound premise began sounds on others standing stands trail none one =
+        subst (λ (x : Base). IsKept d x sound premise began disk o.catalog standing groups trail None None) (sym base)
+        (subst (λ (x : Standing). IsKept d b sound premise began disk o.catalog x groups trail None None) (sym stands)
+        (subst (λ (es : List Entry). IsKept d b sound premise began disk o.catalog (opened_standing stored) groups (record { entries = es; room = trail.room; bytes_room = trail.bytes_room }) None None) (sym none)
+        (kept_over sound premise began sounds on others trail.room trail.bytes_room one)))

@@ -28,6 +28,7 @@ use Rattle.px_calls.specs.declared.status.Work.{Work}
 use Rattle.px_calls.specs.declared.status.Work.TheVariants.{Did, Idle}
 use Rattle.px_trail.specs.Legal.{IsLegal}
 use Rattle.px_server.specs.Kept.{HasTallied, IsKept, IsOnDisk, number_in, owed}
+use Rattle.px_server.specs.Others.{Beginning}
 use Rattle.px_server.specs.Upkeep.{SteppedTable, StepsIndex, StepsRows, StepsTable}
 use Rattle.px_server.proofs.Handed.{index_handed, rows_handed}
 use Rattle.px_server.proofs.Lists.{all_at}
@@ -43,8 +44,8 @@ put_back (y ∷ xs) zero x is = ap (λ z. z ∷ xs) (sym is)
 put_back (y ∷ xs) (suc i) x is = ap (λ zs. y ∷ zs) (put_back xs i x is)
 
 module _ {D : Type 0} (d : Ghosts D) (tells_left : (x : D) (moment file : ℕ) (bytes : List ℕ) → d.left x moment file bytes → IsTrue d.tells)
-    (up_to_now : (x : D) (moment file : ℕ) (bytes : List ℕ) → d.left x moment file bytes → moment ≤ d.calls x) (b : Base) (sound premise : Type 0)
-    (disk : D) (catalog : Catalog) (standing : Standing) (groups : List Group) (trail : Recorded) (late : Option Entry) (closed : Option ℕ) (k : IsKept d b sound premise disk catalog standing groups trail late closed)
+    (up_to_now : (x : D) (moment file : ℕ) (bytes : List ℕ) → d.left x moment file bytes → moment ≤ d.calls x) (b : Base) (sound premise : Type 0) (began : Beginning)
+    (disk : D) (catalog : Catalog) (standing : Standing) (groups : List Group) (trail : Recorded) (late : Option Entry) (closed : Option ℕ) (k : IsKept d b sound premise began disk catalog standing groups trail late closed)
     (running : closed ≡ None) (place : ℕ) (g g' : Group) (l : place < length groups) (is : get_or groups place g ≡ g) (disk' : D) where
   abbrev es : List Entry
   es = trail.entries
@@ -75,18 +76,18 @@ module _ {D : Type 0} (d : Ghosts D) (tells_left : (x : D) (moment file : ℕ) (
     owed_rows : owed g' ≡ owed g
     owed_rows = ap owed s.same
 
-    pub rows_stepped : HasWritten d g.rows g'.rows disk disk' [] → IsKept d b sound premise disk' catalog standing then trail late closed
+    pub rows_stepped : HasWritten d g.rows g'.rows disk disk' [] → IsKept d b sound premise began disk' catalog standing then trail late closed
     rows_stepped written = (let
         o = owed_rows
-        in rows_handed d tells_left up_to_now b sound premise disk catalog standing groups trail late closed k running place g g' l is disk' g'.rows [] (to_rows d g g' disk disk' s) s.steps.writes
+        in rows_handed d tells_left up_to_now b sound premise began disk catalog standing groups trail late closed k running place g g' l is disk' g'.rows [] (to_rows d g g' disk disk' s) s.steps.writes
         written s.steps.writes.horizon (rows_right d g g' disk disk' s right_here) (λ hs. hs) (rows_tallied d g g' disk disk' s b es) (rows_show d g g' disk disk' s b es) (omega (arith, o)))
 
-    pub rows_stopped : (shut : Entry) (call : ℕ) → shut.act ≡ Shut call → shut.calls ≡ d.calls disk' → Rose d disk disk' → (trail' : Recorded) → trail'.entries ≡ es ++ shut ∷ [] → trail'.room + 1 ≡ trail.room → IsKept d b sound premise disk' catalog standing then trail' None (Some call)
+    pub rows_stopped : (shut : Entry) (call : ℕ) → shut.act ≡ Shut call → shut.calls ≡ d.calls disk' → Rose d disk disk' → (trail' : Recorded) → trail'.entries ≡ es ++ shut ∷ [] → trail'.room + 1 ≡ trail.room → IsKept d b sound premise began disk' catalog standing then trail' None (Some call)
     rows_stopped shut call shut-is shut_at rose trail' entries room =
-        handed_shut d tells_left up_to_now b sound premise disk catalog standing groups trail late closed k running place g g' l is (ap (λ (h : Group). h.table) s.same) (ap (λ (h : Group). h.points) s.same) disk' g.rows g'.rows [] s.steps.writes
+        handed_shut d tells_left up_to_now b sound premise began disk catalog standing groups trail late closed k running place g g' l is (ap (λ (h : Group). h.table) s.same) (ap (λ (h : Group). h.points) s.same) disk' g.rows g'.rows [] s.steps.writes
         (λ c tells numbered h r a other. lacks_rows b es c tells numbered g right_here standing_here h r a other)
         (λ c tells numbered. rows_number c numbered t g.rows.number g.table (stored_table b es c tells g standing_here) (rows_one g right_here))
-        (λ f on. on.rows) shut call shut-is shut_at rose (rows_traced d g g' disk disk' s es) (ap (λ (h : Group). map stamp_in h.batches.items) s.same) trail' entries (let o = owed_rows in omega (arith, o, room))
+        (λ f on. on.rows) (inl (record { number = t; table = g.table; stands = standing_here.table; own = rows_one g right_here })) shut call shut-is shut_at rose (rows_traced d g g' disk disk' s es) (ap (λ (h : Group). map stamp_in h.batches.items) s.same) trail' entries (let o = owed_rows in omega (arith, o, room))
         (λ f v told on has. unchanged g.rows g'.rows (λ x o. o.rows) f v told on)
 
   -- ---- of an index's region
@@ -108,33 +109,33 @@ module _ {D : Type 0} (d : Ghosts D) (tells_left : (x : D) (moment file : ℕ) (
         p = has_place g.table.id.0 c.indexes s.index.index.id.0 y.index y.is (ap (λ q. q.0) (y.table ∙ part.table))
         in subst (λ (m : ℕ). (1 ≤ m) × (m < c.next)) (y.region ∙ part.number) (index_number c numbered g.table.id.0 p.place y.index p.inside p.is))
 
-    pub index_stepped : HasWritten d s.index.region s.region disk disk' [] → IsKept d b sound premise disk' catalog standing then trail late closed
+    pub index_stepped : HasWritten d s.index.region s.region disk disk' [] → IsKept d b sound premise began disk' catalog standing then trail late closed
     index_stepped written = (let
         o = owed_index
-        in index_handed d tells_left up_to_now b sound premise disk catalog standing groups trail late closed k running place g g' l is disk' s.place s.index s.region [] (to_index d g g' disk disk' s) s.steps.writes
+        in index_handed d tells_left up_to_now b sound premise began disk catalog standing groups trail late closed k running place g g' l is disk' s.place s.index s.region [] (to_index d g g' disk disk' s) s.steps.writes
         written s.steps.writes.horizon (index_right d g g' disk disk' s right_here) (λ hs. hs) (index_tallied d g g' disk disk' s b es) (index_shows d g g' disk disk' s b es) (omega (arith, o)))
 
-    pub index_stopped : (shut : Entry) (call : ℕ) → shut.act ≡ Shut call → shut.calls ≡ d.calls disk' → Rose d disk disk' → (trail' : Recorded) → trail'.entries ≡ es ++ shut ∷ [] → trail'.room + 1 ≡ trail.room → IsKept d b sound premise disk' catalog standing then trail' None (Some call)
+    pub index_stopped : (shut : Entry) (call : ℕ) → shut.act ≡ Shut call → shut.calls ≡ d.calls disk' → Rose d disk disk' → (trail' : Recorded) → trail'.entries ≡ es ++ shut ∷ [] → trail'.room + 1 ≡ trail.room → IsKept d b sound premise began disk' catalog standing then trail' None (Some call)
     index_stopped shut call shut-is shut_at rose trail' entries room =
-        handed_shut d tells_left up_to_now b sound premise disk catalog standing groups trail late closed k running place g g' l is (ap (λ (h : Group). h.table) s.same) (ap (λ (h : Group). h.points) s.same) disk' s.index.region s.region [] s.steps.writes
+        handed_shut d tells_left up_to_now b sound premise began disk catalog standing groups trail late closed k running place g g' l is (ap (λ (h : Group). h.table) s.same) (ap (λ (h : Group). h.points) s.same) disk' s.index.region s.region [] s.steps.writes
         (λ c tells numbered h r a other. lacks_index b es c tells numbered g right_here standing_here h r a other s.place s.index s.is)
-        drawn (λ f on. on.indexes s.place s.index s.is) shut call shut-is shut_at rose (index_traced d g g' disk disk' s es) (ap (λ (h : Group). map stamp_in h.batches.items) s.same) trail' entries (let o = owed_index in omega (arith, o, room))
+        drawn (λ f on. on.indexes s.place s.index s.is) (inr (record { number = s.index.index.id.0; index = s.index.index; stands = standing_here.index s.place s.index s.is; own = part.number })) shut call shut-is shut_at rose (index_traced d g g' disk disk' s es) (ap (λ (h : Group). map stamp_in h.batches.items) s.same) trail' entries (let o = owed_index in omega (arith, o, room))
         (λ f v told on has. unchanged s.index.region s.region (λ x o. o.indexes s.place s.index s.is) f v told on)
 
   -- ---- of either
 
-  pub stepped : SteppedTable d g g' disk disk' → IsKept d b sound premise disk' catalog standing then trail late closed
+  pub stepped : SteppedTable d g g' disk disk' → IsKept d b sound premise began disk' catalog standing then trail late closed
   stepped (inl (same, still)) =
-      subst (λ (x : D). IsKept d b sound premise x catalog standing then trail late closed) (sym still)
-      (subst (λ (gs : List Group). IsKept d b sound premise disk catalog standing gs trail late closed) (sym (ap (slice_set groups place) same ∙ put_back groups place g is)) k)
+      subst (λ (x : D). IsKept d b sound premise began x catalog standing then trail late closed) (sym still)
+      (subst (λ (gs : List Group). IsKept d b sound premise began disk catalog standing gs trail late closed) (sym (ap (slice_set groups place) same ∙ put_back groups place g is)) k)
   stepped (inr (inl s)) = rows_stepped s.rows s.written
   stepped (inr (inr s)) = index_stepped s.index s.written
 
   pub stopped : StepsTable d g g' disk disk' → (calls seat : ℕ) → calls ≡ d.calls disk' → Rose d disk disk' → (trail' : Recorded) → trail'.entries ≡ es ++ record { seat = seat; calls = calls; act = Shut calls } ∷ [] → trail'.room + 1 ≡ trail.room
-      → IsKept d b sound premise disk' catalog standing then trail' late (Some calls)
-  stopped steps calls seat at rose trail' entries room = subst (λ (o : Option Entry). IsKept d b sound premise disk' catalog standing then trail' o (Some calls)) (sym (k.server.unlate running)) (by steps)
+      → IsKept d b sound premise began disk' catalog standing then trail' late (Some calls)
+  stopped steps calls seat at rose trail' entries room = subst (λ (o : Option Entry). IsKept d b sound premise began disk' catalog standing then trail' o (Some calls)) (sym (k.server.unlate running)) (by steps)
     where
-      by : StepsTable d g g' disk disk' → IsKept d b sound premise disk' catalog standing then trail' None (Some calls)
+      by : StepsTable d g g' disk disk' → IsKept d b sound premise began disk' catalog standing then trail' None (Some calls)
       by (inl s) = rows_stopped s (record { seat = seat; calls = calls; act = Shut calls }) calls refl at rose trail' entries room
       by (inr s) = index_stopped s (record { seat = seat; calls = calls; act = Shut calls }) calls refl at rose trail' entries room
 

@@ -1,5 +1,6 @@
 -- A failed call of a write closes the server: what is true of it then, whatever became of its regions and its catalogue.
 use Rattle.std.proofs.Common.{◌≡◌, ◌≤◌, ℕ, Option, Some, None, List, [], ◌∷◌, ◌++◌, map, refl, sym, ap, subst, ◌∙◌, arith}
+use Rattle.std.specs.Prelude.{IsTrue}
 use Rattle.std.specs.List.{AllByRecursion}
 use Rattle.px_outside.specs.declared.disk.Disk.{Ghosts}
 use Rattle.px_trail.specs.declared.entry.Act.{Act}
@@ -21,8 +22,10 @@ use Rattle.px_recovery.specs.Kept.{IsServer}
 use Rattle.px_recovery.proofs.Server.{newest_early}
 use Rattle.px_standing.specs.Agrees.{Agrees}
 use Rattle.px_server.specs.Kept.{AreGroups, HasBegun, HasFailed, HasParts, HasPoints, HasTallied, HasTrailRoom, IsKept, IsTold, table_in_group}
+use Rattle.px_server.specs.Others.{Beginning, OthersStay}
 use Rattle.px_server.proofs.Lists.{all_weaker}
 use Rattle.px_server.proofs.OpenBatches.{all_begun, begun_elsewhere}
+use Rattle.px_server.proofs.Others.{others_more}
 
 -- of groups that are right, each batch has what its end needs
 pub all_traced : (b : Base) (es : List Entry) (gs : List Group) → AllByRecursion IsRightGroup gs → AllByRecursion (HasTallied b es) gs → AllByRecursion (AreTraced es) gs
@@ -33,8 +36,8 @@ shut_still : (c : Catalogue) (call : ℕ) → catalogue_step c (Shut call) ≡ c
 unfolding catalogue_step
 shut_still c call = refl
 
-module _ {D : Type 0} (d : Ghosts D) (b : Base) (sound premise : Type 0) (disk : D) (catalog : Catalog) (standing : Standing) (groups : List Group) (trail : Recorded) (late : Option Entry) (closed : Option ℕ)
-    (k : IsKept d b sound premise disk catalog standing groups trail late closed) (running : closed ≡ None) (disk' : D) (later : d.calls disk ≤ d.calls disk') (shut : Entry) (call : ℕ) (shut-is : shut.act ≡ Shut call) (at : shut.calls ≡ d.calls disk') where
+module _ {D : Type 0} (d : Ghosts D) (b : Base) (sound premise : Type 0) (began : Beginning) (disk : D) (catalog : Catalog) (standing : Standing) (groups : List Group) (trail : Recorded) (late : Option Entry) (closed : Option ℕ)
+    (k : IsKept d b sound premise began disk catalog standing groups trail late closed) (running : closed ≡ None) (disk' : D) (later : d.calls disk ≤ d.calls disk') (shut : Entry) (call : ℕ) (shut-is : shut.act ≡ Shut call) (at : shut.calls ≡ d.calls disk') where
   abbrev es : List Entry
   es = trail.entries
 
@@ -82,18 +85,19 @@ module _ {D : Type 0} (d : Ghosts D) (b : Base) (sound premise : Type 0) (disk :
       begun = λ c is. all_weaker (HasBegun es) (HasBegun es') begun_on groups' begun;
     }
 
-    pub stopped : (catalog' : Catalog) (late' : Option Entry) → IsServer d b premise (HasParts d b catalog' groups') disk' (es ++ shut ∷ []) late' (Some call) → HasFailed d disk'
-        → (trail' : Recorded) → trail'.entries ≡ es ++ shut ∷ [] → HasTrailRoom (Some call) groups' trail' → IsKept d b sound premise disk' catalog' standing groups' trail' late' (Some call)
-    stopped catalog' late' server failed trail' entries room = record {
+    pub stopped : (catalog' : Catalog) (late' : Option Entry) → IsServer d b premise (HasParts d b catalog' groups') disk' (es ++ shut ∷ []) late' (Some call) → HasFailed d disk' → (premise → IsTrue d.tells → OthersStay d b began disk' es)
+        → (trail' : Recorded) → trail'.entries ≡ es ++ shut ∷ [] → HasTrailRoom (Some call) groups' trail' → IsKept d b sound premise began disk' catalog' standing groups' trail' late' (Some call)
+    stopped catalog' late' server failed others trail' entries room = record {
       told = subst (λ (ys : List Entry). IsTold b ys (Some call) (catalog'.standing) standing) (sym entries) (told catalog'.standing);
       each = subst (λ (ys : List Entry). AreGroups b ys (Some call) standing.tables groups') (sym entries) each;
       shown = λ given none. absurd cc;
       server = subst (λ (ys : List Entry). IsServer d b premise (HasParts d b catalog' groups') disk' ys late' (Some call)) (sym entries) server;
       room = room;
       blamed = λ is. failed;
+      others = λ given tells. subst (λ (ys : List Entry). OthersStay d b began disk' ys) (sym entries) (others_more d b began es (shut ∷ []) disk' (others given tells));
     }
 
   -- and where no group has changed
-  pub stopped_same : (catalog' : Catalog) (late' : Option Entry) → IsServer d b premise (HasParts d b catalog' groups) disk' (es ++ shut ∷ []) late' (Some call) → HasFailed d disk'
-      → (trail' : Recorded) → trail'.entries ≡ es ++ shut ∷ [] → HasTrailRoom (Some call) groups trail' → IsKept d b sound premise disk' catalog' standing groups trail' late' (Some call)
+  pub stopped_same : (catalog' : Catalog) (late' : Option Entry) → IsServer d b premise (HasParts d b catalog' groups) disk' (es ++ shut ∷ []) late' (Some call) → HasFailed d disk' → (premise → IsTrue d.tells → OthersStay d b began disk' es)
+      → (trail' : Recorded) → trail'.entries ≡ es ++ shut ∷ [] → HasTrailRoom (Some call) groups trail' → IsKept d b sound premise began disk' catalog' standing groups trail' late' (Some call)
   stopped_same = stopped groups k.each.stand k.each.points (all_traced b es groups (k.each.right running) (k.each.tallied running)) (all_begun b es groups (k.each.tallied running))

@@ -1,5 +1,5 @@
 -- Why a table isn't made or dropped, and what is told where it is.
-use Rattle.std.proofs.Common.{◌≡◌, ◌<◌, ◌≤◌, ◌+◌, ℕ, true, Option, None, Some, List, [], ◌∷◌, ◌++◌, length, refl, sym, subst, ◌∙◌, arith}
+use Rattle.std.proofs.Common.{◌≡◌, ◌<◌, ◌≤◌, ◌+◌, ℕ, Option, None, Some, List, [], ◌∷◌, ◌++◌, length, refl, sym, subst, ◌∙◌, arith}
 use Rattle.std.specs.List.{AllByRecursion}
 use Rattle.px_outside.specs.declared.disk.Disk.{Ghosts}
 use Rattle.px_values.specs.declared.limit.Limit.{Limit as Bound}
@@ -22,13 +22,14 @@ use Rattle.px_calls.specs.declared.fault.StepFault.TheVariants.{NameExists, NoTa
 use Rattle.px_schema.specs.declared.standing.Standing.{Standing}
 use Rattle.px_catalog.specs.declared.catalog.Catalog.{Catalog}
 use Rattle.px_group.specs.declared.group.Group.{Group}
-use Rattle.px_recovery.specs.Kept.{IsServer}
 use Rattle.px_standing.specs.Agrees.{Agrees}
 use Rattle.px_standing.proofs.Counted.{runs_out, tables_counted}
 use Rattle.px_standing.proofs.Looked.{lacks, taken}
-use Rattle.px_server.specs.Kept.{AreGroups, AreShown, HasFailed, HasParts, IsKept, IsTold, has_told}
+use Rattle.px_server.specs.Kept.{IsKept}
+use Rattle.px_server.specs.Others.{Beginning}
 use Rattle.px_server.specs.inner.Making.{IsUnmade}
 use Rattle.px_server.proofs.Found.{closed_by}
+use Rattle.px_server.proofs.Reserved.{roomy}
 use Rattle.px_server.proofs.Seen.{one_more, stays}
 
 module _ (sound : Type 0) (k : Known) (legal : IsLegal k.base k.seen) (closed : Option ℕ) (closing : closing_call k.seen ≡ closed) where
@@ -100,15 +101,7 @@ module _ (sound : Type 0) (k : Known) (legal : IsLegal k.base k.seen) (closed : 
     did_drop t m number stamp at is = record { adds = one_more k es calls (Dropped t None) legal is then; made = (number, stamp); at = at }
 
 -- nothing was done but that room was taken
-pub kept_again : {D : Type 0} (d : Ghosts D) (b : Base) (sound premise : Type 0) (disk : D) (catalog : Catalog) (standing : Standing) (groups : List Group) (trail : Recorded) (late : Option Entry) (closed : Option ℕ) → IsKept d b sound premise disk catalog standing groups trail late closed
-    → (groups' : List Group) (trail' : Recorded) → groups' ≡ groups → trail'.entries ≡ trail.entries → trail.room ≤ trail'.room → IsKept d b sound premise disk catalog standing groups' trail' late closed
-kept_again d b sound premise disk catalog standing groups trail late closed k groups' trail' same entries room =
-    subst (λ (gs : List Group). IsKept d b sound premise disk catalog standing gs trail' late closed) (sym same)
-    (record {
-      told = subst (λ (ys : List Entry). IsTold b ys closed catalog.standing standing) (sym entries) k.told;
-      each = subst (λ (ys : List Entry). AreGroups b ys closed standing.tables groups) (sym entries) k.each;
-      shown = λ given running. subst (λ (ys : List Entry). AreShown b ys standing.indexes groups) (sym entries) (k.shown given running);
-      server = subst (λ (ys : List Entry). IsServer d b premise (HasParts d b catalog groups) disk ys late closed) (sym entries) k.server;
-      room = (let before = k.room in omega (arith, before, room));
-      blamed = subst (λ (ys : List Entry). has_told ys ≡ true → HasFailed d disk) (sym entries) k.blamed;
-    })
+pub kept_again : {D : Type 0} (d : Ghosts D) (b : Base) (sound premise : Type 0) (began : Beginning) (disk : D) (catalog : Catalog) (standing : Standing) (groups : List Group) (trail : Recorded) (late : Option Entry) (closed : Option ℕ) → IsKept d b sound premise began disk catalog standing groups trail late closed
+    → (groups' : List Group) (trail' : Recorded) → groups' ≡ groups → trail'.entries ≡ trail.entries → trail.room ≤ trail'.room → IsKept d b sound premise began disk catalog standing groups' trail' late closed
+kept_again d b sound premise began disk catalog standing groups trail late closed k groups' trail' same entries room =
+    subst (λ (gs : List Group). IsKept d b sound premise began disk catalog standing gs trail' late closed) (sym same) (roomy d b sound premise began disk catalog standing groups trail late closed k trail' entries room)

@@ -28,6 +28,7 @@ use Rattle.px_catalog.specs.declared.fault.CatalogFault.TheVariants.{Full, Memor
 use Rattle.px_group.specs.declared.group.Group.{Group}
 use Rattle.px_standing.proofs.Looked.{stands_at}
 use Rattle.px_server.specs.Kept.{HasFailed, HasTallied, HasTrailRoom, IsKept}
+use Rattle.px_server.specs.Others.{Beginning}
 use Rattle.px_server.specs.inner.Making.{AreParts, MayMake, table_made}
 use Rattle.px_server.proofs.Blamed.{failed_rose}
 use Rattle.px_server.proofs.Lists.{all_at}
@@ -38,35 +39,35 @@ use Rattle.px_server.proofs.Uses.{is_quiet, uses_are}
 
 -- ---- a definition that wasn't written
 
-module _ {D : Type 0} (d : Ghosts D) (b : Base) (sound premise : Type 0) (disk : D) (catalog : Catalog) (standing : Standing) (groups : List Group) (trail : Recorded) (late : Option Entry) (closed : Option ℕ)
-    (k : IsKept d b sound premise disk catalog standing groups trail late closed) (disk' : D) (catalog' : Catalog) (u : Entry)
+module _ {D : Type 0} (d : Ghosts D) (b : Base) (sound premise : Type 0) (began : Beginning) (disk : D) (catalog : Catalog) (standing : Standing) (groups : List Group) (trail : Recorded) (late : Option Entry) (closed : Option ℕ)
+    (k : IsKept d b sound premise began disk catalog standing groups trail late closed) (disk' : D) (catalog' : Catalog) (u : Entry)
     (failed_kept : (shut : Entry) (call : ℕ) → shut.act ≡ Shut call → shut.calls ≡ d.calls disk' → HasFailed d disk' → (c : Catalog) (t : Recorded) → t.entries ≡ trail.entries ++ shut ∷ [] → HasTrailRoom (Some call) groups t
-    → IsKept d b sound premise disk' c standing groups t (Some u) (Some call))
+    → IsKept d b sound premise began disk' c standing groups t (Some u) (Some call))
     (groups' : List Group) (same : groups' ≡ groups) (mid : Recorded) (mid_same : mid.entries ≡ trail.entries) (mid_room : mid.room ≡ trail.room + 1) (trail' : Recorded) (late' : Option Entry) (closed' : Option ℕ) (seat : ℕ) where
-  untouched_kept : (disk' ≡ disk) × (catalog' ≡ catalog) → (trail'.entries ≡ mid.entries) × (late' ≡ late) × (closed' ≡ closed) → trail'.room + 1 ≡ mid.room → IsKept d b sound premise disk' catalog' standing groups' trail' late' closed'
+  untouched_kept : (disk' ≡ disk) × (catalog' ≡ catalog) → (trail'.entries ≡ mid.entries) × (late' ≡ late) × (closed' ≡ closed) → trail'.room + 1 ≡ mid.room → IsKept d b sound premise began disk' catalog' standing groups' trail' late' closed'
   untouched_kept is kept room =
-      subst (λ (x : D). IsKept d b sound premise x catalog' standing groups' trail' late' closed') (sym is.0)
-      (subst (λ (x : Catalog). IsKept d b sound premise disk x standing groups' trail' late' closed') (sym is.1)
-      (subst (λ (x : Option Entry). IsKept d b sound premise disk catalog standing groups' trail' x closed') (sym kept.1)
-      (subst (λ (x : Option ℕ). IsKept d b sound premise disk catalog standing groups' trail' late x) (sym kept.2)
-      (kept_again d b sound premise disk catalog standing groups trail late closed k groups' trail' same (kept.0 ∙ mid_same) (omega (arith, room, mid_room))))))
+      subst (λ (x : D). IsKept d b sound premise began x catalog' standing groups' trail' late' closed') (sym is.0)
+      (subst (λ (x : Catalog). IsKept d b sound premise began disk x standing groups' trail' late' closed') (sym is.1)
+      (subst (λ (x : Option Entry). IsKept d b sound premise began disk catalog standing groups' trail' x closed') (sym kept.1)
+      (subst (λ (x : Option ℕ). IsKept d b sound premise began disk catalog standing groups' trail' late x) (sym kept.2)
+      (kept_again d b sound premise began disk catalog standing groups trail late closed k groups' trail' same (kept.0 ∙ mid_same) (omega (arith, room, mid_room))))))
 
   shut_kept : HasFailed d disk' → (trail'.entries ≡ mid.entries ++ record { seat = seat; calls = d.calls disk'; act = Shut (d.calls disk') } ∷ []) × (late' ≡ Some u) × (closed' ≡ Some (d.calls disk')) → trail'.room + 1 ≡ mid.room
-      → IsKept d b sound premise disk' catalog' standing groups' trail' late' closed'
+      → IsKept d b sound premise began disk' catalog' standing groups' trail' late' closed'
   shut_kept failed is room = (let
       shut : Entry = record { seat = seat; calls = d.calls disk'; act = Shut (d.calls disk') }
       in let
       before = k.room
       in
-      subst (λ (x : List Group). IsKept d b sound premise disk' catalog' standing x trail' late' closed') (sym same)
-      (subst (λ (x : Option Entry). IsKept d b sound premise disk' catalog' standing groups trail' x closed') (sym is.1)
-      (subst (λ (x : Option ℕ). IsKept d b sound premise disk' catalog' standing groups trail' (Some u) x) (sym is.2)
+      subst (λ (x : List Group). IsKept d b sound premise began disk' catalog' standing x trail' late' closed') (sym same)
+      (subst (λ (x : Option Entry). IsKept d b sound premise began disk' catalog' standing groups trail' x closed') (sym is.1)
+      (subst (λ (x : Option ℕ). IsKept d b sound premise began disk' catalog' standing groups trail' (Some u) x) (sym is.2)
       (failed_kept shut (d.calls disk') refl refl failed catalog' trail' (is.0 ∙ ap (λ (es : List Entry). es ++ shut ∷ []) mid_same) (omega (arith, room, mid_room, before))))))
 
   pub unwritten_kept : (fault : CatalogFault) → ((fault ≡ Full) ⊎ (fault ≡ Memory) → (disk' ≡ disk) × (catalog' ≡ catalog)) → (fault ≡ WriteFault → Rose d disk disk')
       → (fault ≢ WriteFault → (trail'.entries ≡ mid.entries) × (late' ≡ late) × (closed' ≡ closed))
       → (fault ≡ WriteFault → (trail'.entries ≡ mid.entries ++ record { seat = seat; calls = d.calls disk'; act = Shut (d.calls disk') } ∷ []) × (late' ≡ Some u) × (closed' ≡ Some (d.calls disk')))
-      → trail'.room + 1 ≡ mid.room → IsKept d b sound premise disk' catalog' standing groups' trail' late' closed'
+      → trail'.room + 1 ≡ mid.room → IsKept d b sound premise began disk' catalog' standing groups' trail' late' closed'
   unwritten_kept Full untouched rose kept shut room = untouched_kept (untouched (inl refl)) (kept (λ is. absurd cc)) room
   unwritten_kept Memory untouched rose kept shut room = untouched_kept (untouched (inr refl)) (kept (λ is. absurd cc)) room
   unwritten_kept WriteFault untouched rose kept shut room = shut_kept (failed_rose d disk disk' (rose refl)) (shut refl) room
@@ -87,8 +88,8 @@ module _ (sound : Type 0) (k : Known) (legal : IsLegal k.base k.seen) (closed : 
 -- ---- a table is made
 
 module _ {D : Type 0} (d : Ghosts D) (tells_left : (x : D) (moment file : ℕ) (bytes : List ℕ) → d.left x moment file bytes → IsTrue d.tells)
-    (up_to_now : (x : D) (moment file : ℕ) (bytes : List ℕ) → d.left x moment file bytes → moment ≤ d.calls x) (b : Base) (sound premise : Type 0)
-    (disk : D) (catalog : Catalog) (standing : Standing) (groups : List Group) (trail : Recorded) (late : Option Entry) (closed : Option ℕ) (k : IsKept d b sound premise disk catalog standing groups trail late closed)
+    (up_to_now : (x : D) (moment file : ℕ) (bytes : List ℕ) → d.left x moment file bytes → moment ≤ d.calls x) (b : Base) (sound premise : Type 0) (began : Beginning)
+    (disk : D) (catalog : Catalog) (standing : Standing) (groups : List Group) (trail : Recorded) (late : Option Entry) (closed : Option ℕ) (k : IsKept d b sound premise began disk catalog standing groups trail late closed)
     (disk' : D) (catalog' : Catalog) (passes : Passes d disk disk' 4) (touches : HasCatalogue d catalog disk → TouchesOnly d disk disk' catalogue_files) (seat : ℕ)
     (mid : Recorded) (mid_same : mid.entries ≡ trail.entries) (mid_room : mid.room ≡ trail.room + 1) (groups' : List Group) (same : groups' ≡ groups) where
   module _ (what : NewTable) (new : IsNewTable what) (may : MayMake standing closed what) (item : Table) (group : Group) (now : Standing) (copy : NewTable) (parts : AreParts standing what item group now copy)
@@ -104,11 +105,11 @@ module _ {D : Type 0} (d : Ghosts D) (tells_left : (x : D) (moment file : ℕ) (
 
     pub making_kept : (stored : HasCatalogue d catalog disk → HasCatalogue d catalog' disk') → standing_of catalog' ≡ after (standing_of catalog) (TableIs item) → (then_ : Standing) → then_ ≡ now → (gs : List Group) → gs ≡ groups' ++ group ∷ []
         → (trail' : Recorded) (calls : ℕ) → calls ≡ d.calls disk' → trail'.entries ≡ mid.entries ++ record { seat = seat; calls = calls; act = MadeAct group.table.id copy } ∷ [] → trail'.room + 1 ≡ mid.room
-        → IsKept d b sound premise disk' catalog' then_ gs trail' late closed
+        → IsKept d b sound premise began disk' catalog' then_ gs trail' late closed
     making_kept stored defined then_ is_now gs gs_are trail' calls at entries room =
-        subst (λ (s : Standing). IsKept d b sound premise disk' catalog' s gs trail' late closed) (sym (is_now ∙ parts.standing_is))
-        (subst (λ (xs : List Group). IsKept d b sound premise disk' catalog' (after standing (TableIs (table_made standing what))) xs trail' late closed) (sym (gs_are ∙ ap (λ (xs : List Group). xs ++ group ∷ []) same))
-        (table_kept d tells_left up_to_now b sound premise disk catalog standing groups trail late closed k may.running disk' passes touches seat what new may.free leaves_made group parts.group_is
+        subst (λ (s : Standing). IsKept d b sound premise began disk' catalog' s gs trail' late closed) (sym (is_now ∙ parts.standing_is))
+        (subst (λ (xs : List Group). IsKept d b sound premise began disk' catalog' (after standing (TableIs (table_made standing what))) xs trail' late closed) (sym (gs_are ∙ ap (λ (xs : List Group). xs ++ group ∷ []) same))
+        (table_kept d tells_left up_to_now b sound premise began disk catalog standing groups trail late closed k may.running disk' passes touches seat what new may.free leaves_made group parts.group_is
         catalog' stored (defined ∙ ap (λ (i : Table). after (standing_of catalog) (TableIs i)) parts.item_is) trail'
         (entries ∙ (ap (λ (es : List Entry). es ++ record { seat = seat; calls = calls; act = MadeAct group.table.id copy } ∷ []) mid_same
         ∙ (ap (λ (n : ℕ). trail.entries ++ record { seat = seat; calls = n; act = MadeAct group.table.id copy } ∷ []) at ∙ ap (λ (e : Entry). trail.entries ++ e ∷ []) entry_is)))
@@ -117,10 +118,10 @@ module _ {D : Type 0} (d : Ghosts D) (tells_left : (x : D) (moment file : ℕ) (
     pub making_failed : (trail' : Recorded) (late' : Option Entry) (closed' : Option ℕ) (fault : CatalogFault) → ((fault ≡ Full) ⊎ (fault ≡ Memory) → (disk' ≡ disk) × (catalog' ≡ catalog)) → (fault ≡ WriteFault → Rose d disk disk')
         → (fault ≢ WriteFault → (trail'.entries ≡ mid.entries) × (late' ≡ late) × (closed' ≡ closed))
         → (fault ≡ WriteFault → (trail'.entries ≡ mid.entries ++ record { seat = seat; calls = d.calls disk'; act = Shut (d.calls disk') } ∷ []) × (late' ≡ Some (record { seat = seat; calls = d.calls disk'; act = MadeAct group.table.id copy })) × (closed' ≡ Some (d.calls disk')))
-        → trail'.room + 1 ≡ mid.room → IsKept d b sound premise disk' catalog' standing groups' trail' late' closed'
+        → trail'.room + 1 ≡ mid.room → IsKept d b sound premise began disk' catalog' standing groups' trail' late' closed'
     making_failed trail' late' closed' fault untouched rose kept shut room =
-        unwritten_kept d b sound premise disk catalog standing groups trail late closed k disk' catalog' entry
-        (table_failed d tells_left up_to_now b sound premise disk catalog standing groups trail late closed k may.running disk' passes touches seat what new may.free leaves_made)
+        unwritten_kept d b sound premise began disk catalog standing groups trail late closed k disk' catalog' entry
+        (table_failed d tells_left up_to_now b sound premise began disk catalog standing groups trail late closed k may.running disk' passes touches seat what new may.free leaves_made)
         groups' same mid mid_same mid_room trail' late' closed' seat fault untouched rose kept (λ is. (let s = shut is in (s.0, s.1 ∙ ap (λ (e : Entry). Some e) entry_is, s.2))) room
 
   -- ---- a table is dropped
@@ -143,11 +144,11 @@ module _ {D : Type 0} (d : Ghosts D) (tells_left : (x : D) (moment file : ℕ) (
 
       pub dropping_kept : (stored : HasCatalogue d catalog disk → HasCatalogue d catalog' disk') → standing_of catalog' ≡ after (standing_of catalog) (TableGone t) → (then_ : Standing) → then_ ≡ after standing (TableGone t) → (gs : List Group) → gs ≡ filter (keeps t.0) groups'
           → (trail' : Recorded) (calls : ℕ) → calls ≡ d.calls disk' → trail'.entries ≡ mid.entries ++ record { seat = seat; calls = calls; act = Dropped t None } ∷ [] → trail'.room + 1 ≡ mid.room
-          → IsKept d b sound premise disk' catalog' then_ gs trail' late closed
+          → IsKept d b sound premise began disk' catalog' then_ gs trail' late closed
       dropping_kept stored defined then_ is_now gs gs_are trail' calls at entries room =
-          subst (λ (s : Standing). IsKept d b sound premise disk' catalog' s gs trail' late closed) (sym is_now)
-          (subst (λ (xs : List Group). IsKept d b sound premise disk' catalog' (after standing (TableGone t)) xs trail' late closed) (sym (gs_are ∙ ap (λ (xs : List Group). filter (keeps t.0) xs) same))
-          (gone_kept d tells_left up_to_now b sound premise disk catalog standing groups trail late closed k running disk' passes touches seat t stands quiet leaves
+          subst (λ (s : Standing). IsKept d b sound premise began disk' catalog' s gs trail' late closed) (sym is_now)
+          (subst (λ (xs : List Group). IsKept d b sound premise began disk' catalog' (after standing (TableGone t)) xs trail' late closed) (sym (gs_are ∙ ap (λ (xs : List Group). filter (keeps t.0) xs) same))
+          (gone_kept d tells_left up_to_now b sound premise began disk catalog standing groups trail late closed k running disk' passes touches seat t stands quiet leaves
           catalog' stored defined trail'
           (entries ∙ (ap (λ (es : List Entry). es ++ record { seat = seat; calls = calls; act = Dropped t None } ∷ []) mid_same ∙ ap (λ (n : ℕ). trail.entries ++ record { seat = seat; calls = n; act = Dropped t None } ∷ []) at))
           (let before = k.room in let n = owed_less t.0 groups in omega (arith, before, n, room, mid_room))))
@@ -155,16 +156,16 @@ module _ {D : Type 0} (d : Ghosts D) (tells_left : (x : D) (moment file : ℕ) (
       pub dropping_failed : (trail' : Recorded) (late' : Option Entry) (closed' : Option ℕ) (fault : CatalogFault) → ((fault ≡ Full) ⊎ (fault ≡ Memory) → (disk' ≡ disk) × (catalog' ≡ catalog)) → (fault ≡ WriteFault → Rose d disk disk')
           → (fault ≢ WriteFault → (trail'.entries ≡ mid.entries) × (late' ≡ late) × (closed' ≡ closed))
           → (fault ≡ WriteFault → (trail'.entries ≡ mid.entries ++ record { seat = seat; calls = d.calls disk'; act = Shut (d.calls disk') } ∷ []) × (late' ≡ Some gone) × (closed' ≡ Some (d.calls disk')))
-          → trail'.room + 1 ≡ mid.room → IsKept d b sound premise disk' catalog' standing groups' trail' late' closed'
+          → trail'.room + 1 ≡ mid.room → IsKept d b sound premise began disk' catalog' standing groups' trail' late' closed'
       dropping_failed trail' late' closed' fault untouched rose kept shut room =
-          unwritten_kept d b sound premise disk catalog standing groups trail late closed k disk' catalog' gone
-          (gone_failed d tells_left up_to_now b sound premise disk catalog standing groups trail late closed k running disk' passes touches seat t stands quiet leaves)
+          unwritten_kept d b sound premise began disk catalog standing groups trail late closed k disk' catalog' gone
+          (gone_failed d tells_left up_to_now b sound premise began disk catalog standing groups trail late closed k running disk' passes touches seat t stands quiet leaves)
           groups' same mid mid_same mid_room trail' late' closed' seat fault untouched rose kept shut room
 
 -- in use are exactly as many points and batches as the group has
-pub table_uses : {D : Type 0} (d : Ghosts D) (b : Base) (sound premise : Type 0) (disk : D) (catalog : Catalog) (standing : Standing) (groups : List Group) (trail : Recorded) (late : Option Entry) (closed : Option ℕ) → IsKept d b sound premise disk catalog standing groups trail late closed → closed ≡ None
+pub table_uses : {D : Type 0} (d : Ghosts D) (b : Base) (sound premise : Type 0) (began : Beginning) (disk : D) (catalog : Catalog) (standing : Standing) (groups : List Group) (trail : Recorded) (late : Option Entry) (closed : Option ℕ) → IsKept d b sound premise began disk catalog standing groups trail late closed → closed ≡ None
     → (t : TableId) (place : ℕ) → place < length standing.tables → ((none : Table) → (get_or standing.tables place none).id ≡ t) → (g : Group) → get_or groups place g ≡ g → uses_of t.0 trail.entries ≡ length g.points.items + length g.batches.items
-table_uses d b sound premise disk catalog standing groups trail late closed k running t place inside number g is = (let
+table_uses d b sound premise began disk catalog standing groups trail late closed k running t place inside number g is = (let
     there = place_in groups standing.tables k.each.stand place inside
     in let
     own = all_at (HasTallied b trail.entries) groups place g there is (k.each.tallied running)

@@ -60,6 +60,7 @@ use Rattle.px_standing.proofs.Defined.{table_gone as agrees_gone, table_made as 
 use Rattle.px_standing.proofs.Looked.{free as is_free, tables_below}
 use Rattle.px_server.specs.inner.Making.{table_made}
 use Rattle.px_server.specs.Kept.{HasFailed, HasShown, HasTrailRoom, IsKept, IsOnDisk, forms_in, number_in, owed, owed_by, table_in_group}
+use Rattle.px_server.specs.Others.{Beginning}
 use Rattle.px_server.proofs.Catalogued.{define_failed, define_kept}
 use Rattle.px_server.proofs.Drawn.{regions_in}
 use Rattle.px_server.proofs.Lists.{all_weaker}
@@ -157,8 +158,8 @@ new_told f es v k low last none = record {
 -- ---- a table is made
 
 module _ {D : Type 0} (d : Ghosts D) (tells_left : (x : D) (moment file : ℕ) (bytes : List ℕ) → d.left x moment file bytes → IsTrue d.tells)
-    (up_to_now : (x : D) (moment file : ℕ) (bytes : List ℕ) → d.left x moment file bytes → moment ≤ d.calls x) (b : Base) (sound premise : Type 0)
-    (disk : D) (catalog : Catalog) (standing : Standing) (groups : List Group) (trail : Recorded) (late : Option Entry) (closed : Option ℕ) (k : IsKept d b sound premise disk catalog standing groups trail late closed) (running : closed ≡ None) where
+    (up_to_now : (x : D) (moment file : ℕ) (bytes : List ℕ) → d.left x moment file bytes → moment ≤ d.calls x) (b : Base) (sound premise : Type 0) (began : Beginning)
+    (disk : D) (catalog : Catalog) (standing : Standing) (groups : List Group) (trail : Recorded) (late : Option Entry) (closed : Option ℕ) (k : IsKept d b sound premise began disk catalog standing groups trail late closed) (running : closed ≡ None) where
   abbrev es : List Entry
   es = trail.entries
 
@@ -211,8 +212,8 @@ module _ {D : Type 0} (d : Ghosts D) (tells_left : (x : D) (moment file : ℕ) (
           (explains_made b k.told.base es f unmade v told e made_may t what refl)
 
       pub table_failed : (shut : Entry) (call : ℕ) → shut.act ≡ Shut call → shut.calls ≡ d.calls disk' → HasFailed d disk' → (catalog' : Catalog) (trail' : Recorded) → trail'.entries ≡ es ++ shut ∷ [] → HasTrailRoom (Some call) groups trail'
-          → IsKept d b sound premise disk' catalog' standing groups trail' (Some e) (Some call)
-      table_failed = define_failed d tells_left up_to_now b sound premise disk catalog standing groups trail late closed k running disk' (TableIs made) passes touches leaves regions t e refl made_may refl moved explains
+          → IsKept d b sound premise began disk' catalog' standing groups trail' (Some e) (Some call)
+      table_failed = define_failed d tells_left up_to_now b sound premise began disk catalog standing groups trail late closed k running disk' (TableIs made) passes touches leaves regions t e refl made_may refl moved explains
 
       -- the group
       away : AllByRecursion (λ h. number_in h ≢ t.0) groups
@@ -277,9 +278,9 @@ module _ {D : Type 0} (d : Ghosts D) (tells_left : (x : D) (moment file : ℕ) (
         standing_then = after standing (TableIs made)
 
         pub table_kept : (catalog' : Catalog) → (HasCatalogue d catalog disk → HasCatalogue d catalog' disk') → standing_of catalog' ≡ after (standing_of catalog) (TableIs made) → (trail' : Recorded) → trail'.entries ≡ es ++ e ∷ [] → HasTrailRoom closed (groups ++ g ∷ []) trail'
-            → IsKept d b sound premise disk' catalog' (after standing (TableIs made)) (groups ++ g ∷ []) trail' late closed
+            → IsKept d b sound premise began disk' catalog' (after standing (TableIs made)) (groups ++ g ∷ []) trail' late closed
         table_kept catalog' stored defined trail' entries room =
-            define_kept d tells_left up_to_now b sound premise disk catalog standing groups trail late closed k running disk' (TableIs made) passes touches leaves regions t e refl made_may refl moved explains
+            define_kept d tells_left up_to_now b sound premise began disk catalog standing groups trail late closed k running disk' (TableIs made) passes touches leaves regions t e refl made_may refl moved explains
             catalog' stored defined (after standing (TableIs made))
             (subst (λ (c : Catalogue). Agrees (after standing (TableIs made)) c) (sym (catalogue-snoc b es e)) (agrees_made standing (catalogue_of b es) k.told.agrees (catalogue-stands b es k.told.base.catalogue k.told.legal) t what refl))
             (ap opened_standing defined ∙ same_after (standing_of catalog) standing (TableIs made) (k.told.same running))
@@ -306,13 +307,13 @@ module _ {D : Type 0} (d : Ghosts D) (tells_left : (x : D) (moment file : ℕ) (
       explains_less f v is unmade shown on told = explains_gone b es f v told gone gone_may t refl
 
       pub gone_failed : (shut : Entry) (call : ℕ) → shut.act ≡ Shut call → shut.calls ≡ d.calls disk' → HasFailed d disk' → (catalog' : Catalog) (trail' : Recorded) → trail'.entries ≡ es ++ shut ∷ [] → HasTrailRoom (Some call) groups trail'
-          → IsKept d b sound premise disk' catalog' standing groups trail' (Some gone) (Some call)
-      gone_failed = define_failed d tells_left up_to_now b sound premise disk catalog standing groups trail late closed k running disk' (TableGone t) passes touches leaves no_region t gone refl gone_may refl (λ v. v) explains_less
+          → IsKept d b sound premise began disk' catalog' standing groups trail' (Some gone) (Some call)
+      gone_failed = define_failed d tells_left up_to_now b sound premise began disk catalog standing groups trail late closed k running disk' (TableGone t) passes touches leaves no_region t gone refl gone_may refl (λ v. v) explains_less
 
       pub gone_kept : (catalog' : Catalog) → (HasCatalogue d catalog disk → HasCatalogue d catalog' disk') → standing_of catalog' ≡ after (standing_of catalog) (TableGone t) → (trail' : Recorded) → trail'.entries ≡ es ++ gone ∷ [] → HasTrailRoom closed (filter (keeps t.0) groups) trail'
-          → IsKept d b sound premise disk' catalog' (after standing (TableGone t)) (filter (keeps t.0) groups) trail' late closed
+          → IsKept d b sound premise began disk' catalog' (after standing (TableGone t)) (filter (keeps t.0) groups) trail' late closed
       gone_kept catalog' stored defined trail' entries room =
-          define_kept d tells_left up_to_now b sound premise disk catalog standing groups trail late closed k running disk' (TableGone t) passes touches leaves no_region t gone refl gone_may refl (λ v. v) explains_less
+          define_kept d tells_left up_to_now b sound premise began disk catalog standing groups trail late closed k running disk' (TableGone t) passes touches leaves no_region t gone refl gone_may refl (λ v. v) explains_less
           catalog' stored defined (after standing (TableGone t))
           (subst (λ (c : Catalogue). Agrees (after standing (TableGone t)) c) (sym (catalogue-snoc b es gone)) (agrees_gone standing (catalogue_of b es) k.told.agrees t))
           (ap opened_standing defined ∙ same_after (standing_of catalog) standing (TableGone t) (k.told.same running))

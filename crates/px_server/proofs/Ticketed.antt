@@ -19,6 +19,7 @@ use Rattle.px_group.specs.declared.group.Group.{Group}
 use Rattle.px_group.specs.declared.group.Phase.{Phase}
 use Rattle.px_batching.specs.Steps.{IsAt}
 use Rattle.px_server.specs.Kept.{HasTallied, IsKept}
+use Rattle.px_server.specs.Others.{Beginning}
 use Rattle.px_server.specs.Shown.{Shown, known_by}
 use Rattle.px_server.proofs.Lists.{all_at}
 use Rattle.px_server.proofs.Released.{group_of, place_in}
@@ -34,8 +35,8 @@ same_read (z ∷ xs) (suc i) x y l a c = same_read xs i x y (omega (arith, l)) a
 pub ticket_in : (b : Base) (damaged : ℕ → ℕ → Bool) (t : Ticket) (phase : BatchPhase) (v w : Shown) → v ≡ w → TicketIn (known_by b damaged w) t phase → IsIn v.entries v.seat t.table.0 t.stamp phase
 ticket_in b damaged t phase v w same mine = subst (λ (u : Shown). TicketIn (known_by b damaged u) t phase) (sym same) mine
 
-module _ {D : Type 0} (d : Ghosts D) (b : Base) (sound premise : Type 0) (disk : D) (catalog : Catalog) (standing : Standing) (groups : List Group) (trail : Recorded) (late : Option Entry) (closed : Option ℕ)
-    (k : IsKept d b sound premise disk catalog standing groups trail late closed) (t : Ticket) (seat : ℕ) (p : Phase) (mine : IsIn trail.entries seat t.table.0 t.stamp (as_phase p)) (open_ : mine.batch.ended ≡ false) where
+module _ {D : Type 0} (d : Ghosts D) (b : Base) (sound premise : Type 0) (began : Beginning) (disk : D) (catalog : Catalog) (standing : Standing) (groups : List Group) (trail : Recorded) (late : Option Entry) (closed : Option ℕ)
+    (k : IsKept d b sound premise began disk catalog standing groups trail late closed) (t : Ticket) (seat : ℕ) (p : Phase) (mine : IsIn trail.entries seat t.table.0 t.stamp (as_phase p)) (open_ : mine.batch.ended ≡ false) where
   -- its table stands
   pub stands_somewhere : AllByRecursion (λ (x : Table). x.id.0 ≢ t.table.0) standing.tables → ⊥
   stands_somewhere none = none_running b trail.entries k.told.legal t.table.0 t.stamp mine.batch mine.is open_ (lacks b trail.entries standing k.told.agrees t.table.0 none)

@@ -20,44 +20,45 @@ use Rattle.px_catalog.specs.declared.fault.CatalogFault.TheVariants.{Full, Memor
 use Rattle.px_group.specs.declared.group.Group.{Group}
 use Rattle.px_defined.specs.Defined.{IsSame}
 use Rattle.px_server.specs.Kept.{HasFailed, HasTrailRoom, IsKept}
+use Rattle.px_server.specs.Others.{Beginning}
 use Rattle.px_server.proofs.Blamed.{failed_rose}
 use Rattle.px_server.proofs.Looked.{looked_kept}
 use Rattle.px_server.proofs.Reserved.{roomy, same_looked}
 use Rattle.px_server.proofs.Seen.{one_more, stays}
 
-module _ {D : Type 0} (d : Ghosts D) (b : Base) (sound premise : Type 0) (disk : D) (catalog : Catalog) (standing : Standing) (groups : List Group) (trail : Recorded) (late : Option Entry) (closed : Option ℕ) (k : IsKept d b sound premise disk catalog standing groups trail late closed) where
+module _ {D : Type 0} (d : Ghosts D) (b : Base) (sound premise : Type 0) (began : Beginning) (disk : D) (catalog : Catalog) (standing : Standing) (groups : List Group) (trail : Recorded) (late : Option Entry) (closed : Option ℕ) (k : IsKept d b sound premise began disk catalog standing groups trail late closed) where
   -- room is taken in a group and in the trail
-  pub reserved : (place : ℕ) (g g' : Group) → place < length groups → get_or groups place g ≡ g → IsSame g g' → (trail' : Recorded) → trail'.entries ≡ trail.entries → trail.room ≤ trail'.room → IsKept d b sound premise disk catalog standing (slice_set groups place g') trail' late closed
+  pub reserved : (place : ℕ) (g g' : Group) → place < length groups → get_or groups place g ≡ g → IsSame g g' → (trail' : Recorded) → trail'.entries ≡ trail.entries → trail.room ≤ trail'.room → IsKept d b sound premise began disk catalog standing (slice_set groups place g') trail' late closed
   reserved place g g' l g_is same trail' entries room =
-      roomy d b sound premise disk catalog standing (slice_set groups place g') trail late closed (looked_kept d b sound premise disk catalog standing groups trail late closed k place g g' l g_is (same_looked g g' same)) trail' entries room
+      roomy d b sound premise began disk catalog standing (slice_set groups place g') trail late closed (looked_kept d b sound premise began disk catalog standing groups trail late closed k place g g' l g_is (same_looked g g' same)) trail' entries room
 
   module _ (running : closed ≡ None) (disk' : D) (catalog' : Catalog) (u : Entry)
       (failed_kept : (shut : Entry) (call : ℕ) → shut.act ≡ Shut call → shut.calls ≡ d.calls disk' → HasFailed d disk' → (c : Catalog) (t : Recorded) → t.entries ≡ trail.entries ++ shut ∷ [] → HasTrailRoom (Some call) groups t
-      → IsKept d b sound premise disk' c standing groups t (Some u) (Some call))
+      → IsKept d b sound premise began disk' c standing groups t (Some u) (Some call))
       (trail' : Recorded) (late' : Option Entry) (closed' : Option ℕ) (seat : ℕ) (room : trail.room ≤ trail'.room) where
-    untouched_kept : (disk' ≡ disk) × (catalog' ≡ catalog) → (trail'.entries ≡ trail.entries) × (late' ≡ late) × (closed' ≡ closed) → IsKept d b sound premise disk' catalog' standing groups trail' late' closed'
+    untouched_kept : (disk' ≡ disk) × (catalog' ≡ catalog) → (trail'.entries ≡ trail.entries) × (late' ≡ late) × (closed' ≡ closed) → IsKept d b sound premise began disk' catalog' standing groups trail' late' closed'
     untouched_kept is kept =
-        subst (λ (x : D). IsKept d b sound premise x catalog' standing groups trail' late' closed') (sym is.0)
-        (subst (λ (x : Catalog). IsKept d b sound premise disk x standing groups trail' late' closed') (sym is.1)
-        (subst (λ (x : Option Entry). IsKept d b sound premise disk catalog standing groups trail' x closed') (sym kept.1)
-        (subst (λ (x : Option ℕ). IsKept d b sound premise disk catalog standing groups trail' late x) (sym kept.2)
-        (roomy d b sound premise disk catalog standing groups trail late closed k trail' kept.0 room))))
+        subst (λ (x : D). IsKept d b sound premise began x catalog' standing groups trail' late' closed') (sym is.0)
+        (subst (λ (x : Catalog). IsKept d b sound premise began disk x standing groups trail' late' closed') (sym is.1)
+        (subst (λ (x : Option Entry). IsKept d b sound premise began disk catalog standing groups trail' x closed') (sym kept.1)
+        (subst (λ (x : Option ℕ). IsKept d b sound premise began disk catalog standing groups trail' late x) (sym kept.2)
+        (roomy d b sound premise began disk catalog standing groups trail late closed k trail' kept.0 room))))
 
     shut_kept : HasFailed d disk' → (trail'.entries ≡ trail.entries ++ record { seat = seat; calls = d.calls disk'; act = Shut (d.calls disk') } ∷ []) × (late' ≡ Some u) × (closed' ≡ Some (d.calls disk'))
-        → IsKept d b sound premise disk' catalog' standing groups trail' late' closed'
+        → IsKept d b sound premise began disk' catalog' standing groups trail' late' closed'
     shut_kept failed is = (let
         shut : Entry = record { seat = seat; calls = d.calls disk'; act = Shut (d.calls disk') }
         in let
         before = subst (λ (x : Option ℕ). HasTrailRoom x groups trail) running k.room
         in
-        subst (λ (x : Option Entry). IsKept d b sound premise disk' catalog' standing groups trail' x closed') (sym is.1)
-        (subst (λ (x : Option ℕ). IsKept d b sound premise disk' catalog' standing groups trail' (Some u) x) (sym is.2)
+        subst (λ (x : Option Entry). IsKept d b sound premise began disk' catalog' standing groups trail' x closed') (sym is.1)
+        (subst (λ (x : Option ℕ). IsKept d b sound premise began disk' catalog' standing groups trail' (Some u) x) (sym is.2)
         (failed_kept shut (d.calls disk') refl refl failed catalog' trail' is.0 (omega (arith, room, before)))))
 
     pub unwritten_kept : (fault : CatalogFault) → ((fault ≡ Full) ⊎ (fault ≡ Memory) → (disk' ≡ disk) × (catalog' ≡ catalog)) → (fault ≡ WriteFault → Rose d disk disk')
         → (fault ≢ WriteFault → (trail'.entries ≡ trail.entries) × (late' ≡ late) × (closed' ≡ closed))
         → (fault ≡ WriteFault → (trail'.entries ≡ trail.entries ++ record { seat = seat; calls = d.calls disk'; act = Shut (d.calls disk') } ∷ []) × (late' ≡ Some u) × (closed' ≡ Some (d.calls disk')))
-        → IsKept d b sound premise disk' catalog' standing groups trail' late' closed'
+        → IsKept d b sound premise began disk' catalog' standing groups trail' late' closed'
     unwritten_kept Full untouched rose kept shut = untouched_kept (untouched (inl refl)) (kept (λ is. absurd cc))
     unwritten_kept Memory untouched rose kept shut = untouched_kept (untouched (inr refl)) (kept (λ is. absurd cc))
     unwritten_kept WriteFault untouched rose kept shut = shut_kept (failed_rose d disk disk' (rose refl)) (shut refl)

@@ -43,6 +43,7 @@ use Rattle.px_recovery.proofs.Regions.{moved_at, moves_at}
 use Rattle.px_recovery.proofs.Server.{newest_early}
 use Rattle.px_standing.specs.Agrees.{Agrees}
 use Rattle.px_server.specs.Kept.{AreGroups, AreShown, HasBegun, HasFailed, HasParts, HasPoints, HasShown, HasTallied, HasTrailRoom, IsKept, IsOnDisk, IsTold, has_told, number_in, owed, spare, table_in_group, tells_fault}
+use Rattle.px_server.specs.Others.{Beginning, IsRegion, OthersStay}
 use Rattle.px_server.proofs.Beside.{once_then, points_then, right_then, shown_then, tallied_then}
 use Rattle.px_server.proofs.Blamed.{blamed_on, blamed_quiet, failed_rose}
 use Rattle.px_server.proofs.Changed.{changed_server, lasting_server, late_entry, shut_server}
@@ -51,6 +52,7 @@ use Rattle.px_server.proofs.Framed.{catalogue_framed, group_framed}
 use Rattle.px_server.proofs.Lists.{all_at, all_both, all_set, all_weaker, map_set}
 use Rattle.px_server.proofs.Numbers.{LacksNumber}
 use Rattle.px_server.proofs.OpenBatches.{all_begun, begun_elsewhere, begun_same, stamp_in}
+use Rattle.px_server.proofs.Others.{others_more, others_on, own_file}
 use Rattle.px_server.proofs.Pointed.{distinct_groups}
 
 -- the group shows other data
@@ -75,13 +77,13 @@ unfolding catalogue_step
 still_by act call is c = ap (λ (a : Act). catalogue_step c a) is
 
 module _ {D : Type 0} (d : Ghosts D) (tells_left : (x : D) (moment file : ℕ) (bytes : List ℕ) → d.left x moment file bytes → IsTrue d.tells)
-    (up_to_now : (x : D) (moment file : ℕ) (bytes : List ℕ) → d.left x moment file bytes → moment ≤ d.calls x) (b : Base) (sound premise : Type 0)
-    (disk : D) (catalog : Catalog) (standing : Standing) (groups : List Group) (trail : Recorded) (late : Option Entry) (closed : Option ℕ) (k : IsKept d b sound premise disk catalog standing groups trail late closed)
+    (up_to_now : (x : D) (moment file : ℕ) (bytes : List ℕ) → d.left x moment file bytes → moment ≤ d.calls x) (b : Base) (sound premise : Type 0) (began : Beginning)
+    (disk : D) (catalog : Catalog) (standing : Standing) (groups : List Group) (trail : Recorded) (late : Option Entry) (closed : Option ℕ) (k : IsKept d b sound premise began disk catalog standing groups trail late closed)
     (running : closed ≡ None) (place : ℕ) (g g' : Group) (l : place < length groups) (is : get_or groups place g ≡ g) (table : g'.table ≡ g.table) (points : g'.points ≡ g.points)
     (disk' : D) (old new : Region) (cells : List CellData) (writes : WritesTo d old new disk disk' cells)
     (lacks : (s : Standing) → TellsCatalogue s (catalogue_of b trail.entries) → AreNumbered s → (h : Group) → IsRightGroup h → AreStanding b trail.entries h → number_in h ≢ number_in g → LacksNumber old.number h)
     (drawn : (s : Standing) → TellsCatalogue s (catalogue_of b trail.entries) → AreNumbered s → (1 ≤ old.number) × (old.number < s.next))
-    (holds : (f : FolderData) → IsOnDisk d disk f g → Holds d old disk (f.regions old.number)) where
+    (holds : (f : FolderData) → IsOnDisk d disk f g → Holds d old disk (f.regions old.number)) (stands : IsRegion (catalogue_of b trail.entries) old.number) where
   abbrev es : List Entry
   es = trail.entries
 
@@ -115,6 +117,11 @@ module _ {D : Type 0} (d : Ghosts D) (tells_left : (x : D) (moment file : ℕ) (
   past given tells moment image before left file = (let
       goes = k.server.goes_on running given tells
       in (writes.touches (goes.folder.regions old.number) (holds_now goes)).past moment file (image file) before (left file))
+
+  others_on_disk : premise → IsTrue d.tells → OthersStay d b began disk' es
+  others_on_disk given tells = (let
+      goes = k.server.goes_on running given tells
+      in others_on d b began es disk disk' (HasFile old.number) (own_file b es old.number stands) (writes.touches (goes.folder.regions old.number) (holds_now goes)) (k.others given tells))
 
   left_now : (es' : List Entry) (goes : GoesOn d b (HasParts d b catalog groups) disk es) → TellsThen b es' (changed goes.folder) goes.groups t → LeavesFolder d b disk disk' es' goes.folder
   left_now es' goes tells = (let
@@ -215,14 +222,15 @@ module _ {D : Type 0} (d : Ghosts D) (tells_left : (x : D) (moment file : ℕ) (
         })
 
     -- the rest, once the server's promise on stops is told
-    finish : IsServer d b premise (HasParts d b catalog then) disk' es' late closed → (has_told es' ≡ true → HasFailed d disk') → (trail' : Recorded) → trail'.entries ≡ es' → owed g' + trail.room ≤ owed g + trail'.room → IsKept d b sound premise disk' catalog standing then trail' late closed
-    finish server blamed trail' entries room = record {
+    finish : IsServer d b premise (HasParts d b catalog then) disk' es' late closed → (has_told es' ≡ true → HasFailed d disk') → (premise → IsTrue d.tells → OthersStay d b began disk' es') → (trail' : Recorded) → trail'.entries ≡ es' → owed g' + trail.room ≤ owed g + trail'.room → IsKept d b sound premise began disk' catalog standing then trail' late closed
+    finish server blamed others trail' entries room = record {
       told = subst (λ (ys : List Entry). IsTold b ys closed (standing_of catalog) standing) (sym entries) told_then;
       each = subst (λ (ys : List Entry). AreGroups b ys closed standing.tables then) (sym entries) groups_then;
       shown = λ given open_. subst (λ (ys : List Entry). AreShown b ys standing.indexes then) (sym entries) (shown_now given open_);
       server = subst (λ (ys : List Entry). IsServer d b premise (HasParts d b catalog then) disk' ys late closed) (sym entries) server;
       room = room_then closed trail' (omega (arith, room));
       blamed = subst (λ (ys : List Entry). has_told ys ≡ true → HasFailed d disk') (sym entries) blamed;
+      others = λ given tells. subst (λ (ys : List Entry). OthersStay d b began disk' ys) (sym entries) (others given tells);
     }
 
   module _ (right : IsRightGroup g') (next : List HeldBatch → List HeldBatch) (only : HasOnce g → HasOnce g') (written : HasWritten d old new disk disk' cells)
@@ -230,7 +238,7 @@ module _ {D : Type 0} (d : Ghosts D) (tells_left : (x : D) (moment file : ℕ) (
     -- and no entry is added
     pub handed : (tallied : (hs : List HeldBatch) → IsTallied b es g hs → IsTallied b es g' (next hs)) → (shows : (indexes : List Index) (v : ℕ → GroupData) → HasShown b es indexes v g → ShowsThen b es indexes v t g')
         → (moves : (f : FolderData) (v : ℕ → GroupData) → Explains b es f v → IsOnDisk d disk f g → HasShown b es f.standing.indexes v g → MovesThen b es f.standing.indexes (changed f) v t g') → owed g' ≤ owed g
-        → IsKept d b sound premise disk' catalog standing then trail late closed
+        → IsKept d b sound premise began disk' catalog standing then trail late closed
     handed tallied shows moves room = (let
         by = no_entry b es k.told.legal t
         in let
@@ -238,7 +246,7 @@ module _ {D : Type 0} (d : Ghosts D) (tells_left : (x : D) (moment file : ℕ) (
         in finish es by right next tallied only points' written on_disk shows moves
         (changed_server d tells_left up_to_now b premise (HasParts d b catalog groups) (HasParts d b catalog then) disk es late closed k.server running disk' writes.counts.later past
         (moves_then es by right next tallied only points' written on_disk shows moves))
-        (blamed_on d disk disk' es writes.counts.later writes.counts.faults_later k.blamed) trail refl (omega (arith, room)))
+        (blamed_on d disk disk' es writes.counts.later writes.counts.faults_later k.blamed) others_on_disk trail refl (omega (arith, room)))
 
     -- and an entry that lasts comes with them
     module _ (e : Entry) (lasts : lasting e ≡ true) (at : e.calls ≡ d.calls disk') (of : IsOfTable b es t e) (quiet : tells_fault e.act ≡ false) where
@@ -247,13 +255,14 @@ module _ {D : Type 0} (d : Ghosts D) (tells_left : (x : D) (moment file : ℕ) (
 
       pub handed_told : (tallied : (hs : List HeldBatch) → IsTallied b es g hs → IsTallied b es' g' (next hs)) → (points' : HasPoints es' g') → (shows : (indexes : List Index) (v : ℕ → GroupData) → HasShown b es indexes v g → ShowsThen b es' indexes v t g')
           → (moves : (f : FolderData) (v : ℕ → GroupData) → Explains b es f v → IsOnDisk d disk f g → HasShown b es f.standing.indexes v g → MovesThen b es' f.standing.indexes (changed f) v t g')
-          → (trail' : Recorded) → trail'.entries ≡ es' → owed g' + trail.room ≤ owed g + trail'.room → IsKept d b sound premise disk' catalog standing then trail' late closed
+          → (trail' : Recorded) → trail'.entries ≡ es' → owed g' + trail.room ≤ owed g + trail'.room → IsKept d b sound premise began disk' catalog standing then trail' late closed
       handed_told tallied points' shows moves trail' entries room = (let
           by = one_entry b es k.told.legal t e of
           in finish es' by right next tallied only points' written on_disk shows moves
           (lasting_server d tells_left up_to_now b premise (HasParts d b catalog groups) (HasParts d b catalog then) disk es late closed k.server running disk' writes.counts.later past writes.counts.at_most e lasts at of.may of.unshut
           (moves_then es' by right next tallied only points' written on_disk shows moves))
-          (blamed_quiet d disk' es e quiet (blamed_on d disk disk' es writes.counts.later writes.counts.faults_later k.blamed)) trail' entries room)
+          (blamed_quiet d disk' es e quiet (blamed_on d disk disk' es writes.counts.later writes.counts.faults_later k.blamed))
+          (λ given tells. others_more d b began es (e ∷ []) disk' (others_on_disk given tells)) trail' entries room)
 
   -- ---- a call failed
 
@@ -290,7 +299,7 @@ module _ {D : Type 0} (d : Ghosts D) (tells_left : (x : D) (moment file : ℕ) (
         in same ∙ (subst (λ (a : Act). points_step seat h.table.id.0 s (open_points seat h.table.id.0 s es) shut.seat a ≡ open_points seat h.table.id.0 s es) (sym shut-is)
         (apart_points h.table.id seat s (open_points seat h.table.id.0 s es) shut.seat (Shut call) tt) ∙ p seat s))
 
-    closed_then : (o : Option Entry) → IsServer d b premise (HasParts d b catalog then) disk' ended o (Some call) → IsKept d b sound premise disk' catalog standing then trail' o (Some call)
+    closed_then : (o : Option Entry) → IsServer d b premise (HasParts d b catalog then) disk' ended o (Some call) → IsKept d b sound premise began disk' catalog standing then trail' o (Some call)
     closed_then o server = (let
         mine : HasPoints es g' = λ seat s. (let was = own (HasPoints es) k.each.points in ap (λ (x : Table). open_points seat x.id.0 s es) table ∙ (was seat s ∙ ap (λ p. points_in seat s p.items) (sym points)))
         in let
@@ -319,17 +328,18 @@ module _ {D : Type 0} (d : Ghosts D) (tells_left : (x : D) (moment file : ℕ) (
           server = subst (λ (ys : List Entry). IsServer d b premise (HasParts d b catalog then) disk' ys o (Some call)) (sym entries) server;
           room = room_then (Some call) trail' (let s : spare closed ≡ 1 = ap spare running in omega (arith, room, s));
           blamed = λ told_of. failed_rose d disk disk' rose;
+          others = λ given tells. subst (λ (ys : List Entry). OthersStay d b began disk' ys) (sym entries) (others_more d b began es (shut ∷ []) disk' (others_on_disk given tells));
         })
 
     -- with nothing under way
-    pub handed_shut : ((f : FolderData) (v : ℕ → GroupData) → Explains b es f v → IsOnDisk d disk f g → HasShown b es f.standing.indexes v g → TellsThen b es (changed f) v t) → IsKept d b sound premise disk' catalog standing then trail' None (Some call)
+    pub handed_shut : ((f : FolderData) (v : ℕ → GroupData) → Explains b es f v → IsOnDisk d disk f g → HasShown b es f.standing.indexes v g → TellsThen b es (changed f) v t) → IsKept d b sound premise began disk' catalog standing then trail' None (Some call)
     handed_shut tells =
         closed_then None (shut_server d tells_left up_to_now b premise (HasParts d b catalog groups) (HasParts d b catalog then) disk es late closed k.server running disk' writes.counts.later past shut call shut-is shut_at
         (λ goes. left_now es goes (tells goes.folder goes.groups goes.explains (own (IsOnDisk d disk goes.folder) goes.has.regions) (own (HasShown b es goes.folder.standing.indexes goes.groups) goes.has.shown))))
 
     -- with an entry that is late
     pub handed_late : (u : Entry) → lasting u ≡ true → u.calls ≡ d.calls disk' → MayCome b es u
-        → ((f : FolderData) (v : ℕ → GroupData) → Explains b es f v → IsOnDisk d disk f g → HasShown b es f.standing.indexes v g → TellsThen b (es ++ u ∷ []) (changed f) v t) → IsKept d b sound premise disk' catalog standing then trail' (Some u) (Some call)
+        → ((f : FolderData) (v : ℕ → GroupData) → Explains b es f v → IsOnDisk d disk f g → HasShown b es f.standing.indexes v g → TellsThen b (es ++ u ∷ []) (changed f) v t) → IsKept d b sound premise began disk' catalog standing then trail' (Some u) (Some call)
     handed_late u lasts at may tells =
         closed_then (Some u) (late_entry d tells_left up_to_now b premise (HasParts d b catalog groups) (HasParts d b catalog then) disk es late closed k.server running disk' writes.counts.later past shut call shut-is shut_at writes.counts.at_most u lasts at may
         (λ goes. left_now (es ++ u ∷ []) goes (tells goes.folder goes.groups goes.explains (own (IsOnDisk d disk goes.folder) goes.has.regions) (own (HasShown b es goes.folder.standing.indexes goes.groups) goes.has.shown))))

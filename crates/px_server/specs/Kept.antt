@@ -1,5 +1,5 @@
 -- What is true of every server.
-use Rattle.std.specs.Prelude.{◌≡◌, ◌≤◌, ◌<◌, ◌+◌, ◌⊎◌, ◌==◌, ℕ, Bool, true, false, List, [], length, map, slice_get, sum_by, Option, None, Some}
+use Rattle.std.specs.Prelude.{◌≡◌, ◌≤◌, ◌<◌, ◌+◌, ◌⊎◌, ◌==◌, ℕ, Bool, IsTrue, true, false, List, [], length, map, slice_get, sum_by, Option, None, Some}
 use Rattle.std.specs.List.{AllByRecursion, list_any}
 use Rattle.px_outside.specs.Disk.{last_count}
 use Rattle.px_outside.specs.declared.disk.Disk.{Ghosts}
@@ -31,6 +31,7 @@ use Rattle.px_recovery.specs.Folder.{FolderData}
 use Rattle.px_recovery.specs.Kept.{IsServer}
 use Rattle.px_recovery.specs.Tables.{form_in, index_in}
 use Rattle.px_standing.specs.Agrees.{Agrees, opened_standing}
+use Rattle.px_server.specs.Others.{Beginning, OthersStay}
 
 abbrev pub table_in_group : Group → Table
 table_in_group g = g.table
@@ -146,10 +147,11 @@ HasFailed d disk = (0 < d.faults disk) ⊎ ((last_count ≤ d.calls disk) ⊎ (l
 
 -- 7. All of it
 
-pub record IsKept {D : Type 0} (d : Ghosts D) (b : Base) (sound premise : Type 0) (disk : D) (catalog : Catalog) (standing : Standing) (groups : List Group) (trail : Recorded) (late : Option Entry) (closed : Option ℕ) : Type 0 where
+pub record IsKept {D : Type 0} (d : Ghosts D) (b : Base) (sound premise : Type 0) (began : Beginning) (disk : D) (catalog : Catalog) (standing : Standing) (groups : List Group) (trail : Recorded) (late : Option Entry) (closed : Option ℕ) : Type 0 where
   pub told : IsTold b trail.entries closed (standing_of catalog) standing
   pub each : AreGroups b trail.entries closed standing.tables groups
   pub shown : sound → closed ≡ None → AreShown b trail.entries standing.indexes groups
   pub server : IsServer d b premise (HasParts d b catalog groups) disk trail.entries late closed
   pub room : HasTrailRoom closed groups trail
   pub blamed : has_told trail.entries ≡ true → HasFailed d disk
+  pub others : premise → IsTrue d.tells → OthersStay d b began disk trail.entries

@@ -5,6 +5,7 @@ ghost use Rattle.px_calls.specs.Causes.{Refuses, fix_cause};
 ghost use Rattle.px_server.specs.Shown.{known_by};
 ghost use Rattle.px_server.specs.Repairs.{Answers, Stays};
 
+use crate::shutting::shut;
 use crate::{Founded, Server};
 use px_calls::{Doubt, Fixing, StepFault};
 use px_outside::{Clock, CountsCalls};
@@ -103,11 +104,7 @@ impl<D: CountsCalls, C: Clock, B: Based + Founded> Server<D, C, B> {
             Err(_) => {
                 drop(key);
                 self.closed = Some(calls);
-                self.trail.push(Entry {
-                    seat: self.seat,
-                    calls,
-                    act: Act::Shut { call: calls },
-                });
+                shut(&mut self.trail, self.seat, calls);
                 Err(StepFault::WriteFault)
             }
         }

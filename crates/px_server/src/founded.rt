@@ -1,5 +1,6 @@
 // What a server's run begins with.
-ghost use Rattle.std.specs.Prelude.{ℕ};
+ghost use Rattle.std.specs.Prelude.{ℕ, []};
+ghost use Rattle.px_server.specs.Others.{Beginning};
 
 use std::marker::Brand;
 
@@ -12,6 +13,9 @@ pub trait Founded {
     /// No call was made, nothing is pending, and the first image is sound: of other disks nothing is promised.
     ghost premise: { Type 0 };
 
+    /// What the disk was when the run began.
+    ghost began: { Beginning };
+
     /// The numbers that the clock would tell from the beginning on.
     ghost times: { ℕ → ℕ };
 }
@@ -20,6 +24,8 @@ impl Founded for Brand {
     ghost sound = { Unit {0} };
 
     ghost premise = { Unit {0} };
+
+    ghost began = { record { moment = 0; left = λ file bytes. Unit {0}; seen = λ file. [] } };
 
     ghost times = { λ n. 0 };
 }

@@ -18,6 +18,7 @@ mod points;
 mod reading;
 mod readying;
 mod server;
+mod shutting;
 mod status;
 mod steps;
 mod taking;

@@ -7,6 +7,7 @@ ghost use Rattle.px_calls.specs.Causes.{Refuses, write_cause};
 ghost use Rattle.px_calls.specs.Requires.{TicketIn};
 ghost use Rattle.px_server.specs.Shown.{known_by};
 
+use crate::shutting::shut;
 use crate::{Founded, Server};
 use px_calls::{Marks, StepFault, Ticket, Verifies};
 use px_outside::{Clock, CountsCalls, Failed};
@@ -59,11 +60,7 @@ impl<D: CountsCalls, C: Clock, B: Based + Founded> Server<D, C, B> {
             },
             Err(Failed) => {
                 self.closed = Some(calls);
-                self.trail.push(Entry {
-                    seat: self.seat,
-                    calls,
-                    act: Act::Shut { call: calls },
-                });
+                shut(&mut self.trail, self.seat, calls);
                 Err(StepFault::WriteFault)
             }
         }
@@ -99,11 +96,7 @@ impl<D: CountsCalls, C: Clock, B: Based + Founded> Server<D, C, B> {
             },
             Err(Failed) => {
                 self.closed = Some(calls);
-                self.trail.push(Entry {
-                    seat: self.seat,
-                    calls,
-                    act: Act::Shut { call: calls },
-                });
+                shut(&mut self.trail, self.seat, calls);
                 Err(StepFault::WriteFault)
             }
         }

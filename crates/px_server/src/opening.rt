@@ -11,6 +11,7 @@ ghost use Rattle.px_folder.specs.Read.{IsReadOn};
 ghost use Rattle.px_standing.specs.Agrees.{opened_standing};
 ghost use Rattle.px_opening.specs.Opened.{IsOpenedRight, all_regions, folder_in};
 ghost use Rattle.px_opening.specs.declared.opened.Opened.{Opened as Folders};
+ghost use Rattle.px_server.specs.Others.{BeginsAt};
 ghost use Rattle.px_server.specs.Started.{IsOpenedOn, KeepsFolder, StartsSound};
 
 use crate::{Founded, Server};
@@ -100,6 +101,7 @@ impl<D: CountsCalls, C: Clock + Drop, B: Based + Founded> Server<D, C, B> {
         requires base { B.base ≡ base_of (folder_in opened) }
         requires sound { B.sound → IsSoundFolder (folder_in opened) }
         requires disk { B.premise → IsTrue D.tells → IsOpenedOn ⟦<D as Disk>⟧ disk opened }
+        requires began { BeginsAt ⟦<D as Disk>⟧ B.began disk }
         requires times { IsTrue C.tells → (n : ℕ) → C.times clock n ≡ B.times n }
         ensures ok { IfOk result (λ s. s ≡ record { seat = 1; entries = []; late = None; closed = None }) }
         ensures refused { IfErr result (λ back. back ≡ disk) }

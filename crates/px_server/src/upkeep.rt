@@ -11,13 +11,13 @@ ghost use Rattle.px_region.specs.declared.fault.JobFault.TheVariants.{Memory, Wr
 ghost use Rattle.px_server.specs.Shown.{known_by};
 ghost use Rattle.px_server.specs.Upkeep.{HasLogOf, HasLogs, SteppedTable, StepsOn, StepsTable};
 
+use crate::shutting::shut;
 use crate::{Founded, Server};
 use px_calls::{StepFault, Work};
 use px_group::{Group, IndexRegion};
 use px_outside::{Clock, CountsCalls, Disk};
 use px_region::{JobFault, JobStep, Region};
 use px_seat::Based;
-use px_trail::{Act, Entry};
 
 /// Makes a step of the region's log. What the region has stays.
 fn step_region<D: Disk>(region: &mut Region, disk: &mut D) -> Result<JobStep, JobFault>
@@ -96,11 +96,7 @@ impl<D: CountsCalls, C: Clock, B: Based + Founded> Server<D, C, B> {
             Err(JobFault::WriteFault) => {
                 let calls = self.disk.call_count();
                 self.closed = Some(calls);
-                self.trail.push(Entry {
-                    seat: self.seat,
-                    calls,
-                    act: Act::Shut { call: calls },
-                });
+                shut(&mut self.trail, self.seat, calls);
                 Err(StepFault::WriteFault)
             }
         }

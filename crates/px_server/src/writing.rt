@@ -7,6 +7,7 @@ ghost use Rattle.px_calls.specs.Requires.{TicketIn};
 ghost use Rattle.px_trail.specs.declared.entry.Act.TheVariants.{Wrote as WroteAct};
 ghost use Rattle.px_server.specs.Shown.{known_by};
 
+use crate::shutting::shut;
 use crate::{Founded, Server};
 use px_batching::{Unwritten, blocker};
 use px_calls::{StepFault, Ticket, Writes};
@@ -69,11 +70,7 @@ impl<D: CountsCalls, C: Clock, B: Based + Founded> Server<D, C, B> {
             Err(Unwritten { rows }) => {
                 keep(&mut self.late, wrote(self.seat, calls, t, rows));
                 self.closed = Some(calls);
-                self.trail.push(Entry {
-                    seat: self.seat,
-                    calls,
-                    act: Act::Shut { call: calls },
-                });
+                shut(&mut self.trail, self.seat, calls);
                 Err(StepFault::WriteFault)
             }
         }

@@ -9,9 +9,10 @@ use Rattle.px_trail.specs.Trail.{Base, acts_by}
 use Rattle.px_calls.specs.Known.{Known, Passes, Ran, outline}
 use Rattle.px_calls.proofs.Runs.{acts_by-append, outline-append}
 use Rattle.px_reply.specs.declared.transcript.Item.{Item}
+use Rattle.px_item.specs.declared.answered.After.{After}
 use Rattle.px_item.specs.declared.answered.Settings.{Settings}
 use Rattle.px_item.specs.Right.{IsRight}
-use Rattle.px_session.specs.Replies.{AreReplied, IsReplied, Standing, answer_of, own_since}
+use Rattle.px_session.specs.Replies.{AreReplied, IsReplied, Standing, answer_of, onward, own_since}
 
 -- 1. What a seat did since a place
 
@@ -58,7 +59,7 @@ own_passes k k' n h le = own_on k k' [] n h le ∙ append-nil (own_since k.seat 
 -- 3. Items
 
 module _ (sound : Type 0) where
-  replied_on : (k k' : Known) (acts : List Act) (n : ℕ) (st : Settings) (p : SeenPiece) (i : Item) (st' : Settings) → Onward k k' acts → IsReplied sound k n st p i st' → IsReplied sound k' n st p i st'
+  replied_on : (k k' : Known) (acts : List Act) (n : ℕ) (st : Settings) (p : SeenPiece) (i : Item) (st' : After) → Onward k k' acts → IsReplied sound k n st p i st' → IsReplied sound k' n st p i st'
   replied_on k k' acts n st p i st' o h =
       let last = i.evidence.last in
       let same : take last k.seen ≡ take last k'.seen = sym (take-append-le last k.seen o.more h.within) ∙ ap (take last) (sym o.seen) in
@@ -73,12 +74,12 @@ module _ (sound : Type 0) where
 
   pub told_on : (k k' : Known) (acts : List Act) (n : ℕ) (at : Standing) (is : List Item) (m : ℕ) (to : Standing) → Onward k k' acts → AreReplied sound k n at is m to → AreReplied sound k' n at is m to
   told_on k k' acts n at [] m to o h = h
-  told_on k k' acts n at (i ∷ is) m to o h = (h.0, h.1, h.2, h.3, replied_on k k' acts n at.settings h.0 i h.2 o h.4, told_on k k' acts i.evidence.last (record { settings = h.2; left = h.1 }) is m to o h.5)
+  told_on k k' acts n at (i ∷ is) m to o h = (h.0, h.1, h.2, h.3, replied_on k k' acts n at.settings h.0 i h.2 o h.4, told_on k k' acts i.evidence.last (onward h.2 h.0 h.1) is m to o h.5)
 
-  pub told_snoc : (k : Known) (n : ℕ) (at : Standing) (is : List Item) (m : ℕ) (to : Standing) (p : SeenPiece) (rest : List SeenPiece) (i : Item) (st : Settings) → AreReplied sound k n at is m to → to.left ≡ p ∷ rest → IsReplied sound k m to.settings p i st
-      → AreReplied sound k n at (is ++ i ∷ []) i.evidence.last (record { settings = st; left = rest })
+  pub told_snoc : (k : Known) (n : ℕ) (at : Standing) (is : List Item) (m : ℕ) (to : Standing) (p : SeenPiece) (rest : List SeenPiece) (i : Item) (st : After) → AreReplied sound k n at is m to → to.left ≡ p ∷ rest → IsReplied sound k m to.settings p i st
+      → AreReplied sound k n at (is ++ i ∷ []) i.evidence.last (onward st p rest)
   told_snoc k n at [] m to p rest i st h a r =
       let F : ℕ × Standing → Type 0 = λ q. (q.1.left ≡ p ∷ rest) × IsReplied sound k q.0 q.1.settings p i st in
       let q = subst F (λ x. (sym h.0 x, sym h.1 x)) (a, r) in
       (p, rest, st, q.0, q.1, (refl, refl))
-  told_snoc k n at (j ∷ is) m to p rest i st h a r = (h.0, h.1, h.2, h.3, h.4, told_snoc k j.evidence.last (record { settings = h.2; left = h.1 }) is m to p rest i st h.5 a r)
+  told_snoc k n at (j ∷ is) m to p rest i st h a r = (h.0, h.1, h.2, h.3, h.4, told_snoc k j.evidence.last (onward h.2 h.0 h.1) is m to p rest i st h.5 a r)

@@ -1,5 +1,5 @@
 -- A session on its way: what keeps it, and how it goes on.
-use Rattle.std.proofs.Common.{ℕ, zero, suc, ◌≡◌, ◌≢◌, ◌≤◌, ◌<◌, ◌+◌, Bool, true, false, ◌||◌, Option, None, Some, List, [], ◌∷◌, ◌++◌, length, take, drop, map, vec_capacity, Vec, refl, sym, ◌∙◌, ap, subst, arith, inl, inr}
+use Rattle.std.proofs.Common.{ℕ, zero, suc, ◌≡◌, ◌≢◌, ◌≤◌, ◌<◌, ◌+◌, Bool, true, false, ◌||◌, if◌then◌else◌, Option, None, Some, List, [], ◌∷◌, ◌++◌, length, take, drop, map, vec_capacity, Vec, refl, sym, ◌∙◌, ap, subst, arith, inl, inr}
 use Rattle.std.specs.Global.{Global}
 use Rattle.std.specs.Prelude.{slice_get}
 use Rattle.std.proofs.lemmas.List.Folds.{list_any-append}
@@ -17,6 +17,8 @@ use Rattle.px_calls.specs.Known.{Known, Passes, Ran, outline}
 use Rattle.px_calls.proofs.Runs.{ran-none, ran-then}
 use Rattle.px_reply.specs.declared.transcript.Item.{Item}
 use Rattle.px_reply.specs.declared.transcript.Transcript.{Transcript}
+use Rattle.px_item.specs.declared.answered.After.{After}
+use Rattle.px_item.specs.declared.answered.After.TheVariants as next_is
 use Rattle.px_item.specs.declared.answered.Answered.{Answered}
 use Rattle.px_item.specs.declared.answered.Asked.{Asked}
 use Rattle.px_item.specs.declared.answered.Settings.{Settings}
@@ -33,7 +35,7 @@ use Rattle.px_session.specs.declared.run.SessionRun.{SessionRun}
 use Rattle.px_session.specs.declared.state.Ending.{Ending}
 use Rattle.px_session.specs.declared.state.Ending.TheVariants.{Whole, Memory}
 use Rattle.px_session.specs.declared.state.SessionState.{SessionState}
-use Rattle.px_session.specs.Replies.{AreReplied, EndsAs, IsAnswered, IsReplied, Standing, at_first, has_fatal, is_fatal, own_since, place_from, state_after}
+use Rattle.px_session.specs.Replies.{AreReplied, EndsAs, IsAnswered, IsReplied, Standing, at_first, goes_on as goes_to_next, onward, settled, has_fatal, is_fatal, own_since, place_from, state_after}
 use Rattle.px_session.specs.Live.{EndsSoFar, HasRoom, IdleAtEnd, IsDoing, IsIdle, IsLive, IsPushed, IsSame, IsStarted, IsUnder, StartsFrom, StepsOn, UnderWay, fatal_ending, item_of, seen_of, settings_of, standing, with_doing}
 use Rattle.px_session.proofs.Fronts.{Onward, longer, of_passes, of_ran, own_at_end, own_on, own_passes, same_known, told_on, told_snoc}
 
@@ -47,6 +49,15 @@ drop_step (suc n) (y ∷ ys) x rest e = drop_step n ys x rest e
 
 drop_more : {A : Type 0} (n : ℕ) (xs : List A) (x : A) (rest : List A) → drop n xs ≡ x ∷ rest → drop (n + 1) xs ≡ rest
 drop_more n xs x rest e = let up : n + 1 ≡ suc n = omega arith in ap (λ (m : ℕ). drop m xs) up ∙ drop_step n xs x rest e
+
+-- what is left behind an item
+drop_onward : {A : Type 0} (n : ℕ) (xs : List A) (x : A) (rest : List A) (b : Bool) → drop n xs ≡ x ∷ rest → drop (if b then n + 1 else n) xs ≡ (if b then rest else x ∷ rest)
+drop_onward n xs x rest true e = drop_more n xs x rest e
+drop_onward n xs x rest false e = e
+
+onward_is : (a : After) (p : SeenPiece) (rest : List SeenPiece) → onward a p rest ≡ record { settings = settled a; left = if goes_to_next a then rest else p ∷ rest }
+onward_is (next_is.Next st) p rest = refl
+onward_is (next_is.Again st) p rest = refl
 
 drop_here : (n : ℕ) (ps : List Piece) (p : Piece) → slice_get ps n ≡ Some p → drop n (map seen_piece ps) ≡ seen_piece p ∷ drop (suc n) (map seen_piece ps)
 drop_here zero [] p e = cc
@@ -173,8 +184,9 @@ module _ (sound : Type 0) (began : SessionState) where
       let told = told_on sound k k' acts run.from _ run.items.items run.before at o live.replied in
       let one = told_snoc sound k' run.from (at_first began (seen_of run)) run.items.items run.before at p rest i a.after told next r in
       let pieces : seen_of run' ≡ seen_of run = ap (λ v. map seen_piece v.items) push.same.pieces in
-      let left : drop run'.next (seen_of run') ≡ rest = (λ j. drop (push.next j) (pieces j)) ∙ drop_more run.next (seen_of run) p rest next in
-      let stands : standing run' ≡ record { settings = a.after; left = rest } = (λ j. record { settings = settings_of (push.doing j); left = left j }) in
+      let left : drop run'.next (seen_of run') ≡ (if goes_to_next a.after then rest else p ∷ rest) = (λ j. drop (push.next j) (pieces j)) ∙ drop_onward run.next (seen_of run) p rest (goes_to_next a.after) next in
+      let parts : standing run' ≡ record { settings = settled a.after; left = if goes_to_next a.after then rest else p ∷ rest } = (λ j. record { settings = settings_of (push.doing j); left = left j }) in
+      let stands : standing run' ≡ onward a.after p rest = parts ∙ sym (onward_is a.after p rest) in
       let F : ℕ × Standing × List Item × ℕ × Standing → Type 0 = λ q. AreReplied sound k' q.0 q.1 q.2 q.3 q.4 in
       let replied : AreReplied sound k' run'.from (at_first began (seen_of run')) run'.items.items run'.before (standing run') =
       subst F (λ x. (sym push.same.from x, at_first began (sym pieces x), sym push.items x, sym push.before x, sym stands x)) one in
@@ -183,10 +195,10 @@ module _ (sound : Type 0) (began : SessionState) where
       record {
         replied = replied;
         within = (let e = push.before ∙ here in omega arith);
-        doing = doing_idle k' run'.before (standing run').left run'.doing a.after push.doing none;
+        doing = doing_idle k' run'.before (standing run').left run'.doing (settled a.after) push.doing none;
         ends = subst G (λ x. (sym push.ending x, sym push.items x)) (ends_snoc run.items.items i (standing run').left (is_fatal a.reply) refl (quiet_so_far run.ending _ run.items.items going live.ends));
-        idle = subst (λ (e : Option Ending). IdleAtEnd e run'.doing) (sym push.ending) (idle_at_end (is_fatal a.reply) run'.doing (is_idle run'.doing a.after push.doing));
-        room = room_idle run'.doing a.after _ _ push.doing;
+        idle = subst (λ (e : Option Ending). IdleAtEnd e run'.doing) (sym push.ending) (idle_at_end (is_fatal a.reply) run'.doing (is_idle run'.doing (settled a.after) push.doing));
+        room = room_idle run'.doing (settled a.after) _ _ push.doing;
         stopped = push.stopped ∙ live.stopped;
         placed = subst (λ v. Rattle.px_session.specs.Live.ArePlaced v.items) (sym push.same.pieces) live.placed;
       }

@@ -1,5 +1,5 @@
 -- A session on its way.
-use Rattle.std.specs.Prelude.{ℕ, ◌≡◌, ◌≢◌, ◌⊎◌, ◌≤◌, ◌<◌, ◌+◌, ◌^◌, Bool, true, false, Option, None, Some, List, [], ◌∷◌, ◌++◌, length, map, drop, vec_capacity}
+use Rattle.std.specs.Prelude.{ℕ, ◌≡◌, ◌≢◌, ◌⊎◌, ◌≤◌, ◌<◌, ◌+◌, ◌^◌, if◌then◌else◌, Bool, true, false, Option, None, Some, List, [], ◌∷◌, ◌++◌, length, map, drop, vec_capacity}
 use Rattle.std.specs.List.{All}
 use Rattle.px_lex.specs.Script.{SeenPiece, seen_piece}
 use Rattle.px_lex.specs.declared.script.Piece.{Piece}
@@ -8,6 +8,7 @@ use Rattle.px_script.specs.declared.piece.Span.{Span}
 use Rattle.px_trail.specs.declared.entry.Act.{Act}
 use Rattle.px_calls.specs.Known.{Known, Ran}
 use Rattle.px_reply.specs.declared.transcript.Item.{Item}
+use Rattle.px_item.specs.declared.answered.After.{After}
 use Rattle.px_item.specs.declared.answered.Answered.{Answered}
 use Rattle.px_item.specs.declared.answered.Settings.{Settings}
 use Rattle.px_item.specs.declared.item.ItemRun.{ItemRun}
@@ -21,13 +22,13 @@ use Rattle.px_session.specs.declared.run.SessionTurn.TheVariants as turn
 use Rattle.px_session.specs.declared.state.Ending.{Ending}
 use Rattle.px_session.specs.declared.state.Ending.TheVariants.{Fatal}
 use Rattle.px_session.specs.declared.state.SessionState.{SessionState}
-use Rattle.px_session.specs.Replies.{AreReplied, EndsAs, Standing, at_first, has_fatal, is_fatal, own_since, place_from}
+use Rattle.px_session.specs.Replies.{AreReplied, EndsAs, Standing, at_first, goes_on, has_fatal, is_fatal, own_since, place_from, settled}
 
 abbrev pub with_doing : SessionRun → Doing → SessionRun
 with_doing run d = record run { doing = d }
 
 abbrev pub no_settings : Settings
-no_settings = record { scn = None }
+no_settings = record { scn = None; autocommit = true; held = None }
 
 abbrev pub settings_of : Doing → Settings
 settings_of (Idle st) = st
@@ -125,9 +126,9 @@ item_of span a last = record { statement = span; reply = a.reply; evidence = rec
 -- an item more
 pub record IsPushed (run : SessionRun) (span : Span) (a : Answered) (last : ℕ) (run' : SessionRun) : Type 0 where
   pub items : run'.items.items ≡ run.items.items ++ item_of span a last ∷ []
-  pub next : run'.next ≡ run.next + 1
+  pub next : run'.next ≡ (if goes_on a.after then run.next + 1 else run.next)
   pub before : run'.before ≡ last
-  pub doing : run'.doing ≡ Idle a.after
+  pub doing : run'.doing ≡ Idle (settled a.after)
   pub ending : run'.ending ≡ fatal_ending (is_fatal a.reply)
   pub stopped : run'.stopped ≡ run.stopped
   pub same : IsSame run run'

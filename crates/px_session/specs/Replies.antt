@@ -13,6 +13,8 @@ use Rattle.px_reply.specs.declared.reply.Reply.{Reply}
 use Rattle.px_reply.specs.declared.reply.Reply.TheVariants.{Refused}
 use Rattle.px_reply.specs.declared.transcript.Item.{Item}
 use Rattle.px_reply.specs.declared.transcript.Transcript.{Transcript}
+use Rattle.px_item.specs.declared.answered.After.{After}
+use Rattle.px_item.specs.declared.answered.After.TheVariants as next_is
 use Rattle.px_item.specs.declared.answered.Answered.{Answered}
 use Rattle.px_item.specs.declared.answered.Settings.{Settings}
 use Rattle.px_item.specs.Right.{IsRight, after}
@@ -36,18 +38,28 @@ is_fatal r = false
 abbrev pub own_since : ℕ → ℕ → List Entry → List Act
 own_since seat n es = outline (acts_by seat (drop n es))
 
--- what an item says, with the settings after it
-abbrev pub answer_of : Item → Settings → Answered
-answer_of i st = record { reply = i.reply; receipts = i.evidence.receipts; places = i.evidence.places; first = i.evidence.first; after = st }
+-- the settings after an item
+abbrev pub settled : After → Settings
+settled (next_is.Next st) = st
+settled (next_is.Again st) = st
 
--- The item answers the piece under these settings, by the entries up to its last, and leaves those. Its own are those of its seat since the item
+-- the next piece is asked then, and not the same one once more
+abbrev pub goes_on : After → Bool
+goes_on (next_is.Next st) = true
+goes_on (next_is.Again st) = false
+
+-- what an item says, with what is after it
+abbrev pub answer_of : Item → After → Answered
+answer_of i after = record { reply = i.reply; receipts = i.evidence.receipts; places = i.evidence.places; first = i.evidence.first; after = after }
+
+-- The item answers the piece under these settings, by the entries up to its last, and this is after it. Its own are those of its seat since the item
 -- before, which ended after n
-pub record IsReplied (sound : Type 0) (k : Known) (n : ℕ) (st : Settings) (p : SeenPiece) (i : Item) (st' : Settings) : Type 0 where
+pub record IsReplied (sound : Type 0) (k : Known) (n : ℕ) (st : Settings) (p : SeenPiece) (i : Item) (next : After) : Type 0 where
   pub statement : i.statement ≡ span_of p
   pub begins : n ≤ i.evidence.first
   pub ends : i.evidence.first ≤ i.evidence.last
   pub within : i.evidence.last ≤ length k.seen
-  pub right : IsRight sound (after i.evidence.last k) n (own_since k.seat n (take i.evidence.last k.seen)) st p (answer_of i st')
+  pub right : IsRight sound (after i.evidence.last k) n (own_since k.seat n (take i.evidence.last k.seen)) st p (answer_of i next)
 
 -- ---- the items of a session, one after another
 
@@ -56,11 +68,16 @@ pub record Standing : Type 0 where
   pub settings : Settings
   pub left : List SeenPiece
 
--- each item answers the next piece, from the place n to the place m
+-- where it stands after an item of its next piece
+abbrev pub onward : After → SeenPiece → List SeenPiece → Standing
+onward (next_is.Next st) p rest = record { settings = st; left = rest }
+onward (next_is.Again st) p rest = record { settings = st; left = p ∷ rest }
+
+-- Each item answers the next piece, from the place n to the place m. A commit that a piece asks for before itself is an item of its own
 abbrev pub AreReplied : Type 0 → Known → ℕ → Standing → List Item → ℕ → Standing → Type 0
 AreReplied sound k n at [] m to = (n ≡ m) × (at ≡ to)
 AreReplied sound k n at (i ∷ is) m to =
-    (p : SeenPiece) × (rest : List SeenPiece) × (st : Settings) × (at.left ≡ p ∷ rest) × IsReplied sound k n at.settings p i st × AreReplied sound k i.evidence.last (record { settings = st; left = rest }) is m to
+    (p : SeenPiece) × (rest : List SeenPiece) × (next : After) × (at.left ≡ p ∷ rest) × IsReplied sound k n at.settings p i next × AreReplied sound k i.evidence.last (onward next p rest) is m to
 
 abbrev pub has_fatal : List Item → Bool
 has_fatal items = list_any (λ i. is_fatal i.reply) items

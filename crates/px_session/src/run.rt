@@ -10,7 +10,7 @@ ghost use Rattle.px_session.specs.Live.{ArePlaced, IsLive, IsOverAt, IsPushed, I
 
 use crate::state::{Ending, SessionState, is_fatal, state_after};
 use px_calls::Steps;
-use px_item::{Answered, Begun, ItemRun, ItemTurn, Settings, begin};
+use px_item::{After, Answered, Begun, ItemRun, ItemTurn, Settings, begin};
 use px_lex::script::Piece;
 use px_reply::{Evidence, Item, Transcript};
 use px_script::{Span, pieces, place_of};
@@ -78,6 +78,16 @@ fn let_go(doing: Doing<'_>)
     match doing {
         Doing::Taken => {}
         _ => unreachable!(),
+    }
+}
+
+/// The settings after an item, and whether the next piece is asked.
+fn settled(after: After) -> (Settings, bool)
+    ensures { (result.0 ≡ replies.settled after) × (result.1 ≡ replies.goes_on after) }
+{
+    match after {
+        After::Next(settings) => (settings, true),
+        After::Again(settings) => (settings, false),
     }
 }
 
@@ -166,9 +176,12 @@ impl<'a> SessionRun<'a> {
                 last,
             },
         });
-        self.set_doing(Doing::Idle(after));
-        self.next += 1;
+        let (settings, goes_on) = settled(after);
+        self.set_doing(Doing::Idle(settings));
         self.before = last;
+        if goes_on {
+            self.next += 1;
+        }
     }
 
     /// Ends the round.

@@ -1,5 +1,6 @@
 //! Tests of px_program over its one call, on disks in memory: what scripts print, each call of the disk, the input or the output
-//! failing, stops at each call, clocks that jump, folders that aren't of the format, and sessions in rounds.
+//! failing, stops at each call, clocks that jump, folders that aren't of the format, sessions in rounds, and changes
+//! that are held.
 #![tactic(auto)]
 
 #[cfg(test)]
@@ -10,6 +11,8 @@ mod deletes;
 mod faults;
 #[cfg(test)]
 mod first;
+#[cfg(test)]
+mod held;
 #[cfg(test)]
 mod indexes;
 #[cfg(test)]

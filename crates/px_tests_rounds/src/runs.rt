@@ -37,9 +37,20 @@ E05 no such table: GONE
 scn 4
 ";
 
-/// Schedules. They name sessions that are over by then, and some that aren't there.
+/// Schedules. They name sessions that are over by then, and some that aren't there; they end early, or go on behind the end.
 const SCHEDULES: &[&[u32]] = &[
     &[],
+    &[0, 4, 32, 33, 65_535],
+    &[3],
+    &[3, 3, 3, 3, 3, 3, 3, 3, 3, 3, 3, 3, 3, 3, 3, 3, 3, 3, 3, 3],
+    &[
+        2, 2, 2, 2, 2, 2, 2, 2, 2, 2, 2, 2, 1, 1, 1, 1, 1, 1, 1, 1, 1, 1, 1, 1, 3, 3, 3, 3, 3, 3,
+        3, 3,
+    ],
+    &[
+        1, 2, 3, 3, 2, 1, 1, 2, 3, 3, 2, 1, 1, 2, 3, 3, 2, 1, 1, 2, 3, 3, 2, 1, 1, 2, 3, 3, 2, 1,
+        1, 2,
+    ],
     &[1, 1, 1, 1, 1, 1, 1, 1, 2, 3],
     &[3, 3, 9, 2, 0, 3, 3, 1, 4_294_967_295, 2, 2, 1],
     &[2, 3, 2, 3, 2, 3],

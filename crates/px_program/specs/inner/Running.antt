@@ -22,6 +22,7 @@ use Rattle.px_opening.specs.declared.fault.OpenFault.{OpenFault}
 use Rattle.px_opening.specs.declared.fault.OpenFault.TheVariants as fault
 use Rattle.px_rounds.specs.Written.{IsWritten}
 use Rattle.px_server.specs.Kept.{HasFailed, has_told}
+use Rattle.px_server.specs.Others.{Beginning, OthersStay, beginning_at}
 use Rattle.px_server.specs.Stamps.{AreStamped}
 use Rattle.px_server.specs.Started.{HoldsOwn, StandsBy, StartsSound}
 use Rattle.px_program.specs.Answers.{AnswersScript}
@@ -55,7 +56,7 @@ abbrev pub StoodBefore : {D : Type 0} → DiskGhosts D → D → Opened → Type
 StoodBefore d disk o = (moment : ℕ) (image : Image) → IsLeft d disk moment image → StandsFor image (folder_in o)
 
 -- A script was run over this base, while the clock had these numbers to tell. It is told what some of the stops leave.
-pub record RanOver {D C O : Type 0} (d : DiskGhosts D) (c : ClockGhosts C) (k : SinkGhosts O) (base : Base) (sound premise : Type 0) (Left : D → ℕ → Image → Type 0) (times : ℕ → ℕ) (script : List ℕ) (out out' : O) (outcome : Outcome D) : Type 0 where
+pub record RanOver {D C O : Type 0} (d : DiskGhosts D) (c : ClockGhosts C) (k : SinkGhosts O) (base : Base) (sound premise : Type 0) (began : Beginning) (Left : D → ℕ → Image → Type 0) (times : ℕ → ℕ) (script : List ℕ) (out out' : O) (outcome : Outcome D) : Type 0 where
   pub legal : IsLegal base outcome.trail.entries
   pub stamped : IsTrue c.tells → (n : ℕ) × AreStamped times base [] 0 n outcome.trail.entries
   pub seat : ℕ
@@ -68,6 +69,7 @@ pub record RanOver {D C O : Type 0} (d : DiskGhosts D) (c : ClockGhosts C) (k : 
   pub late_is : (u : Entry) → outcome.late ≡ Some u → premise → IsTrue d.tells → IsLate base outcome.trail.entries u
   pub status : outcome.status ≡ status_of sink_failed (d.first_fault outcome.disk) outcome.memory (causes_of (items_of outcome.transcripts))
   pub blamed : has_told outcome.trail.entries ≡ true → HasFailed d outcome.disk
+  pub others : premise → IsTrue d.tells → OthersStay d base began outcome.disk outcome.trail.entries
 
 -- nothing was run, and nothing is told but the status
 pub record LeavesNothing {D O : Type 0} (out out' : O) (outcome : Outcome D) : Type 0 where
@@ -83,8 +85,8 @@ pub record LacksServer {D O : Type 0} (d : DiskGhosts D) (disk : D) (out out' : 
   pub back : outcome.disk ≡ disk
   pub nothing : LeavesNothing out out' outcome
 
-abbrev pub RanOpened : {D C O : Type 0} → DiskGhosts D → ClockGhosts C → SinkGhosts O → Base → (sound premise : Type 0) → (D → ℕ → Image → Type 0) → (times : ℕ → ℕ) → List ℕ → D → O → O → Outcome D → Type 0
-RanOpened d c k base sound premise Left times script disk out out' outcome = RanOver d c k base sound premise Left times script out out' outcome ⊎ LacksServer d disk out out' outcome
+abbrev pub RanOpened : {D C O : Type 0} → DiskGhosts D → ClockGhosts C → SinkGhosts O → Base → (sound premise : Type 0) → Beginning → (D → ℕ → Image → Type 0) → (times : ℕ → ℕ) → List ℕ → D → O → O → Outcome D → Type 0
+RanOpened d c k base sound premise began Left times script disk out out' outcome = RanOver d c k base sound premise began Left times script out out' outcome ⊎ LacksServer d disk out out' outcome
 
 -- a moment from this one on, and any one where that is true
 abbrev pub at_least : ℕ → (all : Type 0) → ℕ → Type 0
@@ -119,7 +121,7 @@ pub record RanFolder {D C O : Type 0} (d : DiskGhosts D) (c : ClockGhosts C) (k 
   pub soon : opened ≤ d.calls disk + (17 + 12 * length (region_numbers folder.standing))
   pub within : opened ≤ d.calls outcome.disk
   pub before : (moment file : ℕ) (bytes : List ℕ) → d.calls disk ≤ moment → moment < opened → ¬ catalogue_files file → d.left outcome.disk moment file bytes → d.left disk (d.calls disk) file bytes
-  pub over : RanOver d c k (base_of folder) (IsSoundFolder folder) (ReadsSound d disk) (IsLeftSince d opened (StartsSound d disk)) (c.times clock) script out out' outcome
+  pub over : RanOver d c k (base_of folder) (IsSoundFolder folder) (ReadsSound d disk) (beginning_at d disk) (IsLeftSince d opened (StartsSound d disk)) (c.times clock) script out out' outcome
 
 abbrev pub RanOn : {D C O : Type 0} → DiskGhosts D → ClockGhosts C → SinkGhosts O → List ℕ → C → D → O → O → Outcome D → Type 0
 RanOn d c k script clock disk out out' outcome = RanFolder d c k script clock disk out out' outcome ⊎ Unopened d disk out out' outcome

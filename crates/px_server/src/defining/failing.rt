@@ -4,6 +4,7 @@ ghost use Rattle.px_calls.specs.declared.fault.StepFault.TheVariants.{Memory as 
 ghost use Rattle.px_catalog.specs.declared.fault.CatalogFault.TheVariants.{Full as FullCatalog, Memory as NoMemory, WriteFault as WriteFailed};
 ghost use Rattle.px_trail.specs.declared.entry.Act.TheVariants.{Shut as ShutAct};
 
+use crate::shutting::shut;
 use px_calls::StepFault;
 use px_catalog::CatalogFault;
 use px_group::Group;
@@ -56,11 +57,7 @@ pub(crate) fn unwritten<D: CountsCalls>(
     match fault {
         CatalogFault::WriteFault => {
             let calls = disk.call_count();
-            trail.push(Entry {
-                seat,
-                calls,
-                act: Act::Shut { call: calls },
-            });
+            shut(trail, seat, calls);
             *late = Some(Entry { seat, calls, act });
             *closed = Some(calls);
             StepFault::WriteFault

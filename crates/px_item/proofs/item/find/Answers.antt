@@ -1,8 +1,12 @@
-use Rattle.px_item.proofs.Going.{found_none, found_one}
+use Rattle.std.proofs.Common.{sym, ◌∙◌}
+use Rattle.px_item.proofs.Going.{found_none, found_one, held_one}
 use Rattle.px_item.proofs.item.find.Goals as goal
 
-pub returns-in-Ok : goal.returns-in-Ok
-returns-in-Ok g c = λ before own f. found_one g.S.Steps.sound before c.args.asked own c.args.statement _ _ _ c.follow.result f (rw c.table_named.ensures at c.in-Ok.ensures.ok) c.follow.ensures
+pub returns-else-holds : goal.returns-else-holds
+returns-else-holds g c = λ before own f. found_one g.S.Steps.sound before c.args.asked own c.args.statement _ _ _ c.follow.result f (sym c.holds.ensures ∙ c.if-holds.false) (rw c.table_named.ensures at c.in-Ok.ensures.ok) c.follow.ensures
+
+pub returns-then-holds : goal.returns-then-holds
+returns-then-holds g c = λ before own f. held_one g.S.Steps.sound before c.args.asked own c.args.statement _ _ _ f (sym c.holds.ensures ∙ c.if-holds.true) (rw c.table_named.ensures at c.in-Ok.ensures.ok) c.hold.result c.hold.ensures
 
 pub returns-in-Err : goal.returns-in-Err
 returns-in-Err g c = λ before own f.

@@ -13,32 +13,31 @@ use Rattle.px_looks.proofs.next.look_part.Given.{Over}
 use Rattle.px_looks.proofs.next.look_part.Goals as goal
 
 pub find_all-requires-clause-list : goal.find_all-requires-clause-list
-find_all-requires-clause-list g c = subst IsCellList (sym c.deref.ensures.value) (rows_list (read_of c.args.region.now) c.args.low.now _ c.in_ok-gathered.gathered.cells.items c.requires.region c.in_ok-gathered.ensures.part)
+find_all-requires-clause-list g c = (rows_list (read_of c.args.region.now) c.args.low.now _ c.lend-lent.result.cells.now c.requires.region c.lend-lent.ensures.part)
 
 pub find_all-requires-clause-admits : goal.find_all-requires-clause-admits
 find_all-requires-clause-admits g c =
-    let e = c.in_ok-gathered.ensures in
-    let taken : IsTaken (read_of c.args.region.now) c.args.low.now (option_copied c.args.high) c.args.most c.in_ok-gathered.gathered.rows c.in_ok-gathered.gathered.cells.items
+    let e = c.lend-lent.ensures in
+    let taken : IsTaken (read_of c.args.region.now) c.args.low.now (option_copied c.args.high) c.args.most c.lend-lent.result.rows c.lend-lent.result.cells.now
     = record { counted = e.counted; few = e.few; all = e.all; part = e.part; within = e.within } in
-    subst (λ (l : List CellData). (j : ℕ) → j < length l → g.R.Reader.admits c.args.reader.now (key_at l j) (at_key (value_at l) (key_at l j))) (sym c.deref.ensures.value)
-    (part_admits (read_of c.args.region.now) c.args.low.now (option_copied c.args.high) c.args.most c.in_ok-gathered.gathered.rows c.in_ok-gathered.gathered.cells.items taken (g.R.Reader.admits c.args.reader.now) c.requires.admits)
+    (part_admits (read_of c.args.region.now) c.args.low.now (option_copied c.args.high) c.args.most c.lend-lent.result.rows c.lend-lent.result.cells.now taken (g.R.Reader.admits c.args.reader.now) c.requires.admits)
 
-taken : (g : Over) (c : goal.After-drop-gathered-2 g) → IsTaken (read_of c.args.region.now) c.args.low.now (option_copied c.args.high) c.args.most c.in_ok-gathered.gathered.rows c.in_ok-gathered.gathered.cells.items
-taken g c = (let e = c.in_ok-gathered.ensures in record { counted = e.counted; few = e.few; all = e.all; part = e.part; within = e.within })
+taken : (g : Over) (c : goal.After-look_at g) → IsTaken (read_of c.args.region.now) c.args.low.now (option_copied c.args.high) c.args.most c.lend-lent.result.rows c.lend-lent.result.cells.now
+taken g c = (let e = c.lend-lent.ensures in record { counted = e.counted; few = e.few; all = e.all; part = e.part; within = e.within })
 
-among : (g : Over) (c : goal.After-drop-gathered-2 g) → FoundAmong (g.R.Reader.shows c.args.reader.now) c.in_ok-gathered.gathered.cells.items (length c.in_ok-gathered.gathered.cells.items) c.in-Ok-find_all.found.items
-among g c = subst (λ (l : List CellData). FoundAmong (g.R.Reader.shows c.args.reader.now) l (length l) c.in-Ok-find_all.found.items) c.deref.ensures.value c.in-Ok-find_all.ensures.found
+among : (g : Over) (c : goal.After-look_at g) → FoundAmong (g.R.Reader.shows c.args.reader.now) c.lend-lent.result.cells.now (length c.lend-lent.result.cells.now) c.in-Ok-find_all.found.items
+among g c = c.in-Ok-find_all.ensures.found
 
 pub returns-clause-found : goal.returns-clause-found
 returns-clause-found g c =
-    part_found (read_of c.args.region.now) c.args.low.now (option_copied c.args.high) c.args.most c.in_ok-gathered.gathered.rows c.in_ok-gathered.gathered.cells.items (taken g c) (g.R.Reader.shows c.args.reader.now) c.law.ensures.some c.in-Ok-find_all.found.items (among g c)
+    part_found (read_of c.args.region.now) c.args.low.now (option_copied c.args.high) c.args.most c.lend-lent.result.rows c.lend-lent.result.cells.now (taken g c) (g.R.Reader.shows c.args.reader.now) c.law.ensures.some c.in-Ok-find_all.found.items (among g c)
     c.requires.most c.in-Ok.end c.in-Ok.ensures
 
 pub returns-clause-up : goal.returns-clause-up
 returns-clause-up g c =
-    part_up (read_of c.args.region.now) c.args.low.now (option_copied c.args.high) c.args.most c.in_ok-gathered.gathered.rows c.in_ok-gathered.gathered.cells.items (taken g c) (g.R.Reader.shows c.args.reader.now) c.law.ensures.some c.in-Ok-find_all.found.items (among g c)
+    part_up (read_of c.args.region.now) c.args.low.now (option_copied c.args.high) c.args.most c.lend-lent.result.rows c.lend-lent.result.cells.now (taken g c) (g.R.Reader.shows c.args.reader.now) c.law.ensures.some c.in-Ok-find_all.found.items (among g c)
     c.in-Ok.end c.in-Ok.ensures
 
 pub returns-clause-below : goal.returns-clause-below
 returns-clause-below g c =
-    part_below (read_of c.args.region.now) c.args.low.now (option_copied c.args.high) c.args.most c.in_ok-gathered.gathered.rows c.in_ok-gathered.gathered.cells.items (taken g c) (g.R.Reader.shows c.args.reader.now) c.law.ensures.some c.in-Ok-find_all.found.items (among g c)
+    part_below (read_of c.args.region.now) c.args.low.now (option_copied c.args.high) c.args.most c.lend-lent.result.rows c.lend-lent.result.cells.now (taken g c) (g.R.Reader.shows c.args.reader.now) c.law.ensures.some c.in-Ok-find_all.found.items (among g c)

@@ -5,7 +5,7 @@ use Rattle.px_cells.specs.Contents.{value_at}
 use Rattle.px_calls.specs.declared.query.FoundKey.{FoundKey}
 use Rattle.px_looks.specs.Found.{RowContents, at_key}
 use Rattle.px_looks.specs.inner.Among.{FoundAmong}
-use Rattle.px_looks.proofs.Among.{begins_not, begins_so, found_more, found_nothing, found_same, key_there, read_there, row_contents, rows_one, shown_none, shown_some, there_read}
+use Rattle.px_looks.proofs.Among.{begins_so, found_more, found_nothing, key_there, read_there, row_contents, rows_one, shown_none, shown_some, there_read}
 use Rattle.px_looks.proofs.RowCells.{row_is_own}
 use Rattle.px_looks.proofs.reader.add_found.Goals as goal
 
@@ -17,14 +17,6 @@ read-requires-clause-admits g c =
     let is = c.key-key.ensures ∙ sym (key_there c.args.cells.now c.args.i c.index-cells-i.result c.requires.within c.index-cells-i.is) in
     subst (λ (h : RowContents). g.R.Reader.admits c.args.reader.now c.key-key.result.now h) (sym (row_contents c.args.cells.now c.row_in.result.now c.key-key.result.now c.row_in.ensures.row))
     (subst (λ (k : List ℕ). g.R.Reader.admits c.args.reader.now k (at_key (value_at c.args.cells.now) k)) (sym is) (c.requires.admits c.args.i c.requires.within))
-
-pub returns-then-not-begins_at-clause-found : goal.returns-then-not-begins_at-clause-found
-returns-then-not-begins_at-clause-found g c =
-    let same = begins_not c.args.cells.now c.args.i (sym c.begins_at.ensures ∙ c.if-not-begins_at.true) in
-    found_same (g.R.Reader.shows c.args.reader.now) c.args.cells.now c.args.i c.args.found.now.items same.0 same.1
-
-pub returns-then-not-begins_at-clause-few : goal.returns-then-not-begins_at-clause-few
-returns-then-not-begins_at-clause-few g c = λ few. (let r = rows_rise c.args.cells.now c.args.i (c.args.i + 1) (omega arith) in omega arith)
 
 pub returns-in-Ok-None-clause-found : goal.returns-in-Ok-None-clause-found
 returns-in-Ok-None-clause-found g c =
@@ -43,11 +35,11 @@ returns-in_ok-push-in-Ok-Some-clause-found g c = λ found.
     let here = shown_some (shows c.key-key.result.now (at_key (value_at c.row_in.result.now) c.key-key.result.now)) c.in-Ok-Some.field-0 c.in-Ok-Some.shown c.in-Ok-Some.field-0-is c.in-Ok-Some.ensures.shown in
     let there = read_there shows c.args.cells.now c.args.i c.key-key.result.now c.row_in.result.now is c.row_in.ensures.row c.in-Ok-Some.shown here in
     subst (λ (l : List FoundKey). FoundAmong shows c.args.cells.now (c.args.i + 1) l) (sym c.in_ok-push-in-Ok-Some.ensures.items)
-    (found_more shows c.args.cells.now c.args.i c.args.found.now.items c.in-Ok-Some.shown c.requires.list.ascending c.requires.within (begins_so c.args.cells.now c.args.i (sym c.begins_at.ensures ∙ c.if-not-begins_at.false))
+    (found_more shows c.args.cells.now c.args.i c.args.found.now.items c.in-Ok-Some.shown c.requires.list.ascending c.requires.within (begins_so c.args.cells.now c.args.i c.requires.begins)
     (c.law.ensures.keyed _ _ _ there) there (λ f sh. c.law.ensures.once _ _ _ _ sh there) found)
 
 pub returns-in_ok-push-in-Ok-Some-clause-few : goal.returns-in_ok-push-in-Ok-Some-clause-few
 returns-in_ok-push-in-Ok-Some-clause-few g c = λ few.
-    let r = rows_one c.args.cells.now c.args.i (sym c.begins_at.ensures ∙ c.if-not-begins_at.false) in
+    let r = rows_one c.args.cells.now c.args.i c.requires.begins in
     let l = ap length c.in_ok-push-in-Ok-Some.ensures.items ∙ length-append c.args.found.now.items (c.in-Ok-Some.shown ∷ []) in
     omega arith

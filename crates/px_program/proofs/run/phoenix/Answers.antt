@@ -17,7 +17,7 @@ pub returns-in-Ok-clause-run : goal.returns-in-Ok-clause-run
 returns-in-Ok-clause-run g c =
     run_of g.D.Disk g.C.Clock g.I.Source g.O.Sink c.args.disk c.args.clock c.args.input.now c.read_all.new.source c.args.out.now c.run_folder.new.out (map string_bytes c.args.words.now)
     (named_some _ c.folder_word.result (folder_in (map string_bytes c.args.words.now)) c.folder_word.ensures c.if-is_none.ensures) c.in-Ok.ensures.rest c.run_folder.result
-    c.deref.result.now (λ tells. c.deref.ensures.value ∙ c.in-Ok.ensures.bytes tells) c.requires.fresh.1 c.run_folder.ensures.known c.run_folder.ensures.failed c.run_folder.ensures.run
+    c.deref.result.now (λ tells. c.deref.ensures.value ∙ c.in-Ok.ensures.bytes tells) c.requires.fresh.0 c.requires.fresh.1 c.run_folder.ensures.known c.run_folder.ensures.failed c.run_folder.ensures.run
 
 pub returns-in-Err-ReadFault-clause-run : goal.returns-in-Err-ReadFault-clause-run
 returns-in-Err-ReadFault-clause-run g c =

@@ -26,4 +26,5 @@ returns-in-Ok g c =
       late_is = f.late_is;
       status = search rules;
       blamed = f.blamed;
+      others = f.others;
     })

@@ -28,7 +28,7 @@ invariant_of-self g c =
     let shut = closed_some s.trail.entries s.closed kept.told.closing can.0 in
     let same : c.index.result.now ≡ c.index_mut.result.now = one_there s.groups.items c.in-Some.place c.index.result.now c.index_mut.result.now (place_in s.groups.items s.standing.tables kept.each.stand c.in-Some.place c.in-Some.ensures.found) (sym c.index.ensures) (sym c.index_mut.ensures.value) in
     let stamp = end_stamp c.index.result.now c.index_mut.result.now same c.in-Some-batch_place.batch c.args.t.stamp c.in-Some-batch_place.ensures.found c.abandon.ensures.batch c.abandon.ensures.goes.batch in (
-      goes_away g.D.Disk b g.B.Founded.sound g.B.Founded.premise s.disk s.catalog s.standing s.groups.items s.trail s.late s.closed kept c.args.t.table c.in-Some.place c.index_mut.result.now c.in-Some.ensures.found c.in-Some.ensures.numbered (sym c.index_mut.ensures.value) c.args.t.stamp
+      goes_away g.D.Disk b g.B.Founded.sound g.B.Founded.premise g.B.Founded.began s.disk s.catalog s.standing s.groups.items s.trail s.late s.closed kept c.args.t.table c.in-Some.place c.index_mut.result.now c.in-Some.ensures.found c.in-Some.ensures.numbered (sym c.index_mut.ensures.value) c.args.t.stamp
           shut.0 shut.1 s.seat can.1 c.in-Some-batch_place.batch c.abandon.ensures.batch stamp c.abandon.ensures.goes.batch c.abandon.new.group c.abandon.ensures.goes,
       c.self.invariant.1,
     )

@@ -51,7 +51,7 @@ let_in-begun-requires-clause-fit g c =
     let v : Shown = record { seat = s.seat; entries = s.trail.entries; late = s.late; closed = s.closed } in
     let cs = c.args.changes.now in
     let fits : AreFitting (known_by b g.B.Based.damaged v) c.args.table.0 cs = subst (λ (w : Shown). AreFitting (known_by b g.B.Based.damaged w) c.args.table.0 cs) (sym c.self.view_is) c.requires.fits in
-    let fit = fit_here g.D.Disk b g.B.Founded.sound g.B.Founded.premise s.disk s.catalog s.standing s.groups.items s.trail s.late s.closed c.self.invariant.0 running c.args.table c.in-Some-numbered_place.place c.index_mut.result.now c.in-Some-numbered_place.ensures.found c.in-Some-numbered_place.ensures.numbered (sym c.index_mut.ensures.value) cs fits.each in
+    let fit = fit_here g.D.Disk b g.B.Founded.sound g.B.Founded.premise g.B.Founded.began s.disk s.catalog s.standing s.groups.items s.trail s.late s.closed c.self.invariant.0 running c.args.table c.in-Some-numbered_place.place c.index_mut.result.now c.in-Some-numbered_place.ensures.found c.in-Some-numbered_place.ensures.numbered (sym c.index_mut.ensures.value) cs fits.each in
     fit
 
 pub invariant_of-self : goal.invariant_of-self
@@ -63,16 +63,16 @@ invariant_of-self g c =
     let v : Shown = record { seat = s.seat; entries = s.trail.entries; late = s.late; closed = s.closed } in
     let cs = c.args.changes.now in
     let fits : AreFitting (known_by b g.B.Based.damaged v) c.args.table.0 cs = subst (λ (w : Shown). AreFitting (known_by b g.B.Based.damaged w) c.args.table.0 cs) (sym c.self.view_is) c.requires.fits in
-    let fit = fit_here g.D.Disk b g.B.Founded.sound g.B.Founded.premise s.disk s.catalog s.standing s.groups.items s.trail s.late s.closed c.self.invariant.0 running c.args.table c.in-Some-numbered_place.place c.index_mut.result.now c.in-Some-numbered_place.ensures.found c.in-Some-numbered_place.ensures.numbered (sym c.index_mut.ensures.value) cs fits.each in
+    let fit = fit_here g.D.Disk b g.B.Founded.sound g.B.Founded.premise g.B.Founded.began s.disk s.catalog s.standing s.groups.items s.trail s.late s.closed c.self.invariant.0 running c.args.table c.in-Some-numbered_place.place c.index_mut.result.now c.in-Some-numbered_place.ensures.found c.in-Some-numbered_place.ensures.numbered (sym c.index_mut.ensures.value) cs fits.each in
     let m = c.in-Ok.ensures.begun in
     let taken = c.in-Ok.ensures.taken in
     let stamp = drawn_above c.index_mut.result.now.last c.now-clock.result c.in-Ok.started.stamp m.stamp in
-    let last : last_of b c.args.table.0 s.trail.entries ≡ c.index_mut.result.now.last = last_here g.D.Disk b g.B.Founded.sound g.B.Founded.premise s.disk s.catalog s.standing s.groups.items s.trail s.late s.closed c.self.invariant.0 running c.args.table c.in-Some-numbered_place.place c.index_mut.result.now c.in-Some-numbered_place.ensures.found c.in-Some-numbered_place.ensures.numbered (sym c.index_mut.ensures.value) in
+    let last : last_of b c.args.table.0 s.trail.entries ≡ c.index_mut.result.now.last = last_here g.D.Disk b g.B.Founded.sound g.B.Founded.premise g.B.Founded.began s.disk s.catalog s.standing s.groups.items s.trail s.late s.closed c.self.invariant.0 running c.args.table c.in-Some-numbered_place.place c.index_mut.result.now c.in-Some-numbered_place.ensures.found c.in-Some-numbered_place.ensures.numbered (sym c.index_mut.ensures.value) in
     let e : Entry = record { seat = s.seat; calls = c.call_count.result; act = BegunAct c.args.table c.in-Ok.started.stamp cs } in
     let entries : c.push.new.self.entries ≡ s.trail.entries ++ e ∷ [] = c.push.ensures.entries
     ∙ (λ i. taken.entries i ++ record { seat = s.seat; calls = c.call_count.result; act = BegunAct c.args.table c.in-Ok.started.stamp (m.changes i) } ∷ []) in (
-      subst (λ disk. IsKept g.D.Disk b g.B.Founded.sound g.B.Founded.premise disk s.catalog s.standing (slice_set s.groups.items c.in-Some-numbered_place.place c.let_in-begun.new.group) c.push.new.self s.late s.closed) (sym c.let_in-begun.ensures.untouched)
-          (begun_kept g.D.Disk b g.B.Founded.sound g.B.Founded.premise s.disk s.catalog s.standing s.groups.items s.trail s.late s.closed c.self.invariant.0 running c.args.table c.in-Some-numbered_place.place c.index_mut.result.now c.in-Some-numbered_place.ensures.found c.in-Some-numbered_place.ensures.numbered (sym c.index_mut.ensures.value) g.met.D.Disk.told g.met.D.Disk.up_to_now s.seat c.call_count.result c.in-Ok.started.stamp (c.call_count.ensures ∙ ap g.D.Disk.calls c.let_in-begun.ensures.untouched) cs c.requires.distinct c.requires.some fit stamp.0 stamp.1
+      subst (λ disk. IsKept g.D.Disk b g.B.Founded.sound g.B.Founded.premise g.B.Founded.began disk s.catalog s.standing (slice_set s.groups.items c.in-Some-numbered_place.place c.let_in-begun.new.group) c.push.new.self s.late s.closed) (sym c.let_in-begun.ensures.untouched)
+          (begun_kept g.D.Disk b g.B.Founded.sound g.B.Founded.premise g.B.Founded.began s.disk s.catalog s.standing s.groups.items s.trail s.late s.closed c.self.invariant.0 running c.args.table c.in-Some-numbered_place.place c.index_mut.result.now c.in-Some-numbered_place.ensures.found c.in-Some-numbered_place.ensures.numbered (sym c.index_mut.ensures.value) g.met.D.Disk.told g.met.D.Disk.up_to_now s.seat c.call_count.result c.in-Ok.started.stamp (c.call_count.ensures ∙ ap g.D.Disk.calls c.let_in-begun.ensures.untouched) cs c.requires.distinct c.requires.some fit stamp.0 stamp.1
           m.taken c.let_in-begun.new.group m.leaves m.batch m.is m.admits m.before m.after c.push.new.self entries (let less = c.push.ensures.room in let more = taken.room in omega (arith, less, more))),
       (
         c.self.invariant.1.0,
@@ -87,9 +87,9 @@ invariant_of-self-in-Err g c =
     let b = g.B.Based.base in
     let told = c.self.invariant.0.told in
     let running : s.closed ≡ None = none_of s.closed (λ x is. search rules) in (
-      subst (λ disk. IsKept g.D.Disk b g.B.Founded.sound g.B.Founded.premise disk s.catalog s.standing (slice_set s.groups.items c.in-Some-numbered_place.place c.let_in-begun.new.group) c.let_in-begun.new.trail s.late s.closed) (sym c.let_in-begun.ensures.untouched)
-          (subst (λ trail. IsKept g.D.Disk b g.B.Founded.sound g.B.Founded.premise s.disk s.catalog s.standing (slice_set s.groups.items c.in-Some-numbered_place.place c.let_in-begun.new.group) trail s.late s.closed) (sym c.in-Err.ensures.trail)
-          (left_kept g.D.Disk b g.B.Founded.sound g.B.Founded.premise s.disk s.catalog s.standing s.groups.items s.trail s.late s.closed c.self.invariant.0 running c.args.table c.in-Some-numbered_place.place c.index_mut.result.now c.in-Some-numbered_place.ensures.found c.in-Some-numbered_place.ensures.numbered (sym c.index_mut.ensures.value) c.let_in-begun.new.group c.in-Err.ensures.leaves.0 c.in-Err.ensures.leaves.1)),
+      subst (λ disk. IsKept g.D.Disk b g.B.Founded.sound g.B.Founded.premise g.B.Founded.began disk s.catalog s.standing (slice_set s.groups.items c.in-Some-numbered_place.place c.let_in-begun.new.group) c.let_in-begun.new.trail s.late s.closed) (sym c.let_in-begun.ensures.untouched)
+          (subst (λ trail. IsKept g.D.Disk b g.B.Founded.sound g.B.Founded.premise g.B.Founded.began s.disk s.catalog s.standing (slice_set s.groups.items c.in-Some-numbered_place.place c.let_in-begun.new.group) trail s.late s.closed) (sym c.in-Err.ensures.trail)
+          (left_kept g.D.Disk b g.B.Founded.sound g.B.Founded.premise g.B.Founded.began s.disk s.catalog s.standing s.groups.items s.trail s.late s.closed c.self.invariant.0 running c.args.table c.in-Some-numbered_place.place c.index_mut.result.now c.in-Some-numbered_place.ensures.found c.in-Some-numbered_place.ensures.numbered (sym c.index_mut.ensures.value) c.let_in-begun.new.group c.in-Err.ensures.leaves.0 c.in-Err.ensures.leaves.1)),
       (
         c.self.invariant.1.0,
         same_by_clock g.C.Clock g.B.Founded.times b c.now-clock.new.self s.trail.entries
@@ -107,7 +107,7 @@ returns-in-Ok-clause-ok g c =
     let v : Shown = record { seat = s.seat; entries = s.trail.entries; late = s.late; closed = s.closed } in
     let cs = c.args.changes.now in
     let fits : AreFitting (known_by b g.B.Based.damaged v) c.args.table.0 cs = subst (λ (w : Shown). AreFitting (known_by b g.B.Based.damaged w) c.args.table.0 cs) (sym c.self.view_is) c.requires.fits in
-    let fit = fit_here g.D.Disk b g.B.Founded.sound g.B.Founded.premise s.disk s.catalog s.standing s.groups.items s.trail s.late s.closed c.self.invariant.0 running c.args.table c.in-Some-numbered_place.place c.index_mut.result.now c.in-Some-numbered_place.ensures.found c.in-Some-numbered_place.ensures.numbered (sym c.index_mut.ensures.value) cs fits.each in
+    let fit = fit_here g.D.Disk b g.B.Founded.sound g.B.Founded.premise g.B.Founded.began s.disk s.catalog s.standing s.groups.items s.trail s.late s.closed c.self.invariant.0 running c.args.table c.in-Some-numbered_place.place c.index_mut.result.now c.in-Some-numbered_place.ensures.found c.in-Some-numbered_place.ensures.numbered (sym c.index_mut.ensures.value) cs fits.each in
     let m = c.in-Ok.ensures.begun in
     let taken = c.in-Ok.ensures.taken in
     let stamp = drawn_above c.index_mut.result.now.last c.now-clock.result c.in-Ok.started.stamp m.stamp in
@@ -118,7 +118,7 @@ returns-in-Ok-clause-ok g c =
     let early : c.index_mut.result.now.last ≤ greatest_stamp = (let l = stamp.0 in let m' = stamp.1 in omega (arith, l, m')) in
     subst (λ (w : Shown). DidBegin g.B.Founded.sound (known_by b g.B.Based.damaged w) (known_by b g.B.Based.damaged v') c.args.table cs (record { table = c.args.table; stamp = c.in-Ok.started.stamp })) c.self.view_is
     (did_begin (known_by b g.B.Based.damaged v) told.legal g.B.Founded.sound c.args.table cs c.in-Ok.started.stamp c.call_count.result c.push.new.self.entries entries (invariant_of-self g c).0.told.legal stamp.1 taken.few
-    (λ given. short_there g.D.Disk b g.B.Founded.sound g.B.Founded.premise s.disk s.catalog s.standing s.groups.items s.trail s.late s.closed c.self.invariant.0 running c.args.table c.in-Some-numbered_place.place c.index_mut.result.now c.in-Some-numbered_place.ensures.found c.in-Some-numbered_place.ensures.numbered (sym c.index_mut.ensures.value) cs fit early given m.taken m.leaves m.before c.in-Ok.started.stamp m.batch m.is))
+    (λ given. short_there g.D.Disk b g.B.Founded.sound g.B.Founded.premise g.B.Founded.began s.disk s.catalog s.standing s.groups.items s.trail s.late s.closed c.self.invariant.0 running c.args.table c.in-Some-numbered_place.place c.index_mut.result.now c.in-Some-numbered_place.ensures.found c.in-Some-numbered_place.ensures.numbered (sym c.index_mut.ensures.value) cs fit early given m.taken m.leaves m.before c.in-Ok.started.stamp m.batch m.is))
 
 pub returns-in-Err-clause-refused : goal.returns-in-Err-clause-refused
 returns-in-Err-clause-refused g c =
@@ -129,11 +129,11 @@ returns-in-Err-clause-refused g c =
     let v : Shown = record { seat = s.seat; entries = s.trail.entries; late = s.late; closed = s.closed } in
     let cs = c.args.changes.now in
     let fits : AreFitting (known_by b g.B.Based.damaged v) c.args.table.0 cs = subst (λ (w : Shown). AreFitting (known_by b g.B.Based.damaged w) c.args.table.0 cs) (sym c.self.view_is) c.requires.fits in
-    let fit = fit_here g.D.Disk b g.B.Founded.sound g.B.Founded.premise s.disk s.catalog s.standing s.groups.items s.trail s.late s.closed c.self.invariant.0 running c.args.table c.in-Some-numbered_place.place c.index_mut.result.now c.in-Some-numbered_place.ensures.found c.in-Some-numbered_place.ensures.numbered (sym c.index_mut.ensures.value) cs fits.each in
+    let fit = fit_here g.D.Disk b g.B.Founded.sound g.B.Founded.premise g.B.Founded.began s.disk s.catalog s.standing s.groups.items s.trail s.late s.closed c.self.invariant.0 running c.args.table c.in-Some-numbered_place.place c.index_mut.result.now c.in-Some-numbered_place.ensures.found c.in-Some-numbered_place.ensures.numbered (sym c.index_mut.ensures.value) cs fits.each in
     let v' : Shown = record { seat = s.seat; entries = c.let_in-begun.new.trail.entries; late = s.late; closed = s.closed } in
     let same : v ≡ v' = (λ i. record { seat = s.seat; entries = (sym c.in-Err.ensures.trail i).entries; late = s.late; closed = s.closed }) in
     let k = known_by b g.B.Based.damaged v in
     subst (λ (w : Shown). Refuses (begin_cause g.B.Founded.sound c.args.table.0 cs) (known_by b g.B.Based.damaged w) (known_by b g.B.Based.damaged v') c.in-Err.fault) c.self.view_is
     (subst (λ (w : Shown). Refuses (begin_cause g.B.Founded.sound c.args.table.0 cs) k (known_by b g.B.Based.damaged w) c.in-Err.fault) same
-    (unbegun k told.legal (told.closing ∙ running) g.B.Founded.sound c.args.table.0 cs (stands_here g.D.Disk b g.B.Founded.sound g.B.Founded.premise s.disk s.catalog s.standing s.groups.items s.trail s.late s.closed c.self.invariant.0 running c.args.table c.in-Some-numbered_place.place c.index_mut.result.now c.in-Some-numbered_place.ensures.found c.in-Some-numbered_place.ensures.numbered (sym c.index_mut.ensures.value)) c.index_mut.result.now (last_here g.D.Disk b g.B.Founded.sound g.B.Founded.premise s.disk s.catalog s.standing s.groups.items s.trail s.late s.closed c.self.invariant.0 running c.args.table c.in-Some-numbered_place.place c.index_mut.result.now c.in-Some-numbered_place.ensures.found c.in-Some-numbered_place.ensures.numbered (sym c.index_mut.ensures.value))
-    (λ early needs given. long_there g.D.Disk b g.B.Founded.sound g.B.Founded.premise s.disk s.catalog s.standing s.groups.items s.trail s.late s.closed c.self.invariant.0 running c.args.table c.in-Some-numbered_place.place c.index_mut.result.now c.in-Some-numbered_place.ensures.found c.in-Some-numbered_place.ensures.numbered (sym c.index_mut.ensures.value) cs fit early given c.index_mut.result.now (left_none c.index_mut.result.now) (right_here g.D.Disk b g.B.Founded.sound g.B.Founded.premise s.disk s.catalog s.standing s.groups.items s.trail s.late s.closed c.self.invariant.0 running c.args.table c.in-Some-numbered_place.place c.index_mut.result.now c.in-Some-numbered_place.ensures.found c.in-Some-numbered_place.ensures.numbered (sym c.index_mut.ensures.value)) needs) c.now-clock.result c.in-Err.fault c.in-Err.ensures.refused))
+    (unbegun k told.legal (told.closing ∙ running) g.B.Founded.sound c.args.table.0 cs (stands_here g.D.Disk b g.B.Founded.sound g.B.Founded.premise g.B.Founded.began s.disk s.catalog s.standing s.groups.items s.trail s.late s.closed c.self.invariant.0 running c.args.table c.in-Some-numbered_place.place c.index_mut.result.now c.in-Some-numbered_place.ensures.found c.in-Some-numbered_place.ensures.numbered (sym c.index_mut.ensures.value)) c.index_mut.result.now (last_here g.D.Disk b g.B.Founded.sound g.B.Founded.premise g.B.Founded.began s.disk s.catalog s.standing s.groups.items s.trail s.late s.closed c.self.invariant.0 running c.args.table c.in-Some-numbered_place.place c.index_mut.result.now c.in-Some-numbered_place.ensures.found c.in-Some-numbered_place.ensures.numbered (sym c.index_mut.ensures.value))
+    (λ early needs given. long_there g.D.Disk b g.B.Founded.sound g.B.Founded.premise g.B.Founded.began s.disk s.catalog s.standing s.groups.items s.trail s.late s.closed c.self.invariant.0 running c.args.table c.in-Some-numbered_place.place c.index_mut.result.now c.in-Some-numbered_place.ensures.found c.in-Some-numbered_place.ensures.numbered (sym c.index_mut.ensures.value) cs fit early given c.index_mut.result.now (left_none c.index_mut.result.now) (right_here g.D.Disk b g.B.Founded.sound g.B.Founded.premise g.B.Founded.began s.disk s.catalog s.standing s.groups.items s.trail s.late s.closed c.self.invariant.0 running c.args.table c.in-Some-numbered_place.place c.index_mut.result.now c.in-Some-numbered_place.ensures.found c.in-Some-numbered_place.ensures.numbered (sym c.index_mut.ensures.value)) needs) c.now-clock.result c.in-Err.fault c.in-Err.ensures.refused))

@@ -15,14 +15,14 @@ pub close_point-requires : goal.close_point-requires
 close_point-requires g c =
     let s = c.self.inside in
     let open_ : 0 < open_points s.seat c.args.p.table.0 c.args.p.stamp s.trail.entries = subst (λ (v : Shown). IsOpen (known_by g.B.Based.base g.B.Based.damaged v) c.args.p) (sym c.self.view_is) c.requires in
-    has_point g.D.Disk g.met.D.Disk.told g.met.D.Disk.up_to_now g.B.Based.base g.B.Founded.sound g.B.Founded.premise s.disk s.catalog s.standing s.groups.items s.trail s.late s.closed c.self.invariant.0
+    has_point g.D.Disk g.met.D.Disk.told g.met.D.Disk.up_to_now g.B.Based.base g.B.Founded.sound g.B.Founded.premise g.B.Founded.began s.disk s.catalog s.standing s.groups.items s.trail s.late s.closed c.self.invariant.0
     s.seat (g.D.Disk.calls s.disk) c.args.p.stamp c.args.p.table (λ i. g.D.Disk.calls s.disk) open_ c.in-Some.place c.index_mut.result.now c.in-Some.ensures.found c.in-Some.ensures.numbered (sym c.index_mut.ensures.value)
 
 pub invariant_of-self : goal.invariant_of-self
 invariant_of-self g c =
     let s = c.self.inside in
     let open_ : 0 < open_points s.seat c.args.p.table.0 c.args.p.stamp s.trail.entries = subst (λ (v : Shown). IsOpen (known_by g.B.Based.base g.B.Based.damaged v) c.args.p) (sym c.self.view_is) c.requires in (
-      closes g.D.Disk g.met.D.Disk.told g.met.D.Disk.up_to_now g.B.Based.base g.B.Founded.sound g.B.Founded.premise s.disk s.catalog s.standing s.groups.items s.trail s.late s.closed c.self.invariant.0
+      closes g.D.Disk g.met.D.Disk.told g.met.D.Disk.up_to_now g.B.Based.base g.B.Founded.sound g.B.Founded.premise g.B.Founded.began s.disk s.catalog s.standing s.groups.items s.trail s.late s.closed c.self.invariant.0
           s.seat c.call_count.result c.args.p.stamp c.args.p.table c.call_count.ensures open_ c.in-Some.place c.index_mut.result.now c.in-Some.ensures.found c.in-Some.ensures.numbered (sym c.index_mut.ensures.value)
           c.close_point.new.group c.close_point.ensures.released c.close_point.ensures.count c.push.new.self c.push.ensures.entries c.push.ensures.room,
       (c.self.invariant.1.0, more_by_clock g.C.Clock g.B.Founded.times g.B.Based.base s.clock s.trail.entries c.self.invariant.1.1 c.push.new.self.entries (record { seat = s.seat; calls = c.call_count.result; act = ReleasedAct c.args.p.table c.args.p.stamp }) c.push.ensures.entries refl),

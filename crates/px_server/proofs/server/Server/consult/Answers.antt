@@ -37,8 +37,8 @@ pub invariant_of-self : goal.invariant_of-self
 invariant_of-self g c =
     let s = c.self.inside in
     let l : c.in-Some-point_place.place < length s.groups.items = inside s.groups.items c.deref.result.now c.in-Some-point_place.place c.deref.ensures.value c.in-Some-point_place.ensures.within in (
-      subst (λ x. IsKept g.D.Disk g.B.Based.base g.B.Founded.sound g.B.Founded.premise x s.catalog s.standing (slice_set s.groups.items c.in-Some-point_place.place c.consult.new.group) s.trail s.late s.closed) (sym c.consult.ensures.untouched)
-          (looked_kept g.D.Disk g.B.Based.base g.B.Founded.sound g.B.Founded.premise s.disk s.catalog s.standing s.groups.items s.trail s.late s.closed c.self.invariant.0 c.in-Some-point_place.place c.index_mut-group.result.now c.consult.new.group l (sym c.index_mut-group.ensures.value) c.consult.ensures.looked),
+      subst (λ x. IsKept g.D.Disk g.B.Based.base g.B.Founded.sound g.B.Founded.premise g.B.Founded.began x s.catalog s.standing (slice_set s.groups.items c.in-Some-point_place.place c.consult.new.group) s.trail s.late s.closed) (sym c.consult.ensures.untouched)
+          (looked_kept g.D.Disk g.B.Based.base g.B.Founded.sound g.B.Founded.premise g.B.Founded.began s.disk s.catalog s.standing s.groups.items s.trail s.late s.closed c.self.invariant.0 c.in-Some-point_place.place c.index_mut-group.result.now c.consult.new.group l (sym c.index_mut-group.ensures.value) c.consult.ensures.looked),
       c.self.invariant.1,
     )
 

@@ -89,7 +89,7 @@ returns-in_default-index_place-clause-refused g c = (let
     own : h.table.id ≡ c.args.table = group_of s.groups.items s.standing.tables k.each.stand c.in-Some-numbered_place.place h l h_is c.args.table c.in-Some-numbered_place.ensures.numbered
     in
     subst (λ (w : Shown). Refuses (define_cause g.B.Founded.sound (definition.Active c.args.table c.args.index)) (known_by b g.B.Based.damaged w) (known_by b g.B.Based.damaged w) NoIndex) c.self.view_is
-    ((no_index g.D.Disk g.met.D.Disk.told g.met.D.Disk.up_to_now b g.B.Based.damaged g.B.Founded.sound g.B.Founded.premise s.disk s.catalog s.standing s.groups.items s.trail s.late s.closed k running c.in-Some-numbered_place.place h l h_is s.seat c.args.table own c.args.index may c.in_default-index_place.ensures.none, stays (known_by b g.B.Based.damaged v) k.told.legal, k.told.closing ∙ running)))
+    ((no_index g.D.Disk g.met.D.Disk.told g.met.D.Disk.up_to_now b g.B.Based.damaged g.B.Founded.sound g.B.Founded.premise g.B.Founded.began s.disk s.catalog s.standing s.groups.items s.trail s.late s.closed k running c.in-Some-numbered_place.place h l h_is s.seat c.args.table own c.args.index may c.in_default-index_place.ensures.none, stays (known_by b g.B.Based.damaged v) k.told.legal, k.told.closing ∙ running)))
 
 pub returns-in-Err-clause-refused : goal.returns-in-Err-clause-refused
 returns-in-Err-clause-refused g c = (let
@@ -149,9 +149,9 @@ invariant_of-self g c = (let
     in let
     own : h.table.id ≡ c.args.table = group_of s.groups.items s.standing.tables k.each.stand c.in-Some-numbered_place.place h l h_is c.args.table c.in-Some-numbered_place.ensures.numbered
     in let
-    kd : IsKept g.D.Disk b g.B.Founded.sound g.B.Founded.premise c.is_filled.new.disk s.catalog s.standing s.groups.items s.trail s.late s.closed = subst (λ (y : g.row.D.Denot). IsKept g.D.Disk b g.B.Founded.sound g.B.Founded.premise y s.catalog s.standing s.groups.items s.trail s.late s.closed) (sym c.is_filled.ensures.untouched) k
+    kd : IsKept g.D.Disk b g.B.Founded.sound g.B.Founded.premise g.B.Founded.began c.is_filled.new.disk s.catalog s.standing s.groups.items s.trail s.late s.closed = subst (λ (y : g.row.D.Denot). IsKept g.D.Disk b g.B.Founded.sound g.B.Founded.premise g.B.Founded.began y s.catalog s.standing s.groups.items s.trail s.late s.closed) (sym c.is_filled.ensures.untouched) k
     in
-    (looked_kept g.D.Disk b g.B.Founded.sound g.B.Founded.premise c.is_filled.new.disk s.catalog s.standing s.groups.items s.trail s.late s.closed kd c.in-Some-numbered_place.place h c.is_filled.new.group l h_is c.is_filled.ensures.looked, c.self.invariant.1))
+    (looked_kept g.D.Disk b g.B.Founded.sound g.B.Founded.premise g.B.Founded.began c.is_filled.new.disk s.catalog s.standing s.groups.items s.trail s.late s.closed kd c.in-Some-numbered_place.place h c.is_filled.new.group l h_is c.is_filled.ensures.looked, c.self.invariant.1))
 
 pub invariant_of-self-in-Err-is_filled : goal.invariant_of-self-in-Err-is_filled
 invariant_of-self-in-Err-is_filled g c = (let
@@ -173,9 +173,9 @@ invariant_of-self-in-Err-is_filled g c = (let
     in let
     own : h.table.id ≡ c.args.table = group_of s.groups.items s.standing.tables k.each.stand c.in-Some-numbered_place.place h l h_is c.args.table c.in-Some-numbered_place.ensures.numbered
     in let
-    kd : IsKept g.D.Disk b g.B.Founded.sound g.B.Founded.premise c.is_filled.new.disk s.catalog s.standing s.groups.items s.trail s.late s.closed = subst (λ (y : g.row.D.Denot). IsKept g.D.Disk b g.B.Founded.sound g.B.Founded.premise y s.catalog s.standing s.groups.items s.trail s.late s.closed) (sym c.is_filled.ensures.untouched) k
+    kd : IsKept g.D.Disk b g.B.Founded.sound g.B.Founded.premise g.B.Founded.began c.is_filled.new.disk s.catalog s.standing s.groups.items s.trail s.late s.closed = subst (λ (y : g.row.D.Denot). IsKept g.D.Disk b g.B.Founded.sound g.B.Founded.premise g.B.Founded.began y s.catalog s.standing s.groups.items s.trail s.late s.closed) (sym c.is_filled.ensures.untouched) k
     in
-    (looked_kept g.D.Disk b g.B.Founded.sound g.B.Founded.premise c.is_filled.new.disk s.catalog s.standing s.groups.items s.trail s.late s.closed kd c.in-Some-numbered_place.place h c.is_filled.new.group l h_is c.is_filled.ensures.looked, c.self.invariant.1))
+    (looked_kept g.D.Disk b g.B.Founded.sound g.B.Founded.premise g.B.Founded.began c.is_filled.new.disk s.catalog s.standing s.groups.items s.trail s.late s.closed kd c.in-Some-numbered_place.place h c.is_filled.new.group l h_is c.is_filled.ensures.looked, c.self.invariant.1))
 
 pub returns-in-Ok-true-clause-refused : goal.returns-in-Ok-true-clause-refused
 returns-in-Ok-true-clause-refused g c = (let
@@ -228,9 +228,9 @@ invariant_of-self-in_default-take_entry g c = (let
     in let
     own : h.table.id ≡ c.args.table = group_of s.groups.items s.standing.tables k.each.stand c.in-Some-numbered_place.place h l h_is c.args.table c.in-Some-numbered_place.ensures.numbered
     in let
-    kd : IsKept g.D.Disk b g.B.Founded.sound g.B.Founded.premise c.is_filled.new.disk s.catalog s.standing s.groups.items s.trail s.late s.closed = subst (λ (y : g.row.D.Denot). IsKept g.D.Disk b g.B.Founded.sound g.B.Founded.premise y s.catalog s.standing s.groups.items s.trail s.late s.closed) (sym c.is_filled.ensures.untouched) k
+    kd : IsKept g.D.Disk b g.B.Founded.sound g.B.Founded.premise g.B.Founded.began c.is_filled.new.disk s.catalog s.standing s.groups.items s.trail s.late s.closed = subst (λ (y : g.row.D.Denot). IsKept g.D.Disk b g.B.Founded.sound g.B.Founded.premise g.B.Founded.began y s.catalog s.standing s.groups.items s.trail s.late s.closed) (sym c.is_filled.ensures.untouched) k
     in
-    (roomy g.D.Disk b g.B.Founded.sound g.B.Founded.premise c.is_filled.new.disk s.catalog s.standing (slice_set s.groups.items c.in-Some-numbered_place.place c.is_filled.new.group) s.trail s.late s.closed (looked_kept g.D.Disk b g.B.Founded.sound g.B.Founded.premise c.is_filled.new.disk s.catalog s.standing s.groups.items s.trail s.late s.closed kd c.in-Some-numbered_place.place h c.is_filled.new.group l h_is c.is_filled.ensures.looked) c.take_entry.new.trail c.take_entry.ensures.same c.take_entry.ensures.least, (c.self.invariant.1.0, same_by_clock g.C.Clock g.B.Founded.times g.B.Based.base s.clock s.trail.entries c.self.invariant.1.1 c.take_entry.new.trail.entries c.take_entry.ensures.same)))
+    (roomy g.D.Disk b g.B.Founded.sound g.B.Founded.premise g.B.Founded.began c.is_filled.new.disk s.catalog s.standing (slice_set s.groups.items c.in-Some-numbered_place.place c.is_filled.new.group) s.trail s.late s.closed (looked_kept g.D.Disk b g.B.Founded.sound g.B.Founded.premise g.B.Founded.began c.is_filled.new.disk s.catalog s.standing s.groups.items s.trail s.late s.closed kd c.in-Some-numbered_place.place h c.is_filled.new.group l h_is c.is_filled.ensures.looked) c.take_entry.new.trail c.take_entry.ensures.same c.take_entry.ensures.least, (c.self.invariant.1.0, same_by_clock g.C.Clock g.B.Founded.times g.B.Based.base s.clock s.trail.entries c.self.invariant.1.1 c.take_entry.new.trail.entries c.take_entry.ensures.same)))
 
 pub returns-in_default-take_entry-clause-refused : goal.returns-in_default-take_entry-clause-refused
 returns-in_default-take_entry-clause-refused g c = (let
@@ -270,7 +270,7 @@ append-requires g c = (let
     in let
     own : h.table.id ≡ c.args.table = group_of s.groups.items s.standing.tables k.each.stand c.in-Some-numbered_place.place h l h_is c.args.table c.in-Some-numbered_place.ensures.numbered
     in let
-    kd : IsKept g.D.Disk b g.B.Founded.sound g.B.Founded.premise c.is_filled.new.disk s.catalog s.standing s.groups.items s.trail s.late s.closed = subst (λ (y : g.row.D.Denot). IsKept g.D.Disk b g.B.Founded.sound g.B.Founded.premise y s.catalog s.standing s.groups.items s.trail s.late s.closed) (sym c.is_filled.ensures.untouched) k
+    kd : IsKept g.D.Disk b g.B.Founded.sound g.B.Founded.premise g.B.Founded.began c.is_filled.new.disk s.catalog s.standing s.groups.items s.trail s.late s.closed = subst (λ (y : g.row.D.Denot). IsKept g.D.Disk b g.B.Founded.sound g.B.Founded.premise g.B.Founded.began y s.catalog s.standing s.groups.items s.trail s.late s.closed) (sym c.is_filled.ensures.untouched) k
     in let
     x = c.index-part.result.now
     in let
@@ -284,9 +284,9 @@ append-requires g c = (let
     in let
     short : c.args.table.0 < 256 ^ 4 = search rules
     in let
-    here = part g.D.Disk g.met.D.Disk.told g.met.D.Disk.up_to_now b g.B.Based.damaged g.B.Founded.sound g.B.Founded.premise s.disk s.catalog s.standing s.groups.items s.trail s.late s.closed k running c.in-Some-numbered_place.place h l h_is s.seat c.args.table own c.args.index may c.in-Some-index_place.at x x_is id
+    here = part g.D.Disk g.met.D.Disk.told g.met.D.Disk.up_to_now b g.B.Based.damaged g.B.Founded.sound g.B.Founded.premise g.B.Founded.began s.disk s.catalog s.standing s.groups.items s.trail s.late s.closed k running c.in-Some-numbered_place.place h l h_is s.seat c.args.table own c.args.index may c.in-Some-index_place.at x x_is id
     in
-    record { right = fits_active g.D.Disk g.met.D.Disk.told g.met.D.Disk.up_to_now b g.B.Based.damaged g.B.Founded.sound g.B.Founded.premise c.is_filled.new.disk s.catalog s.standing s.groups.items s.trail s.late s.closed kd running c.in-Some-numbered_place.place h l h_is s.seat c.args.table own c.args.index may c.in-Some-index_place.at x x_is id c.in-Ok.made c.in-Ok.ensures.ok (subst (λ (y : TableId). y.0 < 256 ^ 4) (sym (here.table ∙ own)) short) })
+    record { right = fits_active g.D.Disk g.met.D.Disk.told g.met.D.Disk.up_to_now b g.B.Based.damaged g.B.Founded.sound g.B.Founded.premise g.B.Founded.began c.is_filled.new.disk s.catalog s.standing s.groups.items s.trail s.late s.closed kd running c.in-Some-numbered_place.place h l h_is s.seat c.args.table own c.args.index may c.in-Some-index_place.at x x_is id c.in-Ok.made c.in-Ok.ensures.ok (subst (λ (y : TableId). y.0 < 256 ^ 4) (sym (here.table ∙ own)) short) })
 
 pub make_active-requires : goal.make_active-requires
 make_active-requires g c = (let
@@ -350,7 +350,7 @@ invariant_of-self-in-Ok-append g c = (let
     in let
     own : h.table.id ≡ c.args.table = group_of s.groups.items s.standing.tables k.each.stand c.in-Some-numbered_place.place h l h_is c.args.table c.in-Some-numbered_place.ensures.numbered
     in let
-    kd : IsKept g.D.Disk b g.B.Founded.sound g.B.Founded.premise c.is_filled.new.disk s.catalog s.standing s.groups.items s.trail s.late s.closed = subst (λ (y : g.row.D.Denot). IsKept g.D.Disk b g.B.Founded.sound g.B.Founded.premise y s.catalog s.standing s.groups.items s.trail s.late s.closed) (sym c.is_filled.ensures.untouched) k
+    kd : IsKept g.D.Disk b g.B.Founded.sound g.B.Founded.premise g.B.Founded.began c.is_filled.new.disk s.catalog s.standing s.groups.items s.trail s.late s.closed = subst (λ (y : g.row.D.Denot). IsKept g.D.Disk b g.B.Founded.sound g.B.Founded.premise g.B.Founded.began y s.catalog s.standing s.groups.items s.trail s.late s.closed) (sym c.is_filled.ensures.untouched) k
     in let
     x = c.index-part.result.now
     in let
@@ -362,7 +362,7 @@ invariant_of-self-in-Ok-append g c = (let
     in let
     x_is : slice_get h.indexes.items c.in-Some-index_place.at ≡ Some x = ap (λ (y : Group). slice_get y.indexes.items c.in-Some-index_place.at) (sym same) ∙ x0_is
     in
-    (activating_kept g.D.Disk g.met.D.Disk.told g.met.D.Disk.up_to_now b g.B.Based.damaged g.B.Founded.sound g.B.Founded.premise c.is_filled.new.disk s.catalog s.standing s.groups.items s.trail s.late s.closed kd running c.in-Some-numbered_place.place h l h_is s.seat c.args.table own c.args.index may c.in-Some-index_place.at x x_is id c.in-Ok.made c.in-Ok.ensures.ok c.is_filled.new.group c.is_filled.ensures.looked c.in-Ok-false.field-0 c.in-Ok-false.field-0-test c.in-Ok-false.ensures.rows c.take_entry.new.trail c.take_entry.ensures.same c.in-Ok-take_entry.ensures.ok c.append.new.disk c.append.new.self c.append.ensures.counts c.append.ensures.touches c.append.ensures.any_moment c.in-Ok-append.ensures.done c.in-Ok-append.ensures.defined c.index_mut-in-Ok-append.result.now c.index_mut-in-Ok-append.ensures.value c.make_active.new.group c.make_active.ensures c.replace-before.new.dest c.replace-before.ensures.after c.push.new.self c.call_count.result c.call_count.ensures c.push.ensures.entries c.push.ensures.room, (c.self.invariant.1.0, more_by_clock g.C.Clock g.B.Founded.times g.B.Based.base s.clock s.trail.entries c.self.invariant.1.1 c.push.new.self.entries (record { seat = s.seat; calls = c.call_count.result; act = act.IndexState c.args.table c.args.index Active c.index-part.result.now.index.birth }) (c.push.ensures.entries ∙ ap (λ (es : List Entry). es ++ (record { seat = s.seat; calls = c.call_count.result; act = act.IndexState c.args.table c.args.index Active c.index-part.result.now.index.birth }) ∷ []) c.take_entry.ensures.same) refl)))
+    (activating_kept g.D.Disk g.met.D.Disk.told g.met.D.Disk.up_to_now b g.B.Based.damaged g.B.Founded.sound g.B.Founded.premise g.B.Founded.began c.is_filled.new.disk s.catalog s.standing s.groups.items s.trail s.late s.closed kd running c.in-Some-numbered_place.place h l h_is s.seat c.args.table own c.args.index may c.in-Some-index_place.at x x_is id c.in-Ok.made c.in-Ok.ensures.ok c.is_filled.new.group c.is_filled.ensures.looked c.in-Ok-false.field-0 c.in-Ok-false.field-0-test c.in-Ok-false.ensures.rows c.take_entry.new.trail c.take_entry.ensures.same c.in-Ok-take_entry.ensures.ok c.append.new.disk c.append.new.self c.append.ensures.counts c.append.ensures.touches c.append.ensures.any_moment c.in-Ok-append.ensures.done c.in-Ok-append.ensures.defined c.index_mut-in-Ok-append.result.now c.index_mut-in-Ok-append.ensures.value c.make_active.new.group c.make_active.ensures c.replace-before.new.dest c.replace-before.ensures.after c.push.new.self c.call_count.result c.call_count.ensures c.push.ensures.entries c.push.ensures.room, (c.self.invariant.1.0, more_by_clock g.C.Clock g.B.Founded.times g.B.Based.base s.clock s.trail.entries c.self.invariant.1.1 c.push.new.self.entries (record { seat = s.seat; calls = c.call_count.result; act = act.IndexState c.args.table c.args.index Active c.index-part.result.now.index.birth }) (c.push.ensures.entries ∙ ap (λ (es : List Entry). es ++ (record { seat = s.seat; calls = c.call_count.result; act = act.IndexState c.args.table c.args.index Active c.index-part.result.now.index.birth }) ∷ []) c.take_entry.ensures.same) refl)))
 
 pub invariant_of-self-in-Err-append : goal.invariant_of-self-in-Err-append
 invariant_of-self-in-Err-append g c = (let
@@ -386,7 +386,7 @@ invariant_of-self-in-Err-append g c = (let
     in let
     own : h.table.id ≡ c.args.table = group_of s.groups.items s.standing.tables k.each.stand c.in-Some-numbered_place.place h l h_is c.args.table c.in-Some-numbered_place.ensures.numbered
     in let
-    kd : IsKept g.D.Disk b g.B.Founded.sound g.B.Founded.premise c.is_filled.new.disk s.catalog s.standing s.groups.items s.trail s.late s.closed = subst (λ (y : g.row.D.Denot). IsKept g.D.Disk b g.B.Founded.sound g.B.Founded.premise y s.catalog s.standing s.groups.items s.trail s.late s.closed) (sym c.is_filled.ensures.untouched) k
+    kd : IsKept g.D.Disk b g.B.Founded.sound g.B.Founded.premise g.B.Founded.began c.is_filled.new.disk s.catalog s.standing s.groups.items s.trail s.late s.closed = subst (λ (y : g.row.D.Denot). IsKept g.D.Disk b g.B.Founded.sound g.B.Founded.premise g.B.Founded.began y s.catalog s.standing s.groups.items s.trail s.late s.closed) (sym c.is_filled.ensures.untouched) k
     in let
     x = c.index-part.result.now
     in let
@@ -398,7 +398,7 @@ invariant_of-self-in-Err-append g c = (let
     in let
     x_is : slice_get h.indexes.items c.in-Some-index_place.at ≡ Some x = ap (λ (y : Group). slice_get y.indexes.items c.in-Some-index_place.at) (sym same) ∙ x0_is
     in
-    (activating_failed g.D.Disk g.met.D.Disk.told g.met.D.Disk.up_to_now b g.B.Based.damaged g.B.Founded.sound g.B.Founded.premise c.is_filled.new.disk s.catalog s.standing s.groups.items s.trail s.late s.closed kd running c.in-Some-numbered_place.place h l h_is s.seat c.args.table own c.args.index may c.in-Some-index_place.at x x_is id c.in-Ok.made c.in-Ok.ensures.ok c.is_filled.new.group c.is_filled.ensures.looked c.in-Ok-false.field-0 c.in-Ok-false.field-0-test c.in-Ok-false.ensures.rows c.take_entry.new.trail c.take_entry.ensures.same c.in-Ok-take_entry.ensures.ok c.append.new.disk c.append.new.self c.append.ensures.counts c.append.ensures.touches c.append.ensures.any_moment c.unwritten.new.trail c.unwritten.new.late c.unwritten.new.closed c.in-Err-append.fault (λ e. c.in-Err-append.ensures.untouched (elim e [ inl x ↦ inl (ap Err x) | inr x ↦ inr (ap Err x) ])) (λ e. c.in-Err-append.ensures.failed (ap Err e)) c.unwritten.ensures.kept c.unwritten.ensures.shut c.unwritten.ensures.room, (c.self.invariant.1.0, unwritten_by_clock g.C.Clock g.B.Founded.times g.B.Based.base s.clock s.trail.entries c.self.invariant.1.1 c.in-Err-append.fault c.unwritten.new.trail.entries (record { seat = s.seat; calls = g.D.Disk.calls c.append.new.disk; act = act.Shut (g.D.Disk.calls c.append.new.disk) }) (λ n. (c.unwritten.ensures.kept n).0 ∙ c.take_entry.ensures.same) (λ e. (c.unwritten.ensures.shut e).0 ∙ ap (λ (es : List Entry). es ++ (record { seat = s.seat; calls = g.D.Disk.calls c.append.new.disk; act = act.Shut (g.D.Disk.calls c.append.new.disk) }) ∷ []) c.take_entry.ensures.same) refl)))
+    (activating_failed g.D.Disk g.met.D.Disk.told g.met.D.Disk.up_to_now b g.B.Based.damaged g.B.Founded.sound g.B.Founded.premise g.B.Founded.began c.is_filled.new.disk s.catalog s.standing s.groups.items s.trail s.late s.closed kd running c.in-Some-numbered_place.place h l h_is s.seat c.args.table own c.args.index may c.in-Some-index_place.at x x_is id c.in-Ok.made c.in-Ok.ensures.ok c.is_filled.new.group c.is_filled.ensures.looked c.in-Ok-false.field-0 c.in-Ok-false.field-0-test c.in-Ok-false.ensures.rows c.take_entry.new.trail c.take_entry.ensures.same c.in-Ok-take_entry.ensures.ok c.append.new.disk c.append.new.self c.append.ensures.counts c.append.ensures.touches c.append.ensures.any_moment c.unwritten.new.trail c.unwritten.new.late c.unwritten.new.closed c.in-Err-append.fault (λ e. c.in-Err-append.ensures.untouched (elim e [ inl x ↦ inl (ap Err x) | inr x ↦ inr (ap Err x) ])) (λ e. c.in-Err-append.ensures.failed (ap Err e)) c.unwritten.ensures.kept c.unwritten.ensures.shut c.unwritten.ensures.room, (c.self.invariant.1.0, unwritten_by_clock g.C.Clock g.B.Founded.times g.B.Based.base s.clock s.trail.entries c.self.invariant.1.1 c.in-Err-append.fault c.unwritten.new.trail.entries (record { seat = s.seat; calls = g.D.Disk.calls c.append.new.disk; act = act.Shut (g.D.Disk.calls c.append.new.disk) }) (λ n. (c.unwritten.ensures.kept n).0 ∙ c.take_entry.ensures.same) (λ e. (c.unwritten.ensures.shut e).0 ∙ ap (λ (es : List Entry). es ++ (record { seat = s.seat; calls = g.D.Disk.calls c.append.new.disk; act = act.Shut (g.D.Disk.calls c.append.new.disk) }) ∷ []) c.take_entry.ensures.same) refl)))
 
 pub returns-in-Ok-append-clause-ok : goal.returns-in-Ok-append-clause-ok
 returns-in-Ok-append-clause-ok g c = (let
@@ -422,7 +422,7 @@ returns-in-Ok-append-clause-ok g c = (let
     in let
     own : h.table.id ≡ c.args.table = group_of s.groups.items s.standing.tables k.each.stand c.in-Some-numbered_place.place h l h_is c.args.table c.in-Some-numbered_place.ensures.numbered
     in let
-    kd : IsKept g.D.Disk b g.B.Founded.sound g.B.Founded.premise c.is_filled.new.disk s.catalog s.standing s.groups.items s.trail s.late s.closed = subst (λ (y : g.row.D.Denot). IsKept g.D.Disk b g.B.Founded.sound g.B.Founded.premise y s.catalog s.standing s.groups.items s.trail s.late s.closed) (sym c.is_filled.ensures.untouched) k
+    kd : IsKept g.D.Disk b g.B.Founded.sound g.B.Founded.premise g.B.Founded.began c.is_filled.new.disk s.catalog s.standing s.groups.items s.trail s.late s.closed = subst (λ (y : g.row.D.Denot). IsKept g.D.Disk b g.B.Founded.sound g.B.Founded.premise g.B.Founded.began y s.catalog s.standing s.groups.items s.trail s.late s.closed) (sym c.is_filled.ensures.untouched) k
     in let
     x = c.index-part.result.now
     in let
@@ -439,7 +439,7 @@ returns-in-Ok-append-clause-ok g c = (let
     m : Answered = record { number = c.args.index.0; stamp = x.index.birth; at = c.len.result }
     in
     subst (λ (w : Shown). DidDefine g.B.Founded.sound (known_by b g.B.Based.damaged w) (known_by b g.B.Based.damaged v') (definition.Active c.args.table c.args.index) m) c.self.view_is
-    (activating_did g.D.Disk g.met.D.Disk.told g.met.D.Disk.up_to_now b g.B.Based.damaged g.B.Founded.sound g.B.Founded.premise c.is_filled.new.disk s.catalog s.standing s.groups.items s.trail s.late s.closed kd running c.in-Some-numbered_place.place h l h_is s.seat c.args.table own c.args.index may c.in-Some-index_place.at x x_is id c.in-Ok.made c.in-Ok.ensures.ok c.is_filled.new.group c.is_filled.ensures.looked c.in-Ok-false.field-0 c.in-Ok-false.field-0-test c.in-Ok-false.ensures.rows c.take_entry.new.trail c.take_entry.ensures.same c.in-Ok-take_entry.ensures.ok c.append.new.disk c.append.new.self c.append.ensures.counts c.append.ensures.touches c.append.ensures.any_moment c.in-Ok-append.ensures.done c.in-Ok-append.ensures.defined c.index_mut-in-Ok-append.result.now c.index_mut-in-Ok-append.ensures.value c.make_active.new.group c.make_active.ensures c.replace-before.new.dest c.replace-before.ensures.after c.push.new.self c.call_count.result c.call_count.ensures c.push.ensures.entries c.push.ensures.room c.len.result c.len.ensures))
+    (activating_did g.D.Disk g.met.D.Disk.told g.met.D.Disk.up_to_now b g.B.Based.damaged g.B.Founded.sound g.B.Founded.premise g.B.Founded.began c.is_filled.new.disk s.catalog s.standing s.groups.items s.trail s.late s.closed kd running c.in-Some-numbered_place.place h l h_is s.seat c.args.table own c.args.index may c.in-Some-index_place.at x x_is id c.in-Ok.made c.in-Ok.ensures.ok c.is_filled.new.group c.is_filled.ensures.looked c.in-Ok-false.field-0 c.in-Ok-false.field-0-test c.in-Ok-false.ensures.rows c.take_entry.new.trail c.take_entry.ensures.same c.in-Ok-take_entry.ensures.ok c.append.new.disk c.append.new.self c.append.ensures.counts c.append.ensures.touches c.append.ensures.any_moment c.in-Ok-append.ensures.done c.in-Ok-append.ensures.defined c.index_mut-in-Ok-append.result.now c.index_mut-in-Ok-append.ensures.value c.make_active.new.group c.make_active.ensures c.replace-before.new.dest c.replace-before.ensures.after c.push.new.self c.call_count.result c.call_count.ensures c.push.ensures.entries c.push.ensures.room c.len.result c.len.ensures))
 
 pub returns-in-Err-append-clause-refused : goal.returns-in-Err-append-clause-refused
 returns-in-Err-append-clause-refused g c = (let
@@ -463,7 +463,7 @@ returns-in-Err-append-clause-refused g c = (let
     in let
     own : h.table.id ≡ c.args.table = group_of s.groups.items s.standing.tables k.each.stand c.in-Some-numbered_place.place h l h_is c.args.table c.in-Some-numbered_place.ensures.numbered
     in let
-    kd : IsKept g.D.Disk b g.B.Founded.sound g.B.Founded.premise c.is_filled.new.disk s.catalog s.standing s.groups.items s.trail s.late s.closed = subst (λ (y : g.row.D.Denot). IsKept g.D.Disk b g.B.Founded.sound g.B.Founded.premise y s.catalog s.standing s.groups.items s.trail s.late s.closed) (sym c.is_filled.ensures.untouched) k
+    kd : IsKept g.D.Disk b g.B.Founded.sound g.B.Founded.premise g.B.Founded.began c.is_filled.new.disk s.catalog s.standing s.groups.items s.trail s.late s.closed = subst (λ (y : g.row.D.Denot). IsKept g.D.Disk b g.B.Founded.sound g.B.Founded.premise g.B.Founded.began y s.catalog s.standing s.groups.items s.trail s.late s.closed) (sym c.is_filled.ensures.untouched) k
     in let
     x = c.index-part.result.now
     in let
@@ -478,4 +478,4 @@ returns-in-Err-append-clause-refused g c = (let
     v' : Shown = record { seat = s.seat; entries = c.unwritten.new.trail.entries; late = c.unwritten.new.late; closed = c.unwritten.new.closed }
     in
     subst (λ (w : Shown). Refuses (define_cause g.B.Founded.sound (definition.Active c.args.table c.args.index)) (known_by b g.B.Based.damaged w) (known_by b g.B.Based.damaged v') c.unwritten.result) c.self.view_is
-    (activating_refused g.D.Disk g.met.D.Disk.told g.met.D.Disk.up_to_now b g.B.Based.damaged g.B.Founded.sound g.B.Founded.premise c.is_filled.new.disk s.catalog s.standing s.groups.items s.trail s.late s.closed kd running c.in-Some-numbered_place.place h l h_is s.seat c.args.table own c.args.index may c.in-Some-index_place.at x x_is id c.in-Ok.made c.in-Ok.ensures.ok c.is_filled.new.group c.is_filled.ensures.looked c.in-Ok-false.field-0 c.in-Ok-false.field-0-test c.in-Ok-false.ensures.rows c.take_entry.new.trail c.take_entry.ensures.same c.in-Ok-take_entry.ensures.ok c.append.new.disk c.append.new.self c.append.ensures.counts c.append.ensures.touches c.append.ensures.any_moment c.unwritten.new.trail c.unwritten.new.late c.unwritten.new.closed c.in-Err-append.fault (λ e. c.in-Err-append.ensures.untouched (elim e [ inl x ↦ inl (ap Err x) | inr x ↦ inr (ap Err x) ])) (λ e. c.in-Err-append.ensures.failed (ap Err e)) c.unwritten.ensures.kept c.unwritten.ensures.shut c.unwritten.ensures.room c.unwritten.result c.unwritten.ensures.full c.unwritten.ensures.memory c.unwritten.ensures.failed))
+    (activating_refused g.D.Disk g.met.D.Disk.told g.met.D.Disk.up_to_now b g.B.Based.damaged g.B.Founded.sound g.B.Founded.premise g.B.Founded.began c.is_filled.new.disk s.catalog s.standing s.groups.items s.trail s.late s.closed kd running c.in-Some-numbered_place.place h l h_is s.seat c.args.table own c.args.index may c.in-Some-index_place.at x x_is id c.in-Ok.made c.in-Ok.ensures.ok c.is_filled.new.group c.is_filled.ensures.looked c.in-Ok-false.field-0 c.in-Ok-false.field-0-test c.in-Ok-false.ensures.rows c.take_entry.new.trail c.take_entry.ensures.same c.in-Ok-take_entry.ensures.ok c.append.new.disk c.append.new.self c.append.ensures.counts c.append.ensures.touches c.append.ensures.any_moment c.unwritten.new.trail c.unwritten.new.late c.unwritten.new.closed c.in-Err-append.fault (λ e. c.in-Err-append.ensures.untouched (elim e [ inl x ↦ inl (ap Err x) | inr x ↦ inr (ap Err x) ])) (λ e. c.in-Err-append.ensures.failed (ap Err e)) c.unwritten.ensures.kept c.unwritten.ensures.shut c.unwritten.ensures.room c.unwritten.result c.unwritten.ensures.full c.unwritten.ensures.memory c.unwritten.ensures.failed))

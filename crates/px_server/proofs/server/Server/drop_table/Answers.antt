@@ -46,7 +46,7 @@ returns-then-count-gt0-clause-refused g c =
     let v : Shown = record { seat = s.seat; entries = s.trail.entries; late = s.late; closed = s.closed } in
     let running : s.closed ≡ None = none_of s.closed (λ x is. search rules) in
     subst (λ (w : Shown). Refuses (define_cause g.B.Founded.sound (DropTableOf c.args.table)) (known_by b g.B.Based.damaged w) (known_by b g.B.Based.damaged w) (InUse c.uses-count.result)) c.self.view_is
-    (drop_in_use g.B.Founded.sound (known_by b g.B.Based.damaged v) told.legal s.closed told.closing running c.args.table c.uses-count.result (table_uses g.D.Disk b g.B.Founded.sound g.B.Founded.premise s.disk s.catalog s.standing s.groups.items s.trail s.late s.closed c.self.invariant.0 running c.args.table c.in-Some-numbered_place.place c.in-Some-numbered_place.ensures.found c.in-Some-numbered_place.ensures.numbered c.index.result.now (sym c.index.ensures) ∙ sym c.uses-count.ensures) c.if-count-gt0.true)
+    (drop_in_use g.B.Founded.sound (known_by b g.B.Based.damaged v) told.legal s.closed told.closing running c.args.table c.uses-count.result (table_uses g.D.Disk b g.B.Founded.sound g.B.Founded.premise g.B.Founded.began s.disk s.catalog s.standing s.groups.items s.trail s.late s.closed c.self.invariant.0 running c.args.table c.in-Some-numbered_place.place c.in-Some-numbered_place.ensures.found c.in-Some-numbered_place.ensures.numbered c.index.result.now (sym c.index.ensures) ∙ sym c.uses-count.ensures) c.if-count-gt0.true)
 
 pub returns-in_default-standing_after-clause-refused : goal.returns-in_default-standing_after-clause-refused
 returns-in_default-standing_after-clause-refused g c =
@@ -83,7 +83,7 @@ invariant_of-self-in-Ok-append g c =
     let s = c.self.inside in
     let running : s.closed ≡ None = none_of s.closed (λ x is. search rules) in
     let unused : length c.index.result.now.points.items + length c.index.result.now.batches.items ≡ 0 = (let n = c.uses-count.ensures in let z = c.if-count-gt0.false in omega (arith, n, z)) in (
-      dropping_kept g.D.Disk g.met.D.Disk.told g.met.D.Disk.up_to_now g.B.Based.base g.B.Founded.sound g.B.Founded.premise s.disk s.catalog s.standing s.groups.items s.trail s.late s.closed c.self.invariant.0
+      dropping_kept g.D.Disk g.met.D.Disk.told g.met.D.Disk.up_to_now g.B.Based.base g.B.Founded.sound g.B.Founded.premise g.B.Founded.began s.disk s.catalog s.standing s.groups.items s.trail s.late s.closed c.self.invariant.0
           c.append.new.disk c.append.new.self c.append.ensures.counts c.append.ensures.touches s.seat c.take_entry.new.trail c.take_entry.ensures.same c.in-Ok-take_entry.ensures.ok s.groups.items refl
           running c.args.table c.in-Some-numbered_place.place c.in-Some-numbered_place.ensures.found c.in-Some-numbered_place.ensures.numbered c.index.result.now (sym c.index.ensures) unused c.append.ensures.any_moment
           c.in-Ok-append.ensures.done c.in-Ok-append.ensures.defined c.replace-before.new.dest (c.replace-before.ensures.after ∙ c.in-Ok.ensures) c.retain.new.self.items
@@ -97,7 +97,7 @@ invariant_of-self-in-Err g c =
     let s = c.self.inside in
     let running : s.closed ≡ None = none_of s.closed (λ x is. search rules) in
     let unused : length c.index.result.now.points.items + length c.index.result.now.batches.items ≡ 0 = (let n = c.uses-count.ensures in let z = c.if-count-gt0.false in omega (arith, n, z)) in (
-      dropping_failed g.D.Disk g.met.D.Disk.told g.met.D.Disk.up_to_now g.B.Based.base g.B.Founded.sound g.B.Founded.premise s.disk s.catalog s.standing s.groups.items s.trail s.late s.closed c.self.invariant.0
+      dropping_failed g.D.Disk g.met.D.Disk.told g.met.D.Disk.up_to_now g.B.Based.base g.B.Founded.sound g.B.Founded.premise g.B.Founded.began s.disk s.catalog s.standing s.groups.items s.trail s.late s.closed c.self.invariant.0
           c.append.new.disk c.append.new.self c.append.ensures.counts c.append.ensures.touches s.seat c.take_entry.new.trail c.take_entry.ensures.same c.in-Ok-take_entry.ensures.ok s.groups.items refl
           running c.args.table c.in-Some-numbered_place.place c.in-Some-numbered_place.ensures.found c.in-Some-numbered_place.ensures.numbered c.index.result.now (sym c.index.ensures) unused c.append.ensures.any_moment
           c.unwritten.new.trail c.unwritten.new.late c.unwritten.new.closed c.in-Err.fault (λ e. c.in-Err.ensures.untouched (elim e [ inl x ↦ inl (ap Err x) | inr x ↦ inr (ap Err x) ])) (λ e. c.in-Err.ensures.failed (ap Err e))

@@ -29,7 +29,7 @@ unreachable-requires-in_default-batch_place g c =
     let s = c.self.inside in
     let b = g.B.Based.base in
     let can : CanEnd (known_by b g.B.Based.damaged (record { seat = s.seat; entries = s.trail.entries; late = s.late; closed = s.closed })) c.args.t = subst (λ (v : Shown). CanEnd (known_by b g.B.Based.damaged v) c.args.t) (sym c.self.view_is) c.requires in
-    has_end g.D.Disk b g.B.Founded.sound g.B.Founded.premise s.disk s.catalog s.standing s.groups.items s.trail s.late s.closed c.self.invariant.0 c.args.t.table c.in-Some.place c.index.result.now c.in-Some.ensures.found c.in-Some.ensures.numbered (sym c.index.ensures) c.args.t.stamp
+    has_end g.D.Disk b g.B.Founded.sound g.B.Founded.premise g.B.Founded.began s.disk s.catalog s.standing s.groups.items s.trail s.late s.closed c.self.invariant.0 c.args.t.table c.in-Some.place c.index.result.now c.in-Some.ensures.found c.in-Some.ensures.numbered (sym c.index.ensures) c.args.t.stamp
     s.seat can c.in_default-batch_place.ensures.none
 
 pub invariant_of-self : goal.invariant_of-self
@@ -42,7 +42,7 @@ invariant_of-self g c =
     let same : c.index.result.now ≡ c.index_mut.result.now = one_there s.groups.items place.place c.index.result.now c.index_mut.result.now (place_in s.groups.items s.standing.tables kept.each.stand place.place place.ensures.found) (sym c.index.ensures) (sym c.index_mut.ensures.value) in
     let x = c.end-rows.ensures in
     let stamp = end_stamp c.index.result.now c.index_mut.result.now same c.in-Some-batch_place.batch c.args.t.stamp c.in-Some-batch_place.ensures.found x.batch x.goes.batch in (
-      ends g.D.Disk b g.B.Founded.sound g.B.Founded.premise s.disk s.catalog s.standing s.groups.items s.trail s.late s.closed kept c.args.t.table place.place c.index_mut.result.now place.ensures.found place.ensures.numbered (sym c.index_mut.ensures.value) c.args.t.stamp
+      ends g.D.Disk b g.B.Founded.sound g.B.Founded.premise g.B.Founded.began s.disk s.catalog s.standing s.groups.items s.trail s.late s.closed kept c.args.t.table place.place c.index_mut.result.now place.ensures.found place.ensures.numbered (sym c.index_mut.ensures.value) c.args.t.stamp
           s.seat can c.in-Some-batch_place.batch x.batch x.goes.batch stamp c.call_count.result c.call_count.ensures g.met.D.Disk.told g.met.D.Disk.up_to_now c.end-rows.new.group x.goes c.push.new.self c.push.ensures.entries c.push.ensures.room,
       (c.self.invariant.1.0, more_by_clock g.C.Clock g.B.Founded.times g.B.Based.base s.clock s.trail.entries c.self.invariant.1.1 c.push.new.self.entries (record { seat = s.seat; calls = c.call_count.result; act = EndedAct c.args.t.table c.args.t.stamp }) c.push.ensures.entries refl),
     )
@@ -68,6 +68,6 @@ returns-clause-receipt g c =
     let x = c.end-rows.ensures in
     let stamp = end_stamp c.index.result.now c.index_mut.result.now same c.in-Some-batch_place.batch c.args.t.stamp c.in-Some-batch_place.ensures.found x.batch x.goes.batch in
     subst (λ (n : _). IsReceipt (record { seat = s.seat; base = b; damaged = g.B.Based.damaged; alone = _; seen = c.push.new.self.entries }) c.args.t (record { table = c.args.t.table; stamp = c.args.t.stamp; rows = c.end-rows.result.rows; concurrent = c.end-rows.result.concurrent; unfinished = u.result; at = n })) (sym c.len.ensures)
-    (receipt g.D.Disk b g.B.Founded.sound g.B.Founded.premise s.disk s.catalog s.standing s.groups.items s.trail s.late s.closed kept c.args.t.table place.place c.index_mut.result.now place.ensures.found place.ensures.numbered (sym c.index_mut.ensures.value) c.args.t.stamp
+    (receipt g.D.Disk b g.B.Founded.sound g.B.Founded.premise g.B.Founded.began s.disk s.catalog s.standing s.groups.items s.trail s.late s.closed kept c.args.t.table place.place c.index_mut.result.now place.ensures.found place.ensures.numbered (sym c.index_mut.ensures.value) c.args.t.stamp
     s.seat can c.in-Some-batch_place.batch x.batch x.goes.batch stamp c.call_count.result c.call_count.ensures g.B.Based.damaged c.end-rows.new.group c.end-rows.result x refl c.push.new.self c.push.ensures.entries (invariant_of-self g c).0.told.closing u.result
     (if_none ((s.closed ≡ None) ⊎ HasVerified s.trail.entries c.args.t.table.0 c.args.t.stamp) u.result u.ensures.none) (λ call named. (if_some (λ (n : ℕ). (s.closed ≡ Some n) × (HasVerified s.trail.entries c.args.t.table.0 c.args.t.stamp → ⊥)) u.result u.ensures.some call named).0))

@@ -4,9 +4,9 @@ use Rattle.px_server.proofs.server.Server.finish.Goals as goal
 pub returns-clause-stands : goal.returns-clause-stands
 returns-clause-stands g c = λ open_ given tells.
     let s = c.self.inside in
-    stands_by g.D.Disk g.B.Based.base g.B.Founded.sound g.B.Founded.premise s.disk s.catalog s.standing s.groups.items s.trail s.late s.closed c.self.invariant.0 open_ given tells
+    stands_by g.D.Disk g.B.Based.base g.B.Founded.sound g.B.Founded.premise g.B.Founded.began s.disk s.catalog s.standing s.groups.items s.trail s.late s.closed c.self.invariant.0 open_ given tells
 
 pub returns-clause-unlate : goal.returns-clause-unlate
 returns-clause-unlate g c = λ open_.
     let s = c.self.inside in
-    not_late g.D.Disk g.B.Based.base g.B.Founded.sound g.B.Founded.premise s.disk s.catalog s.standing s.groups.items s.trail s.late s.closed c.self.invariant.0 open_
+    not_late g.D.Disk g.B.Based.base g.B.Founded.sound g.B.Founded.premise g.B.Founded.began s.disk s.catalog s.standing s.groups.items s.trail s.late s.closed c.self.invariant.0 open_

@@ -15,10 +15,11 @@ use Rattle.px_trail.specs.declared.entry.Act.TheVariants.{Fixed as FixedAct, Shu
 use Rattle.px_trail.specs.Legal.{IsLegal}
 use Rattle.px_server.proofs.Seen.{one_more}
 use Rattle.px_server.specs.Shown.{Shown, known_by}
-use Rattle.px_server.proofs.Fixes.{doubt_at, answers_ok, answers_refused, failed_kept, failed_of, fix_stayed, fixed_flight, fixed_kept, fixed_of, other_trail, stayed, stayed_flight}
+use Rattle.px_server.proofs.Fixes.{doubt_at, answers_ok, answers_refused, failed_kept, failed_of, fix_stayed, fixed_flight, fixed_kept, fixed_of, stayed, stayed_flight}
 use Rattle.px_server.proofs.Found.{closed_by}
 use Rattle.px_server.proofs.ReadAt.{finds, inside}
 use Rattle.px_server.proofs.Released.{none_of}
+use Rattle.px_server.proofs.Reserved.{roomy}
 use Rattle.px_server.proofs.Seen.{stays}
 use Rattle.px_server.proofs.Stamping.{more_by_clock, same_by_clock}
 use Rattle.px_server.proofs.server.Server.fix.Goals as goal
@@ -79,9 +80,9 @@ invariant_of-self-then-has_stayed g c =
     let named = (doubt_at s.groups.items c.deref.result.now c.in-Some-doubt_place.at.group c.in-Some-doubt_place.at.index c.args.d.now.index c.index_mut-group.result.now _ c.deref.ensures.value c.in-Some-doubt_place.ensures.within c.in-Some-doubt_place.ensures.numbered c.index_mut-group.ensures.value).1 in
     let here : Stays c.fix-fixed.result = search rules in
     let h = stayed g.D.Disk c.index_mut-group.result.now c.fix-fixed.new.group s.disk c.fix-fixed.new.disk c.in-Some-doubt_place.at.index c.as_slice.result.now c.args.d.now.stamp c.fix-fixed.result here c.fix-fixed.ensures.fixes in (
-      other_trail g.D.Disk b g.B.Founded.sound g.B.Founded.premise c.fix-fixed.new.disk s.catalog s.standing (slice_set s.groups.items c.in-Some-doubt_place.at.group c.fix-fixed.new.group) s.trail c.give_back.new.self s.late s.closed
-          (fix_stayed g.D.Disk g.met.D.Disk.told g.met.D.Disk.up_to_now b g.B.Founded.sound g.B.Founded.premise s.disk s.catalog s.standing s.groups.items s.trail s.late s.closed k running c.in-Some-doubt_place.at.group c.index_mut-group.result.now c.fix-fixed.new.group l (sym c.index_mut-group.ensures.value) c.fix-fixed.new.disk h)
-          (c.give_back.ensures.same ∙ c.reserve.ensures.same) (let r = c.give_back.ensures.room in let o : c.reserve.new.self.room ≡ s.trail.room + 1 = search rules in omega (arith, r, o)),
+      roomy g.D.Disk b g.B.Founded.sound g.B.Founded.premise g.B.Founded.began c.fix-fixed.new.disk s.catalog s.standing (slice_set s.groups.items c.in-Some-doubt_place.at.group c.fix-fixed.new.group) s.trail s.late s.closed
+          (fix_stayed g.D.Disk g.met.D.Disk.told g.met.D.Disk.up_to_now b g.B.Founded.sound g.B.Founded.premise g.B.Founded.began s.disk s.catalog s.standing s.groups.items s.trail s.late s.closed k running c.in-Some-doubt_place.at.group c.index_mut-group.result.now c.fix-fixed.new.group l (sym c.index_mut-group.ensures.value) c.fix-fixed.new.disk h)
+          c.give_back.new.self (c.give_back.ensures.same ∙ c.reserve.ensures.same) (let r = c.give_back.ensures.room in let o : c.reserve.new.self.room ≡ s.trail.room + 1 = search rules in omega (arith, r, o)),
       (c.self.invariant.1.0, same_by_clock g.C.Clock g.B.Founded.times g.B.Based.base s.clock s.trail.entries c.self.invariant.1.1 c.give_back.new.self.entries (c.give_back.ensures.same ∙ c.reserve.ensures.same)),
     )
 
@@ -103,7 +104,7 @@ returns-then-has_stayed-clause-ok g c =
     (subst (λ (es : List Entry). IfOk c.answered.result (DidFix (known_by b g.B.Based.damaged v) (known_by b g.B.Based.damaged (record v { entries = es })) c.args.d.now)) (sym (c.give_back.ensures.same ∙ c.reserve.ensures.same))
     (answers_ok g.D.Disk c.index_mut-group.result.now c.fix-fixed.new.group s.disk c.fix-fixed.new.disk c.in-Some-doubt_place.at.index c.number-region.result (known_by b g.B.Based.damaged v) (known_by b g.B.Based.damaged v) c.args.d.now
     (finds (known_by b g.B.Based.damaged v) told.legal s.closed told.closing running)
-    (stayed_flight g.D.Disk g.met.D.Disk.told g.met.D.Disk.up_to_now b g.B.Founded.sound g.B.Founded.premise s.disk s.catalog s.standing s.groups.items s.trail s.late s.closed k running c.in-Some-doubt_place.at.group c.index_mut-group.result.now c.fix-fixed.new.group l (sym c.index_mut-group.ensures.value) c.fix-fixed.new.disk h c.in-Some-doubt_place.at.index c.args.d.now named)
+    (stayed_flight g.D.Disk g.met.D.Disk.told g.met.D.Disk.up_to_now b g.B.Founded.sound g.B.Founded.premise g.B.Founded.began s.disk s.catalog s.standing s.groups.items s.trail s.late s.closed k running c.in-Some-doubt_place.at.group c.index_mut-group.result.now c.fix-fixed.new.group l (sym c.index_mut-group.ensures.value) c.fix-fixed.new.disk h c.in-Some-doubt_place.at.index c.args.d.now named)
     c.fix-fixed.result here fixes c.answered.result c.answered.ensures))
 
 pub returns-then-has_stayed-clause-refused : goal.returns-then-has_stayed-clause-refused
@@ -122,7 +123,7 @@ returns-then-has_stayed-clause-refused g c =
     (subst (λ (es : List Entry). IfErr c.answered.result (Refuses fix_cause (known_by b g.B.Based.damaged v) (known_by b g.B.Based.damaged (record v { entries = es })))) (sym (c.give_back.ensures.same ∙ c.reserve.ensures.same))
     (answers_refused g.D.Disk c.index_mut-group.result.now c.fix-fixed.new.group s.disk c.fix-fixed.new.disk c.in-Some-doubt_place.at.index c.number-region.result (known_by b g.B.Based.damaged v) (known_by b g.B.Based.damaged v) c.args.d.now
     (finds (known_by b g.B.Based.damaged v) told.legal s.closed told.closing running)
-    (stayed_flight g.D.Disk g.met.D.Disk.told g.met.D.Disk.up_to_now b g.B.Founded.sound g.B.Founded.premise s.disk s.catalog s.standing s.groups.items s.trail s.late s.closed k running c.in-Some-doubt_place.at.group c.index_mut-group.result.now c.fix-fixed.new.group l (sym c.index_mut-group.ensures.value) c.fix-fixed.new.disk h c.in-Some-doubt_place.at.index c.args.d.now named)
+    (stayed_flight g.D.Disk g.met.D.Disk.told g.met.D.Disk.up_to_now b g.B.Founded.sound g.B.Founded.premise g.B.Founded.began s.disk s.catalog s.standing s.groups.items s.trail s.late s.closed k running c.in-Some-doubt_place.at.group c.index_mut-group.result.now c.fix-fixed.new.group l (sym c.index_mut-group.ensures.value) c.fix-fixed.new.disk h c.in-Some-doubt_place.at.index c.args.d.now named)
     c.fix-fixed.result here c.answered.result c.answered.ensures))
 
 pub invariant_of-self-in-Ok-fixed : goal.invariant_of-self-in-Ok-fixed
@@ -139,7 +140,7 @@ invariant_of-self-in-Ok-fixed g c =
     let f = (fixed_of g.D.Disk c.index_mut-group.result.now c.fix-fixed.new.group s.disk c.fix-fixed.new.disk c.in-Some-doubt_place.at.index c.as_slice.result.now c.args.d.now.stamp c.fix-fixed.result c.in-Ok-fixed.fixing never c.in-Ok-fixed.is c.fix-fixed.ensures.fixes).0 in
     let o : c.reserve.new.self.room ≡ s.trail.room + 1 = search rules in
     let p = c.push.ensures.room in (
-      fixed_kept g.D.Disk g.met.D.Disk.told g.met.D.Disk.up_to_now b g.B.Founded.sound g.B.Founded.premise s.disk s.catalog s.standing s.groups.items s.trail s.late s.closed k running c.in-Some-doubt_place.at.group c.index_mut-group.result.now c.fix-fixed.new.group l (sym c.index_mut-group.ensures.value) c.fix-fixed.new.disk
+      fixed_kept g.D.Disk g.met.D.Disk.told g.met.D.Disk.up_to_now b g.B.Founded.sound g.B.Founded.premise g.B.Founded.began s.disk s.catalog s.standing s.groups.items s.trail s.late s.closed k running c.in-Some-doubt_place.at.group c.index_mut-group.result.now c.fix-fixed.new.group l (sym c.index_mut-group.ensures.value) c.fix-fixed.new.disk
           c.in-Some-doubt_place.at.index c.as_slice.result.now c.args.d.now.stamp f s.seat c.call_count-calls.result c.args.d.now.index c.in-Ok.key named c.call_count-calls.ensures c.push.new.self (c.push.ensures.entries ∙ ap (λ (es : List Entry). es ++ (record { seat = s.seat; calls = c.call_count-calls.result; act = FixedAct c.args.d.now.index c.in-Ok.key }) ∷ []) c.reserve.ensures.same) (omega (arith, o, p)),
       (c.self.invariant.1.0, more_by_clock g.C.Clock g.B.Founded.times g.B.Based.base s.clock s.trail.entries c.self.invariant.1.1 c.push.new.self.entries (record { seat = s.seat; calls = c.call_count-calls.result; act = FixedAct c.args.d.now.index c.in-Ok.key }) (c.push.ensures.entries ∙ ap (λ (es : List Entry). es ++ (record { seat = s.seat; calls = c.call_count-calls.result; act = FixedAct c.args.d.now.index c.in-Ok.key }) ∷ []) c.reserve.ensures.same) refl),
     )
@@ -164,7 +165,7 @@ returns-in-Ok-fixed-clause-ok g c =
     let adds = one_more (known_by b g.B.Based.damaged v) c.push.new.self.entries c.call_count-calls.result (FixedAct c.args.d.now.index c.in-Ok.key) told.legal pushed (invariant_of-self-in-Ok-fixed g c).0.told.legal in
     let es' : List Entry = s.trail.entries ++ (record { seat = s.seat; calls = c.call_count-calls.result; act = FixedAct c.args.d.now.index c.in-Ok.key }) ∷ [] in
     let flight : IsInFlight b c.push.new.self.entries c.args.d.now → ⊥ = subst (λ (es : List Entry). IsInFlight b es c.args.d.now → ⊥) (sym pushed)
-    (fixed_flight g.D.Disk g.met.D.Disk.told g.met.D.Disk.up_to_now b g.B.Founded.sound g.B.Founded.premise s.disk s.catalog s.standing s.groups.items s.trail s.late s.closed k running c.in-Some-doubt_place.at.group c.index_mut-group.result.now c.fix-fixed.new.group l (sym c.index_mut-group.ensures.value) c.fix-fixed.new.disk
+    (fixed_flight g.D.Disk g.met.D.Disk.told g.met.D.Disk.up_to_now b g.B.Founded.sound g.B.Founded.premise g.B.Founded.began s.disk s.catalog s.standing s.groups.items s.trail s.late s.closed k running c.in-Some-doubt_place.at.group c.index_mut-group.result.now c.fix-fixed.new.group l (sym c.index_mut-group.ensures.value) c.fix-fixed.new.disk
     c.in-Some-doubt_place.at.index c.args.d.now f.0 named s.seat c.call_count-calls.result c.args.d.now.index c.in-Ok.key (subst (λ (es : List Entry). IsLegal b es) pushed (invariant_of-self-in-Ok-fixed g c).0.told.legal)) in
     subst (λ (w : Shown). DidFix (known_by b g.B.Based.damaged w) (known_by b g.B.Based.damaged v') c.args.d.now c.in-Ok-fixed.fixing) c.self.view_is
     (subst (λ (x : Fixing). DidFix (known_by b g.B.Based.damaged v) (known_by b g.B.Based.damaged v') c.args.d.now x) (sym f.1)
@@ -183,13 +184,13 @@ invariant_of-self-in-Err g c =
     let never : Stays c.fix-fixed.result → ⊥ = λ st. search rules in
     let f = (failed_of g.D.Disk c.index_mut-group.result.now c.fix-fixed.new.group s.disk c.fix-fixed.new.disk c.in-Some-doubt_place.at.index c.as_slice.result.now c.args.d.now.stamp c.fix-fixed.result c.in-Err.field-0 never c.in-Err.is c.fix-fixed.ensures.fixes) in
     let o : c.reserve.new.self.room ≡ s.trail.room + 1 = search rules in
-    let p = c.push-in-Err.ensures.room in
+    let p = c.shut.ensures.room in
     let unlate : s.late ≡ None = k.server.unlate running in
     let shut : Entry = record { seat = s.seat; calls = c.call_count-calls.result; act = ShutAct c.call_count-calls.result } in (
-      subst (λ (la : Option Entry). IsKept g.D.Disk b g.B.Founded.sound g.B.Founded.premise c.fix-fixed.new.disk s.catalog s.standing (slice_set s.groups.items c.in-Some-doubt_place.at.group c.fix-fixed.new.group) c.push-in-Err.new.self la (Some c.call_count-calls.result)) (sym unlate)
-          (failed_kept g.D.Disk g.met.D.Disk.told g.met.D.Disk.up_to_now b g.B.Founded.sound g.B.Founded.premise s.disk s.catalog s.standing s.groups.items s.trail s.late s.closed k running c.in-Some-doubt_place.at.group c.index_mut-group.result.now c.fix-fixed.new.group l (sym c.index_mut-group.ensures.value) c.fix-fixed.new.disk
-          c.in-Some-doubt_place.at.index c.as_slice.result.now c.args.d.now.stamp f.0.looked f.0.has f.0.kept f.0.due f.0.hands shut c.call_count-calls.result refl c.call_count-calls.ensures (c.fix-fixed.ensures.failed f.1) c.push-in-Err.new.self (c.push-in-Err.ensures.entries ∙ ap (λ (es : List Entry). es ++ shut ∷ []) c.reserve.ensures.same) (omega (arith, o, p))),
-      (c.self.invariant.1.0, more_by_clock g.C.Clock g.B.Founded.times g.B.Based.base s.clock s.trail.entries c.self.invariant.1.1 c.push-in-Err.new.self.entries shut (c.push-in-Err.ensures.entries ∙ ap (λ (es : List Entry). es ++ shut ∷ []) c.reserve.ensures.same) refl),
+      subst (λ (la : Option Entry). IsKept g.D.Disk b g.B.Founded.sound g.B.Founded.premise g.B.Founded.began c.fix-fixed.new.disk s.catalog s.standing (slice_set s.groups.items c.in-Some-doubt_place.at.group c.fix-fixed.new.group) c.shut.new.trail la (Some c.call_count-calls.result)) (sym unlate)
+          (failed_kept g.D.Disk g.met.D.Disk.told g.met.D.Disk.up_to_now b g.B.Founded.sound g.B.Founded.premise g.B.Founded.began s.disk s.catalog s.standing s.groups.items s.trail s.late s.closed k running c.in-Some-doubt_place.at.group c.index_mut-group.result.now c.fix-fixed.new.group l (sym c.index_mut-group.ensures.value) c.fix-fixed.new.disk
+          c.in-Some-doubt_place.at.index c.as_slice.result.now c.args.d.now.stamp f.0.looked f.0.has f.0.kept f.0.due f.0.hands shut c.call_count-calls.result refl c.call_count-calls.ensures (c.fix-fixed.ensures.failed f.1) c.shut.new.trail (c.shut.ensures.entries ∙ ap (λ (es : List Entry). es ++ shut ∷ []) c.reserve.ensures.same) (omega (arith, o, p))),
+      (c.self.invariant.1.0, more_by_clock g.C.Clock g.B.Founded.times g.B.Based.base s.clock s.trail.entries c.self.invariant.1.1 c.shut.new.trail.entries shut (c.shut.ensures.entries ∙ ap (λ (es : List Entry). es ++ shut ∷ []) c.reserve.ensures.same) refl),
     )
 
 pub returns-in-Err-clause-refused : goal.returns-in-Err-clause-refused
@@ -201,12 +202,12 @@ returns-in-Err-clause-refused g c =
     let v : Shown = record { seat = s.seat; entries = s.trail.entries; late = s.late; closed = s.closed } in
     let running : s.closed ≡ None = none_of s.closed (λ x is. search rules) in
     let shut : Entry = record { seat = s.seat; calls = c.call_count-calls.result; act = ShutAct c.call_count-calls.result } in
-    let pushed : c.push-in-Err.new.self.entries ≡ s.trail.entries ++ shut ∷ [] = c.push-in-Err.ensures.entries ∙ ap (λ (es : List Entry). es ++ shut ∷ []) c.reserve.ensures.same in
-    let v' : Shown = record v { entries = c.push-in-Err.new.self.entries } in (
+    let pushed : c.shut.new.trail.entries ≡ s.trail.entries ++ shut ∷ [] = c.shut.ensures.entries ∙ ap (λ (es : List Entry). es ++ shut ∷ []) c.reserve.ensures.same in
+    let v' : Shown = record v { entries = c.shut.new.trail.entries } in (
       tt,
       (
         c.call_count-calls.result,
         subst (λ (w : Shown). Adds (known_by b g.B.Based.damaged w) (known_by b g.B.Based.damaged v') (ShutAct c.call_count-calls.result)) c.self.view_is
-            (one_more (known_by b g.B.Based.damaged v) c.push-in-Err.new.self.entries c.call_count-calls.result (ShutAct c.call_count-calls.result) told.legal pushed (invariant_of-self-in-Err g c).0.told.legal),
+            (one_more (known_by b g.B.Based.damaged v) c.shut.new.trail.entries c.call_count-calls.result (ShutAct c.call_count-calls.result) told.legal pushed (invariant_of-self-in-Err g c).0.told.legal),
       ),
     )

@@ -33,8 +33,8 @@ invariant_of-self g c = (let
     in let
     k = c.self.invariant.0
     in (
-      subst (λ (x : g.row.D.Denot). IsKept g.D.Disk g.B.Based.base g.B.Founded.sound g.B.Founded.premise x s.catalog s.standing (slice_set s.groups.items c.in-Some.place c.is_filled.new.group) s.trail s.late s.closed) (sym c.is_filled.ensures.untouched)
-          (looked_kept g.D.Disk g.B.Based.base g.B.Founded.sound g.B.Founded.premise s.disk s.catalog s.standing s.groups.items s.trail s.late s.closed k c.in-Some.place c.index_mut.result.now c.is_filled.new.group
+      subst (λ (x : g.row.D.Denot). IsKept g.D.Disk g.B.Based.base g.B.Founded.sound g.B.Founded.premise g.B.Founded.began x s.catalog s.standing (slice_set s.groups.items c.in-Some.place c.is_filled.new.group) s.trail s.late s.closed) (sym c.is_filled.ensures.untouched)
+          (looked_kept g.D.Disk g.B.Based.base g.B.Founded.sound g.B.Founded.premise g.B.Founded.began s.disk s.catalog s.standing s.groups.items s.trail s.late s.closed k c.in-Some.place c.index_mut.result.now c.is_filled.new.group
           (place_in s.groups.items s.standing.tables k.each.stand c.in-Some.place c.in-Some.ensures.found) (sym c.index_mut.ensures.value) c.is_filled.ensures.looked),
       c.self.invariant.1,
     ))

@@ -114,7 +114,7 @@ invariant_of-self-in_default-take_entry g c = (let
     in let
     b = g.B.Based.base
     in (
-      roomy g.D.Disk b g.B.Founded.sound g.B.Founded.premise s.disk s.catalog s.standing s.groups.items s.trail s.late s.closed c.self.invariant.0 c.take_entry.new.trail c.take_entry.ensures.same c.take_entry.ensures.least,
+      roomy g.D.Disk b g.B.Founded.sound g.B.Founded.premise g.B.Founded.began s.disk s.catalog s.standing s.groups.items s.trail s.late s.closed c.self.invariant.0 c.take_entry.new.trail c.take_entry.ensures.same c.take_entry.ensures.least,
       (c.self.invariant.1.0, same_by_clock g.C.Clock g.B.Founded.times b c.next_stamp-stamp.new.clock s.trail.entries (read_by_clock g.C.Clock g.B.Founded.times b s.clock s.trail.entries c.self.invariant.1.1 c.next_stamp-stamp.new.clock c.next_stamp-stamp.ensures.rest) c.take_entry.new.trail.entries c.take_entry.ensures.same),
     ))
 
@@ -150,7 +150,7 @@ invariant_of-self-in_default-reserve_index g c = (let
     in let
     h1_is : get_or s.groups.items c.in-Some.place h1 ≡ h1 = sym c.index_mut.ensures.value
     in (
-      reserved g.D.Disk b g.B.Founded.sound g.B.Founded.premise s.disk s.catalog s.standing s.groups.items s.trail s.late s.closed k c.in-Some.place h1 c.reserve_index.new.group l h1_is c.reserve_index.ensures.same c.take_entry.new.trail c.take_entry.ensures.same c.take_entry.ensures.least,
+      reserved g.D.Disk b g.B.Founded.sound g.B.Founded.premise g.B.Founded.began s.disk s.catalog s.standing s.groups.items s.trail s.late s.closed k c.in-Some.place h1 c.reserve_index.new.group l h1_is c.reserve_index.ensures.same c.take_entry.new.trail c.take_entry.ensures.same c.take_entry.ensures.least,
       (c.self.invariant.1.0, same_by_clock g.C.Clock g.B.Founded.times b c.next_stamp-stamp.new.clock s.trail.entries (read_by_clock g.C.Clock g.B.Founded.times b s.clock s.trail.entries c.self.invariant.1.1 c.next_stamp-stamp.new.clock c.next_stamp-stamp.ensures.rest) c.take_entry.new.trail.entries c.take_entry.ensures.same),
     ))
 
@@ -202,7 +202,7 @@ append-requires g c = (let
     in let
     short : c.args.what.now.table.0 < 256 ^ 4 = search rules
     in
-    record { right = fits_made g.D.Disk b g.B.Founded.sound g.B.Founded.premise s.disk s.catalog s.standing s.groups.items s.trail s.late s.closed k running c.in-Some.place h l h_is c.args.what.now own (fit.fits h.table stands) short c.next_stamp-stamp.result c.in-Ok.made c.in-Ok.ensures.ok })
+    record { right = fits_made g.D.Disk b g.B.Founded.sound g.B.Founded.premise g.B.Founded.began s.disk s.catalog s.standing s.groups.items s.trail s.late s.closed k running c.in-Some.place h l h_is c.args.what.now own (fit.fits h.table stands) short c.next_stamp-stamp.result c.in-Ok.made c.in-Ok.ensures.ok })
 
 pub invariant_of-self-in-Ok-append : goal.invariant_of-self-in-Ok-append
 invariant_of-self-in-Ok-append g c = (let
@@ -238,7 +238,7 @@ invariant_of-self-in-Ok-append g c = (let
     in let
     e : Entry = record { seat = s.seat; calls = c.call_count.result; act = act.IndexMade c.args.what.now.table c.in-Ok.made.index.id c.next_stamp-stamp.result c.in-Ok.made.what }
     in (
-      making_kept g.D.Disk g.met.D.Disk.told g.met.D.Disk.up_to_now b g.B.Based.damaged g.B.Founded.sound g.B.Founded.premise s.disk s.catalog s.standing s.groups.items s.trail s.late s.closed k running c.in-Some.place h l h_is s.seat c.take_entry.new.trail c.take_entry.ensures.same c.in-Ok-take_entry.ensures.ok c.append.new.disk c.append.new.self c.append.ensures.counts c.append.ensures.touches c.args.what.now own may fit c.next_stamp-stamp.result above c.next_stamp-stamp.ensures.most c.in-Ok.made c.in-Ok.ensures.ok c.reserve_index.new.group c.reserve_index.ensures.same c.append.ensures.any_moment c.in-Ok-append.ensures.done c.in-Ok-append.ensures.defined c.index_mut-in-Ok-append.result.now c.index_mut-in-Ok-append.ensures.value c.add_index.new.group c.add_index.ensures c.replace-before.new.dest c.replace-before.ensures.after c.push.new.self c.call_count.result c.call_count.ensures c.push.ensures.entries c.push.ensures.room,
+      making_kept g.D.Disk g.met.D.Disk.told g.met.D.Disk.up_to_now b g.B.Based.damaged g.B.Founded.sound g.B.Founded.premise g.B.Founded.began s.disk s.catalog s.standing s.groups.items s.trail s.late s.closed k running c.in-Some.place h l h_is s.seat c.take_entry.new.trail c.take_entry.ensures.same c.in-Ok-take_entry.ensures.ok c.append.new.disk c.append.new.self c.append.ensures.counts c.append.ensures.touches c.args.what.now own may fit c.next_stamp-stamp.result above c.next_stamp-stamp.ensures.most c.in-Ok.made c.in-Ok.ensures.ok c.reserve_index.new.group c.reserve_index.ensures.same c.append.ensures.any_moment c.in-Ok-append.ensures.done c.in-Ok-append.ensures.defined c.index_mut-in-Ok-append.result.now c.index_mut-in-Ok-append.ensures.value c.add_index.new.group c.add_index.ensures c.replace-before.new.dest c.replace-before.ensures.after c.push.new.self c.call_count.result c.call_count.ensures c.push.ensures.entries c.push.ensures.room,
       (
         c.self.invariant.1.0,
         drawn_by_clock g.C.Clock g.B.Founded.times b s.clock s.trail.entries c.self.invariant.1.1 c.next_stamp-stamp.new.clock c.next_stamp-stamp.ensures.rest c.push.new.self.entries e (draw c.args.what.now.table.0 c.next_stamp-stamp.result) (c.push.ensures.entries ∙ ap (λ (es : List Entry). es ++ e ∷ []) c.take_entry.ensures.same) refl
@@ -274,7 +274,7 @@ invariant_of-self-in-Err-append g c = (let
     in let
     shut : Entry = record { seat = s.seat; calls = g.D.Disk.calls c.append.new.disk; act = act.Shut (g.D.Disk.calls c.append.new.disk) }
     in (
-      making_failed g.D.Disk g.met.D.Disk.told g.met.D.Disk.up_to_now b g.B.Based.damaged g.B.Founded.sound g.B.Founded.premise s.disk s.catalog s.standing s.groups.items s.trail s.late s.closed k running c.in-Some.place h l h_is s.seat c.take_entry.new.trail c.take_entry.ensures.same c.in-Ok-take_entry.ensures.ok c.append.new.disk c.append.new.self c.append.ensures.counts c.append.ensures.touches c.args.what.now own may fit c.next_stamp-stamp.result above c.next_stamp-stamp.ensures.most c.in-Ok.made c.in-Ok.ensures.ok c.reserve_index.new.group c.reserve_index.ensures.same c.append.ensures.any_moment c.unwritten.new.trail c.unwritten.new.late c.unwritten.new.closed c.in-Err-append.fault (λ e. c.in-Err-append.ensures.untouched (elim e [ inl x ↦ inl (ap Err x) | inr x ↦ inr (ap Err x) ])) (λ e. c.in-Err-append.ensures.failed (ap Err e)) c.unwritten.ensures.kept c.unwritten.ensures.shut c.unwritten.ensures.room,
+      making_failed g.D.Disk g.met.D.Disk.told g.met.D.Disk.up_to_now b g.B.Based.damaged g.B.Founded.sound g.B.Founded.premise g.B.Founded.began s.disk s.catalog s.standing s.groups.items s.trail s.late s.closed k running c.in-Some.place h l h_is s.seat c.take_entry.new.trail c.take_entry.ensures.same c.in-Ok-take_entry.ensures.ok c.append.new.disk c.append.new.self c.append.ensures.counts c.append.ensures.touches c.args.what.now own may fit c.next_stamp-stamp.result above c.next_stamp-stamp.ensures.most c.in-Ok.made c.in-Ok.ensures.ok c.reserve_index.new.group c.reserve_index.ensures.same c.append.ensures.any_moment c.unwritten.new.trail c.unwritten.new.late c.unwritten.new.closed c.in-Err-append.fault (λ e. c.in-Err-append.ensures.untouched (elim e [ inl x ↦ inl (ap Err x) | inr x ↦ inr (ap Err x) ])) (λ e. c.in-Err-append.ensures.failed (ap Err e)) c.unwritten.ensures.kept c.unwritten.ensures.shut c.unwritten.ensures.room,
       (
         c.self.invariant.1.0,
         unwritten_by_clock g.C.Clock g.B.Founded.times b c.next_stamp-stamp.new.clock s.trail.entries (read_by_clock g.C.Clock g.B.Founded.times b s.clock s.trail.entries c.self.invariant.1.1 c.next_stamp-stamp.new.clock c.next_stamp-stamp.ensures.rest) c.in-Err-append.fault c.unwritten.new.trail.entries shut
@@ -315,7 +315,7 @@ returns-in-Ok-append-clause-ok g c = (let
     m : Answered = record { number = c.in-Ok.made.index.id.0; stamp = c.next_stamp-stamp.result; at = c.len.result }
     in
     subst (λ (w : Shown). DidDefine g.B.Founded.sound (known_by b g.B.Based.damaged w) (known_by b g.B.Based.damaged v') (definition.Index c.args.what.now) m) c.self.view_is
-    (making_did g.D.Disk g.met.D.Disk.told g.met.D.Disk.up_to_now b g.B.Based.damaged g.B.Founded.sound g.B.Founded.premise s.disk s.catalog s.standing s.groups.items s.trail s.late s.closed k running c.in-Some.place h l h_is s.seat c.take_entry.new.trail c.take_entry.ensures.same c.in-Ok-take_entry.ensures.ok c.append.new.disk c.append.new.self c.append.ensures.counts c.append.ensures.touches c.args.what.now own may fit c.next_stamp-stamp.result above c.next_stamp-stamp.ensures.most c.in-Ok.made c.in-Ok.ensures.ok c.reserve_index.new.group c.reserve_index.ensures.same c.append.ensures.any_moment c.in-Ok-append.ensures.done c.in-Ok-append.ensures.defined c.index_mut-in-Ok-append.result.now c.index_mut-in-Ok-append.ensures.value c.add_index.new.group c.add_index.ensures c.replace-before.new.dest c.replace-before.ensures.after c.push.new.self c.call_count.result c.call_count.ensures c.push.ensures.entries c.push.ensures.room empty c.len.result c.len.ensures))
+    (making_did g.D.Disk g.met.D.Disk.told g.met.D.Disk.up_to_now b g.B.Based.damaged g.B.Founded.sound g.B.Founded.premise g.B.Founded.began s.disk s.catalog s.standing s.groups.items s.trail s.late s.closed k running c.in-Some.place h l h_is s.seat c.take_entry.new.trail c.take_entry.ensures.same c.in-Ok-take_entry.ensures.ok c.append.new.disk c.append.new.self c.append.ensures.counts c.append.ensures.touches c.args.what.now own may fit c.next_stamp-stamp.result above c.next_stamp-stamp.ensures.most c.in-Ok.made c.in-Ok.ensures.ok c.reserve_index.new.group c.reserve_index.ensures.same c.append.ensures.any_moment c.in-Ok-append.ensures.done c.in-Ok-append.ensures.defined c.index_mut-in-Ok-append.result.now c.index_mut-in-Ok-append.ensures.value c.add_index.new.group c.add_index.ensures c.replace-before.new.dest c.replace-before.ensures.after c.push.new.self c.call_count.result c.call_count.ensures c.push.ensures.entries c.push.ensures.room empty c.len.result c.len.ensures))
 
 pub returns-in-Err-append-clause-refused : goal.returns-in-Err-append-clause-refused
 returns-in-Err-append-clause-refused g c = (let
@@ -346,4 +346,4 @@ returns-in-Err-append-clause-refused g c = (let
     v' : Shown = record { seat = s.seat; entries = c.unwritten.new.trail.entries; late = c.unwritten.new.late; closed = c.unwritten.new.closed }
     in
     subst (λ (w : Shown). Refuses (define_cause g.B.Founded.sound (definition.Index c.args.what.now)) (known_by b g.B.Based.damaged w) (known_by b g.B.Based.damaged v') c.unwritten.result) c.self.view_is
-    (making_refused g.D.Disk g.met.D.Disk.told g.met.D.Disk.up_to_now b g.B.Based.damaged g.B.Founded.sound g.B.Founded.premise s.disk s.catalog s.standing s.groups.items s.trail s.late s.closed k running c.in-Some.place h l h_is s.seat c.take_entry.new.trail c.take_entry.ensures.same c.in-Ok-take_entry.ensures.ok c.append.new.disk c.append.new.self c.append.ensures.counts c.append.ensures.touches c.args.what.now own may fit c.next_stamp-stamp.result above c.next_stamp-stamp.ensures.most c.in-Ok.made c.in-Ok.ensures.ok c.reserve_index.new.group c.reserve_index.ensures.same c.append.ensures.any_moment c.unwritten.new.trail c.unwritten.new.late c.unwritten.new.closed c.in-Err-append.fault (λ e. c.in-Err-append.ensures.untouched (elim e [ inl x ↦ inl (ap Err x) | inr x ↦ inr (ap Err x) ])) (λ e. c.in-Err-append.ensures.failed (ap Err e)) c.unwritten.ensures.kept c.unwritten.ensures.shut c.unwritten.ensures.room c.unwritten.result c.unwritten.ensures.full c.unwritten.ensures.memory c.unwritten.ensures.failed))
+    (making_refused g.D.Disk g.met.D.Disk.told g.met.D.Disk.up_to_now b g.B.Based.damaged g.B.Founded.sound g.B.Founded.premise g.B.Founded.began s.disk s.catalog s.standing s.groups.items s.trail s.late s.closed k running c.in-Some.place h l h_is s.seat c.take_entry.new.trail c.take_entry.ensures.same c.in-Ok-take_entry.ensures.ok c.append.new.disk c.append.new.self c.append.ensures.counts c.append.ensures.touches c.args.what.now own may fit c.next_stamp-stamp.result above c.next_stamp-stamp.ensures.most c.in-Ok.made c.in-Ok.ensures.ok c.reserve_index.new.group c.reserve_index.ensures.same c.append.ensures.any_moment c.unwritten.new.trail c.unwritten.new.late c.unwritten.new.closed c.in-Err-append.fault (λ e. c.in-Err-append.ensures.untouched (elim e [ inl x ↦ inl (ap Err x) | inr x ↦ inr (ap Err x) ])) (λ e. c.in-Err-append.ensures.failed (ap Err e)) c.unwritten.ensures.kept c.unwritten.ensures.shut c.unwritten.ensures.room c.unwritten.result c.unwritten.ensures.full c.unwritten.ensures.memory c.unwritten.ensures.failed))

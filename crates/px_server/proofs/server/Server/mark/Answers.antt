@@ -34,22 +34,22 @@ pub unreachable-requires : goal.unreachable-requires
 unreachable-requires g c =
     let s = c.self.inside in
     let mine : IsIn s.trail.entries s.seat c.args.t.now.table.0 c.args.t.now.stamp InMarking = subst (λ (v : Shown). TicketIn (known_by g.B.Based.base g.B.Based.damaged v) c.args.t.now InMarking) (sym c.self.view_is) c.requires in
-    stands_somewhere g.D.Disk g.B.Based.base g.B.Founded.sound g.B.Founded.premise s.disk s.catalog s.standing s.groups.items s.trail s.late s.closed c.self.invariant.0 c.args.t.now s.seat Marking mine (in_marking mine.batch mine.phase).0 c.in_default-numbered_place.ensures.none
+    stands_somewhere g.D.Disk g.B.Based.base g.B.Founded.sound g.B.Founded.premise g.B.Founded.began s.disk s.catalog s.standing s.groups.items s.trail s.late s.closed c.self.invariant.0 c.args.t.now s.seat Marking mine (in_marking mine.batch mine.phase).0 c.in_default-numbered_place.ensures.none
 
 pub unreachable-requires-in_default-batch_place : goal.unreachable-requires-in_default-batch_place
 unreachable-requires-in_default-batch_place g c =
     let s = c.self.inside in
     let mine : IsIn s.trail.entries s.seat c.args.t.now.table.0 c.args.t.now.stamp InMarking = subst (λ (v : Shown). TicketIn (known_by g.B.Based.base g.B.Based.damaged v) c.args.t.now InMarking) (sym c.self.view_is) c.requires in
-    batch_somewhere g.D.Disk g.B.Based.base g.B.Founded.sound g.B.Founded.premise s.disk s.catalog s.standing s.groups.items s.trail s.late s.closed c.self.invariant.0 c.args.t.now s.seat Marking mine (in_marking mine.batch mine.phase).0 c.in_default.is c.in-Some-numbered_place.place c.in-Some-numbered_place.ensures.found c.in-Some-numbered_place.ensures.numbered c.index.result.now c.index.ensures
+    batch_somewhere g.D.Disk g.B.Based.base g.B.Founded.sound g.B.Founded.premise g.B.Founded.began s.disk s.catalog s.standing s.groups.items s.trail s.late s.closed c.self.invariant.0 c.args.t.now s.seat Marking mine (in_marking mine.batch mine.phase).0 c.in_default.is c.in-Some-numbered_place.place c.in-Some-numbered_place.ensures.found c.in-Some-numbered_place.ensures.numbered c.index.result.now c.index.ensures
     c.in_default-batch_place.ensures.none
 
 pub mark-outcome-requires-clause-marking : goal.mark-outcome-requires-clause-marking
 mark-outcome-requires-clause-marking g c =
     let s = c.self.inside in
     let mine : IsIn s.trail.entries s.seat c.args.t.now.table.0 c.args.t.now.stamp InMarking = subst (λ (v : Shown). TicketIn (known_by g.B.Based.base g.B.Based.damaged v) c.args.t.now InMarking) (sym c.self.view_is) c.requires in
-    let inside = there g.D.Disk g.B.Based.base g.B.Founded.sound g.B.Founded.premise s.disk s.catalog s.standing s.groups.items s.trail s.late s.closed c.self.invariant.0 c.args.t.now s.seat Marking mine (in_marking mine.batch mine.phase).0 c.in_default.is c.in-Some-numbered_place.place c.in-Some-numbered_place.ensures.found c.in-Some-numbered_place.ensures.numbered c.index.result.now c.index.ensures in
+    let inside = there g.D.Disk g.B.Based.base g.B.Founded.sound g.B.Founded.premise g.B.Founded.began s.disk s.catalog s.standing s.groups.items s.trail s.late s.closed c.self.invariant.0 c.args.t.now s.seat Marking mine (in_marking mine.batch mine.phase).0 c.in_default.is c.in-Some-numbered_place.place c.in-Some-numbered_place.ensures.found c.in-Some-numbered_place.ensures.numbered c.index.result.now c.index.ensures in
     let same : c.index.result.now ≡ c.index_mut-group.result.now = same_read s.groups.items c.in-Some-numbered_place.place c.index.result.now c.index_mut-group.result.now inside c.index.ensures c.index_mut-group.ensures.value in
-    batch_is g.D.Disk g.B.Based.base g.B.Founded.sound g.B.Founded.premise s.disk s.catalog s.standing s.groups.items s.trail s.late s.closed c.self.invariant.0 c.args.t.now s.seat Marking mine (in_marking mine.batch mine.phase).0 c.in_default.is c.in-Some-numbered_place.place c.in-Some-numbered_place.ensures.found c.in-Some-numbered_place.ensures.numbered c.index_mut-group.result.now c.index_mut-group.ensures.value
+    batch_is g.D.Disk g.B.Based.base g.B.Founded.sound g.B.Founded.premise g.B.Founded.began s.disk s.catalog s.standing s.groups.items s.trail s.late s.closed c.self.invariant.0 c.args.t.now s.seat Marking mine (in_marking mine.batch mine.phase).0 c.in_default.is c.in-Some-numbered_place.place c.in-Some-numbered_place.ensures.found c.in-Some-numbered_place.ensures.numbered c.index_mut-group.result.now c.index_mut-group.ensures.value
     c.in-Some-batch_place.batch (subst (λ (h : Group). c.in-Some-batch_place.batch < length h.batches.items) same c.in-Some-batch_place.ensures.found.0)
     (subst (λ (h : Group). (x : Begun) → slice_get h.batches.items c.in-Some-batch_place.batch ≡ Some x → x.batch.stamp ≡ c.args.t.now.stamp) same c.in-Some-batch_place.ensures.found.1)
 
@@ -59,9 +59,9 @@ invariant_of-self g c =
     let place = c.in-Some-numbered_place.place in
     let h = c.index_mut-group.result.now in
     let mine : IsIn s.trail.entries s.seat c.args.t.now.table.0 c.args.t.now.stamp InMarking = subst (λ (v : Shown). TicketIn (known_by g.B.Based.base g.B.Based.damaged v) c.args.t.now InMarking) (sym c.self.view_is) c.requires in
-    let inside = there g.D.Disk g.B.Based.base g.B.Founded.sound g.B.Founded.premise s.disk s.catalog s.standing s.groups.items s.trail s.late s.closed c.self.invariant.0 c.args.t.now s.seat Marking mine (in_marking mine.batch mine.phase).0 c.in_default.is place c.in-Some-numbered_place.ensures.found c.in-Some-numbered_place.ensures.numbered h c.index_mut-group.ensures.value in
+    let inside = there g.D.Disk g.B.Based.base g.B.Founded.sound g.B.Founded.premise g.B.Founded.began s.disk s.catalog s.standing s.groups.items s.trail s.late s.closed c.self.invariant.0 c.args.t.now s.seat Marking mine (in_marking mine.batch mine.phase).0 c.in_default.is place c.in-Some-numbered_place.ensures.found c.in-Some-numbered_place.ensures.numbered h c.index_mut-group.ensures.value in
     let w = marked_more g.D.Disk h c.mark-outcome.new.group s.disk c.mark-outcome.new.disk c.in-Some-batch_place.batch c.mark-outcome.result c.in-Ok.marked c.in-Ok.is c.in-More.is c.mark-outcome.ensures.steps in (
-      marks_kept g.D.Disk g.met.D.Disk.told g.met.D.Disk.up_to_now g.B.Based.base g.B.Founded.sound g.B.Founded.premise s.disk s.catalog s.standing s.groups.items s.trail s.late s.closed c.self.invariant.0 c.in_default.is
+      marks_kept g.D.Disk g.met.D.Disk.told g.met.D.Disk.up_to_now g.B.Based.base g.B.Founded.sound g.B.Founded.premise g.B.Founded.began s.disk s.catalog s.standing s.groups.items s.trail s.late s.closed c.self.invariant.0 c.in_default.is
           place h c.mark-outcome.new.group inside (sym c.index_mut-group.ensures.value) c.in-Some-batch_place.batch c.mark-outcome.new.disk w w.hands.writes.horizon,
       ((let was = c.self.invariant.1.0 in let more = c.mark-outcome.ensures.frame in omega (arith, was, more)), c.self.invariant.1.1),
     )
@@ -72,13 +72,13 @@ invariant_of-self-in-AllMarked g c =
     let place = c.in-Some-numbered_place.place in
     let h = c.index_mut-group.result.now in
     let mine : IsIn s.trail.entries s.seat c.args.t.now.table.0 c.args.t.now.stamp InMarking = subst (λ (v : Shown). TicketIn (known_by g.B.Based.base g.B.Based.damaged v) c.args.t.now InMarking) (sym c.self.view_is) c.requires in
-    let inside = there g.D.Disk g.B.Based.base g.B.Founded.sound g.B.Founded.premise s.disk s.catalog s.standing s.groups.items s.trail s.late s.closed c.self.invariant.0 c.args.t.now s.seat Marking mine (in_marking mine.batch mine.phase).0 c.in_default.is place c.in-Some-numbered_place.ensures.found c.in-Some-numbered_place.ensures.numbered h c.index_mut-group.ensures.value in
-    let own : h.table.id ≡ c.args.t.now.table = own_table g.D.Disk g.B.Based.base g.B.Founded.sound g.B.Founded.premise s.disk s.catalog s.standing s.groups.items s.trail s.late s.closed c.self.invariant.0 c.args.t.now s.seat Marking mine (in_marking mine.batch mine.phase).0 c.in_default.is place c.in-Some-numbered_place.ensures.found c.in-Some-numbered_place.ensures.numbered h c.index_mut-group.ensures.value in
+    let inside = there g.D.Disk g.B.Based.base g.B.Founded.sound g.B.Founded.premise g.B.Founded.began s.disk s.catalog s.standing s.groups.items s.trail s.late s.closed c.self.invariant.0 c.args.t.now s.seat Marking mine (in_marking mine.batch mine.phase).0 c.in_default.is place c.in-Some-numbered_place.ensures.found c.in-Some-numbered_place.ensures.numbered h c.index_mut-group.ensures.value in
+    let own : h.table.id ≡ c.args.t.now.table = own_table g.D.Disk g.B.Based.base g.B.Founded.sound g.B.Founded.premise g.B.Founded.began s.disk s.catalog s.standing s.groups.items s.trail s.late s.closed c.self.invariant.0 c.args.t.now s.seat Marking mine (in_marking mine.batch mine.phase).0 c.in_default.is place c.in-Some-numbered_place.ensures.found c.in-Some-numbered_place.ensures.numbered h c.index_mut-group.ensures.value in
     let phase : IsIn s.trail.entries s.seat h.table.id.0 c.args.t.now.stamp InMarking = subst (λ (x : TableId). IsIn s.trail.entries s.seat x.0 c.args.t.now.stamp InMarking) (sym own) mine in
     let same : c.index.result.now ≡ h = same_read s.groups.items place c.index.result.now h inside c.index.ensures c.index_mut-group.ensures.value in
     let e : Entry = record { seat = s.seat; calls = c.call_count-calls.result; act = PhaseAct c.args.t.now.table c.args.t.now.stamp 1 } in
     let all = marked_all g.D.Disk h c.mark-outcome.new.group s.disk c.mark-outcome.new.disk c.in-Some-batch_place.batch c.mark-outcome.result c.in-Ok.marked c.in-Ok.is c.in-AllMarked.is c.mark-outcome.ensures.steps in (
-      marks_all g.D.Disk g.met.D.Disk.told g.met.D.Disk.up_to_now g.B.Based.base g.B.Founded.sound g.B.Founded.premise s.disk s.catalog s.standing s.groups.items s.trail s.late s.closed c.self.invariant.0 c.in_default.is
+      marks_all g.D.Disk g.met.D.Disk.told g.met.D.Disk.up_to_now g.B.Based.base g.B.Founded.sound g.B.Founded.premise g.B.Founded.began s.disk s.catalog s.standing s.groups.items s.trail s.late s.closed c.self.invariant.0 c.in_default.is
           place h c.mark-outcome.new.group inside (sym c.index_mut-group.ensures.value) c.in-Some-batch_place.batch c.mark-outcome.new.disk c.args.t.now.stamp
           (subst (λ (q : Group). (x : Begun) → slice_get q.batches.items c.in-Some-batch_place.batch ≡ Some x → x.batch.stamp ≡ c.args.t.now.stamp) same c.in-Some-batch_place.ensures.found.1)
           e c.call_count-calls.ensures c.push.new.self (subst (λ (x : Entry). c.push.new.self.entries ≡ s.trail.entries ++ x ∷ []) c.done.ensures c.push.ensures.entries) c.push.ensures.room all (λ o. o.hands.writes.horizon)
@@ -92,14 +92,14 @@ invariant_of-self-in-Err g c =
     let place = c.in-Some-numbered_place.place in
     let h = c.index_mut-group.result.now in
     let mine : IsIn s.trail.entries s.seat c.args.t.now.table.0 c.args.t.now.stamp InMarking = subst (λ (v : Shown). TicketIn (known_by g.B.Based.base g.B.Based.damaged v) c.args.t.now InMarking) (sym c.self.view_is) c.requires in
-    let inside = there g.D.Disk g.B.Based.base g.B.Founded.sound g.B.Founded.premise s.disk s.catalog s.standing s.groups.items s.trail s.late s.closed c.self.invariant.0 c.args.t.now s.seat Marking mine (in_marking mine.batch mine.phase).0 c.in_default.is place c.in-Some-numbered_place.ensures.found c.in-Some-numbered_place.ensures.numbered h c.index_mut-group.ensures.value in
+    let inside = there g.D.Disk g.B.Based.base g.B.Founded.sound g.B.Founded.premise g.B.Founded.began s.disk s.catalog s.standing s.groups.items s.trail s.late s.closed c.self.invariant.0 c.args.t.now s.seat Marking mine (in_marking mine.batch mine.phase).0 c.in_default.is place c.in-Some-numbered_place.ensures.found c.in-Some-numbered_place.ensures.numbered h c.index_mut-group.ensures.value in
     let shut : Entry = record { seat = s.seat; calls = c.call_count-calls.result; act = Shut c.call_count-calls.result } in
-    let kept = marks_shut g.D.Disk g.met.D.Disk.told g.met.D.Disk.up_to_now g.B.Based.base g.B.Founded.sound g.B.Founded.premise s.disk s.catalog s.standing s.groups.items s.trail s.late s.closed c.self.invariant.0 c.in_default.is
+    let kept = marks_shut g.D.Disk g.met.D.Disk.told g.met.D.Disk.up_to_now g.B.Based.base g.B.Founded.sound g.B.Founded.premise g.B.Founded.began s.disk s.catalog s.standing s.groups.items s.trail s.late s.closed c.self.invariant.0 c.in_default.is
     place h c.mark-outcome.new.group inside (sym c.index_mut-group.ensures.value) c.in-Some-batch_place.batch c.mark-outcome.new.disk
-    shut c.call_count-calls.result refl c.call_count-calls.ensures (c.in-Err.ensures.failed refl) c.push-in-Err.new.self c.push-in-Err.ensures.entries c.push-in-Err.ensures.room c.in-Err.ensures.steps in (
-      subst (λ o. IsKept g.D.Disk g.B.Based.base g.B.Founded.sound g.B.Founded.premise c.mark-outcome.new.disk s.catalog s.standing (Rattle.std.specs.List.slice_set s.groups.items place c.mark-outcome.new.group) c.push-in-Err.new.self o (Some c.call_count-calls.result))
+    shut c.call_count-calls.result refl c.call_count-calls.ensures (c.in-Err.ensures.failed refl) c.shut.new.trail c.shut.ensures.entries c.shut.ensures.room c.in-Err.ensures.steps in (
+      subst (λ o. IsKept g.D.Disk g.B.Based.base g.B.Founded.sound g.B.Founded.premise g.B.Founded.began c.mark-outcome.new.disk s.catalog s.standing (Rattle.std.specs.List.slice_set s.groups.items place c.mark-outcome.new.group) c.shut.new.trail o (Some c.call_count-calls.result))
           (sym (c.self.invariant.0.server.unlate c.in_default.is)) kept,
-      ((let was = c.self.invariant.1.0 in let more = c.mark-outcome.ensures.frame in omega (arith, was, more)), more_by_clock g.C.Clock g.B.Founded.times g.B.Based.base s.clock s.trail.entries c.self.invariant.1.1 c.push-in-Err.new.self.entries shut c.push-in-Err.ensures.entries refl),
+      ((let was = c.self.invariant.1.0 in let more = c.mark-outcome.ensures.frame in omega (arith, was, more)), more_by_clock g.C.Clock g.B.Founded.times g.B.Based.base s.clock s.trail.entries c.self.invariant.1.1 c.shut.new.trail.entries shut c.shut.ensures.entries refl),
     )
 
 pub returns-in-More-clause-ok : goal.returns-in-More-clause-ok
@@ -126,12 +126,12 @@ returns-in-Err-clause-refused g c =
     let s = c.self.inside in
     let told = c.self.invariant.0.told in
     let v : Shown = record { seat = s.seat; entries = s.trail.entries; late = s.late; closed = s.closed } in
-    let v' : Shown = record { seat = s.seat; entries = c.push-in-Err.new.self.entries; late = s.late; closed = Some c.call_count-calls.result } in
+    let v' : Shown = record { seat = s.seat; entries = c.shut.new.trail.entries; late = s.late; closed = Some c.call_count-calls.result } in
     let act = Shut c.call_count-calls.result in (
       tt,
       (
         c.call_count-calls.result,
         subst (λ (w : Shown). Adds (known_by g.B.Based.base g.B.Based.damaged w) (known_by g.B.Based.base g.B.Based.damaged v') act) c.self.view_is
-            (one_more (known_by g.B.Based.base g.B.Based.damaged v) c.push-in-Err.new.self.entries c.call_count-calls.result act told.legal c.push-in-Err.ensures.entries (invariant_of-self-in-Err g c).0.told.legal),
+            (one_more (known_by g.B.Based.base g.B.Based.damaged v) c.shut.new.trail.entries c.call_count-calls.result act told.legal c.shut.ensures.entries (invariant_of-self-in-Err g c).0.told.legal),
       ),
     )

@@ -48,10 +48,10 @@ returns-in_err-stamp-clause-refused g c =
     let p = err_from_is_err_and c.from_residual.result c.from_residual.ensures.1 in
     let refused : Refuses (open_cause c.args.table.0 c.args.scn) (known_by b g.B.Based.damaged v) (known_by b g.B.Based.damaged v) c.in_err-stamp.field-0.0 =
     no_point (known_by b g.B.Based.damaged v) told.legal s.closed told.closing running c.index.result.now
-    (right_here g.D.Disk b g.B.Founded.sound g.B.Founded.premise s.disk s.catalog s.standing s.groups.items s.trail s.late s.closed kept running c.args.table place.place c.index.result.now place.ensures.found place.ensures.numbered (sym c.index.ensures))
-    (told_here g.D.Disk b g.B.Founded.sound g.B.Founded.premise s.disk s.catalog s.standing s.groups.items s.trail s.late s.closed kept running c.args.table place.place c.index.result.now place.ensures.found place.ensures.numbered (sym c.index.ensures))
+    (right_here g.D.Disk b g.B.Founded.sound g.B.Founded.premise g.B.Founded.began s.disk s.catalog s.standing s.groups.items s.trail s.late s.closed kept running c.args.table place.place c.index.result.now place.ensures.found place.ensures.numbered (sym c.index.ensures))
+    (told_here g.D.Disk b g.B.Founded.sound g.B.Founded.premise g.B.Founded.began s.disk s.catalog s.standing s.groups.items s.trail s.late s.closed kept running c.args.table place.place c.index.result.now place.ensures.found place.ensures.numbered (sym c.index.ensures))
     c.args.table
-    (own g.D.Disk b g.B.Founded.sound g.B.Founded.premise s.disk s.catalog s.standing s.groups.items s.trail s.late s.closed kept running c.args.table place.place c.index.result.now place.ensures.found place.ensures.numbered (sym c.index.ensures))
+    (own g.D.Disk b g.B.Founded.sound g.B.Founded.premise g.B.Founded.began s.disk s.catalog s.standing s.groups.items s.trail s.late s.closed kept running c.args.table place.place c.index.result.now place.ensures.found place.ensures.numbered (sym c.index.ensures))
     c.args.scn c.in_err-stamp.field-0.0 c.in_err-stamp.ensures.none
     in
     rw p.1 (subst (λ (f : StepFault). Refuses (open_cause c.args.table.0 c.args.scn) (known_by b g.B.Based.damaged c.args.self.now) (known_by b g.B.Based.damaged c.args.self.now) f) (sym p.2)
@@ -73,7 +73,7 @@ invariant_of-self g c =
     let running : s.closed ≡ None = none_of s.closed (λ x is. search rules) in
     let trail : c.note_point.new.trail ≡ s.trail = search rules in
     let place = c.in-Some-numbered_place in (
-      opens_none g.D.Disk g.B.Based.base g.B.Founded.sound g.B.Founded.premise s.disk s.catalog s.standing s.groups.items s.trail s.late s.closed c.self.invariant.0 running c.args.table place.place c.index_mut.result.now place.ensures.found place.ensures.numbered (sym c.index_mut.ensures.value)
+      opens_none g.D.Disk g.B.Based.base g.B.Founded.sound g.B.Founded.premise g.B.Founded.began s.disk s.catalog s.standing s.groups.items s.trail s.late s.closed c.self.invariant.0 running c.args.table place.place c.index_mut.result.now place.ensures.found place.ensures.numbered (sym c.index_mut.ensures.value)
           c.note_point.new.group c.in-Err.ensures.same (search rules) c.note_point.new.trail (search rules),
       (c.self.invariant.1.0, same_by_clock g.C.Clock g.B.Founded.times g.B.Based.base s.clock s.trail.entries c.self.invariant.1.1 c.note_point.new.trail.entries (ap (λ (t : Recorded). t.entries) trail)),
     )
@@ -101,7 +101,7 @@ invariant_of-self-2 g c =
     let inside = place_in s.groups.items s.standing.tables kept.each.stand place.place place.ensures.found in
     let same : c.index.result.now ≡ c.index_mut.result.now = one_there s.groups.items place.place c.index.result.now c.index_mut.result.now inside (sym c.index.ensures) (sym c.index_mut.ensures.value) in
     let point = subst (λ (x : Group). IsPointOf x c.args.scn c.in_ok-stamp.stamp) same c.in_ok-stamp.ensures.point in (
-      opens g.D.Disk g.B.Based.base g.B.Founded.sound g.B.Founded.premise s.disk s.catalog s.standing s.groups.items s.trail s.late s.closed kept running c.args.table place.place c.index_mut.result.now place.ensures.found place.ensures.numbered (sym c.index_mut.ensures.value)
+      opens g.D.Disk g.B.Based.base g.B.Founded.sound g.B.Founded.premise g.B.Founded.began s.disk s.catalog s.standing s.groups.items s.trail s.late s.closed kept running c.args.table place.place c.index_mut.result.now place.ensures.found place.ensures.numbered (sym c.index_mut.ensures.value)
           c.args.scn c.in_ok-stamp.stamp point g.met.D.Disk.told g.met.D.Disk.up_to_now s.seat c.call_count.result c.call_count.ensures c.note_point.new.group made.opened made.count c.note_point.new.trail
           (made.entries ∙ ap (λ (v : Bool). s.trail.entries ++ record { seat = s.seat; calls = c.call_count.result; act = OpenedAct c.args.table c.in_ok-stamp.stamp v } ∷ []) c.is_some-scn.ensures) made.room,
       (c.self.invariant.1.0, more_by_clock g.C.Clock g.B.Founded.times g.B.Based.base s.clock s.trail.entries c.self.invariant.1.1 c.note_point.new.trail.entries (record { seat = s.seat; calls = c.call_count.result; act = OpenedAct c.args.table c.in_ok-stamp.stamp c.is_some-scn.result }) made.entries refl),
@@ -123,7 +123,7 @@ returns-clause-ok g c =
     let v' : Shown = record { seat = s.seat; entries = c.note_point.new.trail.entries; late = s.late; closed = s.closed } in
     subst (λ (w : Shown). DidOpen (known_by b g.B.Based.damaged w) (known_by b g.B.Based.damaged v') c.args.table c.args.scn (record { table = c.args.table; stamp = c.in_ok-stamp.stamp; scn = c.is_some-scn.result; found = f })) c.self.view_is
     (subst (λ (q : Bool). DidOpen (known_by b g.B.Based.damaged v) (known_by b g.B.Based.damaged v') c.args.table c.args.scn (record { table = c.args.table; stamp = c.in_ok-stamp.stamp; scn = q; found = f })) (sym c.is_some-scn.ensures)
-    (did_open g.D.Disk b g.B.Founded.sound g.B.Founded.premise s.disk s.catalog s.standing s.groups.items s.trail s.late s.closed kept running c.args.table place.place c.index_mut.result.now place.ensures.found place.ensures.numbered (sym c.index_mut.ensures.value)
+    (did_open g.D.Disk b g.B.Founded.sound g.B.Founded.premise g.B.Founded.began s.disk s.catalog s.standing s.groups.items s.trail s.late s.closed kept running c.args.table place.place c.index_mut.result.now place.ensures.found place.ensures.numbered (sym c.index_mut.ensures.value)
     c.args.scn c.in_ok-stamp.stamp point g.met.D.Disk.told g.met.D.Disk.up_to_now s.seat c.call_count.result c.call_count.ensures g.B.Based.damaged c.note_point.new.trail
     (made.entries ∙ ap (λ (v : Bool). s.trail.entries ++ record { seat = s.seat; calls = c.call_count.result; act = OpenedAct c.args.table c.in_ok-stamp.stamp v } ∷ []) c.is_some-scn.ensures)
     (invariant_of-self-2 g c).0.told f c.in-Ok.ensures.table c.in-Ok.ensures.indexes c.len-2.ensures))

@@ -31,7 +31,7 @@ returns-in_default-unlogged_table-clause-ok g c =
 pub invariant_of-self : goal.invariant_of-self
 invariant_of-self g c =
     let s = c.self.inside in (
-      stepped g.D.Disk g.met.D.Disk.told g.met.D.Disk.up_to_now g.B.Based.base g.B.Founded.sound g.B.Founded.premise s.disk s.catalog s.standing s.groups.items s.trail s.late s.closed c.self.invariant.0 c.in_default.is
+      stepped g.D.Disk g.met.D.Disk.told g.met.D.Disk.up_to_now g.B.Based.base g.B.Founded.sound g.B.Founded.premise g.B.Founded.began s.disk s.catalog s.standing s.groups.items s.trail s.late s.closed c.self.invariant.0 c.in_default.is
           c.in-Some-unlogged_table.place c.index_mut-group.result.now c.step_table.new.group (subst (λ (gs : List Group). c.in-Some-unlogged_table.place < length gs) c.as_slice.ensures.value c.in-Some-unlogged_table.ensures.found.0) (sym c.index_mut-group.ensures.value) c.step_table.new.disk c.in-Ok.ensures.ok,
       c.self.invariant.1,
     )
@@ -39,7 +39,7 @@ invariant_of-self g c =
 pub invariant_of-self-in-Err-Memory : goal.invariant_of-self-in-Err-Memory
 invariant_of-self-in-Err-Memory g c =
     let s = c.self.inside in (
-      stepped g.D.Disk g.met.D.Disk.told g.met.D.Disk.up_to_now g.B.Based.base g.B.Founded.sound g.B.Founded.premise s.disk s.catalog s.standing s.groups.items s.trail s.late s.closed c.self.invariant.0 c.in_default.is
+      stepped g.D.Disk g.met.D.Disk.told g.met.D.Disk.up_to_now g.B.Based.base g.B.Founded.sound g.B.Founded.premise g.B.Founded.began s.disk s.catalog s.standing s.groups.items s.trail s.late s.closed c.self.invariant.0 c.in_default.is
           c.in-Some-unlogged_table.place c.index_mut-group.result.now c.step_table.new.group (subst (λ (gs : List Group). c.in-Some-unlogged_table.place < length gs) c.as_slice.ensures.value c.in-Some-unlogged_table.ensures.found.0) (sym c.index_mut-group.ensures.value) c.step_table.new.disk ((rw c.in-Err-Memory.field-0-is at c.in-Err-Memory.ensures.refused) refl),
       c.self.invariant.1,
     )
@@ -48,9 +48,9 @@ pub invariant_of-self-in-Err-WriteFault : goal.invariant_of-self-in-Err-WriteFau
 invariant_of-self-in-Err-WriteFault g c =
     let s = c.self.inside in
     let failed = (rw c.in-Err-WriteFault.field-0-is at c.in-Err-WriteFault.ensures.failed) refl in (
-      stopped g.D.Disk g.met.D.Disk.told g.met.D.Disk.up_to_now g.B.Based.base g.B.Founded.sound g.B.Founded.premise s.disk s.catalog s.standing s.groups.items s.trail s.late s.closed c.self.invariant.0 c.in_default.is
-          c.in-Some-unlogged_table.place c.index_mut-group.result.now c.step_table.new.group (subst (λ (gs : List Group). c.in-Some-unlogged_table.place < length gs) c.as_slice.ensures.value c.in-Some-unlogged_table.ensures.found.0) (sym c.index_mut-group.ensures.value) c.step_table.new.disk failed.0 c.call_count-calls.result s.seat c.call_count-calls.ensures failed.1 c.push.new.self c.push.ensures.entries c.push.ensures.room,
-      (c.self.invariant.1.0, more_by_clock g.C.Clock g.B.Founded.times g.B.Based.base s.clock s.trail.entries c.self.invariant.1.1 c.push.new.self.entries (record { seat = s.seat; calls = c.call_count-calls.result; act = Shut c.call_count-calls.result }) c.push.ensures.entries refl),
+      stopped g.D.Disk g.met.D.Disk.told g.met.D.Disk.up_to_now g.B.Based.base g.B.Founded.sound g.B.Founded.premise g.B.Founded.began s.disk s.catalog s.standing s.groups.items s.trail s.late s.closed c.self.invariant.0 c.in_default.is
+          c.in-Some-unlogged_table.place c.index_mut-group.result.now c.step_table.new.group (subst (λ (gs : List Group). c.in-Some-unlogged_table.place < length gs) c.as_slice.ensures.value c.in-Some-unlogged_table.ensures.found.0) (sym c.index_mut-group.ensures.value) c.step_table.new.disk failed.0 c.call_count-calls.result s.seat c.call_count-calls.ensures failed.1 c.shut.new.trail c.shut.ensures.entries c.shut.ensures.room,
+      (c.self.invariant.1.0, more_by_clock g.C.Clock g.B.Founded.times g.B.Based.base s.clock s.trail.entries c.self.invariant.1.1 c.shut.new.trail.entries (record { seat = s.seat; calls = c.call_count-calls.result; act = Shut c.call_count-calls.result }) c.shut.ensures.entries refl),
     )
 
 pub returns-in-Ok-clause-ok : goal.returns-in-Ok-clause-ok
@@ -75,6 +75,6 @@ returns-in-Err-WriteFault-clause-refused g c =
     let b = g.B.Based.base in
     let told = c.self.invariant.0.told in
     let v : Shown = record { seat = s.seat; entries = s.trail.entries; late = s.late; closed = s.closed } in
-    let v' : Shown = record { seat = s.seat; entries = c.push.new.self.entries; late = s.late; closed = Some c.call_count-calls.result } in
+    let v' : Shown = record { seat = s.seat; entries = c.shut.new.trail.entries; late = s.late; closed = Some c.call_count-calls.result } in
     subst (λ (w : Shown). Refuses upkeep_cause (known_by b g.B.Based.damaged w) (known_by b g.B.Based.damaged v') WriteFault) c.self.view_is
-    (work_failed (known_by b g.B.Based.damaged v) told.legal c.push.new.self.entries c.call_count-calls.result c.call_count-calls.result c.push.ensures.entries (invariant_of-self-in-Err-WriteFault g c).0.told.legal)
+    (work_failed (known_by b g.B.Based.damaged v) told.legal c.shut.new.trail.entries c.call_count-calls.result c.call_count-calls.result c.shut.ensures.entries (invariant_of-self-in-Err-WriteFault g c).0.told.legal)

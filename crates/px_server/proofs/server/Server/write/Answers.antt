@@ -38,7 +38,7 @@ unreachable-requires g c =
     let t = c.args.t.now in
     let v : Shown = record { seat = s.seat; entries = s.trail.entries; late = s.late; closed = s.closed } in
     let mine : IsIn s.trail.entries s.seat t.table.0 t.stamp InWriting = ticket_in b g.B.Based.damaged t InWriting v c.args.self.now c.self.view_is c.requires in
-    stands_somewhere g.D.Disk b g.B.Founded.sound g.B.Founded.premise s.disk s.catalog s.standing s.groups.items s.trail s.late s.closed c.self.invariant.0 t s.seat Writing mine (in_writing mine.batch mine.phase).0 c.in_default-numbered_place.ensures.none
+    stands_somewhere g.D.Disk b g.B.Founded.sound g.B.Founded.premise g.B.Founded.began s.disk s.catalog s.standing s.groups.items s.trail s.late s.closed c.self.invariant.0 t s.seat Writing mine (in_writing mine.batch mine.phase).0 c.in_default-numbered_place.ensures.none
 
 pub unreachable-requires-in_default-batch_place : goal.unreachable-requires-in_default-batch_place
 unreachable-requires-in_default-batch_place g c =
@@ -47,7 +47,7 @@ unreachable-requires-in_default-batch_place g c =
     let t = c.args.t.now in
     let v : Shown = record { seat = s.seat; entries = s.trail.entries; late = s.late; closed = s.closed } in
     let mine : IsIn s.trail.entries s.seat t.table.0 t.stamp InWriting = ticket_in b g.B.Based.damaged t InWriting v c.args.self.now c.self.view_is c.requires in
-    batch_somewhere g.D.Disk b g.B.Founded.sound g.B.Founded.premise s.disk s.catalog s.standing s.groups.items s.trail s.late s.closed c.self.invariant.0 t s.seat Writing mine (in_writing mine.batch mine.phase).0
+    batch_somewhere g.D.Disk b g.B.Founded.sound g.B.Founded.premise g.B.Founded.began s.disk s.catalog s.standing s.groups.items s.trail s.late s.closed c.self.invariant.0 t s.seat Writing mine (in_writing mine.batch mine.phase).0
     c.in_default.is c.in-Some-numbered_place.place c.in-Some-numbered_place.ensures.found c.in-Some-numbered_place.ensures.numbered c.index.result.now c.index.ensures c.in_default-batch_place.ensures.none
 
 pub returns-in-Some-blocker-clause-refused : goal.returns-in-Some-blocker-clause-refused
@@ -61,13 +61,13 @@ returns-in-Some-blocker-clause-refused g c =
     let place = c.in-Some-numbered_place.place in
     let m = c.in-Some-batch_place.batch in
     let h = c.index.result.now in
-    let inside = there g.D.Disk b g.B.Founded.sound g.B.Founded.premise s.disk s.catalog s.standing s.groups.items s.trail s.late s.closed c.self.invariant.0 t s.seat Writing mine (in_writing mine.batch mine.phase).0
+    let inside = there g.D.Disk b g.B.Founded.sound g.B.Founded.premise g.B.Founded.began s.disk s.catalog s.standing s.groups.items s.trail s.late s.closed c.self.invariant.0 t s.seat Writing mine (in_writing mine.batch mine.phase).0
     c.in_default.is place c.in-Some-numbered_place.ensures.found c.in-Some-numbered_place.ensures.numbered h c.index.ensures in
     let same : c.index-2.result.now ≡ h = same_read s.groups.items place c.index-2.result.now h inside c.index-2.ensures c.index.ensures in
     let blocked : IsBlocked h m c.in-Some-blocker.stamp = subst (λ (x : Group). IsBlocked x m c.in-Some-blocker.stamp) same c.in-Some-blocker.ensures.blocked in
     subst (λ (w : Shown). Refuses (rows_cause t.table.0 t.stamp) (known_by b g.B.Based.damaged w) (known_by b g.B.Based.damaged w) (NotYet c.in-Some-blocker.stamp)) c.self.view_is
     (not_yet (known_by b g.B.Based.damaged v) told.legal t (told.closing ∙ c.in_default.is) c.in-Some-blocker.stamp
-    (blocked_waits g.D.Disk g.met.D.Disk.told g.met.D.Disk.up_to_now b g.B.Founded.sound g.B.Founded.premise s.disk s.catalog s.standing s.groups.items s.trail s.late s.closed c.self.invariant.0 t s.seat mine
+    (blocked_waits g.D.Disk g.met.D.Disk.told g.met.D.Disk.up_to_now b g.B.Founded.sound g.B.Founded.premise g.B.Founded.began s.disk s.catalog s.standing s.groups.items s.trail s.late s.closed c.self.invariant.0 t s.seat mine
     c.in_default.is place c.in-Some-numbered_place.ensures.found c.in-Some-numbered_place.ensures.numbered h c.index.ensures m c.in-Some-batch_place.ensures.found.0 c.in-Some-batch_place.ensures.found.1
     c.in-Some-blocker.stamp blocked))
 
@@ -82,13 +82,13 @@ write-outcome-requires-clause-writing g c =
     let place = c.in-Some-numbered_place.place in
     let m = c.in-Some-batch_place.batch in
     let h = c.index.result.now in
-    let inside = there g.D.Disk b g.B.Founded.sound g.B.Founded.premise s.disk s.catalog s.standing s.groups.items s.trail s.late s.closed c.self.invariant.0 t s.seat Writing mine (in_writing mine.batch mine.phase).0
+    let inside = there g.D.Disk b g.B.Founded.sound g.B.Founded.premise g.B.Founded.began s.disk s.catalog s.standing s.groups.items s.trail s.late s.closed c.self.invariant.0 t s.seat Writing mine (in_writing mine.batch mine.phase).0
     c.in_default.is place c.in-Some-numbered_place.ensures.found c.in-Some-numbered_place.ensures.numbered h c.index.ensures in
     let y = c.index_mut-group.result.now in
     let one : y ≡ h = same_read s.groups.items place y h inside c.index_mut-group.ensures.value c.index.ensures in
     let l : m < length y.batches.items = subst (λ (x : Group). m < length x.batches.items) (sym one) c.in-Some-batch_place.ensures.found.0 in
     let stamp : (x : Begun) → slice_get y.batches.items m ≡ Some x → x.batch.stamp ≡ t.stamp = subst (λ (z : Group). (x : Begun) → slice_get z.batches.items m ≡ Some x → x.batch.stamp ≡ t.stamp) (sym one) c.in-Some-batch_place.ensures.found.1 in
-    writing_there g.D.Disk g.met.D.Disk.told g.met.D.Disk.up_to_now b g.B.Founded.sound g.B.Founded.premise s.disk s.catalog s.standing s.groups.items s.trail s.late s.closed c.self.invariant.0 t s.seat mine
+    writing_there g.D.Disk g.met.D.Disk.told g.met.D.Disk.up_to_now b g.B.Founded.sound g.B.Founded.premise g.B.Founded.began s.disk s.catalog s.standing s.groups.items s.trail s.late s.closed c.self.invariant.0 t s.seat mine
     c.in_default.is place c.in-Some-numbered_place.ensures.found c.in-Some-numbered_place.ensures.numbered y c.index_mut-group.ensures.value m l stamp
 
 pub push-requires-clause-bytes : goal.push-requires-clause-bytes
@@ -105,7 +105,7 @@ invariant_of-self g c =
     let place = c.in-Some-numbered_place.place in
     let m = c.in-Some-batch_place.batch in
     let h = c.index.result.now in
-    let inside = there g.D.Disk b g.B.Founded.sound g.B.Founded.premise s.disk s.catalog s.standing s.groups.items s.trail s.late s.closed c.self.invariant.0 t s.seat Writing mine (in_writing mine.batch mine.phase).0
+    let inside = there g.D.Disk b g.B.Founded.sound g.B.Founded.premise g.B.Founded.began s.disk s.catalog s.standing s.groups.items s.trail s.late s.closed c.self.invariant.0 t s.seat Writing mine (in_writing mine.batch mine.phase).0
     c.in_default.is place c.in-Some-numbered_place.ensures.found c.in-Some-numbered_place.ensures.numbered h c.index.ensures in
     let y = c.index_mut-group.result.now in
     let one : y ≡ h = same_read s.groups.items place y h inside c.index_mut-group.ensures.value c.index.ensures in
@@ -113,7 +113,7 @@ invariant_of-self g c =
     let free : IsFree y m = subst (λ (x : Group). IsFree x m) (two ∙ sym one) c.in_default-blocker.ensures.free in
     let l : m < length y.batches.items = subst (λ (x : Group). m < length x.batches.items) (sym one) c.in-Some-batch_place.ensures.found.0 in
     let stamp : (x : Begun) → slice_get y.batches.items m ≡ Some x → x.batch.stamp ≡ t.stamp = subst (λ (z : Group). (x : Begun) → slice_get z.batches.items m ≡ Some x → x.batch.stamp ≡ t.stamp) (sym one) c.in-Some-batch_place.ensures.found.1 in (
-      wrote_kept g.D.Disk g.met.D.Disk.told g.met.D.Disk.up_to_now b g.B.Founded.sound g.B.Founded.premise s.disk s.catalog s.standing s.groups.items s.trail s.late s.closed c.self.invariant.0 t s.seat mine
+      wrote_kept g.D.Disk g.met.D.Disk.told g.met.D.Disk.up_to_now b g.B.Founded.sound g.B.Founded.premise g.B.Founded.began s.disk s.catalog s.standing s.groups.items s.trail s.late s.closed c.self.invariant.0 t s.seat mine
           c.in_default.is place c.in-Some-numbered_place.ensures.found c.in-Some-numbered_place.ensures.numbered y c.index_mut-group.ensures.value m l stamp
           c.write-outcome.new.group c.write-outcome.new.disk free c.in-Ok.rows c.in-Ok.ensures.rows c.call_count-calls.result c.call_count-calls.ensures c.in-Ok.ensures.written c.push.new.self
           (c.push.ensures.entries ∙ ap (λ (e : Entry). s.trail.entries ++ e ∷ []) c.wrote.ensures) c.push.ensures.room,
@@ -131,7 +131,7 @@ invariant_of-self-in-Err g c =
     let place = c.in-Some-numbered_place.place in
     let m = c.in-Some-batch_place.batch in
     let h = c.index.result.now in
-    let inside = there g.D.Disk b g.B.Founded.sound g.B.Founded.premise s.disk s.catalog s.standing s.groups.items s.trail s.late s.closed c.self.invariant.0 t s.seat Writing mine (in_writing mine.batch mine.phase).0
+    let inside = there g.D.Disk b g.B.Founded.sound g.B.Founded.premise g.B.Founded.began s.disk s.catalog s.standing s.groups.items s.trail s.late s.closed c.self.invariant.0 t s.seat Writing mine (in_writing mine.batch mine.phase).0
     c.in_default.is place c.in-Some-numbered_place.ensures.found c.in-Some-numbered_place.ensures.numbered h c.index.ensures in
     let y = c.index_mut-group.result.now in
     let one : y ≡ h = same_read s.groups.items place y h inside c.index_mut-group.ensures.value c.index.ensures in
@@ -139,13 +139,13 @@ invariant_of-self-in-Err g c =
     let free : IsFree y m = subst (λ (x : Group). IsFree x m) (two ∙ sym one) c.in_default-blocker.ensures.free in
     let l : m < length y.batches.items = subst (λ (x : Group). m < length x.batches.items) (sym one) c.in-Some-batch_place.ensures.found.0 in
     let stamp : (x : Begun) → slice_get y.batches.items m ≡ Some x → x.batch.stamp ≡ t.stamp = subst (λ (z : Group). (x : Begun) → slice_get z.batches.items m ≡ Some x → x.batch.stamp ≡ t.stamp) (sym one) c.in-Some-batch_place.ensures.found.1 in (
-      subst (λ (o : Option Entry). IsKept g.D.Disk b g.B.Founded.sound g.B.Founded.premise c.write-outcome.new.disk s.catalog s.standing (slice_set s.groups.items place c.write-outcome.new.group) c.push-in-Err.new.self o (Some c.call_count-calls.result))
+      subst (λ (o : Option Entry). IsKept g.D.Disk b g.B.Founded.sound g.B.Founded.premise g.B.Founded.began c.write-outcome.new.disk s.catalog s.standing (slice_set s.groups.items place c.write-outcome.new.group) c.shut.new.trail o (Some c.call_count-calls.result))
           (sym (c.keep.ensures ∙ ap Some c.wrote-in-Err.ensures))
-          (unwritten_kept g.D.Disk g.met.D.Disk.told g.met.D.Disk.up_to_now b g.B.Founded.sound g.B.Founded.premise s.disk s.catalog s.standing s.groups.items s.trail s.late s.closed c.self.invariant.0 t s.seat mine
+          (unwritten_kept g.D.Disk g.met.D.Disk.told g.met.D.Disk.up_to_now b g.B.Founded.sound g.B.Founded.premise g.B.Founded.began s.disk s.catalog s.standing s.groups.items s.trail s.late s.closed c.self.invariant.0 t s.seat mine
           c.in_default.is place c.in-Some-numbered_place.ensures.found c.in-Some-numbered_place.ensures.numbered y c.index_mut-group.ensures.value m l stamp
-          c.write-outcome.new.group c.write-outcome.new.disk free c.in-Err.field-0.rows c.in-Err.ensures.late c.call_count-calls.result c.call_count-calls.ensures c.in-Err.ensures.hands (c.in-Err.ensures.failed refl) c.push-in-Err.new.self
-          c.push-in-Err.ensures.entries c.push-in-Err.ensures.room),
-      ((let f = c.write-outcome.ensures.frame in let w = c.self.invariant.1.0 in omega (arith, f, w)), more_by_clock g.C.Clock g.B.Founded.times g.B.Based.base s.clock s.trail.entries c.self.invariant.1.1 c.push-in-Err.new.self.entries (record { seat = s.seat; calls = c.call_count-calls.result; act = Shut c.call_count-calls.result }) c.push-in-Err.ensures.entries refl),
+          c.write-outcome.new.group c.write-outcome.new.disk free c.in-Err.field-0.rows c.in-Err.ensures.late c.call_count-calls.result c.call_count-calls.ensures c.in-Err.ensures.hands (c.in-Err.ensures.failed refl) c.shut.new.trail
+          c.shut.ensures.entries c.shut.ensures.room),
+      ((let f = c.write-outcome.ensures.frame in let w = c.self.invariant.1.0 in omega (arith, f, w)), more_by_clock g.C.Clock g.B.Founded.times g.B.Based.base s.clock s.trail.entries c.self.invariant.1.1 c.shut.new.trail.entries (record { seat = s.seat; calls = c.call_count-calls.result; act = Shut c.call_count-calls.result }) c.shut.ensures.entries refl),
     )
 
 pub returns-in-Ok-clause-ok : goal.returns-in-Ok-clause-ok
@@ -159,7 +159,7 @@ returns-in-Ok-clause-ok g c =
     let place = c.in-Some-numbered_place.place in
     let m = c.in-Some-batch_place.batch in
     let h = c.index.result.now in
-    let inside = there g.D.Disk b g.B.Founded.sound g.B.Founded.premise s.disk s.catalog s.standing s.groups.items s.trail s.late s.closed c.self.invariant.0 t s.seat Writing mine (in_writing mine.batch mine.phase).0
+    let inside = there g.D.Disk b g.B.Founded.sound g.B.Founded.premise g.B.Founded.began s.disk s.catalog s.standing s.groups.items s.trail s.late s.closed c.self.invariant.0 t s.seat Writing mine (in_writing mine.batch mine.phase).0
     c.in_default.is place c.in-Some-numbered_place.ensures.found c.in-Some-numbered_place.ensures.numbered h c.index.ensures in
     let y = c.index_mut-group.result.now in
     let one : y ≡ h = same_read s.groups.items place y h inside c.index_mut-group.ensures.value c.index.ensures in
@@ -170,7 +170,7 @@ returns-in-Ok-clause-ok g c =
     let after : c.push.new.self.entries ≡ s.trail.entries ++ record { seat = s.seat; calls = c.call_count-calls.result; act = Wrote t.table t.stamp c.in-Ok.rows } ∷ [] = c.push.ensures.entries ∙ ap (λ (e : Entry). s.trail.entries ++ e ∷ []) c.wrote.ensures in
     let v' : Shown = record { seat = s.seat; entries = c.push.new.self.entries; late = s.late; closed = s.closed } in
     let next : IsIn c.push.new.self.entries s.seat t.table.0 t.stamp InVerifying = subst (λ (es : List Entry). IsIn es s.seat t.table.0 t.stamp InVerifying) (sym after)
-    (wrote_in g.D.Disk g.met.D.Disk.told g.met.D.Disk.up_to_now b g.B.Founded.sound g.B.Founded.premise s.disk s.catalog s.standing s.groups.items s.trail s.late s.closed c.self.invariant.0 t s.seat mine
+    (wrote_in g.D.Disk g.met.D.Disk.told g.met.D.Disk.up_to_now b g.B.Founded.sound g.B.Founded.premise g.B.Founded.began s.disk s.catalog s.standing s.groups.items s.trail s.late s.closed c.self.invariant.0 t s.seat mine
     c.in_default.is place c.in-Some-numbered_place.ensures.found c.in-Some-numbered_place.ensures.numbered y c.index_mut-group.ensures.value m l stamp
     c.write-outcome.new.group c.write-outcome.new.disk free c.in-Ok.rows c.in-Ok.ensures.rows c.call_count-calls.result c.call_count-calls.ensures c.in-Ok.ensures.written) in
     subst (λ (w : Shown). DidWrite (known_by b g.B.Based.damaged w) (known_by b g.B.Based.damaged v') t AllWritten) c.self.view_is
@@ -183,6 +183,6 @@ returns-in-Err-clause-refused g c =
     let told = c.self.invariant.0.told in
     let t = c.args.t.now in
     let v : Shown = record { seat = s.seat; entries = s.trail.entries; late = s.late; closed = s.closed } in
-    let v' : Shown = record { seat = s.seat; entries = c.push-in-Err.new.self.entries; late = c.keep.new.late; closed = Some c.call_count-calls.result } in
+    let v' : Shown = record { seat = s.seat; entries = c.shut.new.trail.entries; late = c.keep.new.late; closed = Some c.call_count-calls.result } in
     subst (λ (w : Shown). Refuses (rows_cause t.table.0 t.stamp) (known_by b g.B.Based.damaged w) (known_by b g.B.Based.damaged v') WriteFault) c.self.view_is
-    (write_failed (known_by b g.B.Based.damaged v) told.legal t c.push-in-Err.new.self.entries c.call_count-calls.result c.call_count-calls.result c.push-in-Err.ensures.entries (invariant_of-self-in-Err g c).0.told.legal)
+    (write_failed (known_by b g.B.Based.damaged v) told.legal t c.shut.new.trail.entries c.call_count-calls.result c.call_count-calls.result c.shut.ensures.entries (invariant_of-self-in-Err g c).0.told.legal)

@@ -1,0 +1,4 @@
+pub mod Once
+pub mod Kept
+pub mod Opened
+pub mod Locals

@@ -1,0 +1,73 @@
+-- Bytes are a file of one list at most.
+use Rattle.std.proofs.Common.{◌≡◌, ◌≢◌, ℕ, ◌+◌, ◌≤◌, List, [], ◌∷◌, ◌++◌, length, take, drop, refl, sym, ap, subst, ◌∙◌, arith, append_assoc}
+use Rattle.std.specs.List.{AllByRecursion}
+use Rattle.std.specs.Int.{w32, w64, from_be_bytes, to_be_bytes}
+use Rattle.px_outside.specs.Disk.{Image}
+use Rattle.px_cells.specs.CellData.{CellData}
+use Rattle.px_cellbytes.specs.declared.fault.CellFault.TheVariants.{Short}
+use Rattle.px_block.specs.Block.{IsBlock, block_bytes}
+use Rattle.px_block.specs.Reading.{HasCount, IsFront, count_in}
+use Rattle.px_block.specs.Reading.IsFrontFault.{of_head}
+use Rattle.px_block.proofs.OneBlock.{front_or_fault, one_front}
+use Rattle.px_file.specs.Format.{FileStands, blocks_bytes, cells_in, end_of, entry_bytes, file_bytes, first_key, footer_bytes, half_word, index_bytes, index_of, last_letters, letters, tail_bytes, tail_of, word}
+use Rattle.px_cellbytes.specs.Spelling.{size_bytes}
+use Rattle.px_wal.specs.Snapshot.{FileData}
+use Rattle.px_files.specs.Files.{FilesStand}
+
+-- ---- blocks
+
+front : (b : List CellData) (rest bytes : List ℕ) → IsBlock b → bytes ≡ block_bytes b ++ rest → IsFront [] bytes b rest
+front b rest bytes is spelled = record { spelled = spelled; block = is; after = λ f l none. absurd (not_none f l none) }
+  where
+    not_none : (f : List CellData) (l : CellData) → [] ≡ f ++ l ∷ [] → ⊥
+    not_none [] l e = cc
+    not_none (x ∷ f) l e = cc
+
+blocks_once : (xs ys : List (List CellData)) (tx ty : List ℕ) → AllByRecursion IsBlock xs → AllByRecursion IsBlock ys → (HasCount tx → ⊥) → (HasCount ty → ⊥) → blocks_bytes xs ++ tx ≡ blocks_bytes ys ++ ty → xs ≡ ys
+blocks_once [] [] tx ty each each' nx ny e = refl
+blocks_once [] (y ∷ ys) tx ty each each' nx ny e =
+    absurd (front_or_fault [] tx y (blocks_bytes ys ++ ty) (Short 0) (front y (blocks_bytes ys ++ ty) tx each'.0 (e ∙ append_assoc (block_bytes y) (blocks_bytes ys) ty)) (of_head nx refl))
+blocks_once (x ∷ xs) [] tx ty each each' nx ny e =
+    absurd (front_or_fault [] ty x (blocks_bytes xs ++ tx) (Short 0) (front x (blocks_bytes xs ++ tx) ty each.0 (sym e ∙ append_assoc (block_bytes x) (blocks_bytes xs) tx)) (of_head ny refl))
+blocks_once (x ∷ xs) (y ∷ ys) tx ty each each' nx ny e =
+    let whole = blocks_bytes (x ∷ xs) ++ tx in
+    let one = one_front [] whole x y (blocks_bytes xs ++ tx) (blocks_bytes ys ++ ty) (front x (blocks_bytes xs ++ tx) whole each.0 (append_assoc (block_bytes x) (blocks_bytes xs) tx)) (front y (blocks_bytes ys ++ ty) whole each'.0 (e ∙ append_assoc (block_bytes y) (blocks_bytes ys) ty)) in
+    let rest = blocks_once xs ys tx ty each.1 each'.1 nx ny one.1 in
+    ap (λ (b : List CellData). b ∷ xs) one.0 ∙ ap (λ (l : List (List CellData)). y ∷ l) rest
+
+-- ---- no block begins where the index does
+
+eight : (rest : List ℕ) → HasCount (word 8 ++ rest) → ⊥
+unfolding word count_in
+eight rest h = h.1 refl
+
+tail_begins : (blocks : List (List CellData)) → (rest : List ℕ) × (tail_of blocks ≡ word 8 ++ rest)
+unfolding tail_bytes
+tail_begins [] = (half_word 0 ++ (word 0 ++ (word 0 ++ last_letters)), refl)
+tail_begins (b ∷ blocks) =
+    let own = half_word (length (block_bytes b)) ++ (size_bytes (length (first_key b)) ++ first_key b) in
+    let others = index_bytes (index_of (8 + length (block_bytes b)) blocks) in
+    let foot = footer_bytes (end_of (b ∷ blocks)) (length (index_of 8 (b ∷ blocks))) (length (cells_in (b ∷ blocks))) (Rattle.px_file.specs.Format.greatest (cells_in (b ∷ blocks))) in
+    (own ++ (others ++ foot), ap (λ (l : List ℕ). l ++ foot) (append_assoc (word 8) own others) ∙ append_assoc (word 8) (own ++ others) foot ∙ ap (λ (l : List ℕ). word 8 ++ l) (append_assoc own others foot))
+
+no_count : (blocks : List (List CellData)) → HasCount (tail_of blocks) → ⊥
+no_count blocks h = (let t = tail_begins blocks in eight t.0 (subst HasCount t.1 h))
+
+-- ---- files
+
+behind_letters : (xs ys : List ℕ) → letters ++ xs ≡ letters ++ ys → xs ≡ ys
+behind_letters xs ys e = ap (drop 8) e
+
+pub file_once : (bytes : List ℕ) (a b : List CellData) (s t : ℕ) → FileStands bytes a s → FileStands bytes b t → a ≡ b
+file_once bytes a b s t one two =
+    let same = behind_letters _ _ (sym one.spelled ∙ two.spelled) in
+    one.cells_are ∙ ap cells_in (blocks_once one.blocks two.blocks (tail_of one.blocks) (tail_of two.blocks) one.right.each two.right.each (no_count one.blocks) (no_count two.blocks) same) ∙ sym two.cells_are
+
+pub files_once : (region : ℕ) (image : Image) (named : List FileData) (a b : List (List CellData)) → FilesStand region image named a → FilesStand region image named b → a ≡ b
+files_once region image [] [] [] one two = refl
+files_once region image [] [] (y ∷ b) one two = absurd two
+files_once region image [] (x ∷ a) b one two = absurd one
+files_once region image (f ∷ named) [] b one two = absurd one
+files_once region image (f ∷ named) (x ∷ a) [] one two = absurd two
+files_once region image (f ∷ named) (x ∷ a) (y ∷ b) one two =
+    ap (λ (l : List CellData). l ∷ a) (file_once _ x y _ _ one.0 two.0) ∙ ap (λ (l : List (List CellData)). y ∷ l) (files_once region image named a b one.1 two.1)

@@ -1,0 +1,139 @@
+// Session commands that make calls.
+ghost use Rattle.std.specs.Prelude.{◌≡◌, ◌≢◌, ℕ, List, None};
+ghost use Rattle.px_trail.specs.declared.entry.Act.{Act};
+ghost use Rattle.px_item.specs.Right as spec;
+ghost use Rattle.px_item.specs.Turns.{Fits, Turns};
+
+use crate::answered::{After, Answered, Asked, Settings, told};
+use crate::item::{ItemRun, ItemState, ItemTurn, over};
+use crate::refusing::{uncommitted, uncounted};
+use px_batch::BatchFault;
+use px_calls::{Receipt, Status, Steps};
+use px_commanding::{CommitRun, CommitTurn, CountFault, CountRun, CountTurn};
+use px_reply::Reply;
+use px_values::{CountWord, Items, Name};
+use std::alloc::Global;
+
+/// What is asked for after a commit.
+fn onward(again: bool, settings: Settings) -> After
+    ensures { result ≡ spec.onward again settings }
+{
+    if again {
+        After::Again(settings)
+    } else {
+        After::Next(settings)
+    }
+}
+
+/// What a commit came to. What was held is held no more, whatever came.
+fn committed(
+    alloc: Global,
+    asked: Asked<'_>,
+    again: bool,
+    came: Result<Vec<Receipt>, BatchFault>,
+) -> Answered
+    requires { asked.settings.held ≢ None }
+    ensures { spec.IsCommitted asked.entry again came result }
+{
+    let Asked {
+        piece: _piece,
+        settings,
+        first,
+    } = asked;
+    let Settings {
+        scn,
+        autocommit,
+        held,
+    } = settings;
+    let Some(held) = held else { unreachable!() };
+    let emptied = Settings {
+        scn,
+        autocommit,
+        held: None,
+    };
+    match came {
+        Ok(receipts) => {
+            let rows = held.rows();
+            drop(held);
+            Answered {
+                reply: Reply::Count {
+                    rows,
+                    word: CountWord::Affected,
+                },
+                receipts: Items::of(receipts),
+                places: Items::of(Vec::new(alloc)),
+                first,
+                after: onward(again, emptied),
+            }
+        }
+        Err(fault) => {
+            let reply = uncommitted(alloc, held.name(), fault);
+            drop(held);
+            told(alloc, reply, first, emptied)
+        }
+    }
+}
+
+/// Goes on with a commit.
+pub(crate) fn commit<'a, S: Steps>(
+    alloc: Global,
+    s: &mut S,
+    asked: Asked<'a>,
+    again: bool,
+    run: CommitRun,
+) -> ItemTurn<'a>
+    requires { (before : ℕ) × (own : List Act) × Fits S.sound before asked own (ItemState.Committing again run) (S.known s.old) }
+    ensures { (before : ℕ) → (own : List Act) → Fits S.sound before asked.entry own (ItemState.Committing again run) (S.known s.old) → Turns S.sound before asked.entry own (S.known s.old) (S.known s.new) result }
+{
+    let turn = match &asked.settings.held {
+        Some(held) => run.step(alloc, s, held),
+        None => unreachable!(),
+    };
+    match turn {
+        CommitTurn::Stepped(run) => ItemTurn::Stepped(ItemRun {
+            asked,
+            state: ItemState::Committing(again, run),
+        }),
+        CommitTurn::Waiting(run) => ItemTurn::Waiting(ItemRun {
+            asked,
+            state: ItemState::Committing(again, run),
+        }),
+        CommitTurn::Over(came) => ItemTurn::Over(committed(alloc, asked, again, came)),
+    }
+}
+
+/// What a status came to.
+fn counted(
+    alloc: Global,
+    asked: Asked<'_>,
+    name: Name,
+    came: Result<Status, CountFault>,
+) -> Answered
+    ensures { spec.IsCounted asked.entry name came result }
+{
+    let reply = match came {
+        Ok(status) => Reply::Status(status),
+        Err(fault) => uncounted(alloc, &name, fault),
+    };
+    drop(name);
+    over(alloc, asked, reply)
+}
+
+/// Goes on with a status.
+pub(crate) fn count<'a, S: Steps>(
+    alloc: Global,
+    s: &mut S,
+    asked: Asked<'a>,
+    name: Name,
+    run: CountRun,
+) -> ItemTurn<'a>
+    ensures { (before : ℕ) → (own : List Act) → Fits S.sound before asked.entry own (ItemState.Counting name run) (S.known s.old) → Turns S.sound before asked.entry own (S.known s.old) (S.known s.new) result }
+{
+    match run.step(s, &name) {
+        CountTurn::Stepped(run) => ItemTurn::Stepped(ItemRun {
+            asked,
+            state: ItemState::Counting(name, run),
+        }),
+        CountTurn::Over(came) => ItemTurn::Over(counted(alloc, asked, name, came)),
+    }
+}

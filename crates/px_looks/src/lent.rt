@@ -1,0 +1,61 @@
+// Rows as a region lends them.
+ghost use Rattle.std.specs.Prelude.{◌≡◌, ◌+◌, ◌<◌, ◌≤◌, ◌-◌, ℕ, Some, true, false, length, min};
+ghost use Rattle.std.specs.Option.{option_copied};
+ghost use Rattle.px_cells.specs.Order.{IsAscending};
+ghost use Rattle.px_cells.specs.Rows.{AreRows};
+ghost use Rattle.px_region.specs.Giving.{begins_row, key_at, rows_before};
+ghost use Rattle.px_region.specs.Region.{read_of};
+ghost use Rattle.px_looks.specs.Keys.{IsWithin, next_key};
+ghost use Rattle.px_looks.specs.inner.Lent.{AreFirst};
+
+use px_cells::{Cell, place_after};
+use px_region::Region;
+
+/// The cells of the first rows of a range.
+#[derive(Clone, Copy)]
+pub(crate) struct Lent<'a> {
+    pub(crate) cells: &'a [Cell],
+    /// How many rows they are.
+    pub(crate) rows: u64,
+}
+
+/// Where the row ends that begins at a place of a sorted list. It takes logarithmic time.
+pub(crate) fn row_end(cells: &[Cell], at: usize) -> usize
+    requires within { at < length cells.now }
+    requires sorted { IsAscending cells.now }
+    ensures on { at < result }
+    ensures within { result ≤ length cells.now }
+    ensures one { (j : ℕ) → at < j → j < result → begins_row cells.now j ≡ false }
+    ensures next { result < length cells.now → begins_row cells.now result ≡ true }
+{
+    let rest = &cells[at..];
+    at + place_after(rest, cells[at].key())
+}
+
+/// The first rows of a sorted list, at most so many.
+fn first_rows(cells: &[Cell], most: u64) -> Lent<'_>
+    requires { IsAscending cells.now }
+    ensures { AreFirst cells.now most result.rows result.cells.now }
+{
+    let mut end = 0usize;
+    let mut rows = 0u64;
+    while end < cells.len() && rows < most {
+        end = row_end(cells, end);
+        rows += 1;
+    }
+    Lent {
+        cells: &cells[..end],
+        rows,
+    }
+}
+
+/// The first rows of a range, at most so many. Where fewer are there these are all. They aren't counted as looked at.
+pub(crate) fn lend<'a>(region: &'a Region, low: &[u8], high: Option<&[u8]>, most: u64) -> Lent<'a>
+    ensures counted { result.rows ≡ min (rows_before result.cells.now (length result.cells.now)) 18446744073709551615 }
+    ensures few { rows_before result.cells.now (length result.cells.now) ≤ most }
+    ensures all { result.rows < most → AreRows (read_of region.now) low.now (option_copied high.entry) result.cells.now }
+    ensures part { 0 < length result.cells.now → AreRows (read_of region.now) low.now (Some (next_key (key_at result.cells.now (length result.cells.now - 1)))) result.cells.now }
+    ensures within { 0 < length result.cells.now → IsWithin low.now (option_copied high.entry) (key_at result.cells.now (length result.cells.now - 1)) }
+{
+    first_rows(region.rows(low, high), most)
+}

@@ -1,0 +1,79 @@
+// Naming a file.
+ghost use Rattle.std.specs.Prelude.{◌≡◌, ◌≢◌, ◌≤◌, ◌<◌, ◌+◌, ◌*◌, ◌∷◌, [], ◌↔◌, ℕ, false, List, length, map, max, IsTrue, IfOk, OnOk, Ok, Err};
+ghost use Rattle.px_outside.specs.OnDisk.{LeavesOnly, Passes, Rose, TouchesOnly};
+ghost use Rattle.px_cells.specs.CellData.{CellData};
+ghost use Rattle.px_file.specs.declared.region_file.RegionFile.{RegionFile as OpenFile};
+ghost use Rattle.px_wal.specs.Batches.{Batch as BatchData, cells_over};
+ghost use Rattle.px_wal.specs.Manifest.{HasSnapshot, is_open, manifest_files, names, room_of};
+ghost use Rattle.px_wal.specs.Snapshot.{IsSnapshot};
+ghost use Rattle.px_wal.specs.SnapshotOf.{file_data, files_of, snapshot_of};
+ghost use Rattle.px_wal.specs.Wal.{HasBatches};
+ghost use Rattle.px_wal.specs.declared.wal.Wal.{Wal as Logs};
+ghost use Rattle.px_files.specs.Files.{HasFile, HaveFiles};
+ghost use Rattle.px_naming.specs.Naming.{HasParts, IsFlushed, ReadsAs};
+
+use px_gatelog::{AppendFault, Frame};
+use px_outside::Disk;
+use px_wal::{FileEntry, Manifest, Snapshot};
+use std::alloc::{AllocError, Global};
+
+/// What is named after a flush up to a number made a file: it stands before the others.
+pub fn named_after(
+    alloc: Global,
+    named: &Snapshot,
+    flushed: u64,
+    stamp: u64,
+    file: FileEntry,
+) -> Result<Snapshot, AllocError>
+    requires { length named.now.files.items < 255 }
+    ensures { IfOk result (λ after. snapshot_of after
+        ≡ record { flushed = flushed; horizon = named.now.horizon; stamp = max named.now.stamp stamp; compactions = named.now.compactions; files = file_data file ∷ map file_data named.now.files.items }) }
+{
+    let mut files = Vec::new(alloc);
+    files.push(file)?;
+    files.extend_from_slice(&named.files)?;
+    Ok(Snapshot {
+        flushed,
+        horizon: named.horizon,
+        stamp: named.stamp.max(stamp),
+        compactions: named.compactions,
+        files,
+    })
+}
+
+/// Names a file, the newest, in place of the batches that it has. A stop in the call leaves the region's files as they are
+/// read now, by the old snapshot or by the new one. It takes no memory. It is full where the record passes the segment's
+/// size, and then no call is made.
+pub fn name_file<D: Disk>(
+    disk: &mut D,
+    manifest: &mut Manifest,
+    frame: &mut Frame,
+    after: Snapshot,
+) -> Result<(), AppendFault>
+    requires open { is_open manifest.old }
+    requires still { manifest.old.rolling ≡ false }
+    requires right { IsSnapshot (snapshot_of after) }
+    requires room { 26 + 20 * length (files_of after) ≤ frame.old.room }
+    ensures done { (region : ℕ) (wal : Logs) (batches : List BatchData) (files : List OpenFile) (lists : List (List CellData)) (file : OpenFile) (list : List CellData)
+        → HasParts ⟦<D as Disk>⟧ region manifest.old wal disk.old batches files lists → IsFlushed ⟦<D as Disk>⟧ region disk.old (names manifest.old) (snapshot_of after) batches file list
+        → OnOk result (HasParts ⟦<D as Disk>⟧ region manifest.new wal disk.new batches (file ∷ files) (list ∷ lists)) }
+    ensures same { (region : ℕ) (wal : Logs) (batches : List BatchData) (files : List OpenFile) (lists : List (List CellData)) (file : OpenFile) (list : List CellData)
+        → HasParts ⟦<D as Disk>⟧ region manifest.old wal disk.old batches files lists → IsFlushed ⟦<D as Disk>⟧ region disk.old (names manifest.old) (snapshot_of after) batches file list
+        → cells_over (snapshot_of after).flushed batches (list ∷ lists) ≡ cells_over (names manifest.old).flushed batches lists }
+
+    // At each moment of the call a stop leaves the region's files as they are read now.
+    ensures any_moment { (region : ℕ) (wal : Logs) (batches : List BatchData) (files : List OpenFile) (lists : List (List CellData)) (file : OpenFile) (list : List CellData)
+        → HasParts ⟦<D as Disk>⟧ region manifest.old wal disk.old batches files lists → IsFlushed ⟦<D as Disk>⟧ region disk.old (names manifest.old) (snapshot_of after) batches file list
+        → LeavesOnly ⟦<D as Disk>⟧ disk.old disk.new (λ moment image. ReadsAs region image (names manifest.old) (snapshot_of after) (cells_over (names manifest.old).flushed batches lists)) }
+    ensures named { OnOk result (names manifest.new ≡ snapshot_of after) }
+    ensures full { (result ≡ Err AppendFault.Full) ↔ (room_of manifest.old < 33 + 20 * length (files_of after)) }
+    ensures untouched { result ≡ Err AppendFault.Full → (disk.new ≡ disk.old) × (manifest.new ≡ manifest.old) }
+    ensures failed { result ≡ Err AppendFault.WriteFault → Rose ⟦<D as Disk>⟧ disk.old disk.new }
+    ensures touches { (region : ℕ) → HasSnapshot ⟦<D as Disk>⟧ region manifest.old disk.old → TouchesOnly ⟦<D as Disk>⟧ disk.old disk.new (manifest_files region) }
+    ensures counts { Passes ⟦<D as Disk>⟧ disk.old disk.new 4 }
+    ensures open { is_open manifest.new }
+    ensures still { manifest.new.rolling ≡ false }
+    ensures frame { frame.old.room ≤ frame.new.room }
+{
+    manifest.append(disk, after, frame)
+}

@@ -1,0 +1,5 @@
+pub mod Given
+pub mod Heads
+pub mod Behind
+pub mod Sources
+pub mod Turns

@@ -1,0 +1,7 @@
+//! Tests of px_rounds over the server of a folder: what becomes of a row and its index where a schedule says which of two sessions is next.
+#![tactic(auto)]
+
+#[cfg(test)]
+mod schedules;
+#[cfg(test)]
+mod served;

@@ -1,0 +1,114 @@
+// Two sessions change one row at once, in an order that a schedule says.
+use crate::served::run_scheduled;
+use px_outside::MemSink;
+use std::alloc::{AllocError, Global};
+use std::sync::Wait;
+
+/// The first round makes the logs too. The two sessions of the second one have the stamps 4 and 5, in the order in which they begin.
+const SCRIPT: &str =
+    "CREATE TABLE ORDERS (ID BIGINT NOT NULL PRIMARY KEY, CUST VARCHAR, AMT INTEGER, NOTE VARCHAR);
+CREATE INDEX BY_CUST ON ORDERS (CUST) INCLUDE (AMT);
+UPSERT INTO ORDERS (ID, CUST) VALUES (9,'none');
+DELETE FROM ORDERS;
+---
+UPSERT INTO ORDERS (ID, CUST, AMT) VALUES (1,'bo',5);
+@2 UPSERT INTO ORDERS (ID, CUST, AMT) VALUES (1,'al',7);
+---
+SELECT ID, CUST, AMT FROM ORDERS WHERE CUST = 'bo';
+SELECT ID, CUST, AMT FROM ORDERS WHERE CUST = 'al';
+SELECT ID, CUST, AMT FROM ORDERS WHERE CUST = 'bo';
+SELECT ID, CUST, AMT FROM ORDERS WHERE CUST = 'al';
+@3 !scn 5
+@3 SELECT CUST FROM ORDERS;
+@3 !scn 6
+@3 SELECT CUST FROM ORDERS;
+";
+
+const FIRST: &str = "table created
+index created
+1 row affected
+1 row affected
+1 row affected
+@2
+1 row affected
+";
+
+/// Session 2 began later.
+const AL: &str = "0 rows selected
+1, 'al', 7
+1 row selected
+0 rows selected
+1, 'al', 7
+1 row selected
+@3
+scn 5
+'bo'
+1 row selected
+scn 6
+'al'
+1 row selected
+";
+
+/// Session 1 began later.
+const BO: &str = "1, 'bo', 5
+1 row selected
+0 rows selected
+1, 'bo', 5
+1 row selected
+0 rows selected
+@3
+scn 5
+'al'
+1 row selected
+scn 6
+'bo'
+1 row selected
+";
+
+/// Whose call is next, in each round, and what is there in the end. An UPSERT finds its table, begins, marks, writes, verifies and ends.
+const SCHEDULES: &[(&[u32], &str)] = &[
+    (&[], AL),
+    // One behind the other.
+    (&[1, 1, 1, 1, 1, 1, 2, 2, 2, 2, 2, 2], AL),
+    (&[2, 2, 2, 2, 2, 2, 1, 1, 1, 1, 1, 1], BO),
+    // The later one marks first, and waits for the earlier one to write.
+    (&[1, 1, 2, 2, 2, 2, 2, 2, 1, 1, 2, 1, 1], AL),
+    (&[2, 2, 1, 1, 1, 1, 1, 1, 2, 2, 1, 2, 2], BO),
+    // The later one begins behind the earlier one's marks, or behind its write.
+    (&[1, 1, 1, 2, 2, 2, 2, 1, 2, 2, 2, 1], AL),
+    (&[2, 2, 2, 2, 1, 1, 1, 2, 2, 1, 1], BO),
+    // Session 2 finds its table first, and begins later.
+    (&[2, 1, 1, 2, 2, 1], AL),
+    // Sessions that aren't there, or are over.
+    (
+        &[0, 33, 2, 9, 2, 65_535, 3, 1, 3, 3, 3, 3, 3, 3, 3, 3, 3, 3],
+        BO,
+    ),
+    (&[7, 7, 7], AL),
+];
+
+fn replies(alloc: Global, last: &str) -> Result<String, AllocError> {
+    let mut text = String::from_str(alloc, FIRST)?;
+    text.push_str(last)?;
+    Ok(text)
+}
+
+/// Whether the script prints this by this schedule.
+fn ends_so<R: Wait>(
+    rt: &R,
+    alloc: Global,
+    schedule: &[u32],
+    last: &str,
+) -> Result<bool, AllocError> {
+    let mut sink = MemSink::new(alloc);
+    let whole = run_scheduled(rt, alloc, SCRIPT, schedule, &mut sink);
+    let replies = replies(alloc, last)?;
+    Ok(whole && sink.held() == replies.as_bytes())
+}
+
+#[test]
+fn the_session_that_began_later_has_the_last_word(rt: HostRuntime) {
+    for (schedule, last) in SCHEDULES {
+        assert!(rt; ends_so(&rt, rt.alloc(), schedule, last) == Ok(true));
+    }
+}
