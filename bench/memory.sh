@@ -2,14 +2,14 @@
 # How much memory a run takes: for each UPSERT of 35 bytes into a row of its own, for each piece that is no statement, and for the rows of a
 # SELECT beside its printed bytes. The greatest resident memory of each run is what the system counts.
 # Usage: bench/memory.sh [UPSERTS [PIECES [ROWS]]] (8000, 1000000, 8000)
-# A region holds 8,192 such rows until flushes come.
+# A region holds 8,192 such rows until flushes come. It needs GNU time as /usr/bin/time.
 set -eu
 top=$(cd "$(dirname "$0")/.." && pwd)
-program=$top/crates/px_main/out/px_main
+program=${NIPUHAKO:-$top/crates/px_main/out/px_main}
 # Proves and builds the program, where that wasn't done yet.
-"$top/nipuhako" run "$top/crates/px_main/out/none" </dev/null
+[ -n "${NIPUHAKO:-}" ] || "$top/nipuhako" run "$top/crates/px_main/out/none" </dev/null
 exec python3 - "$program" "${1:-8000}" "${2:-1000000}" "${3:-8000}" <<'PY'
-import os, resource, subprocess, sys, tempfile
+import os, subprocess, sys, tempfile
 
 program, upserts, pieces, rows = sys.argv[1], *map(int, sys.argv[2:])
 work = tempfile.mkdtemp(dir="/dev/shm" if os.path.isdir("/dev/shm") else None)
@@ -19,17 +19,11 @@ def run(folder, script):
     """The greatest resident memory of a run in bytes, and what it printed."""
     with open(work + "/script", "w") as file:
         file.write(script)
-    reader, writer = os.pipe()
-    child = os.fork()
-    if child == 0:
-        with open(work + "/script") as source, open(work + "/printed", "w") as sink:
-            subprocess.call([program, "run", folder], stdin=source, stdout=sink)
-        os.write(writer, str(resource.getrusage(resource.RUSAGE_CHILDREN).ru_maxrss).encode())
-        os._exit(0)
-    os.waitpid(child, 0)
-    most = int(os.read(reader, 32)) * 1024
-    os.close(reader)
-    os.close(writer)
+    # The system counts what a process had before it began the program, too. So the program is begun by time(1), which is small, and not by python.
+    with open(work + "/script") as source, open(work + "/printed", "w") as sink:
+        subprocess.call(["/usr/bin/time", "-f", "%M", "-o", work + "/most", program, "run", folder], stdin=source, stdout=sink)
+    with open(work + "/most") as file:
+        most = int(file.read().split()[-1]) * 1024
     return most, os.path.getsize(work + "/printed")
 
 

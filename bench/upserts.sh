@@ -4,44 +4,73 @@
 # at the end, and reads one script: a new key of 10 bytes and a value of 100 in each statement. All are run in turn, in
 # some rounds, and the best time of each is told. A machine that has other work needs more rounds. Then the first 50
 # statements at most are done again, each in a run of its own on one folder, which adds the start and the opening.
-# Usage: bench/upserts.sh [UPSERTS [ROUNDS [FOLDER]]]: 1 to 7,000 statements (1,000), rounds (5), and the folder on
-# whose file system it is done (that of the program's build).
+# The table is KV, which each folder has; or one with an index that covers the value, behind a text of 8 bytes.
+# Usage: bench/upserts.sh [UPSERTS [ROUNDS [FOLDER [TABLE]]]]: 1 to 7,000 statements (1,000), rounds (5), the folder on
+# whose file system it is done (that of the program's build), and plain (KV) or indexed, of which 5,000 statements fit.
+# NIPUHAKO in the environment names another program.
 set -eu
 upserts=${1:-1000}
 rounds=${2:-5}
-# A record of such a row from its kind to the gate behind it, in bytes (docs/use/FORMAT.md).
-record=168
-# The syncs of a new folder beside its rows: of the catalogue, of the log, and of the names of their files and of the folder.
-first_syncs=9
+case ${4:-plain} in
+    plain)
+        # A record of such a row from its kind to the gate behind it, in bytes (docs/use/FORMAT.md).
+        records=168
+        # The syncs of a new folder beside its rows: of the catalogue, of the log, and of the names of their files and of the folder.
+        first_syncs=9
+        most=7000
+        ;;
+    indexed)
+        # The record that marks the index row, that of the row, and the one that verifies.
+        records='187 201 53'
+        # Those of the catalogue and its three records, and of three logs, as KV has one too.
+        first_syncs=23
+        most=5000
+        ;;
+    *) most=0 ;;
+esac
 
 fail() {
     echo "upserts.sh: $1" >&2
     exit 2
 }
-{ [ "$upserts" -ge 1 ] && [ "$upserts" -le 7000 ] && [ "$rounds" -ge 1 ]; } 2>/dev/null ||
-    fail '1 to 7,000 statements, and at least one round'
+{ [ "$upserts" -ge 1 ] && [ "$upserts" -le "$most" ] && [ "$rounds" -ge 1 ]; } 2>/dev/null ||
+    fail '1 to 7,000 statements, or to 5,000 of an indexed table, and at least one round'
 top=$(cd "$(dirname "$0")/.." && pwd)
-program=$top/crates/px_main/out/px_main
+program=${NIPUHAKO:-$top/crates/px_main/out/px_main}
 # Proves and builds the program, where that wasn't done yet.
-"$top/nipuhako" run "$top/crates/px_main/out/none" </dev/null
-rm -rf "$top/crates/px_main/out/none"
-work=$(mktemp -d "${3:-$top/crates/px_main/out}/upserts.XXXXXX")
+if [ -z "${NIPUHAKO:-}" ]; then
+    "$top/nipuhako" run "$top/crates/px_main/out/none" </dev/null
+    rm -rf "$top/crates/px_main/out/none"
+fi
+work=$(mktemp -d "${3:-$(dirname "$program")}/upserts.XXXXXX")
 work=$(cd "$work" && pwd)
 trap 'rm -rf "$work"' EXIT
 
-# A script: its first words, the words before each row, those after it.
+# A script: its first words, the words before each row, those after it, and whether there is a text of 8 bytes behind the key.
 script() {
-    awk -v n="$upserts" -v first="$1" -v before="$2" -v after="$3" 'BEGIN {
+    awk -v n="$upserts" -v first="$1" -v before="$2" -v after="$3" -v texts="$texts" 'BEGIN {
         printf "%s", first
         value = sprintf("%0100d", 0)
-        for (i = 1; i <= n; i++) printf "%s (\047key%07d\047,\047%s\047)%s;\n", before, i, value, after
+        for (i = 1; i <= n; i++) {
+            text = texts ? sprintf("\047c%07d\047,", i * 7919 % 10000000) : ""
+            printf "%s (\047key%07d\047,%s\047%s\047)%s;\n", before, i, text, value, after
+        }
     }'
 }
-table='CREATE TABLE KV (K TEXT NOT NULL PRIMARY KEY, V TEXT) WITHOUT ROWID;'
-script '' 'UPSERT INTO KV VALUES' '' >"$work/nipuhako.sql"
+if [ "${4:-plain}" = plain ]; then
+    texts=0 text='' name=KV own_table=''
+    table='CREATE TABLE KV (K TEXT NOT NULL PRIMARY KEY, V TEXT) WITHOUT ROWID;'
+    changed='V = excluded.V'
+else
+    texts=1 text="'c0000000'," name=P
+    own_table='CREATE TABLE P (K VARCHAR NOT NULL PRIMARY KEY, C VARCHAR, V VARCHAR); CREATE INDEX BY_C ON P (C) INCLUDE (V);'
+    table='CREATE TABLE P (K TEXT NOT NULL PRIMARY KEY, C TEXT, V TEXT) WITHOUT ROWID; CREATE INDEX BY_C ON P (C, V);'
+    changed='C = excluded.C, V = excluded.V'
+fi
+script "$own_table" "UPSERT INTO $name VALUES" '' >"$work/nipuhako.sql"
 for mode in DELETE WAL; do
-    script "PRAGMA journal_mode=$mode; PRAGMA synchronous=FULL; $table" 'INSERT INTO KV VALUES' \
-        ' ON CONFLICT (K) DO UPDATE SET V = excluded.V' >"$work/SQLite-$mode.sql"
+    script "PRAGMA journal_mode=$mode; PRAGMA synchronous=FULL; $table" "INSERT INTO $name VALUES" \
+        " ON CONFLICT (K) DO UPDATE SET $changed" >"$work/SQLite-$mode.sql"
 done
 
 begin() { rm -rf "$work/run" && mkdir "$work/run" && cd "$work/run" && start=$(date +%s%N); }
@@ -58,8 +87,8 @@ run() {
 # How many rows a run left, to see that it did its work.
 rows_left() {
     case $1 in
-        nipuhako) echo 'SELECT * FROM KV' | "$program" run "$work/run" | awk 'END { print $1 }' ;;
-        *) HOME=$work sqlite3 -batch kv.db 'SELECT count(*) FROM KV' ;;
+        nipuhako) echo "SELECT * FROM $name" | "$program" run "$work/run" | awk 'END { print $1 }' ;;
+        *) HOME=$work sqlite3 -batch kv.db "SELECT count(*) FROM $name" ;;
     esac
 }
 
@@ -79,11 +108,16 @@ time_of() {
 
 # The syncs of as many records alone: each after a record's bytes at the file's end, then each after a byte in place.
 time_bare() {
+    local record
     begin
-    dd if=/dev/zero of=bare bs="$record" count="$upserts" oflag=dsync 2>/dev/null
+    for record in $records; do
+        dd if=/dev/zero of="bare$record" bs="$record" count="$upserts" oflag=dsync 2>/dev/null
+    done
     keep appends
     start=$(date +%s%N)
-    dd if=/dev/zero of=bare bs=1 count="$upserts" conv=notrunc oflag=dsync 2>/dev/null
+    for record in $records; do
+        dd if=/dev/zero of="bare$record" bs=1 count="$upserts" conv=notrunc oflag=dsync 2>/dev/null
+    done
     keep gates
 }
 
@@ -101,15 +135,16 @@ time_singles() {
     local value which=$1 mode=${1#SQLite-}
     value=$(printf '%0100d' 0)
     begin
-    if [ "$which" != nipuhako ]; then
-        HOME=$work sqlite3 -batch kv.db "PRAGMA journal_mode=$mode; $table" >/dev/null
-        start=$(date +%s%N)
-    fi
+    case $which in
+        nipuhako) echo "$own_table" | "$program" run "$work/run" >/dev/null ;;
+        *) HOME=$work sqlite3 -batch kv.db "PRAGMA journal_mode=$mode; $table" >/dev/null ;;
+    esac
+    start=$(date +%s%N)
     for ((i = 1; i <= singles; i++)); do
         case $which in
-            nipuhako) echo "UPSERT INTO KV VALUES ('key$i','$value');" | "$program" run "$work/run" ;;
-            *) echo "PRAGMA synchronous=FULL; INSERT INTO KV VALUES ('key$i','$value')
-                ON CONFLICT (K) DO UPDATE SET V = excluded.V;" | HOME=$work sqlite3 -batch kv.db ;;
+            nipuhako) echo "UPSERT INTO $name VALUES ('key$i',$text'$value');" | "$program" run "$work/run" ;;
+            *) echo "PRAGMA synchronous=FULL; INSERT INTO $name VALUES ('key$i',$text'$value')
+                ON CONFLICT (K) DO UPDATE SET $changed;" | HOME=$work sqlite3 -batch kv.db ;;
         esac >/dev/null
     done
     keep "single $which"
@@ -118,7 +153,8 @@ for ((round = 0; round < rounds; round++)); do
     for which in "${timed[@]}"; do time_singles "$which"; done
 done
 counted='by the format, as strace is not there to count them'
-syncs[nipuhako]=$((2 * upserts + first_syncs))
+records_each=$(wc -w <<<"$records")
+syncs[nipuhako]=$((2 * records_each * upserts + first_syncs))
 if strace -o /dev/null true 2>/dev/null; then
     counted='counted by strace in one more run'
     for which in "${timed[@]}"; do
@@ -131,12 +167,13 @@ fi
 printf '%s processors, load %s, file system %s\n' "$(nproc)" "$(cut -d' ' -f1 /proc/loadavg)" "$(df --output=fstype "$work" | tail -1)"
 echo "$upserts UPSERTs in a run, best of $rounds runs; syncs $counted"
 for which in "${timed[@]}"; do echo "$which ${best[$which]} ${syncs[$which]:--}"; done |
-    awk -v n="$upserts" -v first="$first_syncs" -v appends="${best[appends]}" -v gates="${best[gates]}" '
+    awk -v n="$upserts" -v each="$records_each" -v first="$first_syncs" -v appends="${best[appends]}" -v gates="${best[gates]}" '
     NR == 1 {
         own = $2
-        least = (appends * (1 + first / n) + gates) / 1e9
-        printf "a bare sync: %.3f ms after a record, %.3f ms after a byte in place\n", appends / n / 1e6, gates / n / 1e6
-        printf "the %d syncs that the format asks for take %.3f s by that\n", 2 * n + first, least
+        all = n * each
+        least = (appends * (1 + first / all) + gates) / 1e9
+        printf "a bare sync: %.3f ms after a record, %.3f ms after a byte in place\n", appends / all / 1e6, gates / all / 1e6
+        printf "the %d syncs that the format asks for take %.3f s by that\n", 2 * all + first, least
         printf "%-13s %9s %7s %11s %14s %15s\n", "", "seconds", "syncs", "per UPSERT", "to bare syncs", "nipuhako to it"
     }
     { printf "%-13s %9.3f %7s %11s %14s %15.2f\n", $1, $2 / 1e9, $3, $3 == "-" ? "-" : sprintf("%.2f", $3 / n),

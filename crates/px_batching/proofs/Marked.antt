@@ -1,28 +1,20 @@
 -- Marked places, from the front on.
-use Rattle.std.proofs.Common.{◌≡◌, ℕ, zero, suc, ◌+◌, ◌<◌, ◌≤◌, Bool, true, false, length, get_or, take, drop, remove, List, [], ◌∷◌, ◌++◌, refl, ap, sym, ◌∙◌, arith}
-use Rattle.std.proofs.lemmas.List.{append-nil}
+use Rattle.std.proofs.Common.{◌≡◌, ℕ, zero, suc, add-one, ◌+◌, ◌<◌, ◌≤◌, Bool, true, false, length, get_or, set, take, drop, List, [], ◌∷◌, ◌++◌, append_assoc, refl, ap, sym, subst, inl, inr, ◌∙◌, arith}
+use Rattle.std.proofs.lemmas.List.{append-nil, drop-set-lt, length-set, take-set, take-set-le, take_more_set}
+use Rattle.std.proofs.lemmas.Bool.{cases_eq}
 use Rattle.px_values.specs.declared.row.Value.{Value}
 use Rattle.px_openbatches.specs.Pending.{flagged}
 
 abbrev Rows : Type 0
 Rows = List (List Value)
 
-at_mark : (v : Bool) (vs : List Bool) (i : ℕ) → i < length vs → drop i vs ≡ get_or vs i v ∷ drop (suc i) vs
-at_mark v [] i l = absurd (omega arith)
-at_mark v (w ∷ vs) zero l = refl
-at_mark v (w ∷ vs) (suc i) l = at_mark v vs i (omega arith)
+at_suc : {A : Type 0} (d : A) (xs : List A) (i : ℕ) → i < length xs → drop i xs ≡ get_or xs i d ∷ drop (suc i) xs
+at_suc d [] i l = absurd (omega arith)
+at_suc d (x ∷ xs) zero l = refl
+at_suc d (x ∷ xs) (suc i) l = at_suc d xs i (omega arith)
 
-keeps : (xs : Rows) (n : ℕ) → n < length xs → (ws : List Bool) → take n xs ++ flagged (true ∷ ws) (drop n xs) ≡ take (suc n) xs ++ flagged ws (drop (suc n) xs)
-unfolding flagged
-keeps [] n k ws = absurd (omega arith)
-keeps (x ∷ xs) zero k ws = refl
-keeps (x ∷ xs) (suc n) k ws = ap (λ (l : Rows). x ∷ l) (keeps xs n (omega arith) ws)
-
-leaves : (xs : Rows) (n : ℕ) → n < length xs → (ws : List Bool) → take n xs ++ flagged (false ∷ ws) (drop n xs) ≡ take n (remove xs n) ++ flagged ws (drop n (remove xs n))
-unfolding flagged
-leaves [] n k ws = absurd (omega arith)
-leaves (x ∷ xs) zero k ws = refl
-leaves (x ∷ xs) (suc n) k ws = ap (λ (l : Rows). x ∷ l) (leaves xs n (omega arith) ws)
+at_place : {A : Type 0} (d : A) (xs : List A) (i : ℕ) → i < length xs → drop i xs ≡ get_or xs i d ∷ drop (i + 1) xs
+at_place d xs i l = at_suc d xs i l ∙ ap (λ (j : ℕ). get_or xs i d ∷ drop j xs) (sym (add-one i))
 
 past : {A : Type 0} (xs : List A) (n : ℕ) → length xs ≤ n → drop n xs ≡ []
 past [] zero l = refl
@@ -39,28 +31,44 @@ no_mark : (q : Rows) → flagged [] q ≡ []
 unfolding flagged
 no_mark q = refl
 
--- a mark is looked at: the row at the place stays
-pub stays_at : (vs : List Bool) (i : ℕ) (v : Bool) → i < length vs → get_or vs i v ≡ true → (rows : Rows) (n : ℕ) → n < length rows → take (n + 1) rows ++ flagged (drop (i + 1) vs) (drop (n + 1) rows) ≡ take n rows ++ flagged (drop i vs) (drop n rows)
-stays_at vs i v l t rows n k =
-    let a : n + 1 ≡ suc n = omega arith in
-    let c : i + 1 ≡ suc i = omega arith in
-    (λ j. take (a j) rows ++ flagged (drop (c j) vs) (drop (a j) rows)) ∙ sym (ap (λ (ws : List Bool). take n rows ++ flagged ws (drop n rows)) (at_mark v vs i l ∙ ap (λ (b : Bool). b ∷ drop (suc i) vs) t) ∙ keeps rows n k (drop (suc i) vs))
+one_stays : (ws : List Bool) (x : List Value) (xs : Rows) → flagged (true ∷ ws) (x ∷ xs) ≡ x ∷ flagged ws xs
+unfolding flagged
+one_stays ws x xs = refl
 
--- or it is taken out
-pub goes_at : (vs : List Bool) (i : ℕ) (v : Bool) → i < length vs → get_or vs i v ≡ false → (rows : Rows) (n : ℕ) → n < length rows → take n (remove rows n) ++ flagged (drop (i + 1) vs) (drop n (remove rows n)) ≡ take n rows ++ flagged (drop i vs) (drop n rows)
+one_goes : (ws : List Bool) (x : List Value) (xs : Rows) → flagged (false ∷ ws) (x ∷ xs) ≡ flagged ws xs
+unfolding flagged
+one_goes ws x xs = refl
+
+module _ (xs ys : Rows) (n i : ℕ) (le : n ≤ i) (inside : i < length xs) (d : List Value) (swapped : ys ≡ set (set xs n (get_or xs i d)) i (get_or xs n d)) where
+  -- where two rows are swapped, the later one is at the earlier place
+  front : take (n + 1) ys ≡ take n xs ++ get_or xs i d ∷ []
+  front = ap (take (n + 1)) swapped ∙ elim (cases_eq n i) [
+    | inl e ↦ subst (λ (j : ℕ). take (n + 1) (set (set xs n (get_or xs j d)) j (get_or xs n d)) ≡ take n xs ++ get_or xs j d ∷ []) e
+        (take_more_set (set xs n (get_or xs n d)) n (get_or xs n d) (let s = length-set xs n (get_or xs n d) in omega arith) ∙ ap (λ (l : Rows). l ++ get_or xs n d ∷ []) (take-set xs n (get_or xs n d)))
+    | inr e ↦ take-set-le (n + 1) (set xs n (get_or xs i d)) i (get_or xs n d) (omega arith) ∙ take_more_set xs n (get_or xs i d) (omega arith)
+  ]
+
+  -- and those behind both stay
+  behind : drop (i + 1) ys ≡ drop (i + 1) xs
+  behind = ap (drop (i + 1)) swapped ∙ (drop-set-lt (i + 1) (set xs n (get_or xs i d)) i (get_or xs n d) (omega arith) ∙ drop-set-lt (i + 1) xs n (get_or xs i d) (omega arith))
+
+  -- a mark is looked at: its row is swapped to behind those that stay
+  pub stays_at : (vs : List Bool) (v : Bool) → i < length vs → get_or vs i v ≡ true → take (n + 1) ys ++ flagged (drop (i + 1) vs) (drop (i + 1) ys) ≡ take n xs ++ flagged (drop i vs) (drop i xs)
+  stays_at vs v l t =
+      ap (λ (p : Rows). p ++ flagged (drop (i + 1) vs) (drop (i + 1) ys)) front ∙ (ap (λ (q : Rows). (take n xs ++ get_or xs i d ∷ []) ++ flagged (drop (i + 1) vs) q) behind
+      ∙ (append_assoc (take n xs) (get_or xs i d ∷ []) (flagged (drop (i + 1) vs) (drop (i + 1) xs))
+      ∙ sym (ap (λ (q : Rows). take n xs ++ q) (ap (λ (ws : List Bool). flagged ws (drop i xs)) (at_place v vs i l ∙ ap (λ (b : Bool). b ∷ drop (i + 1) vs) t) ∙ (ap (flagged (true ∷ drop (i + 1) vs)) (at_place d xs i inside) ∙ one_stays (drop (i + 1) vs) (get_or xs i d) (drop (i + 1) xs))))))
+
+-- or it stays behind
+pub goes_at : (vs : List Bool) (i : ℕ) (v : Bool) → i < length vs → get_or vs i v ≡ false → (rows : Rows) (n : ℕ) → i < length rows → take n rows ++ flagged (drop (i + 1) vs) (drop (i + 1) rows) ≡ take n rows ++ flagged (drop i vs) (drop i rows)
 goes_at vs i v l t rows n k =
-    let c : i + 1 ≡ suc i = omega arith in
-    ap (λ (j : ℕ). take n (remove rows n) ++ flagged (drop j vs) (drop n (remove rows n))) c ∙ sym (ap (λ (ws : List Bool). take n rows ++ flagged ws (drop n rows)) (at_mark v vs i l ∙ ap (λ (b : Bool). b ∷ drop (suc i) vs) t) ∙ leaves rows n k (drop (suc i) vs))
+    sym (ap (λ (q : Rows). take n rows ++ q) (ap (λ (ws : List Bool). flagged ws (drop i rows)) (at_place v vs i l ∙ ap (λ (b : Bool). b ∷ drop (i + 1) vs) t)
+    ∙ (ap (flagged (false ∷ drop (i + 1) vs)) (at_place [] rows i k) ∙ one_goes (drop (i + 1) vs) (get_or rows i []) (drop (i + 1) rows))))
 
 -- or no row is left
-pub none_at : (vs : List Bool) (i : ℕ) (rows : Rows) (n : ℕ) → length rows ≤ n → take n rows ++ flagged (drop (i + 1) vs) (drop n rows) ≡ take n rows ++ flagged (drop i vs) (drop n rows)
-none_at vs i rows n l = ap (λ (q : Rows). take n rows ++ q) (ap (flagged (drop (i + 1) vs)) (past rows n l) ∙ (nothing (drop (i + 1) vs) ∙ (sym (nothing (drop i vs)) ∙ ap (flagged (drop i vs)) (sym (past rows n l)))))
+pub none_at : (vs : List Bool) (i : ℕ) (rows : Rows) (n : ℕ) → length rows ≤ i → take n rows ++ flagged (drop (i + 1) vs) (drop (i + 1) rows) ≡ take n rows ++ flagged (drop i vs) (drop i rows)
+none_at vs i rows n l = ap (λ (q : Rows). take n rows ++ q) (ap (flagged (drop (i + 1) vs)) (past rows (i + 1) (omega arith)) ∙ (nothing (drop (i + 1) vs) ∙ (sym (nothing (drop i vs)) ∙ ap (flagged (drop i vs)) (sym (past rows i l)))))
 
 -- no mark is left
-pub marks_end : (vs : List Bool) (i : ℕ) (rows : Rows) (n : ℕ) → length vs ≤ i → take n rows ++ flagged (drop i vs) (drop n rows) ≡ take n rows
-marks_end vs i rows n l = ap (λ (ws : List Bool). take n rows ++ flagged ws (drop n rows)) (past vs i l) ∙ (ap (λ (q : Rows). take n rows ++ q) (no_mark (drop n rows)) ∙ append-nil (take n rows))
-
-pub length_removed : (xs : Rows) (n : ℕ) → n < length xs → n ≤ length (remove xs n)
-length_removed [] n l = absurd (omega arith)
-length_removed (x ∷ xs) zero l = omega arith
-length_removed (x ∷ xs) (suc n) l = (let h = length_removed xs n (omega arith) in omega arith)
+pub marks_end : (vs : List Bool) (i : ℕ) (rows : Rows) (n : ℕ) → length vs ≤ i → take n rows ++ flagged (drop i vs) (drop i rows) ≡ take n rows
+marks_end vs i rows n l = ap (λ (ws : List Bool). take n rows ++ flagged ws (drop i rows)) (past vs i l) ∙ (ap (λ (q : Rows). take n rows ++ q) (no_mark (drop i rows)) ∙ append-nil (take n rows))

@@ -15,19 +15,17 @@ pub struct Told {
     pub concurrent: Rows,
 }
 
-/// The rows whose place is marked, in order.
+/// The rows whose place is marked, in order, in linear time: each takes the place behind the last one that was marked.
 fn marked_rows(rows: Rows, marks: &[bool]) -> Rows
     ensures { result ≡ flagged marks.now rows }
 {
     let mut rows = rows.into_vec();
     let mut next = 0;
-    for mark in marks {
-        if next < rows.len() {
+    for (i, mark) in marks.iter().enumerate() {
+        if i < rows.len() {
             if *mark {
+                rows.swap(next, i);
                 next += 1;
-            } else {
-                let row = rows.remove(next);
-                drop(row);
             }
         }
     }

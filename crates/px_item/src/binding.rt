@@ -93,7 +93,7 @@ fn batch_of(alloc: Global, of: &Table, table: TableId, change: Change) -> Next
         return Next::Tell(Reply::Refused(Refusal::Memory));
     }
     let mut receipts = Vec::new(alloc);
-    if receipts.reserve(1).is_err() {
+    if receipts.reserve_exact(1).is_err() {
         drop(change);
         drop(receipts);
         return Next::Tell(Reply::Refused(Refusal::Memory));

@@ -34,7 +34,7 @@ place_of [] c h = absurd h
 place_of (x ∷ cells) c (inl e) = record { place = 0; within = omega arith; is = ap (λ (z : CellData). z.key) e }
 place_of (x ∷ cells) c (inr h) = (let r = place_of cells c h in record { place = suc r.place; within = (let w = r.within in omega arith); is = r.is })
 
-same_cell : (cells : List CellData) (i : ℕ) (a b : CellData) → i < length cells → get_or cells i a ≡ get_or cells i b
+pub same_cell : (cells : List CellData) (i : ℕ) (a b : CellData) → i < length cells → get_or cells i a ≡ get_or cells i b
 same_cell [] i a b lt = absurd (omega arith)
 same_cell (c ∷ cells) zero a b lt = refl
 same_cell (c ∷ cells) (suc i) a b lt = same_cell cells i a b (omega arith)

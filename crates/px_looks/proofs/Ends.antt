@@ -1,23 +1,22 @@
 -- Where a row ends, and how many rows there are up to there.
-use Rattle.std.proofs.Common.{◌≡◌, ◌≢◌, ℕ, zero, suc, add-one, cond, ◌+◌, ◌-◌, ◌<◌, ◌≤◌, Bool, true, false, List, [], ◌∷◌, length, take, drop, get_or, refl, ap, sym, subst, ◌∙◌, inl, inr, arith}
+use Rattle.std.proofs.Common.{◌≡◌, ◌≢◌, ℕ, zero, suc, add-one, cond, ◌+◌, ◌-◌, ◌<◌, ◌≤◌, ◌⊎◌, Bool, true, false, List, [], ◌∷◌, length, take, drop, get_or, refl, ap, sym, subst, ◌∙◌, inl, inr, arith}
 use Rattle.std.specs.List.{AllByRecursion}
 use Rattle.std.specs.declared.cmp.Ordering.{Ordering}
 use Rattle.std.specs.declared.cmp.Ordering.TheVariants.{Less, Equal, Greater}
-use Rattle.std.proofs.lemmas.Bool.{cases_Bool, cases_eq}
+use Rattle.std.proofs.lemmas.Bool.{cases_Bool, cases_eq, cases_lt}
 use Rattle.std.proofs.lemmas.List.{get_or-drop, get_or-take, length-drop, length-take-le, take_rest}
 use Rattle.px_cells.specs.CellData.{CellData}
-use Rattle.px_cells.specs.Order.{IsAscending, key_cmp}
+use Rattle.px_cells.specs.Order.{Below, IsAscending, key_cmp}
 use Rattle.px_cells.specs.Rows.{AllAbove, AllUpTo}
 use Rattle.px_cells.proofs.Keys.{keys_differ}
-use Rattle.px_cells.proofs.Orders.{equal_key, key_equal}
+use Rattle.px_cells.proofs.Orders.{equal_key, key_equal, row_is_together}
 use Rattle.px_cells.proofs.RowLemmas.{below_at}
 use Rattle.px_region.specs.Giving.{begins_row, key_at, rows_before}
-use Rattle.px_region.proofs.Given.{begins_next, row_none, row_step, rows_rise}
-use Rattle.px_trail.specs.Answers.{IsAmong}
+use Rattle.px_region.proofs.Given.{begins_next, row_step}
 use Rattle.px_calls.specs.declared.query.FoundKey.{FoundKey}
 use Rattle.px_looks.specs.Found.{RowContents}
 use Rattle.px_looks.specs.inner.Among.{FoundAmong}
-use Rattle.px_looks.specs.inner.Lent.{AreFirst}
+use Rattle.px_looks.specs.inner.Lent.{IsRowEnd}
 use Rattle.px_looks.proofs.Among.{begins_not, found_same, rows_one}
 use Rattle.px_looks.proofs.Cut.{below_key, no_cell}
 
@@ -26,18 +25,11 @@ all_at P [] n d a lt = absurd (omega arith)
 all_at P (x ∷ xs) zero d a lt = a.0
 all_at P (x ∷ xs) (suc n) d a lt = all_at P xs n d a.1 (omega arith)
 
-rest_at : (cells : List CellData) (at n : ℕ) (d : CellData) → get_or (take (length cells - at) (drop at cells)) n d ≡ get_or cells (at + n) d
+pub rest_at : (cells : List CellData) (at n : ℕ) (d : CellData) → get_or (take (length cells - at) (drop at cells)) n d ≡ get_or cells (at + n) d
 rest_at cells at n d = ap (λ (l : List CellData). get_or l n d) (take_rest cells at) ∙ get_or-drop at cells n d
 
-rest_length : (cells : List CellData) (at : ℕ) → at ≤ length cells → length (take (length cells - at) (drop at cells)) + at ≡ length cells
+pub rest_length : (cells : List CellData) (at : ℕ) → at ≤ length cells → length (take (length cells - at) (drop at cells)) + at ≡ length cells
 rest_length cells at le = (let e = ap length (take_rest cells at) in let l = length-drop at cells in omega arith)
-
--- the cells from a place on have one key up to another place, and not there
-pub record IsRowEnd (cells : List CellData) (at end : ℕ) (key : List ℕ) : Type 0 where
-  pub on : at < end
-  pub within : end ≤ length cells
-  pub one : (j : ℕ) → at ≤ j → j < end → key_at cells j ≡ key
-  pub other : end < length cells → key_at cells end ≡ key → ⊥
 
 module _ (cells : List CellData) (at r : ℕ) (key : List ℕ) (up : IsAscending cells) (inside : at < length cells) (is : key ≡ key_at cells at) (within : r ≤ length (take (length cells - at) (drop at cells)))
     (up_to : AllUpTo key (take r (take (length cells - at) (drop at cells)))) (above : AllAbove key (drop r (take (length cells - at) (drop at cells)))) where
@@ -103,6 +95,40 @@ module _ (cells : List CellData) (at end : ℕ) (key : List ℕ) (z : IsRowEnd c
     | inl t ↦ t
     | inr f ↦ absurd (z.other lt (sym (begins_not cells end f).1 ∙ z.one (end - 1) (let o = z.on in omega arith) (let o = z.on in omega arith)))
   ]
+
+-- ---- the same by a part of the list that goes on to another row
+
+module _ (cells : List CellData) (at from to : ℕ) (key : List ℕ) (up : IsAscending cells) (on : at ≤ from) (before : from < to) (within : to ≤ length cells) (first : key_at cells at ≡ key) (known : key_at cells from ≡ key)
+    (other : to < length cells → key_at cells to ≡ key → ⊥) where
+  between : (j : ℕ) → at ≤ j → j ≤ from → key_at cells j ≡ key
+  between j a le = elim (cases_eq j from) [
+    | inl e ↦ ap (key_at cells) e ∙ known
+    | inr e ↦ row_is_together (get_or cells at no_cell) (get_or cells j no_cell) (get_or cells from no_cell) (begun (cases_eq at j)) (below_at cells j from no_cell up (omega arith) (omega arith)) (first ∙ sym known) ∙ known
+  ]
+    where
+      begun : (at ≡ j) ⊎ (at ≢ j) → (get_or cells at no_cell ≡ get_or cells j no_cell) ⊎ Below (get_or cells at no_cell) (get_or cells j no_cell)
+      begun (inl q) = inl (ap (λ (n : ℕ). get_or cells n no_cell) q)
+      begun (inr q) = inr (below_at cells at j no_cell up (omega arith) (omega arith))
+
+  pub next_ends : to ≡ from + 1 → IsRowEnd cells at to key
+  next_ends e = record { on = omega arith; within = within; one = λ j a lt. between j a (omega arith); other = other }
+
+  pub part_ends : (end : ℕ) → IsRowEnd (take to cells) from end (key_at (take to cells) from) → IsRowEnd cells at end key
+  part_ends end z = record {
+    on = (let o = z.on in omega arith);
+    within = (let w = z.within in let l = length-take-le to cells within in omega arith);
+    one = λ j a lt. elim (cases_lt from j) [
+      | inr le ↦ between j a (omega arith)
+      | inl gt ↦ sym (same j (let w = z.within in let l = length-take-le to cells within in omega arith)) ∙ z.one j (omega arith) lt ∙ same from before ∙ known
+    ];
+    other = λ lt. elim (cases_eq end to) [
+      | inl e ↦ (λ q. other (omega arith) (ap (key_at cells) (sym e) ∙ q))
+      | inr e ↦ (λ q. let w = z.within in let l = length-take-le to cells within in z.other (omega arith) (same end (omega arith) ∙ q ∙ sym (same from before ∙ known)))
+    ];
+  }
+    where
+      same : (j : ℕ) → j < to → key_at (take to cells) j ≡ key_at cells j
+      same j lt = ap (λ (c : CellData). c.key) (get_or-take to cells j no_cell lt)
 
 -- ---- how many rows there are up to there
 

@@ -4,6 +4,7 @@ pub mod Cut
 pub mod Ends
 pub mod Rising
 pub mod Among
+pub mod RowPart
 pub mod Parts
 pub mod Spelling
 pub mod Stamped

@@ -1,12 +1,12 @@
 // Rows as a region lends them.
-ghost use Rattle.std.specs.Prelude.{◌≡◌, ◌+◌, ◌<◌, ◌≤◌, ◌-◌, ℕ, Some, true, false, length, min};
+ghost use Rattle.std.specs.Prelude.{◌≡◌, ◌≢◌, ◌+◌, ◌<◌, ◌≤◌, ◌-◌, ℕ, Some, true, false, length, min};
 ghost use Rattle.std.specs.Option.{option_copied};
 ghost use Rattle.px_cells.specs.Order.{IsAscending};
 ghost use Rattle.px_cells.specs.Rows.{AreRows};
 ghost use Rattle.px_region.specs.Giving.{begins_row, key_at, rows_before};
 ghost use Rattle.px_region.specs.Region.{read_of};
 ghost use Rattle.px_looks.specs.Keys.{IsWithin, next_key};
-ghost use Rattle.px_looks.specs.inner.Lent.{AreFirst};
+ghost use Rattle.px_looks.specs.inner.Lent.{AreFirst, IsRowEnd};
 
 use px_cells::{Cell, place_after};
 use px_region::Region;
@@ -19,7 +19,30 @@ pub(crate) struct Lent<'a> {
     pub(crate) rows: u64,
 }
 
-/// Where the row ends that begins at a place of a sorted list. It takes logarithmic time.
+/// Whether a cell with this key stands at a place.
+fn has_key(cells: &[Cell], place: usize, key: &[u8]) -> bool
+    ensures within { result ≡ true → place < length cells.now }
+    ensures same { result ≡ true → key_at cells.now place ≡ key.now }
+    ensures other { result ≡ false → place < length cells.now → key_at cells.now place ≢ key.now }
+{
+    if place >= cells.len() {
+        return false;
+    }
+    cells[place].key() == key
+}
+
+/// Where the row of a cell ends, by halving all that is behind it.
+fn halved_end(cells: &[Cell], at: usize) -> usize
+    requires within { at < length cells.now }
+    requires sorted { IsAscending cells.now }
+    ensures { IsRowEnd cells.now at result (key_at cells.now at) }
+{
+    let rest = &cells[at..];
+    at + place_after(rest, cells[at].key())
+}
+
+/// Where the row ends that begins at a place of a sorted list. It takes time logarithmic in the row's own cells: the next cell is looked at,
+/// then the second, the fourth and so on up to one of another row, and what is left between two of them is halved.
 pub(crate) fn row_end(cells: &[Cell], at: usize) -> usize
     requires within { at < length cells.now }
     requires sorted { IsAscending cells.now }
@@ -27,9 +50,20 @@ pub(crate) fn row_end(cells: &[Cell], at: usize) -> usize
     ensures within { result ≤ length cells.now }
     ensures one { (j : ℕ) → at < j → j < result → begins_row cells.now j ≡ false }
     ensures next { result < length cells.now → begins_row cells.now result ≡ true }
+    ensures row { IsRowEnd cells.now at result (key_at cells.now at) }
 {
-    let rest = &cells[at..];
-    at + place_after(rest, cells[at].key())
+    let key = cells[at].key();
+    let mut from = at;
+    let mut to = at + 1;
+    while has_key(cells, to, key) {
+        let step = (to - at).min(cells.len() - to);
+        from = to;
+        to += step;
+    }
+    if to - from == 1 {
+        return to;
+    }
+    halved_end(&cells[..to], from)
 }
 
 /// The first rows of a sorted list, at most so many.

@@ -9,10 +9,11 @@ ghost use Rattle.px_calls.specs.Looks.{key_found};
 ghost use Rattle.px_calls.specs.declared.query.FoundKey.{FoundKey as Finding};
 ghost use Rattle.px_looks.specs.Found.{RowContents, at_key};
 ghost use Rattle.px_looks.specs.inner.Among.{FoundAmong};
+ghost use Rattle.px_looks.specs.inner.Lent.{IsRowEnd};
 
 use crate::lent::row_end;
 use px_calls::FoundKey;
-use px_cells::{Cell, row_in};
+use px_cells::Cell;
 use std::alloc::{AllocError, Global};
 
 /// Reads what a path shows at a key.
@@ -42,15 +43,16 @@ pub(crate) trait Reader {
         ensures some { (k : List ℕ) (h : RowContents) (f : Finding) → shows self.now k h f → (q s : ℕ) × (d : CellKinds) × (v : List ℕ) × (h q s d ≡ Some v) };
 }
 
-/// Adds what is shown of the row that begins with a cell.
+/// Adds what is shown of the row from a cell on, up to before another.
 fn add_found<R: Reader>(
     alloc: Global,
     reader: &R,
     cells: &[Cell],
     i: usize,
+    end: usize,
     found: &mut Vec<FoundKey>,
 ) -> Result<(), AllocError>
-    requires within { i < length cells.now }
+    requires row { IsRowEnd cells.now i end (key_at cells.now i) }
     requires begins { begins_row cells.now i ≡ true }
     requires list { IsCellList cells.now }
     requires admits { (j : ℕ) → j < length cells.now → R.admits reader.now (key_at cells.now j) (at_key (value_at cells.now) (key_at cells.now j)) }
@@ -58,8 +60,10 @@ fn add_found<R: Reader>(
     ensures few { length found.old.items ≤ rows_before cells.now i → OnOk result (length found.new.items ≤ rows_before cells.now (i + 1)) }
 {
     let key = cells[i].key();
+    let rest = &cells[i..];
+    let row = &rest[..end - i];
     reader.law();
-    match reader.read(alloc, key, row_in(cells, key)) {
+    match reader.read(alloc, key, row) {
         Err(fault) => Err(fault),
         Ok(None) => Ok(()),
         Ok(Some(shown)) => {
@@ -83,8 +87,9 @@ pub(crate) fn find_all<R: Reader>(
     let mut found = Vec::new(alloc);
     let mut i = 0usize;
     while i < cells.len() {
-        add_found(alloc, reader, cells, i, &mut found)?;
-        i = row_end(cells, i);
+        let end = row_end(cells, i);
+        add_found(alloc, reader, cells, i, end, &mut found)?;
+        i = end;
     }
     Ok(found)
 }

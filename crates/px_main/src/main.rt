@@ -9,6 +9,7 @@ use std::alloc::AllocError;
 use std::fs::File;
 use std::process::ExitCode;
 use std::sync::Wait;
+use std::thread::Threads;
 use std::{env, io};
 
 /// The null device, open for reading. Three of them take the descriptors of input, output and errors where these were
@@ -34,7 +35,11 @@ fn told(rt: &HostRuntime, status: Status) -> Status {
 
 /// Runs the program on the folder that the words name, and tells its status; where they name none, on no folder. The sessions
 /// wait for their turns by `wait`.
-fn run_in<W: Wait>(rt: &HostRuntime, wait: &W, words: &[String]) -> Result<Status, AllocError> {
+fn run_in<W: Threads + Wait + Sync>(
+    rt: &HostRuntime,
+    wait: &W,
+    words: &[String],
+) -> Result<Status, AllocError> {
     let alloc = rt.alloc();
     let clock = WallClock::new(rt);
     let (mut input, mut out) = (StdSource::new(rt), StdSink::new(rt));

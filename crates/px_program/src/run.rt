@@ -33,6 +33,7 @@ use px_server::{Founded, Server, law_starts};
 use std::alloc::Global;
 use std::marker::Brand;
 use std::sync::Wait;
+use std::thread::Threads;
 
 /// The greatest length of a script that is read, and one byte more.
 const MOST_READ: usize = 67_108_865;
@@ -55,7 +56,13 @@ fn status_unopened(fault: OpenFault, failed: u64) -> Status
 }
 
 /// Runs a script on a server with which nothing was done, and writes its replies.
-fn serve<R: Wait, D: CountsCalls, C: Clock + Drop, O: Sink, B: Based + Founded>(
+fn serve<
+    R: Threads + Wait + Sync,
+    D: CountsCalls + Send,
+    C: Clock + Drop + Send,
+    O: Sink,
+    B: Based + Founded + Send + Sync,
+>(
     rt: &R,
     alloc: Global,
     server: Server<D, C, B>,
@@ -72,7 +79,13 @@ fn serve<R: Wait, D: CountsCalls, C: Clock + Drop, O: Sink, B: Based + Founded>(
 
 /// Runs a script over a folder that was opened, and writes its replies. `B` tells the base, whether the folder is sound, the premise, and what
 /// the clock has to tell.
-fn run_over<R: Wait, D: CountsCalls, C: Clock + Drop, O: Sink, B: Based + Founded>(
+fn run_over<
+    R: Threads + Wait + Sync,
+    D: CountsCalls + Send,
+    C: Clock + Drop + Send,
+    O: Sink,
+    B: Based + Founded + Send + Sync,
+>(
     rt: &R,
     alloc: Global,
     script: &[u8],
@@ -118,7 +131,13 @@ fn run_over<R: Wait, D: CountsCalls, C: Clock + Drop, O: Sink, B: Based + Founde
 }
 
 /// The same on a disk of which stops are told from the opening's end on, and earlier ones where the folder stood for what was opened before.
-fn run_since<R: Wait, D: CountsCalls, C: Clock + Drop, O: Sink, B: Based + Founded + Since>(
+fn run_since<
+    R: Threads + Wait + Sync,
+    D: CountsCalls + Send,
+    C: Clock + Drop + Send,
+    O: Sink,
+    B: Based + Founded + Since + Send + Sync,
+>(
     rt: &R,
     alloc: Global,
     script: &[u8],
@@ -148,7 +167,7 @@ fn run_since<R: Wait, D: CountsCalls, C: Clock + Drop, O: Sink, B: Based + Found
 }
 
 /// Runs a script over a folder that was opened.
-fn run_opened<R: Wait, D: CountsCalls, C: Clock + Drop, O: Sink>(
+fn run_opened<R: Threads + Wait + Sync, D: CountsCalls + Send, C: Clock + Drop + Send, O: Sink>(
     rt: &R,
     alloc: Global,
     script: &[u8],
@@ -166,7 +185,7 @@ fn run_opened<R: Wait, D: CountsCalls, C: Clock + Drop, O: Sink>(
 }
 
 /// Opens the folder, and runs a script on its tables.
-fn run_on<R: Wait, D: CountsCalls, C: Clock + Drop, O: Sink>(
+fn run_on<R: Threads + Wait + Sync, D: CountsCalls + Send, C: Clock + Drop + Send, O: Sink>(
     rt: &R,
     alloc: Global,
     script: &[u8],
@@ -187,7 +206,7 @@ fn run_on<R: Wait, D: CountsCalls, C: Clock + Drop, O: Sink>(
 }
 
 /// Runs a script on the tables of the folder that the disk holds. Its calls are counted.
-fn run_folder<R: Wait, D: Disk, C: Clock + Drop, O: Sink>(
+fn run_folder<R: Threads + Wait + Sync, D: Disk + Send, C: Clock + Drop + Send, O: Sink>(
     rt: &R,
     alloc: Global,
     script: &[u8],
@@ -222,7 +241,13 @@ fn untouched<D: Disk>(alloc: Global, disk: D, status: Status) -> Outcome<D>
 
 /// Runs the program: reads a script from the input, runs its sessions on the tables in the folder that the disk holds, and writes their
 /// replies. The words are those after the program's name. The disk had no call yet.
-pub fn phoenix<R: Wait, D: Disk, C: Clock + Drop, I: Source, O: Sink>(
+pub fn phoenix<
+    R: Threads + Wait + Sync,
+    D: Disk + Send,
+    C: Clock + Drop + Send,
+    I: Source,
+    O: Sink,
+>(
     rt: &R,
     alloc: Global,
     words: &[String],

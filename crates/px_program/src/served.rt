@@ -8,15 +8,16 @@ ghost use Rattle.px_rounds.specs.Written.{IsWritten};
 use crate::replies::{stopped, write_replies};
 use px_outside::Sink;
 use px_reply::Transcripts;
-use px_rounds::{Rounds, run_rounds};
+use px_rounds::{NoGate, Rounds, run_rounds};
 use px_script::{ScriptFault, read_script};
 use px_seat::Single;
 use px_values::Items;
 use std::alloc::Global;
 use std::sync::Wait;
+use std::thread::Threads;
 
 /// Session 1 is told why nothing of the script is run.
-fn refuse<S: Single, O: Sink>(
+fn refuse<S: Single + Send, O: Sink>(
     alloc: Global,
     server: S,
     fault: ScriptFault,
@@ -48,7 +49,7 @@ fn refuse<S: Single, O: Sink>(
 
 /// Runs a script on a server with which nothing was done, and writes its replies. Nobody else acts on it.
 #[tactic(auto, using(crate::proofs::Serving::is_single))]
-pub fn run_script<R: Wait, S: Single, O: Sink>(
+pub fn run_script<R: Threads + Wait + Sync, S: Single + Send, O: Sink>(
     rt: &R,
     alloc: Global,
     server: S,
@@ -62,7 +63,7 @@ pub fn run_script<R: Wait, S: Single, O: Sink>(
     ensures written { IsWritten ⟦<O as Sink>⟧ out.old out.new (printed result.transcripts) result.sink_failed result.memory }
 {
     match read_script(alloc, script) {
-        Ok(rounds) => run_rounds(rt, alloc, server, &rounds, &[], out),
+        Ok(rounds) => run_rounds(rt, alloc, &NoGate, server, &rounds, None, out),
         Err(fault) => refuse(alloc, server, fault, script.len(), out),
     }
 }

@@ -25,6 +25,10 @@ pub record RegionData : Type 0 where
 abbrev pub read_of : Region → List CellData
 read_of region = region.store.cells
 
+-- How many cells stand in its log above the flushed number, each as often as it was written: the disk tells so (`counted` of `Holds`).
+abbrev pub logged_of : Region → ℕ
+logged_of region = region.cells
+
 -- What is read of a region, and the horizon and the greatest stamp that its manifest names.
 abbrev pub data_of : Region → RegionData
 data_of region = record { cells = read_of region; horizon = (names region.manifest).horizon; stamp = (names region.manifest).stamp }

@@ -68,7 +68,7 @@ fn give_rows<T: CellTaker>(
 
 impl Region {
     ghost use Rattle.px_cells.specs.Order.{IsAscending};
-    ghost use Rattle.px_region.specs.Region.{Holds, RegionData, data_of, read_of};
+    ghost use Rattle.px_region.specs.Region.{Holds, RegionData, data_of, logged_of, read_of};
     ghost use Rattle.px_region.specs.Promise.{IsAlike, IsSamePromise};
     ghost use Rattle.px_outside.specs.OnDisk.{Stays};
     ghost use Rattle.px_cells.specs.Rows.{AreRows, IsRow};
@@ -80,6 +80,13 @@ impl Region {
         ensures sorted { IsAscending (read_of self.now) }
     {
         self.store.as_slice()
+    }
+
+    /// How many cells stand in its log above the flushed number. Each that was written counts, also one that is read no more.
+    pub fn logged_cells(&self) -> u64
+        ensures { result ≡ logged_of self.now }
+    {
+        self.cells
     }
 
     /// The horizon that its manifest names.

@@ -24,10 +24,10 @@ pub stays : (k : Known) → IsSingle k → GoesOn k k
 stays k one = record { more = []; seen = sym (append-nil k.seen); base = refl; damaged = refl; single = one }
 
 -- what lies between two places of a trail that has grown
-between : (k k' : Known) (more : List Entry) → k'.seen ≡ k.seen ++ more → drop (length k.seen) (take (length k'.seen) k'.seen) ≡ more
+pub between : (k k' : Known) (more : List Entry) → k'.seen ≡ k.seen ++ more → drop (length k.seen) (take (length k'.seen) k'.seen) ≡ more
 between k k' more e = ap (drop (length k.seen)) (take-length k'.seen) ∙ (ap (drop (length k.seen)) e ∙ drop-append_seam k.seen more)
 
-forward : (k k' : Known) (more : List Entry) → k'.seen ≡ k.seen ++ more → length k.seen ≤ length k'.seen
+pub forward : (k k' : Known) (more : List Entry) → k'.seen ≡ k.seen ++ more → length k.seen ≤ length k'.seen
 forward k k' more e = let l = ap length e in let a = length-append k.seen more in omega arith
 
 module _ (sound : Type 0) where
@@ -45,7 +45,7 @@ module _ (sound : Type 0) where
   pub turned_goes : (k k' : Known) (runs runs' : List SessionRun) → Turned sound k runs k' runs' → GoesOn k k'
   turned_goes k k' runs runs' h = record { more = h.more; seen = h.seen; base = h.base; damaged = h.damaged; single = h.single }
 
-  told_in : (k k' : Known) (number from n : ℕ) (st : SessionState) (text : List ℕ) (pieces : List Piece) (run run' : SessionRun) (t : Transcript) (st' : SessionState) (lacked : Bool) → k'.seat ≡ n → from ≡ length k.seen → run.pieces.items ≡ pieces → run'.pieces ≡ run.pieces → run.session ≡ n → run'.session ≡ run.session → run.round ≡ number
+  pub told_in : (k k' : Known) (number from n : ℕ) (st : SessionState) (text : List ℕ) (pieces : List Piece) (run run' : SessionRun) (t : Transcript) (st' : SessionState) (lacked : Bool) → k'.seat ≡ n → from ≡ length k.seen → run.pieces.items ≡ pieces → run'.pieces ≡ run.pieces → run.session ≡ n → run'.session ≡ run.session → run.round ≡ number
       → run'.round ≡ run.round → run.from ≡ from → run'.from ≡ run.from → IsCut text pieces → IsTold sound k' st run' t st' lacked → IsToldIn sound k' (length k.seen) (length k'.seen) number st text t st' lacked
   told_in k k' number from n st text pieces run run' t st' lacked seat here are pieces' session session' round round' from_is from' cut told =
       let same : seen_of run' ≡ pieces_from 0 cut.sections = ap (λ v. map seen_piece v.items) pieces' ∙ (ap (map seen_piece) are ∙ cut.cut) in

@@ -72,7 +72,7 @@ module _ (sound : Type 0) where
   stayed_on : {O : Type 0} (from : ℕ) (first : List SessionState) (rounds : List (List SessionText)) (round : List SessionText) (k k' : Known) (states : List SessionState) (ts ts' : List Transcript) (states' : List SessionState) (out out' : O) (sink memory sink' memory' : Bool)
       → RanRounds sound k from first rounds ts states sink memory → Stayed k k' states ts ts' states' out out' sink memory sink' memory' → GoesOn k k' → RanRounds sound k' from first (rounds ++ round ∷ []) ts' states' sink' memory'
   stayed_on {O} from first rounds round k k' states ts ts' states' out out' sink memory sink' memory' h s goes =
-      let here : length k.seen ≡ length k'.seen = ap (λ (x : Known). length x.seen) (sym s.same) in
+      let here : length k.seen ≡ length k'.seen = ap (λ (l : List Entry). length l) (sym s.same) in
       let on = rounds_on k k' from 1 first h.passed h.done (length k.seen) states memory memory' goes (was_not memory memory' s.memory_is) h.answered in
       let F : ℕ × List SessionState → Type 0 = λ q. AreRounds sound k' from 1 first h.passed h.done q.0 q.1 memory' in
       record {
@@ -211,7 +211,7 @@ nothing_written {O} K out memory = record {
 pub went_stopped : {O : Type 0} (sound : Type 0) (K : Ghosts O) (number : ℕ) (round : List SessionText) (k : Known) (states : List SessionState) (ts : List Transcript) (out : O) (sink memory : Bool) → (sink || memory) ≡ true → WentOn sound K number round k k states ts ts states out out sink memory sink memory
 went_stopped {O} sound K number round k states ts out sink memory stopped = inl (record { same = refl; ts_are = refl; states_are = refl; out_is = refl; sink = refl; stopped = stopped; memory_is = λ m. m })
 
-pub went_without_memory : {O : Type 0} (sound : Type 0) (K : Ghosts O) (number : ℕ) (round : List SessionText) (k k' : Known) (states states' : List SessionState) (ts ts' : List Transcript) (out : O) (sink memory : Bool) → (sink || memory) ≡ false → k' ≡ k → states' ≡ states → ts' ≡ ts
+pub went_without_memory : {O : Type 0} (sound : Type 0) (K : Ghosts O) (number : ℕ) (round : List SessionText) (k k' : Known) (states states' : List SessionState) (ts ts' : List Transcript) (out : O) (sink memory : Bool) → (sink || memory) ≡ false → k'.seen ≡ k.seen → states' ≡ states → ts' ≡ ts
     → WentOn sound K number round k k' states ts ts' states' out out sink memory false true
 went_without_memory {O} sound K number round k k' states states' ts ts' out sink memory going same states_are ts_are =
     inl (record { same = same; ts_are = ts_are; states_are = states_are; out_is = refl; sink = sym (neither sink memory going).0; stopped = refl; memory_is = λ m. refl })

@@ -75,7 +75,7 @@ pub(crate) fn opened<'a>(
     runs
 }
 
-fn is_memory(ending: Ending) -> bool
+pub(crate) fn is_memory(ending: Ending) -> bool
     ensures { result ≡ false → ending ≢ Lacking }
 {
     matches!(ending, Ending::Memory)

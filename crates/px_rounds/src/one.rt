@@ -16,14 +16,18 @@ use std::alloc::{AllocError, Global};
 use std::sync::Wait;
 
 /// The lists of a round, before its sessions begin: the pieces of each, and room for the others.
-struct Lists<'a> {
-    pieces: Vec<Vec<Piece<'a>>>,
-    runs: Vec<SessionRun<'a>>,
-    transcripts: Vec<Transcript>,
-    states: Vec<SessionState>,
+pub(crate) struct Lists<'a> {
+    pub(crate) pieces: Vec<Vec<Piece<'a>>>,
+    pub(crate) runs: Vec<SessionRun<'a>>,
+    pub(crate) transcripts: Vec<Transcript>,
+    pub(crate) states: Vec<SessionState>,
 }
 
-fn lists_for<'a>(alloc: Global, round: &'a Round, count: usize) -> Result<Lists<'a>, AllocError>
+pub(crate) fn lists_for<'a>(
+    alloc: Global,
+    round: &'a Round,
+    count: usize,
+) -> Result<Lists<'a>, AllocError>
     requires { count < 2 ^ 32 }
     ensures cut { IfOk result (λ l. AreCut round.now count l.pieces.items) }
     ensures empty { IfOk result (λ l. (l.runs.items ≡ []) × (l.transcripts.items ≡ []) × (l.states.items ≡ [])) }

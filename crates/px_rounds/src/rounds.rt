@@ -9,7 +9,8 @@ ghost use Rattle.px_rounds.specs.inner.Ways.{WentOn};
 
 use crate::count::sessions_in;
 use crate::desks::{Told, either};
-use crate::one::in_turns;
+use crate::gate::Gate;
+use crate::schedule::run_round;
 use px_calls::Steps;
 use px_item::Settings;
 use px_outside::{Sink, write_all};
@@ -20,6 +21,7 @@ use px_session::SessionState;
 use px_values::{Items, Line};
 use std::alloc::{AllocError, Global};
 use std::sync::Wait;
+use std::thread::Threads;
 
 /// What the rounds of a script left: the steps, what the sessions were answered, whether the sink failed, and whether memory was refused
 /// outside a statement.
@@ -87,13 +89,14 @@ fn fresh_states(alloc: Global, count: usize) -> Result<Vec<SessionState>, AllocE
 }
 
 /// One round more, and its replies, unless they were stopped.
-fn go<R: Wait, S: Single, O: Sink>(
+fn go<R: Threads + Wait + Sync, S: Single + Send, G: Gate + Sync, O: Sink>(
     rt: &R,
     alloc: Global,
+    gate: &G,
     way: Way<S>,
     number: u64,
     round: &Round,
-    schedule: &[u32],
+    schedule: Option<&[u32]>,
     out: &mut O,
 ) -> Way<S>
     requires single { IsSingle (S.known way.server) }
@@ -105,7 +108,7 @@ fn go<R: Wait, S: Single, O: Sink>(
         return way;
     }
     let Way {
-        mut server,
+        server,
         states,
         mut done,
         sink_failed: _,
@@ -120,7 +123,8 @@ fn go<R: Wait, S: Single, O: Sink>(
             memory: true,
         };
     }
-    match in_turns(rt, alloc, &mut server, number, round, states, schedule) {
+    let (server, ran) = run_round(rt, alloc, gate, server, number, round, states, schedule);
+    match ran {
         Err(states) => Way {
             server,
             states,
@@ -148,13 +152,15 @@ fn go<R: Wait, S: Single, O: Sink>(
     }
 }
 
-/// Runs the rounds of a script on one thread, each by the schedule, and writes the replies of each at its end.
-pub fn run_rounds<R: Wait, S: Single, O: Sink>(
+/// Runs the rounds of a script, and writes the replies of each at its end. With a schedule the sessions of a round run on one thread, each
+/// by the schedule; without one in threads, through the gate.
+pub fn run_rounds<R: Threads + Wait + Sync, S: Single + Send, G: Gate + Sync, O: Sink>(
     rt: &R,
     alloc: Global,
+    gate: &G,
     server: S,
     script: &Script,
-    schedule: &[u32],
+    schedule: Option<&[u32]>,
     out: &mut O,
 ) -> Rounds<S>
     requires single { IsSingle (S.known server) }
@@ -183,6 +189,7 @@ pub fn run_rounds<R: Wait, S: Single, O: Sink>(
         way = go(
             rt,
             alloc,
+            gate,
             way,
             place as u64 + 1,
             &rounds[place],

@@ -1,5 +1,5 @@
 -- What a status counts, and what the trail tells of it.
-use Rattle.std.proofs.Common.{◌≡◌, ◌<◌, ℕ, zero, suc, inl, inr, Option, Some, None, List, [], ◌∷◌, length, get_or, map, refl, sym, ap, ◌∙◌, arith}
+use Rattle.std.proofs.Common.{◌≡◌, ◌<◌, ℕ, zero, suc, inl, inr, Option, Some, None, List, [], ◌∷◌, length, get_or, map, min, refl, sym, ap, subst, ◌∙◌, arith}
 use Rattle.std.specs.List.{AllByRecursion}
 use Rattle.px_cells.specs.CellData.{CellData}
 use Rattle.px_cells.specs.Order.{GoesWith, IsAscending, IsCellList}
@@ -25,6 +25,7 @@ use Rattle.px_calls.specs.declared.status.IndexCount.{IndexCount}
 use Rattle.px_calls.specs.declared.status.Status.{Status}
 use Rattle.px_server.specs.Counts.{bare, count_as}
 use Rattle.px_server.specs.Kept.{HasTallied}
+use Rattle.px_server.specs.Shown.{HasLogged, logged_by, logged_in}
 use Rattle.px_server.proofs.Seen.{stays}
 
 -- what is read of a region is a list of cells
@@ -63,6 +64,17 @@ counts_among [] cs same x among = absurd among
 counts_among (y ∷ xs) [] same x among = absurd cc
 counts_among (y ∷ xs) (c ∷ cs) same x (inl e) = (c, inl refl, ap (λ (z : IndexCount). z.index) (first_is (bare c) (count_as y) (map bare cs) (map count_as xs) same) ∙ ap (λ (z : Index). z.id) e)
 counts_among (y ∷ xs) (c ∷ cs) same x (inr i) = (let r = counts_among xs cs (rest_is (bare c) (count_as y) (map bare cs) (map count_as xs) same) x i in (r.0, inr r.1, r.2))
+
+-- ---- the cells in the logs
+
+logged_here : (gs : List Group) (place : ℕ) (g : Group) → place < length gs → get_or gs place g ≡ g → IsAmong (logged_in g) (map logged_in gs)
+unfolding IsAmong
+logged_here [] place g l is = absurd (omega (arith, l))
+logged_here (y ∷ gs) zero g l is = inl (ap logged_in is)
+logged_here (y ∷ gs) (suc place) g l is = inr (logged_here gs place g (omega (arith, l)) is)
+
+pub has_logged : (gs : List Group) (place : ℕ) (g : Group) → place < length gs → get_or gs place g ≡ g → (t : TableId) → g.table.id ≡ t → (n : ℕ) → n ≡ min (logged_by g) 18446744073709551615 → HasLogged (map logged_in gs) t.0 n
+has_logged gs place g l is t own n counted = (logged_by g, subst (λ (x : TableId). IsAmong (record { table = x.0; cells = logged_by g }) (map logged_in gs)) own (logged_here gs place g l is), counted)
 
 -- ---- what is answered
 

@@ -1,5 +1,5 @@
 -- What a server leaves.
-use Rattle.std.proofs.Common.{◌≡◌, ℕ, Option, None, List, IsTrue, sym, ◌∙◌}
+use Rattle.std.proofs.Common.{◌≡◌, ℕ, Option, None, List, IsTrue, map, refl, sym, ◌∙◌}
 use Rattle.px_outside.specs.declared.disk.Disk.{Ghosts}
 use Rattle.px_trail.specs.Recorded.{Recorded}
 use Rattle.px_trail.specs.Trail.{Base, closing_call}
@@ -8,7 +8,9 @@ use Rattle.px_schema.specs.declared.standing.Standing.{Standing}
 use Rattle.px_catalog.specs.declared.catalog.Catalog.{Catalog}
 use Rattle.px_group.specs.declared.group.Group.{Group}
 use Rattle.px_server.specs.Kept.{IsKept}
+use Rattle.px_server.specs.Logged.{AreLogged}
 use Rattle.px_server.specs.Others.{Beginning}
+use Rattle.px_server.specs.Shown.{logged_in}
 use Rattle.px_server.specs.Started.{StandsBy}
 
 module _ {D : Type 0} (d : Ghosts D) (b : Base) (sound premise : Type 0) (began : Beginning) (disk : D) (catalog : Catalog) (standing : Standing) (groups : List Group) (trail : Recorded) (late : Option Entry) (closed : Option ℕ)
@@ -21,6 +23,12 @@ module _ {D : Type 0} (d : Ghosts D) (b : Base) (sound premise : Type 0) (began 
   stands_by given tells = (let
       on = k.server.goes_on running given tells
       in record { folder = on.folder; groups = on.groups; stands = on.stands; explains = on.explains })
+
+  -- the cells that it shows are those of the logs there,
+  pub logged_on : premise → IsTrue d.tells → AreLogged d b disk trail.entries (map logged_in groups)
+  logged_on given tells = (let
+      on = k.server.goes_on running given tells
+      in record { groups = groups; folder = on.folder; stand = k.each.tallied running; on = on.has.regions; counts = refl })
 
   -- and no entry is late
   pub not_late : late ≡ None

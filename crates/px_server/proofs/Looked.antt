@@ -2,10 +2,11 @@
 use Rattle.std.proofs.Common.{◌≡◌, ◌<◌, ◌≤◌, ◌+◌, ℕ, Option, None, Some, List, [], ◌∷◌, length, get_or, map, refl, sym, ap, subst, ◌∙◌, arith}
 use Rattle.std.specs.Prelude.{◌≢◌, slice_get, sum_by}
 use Rattle.std.specs.List.{AllByRecursion, slice_set}
-use Rattle.std.proofs.lemmas.List.Sums.{sum_by-set}
+use Rattle.std.proofs.lemmas.List.Sums.{sum_by-cons, sum_by-set}
 use Rattle.px_outside.specs.Parts.{AreDistinct}
 use Rattle.px_outside.specs.declared.disk.Disk.{Ghosts}
 use Rattle.px_tables.specs.declared.index.Index.{Index}
+use Rattle.px_tables.specs.declared.table.Table.{Table}
 use Rattle.px_trail.specs.declared.entry.Entry.{Entry}
 use Rattle.px_trail.specs.Recorded.{Recorded}
 use Rattle.px_trail.specs.Trail.{Base, catalogue_of}
@@ -25,6 +26,7 @@ use Rattle.px_reading.proofs.Looked.{looked_back, still_right, still_shown, stil
 use Rattle.px_recovery.specs.Folder.{FolderData}
 use Rattle.px_server.specs.Kept.{AreGroups, AreShown, HasBegun, HasParts, HasPoints, HasShown, HasTallied, HasTrailRoom, IsKept, IsOnDisk, forms_in, number_in, owed, table_in_group}
 use Rattle.px_server.specs.Others.{Beginning}
+use Rattle.px_server.specs.Shown.{LoggedCells, logged_at, logged_in}
 use Rattle.px_server.proofs.Lists.{all_at, all_set, map_set}
 use Rattle.px_server.proofs.Noted.{with_parts}
 use Rattle.px_server.proofs.Pointed.{distinct_groups}
@@ -45,6 +47,28 @@ once_on (x ∷ xs) (y ∷ ys) l all = (subst (λ (n : ℕ). AllByRecursion (λ z
 
 holds_on : {D : Type 0} (d : Ghosts D) (disk : D) (f : FolderData) (old new : Region) → IsLookedAt old new → Holds d old disk (f.regions old.number) → Holds d new disk (f.regions new.number)
 holds_on d disk f old new l k = subst (λ (n : ℕ). Holds d new disk (f.regions n)) (sym l.alike.number) (holds_alike d old disk (f.regions old.number) k new l.alike)
+
+-- ---- the cells in the logs
+
+logged_on : (xs ys : List IndexRegion) → AreLookedAt xs ys → sum_by logged_at ys ≡ sum_by logged_at xs
+logged_on [] [] l = refl
+logged_on [] (y ∷ ys) l = absurd l
+logged_on (x ∷ xs) [] l = absurd l
+logged_on (x ∷ xs) (y ∷ ys) l =
+    let e : logged_at y ≡ logged_at x = l.0.1.alike.cells in
+    let r = logged_on xs ys l.1 in
+    let old = sum_by-cons logged_at x xs in
+    let new = sum_by-cons logged_at y ys in
+    omega arith
+
+logged_same : (g g' : Group) → HasLooked g g' → logged_in g' ≡ logged_in g
+logged_same g g' l =
+    let table : g'.table.id.0 ≡ g.table.id.0 = ap (λ (t : Table). t.id.0) l.table in
+    let cells : g'.rows.cells + sum_by logged_at g'.indexes.items ≡ g.rows.cells + sum_by logged_at g.indexes.items = (let e = l.rows.alike.cells in let r = logged_on g.indexes.items g'.indexes.items l.indexes in omega arith) in
+    (λ i. record { table = table i; cells = cells i })
+
+pub logged_kept : (gs : List Group) (place : ℕ) (g g' : Group) → place < length gs → get_or gs place g ≡ g → HasLooked g g' → map logged_in (slice_set gs place g') ≡ map logged_in gs
+logged_kept gs place g g' l is looked = map_set logged_in gs place g g' l is (logged_same g g' looked)
 
 -- ---- a group
 

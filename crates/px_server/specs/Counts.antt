@@ -1,13 +1,10 @@
 -- What a status counts.
-use Rattle.std.specs.Prelude.{◌≡◌, ◌==◌, ◌&&◌, ◌+◌, ℕ, Bool, filter, length, nat_eq, not, sum_by, List, [], ◌∷◌}
+use Rattle.std.specs.Prelude.{◌≡◌, ◌==◌, ◌&&◌, ℕ, Bool, filter, length, nat_eq, not, List, [], ◌∷◌}
 use Rattle.std.specs.Cmp.Lexicographic.{pointwise}
 use Rattle.px_cells.specs.CellData.{CellData}
 use Rattle.px_cells.specs.Visible.{IsView}
 use Rattle.px_forms.specs.Indexes.{verified_byte}
 use Rattle.px_tables.specs.declared.index.Index.{Index}
-use Rattle.px_group.specs.declared.group.Group.{Group}
-use Rattle.px_group.specs.declared.group.IndexRegion.{IndexRegion}
-use Rattle.px_region.specs.Region.{read_of}
 use Rattle.px_calls.specs.declared.status.IndexCount.{IndexCount}
 
 -- the count of an index, but for its keys
@@ -27,10 +24,3 @@ pub record AreUnverified (cells : List CellData) (n : ℕ) : Type 0 where
   pub seen : List CellData
   pub view : IsView cells 18446744073709551615 seen
   pub count : n ≡ length (filter is_unverified seen)
-
--- the cells of the regions of a table and of its indexes
-abbrev pub cells_at : IndexRegion → ℕ
-cells_at x = length (read_of x.region)
-
-abbrev pub cells_of : Group → ℕ
-cells_of g = length (read_of g.rows) + sum_by cells_at g.indexes.items

@@ -2,6 +2,7 @@ pub mod Beginning
 pub mod Counts
 pub mod Ending
 pub mod Kept
+pub mod Logged
 pub mod Others
 pub mod Points
 pub mod Repairs

@@ -1,5 +1,5 @@
 // A server over a folder that was opened.
-ghost use Rattle.std.specs.Prelude.{◌≡◌, ◌≤◌, [], ℕ, None, IfOk, IfErr, IfSome, IsTrue};
+ghost use Rattle.std.specs.Prelude.{◌≡◌, ◌≤◌, [], ℕ, None, IfOk, IfErr, IfSome, IsTrue, map};
 ghost use Rattle.std.specs.List.{All};
 ghost use Rattle.px_outside.specs.Disk.{Image};
 ghost use Rattle.px_outside.specs.OnDisk.{IsLeft};
@@ -12,6 +12,7 @@ ghost use Rattle.px_standing.specs.Agrees.{opened_standing};
 ghost use Rattle.px_opening.specs.Opened.{IsOpenedRight, all_regions, folder_in};
 ghost use Rattle.px_opening.specs.declared.opened.Opened.{Opened as Folders};
 ghost use Rattle.px_server.specs.Others.{BeginsAt};
+ghost use Rattle.px_server.specs.Shown.{logged_in};
 ghost use Rattle.px_server.specs.Started.{IsOpenedOn, KeepsFolder, StartsSound};
 
 use crate::{Founded, Server};
@@ -103,7 +104,7 @@ impl<D: CountsCalls, C: Clock + Drop, B: Based + Founded> Server<D, C, B> {
         requires disk { B.premise → IsTrue D.tells → IsOpenedOn ⟦<D as Disk>⟧ disk opened }
         requires began { BeginsAt ⟦<D as Disk>⟧ B.began disk }
         requires times { IsTrue C.tells → (n : ℕ) → C.times clock n ≡ B.times n }
-        ensures ok { IfOk result (λ s. s ≡ record { seat = 1; entries = []; late = None; closed = None }) }
+        ensures ok { IfOk result (λ s. s ≡ record { seat = 1; entries = []; late = None; closed = None; logged = map logged_in opened.groups.items }) }
         ensures refused { IfErr result (λ back. back ≡ disk) }
     {
         let Opened {

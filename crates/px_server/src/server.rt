@@ -42,12 +42,12 @@ pub struct Server<D: CountsCalls, C: Clock, B: Based + Founded> {
 impl<D: CountsCalls, C: Clock, B: Based + Founded> Model for Server<D, C, B> {
     ghost use Rattle.std.specs.Prelude.{◌≤◌};
     ghost use Rattle.px_server.specs.Kept.{IsKept};
-    ghost use Rattle.px_server.specs.Shown.{Shown};
+    ghost use Rattle.px_server.specs.Shown.{Shown, shown_of};
     ghost use Rattle.px_server.specs.Stamps.{IsByClock};
 
     ghost Value = { Shown };
 
-    ghost view = { λ s. record { seat = s.seat; entries = s.trail.entries; late = s.late; closed = s.closed } };
+    ghost view = { λ s. shown_of s.seat s.trail.entries s.late s.closed s.groups.items };
 
     ghost invariant = { λ s. IsKept ⟦<D as Disk>⟧ B.base B.sound B.premise B.began s.disk s.catalog s.standing s.groups.items s.trail s.late s.closed × ((8388620 ≤ s.frame.room) × IsByClock ⟦<C as Clock>⟧ B.times B.base s.clock s.trail.entries) };
 }
@@ -73,6 +73,7 @@ impl<D: CountsCalls, C: Clock + Drop, B: Based + Founded> Server<D, C, B> {
     ghost use Rattle.px_recovery.specs.Kept.{IsLate};
     ghost use Rattle.px_recovery.specs.Stands.{Recovers};
     ghost use Rattle.px_server.specs.Kept.{HasFailed, has_told};
+    ghost use Rattle.px_server.specs.Logged.{AreLogged};
     ghost use Rattle.px_server.specs.Others.{OthersStay};
     ghost use Rattle.px_server.specs.Started.{StandsBy};
     ghost use Rattle.px_trail.specs.Trail.{closing_call};
@@ -80,13 +81,15 @@ impl<D: CountsCalls, C: Clock + Drop, B: Based + Founded> Server<D, C, B> {
     ghost use Rattle.px_server.specs.Stamps.{AreStamped};
 
     /// The disk, what was done, and what is late. Each image that a stop may leave at a moment of the run recovers, and where an entry tells
-    /// that a call of the disk failed, one has. Unless a failed write closed the server, no entry is late, and the disk stands for what base
-    /// and trail give. Each stamp that was drawn is by a number that the clock told. Files of no part stay as they were.
+    /// that a call of the disk failed, one has. Unless a failed write closed the server, no entry is late, the disk stands for what base and
+    /// trail give, and the cells shown of each table are those of the logs there. Each stamp that was drawn is by a number that the clock told. Files
+    /// of no part stay as they were.
     pub fn finish(self) -> (D, Trail, Option<Entry>)
         ensures entries { result.1.entries ≡ self.entries }
         ensures late { result.2 ≡ self.late }
         ensures recovers { B.premise → (moment : ℕ) (image : ℕ → List ℕ) → IsLeft ⟦<D as Disk>⟧ result.0 moment image → Recovers B.base result.1.entries result.2 moment image }
         ensures stands { closing_call result.1.entries ≡ None → B.premise → IsTrue D.tells → StandsBy ⟦<D as Disk>⟧ B.base result.0 result.1.entries }
+        ensures logged { closing_call result.1.entries ≡ None → B.premise → IsTrue D.tells → AreLogged ⟦<D as Disk>⟧ B.base result.0 result.1.entries self.logged }
         ensures unlate { closing_call result.1.entries ≡ None → result.2 ≡ None }
         ensures late_is { (u : Entries) → result.2 ≡ Some u → B.premise → IsTrue D.tells → IsLate B.base result.1.entries u }
         ensures blamed { has_told result.1.entries ≡ true → HasFailed ⟦<D as Disk>⟧ result.0 }

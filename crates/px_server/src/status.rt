@@ -5,8 +5,8 @@ ghost use Rattle.px_calls.specs.Calls.{DidCount};
 ghost use Rattle.px_calls.specs.Causes.{Refuses, status_cause};
 ghost use Rattle.px_group.specs.Group.{IsRightGroup};
 ghost use Rattle.px_recovery.specs.Tables.{indexes_of};
-ghost use Rattle.px_server.specs.Counts.{AreUnverified, bare, cells_of, count_as, is_unverified};
-ghost use Rattle.px_server.specs.Shown.{known_by};
+ghost use Rattle.px_server.specs.Counts.{AreUnverified, bare, count_as, is_unverified};
+ghost use Rattle.px_server.specs.Shown.{HasLogged, known_by, logged_by};
 
 use crate::{Founded, Server};
 use px_calls::{IndexCount, IndexCounts, Status, StepFault};
@@ -86,13 +86,14 @@ fn counts_of(
     Ok(Items::of(counts))
 }
 
-/// How many cells the regions of a table and of its indexes have.
+/// How many cells stand in the logs of a table and of its indexes. What is read of them may be less: a cell that is written again at its
+/// place, as the status of an index row, counts each time.
 fn cells_in(group: &Group) -> u64
-    ensures { result ≡ min (cells_of group.now) 18446744073709551615 }
+    ensures { result ≡ min (logged_by group.now) 18446744073709551615 }
 {
-    let mut cells = group.rows.sorted_cells().len() as u64;
+    let mut cells = group.rows.logged_cells();
     for part in group.indexes.as_slice() {
-        cells = cells.saturating_add(part.region.sorted_cells().len() as u64);
+        cells = cells.saturating_add(part.region.logged_cells());
     }
     cells
 }
@@ -101,6 +102,7 @@ impl<D: CountsCalls, C: Clock, B: Based + Founded> Server<D, C, B> {
     /// The table's last stamp and horizon, and counts of its cells, files and index rows. All cells stand in logs: no region has a file of cells.
     pub fn status(&mut self, table: TableId) -> Result<Status, StepFault>
         ensures ok { IfOk result (DidCount (known_by B.base B.damaged self.old) (known_by B.base B.damaged self.new) table) }
+        ensures counted { IfOk result (λ s. HasLogged self.old.logged table.0 s.cells) }
         ensures refused { IfErr result (Refuses (status_cause table.0) (known_by B.base B.damaged self.old) (known_by B.base B.damaged self.new)) }
     {
         if let Some(call) = self.closed {

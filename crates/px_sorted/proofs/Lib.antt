@@ -1,2 +1,3 @@
 pub mod Stable
 pub mod Ascending
+pub mod Whole

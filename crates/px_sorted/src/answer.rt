@@ -1,6 +1,7 @@
 // What a query answers of the rows that its scan found.
-ghost use Rattle.std.specs.Prelude.{◌≡◌, IfOk, get_or, map};
+ghost use Rattle.std.specs.Prelude.{◌≡◌, IfOk, List, true, get_or, length, map};
 ghost use Rattle.px_sorted.specs.Sorting.{answer_of, row_shown};
+ghost use Rattle.px_values.specs.declared.row.Value.{Value as ValueData};
 ghost use Rattle.px_values.specs.declared.row.Value.TheVariants.{Null};
 
 use crate::sorted::{cut, sort};
@@ -37,15 +38,40 @@ fn shown_row(alloc: Global, columns: &[u8], row: &[Value]) -> Result<Row, AllocE
     Ok(Items::of(values))
 }
 
-/// What is shown of each row. A row is let go as soon as it is copied.
+/// Whether these are all columns of a row of so many, in order.
+fn are_all(columns: &[u8], count: usize) -> bool
+    ensures { result ≡ true → (row : List ValueData) → length row ≡ count → row_shown columns.now row ≡ row }
+{
+    if columns.len() != count {
+        return false;
+    }
+    for (place, column) in columns.iter().enumerate() {
+        if *column as usize != place {
+            return false;
+        }
+    }
+    true
+}
+
+/// What is shown of a row: the row itself where all of its columns are, else a copy of some of its values.
+fn shown_of(alloc: Global, columns: &[u8], row: Row) -> Result<Row, AllocError>
+    ensures { IfOk result (λ r. r ≡ row_shown columns.now row) }
+{
+    if are_all(columns, row.as_slice().len()) {
+        return Ok(row);
+    }
+    let shown = shown_row(alloc, columns, row.as_slice());
+    drop(row);
+    shown
+}
+
+/// What is shown of each row.
 fn shown_rows(alloc: Global, columns: &[u8], rows: Vec<Placed>) -> Result<Rows, AllocError>
     ensures { IfOk result (λ rs. rs ≡ map (λ p. row_shown columns.now p.row) rows.items) }
 {
     let mut all = Vec::with_capacity(alloc, rows.len())?;
     for placed in rows {
-        let shown = shown_row(alloc, columns, placed.row.as_slice());
-        drop(placed);
-        all.push(shown?)?;
+        all.push(shown_of(alloc, columns, placed.row)?)?;
     }
     Ok(Items::of(all))
 }

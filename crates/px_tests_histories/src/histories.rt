@@ -10,6 +10,7 @@ use px_outside::{Choice, MemDisk};
 use px_trail::{Act, Trail};
 use std::alloc::{AllocError, Global};
 use std::sync::Wait;
+use std::thread::Threads;
 
 /// What was wrong in a history.
 #[derive(Clone, Copy, Debug, PartialEq, Eq)]
@@ -52,7 +53,11 @@ fn fresh(alloc: Global, trail: &Trail, tally: Tally) -> Result<Told, Wrong> {
 }
 
 /// The three tables with their indexes, on a new disk.
-fn set_up<R: Wait>(rt: &R, alloc: Global, tally: Tally) -> Result<(MemDisk, Told), Wrong> {
+fn set_up<R: Threads + Wait + Sync>(
+    rt: &R,
+    alloc: Global,
+    tally: Tally,
+) -> Result<(MemDisk, Told), Wrong> {
     match run(rt, alloc, MemDisk::new(alloc), SET_UP, &[]) {
         Outcome::Ran(ran) => {
             let told = fresh(alloc, &ran.trail, tally);
@@ -123,7 +128,7 @@ fn judged(outcome: Outcome, told: &Told, last: Option<u64>) -> Result<(MemDisk, 
 }
 
 /// Leaves of the last versions, which a stopped step was to write, what is there: all or none of them.
-fn decided<R: Wait>(
+fn decided<R: Threads + Wait + Sync>(
     rt: &R,
     alloc: Global,
     disk: MemDisk,
@@ -166,7 +171,7 @@ fn told_of(outcome: Outcome, told: &mut Told, planned: &Planned) -> Result<MemDi
 }
 
 /// A run of sessions, which is stopped somewhere or comes to its end.
-fn lived<R: Wait>(
+fn lived<R: Threads + Wait + Sync>(
     rt: &R,
     alloc: Global,
     dice: &mut Dice,
@@ -218,7 +223,12 @@ fn doubts_of(alloc: Global, disk: &mut MemDisk) -> Result<u64, Wrong> {
 }
 
 /// The disk after all queries, where each was answered by the dated rows.
-fn queried<R: Wait>(rt: &R, alloc: Global, disk: MemDisk, told: &Told) -> Result<MemDisk, Wrong> {
+fn queried<R: Threads + Wait + Sync>(
+    rt: &R,
+    alloc: Global,
+    disk: MemDisk,
+    told: &Told,
+) -> Result<MemDisk, Wrong> {
     let mut text = String::new(alloc);
     if add_lists(&mut text, told.last).is_err() {
         drop(text);
@@ -236,7 +246,12 @@ fn queried<R: Wait>(rt: &R, alloc: Global, disk: MemDisk, told: &Told) -> Result
 }
 
 /// How many doubts the last queries met. Each is answered by the dated rows, and no doubt is left then.
-fn ended<R: Wait>(rt: &R, alloc: Global, disk: MemDisk, told: &Told) -> Result<u64, Wrong> {
+fn ended<R: Threads + Wait + Sync>(
+    rt: &R,
+    alloc: Global,
+    disk: MemDisk,
+    told: &Told,
+) -> Result<u64, Wrong> {
     let mut disk = disk.image();
     let met = doubts_of(alloc, &mut disk);
     let mut disk = queried(rt, alloc, disk, told)?;
@@ -261,7 +276,7 @@ pub struct Making {
 }
 
 /// The disk after the runs of a history.
-fn all_lived<R: Wait>(
+fn all_lived<R: Threads + Wait + Sync>(
     rt: &R,
     alloc: Global,
     dice: &mut Dice,
@@ -277,7 +292,7 @@ fn all_lived<R: Wait>(
 }
 
 /// What was done in a history and those before it, where all came out right.
-pub fn history<R: Wait>(
+pub fn history<R: Threads + Wait + Sync>(
     rt: &R,
     alloc: Global,
     dice: &mut Dice,
@@ -301,7 +316,11 @@ pub fn history<R: Wait>(
 }
 
 /// How many doubts a seat leaves beside which nobody acts.
-pub fn alone<R: Wait>(rt: &R, alloc: Global, dice: &mut Dice) -> Result<u64, Wrong> {
+pub fn alone<R: Threads + Wait + Sync>(
+    rt: &R,
+    alloc: Global,
+    dice: &mut Dice,
+) -> Result<u64, Wrong> {
     let mut text = String::new(alloc);
     if text.push_str(SET_UP).is_err() || add_changes(&mut text, dice, 1, 12).is_err() {
         return Err(Wrong::Memory);

@@ -8,7 +8,7 @@ ghost use Rattle.px_server.specs.Others.{BeginsAt};
 use px_opening::{Opened, open};
 use px_outside::{Clock, CountsCalls, Disk, FixedClock, MemDisk, MemSink, Metered};
 use px_reply::Transcripts;
-use px_rounds::{Rounds, run_rounds};
+use px_rounds::{NoGate, Rounds, run_rounds};
 use px_script::{Script, read_script};
 use px_seat::{Based, Single};
 use px_server::{Founded, Server};
@@ -16,6 +16,7 @@ use px_trail::{Entry, Trail};
 use std::alloc::Global;
 use std::marker::Brand;
 use std::sync::Wait;
+use std::thread::Threads;
 
 /// How long versions are kept, in milliseconds.
 const LOOKBACK: u64 = 259_200_000;
@@ -31,7 +32,7 @@ pub struct Ran<D> {
 
 /// Runs a script on steps with which nothing was done.
 #[tactic(auto, using(crate::proofs::Serving::is_single))]
-fn scheduled<R: Wait, S: Single>(
+fn scheduled<R: Threads + Wait + Sync, S: Single + Send>(
     rt: &R,
     alloc: Global,
     server: S,
@@ -42,19 +43,26 @@ fn scheduled<R: Wait, S: Single>(
     requires nothing { (S.known server).seen ≡ [] }
 {
     let mut printed = MemSink::new(alloc);
-    let rounds = run_rounds(rt, alloc, server, script, schedule, &mut printed);
+    let rounds = run_rounds(
+        rt,
+        alloc,
+        &NoGate,
+        server,
+        script,
+        Some(schedule),
+        &mut printed,
+    );
     drop(printed);
     rounds
 }
 
 /// Runs a script on a server with which nothing was done.
-fn served<R: Wait, D: CountsCalls, C: Clock + Drop, B: Based + Founded>(
-    rt: &R,
-    alloc: Global,
-    server: Server<D, C, B>,
-    script: &Script,
-    schedule: &[u32],
-) -> Ran<D>
+fn served<
+    R: Threads + Wait + Sync,
+    D: CountsCalls + Send,
+    C: Clock + Drop + Send,
+    B: Based + Founded + Send + Sync,
+>(rt: &R, alloc: Global, server: Server<D, C, B>, script: &Script, schedule: &[u32]) -> Ran<D>
     requires { server.entries ≡ [] }
 {
     let Rounds {
@@ -73,7 +81,12 @@ fn served<R: Wait, D: CountsCalls, C: Clock + Drop, B: Based + Founded>(
 }
 
 /// Runs a script over a folder that was opened. `B` tells the base, and nothing is told of the disk.
-fn run_over<R: Wait, D: CountsCalls, C: Clock + Drop, B: Based + Founded>(
+fn run_over<
+    R: Threads + Wait + Sync,
+    D: CountsCalls + Send,
+    C: Clock + Drop + Send,
+    B: Based + Founded + Send + Sync,
+>(
     rt: &R,
     alloc: Global,
     disk: D,
@@ -96,7 +109,7 @@ fn run_over<R: Wait, D: CountsCalls, C: Clock + Drop, B: Based + Founded>(
 }
 
 /// Runs a script over a folder that was opened.
-fn run_opened<R: Wait, D: CountsCalls, C: Clock + Drop>(
+fn run_opened<R: Threads + Wait + Sync, D: CountsCalls + Send, C: Clock + Drop + Send>(
     rt: &R,
     alloc: Global,
     disk: D,
@@ -111,7 +124,7 @@ fn run_opened<R: Wait, D: CountsCalls, C: Clock + Drop>(
 }
 
 /// Opens the folder, and runs a script on its tables. The disk comes back where a call of it failed.
-fn run_on<R: Wait, D: CountsCalls>(
+fn run_on<R: Threads + Wait + Sync, D: CountsCalls + Send>(
     rt: &R,
     alloc: Global,
     mut disk: D,
@@ -133,7 +146,13 @@ pub enum Outcome {
 }
 
 /// A run of a script on a disk that had no call yet.
-pub fn run<R: Wait>(rt: &R, alloc: Global, disk: MemDisk, text: &str, schedule: &[u32]) -> Outcome
+pub fn run<R: Threads + Wait + Sync>(
+    rt: &R,
+    alloc: Global,
+    disk: MemDisk,
+    text: &str,
+    schedule: &[u32],
+) -> Outcome
     requires fresh { (calls_of disk ≡ 0) × (faults_of disk ≡ 0) × (first_fault_of disk ≡ 0) }
 {
     let Ok(script) = read_script(alloc, text.as_bytes()) else {

@@ -4,6 +4,7 @@ use crate::histories::{Making, Wrong, alone, history};
 use crate::told::Tally;
 use std::alloc::Global;
 use std::sync::Wait;
+use std::thread::Threads;
 
 const NOTHING: Tally = Tally {
     entries: 0,
@@ -13,7 +14,7 @@ const NOTHING: Tally = Tally {
 };
 
 /// What was done in the histories of some seeds; or what was wrong in the one of a seed.
-fn all<R: Wait>(
+fn all<R: Threads + Wait + Sync>(
     rt: &R,
     alloc: Global,
     making: Making,

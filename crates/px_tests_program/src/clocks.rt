@@ -8,6 +8,7 @@ use px_program::{Outcome, phoenix};
 use px_trail::{Act, Trail};
 use std::alloc::{AllocError, Global};
 use std::sync::Wait;
+use std::thread::Threads;
 
 /// The greatest clock that counts as itself.
 const LATEST: u64 = 4_611_686_018_427_387_904;
@@ -80,7 +81,7 @@ fn stamps_of(outcome: Outcome<MemDisk>) -> Stamped {
 }
 
 /// A run of the two UPSERTs.
-fn run_at<R: Wait, C: Clock + Drop>(
+fn run_at<R: Threads + Wait + Sync, C: Clock + Drop + Send>(
     rt: &R,
     alloc: Global,
     disk: MemDisk,
@@ -99,7 +100,7 @@ fn run_at<R: Wait, C: Clock + Drop>(
 }
 
 /// Whether two UPSERTs at this clock have these stamps.
-fn are_stamped<R: Wait, C: Clock + Drop>(
+fn are_stamped<R: Threads + Wait + Sync, C: Clock + Drop + Send>(
     rt: &R,
     alloc: Global,
     clock: C,
@@ -147,7 +148,7 @@ fn a_clock_beyond_the_latest_counts_as_it(rt: HostRuntime) {
 }
 
 /// The stamps of two runs, one after the other on one disk, of which the second's clock is behind.
-fn runs_back<R: Wait>(rt: &R, alloc: Global) -> Result<bool, AllocError> {
+fn runs_back<R: Threads + Wait + Sync>(rt: &R, alloc: Global) -> Result<bool, AllocError> {
     let first = run_at(rt, alloc, MemDisk::new(alloc), FixedClock(1_000))?;
     let Stamped { disk, .. } = first;
     let second = run_at(rt, alloc, disk.image(), FixedClock(10))?;

@@ -3,6 +3,7 @@ use crate::runs::{disk_of, ends, is_printed, run_again, run_new};
 use px_program::Status;
 use std::alloc::{AllocError, Global};
 use std::sync::Wait;
+use std::thread::Threads;
 
 /// A table of orders with an index, and four orders at the stamps 2 to 5.
 const ORDERS: &str =
@@ -22,7 +23,7 @@ index created
 1 row affected
 ";
 
-fn ordered<R: Wait>(
+fn ordered<R: Threads + Wait + Sync>(
     rt: &R,
     alloc: Global,
     statements: &str,

@@ -6,6 +6,7 @@ use px_outside::{MemDisk, MemSink, MemSource, Numbers};
 use px_program::Status;
 use std::alloc::{AllocError, Global};
 use std::sync::Wait;
+use std::thread::Threads;
 
 const NO_ROW: &str = "0 rows selected\n";
 
@@ -17,7 +18,7 @@ fn only(alloc: Global, number: u64) -> Result<Numbers, AllocError> {
 
 /// Whether the first run has this status, entries and replies where that call alone fails, and a run on what is left
 /// shows these rows.
-fn ends_so<R: Wait>(
+fn ends_so<R: Threads + Wait + Sync>(
     rt: &R,
     alloc: Global,
     call: u64,
@@ -34,7 +35,7 @@ fn ends_so<R: Wait>(
 }
 
 /// The same, for each call from the first to the last.
-fn end_so<R: Wait>(
+fn end_so<R: Threads + Wait + Sync>(
     rt: &R,
     alloc: Global,
     first: u64,
@@ -78,7 +79,11 @@ fn each_failed_call_of_the_disk_is_answered(rt: HostRuntime) {
 }
 
 /// A run whose input fails at its call of this number.
-fn run_with_input<R: Wait>(rt: &R, alloc: Global, call: u64) -> Result<Run, AllocError> {
+fn run_with_input<R: Threads + Wait + Sync>(
+    rt: &R,
+    alloc: Global,
+    call: u64,
+) -> Result<Run, AllocError> {
     let input = MemSource::of(bytes_of(alloc, FIRST_SCRIPT)?).fail_at(only(alloc, call)?);
     run_between(
         rt,
@@ -91,7 +96,11 @@ fn run_with_input<R: Wait>(rt: &R, alloc: Global, call: u64) -> Result<Run, Allo
 }
 
 /// A run whose output fails at its first call, and whose disk fails at its call of this number.
-fn run_with_output<R: Wait>(rt: &R, alloc: Global, call: u64) -> Result<Run, AllocError> {
+fn run_with_output<R: Threads + Wait + Sync>(
+    rt: &R,
+    alloc: Global,
+    call: u64,
+) -> Result<Run, AllocError> {
     let disk = MemDisk::new(alloc).fail_at(only(alloc, call)?);
     let input = MemSource::of(bytes_of(alloc, FIRST_SCRIPT)?);
     let printed = MemSink::new(alloc).fail_at(only(alloc, 1)?);

@@ -7,6 +7,7 @@ use px_outside::{Disk, MemDisk};
 use px_program::{Status, folder_disk};
 use std::alloc::{AllocError, Global};
 use std::sync::Wait;
+use std::thread::Threads;
 
 /// Whether the first file of region 1's log has exactly these bytes.
 fn has_file(disk: &mut MemDisk, bytes: &[u8]) -> bool {
@@ -139,7 +140,7 @@ fn long_replies(alloc: Global) -> Result<Vec<u8>, AllocError> {
 }
 
 /// Whether the long row is read from its file, and no stamp is left behind it.
-fn reads_the_long_row<R: Wait>(rt: &R, alloc: Global) -> Result<bool, AllocError> {
+fn reads_the_long_row<R: Threads + Wait + Sync>(rt: &R, alloc: Global) -> Result<bool, AllocError> {
     let mut disk = MemDisk::new(alloc);
     let bytes = long_segment(alloc)?;
     let written = disk.write(4_294_967_296, 0, &bytes).is_ok() && disk.sync(4_294_967_296).is_ok();

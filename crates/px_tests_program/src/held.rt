@@ -4,6 +4,7 @@ use px_outside::{MemDisk, MemSink, MemSource, Numbers};
 use px_program::Status;
 use std::alloc::{AllocError, Global};
 use std::sync::Wait;
+use std::thread::Threads;
 
 /// Scripts on an empty folder, and what they print: a script ends at `=>`, and what it prints at `;;`.
 const SCRIPTS: &str = "!autocommit on
@@ -335,7 +336,7 @@ E02 left out: FORM
 ";
 
 /// Whether each script of a table ends so and prints its text.
-fn all_end<R: Wait>(rt: &R, alloc: Global, table: &str, status: Status) -> bool {
+fn all_end<R: Threads + Wait + Sync>(rt: &R, alloc: Global, table: &str, status: Status) -> bool {
     for case in table.split(";;") {
         let Some((script, text)) = case.split_once("=>") else {
             return false;
@@ -411,7 +412,7 @@ UPSERT INTO KV VALUES ('c','3');
 ";
 
 /// Whether the commit ends so where the disk fails at its call of this number, and what is there in a later run.
-fn fails_so<R: Wait>(
+fn fails_so<R: Threads + Wait + Sync>(
     rt: &R,
     alloc: Global,
     call: u64,

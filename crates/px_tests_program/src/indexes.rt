@@ -4,6 +4,7 @@ use px_outside::{Choice, MemDisk};
 use px_program::Status;
 use std::alloc::{AllocError, Global};
 use std::sync::Wait;
+use std::thread::Threads;
 
 /// A table of orders with an index that covers their amounts, which is born at stamp 1.
 const SET_UP: &str =
@@ -21,7 +22,7 @@ UPSERT INTO ORDERS (ID, CUST, AMT) VALUES (2,'al',7);
 const ADDED: &str = "1 row affected\n1 row affected\n";
 
 /// Whether the set-up with two orders, and these statements behind it, end so and print this.
-fn with_orders<R: Wait>(
+fn with_orders<R: Threads + Wait + Sync>(
     rt: &R,
     alloc: Global,
     statements: &str,
@@ -151,7 +152,7 @@ const AFTER: &str =
     "1, 'zed', 5\n2, 'al', 7\n2 rows selected\n0 rows selected\n1, 'zed', 5\n1 row selected\n";
 
 /// Whether what a stop leaves in that call of the UPSERT shows the rows of before or of after it, twice; none where the call isn't made.
-fn shows_one<R: Wait>(
+fn shows_one<R: Threads + Wait + Sync>(
     rt: &R,
     alloc: Global,
     disk: MemDisk,
@@ -182,7 +183,7 @@ fn shows_one<R: Wait>(
 }
 
 /// The orders, on a disk.
-fn orders<R: Wait>(rt: &R, alloc: Global) -> Result<Run, AllocError> {
+fn orders<R: Threads + Wait + Sync>(rt: &R, alloc: Global) -> Result<Run, AllocError> {
     let mut script = String::from_str(alloc, SET_UP)?;
     script.push_str(TWO)?;
     run_new(rt, alloc, &script)
@@ -208,4 +209,111 @@ fn a_row_that_moves_is_there_once_after_a_stop_at_each_call(rt: HostRuntime) {
         }
         assert!(rt; calls >= 12);
     }
+}
+
+/// What is asked where a stop came in the UPSERT that moves the first order. The last UPSERT has the next stamp.
+const COUNTED: &str = "!status ORDERS
+SELECT ID, CUST, AMT FROM ORDERS WHERE CUST = 'bo';
+SELECT ID, CUST, AMT FROM ORDERS WHERE CUST = 'zed';
+!status ORDERS
+UPSERT INTO ORDERS (ID, CUST, AMT) VALUES (3,'cy',1);
+!status ORDERS
+";
+
+/// Each UPSERT writes two cells of marks, three of the row, and the status once more, at the place of its mark.
+const UNMARKED: &str = "last 3 horizon 0
+cells 12 files 0
+BY_CUST ACTIVE unverified 0
+1, 'bo', 5
+1 row selected
+0 rows selected
+last 3 horizon 0
+cells 12 files 0
+BY_CUST ACTIVE unverified 0
+1 row affected
+last 4 horizon 0
+cells 18 files 0
+BY_CUST ACTIVE unverified 0
+";
+
+/// A version is marked, and the status of the key that is left. Both queries erase what they find.
+const MARKED: &str = "last 4 horizon 0
+cells 15 files 0
+BY_CUST ACTIVE unverified 2
+1, 'bo', 5
+1 row selected
+0 rows selected
+last 4 horizon 0
+cells 17 files 0
+BY_CUST ACTIVE unverified 0
+1 row affected
+last 5 horizon 0
+cells 23 files 0
+BY_CUST ACTIVE unverified 0
+";
+
+/// The row is written too. One query retires the key that was left, the other verifies the version.
+const WRITTEN: &str = "last 4 horizon 0
+cells 17 files 0
+BY_CUST ACTIVE unverified 2
+0 rows selected
+1, 'zed', 5
+1 row selected
+last 4 horizon 0
+cells 19 files 0
+BY_CUST ACTIVE unverified 0
+1 row affected
+last 5 horizon 0
+cells 25 files 0
+BY_CUST ACTIVE unverified 0
+";
+
+const STAGES: [&str; 3] = [UNMARKED, MARKED, WRITTEN];
+
+/// How far the UPSERT had come where a stop comes in that call and leaves what was synced; none where the call isn't made.
+fn stage_of<R: Threads + Wait + Sync>(
+    rt: &R,
+    alloc: Global,
+    disk: MemDisk,
+    call: u64,
+) -> Result<Option<usize>, AllocError> {
+    let script = "UPSERT INTO ORDERS (ID, CUST) VALUES (1,'zed');";
+    let stopping = disk.image().stop_at(call, Choice::Old);
+    let run = run_words(rt, alloc, "run folder", stopping, script)?;
+    if run.status == Status::Done {
+        drop(run);
+        return Ok(None);
+    }
+    let again = run_again(rt, alloc, disk_of(run), COUNTED)?;
+    let mut stage: usize = 0;
+    for printed in STAGES {
+        if is_printed(&again, Status::Done, printed) {
+            break;
+        }
+        stage = stage.saturating_add(1);
+    }
+    drop(again);
+    Ok(Some(stage))
+}
+
+#[test]
+fn a_status_counts_each_cell_that_was_written(rt: HostRuntime) {
+    let alloc = rt.alloc();
+    let mut seen = [false; 3];
+    let mut least = 0;
+    for call in 1..200 {
+        let Ok(run) = orders(&rt, alloc) else {
+            panic!(rt; "no memory")
+        };
+        let Ok(found) = stage_of(&rt, alloc, disk_of(run), call) else {
+            panic!(rt; "no memory")
+        };
+        let Some(stage) = found else {
+            break;
+        };
+        assert!(rt; least <= stage && stage < 3, "call {call}: {stage}");
+        seen[stage] = true;
+        least = stage;
+    }
+    assert!(rt; seen == [true; 3]);
 }

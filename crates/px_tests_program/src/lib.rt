@@ -22,6 +22,8 @@ mod scripts;
 #[cfg(test)]
 mod sessions;
 #[cfg(test)]
+mod shop;
+#[cfg(test)]
 mod stops;
 #[cfg(test)]
 mod tables;

@@ -6,6 +6,7 @@ use px_outside::{FixedClock, MemDisk, MemSink, MemSource};
 use px_program::{Outcome, Status, phoenix};
 use std::alloc::{AllocError, Global};
 use std::sync::Wait;
+use std::thread::Threads;
 
 /// The first segment of KV's log after K 'a', V 'b' at stamp 1.
 pub const FIRST_SEGMENT: [u8; 68] = [
@@ -66,7 +67,7 @@ pub fn words_of(alloc: Global, line: &str) -> Result<Vec<String>, AllocError> {
 }
 
 /// A run of these words on a disk, between this input and this output.
-pub fn run_between<R: Wait>(
+pub fn run_between<R: Threads + Wait + Sync>(
     rt: &R,
     alloc: Global,
     line: &str,
@@ -89,7 +90,7 @@ pub fn run_between<R: Wait>(
     Ok(run_of(outcome, printed))
 }
 
-pub fn run_words<R: Wait>(
+pub fn run_words<R: Threads + Wait + Sync>(
     rt: &R,
     alloc: Global,
     line: &str,
@@ -115,7 +116,7 @@ pub fn disk_of(run: Run) -> MemDisk {
 }
 
 /// A run on what is left of a disk.
-pub fn run_again<R: Wait>(
+pub fn run_again<R: Threads + Wait + Sync>(
     rt: &R,
     alloc: Global,
     disk: MemDisk,
@@ -129,12 +130,16 @@ pub fn is_printed(run: &Run, status: Status, text: &str) -> bool {
 }
 
 /// A run on an empty folder.
-pub fn run_new<R: Wait>(rt: &R, alloc: Global, script: &str) -> Result<Run, AllocError> {
+pub fn run_new<R: Threads + Wait + Sync>(
+    rt: &R,
+    alloc: Global,
+    script: &str,
+) -> Result<Run, AllocError> {
     run_words(rt, alloc, "run folder", MemDisk::new(alloc), script)
 }
 
 /// Whether a script ends so on an empty folder, and prints this.
-pub fn ends<R: Wait>(
+pub fn ends<R: Threads + Wait + Sync>(
     rt: &R,
     alloc: Global,
     script: &str,

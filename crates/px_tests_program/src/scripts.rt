@@ -4,6 +4,7 @@ use px_outside::{MemDisk, MemSink, MemSource};
 use px_program::Status;
 use std::alloc::{AllocError, Global};
 use std::sync::Wait;
+use std::thread::Threads;
 
 const FORM: &str = "E02 left out: FORM\n";
 
@@ -12,7 +13,7 @@ const ADDED: &str = "1 row affected\n";
 const NO_ROW: &str = "0 rows selected\n";
 
 /// Whether a statement is refused with this text, and the one behind it runs.
-fn is_refused<R: Wait>(
+fn is_refused<R: Threads + Wait + Sync>(
     rt: &R,
     alloc: Global,
     statement: &str,
@@ -26,7 +27,11 @@ fn is_refused<R: Wait>(
 }
 
 /// The bytes of a run's script that are no text may be any.
-fn run_bytes<R: Wait>(rt: &R, alloc: Global, bytes: &[u8]) -> Result<Run, AllocError> {
+fn run_bytes<R: Threads + Wait + Sync>(
+    rt: &R,
+    alloc: Global,
+    bytes: &[u8],
+) -> Result<Run, AllocError> {
     let mut script = Vec::new(alloc);
     script.extend_from_slice(bytes)?;
     let disk = MemDisk::new(alloc);

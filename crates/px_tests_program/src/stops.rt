@@ -7,13 +7,14 @@ use px_outside::{Choice, Disk, MemDisk};
 use px_program::Status;
 use std::alloc::{AllocError, Global};
 use std::sync::Wait;
+use std::thread::Threads;
 
 const SELECT: &str = "SELECT * FROM KV";
 
 const TWO_ROWS: &str = "UPSERT INTO KV VALUES ('a','b'); UPSERT INTO KV VALUES ('c','d');";
 
 /// What a stop in that call leaves, at which the run ends.
-fn stopped<R: Wait>(
+fn stopped<R: Threads + Wait + Sync>(
     rt: &R,
     alloc: Global,
     disk: MemDisk,
@@ -32,7 +33,7 @@ fn stopped<R: Wait>(
 }
 
 /// Whether a run on a disk shows these rows, also behind stops in its opening.
-fn shows<R: Wait>(
+fn shows<R: Threads + Wait + Sync>(
     rt: &R,
     alloc: Global,
     disk: MemDisk,
@@ -51,7 +52,7 @@ fn shows<R: Wait>(
 }
 
 /// Whether a stop in that call of a run on a new disk leaves these rows.
-fn leaves<R: Wait>(
+fn leaves<R: Threads + Wait + Sync>(
     rt: &R,
     alloc: Global,
     call: u64,
@@ -164,7 +165,7 @@ fn is_by_cells(run: &Run) -> bool {
 }
 
 /// Whether a folder with this file opens so.
-fn file_opens<R: Wait>(
+fn file_opens<R: Threads + Wait + Sync>(
     rt: &R,
     alloc: Global,
     bytes: &[u8],

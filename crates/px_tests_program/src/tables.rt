@@ -3,6 +3,7 @@ use crate::runs::ends;
 use px_program::Status;
 use std::alloc::{AllocError, Global};
 use std::sync::Wait;
+use std::thread::Threads;
 
 /// A table of orders with two rows.
 const ORDERS: &str =
@@ -14,7 +15,7 @@ UPSERT INTO ORDERS (ID, CUST, AMT) VALUES (2,'al',7);
 const ORDERED: &str = "table created\n1 row affected\n1 row affected\n";
 
 /// Whether these statements print this behind the table of orders.
-fn ordered<R: Wait>(
+fn ordered<R: Threads + Wait + Sync>(
     rt: &R,
     alloc: Global,
     statements: &str,

@@ -3,6 +3,7 @@ use crate::runs::ends;
 use px_program::Status;
 use std::alloc::{AllocError, Global};
 use std::sync::Wait;
+use std::thread::Threads;
 
 /// Every pair of truth values.
 const PAIRS: &str = "CREATE TABLE B (K BIGINT PRIMARY KEY, P BOOLEAN, Q BOOLEAN);
@@ -24,7 +25,12 @@ const ADDED: &str = "table created
 ";
 
 /// Whether the query gives the keys that these digits are, in their order.
-fn gives<R: Wait>(rt: &R, alloc: Global, query: &str, keys: &str) -> Result<bool, AllocError> {
+fn gives<R: Threads + Wait + Sync>(
+    rt: &R,
+    alloc: Global,
+    query: &str,
+    keys: &str,
+) -> Result<bool, AllocError> {
     let (mut script, mut printed) = (
         String::from_str(alloc, PAIRS)?,
         String::from_str(alloc, ADDED)?,

@@ -1,9 +1,11 @@
-//! Tests of px_wal and px_region over their public calls: the bytes of the first segment, room, stops at each call of the
-//! disk, and folders that aren't of the format.
+//! Tests of px_wal, px_frozen and px_region over their public calls: the bytes of the first segment, room, stops at each call of
+//! the disk, what a flush writes, and folders that aren't of the format.
 #![tactic(auto)]
 
 #[cfg(test)]
 mod damage;
+#[cfg(test)]
+mod frozen;
 #[cfg(test)]
 mod pieces;
 #[cfg(test)]

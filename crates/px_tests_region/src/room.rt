@@ -186,7 +186,7 @@ fn wrong(alloc: Global, disk: &mut MemDisk, region: &mut Region) -> Option<&'sta
         cells: 16_384,
         bytes: 352_256,
     };
-    if region.promise(1, 0) != Err(full) {
+    if region.promise(1, 0) != Err(full) || region.logged_cells() != 16_384 {
         return Some("full");
     }
     if is_ready_again(alloc, disk) != Some(true) {
@@ -221,4 +221,32 @@ fn a_log_has_16384_cells(rt: HostRuntime) -> Result<(), Fail> {
     assert!(rt; early == Some(true));
     assert!(rt; found.is_none(), "{found:?}");
     Ok(())
+}
+
+// A row that is written twice is read once. How many cells of it its log has, and how many are read.
+fn written_twice(alloc: Global, disk: &mut MemDisk) -> Option<(u64, usize)> {
+    let mut region = opened(alloc, disk, 1)?;
+    let first = put_row(alloc, disk, &mut region, b"a\0", 1, b"b").is_some();
+    let second = put_row(alloc, disk, &mut region, b"a\0", 1, b"c").is_some();
+    let counts = (region.logged_cells(), region.sorted_cells().len());
+    drop(region);
+    if first && second { Some(counts) } else { None }
+}
+
+// So it is where the log is opened again.
+fn opened_again(alloc: Global, disk: &mut MemDisk) -> Option<(u64, usize)> {
+    let region = Region::reopen(alloc, disk, 1).ok()?;
+    let counts = (region.logged_cells(), region.sorted_cells().len());
+    drop(region);
+    Some(counts)
+}
+
+#[test]
+fn cells_that_are_written_again_count_again(rt: HostRuntime) {
+    let mut disk = MemDisk::new(rt.alloc());
+    let counts = written_twice(rt.alloc(), &mut disk);
+    let again = opened_again(rt.alloc(), &mut disk);
+    drop(disk);
+    assert!(rt; counts == Some((4, 2)));
+    assert!(rt; again == Some((4, 2)));
 }

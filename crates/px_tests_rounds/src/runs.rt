@@ -1,11 +1,12 @@
 // Two rounds of three sessions.
 use crate::bare::Bare;
 use px_outside::{MemSink, Numbers};
-use px_rounds::{Rounds, run_rounds};
+use px_rounds::{NoGate, Rounds, run_rounds};
 use px_script::{ScriptFault, read_script};
 use std::alloc::Global;
 use std::sync::Wait;
 use std::test::Fail;
+use std::thread::Threads;
 
 const SCRIPT: &str = "UPSERT INTO GONE VALUES (1);
 @2 !scn 7
@@ -57,10 +58,10 @@ const SCHEDULES: &[&[u32]] = &[
 ];
 
 /// How many transcripts the rounds left, and whether the sink failed.
-fn run<R: Wait>(
+fn run<R: Threads + Wait + Sync>(
     rt: &R,
     alloc: Global,
-    schedule: &[u32],
+    schedule: Option<&[u32]>,
     sink: &mut MemSink,
 ) -> Result<(usize, bool), ScriptFault> {
     let script = read_script(alloc, SCRIPT.as_bytes())?;
@@ -69,7 +70,7 @@ fn run<R: Wait>(
         transcripts,
         sink_failed,
         memory,
-    } = run_rounds(rt, alloc, Bare::new(), &script, schedule, sink);
+    } = run_rounds(rt, alloc, &NoGate, Bare::new(), &script, schedule, sink);
     drop(server);
     drop(script);
     let count = transcripts.as_slice().len();
@@ -98,7 +99,7 @@ fn holds(sink: &MemSink, first: &str, second: &str) -> bool {
 fn each_schedule_gives_the_same_replies(rt: HostRuntime) {
     for schedule in SCHEDULES {
         let mut sink = MemSink::new(rt.alloc());
-        let ran = run(&rt, rt.alloc(), schedule, &mut sink);
+        let ran = run(&rt, rt.alloc(), Some(*schedule), &mut sink);
         let right = holds(&sink, FIRST, SECOND);
         drop(sink);
         assert!(rt; ran == Ok((6, false)));
@@ -107,9 +108,19 @@ fn each_schedule_gives_the_same_replies(rt: HostRuntime) {
 }
 
 #[test]
+fn threads_give_the_same_replies(rt: HostRuntime) {
+    let mut sink = MemSink::new(rt.alloc());
+    let ran = run(&rt, rt.alloc(), None, &mut sink);
+    let right = holds(&sink, FIRST, SECOND);
+    drop(sink);
+    assert!(rt; ran == Ok((6, false)));
+    assert!(rt; right);
+}
+
+#[test]
 fn a_sink_fails_in_the_first_round(rt: HostRuntime) -> Result<(), Fail> {
     let mut sink = MemSink::new(rt.alloc()).fail_at(call(rt.alloc(), 1)?);
-    let ran = run(&rt, rt.alloc(), &[], &mut sink);
+    let ran = run(&rt, rt.alloc(), None, &mut sink);
     let right = holds(&sink, "", "");
     drop(sink);
     assert!(rt; ran == Ok((3, true)));
@@ -120,7 +131,7 @@ fn a_sink_fails_in_the_first_round(rt: HostRuntime) -> Result<(), Fail> {
 #[test]
 fn a_sink_fails_in_the_second_round(rt: HostRuntime) -> Result<(), Fail> {
     let mut sink = MemSink::new(rt.alloc()).fail_at(call(rt.alloc(), 2)?);
-    let ran = run(&rt, rt.alloc(), &[3, 2, 1], &mut sink);
+    let ran = run(&rt, rt.alloc(), Some(&[3, 2, 1]), &mut sink);
     let right = holds(&sink, FIRST, "");
     drop(sink);
     assert!(rt; ran == Ok((6, true)));

@@ -3,9 +3,10 @@ use crate::served::run_scheduled;
 use px_outside::MemSink;
 use std::alloc::{AllocError, Global};
 use std::sync::Wait;
+use std::thread::Threads;
 
 /// The first round makes the logs too. The two sessions of the second one have the stamps 4 and 5, in the order in which they begin.
-const SCRIPT: &str =
+const CHANGES: &str =
     "CREATE TABLE ORDERS (ID BIGINT NOT NULL PRIMARY KEY, CUST VARCHAR, AMT INTEGER, NOTE VARCHAR);
 CREATE INDEX BY_CUST ON ORDERS (CUST) INCLUDE (AMT);
 UPSERT INTO ORDERS (ID, CUST) VALUES (9,'none');
@@ -13,7 +14,10 @@ DELETE FROM ORDERS;
 ---
 UPSERT INTO ORDERS (ID, CUST, AMT) VALUES (1,'bo',5);
 @2 UPSERT INTO ORDERS (ID, CUST, AMT) VALUES (1,'al',7);
----
+";
+
+/// What is there in the end.
+const ASKED: &str = "---
 SELECT ID, CUST, AMT FROM ORDERS WHERE CUST = 'bo';
 SELECT ID, CUST, AMT FROM ORDERS WHERE CUST = 'al';
 SELECT ID, CUST, AMT FROM ORDERS WHERE CUST = 'bo';
@@ -93,15 +97,18 @@ fn replies(alloc: Global, last: &str) -> Result<String, AllocError> {
     Ok(text)
 }
 
-/// Whether the script prints this by this schedule.
-fn ends_so<R: Wait>(
+/// Whether the changes by this schedule, and what is asked behind them, print this.
+fn ends_so<R: Threads + Wait + Sync>(
     rt: &R,
     alloc: Global,
     schedule: &[u32],
+    asked: &str,
     last: &str,
 ) -> Result<bool, AllocError> {
+    let mut script = String::from_str(alloc, CHANGES)?;
+    script.push_str(asked)?;
     let mut sink = MemSink::new(alloc);
-    let whole = run_scheduled(rt, alloc, SCRIPT, schedule, &mut sink);
+    let whole = run_scheduled(rt, alloc, &script, schedule, &mut sink);
     let replies = replies(alloc, last)?;
     Ok(whole && sink.held() == replies.as_bytes())
 }
@@ -109,6 +116,37 @@ fn ends_so<R: Wait>(
 #[test]
 fn the_session_that_began_later_has_the_last_word(rt: HostRuntime) {
     for (schedule, last) in SCHEDULES {
-        assert!(rt; ends_so(&rt, rt.alloc(), schedule, last) == Ok(true));
+        assert!(rt; ends_so(&rt, rt.alloc(), schedule, ASKED, last) == Ok(true));
     }
+}
+
+/// What the sessions of the second round have written, and what is left of it once both keys were asked for twice.
+const COUNTED: &str = "---
+!status ORDERS
+---
+SELECT ID, CUST, AMT FROM ORDERS WHERE CUST = 'bo';
+SELECT ID, CUST, AMT FROM ORDERS WHERE CUST = 'bo';
+SELECT ID, CUST, AMT FROM ORDERS WHERE CUST = 'al';
+!status ORDERS
+";
+
+/// Eight cells of the first round, five of the session that began first, and six of the other, which marks both keys; neither verifies its
+/// marks. The queries add a marker and a status.
+const COUNTS: &str = "last 5 horizon 0
+cells 19 files 0
+BY_CUST ACTIVE unverified 2
+0 rows selected
+0 rows selected
+1, 'al', 7
+1 row selected
+last 5 horizon 0
+cells 21 files 0
+BY_CUST ACTIVE unverified 0
+";
+
+// The later one waits for the earlier one to write, so both know of each other's change.
+#[test]
+fn queries_leave_no_key_unverified(rt: HostRuntime) {
+    let schedule = [1, 1, 2, 2, 2, 2, 1, 1, 2, 1, 1, 2, 2];
+    assert!(rt; ends_so(&rt, rt.alloc(), &schedule, COUNTED, COUNTS) == Ok(true));
 }

@@ -8,20 +8,21 @@ ghost use Rattle.px_server.specs.Started.{IsOpenedOn};
 
 use px_opening::{Opened, open};
 use px_outside::{Clock, CountsCalls, Disk, FixedClock, MemDisk, MemSink, Metered, Sink};
-use px_rounds::{Rounds, run_rounds};
+use px_rounds::{NoGate, Rounds, run_rounds};
 use px_script::{Script, read_script};
 use px_seat::{Based, Single};
 use px_server::{Founded, Server};
 use std::alloc::Global;
 use std::marker::Brand;
 use std::sync::Wait;
+use std::thread::Threads;
 
 /// How long versions are kept, in milliseconds.
 const LOOKBACK: u64 = 259_200_000;
 
 /// Runs a script on a server with which nothing was done. Nobody else acts on it.
 #[tactic(auto, using(crate::proofs::Alone::is_single))]
-fn run_script<R: Wait, S: Single, O: Sink>(
+fn run_script<R: Threads + Wait + Sync, S: Single + Send, O: Sink>(
     rt: &R,
     alloc: Global,
     server: S,
@@ -32,11 +33,17 @@ fn run_script<R: Wait, S: Single, O: Sink>(
     requires alone { (S.known server).alone ≡ true }
     requires nothing { (S.known server).seen ≡ [] }
 {
-    run_rounds(rt, alloc, server, script, schedule, out)
+    run_rounds(rt, alloc, &NoGate, server, script, Some(schedule), out)
 }
 
 /// Runs a script over a folder that was opened. Answers whether all of it was run.
-fn run_over<R: Wait, D: CountsCalls + Drop, C: Clock + Drop, O: Sink, B: Based + Founded>(
+fn run_over<
+    R: Threads + Wait + Sync,
+    D: CountsCalls + Drop + Send,
+    C: Clock + Drop + Send,
+    O: Sink,
+    B: Based + Founded + Send + Sync,
+>(
     rt: &R,
     alloc: Global,
     disk: D,
@@ -76,7 +83,12 @@ fn run_over<R: Wait, D: CountsCalls + Drop, C: Clock + Drop, O: Sink, B: Based +
 }
 
 /// The same. The folder is what it was opened to.
-fn run_opened<R: Wait, D: CountsCalls + Drop, C: Clock + Drop, O: Sink>(
+fn run_opened<
+    R: Threads + Wait + Sync,
+    D: CountsCalls + Drop + Send,
+    C: Clock + Drop + Send,
+    O: Sink,
+>(
     rt: &R,
     alloc: Global,
     disk: D,
@@ -92,7 +104,7 @@ fn run_opened<R: Wait, D: CountsCalls + Drop, C: Clock + Drop, O: Sink>(
 }
 
 /// Runs a script by a schedule on an empty folder in memory. Answers whether all of it was run.
-pub(crate) fn run_scheduled<R: Wait>(
+pub(crate) fn run_scheduled<R: Threads + Wait + Sync>(
     rt: &R,
     alloc: Global,
     script: &str,

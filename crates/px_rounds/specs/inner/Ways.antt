@@ -11,7 +11,7 @@ use Rattle.px_rounds.specs.Written.{WritesRound}
 
 -- nothing was run: all was stopped before, or memory was refused
 pub record Stayed {O : Type 0} (k k' : Known) (states : List SessionState) (ts ts' : List Transcript) (states' : List SessionState) (out out' : O) (sink_failed memory sink_failed' memory' : Bool) : Type 0 where
-  pub same : k' ≡ k
+  pub same : k'.seen ≡ k.seen
   pub ts_are : ts' ≡ ts
   pub states_are : states' ≡ states
   pub out_is : out' ≡ out

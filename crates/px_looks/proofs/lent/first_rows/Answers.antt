@@ -1,5 +1,4 @@
-use Rattle.std.proofs.Common.{◌≡◌, ◌+◌, ◌∙◌, ap, sym, refl, inl, inr, length, arith}
-use Rattle.px_region.specs.Giving.{rows_before}
+use Rattle.std.proofs.Common.{◌+◌, ◌∙◌, ap, sym, refl, arith}
 use Rattle.px_region.proofs.Given.{begins_first, row_none}
 use Rattle.px_looks.proofs.Ends.{rows_over}
 use Rattle.px_looks.proofs.lent.first_rows.Goals as goal

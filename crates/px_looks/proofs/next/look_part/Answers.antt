@@ -1,11 +1,6 @@
-use Rattle.std.proofs.Common.{◌<◌, ℕ, List, length, sym, subst}
+use Rattle.std.proofs.Common.{length}
 use Rattle.std.specs.Option.{option_copied}
-use Rattle.px_cells.specs.CellData.{CellData}
-use Rattle.px_cells.specs.Contents.{value_at}
-use Rattle.px_cells.specs.Order.{IsCellList}
-use Rattle.px_region.specs.Giving.{key_at}
 use Rattle.px_region.specs.Region.{read_of}
-use Rattle.px_looks.specs.Found.{at_key}
 use Rattle.px_looks.specs.inner.Among.{FoundAmong}
 use Rattle.px_looks.proofs.Cut.{IsTaken}
 use Rattle.px_looks.proofs.Parts.{part_admits, part_below, part_found, part_up, rows_list}

@@ -18,10 +18,10 @@ loop-i-init g c =
 
 pub loop-i-preserved : goal.loop-i-preserved
 loop-i-preserved g c =
-    let on = c.row_end-i.ensures.on in
+    let on = c.row_end-end.ensures.on in
     record {
-      found = found_over (g.R.Reader.shows c.args.reader.now) c.args.cells.now (c.loop-i.i + 1) c.row_end-i.result c.add_found.new.found.items (omega arith) (λ j from to. c.row_end-i.ensures.one j (omega arith) to) (c.in_ok-add_found.ensures.found c.loop-i.invariant.found);
-      few = (let f = c.in_ok-add_found.ensures.few c.loop-i.invariant.few in let r = rows_rise c.args.cells.now (c.loop-i.i + 1) c.row_end-i.result (omega arith) in omega arith);
-      within = c.row_end-i.ensures.within;
-      begins = c.row_end-i.ensures.next;
+      found = found_over (g.R.Reader.shows c.args.reader.now) c.args.cells.now (c.loop-i.i + 1) c.row_end-end.result c.add_found.new.found.items (omega arith) (λ j from to. c.row_end-end.ensures.one j (omega arith) to) (c.in_ok-add_found.ensures.found c.loop-i.invariant.found);
+      few = (let f = c.in_ok-add_found.ensures.few c.loop-i.invariant.few in let r = rows_rise c.args.cells.now (c.loop-i.i + 1) c.row_end-end.result (omega arith) in omega arith);
+      within = c.row_end-end.ensures.within;
+      begins = c.row_end-end.ensures.next;
     }

@@ -2,4 +2,4 @@ use Rattle.std.proofs.Common.{refl}
 use Rattle.px_program.proofs.run.run_opened.Goals as goal
 
 pub run_since-requires-clause-began : goal.run_since-requires-clause-began
-run_since-requires-clause-began g c = record { moment = refl; left = λ file bytes is. is; seen = λ file. refl }
+run_since-requires-clause-began g c = λ κs bounds. record { moment = refl; left = λ file bytes is. is; seen = λ file. refl }

@@ -8,14 +8,14 @@ use Rattle.px_program.proofs.Stops.{begins_later, later, opened_later, ran_later
 use Rattle.px_program.proofs.run.run_since.Goals as goal
 
 pub run_over-requires-clause-disk : goal.run_over-requires-clause-disk
-run_over-requires-clause-disk g c = λ given tells.
+run_over-requires-clause-disk g c = λ κs bounds given tells.
     let d = g.D.Disk in
     let s = g.B.Since in
     subst (λ x. IsOpenedOn (later d (at_least s.from s.all)) x c.args.opened) (sym c.new-later.ensures)
-    (opened_later d g.met.D.Disk.up_to_now s.from s.all c.args.disk c.args.opened c.requires.from c.requires.all (c.requires.opened given tells))
+    (opened_later d (g.met.D.Disk g.world.𝓛 g.world.𝓜 g.world.𝓡 ((λ s x. x), (λ x. x), (λ x. x), λ x. x)).up_to_now s.from s.all c.args.disk c.args.opened c.requires.from c.requires.all (c.requires.opened given tells))
 
 pub run_over-requires-clause-began : goal.run_over-requires-clause-began
-run_over-requires-clause-began g c =
+run_over-requires-clause-began g c = λ κs bounds.
     let d = g.D.Disk in
     let s = g.B.Since in
     subst (λ x. BeginsAt (later d (at_least s.from s.all)) g.B.Founded.began x) (sym c.new-later.ensures) (begins_later d (at_least s.from s.all) c.args.disk g.B.Founded.began c.requires.began)
@@ -37,4 +37,4 @@ returns-clause-ran g c =
     let ran = subst (λ x. RanOpened (later d (at_least s.from s.all)) clock k b sound given began (IsLeft (later d (at_least s.from s.all))) times c.args.script.now x c.args.out.now c.run_over.new.out o) c.new-later.ensures c.run_over.ensures in
     let same = c.map_disk.ensures.rest ∙ ap (λ x. with_disk x o) back in
     subst (λ x. RanOpened d clock k b sound given began (IsLeftSince d s.from s.all) times c.args.script.now c.args.disk c.args.out.now c.run_over.new.out x) (sym same)
-    (ran_later d g.met.D.Disk.up_to_now s.from s.all clock k b sound given began times c.args.script.now c.args.disk c.args.out.now c.run_over.new.out o within (c.requires.from ∙ sym c.requires.began.moment) ran)
+    (ran_later d (g.met.D.Disk g.world.𝓛 g.world.𝓜 g.world.𝓡 ((λ s x. x), (λ x. x), (λ x. x), λ x. x)).up_to_now s.from s.all clock k b sound given began times c.args.script.now c.args.disk c.args.out.now c.run_over.new.out o within (c.requires.from ∙ sym c.requires.began.moment) ran)

@@ -1,5 +1,5 @@
 use Rattle.px_tests_rounds.proofs.Bares.{single}
 use Rattle.px_tests_rounds.proofs.runs.run.Goals as goal
 
-pub run_rounds-transcripts-requires : goal.run_rounds-transcripts-requires
-run_rounds-transcripts-requires g c = record { single = single c.new.result.seat }
+pub run_rounds-transcripts-requires-clause-single : goal.run_rounds-transcripts-requires-clause-single
+run_rounds-transcripts-requires-clause-single g c κs bounds = single c.new.result.seat

@@ -12,7 +12,7 @@ use Rattle.px_calls.specs.declared.fault.StepFault.TheVariants.{Closed, NoTable}
 use Rattle.px_turns.specs.Turns.{drawn}
 use Rattle.px_standing.proofs.Looked.{lacks}
 use Rattle.px_server.specs.Kept.{IsKept}
-use Rattle.px_server.specs.Shown.{Shown, known_by}
+use Rattle.px_server.specs.Shown.{Shown, known_by, shown_of}
 use Rattle.px_server.specs.Stamps.{draw}
 use Rattle.px_server.proofs.Begun.{drawn_above}
 use Rattle.px_server.proofs.Found.{closed_by}
@@ -28,7 +28,7 @@ returns-in-Some-clause-refused g c =
     let s = c.self.inside in
     let b = g.B.Based.base in
     let told = c.self.invariant.0.told in
-    let v : Shown = record { seat = s.seat; entries = s.trail.entries; late = s.late; closed = s.closed } in
+    let v : Shown = shown_of s.seat s.trail.entries s.late s.closed s.groups.items in
     subst (λ (w : Shown). Refuses (begin_cause g.B.Founded.sound c.args.table.0 c.args.changes.now) (known_by b g.B.Based.damaged w) (known_by b g.B.Based.damaged w) (Closed c.in-Some.call)) c.self.view_is
     (closed_by (known_by b g.B.Based.damaged v) told.legal s.closed told.closing c.in-Some.call c.in-Some.is)
 
@@ -38,7 +38,7 @@ returns-in_default-numbered_place-clause-refused g c =
     let b = g.B.Based.base in
     let told = c.self.invariant.0.told in
     let running : s.closed ≡ None = none_of s.closed (λ x is. search rules) in
-    let v : Shown = record { seat = s.seat; entries = s.trail.entries; late = s.late; closed = s.closed } in
+    let v : Shown = shown_of s.seat s.trail.entries s.late s.closed s.groups.items in
     subst (λ (w : Shown). Refuses (begin_cause g.B.Founded.sound c.args.table.0 c.args.changes.now) (known_by b g.B.Based.damaged w) (known_by b g.B.Based.damaged w) NoTable) c.self.view_is
     (begun_no_table (known_by b g.B.Based.damaged v) told.legal (told.closing ∙ running) g.B.Founded.sound c.args.table.0 c.args.changes.now (lacks b s.trail.entries s.standing told.agrees c.args.table.0 c.in_default-numbered_place.ensures.none))
 
@@ -48,7 +48,7 @@ let_in-begun-requires-clause-fit g c =
     let b = g.B.Based.base in
     let told = c.self.invariant.0.told in
     let running : s.closed ≡ None = none_of s.closed (λ x is. search rules) in
-    let v : Shown = record { seat = s.seat; entries = s.trail.entries; late = s.late; closed = s.closed } in
+    let v : Shown = shown_of s.seat s.trail.entries s.late s.closed s.groups.items in
     let cs = c.args.changes.now in
     let fits : AreFitting (known_by b g.B.Based.damaged v) c.args.table.0 cs = subst (λ (w : Shown). AreFitting (known_by b g.B.Based.damaged w) c.args.table.0 cs) (sym c.self.view_is) c.requires.fits in
     let fit = fit_here g.D.Disk b g.B.Founded.sound g.B.Founded.premise g.B.Founded.began s.disk s.catalog s.standing s.groups.items s.trail s.late s.closed c.self.invariant.0 running c.args.table c.in-Some-numbered_place.place c.index_mut.result.now c.in-Some-numbered_place.ensures.found c.in-Some-numbered_place.ensures.numbered (sym c.index_mut.ensures.value) cs fits.each in
@@ -60,7 +60,7 @@ invariant_of-self g c =
     let b = g.B.Based.base in
     let told = c.self.invariant.0.told in
     let running : s.closed ≡ None = none_of s.closed (λ x is. search rules) in
-    let v : Shown = record { seat = s.seat; entries = s.trail.entries; late = s.late; closed = s.closed } in
+    let v : Shown = shown_of s.seat s.trail.entries s.late s.closed s.groups.items in
     let cs = c.args.changes.now in
     let fits : AreFitting (known_by b g.B.Based.damaged v) c.args.table.0 cs = subst (λ (w : Shown). AreFitting (known_by b g.B.Based.damaged w) c.args.table.0 cs) (sym c.self.view_is) c.requires.fits in
     let fit = fit_here g.D.Disk b g.B.Founded.sound g.B.Founded.premise g.B.Founded.began s.disk s.catalog s.standing s.groups.items s.trail s.late s.closed c.self.invariant.0 running c.args.table c.in-Some-numbered_place.place c.index_mut.result.now c.in-Some-numbered_place.ensures.found c.in-Some-numbered_place.ensures.numbered (sym c.index_mut.ensures.value) cs fits.each in
@@ -104,7 +104,7 @@ returns-in-Ok-clause-ok g c =
     let b = g.B.Based.base in
     let told = c.self.invariant.0.told in
     let running : s.closed ≡ None = none_of s.closed (λ x is. search rules) in
-    let v : Shown = record { seat = s.seat; entries = s.trail.entries; late = s.late; closed = s.closed } in
+    let v : Shown = shown_of s.seat s.trail.entries s.late s.closed s.groups.items in
     let cs = c.args.changes.now in
     let fits : AreFitting (known_by b g.B.Based.damaged v) c.args.table.0 cs = subst (λ (w : Shown). AreFitting (known_by b g.B.Based.damaged w) c.args.table.0 cs) (sym c.self.view_is) c.requires.fits in
     let fit = fit_here g.D.Disk b g.B.Founded.sound g.B.Founded.premise g.B.Founded.began s.disk s.catalog s.standing s.groups.items s.trail s.late s.closed c.self.invariant.0 running c.args.table c.in-Some-numbered_place.place c.index_mut.result.now c.in-Some-numbered_place.ensures.found c.in-Some-numbered_place.ensures.numbered (sym c.index_mut.ensures.value) cs fits.each in
@@ -114,7 +114,7 @@ returns-in-Ok-clause-ok g c =
     let e : Entry = record { seat = s.seat; calls = c.call_count.result; act = BegunAct c.args.table c.in-Ok.started.stamp cs } in
     let entries : c.push.new.self.entries ≡ s.trail.entries ++ e ∷ [] = c.push.ensures.entries
     ∙ (λ i. taken.entries i ++ record { seat = s.seat; calls = c.call_count.result; act = BegunAct c.args.table c.in-Ok.started.stamp (m.changes i) } ∷ []) in
-    let v' : Shown = record { seat = s.seat; entries = c.push.new.self.entries; late = s.late; closed = s.closed } in
+    let v' : Shown = record v { entries = c.push.new.self.entries } in
     let early : c.index_mut.result.now.last ≤ greatest_stamp = (let l = stamp.0 in let m' = stamp.1 in omega (arith, l, m')) in
     subst (λ (w : Shown). DidBegin g.B.Founded.sound (known_by b g.B.Based.damaged w) (known_by b g.B.Based.damaged v') c.args.table cs (record { table = c.args.table; stamp = c.in-Ok.started.stamp })) c.self.view_is
     (did_begin (known_by b g.B.Based.damaged v) told.legal g.B.Founded.sound c.args.table cs c.in-Ok.started.stamp c.call_count.result c.push.new.self.entries entries (invariant_of-self g c).0.told.legal stamp.1 taken.few
@@ -126,12 +126,12 @@ returns-in-Err-clause-refused g c =
     let b = g.B.Based.base in
     let told = c.self.invariant.0.told in
     let running : s.closed ≡ None = none_of s.closed (λ x is. search rules) in
-    let v : Shown = record { seat = s.seat; entries = s.trail.entries; late = s.late; closed = s.closed } in
+    let v : Shown = shown_of s.seat s.trail.entries s.late s.closed s.groups.items in
     let cs = c.args.changes.now in
     let fits : AreFitting (known_by b g.B.Based.damaged v) c.args.table.0 cs = subst (λ (w : Shown). AreFitting (known_by b g.B.Based.damaged w) c.args.table.0 cs) (sym c.self.view_is) c.requires.fits in
     let fit = fit_here g.D.Disk b g.B.Founded.sound g.B.Founded.premise g.B.Founded.began s.disk s.catalog s.standing s.groups.items s.trail s.late s.closed c.self.invariant.0 running c.args.table c.in-Some-numbered_place.place c.index_mut.result.now c.in-Some-numbered_place.ensures.found c.in-Some-numbered_place.ensures.numbered (sym c.index_mut.ensures.value) cs fits.each in
-    let v' : Shown = record { seat = s.seat; entries = c.let_in-begun.new.trail.entries; late = s.late; closed = s.closed } in
-    let same : v ≡ v' = (λ i. record { seat = s.seat; entries = (sym c.in-Err.ensures.trail i).entries; late = s.late; closed = s.closed }) in
+    let v' : Shown = record v { entries = c.let_in-begun.new.trail.entries } in
+    let same : v ≡ v' = (λ i. record v { entries = (sym c.in-Err.ensures.trail i).entries }) in
     let k = known_by b g.B.Based.damaged v in
     subst (λ (w : Shown). Refuses (begin_cause g.B.Founded.sound c.args.table.0 cs) (known_by b g.B.Based.damaged w) (known_by b g.B.Based.damaged v') c.in-Err.fault) c.self.view_is
     (subst (λ (w : Shown). Refuses (begin_cause g.B.Founded.sound c.args.table.0 cs) k (known_by b g.B.Based.damaged w) c.in-Err.fault) same

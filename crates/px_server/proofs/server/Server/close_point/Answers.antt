@@ -4,7 +4,7 @@ use Rattle.px_calls.specs.Requires.{IsOpen}
 use Rattle.px_trail.specs.Trail.{open_points}
 use Rattle.px_trail.specs.declared.entry.Act.TheVariants.{Released as ReleasedAct}
 use Rattle.px_standing.proofs.Looked.{lacks}
-use Rattle.px_server.specs.Shown.{Shown, known_by}
+use Rattle.px_server.specs.Shown.{Shown, known_by, shown_of}
 use Rattle.px_server.proofs.Opened.{none_open}
 use Rattle.px_server.proofs.Released.{closes, has_point}
 use Rattle.px_server.proofs.Seen.{one_more}
@@ -41,7 +41,7 @@ pub returns : goal.returns
 returns g c =
     let s = c.self.inside in
     let told = c.self.invariant.0.told in
-    let v : Shown = record { seat = s.seat; entries = s.trail.entries; late = s.late; closed = s.closed } in
-    let v' : Shown = record { seat = s.seat; entries = c.push.new.self.entries; late = s.late; closed = s.closed } in
+    let v : Shown = shown_of s.seat s.trail.entries s.late s.closed s.groups.items in
+    let v' : Shown = record v { entries = c.push.new.self.entries } in
     subst (λ (w : Shown). Adds (known_by g.B.Based.base g.B.Based.damaged w) (known_by g.B.Based.base g.B.Based.damaged v') (ReleasedAct c.args.p.table c.args.p.stamp)) c.self.view_is
     (one_more (known_by g.B.Based.base g.B.Based.damaged v) c.push.new.self.entries c.call_count.result (ReleasedAct c.args.p.table c.args.p.stamp) told.legal c.push.ensures.entries (invariant_of-self g c).0.told.legal)

@@ -20,7 +20,7 @@ use Rattle.px_calls.specs.declared.fault.StepFault.TheVariants.{Closed, InUse, M
 use Rattle.px_schema.specs.declared.standing.Standing.{Standing}
 use Rattle.px_standing.proofs.Looked.{lacks}
 use Rattle.px_server.specs.Kept.{HasTallied, IsKept}
-use Rattle.px_server.specs.Shown.{Shown, known_by}
+use Rattle.px_server.specs.Shown.{Shown, known_by, shown_of}
 use Rattle.px_server.proofs.Found.{closed_by}
 use Rattle.px_server.proofs.Lists.{all_at}
 use Rattle.px_server.proofs.Released.{group_of, place_in}
@@ -46,7 +46,7 @@ returns-in-Some-clause-refused g c = (let
     in let
     b = g.B.Based.base
     in let
-    v : Shown = record { seat = s.seat; entries = s.trail.entries; late = s.late; closed = s.closed }
+    v : Shown = shown_of s.seat s.trail.entries s.late s.closed s.groups.items
     in
     subst (λ (w : Shown). Refuses (define_cause g.B.Founded.sound (definition.Active c.args.table c.args.index)) (known_by b g.B.Based.damaged w) (known_by b g.B.Based.damaged w) (Closed c.in-Some.call)) c.self.view_is
     (closed_by (known_by b g.B.Based.damaged v) k.told.legal s.closed k.told.closing c.in-Some.call c.in-Some.is))
@@ -59,7 +59,7 @@ returns-in_default-numbered_place-clause-refused g c = (let
     in let
     b = g.B.Based.base
     in let
-    v : Shown = record { seat = s.seat; entries = s.trail.entries; late = s.late; closed = s.closed }
+    v : Shown = shown_of s.seat s.trail.entries s.late s.closed s.groups.items
     in let
     running : s.closed ≡ None = c.in_default.is
     in
@@ -74,7 +74,7 @@ returns-in_default-index_place-clause-refused g c = (let
     in let
     b = g.B.Based.base
     in let
-    v : Shown = record { seat = s.seat; entries = s.trail.entries; late = s.late; closed = s.closed }
+    v : Shown = shown_of s.seat s.trail.entries s.late s.closed s.groups.items
     in let
     running : s.closed ≡ None = c.in_default.is
     in let
@@ -99,7 +99,7 @@ returns-in-Err-clause-refused g c = (let
     in let
     b = g.B.Based.base
     in let
-    v : Shown = record { seat = s.seat; entries = s.trail.entries; late = s.late; closed = s.closed }
+    v : Shown = shown_of s.seat s.trail.entries s.late s.closed s.groups.items
     in let
     running : s.closed ≡ None = c.in_default.is
     in
@@ -115,7 +115,7 @@ is_filled-requires g c = (let
     in let
     b = g.B.Based.base
     in let
-    v : Shown = record { seat = s.seat; entries = s.trail.entries; late = s.late; closed = s.closed }
+    v : Shown = shown_of s.seat s.trail.entries s.late s.closed s.groups.items
     in let
     running : s.closed ≡ None = c.in_default.is
     in let
@@ -137,7 +137,7 @@ invariant_of-self g c = (let
     in let
     b = g.B.Based.base
     in let
-    v : Shown = record { seat = s.seat; entries = s.trail.entries; late = s.late; closed = s.closed }
+    v : Shown = shown_of s.seat s.trail.entries s.late s.closed s.groups.items
     in let
     running : s.closed ≡ None = c.in_default.is
     in let
@@ -161,7 +161,7 @@ invariant_of-self-in-Err-is_filled g c = (let
     in let
     b = g.B.Based.base
     in let
-    v : Shown = record { seat = s.seat; entries = s.trail.entries; late = s.late; closed = s.closed }
+    v : Shown = shown_of s.seat s.trail.entries s.late s.closed s.groups.items
     in let
     running : s.closed ≡ None = c.in_default.is
     in let
@@ -185,7 +185,7 @@ returns-in-Ok-true-clause-refused g c = (let
     in let
     b = g.B.Based.base
     in let
-    v : Shown = record { seat = s.seat; entries = s.trail.entries; late = s.late; closed = s.closed }
+    v : Shown = shown_of s.seat s.trail.entries s.late s.closed s.groups.items
     in let
     running : s.closed ≡ None = c.in_default.is
     in
@@ -200,7 +200,7 @@ returns-in-Err-is_filled-clause-refused g c = (let
     in let
     b = g.B.Based.base
     in let
-    v : Shown = record { seat = s.seat; entries = s.trail.entries; late = s.late; closed = s.closed }
+    v : Shown = shown_of s.seat s.trail.entries s.late s.closed s.groups.items
     in let
     running : s.closed ≡ None = c.in_default.is
     in
@@ -216,7 +216,7 @@ invariant_of-self-in_default-take_entry g c = (let
     in let
     b = g.B.Based.base
     in let
-    v : Shown = record { seat = s.seat; entries = s.trail.entries; late = s.late; closed = s.closed }
+    v : Shown = shown_of s.seat s.trail.entries s.late s.closed s.groups.items
     in let
     running : s.closed ≡ None = c.in_default.is
     in let
@@ -240,7 +240,7 @@ returns-in_default-take_entry-clause-refused g c = (let
     in let
     b = g.B.Based.base
     in let
-    v : Shown = record { seat = s.seat; entries = s.trail.entries; late = s.late; closed = s.closed }
+    v : Shown = shown_of s.seat s.trail.entries s.late s.closed s.groups.items
     in let
     running : s.closed ≡ None = c.in_default.is
     in
@@ -256,7 +256,7 @@ append-requires g c = (let
     in let
     b = g.B.Based.base
     in let
-    v : Shown = record { seat = s.seat; entries = s.trail.entries; late = s.late; closed = s.closed }
+    v : Shown = shown_of s.seat s.trail.entries s.late s.closed s.groups.items
     in let
     running : s.closed ≡ None = c.in_default.is
     in let
@@ -296,7 +296,7 @@ make_active-requires g c = (let
     in let
     b = g.B.Based.base
     in let
-    v : Shown = record { seat = s.seat; entries = s.trail.entries; late = s.late; closed = s.closed }
+    v : Shown = shown_of s.seat s.trail.entries s.late s.closed s.groups.items
     in let
     running : s.closed ≡ None = c.in_default.is
     in let
@@ -336,7 +336,7 @@ invariant_of-self-in-Ok-append g c = (let
     in let
     b = g.B.Based.base
     in let
-    v : Shown = record { seat = s.seat; entries = s.trail.entries; late = s.late; closed = s.closed }
+    v : Shown = shown_of s.seat s.trail.entries s.late s.closed s.groups.items
     in let
     running : s.closed ≡ None = c.in_default.is
     in let
@@ -372,7 +372,7 @@ invariant_of-self-in-Err-append g c = (let
     in let
     b = g.B.Based.base
     in let
-    v : Shown = record { seat = s.seat; entries = s.trail.entries; late = s.late; closed = s.closed }
+    v : Shown = shown_of s.seat s.trail.entries s.late s.closed s.groups.items
     in let
     running : s.closed ≡ None = c.in_default.is
     in let
@@ -408,7 +408,7 @@ returns-in-Ok-append-clause-ok g c = (let
     in let
     b = g.B.Based.base
     in let
-    v : Shown = record { seat = s.seat; entries = s.trail.entries; late = s.late; closed = s.closed }
+    v : Shown = shown_of s.seat s.trail.entries s.late s.closed s.groups.items
     in let
     running : s.closed ≡ None = c.in_default.is
     in let
@@ -434,7 +434,7 @@ returns-in-Ok-append-clause-ok g c = (let
     in let
     x_is : slice_get h.indexes.items c.in-Some-index_place.at ≡ Some x = ap (λ (y : Group). slice_get y.indexes.items c.in-Some-index_place.at) (sym same) ∙ x0_is
     in let
-    v' : Shown = record { seat = s.seat; entries = c.push.new.self.entries; late = s.late; closed = s.closed }
+    v' : Shown = record v { entries = c.push.new.self.entries }
     in let
     m : Answered = record { number = c.args.index.0; stamp = x.index.birth; at = c.len.result }
     in
@@ -449,7 +449,7 @@ returns-in-Err-append-clause-refused g c = (let
     in let
     b = g.B.Based.base
     in let
-    v : Shown = record { seat = s.seat; entries = s.trail.entries; late = s.late; closed = s.closed }
+    v : Shown = shown_of s.seat s.trail.entries s.late s.closed s.groups.items
     in let
     running : s.closed ≡ None = c.in_default.is
     in let
@@ -475,7 +475,7 @@ returns-in-Err-append-clause-refused g c = (let
     in let
     x_is : slice_get h.indexes.items c.in-Some-index_place.at ≡ Some x = ap (λ (y : Group). slice_get y.indexes.items c.in-Some-index_place.at) (sym same) ∙ x0_is
     in let
-    v' : Shown = record { seat = s.seat; entries = c.unwritten.new.trail.entries; late = c.unwritten.new.late; closed = c.unwritten.new.closed }
+    v' : Shown = record v { entries = c.unwritten.new.trail.entries; late = c.unwritten.new.late; closed = c.unwritten.new.closed }
     in
     subst (λ (w : Shown). Refuses (define_cause g.B.Founded.sound (definition.Active c.args.table c.args.index)) (known_by b g.B.Based.damaged w) (known_by b g.B.Based.damaged v') c.unwritten.result) c.self.view_is
     (activating_refused g.D.Disk g.met.D.Disk.told g.met.D.Disk.up_to_now b g.B.Based.damaged g.B.Founded.sound g.B.Founded.premise g.B.Founded.began c.is_filled.new.disk s.catalog s.standing s.groups.items s.trail s.late s.closed kd running c.in-Some-numbered_place.place h l h_is s.seat c.args.table own c.args.index may c.in-Some-index_place.at x x_is id c.in-Ok.made c.in-Ok.ensures.ok c.is_filled.new.group c.is_filled.ensures.looked c.in-Ok-false.field-0 c.in-Ok-false.field-0-test c.in-Ok-false.ensures.rows c.take_entry.new.trail c.take_entry.ensures.same c.in-Ok-take_entry.ensures.ok c.append.new.disk c.append.new.self c.append.ensures.counts c.append.ensures.touches c.append.ensures.any_moment c.unwritten.new.trail c.unwritten.new.late c.unwritten.new.closed c.in-Err-append.fault (λ e. c.in-Err-append.ensures.untouched (elim e [ inl x ↦ inl (ap Err x) | inr x ↦ inr (ap Err x) ])) (λ e. c.in-Err-append.ensures.failed (ap Err e)) c.unwritten.ensures.kept c.unwritten.ensures.shut c.unwritten.ensures.room c.unwritten.result c.unwritten.ensures.full c.unwritten.ensures.memory c.unwritten.ensures.failed))

@@ -12,7 +12,7 @@ use Rattle.px_schema.specs.Records.{IsRight}
 use Rattle.px_schema.specs.declared.item.CatalogItem.TheVariants.{TableIs}
 use Rattle.px_schema.specs.declared.standing.Standing.{Standing}
 use Rattle.px_catalog.specs.Catalogue.{standing_of}
-use Rattle.px_server.specs.Shown.{Shown, known_by}
+use Rattle.px_server.specs.Shown.{Shown, known_by, shown_of}
 use Rattle.px_server.specs.inner.Making.{MayMake}
 use Rattle.px_server.proofs.Stamping.{more_by_clock, unwritten_by_clock}
 use Rattle.px_server.proofs.TableCauses.{did_make, refused_memory, refused_unmade, table_full}
@@ -25,7 +25,7 @@ returns-in-Err-clause-refused g c =
     let s = c.self.inside in
     let b = g.B.Based.base in
     let told = c.self.invariant.0.told in
-    let v : Shown = record { seat = s.seat; entries = s.trail.entries; late = s.late; closed = s.closed } in
+    let v : Shown = shown_of s.seat s.trail.entries s.late s.closed s.groups.items in
     subst (λ (w : Shown). Refuses (define_cause g.B.Founded.sound (NewTableOf c.args.what.now)) (known_by b g.B.Based.damaged w) (known_by b g.B.Based.damaged w) c.in-Err.fault) c.self.view_is
     (refused_unmade g.B.Founded.sound (known_by b g.B.Based.damaged v) told.legal s.closed told.closing s.standing told.agrees c.args.what.now c.in-Err.fault c.in-Err.ensures.refused)
 
@@ -35,7 +35,7 @@ returns-in_default-parts_of-clause-refused g c =
     let b = g.B.Based.base in
     let told = c.self.invariant.0.told in
     let may : MayMake s.standing s.closed c.args.what.now = on_ok c.check_table.result (MayMake s.standing s.closed c.args.what.now) c.check_table.ensures.ok (λ e is. search rules) in
-    let v : Shown = record { seat = s.seat; entries = s.trail.entries; late = s.late; closed = s.closed } in
+    let v : Shown = shown_of s.seat s.trail.entries s.late s.closed s.groups.items in
     subst (λ (w : Shown). Refuses (define_cause g.B.Founded.sound (NewTableOf c.args.what.now)) (known_by b g.B.Based.damaged w) (known_by b g.B.Based.damaged w) Memory) c.self.view_is
     (refused_memory g.B.Founded.sound (known_by b g.B.Based.damaged v) told.legal s.closed told.closing may.running (NewTableOf c.args.what.now))
 
@@ -45,7 +45,7 @@ returns-in_default-take_room-clause-refused g c =
     let b = g.B.Based.base in
     let told = c.self.invariant.0.told in
     let may : MayMake s.standing s.closed c.args.what.now = on_ok c.check_table.result (MayMake s.standing s.closed c.args.what.now) c.check_table.ensures.ok (λ e is. search rules) in
-    let v : Shown = record { seat = s.seat; entries = s.trail.entries; late = s.late; closed = s.closed } in
+    let v : Shown = shown_of s.seat s.trail.entries s.late s.closed s.groups.items in
     subst (λ (w : Shown). Refuses (define_cause g.B.Founded.sound (NewTableOf c.args.what.now)) (known_by b g.B.Based.damaged w) (record (known_by b g.B.Based.damaged v) { seen = c.take_room.new.trail.entries }) Memory) c.self.view_is
     (subst (λ (es : List Entry). Refuses (define_cause g.B.Founded.sound (NewTableOf c.args.what.now)) (known_by b g.B.Based.damaged v) (record (known_by b g.B.Based.damaged v) { seen = es }) Memory) (sym c.take_room.ensures.same)
     (refused_memory g.B.Founded.sound (known_by b g.B.Based.damaged v) told.legal s.closed told.closing may.running (NewTableOf c.args.what.now)))
@@ -88,8 +88,8 @@ returns-in-Ok-append-clause-ok g c =
     let s = c.self.inside in
     let b = g.B.Based.base in
     let told = c.self.invariant.0.told in
-    let v : Shown = record { seat = s.seat; entries = s.trail.entries; late = s.late; closed = s.closed } in
-    let v' : Shown = record { seat = s.seat; entries = c.push.new.self.entries; late = s.late; closed = s.closed } in
+    let v : Shown = shown_of s.seat s.trail.entries s.late s.closed s.groups.items in
+    let v' : Shown = record v { entries = c.push.new.self.entries } in
     let id = c.in-Ok.parts.group.table.id in
     let m : Answered = record { number = id.0; stamp = 0; at = c.len.result } in
     subst (λ (w : Shown). DidDefine g.B.Founded.sound (known_by b g.B.Based.damaged w) (known_by b g.B.Based.damaged v') (NewTableOf c.args.what.now) m) c.self.view_is
@@ -103,8 +103,8 @@ returns-in-Err-append-clause-refused g c =
     let b = g.B.Based.base in
     let told = c.self.invariant.0.told in
     let may : MayMake s.standing s.closed c.args.what.now = on_ok c.check_table.result (MayMake s.standing s.closed c.args.what.now) c.check_table.ensures.ok (λ e is. search rules) in
-    let v : Shown = record { seat = s.seat; entries = s.trail.entries; late = s.late; closed = s.closed } in
-    let v' : Shown = record { seat = s.seat; entries = c.unwritten.new.trail.entries; late = c.unwritten.new.late; closed = c.unwritten.new.closed } in
+    let v : Shown = shown_of s.seat s.trail.entries s.late s.closed s.groups.items in
+    let v' : Shown = record v { entries = c.unwritten.new.trail.entries; late = c.unwritten.new.late; closed = c.unwritten.new.closed } in
     let calls = g.D.Disk.calls c.append.new.disk in
     subst (λ (w : Shown). Refuses (define_cause g.B.Founded.sound (NewTableOf c.args.what.now)) (known_by b g.B.Based.damaged w) (known_by b g.B.Based.damaged v') c.unwritten.result) c.self.view_is
     (unwritten_refused g.B.Founded.sound (known_by b g.B.Based.damaged v) told.legal s.closed told.closing (NewTableOf c.args.what.now)

@@ -19,7 +19,7 @@ use Rattle.px_calls.specs.declared.fault.StepFault.TheVariants.{Closed, InUse, M
 use Rattle.px_schema.specs.declared.standing.Standing.{Standing}
 use Rattle.px_standing.proofs.Looked.{lacks}
 use Rattle.px_server.specs.Kept.{HasTallied, IsKept}
-use Rattle.px_server.specs.Shown.{Shown, known_by}
+use Rattle.px_server.specs.Shown.{Shown, known_by, shown_of}
 use Rattle.px_server.proofs.Found.{closed_by}
 use Rattle.px_server.proofs.Lists.{all_at}
 use Rattle.px_server.proofs.Released.{group_of, place_in}
@@ -43,7 +43,7 @@ returns-in-Some-clause-refused g c = (let
     in let
     b = g.B.Based.base
     in let
-    v : Shown = record { seat = s.seat; entries = s.trail.entries; late = s.late; closed = s.closed }
+    v : Shown = shown_of s.seat s.trail.entries s.late s.closed s.groups.items
     in
     subst (λ (w : Shown). Refuses (define_cause g.B.Founded.sound (definition.DropIndex c.args.table c.args.index)) (known_by b g.B.Based.damaged w) (known_by b g.B.Based.damaged w) (Closed c.in-Some.call)) c.self.view_is
     (closed_by (known_by b g.B.Based.damaged v) k.told.legal s.closed k.told.closing c.in-Some.call c.in-Some.is))
@@ -56,7 +56,7 @@ returns-in_default-numbered_place-clause-refused g c = (let
     in let
     b = g.B.Based.base
     in let
-    v : Shown = record { seat = s.seat; entries = s.trail.entries; late = s.late; closed = s.closed }
+    v : Shown = shown_of s.seat s.trail.entries s.late s.closed s.groups.items
     in let
     running : s.closed ≡ None = c.in_default.is
     in
@@ -71,7 +71,7 @@ returns-then-not-has_index-clause-refused g c = (let
     in let
     b = g.B.Based.base
     in let
-    v : Shown = record { seat = s.seat; entries = s.trail.entries; late = s.late; closed = s.closed }
+    v : Shown = shown_of s.seat s.trail.entries s.late s.closed s.groups.items
     in let
     running : s.closed ≡ None = c.in_default.is
     in
@@ -91,7 +91,7 @@ returns-then-count-gt0-clause-refused g c = (let
     in let
     b = g.B.Based.base
     in let
-    v : Shown = record { seat = s.seat; entries = s.trail.entries; late = s.late; closed = s.closed }
+    v : Shown = shown_of s.seat s.trail.entries s.late s.closed s.groups.items
     in let
     running : s.closed ≡ None = c.in_default.is
     in let
@@ -114,7 +114,7 @@ returns-in_default-standing_after-clause-refused g c = (let
     in let
     b = g.B.Based.base
     in let
-    v : Shown = record { seat = s.seat; entries = s.trail.entries; late = s.late; closed = s.closed }
+    v : Shown = shown_of s.seat s.trail.entries s.late s.closed s.groups.items
     in let
     running : s.closed ≡ None = c.in_default.is
     in
@@ -129,7 +129,7 @@ returns-in_default-take_entry-clause-refused g c = (let
     in let
     b = g.B.Based.base
     in let
-    v : Shown = record { seat = s.seat; entries = s.trail.entries; late = s.late; closed = s.closed }
+    v : Shown = shown_of s.seat s.trail.entries s.late s.closed s.groups.items
     in let
     running : s.closed ≡ None = c.in_default.is
     in
@@ -145,7 +145,7 @@ append-requires g c = (let
     in let
     b = g.B.Based.base
     in let
-    v : Shown = record { seat = s.seat; entries = s.trail.entries; late = s.late; closed = s.closed }
+    v : Shown = shown_of s.seat s.trail.entries s.late s.closed s.groups.items
     in let
     running : s.closed ≡ None = c.in_default.is
     in let
@@ -163,7 +163,7 @@ invariant_of-self-in-Ok-append g c = (let
     in let
     b = g.B.Based.base
     in let
-    v : Shown = record { seat = s.seat; entries = s.trail.entries; late = s.late; closed = s.closed }
+    v : Shown = shown_of s.seat s.trail.entries s.late s.closed s.groups.items
     in let
     running : s.closed ≡ None = c.in_default.is
     in let
@@ -191,7 +191,7 @@ invariant_of-self-in-Err g c = (let
     in let
     b = g.B.Based.base
     in let
-    v : Shown = record { seat = s.seat; entries = s.trail.entries; late = s.late; closed = s.closed }
+    v : Shown = shown_of s.seat s.trail.entries s.late s.closed s.groups.items
     in let
     running : s.closed ≡ None = c.in_default.is
     in let
@@ -217,7 +217,7 @@ returns-in-Ok-append-clause-ok g c = (let
     in let
     b = g.B.Based.base
     in let
-    v : Shown = record { seat = s.seat; entries = s.trail.entries; late = s.late; closed = s.closed }
+    v : Shown = shown_of s.seat s.trail.entries s.late s.closed s.groups.items
     in let
     running : s.closed ≡ None = c.in_default.is
     in let
@@ -235,7 +235,7 @@ returns-in-Ok-append-clause-ok g c = (let
     in let
     h2_is : c.index_mut.result.now ≡ h = same_there s.groups.items c.in-Some-numbered_place.place c.index_mut.result.now h l (sym c.index_mut.ensures.value) h_is
     in let
-    v' : Shown = record { seat = s.seat; entries = c.push.new.self.entries; late = s.late; closed = s.closed }
+    v' : Shown = record v { entries = c.push.new.self.entries }
     in let
     m : Answered = record { number = c.args.index.0; stamp = 0; at = c.len.result }
     in
@@ -250,7 +250,7 @@ returns-in-Err-clause-refused g c = (let
     in let
     b = g.B.Based.base
     in let
-    v : Shown = record { seat = s.seat; entries = s.trail.entries; late = s.late; closed = s.closed }
+    v : Shown = shown_of s.seat s.trail.entries s.late s.closed s.groups.items
     in let
     running : s.closed ≡ None = c.in_default.is
     in let
@@ -266,7 +266,7 @@ returns-in-Err-clause-refused g c = (let
     in let
     unused : length h.points.items + length h.batches.items ≡ 0 = (let n = c.uses-count.ensures in let z = c.if-count-gt0.false in omega (arith, n, z))
     in let
-    v' : Shown = record { seat = s.seat; entries = c.unwritten.new.trail.entries; late = c.unwritten.new.late; closed = c.unwritten.new.closed }
+    v' : Shown = record v { entries = c.unwritten.new.trail.entries; late = c.unwritten.new.late; closed = c.unwritten.new.closed }
     in
     subst (λ (w : Shown). Refuses (define_cause g.B.Founded.sound (definition.DropIndex c.args.table c.args.index)) (known_by b g.B.Based.damaged w) (known_by b g.B.Based.damaged v') c.unwritten.result) c.self.view_is
     (dropping_refused g.D.Disk g.met.D.Disk.told g.met.D.Disk.up_to_now b g.B.Based.damaged g.B.Founded.sound g.B.Founded.premise g.B.Founded.began s.disk s.catalog s.standing s.groups.items s.trail s.late s.closed k running c.in-Some-numbered_place.place h l h_is s.seat c.take_entry.new.trail c.take_entry.ensures.same c.in-Ok-take_entry.ensures.ok c.append.new.disk c.append.new.self c.append.ensures.counts c.append.ensures.touches c.args.table own c.args.index has unused c.append.ensures.any_moment c.unwritten.new.trail c.unwritten.new.late c.unwritten.new.closed c.in-Err.fault (λ e. c.in-Err.ensures.untouched (elim e [ inl x ↦ inl (ap Err x) | inr x ↦ inr (ap Err x) ])) (λ e. c.in-Err.ensures.failed (ap Err e)) c.unwritten.ensures.kept c.unwritten.ensures.shut c.unwritten.ensures.room c.unwritten.result c.unwritten.ensures.full c.unwritten.ensures.memory c.unwritten.ensures.failed))

@@ -1,4 +1,4 @@
-use Rattle.std.proofs.Common.{◌≡◌, ◌↔◌, ◌≤◌, true, Bool, Option, None, IfOk, Result, ℕ, IsSome, subst, sym, ◌∙◌}
+use Rattle.std.proofs.Common.{◌≡◌, ◌↔◌, ◌≤◌, true, Bool, List, Option, None, IfOk, Result, ℕ, IsSome, ap, map, subst, sym, ◌∙◌}
 use Rattle.std.specs.List.{slice_set}
 use Rattle.std.proofs.lemmas.Bool.{false≢true}
 use Rattle.px_calls.specs.Known.{IsRunning}
@@ -7,9 +7,9 @@ use Rattle.px_tables.specs.declared.table.Table.{Table}
 use Rattle.px_trail.specs.Trail.{horizon_of, table_of}
 use Rattle.px_standing.proofs.Looked.{lacks}
 use Rattle.px_server.specs.Kept.{IsKept}
-use Rattle.px_server.specs.Shown.{Shown, known_by}
+use Rattle.px_server.specs.Shown.{LoggedCells, Shown, known_by, logged_in}
 use Rattle.px_server.specs.inner.Indexing.{HasRowAt}
-use Rattle.px_server.proofs.Looked.{looked_kept}
+use Rattle.px_server.proofs.Looked.{logged_kept, looked_kept}
 use Rattle.px_server.proofs.Released.{group_of, place_in}
 use Rattle.px_server.proofs.RowsThere.{asked}
 use Rattle.px_server.proofs.server.Server.has_row.Goals as goal
@@ -56,3 +56,14 @@ returns-clause-rows g c = (let
     (asked g.B.Founded.sound b s.trail.entries s.standing.indexes s.groups.items c.in-Some.place c.index_mut.result.now place (sym c.index_mut.ensures.value) c.args.table
     (group_of s.groups.items s.standing.tables k.each.stand c.in-Some.place c.index_mut.result.now place (sym c.index_mut.ensures.value) c.args.table c.in-Some.ensures.numbered) c.args.stamp low (λ given. k.shown given running)
     c.is_filled.result c.is_filled.ensures.rows))
+
+pub returns-clause-same : goal.returns-clause-same
+returns-clause-same g c = (let
+    s = c.self.inside
+    in let
+    k = c.self.invariant.0
+    in let
+    logged : map logged_in (slice_set s.groups.items c.in-Some.place c.is_filled.new.group) ≡ map logged_in s.groups.items =
+    logged_kept s.groups.items c.in-Some.place c.index_mut.result.now c.is_filled.new.group (place_in s.groups.items s.standing.tables k.each.stand c.in-Some.place c.in-Some.ensures.found) (sym c.index_mut.ensures.value) c.is_filled.ensures.looked
+    in
+    ap (λ (l : List LoggedCells). record { seat = s.seat; entries = s.trail.entries; late = s.late; closed = s.closed; logged = l }) logged ∙ c.self.view_is)

@@ -11,7 +11,7 @@ use Rattle.px_tables.specs.declared.table.Table.{Table}
 use Rattle.px_trail.specs.Trail.{table_of}
 use Rattle.std.proofs.lemmas.Bool.{false≢true}
 use Rattle.px_server.specs.Kept.{HasTallied}
-use Rattle.px_server.specs.Shown.{Shown, known_by}
+use Rattle.px_server.specs.Shown.{Shown, known_by, shown_of}
 use Rattle.px_server.specs.inner.Indexing.{MayMakeIndex}
 use Rattle.px_server.proofs.IndexCauses.{may_make, name_taken, no_numbers, no_stamp, no_table, not_written, too_many, when_closed}
 use Rattle.px_server.proofs.Lists.{all_at}
@@ -27,7 +27,7 @@ returns-in-Some-clause-refused g c = (let
     in let
     told = c.self.invariant.0.told
     in let
-    v : Shown = record { seat = s.seat; entries = s.trail.entries; late = s.late; closed = s.closed }
+    v : Shown = shown_of s.seat s.trail.entries s.late s.closed s.groups.items
     in
     subst (λ (w : Shown). Refuses (define_cause g.B.Founded.sound (IndexDefinition c.args.what.now)) (known_by g.B.Based.base g.B.Based.damaged w) (known_by g.B.Based.base g.B.Based.damaged w) (Closed c.in-Some.call)) c.self.view_is
     (when_closed (known_by g.B.Based.base g.B.Based.damaged v) told.legal s.closed told.closing g.B.Founded.sound c.args.what.now c.in-Some.call c.in-Some.is))
@@ -38,7 +38,7 @@ returns-in_default-numbered_place-clause-refused g c = (let
     in let
     told = c.self.invariant.0.told
     in let
-    v : Shown = record { seat = s.seat; entries = s.trail.entries; late = s.late; closed = s.closed }
+    v : Shown = shown_of s.seat s.trail.entries s.late s.closed s.groups.items
     in
     subst (λ (w : Shown). Refuses (define_cause g.B.Founded.sound (IndexDefinition c.args.what.now)) (known_by g.B.Based.base g.B.Based.damaged w) (known_by g.B.Based.base g.B.Based.damaged w) NoTable) c.self.view_is
     (no_table (known_by g.B.Based.base g.B.Based.damaged v) told.legal s.closed told.closing g.B.Founded.sound c.args.what.now s.standing told.agrees c.in_default.is c.in_default-numbered_place.ensures.none))
@@ -49,7 +49,7 @@ returns-then-not-is_free-clause-refused g c = (let
     in let
     told = c.self.invariant.0.told
     in let
-    v : Shown = record { seat = s.seat; entries = s.trail.entries; late = s.late; closed = s.closed }
+    v : Shown = shown_of s.seat s.trail.entries s.late s.closed s.groups.items
     in
     subst (λ (w : Shown). Refuses (define_cause g.B.Founded.sound (IndexDefinition c.args.what.now)) (known_by g.B.Based.base g.B.Based.damaged w) (known_by g.B.Based.base g.B.Based.damaged w) NameExists) c.self.view_is
     (name_taken (known_by g.B.Based.base g.B.Based.damaged v) told.legal s.closed told.closing g.B.Founded.sound c.args.what.now s.standing told.agrees c.in_default.is
@@ -61,7 +61,7 @@ returns-then-not-has_room_for_index-clause-refused g c = (let
     in let
     told = c.self.invariant.0.told
     in let
-    v : Shown = record { seat = s.seat; entries = s.trail.entries; late = s.late; closed = s.closed }
+    v : Shown = shown_of s.seat s.trail.entries s.late s.closed s.groups.items
     in
     subst (λ (f : StepFault). Refuses (define_cause g.B.Founded.sound (IndexDefinition c.args.what.now)) (known_by g.B.Based.base g.B.Based.damaged c.args.self.now) (known_by g.B.Based.base g.B.Based.damaged c.args.self.now) f) (sym c.limit.ensures)
     (subst (λ (w : Shown). Refuses (define_cause g.B.Founded.sound (IndexDefinition c.args.what.now)) (known_by g.B.Based.base g.B.Based.damaged w) (known_by g.B.Based.base g.B.Based.damaged w) (Limit bound.Indexes (most_of bound.Indexes))) c.self.view_is
@@ -76,7 +76,7 @@ returns-then-index-most-clause-refused g c = (let
     in let
     told = k.told
     in let
-    v : Shown = record { seat = s.seat; entries = s.trail.entries; late = s.late; closed = s.closed }
+    v : Shown = shown_of s.seat s.trail.entries s.late s.closed s.groups.items
     in let
     l = place_in s.groups.items s.standing.tables k.each.stand c.in-Some-numbered_place.place c.in-Some-numbered_place.ensures.found
     in let
@@ -97,7 +97,7 @@ returns-then-not-has_numbers-clause-refused g c = (let
     in let
     told = c.self.invariant.0.told
     in let
-    v : Shown = record { seat = s.seat; entries = s.trail.entries; late = s.late; closed = s.closed }
+    v : Shown = shown_of s.seat s.trail.entries s.late s.closed s.groups.items
     in
     subst (λ (f : StepFault). Refuses (define_cause g.B.Founded.sound (IndexDefinition c.args.what.now)) (known_by g.B.Based.base g.B.Based.damaged c.args.self.now) (known_by g.B.Based.base g.B.Based.damaged c.args.self.now) f) (sym c.limit-then-not-has_numbers.ensures)
     (subst (λ (w : Shown). Refuses (define_cause g.B.Founded.sound (IndexDefinition c.args.what.now)) (known_by g.B.Based.base g.B.Based.damaged w) (known_by g.B.Based.base g.B.Based.damaged w) (Limit bound.Ids (most_of bound.Ids))) c.self.view_is
@@ -112,7 +112,7 @@ returns-then-has_pending-clause-refused g c = (let
     in let
     told = k.told
     in let
-    v : Shown = record { seat = s.seat; entries = s.trail.entries; late = s.late; closed = s.closed }
+    v : Shown = shown_of s.seat s.trail.entries s.late s.closed s.groups.items
     in let
     l = place_in s.groups.items s.standing.tables k.each.stand c.in-Some-numbered_place.place c.in-Some-numbered_place.ensures.found
     in let
@@ -135,7 +135,7 @@ returns-clause-may g c = (let
     in let
     told = k.told
     in let
-    v : Shown = record { seat = s.seat; entries = s.trail.entries; late = s.late; closed = s.closed }
+    v : Shown = shown_of s.seat s.trail.entries s.late s.closed s.groups.items
     in let
     l = place_in s.groups.items s.standing.tables k.each.stand c.in-Some-numbered_place.place c.in-Some-numbered_place.ensures.found
     in let

@@ -20,7 +20,7 @@ use Rattle.px_calls.specs.declared.fault.StepFault.TheVariants.{Closed, InUse, M
 use Rattle.px_schema.specs.declared.standing.Standing.{Standing}
 use Rattle.px_standing.proofs.Looked.{lacks}
 use Rattle.px_server.specs.Kept.{HasTallied, IsKept}
-use Rattle.px_server.specs.Shown.{Shown, known_by}
+use Rattle.px_server.specs.Shown.{Shown, known_by, shown_of}
 use Rattle.px_server.specs.Stamps.{draw}
 use Rattle.px_server.proofs.Found.{closed_by}
 use Rattle.px_server.proofs.Lists.{all_at}
@@ -44,7 +44,7 @@ unreachable-requires g c = (let
     in let
     b = g.B.Based.base
     in let
-    v : Shown = record { seat = s.seat; entries = s.trail.entries; late = s.late; closed = s.closed }
+    v : Shown = shown_of s.seat s.trail.entries s.late s.closed s.groups.items
     in let
     may : MayMakeIndex (known_by b g.B.Based.damaged v) c.args.what.now = subst (λ (w : Shown). MayMakeIndex (known_by b g.B.Based.damaged w) c.args.what.now) (sym c.self.view_is) c.requires.may
     in let
@@ -60,7 +60,7 @@ next_stamp-stamp-requires g c = (let
     in let
     b = g.B.Based.base
     in let
-    v : Shown = record { seat = s.seat; entries = s.trail.entries; late = s.late; closed = s.closed }
+    v : Shown = shown_of s.seat s.trail.entries s.late s.closed s.groups.items
     in let
     may : MayMakeIndex (known_by b g.B.Based.damaged v) c.args.what.now = subst (λ (w : Shown). MayMakeIndex (known_by b g.B.Based.damaged w) c.args.what.now) (sym c.self.view_is) c.requires.may
     in let
@@ -98,7 +98,7 @@ returns-in-Err-clause-refused g c = (let
     in let
     b = g.B.Based.base
     in let
-    v : Shown = record { seat = s.seat; entries = s.trail.entries; late = s.late; closed = s.closed }
+    v : Shown = shown_of s.seat s.trail.entries s.late s.closed s.groups.items
     in let
     may : MayMakeIndex (known_by b g.B.Based.damaged v) c.args.what.now = subst (λ (w : Shown). MayMakeIndex (known_by b g.B.Based.damaged w) c.args.what.now) (sym c.self.view_is) c.requires.may
     in let
@@ -126,7 +126,7 @@ returns-in_default-take_entry-clause-refused g c = (let
     in let
     b = g.B.Based.base
     in let
-    v : Shown = record { seat = s.seat; entries = s.trail.entries; late = s.late; closed = s.closed }
+    v : Shown = shown_of s.seat s.trail.entries s.late s.closed s.groups.items
     in let
     may : MayMakeIndex (known_by b g.B.Based.damaged v) c.args.what.now = subst (λ (w : Shown). MayMakeIndex (known_by b g.B.Based.damaged w) c.args.what.now) (sym c.self.view_is) c.requires.may
     in let
@@ -162,7 +162,7 @@ returns-in_default-reserve_index-clause-refused g c = (let
     in let
     b = g.B.Based.base
     in let
-    v : Shown = record { seat = s.seat; entries = s.trail.entries; late = s.late; closed = s.closed }
+    v : Shown = shown_of s.seat s.trail.entries s.late s.closed s.groups.items
     in let
     may : MayMakeIndex (known_by b g.B.Based.damaged v) c.args.what.now = subst (λ (w : Shown). MayMakeIndex (known_by b g.B.Based.damaged w) c.args.what.now) (sym c.self.view_is) c.requires.may
     in let
@@ -180,7 +180,7 @@ append-requires g c = (let
     in let
     b = g.B.Based.base
     in let
-    v : Shown = record { seat = s.seat; entries = s.trail.entries; late = s.late; closed = s.closed }
+    v : Shown = shown_of s.seat s.trail.entries s.late s.closed s.groups.items
     in let
     may : MayMakeIndex (known_by b g.B.Based.damaged v) c.args.what.now = subst (λ (w : Shown). MayMakeIndex (known_by b g.B.Based.damaged w) c.args.what.now) (sym c.self.view_is) c.requires.may
     in let
@@ -212,7 +212,7 @@ invariant_of-self-in-Ok-append g c = (let
     in let
     b = g.B.Based.base
     in let
-    v : Shown = record { seat = s.seat; entries = s.trail.entries; late = s.late; closed = s.closed }
+    v : Shown = shown_of s.seat s.trail.entries s.late s.closed s.groups.items
     in let
     may : MayMakeIndex (known_by b g.B.Based.damaged v) c.args.what.now = subst (λ (w : Shown). MayMakeIndex (known_by b g.B.Based.damaged w) c.args.what.now) (sym c.self.view_is) c.requires.may
     in let
@@ -254,7 +254,7 @@ invariant_of-self-in-Err-append g c = (let
     in let
     b = g.B.Based.base
     in let
-    v : Shown = record { seat = s.seat; entries = s.trail.entries; late = s.late; closed = s.closed }
+    v : Shown = shown_of s.seat s.trail.entries s.late s.closed s.groups.items
     in let
     may : MayMakeIndex (known_by b g.B.Based.damaged v) c.args.what.now = subst (λ (w : Shown). MayMakeIndex (known_by b g.B.Based.damaged w) c.args.what.now) (sym c.self.view_is) c.requires.may
     in let
@@ -290,7 +290,7 @@ returns-in-Ok-append-clause-ok g c = (let
     in let
     b = g.B.Based.base
     in let
-    v : Shown = record { seat = s.seat; entries = s.trail.entries; late = s.late; closed = s.closed }
+    v : Shown = shown_of s.seat s.trail.entries s.late s.closed s.groups.items
     in let
     may : MayMakeIndex (known_by b g.B.Based.damaged v) c.args.what.now = subst (λ (w : Shown). MayMakeIndex (known_by b g.B.Based.damaged w) c.args.what.now) (sym c.self.view_is) c.requires.may
     in let
@@ -310,7 +310,7 @@ returns-in-Ok-append-clause-ok g c = (let
     in let
     empty : g.B.Founded.sound → HasState (known_by b g.B.Based.damaged v) c.args.what.now.table.0 → ⊥ = subst (λ (w : Shown). g.B.Founded.sound → HasState (known_by b g.B.Based.damaged w) c.args.what.now.table.0 → ⊥) (sym c.self.view_is) c.requires.empty
     in let
-    v' : Shown = record { seat = s.seat; entries = c.push.new.self.entries; late = s.late; closed = s.closed }
+    v' : Shown = record v { entries = c.push.new.self.entries }
     in let
     m : Answered = record { number = c.in-Ok.made.index.id.0; stamp = c.next_stamp-stamp.result; at = c.len.result }
     in
@@ -325,7 +325,7 @@ returns-in-Err-append-clause-refused g c = (let
     in let
     b = g.B.Based.base
     in let
-    v : Shown = record { seat = s.seat; entries = s.trail.entries; late = s.late; closed = s.closed }
+    v : Shown = shown_of s.seat s.trail.entries s.late s.closed s.groups.items
     in let
     may : MayMakeIndex (known_by b g.B.Based.damaged v) c.args.what.now = subst (λ (w : Shown). MayMakeIndex (known_by b g.B.Based.damaged w) c.args.what.now) (sym c.self.view_is) c.requires.may
     in let
@@ -343,7 +343,7 @@ returns-in-Err-append-clause-refused g c = (let
     in let
     above : h.last < c.next_stamp-stamp.result = (let a = c.next_stamp-stamp.ensures.above in let same = ap (λ (x : Group). x.last) (same_there s.groups.items c.in-Some.place h c.index.result.now l h_is (sym c.index.ensures)) in omega (arith, a, same))
     in let
-    v' : Shown = record { seat = s.seat; entries = c.unwritten.new.trail.entries; late = c.unwritten.new.late; closed = c.unwritten.new.closed }
+    v' : Shown = record v { entries = c.unwritten.new.trail.entries; late = c.unwritten.new.late; closed = c.unwritten.new.closed }
     in
     subst (λ (w : Shown). Refuses (define_cause g.B.Founded.sound (definition.Index c.args.what.now)) (known_by b g.B.Based.damaged w) (known_by b g.B.Based.damaged v') c.unwritten.result) c.self.view_is
     (making_refused g.D.Disk g.met.D.Disk.told g.met.D.Disk.up_to_now b g.B.Based.damaged g.B.Founded.sound g.B.Founded.premise g.B.Founded.began s.disk s.catalog s.standing s.groups.items s.trail s.late s.closed k running c.in-Some.place h l h_is s.seat c.take_entry.new.trail c.take_entry.ensures.same c.in-Ok-take_entry.ensures.ok c.append.new.disk c.append.new.self c.append.ensures.counts c.append.ensures.touches c.args.what.now own may fit c.next_stamp-stamp.result above c.next_stamp-stamp.ensures.most c.in-Ok.made c.in-Ok.ensures.ok c.reserve_index.new.group c.reserve_index.ensures.same c.append.ensures.any_moment c.unwritten.new.trail c.unwritten.new.late c.unwritten.new.closed c.in-Err-append.fault (λ e. c.in-Err-append.ensures.untouched (elim e [ inl x ↦ inl (ap Err x) | inr x ↦ inr (ap Err x) ])) (λ e. c.in-Err-append.ensures.failed (ap Err e)) c.unwritten.ensures.kept c.unwritten.ensures.shut c.unwritten.ensures.room c.unwritten.result c.unwritten.ensures.full c.unwritten.ensures.memory c.unwritten.ensures.failed))

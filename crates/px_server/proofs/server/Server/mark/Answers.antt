@@ -13,7 +13,7 @@ use Rattle.px_group.specs.declared.group.Begun.{Begun}
 use Rattle.px_group.specs.declared.group.Group.{Group}
 use Rattle.px_group.specs.declared.group.Phase.TheVariants.{Marking}
 use Rattle.px_server.specs.Kept.{IsKept}
-use Rattle.px_server.specs.Shown.{Shown, known_by}
+use Rattle.px_server.specs.Shown.{Shown, known_by, shown_of}
 use Rattle.px_server.proofs.Found.{closed_by}
 use Rattle.px_server.proofs.MarkSteps.{marked_all, marked_more, marks_all, marks_kept, marks_shut}
 use Rattle.px_server.proofs.Seen.{one_more, stays}
@@ -26,7 +26,7 @@ returns-in-Some-clause-refused g c =
     let s = c.self.inside in
     let b = g.B.Based.base in
     let told = c.self.invariant.0.told in
-    let v : Shown = record { seat = s.seat; entries = s.trail.entries; late = s.late; closed = s.closed } in
+    let v : Shown = shown_of s.seat s.trail.entries s.late s.closed s.groups.items in
     subst (λ (w : Shown). Refuses write_cause (known_by b g.B.Based.damaged w) (known_by b g.B.Based.damaged w) (Closed c.in-Some.call)) c.self.view_is
     (closed_by (known_by b g.B.Based.damaged v) told.legal s.closed told.closing c.in-Some.call c.in-Some.is)
 
@@ -106,7 +106,7 @@ pub returns-in-More-clause-ok : goal.returns-in-More-clause-ok
 returns-in-More-clause-ok g c =
     let s = c.self.inside in
     let told = c.self.invariant.0.told in
-    let v : Shown = record { seat = s.seat; entries = s.trail.entries; late = s.late; closed = s.closed } in
+    let v : Shown = shown_of s.seat s.trail.entries s.late s.closed s.groups.items in
     subst (λ (w : Shown). Finds (known_by g.B.Based.base g.B.Based.damaged w) (known_by g.B.Based.base g.B.Based.damaged v)) c.self.view_is
     (record { sees = stays (known_by g.B.Based.base g.B.Based.damaged v) told.legal; running = told.closing ∙ c.in_default.is })
 
@@ -114,8 +114,8 @@ pub returns-in-AllMarked-clause-ok : goal.returns-in-AllMarked-clause-ok
 returns-in-AllMarked-clause-ok g c =
     let s = c.self.inside in
     let told = c.self.invariant.0.told in
-    let v : Shown = record { seat = s.seat; entries = s.trail.entries; late = s.late; closed = s.closed } in
-    let v' : Shown = record { seat = s.seat; entries = c.push.new.self.entries; late = s.late; closed = s.closed } in
+    let v : Shown = shown_of s.seat s.trail.entries s.late s.closed s.groups.items in
+    let v' : Shown = record v { entries = c.push.new.self.entries } in
     let act = PhaseAct c.args.t.now.table c.args.t.now.stamp 1 in
     subst (λ (w : Shown). Adds (known_by g.B.Based.base g.B.Based.damaged w) (known_by g.B.Based.base g.B.Based.damaged v') act) c.self.view_is
     (one_more (known_by g.B.Based.base g.B.Based.damaged v) c.push.new.self.entries c.call_count-calls.result act told.legal
@@ -125,8 +125,8 @@ pub returns-in-Err-clause-refused : goal.returns-in-Err-clause-refused
 returns-in-Err-clause-refused g c =
     let s = c.self.inside in
     let told = c.self.invariant.0.told in
-    let v : Shown = record { seat = s.seat; entries = s.trail.entries; late = s.late; closed = s.closed } in
-    let v' : Shown = record { seat = s.seat; entries = c.shut.new.trail.entries; late = s.late; closed = Some c.call_count-calls.result } in
+    let v : Shown = shown_of s.seat s.trail.entries s.late s.closed s.groups.items in
+    let v' : Shown = record v { entries = c.shut.new.trail.entries; closed = Some c.call_count-calls.result } in
     let act = Shut c.call_count-calls.result in (
       tt,
       (

@@ -10,7 +10,7 @@ use Rattle.px_trail.specs.Recorded.{Recorded}
 use Rattle.px_group.specs.declared.group.Group.{Group}
 use Rattle.px_standing.proofs.Looked.{lacks}
 use Rattle.px_server.specs.Points.{IsPointOf}
-use Rattle.px_server.specs.Shown.{Shown, known_by}
+use Rattle.px_server.specs.Shown.{Shown, known_by, shown_of}
 use Rattle.px_server.proofs.Found.{closed_by}
 use Rattle.px_server.proofs.PointOpened.{did_open, no_point, one_there, open_no_memory, open_no_table, opens, opens_none, own, right_here, told_here}
 use Rattle.px_server.proofs.Released.{none_of, place_in}
@@ -22,7 +22,7 @@ returns-in-Some-clause-refused g c =
     let s = c.self.inside in
     let b = g.B.Based.base in
     let told = c.self.invariant.0.told in
-    let v : Shown = record { seat = s.seat; entries = s.trail.entries; late = s.late; closed = s.closed } in
+    let v : Shown = shown_of s.seat s.trail.entries s.late s.closed s.groups.items in
     subst (λ (w : Shown). Refuses (open_cause c.args.table.0 c.args.scn) (known_by b g.B.Based.damaged w) (known_by b g.B.Based.damaged w) (Closed c.in-Some.call)) c.self.view_is
     (closed_by (known_by b g.B.Based.damaged v) told.legal s.closed told.closing c.in-Some.call c.in-Some.is)
 
@@ -31,7 +31,7 @@ returns-in_default-numbered_place-clause-refused g c =
     let s = c.self.inside in
     let b = g.B.Based.base in
     let told = c.self.invariant.0.told in
-    let v : Shown = record { seat = s.seat; entries = s.trail.entries; late = s.late; closed = s.closed } in
+    let v : Shown = shown_of s.seat s.trail.entries s.late s.closed s.groups.items in
     let running : s.closed ≡ None = none_of s.closed (λ x is. search rules) in
     subst (λ (w : Shown). Refuses (open_cause c.args.table.0 c.args.scn) (known_by b g.B.Based.damaged w) (known_by b g.B.Based.damaged w) NoTable) c.self.view_is
     (open_no_table (known_by b g.B.Based.damaged v) told.legal s.closed told.closing running c.args.table.0 c.args.scn (lacks b s.trail.entries s.standing told.agrees c.args.table.0 c.in_default-numbered_place.ensures.none))
@@ -42,7 +42,7 @@ returns-in_err-stamp-clause-refused g c =
     let b = g.B.Based.base in
     let kept = c.self.invariant.0 in
     let told = kept.told in
-    let v : Shown = record { seat = s.seat; entries = s.trail.entries; late = s.late; closed = s.closed } in
+    let v : Shown = shown_of s.seat s.trail.entries s.late s.closed s.groups.items in
     let running : s.closed ≡ None = none_of s.closed (λ x is. search rules) in
     let place = c.in-Some-numbered_place in
     let p = err_from_is_err_and c.from_residual.result c.from_residual.ensures.1 in
@@ -62,7 +62,7 @@ returns-in_default-found-clause-refused g c =
     let s = c.self.inside in
     let b = g.B.Based.base in
     let told = c.self.invariant.0.told in
-    let v : Shown = record { seat = s.seat; entries = s.trail.entries; late = s.late; closed = s.closed } in
+    let v : Shown = shown_of s.seat s.trail.entries s.late s.closed s.groups.items in
     let running : s.closed ≡ None = none_of s.closed (λ x is. search rules) in
     subst (λ (w : Shown). Refuses (open_cause c.args.table.0 c.args.scn) (known_by b g.B.Based.damaged w) (known_by b g.B.Based.damaged w) Memory) c.self.view_is
     (open_no_memory (known_by b g.B.Based.damaged v) told.legal s.closed told.closing running c.args.table.0 c.args.scn)
@@ -83,11 +83,11 @@ returns-in-Err-clause-refused g c =
     let s = c.self.inside in
     let b = g.B.Based.base in
     let told = c.self.invariant.0.told in
-    let v : Shown = record { seat = s.seat; entries = s.trail.entries; late = s.late; closed = s.closed } in
+    let v : Shown = shown_of s.seat s.trail.entries s.late s.closed s.groups.items in
     let running : s.closed ≡ None = none_of s.closed (λ x is. search rules) in
     let trail : c.note_point.new.trail ≡ s.trail = search rules in
-    subst (λ (f : StepFault). Refuses (open_cause c.args.table.0 c.args.scn) (known_by b g.B.Based.damaged c.args.self.now) (known_by b g.B.Based.damaged (record { seat = s.seat; entries = c.note_point.new.trail.entries; late = s.late; closed = s.closed })) f) (sym c.in-Err.ensures.memory)
-    (subst (λ (r : Recorded). Refuses (open_cause c.args.table.0 c.args.scn) (known_by b g.B.Based.damaged c.args.self.now) (known_by b g.B.Based.damaged (record { seat = s.seat; entries = r.entries; late = s.late; closed = s.closed })) Memory) (sym trail)
+    subst (λ (f : StepFault). Refuses (open_cause c.args.table.0 c.args.scn) (known_by b g.B.Based.damaged c.args.self.now) (known_by b g.B.Based.damaged (record v { entries = c.note_point.new.trail.entries })) f) (sym c.in-Err.ensures.memory)
+    (subst (λ (r : Recorded). Refuses (open_cause c.args.table.0 c.args.scn) (known_by b g.B.Based.damaged c.args.self.now) (known_by b g.B.Based.damaged (record v { entries = r.entries })) Memory) (sym trail)
     (subst (λ (w : Shown). Refuses (open_cause c.args.table.0 c.args.scn) (known_by b g.B.Based.damaged w) (known_by b g.B.Based.damaged v) Memory) c.self.view_is
     (open_no_memory (known_by b g.B.Based.damaged v) told.legal s.closed told.closing running c.args.table.0 c.args.scn)))
 
@@ -119,8 +119,8 @@ returns-clause-ok g c =
     let same : c.index.result.now ≡ c.index_mut.result.now = one_there s.groups.items place.place c.index.result.now c.index_mut.result.now inside (sym c.index.ensures) (sym c.index_mut.ensures.value) in
     let point = subst (λ (x : Group). IsPointOf x c.args.scn c.in_ok-stamp.stamp) same c.in_ok-stamp.ensures.point in
     let f : Found = record { table = c.in-Ok.found.table; indexes = c.in-Ok.found.indexes; at = c.len-2.result } in
-    let v : Shown = record { seat = s.seat; entries = s.trail.entries; late = s.late; closed = s.closed } in
-    let v' : Shown = record { seat = s.seat; entries = c.note_point.new.trail.entries; late = s.late; closed = s.closed } in
+    let v : Shown = shown_of s.seat s.trail.entries s.late s.closed s.groups.items in
+    let v' : Shown = record v { entries = c.note_point.new.trail.entries } in
     subst (λ (w : Shown). DidOpen (known_by b g.B.Based.damaged w) (known_by b g.B.Based.damaged v') c.args.table c.args.scn (record { table = c.args.table; stamp = c.in_ok-stamp.stamp; scn = c.is_some-scn.result; found = f })) c.self.view_is
     (subst (λ (q : Bool). DidOpen (known_by b g.B.Based.damaged v) (known_by b g.B.Based.damaged v') c.args.table c.args.scn (record { table = c.args.table; stamp = c.in_ok-stamp.stamp; scn = q; found = f })) (sym c.is_some-scn.ensures)
     (did_open g.D.Disk b g.B.Founded.sound g.B.Founded.premise g.B.Founded.began s.disk s.catalog s.standing s.groups.items s.trail s.late s.closed kept running c.args.table place.place c.index_mut.result.now place.ensures.found place.ensures.numbered (sym c.index_mut.ensures.value)

@@ -6,11 +6,11 @@ use Rattle.px_standing.proofs.Looked.{lacks}
 use Rattle.px_tables.specs.declared.index.Index.{Index}
 use Rattle.px_recovery.specs.Tables.{indexes_of}
 use Rattle.px_server.specs.Counts.{count_as}
-use Rattle.px_server.specs.Shown.{Shown, known_by}
+use Rattle.px_server.specs.Shown.{HasLogged, Shown, known_by, shown_of}
 use Rattle.px_server.proofs.Found.{closed_by}
-use Rattle.px_server.proofs.Counted.{counts_no_memory, counts_no_table, did_count}
+use Rattle.px_server.proofs.Counted.{counts_no_memory, counts_no_table, did_count, has_logged}
 use Rattle.px_server.proofs.PointOpened.{own, told_here}
-use Rattle.px_server.proofs.Released.{none_of}
+use Rattle.px_server.proofs.Released.{none_of, place_in}
 use Rattle.px_server.proofs.server.Server.status.Goals.{in-Ok, in-Err}
 use Rattle.px_server.proofs.server.Server.status.Goals as goal
 
@@ -19,7 +19,7 @@ returns-in-Some-clause-refused g c =
     let s = c.self.inside in
     let b = g.B.Based.base in
     let told = c.self.invariant.0.told in
-    let v : Shown = record { seat = s.seat; entries = s.trail.entries; late = s.late; closed = s.closed } in
+    let v : Shown = shown_of s.seat s.trail.entries s.late s.closed s.groups.items in
     subst (λ (w : Shown). Refuses (status_cause c.args.table.0) (known_by b g.B.Based.damaged w) (known_by b g.B.Based.damaged w) (Closed c.in-Some.call)) c.self.view_is
     (closed_by (known_by b g.B.Based.damaged v) told.legal s.closed told.closing c.in-Some.call c.in-Some.is)
 
@@ -28,7 +28,7 @@ returns-in_default-numbered_place-clause-refused g c =
     let s = c.self.inside in
     let b = g.B.Based.base in
     let told = c.self.invariant.0.told in
-    let v : Shown = record { seat = s.seat; entries = s.trail.entries; late = s.late; closed = s.closed } in
+    let v : Shown = shown_of s.seat s.trail.entries s.late s.closed s.groups.items in
     let running : s.closed ≡ None = none_of s.closed (λ x is. search rules) in
     subst (λ (w : Shown). Refuses (status_cause c.args.table.0) (known_by b g.B.Based.damaged w) (known_by b g.B.Based.damaged w) NoTable) c.self.view_is
     (counts_no_table (known_by b g.B.Based.damaged v) told.legal s.closed told.closing running s.standing told.agrees c.args.table (lacks b s.trail.entries s.standing told.agrees c.args.table.0 c.in_default-numbered_place.ensures.none))
@@ -39,7 +39,7 @@ returns-clause-ok g c =
     let b = g.B.Based.base in
     let kept = c.self.invariant.0 in
     let told = kept.told in
-    let v : Shown = record { seat = s.seat; entries = s.trail.entries; late = s.late; closed = s.closed } in
+    let v : Shown = shown_of s.seat s.trail.entries s.late s.closed s.groups.items in
     let running : s.closed ≡ None = none_of s.closed (λ x is. search rules) in
     let place = c.in-Some-numbered_place in
     elim c.match-counts_of.branch [
@@ -53,12 +53,28 @@ returns-clause-ok g c =
       | in-Err w ↦ rw w.result-is tt
     ]
 
+pub returns-clause-counted : goal.returns-clause-counted
+returns-clause-counted g c =
+    let s = c.self.inside in
+    let b = g.B.Based.base in
+    let kept = c.self.invariant.0 in
+    let running : s.closed ≡ None = none_of s.closed (λ x is. search rules) in
+    let place = c.in-Some-numbered_place in
+    let inside = place_in s.groups.items s.standing.tables kept.each.stand place.place place.ensures.found in
+    elim c.match-counts_of.branch [
+      | in-Ok w ↦ rw w.result-is (subst (λ (u : Shown). HasLogged u.logged c.args.table.0 w.cells_in.result) c.self.view_is
+          (has_logged s.groups.items place.place c.index-group.result.now inside (sym c.index-group.ensures) c.args.table
+          (own g.D.Disk b g.B.Founded.sound g.B.Founded.premise g.B.Founded.began s.disk s.catalog s.standing s.groups.items s.trail s.late s.closed kept running c.args.table place.place c.index-group.result.now place.ensures.found place.ensures.numbered (sym c.index-group.ensures))
+          w.cells_in.result w.cells_in.ensures))
+      | in-Err w ↦ rw w.result-is tt
+    ]
+
 pub returns-clause-refused : goal.returns-clause-refused
 returns-clause-refused g c =
     let s = c.self.inside in
     let b = g.B.Based.base in
     let told = c.self.invariant.0.told in
-    let v : Shown = record { seat = s.seat; entries = s.trail.entries; late = s.late; closed = s.closed } in
+    let v : Shown = shown_of s.seat s.trail.entries s.late s.closed s.groups.items in
     let running : s.closed ≡ None = none_of s.closed (λ x is. search rules) in
     elim c.match-counts_of.branch [
       | in-Ok w ↦ rw w.result-is tt

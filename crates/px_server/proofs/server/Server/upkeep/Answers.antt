@@ -5,7 +5,7 @@ use Rattle.px_calls.specs.Causes.{Refuses, upkeep_cause}
 use Rattle.px_calls.specs.declared.fault.StepFault.TheVariants.{Closed, Memory, WriteFault}
 use Rattle.px_calls.specs.declared.status.Work.TheVariants.{Did, Idle}
 use Rattle.px_group.specs.declared.group.Group.{Group}
-use Rattle.px_server.specs.Shown.{Shown, known_by}
+use Rattle.px_server.specs.Shown.{Shown, known_by, shown_of}
 use Rattle.px_server.proofs.Found.{closed_by}
 use Rattle.px_server.proofs.Stamping.{more_by_clock}
 use Rattle.px_server.proofs.Stepped.{did_work, stepped, stopped, work_failed, work_no_memory}
@@ -16,7 +16,7 @@ returns-in-Some-clause-refused g c =
     let s = c.self.inside in
     let b = g.B.Based.base in
     let told = c.self.invariant.0.told in
-    let v : Shown = record { seat = s.seat; entries = s.trail.entries; late = s.late; closed = s.closed } in
+    let v : Shown = shown_of s.seat s.trail.entries s.late s.closed s.groups.items in
     subst (λ (w : Shown). Refuses upkeep_cause (known_by b g.B.Based.damaged w) (known_by b g.B.Based.damaged w) (Closed c.in-Some.call)) c.self.view_is
     (closed_by (known_by b g.B.Based.damaged v) told.legal s.closed told.closing c.in-Some.call c.in-Some.is)
 
@@ -25,7 +25,7 @@ returns-in_default-unlogged_table-clause-ok g c =
     let s = c.self.inside in
     let b = g.B.Based.base in
     let told = c.self.invariant.0.told in
-    let v : Shown = record { seat = s.seat; entries = s.trail.entries; late = s.late; closed = s.closed } in
+    let v : Shown = shown_of s.seat s.trail.entries s.late s.closed s.groups.items in
     subst (λ (w : Shown). DidWork (known_by b g.B.Based.damaged w) (known_by b g.B.Based.damaged w) Idle) c.self.view_is (did_work (known_by b g.B.Based.damaged v) told.legal (told.closing ∙ c.in_default.is) Idle)
 
 pub invariant_of-self : goal.invariant_of-self
@@ -58,7 +58,7 @@ returns-in-Ok-clause-ok g c =
     let s = c.self.inside in
     let b = g.B.Based.base in
     let told = c.self.invariant.0.told in
-    let v : Shown = record { seat = s.seat; entries = s.trail.entries; late = s.late; closed = s.closed } in
+    let v : Shown = shown_of s.seat s.trail.entries s.late s.closed s.groups.items in
     subst (λ (w : Shown). DidWork (known_by b g.B.Based.damaged w) (known_by b g.B.Based.damaged v) Did) c.self.view_is (did_work (known_by b g.B.Based.damaged v) told.legal (told.closing ∙ c.in_default.is) Did)
 
 pub returns-in-Err-Memory-clause-refused : goal.returns-in-Err-Memory-clause-refused
@@ -66,7 +66,7 @@ returns-in-Err-Memory-clause-refused g c =
     let s = c.self.inside in
     let b = g.B.Based.base in
     let told = c.self.invariant.0.told in
-    let v : Shown = record { seat = s.seat; entries = s.trail.entries; late = s.late; closed = s.closed } in
+    let v : Shown = shown_of s.seat s.trail.entries s.late s.closed s.groups.items in
     subst (λ (w : Shown). Refuses upkeep_cause (known_by b g.B.Based.damaged w) (known_by b g.B.Based.damaged v) Memory) c.self.view_is (work_no_memory (known_by b g.B.Based.damaged v) told.legal (told.closing ∙ c.in_default.is))
 
 pub returns-in-Err-WriteFault-clause-refused : goal.returns-in-Err-WriteFault-clause-refused
@@ -74,7 +74,7 @@ returns-in-Err-WriteFault-clause-refused g c =
     let s = c.self.inside in
     let b = g.B.Based.base in
     let told = c.self.invariant.0.told in
-    let v : Shown = record { seat = s.seat; entries = s.trail.entries; late = s.late; closed = s.closed } in
-    let v' : Shown = record { seat = s.seat; entries = c.shut.new.trail.entries; late = s.late; closed = Some c.call_count-calls.result } in
+    let v : Shown = shown_of s.seat s.trail.entries s.late s.closed s.groups.items in
+    let v' : Shown = record v { entries = c.shut.new.trail.entries; closed = Some c.call_count-calls.result } in
     subst (λ (w : Shown). Refuses upkeep_cause (known_by b g.B.Based.damaged w) (known_by b g.B.Based.damaged v') WriteFault) c.self.view_is
     (work_failed (known_by b g.B.Based.damaged v) told.legal c.shut.new.trail.entries c.call_count-calls.result c.call_count-calls.result c.shut.ensures.entries (invariant_of-self-in-Err-WriteFault g c).0.told.legal)

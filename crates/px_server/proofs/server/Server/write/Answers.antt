@@ -14,7 +14,7 @@ use Rattle.px_group.specs.declared.group.Begun.{Begun}
 use Rattle.px_group.specs.declared.group.Phase.TheVariants.{Writing}
 use Rattle.px_batching.specs.Steps.{IsBlocked, IsFree}
 use Rattle.px_server.specs.Kept.{IsKept}
-use Rattle.px_server.specs.Shown.{Shown, known_by}
+use Rattle.px_server.specs.Shown.{Shown, known_by, shown_of}
 use Rattle.px_server.proofs.Found.{closed_by}
 use Rattle.px_server.proofs.RowsTold.{blocked_waits, did_write, not_yet, unwritten_kept, write_failed, writing_there, wrote_in, wrote_kept}
 use Rattle.px_server.proofs.Stamping.{more_by_clock}
@@ -27,7 +27,7 @@ returns-in-Some-clause-refused g c =
     let b = g.B.Based.base in
     let told = c.self.invariant.0.told in
     let t = c.args.t.now in
-    let v : Shown = record { seat = s.seat; entries = s.trail.entries; late = s.late; closed = s.closed } in
+    let v : Shown = shown_of s.seat s.trail.entries s.late s.closed s.groups.items in
     subst (λ (w : Shown). Refuses (rows_cause t.table.0 t.stamp) (known_by b g.B.Based.damaged w) (known_by b g.B.Based.damaged w) (Closed c.in-Some.call)) c.self.view_is
     (closed_by (known_by b g.B.Based.damaged v) told.legal s.closed told.closing c.in-Some.call c.in-Some.is)
 
@@ -36,7 +36,7 @@ unreachable-requires g c =
     let s = c.self.inside in
     let b = g.B.Based.base in
     let t = c.args.t.now in
-    let v : Shown = record { seat = s.seat; entries = s.trail.entries; late = s.late; closed = s.closed } in
+    let v : Shown = shown_of s.seat s.trail.entries s.late s.closed s.groups.items in
     let mine : IsIn s.trail.entries s.seat t.table.0 t.stamp InWriting = ticket_in b g.B.Based.damaged t InWriting v c.args.self.now c.self.view_is c.requires in
     stands_somewhere g.D.Disk b g.B.Founded.sound g.B.Founded.premise g.B.Founded.began s.disk s.catalog s.standing s.groups.items s.trail s.late s.closed c.self.invariant.0 t s.seat Writing mine (in_writing mine.batch mine.phase).0 c.in_default-numbered_place.ensures.none
 
@@ -45,7 +45,7 @@ unreachable-requires-in_default-batch_place g c =
     let s = c.self.inside in
     let b = g.B.Based.base in
     let t = c.args.t.now in
-    let v : Shown = record { seat = s.seat; entries = s.trail.entries; late = s.late; closed = s.closed } in
+    let v : Shown = shown_of s.seat s.trail.entries s.late s.closed s.groups.items in
     let mine : IsIn s.trail.entries s.seat t.table.0 t.stamp InWriting = ticket_in b g.B.Based.damaged t InWriting v c.args.self.now c.self.view_is c.requires in
     batch_somewhere g.D.Disk b g.B.Founded.sound g.B.Founded.premise g.B.Founded.began s.disk s.catalog s.standing s.groups.items s.trail s.late s.closed c.self.invariant.0 t s.seat Writing mine (in_writing mine.batch mine.phase).0
     c.in_default.is c.in-Some-numbered_place.place c.in-Some-numbered_place.ensures.found c.in-Some-numbered_place.ensures.numbered c.index.result.now c.index.ensures c.in_default-batch_place.ensures.none
@@ -56,7 +56,7 @@ returns-in-Some-blocker-clause-refused g c =
     let b = g.B.Based.base in
     let told = c.self.invariant.0.told in
     let t = c.args.t.now in
-    let v : Shown = record { seat = s.seat; entries = s.trail.entries; late = s.late; closed = s.closed } in
+    let v : Shown = shown_of s.seat s.trail.entries s.late s.closed s.groups.items in
     let mine : IsIn s.trail.entries s.seat t.table.0 t.stamp InWriting = ticket_in b g.B.Based.damaged t InWriting v c.args.self.now c.self.view_is c.requires in
     let place = c.in-Some-numbered_place.place in
     let m = c.in-Some-batch_place.batch in
@@ -77,7 +77,7 @@ write-outcome-requires-clause-writing g c =
     let b = g.B.Based.base in
     let told = c.self.invariant.0.told in
     let t = c.args.t.now in
-    let v : Shown = record { seat = s.seat; entries = s.trail.entries; late = s.late; closed = s.closed } in
+    let v : Shown = shown_of s.seat s.trail.entries s.late s.closed s.groups.items in
     let mine : IsIn s.trail.entries s.seat t.table.0 t.stamp InWriting = ticket_in b g.B.Based.damaged t InWriting v c.args.self.now c.self.view_is c.requires in
     let place = c.in-Some-numbered_place.place in
     let m = c.in-Some-batch_place.batch in
@@ -100,7 +100,7 @@ invariant_of-self g c =
     let b = g.B.Based.base in
     let told = c.self.invariant.0.told in
     let t = c.args.t.now in
-    let v : Shown = record { seat = s.seat; entries = s.trail.entries; late = s.late; closed = s.closed } in
+    let v : Shown = shown_of s.seat s.trail.entries s.late s.closed s.groups.items in
     let mine : IsIn s.trail.entries s.seat t.table.0 t.stamp InWriting = ticket_in b g.B.Based.damaged t InWriting v c.args.self.now c.self.view_is c.requires in
     let place = c.in-Some-numbered_place.place in
     let m = c.in-Some-batch_place.batch in
@@ -126,7 +126,7 @@ invariant_of-self-in-Err g c =
     let b = g.B.Based.base in
     let told = c.self.invariant.0.told in
     let t = c.args.t.now in
-    let v : Shown = record { seat = s.seat; entries = s.trail.entries; late = s.late; closed = s.closed } in
+    let v : Shown = shown_of s.seat s.trail.entries s.late s.closed s.groups.items in
     let mine : IsIn s.trail.entries s.seat t.table.0 t.stamp InWriting = ticket_in b g.B.Based.damaged t InWriting v c.args.self.now c.self.view_is c.requires in
     let place = c.in-Some-numbered_place.place in
     let m = c.in-Some-batch_place.batch in
@@ -154,7 +154,7 @@ returns-in-Ok-clause-ok g c =
     let b = g.B.Based.base in
     let told = c.self.invariant.0.told in
     let t = c.args.t.now in
-    let v : Shown = record { seat = s.seat; entries = s.trail.entries; late = s.late; closed = s.closed } in
+    let v : Shown = shown_of s.seat s.trail.entries s.late s.closed s.groups.items in
     let mine : IsIn s.trail.entries s.seat t.table.0 t.stamp InWriting = ticket_in b g.B.Based.damaged t InWriting v c.args.self.now c.self.view_is c.requires in
     let place = c.in-Some-numbered_place.place in
     let m = c.in-Some-batch_place.batch in
@@ -168,7 +168,7 @@ returns-in-Ok-clause-ok g c =
     let l : m < length y.batches.items = subst (λ (x : Group). m < length x.batches.items) (sym one) c.in-Some-batch_place.ensures.found.0 in
     let stamp : (x : Begun) → slice_get y.batches.items m ≡ Some x → x.batch.stamp ≡ t.stamp = subst (λ (z : Group). (x : Begun) → slice_get z.batches.items m ≡ Some x → x.batch.stamp ≡ t.stamp) (sym one) c.in-Some-batch_place.ensures.found.1 in
     let after : c.push.new.self.entries ≡ s.trail.entries ++ record { seat = s.seat; calls = c.call_count-calls.result; act = Wrote t.table t.stamp c.in-Ok.rows } ∷ [] = c.push.ensures.entries ∙ ap (λ (e : Entry). s.trail.entries ++ e ∷ []) c.wrote.ensures in
-    let v' : Shown = record { seat = s.seat; entries = c.push.new.self.entries; late = s.late; closed = s.closed } in
+    let v' : Shown = record v { entries = c.push.new.self.entries } in
     let next : IsIn c.push.new.self.entries s.seat t.table.0 t.stamp InVerifying = subst (λ (es : List Entry). IsIn es s.seat t.table.0 t.stamp InVerifying) (sym after)
     (wrote_in g.D.Disk g.met.D.Disk.told g.met.D.Disk.up_to_now b g.B.Founded.sound g.B.Founded.premise g.B.Founded.began s.disk s.catalog s.standing s.groups.items s.trail s.late s.closed c.self.invariant.0 t s.seat mine
     c.in_default.is place c.in-Some-numbered_place.ensures.found c.in-Some-numbered_place.ensures.numbered y c.index_mut-group.ensures.value m l stamp
@@ -182,7 +182,7 @@ returns-in-Err-clause-refused g c =
     let b = g.B.Based.base in
     let told = c.self.invariant.0.told in
     let t = c.args.t.now in
-    let v : Shown = record { seat = s.seat; entries = s.trail.entries; late = s.late; closed = s.closed } in
-    let v' : Shown = record { seat = s.seat; entries = c.shut.new.trail.entries; late = c.keep.new.late; closed = Some c.call_count-calls.result } in
+    let v : Shown = shown_of s.seat s.trail.entries s.late s.closed s.groups.items in
+    let v' : Shown = record v { entries = c.shut.new.trail.entries; late = c.keep.new.late; closed = Some c.call_count-calls.result } in
     subst (λ (w : Shown). Refuses (rows_cause t.table.0 t.stamp) (known_by b g.B.Based.damaged w) (known_by b g.B.Based.damaged v') WriteFault) c.self.view_is
     (write_failed (known_by b g.B.Based.damaged v) told.legal t c.shut.new.trail.entries c.call_count-calls.result c.call_count-calls.result c.shut.ensures.entries (invariant_of-self-in-Err g c).0.told.legal)

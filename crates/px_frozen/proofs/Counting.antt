@@ -1,0 +1,98 @@
+-- Batches between two numbers.
+use Rattle.std.proofs.Common.{◌≡◌, ◌⊎◌, ℕ, ◌+◌, ◌<◌, ◌≤◌, Bool, true, false, ltb, leb, List, [], ◌∷◌, ◌++◌, refl, sym, ap, ◌∙◌, arith, inl, inr}
+use Rattle.std.specs.Prelude.{filter, nat_le, nat_lt, ◌&&◌}
+use Rattle.std.specs.List.{AllByRecursion}
+use Rattle.std.proofs.lemmas.Bool.{cases_Bool, cases_lt, lt-ltb, le-ltb, le-leb, lt-leb}
+use Rattle.px_wal.specs.Batches.{AreRising, Batch, above, between}
+use Rattle.px_wal.specs.Form.{byte_count, cell_count, last_of}
+use Rattle.px_wal.proofs.Cuts.{above_drop, above_take}
+
+between_take : (m n : ℕ) (b : Batch) (batches : List Batch) → m < b.number → b.number ≤ n → between m n (b ∷ batches) ≡ b ∷ between m n batches
+between_take m n b batches l k =
+    let e : ltb m b.number ≡ true = lt-ltb m b.number l in
+    let f : leb b.number n ≡ true = le-leb b.number n k in
+    rw (e, f) refl
+
+outside : (m n : ℕ) (b : Batch) → (b.number ≤ m) ⊎ (n < b.number) → (nat_lt m b.number && nat_le b.number n) ≡ false
+outside m n b (inl low) = (let e : ltb m b.number ≡ false = le-ltb m b.number low in rw e refl)
+outside m n b (inr high) =
+    let f : leb b.number n ≡ false = lt-leb b.number n high in
+    elim (cases_Bool (ltb m b.number)) [ inl e ↦ rw (e, f) refl | inr e ↦ rw e refl ]
+
+between_drop : (m n : ℕ) (b : Batch) (batches : List Batch) → (b.number ≤ m) ⊎ (n < b.number) → between m n (b ∷ batches) ≡ between m n batches
+between_drop m n b batches out = (let e = outside m n b out in rw e refl)
+
+last_top : (n : ℕ) (batches : List Batch) → AllByRecursion (λ c. n < c.number) batches → AreRising batches → (n ≤ last_of n batches) × AllByRecursion (λ c. c.number ≤ last_of n batches) batches
+last_top n [] over rising = (omega arith, tt)
+last_top n (b ∷ batches) over rising = (let top = last_top b.number batches rising.0 rising.1 in (omega (arith, over.0, top.0), (top.0, top.1)))
+
+-- no number is greater than the last
+pub all_up_to : (flushed : ℕ) (batches : List Batch) → AreRising batches → AllByRecursion (λ c. c.number ≤ last_of flushed batches) batches
+all_up_to flushed [] rising = tt
+all_up_to flushed (b ∷ batches) rising = (let top = last_top b.number batches rising.0 rising.1 in (top.0, top.1))
+
+-- where no number is greater, all above are between
+pub between_all : (m n : ℕ) (batches : List Batch) → AllByRecursion (λ c. c.number ≤ n) batches → between m n batches ≡ above m batches
+between_all m n [] all = refl
+between_all m n (b ∷ batches) all = elim (cases_lt m b.number) [
+  | inl l ↦ between_take m n b batches l all.0 ∙ ap (λ (l : List Batch). b ∷ l) (between_all m n batches all.1) ∙ sym (above_take m b batches l)
+  | inr l ↦ between_drop m n b batches (inl l) ∙ between_all m n batches all.1 ∙ sym (above_drop m b batches l)
+]
+
+filter_more : (P : Batch → Bool) (batches : List Batch) (b : Batch) → P b ≡ false → filter P (batches ++ b ∷ []) ≡ filter P batches
+filter_more P [] b not-kept = rw not-kept refl
+filter_more P (a ∷ batches) b not-kept = elim (cases_Bool (P a)) [
+  | inl e ↦ rw e (ap (λ (l : List Batch). a ∷ l) (filter_more P batches b not-kept))
+  | inr e ↦ rw e (filter_more P batches b not-kept)
+]
+
+-- a batch that comes later isn't between
+pub between_same : (m n : ℕ) (batches : List Batch) (b : Batch) → n < b.number → between m n (batches ++ b ∷ []) ≡ between m n batches
+between_same m n batches b high = filter_more (λ b. nat_lt m b.number && nat_le b.number n) batches b (outside m n b (inr high))
+
+-- what is above a number is between it and a greater one, or above that
+pub cells_cut : (m n : ℕ) (batches : List Batch) → m ≤ n → cell_count (above m batches) ≡ cell_count (between m n batches) + cell_count (above n batches)
+cells_cut m n [] le = refl
+cells_cut m n (b ∷ batches) le = by (cells_cut m n batches le) (cases_lt m b.number) (cases_lt n b.number)
+  where
+    by : cell_count (above m batches) ≡ cell_count (between m n batches) + cell_count (above n batches) → (m < b.number) ⊎ (b.number ≤ m) → (n < b.number) ⊎ (b.number ≤ n)
+        → cell_count (above m (b ∷ batches)) ≡ cell_count (between m n (b ∷ batches)) + cell_count (above n (b ∷ batches))
+    by more (inr low) x =
+        let h : b.number ≤ n = omega arith in
+        let e = ap cell_count (above_drop m b batches low) in
+        let f = ap cell_count (between_drop m n b batches (inl low)) in
+        let g = ap cell_count (above_drop n b batches h) in
+        omega (arith, e, f, g, more)
+    by more (inl over) (inr mid) =
+        let e = ap cell_count (above_take m b batches over) in
+        let f = ap cell_count (between_take m n b batches over mid) in
+        let g = ap cell_count (above_drop n b batches mid) in
+        omega (arith, e, f, g, more)
+    by more (inl over) (inl high) =
+        let e = ap cell_count (above_take m b batches over) in
+        let f = ap cell_count (between_drop m n b batches (inr high)) in
+        let g = ap cell_count (above_take n b batches high) in
+        omega (arith, e, f, g, more)
+
+pub bytes_cut : (m n : ℕ) (batches : List Batch) → m ≤ n → byte_count (above m batches) ≡ byte_count (between m n batches) + byte_count (above n batches)
+bytes_cut m n [] le = refl
+bytes_cut m n (b ∷ batches) le = by (bytes_cut m n batches le) (cases_lt m b.number) (cases_lt n b.number)
+  where
+    by : byte_count (above m batches) ≡ byte_count (between m n batches) + byte_count (above n batches) → (m < b.number) ⊎ (b.number ≤ m) → (n < b.number) ⊎ (b.number ≤ n)
+        → byte_count (above m (b ∷ batches)) ≡ byte_count (between m n (b ∷ batches)) + byte_count (above n (b ∷ batches))
+    by more (inr low) x =
+        let h : b.number ≤ n = omega arith in
+        let e = ap byte_count (above_drop m b batches low) in
+        let f = ap byte_count (between_drop m n b batches (inl low)) in
+        let g = ap byte_count (above_drop n b batches h) in
+        omega (arith, e, f, g, more)
+    by more (inl over) (inr mid) =
+        let e = ap byte_count (above_take m b batches over) in
+        let f = ap byte_count (between_take m n b batches over mid) in
+        let g = ap byte_count (above_drop n b batches mid) in
+        omega (arith, e, f, g, more)
+    by more (inl over) (inl high) =
+        let e = ap byte_count (above_take m b batches over) in
+        let f = ap byte_count (between_drop m n b batches (inr high)) in
+        let g = ap byte_count (above_take n b batches high) in
+        omega (arith, e, f, g, more)

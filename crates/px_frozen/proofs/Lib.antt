@@ -1,0 +1,4 @@
+pub mod Counting
+pub mod Fitting
+pub mod Reread
+pub mod Coming

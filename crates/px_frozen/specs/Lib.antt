@@ -1,0 +1,3 @@
+pub mod FrozenData
+pub mod Frozen
+pub mod inner

@@ -1,0 +1,76 @@
+use crate::pieces::{opened, put_row};
+use px_frozen::{Frozen, freeze};
+use px_gatelog::StartFault;
+use px_outside::{Disk, MemDisk};
+use px_wal::Wal;
+use std::alloc::Global;
+use std::test::Fail;
+
+// Writes a row twice, as two batches.
+fn put_two(alloc: Global, disk: &mut MemDisk) -> Option<()> {
+    let mut region = opened(alloc, disk, 1)?;
+    let first = put_row(alloc, disk, &mut region, b"a\0", 1, b"b");
+    let second = put_row(alloc, disk, &mut region, b"a\0", 2, b"c");
+    drop(region);
+    first?;
+    second
+}
+
+fn frozen(alloc: Global, disk: &mut MemDisk, flushed: u64) -> Option<Frozen> {
+    let wal = Wal::replay(alloc, disk, 1, flushed).ok()?.wal;
+    freeze(alloc, disk, 1, flushed, &wal).ok()
+}
+
+// The number, the counts, and how many cells are read.
+fn told(alloc: Global, disk: &mut MemDisk, flushed: u64) -> Option<(u64, u64, u64, usize)> {
+    let frozen = frozen(alloc, disk, flushed)?;
+    let told = (
+        frozen.upto(),
+        frozen.count(),
+        frozen.bytes(),
+        frozen.cells().len(),
+    );
+    drop(frozen);
+    Some(told)
+}
+
+#[test]
+fn what_stands_above_the_flushed_number_is_frozen(rt: HostRuntime) -> Result<(), Fail> {
+    let alloc = rt.alloc();
+    let mut disk = MemDisk::new(alloc);
+    assert!(rt; put_two(alloc, &mut disk).is_some());
+    assert!(rt; told(alloc, &mut disk, 0) == Some((2, 4, 66, 4)));
+    assert!(rt; told(alloc, &mut disk, 1) == Some((2, 2, 33, 2)));
+    assert!(rt; told(alloc, &mut disk, 2) == Some((2, 0, 0, 0)));
+    let newest = frozen(alloc, &mut disk, 0).ok_or("not frozen")?;
+    let stamps = match newest.cells() {
+        [first, second, ..] => [first.stamp(), second.stamp()],
+        _ => [0, 0],
+    };
+    drop(newest);
+    assert!(rt; stamps == [2, 1]);
+    Ok(())
+}
+
+// A log that was changed meanwhile is told as such.
+#[test]
+fn a_changed_log_is_not_frozen(rt: HostRuntime) -> Result<(), Fail> {
+    let alloc = rt.alloc();
+    let mut disk = MemDisk::new(alloc);
+    assert!(rt; put_two(alloc, &mut disk).is_some());
+    let wal = Wal::replay(alloc, &mut disk, 1, 0)
+        .ok()
+        .ok_or("not read")?
+        .wal;
+    assert!(rt; disk.write(4_294_967_296, 17, &[7]).is_ok());
+    let damaged = match freeze(alloc, &mut disk, 1, 0, &wal) {
+        Err(StartFault::Damaged { file, place }) => Some((file, place)),
+        Err(_) => None,
+        Ok(frozen) => {
+            drop(frozen);
+            None
+        }
+    };
+    assert!(rt; damaged == Some((4_294_967_296, 17)));
+    Ok(())
+}
