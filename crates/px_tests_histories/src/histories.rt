@@ -1,12 +1,12 @@
 // Whole histories: runs of sessions on one disk, each stopped somewhere, and then each query as of each stamp.
-use crate::answers::{are_right, are_rows};
-use crate::dice::Dice;
-use crate::doubts::doubts;
-use crate::queries::TEXTS;
-use crate::runs::{Outcome, Ran, run};
-use crate::scripts::{Planned, SET_UP, add_changes, add_scn};
 use crate::told::{Tally, Told};
 use px_outside::{Choice, MemDisk};
+use px_tests_runs::answers::{are_right, are_rows};
+use px_tests_runs::dice::Dice;
+use px_tests_runs::doubts::doubts;
+use px_tests_runs::queries::TEXTS;
+use px_tests_runs::runs::{Outcome, disk_of, run};
+use px_tests_runs::scripts::{Planned, SET_UP, add_changes, add_scn};
 use px_trail::{Act, Trail};
 use std::alloc::{AllocError, Global};
 use std::sync::Wait;
@@ -76,20 +76,6 @@ fn set_up<R: Threads + Wait + Sync>(
         }
         Outcome::Lacked => Err(Wrong::Memory),
     }
-}
-
-/// The disk after a run.
-fn disk_of(ran: Ran<MemDisk>) -> MemDisk {
-    let Ran {
-        disk,
-        trail,
-        late,
-        transcripts,
-    } = ran;
-    drop(trail);
-    drop(late);
-    drop(transcripts);
-    disk
 }
 
 fn choice(dice: &mut Dice) -> Choice {

@@ -1,7 +1,7 @@
 // The histories of fixed seeds.
-use crate::dice::Dice;
 use crate::histories::{Making, Wrong, alone, history};
 use crate::told::Tally;
+use px_tests_runs::dice::Dice;
 use std::alloc::Global;
 use std::sync::Wait;
 use std::thread::Threads;

@@ -1,7 +1,7 @@
 // What runs have told of the rows on a disk.
-use crate::answers::right_answers;
-use crate::model::{Version, add_late, add_written, last_stamp, settle};
 use px_reply::Transcript;
+use px_tests_runs::answers::right_answers;
+use px_tests_runs::model::{Version, add_late, add_written, last_stamp, settle};
 use px_trail::{Entry, Trail};
 use std::alloc::AllocError;
 
