@@ -16,9 +16,9 @@ use std::alloc::{AllocError, Global};
 use std::sync::Wait;
 
 /// The lists of a round, before its sessions begin: the pieces of each, and room for the others.
+#[derive(Drop)]
 pub(crate) struct Lists<'a> {
     pub(crate) pieces: Vec<Vec<Piece<'a>>>,
-    pub(crate) runs: Vec<SessionRun<'a>>,
     pub(crate) transcripts: Vec<Transcript>,
     pub(crate) states: Vec<SessionState>,
 }
@@ -30,16 +30,14 @@ pub(crate) fn lists_for<'a>(
 ) -> Result<Lists<'a>, AllocError>
     requires { count < 2 ^ 32 }
     ensures cut { IfOk result (λ l. AreCut round.now count l.pieces.items) }
-    ensures empty { IfOk result (λ l. (l.runs.items ≡ []) × (l.transcripts.items ≡ []) × (l.states.items ≡ [])) }
-    ensures room { IfOk result (λ l. (count ≤ vec_capacity l.runs) × (count ≤ vec_capacity l.transcripts) × (count ≤ vec_capacity l.states)) }
+    ensures empty { IfOk result (λ l. (l.transcripts.items ≡ []) × (l.states.items ≡ [])) }
+    ensures room { IfOk result (λ l. (count ≤ vec_capacity l.transcripts) × (count ≤ vec_capacity l.states)) }
 {
     let transcripts = Vec::with_capacity(alloc, count)?;
     let states = Vec::with_capacity(alloc, count)?;
     let pieces = cut_all(alloc, round.as_slice(), count)?;
-    let runs = Vec::with_capacity(alloc, count)?;
     Ok(Lists {
         pieces,
-        runs,
         transcripts,
         states,
     })
@@ -64,9 +62,11 @@ pub fn in_turns<R: Wait, S: Single>(
     let Ok(lists) = lists_for(alloc, round, states.len()) else {
         return Err(states);
     };
+    let Ok(runs) = Vec::with_capacity(alloc, states.len()) else {
+        return Err(states);
+    };
     let Lists {
         pieces,
-        runs,
         transcripts,
         states: after,
     } = lists;

@@ -18,8 +18,8 @@ use std::thread::Threads;
 /// The greatest number of sessions that have a seat each.
 const MOST_SEATED: usize = 4_294_967_294;
 
-/// Runs a round: with a schedule on one thread, and else in threads. Where no memory is found for its lists it runs nothing, and hands
-/// the states back.
+/// Runs a round: with a schedule on one thread, and so where one session alone has a text in it; else in threads. Where no memory is found
+/// for its lists it runs nothing, and hands the states back.
 pub(crate) fn run_round<R: Threads + Wait + Sync, S: Single + Send, G: Gate + Sync>(
     rt: &R,
     alloc: Global,
@@ -38,7 +38,7 @@ pub(crate) fn run_round<R: Threads + Wait + Sync, S: Single + Send, G: Gate + Sy
 {
     let list: &[u32] = match schedule {
         Some(list) => list,
-        None if states.len() <= MOST_SEATED => {
+        None if round.as_slice().len() > 1 && states.len() <= MOST_SEATED => {
             return in_threads(rt, alloc, gate, server, number, round, states);
         }
         None => &[],

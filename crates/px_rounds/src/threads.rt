@@ -70,11 +70,9 @@ fn run_seats<
 {
     let Lists {
         pieces,
-        runs,
         transcripts,
         states: after,
     } = lists;
-    runs.destroy_empty();
     let Ok(room) = room_for::<R, S, N, B>(alloc, states.len()) else {
         return (given, Err(states));
     };
@@ -84,22 +82,6 @@ fn run_seats<
     run_all(rt, alloc, gate, &mut jobs);
     let (seats, told) = unseated(idle, jobs, seats, transcripts, after);
     (seats, Ok(told))
-}
-
-/// Lets the lists of a round go that isn't run.
-fn let_go(lists: Lists<'_>)
-    requires { lists.runs.items ≡ [] }
-{
-    let Lists {
-        pieces,
-        runs,
-        transcripts,
-        states,
-    } = lists;
-    runs.destroy_empty();
-    drop(pieces);
-    drop(transcripts);
-    drop(states);
 }
 
 /// A round, where base and damaged places are known by their names.
@@ -128,10 +110,7 @@ fn round_at<R: Threads + Wait + Sync, S: Single + Send, G: Gate + Sync, B: Based
     let owned = Owned::<S, B>::new(server);
     let (lock, given) = match TurnLock::new(alloc, owned, states.len() as u32 + 1) {
         Ok(made) => made,
-        Err((owned, _)) => {
-            let_go(lists);
-            return (owned.into_core(), Err(states));
-        }
+        Err((owned, _)) => return (owned.into_core(), Err(states)),
     };
     let (seats, told) = run_seats::<R, S, G, Brand, B>(
         rt, alloc, gate, &lock, &first, given, seen, number, lists, states,

@@ -25,7 +25,6 @@ use Rattle.px_rounds.specs.inner.Desks.{IsFirst, IsTold}
 pub record IsLaid (count : ℕ) (l : Lists) : Type 0 where
   pub pieces : length l.pieces.items ≡ count
   pub placed : (i : ℕ) (pieces : Vec Piece Global) → slice_get l.pieces.items i ≡ Some pieces → ArePlaced pieces.items
-  pub runs : (l.runs.items ≡ []) × (count ≤ vec_capacity l.runs)
   pub transcripts : (l.transcripts.items ≡ []) × (count ≤ vec_capacity l.transcripts)
   pub states : (l.states.items ≡ []) × (count ≤ vec_capacity l.states)
 

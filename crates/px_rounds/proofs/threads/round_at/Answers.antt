@@ -14,8 +14,8 @@ pub run_seats-seats-requires-clause-lists : goal.run_seats-seats-requires-clause
 run_seats-seats-requires-clause-lists g c = λ κs bounds.
     let cut : AreCut c.args.round.now (length c.args.states.items) c.in-Ok.lists.pieces.items = search rules in
     let empty = c.in-Ok.ensures.empty in
-    let room : (length c.args.states.items ≤ vec_capacity c.in-Ok.lists.runs) × (length c.args.states.items ≤ vec_capacity c.in-Ok.lists.transcripts) × (length c.args.states.items ≤ vec_capacity c.in-Ok.lists.states) = search rules in
-    record { pieces = cut.count_is; placed = λ i pieces e. (cut.each i pieces e).placed; runs = (empty.0, room.0); transcripts = (empty.1, room.1); states = (empty.2, room.2) }
+    let room : (length c.args.states.items ≤ vec_capacity c.in-Ok.lists.transcripts) × (length c.args.states.items ≤ vec_capacity c.in-Ok.lists.states) = search rules in
+    record { pieces = cut.count_is; placed = λ i pieces e. (cut.each i pieces e).placed; transcripts = (empty.0, room.0); states = (empty.1, room.1) }
 
 pub returns-clause-goes : goal.returns-clause-goes
 returns-clause-goes g c =
