@@ -1,0 +1,60 @@
+-- A region's files, and the flush of its log.
+use Rattle.std.specs.Prelude.{◌≡◌, ◌<◌, ◌+◌, ◌∷◌, ℕ, max, List, Option, Some, None}
+use Rattle.px_outside.specs.Disk.{Image}
+use Rattle.px_outside.specs.declared.disk.Disk.{Ghosts}
+use Rattle.px_cells.specs.CellData.{CellData}
+use Rattle.px_file.specs.declared.region_file.RegionFile.{RegionFile}
+use Rattle.px_wal.specs.Batches.{Batch, above}
+use Rattle.px_wal.specs.Files.{file_of}
+use Rattle.px_wal.specs.Form.{byte_count, cell_count}
+use Rattle.px_wal.specs.Manifest.{names}
+use Rattle.px_wal.specs.Snapshot.{SnapshotData}
+use Rattle.px_wal.specs.declared.manifest.Manifest.{Manifest}
+use Rattle.px_wal.specs.declared.wal.Wal.{Wal}
+use Rattle.px_files.specs.Locals.{IsFree}
+use Rattle.px_naming.specs.Naming.{HasParts, RegionReads}
+use Rattle.px_frozen.specs.Frozen.{IsFrozen}
+use Rattle.px_flushing.specs.Stage.{IsStage}
+use Rattle.px_flushing.specs.declared.flushing.Flush.{Flush}
+use Rattle.px_flushing.specs.declared.flushing.Flushing.{Flushing}
+
+-- A flush that was begun, which the manifest doesn't name: its cells are those of some batches above the flushed number, and
+-- its file, which has a number of its own, has as many of them as its stage says.
+pub record IsBegun {D : Type 0} (d : Ghosts D) (region : ℕ) (named : SnapshotData) (batches : List Batch) (disk : D) (flush : Flush) : Type 0 where
+  pub frozen : IsFrozen named.flushed batches flush.frozen
+  pub later : named.flushed < flush.frozen.upto
+  pub free : IsFree named.files flush.local
+  pub stage : IsStage d (file_of region flush.local) disk flush.frozen.cells flush.stage
+
+-- a flush that may be under way
+abbrev pub IsUnderWay : {D : Type 0} → Ghosts D → ℕ → SnapshotData → List Batch → D → Option Flush → Type 0
+IsUnderWay d region named batches disk None = Unit {0}
+IsUnderWay d region named batches disk (Some flush) = IsBegun d region named batches disk flush
+
+-- The disk tells that manifest, log and open files of the region have this, all of it on the disk, and that it goes on from
+-- there, with the flush that may be under way.
+pub record HasFlushing {D : Type 0} (d : Ghosts D) (manifest : Manifest) (wal : Wal) (flushing : Flushing) (disk : D) (batches : List Batch) (lists : List (List CellData)) : Type 0 where
+  pub parts : HasParts d flushing.number manifest wal disk batches flushing.files.items lists
+  pub flush : IsUnderWay d flushing.number (names manifest) batches disk flushing.flush
+
+-- the image's files of a region are read as this list, and its manifest names this horizon
+pub record IsRead (region : ℕ) (image : Image) (horizon : ℕ) (cells : List CellData) : Type 0 where
+  pub named : SnapshotData
+  pub reads : RegionReads region image named cells
+  pub horizon_is : named.horizon ≡ horizon
+
+-- what is named after a flush up to a number, whose file has this local number and so many bytes
+abbrev pub named_next : SnapshotData → (upto local len : ℕ) → RegionFile → SnapshotData
+named_next named upto local len file = record {
+  flushed = upto;
+  horizon = named.horizon;
+  stamp = max named.stamp file.index.stamp;
+  compactions = named.compactions;
+  files = record { local = local; len = len; cells = file.index.cells } ∷ named.files;
+}
+
+-- the flushed number has risen, and so many cells and bytes of batches aren't above it any more
+pub record IsRaised (old new : ℕ) (batches : List Batch) (cells bytes : ℕ) : Type 0 where
+  pub later : old < new
+  pub counted : cell_count (above old batches) ≡ cells + cell_count (above new batches)
+  pub weighed : byte_count (above old batches) ≡ bytes + byte_count (above new batches)

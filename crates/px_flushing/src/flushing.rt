@@ -1,0 +1,309 @@
+// A region's open files, and the flush of its log.
+ghost use Rattle.std.specs.Prelude.{◌≡◌, ◌≢◌, ◌≤◌, ◌<◌, ◌+◌, ◌*◌, ◌∷◌, ◌↔◌, ℕ, false, List, length, IsTrue, IfOk, OnOk, OnErr, Ok, Err, None, vec_len, vec_capacity};
+ghost use Rattle.px_outside.specs.OnDisk.{LeavesOnly, Passes, Rose, Stays, TouchesOnly};
+ghost use Rattle.px_cells.specs.CellData.{CellData};
+ghost use Rattle.px_wal.specs.Batches.{Batch as BatchData, cells_over};
+ghost use Rattle.px_wal.specs.Files.{HasFile as IsFileOf, file_of};
+ghost use Rattle.px_wal.specs.Manifest.{HasSnapshot, is_open, manifest_files, names};
+ghost use Rattle.px_wal.specs.Snapshot.{IsSnapshot};
+ghost use Rattle.px_wal.specs.SnapshotOf.{files_of, snapshot_of};
+ghost use Rattle.px_wal.specs.Wal.{HasBatches};
+ghost use Rattle.px_wal.specs.declared.manifest.Manifest.{Manifest as Manifests};
+ghost use Rattle.px_wal.specs.declared.wal.Wal.{Wal as Logs};
+ghost use Rattle.px_files.specs.Files.{IsFirstBad};
+ghost use Rattle.px_naming.specs.Naming.{HasParts};
+ghost use Rattle.px_flushing.specs.Flushing.{HasFlushing, IsBegun, IsRaised, IsRead, named_next};
+ghost use Rattle.px_flushing.specs.declared.fault.FlushFault.TheVariants.{Damaged, ReadFault, WriteFault};
+
+use crate::fault::{of_append, of_read};
+use crate::naming::{Naming, make_room, prepare, put_first};
+use crate::stage::advance;
+use crate::{FlushFault, Stage};
+use px_file::RegionFile;
+use px_files::{free_local, open_files};
+use px_frozen::{Frozen, freeze};
+use px_gatelog::StartFault;
+use px_naming::name_file;
+use px_outside::Disk;
+use px_wal::{FileEntry, Manifest, Wal, local_file};
+use std::alloc::Global;
+
+/// What a step of a flush answers.
+#[derive(Clone, Copy, Debug, PartialEq, Eq)]
+pub enum FlushStep {
+    /// There are more steps.
+    More,
+    /// The file is named: so many cells and bytes of batches don't stand above the flushed number any more. No flush is under way.
+    Named { cells: u64, bytes: u64 },
+    /// No batch stands above the flushed number. No flush is under way.
+    Done,
+}
+
+/// A flush that was begun.
+#[derive(Drop)]
+pub struct Flush {
+    pub(crate) frozen: Frozen,
+    /// The local number of its file.
+    pub(crate) local: u32,
+    pub(crate) stage: Stage,
+}
+
+/// The open files of a region that its manifest names, and the flush that may be under way.
+#[derive(Drop)]
+pub struct Flushing {
+    alloc: Global,
+    pub(crate) number: u32,
+    pub(crate) files: Vec<RegionFile>,
+    pub(crate) flush: Option<Flush>,
+}
+
+/// Whether no batch stands above the flushed number.
+fn is_flushed(manifest: &Manifest, wal: &Wal) -> bool
+    ensures { IsTrue result ↔ (wal.now.last ≤ (names manifest.now).flushed) }
+{
+    wal.last() <= manifest.snapshot().flushed
+}
+
+impl Flushing {
+    /// Opens the files that a region's manifest names. No flush is under way. A stop in the call leaves nothing new.
+    pub fn open<D: Disk>(
+        alloc: Global,
+        disk: &mut D,
+        number: u32,
+        manifest: &Manifest,
+    ) -> Result<Flushing, StartFault>
+        ensures opened { (wal : Logs) (batches : List BatchData) → IsTrue D.tells → HasSnapshot ⟦<D as Disk>⟧ number manifest.now disk.old → HasBatches ⟦<D as Disk>⟧ number (names manifest.now).flushed wal disk.old batches
+            → IfOk result (λ flushing. (lists : List (List CellData)) × HasFlushing ⟦<D as Disk>⟧ manifest.now wal flushing disk.new batches lists) }
+        ensures idle { IfOk result (λ flushing. (flushing.number ≡ number) × (flushing.flush ≡ None)) }
+        ensures damaged { (file place : ℕ) → IsTrue D.tells → result ≡ Err (StartFault.Damaged file place) → IsFirstBad number (D.seen disk.old) (names manifest.now).files file place }
+        ensures seen { D.seen disk.new ≡ D.seen disk.old }
+        ensures quiet { Stays ⟦<D as Disk>⟧ disk.old disk.new }
+        ensures read_failed { result ≡ Err StartFault.ReadFault → Rose ⟦<D as Disk>⟧ disk.old disk.new }
+        ensures write_failed { result ≡ Err StartFault.WriteFault → Rose ⟦<D as Disk>⟧ disk.old disk.new }
+    {
+        match open_files(alloc, disk, number, &manifest.snapshot().files) {
+            Ok(files) => Ok(Flushing {
+                alloc,
+                number,
+                files,
+                flush: None,
+            }),
+            Err(fault) => Err(fault),
+        }
+    }
+
+    /// The open files, the newest first.
+    pub fn files(&self) -> &[RegionFile]
+        ensures { result.now ≡ self.now.files.items }
+    {
+        &self.files
+    }
+
+    /// Begins a flush, where a batch stands above the flushed number.
+    fn begin<D: Disk>(
+        &mut self,
+        disk: &mut D,
+        manifest: &Manifest,
+        wal: &Wal,
+    ) -> Result<FlushStep, FlushFault>
+        requires { self.old.flush ≡ None }
+        ensures done { (batches : List BatchData) (lists : List (List CellData)) → HasFlushing ⟦<D as Disk>⟧ manifest.now wal.now self.old disk.old batches lists → HasFlushing ⟦<D as Disk>⟧ manifest.now wal.now self.new disk.new batches lists }
+        ensures ended { result ≡ Ok FlushStep.Done → (self.new.flush ≡ None) × (wal.now.last ≤ (names manifest.now).flushed) }
+        ensures unnamed { (cells bytes : ℕ) → result ≢ Ok (FlushStep.Named cells bytes) }
+        ensures sound { (batches : List BatchData) (lists : List (List CellData)) → HasFlushing ⟦<D as Disk>⟧ manifest.now wal.now self.old disk.old batches lists → result ≢ Err Damaged }
+        ensures read_failed { result ≡ Err ReadFault → Rose ⟦<D as Disk>⟧ disk.old disk.new }
+        ensures write_failed { result ≡ Err WriteFault → Rose ⟦<D as Disk>⟧ disk.old disk.new }
+        ensures touches { TouchesOnly ⟦<D as Disk>⟧ disk.old disk.new (λ touched. ⊥) }
+        ensures counts { Passes ⟦<D as Disk>⟧ disk.old disk.new 6 }
+        ensures number { self.new.number ≡ self.old.number }
+    {
+        if is_flushed(manifest, wal) {
+            return Ok(FlushStep::Done);
+        }
+        let named = manifest.snapshot();
+        let local = match free_local(&named.files) {
+            Some(local) => local,
+            None => return Err(FlushFault::Full),
+        };
+        match freeze(self.alloc, disk, self.number, named.flushed, wal) {
+            Ok(frozen) => {
+                self.flush = Some(Flush {
+                    frozen,
+                    local,
+                    stage: Stage::Frozen,
+                });
+                Ok(FlushStep::More)
+            }
+            Err(fault) => Err(of_read(fault)),
+        }
+    }
+
+    /// Makes the next step of the file.
+    fn write<D: Disk>(
+        &mut self,
+        disk: &mut D,
+        frozen: Frozen,
+        local: u32,
+        stage: Stage,
+    ) -> Result<FlushStep, FlushFault>
+        ensures done { (manifest : Manifests) (wal : Logs) (batches : List BatchData) (lists : List (List CellData)) → HasParts ⟦<D as Disk>⟧ self.old.number manifest wal disk.old batches self.old.files.items lists
+            → IsBegun ⟦<D as Disk>⟧ self.old.number (names manifest) batches disk.old (record { frozen = frozen; local = local; stage = stage }) → HasFlushing ⟦<D as Disk>⟧ manifest wal self.new disk.new batches lists }
+        ensures more { OnOk result (result ≡ Ok FlushStep.More) }
+        ensures sound { result ≢ Err Damaged }
+        ensures read_failed { result ≡ Err ReadFault → Rose ⟦<D as Disk>⟧ disk.old disk.new }
+        ensures write_failed { result ≡ Err WriteFault → Rose ⟦<D as Disk>⟧ disk.old disk.new }
+        ensures touches { (manifest : Manifests) (batches : List BatchData) → IsBegun ⟦<D as Disk>⟧ self.old.number (names manifest) batches disk.old (record { frozen = frozen; local = local; stage = stage })
+            → TouchesOnly ⟦<D as Disk>⟧ disk.old disk.new (λ touched. touched ≡ file_of self.old.number local) }
+        ensures counts { Passes ⟦<D as Disk>⟧ disk.old disk.new 4 }
+        ensures number { self.new.number ≡ self.old.number }
+    {
+        let file = local_file(self.number, local);
+        let (stage, fault) = advance(self.alloc, disk, file, frozen.cells(), stage);
+        self.flush = Some(Flush {
+            frozen,
+            local,
+            stage,
+        });
+        match fault {
+            None => Ok(FlushStep::More),
+            Some(fault) => Err(fault),
+        }
+    }
+
+    /// Takes the memory that naming a file needs.
+    fn ready(
+        &mut self,
+        manifest: &Manifest,
+        upto: u64,
+        local: u32,
+        file: &RegionFile,
+        len: u64,
+    ) -> Result<Naming, FlushFault>
+        ensures same { (self.new.number ≡ self.old.number) × (self.new.files.items ≡ self.old.files.items) × (self.new.flush ≡ self.old.flush) }
+        ensures first { OnOk result (vec_len self.new.files < vec_capacity self.new.files) }
+        ensures may { OnOk result (is_open manifest.now × (manifest.now.rolling ≡ false)) }
+        ensures right { IfOk result (λ n. IsSnapshot (snapshot_of n.after)) }
+        ensures after { IfOk result (λ n. snapshot_of n.after ≡ named_next (names manifest.now) upto local len file.now) }
+        ensures room { IfOk result (λ n. 26 + 20 * length (files_of n.after) ≤ n.frame.room) }
+        ensures never { (result ≢ Err ReadFault) × (result ≢ Err WriteFault) × (result ≢ Err Damaged) }
+    {
+        match make_room(&mut self.files) {
+            Ok(()) => {}
+            Err(_) => return Err(FlushFault::Memory),
+        }
+        let entry = FileEntry {
+            local,
+            len,
+            cells: file.cells(),
+        };
+        prepare(self.alloc, manifest, upto, file.stamp(), entry)
+    }
+
+    /// Names the file.
+    fn name<D: Disk>(
+        &mut self,
+        disk: &mut D,
+        manifest: &mut Manifest,
+        frozen: Frozen,
+        local: u32,
+        file: RegionFile,
+        len: u64,
+    ) -> Result<FlushStep, FlushFault>
+        requires { self.old.flush ≡ None }
+        ensures named { IfOk result (λ step. (step ≡ FlushStep.Named frozen.count frozen.bytes) × (self.new.flush ≡ None) × (names manifest.new ≡ named_next (names manifest.old) frozen.upto local len file)) }
+        ensures done { (wal : Logs) (batches : List BatchData) (lists : List (List CellData)) → HasParts ⟦<D as Disk>⟧ self.old.number manifest.old wal disk.old batches self.old.files.items lists
+            → IsBegun ⟦<D as Disk>⟧ self.old.number (names manifest.old) batches disk.old (record { frozen = frozen; local = local; stage = Stage.Measured file len }) → OnOk result (HasFlushing ⟦<D as Disk>⟧ manifest.new wal self.new disk.new batches (frozen.cells ∷ lists)) }
+        ensures kept { (wal : Logs) (batches : List BatchData) (lists : List (List CellData)) → HasParts ⟦<D as Disk>⟧ self.old.number manifest.old wal disk.old batches self.old.files.items lists
+            → IsBegun ⟦<D as Disk>⟧ self.old.number (names manifest.old) batches disk.old (record { frozen = frozen; local = local; stage = Stage.Measured file len })
+            → OnErr result (result ≢ Err WriteFault → (manifest.new ≡ manifest.old) × HasFlushing ⟦<D as Disk>⟧ manifest.new wal self.new disk.new batches lists) }
+
+        // At each moment of the call a stop leaves the region's files as they are read now.
+        ensures any_moment { (wal : Logs) (batches : List BatchData) (lists : List (List CellData)) → HasParts ⟦<D as Disk>⟧ self.old.number manifest.old wal disk.old batches self.old.files.items lists
+            → IsBegun ⟦<D as Disk>⟧ self.old.number (names manifest.old) batches disk.old (record { frozen = frozen; local = local; stage = Stage.Measured file len })
+            → LeavesOnly ⟦<D as Disk>⟧ disk.old disk.new (λ moment image. IsRead self.old.number image (names manifest.old).horizon (cells_over (names manifest.old).flushed batches lists)) }
+        ensures never { (result ≢ Err ReadFault) × (result ≢ Err Damaged) }
+        ensures horizon { result ≢ Err WriteFault → (names manifest.new).horizon ≡ (names manifest.old).horizon }
+        ensures write_failed { result ≡ Err WriteFault → Rose ⟦<D as Disk>⟧ disk.old disk.new }
+        ensures touches { HasSnapshot ⟦<D as Disk>⟧ self.old.number manifest.old disk.old → TouchesOnly ⟦<D as Disk>⟧ disk.old disk.new (manifest_files self.old.number) }
+        ensures counts { Passes ⟦<D as Disk>⟧ disk.old disk.new 4 }
+        ensures number { self.new.number ≡ self.old.number }
+    {
+        let Naming { after, mut frame } = match self.ready(
+            manifest,
+            frozen.upto(),
+            local,
+            &file,
+            len,
+        ) {
+            Ok(naming) => naming,
+            Err(fault) => {
+                self.flush = Some(Flush {
+                    frozen,
+                    local,
+                    stage: Stage::Measured(file, len),
+                });
+                return Err(fault);
+            }
+        };
+        match name_file(disk, manifest, &mut frame, after) {
+            Ok(()) => {
+                let named = FlushStep::Named {
+                    cells: frozen.count(),
+                    bytes: frozen.bytes(),
+                };
+                put_first(&mut self.files, file);
+                drop(frozen);
+                Ok(named)
+            }
+            Err(fault) => {
+                self.flush = Some(Flush {
+                    frozen,
+                    local,
+                    stage: Stage::Measured(file, len),
+                });
+                Err(of_append(fault))
+            }
+        }
+    }
+
+    /// Makes one step of a flush: takes the cells of all batches above the flushed number, or makes one step of their file, or
+    /// names it. Batches may be written between two steps, which the flush under way doesn't take. What is read of the region's
+    /// files stays at each moment. Where the answer isn't `WriteFault` the region goes on, and the step may be made again.
+    pub fn step<D: Disk>(
+        &mut self,
+        disk: &mut D,
+        manifest: &mut Manifest,
+        wal: &Wal,
+    ) -> Result<FlushStep, FlushFault>
+        ensures done { (batches : List BatchData) (lists : List (List CellData)) → HasFlushing ⟦<D as Disk>⟧ manifest.old wal.now self.old disk.old batches lists → result ≢ Err WriteFault
+            → (after : List (List CellData)) × HasFlushing ⟦<D as Disk>⟧ manifest.new wal.now self.new disk.new batches after × (cells_over (names manifest.new).flushed batches after ≡ cells_over (names manifest.old).flushed batches lists) }
+
+        // At each moment of the call a stop leaves the region's files as they are read now.
+        ensures any_moment { (batches : List BatchData) (lists : List (List CellData)) → HasFlushing ⟦<D as Disk>⟧ manifest.old wal.now self.old disk.old batches lists
+            → LeavesOnly ⟦<D as Disk>⟧ disk.old disk.new (λ moment image. IsRead self.old.number image (names manifest.old).horizon (cells_over (names manifest.old).flushed batches lists)) }
+        ensures ended { result ≡ Ok FlushStep.Done → (self.new.flush ≡ None) × (wal.now.last ≤ (names manifest.old).flushed) }
+        ensures named { (batches : List BatchData) (lists : List (List CellData)) (cells bytes : ℕ) → HasFlushing ⟦<D as Disk>⟧ manifest.old wal.now self.old disk.old batches lists → result ≡ Ok (FlushStep.Named cells bytes)
+            → (self.new.flush ≡ None) × IsRaised (names manifest.old).flushed (names manifest.new).flushed batches cells bytes }
+        ensures horizon { result ≢ Err WriteFault → (names manifest.new).horizon ≡ (names manifest.old).horizon }
+        ensures sound { (batches : List BatchData) (lists : List (List CellData)) → HasFlushing ⟦<D as Disk>⟧ manifest.old wal.now self.old disk.old batches lists → result ≢ Err Damaged }
+        ensures read_failed { result ≡ Err ReadFault → Rose ⟦<D as Disk>⟧ disk.old disk.new }
+        ensures write_failed { result ≡ Err WriteFault → Rose ⟦<D as Disk>⟧ disk.old disk.new }
+        ensures touches { (batches : List BatchData) (lists : List (List CellData)) → HasFlushing ⟦<D as Disk>⟧ manifest.old wal.now self.old disk.old batches lists → TouchesOnly ⟦<D as Disk>⟧ disk.old disk.new (IsFileOf self.old.number) }
+        ensures counts { Passes ⟦<D as Disk>⟧ disk.old disk.new 6 }
+        ensures number { self.new.number ≡ self.old.number }
+    {
+        let flush = match self.flush.take() {
+            Some(flush) => flush,
+            None => return self.begin(disk, manifest, wal),
+        };
+        let Flush {
+            frozen,
+            local,
+            stage,
+        } = flush;
+        match stage {
+            Stage::Measured(file, len) => self.name(disk, manifest, frozen, local, file, len),
+            stage => self.write(disk, frozen, local, stage),
+        }
+    }
+}

@@ -1,0 +1,61 @@
+use crate::pieces::{flush, newest, opened, put, shown, step};
+use px_flushing::FlushStep;
+use px_outside::{Disk, MemDisk};
+use std::test::Fail;
+
+#[test]
+fn a_flush_goes_on_beside_batches(rt: HostRuntime) -> Result<(), Fail> {
+    let alloc = rt.alloc();
+    let mut disk = MemDisk::new(alloc);
+    let mut parts = opened(alloc, &mut disk).ok_or("not opened")?;
+    assert!(rt; step(&mut disk, &mut parts) == Some(FlushStep::Done));
+    for row in 0..5u8 {
+        put(alloc, &mut disk, &mut parts, row, 1, 9_000).ok_or("not put")?;
+    }
+    // The cells are taken, the file is begun, and a block of four cells is written.
+    for _ in 0..3 {
+        assert!(rt; step(&mut disk, &mut parts) == Some(FlushStep::More));
+    }
+    put(alloc, &mut disk, &mut parts, 2, 2, 1).ok_or("not put")?;
+    // The other block, no further one, index and footer, the length, and the name.
+    for _ in 0..4 {
+        assert!(rt; step(&mut disk, &mut parts) == Some(FlushStep::More));
+    }
+    let named = FlushStep::Named {
+        cells: 5,
+        bytes: 45_075,
+    };
+    assert!(rt; step(&mut disk, &mut parts) == Some(named));
+    let first = newest(&parts).ok_or("no file")?;
+    assert!(rt; first.local == 4 && first.cells == 5);
+    assert!(rt; disk.len(4_294_967_300).ok() == Some(first.len));
+    assert!(rt; parts.manifest.snapshot().flushed == 5 && parts.manifest.snapshot().stamp == 1);
+    let seen = shown(alloc, &mut disk).ok_or("not shown")?;
+    assert!(rt; seen.as_slice() == [1, 11, 22, 21, 31, 41].as_slice());
+    // The batch that came meanwhile goes to a second file, which is read before the first.
+    assert!(rt; flush(&mut disk, &mut parts) == Some(7));
+    let second = newest(&parts).ok_or("no file")?;
+    assert!(rt; parts.flushing.files().len() == 2 && second.local == 5);
+    assert!(rt; step(&mut disk, &mut parts) == Some(FlushStep::Done));
+    let seen = shown(alloc, &mut disk).ok_or("not shown")?;
+    assert!(rt; seen.as_slice() == [1, 11, 22, 21, 31, 41].as_slice());
+    Ok(())
+}
+
+// What is written later stands before what a file has of the same place.
+#[test]
+fn what_is_written_last_is_read(rt: HostRuntime) -> Result<(), Fail> {
+    let alloc = rt.alloc();
+    let mut disk = MemDisk::new(alloc);
+    let mut parts = opened(alloc, &mut disk).ok_or("not opened")?;
+    put(alloc, &mut disk, &mut parts, 1, 1, 1).ok_or("not put")?;
+    assert!(rt; flush(&mut disk, &mut parts) == Some(7));
+    put(alloc, &mut disk, &mut parts, 1, 1, 2).ok_or("not put")?;
+    assert!(rt; flush(&mut disk, &mut parts) == Some(7));
+    drop(parts);
+    let seen = shown(alloc, &mut disk).ok_or("not shown")?;
+    assert!(rt; seen.as_slice() == [11].as_slice());
+    let parts = opened(alloc, &mut disk).ok_or("not opened")?;
+    assert!(rt; parts.flushing.files().len() == 2 && parts.wal.last() == 2);
+    Ok(())
+}

@@ -1,0 +1,156 @@
+// What the tests of flushes have together.
+ghost use Rattle.std.specs.Prelude.{◌≡◌, ◌≤◌, ◌<◌, ◌^◌, true, length};
+
+use px_cellbytes::read_cells;
+use px_cells::Cell;
+use px_cursor::Cursor;
+use px_flushing::{FlushStep, Flushing};
+use px_gatelog::Frame;
+use px_outside::MemDisk;
+use px_sources::{CellTaker, Source, give};
+use px_wal::{FileEntry, Manifest, Replayed, Wal};
+use std::alloc::{AllocError, Global};
+
+/// A region with its open files.
+#[derive(Drop)]
+pub struct Parts {
+    pub manifest: Manifest,
+    pub wal: Wal,
+    pub flushing: Flushing,
+}
+
+/// Keeps a number for each cell: ten times its row, and its stamp.
+#[derive(Drop)]
+struct Seen {
+    cells: Vec<u64>,
+}
+
+impl CellTaker for Seen {
+    ghost has_taken = { λ seen cells. 0 ≤ 0 };
+
+    ghost wants = { λ seen cells. true };
+
+    fn take(&mut self, cell: &Cell) -> Result<(), AllocError> {
+        let row = match cell.key() {
+            [] => 0,
+            [row, ..] => u64::from(*row),
+        };
+        self.cells.push(row * 10 + cell.stamp() % 10)?;
+        Ok(())
+    }
+
+    fn wants_row(&self) -> bool {
+        true
+    }
+}
+
+/// Opens the manifest of region 1, and its next segment where none is open.
+fn manifest_of(alloc: Global, disk: &mut MemDisk) -> Option<Manifest> {
+    let mut manifest = Manifest::start(alloc, disk, 1).ok()?;
+    for _ in 0..3 {
+        if !manifest.is_open() {
+            let mut frame = Frame::with_room(alloc, manifest.snapshot().body_len()).ok()?;
+            manifest.roll_step(disk, &mut frame).ok()?;
+        }
+    }
+    Some(manifest)
+}
+
+/// Opens the log, and its first segment where there is none.
+fn wal_of(alloc: Global, disk: &mut MemDisk, flushed: u64) -> Option<Wal> {
+    let Replayed { mut wal, .. } = Wal::replay(alloc, disk, 1, flushed).ok()?;
+    for _ in 0..3 {
+        if !wal.is_open() {
+            wal.roll_step(disk).ok()?;
+        }
+    }
+    Some(wal)
+}
+
+/// Opens region 1.
+pub fn opened(alloc: Global, disk: &mut MemDisk) -> Option<Parts> {
+    let manifest = manifest_of(alloc, disk)?;
+    let wal = wal_of(alloc, disk, manifest.snapshot().flushed)?;
+    let flushing = Flushing::open(alloc, disk, 1, &manifest).ok()?;
+    Some(Parts {
+        manifest,
+        wal,
+        flushing,
+    })
+}
+
+/// The bytes of one cell of a row, whose value has so many bytes.
+fn cell_bytes(alloc: Global, row: u8, stamp: u8, len: u16) -> Result<Vec<u8>, AllocError> {
+    let mut bytes = Vec::new(alloc);
+    bytes.extend_from_slice(&[0, 1, row, 1, 0, 0, 0, 0, 0, 0, 0, stamp, 4])?;
+    bytes.extend_from_slice(&len.to_be_bytes())?;
+    for _ in 0..len {
+        bytes.push(row)?;
+    }
+    Ok(bytes)
+}
+
+/// Writes a batch of one cell.
+pub fn put(
+    alloc: Global,
+    disk: &mut MemDisk,
+    parts: &mut Parts,
+    row: u8,
+    stamp: u8,
+    len: u16,
+) -> Option<()> {
+    let bytes = cell_bytes(alloc, row, stamp, len).ok()?;
+    if bytes.len() > 1_000_000 || !parts.wal.is_open() {
+        return None;
+    }
+    let mut frame = Frame::with_room(alloc, 12 + bytes.len() as u64).ok()?;
+    let cells = read_cells(alloc, &bytes, 1).ok()?;
+    parts.wal.append(disk, &cells, &mut frame).ok()?;
+    Some(())
+}
+
+/// Makes one step of a flush.
+pub fn step(disk: &mut MemDisk, parts: &mut Parts) -> Option<FlushStep> {
+    parts
+        .flushing
+        .step(disk, &mut parts.manifest, &parts.wal)
+        .ok()
+}
+
+/// Makes the steps of a flush, and answers their number.
+pub fn flush(disk: &mut MemDisk, parts: &mut Parts) -> Option<u64> {
+    for steps in 1..100u64 {
+        match step(disk, parts)? {
+            FlushStep::More => {}
+            FlushStep::Named { .. } | FlushStep::Done => return Some(steps),
+        }
+    }
+    None
+}
+
+/// The newest file that the manifest names.
+pub fn newest(parts: &Parts) -> Option<FileEntry> {
+    match parts.manifest.snapshot().files.as_slice() {
+        [] => None,
+        [file, ..] => Some(*file),
+    }
+}
+
+/// The cells of region 1, as it is read from its files.
+pub fn shown(alloc: Global, disk: &mut MemDisk) -> Option<Vec<u64>> {
+    let manifest = Manifest::start(alloc, disk, 1).ok()?;
+    let Replayed { store, .. } = Wal::replay(alloc, disk, 1, manifest.snapshot().flushed).ok()?;
+    let flushing = Flushing::open(alloc, disk, 1, &manifest).ok()?;
+    let mut sources = Vec::new(alloc);
+    sources.push(Source::Slice(store.as_slice())).ok()?;
+    for file in flushing.files() {
+        let cursor = Cursor::begin(alloc, disk, file, &[], None).ok()?;
+        sources.push(Source::File(cursor)).ok()?;
+    }
+    let mut taker = Seen {
+        cells: Vec::new(alloc),
+    };
+    let mut looked = 0;
+    give(alloc, disk, &mut sources, &mut taker, &mut looked).ok()?;
+    Some(taker.cells)
+}

@@ -1,0 +1,129 @@
+use crate::pieces::{Parts, flush, opened, put, shown, step};
+use px_outside::{Choice, MemDisk};
+use std::alloc::Global;
+use std::test::Fail;
+
+// Two rows, a flush of them while a third comes, and a flush of that one. Counts the rows that were told to be there.
+fn run_in(alloc: Global, disk: &mut MemDisk, parts: &mut Parts, told: &mut u64) -> Option<()> {
+    put(alloc, disk, parts, 1, 1, 1)?;
+    *told = 1;
+    put(alloc, disk, parts, 2, 2, 1)?;
+    *told = 2;
+    for _ in 0..3 {
+        step(disk, parts)?;
+    }
+    put(alloc, disk, parts, 1, 3, 1)?;
+    *told = 3;
+    flush(disk, parts)?;
+    flush(disk, parts)?;
+    Some(())
+}
+
+fn run(alloc: Global, disk: &mut MemDisk, told: &mut u64) -> Option<()> {
+    let mut parts = opened(alloc, disk)?;
+    let done = run_in(alloc, disk, &mut parts, told);
+    drop(parts);
+    done
+}
+
+// How many rows are shown, if it is what stands after so many of them.
+fn rows_of(shown: &[u64]) -> u64 {
+    if shown.is_empty() {
+        0
+    } else if shown == [11].as_slice() {
+        1
+    } else if shown == [11, 22].as_slice() {
+        2
+    } else if shown == [13, 11, 22].as_slice() {
+        3
+    } else {
+        9
+    }
+}
+
+// How many rows an image shows.
+fn rows_shown(alloc: Global, image: &mut MemDisk) -> Option<u64> {
+    let seen = shown(alloc, image)?;
+    let rows = rows_of(&seen);
+    drop(seen);
+    Some(rows)
+}
+
+// Whether a flush of what an image has leaves it as it is.
+fn goes_on(alloc: Global, image: &mut MemDisk) -> Option<bool> {
+    let before = rows_shown(alloc, image)?;
+    let mut parts = opened(alloc, image)?;
+    let flushed = flush(image, &mut parts).is_some();
+    drop(parts);
+    let after = rows_shown(alloc, image)?;
+    Some(flushed && before == after)
+}
+
+// At each call of the disk a stop leaves the rows that were told, and the one under way or not, and a flush goes on from there.
+fn stops_well(alloc: Global, call: u64, choice: Choice) -> bool {
+    let mut told = 0;
+    let mut disk = MemDisk::new(alloc).stop_at(call, choice);
+    let whole = run(alloc, &mut disk, &mut told).is_some();
+    let mut image = disk.image();
+    let rows = rows_shown(alloc, &mut image);
+    let more = goes_on(alloc, &mut image);
+    drop(image);
+    match rows {
+        Some(rows) => {
+            more == Some(true) && (rows == told || !whole && rows == told.saturating_add(1))
+        }
+        None => false,
+    }
+}
+
+fn calls_of_run(alloc: Global) -> Option<u64> {
+    let mut told = 0;
+    let mut disk = MemDisk::new(alloc);
+    let done = run(alloc, &mut disk, &mut told);
+    let calls = disk.calls_made().len() as u64;
+    drop(disk);
+    done?;
+    Some(calls)
+}
+
+// Whether a stop in any call of the run does.
+fn each_stops_well(alloc: Global, choice: Choice) -> bool {
+    for call in 1..72u64 {
+        if !stops_well(alloc, call, choice) {
+            return false;
+        }
+    }
+    true
+}
+
+#[test]
+fn a_stop_in_a_flush_loses_nothing(rt: HostRuntime) -> Result<(), Fail> {
+    let calls = calls_of_run(rt.alloc());
+    assert!(rt; calls == Some(71), "{calls:?}");
+    assert!(rt; each_stops_well(rt.alloc(), Choice::Old));
+    Ok(())
+}
+
+#[test]
+fn nor_does_one_that_leaves_all(rt: HostRuntime) -> Result<(), Fail> {
+    assert!(rt; each_stops_well(rt.alloc(), Choice::New));
+    Ok(())
+}
+
+#[test]
+fn nor_does_one_that_leaves_zeros(rt: HostRuntime) -> Result<(), Fail> {
+    assert!(rt; each_stops_well(rt.alloc(), Choice::Fill(0)));
+    Ok(())
+}
+
+#[test]
+fn nor_does_one_that_leaves_ones(rt: HostRuntime) -> Result<(), Fail> {
+    assert!(rt; each_stops_well(rt.alloc(), Choice::Fill(1)));
+    Ok(())
+}
+
+#[test]
+fn nor_does_one_that_leaves_full_bytes(rt: HostRuntime) -> Result<(), Fail> {
+    assert!(rt; each_stops_well(rt.alloc(), Choice::Fill(255)));
+    Ok(())
+}
