@@ -4,7 +4,8 @@ use Rattle.std.specs.Prelude.{◌↔◌, ◌==◌, get_or, if◌then◌else◌, 
 use Rattle.std.proofs.lemmas.Bool.{cases_Bool, false≢true}
 use Rattle.std.proofs.lemmas.Bool.Decides.{nat_tests}
 use Rattle.px_calls.specs.Requires.{CanConsult, CanLook, CanReadBy, IsReadable, index_among, index_in}
-use Rattle.px_calls.specs.declared.query.By.TheVariants.{Index as ByIndex}
+use Rattle.px_calls.specs.declared.query.By.{By}
+use Rattle.px_calls.specs.declared.query.By.TheVariants.{Index as ByIndex, Table as ByTable}
 use Rattle.px_calls.specs.declared.query.Doubt.{Doubt}
 use Rattle.px_calls.specs.declared.query.Path.{Path}
 use Rattle.px_calls.specs.declared.query.Point.{Point}
@@ -87,6 +88,12 @@ part_of p i wanted is x same born =
 
 same_index : (a b : Index) → Some a ≡ Some b → a ≡ b
 same_index a b e = cc
+
+pub index_is : (i j : IndexId) → ByIndex i ≡ ByIndex j → i ≡ j
+index_is i j e = cc
+
+pub no_index : (i : IndexId) → ByTable ≡ ByIndex i → ⊥
+no_index i e = (let z : ◌≡◌ {A = By} ByTable (ByIndex i) = e in cc)
 
 -- ---- what is read there
 

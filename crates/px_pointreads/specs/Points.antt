@@ -1,10 +1,13 @@
 -- Which groups and indexes are read at a point.
-use Rattle.std.specs.Prelude.{◌≡◌, ◌≤◌, ℕ, List, slice_get, Some}
+use Rattle.std.specs.Prelude.{◌≡◌, ◌≢◌, ◌≤◌, ℕ, List, slice_get, Some}
+use Rattle.std.specs.List.{AllByRecursion}
+use Rattle.px_calls.specs.declared.query.FoundKey.{FoundKey}
 use Rattle.px_calls.specs.declared.query.Point.{Point}
 use Rattle.px_shown.specs.Told.{IsIndexAt, IsPointOf, reach_of}
 use Rattle.px_values.specs.declared.name.IndexId.{IndexId}
 use Rattle.px_group.specs.declared.group.Group.{Group}
 use Rattle.px_group.specs.declared.group.IndexRegion.{IndexRegion}
+use Rattle.px_reading.specs.Versions.{AreOfVersions}
 
 -- the table stands as it was when the point was opened, and isn't forgotten there
 pub record IsReadAt (g : Group) (p : Point) : Type 0 where
@@ -16,3 +19,15 @@ pub record IsPartAt (p : Point) (i : IndexId) (x : IndexRegion) : Type 0 where
   pub id : x.index.id ≡ i
   pub at : IsIndexAt p x.index
   pub born : x.index.birth ≤ reach_of p
+
+-- each key is of the version of it that the point sees in the group's index of this number
+pub record AreOfIndex (g : Group) (p : Point) (i : IndexId) (fs : List FoundKey) : Type 0 where
+  pub place : ℕ
+  pub index : IndexRegion
+  pub at : slice_get g.indexes.items place ≡ Some index
+  pub part : IsPartAt p i index
+  pub versions : AreOfVersions index (reach_of p) fs
+
+-- the group has no index of this number
+abbrev pub LacksIndex : IndexId → Group → Type 0
+LacksIndex i g = AllByRecursion (λ x. x.index.id ≢ i) g.indexes.items

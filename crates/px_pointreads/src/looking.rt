@@ -3,14 +3,16 @@ ghost use Rattle.std.specs.Prelude.{◌≡◌, ℕ, List, IfOk};
 ghost use Rattle.std.specs.Option.{option_copied};
 ghost use Rattle.px_calls.specs.Looks.{Shows, ShowsRows};
 ghost use Rattle.px_calls.specs.Requires.{CanLook};
+ghost use Rattle.px_calls.specs.declared.query.By.TheVariants.{Index as ByIndex};
 ghost use Rattle.px_forms.specs.Indexes.{IndexForm};
 ghost use Rattle.px_groupworld.specs.Group.{GroupData};
 ghost use Rattle.px_openbatches.specs.Pending.{HeldBatch};
 ghost use Rattle.px_trail.specs.Trail.{Base};
 ghost use Rattle.px_trail.specs.declared.entry.Entry.{Entry as Entries};
+ghost use Rattle.px_values.specs.declared.name.IndexId.{IndexId as Number};
 ghost use Rattle.px_group.specs.Group.{IsRightGroup, IsShownBy, IsTallied};
 ghost use Rattle.px_reading.specs.Looked.{HasLooked};
-ghost use Rattle.px_pointreads.specs.Points.{IsReadAt};
+ghost use Rattle.px_pointreads.specs.Points.{AreOfIndex, IsReadAt};
 
 use crate::places::{index_place, reach};
 use px_calls::{By, Path, Point};
@@ -32,7 +34,7 @@ fn bytes_if(key: &Option<Key>) -> Option<&[u8]>
     }
 }
 
-/// The next keys of the path past `after`.
+/// The next keys of the path past `after`. By an index, a key is sure exactly where its version is verified, and no row of the table is looked at.
 ///
 /// It is refused with `Memory` alone, where an index doesn't stand as it was too; of a point that a server opened it does.
 pub fn look<D: Disk>(
@@ -48,7 +50,9 @@ pub fn look<D: Disk>(
     requires path { CanLook p.now path.now }
     ensures keys { IfOk result (λ n. Shows p.now path.now after.now n.found n.next) }
     ensures rows { IfOk result (λ n. (b : Base) (index : ℕ → IndexForm) (es : List Entries) (v : GroupData) (hs : List HeldBatch) → IsTallied b es group.old hs → IsShownBy b index es group.old v hs → ShowsRows b es p.now path.now after.now n.found n.next) }
+    ensures versions { IfOk result (λ n. (i : Number) → path.now.by ≡ ByIndex i → AreOfIndex group.old p.now i n.found) }
     ensures looked { HasLooked group.old group.new }
+    ensures no_row { (i : Number) → path.now.by ≡ ByIndex i → group.new.rows ≡ group.old.rows }
     ensures untouched { disk.new ≡ disk.old }
 {
     let low = path.low.as_slice();

@@ -1,11 +1,12 @@
 // Where a point and a doubt are read.
-ghost use Rattle.std.specs.Prelude.{◌≡◌, ◌<◌, ◌≤◌, length, slice_get, Some, IfSome, IsTrue};
+ghost use Rattle.std.specs.Prelude.{◌≡◌, ◌≢◌, ◌<◌, ◌≤◌, length, slice_get, Some, IfNone, IfSome, IsTrue};
+ghost use Rattle.std.specs.List.{AllByRecursion};
 ghost use Rattle.std.specs.Option.{option_copied};
 ghost use Rattle.px_calls.specs.Requires.{index_among};
 ghost use Rattle.px_shown.specs.Told.{reach_of};
 ghost use Rattle.px_group.specs.declared.group.Group.{Group as Groups};
 ghost use Rattle.px_group.specs.declared.group.IndexRegion.{IndexRegion as Part};
-ghost use Rattle.px_pointreads.specs.Points.{IsPartAt, IsReadAt};
+ghost use Rattle.px_pointreads.specs.Points.{IsPartAt, IsReadAt, LacksIndex};
 
 use crate::same::{is_same_index, is_same_table};
 use px_calls::Point;
@@ -92,6 +93,7 @@ pub struct DoubtPlace {
 fn number_place(parts: &[IndexRegion], index: IndexId) -> Option<usize>
     ensures within { IfSome result (λ place. place < length parts.now) }
     ensures numbered { IfSome result (λ place. (x : Part) → slice_get parts.now place ≡ Some x → x.index.id ≡ index) }
+    ensures none { IfNone result (AllByRecursion (λ (x : Part). x.index.id ≢ index) parts.now) }
 {
     for place in 0..parts.len() {
         if parts[place].index.id == index {
@@ -101,10 +103,11 @@ fn number_place(parts: &[IndexRegion], index: IndexId) -> Option<usize>
     None
 }
 
-/// Where the index of a number is maintained.
+/// Where the index of a number is maintained, and none exactly where no group has it.
 pub fn doubt_place(groups: &[Group], index: IndexId) -> Option<DoubtPlace>
     ensures within { IfSome result (λ at. at.group < length groups.now) }
     ensures numbered { IfSome result (λ at. (g : Groups) → slice_get groups.now at.group ≡ Some g → (at.index < length g.indexes.items) × ((x : Part) → slice_get g.indexes.items at.index ≡ Some x → x.index.id ≡ index)) }
+    ensures none { IfNone result (AllByRecursion (LacksIndex index) groups.now) }
 {
     for group in 0..groups.len() {
         if let Some(index) = number_place(&groups[group].indexes, index) {

@@ -106,6 +106,7 @@ module _ {D C O : Type 0} (d : DiskGhosts D) (c : ClockGhosts C) (k : SinkGhosts
       stands = λ open_ reads tells. r.stands open_ (now reads) tells;
       unlate = r.unlate;
       late_is = λ u is reads tells. r.late_is u is (now reads) tells;
+      closed_at = r.closed_at;
       status = r.status;
       blamed = r.blamed;
       others = λ reads tells. others_joined d (base_of (folder_in w)) old new o.disk o.trail.entries (touches tells) past (r.others (now reads) tells);
@@ -167,6 +168,7 @@ module _ {D E C O : Type 0} (d : DiskGhosts D) (of : E → D) (c : ClockGhosts C
           in record { folder = s.folder; groups = s.groups; stands = stands_through o.disk s.folder s.stands; explains = s.explains });
       unlate = r.over.unlate;
       late_is = λ u is reads tells. r.over.late_is u is (reads_through reads) tells;
+      closed_at = r.over.closed_at;
       status = r.over.status;
       blamed = r.over.blamed;
       others = λ reads tells. (let k = r.over.others (reads_through reads) tells in record { later = k.later; left = k.left; seen = k.seen });
@@ -266,6 +268,7 @@ module _ {D C I O : Type 0} (d : DiskGhosts D) (c : ClockGhosts C) (s : SourceGh
     folder_stands = r.over.stands;
     late_is_of_a_failed_write = r.over.unlate;
     late_is_where_it_closed = r.over.late_is;
+    closed_by_its_last_call = r.over.closed_at;
     status_is_caused = r.over.status;
     faults_are_theirs = r.over.blamed;
     all_is_ended = script_ended (IsSoundFolder r.folder) (known_over (base_of r.folder) r.over.seat o.trail.entries) script o.transcripts r.over.sink_failed o.memory refl r.over.replied;

@@ -154,6 +154,7 @@ module _ {D : Type 0} (d : DiskGhosts D) (up_to_now : (x : D) (moment file : ℕ
         in record { folder = s.folder; groups = s.groups; stands = stands_back d (at_least at all) o.disk (inr within) s.folder s.stands; explains = s.explains });
     unlate = r.unlate;
     late_is = r.late_is;
+    closed_at = r.closed_at;
     status = r.status;
     blamed = r.blamed;
     others = λ given tells. (let

@@ -150,6 +150,8 @@ pub record IsRun {D C I O : Type 0} (d : DiskGhosts D) (c : ClockGhosts C) (s : 
   pub folder_stands : closing_call left.outcome.trail.entries ≡ None → ReadsSound d given.disk → IsTrue d.tells → StandsBy d (base_of folder) left.outcome.disk left.outcome.trail.entries
   pub late_is_of_a_failed_write : closing_call left.outcome.trail.entries ≡ None → left.outcome.late ≡ None
   pub late_is_where_it_closed : (u : Entry) → left.outcome.late ≡ Some u → ReadsSound d given.disk → IsTrue d.tells → IsLate (base_of folder) left.outcome.trail.entries u
+  -- and the device call that closed it, which replies name, is the last one of the run
+  pub closed_by_its_last_call : (call : ℕ) → closing_call left.outcome.trail.entries ≡ Some call → call ≡ d.calls left.outcome.disk
   pub status_is_caused : left.outcome.status ≡ status_of sink_failed (d.first_fault left.outcome.disk) left.outcome.memory (causes_of (items_of left.outcome.transcripts))
   pub faults_are_theirs : has_told left.outcome.trail.entries ≡ true → HasFailed d left.outcome.disk
   -- where no session is stopped, each batch has ended, and each point is closed

@@ -2,6 +2,7 @@ pub mod Looked
 pub mod Worlds
 pub mod Flight
 pub mod Looks
+pub mod Versions
 pub mod Rows
 pub mod Verdicts
 pub mod Asked

@@ -211,6 +211,7 @@ module _ {D : Type 0} (d : Ghosts D) (b : Base) (sound premise : Type 0) (began 
             (λ running given tells. goes_then g' es o a running (λ f v told. by_none b es f v told (number_in g)) (k.server.goes_on running given tells));
         room = room_set groups place g g' l is closed trail trail k.room (omega (arith, less));
         blamed = k.blamed;
+        last_call = k.last_call;
         others = k.others;
       })
 
@@ -249,5 +250,6 @@ module _ {D : Type 0} (d : Ghosts D) (b : Base) (sound premise : Type 0) (began 
               (server_goes d tells_left up_to_now b premise (HasParts d b catalog groups) (HasParts d b catalog then) disk es late closed k.server e at quiet may unshut (λ running goes. goes_then g' es' o a running by goes));
           room = room_set groups place g g' l is closed trail trail' k.room less;
           blamed = subst (λ (ys : List Entry). has_told ys ≡ true → HasFailed d disk) (sym entries) (blamed_quiet d disk es e calm k.blamed);
+          last_call = k.last_call;
           others = λ given tells. subst (λ (ys : List Entry). OthersStay d b began disk ys) (sym entries) (others_more d b began es (e ∷ []) disk (k.others given tells));
         })

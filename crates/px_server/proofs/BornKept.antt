@@ -13,7 +13,7 @@ use Rattle.px_tables.specs.declared.index.IndexState.TheVariants.{Disabled}
 use Rattle.px_tables.specs.declared.index.NewIndex.{NewIndex}
 use Rattle.px_tables.specs.declared.table.Table.{Table}
 use Rattle.px_trail.specs.declared.entry.Act.{Act}
-use Rattle.px_trail.specs.declared.entry.Act.TheVariants.{IndexMade, Shut}
+use Rattle.px_trail.specs.declared.entry.Act.TheVariants.{IndexMade}
 use Rattle.px_trail.specs.declared.entry.Entry.{Entry}
 use Rattle.px_trail.specs.Legal.{Follows, MayCome}
 use Rattle.px_trail.specs.Recorded.{Recorded}
@@ -46,7 +46,7 @@ use Rattle.px_recovery.specs.Stands.{Explains}
 use Rattle.px_recovery.proofs.Births.{index_made as folder_made}
 use Rattle.px_standing.specs.Agrees.{Agrees, opened_standing}
 use Rattle.px_standing.proofs.Defined.{index_made as agrees_made}
-use Rattle.px_server.specs.Kept.{HasFailed, HasPoints, HasShown, HasTallied, HasTrailRoom, IsKept, IsOnDisk, owed, owed_by}
+use Rattle.px_server.specs.Kept.{HasFailed, HasPoints, HasShown, HasTallied, HasTrailRoom, IsKept, IsOnDisk, IsShutAt, owed, owed_by}
 use Rattle.px_server.specs.Others.{Beginning}
 use Rattle.px_server.proofs.Catalogued.{AreForms, define_failed}
 use Rattle.px_server.proofs.Defines.{Defines}
@@ -124,7 +124,7 @@ module _ {D : Type 0} (d : Ghosts D) (tells_left : (x : D) (moment file : ℕ) (
       in subst (λ (n : ℕ). Explains b es' (with_standing (after f.standing (IndexIs (made_index n i s what))) f) (with_part v t.0 (born_data i.0 s (v t.0)))) same (folder_made b es f unmade v told e may t i s what is g.table found))
 
   -- the call failed
-  pub born_failed : (shut : Entry) (call : ℕ) → shut.act ≡ Shut call → shut.calls ≡ d.calls disk' → HasFailed d disk' → (catalog' : Catalog) (trail' : Recorded) → trail'.entries ≡ es ++ shut ∷ [] → HasTrailRoom (Some call) groups trail'
+  pub born_failed : (shut : Entry) (call : ℕ) → IsShutAt shut call → call ≡ d.calls disk' → HasFailed d disk' → (catalog' : Catalog) (trail' : Recorded) → trail'.entries ≡ es ++ shut ∷ [] → HasTrailRoom (Some call) groups trail'
       → IsKept d b sound premise began disk' catalog' standing groups trail' (Some e) (Some call)
   born_failed shut call shut-is shut_at failed catalog' trail' entries room =
       define_failed d tells_left up_to_now b sound premise began disk catalog standing groups trail late closed k running disk' (IndexIs y) passes touches leaves regions t e own may at (λ v. with_part v t.0 (born_data i.0 s (v t.0))) explains shut call shut-is shut_at failed catalog' trail' entries room

@@ -11,7 +11,6 @@ use Rattle.px_outside.proofs.Moments.{only_kept}
 use Rattle.px_values.specs.declared.name.TableId.{TableId}
 use Rattle.px_tables.specs.declared.index.Index.{Index}
 use Rattle.px_tables.specs.declared.table.Table.{Table}
-use Rattle.px_trail.specs.declared.entry.Act.TheVariants.{Shut}
 use Rattle.px_trail.specs.declared.entry.Entry.{Entry}
 use Rattle.px_trail.specs.Legal.{IsLegal, MayCome}
 use Rattle.px_trail.specs.Recorded.{Recorded}
@@ -45,7 +44,7 @@ use Rattle.px_recovery.specs.Tables.{IsOneOf, form_in, index_in}
 use Rattle.px_recovery.proofs.Definitions.{catalogue_moved, catalogue_moves}
 use Rattle.px_recovery.proofs.Numbered.{rows_number}
 use Rattle.px_standing.specs.Agrees.{Agrees, opened_standing}
-use Rattle.px_server.specs.Kept.{AreGroups, AreShown, HasFailed, HasParts, HasPoints, HasShown, HasTallied, HasTrailRoom, IsKept, IsOnDisk, IsTold, forms_in, has_told, number_in, table_in_group}
+use Rattle.px_server.specs.Kept.{AreGroups, AreShown, HasFailed, HasParts, HasPoints, HasShown, HasTallied, HasTrailRoom, IsKept, IsOnDisk, IsShutAt, IsTold, forms_in, has_told, number_in, table_in_group}
 use Rattle.px_server.specs.Others.{Beginning, OthersStay}
 use Rattle.px_server.proofs.Changed.{lasting_server, late_entry}
 use Rattle.px_server.proofs.Blamed.{blamed_on, blamed_quiet}
@@ -53,7 +52,7 @@ use Rattle.px_server.proofs.Defines.{Defines, defines_apart, defines_lasts, defi
 use Rattle.px_server.proofs.Drawn.{named_after, regions_in}
 use Rattle.px_server.proofs.Forms.{shown_forms, told_forms}
 use Rattle.px_server.proofs.Others.{others_more, others_on}
-use Rattle.px_server.proofs.Stopped.{stopped_same}
+use Rattle.px_server.proofs.Stopped.{none_some, stopped_same}
 
 pub all_pairs : {A : Type 0} (P Q : A → Type 0) (xs : List A) → AllByRecursion P xs → AllByRecursion Q xs → AllByRecursion (λ x. P x × Q x) xs
 all_pairs P Q [] p q = tt
@@ -244,11 +243,11 @@ module _ {D : Type 0} (d : Ghosts D) (tells_left : (x : D) (moment file : ℕ) (
     }
 
   -- the call failed: the server is closed, and the entry is late
-  pub define_failed : (shut : Entry) (call : ℕ) → shut.act ≡ Shut call → shut.calls ≡ d.calls disk' → HasFailed d disk' → (catalog' : Catalog) (trail' : Recorded) → trail'.entries ≡ es ++ shut ∷ [] → HasTrailRoom (Some call) groups trail'
+  pub define_failed : (shut : Entry) (call : ℕ) → IsShutAt shut call → call ≡ d.calls disk' → HasFailed d disk' → (catalog' : Catalog) (trail' : Recorded) → trail'.entries ≡ es ++ shut ∷ [] → HasTrailRoom (Some call) groups trail'
       → IsKept d b sound premise began disk' catalog' standing groups trail' (Some e) (Some call)
   define_failed shut call shut-is shut_at failed catalog' trail' entries room =
       stopped_same d b sound premise began disk catalog standing groups trail late closed k running disk' passes.later shut call shut-is shut_at catalog' (Some e)
-      (late_entry d tells_left up_to_now b premise Has (HasParts d b catalog' groups) disk es late closed k.server running disk' passes.later past shut call shut-is shut_at passes.at_most e (defines_lasts t e.act own) at may leaves_folder)
+      (late_entry d tells_left up_to_now b premise Has (HasParts d b catalog' groups) disk es late closed k.server running disk' passes.later past shut call (ap (λ (u : Entry). u.act) shut-is) (ap (λ (u : Entry). u.calls) shut-is ∙ shut_at) passes.at_most e (defines_lasts t e.act own) at may leaves_folder)
       failed others_on_disk trail' entries room
 
   -- the record is there
@@ -337,5 +336,6 @@ module _ {D : Type 0} (d : Ghosts D) (tells_left : (x : D) (moment file : ℕ) (
           (lasting_server d tells_left up_to_now b premise Has (HasParts d b catalog' groups') disk es late closed k.server running disk' passes.later past passes.at_most e (defines_lasts t e.act own) at may (defines_unshut t e.act own) moves);
       room = room;
       blamed = subst (λ (ys : List Entry). has_told ys ≡ true → HasFailed d disk') (sym entries) (blamed_quiet d disk' es e (defines_quiet t e.act own) (blamed_on d disk disk' es passes.later passes.faults_later k.blamed));
+      last_call = λ c same. absurd (none_some c (sym running ∙ same));
       others = λ given tells. subst (λ (ys : List Entry). OthersStay d b began disk' ys) (sym entries) (others_more d b began es (e ∷ []) disk' (others_on_disk given tells));
     }

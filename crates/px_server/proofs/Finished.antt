@@ -8,7 +8,7 @@ use Rattle.px_schema.specs.declared.standing.Standing.{Standing}
 use Rattle.px_catalog.specs.declared.catalog.Catalog.{Catalog}
 use Rattle.px_group.specs.declared.group.Group.{Group}
 use Rattle.px_server.specs.Kept.{IsKept}
-use Rattle.px_server.specs.Logged.{AreLogged}
+use Rattle.px_server.specs.Logged.{AreLogged, AreOnDisk}
 use Rattle.px_server.specs.Others.{Beginning}
 use Rattle.px_server.specs.Shown.{logged_in}
 use Rattle.px_server.specs.Started.{StandsBy}
@@ -29,6 +29,12 @@ module _ {D : Type 0} (d : Ghosts D) (b : Base) (sound premise : Type 0) (began 
   logged_on given tells = (let
       on = k.server.goes_on running given tells
       in record { groups = groups; folder = on.folder; stand = k.each.tallied running; on = on.has.regions; counts = refl })
+
+  -- and their regions go on from there,
+  pub groups_on : premise → IsTrue d.tells → AreOnDisk d b disk trail.entries groups
+  groups_on given tells = (let
+      on = k.server.goes_on running given tells
+      in record { folder = on.folder; stand = k.each.tallied running; on = on.has.regions })
 
   -- and no entry is late
   pub not_late : late ≡ None

@@ -1,5 +1,5 @@
 -- A repair is made: what is true of a server stays so.
-use Rattle.std.proofs.Common.{◌≡◌, ◌≢◌, ◌<◌, ◌≤◌, ◌+◌, ℕ, zero, suc, true, false, Option, Some, None, Result, Ok, Err, List, [], ◌∷◌, ◌++◌, length, get_or, map, slice_get, refl, sym, ap, subst, ◌∙◌, arith}
+use Rattle.std.proofs.Common.{◌≡◌, ◌≢◌, ◌<◌, ◌≤◌, ◌+◌, ℕ, zero, suc, true, false, inr, Option, Some, None, Result, Ok, Err, List, [], ◌∷◌, ◌++◌, length, get_or, map, slice_get, refl, sym, ap, subst, ◌∙◌, arith}
 use Rattle.std.specs.Prelude.{IfErr, IfOk, IsSome, IsTrue, sum_by}
 use Rattle.std.proofs.lemmas.Bool.{false≢true}
 use Rattle.std.specs.List.{slice_set}
@@ -10,7 +10,7 @@ use Rattle.px_cells.specs.Order.{ReadsSame}
 use Rattle.px_region.specs.Region.{read_of}
 use Rattle.px_tables.specs.declared.index.Index.{Index}
 use Rattle.px_values.specs.declared.name.IndexId.{IndexId}
-use Rattle.px_trail.specs.declared.entry.Act.TheVariants.{Fixed, Shut}
+use Rattle.px_trail.specs.declared.entry.Act.TheVariants.{Fixed}
 use Rattle.px_trail.specs.declared.entry.Entry.{Entry}
 use Rattle.px_trail.specs.Legal.{Follows, IsLegal, MayCome}
 use Rattle.px_trail.specs.Recorded.{Recorded}
@@ -26,7 +26,7 @@ use Rattle.px_group.specs.declared.group.IndexRegion.{IndexRegion}
 use Rattle.px_indexed.proofs.Rows.{batch_sound}
 use Rattle.px_reading.specs.Looked.{HasLooked}
 use Rattle.px_reading.proofs.Flight.{flight_pending, in_flight}
-use Rattle.px_reading.proofs.Looked.{looked_back, part_at}
+use Rattle.px_reading.proofs.Looked.{looked_back, looked_on, part_at}
 use Rattle.px_recovery.proofs.Server.{newest_early}
 use Rattle.px_calls.specs.Calls.{DidFix, Finds, IsInFlight}
 use Rattle.px_calls.specs.Causes.{Refuses, fix_cause}
@@ -35,14 +35,15 @@ use Rattle.px_calls.specs.declared.fault.StepFault.{StepFault}
 use Rattle.px_calls.specs.declared.query.Doubt.{Doubt}
 use Rattle.px_calls.specs.declared.query.Fixing.{Fixing}
 use Rattle.px_calls.specs.declared.query.Fixing.TheVariants as fixing
-use Rattle.px_repairs.specs.Repairs.{Fixes, HandsRepair, HasFailed, HasFixed, HasStayed, IsRepair, IsUnderWay, WroteRepair}
+use Rattle.px_repairs.specs.Repairs.{Fixes, HandsRepair, HasFailed, HasFixed, HasStayed, IsRepair, IsUnderWay, WroteRepair, stands_in}
 use Rattle.px_repairs.specs.declared.repairing.RepairFault.{RepairFault}
 use Rattle.px_repairs.specs.declared.repairing.RepairFault.TheVariants.{Busy, NotReady, WriteFault, Memory}
 use Rattle.px_repairs.proofs.Handing.{got_some}
-use Rattle.px_server.specs.Repairs.{Answers, Stays}
+use Rattle.px_server.specs.Repairs.{Answers, IsMended, Mends, StandsNoMore, Stays}
+use Rattle.px_pointreads.proofs.Asked.{there_is}
 use Rattle.px_repairs.proofs.Right.{right_repaired, tallied_repaired, traced_repaired}
 use Rattle.px_repairs.proofs.Shown.{repair_steps, repaired_shown}
-use Rattle.px_server.specs.Kept.{HasPoints, HasTallied, HasTrailRoom, IsKept, owed, owed_by}
+use Rattle.px_server.specs.Kept.{HasPoints, HasTallied, HasTrailRoom, IsKept, IsShutAt, owed, owed_by}
 use Rattle.px_server.specs.Others.{Beginning}
 use Rattle.px_server.proofs.Handed.{IndexGoes, IndexShows, ToIndex, index_handed, index_shut}
 use Rattle.px_server.proofs.Lists.{all_at}
@@ -148,7 +149,7 @@ module _ {D : Type 0} (d : Ghosts D) (tells_left : (x : D) (moment file : ℕ) (
         tallied_before = all_at (HasTallied b es) before place looked inside is_before (kept_before.each.tallied running)
 
       -- or the disk failed
-      module _ (kept : List CellData) (due : IsRepair looked at key s kept) (w : HandsRepair d looked g' disk disk' at kept) (shut : Entry) (call : ℕ) (shut-is : shut.act ≡ Shut call) (shut_at : shut.calls ≡ d.calls disk') (rose : Rose d disk disk')
+      module _ (kept : List CellData) (due : IsRepair looked at key s kept) (w : HandsRepair d looked g' disk disk' at kept) (shut : Entry) (call : ℕ) (shut-is : IsShutAt shut call) (shut_at : call ≡ d.calls disk') (rose : Rose d disk disk')
           (trail' : Recorded) (entries : trail'.entries ≡ es ++ shut ∷ []) (room : trail.room ≤ trail'.room + 1) where
         to_failed : ToIndex looked g' at w.index w.region
         to_failed = record { table = w.step.table; points = w.step.points; index = w.step.index; rows = w.step.rows; indexes = w.step.indexes }
@@ -208,7 +209,7 @@ module _ {D : Type 0} (d : Ghosts D) (tells_left : (x : D) (moment file : ℕ) (
       -- the same entries, with the room that is left behind the entry
       roomy : Recorded = record trail { room = trail'.room }
       in let
-      kept : IsKept d b sound premise began disk catalog standing groups roomy late closed = record { told = k.told; each = k.each; shown = k.shown; server = k.server; room = room; blamed = k.blamed; others = k.others }
+      kept : IsKept d b sound premise began disk catalog standing groups roomy late closed = record { told = k.told; each = k.each; shown = k.shown; server = k.server; room = room; blamed = k.blamed; last_call = k.last_call; others = k.others }
       in subst (λ (gs : List Group). IsKept d b sound premise began disk catalog standing gs trail' late closed) same
       (pointed d tells_left up_to_now b sound premise began disk catalog standing groups roomy late closed kept e called refl refl may_fix (unshut_by closed) still_by (λ t. tt) place g g l is (record { table = refl; rows = refl; indexes = refl; batches = refl; last = refl; horizon = refl })
       (λ t other. tt) (λ q s. points-snoc q g.table.id.0 s trail.entries e ∙ (apart_points g.table.id q s (open_points q g.table.id.0 s trail.entries) seat (Fixed i key) tt ∙ here q s))
@@ -309,6 +310,64 @@ module _ {D : Type 0} (d : Ghosts D) (tells_left : (x : D) (moment file : ℕ) (
       t = tallied_before d tells_left up_to_now b sound premise began disk catalog standing groups trail late closed k running place g g' l is disk' at q.key q.stamp f.looked f.has f.kept f.due f.wrote in let
       t' : HasTallied b (es2 ++ e ∷ []) f.looked = record { held = t.held; tallied = tallied_apart b es2 f.looked t.held t.tallied e tt (standing_snoc b es2 f.looked seat calls i bytes t.tallied.standing) }
       in not_in_flight b (es2 ++ e ∷ []) legal f.looked (right_before d tells_left up_to_now b sound premise began disk catalog standing groups trail late closed k running place g g' l is disk' at q.key q.stamp f.looked f.has) t' at q (named_looked g f.looked f.has at q.index named) f.kept f.due)
+
+-- ---- the version, in the tables
+
+slice_there : {A : Type 0} (xs : List A) (i : ℕ) (x : A) → i < length xs → slice_get (slice_set xs i x) i ≡ Some x
+slice_there [] i x l = absurd (omega (arith, l))
+slice_there (y ∷ xs) zero x l = refl
+slice_there (y ∷ xs) (suc i) x l = slice_there xs i x (omega (arith, l))
+
+module _ {D : Type 0} (d : Ghosts D) (groups : List Group) (place : ℕ) (g g' : Group) (l : place < length groups) (got : get_or groups place g ≡ g) (disk disk' : D) (at : ℕ) (q : Doubt) (there : at < length g.indexes.items)
+    (named : (x : IndexRegion) → slice_get g.indexes.items at ≡ Some x → x.index.id ≡ q.index) where
+  abbrev then3 : List Group
+  then3 = slice_set groups place g'
+
+  stands_no_more : HasStayed g g' disk disk' → ((x : IndexRegion) → slice_get g'.indexes.items at ≡ Some x → stands_in g' x q.key q.stamp ≡ false) → StandsNoMore then3 q
+  stands_no_more h judged = (let
+      x = there_is g.indexes.items at there
+      in let
+      y = looked_on g.indexes.items g'.indexes.items h.looked.indexes at x.0 x.1
+      in record {
+        place = place;
+        group = g';
+        at = slice_there groups place g' l;
+        part = at;
+        index = y.0;
+        of = y.1.0;
+        id = named_looked g g' h.looked at q.index named y.0 y.1.0;
+        gone = judged y.0 y.1.0;
+      })
+
+  pub stayed_mends : (n : ℕ) (result : Result Fixing RepairFault) → Stays result → Fixes d g g' disk disk' at q.key q.stamp result → (answer : Result Fixing StepFault) → Answers n result answer → IfOk answer (Mends groups then3 q)
+  stayed_mends n (Ok fixing.Fixed) never f answer is = absurd never
+  stayed_mends n (Ok fixing.Gone) here f answer is = subst (λ r. IfOk r (Mends groups then3 q)) (sym is) (inr (stands_no_more f.0 f.1))
+  stayed_mends n (Ok fixing.InFlight) here f answer is = subst (λ r. IfOk r (Mends groups then3 q)) (sym is) tt
+  stayed_mends n (Err (Busy cells bytes)) here f answer is = subst (λ r. IfOk r (Mends groups then3 q)) (sym is) tt
+  stayed_mends n (Err NotReady) here f answer is = subst (λ r. IfOk r (Mends groups then3 q)) (sym is) tt
+  stayed_mends n (Err WriteFault) never f answer is = absurd never
+  stayed_mends n (Err Memory) here f answer is = subst (λ r. IfOk r (Mends groups then3 q)) (sym is) tt
+
+  pub fixed_mends : HasFixed d g g' disk disk' at q.key q.stamp → IsMended groups then3 q
+  fixed_mends f = record {
+    place = place;
+    group = g;
+    at = got_some groups place g g l (sym got);
+    looked = f.looked;
+    has = f.has;
+    part = at;
+    index = f.wrote.index;
+    id = named_looked g f.looked f.has at q.index named f.wrote.index f.wrote.step.index;
+    kept = f.kept;
+    due = f.due;
+    mended = g';
+    region = f.wrote.region;
+    step = f.wrote.step;
+    cells = f.wrote.wrote.hands.cells;
+    handed = f.wrote.wrote.hands.handed;
+    reads = f.wrote.wrote.written.reads;
+    then = refl;
+  }
 
 -- ---- what is answered
 

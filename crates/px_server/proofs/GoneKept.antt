@@ -9,7 +9,7 @@ use Rattle.px_values.specs.declared.name.IndexId.{IndexId}
 use Rattle.px_values.specs.declared.name.TableId.{TableId}
 use Rattle.px_tables.specs.declared.index.Index.{Index}
 use Rattle.px_trail.specs.declared.entry.Act.{Act}
-use Rattle.px_trail.specs.declared.entry.Act.TheVariants.{Dropped, Shut}
+use Rattle.px_trail.specs.declared.entry.Act.TheVariants.{Dropped}
 use Rattle.px_trail.specs.declared.entry.Entry.{Entry}
 use Rattle.px_trail.specs.Legal.{MayCome}
 use Rattle.px_trail.specs.Recorded.{Recorded}
@@ -39,7 +39,7 @@ use Rattle.px_recovery.specs.Tables.{index_in}
 use Rattle.px_recovery.proofs.IndexDrops.{index_gone as folder_gone}
 use Rattle.px_standing.specs.Agrees.{Agrees}
 use Rattle.px_standing.proofs.Defined.{index_gone as agrees_gone}
-use Rattle.px_server.specs.Kept.{HasFailed, HasPoints, HasShown, HasTallied, HasTrailRoom, IsKept, IsOnDisk, owed}
+use Rattle.px_server.specs.Kept.{HasFailed, HasPoints, HasShown, HasTallied, HasTrailRoom, IsKept, IsOnDisk, IsShutAt, owed}
 use Rattle.px_server.specs.Others.{Beginning}
 use Rattle.px_server.proofs.BornKept.{same_owed}
 use Rattle.px_server.proofs.Catalogued.{define_failed}
@@ -95,7 +95,7 @@ module _ {D : Type 0} (d : Ghosts D) (tells_left : (x : D) (moment file : ℕ) (
       in folder_gone b es f v told e may t i is g.table found z.0 z.1.0 (ap (λ (u : TableId). u.0) z.1.1 ∙ of_table) shut)
 
   -- the call failed
-  pub gone_failed : (shut : Entry) (call : ℕ) → shut.act ≡ Shut call → shut.calls ≡ d.calls disk' → HasFailed d disk' → (catalog' : Catalog) (trail' : Recorded) → trail'.entries ≡ es ++ shut ∷ [] → HasTrailRoom (Some call) groups trail'
+  pub gone_failed : (shut : Entry) (call : ℕ) → IsShutAt shut call → call ≡ d.calls disk' → HasFailed d disk' → (catalog' : Catalog) (trail' : Recorded) → trail'.entries ≡ es ++ shut ∷ [] → HasTrailRoom (Some call) groups trail'
       → IsKept d b sound premise began disk' catalog' standing groups trail' (Some e) (Some call)
   gone_failed shut call shut-is shut_at failed catalog' trail' entries room =
       define_failed d tells_left up_to_now b sound premise began disk catalog standing groups trail late closed k running disk' (IndexGone i) passes touches leaves regions t e own may at (λ v. with_part v t.0 (dropped_data i.0 (v t.0))) explains shut call shut-is shut_at failed catalog' trail' entries room

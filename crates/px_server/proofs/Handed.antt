@@ -19,7 +19,6 @@ use Rattle.px_cells.specs.Order.{ReadsSame}
 use Rattle.px_merge.specs.Settle.{settle}
 use Rattle.px_tables.specs.declared.index.Index.{Index}
 use Rattle.px_tables.specs.declared.table.Table.{Table}
-use Rattle.px_trail.specs.declared.entry.Act.TheVariants.{Shut}
 use Rattle.px_trail.specs.declared.entry.Entry.{Entry}
 use Rattle.px_trail.specs.Lasting.{lasting}
 use Rattle.px_trail.specs.Recorded.{Recorded}
@@ -49,7 +48,7 @@ use Rattle.px_recovery.specs.Stands.{AreNumbered, Explains, TellsCatalogue}
 use Rattle.px_recovery.specs.Tables.{table_in}
 use Rattle.px_recovery.proofs.Explains.{index_batch, rows_batch}
 use Rattle.px_recovery.proofs.Numbered.{index_number, rows_number}
-use Rattle.px_server.specs.Kept.{HasPoints, HasShown, HasTallied, IsKept, IsOnDisk, forms_in, number_in, owed, tells_fault}
+use Rattle.px_server.specs.Kept.{HasPoints, HasShown, HasTallied, IsKept, IsOnDisk, IsShutAt, forms_in, number_in, owed, tells_fault}
 use Rattle.px_server.specs.Others.{Beginning, IsRegion}
 use Rattle.px_server.proofs.Beside.{own_shown}
 use Rattle.px_server.proofs.Elsewhere.{GoesOnIn, IsOfTable, no_entry, one_entry}
@@ -241,13 +240,13 @@ module _ {D : Type 0} (d : Ghosts D) (tells_left : (x : D) (moment file : ℕ) (
         (rows_shows written horizons (es ++ e ∷ []) (one_entry b es k.told.legal t e of) next tallied show) (rows_moves written horizons (es ++ e ∷ []) (one_entry b es k.told.legal t e of) next tallied show) trail' entries room
 
     -- a call failed: nothing was under way, or an entry
-    pub rows_shut : (shut : Entry) (call : ℕ) → shut.act ≡ Shut call → shut.calls ≡ d.calls disk' → Rose d disk disk' → (AreTraced es g → AreTraced es g') → map stamp_in g'.batches.items ≡ map stamp_in g.batches.items → RowsGo b es es g cells → (trail' : Recorded) → trail'.entries ≡ es ++ shut ∷ [] → owed g' + trail.room ≤ owed g + trail'.room + 1
+    pub rows_shut : (shut : Entry) (call : ℕ) → IsShutAt shut call → call ≡ d.calls disk' → Rose d disk disk' → (AreTraced es g → AreTraced es g') → map stamp_in g'.batches.items ≡ map stamp_in g.batches.items → RowsGo b es es g cells → (trail' : Recorded) → trail'.entries ≡ es ++ shut ∷ [] → owed g' + trail.room ≤ owed g + trail'.room + 1
         → IsKept d b sound premise began disk' catalog standing then trail' None (Some call)
     rows_shut shut call shut-is shut_at rose traced stamps go trail' entries room =
         handed_shut d tells_left up_to_now b sound premise began disk catalog standing groups trail late closed k running place g g' l is to.table to.points disk' g.rows new cells writes rows_lacks rows_drawn rows_holds rows_stand
         shut call shut-is shut_at rose traced stamps trail' entries room (rows_tells es (no_entry b es k.told.legal t) go)
 
-    pub rows_late : (shut : Entry) (call : ℕ) → shut.act ≡ Shut call → shut.calls ≡ d.calls disk' → Rose d disk disk' → (AreTraced es g → AreTraced es g') → map stamp_in g'.batches.items ≡ map stamp_in g.batches.items → (u : Entry) → lasting u ≡ true → u.calls ≡ d.calls disk' → IsOfTable b es t u → RowsGo b es (es ++ u ∷ []) g cells
+    pub rows_late : (shut : Entry) (call : ℕ) → IsShutAt shut call → call ≡ d.calls disk' → Rose d disk disk' → (AreTraced es g → AreTraced es g') → map stamp_in g'.batches.items ≡ map stamp_in g.batches.items → (u : Entry) → lasting u ≡ true → u.calls ≡ d.calls disk' → IsOfTable b es t u → RowsGo b es (es ++ u ∷ []) g cells
         → (trail' : Recorded) → trail'.entries ≡ es ++ shut ∷ [] → owed g' + trail.room ≤ owed g + trail'.room + 1 → IsKept d b sound premise began disk' catalog standing then trail' (Some u) (Some call)
     rows_late shut call shut-is shut_at rose traced stamps u lasts at of go trail' entries room =
         handed_late d tells_left up_to_now b sound premise began disk catalog standing groups trail late closed k running place g g' l is to.table to.points disk' g.rows new cells writes rows_lacks rows_drawn rows_holds rows_stand
@@ -357,7 +356,7 @@ module _ {D : Type 0} (d : Ghosts D) (tells_left : (x : D) (moment file : ℕ) (
         (index_show written horizons es (no_entry b es k.told.legal t) next tallied show) (index_moves written horizons es (no_entry b es k.told.legal t) next tallied show) room
 
     -- a call failed with nothing under way
-    pub index_shut : (shut : Entry) (call : ℕ) → shut.act ≡ Shut call → shut.calls ≡ d.calls disk' → Rose d disk disk' → (AreTraced es g → AreTraced es g') → map stamp_in g'.batches.items ≡ map stamp_in g.batches.items → IndexGoes b es es g i x cells → (trail' : Recorded) → trail'.entries ≡ es ++ shut ∷ [] → owed g' + trail.room ≤ owed g + trail'.room + 1
+    pub index_shut : (shut : Entry) (call : ℕ) → IsShutAt shut call → call ≡ d.calls disk' → Rose d disk disk' → (AreTraced es g → AreTraced es g') → map stamp_in g'.batches.items ≡ map stamp_in g.batches.items → IndexGoes b es es g i x cells → (trail' : Recorded) → trail'.entries ≡ es ++ shut ∷ [] → owed g' + trail.room ≤ owed g + trail'.room + 1
         → IsKept d b sound premise began disk' catalog standing then trail' None (Some call)
     index_shut shut call shut-is shut_at rose traced stamps go trail' entries room =
         handed_shut d tells_left up_to_now b sound premise began disk catalog standing groups trail late closed k running place g g' l is to.table to.points disk' x.region new cells writes index_lacks index_drawn index_holds index_stands

@@ -11,7 +11,7 @@ use Rattle.px_values.specs.declared.row.Value.{Value}
 use Rattle.px_tables.specs.declared.index.Index.{Index}
 use Rattle.px_tables.specs.declared.index.IndexState.TheVariants.{Active}
 use Rattle.px_tables.specs.declared.table.Table.{Table}
-use Rattle.px_trail.specs.declared.entry.Act.TheVariants.{IndexState, Shut}
+use Rattle.px_trail.specs.declared.entry.Act.TheVariants.{IndexState}
 use Rattle.px_trail.specs.declared.entry.Entry.{Entry}
 use Rattle.px_trail.specs.Batches.{IsDecided}
 use Rattle.px_trail.specs.Legal.{MayCome}
@@ -41,7 +41,7 @@ use Rattle.px_defined.proofs.Lists as placed
 use Rattle.px_reading.specs.Looked.{AreLookedAt, HasLooked, IsLookedAt}
 use Rattle.px_reading.proofs.Looked.{still_shown}
 use Rattle.px_recovery.specs.Tables.{index_in}
-use Rattle.px_server.specs.Kept.{HasFailed, HasTallied, HasTrailRoom, IsKept, owed}
+use Rattle.px_server.specs.Kept.{HasFailed, HasTallied, HasTrailRoom, IsKept, IsShutAt, owed}
 use Rattle.px_server.specs.Others.{Beginning}
 use Rattle.px_server.specs.declared.defining.prepared.IndexToActivate.{IndexToActivate}
 use Rattle.px_server.specs.inner.Fitting.{IsIndexToActivate}
@@ -159,7 +159,7 @@ module _ {D : Type 0} (d : Ghosts D) (tells_left : (x : D) (moment file : ℕ) (
       leaves_y : HasCatalogue d catalog disk → LeavesOnly d disk disk' (λ moment image. CatalogueStands image (standing_of catalog) ⊎ CatalogueStands image (after (standing_of catalog) (IndexIs y)))
       leaves_y = subst (λ (z : Index). HasCatalogue d catalog disk → LeavesOnly d disk disk' (λ moment image. CatalogueStands image (standing_of catalog) ⊎ CatalogueStands image (after (standing_of catalog) (IndexIs z)))) made.item_is leaves
 
-      pub activate_failed : (shut : Entry) (call : ℕ) → shut.act ≡ Shut call → shut.calls ≡ d.calls disk' → HasFailed d disk' → (catalog' : Catalog) (trail' : Recorded) → trail'.entries ≡ es ++ shut ∷ [] → HasTrailRoom (Some call) groups trail'
+      pub activate_failed : (shut : Entry) (call : ℕ) → IsShutAt shut call → call ≡ d.calls disk' → HasFailed d disk' → (catalog' : Catalog) (trail' : Recorded) → trail'.entries ≡ es ++ shut ∷ [] → HasTrailRoom (Some call) groups trail'
           → IsKept d b sound premise began disk' catalog' standing groups trail' (Some e) (Some call)
       activate_failed = ready_failed d tells_left up_to_now b sound premise began disk catalog standing groups trail late closed k running i x.index.birth place g l g_is e act_is may_come m x x_is id low decided none disk' at passes touches leaves_y
 

@@ -8,7 +8,7 @@ use Rattle.px_values.specs.declared.name.IndexId.{IndexId}
 use Rattle.px_values.specs.declared.name.TableId.{TableId}
 use Rattle.px_tables.specs.declared.index.Index.{Index}
 use Rattle.px_tables.specs.declared.table.Table.{Table}
-use Rattle.px_trail.specs.declared.entry.Act.TheVariants.{Dropped, Shut}
+use Rattle.px_trail.specs.declared.entry.Act.TheVariants.{Dropped}
 use Rattle.px_trail.specs.declared.entry.Entry.{Entry}
 use Rattle.px_trail.specs.Legal.{IsQuiet, MayCome}
 use Rattle.px_trail.specs.Recorded.{Recorded}
@@ -25,7 +25,7 @@ use Rattle.px_catalog.specs.Catalogue.{CatalogueStands, HasCatalogue, catalogue_
 use Rattle.px_catalog.specs.declared.catalog.Catalog.{Catalog}
 use Rattle.px_group.specs.declared.group.Group.{Group}
 use Rattle.px_defined.specs.Defined.{HasIndexLess}
-use Rattle.px_server.specs.Kept.{HasFailed, HasTallied, HasTrailRoom, IsKept, owed}
+use Rattle.px_server.specs.Kept.{HasFailed, HasTallied, HasTrailRoom, IsKept, IsShutAt, owed}
 use Rattle.px_server.specs.Others.{Beginning}
 use Rattle.px_server.specs.inner.Indexing.{HasIndexOf}
 use Rattle.px_server.proofs.GoneKept.{gone_failed, gone_kept}
@@ -87,7 +87,7 @@ module _ {D : Type 0} (d : Ghosts D) (tells_left : (x : D) (moment file : ℕ) (
     none : g.batches.items ≡ []
     none = no_more (length g.points.items) g.batches.items unused
 
-    pub drop_failed : (shut : Entry) (call : ℕ) → shut.act ≡ Shut call → shut.calls ≡ d.calls disk' → HasFailed d disk' → (catalog' : Catalog) (trail' : Recorded) → trail'.entries ≡ es ++ shut ∷ [] → HasTrailRoom (Some call) groups trail'
+    pub drop_failed : (shut : Entry) (call : ℕ) → IsShutAt shut call → call ≡ d.calls disk' → HasFailed d disk' → (catalog' : Catalog) (trail' : Recorded) → trail'.entries ≡ es ++ shut ∷ [] → HasTrailRoom (Some call) groups trail'
         → IsKept d b sound premise began disk' catalog' standing groups trail' (Some e) (Some call)
     drop_failed = gone_failed d tells_left up_to_now b sound premise began disk catalog standing groups trail late closed k running i place g l g_is e act_is may_come found.0 found.1.0 own none disk' at passes touches leaves
 

@@ -12,7 +12,7 @@ use Rattle.px_tables.specs.declared.index.Index.{Index}
 use Rattle.px_tables.specs.declared.index.NewIndex.{NewIndex}
 use Rattle.px_tables.specs.declared.table.Table.{Table}
 use Rattle.px_trail.specs.declared.entry.Act.{Act}
-use Rattle.px_trail.specs.declared.entry.Act.TheVariants.{IndexMade, Shut}
+use Rattle.px_trail.specs.declared.entry.Act.TheVariants.{IndexMade}
 use Rattle.px_trail.specs.declared.entry.Entry.{Entry}
 use Rattle.px_trail.specs.Legal.{MayCome}
 use Rattle.px_trail.specs.Recorded.{Recorded}
@@ -29,7 +29,7 @@ use Rattle.px_catalog.specs.Catalogue.{CatalogueStands, HasCatalogue, catalogue_
 use Rattle.px_catalog.specs.declared.catalog.Catalog.{Catalog}
 use Rattle.px_group.specs.declared.group.Group.{Group}
 use Rattle.px_defined.specs.Defined.{HasIndexMore}
-use Rattle.px_server.specs.Kept.{HasFailed, HasTallied, HasTrailRoom, IsKept, owed}
+use Rattle.px_server.specs.Kept.{HasFailed, HasTallied, HasTrailRoom, IsKept, IsShutAt, owed}
 use Rattle.px_server.specs.Others.{Beginning}
 use Rattle.px_server.specs.declared.defining.prepared.IndexToMake.{IndexToMake}
 use Rattle.px_server.specs.inner.Fitting.{IsIndexToMake}
@@ -86,7 +86,7 @@ module _ {D : Type 0} (d : Ghosts D) (tells_left : (x : D) (moment file : ℕ) (
   leaves_y : HasCatalogue d catalog disk → LeavesOnly d disk disk' (λ moment image. CatalogueStands image (standing_of catalog) ⊎ CatalogueStands image (after (standing_of catalog) (IndexIs y)))
   leaves_y = subst (λ (x : Index). HasCatalogue d catalog disk → LeavesOnly d disk disk' (λ moment image. CatalogueStands image (standing_of catalog) ⊎ CatalogueStands image (after (standing_of catalog) (IndexIs x)))) item_is leaves
 
-  pub make_failed : (shut : Entry) (call : ℕ) → shut.act ≡ Shut call → shut.calls ≡ d.calls disk' → HasFailed d disk' → (catalog' : Catalog) (trail' : Recorded) → trail'.entries ≡ es ++ shut ∷ [] → HasTrailRoom (Some call) groups trail'
+  pub make_failed : (shut : Entry) (call : ℕ) → IsShutAt shut call → call ≡ d.calls disk' → HasFailed d disk' → (catalog' : Catalog) (trail' : Recorded) → trail'.entries ≡ es ++ shut ∷ [] → HasTrailRoom (Some call) groups trail'
       → IsKept d b sound premise began disk' catalog' standing groups trail' (Some e) (Some call)
   make_failed = born_failed d tells_left up_to_now b sound premise began disk catalog standing groups trail late closed k running what.table i s what e act_is may_come disk' at passes touches leaves_y place g l g_is mine fits
 

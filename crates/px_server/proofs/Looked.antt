@@ -177,5 +177,6 @@ module _ {D : Type 0} (d : Ghosts D) (b : Base) (sound premise : Type 0) (began 
         in record { folder = goes.folder; groups = goes.groups; stands = goes.stands; explains = goes.explains; has = parts_then goes.folder goes.groups goes.has }));
     room = room_then;
     blamed = k.blamed;
+    last_call = k.last_call;
     others = k.others;
   }

@@ -13,7 +13,7 @@ use Rattle.px_calls.specs.declared.ticket.Verifies.TheVariants as verifies
 use Rattle.px_values.specs.declared.name.TableId.{TableId}
 use Rattle.px_tables.specs.declared.table.Table.{Table}
 use Rattle.px_trail.specs.declared.entry.Act.{Act}
-use Rattle.px_trail.specs.declared.entry.Act.TheVariants.{Phase as PhaseDone, Shut}
+use Rattle.px_trail.specs.declared.entry.Act.TheVariants.{Phase as PhaseDone}
 use Rattle.px_trail.specs.declared.entry.Entry.{Entry}
 use Rattle.px_trail.specs.Batches.{IsIn}
 use Rattle.px_trail.specs.Batches as batches
@@ -37,7 +37,7 @@ use Rattle.px_batching.proofs.Tallied.{tallied_closes, tallied_marks}
 use Rattle.px_batching.proofs.Traced.{traced_closes, traced_marks}
 use Rattle.px_noting.specs.Apart.{IsApart}
 use Rattle.px_recovery.proofs.Server.{newest_early}
-use Rattle.px_server.specs.Kept.{HasTallied, IsKept, number_in, owed, steps_of, tells_fault}
+use Rattle.px_server.specs.Kept.{HasTallied, IsKept, IsShutAt, number_in, owed, steps_of, tells_fault}
 use Rattle.px_server.specs.Others.{Beginning}
 use Rattle.px_server.proofs.Acted.{IsActed, acted, once_at, right_at, tallied_at}
 use Rattle.px_server.proofs.Handed.{IsSameHorizon, index_handed, index_shut}
@@ -130,7 +130,7 @@ module _ {D : Type 0} (d : Ghosts D) (tells_left : (x : D) (moment file : ℕ) (
         (let s = owed_step g g' m o.batch (record o.batch { batch = record o.batch.batch { closes = o.rest } }) o.step.step in omega (arith, s)))
 
     -- a call failed
-    module _ (shut : Entry) (call : ℕ) (shut-is : shut.act ≡ Shut call) (shut_at : shut.calls ≡ d.calls disk') (rose : Rose d disk disk') (trail' : Recorded) (entries : trail'.entries ≡ es' ++ shut ∷ []) (room : trail'.room + 1 ≡ trail.room) where
+    module _ (shut : Entry) (call : ℕ) (shut-is : IsShutAt shut call) (shut_at : call ≡ d.calls disk') (rose : Rose d disk disk') (trail' : Recorded) (entries : trail'.entries ≡ es' ++ shut ∷ []) (room : trail'.room + 1 ≡ trail.room) where
       pub marks_shut : HandsMarks d g g' disk disk' m → IsKept d b sound premise began disk' catalog standing (slice_set groups place g') trail' None (Some call)
       marks_shut o =
           index_shut d tells_left up_to_now b sound premise began disk catalog standing groups trail late closed k running place g g' l is disk' o.place o.index o.region o.cells (marks_to d b es' g g' disk disk' m o) o.writes

@@ -22,15 +22,17 @@ use Rattle.px_forms.specs.Indexes.{IndexForm}
 use Rattle.px_groupworld.specs.Group.{GroupData}
 use Rattle.px_openbatches.specs.Pending.{HeldBatch}
 use Rattle.px_shown.specs.Told.{IsHolder}
+use Rattle.px_values.specs.declared.name.IndexId.{IndexId}
 use Rattle.px_values.specs.States.{RowState}
 use Rattle.px_values.specs.declared.row.Value.{Value}
 use Rattle.px_indexrow.specs.declared.doubt.Repair.{Repair}
 use Rattle.px_indexrow.specs.declared.doubt.Repair.TheVariants as repairs
 use Rattle.px_group.specs.Group.{IsShownBy, IsTallied}
 use Rattle.px_group.specs.declared.group.Group.{Group}
-use Rattle.px_pointreads.specs.Points.{IsReadAt}
+use Rattle.px_pointreads.specs.Points.{AreOfIndex, IsReadAt}
 use Rattle.px_repairs.proofs.Handing.{got_some}
 use Rattle.px_server.specs.Kept.{AreShown, HasShown, HasTallied, forms_in}
+use Rattle.px_server.specs.Looks.{AreOfIndexAt}
 use Rattle.px_server.proofs.Lists.{all_at}
 use Rattle.px_server.proofs.Seen.{stays}
 
@@ -40,6 +42,16 @@ inside groups xs place same l = subst (λ (ys : List Group). place < length ys) 
 
 pub read_at : (p : Point) (groups xs : List Group) (place : ℕ) (g d : Group) → xs ≡ groups → place < length xs → ((h : Group) → slice_get xs place ≡ Some h → IsReadAt h p) → g ≡ get_or groups place d → IsReadAt g p
 read_at p groups xs place g d same l read at = read g (ap (λ (ys : List Group). slice_get ys place) same ∙ got_some groups place d g (inside groups xs place same l) at)
+
+-- the keys that it found by an index
+pub versions_at : (p : Point) (groups xs : List Group) (place : ℕ) (g d : Group) → xs ≡ groups → place < length xs → ((h : Group) → slice_get xs place ≡ Some h → IsReadAt h p) → g ≡ get_or groups place d → (i : IndexId) (found fs : List FoundKey) → fs ≡ found → AreOfIndex g p i found → AreOfIndexAt groups p i fs
+versions_at p groups xs place g d same l read at i found fs is of = record {
+  place = place;
+  group = g;
+  at = got_some groups place d g (inside groups xs place same l) at;
+  read = read_at p groups xs place g d same l read at;
+  of = subst (AreOfIndex g p i) (sym is) of;
+}
 
 some_same : {A : Type 0} (a b : A) → Some a ≡ Some b → a ≡ b
 some_same a b e = cc

@@ -12,7 +12,7 @@ use Rattle.px_values.specs.declared.row.Value.{Value}
 use Rattle.px_tables.specs.declared.index.Index.{Index}
 use Rattle.px_tables.specs.declared.index.IndexState.TheVariants.{Active}
 use Rattle.px_trail.specs.declared.entry.Act.{Act}
-use Rattle.px_trail.specs.declared.entry.Act.TheVariants.{IndexState, Shut}
+use Rattle.px_trail.specs.declared.entry.Act.TheVariants.{IndexState}
 use Rattle.px_trail.specs.declared.entry.Entry.{Entry}
 use Rattle.px_trail.specs.Batches.{IsDecided}
 use Rattle.px_trail.specs.Legal.{MayCome}
@@ -47,7 +47,7 @@ use Rattle.px_recovery.specs.Tables.{index_files, index_in}
 use Rattle.px_recovery.proofs.Readies.{index_ready as folder_ready}
 use Rattle.px_standing.specs.Agrees.{Agrees, opened_standing}
 use Rattle.px_standing.proofs.Defined.{index_ready as agrees_ready}
-use Rattle.px_server.specs.Kept.{HasFailed, HasPoints, HasShown, HasTallied, HasTrailRoom, IsKept, IsOnDisk, forms_in, owed}
+use Rattle.px_server.specs.Kept.{HasFailed, HasPoints, HasShown, HasTallied, HasTrailRoom, IsKept, IsOnDisk, IsShutAt, forms_in, owed}
 use Rattle.px_server.specs.Others.{Beginning}
 use Rattle.px_server.proofs.BornKept.{or_none, same_owed}
 use Rattle.px_server.proofs.Catalogued.{define_failed}
@@ -139,7 +139,7 @@ module _ {D : Type 0} (d : Ghosts D) (tells_left : (x : D) (moment file : ℕ) (
       (subst (λ (w : Index). IsFilesOf (record (get_or (v t.0).indexes m no_part) { is_built = true }) (index_files f.regions w)) (sym z.1.1) files) kept))
 
   -- the call failed
-  pub ready_failed : (shut : Entry) (call : ℕ) → shut.act ≡ Shut call → shut.calls ≡ d.calls disk' → HasFailed d disk' → (catalog' : Catalog) (trail' : Recorded) → trail'.entries ≡ es ++ shut ∷ [] → HasTrailRoom (Some call) groups trail'
+  pub ready_failed : (shut : Entry) (call : ℕ) → IsShutAt shut call → call ≡ d.calls disk' → HasFailed d disk' → (catalog' : Catalog) (trail' : Recorded) → trail'.entries ≡ es ++ shut ∷ [] → HasTrailRoom (Some call) groups trail'
       → IsKept d b sound premise began disk' catalog' standing groups trail' (Some e) (Some call)
   ready_failed shut call shut-is shut_at failed catalog' trail' entries room =
       define_failed d tells_left up_to_now b sound premise began disk catalog standing groups trail late closed k running disk' (IndexIs y) passes touches leaves regions t e own may at (λ v. with_part v t.0 (ready_data m (v t.0))) explains shut call shut-is shut_at failed catalog' trail' entries room

@@ -19,8 +19,14 @@ use Rattle.px_calls.specs.declared.fault.StepFault.TheVariants.{Limit, Memory, N
 use Rattle.px_group.specs.declared.group.Group.{Group}
 use Rattle.px_beginning.specs.Begins.{NeedsLongKey}
 use Rattle.px_beginning.specs.declared.preparing.Prepared.{Prepared}
-use Rattle.px_server.specs.Beginning.{IsUnbegun, unready_cause, untaken_cause}
+use Rattle.px_server.specs.Beginning.{IsRefusedIn, IsUnbegun, RefusesBatch, unready_cause, untaken_cause}
 use Rattle.px_server.proofs.Seen.{stays}
+
+-- a refusal that has its cause in the table's group
+pub refuses_batch : (groups : List Group) (t : TableId) (es : List Entry) (cs : List Change) (f : StepFault) → IsRefusedIn groups t es cs f → RefusesBatch groups t es cs f
+refuses_batch groups t es cs (Limit which count) r = r
+refuses_batch groups t es cs (NotReady region) r = r
+refuses_batch groups t es cs f r = tt
 
 module _ (k : Known) (legal : IsLegal k.base k.seen) (running : closing_call k.seen ≡ None) (sound : Type 0) (t : ℕ) (cs : List Change) where
   pub begun_no_table : LacksTable k t → Refuses (begin_cause sound t cs) k k NoTable

@@ -28,6 +28,7 @@ roomy d b sound premise began disk catalog standing groups trail late closed k t
   server = subst (λ (es : List Entry). IsServer d b premise (HasParts d b catalog groups) disk es late closed) (sym same) k.server;
   room = (let room = k.room in omega (arith, room, more));
   blamed = subst (λ (es : List Entry). has_told es ≡ true → HasFailed d disk) (sym same) k.blamed;
+  last_call = k.last_call;
   others = λ given tells. subst (λ (es : List Entry). OthersStay d b began disk es) (sym same) (k.others given tells);
 }
 

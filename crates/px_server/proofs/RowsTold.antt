@@ -42,7 +42,7 @@ use Rattle.px_calls.specs.Known.{Known}
 use Rattle.px_calls.specs.declared.fault.StepFault.TheVariants.{NotYet, WriteFault}
 use Rattle.px_calls.specs.declared.ticket.Ticket.{Ticket}
 use Rattle.px_calls.specs.declared.ticket.Writes.TheVariants.{AllWritten}
-use Rattle.px_server.specs.Kept.{HasPoints, HasTallied, IsKept, number_in, owed, owed_by, steps_of}
+use Rattle.px_server.specs.Kept.{HasPoints, HasTallied, IsKept, IsShutAt, number_in, owed, owed_by, steps_of}
 use Rattle.px_server.specs.Others.{Beginning}
 use Rattle.px_server.proofs.Elsewhere.{IsOfTable}
 use Rattle.px_server.proofs.Handed.{rows_late, rows_told}
@@ -138,7 +138,7 @@ module _ {D : Type 0} (d : Ghosts D) (tells_left : (x : D) (moment file : ℕ) (
       in same g'.table.id ∙ (ap (λ (y : Table). open_points q y.id.0 u es) o.step.step.table ∙ (was q u ∙ ap (λ p. points_in q u p.items) (sym o.step.step.points))))
 
   -- a call failed: the entry is late
-  pub write_late : (shut : Entry) (call : ℕ) → shut.act ≡ Shut call → shut.calls ≡ d.calls disk' → Rose d disk disk' → phase ≡ Writing → (trail' : Recorded) → trail'.entries ≡ es ++ shut ∷ [] → trail'.room + 1 ≡ trail.room
+  pub write_late : (shut : Entry) (call : ℕ) → IsShutAt shut call → call ≡ d.calls disk' → Rose d disk disk' → phase ≡ Writing → (trail' : Recorded) → trail'.entries ≡ es ++ shut ∷ [] → trail'.room + 1 ≡ trail.room
       → IsKept d b sound premise began disk' catalog standing (slice_set groups place g') trail' (Some e) (Some call)
   write_late shut call shut-is shut_at rose still trail' entries room =
       rows_late d tells_left up_to_now b sound premise began disk catalog standing groups trail late closed k running place g g' l is disk' o.region o.cells (wrote_to d g g' disk disk' m phase o) o.writes

@@ -225,6 +225,7 @@ module _ (o : Opened) (r : IsOpenedRight o) where
       server = server_first premise on;
       room = (let none = owes_nothing f groups own in omega (arith, none, one));
       blamed = λ told. absurd (false≢true told);
+      last_call = λ call is. absurd cc;
       others = λ given tells. others;
     }
 

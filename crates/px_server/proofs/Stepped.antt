@@ -27,7 +27,7 @@ use Rattle.px_calls.specs.declared.fault.StepFault.TheVariants.{Memory, WriteFau
 use Rattle.px_calls.specs.declared.status.Work.{Work}
 use Rattle.px_calls.specs.declared.status.Work.TheVariants.{Did, Idle}
 use Rattle.px_trail.specs.Legal.{IsLegal}
-use Rattle.px_server.specs.Kept.{HasTallied, IsKept, IsOnDisk, number_in, owed}
+use Rattle.px_server.specs.Kept.{HasTallied, IsKept, IsOnDisk, IsShutAt, number_in, owed}
 use Rattle.px_server.specs.Others.{Beginning}
 use Rattle.px_server.specs.Upkeep.{SteppedTable, StepsIndex, StepsRows, StepsTable}
 use Rattle.px_server.proofs.Handed.{index_handed, rows_handed}
@@ -82,7 +82,7 @@ module _ {D : Type 0} (d : Ghosts D) (tells_left : (x : D) (moment file : ℕ) (
         in rows_handed d tells_left up_to_now b sound premise began disk catalog standing groups trail late closed k running place g g' l is disk' g'.rows [] (to_rows d g g' disk disk' s) s.steps.writes
         written s.steps.writes.horizon (rows_right d g g' disk disk' s right_here) (λ hs. hs) (rows_tallied d g g' disk disk' s b es) (rows_show d g g' disk disk' s b es) (omega (arith, o)))
 
-    pub rows_stopped : (shut : Entry) (call : ℕ) → shut.act ≡ Shut call → shut.calls ≡ d.calls disk' → Rose d disk disk' → (trail' : Recorded) → trail'.entries ≡ es ++ shut ∷ [] → trail'.room + 1 ≡ trail.room → IsKept d b sound premise began disk' catalog standing then trail' None (Some call)
+    pub rows_stopped : (shut : Entry) (call : ℕ) → IsShutAt shut call → call ≡ d.calls disk' → Rose d disk disk' → (trail' : Recorded) → trail'.entries ≡ es ++ shut ∷ [] → trail'.room + 1 ≡ trail.room → IsKept d b sound premise began disk' catalog standing then trail' None (Some call)
     rows_stopped shut call shut-is shut_at rose trail' entries room =
         handed_shut d tells_left up_to_now b sound premise began disk catalog standing groups trail late closed k running place g g' l is (ap (λ (h : Group). h.table) s.same) (ap (λ (h : Group). h.points) s.same) disk' g.rows g'.rows [] s.steps.writes
         (λ c tells numbered h r a other. lacks_rows b es c tells numbered g right_here standing_here h r a other)
@@ -115,7 +115,7 @@ module _ {D : Type 0} (d : Ghosts D) (tells_left : (x : D) (moment file : ℕ) (
         in index_handed d tells_left up_to_now b sound premise began disk catalog standing groups trail late closed k running place g g' l is disk' s.place s.index s.region [] (to_index d g g' disk disk' s) s.steps.writes
         written s.steps.writes.horizon (index_right d g g' disk disk' s right_here) (λ hs. hs) (index_tallied d g g' disk disk' s b es) (index_shows d g g' disk disk' s b es) (omega (arith, o)))
 
-    pub index_stopped : (shut : Entry) (call : ℕ) → shut.act ≡ Shut call → shut.calls ≡ d.calls disk' → Rose d disk disk' → (trail' : Recorded) → trail'.entries ≡ es ++ shut ∷ [] → trail'.room + 1 ≡ trail.room → IsKept d b sound premise began disk' catalog standing then trail' None (Some call)
+    pub index_stopped : (shut : Entry) (call : ℕ) → IsShutAt shut call → call ≡ d.calls disk' → Rose d disk disk' → (trail' : Recorded) → trail'.entries ≡ es ++ shut ∷ [] → trail'.room + 1 ≡ trail.room → IsKept d b sound premise began disk' catalog standing then trail' None (Some call)
     index_stopped shut call shut-is shut_at rose trail' entries room =
         handed_shut d tells_left up_to_now b sound premise began disk catalog standing groups trail late closed k running place g g' l is (ap (λ (h : Group). h.table) s.same) (ap (λ (h : Group). h.points) s.same) disk' s.index.region s.region [] s.steps.writes
         (λ c tells numbered h r a other. lacks_index b es c tells numbered g right_here standing_here h r a other s.place s.index s.is)

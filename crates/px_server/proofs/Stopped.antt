@@ -21,7 +21,7 @@ use Rattle.px_noting.proofs.Others.{apart_points}
 use Rattle.px_recovery.specs.Kept.{IsServer}
 use Rattle.px_recovery.proofs.Server.{newest_early}
 use Rattle.px_standing.specs.Agrees.{Agrees}
-use Rattle.px_server.specs.Kept.{AreGroups, HasBegun, HasFailed, HasParts, HasPoints, HasTallied, HasTrailRoom, IsKept, IsTold, table_in_group}
+use Rattle.px_server.specs.Kept.{AreGroups, HasBegun, HasFailed, HasParts, HasPoints, HasTallied, HasTrailRoom, IsKept, IsShutAt, IsTold, table_in_group}
 use Rattle.px_server.specs.Others.{Beginning, OthersStay}
 use Rattle.px_server.proofs.Lists.{all_weaker}
 use Rattle.px_server.proofs.OpenBatches.{all_begun, begun_elsewhere}
@@ -32,17 +32,29 @@ pub all_traced : (b : Base) (es : List Entry) (gs : List Group) → AllByRecursi
 all_traced b es [] right tallied = tt
 all_traced b es (g ∷ gs) right tallied = (traced_of b es g tallied.0.held right.0 tallied.0.tallied, all_traced b es gs right.1 tallied.1)
 
+pub call_is : (c call : ℕ) → Some call ≡ Some c → c ≡ call
+call_is c call e = cc
+
+pub none_some : (call : ℕ) → None ≡ Some call → ⊥
+none_some call e = (let z : ◌≡◌ {A = Option ℕ} None (Some call) = e in cc)
+
 shut_still : (c : Catalogue) (call : ℕ) → catalogue_step c (Shut call) ≡ c
 unfolding catalogue_step
 shut_still c call = refl
 
 module _ {D : Type 0} (d : Ghosts D) (b : Base) (sound premise : Type 0) (began : Beginning) (disk : D) (catalog : Catalog) (standing : Standing) (groups : List Group) (trail : Recorded) (late : Option Entry) (closed : Option ℕ)
-    (k : IsKept d b sound premise began disk catalog standing groups trail late closed) (running : closed ≡ None) (disk' : D) (later : d.calls disk ≤ d.calls disk') (shut : Entry) (call : ℕ) (shut-is : shut.act ≡ Shut call) (at : shut.calls ≡ d.calls disk') where
+    (k : IsKept d b sound premise began disk catalog standing groups trail late closed) (running : closed ≡ None) (disk' : D) (later : d.calls disk ≤ d.calls disk') (shut : Entry) (call : ℕ) (shut_is : IsShutAt shut call) (called : call ≡ d.calls disk') where
   abbrev es : List Entry
   es = trail.entries
 
   abbrev es' : List Entry
   es' = es ++ shut ∷ []
+
+  shut-is : shut.act ≡ Shut call
+  shut-is = ap (λ (e : Entry). e.act) shut_is
+
+  at : shut.calls ≡ d.calls disk'
+  at = ap (λ (e : Entry). e.calls) shut_is ∙ called
 
   pub shut_may : MayCome b es shut
   unfolding Follows
@@ -94,6 +106,7 @@ module _ {D : Type 0} (d : Ghosts D) (b : Base) (sound premise : Type 0) (began 
       server = subst (λ (ys : List Entry). IsServer d b premise (HasParts d b catalog' groups') disk' ys late' (Some call)) (sym entries) server;
       room = room;
       blamed = λ is. failed;
+      last_call = λ c same. call_is c call same ∙ called;
       others = λ given tells. subst (λ (ys : List Entry). OthersStay d b began disk' ys) (sym entries) (others_more d b began es (shut ∷ []) disk' (others given tells));
     }
 

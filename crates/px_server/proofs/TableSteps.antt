@@ -27,7 +27,7 @@ use Rattle.px_catalog.specs.declared.fault.CatalogFault.{CatalogFault}
 use Rattle.px_catalog.specs.declared.fault.CatalogFault.TheVariants.{Full, Memory, WriteFault}
 use Rattle.px_group.specs.declared.group.Group.{Group}
 use Rattle.px_standing.proofs.Looked.{stands_at}
-use Rattle.px_server.specs.Kept.{HasFailed, HasTallied, HasTrailRoom, IsKept}
+use Rattle.px_server.specs.Kept.{HasFailed, HasTallied, HasTrailRoom, IsKept, IsShutAt}
 use Rattle.px_server.specs.Others.{Beginning}
 use Rattle.px_server.specs.inner.Making.{AreParts, MayMake, table_made}
 use Rattle.px_server.proofs.Blamed.{failed_rose}
@@ -41,7 +41,7 @@ use Rattle.px_server.proofs.Uses.{is_quiet, uses_are}
 
 module _ {D : Type 0} (d : Ghosts D) (b : Base) (sound premise : Type 0) (began : Beginning) (disk : D) (catalog : Catalog) (standing : Standing) (groups : List Group) (trail : Recorded) (late : Option Entry) (closed : Option ℕ)
     (k : IsKept d b sound premise began disk catalog standing groups trail late closed) (disk' : D) (catalog' : Catalog) (u : Entry)
-    (failed_kept : (shut : Entry) (call : ℕ) → shut.act ≡ Shut call → shut.calls ≡ d.calls disk' → HasFailed d disk' → (c : Catalog) (t : Recorded) → t.entries ≡ trail.entries ++ shut ∷ [] → HasTrailRoom (Some call) groups t
+    (failed_kept : (shut : Entry) (call : ℕ) → IsShutAt shut call → call ≡ d.calls disk' → HasFailed d disk' → (c : Catalog) (t : Recorded) → t.entries ≡ trail.entries ++ shut ∷ [] → HasTrailRoom (Some call) groups t
     → IsKept d b sound premise began disk' c standing groups t (Some u) (Some call))
     (groups' : List Group) (same : groups' ≡ groups) (mid : Recorded) (mid_same : mid.entries ≡ trail.entries) (mid_room : mid.room ≡ trail.room + 1) (trail' : Recorded) (late' : Option Entry) (closed' : Option ℕ) (seat : ℕ) where
   untouched_kept : (disk' ≡ disk) × (catalog' ≡ catalog) → (trail'.entries ≡ mid.entries) × (late' ≡ late) × (closed' ≡ closed) → trail'.room + 1 ≡ mid.room → IsKept d b sound premise began disk' catalog' standing groups' trail' late' closed'

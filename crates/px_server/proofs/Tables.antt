@@ -20,7 +20,7 @@ use Rattle.px_trail.specs.Recorded.{Recorded}
 use Rattle.px_trail.specs.Trail.{Base, Catalogue, calls_of, catalogue_of, closing_call, last_of, made_table, table_of}
 use Rattle.px_trail.proofs.Growth.{catalogue-snoc}
 use Rattle.px_trail.proofs.Standing.{catalogue-stands}
-use Rattle.px_trail.specs.declared.entry.Act.TheVariants.{Dropped, Made, Shut}
+use Rattle.px_trail.specs.declared.entry.Act.TheVariants.{Dropped, Made}
 use Rattle.px_trail.specs.declared.entry.Entry.{Entry}
 use Rattle.px_world.specs.World.{Unbegun, Written, is_written as is_written_fate}
 use Rattle.px_history.specs.Rows.{fate_by, row_in}
@@ -59,7 +59,7 @@ use Rattle.px_standing.specs.Agrees.{Agrees, IsUnused, opened_standing}
 use Rattle.px_standing.proofs.Defined.{table_gone as agrees_gone, table_made as agrees_made}
 use Rattle.px_standing.proofs.Looked.{free as is_free, tables_below}
 use Rattle.px_server.specs.inner.Making.{table_made}
-use Rattle.px_server.specs.Kept.{HasFailed, HasShown, HasTrailRoom, IsKept, IsOnDisk, forms_in, number_in, owed, owed_by, table_in_group}
+use Rattle.px_server.specs.Kept.{HasFailed, HasShown, HasTrailRoom, IsKept, IsOnDisk, IsShutAt, forms_in, number_in, owed, owed_by, table_in_group}
 use Rattle.px_server.specs.Others.{Beginning}
 use Rattle.px_server.proofs.Catalogued.{define_failed, define_kept}
 use Rattle.px_server.proofs.Drawn.{regions_in}
@@ -211,7 +211,7 @@ module _ {D : Type 0} (d : Ghosts D) (tells_left : (x : D) (moment file : ℕ) (
           subst (λ (n : ℕ). Explains b (es ++ e ∷ []) (with_standing (after f.standing (TableIs (made_table n t what))) f) (moved v)) (ap (λ (s : Standing). s.next) stands ∙ same_next)
           (explains_made b k.told.base es f unmade v told e made_may t what refl)
 
-      pub table_failed : (shut : Entry) (call : ℕ) → shut.act ≡ Shut call → shut.calls ≡ d.calls disk' → HasFailed d disk' → (catalog' : Catalog) (trail' : Recorded) → trail'.entries ≡ es ++ shut ∷ [] → HasTrailRoom (Some call) groups trail'
+      pub table_failed : (shut : Entry) (call : ℕ) → IsShutAt shut call → call ≡ d.calls disk' → HasFailed d disk' → (catalog' : Catalog) (trail' : Recorded) → trail'.entries ≡ es ++ shut ∷ [] → HasTrailRoom (Some call) groups trail'
           → IsKept d b sound premise began disk' catalog' standing groups trail' (Some e) (Some call)
       table_failed = define_failed d tells_left up_to_now b sound premise began disk catalog standing groups trail late closed k running disk' (TableIs made) passes touches leaves regions t e refl made_may refl moved explains
 
@@ -306,7 +306,7 @@ module _ {D : Type 0} (d : Ghosts D) (tells_left : (x : D) (moment file : ℕ) (
       explains_less : (f : FolderData) (v : ℕ → GroupData) → f.standing ≡ standing_of catalog → AreUnmade f → AllByRecursion (HasShown b es f.standing.indexes v) groups → AllByRecursion (IsOnDisk d disk f) groups → Explains b es f v → Explains b (es ++ gone ∷ []) (with_standing (after f.standing (TableGone t)) f) v
       explains_less f v is unmade shown on told = explains_gone b es f v told gone gone_may t refl
 
-      pub gone_failed : (shut : Entry) (call : ℕ) → shut.act ≡ Shut call → shut.calls ≡ d.calls disk' → HasFailed d disk' → (catalog' : Catalog) (trail' : Recorded) → trail'.entries ≡ es ++ shut ∷ [] → HasTrailRoom (Some call) groups trail'
+      pub gone_failed : (shut : Entry) (call : ℕ) → IsShutAt shut call → call ≡ d.calls disk' → HasFailed d disk' → (catalog' : Catalog) (trail' : Recorded) → trail'.entries ≡ es ++ shut ∷ [] → HasTrailRoom (Some call) groups trail'
           → IsKept d b sound premise began disk' catalog' standing groups trail' (Some gone) (Some call)
       gone_failed = define_failed d tells_left up_to_now b sound premise began disk catalog standing groups trail late closed k running disk' (TableGone t) passes touches leaves no_region t gone refl gone_may refl (λ v. v) explains_less
 

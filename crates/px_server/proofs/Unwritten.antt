@@ -19,7 +19,7 @@ use Rattle.px_catalog.specs.declared.fault.CatalogFault.{CatalogFault}
 use Rattle.px_catalog.specs.declared.fault.CatalogFault.TheVariants.{Full, Memory, WriteFault}
 use Rattle.px_group.specs.declared.group.Group.{Group}
 use Rattle.px_defined.specs.Defined.{IsSame}
-use Rattle.px_server.specs.Kept.{HasFailed, HasTrailRoom, IsKept}
+use Rattle.px_server.specs.Kept.{HasFailed, HasTrailRoom, IsKept, IsShutAt}
 use Rattle.px_server.specs.Others.{Beginning}
 use Rattle.px_server.proofs.Blamed.{failed_rose}
 use Rattle.px_server.proofs.Looked.{looked_kept}
@@ -33,7 +33,7 @@ module _ {D : Type 0} (d : Ghosts D) (b : Base) (sound premise : Type 0) (began 
       roomy d b sound premise began disk catalog standing (slice_set groups place g') trail late closed (looked_kept d b sound premise began disk catalog standing groups trail late closed k place g g' l g_is (same_looked g g' same)) trail' entries room
 
   module _ (running : closed ≡ None) (disk' : D) (catalog' : Catalog) (u : Entry)
-      (failed_kept : (shut : Entry) (call : ℕ) → shut.act ≡ Shut call → shut.calls ≡ d.calls disk' → HasFailed d disk' → (c : Catalog) (t : Recorded) → t.entries ≡ trail.entries ++ shut ∷ [] → HasTrailRoom (Some call) groups t
+      (failed_kept : (shut : Entry) (call : ℕ) → IsShutAt shut call → call ≡ d.calls disk' → HasFailed d disk' → (c : Catalog) (t : Recorded) → t.entries ≡ trail.entries ++ shut ∷ [] → HasTrailRoom (Some call) groups t
       → IsKept d b sound premise began disk' c standing groups t (Some u) (Some call))
       (trail' : Recorded) (late' : Option Entry) (closed' : Option ℕ) (seat : ℕ) (room : trail.room ≤ trail'.room) where
     untouched_kept : (disk' ≡ disk) × (catalog' ≡ catalog) → (trail'.entries ≡ trail.entries) × (late' ≡ late) × (closed' ≡ closed) → IsKept d b sound premise began disk' catalog' standing groups trail' late' closed'

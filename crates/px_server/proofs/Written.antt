@@ -42,7 +42,7 @@ use Rattle.px_recovery.specs.Stands.{AreNumbered, Explains, TellsCatalogue}
 use Rattle.px_recovery.proofs.Regions.{moved_at, moves_at}
 use Rattle.px_recovery.proofs.Server.{newest_early}
 use Rattle.px_standing.specs.Agrees.{Agrees}
-use Rattle.px_server.specs.Kept.{AreGroups, AreShown, HasBegun, HasFailed, HasParts, HasPoints, HasShown, HasTallied, HasTrailRoom, IsKept, IsOnDisk, IsTold, has_told, number_in, owed, spare, table_in_group, tells_fault}
+use Rattle.px_server.specs.Kept.{AreGroups, AreShown, HasBegun, HasFailed, HasParts, HasPoints, HasShown, HasTallied, HasTrailRoom, IsKept, IsOnDisk, IsShutAt, IsTold, has_told, number_in, owed, spare, table_in_group, tells_fault}
 use Rattle.px_server.specs.Others.{Beginning, IsRegion, OthersStay}
 use Rattle.px_server.proofs.Beside.{once_then, points_then, right_then, shown_then, tallied_then}
 use Rattle.px_server.proofs.Blamed.{blamed_on, blamed_quiet, failed_rose}
@@ -54,6 +54,7 @@ use Rattle.px_server.proofs.Numbers.{LacksNumber}
 use Rattle.px_server.proofs.OpenBatches.{all_begun, begun_elsewhere, begun_same, stamp_in}
 use Rattle.px_server.proofs.Others.{others_more, others_on, own_file}
 use Rattle.px_server.proofs.Pointed.{distinct_groups}
+use Rattle.px_server.proofs.Stopped.{call_is, none_some}
 
 -- the group shows other data
 pub record ShowsThen (b : Base) (es' : List Entry) (indexes : List Index) (v : ℕ → GroupData) (t : ℕ) (g' : Group) : Type 0 where
@@ -230,6 +231,7 @@ module _ {D : Type 0} (d : Ghosts D) (tells_left : (x : D) (moment file : ℕ) (
       server = subst (λ (ys : List Entry). IsServer d b premise (HasParts d b catalog then) disk' ys late closed) (sym entries) server;
       room = room_then closed trail' (omega (arith, room));
       blamed = subst (λ (ys : List Entry). has_told ys ≡ true → HasFailed d disk') (sym entries) blamed;
+      last_call = λ c same. absurd (none_some c (sym running ∙ same));
       others = λ given tells. subst (λ (ys : List Entry). OthersStay d b began disk' ys) (sym entries) (others given tells);
     }
 
@@ -266,10 +268,16 @@ module _ {D : Type 0} (d : Ghosts D) (tells_left : (x : D) (moment file : ℕ) (
 
   -- ---- a call failed
 
-  module _ (shut : Entry) (call : ℕ) (shut-is : shut.act ≡ Shut call) (shut_at : shut.calls ≡ d.calls disk') (rose : Rose d disk disk') (traced : AreTraced es g → AreTraced es g') (stamps : map stamp_in g'.batches.items ≡ map stamp_in g.batches.items) (trail' : Recorded) (entries : trail'.entries ≡ es ++ shut ∷ [])
+  module _ (shut : Entry) (call : ℕ) (shut_is : IsShutAt shut call) (called : call ≡ d.calls disk') (rose : Rose d disk disk') (traced : AreTraced es g → AreTraced es g') (stamps : map stamp_in g'.batches.items ≡ map stamp_in g.batches.items) (trail' : Recorded) (entries : trail'.entries ≡ es ++ shut ∷ [])
       (room : owed g' + trail.room ≤ owed g + trail'.room + 1) where
     abbrev ended : List Entry
     ended = es ++ shut ∷ []
+
+    shut-is : shut.act ≡ Shut call
+    shut-is = ap (λ (e : Entry). e.act) shut_is
+
+    shut_at : shut.calls ≡ d.calls disk'
+    shut_at = ap (λ (e : Entry). e.calls) shut_is ∙ called
 
     shut_may : MayCome b es shut
     unfolding Follows
@@ -328,6 +336,7 @@ module _ {D : Type 0} (d : Ghosts D) (tells_left : (x : D) (moment file : ℕ) (
           server = subst (λ (ys : List Entry). IsServer d b premise (HasParts d b catalog then) disk' ys o (Some call)) (sym entries) server;
           room = room_then (Some call) trail' (let s : spare closed ≡ 1 = ap spare running in omega (arith, room, s));
           blamed = λ told_of. failed_rose d disk disk' rose;
+          last_call = λ c same. call_is c call same ∙ called;
           others = λ given tells. subst (λ (ys : List Entry). OthersStay d b began disk' ys) (sym entries) (others_more d b began es (shut ∷ []) disk' (others_on_disk given tells));
         })
 

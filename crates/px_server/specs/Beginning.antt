@@ -1,8 +1,9 @@
 -- A batch that begins on a table's group: what is made ready and taken for it, how it is let in, and why not.
-use Rattle.std.specs.Prelude.{◌≡◌, ◌⊎◌, ◌<◌, ◌≤◌, ◌+◌, ℕ, List, length, Some, sum_by}
+use Rattle.std.specs.Prelude.{◌≡◌, ◌⊎◌, ◌<◌, ◌≤◌, ◌+◌, ℕ, List, length, slice_get, Some, sum_by}
 use Rattle.px_values.specs.Limits.{most_of}
 use Rattle.px_values.specs.declared.change.Change.{Change}
 use Rattle.px_values.specs.declared.limit.Limit.TheVariants as bound
+use Rattle.px_values.specs.declared.name.TableId.{TableId}
 use Rattle.px_trail.specs.Batches.{rows_of}
 use Rattle.px_trail.specs.Count.{counted_bytes, counted_change}
 use Rattle.px_trail.specs.Recorded.{Recorded}
@@ -71,6 +72,21 @@ pub record IsUntaken (g : Group) (es : List Entry) (cs : List Change) (clock : �
 -- why no batch is let in
 abbrev pub IsUnbegun : Group → List Entry → List Change → ℕ → StepFault → Type 0
 IsUnbegun g es cs clock f = unready_cause g cs f ⊎ IsUntaken g es cs clock f
+
+-- in the group of the table of this number, while the clock told some number
+pub record IsRefusedIn (groups : List Group) (t : TableId) (es : List Entry) (cs : List Change) (f : StepFault) : Type 0 where
+  pub place : ℕ
+  pub group : Group
+  pub at : slice_get groups place ≡ Some group
+  pub id : group.table.id ≡ t
+  pub clock : ℕ
+  pub unbegun : IsUnbegun group es cs clock f
+
+-- A limit, or a region that isn't ready, is told of a batch only with its cause in the table's group.
+abbrev pub RefusesBatch : List Group → TableId → List Entry → List Change → StepFault → Type 0
+RefusesBatch groups t es cs (Limit which count) = IsRefusedIn groups t es cs (Limit which count)
+RefusesBatch groups t es cs (NotReady region) = IsRefusedIn groups t es cs (NotReady region)
+RefusesBatch groups t es cs f = Unit {0}
 
 -- 3. Let in
 

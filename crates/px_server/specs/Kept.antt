@@ -145,6 +145,10 @@ has_told es = list_any (λ e. tells_fault e.act) es
 abbrev pub HasFailed : {D : Type 0} → Ghosts D → D → Type 0
 HasFailed d disk = (0 < d.faults disk) ⊎ ((last_count ≤ d.calls disk) ⊎ (last_count ≤ d.faults disk))
 
+-- the entry tells that the device call of this number closed the server, and so many calls were made
+abbrev pub IsShutAt : Entry → ℕ → Type 0
+IsShutAt e call = e ≡ record { seat = e.seat; calls = call; act = Shut call }
+
 -- 7. All of it
 
 pub record IsKept {D : Type 0} (d : Ghosts D) (b : Base) (sound premise : Type 0) (began : Beginning) (disk : D) (catalog : Catalog) (standing : Standing) (groups : List Group) (trail : Recorded) (late : Option Entry) (closed : Option ℕ) : Type 0 where
@@ -154,4 +158,5 @@ pub record IsKept {D : Type 0} (d : Ghosts D) (b : Base) (sound premise : Type 0
   pub server : IsServer d b premise (HasParts d b catalog groups) disk trail.entries late closed
   pub room : HasTrailRoom closed groups trail
   pub blamed : has_told trail.entries ≡ true → HasFailed d disk
+  pub last_call : (call : ℕ) → closed ≡ Some call → call ≡ d.calls disk
   pub others : premise → IsTrue d.tells → OthersStay d b began disk trail.entries

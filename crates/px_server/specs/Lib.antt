@@ -3,6 +3,7 @@ pub mod Counts
 pub mod Ending
 pub mod Kept
 pub mod Logged
+pub mod Looks
 pub mod Others
 pub mod Points
 pub mod Repairs

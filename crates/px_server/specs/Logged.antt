@@ -1,4 +1,4 @@
--- The cells that a server shows of each table are those of the logs on its disk.
+-- The tables that a server shows are on its disk, and the cells that it counts of each are those of the logs there.
 use Rattle.std.specs.Prelude.{◌≡◌, List, map}
 use Rattle.std.specs.List.{AllByRecursion}
 use Rattle.px_outside.specs.declared.disk.Disk.{Ghosts}
@@ -17,3 +17,9 @@ pub record AreLogged {D : Type 0} (d : Ghosts D) (b : Base) (disk : D) (es : Lis
   pub stand : AllByRecursion (HasTallied b es) groups
   pub on : AllByRecursion (IsOnDisk d disk folder) groups
   pub counts : logged ≡ map logged_in groups
+
+-- Each table that is shown stands with all its maintained indexes, and their regions go on from the disk.
+pub record AreOnDisk {D : Type 0} (d : Ghosts D) (b : Base) (disk : D) (es : List Entry) (groups : List Group) : Type 0 where
+  pub folder : FolderData
+  pub stand : AllByRecursion (HasTallied b es) groups
+  pub on : AllByRecursion (IsOnDisk d disk folder) groups

@@ -1,9 +1,21 @@
--- What is answered of a repair.
-use Rattle.std.specs.Prelude.{◌≡◌, ℕ, Result, Ok, Err}
+-- What is answered of a repair, and what becomes of the version.
+use Rattle.std.specs.Prelude.{◌≡◌, ◌⊎◌, ◌++◌, ℕ, false, List, Some, slice_get, Result, Ok, Err}
+use Rattle.std.specs.List.{AllByRecursion, slice_set}
+use Rattle.px_cells.specs.CellData.{CellData}
+use Rattle.px_cells.specs.Order.{ReadsSame}
+use Rattle.px_region.specs.Region.{read_of}
+use Rattle.px_region.specs.declared.region.Region.{Region}
 use Rattle.px_calls.specs.declared.fault.StepFault.{StepFault}
 use Rattle.px_calls.specs.declared.fault.StepFault.TheVariants as steps
+use Rattle.px_calls.specs.declared.query.Doubt.{Doubt}
 use Rattle.px_calls.specs.declared.query.Fixing.{Fixing}
 use Rattle.px_calls.specs.declared.query.Fixing.TheVariants as fixing
+use Rattle.px_phases.specs.Batch.{IsHanded}
+use Rattle.px_group.specs.declared.group.Group.{Group}
+use Rattle.px_group.specs.declared.group.IndexRegion.{IndexRegion}
+use Rattle.px_pointreads.specs.Points.{LacksIndex}
+use Rattle.px_reading.specs.Looked.{HasLooked}
+use Rattle.px_repairs.specs.Repairs.{IsRegionStep, IsRepair, stands_in}
 use Rattle.px_repairs.specs.declared.repairing.RepairFault.{RepairFault}
 use Rattle.px_repairs.specs.declared.repairing.RepairFault.TheVariants.{Busy, NotReady, WriteFault, Memory}
 
@@ -24,3 +36,42 @@ Stays (Err (Busy cells bytes)) = Unit {0}
 Stays (Err NotReady) = Unit {0}
 Stays (Err WriteFault) = ⊥
 Stays (Err Memory) = Unit {0}
+
+-- the index of the doubt shows no unverified version of its stamp at its key
+pub record StandsNoMore (groups : List Group) (d : Doubt) : Type 0 where
+  pub place : ℕ
+  pub group : Group
+  pub at : slice_get groups place ≡ Some group
+  pub part : ℕ
+  pub index : IndexRegion
+  pub of : slice_get group.indexes.items part ≡ Some index
+  pub id : index.index.id ≡ d.index
+  pub gone : stands_in group index d.key d.stamp ≡ false
+
+-- The repair that was due (`IsRepair`) is written in the region of the doubt's index, before all that was there. All else stays, but for counts of rows
+-- looked at.
+pub record IsMended (groups groups' : List Group) (d : Doubt) : Type 0 where
+  pub place : ℕ
+  pub group : Group
+  pub at : slice_get groups place ≡ Some group
+  pub looked : Group
+  pub has : HasLooked group looked
+  pub part : ℕ
+  pub index : IndexRegion
+  pub id : index.index.id ≡ d.index
+  pub kept : List CellData
+  pub due : IsRepair looked part d.key d.stamp kept
+  pub mended : Group
+  pub region : Region
+  pub step : IsRegionStep looked mended part index region
+  pub cells : List CellData
+  pub handed : IsHanded cells kept
+  pub reads : ReadsSame (read_of region) (cells ++ read_of index.region)
+  pub then : groups' ≡ slice_set groups place mended
+
+-- What became of the doubt's version: it is gone only where no table has the index any more, or the index doesn't show it unverified. When it is in
+-- flight the trail tells (`DidFix`).
+abbrev pub Mends : List Group → List Group → Doubt → Fixing → Type 0
+Mends groups groups' d fixing.Fixed = IsMended groups groups' d
+Mends groups groups' d fixing.Gone = AllByRecursion (LacksIndex d.index) groups ⊎ StandsNoMore groups' d
+Mends groups groups' d fixing.InFlight = Unit {0}

@@ -3,7 +3,7 @@ ghost use Rattle.std.specs.Prelude.{◌≡◌, ◌↔◌, IfErr, IfOk, IsSome, I
 ghost use Rattle.px_calls.specs.Calls.{DidFix};
 ghost use Rattle.px_calls.specs.Causes.{Refuses, fix_cause};
 ghost use Rattle.px_server.specs.Shown.{known_by};
-ghost use Rattle.px_server.specs.Repairs.{Answers, Stays};
+ghost use Rattle.px_server.specs.Repairs.{Answers, Mends, Stays};
 
 use crate::shutting::shut;
 use crate::{Founded, Server};
@@ -58,6 +58,7 @@ impl<D: CountsCalls, C: Clock, B: Based + Founded> Server<D, C, B> {
     pub fn fix(&mut self, d: &Doubt) -> Result<Fixing, StepFault>
         requires { IsSome d.now.verdict }
         ensures ok { IfOk result (DidFix (known_by B.base B.damaged self.old) (known_by B.base B.damaged self.new) d.now) }
+        ensures fixes { IfOk result (Mends self.old.groups self.new.groups d.now) }
         ensures refused { IfErr result (Refuses fix_cause (known_by B.base B.damaged self.old) (known_by B.base B.damaged self.new)) }
     {
         if let Some(call) = self.closed {

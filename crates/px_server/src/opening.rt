@@ -104,7 +104,7 @@ impl<D: CountsCalls, C: Clock + Drop, B: Based + Founded> Server<D, C, B> {
         requires disk { B.premise → IsTrue D.tells → IsOpenedOn ⟦<D as Disk>⟧ disk opened }
         requires began { BeginsAt ⟦<D as Disk>⟧ B.began disk }
         requires times { IsTrue C.tells → (n : ℕ) → C.times clock n ≡ B.times n }
-        ensures ok { IfOk result (λ s. s ≡ record { seat = 1; entries = []; late = None; closed = None; logged = map logged_in opened.groups.items }) }
+        ensures ok { IfOk result (λ s. s ≡ record { seat = 1; entries = []; late = None; closed = None; logged = map logged_in opened.groups.items; groups = opened.groups.items }) }
         ensures refused { IfErr result (λ back. back ≡ disk) }
     {
         let Opened {

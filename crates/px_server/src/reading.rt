@@ -1,9 +1,12 @@
 // Reading at a point.
-ghost use Rattle.std.specs.Prelude.{◌≡◌, ◌↔◌, IfErr, IfOk, List, None, Some};
+ghost use Rattle.std.specs.Prelude.{◌≡◌, ◌↔◌, IfErr, IfOk, List, None, Some, map};
 ghost use Rattle.px_calls.specs.Calls.{DidConsult, DidLook};
 ghost use Rattle.px_calls.specs.Causes.{Refuses, read_cause};
 ghost use Rattle.px_calls.specs.Requires.{CanConsult, CanLook, IsOpen};
 ghost use Rattle.px_values.specs.declared.row.Value.{Value as ColumnValue};
+ghost use Rattle.px_calls.specs.declared.query.By.TheVariants.{Index as ByIndex};
+ghost use Rattle.px_values.specs.declared.name.IndexId.{IndexId as Number};
+ghost use Rattle.px_server.specs.Looks.{AreOfIndexAt, rows_in};
 ghost use Rattle.px_server.specs.Shown.{known_by};
 
 use crate::{Founded, Server};
@@ -47,11 +50,13 @@ fn verdict_of(repair: Repair) -> Verdict
 }
 
 impl<D: CountsCalls, C: Clock, B: Based + Founded> Server<D, C, B> {
-    /// The next keys of the path past `after`.
+    /// The next keys of the path past `after`. By an index, a key is sure exactly where its version is verified, and no row of a table is looked at.
     pub fn look(&mut self, p: &Point, path: &Path, after: &Option<Key>) -> Result<Chunk, StepFault>
         requires open { IsOpen (known_by B.base B.damaged self.old) p.now }
         requires path { CanLook p.now path.now }
         ensures ok { IfOk result (DidLook B.sound (known_by B.base B.damaged self.old) (known_by B.base B.damaged self.new) p.now path.now after.now) }
+        ensures versions { IfOk result (λ c. (i : Number) → path.now.by ≡ ByIndex i → AreOfIndexAt self.old.groups p.now i c.found) }
+        ensures no_row { (i : Number) → path.now.by ≡ ByIndex i → map rows_in self.new.groups ≡ map rows_in self.old.groups }
         ensures refused { IfErr result (Refuses read_cause (known_by B.base B.damaged self.old) (known_by B.base B.damaged self.new)) }
     {
         if let Some(call) = self.closed {

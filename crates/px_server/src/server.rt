@@ -73,7 +73,7 @@ impl<D: CountsCalls, C: Clock + Drop, B: Based + Founded> Server<D, C, B> {
     ghost use Rattle.px_recovery.specs.Kept.{IsLate};
     ghost use Rattle.px_recovery.specs.Stands.{Recovers};
     ghost use Rattle.px_server.specs.Kept.{HasFailed, has_told};
-    ghost use Rattle.px_server.specs.Logged.{AreLogged};
+    ghost use Rattle.px_server.specs.Logged.{AreLogged, AreOnDisk};
     ghost use Rattle.px_server.specs.Others.{OthersStay};
     ghost use Rattle.px_server.specs.Started.{StandsBy};
     ghost use Rattle.px_trail.specs.Trail.{closing_call};
@@ -82,7 +82,7 @@ impl<D: CountsCalls, C: Clock + Drop, B: Based + Founded> Server<D, C, B> {
 
     /// The disk, what was done, and what is late. Each image that a stop may leave at a moment of the run recovers, and where an entry tells
     /// that a call of the disk failed, one has. Unless a failed write closed the server, no entry is late, the disk stands for what base and
-    /// trail give, and the cells shown of each table are those of the logs there. Each stamp that was drawn is by a number that the clock told. Files
+    /// trail give, and the cells shown of each table are those of the logs there; the call that closed it is the last that was made. Each stamp that was drawn is by a number that the clock told. Files
     /// of no part stay as they were.
     pub fn finish(self) -> (D, Trail, Option<Entry>)
         ensures entries { result.1.entries ≡ self.entries }
@@ -90,8 +90,10 @@ impl<D: CountsCalls, C: Clock + Drop, B: Based + Founded> Server<D, C, B> {
         ensures recovers { B.premise → (moment : ℕ) (image : ℕ → List ℕ) → IsLeft ⟦<D as Disk>⟧ result.0 moment image → Recovers B.base result.1.entries result.2 moment image }
         ensures stands { closing_call result.1.entries ≡ None → B.premise → IsTrue D.tells → StandsBy ⟦<D as Disk>⟧ B.base result.0 result.1.entries }
         ensures logged { closing_call result.1.entries ≡ None → B.premise → IsTrue D.tells → AreLogged ⟦<D as Disk>⟧ B.base result.0 result.1.entries self.logged }
+        ensures on_disk { closing_call result.1.entries ≡ None → B.premise → IsTrue D.tells → AreOnDisk ⟦<D as Disk>⟧ B.base result.0 result.1.entries self.groups }
         ensures unlate { closing_call result.1.entries ≡ None → result.2 ≡ None }
         ensures late_is { (u : Entries) → result.2 ≡ Some u → B.premise → IsTrue D.tells → IsLate B.base result.1.entries u }
+        ensures closed_at { (call : ℕ) → closing_call result.1.entries ≡ Some call → call ≡ D.calls result.0 }
         ensures blamed { has_told result.1.entries ≡ true → HasFailed ⟦<D as Disk>⟧ result.0 }
         ensures others { B.premise → IsTrue D.tells → OthersStay ⟦<D as Disk>⟧ B.base B.began result.0 result.1.entries }
         ensures stamped { IsTrue C.tells → (n : ℕ) × AreStamped B.times B.base [] 0 n result.1.entries }

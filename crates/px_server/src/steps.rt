@@ -1,4 +1,15 @@
 // The server as drivers see it.
+ghost use Rattle.std.specs.Prelude.{◌≡◌, ◌≢◌, ◌≤◌, [], IfErr, IfOk, IsSome, length, map, true};
+ghost use Rattle.px_trail.specs.Batches.{is_distinct, rows_of};
+ghost use Rattle.px_calls.specs.Calls.{DidBegin, DidFix, DidLook};
+ghost use Rattle.px_calls.specs.Causes.{Refuses, begin_cause, fix_cause, read_cause};
+ghost use Rattle.px_calls.specs.Requires.{AreFitting, CanLook, IsOpen};
+ghost use Rattle.px_calls.specs.declared.query.By.TheVariants.{Index as ByIndex};
+ghost use Rattle.px_values.specs.declared.name.IndexId.{IndexId as Number};
+ghost use Rattle.px_server.specs.Beginning.{RefusesBatch};
+ghost use Rattle.px_server.specs.Looks.{AreOfIndexAt, rows_in};
+ghost use Rattle.px_server.specs.Repairs.{Mends};
+
 use crate::{Founded, Server};
 use px_calls::{
     Chunk, Definition, Doubt, Fixing, Held, Made, Marks, Path, Point, Receipt, Status, StepFault,
@@ -30,7 +41,15 @@ impl<D: CountsCalls, C: Clock, B: Based + Founded> Steps for Server<D, C, B> {
         }
     }
 
-    fn begin(&mut self, table: TableId, changes: &Changes) -> Result<Ticket, StepFault> {
+    fn begin(&mut self, table: TableId, changes: &Changes) -> Result<Ticket, StepFault>
+        requires some { changes.now ≢ [] }
+        requires rows { length changes.now ≤ 1000 }
+        requires distinct { is_distinct (rows_of changes.now) ≡ true }
+        requires fits { AreFitting (known_by B.base B.damaged self.old) table.0 changes.now }
+        ensures ok { IfOk result (DidBegin B.sound (known_by B.base B.damaged self.old) (known_by B.base B.damaged self.new) table changes.now) }
+        ensures refused { IfErr result (Refuses (begin_cause B.sound table.0 changes.now) (known_by B.base B.damaged self.old) (known_by B.base B.damaged self.new)) }
+        ensures caused { IfErr result (RefusesBatch self.old.groups table self.old.entries changes.now) }
+    {
         Server::begin(self, table, changes)
     }
 
@@ -58,7 +77,14 @@ impl<D: CountsCalls, C: Clock, B: Based + Founded> Steps for Server<D, C, B> {
         Server::open_point(self, table, scn)
     }
 
-    fn look(&mut self, p: &Point, path: &Path, after: &Option<Key>) -> Result<Chunk, StepFault> {
+    fn look(&mut self, p: &Point, path: &Path, after: &Option<Key>) -> Result<Chunk, StepFault>
+        requires open { IsOpen (known_by B.base B.damaged self.old) p.now }
+        requires path { CanLook p.now path.now }
+        ensures ok { IfOk result (DidLook B.sound (known_by B.base B.damaged self.old) (known_by B.base B.damaged self.new) p.now path.now after.now) }
+        ensures versions { IfOk result (λ c. (i : Number) → path.now.by ≡ ByIndex i → AreOfIndexAt self.old.groups p.now i c.found) }
+        ensures no_row { (i : Number) → path.now.by ≡ ByIndex i → map rows_in self.new.groups ≡ map rows_in self.old.groups }
+        ensures refused { IfErr result (Refuses read_cause (known_by B.base B.damaged self.old) (known_by B.base B.damaged self.new)) }
+    {
         Server::look(self, p, path, after)
     }
 
@@ -66,7 +92,12 @@ impl<D: CountsCalls, C: Clock, B: Based + Founded> Steps for Server<D, C, B> {
         Server::consult(self, p, d)
     }
 
-    fn fix(&mut self, d: &Doubt) -> Result<Fixing, StepFault> {
+    fn fix(&mut self, d: &Doubt) -> Result<Fixing, StepFault>
+        requires { IsSome d.now.verdict }
+        ensures ok { IfOk result (DidFix (known_by B.base B.damaged self.old) (known_by B.base B.damaged self.new) d.now) }
+        ensures fixes { IfOk result (Mends self.old.groups self.new.groups d.now) }
+        ensures refused { IfErr result (Refuses fix_cause (known_by B.base B.damaged self.old) (known_by B.base B.damaged self.new)) }
+    {
         Server::fix(self, d)
     }
 

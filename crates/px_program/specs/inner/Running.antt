@@ -67,6 +67,7 @@ pub record RanOver {D C O : Type 0} (d : DiskGhosts D) (c : ClockGhosts C) (k : 
   pub stands : closing_call outcome.trail.entries ≡ None → premise → IsTrue d.tells → StandsBy d base outcome.disk outcome.trail.entries
   pub unlate : closing_call outcome.trail.entries ≡ None → outcome.late ≡ None
   pub late_is : (u : Entry) → outcome.late ≡ Some u → premise → IsTrue d.tells → IsLate base outcome.trail.entries u
+  pub closed_at : (call : ℕ) → closing_call outcome.trail.entries ≡ Some call → call ≡ d.calls outcome.disk
   pub status : outcome.status ≡ status_of sink_failed (d.first_fault outcome.disk) outcome.memory (causes_of (items_of outcome.transcripts))
   pub blamed : has_told outcome.trail.entries ≡ true → HasFailed d outcome.disk
   pub others : premise → IsTrue d.tells → OthersStay d base began outcome.disk outcome.trail.entries

@@ -54,7 +54,7 @@ impl<D: CountsCalls, C: Clock, B: Based + Founded> Server<D, C, B> {
         requires running { IsRunning (known_by B.base B.damaged self.old) }
         requires stands { Stands (known_by B.base B.damaged self.old) table.0 }
         requires low { horizon_of B.base table.0 self.old.entries ≤ stamp }
-        ensures same { self.new ≡ self.old }
+        ensures same { self.new ≡ record self.old { groups = self.new.groups } }
         ensures rows { IfOk result (λ has. B.sound → (has ≡ true) ↔ HasRowAt B.base self.old.entries table.0 stamp) }
         ensures refused { IfErr result (λ f. f ≡ NoMemory) }
     {

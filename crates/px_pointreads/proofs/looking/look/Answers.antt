@@ -1,8 +1,11 @@
 use Rattle.std.proofs.Common.{◌≡◌, ℕ, Option, List, ap, sym, subst, ◌∙◌}
 use Rattle.px_calls.specs.Looks.{Shows, ShowsRows}
 use Rattle.px_calls.specs.declared.query.By.TheVariants.{Index as ByIndex}
+use Rattle.px_values.specs.declared.name.IndexId.{IndexId}
 use Rattle.px_reading.proofs.Looks.{ok_map}
-use Rattle.px_pointreads.proofs.Asked.{above_keys, active_at, found_in, not_looked, there_is}
+use Rattle.px_reading.specs.Versions.{AreOfVersions}
+use Rattle.px_pointreads.specs.Points.{IsPartAt}
+use Rattle.px_pointreads.proofs.Asked.{above_keys, active_at, found_in, index_is, no_index, not_looked, there_is}
 use Rattle.px_pointreads.proofs.looking.look.Goals as goal
 
 pub returns-in-Table-clause-keys : goal.returns-in-Table-clause-keys
@@ -25,6 +28,28 @@ returns-in-Some-clause-rows g c = ok_map _ _ (λ n h b index es v hs tallied sho
     subst (λ (o : Option (List ℕ)). ShowsRows b es c.args.p.now c.args.path.now o n.found n.next) c.bytes_if-past.ensures
     (h z.0 z.1 b index es v hs shown (active_at c.args.group.now c.args.p.now c.requires.at c.in-Index.index z.0 part c.args.path.now c.in-Index.is c.requires.path) c.args.p.now c.requires.at.of part.at (sym c.reach-in-Some.ensures)
     (above_keys c.args.group.now c.args.p.now c.requires.at c.in-Index.index z.0 part b es hs tallied c.reach-in-Some.result c.reach-in-Some.ensures) c.args.path.now by (sym c.as_slice-low.ensures) (sym c.bytes_if-high.ensures)))) c.look_keys.result c.look_keys.ensures.rows
+
+pub returns-in-Some-clause-versions : goal.returns-in-Some-clause-versions
+returns-in-Some-clause-versions g c = ok_map _ _ (λ n h i by.
+    (let f = found_in c.args.p.now c.in-Index.index c.args.group.now.indexes.items c.deref.result.now c.in-Some.place c.deref.ensures.value c.in-Some.ensures.within c.in-Some.ensures.part in
+    let z = there_is c.args.group.now.indexes.items c.in-Some.place f.within in
+    let same : c.in-Index.index ≡ i = index_is c.in-Index.index i (sym c.in-Index.is ∙ by) in
+    record {
+      place = c.in-Some.place;
+      index = z.0;
+      at = z.1;
+      part = subst (λ (j : IndexId). IsPartAt c.args.p.now j z.0) same (f.part z.0 z.1);
+      versions = subst (λ (s : ℕ). AreOfVersions z.0 s n.found) c.reach-in-Some.ensures (h z.0 z.1);
+    })) c.look_keys.result c.look_keys.ensures.versions
+
+pub returns-in-Table-clause-versions : goal.returns-in-Table-clause-versions
+returns-in-Table-clause-versions g c = ok_map _ _ (λ n h i by. absurd (no_index i (sym c.in-Table.is ∙ by))) c.look_rows.result c.look_rows.ensures.keys
+
+pub returns-in-Table-clause-no_row : goal.returns-in-Table-clause-no_row
+returns-in-Table-clause-no_row g c = λ i by. absurd (no_index i (sym c.in-Table.is ∙ by))
+
+pub returns-in-Some-clause-no_row : goal.returns-in-Some-clause-no_row
+returns-in-Some-clause-no_row g c = λ i by. c.look_keys.ensures.no_row
 
 pub returns-in-None-clause-looked : goal.returns-in-None-clause-looked
 returns-in-None-clause-looked g c = not_looked c.args.group.now

@@ -24,6 +24,7 @@ returns-in-Ok g c =
       stands = f.stands;
       unlate = f.unlate;
       late_is = f.late_is;
+      closed_at = f.closed_at;
       status = search rules;
       blamed = f.blamed;
       others = f.others;

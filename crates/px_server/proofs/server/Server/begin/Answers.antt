@@ -11,6 +11,8 @@ use Rattle.px_calls.specs.Requires.{AreFitting}
 use Rattle.px_calls.specs.declared.fault.StepFault.TheVariants.{Closed, NoTable}
 use Rattle.px_turns.specs.Turns.{drawn}
 use Rattle.px_standing.proofs.Looked.{lacks}
+use Rattle.px_repairs.proofs.Handing.{got_some}
+use Rattle.px_server.specs.Beginning.{RefusesBatch}
 use Rattle.px_server.specs.Kept.{IsKept}
 use Rattle.px_server.specs.Shown.{Shown, known_by, shown_of}
 use Rattle.px_server.specs.Stamps.{draw}
@@ -18,8 +20,8 @@ use Rattle.px_server.proofs.Begun.{drawn_above}
 use Rattle.px_server.proofs.Found.{closed_by}
 use Rattle.px_server.proofs.Left.{left_none}
 use Rattle.px_server.proofs.Letting.{begun_kept, fit_here, last_here, left_kept, long_there, right_here, short_there, stands_here}
-use Rattle.px_server.proofs.Refusing.{begun_no_table, did_begin, unbegun}
-use Rattle.px_server.proofs.Released.{none_of}
+use Rattle.px_server.proofs.Refusing.{begun_no_table, did_begin, refuses_batch, unbegun}
+use Rattle.px_server.proofs.Released.{group_of, none_of, place_in}
 use Rattle.px_server.proofs.Stamping.{drawn_by_clock, read_by_clock, same_by_clock}
 use Rattle.px_server.proofs.server.Server.begin.Goals as goal
 
@@ -137,3 +139,20 @@ returns-in-Err-clause-refused g c =
     (subst (λ (w : Shown). Refuses (begin_cause g.B.Founded.sound c.args.table.0 cs) k (known_by b g.B.Based.damaged w) c.in-Err.fault) same
     (unbegun k told.legal (told.closing ∙ running) g.B.Founded.sound c.args.table.0 cs (stands_here g.D.Disk b g.B.Founded.sound g.B.Founded.premise g.B.Founded.began s.disk s.catalog s.standing s.groups.items s.trail s.late s.closed c.self.invariant.0 running c.args.table c.in-Some-numbered_place.place c.index_mut.result.now c.in-Some-numbered_place.ensures.found c.in-Some-numbered_place.ensures.numbered (sym c.index_mut.ensures.value)) c.index_mut.result.now (last_here g.D.Disk b g.B.Founded.sound g.B.Founded.premise g.B.Founded.began s.disk s.catalog s.standing s.groups.items s.trail s.late s.closed c.self.invariant.0 running c.args.table c.in-Some-numbered_place.place c.index_mut.result.now c.in-Some-numbered_place.ensures.found c.in-Some-numbered_place.ensures.numbered (sym c.index_mut.ensures.value))
     (λ early needs given. long_there g.D.Disk b g.B.Founded.sound g.B.Founded.premise g.B.Founded.began s.disk s.catalog s.standing s.groups.items s.trail s.late s.closed c.self.invariant.0 running c.args.table c.in-Some-numbered_place.place c.index_mut.result.now c.in-Some-numbered_place.ensures.found c.in-Some-numbered_place.ensures.numbered (sym c.index_mut.ensures.value) cs fit early given c.index_mut.result.now (left_none c.index_mut.result.now) (right_here g.D.Disk b g.B.Founded.sound g.B.Founded.premise g.B.Founded.began s.disk s.catalog s.standing s.groups.items s.trail s.late s.closed c.self.invariant.0 running c.args.table c.in-Some-numbered_place.place c.index_mut.result.now c.in-Some-numbered_place.ensures.found c.in-Some-numbered_place.ensures.numbered (sym c.index_mut.ensures.value)) needs) c.now-clock.result c.in-Err.fault c.in-Err.ensures.refused))
+
+pub returns-in-Err-clause-caused : goal.returns-in-Err-clause-caused
+returns-in-Err-clause-caused g c =
+    let s = c.self.inside in
+    let k = c.self.invariant.0 in
+    let cs = c.args.changes.now in
+    let place = c.in-Some-numbered_place.place in
+    let inside = place_in s.groups.items s.standing.tables k.each.stand place c.in-Some-numbered_place.ensures.found in
+    subst (λ (w : Shown). RefusesBatch w.groups c.args.table w.entries cs c.in-Err.fault) c.self.view_is
+    (refuses_batch s.groups.items c.args.table s.trail.entries cs c.in-Err.fault (record {
+      place = place;
+      group = c.index_mut.result.now;
+      at = got_some s.groups.items place _ c.index_mut.result.now inside c.index_mut.ensures.value;
+      id = group_of s.groups.items s.standing.tables k.each.stand place c.index_mut.result.now inside (sym c.index_mut.ensures.value) c.args.table c.in-Some-numbered_place.ensures.numbered;
+      clock = c.now-clock.result;
+      unbegun = c.in-Err.ensures.refused;
+    }))

@@ -1,12 +1,15 @@
 use Rattle.std.proofs.Common.{rules, ◌≡◌, ◌∙◌, ◌<◌, None, List, length, sym, subst, arith}
-use Rattle.std.proofs.Common.{◌≤◌, ◌+◌, ◌++◌, ◌∷◌, [], suc, zero, ap, Some, refl}
+use Rattle.std.proofs.Common.{◌≤◌, ◌+◌, ◌++◌, ◌∷◌, [], suc, zero, ap, inl, Some, refl}
 use Rattle.std.specs.Prelude.{IfErr, IfOk, Option, ℕ}
-use Rattle.std.specs.List.{slice_set}
+use Rattle.std.specs.List.{AllByRecursion, slice_set}
 use Rattle.px_calls.specs.Calls.{DidFix, Finds, IsInFlight}
 use Rattle.px_calls.specs.Causes.{Refuses, fix_cause}
 use Rattle.px_calls.specs.declared.fault.StepFault.TheVariants.{Closed, Memory}
 use Rattle.px_trail.specs.declared.entry.Entry.{Entry}
-use Rattle.px_server.specs.Repairs.{Stays}
+use Rattle.px_calls.specs.declared.query.Fixing.TheVariants.{Gone}
+use Rattle.px_group.specs.declared.group.Group.{Group}
+use Rattle.px_pointreads.specs.Points.{LacksIndex}
+use Rattle.px_server.specs.Repairs.{Mends, Stays}
 use Rattle.px_server.specs.Kept.{IsKept}
 use Rattle.px_repairs.specs.Repairs.{Fixes}
 use Rattle.px_calls.specs.Known.{Adds}
@@ -15,7 +18,7 @@ use Rattle.px_trail.specs.declared.entry.Act.TheVariants.{Fixed as FixedAct, Shu
 use Rattle.px_trail.specs.Legal.{IsLegal}
 use Rattle.px_server.proofs.Seen.{one_more}
 use Rattle.px_server.specs.Shown.{Shown, known_by, shown_of}
-use Rattle.px_server.proofs.Fixes.{doubt_at, answers_ok, answers_refused, failed_kept, failed_of, fix_stayed, fixed_flight, fixed_kept, fixed_of, stayed, stayed_flight}
+use Rattle.px_server.proofs.Fixes.{doubt_at, answers_ok, answers_refused, failed_kept, failed_of, fix_stayed, fixed_flight, fixed_kept, fixed_mends, fixed_of, stayed, stayed_flight, stayed_mends}
 use Rattle.px_server.proofs.Found.{closed_by}
 use Rattle.px_server.proofs.ReadAt.{finds, inside}
 use Rattle.px_server.proofs.Released.{none_of}
@@ -40,6 +43,9 @@ returns-in_default-doubt_place-clause-ok g c =
     let running : s.closed ≡ None = none_of s.closed (λ x is. search rules) in
     subst (λ (w : Shown). Finds (known_by g.B.Based.base g.B.Based.damaged w) (known_by g.B.Based.base g.B.Based.damaged w)) c.self.view_is
     (finds (known_by g.B.Based.base g.B.Based.damaged v) told.legal s.closed told.closing running)
+
+pub returns-in_default-doubt_place-clause-fixes : goal.returns-in_default-doubt_place-clause-fixes
+returns-in_default-doubt_place-clause-fixes g c = subst (λ (w : Shown). Mends w.groups w.groups c.args.d.now Gone) c.self.view_is (inl (subst (AllByRecursion (LacksIndex c.args.d.now.index)) c.deref.ensures.value c.in_default-doubt_place.ensures.none))
 
 pub returns-in_default-copied-clause-refused : goal.returns-in_default-copied-clause-refused
 returns-in_default-copied-clause-refused g c =
@@ -107,6 +113,17 @@ returns-then-has_stayed-clause-ok g c =
     (stayed_flight g.D.Disk g.met.D.Disk.told g.met.D.Disk.up_to_now b g.B.Founded.sound g.B.Founded.premise g.B.Founded.began s.disk s.catalog s.standing s.groups.items s.trail s.late s.closed k running c.in-Some-doubt_place.at.group c.index_mut-group.result.now c.fix-fixed.new.group l (sym c.index_mut-group.ensures.value) c.fix-fixed.new.disk h c.in-Some-doubt_place.at.index c.args.d.now named)
     c.fix-fixed.result here fixes c.answered.result c.answered.ensures))
 
+pub returns-then-has_stayed-clause-fixes : goal.returns-then-has_stayed-clause-fixes
+returns-then-has_stayed-clause-fixes g c =
+    let s = c.self.inside in
+    let l : c.in-Some-doubt_place.at.group < length s.groups.items = inside s.groups.items c.deref.result.now c.in-Some-doubt_place.at.group c.deref.ensures.value c.in-Some-doubt_place.ensures.within in
+    let named = doubt_at s.groups.items c.deref.result.now c.in-Some-doubt_place.at.group c.in-Some-doubt_place.at.index c.args.d.now.index c.index_mut-group.result.now _ c.deref.ensures.value c.in-Some-doubt_place.ensures.within c.in-Some-doubt_place.ensures.numbered c.index_mut-group.ensures.value in
+    let here : Stays c.fix-fixed.result = search rules in
+    let same : c.as_slice.result.now ≡ c.args.d.now.key = search rules in
+    let fixes = subst (λ (kk : List ℕ). Fixes g.D.Disk c.index_mut-group.result.now c.fix-fixed.new.group s.disk c.fix-fixed.new.disk c.in-Some-doubt_place.at.index kk c.args.d.now.stamp c.fix-fixed.result) same c.fix-fixed.ensures.fixes in
+    subst (λ (w : Shown). IfOk c.answered.result (Mends w.groups (slice_set s.groups.items c.in-Some-doubt_place.at.group c.fix-fixed.new.group) c.args.d.now)) c.self.view_is
+    (stayed_mends g.D.Disk s.groups.items c.in-Some-doubt_place.at.group c.index_mut-group.result.now c.fix-fixed.new.group l (sym c.index_mut-group.ensures.value) s.disk c.fix-fixed.new.disk c.in-Some-doubt_place.at.index c.args.d.now named.0 named.1 c.number-region.result c.fix-fixed.result here fixes c.answered.result c.answered.ensures)
+
 pub returns-then-has_stayed-clause-refused : goal.returns-then-has_stayed-clause-refused
 returns-then-has_stayed-clause-refused g c =
     let s = c.self.inside in
@@ -170,6 +187,20 @@ returns-in-Ok-fixed-clause-ok g c =
     subst (λ (w : Shown). DidFix (known_by b g.B.Based.damaged w) (known_by b g.B.Based.damaged v') c.args.d.now c.in-Ok-fixed.fixing) c.self.view_is
     (subst (λ (x : Fixing). DidFix (known_by b g.B.Based.damaged v) (known_by b g.B.Based.damaged v') c.args.d.now x) (sym f.1)
     (subst (λ (kk : List ℕ). Adds (known_by b g.B.Based.damaged v) (known_by b g.B.Based.damaged v') (FixedAct c.args.d.now.index kk)) key_is adds, flight))
+
+pub returns-in-Ok-fixed-clause-fixes : goal.returns-in-Ok-fixed-clause-fixes
+returns-in-Ok-fixed-clause-fixes g c =
+    let s = c.self.inside in
+    let l : c.in-Some-doubt_place.at.group < length s.groups.items = inside s.groups.items c.deref.result.now c.in-Some-doubt_place.at.group c.deref.ensures.value c.in-Some-doubt_place.ensures.within in
+    let named = doubt_at s.groups.items c.deref.result.now c.in-Some-doubt_place.at.group c.in-Some-doubt_place.at.index c.args.d.now.index c.index_mut-group.result.now _ c.deref.ensures.value c.in-Some-doubt_place.ensures.within c.in-Some-doubt_place.ensures.numbered c.index_mut-group.ensures.value in
+    let never : Stays c.fix-fixed.result → ⊥ = λ st. search rules in
+    let same : c.as_slice.result.now ≡ c.args.d.now.key = search rules in
+    let fixes = subst (λ (kk : List ℕ). Fixes g.D.Disk c.index_mut-group.result.now c.fix-fixed.new.group s.disk c.fix-fixed.new.disk c.in-Some-doubt_place.at.index kk c.args.d.now.stamp c.fix-fixed.result) same c.fix-fixed.ensures.fixes in
+    let f = fixed_of g.D.Disk c.index_mut-group.result.now c.fix-fixed.new.group s.disk c.fix-fixed.new.disk c.in-Some-doubt_place.at.index c.args.d.now.key c.args.d.now.stamp c.fix-fixed.result c.in-Ok-fixed.fixing never c.in-Ok-fixed.is fixes in
+    let then : List Group = slice_set s.groups.items c.in-Some-doubt_place.at.group c.fix-fixed.new.group in
+    subst (λ (w : Shown). Mends w.groups then c.args.d.now c.in-Ok-fixed.fixing) c.self.view_is
+    (subst (Mends s.groups.items then c.args.d.now) (sym f.1)
+    (fixed_mends g.D.Disk s.groups.items c.in-Some-doubt_place.at.group c.index_mut-group.result.now c.fix-fixed.new.group l (sym c.index_mut-group.ensures.value) s.disk c.fix-fixed.new.disk c.in-Some-doubt_place.at.index c.args.d.now named.0 named.1 f.0))
 
 pub invariant_of-self-in-Err : goal.invariant_of-self-in-Err
 invariant_of-self-in-Err g c =

@@ -6,6 +6,7 @@ use Rattle.px_calls.specs.declared.fault.StepFault.{StepFault}
 use Rattle.px_tables.specs.declared.table.Table.{Table}
 use Rattle.px_trail.specs.Trail.{horizon_of, table_of}
 use Rattle.px_standing.proofs.Looked.{lacks}
+use Rattle.px_group.specs.declared.group.Group.{Group}
 use Rattle.px_server.specs.Kept.{IsKept}
 use Rattle.px_server.specs.Shown.{LoggedCells, Shown, known_by, logged_in}
 use Rattle.px_server.specs.inner.Indexing.{HasRowAt}
@@ -65,5 +66,7 @@ returns-clause-same g c = (let
     in let
     logged : map logged_in (slice_set s.groups.items c.in-Some.place c.is_filled.new.group) ≡ map logged_in s.groups.items =
     logged_kept s.groups.items c.in-Some.place c.index_mut.result.now c.is_filled.new.group (place_in s.groups.items s.standing.tables k.each.stand c.in-Some.place c.in-Some.ensures.found) (sym c.index_mut.ensures.value) c.is_filled.ensures.looked
+    in let
+    then : List Group = slice_set s.groups.items c.in-Some.place c.is_filled.new.group
     in
-    ap (λ (l : List LoggedCells). record { seat = s.seat; entries = s.trail.entries; late = s.late; closed = s.closed; logged = l }) logged ∙ c.self.view_is)
+    ap (λ (l : List LoggedCells). record { seat = s.seat; entries = s.trail.entries; late = s.late; closed = s.closed; logged = l; groups = then }) logged ∙ ap (λ (v : Shown). record v { groups = then }) c.self.view_is)
