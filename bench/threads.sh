@@ -2,8 +2,9 @@
 # How many statements a second the sessions of a round are answered together: 1, 2, 4 and 8 of them, which look rows up by the key, look rows up
 # through a covering index, read ranges through it, and put rows of their own into a table with that index. Each session does the same number of
 # statements, but of UPSERTs 480 at most, since a region holds 16,384 cells. Each script is run in some rounds, and the best time is told, less
-# that of an empty script on the same folder. 'to one' is the rate beside that of one session alone. 'turn' is the time of a statement where eight
-# sessions are answered together: the turns at the server that a statement takes can't be longer than that.
+# that of an empty script on the same folder. 'to one' is the rate beside that of one session that is given the same statements alone (eight
+# sessions fill a table eight times as large). 'turn' is the time of a statement where eight sessions are answered together: the turns at the
+# server that a statement takes can't be longer than that.
 # Usage: bench/threads.sh [STATEMENTS [ROUNDS [FOLDER]]]: statements a session (2,000), rounds (3), and the folder on whose file
 # system it is done (/dev/shm, where a sync costs nothing)
 set -eu
@@ -60,18 +61,19 @@ def each_of(kind):
     return min(statements, 480) if kind is upserts else statements
 
 
-def script_of(kind, count):
-    return "".join(f"@{session} {kind(session, i)};\n" for i in range(each_of(kind)) for session in range(1, count + 1))
+def script_of(kind, count, alone):
+    """The statements of so many sessions, or the same, in the same order, as those of one session alone."""
+    return "".join(f"@{1 if alone else session} {kind(session, i)};\n" for i in range(each_of(kind)) for session in range(1, count + 1))
 
 
-def once(kind, count):
+def once(kind, count, alone=False):
     folder = f"{work}/read"
     if kind is upserts:
         folder = f"{work}/written"
         shutil.rmtree(folder, ignore_errors=True)
         run(table, folder)
     empty, _ = run("", folder)
-    took, answered = run(script_of(kind, count), folder)
+    took, answered = run(script_of(kind, count, alone), folder)
     if answered != count * each_of(kind):
         sys.exit(f"threads.sh: {answered} answers of {count * each_of(kind)}")
     return took - empty
@@ -83,8 +85,9 @@ try:
     print(f"{'statements a second, by sessions':34}" + "".join(f"{n:>9} {'to one':>7}" for n in counts) + f" {'turn':>9}")
     for what, kind in (("look-ups by the key", by_key), ("look-ups by the index", by_index), ("ranges of 100 rows by the index", ranges), ("UPSERTs", upserts)):
         best = {n: min(once(kind, n) for _ in range(rounds)) for n in counts}
+        alone = {n: min(once(kind, n, alone=True) for _ in range(rounds)) for n in counts}
         rate = {n: n * each_of(kind) / best[n] for n in counts}
-        told = "".join(f"{rate[n]:9.0f} {rate[n] / rate[1]:7.2f}" for n in counts)
+        told = "".join(f"{rate[n]:9.0f} {alone[n] / best[n]:7.2f}" for n in counts)
         print(f"{what:34}{told} {1e6 / rate[8]:6.1f} us", flush=True)
 finally:
     shutil.rmtree(work)
