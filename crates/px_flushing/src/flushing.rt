@@ -35,7 +35,7 @@ pub enum FlushStep {
     More,
     /// The file is named: so many cells and bytes of batches don't stand above the flushed number any more. No flush is under way.
     Named { cells: u64, bytes: u64 },
-    /// No batch stands above the flushed number. No flush is under way.
+    /// No batch of the log's older segment stands above the flushed number. No flush is under way.
     Done,
 }
 
@@ -57,11 +57,11 @@ pub struct Flushing {
     pub(crate) flush: Option<Flush>,
 }
 
-/// Whether no batch stands above the flushed number.
+/// Whether no batch of the log's older segment stands above the flushed number.
 fn is_flushed(manifest: &Manifest, wal: &Wal) -> bool
-    ensures { IsTrue result ↔ (wal.now.last ≤ (names manifest.now).flushed) }
+    ensures { IsTrue result ↔ (wal.now.older_to ≤ (names manifest.now).flushed) }
 {
-    wal.last() <= manifest.snapshot().flushed
+    wal.older_to() <= manifest.snapshot().flushed
 }
 
 impl Flushing {
@@ -99,7 +99,7 @@ impl Flushing {
         &self.files
     }
 
-    /// Begins a flush, where a batch stands above the flushed number.
+    /// Begins a flush, where a batch of the log's older segment stands above the flushed number.
     fn begin<D: Disk>(
         &mut self,
         disk: &mut D,
@@ -108,13 +108,13 @@ impl Flushing {
     ) -> Result<FlushStep, FlushFault>
         requires { self.old.flush ≡ None }
         ensures done { (batches : List BatchData) (lists : List (List CellData)) → HasFlushing ⟦<D as Disk>⟧ manifest.now wal.now self.old disk.old batches lists → HasFlushing ⟦<D as Disk>⟧ manifest.now wal.now self.new disk.new batches lists }
-        ensures ended { result ≡ Ok FlushStep.Done → (self.new.flush ≡ None) × (wal.now.last ≤ (names manifest.now).flushed) }
+        ensures ended { result ≡ Ok FlushStep.Done → (self.new.flush ≡ None) × (wal.now.older_to ≤ (names manifest.now).flushed) }
         ensures unnamed { (cells bytes : ℕ) → result ≢ Ok (FlushStep.Named cells bytes) }
         ensures sound { (batches : List BatchData) (lists : List (List CellData)) → HasFlushing ⟦<D as Disk>⟧ manifest.now wal.now self.old disk.old batches lists → result ≢ Err Damaged }
         ensures read_failed { result ≡ Err ReadFault → Rose ⟦<D as Disk>⟧ disk.old disk.new }
         ensures write_failed { result ≡ Err WriteFault → Rose ⟦<D as Disk>⟧ disk.old disk.new }
         ensures touches { TouchesOnly ⟦<D as Disk>⟧ disk.old disk.new (λ touched. ⊥) }
-        ensures counts { Passes ⟦<D as Disk>⟧ disk.old disk.new 6 }
+        ensures counts { Passes ⟦<D as Disk>⟧ disk.old disk.new 2 }
         ensures number { self.new.number ≡ self.old.number }
     {
         if is_flushed(manifest, wal) {
@@ -266,8 +266,8 @@ impl Flushing {
         }
     }
 
-    /// Makes one step of a flush: takes the cells of all batches above the flushed number, or makes one step of their file, or
-    /// names it. Batches may be written between two steps, which the flush under way doesn't take. What is read of the region's
+    /// Makes one step of a flush: takes the cells of the batches of the log's older segment that are above the flushed number, or
+    /// makes one step of their file, or names it. Batches may be written between two steps, which the flush under way doesn't take. What is read of the region's
     /// files stays at each moment. Where the answer isn't `WriteFault` the region goes on, and the step may be made again.
     pub fn step<D: Disk>(
         &mut self,
@@ -281,7 +281,7 @@ impl Flushing {
         // At each moment of the call a stop leaves the region's files as they are read now.
         ensures any_moment { (batches : List BatchData) (lists : List (List CellData)) → HasFlushing ⟦<D as Disk>⟧ manifest.old wal.now self.old disk.old batches lists
             → LeavesOnly ⟦<D as Disk>⟧ disk.old disk.new (λ moment image. IsRead self.old.number image (names manifest.old).horizon (cells_over (names manifest.old).flushed batches lists)) }
-        ensures ended { result ≡ Ok FlushStep.Done → (self.new.flush ≡ None) × (wal.now.last ≤ (names manifest.old).flushed) }
+        ensures ended { result ≡ Ok FlushStep.Done → (self.new.flush ≡ None) × (wal.now.older_to ≤ (names manifest.old).flushed) }
         ensures named { (batches : List BatchData) (lists : List (List CellData)) (cells bytes : ℕ) → HasFlushing ⟦<D as Disk>⟧ manifest.old wal.now self.old disk.old batches lists → result ≡ Ok (FlushStep.Named cells bytes)
             → (self.new.flush ≡ None) × IsRaised (names manifest.old).flushed (names manifest.new).flushed batches cells bytes }
         ensures horizon { result ≢ Err WriteFault → (names manifest.new).horizon ≡ (names manifest.old).horizon }
@@ -289,7 +289,7 @@ impl Flushing {
         ensures read_failed { result ≡ Err ReadFault → Rose ⟦<D as Disk>⟧ disk.old disk.new }
         ensures write_failed { result ≡ Err WriteFault → Rose ⟦<D as Disk>⟧ disk.old disk.new }
         ensures touches { (batches : List BatchData) (lists : List (List CellData)) → HasFlushing ⟦<D as Disk>⟧ manifest.old wal.now self.old disk.old batches lists → TouchesOnly ⟦<D as Disk>⟧ disk.old disk.new (IsFileOf self.old.number) }
-        ensures counts { Passes ⟦<D as Disk>⟧ disk.old disk.new 6 }
+        ensures counts { Passes ⟦<D as Disk>⟧ disk.old disk.new 4 }
         ensures number { self.new.number ≡ self.old.number }
     {
         let flush = match self.flush.take() {

@@ -1,10 +1,9 @@
 -- Batches between two numbers.
-use Rattle.std.proofs.Common.{◌≡◌, ◌⊎◌, ℕ, ◌+◌, ◌<◌, ◌≤◌, Bool, true, false, ltb, leb, List, [], ◌∷◌, ◌++◌, refl, sym, ap, ◌∙◌, arith, inl, inr}
+use Rattle.std.proofs.Common.{◌≡◌, ◌⊎◌, ℕ, ◌+◌, ◌<◌, ◌≤◌, Bool, true, false, ltb, leb, List, [], ◌∷◌, ◌++◌, refl, ap, arith, inl, inr}
 use Rattle.std.specs.Prelude.{filter, nat_le, nat_lt, ◌&&◌}
-use Rattle.std.specs.List.{AllByRecursion}
 use Rattle.std.proofs.lemmas.Bool.{cases_Bool, cases_lt, lt-ltb, le-ltb, le-leb, lt-leb}
-use Rattle.px_wal.specs.Batches.{AreRising, Batch, above, between}
-use Rattle.px_wal.specs.Form.{byte_count, cell_count, last_of}
+use Rattle.px_wal.specs.Batches.{Batch, above, between}
+use Rattle.px_wal.specs.Form.{byte_count, cell_count}
 use Rattle.px_wal.proofs.Cuts.{above_drop, above_take}
 
 between_take : (m n : ℕ) (b : Batch) (batches : List Batch) → m < b.number → b.number ≤ n → between m n (b ∷ batches) ≡ b ∷ between m n batches
@@ -21,23 +20,6 @@ outside m n b (inr high) =
 
 between_drop : (m n : ℕ) (b : Batch) (batches : List Batch) → (b.number ≤ m) ⊎ (n < b.number) → between m n (b ∷ batches) ≡ between m n batches
 between_drop m n b batches out = (let e = outside m n b out in rw e refl)
-
-last_top : (n : ℕ) (batches : List Batch) → AllByRecursion (λ c. n < c.number) batches → AreRising batches → (n ≤ last_of n batches) × AllByRecursion (λ c. c.number ≤ last_of n batches) batches
-last_top n [] over rising = (omega arith, tt)
-last_top n (b ∷ batches) over rising = (let top = last_top b.number batches rising.0 rising.1 in (omega (arith, over.0, top.0), (top.0, top.1)))
-
--- no number is greater than the last
-pub all_up_to : (flushed : ℕ) (batches : List Batch) → AreRising batches → AllByRecursion (λ c. c.number ≤ last_of flushed batches) batches
-all_up_to flushed [] rising = tt
-all_up_to flushed (b ∷ batches) rising = (let top = last_top b.number batches rising.0 rising.1 in (top.0, top.1))
-
--- where no number is greater, all above are between
-pub between_all : (m n : ℕ) (batches : List Batch) → AllByRecursion (λ c. c.number ≤ n) batches → between m n batches ≡ above m batches
-between_all m n [] all = refl
-between_all m n (b ∷ batches) all = elim (cases_lt m b.number) [
-  | inl l ↦ between_take m n b batches l all.0 ∙ ap (λ (l : List Batch). b ∷ l) (between_all m n batches all.1) ∙ sym (above_take m b batches l)
-  | inr l ↦ between_drop m n b batches (inl l) ∙ between_all m n batches all.1 ∙ sym (above_drop m b batches l)
-]
 
 filter_more : (P : Batch → Bool) (batches : List Batch) (b : Batch) → P b ≡ false → filter P (batches ++ b ∷ []) ≡ filter P batches
 filter_more P [] b not-kept = rw not-kept refl

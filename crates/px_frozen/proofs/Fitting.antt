@@ -1,6 +1,6 @@
 -- Which cells can be written.
 use Rattle.std.proofs.Common.{◌≡◌, ℕ, ◌+◌, ◌<◌, Bool, List, [], ◌∷◌, ◌++◌, length, take, get_or, sym, ap, subst, ◌∙◌, arith, inl, inr}
-use Rattle.std.specs.Prelude.{filter, nat_lt, zero, suc}
+use Rattle.std.specs.Prelude.{filter, zero, suc}
 use Rattle.std.specs.List.{AllByRecursion}
 use Rattle.std.proofs.lemmas.Bool.{cases_Bool}
 use Rattle.std.proofs.lemmas.List.{take_more}
@@ -11,7 +11,7 @@ use Rattle.px_cellbytes.specs.Reading.{IsBare, IsInRange, IsWritten}
 use Rattle.px_cellbytes.specs.Spelling.{IsShortEnough}
 use Rattle.px_merge.specs.Settle.{settle}
 use Rattle.px_merge.proofs.Settling.{settle_is, settle_placed}
-use Rattle.px_wal.specs.Batches.{Batch, above, later_first}
+use Rattle.px_wal.specs.Batches.{Batch, later_first}
 use Rattle.px_wal.specs.Form.{IsBatch}
 use Rattle.px_wal.proofs.Cuts.{all_later}
 use Rattle.px_frozen.specs.inner.Fit.{IsFit, IsWhole}
@@ -49,15 +49,12 @@ whole_next cells i c lt is all whole = subst (AllByRecursion IsWhole) (ap (λ (x
 settled_all : (P : CellData → Type 0) (cells : List CellData) → AllByRecursion P cells → AllByRecursion P (settle cells)
 settled_all P cells all = has_all P (settle cells) (λ c has. all_has P cells c all (has_from_reads cells c (((settle_is cells).same c).0 (reads_from_has (settle cells) c (settle_is cells).ascending has))))
 
-filtered : {T : Type 0} (P : T → Type 0) (keep : T → Bool) (xs : List T) → AllByRecursion P xs → AllByRecursion P (filter keep xs)
+pub filtered : {T : Type 0} (P : T → Type 0) (keep : T → Bool) (xs : List T) → AllByRecursion P xs → AllByRecursion P (filter keep xs)
 filtered P keep [] all = tt
 filtered P keep (x ∷ xs) all = elim (cases_Bool (keep x)) [
   | inl e ↦ rw e (all.0, filtered P keep xs all.1)
   | inr e ↦ rw e (filtered P keep xs all.1)
 ]
-
-pub above_all : (P : Batch → Type 0) (n : ℕ) (batches : List Batch) → AllByRecursion P batches → AllByRecursion P (above n batches)
-above_all P n batches all = filtered P (λ b. nat_lt n b.number) batches all
 
 pub settled_written : (batches : List Batch) → AllByRecursion IsBatch batches → IsWritten (settle (later_first batches))
 settled_written batches all =

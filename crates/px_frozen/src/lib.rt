@@ -1,4 +1,4 @@
-//! What a flush writes: the cells of the batches of a region's log above its flushed number.
+//! What a flush writes: the cells of the batches above the flushed number in the segment that a region's log left.
 //!
 //! `freeze` reads them from the log again, sorted, since a batch's own cells are let go once it is written. `IsFrozen` says
 //! which batches they are, and it stays while further batches come.

@@ -1,5 +1,5 @@
 // Reading a log again.
-ghost use Rattle.std.specs.Prelude.{◌≡◌, ◌≢◌, ◌↔◌, ℕ, List, IsTrue, IfOk, Err};
+ghost use Rattle.std.specs.Prelude.{◌≡◌, ◌≢◌, ◌<◌, ◌↔◌, ℕ, List, IsTrue, IfOk, Err};
 ghost use Rattle.px_outside.specs.OnDisk.{Passes, Rose, Stays};
 ghost use Rattle.px_cellbytes.specs.Reading.{IsBare, IsInRange, IsWritten};
 ghost use Rattle.px_wal.specs.Batches.{Batch as BatchData};
@@ -11,7 +11,7 @@ use crate::Frozen;
 use px_cells::{Cell, CellKind, is_cell_list};
 use px_gatelog::StartFault;
 use px_outside::Disk;
-use px_wal::{Replayed, Wal, local_file};
+use px_wal::{Reread, Wal, local_file};
 use std::alloc::Global;
 
 /// The longest key and the longest value.
@@ -49,9 +49,10 @@ fn are_written(cells: &[Cell]) -> bool
     is_cell_list(cells)
 }
 
-/// Reads the batches of a region's log above the flushed number again, up to the last. A batch is let go once it is written, so
-/// that writing takes no memory; this takes as much as they have. A stop in the call leaves nothing new. It isn't Damaged
-/// while the disk tells that the log is as it was written.
+/// Reads the batches of the segment that a region's log left again: those of its older segment above the flushed number. A batch
+/// is let go once it is written, so that writing takes no memory; this takes as much as they have. The log is on the disk, so
+/// nothing is brought to it, and two calls are made. A stop in the call leaves nothing new. It isn't Damaged while the disk tells
+/// that the log is as it was written.
 pub fn freeze<D: Disk>(
     alloc: Global,
     disk: &mut D,
@@ -59,25 +60,24 @@ pub fn freeze<D: Disk>(
     flushed: u64,
     wal: &Wal,
 ) -> Result<Frozen, StartFault>
+    requires left { flushed < wal.now.older_to }
     ensures frozen { (batches : List BatchData) → HasBatches ⟦<D as Disk>⟧ region flushed wal.now disk.old batches → IfOk result (λ frozen. IsFrozen flushed batches frozen) }
-    ensures upto { IfOk result (λ frozen. frozen.upto ≡ wal.now.last) }
+    ensures upto { IfOk result (λ frozen. frozen.upto ≡ wal.now.older_to) }
     ensures sound { (batches : List BatchData) → HasBatches ⟦<D as Disk>⟧ region flushed wal.now disk.old batches → (file place : ℕ) → result ≢ Err (StartFault.Damaged file place) }
     ensures seen { D.seen disk.new ≡ D.seen disk.old }
     ensures quiet { Stays ⟦<D as Disk>⟧ disk.old disk.new }
     ensures read_failed { result ≡ Err StartFault.ReadFault → Rose ⟦<D as Disk>⟧ disk.old disk.new }
-    ensures write_failed { result ≡ Err StartFault.WriteFault → Rose ⟦<D as Disk>⟧ disk.old disk.new }
-    ensures counts { Passes ⟦<D as Disk>⟧ disk.old disk.new 6 }
+    ensures write_failed { result ≢ Err StartFault.WriteFault }
+    ensures counts { Passes ⟦<D as Disk>⟧ disk.old disk.new 2 }
 {
-    let Replayed {
-        wal: again,
+    let Reread {
         store,
         cells: count,
         bytes,
-    } = match Wal::replay(alloc, disk, region, flushed) {
-        Ok(replayed) => replayed,
+    } = match wal.read_older(alloc, disk, flushed) {
+        Ok(again) => again,
         Err(fault) => return Err(fault),
     };
-    drop(again);
     let cells = store.into_cells();
     if !are_written(cells.as_slice()) {
         drop(cells);
@@ -86,5 +86,5 @@ pub fn freeze<D: Disk>(
             place: 0,
         });
     }
-    Ok(Frozen::new(cells, wal.last(), count, bytes))
+    Ok(Frozen::new(cells, wal.older_to(), count, bytes))
 }

@@ -8,9 +8,10 @@ use Rattle.px_outside.specs.Standing.{StandsIn}
 use Rattle.px_outside.specs.declared.disk.Disk.{Ghosts}
 use Rattle.px_gatelog.specs.declared.gate_log.GateLog.{GateLog}
 use Rattle.px_gatelog.specs.declared.segment.Segment.{Segment}
-use Rattle.px_gatelog.specs.Format.{AllFit, LogForm, LogRecord, SegmentRead, IsNextRecord, can_end, header_of, listed, newest_of, records_of, segments_of, with_record}
+use Rattle.px_gatelog.specs.Format.{AllFit, LogForm, LogRecord, SegmentRead, IsNextRecord, can_end, header_of, listed, newest_of, older_of, records_of, segments_of, with_record}
 use Rattle.px_gatelog.specs.GateLog.{GoesOnBy, IsLaid, IsMade, IsOlder, IsSameLog, IsSettled, IsState, MayStep, OlderCounts, StandsAlone, StandsFor, after_by, after_step, before_of, bytes_at, file_at, has_file, is_open, may_by, newest_generation, next_shut, next_side, steps_by, steps_left}
 use Rattle.px_gatelog.specs.Start.{Started}
+use Rattle.px_gatelog.proofs.Older.{older_appended}
 use Rattle.px_gatelog.proofs.Standing.{on_stands, records_of-listed, segments_same, settled_kept, with_record-listed}
 use Rattle.px_gatelog.specs.Records.{HasLog, HasRecords, IsFresh, RecordsStand, has_files}
 use Rattle.px_gatelog.specs.Steps.{Commits, IsAppend, IsRollStep, Reaches}
@@ -64,17 +65,31 @@ module _ {D : Type 0} (d : Ghosts D) (form : LogForm) (first second : ℕ) where
         );
   }
 
-  -- calls on other files leave it so
+  -- calls on other files leave it so, segment by segment
+  pub segments_kept : {next : List LogRecord} (old new : D) (log : GateLog) (records : List LogRecord) (has : HasLog d form first second old log records next) (touched : ℕ → Type 0) → TouchesOnly d.calls d.left d.seen old new touched
+      → ((file : ℕ) → has_files first second file → touched file → ⊥) → (l : HasLog d form first second new log records next) × (l.segments ≡ has.segments)
+  segments_kept {next} old new log records has touched touches apart = (
+    record {
+      segments = has.segments;
+      first_is = has.first_is;
+      second_is = has.second_is;
+      settled = settled_kept d form log old new has.segments has.settled touched touches (λ file own. apart file (elim own [ inl one ↦ inl (one ∙ has.first_is) | inr two ↦ inr (two ∙ has.second_is) ]));
+      records_are = has.records_are;
+      laid = λ last. laid_kept d log old new next touched touches (λ file own. apart file (elim own [ inl one ↦ inl (one ∙ has.first_is) | inr two ↦ inr (two ∙ has.second_is) ])) (has.laid last);
+    },
+    refl,
+  )
+
   pub records_kept : {next : List LogRecord} (old new : D) (log : GateLog) (records : List LogRecord) → HasLog d form first second old log records next → (touched : ℕ → Type 0) → TouchesOnly d.calls d.left d.seen old new touched
       → ((file : ℕ) → has_files first second file → touched file → ⊥) → HasLog d form first second new log records next
-  records_kept {next} old new log records has touched touches apart = record {
-    segments = has.segments;
-    first_is = has.first_is;
-    second_is = has.second_is;
-    settled = settled_kept d form log old new has.segments has.settled touched touches (λ file own. apart file (elim own [ inl one ↦ inl (one ∙ has.first_is) | inr two ↦ inr (two ∙ has.second_is) ]));
-    records_are = has.records_are;
-    laid = λ last. laid_kept d log old new next touched touches (λ file own. apart file (elim own [ inl one ↦ inl (one ∙ has.first_is) | inr two ↦ inr (two ∙ has.second_is) ])) (has.laid last);
-  }
+  records_kept {next} old new log records has touched touches apart = (segments_kept {next = next} old new log records has touched touches apart).0
+
+  -- the same records by another name
+  pub records_by : {next : List LogRecord} (disk : D) (log : GateLog) (a b : List LogRecord) → a ≡ b → (has : HasLog d form first second disk log a next) → (l : HasLog d form first second disk log b next) × (l.segments ≡ has.segments)
+  records_by disk log a b is has = (
+    record { segments = has.segments; first_is = has.first_is; second_is = has.second_is; settled = has.settled; records_are = has.records_are ∙ is; laid = has.laid },
+    refl,
+  )
 
   -- a fresh log has none
   pub fresh_records : {next : List LogRecord} (disk : D) (log : GateLog) → IsFresh log first second → IsTrue d.tells → Only d.calls d.seen d.left disk first → Only d.calls d.seen d.left disk second → d.seen disk first ≡ [] → d.seen disk second ≡ []
@@ -105,8 +120,14 @@ module _ {D : Type 0} (d : Ghosts D) (form : LogForm) (first second : ℕ) where
     started_are = ap records_of (segments_same (segments_of form (d.seen old log.first) (d.seen old log.second)) started.segments stands.0 started.stood
         (ap (λ (f : ℕ). segments_of form (d.seen old f) (d.seen old log.second)) started.first_is ∙ (ap (λ (f : ℕ). segments_of form (d.seen old first) (d.seen old f)) started.second_is ∙ stands.1))) ∙ stands.2
 
+    pub started_segments : {next : List LogRecord} → (l : HasLog d form first second new log records next) × (l.segments ≡ started.segments)
+    started_segments = (
+      record { segments = started.segments; first_is = started.first_is; second_is = started.second_is; settled = started.settled; records_are = started_are; laid = λ last. absurd (omega (arith, more, last)) },
+      refl,
+    )
+
     pub started_records : {next : List LogRecord} → HasLog d form first second new log records next
-    started_records = record { segments = started.segments; first_is = started.first_is; second_is = started.second_is; settled = started.settled; records_are = started_are; laid = λ last. absurd (omega (arith, more, last)) }
+    started_records {next} = (started_segments {next = next}).0
 
   -- ---- an append
 
@@ -150,15 +171,22 @@ module _ {D : Type 0} (d : Ghosts D) (form : LogForm) (first second : ℕ) where
             ap (λ (f : ℕ). segments_of form (image f) (image second)) (sym has.first_is) ∙ (ap (λ (f : ℕ). segments_of form (image log.first) (image f)) (sym has.second_is) ∙ stands)
 
     -- after it the log goes on with the new one
+    pub appended_segments : IsNextRecord form has.segments r → Reaches d log log' old new (IsAppend r) → IsSameLog log log' → (IsLaid d log old next → IsLaid d log' new next) → steps_left log' ≡ steps_left log
+        → (l : HasLog d form first second new log' (records ++ r ∷ []) next) × (older_of l.segments ≡ older_of has.segments)
+    appended_segments right reaches same laid steps = (
+      record {
+        segments = with_record has.segments r;
+        first_is = same.first ∙ has.first_is;
+        second_is = same.second ∙ has.second_is;
+        settled = reaches form has.segments (with_record has.segments r) has.settled (right, refl);
+        records_are = with_records log old has.segments r opened has.settled ∙ ap (λ (l : List LogRecord). l ++ r ∷ []) has.records_are;
+        laid = λ last. laid (has.laid (sym steps ∙ last));
+      },
+      older_appended has.segments r,
+    )
+
     pub appended_records : IsNextRecord form has.segments r → Reaches d log log' old new (IsAppend r) → IsSameLog log log' → (IsLaid d log old next → IsLaid d log' new next) → steps_left log' ≡ steps_left log → HasLog d form first second new log' (records ++ r ∷ []) next
-    appended_records right reaches same laid steps = record {
-      segments = with_record has.segments r;
-      first_is = same.first ∙ has.first_is;
-      second_is = same.second ∙ has.second_is;
-      settled = reaches form has.segments (with_record has.segments r) has.settled (right, refl);
-      records_are = with_records log old has.segments r opened has.settled ∙ ap (λ (l : List LogRecord). l ++ r ∷ []) has.records_are;
-      laid = λ last. laid (has.laid (sym steps ∙ last));
-    }
+    appended_records right reaches same laid steps = (appended_segments right reaches same laid steps).0
 
   -- ---- a step of the making of a segment, where the newest segment alone counts
 
@@ -245,6 +273,11 @@ module _ {D : Type 0} (d : Ghosts D) (form : LogForm) (first second : ℕ) where
     records_are = has.records_are;
     laid = λ last. absurd (unlaid last);
   }
+
+  -- a log without an open segment has no record
+  pub closed_records : {next : List LogRecord} (disk : D) (log : GateLog) (records : List LogRecord) (has : HasLog d form first second disk log records next) → log.newest ≡ None → records ≡ []
+  closed_records disk log records has closed =
+      sym has.records_are ∙ ap records_of (subst (λ (o : Option Segment). GoesOnBy form o (d.seen disk log.first) (d.seen disk log.second) has.segments) closed has.settled.state.goes_on).2
 
   -- ---- the making of the first segment, without a record
 

@@ -5,7 +5,7 @@ use Rattle.px_outside.specs.declared.disk.Disk.{Ghosts}
 use Rattle.px_gatelog.specs.Weaker.{IsWeaker}
 use Rattle.px_gatelog.proofs.Weaker.{settled_weaker}
 use Rattle.px_wal.specs.Batches.{Batch}
-use Rattle.px_wal.specs.Form.{AreBatches, IsFirst, last_of, wal_form}
+use Rattle.px_wal.specs.Form.{AreBatches, IsFirst, IsUpTo, last_of, wal_form}
 use Rattle.px_wal.specs.Wal.{HasBatches}
 use Rattle.px_wal.specs.declared.wal.Wal.{Wal}
 use Rattle.px_wal.proofs.Numbers.{wrong_weaker}
@@ -21,6 +21,10 @@ last_same : (m n : ℕ) (batches more : List Batch) (b : Batch) → batches ≡ 
 last_same m n [] more b is = cc
 last_same m n (x ∷ batches) more b is = refl
 
+upto_raised : (m n to : ℕ) (batches : List Batch) → m ≤ n → IsUpTo m batches to → IsUpTo n batches to
+upto_raised m n to [] le is = omega (arith, le, is)
+upto_raised m n to (b ∷ batches) le is = is
+
 -- where it has batches, it has them whatever number it is flushed up to from then on
 pub log_raised : {D : Type 0} (d : Ghosts D) (region m n : ℕ) (wal : Wal) (disk : D) (batches more : List Batch) (b : Batch) → m ≤ n → batches ≡ b ∷ more → HasBatches d region m wal disk batches → HasBatches d region n wal disk batches
 log_raised d region m n wal disk batches more b le is has = record {
@@ -34,4 +38,11 @@ log_raised d region m n wal disk batches more b le is has = record {
   };
   right = record { each = has.right.each; rising = has.right.rising; first = first_weaker m n batches le has.right.first };
   last = has.last ∙ last_same m n batches more b is;
+  cut = record {
+    older = has.cut.older;
+    newer = has.cut.newer;
+    all = has.cut.all;
+    before = has.cut.before;
+    upto_is = upto_raised m n wal.older_to has.cut.older le has.cut.upto_is;
+  };
 }

@@ -1,4 +1,4 @@
-use crate::pieces::{flush, newest, opened, put, shown, step};
+use crate::pieces::{flush, newest, opened, put, shown, step, switch};
 use px_flushing::FlushStep;
 use px_outside::{Disk, MemDisk};
 use std::test::Fail;
@@ -12,6 +12,7 @@ fn a_flush_goes_on_beside_batches(rt: HostRuntime) -> Result<(), Fail> {
     for row in 0..5u8 {
         put(alloc, &mut disk, &mut parts, row, 1, 9_000).ok_or("not put")?;
     }
+    switch(&mut disk, &mut parts).ok_or("not switched")?;
     // The cells are taken, the file is begun, and a block of four cells is written.
     for _ in 0..3 {
         assert!(rt; step(&mut disk, &mut parts) == Some(FlushStep::More));

@@ -5,7 +5,7 @@ use px_cellbytes::read_cells;
 use px_cells::Cell;
 use px_cursor::Cursor;
 use px_flushing::{FlushStep, Flushing};
-use px_gatelog::Frame;
+use px_gatelog::{Frame, Rolled};
 use px_outside::MemDisk;
 use px_sources::{CellTaker, Source, give};
 use px_wal::{FileEntry, Manifest, Replayed, Wal};
@@ -109,6 +109,21 @@ pub fn put(
     Some(())
 }
 
+/// Has all batches stand in the log's older segment, where one isn't flushed yet and none of that segment is left.
+pub fn switch(disk: &mut MemDisk, parts: &mut Parts) -> Option<()> {
+    let flushed = parts.manifest.snapshot().flushed;
+    if parts.wal.last() <= flushed || !parts.wal.may_switch(flushed) {
+        return Some(());
+    }
+    for _ in 0..4 {
+        match parts.wal.switch_step(disk).ok()? {
+            Rolled::More => {}
+            Rolled::Rolled => return Some(()),
+        }
+    }
+    None
+}
+
 /// Makes one step of a flush.
 pub fn step(disk: &mut MemDisk, parts: &mut Parts) -> Option<FlushStep> {
     parts
@@ -117,8 +132,9 @@ pub fn step(disk: &mut MemDisk, parts: &mut Parts) -> Option<FlushStep> {
         .ok()
 }
 
-/// Makes the steps of a flush, and answers their number.
+/// Switches the log and makes the steps of a flush, and answers the number of these.
 pub fn flush(disk: &mut MemDisk, parts: &mut Parts) -> Option<u64> {
+    switch(disk, parts)?;
     for steps in 1..100u64 {
         match step(disk, parts)? {
             FlushStep::More => {}

@@ -1,4 +1,4 @@
-use crate::pieces::{Parts, flush, opened, put, shown, step};
+use crate::pieces::{Parts, flush, opened, put, shown, step, switch};
 use px_outside::{Choice, MemDisk};
 use std::alloc::Global;
 use std::test::Fail;
@@ -9,6 +9,7 @@ fn run_in(alloc: Global, disk: &mut MemDisk, parts: &mut Parts, told: &mut u64) 
     *told = 1;
     put(alloc, disk, parts, 2, 2, 1)?;
     *told = 2;
+    switch(disk, parts)?;
     for _ in 0..3 {
         step(disk, parts)?;
     }
@@ -88,7 +89,7 @@ fn calls_of_run(alloc: Global) -> Option<u64> {
 
 // Whether a stop in any call of the run does.
 fn each_stops_well(alloc: Global, choice: Choice) -> bool {
-    for call in 1..72u64 {
+    for call in 1..76u64 {
         if !stops_well(alloc, call, choice) {
             return false;
         }
@@ -99,7 +100,7 @@ fn each_stops_well(alloc: Global, choice: Choice) -> bool {
 #[test]
 fn a_stop_in_a_flush_loses_nothing(rt: HostRuntime) -> Result<(), Fail> {
     let calls = calls_of_run(rt.alloc());
-    assert!(rt; calls == Some(71), "{calls:?}");
+    assert!(rt; calls == Some(75), "{calls:?}");
     assert!(rt; each_stops_well(rt.alloc(), Choice::Old));
     Ok(())
 }

@@ -1,4 +1,5 @@
 use crate::pieces::{opened, put_row};
+use crate::switch::switched;
 use px_frozen::{Frozen, freeze};
 use px_gatelog::StartFault;
 use px_outside::{Disk, MemDisk};
@@ -16,8 +17,12 @@ fn put_two(alloc: Global, disk: &mut MemDisk) -> Option<()> {
     second
 }
 
+// What a flush writes of the segment that was left, where it has a batch above the flushed number.
 fn frozen(alloc: Global, disk: &mut MemDisk, flushed: u64) -> Option<Frozen> {
     let wal = Wal::replay(alloc, disk, 1, flushed).ok()?.wal;
+    if wal.older_to() <= flushed {
+        return None;
+    }
     freeze(alloc, disk, 1, flushed, &wal).ok()
 }
 
@@ -35,13 +40,16 @@ fn told(alloc: Global, disk: &mut MemDisk, flushed: u64) -> Option<(u64, u64, u6
 }
 
 #[test]
-fn what_stands_above_the_flushed_number_is_frozen(rt: HostRuntime) -> Result<(), Fail> {
+fn the_segment_that_was_left_is_frozen(rt: HostRuntime) -> Result<(), Fail> {
     let alloc = rt.alloc();
     let mut disk = MemDisk::new(alloc);
     assert!(rt; put_two(alloc, &mut disk).is_some());
+    assert!(rt; told(alloc, &mut disk, 0).is_none());
+    assert!(rt; switched(alloc, &mut disk, 1, 0) == Some(true));
+    assert!(rt; put_two(alloc, &mut disk).is_some());
     assert!(rt; told(alloc, &mut disk, 0) == Some((2, 4, 66, 4)));
     assert!(rt; told(alloc, &mut disk, 1) == Some((2, 2, 33, 2)));
-    assert!(rt; told(alloc, &mut disk, 2) == Some((2, 0, 0, 0)));
+    assert!(rt; told(alloc, &mut disk, 2).is_none());
     let newest = frozen(alloc, &mut disk, 0).ok_or("not frozen")?;
     let stamps = match newest.cells() {
         [first, second, ..] => [first.stamp(), second.stamp()],
@@ -52,16 +60,43 @@ fn what_stands_above_the_flushed_number_is_frozen(rt: HostRuntime) -> Result<(),
     Ok(())
 }
 
+// It is read by two calls, and nothing is brought to the disk.
+#[test]
+fn a_segment_is_read_again_by_two_calls(rt: HostRuntime) -> Result<(), Fail> {
+    let alloc = rt.alloc();
+    let mut disk = MemDisk::new(alloc);
+    assert!(rt; put_two(alloc, &mut disk).is_some());
+    assert!(rt; switched(alloc, &mut disk, 1, 0) == Some(true));
+    let wal = Wal::replay(alloc, &mut disk, 1, 0)
+        .ok()
+        .ok_or("not read")?
+        .wal;
+    if wal.older_to() == 0 {
+        return Err("not switched".into());
+    }
+    let before = disk.calls_made().len();
+    let frozen = freeze(alloc, &mut disk, 1, 0, &wal)
+        .ok()
+        .ok_or("not frozen")?;
+    drop(frozen);
+    assert!(rt; disk.calls_made().len().saturating_sub(before) == 2);
+    Ok(())
+}
+
 // A log that was changed meanwhile is told as such.
 #[test]
 fn a_changed_log_is_not_frozen(rt: HostRuntime) -> Result<(), Fail> {
     let alloc = rt.alloc();
     let mut disk = MemDisk::new(alloc);
     assert!(rt; put_two(alloc, &mut disk).is_some());
+    assert!(rt; switched(alloc, &mut disk, 1, 0) == Some(true));
     let wal = Wal::replay(alloc, &mut disk, 1, 0)
         .ok()
         .ok_or("not read")?
         .wal;
+    if wal.older_to() == 0 {
+        return Err("not switched".into());
+    }
     assert!(rt; disk.write(4_294_967_296, 17, &[7]).is_ok());
     let damaged = match freeze(alloc, &mut disk, 1, 0, &wal) {
         Err(StartFault::Damaged { file, place }) => Some((file, place)),

@@ -1,5 +1,5 @@
 //! Tests of px_wal, px_frozen and px_region over their public calls: the bytes of the first segment, room, stops at each call of
-//! the disk, what a flush writes, and folders that aren't of the format.
+//! the disk, what a flush writes, the switch to another segment, and folders that aren't of the format.
 #![tactic(auto)]
 
 #[cfg(test)]
@@ -12,3 +12,5 @@ mod pieces;
 mod room;
 #[cfg(test)]
 mod stops;
+#[cfg(test)]
+mod switch;

@@ -1,6 +1,7 @@
 -- What a region's log has.
-use Rattle.std.proofs.Common.{◌≡◌, ◌⊎◌, ℕ, ◌+◌, ◌<◌, ◌≤◌, List, [], ◌∷◌, ◌++◌, Option, Some, None, refl, sym, ap, subst, ◌∙◌, arith, inl, inr, Bool, true, false, Ok}
+use Rattle.std.proofs.Common.{◌≡◌, ◌⊎◌, ℕ, ◌+◌, ◌<◌, ◌≤◌, List, [], ◌∷◌, ◌++◌, Option, Some, None, refl, sym, ap, subst, ◌∙◌, append_assoc, arith, inl, inr, Bool, true, false, Ok}
 use Rattle.std.specs.Prelude.{map, IsSome}
+use Rattle.std.specs.List.{AllByRecursion}
 use Rattle.std.proofs.lemmas.List.{map-append}
 use Rattle.px_outside.specs.Disk.{Image}
 use Rattle.px_outside.specs.OnDisk.{LeavesOnly, TouchesOnly}
@@ -8,11 +9,13 @@ use Rattle.px_outside.specs.Standing.{StandsIn}
 use Rattle.px_outside.proofs.Standing.{stands_left}
 use Rattle.px_outside.proofs.Moments.{touches_more, touches_none}
 use Rattle.px_outside.specs.declared.disk.Disk.{Ghosts}
-use Rattle.px_gatelog.specs.Format.{IsNextRecord, LogRecord, records_of, segments_of}
+use Rattle.px_gatelog.specs.Format.{IsNextRecord, LogRecord, SegmentRead, newest_of, older_of, records_of, segments_of}
 use Rattle.px_gatelog.specs.GateLog.{IsLaid, IsSameLog, file_at, generation_in, is_newest_file, is_next_file, newest_generation, newest_in, next_side, steps_left}
 use Rattle.px_gatelog.specs.Records.{HasRecords, RecordsStand, has_files}
 use Rattle.px_gatelog.specs.Steps.{Commits, IsAppend, IsRollStep, Reaches}
-use Rattle.px_gatelog.proofs.LogRecords.{appended_leaves, appended_records, records_kept, records_stand, rolled_leaves, rolled_records, started_records}
+use Rattle.px_gatelog.proofs.LogRecords.{appended_leaves, appended_segments, closed_records, records_by, records_stand, rolled_leaves, rolled_records, segments_kept, started_segments}
+use Rattle.px_gatelog.proofs.Older.{records_cut}
+use Rattle.px_gatelog.proofs.Switching.{older_empty}
 use Rattle.px_gatelog.specs.First.{segment_size}
 use Rattle.px_gatelog.specs.Start.{Started}
 use Rattle.px_gatelog.specs.declared.fault.AppendFault.{AppendFault}
@@ -25,13 +28,16 @@ use Rattle.px_memstore.specs.Stored.{Stored as MemData}
 use Rattle.px_merge.specs.Settle.{settle}
 use Rattle.px_wal.specs.Batches.{Batch, above, later_first}
 use Rattle.px_wal.specs.Files.{file_of}
-use Rattle.px_wal.specs.Form.{AreBatches, IsBatch, IsNextNumber, batch_record, byte_count, cell_count, last_of, wal_form, wrong_batch}
-use Rattle.px_wal.specs.inner.Reader.{HoldsRecords}
-use Rattle.px_wal.specs.Wal.{HasBatches, IsReplayed, LogStands, is_open, log_files}
+use Rattle.px_wal.specs.Form.{AreBatches, IsBatch, IsNextNumber, IsUpTo, batch_record, byte_count, cell_count, last_of, wal_form, wrong_batch}
+use Rattle.px_wal.specs.inner.Reader.{HoldsOlder, HoldsRecords}
+use Rattle.px_wal.specs.Wal.{HasBatches, IsCut, IsReplayed, LogStands, is_open, log_files}
 use Rattle.px_wal.specs.declared.reader.BatchReader.{BatchReader}
 use Rattle.px_wal.specs.declared.wal.Wal.{Wal}
 use Rattle.px_wal.specs.declared.wal.Replayed.{Replayed}
 use Rattle.px_wal.proofs.Numbers.{batch_is_right, form_flushed, last_more, right_more}
+use Rattle.px_wal.proofs.OneStanding.{batches_once}
+use Rattle.px_wal.proofs.Cuts.{all_left}
+use Rattle.px_wal.proofs.Parting.{batches_cut}
 
 -- ---- the files of a log
 
@@ -82,6 +88,10 @@ pub laid_next : {P : Type 0} (r : Rolled) (old new : ℕ) → (r ≡ step.More �
 laid_next step.More old new more rolled laid is = laid (let m = more refl in omega arith)
 laid_next step.Rolled old new more rolled laid is = absurd (let m = rolled refl in omega arith)
 
+none_of : (a b : List Batch) → map batch_record (a ++ b) ≡ [] → a ≡ []
+none_of [] b is = refl
+none_of (x ∷ a) b is = cc
+
 -- ---- one batch more
 
 next_is_right : (flushed : ℕ) (batches : List Batch) (n : ℕ) → n ≡ last_of flushed batches + 1 → IsNextNumber flushed batches n
@@ -105,11 +115,14 @@ module _ {D : Type 0} (d : Ghosts D) (region flushed : ℕ) (old : Wal) (disk : 
 
   -- calls on other files leave it so
   pub log_kept : (disk' : D) (touched : ℕ → Type 0) → TouchesOnly d disk disk' touched → ((file : ℕ) → log_files region file → touched file → ⊥) → HasBatches d region flushed old disk' batches
-  log_kept disk' touched touches apart = record {
-    log = records_kept d (wal_form flushed) (file_of region 0) (file_of region 1) disk disk' old.log (map batch_record batches) has.log touched touches apart;
-    right = has.right;
-    last = has.last;
-  }
+  log_kept disk' touched touches apart =
+      let l = segments_kept d (wal_form flushed) (file_of region 0) (file_of region 1) disk disk' old.log (map batch_record batches) has.log touched touches apart in
+      record {
+        log = l.0;
+        right = has.right;
+        last = has.last;
+        cut = subst (λ (s : List SegmentRead). IsCut flushed old.older_to s batches) (sym l.1) has.cut;
+      }
 
   -- no call
   pub log_now : (up_to_now : (x : D) (moment file : ℕ) (bytes : List ℕ) → d.left x moment file bytes → moment ≤ d.calls x) → (Q : Image → Type 0) → LeavesOnly d disk disk (λ moment image. LogStands region flushed image batches ⊎ Q image)
@@ -132,14 +145,23 @@ module _ {D : Type 0} (d : Ghosts D) (region flushed : ℕ) (old : Wal) (disk : 
     right : AreBatches flushed (batches ++ b ∷ [])
     right = right_more flushed batches b has.right is follows
 
-    pub append_done : (new : Wal) (disk' : D) → new.last ≡ b.number → IsSameLog old.log new.log → (IsLaid d old.log disk [] → IsLaid d new.log disk' []) → steps_left new.log ≡ steps_left old.log
+    pub append_done : (new : Wal) (disk' : D) → new.last ≡ b.number → new.older_to ≡ old.older_to → IsSameLog old.log new.log → (IsLaid d old.log disk [] → IsLaid d new.log disk' []) → steps_left new.log ≡ steps_left old.log
         → Reaches d old.log new.log disk disk' (IsAppend r) → HasBatches d region flushed new disk' (batches ++ b ∷ [])
-    append_done new disk' last same laid steps done = record {
-      log = subst (HasRecords d (wal_form flushed) (file_of region 0) (file_of region 1) disk' new.log) records_are
-          (appended_records d (wal_form flushed) (file_of region 0) (file_of region 1) disk disk' old.log new.log (map batch_record batches) r has.log open_ may done same laid steps);
-      right = right;
-      last = last ∙ sym (last_more flushed batches b);
-    }
+    append_done new disk' last to same laid steps done =
+        let l = appended_segments d (wal_form flushed) (file_of region 0) (file_of region 1) disk disk' old.log new.log (map batch_record batches) r has.log open_ may done same laid steps in
+        let n = records_by d (wal_form flushed) (file_of region 0) (file_of region 1) disk' new.log (map batch_record batches ++ r ∷ []) (map batch_record (batches ++ b ∷ [])) records_are l.0 in
+        record {
+          log = n.0;
+          right = right;
+          last = last ∙ sym (last_more flushed batches b);
+          cut = record {
+            older = has.cut.older;
+            newer = has.cut.newer ++ b ∷ [];
+            all = ap (λ (l : List Batch). l ++ b ∷ []) has.cut.all ∙ append_assoc has.cut.older has.cut.newer (b ∷ []);
+            before = ap (λ (s : List SegmentRead). records_of (older_of s)) n.1 ∙ ap records_of l.1 ∙ has.cut.before;
+            upto_is = subst (IsUpTo flushed has.cut.older) (sym to) has.cut.upto_is;
+          };
+        }
 
     pub append_at : (disk' : D) → Commits d old.log disk disk' (IsAppend r) → LeavesOnly d disk disk' (λ moment image. LogStands region flushed image batches ⊎ LogStands region flushed image (batches ++ b ∷ []))
     append_at disk' leaves =
@@ -159,19 +181,49 @@ module _ {D : Type 0} (d : Ghosts D) (region flushed : ℕ) (old : Wal) (disk : 
         let l = rolled_leaves d (wal_form flushed) (file_of region 0) (file_of region 1) disk disk' old.log old.log (map batch_record batches) has.log closed refl leaves in
         record { each = λ moment image since left. record { records = l.each moment image since left; right = has.right } }
 
-    pub roll_done : (new : Wal) (disk' : D) → new.last ≡ old.last → IsSameLog old.log new.log → (steps_left new.log ≡ 1 → IsLaid d new.log disk' []) → Reaches d old.log new.log disk disk' (IsRollStep d old.log disk) → HasBatches d region flushed new disk' batches
-    roll_done new disk' last same laid done = record {
-      log = rolled_records d (wal_form flushed) (file_of region 0) (file_of region 1) disk disk' old.log new.log (map batch_record batches) has.log closed refl done same laid;
-      right = has.right;
-      last = last ∙ has.last;
-    }
+    none_yet : map batch_record batches ≡ []
+    none_yet = closed_records d (wal_form flushed) (file_of region 0) (file_of region 1) disk old.log (map batch_record batches) has.log closed
+
+    older_none : has.cut.older ≡ []
+    older_none = none_of has.cut.older has.cut.newer (ap (map batch_record) (sym has.cut.all) ∙ none_yet)
+
+    pub roll_done : (new : Wal) (disk' : D) → new.last ≡ old.last → new.older_to ≡ old.older_to → IsSameLog old.log new.log → (steps_left new.log ≡ 1 → IsLaid d new.log disk' []) → Reaches d old.log new.log disk disk' (IsRollStep d old.log disk) → HasBatches d region flushed new disk' batches
+    roll_done new disk' last to same laid done =
+        let l = rolled_records d (wal_form flushed) (file_of region 0) (file_of region 1) disk disk' old.log new.log (map batch_record batches) has.log closed refl done same laid in
+        record {
+          log = l;
+          right = has.right;
+          last = last ∙ has.last;
+          cut = record {
+            older = [];
+            newer = batches;
+            all = refl;
+            before = older_empty l.segments (l.records_are ∙ none_yet);
+            upto_is = subst (IsUpTo flushed []) (sym to) (subst (λ (b : List Batch). IsUpTo flushed b old.older_to) older_none has.cut.upto_is);
+          };
+        }
 
 -- ---- opening
 
+-- what was told of the records before those of the newest segment
+cut_told : (flushed : ℕ) (reader : BatchReader) (batches : List Batch) (segments : List SegmentRead) (to : ℕ) → reader.flushed ≡ flushed → AllByRecursion IsBatch batches → records_of segments ≡ map batch_record batches
+    → HoldsOlder reader (records_of (older_of segments)) → to ≡ reader.older_to → IsCut flushed to segments batches
+cut_told flushed reader batches segments to now each records told is =
+    let c = batches_cut batches (records_of (older_of segments)) (records_of (newest_of segments)) (sym records ∙ records_cut segments) in
+    let a_each : AllByRecursion IsBatch c.0 = all_left IsBatch c.0 c.1 (subst (AllByRecursion IsBatch) c.2 each) in
+    let same : told.0 ≡ c.0 = batches_once told.0 c.0 told.2 a_each (sym told.1 ∙ sym c.3) in
+    record {
+      older = c.0;
+      newer = c.1;
+      all = c.2;
+      before = sym c.3;
+      upto_is = subst (λ (n : ℕ). IsUpTo flushed c.0 n) (sym is) (subst (λ (n : ℕ). IsUpTo n c.0 reader.older_to) now (subst (λ (b : List Batch). IsUpTo reader.flushed b reader.older_to) same told.3));
+    }
+
 replayed_at : {D : Type 0} (d : Ghosts D) (region : ℕ) (old new : D) (before after : BatchReader) (r : Replayed) → after.flushed ≡ before.flushed
-    → Started d (wal_form before.flushed) (λ records. HoldsRecords after records) (file_of region 0) (file_of region 1) old new r.wal.log → 1 < steps_left r.wal.log
-    → r.wal.last ≡ after.last → r.store ≡ after.store → r.cells ≡ after.cells → r.bytes ≡ after.bytes → IsReplayed d region before.flushed old new r
-replayed_at {D} d region old new before after r now started more last store cells bytes =
+    → (started : Started d (wal_form before.flushed) (λ records. HoldsRecords after records) (file_of region 0) (file_of region 1) old new r.wal.log) → HoldsOlder after (records_of (older_of started.segments)) → 1 < steps_left r.wal.log
+    → r.wal.last ≡ after.last → r.wal.older_to ≡ after.older_to → r.store ≡ after.store → r.cells ≡ after.cells → r.bytes ≡ after.bytes → IsReplayed d region before.flushed old new r
+replayed_at {D} d region old new before after r now started told more last to store cells bytes =
     let flushed = before.flushed in
     let batches = started.taken.0 in
     let holds = started.taken.2 in
@@ -179,13 +231,16 @@ replayed_at {D} d region old new before after r now started more last store cell
     let read : segments_of (wal_form flushed) (d.seen old (file_of region 0)) (d.seen old (file_of region 1)) ≡ Ok started.segments =
     ap (λ (f : ℕ). segments_of (wal_form flushed) (d.seen old f) (d.seen old (file_of region 1))) (sym started.first_is) ∙ ap (λ (f : ℕ). segments_of (wal_form flushed) (d.seen old r.wal.log.first) (d.seen old f)) (sym started.second_is) ∙ started.stood in
     let stands : RecordsStand (wal_form flushed) (file_of region 0) (file_of region 1) (d.seen old) (map batch_record batches) = (started.segments, read, started.taken.1) in
+    let l : (l : HasRecords d (wal_form flushed) (file_of region 0) (file_of region 1) new r.wal.log (map batch_record batches)) × (l.segments ≡ started.segments) =
+    started_segments d (wal_form flushed) (file_of region 0) (file_of region 1) (λ records. HoldsRecords after records) old new r.wal.log (map batch_record batches) started more stands in
     record {
       batches = batches;
       stood = record { records = stands; right = right };
       has = record {
-        log = started_records d (wal_form flushed) (file_of region 0) (file_of region 1) (λ records. HoldsRecords after records) old new r.wal.log (map batch_record batches) started more stands;
+        log = l.0;
         right = right;
         last = last ∙ holds.last ∙ ap (λ (n : ℕ). last_of n batches) now;
+        cut = subst (λ (s : List SegmentRead). IsCut flushed r.wal.older_to s batches) (sym l.1) (cut_told flushed after batches started.segments r.wal.older_to now right.each started.taken.1 told to);
       };
       stored = record {
         store = ap (λ (s : MemData). s.cells) store ∙ holds.store ∙ ap (λ (n : ℕ). settle (later_first (above n batches))) now;
@@ -195,7 +250,10 @@ replayed_at {D} d region old new before after r now started more last store cell
     }
 
 pub replayed_by : {D : Type 0} (d : Ghosts D) (region flushed : ℕ) (old new : D) (before after : BatchReader) (r : Replayed) → before.flushed ≡ flushed → wal_form after.flushed ≡ wal_form before.flushed
-    → Started d (wal_form before.flushed) (λ records. HoldsRecords after records) (file_of region 0) (file_of region 1) old new r.wal.log → 1 < steps_left r.wal.log
-    → r.wal.last ≡ after.last → r.store ≡ after.store → r.cells ≡ after.cells → r.bytes ≡ after.bytes → IsReplayed d region flushed old new r
-replayed_by {D} d region flushed old new before after r is same started more last store cells bytes =
-    subst (λ (n : ℕ). IsReplayed d region n old new r) is (replayed_at d region old new before after r (form_flushed after.flushed before.flushed same) started more last store cells bytes)
+    → Started d (wal_form before.flushed) (λ records. HoldsRecords after records) (file_of region 0) (file_of region 1) old new r.wal.log
+    → ((segments : List SegmentRead) → segments_of (wal_form before.flushed) (d.seen old (file_of region 0)) (d.seen old (file_of region 1)) ≡ Ok segments → HoldsOlder after (records_of (older_of segments))) → 1 < steps_left r.wal.log
+    → r.wal.last ≡ after.last → r.wal.older_to ≡ after.older_to → r.store ≡ after.store → r.cells ≡ after.cells → r.bytes ≡ after.bytes → IsReplayed d region flushed old new r
+replayed_by {D} d region flushed old new before after r is same started told more last to store cells bytes =
+    let read : segments_of (wal_form before.flushed) (d.seen old (file_of region 0)) (d.seen old (file_of region 1)) ≡ Ok started.segments =
+    ap (λ (f : ℕ). segments_of (wal_form before.flushed) (d.seen old f) (d.seen old (file_of region 1))) (sym started.first_is) ∙ ap (λ (f : ℕ). segments_of (wal_form before.flushed) (d.seen old r.wal.log.first) (d.seen old f)) (sym started.second_is) ∙ started.stood in
+    subst (λ (n : ℕ). IsReplayed d region n old new r) is (replayed_at d region old new before after r (form_flushed after.flushed before.flushed same) started (told started.segments read) more last to store cells bytes)

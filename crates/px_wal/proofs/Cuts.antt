@@ -20,20 +20,20 @@ above_take n b batches l = (let e : ltb n b.number ≡ true = lt-ltb n b.number 
 pub above_drop : (n : ℕ) (b : Batch) (batches : List Batch) → b.number ≤ n → above n (b ∷ batches) ≡ above n batches
 above_drop n b batches l = (let e : ltb n b.number ≡ false = le-ltb n b.number l in rw e refl)
 
-between_take : (m n : ℕ) (b : Batch) (batches : List Batch) → m < b.number → b.number ≤ n → between m n (b ∷ batches) ≡ b ∷ between m n batches
+pub between_take : (m n : ℕ) (b : Batch) (batches : List Batch) → m < b.number → b.number ≤ n → between m n (b ∷ batches) ≡ b ∷ between m n batches
 between_take m n b batches l k =
     let e : ltb m b.number ≡ true = lt-ltb m b.number l in
     let f : leb b.number n ≡ true = le-leb b.number n k in
     rw (e, f) refl
 
-between_drop : (m n : ℕ) (b : Batch) (batches : List Batch) → (b.number ≤ m) ⊎ (n < b.number) → between m n (b ∷ batches) ≡ between m n batches
+pub between_drop : (m n : ℕ) (b : Batch) (batches : List Batch) → (b.number ≤ m) ⊎ (n < b.number) → between m n (b ∷ batches) ≡ between m n batches
 between_drop m n b batches (inl low) = (let e : ltb m b.number ≡ false = le-ltb m b.number low in rw e refl)
 between_drop m n b batches (inr high) =
     let f : leb b.number n ≡ false = lt-leb b.number n high in
     elim (cases_Bool (ltb m b.number)) [ inl e ↦ rw (e, f) refl | inr e ↦ rw e refl ]
 
 -- of batches with greater numbers none is cut off
-between_none : (m n : ℕ) (batches : List Batch) → AllByRecursion (λ c. n < c.number) batches → between m n batches ≡ []
+pub between_none : (m n : ℕ) (batches : List Batch) → AllByRecursion (λ c. n < c.number) batches → between m n batches ≡ []
 between_none m n [] all = refl
 between_none m n (b ∷ batches) all = between_drop m n b batches (inr all.0) ∙ between_none m n batches all.1
 
@@ -134,7 +134,7 @@ above_none : (n : ℕ) (batches : List Batch) → AllByRecursion (λ b. b.number
 above_none n [] all = refl
 above_none n (b ∷ batches) all = above_drop n b batches all.0 ∙ above_none n batches all.1
 
-above_behind : (n : ℕ) (older newer : List Batch) → AllByRecursion (λ b. b.number ≤ n) older → above n (older ++ newer) ≡ above n newer
+pub above_behind : (n : ℕ) (older newer : List Batch) → AllByRecursion (λ b. b.number ≤ n) older → above n (older ++ newer) ≡ above n newer
 above_behind n [] newer all = refl
 above_behind n (b ∷ older) newer all = above_drop n b (older ++ newer) all.0 ∙ above_behind n older newer all.1
 
@@ -144,11 +144,11 @@ older_may_go n older newer files all = ap (λ (l : List Batch). settle (later_fi
 
 -- ---- testing the store in place of the batches
 
-all_left : (P : CellData → Type 0) (xs ys : List CellData) → AllByRecursion P (xs ++ ys) → AllByRecursion P xs
+pub all_left : {T : Type 0} (P : T → Type 0) (xs ys : List T) → AllByRecursion P (xs ++ ys) → AllByRecursion P xs
 all_left P [] ys all = tt
 all_left P (x ∷ xs) ys all = (all.0, all_left P xs ys all.1)
 
-all_right : (P : CellData → Type 0) (xs ys : List CellData) → AllByRecursion P (xs ++ ys) → AllByRecursion P ys
+pub all_right : {T : Type 0} (P : T → Type 0) (xs ys : List T) → AllByRecursion P (xs ++ ys) → AllByRecursion P ys
 all_right P [] ys all = all
 all_right P (x ∷ xs) ys all = all_right P xs ys all.1
 

@@ -2,7 +2,10 @@ pub mod Cuts
 pub mod Readings
 pub mod Numbers
 pub mod Taken
+pub mod Parting
 pub mod Appended
+pub mod Rereading
+pub mod Switched
 pub mod Snapshots
 pub mod Named
 pub mod OneStanding

@@ -1,5 +1,5 @@
 -- The numbers of batches.
-use Rattle.std.proofs.Common.{◌≡◌, ℕ, ◌+◌, ◌<◌, ◌≤◌, Bool, true, false, eqb, Option, Some, List, [], ◌∷◌, ◌++◌, length, refl, sym, ap, ◌∙◌, append_assoc, add_assoc, arith, inl, inr}
+use Rattle.std.proofs.Common.{◌≡◌, ℕ, ◌+◌, ◌<◌, ◌≤◌, Bool, true, false, eqb, Option, Some, List, [], ◌∷◌, ◌++◌, length, refl, sym, ap, subst, ◌∙◌, append_assoc, add_assoc, arith, inl, inr}
 use Rattle.std.specs.Prelude.{map, nat_le, ◌==◌, None, option_map}
 use Rattle.std.specs.List.{AllByRecursion}
 use Rattle.std.proofs.lemmas.Bool.{cases_Bool, cases_lt, leb-true, le-leb, lt-leb, eqb-true, eq-eqb}
@@ -22,7 +22,7 @@ rising_more [] b rising below = (tt, tt)
 rising_more (a ∷ batches) b rising below = (all_more (λ c. a.number < c.number) batches b rising.0 below.0, rising_more batches b rising.1 below.1)
 
 -- the last number is the greatest
-last_top : (n : ℕ) (batches : List Batch) → AllByRecursion (λ c. n < c.number) batches → AreRising batches → (n ≤ last_of n batches) × AllByRecursion (λ c. c.number ≤ last_of n batches) batches
+pub last_top : (n : ℕ) (batches : List Batch) → AllByRecursion (λ c. n < c.number) batches → AreRising batches → (n ≤ last_of n batches) × AllByRecursion (λ c. c.number ≤ last_of n batches) batches
 last_top n [] over rising = (omega arith, tt)
 last_top n (b ∷ batches) over rising = (let top = last_top b.number batches rising.0 rising.1 in (omega (arith, over.0, top.0), (top.0, top.1)))
 
@@ -123,6 +123,26 @@ batch_is_right flushed batches b each is next =
     let none : wrong_by true at (batch_body b) ≡ None =
     wrong_cells at (batch_body b) None (omega (arith, length_of_body b)) (ap fault_place (ap (λ (l : List ℕ). reading l (count_in (batch_body b))) (cells_of_body b) ∙ ap (reading (all_bytes b.cells)) (count_of_body b is.counted)) ∙ cells) in
     rw (number, none) refl
+
+none_inside : (o : Option ℕ) → option_map (λ p. 5 + p) o ≡ None → o ≡ None
+none_inside None e = refl
+none_inside (Some p) e = cc
+
+next_of_right : (flushed n : ℕ) (batches : List Batch) → AllByRecursion IsBatch batches → is_right flushed (map batch_record batches) n ≡ true → IsNextNumber flushed batches n
+next_of_right flushed n [] each right = leb-true n (flushed + 1) right
+next_of_right flushed n (b ∷ batches) each right =
+    eqb-true n _ right ∙ ap (λ (k : ℕ). k + 1) (ap (λ (k : ℕ). last_number k (map batch_record batches)) (number_of_body b each.0.number) ∙ last_record b.number batches each.1)
+
+-- a batch whose record is right comes next
+pub right_next : (flushed : ℕ) (batches : List Batch) (b : Batch) → AllByRecursion IsBatch batches → IsBatch b → wrong_batch flushed (map batch_record batches) (batch_record b) ≡ None → IsNextNumber flushed batches b.number
+unfolding wrong_batch
+right_next flushed batches b each is none =
+    let at : ℕ = number_place (right_number flushed (map batch_record batches)) (number_in (batch_body b)) in
+    let inside : wrong_by (is_right flushed (map batch_record batches) (number_in (batch_body b))) at (batch_body b) ≡ None = none_inside _ none in
+    subst (IsNextNumber flushed batches) (number_of_body b is.number) (elim (cases_Bool (is_right flushed (map batch_record batches) (number_in (batch_body b)))) [
+      | inl right ↦ next_of_right flushed (number_in (batch_body b)) batches each right
+      | inr wrong ↦ absurd (wrong_some at (batch_body b) (ap (λ (c : Bool). wrong_by c at (batch_body b)) (sym wrong) ∙ inside))
+    ])
 
 -- ---- a form tells its flushed number
 

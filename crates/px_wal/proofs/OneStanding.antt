@@ -34,7 +34,7 @@ batch_once a b one two same =
     let cells : a.cells ≡ b.cells = one_spelling a.cells b.cells (record { short = one.written.short; ranged = one.written.ranged }) (record { short = two.written.short; ranged = two.written.ranged }) (sym (cells_of_body a) ∙ ap (drop 12) body ∙ cells_of_body b) in
     λ i. record { number = number i; cells = cells i }
 
-batches_once : (a b : List Batch) → AllByRecursion IsBatch a → AllByRecursion IsBatch b → map batch_record a ≡ map batch_record b → a ≡ b
+pub batches_once : (a b : List Batch) → AllByRecursion IsBatch a → AllByRecursion IsBatch b → map batch_record a ≡ map batch_record b → a ≡ b
 batches_once [] [] one two same = refl
 batches_once [] (y ∷ b) one two same = cc
 batches_once (x ∷ a) [] one two same = cc

@@ -1,6 +1,7 @@
 -- What a reader of a region's log has taken.
 use Rattle.std.proofs.Common.{◌≡◌, ◌≢◌, ℕ, ◌+◌, ◌<◌, ◌≤◌, true, false, eqb, Option, Some, List, [], ◌∷◌, ◌++◌, length, refl, sym, ap, subst, ◌∙◌}
 use Rattle.std.specs.Prelude.{map, option_map}
+use Rattle.std.specs.List.{AllByRecursion}
 use Rattle.std.proofs.lemmas.Bool.{ne_eqb}
 use Rattle.std.proofs.lemmas.List.{map-append}
 use Rattle.px_gatelog.specs.Format.{LogRecord}
@@ -9,11 +10,12 @@ use Rattle.px_cells.specs.Order.{IsSettled}
 use Rattle.px_cellbytes.specs.Spelling.{all_bytes}
 use Rattle.px_merge.specs.Settle.{settle}
 use Rattle.px_wal.specs.Batches.{Batch, above, later_first}
-use Rattle.px_wal.specs.Form.{AreBatches, IsBatch, batch_body, batch_record, byte_count, cell_count, is_next, is_right, number_in, number_place, right_number, wrong_batch, wrong_by}
-use Rattle.px_wal.specs.inner.Reader.{HoldsBatches, HoldsRecords}
+use Rattle.px_wal.specs.Form.{AreBatches, IsBatch, IsUpTo, batch_body, batch_record, byte_count, cell_count, is_next, is_right, number_in, number_place, right_number, wrong_batch, wrong_by}
+use Rattle.px_wal.specs.inner.Reader.{HoldsBatches, HoldsOlder, HoldsRecords}
 use Rattle.px_wal.specs.declared.reader.BatchReader.{BatchReader}
 use Rattle.px_merge.proofs.Settling.{settle_back, settled_is}
 use Rattle.px_wal.proofs.Numbers.{above_more, above_same, bytes_more, cells_more, last_more, later_more, next_number, right_is_last, right_is_next, right_more, some_more}
+use Rattle.px_wal.proofs.Parting.{upto_last}
 
 -- a settled list with the cells of one more batch
 pub settle_more : (n : ℕ) (batches : List Batch) (b : Batch) (old new : List CellData) → n < b.number → old ≡ settle (later_first (above n batches)) → IsSettled (b.cells ++ old) new
@@ -50,6 +52,28 @@ holds_stored old new batches b holds is next over flushed last some store cells 
       cells = cells ∙ ap (λ (n : ℕ). n + length b.cells) holds.cells ∙ sym (cells_more (above old.flushed batches) b) ∙ ap cell_count (sym more);
       bytes = bytes ∙ ap (λ (n : ℕ). n + length (all_bytes b.cells)) holds.bytes ∙ sym (bytes_more (above old.flushed batches) b) ∙ ap byte_count (sym more);
     }
+
+-- ---- the records before those of the newest segment
+
+-- where the newest begins, all that was taken stands before it
+pub older_now : (old : BatchReader) (records : List LogRecord) (flushed to : ℕ) → HoldsRecords old records → flushed ≡ old.flushed → to ≡ old.last
+    → (older : List Batch) × (records ≡ map batch_record older) × AllByRecursion IsBatch older × IsUpTo flushed older to
+older_now old records flushed to held now is =
+    let holds = held.2 in (
+      held.0,
+      held.1,
+      holds.right.each,
+      subst (λ (n : ℕ). IsUpTo n held.0 to) (sym now) (upto_last old.flushed to held.0 (is ∙ holds.last)),
+    )
+
+pub older_kept : (old : BatchReader) (records : List LogRecord) (flushed to : ℕ) → flushed ≡ old.flushed → to ≡ old.older_to → HoldsOlder old records
+    → (older : List Batch) × (records ≡ map batch_record older) × AllByRecursion IsBatch older × IsUpTo flushed older to
+older_kept old records flushed to now is told = (
+  told.0,
+  told.1,
+  told.2,
+  subst (λ (n : ℕ). IsUpTo n told.0 to) (sym now) (subst (IsUpTo old.flushed told.0) (sym is) told.3),
+)
 
 -- ---- the answers of a reader
 

@@ -1,5 +1,5 @@
 -- Numbered batches of cells, and the one sorted list that batches and files have together.
-use Rattle.std.specs.Prelude.{◌<◌, ℕ, ◌&&◌, nat_lt, nat_le, filter, List, [], ◌∷◌, ◌++◌}
+use Rattle.std.specs.Prelude.{◌≡◌, ◌<◌, ◌≤◌, ℕ, ◌&&◌, nat_lt, nat_le, filter, List, [], ◌∷◌, ◌++◌}
 use Rattle.std.specs.List.{AllByRecursion}
 use Rattle.px_cells.specs.CellData.{CellData}
 use Rattle.px_cells.specs.Order.{GoesWith}
@@ -32,6 +32,12 @@ between m n batches = filter (λ b. nat_lt m b.number && nat_le b.number n) batc
 -- what is read of the batches above a number, and of files of which the newest stands first
 abbrev pub cells_over : ℕ → List Batch → List (List CellData) → List CellData
 cells_over flushed batches files = settle (later_first (above flushed batches) ++ joined files)
+
+-- batches of which those that are gone were at or below a number
+pub record IsRest (flushed : ℕ) (batches rest : List Batch) : Type 0 where
+  pub gone : List Batch
+  pub all : batches ≡ gone ++ rest
+  pub passed : AllByRecursion (λ b. b.number ≤ flushed) gone
 
 -- every batch above a number has stamps above the horizon alone
 abbrev pub AreOver : ℕ → List Batch → Type 0

@@ -83,6 +83,11 @@ abbrev pub last_of : ℕ → List Batch → ℕ
 last_of n [] = n
 last_of n (b ∷ batches) = last_of b.number batches
 
+-- the number up to which batches go; where there is none, any that was flushed
+abbrev pub IsUpTo : ℕ → List Batch → ℕ → Type 0
+IsUpTo flushed [] n = n ≤ flushed
+IsUpTo flushed (b ∷ batches) n = n ≡ last_of b.number batches
+
 abbrev pub IsFirst : ℕ → List Batch → Type 0
 IsFirst flushed [] = Unit {0}
 IsFirst flushed (b ∷ batches) = b.number ≤ flushed + 1

@@ -1,15 +1,18 @@
 // The laws of batches and files, over every list of them.
-ghost use Rattle.std.specs.Prelude.{◌≡◌, ◌≤◌, ◌<◌, ◌∷◌, ◌++◌, [], ℕ, List};
+ghost use Rattle.std.specs.Prelude.{◌≡◌, ◌≤◌, ◌<◌, ◌∷◌, ◌++◌, ◌↔◌, [], ℕ, List};
 ghost use Rattle.std.specs.List.{AllByRecursion};
 ghost use Rattle.px_cells.specs.CellData.{CellData};
 ghost use Rattle.px_outside.specs.Disk.{Image};
 ghost use Rattle.px_merge.specs.Kept.{IsKept};
 ghost use Rattle.px_merge.specs.Merged.{joined};
 ghost use Rattle.px_merge.specs.Settle.{settle};
-ghost use Rattle.px_wal.specs.Batches.{AreOver, ArePlaced, AreRising, Batch, above, between, cells_over, later_first};
+ghost use Rattle.px_wal.specs.Batches.{AreOver, ArePlaced, AreRising, Batch, IsRest, above, between, cells_over, later_first};
 ghost use Rattle.px_wal.specs.Manifest.{SnapshotStands};
 ghost use Rattle.px_wal.specs.Snapshot.{SnapshotData};
-ghost use Rattle.px_wal.specs.Wal.{LogStands};
+ghost use Rattle.px_wal.specs.Wal.{HasBatches, LogStands};
+ghost use Rattle.px_wal.specs.declared.wal.Wal.{Wal as Logs};
+
+use px_outside::Disk;
 
 /// Batches up to a number may stand in a file, the newest, in place of the log.
 pub fn flushed_is_the_same()
@@ -37,6 +40,17 @@ pub fn the_last_is_read_first()
 /// Batches up to the flushed number may go from the log.
 pub fn flushed_batches_may_go()
     ensures { (n : ℕ) (older newer : List Batch) (files : List (List CellData)) → AllByRecursion (λ b. b.number ≤ n) older → cells_over n newer files ≡ cells_over n (older ++ newer) files }
+{}
+
+/// Where only batches up to the flushed number are gone, the same ones stand above it, and the same list is read.
+pub fn only_flushed_ones_are_gone()
+    ensures above { (flushed : ℕ) (batches rest : List Batch) → IsRest flushed batches rest → above flushed rest ≡ above flushed batches }
+    ensures cells { (flushed : ℕ) (batches rest : List Batch) (files : List (List CellData)) → IsRest flushed batches rest → cells_over flushed rest files ≡ cells_over flushed batches files }
+{}
+
+/// The number up to which the older segment's batches go tells whether all of them were flushed.
+pub fn a_number_tells_the_older<D: Disk>()
+    ensures { (region flushed : ℕ) (wal : Logs) (disk : D) (batches : List Batch) (has : HasBatches ⟦<D as Disk>⟧ region flushed wal disk batches) → (wal.older_to ≤ flushed) ↔ AllByRecursion (λ b. b.number ≤ flushed) has.cut.older }
 {}
 
 /// Where the sorted list of what is read of batches is above a horizon, so is each of their cells.

@@ -20,4 +20,4 @@ mod wal;
 pub use files::local_file;
 pub use manifest::Manifest;
 pub use snapshot::{FileEntry, Snapshot};
-pub use wal::{Replayed, Wal};
+pub use wal::{Replayed, Reread, Wal};

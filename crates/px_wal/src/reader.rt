@@ -3,7 +3,7 @@ ghost use Rattle.std.specs.Prelude.{◌≡◌, ◌≤◌, ◌++◌, ◌∷◌, [
 ghost use Rattle.px_gatelog.specs.Format.{LogRecord};
 
 use crate::batch::{BATCH_RECORD, BatchFault, NumberedBatch, read_batch};
-use crate::wal::{Replayed, Wal};
+use crate::wal::{Replayed, Reread, Wal};
 use px_cells::Cells;
 use px_gatelog::{GateLog, LogReader};
 use px_memstore::MemStore;
@@ -18,6 +18,8 @@ pub struct BatchReader {
     last: u64,
     /// Whether one was taken.
     some: bool,
+    /// The number of the last batch before those of the newest segment; the flushed number where there is none.
+    older_to: u64,
     store: MemStore,
     /// How many cells were stored, and the sum of their bytes.
     cells: u64,
@@ -26,11 +28,13 @@ pub struct BatchReader {
 
 impl LogReader for BatchReader {
     ghost use Rattle.px_wal.specs.Form.{wal_form};
-    ghost use Rattle.px_wal.specs.inner.Reader.{HoldsRecords};
+    ghost use Rattle.px_wal.specs.inner.Reader.{HoldsOlder, HoldsRecords};
 
     ghost form = { λ reader. wal_form reader.flushed };
 
     ghost has_read = { λ reader records. HoldsRecords reader records };
+
+    ghost has_older = { λ reader records. HoldsOlder reader records };
 
     fn reads_both(&self) -> bool {
         true
@@ -40,7 +44,9 @@ impl LogReader for BatchReader {
         true
     }
 
-    fn begin_newest(&mut self) {}
+    fn begin_newest(&mut self) {
+        self.older_to = self.last;
+    }
 
     fn take(&mut self, kind: u8, body: &[u8]) -> Result<Option<u64>, AllocError> {
         if kind != BATCH_RECORD {
@@ -76,6 +82,7 @@ impl BatchReader {
             flushed,
             last: flushed,
             some: false,
+            older_to: flushed,
             store: MemStore::new(alloc),
             cells: 0,
             bytes: 0,
@@ -88,7 +95,7 @@ impl BatchReader {
         ensures store { OnOk result (IsSettled (cells ++ self.old.store.cells) self.new.store.cells) }
         ensures cells { OnOk result (self.new.cells ≡ self.old.cells + length cells) }
         ensures bytes { OnOk result (self.new.bytes ≡ self.old.bytes + bytes) }
-        ensures same { (self.new.flushed ≡ self.old.flushed) × (self.new.last ≡ self.old.last) × (self.new.some ≡ self.old.some) }
+        ensures same { (self.new.flushed ≡ self.old.flushed) × (self.new.last ≡ self.old.last) × (self.new.some ≡ self.old.some) × (self.new.older_to ≡ self.old.older_to) }
     {
         let count = cells.len() as u64;
         let Some(all_cells) = self.cells.checked_add(count) else {
@@ -111,6 +118,7 @@ impl BatchReader {
         requires bytes { bytes ≡ length (all_bytes batch.cells) }
         ensures kept { (batches : List BatchData) → HoldsBatches self.old batches → OnOk result (HoldsBatches self.new (batches ++ batch_of batch ∷ [])) }
         ensures same { self.new.flushed ≡ self.old.flushed }
+        ensures older { self.new.older_to ≡ self.old.older_to }
     {
         let NumberedBatch { number, cells } = batch;
         if number <= self.flushed {
@@ -128,6 +136,7 @@ impl BatchReader {
     pub(crate) fn into_replayed(self, log: GateLog) -> Replayed
         ensures log { result.wal.log ≡ log }
         ensures last { result.wal.last ≡ self.last }
+        ensures older { result.wal.older_to ≡ self.older_to }
         ensures stored { (result.store ≡ self.store) × (result.cells ≡ self.cells) × (result.bytes ≡ self.bytes) }
     {
         let BatchReader {
@@ -135,12 +144,38 @@ impl BatchReader {
             flushed: _,
             last,
             some: _,
+            older_to,
             store,
             cells,
             bytes,
         } = self;
         Replayed {
-            wal: Wal { log, last },
+            wal: Wal {
+                log,
+                last,
+                older_to,
+            },
+            store,
+            cells,
+            bytes,
+        }
+    }
+
+    /// What was taken.
+    pub(crate) fn into_reread(self) -> Reread
+        ensures { (result.store ≡ self.store) × (result.cells ≡ self.cells) × (result.bytes ≡ self.bytes) }
+    {
+        let BatchReader {
+            alloc: _,
+            flushed: _,
+            last: _,
+            some: _,
+            older_to: _,
+            store,
+            cells,
+            bytes,
+        } = self;
+        Reread {
             store,
             cells,
             bytes,

@@ -20,12 +20,23 @@ pub struct Wal {
     pub(crate) log: GateLog,
     /// The number of the last batch; the flushed number where there is none.
     pub(crate) last: u64,
+    /// The number up to which the batches of the older of two open segments go. Where it has none, it is one that was flushed.
+    pub(crate) older_to: u64,
 }
 
 /// A log that was read, and the cells of its batches above the flushed number.
 #[derive(Drop)]
 pub struct Replayed {
     pub wal: Wal,
+    pub store: MemStore,
+    /// How many cells these batches have, and the sum of their bytes.
+    pub cells: u64,
+    pub bytes: u64,
+}
+
+/// The cells of batches that were read again.
+#[derive(Drop)]
+pub struct Reread {
     pub store: MemStore,
     /// How many cells these batches have, and the sum of their bytes.
     pub cells: u64,
@@ -45,6 +56,7 @@ impl Wal {
         Wal {
             log: GateLog::fresh(first, second),
             last: 0,
+            older_to: 0,
         }
     }
 
@@ -60,6 +72,14 @@ impl Wal {
         ensures { result ≡ self.now.last }
     {
         self.last
+    }
+
+    /// The number up to which the batches of the older of two open segments go: those that a flush writes, where it is above the
+    /// flushed number. Where that segment has none, it is one that was flushed.
+    pub fn older_to(&self) -> u64
+        ensures { result ≡ self.now.older_to }
+    {
+        self.older_to
     }
 
     /// Whether the newest segment has room for a record with a body of so many bytes.
@@ -127,10 +147,86 @@ impl Wal {
         ensures opened { result ≡ Ok Rolled.Rolled → opened_wal self.new }
         ensures more { result ≡ Ok Rolled.More → (opened_wal self.new → ⊥) × (steps_left self.new.log + 1 ≡ steps_left self.old.log) }
         ensures last { self.new.last ≡ self.old.last }
+        ensures older { self.new.older_to ≡ self.old.older_to }
     {
         match self.log.roll_step(disk, None) {
             Ok(rolled) => Ok(rolled),
             Err(_fault) => Err(Failed),
+        }
+    }
+}
+
+impl Wal {
+    ghost use Rattle.px_gatelog.specs.GateLog.{newest_generation, steps_left};
+    ghost use Rattle.px_wal.specs.Batches.{IsRest};
+    ghost use Rattle.px_wal.specs.Wal.{HasBatches, IsReread, LogStands, MaySwitch, is_open as opened_wal, log_files, room_of as room_in};
+
+    /// Whether another segment may take the appends, where the log was flushed up to a number. The older one goes with it, so it
+    /// may have no batch above that number: a stop can leave such a one, and then its batches are to be flushed first.
+    pub fn may_switch(&self, flushed: u64) -> bool
+        ensures { IsTrue result ↔ MaySwitch flushed self.now }
+    {
+        self.older_to <= flushed && flushed <= self.last
+    }
+
+    /// Makes one step of the switch to another segment: closes the gate of the older one where it may be open, or writes the new
+    /// one behind the gate, or opens the gate. From then on batches are appended to it, and all that were there before stand in
+    /// the older one. No batch above the flushed number goes. It takes no memory. It is full where no generation is left, and
+    /// then no call is made.
+    pub fn switch_step<D: Disk>(&mut self, disk: &mut D) -> Result<Rolled, AppendFault>
+        ensures done { (region flushed : ℕ) (batches : List BatchData) → HasBatches ⟦<D as Disk>⟧ region flushed self.old disk.old batches → MaySwitch flushed self.old
+            → OnOk result ((rest : List BatchData) × IsRest flushed batches rest × HasBatches ⟦<D as Disk>⟧ region flushed self.new disk.new rest) }
+
+        // At each moment of the call a stop leaves the log with the same batches above the flushed number.
+        ensures any_moment { (region flushed : ℕ) (batches : List BatchData) → HasBatches ⟦<D as Disk>⟧ region flushed self.old disk.old batches → MaySwitch flushed self.old
+            → LeavesOnly ⟦<D as Disk>⟧ disk.old disk.new (λ moment image. (rest : List BatchData) × IsRest flushed batches rest × LogStands region flushed image rest) }
+        ensures full { (result ≡ Err AppendFault.Full) ↔ (newest_generation self.old.log ≡ 18446744073709551615) }
+        ensures untouched { result ≡ Err AppendFault.Full → (disk.new ≡ disk.old) × (self.new ≡ self.old) }
+        ensures failed { result ≡ Err AppendFault.WriteFault → Rose ⟦<D as Disk>⟧ disk.old disk.new }
+        ensures touches { (region flushed : ℕ) (batches : List BatchData) → HasBatches ⟦<D as Disk>⟧ region flushed self.old disk.old batches → TouchesOnly ⟦<D as Disk>⟧ disk.old disk.new (log_files region) }
+        ensures counts { Passes ⟦<D as Disk>⟧ disk.old disk.new 3 }
+        ensures open { opened_wal self.old → OnOk result (opened_wal self.new) }
+        ensures opened { result ≡ Ok Rolled.Rolled → opened_wal self.new }
+        ensures more { result ≡ Ok Rolled.More → (steps_left self.new.log + 1 ≡ steps_left self.old.log) × (self.new.older_to ≡ self.old.older_to) }
+
+        // With the last step all batches stand in the older segment.
+        ensures left { result ≡ Ok Rolled.Rolled → self.new.older_to ≡ self.old.last }
+        ensures room { (region flushed : ℕ) (batches : List BatchData) → HasBatches ⟦<D as Disk>⟧ region flushed self.old disk.old batches → OnOk result (room_in self.old ≤ room_in self.new) }
+        ensures last { self.new.last ≡ self.old.last }
+    {
+        match self.log.roll_step(disk, None) {
+            Ok(Rolled::More) => Ok(Rolled::More),
+            Ok(Rolled::Rolled) => {
+                self.older_to = self.last;
+                Ok(Rolled::Rolled)
+            }
+            Err(fault) => Err(fault),
+        }
+    }
+
+    /// Reads again the batches of the older segment that are above the flushed number. The log is on the disk, so nothing is
+    /// brought to it, and two calls are made. It isn't Damaged while the disk tells that the log is as it was written.
+    pub fn read_older<D: Disk>(
+        &self,
+        alloc: Global,
+        disk: &mut D,
+        flushed: u64,
+    ) -> Result<Reread, StartFault>
+        ensures read { (region : ℕ) (batches : List BatchData) → HasBatches ⟦<D as Disk>⟧ region flushed self.now disk.old batches → IfOk result (λ r. IsReread flushed self.now.older_to batches r) }
+        ensures sound { (region : ℕ) (batches : List BatchData) → HasBatches ⟦<D as Disk>⟧ region flushed self.now disk.old batches → (file place : ℕ) → result ≢ Err (StartFault.Damaged file place) }
+        ensures quiet { Stays ⟦<D as Disk>⟧ disk.old disk.new }
+        ensures seen { D.seen disk.new ≡ D.seen disk.old }
+        ensures read_failed { result ≡ Err StartFault.ReadFault → Rose ⟦<D as Disk>⟧ disk.old disk.new }
+        ensures unwritten { result ≢ Err StartFault.WriteFault }
+        ensures counts { Passes ⟦<D as Disk>⟧ disk.old disk.new 2 }
+    {
+        let mut reader = BatchReader::new(alloc, flushed);
+        match self.log.read_older(alloc, disk, &mut reader) {
+            Ok(()) => Ok(reader.into_reread()),
+            Err(fault) => {
+                drop(reader);
+                Err(fault)
+            }
         }
     }
 }

@@ -29,7 +29,7 @@ returns-in-Ok-clause-done g c = λ batches lists has.
     let manifest = c.args.manifest.now in
     let flushed : c.snapshot-named.result.now.flushed ≡ (names manifest).flushed = ap (λ (s : Snapshot). s.flushed) c.snapshot-named.ensures in
     let entries : c.deref.result.now ≡ manifest.snapshot.files.items = c.deref.ensures.value ∙ ap (λ (s : Snapshot). s.files.items) c.snapshot-named.ensures in
-    let later = unflushed (names manifest).flushed c.args.wal.now.last (λ le. both_ways _ c.if-is_flushed.false (c.is_flushed.ensures.1 le)) in
+    let later = unflushed (names manifest).flushed c.args.wal.now.older_to (λ le. both_ways _ c.if-is_flushed.false (c.is_flushed.ensures.1 le)) in
     let d = g.D.Disk in
     let self = c.args.self.now in
     record {

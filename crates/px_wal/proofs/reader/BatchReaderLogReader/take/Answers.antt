@@ -2,7 +2,7 @@ use Rattle.std.proofs.Common.{rules, arith, ◌+◌, ap, length, None, Some}
 use Rattle.px_wal.specs.Batch.{batch_of}
 use Rattle.px_wal.specs.Form.{number_in, number_place}
 use Rattle.px_wal.proofs.Readings.{length_of_body}
-use Rattle.px_wal.proofs.Taken.{answers_body, answers_kind, records_more}
+use Rattle.px_wal.proofs.Taken.{answers_body, answers_kind, older_kept, records_more}
 use Rattle.px_wal.proofs.reader.BatchReaderLogReader.take.Goals as goal
 
 pub returns-then-kind-ne-BATCH_RECORD-clause-tested : goal.returns-then-kind-ne-BATCH_RECORD-clause-tested
@@ -25,3 +25,9 @@ returns-in_ok-keep-in-Ok-clause-tested c = λ records held.
 pub returns-in_ok-keep-in-Ok-clause-taken : goal.returns-in_ok-keep-in-Ok-clause-taken
 returns-in_ok-keep-in-Ok-clause-taken c = λ records held none.
     records_more c.args.self.now _ records c.args.kind c.args.body.now (batch_of c.in-Ok.batch) held c.if-kind-ne-BATCH_RECORD.false c.in-Ok.ensures.body c.in_ok-keep-in-Ok.ensures.kept
+
+pub returns-in_err-keep-in-Ok-clause-older : goal.returns-in_err-keep-in-Ok-clause-older
+returns-in_err-keep-in-Ok-clause-older c = λ records told. older_kept c.args.self.now records _ _ c.keep.ensures.same c.keep.ensures.older told
+
+pub returns-in_ok-keep-in-Ok-clause-older : goal.returns-in_ok-keep-in-Ok-clause-older
+returns-in_ok-keep-in-Ok-clause-older c = λ records told. older_kept c.args.self.now records _ _ c.keep.ensures.same c.keep.ensures.older told

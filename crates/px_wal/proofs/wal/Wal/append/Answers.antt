@@ -28,7 +28,7 @@ returns-clause-done g c = λ region flushed batches has.
     let small : c.args.self.now.last + 1 < 2 ^ 64 = omega arith in
     append_done g.D.Disk region flushed c.args.self.now c.args.disk.now batches has (next_batch c.args.self.now c.args.cells.now) c.requires.open
     (record { written = c.requires.written; counted = c.requires.counted; number = small }) refl _ (c.fill_batch.ensures.filled ∙ ap (λ (n : ℕ). batch_record (record { number = n; cells = c.args.cells.now })) number)
-    _ c.append.new.disk number c.append.ensures.same (c.append.ensures.laid []) c.append.ensures.steps c.in_ok-append.ensures.done
+    _ c.append.new.disk number refl c.append.ensures.same (c.append.ensures.laid []) c.append.ensures.steps c.in_ok-append.ensures.done
 
 pub returns-clause-any_moment : goal.returns-clause-any_moment
 returns-clause-any_moment g c = λ region flushed batches has.

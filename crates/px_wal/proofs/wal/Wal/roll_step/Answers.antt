@@ -16,7 +16,7 @@ returns-in-Err-clause-touches g c = λ region flushed batches has. touches_next 
 
 pub returns-in-Ok-clause-done : goal.returns-in-Ok-clause-done
 returns-in-Ok-clause-done g c = λ region flushed batches has.
-    roll_done g.D.Disk region flushed c.args.self.now c.args.disk.now batches has (not_open c.args.self.now c.requires.closed) _ c.roll_step.new.disk refl c.roll_step.ensures.same
+    roll_done g.D.Disk region flushed c.args.self.now c.args.disk.now batches has (not_open c.args.self.now c.requires.closed) _ c.roll_step.new.disk refl refl c.roll_step.ensures.same
     (laid_next c.in-Ok.rolled _ _ (λ e. c.in-Ok.ensures.more (ap Ok e)) (λ e. c.in-Ok.ensures.unlaid (ap Ok e)) (λ two. c.in-Ok.ensures.laid (wal_form flushed) has.log.segments has.log.settled two))
     c.in-Ok.ensures.done
 

@@ -1,0 +1,50 @@
+-- What is read again of a region's log.
+use Rattle.std.proofs.Common.{◌≡◌, ℕ, ◌<◌, ◌≤◌, List, ◌++◌, sym, ap, subst, ◌∙◌}
+use Rattle.std.specs.List.{AllByRecursion}
+use Rattle.px_outside.specs.declared.disk.Disk.{Ghosts}
+use Rattle.px_gatelog.specs.Format.{older_of, records_of}
+use Rattle.px_gatelog.specs.GateLog.{IsSettled}
+use Rattle.px_memstore.specs.Stored.{Stored as MemData}
+use Rattle.px_merge.specs.Settle.{settle}
+use Rattle.px_wal.specs.Batches.{AreRising, Batch, above, between, later_first}
+use Rattle.px_wal.specs.Form.{IsBatch, byte_count, cell_count, last_of, wal_form}
+use Rattle.px_wal.specs.Wal.{HasBatches, IsReread}
+use Rattle.px_wal.specs.inner.Reader.{HoldsRecords}
+use Rattle.px_wal.specs.declared.reader.BatchReader.{BatchReader}
+use Rattle.px_wal.specs.declared.wal.Reread.{Reread}
+use Rattle.px_wal.specs.declared.wal.Wal.{Wal}
+use Rattle.px_wal.proofs.Cuts.{all_left}
+use Rattle.px_wal.proofs.Numbers.{form_flushed}
+use Rattle.px_wal.proofs.OneStanding.{batches_once}
+use Rattle.px_wal.proofs.Parting.{older_between, upto_within}
+
+module _ {D : Type 0} (d : Ghosts D) (region flushed : ℕ) (wal : Wal) (disk : D) (batches : List Batch) (has : HasBatches d region flushed wal disk batches) where
+  -- the log as a reader with this flushed number sees it
+  pub settled_for : (n : ℕ) → n ≡ flushed → IsSettled d (wal_form n) wal.log disk has.log.segments
+  settled_for n is = subst (λ (k : ℕ). IsSettled d (wal_form k) wal.log disk has.log.segments) (sym is) has.log.settled
+
+  older_each : AllByRecursion IsBatch has.cut.older
+  older_each = all_left IsBatch has.cut.older has.cut.newer (subst (AllByRecursion IsBatch) has.cut.all has.right.each)
+
+  rising : AreRising (has.cut.older ++ has.cut.newer)
+  rising = subst AreRising has.cut.all has.right.rising
+
+  between_is : between flushed wal.older_to batches ≡ above flushed has.cut.older
+  between_is = ap (between flushed wal.older_to) has.cut.all ∙ older_between flushed wal.older_to has.cut.older has.cut.newer rising has.cut.upto_is
+
+  -- a number above the flushed one, up to which the older batches go, is at most the last
+  pub older_within : flushed < wal.older_to → wal.older_to ≤ last_of flushed batches
+  older_within left = subst (λ (l : List Batch). wal.older_to ≤ last_of flushed l) (sym has.cut.all) (upto_within flushed wal.older_to has.cut.older has.cut.newer rising has.cut.upto_is left)
+
+  pub reread_by : (before after : BatchReader) (r : Reread) → before.flushed ≡ flushed → wal_form after.flushed ≡ wal_form before.flushed → HoldsRecords after (records_of (older_of has.log.segments))
+      → r.store ≡ after.store → r.cells ≡ after.cells → r.bytes ≡ after.bytes → IsReread flushed wal.older_to batches r
+  reread_by before after r is form taken store cells bytes =
+      let holds = taken.2 in
+      let now : after.flushed ≡ flushed = form_flushed after.flushed before.flushed form ∙ is in
+      let same : taken.0 ≡ has.cut.older = batches_once taken.0 has.cut.older holds.right.each older_each (sym taken.1 ∙ has.cut.before) in
+      let there : above after.flushed taken.0 ≡ between flushed wal.older_to batches = ap (λ (n : ℕ). above n taken.0) now ∙ ap (above flushed) same ∙ sym between_is in
+      record {
+        store = ap (λ (s : MemData). s.cells) store ∙ holds.store ∙ ap (λ (l : List Batch). settle (later_first l)) there;
+        cells = cells ∙ holds.cells ∙ ap cell_count there;
+        bytes = bytes ∙ holds.bytes ∙ ap byte_count there;
+      }
