@@ -139,7 +139,7 @@ module _ {D : Type 0} (d : Ghosts D) (number : ℕ) (manifest : Manifest) (wal :
 
     -- a flush is begun
     pub begun_by : (flushed local : ℕ) (named : List FileData) (frozen : FrozenData) → flushed ≡ (names manifest).flushed → named ≡ (names manifest).files → ((b : List Batch) → HasBatches d number flushed wal old b → IsFrozen flushed b frozen)
-        → frozen.upto ≡ wal.last → (names manifest).flushed < wal.last → IsFree named local → IsBegun d number (names manifest) batches new (record { frozen = frozen; local = local; stage = stage.Frozen })
+        → frozen.upto ≡ wal.older_to → (names manifest).flushed < wal.older_to → IsFree named local → IsBegun d number (names manifest) batches new (record { frozen = frozen; local = local; stage = stage.Frozen })
     begun_by flushed local named frozen a b give upto later free = record {
       frozen = subst (λ (n : ℕ). IsFrozen n batches frozen) a (give batches (subst (λ (n : ℕ). HasBatches d number n wal old batches) (sym a) parts.log));
       later = omega (arith, upto);
