@@ -1,5 +1,5 @@
 // Naming a file.
-ghost use Rattle.std.specs.Prelude.{◌≡◌, ◌≢◌, ◌≤◌, ◌<◌, ◌+◌, ◌*◌, ◌∷◌, [], ◌↔◌, ℕ, false, List, length, map, max, IsTrue, IfOk, OnOk, Ok, Err};
+ghost use Rattle.std.specs.Prelude.{◌≡◌, ◌≢◌, ◌≤◌, ◌<◌, ◌+◌, ◌*◌, ◌∷◌, [], ◌↔◌, ℕ, false, List, length, map, max, IsTrue, IfOk, IsErr, OnOk, Ok, Err};
 ghost use Rattle.px_outside.specs.OnDisk.{LeavesOnly, Passes, Rose, TouchesOnly};
 ghost use Rattle.px_cells.specs.CellData.{CellData};
 ghost use Rattle.px_file.specs.declared.region_file.RegionFile.{RegionFile as OpenFile};
@@ -66,6 +66,7 @@ pub fn name_file<D: Disk>(
         → HasParts ⟦<D as Disk>⟧ region manifest.old wal disk.old batches files lists → IsFlushed ⟦<D as Disk>⟧ region disk.old (names manifest.old) (snapshot_of after) batches file list
         → LeavesOnly ⟦<D as Disk>⟧ disk.old disk.new (λ moment image. ReadsAs region image (names manifest.old) (snapshot_of after) (cells_over (names manifest.old).flushed batches lists)) }
     ensures named { OnOk result (names manifest.new ≡ snapshot_of after) }
+    ensures kept { IsErr result → names manifest.new ≡ names manifest.old }
     ensures full { (result ≡ Err AppendFault.Full) ↔ (room_of manifest.old < 33 + 20 * length (files_of after)) }
     ensures untouched { result ≡ Err AppendFault.Full → (disk.new ≡ disk.old) × (manifest.new ≡ manifest.old) }
     ensures failed { result ≡ Err AppendFault.WriteFault → Rose ⟦<D as Disk>⟧ disk.old disk.new }

@@ -103,6 +103,7 @@ impl Manifest {
         requires room { 26 + 20 * length (files_of snapshot) ≤ frame.old.room }
         ensures done { (region : ℕ) → HasSnapshot ⟦<D as Disk>⟧ region self.old disk.old → OnOk result (HasSnapshot ⟦<D as Disk>⟧ region self.new disk.new) }
         ensures named { OnOk result (names self.new ≡ snapshot_of snapshot) }
+        ensures kept { IsErr result → names self.new ≡ names self.old }
 
         // At each moment of the call a stop leaves what was named, or what is named now.
         ensures any_moment { (region : ℕ) → HasSnapshot ⟦<D as Disk>⟧ region self.old disk.old
