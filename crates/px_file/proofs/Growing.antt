@@ -5,7 +5,7 @@ use Rattle.std.proofs.lemmas.List.{take-append-drop}
 use Rattle.px_cells.specs.CellData.{CellData}
 use Rattle.px_cells.specs.Among.{Has}
 use Rattle.px_cells.specs.Order.{Below, GoesWith, IsAscending}
-use Rattle.px_cells.proofs.Among.{all_has, ascending_join, ascending_left, before_is_below}
+use Rattle.px_cells.proofs.Among.{all_has, ascending_join, ascending_left, before_is_below, has_right}
 use Rattle.px_cells.proofs.Orders.{below_trans}
 use Rattle.px_cells.proofs.Stamps.{has_push}
 use Rattle.px_cellbytes.specs.Spelling.{IsShortEnough}
@@ -42,6 +42,11 @@ all_below xs (c ∷ ys) a b after m n h k = elim (last_of xs) [
       let first : Below m c = at_most_last xs l.front l.last m c a l.is h (after l.front l.last l.is c ys refl) in
       elim k [ inl e ↦ subst (λ (x : CellData). Below m x) e first | inr more ↦ below_trans m c n first (all_has (Below c) ys n b.0 more) ]
 ]
+
+pub after_parts : (xs ys : List CellData) → IsAscending (xs ++ ys) → ComesAfter xs ys
+after_parts xs ys a front last is c more e =
+    let whole : IsAscending ((front ++ last ∷ []) ++ (c ∷ more)) = subst (λ (l : List CellData). IsAscending (l ++ (c ∷ more))) is (subst (λ (l : List CellData). IsAscending (xs ++ l)) e a) in
+    before_is_below (front ++ last ∷ []) more c last whole (has_right front (last ∷ []) last (inl refl))
 
 pub written_join : (xs ys : List CellData) → IsWritten xs → IsWritten ys → ComesAfter xs ys → IsWritten (xs ++ ys)
 written_join xs ys v w after = record {

@@ -6,7 +6,7 @@ use Rattle.std.specs.List.{AllByRecursion}
 use Rattle.std.proofs.lemmas.List.{drop-drop, drop_at, length-take, take-append-drop, take-take}
 use Rattle.std.proofs.lemmas.Bool.{cases_Bool}
 use Rattle.px_outside.specs.Disk.{Image, Rose, Stays}
-use Rattle.px_outside.specs.OnDisk.{Only}
+use Rattle.px_outside.specs.OnDisk.{Only, Passes}
 use Rattle.px_outside.proofs.Moments.{only_stays}
 use Rattle.px_outside.specs.declared.disk.Disk.{Ghosts}
 use Rattle.px_cells.specs.CellData.{CellData}
@@ -200,6 +200,49 @@ module _ {D : Type 0} (d : Ghosts D) (file : ℕ) where
 abbrev bit : Bool → ℕ
 bit true = 1
 bit false = 0
+
+-- one read may have found no further block
+abbrev pub ended_bit : Bool → ℕ
+ended_bit true = 0
+ended_bit false = 1
+
+ended_one : (more : Bool) → ended_bit more ≤ 1
+ended_one true = omega arith
+ended_one false = omega arith
+
+pub grown_more : (first n m : ℕ) (more : Bool) → first ≤ n → ((more ≡ false) × (m ≡ n)) ⊎ (m ≡ n + 1) → first ≤ m
+grown_more first n m more le (inl both) = (let e = both.1 in omega arith)
+grown_more first n m more le (inr one) = omega arith
+
+module _ {D : Type 0} (d : Ghosts D) (first old new : D) (n m k : ℕ) (was more : Bool) where
+  -- a step more
+  pub counts_more : n ≤ m → was ≡ true → ((more ≡ false) × (k ≡ m)) ⊎ (k ≡ m + 1) → Passes d first old ((m - n) + ended_bit was) → Passes d old new 1 → Passes d first new ((k - n) + ended_bit more)
+  counts_more le on grown before one = record {
+    later = omega (arith, before.later, one.later);
+    at_most = within grown;
+    faults_later = omega (arith, before.faults_later, one.faults_later);
+    begun = one.begun ∙ before.begun;
+  }
+    where
+      so_far : d.calls new ≤ d.calls first + ((m - n) + 1)
+      so_far = (let e : ended_bit was ≡ 0 = ap ended_bit on in omega (arith, before.at_most, one.at_most))
+
+      within : ((more ≡ false) × (k ≡ m)) ⊎ (k ≡ m + 1) → d.calls new ≤ d.calls first + ((k - n) + ended_bit more)
+      within (inl both) = (let e : ended_bit more ≡ 1 = ap ended_bit both.0 in let s = both.1 in omega (arith, so_far))
+      within (inr next) = omega (arith, so_far)
+
+-- all steps
+pub counts_all : {D : Type 0} (d : Ghosts D) (first old : D) (n : ℕ) (more : Bool) → Passes d first old (n + ended_bit more) → Passes d first old (1 + n)
+counts_all d first old n more p = record {
+  later = p.later;
+  at_most = (let e = ended_one more in omega (arith, p.at_most));
+  faults_later = p.faults_later;
+  begun = p.begun;
+}
+
+-- no call
+pub counts_none : {D : Type 0} (d : Ghosts D) (disk : D) (n : ℕ) → Passes d disk disk n
+counts_none d disk n = record { later = omega arith; at_most = omega arith; faults_later = omega arith; begun = refl }
 
 abbrev pub steps_left : ℕ → Bool → ℕ
 steps_left n more = 2 * (4294967295 - n) + bit more

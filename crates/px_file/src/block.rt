@@ -14,6 +14,13 @@ use px_outside::Disk;
 use std::alloc::Global;
 
 impl RegionFile {
+    /// The number of the file.
+    pub fn number(&self) -> u64
+        ensures { result ≡ self.now.file }
+    {
+        self.file
+    }
+
     /// How many blocks the file has.
     pub fn blocks(&self) -> usize
         ensures { result ≡ length self.now.index.entries.items }

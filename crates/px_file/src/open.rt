@@ -1,5 +1,5 @@
 // Opening a file.
-ghost use Rattle.std.specs.Prelude.{◌≡◌, ◌≢◌, ◌≤◌, ◌<◌, ◌⊎◌, ◌+◌, ◌*◌, ◌^◌, ◌++◌, ◌∷◌, [], ◌↔◌, ℕ, true, false, List, length, take, IsTrue, IfOk, IsErr, OnOk, Ok, Err};
+ghost use Rattle.std.specs.Prelude.{◌≡◌, ◌≢◌, ◌≤◌, ◌<◌, ◌⊎◌, ◌+◌, ◌-◌, ◌*◌, ◌^◌, ◌++◌, ◌∷◌, [], ◌↔◌, ℕ, true, false, List, length, take, IsTrue, IfOk, IsErr, OnOk, Ok, Err};
 ghost use Rattle.px_outside.specs.OnDisk.{Only, Passes, Rose, Stays};
 ghost use Rattle.px_cells.specs.CellData.{CellData};
 ghost use Rattle.px_block.specs.Block.{IsBlock, IsFull, block_bytes};
@@ -105,6 +105,7 @@ fn read_blocks<D: Disk>(
     ensures quiet { Stays ⟦<D as Disk>⟧ disk.old disk.new }
     ensures failed { result ≡ Err FileFault.ReadFault → Rose ⟦<D as Disk>⟧ disk.old disk.new }
     ensures faults { D.faults disk.old ≤ D.faults disk.new }
+    ensures counts { OnOk result (Passes ⟦<D as Disk>⟧ disk.old disk.new (1 + (length walk.new.index.entries.items - length walk.old.index.entries.items))) }
 {
     while walk.goes_on() {
         match walk.step(alloc, disk, file, window) {
@@ -124,6 +125,7 @@ fn read_index<D: Disk>(alloc: Global, disk: &mut D, file: u64) -> Result<Index, 
     ensures quiet { Stays ⟦<D as Disk>⟧ disk.old disk.new }
     ensures failed { result ≡ Err FileFault.ReadFault → Rose ⟦<D as Disk>⟧ disk.old disk.new }
     ensures faults { D.faults disk.old ≤ D.faults disk.new }
+    ensures counts { IfOk result (λ index. Passes ⟦<D as Disk>⟧ disk.old disk.new (1 + length index.entries.items)) }
 {
     let mut walk = Walk::new(alloc);
     let mut window = vec![in alloc; 0u8; BLOCK_MOST]?;
@@ -151,6 +153,9 @@ impl RegionFile {
         ensures quiet { Stays ⟦<D as Disk>⟧ disk.old disk.new }
         ensures failed { result ≡ Err FileFault.ReadFault → Rose ⟦<D as Disk>⟧ disk.old disk.new }
         ensures faults { D.faults disk.old ≤ D.faults disk.new }
+
+        // The letters, each block, perhaps a read that finds no further one, index and footer.
+        ensures counts { IfOk result (λ opened. Passes ⟦<D as Disk>⟧ disk.old disk.new (3 + length opened.index.entries.items)) }
     {
         match read_letters(disk, file) {
             Ok(()) => {}
@@ -177,6 +182,8 @@ fn finish<D: Disk>(
     ensures quiet { Stays ⟦<D as Disk>⟧ disk.old disk.new }
     ensures failed { result ≡ Err FileFault.ReadFault → Rose ⟦<D as Disk>⟧ disk.old disk.new }
     ensures faults { D.faults disk.old ≤ D.faults disk.new }
+    ensures index { IfOk result (λ opened. opened.index ≡ index) }
+    ensures counts { Passes ⟦<D as Disk>⟧ disk.old disk.new 1 }
 {
     match read_tail(alloc, disk, file, &index) {
         Ok(()) => Ok(RegionFile { file, index }),

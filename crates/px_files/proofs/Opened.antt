@@ -3,7 +3,7 @@ use Rattle.std.proofs.Common.{◌≡◌, ℕ, zero, suc, ◌+◌, ◌<◌, List,
 use Rattle.std.specs.Prelude.{IsTrue, map}
 use Rattle.std.proofs.lemmas.List.{map-append, take-append-drop, take_more}
 use Rattle.px_outside.specs.Disk.{Image}
-use Rattle.px_outside.specs.OnDisk.{Stays}
+use Rattle.px_outside.specs.OnDisk.{Passes, Stays}
 use Rattle.px_outside.specs.declared.disk.Disk.{Ghosts}
 use Rattle.px_cells.specs.CellData.{CellData}
 use Rattle.px_file.specs.Files.{HasBlocks}
@@ -14,6 +14,7 @@ use Rattle.px_wal.specs.Files.{file_of}
 use Rattle.px_wal.specs.Snapshot.{FileData}
 use Rattle.px_wal.specs.SnapshotOf.{file_data}
 use Rattle.px_wal.specs.declared.snapshot.FileEntry.{FileEntry}
+use Rattle.px_files.specs.Calls.{opening_calls}
 use Rattle.px_files.specs.Files.{FilesStand, HasFile, HaveFiles, IsFirstBad}
 use Rattle.px_files.proofs.Kept.{have_more, have_quiet, seen_stand}
 
@@ -34,6 +35,22 @@ cut_at entries i e lt is =
 
 next_of : (entries : List FileEntry) (i : ℕ) (e : FileEntry) → i < length entries → e ≡ get_or entries i e → map file_data (take (i + 1) entries) ≡ map file_data (take i entries) ++ file_data e ∷ []
 next_of entries i e lt is = ap (map file_data) (take_more entries i e lt ∙ ap (λ (x : FileEntry). take i entries ++ x ∷ []) (sym is)) ∙ map-append file_data (take i entries) (e ∷ [])
+
+-- ---- calls
+
+opening_more : (files : List RegionFile) (o : RegionFile) → opening_calls (files ++ o ∷ []) ≡ opening_calls files + (4 + length o.index.entries.items)
+opening_more [] o = omega arith
+opening_more (f ∷ files) o = (let r = opening_more files o in omega arith)
+
+pub calls_more : {D : Type 0} (d : Ghosts D) (first old new : D) (files more : List RegionFile) (o : RegionFile) → more ≡ files ++ o ∷ [] → Passes d first old (opening_calls files) → Passes d old new (4 + length o.index.entries.items) → Passes d first new (opening_calls more)
+calls_more d first old new files more o is before one = record {
+  later = omega (arith, before.later, one.later);
+  at_most = (let e = ap opening_calls is ∙ opening_more files o in omega (arith, before.at_most, one.at_most));
+  faults_later = omega (arith, before.faults_later, one.faults_later);
+  begun = one.begun ∙ before.begun;
+}
+
+-- ---- files
 
 module _ {D : Type 0} (d : Ghosts D) (region : ℕ) where
   -- some files are open

@@ -6,7 +6,7 @@ use px_file::FileFault;
 use px_gatelog::StartFault;
 
 /// What a fault of a file is to one who opens a region.
-pub(crate) fn fault_of(fault: FileFault) -> StartFault
+pub fn fault_of(fault: FileFault) -> StartFault
     ensures { result ≡ start_fault fault }
 {
     match fault {

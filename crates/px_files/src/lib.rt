@@ -10,5 +10,6 @@ pub mod laws;
 mod local;
 mod open;
 
+pub use fault::fault_of;
 pub use local::free_local;
 pub use open::open_files;

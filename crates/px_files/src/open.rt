@@ -1,6 +1,6 @@
 // Opening the files of a region.
 ghost use Rattle.std.specs.Prelude.{◌≡◌, ◌≤◌, ◌+◌, ◌++◌, ◌∷◌, [], ℕ, List, map, length, IsTrue, IfOk, OnOk, Ok, Err};
-ghost use Rattle.px_outside.specs.OnDisk.{Rose, Stays};
+ghost use Rattle.px_outside.specs.OnDisk.{Passes, Rose, Stays};
 ghost use Rattle.px_cells.specs.CellData.{CellData};
 ghost use Rattle.px_file.specs.Files.{HasBlocks};
 ghost use Rattle.px_file.specs.Format.{cells_in};
@@ -8,6 +8,7 @@ ghost use Rattle.px_file.specs.Reading.{IsFirstWrong};
 ghost use Rattle.px_wal.specs.Files.{file_of};
 ghost use Rattle.px_wal.specs.Snapshot.{FileData};
 ghost use Rattle.px_wal.specs.SnapshotOf.{file_data};
+ghost use Rattle.px_files.specs.Calls.{opening_calls};
 ghost use Rattle.px_files.specs.Files.{HaveFiles, IsFirstBad};
 
 use crate::fault::fault_of;
@@ -27,6 +28,7 @@ fn open_one<D: Disk>(alloc: Global, disk: &mut D, file: u64) -> Result<RegionFil
     ensures read_failed { result ≡ Err StartFault.ReadFault → Rose ⟦<D as Disk>⟧ disk.old disk.new }
     ensures write_failed { result ≡ Err StartFault.WriteFault → Rose ⟦<D as Disk>⟧ disk.old disk.new }
     ensures faults { D.faults disk.old ≤ D.faults disk.new }
+    ensures counts { IfOk result (λ opened. Passes ⟦<D as Disk>⟧ disk.old disk.new (4 + length opened.index.entries.items)) }
 {
     if disk.sync(file).is_err() {
         return Err(StartFault::WriteFault);
@@ -59,6 +61,7 @@ pub fn open_files<D: Disk>(
     ensures quiet { Stays ⟦<D as Disk>⟧ disk.old disk.new }
     ensures read_failed { result ≡ Err StartFault.ReadFault → Rose ⟦<D as Disk>⟧ disk.old disk.new }
     ensures write_failed { result ≡ Err StartFault.WriteFault → Rose ⟦<D as Disk>⟧ disk.old disk.new }
+    ensures counts { IfOk result (λ files. Passes ⟦<D as Disk>⟧ disk.old disk.new (opening_calls files.items)) }
 {
     let mut files = Vec::new(alloc);
     for entry in entries {

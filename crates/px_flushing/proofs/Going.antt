@@ -50,22 +50,32 @@ manifest_own region file (inl is) = record { local = 2; is = is; short = omega a
 manifest_own region file (inr is) = record { local = 3; is = is; short = omega arith }
 
 -- no file of the log is one of the manifest, or is named
-manifest_log : (region file : ℕ) → manifest_files region file → log_files region file → ⊥
+pub manifest_log : (region file : ℕ) → manifest_files region file → log_files region file → ⊥
 manifest_log region file (inl a) (inl b) = omega arith
 manifest_log region file (inl a) (inr b) = omega arith
 manifest_log region file (inr a) (inl b) = omega arith
 manifest_log region file (inr a) (inr b) = omega arith
 
-named_log : (region file : ℕ) (named : List FileData) → AllByRecursion IsEntry named → IsOneOf region named file → log_files region file → ⊥
+pub named_log : (region file : ℕ) (named : List FileData) → AllByRecursion IsEntry named → IsOneOf region named file → log_files region file → ⊥
 named_log region file [] all own touched = own
 named_log region file (f ∷ named) all (inl is) (inl b) = (let o = all.0.own in omega arith)
 named_log region file (f ∷ named) all (inl is) (inr b) = (let o = all.0.own in omega arith)
 named_log region file (f ∷ named) all (inr own) touched = named_log region file named all.1 own touched
 
--- the file of a flush isn't one of its log
-log_apart : (region local : ℕ) (files : List FileData) → IsFree files local → log_files region (file_of region local) → ⊥
+pub named_manifest : (region file : ℕ) (named : List FileData) → AllByRecursion IsEntry named → IsOneOf region named file → manifest_files region file → ⊥
+named_manifest region file [] all own touched = own
+named_manifest region file (f ∷ named) all (inl is) (inl b) = (let o = all.0.own in omega arith)
+named_manifest region file (f ∷ named) all (inl is) (inr b) = (let o = all.0.own in omega arith)
+named_manifest region file (f ∷ named) all (inr own) touched = named_manifest region file named all.1 own touched
+
+-- the file of a flush is none of its log or manifest
+pub log_apart : (region local : ℕ) (files : List FileData) → IsFree files local → log_files region (file_of region local) → ⊥
 log_apart region local files free (inl is) = (let o = free.own in omega arith)
 log_apart region local files free (inr is) = (let o = free.own in omega arith)
+
+pub manifest_free : (region local : ℕ) (files : List FileData) → IsFree files local → manifest_files region (file_of region local) → ⊥
+manifest_free region local files free (inl is) = (let o = free.own in omega arith)
+manifest_free region local files free (inr is) = (let o = free.own in omega arith)
 
 -- a log that has a batch above a number
 some_batch : (flushed upto : ℕ) (batches : List Batch) → flushed < upto → upto ≤ last_of flushed batches → (b : Batch) × ((more : List Batch) × (batches ≡ b ∷ more))
@@ -93,6 +103,12 @@ module _ {D : Type 0} (d : Ghosts D) (region : ℕ) (named : SnapshotData) (batc
   under_kept : (old new : D) (flush : Option Flush) (touched : ℕ → Type 0) → TouchesOnly d old new touched → ((file : ℕ) → HasFile region file → touched file → ⊥) → IsUnderWay d region named batches old flush → IsUnderWay d region named batches new flush
   under_kept old new None touched touches apart is = tt
   under_kept old new (Some flush) touched touches apart is = begun_kept old new flush touched touches (λ own. apart (file_of region flush.local) (free_own region flush.local (file_of region flush.local) named.files is.free refl) own) is
+
+  -- calls on files that no free number has
+  pub under_touched : (old new : D) (flush : Option Flush) (touched : ℕ → Type 0) → TouchesOnly d old new touched → ((local : ℕ) → IsFree named.files local → touched (file_of region local) → ⊥) → IsUnderWay d region named batches old flush
+      → IsUnderWay d region named batches new flush
+  under_touched old new None touched touches apart is = tt
+  under_touched old new (Some flush) touched touches apart is = begun_kept old new flush touched touches (λ own. apart flush.local is.free own) is
 
   -- ---- a batch comes
 

@@ -1,3 +1,4 @@
 pub mod Parts
 pub mod Stages
 pub mod Going
+pub mod Logs

@@ -1,5 +1,5 @@
 -- A region's files, and the flush of its log.
-use Rattle.std.specs.Prelude.{◌≡◌, ◌<◌, ◌+◌, ◌∷◌, ℕ, max, List, Option, Some, None}
+use Rattle.std.specs.Prelude.{◌≡◌, ◌<◌, ◌+◌, ◌∷◌, [], ℕ, max, List, Option, Some, None}
 use Rattle.px_outside.specs.Disk.{Image}
 use Rattle.px_outside.specs.declared.disk.Disk.{Ghosts}
 use Rattle.px_cells.specs.CellData.{CellData}
@@ -30,6 +30,17 @@ pub record IsBegun {D : Type 0} (d : Ghosts D) (region : ℕ) (named : SnapshotD
 abbrev pub IsUnderWay : {D : Type 0} → Ghosts D → ℕ → SnapshotData → List Batch → D → Option Flush → Type 0
 IsUnderWay d region named batches disk None = Unit {0}
 IsUnderWay d region named batches disk (Some flush) = IsBegun d region named batches disk flush
+
+-- the number of the last batch of a flush, 0 where none is under way
+abbrev pub upto_of : Option Flush → ℕ
+upto_of None = 0
+upto_of (Some flush) = flush.frozen.upto
+
+-- no file is named or begun
+pub record IsFreshFlushing (number : ℕ) (flushing : Flushing) : Type 0 where
+  pub number_is : flushing.number ≡ number
+  pub files : flushing.files.items ≡ []
+  pub flush : flushing.flush ≡ None
 
 -- The disk tells that manifest, log and open files of the region have this, all of it on the disk, and that it goes on from
 -- there, with the flush that may be under way.

@@ -1,5 +1,5 @@
 // A region's open files, and the flush of its log.
-ghost use Rattle.std.specs.Prelude.{◌≡◌, ◌≢◌, ◌≤◌, ◌<◌, ◌+◌, ◌*◌, ◌∷◌, ◌↔◌, ℕ, false, List, length, IsTrue, IfOk, OnOk, OnErr, Ok, Err, None, vec_len, vec_capacity};
+ghost use Rattle.std.specs.Prelude.{◌≡◌, ◌≢◌, ◌≤◌, ◌<◌, ◌+◌, ◌*◌, ◌∷◌, ◌↔◌, ℕ, false, List, length, IsTrue, IfOk, IsErr, OnOk, OnErr, Ok, Err, None, max, vec_len, vec_capacity};
 ghost use Rattle.px_outside.specs.OnDisk.{LeavesOnly, Passes, Rose, Stays, TouchesOnly};
 ghost use Rattle.px_cells.specs.CellData.{CellData};
 ghost use Rattle.px_wal.specs.Batches.{Batch as BatchData, cells_over};
@@ -10,9 +10,10 @@ ghost use Rattle.px_wal.specs.SnapshotOf.{files_of, snapshot_of};
 ghost use Rattle.px_wal.specs.Wal.{HasBatches};
 ghost use Rattle.px_wal.specs.declared.manifest.Manifest.{Manifest as Manifests};
 ghost use Rattle.px_wal.specs.declared.wal.Wal.{Wal as Logs};
+ghost use Rattle.px_files.specs.Calls.{opening_calls};
 ghost use Rattle.px_files.specs.Files.{IsFirstBad};
 ghost use Rattle.px_naming.specs.Naming.{HasParts};
-ghost use Rattle.px_flushing.specs.Flushing.{HasFlushing, IsBegun, IsRaised, IsRead, named_next};
+ghost use Rattle.px_flushing.specs.Flushing.{HasFlushing, IsBegun, IsFreshFlushing, IsRaised, IsRead, named_next, upto_of};
 ghost use Rattle.px_flushing.specs.declared.fault.FlushFault.TheVariants.{Damaged, ReadFault, WriteFault};
 
 use crate::fault::{of_append, of_read};
@@ -65,6 +66,18 @@ fn is_flushed(manifest: &Manifest, wal: &Wal) -> bool
 }
 
 impl Flushing {
+    /// The files of a region of which no file was ever written: none. No flush is under way, and no call is made.
+    pub fn fresh(alloc: Global, number: u32) -> Flushing
+        ensures { IsFreshFlushing number result }
+    {
+        Flushing {
+            alloc,
+            number,
+            files: Vec::new(alloc),
+            flush: None,
+        }
+    }
+
     /// Opens the files that a region's manifest names. No flush is under way. A stop in the call leaves nothing new.
     pub fn open<D: Disk>(
         alloc: Global,
@@ -80,6 +93,7 @@ impl Flushing {
         ensures quiet { Stays ⟦<D as Disk>⟧ disk.old disk.new }
         ensures read_failed { result ≡ Err StartFault.ReadFault → Rose ⟦<D as Disk>⟧ disk.old disk.new }
         ensures write_failed { result ≡ Err StartFault.WriteFault → Rose ⟦<D as Disk>⟧ disk.old disk.new }
+        ensures counts { IfOk result (λ flushing. Passes ⟦<D as Disk>⟧ disk.old disk.new (opening_calls flushing.files.items)) }
     {
         match open_files(alloc, disk, number, &manifest.snapshot().files) {
             Ok(files) => Ok(Flushing {
@@ -97,6 +111,23 @@ impl Flushing {
         ensures { result.now ≡ self.now.files.items }
     {
         &self.files
+    }
+
+    /// Whether no flush is under way.
+    pub fn is_idle(&self) -> bool
+        ensures { IsTrue result ↔ (self.now.flush ≡ None) }
+    {
+        self.flush.is_none()
+    }
+
+    /// The number of the last batch of the flush that is under way, 0 where none is.
+    pub fn upto(&self) -> u64
+        ensures { result ≡ upto_of self.now.flush }
+    {
+        match &self.flush {
+            None => 0,
+            Some(flush) => flush.frozen.upto(),
+        }
     }
 
     /// Begins a flush, where a batch of the log's older segment stands above the flushed number.
@@ -222,7 +253,8 @@ impl Flushing {
             → IsBegun ⟦<D as Disk>⟧ self.old.number (names manifest.old) batches disk.old (record { frozen = frozen; local = local; stage = Stage.Measured file len })
             → LeavesOnly ⟦<D as Disk>⟧ disk.old disk.new (λ moment image. IsRead self.old.number image (names manifest.old).horizon (cells_over (names manifest.old).flushed batches lists)) }
         ensures never { (result ≢ Err ReadFault) × (result ≢ Err Damaged) }
-        ensures horizon { result ≢ Err WriteFault → (names manifest.new).horizon ≡ (names manifest.old).horizon }
+        ensures unnamed { IsErr result → names manifest.new ≡ names manifest.old }
+        ensures horizon { (names manifest.new).horizon ≡ (names manifest.old).horizon }
         ensures write_failed { result ≡ Err WriteFault → Rose ⟦<D as Disk>⟧ disk.old disk.new }
         ensures touches { HasSnapshot ⟦<D as Disk>⟧ self.old.number manifest.old disk.old → TouchesOnly ⟦<D as Disk>⟧ disk.old disk.new (manifest_files self.old.number) }
         ensures counts { Passes ⟦<D as Disk>⟧ disk.old disk.new 4 }
@@ -284,7 +316,9 @@ impl Flushing {
         ensures ended { result ≡ Ok FlushStep.Done → (self.new.flush ≡ None) × (wal.now.older_to ≤ (names manifest.old).flushed) }
         ensures named { (batches : List BatchData) (lists : List (List CellData)) (cells bytes : ℕ) → HasFlushing ⟦<D as Disk>⟧ manifest.old wal.now self.old disk.old batches lists → result ≡ Ok (FlushStep.Named cells bytes)
             → (self.new.flush ≡ None) × IsRaised (names manifest.old).flushed (names manifest.new).flushed batches cells bytes }
-        ensures horizon { result ≢ Err WriteFault → (names manifest.new).horizon ≡ (names manifest.old).horizon }
+        ensures horizon { (names manifest.new).horizon ≡ (names manifest.old).horizon }
+        ensures still { ((cells bytes : ℕ) → result ≢ Ok (FlushStep.Named cells bytes)) → names manifest.new ≡ names manifest.old }
+        ensures flushed { (names manifest.new).flushed ≤ max (names manifest.old).flushed (upto_of self.old.flush) }
         ensures sound { (batches : List BatchData) (lists : List (List CellData)) → HasFlushing ⟦<D as Disk>⟧ manifest.old wal.now self.old disk.old batches lists → result ≢ Err Damaged }
         ensures read_failed { result ≡ Err ReadFault → Rose ⟦<D as Disk>⟧ disk.old disk.new }
         ensures write_failed { result ≡ Err WriteFault → Rose ⟦<D as Disk>⟧ disk.old disk.new }

@@ -1,12 +1,11 @@
 -- One block after the other is written.
-use Rattle.std.proofs.Common.{◌≡◌, ◌⊎◌, ℕ, zero, suc, ◌+◌, ◌-◌, ◌<◌, ◌≤◌, true, List, [], ◌∷◌, ◌++◌, length, take, drop, refl, sym, ap, subst, ◌∙◌, arith, inl, inr}
+use Rattle.std.proofs.Common.{◌≡◌, ◌⊎◌, ℕ, zero, suc, ◌+◌, ◌-◌, ◌<◌, ◌≤◌, true, List, [], ◌∷◌, ◌++◌, length, take, drop, refl, sym, ap, subst, ◌∙◌, arith, inr}
 use Rattle.std.specs.List.{AllByRecursion}
 use Rattle.std.proofs.lemmas.List.{length-drop, take_all, take_rest, take-append-drop}
 use Rattle.px_outside.specs.declared.disk.Disk.{Ghosts}
 use Rattle.px_cells.specs.CellData.{CellData}
-use Rattle.px_cells.specs.Order.{Below, GoesWith, IsAscending}
-use Rattle.px_cells.proofs.Among.{ascending_right, before_is_below}
-use Rattle.px_cells.proofs.Among as among
+use Rattle.px_cells.specs.Order.{GoesWith, IsAscending}
+use Rattle.px_cells.proofs.Among.{ascending_right}
 use Rattle.px_cellbytes.specs.Spelling.{IsShortEnough}
 use Rattle.px_cellbytes.specs.Reading.{IsBare, IsInRange, IsWritten}
 use Rattle.px_block.specs.Reading.{ComesAfter}
@@ -14,6 +13,7 @@ use Rattle.px_file.specs.Files.{HasWritten}
 use Rattle.px_file.specs.Format.{cells_in}
 use Rattle.px_file.specs.declared.writer.FileWriter.{FileWriter}
 use Rattle.px_file.proofs.Blocks.{cells_push}
+use Rattle.px_file.proofs.Growing.{after_parts}
 use Rattle.px_making.specs.Making.{HasCells, IsMaking}
 use Rattle.px_making.specs.declared.making.Making.{Making}
 
@@ -32,11 +32,6 @@ written_right xs ys w = record {
 -- the rest of cells, as a slice to the end gives it
 pub written_rest : (cells : List CellData) (n : ℕ) → IsWritten cells → IsWritten (take (length cells - n) (drop n cells))
 written_rest cells n w = subst IsWritten (sym (take_rest cells n)) (written_right (take n cells) (drop n cells) (subst IsWritten (sym (take-append-drop n cells)) w))
-
-after_parts : (xs ys : List CellData) → IsAscending (xs ++ ys) → ComesAfter xs ys
-after_parts xs ys a front last is c more e =
-    let whole : IsAscending ((front ++ last ∷ []) ++ (c ∷ more)) = subst (λ (l : List CellData). IsAscending (l ++ (c ∷ more))) is (subst (λ (l : List CellData). IsAscending (xs ++ l)) e a) in
-    before_is_below (front ++ last ∷ []) more c last whole (among.has_right front (last ∷ []) last (inl refl))
 
 pub after_rest : (cells first : List CellData) (n : ℕ) → IsWritten cells → first ≡ take n cells → ComesAfter first (take (length cells - n) (drop n cells))
 after_rest cells first n w is =

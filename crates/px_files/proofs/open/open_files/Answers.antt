@@ -4,7 +4,7 @@ use Rattle.px_file.specs.Reading.{IsFirstWrong}
 use Rattle.px_gatelog.specs.declared.fault.StartFault.TheVariants.{Damaged}
 use Rattle.px_wal.specs.Files.{file_of}
 use Rattle.px_wal.specs.declared.snapshot.FileEntry.{FileEntry}
-use Rattle.px_files.proofs.Opened.{at_any, first_bad, no_entry, open_more}
+use Rattle.px_files.proofs.Opened.{at_any, calls_more, first_bad, no_entry, open_more}
 use Rattle.px_files.proofs.open.open_files.Goals as goal
 
 pub returns-in-Err-clause-damaged : goal.returns-in-Err-clause-damaged
@@ -29,5 +29,5 @@ loop-entry-preserved g c =
           c.open_one.ensures.quiet c.open_one.ensures.seen (c.in-Ok.ensures.file ∙ c.local_file.ensures ∙ ap (λ (x : FileEntry). file_of c.args.region x.local) (at_any entries i _ no_entry c.loop-entry-test.true)) c.in-Ok.ensures.opened c.in-Ok-add_file.ensures;
       seen = c.open_one.ensures.seen ∙ c.loop-entry.invariant.seen;
       quiet = stays_then g.D.Disk.calls g.D.Disk.left c.args.disk.now c.loop-entry.disk c.open_one.new.disk c.loop-entry.invariant.quiet c.open_one.ensures.quiet;
-      faults = omega (arith, c.loop-entry.invariant.faults, c.open_one.ensures.faults);
+      counts = calls_more g.D.Disk c.args.disk.now c.loop-entry.disk c.open_one.new.disk c.loop-entry.files.items c.add_file.new.files.items c.in-Ok.file c.in-Ok-add_file.ensures c.loop-entry.invariant.counts c.in-Ok.ensures.counts;
     }

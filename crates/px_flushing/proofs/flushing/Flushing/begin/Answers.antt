@@ -60,4 +60,4 @@ returns-in-Err-clause-read_failed g c = λ e.
 pub returns-in-Err-clause-write_failed : goal.returns-in-Err-clause-write_failed
 returns-in-Err-clause-write_failed g c = λ e.
     let same : c.of_read.result ≡ WriteFault = cc in
-    c.in-Err.ensures.write_failed (ap Err (read_write c.in-Err.fault (sym c.of_read.ensures ∙ same)))
+    absurd (c.in-Err.ensures.write_failed (ap Err (read_write c.in-Err.fault (sym c.of_read.ensures ∙ same))))

@@ -47,7 +47,7 @@ pub returns-in-Ok-name_file-clause-touches : goal.returns-in-Ok-name_file-clause
 returns-in-Ok-name_file-clause-touches g c = λ has. c.name_file.ensures.touches c.args.self.now.number has
 
 pub returns-in-Ok-name_file-clause-horizon : goal.returns-in-Ok-name_file-clause-horizon
-returns-in-Ok-name_file-clause-horizon g c = λ other. ap (λ (n : SnapshotData). n.horizon) (c.in-Ok-name_file.ensures.named ∙ c.in-Ok.ensures.after)
+returns-in-Ok-name_file-clause-horizon g c = ap (λ (n : SnapshotData). n.horizon) (c.in-Ok-name_file.ensures.named ∙ c.in-Ok.ensures.after)
 
 pub returns-clause-kept : goal.returns-clause-kept
 returns-clause-kept g c = λ wal batches lists parts begun other.
@@ -76,7 +76,4 @@ pub returns-clause-touches : goal.returns-clause-touches
 returns-clause-touches g c = λ has. c.name_file.ensures.touches c.args.self.now.number has
 
 pub returns-clause-horizon : goal.returns-clause-horizon
-returns-clause-horizon g c = λ other.
-    let full = append_full c.in-Err-name_file.fault (λ is. other (ap Err (c.of_append.ensures ∙ ap append_fault is))) in
-    let still = c.in-Err-name_file.ensures.untouched (ap Err full) in
-    ap (λ (m : Manifest). (names m).horizon) still.1
+returns-clause-horizon g c = ap (λ (n : SnapshotData). n.horizon) (c.in-Err-name_file.ensures.kept refl)

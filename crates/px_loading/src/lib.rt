@@ -1,0 +1,10 @@
+//! The cells of a region's files and of its log in one memory store.
+//!
+//! A region that is reopened reads its files once, block by block, and keeps all that is read of them and of the batches of
+//! its log as one sorted list in memory. `load` makes it: the newest file hides the older ones, and the log hides the files.
+#![tactic(auto)]
+
+mod loading;
+mod reading;
+
+pub use loading::load;
