@@ -4,6 +4,7 @@ use Rattle.px_outside.specs.declared.disk.Disk.{Ghosts}
 use Rattle.px_outside.proofs.Moments.{touches_none}
 use Rattle.px_cells.specs.CellData.{CellData}
 use Rattle.px_cells.specs.Order.{ReadsSame}
+use Rattle.px_merge.specs.Merged.{joined}
 use Rattle.px_merge.specs.Settle.{settle}
 use Rattle.px_merge.proofs.Settling.{settle_back, settle_is}
 use Rattle.px_wal.specs.Batches.{above, later_first}
@@ -30,11 +31,12 @@ module _ {D : Type 0} (d : Ghosts D) (region : Region) (disk : D) (up_to_now : (
   }
 
 module _ {D : Type 0} (d : Ghosts D) (region : Region) (disk : D) where
-  same_data : (s : RegionData) → Holds d region disk s → with_batch s [] ≡ s
-  same_data s holds = λ i. record { cells = q i; horizon = s.horizon; stamp = s.stamp }
+  -- a batch without a cell changes nothing
+  pub same_data : (s : RegionData) → Holds d region disk s → with_batch s [] ≡ s
+  same_data s holds = λ i. record { cells = q i; horizon = s.horizon }
     where
       older : List CellData
-      older = later_first (above (names region.manifest).flushed holds.batches)
+      older = later_first (above (names region.manifest).flushed holds.batches) ++ joined holds.lists
 
       is : s.cells ≡ settle older
       is = sym (store_is_all d region disk s holds) ∙ holds.store

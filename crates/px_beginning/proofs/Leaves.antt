@@ -15,6 +15,7 @@ use Rattle.px_phases.specs.Begun.{AreFrom, begun_batch}
 use Rattle.px_phases.specs.Phases.{ArePuts, AreTransitions, HasLongIndexed}
 use Rattle.px_region.specs.Promise.{IsAlike}
 use Rattle.px_region.specs.Region.{read_of}
+use Rattle.px_region.proofs.Alike.{alike_refl}
 use Rattle.px_region.specs.declared.region.Region.{Region}
 use Rattle.px_rows.specs.Keys.{IsRightTable, row_key}
 use Rattle.px_rows.specs.Spelled.{row_form}
@@ -44,7 +45,7 @@ use Rattle.px_values.specs.Limits.{most_key}
 
 pub alike_same : (xs : List IndexRegion) → AreAlike xs xs
 alike_same [] = tt
-alike_same (x ∷ xs) = ((refl, record { number = refl; wal = refl; manifest = refl; store = refl; cells = refl; bytes = refl }), alike_same xs)
+alike_same (x ∷ xs) = ((refl, alike_refl x.region), alike_same xs)
 
 pub alike_count : (xs ys : List IndexRegion) → AreAlike xs ys → length ys ≡ length xs
 alike_count [] [] a = refl

@@ -5,6 +5,7 @@ use Rattle.std.proofs.lemmas.Bool.{cases_eq}
 use Rattle.std.proofs.lemmas.List.{get_or-set_other, get_or-set_same}
 use Rattle.px_group.specs.declared.group.IndexRegion.{IndexRegion}
 use Rattle.px_region.specs.Promise.{IsAlike, IsSamePromise}
+use Rattle.px_region.proofs.Alike.{alike_refl, alike_then}
 use Rattle.px_region.specs.declared.region.Region.{Region}
 use Rattle.px_beginning.specs.Leaves.{AreAlike, AreSamePromises, AreTaken, IsTaken}
 use Rattle.px_beginning.specs.Refused.{IsRefusedAt, IsRefusedFrom}
@@ -29,19 +30,13 @@ put_here xs i d e v l = get_or-set_same xs i (record (get_or xs i d) { region = 
 pub put_there : (xs : List IndexRegion) (i k : ℕ) (d e : IndexRegion) (v : Region) → (i ≡ k → ⊥) → get_or (put xs i d v) k e ≡ get_or xs k e
 put_there xs i k d e v n = get_or-set_other xs i k (record (get_or xs i d) { region = v }) e (λ z. n (sym z))
 
-alike_refl : (x : Region) → IsAlike x x
-alike_refl x = record { number = refl; wal = refl; manifest = refl; store = refl; cells = refl; bytes = refl }
-
-pub alike_trans : (x y z : Region) → IsAlike x y → IsAlike y z → IsAlike x z
-alike_trans x y z a b = record { number = b.number ∙ a.number; wal = b.wal ∙ a.wal; manifest = b.manifest ∙ a.manifest; store = b.store ∙ a.store; cells = b.cells ∙ a.cells; bytes = b.bytes ∙ a.bytes }
-
 pub like_refl : (xs : List IndexRegion) → AreLike xs xs
 like_refl xs = record { count = refl; each = λ k d l. (refl, alike_refl (get_or xs k d).region) }
 
 pub like_trans : (xs ys zs : List IndexRegion) → AreLike xs ys → AreLike ys zs → AreLike xs zs
 like_trans xs ys zs a b = record {
   count = b.count ∙ a.count;
-  each = λ k d l. (let p = a.each k d l in let q = b.each k d (let n = a.count in omega arith) in (q.0 ∙ p.0, alike_trans (get_or xs k d).region (get_or ys k d).region (get_or zs k d).region p.1 q.1));
+  each = λ k d l. (let p = a.each k d l in let q = b.each k d (let n = a.count in omega arith) in (q.0 ∙ p.0, alike_then (get_or xs k d).region (get_or ys k d).region (get_or zs k d).region p.1 q.1));
 }
 
 pub like_put : (xs : List IndexRegion) (i : ℕ) (d : IndexRegion) (v : Region) → i < length xs → IsAlike (get_or xs i d).region v → AreLike xs (put xs i d v)

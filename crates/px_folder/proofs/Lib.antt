@@ -3,3 +3,4 @@ pub mod Once
 pub mod Found
 pub mod Reading
 pub mod Same
+pub mod Calls

@@ -1,5 +1,5 @@
 -- What is read of a folder.
-use Rattle.std.proofs.Common.{◌≡◌, ◌≢◌, ◌≤◌, ◌<◌, ◌+◌, ◌*◌, ◌⊎◌, ℕ, zero, suc, List, [], ◌∷◌, ◌++◌, length, take, drop, get_or, map, refl, sym, ap, subst, ◌∙◌, arith, inl, inr}
+use Rattle.std.proofs.Common.{◌≡◌, ◌≢◌, ◌≤◌, ◌<◌, ◌+◌, ◌⊎◌, ℕ, zero, suc, List, [], ◌∷◌, ◌++◌, length, take, drop, get_or, map, refl, sym, ap, subst, ◌∙◌, arith, inl, inr}
 use Rattle.std.specs.Prelude.{IfOk, IsTrue, IsPermutation, Result, Ok, Err}
 use Rattle.std.specs.List.{All, AllByRecursion, flat_map}
 use Rattle.std.proofs.lemmas.Bool.{cases_lt}
@@ -7,7 +7,7 @@ use Rattle.std.proofs.lemmas.List.Sorted.{All-permutation}
 use Rattle.std.proofs.lemmas.List.Elements.{All-from_recursion, All-map, All-push, All-same, All-weaker, recursion_from_All}
 use Rattle.std.proofs.lemmas.List.{map-append, take_more}
 use Rattle.px_outside.specs.Disk.{Image, IsLeft}
-use Rattle.px_outside.specs.OnDisk.{LeavesOnly, Only, Passes, Stays, TouchesOnly}
+use Rattle.px_outside.specs.OnDisk.{LeavesOnly, Only, Stays, TouchesOnly}
 use Rattle.px_outside.specs.Standing.{StandsIn}
 use Rattle.px_outside.specs.declared.disk.Disk.{Ghosts}
 use Rattle.px_outside.proofs.Moments.{only_kept, stays_touches, touches_more, touches_then}
@@ -72,14 +72,6 @@ module _ {D : Type 0} (d : Ghosts D) where
   more_read old mid new number r rs all are same quiet seen read number_is s stood holds =
       All-same (IsReadOn d old new) all (rs ++ r ∷ []) are (All-push (IsReadOn d old new) rs r (all_read old mid new quiet seen rs read) (one_read old mid new number r same number_is s stood holds))
 
-  pub passes_more : (old mid new : D) (i : ℕ) → Passes d old mid (12 * i) → Passes d mid new 12 → Passes d old new (12 * (i + 1))
-  passes_more old mid new i a b = record {
-    later = (let x = a.later in let y = b.later in omega arith);
-    at_most = (let x = a.at_most in let y = b.at_most in omega arith);
-    faults_later = (let x = a.faults_later in let y = b.faults_later in omega arith);
-    begun = b.begun ∙ a.begun;
-  }
-
   -- those that were read stand
   pub all_whole : (old new : D) (rs : List Region) (numbers : List ℕ) → map number_of rs ≡ numbers → All (IsReadOn d old new) rs → All (IsWhole (d.seen old)) numbers
   all_whole old new rs numbers are all =
@@ -87,7 +79,7 @@ module _ {D : Type 0} (d : Ghosts D) where
 
   -- ---- a folder
 
-  apart : (n file : ℕ) → 1 ≤ n → HasFile n file → catalogue_files file → ⊥
+  pub apart : (n file : ℕ) → 1 ≤ n → HasFile n file → catalogue_files file → ⊥
   apart n file some own (inl is) = (let e = own.is in omega arith)
   apart n file some own (inr is) = (let e = own.is in omega arith)
 
@@ -246,12 +238,3 @@ module _ {D : Type 0} (d : Ghosts D) (old mid new : D) (touches : TouchesOnly d 
 pub ok_then : {A E : Type 0} (P Q : A → Type 0) → ((x : A) → P x → Q x) → (r : Result A E) → IfOk r P → IfOk r Q
 ok_then P Q to (Ok x) holds = to x holds
 ok_then P Q to (Err e) holds = tt
-
--- the calls of a folder that is read
-pub folder_counts : {D : Type 0} (d : Ghosts D) (old mid new : D) (s t : Standing) → s ≡ t → Passes d old mid 17 → Passes d mid new (12 * length (region_numbers s)) → Passes d old new (17 + 12 * length (region_numbers t))
-folder_counts d old mid new s t same first second = subst (λ (x : Standing). Passes d old new (17 + 12 * length (region_numbers x))) same (record {
-  later = omega (arith, first.later, second.later);
-  at_most = omega (arith, first.at_most, second.at_most);
-  faults_later = omega (arith, first.faults_later, second.faults_later);
-  begun = second.begun ∙ first.begun;
-})

@@ -1,3 +1,4 @@
 pub mod Read
 pub mod Drawn
 pub mod Damage
+pub mod Calls

@@ -1,5 +1,5 @@
 // Reading a folder.
-ghost use Rattle.std.specs.Prelude.{◌≡◌, ◌≢◌, ◌≤◌, ◌+◌, ◌*◌, ℕ, List, length, map, All, IsTrue, IfOk, Err, IsPermutation, IsSorted};
+ghost use Rattle.std.specs.Prelude.{◌≡◌, ◌≢◌, ◌≤◌, ◌+◌, ℕ, List, map, sum_by, All, IsTrue, IfOk, Err, IsPermutation, IsSorted};
 ghost use Rattle.std.specs.Ordering.{nat_cmp};
 ghost use Rattle.px_outside.specs.OnDisk.{LeavesOnly, Passes, Rose, Stays, TouchesOnly};
 ghost use Rattle.px_outside.specs.Parts.{AreDistinct};
@@ -7,6 +7,7 @@ ghost use Rattle.px_catalog.specs.Catalogue.{CatalogueStands, HasCatalogue, cata
 ghost use Rattle.px_recovery.specs.Base.{IsSound, IsSoundFolder};
 ghost use Rattle.px_recovery.specs.Folder.{AreFresh, FolderData, IsEmptyFrom, StandsFor, StandsOn, region_numbers};
 ghost use Rattle.px_folder.specs.Read.{IsReadOn, folder_of, number_of};
+ghost use Rattle.px_folder.specs.Calls.{AreOpenedBy};
 ghost use Rattle.px_folder.specs.Drawn.{AreDrawn};
 ghost use Rattle.px_folder.specs.Damage.{IsDamagedBelow, IsDamagedIn, IsFirstDamaged};
 
@@ -38,7 +39,7 @@ fn open_regions<D: Disk>(
     ensures quiet { Stays ⟦<D as Disk>⟧ disk.old disk.new }
     ensures read_failed { result ≡ Err StartFault.ReadFault → Rose ⟦<D as Disk>⟧ disk.old disk.new }
     ensures write_failed { result ≡ Err StartFault.WriteFault → Rose ⟦<D as Disk>⟧ disk.old disk.new }
-    ensures counts { Passes ⟦<D as Disk>⟧ disk.old disk.new (12 * length numbers.now) }
+    ensures opened_by { (calls : ℕ → ℕ) → IsTrue D.tells → AreOpenedBy (D.seen disk.old) numbers.now calls → IfOk result (λ rs. Passes ⟦<D as Disk>⟧ disk.old disk.new (sum_by calls numbers.now)) }
 {
     let mut regions = Vec::new(alloc);
     for number in numbers {
@@ -74,7 +75,7 @@ fn read_regions<D: Disk>(
     ensures quiet { Stays ⟦<D as Disk>⟧ disk.old disk.new }
     ensures read_failed { result ≡ Err StartFault.ReadFault → Rose ⟦<D as Disk>⟧ disk.old disk.new }
     ensures write_failed { result ≡ Err StartFault.WriteFault → Rose ⟦<D as Disk>⟧ disk.old disk.new }
-    ensures counts { Passes ⟦<D as Disk>⟧ disk.old disk.new (12 * length (region_numbers standing.now)) }
+    ensures opened_by { (calls : ℕ → ℕ) → IsTrue D.tells → AreOpenedBy (D.seen disk.old) (region_numbers standing.now) calls → IfOk result (λ rs. Passes ⟦<D as Disk>⟧ disk.old disk.new (sum_by calls (region_numbers standing.now))) }
 {
     let mut numbers = numbers_of(alloc, standing)?;
     if !are_drawn(standing, &numbers) {
@@ -112,8 +113,9 @@ impl Folder {
         ensures read_failed { result ≡ Err StartFault.ReadFault → Rose ⟦<D as Disk>⟧ disk.old disk.new }
         ensures write_failed { result ≡ Err StartFault.WriteFault → Rose ⟦<D as Disk>⟧ disk.old disk.new }
 
-        // It takes 17 calls at most, and 12 for each region.
-        ensures counts { IfOk result (λ w. Passes ⟦<D as Disk>⟧ disk.old disk.new (17 + 12 * length (region_numbers (standing_of w.catalog)))) }
+        // It takes 17 calls at most, and those of each region.
+        ensures opened_by { (calls : ℕ → ℕ) → IsTrue D.tells
+            → IfOk result (λ w. AreOpenedBy (D.seen disk.old) (region_numbers (standing_of w.catalog)) calls → Passes ⟦<D as Disk>⟧ disk.old disk.new (17 + sum_by calls (region_numbers (standing_of w.catalog)))) }
     {
         let catalog = Catalog::start(alloc, disk)?;
         match read_regions(alloc, disk, catalog.standing()) {

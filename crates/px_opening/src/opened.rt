@@ -1,11 +1,12 @@
 // Opening a folder.
-ghost use Rattle.std.specs.Prelude.{◌≡◌, ◌≢◌, ◌≤◌, ◌+◌, ◌*◌, ◌⊎◌, ℕ, length, All, IsTrue, IfOk, IsPermutation, Err, map};
+ghost use Rattle.std.specs.Prelude.{◌≡◌, ◌≢◌, ◌≤◌, ◌+◌, ◌⊎◌, ℕ, length, sum_by, All, IsTrue, IfOk, IsPermutation, Err, map};
 ghost use Rattle.px_outside.specs.OnDisk.{LeavesOnly, Passes, Rose, TouchesOnly};
 ghost use Rattle.px_outside.specs.Parts.{AreDistinct};
 ghost use Rattle.px_region.specs.Region.{RegionData};
 ghost use Rattle.px_catalog.specs.Catalogue.{HasCatalogue, catalogue_files, is_open as opened_catalogue, standing_of};
 ghost use Rattle.px_recovery.specs.Base.{IsSound, IsSoundFolder};
 ghost use Rattle.px_recovery.specs.Folder.{AreFresh, FolderData, IsEmptyFrom, StandsFor, StandsOn, region_numbers};
+ghost use Rattle.px_folder.specs.Calls.{AreOpenedBy};
 ghost use Rattle.px_folder.specs.Damage.{IsFirstDamaged};
 ghost use Rattle.px_folder.specs.Drawn.{AreDrawn};
 ghost use Rattle.px_folder.specs.Read.{IsReadOn, folder_by, number_of};
@@ -120,8 +121,9 @@ pub fn open<D: Disk>(alloc: Global, disk: &mut D) -> Result<Opened, OpenFault>
     ensures read_failed { result ≡ Err OpenFault.ReadFault → Rose ⟦<D as Disk>⟧ disk.old disk.new }
     ensures write_failed { result ≡ Err OpenFault.WriteFault → Rose ⟦<D as Disk>⟧ disk.old disk.new }
 
-    // It takes 17 calls at most, and 12 for each region.
-    ensures counts { IfOk result (λ o. Passes ⟦<D as Disk>⟧ disk.old disk.new (17 + 12 * length (region_numbers (standing_of o.catalog)))) }
+    // It takes 17 calls at most, and those of each region.
+    ensures opened_by { (calls : ℕ → ℕ) → IsTrue D.tells
+        → IfOk result (λ o. AreOpenedBy (D.seen disk.old) (region_numbers (standing_of o.catalog)) calls → Passes ⟦<D as Disk>⟧ disk.old disk.new (17 + sum_by calls (region_numbers (standing_of o.catalog)))) }
 {
     let Folder { catalog, regions } = Folder::read(alloc, disk)?;
     assembled(alloc, catalog, regions)

@@ -167,7 +167,6 @@ at_once_quiet st p a (right.is_under_scn x read may scn says) = ap (refused_by i
 at_once_quiet st p a (right.is_wrong_table t fault read whole scn first says) = ap (refused_by is_of_disk) says.0 ∙ bind_quiet fault
 at_once_quiet st p a (right.is_no_command e read says) = ap (refused_by is_of_disk) says.0 ∙ command_quiet e
 at_once_quiet st p a (right.is_command c read says) = says_quiet st c a says
-at_once_quiet st p a (right.is_held_as_whole x read held says) = ap (refused_by is_of_disk) says.0
 at_once_quiet st p a (right.is_command_not_built c read built says) = ap (refused_by is_of_disk) says.0
 at_once_quiet st p a (right.is_lacking says) = ap (refused_by is_of_disk) says.0
 
@@ -383,7 +382,11 @@ module _ (sound : Type 0) (k : Known) (whole : k.damaged ≡ undamaged) where
       did own _ a.reply (reply.Count m.rows Affected) h.own_is
       (balanced-append h.finding h.making (found_balanced sound (right.deletion_query f x) k m.first h.finding h.changes h.found) (made_balanced k f.table.id h.parts a.receipts h.making h.made)) says.0 refl
   fair before own st p a (right.is_not_deleted x f fault read scn on bound fits h since stops says) = not_deleted x.table (right.deletion_query f x) own a.receipts fault a.reply h stops
-  fair before own st p a (right.is_not_found x f fault read scn on bound fits outcome since says) =
+  fair before own st p a (right.is_not_found x f fault read scn bound fits outcome since says) =
       not_selected x.table (query_of (right.deletion_query f x)) None fault own a.reply outcome.0 outcome.1 (⊎_elim (λ is. inl is.0) (λ is. inr is.0) says)
+  fair before own st p a (right.are_held x f first cs st' read scn off bound fits found from holding says) =
+      did own own a.reply (reply.Count _ Held) refl (found_balanced sound (right.deletion_query f x) k first own cs found) says.0 refl
+  fair before own st p a (right.are_too_many x f first cs read scn off bound fits found from many says) =
+      did own own a.reply (reply.Refused (refusal.Limit Rows)) refl (found_balanced sound (right.deletion_query f x) k first own cs found) says.0 refl
   fair before own st p a (right.is_explained q f x read bound planned says none) = still own a.reply (reply.Explained (explained x)) none says.0 refl
   fair before own st p a (right.is_not_explained q f read bound planned says none) = still own a.reply (reply.Refused refusal.IndexJoin) none says.0 refl

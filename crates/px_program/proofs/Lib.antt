@@ -5,4 +5,5 @@ pub mod Items
 pub mod Ran
 pub mod Serving
 pub mod Sessions
+pub mod Later
 pub mod Stops

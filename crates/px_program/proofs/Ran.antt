@@ -1,6 +1,6 @@
 -- What a run leaves, by what its parts leave.
-use Rattle.std.proofs.Common.{◌≡◌, ◌≢◌, ◌<◌, ◌≤◌, ◌⊎◌, ◌+◌, ◌*◌, inl, inr, ℕ, zero, suc, Bool, true, false, List, [], None, IsTrue, refl, sym, ap, subst, ◌∙◌, arith}
-use Rattle.std.specs.Prelude.{Option, Some, drop, length, take, map, option_map}
+use Rattle.std.proofs.Common.{◌≡◌, ◌≢◌, ◌<◌, ◌≤◌, ◌⊎◌, ◌+◌, inl, inr, ℕ, zero, suc, Bool, true, false, List, [], None, IsTrue, refl, sym, ap, subst, ◌∙◌, arith}
+use Rattle.std.specs.Prelude.{Option, Some, drop, take, map, option_map, sum_by}
 use Rattle.std.specs.Option.{is_some}
 use Rattle.std.proofs.lemmas.Bool.{cases_lt, false≢true}
 use Rattle.px_outside.specs.Disk.{Image}
@@ -13,6 +13,7 @@ use Rattle.px_outside.specs.declared.source.Source.{Ghosts as SourceGhosts}
 use Rattle.px_recovery.specs.Base.{IsSound, IsSoundFolder, base_of}
 use Rattle.px_recovery.specs.Folder.{FolderData, IsEmptyFrom, StandsFor, StandsOn, region_numbers}
 use Rattle.px_recovery.specs.Stands.{Recovers}
+use Rattle.px_folder.specs.Calls.{AreOpenedBy}
 use Rattle.px_folder.specs.Damage.{IsFirstDamaged}
 use Rattle.px_reply.specs.Printed.{printed}
 use Rattle.px_opening.specs.Opened.{folder_in}
@@ -84,7 +85,7 @@ module _ {D C O : Type 0} (d : DiskGhosts D) (c : ClockGhosts C) (k : SinkGhosts
   pub opened_ran : (tells_left : (x : D) (moment file : ℕ) (bytes : List ℕ) → d.left x moment file bytes → IsTrue d.tells) (w : Opened)
       → (IsTrue d.tells → IsEmptyFrom (folder_in w).standing.next (d.seen old) → StandsFor (d.seen old) (folder_in w))
       → (IsTrue d.tells → IsSound (d.seen old) → StandsFor (d.seen old) (folder_in w) × IsSoundFolder (folder_in w))
-      → Passes d old new (17 + 12 * length (region_numbers (folder_in w).standing)) → (IsTrue d.tells → TouchesOnly d old new catalogue_files)
+      → ((calls : ℕ → ℕ) → IsTrue d.tells → AreOpenedBy (d.seen old) (region_numbers (folder_in w).standing) calls → Passes d old new (17 + sum_by calls (region_numbers (folder_in w).standing))) → (IsTrue d.tells → TouchesOnly d old new catalogue_files)
       → (StartsSound d old → IsTrue d.tells → IsOpenedOn d new w) → (ReadsSound d old → IsTrue d.tells → IsOpenedNow d new w)
       → d.calls new ≤ d.calls o.disk → ((moment file : ℕ) (bytes : List ℕ) → moment < d.calls new → d.left o.disk moment file bytes → d.left new moment file bytes)
       → RanOpened d c k (base_of (folder_in w)) (IsSoundFolder (folder_in w)) (IsTrue d.tells → IsOpenedNow d new w) (beginning_at d new) (IsLeftSince d (d.calls new) (StoodBefore d new w)) (c.times clock) script new out out' o → RanOn d c k script clock old out out' o
@@ -92,7 +93,7 @@ module _ {D C O : Type 0} (d : DiskGhosts D) (c : ClockGhosts C) (k : SinkGhosts
     folder = folder_in w;
     origin = record { stands = stood; sound = sound };
     opened = d.calls new;
-    soon = passes.at_most;
+    soon = λ tells calls by. (passes calls tells by).at_most;
     within = within;
     before = λ moment file bytes since until other left. (touches (tells_left o.disk moment file bytes left)).others moment file bytes since other (past moment file bytes until left);
     over = record {

@@ -9,10 +9,7 @@ use Rattle.px_outside.specs.declared.disk.Disk.{Ghosts as DiskGhosts}
 use Rattle.px_outside.specs.declared.sink.Sink.{Ghosts as SinkGhosts}
 use Rattle.px_outside.proofs.Parts.{all_now}
 use Rattle.px_trail.specs.Trail.{Base}
-use Rattle.px_gatelog.specs.Format.{LogForm, LogRecord}
-use Rattle.px_gatelog.specs.Records.{HasLog}
-use Rattle.px_gatelog.specs.declared.gate_log.GateLog.{GateLog}
-use Rattle.px_region.specs.declared.region.Region.{Region}
+use Rattle.px_region.specs.Region.{data_of}
 use Rattle.px_catalog.specs.Catalogue.{HasCatalogue, standing_of}
 use Rattle.px_catalog.specs.declared.catalog.Catalog.{Catalog}
 use Rattle.px_recovery.specs.Base.{IsSound, IsSoundFolder, base_of}
@@ -23,6 +20,7 @@ use Rattle.px_opening.specs.Opened.{all_regions, folder_in}
 use Rattle.px_opening.specs.declared.opened.Opened.{Opened}
 use Rattle.px_server.specs.Others.{Beginning, BeginsAt}
 use Rattle.px_server.specs.Started.{HoldsOwn, IsOpenedOn, StartsSound}
+use Rattle.px_program.proofs.Later.{holds_later, later, log_later}
 use Rattle.px_program.specs.Run.{ReadsSound}
 use Rattle.px_program.specs.inner.Running.{IsOpenedNow, RanOpened, StoodBefore, IsLeftSince, at_least}
 use Rattle.px_program.specs.declared.outcome.Outcome.{Outcome}
@@ -50,44 +48,11 @@ module _ {D : Type 0} (d : DiskGhosts D) (old : D) (o : Opened) (told : IsSound 
 
 -- ---- the disk with fewer stops
 
--- the disk of which stops are told at these moments
-abbrev pub later : {D : Type 0} → DiskGhosts D → (ℕ → Type 0) → DiskGhosts D
-later d tell = record { tells = d.tells; seen = d.seen; first = d.first; left = λ m moment file bytes. tell moment × d.left m moment file bytes; calls = d.calls; faults = d.faults; first_fault = d.first_fault }
-
 module _ {D : Type 0} (d : DiskGhosts D) (tell : ℕ → Type 0) (disk : D) where
-  log_later : (form : LogForm) (first second : ℕ) (log : GateLog) (records next : List LogRecord) → HasLog d form first second disk log records next → HasLog (later d tell) form first second disk log records next
-  log_later form first second log records next k = record {
-    segments = k.segments;
-    first_is = k.first_is;
-    second_is = k.second_is;
-    settled = record {
-      told = k.settled.told;
-      first_durable = λ bytes left. k.settled.first_durable bytes left.1;
-      second_durable = λ bytes left. k.settled.second_durable bytes left.1;
-      state = k.settled.state;
-    };
-    records_are = k.records_are;
-    laid = λ one. record { made = (k.laid one).made };
-  }
-
-  holds_later : (r : Region) → HoldsOwn d disk r → HoldsOwn (later d tell) disk r
-  holds_later r k = record {
-    batches = k.batches;
-    manifest = record { records = k.manifest.records; log = log_later _ _ _ _ _ _ k.manifest.log; last = k.manifest.last; right = k.manifest.right };
-    no_file = k.no_file;
-    log = record { log = log_later _ _ _ _ _ _ k.log.log; right = k.log.right; last = k.log.last };
-    store = k.store;
-    cells = k.cells;
-    horizon = k.horizon;
-    stamp = k.stamp;
-    counted = k.counted;
-    weighed = k.weighed;
-  }
-
   catalogue_later : (c : Catalog) → HasCatalogue d c disk → HasCatalogue (later d tell) c disk
   catalogue_later c k = record {
     records = k.records;
-    log = log_later _ _ _ _ _ _ k.log;
+    log = log_later d tell disk _ _ _ _ _ _ k.log;
     value = k.value;
     right = k.right;
     short = λ none. (λ bytes left. (k.short none).0 bytes left.1, λ bytes left. (k.short none).1 bytes left.1);
@@ -131,7 +96,7 @@ module _ {D : Type 0} (d : DiskGhosts D) (up_to_now : (x : D) (moment file : ℕ
     left = λ moment image left. each moment image (left 0).0 (λ file. (left file).1);
     stands = stands_later d (at_least at all) disk (folder_in o) k.stands;
     catalogue = catalogue_later d (at_least at all) disk o.catalog k.catalogue;
-    regions = All-weaker (HoldsOwn d disk) (HoldsOwn (later d (at_least at all)) disk) (holds_later d (at_least at all) disk) (all_regions o) k.regions;
+    regions = All-weaker (HoldsOwn d disk) (HoldsOwn (later d (at_least at all)) disk) (λ r own. holds_later d (at_least at all) disk r (data_of r) own) (all_regions o) k.regions;
   }
     where
       each : (moment : ℕ) (image : Image) → at_least at all moment → IsLeft d disk moment image → StandsFor image (folder_in o)

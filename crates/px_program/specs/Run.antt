@@ -1,5 +1,5 @@
 -- What a run of the program leaves.
-use Rattle.std.specs.Prelude.{◌≡◌, ◌≢◌, ◌<◌, ◌≤◌, ◌+◌, ◌*◌, ◌⊎◌, ℕ, Bool, true, false, List, [], length, take, drop, IsTrue, Option, None, Some}
+use Rattle.std.specs.Prelude.{◌≡◌, ◌≢◌, ◌<◌, ◌≤◌, ◌+◌, ◌⊎◌, ℕ, Bool, true, false, List, [], take, drop, IsTrue, sum_by, Option, None, Some}
 use Rattle.px_outside.specs.Disk.{Image}
 use Rattle.px_outside.specs.Faults.{FaultsRose}
 use Rattle.px_outside.specs.OnDisk.{IsLeft, Only, TouchesOnly, Rose}
@@ -18,6 +18,7 @@ use Rattle.px_recovery.specs.Base.{IsSound, IsSoundFolder, base_of}
 use Rattle.px_recovery.specs.Folder.{FolderData, IsEmptyFrom, StandsFor, from, region_numbers}
 use Rattle.px_recovery.specs.Kept.{IsLate}
 use Rattle.px_recovery.specs.Stands.{Recovers}
+use Rattle.px_folder.specs.Calls.{AreOpenedBy}
 use Rattle.px_folder.specs.Damage.{IsFirstDamaged}
 use Rattle.px_rounds.specs.Written.{IsWritten}
 use Rattle.px_server.specs.Kept.{HasFailed, has_told}
@@ -140,7 +141,7 @@ pub record IsRun {D C I O : Type 0} (d : DiskGhosts D) (c : ClockGhosts C) (s : 
   pub stops_recover : StartsSound d given.disk → (moment : ℕ) (image : Image) → IsLeft d left.outcome.disk moment image → Recovers (base_of folder) left.outcome.trail.entries left.outcome.late moment image
   -- and so does each at a moment from the opening's end on, where a stop may lose what reads gave at first; before it a stop leaves the files as at first, but for the catalogue's
   pub opened : ℕ
-  pub opened_soon : opened ≤ d.calls given.disk + (17 + 12 * length (region_numbers folder.standing))
+  pub opened_soon : IsTrue d.tells → (calls : ℕ → ℕ) → AreOpenedBy (d.seen given.disk) (region_numbers folder.standing) calls → opened ≤ d.calls given.disk + (17 + sum_by calls (region_numbers folder.standing))
   pub opened_within : opened ≤ d.calls left.outcome.disk
   pub before_it : (moment file : ℕ) (bytes : List ℕ) → d.calls given.disk ≤ moment → moment < opened → ¬ catalogue_files file → d.left left.outcome.disk moment file bytes → d.left given.disk (d.calls given.disk) file bytes
   pub stops_recover_later : ReadsSound d given.disk → (moment : ℕ) (image : Image) → opened ≤ moment → IsLeft d left.outcome.disk moment image → Recovers (base_of folder) left.outcome.trail.entries left.outcome.late moment image

@@ -36,7 +36,6 @@ use Rattle.px_trail.specs.declared.entry.Entry.{Entry}
 use Rattle.px_values.specs.Limits.{most_key}
 use Rattle.px_values.specs.States.{RowState}
 use Rattle.px_values.specs.declared.row.Value.{Value}
-use Rattle.px_wal.specs.Manifest.{names}
 use Rattle.px_world.specs.Events.{due}
 use Rattle.px_group.specs.Group.{IsRightGroup, IsRightPart, IsShownBy, IsTallied, form_of}
 use Rattle.px_group.specs.declared.group.Group.{Group}
@@ -54,7 +53,7 @@ module _ (g h : Group) (looked : HasLooked g h) where
   pub looked_told : (b : Base) (index : ℕ → IndexForm) (es : List Entry) (v : GroupData) → IsToldBy b index es g v → IsToldBy b index es h v
   looked_told b index es v k = record {
     told = subst (λ (t : Table). AreTold (table_form b t.id index (row_form t)) es v) (sym looked.table) k.told;
-    own = λ i y at. (let z = looked_back g.indexes.items h.indexes.items looked.indexes i y at in k.own i z.0 z.1.0 ∙ ap (λ m. (names m).horizon) (sym z.1.1.region.alike.manifest));
+    own = λ i y at. (let z = looked_back g.indexes.items h.indexes.items looked.indexes i y at in k.own i z.0 z.1.0 ∙ sym z.1.1.region.alike.horizon);
   }
 
   pub looked_key : (place : ℕ) (k : List ℕ) → ((x : IndexRegion) → slice_get g.indexes.items place ≡ Some x → IsKeyIn g x k) → (y : IndexRegion) → slice_get h.indexes.items place ≡ Some y → IsKeyIn h y k

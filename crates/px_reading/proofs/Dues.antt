@@ -27,7 +27,6 @@ use Rattle.px_trail.specs.declared.entry.Entry.{Entry}
 use Rattle.px_values.specs.Limits.{most_key}
 use Rattle.px_values.specs.States.{RowState, Shape}
 use Rattle.px_values.specs.declared.row.Value.{Value}
-use Rattle.px_wal.specs.Manifest.{names}
 use Rattle.px_world.specs.Events.{Leave, due}
 use Rattle.px_world.specs.World.{World}
 use Rattle.px_group.specs.Group.{IsRightGroup, IsRightPart, IsShownBy, IsTallied, form_of}
@@ -121,7 +120,7 @@ module _ (b : Base) (index : ℕ → IndexForm) (es : List Entry) (g : Group) (v
         e ∙ ap (λ (y : IndexRegion). above_verdict (has_stamp s cells) (is_key_in k (key_of_state g.table y.index r ((row_form g.table).spelled (value_at cells) r s)))) part_at
         ∙ sym (due_above b index es g v hs tallied shown told place x at r cells row k s free (subst (λ (n : ℕ). n < s) horizon_same l))
 
-    module _ (owner : r ≡ row_of_index g.table x.index k) (seen : Option KeyVersion) (seen_is : seen ≡ version_seen g x k s) (stands : s ≤ horizon_at g x → seen ≢ None) (l : s ≤ h) (floor : ℕ) (floor_is : floor ≡ max part.index.birth (names part.region.manifest).horizon) where
+    module _ (owner : r ≡ row_of_index g.table x.index k) (seen : Option KeyVersion) (seen_is : seen ≡ version_seen g x k s) (stands : s ≤ horizon_at g x → seen ≢ None) (l : s ≤ h) (floor : ℕ) (floor_is : floor ≡ max part.index.birth part.region.horizon) where
       low : s ≤ horizon_at g x
       low = subst (λ (n : ℕ). s ≤ n) horizon_same l
 
@@ -143,7 +142,7 @@ module _ (b : Base) (index : ℕ → IndexForm) (es : List Entry) (g : Group) (v
       by_below judged =
           let z = given_some seen (stands low) in
           let found : Told part.index h floor z.0 = from_some (Told part.index h floor) seen z.0 z.1 judged in
-          let at_x : Told x.index (horizon_at g x) (max x.index.birth (names x.region.manifest).horizon) z.0 = (subst (λ (n : ℕ). Told x.index (horizon_at g x) n z.0) (floor_is ∙ ap (λ (y : IndexRegion). max y.index.birth (names y.region.manifest).horizon) part_at)
+          let at_x : Told x.index (horizon_at g x) (max x.index.birth x.region.horizon) z.0 = (subst (λ (n : ℕ). Told x.index (horizon_at g x) n z.0) (floor_is ∙ ap (λ (y : IndexRegion). max y.index.birth y.region.horizon) part_at)
           (subst (λ (n : ℕ). Told x.index n floor z.0) horizon_same (subst (λ (y : IndexRegion). Told y.index h floor z.0) part_at found))) in
           at_x (row_form g.table).shape w (below b index es g v hs tallied shown told place x at r cells row k s mine inside z.0 (sym seen_is ∙ z.1) free low)
           ∙ ap (λ (f : IndexForm). due (shape_at (row_form g.table).shape f r) w k s) (sym (form_at b index es g v hs tallied shown told place x at r cells row))

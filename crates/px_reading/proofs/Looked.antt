@@ -8,6 +8,7 @@ use Rattle.px_groupworld.specs.Group.{GroupData, IndexPart}
 use Rattle.px_indexrow.specs.Form.{IsRightIndex, index_form}
 use Rattle.px_openbatches.specs.Pending.{HeldBatch}
 use Rattle.px_region.specs.Promise.{IsAlike, IsSamePromise}
+use Rattle.px_region.proofs.Alike.{alike_refl, alike_then}
 use Rattle.px_region.specs.Region.{read_of}
 use Rattle.px_region.specs.declared.region.Region.{Region}
 use Rattle.px_tables.specs.declared.index.Index.{Index}
@@ -155,20 +156,13 @@ module _ (g g' : Group) (looked : HasLooked g g') where
 
 same_look : (a b c : Region) → IsLookedAt a b → IsLookedAt b c → IsLookedAt a c
 same_look a b c k l = record {
-  alike = record {
-    number = l.alike.number ∙ k.alike.number;
-    wal = l.alike.wal ∙ k.alike.wal;
-    manifest = l.alike.manifest ∙ k.alike.manifest;
-    store = l.alike.store ∙ k.alike.store;
-    cells = l.alike.cells ∙ k.alike.cells;
-    bytes = l.alike.bytes ∙ k.alike.bytes;
-  };
+  alike = alike_then a b c k.alike l.alike;
   promised = record { cells = l.promised.cells ∙ k.promised.cells; bytes = l.promised.bytes ∙ k.promised.bytes };
 }
 
 pub no_look : (a : Region) → IsLookedAt a a
 no_look a = record {
-  alike = record { number = refl; wal = refl; manifest = refl; store = refl; cells = refl; bytes = refl };
+  alike = alike_refl a;
   promised = record { cells = refl; bytes = refl };
 }
 

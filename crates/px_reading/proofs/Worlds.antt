@@ -24,7 +24,6 @@ use Rattle.px_trail.specs.Trail.{Base}
 use Rattle.px_trail.specs.declared.entry.Entry.{Entry}
 use Rattle.px_values.specs.States.{RowState, Shape as RowShape}
 use Rattle.px_values.specs.declared.row.Value.{Value}
-use Rattle.px_wal.specs.Manifest.{names}
 use Rattle.px_world.specs.Events.{Leave, ToVerify, ToRetire, ToErase, due}
 use Rattle.px_world.specs.Shape.{all_below, has_key, same_cell, shows}
 use Rattle.px_world.specs.World.{Fate, Unbegun, Undecided, Written, Lost, World, horizon, is_undecided, is_written, st, vis}
@@ -146,7 +145,7 @@ module _ (b : Base) (index : ℕ → IndexForm) (es : List Entry) (g : Group) (v
           vis_is (row_form g.table).shape b es g.table.id.0 v.high (index_in (form_of b index g) v place) r key (ap (λ (z : IndexForm). z.owns r key) form ∙ mine) c (subst (λ (z : IndexForm). c < z.columns) (sym form) l) (horizon_at g x)
           ∙ (λ i. value_seen (at_key (value_at ((shown.parts place x at).cells i)) key) ((form i).place c) (horizon_at g x))
 
-      pub below : (version : KeyVersion) → version_seen g x key s ≡ Some version → is_pending g s r ≡ false → s ≤ horizon_at g x → IsBelow g.table x.index r cells key s (horizon_at g x) (max x.index.birth (names x.region.manifest).horizon) version.values w
+      pub below : (version : KeyVersion) → version_seen g x key s ≡ Some version → is_pending g s r ≡ false → s ≤ horizon_at g x → IsBelow g.table x.index r cells key s (horizon_at g x) (max x.index.birth x.region.horizon) version.values w
       below version e free low = record {
         decided = undecided s ∙ free;
         horizon_is = horizon_is;

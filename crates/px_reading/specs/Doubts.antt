@@ -28,7 +28,6 @@ use Rattle.px_values.specs.Limits.{most_key}
 use Rattle.px_values.specs.States.{RowState}
 use Rattle.px_values.specs.declared.row.Value.{Value}
 use Rattle.px_values.specs.declared.row.Value.TheVariants.{Null}
-use Rattle.px_wal.specs.Manifest.{names}
 use Rattle.px_world.specs.Events.{Verdict, ToVerify, ToRetire, ToErase}
 use Rattle.px_world.specs.World.{World, horizon, is_undecided, st, vis}
 use Rattle.px_shown.specs.Told.{is_key_in}
@@ -60,7 +59,7 @@ version_seen g x k s = version_at (at_key (value_at (read_of x.region)) k) x.ind
 -- of its manifest
 pub record IsToldBy (b : Base) (index : ℕ → IndexForm) (es : List Entry) (g : Group) (v : GroupData) : Type 0 where
   pub told : AreTold (form_of b index g) es v
-  pub own : (i : ℕ) (x : IndexRegion) → slice_get g.indexes.items i ≡ Some x → (get_or v.indexes i no_part).horizon ≡ (names x.region.manifest).horizon
+  pub own : (i : ℕ) (x : IndexRegion) → slice_get g.indexes.items i ≡ Some x → (get_or v.indexes i no_part).horizon ≡ x.region.horizon
 
 -- a row's primary key values, and its cells
 pub record IsRowOf (t : Table) (r : List Value) (cells : List CellData) : Type 0 where

@@ -23,18 +23,20 @@ use Rattle.px_recovery.proofs.Regions.{parts_apart}
 pub empty_stands : (n : ℕ) (image : Image) → ((local : ℕ) → local < 4 → image (file_of n local) ≡ []) → Stands n image no_data
 empty_stands n image none = record {
   named = nothing_named;
-  batches = [];
-  manifest = record {
-    records = [];
-    stands = empty_records manifest_form (file_of n 2) (file_of n 3) image (none 2 (omega arith)) (none 3 (omega arith));
-    last = none_recorded refl refl;
-    right = record { flushed = omega arith; horizon = omega arith; stamp = omega arith; compactions = omega arith; few = omega arith; files = tt };
+  reads = record {
+    batches = [];
+    lists = [];
+    manifest = record {
+      records = [];
+      stands = empty_records manifest_form (file_of n 2) (file_of n 3) image (none 2 (omega arith)) (none 3 (omega arith));
+      last = none_recorded refl refl;
+      right = record { flushed = omega arith; horizon = omega arith; stamp = omega arith; compactions = omega arith; few = omega arith; files = tt };
+    };
+    log = record { records = empty_records (wal_form 0) (file_of n 0) (file_of n 1) image (none 0 (omega arith)) (none 1 (omega arith)); right = record { each = tt; rising = tt; first = tt } };
+    files = tt;
+    is = sym (settle_sorted [] tt);
   };
-  no_file = refl;
-  log = record { records = empty_records (wal_form 0) (file_of n 0) (file_of n 1) image (none 0 (omega arith)) (none 1 (omega arith)); right = record { each = tt; rising = tt; first = tt } };
-  cells = sym (settle_sorted [] tt);
-  horizon = refl;
-  stamp = refl;
+  horizon_is = refl;
 }
 
 -- ---- calls on the catalogue's files

@@ -76,7 +76,7 @@ IsEmptyFrom n image = (file : ℕ) → from n file → image file ≡ []
 
 -- a region that is still to be made has nothing
 abbrev pub no_data : RegionData
-no_data = record { cells = []; horizon = 0; stamp = 0 }
+no_data = record { cells = []; horizon = 0 }
 
 abbrev pub AreUnmade : FolderData → Type 0
 AreUnmade f = (n : ℕ) → f.standing.next ≤ n → f.regions n ≡ no_data

@@ -3,3 +3,6 @@ pub mod Given
 pub mod Opening
 pub mod OneStanding
 pub mod Fresh
+pub mod Steps
+pub mod Alike
+pub mod Calls

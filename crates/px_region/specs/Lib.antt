@@ -3,3 +3,5 @@ pub mod Promise
 pub mod Giving
 pub mod Opened
 pub mod Fresh
+pub mod Faults
+pub mod Calls

@@ -28,6 +28,8 @@ pub record IsAlike (old new : Region) : Type 0 where
   pub number : new.number ≡ old.number
   pub wal : new.wal ≡ old.wal
   pub manifest : new.manifest ≡ old.manifest
+  pub flushing : new.flushing ≡ old.flushing
+  pub horizon : new.horizon ≡ old.horizon
   pub store : new.store.cells ≡ old.store.cells
   pub cells : new.cells ≡ old.cells
   pub bytes : new.bytes ≡ old.bytes

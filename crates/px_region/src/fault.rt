@@ -19,7 +19,8 @@ pub enum LookFault {
 /// Why a step of a job isn't made.
 #[derive(Clone, Copy, Debug, PartialEq, Eq)]
 pub enum JobFault {
-    /// The disk failed in a write or a sync.
+    /// The disk failed in a write or a sync, or in a read of the log that is flushed.
     WriteFault,
+    /// No memory was found, or no generation of a segment is left.
     Memory,
 }

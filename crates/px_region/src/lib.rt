@@ -1,12 +1,13 @@
 //! A region: one sorted list of cells, over a log and a memory store.
 //!
-//! Its list is the sorted list of what is read of its batches. `promise` takes room, `apply` puts a batch before the list,
-//! whole or not at all, and takes no memory. `prepare_step` makes the files of its log and manifest, and `reopen` reads
-//! them; what they stand for is told by `Stands`, and that a region goes on from it by `Holds`. A row or a range is given
-//! cell by cell to a taker, found in logarithmic time, with no copy.
+//! Its list is the sorted list of what is read of its batches and files. `promise` takes room, `apply` puts a batch before the list,
+//! whole or not at all, and takes no memory. `prepare_step` makes the files of its log and manifest, `upkeep_step` flushes its
+//! batches to files of cells, and `reopen` reads all of these; what they stand for is told by `Stands`, and that a region goes on
+//! from it by `Holds`. A row or a range is given cell by cell to a taker, found in logarithmic time, with no copy.
 #![tactic(auto)]
 
 mod fault;
+mod flush;
 pub mod laws;
 mod prepare;
 mod reading;

@@ -93,7 +93,7 @@ impl Region {
     pub fn horizon(&self) -> u64
         ensures { result ≡ (data_of self.now).horizon }
     {
-        self.manifest.snapshot().horizon
+        self.horizon
     }
 
     /// The cells of one row, all its versions, in order. They are found in logarithmic time and lent, and not counted as looked at.

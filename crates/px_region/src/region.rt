@@ -6,6 +6,7 @@ ghost use Rattle.px_wal.specs.Wal.{is_open as opened_wal, room_of as wal_room};
 
 use crate::PromiseFault;
 use px_cells::{Cell, Cells};
+use px_flushing::Flushing;
 use px_gatelog::Frame;
 use px_memstore::MemStore;
 use px_outside::{Disk, Failed};
@@ -27,9 +28,13 @@ pub struct Region {
     pub(crate) number: u32,
     pub(crate) wal: Wal,
     pub(crate) manifest: Manifest,
-    /// The cells of the batches above the flushed number.
+    /// The files that the manifest names, and the flush that may be under way.
+    pub(crate) flushing: Flushing,
+    /// The horizon that the manifest names.
+    pub(crate) horizon: u64,
+    /// The cells of all batches and files.
     pub(crate) store: MemStore,
-    /// How many cells these batches have, and the sum of their bytes.
+    /// How many cells the batches above the flushed number have, and the sum of their bytes.
     pub(crate) cells: u64,
     pub(crate) bytes: u64,
     /// For how many cells and bytes room was promised.
@@ -82,6 +87,8 @@ impl Region {
             number,
             wal: Wal::fresh(number),
             manifest: Manifest::fresh(alloc, number),
+            flushing: Flushing::fresh(alloc, number),
+            horizon: 0,
             store: MemStore::new(alloc),
             cells: 0,
             bytes: 0,

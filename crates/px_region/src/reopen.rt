@@ -1,30 +1,87 @@
 // Opening a region.
-ghost use Rattle.std.specs.Prelude.{◌≡◌, ◌≢◌, ◌∷◌, [], ℕ, List, IsTrue, IfOk, Err, MatchOption};
-ghost use Rattle.px_wal.specs.declared.snapshot.FileEntry.{FileEntry as FileEntryData};
+ghost use Rattle.std.specs.Prelude.{◌≡◌, ◌+◌, ℕ, List, IsTrue, IfOk, Err};
 ghost use Rattle.px_outside.specs.OnDisk.{Passes, Rose, Stays};
 
 use crate::Region;
+use px_flushing::Flushing;
 use px_gatelog::StartFault;
+use px_loading::load;
 use px_outside::Disk;
-use px_wal::{FileEntry, Manifest, Replayed, Wal, local_file};
+use px_wal::{Manifest, Replayed, Wal};
 use std::alloc::Global;
-
-/// The first of the files that a manifest names.
-fn first_of(files: &[FileEntry]) -> Option<FileEntry>
-    ensures { MatchOption result (files.now ≡ []) (λ file. (rest : List FileEntryData) × (files.now ≡ file ∷ rest)) }
-{
-    match files {
-        [] => None,
-        [file, ..] => Some(*file),
-    }
-}
 
 impl Region {
     ghost use Rattle.px_region.specs.Region.{Holds, RegionData, Stands};
-    ghost use Rattle.px_region.specs.Opened.{IsFirstDamaged};
+    ghost use Rattle.px_region.specs.Opened.{IsAssembled, IsFirstDamaged};
+    ghost use Rattle.px_files.specs.Calls.{opening_calls};
+    ghost use Rattle.px_files.specs.Files.{IsFirstBad};
+    ghost use Rattle.px_loading.specs.Calls.{loading_calls};
+    ghost use Rattle.px_region.specs.Calls.{IsOpenedBy};
+    ghost use Rattle.px_wal.specs.Batches.{Batch as BatchData};
+    ghost use Rattle.px_wal.specs.Manifest.{HasSnapshot, names};
+    ghost use Rattle.px_wal.specs.Wal.{HasBatches, Stored};
+
+    /// The region of what was read of its manifest and its log, once its files are opened.
+    fn assembled<D: Disk>(
+        alloc: Global,
+        disk: &mut D,
+        number: u32,
+        manifest: Manifest,
+        replayed: Replayed,
+    ) -> Result<Region, StartFault>
+        ensures opened { (batches : List BatchData) → IsTrue D.tells → HasSnapshot ⟦<D as Disk>⟧ number manifest disk.old → HasBatches ⟦<D as Disk>⟧ number (names manifest).flushed replayed.wal disk.old batches → Stored (names manifest).flushed batches replayed
+            → IfOk result (λ region. IsAssembled ⟦<D as Disk>⟧ number (D.seen disk.old) (names manifest) batches region disk.new) }
+        ensures damaged { (batches : List BatchData) (file place : ℕ) → IsTrue D.tells → HasSnapshot ⟦<D as Disk>⟧ number manifest disk.old → HasBatches ⟦<D as Disk>⟧ number (names manifest).flushed replayed.wal disk.old batches
+            → result ≡ Err (StartFault.Damaged file place) → IsFirstBad number (D.seen disk.old) (names manifest).files file place }
+        ensures fresh { IfOk result (λ region. (region.number ≡ number) × (region.promised ≡ 0) × (region.promised_bytes ≡ 0) × (region.looked ≡ 0)) }
+        ensures seen { D.seen disk.new ≡ D.seen disk.old }
+        ensures quiet { Stays ⟦<D as Disk>⟧ disk.old disk.new }
+        ensures read_failed { result ≡ Err StartFault.ReadFault → Rose ⟦<D as Disk>⟧ disk.old disk.new }
+        ensures write_failed { result ≡ Err StartFault.WriteFault → Rose ⟦<D as Disk>⟧ disk.old disk.new }
+        ensures counts { IfOk result (λ region. Passes ⟦<D as Disk>⟧ disk.old disk.new (opening_calls region.flushing.files.items + loading_calls region.flushing.files.items)) }
+    {
+        let flushing = match Flushing::open(alloc, disk, number, &manifest) {
+            Ok(flushing) => flushing,
+            Err(fault) => {
+                drop(manifest);
+                drop(replayed);
+                return Err(fault);
+            }
+        };
+        let Replayed {
+            wal,
+            store,
+            cells,
+            bytes,
+        } = replayed;
+        let store = match load(alloc, disk, store, flushing.files()) {
+            Ok(store) => store,
+            Err(fault) => {
+                drop(manifest);
+                drop(wal);
+                drop(flushing);
+                return Err(fault);
+            }
+        };
+        let horizon = manifest.snapshot().horizon;
+        Ok(Region {
+            alloc,
+            number,
+            wal,
+            manifest,
+            flushing,
+            horizon,
+            store,
+            cells,
+            bytes,
+            promised: 0,
+            promised_bytes: 0,
+            looked: 0,
+        })
+    }
 
     /// Opens the region that is in the files of its number: a region without a log or manifest has none of their cells.
-    /// Nothing is promised, and no row was looked at. A stop in the call leaves nothing new.
+    /// Nothing is promised, no row was looked at, and no flush is under way. A stop in the call leaves nothing new.
     ///
     /// It is Damaged at exactly the first place that isn't of the format, and a ReadFault or WriteFault where a call of the
     /// disk failed.
@@ -36,43 +93,19 @@ impl Region {
         ensures quiet { Stays ⟦<D as Disk>⟧ disk.old disk.new }
         ensures read_failed { result ≡ Err StartFault.ReadFault → Rose ⟦<D as Disk>⟧ disk.old disk.new }
         ensures write_failed { result ≡ Err StartFault.WriteFault → Rose ⟦<D as Disk>⟧ disk.old disk.new }
-        ensures counts { Passes ⟦<D as Disk>⟧ disk.old disk.new 12 }
+
+        // It takes as many calls as the files say that stand in its folder, at most.
+        ensures counts { IfOk result (λ region. Passes ⟦<D as Disk>⟧ disk.old disk.new (12 + (opening_calls region.flushing.files.items + loading_calls region.flushing.files.items))) }
+        ensures opened_by { (calls : ℕ) → IsTrue D.tells → IsOpenedBy number (D.seen disk.old) calls → IfOk result (λ region. Passes ⟦<D as Disk>⟧ disk.old disk.new calls) }
     {
         let manifest = Manifest::start(alloc, disk, number)?;
         let flushed = manifest.snapshot().flushed;
-        let named = first_of(&manifest.snapshot().files);
-        let replayed = match Wal::replay(alloc, disk, number, flushed) {
-            Ok(replayed) => replayed,
+        match Wal::replay(alloc, disk, number, flushed) {
+            Ok(replayed) => Region::assembled(alloc, disk, number, manifest, replayed),
             Err(fault) => {
                 drop(manifest);
-                return Err(fault);
+                Err(fault)
             }
-        };
-        if let Some(file) = named {
-            drop(manifest);
-            drop(replayed);
-            return Err(StartFault::Damaged {
-                file: local_file(number, file.local),
-                place: 0,
-            });
         }
-        let Replayed {
-            wal,
-            store,
-            cells,
-            bytes,
-        } = replayed;
-        Ok(Region {
-            alloc,
-            number,
-            wal,
-            manifest,
-            store,
-            cells,
-            bytes,
-            promised: 0,
-            promised_bytes: 0,
-            looked: 0,
-        })
     }
 }

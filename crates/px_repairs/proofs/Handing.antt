@@ -7,9 +7,8 @@ use Rattle.px_cells.specs.CellData.{CellData}
 use Rattle.px_keptcells.specs.Kept.{laid}
 use Rattle.px_merge.specs.Settle.{settle}
 use Rattle.px_wal.specs.Files.{HasFile}
-use Rattle.px_wal.specs.Manifest.{names}
-use Rattle.px_wal.specs.declared.manifest.Manifest.{Manifest}
 use Rattle.px_region.specs.Promise.{IsAlike}
+use Rattle.px_region.proofs.Alike.{alike_then}
 use Rattle.px_region.specs.Region.{Holds, RegionData, Stands, data_of, read_of, with_batch}
 use Rattle.px_region.specs.declared.region.Region.{Region}
 use Rattle.px_region.proofs.Holding.{holds_alike}
@@ -31,16 +30,6 @@ use Rattle.px_repairs.specs.declared.repairing.RepairFault.TheVariants.{Busy, No
 pub min_whole : (n m : ℕ) → m ≡ min n 18446744073709551615 → m ≤ 16777216 → m ≡ n
 min_whole n m e l = omega arith
 
-pub alike_then : (a b c : Region) → IsAlike a b → IsAlike b c → IsAlike a c
-alike_then a b c k l = record {
-  number = l.number ∙ k.number;
-  wal = l.wal ∙ k.wal;
-  manifest = l.manifest ∙ k.manifest;
-  store = l.store ∙ k.store;
-  cells = l.cells ∙ k.cells;
-  bytes = l.bytes ∙ k.bytes;
-}
-
 -- ---- cells
 
 module _ {D : Type 0} (d : Ghosts D) (old taken new : Region) (disk disk' : D) (cells : List CellData) (alike : IsAlike old taken) where
@@ -48,7 +37,7 @@ module _ {D : Type 0} (d : Ghosts D) (old taken new : Region) (disk disk' : D) (
       → ((s : RegionData) → Holds d taken disk s → TouchesOnly d disk disk' (HasFile taken.number)) → Passes d disk disk' 4 → WritesTo d old new disk disk' cells
   writes_taken number horizon leaves touches counts = record {
     number = number ∙ alike.number;
-    horizon = horizon ∙ ap (λ (m : Manifest). (names m).horizon) alike.manifest;
+    horizon = horizon ∙ alike.horizon;
     leaves = λ s holds. subst (λ (n : ℕ). LeavesOnly d disk disk' (λ moment image. Stands n image s ⊎ Stands n image (with_batch s cells))) alike.number (leaves s (holds_alike d old disk s holds taken alike));
     touches = λ s holds. subst (λ (n : ℕ). TouchesOnly d disk disk' (HasFile n)) alike.number (touches s (holds_alike d old disk s holds taken alike));
     counts = counts;

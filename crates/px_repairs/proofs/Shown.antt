@@ -30,7 +30,6 @@ use Rattle.px_tablesteps.proofs.Steps.{table_regions}
 use Rattle.px_trail.specs.Trail.{Base}
 use Rattle.px_trail.specs.declared.entry.Entry.{Entry}
 use Rattle.px_values.specs.declared.row.Value.{Value}
-use Rattle.px_wal.specs.Manifest.{names}
 use Rattle.px_world.specs.Events.{Fix}
 use Rattle.px_group.specs.Group.{IsPartOf, IsShownBy, IsTallied, form_of}
 use Rattle.px_group.specs.declared.group.Group.{Group}
@@ -88,13 +87,13 @@ module _ (g g' : Group) (place : ℕ) (x : IndexRegion) (new : Region) (step : I
       subst (λ (t : Table). index z.index.id.0 ≡ index_form t z.index) (sym step.table) (subst (λ (q : Index). index q.id.0 ≡ index_form g.table q) y.1.1 (forms i y.0 y.1.0)))
 
   -- a later repair may rest on it
-  told_now : (b : Base) (index : ℕ → IndexForm) (es : List Entry) → (names new.manifest).horizon ≡ (names x.region.manifest).horizon → IsToldBy b index es g v → IsToldBy b index es g' now
+  told_now : (b : Base) (index : ℕ → IndexForm) (es : List Entry) → new.horizon ≡ x.region.horizon → IsToldBy b index es g v → IsToldBy b index es g' now
   told_now b index es same k = record {
     told = (let told : AreTold (form_of b index g) es now = record { each = k.told.each } in subst (λ (t : Table). AreTold (table_form b t.id index (row_form t)) es now) (sym step.table) told);
     own = λ i z at. elim (set_cases g.indexes.items place i (record x { region = new }) z (sym (ap (λ (l : List IndexRegion). slice_get l i) step.indexes) ∙ at)) [
       | inl e ↦
           same_field v.indexes place (read_of new) there (λ (p : IndexPart). p.horizon) refl i
-          ∙ (ap (λ (n : ℕ). (get_or v.indexes n no_part).horizon) e.0 ∙ (k.own place x step.index ∙ (sym same ∙ ap (λ (y : IndexRegion). (names y.region.manifest).horizon) (sym e.1))))
+          ∙ (ap (λ (n : ℕ). (get_or v.indexes n no_part).horizon) e.0 ∙ (k.own place x step.index ∙ (sym same ∙ ap (λ (y : IndexRegion). y.region.horizon) (sym e.1))))
       | inr n ↦ same_field v.indexes place (read_of new) there (λ (p : IndexPart). p.horizon) refl i ∙ k.own i z n.1
     ];
   }

@@ -23,7 +23,6 @@ use Rattle.px_trail.specs.declared.entry.Entry.{Entry}
 use Rattle.px_trail.specs.Lasting.{lasting}
 use Rattle.px_trail.specs.Recorded.{Recorded}
 use Rattle.px_trail.specs.Trail.{Base, catalogue_of}
-use Rattle.px_wal.specs.Manifest.{names}
 use Rattle.px_region.specs.Region.{Holds, read_of, with_batch}
 use Rattle.px_region.specs.declared.region.Region.{Region}
 use Rattle.px_region.proofs.Holding.{store_is_all}
@@ -125,13 +124,13 @@ IndexShows b es es' g g' next i new = (index : ℕ → IndexForm) (v : GroupData
 
 -- the manifest's horizon stays
 abbrev pub IsSameHorizon : Region → Region → Type 0
-IsSameHorizon old new = (names new.manifest).horizon ≡ (names old.manifest).horizon
+IsSameHorizon old new = new.horizon ≡ old.horizon
 
 -- ---- 4. The work
 
 -- what is shown of the group then, as the server keeps it
 has_shown : (b : Base) (es' : List Entry) (g g' : Group) → g'.table ≡ g.table → (indexes : List Index) (v : ℕ → GroupData) (w : GroupData) (hs' : List HeldBatch) → IsTallied b es' g' hs' → IsShownBy b (forms_in indexes g.table) es' g' w hs'
-    → AreTold (form_of b (forms_in indexes g.table) g) es' w → ((i : ℕ) (x : IndexRegion) → slice_get g'.indexes.items i ≡ Some x → (get_or w.indexes i no_part).horizon ≡ (names x.region.manifest).horizon) → HasShown b es' indexes (with_part v (number_in g) w) g'
+    → AreTold (form_of b (forms_in indexes g.table) g) es' w → ((i : ℕ) (x : IndexRegion) → slice_get g'.indexes.items i ≡ Some x → (get_or w.indexes i no_part).horizon ≡ x.region.horizon) → HasShown b es' indexes (with_part v (number_in g) w) g'
 has_shown b es' g g' table indexes v w hs' tallied shown told own =
     own_shown b es' indexes v w g.table g' table hs' tallied shown
     (record { told = subst (λ (x : Table). AreTold (table_form b x.id (forms_in indexes g.table) (row_form x)) es' w) (sym table) told; own = own })
@@ -333,7 +332,7 @@ module _ {D : Type 0} (d : Ghosts D) (tells_left : (x : D) (moment file : ℕ) (
           (λ j z at. ap (λ (xs : List IndexPart). (get_or xs j no_part).horizon) w.then.indexes ∙ elim (set_cases g.indexes.items i j (record x { region = new }) z (ap (λ (xs : List IndexRegion). slice_get xs j) (sym to.indexes) ∙ at)) [
             | inl q ↦
                 ap (λ (m : ℕ). (get_or (set (v t).indexes i part_then) m no_part).horizon) q.0
-                ∙ (ap (λ (y : IndexPart). y.horizon) (get_or-set_same (v t).indexes i part_then no_part inside) ∙ (has.told.own i x to.index ∙ (sym horizons ∙ ap (λ (w : IndexRegion). (names w.region.manifest).horizon) (sym q.1))))
+                ∙ (ap (λ (y : IndexPart). y.horizon) (get_or-set_same (v t).indexes i part_then no_part inside) ∙ (has.told.own i x to.index ∙ (sym horizons ∙ ap (λ (w : IndexRegion). w.region.horizon) (sym q.1))))
             | inr q ↦ ap (λ (y : IndexPart). y.horizon) (get_or-set_other (v t).indexes i j part_then no_part q.0) ∙ has.told.own j z q.1
           ]))
 

@@ -56,7 +56,7 @@ use Rattle.px_server.proofs.ReadyKept.{ready_failed, ready_kept}
 
 back_look : (x y : Region) → IsLookedAt x y → IsLookedAt y x
 back_look x y l = record {
-  alike = record { number = sym l.alike.number; wal = sym l.alike.wal; manifest = sym l.alike.manifest; store = sym l.alike.store; cells = sym l.alike.cells; bytes = sym l.alike.bytes };
+  alike = record { number = sym l.alike.number; wal = sym l.alike.wal; manifest = sym l.alike.manifest; flushing = sym l.alike.flushing; horizon = sym l.alike.horizon; store = sym l.alike.store; cells = sym l.alike.cells; bytes = sym l.alike.bytes };
   promised = record { cells = sym l.promised.cells; bytes = sym l.promised.bytes };
 }
 

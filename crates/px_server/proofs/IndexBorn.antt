@@ -22,8 +22,6 @@ use Rattle.px_groupworld.specs.Steps.{born_data}
 use Rattle.px_openbatches.specs.Pending.{HeldBatch}
 use Rattle.px_tablereads.specs.Told.{AreTold}
 use Rattle.px_tablereads.proofs.Tells.{quiet_written, told_same}
-use Rattle.px_wal.specs.Manifest.{names}
-use Rattle.px_wal.specs.Snapshot.{SnapshotData}
 use Rattle.px_group.specs.Group.{IsShownBy, IsTallied, form_of}
 use Rattle.px_group.specs.declared.group.Group.{Group}
 use Rattle.px_group.specs.declared.group.IndexRegion.{IndexRegion}
@@ -71,7 +69,7 @@ module _ (b : Base) (right : IsRightBase b) (es : List Entry) (legal : IsLegal b
         | inr new ↦
             (let last : j ≡ length v.indexes = (let n = shown.count in let m = new.0 in omega arith) in
             ap (λ (p : IndexPart). p.horizon) (ap (λ m. get_or (v.indexes ++ part ∷ []) m no_part) last ∙ get_end v.indexes part no_part)
-            ∙ sym (ap (λ (w : IndexRegion). (names w.region.manifest).horizon) new.1 ∙ ap (λ (n : SnapshotData). n.horizon) more.fresh.manifest.named))
+            ∙ sym (ap (λ (w : IndexRegion). w.region.horizon) new.1 ∙ more.fresh.horizon))
       ];
     }
       where

@@ -20,7 +20,6 @@ use Rattle.px_openbatches.specs.Pending.{HeldBatch}
 use Rattle.px_tablesteps.specs.Kept.{open_of}
 use Rattle.px_tablereads.specs.Told.{AreTold}
 use Rattle.px_tablereads.proofs.Tells.{quiet_written, told_same}
-use Rattle.px_wal.specs.Manifest.{names}
 use Rattle.px_group.specs.Group.{IsPartOf, IsShownBy, IsTallied, form_of}
 use Rattle.px_group.specs.declared.group.Group.{Group}
 use Rattle.px_group.specs.declared.group.IndexRegion.{IndexRegion}
@@ -69,7 +68,7 @@ module _ (b : Base) (es : List Entry) (e : Entry) (may : MayCome b es e) (t : Ta
 
       told_gone : IsToldBy b index es g v → IsToldBy b index es' g' (dropped_data i.0 v)
       told_gone told =
-          let Is : IndexPart → IndexRegion → Type 0 = λ p x. (p.id ≡ x.index.id.0) × (p.horizon ≡ (names x.region.manifest).horizon) in
+          let Is : IndexPart → IndexRegion → Type 0 = λ p x. (p.id ≡ x.index.id.0) × (p.horizon ≡ x.region.horizon) in
           let alike : (p : IndexPart) (x : IndexRegion) → Is p x → keep p ≡ hold x = λ p x q. ap (λ (m : ℕ). not (m == i.0)) q.0 in
           record {
             told = told_same (form_of b index g') es v (subst (λ (u : Table). GroupKept (table_form b u.id index (row_form u)) es v) (sym less.beside.table) shown.kept.group) es' (dropped_data i.0 v) then.kept.group

@@ -35,7 +35,6 @@ use Rattle.px_region.proofs.Holding.{store_is_all}
 use Rattle.px_tablefolder.specs.Folder.{IsFilesOf}
 use Rattle.px_tablereads.specs.Told.{AreTold}
 use Rattle.px_tablereads.proofs.Tells.{quiet_written, told_same}
-use Rattle.px_wal.specs.Manifest.{names}
 use Rattle.px_group.specs.Group.{IsShownBy, IsTallied, form_of}
 use Rattle.px_group.specs.declared.group.Group.{Group}
 use Rattle.px_group.specs.declared.group.IndexRegion.{IndexRegion}
@@ -128,7 +127,7 @@ module _ (b : Base) (es : List Entry) (e : Entry) (may : MayCome b es e) (t : Ta
         | inl here ↦
             (let l : place < length v.indexes = (let w = within g.indexes.items place a.index a.is in let n = shown.count in omega (arith, w, n)) in
             ap (λ (p : IndexPart). p.horizon) (ap (λ m. get_or (set v.indexes place (ready v)) m no_part) here.0 ∙ get_or-set_same v.indexes place (ready v) no_part l)
-            ∙ (told.own place a.index a.is ∙ sym (ap (λ (w : IndexRegion). (names w.region.manifest).horizon) here.1)))
+            ∙ (told.own place a.index a.is ∙ sym (ap (λ (w : IndexRegion). w.region.horizon) here.1)))
         | inr there ↦ ap (λ (p : IndexPart). p.horizon) (get_or-set_other v.indexes place j (ready v) no_part there.0) ∙ told.own j z there.1
       ];
     }

@@ -5,7 +5,7 @@ use Rattle.px_group.specs.declared.group.IndexRegion.{IndexRegion}
 use Rattle.px_beginning.specs.Leaves.{AreAlike, AreSamePromises, KeepsRooms, LeavesGroup}
 use Rattle.px_beginning.proofs.Leaves.{alike_same}
 use Rattle.px_beginning.proofs.Promised.{same_promises}
-use Rattle.px_beginning.proofs.Taking.{alike_trans}
+use Rattle.px_region.proofs.Alike as region
 
 alike_then : (xs ys zs : List IndexRegion) → AreAlike xs ys → AreAlike ys zs → AreAlike xs zs
 alike_then [] [] [] a c = tt
@@ -13,7 +13,7 @@ alike_then [] [] (z ∷ zs) a c = c
 alike_then [] (y ∷ ys) zs a c = absurd a
 alike_then (x ∷ xs) [] zs a c = absurd a
 alike_then (x ∷ xs) (y ∷ ys) [] a c = absurd c
-alike_then (x ∷ xs) (y ∷ ys) (z ∷ zs) a c = ((c.0.0 ∙ a.0.0, alike_trans x.region y.region z.region a.0.1 c.0.1), alike_then xs ys zs a.1 c.1)
+alike_then (x ∷ xs) (y ∷ ys) (z ∷ zs) a c = ((c.0.0 ∙ a.0.0, region.alike_then x.region y.region z.region a.0.1 c.0.1), alike_then xs ys zs a.1 c.1)
 
 promised_then : (xs ys zs : List IndexRegion) → AreSamePromises xs ys → AreSamePromises ys zs → AreSamePromises xs zs
 promised_then [] [] [] a c = tt
@@ -26,7 +26,7 @@ promised_then (x ∷ xs) (y ∷ ys) (z ∷ zs) a c = (record { cells = c.0.cells
 pub left_then : (g h j : Group) → LeavesGroup g h → LeavesGroup h j → LeavesGroup g j
 left_then g h j a c = record {
   table = c.table ∙ a.table;
-  rows = alike_trans g.rows h.rows j.rows a.rows c.rows;
+  rows = region.alike_then g.rows h.rows j.rows a.rows c.rows;
   indexes = alike_then g.indexes.items h.indexes.items j.indexes.items a.indexes c.indexes;
   batches = c.batches ∙ a.batches;
   points = c.points ∙ a.points;
@@ -44,7 +44,7 @@ kept_then g h j a c = record {
 pub left_none : (g : Group) → LeavesGroup g g
 left_none g = record {
   table = refl;
-  rows = record { number = refl; wal = refl; manifest = refl; store = refl; cells = refl; bytes = refl };
+  rows = region.alike_refl g.rows;
   indexes = alike_same g.indexes.items;
   batches = refl;
   points = refl;

@@ -11,15 +11,10 @@ use Rattle.px_outside.specs.declared.disk.Disk.{Ghosts}
 use Rattle.px_outside.proofs.Parts.{with_part-here, with_part-other}
 use Rattle.px_cells.specs.CellData.{CellData}
 use Rattle.px_cells.specs.Order.{ReadsSame}
-use Rattle.px_merge.specs.Settle.{settle}
-use Rattle.px_merge.proofs.Settling.{settle_back}
-use Rattle.px_wal.specs.Batches.{above, later_first}
 use Rattle.px_wal.specs.Files.{HasFile}
-use Rattle.px_wal.specs.Manifest.{names}
 use Rattle.px_region.specs.Promise.{IsSamePromise}
 use Rattle.px_region.specs.Region.{Holds, RegionData, Stands, data_of, read_of, with_batch}
 use Rattle.px_region.specs.declared.region.Region.{Region}
-use Rattle.px_region.proofs.Holding.{store_is_all}
 use Rattle.px_cellshapes.specs.Keys.{AreRightKeys}
 use Rattle.px_cellshapes.specs.Rows.{AreRightRows}
 use Rattle.px_forms.specs.Indexes.{IndexForm}
@@ -36,6 +31,7 @@ use Rattle.px_group.specs.Writing.{HasWritten, WritesTo}
 use Rattle.px_group.specs.declared.group.Begun.{Begun}
 use Rattle.px_group.specs.declared.group.Group.{Group}
 use Rattle.px_group.specs.declared.group.IndexRegion.{IndexRegion}
+use Rattle.px_batching.proofs.Handed.{same_data}
 use Rattle.px_batching.proofs.Pairs.{to_tied}
 use Rattle.px_batching.proofs.Places.{all_at, all_more, all_set, same_at, set_back, set_cases, set_here, set_other, within}
 use Rattle.px_batching.proofs.Right.{SameIndexes, right_moves}
@@ -48,19 +44,6 @@ use Rattle.px_server.proofs.Handed.{IndexShows, RowsShow, ToIndex, ToRows}
 -- ---- a region
 
 module _ {D : Type 0} (d : Ghosts D) (old new : Region) (disk disk' : D) where
-  -- a batch without a cell changes nothing
-  pub same_data : (s : RegionData) → Holds d old disk s → with_batch s [] ≡ s
-  same_data s holds = λ i. record { cells = q i; horizon = s.horizon; stamp = s.stamp }
-    where
-      older : List CellData
-      older = later_first (above (names old.manifest).flushed holds.batches)
-
-      is : s.cells ≡ settle older
-      is = sym (store_is_all d old disk s holds) ∙ holds.store
-
-      q : settle s.cells ≡ s.cells
-      q = ap settle is ∙ (settle_back [] older ∙ sym is)
-
   pub steps_write : new.number ≡ old.number → (data_of new).horizon ≡ (data_of old).horizon → ((s : RegionData) → Holds d old disk s → LeavesOnly d disk disk' (λ moment image. Stands old.number image s)) → ((s : RegionData) → Holds d old disk s → TouchesOnly d disk disk' (HasFile old.number)) → Passes d disk disk' 4
       → WritesTo d old new disk disk' []
   steps_write number horizon leaves touches counts = record {
@@ -73,17 +56,13 @@ module _ {D : Type 0} (d : Ghosts D) (old new : Region) (disk disk' : D) where
 
   pub steps_written : ((s : RegionData) → Holds d old disk s → Holds d new disk' s) → read_of new ≡ read_of old → HasWritten d old new disk disk' []
   steps_written done read = record {
-    holds = λ s holds. subst (λ (w : RegionData). Holds d new disk' w) (sym (same_data s holds)) (done s holds);
+    holds = λ s holds. subst (λ (w : RegionData). Holds d new disk' w) (sym (same_data d old disk s holds)) (done s holds);
     reads = subst (λ (l : List CellData). ReadsSame l (read_of old)) (sym read) (λ c. (λ r. r, λ r. r));
   }
 
   pub steps_done : {T E : Type 0} (result : Result T E) → ((s : RegionData) → Holds d old disk s → OnOk result (Holds d new disk' s)) → read_of new ≡ read_of old → OnOk result (HasWritten d old new disk disk' [])
   steps_done (Ok x) done read = steps_written done read
   steps_done (Err e) done read = tt
-
-  -- where no memory was found, all is as it was
-  pub steps_refused : new ≡ old → disk' ≡ disk → HasWritten d old new disk disk' []
-  steps_refused same still = steps_written (λ s holds. subst (λ (r : Region). Holds d r disk' s) (sym same) (subst (λ (x : D). Holds d old x s) (sym still) holds)) (ap (λ (r : Region). read_of r) same)
 
 -- ---- a folder, and the data of tables
 

@@ -15,7 +15,7 @@ use Rattle.px_calls.specs.Calls.{DidBegin}
 use Rattle.px_calls.specs.Causes.{HasLongKey, LacksTable, Refuses, Stands, begin_cause}
 use Rattle.px_calls.specs.Known.{Known}
 use Rattle.px_calls.specs.declared.fault.StepFault.{StepFault}
-use Rattle.px_calls.specs.declared.fault.StepFault.TheVariants.{Limit, Memory, NoTable, NotReady}
+use Rattle.px_calls.specs.declared.fault.StepFault.TheVariants.{Busy, Limit, Memory, NoTable, NotReady}
 use Rattle.px_group.specs.declared.group.Group.{Group}
 use Rattle.px_beginning.specs.Begins.{NeedsLongKey}
 use Rattle.px_beginning.specs.declared.preparing.Prepared.{Prepared}
@@ -45,6 +45,7 @@ module _ (k : Known) (legal : IsLegal k.base k.seen) (running : closing_call k.s
     untaken r p (Limit bound.Trail count) c = ((stands, c.0, c.1), stays k legal, running)
     untaken r p (Limit bound.Log count) c = ((stands, c.0, tt), stays k legal, running)
     untaken r p (Limit bound.Region count) c = ((stands, c.0, tt), stays k legal, running)
+    untaken r p (Busy region cells bytes) c = (stands, stays k legal, running)
     untaken r p (NotReady region) c = (stands, stays k legal, running)
     untaken r p Memory c = (tt, stays k legal, running)
     untaken r p f c = absurd c

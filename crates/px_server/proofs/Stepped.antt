@@ -34,7 +34,8 @@ use Rattle.px_server.proofs.Handed.{index_handed, rows_handed}
 use Rattle.px_server.proofs.Lists.{all_at}
 use Rattle.px_server.proofs.OpenBatches.{stamp_in}
 use Rattle.px_server.proofs.Numbers.{IsStored, LacksNumber, has_place, lacks_index, lacks_rows, part_at, rows_one, stored_index, stored_table}
-use Rattle.px_server.proofs.Prepared.{index_right, index_shows, index_tallied, index_traced, rows_right, rows_show, rows_tallied, rows_traced, same_data, same_folder, same_groups, to_index, to_rows}
+use Rattle.px_batching.proofs.Handed.{same_data}
+use Rattle.px_server.proofs.Prepared.{index_right, index_shows, index_tallied, index_traced, rows_right, rows_show, rows_tallied, rows_traced, same_folder, same_groups, to_index, to_rows}
 use Rattle.px_server.proofs.Seen.{one_more, stays}
 use Rattle.px_server.proofs.Written.{TellsThen, handed_shut}
 
@@ -66,7 +67,7 @@ module _ {D : Type 0} (d : Ghosts D) (tells_left : (x : D) (moment file : ℕ) (
   unchanged : (old new : Region) → ((f : FolderData) → IsOnDisk d disk f g → Holds d old disk (f.regions old.number)) → (f : FolderData) (v : ℕ → GroupData) → Explains b es f v → IsOnDisk d disk f g → TellsThen b es (with_region old.number (with_batch (f.regions old.number) []) f) v t
   unchanged old new holds f v told on = record {
     table_data = v t;
-    explains = subst (λ (x : FolderData). Explains b es x (with_part v t (v t))) (sym (same_folder f old.number (with_batch (f.regions old.number) []) (same_data d old new disk disk' (f.regions old.number) (holds f on))))
+    explains = subst (λ (x : FolderData). Explains b es x (with_part v t (v t))) (sym (same_folder f old.number (with_batch (f.regions old.number) []) (same_data d old disk (f.regions old.number) (holds f on))))
         (subst (Explains b es f) (sym (same_groups v t)) told);
   }
 

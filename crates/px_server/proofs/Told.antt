@@ -5,7 +5,6 @@ use Rattle.px_trail.specs.declared.entry.Entry.{Entry}
 use Rattle.px_trail.specs.Trail.{Base}
 use Rattle.px_trail.proofs.Orders.{WritesNone}
 use Rattle.px_tables.specs.declared.table.Table.{Table}
-use Rattle.px_wal.specs.Manifest.{names}
 use Rattle.px_rows.specs.Spelled.{row_form}
 use Rattle.px_values.specs.States.{RowState}
 use Rattle.px_world.specs.World.{is_written}
@@ -32,7 +31,7 @@ told_elsewhere b index es g v k e n = record { told = cells_elsewhere (form_of b
 
 -- the table's own entry that writes no row, after which it has the same cells: the manifests are to be the same too
 pub told_own : (b : Base) (index : ℕ → IndexForm) (es : List Entry) (g g' : Group) (v w : GroupData) (hs hs' : List HeldBatch) → IsShownBy b index es g v hs → IsToldBy b index es g v → (e : Entry) → WritesNone e.act → g'.table ≡ g.table → IsShownBy b index (es ++ e ∷ []) g' w hs' → w.low ≡ v.low → w.cells ≡ v.cells
-    → ((i : ℕ) (x : IndexRegion) → slice_get g'.indexes.items i ≡ Some x → (get_or w.indexes i no_part).horizon ≡ (names x.region.manifest).horizon) → IsToldBy b index (es ++ e ∷ []) g' w
+    → ((i : ℕ) (x : IndexRegion) → slice_get g'.indexes.items i ≡ Some x → (get_or w.indexes i no_part).horizon ≡ x.region.horizon) → IsToldBy b index (es ++ e ∷ []) g' w
 told_own b index es g g' v w hs hs' shown told e none table shown' low cells own =
     let f = form_of b index g in
     let kept : GroupKept f (es ++ e ∷ []) w = subst (λ (t : Table). GroupKept (table_form b t.id index (row_form t)) (es ++ e ∷ []) w) table shown'.kept.group in

@@ -14,7 +14,6 @@ use Rattle.px_region.specs.Promise.{IsAlike}
 use Rattle.px_region.specs.Region.{Holds}
 use Rattle.px_region.specs.declared.region.Region.{Region}
 use Rattle.px_region.proofs.Holding.{holds_alike}
-use Rattle.px_wal.specs.Manifest.{names}
 use Rattle.px_defined.specs.Defined.{AreOnceIn, HasOnce}
 use Rattle.px_group.specs.Group.{IsRightGroup, points_in}
 use Rattle.px_group.specs.declared.group.Group.{Group}
@@ -62,7 +61,7 @@ module _ (g g' : Group) (l : LeavesGroup g g') where
     told = subst (λ (t : Table). AreTold (table_form b t.id index (row_form t)) es v) (sym l.table) k.told;
     own = λ i y at.
         (let x = before g.indexes.items g'.indexes.items l.indexes i y at in
-        k.own i x.part x.is ∙ ap (λ m. (names m).horizon) (sym x.region.manifest));
+        k.own i x.part x.is ∙ sym x.region.horizon);
   }
 
   pub left_disk : {D : Type 0} (d : Ghosts D) (disk : D) (f : FolderData) → IsOnDisk d disk f g → IsOnDisk d disk f g'

@@ -10,7 +10,7 @@ use Rattle.px_trail.specs.Recorded.{Recorded}
 use Rattle.px_trail.specs.declared.entry.Entry.{Entry}
 use Rattle.px_turns.specs.Turns.{drawn}
 use Rattle.px_calls.specs.declared.fault.StepFault.{StepFault}
-use Rattle.px_calls.specs.declared.fault.StepFault.TheVariants.{Limit, NotReady, Memory}
+use Rattle.px_calls.specs.declared.fault.StepFault.TheVariants.{Busy, Limit, NotReady, Memory}
 use Rattle.px_phases.specs.Batch.{BatchData}
 use Rattle.px_group.specs.Group.{IsRightGroup}
 use Rattle.px_group.specs.declared.group.Group.{Group}
@@ -57,6 +57,7 @@ abbrev pub untaken_cause : Group → Prepared → List Entry → List Change →
 untaken_cause g p es cs (Limit bound.Trail count) = (count ≡ most_of bound.Trail) × (most_of bound.Trail < counted_bytes es + sum_by counted_change cs)
 untaken_cause g p es cs (Limit bound.Log count) = (count ≡ most_of bound.Log) × ((region : ℕ) × IsRefusedOf g p (promise.NotReady region))
 untaken_cause g p es cs (Limit bound.Region count) = (count ≡ most_of bound.Region) × ((region : ℕ) × ((cells : ℕ) × ((bytes : ℕ) × IsRefusedOf g p (promise.Busy region cells bytes))))
+untaken_cause g p es cs (Busy region cells bytes) = IsRefusedOf g p (promise.Busy region cells bytes)
 untaken_cause g p es cs (NotReady region) = IsRefusedOf g p (promise.NotReady region)
 untaken_cause g p es cs Memory = Unit {0}
 untaken_cause g p es cs f = ⊥

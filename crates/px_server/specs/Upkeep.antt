@@ -1,23 +1,13 @@
 -- What a step of upkeep does to a table.
 use Rattle.std.specs.Prelude.{◌≡◌, ◌⊎◌, [], ℕ, Some, slice_get}
-use Rattle.std.specs.List.{AllByRecursion}
 use Rattle.std.proofs.Math.ListN.{set}
 use Rattle.px_outside.specs.declared.disk.Disk.{Ghosts}
-use Rattle.px_region.specs.Promise.{HasOpenLog, IsSamePromise}
+use Rattle.px_region.specs.Promise.{IsSamePromise}
 use Rattle.px_region.specs.Region.{read_of}
 use Rattle.px_region.specs.declared.region.Region.{Region}
 use Rattle.px_group.specs.Writing.{HasWritten, WritesTo}
 use Rattle.px_group.specs.declared.group.Group.{Group}
 use Rattle.px_group.specs.declared.group.IndexRegion.{IndexRegion}
-
--- the index's region has its log
-abbrev pub HasLogOf : IndexRegion → Type 0
-HasLogOf x = HasOpenLog x.region
-
--- each region of the table has its log
-pub record HasLogs (g : Group) : Type 0 where
-  pub rows : HasOpenLog g.rows
-  pub indexes : AllByRecursion HasLogOf g.indexes.items
 
 -- A step of a region's files, to which no cell is handed: what is read of it and its room stay.
 pub record StepsOn {D : Type 0} (d : Ghosts D) (old new : Region) (disk disk' : D) : Type 0 where

@@ -52,19 +52,41 @@ fn is_open(group: &Group, region: u32) -> bool {
     group.indexes.iter().any(|index| index.region.number() == region && index.region.is_ready())
 }
 
-/// Why no room was promised. No region is flushed yet, and no log is rolled.
+/// Whether the region of this number may get the room that it lacks: by a flush, or once other batches end.
+fn may_free(group: &Group, region: u32) -> bool {
+    if group.rows.number() == region {
+        return group.rows.may_free();
+    }
+    group.indexes.iter().any(|index| index.region.number() == region && index.region.may_free())
+}
+
+/// Why no room was promised: where it may come, the batch is to be begun again after upkeep.
 fn unpromised(group: &Group, fault: BeginFault) -> StepFault
     ensures { (g : Groups) (p : PreparedBatch) (es : List Entries) (cs : List RowChange) → IsRefusedOf g p fault → untaken_cause g p es cs result }
 {
     match fault {
         BeginFault::NotReady { region } => {
-            if is_open(group, region) {
+            if is_open(group, region) && !may_free(group, region) {
                 over(Limit::Log)
             } else {
                 StepFault::NotReady { region }
             }
         }
-        BeginFault::Busy { .. } => over(Limit::Region),
+        BeginFault::Busy {
+            region,
+            cells,
+            bytes,
+        } => {
+            if may_free(group, region) {
+                StepFault::Busy {
+                    region,
+                    cells,
+                    bytes,
+                }
+            } else {
+                over(Limit::Region)
+            }
+        }
         _ => StepFault::Memory,
     }
 }

@@ -163,7 +163,7 @@ fn append_file(alloc: Global, disk: &mut MemDisk, manifest: &mut Manifest) -> Op
     if done { Some(()) } else { None }
 }
 
-// Makes a manifest that names a file.
+// Makes a manifest that names a file, which lacks.
 fn name_file(alloc: Global, disk: &mut MemDisk) -> Option<()> {
     let mut manifest = Manifest::start(alloc, disk, 1).ok()?;
     let done = append_file(alloc, disk, &mut manifest);
@@ -172,7 +172,7 @@ fn name_file(alloc: Global, disk: &mut MemDisk) -> Option<()> {
 }
 
 #[test]
-fn no_form_of_a_file_is_known(rt: HostRuntime) -> Result<(), Fail> {
+fn a_file_that_lacks_is_damaged(rt: HostRuntime) -> Result<(), Fail> {
     let mut disk = MemDisk::new(rt.alloc());
     let named = name_file(rt.alloc(), &mut disk).is_some();
     let found = told(rt.alloc(), &mut disk);

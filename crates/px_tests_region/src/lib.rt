@@ -5,6 +5,8 @@
 #[cfg(test)]
 mod damage;
 #[cfg(test)]
+mod flushes;
+#[cfg(test)]
 mod frozen;
 #[cfg(test)]
 mod pieces;

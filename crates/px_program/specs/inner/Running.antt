@@ -1,5 +1,5 @@
 -- What a run over a folder leaves.
-use Rattle.std.specs.Prelude.{◌≡◌, ◌≤◌, ◌<◌, ◌+◌, ◌*◌, ◌⊎◌, ℕ, zero, suc, Bool, true, List, [], length, None, Some, IsTrue}
+use Rattle.std.specs.Prelude.{◌≡◌, ◌≤◌, ◌<◌, ◌+◌, ◌⊎◌, ℕ, zero, suc, Bool, true, List, [], None, Some, IsTrue, sum_by}
 use Rattle.std.specs.List.{All}
 use Rattle.px_outside.specs.Disk.{Image}
 use Rattle.px_outside.specs.OnDisk.{IsLeft, Rose, TouchesOnly}
@@ -15,6 +15,7 @@ use Rattle.px_catalog.specs.Catalogue.{HasCatalogue, catalogue_files}
 use Rattle.px_recovery.specs.Folder.{FolderData, StandsFor, StandsOn, region_numbers}
 use Rattle.px_recovery.specs.Kept.{IsLate}
 use Rattle.px_recovery.specs.Stands.{Recovers}
+use Rattle.px_folder.specs.Calls.{AreOpenedBy}
 use Rattle.px_folder.specs.Damage.{IsFirstDamaged}
 use Rattle.px_opening.specs.Opened.{all_regions, folder_in}
 use Rattle.px_opening.specs.declared.opened.Opened.{Opened}
@@ -119,7 +120,7 @@ pub record RanFolder {D C O : Type 0} (d : DiskGhosts D) (c : ClockGhosts C) (k 
   pub folder : FolderData
   pub origin : IsOrigin d disk folder
   pub opened : ℕ
-  pub soon : opened ≤ d.calls disk + (17 + 12 * length (region_numbers folder.standing))
+  pub soon : IsTrue d.tells → (calls : ℕ → ℕ) → AreOpenedBy (d.seen disk) (region_numbers folder.standing) calls → opened ≤ d.calls disk + (17 + sum_by calls (region_numbers folder.standing))
   pub within : opened ≤ d.calls outcome.disk
   pub before : (moment file : ℕ) (bytes : List ℕ) → d.calls disk ≤ moment → moment < opened → ¬ catalogue_files file → d.left outcome.disk moment file bytes → d.left disk (d.calls disk) file bytes
   pub over : RanOver d c k (base_of folder) (IsSoundFolder folder) (ReadsSound d disk) (beginning_at d disk) (IsLeftSince d opened (StartsSound d disk)) (c.times clock) script out out' outcome

@@ -13,12 +13,13 @@ use Rattle.px_beginning.proofs.Made.{batches_fit, if_ok, made_here, read_here}
 use Rattle.px_beginning.proofs.Promised.{rooms_kept, same_promises}
 use Rattle.px_beginning.specs.Begins.{IsBatchOf, IsMadeOf}
 use Rattle.px_beginning.specs.Leaves.{LeavesGroup}
+use Rattle.px_region.proofs.Alike.{alike_refl}
 use Rattle.px_beginning.proofs.preparing.prepare.Goals as goal
 
 pub returns-in_err-keys-clause-leaves : goal.returns-in_err-keys-clause-leaves
 returns-in_err-keys-clause-leaves g c = record {
   table = refl;
-  rows = record { number = refl; wal = refl; manifest = refl; store = refl; cells = refl; bytes = refl };
+  rows = alike_refl c.args.group.now.rows;
   indexes = alike_same c.args.group.now.indexes.items;
   batches = refl;
   points = refl;

@@ -2,7 +2,8 @@ use Rattle.std.proofs.Common.{◌≡◌, ◌≤◌, ◌<◌, ◌+◌, ◌∙◌,
 use Rattle.std.specs.Prelude.{vec_capacity, vec_len}
 use Rattle.px_beginning.proofs.Leaves.{alike_same}
 use Rattle.px_beginning.proofs.Promised.{same_promises}
-use Rattle.px_beginning.proofs.Taking.{alike_from, alike_trans, same_from, taken_from}
+use Rattle.px_region.proofs.Alike.{alike_refl, alike_then}
+use Rattle.px_beginning.proofs.Taking.{alike_from, same_from, taken_from}
 use Rattle.px_beginning.specs.inner.Places.{AreLike, SamePromised, TakenFrom}
 use Rattle.std.proofs.lemmas.List.{with_items_is}
 use Rattle.px_group.specs.declared.group.IndexRegion.{IndexRegion}
@@ -15,7 +16,7 @@ returns-then-is_err-clause-refused c = record { rows = record { cells = refl; by
 pub returns-then-is_err-clause-leaves : goal.returns-then-is_err-clause-leaves
 returns-then-is_err-clause-leaves c = record {
   table = refl;
-  rows = record { number = refl; wal = refl; manifest = refl; store = refl; cells = refl; bytes = refl };
+  rows = alike_refl c.args.group.now.rows;
   indexes = alike_same c.args.group.now.indexes.items;
   batches = c.reserve.ensures.items;
   points = refl;
@@ -90,7 +91,7 @@ returns-in-Err-take_from-clause-leaves c =
     let n : length ys ≡ vec_len v = c.take_from.ensures.like.count ∙ c.as_mut_slice.ensures.len in
     record {
       table = refl;
-      rows = alike_trans c.args.group.now.rows c.take.new.region c.give.new.region c.take.ensures.alike c.give.ensures.alike;
+      rows = alike_then c.args.group.now.rows c.take.new.region c.give.new.region c.take.ensures.alike c.give.ensures.alike;
       indexes = subst (λ (l : List IndexRegion). AreAlike v.items l) (sym (with_items_is v ys n)) (alike_from v.items ys like);
       batches = c.reserve.ensures.items;
       points = refl;

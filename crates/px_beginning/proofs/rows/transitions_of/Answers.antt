@@ -6,6 +6,7 @@ use Rattle.px_phases.specs.declared.transition.Transition.{Transition}
 use Rattle.px_region.specs.Region.{read_of}
 use Rattle.px_beginning.proofs.Lists.{from_more, transitions_more}
 use Rattle.px_beginning.specs.Reads.{old_in}
+use Rattle.px_region.proofs.Alike.{alike_then}
 use Rattle.px_beginning.proofs.rows.transitions_of.Goals as goal
 
 pub loop-place-preserved : goal.loop-place-preserved
@@ -21,14 +22,7 @@ loop-place-preserved g c =
       from = subst (AreFrom (old_in t (read_of c.args.rows.now) c.args.batches.now) (take (c.loop-place.place + 1) c.args.changes.now)) (sym c.push_reserved.ensures.items) (from_more t (old_in t (read_of c.args.rows.now) c.args.batches.now) c.args.changes.now c.loop-place.place ch c.loop-place.transitions.items x c.loop-place-test.true c.index-changes-place.is i.are i.from (sym here));
       count = (let n = i.count in let m = c.push_reserved.ensures.len in omega arith);
       room = (let n = i.room in let m = c.push_reserved.ensures.capacity in omega arith);
-      alike = record {
-        number = e.alike.number ∙ i.alike.number;
-        wal = e.alike.wal ∙ i.alike.wal;
-        manifest = e.alike.manifest ∙ i.alike.manifest;
-        store = e.alike.store ∙ i.alike.store;
-        cells = e.alike.cells ∙ i.alike.cells;
-        bytes = e.alike.bytes ∙ i.alike.bytes;
-      };
+      alike = alike_then _ _ _ i.alike e.alike;
       promised = record { cells = e.promised.cells ∙ i.promised.cells; bytes = e.promised.bytes ∙ i.promised.bytes };
       untouched = e.untouched ∙ i.untouched;
     }

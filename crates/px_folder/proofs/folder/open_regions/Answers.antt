@@ -4,7 +4,9 @@ use Rattle.px_outside.specs.Disk.{Image}
 use Rattle.px_outside.proofs.Moments.{stays_then}
 use Rattle.px_region.specs.Opened as region
 use Rattle.px_region.specs.declared.region.Region.{Region}
-use Rattle.px_folder.proofs.Reading.{all_whole, more_read, next_numbers, parts_at, passes_more}
+use Rattle.px_region.proofs.Calls.{passes_then}
+use Rattle.px_folder.proofs.Calls.{opened_more}
+use Rattle.px_folder.proofs.Reading.{all_whole, more_read, next_numbers, parts_at}
 use Rattle.px_folder.proofs.folder.open_regions.Goals as goal
 
 pub returns-in-Err-clause-damaged : goal.returns-in-Err-clause-damaged
@@ -36,5 +38,7 @@ loop-number-preserved g c =
           more_read d c.args.disk.now c.loop-number.disk c.reopen.new.disk (get_or ns i 0) c.in-Ok.region c.loop-number.regions.items c.push.new.self.items items inv.seen c.reopen.ensures.quiet c.reopen.ensures.seen (inv.read tells) number o.0 o.1 o.2);
       seen = c.reopen.ensures.seen ∙ inv.seen;
       quiet = stays_then d.calls d.left c.args.disk.now c.loop-number.disk c.reopen.new.disk inv.quiet c.reopen.ensures.quiet;
-      counts = passes_more d c.args.disk.now c.loop-number.disk c.reopen.new.disk i inv.counts c.reopen.ensures.counts;
+      passed = (_, passes_then d c.args.disk.now c.loop-number.disk c.reopen.new.disk inv.passed.0 _ inv.passed.1 c.in-Ok.ensures.counts);
+      opened_by = λ calls tells all.
+          opened_more d c.args.disk.now c.loop-number.disk c.reopen.new.disk ns i calls c.loop-number-test.true all inv.seen (inv.opened_by calls tells) (λ one. c.in-Ok.ensures.opened_by (calls (get_or ns i 0)) tells one);
     }

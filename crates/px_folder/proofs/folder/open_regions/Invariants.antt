@@ -1,7 +1,8 @@
-use Rattle.std.proofs.Common.{◌≡◌, ◌*◌, map, take}
-use Rattle.std.specs.Prelude.{IsTrue}
+use Rattle.std.proofs.Common.{◌≡◌, ℕ, map, take}
+use Rattle.std.specs.Prelude.{IsTrue, sum_by}
 use Rattle.std.specs.List.{All}
 use Rattle.px_outside.specs.OnDisk.{Passes, Stays}
+use Rattle.px_folder.specs.Calls.{AreOpenedBy}
 use Rattle.px_folder.specs.Read.{IsReadOn, number_of}
 use Rattle.px_folder.proofs.folder.open_regions.Given as goal
 
@@ -11,5 +12,6 @@ invariant-loop-number g l = record {
   read : IsTrue g.D.Disk.tells → All (IsReadOn g.D.Disk l.initial.disk l.disk) l.regions.items;
   seen : g.D.Disk.seen l.disk ≡ g.D.Disk.seen l.initial.disk;
   quiet : Stays g.D.Disk l.initial.disk l.disk;
-  counts : Passes g.D.Disk l.initial.disk l.disk (12 * l.number-index);
+  passed : (n : ℕ) × Passes g.D.Disk l.initial.disk l.disk n;
+  opened_by : (calls : ℕ → ℕ) → IsTrue g.D.Disk.tells → AreOpenedBy (g.D.Disk.seen l.initial.disk) (take l.number-index l.numbers) calls → Passes g.D.Disk l.initial.disk l.disk (sum_by calls (take l.number-index l.numbers));
 }

@@ -1,10 +1,13 @@
-use Rattle.std.proofs.Common.{rules, ◌≡◌, ℕ, List, map, ◌∙◌, subst, sym}
-use Rattle.std.specs.Prelude.{IsPermutation}
+use Rattle.std.proofs.Common.{rules, ◌≡◌, ℕ, List, map, ap, ◌∙◌, subst, sym}
+use Rattle.std.specs.Prelude.{IsPermutation, sum_by}
+use Rattle.px_outside.specs.OnDisk.{Passes}
 use Rattle.px_outside.specs.Parts.{AreDistinct}
 use Rattle.px_recovery.specs.Folder.{region_numbers}
+use Rattle.px_folder.specs.Calls.{AreOpenedBy}
 use Rattle.px_folder.specs.Damage.{IsDamagedIn, in_region}
 use Rattle.px_folder.specs.Drawn.{AreDrawn, same_number}
 use Rattle.px_folder.specs.Read.{number_of}
+use Rattle.px_folder.proofs.Calls.{opened_permuted}
 use Rattle.px_folder.proofs.Found.{once_mapped}
 use Rattle.px_folder.proofs.Once.{once_permuted}
 use Rattle.px_folder.proofs.Reading.{ok_then}
@@ -24,3 +27,11 @@ returns-clause-damaged g c = λ file place is tells.
     let sorted = c.sort.new.self.items in
     let moved : IsPermutation (region_numbers c.args.standing.now) sorted = subst (λ (l : List ℕ). IsPermutation l sorted) c.in_ok-numbers.ensures c.in_ok-sort.ensures.permutation in
     in_region drawn sorted moved c.in_ok-sort.ensures.sorted (subst (λ (l : List ℕ). IsDamagedIn l (g.D.Disk.seen c.args.disk.now) file place) c.deref-2.ensures.value (c.open_regions.ensures.damaged file place is tells))
+
+pub returns-clause-opened_by : goal.returns-clause-opened_by
+returns-clause-opened_by g c = λ calls tells all.
+    let sorted = c.sort.new.self.items in
+    let moved : IsPermutation (region_numbers c.args.standing.now) sorted = subst (λ (l : List ℕ). IsPermutation l sorted) c.in_ok-numbers.ensures c.in_ok-sort.ensures.permutation in
+    let there = opened_permuted (g.D.Disk.seen c.args.disk.now) (region_numbers c.args.standing.now) sorted calls moved all in
+    let opened = c.open_regions.ensures.opened_by calls tells (subst (λ (l : List ℕ). AreOpenedBy (g.D.Disk.seen c.args.disk.now) l calls) (sym c.deref-2.ensures.value) there.0) in
+    ok_then _ _ (λ rs passes. subst (λ (n : ℕ). Passes g.D.Disk c.args.disk.now c.open_regions.new.disk n) (ap (sum_by calls) c.deref-2.ensures.value ∙ there.1) passes) c.open_regions.result opened

@@ -7,6 +7,7 @@ use Rattle.px_calls.specs.declared.query.FoundKey.{FoundKey}
 use Rattle.px_looks.specs.Found.{AreNext}
 use Rattle.px_looks.specs.inner.Parts.{FoundTo}
 use Rattle.px_looks.proofs.Parts.{nothing_to}
+use Rattle.px_region.proofs.Alike.{alike_refl}
 use Rattle.px_looks.proofs.next.look_next.Goals as goal
 
 pub loop-round-init : goal.loop-round-init
@@ -17,7 +18,7 @@ loop-round-init g c =
     record {
       found = subst (λ (l : List FoundKey). FoundTo shows cells c.in-Ok.from (option_copied c.args.high) c.in-Ok.from l) (sym c.new-found.ensures.items) (nothing_to shows cells c.in-Ok.from (option_copied c.args.high));
       few = omega arith;
-      alike = record { number = refl; wal = refl; manifest = refl; store = refl; cells = refl; bytes = refl };
+      alike = alike_refl c.args.region.now;
       promised = record { cells = refl; bytes = refl };
       risen = omega arith;
       untouched = refl;

@@ -1,12 +1,13 @@
 use Rattle.std.proofs.Common.{◌≡◌, inl, subst, sym, rules}
 use Rattle.std.proofs.lemmas.List.Sorted.{All-permutation}
 use Rattle.std.specs.List.{All}
-use Rattle.std.specs.Prelude.{◌+◌, ◌*◌, length, IsPermutation}
+use Rattle.std.specs.Prelude.{◌+◌, sum_by, IsPermutation}
 use Rattle.px_outside.specs.OnDisk.{Passes}
 use Rattle.px_catalog.specs.Catalogue.{standing_of}
 use Rattle.px_catalog.specs.declared.catalog.Catalog.{Catalog}
 use Rattle.px_recovery.specs.Base.{IsSoundFolder}
 use Rattle.px_recovery.specs.Folder.{AreFresh, FolderData, IsEmptyFrom, StandsFor, StandsOn, region_numbers}
+use Rattle.px_folder.specs.Calls.{AreOpenedBy}
 use Rattle.px_folder.specs.Read.{IsReadOn, folder_of}
 use Rattle.px_folder.proofs.Reading.{ok_then}
 use Rattle.px_opening.specs.Opened.{all_regions, folder_in}
@@ -61,8 +62,11 @@ returns-clause-read g c = λ tells.
     let rs = w.regions.items in
     ok_then (λ (o : Opened). IsPermutation rs (all_regions o)) (λ (o : Opened). All (IsReadOn d old new) (all_regions o)) (λ o moved. All-permutation (IsReadOn d old new) rs (all_regions o) moved (c.in_ok-catalog.ensures.read tells)) c.assembled.result c.assembled.ensures.moved
 
-pub returns-clause-counts : goal.returns-clause-counts
-returns-clause-counts g c =
+pub returns-clause-opened_by : goal.returns-clause-opened_by
+returns-clause-opened_by g c = λ calls tells.
     let w = c.in_ok-catalog.field-0 in
-    ok_then (λ (o : Opened). o.catalog ≡ w.catalog) (λ (o : Opened). Passes g.D.Disk c.args.disk.now c.read.new.disk (17 + 12 * length (region_numbers (standing_of o.catalog))))
-    (λ o same. subst (λ (k : Catalog). Passes g.D.Disk c.args.disk.now c.read.new.disk (17 + 12 * length (region_numbers (standing_of k)))) (sym same) c.in_ok-catalog.ensures.counts) c.assembled.result c.assembled.ensures.catalogue
+    let seen = g.D.Disk.seen c.args.disk.now in
+    ok_then (λ (o : Opened). o.catalog ≡ w.catalog)
+    (λ (o : Opened). AreOpenedBy seen (region_numbers (standing_of o.catalog)) calls → Passes g.D.Disk c.args.disk.now c.read.new.disk (17 + sum_by calls (region_numbers (standing_of o.catalog))))
+    (λ o same. subst (λ (k : Catalog). AreOpenedBy seen (region_numbers (standing_of k)) calls → Passes g.D.Disk c.args.disk.now c.read.new.disk (17 + sum_by calls (region_numbers (standing_of k)))) (sym same) (c.in_ok-catalog.ensures.opened_by calls tells))
+    c.assembled.result c.assembled.ensures.catalogue

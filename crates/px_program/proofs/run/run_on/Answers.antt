@@ -18,7 +18,7 @@ pub returns-in-Ok : goal.returns-in-Ok
 returns-in-Ok g c =
     let own = c.in-Ok.ensures in
     opened_ran g.D.Disk g.C.Clock g.O.Sink c.args.script.now c.args.clock c.args.disk c.open.new.disk c.args.out.now c.run_opened.new.out c.run_opened.result (λ starts. c.law_starts.ensures.failed c.args.disk c.open.new.disk starts c.open.ensures.any_moment) (g.met.D.Disk g.world.𝓛 g.world.𝓜 g.world.𝓡 ((λ s x. x), (λ x. x), (λ x. x), λ x. x)).told c.in-Ok.opened own.stood own.sound
-    own.counts c.open.ensures.touches
+    own.opened_by c.open.ensures.touches
     (λ starts tells. c.law_starts.ensures.opened c.args.disk c.open.new.disk c.in-Ok.opened starts tells own.sound own.stands own.catalogue own.read c.open.ensures.any_moment)
     (λ reads tells. opened_now g.D.Disk c.args.disk c.in-Ok.opened (own.sound tells) c.open.new.disk (own.stands tells) (own.catalogue tells) (own.read tells) reads)
     c.run_opened.ensures.begun c.run_opened.ensures.past c.run_opened.ensures.ran

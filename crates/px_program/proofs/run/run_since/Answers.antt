@@ -4,7 +4,8 @@ use Rattle.px_server.specs.Started.{IsOpenedOn}
 use Rattle.px_program.specs.inner.Outcomes.{with_disk}
 use Rattle.px_program.specs.inner.Running.{RanOpened, IsLeftSince, at_least}
 use Rattle.px_outside.specs.OnDisk.{IsLeft}
-use Rattle.px_program.proofs.Stops.{begins_later, later, opened_later, ran_later}
+use Rattle.px_program.proofs.Later.{later}
+use Rattle.px_program.proofs.Stops.{begins_later, opened_later, ran_later}
 use Rattle.px_program.proofs.run.run_since.Goals as goal
 
 pub run_over-requires-clause-disk : goal.run_over-requires-clause-disk

@@ -1,13 +1,18 @@
-use Rattle.std.proofs.Common.{rules, ◌≡◌, List, map, subst}
-use Rattle.std.specs.Prelude.{IsPermutation, IsTrue}
+use Rattle.std.proofs.Common.{rules, ◌≡◌, ◌+◌, List, map, subst, sym}
+use Rattle.std.specs.Prelude.{IsPermutation, IsTrue, sum_by}
+use Rattle.px_outside.specs.OnDisk.{Passes}
+use Rattle.px_region.proofs.Calls.{passes_then}
+use Rattle.px_catalog.specs.Catalogue.{standing_of}
 use Rattle.px_region.specs.declared.region.Region.{Region}
 use Rattle.px_schema.specs.declared.standing.Standing.{Standing}
 use Rattle.px_recovery.specs.Folder.{region_numbers}
 use Rattle.px_recovery.proofs.Definitions.{catalogue_stays}
 use Rattle.px_folder.specs.Damage.{IsDamagedBelow, below}
+use Rattle.px_folder.specs.Calls.{AreOpenedBy}
 use Rattle.px_folder.specs.Drawn.{AreDrawn}
+use Rattle.px_folder.proofs.Calls.{opened_before}
 use Rattle.px_folder.specs.Read.{number_of}
-use Rattle.px_folder.proofs.Reading.{all_touches, below_before, catalogue_after, folder_counts, folder_read, folder_sound, folder_stands, folder_stood, leaves_folder}
+use Rattle.px_folder.proofs.Reading.{all_touches, below_before, all_drawn, catalogue_after, folder_read, folder_sound, folder_stands, folder_stood, leaves_folder}
 use Rattle.px_folder.proofs.folder.Folder.read.Goals as goal
 
 pub returns-in_err-catalog-clause-any_moment : goal.returns-in_err-catalog-clause-any_moment
@@ -114,8 +119,17 @@ returns-in-Ok-clause-touches g c = λ tells.
     let same = c.read_regions.ensures.seen in
     all_touches d old mid new (c.start.ensures.touches tells) quiet same
 
-pub returns-in-Ok-clause-counts : goal.returns-in-Ok-clause-counts
-returns-in-Ok-clause-counts g c = folder_counts g.D.Disk c.args.disk.now c.start.new.disk c.read_regions.new.disk c.standing.result.now c.in_ok-catalog.catalog.standing c.standing.ensures c.start.ensures.counts c.read_regions.ensures.counts
+pub returns-in-Ok-clause-opened_by : goal.returns-in-Ok-clause-opened_by
+returns-in-Ok-clause-opened_by g c = λ calls tells all.
+    let d = g.D.Disk in
+    let old = c.args.disk.now in
+    let mid = c.start.new.disk in
+    let standing = standing_of c.in_ok-catalog.catalog in
+    let same : c.standing.result.now ≡ standing = c.standing.ensures in
+    let drawn = all_drawn standing (subst AreDrawn same c.in-Ok.ensures.drawn) in
+    let here = opened_before d old mid standing.next (region_numbers standing) calls (c.start.ensures.touches tells) drawn all in
+    let passes = c.in-Ok.ensures.opened_by calls tells (subst (λ (s : Standing). AreOpenedBy (d.seen mid) (region_numbers s) calls) (sym same) here) in
+    subst (λ (s : Standing). Passes d old c.read_regions.new.disk (17 + sum_by calls (region_numbers s))) same (passes_then d old mid c.read_regions.new.disk 17 _ c.start.ensures.counts passes)
 
 pub returns-in-Err-clause-any_moment : goal.returns-in-Err-clause-any_moment
 returns-in-Err-clause-any_moment g c = λ tells f stood on some.

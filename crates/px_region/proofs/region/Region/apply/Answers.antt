@@ -11,7 +11,7 @@ use Rattle.px_region.proofs.region.Region.apply.Goals as goal
 pub returns-in-Err-clause-any_moment : goal.returns-in-Err-clause-any_moment
 returns-in-Err-clause-any_moment g c = λ s holds.
     let over : (names c.args.self.now.manifest).flushed < c.args.self.now.wal.last + 1 = (let l = c.args.self.now.later (omega arith) in omega arith) in
-    log_leaves g.D.Disk c.args.self.now c.args.disk.now s holds c.append.new.disk (c.append.ensures.touches _ _ holds.batches holds.log) (next_batch c.args.self.now.wal c.args.cells) over (c.append.ensures.any_moment _ _ holds.batches holds.log)
+    log_leaves g.D.Disk c.args.self.now c.args.disk.now s holds c.append.new.disk (c.append.ensures.touches _ _ holds.batches holds.has.parts.log) (next_batch c.args.self.now.wal c.args.cells) over (c.append.ensures.any_moment _ _ holds.batches holds.has.parts.log)
 
 pub returns-in-Err-clause-failed : goal.returns-in-Err-clause-failed
 returns-in-Err-clause-failed g c = λ is.
@@ -20,22 +20,22 @@ returns-in-Err-clause-failed g c = λ is.
     (λ e. c.in-Err.ensures.failed (ap Err e))
 
 pub returns-in-Err-clause-touches : goal.returns-in-Err-clause-touches
-returns-in-Err-clause-touches g c = λ s holds. touches_log g.D.Disk c.args.self.now c.args.disk.now s holds c.append.new.disk (c.append.ensures.touches _ _ holds.batches holds.log)
+returns-in-Err-clause-touches g c = λ s holds. touches_log g.D.Disk c.args.self.now c.args.disk.now s holds c.append.new.disk (c.append.ensures.touches _ _ holds.batches holds.has.parts.log)
 
 pub returns-in-Ok-clause-done : goal.returns-in-Ok-clause-done
 returns-in-Ok-clause-done g c = λ s holds.
     let over : (names c.args.self.now.manifest).flushed < c.args.self.now.wal.last + 1 = (let l = c.args.self.now.later (omega arith) in omega arith) in
-    log_more g.D.Disk c.args.self.now c.args.disk.now s holds c.append.new.disk (c.append.ensures.touches _ _ holds.batches holds.log) (next_batch c.args.self.now.wal c.args.cells) over _ _ _ _ _ (c.in-Ok.ensures.done _ _ holds.batches holds.log)
+    log_more g.D.Disk c.args.self.now c.args.disk.now s holds c.append.new.disk (c.append.ensures.touches _ _ holds.batches holds.has.parts.log) (next_batch c.args.self.now.wal c.args.cells) over _ _ _ _ _ (omega arith) (c.in-Ok.ensures.done _ _ holds.batches holds.has.parts.log)
     c.put.ensures.merged (ap (λ (n : ℕ). c.args.self.now.cells + n) c.len-count.ensures)
-    (ap (λ (n : ℕ). c.args.self.now.bytes + n) (c.byte_len-bytes.ensures ∙ ap (λ (l : List CellData). length (all_bytes l)) c.as_slice.ensures)) refl refl refl refl refl refl
+    (ap (λ (n : ℕ). c.args.self.now.bytes + n) (c.byte_len-bytes.ensures ∙ ap (λ (l : List CellData). length (all_bytes l)) c.as_slice.ensures)) refl refl refl refl refl refl refl refl
 
 pub returns-in-Ok-clause-any_moment : goal.returns-in-Ok-clause-any_moment
 returns-in-Ok-clause-any_moment g c = λ s holds.
     let over : (names c.args.self.now.manifest).flushed < c.args.self.now.wal.last + 1 = (let l = c.args.self.now.later (omega arith) in omega arith) in
-    log_leaves g.D.Disk c.args.self.now c.args.disk.now s holds c.append.new.disk (c.append.ensures.touches _ _ holds.batches holds.log) (next_batch c.args.self.now.wal c.args.cells) over (c.append.ensures.any_moment _ _ holds.batches holds.log)
+    log_leaves g.D.Disk c.args.self.now c.args.disk.now s holds c.append.new.disk (c.append.ensures.touches _ _ holds.batches holds.has.parts.log) (next_batch c.args.self.now.wal c.args.cells) over (c.append.ensures.any_moment _ _ holds.batches holds.has.parts.log)
 
 pub returns-in-Ok-clause-touches : goal.returns-in-Ok-clause-touches
-returns-in-Ok-clause-touches g c = λ s holds. touches_log g.D.Disk c.args.self.now c.args.disk.now s holds c.append.new.disk (c.append.ensures.touches _ _ holds.batches holds.log)
+returns-in-Ok-clause-touches g c = λ s holds. touches_log g.D.Disk c.args.self.now c.args.disk.now s holds c.append.new.disk (c.append.ensures.touches _ _ holds.batches holds.has.parts.log)
 
 pub returns-in-Ok-clause-read : goal.returns-in-Ok-clause-read
 returns-in-Ok-clause-read g c = settled_is _ _ c.put.ensures.merged

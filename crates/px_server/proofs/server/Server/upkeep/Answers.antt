@@ -20,8 +20,8 @@ returns-in-Some-clause-refused g c =
     subst (λ (w : Shown). Refuses upkeep_cause (known_by b g.B.Based.damaged w) (known_by b g.B.Based.damaged w) (Closed c.in-Some.call)) c.self.view_is
     (closed_by (known_by b g.B.Based.damaged v) told.legal s.closed told.closing c.in-Some.call c.in-Some.is)
 
-pub returns-in_default-unlogged_table-clause-ok : goal.returns-in_default-unlogged_table-clause-ok
-returns-in_default-unlogged_table-clause-ok g c =
+pub returns-in_default-due_table-clause-ok : goal.returns-in_default-due_table-clause-ok
+returns-in_default-due_table-clause-ok g c =
     let s = c.self.inside in
     let b = g.B.Based.base in
     let told = c.self.invariant.0.told in
@@ -32,7 +32,7 @@ pub invariant_of-self : goal.invariant_of-self
 invariant_of-self g c =
     let s = c.self.inside in (
       stepped g.D.Disk g.met.D.Disk.told g.met.D.Disk.up_to_now g.B.Based.base g.B.Founded.sound g.B.Founded.premise g.B.Founded.began s.disk s.catalog s.standing s.groups.items s.trail s.late s.closed c.self.invariant.0 c.in_default.is
-          c.in-Some-unlogged_table.place c.index_mut-group.result.now c.step_table.new.group (subst (λ (gs : List Group). c.in-Some-unlogged_table.place < length gs) c.as_slice.ensures.value c.in-Some-unlogged_table.ensures.found.0) (sym c.index_mut-group.ensures.value) c.step_table.new.disk c.in-Ok.ensures.ok,
+          c.in-Some-due_table.place c.index_mut-group.result.now c.step_table.new.group (subst (λ (gs : List Group). c.in-Some-due_table.place < length gs) c.as_slice.ensures.value c.in-Some-due_table.ensures) (sym c.index_mut-group.ensures.value) c.step_table.new.disk c.in-Ok.ensures.ok,
       c.self.invariant.1,
     )
 
@@ -40,7 +40,7 @@ pub invariant_of-self-in-Err-Memory : goal.invariant_of-self-in-Err-Memory
 invariant_of-self-in-Err-Memory g c =
     let s = c.self.inside in (
       stepped g.D.Disk g.met.D.Disk.told g.met.D.Disk.up_to_now g.B.Based.base g.B.Founded.sound g.B.Founded.premise g.B.Founded.began s.disk s.catalog s.standing s.groups.items s.trail s.late s.closed c.self.invariant.0 c.in_default.is
-          c.in-Some-unlogged_table.place c.index_mut-group.result.now c.step_table.new.group (subst (λ (gs : List Group). c.in-Some-unlogged_table.place < length gs) c.as_slice.ensures.value c.in-Some-unlogged_table.ensures.found.0) (sym c.index_mut-group.ensures.value) c.step_table.new.disk ((rw c.in-Err-Memory.field-0-is at c.in-Err-Memory.ensures.refused) refl),
+          c.in-Some-due_table.place c.index_mut-group.result.now c.step_table.new.group (subst (λ (gs : List Group). c.in-Some-due_table.place < length gs) c.as_slice.ensures.value c.in-Some-due_table.ensures) (sym c.index_mut-group.ensures.value) c.step_table.new.disk ((rw c.in-Err-Memory.field-0-is at c.in-Err-Memory.ensures.refused) refl),
       c.self.invariant.1,
     )
 
@@ -49,7 +49,7 @@ invariant_of-self-in-Err-WriteFault g c =
     let s = c.self.inside in
     let failed = (rw c.in-Err-WriteFault.field-0-is at c.in-Err-WriteFault.ensures.failed) refl in (
       stopped g.D.Disk g.met.D.Disk.told g.met.D.Disk.up_to_now g.B.Based.base g.B.Founded.sound g.B.Founded.premise g.B.Founded.began s.disk s.catalog s.standing s.groups.items s.trail s.late s.closed c.self.invariant.0 c.in_default.is
-          c.in-Some-unlogged_table.place c.index_mut-group.result.now c.step_table.new.group (subst (λ (gs : List Group). c.in-Some-unlogged_table.place < length gs) c.as_slice.ensures.value c.in-Some-unlogged_table.ensures.found.0) (sym c.index_mut-group.ensures.value) c.step_table.new.disk failed.0 c.call_count-calls.result s.seat c.call_count-calls.ensures failed.1 c.shut.new.trail c.shut.ensures.entries c.shut.ensures.room,
+          c.in-Some-due_table.place c.index_mut-group.result.now c.step_table.new.group (subst (λ (gs : List Group). c.in-Some-due_table.place < length gs) c.as_slice.ensures.value c.in-Some-due_table.ensures) (sym c.index_mut-group.ensures.value) c.step_table.new.disk failed.0 c.call_count-calls.result s.seat c.call_count-calls.ensures failed.1 c.shut.new.trail c.shut.ensures.entries c.shut.ensures.room,
       (c.self.invariant.1.0, more_by_clock g.C.Clock g.B.Founded.times g.B.Based.base s.clock s.trail.entries c.self.invariant.1.1 c.shut.new.trail.entries (record { seat = s.seat; calls = c.call_count-calls.result; act = Shut c.call_count-calls.result }) c.shut.ensures.entries refl),
     )
 

@@ -1,0 +1,30 @@
+use Rattle.std.proofs.Common.{◌≡◌, ap, refl, sym, subst, Err, OnOk}
+use Rattle.px_region.proofs.Holding.{log_rests, log_switched, stands_now, touches_log}
+use Rattle.px_region.proofs.region.Region.switch_step.Goals as goal
+
+pub returns-in-Ok-clause-done : goal.returns-in-Ok-clause-done
+returns-in-Ok-clause-done g c = λ s holds.
+    let log = holds.has.parts.log in
+    let went = c.in-Ok.ensures.done _ _ holds.batches log c.requires.may in
+    log_switched g.D.Disk c.args.self.now c.args.disk.now s holds c.switch_step.new.disk (c.switch_step.ensures.touches _ _ holds.batches log) _ _ went.0 went.1 c.requires.idle went.2 refl refl refl refl refl refl refl refl
+
+pub returns-in-Ok-clause-any_moment : goal.returns-in-Ok-clause-any_moment
+returns-in-Ok-clause-any_moment g c = λ s holds.
+    let log = holds.has.parts.log in
+    log_rests g.D.Disk c.args.self.now c.args.disk.now s holds c.switch_step.new.disk (c.switch_step.ensures.touches _ _ holds.batches log) (c.switch_step.ensures.any_moment _ _ holds.batches log c.requires.may)
+
+pub returns-in-Ok-clause-touches : goal.returns-in-Ok-clause-touches
+returns-in-Ok-clause-touches g c = λ s holds. touches_log g.D.Disk c.args.self.now c.args.disk.now s holds c.switch_step.new.disk (c.switch_step.ensures.touches _ _ holds.batches holds.has.parts.log)
+
+pub returns-in-Err-WriteFault-clause-any_moment : goal.returns-in-Err-WriteFault-clause-any_moment
+returns-in-Err-WriteFault-clause-any_moment g c = λ s holds.
+    let log = holds.has.parts.log in
+    log_rests g.D.Disk c.args.self.now c.args.disk.now s holds c.switch_step.new.disk (c.switch_step.ensures.touches _ _ holds.batches log) (c.switch_step.ensures.any_moment _ _ holds.batches log c.requires.may)
+
+pub returns-in-Err-WriteFault-clause-touches : goal.returns-in-Err-WriteFault-clause-touches
+returns-in-Err-WriteFault-clause-touches g c = λ s holds. touches_log g.D.Disk c.args.self.now c.args.disk.now s holds c.switch_step.new.disk (c.switch_step.ensures.touches _ _ holds.batches holds.has.parts.log)
+
+pub returns-in-Err-Full-clause-any_moment : goal.returns-in-Err-Full-clause-any_moment
+returns-in-Err-Full-clause-any_moment g c = λ s holds.
+    let log = holds.has.parts.log in
+    log_rests g.D.Disk c.args.self.now c.args.disk.now s holds c.switch_step.new.disk (c.switch_step.ensures.touches _ _ holds.batches log) (c.switch_step.ensures.any_moment _ _ holds.batches log c.requires.may)
