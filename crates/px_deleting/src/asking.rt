@@ -34,12 +34,8 @@ fn order_of(alloc: Global, key: &[KeyPlace]) -> Result<Items<KeyPlace>, AllocErr
     Ok(Items::of(order))
 }
 
-/// Asks of each row that meets the condition for the values of its key, in their order.
-pub(crate) fn planned(
-    alloc: Global,
-    table: Table,
-    filter: Option<Bound>,
-) -> Result<Planned, AllocError>
+/// The query by which a DELETE finds its rows: of each row of the table that meets the condition the values of its key, in their order.
+pub fn planned(alloc: Global, table: Table, filter: Option<Bound>) -> Result<Planned, AllocError>
     ensures { IfOk result (λ p. p ≡ planned_for table filter) }
 {
     let shown = columns_of(alloc, table.key.as_slice())?;

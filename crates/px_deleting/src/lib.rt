@@ -12,6 +12,7 @@ mod laws;
 mod machine;
 mod run;
 
+pub use asking::planned;
 pub use deleted::{DeleteFault, DeleteTurn, Deleted, Removed};
 pub use laws::{law_removed, law_turns};
 pub use machine::{DeleteState, Left};

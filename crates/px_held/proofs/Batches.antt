@@ -1,5 +1,5 @@
 -- Held changes are so many, and of so different rows, as those of a batch have to be.
-use Rattle.std.proofs.Common.{ℕ, ◌≡◌, ◌≢◌, ◌≤◌, ◌&&◌, ◌||◌, not, Bool, true, false, List, [], ◌∷◌, ◌++◌, length, Result, Ok, Err, refl, sym, ◌∙◌, ap, subst, inl, inr, ⊎_elim, arith}
+use Rattle.std.proofs.Common.{◌≡◌, ◌≢◌, ◌≤◌, ◌&&◌, ◌||◌, not, Bool, true, false, List, [], ◌∷◌, length, Result, Ok, Err, refl, sym, ◌∙◌, ap, subst, ⊎_elim, arith}
 use Rattle.std.specs.Prelude.{OnErr, OnOk}
 use Rattle.std.specs.Ordering.{is_eq}
 use Rattle.std.proofs.lemmas.Bool.{cases_Bool, false≢true}
@@ -66,7 +66,7 @@ none-with shape (h ∷ held) c x none other = ⊎_elim
     (λ apart. let p = parts h.row (rows_of held) x none in rw apart (one-more h.row (rows_of (with_change shape held c)) x p.0 (none-with shape held c x p.1 other)))
     (cases_Bool (is_eq (row_order h.row c.row)))
 
-distinct-with : (shape : Shape) (held : List Change) (c : Change) → is_distinct (rows_of held) ≡ true → is_distinct (rows_of (with_change shape held c)) ≡ true
+pub distinct-with : (shape : Shape) (held : List Change) (c : Change) → is_distinct (rows_of held) ≡ true → is_distinct (rows_of (with_change shape held c)) ≡ true
 unfolding with_change
 distinct-with shape [] c d = one-distinct c.row
 distinct-with shape (h ∷ held) c d = ⊎_elim
@@ -76,7 +76,7 @@ distinct-with shape (h ∷ held) c d = ⊎_elim
     rw apart (distinct-more h.row (rows_of (with_change shape held c)) (none-with shape held c h.row p.0 (other-way h.row c.row apart)) (distinct-with shape held c p.1)))
     (cases_Bool (is_eq (row_order h.row c.row)))
 
-some-with : (shape : Shape) (held : List Change) (c : Change) → with_change shape held c ≢ []
+pub some-with : (shape : Shape) (held : List Change) (c : Change) → with_change shape held c ≢ []
 unfolding with_change
 some-with shape [] c e = cc
 some-with shape (h ∷ held) c e = ⊎_elim

@@ -17,6 +17,11 @@ with_change shape [] change = change ∷ []
 with_change shape (h ∷ held) change =
     if is_eq (row_order h.row change.row) then record { row = h.row; what = merged shape h.what change.what } ∷ held else h ∷ with_change shape held change
 
+-- the held changes with these, which are held one after the other
+unfoldable pub with_changes : Shape → List Change → List Change → List Change
+with_changes shape held [] = held
+with_changes shape held (c ∷ cs) = with_changes shape (with_change shape held c) cs
+
 -- the first change of this row stands there
 pub record IsPlace (held : List Change) (row : List Value) (i : ℕ) : Type 0 where
   pub within : i < length held
@@ -35,3 +40,8 @@ IsManyRows Memory held = Unit {0}
 abbrev pub IsFull : HoldFault → List Change → List Value → Type 0
 IsFull Rows held row = (most_rows ≤ length held) × (has (rows_of held) row ≡ false)
 IsFull Memory held row = Unit {0}
+
+-- why none of these changes is held: with them more rows would be held than may be; or there was no memory
+abbrev pub AreTooMany : HoldFault → Shape → List Change → List Change → Type 0
+AreTooMany Rows shape held cs = most_rows < length (with_changes shape held cs)
+AreTooMany Memory shape held cs = Unit {0}

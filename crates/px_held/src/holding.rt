@@ -11,6 +11,7 @@ use px_tables::Table;
 use px_values::{Change, Direction, Value, compare};
 use std::alloc::Global;
 use std::cmp::Ordering;
+use std::collections::VecDeque;
 
 /// Why a change isn't held.
 #[derive(Clone, Copy, Debug, PartialEq, Eq)]
@@ -76,6 +77,30 @@ pub fn hold(
         },
         None => add(held, change),
     }
+}
+
+/// Holds changes of rows of the table one after the other, up to the first that isn't held.
+pub(crate) fn hold_each(
+    alloc: Global,
+    table: &Table,
+    held: &mut Vec<Change>,
+    mut changes: VecDeque<Change>,
+) -> Result<(), HoldFault>
+    requires { length table.now.columns ≤ 255 }
+    ensures ok { OnOk result (held.new.items ≡ spec.with_changes (table_shape table.now) held.old.items changes.items) }
+    ensures fault { IfErr result (λ fault. spec.AreTooMany fault (table_shape table.now) held.old.items changes.items) }
+    ensures rows { length held.old.items ≤ 1000 → length held.new.items ≤ 1000 }
+{
+    'changes: while let Some(change) = changes.pop_front() {
+        match hold(alloc, table, held, change) {
+            Ok(()) => {}
+            Err(fault) => {
+                drop(changes);
+                return Err(fault);
+            }
+        }
+    }
+    Ok(())
 }
 
 /// Holds a change of a row of which none is held.

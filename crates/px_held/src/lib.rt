@@ -11,7 +11,7 @@ mod holding;
 mod laws;
 mod merging;
 
-pub use changes::HeldChanges;
+pub use changes::{HeldChanges, held_with};
 pub use holding::{HoldFault, hold};
 pub use laws::law_merged;
 pub use merging::merged;

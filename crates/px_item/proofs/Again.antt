@@ -1,12 +1,11 @@
 -- A piece is asked once more only behind a commit that was made.
-use Rattle.std.proofs.Common.{ℕ, ◌≡◌, ◌≢◌, Bool, true, false, Option, None, Some, List, refl, sym, ◌∙◌, ap, ⊎_elim}
+use Rattle.std.proofs.Common.{ℕ, ◌≡◌, ◌≢◌, Bool, true, false, Option, None, Some, List, sym, ◌∙◌, ap, ⊎_elim}
 use Rattle.px_lex.specs.Script.{SeenPiece}
 use Rattle.px_commands.specs.declared.command.Command.{Command}
 use Rattle.px_commands.specs.declared.command.Command.TheVariants as commands
 use Rattle.px_held.specs.HeldData.{HeldData}
 use Rattle.px_trail.specs.declared.entry.Act.{Act}
 use Rattle.px_calls.specs.Known.{Known}
-use Rattle.px_item.specs.declared.answered.After.{After}
 use Rattle.px_item.specs.declared.answered.After.TheVariants as next_is
 use Rattle.px_item.specs.declared.answered.Answered.{Answered}
 use Rattle.px_item.specs.declared.answered.Settings.{Settings}
@@ -37,7 +36,6 @@ module _ (a : Answered) (st' : Settings) (once_more : a.after ≡ next_is.Again 
   not_at_once st p (right.is_long kind long says) = not_so st says.3
   not_at_once st p (right.is_not_read e read says) = not_so st says.3
   not_at_once st p (right.is_not_built x read built says) = not_so st says.3
-  not_at_once st p (right.is_held_as_whole x read held says) = not_so st says.3
   not_at_once st p (right.is_under_scn x read may scn says) = not_so st says.3
   not_at_once st p (right.is_wrong_table t fault read whole scn first says) = not_so st says.3
   not_at_once st p (right.is_no_command e read says) = not_so st says.3
@@ -73,6 +71,8 @@ module _ (a : Answered) (st' : Settings) (once_more : a.after ≡ next_is.Again 
   again_only sound k before own st p (right.is_not_selected q f x fault read bound asked outcome since says) = absurd (⊎_elim (λ is. not_so st is.3) (λ is. not_so st is.3) says)
   again_only sound k before own st p (right.is_deleted x f m read scn on bound fits h first says) = absurd (not_so st says.2)
   again_only sound k before own st p (right.is_not_deleted x f fault read scn on bound fits h since stops says) = absurd (not_so st says.1)
-  again_only sound k before own st p (right.is_not_found x f fault read scn on bound fits outcome since says) = absurd (⊎_elim (λ is. not_so st is.3) (λ is. not_so st is.3) says)
+  again_only sound k before own st p (right.is_not_found x f fault read scn bound fits outcome since says) = absurd (⊎_elim (λ is. not_so st is.3) (λ is. not_so st is.3) says)
+  again_only sound k before own st p (right.are_held x f first cs s read scn off bound fits found from holding says) = absurd (not_so s says.3)
+  again_only sound k before own st p (right.are_too_many x f first cs read scn off bound fits found from many says) = absurd (not_so st says.3)
   again_only sound k before own st p (right.is_explained q f x read bound planned says none) = absurd (not_so st says.3)
   again_only sound k before own st p (right.is_not_explained q f read bound planned says none) = absurd (not_so st says.3)

@@ -1,5 +1,9 @@
 pub mod Again
-pub mod Plain
-pub mod Newly
-pub mod Starting
+pub mod Committing
+pub mod Following
 pub mod Going
+pub mod Newly
+pub mod Passing
+pub mod Plain
+pub mod Sought
+pub mod Starting

@@ -1,5 +1,5 @@
 -- What is told of the trail alone doesn't depend on whether others act.
-use Rattle.std.proofs.Common.{ℕ, Bool, true, false, Option, None, Some, Result, Ok, Err, List, [], Vec, refl, sym, ◌⊎◌, inl, inr}
+use Rattle.std.proofs.Common.{ℕ, Bool, true, false, Option, None, Some, Result, Ok, Err, List, [], Vec, refl, sym, inl, inr}
 use Rattle.std.specs.Global.{Global}
 use Rattle.px_lex.specs.Script.{SeenPiece}
 use Rattle.px_item.specs.declared.answered.Settings.{Settings}
@@ -48,7 +48,7 @@ use Rattle.px_commanding.specs.declared.count.CountFault.{CountFault}
 use Rattle.px_commanding.specs.declared.count.CountFault.TheVariants as uncounted
 use Rattle.px_held.specs.HeldData.{HeldData}
 use Rattle.px_calls.specs.declared.status.Status.{Status}
-use Rattle.px_item.specs.Right.{MakesWay, AsksToCommit, plain}
+use Rattle.px_item.specs.Right.{AsksToCommit, plain}
 
 limit_plain : (sound : Type 0) (t : ℕ) (cs : List Change) (which : Limit) (k : Known) → batch_limit sound t cs which k → batch_limit sound t cs which (plain k)
 limit_plain sound t cs bound.Key k h = h
@@ -198,6 +198,9 @@ outcome_plain sound p scn own k (Err f) h = (query_plain (query_of p) scn f k h.
 later_plain : (k : Known) → Later k (plain k)
 later_plain k = record { more = []; seen = sym (append-nil k.seen); base = refl; seat = refl }
 
+pub found_plain : (sound : Type 0) (p : Planned) (k : Known) (first : ℕ) (acts : List Act) (cs : List Change) → deleting.HasFound sound p k first acts cs → deleting.HasFound sound p (plain k) first acts cs
+found_plain sound p k first acts cs h = found-later sound p k (plain k) first acts cs (later_plain k) h
+
 pub removed_plain : (sound : Type 0) (p : Planned) (own : List Act) (k : Known) (rs : List Receipt) (m : Removed) → deleting.HasRemoved sound p own k rs m → deleting.HasRemoved sound p own (plain k) rs m
 removed_plain sound p own k rs m h =
     let now = later_plain k in
@@ -247,7 +250,7 @@ committed_plain sound h own k (Err f) o = (commit_plain sound h f k o.0, o.1)
 
 pub asks_plain : (k : Known) (first : ℕ) (st : Settings) (p : SeenPiece) (h : HeldData) (again : Bool) → AsksToCommit k first st p h again → AsksToCommit (plain k) first st p h again
 asks_plain k first st p h true (inl a) = inl a
-asks_plain k first st p h true (inr m) = inr (record { upsert = m.upsert; found = m.found; read = m.read; free = m.free; off = m.off; bound = m.bound; right = m.right; other = m.other })
+asks_plain k first st p h true (inr m) = inr (record { statement = m.statement; found = m.found; read = m.read; free = m.free; holds = m.holds; bound = m.bound; right = m.right; other = m.other })
 asks_plain k first st p h false a = a
 
 was_found_plain : (n : ℕ) (name : List ℕ) (t : TableId) (k : Known) → counts.WasFound n name t k → counts.WasFound n name t (plain k)

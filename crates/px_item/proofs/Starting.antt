@@ -23,7 +23,7 @@ use Rattle.px_item.specs.declared.item.ItemState.{ItemState}
 use Rattle.px_item.specs.declared.item.ItemState.TheVariants as state
 use Rattle.px_item.specs.Right as right
 use Rattle.px_item.specs.Right.{AsksCommit, AsksToCommit, IsAtOnce, IsCreation, IsCreationIf, IsRead, MayRun, Refuses, creates_table, is_built, is_none_of}
-use Rattle.px_item.specs.Turns.{Fits, FitsState, HasBegun, IsAsking, IsBegun, IsStart}
+use Rattle.px_item.specs.Turns.{Fits, FitsState, HasBegun, IsBegun, IsStart}
 
 pub refused_so : (st : Settings) (p : SeenPiece) (x : Statement) (r : Refusal) (a : Answered) → IsRead p (Ok x) → MayRun st x → is_built x ≡ true → IsCreationIf x (Some (Err r)) → Refuses a r st → IsAtOnce st p a
 refused_so st p (s.CreateTable t) r a read free built (inl e) says = right.is_lacking (says.0 ∙ ap reply.Refused e, says.1, says.2, says.3)
@@ -63,6 +63,7 @@ start_state sound before asked (state.Defining y run) k low within i =
 start_state sound before asked (state.Indexing y run) k low within i = absurd i
 start_state sound before asked (state.Selecting y run) k low within i = absurd i
 start_state sound before asked (state.Deleting y run) k low within i = absurd i
+start_state sound before asked (state.Seeking y run) k low within i = absurd i
 start_state sound before asked (state.Committing again run) k low within i =
     let h = some_held asked.settings.held i.1 in
     let F : CommitRun → Type 0 = λ r. commits.Fits h.0 r k × commits.IsSince before r k × ([] ≡ commits.begun r) in

@@ -1,2 +1,3 @@
 pub mod Right
+pub mod Seeking
 pub mod Turns

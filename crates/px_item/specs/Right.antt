@@ -30,7 +30,8 @@ use Rattle.px_commands.specs.declared.command.Command.{Command}
 use Rattle.px_commands.specs.declared.command.Command.TheVariants as commands
 use Rattle.px_commands.specs.declared.command.CommandFault.{CommandFault}
 use Rattle.px_commands.specs.declared.command.CommandFault.TheVariants as command
-use Rattle.px_held.specs.HeldData.{HeldData, HoldsOne, with_more}
+use Rattle.px_held.specs.Held.{with_changes}
+use Rattle.px_held.specs.HeldData.{HeldData, HoldsOne, changes_in, held_with, with_more}
 use Rattle.px_held.specs.declared.holding.HoldFault.{HoldFault}
 use Rattle.px_held.specs.declared.holding.HoldFault.TheVariants as unheld
 use Rattle.px_tables.specs.declared.found.Found.{Found}
@@ -68,7 +69,7 @@ use Rattle.px_bind.specs.Requests.{faults_in}
 use Rattle.px_bind.specs.Upserts.{change_of, upsert_faults}
 use Rattle.px_trail.specs.declared.entry.Act.{Act}
 use Rattle.px_trail.specs.declared.entry.Entry.{Entry}
-use Rattle.px_trail.specs.Trail.{Base}
+use Rattle.px_trail.specs.Trail.{Base, table_shape}
 use Rattle.px_trail.specs.Batches.{has, rows_of}
 use Rattle.px_calls.specs.declared.definition.Definition.{Definition}
 use Rattle.px_calls.specs.declared.definition.Definition.TheVariants as d
@@ -249,9 +250,13 @@ changes x = true
 abbrev pub holds : Settings → Statement → Bool
 holds st x = not st.autocommit && is_upsert x
 
--- its rows would be held, which isn't built
-abbrev pub is_held_deletion : Settings → Statement → Bool
-is_held_deletion st x = not st.autocommit && is_delete x
+-- the removals of its rows are held
+abbrev pub holds_rows : Settings → Statement → Bool
+holds_rows st x = not st.autocommit && is_delete x
+
+-- what it changes is held
+abbrev pub MayHold : Settings → Statement → Type 0
+MayHold st x = (holds st x ≡ true) ⊎ (holds_rows st x ≡ true)
 
 abbrev pub MayRun : Settings → Statement → Type 0
 MayRun st x = changes x ≡ true → st.scn ≡ None
@@ -354,7 +359,6 @@ pub data IsAtOnce (st : Settings) (p : SeenPiece) (a : Answered) : Type 0 where
   is_long : p.kind ≡ kinds.Statement → most_of bound.Statement < length p.text → Refuses a (refusal.Limit bound.Statement) st → IsAtOnce st p a
   is_not_read : (e : SyntaxFault) → IsRead p (Err e) → Refuses a (syntax_refusal e) st → IsAtOnce st p a
   is_not_built : (x : Statement) → IsRead p (Ok x) → is_built x ≡ false → Refuses a refusal.Form st → IsAtOnce st p a
-  is_held_as_whole : (x : Statement) → IsRead p (Ok x) → is_held_deletion st x ≡ true → Refuses a refusal.Form st → IsAtOnce st p a
   is_under_scn : (x : Statement) → IsRead p (Ok x) → changes x ≡ true → is_some st.scn ≡ true → Refuses a refusal.UnderScn st → IsAtOnce st p a
   -- a CREATE TABLE asks for no table that stands, and so what is wrong with it is told at once
   is_wrong_table : (t : CreateTable) (fault : BindFault) → IsRead p (Ok (s.CreateTable t)) → is_none_of t.splits ≡ true → st.scn ≡ None → IsFirst (table_faults t) fault → Refuses a (bind_refusal fault) st → IsAtOnce st p a
@@ -398,15 +402,37 @@ IsHolding t c st st' = (st'.scn ≡ st.scn) × (st'.autocommit ≡ st.autocommit
 abbrev pub IsFullOf : Table → Change → Option HeldData → Type 0
 IsFullOf t c o = (h : HeldData) × (o ≡ Some h) × (h.table ≡ t.id) × (1000 ≤ length h.changes) × (has (rows_of h.changes) c.row ≡ false)
 
--- an UPSERT in which nothing is wrong, of another table than the one of what is held
+-- changes of another table are held
+abbrev pub IsOfAnother : Option HeldData → TableId → Type 0
+IsOfAnother None t = ⊥
+IsOfAnother (Some h) t = t ≢ h.table
+
+abbrev pub IsOfNoOther : Option HeldData → TableId → Type 0
+IsOfNoOther None t = Unit {0}
+IsOfNoOther (Some h) t = h.table ≡ t
+
+-- these changes of the table are held with what was held before, all of the same table, and no other setting has changed
+pub record IsHoldingAll (t : Table) (cs : List Change) (st st' : Settings) : Type 0 where
+  pub scn : st'.scn ≡ st.scn
+  pub autocommit : st'.autocommit ≡ st.autocommit
+  pub other : IsOfNoOther st.held t.id
+  pub held : st'.held ≡ held_with t st.held cs
+  pub rows : length (with_changes (table_shape t) (changes_in st.held) cs) ≤ 1000
+
+-- with these changes more rows of the table would be held than may be
+pub record AreTooManyOf (t : Table) (cs : List Change) (st : Settings) : Type 0 where
+  pub other : IsOfNoOther st.held t.id
+  pub many : 1000 < length (with_changes (table_shape t) (changes_in st.held) cs)
+
+-- an UPSERT or a DELETE in which nothing is wrong, of another table than the one of what is held
 pub record MakesWay (k : Known) (first : ℕ) (st : Settings) (p : SeenPiece) (h : HeldData) : Type 0 where
-  pub upsert : Upsert
+  pub statement : Statement
   pub found : Found
-  pub read : IsRead p (Ok (s.Upsert upsert))
+  pub read : IsRead p (Ok statement)
   pub free : st.scn ≡ None
-  pub off : st.autocommit ≡ false
-  pub bound : IsBoundTo k.base k.seen first found upsert.table
-  pub right : upsert_faults found.table upsert ≡ []
+  pub holds : MayHold st statement
+  pub bound : IsBoundTo k.base k.seen first found (table_named statement)
+  pub right : faults_in found statement ≡ []
   pub other : found.table.id ≢ h.table
 
 -- Why what is held is committed: the piece is a commit; or it turns autocommit on, or changes another table, and is asked once more behind it
@@ -508,9 +534,14 @@ pub data IsRight (sound : Type 0) (k : Known) (before : ℕ) (own : List Act) (s
   -- one of its batches isn't made, and none behind it; the receipts of those before it are told
   is_not_deleted : (x : Delete) (f : Found) (fault : BatchFault) → IsRead p (Ok (s.Delete x)) → st.scn ≡ None → st.autocommit ≡ true → IsBoundTo k.base k.seen a.first f x.table → delete_faults f.table.columns x ≡ [] → deleting.HasStopped sound (deletion_query f x) own k a.receipts fault
       → batch.MadeSince a.first fault k → StopsAt a.reply x.table fault → (a.places ≡ []) × (a.after ≡ next_is.Next st) → IsRight sound k before own st p a
-  -- its rows weren't found, and none is removed
-  is_not_found : (x : Delete) (f : Found) (fault : QueryFault) → IsRead p (Ok (s.Delete x)) → st.scn ≡ None → st.autocommit ≡ true → IsBoundTo k.base k.seen a.first f x.table → delete_faults f.table.columns x ≡ [] → selecting.IsOutcome sound (deletion_query f x) None own k (Err fault)
+  -- its rows weren't found, and none is removed, and no removal held
+  is_not_found : (x : Delete) (f : Found) (fault : QueryFault) → IsRead p (Ok (s.Delete x)) → st.scn ≡ None → IsBoundTo k.base k.seen a.first f x.table → delete_faults f.table.columns x ≡ [] → selecting.IsOutcome sound (deletion_query f x) None own k (Err fault)
       → scan.MadeSince a.first fault k → Refuses a (query_refusal x.table fault) st ⊎ Refuses a refusal.Memory st → IsRight sound k before own st p a
+  -- without autocommit the removals of the rows that a current query found are held with what was held; or none of them is, where too many rows would be
+  are_held : (x : Delete) (f : Found) (first : ℕ) (cs : List Change) (st' : Settings) → IsRead p (Ok (s.Delete x)) → st.scn ≡ None → st.autocommit ≡ false → IsBoundTo k.base k.seen a.first f x.table → delete_faults f.table.columns x ≡ []
+      → deleting.HasFound sound (deletion_query f x) k first own cs → a.first ≤ first → IsHoldingAll f.table cs st st' → Says a (reply.Count (length cs) Held) st' → IsRight sound k before own st p a
+  are_too_many : (x : Delete) (f : Found) (first : ℕ) (cs : List Change) → IsRead p (Ok (s.Delete x)) → st.scn ≡ None → st.autocommit ≡ false → IsBoundTo k.base k.seen a.first f x.table → delete_faults f.table.columns x ≡ []
+      → deleting.HasFound sound (deletion_query f x) k first own cs → a.first ≤ first → AreTooManyOf f.table cs st → Refuses a (refusal.Limit bound.Rows) st → IsRight sound k before own st p a
   -- an EXPLAIN tells the path by the definitions alone
   is_explained : (q : Select) (f : Found) (x : Plan) → IsRead p (Ok (s.Explain q)) → IsBoundTo k.base k.seen a.first f q.table → IsPlanned f st.scn q (Ok x) → Says a (reply.Explained (explained x)) st → own ≡ [] → IsRight sound k before own st p a
   is_not_explained : (q : Select) (f : Found) → IsRead p (Ok (s.Explain q)) → IsBoundTo k.base k.seen a.first f q.table → IsPlanned f st.scn q (Err IndexJoin) → Refuses a refusal.IndexJoin st → own ≡ [] → IsRight sound k before own st p a
@@ -525,7 +556,7 @@ pub record MadeWay (st st' : Settings) (r : Reply) : Type 0 where
 
 abbrev pub ReadsAs : Settings → SeenPiece → ℕ → Read → Type 0
 ReadsAs st p first (read.Told a) = IsAtOnce st p a × (a.first ≡ first)
-ReadsAs st p first (read.Asks asked x) = (seen_piece asked.piece ≡ p) × (asked.settings ≡ st) × (asked.first ≡ first) × IsRead p (Ok x) × MayRun st x × (is_built x ≡ true) × (is_held_deletion st x ≡ false)
+ReadsAs st p first (read.Asks asked x) = (seen_piece asked.piece ≡ p) × (asked.settings ≡ st) × (asked.first ≡ first) × IsRead p (Ok x) × MayRun st x × (is_built x ≡ true)
 ReadsAs st p first (read.Commits asked again) = (seen_piece asked.piece ≡ p) × (asked.settings ≡ st) × (asked.first ≡ first) × AsksCommit p again × (st.held ≢ None)
 ReadsAs st p first (read.Counts asked name) = (seen_piece asked.piece ≡ p) × (asked.settings ≡ st) × (asked.first ≡ first) × IsCommandRead p (Ok (commands.Status name))
 
@@ -557,15 +588,6 @@ IsBatchOf x t c (next.Tell r) = r ≡ reply.Refused refusal.Memory
 abbrev pub IsRowOf : Found → Statement → Result Change Refusal → Type 0
 IsRowOf f x (Ok c) = (length f.table.columns ≤ 255) × ((u : Upsert) × (x ≡ s.Upsert u) × (upsert_faults f.table u ≡ []) × (c ≡ change_of f.table u))
 IsRowOf f x (Err r) = (r ≡ refusal.Memory) ⊎ ((fault : BindFault) × IsFirst (faults_in f x) fault × (r ≡ bind_refusal fault))
-
--- changes of another table are held
-abbrev pub IsOfAnother : Option HeldData → TableId → Type 0
-IsOfAnother None t = ⊥
-IsOfAnother (Some h) t = t ≢ h.table
-
-abbrev pub IsOfNoOther : Option HeldData → TableId → Type 0
-IsOfNoOther None t = Unit {0}
-IsOfNoOther (Some h) t = h.table ≡ t
 
 -- what is held after one change more, or why it is the same
 abbrev pub Adds : Table → Option HeldData → Change → Option HeldData → Result (Unit {0}) HoldFault → Type 0
@@ -618,6 +640,7 @@ FollowsTo scn x f (state.Defining y run) = (y ≡ x) × IsNext scn f x (next.Dro
 FollowsTo scn x f (state.Indexing y run) = (y ≡ x) × IsNext scn f x (next.Index run)
 FollowsTo scn x f (state.Selecting y run) = (y ≡ x) × IsNext scn f x (next.Select run)
 FollowsTo scn x f (state.Deleting y run) = (y ≡ x) × IsNext scn f x (next.Delete run)
+FollowsTo scn x f (state.Seeking y run) = ⊥
 FollowsTo scn x f (state.Committing again run) = ⊥
 FollowsTo scn x f (state.Counting name run) = ⊥
 
@@ -627,13 +650,13 @@ Follows asked x f (turn.Waiting r) = ⊥
 Follows asked x f (turn.Over a) = (a.first ≡ asked.first) × ((r : Reply) × IsTold asked.settings.scn f x r × Says a r asked.settings)
 
 -- what was held is to be committed before
-abbrev pub GoesToCommit : Asked → Table → ItemState → Type 0
-GoesToCommit asked t (state.Committing again run) = (again ≡ true) × (run ≡ committing.Finding) × ((h : HeldData) × (asked.settings.held ≡ Some h) × (t.id ≢ h.table))
+abbrev pub GoesToCommit : Asked → TableId → ItemState → Type 0
+GoesToCommit asked t (state.Committing again run) = (again ≡ true) × (run ≡ committing.Finding) × ((h : HeldData) × (asked.settings.held ≡ Some h) × (t ≢ h.table))
 GoesToCommit asked t st = ⊥
 
 -- what comes of one change more of the table
 abbrev pub Keeps : Asked → Table → Change → ItemTurn → Type 0
-Keeps asked t c (turn.Stepped r) = (r.asked ≡ asked) × GoesToCommit asked t r.state
+Keeps asked t c (turn.Stepped r) = (r.asked ≡ asked) × GoesToCommit asked t.id r.state
 Keeps asked t c (turn.Waiting r) = ⊥
 Keeps asked t c (turn.Over a) = (a.first ≡ asked.first) × (Refuses a refusal.Memory asked.settings ⊎ (((st' : Settings) × IsHolding t c asked.settings st' × Says a (reply.Count 1 Held) st') ⊎ (IsFullOf t c asked.settings.held × Refuses a (refusal.Limit bound.Rows) asked.settings)))
 

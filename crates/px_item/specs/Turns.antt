@@ -45,13 +45,12 @@ use Rattle.px_item.specs.declared.item.ItemState.{ItemState}
 use Rattle.px_item.specs.declared.item.ItemState.TheVariants as state
 use Rattle.px_item.specs.declared.item.ItemTurn.{ItemTurn}
 use Rattle.px_item.specs.declared.item.ItemTurn.TheVariants as turn
-use Rattle.px_item.specs.Right.{AsksCommit, AsksToCommit, HasRoomForOne, IsAskedOf, MayRun, IsAtOnce, IsBoundTo, IsCommandRead, IsCreation, IsRead, IsRight, creates_table, drop_of, is_held_deletion, is_none_of, one_change, plain, deletion_query, table_named}
+use Rattle.px_item.specs.Right.{AsksCommit, AsksToCommit, HasRoomForOne, IsAskedOf, MayRun, IsAtOnce, IsBoundTo, IsCommandRead, IsCreation, IsOfNoOther, IsRead, IsRight, creates_table, drop_of, is_none_of, one_change, plain, deletion_query, table_named}
 
 -- the statement was read, and may change something
 pub record IsAsking (asked : Asked) (x : Statement) : Type 0 where
   pub read : IsRead (seen_piece asked.piece) (Ok x)
   pub free : MayRun asked.settings x
-  pub alone : is_held_deletion asked.settings x ≡ false
 
 -- the batch of an UPSERT is under way
 pub record IsChanging (before : ℕ) (asked : Asked) (x : Statement) (run : BatchRun) (k : Known) : Type 0 where
@@ -112,6 +111,7 @@ pub record IsSelecting (sound : Type 0) (before : ℕ) (asked : Asked) (x : Stat
 pub record IsDeleting (sound : Type 0) (asked : Asked) (own : List Act) (x : Statement) (run : DeleteRun) (k : Known) : Type 0 where
   pub delete : Delete
   pub is : x ≡ s.Delete delete
+  pub alone : asked.settings.autocommit ≡ true
   pub found : Found
   pub bound : IsBoundTo k.base k.seen asked.first found delete.table
   pub right : delete_faults found.table.columns delete ≡ []
@@ -119,6 +119,22 @@ pub record IsDeleting (sound : Type 0) (asked : Asked) (own : List Act) (x : Sta
   pub going : deleting.IsGoing run.state
   pub done : deleting.HasDone sound (deletion_query found delete) own run.state k
   pub since : deleting.IsSince asked.first run.state k
+
+-- the rows of a DELETE are being found, whose removals are held then
+pub record IsSeeking (sound : Type 0) (asked : Asked) (x : Statement) (run : SelectRun) (k : Known) : Type 0 where
+  pub delete : Delete
+  pub is : x ≡ s.Delete delete
+  pub off : asked.settings.autocommit ≡ false
+  pub found : Found
+  pub bound : IsBoundTo k.base k.seen asked.first found delete.table
+  pub right : delete_faults found.table.columns delete ≡ []
+  pub places : length found.table.columns ≤ 255
+  pub other : IsOfNoOther asked.settings.held found.table.id
+  pub planned : run.scan.query ≡ deletion_query found delete
+  pub scn : run.scan.scn ≡ None
+  pub fits : scan.Fits sound (query_of run.scan.query) run.scan.scn run.scan.state k
+  pub going : scan.IsGoing run.scan.state
+  pub since : scan.IsSince asked.first run.scan.state k
 
 -- what is held is being committed
 pub record IsCommitting (before : ℕ) (asked : Asked) (again : Bool) (run : CommitRun) (k : Known) : Type 0 where
@@ -140,6 +156,7 @@ FitsState sound before asked own (state.Defining x run) k = IsAsking asked x × 
 FitsState sound before asked own (state.Indexing x run) k = IsAsking asked x × IsIndexing sound asked x run k
 FitsState sound before asked own (state.Selecting x run) k = IsAsking asked x × IsSelecting sound before asked x run k
 FitsState sound before asked own (state.Deleting x run) k = IsAsking asked x × IsDeleting sound asked own x run k
+FitsState sound before asked own (state.Seeking x run) k = IsAsking asked x × IsSeeking sound asked x run k
 FitsState sound before asked own (state.Committing again run) k = IsCommitting before asked again run k
 FitsState sound before asked own (state.Counting name run) k = IsCounting asked name run k
 
@@ -151,6 +168,7 @@ HasBegun own (state.Defining x run) = own ≡ []
 HasBegun own (state.Indexing x run) = own ≡ indexing.begun run
 HasBegun own (state.Selecting x run) = own ≡ scan.opened run.scan.state
 HasBegun own (state.Deleting x run) = Unit {0}
+HasBegun own (state.Seeking x run) = own ≡ scan.opened run.scan.state
 HasBegun own (state.Committing again run) = own ≡ commits.begun run
 HasBegun own (state.Counting name run) = own ≡ []
 
@@ -181,6 +199,7 @@ IsStart asked (state.Defining x run) = IsAsking asked x × ((t : CreateTable) ×
 IsStart asked (state.Indexing x run) = ⊥
 IsStart asked (state.Selecting x run) = ⊥
 IsStart asked (state.Deleting x run) = ⊥
+IsStart asked (state.Seeking x run) = ⊥
 IsStart asked (state.Committing again run) = AsksCommit (seen_piece asked.piece) again × (asked.settings.held ≢ None) × (run ≡ committing.Finding)
 IsStart asked (state.Counting name run) = IsCommandRead (seen_piece asked.piece) (Ok (commands.Status name)) × (run ≡ counting.Finding)
 

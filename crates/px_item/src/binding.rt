@@ -1,8 +1,11 @@
 // What a statement asks for, where its table was found.
-ghost use Rattle.std.specs.Prelude.{◌≡◌, ◌≤◌, ◌∷◌, [], ℕ, Option, true, length, IfOk};
+ghost use Rattle.std.specs.Prelude.{◌≡◌, ◌≤◌, ◌∷◌, [], ℕ, Option, true, length, IfErr, IfOk};
 ghost use Rattle.px_calls.specs.Requires.{IsScn};
 ghost use Rattle.px_ast.specs.declared.statement.Statement.TheVariants as s;
+ghost use Rattle.px_deleting.specs.Asking.{planned_for};
+ghost use Rattle.px_reply.specs.declared.refusal.Refusal.TheVariants.{Memory};
 ghost use Rattle.px_item.specs.Right as spec;
+ghost use Rattle.px_item.specs.Seeking.{IsSearchOf};
 
 use crate::refusing::bind_refusal;
 use px_ast::{CreateIndex, CreateTable, Statement};
@@ -239,6 +242,51 @@ fn deletion(alloc: Global, table: &Table, filter: Option<Bound>) -> Next
     match DeleteRun::new(alloc, table, filter) {
         Ok(run) => Next::Delete(run),
         Err(_) => Next::Tell(Reply::Refused(Refusal::Memory)),
+    }
+}
+
+/// The query by which a DELETE finds its rows.
+fn query_of(alloc: Global, table: &Table, filter: Option<Bound>) -> Result<Planned, Refusal>
+    ensures ok { IfOk result (λ query. query ≡ planned_for table.now filter) }
+    ensures err { IfErr result (λ refusal. refusal ≡ Memory) }
+{
+    let table = match table.copied(alloc) {
+        Ok(table) => table,
+        Err(_) => {
+            drop(filter);
+            return Err(Refusal::Memory);
+        }
+    };
+    match px_deleting::planned(alloc, table, filter) {
+        Ok(query) => Ok(query),
+        Err(_) => Err(Refusal::Memory),
+    }
+}
+
+/// The query by which a DELETE whose table was found finds its rows.
+pub(crate) fn search_of(
+    alloc: Global,
+    statement: &Statement,
+    found: &Found,
+) -> Result<Planned, Refusal>
+    requires { spec.is_delete statement.now ≡ true }
+    ensures { IsSearchOf found.now statement.now result }
+{
+    if found.table.columns.as_slice().len() > MOST_PLACES {
+        return Err(Refusal::Memory);
+    }
+    match bind(alloc, statement, Some(found)) {
+        Ok(
+            Request::Delete {
+                table: _table,
+                filter,
+            },
+        ) => query_of(alloc, &found.table, filter),
+        Ok(other) => {
+            drop(other);
+            Err(Refusal::Memory)
+        }
+        Err(fault) => Err(bind_refusal(fault)),
     }
 }
 

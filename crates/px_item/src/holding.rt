@@ -21,7 +21,7 @@ pub(crate) fn holds(settings: &Settings, statement: &Statement) -> bool
 }
 
 /// Whether changes of another table are held.
-fn is_of_another(held: &Option<HeldChanges>, table: TableId) -> bool
+pub(crate) fn is_of_another(held: &Option<HeldChanges>, table: TableId) -> bool
     ensures another { result ≡ true → spec.IsOfAnother held.now table }
     ensures none { result ≡ false → spec.IsOfNoOther held.now table }
 {

@@ -11,6 +11,7 @@ use crate::commanding::{commit, count};
 use crate::holding::{hold, holds};
 use crate::reading::{Read, read_piece};
 use crate::refusing::{table_named, unchanged, undefined, unfound, unselected};
+use crate::seeking::{gather, holds_rows, seek};
 use px_ast::Statement;
 use px_batch::{BatchFault, BatchRun, BatchTurn};
 use px_calls::{Made, Receipt, Steps};
@@ -41,6 +42,8 @@ pub enum ItemState {
     Selecting(Statement, SelectRun),
     /// Its rows are being deleted.
     Deleting(Statement, DeleteRun),
+    /// The rows that it removes are being found, and their removals are held then.
+    Seeking(Statement, SelectRun),
     /// What is held is being committed; then the piece is asked once more, or is answered by it.
     Committing(bool, CommitRun),
     /// The table of this name is being counted.
@@ -89,7 +92,6 @@ pub fn begin<'a>(alloc: Global, piece: Piece<'a>, settings: Settings, first: u64
 fn start<'a>(alloc: Global, asked: Asked<'a>, statement: Statement) -> Begun<'a>
     requires read { spec.IsRead (seen_piece asked.piece) (Ok statement) }
     requires free { spec.MayRun asked.settings statement }
-    requires alone { spec.is_held_deletion asked.settings statement ≡ false }
     requires built { spec.is_built statement ≡ true }
     ensures { Begins asked.entry.settings (seen_piece asked.entry.piece) asked.entry.first result }
 {
@@ -169,6 +171,8 @@ fn find<'a, S: Steps>(
         Ok(found) => {
             if holds(&asked.settings, &statement) {
                 hold(alloc, asked, statement, found)
+            } else if holds_rows(&asked.settings, &statement) {
+                seek(alloc, asked, statement, found)
             } else {
                 follow(alloc, asked, statement, found)
             }
@@ -509,6 +513,7 @@ impl<'a> ItemRun<'a> {
             ItemState::Indexing(statement, run) => index(alloc, s, asked, statement, run),
             ItemState::Selecting(statement, run) => select(alloc, s, asked, statement, run),
             ItemState::Deleting(statement, run) => delete(alloc, s, asked, statement, run),
+            ItemState::Seeking(statement, run) => gather(alloc, s, asked, statement, run),
             ItemState::Committing(again, run) => commit(alloc, s, asked, again, run),
             ItemState::Counting(name, run) => count(alloc, s, asked, name, run),
         }

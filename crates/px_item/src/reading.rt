@@ -51,13 +51,6 @@ fn changes(statement: &Statement) -> bool
     !matches!(statement, Statement::Select(_) | Statement::Explain(_))
 }
 
-/// Whether the statement's rows would be held, which isn't built.
-fn is_held_deletion(settings: &Settings, statement: &Statement) -> bool
-    ensures { result ≡ spec.is_held_deletion settings.now statement.now }
-{
-    !settings.autocommit && matches!(statement, Statement::Delete(_))
-}
-
 /// A statement that the grammar reads.
 fn parsed<'a>(
     alloc: Global,
@@ -70,10 +63,6 @@ fn parsed<'a>(
     ensures { spec.ReadsAs settings (seen_piece piece.entry) first result }
 {
     if !is_built(&statement) {
-        drop(statement);
-        return Read::Told(refused(alloc, Refusal::Form, first, settings));
-    }
-    if is_held_deletion(&settings, &statement) {
         drop(statement);
         return Read::Told(refused(alloc, Refusal::Form, first, settings));
     }

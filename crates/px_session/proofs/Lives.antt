@@ -28,7 +28,7 @@ use Rattle.px_item.specs.Right.{IsAtOnce, IsRight, after, plain}
 use Rattle.px_item.specs.Right as right
 use Rattle.px_item.specs.Turns.{Fits, IsBegun, Turns}
 use Rattle.px_item.proofs.Starting.{starts_fitting}
-use Rattle.px_item.proofs.Going.{fits_passes}
+use Rattle.px_item.proofs.Passing.{fits_passes}
 use Rattle.px_session.specs.declared.run.Doing.{Doing}
 use Rattle.px_session.specs.declared.run.Doing.TheVariants.{Idle, Under, Taken}
 use Rattle.px_session.specs.declared.run.SessionRun.{SessionRun}

@@ -194,21 +194,120 @@ last 1 horizon 0
 cells 2 files 0
 ";
 
-/// Scripts some of whose statements are refused.
-const REFUSED: &str = "!autocommit off
+/// Scripts with DELETEs whose removals are held, and what they print.
+const REMOVALS: &str = "!autocommit off
 DELETE FROM KV;
 UPSERT INTO KV VALUES ('a','1');
 DELETE FROM KV WHERE K = 'a';
 !commit
 SELECT * FROM KV;
 =>autocommit off
-E02 left out: FORM
+0 rows held
 1 row held
-E02 left out: FORM
+0 rows held
 1 row affected
 'a', '1'
 1 row selected
-;;!autocommit off
+;;UPSERT INTO KV VALUES ('a','1');
+UPSERT INTO KV VALUES ('b','2');
+!autocommit off
+UPSERT INTO KV VALUES ('a','3');
+UPSERT INTO KV VALUES ('c','4');
+DELETE FROM KV WHERE V < '3';
+SELECT * FROM KV;
+!commit
+SELECT * FROM KV;
+=>1 row affected
+1 row affected
+autocommit off
+1 row held
+1 row held
+2 rows held
+'a', '1'
+'b', '2'
+2 rows selected
+3 rows affected
+'c', '4'
+1 row selected
+;;CREATE TABLE T (A BIGINT PRIMARY KEY, B VARCHAR, C BIGINT);
+UPSERT INTO T VALUES (1,'x',10);
+UPSERT INTO T VALUES (2,'y',20);
+!autocommit off
+DELETE FROM T;
+UPSERT INTO T (A, B) VALUES (1,'z');
+DELETE FROM T WHERE A = 2;
+!commit
+SELECT * FROM T;
+=>table created
+1 row affected
+1 row affected
+autocommit off
+2 rows held
+1 row held
+1 row held
+2 rows affected
+1, 'z', null
+1 row selected
+;;CREATE INDEX I ON KV (V);
+UPSERT INTO KV VALUES ('a','1');
+UPSERT INTO KV VALUES ('b','2');
+UPSERT INTO KV VALUES ('c','2');
+!autocommit off
+DELETE FROM KV WHERE V = '2';
+UPSERT INTO KV VALUES ('c','9');
+SELECT K FROM KV WHERE V = '2';
+!autocommit on
+SELECT V, K FROM KV ORDER BY V;
+=>index created
+1 row affected
+1 row affected
+1 row affected
+autocommit off
+2 rows held
+1 row held
+'b'
+'c'
+2 rows selected
+2 rows affected
+autocommit on
+'1', 'a'
+'9', 'c'
+2 rows selected
+;;UPSERT INTO KV VALUES ('a','1');
+UPSERT INTO KV VALUES ('b','2');
+---
+!autocommit off
+DELETE FROM KV;
+@2 SELECT * FROM KV;
+---
+@2 UPSERT INTO KV VALUES ('a','3');
+---
+!commit
+---
+@2 SELECT * FROM KV;
+=>1 row affected
+1 row affected
+autocommit off
+2 rows held
+@2
+'a', '1'
+'b', '2'
+2 rows selected
+@2
+1 row affected
+2 rows affected
+@2
+0 rows selected
+;;UPSERT INTO KV VALUES ('a','1');
+!autocommit off
+DELETE FROM KV
+=>1 row affected
+autocommit off
+1 row held
+";
+
+/// Scripts some of whose statements are refused.
+const REFUSED: &str = "!autocommit off
 !scn 9
 UPSERT INTO KV VALUES ('a','1');
 DROP TABLE KV;
@@ -225,7 +324,7 @@ E13 not under scn
 E13 not under scn
 E13 not under scn
 E13 not under scn
-E02 left out: FORM
+E13 not under scn
 0 rows selected
 0 rows affected
 ;;CREATE TABLE T (A BIGINT PRIMARY KEY);
@@ -263,6 +362,53 @@ autocommit off
 table dropped
 E05 no such table: T
 0 rows affected
+;;CREATE TABLE T (A BIGINT PRIMARY KEY);
+UPSERT INTO T VALUES (1);
+!autocommit off
+DELETE FROM T;
+DROP TABLE T;
+DELETE FROM T;
+!commit
+!commit
+=>table created
+1 row affected
+autocommit off
+1 row held
+table dropped
+E05 no such table: T
+E05 no such table: T
+0 rows affected
+;;CREATE TABLE T (A BIGINT PRIMARY KEY);
+UPSERT INTO T VALUES (1);
+!autocommit off
+UPSERT INTO KV VALUES ('a','1');
+DELETE FROM T WHERE B = 1;
+DELETE FROM T WHERE A = 'x';
+DELETE FROM NOPE;
+SELECT * FROM KV;
+DELETE FROM T;
+SELECT * FROM KV;
+DELETE FROM KV;
+SELECT * FROM T;
+!commit
+SELECT * FROM KV;
+=>table created
+1 row affected
+autocommit off
+1 row held
+E04 no such column: B
+E06 type mismatch at byte 24
+E05 no such table: NOPE
+0 rows selected
+1 row affected
+1 row held
+'a', '1'
+1 row selected
+1 row affected
+1 row held
+0 rows selected
+1 row affected
+0 rows selected
 ;;CREATE TABLE T (A BIGINT PRIMARY KEY);
 !autocommit off
 UPSERT INTO T VALUES (1);
@@ -354,6 +500,11 @@ fn changes_are_held_and_committed(rt: HostRuntime) {
 }
 
 #[test]
+fn removals_are_held_and_committed(rt: HostRuntime) {
+    assert!(rt; all_end(&rt, rt.alloc(), REMOVALS, Status::Done));
+}
+
+#[test]
 fn what_is_held_outlasts_a_refusal_but_not_a_commit(rt: HostRuntime) {
     assert!(rt; all_end(&rt, rt.alloc(), REFUSED, Status::Refused));
 }
@@ -371,18 +522,26 @@ fn push_row(script: &mut String, key: [&str; 3], value: &str) -> Result<(), Allo
     script.push_str("');\n")
 }
 
-/// A thousand rows are held, of which one is changed once more; another row isn't held.
-fn thousand(alloc: Global) -> Result<(String, String), AllocError> {
-    let mut script = String::from_str(alloc, "!autocommit off\n")?;
-    let mut text = String::from_str(alloc, "autocommit off\n")?;
+/// Holds UPSERTs of a thousand rows.
+fn push_thousand(script: &mut String, text: &mut String) -> Result<(), AllocError> {
+    script.push_str("!autocommit off\n")?;
+    text.push_str("autocommit off\n")?;
     for a in DIGITS {
         for b in DIGITS {
             for c in DIGITS {
-                push_row(&mut script, [a, b, c], "v")?;
+                push_row(script, [a, b, c], "v")?;
                 text.push_str("1 row held\n")?;
             }
         }
     }
+    Ok(())
+}
+
+/// A thousand rows are held, of which one is changed once more; another row isn't held.
+fn thousand(alloc: Global) -> Result<(String, String), AllocError> {
+    let mut script = String::new(alloc);
+    let mut text = String::new(alloc);
+    push_thousand(&mut script, &mut text)?;
     push_row(&mut script, ["k", "0", "0"], "v")?;
     push_row(&mut script, ["9", "9", "9"], "w")?;
     script.push_str("!commit\nSELECT * FROM KV WHERE K > '998';\nSELECT K FROM KV WHERE V = 'w';")?;
@@ -395,6 +554,50 @@ fn thousand(alloc: Global) -> Result<(String, String), AllocError> {
 fn at_most_a_thousand_rows_are_held(rt: HostRuntime) {
     let alloc = rt.alloc();
     let Ok((script, text)) = thousand(alloc) else {
+        panic!(rt; "no memory")
+    };
+    assert!(rt; ends(&rt, alloc, &script, Status::Refused, &text) == Ok(true));
+}
+
+/// The removals of 1,001 rows aren't held, nor is one of them; those of 1,000 are.
+const REMOVED: &str = "!commit
+UPSERT INTO KV VALUES ('x','v');
+!commit
+DELETE FROM KV;
+!commit
+DELETE FROM KV WHERE K < 'x';
+DELETE FROM KV WHERE K = 'x';
+DELETE FROM KV WHERE K >= '500' AND K < 'x';
+!commit
+SELECT * FROM KV;
+=>1000 rows affected
+1 row held
+1 row affected
+E11 limit: ROWS 1000
+0 rows affected
+1000 rows held
+E11 limit: ROWS 1000
+500 rows held
+1000 rows affected
+'x', 'v'
+1 row selected
+";
+
+fn thousand_removed(alloc: Global) -> Result<(String, String), AllocError> {
+    let mut script = String::new(alloc);
+    let mut text = String::new(alloc);
+    push_thousand(&mut script, &mut text)?;
+    if let Some((more, told)) = REMOVED.split_once("=>") {
+        script.push_str(more)?;
+        text.push_str(told)?;
+    }
+    Ok((script, text))
+}
+
+#[test]
+fn at_most_a_thousand_removals_are_held(rt: HostRuntime) {
+    let alloc = rt.alloc();
+    let Ok((script, text)) = thousand_removed(alloc) else {
         panic!(rt; "no memory")
     };
     assert!(rt; ends(&rt, alloc, &script, Status::Refused, &text) == Ok(true));

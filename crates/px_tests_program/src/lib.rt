@@ -12,6 +12,8 @@ mod faults;
 #[cfg(test)]
 mod first;
 #[cfg(test)]
+mod flushes;
+#[cfg(test)]
 mod held;
 #[cfg(test)]
 mod indexes;

@@ -14,7 +14,7 @@ const SELECT: &str = "SELECT * FROM KV";
 const TWO_ROWS: &str = "UPSERT INTO KV VALUES ('a','b'); UPSERT INTO KV VALUES ('c','d');";
 
 /// What a stop in that call leaves, at which the run ends.
-fn stopped<R: Threads + Wait + Sync>(
+pub fn stopped<R: Threads + Wait + Sync>(
     rt: &R,
     alloc: Global,
     disk: MemDisk,

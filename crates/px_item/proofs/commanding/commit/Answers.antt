@@ -1,4 +1,4 @@
-use Rattle.px_item.proofs.Going.{commit_fits, commit_goes_on, commit_is_over, commit_waits}
+use Rattle.px_item.proofs.Committing.{commit_fits, commit_goes_on, commit_is_over, commit_waits}
 use Rattle.px_item.proofs.commanding.commit.Goals as goal
 
 pub step-turn-requires : goal.step-turn-requires

@@ -1,4 +1,4 @@
-use Rattle.px_item.proofs.Going.{count_goes_on, count_is_over}
+use Rattle.px_item.proofs.Committing.{count_goes_on, count_is_over}
 use Rattle.px_item.proofs.commanding.count.Goals as goal
 
 pub returns-in-Stepped : goal.returns-in-Stepped

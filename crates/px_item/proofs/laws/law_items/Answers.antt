@@ -1,7 +1,7 @@
 use Rattle.std.proofs.Common.{refl}
 use Rattle.px_item.specs.Right as right
 use Rattle.px_item.proofs.Again.{again_only}
-use Rattle.px_item.proofs.Going.{fits_passes}
+use Rattle.px_item.proofs.Passing.{fits_passes}
 use Rattle.px_item.proofs.laws.law_items.Goals as goal
 
 pub returns-clause-others : goal.returns-clause-others

@@ -7,6 +7,3 @@ returns-then-not-is_built c = (right.is_not_built c.args.statement c.requires (s
 
 pub returns-then-is_some : goal.returns-then-is_some
 returns-then-is_some c = (right.is_under_scn c.args.statement c.requires (sym c.changes.ensures ∙ c.if-changes.true) (sym c.is_some.ensures ∙ c.if-is_some.true) c.refused-then-is_some.ensures.says, c.refused-then-is_some.ensures.first)
-
-pub returns-then-is_held_deletion : goal.returns-then-is_held_deletion
-returns-then-is_held_deletion c = (right.is_held_as_whole c.args.statement c.requires (sym c.is_held_deletion.ensures ∙ c.if-is_held_deletion.true) c.refused-then-is_held_deletion.ensures.says, c.refused-then-is_held_deletion.ensures.first)

@@ -1,0 +1,105 @@
+// Tables whose logs are flushed.
+use crate::runs::{disk_of, is_printed, run_again, run_new};
+use crate::stops::stopped;
+use px_outside::{Choice, Disk, MemDisk};
+use px_program::Status;
+use std::alloc::{AllocError, Global};
+use std::sync::Wait;
+use std::thread::Threads;
+
+/// The first file of cells of KV's region.
+const FIRST_FILE: u64 = 4_294_967_300;
+
+/// Adds a number as four digits.
+fn push_number(to: &mut String, number: u32) -> Result<(), AllocError> {
+    for place in [1000, 100, 10, 1] {
+        to.push((b'0' + (number / place % 10) as u8) as char)?;
+    }
+    Ok(())
+}
+
+/// A script that puts so many rows into KV, each of two cells, in batches of a thousand.
+fn filling(alloc: Global, rows: u32) -> Result<String, AllocError> {
+    let mut script = String::from_str(alloc, "!autocommit off\n")?;
+    for row in 0..rows {
+        script.push_str("UPSERT INTO KV VALUES ('")?;
+        push_number(&mut script, row)?;
+        script.push_str("','v');\n")?;
+        if row % 1000 == 999 {
+            script.push_str("!commit\n")?;
+        }
+    }
+    Ok(script)
+}
+
+/// Whether a disk shows the rows from 7998 to 8000, of which the last may lack.
+fn shows<R: Threads + Wait + Sync>(
+    rt: &R,
+    alloc: Global,
+    disk: MemDisk,
+    may_lack: bool,
+) -> Result<bool, AllocError> {
+    let script = "SELECT K FROM KV WHERE K >= '7998' AND K <= '8000'";
+    let run = run_again(rt, alloc, disk, script)?;
+    Ok(is_printed(&run, Status::Done, THREE) || may_lack && is_printed(&run, Status::Done, TWO))
+}
+
+/// A run of the script on an empty folder: the calls it made, and the disk.
+fn filled<R: Threads + Wait + Sync>(
+    rt: &R,
+    alloc: Global,
+    script: &str,
+) -> Result<(u64, MemDisk), AllocError> {
+    let run = run_new(rt, alloc, script)?;
+    let calls = run.disk.calls_made().len() as u64;
+    Ok((calls, disk_of(run)))
+}
+
+const TWO: &str = "'7998'\n'7999'\n2 rows selected\n";
+
+const THREE: &str = "'7998'\n'7999'\n'8000'\n3 rows selected\n";
+
+// The ninth batch would pass 16,384 cells, so those before it go to a file.
+#[test]
+fn a_full_log_goes_to_a_file(rt: HostRuntime) -> Result<(), AllocError> {
+    let alloc = rt.alloc();
+    let script = filling(alloc, 9000)?;
+    let (_calls, mut disk) = filled(&rt, alloc, &script)?;
+    let len = disk.len(FIRST_FILE).unwrap_or(0);
+    assert!(rt; len > 300_000, "{len}");
+    assert!(rt; shows(&rt, alloc, disk, false)?);
+    Ok(())
+}
+
+/// Whether a stop in that call leaves what was acknowledged: eight batches, or all nine.
+fn keeps<R: Threads + Wait + Sync>(
+    rt: &R,
+    alloc: Global,
+    call: u64,
+    choice: Choice,
+    script: &str,
+) -> Result<bool, AllocError> {
+    let Some(left) = stopped(rt, alloc, MemDisk::new(alloc), call, choice, script)? else {
+        return Ok(false);
+    };
+    shows(rt, alloc, left, true)
+}
+
+// The last 45 calls of the run are those of the flush and of the ninth batch.
+#[test]
+fn a_stop_in_a_flush_leaves_what_was_acknowledged(rt: HostRuntime) -> Result<(), AllocError> {
+    let alloc = rt.alloc();
+    let script = filling(alloc, 9000)?;
+    let (calls, disk) = filled(&rt, alloc, &script)?;
+    drop(disk);
+    for back in 0..23 {
+        let call = calls.saturating_sub(2 * back);
+        for choice in [Choice::Old, Choice::New, Choice::Fill(1)] {
+            assert!(rt;
+                keeps(&rt, alloc, call, choice, &script)?,
+                "{call} {choice:?}"
+            );
+        }
+    }
+    Ok(())
+}
