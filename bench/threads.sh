@@ -1,7 +1,7 @@
 #!/usr/bin/env bash
 # How many statements a second the sessions of a round are answered together: 1, 2, 4 and 8 of them, which look rows up by the key, look rows up
 # through a covering index, read ranges through it, and put rows of their own into a table with that index. Each session does the same number of
-# statements, but of UPSERTs 480 at most, since a region holds 16,384 cells. Each script is run in some rounds, and the best time is told, less
+# statements, but of UPSERTs 480 at most, so that no region is flushed. Each script is run in some rounds, and the best time is told, less
 # that of an empty script on the same folder. 'to one' is the rate beside that of one session that is given the same statements alone (eight
 # sessions fill a table eight times as large). 'turn' is the time of a statement where eight sessions are answered together: the turns at the
 # server that a statement takes can't be longer than that.
