@@ -85,15 +85,30 @@ fn keeps<R: Threads + Wait + Sync>(
     shows(rt, alloc, left, true)
 }
 
-// The last 45 calls of the run are those of the flush and of the ninth batch.
+/// How many calls a run of so many rows makes.
+fn calls_of<R: Threads + Wait + Sync>(rt: &R, alloc: Global, rows: u32) -> Result<u64, AllocError> {
+    let script = filling(alloc, rows)?;
+    let (calls, disk) = filled(rt, alloc, &script)?;
+    drop(disk);
+    Ok(calls)
+}
+
+// What a run of nine batches does more than one of eight is the flush, and the ninth batch.
 #[test]
 fn a_stop_in_a_flush_leaves_what_was_acknowledged(rt: HostRuntime) -> Result<(), AllocError> {
     let alloc = rt.alloc();
     let script = filling(alloc, 9000)?;
-    let (calls, disk) = filled(&rt, alloc, &script)?;
-    drop(disk);
-    for back in 0..23 {
-        let call = calls.saturating_sub(2 * back);
+    let before = calls_of(&rt, alloc, 8000)?;
+    let calls = calls_of(&rt, alloc, 9000)?;
+    assert!(rt;
+        before.saturating_add(20) < calls && calls < before.saturating_add(80),
+        "{before} {calls}"
+    );
+    for step in 0..40 {
+        let call = before.saturating_add(1 + 2 * step);
+        if call > calls {
+            return Ok(());
+        }
         for choice in [Choice::Old, Choice::New, Choice::Fill(1)] {
             assert!(rt;
                 keeps(&rt, alloc, call, choice, &script)?,
