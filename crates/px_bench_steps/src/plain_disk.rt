@@ -71,12 +71,10 @@ fn place_of(files: &[PlainFile], number: u64) -> Option<usize>
 }
 
 fn bytes_of(files: &[PlainFile], number: u64) -> &[u8] {
-    for file in files {
-        if file.number == number {
-            return file.bytes.as_slice();
-        }
+    match place_of(files, number) {
+        Some(place) => files[place].bytes.as_slice(),
+        None => &[],
     }
-    &[]
 }
 
 /// Puts bytes at a place, behind a gap of zeros where it lies past the end.
