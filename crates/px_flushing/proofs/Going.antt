@@ -1,14 +1,15 @@
 -- How a flush goes on.
-use Rattle.std.proofs.Common.{◌≡◌, ◌⊎◌, ℕ, ◌+◌, ◌<◌, ◌≤◌, List, [], ◌∷◌, ◌++◌, Option, Some, None, refl, sym, ap, subst, ◌∙◌, arith, inl, inr}
+use Rattle.std.proofs.Common.{◌≡◌, ◌⊎◌, ℕ, zero, suc, take, ◌+◌, ◌<◌, ◌≤◌, List, [], ◌∷◌, ◌++◌, Option, Some, None, refl, sym, ap, subst, ◌∙◌, arith, inl, inr}
 use Rattle.std.proofs.lemmas.Bool.{cases_lt}
 use Rattle.std.specs.Prelude.{◌≢◌, IfOk, IsTrue, Result, Ok, Err, OnOk, OnErr}
 use Rattle.std.specs.List.{AllByRecursion}
 use Rattle.px_outside.specs.OnDisk.{LeavesOnly, Stays, TouchesOnly}
 use Rattle.px_outside.specs.Standing.{StandsIn}
 use Rattle.px_outside.specs.declared.disk.Disk.{Ghosts}
-use Rattle.px_outside.proofs.Moments.{stays_touches}
+use Rattle.px_outside.proofs.Moments.{stays_touches, touches_more}
 use Rattle.px_cells.specs.CellData.{CellData}
 use Rattle.px_file.specs.declared.region_file.RegionFile.{RegionFile}
+use Rattle.px_file.proofs.Kept.{kept_apart}
 use Rattle.px_merge.specs.Settle.{settle}
 use Rattle.px_wal.specs.Batches.{AreRising, Batch, above, between, cells_over, later_first}
 use Rattle.px_wal.specs.Files.{HasFile, file_of}
@@ -28,14 +29,19 @@ use Rattle.px_naming.specs.Naming.{HasParts, IsFlushed}
 use Rattle.px_frozen.specs.Frozen.{IsFrozen}
 use Rattle.px_frozen.specs.FrozenData.{FrozenData}
 use Rattle.px_frozen.proofs.Coming.{bytes_freed, cells_freed, frozen_more}
-use Rattle.px_flushing.specs.Flushing.{HasFlushing, IsBegun, IsRaised, IsRead, IsUnderWay, named_next}
+use Rattle.px_loading.specs.Gathering.{HaveBlocks}
+use Rattle.px_flushing.specs.Flushing.{HasFlushing, IsBegun, IsGathering, IsMerging, IsRaised, IsRead, IsUnderWay, named_next}
 use Rattle.px_flushing.specs.Stage.{IsStage}
 use Rattle.px_flushing.specs.declared.fault.FlushFault.{FlushFault}
 use Rattle.px_flushing.specs.declared.fault.FlushFault.TheVariants.{WriteFault}
-use Rattle.px_flushing.specs.declared.flushing.Flush.{Flush}
 use Rattle.px_flushing.specs.declared.flushing.FlushStep.{FlushStep}
 use Rattle.px_flushing.specs.declared.flushing.FlushStep.TheVariants as step
 use Rattle.px_flushing.specs.declared.flushing.Flushing.{Flushing}
+use Rattle.px_flushing.specs.declared.job.Flush.{Flush}
+use Rattle.px_flushing.specs.declared.job.Gather.{Gather}
+use Rattle.px_flushing.specs.declared.job.Job.{Job}
+use Rattle.px_flushing.specs.declared.job.Job.TheVariants as job
+use Rattle.px_flushing.specs.declared.job.Merge.{Merge}
 use Rattle.px_flushing.specs.declared.stage.Stage.{Stage}
 use Rattle.px_flushing.specs.declared.stage.Stage.TheVariants as stage
 use Rattle.px_flushing.proofs.Parts.{IsPart, free_apart, part_own, parts_kept, parts_leave, parts_stand}
@@ -100,35 +106,74 @@ module _ {D : Type 0} (d : Ghosts D) (region : ℕ) (named : SnapshotData) (batc
     stage = stage_kept d old new (file_of region flush.local) touched touches apart flush.frozen.cells flush.stage begun.stage;
   }
 
-  under_kept : (old new : D) (flush : Option Flush) (touched : ℕ → Type 0) → TouchesOnly d old new touched → ((file : ℕ) → HasFile region file → touched file → ⊥) → IsUnderWay d region named batches old flush → IsUnderWay d region named batches new flush
-  under_kept old new None touched touches apart is = tt
-  under_kept old new (Some flush) touched touches apart is = begun_kept old new flush touched touches (λ own. apart (file_of region flush.local) (free_own region flush.local (file_of region flush.local) named.files is.free refl) own) is
+  merging_kept : (old new : D) (lists : List (List CellData)) (merge : Merge) (touched : ℕ → Type 0) → TouchesOnly d old new touched → (touched (file_of region merge.local) → ⊥) → IsMerging d region named lists old merge → IsMerging d region named lists new merge
+  merging_kept old new lists merge touched touches apart merging = record {
+    cells = merging.cells;
+    free = merging.free;
+    stage = stage_kept d old new (file_of region merge.local) touched touches apart merge.frozen.cells merge.stage merging.stage;
+  }
 
-  -- calls on files that no free number has
-  pub under_touched : (old new : D) (flush : Option Flush) (touched : ℕ → Type 0) → TouchesOnly d old new touched → ((local : ℕ) → IsFree named.files local → touched (file_of region local) → ⊥) → IsUnderWay d region named batches old flush
-      → IsUnderWay d region named batches new flush
-  under_touched old new None touched touches apart is = tt
-  under_touched old new (Some flush) touched touches apart is = begun_kept old new flush touched touches (λ own. apart flush.local is.free own) is
+  -- the blocks of named files
+  blocks_kept : (old new : D) (n : ℕ) (entries : List FileData) (files : List RegionFile) (lists : List (List CellData)) (blocks : List (List (List CellData))) (touched : ℕ → Type 0) → TouchesOnly d old new touched
+      → ((file : ℕ) → IsOneOf region entries file → touched file → ⊥) → HaveFiles d region old entries files lists → HaveBlocks d old (take n files) blocks → HaveBlocks d new (take n files) blocks
+  blocks_kept old new zero entries files lists [] touched touches apart have blocks = tt
+  blocks_kept old new zero entries files lists (b ∷ rest) touched touches apart have blocks = absurd blocks
+  blocks_kept old new (suc n) entries [] lists [] touched touches apart have blocks = tt
+  blocks_kept old new (suc n) entries [] lists (b ∷ rest) touched touches apart have blocks = absurd blocks
+  blocks_kept old new (suc n) entries (o ∷ files) lists [] touched touches apart have blocks = absurd blocks
+  blocks_kept old new (suc n) [] (o ∷ files) lists (b ∷ rest) touched touches apart have blocks = absurd have
+  blocks_kept old new (suc n) (f ∷ entries) (o ∷ files) [] (b ∷ rest) touched touches apart have blocks = absurd have
+  blocks_kept old new (suc n) (f ∷ entries) (o ∷ files) (l ∷ lists) (b ∷ rest) touched touches apart have blocks = (
+    kept_apart d old new o b (touches_more d.calls d.left d.seen old new touched (λ t. t ≢ o.file) (λ t own same. apart t (inl (same ∙ have.0.is)) own) touches) blocks.0,
+    blocks_kept old new n entries files lists rest touched touches (λ file own. apart file (inr own)) have.1 blocks.1,
+  )
+
+  pub gathering_kept : (old new : D) (files : List RegionFile) (lists : List (List CellData)) (gather : Gather) (touched : ℕ → Type 0) → TouchesOnly d old new touched → ((file : ℕ) → IsOneOf region named.files file → touched file → ⊥)
+      → HaveFiles d region old named.files files lists → IsGathering d files lists old gather → IsGathering d files lists new gather
+  gathering_kept old new files lists gather touched touches apart have is = record {
+    blocks = is.blocks;
+    within = is.within;
+    lists_are = is.lists_are;
+    has = record {
+      tells = is.has.tells;
+      have = blocks_kept old new gather.count named.files files lists is.blocks touched touches apart have is.has.have;
+      store = is.has.store;
+      cells = is.has.cells;
+    };
+  }
+
+  -- calls on files that aren't named, and whose numbers aren't free
+  pub under_kept : (old new : D) (files : List RegionFile) (lists : List (List CellData)) (under : Option Job) (touched : ℕ → Type 0) → TouchesOnly d old new touched → ((file : ℕ) → IsOneOf region named.files file → touched file → ⊥)
+      → ((local : ℕ) → IsFree named.files local → touched (file_of region local) → ⊥) → HaveFiles d region old named.files files lists → IsUnderWay d region named batches files lists old under → IsUnderWay d region named batches files lists new under
+  under_kept old new files lists None touched touches apart free have is = tt
+  under_kept old new files lists (Some (job.Flush flush)) touched touches apart free have is = begun_kept old new flush touched touches (λ own. free flush.local is.free own) is
+  under_kept old new files lists (Some (job.Gather gather)) touched touches apart free have is = gathering_kept old new files lists gather touched touches apart have is
+  under_kept old new files lists (Some (job.Merge merge)) touched touches apart free have is = merging_kept old new lists merge touched touches (λ own. free merge.local is.free own) is
 
   -- ---- a batch comes
 
-  under_more : (old new : D) (flush : Option Flush) (b : Batch) → last_of named.flushed batches < b.number → TouchesOnly d old new (log_files region) → IsUnderWay d region named batches old flush → IsUnderWay d region named (batches ++ b ∷ []) new flush
-  under_more old new None b next touches is = tt
-  under_more old new (Some flush) b next touches is = record {
+  under_more : (old new : D) (files : List RegionFile) (lists : List (List CellData)) (under : Option Job) (b : Batch) → last_of named.flushed batches < b.number → TouchesOnly d old new (log_files region) → AllByRecursion IsEntry named.files
+      → HaveFiles d region old named.files files lists → IsUnderWay d region named batches files lists old under → IsUnderWay d region named (batches ++ b ∷ []) files lists new under
+  under_more old new files lists None b next touches entries have is = tt
+  under_more old new files lists (Some (job.Flush flush)) b next touches entries have is = record {
     frozen = frozen_more named.flushed batches b flush.frozen next is.frozen;
     later = is.later;
     free = is.free;
     stage = stage_kept d old new (file_of region flush.local) (log_files region) touches (log_apart region flush.local named.files is.free) flush.frozen.cells flush.stage is.stage;
   }
+  under_more old new files lists (Some (job.Gather gather)) b next touches entries have is = gathering_kept old new files lists gather (log_files region) touches (λ file own touched. named_log region file named.files entries own touched) have is
+  under_more old new files lists (Some (job.Merge merge)) b next touches entries have is = merging_kept old new lists merge (log_files region) touches (log_apart region merge.local named.files is.free) is
 
 -- ---- by fields
 
-pub by_fields : {D : Type 0} (d : Ghosts D) (manifest : Manifest) (wal : Wal) (number : ℕ) (files : List RegionFile) (flush : Option Flush) (disk : D) (batches : List Batch) (lists : List (List CellData)) (flushing : Flushing)
-    → HasParts d number manifest wal disk batches files lists → IsUnderWay d number (names manifest) batches disk flush → number ≡ flushing.number → files ≡ flushing.files.items → flush ≡ flushing.flush → HasFlushing d manifest wal flushing disk batches lists
-by_fields d manifest wal number files flush disk batches lists flushing parts under a b c = record {
+pub by_fields : {D : Type 0} (d : Ghosts D) (manifest : Manifest) (wal : Wal) (number : ℕ) (files : List RegionFile) (under : Option Job) (disk : D) (batches : List Batch) (lists : List (List CellData)) (flushing : Flushing)
+    → HasParts d number manifest wal disk batches files lists → IsUnderWay d number (names manifest) batches files lists disk under → number ≡ flushing.number → files ≡ flushing.files.items → under ≡ flushing.flush → HasFlushing d manifest wal flushing disk batches lists
+by_fields d manifest wal number files under disk batches lists flushing parts is a b c = record {
   parts =
       subst (λ (l : List RegionFile). HasParts d flushing.number manifest wal disk batches l lists) b (subst (λ (n : ℕ). HasParts d n manifest wal disk batches files lists) a parts);
-  flush = subst (λ (f : Option Flush). IsUnderWay d flushing.number (names manifest) batches disk f) c (subst (λ (n : ℕ). IsUnderWay d n (names manifest) batches disk flush) a under);
+  flush =
+      subst (λ (f : Option Job). IsUnderWay d flushing.number (names manifest) batches flushing.files.items lists disk f) c
+      (subst (λ (l : List RegionFile). IsUnderWay d flushing.number (names manifest) batches l lists disk under) b (subst (λ (n : ℕ). IsUnderWay d n (names manifest) batches files lists disk under) a is));
 }
 
 -- ---- its steps
@@ -194,7 +239,10 @@ module _ {D : Type 0} (d : Ghosts D) (manifest : Manifest) (wal : Wal) (flushing
   flushing_kept disk' touches = record {
     parts =
         parts_kept d flushing.number manifest wal disk batches flushing.files.items lists has.parts disk' (λ touched. HasFile flushing.number touched → ⊥) touches (λ file own touched. touched (part_own flushing.number file (names manifest) has.parts.named.right.files own));
-    flush = under_kept d flushing.number (names manifest) batches disk disk' flushing.flush (λ touched. HasFile flushing.number touched → ⊥) touches (λ file own touched. touched own) has.flush;
+    flush =
+        under_kept d flushing.number (names manifest) batches disk disk' flushing.files.items lists flushing.flush (λ touched. HasFile flushing.number touched → ⊥) touches
+        (λ file own touched. touched (part_own flushing.number file (names manifest) has.parts.named.right.files (inr (inr own)))) (λ local free touched. touched (free_own flushing.number local (file_of flushing.number local) (names manifest).files free refl)) has.parts.have
+        has.flush;
   }
 
   pub flushing_stands : StandsIn d disk (HasFile flushing.number) (λ image. IsRead flushing.number image (names manifest).horizon (cells_over (names manifest).flushed batches lists))
@@ -211,14 +259,18 @@ module _ {D : Type 0} (d : Ghosts D) (manifest : Manifest) (wal : Wal) (flushing
       log = log;
       have = have_apart d flushing.number disk disk' (names manifest).files flushing.files.items lists (log_files flushing.number) touches (λ file own touched. named_log flushing.number file (names manifest).files has.parts.named.right.files own touched) has.parts.have;
     };
-    flush = under_more d flushing.number (names manifest) batches disk disk' flushing.flush b (let l = has.parts.log.last in omega arith) touches has.flush;
+    flush = under_more d flushing.number (names manifest) batches disk disk' flushing.files.items lists flushing.flush b (let l = has.parts.log.last in omega arith) touches has.parts.named.right.files has.parts.have has.flush;
   }
 
--- a flush that is under way
-pub under_some : {D : Type 0} (d : Ghosts D) (number : ℕ) (named : SnapshotData) (batches : List Batch) (disk : D) (flush : Option Flush) (frozen : FrozenData) (local : ℕ) (before s : Stage) → IsUnderWay d number named batches disk flush
-    → flush ≡ Some (record { frozen = frozen; local = local; stage = before }) → before ≡ s → IsBegun d number named batches disk (record { frozen = frozen; local = local; stage = s })
-under_some d number named batches disk flush frozen local before s is a b =
-    subst (λ (x : Stage). IsBegun d number named batches disk (record { frozen = frozen; local = local; stage = x })) b (subst (λ (f : Option Flush). IsUnderWay d number named batches disk f) a is)
+-- what is under way
+pub under_is : {D : Type 0} (d : Ghosts D) (manifest : Manifest) (wal : Wal) (flushing : Flushing) (disk : D) (batches : List Batch) (lists : List (List CellData)) (under : Option Job) → HasFlushing d manifest wal flushing disk batches lists → flushing.flush ≡ under
+    → IsUnderWay d flushing.number (names manifest) batches flushing.files.items lists disk under
+under_is d manifest wal flushing disk batches lists under has is = subst (λ (f : Option Job). IsUnderWay d flushing.number (names manifest) batches flushing.files.items lists disk f) is has.flush
+
+-- a flush that is at a stage
+pub begun_at : {D : Type 0} (d : Ghosts D) (number : ℕ) (named : SnapshotData) (batches : List Batch) (disk : D) (frozen : FrozenData) (local : ℕ) (before s : Stage) → IsBegun d number named batches disk (record { frozen = frozen; local = local; stage = before }) → before ≡ s
+    → IsBegun d number named batches disk (record { frozen = frozen; local = local; stage = s })
+begun_at d number named batches disk frozen local before s is b = subst (λ (x : Stage). IsBegun d number named batches disk (record { frozen = frozen; local = local; stage = x })) b is
 
 -- what goes on behind a step
 abbrev pub GoesOn : {D : Type 0} → Ghosts D → (manifest after : Manifest) → Wal → Flushing → D → List Batch → List (List CellData) → Type 0
@@ -226,7 +278,7 @@ GoesOn d manifest after wal flushing disk batches lists = (more : List (List Cel
 
 -- ---- a file is named
 
-module _ {D : Type 0} (d : Ghosts D) (region : ℕ) (manifest : Manifest) (wal : Wal) (disk : D) (batches : List Batch) (frozen : FrozenData) (local len : ℕ) (file : RegionFile)
+module _ {D : Type 0} (d : Ghosts D) (region : ℕ) (manifest : Manifest) (disk : D) (batches : List Batch) (frozen : FrozenData) (local len : ℕ) (file : RegionFile)
     (begun : IsBegun d region (names manifest) batches disk (record { frozen = frozen; local = local; stage = stage.Measured file len })) (after : SnapshotData) (after-is : after ≡ named_next (names manifest) frozen.upto local len file) where
   pub flushed_by : IsFlushed d region disk (names manifest) after batches file frozen.cells
   flushed_by =
@@ -265,11 +317,11 @@ module _ {D : Type 0} (d : Ghosts D) (region : ℕ) (manifest : Manifest) (wal :
   same_by rising lists = flushed_same (names manifest).flushed after.flushed batches lists frozen.cells flushed_by.later rising flushed_by.cells
 
 -- naming a file goes on, unless a write failed
-pub named_goes : {D : Type 0} (d : Ghosts D) (manifest after : Manifest) (wal : Wal) (flushing : Flushing) (disk : D) (batches : List Batch) (lists : List (List CellData)) (cells : List CellData) (r : Result FlushStep FlushFault)
-    → OnOk r (HasFlushing d after wal flushing disk batches (cells ∷ lists)) → OnErr r (r ≢ Err WriteFault → (after ≡ manifest) × HasFlushing d after wal flushing disk batches lists)
-    → OnOk r (cells_over (names after).flushed batches (cells ∷ lists) ≡ cells_over (names manifest).flushed batches lists) → r ≢ Err WriteFault → GoesOn d manifest after wal flushing disk batches lists
-named_goes d manifest after wal flushing disk batches lists cells (Ok x) done kept same other = (cells ∷ lists, done, same)
-named_goes d manifest after wal flushing disk batches lists cells (Err f) done kept same other = (lists, (kept other).1, ap (λ (m : Manifest). cells_over (names m).flushed batches lists) (kept other).0)
+pub named_goes : {D : Type 0} (d : Ghosts D) (manifest after : Manifest) (wal : Wal) (flushing : Flushing) (disk : D) (batches : List Batch) (lists others : List (List CellData)) (r : Result FlushStep FlushFault)
+    → OnOk r (HasFlushing d after wal flushing disk batches others) → OnErr r (r ≢ Err WriteFault → (after ≡ manifest) × HasFlushing d after wal flushing disk batches lists)
+    → OnOk r (cells_over (names after).flushed batches others ≡ cells_over (names manifest).flushed batches lists) → r ≢ Err WriteFault → GoesOn d manifest after wal flushing disk batches lists
+named_goes d manifest after wal flushing disk batches lists others (Ok x) done kept same other = (others, done, same)
+named_goes d manifest after wal flushing disk batches lists others (Err f) done kept same other = (lists, (kept other).1, ap (λ (m : Manifest). cells_over (names m).flushed batches lists) (kept other).0)
 
 -- ---- what a step answers
 
@@ -281,6 +333,11 @@ ok_told (Err f) x s Q R ok e = cc
 pub ok_then : (r : Result FlushStep FlushFault) (x : FlushStep) (Q R S : Type 0) → IfOk r (λ step. (step ≡ x) × Q × R) → (R → S) → OnOk r S
 ok_then (Ok y) x Q R S ok to = to ok.2
 ok_then (Err f) x Q R S ok to = tt
+
+-- what holds of an answer that is Ok
+pub ok_at : (r : Result FlushStep FlushFault) (s : FlushStep) (P : Type 0) → OnOk r P → r ≡ Ok s → P
+ok_at (Ok y) s P is e = is
+ok_at (Err f) s P is e = cc
 
 -- there are more steps
 pub more_only : (r : Result FlushStep FlushFault) (s : FlushStep) → OnOk r (r ≡ Ok step.More) → r ≡ Ok s → s ≡ step.More

@@ -1,7 +1,7 @@
 -- Calls on the log and on the manifest of a region with a flush.
-use Rattle.std.proofs.Common.{◌≡◌, ◌⊎◌, ℕ, ◌≤◌, ◌<◌, List, [], ◌∷◌, ◌++◌, Option, Some, None, refl, sym, ap, subst, ◌∙◌, inl, inr}
+use Rattle.std.proofs.Common.{◌≡◌, ℕ, ◌≤◌, List, Option, None, refl, sym, subst}
 use Rattle.px_outside.specs.Disk.{Image, IsLeft}
-use Rattle.px_outside.specs.OnDisk.{LeavesOnly, TouchesOnly}
+use Rattle.px_outside.specs.OnDisk.{TouchesOnly}
 use Rattle.px_outside.specs.declared.disk.Disk.{Ghosts}
 use Rattle.px_outside.proofs.Standing.{stands_left}
 use Rattle.px_cells.specs.CellData.{CellData}
@@ -17,7 +17,7 @@ use Rattle.px_files.specs.Files.{FilesStand, HaveFiles, IsOneOf}
 use Rattle.px_files.proofs.Kept.{have_apart, have_stand}
 use Rattle.px_flushing.specs.Flushing.{HasFlushing, IsRead, IsUnderWay}
 use Rattle.px_flushing.specs.declared.flushing.Flushing.{Flushing}
-use Rattle.px_flushing.proofs.Going.{log_apart, manifest_free, manifest_log, named_log, named_manifest, under_touched}
+use Rattle.px_flushing.proofs.Going.{log_apart, manifest_free, manifest_log, named_log, named_manifest, under_kept}
 
 module _ {D : Type 0} (d : Ghosts D) (manifest : Manifest) (wal : Wal) (flushing : Flushing) (disk : D) (batches : List Batch) (lists : List (List CellData)) (has : HasFlushing d manifest wal flushing disk batches lists) where
   abbrev number : ℕ
@@ -48,7 +48,7 @@ module _ {D : Type 0} (d : Ghosts D) (manifest : Manifest) (wal : Wal) (flushing
     }
 
     -- the log has these batches then, of which those of the flush under way are some
-    pub log_goes : (new : Wal) (rest : List Batch) → IsUnderWay d number named rest disk flushing.flush → HasBatches d number named.flushed new disk' rest → HasFlushing d manifest new flushing disk' rest lists
+    pub log_goes : (new : Wal) (rest : List Batch) → IsUnderWay d number named rest flushing.files.items lists disk flushing.flush → HasBatches d number named.flushed new disk' rest → HasFlushing d manifest new flushing disk' rest lists
     log_goes new rest under log = record {
       parts = record {
         tells = has.parts.tells;
@@ -56,7 +56,9 @@ module _ {D : Type 0} (d : Ghosts D) (manifest : Manifest) (wal : Wal) (flushing
         log = log;
         have = have_apart d number disk disk' named.files flushing.files.items lists (log_files number) touches (λ file own touched. named_log number file named.files has.parts.named.right.files own touched) has.parts.have;
       };
-      flush = under_touched d number named rest disk disk' flushing.flush (log_files number) touches (λ local free. log_apart number local named.files free) under;
+      flush =
+          under_kept d number named rest disk disk' flushing.files.items lists flushing.flush (log_files number) touches (λ file own touched. named_log number file named.files has.parts.named.right.files own touched) (λ local free. log_apart number local named.files free)
+          has.parts.have under;
     }
 
     -- the same batches
@@ -65,7 +67,7 @@ module _ {D : Type 0} (d : Ghosts D) (manifest : Manifest) (wal : Wal) (flushing
 
     -- without flushed ones, where no flush is under way
     pub log_switched : (new : Wal) (rest : List Batch) → flushing.flush ≡ None → HasBatches d number named.flushed new disk' rest → HasFlushing d manifest new flushing disk' rest lists
-    log_switched new rest idle log = log_goes new rest (subst (λ (f : Option _). IsUnderWay d number named rest disk f) (sym idle) tt) log
+    log_switched new rest idle log = log_goes new rest (subst (λ (f : Option _). IsUnderWay d number named rest flushing.files.items lists disk f) (sym idle) tt) log
 
   -- ---- calls on the manifest
 
@@ -101,6 +103,7 @@ module _ {D : Type 0} (d : Ghosts D) (manifest : Manifest) (wal : Wal) (flushing
             (have_apart d number disk disk' named.files flushing.files.items lists (manifest_files number) touches (λ file own touched. named_manifest number file named.files has.parts.named.right.files own touched) has.parts.have);
       };
       flush =
-          subst (λ (n : SnapshotData). IsUnderWay d number n batches disk' flushing.flush) (sym same)
-          (under_touched d number named batches disk disk' flushing.flush (manifest_files number) touches (λ local free. manifest_free number local named.files free) has.flush);
+          subst (λ (n : SnapshotData). IsUnderWay d number n batches flushing.files.items lists disk' flushing.flush) (sym same)
+          (under_kept d number named batches disk disk' flushing.files.items lists flushing.flush (manifest_files number) touches (λ file own touched. named_manifest number file named.files has.parts.named.right.files own touched)
+          (λ local free. manifest_free number local named.files free) has.parts.have has.flush);
     }

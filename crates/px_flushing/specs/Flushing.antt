@@ -1,9 +1,12 @@
 -- A region's files, and the flush of its log.
-use Rattle.std.specs.Prelude.{◌≡◌, ◌<◌, ◌+◌, ◌∷◌, [], ℕ, max, List, Option, Some, None}
+use Rattle.std.specs.Prelude.{◌≡◌, ◌≤◌, ◌<◌, ◌+◌, ◌∷◌, [], ℕ, max, List, length, map, take, drop, Option, Some, None}
 use Rattle.px_outside.specs.Disk.{Image}
 use Rattle.px_outside.specs.declared.disk.Disk.{Ghosts}
 use Rattle.px_cells.specs.CellData.{CellData}
+use Rattle.px_file.specs.Format.{cells_in}
 use Rattle.px_file.specs.declared.region_file.RegionFile.{RegionFile}
+use Rattle.px_merge.specs.Merged.{joined}
+use Rattle.px_merge.specs.Settle.{settle}
 use Rattle.px_wal.specs.Batches.{Batch, above}
 use Rattle.px_wal.specs.Files.{file_of}
 use Rattle.px_wal.specs.Form.{byte_count, cell_count}
@@ -12,10 +15,15 @@ use Rattle.px_wal.specs.Snapshot.{SnapshotData}
 use Rattle.px_wal.specs.declared.manifest.Manifest.{Manifest}
 use Rattle.px_wal.specs.declared.wal.Wal.{Wal}
 use Rattle.px_files.specs.Locals.{IsFree}
-use Rattle.px_naming.specs.Naming.{HasParts, RegionReads}
+use Rattle.px_naming.specs.Naming.{HasParts, RegionReads, one_more}
 use Rattle.px_frozen.specs.Frozen.{IsFrozen}
+use Rattle.px_loading.specs.Gathering.{HasGathered}
 use Rattle.px_flushing.specs.Stage.{IsStage}
-use Rattle.px_flushing.specs.declared.flushing.Flush.{Flush}
+use Rattle.px_flushing.specs.declared.job.Flush.{Flush}
+use Rattle.px_flushing.specs.declared.job.Gather.{Gather}
+use Rattle.px_flushing.specs.declared.job.Job.{Job}
+use Rattle.px_flushing.specs.declared.job.Job.TheVariants as job
+use Rattle.px_flushing.specs.declared.job.Merge.{Merge}
 use Rattle.px_flushing.specs.declared.flushing.Flushing.{Flushing}
 
 -- A flush that was begun, which the manifest doesn't name: its cells are those of some batches above the flushed number, and
@@ -26,15 +34,33 @@ pub record IsBegun {D : Type 0} (d : Ghosts D) (region : ℕ) (named : SnapshotD
   pub free : IsFree named.files flush.local
   pub stage : IsStage d (file_of region flush.local) disk flush.frozen.cells flush.stage
 
--- a flush that may be under way
-abbrev pub IsUnderWay : {D : Type 0} → Ghosts D → ℕ → SnapshotData → List Batch → D → Option Flush → Type 0
-IsUnderWay d region named batches disk None = Unit {0}
-IsUnderWay d region named batches disk (Some flush) = IsBegun d region named batches disk flush
+-- The cells of so many of the newest files are gathered, to be merged.
+pub record IsGathering {D : Type 0} (d : Ghosts D) (files : List RegionFile) (lists : List (List CellData)) (disk : D) (gather : Gather) : Type 0 where
+  pub blocks : List (List (List CellData))
+  pub within : gather.count ≤ length files
+  pub lists_are : take gather.count lists ≡ map cells_in blocks
+  pub has : HasGathered d gather.gathering disk (take gather.count files) blocks
+
+-- What is read of so many of the newest files goes to a file that the manifest doesn't name, which has a number of its own and as many of these cells
+-- as its stage says.
+pub record IsMerging {D : Type 0} (d : Ghosts D) (region : ℕ) (named : SnapshotData) (lists : List (List CellData)) (disk : D) (merge : Merge) : Type 0 where
+  pub cells : merge.frozen.cells ≡ settle (joined (take merge.count lists))
+  pub free : IsFree named.files merge.local
+  pub stage : IsStage d (file_of region merge.local) disk merge.frozen.cells merge.stage
+
+-- a flush or a compaction that may be under way
+abbrev pub IsUnderWay : {D : Type 0} → Ghosts D → ℕ → SnapshotData → List Batch → List RegionFile → List (List CellData) → D → Option Job → Type 0
+IsUnderWay d region named batches files lists disk None = Unit {0}
+IsUnderWay d region named batches files lists disk (Some (job.Flush flush)) = IsBegun d region named batches disk flush
+IsUnderWay d region named batches files lists disk (Some (job.Gather gather)) = IsGathering d files lists disk gather
+IsUnderWay d region named batches files lists disk (Some (job.Merge merge)) = IsMerging d region named lists disk merge
 
 -- the number of the last batch of a flush, 0 where none is under way
-abbrev pub upto_of : Option Flush → ℕ
+abbrev pub upto_of : Option Job → ℕ
 upto_of None = 0
-upto_of (Some flush) = flush.frozen.upto
+upto_of (Some (job.Flush flush)) = flush.frozen.upto
+upto_of (Some (job.Gather gather)) = 0
+upto_of (Some (job.Merge merge)) = 0
 
 -- no file is named or begun
 pub record IsFreshFlushing (number : ℕ) (flushing : Flushing) : Type 0 where
@@ -43,10 +69,10 @@ pub record IsFreshFlushing (number : ℕ) (flushing : Flushing) : Type 0 where
   pub flush : flushing.flush ≡ None
 
 -- The disk tells that manifest, log and open files of the region have this, all of it on the disk, and that it goes on from
--- there, with the flush that may be under way.
+-- there, with the flush or the compaction that may be under way.
 pub record HasFlushing {D : Type 0} (d : Ghosts D) (manifest : Manifest) (wal : Wal) (flushing : Flushing) (disk : D) (batches : List Batch) (lists : List (List CellData)) : Type 0 where
   pub parts : HasParts d flushing.number manifest wal disk batches flushing.files.items lists
-  pub flush : IsUnderWay d flushing.number (names manifest) batches disk flushing.flush
+  pub flush : IsUnderWay d flushing.number (names manifest) batches flushing.files.items lists disk flushing.flush
 
 -- the image's files of a region are read as this list, and its manifest names this horizon
 pub record IsRead (region : ℕ) (image : Image) (horizon : ℕ) (cells : List CellData) : Type 0 where
@@ -63,6 +89,25 @@ named_next named upto local len file = record {
   compactions = named.compactions;
   files = record { local = local; len = len; cells = file.index.cells } ∷ named.files;
 }
+
+-- what is named after a compaction of so many of the newest files
+abbrev pub merged_next : SnapshotData → (count local len : ℕ) → RegionFile → SnapshotData
+merged_next named count local len file = record {
+  flushed = named.flushed;
+  horizon = named.horizon;
+  stamp = named.stamp;
+  compactions = one_more named.compactions;
+  files = record { local = local; len = len; cells = file.index.cells } ∷ drop count named.files;
+}
+
+-- one file is named in place of some of the newest
+pub record HasMerged (old new : SnapshotData) : Type 0 where
+  pub count : ℕ
+  pub some : 1 ≤ count
+  pub local : ℕ
+  pub len : ℕ
+  pub file : RegionFile
+  pub is : new ≡ merged_next old count local len file
 
 -- the flushed number has risen, and so many cells and bytes of batches aren't above it any more
 pub record IsRaised (old new : ℕ) (batches : List Batch) (cells bytes : ℕ) : Type 0 where

@@ -1,5 +1,5 @@
 // A region's open files, and the flush of its log.
-ghost use Rattle.std.specs.Prelude.{◌≡◌, ◌≢◌, ◌≤◌, ◌<◌, ◌+◌, ◌*◌, ◌∷◌, ◌↔◌, ℕ, false, List, length, IsTrue, IfOk, IsErr, OnOk, OnErr, Ok, Err, None, max, vec_len, vec_capacity};
+ghost use Rattle.std.specs.Prelude.{◌≡◌, ◌≢◌, ◌≤◌, ◌<◌, ◌+◌, ◌*◌, ◌∷◌, ◌↔◌, ℕ, false, List, length, IsTrue, IfOk, IsErr, OnOk, OnErr, Ok, Err, None, Some, max, vec_len, vec_capacity};
 ghost use Rattle.px_outside.specs.OnDisk.{LeavesOnly, Passes, Rose, Stays, TouchesOnly};
 ghost use Rattle.px_cells.specs.CellData.{CellData};
 ghost use Rattle.px_wal.specs.Batches.{Batch as BatchData, cells_over};
@@ -13,13 +13,13 @@ ghost use Rattle.px_wal.specs.declared.wal.Wal.{Wal as Logs};
 ghost use Rattle.px_files.specs.Calls.{opening_calls};
 ghost use Rattle.px_files.specs.Files.{IsFirstBad};
 ghost use Rattle.px_naming.specs.Naming.{HasParts};
-ghost use Rattle.px_flushing.specs.Flushing.{HasFlushing, IsBegun, IsFreshFlushing, IsRaised, IsRead, named_next, upto_of};
+ghost use Rattle.px_flushing.specs.Flushing.{HasFlushing, IsBegun, IsFreshFlushing, HasMerged, IsRaised, IsRead, named_next, upto_of};
 ghost use Rattle.px_flushing.specs.declared.fault.FlushFault.TheVariants.{Damaged, ReadFault, WriteFault};
 
 use crate::fault::{of_append, of_read};
 use crate::naming::{Naming, make_room, prepare, put_first};
 use crate::stage::advance;
-use crate::{FlushFault, Stage};
+use crate::{Flush, FlushFault, Job, Stage};
 use px_file::RegionFile;
 use px_files::{free_local, open_files};
 use px_frozen::{Frozen, freeze};
@@ -36,26 +36,21 @@ pub enum FlushStep {
     More,
     /// The file is named: so many cells and bytes of batches don't stand above the flushed number any more. No flush is under way.
     Named { cells: u64, bytes: u64 },
+    /// One file is named in place of some of the newest. No compaction is under way.
+    Merged,
     /// No batch of the log's older segment stands above the flushed number. No flush is under way.
     Done,
 }
 
-/// A flush that was begun.
-#[derive(Drop)]
-pub struct Flush {
-    pub(crate) frozen: Frozen,
-    /// The local number of its file.
-    pub(crate) local: u32,
-    pub(crate) stage: Stage,
-}
-
-/// The open files of a region that its manifest names, and the flush that may be under way.
+/// The open files of a region that its manifest names, and the flush or the compaction that may be under way.
 #[derive(Drop)]
 pub struct Flushing {
-    alloc: Global,
+    pub(crate) alloc: Global,
     pub(crate) number: u32,
     pub(crate) files: Vec<RegionFile>,
-    pub(crate) flush: Option<Flush>,
+    pub(crate) flush: Option<Job>,
+    /// With so many files a compaction found no memory.
+    pub(crate) given_up: usize,
 }
 
 /// Whether no batch of the log's older segment stands above the flushed number.
@@ -75,6 +70,7 @@ impl Flushing {
             number,
             files: Vec::new(alloc),
             flush: None,
+            given_up: 0,
         }
     }
 
@@ -101,6 +97,7 @@ impl Flushing {
                 number,
                 files,
                 flush: None,
+                given_up: 0,
             }),
             Err(fault) => Err(fault),
         }
@@ -113,7 +110,7 @@ impl Flushing {
         &self.files
     }
 
-    /// Whether no flush is under way.
+    /// Whether neither a flush nor a compaction is under way.
     pub fn is_idle(&self) -> bool
         ensures { IsTrue result ↔ (self.now.flush ≡ None) }
     {
@@ -125,9 +122,17 @@ impl Flushing {
         ensures { result ≡ upto_of self.now.flush }
     {
         match &self.flush {
-            None => 0,
-            Some(flush) => flush.frozen.upto(),
+            Some(Job::Flush(flush)) => flush.frozen.upto(),
+            _ => 0,
         }
+    }
+
+    /// Keeps what is under way.
+    pub(crate) fn keep(&mut self, job: Job)
+        ensures flush { self.new.flush ≡ Some job }
+        ensures files { (self.new.number ≡ self.old.number) × (self.new.files ≡ self.old.files) }
+    {
+        self.flush = Some(job);
     }
 
     /// Begins a flush, where a batch of the log's older segment stands above the flushed number.
@@ -140,7 +145,7 @@ impl Flushing {
         requires { self.old.flush ≡ None }
         ensures done { (batches : List BatchData) (lists : List (List CellData)) → HasFlushing ⟦<D as Disk>⟧ manifest.now wal.now self.old disk.old batches lists → HasFlushing ⟦<D as Disk>⟧ manifest.now wal.now self.new disk.new batches lists }
         ensures ended { result ≡ Ok FlushStep.Done → (self.new.flush ≡ None) × (wal.now.older_to ≤ (names manifest.now).flushed) }
-        ensures unnamed { (cells bytes : ℕ) → result ≢ Ok (FlushStep.Named cells bytes) }
+        ensures unnamed { ((cells bytes : ℕ) → result ≢ Ok (FlushStep.Named cells bytes)) × (result ≢ Ok FlushStep.Merged) }
         ensures sound { (batches : List BatchData) (lists : List (List CellData)) → HasFlushing ⟦<D as Disk>⟧ manifest.now wal.now self.old disk.old batches lists → result ≢ Err Damaged }
         ensures read_failed { result ≡ Err ReadFault → Rose ⟦<D as Disk>⟧ disk.old disk.new }
         ensures write_failed { result ≡ Err WriteFault → Rose ⟦<D as Disk>⟧ disk.old disk.new }
@@ -158,11 +163,11 @@ impl Flushing {
         };
         match freeze(self.alloc, disk, self.number, named.flushed, wal) {
             Ok(frozen) => {
-                self.flush = Some(Flush {
+                self.keep(Job::Flush(Flush {
                     frozen,
                     local,
                     stage: Stage::Frozen,
-                });
+                }));
                 Ok(FlushStep::More)
             }
             Err(fault) => Err(of_read(fault)),
@@ -190,11 +195,11 @@ impl Flushing {
     {
         let file = local_file(self.number, local);
         let (stage, fault) = advance(self.alloc, disk, file, frozen.cells(), stage);
-        self.flush = Some(Flush {
+        self.keep(Job::Flush(Flush {
             frozen,
             local,
             stage,
-        });
+        }));
         match fault {
             None => Ok(FlushStep::More),
             Some(fault) => Err(fault),
@@ -269,11 +274,11 @@ impl Flushing {
         ) {
             Ok(naming) => naming,
             Err(fault) => {
-                self.flush = Some(Flush {
+                self.keep(Job::Flush(Flush {
                     frozen,
                     local,
                     stage: Stage::Measured(file, len),
-                });
+                }));
                 return Err(fault);
             }
         };
@@ -288,19 +293,62 @@ impl Flushing {
                 Ok(named)
             }
             Err(fault) => {
-                self.flush = Some(Flush {
+                self.keep(Job::Flush(Flush {
                     frozen,
                     local,
                     stage: Stage::Measured(file, len),
-                });
+                }));
                 Err(of_append(fault))
             }
         }
     }
 
+    /// Makes the next step of a flush that was begun.
+    fn go_on<D: Disk>(
+        &mut self,
+        disk: &mut D,
+        manifest: &mut Manifest,
+        flush: Flush,
+    ) -> Result<FlushStep, FlushFault>
+        requires { self.old.flush ≡ None }
+        ensures done { (wal : Logs) (batches : List BatchData) (lists : List (List CellData)) → HasParts ⟦<D as Disk>⟧ self.old.number manifest.old wal disk.old batches self.old.files.items lists
+            → IsBegun ⟦<D as Disk>⟧ self.old.number (names manifest.old) batches disk.old flush → result ≢ Err WriteFault
+            → (after : List (List CellData)) × HasFlushing ⟦<D as Disk>⟧ manifest.new wal self.new disk.new batches after × (cells_over (names manifest.new).flushed batches after ≡ cells_over (names manifest.old).flushed batches lists) }
+
+        // At each moment of the call a stop leaves the region's files as they are read now.
+        ensures any_moment { (wal : Logs) (batches : List BatchData) (lists : List (List CellData)) → HasParts ⟦<D as Disk>⟧ self.old.number manifest.old wal disk.old batches self.old.files.items lists
+            → IsBegun ⟦<D as Disk>⟧ self.old.number (names manifest.old) batches disk.old flush
+            → LeavesOnly ⟦<D as Disk>⟧ disk.old disk.new (λ moment image. IsRead self.old.number image (names manifest.old).horizon (cells_over (names manifest.old).flushed batches lists)) }
+        ensures only { (result ≢ Ok FlushStep.Done) × (result ≢ Ok FlushStep.Merged) }
+        ensures named { (batches : List BatchData) (cells bytes : ℕ) → IsBegun ⟦<D as Disk>⟧ self.old.number (names manifest.old) batches disk.old flush → result ≡ Ok (FlushStep.Named cells bytes)
+            → (self.new.flush ≡ None) × IsRaised (names manifest.old).flushed (names manifest.new).flushed batches cells bytes }
+        ensures horizon { (names manifest.new).horizon ≡ (names manifest.old).horizon }
+        ensures still { ((cells bytes : ℕ) → result ≢ Ok (FlushStep.Named cells bytes)) → names manifest.new ≡ names manifest.old }
+        ensures flushed { (names manifest.new).flushed ≤ max (names manifest.old).flushed flush.frozen.upto }
+        ensures sound { result ≢ Err Damaged }
+        ensures read_failed { result ≡ Err ReadFault → Rose ⟦<D as Disk>⟧ disk.old disk.new }
+        ensures write_failed { result ≡ Err WriteFault → Rose ⟦<D as Disk>⟧ disk.old disk.new }
+        ensures touches { (wal : Logs) (batches : List BatchData) (lists : List (List CellData)) → HasParts ⟦<D as Disk>⟧ self.old.number manifest.old wal disk.old batches self.old.files.items lists
+            → IsBegun ⟦<D as Disk>⟧ self.old.number (names manifest.old) batches disk.old flush → TouchesOnly ⟦<D as Disk>⟧ disk.old disk.new (IsFileOf self.old.number) }
+        ensures counts { Passes ⟦<D as Disk>⟧ disk.old disk.new 4 }
+        ensures number { self.new.number ≡ self.old.number }
+    {
+        let Flush {
+            frozen,
+            local,
+            stage,
+        } = flush;
+        match stage {
+            Stage::Measured(file, len) => self.name(disk, manifest, frozen, local, file, len),
+            stage => self.write(disk, frozen, local, stage),
+        }
+    }
+
     /// Makes one step of a flush: takes the cells of the batches of the log's older segment that are above the flushed number, or
-    /// makes one step of their file, or names it. Batches may be written between two steps, which the flush under way doesn't take. What is read of the region's
-    /// files stays at each moment. Where the answer isn't `WriteFault` the region goes on, and the step may be made again.
+    /// makes one step of their file, or names it; or of the compaction that is under way: reads a block of its files, or makes one step of the file
+    /// that they are merged to, or names it. Batches may be written between two steps, which neither takes. What is read of the region's
+    /// files stays at each moment. Where the answer isn't `WriteFault` the region goes on, and the step may be made again; a compaction that finds no memory for
+    /// its cells is given up, and isn't asked for again until there are more files.
     pub fn step<D: Disk>(
         &mut self,
         disk: &mut D,
@@ -316,8 +364,9 @@ impl Flushing {
         ensures ended { result ≡ Ok FlushStep.Done → (self.new.flush ≡ None) × (wal.now.older_to ≤ (names manifest.old).flushed) }
         ensures named { (batches : List BatchData) (lists : List (List CellData)) (cells bytes : ℕ) → HasFlushing ⟦<D as Disk>⟧ manifest.old wal.now self.old disk.old batches lists → result ≡ Ok (FlushStep.Named cells bytes)
             → (self.new.flush ≡ None) × IsRaised (names manifest.old).flushed (names manifest.new).flushed batches cells bytes }
+        ensures merged { result ≡ Ok FlushStep.Merged → (self.new.flush ≡ None) × HasMerged (names manifest.old) (names manifest.new) }
         ensures horizon { (names manifest.new).horizon ≡ (names manifest.old).horizon }
-        ensures still { ((cells bytes : ℕ) → result ≢ Ok (FlushStep.Named cells bytes)) → names manifest.new ≡ names manifest.old }
+        ensures still { ((cells bytes : ℕ) → result ≢ Ok (FlushStep.Named cells bytes)) → result ≢ Ok FlushStep.Merged → names manifest.new ≡ names manifest.old }
         ensures flushed { (names manifest.new).flushed ≤ max (names manifest.old).flushed (upto_of self.old.flush) }
         ensures sound { (batches : List BatchData) (lists : List (List CellData)) → HasFlushing ⟦<D as Disk>⟧ manifest.old wal.now self.old disk.old batches lists → result ≢ Err Damaged }
         ensures read_failed { result ≡ Err ReadFault → Rose ⟦<D as Disk>⟧ disk.old disk.new }
@@ -326,18 +375,11 @@ impl Flushing {
         ensures counts { Passes ⟦<D as Disk>⟧ disk.old disk.new 4 }
         ensures number { self.new.number ≡ self.old.number }
     {
-        let flush = match self.flush.take() {
-            Some(flush) => flush,
-            None => return self.begin(disk, manifest, wal),
-        };
-        let Flush {
-            frozen,
-            local,
-            stage,
-        } = flush;
-        match stage {
-            Stage::Measured(file, len) => self.name(disk, manifest, frozen, local, file, len),
-            stage => self.write(disk, frozen, local, stage),
+        match self.flush.take() {
+            None => self.begin(disk, manifest, wal),
+            Some(Job::Flush(flush)) => self.go_on(disk, manifest, flush),
+            Some(Job::Gather(gather)) => self.gather(disk, manifest, gather),
+            Some(Job::Merge(merge)) => self.merge(disk, manifest, merge),
         }
     }
 }

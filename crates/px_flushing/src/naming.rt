@@ -1,15 +1,16 @@
 // What naming a flush's file takes.
-ghost use Rattle.std.specs.Prelude.{◌≡◌, ◌≢◌, ◌≤◌, ◌<◌, ◌+◌, ◌*◌, ◌∷◌, ◌↔◌, false, length, map, max, IsTrue, IfOk, OnOk, Err, vec_len, vec_capacity};
+ghost use Rattle.std.specs.Prelude.{◌≡◌, ◌≢◌, ◌≤◌, ◌<◌, ◌+◌, ◌*◌, ◌∷◌, ◌↔◌, false, length, map, max, drop, IsTrue, IfOk, OnOk, Err, vec_len, vec_capacity};
 ghost use Rattle.std.specs.List.{AllByRecursion};
 ghost use Rattle.px_wal.specs.Manifest.{is_open, names};
 ghost use Rattle.px_wal.specs.Snapshot.{IsEntry, IsSnapshot};
 ghost use Rattle.px_wal.specs.SnapshotOf.{file_data, files_of, snapshot_of};
+ghost use Rattle.px_naming.specs.Naming.{one_more};
 ghost use Rattle.px_flushing.specs.declared.fault.FlushFault.TheVariants.{Damaged, ReadFault, WriteFault};
 
 use crate::FlushFault;
 use px_file::RegionFile;
 use px_gatelog::Frame;
-use px_naming::named_after;
+use px_naming::{merged_after, named_after};
 use px_wal::{FileEntry, Manifest, Snapshot};
 use std::alloc::{AllocError, Global};
 
@@ -59,6 +60,26 @@ fn may_name(manifest: &Manifest) -> bool
     manifest.is_open() && !manifest.is_rolling()
 }
 
+/// Tests what is to be named, and takes the room for its record.
+fn framed(alloc: Global, after: Snapshot) -> Result<Naming, FlushFault>
+    ensures right { IfOk result (λ n. IsSnapshot (snapshot_of n.after)) }
+    ensures after { IfOk result (λ n. snapshot_of n.after ≡ snapshot_of after) }
+    ensures room { IfOk result (λ n. 26 + 20 * length (files_of n.after) ≤ n.frame.room) }
+    ensures never { (result ≢ Err ReadFault) × (result ≢ Err WriteFault) × (result ≢ Err Damaged) }
+{
+    if !is_right(&after) {
+        drop(after);
+        return Err(FlushFault::NotReady);
+    }
+    match Frame::with_room(alloc, after.body_len()) {
+        Ok(frame) => Ok(Naming { after, frame }),
+        Err(_) => {
+            drop(after);
+            Err(FlushFault::Memory)
+        }
+    }
+}
+
 /// Takes the memory that naming a file, flushed up to a number, needs. It makes no call.
 pub(crate) fn prepare(
     alloc: Global,
@@ -80,20 +101,36 @@ pub(crate) fn prepare(
     if named.files.len() >= MOST_FILES {
         return Err(FlushFault::Full);
     }
-    let after = match named_after(alloc, named, upto, stamp, entry) {
-        Ok(after) => after,
-        Err(_) => return Err(FlushFault::Memory),
-    };
-    if !is_right(&after) {
-        drop(after);
+    match named_after(alloc, named, upto, stamp, entry) {
+        Ok(after) => framed(alloc, after),
+        Err(_) => Err(FlushFault::Memory),
+    }
+}
+
+/// Takes the memory that naming a file in place of so many of the newest needs. It makes no call.
+pub(crate) fn prepare_merged(
+    alloc: Global,
+    manifest: &Manifest,
+    count: usize,
+    entry: FileEntry,
+) -> Result<Naming, FlushFault>
+    ensures some { OnOk result (1 ≤ count) }
+    ensures may { OnOk result (is_open manifest.now × (manifest.now.rolling ≡ false)) }
+    ensures right { IfOk result (λ n. IsSnapshot (snapshot_of n.after)) }
+    ensures after { IfOk result (λ n. snapshot_of n.after ≡ record { flushed = (names manifest.now).flushed; horizon = (names manifest.now).horizon; stamp = (names manifest.now).stamp; compactions = one_more (names manifest.now).compactions; files = file_data entry ∷ drop count (names manifest.now).files }) }
+    ensures room { IfOk result (λ n. 26 + 20 * length (files_of n.after) ≤ n.frame.room) }
+    ensures never { (result ≢ Err ReadFault) × (result ≢ Err WriteFault) × (result ≢ Err Damaged) }
+{
+    if !may_name(manifest) {
         return Err(FlushFault::NotReady);
     }
-    match Frame::with_room(alloc, after.body_len()) {
-        Ok(frame) => Ok(Naming { after, frame }),
-        Err(_) => {
-            drop(after);
-            Err(FlushFault::Memory)
-        }
+    let named = manifest.snapshot();
+    if count == 0 || count > named.files.len() {
+        return Err(FlushFault::NotReady);
+    }
+    match merged_after(alloc, named, count, entry) {
+        Ok(after) => framed(alloc, after),
+        Err(_) => Err(FlushFault::Memory),
     }
 }
 
@@ -111,4 +148,16 @@ pub(crate) fn make_room(files: &mut Vec<RegionFile>) -> Result<(), AllocError>
     ensures same { files.new.items ≡ files.old.items }
 {
     files.reserve(1)
+}
+
+/// Puts a file in place of the first ones, where there is room.
+pub(crate) fn put_in_place(files: &mut Vec<RegionFile>, count: usize, file: RegionFile)
+    requires room { vec_len files.old < vec_capacity files.old }
+    requires within { count ≤ length files.old.items }
+    ensures { files.new.items ≡ file ∷ drop count files.old.items }
+{
+    for _ in 0..count {
+        drop(files.remove(0));
+    }
+    put_first(files, file);
 }

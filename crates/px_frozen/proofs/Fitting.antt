@@ -46,7 +46,7 @@ whole_next cells i c lt is all whole = subst (AllByRecursion IsWhole) (ap (λ (x
 -- ---- what is read of batches
 
 -- each cell of the sorted list is one of the list
-settled_all : (P : CellData → Type 0) (cells : List CellData) → AllByRecursion P cells → AllByRecursion P (settle cells)
+pub settled_all : (P : CellData → Type 0) (cells : List CellData) → AllByRecursion P cells → AllByRecursion P (settle cells)
 settled_all P cells all = has_all P (settle cells) (λ c has. all_has P cells c all (has_from_reads cells c (((settle_is cells).same c).0 (reads_from_has (settle cells) c (settle_is cells).ascending has))))
 
 pub filtered : {T : Type 0} (P : T → Type 0) (keep : T → Bool) (xs : List T) → AllByRecursion P xs → AllByRecursion P (filter keep xs)

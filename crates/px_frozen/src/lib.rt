@@ -9,4 +9,4 @@ pub mod laws;
 mod rereading;
 
 pub use frozen::Frozen;
-pub use rereading::freeze;
+pub use rereading::{freeze, freeze_merged};

@@ -1,5 +1,5 @@
 // Reading a log again.
-ghost use Rattle.std.specs.Prelude.{◌≡◌, ◌≢◌, ◌<◌, ◌↔◌, ℕ, List, IsTrue, IfOk, Err};
+ghost use Rattle.std.specs.Prelude.{◌≡◌, ◌≢◌, ◌<◌, ◌↔◌, ℕ, List, IsTrue, IfOk, Err, MatchOption};
 ghost use Rattle.px_outside.specs.OnDisk.{Passes, Rose, Stays};
 ghost use Rattle.px_cellbytes.specs.Reading.{IsBare, IsInRange, IsWritten};
 ghost use Rattle.px_wal.specs.Batches.{Batch as BatchData};
@@ -8,7 +8,7 @@ ghost use Rattle.px_frozen.specs.Frozen.{IsFrozen};
 ghost use Rattle.px_frozen.specs.inner.Fit.{IsFit};
 
 use crate::Frozen;
-use px_cells::{Cell, CellKind, is_cell_list};
+use px_cells::{Cell, CellKind, Cells, is_cell_list};
 use px_gatelog::StartFault;
 use px_outside::Disk;
 use px_wal::{Reread, Wal, local_file};
@@ -87,4 +87,15 @@ pub fn freeze<D: Disk>(
         });
     }
     Ok(Frozen::new(cells, wal.older_to(), count, bytes))
+}
+
+/// Cells of files, which a compaction writes: they are of no batch. There are none where these can't be written.
+pub fn freeze_merged(cells: Cells) -> Option<Frozen>
+    ensures { MatchOption result (IsWritten cells → ⊥) (λ frozen. frozen ≡ record { cells = cells; upto = 0; count = 0; bytes = 0 }) }
+{
+    if !are_written(cells.as_slice()) {
+        drop(cells);
+        return None;
+    }
+    Some(Frozen::new(cells, 0, 0, 0))
 }

@@ -20,7 +20,6 @@ use Rattle.px_merge.specs.Settle.{settle}
 use Rattle.px_merge.proofs.Settling.{settle_back, settle_sorted}
 use Rattle.px_wal.specs.Snapshot.{FileData}
 use Rattle.px_files.specs.Files.{HasFile, HaveFiles}
-use Rattle.px_loading.specs.Calls.{loading_calls}
 
 -- ---- blocks
 

@@ -36,7 +36,7 @@ fn comes_after(before: &[Cell], cells: &[Cell]) -> bool
 }
 
 /// Puts the cells of a block behind those of the blocks before it.
-fn add_block<D: Disk>(
+pub(crate) fn add_block<D: Disk>(
     alloc: Global,
     disk: &mut D,
     file: &RegionFile,

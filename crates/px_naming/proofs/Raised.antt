@@ -1,11 +1,10 @@
 -- A log that is flushed further.
-use Rattle.std.proofs.Common.{◌≡◌, ℕ, ◌≤◌, List, [], ◌∷◌, refl, subst, ◌∙◌, sym, arith}
-use Rattle.std.specs.Prelude.{map}
+use Rattle.std.proofs.Common.{◌≡◌, ℕ, ◌≤◌, List, [], ◌∷◌, refl, ◌∙◌, arith}
 use Rattle.px_outside.specs.declared.disk.Disk.{Ghosts}
 use Rattle.px_gatelog.specs.Weaker.{IsWeaker}
 use Rattle.px_gatelog.proofs.Weaker.{settled_weaker}
 use Rattle.px_wal.specs.Batches.{Batch}
-use Rattle.px_wal.specs.Form.{AreBatches, IsFirst, IsUpTo, last_of, wal_form}
+use Rattle.px_wal.specs.Form.{IsFirst, IsUpTo, last_of, wal_form}
 use Rattle.px_wal.specs.Wal.{HasBatches}
 use Rattle.px_wal.specs.declared.wal.Wal.{Wal}
 use Rattle.px_wal.proofs.Numbers.{wrong_weaker}

@@ -1,13 +1,12 @@
 -- What a region's manifest, log and files stand for, before and after a file is named.
-use Rattle.std.specs.Prelude.{◌≡◌, ◌≤◌, ◌∷◌, [], ◌⊎◌, ℕ, List}
-use Rattle.std.specs.List.{AllByRecursion}
+use Rattle.std.specs.Prelude.{◌≡◌, ◌≤◌, ◌+◌, ◌∷◌, ◌⊎◌, ℕ, nat_lt, if◌then◌else◌, List, take, drop}
 use Rattle.px_outside.specs.Disk.{Image}
 use Rattle.px_outside.specs.declared.disk.Disk.{Ghosts}
 use Rattle.px_cells.specs.CellData.{CellData}
+use Rattle.px_merge.specs.Merged.{joined}
 use Rattle.px_merge.specs.Settle.{settle}
 use Rattle.px_file.specs.declared.region_file.RegionFile.{RegionFile}
 use Rattle.px_wal.specs.Batches.{Batch, between, cells_over, later_first}
-use Rattle.px_wal.specs.Form.{last_of}
 use Rattle.px_wal.specs.Manifest.{HasSnapshot, SnapshotStands, names}
 use Rattle.px_wal.specs.Snapshot.{FileData, SnapshotData}
 use Rattle.px_wal.specs.Wal.{HasBatches, LogStands}
@@ -49,3 +48,16 @@ pub record IsFlushed {D : Type 0} (d : Ghosts D) (region : ℕ) (disk : D) (old 
   pub more : List Batch
   pub batches_are : batches ≡ some ∷ more
   pub cells : list ≡ settle (later_first (between old.flushed new.flushed batches))
+
+-- the number of compactions, modulo 8, after one more
+abbrev pub one_more : ℕ → ℕ
+one_more n = if nat_lt n 7 then n + 1 else 0
+
+-- A compaction made a file that isn't named yet: it has what is read of so many of the newest files. It is to be named in place
+-- of these, and the flushed number and the horizon stay.
+pub record IsCompacted {D : Type 0} (d : Ghosts D) (region : ℕ) (disk : D) (old new : SnapshotData) (lists : List (List CellData)) (count : ℕ) (file : RegionFile) (list : List CellData) : Type 0 where
+  pub entry : FileData
+  pub in_place : new.files ≡ entry ∷ drop count old.files
+  pub has : HasFile d region disk entry file list
+  pub same : new.flushed ≡ old.flushed
+  pub cells : list ≡ settle (joined (take count lists))

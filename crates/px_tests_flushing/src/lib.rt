@@ -1,7 +1,9 @@
-//! Tests of px_flushing over its public calls: a flush of several steps with batches between them, the bytes of its file, and a
+//! Tests of px_flushing over its public calls: a flush and a compaction of several steps with batches between them, the bytes of their files, and a
 //! stop at each call of the disk.
 #![tactic(auto)]
 
+#[cfg(test)]
+mod compactions;
 #[cfg(test)]
 mod flushes;
 #[cfg(test)]

@@ -2,7 +2,7 @@
 ghost use Rattle.std.specs.Prelude.{◌≡◌, ◌≤◌, ◌<◌, ◌^◌, true, length};
 
 use px_cellbytes::read_cells;
-use px_cells::Cell;
+use px_cells::{Cell, CellKind};
 use px_cursor::Cursor;
 use px_flushing::{FlushStep, Flushing};
 use px_gatelog::{Frame, Rolled};
@@ -79,10 +79,16 @@ pub fn opened(alloc: Global, disk: &mut MemDisk) -> Option<Parts> {
     })
 }
 
-/// The bytes of one cell of a row, whose value has so many bytes.
-fn cell_bytes(alloc: Global, row: u8, stamp: u8, len: u16) -> Result<Vec<u8>, AllocError> {
+/// The bytes of one cell of a row, of the kind of a code, whose value has so many bytes.
+fn cell_bytes(
+    alloc: Global,
+    row: u8,
+    stamp: u8,
+    kind: u8,
+    len: u16,
+) -> Result<Vec<u8>, AllocError> {
     let mut bytes = Vec::new(alloc);
-    bytes.extend_from_slice(&[0, 1, row, 1, 0, 0, 0, 0, 0, 0, 0, stamp, 4])?;
+    bytes.extend_from_slice(&[0, 1, row, 1, 0, 0, 0, 0, 0, 0, 0, stamp, kind])?;
     bytes.extend_from_slice(&len.to_be_bytes())?;
     for _ in 0..len {
         bytes.push(row)?;
@@ -91,6 +97,26 @@ fn cell_bytes(alloc: Global, row: u8, stamp: u8, len: u16) -> Result<Vec<u8>, Al
 }
 
 /// Writes a batch of one cell.
+fn write(
+    alloc: Global,
+    disk: &mut MemDisk,
+    parts: &mut Parts,
+    row: u8,
+    stamp: u8,
+    kind: CellKind,
+    len: u16,
+) -> Option<()> {
+    let bytes = cell_bytes(alloc, row, stamp, kind.code(), len).ok()?;
+    if bytes.len() > 1_000_000 || !parts.wal.is_open() {
+        return None;
+    }
+    let mut frame = Frame::with_room(alloc, 12 + bytes.len() as u64).ok()?;
+    let cells = read_cells(alloc, &bytes, 1).ok()?;
+    parts.wal.append(disk, &cells, &mut frame).ok()?;
+    Some(())
+}
+
+/// Writes a batch of one put, with a value of so many bytes.
 pub fn put(
     alloc: Global,
     disk: &mut MemDisk,
@@ -99,14 +125,18 @@ pub fn put(
     stamp: u8,
     len: u16,
 ) -> Option<()> {
-    let bytes = cell_bytes(alloc, row, stamp, len).ok()?;
-    if bytes.len() > 1_000_000 || !parts.wal.is_open() {
-        return None;
-    }
-    let mut frame = Frame::with_room(alloc, 12 + bytes.len() as u64).ok()?;
-    let cells = read_cells(alloc, &bytes, 1).ok()?;
-    parts.wal.append(disk, &cells, &mut frame).ok()?;
-    Some(())
+    write(alloc, disk, parts, row, stamp, CellKind::Put, len)
+}
+
+/// Writes a batch of one marker, which hides a column.
+pub fn mark(
+    alloc: Global,
+    disk: &mut MemDisk,
+    parts: &mut Parts,
+    row: u8,
+    stamp: u8,
+) -> Option<()> {
+    write(alloc, disk, parts, row, stamp, CellKind::DeleteColumn, 0)
 }
 
 /// Has all batches stand in the log's older segment, where one isn't flushed yet and none of that segment is left.
@@ -138,7 +168,29 @@ pub fn flush(disk: &mut MemDisk, parts: &mut Parts) -> Option<u64> {
     for steps in 1..100u64 {
         match step(disk, parts)? {
             FlushStep::More => {}
+            FlushStep::Merged => return None,
             FlushStep::Named { .. } | FlushStep::Done => return Some(steps),
+        }
+    }
+    None
+}
+
+/// Begins a compaction of so many of the newest files.
+pub fn begin(parts: &mut Parts, count: usize) -> Option<()> {
+    if !parts.flushing.is_idle() {
+        return None;
+    }
+    parts.flushing.compact::<MemDisk>(count);
+    Some(())
+}
+
+/// Makes the steps of a compaction that was begun, and answers the number of these.
+pub fn merge(disk: &mut MemDisk, parts: &mut Parts) -> Option<u64> {
+    for steps in 1..100u64 {
+        match step(disk, parts)? {
+            FlushStep::More => {}
+            FlushStep::Merged => return Some(steps),
+            FlushStep::Named { .. } | FlushStep::Done => return None,
         }
     }
     None

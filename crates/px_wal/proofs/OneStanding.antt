@@ -1,13 +1,11 @@
 -- The files of a log or a manifest stand for one thing at most.
-use Rattle.std.proofs.Common.{◌≡◌, ℕ, ◌+◌, ◌*◌, ◌^◌, ◌<◌, List, [], ◌∷◌, ◌++◌, length, get_or, take, drop, refl, sym, ap, subst, ◌∙◌, arith}
+use Rattle.std.proofs.Common.{◌≡◌, ℕ, ◌^◌, ◌<◌, List, [], ◌∷◌, ◌++◌, length, get_or, take, drop, refl, sym, ap, subst, ◌∙◌, arith}
 use Rattle.std.specs.Prelude.{map}
 use Rattle.std.specs.List.{AllByRecursion}
 use Rattle.std.specs.Int.{w32, w64, from_be_bytes}
 use Rattle.std.proofs.lemmas.Nat.{from_be_bytes-to_be_bytes_4, from_be_bytes-to_be_bytes_8}
 use Rattle.std.proofs.lemmas.List.{length-append}
 use Rattle.px_outside.specs.Disk.{Image}
-use Rattle.px_cells.specs.CellData.{CellData}
-use Rattle.px_cellbytes.specs.Spelling.{all_bytes}
 use Rattle.px_cellbytes.proofs.OneReading.{one_spelling}
 use Rattle.px_gatelog.specs.Format.{LogForm, LogRecord, records_of, segments_of}
 use Rattle.px_gatelog.specs.Records.{RecordsStand}
@@ -20,7 +18,7 @@ use Rattle.px_wal.specs.Snapshot.{FileData, IsEntry, IsLast, IsSnapshot, Snapsho
 use Rattle.px_wal.specs.Snapshot.IsLast.{none, last}
 use Rattle.px_wal.specs.Wal.{LogStands}
 use Rattle.px_wal.proofs.Readings.{cells_of_body, number_of_body}
-use Rattle.px_wal.proofs.Snapshots.{length-file, length-files}
+use Rattle.px_wal.proofs.Snapshots.{length-file}
 
 records_once : (form : LogForm) (first second : ℕ) (image : Image) (a b : List LogRecord) → RecordsStand form first second image a → RecordsStand form first second image b → a ≡ b
 records_once form first second image a b one two = sym one.2 ∙ ap records_of (segments_same (segments_of form (image first) (image second)) one.0 two.0 one.1 two.1) ∙ two.2

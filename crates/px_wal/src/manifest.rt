@@ -145,7 +145,7 @@ impl Manifest {
         // At each moment of the call a stop leaves what is named.
         ensures any_moment { (region : ℕ) → HasSnapshot ⟦<D as Disk>⟧ region self.old disk.old → LeavesOnly ⟦<D as Disk>⟧ disk.old disk.new (λ moment image. SnapshotStands region image (names self.old)) }
         ensures full { (result ≡ Err AppendFault.Full) ↔ (newest_generation self.old.log ≡ 18446744073709551615) }
-        ensures untouched { result ≡ Err AppendFault.Full → disk.new ≡ disk.old }
+        ensures untouched { result ≡ Err AppendFault.Full → (disk.new ≡ disk.old) × (self.new ≡ self.old) }
         ensures failed { result ≡ Err AppendFault.WriteFault → Rose ⟦<D as Disk>⟧ disk.old disk.new }
         ensures touches { (region : ℕ) → HasSnapshot ⟦<D as Disk>⟧ region self.old disk.old → TouchesOnly ⟦<D as Disk>⟧ disk.old disk.new (manifest_files region) }
         ensures counts { Passes ⟦<D as Disk>⟧ disk.old disk.new 3 }
@@ -156,13 +156,19 @@ impl Manifest {
         ensures frame { frame.old.room ≤ frame.new.room }
     {
         fill_snapshot(frame, &self.snapshot);
+        let rolling = self.rolling;
         self.rolling = true;
-        match self.log.roll_step(disk, Some(&*frame))? {
-            Rolled::More => Ok(Rolled::More),
-            Rolled::Rolled => {
+        match self.log.roll_step(disk, Some(&*frame)) {
+            Ok(Rolled::More) => Ok(Rolled::More),
+            Ok(Rolled::Rolled) => {
                 self.rolling = false;
                 Ok(Rolled::Rolled)
             }
+            Err(AppendFault::Full) => {
+                self.rolling = rolling;
+                Err(AppendFault::Full)
+            }
+            Err(AppendFault::WriteFault) => Err(AppendFault::WriteFault),
         }
     }
 }

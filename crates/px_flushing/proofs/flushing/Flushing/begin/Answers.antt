@@ -1,4 +1,4 @@
-use Rattle.std.proofs.Common.{◌≡◌, ℕ, Err, None, List, ap, refl, subst, sym, ◌∙◌}
+use Rattle.std.proofs.Common.{◌≡◌, ℕ, Err, None, Some, List, ap, refl, subst, sym, ◌∙◌}
 use Rattle.std.proofs.lemmas.Bool.{both_ways}
 use Rattle.std.specs.Prelude.{map}
 use Rattle.px_outside.proofs.Moments.{stays_touches, touches_none}
@@ -8,6 +8,8 @@ use Rattle.px_wal.specs.Wal.{HasBatches}
 use Rattle.px_wal.specs.declared.snapshot.FileEntry.{FileEntry}
 use Rattle.px_wal.specs.declared.snapshot.Snapshot.{Snapshot}
 use Rattle.px_flushing.specs.declared.fault.FlushFault.TheVariants.{Damaged, ReadFault, WriteFault}
+use Rattle.px_flushing.specs.declared.job.Job.TheVariants as job
+use Rattle.px_flushing.specs.declared.stage.Stage.TheVariants as stage
 use Rattle.px_flushing.proofs.Going.{begun_by, by_fields, parts_quiet, unflushed}
 use Rattle.px_flushing.proofs.Stages.{read_damaged, read_read, read_write}
 use Rattle.px_flushing.proofs.flushing.Flushing.begin.Goals as goal
@@ -32,12 +34,11 @@ returns-in-Ok-clause-done g c = λ batches lists has.
     let later = unflushed (names manifest).flushed c.args.wal.now.older_to (λ le. both_ways _ c.if-is_flushed.false (c.is_flushed.ensures.1 le)) in
     let d = g.D.Disk in
     let self = c.args.self.now in
-    record {
-      parts = parts_quiet d self.number manifest c.args.wal.now c.args.disk.now c.freeze.new.disk batches self.files.items lists has.parts c.freeze.ensures.quiet c.freeze.ensures.seen;
-      flush =
-          begun_by d self.number manifest c.args.wal.now c.args.disk.now c.freeze.new.disk batches self.files.items lists has.parts c.snapshot-named.result.now.flushed c.in-Some.local (map file_data c.deref.result.now) c.in-Ok.frozen flushed
-          (ap (λ (l : List FileEntry). map file_data l) entries) c.in-Ok.ensures.frozen c.in-Ok.ensures.upto later c.in-Some.ensures;
-    }
+    by_fields d manifest c.args.wal.now self.number self.files.items (Some (job.Flush (record { frozen = c.in-Ok.frozen; local = c.in-Some.local; stage = stage.Frozen }))) c.freeze.new.disk batches lists c.keep.new.self
+    (parts_quiet d self.number manifest c.args.wal.now c.args.disk.now c.freeze.new.disk batches self.files.items lists has.parts c.freeze.ensures.quiet c.freeze.ensures.seen)
+    (begun_by d self.number manifest c.args.wal.now c.args.disk.now c.freeze.new.disk batches self.files.items lists has.parts c.snapshot-named.result.now.flushed c.in-Some.local (map file_data c.deref.result.now) c.in-Ok.frozen flushed
+    (ap (λ (l : List FileEntry). map file_data l) entries) c.in-Ok.ensures.frozen c.in-Ok.ensures.upto later c.in-Some.ensures)
+    (sym c.keep.ensures.files.0) (ap (λ v. v.items) (sym c.keep.ensures.files.1)) (sym c.keep.ensures.flush)
 
 pub returns-in-Err-clause-done : goal.returns-in-Err-clause-done
 returns-in-Err-clause-done g c = λ batches lists has.

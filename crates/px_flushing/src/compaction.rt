@@ -1,0 +1,318 @@
+// A compaction: some of a region's newest files are merged to one.
+ghost use Rattle.std.specs.Prelude.{◌≡◌, ◌≢◌, ◌≤◌, ◌<◌, ◌+◌, ◌*◌, ◌∷◌, ℕ, false, List, length, take, drop, IfOk, IsErr, OnOk, OnErr, Ok, Err, None, vec_len, vec_capacity};
+ghost use Rattle.px_outside.specs.OnDisk.{LeavesOnly, Passes, Rose, TouchesOnly};
+ghost use Rattle.px_cells.specs.CellData.{CellData};
+ghost use Rattle.px_cellbytes.specs.Reading.{IsWritten};
+ghost use Rattle.px_merge.specs.Merged.{joined};
+ghost use Rattle.px_merge.specs.Settle.{settle};
+ghost use Rattle.px_wal.specs.Batches.{Batch as BatchData, cells_over};
+ghost use Rattle.px_wal.specs.Files.{HasFile as IsFileOf, file_of};
+ghost use Rattle.px_wal.specs.Manifest.{HasSnapshot, is_open, manifest_files, names};
+ghost use Rattle.px_wal.specs.Snapshot.{IsSnapshot};
+ghost use Rattle.px_wal.specs.SnapshotOf.{files_of, snapshot_of};
+ghost use Rattle.px_wal.specs.declared.manifest.Manifest.{Manifest as Manifests};
+ghost use Rattle.px_wal.specs.declared.wal.Wal.{Wal as Logs};
+ghost use Rattle.px_naming.specs.Naming.{HasParts};
+ghost use Rattle.px_flushing.specs.Flushing.{HasFlushing, IsGathering, HasMerged, IsMerging, IsRead, merged_next};
+ghost use Rattle.px_flushing.specs.declared.fault.FlushFault.TheVariants.{Damaged, ReadFault, WriteFault};
+
+use crate::fault::{of_append, of_read};
+use crate::naming::{Naming, make_room, prepare_merged, put_in_place};
+use crate::stage::advance;
+use crate::{FlushFault, FlushStep, Flushing, Gather, Job, Merge, Stage};
+use px_cells::Cells;
+use px_file::RegionFile;
+use px_files::free_local;
+use px_frozen::{Frozen, freeze_merged};
+use px_gatelog::StartFault;
+use px_loading::{GatherStep, Gathering};
+use px_naming::name_merged;
+use px_outside::Disk;
+use px_wal::{FileEntry, Manifest, local_file};
+
+impl Flushing {
+    /// Whether a compaction may be begun: none of as many files found no memory.
+    pub fn may_compact(&self) -> bool {
+        self.files.len() > self.given_up
+    }
+
+    /// Begins a compaction of so many of the newest files, where there are so many. It makes no call.
+    pub fn compact<D: Disk>(&mut self, count: usize)
+        requires { self.old.flush ≡ None }
+        ensures begun { (manifest : Manifests) (wal : Logs) (disk : D) (batches : List BatchData) (lists : List (List CellData)) → HasFlushing ⟦<D as Disk>⟧ manifest wal self.old disk batches lists → HasFlushing ⟦<D as Disk>⟧ manifest wal self.new disk batches lists }
+        ensures started { count ≤ length self.old.files.items → self.new.flush ≢ None }
+        ensures files { (self.new.number ≡ self.old.number) × (self.new.files ≡ self.old.files) }
+    {
+        self.given_up = 0;
+        if count <= self.files.len() {
+            self.keep(Job::Gather(Gather {
+                count,
+                gathering: Gathering::begin(self.alloc, count),
+            }));
+        }
+    }
+
+    /// The cells are gathered: a file is to be made of them.
+    fn write_gathered<D: Disk>(
+        &mut self,
+        manifest: &Manifest,
+        count: usize,
+        cells: Cells,
+    ) -> Result<FlushStep, FlushFault>
+        requires { self.old.flush ≡ None }
+        ensures done { (wal : Logs) (disk : D) (batches : List BatchData) (lists : List (List CellData)) → HasParts ⟦<D as Disk>⟧ self.old.number manifest.now wal disk batches self.old.files.items lists
+            → cells ≡ settle (joined (take count lists)) → HasFlushing ⟦<D as Disk>⟧ manifest.now wal self.new disk batches lists }
+        ensures more { OnOk result (result ≡ Ok FlushStep.More) }
+        ensures never { (result ≢ Err ReadFault) × (result ≢ Err WriteFault) }
+        ensures sound { IsWritten cells → result ≢ Err Damaged }
+        ensures number { self.new.number ≡ self.old.number }
+    {
+        let local = match free_local(&manifest.snapshot().files) {
+            Some(local) => local,
+            None => {
+                drop(cells);
+                return Err(FlushFault::Full);
+            }
+        };
+        match freeze_merged(cells) {
+            Some(frozen) => {
+                self.keep(Job::Merge(Merge {
+                    count,
+                    frozen,
+                    local,
+                    stage: Stage::Frozen,
+                }));
+                Ok(FlushStep::More)
+            }
+            None => Err(FlushFault::Damaged),
+        }
+    }
+
+    /// Makes the next step of gathering the cells. Where it isn't made, the compaction is given up. For want of memory that is no fault: the
+    /// files stay as they are.
+    pub(crate) fn gather<D: Disk>(
+        &mut self,
+        disk: &mut D,
+        manifest: &Manifest,
+        gather: Gather,
+    ) -> Result<FlushStep, FlushFault>
+        requires { self.old.flush ≡ None }
+        ensures done { (wal : Logs) (batches : List BatchData) (lists : List (List CellData)) → HasParts ⟦<D as Disk>⟧ self.old.number manifest.now wal disk.old batches self.old.files.items lists
+            → IsGathering ⟦<D as Disk>⟧ self.old.files.items lists disk.old gather → HasFlushing ⟦<D as Disk>⟧ manifest.now wal self.new disk.new batches lists }
+        ensures more { OnOk result (result ≡ Ok FlushStep.More) }
+        ensures sound { (lists : List (List CellData)) → IsGathering ⟦<D as Disk>⟧ self.old.files.items lists disk.old gather → result ≢ Err Damaged }
+        ensures read_failed { result ≡ Err ReadFault → Rose ⟦<D as Disk>⟧ disk.old disk.new }
+        ensures unwritten { result ≢ Err WriteFault }
+        ensures touches { TouchesOnly ⟦<D as Disk>⟧ disk.old disk.new (λ touched. ⊥) }
+        ensures counts { Passes ⟦<D as Disk>⟧ disk.old disk.new 1 }
+        ensures number { self.new.number ≡ self.old.number }
+    {
+        let Gather {
+            count,
+            mut gathering,
+        } = gather;
+        if count > self.files.len() || gathering.left() > count {
+            drop(gathering);
+            return Ok(FlushStep::More);
+        }
+        match gathering.step(disk, &self.files[..count]) {
+            Ok(GatherStep::More) => {
+                self.keep(Job::Gather(Gather { count, gathering }));
+                Ok(FlushStep::More)
+            }
+            Ok(GatherStep::Done) => {
+                self.write_gathered::<D>(manifest, count, gathering.into_cells())
+            }
+            Err(StartFault::Memory) => {
+                drop(gathering);
+                self.given_up = self.files.len();
+                Ok(FlushStep::More)
+            }
+            Err(fault) => {
+                drop(gathering);
+                Err(of_read(fault))
+            }
+        }
+    }
+
+    /// Makes the next step of the file.
+    fn write_merged<D: Disk>(&mut self, disk: &mut D, merge: Merge) -> Result<FlushStep, FlushFault>
+        ensures done { (manifest : Manifests) (wal : Logs) (batches : List BatchData) (lists : List (List CellData)) → HasParts ⟦<D as Disk>⟧ self.old.number manifest wal disk.old batches self.old.files.items lists
+            → IsMerging ⟦<D as Disk>⟧ self.old.number (names manifest) lists disk.old merge → HasFlushing ⟦<D as Disk>⟧ manifest wal self.new disk.new batches lists }
+        ensures more { OnOk result (result ≡ Ok FlushStep.More) }
+        ensures sound { result ≢ Err Damaged }
+        ensures read_failed { result ≡ Err ReadFault → Rose ⟦<D as Disk>⟧ disk.old disk.new }
+        ensures write_failed { result ≡ Err WriteFault → Rose ⟦<D as Disk>⟧ disk.old disk.new }
+        ensures touches { (manifest : Manifests) (lists : List (List CellData)) → IsMerging ⟦<D as Disk>⟧ self.old.number (names manifest) lists disk.old merge
+            → TouchesOnly ⟦<D as Disk>⟧ disk.old disk.new (λ touched. touched ≡ file_of self.old.number merge.local) }
+        ensures counts { Passes ⟦<D as Disk>⟧ disk.old disk.new 4 }
+        ensures number { self.new.number ≡ self.old.number }
+    {
+        let Merge {
+            count,
+            frozen,
+            local,
+            stage,
+        } = merge;
+        let file = local_file(self.number, local);
+        let (stage, fault) = advance(self.alloc, disk, file, frozen.cells(), stage);
+        self.keep(Job::Merge(Merge {
+            count,
+            frozen,
+            local,
+            stage,
+        }));
+        match fault {
+            None => Ok(FlushStep::More),
+            Some(fault) => Err(fault),
+        }
+    }
+
+    /// Takes the memory that naming a file in place of others needs.
+    fn ready_merged(
+        &mut self,
+        manifest: &Manifest,
+        count: usize,
+        local: u32,
+        file: &RegionFile,
+        len: u64,
+    ) -> Result<Naming, FlushFault>
+        ensures same { (self.new.number ≡ self.old.number) × (self.new.files.items ≡ self.old.files.items) × (self.new.flush ≡ self.old.flush) }
+        ensures first { OnOk result ((vec_len self.new.files < vec_capacity self.new.files) × (count ≤ length self.new.files.items)) }
+        ensures some { OnOk result (1 ≤ count) }
+        ensures may { OnOk result (is_open manifest.now × (manifest.now.rolling ≡ false)) }
+        ensures right { IfOk result (λ n. IsSnapshot (snapshot_of n.after)) }
+        ensures after { IfOk result (λ n. snapshot_of n.after ≡ merged_next (names manifest.now) count local len file.now) }
+        ensures room { IfOk result (λ n. 26 + 20 * length (files_of n.after) ≤ n.frame.room) }
+        ensures never { (result ≢ Err ReadFault) × (result ≢ Err WriteFault) × (result ≢ Err Damaged) }
+    {
+        match make_room(&mut self.files) {
+            Ok(()) => {}
+            Err(_) => return Err(FlushFault::Memory),
+        }
+        if count > self.files.len() {
+            return Err(FlushFault::NotReady);
+        }
+        let entry = FileEntry {
+            local,
+            len,
+            cells: file.cells(),
+        };
+        prepare_merged(self.alloc, manifest, count, entry)
+    }
+
+    /// Names the file in place of those that it was merged of.
+    fn name_one<D: Disk>(
+        &mut self,
+        disk: &mut D,
+        manifest: &mut Manifest,
+        count: usize,
+        frozen: Frozen,
+        local: u32,
+        file: RegionFile,
+        len: u64,
+    ) -> Result<FlushStep, FlushFault>
+        requires { self.old.flush ≡ None }
+        ensures named { IfOk result (λ step. (step ≡ FlushStep.Merged) × (self.new.flush ≡ None) × (names manifest.new ≡ merged_next (names manifest.old) count local len file)) }
+        ensures some { OnOk result (1 ≤ count) }
+        ensures done { (wal : Logs) (batches : List BatchData) (lists : List (List CellData)) → HasParts ⟦<D as Disk>⟧ self.old.number manifest.old wal disk.old batches self.old.files.items lists
+            → IsMerging ⟦<D as Disk>⟧ self.old.number (names manifest.old) lists disk.old (record { count = count; frozen = frozen; local = local; stage = Stage.Measured file len })
+            → OnOk result (HasFlushing ⟦<D as Disk>⟧ manifest.new wal self.new disk.new batches (frozen.cells ∷ drop count lists)) }
+        ensures kept { (wal : Logs) (batches : List BatchData) (lists : List (List CellData)) → HasParts ⟦<D as Disk>⟧ self.old.number manifest.old wal disk.old batches self.old.files.items lists
+            → IsMerging ⟦<D as Disk>⟧ self.old.number (names manifest.old) lists disk.old (record { count = count; frozen = frozen; local = local; stage = Stage.Measured file len })
+            → OnErr result (result ≢ Err WriteFault → (manifest.new ≡ manifest.old) × HasFlushing ⟦<D as Disk>⟧ manifest.new wal self.new disk.new batches lists) }
+
+        // At each moment of the call a stop leaves the region's files as they are read now.
+        ensures any_moment { (wal : Logs) (batches : List BatchData) (lists : List (List CellData)) → HasParts ⟦<D as Disk>⟧ self.old.number manifest.old wal disk.old batches self.old.files.items lists
+            → IsMerging ⟦<D as Disk>⟧ self.old.number (names manifest.old) lists disk.old (record { count = count; frozen = frozen; local = local; stage = Stage.Measured file len })
+            → LeavesOnly ⟦<D as Disk>⟧ disk.old disk.new (λ moment image. IsRead self.old.number image (names manifest.old).horizon (cells_over (names manifest.old).flushed batches lists)) }
+        ensures never { (result ≢ Err ReadFault) × (result ≢ Err Damaged) }
+        ensures unnamed { IsErr result → names manifest.new ≡ names manifest.old }
+        ensures horizon { ((names manifest.new).horizon ≡ (names manifest.old).horizon) × ((names manifest.new).flushed ≡ (names manifest.old).flushed) }
+        ensures write_failed { result ≡ Err WriteFault → Rose ⟦<D as Disk>⟧ disk.old disk.new }
+        ensures touches { HasSnapshot ⟦<D as Disk>⟧ self.old.number manifest.old disk.old → TouchesOnly ⟦<D as Disk>⟧ disk.old disk.new (manifest_files self.old.number) }
+        ensures counts { Passes ⟦<D as Disk>⟧ disk.old disk.new 4 }
+        ensures number { self.new.number ≡ self.old.number }
+    {
+        let Naming { after, mut frame } = match self.ready_merged(
+            manifest, count, local, &file, len,
+        ) {
+            Ok(naming) => naming,
+            Err(fault) => {
+                self.keep(Job::Merge(Merge {
+                    count,
+                    frozen,
+                    local,
+                    stage: Stage::Measured(file, len),
+                }));
+                return Err(fault);
+            }
+        };
+        match name_merged(disk, manifest, &mut frame, after) {
+            Ok(()) => {
+                put_in_place(&mut self.files, count, file);
+                drop(frozen);
+                Ok(FlushStep::Merged)
+            }
+            Err(fault) => {
+                self.keep(Job::Merge(Merge {
+                    count,
+                    frozen,
+                    local,
+                    stage: Stage::Measured(file, len),
+                }));
+                Err(of_append(fault))
+            }
+        }
+    }
+
+    /// Makes the next step of the file of a compaction, or names it.
+    pub(crate) fn merge<D: Disk>(
+        &mut self,
+        disk: &mut D,
+        manifest: &mut Manifest,
+        merge: Merge,
+    ) -> Result<FlushStep, FlushFault>
+        requires { self.old.flush ≡ None }
+        ensures done { (wal : Logs) (batches : List BatchData) (lists : List (List CellData)) → HasParts ⟦<D as Disk>⟧ self.old.number manifest.old wal disk.old batches self.old.files.items lists
+            → IsMerging ⟦<D as Disk>⟧ self.old.number (names manifest.old) lists disk.old merge → result ≢ Err WriteFault
+            → (after : List (List CellData)) × HasFlushing ⟦<D as Disk>⟧ manifest.new wal self.new disk.new batches after × (cells_over (names manifest.new).flushed batches after ≡ cells_over (names manifest.old).flushed batches lists) }
+
+        // At each moment of the call a stop leaves the region's files as they are read now.
+        ensures any_moment { (wal : Logs) (batches : List BatchData) (lists : List (List CellData)) → HasParts ⟦<D as Disk>⟧ self.old.number manifest.old wal disk.old batches self.old.files.items lists
+            → IsMerging ⟦<D as Disk>⟧ self.old.number (names manifest.old) lists disk.old merge
+            → LeavesOnly ⟦<D as Disk>⟧ disk.old disk.new (λ moment image. IsRead self.old.number image (names manifest.old).horizon (cells_over (names manifest.old).flushed batches lists)) }
+        ensures only { (result ≢ Ok FlushStep.Done) × ((cells bytes : ℕ) → result ≢ Ok (FlushStep.Named cells bytes)) }
+        ensures merged { result ≡ Ok FlushStep.Merged → (self.new.flush ≡ None) × HasMerged (names manifest.old) (names manifest.new) }
+        ensures horizon { ((names manifest.new).horizon ≡ (names manifest.old).horizon) × ((names manifest.new).flushed ≡ (names manifest.old).flushed) }
+        ensures still { result ≢ Ok FlushStep.Merged → names manifest.new ≡ names manifest.old }
+        ensures sound { result ≢ Err Damaged }
+        ensures read_failed { result ≡ Err ReadFault → Rose ⟦<D as Disk>⟧ disk.old disk.new }
+        ensures write_failed { result ≡ Err WriteFault → Rose ⟦<D as Disk>⟧ disk.old disk.new }
+        ensures touches { (wal : Logs) (batches : List BatchData) (lists : List (List CellData)) → HasParts ⟦<D as Disk>⟧ self.old.number manifest.old wal disk.old batches self.old.files.items lists
+            → IsMerging ⟦<D as Disk>⟧ self.old.number (names manifest.old) lists disk.old merge → TouchesOnly ⟦<D as Disk>⟧ disk.old disk.new (IsFileOf self.old.number) }
+        ensures counts { Passes ⟦<D as Disk>⟧ disk.old disk.new 4 }
+        ensures number { self.new.number ≡ self.old.number }
+    {
+        let Merge {
+            count,
+            frozen,
+            local,
+            stage,
+        } = merge;
+        match stage {
+            Stage::Measured(file, len) => {
+                self.name_one(disk, manifest, count, frozen, local, file, len)
+            }
+            stage => self.write_merged(
+                disk,
+                Merge {
+                    count,
+                    frozen,
+                    local,
+                    stage,
+                },
+            ),
+        }
+    }
+}

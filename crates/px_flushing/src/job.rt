@@ -1,0 +1,38 @@
+// What may be under way in a region's files.
+use crate::Stage;
+use px_frozen::Frozen;
+use px_loading::Gathering;
+
+/// A flush that was begun.
+#[derive(Drop)]
+pub struct Flush {
+    pub(crate) frozen: Frozen,
+    /// The local number of its file.
+    pub(crate) local: u32,
+    pub(crate) stage: Stage,
+}
+
+/// A compaction of so many of the newest files, whose cells are gathered.
+#[derive(Drop)]
+pub struct Gather {
+    pub(crate) count: usize,
+    pub(crate) gathering: Gathering,
+}
+
+/// A compaction of so many of the newest files, whose cells go to one file.
+#[derive(Drop)]
+pub struct Merge {
+    pub(crate) count: usize,
+    pub(crate) frozen: Frozen,
+    /// The local number of its file.
+    pub(crate) local: u32,
+    pub(crate) stage: Stage,
+}
+
+/// A flush or a compaction.
+#[derive(Drop)]
+pub enum Job {
+    Flush(Flush),
+    Gather(Gather),
+    Merge(Merge),
+}

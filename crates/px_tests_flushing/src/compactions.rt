@@ -1,0 +1,207 @@
+use crate::pieces::{Parts, begin, flush, mark, merge, newest, opened, put, shown, step};
+use px_flushing::FlushStep;
+use px_outside::{Choice, Disk, MemDisk};
+use std::alloc::Global;
+use std::test::Fail;
+
+// The file of two puts at one column, of stamps 1 and 2, which two flushes wrote: the later stamp stands first.
+const MERGED: [u8; 91] = [
+    80, 72, 88, 70, 73, 76, 48, 49, // PHXFIL01
+    0, 0, 0, 2, // two cells
+    0, 1, 1, 1, 0, 0, 0, 0, 0, 0, 0, 2, 4, 0, 1, 1, // key 01, qualifier 1, stamp 2, put, value 01
+    0, 1, 1, 1, 0, 0, 0, 0, 0, 0, 0, 1, 4, 0, 1, 1, // the same of stamp 1
+    0, 0, 0, 0, 0, 0, 0, 8, 0, 0, 0, 36, 0, 1, 1, // the block at 8 has 36 bytes and begins with key 01
+    0, 0, 0, 0, 0, 0, 0, 44, 0, 0, 0, 1, // the index at 44, of one block
+    0, 0, 0, 0, 0, 0, 0, 2, 0, 0, 0, 0, 0, 0, 0, 2, // two cells, the greatest stamp is 2
+    80, 88, 70, 49, // PXF1
+];
+
+#[test]
+fn a_merged_file_has_these_bytes(rt: HostRuntime) -> Result<(), Fail> {
+    let alloc = rt.alloc();
+    let mut disk = MemDisk::new(alloc);
+    let mut parts = opened(alloc, &mut disk).ok_or("not opened")?;
+    put(alloc, &mut disk, &mut parts, 1, 1, 1).ok_or("not put")?;
+    flush(&mut disk, &mut parts).ok_or("not flushed")?;
+    put(alloc, &mut disk, &mut parts, 1, 2, 1).ok_or("not put")?;
+    flush(&mut disk, &mut parts).ok_or("not flushed")?;
+    begin(&mut parts, 2).ok_or("not begun")?;
+    let steps = merge(&mut disk, &mut parts);
+    assert!(rt; steps == Some(11), "{steps:?}");
+    let file = newest(&parts).ok_or("no file")?;
+    assert!(rt; file.local == 6 && file.len == 91 && file.cells == 2);
+    let mut bytes = [0u8; 91];
+    let read = disk.read(4_294_967_302, 0, &mut bytes).ok();
+    assert!(rt; read == Some(91) && bytes.as_slice() == MERGED.as_slice());
+    assert!(rt; disk.len(4_294_967_302).ok() == Some(91));
+    // It is named alone, by a manifest that counts one compaction.
+    assert!(rt; parts.manifest.snapshot().files.len() == 1 && parts.flushing.files().len() == 1);
+    assert!(rt;
+        parts.manifest.snapshot().compactions == 1 && parts.manifest.snapshot().flushed == 2
+    );
+    // The next flush takes the number of a file that isn't named any more.
+    put(alloc, &mut disk, &mut parts, 2, 3, 1).ok_or("not put")?;
+    flush(&mut disk, &mut parts).ok_or("not flushed")?;
+    let file = newest(&parts).ok_or("no file")?;
+    assert!(rt; file.local == 4);
+    let seen = shown(alloc, &mut disk).ok_or("not shown")?;
+    assert!(rt; seen.as_slice() == [12, 11, 23].as_slice());
+    Ok(())
+}
+
+// Of several blocks, of the newest files alone, beside a batch: markers stay, and what is hidden is gone.
+#[test]
+fn the_newest_files_are_merged(rt: HostRuntime) -> Result<(), Fail> {
+    let alloc = rt.alloc();
+    let mut disk = MemDisk::new(alloc);
+    let mut parts = opened(alloc, &mut disk).ok_or("not opened")?;
+    put(alloc, &mut disk, &mut parts, 1, 1, 1).ok_or("not put")?;
+    flush(&mut disk, &mut parts).ok_or("not flushed")?;
+    for row in 0..5u8 {
+        put(alloc, &mut disk, &mut parts, row, 2, 9_000).ok_or("not put")?;
+    }
+    flush(&mut disk, &mut parts).ok_or("not flushed")?;
+    mark(alloc, &mut disk, &mut parts, 2, 3).ok_or("not put")?;
+    put(alloc, &mut disk, &mut parts, 3, 2, 1).ok_or("not put")?;
+    flush(&mut disk, &mut parts).ok_or("not flushed")?;
+    begin(&mut parts, 2).ok_or("not begun")?;
+    for _ in 0..4 {
+        assert!(rt; step(&mut disk, &mut parts) == Some(FlushStep::More));
+    }
+    put(alloc, &mut disk, &mut parts, 4, 4, 1).ok_or("not put")?;
+    merge(&mut disk, &mut parts).ok_or("not merged")?;
+    let file = newest(&parts).ok_or("no file")?;
+    assert!(rt; parts.flushing.files().len() == 2 && file.local == 7 && file.cells == 6);
+    let seen = shown(alloc, &mut disk).ok_or("not shown")?;
+    assert!(rt; seen.as_slice() == [2, 12, 11, 23, 22, 32, 44, 42].as_slice());
+    // A compaction of all, and of more files than there are, of which nothing comes.
+    begin(&mut parts, 2).ok_or("not begun")?;
+    merge(&mut disk, &mut parts).ok_or("not merged")?;
+    begin(&mut parts, 2).ok_or("not begun")?;
+    assert!(rt; parts.flushing.is_idle());
+    flush(&mut disk, &mut parts).ok_or("not flushed")?;
+    let seen = shown(alloc, &mut disk).ok_or("not shown")?;
+    assert!(rt; seen.as_slice() == [2, 12, 11, 23, 22, 32, 44, 42].as_slice());
+    Ok(())
+}
+
+// ---- stops
+
+// Four rows in four files. Counts the rows that were told to be there.
+fn fill(alloc: Global, disk: &mut MemDisk, parts: &mut Parts, told: &mut u64) -> Option<()> {
+    for stamp in 1..5u8 {
+        put(alloc, disk, parts, 1, stamp, 1)?;
+        *told = u64::from(stamp);
+        flush(disk, parts)?;
+    }
+    Some(())
+}
+
+// A compaction of these while a fifth row comes, and a flush of that one.
+fn run_in(alloc: Global, disk: &mut MemDisk, parts: &mut Parts, told: &mut u64) -> Option<()> {
+    fill(alloc, disk, parts, told)?;
+    begin(parts, 4)?;
+    for _ in 0..10 {
+        step(disk, parts)?;
+    }
+    put(alloc, disk, parts, 1, 5, 1)?;
+    *told = 5;
+    merge(disk, parts)?;
+    flush(disk, parts)?;
+    Some(())
+}
+
+fn run(alloc: Global, disk: &mut MemDisk, told: &mut u64) -> Option<()> {
+    let mut parts = opened(alloc, disk)?;
+    let done = run_in(alloc, disk, &mut parts, told);
+    drop(parts);
+    done
+}
+
+// How many rows an image shows, if it is what stands after so many of them.
+fn rows_shown(alloc: Global, image: &mut MemDisk) -> Option<u64> {
+    let seen = shown(alloc, image)?;
+    let all: [u64; 5] = [15, 14, 13, 12, 11];
+    let count = seen.len();
+    let right = count <= 5 && seen.as_slice() == &all[5 - count..];
+    drop(seen);
+    if right { Some(count as u64) } else { None }
+}
+
+// Whether a compaction of all files that an image names, and a flush, leave it as it is.
+fn goes_on(alloc: Global, image: &mut MemDisk) -> Option<bool> {
+    let before = rows_shown(alloc, image)?;
+    let mut parts = opened(alloc, image)?;
+    let count = parts.flushing.files().len();
+    let merged = count == 0
+        || begin(&mut parts, count).is_some() && merge(image, &mut parts).is_some();
+    let flushed = flush(image, &mut parts).is_some();
+    drop(parts);
+    let after = rows_shown(alloc, image)?;
+    Some(merged && flushed && before == after)
+}
+
+// At each call of the disk a stop leaves the rows that were told, and the one under way or not, and a compaction goes on from there.
+fn stops_well(alloc: Global, call: u64, choice: Choice) -> bool {
+    let mut told = 0;
+    let mut disk = MemDisk::new(alloc).stop_at(call, choice);
+    let whole = run(alloc, &mut disk, &mut told).is_some();
+    let mut image = disk.image();
+    let rows = rows_shown(alloc, &mut image);
+    let more = goes_on(alloc, &mut image);
+    drop(image);
+    match rows {
+        Some(rows) => {
+            more == Some(true) && (rows == told || !whole && rows == told.saturating_add(1))
+        }
+        None => false,
+    }
+}
+
+// How many calls it takes until four files are named, and until the end.
+fn calls_of_run(alloc: Global) -> Option<(u64, u64)> {
+    let mut told = 0;
+    let mut disk = MemDisk::new(alloc);
+    let mut parts = opened(alloc, &mut disk)?;
+    let filled = fill(alloc, &mut disk, &mut parts, &mut told);
+    let first = disk.calls_made().len() as u64;
+    drop(parts);
+    drop(disk);
+    filled?;
+    let mut disk = MemDisk::new(alloc);
+    let done = run(alloc, &mut disk, &mut told);
+    let calls = disk.calls_made().len() as u64;
+    drop(disk);
+    done?;
+    Some((first, calls))
+}
+
+// Whether a stop in any call of the compaction and behind it does.
+fn each_stops_well(alloc: Global, choice: Choice) -> bool {
+    for call in 117..156u64 {
+        if !stops_well(alloc, call, choice) {
+            return false;
+        }
+    }
+    true
+}
+
+#[test]
+fn a_stop_in_a_compaction_loses_nothing(rt: HostRuntime) -> Result<(), Fail> {
+    let calls = calls_of_run(rt.alloc());
+    assert!(rt; calls == Some((117, 155)), "{calls:?}");
+    assert!(rt; each_stops_well(rt.alloc(), Choice::Old));
+    Ok(())
+}
+
+#[test]
+fn nor_does_one_that_leaves_all(rt: HostRuntime) -> Result<(), Fail> {
+    assert!(rt; each_stops_well(rt.alloc(), Choice::New));
+    Ok(())
+}
+
+#[test]
+fn nor_does_one_that_leaves_ones(rt: HostRuntime) -> Result<(), Fail> {
+    assert!(rt; each_stops_well(rt.alloc(), Choice::Fill(1)));
+    Ok(())
+}
