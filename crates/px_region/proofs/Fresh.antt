@@ -1,17 +1,17 @@
 -- A region of which no file was ever written has nothing.
-use Rattle.std.proofs.Common.{◌≡◌, ℕ, ◌<◌, Option, None, [], List, refl, sym, ap, subst, ◌∙◌, arith}
+use Rattle.std.proofs.Common.{◌≡◌, ℕ, ◌<◌, Option, [], List, refl, sym, ap, subst, ◌∙◌, arith}
 use Rattle.px_outside.specs.declared.disk.Disk.{Ghosts}
 use Rattle.px_file.specs.declared.region_file.RegionFile.{RegionFile}
 use Rattle.px_merge.proofs.Settling.{settle_sorted}
 use Rattle.px_wal.specs.Files.{HasFile, file_of}
-use Rattle.px_wal.specs.Manifest.{HasSnapshot, names}
+use Rattle.px_wal.specs.Manifest.{names}
 use Rattle.px_wal.specs.Snapshot.{FileData, SnapshotData}
 use Rattle.px_wal.specs.Wal.{HasBatches}
 use Rattle.px_wal.proofs.Fresh.{fresh_has, fresh_names}
 use Rattle.px_files.specs.Files.{HaveFiles}
 use Rattle.px_naming.specs.Naming.{HasParts}
 use Rattle.px_flushing.specs.Flushing.{HasFlushing, IsUnderWay}
-use Rattle.px_flushing.specs.declared.flushing.Flush.{Flush}
+use Rattle.px_flushing.specs.declared.job.Job.{Job}
 use Rattle.px_region.specs.Fresh.{IsBlank, IsFreshRegion, no_data}
 use Rattle.px_region.specs.Region.{Holds}
 use Rattle.px_region.specs.declared.region.Region.{Region}
@@ -45,7 +45,7 @@ module _ {D : Type 0} (d : Ghosts D) (number : ℕ) (region : Region) (disk : D)
           log = subst (λ (n : ℕ). HasBatches d number n region.wal disk []) (sym flushed_is) log_has;
           have = have;
         });
-    flush = subst (λ (f : Option Flush). IsUnderWay d region.flushing.number (names region.manifest) [] disk f) (sym fresh.flushing.flush) tt;
+    flush = subst (λ (f : Option Job). IsUnderWay d region.flushing.number (names region.manifest) [] region.flushing.files.items [] disk f) (sym fresh.flushing.flush) tt;
   }
 
   pub fresh_holds : Holds d region disk no_data

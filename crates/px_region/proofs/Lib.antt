@@ -6,3 +6,4 @@ pub mod Fresh
 pub mod Steps
 pub mod Alike
 pub mod Calls
+pub mod Logged

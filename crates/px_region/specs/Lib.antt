@@ -5,3 +5,4 @@ pub mod Opened
 pub mod Fresh
 pub mod Faults
 pub mod Calls
+pub mod Ordered

@@ -2,7 +2,8 @@
 ghost use Rattle.std.specs.Prelude.{◌≡◌, ℕ};
 ghost use Rattle.px_outside.specs.Disk.{Image};
 ghost use Rattle.px_region.specs.Fresh.{IsBlank, IsFreshRegion, no_data};
-ghost use Rattle.px_region.specs.Region.{Holds, RegionData, Stands, read_of};
+ghost use Rattle.px_region.specs.Ordered.{HasFlushed, IsOrdered};
+ghost use Rattle.px_region.specs.Region.{Holds, RegionData, Stands, logged_of, read_of};
 ghost use Rattle.px_region.specs.declared.region.Region.{Region as Regions};
 
 use px_outside::Disk;
@@ -15,6 +16,11 @@ pub fn an_image_stands_for_one()
 /// What a region has is what is read of it.
 pub fn what_is_held_is_read<D: Disk>()
     ensures { (region : Regions) (disk : D) (s : RegionData) → Holds ⟦<D as Disk>⟧ region disk s → read_of region ≡ s.cells }
+{}
+
+/// Where all that stands in its log was ordered to be flushed, and what was ordered is flushed, no cell stands there above the flushed number.
+pub fn what_is_flushed_is_not_logged<D: Disk>()
+    ensures { (region : Regions) (disk : D) (s : RegionData) → Holds ⟦<D as Disk>⟧ region disk s → IsOrdered region → HasFlushed region → logged_of region ≡ 0 }
 {}
 
 /// Where no file of it has a byte, a fresh region has nothing.

@@ -89,6 +89,11 @@ impl Region {
         self.cells
     }
 
+    /// How many files its manifest names.
+    pub fn file_count(&self) -> u64 {
+        self.manifest.snapshot().files.len() as u64
+    }
+
     /// The horizon that its manifest names.
     pub fn horizon(&self) -> u64
         ensures { result ≡ (data_of self.now).horizon }

@@ -42,6 +42,8 @@ pub struct Region {
     pub(crate) promised_bytes: u64,
     /// How many rows were looked at.
     pub(crate) looked: u64,
+    /// The number of the last batch that is ordered to be flushed, 0 where none is.
+    pub(crate) ordered: u64,
     ghost roomy: { 19 * promised + promised_bytes ≤ wal_room wal },
     ghost stored: { promised ≤ store.room },
     ghost few: { promised ≤ 16384 },
@@ -71,6 +73,7 @@ impl Region {
     ghost use Rattle.px_merge.specs.Settle.{settle};
     ghost use Rattle.px_region.specs.Promise.{HasOpenLog, HasRoom, IsAlike, IsReady, PassesLimit};
     ghost use Rattle.px_region.specs.Fresh.{IsFreshRegion};
+    ghost use Rattle.px_region.specs.Ordered.{flushed_of};
     ghost use Rattle.px_outside.specs.OnDisk.{LeavesOnly, Passes, Rose, TouchesOnly};
     ghost use Rattle.px_cells.specs.CellData.{CellData};
     ghost use Rattle.px_cellbytes.specs.Reading.{IsWritten};
@@ -95,7 +98,15 @@ impl Region {
             promised: 0,
             promised_bytes: 0,
             looked: 0,
+            ordered: 0,
         }
+    }
+
+    /// The number up to which its manifest says that its log is flushed.
+    pub(crate) fn flushed(&self) -> u64
+        ensures { result ≡ flushed_of self.now }
+    {
+        self.manifest.snapshot().flushed
     }
 
     /// Its number.
@@ -117,7 +128,7 @@ impl Region {
     pub fn is_ready(&self) -> bool
         ensures { IsTrue result ↔ IsReady self.now }
     {
-        self.wal.is_open() && self.manifest.snapshot().flushed <= self.wal.last()
+        self.wal.is_open() && self.flushed() <= self.wal.last()
     }
 
     /// Whether so many cells and bytes more would be too many.

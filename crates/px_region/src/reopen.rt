@@ -77,6 +77,7 @@ impl Region {
             promised: 0,
             promised_bytes: 0,
             looked: 0,
+            ordered: 0,
         })
     }
 

@@ -1,7 +1,9 @@
 //! Tests of px_wal, px_frozen and px_region over their public calls: the bytes of the first segment, room, stops at each call of
-//! the disk, what a flush writes, the switch to another segment, and folders that aren't of the format.
+//! the disk, what a flush writes, the compaction of four files, the switch to another segment, and folders that aren't of the format.
 #![tactic(auto)]
 
+#[cfg(test)]
+mod compactions;
 #[cfg(test)]
 mod damage;
 #[cfg(test)]

@@ -1,11 +1,11 @@
-use Rattle.std.proofs.Common.{◌≡◌, ap, refl, sym, subst, ◌∙◌, Err, List}
+use Rattle.std.proofs.Common.{◌≡◌, ap, refl, sym, subst, Err, List}
 use Rattle.px_outside.proofs.Moments.{rose_later}
 use Rattle.px_files.specs.Calls.{opening_calls}
 use Rattle.px_gatelog.specs.declared.fault.StartFault.TheVariants.{Damaged, ReadFault}
 use Rattle.px_wal.specs.Manifest.{names}
 use Rattle.px_wal.specs.declared.snapshot.Snapshot.{Snapshot}
 use Rattle.px_file.specs.declared.region_file.RegionFile.{RegionFile}
-use Rattle.px_files.specs.Files.{HaveFiles, IsFirstBad}
+use Rattle.px_files.specs.Files.{HaveFiles}
 use Rattle.px_region.proofs.Opening.{assembled_by, have}
 use Rattle.px_region.proofs.region.Region.assembled.Goals as goal
 

@@ -1,4 +1,4 @@
-use Rattle.std.proofs.Common.{◌≡◌, ap, refl, sym, ◌∙◌, Err}
+use Rattle.std.proofs.Common.{◌≡◌, ap, Err}
 use Rattle.px_wal.specs.declared.snapshot.Snapshot.{Snapshot}
 use Rattle.px_wal.specs.Manifest.{names}
 use Rattle.px_gatelog.specs.declared.fault.StartFault.TheVariants.{Damaged}

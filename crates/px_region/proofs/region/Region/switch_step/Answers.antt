@@ -1,5 +1,5 @@
-use Rattle.std.proofs.Common.{◌≡◌, ap, refl, sym, subst, Err, OnOk}
-use Rattle.px_region.proofs.Holding.{log_rests, log_switched, stands_now, touches_log}
+use Rattle.std.proofs.Common.{refl}
+use Rattle.px_region.proofs.Holding.{log_rests, log_switched, touches_log}
 use Rattle.px_region.proofs.region.Region.switch_step.Goals as goal
 
 pub returns-in-Ok-clause-done : goal.returns-in-Ok-clause-done
