@@ -228,6 +228,15 @@ abbrev pub DidWork : Known → Known → Work → Type 0
 DidWork k k' work.Did = Finds k k' ⊎ ((t : TableId) × (h : ℕ) × Adds k k' (Raised t h))
 DidWork k k' work.Idle = Finds k k'
 
+-- upkeep had no step to make
+abbrev pub IsIdle : Work → Type 0
+IsIdle work.Did = ⊥
+IsIdle work.Idle = Unit {0}
+
+-- an order is no event: what comes of it, upkeep does
+abbrev pub DidOrder : Known → Known → Unit {0} → Type 0
+DidOrder k k' u = Finds k k'
+
 -- the index as its count names it
 abbrev pub IsCountOf : Base → List Entry → ℕ → IndexCount → Type 0
 IsCountOf b es t c = (x : Index) × (index_of b es c.index.0 ≡ Some x) × (x.table.0 ≡ t) × (c.name ≡ x.name) × (c.state ≡ x.state)

@@ -299,6 +299,10 @@ upkeep_cause (Closed call) k = ClosedBy call k
 upkeep_cause Memory k = Unit {0}
 upkeep_cause f k = ⊥
 
+abbrev pub order_cause : StepFault → Known → Type 0
+order_cause (Closed call) k = ClosedBy call k
+order_cause f k = ⊥
+
 abbrev pub status_cause : ℕ → StepFault → Known → Type 0
 status_cause t NoTable k = LacksTable k t
 status_cause t ReadFault k = Stands k t

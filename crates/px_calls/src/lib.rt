@@ -18,6 +18,6 @@ pub use definition::{Definition, Made};
 pub use fault::StepFault;
 pub use laws::{law_asked, law_points, law_runs, law_tickets};
 pub use query::{By, Chunk, Doubt, Fixing, FoundKey, FoundRow, Held, Path, Point, Verdict};
-pub use status::{IndexCount, IndexCounts, Status, Work};
+pub use status::{IndexCount, IndexCounts, Ordered, Status, Work};
 pub use steps::Steps;
 pub use ticket::{Marks, Receipt, Ticket, Verifies, Writes};

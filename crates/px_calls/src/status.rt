@@ -1,4 +1,4 @@
-// What `status` and `upkeep` answer.
+// What `status` and `upkeep` answer, and what is ordered of upkeep.
 use px_tables::IndexState;
 use px_values::{IndexId, Items, Name};
 
@@ -28,4 +28,11 @@ pub struct Status {
 pub enum Work {
     Did,
     Idle,
+}
+
+/// What is asked of upkeep before it is due.
+#[derive(Clone, Copy)]
+pub enum Ordered {
+    /// All that stands in the logs of the tables is to be flushed.
+    FlushAll,
 }

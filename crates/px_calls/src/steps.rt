@@ -4,13 +4,13 @@ ghost use Rattle.px_trail.specs.Batches.{Marking, Writing, Verifying, is_distinc
 ghost use Rattle.px_trail.specs.declared.entry.Act.TheVariants.{Ended, Released};
 ghost use Rattle.px_calls.specs.Known.{Known, Sees, Adds};
 ghost use Rattle.px_calls.specs.Requires.{AreFitting, CanAbandon, CanConsult, CanDefine, CanEnd, CanLook, IsOpen, IsScn, TicketIn};
-ghost use Rattle.px_calls.specs.Causes.{Refuses, begin_cause, define_cause, find_cause, fix_cause, open_cause, read_cause, rows_cause, status_cause, upkeep_cause, write_cause};
-ghost use Rattle.px_calls.specs.Calls.{DidBegin, DidConsult, DidCount, DidDefine, DidFind, DidFix, DidLook, DidMark, DidOpen, DidVerify, DidWork, DidWrite, IsReceipt};
+ghost use Rattle.px_calls.specs.Causes.{Refuses, begin_cause, define_cause, find_cause, fix_cause, open_cause, order_cause, read_cause, rows_cause, status_cause, upkeep_cause, write_cause};
+ghost use Rattle.px_calls.specs.Calls.{DidBegin, DidConsult, DidCount, DidDefine, DidFind, DidFix, DidLook, DidMark, DidOpen, DidOrder, DidVerify, DidWork, DidWrite, IsIdle, IsReceipt};
 
 use crate::definition::{Definition, Made};
 use crate::fault::StepFault;
 use crate::query::{Chunk, Doubt, Fixing, Held, Path, Point};
-use crate::status::{Status, Work};
+use crate::status::{Ordered, Status, Work};
 use crate::ticket::{Marks, Receipt, Ticket, Verifies, Writes};
 use px_tables::Found;
 use px_values::{Changes, Key, Name, TableId};
@@ -23,6 +23,12 @@ pub trait Steps {
 
     /// That what was opened is sound. What is told of rows and index rows rests on it; what is told of the trail doesn't.
     ghost sound: { Type 0 };
+
+    /// That all that stands in the logs of the tables was ordered to be flushed, when the seat had seen what it now has.
+    ghost ordered: { Self → Type 0 };
+
+    /// That all that was ordered was flushed, when the seat had seen what it now has.
+    ghost done: { Self → Type 0 };
 
     /// The table of a name, with its indexes.
     fn find(&mut self, name: &Name) -> Result<Found, StepFault>
@@ -108,9 +114,17 @@ pub trait Steps {
         requires { IsOpen (known self.old) p }
         ensures { Adds (known self.old) (known self.new) (Released p.table p.stamp) };
 
-    /// One step of one job of upkeep.
+    /// Asks for what upkeep is to do before it is due, of each region of each table that stands. It makes no step of it, adds nothing to the trail and
+    /// touches no file: `upkeep` makes the steps, and isn't Idle before they are made. It is refused only where the server is closed.
+    fn order(&mut self, job: Ordered) -> Result<(), StepFault>
+        ensures ok { IfOk result (DidOrder (known self.old) (known self.new)) }
+        ensures ordered { IfOk result (λ _. ordered self.new) }
+        ensures refused { IfErr result (Refuses order_cause (known self.old) (known self.new)) };
+
+    /// One step of one job of upkeep. It is Idle where no region of a table that stands has a step to make: then all that was ordered is done.
     fn upkeep(&mut self) -> Result<Work, StepFault>
         ensures ok { IfOk result (DidWork (known self.old) (known self.new)) }
+        ensures done { IfOk result (λ work. IsIdle work → done self.new) }
         ensures refused { IfErr result (Refuses upkeep_cause (known self.old) (known self.new)) };
 
     /// The table's last stamp and horizon, and counts of its cells, files and index rows.

@@ -1,2 +1,3 @@
 pub mod Committing
 pub mod Counting
+pub mod Ordering

@@ -60,6 +60,8 @@ module _ (a : Answered) (st' : Settings) (once_more : a.after ≡ next_is.Again 
   again_only sound k before own st p (right.is_not_committed again h fault held asks outcome since stops says) = absurd (not_so (emptied st) says.2)
   again_only sound k before own st p (right.is_counted name s read outcome says none) = absurd (not_so st says.3)
   again_only sound k before own st p (right.is_not_counted name fault read outcome since says none) = absurd (⊎_elim (λ is. not_so st is.3) (λ is. not_so st is.3) says)
+  again_only sound k before own st p (right.is_ordered job read outcome says none) = absurd (not_so st says.3)
+  again_only sound k before own st p (right.is_not_ordered job fault read outcome since says none) = absurd (not_so st says.3)
   again_only sound k before own st p (right.is_dropped x f m e read scn bound fits is made says) = absurd (not_so st says.3)
   again_only sound k before own st p (right.is_not_dropped x f fault e read scn bound fits is why since none says) = absurd (not_so st says.3)
   again_only sound k before own st p (right.is_created t m read one scn fits made says) = absurd (not_so st says.3)

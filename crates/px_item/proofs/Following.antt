@@ -132,6 +132,7 @@ module _ (sound : Type 0) (before : ℕ) (asked : Asked) (mine : List Act) where
   goes_from x f k (state.Seeking y run) fits legal found named off apart to = absurd to
   goes_from x f k (state.Committing again run) fits legal found named off apart to = absurd to
   goes_from x f k (state.Counting name run) fits legal found named off apart to = absurd to
+  goes_from x f k (state.Ordering run) fits legal found named off apart to = absurd to
   goes_from x f k (state.Changing y run room) fits legal found named off apart (same, n) =
       let low = fits.begins in
       let within = fits.within in
@@ -282,6 +283,7 @@ module _ (sound : Type 0) (before : ℕ) (asked : Asked) (mine : List Act) where
     to_commit (state.Deleting y run) may change none g = absurd g
     to_commit (state.Seeking y run) may change none g = absurd g
     to_commit (state.Counting name run) may change none g = absurd g
+    to_commit (state.Ordering run) may change none g = absurd g
     to_commit (state.Committing again run) may change none g =
         let h = g.2.0 in
         let low = found_fits.begins in
@@ -340,6 +342,7 @@ module _ (sound : Type 0) (before : ℕ) (asked : Asked) (mine : List Act) where
     seeks y (state.Selecting z run) on is places none g = absurd g
     seeks y (state.Deleting z run) on is places none g = absurd g
     seeks y (state.Counting name run) on is places none g = absurd g
+    seeks y (state.Ordering run) on is places none g = absurd g
     seeks y (state.Committing again run) on is places none g = to_commit (state.Committing again run) (inr on) (ap changes is) (subst (λ (z : Statement). faults_in f z ≡ []) (sym is) none) g
     seeks y (state.Seeking z run) on is places none (same, other, planned, scn, new) =
         let bound : scan.IsBound k' (query_of run.scan.query) =

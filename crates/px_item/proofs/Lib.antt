@@ -1,8 +1,10 @@
 pub mod Again
 pub mod Committing
+pub mod Done
 pub mod Following
 pub mod Going
 pub mod Newly
+pub mod Ordering
 pub mod Passing
 pub mod Plain
 pub mod Sought

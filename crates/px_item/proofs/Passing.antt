@@ -298,6 +298,7 @@ module _ (sound : Type 0) (before : ℕ) (asked : Asked) (mine : List Act) where
         since = commit_since before run k k' h f.since;
       }
   state_passes (state.Counting name run) k k' h f = record { read = f.read; fits = numbering.fits-kept asked.first name run k k' h f.fits }
+  state_passes (state.Ordering run) k k' h f = f
 
   pub fits_passes : (st : ItemState) (k k' : Known) → Passes k k' → Fits sound before asked mine st k → Fits sound before asked mine st k'
   fits_passes st k k' h f = record { begins = f.begins; within = longer k k' asked.first (of_passes k k' h) f.within; state = state_passes st k k' h f.state; done = f.done }

@@ -46,6 +46,9 @@ use Rattle.px_commanding.specs.Commits as commits
 use Rattle.px_commanding.specs.Counts as counts
 use Rattle.px_commanding.specs.declared.count.CountFault.{CountFault}
 use Rattle.px_commanding.specs.declared.count.CountFault.TheVariants as uncounted
+use Rattle.px_commanding.specs.Orders as orders
+use Rattle.px_commanding.specs.declared.order.OrderFault.{OrderFault}
+use Rattle.px_commanding.specs.declared.order.OrderFault.TheVariants as undone_by
 use Rattle.px_held.specs.HeldData.{HeldData}
 use Rattle.px_calls.specs.declared.status.Status.{Status}
 use Rattle.px_item.specs.Right.{AsksToCommit, plain}
@@ -271,3 +274,15 @@ counted_plain n name k (Err f) o = uncounted_plain n name f k o
 pub count_since_plain : (n : ℕ) (f : CountFault) (k : Known) → counts.MadeSince n f k → counts.MadeSince n f (plain k)
 count_since_plain n uncounted.ReadFault k h = h
 count_since_plain n f k h = h
+
+pub undone_plain : (f : OrderFault) (k : Known) → orders.FaultIs f k → orders.FaultIs f (plain k)
+undone_plain undone_by.ReadFault k h = h
+undone_plain undone_by.WriteFault k h = h
+undone_plain (undone_by.Damaged file place) k h = h
+undone_plain (undone_by.Closed call) k h = h
+undone_plain undone_by.Memory k h = h
+
+pub order_since_plain : (n : ℕ) (f : OrderFault) (k : Known) → orders.MadeSince n f k → orders.MadeSince n f (plain k)
+order_since_plain n undone_by.ReadFault k h = h
+order_since_plain n undone_by.WriteFault k h = h
+order_since_plain n f k h = h

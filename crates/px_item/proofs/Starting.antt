@@ -72,6 +72,7 @@ start_state sound before asked (state.Committing again run) k low within i =
 start_state sound before asked (state.Counting name run) k low within i =
     let F : CountRun → Type 0 = λ r. counts.Fits asked.first name r k in
     (record { read = i.0; fits = subst F (sym i.1) within }, refl)
+start_state sound before asked (state.Ordering run) k low within i = (i.0, refl)
 
 -- an item that was begun is as the trail tells, and has begun nothing of its own
 pub starts_fitting : (sound : Type 0) (before : ℕ) (st : Settings) (p : SeenPiece) (r : ItemRun) (k : Known) → before ≤ r.asked.first → r.asked.first ≤ length k.seen → IsBegun st p r → Fits sound before r.asked [] r.state k

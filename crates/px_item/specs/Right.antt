@@ -25,6 +25,9 @@ use Rattle.px_commanding.specs.Counts as counts
 use Rattle.px_commanding.specs.declared.commit.CommitRun.TheVariants as committing
 use Rattle.px_commanding.specs.declared.count.CountFault.{CountFault}
 use Rattle.px_commanding.specs.declared.count.CountFault.TheVariants as uncounted
+use Rattle.px_commanding.specs.Orders as orders
+use Rattle.px_commanding.specs.declared.order.OrderFault.{OrderFault}
+use Rattle.px_commanding.specs.declared.order.OrderFault.TheVariants as undone_by
 use Rattle.px_commands.specs.Commands as said
 use Rattle.px_commands.specs.declared.command.Command.{Command}
 use Rattle.px_commands.specs.declared.command.Command.TheVariants as commands
@@ -76,11 +79,13 @@ use Rattle.px_calls.specs.declared.definition.Definition.TheVariants as d
 use Rattle.px_calls.specs.declared.definition.Made.{Made}
 use Rattle.px_calls.specs.declared.fault.StepFault.{StepFault}
 use Rattle.px_calls.specs.declared.fault.StepFault.TheVariants as step
+use Rattle.px_calls.specs.declared.status.Ordered.{Ordered}
+use Rattle.px_calls.specs.declared.status.Ordered.TheVariants as jobs
 use Rattle.px_calls.specs.declared.status.Status.{Status}
 use Rattle.px_calls.specs.declared.ticket.Receipt.{Receipt}
 use Rattle.px_calls.specs.Calls.{IsFound}
 use Rattle.px_calls.specs.Causes.{ClosedBy, NamesNoTable}
-use Rattle.px_calls.specs.Known.{Known}
+use Rattle.px_calls.specs.Known.{IsRunning, Known}
 use Rattle.px_calls.specs.Requires.{FitsTable, IsNewIndex, IsNewTable}
 use Rattle.px_batch.specs.Turns as batch
 use Rattle.px_batch.specs.declared.batch.BatchFault.{BatchFault}
@@ -168,6 +173,13 @@ count_refusal name uncounted.ReadFault = refusal.ReadFault
 count_refusal name (uncounted.Damaged file place) = refusal.Damaged file place
 count_refusal name (uncounted.Closed call) = refusal.Closed call
 count_refusal name uncounted.Memory = refusal.Memory
+
+abbrev pub order_refusal : OrderFault → Refusal
+order_refusal undone_by.ReadFault = refusal.ReadFault
+order_refusal undone_by.WriteFault = refusal.WriteFault
+order_refusal (undone_by.Damaged file place) = refusal.Damaged file place
+order_refusal (undone_by.Closed call) = refusal.Closed call
+order_refusal undone_by.Memory = refusal.Memory
 
 -- ---- settings
 
@@ -330,6 +342,7 @@ is_command_built (commands.Scn n) = true
 is_command_built (commands.Autocommit on) = true
 is_command_built commands.Commit = true
 is_command_built (commands.Status name) = true
+is_command_built commands.Flush = true
 is_command_built c = false
 
 -- ---- answers
@@ -353,6 +366,13 @@ SaysOf st c a = ⊥
 abbrev pub AsksCommit : SeenPiece → (again : Bool) → Type 0
 AsksCommit p true = IsCommandRead p (Ok (commands.Autocommit true))
 AsksCommit p false = IsCommandRead p (Ok commands.Commit)
+
+-- the command that gives an order to upkeep, and what is told where it is done
+abbrev pub command_of : Ordered → Command
+command_of jobs.FlushAll = commands.Flush
+
+abbrev pub order_reply : Ordered → Reply
+order_reply jobs.FlushAll = reply.Flushed
 
 -- what is answered without a call
 pub data IsAtOnce (st : Settings) (p : SeenPiece) (a : Answered) : Type 0 where
@@ -506,6 +526,9 @@ pub data IsRight (sound : Type 0) (k : Known) (before : ℕ) (own : List Act) (s
   is_counted : (name : List ℕ) (s : Status) → IsCommandRead p (Ok (commands.Status name)) → counts.IsOutcome a.first name k (Ok s) → Says a (reply.Status s) st → own ≡ [] → IsRight sound k before own st p a
   is_not_counted : (name : List ℕ) (fault : CountFault) → IsCommandRead p (Ok (commands.Status name)) → counts.IsOutcome a.first name k (Err fault) → counts.MadeSince before fault k
       → Refuses a (count_refusal name fault) st ⊎ Refuses a refusal.Memory st → own ≡ [] → IsRight sound k before own st p a
+  -- an order is done, where upkeep had nothing left to do on a server that isn't closed
+  is_ordered : (job : Ordered) → IsCommandRead p (Ok (command_of job)) → IsRunning k → Says a (order_reply job) st → own ≡ [] → IsRight sound k before own st p a
+  is_not_ordered : (job : Ordered) (fault : OrderFault) → IsCommandRead p (Ok (command_of job)) → orders.FaultIs fault k → orders.MadeSince before fault k → Refuses a (order_refusal fault) st → own ≡ [] → IsRight sound k before own st p a
   -- a DROP is one entry
   is_dropped : (x : Statement) (f : Found) (m : Made) (e : Definition) → IsRead p (Ok x) → st.scn ≡ None → IsBoundTo k.base k.seen a.first f (table_named x) → faults_in f x ≡ [] → drop_of f x ≡ Some e → define.HasDefined sound e own k m
       → Says a (reply.Defined (word_of x)) st → IsRight sound k before own st p a
@@ -559,6 +582,7 @@ ReadsAs st p first (read.Told a) = IsAtOnce st p a × (a.first ≡ first)
 ReadsAs st p first (read.Asks asked x) = (seen_piece asked.piece ≡ p) × (asked.settings ≡ st) × (asked.first ≡ first) × IsRead p (Ok x) × MayRun st x × (is_built x ≡ true)
 ReadsAs st p first (read.Commits asked again) = (seen_piece asked.piece ≡ p) × (asked.settings ≡ st) × (asked.first ≡ first) × AsksCommit p again × (st.held ≢ None)
 ReadsAs st p first (read.Counts asked name) = (seen_piece asked.piece ≡ p) × (asked.settings ≡ st) × (asked.first ≡ first) × IsCommandRead p (Ok (commands.Status name))
+ReadsAs st p first (read.Orders asked job) = (seen_piece asked.piece ≡ p) × (asked.settings ≡ st) × (asked.first ≡ first) × IsCommandRead p (Ok (command_of job))
 
 -- what a CREATE TABLE asks for, or the first of all that is wrong with it
 abbrev pub IsCreation : CreateTable → Result DefineRun Refusal → Type 0
@@ -643,6 +667,7 @@ FollowsTo scn x f (state.Deleting y run) = (y ≡ x) × IsNext scn f x (next.Del
 FollowsTo scn x f (state.Seeking y run) = ⊥
 FollowsTo scn x f (state.Committing again run) = ⊥
 FollowsTo scn x f (state.Counting name run) = ⊥
+FollowsTo scn x f (state.Ordering run) = ⊥
 
 abbrev pub Follows : Asked → Statement → Found → ItemTurn → Type 0
 Follows asked x f (turn.Stepped r) = (r.asked ≡ asked) × FollowsTo asked.settings.scn x f r.state
@@ -705,3 +730,8 @@ IsCommitted asked again r a = (a.first ≡ asked.first) × ((h : HeldData) × (a
 abbrev pub IsCounted : Asked → List ℕ → Result Status CountFault → Answered → Type 0
 IsCounted asked name (Ok x) a = (a.first ≡ asked.first) × Says a (reply.Status x) asked.settings
 IsCounted asked name (Err f) a = (a.first ≡ asked.first) × (Refuses a (count_refusal name f) asked.settings ⊎ Refuses a refusal.Memory asked.settings)
+
+-- what is told of the end of an order
+abbrev pub IsOrdered : Asked → Ordered → Result (Unit {0}) OrderFault → Answered → Type 0
+IsOrdered asked job (Ok u) a = (a.first ≡ asked.first) × Says a (order_reply job) asked.settings
+IsOrdered asked job (Err f) a = (a.first ≡ asked.first) × Refuses a (order_refusal f) asked.settings

@@ -21,15 +21,19 @@ use Rattle.px_create.specs.Indexes.{index_faults, new_index}
 use Rattle.px_create.specs.Tables.{new_table, table_faults}
 use Rattle.px_trail.specs.declared.entry.Act.{Act}
 use Rattle.px_calls.specs.declared.definition.Definition.TheVariants as d
+use Rattle.px_calls.specs.declared.status.Ordered.{Ordered}
 use Rattle.px_calls.specs.Known.{Known, Ran, outline}
 use Rattle.px_held.specs.HeldData.{HeldData}
 use Rattle.px_commands.specs.declared.command.Command.TheVariants as commands
 use Rattle.px_commanding.specs.Commits as commits
 use Rattle.px_commanding.specs.Counts as counts
+use Rattle.px_commanding.specs.Orders as orders
 use Rattle.px_commanding.specs.declared.commit.CommitRun.{CommitRun}
 use Rattle.px_commanding.specs.declared.commit.CommitRun.TheVariants as committing
 use Rattle.px_commanding.specs.declared.count.CountRun.{CountRun}
 use Rattle.px_commanding.specs.declared.count.CountRun.TheVariants as counting
+use Rattle.px_commanding.specs.declared.order.OrderRun.{OrderRun}
+use Rattle.px_commanding.specs.declared.order.OrderRun.TheVariants as ordering
 use Rattle.px_batch.specs.declared.run.BatchRun.{BatchRun}
 use Rattle.px_batch.specs.Turns as batch
 use Rattle.px_defining.specs.declared.define.DefineRun.{DefineRun}
@@ -45,7 +49,7 @@ use Rattle.px_item.specs.declared.item.ItemState.{ItemState}
 use Rattle.px_item.specs.declared.item.ItemState.TheVariants as state
 use Rattle.px_item.specs.declared.item.ItemTurn.{ItemTurn}
 use Rattle.px_item.specs.declared.item.ItemTurn.TheVariants as turn
-use Rattle.px_item.specs.Right.{AsksCommit, AsksToCommit, HasRoomForOne, IsAskedOf, MayRun, IsAtOnce, IsBoundTo, IsCommandRead, IsCreation, IsOfNoOther, IsRead, IsRight, creates_table, drop_of, is_none_of, one_change, plain, deletion_query, table_named}
+use Rattle.px_item.specs.Right.{AsksCommit, AsksToCommit, HasRoomForOne, IsAskedOf, MayRun, IsAtOnce, IsBoundTo, IsCommandRead, IsCreation, IsOfNoOther, IsRead, IsRight, command_of, creates_table, drop_of, is_none_of, one_change, order_reply, plain, deletion_query, table_named}
 
 -- the statement was read, and may change something
 pub record IsAsking (asked : Asked) (x : Statement) : Type 0 where
@@ -149,6 +153,10 @@ pub record IsCounting (asked : Asked) (name : List ℕ) (run : CountRun) (k : Kn
   pub read : IsCommandRead (seen_piece asked.piece) (Ok (commands.Status name))
   pub fits : counts.Fits asked.first name run k
 
+-- an order is given, and being done
+abbrev pub IsOrdering : Asked → OrderRun → Type 0
+IsOrdering asked run = IsCommandRead (seen_piece asked.piece) (Ok (command_of (orders.job_of run)))
+
 abbrev pub FitsState : Type 0 → ℕ → Asked → List Act → ItemState → Known → Type 0
 FitsState sound before asked own (state.Finding x) k = IsAsking asked x
 FitsState sound before asked own (state.Changing x run room) k = IsAsking asked x × IsChanging before asked x run k × HasRoomForOne room
@@ -159,6 +167,7 @@ FitsState sound before asked own (state.Deleting x run) k = IsAsking asked x × 
 FitsState sound before asked own (state.Seeking x run) k = IsAsking asked x × IsSeeking sound asked x run k
 FitsState sound before asked own (state.Committing again run) k = IsCommitting before asked again run k
 FitsState sound before asked own (state.Counting name run) k = IsCounting asked name run k
+FitsState sound before asked own (state.Ordering run) k = IsOrdering asked run
 
 -- what the item has begun and not ended. What a DELETE has done is in IsDeleting
 abbrev pub HasBegun : List Act → ItemState → Type 0
@@ -171,6 +180,7 @@ HasBegun own (state.Deleting x run) = Unit {0}
 HasBegun own (state.Seeking x run) = own ≡ scan.opened run.scan.state
 HasBegun own (state.Committing again run) = own ≡ commits.begun run
 HasBegun own (state.Counting name run) = own ≡ []
+HasBegun own (state.Ordering run) = own ≡ []
 
 -- The state is as the trail tells, where `own` is what the seat began, ended, opened, closed and defined for the item so far. Others' entries keep this
 pub record Fits (sound : Type 0) (before : ℕ) (asked : Asked) (own : List Act) (st : ItemState) (k : Known) : Type 0 where
@@ -191,6 +201,11 @@ pub record Turns (sound : Type 0) (before : ℕ) (asked : Asked) (own : List Act
   pub ran : Ran k k' acts
   pub told : Told sound before asked (own ++ outline acts) k' t
 
+-- it is over, and told that an order is done
+abbrev pub TellsDone : ItemTurn → Type 0
+TellsDone (turn.Over a) = (job : Ordered) × (a.reply ≡ order_reply job)
+TellsDone t = ⊥
+
 -- the state before the first step: a CREATE TABLE is bound by then
 abbrev pub IsStart : Asked → ItemState → Type 0
 IsStart asked (state.Finding x) = IsAsking asked x × (creates_table x ≡ false)
@@ -202,6 +217,7 @@ IsStart asked (state.Deleting x run) = ⊥
 IsStart asked (state.Seeking x run) = ⊥
 IsStart asked (state.Committing again run) = AsksCommit (seen_piece asked.piece) again × (asked.settings.held ≢ None) × (run ≡ committing.Finding)
 IsStart asked (state.Counting name run) = IsCommandRead (seen_piece asked.piece) (Ok (commands.Status name)) × (run ≡ counting.Finding)
+IsStart asked (state.Ordering run) = IsOrdering asked run × (run ≡ ordering.Ordering (orders.job_of run))
 
 -- an item that has made no step
 pub record IsBegun (st : Settings) (p : SeenPiece) (r : ItemRun) : Type 0 where

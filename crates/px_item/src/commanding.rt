@@ -2,14 +2,16 @@
 ghost use Rattle.std.specs.Prelude.{◌≡◌, ◌≢◌, ℕ, List, None};
 ghost use Rattle.px_trail.specs.declared.entry.Act.{Act};
 ghost use Rattle.px_item.specs.Right as spec;
-ghost use Rattle.px_item.specs.Turns.{Fits, Turns};
+ghost use Rattle.px_item.specs.Turns.{Fits, TellsDone, Turns};
 
 use crate::answered::{After, Answered, Asked, Settings, told};
 use crate::item::{ItemRun, ItemState, ItemTurn, over};
-use crate::refusing::{uncommitted, uncounted};
+use crate::refusing::{uncommitted, uncounted, undone};
 use px_batch::BatchFault;
-use px_calls::{Receipt, Status, Steps};
-use px_commanding::{CommitRun, CommitTurn, CountFault, CountRun, CountTurn};
+use px_calls::{Ordered, Receipt, Status, Steps};
+use px_commanding::{
+    CommitRun, CommitTurn, CountFault, CountRun, CountTurn, OrderFault, OrderRun, OrderTurn,
+};
 use px_reply::Reply;
 use px_values::{CountWord, Items, Name};
 use std::alloc::Global;
@@ -135,5 +137,45 @@ pub(crate) fn count<'a, S: Steps>(
             state: ItemState::Counting(name, run),
         }),
         CountTurn::Over(came) => ItemTurn::Over(counted(alloc, asked, name, came)),
+    }
+}
+
+/// What is told of an order that is done.
+fn done(job: Ordered) -> Reply
+    ensures { result ≡ spec.order_reply job }
+{
+    match job {
+        Ordered::FlushAll => Reply::Flushed,
+    }
+}
+
+/// What an order came to.
+fn ordered(alloc: Global, asked: Asked<'_>, job: Ordered, came: Result<(), OrderFault>) -> Answered
+    ensures { spec.IsOrdered asked.entry job came result }
+{
+    let reply = match came {
+        Ok(()) => done(job),
+        Err(fault) => Reply::Refused(undone(fault)),
+    };
+    over(alloc, asked, reply)
+}
+
+/// Goes on with an order.
+pub(crate) fn order<'a, S: Steps>(
+    alloc: Global,
+    s: &mut S,
+    asked: Asked<'a>,
+    run: OrderRun,
+) -> ItemTurn<'a>
+    ensures turns { (before : ℕ) → (own : List Act) → Fits S.sound before asked.entry own (ItemState.Ordering run) (S.known s.old) → Turns S.sound before asked.entry own (S.known s.old) (S.known s.new) result }
+    ensures done { TellsDone result → S.done s.new }
+{
+    let job = run.job();
+    match run.step(s) {
+        OrderTurn::Stepped(run) => ItemTurn::Stepped(ItemRun {
+            asked,
+            state: ItemState::Ordering(run),
+        }),
+        OrderTurn::Over(came) => ItemTurn::Over(ordered(alloc, asked, job, came)),
     }
 }

@@ -3,11 +3,11 @@ ghost use Rattle.std.specs.Prelude.{◌≡◌, ℕ, true, false, List, Ok};
 ghost use Rattle.px_lex.specs.Script.{seen_piece};
 ghost use Rattle.px_trail.specs.declared.entry.Act.{Act};
 ghost use Rattle.px_item.specs.Right as spec;
-ghost use Rattle.px_item.specs.Turns.{Begins, Fits, Turns};
+ghost use Rattle.px_item.specs.Turns.{Begins, Fits, TellsDone, Turns};
 
 use crate::answered::{After, Answered, Asked, Settings, told};
 use crate::binding::{self, Next};
-use crate::commanding::{commit, count};
+use crate::commanding::{commit, count, order};
 use crate::holding::{hold, holds};
 use crate::reading::{Read, read_piece};
 use crate::refusing::{table_named, unchanged, undefined, unfound, unselected};
@@ -15,7 +15,7 @@ use crate::seeking::{gather, holds_rows, seek};
 use px_ast::Statement;
 use px_batch::{BatchFault, BatchRun, BatchTurn};
 use px_calls::{Made, Receipt, Steps};
-use px_commanding::{CommitRun, CountRun};
+use px_commanding::{CommitRun, CountRun, OrderRun};
 use px_defining::{DefineFault, DefineRun, DefineTurn};
 use px_deleting::{DeleteFault, DeleteRun, DeleteTurn, Deleted};
 use px_indexing::{IndexFault, IndexRun, IndexTurn, Indexed};
@@ -48,6 +48,8 @@ pub enum ItemState {
     Committing(bool, CommitRun),
     /// The table of this name is being counted.
     Counting(Name, CountRun),
+    /// This is ordered of upkeep, and being done.
+    Ordering(OrderRun),
 }
 
 /// An item on its way. Other seats may act between two of its steps.
@@ -84,6 +86,10 @@ pub fn begin<'a>(alloc: Global, piece: Piece<'a>, settings: Settings, first: u64
         Read::Counts(asked, name) => Begun::Under(ItemRun {
             asked,
             state: ItemState::Counting(name, CountRun::new()),
+        }),
+        Read::Orders(asked, job) => Begun::Under(ItemRun {
+            asked,
+            state: ItemState::Ordering(OrderRun::new(job)),
         }),
     }
 }
@@ -501,7 +507,10 @@ impl<'a> ItemRun<'a> {
     /// Makes one call.
     pub fn step<S: Steps>(self, alloc: Global, s: &mut S) -> ItemTurn<'a>
         requires { (before : ℕ) × (own : List Act) × Fits S.sound before self.asked own self.state (S.known s.old) }
-        ensures { (before : ℕ) → (own : List Act) → Fits S.sound before self.entry.asked own self.entry.state (S.known s.old) → Turns S.sound before self.entry.asked own (S.known s.old) (S.known s.new) result }
+        ensures turns { (before : ℕ) → (own : List Act) → Fits S.sound before self.entry.asked own self.entry.state (S.known s.old) → Turns S.sound before self.entry.asked own (S.known s.old) (S.known s.new) result }
+
+        // That an order is done is told only where it is.
+        ensures done { (before : ℕ) → (own : List Act) → Fits S.sound before self.entry.asked own self.entry.state (S.known s.old) → TellsDone result → S.done s.new }
     {
         let ItemRun { asked, state } = self;
         match state {
@@ -516,6 +525,7 @@ impl<'a> ItemRun<'a> {
             ItemState::Seeking(statement, run) => gather(alloc, s, asked, statement, run),
             ItemState::Committing(again, run) => commit(alloc, s, asked, again, run),
             ItemState::Counting(name, run) => count(alloc, s, asked, name, run),
+            ItemState::Ordering(run) => order(alloc, s, asked, run),
         }
     }
 }

@@ -7,6 +7,7 @@ ghost use Rattle.px_item.specs.Right as spec;
 use crate::answered::{Answered, Asked, Settings, refused, told};
 use crate::refusing::{command_refusal, syntax_refusal};
 use px_ast::Statement;
+use px_calls::Ordered;
 use px_commands::{Command, read_command};
 use px_lex::script::{Piece, PieceKind};
 use px_parse::parse;
@@ -25,6 +26,8 @@ pub(crate) enum Read<'a> {
     Commits(Asked<'a>, bool),
     /// The table of this name is to be counted.
     Counts(Asked<'a>, Name),
+    /// This is to be ordered of upkeep, and done.
+    Orders(Asked<'a>, Ordered),
 }
 
 /// Whether the statement's form is built.
@@ -184,7 +187,14 @@ fn commanded<'a>(
             };
             Read::Counts(asked, name)
         }
-        Command::Flush => Read::Told(refused(alloc, Refusal::Form, first, settings)),
+        Command::Flush => {
+            let asked = Asked {
+                piece,
+                settings,
+                first,
+            };
+            Read::Orders(asked, Ordered::FlushAll)
+        }
         Command::Compact => Read::Told(refused(alloc, Refusal::Form, first, settings)),
     }
 }

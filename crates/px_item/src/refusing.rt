@@ -7,7 +7,7 @@ ghost use Rattle.px_item.specs.Right as spec;
 use px_ast::Statement;
 use px_batch::BatchFault;
 use px_calls::StepFault;
-use px_commanding::CountFault;
+use px_commanding::{CountFault, OrderFault};
 use px_commands::CommandFault;
 use px_defining::DefineFault;
 use px_parse::SyntaxFault;
@@ -218,6 +218,19 @@ pub(crate) fn uncounted(alloc: Global, name: &Name, fault: CountFault) -> Reply
         CountFault::Damaged { file, place } => Reply::Refused(Refusal::Damaged { file, place }),
         CountFault::Closed { call } => Reply::Refused(Refusal::Closed { call }),
         CountFault::Memory => Reply::Refused(Refusal::Memory),
+    }
+}
+
+/// What is told of an order that isn't done.
+pub(crate) fn undone(fault: OrderFault) -> Refusal
+    ensures { result ≡ spec.order_refusal fault }
+{
+    match fault {
+        OrderFault::ReadFault => Refusal::ReadFault,
+        OrderFault::WriteFault => Refusal::WriteFault,
+        OrderFault::Damaged { file, place } => Refusal::Damaged { file, place },
+        OrderFault::Closed { call } => Refusal::Closed { call },
+        OrderFault::Memory => Refusal::Memory,
     }
 }
 

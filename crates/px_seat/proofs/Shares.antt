@@ -33,7 +33,7 @@ use Rattle.px_calls.specs.declared.ticket.Writes.{Writes}
 use Rattle.px_calls.specs.declared.ticket.Writes.TheVariants as writes
 use Rattle.px_calls.specs.Known.{Known, Passes}
 use Rattle.px_calls.specs.Requires.{CanAbandon, CanEnd}
-use Rattle.px_calls.specs.Causes.{batch_limit, begin_cause, define_cause, find_cause, fix_cause, new_index_cause, new_table_cause, open_cause, read_cause, rows_cause, status_cause, upkeep_cause, write_cause}
+use Rattle.px_calls.specs.Causes.{batch_limit, begin_cause, define_cause, find_cause, fix_cause, new_index_cause, new_table_cause, open_cause, order_cause, read_cause, rows_cause, status_cause, upkeep_cause, write_cause}
 use Rattle.px_calls.specs.Calls.{Consulted, DidBegin, DidConsult, DidCount, DidDefine, DidFind, DidFix, DidLook, DidMark, DidOpen, DidVerify, DidWork, DidWrite, IsFinished, IsMade, IsReceipt, WroteRows, act_of}
 use Rattle.px_calls.proofs.Runs.{passes-shut, passes-ticket}
 use Rattle.px_seat.specs.Grown.{Grew, shared}
@@ -108,6 +108,10 @@ fix_shared f k h = h
 pub upkeep_shared : IsShared upkeep_cause
 upkeep_shared ReadFault k h = h
 upkeep_shared f k h = h
+
+pub order_shared : IsShared order_cause
+order_shared ReadFault k h = h
+order_shared f k h = h
 
 pub status_shared : (t : ℕ) → IsShared (status_cause t)
 status_shared t ReadFault k h = h

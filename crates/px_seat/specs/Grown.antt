@@ -30,3 +30,7 @@ shared k = record { seat = k.seat; base = k.base; damaged = k.damaged; alone = f
 -- what a seat at the lock knows
 abbrev pub mine : ℕ → Base → (ℕ → ℕ → Bool) → List Entry → Known
 mine seat base damaged seen = record { seat = seat; base = base; damaged = damaged; alone = false; seen = seen }
+
+-- this was so of the owner when it had these entries
+abbrev pub WasSo : (S : Type 0) → (S → Known) → (S → Type 0) → List Entry → Type 0
+WasSo S known Is seen = (owner : S) × Is owner × ((known owner).seen ≡ seen)

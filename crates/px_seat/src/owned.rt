@@ -5,13 +5,13 @@ ghost use Rattle.px_trail.specs.Legal.{IsLegal};
 ghost use Rattle.px_trail.specs.declared.entry.Act.TheVariants.{Ended, Released};
 ghost use Rattle.px_calls.specs.Known.{Known, Sees, Adds};
 ghost use Rattle.px_calls.specs.Requires.{AreFitting, CanAbandon, CanConsult, CanDefine, CanEnd, CanLook, IsOpen, IsScn, TicketIn};
-ghost use Rattle.px_calls.specs.Causes.{Refuses, begin_cause, define_cause, find_cause, fix_cause, open_cause, read_cause, rows_cause, status_cause, upkeep_cause, write_cause};
-ghost use Rattle.px_calls.specs.Calls.{DidBegin, DidConsult, DidCount, DidDefine, DidFind, DidFix, DidLook, DidMark, DidOpen, DidVerify, DidWork, DidWrite, IsReceipt};
+ghost use Rattle.px_calls.specs.Causes.{Refuses, begin_cause, define_cause, find_cause, fix_cause, open_cause, order_cause, read_cause, rows_cause, status_cause, upkeep_cause, write_cause};
+ghost use Rattle.px_calls.specs.Calls.{DidBegin, DidConsult, DidCount, DidDefine, DidFind, DidFix, DidLook, DidMark, DidOpen, DidOrder, DidVerify, DidWork, DidWrite, IsIdle, IsReceipt};
 ghost use Rattle.px_seat.specs.Grown.{Grew, IsOwned};
 
 use px_calls::{
-    Chunk, Definition, Doubt, Fixing, Held, Made, Marks, Path, Point, Receipt, Status, StepFault,
-    Steps, Ticket, Verifies, Work, Writes,
+    Chunk, Definition, Doubt, Fixing, Held, Made, Marks, Ordered, Path, Point, Receipt, Status,
+    StepFault, Steps, Ticket, Verifies, Work, Writes,
 };
 use px_tables::Found;
 use px_trail::Entry;
@@ -269,11 +269,23 @@ impl<S: Single, B: Based> Owned<S, B> {
         self.core.close_point(p);
     }
 
+    /// Asks for what upkeep is to do.
+    pub(crate) fn order(&mut self, job: Ordered) -> Result<(), StepFault>
+        ensures grew { Grew (S.known self.old) (S.known self.new) }
+        ensures owned { IsOwned B.base B.damaged (S.known self.new) }
+        ensures ok { IfOk result (DidOrder (S.known self.old) (S.known self.new)) }
+        ensures ordered { IfOk result (λ _. S.ordered self.new) }
+        ensures refused { IfErr result (Refuses order_cause (S.known self.old) (S.known self.new)) }
+    {
+        self.core.order(job)
+    }
+
     /// One step of one job of upkeep.
     pub(crate) fn upkeep(&mut self) -> Result<Work, StepFault>
         ensures grew { Grew (S.known self.old) (S.known self.new) }
         ensures owned { IsOwned B.base B.damaged (S.known self.new) }
         ensures ok { IfOk result (DidWork (S.known self.old) (S.known self.new)) }
+        ensures done { IfOk result (λ work. IsIdle work → S.done self.new) }
         ensures refused { IfErr result (Refuses upkeep_cause (S.known self.old) (S.known self.new)) }
     {
         self.core.upkeep()

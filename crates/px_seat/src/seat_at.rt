@@ -1,12 +1,12 @@
 // A seat at the lock, as steps.
 ghost use Rattle.std.specs.Prelude.{◌≡◌, length};
 ghost use Rattle.px_turn.specs.Seats.{IsSeat, name_of, number, seen as list_seen};
-ghost use Rattle.px_seat.specs.Grown.{mine};
+ghost use Rattle.px_seat.specs.Grown.{WasSo, mine};
 
 use crate::owned::{Based, Owned, Single};
 use px_calls::{
-    Chunk, Definition, Doubt, Fixing, Held, Made, Marks, Path, Point, Receipt, Status, StepFault,
-    Steps, Ticket, Verifies, Work, Writes,
+    Chunk, Definition, Doubt, Fixing, Held, Made, Marks, Ordered, Path, Point, Receipt, Status,
+    StepFault, Steps, Ticket, Verifies, Work, Writes,
 };
 use px_tables::Found;
 use px_turn::{TurnLock, TurnSeat};
@@ -85,6 +85,10 @@ impl<'a, R: Wait, S: Single, N: LockNamed, B: Based> Steps for SeatAt<'a, R, S, 
     ghost known = { λ s. mine s.id B.base B.damaged (list_seen s.seat) };
 
     ghost sound = { S.sound };
+
+    ghost ordered = { λ s. WasSo S S.known S.ordered (list_seen s.seat) };
+
+    ghost done = { λ s. WasSo S S.known S.done (list_seen s.seat) };
 
     fn find(&mut self, name: &Name) -> Result<Found, StepFault> {
         let mut guard = self.lock.enter(self.rt, &mut self.seat);
@@ -225,6 +229,17 @@ impl<'a, R: Wait, S: Single, N: LockNamed, B: Based> Steps for SeatAt<'a, R, S, 
         let seen = server.seen();
         guard.leave();
         self.seen = seen;
+    }
+
+    fn order(&mut self, job: Ordered) -> Result<(), StepFault> {
+        let mut guard = self.lock.enter(self.rt, &mut self.seat);
+        let server = guard.value();
+        server.act_as(self.id);
+        let reply = server.order(job);
+        let seen = server.seen();
+        guard.leave();
+        self.seen = seen;
+        reply
     }
 
     fn upkeep(&mut self) -> Result<Work, StepFault> {

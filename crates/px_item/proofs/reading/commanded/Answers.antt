@@ -22,8 +22,5 @@ returns-in-Autocommit-false c =
     let s = c.switched-in-Autocommit-false in
     commanded_so c.args.settings (seen_piece c.args.piece) c.args.command (commands.Autocommit false) s.result c.args.first c.requires (c.in-Autocommit-false.is ∙ ap commands.Autocommit c.in-Autocommit-false.field-0-test) s.ensures.says s.ensures.first
 
-pub returns-in-Flush : goal.returns-in-Flush
-returns-in-Flush c = uncommanded_so c.args.settings (seen_piece c.args.piece) c.args.command commands.Flush c.refused.result c.args.first c.requires c.in-Flush.is refl c.refused.ensures.says c.refused.ensures.first
-
 pub returns-in-Compact : goal.returns-in-Compact
-returns-in-Compact c = uncommanded_so c.args.settings (seen_piece c.args.piece) c.args.command commands.Compact c.refused-in-Compact.result c.args.first c.requires c.in-Compact.is refl c.refused-in-Compact.ensures.says c.refused-in-Compact.ensures.first
+returns-in-Compact c = uncommanded_so c.args.settings (seen_piece c.args.piece) c.args.command commands.Compact c.refused.result c.args.first c.requires c.in-Compact.is refl c.refused.ensures.says c.refused.ensures.first

@@ -46,3 +46,6 @@ returns-clause-refused g c =
     let new = grows.knows g.S.Steps.known g.B.Based.base g.B.Based.damaged me.id (list_seen me.seat) c.act_as.new.self c.upkeep-reply.new.self (list_seen c.leave.new.self.1.0) e c.upkeep-reply.ensures.grew c.leave.ensures.seen in
     let old = mine me.id g.B.Based.base g.B.Based.damaged (list_seen me.seat) in
     subst (λ (k : Known). IfErr c.upkeep-reply.result (Refuses (upkeep_cause) old k)) (sym new) (grows.if_err _ _ c.upkeep-reply.result (λ f h. grows.refuses-shared (upkeep_cause) old (g.S.Steps.known c.act_as.new.self) (g.S.Steps.known c.upkeep-reply.new.self) f (shares.upkeep_shared) refl e.passes h) c.upkeep-reply.ensures.refused)
+
+pub returns-clause-done : goal.returns-clause-done
+returns-clause-done g c = grows.if_ok _ _ c.upkeep-reply.result (λ work h idle. (c.upkeep-reply.new.self, h idle, sym c.leave.ensures.seen)) c.upkeep-reply.ensures.done

@@ -1,0 +1,85 @@
+-- What one step of an order to upkeep does.
+use Rattle.std.specs.Prelude.{ℕ, ◌≡◌, ◌≤◌, ◌⊎◌, List, [], ◌∷◌, length, drop, Result, Ok, Err}
+use Rattle.px_values.specs.declared.name.TableId.{TableId}
+use Rattle.px_trail.specs.declared.entry.Act.{Act}
+use Rattle.px_trail.specs.declared.entry.Act.TheVariants as act
+use Rattle.px_trail.specs.Answers.{IsAmong}
+use Rattle.px_trail.specs.Trail.{acts_by}
+use Rattle.px_calls.specs.declared.fault.StepFault.{StepFault}
+use Rattle.px_calls.specs.declared.fault.StepFault.TheVariants as step
+use Rattle.px_calls.specs.declared.status.Ordered.{Ordered}
+use Rattle.px_calls.specs.Causes.{ClosedBy, IsDamagedAt}
+use Rattle.px_calls.specs.Known.{HasMade, IsRunning, Known, Ran}
+use Rattle.px_commanding.specs.declared.order.OrderFault.{OrderFault}
+use Rattle.px_commanding.specs.declared.order.OrderFault.TheVariants as fault
+use Rattle.px_commanding.specs.declared.order.OrderRun.{OrderRun}
+use Rattle.px_commanding.specs.declared.order.OrderRun.TheVariants as run
+use Rattle.px_commanding.specs.declared.order.OrderTurn.{OrderTurn}
+use Rattle.px_commanding.specs.declared.order.OrderTurn.TheVariants as turn
+
+-- 1. Faults
+
+abbrev pub undone : StepFault → OrderFault
+undone step.ReadFault = fault.ReadFault
+undone step.WriteFault = fault.WriteFault
+undone (step.Damaged file place) = fault.Damaged file place
+undone (step.Closed call) = fault.Closed call
+undone f = fault.Memory
+
+-- what tells the fault, in what the seat has then seen
+abbrev pub FaultIs : OrderFault → Known → Type 0
+FaultIs fault.ReadFault k = (call : ℕ) × HasMade k (act.Missed call)
+FaultIs fault.WriteFault k = (call : ℕ) × HasMade k (act.Shut call)
+FaultIs (fault.Damaged file place) k = IsDamagedAt k file place
+FaultIs (fault.Closed call) k = ClosedBy call k
+FaultIs fault.Memory k = Unit {0}
+
+-- the entry that tells a failed device call is one of the seat's own after the first m
+abbrev pub MadeSince : ℕ → OrderFault → Known → Type 0
+MadeSince m fault.ReadFault k = (call : ℕ) × IsAmong (act.Missed call) (acts_by k.seat (drop m k.seen))
+MadeSince m fault.WriteFault k = (call : ℕ) × IsAmong (act.Shut call) (acts_by k.seat (drop m k.seen))
+MadeSince m f k = Unit {0}
+
+-- 2. Steps
+
+-- what is ordered
+abbrev pub job_of : OrderRun → Ordered
+job_of (run.Ordering job) = job
+job_of (run.Working job) = job
+
+-- the run gives the order first, then steps upkeep, and is over only where that has nothing left to do, or a call is refused
+abbrev pub Leads : (ordered done : Type 0) → OrderRun → OrderTurn → Type 0
+Leads ordered done (run.Ordering job) (turn.Stepped r) = (r ≡ run.Working job) × ordered
+Leads ordered done (run.Ordering job) (turn.Over (Ok u)) = ⊥
+Leads ordered done (run.Working job) (turn.Stepped r) = r ≡ run.Working job
+Leads ordered done (run.Working job) (turn.Over (Ok u)) = done
+Leads ordered done r (turn.Over (Err f)) = Unit {0}
+
+-- what the step adds to the trail: nothing but a horizon that rises, or what tells a failed device call
+abbrev pub AreAdded : OrderTurn → List Act → Type 0
+AreAdded (turn.Stepped r) acts = (acts ≡ []) ⊎ ((t : TableId) × (h : ℕ) × (acts ≡ act.Raised t h ∷ []))
+AreAdded (turn.Over (Err fault.ReadFault)) acts = (call : ℕ) × (acts ≡ act.Missed call ∷ [])
+AreAdded (turn.Over (Err fault.WriteFault)) acts = (call : ℕ) × (acts ≡ act.Shut call ∷ [])
+AreAdded (turn.Over r) acts = acts ≡ []
+
+-- what an order comes to: it is done while the server isn't closed, or why not
+abbrev pub IsOutcome : Known → Result (Unit {0}) OrderFault → Type 0
+IsOutcome k (Ok u) = IsRunning k
+IsOutcome k (Err f) = FaultIs f k
+
+abbrev pub Told : Known → OrderTurn → Type 0
+Told k (turn.Stepped r) = Unit {0}
+Told k (turn.Over r) = IsOutcome k r
+
+abbrev pub IsSinceThen : ℕ → Known → OrderTurn → Type 0
+IsSinceThen m k (turn.Stepped r) = Unit {0}
+IsSinceThen m k (turn.Over (Ok u)) = Unit {0}
+IsSinceThen m k (turn.Over (Err f)) = MadeSince m f k
+
+-- one step of an order, for which nothing is begun, opened or defined
+pub record Turns (k k' : Known) (t : OrderTurn) : Type 0 where
+  pub acts : List Act
+  pub ran : Ran k k' acts
+  pub added : AreAdded t acts
+  pub told : Told k' t
+  pub since : (m : ℕ) → m ≤ length k.seen → IsSinceThen m k' t
