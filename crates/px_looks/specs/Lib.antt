@@ -1,3 +1,4 @@
+pub mod Counted
 pub mod Found
 pub mod Keys
 pub mod Rows

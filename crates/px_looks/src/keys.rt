@@ -9,6 +9,7 @@ ghost use Rattle.px_region.specs.Region.{read_of};
 ghost use Rattle.px_paths.specs.Paths.{columns_on, index_path as path_of, value_among as value_in_key};
 ghost use Rattle.px_rows.specs.Keys.{IsRightTable, column_in};
 ghost use Rattle.px_rows.specs.inner.Found.{AreOf};
+ghost use Rattle.px_looks.specs.Counted.{HasCounted};
 ghost use Rattle.px_looks.specs.Found.{AreNext, at_key};
 ghost use Rattle.px_looks.specs.IndexKeys.{ShowsKey, column_shown, columns_shown, found_at, found_with, is_included as includes, row_shown, value_from};
 ghost use Rattle.px_looks.specs.Versions.{HasNoDelete, is_verified as verified_by};
@@ -250,6 +251,7 @@ pub fn look_keys<D: Disk>(
     requires table { IsRightTable table.now }
     requires region { IsPlainRegion (read_of region.old) }
     ensures next { IfOk result (λ n. AreNext (ShowsKey table.now index.now point) (value_at (read_of region.old)) low.now (option_copied high.entry) (option_copied after.entry) n.found n.next) }
+    ensures counted { IfOk result (λ n. HasCounted region.old region.new (length n.found)) }
     ensures risen { region.old.looked ≤ region.new.looked }
     ensures alike { IsAlike region.old region.new }
     ensures promised { IsSamePromise region.old region.new }

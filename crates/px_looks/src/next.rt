@@ -1,5 +1,5 @@
 // The next keys of a path.
-ghost use Rattle.std.specs.Prelude.{Ok, Option, ◌≡◌, ◌≢◌, ◌+◌, ◌<◌, ◌≤◌, ◌-◌, ◌∷◌, [], ◌⊎◌, get_or, ℕ, List, Some, length, IfOk, OnOk, MatchOption};
+ghost use Rattle.std.specs.Prelude.{Ok, Option, min, ◌≡◌, ◌≢◌, ◌+◌, ◌<◌, ◌≤◌, ◌-◌, ◌∷◌, [], ◌⊎◌, get_or, ℕ, List, Some, length, IfOk, OnOk, MatchOption};
 ghost use Rattle.std.specs.declared.cmp.Ordering.TheVariants.{Less};
 ghost use Rattle.std.specs.Option.{option_copied};
 ghost use Rattle.px_cells.specs.Contents.{value_at};
@@ -12,8 +12,10 @@ ghost use Rattle.px_region.specs.Region.{read_of};
 ghost use Rattle.px_trail.specs.Answers.{IsAmong};
 ghost use Rattle.px_calls.specs.Looks.{key_found as found_key_of};
 ghost use Rattle.px_calls.specs.declared.query.FoundKey.{FoundKey as Finding};
+ghost use Rattle.px_looks.specs.Counted.{HasCounted};
 ghost use Rattle.px_looks.specs.Found.{AreFoundIn, AreNext, at_key};
 ghost use Rattle.px_looks.specs.Keys.{next_key};
+ghost use Rattle.px_looks.specs.declared.next.Way.{Way as Ways};
 ghost use Rattle.px_looks.specs.inner.Parts.{FoundTo, IsFirst, end_or};
 
 use crate::lent::{Lent, lend};
@@ -80,6 +82,7 @@ fn look_part<D: Disk, R: Reader>(
     ensures few { IfOk result (λ part. length part.found.items ≤ most) }
     ensures up { IfOk result (λ part. (e : List ℕ) → part.end ≡ Some e → key_cmp low.now e ≡ Less) }
     ensures below { IfOk result (λ part. (f : Finding) → IsAmong f part.found.items → IsBeforeEnd (found_key_of f) (option_copied high.entry)) }
+    ensures counted { IfOk result (λ part. HasCounted region.old region.new (length part.found.items)) }
     ensures risen { region.old.looked ≤ region.new.looked }
     ensures alike { IsAlike region.old region.new }
     ensures promised { IsSamePromise region.old region.new }
@@ -205,6 +208,7 @@ fn look_on<D: Disk, R: Reader>(
     ensures few { result ≡ Ok Way.More → length found.new.items < 64 }
     ensures over { (next : Option (List ℕ)) → result ≡ Ok (Way.Over next) → (start low : List ℕ) (after : Option (List ℕ)) → IsFirst low after start → FoundTo (R.shows reader.now) (value_at (read_of region.old)) start (option_copied high.entry) from.old found.old.items
         → AreNext (R.shows reader.now) (value_at (read_of region.old)) low (option_copied high.entry) after found.new.items next }
+    ensures counted { (way : Ways) (start : ℕ) → result ≡ Ok way → min (start + length found.old.items) 18446744073709551615 ≤ region.old.looked → min (start + length found.new.items) 18446744073709551615 ≤ region.new.looked }
     ensures risen { region.old.looked ≤ region.new.looked }
     ensures alike { IsAlike region.old region.new }
     ensures promised { IsSamePromise region.old region.new }
@@ -237,6 +241,7 @@ pub(crate) fn look_next<D: Disk, R: Reader>(
     requires region { IsPlainRegion (read_of region.old) }
     requires admits { (k : List ℕ) → R.admits reader.now k (at_key (value_at (read_of region.old)) k) }
     ensures next { IfOk result (λ n. AreNext (R.shows reader.now) (value_at (read_of region.old)) low.now (option_copied high.entry) (option_copied after.entry) n.found n.next) }
+    ensures counted { IfOk result (λ n. HasCounted region.old region.new (length n.found)) }
     ensures risen { region.old.looked ≤ region.new.looked }
     ensures alike { IsAlike region.old region.new }
     ensures promised { IsSamePromise region.old region.new }

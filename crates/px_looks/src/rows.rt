@@ -7,6 +7,7 @@ ghost use Rattle.px_region.specs.Promise.{IsAlike, IsSamePromise};
 ghost use Rattle.px_region.specs.Region.{read_of};
 ghost use Rattle.px_rows.specs.Keys.{IsRightTable, row_columns};
 ghost use Rattle.px_rows.specs.Spelled.{IsPlainAt};
+ghost use Rattle.px_looks.specs.Counted.{HasCounted};
 ghost use Rattle.px_looks.specs.Found.{AreNext};
 ghost use Rattle.px_looks.specs.Rows.{ShowsRow};
 
@@ -96,6 +97,7 @@ pub fn look_rows<D: Disk>(
     requires region { IsPlainRegion (read_of region.old) }
     requires plain { (k : List ℕ) → IsPlainAt (value_at (read_of region.old)) k }
     ensures next { IfOk result (λ n. AreNext (ShowsRow table.now point) (value_at (read_of region.old)) low.now (option_copied high.entry) (option_copied after.entry) n.found n.next) }
+    ensures counted { IfOk result (λ n. HasCounted region.old region.new (length n.found)) }
     ensures risen { region.old.looked ≤ region.new.looked }
     ensures alike { IsAlike region.old region.new }
     ensures promised { IsSamePromise region.old region.new }

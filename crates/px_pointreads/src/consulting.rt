@@ -1,5 +1,5 @@
 // The row of a doubt, and what is to be done with its version.
-ghost use Rattle.std.specs.Prelude.{◌≡◌, ◌↔◌, ℕ, List, IfOk};
+ghost use Rattle.std.specs.Prelude.{◌≡◌, ◌≤◌, ◌+◌, ◌↔◌, ℕ, List, IfOk};
 ghost use Rattle.px_calls.specs.Calls.{IsInFlight};
 ghost use Rattle.px_calls.specs.Requires.{CanConsult};
 ghost use Rattle.px_forms.specs.Indexes.{IndexForm};
@@ -38,6 +38,7 @@ pub fn consult<D: Disk>(
     requires doubt { CanConsult p.now d.now }
     ensures row { IfOk result (λ c. (b : Base) (index : ℕ → IndexForm) (es : List Entries) (v : GroupData) (hs : List HeldBatch) → IsTallied b es group.old hs → IsShownBy b index es group.old v hs → IsHolder b es p.now d.now.index d.now.key c.row) }
     ensures leave { IfOk result (λ c. (b : Base) (es : List Entries) (hs : List HeldBatch) → IsLegal b es → IsTallied b es group.old hs → (c.verdict ≡ Leave) ↔ IsInFlight b es d.now) }
+    ensures counted { group.new.rows.looked ≤ group.old.rows.looked + 1 }
     ensures looked { HasLooked group.old group.new }
     ensures untouched { disk.new ≡ disk.old }
 {

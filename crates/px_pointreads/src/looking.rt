@@ -1,5 +1,5 @@
 // The next keys of a path.
-ghost use Rattle.std.specs.Prelude.{◌≡◌, ℕ, List, IfOk};
+ghost use Rattle.std.specs.Prelude.{◌≡◌, ℕ, List, IfOk, length};
 ghost use Rattle.std.specs.Option.{option_copied};
 ghost use Rattle.px_calls.specs.Looks.{Shows, ShowsRows};
 ghost use Rattle.px_calls.specs.Requires.{CanLook};
@@ -12,6 +12,7 @@ ghost use Rattle.px_trail.specs.declared.entry.Entry.{Entry as Entries};
 ghost use Rattle.px_values.specs.declared.name.IndexId.{IndexId as Number};
 ghost use Rattle.px_group.specs.Group.{IsRightGroup, IsShownBy, IsTallied};
 ghost use Rattle.px_reading.specs.Looked.{HasLooked};
+ghost use Rattle.px_pointreads.specs.Counted.{HasCountedBy};
 ghost use Rattle.px_pointreads.specs.Points.{AreOfIndex, IsReadAt};
 
 use crate::places::{index_place, reach};
@@ -51,6 +52,7 @@ pub fn look<D: Disk>(
     ensures keys { IfOk result (λ n. Shows p.now path.now after.now n.found n.next) }
     ensures rows { IfOk result (λ n. (b : Base) (index : ℕ → IndexForm) (es : List Entries) (v : GroupData) (hs : List HeldBatch) → IsTallied b es group.old hs → IsShownBy b index es group.old v hs → ShowsRows b es p.now path.now after.now n.found n.next) }
     ensures versions { IfOk result (λ n. (i : Number) → path.now.by ≡ ByIndex i → AreOfIndex group.old p.now i n.found) }
+    ensures counted { IfOk result (λ n. HasCountedBy group.old group.new path.now.by (length n.found)) }
     ensures looked { HasLooked group.old group.new }
     ensures no_row { (i : Number) → path.now.by ≡ ByIndex i → group.new.rows ≡ group.old.rows }
     ensures untouched { disk.new ≡ disk.old }

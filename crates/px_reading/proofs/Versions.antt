@@ -10,7 +10,6 @@ use Rattle.px_looks.specs.Versions.{is_verified, stamp_seen, value_seen, version
 use Rattle.px_region.specs.Region.{read_of}
 use Rattle.px_tables.specs.declared.index.Index.{Index}
 use Rattle.px_tables.specs.declared.table.Table.{Table}
-use Rattle.px_trail.specs.Answers.{IsAmong}
 use Rattle.px_values.specs.declared.row.Value.{Value}
 use Rattle.px_group.specs.declared.group.IndexRegion.{IndexRegion}
 use Rattle.px_reading.specs.Versions.{AreOfVersions, IsOfVersion}

@@ -1,5 +1,6 @@
 -- What looking at a table's regions leaves as it was.
-use Rattle.std.specs.Prelude.{◌≡◌, List, [], ◌∷◌}
+use Rattle.std.specs.Prelude.{◌≡◌, ℕ, List, [], ◌∷◌, Some, slice_get}
+use Rattle.px_looks.specs.Counted.{HasCounted}
 use Rattle.px_region.specs.Promise.{IsAlike, IsSamePromise}
 use Rattle.px_region.specs.declared.region.Region.{Region}
 use Rattle.px_group.specs.declared.group.Group.{Group}
@@ -25,3 +26,7 @@ pub record HasLooked (old new : Group) : Type 0 where
   pub points : new.points ≡ old.points
   pub last : new.last ≡ old.last
   pub horizon : new.horizon ≡ old.horizon
+
+-- at least so many keys of the index at a place were looked at, or their count stands at its last value
+abbrev pub HasCountedAt : List IndexRegion → List IndexRegion → ℕ → ℕ → Type 0
+HasCountedAt old new place n = (x y : IndexRegion) → slice_get old place ≡ Some x → slice_get new place ≡ Some y → HasCounted x.region y.region n

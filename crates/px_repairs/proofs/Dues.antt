@@ -1,5 +1,5 @@
 -- The cells that are made of what was read are the repair that is due.
-use Rattle.std.proofs.Common.{◌≡◌, ℕ, zero, suc, ◌<◌, ◌≤◌, max, Bool, true, false, cond, not, ◌&&◌, Option, Some, None, List, [], ◌∷◌, ◌++◌, length, get_or, refl, ap, sym, subst, ◌∙◌, inl, inr, arith}
+use Rattle.std.proofs.Common.{◌≡◌, ℕ, zero, suc, ◌<◌, ◌≤◌, max, Bool, true, false, cond, not, Option, Some, None, List, [], ◌∷◌, length, get_or, refl, ap, sym, subst, ◌∙◌, inl, inr, arith}
 use Rattle.std.specs.Prelude.{nat_eq, nat_le, nat_lt}
 use Rattle.std.specs.List.{AllByRecursion, slice_get}
 use Rattle.std.specs.Cmp.Lexicographic.{pointwise}
@@ -20,7 +20,7 @@ use Rattle.px_groupworld.specs.Group.{GroupData, GroupKept, index_in, no_part, s
 use Rattle.px_indexed.specs.Kept.{AreIndexCells}
 use Rattle.px_indexed.proofs.Looks.{top_seen}
 use Rattle.px_indexed.proofs.Regions.{bare_at}
-use Rattle.px_indexrow.specs.Form.{IsRightIndex, index_form, owns, row_of_index}
+use Rattle.px_indexrow.specs.Form.{IsRightIndex, index_form, owns}
 use Rattle.px_indexrow.specs.Lists.{column_cell, column_cells, fix_of}
 use Rattle.px_indexrow.specs.Verdicts.{verdict_of}
 use Rattle.px_indexrow.specs.declared.doubt.Repair.{Repair}
@@ -35,19 +35,18 @@ use Rattle.px_region.specs.Region.{read_of}
 use Rattle.px_rows.specs.Keys.{row_key}
 use Rattle.px_rows.specs.Spelled.{row_form}
 use Rattle.px_shown.specs.Told.{is_key_in}
-use Rattle.px_shown.proofs.Owners.{owner_owns}
 use Rattle.px_trail.specs.Trail.{Base, horizon_of, last_of}
 use Rattle.px_trail.specs.declared.entry.Entry.{Entry}
 use Rattle.px_values.specs.States.{RowState, Shape as RowShape}
 use Rattle.px_values.specs.declared.row.Value.{Value}
 use Rattle.px_world.specs.Events.{Leave, ToVerify, ToRetire, ToErase, Verdict, due, stands}
-use Rattle.px_world.specs.IndexCells.{IndexCells, fix_cells, no_cells}
+use Rattle.px_world.specs.IndexCells.{IndexCells, fix_cells}
 use Rattle.px_world.specs.Shape.{all_below, has_key, same_cell, shows}
-use Rattle.px_world.specs.World.{Status, Absent, Unverified, Verified, World, horizon, is_undecided, is_written, st, top, vis}
+use Rattle.px_world.specs.World.{Absent, Unverified, Verified, World, horizon, is_undecided, is_written, st, top, vis}
 use Rattle.px_group.specs.Group.{IsShownBy, IsTallied, form_of}
 use Rattle.px_group.specs.declared.group.Group.{Group}
 use Rattle.px_group.specs.declared.group.IndexRegion.{IndexRegion}
-use Rattle.px_reading.specs.Doubts.{IsToldBy, horizon_at, is_pending, version_seen}
+use Rattle.px_reading.specs.Doubts.{IsToldBy, horizon_at, is_pending}
 use Rattle.px_batching.proofs.Places.{within}
 use Rattle.px_reading.proofs.Worlds.{form, horizon_is, state_is, undecided}
 use Rattle.px_repairs.specs.Repairs.{is_doubt, repair_of, stands_in}

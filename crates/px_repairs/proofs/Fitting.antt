@@ -9,7 +9,7 @@ use Rattle.px_indexrow.specs.Form.{FitsState, IsRightIndex, index_form}
 use Rattle.px_indexrow.specs.Lists.{column_cell, column_cells, erase_cell, family_cell, fix_of, status_cell}
 use Rattle.px_indexrow.proofs.KeysHeld.{form_placed}
 use Rattle.px_keptcells.specs.Kept.{IsFitting}
-use Rattle.px_phases.proofs.Small.{HasSmall, IsSmall, fitting, index_small}
+use Rattle.px_phases.proofs.Small.{HasSmall, fitting, index_small}
 use Rattle.px_tables.specs.declared.index.Index.{Index}
 use Rattle.px_tables.specs.declared.table.Table.{Table}
 use Rattle.px_values.specs.States.{RowState}

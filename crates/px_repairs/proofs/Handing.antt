@@ -8,7 +8,6 @@ use Rattle.px_keptcells.specs.Kept.{laid}
 use Rattle.px_merge.specs.Settle.{settle}
 use Rattle.px_wal.specs.Files.{HasFile}
 use Rattle.px_region.specs.Promise.{IsAlike}
-use Rattle.px_region.proofs.Alike.{alike_then}
 use Rattle.px_region.specs.Region.{Holds, RegionData, Stands, data_of, read_of, with_batch}
 use Rattle.px_region.specs.declared.region.Region.{Region}
 use Rattle.px_region.proofs.Holding.{holds_alike}

@@ -1,12 +1,11 @@
 -- A table stays right, tallies with the trail, and its batches have what their end needs, when a repair is written.
-use Rattle.std.proofs.Common.{◌≡◌, ℕ, ◌+◌, ◌≤◌, List, [], ◌∷◌, ◌++◌, length, slice_get, set, sum_by, Some, inl, inr, refl, ap, sym, ◌∙◌, subst, arith}
+use Rattle.std.proofs.Common.{◌≡◌, ℕ, List, length, slice_get, set, Some, inl, inr, refl, ap, sym, ◌∙◌, subst, arith}
 use Rattle.std.specs.List.{AllByRecursion}
 use Rattle.std.proofs.Math.ListN.{length-set}
 use Rattle.std.proofs.lemmas.Bool.{cases_eq}
 use Rattle.px_outside.specs.declared.disk.Disk.{Ghosts}
 use Rattle.px_cells.specs.CellData.{CellData}
 use Rattle.px_cellshapes.specs.Keys.{AreRightKeys}
-use Rattle.px_cellshapes.specs.Rows.{AreRightRows}
 use Rattle.px_openbatches.specs.Pending.{HeldBatch}
 use Rattle.px_region.specs.Promise.{IsSamePromise}
 use Rattle.px_region.specs.Region.{read_of}
@@ -16,7 +15,6 @@ use Rattle.px_trail.specs.Trail.{Base, index_of}
 use Rattle.px_trail.specs.declared.entry.Entry.{Entry}
 use Rattle.px_group.specs.Group.{AreTraced, IsRightBatch, IsRightGroup, IsRightPart, IsTallied}
 use Rattle.px_group.specs.Room.{HasPromised}
-use Rattle.px_group.specs.declared.group.Begun.{Begun}
 use Rattle.px_group.specs.declared.group.Group.{Group}
 use Rattle.px_group.specs.declared.group.IndexRegion.{IndexRegion}
 use Rattle.px_batching.proofs.Places.{all_at, all_more, all_set, same_at, set_cases, set_here, set_other}

@@ -1,12 +1,11 @@
 -- What a table shows when a repair is written.
-use Rattle.std.proofs.Common.{◌≡◌, ◌≢◌, ℕ, ◌<◌, Bool, true, false, cond, Some, None, List, [], ◌∷◌, ◌++◌, length, get_or, set, slice_get, inl, inr, refl, ap, sym, ◌∙◌, subst, arith}
+use Rattle.std.proofs.Common.{◌≡◌, ℕ, ◌<◌, Bool, true, false, cond, Some, None, List, ◌++◌, length, get_or, set, slice_get, inl, inr, refl, ap, sym, ◌∙◌, subst}
 use Rattle.std.proofs.Math.ListN.{length-set}
 use Rattle.std.proofs.lemmas.Bool.{cases_eq}
 use Rattle.std.proofs.lemmas.List.{get_or-set_other, get_or-set_same}
 use Rattle.std.specs.Prelude.{nat_eq}
 use Rattle.px_outside.specs.declared.disk.Disk.{Ghosts}
 use Rattle.px_cells.specs.CellData.{CellData}
-use Rattle.px_cells.specs.Contents.{value_at}
 use Rattle.px_cells.specs.Order.{ReadsSame}
 use Rattle.px_cells.proofs.Contents.{same_values}
 use Rattle.px_forms.specs.Indexes.{IndexForm}
@@ -29,12 +28,11 @@ use Rattle.px_tablesteps.specs.Kept.{TableKept, TableSteps}
 use Rattle.px_tablesteps.proofs.Steps.{table_regions}
 use Rattle.px_trail.specs.Trail.{Base}
 use Rattle.px_trail.specs.declared.entry.Entry.{Entry}
-use Rattle.px_values.specs.declared.row.Value.{Value}
 use Rattle.px_world.specs.Events.{Fix}
 use Rattle.px_group.specs.Group.{IsPartOf, IsShownBy, IsTallied, form_of}
 use Rattle.px_group.specs.declared.group.Group.{Group}
 use Rattle.px_group.specs.declared.group.IndexRegion.{IndexRegion}
-use Rattle.px_batching.proofs.Places.{set_cases, within}
+use Rattle.px_batching.proofs.Places.{set_cases}
 use Rattle.px_reading.specs.Doubts.{IsToldBy}
 use Rattle.px_repairs.specs.Repairs.{IsRegionStep, IsRepair, WroteRepair}
 use Rattle.px_repairs.proofs.Right.{index_before}

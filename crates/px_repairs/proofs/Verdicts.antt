@@ -1,5 +1,5 @@
 -- What is judged of a version, by what was read.
-use Rattle.std.proofs.Common.{◌≡◌, ℕ, zero, suc, ◌<◌, ◌≤◌, max, Bool, true, false, not, ◌&&◌, Option, Some, None, List, [], ◌∷◌, ◌++◌, length, refl, ap, sym, subst, ◌∙◌, inl, inr, arith}
+use Rattle.std.proofs.Common.{◌≡◌, ℕ, zero, suc, ◌<◌, ◌≤◌, max, Bool, true, false, Option, Some, None, List, [], ◌∷◌, length, refl, ap, sym, subst, ◌∙◌, inl, inr, arith}
 use Rattle.std.specs.Prelude.{◌≢◌, ◌↔◌, cond, nat_le, slice_get, get_or}
 use Rattle.std.proofs.lemmas.Bool.{cases_Bool, false≢true, le-leb}
 use Rattle.std.proofs.lemmas.List.{append-nil}
@@ -12,7 +12,6 @@ use Rattle.px_cellshapes.proofs.Each.{each_from_all}
 use Rattle.px_cellshapes.proofs.Paths.{index_columns_same}
 use Rattle.px_cellshapes.proofs.WrittenKeys.{fix_right}
 use Rattle.px_forms.specs.Indexes.{IndexForm}
-use Rattle.px_groupworld.specs.Asks.{CanFix}
 use Rattle.px_groupworld.specs.Group.{GroupData, shape_in, world_in}
 use Rattle.px_indexrow.specs.Form.{IsRightIndex, index_columns, index_form, owns, row_of_index}
 use Rattle.px_indexrow.specs.Lists.{fix_of}
@@ -36,7 +35,7 @@ use Rattle.px_trail.specs.declared.entry.Entry.{Entry}
 use Rattle.px_values.specs.Limits.{most_key}
 use Rattle.px_values.specs.States.{RowState}
 use Rattle.px_values.specs.declared.row.Value.{Value}
-use Rattle.px_world.specs.Events.{Leave, Verdict, due}
+use Rattle.px_world.specs.Events.{Leave, due}
 use Rattle.px_group.specs.Group.{IsRightGroup, IsRightPart, IsShownBy, IsTallied, form_of}
 use Rattle.px_group.specs.declared.group.Group.{Group}
 use Rattle.px_group.specs.declared.group.IndexRegion.{IndexRegion}

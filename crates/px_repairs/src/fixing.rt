@@ -1,5 +1,5 @@
 // A repair, from the look to the write.
-ghost use Rattle.std.specs.Prelude.{◌≡◌, ◌<◌, length, Err};
+ghost use Rattle.std.specs.Prelude.{◌≡◌, ◌<◌, ◌≤◌, ◌+◌, length, Err};
 ghost use Rattle.px_outside.specs.OnDisk.{Rose};
 ghost use Rattle.px_group.specs.Group.{IsRightGroup};
 ghost use Rattle.px_repairs.specs.Repairs.{Fixes};
@@ -25,6 +25,7 @@ pub fn fix<D: Disk>(
     requires right { IsRightGroup group.old }
     requires there { place < length group.old.indexes.items }
     ensures fixes { Fixes ⟦<D as Disk>⟧ group.old group.new disk.old disk.new place key.now stamp result }
+    ensures counted { group.new.rows.looked ≤ group.old.rows.looked + 1 }
     ensures failed { result ≡ Err RepairFault.WriteFault → Rose ⟦<D as Disk>⟧ disk.old disk.new }
 {
     match judge(alloc, disk, group, place, key, stamp) {

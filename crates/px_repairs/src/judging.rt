@@ -1,5 +1,5 @@
 // Whether a doubted version is still to be repaired.
-ghost use Rattle.std.specs.Prelude.{◌≡◌, ◌<◌, true, Some, IfOk, length, slice_get};
+ghost use Rattle.std.specs.Prelude.{◌≡◌, ◌<◌, ◌≤◌, ◌+◌, true, Some, IfOk, length, slice_get};
 ghost use Rattle.px_cells.specs.Rows.{IsRow};
 ghost use Rattle.px_indexrow.specs.Form.{row_of_index};
 ghost use Rattle.px_region.specs.Region.{read_of};
@@ -93,6 +93,7 @@ pub fn judge<D: Disk>(
     requires right { IsRightGroup group.old }
     requires there { place < length group.old.indexes.items }
     ensures judged { IfOk result (IsJudged group.new place key.now stamp) }
+    ensures counted { group.new.rows.looked ≤ group.old.rows.looked + 1 }
     ensures looked { HasLooked group.old group.new }
     ensures untouched { disk.new ≡ disk.old }
 {

@@ -85,6 +85,7 @@ pub fn repair<D: Disk>(
     requires there { place < length group.old.indexes.items }
     requires some { 1 ≤ length (laid kept) }
     ensures repaired { Repaired ⟦<D as Disk>⟧ group.old group.new disk.old disk.new place (laid kept) result }
+    ensures no_row { group.new.rows ≡ group.old.rows }
     ensures failed { result ≡ Err RepairFault.WriteFault → Rose ⟦<D as Disk>⟧ disk.old disk.new }
 {
     write(alloc, disk, &mut group.indexes[place].region, kept)

@@ -5,6 +5,7 @@ use Rattle.px_cells.specs.Contents.{value_at}
 use Rattle.px_region.specs.Region.{read_of}
 use Rattle.px_calls.specs.declared.query.FoundKey.{FoundKey}
 use Rattle.px_looks.specs.Found.{AreNext}
+use Rattle.px_looks.specs.declared.next.Way.TheVariants.{Over}
 use Rattle.px_looks.specs.inner.Parts.{FoundTo}
 use Rattle.px_looks.proofs.Parts.{nothing_to}
 use Rattle.px_region.proofs.Alike.{alike_refl}
@@ -20,6 +21,7 @@ loop-round-init g c =
       few = omega arith;
       alike = alike_refl c.args.region.now;
       promised = record { cells = refl; bytes = refl };
+      counted = omega arith;
       risen = omega arith;
       untouched = refl;
     }
@@ -34,3 +36,9 @@ returns-in-Over-clause-next g c =
     let over = c.look_on.ensures.over c.in-Over.next (c.in_ok-look_on.was ∙ ap Ok c.in-Over.is) c.in-Ok.from c.args.low.now after c.in-Ok.ensures found in
     subst (λ (l : List FoundKey). AreNext shows (value_at (read_of c.args.region.now)) c.args.low.now high after l c.in-Over.next) (sym c.of.ensures)
     (subst (λ (l : List CellData). AreNext shows (value_at l) c.args.low.now high after c.look_on.new.found.items c.in-Over.next) same over)
+
+pub returns-in-Over-clause-counted : goal.returns-in-Over-clause-counted
+returns-in-Over-clause-counted g c =
+    let more = c.look_on.ensures.counted (Over c.in-Over.next) c.args.region.now.looked (c.in_ok-look_on.was ∙ ap Ok c.in-Over.is) c.loop-round.invariant.counted in
+    let l = ap length c.of.ensures in
+    omega arith

@@ -1,4 +1,4 @@
-use Rattle.std.proofs.Common.{◌≡◌, ◌<◌, ◌≤◌, length}
+use Rattle.std.proofs.Common.{◌≡◌, ◌+◌, ◌<◌, ◌≤◌, length, min}
 use Rattle.std.specs.Option.{option_copied}
 use Rattle.px_cells.specs.Contents.{value_at}
 use Rattle.px_region.specs.Promise.{IsAlike, IsSamePromise}
@@ -12,6 +12,7 @@ invariant-loop-round g l = record {
   few : length l.found.items < 64;
   alike : IsAlike l.fn.region l.region;
   promised : IsSamePromise l.fn.region l.region;
+  counted : min (l.fn.region.looked + length l.found.items) 18446744073709551615 ≤ l.region.looked;
   risen : l.fn.region.looked ≤ l.region.looked;
   untouched : l.disk ≡ l.fn.disk;
 }

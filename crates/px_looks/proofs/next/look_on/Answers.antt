@@ -1,4 +1,4 @@
-use Rattle.std.proofs.Common.{◌≡◌, ◌-◌, ℕ, Some, None, List, get_or, length, sym, subst}
+use Rattle.std.proofs.Common.{◌≡◌, ◌-◌, ◌∙◌, ◌≤◌, ◌+◌, ◌++◌, ℕ, Some, None, List, ap, arith, get_or, length, length-append, min, sym, subst}
 use Rattle.std.specs.Option.{option_copied}
 use Rattle.px_cells.specs.Contents.{value_at}
 use Rattle.px_region.specs.Region.{read_of}
@@ -34,3 +34,13 @@ returns-clause-over g c = λ next r start low after first done.
     let w = subst (λ (l : List FoundKey). (length l ≡ 64) × ((n : List ℕ) × (next ≡ Some n) × ((f : FoundKey) → f ≡ get_or l (length l - 1) f → n ≡ key_found f))) c.as_slice-in-Some.ensures.value (c.way_from.ensures.over next r) in
     on_over shows cells start (option_copied c.args.high) c.as_slice-2.result.now c.args.from.now c.as_slice-2.ensures c.args.found.now.items c.in_ok-more.field-0.found.items c.append.new.self.items c.in-Ok.ensures.items c.in_ok-more.field-0.end
     c.in_ok-more.ensures.found done c.in-Some.end c.in-Some.is c.in_ok-more.ensures.up c.in_ok-more.ensures.below w.0 next w.1.0 w.1.1 w.1.2 low after first
+
+-- what is found at a part is counted
+counts : (start old new : ℕ) (some more all : List FoundKey) → min (start + length some) 18446744073709551615 ≤ old → min (old + length more) 18446744073709551615 ≤ new → all ≡ some ++ more → min (start + length all) 18446744073709551615 ≤ new
+counts start old new some more all before risen is = (let l = ap length is ∙ length-append some more in omega arith)
+
+pub returns-in-None-clause-counted : goal.returns-in-None-clause-counted
+returns-in-None-clause-counted g c = λ way start r before. counts start c.args.region.now.looked _ c.args.found.now.items c.in_ok-more.field-0.found.items c.append.new.self.items before c.in_ok-more.ensures.counted c.in-Ok.ensures.items
+
+pub returns-clause-counted : goal.returns-clause-counted
+returns-clause-counted g c = λ way start r before. counts start c.args.region.now.looked _ c.args.found.now.items c.in_ok-more.field-0.found.items c.append.new.self.items before c.in_ok-more.ensures.counted c.in-Ok.ensures.items

@@ -1,4 +1,4 @@
-use Rattle.std.proofs.Common.{length}
+use Rattle.std.proofs.Common.{arith, length}
 use Rattle.std.specs.Option.{option_copied}
 use Rattle.px_region.specs.Region.{read_of}
 use Rattle.px_looks.specs.inner.Among.{FoundAmong}
@@ -36,3 +36,10 @@ returns-clause-up g c =
 pub returns-clause-below : goal.returns-clause-below
 returns-clause-below g c =
     part_below (read_of c.args.region.now) c.args.low.now (option_copied c.args.high) c.args.most c.lend-lent.result.rows c.lend-lent.result.cells.now (taken g c) (g.R.Reader.shows c.args.reader.now) c.law.ensures.some c.in-Ok-find_all.found.items (among g c)
+
+pub returns-clause-counted : goal.returns-clause-counted
+returns-clause-counted g c =
+    let few = c.in-Ok-find_all.ensures.few in
+    let lent = c.lend-lent.ensures.counted in
+    let looked = c.look_at.ensures.looked in
+    omega arith

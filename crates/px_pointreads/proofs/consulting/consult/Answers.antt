@@ -1,4 +1,4 @@
-use Rattle.std.proofs.Common.{◌≡◌, ℕ, List, ap, sym, subst, ◌∙◌}
+use Rattle.std.proofs.Common.{ℕ, List, sym, subst}
 use Rattle.px_group.specs.Group.{IsRightPart}
 use Rattle.px_indexed.proofs.Rows.{batch_sound}
 use Rattle.px_reading.specs.Doubts.{IsKeyIn}

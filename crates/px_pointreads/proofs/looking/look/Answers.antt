@@ -1,9 +1,12 @@
-use Rattle.std.proofs.Common.{◌≡◌, ℕ, Option, List, ap, sym, subst, ◌∙◌}
+use Rattle.std.proofs.Common.{◌≡◌, ℕ, Option, List, ap, length, sym, subst, ◌∙◌}
 use Rattle.px_calls.specs.Looks.{Shows, ShowsRows}
 use Rattle.px_calls.specs.declared.query.By.TheVariants.{Index as ByIndex}
 use Rattle.px_values.specs.declared.name.IndexId.{IndexId}
+use Rattle.px_calls.specs.declared.query.By.{By}
+use Rattle.px_reading.proofs.Looked.{looked_on}
 use Rattle.px_reading.proofs.Looks.{ok_map}
 use Rattle.px_reading.specs.Versions.{AreOfVersions}
+use Rattle.px_pointreads.specs.Counted.{HasCountedBy}
 use Rattle.px_pointreads.specs.Points.{IsPartAt}
 use Rattle.px_pointreads.proofs.Asked.{above_keys, active_at, found_in, index_is, no_index, not_looked, there_is}
 use Rattle.px_pointreads.proofs.looking.look.Goals as goal
@@ -53,3 +56,19 @@ returns-in-Some-clause-no_row g c = λ i by. c.look_keys.ensures.no_row
 
 pub returns-in-None-clause-looked : goal.returns-in-None-clause-looked
 returns-in-None-clause-looked g c = not_looked c.args.group.now
+
+pub returns-in-Some-clause-counted : goal.returns-in-Some-clause-counted
+returns-in-Some-clause-counted g c = ok_map _ _ (λ n h.
+    (let f = found_in c.args.p.now c.in-Index.index c.args.group.now.indexes.items c.deref.result.now c.in-Some.place c.deref.ensures.value c.in-Some.ensures.within c.in-Some.ensures.part in
+    let z = there_is c.args.group.now.indexes.items c.in-Some.place f.within in
+    let then = looked_on c.args.group.now.indexes.items c.look_keys.new.group.indexes.items c.look_keys.ensures.looked.indexes c.in-Some.place z.0 z.1 in
+    subst (λ (by : By). HasCountedBy c.args.group.now c.look_keys.new.group by (length n.found)) (sym c.in-Index.is)
+    (record {
+      place = c.in-Some.place;
+      before = z.0;
+      at = z.1;
+      id = (f.part z.0 z.1).id;
+      after = then.0;
+      at_after = then.1.0;
+      counted = h z.0 then.0 z.1 then.1.0;
+    }))) c.look_keys.result c.look_keys.ensures.counted

@@ -1,4 +1,4 @@
-use Rattle.std.proofs.Common.{◌≡◌, ◌∙◌, length, sym, arith}
+use Rattle.std.proofs.Common.{◌≡◌, length, arith}
 use Rattle.px_cellbytes.specs.Spelling.{all_bytes}
 use Rattle.px_keptcells.specs.Kept.{laid}
 use Rattle.px_repairs.proofs.Handing.{min_whole, writes_taken, written_taken}
