@@ -1,11 +1,9 @@
 -- A batch that begins, in the words of the trail.
-use Rattle.std.proofs.Common.{◌≡◌, ℕ, zero, suc, ◌<◌, ◌≤◌, ◌+◌, Bool, true, Some, None, List, [], ◌∷◌, ◌++◌, map, length, get_or, max, refl, ap, sym, ◌∙◌, subst, arith}
+use Rattle.std.proofs.Common.{◌≡◌, ℕ, zero, suc, ◌<◌, ◌≤◌, Bool, true, Some, None, List, [], ◌∷◌, ◌++◌, map, length, get_or, max, refl, ap, sym, ◌∙◌, subst, arith}
 use Rattle.std.specs.Prelude.{if◌then◌else◌, slice_get}
 use Rattle.std.specs.Global.{Vec}
 use Rattle.std.specs.List.{AllByRecursion}
 use Rattle.std.proofs.lemmas.List.{length-map}
-use Rattle.std.proofs.lemmas.Option.{slice_get-get_or}
-use Rattle.px_cells.specs.CellData.{CellData}
 use Rattle.px_cells.specs.Contents.{value_at}
 use Rattle.px_forms.specs.Indexes.{IndexForm, IsIndexForm, IsPlaced}
 use Rattle.px_groupworld.proofs.Entries.{rows_of_group}
@@ -18,11 +16,11 @@ use Rattle.px_indexed.proofs.Rows.{rows_kept}
 use Rattle.px_indexed.specs.Kept.{RowsKept}
 use Rattle.px_indexed.specs.Worlds.{begin_event, history_at}
 use Rattle.px_indexrow.proofs.KeysHeld.{form_laws, form_placed}
-use Rattle.px_indexrow.specs.Form.{IsRightIndex, index_form}
+use Rattle.px_indexrow.specs.Form.{index_form}
 use Rattle.px_openbatches.proofs.Helds.{held_after_begun}
-use Rattle.px_openbatches.specs.Made.{IsComputed, RowCells}
+use Rattle.px_openbatches.specs.Made.{IsComputed}
 use Rattle.px_openbatches.specs.Opens.{form_in}
-use Rattle.px_openbatches.specs.Pending.{HeldBatch, HeldKept, IsHeld, after_pending, fresh_held, held_begun, is_pending_in, meets}
+use Rattle.px_openbatches.specs.Pending.{HeldBatch, HeldKept, after_pending, fresh_held, held_begun, is_pending_in, meets}
 use Rattle.px_region.specs.Region.{read_of}
 use Rattle.px_rows.specs.Spelled.{row_form}
 use Rattle.px_tables.specs.declared.table.Table.{Table}
@@ -40,9 +38,8 @@ use Rattle.px_trail.specs.declared.entry.Act.TheVariants.{Begun as BegunAct}
 use Rattle.px_trail.specs.declared.entry.Entry.{Entry}
 use Rattle.px_values.specs.States.{RowState}
 use Rattle.px_values.specs.declared.change.Change.{Change}
-use Rattle.px_values.specs.declared.change.What.{What}
 use Rattle.px_values.specs.declared.row.Value.{Value}
-use Rattle.px_group.specs.Group.{AreInPhase, AreStanding, IsInPhase, IsRightGroup, IsRightPart, IsShownBy, IsTallied, as_phase, batch_in, batches_of, form_of, points_in}
+use Rattle.px_group.specs.Group.{AreInPhase, AreStanding, IsInPhase, IsRightGroup, IsRightPart, IsShownBy, IsTallied, batch_in, batches_of, form_of, points_in}
 use Rattle.px_group.specs.declared.group.Begun.{Begun}
 use Rattle.px_group.specs.declared.group.Group.{Group}
 use Rattle.px_group.specs.declared.group.IndexRegion.{IndexRegion}
@@ -51,7 +48,7 @@ use Rattle.px_phases.proofs.Begun.{begun_held, computed, rows_are}
 use Rattle.px_phases.proofs.Held.{met_held}
 use Rattle.px_phases.proofs.Left.{change_fits, rows_same, states_same}
 use Rattle.px_phases.specs.Batch.{AllFit, AreHeldAs, BatchData, IsHeldAs, is_left_in}
-use Rattle.px_phases.specs.Begun.{AreFrom, begun_batch, made_rows, no_form}
+use Rattle.px_phases.specs.Begun.{AreFrom, begun_batch, no_form}
 use Rattle.px_beginning.specs.Admits.{Admits, met_by}
 use Rattle.px_beginning.specs.Begins.{IsBatchOf, held_with, old_state, rows_made}
 use Rattle.px_beginning.specs.Reads.{form_at, forms_in}

@@ -1,13 +1,11 @@
 -- A group that differs at most in what was promised and looked at in its regions.
-use Rattle.std.proofs.Common.{◌≡◌, ℕ, zero, suc, ◌<◌, ◌≤◌, ◌+◌, Some, List, [], ◌∷◌, ◌++◌, map, length, refl, ap, sym, ◌∙◌, subst, arith}
+use Rattle.std.proofs.Common.{◌≡◌, ℕ, zero, suc, ◌≤◌, Some, List, [], ◌∷◌, map, length, refl, ap, sym, ◌∙◌, subst, arith}
 use Rattle.std.specs.Prelude.{slice_get}
-use Rattle.std.specs.Global.{Vec}
 use Rattle.std.specs.List.{AllByRecursion}
-use Rattle.px_cells.specs.CellData.{CellData}
 use Rattle.px_cellshapes.specs.Keys.{AreRightKeys}
 use Rattle.px_cellshapes.specs.Rows.{AreRightRows}
 use Rattle.px_forms.specs.Indexes.{IndexForm}
-use Rattle.px_groupworld.specs.Group.{GroupData, IndexPart, no_part, table_form}
+use Rattle.px_groupworld.specs.Group.{GroupData, table_form}
 use Rattle.px_indexrow.specs.Form.{index_form, IsRightIndex}
 use Rattle.px_openbatches.specs.Pending.{HeldBatch, HeldKept}
 use Rattle.px_phases.specs.Batch.{AllFit, AreHeldAs, BatchData, is_left_in}
@@ -16,18 +14,16 @@ use Rattle.px_phases.specs.Phases.{ArePuts, AreTransitions, HasLongIndexed}
 use Rattle.px_region.specs.Promise.{IsAlike}
 use Rattle.px_region.specs.Region.{read_of}
 use Rattle.px_region.proofs.Alike.{alike_refl}
-use Rattle.px_region.specs.declared.region.Region.{Region}
 use Rattle.px_rows.specs.Keys.{IsRightTable, row_key}
 use Rattle.px_rows.specs.Spelled.{row_form}
 use Rattle.px_tables.specs.declared.index.Index.{Index}
 use Rattle.px_tables.specs.declared.table.Table.{Table}
-use Rattle.px_tables.specs.declared.table.TableRegion.{TableRegion}
 use Rattle.px_tablesteps.specs.Kept.{TableKept}
 use Rattle.px_trail.specs.Trail.{Base, horizon_of, last_of, open_points, table_of, index_of}
 use Rattle.px_trail.specs.declared.entry.Entry.{Entry}
 use Rattle.px_values.specs.declared.change.Change.{Change}
 use Rattle.px_phases.specs.declared.transition.Transition.{Transition}
-use Rattle.px_group.specs.Group.{AreInPhase, AreRightParts, AreStanding, IsPartOf, IsRightBatch, IsRightGroup, IsRightPart, IsShaped, IsShownBy, IsTallied, batch_in, batches_of, points_in, region_of, is_built}
+use Rattle.px_group.specs.Group.{AreInPhase, AreRightParts, IsRightBatch, IsRightGroup, IsRightPart, IsShaped, IsShownBy, IsTallied, batch_in, points_in, is_built}
 use Rattle.px_group.specs.Room.{HasRooms, closes_for, marks_for, puts_for}
 use Rattle.px_group.specs.declared.group.Begun.{Begun}
 use Rattle.px_group.specs.declared.group.Group.{Group}
@@ -35,7 +31,7 @@ use Rattle.px_group.specs.declared.group.IndexRegion.{IndexRegion}
 use Rattle.px_group.specs.declared.group.OpenPoint.{OpenPoint}
 use Rattle.px_beginning.specs.Begins.{AreRead, IsBatchOf, IsMadeOf, old_state}
 use Rattle.px_beginning.specs.Leaves.{AreAlike, LeavesGroup}
-use Rattle.px_beginning.specs.Reads.{form_at, forms_in, old_in}
+use Rattle.px_beginning.specs.Reads.{forms_in, old_in}
 use Rattle.px_values.specs.declared.row.Value.{Value}
 use Rattle.px_values.specs.States.{RowState}
 use Rattle.px_trail.specs.Batches.{rows_of}

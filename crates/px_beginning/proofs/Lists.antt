@@ -1,9 +1,8 @@
 -- Lists of batches, indexes and rows, one more of them at a time.
-use Rattle.std.proofs.Common.{◌≡◌, ℕ, zero, suc, ◌<◌, ◌≤◌, ◌+◌, ◌||◌, Bool, Some, None, List, [], ◌∷◌, ◌++◌, map, length, get_or, take, drop, set, inl, inr, refl, ap, sym, ◌∙◌, subst, arith}
-use Rattle.std.specs.Prelude.{is_some, ◌⊎◌}
+use Rattle.std.proofs.Common.{◌≡◌, ℕ, zero, suc, ◌<◌, ◌+◌, ◌||◌, List, [], ◌∷◌, ◌++◌, map, length, get_or, take, drop, set, inl, inr, refl, ap, sym, ◌∙◌, subst, arith}
+use Rattle.std.specs.Prelude.{is_some}
 use Rattle.std.specs.List.{AllByRecursion, list_any}
 use Rattle.std.proofs.lemmas.List.{map-append, take_more}
-use Rattle.px_cells.specs.CellData.{CellData}
 use Rattle.px_forms.specs.Indexes.{IndexForm}
 use Rattle.px_openbatches.specs.Pending.{applied_if}
 use Rattle.px_values.specs.States.{RowState, Shape}

@@ -1,6 +1,5 @@
 -- A batch is let in.
-use Rattle.std.specs.Prelude.{◌≡◌, ◌≤◌, ◌+◌, ℕ, List, [], ◌∷◌, ◌++◌, length, map, sum_by, slice_get, Some, is_some, if◌then◌else◌}
-use Rattle.px_group.specs.Group.{batches_of}
+use Rattle.std.specs.Prelude.{◌≡◌, ◌+◌, ℕ, List, [], ◌∷◌, ◌++◌, length, map, sum_by, slice_get, Some, is_some, if◌then◌else◌}
 use Rattle.px_group.specs.Room.{HasPromised, IsLight, bytes_at, bytes_of_rows, cells_at, cells_of_rows}
 use Rattle.px_group.specs.declared.group.Begun.{Begun}
 use Rattle.px_group.specs.declared.group.Group.{Group}

@@ -36,6 +36,7 @@ fn marks_at(
     ensures kept { IfOk result (λ kept. kept ≡ mark_parts (index_form table.now index.now) stamp changes.now transitions.now) }
     ensures long { result ≡ Err (Fault.Limit Bound.Key) → HasLongIndexed table.now index.now changes.now transitions.now }
     ensures short { IsOk result → HasLongIndexed table.now index.now changes.now transitions.now → ⊥ }
+    ensures only { (limit : Bound) → result ≡ Err (Fault.Limit limit) → limit ≡ Bound.Key }
 {
     match marks_of_rows(alloc, table, index, changes, transitions, stamp) {
         Ok(cells) => Ok(cells),
@@ -60,6 +61,7 @@ pub(crate) fn marks_of_indexes(
     ensures kept { IfOk result (λ kept. kept.items ≡ map (λ f. mark_parts f stamp changes.now transitions.now) (forms_in table.now indexes.now)) }
     ensures long { result ≡ Err (Fault.Limit Bound.Key) → HasLongIn table.now indexes.now changes.now transitions.now }
     ensures short { IsOk result → AllByRecursion (λ x. HasLongIndexed table.now x.index changes.now transitions.now → ⊥) indexes.now }
+    ensures only { (limit : Bound) → result ≡ Err (Fault.Limit limit) → limit ≡ Bound.Key }
 {
     let mut kept = VecDeque::with_capacity(alloc, indexes.len())?;
     for part in indexes {
@@ -84,6 +86,7 @@ fn closes_at(
     requires transitions { AreTransitions table.now changes.now transitions.now }
     ensures kept { IfOk result (λ kept. kept ≡ close_parts (index_form table.now index.now) stamp changes.now transitions.now) }
     ensures long { result ≡ Err (Fault.Limit Bound.Key) → HasLongIndexed table.now index.now changes.now transitions.now }
+    ensures only { (limit : Bound) → result ≡ Err (Fault.Limit limit) → limit ≡ Bound.Key }
 {
     match closes_of_rows(alloc, table, index, changes, transitions, stamp) {
         Ok(cells) => Ok(cells),
@@ -107,6 +110,7 @@ pub(crate) fn closes_of_indexes(
     requires transitions { AreTransitions table.now changes.now transitions.now }
     ensures kept { IfOk result (λ kept. kept.items ≡ map (λ f. close_parts f stamp changes.now transitions.now) (forms_in table.now indexes.now)) }
     ensures long { result ≡ Err (Fault.Limit Bound.Key) → HasLongIn table.now indexes.now changes.now transitions.now }
+    ensures only { (limit : Bound) → result ≡ Err (Fault.Limit limit) → limit ≡ Bound.Key }
 {
     let mut kept = VecDeque::with_capacity(alloc, indexes.len())?;
     for part in indexes {

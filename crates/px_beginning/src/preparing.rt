@@ -5,6 +5,7 @@ ghost use Rattle.px_rows.specs.Keys.{row_key};
 ghost use Rattle.px_trail.specs.Batches.{is_distinct, rows_of};
 ghost use Rattle.px_values.specs.Limits.{most_key};
 ghost use Rattle.px_group.specs.Group.{IsRightGroup, batch_in};
+ghost use Rattle.px_group.specs.Room.{bytes_at, bytes_of_rows, cells_at, cells_of_rows};
 ghost use Rattle.px_phases.specs.Batch.{AllFit, is_left_in};
 ghost use Rattle.px_phases.specs.Phases.{ArePuts, AreTransitions, HasLongIndexed, close_parts, mark_parts};
 ghost use Rattle.px_values.specs.declared.limit.Limit.{Limit as Bound};
@@ -13,7 +14,7 @@ ghost use Rattle.px_beginning.specs.Begins.{IsBatchOf, IsMadeOf, NeedsLongKey};
 ghost use Rattle.px_beginning.specs.Faults.{HasLongIn};
 ghost use Rattle.px_beginning.specs.Leaves.{KeepsRooms, LeavesGroup};
 ghost use Rattle.px_beginning.specs.Reads.{forms_in};
-ghost use Rattle.px_beginning.specs.Rooms.{AreRoomsOf};
+ghost use Rattle.px_beginning.specs.Rooms.{AreRoomsOf, HasManyBytes, HasManyCells, MakesTooMuch};
 
 use crate::cells::{closes_of_indexes, marks_of_indexes};
 use crate::copying::{copied, copied_rows};
@@ -67,6 +68,8 @@ pub fn prepare<D: Disk>(
     ensures written { IfOk result (λ p. (p.written ≡ rows_of changes.now) × (p.receipt ≡ rows_of changes.now)) }
     ensures rooms { IfOk result (λ p. AreRoomsOf (length group.old.indexes.items) p) }
     ensures long { result ≡ Err (Fault.Limit Bound.Key) → NeedsLongKey group.old changes.now }
+    ensures cells { result ≡ Err (Fault.Limit Bound.Cells) → HasManyCells group.old stamp changes.now }
+    ensures bytes { result ≡ Err (Fault.Limit Bound.Bytes) → HasManyBytes group.old stamp changes.now }
     ensures leaves { LeavesGroup group.old group.new }
     ensures keeps { KeepsRooms group.old group.new }
     ensures untouched { disk.new ≡ disk.old }
@@ -106,6 +109,8 @@ fn prepared_of(
     ensures written { IfOk result (λ p. (p.written ≡ rows_of changes.now) × (p.receipt ≡ rows_of changes.now)) }
     ensures rooms { IfOk result (λ p. AreRoomsOf (length group.now.indexes.items) p) }
     ensures long { result ≡ Err (Fault.Limit Bound.Key) → HasLongIn group.now.table group.now.indexes.items changes.now transitions.now }
+    ensures cells { result ≡ Err (Fault.Limit Bound.Cells) → MakesTooMuch cells_of_rows cells_at 8192 group.now stamp changes.now transitions.now }
+    ensures bytes { result ≡ Err (Fault.Limit Bound.Bytes) → MakesTooMuch bytes_of_rows bytes_at 8388608 group.now stamp changes.now transitions.now }
 {
     let made = made_of(alloc, group, changes, transitions, stamp)?;
     let rows = room_of(&made.puts);
@@ -143,6 +148,7 @@ fn made_of(
     ensures puts { IfOk result (λ made. ArePuts group.now.table stamp changes.now made.puts) }
     ensures short { IfOk result (λ made. AllByRecursion (λ x. HasLongIndexed group.now.table x.index changes.now transitions.now → ⊥) group.now.indexes.items) }
     ensures long { result ≡ Err (Fault.Limit Bound.Key) → HasLongIn group.now.table group.now.indexes.items changes.now transitions.now }
+    ensures only { (limit : Bound) → result ≡ Err (Fault.Limit limit) → limit ≡ Bound.Key }
 {
     let listed = changes.as_slice();
     let indexes = group.indexes.as_slice();

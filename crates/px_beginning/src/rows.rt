@@ -38,6 +38,7 @@ fn own_key(alloc: Global, table: &Table, change: &Change) -> Result<Key, BeginFa
     requires fit { FitsTable table.now change.now.row change.now.what }
     ensures ok { IfOk result (λ key. (key ≡ row_key table.now change.now.row) × (length key ≤ most_key)) }
     ensures long { result ≡ Err (Fault.Limit Bound.Key) → most_key < length (row_key table.now change.now.row) }
+    ensures only { (limit : Bound) → result ≡ Err (Fault.Limit limit) → limit ≡ Bound.Key }
 {
     match key_of(alloc, table, change.row.as_slice()) {
         Ok(key) => Ok(key),
@@ -57,6 +58,7 @@ pub(crate) fn row_keys(
     ensures keys { IfOk result (λ keys. keys.items ≡ keys_of_rows table.now changes.now) }
     ensures short { IfOk result (λ keys. AllByRecursion (λ c. length (row_key table.now c.row) ≤ most_key) changes.now) }
     ensures long { result ≡ Err (Fault.Limit Bound.Key) → HasLongRow table.now changes.now }
+    ensures only { (limit : Bound) → result ≡ Err (Fault.Limit limit) → limit ≡ Bound.Key }
 {
     let mut keys = Vec::with_capacity(alloc, changes.len())?;
     for change in changes {

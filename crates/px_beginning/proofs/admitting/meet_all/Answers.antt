@@ -1,4 +1,4 @@
-use Rattle.std.proofs.Common.{◌≡◌, ◌<◌, ◌+◌, ◌∙◌, ◌++◌, ℕ, suc, List, map, take, drop, set, get_or, length, ap, arith}
+use Rattle.std.proofs.Common.{◌≡◌, ◌+◌, ◌∙◌, ◌++◌, ℕ, suc, List, map, take, drop, set, get_or, ap, arith}
 use Rattle.px_group.specs.declared.group.Begun.{Begun}
 use Rattle.px_beginning.proofs.Lists.{met_here, met_is, met_next}
 use Rattle.px_beginning.specs.Admits.{met_by}

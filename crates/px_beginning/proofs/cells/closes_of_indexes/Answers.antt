@@ -1,10 +1,9 @@
-use Rattle.std.proofs.Common.{◌≡◌, ◌∙◌, ◌++◌, ◌∷◌, [], Err, sym, refl, arith, rules}
+use Rattle.std.proofs.Common.{◌≡◌, ◌∙◌, ◌++◌, ◌∷◌, [], Err, sym, arith, rules}
 use Rattle.px_forms.specs.Indexes.{IndexForm}
-use Rattle.px_phases.specs.Phases.{HasLongIndexed, close_parts}
+use Rattle.px_phases.specs.Phases.{close_parts}
 use Rattle.px_values.specs.declared.limit.Limit.{Limit as Bound}
-use Rattle.px_group.specs.declared.group.IndexRegion.{IndexRegion}
 use Rattle.px_beginning.specs.declared.fault.BeginFault.{BeginFault as Fault}
-use Rattle.px_beginning.proofs.Lists.{all_more, kept_more, long_in_at}
+use Rattle.px_beginning.proofs.Lists.{kept_more, long_in_at}
 use Rattle.px_beginning.proofs.cells.closes_of_indexes.Goals as goal
 
 pub returns-in_err-cells-clause-long : goal.returns-in_err-cells-clause-long
@@ -20,3 +19,8 @@ loop-part-preserved c =
       count = (let n = c.loop-part.invariant.count in let m = c.push_back_reserved.ensures.len in omega arith);
       room = (let n = c.loop-part.invariant.room in let m = c.push_back_reserved.ensures.capacity in omega arith);
     }
+
+pub returns-in_err-cells-clause-only : goal.returns-in_err-cells-clause-only
+returns-in_err-cells-clause-only c limit e =
+    let m : c.closes_at.result ≡ Err (Fault.Limit limit) = search rules in
+    c.closes_at.ensures.only limit m

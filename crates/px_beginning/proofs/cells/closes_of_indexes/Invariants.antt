@@ -1,6 +1,5 @@
 use Rattle.std.proofs.Common.{◌≡◌, ◌≤◌, deque_capacity, deque_len, length, map, take}
-use Rattle.std.specs.List.{AllByRecursion}
-use Rattle.px_phases.specs.Phases.{HasLongIndexed, close_parts}
+use Rattle.px_phases.specs.Phases.{close_parts}
 use Rattle.px_beginning.specs.Reads.{forms_in}
 use Rattle.px_beginning.proofs.cells.closes_of_indexes.Given as goal
 

@@ -21,3 +21,8 @@ loop-part-preserved c =
       count = (let n = c.loop-part.invariant.count in let m = c.push_back_reserved.ensures.len in omega arith);
       room = (let n = c.loop-part.invariant.room in let m = c.push_back_reserved.ensures.capacity in omega arith);
     }
+
+pub returns-in_err-cells-clause-only : goal.returns-in_err-cells-clause-only
+returns-in_err-cells-clause-only c limit e =
+    let m : c.marks_at.result ≡ Err (Fault.Limit limit) = search rules in
+    c.marks_at.ensures.only limit m

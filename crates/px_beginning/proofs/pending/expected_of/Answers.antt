@@ -1,5 +1,4 @@
 use Rattle.std.proofs.Common.{◌∙◌, ap, sym, subst}
-use Rattle.px_cells.specs.CellData.{CellData}
 use Rattle.px_indexrow.specs.Form.{FitsState}
 use Rattle.px_openbatches.specs.Pending.{applied_if}
 use Rattle.px_phases.proofs.Assigned.{all_at}

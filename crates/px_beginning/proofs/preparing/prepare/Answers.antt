@@ -1,6 +1,6 @@
-use Rattle.std.proofs.Common.{◌≡◌, ◌≤◌, Err, List, inr, length, refl, rules, subst, sym}
+use Rattle.std.proofs.Common.{◌≡◌, ◌≤◌, Err, inr, length, refl, rules, subst, sym}
 use Rattle.std.specs.List.{AllByRecursion}
-use Rattle.px_phases.specs.Batch.{AllFit}
+use Rattle.px_phases.specs.Batch.{AllFit, BatchData}
 use Rattle.px_rows.specs.Keys.{row_key}
 use Rattle.px_values.specs.Limits.{most_key}
 use Rattle.px_values.specs.declared.change.Change.{Change}
@@ -14,6 +14,7 @@ use Rattle.px_beginning.proofs.Promised.{rooms_kept, same_promises}
 use Rattle.px_beginning.specs.Begins.{IsBatchOf, IsMadeOf}
 use Rattle.px_beginning.specs.Leaves.{LeavesGroup}
 use Rattle.px_region.proofs.Alike.{alike_refl}
+use Rattle.px_beginning.proofs.preparing.prepare.Given.{Over}
 use Rattle.px_beginning.proofs.preparing.prepare.Goals as goal
 
 pub returns-in_err-keys-clause-leaves : goal.returns-in_err-keys-clause-leaves
@@ -66,20 +67,24 @@ prepared_of-prepared-requires-clause-right g c =
     right_after c.args.group.now (record c.args.group.now { rows = c.transitions_of-read.new.rows }) leaves c.requires.right
     (rooms_kept c.args.group.now (record c.args.group.now { rows = c.transitions_of-read.new.rows }) leaves (record { rows = c.transitions_of-read.ensures.promised; indexes = same_promises c.args.group.now.indexes.items }) c.requires.right.rooms)
 
+-- the batch of what is read, by what is made of it
+batch_here : (g : Over) (c : goal.After-drop-2 g) (b : BatchData) → IsMadeOf (record c.args.group.now { rows = c.transitions_of-read.new.rows }) c.args.stamp c.args.changes.now c.as_slice-3.result.now b → IsBatchOf c.args.group.now c.args.stamp c.args.changes.now b
+batch_here g c b m = record {
+  transitions = c.as_slice-3.result.now;
+  read = read_here c.args.group.now c.as_slice.result.now c.as_slice-listed.result.now c.args.changes.now c.in_ok-transitions.transitions.items c.as_slice-3.result.now c.as_slice.ensures.value c.as_slice-listed.ensures c.as_slice-3.ensures.value c.in_ok-transitions.ensures.are c.in_ok-transitions.ensures.from;
+  made = made_here c.args.group.now c.transitions_of-read.new.rows c.args.stamp c.args.changes.now c.as_slice-3.result.now b m;
+  short = subst (AllByRecursion (λ (x : Change). length (row_key c.args.group.now.table x.row) ≤ most_key)) c.as_slice-listed.ensures c.in_ok-keys.ensures.short;
+}
+
 pub returns-clause-batch : goal.returns-clause-batch
-returns-clause-batch g c =
-    let old = c.args.group.now in
-    let cs = c.args.changes.now in
-    let ts = c.as_slice-3.result.now in
-    let read = read_here old c.as_slice.result.now c.as_slice-listed.result.now cs c.in_ok-transitions.transitions.items ts c.as_slice.ensures.value c.as_slice-listed.ensures c.as_slice-3.ensures.value c.in_ok-transitions.ensures.are c.in_ok-transitions.ensures.from in
-    if_ok (λ (p : Prepared). IsMadeOf (record old { rows = c.transitions_of-read.new.rows }) c.args.stamp cs ts p.batch) (λ (p : Prepared). IsBatchOf old c.args.stamp cs p.batch)
-    (λ p m. record {
-      transitions = ts;
-      read = read;
-      made = made_here old c.transitions_of-read.new.rows c.args.stamp cs ts p.batch m;
-      short = subst (AllByRecursion (λ (x : Change). length (row_key old.table x.row) ≤ most_key)) c.as_slice-listed.ensures c.in_ok-keys.ensures.short;
-    })
-    c.prepared_of-prepared.result c.prepared_of-prepared.ensures.made
+returns-clause-batch g c = if_ok (λ (p : Prepared). IsMadeOf (record c.args.group.now { rows = c.transitions_of-read.new.rows }) c.args.stamp c.args.changes.now c.as_slice-3.result.now p.batch) (λ (p : Prepared). IsBatchOf c.args.group.now c.args.stamp c.args.changes.now p.batch)
+    (λ p m. batch_here g c p.batch m) c.prepared_of-prepared.result c.prepared_of-prepared.ensures.made
+
+pub returns-clause-cells : goal.returns-clause-cells
+returns-clause-cells g c e = (let m = c.prepared_of-prepared.ensures.cells e in record { batch = m.batch; is = batch_here g c m.batch m.made; passes = m.passes })
+
+pub returns-clause-bytes : goal.returns-clause-bytes
+returns-clause-bytes g c e = (let m = c.prepared_of-prepared.ensures.bytes e in record { batch = m.batch; is = batch_here g c m.batch m.made; passes = m.passes })
 
 pub returns-clause-long : goal.returns-clause-long
 returns-clause-long g c e =

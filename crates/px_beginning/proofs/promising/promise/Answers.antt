@@ -1,4 +1,4 @@
-use Rattle.std.proofs.Common.{◌≡◌, ◌≤◌, ◌<◌, ◌+◌, ◌∙◌, List, length, refl, ap, arith, rules, subst, sym}
+use Rattle.std.proofs.Common.{◌≡◌, ◌≤◌, ◌+◌, ◌∙◌, List, length, refl, arith, rules, subst, sym}
 use Rattle.std.specs.Prelude.{vec_capacity, vec_len}
 use Rattle.px_beginning.proofs.Leaves.{alike_same}
 use Rattle.px_beginning.proofs.Promised.{same_promises}

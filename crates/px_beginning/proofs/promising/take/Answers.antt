@@ -1,6 +1,5 @@
-use Rattle.std.proofs.Common.{◌≡◌, ◌∙◌, Err, ap, subst, sym}
+use Rattle.std.proofs.Common.{◌≡◌, Err, ap, subst}
 use Rattle.px_beginning.specs.Refused.{IsRefusedAt}
-use Rattle.px_beginning.specs.declared.fault.BeginFault.{BeginFault as Fault}
 use Rattle.px_beginning.specs.declared.fault.BeginFault.TheVariants.{Busy}
 use Rattle.px_beginning.proofs.promising.take.Goals as goal
 

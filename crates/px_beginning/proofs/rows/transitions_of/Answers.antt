@@ -1,8 +1,7 @@
-use Rattle.std.proofs.Common.{◌≡◌, ◌∙◌, ap, sym, subst, arith, List, ◌++◌, ◌∷◌, [], take, ◌+◌}
+use Rattle.std.proofs.Common.{◌≡◌, ◌∙◌, ap, sym, subst, arith, List, take, ◌+◌}
 use Rattle.px_cells.specs.CellData.{CellData}
 use Rattle.px_phases.specs.Begun.{AreFrom}
 use Rattle.px_phases.specs.Phases.{AreTransitions}
-use Rattle.px_phases.specs.declared.transition.Transition.{Transition}
 use Rattle.px_region.specs.Region.{read_of}
 use Rattle.px_beginning.proofs.Lists.{from_more, transitions_more}
 use Rattle.px_beginning.specs.Reads.{old_in}
