@@ -1,5 +1,5 @@
 -- An index is made: what is true of a server stays so.
-use Rattle.std.proofs.Common.{◌≡◌, ◌≢◌, ◌<◌, ◌≤◌, ◌⊎◌, ◌+◌, inl, inr, ℕ, Bool, true, false, ◌||◌, Option, Some, None, List, [], ◌∷◌, ◌++◌, get_or, length, slice_get, refl, sym, ap, subst, ◌∙◌, arith}
+use Rattle.std.proofs.Common.{◌≡◌, ◌<◌, ◌≤◌, ◌⊎◌, ◌+◌, inl, inr, ℕ, Bool, true, false, ◌||◌, Option, Some, None, List, [], ◌∷◌, ◌++◌, get_or, length, slice_get, refl, sym, ap, subst, ◌∙◌, arith}
 use Rattle.std.specs.Prelude.{IsTrue, nat_eq, sum_by}
 use Rattle.std.specs.List.{AllByRecursion, slice_set}
 use Rattle.std.proofs.lemmas.Bool.{eqb-true}
@@ -9,9 +9,7 @@ use Rattle.px_outside.specs.declared.disk.Disk.{Ghosts}
 use Rattle.px_values.specs.declared.name.IndexId.{IndexId}
 use Rattle.px_values.specs.declared.name.TableId.{TableId}
 use Rattle.px_tables.specs.declared.index.Index.{Index}
-use Rattle.px_tables.specs.declared.index.IndexState.TheVariants.{Disabled}
 use Rattle.px_tables.specs.declared.index.NewIndex.{NewIndex}
-use Rattle.px_tables.specs.declared.table.Table.{Table}
 use Rattle.px_trail.specs.declared.entry.Act.{Act}
 use Rattle.px_trail.specs.declared.entry.Act.TheVariants.{IndexMade}
 use Rattle.px_trail.specs.declared.entry.Entry.{Entry}
@@ -33,7 +31,6 @@ use Rattle.px_catalog.specs.declared.catalog.Catalog.{Catalog}
 use Rattle.px_groupworld.specs.Group.{GroupData}
 use Rattle.px_groupworld.specs.Steps.{born_data}
 use Rattle.px_group.specs.Group.{IsRightGroup}
-use Rattle.px_group.specs.declared.group.Begun.{Begun}
 use Rattle.px_group.specs.declared.group.Group.{Group}
 use Rattle.px_group.specs.declared.group.IndexRegion.{IndexRegion}
 use Rattle.px_defined.specs.Defined.{HasIndexMore, HasOnce, IsSameBeside}
@@ -44,11 +41,11 @@ use Rattle.px_defined.proofs.Right.{right_more}
 use Rattle.px_recovery.specs.Folder.{AreFresh, AreUnmade, FolderData, IsAmong, from, region_numbers, with_standing}
 use Rattle.px_recovery.specs.Stands.{Explains}
 use Rattle.px_recovery.proofs.Births.{index_made as folder_made}
-use Rattle.px_standing.specs.Agrees.{Agrees, opened_standing}
+use Rattle.px_standing.specs.Agrees.{Agrees}
 use Rattle.px_standing.proofs.Defined.{index_made as agrees_made}
-use Rattle.px_server.specs.Kept.{HasFailed, HasPoints, HasShown, HasTallied, HasTrailRoom, IsKept, IsOnDisk, IsShutAt, owed, owed_by}
+use Rattle.px_server.specs.Kept.{HasFailed, HasShown, HasTallied, HasTrailRoom, IsKept, IsOnDisk, IsShutAt, owed, owed_by}
 use Rattle.px_server.specs.Others.{Beginning}
-use Rattle.px_server.proofs.Catalogued.{AreForms, define_failed}
+use Rattle.px_server.proofs.Catalogued.{define_failed}
 use Rattle.px_server.proofs.Defines.{Defines}
 use Rattle.px_server.proofs.Drawn.{regions_in}
 use Rattle.px_server.proofs.IndexBorn.{has_shown_born, has_tallied_born}

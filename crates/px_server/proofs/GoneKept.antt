@@ -1,5 +1,5 @@
 -- An index is dropped: what is true of a server stays so.
-use Rattle.std.proofs.Common.{◌≡◌, ◌≢◌, ◌<◌, ◌≤◌, ◌⊎◌, ◌+◌, inl, inr, ℕ, Option, Some, None, List, [], ◌∷◌, ◌++◌, get_or, length, map, slice_get, refl, sym, ap, subst, ◌∙◌, arith}
+use Rattle.std.proofs.Common.{◌≡◌, ◌<◌, ◌≤◌, ◌⊎◌, ◌+◌, ℕ, Option, Some, None, List, [], ◌∷◌, ◌++◌, get_or, length, map, slice_get, refl, sym, ap, subst, ◌∙◌}
 use Rattle.std.specs.Prelude.{IsTrue, not, sum_by, ◌==◌}
 use Rattle.std.specs.List.{AllByRecursion, slice_set}
 use Rattle.px_outside.specs.OnDisk.{LeavesOnly, Passes, TouchesOnly}
@@ -8,7 +8,6 @@ use Rattle.px_outside.specs.declared.disk.Disk.{Ghosts}
 use Rattle.px_values.specs.declared.name.IndexId.{IndexId}
 use Rattle.px_values.specs.declared.name.TableId.{TableId}
 use Rattle.px_tables.specs.declared.index.Index.{Index}
-use Rattle.px_trail.specs.declared.entry.Act.{Act}
 use Rattle.px_trail.specs.declared.entry.Act.TheVariants.{Dropped}
 use Rattle.px_trail.specs.declared.entry.Entry.{Entry}
 use Rattle.px_trail.specs.Legal.{MayCome}
@@ -25,10 +24,9 @@ use Rattle.px_catalog.specs.declared.catalog.Catalog.{Catalog}
 use Rattle.px_groupworld.specs.Group.{GroupData}
 use Rattle.px_openbatches.specs.Pending.{HeldBatch}
 use Rattle.px_tablesteps.specs.Kept.{open_of}
-use Rattle.px_group.specs.Group.{IsRightGroup}
 use Rattle.px_group.specs.declared.group.Group.{Group}
 use Rattle.px_group.specs.declared.group.IndexRegion.{IndexRegion}
-use Rattle.px_defined.specs.Defined.{HasIndexLess, HasOnce, dropped_data}
+use Rattle.px_defined.specs.Defined.{HasIndexLess, dropped_data}
 use Rattle.px_defined.proofs.Going.{none_open}
 use Rattle.px_defined.proofs.Lists.{from_filter}
 use Rattle.px_defined.proofs.Once.{once_less}
@@ -39,7 +37,7 @@ use Rattle.px_recovery.specs.Tables.{index_in}
 use Rattle.px_recovery.proofs.IndexDrops.{index_gone as folder_gone}
 use Rattle.px_standing.specs.Agrees.{Agrees}
 use Rattle.px_standing.proofs.Defined.{index_gone as agrees_gone}
-use Rattle.px_server.specs.Kept.{HasFailed, HasPoints, HasShown, HasTallied, HasTrailRoom, IsKept, IsOnDisk, IsShutAt, owed}
+use Rattle.px_server.specs.Kept.{HasFailed, HasShown, HasTallied, HasTrailRoom, IsKept, IsOnDisk, IsShutAt, owed}
 use Rattle.px_server.specs.Others.{Beginning}
 use Rattle.px_server.proofs.BornKept.{same_owed}
 use Rattle.px_server.proofs.Catalogued.{define_failed}

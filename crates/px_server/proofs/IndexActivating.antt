@@ -1,5 +1,5 @@
 -- An index becomes active, as the code makes it so.
-use Rattle.std.proofs.Common.{◌≡◌, ◌≢◌, ◌<◌, ◌≤◌, ◌⊎◌, ◌+◌, ◌↔◌, ℕ, Bool, true, false, Option, Some, None, List, [], ◌∷◌, ◌++◌, IsSome, get_or, length, slice_get, refl, sym, ap, subst, ◌∙◌, arith}
+use Rattle.std.proofs.Common.{◌≡◌, ◌<◌, ◌≤◌, ◌⊎◌, ◌+◌, ◌↔◌, ℕ, Bool, true, false, Option, Some, None, List, [], ◌∷◌, ◌++◌, IsSome, get_or, length, slice_get, refl, sym, ap, subst, ◌∙◌}
 use Rattle.std.specs.Prelude.{IsTrue, sum_by}
 use Rattle.std.specs.List.{slice_set}
 use Rattle.std.proofs.lemmas.Bool.{false≢true}
@@ -18,7 +18,7 @@ use Rattle.px_trail.specs.Legal.{MayCome}
 use Rattle.px_trail.specs.Recorded.{Recorded}
 use Rattle.px_values.specs.States.{RowState}
 use Rattle.px_trail.specs.States.{state_of}
-use Rattle.px_trail.specs.Trail.{Base, catalogue_of, horizon_of, index_of, table_of}
+use Rattle.px_trail.specs.Trail.{Base, horizon_of, index_of, table_of}
 use Rattle.px_forms.specs.Indexes.{IndexForm}
 use Rattle.px_calls.specs.Calls.{DidDefine}
 use Rattle.px_calls.specs.Causes.{LacksIndex}
@@ -40,7 +40,6 @@ use Rattle.px_defined.specs.Defined.{HasActive}
 use Rattle.px_defined.proofs.Lists as placed
 use Rattle.px_reading.specs.Looked.{AreLookedAt, HasLooked, IsLookedAt}
 use Rattle.px_reading.proofs.Looked.{still_shown}
-use Rattle.px_recovery.specs.Tables.{index_in}
 use Rattle.px_server.specs.Kept.{HasFailed, HasTallied, HasTrailRoom, IsKept, IsShutAt, owed}
 use Rattle.px_server.specs.Others.{Beginning}
 use Rattle.px_server.specs.declared.defining.prepared.IndexToActivate.{IndexToActivate}

@@ -1,5 +1,5 @@
 -- What the definitions of indexes answer.
-use Rattle.std.proofs.Common.{◌≡◌, ◌≢◌, ◌<◌, ◌≤◌, ◌+◌, ℕ, Bool, true, Option, None, Some, List, [], ◌∷◌, ◌++◌, length, get_or, refl, sym, ap, subst, ◌∙◌, arith}
+use Rattle.std.proofs.Common.{◌≡◌, ◌<◌, ◌≤◌, ℕ, Bool, true, Option, None, Some, List, [], ◌∷◌, ◌++◌, length, get_or, refl, sym, ap, subst, ◌∙◌, arith}
 use Rattle.px_outside.specs.declared.disk.Disk.{Ghosts}
 use Rattle.px_values.specs.Limits.{most_of}
 use Rattle.px_values.specs.States.{RowState}
@@ -19,7 +19,6 @@ use Rattle.px_calls.specs.Calls.{DidDefine}
 use Rattle.px_calls.specs.Causes.{HasState, HasUnwritten}
 use Rattle.px_calls.specs.Known.{Known}
 use Rattle.px_calls.specs.declared.definition.Definition.TheVariants as d
-use Rattle.px_calls.specs.declared.definition.Made.{Made}
 use Rattle.px_schema.specs.declared.standing.Standing.{Standing}
 use Rattle.px_catalog.specs.declared.catalog.Catalog.{Catalog}
 use Rattle.px_group.specs.declared.group.Group.{Group}

@@ -1,5 +1,5 @@
 -- What a group shows when an index of its table is made.
-use Rattle.std.proofs.Common.{◌≡◌, ◌≢◌, ◌<◌, inl, inr, ℕ, false, List, [], ◌∷◌, ◌++◌, length, get_or, slice_get, Some, refl, sym, ap, subst, ◌∙◌, arith}
+use Rattle.std.proofs.Common.{◌≡◌, ◌<◌, inl, inr, ℕ, false, List, [], ◌∷◌, ◌++◌, length, get_or, slice_get, Some, refl, sym, ap, subst, ◌∙◌, arith}
 use Rattle.std.proofs.Math.ListN.{get_or-append}
 use Rattle.px_outside.specs.Parts.{with_part}
 use Rattle.px_outside.proofs.Parts.{with_part-here}
@@ -8,7 +8,6 @@ use Rattle.px_values.specs.declared.name.TableId.{TableId}
 use Rattle.px_tables.specs.declared.index.Index.{Index}
 use Rattle.px_tables.specs.declared.index.NewIndex.{NewIndex}
 use Rattle.px_tables.specs.declared.table.Table.{Table}
-use Rattle.px_trail.specs.declared.entry.Act.{Act}
 use Rattle.px_trail.specs.declared.entry.Act.TheVariants.{IndexMade}
 use Rattle.px_trail.specs.declared.entry.Entry.{Entry}
 use Rattle.px_trail.specs.Legal.{IsLegal, MayCome}

@@ -23,7 +23,7 @@ use Rattle.px_openbatches.specs.Pending.{HeldBatch}
 use Rattle.px_defined.specs.Defined.{has_to_write}
 use Rattle.px_defined.proofs.Pending.{pending}
 use Rattle.px_standing.specs.Agrees.{Agrees, IsUnused}
-use Rattle.px_standing.proofs.Looked.{free, lacks, stands_at, taken}
+use Rattle.px_standing.proofs.Looked.{free, lacks, taken}
 use Rattle.px_standing.proofs.Counted.{indexes_counted, runs_out}
 use Rattle.px_server.specs.inner.Indexing.{MayMakeIndex}
 use Rattle.px_server.proofs.Found.{closed_by}

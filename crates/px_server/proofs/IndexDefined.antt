@@ -1,5 +1,5 @@
 -- A definition that changes the group of one table that stands, and no table: what is true of a server stays so.
-use Rattle.std.proofs.Common.{◌≡◌, ◌≢◌, ◌<◌, ◌≤◌, ◌⊎◌, ◌+◌, ℕ, Option, Some, None, List, [], ◌∷◌, ◌++◌, get_or, length, map, refl, sym, ap, subst, ◌∙◌, arith}
+use Rattle.std.proofs.Common.{◌≡◌, ◌≢◌, ◌<◌, ◌≤◌, ◌⊎◌, ◌+◌, ℕ, Option, None, List, [], ◌∷◌, ◌++◌, get_or, length, sym, ap, subst, ◌∙◌, arith}
 use Rattle.std.specs.Prelude.{IsTrue, sum_by}
 use Rattle.std.specs.List.{AllByRecursion, slice_set}
 use Rattle.std.proofs.lemmas.List.Sums.{sum_by-set}
@@ -9,7 +9,6 @@ use Rattle.px_outside.specs.declared.disk.Disk.{Ghosts}
 use Rattle.px_outside.proofs.Parts.{with_part-other}
 use Rattle.px_values.specs.declared.name.TableId.{TableId}
 use Rattle.px_tables.specs.declared.index.Index.{Index}
-use Rattle.px_tables.specs.declared.table.Table.{Table}
 use Rattle.px_trail.specs.declared.entry.Entry.{Entry}
 use Rattle.px_trail.specs.Legal.{MayCome}
 use Rattle.px_trail.specs.Recorded.{Recorded}

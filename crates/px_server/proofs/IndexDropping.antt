@@ -1,5 +1,5 @@
 -- An index is dropped, as the code drops it.
-use Rattle.std.proofs.Common.{◌≡◌, ◌≢◌, ◌<◌, ◌≤◌, ◌⊎◌, ◌+◌, ℕ, Bool, true, zero, suc, Option, Some, None, List, [], ◌∷◌, ◌++◌, IsSome, get_or, length, refl, sym, ap, subst, ◌∙◌, arith}
+use Rattle.std.proofs.Common.{◌≡◌, ◌<◌, ◌≤◌, ◌⊎◌, ◌+◌, ℕ, Bool, true, Option, Some, None, List, [], ◌∷◌, ◌++◌, IsSome, get_or, length, refl, sym, ap, subst, ◌∙◌, arith}
 use Rattle.std.specs.Prelude.{IsTrue, sum_by}
 use Rattle.std.specs.List.{slice_set}
 use Rattle.px_outside.specs.OnDisk.{LeavesOnly, Passes, TouchesOnly}

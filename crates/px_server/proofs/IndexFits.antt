@@ -16,7 +16,6 @@ use Rattle.px_calls.specs.Requires.{IsNewIndex}
 use Rattle.px_defined.proofs.News.{new_index_right}
 use Rattle.px_indexrow.specs.Form.{IsRightIndex}
 use Rattle.px_pieces.specs.Numbers.{one_of_right}
-use Rattle.px_schema.specs.Format.{number_of_index, number_of_table}
 use Rattle.px_schema.specs.Records.{IsRight}
 use Rattle.px_schema.specs.declared.item.CatalogItem.TheVariants.{IndexGone, IndexIs}
 use Rattle.px_schema.specs.declared.standing.Standing.{Standing}

@@ -1,5 +1,5 @@
 -- What a group shows when an index of its table is dropped.
-use Rattle.std.proofs.Common.{◌≡◌, ◌≢◌, ◌<◌, ℕ, Bool, true, false, List, [], ◌∷◌, ◌++◌, length, map, get_or, slice_get, Some, refl, sym, ap, subst, ◌∙◌, arith}
+use Rattle.std.proofs.Common.{◌≡◌, ℕ, Bool, List, [], ◌∷◌, ◌++◌, map, slice_get, Some, refl, sym, ap, subst, ◌∙◌}
 use Rattle.std.specs.Prelude.{filter, not, ◌==◌}
 use Rattle.px_outside.specs.Parts.{with_part}
 use Rattle.px_outside.proofs.Parts.{with_part-here}
@@ -7,7 +7,6 @@ use Rattle.px_values.specs.declared.name.IndexId.{IndexId}
 use Rattle.px_values.specs.declared.name.TableId.{TableId}
 use Rattle.px_tables.specs.declared.index.Index.{Index}
 use Rattle.px_tables.specs.declared.table.Table.{Table}
-use Rattle.px_trail.specs.declared.entry.Act.{Act}
 use Rattle.px_trail.specs.declared.entry.Act.TheVariants.{Dropped}
 use Rattle.px_trail.specs.declared.entry.Entry.{Entry}
 use Rattle.px_trail.specs.Legal.{MayCome}
@@ -20,7 +19,7 @@ use Rattle.px_openbatches.specs.Pending.{HeldBatch}
 use Rattle.px_tablesteps.specs.Kept.{open_of}
 use Rattle.px_tablereads.specs.Told.{AreTold}
 use Rattle.px_tablereads.proofs.Tells.{quiet_written, told_same}
-use Rattle.px_group.specs.Group.{IsPartOf, IsShownBy, IsTallied, form_of}
+use Rattle.px_group.specs.Group.{IsShownBy, IsTallied, form_of}
 use Rattle.px_group.specs.declared.group.Group.{Group}
 use Rattle.px_group.specs.declared.group.IndexRegion.{IndexRegion}
 use Rattle.px_defined.specs.Defined.{HasIndexLess, dropped_data}

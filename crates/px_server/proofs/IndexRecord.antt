@@ -1,5 +1,5 @@
 -- An index fits the record of its definition.
-use Rattle.std.proofs.Common.{◌≡◌, ◌<◌, ◌≤◌, ◌^◌, inl, inr, ℕ, zero, suc, Bool, true, false, List, [], ◌∷◌, length, get_or, map, refl, sym, ap, subst, ◌∙◌, Some, arith}
+use Rattle.std.proofs.Common.{◌≡◌, ◌<◌, ◌≤◌, ◌^◌, inl, inr, ℕ, suc, Bool, true, false, List, [], ◌∷◌, length, get_or, map, refl, sym, ap, subst, ◌∙◌, Some, arith}
 use Rattle.std.specs.Prelude.{◌==◌, ◌||◌, if◌then◌else◌, min}
 use Rattle.std.specs.List.{All, AllByRecursion, list_any}
 use Rattle.std.proofs.lemmas.Bool.{cases_eq, eq-eqb, ne_eqb}
@@ -15,8 +15,8 @@ use Rattle.px_pieces.specs.Bytes.{one_byte, within_true}
 use Rattle.px_pieces.specs.Chains.{listed_right}
 use Rattle.px_pieces.specs.Numbers.{fits_number, one_of_right}
 use Rattle.px_schema.specs.Format.{birth, index, number_of_table, width_of}
-use Rattle.px_schema.specs.Parts.{direction, greatest_id, greatest_stamp, id, name, no_part, part, parts, place, places, some_count, state}
-use Rattle.px_indexrow.specs.Form.{IsRightIndex, included_at}
+use Rattle.px_schema.specs.Parts.{direction, greatest_id, greatest_stamp, id, no_part, part, parts, place, places, some_count, state}
+use Rattle.px_indexrow.specs.Form.{IsRightIndex}
 use Rattle.px_recovery.specs.Tables.{table_in}
 use Rattle.px_server.specs.inner.Fitting.{FitsRecord}
 

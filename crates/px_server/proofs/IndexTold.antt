@@ -1,12 +1,12 @@
 -- What the trail tells of a new index.
-use Rattle.std.proofs.Common.{◌≡◌, ◌<◌, ◌≤◌, ℕ, Option, None, Some, List, [], ◌∷◌, ◌++◌, filter, refl, sym, ap, subst, ◌∙◌, arith}
+use Rattle.std.proofs.Common.{◌≡◌, ◌≤◌, ℕ, Option, None, Some, List, [], ◌∷◌, ◌++◌, filter, sym, ap, subst, ◌∙◌}
 use Rattle.std.proofs.lemmas.List.{append-nil}
 use Rattle.px_values.specs.declared.name.IndexId.{IndexId}
 use Rattle.px_values.specs.declared.name.TableId.{TableId}
 use Rattle.px_values.specs.declared.row.Value.{Value}
-use Rattle.px_values.specs.States.{RowState, Shape}
+use Rattle.px_values.specs.States.{Shape}
 use Rattle.px_tables.specs.declared.index.NewIndex.{NewIndex}
-use Rattle.px_trail.specs.Batches.{Batch, batch_of, batch_step, unwritten}
+use Rattle.px_trail.specs.Batches.{Batch, batch_of, batch_step}
 use Rattle.px_trail.specs.States.{Dated, applied, begun, begun_by, greatest_stamp, is_written, is_written_in, state_of, written}
 use Rattle.px_trail.specs.Trail.{Base, last_of, shape_of, shape_step}
 use Rattle.px_trail.specs.declared.entry.Act.{Act}
@@ -20,8 +20,6 @@ use Rattle.px_history.specs.Rows.{state_by}
 use Rattle.px_openbatches.specs.Pending.{HeldBatch}
 use Rattle.px_openbatches.proofs.Pendings.{state_still}
 use Rattle.px_rows.specs.Spelled.{row_form}
-use Rattle.px_calls.specs.Causes.{HasUnwritten}
-use Rattle.px_calls.specs.Known.{Known}
 use Rattle.px_group.specs.Group.{IsShownBy, form_of}
 use Rattle.px_group.specs.declared.group.Group.{Group}
 

@@ -52,6 +52,7 @@ pub mod Numbers
 pub mod OpenBatches
 pub mod Others
 pub mod Opened
+pub mod Orders
 pub mod OwnRows
 pub mod Phased
 pub mod PointMoved

@@ -1,6 +1,8 @@
 -- One element of a list is changed, and the others are kept.
-use Rattle.std.proofs.Common.{◌≡◌, ◌≢◌, ◌<◌, ℕ, zero, suc, List, [], ◌∷◌, length, get_or, map, sym, ap, subst, ◌∙◌, arith}
-use Rattle.std.specs.List.{AllByRecursion, slice_set}
+use Rattle.std.proofs.Common.{◌≡◌, ◌≢◌, ◌+◌, ◌<◌, ◌≤◌, ℕ, zero, suc, List, [], ◌∷◌, Some, length, get_or, map, refl, sym, ap, subst, ◌∙◌, arith}
+use Rattle.std.proofs.lemmas.List.Sums.{sum_by-cons}
+use Rattle.std.specs.Prelude.{sum_by}
+use Rattle.std.specs.List.{AllByRecursion, slice_get, slice_set}
 use Rattle.px_outside.specs.Parts.{AreDistinct, HasNone}
 use Rattle.px_standing.specs.Agrees.{AreRisingBy}
 
@@ -33,6 +35,17 @@ pub map_set : {A B : Type 0} (f : A → B) (gs : List A) (i : ℕ) (g g' : A) �
 map_set f [] i g g' l is same = absurd (omega (arith, l))
 map_set f (y ∷ ys) zero g g' l is same = ap (λ z. z ∷ map f ys) (same ∙ ap f (sym is))
 map_set f (y ∷ ys) (suc i) g g' l is same = ap (λ zs. f y ∷ zs) (map_set f ys i g g' (omega (arith, l)) is same)
+
+pub got_set : {A : Type 0} (gs : List A) (i : ℕ) (g' : A) → i < length gs → slice_get (slice_set gs i g') i ≡ Some g'
+got_set [] i g' l = absurd (omega (arith, l))
+got_set (y ∷ ys) zero g' l = refl
+got_set (y ∷ ys) (suc i) g' l = got_set ys i g' (omega (arith, l))
+
+-- where one element is greater by one at most, so is the sum
+pub sum_set : {A : Type 0} (f : A → ℕ) (gs : List A) (i : ℕ) (g g' : A) → i < length gs → get_or gs i g ≡ g → f g' ≤ f g + 1 → sum_by f (slice_set gs i g') ≤ sum_by f gs + 1
+sum_set f [] i g g' l is more = absurd (omega (arith, l))
+sum_set f (y ∷ ys) zero g g' l is more = (let e = ap f is in let a = sum_by-cons f g' ys in let b = sum_by-cons f y ys in omega (arith, e, more, a, b))
+sum_set f (y ∷ ys) (suc i) g g' l is more = (let r = sum_set f ys i g g' (omega (arith, l)) is more in let a = sum_by-cons f y (slice_set ys i g') in let b = sum_by-cons f y ys in omega (arith, r, a, b))
 
 pub rising_distinct : {A : Type 0} (num : A → ℕ) (xs : List A) → AreRisingBy num xs → AreDistinct num xs
 rising_distinct num [] up = tt

@@ -1,6 +1,6 @@
 -- A group that was looked at: what is true of a server stays so, with no entry.
-use Rattle.std.proofs.Common.{◌≡◌, ◌<◌, ◌≤◌, ◌+◌, ℕ, Option, None, Some, List, [], ◌∷◌, length, get_or, map, refl, sym, ap, subst, ◌∙◌, arith}
-use Rattle.std.specs.Prelude.{◌≢◌, slice_get, sum_by}
+use Rattle.std.proofs.Common.{◌≡◌, ◌<◌, ◌+◌, ℕ, Option, List, [], ◌∷◌, length, get_or, map, refl, sym, ap, subst, ◌∙◌, arith}
+use Rattle.std.specs.Prelude.{◌≢◌, sum_by}
 use Rattle.std.specs.List.{AllByRecursion, slice_set}
 use Rattle.std.proofs.lemmas.List.Sums.{sum_by-cons, sum_by-set}
 use Rattle.px_outside.specs.Parts.{AreDistinct}
@@ -24,9 +24,9 @@ use Rattle.px_reading.specs.Looked.{AreLookedAt, HasLooked, IsLookedAt}
 use Rattle.px_reading.proofs.Asked.{looked_told}
 use Rattle.px_reading.proofs.Looked.{looked_back, still_right, still_shown, still_tallied}
 use Rattle.px_recovery.specs.Folder.{FolderData}
-use Rattle.px_server.specs.Kept.{AreGroups, AreShown, HasBegun, HasParts, HasPoints, HasShown, HasTallied, HasTrailRoom, IsKept, IsOnDisk, forms_in, number_in, owed, table_in_group}
+use Rattle.px_server.specs.Kept.{HasBegun, HasParts, HasPoints, HasShown, HasTallied, HasTrailRoom, IsKept, IsOnDisk, forms_in, number_in, owed, table_in_group}
 use Rattle.px_server.specs.Others.{Beginning}
-use Rattle.px_server.specs.Shown.{LoggedCells, logged_at, logged_in}
+use Rattle.px_server.specs.Shown.{logged_at, logged_in}
 use Rattle.px_server.proofs.Lists.{all_at, all_set, map_set}
 use Rattle.px_server.proofs.Noted.{with_parts}
 use Rattle.px_server.proofs.Pointed.{distinct_groups}

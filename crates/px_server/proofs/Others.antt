@@ -1,12 +1,12 @@
 -- Files of no part stay as they were, from call to call.
-use Rattle.std.proofs.Common.{◌≡◌, ◌<◌, ◌≤◌, ◌⊎◌, inl, inr, ℕ, List, [], ◌∷◌, ◌++◌, refl, sym, subst, ◌∙◌, arith, append-nil, append_assoc}
+use Rattle.std.proofs.Common.{◌≡◌, ◌<◌, ◌≤◌, ◌⊎◌, inl, inr, ℕ, List, [], ◌++◌, sym, subst, ◌∙◌, arith, append-nil, append_assoc}
 use Rattle.std.proofs.lemmas.Bool.{cases_lt}
 use Rattle.px_outside.specs.OnDisk.{TouchesOnly}
 use Rattle.px_outside.specs.declared.disk.Disk.{Ghosts}
 use Rattle.px_trail.specs.Trail.{Base, catalogue_of}
 use Rattle.px_trail.specs.declared.entry.Entry.{Entry}
 use Rattle.px_wal.specs.Files.{HasFile}
-use Rattle.px_server.specs.Others.{Beginning, BeginsAt, IsRegion, IsOfRegion, OthersStay, WasRegion, part_files}
+use Rattle.px_server.specs.Others.{Beginning, BeginsAt, IsRegion, OthersStay, part_files}
 
 -- a region that stands now
 pub own_file : (b : Base) (es : List Entry) (n : ℕ) → IsRegion (catalogue_of b es) n → (file : ℕ) → HasFile n file → part_files b es file

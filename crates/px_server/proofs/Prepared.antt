@@ -1,10 +1,9 @@
 -- A step of one region's files, to which no cell is handed: what is true of its table stays so.
-use Rattle.std.proofs.Common.{◌≡◌, ◌≢◌, ◌<◌, ◌≤◌, ◌+◌, ◌⊎◌, inl, inr, ℕ, zero, suc, Result, Ok, Err, OnOk, Option, None, Some, List, [], ◌∷◌, ◌++◌, length, get_or, slice_get, set, refl, sym, ap, subst, ◌∙◌, arith}
+use Rattle.std.proofs.Common.{◌≡◌, ◌≢◌, ◌<◌, ◌≤◌, ◌⊎◌, inl, inr, ℕ, zero, suc, Result, Ok, Err, OnOk, Some, List, [], ◌∷◌, length, get_or, slice_get, set, refl, sym, ap, subst, ◌∙◌, arith}
 use Rattle.std.specs.Prelude.{sum_by}
 use Rattle.std.specs.List.{AllByRecursion}
 use Rattle.std.proofs.Math.ListN.{length-set}
 use Rattle.std.proofs.lemmas.Bool.{cases_eq}
-use Rattle.px_outside.specs.Disk.{Image}
 use Rattle.px_outside.specs.OnDisk.{LeavesOnly, Passes, TouchesOnly}
 use Rattle.px_outside.specs.Parts.{with_part}
 use Rattle.px_outside.specs.declared.disk.Disk.{Ghosts}
@@ -13,7 +12,7 @@ use Rattle.px_cells.specs.CellData.{CellData}
 use Rattle.px_cells.specs.Order.{ReadsSame}
 use Rattle.px_wal.specs.Files.{HasFile}
 use Rattle.px_region.specs.Promise.{IsSamePromise}
-use Rattle.px_region.specs.Region.{Holds, RegionData, Stands, data_of, read_of, with_batch}
+use Rattle.px_region.specs.Region.{Holds, RegionData, Stands, data_of, read_of}
 use Rattle.px_region.specs.declared.region.Region.{Region}
 use Rattle.px_cellshapes.specs.Keys.{AreRightKeys}
 use Rattle.px_cellshapes.specs.Rows.{AreRightRows}
@@ -25,10 +24,9 @@ use Rattle.px_openbatches.specs.Pending.{HeldBatch}
 use Rattle.px_tables.specs.declared.index.Index.{Index}
 use Rattle.px_trail.specs.Trail.{Base}
 use Rattle.px_trail.specs.declared.entry.Entry.{Entry}
-use Rattle.px_group.specs.Group.{AreTraced, IsPartOf, IsRightBatch, IsRightGroup, IsRightPart, IsShownBy, IsTallied, region_of}
+use Rattle.px_group.specs.Group.{AreTraced, IsPartOf, IsRightBatch, IsRightGroup, IsRightPart, IsShownBy, IsTallied}
 use Rattle.px_group.specs.Room.{HasPromised, bytes_at, cells_at}
 use Rattle.px_group.specs.Writing.{HasWritten, WritesTo}
-use Rattle.px_group.specs.declared.group.Begun.{Begun}
 use Rattle.px_group.specs.declared.group.Group.{Group}
 use Rattle.px_group.specs.declared.group.IndexRegion.{IndexRegion}
 use Rattle.px_batching.proofs.Handed.{same_data}
@@ -36,9 +34,8 @@ use Rattle.px_batching.proofs.Pairs.{to_tied}
 use Rattle.px_batching.proofs.Places.{all_at, all_more, all_set, same_at, set_back, set_cases, set_here, set_other, within}
 use Rattle.px_batching.proofs.Right.{SameIndexes, right_moves}
 use Rattle.px_batching.proofs.Tallied.{AreStill, tallied_on, tells_same}
-use Rattle.px_reading.specs.Doubts.{IsToldBy}
 use Rattle.px_recovery.specs.Folder.{FolderData, with_region}
-use Rattle.px_server.specs.Upkeep.{StepsIndex, StepsOn, StepsRows}
+use Rattle.px_server.specs.Upkeep.{StepsIndex, StepsRows}
 use Rattle.px_server.proofs.Handed.{IndexShows, RowsShow, ToIndex, ToRows}
 
 -- ---- a region

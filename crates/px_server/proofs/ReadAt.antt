@@ -1,6 +1,7 @@
 -- What is read at a point.
 use Rattle.std.proofs.Common.{◌≡◌, ◌<◌, ℕ, Option, None, Some, List, length, get_or, refl, sym, ap, ◌∙◌, subst}
 use Rattle.std.specs.Prelude.{◌↔◌, slice_get}
+use Rattle.std.specs.List.{slice_set}
 use Rattle.px_tables.specs.declared.index.Index.{Index}
 use Rattle.px_trail.specs.Legal.{IsLegal}
 use Rattle.px_trail.specs.Trail.{Base, closing_call}
@@ -10,6 +11,7 @@ use Rattle.px_calls.specs.Causes.{Refuses, read_cause}
 use Rattle.px_calls.specs.Known.{Known}
 use Rattle.px_calls.specs.Looks.{Shows, ShowsRows}
 use Rattle.px_calls.specs.declared.fault.StepFault.TheVariants.{Memory}
+use Rattle.px_calls.specs.declared.query.By.{By}
 use Rattle.px_calls.specs.declared.query.Chunk.{Chunk}
 use Rattle.px_calls.specs.declared.query.Doubt.{Doubt}
 use Rattle.px_calls.specs.declared.query.FoundKey.{FoundKey}
@@ -29,11 +31,12 @@ use Rattle.px_indexrow.specs.declared.doubt.Repair.{Repair}
 use Rattle.px_indexrow.specs.declared.doubt.Repair.TheVariants as repairs
 use Rattle.px_group.specs.Group.{IsShownBy, IsTallied}
 use Rattle.px_group.specs.declared.group.Group.{Group}
+use Rattle.px_pointreads.specs.Counted.{HasCountedBy}
 use Rattle.px_pointreads.specs.Points.{AreOfIndex, IsReadAt}
 use Rattle.px_repairs.proofs.Handing.{got_some}
 use Rattle.px_server.specs.Kept.{AreShown, HasShown, HasTallied, forms_in}
-use Rattle.px_server.specs.Looks.{AreOfIndexAt}
-use Rattle.px_server.proofs.Lists.{all_at}
+use Rattle.px_server.specs.Looks.{AreOfIndexAt, HasCountedOf}
+use Rattle.px_server.proofs.Lists.{all_at, got_set}
 use Rattle.px_server.proofs.Seen.{stays}
 
 -- the group that was found, in the list that was looked through
@@ -51,6 +54,18 @@ versions_at p groups xs place g d same l read at i found fs is of = record {
   at = got_some groups place d g (inside groups xs place same l) at;
   read = read_at p groups xs place g d same l read at;
   of = subst (AreOfIndex g p i) (sym is) of;
+}
+
+-- and by which region they are counted
+pub counted_at : (p : Point) (groups xs : List Group) (place : ℕ) (g d g' : Group) → xs ≡ groups → place < length xs → ((h : Group) → slice_get xs place ≡ Some h → IsReadAt h p) → g ≡ get_or groups place d → (by : By) (found fs : List FoundKey) → fs ≡ found → HasCountedBy g g' by (length found) → HasCountedOf groups (slice_set groups place g') p by (length fs)
+counted_at p groups xs place g d g' same l read at by found fs is counted = record {
+  place = place;
+  before = g;
+  at = got_some groups place d g (inside groups xs place same l) at;
+  read = read_at p groups xs place g d same l read at;
+  after = g';
+  at_after = got_set groups place g' (inside groups xs place same l);
+  counted = subst (λ (ks : List FoundKey). HasCountedBy g g' by (length ks)) (sym is) counted;
 }
 
 some_same : {A : Type 0} (a b : A) → Some a ≡ Some b → a ≡ b

@@ -1,5 +1,5 @@
 -- An index becomes active: what is true of a server stays so.
-use Rattle.std.proofs.Common.{◌≡◌, ◌≢◌, ◌<◌, ◌≤◌, ◌⊎◌, ◌+◌, inl, inr, ℕ, true, Option, Some, None, List, [], ◌∷◌, ◌++◌, get_or, length, map, slice_get, refl, sym, ap, subst, ◌∙◌, arith}
+use Rattle.std.proofs.Common.{◌≡◌, ◌<◌, ◌≤◌, ◌⊎◌, ◌+◌, inl, inr, ℕ, true, Option, Some, None, List, [], ◌∷◌, ◌++◌, get_or, length, map, slice_get, refl, sym, ap, subst, ◌∙◌, arith}
 use Rattle.std.specs.Prelude.{IsTrue, nat_eq, sum_by}
 use Rattle.std.specs.List.{AllByRecursion, flat_map, slice_set}
 use Rattle.std.proofs.lemmas.Bool.{eqb-true}
@@ -45,9 +45,9 @@ use Rattle.px_recovery.specs.Folder.{AreFresh, AreUnmade, FolderData, IsAmong, r
 use Rattle.px_recovery.specs.Stands.{Explains, opened_index, opened_state}
 use Rattle.px_recovery.specs.Tables.{index_files, index_in}
 use Rattle.px_recovery.proofs.Readies.{index_ready as folder_ready}
-use Rattle.px_standing.specs.Agrees.{Agrees, opened_standing}
+use Rattle.px_standing.specs.Agrees.{Agrees}
 use Rattle.px_standing.proofs.Defined.{index_ready as agrees_ready}
-use Rattle.px_server.specs.Kept.{HasFailed, HasPoints, HasShown, HasTallied, HasTrailRoom, IsKept, IsOnDisk, IsShutAt, forms_in, owed}
+use Rattle.px_server.specs.Kept.{HasFailed, HasShown, HasTallied, HasTrailRoom, IsKept, IsOnDisk, IsShutAt, forms_in, owed}
 use Rattle.px_server.specs.Others.{Beginning}
 use Rattle.px_server.proofs.BornKept.{or_none, same_owed}
 use Rattle.px_server.proofs.Catalogued.{define_failed}

@@ -35,8 +35,8 @@ module _ (k : Known) (legal : IsLegal k.base k.seen) (running : closing_call k.s
   module _ (stands : Stands k t) (g : Group) (last : last_of k.base t k.seen ≡ g.last) (long : g.last ≤ most_of bound.Stamps → NeedsLongKey g cs → sound → HasLongKey k.base k.seen t cs) where
     unready : (f : StepFault) → unready_cause g cs f → Refuses (begin_cause sound t cs) k k f
     unready (Limit bound.Key count) c = ((stands, c.0, long c.2 c.1), stays k legal, running)
-    unready (Limit bound.Cells count) c = ((stands, c, tt), stays k legal, running)
-    unready (Limit bound.Bytes count) c = ((stands, c, tt), stays k legal, running)
+    unready (Limit bound.Cells count) c = ((stands, c.0, tt), stays k legal, running)
+    unready (Limit bound.Bytes count) c = ((stands, c.0, tt), stays k legal, running)
     unready (Limit bound.Stamps count) c = ((stands, c.0, (let top = c.1 in omega (arith, top, last))), stays k legal, running)
     unready Memory c = (tt, stays k legal, running)
     unready f c = absurd c

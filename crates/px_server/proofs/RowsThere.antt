@@ -15,7 +15,6 @@ use Rattle.px_cellshapes.specs.Rows.{AreRightRows}
 use Rattle.px_forms.specs.Indexes.{IndexForm}
 use Rattle.px_groupworld.specs.Group.{GroupData}
 use Rattle.px_openbatches.specs.Pending.{HeldBatch}
-use Rattle.px_shown.specs.Told.{IsPointOf, reach_of}
 use Rattle.px_shown.proofs.OwnKeys.{spells_rows}
 use Rattle.px_shown.proofs.Tables.{states_are}
 use Rattle.px_trail.specs.Answers.{IsAmong}

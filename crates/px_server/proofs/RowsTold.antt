@@ -8,13 +8,12 @@ use Rattle.px_outside.specs.declared.disk.Disk.{Ghosts}
 use Rattle.px_values.specs.declared.name.TableId.{TableId}
 use Rattle.px_values.specs.declared.row.Value.{Value}
 use Rattle.px_tables.specs.declared.table.Table.{Table}
-use Rattle.px_trail.specs.declared.entry.Act.{Act}
 use Rattle.px_trail.specs.declared.entry.Act.TheVariants.{Shut, Wrote}
 use Rattle.px_trail.specs.declared.entry.Entry.{Entry}
 use Rattle.px_trail.specs.Batches.{Batch, IsIn, Verifying as InVerifying, Writing as InWriting, batch_of, batch_step, rows_of}
 use Rattle.px_trail.specs.Legal.{Follows, IsLegal, IsWritable, MayCome}
 use Rattle.px_trail.specs.Recorded.{Recorded}
-use Rattle.px_trail.specs.Trail.{Base, Catalogue, catalogue_step, closing_call, open_points, points_step}
+use Rattle.px_trail.specs.Trail.{Base, catalogue_step, closing_call, open_points, points_step}
 use Rattle.px_trail.proofs.Batches.{in_writing}
 use Rattle.px_trail.proofs.Growth.{batch_of-snoc, points-snoc}
 use Rattle.px_openbatches.specs.Pending.{HeldBatch, held_wrote}

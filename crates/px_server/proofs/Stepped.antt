@@ -1,5 +1,5 @@
 -- A step of upkeep: what is true of a server stays so, and what its call answers.
-use Rattle.std.proofs.Common.{◌≡◌, ◌≢◌, ◌<◌, ◌≤◌, ◌+◌, ◌⊎◌, inl, inr, ℕ, zero, suc, Option, None, Some, List, [], ◌∷◌, ◌++◌, length, get_or, slice_get, map, refl, sym, ap, subst, ◌∙◌, arith}
+use Rattle.std.proofs.Common.{◌≡◌, ◌<◌, ◌≤◌, ◌+◌, inl, inr, ℕ, zero, suc, Option, None, Some, List, [], ◌∷◌, ◌++◌, length, get_or, map, refl, sym, ap, subst, ◌∙◌, arith}
 use Rattle.std.specs.Prelude.{IsTrue}
 use Rattle.std.specs.List.{slice_set}
 use Rattle.px_outside.specs.OnDisk.{Rose}
@@ -14,8 +14,8 @@ use Rattle.px_region.specs.declared.region.Region.{Region}
 use Rattle.px_groupworld.specs.Group.{GroupData}
 use Rattle.px_schema.specs.declared.standing.Standing.{Standing}
 use Rattle.px_catalog.specs.declared.catalog.Catalog.{Catalog}
-use Rattle.px_group.specs.Group.{AreStanding, AreTraced, IsRightGroup, IsRightPart}
-use Rattle.px_group.specs.Writing.{HasWritten, WritesTo}
+use Rattle.px_group.specs.Group.{AreStanding, IsRightGroup, IsRightPart}
+use Rattle.px_group.specs.Writing.{HasWritten}
 use Rattle.px_group.specs.declared.group.Group.{Group}
 use Rattle.px_recovery.specs.Folder.{FolderData, with_region}
 use Rattle.px_recovery.specs.Stands.{AreNumbered, Explains, TellsCatalogue}
@@ -33,13 +33,13 @@ use Rattle.px_server.specs.Upkeep.{SteppedTable, StepsIndex, StepsRows, StepsTab
 use Rattle.px_server.proofs.Handed.{index_handed, rows_handed}
 use Rattle.px_server.proofs.Lists.{all_at}
 use Rattle.px_server.proofs.OpenBatches.{stamp_in}
-use Rattle.px_server.proofs.Numbers.{IsStored, LacksNumber, has_place, lacks_index, lacks_rows, part_at, rows_one, stored_index, stored_table}
+use Rattle.px_server.proofs.Numbers.{has_place, lacks_index, lacks_rows, part_at, rows_one, stored_index, stored_table}
 use Rattle.px_batching.proofs.Handed.{same_data}
 use Rattle.px_server.proofs.Prepared.{index_right, index_shows, index_tallied, index_traced, rows_right, rows_show, rows_tallied, rows_traced, same_folder, same_groups, to_index, to_rows}
 use Rattle.px_server.proofs.Seen.{one_more, stays}
 use Rattle.px_server.proofs.Written.{TellsThen, handed_shut}
 
-put_back : {A : Type 0} (xs : List A) (i : ℕ) (x : A) → get_or xs i x ≡ x → slice_set xs i x ≡ xs
+pub put_back : {A : Type 0} (xs : List A) (i : ℕ) (x : A) → get_or xs i x ≡ x → slice_set xs i x ≡ xs
 put_back [] i x is = refl
 put_back (y ∷ xs) zero x is = ap (λ z. z ∷ xs) (sym is)
 put_back (y ∷ xs) (suc i) x is = ap (λ zs. y ∷ zs) (put_back xs i x is)
@@ -126,11 +126,8 @@ module _ {D : Type 0} (d : Ghosts D) (tells_left : (x : D) (moment file : ℕ) (
   -- ---- of either
 
   pub stepped : SteppedTable d g g' disk disk' → IsKept d b sound premise began disk' catalog standing then trail late closed
-  stepped (inl (same, still)) =
-      subst (λ (x : D). IsKept d b sound premise began x catalog standing then trail late closed) (sym still)
-      (subst (λ (gs : List Group). IsKept d b sound premise began disk catalog standing gs trail late closed) (sym (ap (slice_set groups place) same ∙ put_back groups place g is)) k)
-  stepped (inr (inl s)) = rows_stepped s.rows s.written
-  stepped (inr (inr s)) = index_stepped s.index s.written
+  stepped (inl s) = rows_stepped s.rows s.written
+  stepped (inr s) = index_stepped s.index s.written
 
   pub stopped : StepsTable d g g' disk disk' → (calls seat : ℕ) → calls ≡ d.calls disk' → Rose d disk disk' → (trail' : Recorded) → trail'.entries ≡ es ++ record { seat = seat; calls = calls; act = Shut calls } ∷ [] → trail'.room + 1 ≡ trail.room
       → IsKept d b sound premise began disk' catalog standing then trail' late (Some calls)

@@ -1,5 +1,5 @@
 -- A definition of an index that wasn't written: what stays true of the server, and what is told.
-use Rattle.std.proofs.Common.{◌≡◌, ◌≢◌, ◌<◌, ◌≤◌, ◌⊎◌, ◌+◌, inl, inr, ℕ, Option, None, Some, List, [], ◌∷◌, ◌++◌, get_or, length, refl, sym, ap, subst, ◌∙◌, arith}
+use Rattle.std.proofs.Common.{◌≡◌, ◌≢◌, ◌<◌, ◌≤◌, ◌⊎◌, inl, inr, ℕ, Option, None, Some, List, [], ◌∷◌, ◌++◌, get_or, length, refl, sym, subst, ◌∙◌, arith}
 use Rattle.std.specs.List.{slice_set}
 use Rattle.px_outside.specs.OnDisk.{Rose}
 use Rattle.px_outside.specs.declared.disk.Disk.{Ghosts}

@@ -1,12 +1,10 @@
 -- The rows of a batch are handed to the region of its table's rows, and an entry tells it.
-use Rattle.std.proofs.Common.{◌≡◌, ◌<◌, ◌≤◌, ℕ, true, Some, None, List, [], ◌∷◌, ◌++◌, length, get_or, slice_get, refl, sym, ap, subst, ◌∙◌, arith}
+use Rattle.std.proofs.Common.{◌≡◌, ◌<◌, ℕ, List, [], ◌∷◌, ◌++◌, length, refl, sym, ap, subst, ◌∙◌, arith}
 use Rattle.px_outside.specs.declared.disk.Disk.{Ghosts}
 use Rattle.px_cells.specs.CellData.{CellData}
 use Rattle.px_cells.specs.Order.{ReadsSame}
 use Rattle.px_values.specs.declared.row.Value.{Value}
 use Rattle.px_values.specs.declared.change.Change.{Change}
-use Rattle.px_values.specs.declared.name.TableId.{TableId}
-use Rattle.px_tables.specs.declared.table.Table.{Table}
 use Rattle.px_trail.specs.declared.entry.Act.{Act}
 use Rattle.px_trail.specs.declared.entry.Act.TheVariants.{Wrote}
 use Rattle.px_trail.specs.declared.entry.Entry.{Entry}
@@ -18,7 +16,6 @@ use Rattle.px_forms.specs.Several.{cells_for}
 use Rattle.px_batchcells.proofs.RowsPut.{writes_some}
 use Rattle.px_groupworld.specs.Group.{GroupData, TableForm}
 use Rattle.px_groupworld.specs.Steps.{wrote_data}
-use Rattle.px_indexed.specs.Worlds.{row_event}
 use Rattle.px_openbatches.specs.Made.{RowCells, cells_at}
 use Rattle.px_openbatches.specs.Opens.{IsReady}
 use Rattle.px_openbatches.specs.Pending.{HeldBatch, IsHeld, held_wrote}
@@ -28,11 +25,9 @@ use Rattle.px_phases.proofs.Held.{puts_handed}
 use Rattle.px_region.specs.Region.{read_of}
 use Rattle.px_tablereads.specs.Told.{AreTold}
 use Rattle.px_tablereads.proofs.Tells.{told_wrote}
-use Rattle.px_tablesteps.specs.Kept.{TableKept, no_held}
 use Rattle.px_tablesteps.proofs.Lists.{held_at}
 use Rattle.px_tablesteps.proofs.Steps.{table_wrote}
 use Rattle.px_group.specs.Group.{IsInPhase, IsRightGroup, IsShownBy, IsTallied, form_of}
-use Rattle.px_group.specs.declared.group.Begun.{Begun}
 use Rattle.px_group.specs.declared.group.Group.{Group}
 use Rattle.px_group.specs.declared.group.Phase.{Phase}
 use Rattle.px_group.specs.declared.group.Phase.TheVariants.{Verifying}
@@ -41,7 +36,6 @@ use Rattle.px_batching.specs.Steps.{HandsPuts, WrotePuts}
 use Rattle.px_batching.proofs.May.{stamp_is}
 use Rattle.px_batching.proofs.Pairs.{tied_at, to_tied}
 use Rattle.px_batching.proofs.Shown.{wrote_shown}
-use Rattle.px_reading.specs.Doubts.{IsToldBy}
 use Rattle.px_server.proofs.Handed.{RowsGo, RowsShow, RowsThen, ToRows}
 
 module _ {D : Type 0} (d : Ghosts D) (b : Base) (es : List Entry) (g g' : Group) (old new : D) (m : ℕ) (phase : Phase) (o : HandsPuts d g g' old new m phase) (e : Entry) (may : MayCome b es e) (act : e.act ≡ Wrote g.table.id o.batch.batch.stamp (rows_of o.batch.batch.changes)) where

@@ -18,7 +18,7 @@ use Rattle.px_beginning.specs.Admits.{Admits}
 use Rattle.px_beginning.specs.Begins.{IsBatchOf, NeedsLongKey}
 use Rattle.px_beginning.specs.Leaves.{LeavesGroup}
 use Rattle.px_beginning.specs.Refused.{IsRefusedOf}
-use Rattle.px_beginning.specs.Rooms.{AreRoomsOf}
+use Rattle.px_beginning.specs.Rooms.{AreRoomsOf, HasManyBytes, HasManyCells}
 use Rattle.px_beginning.specs.declared.fault.BeginFault.TheVariants as promise
 use Rattle.px_beginning.specs.declared.preparing.Prepared.{Prepared}
 use Rattle.px_server.specs.declared.readying.Ready.{Ready}
@@ -34,10 +34,11 @@ pub record IsReady (g : Group) (cs : List Change) (clock : ℕ) (r : Ready) : Ty
   pub rooms : AreRoomsOf (length g.indexes.items) r.prepared
   pub changes : r.started.changes ≡ cs
 
+-- why none is made ready; how many cells and bytes a batch has doesn't hang on its stamp
 abbrev pub unready_cause : Group → List Change → StepFault → Type 0
 unready_cause g cs (Limit bound.Key count) = (count ≡ most_of bound.Key) × NeedsLongKey g cs × (g.last ≤ most_of bound.Stamps)
-unready_cause g cs (Limit bound.Cells count) = count ≡ most_of bound.Cells
-unready_cause g cs (Limit bound.Bytes count) = count ≡ most_of bound.Bytes
+unready_cause g cs (Limit bound.Cells count) = (count ≡ most_of bound.Cells) × ((stamp : ℕ) × HasManyCells g stamp cs)
+unready_cause g cs (Limit bound.Bytes count) = (count ≡ most_of bound.Bytes) × ((stamp : ℕ) × HasManyBytes g stamp cs)
 unready_cause g cs (Limit bound.Stamps count) = (count ≡ most_of bound.Stamps) × (most_of bound.Stamps ≤ g.last)
 unready_cause g cs Memory = Unit {0}
 unready_cause g cs f = ⊥

@@ -1,7 +1,8 @@
 // Repairs.
-ghost use Rattle.std.specs.Prelude.{◌≡◌, ◌↔◌, IfErr, IfOk, IsSome, IsTrue};
+ghost use Rattle.std.specs.Prelude.{◌≡◌, ◌≤◌, ◌+◌, ◌↔◌, IfErr, IfOk, IsSome, IsTrue};
 ghost use Rattle.px_calls.specs.Calls.{DidFix};
 ghost use Rattle.px_calls.specs.Causes.{Refuses, fix_cause};
+ghost use Rattle.px_server.specs.Looks.{rows_looked};
 ghost use Rattle.px_server.specs.Shown.{known_by};
 ghost use Rattle.px_server.specs.Repairs.{Answers, Mends, Stays};
 
@@ -59,6 +60,7 @@ impl<D: CountsCalls, C: Clock, B: Based + Founded> Server<D, C, B> {
         requires { IsSome d.now.verdict }
         ensures ok { IfOk result (DidFix (known_by B.base B.damaged self.old) (known_by B.base B.damaged self.new) d.now) }
         ensures fixes { IfOk result (Mends self.old.groups self.new.groups d.now) }
+        ensures counted { rows_looked self.new.groups ≤ rows_looked self.old.groups + 1 }
         ensures refused { IfErr result (Refuses fix_cause (known_by B.base B.damaged self.old) (known_by B.base B.damaged self.new)) }
     {
         if let Some(call) = self.closed {

@@ -26,6 +26,6 @@ mod upkeep;
 mod writing;
 
 pub use founded::Founded;
-pub use laws::law_points;
+pub use laws::{law_flushed, law_points};
 pub use opening::law_starts;
 pub use server::Server;

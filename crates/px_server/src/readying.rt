@@ -1,5 +1,5 @@
 // What is made for a batch before it takes any room.
-ghost use Rattle.std.specs.Prelude.{◌≡◌, ◌≤◌, IfOk, IfErr, List, true};
+ghost use Rattle.std.specs.Prelude.{◌≡◌, ◌≤◌, ℕ, IfOk, IfErr, List, true};
 ghost use Rattle.px_group.specs.Group.{IsRightGroup};
 ghost use Rattle.px_group.specs.declared.group.Group.{Group as Groups};
 ghost use Rattle.px_phases.specs.Batch.{AllFit};
@@ -10,6 +10,7 @@ ghost use Rattle.px_values.specs.declared.limit.Limit.{Limit as Bound};
 ghost use Rattle.px_calls.specs.declared.fault.StepFault.{StepFault as Fault};
 ghost use Rattle.px_beginning.specs.Begins.{NeedsLongKey};
 ghost use Rattle.px_beginning.specs.Leaves.{KeepsRooms, LeavesGroup};
+ghost use Rattle.px_beginning.specs.Rooms.{HasManyBytes, HasManyCells};
 ghost use Rattle.px_beginning.specs.declared.fault.BeginFault.{BeginFault as Cause};
 ghost use Rattle.px_server.specs.Beginning.{IsReady, unready_cause};
 
@@ -47,7 +48,7 @@ pub(crate) fn over(which: Limit) -> StepFault
 
 /// Why no batch is prepared. Its rows are in memory, so nothing is told of the disk.
 fn unprepared(fault: BeginFault) -> StepFault
-    ensures { (g : Groups) (cs : List RowChange) → (fault ≡ Cause.Limit Bound.Key → NeedsLongKey g cs) → g.last ≤ 9223372036854775807 → unready_cause g cs result }
+    ensures { (g : Groups) (cs : List RowChange) (s : ℕ) → (fault ≡ Cause.Limit Bound.Key → NeedsLongKey g cs) → (fault ≡ Cause.Limit Bound.Cells → HasManyCells g s cs) → (fault ≡ Cause.Limit Bound.Bytes → HasManyBytes g s cs) → g.last ≤ 9223372036854775807 → unready_cause g cs result }
 {
     match fault {
         BeginFault::Limit(Limit::Key) => over(Limit::Key),

@@ -98,8 +98,17 @@ fn cells_in(group: &Group) -> u64
     cells
 }
 
+/// How many files the manifests of a table and of its indexes name.
+fn files_in(group: &Group) -> u64 {
+    let mut files = group.rows.file_count();
+    for part in group.indexes.as_slice() {
+        files = files.saturating_add(part.region.file_count());
+    }
+    files
+}
+
 impl<D: CountsCalls, C: Clock, B: Based + Founded> Server<D, C, B> {
-    /// The table's last stamp and horizon, and counts of its cells, files and index rows. All cells stand in logs: no region has a file of cells.
+    /// The table's last stamp and horizon, and counts of the cells in its logs, its files and its index rows.
     pub fn status(&mut self, table: TableId) -> Result<Status, StepFault>
         ensures ok { IfOk result (DidCount (known_by B.base B.damaged self.old) (known_by B.base B.damaged self.new) table) }
         ensures counted { IfOk result (λ s. HasLogged self.old.logged table.0 s.cells) }
@@ -117,7 +126,7 @@ impl<D: CountsCalls, C: Clock, B: Based + Founded> Server<D, C, B> {
                 last: group.last,
                 horizon: group.horizon,
                 cells: cells_in(group),
-                files: 0,
+                files: files_in(group),
                 indexes,
             }),
             Err(_) => Err(StepFault::Memory),

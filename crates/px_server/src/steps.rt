@@ -1,19 +1,19 @@
 // The server as drivers see it.
-ghost use Rattle.std.specs.Prelude.{◌≡◌, ◌≢◌, ◌≤◌, [], IfErr, IfOk, IsSome, length, map, true};
+ghost use Rattle.std.specs.Prelude.{◌≡◌, ◌≢◌, ◌≤◌, ◌+◌, [], IfErr, IfOk, IsSome, length, map, true};
 ghost use Rattle.px_trail.specs.Batches.{is_distinct, rows_of};
-ghost use Rattle.px_calls.specs.Calls.{DidBegin, DidFix, DidLook};
+ghost use Rattle.px_calls.specs.Calls.{DidBegin, DidConsult, DidFix, DidLook};
 ghost use Rattle.px_calls.specs.Causes.{Refuses, begin_cause, fix_cause, read_cause};
-ghost use Rattle.px_calls.specs.Requires.{AreFitting, CanLook, IsOpen};
+ghost use Rattle.px_calls.specs.Requires.{AreFitting, CanConsult, CanLook, IsOpen};
 ghost use Rattle.px_calls.specs.declared.query.By.TheVariants.{Index as ByIndex};
 ghost use Rattle.px_values.specs.declared.name.IndexId.{IndexId as Number};
 ghost use Rattle.px_server.specs.Beginning.{RefusesBatch};
-ghost use Rattle.px_server.specs.Looks.{AreOfIndexAt, rows_in};
+ghost use Rattle.px_server.specs.Looks.{AreOfIndexAt, HasCountedOf, rows_in, rows_looked};
 ghost use Rattle.px_server.specs.Repairs.{Mends};
 
 use crate::{Founded, Server};
 use px_calls::{
-    Chunk, Definition, Doubt, Fixing, Held, Made, Marks, Path, Point, Receipt, Status, StepFault,
-    Steps, Ticket, Verifies, Work, Writes,
+    Chunk, Definition, Doubt, Fixing, Held, Made, Marks, Ordered, Path, Point, Receipt, Status,
+    StepFault, Steps, Ticket, Verifies, Work, Writes,
 };
 use px_outside::{Clock, CountsCalls};
 use px_seat::{Based, Single};
@@ -22,10 +22,15 @@ use px_values::{Changes, Key, Name, TableId};
 
 impl<D: CountsCalls, C: Clock, B: Based + Founded> Steps for Server<D, C, B> {
     ghost use Rattle.px_server.specs.Shown.{known_by};
+    ghost use Rattle.px_server.specs.Upkeep.{AreOrdered, HaveFlushed};
 
     ghost known = { λ s. known_by B.base B.damaged s };
 
     ghost sound = { B.sound };
+
+    ghost ordered = { λ s. AreOrdered s.groups };
+
+    ghost done = { λ s. HaveFlushed s.groups };
 
     fn find(&mut self, name: &Name) -> Result<Found, StepFault> {
         Server::find(self, name)
@@ -83,12 +88,20 @@ impl<D: CountsCalls, C: Clock, B: Based + Founded> Steps for Server<D, C, B> {
         ensures ok { IfOk result (DidLook B.sound (known_by B.base B.damaged self.old) (known_by B.base B.damaged self.new) p.now path.now after.now) }
         ensures versions { IfOk result (λ c. (i : Number) → path.now.by ≡ ByIndex i → AreOfIndexAt self.old.groups p.now i c.found) }
         ensures no_row { (i : Number) → path.now.by ≡ ByIndex i → map rows_in self.new.groups ≡ map rows_in self.old.groups }
+        ensures counted { IfOk result (λ c. HasCountedOf self.old.groups self.new.groups p.now path.now.by (length c.found)) }
         ensures refused { IfErr result (Refuses read_cause (known_by B.base B.damaged self.old) (known_by B.base B.damaged self.new)) }
     {
         Server::look(self, p, path, after)
     }
 
-    fn consult(&mut self, p: &Point, d: &mut Doubt) -> Result<Option<Held>, StepFault> {
+    fn consult(&mut self, p: &Point, d: &mut Doubt) -> Result<Option<Held>, StepFault>
+        requires open { IsOpen (known_by B.base B.damaged self.old) p.now }
+        requires doubt { CanConsult p.now d.old }
+        ensures ok { IfOk result (DidConsult B.sound (known_by B.base B.damaged self.old) (known_by B.base B.damaged self.new) p.now d.old d.new) }
+        ensures same { IfErr result (λ f. d.new ≡ d.old) }
+        ensures counted { rows_looked self.new.groups ≤ rows_looked self.old.groups + 1 }
+        ensures refused { IfErr result (Refuses read_cause (known_by B.base B.damaged self.old) (known_by B.base B.damaged self.new)) }
+    {
         Server::consult(self, p, d)
     }
 
@@ -96,6 +109,7 @@ impl<D: CountsCalls, C: Clock, B: Based + Founded> Steps for Server<D, C, B> {
         requires { IsSome d.now.verdict }
         ensures ok { IfOk result (DidFix (known_by B.base B.damaged self.old) (known_by B.base B.damaged self.new) d.now) }
         ensures fixes { IfOk result (Mends self.old.groups self.new.groups d.now) }
+        ensures counted { rows_looked self.new.groups ≤ rows_looked self.old.groups + 1 }
         ensures refused { IfErr result (Refuses fix_cause (known_by B.base B.damaged self.old) (known_by B.base B.damaged self.new)) }
     {
         Server::fix(self, d)
@@ -103,6 +117,10 @@ impl<D: CountsCalls, C: Clock, B: Based + Founded> Steps for Server<D, C, B> {
 
     fn close_point(&mut self, p: Point) {
         Server::close_point(self, p)
+    }
+
+    fn order(&mut self, job: Ordered) -> Result<(), StepFault> {
+        Server::order(self, job)
     }
 
     fn upkeep(&mut self) -> Result<Work, StepFault> {

@@ -13,6 +13,7 @@ use crate::readying::{Ready, over};
 use px_beginning::{BeginFault, promise};
 use px_calls::StepFault;
 use px_group::Group;
+use px_region::Region;
 use px_trail::{Trail, changes_bytes};
 use px_values::{Changes, Limit};
 
@@ -44,20 +45,33 @@ fn give_entries(trail: &mut Trail, changes: &Changes)
     trail.give_back(5, changes_bytes(changes.as_slice()));
 }
 
-/// Whether the log of the region of this number is open.
-fn is_open(group: &Group, region: u32) -> bool {
-    if group.rows.number() == region {
-        return group.rows.is_ready();
+/// The region of this number, of the table's rows or of one of its indexes.
+fn region_of(group: &Group, number: u32) -> Option<&Region> {
+    if group.rows.number() == number {
+        return Some(&group.rows);
     }
-    group.indexes.iter().any(|index| index.region.number() == region && index.region.is_ready())
+    for index in &group.indexes {
+        if index.region.number() == number {
+            return Some(&index.region);
+        }
+    }
+    None
 }
 
 /// Whether the region of this number may get the room that it lacks: by a flush, or once other batches end.
-fn may_free(group: &Group, region: u32) -> bool {
-    if group.rows.number() == region {
-        return group.rows.may_free();
+fn may_free(group: &Group, number: u32) -> bool {
+    match region_of(group, number) {
+        Some(region) => region.may_free(),
+        None => false,
     }
-    group.indexes.iter().any(|index| index.region.number() == region && index.region.may_free())
+}
+
+/// Whether a batch could be written to the region of this number, if only its log had room, and none will come.
+fn is_full(group: &Group, number: u32) -> bool {
+    match region_of(group, number) {
+        Some(region) => region.is_ready() && !region.may_free(),
+        None => false,
+    }
 }
 
 /// Why no room was promised: where it may come, the batch is to be begun again after upkeep.
@@ -66,7 +80,7 @@ fn unpromised(group: &Group, fault: BeginFault) -> StepFault
 {
     match fault {
         BeginFault::NotReady { region } => {
-            if is_open(group, region) && !may_free(group, region) {
+            if is_full(group, region) {
                 over(Limit::Log)
             } else {
                 StepFault::NotReady { region }

@@ -1,25 +1,38 @@
 // Upkeep: the logs of regions are made, and flushed.
-ghost use Rattle.std.specs.Prelude.{◌≡◌, ◌<◌, [], Err, IfErr, IfOk, IfSome, OnOk, length};
-ghost use Rattle.px_calls.specs.Calls.{DidWork};
-ghost use Rattle.px_calls.specs.Causes.{Refuses, upkeep_cause};
+ghost use Rattle.std.specs.Prelude.{◌≡◌, ◌<◌, [], Err, IfErr, IfNone, IfOk, IfSome, OnOk, get_or, length};
+ghost use Rattle.std.specs.List.{AllByRecursion};
+ghost use Rattle.px_calls.specs.Calls.{DidOrder, DidWork, IsIdle};
+ghost use Rattle.px_calls.specs.Causes.{Refuses, order_cause, upkeep_cause};
 ghost use Rattle.px_group.specs.Writing.{HasWritten};
+ghost use Rattle.px_group.specs.declared.group.Group.{Group as Groups};
 ghost use Rattle.px_outside.specs.OnDisk.{Rose};
+ghost use Rattle.px_region.specs.Ordered.{IsSameOrder};
 ghost use Rattle.px_region.specs.declared.fault.JobFault.TheVariants.{Memory, WriteFault};
 ghost use Rattle.px_server.specs.Shown.{known_by};
-ghost use Rattle.px_server.specs.Upkeep.{SteppedTable, StepsOn, StepsTable};
+ghost use Rattle.px_server.specs.Upkeep.{AllSettle, AreOrdered, HasFlushedIndex, HasFlushedTable, HaveFlushed, IsDueIn, IsOrderedTable, Settles, SteppedTable, StepsOn, StepsTable};
 
 use crate::shutting::shut;
 use crate::{Founded, Server};
-use px_calls::{StepFault, Work};
+use px_calls::{Ordered, StepFault, Work};
 use px_group::{Group, IndexRegion};
 use px_outside::{Clock, CountsCalls, Disk};
 use px_region::{JobFault, JobStep, Region};
 use px_seat::Based;
 
+/// Which region of a table has a step to make.
+#[derive(Clone, Copy)]
+pub(crate) enum Due {
+    /// That of its rows.
+    Rows,
+    /// That of the index at this place.
+    Index(usize),
+}
+
 /// Makes a step of the region's upkeep. What the region has stays.
 fn step_region<D: Disk>(region: &mut Region, disk: &mut D) -> Result<JobStep, JobFault>
     ensures steps { StepsOn ⟦<D as Disk>⟧ region.old region.new disk.old disk.new }
     ensures ok { OnOk result (HasWritten ⟦<D as Disk>⟧ region.old region.new disk.old disk.new []) }
+    ensures ordered { OnOk result (IsSameOrder region.old region.new) }
     ensures failed { result ≡ Err WriteFault → Rose ⟦<D as Disk>⟧ disk.old disk.new }
     ensures refused { result ≡ Err Memory → HasWritten ⟦<D as Disk>⟧ region.old region.new disk.old disk.new [] }
 {
@@ -28,7 +41,8 @@ fn step_region<D: Disk>(region: &mut Region, disk: &mut D) -> Result<JobStep, Jo
 
 /// The place of the first index whose region has a step to make.
 fn due_index(indexes: &[IndexRegion]) -> Option<usize>
-    ensures { IfSome result (λ p. p < length indexes.now) }
+    ensures some { IfSome result (λ p. p < length indexes.now) }
+    ensures none { IfNone result (AllByRecursion HasFlushedIndex indexes.now) }
 {
     for place in 0..indexes.len() {
         if indexes[place].region.is_due() {
@@ -38,53 +52,86 @@ fn due_index(indexes: &[IndexRegion]) -> Option<usize>
     None
 }
 
-/// Whether a region of the table has a step to make.
-fn is_due(group: &Group) -> bool {
-    group.rows.is_due() || due_index(group.indexes.as_slice()).is_some()
+/// The first region of the table that has a step to make.
+fn due_region(group: &Group) -> Option<Due>
+    ensures some { IfSome result (λ region. IsDueIn group.now region) }
+    ensures none { IfNone result (HasFlushedTable group.now) }
+{
+    if group.rows.is_due() {
+        return Some(Due::Rows);
+    }
+    match due_index(group.indexes.as_slice()) {
+        Some(place) => Some(Due::Index(place)),
+        None => None,
+    }
 }
 
-/// The place of the first table of which a region has a step to make.
-fn due_table(groups: &[Group]) -> Option<usize>
-    ensures { IfSome result (λ p. p < length groups.now) }
+/// The place of the first table of which a region has a step to make, and that region.
+fn due_table(groups: &[Group]) -> Option<(usize, Due)>
+    ensures some { IfSome result (λ found. (found.0 < length groups.now) × ((g : Groups) → get_or groups.now found.0 g ≡ g → IsDueIn g found.1)) }
+    ensures none { IfNone result (HaveFlushed groups.now) }
 {
     for place in 0..groups.len() {
-        if is_due(&groups[place]) {
-            return Some(place);
+        if let Some(region) = due_region(&groups[place]) {
+            return Some((place, region));
         }
     }
     None
 }
 
-/// Makes a step of the first region of the table that has one to make. Where no memory is found, the table goes on as well.
-fn step_table<D: Disk>(group: &mut Group, disk: &mut D) -> Result<JobStep, JobFault>
+/// Makes a step of a region of the table. Where no memory is found, the table goes on as well.
+fn step_table<D: Disk>(group: &mut Group, region: Due, disk: &mut D) -> Result<JobStep, JobFault>
+    requires { IsDueIn group.old region }
     ensures ok { OnOk result (SteppedTable ⟦<D as Disk>⟧ group.old group.new disk.old disk.new) }
+    ensures ordered { OnOk result (IsOrderedTable group.old → IsOrderedTable group.new) }
     ensures failed { result ≡ Err WriteFault → StepsTable ⟦<D as Disk>⟧ group.old group.new disk.old disk.new × Rose ⟦<D as Disk>⟧ disk.old disk.new }
     ensures refused { result ≡ Err Memory → SteppedTable ⟦<D as Disk>⟧ group.old group.new disk.old disk.new }
 {
-    if group.rows.is_due() {
-        return step_region(&mut group.rows, disk);
+    match region {
+        Due::Rows => step_region(&mut group.rows, disk),
+        Due::Index(place) => step_region(&mut group.indexes[place].region, disk),
     }
-    match due_index(group.indexes.as_slice()) {
-        Some(place) => step_region(&mut group.indexes[place].region, disk),
-        None => Ok(JobStep::Done),
+}
+
+/// Orders that all that stands in the logs of the table and its indexes be flushed.
+fn order_table<D: Disk>(group: &mut Group)
+    ensures settles { (disk : D) → Settles ⟦<D as Disk>⟧ disk group.old group.new }
+    ensures ordered { IsOrderedTable group.new }
+{
+    group.rows.order_flush();
+    for place in 0..group.indexes.len() {
+        group.indexes[place].region.order_flush();
+    }
+}
+
+/// Orders it of each table.
+fn order_all<D: Disk>(groups: &mut [Group])
+    ensures settle { (disk : D) → AllSettle ⟦<D as Disk>⟧ disk groups.old groups.new }
+    ensures ordered { AreOrdered groups.new }
+{
+    for place in 0..groups.len() {
+        order_table::<D>(&mut groups[place]);
     }
 }
 
 impl<D: CountsCalls, C: Clock, B: Based + Founded> Server<D, C, B> {
     /// Makes a step of the first region that has one to make: its log is made, or what stands in its log is flushed to a file. It is Idle where no
-    /// region of a table that stands has one to make.
+    /// region of a table that stands has one to make: then all that was ordered is flushed. Where all that stands in the logs was ordered to be
+    /// flushed, that is so after the step, unless it is refused: for want of memory an order of the region is given up.
     pub fn upkeep(&mut self) -> Result<Work, StepFault>
         ensures ok { IfOk result (DidWork (known_by B.base B.damaged self.old) (known_by B.base B.damaged self.new)) }
+        ensures done { IfOk result (λ work. IsIdle work → HaveFlushed self.new.groups) }
+        ensures ordered { IfOk result (λ work. AreOrdered self.old.groups → AreOrdered self.new.groups) }
         ensures refused { IfErr result (Refuses upkeep_cause (known_by B.base B.damaged self.old) (known_by B.base B.damaged self.new)) }
     {
         if let Some(call) = self.closed {
             return Err(StepFault::Closed { call });
         }
-        let Some(place) = due_table(self.groups.as_slice()) else {
+        let Some((place, region)) = due_table(self.groups.as_slice()) else {
             return Ok(Work::Idle);
         };
         let group = &mut self.groups[place];
-        match step_table(group, &mut self.disk) {
+        match step_table(group, region, &mut self.disk) {
             Ok(_) => Ok(Work::Did),
             Err(JobFault::Memory) => Err(StepFault::Memory),
             Err(JobFault::WriteFault) => {
@@ -94,5 +141,20 @@ impl<D: CountsCalls, C: Clock, B: Based + Founded> Server<D, C, B> {
                 Err(StepFault::WriteFault)
             }
         }
+    }
+
+    /// Orders that all that stands now in the logs of the tables that stand be flushed: `upkeep` makes the steps. It makes no call.
+    pub fn order(&mut self, job: Ordered) -> Result<(), StepFault>
+        ensures ok { IfOk result (DidOrder (known_by B.base B.damaged self.old) (known_by B.base B.damaged self.new)) }
+        ensures ordered { IfOk result (λ _. AreOrdered self.new.groups) }
+        ensures refused { IfErr result (Refuses order_cause (known_by B.base B.damaged self.old) (known_by B.base B.damaged self.new)) }
+    {
+        if let Some(call) = self.closed {
+            return Err(StepFault::Closed { call });
+        }
+        match job {
+            Ordered::FlushAll => order_all::<D>(&mut self.groups),
+        }
+        Ok(())
     }
 }

@@ -1,42 +1,42 @@
-use Rattle.std.proofs.Common.{◌≡◌, ◌<◌, ℕ, zero, suc, Result, Ok, Err, OnOk, Some, List, [], ◌∷◌, length, get_or, slice_get, refl, sym, ap, subst, inl, inr, arith}
-use Rattle.px_group.specs.declared.group.IndexRegion.{IndexRegion}
+use Rattle.std.proofs.Common.{◌≡◌, Result, Ok, Err, OnOk, Some, slice_get, refl, inl, inr}
+use Rattle.px_batching.proofs.Places.{all_at}
+use Rattle.px_server.specs.Upkeep.{IsOrderedIndex}
+use Rattle.px_server.proofs.Orders.{all_put, got_there, ordered_on}
 use Rattle.px_server.proofs.upkeep.step_table.Goals as goal
 
 on_ok : {T E : Type 0} (r : Result T E) (P Q : Type 0) → (P → Q) → OnOk r P → OnOk r Q
 on_ok (Ok x) P Q f p = f p
 on_ok (Err e) P Q f p = tt
 
-there : {A : Type 0} (xs : List A) (i : ℕ) (x : A) → i < length xs → x ≡ get_or xs i x → slice_get xs i ≡ Some x
-there [] i x l is = absurd (omega (arith, l))
-there (y ∷ xs) zero x l is = ap Some (sym is)
-there (y ∷ xs) (suc i) x l is = there xs i x (omega (arith, l)) is
+pub returns-in-Rows-clause-ok : goal.returns-in-Rows-clause-ok
+returns-in-Rows-clause-ok g c = on_ok c.step_region.result _ _ (λ written. inl (record { rows = record { same = refl; steps = c.step_region.ensures.steps }; written = written })) c.step_region.ensures.ok
 
-pub returns-then-is_due-clause-ok : goal.returns-then-is_due-clause-ok
-returns-then-is_due-clause-ok g c = on_ok c.step_region.result _ _ (λ written. inr (inl (record { rows = record { same = refl; steps = c.step_region.ensures.steps }; written = written }))) c.step_region.ensures.ok
+pub returns-in-Rows-clause-ordered : goal.returns-in-Rows-clause-ordered
+returns-in-Rows-clause-ordered g c = on_ok c.step_region.result _ _ (λ same was. record { rows = ordered_on _ _ same was.rows; indexes = was.indexes }) c.step_region.ensures.ordered
 
-pub returns-then-is_due-clause-refused : goal.returns-then-is_due-clause-refused
-returns-then-is_due-clause-refused g c = λ is. inr (inl (record { rows = record { same = refl; steps = c.step_region.ensures.steps }; written = c.step_region.ensures.refused is }))
+pub returns-in-Rows-clause-refused : goal.returns-in-Rows-clause-refused
+returns-in-Rows-clause-refused g c = λ is. inl (record { rows = record { same = refl; steps = c.step_region.ensures.steps }; written = c.step_region.ensures.refused is })
 
-pub returns-in-Some-clause-ok : goal.returns-in-Some-clause-ok
-returns-in-Some-clause-ok g c =
+pub returns-in-Index-clause-ok : goal.returns-in-Index-clause-ok
+returns-in-Index-clause-ok g c =
     let y = c.index_mut.result.now in
-    let xs = c.args.group.now.indexes.items in
-    let inside : c.in-Some.place < length xs = subst (λ (l : List IndexRegion). c.in-Some.place < length l) c.as_slice.ensures.value c.in-Some.ensures in
-    let at : slice_get xs c.in-Some.place ≡ Some y = there xs c.in-Some.place y inside c.index_mut.ensures.value in
-    on_ok c.step_region-in-Some.result _ _ (λ written. inr (inr (record { index = record { place = c.in-Some.place; index = y; is = at; region = c.step_region-in-Some.new.region; same = refl; indexes = refl; steps = c.step_region-in-Some.ensures.steps }; written = written }))) c.step_region-in-Some.ensures.ok
+    let at : slice_get c.args.group.now.indexes.items c.in-Index.place ≡ Some y = got_there c.args.group.now.indexes.items c.in-Index.place y (rw c.in-Index.is at c.requires) c.index_mut.ensures.value in
+    on_ok c.step_region-in-Index.result _ _ (λ written. inr (record { index = record { place = c.in-Index.place; index = y; is = at; region = c.step_region-in-Index.new.region; same = refl; indexes = refl; steps = c.step_region-in-Index.ensures.steps }; written = written })) c.step_region-in-Index.ensures.ok
 
-pub returns-in-Some-clause-failed : goal.returns-in-Some-clause-failed
-returns-in-Some-clause-failed g c =
+pub returns-in-Index-clause-ordered : goal.returns-in-Index-clause-ordered
+returns-in-Index-clause-ordered g c =
     let y = c.index_mut.result.now in
-    let xs = c.args.group.now.indexes.items in
-    let inside : c.in-Some.place < length xs = subst (λ (l : List IndexRegion). c.in-Some.place < length l) c.as_slice.ensures.value c.in-Some.ensures in
-    let at : slice_get xs c.in-Some.place ≡ Some y = there xs c.in-Some.place y inside c.index_mut.ensures.value in
-    λ is. (inr (record { place = c.in-Some.place; index = y; is = at; region = c.step_region-in-Some.new.region; same = refl; indexes = refl; steps = c.step_region-in-Some.ensures.steps }), c.step_region-in-Some.ensures.failed is)
+    let at : slice_get c.args.group.now.indexes.items c.in-Index.place ≡ Some y = got_there c.args.group.now.indexes.items c.in-Index.place y (rw c.in-Index.is at c.requires) c.index_mut.ensures.value in
+    on_ok c.step_region-in-Index.result _ _ (λ same was. record { rows = was.rows; indexes = all_put IsOrderedIndex c.args.group.now.indexes.items c.in-Index.place _ was.indexes (ordered_on y.region c.step_region-in-Index.new.region same (all_at IsOrderedIndex c.args.group.now.indexes.items c.in-Index.place y at was.indexes)) }) c.step_region-in-Index.ensures.ordered
 
-pub returns-in-Some-clause-refused : goal.returns-in-Some-clause-refused
-returns-in-Some-clause-refused g c =
+pub returns-in-Index-clause-failed : goal.returns-in-Index-clause-failed
+returns-in-Index-clause-failed g c =
     let y = c.index_mut.result.now in
-    let xs = c.args.group.now.indexes.items in
-    let inside : c.in-Some.place < length xs = subst (λ (l : List IndexRegion). c.in-Some.place < length l) c.as_slice.ensures.value c.in-Some.ensures in
-    let at : slice_get xs c.in-Some.place ≡ Some y = there xs c.in-Some.place y inside c.index_mut.ensures.value in
-    λ is. inr (inr (record { index = record { place = c.in-Some.place; index = y; is = at; region = c.step_region-in-Some.new.region; same = refl; indexes = refl; steps = c.step_region-in-Some.ensures.steps }; written = c.step_region-in-Some.ensures.refused is }))
+    let at : slice_get c.args.group.now.indexes.items c.in-Index.place ≡ Some y = got_there c.args.group.now.indexes.items c.in-Index.place y (rw c.in-Index.is at c.requires) c.index_mut.ensures.value in
+    λ is. (inr (record { place = c.in-Index.place; index = y; is = at; region = c.step_region-in-Index.new.region; same = refl; indexes = refl; steps = c.step_region-in-Index.ensures.steps }), c.step_region-in-Index.ensures.failed is)
+
+pub returns-in-Index-clause-refused : goal.returns-in-Index-clause-refused
+returns-in-Index-clause-refused g c =
+    let y = c.index_mut.result.now in
+    let at : slice_get c.args.group.now.indexes.items c.in-Index.place ≡ Some y = got_there c.args.group.now.indexes.items c.in-Index.place y (rw c.in-Index.is at c.requires) c.index_mut.ensures.value in
+    λ is. inr (record { index = record { place = c.in-Index.place; index = y; is = at; region = c.step_region-in-Index.new.region; same = refl; indexes = refl; steps = c.step_region-in-Index.ensures.steps }; written = c.step_region-in-Index.ensures.refused is })

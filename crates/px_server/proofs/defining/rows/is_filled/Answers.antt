@@ -1,4 +1,4 @@
-use Rattle.std.proofs.Common.{◌≡◌, ◌↔◌, ℕ, true, Bool, List, length, nat_eq, refl, sym, ap, subst, ◌∙◌}
+use Rattle.std.proofs.Common.{◌≡◌, ◌↔◌, true, Bool, length, refl, sym, subst}
 use Rattle.std.specs.Prelude.{not, ◌==◌}
 use Rattle.px_server.specs.inner.Indexing.{HasRowAt}
 use Rattle.px_server.proofs.RowsThere.{all_rows, filled, point}

@@ -1,12 +1,14 @@
-use Rattle.std.proofs.Common.{rules, ◌≡◌, ◌∙◌, ◌<◌, ℕ, None, Some, length, ap, sym, subst}
+use Rattle.std.proofs.Common.{rules, ◌≡◌, ◌∙◌, ◌+◌, ◌<◌, ◌≤◌, ℕ, None, Some, length, ap, sym, subst}
 use Rattle.std.specs.List.{slice_set}
 use Rattle.px_calls.specs.Calls.{DidConsult}
 use Rattle.px_calls.specs.Causes.{Refuses, read_cause}
 use Rattle.px_calls.specs.declared.fault.StepFault.TheVariants.{Closed, Memory}
 use Rattle.px_server.specs.Kept.{HasTallied, IsKept}
+use Rattle.px_group.specs.declared.group.Group.{Group}
+use Rattle.px_server.specs.Looks.{rows_looked}
 use Rattle.px_server.specs.Shown.{Shown, known_by, shown_of}
 use Rattle.px_server.proofs.Found.{closed_by}
-use Rattle.px_server.proofs.Lists.{all_at}
+use Rattle.px_server.proofs.Lists.{all_at, sum_set}
 use Rattle.px_server.proofs.Looked.{looked_kept}
 use Rattle.px_server.proofs.ReadAt.{did_consult, inside, no_memory, read_at}
 use Rattle.px_server.proofs.Released.{none_of}
@@ -72,3 +74,10 @@ returns-clause-refused g c =
       | in-Err w ↦ rw w.result-is (subst (λ (u : Shown). Refuses read_cause (known_by b g.B.Based.damaged u) (known_by b g.B.Based.damaged v) Memory) c.self.view_is
           (no_memory (known_by b g.B.Based.damaged v) told.legal s.closed told.closing running))
     ]
+
+pub returns-clause-counted : goal.returns-clause-counted
+returns-clause-counted g c =
+    let s = c.self.inside in
+    let l : c.in-Some-point_place.place < length s.groups.items = inside s.groups.items c.deref.result.now c.in-Some-point_place.place c.deref.ensures.value c.in-Some-point_place.ensures.within in
+    subst (λ (u : Shown). rows_looked (slice_set s.groups.items c.in-Some-point_place.place c.consult.new.group) ≤ rows_looked u.groups + 1) c.self.view_is
+    (sum_set (λ (h : Group). h.rows.looked) s.groups.items c.in-Some-point_place.place c.index_mut-group.result.now c.consult.new.group l (sym c.index_mut-group.ensures.value) c.consult.ensures.counted)

@@ -1,32 +1,24 @@
-use Rattle.std.proofs.Common.{rules, ◌≡◌, ◌≢◌, ◌<◌, ◌≤◌, ◌⊎◌, ◌+◌, ◌^◌, inl, inr, ℕ, true, false, IsSome, Option, None, Some, Err, List, [], ◌∷◌, ◌++◌, length, get_or, slice_get, refl, sym, ap, subst, ◌∙◌, arith}
+use Rattle.std.proofs.Common.{rules, ◌≡◌, ◌<◌, ◌^◌, inl, inr, None, Some, Err, List, [], ◌∷◌, ◌++◌, length, get_or, slice_get, refl, sym, ap, subst, ◌∙◌, arith}
 use Rattle.std.specs.List.{slice_set}
-use Rattle.std.proofs.lemmas.Bool.{false≢true}
-use Rattle.px_values.specs.declared.name.IndexId.{IndexId}
 use Rattle.px_values.specs.declared.name.TableId.{TableId}
-use Rattle.px_tables.specs.declared.index.Index.{Index}
 use Rattle.px_tables.specs.declared.index.IndexState.TheVariants.{Active}
-use Rattle.px_tables.specs.declared.table.Table.{Table}
-use Rattle.px_trail.specs.Legal.{IsLegal}
-use Rattle.px_trail.specs.Trail.{Base, horizon_of, last_of, table_of}
 use Rattle.px_trail.specs.declared.entry.Act.TheVariants as act
 use Rattle.px_trail.specs.declared.entry.Entry.{Entry}
 use Rattle.px_calls.specs.Calls.{DidDefine}
-use Rattle.px_calls.specs.Causes.{HasState, Refuses, define_cause}
-use Rattle.px_calls.specs.Known.{IsRunning, Known}
+use Rattle.px_calls.specs.Causes.{Refuses, define_cause}
 use Rattle.px_calls.specs.Requires.{MayActivate}
 use Rattle.px_calls.specs.declared.definition.Definition.TheVariants as definition
 use Rattle.px_calls.specs.declared.fault.StepFault.{StepFault}
-use Rattle.px_calls.specs.declared.fault.StepFault.TheVariants.{Closed, InUse, Memory, NoIndex, NoTable, NotReady}
-use Rattle.px_schema.specs.declared.standing.Standing.{Standing}
+use Rattle.px_calls.specs.declared.fault.StepFault.TheVariants.{Closed, Memory, NoIndex, NoTable, NotReady}
 use Rattle.px_standing.proofs.Looked.{lacks}
-use Rattle.px_server.specs.Kept.{HasTallied, IsKept}
+use Rattle.px_server.specs.Kept.{IsKept}
 use Rattle.px_server.specs.Shown.{Shown, known_by, shown_of}
 use Rattle.px_server.proofs.Found.{closed_by}
 use Rattle.px_server.proofs.Lists.{all_at}
 use Rattle.px_server.proofs.Released.{group_of, place_in}
 use Rattle.px_server.proofs.Seen.{stays}
 use Rattle.px_server.proofs.Stamping.{more_by_clock, same_by_clock, unwritten_by_clock}
-use Rattle.px_server.proofs.Unwritten.{no_memory, reserved, unwritten_kept, unwritten_refused}
+use Rattle.px_server.proofs.Unwritten.{no_memory}
 use Rattle.px_calls.specs.declared.definition.Made.{Made as Answered}
 use Rattle.px_group.specs.declared.group.Group.{Group}
 use Rattle.px_group.specs.Group.{IsRightGroup}

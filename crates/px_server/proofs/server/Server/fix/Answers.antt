@@ -1,5 +1,5 @@
 use Rattle.std.proofs.Common.{rules, ◌≡◌, ◌∙◌, ◌<◌, None, List, length, sym, subst, arith}
-use Rattle.std.proofs.Common.{◌≤◌, ◌+◌, ◌++◌, ◌∷◌, [], suc, zero, ap, inl, Some, refl}
+use Rattle.std.proofs.Common.{◌≤◌, ◌+◌, ◌++◌, ◌∷◌, [], ap, get_or, inl, Some, refl}
 use Rattle.std.specs.Prelude.{IfErr, IfOk, Option, ℕ}
 use Rattle.std.specs.List.{AllByRecursion, slice_set}
 use Rattle.px_calls.specs.Calls.{DidFix, Finds, IsInFlight}
@@ -9,6 +9,7 @@ use Rattle.px_trail.specs.declared.entry.Entry.{Entry}
 use Rattle.px_calls.specs.declared.query.Fixing.TheVariants.{Gone}
 use Rattle.px_group.specs.declared.group.Group.{Group}
 use Rattle.px_pointreads.specs.Points.{LacksIndex}
+use Rattle.px_server.specs.Looks.{rows_looked}
 use Rattle.px_server.specs.Repairs.{Mends, Stays}
 use Rattle.px_server.specs.Kept.{IsKept}
 use Rattle.px_repairs.specs.Repairs.{Fixes}
@@ -20,6 +21,7 @@ use Rattle.px_server.proofs.Seen.{one_more}
 use Rattle.px_server.specs.Shown.{Shown, known_by, shown_of}
 use Rattle.px_server.proofs.Fixes.{doubt_at, answers_ok, answers_refused, failed_kept, failed_of, fix_stayed, fixed_flight, fixed_kept, fixed_mends, fixed_of, stayed, stayed_flight, stayed_mends}
 use Rattle.px_server.proofs.Found.{closed_by}
+use Rattle.px_server.proofs.Lists.{sum_set}
 use Rattle.px_server.proofs.ReadAt.{finds, inside}
 use Rattle.px_server.proofs.Released.{none_of}
 use Rattle.px_server.proofs.Reserved.{roomy}
@@ -242,3 +244,28 @@ returns-in-Err-clause-refused g c =
             (one_more (known_by b g.B.Based.damaged v) c.shut.new.trail.entries c.call_count-calls.result (ShutAct c.call_count-calls.result) told.legal pushed (invariant_of-self-in-Err g c).0.told.legal),
       ),
     )
+
+-- at most one row of a table was looked at
+counted_by : (groups : List Group) (place : ℕ) (g g' : Group) → place < length groups → get_or groups place g ≡ g → g'.rows.looked ≤ g.rows.looked + 1 → rows_looked (slice_set groups place g') ≤ rows_looked groups + 1
+counted_by groups place g g' l is more = sum_set (λ (h : Group). h.rows.looked) groups place g g' l is more
+
+pub returns-then-has_stayed-clause-counted : goal.returns-then-has_stayed-clause-counted
+returns-then-has_stayed-clause-counted g c =
+    let s = c.self.inside in
+    let l : c.in-Some-doubt_place.at.group < length s.groups.items = inside s.groups.items c.deref.result.now c.in-Some-doubt_place.at.group c.deref.ensures.value c.in-Some-doubt_place.ensures.within in
+    subst (λ (u : Shown). rows_looked (slice_set s.groups.items c.in-Some-doubt_place.at.group c.fix-fixed.new.group) ≤ rows_looked u.groups + 1) c.self.view_is
+    (counted_by s.groups.items c.in-Some-doubt_place.at.group c.index_mut-group.result.now c.fix-fixed.new.group l (sym c.index_mut-group.ensures.value) c.fix-fixed.ensures.counted)
+
+pub returns-in-Ok-fixed-clause-counted : goal.returns-in-Ok-fixed-clause-counted
+returns-in-Ok-fixed-clause-counted g c =
+    let s = c.self.inside in
+    let l : c.in-Some-doubt_place.at.group < length s.groups.items = inside s.groups.items c.deref.result.now c.in-Some-doubt_place.at.group c.deref.ensures.value c.in-Some-doubt_place.ensures.within in
+    subst (λ (u : Shown). rows_looked (slice_set s.groups.items c.in-Some-doubt_place.at.group c.fix-fixed.new.group) ≤ rows_looked u.groups + 1) c.self.view_is
+    (counted_by s.groups.items c.in-Some-doubt_place.at.group c.index_mut-group.result.now c.fix-fixed.new.group l (sym c.index_mut-group.ensures.value) c.fix-fixed.ensures.counted)
+
+pub returns-in-Err-clause-counted : goal.returns-in-Err-clause-counted
+returns-in-Err-clause-counted g c =
+    let s = c.self.inside in
+    let l : c.in-Some-doubt_place.at.group < length s.groups.items = inside s.groups.items c.deref.result.now c.in-Some-doubt_place.at.group c.deref.ensures.value c.in-Some-doubt_place.ensures.within in
+    subst (λ (u : Shown). rows_looked (slice_set s.groups.items c.in-Some-doubt_place.at.group c.fix-fixed.new.group) ≤ rows_looked u.groups + 1) c.self.view_is
+    (counted_by s.groups.items c.in-Some-doubt_place.at.group c.index_mut-group.result.now c.fix-fixed.new.group l (sym c.index_mut-group.ensures.value) c.fix-fixed.ensures.counted)

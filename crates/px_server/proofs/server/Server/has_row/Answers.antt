@@ -1,8 +1,7 @@
-use Rattle.std.proofs.Common.{◌≡◌, ◌↔◌, ◌≤◌, true, Bool, List, Option, None, IfOk, Result, ℕ, IsSome, ap, map, subst, sym, ◌∙◌}
+use Rattle.std.proofs.Common.{◌≡◌, ◌↔◌, ◌≤◌, true, List, Option, None, IfOk, IsSome, ap, map, subst, sym, ◌∙◌}
 use Rattle.std.specs.List.{slice_set}
 use Rattle.std.proofs.lemmas.Bool.{false≢true}
 use Rattle.px_calls.specs.Known.{IsRunning}
-use Rattle.px_calls.specs.declared.fault.StepFault.{StepFault}
 use Rattle.px_tables.specs.declared.table.Table.{Table}
 use Rattle.px_trail.specs.Trail.{horizon_of, table_of}
 use Rattle.px_standing.proofs.Looked.{lacks}

@@ -1,8 +1,7 @@
-use Rattle.std.proofs.Common.{rules, ◌≡◌, ◌≤◌, ◌<◌, true, false, ℕ, IsSome, Option, None, Some, refl, sym, ap, subst, ◌∙◌, arith}
+use Rattle.std.proofs.Common.{◌≡◌, IsSome, Option, refl, sym, ap, subst, ◌∙◌, arith}
 use Rattle.px_values.specs.declared.limit.Limit.TheVariants as bound
 use Rattle.px_values.specs.Limits.{most_of}
 use Rattle.px_calls.specs.Causes.{Refuses, define_cause}
-use Rattle.px_calls.specs.Known.{Known}
 use Rattle.px_calls.specs.declared.definition.Definition.TheVariants.{Index as IndexDefinition}
 use Rattle.px_calls.specs.declared.fault.StepFault.{StepFault}
 use Rattle.px_calls.specs.declared.fault.StepFault.TheVariants.{Closed, Limit, NameExists, NoTable}

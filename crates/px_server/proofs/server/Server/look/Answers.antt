@@ -4,12 +4,12 @@ use Rattle.px_calls.specs.Calls.{DidLook}
 use Rattle.px_calls.specs.Causes.{Refuses, read_cause}
 use Rattle.px_calls.specs.declared.fault.StepFault.TheVariants.{Closed, Memory}
 use Rattle.px_server.specs.Kept.{IsKept}
-use Rattle.px_server.specs.Looks.{AreOfIndexAt, rows_in}
+use Rattle.px_server.specs.Looks.{AreOfIndexAt, HasCountedOf, rows_in}
 use Rattle.px_server.specs.Shown.{Shown, known_by, shown_of}
 use Rattle.px_server.proofs.Found.{closed_by}
 use Rattle.px_server.proofs.Lists.{map_set}
 use Rattle.px_server.proofs.Looked.{looked_kept}
-use Rattle.px_server.proofs.ReadAt.{did_look, inside, no_memory, read_at, versions_at}
+use Rattle.px_server.proofs.ReadAt.{counted_at, did_look, inside, no_memory, read_at, versions_at}
 use Rattle.px_server.proofs.Released.{none_of}
 use Rattle.px_server.proofs.server.Server.look.Goals.{in-Ok, in-Err}
 use Rattle.px_server.proofs.server.Server.look.Goals as goal
@@ -88,3 +88,13 @@ returns-clause-no_row g c = λ i by.
     let l : c.in-Some-point_place.place < length s.groups.items = inside s.groups.items c.deref.result.now c.in-Some-point_place.place c.deref.ensures.value c.in-Some-point_place.ensures.within in
     subst (λ (u : Shown). map rows_in (slice_set s.groups.items c.in-Some-point_place.place c.look.new.group) ≡ map rows_in u.groups) c.self.view_is
     (map_set rows_in s.groups.items c.in-Some-point_place.place c.index_mut-group.result.now c.look.new.group l (sym c.index_mut-group.ensures.value) (c.look.ensures.no_row i by))
+
+pub returns-clause-counted : goal.returns-clause-counted
+returns-clause-counted g c =
+    let s = c.self.inside in
+    elim c.match-look.branch [
+      | in-Ok w ↦ rw w.result-is (subst (λ (u : Shown). HasCountedOf u.groups (slice_set s.groups.items c.in-Some-point_place.place c.look.new.group) c.args.p.now c.args.path.now.by (length w.chunk.result.found)) c.self.view_is
+          (counted_at c.args.p.now s.groups.items c.deref.result.now c.in-Some-point_place.place c.index_mut-group.result.now _ c.look.new.group c.deref.ensures.value c.in-Some-point_place.ensures.within c.in-Some-point_place.ensures.read c.index_mut-group.ensures.value
+          c.args.path.now.by w.in-Ok.next.found w.chunk.result.found w.chunk.ensures.0 w.in-Ok.ensures.counted))
+      | in-Err w ↦ rw w.result-is tt
+    ]

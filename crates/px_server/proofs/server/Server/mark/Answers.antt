@@ -1,4 +1,4 @@
-use Rattle.std.proofs.Common.{◌≡◌, ◌<◌, ◌∙◌, Some, List, [], ◌∷◌, ◌++◌, length, slice_get, refl, sym, ap, subst, arith}
+use Rattle.std.proofs.Common.{◌≡◌, ◌<◌, ◌∙◌, Some, [], ◌∷◌, ◌++◌, length, slice_get, refl, sym, ap, subst, arith}
 use Rattle.px_values.specs.declared.name.TableId.{TableId}
 use Rattle.px_trail.specs.Batches.{IsIn, Marking as InMarking}
 use Rattle.px_trail.specs.declared.entry.Act.TheVariants.{Phase as PhaseAct, Shut}

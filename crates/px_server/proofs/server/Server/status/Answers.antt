@@ -44,11 +44,11 @@ returns-clause-ok g c =
     let place = c.in-Some-numbered_place in
     elim c.match-counts_of.branch [
       | in-Ok w ↦ rw w.result-is (subst (λ (u : Shown). DidCount (known_by b g.B.Based.damaged u) (known_by b g.B.Based.damaged u) c.args.table
-          (record { last = c.index-group.result.now.last; horizon = c.index-group.result.now.horizon; cells = w.cells_in.result; files = 0; indexes = w.in-Ok.indexes })) c.self.view_is
+          (record { last = c.index-group.result.now.last; horizon = c.index-group.result.now.horizon; cells = w.cells_in.result; files = w.files_in.result; indexes = w.in-Ok.indexes })) c.self.view_is
           (did_count (known_by b g.B.Based.damaged v) told.legal s.closed told.closing running s.standing told.agrees c.args.table place.place place.ensures.found place.ensures.numbered c.index-group.result.now
           (own g.D.Disk b g.B.Founded.sound g.B.Founded.premise g.B.Founded.began s.disk s.catalog s.standing s.groups.items s.trail s.late s.closed kept running c.args.table place.place c.index-group.result.now place.ensures.found place.ensures.numbered (sym c.index-group.ensures))
           (told_here g.D.Disk b g.B.Founded.sound g.B.Founded.premise g.B.Founded.began s.disk s.catalog s.standing s.groups.items s.trail s.late s.closed kept running c.args.table place.place c.index-group.result.now place.ensures.found place.ensures.numbered (sym c.index-group.ensures))
-          (record { last = c.index-group.result.now.last; horizon = c.index-group.result.now.horizon; cells = w.cells_in.result; files = 0; indexes = w.in-Ok.indexes }) refl refl
+          (record { last = c.index-group.result.now.last; horizon = c.index-group.result.now.horizon; cells = w.cells_in.result; files = w.files_in.result; indexes = w.in-Ok.indexes }) refl refl
           (w.in-Ok.ensures ∙ ap (λ (xs : List Index). map count_as (indexes_of c.args.table.0 xs)) c.as_slice.ensures)))
       | in-Err w ↦ rw w.result-is tt
     ]

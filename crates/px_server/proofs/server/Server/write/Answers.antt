@@ -1,4 +1,4 @@
-use Rattle.std.proofs.Common.{◌≡◌, ◌<◌, ◌≤◌, ◌∙◌, ℕ, Option, None, Some, List, [], ◌∷◌, ◌++◌, length, refl, sym, ap, subst, slice_get, arith}
+use Rattle.std.proofs.Common.{◌≡◌, ◌<◌, ◌≤◌, ◌∙◌, Option, Some, List, [], ◌∷◌, ◌++◌, length, refl, sym, ap, subst, slice_get, arith}
 use Rattle.std.specs.List.{slice_set}
 use Rattle.px_trail.specs.declared.entry.Act.TheVariants.{Shut, Wrote}
 use Rattle.px_trail.specs.declared.entry.Entry.{Entry}
