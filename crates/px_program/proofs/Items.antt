@@ -11,6 +11,9 @@ use Rattle.px_commanding.specs.Commits as commits
 use Rattle.px_commanding.specs.Counts as counts
 use Rattle.px_commanding.specs.declared.count.CountFault.{CountFault}
 use Rattle.px_commanding.specs.declared.count.CountFault.TheVariants as uncounted
+use Rattle.px_commanding.specs.Orders as orders
+use Rattle.px_commanding.specs.declared.order.OrderFault.{OrderFault}
+use Rattle.px_commanding.specs.declared.order.OrderFault.TheVariants as undone_by
 use Rattle.px_lex.specs.Script.{SeenPiece}
 use Rattle.px_ast.specs.declared.statement.Statement.{Statement}
 use Rattle.px_ast.specs.declared.statement.Statement.TheVariants as s
@@ -29,6 +32,8 @@ use Rattle.px_trail.specs.declared.entry.Act.TheVariants.{Missed, Shut}
 use Rattle.px_trail.specs.declared.entry.Entry.{Entry}
 use Rattle.px_calls.specs.Causes.{IsDamagedAt}
 use Rattle.px_calls.specs.Known.{Known}
+use Rattle.px_calls.specs.declared.status.Ordered.{Ordered}
+use Rattle.px_calls.specs.declared.status.Ordered.TheVariants as jobs
 use Rattle.px_calls.specs.declared.definition.Definition.{Definition}
 use Rattle.px_calls.specs.declared.definition.Definition.TheVariants as d
 use Rattle.px_batch.specs.Turns as batch
@@ -151,6 +156,9 @@ name_quiet : (x : Statement) → refused_by is_of_disk (name_taken x) ≡ false
 name_quiet (s.CreateTable t) = either t.if_not_exists (reply.Defined defined.TableKept) (reply.Refused (refusal.NameExists t.name)) refl refl
 name_quiet (s.CreateIndex i) = either i.if_not_exists (reply.Defined defined.IndexKept) (reply.Refused (refusal.NameExists i.name)) refl refl
 name_quiet x = refl
+
+order_quiet : (job : Ordered) → refused_by is_of_disk (right.order_reply job) ≡ false
+order_quiet jobs.FlushAll = refl
 
 says_quiet : (st : Settings) (c : Command) (a : Answered) → SaysOf st c a → refused_by is_of_disk a.reply ≡ false
 says_quiet st (commands.Scn n) a says = ap (refused_by is_of_disk) says.0
@@ -346,6 +354,15 @@ module _ (sound : Type 0) (k : Known) (whole : k.damaged ≡ undamaged) where
   not_counted n name f own a is none (inl says) = idle own a (reply.Refused (right.count_refusal name f)) none says (count_told n name f is)
   not_counted n name f own a is none (inr says) = still own a (reply.Refused refusal.Memory) none says refl
 
+  -- an order that isn't done
+  order_told : (f : OrderFault) → orders.FaultIs f k → Told (reply.Refused (right.order_refusal f))
+  unfolding Told
+  order_told undone_by.ReadFault is tell = told_by k.seat (Missed is.0) k.seen refl is.1
+  order_told undone_by.WriteFault is tell = told_by k.seat (Shut is.0) k.seen refl is.1
+  order_told (undone_by.Damaged file place) is tell = absurd (no_damage file place is)
+  order_told (undone_by.Closed call) is tell = closed_by call k.seen is
+  order_told undone_by.Memory is tell = absurd (false≢true tell)
+
   -- each form of answer
   pub fair : (before : ℕ) (own : List Act) (st : Settings) (p : SeenPiece) (a : Answered) → IsRight sound k before own st p a → IsFair k own a.reply
   unfolding Told
@@ -359,6 +376,8 @@ module _ (sound : Type 0) (k : Known) (whole : k.damaged ≡ undamaged) where
   fair before own st p a (right.is_not_committed again h fault held asks outcome since stops says) = not_committed h fault own a.reply outcome stops
   fair before own st p a (right.is_counted name s read outcome says none) = still own a.reply (reply.Status s) none says.0 refl
   fair before own st p a (right.is_not_counted name fault read outcome since says none) = not_counted a.first name fault own a.reply outcome none (⊎_elim (λ is. inl is.0) (λ is. inr is.0) says)
+  fair before own st p a (right.is_ordered job read running says none) = still own a.reply (right.order_reply job) none says.0 (order_quiet job)
+  fair before own st p a (right.is_not_ordered job fault read is since says none) = idle own a.reply (reply.Refused (right.order_refusal fault)) none says.0 (order_told fault is)
   fair before own st p a (right.is_changed u f r read scn on bound fits ended says) = did own _ a.reply (reply.Count 1 Affected) ended.one (balanced-batch f.table.id r.stamp (one_change f u)) says.0 refl
   fair before own st p a (right.is_not_changed u f fault read scn on bound fits is since left says) = record {
     told = λ tell. batch_told u.table f.table.id (one_change f u) fault is (sym (ap (refused_by is_of_disk) says.0) ∙ tell);

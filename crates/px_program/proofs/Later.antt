@@ -1,5 +1,5 @@
 -- A region on a disk of which fewer stops are told.
-use Rattle.std.proofs.Common.{◌≡◌, ℕ, List, [], ◌∷◌, Option, None, Some}
+use Rattle.std.proofs.Common.{◌≡◌, ℕ, List, [], ◌∷◌, take, Option, None, Some}
 use Rattle.px_outside.specs.declared.disk.Disk.{Ghosts as DiskGhosts}
 use Rattle.px_cells.specs.CellData.{CellData}
 use Rattle.px_file.specs.Files.{HasBlocks, HasWritten}
@@ -12,9 +12,11 @@ use Rattle.px_making.specs.Making.{IsMade}
 use Rattle.px_wal.specs.Batches.{Batch}
 use Rattle.px_wal.specs.Snapshot.{FileData, SnapshotData}
 use Rattle.px_files.specs.Files.{HaveFiles}
+use Rattle.px_loading.specs.Gathering.{HaveBlocks}
 use Rattle.px_flushing.specs.Flushing.{IsUnderWay}
 use Rattle.px_flushing.specs.Stage.{IsStage}
-use Rattle.px_flushing.specs.declared.flushing.Flush.{Flush}
+use Rattle.px_flushing.specs.declared.job.Job.{Job}
+use Rattle.px_flushing.specs.declared.job.Job.TheVariants as job
 use Rattle.px_flushing.specs.declared.stage.Stage.{Stage}
 use Rattle.px_flushing.specs.declared.stage.Stage.TheVariants as stage
 use Rattle.px_region.specs.Region.{Holds, RegionData}
@@ -56,7 +58,7 @@ module _ {D : Type 0} (d : DiskGhosts D) (tell : ℕ → Type 0) (disk : D) wher
   have_later region (f ∷ named) (o ∷ files) [] k = absurd k
   have_later region (f ∷ named) (o ∷ files) (l ∷ lists) k = (record { is = k.0.is; blocks = k.0.blocks; has = blocks_later o k.0.blocks k.0.has; cells = k.0.cells }, have_later region named files lists k.1)
 
-  -- ---- the flush that may be under way
+  -- ---- the flush or the compaction that may be under way
 
   made_later : (file : RegionFile) (cells : List CellData) → IsMade d file disk cells → IsMade (later d tell) file disk cells
   made_later file cells k = record { blocks = k.blocks; has = blocks_later file k.blocks k.has; all = k.all }
@@ -68,9 +70,22 @@ module _ {D : Type 0} (d : DiskGhosts D) (tell : ℕ → Type 0) (disk : D) wher
   stage_later file cells (stage.Made made) k = (k.0, made_later made cells k.1)
   stage_later file cells (stage.Measured made len) k = (k.0, made_later made cells k.1, k.2)
 
-  flush_later : (region : ℕ) (named : SnapshotData) (batches : List Batch) (flush : Option Flush) → IsUnderWay d region named batches disk flush → IsUnderWay (later d tell) region named batches disk flush
-  flush_later region named batches None k = tt
-  flush_later region named batches (Some flush) k = record { frozen = k.frozen; later = k.later; free = k.free; stage = stage_later _ flush.frozen.cells flush.stage k.stage }
+  all_later : (files : List RegionFile) (blocks : List (List (List CellData))) → HaveBlocks d disk files blocks → HaveBlocks (later d tell) disk files blocks
+  all_later [] [] k = tt
+  all_later [] (b ∷ blocks) k = absurd k
+  all_later (o ∷ files) [] k = absurd k
+  all_later (o ∷ files) (b ∷ blocks) k = (blocks_later o b k.0, all_later files blocks k.1)
+
+  under_later : (region : ℕ) (named : SnapshotData) (batches : List Batch) (files : List RegionFile) (lists : List (List CellData)) (under : Option Job) → IsUnderWay d region named batches files lists disk under → IsUnderWay (later d tell) region named batches files lists disk under
+  under_later region named batches files lists None k = tt
+  under_later region named batches files lists (Some (job.Flush flush)) k = record { frozen = k.frozen; later = k.later; free = k.free; stage = stage_later _ flush.frozen.cells flush.stage k.stage }
+  under_later region named batches files lists (Some (job.Gather gather)) k = record {
+    blocks = k.blocks;
+    within = k.within;
+    lists_are = k.lists_are;
+    has = record { tells = k.has.tells; have = all_later (take gather.count files) k.blocks k.has.have; store = k.has.store; cells = k.has.cells };
+  }
+  under_later region named batches files lists (Some (job.Merge merge)) k = record { cells = k.cells; free = k.free; stage = stage_later _ merge.frozen.cells merge.stage k.stage }
 
   -- ---- the region
 
@@ -88,7 +103,7 @@ module _ {D : Type 0} (d : DiskGhosts D) (tell : ℕ → Type 0) (disk : D) wher
             log = record { log = log_later _ _ _ _ _ _ parts.log.log; right = parts.log.right; last = parts.log.last; cut = parts.log.cut };
             have = have_later _ _ _ _ parts.have;
           };
-          flush = flush_later _ _ _ r.flushing.flush k.has.flush;
+          flush = under_later _ _ _ _ _ r.flushing.flush k.has.flush;
         };
         number = k.number;
         store = k.store;

@@ -118,3 +118,43 @@ fn a_stop_in_a_flush_leaves_what_was_acknowledged(rt: HostRuntime) -> Result<(),
     }
     Ok(())
 }
+
+const ROW: &str = "UPSERT INTO KV VALUES ('a','1');\n";
+
+const FLUSHED: &str = "UPSERT INTO KV VALUES ('a','1');\n!flush\n";
+
+#[test]
+fn what_is_flushed_stands_in_a_file(rt: HostRuntime) -> Result<(), AllocError> {
+    let alloc = rt.alloc();
+    let run = run_new(&rt, alloc, FLUSHED)?;
+    let text = "1 row affected\nflushed\n";
+    assert!(rt; is_printed(&run, Status::Done, text));
+    let mut disk = disk_of(run);
+    assert!(rt; disk.len(FIRST_FILE).unwrap_or(0) > 0);
+    let run = run_again(&rt, alloc, disk, "!flush\nSELECT * FROM KV;\n")?;
+    let text = "flushed\n'a', '1'\n1 row selected\n";
+    assert!(rt; is_printed(&run, Status::Done, text));
+    Ok(())
+}
+
+// Whatever a stop in one of its calls leaves, the row was acknowledged before.
+#[test]
+fn a_stop_in_an_ordered_flush_leaves_the_row(rt: HostRuntime) -> Result<(), AllocError> {
+    let alloc = rt.alloc();
+    let (before, disk) = filled(&rt, alloc, ROW)?;
+    drop(disk);
+    let (calls, disk) = filled(&rt, alloc, FLUSHED)?;
+    drop(disk);
+    assert!(rt; before.saturating_add(10) < calls, "{before} {calls}");
+    for call in before.saturating_add(1)..calls.saturating_add(1) {
+        for choice in [Choice::Old, Choice::New, Choice::Fill(1)] {
+            let Some(left) = stopped(&rt, alloc, MemDisk::new(alloc), call, choice, FLUSHED)? else {
+                return Err(AllocError);
+            };
+            let run = run_again(&rt, alloc, left, "!flush\nSELECT * FROM KV")?;
+            let text = "flushed\n'a', '1'\n1 row selected\n";
+            assert!(rt; is_printed(&run, Status::Done, text), "{call} {choice:?}");
+        }
+    }
+    Ok(())
+}

@@ -469,7 +469,7 @@ E05 no such table: T
 !autocommit
 !autocommit maybe
 !commit now
-!flush
+!flush now
 !compact
 =>E01 syntax at byte 7
 E05 no such table: NOPE
@@ -477,7 +477,7 @@ E01 syntax at byte 11
 E01 syntax at byte 11
 E01 syntax at byte 12
 E01 syntax at byte 8
-E02 left out: FORM
+E01 syntax at byte 7
 E02 left out: FORM
 ";
 
