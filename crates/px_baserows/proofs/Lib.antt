@@ -1,0 +1,4 @@
+pub mod Fitting
+pub mod Given
+pub mod May
+pub mod Seen

@@ -1,0 +1,5 @@
+pub mod Less
+pub mod LessShown
+pub mod More
+pub mod MoreShown
+pub mod Once

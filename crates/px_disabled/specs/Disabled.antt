@@ -1,0 +1,8 @@
+-- An index that is built again.
+use Rattle.std.specs.Prelude.{ℕ}
+use Rattle.px_tables.specs.declared.index.Index.{Index}
+use Rattle.px_tables.specs.declared.index.IndexState.TheVariants.{Building}
+
+-- the index with a new birth and a new region
+abbrev pub rebuilt : (birth region : ℕ) → Index → Index
+rebuilt birth region x = record x { state = Building; birth = birth; region = region }

@@ -1,0 +1,39 @@
+//! An index is disabled, and one is built again: what the trail tells of its table, and what the table shows.
+//!
+//! Laws over the steps of px_defined, no code: a table that lets an index go (`HasIndexLess`) has disabled it where the entry says so, and one that
+//! lets it go and gets it anew (`HasIndexMore`) builds it again, with a new birth and a fresh region.
+#![tactic(auto)]
+
+ghost use Rattle.std.specs.Prelude.{◌≡◌, ◌++◌, ◌∷◌, [], ℕ, List, Some};
+ghost use Rattle.px_defined.specs.Defined.{HasIndexLess, HasIndexMore, HasOnce, dropped_data};
+ghost use Rattle.px_forms.specs.Indexes.{IndexForm};
+ghost use Rattle.px_group.specs.Group.{IsShownBy, IsTallied, form_of};
+ghost use Rattle.px_group.specs.declared.group.Group.{Group as Tables};
+ghost use Rattle.px_groupworld.specs.Group.{GroupData};
+ghost use Rattle.px_groupworld.specs.Steps.{born_data};
+ghost use Rattle.px_indexrow.specs.Form.{index_form};
+ghost use Rattle.px_openbatches.specs.Pending.{HeldBatch};
+ghost use Rattle.px_tables.specs.declared.index.Index.{Index as Indexes};
+ghost use Rattle.px_tables.specs.declared.index.IndexState.TheVariants.{Building as IsBuilding, Disabled as IsDisabled};
+ghost use Rattle.px_tablesteps.specs.Kept.{TableBears};
+ghost use Rattle.px_trail.specs.Legal.{MayCome};
+ghost use Rattle.px_trail.specs.Trail.{Base, catalogue_of, index_of};
+ghost use Rattle.px_trail.specs.declared.entry.Act.TheVariants.{IndexState};
+ghost use Rattle.px_trail.specs.declared.entry.Entry.{Entry as Entries};
+ghost use Rattle.px_values.specs.declared.name.IndexId.{IndexId as IndexNumber};
+ghost use Rattle.px_disabled.specs.Disabled.{rebuilt};
+
+/// An index is disabled, where no batch is open: its table lets it go.
+pub fn law_disabled()
+    ensures tallied { (b : Base) → (es : List Entries) → (e : Entries) → (g : Tables) → (h : Tables) → (id : IndexNumber) → (hs : List HeldBatch) → IsTallied b es g hs → HasIndexLess g h id.0 → (s : ℕ) → e.act ≡ IndexState g.table.id id IsDisabled s → IsTallied b (es ++ e ∷ []) h hs }
+    ensures shown { (b : Base) → (es : List Entries) → (e : Entries) → MayCome b es e → (g : Tables) → (h : Tables) → (id : IndexNumber) → (hs : List HeldBatch) → IsTallied b es g hs → HasIndexLess g h id.0 → g.batches.items ≡ [] → (s : ℕ) → e.act ≡ IndexState g.table.id id IsDisabled s → (index : ℕ → IndexForm) → (v : GroupData) → IsShownBy b index es g v hs → IsShownBy b index (es ++ e ∷ []) h (dropped_data id.0 v) [] }
+{}
+
+/// An index is built again, where no batch is open: its table lets it go, if it has it, and gets it anew, with the stamp as its birth and a fresh
+/// region of the next number.
+pub fn law_rebuilt()
+    ensures tallied { (b : Base) → (es : List Entries) → (e : Entries) → MayCome b es e → (g : Tables) → (less : Tables) → (h : Tables) → (x : Indexes) → (hs : List HeldBatch) → IsTallied b es g hs → index_of b es x.id.0 ≡ Some x → HasIndexLess g less x.id.0 → (s : ℕ) → HasIndexMore less h (rebuilt s (catalogue_of b es).next x) → e.act ≡ IndexState g.table.id x.id IsBuilding s → IsTallied b (es ++ e ∷ []) h hs }
+    ensures once { (g : Tables) → (less : Tables) → (h : Tables) → (x : Indexes) → (s : ℕ) → (region : ℕ) → HasIndexLess g less x.id.0 → HasIndexMore less h (rebuilt s region x) → HasOnce g → HasOnce h }
+    ensures bears { (b : Base) → (es : List Entries) → (e : Entries) → MayCome b es e → (g : Tables) → (less : Tables) → (x : Indexes) → (hs : List HeldBatch) → IsTallied b es g hs → g.batches.items ≡ [] → HasIndexLess g less x.id.0 → (s : ℕ) → e.act ≡ IndexState g.table.id x.id IsBuilding s → (index : ℕ → IndexForm) → (v : GroupData) → IsShownBy b index es g v hs → index x.id.0 ≡ index_form g.table x → TableBears (form_of b index less) x.id.0 s es (dropped_data x.id.0 v) (es ++ e ∷ []) [] }
+    ensures shown { (b : Base) → (es : List Entries) → (e : Entries) → MayCome b es e → (g : Tables) → (less : Tables) → (h : Tables) → (x : Indexes) → (hs : List HeldBatch) → IsTallied b es g hs → g.batches.items ≡ [] → HasIndexLess g less x.id.0 → (s : ℕ) → HasIndexMore less h (rebuilt s (catalogue_of b es).next x) → e.act ≡ IndexState g.table.id x.id IsBuilding s → (index : ℕ → IndexForm) → (v : GroupData) → IsShownBy b index es g v hs → index x.id.0 ≡ index_form g.table x → IsShownBy b index (es ++ e ∷ []) h (born_data x.id.0 s (dropped_data x.id.0 v)) [] }
+{}
