@@ -2,8 +2,8 @@
 ghost use Rattle.std.specs.Prelude.{◌≡◌};
 
 use px_calls::{
-    Chunk, Definition, Doubt, Fixing, Held, Made, Marks, Path, Point, Receipt, Status, StepFault,
-    Steps, Ticket, Verifies, Work, Writes,
+    Chunk, Definition, Doubt, Fixing, Held, Made, Marks, Ordered, Path, Point, Receipt, Status,
+    StepFault, Steps, Ticket, Verifies, Work, Writes,
 };
 use px_tables::Found;
 use px_values::{Changes, Key, Name, TableId};
@@ -18,6 +18,10 @@ impl Steps for Bare {
     ghost known = { λ _. bare };
 
     ghost sound = { Unit {0} };
+
+    ghost ordered = { λ _. Unit {0} };
+
+    ghost done = { λ _. Unit {0} };
 
     fn find(&mut self, _name: &Name) -> Result<Found, StepFault> {
         Err(StepFault::NoTable)
@@ -69,6 +73,10 @@ impl Steps for Bare {
 
     fn close_point(&mut self, _p: Point) {
         unreachable!()
+    }
+
+    fn order(&mut self, _job: Ordered) -> Result<(), StepFault> {
+        Ok(())
     }
 
     fn upkeep(&mut self) -> Result<Work, StepFault> {

@@ -1,0 +1,10 @@
+pub mod Adding
+pub mod Agreeing
+pub mod Counts
+pub mod Fronts
+pub mod Indexes
+pub mod Keeping
+pub mod Later
+pub mod Looked
+pub mod Ordered
+pub mod Stepping

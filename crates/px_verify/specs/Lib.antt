@@ -1,0 +1,9 @@
+pub mod inner
+pub mod Agreement
+pub mod Faults
+pub mod Lists
+pub mod Looking
+pub mod Points
+pub mod Reports
+pub mod Rising
+pub mod Turns

@@ -1,0 +1,166 @@
+// What is kept of the keys that looks find.
+ghost use Rattle.std.specs.Prelude.{◌≡◌, ◌↔◌, ◌⊎◌, ◌++◌, ◌∷◌, [], Some, IfOk, OnOk, IsTrue, get_or, map};
+ghost use Rattle.std.specs.List.{All};
+ghost use Rattle.px_keys.specs.Spelling.{Fits, IsNullFixed, PartFits, columns_of, values_of};
+ghost use Rattle.px_paths.specs.Paths.{columns_on, key_on as key_on_path, values_on};
+ghost use Rattle.px_values.specs.declared.row.Value.TheVariants.{Null};
+ghost use Rattle.px_verify.specs.Lists.{HaveKeys, entries_of, entry_on, values_in, version_of as version_is};
+
+use crate::report::{IndexEntry, Version};
+use px_calls::FoundKey;
+use px_keys::{KeyFault, Part, encode_key, spell_front};
+use px_paths::PathColumn;
+use px_values::{Items, Key, Row, Value};
+use std::alloc::{AllocError, Global};
+
+/// The value of a column, or NULL where the row has none.
+fn value_in(alloc: Global, row: &[Value], column: u8) -> Result<Value, AllocError>
+    ensures { IfOk result (λ v. v ≡ get_or row.now column Null) }
+{
+    match row.get(column as usize) {
+        Some(value) => value.copied(alloc),
+        None => Ok(Value::Null),
+    }
+}
+
+/// The row's values in the included columns.
+fn included_values(alloc: Global, included: &[u8], row: &[Value]) -> Result<Row, AllocError>
+    ensures { IfOk result (λ values. values ≡ values_in included.now row.now) }
+{
+    let mut values = Vec::with_capacity(alloc, included.len())?;
+    for column in included {
+        values.push(value_in(alloc, row, *column)?)?;
+    }
+    Ok(Items::of(values))
+}
+
+/// The row's values on a path, each with its column.
+fn parts_of<'a>(
+    alloc: Global,
+    path: &[PathColumn],
+    row: &'a [Value],
+    null: &'a Value,
+) -> Result<Vec<Part<'a>>, AllocError>
+    requires { null.now ≡ Null }
+    ensures columns { IfOk result (λ parts. columns_of parts.items ≡ columns_on path.now) }
+    ensures values { IfOk result (λ parts. values_of parts.items ≡ values_on path.now row.now) }
+{
+    let mut parts = Vec::with_capacity(alloc, path.len())?;
+    for column in path {
+        parts.push(Part {
+            column: column.column,
+            value: row.get(column.place as usize).unwrap_or(null),
+        })?;
+    }
+    Ok(parts)
+}
+
+fn can_stand(parts: &[Part<'_>]) -> bool
+    ensures { IsTrue result ↔ All (λ part. PartFits part ⊎ IsNullFixed part) parts.now }
+{
+    parts.iter().all(|part| part.can_stand())
+}
+
+/// The row's key on a path, however long it is. A row whose values don't fit the path's columns has none.
+fn key_on(alloc: Global, path: &[PathColumn], row: &[Value]) -> Result<Option<Key>, AllocError>
+    ensures { IfOk result (λ key. Fits (columns_on path.now) (values_on path.now row.now) → key ≡ Some (key_on_path path.now row.now)) }
+{
+    let null = Value::Null;
+    let parts = parts_of(alloc, path, row, &null)?;
+    if !can_stand(&parts) {
+        return Ok(None);
+    }
+    match encode_key(alloc, &parts) {
+        Ok(key) => Ok(Some(key)),
+        Err(KeyFault::TooLong) => Ok(Some(Key::of(spell_front(alloc, &parts)?))),
+        Err(KeyFault::NullFixed) => Ok(None),
+        Err(_) => Err(AllocError),
+    }
+}
+
+/// The entry that a row asks for, if it has a key.
+fn entry_of(
+    alloc: Global,
+    path: &[PathColumn],
+    included: &[u8],
+    row: &[Value],
+) -> Result<Option<IndexEntry>, AllocError>
+    ensures { IfOk result (λ entry. Fits (columns_on path.now) (values_on path.now row.now) → entry ≡ Some (entry_on path.now included.now row.now)) }
+{
+    match key_on(alloc, path, row)? {
+        None => Ok(None),
+        Some(key) => {
+            let values = included_values(alloc, included, row)?;
+            Ok(Some(IndexEntry { key, values }))
+        }
+    }
+}
+
+/// Keeps the entry that a row found on a table's path asks for. Nothing is in doubt there.
+fn keep_row(
+    alloc: Global,
+    path: &[PathColumn],
+    included: &[u8],
+    key: FoundKey,
+    rows: &mut Vec<IndexEntry>,
+) -> Result<(), AllocError>
+    ensures { OnOk result (HaveKeys path.now (key ∷ []) → rows.new.items ≡ rows.old.items ++ entries_of path.now included.now (key ∷ [])) }
+{
+    match key {
+        FoundKey::InDoubt(_) => Ok(()),
+        FoundKey::Sure(found) => match entry_of(alloc, path, included, found.row.as_slice())? {
+            None => Ok(()),
+            Some(entry) => {
+                rows.push(entry)?;
+                Ok(())
+            }
+        },
+    }
+}
+
+/// Keeps the entries that the rows found on a table's path ask for.
+pub(crate) fn keep_rows(
+    alloc: Global,
+    path: &[PathColumn],
+    included: &[u8],
+    keys: Items<FoundKey>,
+    rows: &mut Vec<IndexEntry>,
+) -> Result<(), AllocError>
+    ensures { OnOk result (HaveKeys path.now keys → rows.new.items ≡ rows.old.items ++ entries_of path.now included.now keys) }
+{
+    for key in keys.into_vec() {
+        keep_row(alloc, path, included, key, rows)?;
+    }
+    Ok(())
+}
+
+/// The version that was found at a key of an index's path.
+fn version_of(alloc: Global, included: &[u8], key: FoundKey) -> Result<Version, AllocError>
+    ensures { IfOk result (λ version. version ≡ version_is included.now key) }
+{
+    match key {
+        FoundKey::InDoubt(doubt) => Ok(Version::Unverified(doubt.key)),
+        FoundKey::Sure(found) => {
+            let values = included_values(alloc, included, found.row.as_slice())?;
+            Ok(Version::Verified(IndexEntry {
+                key: found.key,
+                values,
+            }))
+        }
+    }
+}
+
+/// Keeps the versions found on an index's path.
+pub(crate) fn keep_versions(
+    alloc: Global,
+    included: &[u8],
+    keys: Items<FoundKey>,
+    versions: &mut Vec<Version>,
+) -> Result<(), AllocError>
+    ensures { OnOk result (versions.new.items ≡ versions.old.items ++ map (version_is included.now) keys) }
+{
+    for key in keys.into_vec() {
+        versions.push(version_of(alloc, included, key)?)?;
+    }
+    Ok(())
+}
