@@ -1,6 +1,6 @@
 //! Times the store in memory, what is visible of cells, and merging. `px_bench_cells ROWS` puts cells of so many rows into
 //! a store in two batches, takes what is visible, keeps what a horizon asks for, changes one row as often (8,192 times at
-//! most), and merges the same cells from 2, 8 and 64 sources. It says on standard error how many cells a second each of
+//! most), fills a store in batches, and merges the same cells from 2, 8 and 64 sources. It says on standard error how many cells a second each of
 //! them passes; without an argument it does so for a few rows, and prints the counts alone.
 #![tactic(auto)]
 
@@ -92,6 +92,28 @@ fn change(rt: &HostRuntime, changes: u64) -> io::Result<(usize, u128)> {
     Ok((store.row(&key).len(), took))
 }
 
+// Fills a store with so many rows of three cells, in batches of 100 rows that lie all over it, and says how many cells it has then and how many
+// microseconds that took.
+fn fill(rt: &HostRuntime, rows: u64) -> io::Result<(usize, u128)> {
+    let alloc = rt.alloc();
+    let mut store = MemStore::new(alloc);
+    let batches = rows / 100;
+    let start = Instant::now(rt)?;
+    for batch in 0..batches {
+        let mut cells = Cells::new(alloc);
+        for place in 0..100u64 {
+            let row = batch.wrapping_add(place.wrapping_mul(batches));
+            cells.push(cell(alloc, row, 1, 5, CellKind::Put)?)?;
+            cells.push(cell(alloc, row, 2, 5, CellKind::Put)?)?;
+            cells.push(cell(alloc, row, 3, 5, CellKind::Put)?)?;
+        }
+        store.reserve(cells.len() as u64)?;
+        put(&mut store, cells);
+    }
+    let took = start.elapsed(rt)?.as_micros();
+    Ok((store.snapshot()?.len(), took))
+}
+
 fn rate(cells: usize, micros: u128) -> u128 {
     (cells as u128).wrapping_mul(1_000_000) / micros.max(1)
 }
@@ -128,6 +150,12 @@ fn run(rt: &HostRuntime, rows: u64, is_timed: bool) -> io::Result<()> {
         eprintln!(rt; "changes of one row a second, until it has {c} cells: {r}")?;
     }
     println!(rt; "{c} cells of one row")?;
+    let (f, filling) = fill(rt, rows)?;
+    if is_timed {
+        let r = rate(f, filling);
+        eprintln!(rt; "cells a second: put in batches of 300, until it has {f}: {r}")?;
+    }
+    println!(rt; "{f} cells of batches")?;
     for count in [2, 8, 64] {
         let (given, merging) = merge(rt, rows, count)?;
         if is_timed {

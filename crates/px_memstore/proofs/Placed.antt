@@ -1,7 +1,7 @@
--- Cells are put into a sorted list, one after the other.
-use Rattle.std.proofs.Common.{◌≡◌, ℕ, suc, zero, ◌+◌, ◌<◌, ◌≤◌, ◌⊎◌, Bool, true, false, List, [], ◌∷◌, ◌++◌, length, take, drop, get_or, refl, sym, ◌∙◌, ap, subst, inl, inr, add-one, arith}
+-- The place of a cell in a sorted list, and what is read where it is put there.
+use Rattle.std.proofs.Common.{◌≡◌, ℕ, suc, zero, ◌+◌, ◌<◌, ◌≤◌, Bool, true, false, List, [], ◌∷◌, ◌++◌, length, take, drop, get_or, refl, sym, ◌∙◌, ap, subst, inl, inr, arith}
 use Rattle.std.specs.Prelude.{slice_set}
-use Rattle.std.specs.List.{AllByRecursion, AllWithin, insert}
+use Rattle.std.specs.List.{AllByRecursion, AllWithin}
 use Rattle.std.specs.List.Sorted.{IsPartitionedBy}
 use Rattle.std.specs.declared.cmp.Ordering.{Ordering}
 use Rattle.std.specs.declared.cmp.Ordering.TheVariants.{Less, Equal, Greater}
@@ -11,9 +11,9 @@ use Rattle.std.proofs.lemmas.List.{drop-set, get_or-drop, get_or-take, length-dr
 use Rattle.std.proofs.lemmas.List.Elements.{recursion_from_All}
 use Rattle.px_cells.specs.CellData.{CellData}
 use Rattle.px_cells.specs.Among.{Has}
-use Rattle.px_cells.specs.Order.{Below, IsAscending, IsSettled, Reads, ReadsSame, SamePlace, cell_cmp}
-use Rattle.px_cells.proofs.Orders.{apart, below_left, below_right, below_trans, cell_cmp_total}
-use Rattle.px_cells.proofs.Among.{after_is_above, all_has, ascending_join, ascending_left, ascending_right, has_all, has_append, has_from_reads, has_left, has_right, reads_behind, reads_from_has}
+use Rattle.px_cells.specs.Order.{Below, IsAscending, IsSettled, Reads, SamePlace, cell_cmp}
+use Rattle.px_cells.proofs.Orders.{apart, below_left, below_trans, cell_cmp_total}
+use Rattle.px_cells.proofs.Among.{after_is_above, all_has, ascending_join, ascending_left, ascending_right, has_all, has_append, has_from_reads, has_left, has_right, reads_from_has}
 use Rattle.px_cells.proofs.RowLemmas.{below_at}
 use Rattle.px_cells.proofs.Sights.{equal_from_place, place_back, place_from_equal}
 
@@ -72,7 +72,7 @@ module _ (c : CellData) (left equal above : List CellData) (a : IsAscending (lef
   put_settled = record { ascending = joined_ascending; same = λ d. (λ r. reads_to d (has_from_reads (left ++ c ∷ above) d r), λ r. reads_from_has (left ++ c ∷ above) d joined_ascending (reads_of d r)) }
 
 -- a list from a place on
-rest_at : (cells : List CellData) (i : ℕ) (d : CellData) → i < length cells → drop i cells ≡ get_or cells i d ∷ drop (i + 1) cells
+pub rest_at : (cells : List CellData) (i : ℕ) (d : CellData) → i < length cells → drop i cells ≡ get_or cells i d ∷ drop (i + 1) cells
 rest_at [] i d l = absurd (omega arith)
 rest_at (x ∷ cells) zero d l = refl
 rest_at (x ∷ cells) (suc i) d l = rest_at cells i d (omega arith) ∙ ap (λ (n : ℕ). get_or cells i d ∷ drop n (x ∷ cells)) next
@@ -103,7 +103,7 @@ replaced cells i c a l below same =
     is : slice_set cells i c ≡ take i cells ++ c ∷ drop (i + 1) cells
     is = sym (take-append-drop i (slice_set cells i c)) ∙ (λ j. take-set cells i c j ++ drop-set cells i c l j)
 
-greater_is_above : (m c : CellData) → (Below m c → ⊥) → (SamePlace m c → ⊥) → Below c m
+pub greater_is_above : (m c : CellData) → (Below m c → ⊥) → (SamePlace m c → ⊥) → Below c m
 greater_is_above m c less same = by (cell_cmp m c) refl
   where
     by : (o : Ordering) → cell_cmp m c ≡ o → Below c m
@@ -111,32 +111,9 @@ greater_is_above m c less same = by (cell_cmp m c) refl
     by Equal e = absurd (same (place_from_equal m c e))
     by Greater e = cell_cmp_total.antisymm c m ∙ ap ordering_reverse e
 
--- it is put between
-pub put_between : (cells : List CellData) (i : ℕ) (c : CellData) → IsAscending cells → AllByRecursion (λ m. Below m c) (take i cells) → AllByRecursion (λ m. Below m c → ⊥) (drop i cells) → (i < length cells → SamePlace (get_or cells i c) c → ⊥)
-    → IsSettled (c ∷ cells) (insert cells i c)
-put_between cells i c a below from none =
-    subst (λ (z : List CellData). IsSettled (c ∷ z) (insert cells i c)) (take-append-drop i cells)
-    (put_settled c (take i cells) [] (drop i cells) (subst IsAscending (sym (take-append-drop i cells)) a) below tt (above (drop i cells) refl from))
-  where
-    above : (rest : List CellData) → drop i cells ≡ rest → AllByRecursion (λ m. Below m c → ⊥) rest → AllByRecursion (Below c) rest
-    above [] e f = tt
-    above (x ∷ rest) e f =
-        let some : i < length cells = (let n = length-drop i cells in let q : length (drop i cells) ≡ suc (length rest) = ap length e in omega arith) in
-        let at : get_or cells i c ≡ x = ap (λ (l : List CellData). get_or l 0 c) (sym (rest_at cells i c some) ∙ e) in
-        let up : Below c x = greater_is_above x c f.0 (λ s. none some (subst (λ (m : CellData). SamePlace m c) (sym at) s)) in
-        let whole : IsAscending (take i cells ++ x ∷ rest) = subst IsAscending (sym (take-append-drop i cells) ∙ ap (λ (l : List CellData). take i cells ++ l) e) a in
-        (up, has_all (Below c) rest (λ m h. below_trans c x m up (after_is_above (take i cells) rest x m whole h)))
-
 -- the same of slices of it
 pub replaced_in : (cells xs ys : List CellData) → xs ≡ cells → ys ≡ cells → (i : ℕ) (c : CellData) → IsAscending cells → AllByRecursion (λ m. Below m c) (take i xs) → (i < length ys) × SamePlace (get_or ys i c) c → IsSettled (c ∷ cells) (slice_set cells i c)
 replaced_in cells xs ys e f i c a below found = replaced cells i c a (subst (λ (l : List CellData). i < length l) f found.0) (subst (λ (l : List CellData). AllByRecursion (λ m. Below m c) (take i l)) e below) (subst (λ (l : List CellData). SamePlace (get_or l i c) c) f found.1)
-
-pub put_between_in : (cells xs ys new : List CellData) → xs ≡ cells → ys ≡ cells → (i : ℕ) (c : CellData) → IsAscending cells → AllByRecursion (λ m. Below m c) (take i xs) → AllByRecursion (λ m. Below m c → ⊥) (drop i xs)
-    → (i < length ys → SamePlace (get_or ys i c) c → ⊥) → new ≡ insert cells i c → IsSettled (c ∷ cells) new
-put_between_in cells xs ys new e f i c a below from none is =
-    subst (IsSettled (c ∷ cells)) (sym is)
-    (put_between cells i c a (subst (λ (l : List CellData). AllByRecursion (λ m. Below m c) (take i l)) e below) (subst (λ (l : List CellData). AllByRecursion (λ m. Below m c → ⊥) (drop i l)) e from)
-    (subst (λ (l : List CellData). i < length l → SamePlace (get_or l i c) c → ⊥) f none))
 
 -- ---- whether a cell stands there
 
@@ -155,41 +132,3 @@ equal_so_is a b o is e f t = place_from_equal a b (sym e ∙ eq_equal o (sym f �
 
 pub equal_is_so : (a b : CellData) (o : Ordering) (is : Bool) → o ≡ cell_cmp a b → is ≡ is_eq o → SamePlace a b → is ≡ true
 equal_is_so a b o is e f s = f ∙ ap is_eq (e ∙ equal_from_place a b s)
-
--- ---- the whole batch
-
--- while the cells of a batch are put, the least first
-pub record IsMerging (rest cells batch-0 cells-0 : List CellData) : Type 0 where
-  pub ascending : IsAscending cells
-  pub sorted : IsAscending rest
-  pub same : ReadsSame (rest ++ cells) (batch-0 ++ cells-0)
-
-reads_trans : (xs ys zs : List CellData) → ReadsSame xs ys → ReadsSame ys zs → ReadsSame xs zs
-reads_trans xs ys zs f g c = (λ r. (g c).0 ((f c).0 r), λ r. (f c).1 ((g c).1 r))
-
--- a cell that has the place of none before it may stand first
-reads_first : (xs ys : List CellData) (c : CellData) → AllByRecursion (Below c) xs → ReadsSame (xs ++ c ∷ ys) (c ∷ (xs ++ ys))
-reads_first [] ys c b d = (λ r. r, λ r. r)
-reads_first (x ∷ xs) ys c b d = (to (reads_first xs ys c b.1 d).0, of (reads_first xs ys c b.1 d).1)
-  where
-    to : (Reads (xs ++ c ∷ ys) d → Reads (c ∷ (xs ++ ys)) d) → Reads (x ∷ (xs ++ c ∷ ys)) d → Reads (c ∷ (x ∷ (xs ++ ys))) d
-    to f (inl e) = inr (λ s. apart c x b.0 (subst (SamePlace c) (sym e) s), inl e)
-    to f (inr r) = elim (f r.1) [ inl e ↦ inl e | inr q ↦ inr (q.0, inr (r.0, q.1)) ]
-
-    of : (Reads (c ∷ (xs ++ ys)) d → Reads (xs ++ c ∷ ys) d) → Reads (c ∷ (x ∷ (xs ++ ys))) d → Reads (x ∷ (xs ++ c ∷ ys)) d
-    of f (inl e) = inr (λ s. apart c x b.0 (place_back x c (subst (SamePlace x) (sym e) s)), f (inl e))
-    of f (inr (s, inl e)) = inl e
-    of f (inr (s, inr r)) = inr (r.0, f (inr (s, r.1)))
-
-pub merging_none : (batch cells : List CellData) → IsAscending cells → IsAscending batch → IsMerging batch cells batch cells
-merging_none batch cells a b = record { ascending = a; sorted = b; same = λ d. (λ r. r, λ r. r) }
-
-pub merging_more : (c : CellData) (rest cells new b0 c0 : List CellData) → IsSettled (c ∷ cells) new → IsMerging (c ∷ rest) cells b0 c0 → IsMerging rest new b0 c0
-merging_more c rest cells new b0 c0 put z = record {
-  ascending = put.ascending;
-  sorted = z.sorted.1;
-  same = reads_trans (rest ++ new) (rest ++ c ∷ cells) (b0 ++ c0) (reads_behind rest new (c ∷ cells) put.same) (reads_trans (rest ++ c ∷ cells) (c ∷ (rest ++ cells)) (b0 ++ c0) (reads_first rest cells c z.sorted.0) z.same);
-}
-
-pub merging_done : (cells b0 c0 : List CellData) → IsMerging [] cells b0 c0 → IsSettled (b0 ++ c0) cells
-merging_done cells b0 c0 z = record { ascending = z.ascending; same = z.same }

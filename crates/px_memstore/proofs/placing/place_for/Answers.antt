@@ -3,8 +3,8 @@ use Rattle.std.proofs.Common.{rules}
 use Rattle.std.proofs.lemmas.List.Sorted.{IsPartitionPoint-from_clause}
 use Rattle.px_cells.specs.CellData.{CellData}
 use Rattle.px_cells.specs.Order.{cell_cmp}
-use Rattle.px_memstore.proofs.OneByOne.{below_parts, from_parts, parted}
-use Rattle.px_memstore.proofs.putting.place_for.Goals as goal
+use Rattle.px_memstore.proofs.Placed.{below_parts, from_parts, parted}
+use Rattle.px_memstore.proofs.placing.place_for.Goals as goal
 
 pub returns-clause-below : goal.returns-clause-below
 returns-clause-below c =

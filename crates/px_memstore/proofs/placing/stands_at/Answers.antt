@@ -1,8 +1,8 @@
 use Rattle.std.proofs.Common.{◌≡◌, true, false, sym, subst, ◌∙◌}
 use Rattle.px_cells.specs.CellData.{CellData}
 use Rattle.px_cells.specs.Order.{SamePlace}
-use Rattle.px_memstore.proofs.OneByOne.{equal_is_so, equal_so_is, same_at}
-use Rattle.px_memstore.proofs.putting.stands_at.Goals as goal
+use Rattle.px_memstore.proofs.Placed.{equal_is_so, equal_so_is, same_at}
+use Rattle.px_memstore.proofs.placing.stands_at.Goals as goal
 
 pub returns-then-at-cells-clause-found : goal.returns-then-at-cells-clause-found
 returns-then-at-cells-clause-found c = λ e. (c.if-at-cells.true, subst (λ (x : CellData). SamePlace x c.args.cell.now) (same_at c.args.cells.now c.args.at c.index-cells-at.result c.args.cell.now c.if-at-cells.true c.index-cells-at.is) (equal_so_is _ _ c.cell_order.result c.is_eq.result c.cell_order.ensures c.is_eq.ensures e))
