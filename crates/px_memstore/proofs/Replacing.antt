@@ -1,5 +1,6 @@
 -- The cells of a batch that stand in a list already are replaced there.
 use Rattle.std.proofs.Common.{◌≡◌, ℕ, zero, suc, ◌<◌, List, [], ◌∷◌, ◌++◌, length, take, drop, get_or, refl, sym, ◌∙◌, ap, subst, inl, inr, arith, append_assoc, take-append-drop}
+use Rattle.std.proofs.lemmas.List.{append-nil}
 use Rattle.std.specs.Prelude.{◌↔◌}
 use Rattle.std.specs.List.{AllByRecursion}
 use Rattle.px_cells.specs.CellData.{CellData}
@@ -19,12 +20,8 @@ pub record IsReplacing (rest cells aside batch-0 cells-0 : List CellData) : Type
   pub apart : (m n : CellData) → Has cells m → Has aside n → SamePlace m n → ⊥
   pub same : ReadsSame (rest ++ (aside ++ cells)) (batch-0 ++ cells-0)
 
-pub append_none : (xs : List CellData) → xs ++ [] ≡ xs
-append_none [] = refl
-append_none (x ∷ xs) = ap (λ (l : List CellData). x ∷ l) (append_none xs)
-
 pub replacing_none : (batch cells : List CellData) → IsAscending cells → IsAscending batch → IsReplacing batch cells [] batch cells
-replacing_none batch cells a b = record { ascending = a; sorted = subst IsAscending (sym (append_none batch)) b; apart = λ m n h g. absurd g; same = λ d. (λ r. r, λ r. r) }
+replacing_none batch cells a b = record { ascending = a; sorted = subst IsAscending (sym (append-nil batch)) b; apart = λ m n h g. absurd g; same = λ d. (λ r. r, λ r. r) }
 
 reads_trans : (xs ys zs : List CellData) → ReadsSame xs ys → ReadsSame ys zs → ReadsSame xs zs
 reads_trans xs ys zs f g c = (λ r. (g c).0 ((f c).0 r), λ r. (f c).1 ((g c).1 r))

@@ -1,5 +1,6 @@
 -- Two parts of a list are merged.
 use Rattle.std.proofs.Common.{◌≡◌, ℕ, ◌+◌, ◌-◌, ◌<◌, ◌≤◌, List, [], ◌∷◌, ◌++◌, length, take, drop, get_or, refl, sym, ◌∙◌, ap, subst, inl, inr, arith, append_assoc, length-append, length-take-le, length-drop, take-append-drop}
+use Rattle.std.proofs.lemmas.List.{append-nil}
 use Rattle.std.specs.Prelude.{◌↔◌}
 use Rattle.std.specs.List.{AllByRecursion}
 use Rattle.px_cells.specs.CellData.{CellData}
@@ -33,7 +34,7 @@ weaving_none cells middle l first second apart = record {
   front = take middle cells;
   back = drop middle cells;
   merged = [];
-  is = sym (ap (λ (xs : List CellData). take middle cells ++ xs) (append_none (drop middle cells)) ∙ take-append-drop middle cells);
+  is = sym (ap (λ (xs : List CellData). take middle cells ++ xs) (append-nil (drop middle cells)) ∙ take-append-drop middle cells);
   front_len = length-take-le middle cells l;
   back_len = length-drop middle cells;
   front_sorted = first;
@@ -44,10 +45,6 @@ weaving_none cells middle l first second apart = record {
   apart = apart;
   same = λ d. (λ h. h, λ h. h);
 }
-  where
-    append_none : (xs : List CellData) → xs ++ [] ≡ xs
-    append_none [] = refl
-    append_none (x ∷ xs) = ap (λ (l : List CellData). x ∷ l) (append_none xs)
 
 -- the last of the second part comes to its place
 module _ (old cells new : List CellData) (end rest at : ℕ) (w : IsWeaving old end rest cells) (some : 0 < rest) (turned : IsTurned cells new end rest at) where
