@@ -1,6 +1,6 @@
 #!/usr/bin/env bash
 # How many cells a second the store in memory puts, a point sees, a horizon keeps, and the merged list gives of 2, 8 and
-# 64 sources, and how many changes of one row. Six cells a row. Usage: bench/cells.sh [ROWS].
+# 64 sources, how many changes of one row, and how many cells it puts in batches of 300 that lie all over it. Six cells a row, three in batches. Usage: bench/cells.sh [ROWS].
 set -eu
 rows=${1:-200000}
 cd "$(dirname "$0")/../crates/px_bench_cells"

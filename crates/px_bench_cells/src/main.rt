@@ -92,12 +92,12 @@ fn change(rt: &HostRuntime, changes: u64) -> io::Result<(usize, u128)> {
     Ok((store.row(&key).len(), took))
 }
 
-// Fills a store with so many rows of three cells, in batches of 100 rows that lie all over it, and says how many cells it has then and how many
-// microseconds that took.
+// Fills a store with so many rows of three cells, in batches of 100 rows that lie all over it, at least two of them, and says how many cells it has
+// then and how many microseconds that took.
 fn fill(rt: &HostRuntime, rows: u64) -> io::Result<(usize, u128)> {
     let alloc = rt.alloc();
     let mut store = MemStore::new(alloc);
-    let batches = rows / 100;
+    let batches = (rows / 100).max(2);
     let start = Instant::now(rt)?;
     for batch in 0..batches {
         let mut cells = Cells::new(alloc);
