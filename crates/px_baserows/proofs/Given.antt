@@ -20,7 +20,7 @@ use Rattle.px_values.proofs.Equal.{row_order-Decides}
 use Rattle.px_values.specs.Order.{row_order}
 use Rattle.px_values.specs.declared.row.Value.{Value}
 use Rattle.px_baserows.specs.Rows.{AreBaseRows, IsBaseRow, base_parts, owner_in, owners_in}
-use Rattle.px_baserows.specs.declared.rows.BaseRow.{BaseRow}
+use Rattle.px_calls.specs.declared.query.BaseRow.{BaseRow}
 use Rattle.px_baserows.proofs.Fitting.{version_of}
 
 -- ---- one of them

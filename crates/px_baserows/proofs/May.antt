@@ -38,7 +38,7 @@ use Rattle.px_world.specs.Events.{Base as BaseVersion, Comes}
 use Rattle.px_world.specs.IndexCells.{base_cells}
 use Rattle.px_world.specs.World.{Fate, Written, is_undecided, st}
 use Rattle.px_baserows.specs.Rows.{AreBaseRows, IsBaseRow, StoodAt, base_parts, owner_in, owners_in}
-use Rattle.px_baserows.specs.declared.rows.BaseRow.{BaseRow}
+use Rattle.px_calls.specs.declared.query.BaseRow.{BaseRow}
 use Rattle.px_baserows.proofs.Fitting.{all_more}
 use Rattle.px_baserows.proofs.Seen.{bases_right, bases_seen, bases_stamped}
 

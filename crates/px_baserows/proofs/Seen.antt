@@ -27,7 +27,7 @@ use Rattle.px_values.specs.States.{RowState, Shape}
 use Rattle.px_values.specs.declared.row.Value.{Value}
 use Rattle.px_world.specs.IndexCells.{base_cells}
 use Rattle.px_baserows.specs.Rows.{AreBaseRows, IsBaseRow, base_parts, owner_in, owners_in}
-use Rattle.px_baserows.specs.declared.rows.BaseRow.{BaseRow}
+use Rattle.px_calls.specs.declared.query.BaseRow.{BaseRow}
 use Rattle.px_baserows.proofs.Fitting.{IsOf, all_more, version_count, version_of}
 use Rattle.px_baserows.proofs.Given.{key_spelled}
 

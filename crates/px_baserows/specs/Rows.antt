@@ -16,7 +16,7 @@ use Rattle.px_trail.specs.declared.entry.Entry.{Entry}
 use Rattle.px_values.specs.Limits.{most_key}
 use Rattle.px_values.specs.declared.row.Value.{Value}
 use Rattle.px_values.specs.declared.row.Value.TheVariants.{Null}
-use Rattle.px_baserows.specs.declared.rows.BaseRow.{BaseRow}
+use Rattle.px_calls.specs.declared.query.BaseRow.{BaseRow}
 
 -- 1. Rows with their index keys
 

@@ -15,7 +15,7 @@ ghost use Rattle.px_tables.specs.declared.table.Table.{Table as Tables};
 ghost use Rattle.px_trail.specs.Trail.{Base};
 ghost use Rattle.px_trail.specs.declared.entry.Entry.{Entry as Entries};
 ghost use Rattle.px_baserows.specs.Rows.{AreBaseRows, StoodAt, base_parts, owners_in};
-ghost use Rattle.px_baserows.specs.declared.rows.BaseRow.{BaseRow as Given};
+ghost use Rattle.px_calls.specs.declared.query.BaseRow.{BaseRow as Given};
 
 /// The base versions of rows have the shape of the index's region. Where the table had the rows at the birth of the index, they are what the
 /// event Base asks for at the index, of exactly these rows.

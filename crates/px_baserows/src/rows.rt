@@ -1,20 +1,14 @@
-// Rows of a table with their keys in an index.
+// The primary keys of rows.
 ghost use Rattle.std.specs.Prelude.{◌≡◌, ◌<◌, IfOk, Some, length};
 ghost use Rattle.std.specs.List.{All, AllByRecursion};
 ghost use Rattle.px_indexrow.specs.Form.{FitsState};
 ghost use Rattle.px_rows.specs.Keys.{IsRightTable};
 ghost use Rattle.px_baserows.specs.Rows.{owner_in, owners_in};
 
+use px_calls::BaseRow;
 use px_tables::Table;
-use px_values::{Key, Row, Rows, Value};
+use px_values::{Row, Rows, Value};
 use std::alloc::{AllocError, Global};
-
-/// A row of a table as it was when an index was born: its key in the index, and its values.
-#[derive(Drop)]
-pub struct BaseRow {
-    pub key: Key,
-    pub row: Row,
-}
 
 /// The primary key values of a row.
 fn owner_of(alloc: Global, table: &Table, row: &[Value]) -> Result<Row, AllocError>

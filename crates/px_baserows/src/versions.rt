@@ -7,7 +7,7 @@ ghost use Rattle.px_rows.specs.Stored.{stored};
 ghost use Rattle.px_values.specs.declared.row.Value.TheVariants.{Null as NullValue};
 ghost use Rattle.px_baserows.specs.Rows.{AreBaseRows, base_parts};
 
-use crate::BaseRow;
+use px_calls::BaseRow;
 use px_cells::{Cell, CellKind, Cells};
 use px_indexrow::VERIFIED;
 use px_keptcells::KeptCells;

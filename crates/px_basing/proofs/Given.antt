@@ -19,7 +19,7 @@ use Rattle.px_values.specs.declared.column.ColType.{ColType}
 use Rattle.px_values.specs.declared.row.Value.{Value}
 use Rattle.px_values.specs.declared.row.Value.TheVariants.{Null}
 use Rattle.px_baserows.specs.Rows.{IsBaseRow, owner_in, owners_in}
-use Rattle.px_baserows.specs.declared.rows.BaseRow.{BaseRow}
+use Rattle.px_calls.specs.declared.query.BaseRow.{BaseRow}
 
 -- ---- types
 

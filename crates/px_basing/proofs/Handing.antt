@@ -9,7 +9,7 @@ use Rattle.px_region.specs.Promise.{HasRoom, PassesLimit}
 use Rattle.px_region.specs.declared.region.Region.{Region}
 use Rattle.px_indexrow.specs.Form.{index_form}
 use Rattle.px_baserows.specs.Rows.{base_parts}
-use Rattle.px_baserows.specs.declared.rows.BaseRow.{BaseRow}
+use Rattle.px_calls.specs.declared.query.BaseRow.{BaseRow}
 use Rattle.px_group.specs.declared.group.Group.{Group}
 use Rattle.px_group.specs.declared.group.IndexRegion.{IndexRegion}
 use Rattle.px_batching.proofs.Places.{same_at}

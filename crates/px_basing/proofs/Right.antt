@@ -10,7 +10,7 @@ use Rattle.px_group.specs.Group.{AreTraced, IsRightGroup, IsRightPart, IsTallied
 use Rattle.px_group.specs.declared.group.Group.{Group}
 use Rattle.px_batching.proofs.Places.{all_at}
 use Rattle.px_batching.proofs.Shapes.{keys_put, keys_same}
-use Rattle.px_baserows.specs.declared.rows.BaseRow.{BaseRow}
+use Rattle.px_calls.specs.declared.query.BaseRow.{BaseRow}
 use Rattle.px_baserows.proofs.Seen.{bases_right}
 use Rattle.px_repairs.proofs.Right.{right_moved, tallied_moved, traced_moved}
 use Rattle.px_basing.specs.Basing.{AreGiven, HandsBases, WroteBases, cells_at}

@@ -36,7 +36,7 @@ use Rattle.px_reading.specs.Doubts.{IsToldBy}
 use Rattle.px_repairs.specs.Repairs.{IsRegionStep}
 use Rattle.px_repairs.proofs.Right.{index_before}
 use Rattle.px_baserows.specs.Rows.{owners_in}
-use Rattle.px_baserows.specs.declared.rows.BaseRow.{BaseRow}
+use Rattle.px_calls.specs.declared.query.BaseRow.{BaseRow}
 use Rattle.px_baserows.proofs.May.{can_base}
 use Rattle.px_basing.specs.Basing.{AreGiven, StoodAtBirth, WroteBases, cells_at}
 

@@ -6,7 +6,7 @@ use Rattle.px_keptcells.specs.Kept.{laid}
 use Rattle.px_region.specs.declared.region.Region.{Region}
 use Rattle.px_indexrow.specs.Form.{index_form}
 use Rattle.px_baserows.specs.Rows.{AreBaseRows, StoodAt, base_parts}
-use Rattle.px_baserows.specs.declared.rows.BaseRow.{BaseRow}
+use Rattle.px_calls.specs.declared.query.BaseRow.{BaseRow}
 use Rattle.px_trail.specs.Trail.{Base}
 use Rattle.px_trail.specs.declared.entry.Entry.{Entry}
 use Rattle.px_group.specs.declared.group.Group.{Group}

@@ -10,7 +10,8 @@ ghost use Rattle.px_basing.specs.declared.fault.BaseFault.{BaseFault as Fault};
 
 use crate::BaseFault;
 use crate::writing::write;
-use px_baserows::{BaseRow, base_versions, owners_of};
+use px_baserows::{base_versions, owners_of};
+use px_calls::BaseRow;
 use px_group::Group;
 use px_outside::Disk;
 use px_values::Rows;

@@ -26,7 +26,7 @@ ghost use Rattle.px_group.specs.Group.{AreTraced, IsRightGroup, IsShownBy, IsTal
 ghost use Rattle.px_group.specs.declared.group.Group.{Group as Tables};
 ghost use Rattle.px_reading.specs.Doubts.{IsToldBy};
 ghost use Rattle.px_baserows.specs.Rows.{IsBaseRow, owner_in, owners_in};
-ghost use Rattle.px_baserows.specs.declared.rows.BaseRow.{BaseRow as Given};
+ghost use Rattle.px_calls.specs.declared.query.BaseRow.{BaseRow as Given};
 ghost use Rattle.px_basing.specs.Basing.{AreGiven, HandsBases, StoodAtBirth, WroteBases};
 
 use px_outside::Disk;

@@ -38,13 +38,13 @@ record Came (b : Base) (es : List Entry) (t i : ℕ) (x : Index) : Type 0 where
 same : (b : Base) (es : List Entry) (t i : ℕ) (x : Index) → x.table.0 ≡ t → index_of b es i ≡ Some x → Came b es t i x
 same b es t i x of h = record { index = x; is = h; owner = of; birth = λ loud. refl; state = λ loud s. s }
 
-some_index : {x y : Index} → Some x ≡ Some y → x ≡ y
+pub some_index : {x y : Index} → Some x ≡ Some y → x ≡ y
 some_index h = cc
 
 none_some : {A : Type 0} (x : Index) → None ≡ Some x → A
 none_some x h = cc
 
-not_disabled : Active ≡ Disabled → ⊥
+pub not_disabled : Active ≡ Disabled → ⊥
 not_disabled h = cc
 
 of_other : (v : Bool) (y x : Index) → (if v then None else Some y) ≡ Some x → Some y ≡ Some x
@@ -101,7 +101,7 @@ if_low true h h' m f g = f refl
 if_low false h h' m f g = g
 
 -- the horizon stays at or below an open point
-low_step : (b : Base) (es : List Entry) (seat calls n t s m : ℕ) (act : Act) → Follows b es seat calls act → 0 < open_points n t s es → s ≤ m → horizon_of b t es ≤ m → horizon_step t (horizon_of b t es) act ≤ m
+pub low_step : (b : Base) (es : List Entry) (seat calls n t s m : ℕ) (act : Act) → Follows b es seat calls act → 0 < open_points n t s es → s ≤ m → horizon_of b t es ≤ m → horizon_step t (horizon_of b t es) act ≤ m
 unfolding Follows
 low_step b es seat calls n t s m (Raised t' h') f held below low =
     if_low (t'.0 == t) (horizon_of b t es) h' m
@@ -114,7 +114,7 @@ unfolding base_from
 base_from-append i r v [] ys = refl
 base_from-append i r v (x ∷ xs) ys = base_from-append i r (base_step i r v x.act) xs ys
 
-based-snoc : (i : ℕ) (r : List Value) (es : List Entry) (e : Entry) → is_based (es ++ e ∷ []) i r ≡ base_step i r (is_based es i r) e.act
+pub based-snoc : (i : ℕ) (r : List Value) (es : List Entry) (e : Entry) → is_based (es ++ e ∷ []) i r ≡ base_step i r (is_based es i r) e.act
 unfolding base_from
 based-snoc i r es e = base_from-append i r false es (e ∷ [])
 
@@ -144,7 +144,7 @@ base_kept b es seat calls t i r act x f low loud is of = refl
 
 -- 3. Definitions
 
-abbrev grown : Known → List Entry → Known
+abbrev pub grown : Known → List Entry → Known
 grown k more = record { seat = k.seat; base = k.base; damaged = k.damaged; alone = k.alone; seen = k.seen ++ more }
 
 -- one entry of another seat
@@ -187,7 +187,7 @@ module _ (sound : Type 0) (k : Known) (e : Entry) (t i : ℕ) (legal : IsLegal k
     each = each;
   }
 
-one_apart : (n : ℕ) (e : Entry) → e.seat ≢ n → acts_by n (e ∷ []) ≡ []
+pub one_apart : (n : ℕ) (e : Entry) → e.seat ≢ n → acts_by n (e ∷ []) ≡ []
 unfolding acts_by
 one_apart n e apart = ap (λ (v : Bool). if v then e.act ∷ [] else []) (ne_eqb e.seat n apart)
 
@@ -231,5 +231,7 @@ pub passes-define : (sound : Type 0) (k k' : Known) (x : Definition) → Passes 
 passes-define sound k k' (d.Table what) p h = h
 passes-define sound k k' (d.Index what) p h = fits_index k k' what p h
 passes-define sound k k' (d.Active t i) p h = passes-activate sound k k' t.0 i.0 p h
+passes-define sound k k' (d.Disabled t i) p h = h
+passes-define sound k k' (d.Rebuilding t i) p h = h
 passes-define sound k k' (d.DropTable t) p h = h
 passes-define sound k k' (d.DropIndex t i) p h = h

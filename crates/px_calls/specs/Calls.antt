@@ -10,21 +10,21 @@ use Rattle.px_values.specs.declared.name.TableId.{TableId}
 use Rattle.px_values.specs.declared.row.Value.{Value}
 use Rattle.px_tables.specs.declared.found.Found.{Found}
 use Rattle.px_tables.specs.declared.index.Index.{Index}
-use Rattle.px_tables.specs.declared.index.IndexState.TheVariants.{Active}
+use Rattle.px_tables.specs.declared.index.IndexState.TheVariants.{Active, Building, Disabled}
 use Rattle.px_tables.specs.declared.table.Table.{Table}
 use Rattle.px_paths.specs.Paths.{columns_on, index_path, owner_of}
 use Rattle.px_keys.specs.Spelling.{IsKeyOf}
 use Rattle.px_trail.specs.declared.entry.Act.{Act}
-use Rattle.px_trail.specs.declared.entry.Act.TheVariants.{Made, IndexMade, IndexState, Dropped, Begun, Phase, Wrote, Opened, Raised, Fixed}
+use Rattle.px_trail.specs.declared.entry.Act.TheVariants.{Made, IndexMade, IndexState, Dropped, Begun, Phase, Wrote, Opened, Raised, Fixed, Based}
 use Rattle.px_trail.specs.declared.entry.Entry.{Entry}
 use Rattle.px_trail.specs.Answers.{IsAmong}
 use Rattle.px_trail.specs.Batches.{Batch, BatchPhase, IsConcurrent, Verifying, Writing, batch_of, has, is_distinct, rows_of, unwritten}
 use Rattle.px_trail.specs.Count.{counted_bytes}
-use Rattle.px_trail.specs.States.{state_of}
 use Rattle.px_trail.specs.Trail.{Base, catalogue_of, horizon_of, index_of, last_of, table_of}
 use Rattle.px_calls.specs.declared.definition.Definition.{Definition}
 use Rattle.px_calls.specs.declared.definition.Definition.TheVariants as d
 use Rattle.px_calls.specs.declared.definition.Made.{Made as Answered}
+use Rattle.px_calls.specs.declared.query.BaseRow.{BaseRow}
 use Rattle.px_calls.specs.declared.query.Chunk.{Chunk}
 use Rattle.px_calls.specs.declared.query.Doubt.{Doubt}
 use Rattle.px_calls.specs.declared.query.Fixing.{Fixing}
@@ -47,9 +47,9 @@ use Rattle.px_calls.specs.declared.ticket.Verifies.TheVariants as verifies
 use Rattle.px_calls.specs.declared.ticket.Writes.{Writes}
 use Rattle.px_calls.specs.declared.ticket.Writes.TheVariants as writes
 use Rattle.px_calls.specs.Known.{Known, Sees, Adds, IsRunning}
-use Rattle.px_calls.specs.Causes.{ClosedBy, HasLongKey, HasUnwritten, stamp_at}
+use Rattle.px_calls.specs.Causes.{ClosedBy, HasLongKey, stamp_at}
 use Rattle.px_calls.specs.Looks.{IsRowAt, Shows, ShowsRows, key_by}
-use Rattle.px_calls.specs.Requires.{TicketIn}
+use Rattle.px_calls.specs.Requires.{TicketIn, base_owners}
 
 -- a call that adds nothing, on a server that isn't closed
 pub record Finds (k k' : Known) : Type 0 where
@@ -63,11 +63,12 @@ unfoldable pub AreRising : List Index → Type 0
 AreRising [] = Unit {0}
 AreRising (x ∷ xs) = AllByRecursion (λ y. x.id.0 < y.id.0) xs × AreRising xs
 
--- a table that stands, and all of its indexes in order of number
+-- a table that stands, and all of its indexes in order of number; the numbers were drawn
 pub record IsFound (b : Base) (es : List Entry) (f : Found) : Type 0 where
   pub table : table_of b es f.table.id.0 ≡ Some f.table
   pub drawn : f.table.id.0 < (catalogue_of b es).next
   pub indexes : (x : Index) → IsAmong x f.indexes ↔ ((index_of b es x.id.0 ≡ Some x) × (x.table.0 ≡ f.table.id.0))
+  pub indexes_drawn : (x : Index) → IsAmong x f.indexes → x.id.0 < (catalogue_of b es).next
   pub rising : AreRising f.indexes
   pub at : f.at ≡ length es
 
@@ -87,25 +88,24 @@ abbrev pub act_of : Definition → Answered → Act
 act_of (d.Table what) m = Made (made_table m) what
 act_of (d.Index what) m = IndexMade what.table (made_index m) m.stamp what
 act_of (d.Active t i) m = IndexState t i Active m.stamp
+act_of (d.Disabled t i) m = IndexState t i Disabled m.stamp
+act_of (d.Rebuilding t i) m = IndexState t i Building m.stamp
 act_of (d.DropTable t) m = Dropped t None
 act_of (d.DropIndex t i) m = Dropped t (Some i)
 
--- no row of the table has a state at the stamp
-abbrev pub HasNoRow : Known → ℕ → ℕ → Type 0
-HasNoRow k t s = (r : List Value) → state_of k.base k.seen t r s ≡ None
+-- A new table and what is dropped have no stamp; what stands keeps its number. An index that is made, or built again, draws a stamp
+abbrev pub IsMade : Definition → Answered → Type 0
+IsMade (d.Table what) m = m.stamp ≡ 0
+IsMade (d.Index what) m = m.stamp ≤ most_of bound.Stamps
+IsMade (d.Active t i) m = m.number ≡ i.0
+IsMade (d.Disabled t i) m = m.number ≡ i.0
+IsMade (d.Rebuilding t i) m = (m.number ≡ i.0) × (m.stamp ≤ most_of bound.Stamps)
+IsMade (d.DropTable t) m = (m.number ≡ t.0) × (m.stamp ≡ 0)
+IsMade (d.DropIndex t i) m = (m.number ≡ i.0) × (m.stamp ≡ 0)
 
--- A new table and what is dropped have no stamp; what stands keeps its number. A new index draws a stamp, of a table where all is
--- written, and which has no row at that stamp, if what was opened is sound
-abbrev pub IsMade : Type 0 → Definition → Known → Answered → Type 0
-IsMade sound (d.Table what) k m = m.stamp ≡ 0
-IsMade sound (d.Index what) k m = (m.stamp ≤ most_of bound.Stamps) × (HasUnwritten k what.table.0 → ⊥) × (sound → HasNoRow k what.table.0 m.stamp)
-IsMade sound (d.Active t i) k m = m.number ≡ i.0
-IsMade sound (d.DropTable t) k m = (m.number ≡ t.0) × (m.stamp ≡ 0)
-IsMade sound (d.DropIndex t i) k m = (m.number ≡ i.0) × (m.stamp ≡ 0)
-
-pub record DidDefine (sound : Type 0) (k k' : Known) (x : Definition) (m : Answered) : Type 0 where
+pub record DidDefine (k k' : Known) (x : Definition) (m : Answered) : Type 0 where
   pub adds : Adds k k' (act_of x m)
-  pub made : IsMade sound x k' m
+  pub made : IsMade x m
   pub at : m.at ≡ length k'.seen
 
 -- 2. Batches
@@ -220,6 +220,13 @@ abbrev pub DidFix : Known → Known → Doubt → Fixing → Type 0
 DidFix k k' d fixing.Fixed = Adds k k' (Fixed d.index d.key) × (IsInFlight k'.base k'.seen d → ⊥)
 DidFix k k' d fixing.Gone = Finds k k'
 DidFix k k' d fixing.InFlight = Finds k k' × IsInFlight k'.base k'.seen d
+
+-- rows were given their base versions: the entry names them by their primary keys, in order, and the answer is the number of entries with it
+pub record DidBase (k k' : Known) (p : Point) (i : IndexId) (xs : List BaseRow) (at : ℕ) : Type 0 where
+  pub table : Table
+  pub table_is : table_of k'.base k'.seen p.table.0 ≡ Some table
+  pub adds : Adds k k' (Based i (base_owners table xs))
+  pub at_is : at ≡ length k'.seen
 
 -- 5. Upkeep and counts
 

@@ -20,7 +20,7 @@ use Rattle.px_trail.specs.declared.entry.Entry.{Entry}
 use Rattle.px_trail.specs.Answers.{IsAmong}
 use Rattle.px_trail.specs.Batches.{Batch, batch_of, has, unwritten}
 use Rattle.px_trail.specs.Count.{counted_bytes, counted_change}
-use Rattle.px_trail.specs.States.{applied, begun, greatest_stamp, state_now}
+use Rattle.px_trail.specs.States.{applied, begun, greatest_stamp}
 use Rattle.px_trail.specs.Trail.{Base, Catalogue, catalogue_of, closing_call, horizon_of, index_of, last_of, shape_of, table_of}
 use Rattle.px_calls.specs.declared.definition.Definition.{Definition}
 use Rattle.px_calls.specs.declared.definition.Definition.TheVariants as d
@@ -86,14 +86,6 @@ indexes_of k t = let c = catalogue_of k.base k.seen in counted (λ i. of_table t
 abbrev pub RunsOut : Known → ℕ → Type 0
 RunsOut k n = most_of bound.Ids + 1 < (catalogue_of k.base k.seen).next + n
 
--- a row of the table has a state
-abbrev pub HasState : Known → ℕ → Type 0
-HasState k t = (r : List Value) × (v : List Value) × (state_now k.base k.seen t r ≡ Some v)
-
--- a batch of the table isn't written
-abbrev pub HasUnwritten : Known → ℕ → Type 0
-HasUnwritten k t = (s : ℕ) × (b : Batch) × (batch_of t s k.seen ≡ Some b) × (unwritten b ≢ [])
-
 -- 2. What is open
 
 -- points and batches of the table after one act more
@@ -124,22 +116,38 @@ new_table_cause what (Limit bound.Ids count) k = (count ≡ most_of bound.Ids) �
 new_table_cause what (NotReady region) k = region ≡ 0
 new_table_cause what f k = ⊥
 
-abbrev pub new_index_cause : Type 0 → NewIndex → StepFault → Known → Type 0
-new_index_cause sound what NameExists k = HasName (catalogue_of k.base k.seen) what.name
-new_index_cause sound what NoTable k = LacksTable k what.table.0
-new_index_cause sound what (Limit bound.Indexes count) k = (count ≡ most_of bound.Indexes) × (most_of bound.Indexes ≤ indexes_of k what.table.0)
-new_index_cause sound what (Limit bound.Stamps count) k = (count ≡ most_of bound.Stamps) × (most_of bound.Stamps ≤ last_of k.base what.table.0 k.seen)
-new_index_cause sound what (Limit bound.Ids count) k = (count ≡ most_of bound.Ids) × RunsOut k 2
--- while indexes are made of empty tables alone
-new_index_cause sound what (Limit bound.Build count) k = (count ≡ most_of bound.Build) × (HasUnwritten k what.table.0 ⊎ (sound → HasState k what.table.0))
-new_index_cause sound what (NotReady region) k = region ≡ 0
-new_index_cause sound what f k = ⊥
+abbrev pub new_index_cause : NewIndex → StepFault → Known → Type 0
+new_index_cause what NameExists k = HasName (catalogue_of k.base k.seen) what.name
+new_index_cause what NoTable k = LacksTable k what.table.0
+new_index_cause what (Limit bound.Indexes count) k = (count ≡ most_of bound.Indexes) × (most_of bound.Indexes ≤ indexes_of k what.table.0)
+new_index_cause what (Limit bound.Stamps count) k = (count ≡ most_of bound.Stamps) × (most_of bound.Stamps ≤ last_of k.base what.table.0 k.seen)
+new_index_cause what (Limit bound.Ids count) k = (count ≡ most_of bound.Ids) × RunsOut k 2
+new_index_cause what (NotReady region) k = region ≡ 0
+new_index_cause what f k = ⊥
 
 abbrev pub active_cause : ℕ → ℕ → StepFault → Known → Type 0
 active_cause t i NoTable k = LacksTable k t
 active_cause t i NoIndex k = LacksIndex k t i
 active_cause t i (NotReady region) k = region ≡ 0
 active_cause t i f k = ⊥
+
+-- an index is disabled only where no point and no batch of its table is open
+abbrev pub disabled_cause : ℕ → ℕ → StepFault → Known → Type 0
+disabled_cause t i NoTable k = LacksTable k t
+disabled_cause t i NoIndex k = LacksIndex k t i
+disabled_cause t i (InUse count) k = IsInUse k t count
+disabled_cause t i (NotReady region) k = region ≡ 0
+disabled_cause t i f k = ⊥
+
+-- and is built again only there; it takes a stamp, and a number for its region
+abbrev pub rebuilding_cause : ℕ → ℕ → StepFault → Known → Type 0
+rebuilding_cause t i NoTable k = LacksTable k t
+rebuilding_cause t i NoIndex k = LacksIndex k t i
+rebuilding_cause t i (Limit bound.Stamps count) k = (count ≡ most_of bound.Stamps) × (most_of bound.Stamps ≤ last_of k.base t k.seen)
+rebuilding_cause t i (Limit bound.Ids count) k = (count ≡ most_of bound.Ids) × RunsOut k 1
+rebuilding_cause t i (InUse count) k = IsInUse k t count
+rebuilding_cause t i (NotReady region) k = region ≡ 0
+rebuilding_cause t i f k = ⊥
 
 abbrev pub drop_table_cause : ℕ → StepFault → Known → Type 0
 drop_table_cause t NoTable k = LacksTable k t
@@ -155,19 +163,20 @@ drop_index_cause t i (NotReady region) k = region ≡ 0
 drop_index_cause t i f k = ⊥
 
 -- of each definition
-abbrev pub definition_cause : Type 0 → Definition → StepFault → Known → Type 0
-definition_cause sound (d.Table what) f k = new_table_cause what f k
-definition_cause sound (d.Index what) f k = new_index_cause sound what f k
-definition_cause sound (d.Active t i) f k = active_cause t.0 i.0 f k
-definition_cause sound (d.DropTable t) f k = drop_table_cause t.0 f k
-definition_cause sound (d.DropIndex t i) f k = drop_index_cause t.0 i.0 f k
+abbrev pub definition_cause : Definition → StepFault → Known → Type 0
+definition_cause (d.Table what) f k = new_table_cause what f k
+definition_cause (d.Index what) f k = new_index_cause what f k
+definition_cause (d.Active t i) f k = active_cause t.0 i.0 f k
+definition_cause (d.Disabled t i) f k = disabled_cause t.0 i.0 f k
+definition_cause (d.Rebuilding t i) f k = rebuilding_cause t.0 i.0 f k
+definition_cause (d.DropTable t) f k = drop_table_cause t.0 f k
+definition_cause (d.DropIndex t i) f k = drop_index_cause t.0 i.0 f k
 
--- what is told of rows rests on what was opened being sound
-abbrev pub define_cause : Type 0 → Definition → StepFault → Known → Type 0
-define_cause sound x WriteFault k = Unit {0}
-define_cause sound x (Closed call) k = ClosedBy call k
-define_cause sound x Memory k = Unit {0}
-define_cause sound x f k = definition_cause sound x f k
+abbrev pub define_cause : Definition → StepFault → Known → Type 0
+define_cause x WriteFault k = Unit {0}
+define_cause x (Closed call) k = ClosedBy call k
+define_cause x Memory k = Unit {0}
+define_cause x f k = definition_cause x f k
 
 abbrev pub find_cause : List ℕ → StepFault → Known → Type 0
 find_cause name NoTable k = NamesNoTable k name
@@ -290,6 +299,14 @@ fix_cause (Damaged file place) k = IsDamagedAt k file place
 fix_cause (Closed call) k = ClosedBy call k
 fix_cause Memory k = Unit {0}
 fix_cause f k = ⊥
+
+abbrev pub base_cause : StepFault → Known → Type 0
+base_cause (Busy region cells bytes) k = Unit {0}
+base_cause (NotReady region) k = Unit {0}
+base_cause WriteFault k = Unit {0}
+base_cause (Closed call) k = ClosedBy call k
+base_cause Memory k = Unit {0}
+base_cause f k = ⊥
 
 abbrev pub upkeep_cause : StepFault → Known → Type 0
 upkeep_cause ReadFault k = Unit {0}

@@ -123,11 +123,12 @@ pub record Shows (p : Point) (path : Path) (after : Option (List ℕ)) (fs : Lis
   pub covered : (f : FoundKey) → IsAmong f fs → is_covered next (key_found f) ≡ true
   pub doubts : AreDoubtsOf p.found path.by fs
 
--- What it gives of the rows at the point, each of which is one that the table may have: sure keys have one, and each is given whose key is past `after`
--- and not past `next`
+-- What it gives of the rows at the point, each of which is one that the table may have, at its own primary key: sure keys have one, and each is given
+-- whose key is past `after` and not past `next`
 pub record ShowsRows (b : Base) (es : List Entry) (p : Point) (path : Path) (after : Option (List ℕ)) (fs : List FoundKey) (next : Option (List ℕ)) : Type 0 where
   pub right : (f : FoundRow) → IsAmong (Sure f) fs → IsRightRow b es p path.by f
   pub fits : (row : List Value) → IsRowAt b es p row → FitsRow p.found.table row
+  pub own : (r row : List Value) → row_at b es p r ≡ Some row → key_in (shape_of b es p.table.0) row ≡ r
   pub whole : (row : List Value) → IsRowAt b es p row
       → is_on path (key_by p.found path.by row) ≡ true → is_past after (key_by p.found path.by row) ≡ true → is_covered next (key_by p.found path.by row) ≡ true
       → IsShown fs p.found path.by row

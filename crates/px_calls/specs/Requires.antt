@@ -22,15 +22,16 @@ use Rattle.px_tables.specs.declared.index.IndexState.TheVariants as states
 use Rattle.px_tables.specs.declared.index.NewIndex.{NewIndex}
 use Rattle.px_tables.specs.declared.table.NewTable.{NewTable}
 use Rattle.px_tables.specs.declared.table.Table.{Table}
-use Rattle.px_paths.specs.Paths.{columns_on, index_path, is_keyed, table_path, type_in}
+use Rattle.px_paths.specs.Paths.{columns_on, index_path, is_keyed, key_on, table_path, type_in}
 pub use Rattle.px_paths.specs.Paths.{AreOfTypes, FitsRow}
 use Rattle.px_trail.specs.declared.entry.Act.{Act}
 use Rattle.px_trail.specs.declared.entry.Act.TheVariants.{Based, IndexMade, IndexState}
 use Rattle.px_trail.specs.declared.entry.Entry.{Entry}
-use Rattle.px_trail.specs.Batches.{BatchPhase, IsDecided, IsIn, Closing, Marking, Verifying, Writing, has}
-use Rattle.px_trail.specs.States.{state_of}
-use Rattle.px_trail.specs.Trail.{catalogue_of, closing_call, horizon_of, index_of, last_of, open_points, table_of}
+use Rattle.px_trail.specs.Batches.{BatchPhase, IsDecided, IsIn, Closing, Marking, Verifying, Writing, has, is_distinct}
+use Rattle.px_trail.specs.States.{key_in, state_of}
+use Rattle.px_trail.specs.Trail.{catalogue_of, closing_call, horizon_of, index_of, last_of, open_points, table_of, table_shape}
 use Rattle.px_calls.specs.declared.definition.Definition.{Definition}
+use Rattle.px_calls.specs.declared.query.BaseRow.{BaseRow}
 use Rattle.px_calls.specs.declared.definition.Definition.TheVariants as d
 use Rattle.px_calls.specs.declared.query.By.{By}
 use Rattle.px_calls.specs.declared.query.By.TheVariants as by
@@ -126,11 +127,43 @@ pub record MayActivate (sound : Type 0) (k : Known) (t i : ℕ) : Type 0 where
   pub table : IsDrawn k t
   pub each : (x : Index) → index_of k.base k.seen i ≡ Some x → x.table.0 ≡ t → CanActivate sound k t i x
 
+-- the row is one as the table may have it, with its key in the index, which isn't too long
+pub record IsBaseRowOf (t : Table) (x : Index) (f : BaseRow) : Type 0 where
+  pub fits : FitsRow t f.row
+  pub key : key_on (index_path t x) f.row ≡ f.key
+  pub short : length f.key ≤ most_key
+
+-- their primary keys
+abbrev pub base_owners : Table → List BaseRow → List (List Value)
+base_owners t xs = map (λ f. key_in (table_shape t) f.row) xs
+
+-- Rows may be given their base versions in an index. The numbers were drawn; table and index stand, the index isn't disabled and was born at the
+-- point, and at or below the point nothing is forgotten or undecided; the rows are rows of the table with their keys in the index, no two with one
+-- primary key, and the table has them at the point, if what was opened is sound
+pub record MayBase (sound : Type 0) (k : Known) (p : Point) (i : ℕ) (xs : List BaseRow) : Type 0 where
+  pub table_drawn : IsDrawn k p.table.0
+  pub index_drawn : IsDrawn k i
+  pub table : Table
+  pub table_is : table_of k.base k.seen p.table.0 ≡ Some table
+  pub index : Index
+  pub index_is : index_of k.base k.seen i ≡ Some index
+  pub owner : index.table.0 ≡ p.table.0
+  pub state : index.state ≢ Disabled
+  pub birth : index.birth ≡ p.stamp
+  pub known : p.stamp ≤ last_of k.base p.table.0 k.seen
+  pub low : horizon_of k.base p.table.0 k.seen ≤ p.stamp
+  pub decided : IsDecided k.seen p.table.0 p.stamp
+  pub each : AllByRecursion (IsBaseRowOf table index) xs
+  pub distinct : is_distinct (base_owners table xs) ≡ true
+  pub there : sound → AllByRecursion (λ f. state_of k.base k.seen p.table.0 (key_in (table_shape table) f.row) p.stamp ≡ Some f.row) xs
+
 -- a definition is one that may be asked for
 abbrev pub CanDefine : Type 0 → Known → Definition → Type 0
 CanDefine sound k (d.Table what) = IsNewTable what
 CanDefine sound k (d.Index what) = IsIndexFit k what
 CanDefine sound k (d.Active t i) = MayActivate sound k t.0 i.0
+CanDefine sound k (d.Disabled t i) = Unit {0}
+CanDefine sound k (d.Rebuilding t i) = Unit {0}
 CanDefine sound k (d.DropTable t) = Unit {0}
 CanDefine sound k (d.DropIndex t i) = Unit {0}
 

@@ -11,6 +11,10 @@ pub enum Definition {
     Index(NewIndex),
     /// The index is built.
     Active { table: TableId, index: IndexId },
+    /// The index isn't maintained any more.
+    Disabled { table: TableId, index: IndexId },
+    /// The index is being built again, from an empty region and a new birth on.
+    Rebuilding { table: TableId, index: IndexId },
     /// The table goes, with all of its indexes.
     DropTable(TableId),
     /// The index goes.
@@ -18,7 +22,7 @@ pub enum Definition {
 }
 
 /// A definition that was made: the number of its table or index, the stamp that it drew or the birth of the index that it
-/// made active, else 0, and the number of entries with its own.
+/// made active or disabled, else 0, and the number of entries with its own.
 #[derive(Clone, Copy)]
 pub struct Made {
     pub number: u32,

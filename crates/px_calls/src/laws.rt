@@ -1,5 +1,5 @@
 //! How a seat's batches and points go on from call to call.
-ghost use Rattle.std.specs.Prelude.{◌≡◌, ◌<◌, ◌≤◌, ◌++◌, ◌∷◌, [], ◌⊎◌, ℕ, Bool, List, Some, length, drop};
+ghost use Rattle.std.specs.Prelude.{◌≡◌, ◌<◌, ◌≤◌, ◌++◌, ◌∷◌, [], ◌⊎◌, ℕ, Bool, List, Some, length, drop, true};
 ghost use Rattle.px_values.specs.declared.change.Change.{Change as RowChange};
 ghost use Rattle.px_trail.specs.declared.entry.Act.{Act as Acts};
 ghost use Rattle.px_trail.specs.declared.entry.Act.TheVariants.{Begun, Phase, Opened, Shut};
@@ -9,11 +9,16 @@ ghost use Rattle.px_trail.specs.declared.entry.Entry.{Entry as Entries};
 ghost use Rattle.px_trail.specs.Legal.{IsLegal};
 ghost use Rattle.px_trail.specs.Trail.{Base, acts_by, catalogue_of, closing_call, table_of};
 ghost use Rattle.px_tables.specs.declared.table.Table.{Table as Tables};
+ghost use Rattle.px_calls.specs.declared.query.BaseRow.{BaseRow as Given};
 ghost use Rattle.px_calls.specs.declared.query.Point.{Point as Points};
 ghost use Rattle.px_calls.specs.declared.ticket.Ticket.{Ticket as Tickets};
 ghost use Rattle.px_calls.specs.Known.{Known, Passes, Sees, Adds, Ran, HasMade, outline};
 ghost use Rattle.px_calls.specs.declared.definition.Definition.{Definition as Definitions};
-ghost use Rattle.px_calls.specs.Requires.{AreFitting, CanDefine, IsOpen, IsShut, TicketIn};
+ghost use Rattle.px_calls.specs.Calls.{DidBase};
+ghost use Rattle.px_calls.specs.Requires.{AreFitting, CanDefine, IsOpen, IsShut, MayBase, TicketIn, base_owners, is_based};
+ghost use Rattle.px_values.specs.declared.name.IndexId.{IndexId as IndexNumber};
+ghost use Rattle.px_values.specs.declared.row.Value.{Value as ColumnValue};
+ghost use Rattle.px_trail.specs.Batches.{has};
 
 use crate::steps::Steps;
 
@@ -47,11 +52,14 @@ pub fn law_points()
     ensures stays { (k : Known) → (k' : Known) → (acts : List Acts) → (p : Points) → Ran k k' acts → outline acts ≡ [] → IsOpen k p → IsOpen k' p }
 {}
 
-/// What is asked of changes and definitions stays true under others' entries, since a table whose number was drawn stays as it is until
-/// it is dropped, and its indexes aren't rebuilt nor disabled while a point is open; and an own act is one since any place before it.
+/// What is asked of changes, definitions and base versions stays true under others' entries, since a table whose number was drawn stays as it is
+/// until it is dropped, and its indexes aren't rebuilt nor disabled while a point is open; rows that were given their base versions are told so; and
+/// an own act is one since any place before it.
 pub fn law_asked<S: Steps>()
     ensures tables { (b : Base) → (t : ℕ) → (es : List Entries) → (more : List Entries) → (x : Tables) → IsLegal b (es ++ more) → t < (catalogue_of b es).next → table_of b (es ++ more) t ≡ Some x → table_of b es t ≡ Some x }
     ensures fits { (k : Known) → (k' : Known) → (t : ℕ) → (cs : List RowChange) → Passes k k' → AreFitting k t cs → AreFitting k' t cs }
     ensures defines { (k : Known) → (k' : Known) → (x : Definitions) → Passes k k' → CanDefine S.sound k x → CanDefine S.sound k' x }
+    ensures bases { (k : Known) → (k' : Known) → (p : Points) → (i : ℕ) → (xs : List Given) → Passes k k' → IsOpen k p → MayBase S.sound k p i xs → MayBase S.sound k' p i xs }
+    ensures based { (k : Known) → (k' : Known) → (p : Points) → (i : IndexNumber) → (xs : List Given) → (at : ℕ) → (d : DidBase k k' p i xs at) → (r : List ColumnValue) → has (base_owners d.table xs) r ≡ true → is_based k'.seen i.0 r ≡ true }
     ensures since { (k : Known) → (k' : Known) → (acts : List Acts) → (act : Acts) → (n : ℕ) → n ≤ length k.seen → Ran k k' acts → IsAmong act acts → IsAmong act (acts_by k'.seat (drop n k'.seen)) }
 {}

@@ -17,7 +17,9 @@ mod ticket;
 pub use definition::{Definition, Made};
 pub use fault::StepFault;
 pub use laws::{law_asked, law_points, law_runs, law_tickets};
-pub use query::{By, Chunk, Doubt, Fixing, FoundKey, FoundRow, Held, Path, Point, Verdict};
+pub use query::{
+    BaseRow, BaseRows, By, Chunk, Doubt, Fixing, FoundKey, FoundRow, Held, Path, Point, Verdict,
+};
 pub use status::{IndexCount, IndexCounts, Ordered, Status, Work};
 pub use steps::Steps;
 pub use ticket::{Marks, Receipt, Ticket, Verifies, Writes};

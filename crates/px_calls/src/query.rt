@@ -33,6 +33,15 @@ pub struct FoundRow {
     pub row: Row,
 }
 
+/// A row of a table as it was when an index was born, with its key in the index.
+#[derive(Drop)]
+pub struct BaseRow {
+    pub key: Key,
+    pub row: Row,
+}
+
+pub type BaseRows = Items<BaseRow>;
+
 /// What is to be done with the version of an index row.
 #[derive(Clone, Copy)]
 pub enum Verdict {

@@ -3,17 +3,17 @@ ghost use Rattle.std.specs.Prelude.{◌≡◌, ◌≢◌, length, IfOk, IfErr, I
 ghost use Rattle.px_trail.specs.Batches.{Marking, Writing, Verifying, is_distinct, rows_of};
 ghost use Rattle.px_trail.specs.declared.entry.Act.TheVariants.{Ended, Released};
 ghost use Rattle.px_calls.specs.Known.{Known, Sees, Adds};
-ghost use Rattle.px_calls.specs.Requires.{AreFitting, CanAbandon, CanConsult, CanDefine, CanEnd, CanLook, IsOpen, IsScn, TicketIn};
-ghost use Rattle.px_calls.specs.Causes.{Refuses, begin_cause, define_cause, find_cause, fix_cause, open_cause, order_cause, read_cause, rows_cause, status_cause, upkeep_cause, write_cause};
-ghost use Rattle.px_calls.specs.Calls.{DidBegin, DidConsult, DidCount, DidDefine, DidFind, DidFix, DidLook, DidMark, DidOpen, DidOrder, DidVerify, DidWork, DidWrite, IsIdle, IsReceipt};
+ghost use Rattle.px_calls.specs.Requires.{AreFitting, CanAbandon, CanConsult, CanDefine, CanEnd, CanLook, IsOpen, IsScn, MayBase, TicketIn};
+ghost use Rattle.px_calls.specs.Causes.{Refuses, base_cause, begin_cause, define_cause, find_cause, fix_cause, open_cause, order_cause, read_cause, rows_cause, status_cause, upkeep_cause, write_cause};
+ghost use Rattle.px_calls.specs.Calls.{DidBase, DidBegin, DidConsult, DidCount, DidDefine, DidFind, DidFix, DidLook, DidMark, DidOpen, DidOrder, DidVerify, DidWork, DidWrite, IsIdle, IsReceipt};
 
 use crate::definition::{Definition, Made};
 use crate::fault::StepFault;
-use crate::query::{Chunk, Doubt, Fixing, Held, Path, Point};
+use crate::query::{BaseRows, Chunk, Doubt, Fixing, Held, Path, Point};
 use crate::status::{Ordered, Status, Work};
 use crate::ticket::{Marks, Receipt, Ticket, Verifies, Writes};
 use px_tables::Found;
-use px_values::{Changes, Key, Name, TableId};
+use px_values::{Changes, IndexId, Key, Name, TableId};
 
 /// One event of the system is one call. Other seats may act between two calls: a call's clauses say what the seat has then
 /// seen, which begins with what it had seen and ends with what the call added.
@@ -35,11 +35,11 @@ pub trait Steps {
         ensures ok { IfOk result (DidFind (known self.old) (known self.new) name.now) }
         ensures refused { IfErr result (Refuses (find_cause name.now) (known self.old) (known self.new)) };
 
-    /// Makes a table or an index, makes an index active, or drops one.
+    /// Makes a table or an index, makes an index active, disables one or builds it again, or drops one.
     fn define(&mut self, definition: &Definition) -> Result<Made, StepFault>
         requires { CanDefine sound (known self.old) definition.now }
-        ensures ok { IfOk result (DidDefine sound (known self.old) (known self.new) definition.now) }
-        ensures refused { IfErr result (Refuses (define_cause sound definition.now) (known self.old) (known self.new)) };
+        ensures ok { IfOk result (DidDefine (known self.old) (known self.new) definition.now) }
+        ensures refused { IfErr result (Refuses (define_cause definition.now) (known self.old) (known self.new)) };
 
     /// Draws a stamp, and begins the batch.
     fn begin(&mut self, table: TableId, changes: &Changes) -> Result<Ticket, StepFault>
@@ -108,6 +108,15 @@ pub trait Steps {
         requires { IsSome d.now.verdict }
         ensures ok { IfOk result (DidFix (known self.old) (known self.new) d.now) }
         ensures refused { IfErr result (Refuses fix_cause (known self.old) (known self.new)) };
+
+    /// Gives rows of the point their base versions in an index that was born there: verified ones, at its birth.
+    fn base(&mut self, p: &Point, index: IndexId, rows: &BaseRows) -> Result<u64, StepFault>
+        requires open { IsOpen (known self.old) p.now }
+        requires some { rows.now ≢ [] }
+        requires few { length rows.now ≤ 64 }
+        requires rows { MayBase sound (known self.old) p.now index.0 rows.now }
+        ensures ok { IfOk result (DidBase (known self.old) (known self.new) p.now index rows.now) }
+        ensures refused { IfErr result (Refuses base_cause (known self.old) (known self.new)) };
 
     /// Closes the point. It takes no memory.
     fn close_point(&mut self, p: Point)

@@ -4,7 +4,7 @@ use Rattle.px_cells.specs.Contents.{Contents}
 use Rattle.px_cells.specs.declared.kind.CellKind.TheVariants.{Put}
 use Rattle.px_values.proofs.Equal.{row_order-Decides}
 use Rattle.px_values.specs.Limits.{most_key}
-use Rattle.px_values.specs.States.{RowState}
+use Rattle.px_values.specs.States.{RowState, Shape}
 use Rattle.px_values.specs.declared.row.Value.{Value}
 use Rattle.px_keys.specs.Spelling.{IsKeyOf}
 use Rattle.px_keys.specs.Reading.{IsKey}
@@ -179,6 +179,7 @@ module _ (t : Table) (x : Index) (right : IsRightTable t) (index : IsRightIndex 
     keys_rows = record {
       right = λ f a. subst (λ (z : By). IsRightRow b es p z f) (sym by) (sure_right f.key f (n.right (Sure f) a).1);
       fits = λ row h. subst (λ (z : Table). FitsRow z row) (sym table) (row_fits t state states (key_in (table_shape t) row) row (row_state t state states b es p at shape row h));
+      own = λ r row h. ap (λ (sh : Shape). key_in sh row) shape ∙ states.own r row (sym (at r) ∙ h);
       whole = λ row h. subst (λ (z : By). is_on path (key_by p.found z row) ≡ true → is_past after (key_by p.found z row) ≡ true → is_covered next (key_by p.found z row) ≡ true → IsShown fs p.found z row) (sym by)
           (subst (λ (k : List ℕ). is_on path k ≡ true → is_past after k ≡ true → is_covered next k ≡ true → IsShown fs p.found (Indexed x.id) row) (sym (key_is t x p table is row)) (row_whole row h));
     }

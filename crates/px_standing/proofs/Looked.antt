@@ -108,6 +108,7 @@ module _ (b : Base) (es : List Entry) (s : Standing) (k : Agrees s (catalogue_of
       table = stood;
       drawn = (let low = found_all number_of_table table_in table_finder (λ x. number_of_table x < (catalogue_of b es).next) s.tables t.id.0 t (tables_below s.next (catalogue_of b es).next s.tables k.next k.order.below.tables) (k.tables t.id.0 ∙ stood) in low);
       indexes = λ x. (its x, all_its x);
+      indexes_drawn = λ x i. found_all number_of_index index_in index_finder (λ y. number_of_index y < (catalogue_of b es).next) s.indexes x.id.0 x (indexes_below s.next (catalogue_of b es).next s.indexes k.next k.order.below.indexes) (k.indexes x.id.0 ∙ (its x i).0);
       rising = as_rising (indexes_of t.id.0 s.indexes) (rising_kept number_of_index (λ (y : Index). y.table.0 == t.id.0) s.indexes k.order.indexes);
       at = refl;
     }

@@ -9,7 +9,7 @@ use Rattle.px_tables.specs.declared.table.Table.{Table}
 use Rattle.px_trail.specs.Batches.{has, is_distinct}
 use Rattle.px_values.specs.declared.row.Value.{Value}
 use Rattle.px_baserows.specs.Rows.{AreBaseRows, IsBaseRow, owner_in}
-use Rattle.px_baserows.specs.declared.rows.BaseRow.{BaseRow}
+use Rattle.px_calls.specs.declared.query.BaseRow.{BaseRow}
 use Rattle.px_tests_baserows.specs.Worked.{first_row, second_row, worked_index, worked_table}
 
 worked_right : IsRightTable worked_table

@@ -3,7 +3,8 @@ ghost use Rattle.std.specs.Prelude.{◌≡◌, ◌∷◌, [], ◌⊎◌, IfOk, p
 ghost use Rattle.px_baserows.specs.Rows.{AreBaseRows, IsBaseRow};
 ghost use Rattle.px_tests_baserows.specs.Worked.{first_row, second_row, worked_index, worked_table};
 
-use px_baserows::{BaseRow, base_versions, owners_of};
+use px_baserows::{base_versions, owners_of};
+use px_calls::BaseRow;
 use px_cells::Cells;
 use px_indexrow::index_key;
 use px_tables::{Index, IndexState, KeyPlace, Table, TableColumn};

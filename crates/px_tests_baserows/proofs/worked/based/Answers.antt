@@ -2,7 +2,7 @@ use Rattle.std.proofs.Common.{Some, List, sym, subst}
 use Rattle.std.specs.List.{AllByRecursion}
 use Rattle.px_indexrow.specs.Form.{FitsState}
 use Rattle.px_tables.specs.declared.table.Table.{Table}
-use Rattle.px_baserows.specs.declared.rows.BaseRow.{BaseRow}
+use Rattle.px_calls.specs.declared.query.BaseRow.{BaseRow}
 use Rattle.px_tests_baserows.proofs.Ready.{rows_fit, table_right}
 use Rattle.px_tests_baserows.proofs.worked.based.Goals as goal
 

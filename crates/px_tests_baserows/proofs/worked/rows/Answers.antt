@@ -1,6 +1,6 @@
 use Rattle.std.proofs.Common.{◌≡◌, ◌∙◌, ◌∷◌, [], ◌++◌, List, ap, subst, sym}
 use Rattle.px_baserows.specs.Rows.{AreBaseRows}
-use Rattle.px_baserows.specs.declared.rows.BaseRow.{BaseRow}
+use Rattle.px_calls.specs.declared.query.BaseRow.{BaseRow}
 use Rattle.px_tests_baserows.specs.Worked.{worked_index, worked_table}
 use Rattle.px_tests_baserows.proofs.Ready.{both}
 use Rattle.px_tests_baserows.proofs.worked.rows.Goals as goal
