@@ -77,6 +77,12 @@ pub record HasIndexLess (g g' : Group) (n : ℕ) : Type 0 where
   pub indexes : g'.indexes.items ≡ filter (λ x. not (x.index.id.0 == n)) g.indexes.items
   pub last : g'.last ≡ g.last
 
+-- the index is let go, where it is there, and stands anew behind the others
+pub record HasIndexAnew (g g' : Group) (i : Index) : Type 0 where
+  pub without : Group
+  pub less : HasIndexLess g without i.id.0
+  pub more : HasIndexMore without g' i
+
 -- what the table shows then, where no batch is open
 abbrev pub dropped_data : ℕ → GroupData → GroupData
 dropped_data n v = record v { indexes = filter (λ i. not (i.id == n)) v.indexes; opens = [] }

@@ -1,6 +1,6 @@
 // What a definition does to a table.
 ghost use Rattle.std.specs.Prelude.{◌≡◌, ◌<◌, ◌∷◌, [], ℕ, length, slice_get, vec_len, vec_capacity, IfSome, IfNone, Some, OnOk};
-ghost use Rattle.px_defined.specs.Defined.{HasActive, HasIndexLess, HasIndexMore, IsNewGroup, IsSame, has_to_write, is_to_write as before_writes};
+ghost use Rattle.px_defined.specs.Defined.{HasActive, HasIndexAnew, HasIndexLess, HasIndexMore, IsNewGroup, IsSame, has_to_write, is_to_write as before_writes};
 ghost use Rattle.px_tables.specs.declared.table.TableRegion.{TableRegion};
 ghost use Rattle.px_group.specs.declared.group.IndexRegion.{IndexRegion as IndexRegions};
 
@@ -67,6 +67,16 @@ pub fn drop_index(group: &mut Group, id: IndexId)
     ensures { HasIndexLess group.old group.new id.0 }
 {
     group.indexes.retain(|part| part.index.id.0 != id.0);
+}
+
+/// Lets the index of this number go, if the table has it, and adds it anew, with a fresh region. Its birth is the last stamp.
+pub fn replace_index(alloc: Global, group: &mut Group, index: Index)
+    requires room { vec_len group.old.indexes < vec_capacity group.old.indexes }
+    ensures { HasIndexAnew group.old group.new index }
+{
+    let id = index.id;
+    group.indexes.retain(|other| other.index.id.0 != id.0);
+    add_index(alloc, group, index);
 }
 
 /// Whether a batch in this phase is still to write its rows.

@@ -9,6 +9,7 @@ mod defining;
 mod laws;
 
 pub use defining::{
-    add_index, drop_index, has_pending, index_place, make_active, new_group, reserve_index,
+    add_index, drop_index, has_pending, index_place, make_active, new_group, replace_index,
+    reserve_index,
 };
 pub use laws::{law_active, law_dropped, law_index, law_once, law_pending, law_table};

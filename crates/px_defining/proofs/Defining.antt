@@ -49,10 +49,12 @@ module _ (sound : Type 0) where
   outlined (d.Table what) m = refl
   outlined (d.Index what) m = refl
   outlined (d.Active t i) m = refl
+  outlined (d.Disabled t i) m = refl
+  outlined (d.Rebuilding t i) m = refl
   outlined (d.DropTable t) m = refl
   outlined (d.DropIndex t i) m = refl
 
-  pub defines : (k k' : Known) (x : Definition) (m : Made) → DidDefine sound k k' x m → Turns sound x state.Defining k state.Over k' (turn.Over (Ok m))
+  pub defines : (k k' : Known) (x : Definition) (m : Made) → DidDefine k k' x m → Turns sound x state.Defining k state.Over k' (turn.Over (Ok m))
   defines k k' x m h =
       let r = ran-adds k k' (act_of x m) h.adds in
       record {
@@ -65,7 +67,7 @@ module _ (sound : Type 0) where
       }
 
   -- a refusal that adds nothing
-  plain : (k k' : Known) (x : Definition) (old : DefineState) (f : DefineFault) → ((n : ℕ) → MadeSince n f k') → FaultIs sound x f k' → Sees k k' → Turns sound x old k state.Over k' (turn.Over (Err f))
+  plain : (k k' : Known) (x : Definition) (old : DefineState) (f : DefineFault) → ((n : ℕ) → MadeSince n f k') → FaultIs x f k' → Sees k k' → Turns sound x old k state.Over k' (turn.Over (Err f))
   plain k k' x old f since told h = record { acts = []; ran = ran-sees k k' h; fits = tt; told = (refl, (told, refl)); since = λ n low. since n; adds = tt }
 
   shuts : (k k' : Known) (x : Definition) (old : DefineState) → ((call : ℕ) × Adds k k' (act.Shut call)) → Turns sound x old k state.Over k' (turn.Over (Err fault.WriteFault))
@@ -91,21 +93,25 @@ module _ (sound : Type 0) where
       }
 
   -- no definition is refused so
-  no_read : (x : Definition) (k : Known) → define_cause sound x step.ReadFault k → ⊥
+  no_read : (x : Definition) (k : Known) → define_cause x step.ReadFault k → ⊥
   no_read (d.Table what) k h = h
   no_read (d.Index what) k h = h
   no_read (d.Active t i) k h = h
+  no_read (d.Disabled t i) k h = h
+  no_read (d.Rebuilding t i) k h = h
   no_read (d.DropTable t) k h = h
   no_read (d.DropIndex t i) k h = h
 
-  no_damage : (x : Definition) (k : Known) (file place : ℕ) → define_cause sound x (step.Damaged file place) k → ⊥
+  no_damage : (x : Definition) (k : Known) (file place : ℕ) → define_cause x (step.Damaged file place) k → ⊥
   no_damage (d.Table what) k file place h = h
   no_damage (d.Index what) k file place h = h
   no_damage (d.Active t i) k file place h = h
+  no_damage (d.Disabled t i) k file place h = h
+  no_damage (d.Rebuilding t i) k file place h = h
   no_damage (d.DropTable t) k file place h = h
   no_damage (d.DropIndex t i) k file place h = h
 
-  pub refuses : (k k' : Known) (x : Definition) (f : StepFault) → CanDefine sound k x → Refuses (define_cause sound x) k k' f → Turns sound x state.Defining k (state_after f) k' (turn_after f)
+  pub refuses : (k k' : Known) (x : Definition) (f : StepFault) → CanDefine sound k x → Refuses (define_cause x) k k' f → Turns sound x state.Defining k (state_after f) k' (turn_after f)
   refuses k k' x step.NameExists can h = plain k k' x state.Defining fault.NameExists (λ n. tt) h.0 h.1
   refuses k k' x step.NoTable can h = plain k k' x state.Defining fault.NoTable (λ n. tt) h.0 h.1
   refuses k k' x step.NoIndex can h = plain k k' x state.Defining fault.NoIndex (λ n. tt) h.0 h.1

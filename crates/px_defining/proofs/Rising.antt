@@ -92,6 +92,8 @@ module _ (sound : Type 0) (k : Known) (calls h : ℕ) (at : TableId) (legal : Is
   defines (d.Table what) f = f
   defines (d.Index what) f = indexes what f
   defines (d.Active t i) f = activates t.0 i.0 f
+  defines (d.Disabled t i) f = f
+  defines (d.Rebuilding t i) f = f
   defines (d.DropTable t) f = f
   defines (d.DropIndex t i) f = f
 
@@ -106,6 +108,8 @@ alone_no_matter sound v k (d.Active t i) h = record {
       (let a = h.each x is of in
       record { state = a.state; stamp = a.stamp; below = a.below; known = a.known; guarded = a.guarded; low = a.low; decided = a.decided; based = a.based });
 }
+alone_no_matter sound v k (d.Disabled t i) h = h
+alone_no_matter sound v k (d.Rebuilding t i) h = h
 alone_no_matter sound v k (d.DropTable t) h = h
 alone_no_matter sound v k (d.DropIndex t i) h = h
 

@@ -43,17 +43,17 @@ turn_after (step.NotReady region) = turn.Stepped
 turn_after (step.InUse count) = turn.Waiting count
 turn_after f = turn.Over (Err (fault_of f))
 
--- what tells the fault, in what the seat has then seen; what is told of rows, if what was opened is sound
-abbrev pub FaultIs : Type 0 → Definition → DefineFault → Known → Type 0
-FaultIs sound x fault.NameExists k = definition_cause sound x step.NameExists k
-FaultIs sound x fault.NoTable k = definition_cause sound x step.NoTable k
-FaultIs sound x fault.NoIndex k = definition_cause sound x step.NoIndex k
-FaultIs sound x (fault.Limit which count) k = definition_cause sound x (step.Limit which count) k
-FaultIs sound x fault.ReadFault k = (call : ℕ) × HasMade k (act.Missed call)
-FaultIs sound x fault.WriteFault k = (call : ℕ) × HasMade k (act.Shut call)
-FaultIs sound x (fault.Damaged file place) k = IsDamagedAt k file place
-FaultIs sound x (fault.Closed call) k = ClosedBy call k
-FaultIs sound x fault.Memory k = Unit {0}
+-- what tells the fault, in what the seat has then seen
+abbrev pub FaultIs : Definition → DefineFault → Known → Type 0
+FaultIs x fault.NameExists k = definition_cause x step.NameExists k
+FaultIs x fault.NoTable k = definition_cause x step.NoTable k
+FaultIs x fault.NoIndex k = definition_cause x step.NoIndex k
+FaultIs x (fault.Limit which count) k = definition_cause x (step.Limit which count) k
+FaultIs x fault.ReadFault k = (call : ℕ) × HasMade k (act.Missed call)
+FaultIs x fault.WriteFault k = (call : ℕ) × HasMade k (act.Shut call)
+FaultIs x (fault.Damaged file place) k = IsDamagedAt k file place
+FaultIs x (fault.Closed call) k = ClosedBy call k
+FaultIs x fault.Memory k = Unit {0}
 
 -- the entry that tells a failed device call is one of the seat's own after the first n
 abbrev pub MadeSince : ℕ → DefineFault → Known → Type 0
@@ -76,21 +76,21 @@ IsGoing s = Unit {0}
 -- 3. Steps
 
 -- the one entry that the run added is that of the definition
-pub record HasDefined (sound : Type 0) (x : Definition) (own : List Act) (k : Known) (m : Made) : Type 0 where
+pub record HasDefined (x : Definition) (own : List Act) (k : Known) (m : Made) : Type 0 where
   pub one : own ≡ act_of x m ∷ []
-  pub made : IsMade sound x k m
+  pub made : IsMade x m
   pub at : m.at ≡ length k.seen
 
 -- what the run comes to, where `own` is what the seat began, ended, opened, closed and defined for it
-abbrev pub IsOutcome : Type 0 → Definition → List Act → Known → Result Made DefineFault → Type 0
-IsOutcome sound x own k (Ok m) = HasDefined sound x own k m
-IsOutcome sound x own k (Err f) = FaultIs sound x f k × (own ≡ [])
+abbrev pub IsOutcome : Definition → List Act → Known → Result Made DefineFault → Type 0
+IsOutcome x own k (Ok m) = HasDefined x own k m
+IsOutcome x own k (Err f) = FaultIs x f k × (own ≡ [])
 
 -- what a step came to
-abbrev pub Told : Type 0 → Definition → List Act → DefineState → Known → DefineTurn → Type 0
-Told sound x own new k turn.Stepped = IsGoing new × (own ≡ [])
-Told sound x own new k (turn.Waiting count) = IsGoing new × (own ≡ []) × definition_cause sound x (step.InUse count) k
-Told sound x own new k (turn.Over r) = (new ≡ state.Over) × IsOutcome sound x own k r
+abbrev pub Told : Definition → List Act → DefineState → Known → DefineTurn → Type 0
+Told x own new k turn.Stepped = IsGoing new × (own ≡ [])
+Told x own new k (turn.Waiting count) = IsGoing new × (own ≡ []) × definition_cause x (step.InUse count) k
+Told x own new k (turn.Over r) = (new ≡ state.Over) × IsOutcome x own k r
 
 abbrev pub IsSinceThen : ℕ → Known → DefineTurn → Type 0
 IsSinceThen n k turn.Stepped = n ≤ length k.seen
@@ -108,6 +108,6 @@ pub record Turns (sound : Type 0) (x : Definition) (old : DefineState) (k : Know
   pub acts : List Act
   pub ran : Ran k k' acts
   pub fits : Fits sound x new k'
-  pub told : Told sound x (outline acts) new k' t
+  pub told : Told x (outline acts) new k' t
   pub since : (n : ℕ) → n ≤ length k.seen → IsSinceThen n k' t
   pub adds : AddsThen x k k' t

@@ -1,5 +1,10 @@
+pub mod Agreeing
+pub mod Anew
+pub mod FolderLess
+pub mod FolderMore
 pub mod Less
 pub mod LessShown
 pub mod More
 pub mod MoreShown
 pub mod Once
+pub mod Swapped

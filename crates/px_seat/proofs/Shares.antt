@@ -3,16 +3,18 @@ use Rattle.std.proofs.Common.{ℕ, ◌≡◌, true, false, Option, None, Some, L
 use Rattle.px_values.specs.declared.change.Change.{Change}
 use Rattle.px_values.specs.declared.limit.Limit.{Limit as Bound}
 use Rattle.px_values.specs.declared.limit.Limit.TheVariants as bound
+use Rattle.px_values.specs.declared.name.IndexId.{IndexId}
 use Rattle.px_values.specs.declared.name.TableId.{TableId}
 use Rattle.px_tables.specs.declared.found.Found.{Found}
 use Rattle.px_tables.specs.declared.index.NewIndex.{NewIndex}
 use Rattle.px_tables.specs.declared.table.NewTable.{NewTable}
 use Rattle.px_trail.specs.Batches.{Batch, BatchPhase, Marking, Writing, Verifying, Closing}
-use Rattle.px_trail.specs.declared.entry.Act.TheVariants.{Begun, Fixed, Opened, Phase, Raised, Wrote}
+use Rattle.px_trail.specs.declared.entry.Act.TheVariants.{Based, Begun, Fixed, Opened, Phase, Raised, Wrote}
 use Rattle.px_calls.specs.declared.definition.Definition.{Definition}
 use Rattle.px_calls.specs.declared.definition.Definition.TheVariants as d
 use Rattle.px_calls.specs.declared.definition.Made.{Made}
 use Rattle.px_calls.specs.declared.fault.StepFault.TheVariants.{Limit, NotYet, ReadFault, WriteFault, Memory}
+use Rattle.px_calls.specs.declared.query.BaseRow.{BaseRow}
 use Rattle.px_calls.specs.declared.query.Chunk.{Chunk}
 use Rattle.px_calls.specs.declared.query.Doubt.{Doubt}
 use Rattle.px_calls.specs.declared.query.Fixing.{Fixing}
@@ -32,9 +34,9 @@ use Rattle.px_calls.specs.declared.ticket.Verifies.TheVariants as verifies
 use Rattle.px_calls.specs.declared.ticket.Writes.{Writes}
 use Rattle.px_calls.specs.declared.ticket.Writes.TheVariants as writes
 use Rattle.px_calls.specs.Known.{Known, Passes}
-use Rattle.px_calls.specs.Requires.{CanAbandon, CanEnd}
-use Rattle.px_calls.specs.Causes.{batch_limit, begin_cause, define_cause, find_cause, fix_cause, new_index_cause, new_table_cause, open_cause, order_cause, read_cause, rows_cause, status_cause, upkeep_cause, write_cause}
-use Rattle.px_calls.specs.Calls.{Consulted, DidBegin, DidConsult, DidCount, DidDefine, DidFind, DidFix, DidLook, DidMark, DidOpen, DidVerify, DidWork, DidWrite, IsFinished, IsMade, IsReceipt, WroteRows, act_of}
+use Rattle.px_calls.specs.Requires.{CanAbandon, CanEnd, base_owners}
+use Rattle.px_calls.specs.Causes.{base_cause, batch_limit, begin_cause, define_cause, find_cause, fix_cause, new_index_cause, new_table_cause, open_cause, order_cause, read_cause, rebuilding_cause, rows_cause, status_cause, upkeep_cause, write_cause}
+use Rattle.px_calls.specs.Calls.{Consulted, DidBase, DidBegin, DidConsult, DidCount, DidDefine, DidFind, DidFix, DidLook, DidMark, DidOpen, DidVerify, DidWork, DidWrite, IsFinished, IsReceipt, WroteRows, act_of}
 use Rattle.px_calls.proofs.Runs.{passes-shut, passes-ticket}
 use Rattle.px_seat.specs.Grown.{Grew, shared}
 use Rattle.px_seat.proofs.Grows.{adds-grew, finds-grew, adds-shared, finds-shared, IsShared}
@@ -59,21 +61,32 @@ table_shared : (what : NewTable) (which : Bound) (count : ℕ) (k : Known) → n
 table_shared what bound.Tables count k h = h
 table_shared what which count k h = h
 
-index_shared : (sound : Type 0) (what : NewIndex) (which : Bound) (count : ℕ) (k : Known) → new_index_cause sound what (Limit which count) k → new_index_cause sound what (Limit which count) (shared k)
-index_shared sound what bound.Indexes count k h = h
-index_shared sound what which count k h = h
+index_shared : (what : NewIndex) (which : Bound) (count : ℕ) (k : Known) → new_index_cause what (Limit which count) k → new_index_cause what (Limit which count) (shared k)
+index_shared what bound.Indexes count k h = h
+index_shared what bound.Stamps count k h = h
+index_shared what bound.Ids count k h = h
+index_shared what which count k h = h
 
-pub define_shared : (sound : Type 0) (x : Definition) → IsShared (define_cause sound x)
-define_shared sound (d.Table what) (Limit which count) k h = table_shared what which count k h
-define_shared sound (d.Table what) f k h = h
-define_shared sound (d.Index what) (Limit which count) k h = index_shared sound what which count k h
-define_shared sound (d.Index what) f k h = h
-define_shared sound (d.Active t i) Memory k h = h
-define_shared sound (d.Active t i) f k h = h
-define_shared sound (d.DropTable t) Memory k h = h
-define_shared sound (d.DropTable t) f k h = h
-define_shared sound (d.DropIndex t i) Memory k h = h
-define_shared sound (d.DropIndex t i) f k h = h
+again_shared : (t i : ℕ) (which : Bound) (count : ℕ) (k : Known) → rebuilding_cause t i (Limit which count) k → rebuilding_cause t i (Limit which count) (shared k)
+again_shared t i bound.Stamps count k h = h
+again_shared t i bound.Ids count k h = h
+again_shared t i which count k h = h
+
+pub define_shared : (x : Definition) → IsShared (define_cause x)
+define_shared (d.Table what) (Limit which count) k h = table_shared what which count k h
+define_shared (d.Table what) f k h = h
+define_shared (d.Index what) (Limit which count) k h = index_shared what which count k h
+define_shared (d.Index what) f k h = h
+define_shared (d.Active t i) Memory k h = h
+define_shared (d.Active t i) f k h = h
+define_shared (d.Disabled t i) Memory k h = h
+define_shared (d.Disabled t i) f k h = h
+define_shared (d.Rebuilding t i) (Limit which count) k h = again_shared t.0 i.0 which count k h
+define_shared (d.Rebuilding t i) f k h = h
+define_shared (d.DropTable t) Memory k h = h
+define_shared (d.DropTable t) f k h = h
+define_shared (d.DropIndex t i) Memory k h = h
+define_shared (d.DropIndex t i) f k h = h
 
 limit_shared : (sound : Type 0) (t : ℕ) (cs : List Change) (which : Bound) (k : Known) → batch_limit sound t cs which k → batch_limit sound t cs which (shared k)
 limit_shared sound t cs bound.Key k h = h
@@ -105,6 +118,10 @@ pub fix_shared : IsShared fix_cause
 fix_shared ReadFault k h = h
 fix_shared f k h = h
 
+pub base_shared : IsShared base_cause
+base_shared WriteFault k h = h
+base_shared f k h = h
+
 pub upkeep_shared : IsShared upkeep_cause
 upkeep_shared ReadFault k h = h
 upkeep_shared f k h = h
@@ -122,12 +139,8 @@ status_shared t f k h = h
 pub find-shared : (k a c : Known) (name : List ℕ) (f : Found) → k.alone ≡ false → Passes k a → DidFind a c name f → DidFind k (shared c) name f
 find-shared k a c name f apart h j = record { finds = finds-shared k a c apart h j.finds; name_is = j.name_is; found = j.found }
 
-made-shared : (sound : Type 0) (x : Definition) (k : Known) (m : Made) → IsMade sound x k m → IsMade sound x (shared k) m
-made-shared sound (d.Table what) k m h = h
-made-shared sound x k m h = h
-
-pub define-shared : (sound : Type 0) (k a c : Known) (x : Definition) (m : Made) → k.alone ≡ false → Passes k a → DidDefine sound a c x m → DidDefine sound k (shared c) x m
-define-shared sound k a c x m apart h j = record { adds = adds-shared k a c (act_of x m) apart h j.adds; made = made-shared sound x c m j.made; at = j.at }
+pub define-shared : (k a c : Known) (x : Definition) (m : Made) → k.alone ≡ false → Passes k a → DidDefine a c x m → DidDefine k (shared c) x m
+define-shared k a c x m apart h j = record { adds = adds-shared k a c (act_of x m) apart h j.adds; made = j.made; at = j.at }
 
 pub begin-shared : (sound : Type 0) (k a c : Known) (t : TableId) (cs : List Change) (x : Ticket) → k.alone ≡ false → Passes k a → DidBegin sound a c t cs x → DidBegin sound k (shared c) t cs x
 begin-shared sound k a c t cs x apart h j = record {
@@ -219,6 +232,9 @@ pub fix-shared : (k a c : Known) (d : Doubt) (x : Fixing) → k.alone ≡ false 
 fix-shared k a c d fixing.Fixed apart h j = (adds-shared k a c (Fixed d.index d.key) apart h j.0, j.1)
 fix-shared k a c d fixing.Gone apart h j = finds-shared k a c apart h j
 fix-shared k a c d fixing.InFlight apart h j = (finds-shared k a c apart h j.0, j.1)
+
+pub base-shared : (k a c : Known) (p : Point) (i : IndexId) (xs : List BaseRow) (at : ℕ) → k.alone ≡ false → Passes k a → DidBase a c p i xs at → DidBase k (shared c) p i xs at
+base-shared k a c p i xs at apart h j = record { table = j.table; table_is = j.table_is; adds = adds-shared k a c (Based i (base_owners j.table xs)) apart h j.adds; at_is = j.at_is }
 
 pub work-grew : (k k' : Known) (w : Work) → k.alone ≡ true → DidWork k k' w → Grew k k'
 work-grew k k' work.Did alone (inl h) = finds-grew k k' alone h

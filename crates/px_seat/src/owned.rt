@@ -4,19 +4,19 @@ ghost use Rattle.px_trail.specs.Batches.{Marking, Writing, Verifying, is_distinc
 ghost use Rattle.px_trail.specs.Legal.{IsLegal};
 ghost use Rattle.px_trail.specs.declared.entry.Act.TheVariants.{Ended, Released};
 ghost use Rattle.px_calls.specs.Known.{Known, Sees, Adds};
-ghost use Rattle.px_calls.specs.Requires.{AreFitting, CanAbandon, CanConsult, CanDefine, CanEnd, CanLook, IsOpen, IsScn, TicketIn};
-ghost use Rattle.px_calls.specs.Causes.{Refuses, begin_cause, define_cause, find_cause, fix_cause, open_cause, order_cause, read_cause, rows_cause, status_cause, upkeep_cause, write_cause};
-ghost use Rattle.px_calls.specs.Calls.{DidBegin, DidConsult, DidCount, DidDefine, DidFind, DidFix, DidLook, DidMark, DidOpen, DidOrder, DidVerify, DidWork, DidWrite, IsIdle, IsReceipt};
+ghost use Rattle.px_calls.specs.Requires.{AreFitting, CanAbandon, CanConsult, CanDefine, CanEnd, CanLook, IsOpen, IsScn, MayBase, TicketIn};
+ghost use Rattle.px_calls.specs.Causes.{Refuses, base_cause, begin_cause, define_cause, find_cause, fix_cause, open_cause, order_cause, read_cause, rows_cause, status_cause, upkeep_cause, write_cause};
+ghost use Rattle.px_calls.specs.Calls.{DidBase, DidBegin, DidConsult, DidCount, DidDefine, DidFind, DidFix, DidLook, DidMark, DidOpen, DidOrder, DidVerify, DidWork, DidWrite, IsIdle, IsReceipt};
 ghost use Rattle.px_seat.specs.Grown.{Grew, IsOwned};
 
 use px_calls::{
-    Chunk, Definition, Doubt, Fixing, Held, Made, Marks, Ordered, Path, Point, Receipt, Status,
-    StepFault, Steps, Ticket, Verifies, Work, Writes,
+    BaseRows, Chunk, Definition, Doubt, Fixing, Held, Made, Marks, Ordered, Path, Point, Receipt,
+    Status, StepFault, Steps, Ticket, Verifies, Work, Writes,
 };
 use px_tables::Found;
 use px_trail::Entry;
 use px_turn::Trailed;
-use px_values::{Changes, Key, Name, TableId};
+use px_values::{Changes, IndexId, Key, Name, TableId};
 use std::marker::{Brand, Model, PhantomData};
 
 /// Steps that one owner makes, for one seat after another.
@@ -121,13 +121,13 @@ impl<S: Single, B: Based> Owned<S, B> {
         self.core.find(name)
     }
 
-    /// Makes a table or an index, makes an index active, or drops one.
+    /// Makes a table or an index, makes an index active, disables one or builds it again, or drops one.
     pub(crate) fn define(&mut self, definition: &Definition) -> Result<Made, StepFault>
         requires { CanDefine S.sound (S.known self.old) definition.now }
         ensures grew { Grew (S.known self.old) (S.known self.new) }
         ensures owned { IsOwned B.base B.damaged (S.known self.new) }
-        ensures ok { IfOk result (DidDefine S.sound (S.known self.old) (S.known self.new) definition.now) }
-        ensures refused { IfErr result (Refuses (define_cause S.sound definition.now) (S.known self.old) (S.known self.new)) }
+        ensures ok { IfOk result (DidDefine (S.known self.old) (S.known self.new) definition.now) }
+        ensures refused { IfErr result (Refuses (define_cause definition.now) (S.known self.old) (S.known self.new)) }
     {
         self.core.define(definition)
     }
@@ -257,6 +257,25 @@ impl<S: Single, B: Based> Owned<S, B> {
         ensures refused { IfErr result (Refuses fix_cause (S.known self.old) (S.known self.new)) }
     {
         self.core.fix(d)
+    }
+
+    /// Gives rows of the point their base versions in an index that was born there.
+    pub(crate) fn base(
+        &mut self,
+        p: &Point,
+        index: IndexId,
+        rows: &BaseRows,
+    ) -> Result<u64, StepFault>
+        requires open { IsOpen (S.known self.old) p.now }
+        requires some { rows.now ≢ [] }
+        requires few { length rows.now ≤ 64 }
+        requires rows { MayBase S.sound (S.known self.old) p.now index.0 rows.now }
+        ensures grew { Grew (S.known self.old) (S.known self.new) }
+        ensures owned { IsOwned B.base B.damaged (S.known self.new) }
+        ensures ok { IfOk result (DidBase (S.known self.old) (S.known self.new) p.now index rows.now) }
+        ensures refused { IfErr result (Refuses base_cause (S.known self.old) (S.known self.new)) }
+    {
+        self.core.base(p, index, rows)
     }
 
     /// Closes the point.

@@ -5,12 +5,12 @@ ghost use Rattle.px_seat.specs.Grown.{WasSo, mine};
 
 use crate::owned::{Based, Owned, Single};
 use px_calls::{
-    Chunk, Definition, Doubt, Fixing, Held, Made, Marks, Ordered, Path, Point, Receipt, Status,
-    StepFault, Steps, Ticket, Verifies, Work, Writes,
+    BaseRows, Chunk, Definition, Doubt, Fixing, Held, Made, Marks, Ordered, Path, Point, Receipt,
+    Status, StepFault, Steps, Ticket, Verifies, Work, Writes,
 };
 use px_tables::Found;
 use px_turn::{TurnLock, TurnSeat};
-use px_values::{Changes, Key, Name, TableId};
+use px_values::{Changes, IndexId, Key, Name, TableId};
 use std::marker::{Brand, PhantomData};
 use std::sync::Wait;
 
@@ -215,6 +215,17 @@ impl<'a, R: Wait, S: Single, N: LockNamed, B: Based> Steps for SeatAt<'a, R, S, 
         let server = guard.value();
         server.act_as(self.id);
         let reply = server.fix(d);
+        let seen = server.seen();
+        guard.leave();
+        self.seen = seen;
+        reply
+    }
+
+    fn base(&mut self, p: &Point, index: IndexId, rows: &BaseRows) -> Result<u64, StepFault> {
+        let mut guard = self.lock.enter(self.rt, &mut self.seat);
+        let server = guard.value();
+        server.act_as(self.id);
+        let reply = server.base(p, index, rows);
         let seen = server.seen();
         guard.leave();
         self.seen = seen;

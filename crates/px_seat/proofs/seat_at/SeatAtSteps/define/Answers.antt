@@ -44,7 +44,7 @@ returns-clause-ok g c =
     me.is_seat.1 c.enter-guard.ensures.seen now c.act_as.ensures.known c.act_as.ensures.owned in
     let new = grows.knows g.S.Steps.known g.B.Based.base g.B.Based.damaged me.id (list_seen me.seat) c.act_as.new.self c.define-reply.new.self (list_seen c.leave.new.self.1.0) e c.define-reply.ensures.grew c.leave.ensures.seen in
     let old = mine me.id g.B.Based.base g.B.Based.damaged (list_seen me.seat) in
-    subst (λ (k : Known). IfOk c.define-reply.result (DidDefine g.S.Steps.sound old k c.args.definition.now)) (sym new) (grows.if_ok _ _ c.define-reply.result (λ x h. shares.define-shared g.S.Steps.sound _ _ _ c.args.definition.now x refl e.passes h) c.define-reply.ensures.ok)
+    subst (λ (k : Known). IfOk c.define-reply.result (DidDefine old k c.args.definition.now)) (sym new) (grows.if_ok _ _ c.define-reply.result (λ x h. shares.define-shared _ _ _ c.args.definition.now x refl e.passes h) c.define-reply.ensures.ok)
 
 pub returns-clause-refused : goal.returns-clause-refused
 returns-clause-refused g c =
@@ -54,4 +54,4 @@ returns-clause-refused g c =
     me.is_seat.1 c.enter-guard.ensures.seen now c.act_as.ensures.known c.act_as.ensures.owned in
     let new = grows.knows g.S.Steps.known g.B.Based.base g.B.Based.damaged me.id (list_seen me.seat) c.act_as.new.self c.define-reply.new.self (list_seen c.leave.new.self.1.0) e c.define-reply.ensures.grew c.leave.ensures.seen in
     let old = mine me.id g.B.Based.base g.B.Based.damaged (list_seen me.seat) in
-    subst (λ (k : Known). IfErr c.define-reply.result (Refuses (define_cause g.S.Steps.sound c.args.definition.now) old k)) (sym new) (grows.if_err _ _ c.define-reply.result (λ f h. grows.refuses-shared (define_cause g.S.Steps.sound c.args.definition.now) old (g.S.Steps.known c.act_as.new.self) (g.S.Steps.known c.define-reply.new.self) f (shares.define_shared g.S.Steps.sound c.args.definition.now) refl e.passes h) c.define-reply.ensures.refused)
+    subst (λ (k : Known). IfErr c.define-reply.result (Refuses (define_cause c.args.definition.now) old k)) (sym new) (grows.if_err _ _ c.define-reply.result (λ f h. grows.refuses-shared (define_cause c.args.definition.now) old (g.S.Steps.known c.act_as.new.self) (g.S.Steps.known c.define-reply.new.self) f (shares.define_shared c.args.definition.now) refl e.passes h) c.define-reply.ensures.refused)
