@@ -1,0 +1,10 @@
+pub mod Indexes
+pub mod Chunks
+pub mod Growing
+pub mod Based
+pub mod Later
+pub mod Opening
+pub mod Reading
+pub mod Ending
+pub mod Whole
+pub mod Keeping
