@@ -20,7 +20,7 @@ use Rattle.px_defined.specs.Defined.{HasOnce}
 use Rattle.px_schema.specs.declared.standing.Standing.{Standing}
 use Rattle.px_catalog.specs.Catalogue.{standing_of}
 use Rattle.px_catalog.specs.declared.catalog.Catalog.{Catalog}
-use Rattle.px_group.specs.Group.{AreTraced, IsRightGroup, IsShownBy, IsTallied, points_in}
+use Rattle.px_group.specs.Group.{AreTraced, IsRightGroup, IsShownBy, IsTallied, form_of as group_form, points_in}
 use Rattle.px_group.specs.declared.group.Group.{Group}
 use Rattle.px_noting.specs.Apart.{IsApart}
 use Rattle.px_noting.specs.Points.{IsSameBeside}
@@ -35,10 +35,11 @@ use Rattle.px_recovery.proofs.Explains.{by_entry, by_none, noted_kept}
 use Rattle.px_recovery.proofs.Numbered.{found_number}
 use Rattle.px_rows.specs.Spelled.{row_form}
 use Rattle.px_standing.specs.Agrees.{Agrees}
-use Rattle.px_server.specs.Kept.{AreGroups, AreShown, HasBegun, HasFailed, HasParts, HasPoints, HasShown, HasTallied, IsKept, IsOnDisk, IsTold, forms_in, has_told, number_in, owed, table_in_group, tells_fault}
+use Rattle.px_server.specs.Kept.{AreBuilt, AreGroups, AreShown, HasBegun, HasFailed, HasParts, HasPoints, HasShown, HasTallied, IsKept, IsOnDisk, IsTold, forms_in, has_told, number_in, owed, table_in_group, tells_fault}
 use Rattle.px_server.specs.Others.{Beginning, OthersStay}
 use Rattle.px_server.proofs.Beside.{GoOthers, begun_then, disk_then, once_then, others_noted, others_still, own_shown, points_then, right_then, shown_then, tallied_then, traced_then}
 use Rattle.px_server.proofs.Blamed.{blamed_quiet}
+use Rattle.px_server.proofs.Built.{IsOfOwn}
 use Rattle.px_server.proofs.Others.{others_more}
 use Rattle.px_server.proofs.Lists.{all_at, map_set}
 use Rattle.px_server.proofs.Noted.{server_goes, with_parts}
@@ -54,6 +55,7 @@ pub record HasMoved (b : Base) (index : ℕ → IndexForm) (es' : List Entry) (g
   pub tallied : IsTallied b es' g' held
   pub shown : IsShownBy b index es' g' after held
   pub told : IsToldBy b index es' g' after
+  pub built : AreBuilt (group_form b index g') es' after
   pub high : v.high ≤ after.high
   pub low : after.low ≡ v.low
   pub cells : after.cells ≡ v.cells
@@ -68,7 +70,7 @@ pub record IsActed {D : Type 0} (d : Ghosts D) (disk : D) (b : Base) (es es' : L
   pub once : closed ≡ None → HasOnce g'
   pub traced : (call : ℕ) → closed ≡ Some call → AreTraced es' g'
   pub begun : (call : ℕ) → closed ≡ Some call → HasBegun es' g'
-  pub shown : closed ≡ None → (index : ℕ → IndexForm) (v : GroupData) (hs : List HeldBatch) → IsTallied b es g hs → IsShownBy b index es g v hs → IsToldBy b index es g v → HasMoved b index es' g' v
+  pub shown : closed ≡ None → (index : ℕ → IndexForm) (v : GroupData) (hs : List HeldBatch) → IsTallied b es g hs → IsShownBy b index es g v hs → IsToldBy b index es g v → AreBuilt (group_form b index g) es v → HasMoved b index es' g' v
   pub on_disk : closed ≡ None → (f : FolderData) → IsOnDisk d disk f g → IsOnDisk d disk f g'
 
 -- the same group with the same points in other places
@@ -81,7 +83,7 @@ same_acted d disk b es closed g g' beside points open_ right told once running =
   once = λ none. once_beside g g' beside once;
   traced = λ call shut. absurd (let z : None ≡ Some call = sym running ∙ shut in cc);
   begun = λ call shut. absurd (let z : None ≡ Some call = sym running ∙ shut in cc);
-  shown = λ none index v hs k shown told. record {
+  shown = λ none index v hs k shown told built. record {
     after = v;
     held = hs;
     tallied = tallied_then hs k;
@@ -91,6 +93,7 @@ same_acted d disk b es closed g g' beside points open_ right told once running =
     told = (let
         moved : IsToldBy b index es (record g { points = g'.points }) v = record { told = told.told; own = told.own }
         in subst (λ (h : Group). IsToldBy b index es h v) (sym same) moved);
+    built = subst (λ (h : Group). AreBuilt (group_form b index h) es v) (sym same) built;
     high = omega arith;
     low = refl;
     cells = refl;
@@ -161,19 +164,19 @@ module _ {D : Type 0} (d : Ghosts D) (b : Base) (sound premise : Type 0) (began 
 
     module _ (running : closed ≡ None) where
       moved_by : (indexes : List Index) (v : ℕ → GroupData) → HasShown b es indexes v g → HasMoved b (forms_in indexes g.table) es' g' (v (number_in g))
-      moved_by indexes v h = a.shown running (forms_in indexes g.table) (v (number_in g)) h.held h.tallied h.shown h.told
+      moved_by indexes v h = a.shown running (forms_in indexes g.table) (v (number_in g)) h.held h.tallied h.shown h.told h.built
 
       own_then : (indexes : List Index) (v : ℕ → GroupData) (h : HasShown b es indexes v g) → HasShown b es' indexes (with_part v (number_in g) (moved_by indexes v h).after) g'
-      own_then indexes v h = (let m = moved_by indexes v h in own_shown b es' indexes v m.after g.table g' a.table m.held m.tallied m.shown m.told)
+      own_then indexes v h = (let m = moved_by indexes v h in own_shown b es' indexes v m.after g.table g' a.table m.held m.tallied m.shown m.told m.built)
 
       pub shown_now : AreShown b es standing.indexes groups → AreShown b es' standing.indexes then
       shown_now s = (let own = all_at (HasShown b es standing.indexes s.told) groups place g l is s.each in record {
         told = with_part s.told (number_in g) (moved_by standing.indexes s.told own).after;
-        each = shown_then b es es' groups once place g g' l is o standing.indexes s.told (moved_by standing.indexes s.told own).after s.each (own_then standing.indexes s.told own);
+        each = shown_then b es es' groups once place g g' l is o (k.each.right running) standing.indexes s.told (moved_by standing.indexes s.told own).after s.each (own_then standing.indexes s.told own);
       })
 
       -- the folder is told, and the groups go on from it
-      pub goes_then : ((f : FolderData) (v : ℕ → GroupData) → Explains b es f v → GoesOnBy b es es' f v (number_in g)) → GoesOn d b (HasParts d b catalog groups) disk es → GoesOn d b (HasParts d b catalog then) disk es'
+      pub goes_then : ((f : FolderData) (v : ℕ → GroupData) → Explains b es f v → GoesOnBy b es es' f v (number_in g)) → GoesOn d b (HasParts d b sound catalog groups) disk es → GoesOn d b (HasParts d b sound catalog then) disk es'
       goes_then by goes = (let
           f = goes.folder
           in let
@@ -191,10 +194,11 @@ module _ {D : Type 0} (d : Ghosts D) (b : Base) (sound premise : Type 0) (began 
             stands = goes.stands;
             explains = noted_kept b es es' f v goes.explains (number_in g) (by f v goes.explains) g.table (goes.explains.catalogue.tables (number_in g) ∙ own.tallied.standing.table) m.after kept m.high m.low m.cells m.indexes;
             has = record {
+              given = goes.has.given;
               stored = goes.has.stored;
               standing = goes.has.standing;
               regions = disk_then b es es' groups once place g g' l is o d disk f goes.has.regions (a.on_disk running f (all_at (IsOnDisk d disk f) groups place g l is goes.has.regions));
-              shown = shown_then b es es' groups once place g g' l is o f.standing.indexes v m.after goes.has.shown (own_then f.standing.indexes v own);
+              shown = shown_then b es es' groups once place g g' l is o (k.each.right running) f.standing.indexes v m.after goes.has.shown (own_then f.standing.indexes v own);
             };
           })
 
@@ -207,7 +211,7 @@ module _ {D : Type 0} (d : Ghosts D) (b : Base) (sound premise : Type 0) (began 
         told = k.told;
         each = groups_then g' es o a;
         shown = λ given running. shown_now g' es o a running (k.shown given running);
-        server = with_parts d b premise (HasParts d b catalog groups) (HasParts d b catalog (slice_set groups place g')) disk es late closed k.server
+        server = with_parts d b premise (HasParts d b sound catalog groups) (HasParts d b sound catalog (slice_set groups place g')) disk es late closed k.server
             (λ running given tells. goes_then g' es o a running (λ f v told. by_none b es f v told (number_in g)) (k.server.goes_on running given tells));
         room = room_set groups place g g' l is closed trail trail k.room (omega (arith, less));
         blamed = k.blamed;
@@ -218,13 +222,13 @@ module _ {D : Type 0} (d : Ghosts D) (b : Base) (sound premise : Type 0) (began 
   -- ---- with an entry of its table
 
   module _ (tells_left : (x : D) (moment file : ℕ) (bytes : List ℕ) → d.left x moment file bytes → IsTrue d.tells) (up_to_now : (x : D) (moment file : ℕ) (bytes : List ℕ) → d.left x moment file bytes → moment ≤ d.calls x)
-      (e : Entry) (at : e.calls ≡ d.calls disk) (quiet : lasting e ≡ false) (calm : tells_fault e.act ≡ false) (may : MayCome b es e) (unshut : closing_step closed e.act ≡ closed) (still : catalogue_of b (es ++ e ∷ []) ≡ catalogue_of b es) (apart : (t : TableId) → t.0 ≢ number_in g → IsApart t e.act)
+      (e : Entry) (at : e.calls ≡ d.calls disk) (quiet : lasting e ≡ false) (calm : tells_fault e.act ≡ false) (may : MayCome b es e) (unshut : closing_step closed e.act ≡ closed) (still : catalogue_of b (es ++ e ∷ []) ≡ catalogue_of b es) (apart : (t : TableId) → t.0 ≢ number_in g → IsApart t e.act) (own : IsOfOwn b es (number_in g) e.act)
       (g' : Group) (a : IsActed d disk b es (es ++ e ∷ []) closed g g') (trail' : Recorded) (entries : trail'.entries ≡ es ++ e ∷ []) (less : owed g' + trail.room ≤ owed g + trail'.room) where
     abbrev es' : List Entry
     es' = es ++ e ∷ []
 
     o : GoOthers b es es' (number_in g)
-    o = others_noted b es e may still (number_in g) apart
+    o = others_noted b es e may still (number_in g) apart own
 
     by : (f : FolderData) (v : ℕ → GroupData) → Explains b es f v → GoesOnBy b es es' f v (number_in g)
     by f v told = by_entry b es f v told (number_in g) e may still (λ q y other found. apart_elsewhere y.id e.act (apart y.id (λ same. other (sym (found_number f.standing.tables q y found) ∙ same))))
@@ -246,8 +250,8 @@ module _ {D : Type 0} (d : Ghosts D) (b : Base) (sound premise : Type 0) (began 
           told = subst (λ (ys : List Entry). IsTold b ys closed (standing_of catalog) standing) (sym entries) told_then;
           each = subst (λ (ys : List Entry). AreGroups b ys closed standing.tables then) (sym entries) (groups_then g' es' o a);
           shown = λ given running. subst (λ (ys : List Entry). AreShown b ys standing.indexes then) (sym entries) (shown_now g' es' o a running (k.shown given running));
-          server = subst (λ (ys : List Entry). IsServer d b premise (HasParts d b catalog then) disk ys late closed) (sym entries)
-              (server_goes d tells_left up_to_now b premise (HasParts d b catalog groups) (HasParts d b catalog then) disk es late closed k.server e at quiet may unshut (λ running goes. goes_then g' es' o a running by goes));
+          server = subst (λ (ys : List Entry). IsServer d b premise (HasParts d b sound catalog then) disk ys late closed) (sym entries)
+              (server_goes d tells_left up_to_now b premise (HasParts d b sound catalog groups) (HasParts d b sound catalog then) disk es late closed k.server e at quiet may unshut (λ running goes. goes_then g' es' o a running by goes));
           room = room_set groups place g g' l is closed trail trail' k.room less;
           blamed = subst (λ (ys : List Entry). has_told ys ≡ true → HasFailed d disk) (sym entries) (blamed_quiet d disk es e calm k.blamed);
           last_call = k.last_call;

@@ -29,7 +29,6 @@ use Rattle.px_defined.specs.Defined.{HasActive}
 use Rattle.px_server.specs.Kept.{HasTrailRoom, IsKept, owed}
 use Rattle.px_server.specs.Others.{Beginning}
 use Rattle.px_server.specs.inner.Fitting.{IsIndexToActivate}
-use Rattle.px_server.specs.inner.Indexing.{HasRowAt}
 use Rattle.px_server.proofs.Reserved.{roomy, set_long, set_there}
 use Rattle.px_server.proofs.Unwritten.{unwritten_kept, unwritten_refused}
 use Rattle.px_values.specs.declared.row.Value.{Value}
@@ -47,7 +46,7 @@ use Rattle.px_schema.specs.Records.{IsRight}
 use Rattle.px_reading.specs.Looked.{HasLooked}
 use Rattle.px_reading.proofs.Looked.{Looked, looked_on}
 use Rattle.px_server.specs.declared.defining.prepared.IndexToActivate.{IndexToActivate}
-use Rattle.px_server.proofs.IndexActivating.{activate_did, activate_failed, activate_kept, low, none_seen, part}
+use Rattle.px_server.proofs.IndexActivating.{activate_did, activate_failed, activate_kept, part}
 use Rattle.px_server.proofs.IndexFits.{fits_index}
 use Rattle.px_server.proofs.Lists.{all_at}
 use Rattle.px_server.proofs.Looked.{looked_kept}
@@ -78,86 +77,43 @@ module _ {D : Type 0} (d : Ghosts D) (tells_left : (x : D) (moment file : ℕ) (
       (subst (λ (z : Index). IsRightIndex g.table z) (sym made.item_is) (record { parts = here.index.parts; within = here.index.within; once = here.index.once }))
       (ap (λ (z : Index). z.table) made.item_is ∙ here.table) (subst (λ (z : Index). z.table.0 < 256 ^ 4) (sym made.item_is) short) made.can)
 
-  module _ (g1 : Group) (looked : HasLooked g g1) (has : Bool) (empty : has ≡ false)
-      (rows : (b : Base) (index : ℕ → IndexForm) (es : List Entry) (v : GroupData) (hs : List HeldBatch) → IsShownBy b index es g v hs → horizon_of b g.table.id.0 es ≤ x.index.birth → (has ≡ true) ↔ HasRowAt b es g.table.id.0 x.index.birth)
-      (mid : Recorded) (mid_same : mid.entries ≡ trail.entries) (mid_room : mid.room ≡ trail.room + 1) (disk' : D) (catalog' : Catalog) (passes : Passes d disk disk' 4) (touches : HasCatalogue d catalog disk → TouchesOnly d disk disk' catalogue_files)
+  module _ (mid : Recorded) (mid_same : mid.entries ≡ trail.entries) (mid_room : mid.room ≡ trail.room + 1) (disk' : D) (catalog' : Catalog) (passes : Passes d disk disk' 4) (touches : HasCatalogue d catalog disk → TouchesOnly d disk disk' catalogue_files)
       (leaves : HasCatalogue d catalog disk → LeavesOnly d disk disk' (λ moment image. CatalogueStands image (standing_of catalog) ⊎ CatalogueStands image (after (standing_of catalog) (IndexIs p.item)))) where
-    abbrev groups1 : List Group
-    groups1 = slice_set groups place g1
-
-    k0 : IsKept d b sound premise began disk catalog standing groups1 trail late closed
-    k0 = looked_kept d b sound premise began disk catalog standing groups trail late closed k place g g1 l g_is looked
-
-    k1 : IsKept d b sound premise began disk catalog standing groups1 mid late closed
-    k1 = roomy d b sound premise began disk catalog standing groups1 trail late closed k0 mid mid_same (omega (arith, mid_room))
-
-    l1 : place < length groups1
-    l1 = (let n = set_long groups place g1 in omega (arith, n, l))
-
-    there : (h : Group) → get_or groups1 place h ≡ g1
-    there h = set_there groups place g1 h l
-
-    mine1 : g1.table.id ≡ t
-    mine1 = ap (λ (u : Table). u.id) looked.table ∙ mine
+    k1 : IsKept d b sound premise began disk catalog standing groups mid late closed
+    k1 = roomy d b sound premise began disk catalog standing groups trail late closed k mid mid_same (omega (arith, mid_room))
 
     may1 : MayActivate sound (known mid.entries) t.0 i.0
     may1 = subst (λ (es : List Entry). MayActivate sound (known es) t.0 i.0) (sym mid_same) may
 
-    x1 : (y : IndexRegion) × ((slice_get g1.indexes.items m ≡ Some y) × Looked x y)
-    x1 = looked_on g.indexes.items g1.indexes.items looked.indexes m x x_is
+    enough : 2 + sum_by owed groups ≤ mid.room
+    enough = (let before = subst (λ (z : Option ℕ). HasTrailRoom z groups trail) running k.room in omega (arith, before, mid_room))
 
-    index1 : x1.0.index ≡ x.index
-    index1 = x1.1.1.index
-
-    id1 : x1.0.index.id ≡ i
-    id1 = ap (λ (z : Index). z.id) index1 ∙ id
-
-    made1 : IsIndexToActivate standing x1.0.index p
-    made1 = subst (λ (z : Index). IsIndexToActivate standing z p) (sym index1) made
-
-    none_at : (es : List Entry) → es ≡ trail.entries → (index : ℕ → IndexForm) (v : GroupData) (hs : List HeldBatch) → IsShownBy b index es g1 v hs → (r : List Value) → state_of b es g1.table.id.0 r x1.0.index.birth ≡ None
-    none_at es same = subst (λ (z : Index). (index : ℕ → IndexForm) (v : GroupData) (hs : List HeldBatch) → IsShownBy b index es g1 v hs → (r : List Value) → state_of b es g1.table.id.0 r z.birth ≡ None) (sym index1)
-        (none_seen g g1 looked x.index.birth has empty rows b es
-        (subst (λ (u : TableId). horizon_of b u.0 es ≤ x.index.birth) (ap (λ (u : Table). u.id) (sym looked.table)) (subst (λ (ys : List Entry). horizon_of b g.table.id.0 ys ≤ x.index.birth) (sym same)
-        (low d tells_left up_to_now b damaged sound premise began disk catalog standing groups trail late closed k running place g l g_is seat t mine i may m x x_is id))))
-
-    enough : 2 + sum_by owed groups1 ≤ mid.room
-    enough = (let before = subst (λ (z : Option ℕ). HasTrailRoom z groups1 trail) running k0.room in omega (arith, before, mid_room))
-
-    module _ (stored : HasCatalogue d catalog disk → HasCatalogue d catalog' disk') (defined : standing_of catalog' ≡ after (standing_of catalog) (IndexIs p.item)) (h : Group) (h_is : h ≡ get_or groups1 place h) (g2 : Group) (active : HasActive h g2 m)
+    module _ (stored : HasCatalogue d catalog disk → HasCatalogue d catalog' disk') (defined : standing_of catalog' ≡ after (standing_of catalog) (IndexIs p.item)) (h : Group) (h_is : h ≡ g) (g2 : Group) (active : HasActive h g2 m)
         (now : Standing) (now_is : now ≡ p.standing) (trail' : Recorded) (calls : ℕ) (at : calls ≡ d.calls disk') (entries : trail'.entries ≡ mid.entries ++ record { seat = seat; calls = calls; act = IndexState t i Active x.index.birth } ∷ []) (room : trail'.room + 1 ≡ mid.room) where
-      active1 : HasActive g1 g2 m
-      active1 = subst (λ (z : Group). HasActive z g2 m) (h_is ∙ there h) active
+      active1 : HasActive g g2 m
+      active1 = subst (λ (z : Group). HasActive z g2 m) h_is active
 
-      entries1 : trail'.entries ≡ mid.entries ++ record { seat = seat; calls = calls; act = IndexState t i Active x1.0.index.birth } ∷ []
-      entries1 = subst (λ (z : Index). trail'.entries ≡ mid.entries ++ record { seat = seat; calls = calls; act = IndexState t i Active z.birth } ∷ []) (sym index1) entries
+      pub activating_kept : IsKept d b sound premise began disk' catalog' now (slice_set groups place g2) trail' late closed
+      activating_kept = subst (λ (st : Standing). IsKept d b sound premise began disk' catalog' st (slice_set groups place g2) trail' late closed) (sym now_is)
+          (activate_kept d tells_left up_to_now b damaged sound premise began disk catalog standing groups mid late closed k1 running place g l g_is seat t mine i may1 m x x_is id p made disk' passes touches leaves calls at
+          g2 active1 catalog' stored defined trail' entries room enough)
 
-      pub activating_kept : IsKept d b sound premise began disk' catalog' now (slice_set groups1 place g2) trail' late closed
-      activating_kept = subst (λ (st : Standing). IsKept d b sound premise began disk' catalog' st (slice_set groups1 place g2) trail' late closed) (sym now_is)
-          (activate_kept d tells_left up_to_now b damaged sound premise began disk catalog standing groups1 mid late closed k1 running place g1 l1 (there g1) seat t mine1 i may1 m x1.0 x1.1.0 id1 (none_at mid.entries mid_same) p made1 disk' passes touches leaves calls at
-          g2 active1 catalog' stored defined trail' entries1 room enough)
-
-      pub activating_did : (n : ℕ) → n ≡ length trail'.entries → DidDefine sound (known trail.entries) (known trail'.entries) (definition.Active t i) (record { number = i.0; stamp = x.index.birth; at = n })
-      activating_did n long = subst (λ (es : List Entry). DidDefine sound (known es) (known trail'.entries) (definition.Active t i) (record { number = i.0; stamp = x.index.birth; at = n })) mid_same
-          (subst (λ (z : Index). DidDefine sound (known mid.entries) (known trail'.entries) (definition.Active t i) (record { number = i.0; stamp = z.birth; at = n })) index1
-          (activate_did d tells_left up_to_now b damaged sound premise began disk catalog standing groups1 mid late closed k1 running place g1 l1 (there g1) seat t mine1 i may1 m x1.0 x1.1.0 id1 (none_at mid.entries mid_same) p made1 disk' passes touches leaves calls at
-          g2 active1 catalog' stored defined trail' entries1 room enough n long))
+      pub activating_did : (n : ℕ) → n ≡ length trail'.entries → DidDefine (known trail.entries) (known trail'.entries) (definition.Active t i) (record { number = i.0; stamp = x.index.birth; at = n })
+      activating_did n long = subst (λ (es : List Entry). DidDefine (known es) (known trail'.entries) (definition.Active t i) (record { number = i.0; stamp = x.index.birth; at = n })) mid_same
+          (activate_did d tells_left up_to_now b damaged sound premise began disk catalog standing groups mid late closed k1 running place g l g_is seat t mine i may1 m x x_is id p made disk' passes touches leaves calls at
+          g2 active1 catalog' stored defined trail' entries room enough n long)
 
     module _ (trail' : Recorded) (late' : Option Entry) (closed' : Option ℕ) (fault : CatalogFault) (untouched : (fault ≡ Full) ⊎ (fault ≡ Memory) → (disk' ≡ disk) × (catalog' ≡ catalog)) (rose : fault ≡ WriteFault → Rose d disk disk')
         (kept : fault ≢ WriteFault → (trail'.entries ≡ mid.entries) × (late' ≡ late) × (closed' ≡ closed))
         (shut : fault ≡ WriteFault → (trail'.entries ≡ mid.entries ++ record { seat = seat; calls = d.calls disk'; act = Shut (d.calls disk') } ∷ []) × (late' ≡ Some (record { seat = seat; calls = d.calls disk'; act = IndexState t i Active x.index.birth })) × (closed' ≡ Some (d.calls disk')))
         (room : trail'.room + 1 ≡ mid.room) where
-      pub activating_failed : IsKept d b sound premise began disk' catalog' standing groups1 trail' late' closed'
-      activating_failed = unwritten_kept d b sound premise began disk catalog standing groups1 trail late closed k0 running disk' catalog' (record { seat = seat; calls = d.calls disk'; act = IndexState t i Active x1.0.index.birth })
-          (activate_failed d tells_left up_to_now b damaged sound premise began disk catalog standing groups1 trail late closed k0 running place g1 l1 (there g1) seat t mine1 i may m x1.0 x1.1.0 id1 (none_at trail.entries refl) p made1 disk' passes touches leaves (d.calls disk') refl)
+      pub activating_failed : IsKept d b sound premise began disk' catalog' standing groups trail' late' closed'
+      activating_failed = unwritten_kept d b sound premise began disk catalog standing groups trail late closed k running disk' catalog' (record { seat = seat; calls = d.calls disk'; act = IndexState t i Active x.index.birth })
+          (activate_failed d tells_left up_to_now b damaged sound premise began disk catalog standing groups trail late closed k running place g l g_is seat t mine i may m x x_is id p made disk' passes touches leaves (d.calls disk') refl)
           trail' late' closed' seat (omega (arith, room, mid_room)) fault untouched rose
           (λ no. ((kept no).0 ∙ mid_same, (kept no).1, (kept no).2))
-          (λ is. (
-            (shut is).0 ∙ ap (λ (es : List Entry). es ++ record { seat = seat; calls = d.calls disk'; act = Shut (d.calls disk') } ∷ []) mid_same,
-            (shut is).1 ∙ ap (λ (z : Index). Some (record { seat = seat; calls = d.calls disk'; act = IndexState t i Active z.birth })) (sym index1),
-            (shut is).2,
-          ))
+          (λ is. ((shut is).0 ∙ ap (λ (es : List Entry). es ++ record { seat = seat; calls = d.calls disk'; act = Shut (d.calls disk') } ∷ []) mid_same, (shut is).1, (shut is).2))
 
-      pub activating_refused : (f : StepFault) → (fault ≡ Full → f ≡ NotReady 0) → (fault ≡ Memory → f ≡ MemoryFault) → (fault ≡ WriteFault → f ≡ Failed) → Refuses (define_cause sound (definition.Active t i)) (known trail.entries) (known trail'.entries) f
-      activating_refused f full memory failed = unwritten_refused sound (known trail.entries) k.told.legal closed k.told.closing running (definition.Active t i) refl f trail'.entries (d.calls disk') activating_failed.told.legal fault full memory failed
+      pub activating_refused : (f : StepFault) → (fault ≡ Full → f ≡ NotReady 0) → (fault ≡ Memory → f ≡ MemoryFault) → (fault ≡ WriteFault → f ≡ Failed) → Refuses (define_cause (definition.Active t i)) (known trail.entries) (known trail'.entries) f
+      activating_refused f full memory failed = unwritten_refused (known trail.entries) k.told.legal closed k.told.closing running (definition.Active t i) refl f trail'.entries (d.calls disk') activating_failed.told.legal fault full memory failed
           (λ no. (kept no).0 ∙ mid_same) (λ is. (shut is).0 ∙ ap (λ (es : List Entry). es ++ record { seat = seat; calls = d.calls disk'; act = Shut (d.calls disk') } ∷ []) mid_same)

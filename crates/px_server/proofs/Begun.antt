@@ -7,6 +7,8 @@ use Rattle.std.proofs.lemmas.List.Sums.{sum_by-append, sum_by-cons}
 use Rattle.px_outside.specs.declared.disk.Disk.{Ghosts}
 use Rattle.px_values.specs.declared.change.Change.{Change}
 use Rattle.px_tables.specs.declared.table.Table.{Table}
+use Rattle.px_indexed.specs.Worlds.{begin_event}
+use Rattle.px_trail.specs.Batches.{change_of}
 use Rattle.px_trail.specs.Legal.{IsLegal, MayCome}
 use Rattle.px_trail.specs.States.{greatest_stamp}
 use Rattle.px_trail.specs.Trail.{Base}
@@ -22,7 +24,7 @@ use Rattle.px_rows.specs.Spelled.{row_form}
 use Rattle.px_phases.specs.Batch.{AllFit, BatchData}
 use Rattle.px_turns.specs.Turns.{drawn, drawn_at}
 use Rattle.px_defined.specs.Defined.{AreOnceIn, HasOnce}
-use Rattle.px_group.specs.Group.{IsRightGroup, IsShownBy, IsTallied}
+use Rattle.px_group.specs.Group.{IsRightGroup, IsShownBy, IsTallied, form_of}
 use Rattle.px_group.specs.declared.group.Begun.{Begun}
 use Rattle.px_group.specs.declared.group.Group.{Group}
 use Rattle.px_group.specs.declared.group.IndexRegion.{IndexRegion}
@@ -34,10 +36,11 @@ use Rattle.px_beginning.specs.Admits.{Admits, met_by}
 use Rattle.px_beginning.specs.Begins.{IsBatchOf, held_with}
 use Rattle.px_beginning.specs.Leaves.{LeavesGroup}
 use Rattle.px_beginning.specs.Rooms.{fresh_batch}
-use Rattle.px_beginning.proofs.Begun.{shows, tallied}
+use Rattle.px_beginning.proofs.Begun.{shows, steps, tallied}
 use Rattle.px_beginning.proofs.Leaves.{shown_after, tallied_after}
-use Rattle.px_server.specs.Kept.{HasTallied, IsOnDisk, owed, owed_by}
+use Rattle.px_server.specs.Kept.{AreBuilt, HasTallied, IsOnDisk, owed, owed_by}
 use Rattle.px_server.proofs.Acted.{IsActed}
+use Rattle.px_server.proofs.Built.{IsUnbased, built_table, built_told, run_begin}
 use Rattle.px_server.proofs.Unbegun.{left_disk, left_once, left_owed, left_told, open_shut}
 
 -- ---- what the group owes
@@ -99,6 +102,14 @@ module _ (g taken g' : Group) (l : LeavesGroup g taken) (s : ℕ) (cs : List Cha
         own = λ i x at. here.own i x (ap (λ (xs : Vec IndexRegion). slice_get xs.items i) (sym a.indexes) ∙ at);
       }
 
+  begun_built : (index : ℕ → IndexForm) (v : GroupData) (hs : List HeldBatch) → IsTallied b es g hs → IsShownBy b index es g v hs → AreBuilt (form_of b index g) es v → AreBuilt (form_of b index g') es' (begun_data s v)
+  begun_built index v hs t shown built =
+      let was = shown_after g taken l b es hs index v shown in
+      let here = steps b es taken hs e s cs may is bd p g' a index v before fit early (tallied_after g taken l b es hs t) was in
+      built_table b index es' (begun_data s v) taken.table g'.table (sym a.table)
+      (built_told (form_of b index taken) es v was.kept.group (λ i r. begin_event s (change_of cs r)) e (begun_data s v) here.does (λ i r. run_begin s (change_of cs r)) (λ i at. refl) (λ n. subst (IsUnbased n) (sym is) tt)
+      (built_table b index es v g.table taken.table (sym l.table) built))
+
   begun_disk : {D : Type 0} (d : Ghosts D) (disk : D) (f : FolderData) → IsOnDisk d disk f g → IsOnDisk d disk f g'
   begun_disk d disk f k = (let
       on = left_disk g taken l d disk f k
@@ -118,12 +129,13 @@ module _ (g taken g' : Group) (l : LeavesGroup g taken) (s : ℕ) (cs : List Cha
         once = λ run. begun_once once;
         traced = λ call shut. absurd (open_shut closed running call shut);
         begun = λ call shut. absurd (open_shut closed running call shut);
-        shown = λ run index v hs tallied shown told. record {
+        shown = λ run index v hs tallied shown told built. record {
           after = begun_data s v;
           held = held_with taken s cs bd p hs;
           tallied = begun_tallied legal hs tallied;
           shown = begun_shown index v hs tallied shown;
           told = begun_told index v hs tallied shown told;
+          built = begun_built index v hs tallied shown built;
           high = omega arith;
           low = refl;
           cells = refl;

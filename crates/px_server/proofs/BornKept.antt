@@ -112,9 +112,9 @@ module _ {D : Type 0} (d : Ghosts D) (tells_left : (x : D) (moment file : ℕ) (
   change : GroupData → GroupData
   change = born_data i.0 s
 
-  explains : (f : FolderData) (v : ℕ → GroupData) → f.standing ≡ standing_of catalog → AreUnmade f → AllByRecursion (HasShown b es f.standing.indexes v) groups → AllByRecursion (IsOnDisk d disk f) groups → Explains b es f v
+  explains : sound → (f : FolderData) (v : ℕ → GroupData) → f.standing ≡ standing_of catalog → AreUnmade f → AllByRecursion (HasShown b es f.standing.indexes v) groups → AllByRecursion (IsOnDisk d disk f) groups → Explains b es f v
       → Explains b es' (with_standing (after f.standing (IndexIs y)) f) (with_part v t.0 (born_data i.0 s (v t.0)))
-  explains f v fs unmade shown on told = (let
+  explains given f v fs unmade shown on told = (let
       same : f.standing.next ≡ standing.next = ap (λ (x : Standing). x.next) fs ∙ stored_next
       in let
       found = told.catalogue.tables t.0 ∙ (ap c.tables (ap (λ (u : TableId). u.0) (sym mine)) ∙ tallied.tallied.standing.table)
@@ -175,5 +175,5 @@ module _ {D : Type 0} (d : Ghosts D) (tells_left : (x : D) (moment file : ℕ) (
     born_kept catalog' stored defined trail' entries room enough =
         index_kept d tells_left up_to_now b sound premise began disk catalog standing groups trail late closed k running disk' (IndexIs y) passes touches leaves regions t e own may at (born_data i.0 s) explains catalog' stored defined agrees refl
         place g g' l g_is mine more.beside.table (same_owed g g' more.beside)
-        (λ p. tallied'.tallied.points) own_right own_once (has_tallied_born b k.told.base es k.told.legal e may t i s what is g g' mine more') (has_shown_born b k.told.base es k.told.legal e may t i s what is g g' mine more') own_disk
+        (λ p. tallied'.tallied.points) own_right own_once (has_tallied_born b k.told.base es k.told.legal e may t i s what is g g' mine more') (λ given. has_shown_born b k.told.base es k.told.legal e may t i s what is g g' mine more') own_disk
         trail' entries room enough

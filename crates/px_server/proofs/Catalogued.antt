@@ -1,6 +1,6 @@
 -- A definition: one record is written to the catalogue, and what is true of a server stays so. A lemma of a definition owes what becomes of
 -- its own table's group; the groups of all other tables go on here.
-use Rattle.std.proofs.Common.{◌≡◌, ◌≢◌, ◌<◌, ◌≤◌, ◌⊎◌, inl, inr, ℕ, suc, Bool, true, false, Option, Some, None, List, [], ◌∷◌, ◌++◌, map, slice_get, refl, sym, ap, subst, ◌∙◌, arith}
+use Rattle.std.proofs.Common.{◌≡◌, ◌≢◌, ◌<◌, ◌≤◌, ◌⊎◌, inl, inr, ℕ, suc, Bool, true, false, Option, Some, None, List, [], ◌∷◌, ◌++◌, map, slice_get, get_or, refl, sym, ap, subst, ◌∙◌, arith}
 use Rattle.std.specs.Prelude.{IsTrue, if◌then◌else◌, ◌==◌}
 use Rattle.std.specs.List.{AllByRecursion}
 use Rattle.px_outside.specs.Disk.{Image, IsLeft}
@@ -26,7 +26,7 @@ use Rattle.px_catalog.specs.Catalogue.{CatalogueStands, HasCatalogue, catalogue_
 use Rattle.px_catalog.specs.declared.catalog.Catalog.{Catalog}
 use Rattle.px_catalog.proofs.Holding.{catalogue_stands}
 use Rattle.px_indexrow.specs.Form.{owns}
-use Rattle.px_groupworld.specs.Group.{GroupData}
+use Rattle.px_groupworld.specs.Group.{GroupData, no_part}
 use Rattle.px_openbatches.specs.Pending.{HeldBatch}
 use Rattle.px_tablereads.proofs.Tells.{quiet_written, told_same}
 use Rattle.px_group.specs.Group.{AreStanding, IsRightGroup, IsRightPart, IsShownBy, IsTallied, form_of}
@@ -44,11 +44,12 @@ use Rattle.px_recovery.specs.Tables.{IsOneOf, form_in, index_in}
 use Rattle.px_recovery.proofs.Definitions.{catalogue_moved, catalogue_moves}
 use Rattle.px_recovery.proofs.Numbered.{rows_number}
 use Rattle.px_standing.specs.Agrees.{Agrees, opened_standing}
-use Rattle.px_server.specs.Kept.{AreGroups, AreShown, HasFailed, HasParts, HasPoints, HasShown, HasTallied, HasTrailRoom, IsKept, IsOnDisk, IsShutAt, IsTold, forms_in, has_told, number_in, table_in_group}
+use Rattle.px_server.specs.Kept.{AreBuilt, AreGroups, AreShown, HasFailed, HasParts, HasPoints, HasShown, HasTallied, HasTrailRoom, IsKept, IsOnDisk, IsShutAt, IsTold, forms_in, has_told, number_in, table_in_group}
 use Rattle.px_server.specs.Others.{Beginning, OthersStay}
+use Rattle.px_server.proofs.Built.{built_as, built_elsewhere}
 use Rattle.px_server.proofs.Changed.{lasting_server, late_entry}
 use Rattle.px_server.proofs.Blamed.{blamed_on, blamed_quiet}
-use Rattle.px_server.proofs.Defines.{Defines, defines_apart, defines_lasts, defines_none, defines_quiet, defines_unshut, index_back, index_on, table_other}
+use Rattle.px_server.proofs.Defines.{Defines, defines_apart, defines_lasts, defines_none, defines_quiet, defines_unbased, defines_unshut, index_back, index_on, table_other}
 use Rattle.px_server.proofs.Drawn.{named_after, regions_in}
 use Rattle.px_server.proofs.Forms.{shown_forms, told_forms}
 use Rattle.px_server.proofs.Others.{others_more, others_on}
@@ -125,6 +126,9 @@ module _ (b : Base) (right : IsRightBase b) (es : List Entry) (legal : IsLegal b
                   (quiet_written (form_of b (forms_in xs' h.table) h) es (v h.table.id.0) now.kept.group e (defines_none t e.act own));
               own = told.own;
             });
+            built = subst (λ (w : GroupData). AreBuilt (form_of b (forms_in xs' h.table) h) es' w) (sym same)
+                (built_elsewhere (form_of b (forms_in xs' h.table) h) es (v h.table.id.0) now.kept.group e may (apart_elsewhere h.table.id e.act (defines_apart t e.act own h.table.id other)) (λ i l. defines_unbased t e.act own (get_or (v h.table.id.0).indexes i no_part).id)
+                (built_as b es h (forms_in xs h.table) (forms_in xs' h.table) (same_forms p.tallied.standing) (v h.table.id.0) p.held p.shown p.built));
           })
 
 -- ---- the regions of all groups
@@ -198,7 +202,7 @@ module _ {D : Type 0} (d : Ghosts D) (tells_left : (x : D) (moment file : ℕ) (
     (t : TableId) (e : Entry) (own : Defines t e.act) (may : MayCome b trail.entries e) (at : e.calls ≡ d.calls disk')
     -- what the tables have then, and that the folder is told (px_recovery's `law_catalogue`)
     (moved : (ℕ → GroupData) → ℕ → GroupData)
-    (explains : (f : FolderData) (v : ℕ → GroupData) → f.standing ≡ standing_of catalog → AreUnmade f → AllByRecursion (HasShown b trail.entries f.standing.indexes v) groups → AllByRecursion (IsOnDisk d disk f) groups → Explains b trail.entries f v
+    (explains : sound → (f : FolderData) (v : ℕ → GroupData) → f.standing ≡ standing_of catalog → AreUnmade f → AllByRecursion (HasShown b trail.entries f.standing.indexes v) groups → AllByRecursion (IsOnDisk d disk f) groups → Explains b trail.entries f v
     → Explains b (trail.entries ++ e ∷ []) (with_standing (after f.standing item) f) (moved v)) where
   abbrev es : List Entry
   es = trail.entries
@@ -207,7 +211,7 @@ module _ {D : Type 0} (d : Ghosts D) (tells_left : (x : D) (moment file : ℕ) (
   now = es ++ e ∷ []
 
   abbrev Has : D → List Entry → FolderData → (ℕ → GroupData) → Type 0
-  Has = HasParts d b catalog groups
+  Has = HasParts d b sound catalog groups
 
   past : premise → IsTrue d.tells → (moment : ℕ) (image : Image) → moment < d.calls disk → IsLeft d.left disk' moment image → IsLeft d.left disk moment image
   past given tells moment image before is file = (touches (k.server.goes_on running given tells).has.stored).past moment file (image file) before (is file)
@@ -239,7 +243,7 @@ module _ {D : Type 0} (d : Ghosts D) (tells_left : (x : D) (moment file : ℕ) (
       folder = f';
       groups = moved goes.groups;
       leaves = catalogue_moves d disk disk' f goes.stands goes.explains.numbered.least touched (after f.standing item) (next_up f.standing item) (drawn f.standing goes.has.standing) leaves_here;
-      explains = explains f goes.groups goes.has.standing goes.stands.unmade goes.has.shown goes.has.regions goes.explains;
+      explains = explains goes.has.given f goes.groups goes.has.standing goes.stands.unmade goes.has.shown goes.has.regions goes.explains;
     }
 
   -- the call failed: the server is closed, and the entry is late
@@ -247,7 +251,7 @@ module _ {D : Type 0} (d : Ghosts D) (tells_left : (x : D) (moment file : ℕ) (
       → IsKept d b sound premise began disk' catalog' standing groups trail' (Some e) (Some call)
   define_failed shut call shut-is shut_at failed catalog' trail' entries room =
       stopped_same d b sound premise began disk catalog standing groups trail late closed k running disk' passes.later shut call shut-is shut_at catalog' (Some e)
-      (late_entry d tells_left up_to_now b premise Has (HasParts d b catalog' groups) disk es late closed k.server running disk' passes.later past shut call (ap (λ (u : Entry). u.act) shut-is) (ap (λ (u : Entry). u.calls) shut-is ∙ shut_at) passes.at_most e (defines_lasts t e.act own) at may leaves_folder)
+      (late_entry d tells_left up_to_now b premise Has (HasParts d b sound catalog' groups) disk es late closed k.server running disk' passes.later past shut call (ap (λ (u : Entry). u.act) shut-is) (ap (λ (u : Entry). u.calls) shut-is ∙ shut_at) passes.at_most e (defines_lasts t e.act own) at may leaves_folder)
       failed others_on_disk trail' entries room
 
   -- the record is there
@@ -259,7 +263,7 @@ module _ {D : Type 0} (d : Ghosts D) (tells_left : (x : D) (moment file : ℕ) (
       (others : (v : ℕ → GroupData) (q : ℕ) → q ≢ t.0 → moved v q ≡ v q)
       (own_points : Own (λ h. IsRightGroup h × HasPoints trail.entries h) (HasPoints (trail.entries ++ e ∷ []))) (own_right : Own IsRightGroup IsRightGroup) (own_once : Own HasOnce HasOnce)
       (own_tallied : Own (λ h. IsRightGroup h × HasTallied b trail.entries h) (HasTallied b (trail.entries ++ e ∷ [])))
-      (own_shown : (xs xs' : List Index) → AreForms xs (catalogue_of b trail.entries) → AreForms xs' (catalogue_of b (trail.entries ++ e ∷ [])) → (v : ℕ → GroupData)
+      (own_shown : sound → (xs xs' : List Index) → AreForms xs (catalogue_of b trail.entries) → AreForms xs' (catalogue_of b (trail.entries ++ e ∷ [])) → (v : ℕ → GroupData)
       → Own (λ h. IsRightGroup h × HasShown b trail.entries xs v h) (HasShown b (trail.entries ++ e ∷ []) xs' (moved v)))
       (own_disk : IsTrue d.tells → (f : FolderData) → f.standing ≡ standing_of catalog → AreFresh d disk' f.standing.next → AreUnmade f → Own (IsOnDisk d disk' f) (IsOnDisk d disk' (with_standing (after f.standing item) f)))
       (trail' : Recorded) (entries : trail'.entries ≡ trail.entries ++ e ∷ []) (room : HasTrailRoom closed groups' trail') where
@@ -288,14 +292,14 @@ module _ {D : Type 0} (d : Ghosts D) (tells_left : (x : D) (moment file : ℕ) (
       begun = λ call shut. absurd (let none : None ≡ Some call = sym running ∙ shut in cc);
     }
 
-    shown_now : (xs xs' : List Index) → AreForms xs (catalogue_of b es) → AreForms xs' (catalogue_of b now) → (v : ℕ → GroupData) → AllByRecursion (HasShown b es xs v) groups → AllByRecursion (HasShown b now xs' (moved v)) groups'
-    shown_now xs xs' forms forms' v all = carries (λ h. IsRightGroup h × HasShown b es xs v h) (HasShown b now xs' (moved v))
-        (λ h other p. other_shown b k.told.base es k.told.legal t e own may h p.0 other xs xs' forms forms' v (moved v) (others v h.table.id.0 other) p.1) (own_shown xs xs' forms forms' v) (all_pairs IsRightGroup (HasShown b es xs v) groups right all)
+    shown_now : sound → (xs xs' : List Index) → AreForms xs (catalogue_of b es) → AreForms xs' (catalogue_of b now) → (v : ℕ → GroupData) → AllByRecursion (HasShown b es xs v) groups → AllByRecursion (HasShown b now xs' (moved v)) groups'
+    shown_now given xs xs' forms forms' v all = carries (λ h. IsRightGroup h × HasShown b es xs v h) (HasShown b now xs' (moved v))
+        (λ h other p. other_shown b k.told.base es k.told.legal t e own may h p.0 other xs xs' forms forms' v (moved v) (others v h.table.id.0 other) p.1) (own_shown given xs xs' forms forms' v) (all_pairs IsRightGroup (HasShown b es xs v) groups right all)
 
     other_disk : (f : FolderData) (h : Group) → IsOnDisk d disk' f h → IsOnDisk d disk' (with_standing (after f.standing item) f) h
     other_disk f h on = record { rows = on.rows; indexes = on.indexes }
 
-    moves : (goes : GoesOn d b Has disk es) → MovesFolder d b (HasParts d b catalog' groups') disk disk' now goes.folder
+    moves : (goes : GoesOn d b Has disk es) → MovesFolder d b (HasParts d b sound catalog' groups') disk disk' now goes.folder
     unfolding leaves_folder
     moves goes = (let
         fol = goes.folder
@@ -316,11 +320,12 @@ module _ {D : Type 0} (d : Ghosts D) (tells_left : (x : D) (moment file : ℕ) (
           left = left;
           on = on;
           has = record {
+            given = goes.has.given;
             stored = there;
             standing = sym stands_now;
             regions = carries (IsOnDisk d disk' fol) (IsOnDisk d disk' left.folder) (λ h other p. other_disk fol h p) (own_disk goes.has.stored.log.settled.told fol goes.has.standing fresh goes.stands.unmade)
                 (all_on_disk d disk disk' touched' b es fol goes.groups goes.explains groups right (k.each.tallied running) goes.has.regions);
-            shown = shown_now fol.standing.indexes (after fol.standing item).indexes (told_catalogue fol.standing (catalogue_of b es) goes.explains.catalogue) (told_catalogue (after fol.standing item) (catalogue_of b now) left.explains.catalogue) goes.groups goes.has.shown;
+            shown = shown_now goes.has.given fol.standing.indexes (after fol.standing item).indexes (told_catalogue fol.standing (catalogue_of b es) goes.explains.catalogue) (told_catalogue (after fol.standing item) (catalogue_of b now) left.explains.catalogue) goes.groups goes.has.shown;
           };
         })
 
@@ -331,9 +336,9 @@ module _ {D : Type 0} (d : Ghosts D) (tells_left : (x : D) (moment file : ℕ) (
       shown = λ given open_. (let
           s = k.shown given open_
           in subst (λ (ys : List Entry). AreShown b ys standing'.indexes groups') (sym entries)
-          (record { told = moved s.told; each = shown_now standing.indexes standing'.indexes (agreed_forms standing (catalogue_of b es) k.told.agrees) (agreed_forms standing' (catalogue_of b now) agrees) s.told s.each }));
-      server = subst (λ (ys : List Entry). IsServer d b premise (HasParts d b catalog' groups') disk' ys late closed) (sym entries)
-          (lasting_server d tells_left up_to_now b premise Has (HasParts d b catalog' groups') disk es late closed k.server running disk' passes.later past passes.at_most e (defines_lasts t e.act own) at may (defines_unshut t e.act own) moves);
+          (record { told = moved s.told; each = shown_now given standing.indexes standing'.indexes (agreed_forms standing (catalogue_of b es) k.told.agrees) (agreed_forms standing' (catalogue_of b now) agrees) s.told s.each }));
+      server = subst (λ (ys : List Entry). IsServer d b premise (HasParts d b sound catalog' groups') disk' ys late closed) (sym entries)
+          (lasting_server d tells_left up_to_now b premise Has (HasParts d b sound catalog' groups') disk es late closed k.server running disk' passes.later past passes.at_most e (defines_lasts t e.act own) at may (defines_unshut t e.act own) moves);
       room = room;
       blamed = subst (λ (ys : List Entry). has_told ys ≡ true → HasFailed d disk') (sym entries) (blamed_quiet d disk' es e (defines_quiet t e.act own) (blamed_on d disk disk' es passes.later passes.faults_later k.blamed));
       last_call = λ c same. absurd (none_some c (sym running ∙ same));

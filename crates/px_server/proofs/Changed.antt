@@ -1,5 +1,5 @@
 -- Calls that leave the folder or another one that is told: a server goes on from there, with other parts of its own.
-use Rattle.std.proofs.Common.{◌≡◌, ◌<◌, ◌≤◌, ◌⊎◌, ◌+◌, inl, inr, ℕ, true, Option, Some, None, List, [], ◌∷◌, ◌++◌}
+use Rattle.std.proofs.Common.{◌≡◌, ◌<◌, ◌≤◌, ◌⊎◌, ◌+◌, inl, inr, ℕ, true, Option, Some, None, List, [], ◌∷◌, ◌++◌, false}
 use Rattle.std.specs.Prelude.{IsTrue}
 use Rattle.px_outside.specs.Disk.{Image, IsLeft}
 use Rattle.px_outside.specs.declared.disk.Disk.{Ghosts}
@@ -8,11 +8,12 @@ use Rattle.px_trail.specs.declared.entry.Entry.{Entry}
 use Rattle.px_trail.specs.Lasting.{lasting}
 use Rattle.px_trail.specs.Legal.{MayCome}
 use Rattle.px_trail.specs.Trail.{Base, closing_step}
+use Rattle.px_recovery.specs.Folder.{StandsOn}
 use Rattle.px_recovery.specs.Kept.{GoesOn, IsServer, LeavesFolder, MovesFolder, Parts}
 use Rattle.px_recovery.specs.Stands.{StandsAfter}
 use Rattle.px_recovery.proofs.Server.{kept_server, late_server, step_server, stopped_server}
 use Rattle.px_recovery.proofs.Steps.{left_stands}
-use Rattle.px_server.proofs.Noted.{with_parts}
+use Rattle.px_server.proofs.Noted.{server_goes, with_parts}
 
 one_of : {A : Type 0} → A ⊎ A → A
 one_of (inl a) = a
@@ -24,6 +25,9 @@ module _ {D : Type 0} (d : Ghosts D) (tells_left : (x : D) (moment file : ℕ) (
     (past : premise → IsTrue d.tells → (moment : ℕ) (image : Image) → moment < d.calls old → IsLeft d.left new moment image → IsLeft d.left old moment image) where
   abbrev Given : Parts D
   Given = λ disk ys f v. premise
+
+  abbrev Told : Parts D
+  Told = λ disk ys f v. premise × IsTrue d.tells
 
   given_server : IsServer d b premise Given old es late closed
   given_server = with_parts d b premise Has Given old es late closed k (λ open_ given tells.
@@ -66,6 +70,21 @@ module _ {D : Type 0} (d : Ghosts D) (tells_left : (x : D) (moment file : ℕ) (
       (step_server d tells_left up_to_now b premise Given old es late closed given_server running new later past four e lasts at (λ given tells. may) unshut
       (left_then (es ++ e ∷ []) (λ g. (moves g).left)) (given_then (es ++ e ∷ []) moves))
       (λ open_ given tells. goes_then (es ++ e ∷ []) moves given tells)
+
+  -- an entry that doesn't last, behind calls that leave the folder as it is told without it
+  pub noted_step : (e : Entry) → lasting e ≡ false → e.calls ≡ d.calls new → MayCome b es e → closing_step closed e.act ≡ closed → (left : (goes : GoesOn d b Has old es) → LeavesFolder d b old new es goes.folder)
+      → ((goes : GoesOn d b Has old es) → StandsOn d new (left goes).folder) → ((goes : GoesOn d b Has old es) → MovesFolder d b Then old new (es ++ e ∷ []) goes.folder) → IsServer d b premise Then new (es ++ e ∷ []) late closed
+  noted_step e quiet at may unshut left on moves = (let
+      mid : IsServer d b premise Told new es late closed =
+      with_parts d b premise Given Told new es late closed
+      (kept_server d tells_left up_to_now b premise Given old es late closed given_server running new later past (λ goes moment image since is. one_of (left_then es left goes moment image since is))
+      (λ given tells before. (let
+      goes = goes_now given tells
+      in record { folder = (left goes).folder; groups = (left goes).groups; stands = on goes; explains = (left goes).explains; has = given })))
+      (λ open_ given tells. (let
+      goes = goes_now given tells
+      in record { folder = (left goes).folder; groups = (left goes).groups; stands = on goes; explains = (left goes).explains; has = (given, tells) }))
+      in server_goes d tells_left up_to_now b premise Told Then new es late closed mid e at quiet may unshut (λ open_ before. goes_then (es ++ e ∷ []) moves before.has.0 before.has.1))
 
   module _ (shut : Entry) (call : ℕ) (shut-is : shut.act ≡ Shut call) (shut_at : shut.calls ≡ d.calls new) where
     closed_parts : (o : Option Entry) → IsServer d b premise Given new (es ++ shut ∷ []) o (Some call) → IsServer d b premise Then new (es ++ shut ∷ []) o (Some call)

@@ -18,6 +18,7 @@ use Rattle.px_trail.proofs.Standing.{catalogue-stands, set_number-other, set_num
 use Rattle.px_noting.specs.Apart.{IsApart}
 use Rattle.px_recovery.proofs.Drops.{others_stay}
 use Rattle.px_server.specs.Kept.{tells_fault}
+use Rattle.px_server.proofs.Built.{IsUnbased}
 
 -- the act defines or drops the table, or an index of it
 abbrev pub Defines : TableId → Act → Type 0
@@ -107,6 +108,23 @@ defines_apart t (Missed call) own q other = tt
 defines_apart t (Shut call) own q other = tt
 
 -- and writes no row
+pub defines_unbased : (t : TableId) (act : Act) → Defines t act → (n : ℕ) → IsUnbased n act
+defines_unbased t (Made u what) own n = tt
+defines_unbased t (IndexMade u i s what) own n = tt
+defines_unbased t (IndexState u i state s) own n = tt
+defines_unbased t (Dropped u i) own n = tt
+defines_unbased t (Begun u s cs) own n = absurd own
+defines_unbased t (Phase u s p) own n = absurd own
+defines_unbased t (Wrote u s rows) own n = absurd own
+defines_unbased t (Ended u s) own n = absurd own
+defines_unbased t (Opened u s scn) own n = absurd own
+defines_unbased t (Released u s) own n = absurd own
+defines_unbased t (Raised u h) own n = absurd own
+defines_unbased t (Fixed i key) own n = absurd own
+defines_unbased t (Based i rows) own n = absurd own
+defines_unbased t (Missed call) own n = absurd own
+defines_unbased t (Shut call) own n = absurd own
+
 pub defines_none : (t : TableId) (act : Act) → Defines t act → WritesNone act
 defines_none t (Made u what) own = tt
 defines_none t (IndexMade u i s what) own = tt

@@ -13,6 +13,7 @@ use Rattle.px_recovery.specs.Stands.{Explains, GoesOnBy}
 use Rattle.px_recovery.proofs.Explains.{by_entry, by_none}
 use Rattle.px_recovery.proofs.Numbered.{found_number}
 use Rattle.px_server.proofs.Beside.{GoOthers, others_noted, others_still}
+use Rattle.px_server.proofs.Built.{IsOfOwn}
 
 -- An entry of the table of this number alone, which leaves what stands and doesn't close the server
 pub record IsOfTable (b : Base) (es : List Entry) (t : ℕ) (e : Entry) : Type 0 where
@@ -20,6 +21,7 @@ pub record IsOfTable (b : Base) (es : List Entry) (t : ℕ) (e : Entry) : Type 0
   pub still : (c : Catalogue) → catalogue_step c e.act ≡ c
   pub apart : (id : TableId) → id.0 ≢ t → IsApart id e.act
   pub unshut : closing_step None e.act ≡ None
+  pub own : IsOfOwn b es t e.act
 
 -- The trail goes on by such an entry, or by none
 pub record GoesOnIn (b : Base) (es es' : List Entry) (t : ℕ) : Type 0 where
@@ -45,6 +47,6 @@ one_entry b es legal t e of = (let
       legal = legal-snoc b es e legal of.may;
       catalogue = same;
       closing = λ none. closing-snoc es e ∙ (ap (λ (o : Option ℕ). closing_step o e.act) none ∙ of.unshut);
-      others = others_noted b es e of.may same t of.apart;
+      others = others_noted b es e of.may same t of.apart of.own;
       explains = λ f v told. by_entry b es f v told t e of.may same (λ q y other found. apart_elsewhere y.id e.act (of.apart y.id (λ at. other (sym (found_number f.standing.tables q y found) ∙ at))));
     })

@@ -10,7 +10,7 @@ use Rattle.px_tables.specs.declared.table.Table.{Table}
 use Rattle.px_trail.specs.declared.entry.Act.{Act}
 use Rattle.px_trail.specs.declared.entry.Act.TheVariants.{Ended}
 use Rattle.px_trail.specs.declared.entry.Entry.{Entry}
-use Rattle.px_trail.specs.Batches.{Batch, IsIn, IsSoundBatch, IsSoundOption, batch_of, batch_step, has, phase_of, rows_of, unwritten}
+use Rattle.px_trail.specs.Batches.{Batch, IsIn, IsSoundBatch, IsSoundOption, batch_of, batch_step, change_of, has, phase_of, rows_of, unwritten}
 use Rattle.px_trail.specs.Batches as trail
 use Rattle.px_trail.specs.Legal.{IsEndable, IsLegal, MayCome}
 use Rattle.px_trail.specs.Trail.{Base, open_points, points_step}
@@ -18,6 +18,8 @@ use Rattle.px_trail.proofs.Batches.{batch-sound, in_closing, in_marking, in_veri
 use Rattle.px_trail.proofs.Growth.{batch_of-snoc, points-snoc}
 use Rattle.px_trail.proofs.Orders.{WritesNone}
 use Rattle.px_forms.specs.Indexes.{IndexForm}
+use Rattle.px_indexed.specs.Worlds.{change_event}
+use Rattle.px_world.specs.Events.{End}
 use Rattle.px_groupworld.specs.Group.{GroupData}
 use Rattle.px_groupworld.specs.Steps.{ended_data}
 use Rattle.px_openbatches.specs.Pending.{HeldBatch, held_ended}
@@ -25,7 +27,7 @@ use Rattle.px_phases.specs.Batch.{BatchData}
 use Rattle.px_region.specs.Region.{Holds}
 use Rattle.px_region.specs.declared.region.Region.{Region}
 use Rattle.px_tablesteps.specs.Kept.{no_held}
-use Rattle.px_group.specs.Group.{AreTraced, IsRightBatch, IsRightGroup, IsShownBy, IsStage, IsTallied, as_phase, points_in}
+use Rattle.px_group.specs.Group.{AreTraced, IsRightBatch, IsRightGroup, IsShownBy, IsStage, IsTallied, as_phase, form_of, points_in}
 use Rattle.px_group.specs.declared.group.Begun.{Begun}
 use Rattle.px_group.specs.declared.group.Group.{Group}
 use Rattle.px_group.specs.declared.group.Phase.{Phase}
@@ -34,14 +36,15 @@ use Rattle.px_batching.specs.Steps.{LetsGo}
 use Rattle.px_batching.proofs.Gone.{right_gone}
 use Rattle.px_batching.proofs.May.{stamp_is}
 use Rattle.px_batching.proofs.Places.{all_at as at_place}
-use Rattle.px_batching.proofs.Shown.{ended_shown}
+use Rattle.px_batching.proofs.Shown.{ended_shown, ended_steps}
 use Rattle.px_batching.proofs.Tallied.{tallied_ended}
 use Rattle.px_batching.proofs.Traced.{traced_ended, traced_gone}
 use Rattle.px_defined.specs.Defined.{AreOnceIn, HasOnce}
 use Rattle.px_reading.specs.Doubts.{IsToldBy}
 use Rattle.px_recovery.specs.Folder.{FolderData}
-use Rattle.px_server.specs.Kept.{HasBegun, HasPoints, HasTallied, IsOnDisk}
+use Rattle.px_server.specs.Kept.{AreBuilt, HasBegun, HasPoints, HasTallied, IsOnDisk}
 use Rattle.px_server.proofs.Acted.{HasMoved, IsActed}
+use Rattle.px_server.proofs.Built.{IsUnbased, built_table, built_told, run_change}
 use Rattle.px_server.proofs.OpenBatches.{phase_told}
 use Rattle.px_server.proofs.Told.{told_own}
 
@@ -166,8 +169,8 @@ module _ {D : Type 0} (d : Ghosts D) (disk : D) (g g' : Group) (m : ℕ) (x : Be
       ended_tallied : IsTallied b es' g' (held_ended (get_or hs m no_held).stamp hs)
       ended_tallied = tallied_ended b es e g g' hs k m x goes act_held
 
-      ended_moved : IsRightGroup g → x.batch.marks ≡ [] → (index : ℕ → IndexForm) (v : GroupData) → IsShownBy b index es g v hs → IsToldBy b index es g v → HasMoved b index es' g' v
-      ended_moved right none index v shown told =
+      ended_moved : IsRightGroup g → x.batch.marks ≡ [] → (index : ℕ → IndexForm) (v : GroupData) → IsShownBy b index es g v hs → IsToldBy b index es g v → AreBuilt (form_of b index g) es v → HasMoved b index es' g' v
+      ended_moved right none index v shown told built =
           let w = ended_data (get_or hs m no_held).stamp v in
           let shown' : IsShownBy b index es' g' w (held_ended (get_or hs m no_held).stamp hs) = ended_shown b index es g g' v hs right k shown m x goes none e may act_held in
           record {
@@ -176,6 +179,9 @@ module _ {D : Type 0} (d : Ghosts D) (disk : D) (g g' : Group) (m : ℕ) (x : Be
             tallied = ended_tallied;
             shown = shown';
             told = told_own b index es g g' v w hs (held_ended (get_or hs m no_held).stamp hs) shown told e (subst WritesNone (sym act) tt) goes.table shown' refl refl (λ i y at. told.own i y (ap (λ n. slice_get n.items i) (sym goes.indexes) ∙ at));
+            built = built_table b index es' w g.table g'.table (sym goes.table)
+                (built_told (form_of b index g) es v shown.kept.group (λ i q. change_event (End (get_or hs m no_held).stamp) (change_of (get_or hs m no_held).changes q)) e w (ended_steps b index es g g' v hs right k shown m x goes none e may act_held).does
+                (λ i q. run_change (End (get_or hs m no_held).stamp) tt (change_of (get_or hs m no_held).changes q)) (λ i l. refl) (λ n. subst (IsUnbased n) (sym act) tt) built);
             high = omega arith;
             low = refl;
             cells = refl;
@@ -192,7 +198,7 @@ module _ {D : Type 0} (d : Ghosts D) (disk : D) (g g' : Group) (m : ℕ) (x : Be
       once = λ running. once_left (once running);
       traced = λ call shut. traced_ended es e g g' m x goes act (traced call shut);
       begun = λ call shut. ended_begun (begun call shut);
-      shown = λ running index v hs k shown told. ended_moved hs k (right running) (marks running) index v shown told;
+      shown = λ running index v hs k shown told built. ended_moved hs k (right running) (marks running) index v shown told built;
       on_disk = λ running. disk_left;
     }
 
@@ -222,7 +228,7 @@ module _ {D : Type 0} (d : Ghosts D) (disk : D) (g g' : Group) (m : ℕ) (x : Be
           once = λ running. absurd (not running);
           traced = λ c is. traced_gone es g g' m x goes traced;
           begun = λ c is. gone_begun begun;
-          shown = λ running index v hs k shown told. absurd (not running);
+          shown = λ running index v hs k shown told built. absurd (not running);
           on_disk = λ running f on. absurd (not running);
         }
 

@@ -151,7 +151,7 @@ module _ {D : Type 0} (d : Ghosts D) (b : Base) (sound premise : Type 0) (began 
             → (g' : Group) → LetsGo g g' m x → (trail' : Recorded) → trail'.entries ≡ es ++ e ∷ [] → trail'.room + 1 ≡ trail.room → IsKept d b sound premise began disk catalog standing (slice_set groups place g') trail' late closed
         ends tells_left up_to_now g' goes trail' entries room =
             acted d b sound premise began disk catalog standing groups trail late closed k place g inside is tells_left up_to_now e calls_is refl refl may (unshut_by closed t s) (catalogue-snoc b es e ∙ still_by t s (catalogue_of b es))
-            (λ y other same. other (sym same ∙ ap (λ (z : TableId). z.0) (sym own))) g'
+            (λ y other same. other (sym same ∙ ap (λ (z : TableId). z.0) (sym own))) tt g'
             (ended_acted d disk g g' m x goes b es e may act_is closed (points_at d b sound premise began disk catalog standing groups trail late closed k place g inside is)
             (λ running. right_at d b sound premise began disk catalog standing groups trail late closed k place g inside is running) (λ running. tallied_at d b sound premise began disk catalog standing groups trail late closed k place g inside is running)
             (λ running. once_at d b sound premise began disk catalog standing groups trail late closed k place g inside is running) (λ call shut. traced_here) (λ call shut. begun_here) marks)

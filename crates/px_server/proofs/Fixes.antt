@@ -1,6 +1,6 @@
 -- A repair is made: what is true of a server stays so.
 use Rattle.std.proofs.Common.{◌≡◌, ◌<◌, ◌≤◌, ◌+◌, ℕ, zero, suc, false, inr, Option, Some, None, Result, Ok, Err, List, [], ◌∷◌, ◌++◌, length, get_or, map, slice_get, refl, sym, ap, subst, ◌∙◌, arith}
-use Rattle.std.specs.Prelude.{IfErr, IfOk, IsSome, IsTrue, sum_by}
+use Rattle.std.specs.Prelude.{IfErr, IfOk, IsSome, IsTrue, nat_eq, sum_by}
 use Rattle.std.proofs.lemmas.Bool.{false≢true}
 use Rattle.std.specs.List.{slice_set}
 use Rattle.px_outside.specs.OnDisk.{Rose}
@@ -16,10 +16,13 @@ use Rattle.px_trail.specs.Legal.{Follows, IsLegal, MayCome}
 use Rattle.px_trail.specs.Recorded.{Recorded}
 use Rattle.px_trail.specs.Trail.{Base, Catalogue, catalogue_of, catalogue_step, closing_step, index_of, open_points}
 use Rattle.px_trail.proofs.Growth.{catalogue-snoc, points-snoc}
-use Rattle.px_groupworld.specs.Steps.{cells_data}
+use Rattle.px_groupworld.specs.Group.{no_part}
+use Rattle.px_groupworld.specs.Steps.{at_index, cells_data, with_cells}
+use Rattle.px_indexed.specs.Worlds.{row_event}
+use Rattle.px_world.specs.Events.{Fix}
 use Rattle.px_schema.specs.declared.standing.Standing.{Standing}
 use Rattle.px_catalog.specs.declared.catalog.Catalog.{Catalog}
-use Rattle.px_group.specs.Group.{AreStanding, IsRightGroup, IsRightPart}
+use Rattle.px_group.specs.Group.{AreStanding, IsRightGroup, IsRightPart, form_of}
 use Rattle.px_group.specs.declared.group.Group.{Group}
 use Rattle.px_noting.proofs.Others.{apart_points, tallied_apart}
 use Rattle.px_group.specs.declared.group.IndexRegion.{IndexRegion}
@@ -42,9 +45,10 @@ use Rattle.px_repairs.proofs.Handing.{got_some}
 use Rattle.px_server.specs.Repairs.{Answers, IsMended, Mends, StandsNoMore, Stays}
 use Rattle.px_pointreads.proofs.Asked.{there_is}
 use Rattle.px_repairs.proofs.Right.{right_repaired, tallied_repaired, traced_repaired}
-use Rattle.px_repairs.proofs.Shown.{repair_steps, repaired_shown}
+use Rattle.px_repairs.proofs.Shown.{repair_steps, repaired_shown, repaired_steps}
 use Rattle.px_server.specs.Kept.{HasPoints, HasTallied, HasTrailRoom, IsKept, IsShutAt, owed, owed_by}
 use Rattle.px_server.specs.Others.{Beginning}
+use Rattle.px_server.proofs.Built.{built_step, run_at, same_ids}
 use Rattle.px_server.proofs.Handed.{IndexGoes, IndexShows, ToIndex, index_handed, index_shut}
 use Rattle.px_server.proofs.Lists.{all_at}
 use Rattle.px_server.proofs.Looked.{looked_kept, looked_owed}
@@ -127,10 +131,13 @@ module _ {D : Type 0} (d : Ghosts D) (tells_left : (x : D) (moment file : ℕ) (
 
         shows : IndexShows b es es looked g' (λ hs. hs) at w.region
         unfolding goes_by
-        shows index v hs tallied shown told = record {
+        shows index v hs tallied shown told built = record {
           then = goes_by looked kept due w.index w.step.index w.wrote.hands.cells w.wrote.hands.handed.reads index v hs tallied shown told (read_of w.region) w.wrote.written.reads;
           shown = repaired_shown d looked g' disk disk' at key s kept due b index es v hs tallied shown told w;
           told = record { each = told.told.each };
+          built = built_step (form_of b index looked) es v shown.kept.group (λ i r. at_index at i (row_event (Fix key s) ((index (get_or v.indexes at no_part).id).owns r key))) (cells_data at (read_of w.region) v)
+              (repaired_steps d looked g' disk disk' at key s kept due b index es v hs tallied shown told w).does
+              (λ i r. run_at (Fix key s) tt (nat_eq at i) ((index (get_or v.indexes at no_part).id).owns r key)) (λ i l. same_ids v.indexes at (with_cells (read_of w.region) (get_or v.indexes at no_part)) refl i l) built;
         }
 
         pub written_kept : IsKept d b sound premise began disk' catalog standing then trail late closed
@@ -160,7 +167,7 @@ module _ {D : Type 0} (d : Ghosts D) (tells_left : (x : D) (moment file : ℕ) (
         pub failed_kept : IsKept d b sound premise began disk' catalog standing then trail' None (Some call)
         failed_kept = subst (λ (gs : List Group). IsKept d b sound premise began disk' catalog standing gs trail' None (Some call)) (set_twice groups place looked g')
             (index_shut d tells_left up_to_now b sound premise began disk catalog standing before trail late closed kept_before running place looked g' inside is_before disk' at w.index w.region w.hands.cells to_failed w.hands.writes
-            shut call shut-is shut_at rose (λ t. traced_repaired d looked g' disk disk' at kept es t w) (ap (λ q. map stamp_in q.items) w.step.batches) (goes_by looked kept due w.index w.step.index w.hands.cells w.hands.handed.reads) trail' entries (let o = owed_failed in omega (arith, o, room)))
+            shut call shut-is shut_at rose (λ t. traced_repaired d looked g' disk disk' at kept es t w) (ap (λ q. map stamp_in q.items) w.step.batches) (λ given. goes_by looked kept due w.index w.step.index w.hands.cells w.hands.handed.reads) trail' entries (let o = owed_failed in omega (arith, o, room)))
 
 -- ---- the entry
 
@@ -212,7 +219,7 @@ module _ {D : Type 0} (d : Ghosts D) (tells_left : (x : D) (moment file : ℕ) (
       kept : IsKept d b sound premise began disk catalog standing groups roomy late closed = record { told = k.told; each = k.each; shown = k.shown; server = k.server; room = room; blamed = k.blamed; last_call = k.last_call; others = k.others }
       in subst (λ (gs : List Group). IsKept d b sound premise began disk catalog standing gs trail' late closed) same
       (pointed d tells_left up_to_now b sound premise began disk catalog standing groups roomy late closed kept e called refl refl may_fix (unshut_by closed) still_by (λ t. tt) place g g l is (record { table = refl; rows = refl; indexes = refl; batches = refl; last = refl; horizon = refl })
-      (λ t other. tt) (λ q s. points-snoc q g.table.id.0 s trail.entries e ∙ (apart_points g.table.id q s (open_points q g.table.id.0 s trail.entries) seat (Fixed i key) tt ∙ here q s))
+      (λ t other. tt) (λ n. tt) tt (λ q s. points-snoc q g.table.id.0 s trail.entries e ∙ (apart_points g.table.id q s (open_points q g.table.id.0 s trail.entries) seat (Fixed i key) tt ∙ here q s))
       (λ hs t. tallied_apart b trail.entries g hs t e tt (standing_on t.standing)) trail' entries (omega arith)))
 
 -- ---- what became of the version

@@ -19,7 +19,7 @@ use Rattle.px_reading.specs.Doubts.{IsToldBy}
 use Rattle.px_recovery.proofs.Forms.{other_forms}
 use Rattle.px_server.proofs.Lists.{all_weaker}
 
-get_some : {A : Type 0} (xs : List A) (j : ℕ) → j < length xs → (x : A) × (slice_get xs j ≡ Some x)
+pub get_some : {A : Type 0} (xs : List A) (j : ℕ) → j < length xs → (x : A) × (slice_get xs j ≡ Some x)
 get_some [] j l = absurd (omega (arith, l))
 get_some (x ∷ xs) zero l = (x, λ i. Some x)
 get_some (x ∷ xs) (suc j) l = get_some xs j (omega (arith, l))
@@ -69,7 +69,7 @@ module _ (f : TableForm) (index : ℕ → IndexForm) (es : List Entry) (v : Grou
   }
 
 module _ (b : Base) (es : List Entry) (g : Group) (index index' : ℕ → IndexForm) (same : (i : ℕ) (x : IndexRegion) → slice_get g.indexes.items i ≡ Some x → index' x.index.id.0 ≡ index x.index.id.0) (v : GroupData) where
-  form_at : (hs : List HeldBatch) → IsShownBy b index es g v hs → (j : ℕ) → j < length v.indexes → index' (get_or v.indexes j no_part).id ≡ index (get_or v.indexes j no_part).id
+  pub form_at : (hs : List HeldBatch) → IsShownBy b index es g v hs → (j : ℕ) → j < length v.indexes → index' (get_or v.indexes j no_part).id ≡ index (get_or v.indexes j no_part).id
   form_at hs k j l = (let
       x = get_some g.indexes.items j (let n = k.count in omega (arith, n, l))
       in let

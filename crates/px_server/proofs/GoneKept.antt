@@ -80,9 +80,9 @@ module _ {D : Type 0} (d : Ghosts D) (tells_left : (x : D) (moment file : ℕ) (
   regions : (n : ℕ) → IsAmong n (regions_in (IndexGone i)) → IsAmong n (region_numbers (standing_of catalog)) ⊎ ((standing_of catalog).next ≤ n)
   regions n among = absurd cc
 
-  explains : (f : FolderData) (v : ℕ → GroupData) → f.standing ≡ standing_of catalog → AreUnmade f → AllByRecursion (HasShown b es f.standing.indexes v) groups → AllByRecursion (IsOnDisk d disk f) groups → Explains b es f v
+  explains : sound → (f : FolderData) (v : ℕ → GroupData) → f.standing ≡ standing_of catalog → AreUnmade f → AllByRecursion (HasShown b es f.standing.indexes v) groups → AllByRecursion (IsOnDisk d disk f) groups → Explains b es f v
       → Explains b es' (with_standing (after f.standing (IndexGone i)) f) (with_part v t.0 (dropped_data i.0 (v t.0)))
-  explains f v fs unmade shown on told = (let
+  explains given f v fs unmade shown on told = (let
       here : HasShown b es f.standing.indexes v g = all_at (HasShown b es f.standing.indexes v) groups place g l g_is shown
       in let
       z = some_table (index_in f.standing.indexes i.0) x (told.catalogue.indexes i.0 ∙ ap opened_index stands)
@@ -117,5 +117,5 @@ module _ {D : Type 0} (d : Ghosts D) (tells_left : (x : D) (moment file : ℕ) (
     gone_kept catalog' stored defined trail' entries room enough =
         index_kept d tells_left up_to_now b sound premise began disk catalog standing groups trail late closed k running disk' (IndexGone i) passes touches leaves regions t e own may at (dropped_data i.0) explains catalog' stored defined agrees refl
         place g g' l g_is refl less.beside.table (same_owed g g' less.beside)
-        (λ p. tallied'.tallied.points) (right_less g g' i.0 less none) (once_less g g' i.0 less) (has_tallied_gone b es e may t i is g g' refl less) (has_shown_gone b es e may t i is g g' refl less none) own_disk
+        (λ p. tallied'.tallied.points) (right_less g g' i.0 less none) (once_less g g' i.0 less) (has_tallied_gone b es e may t i is g g' refl less) (λ given. has_shown_gone b es e may t i is g g' refl less none) own_disk
         trail' entries room enough

@@ -47,15 +47,16 @@ use Rattle.px_recovery.specs.Stands.{AreNumbered, Explains, TellsCatalogue}
 use Rattle.px_recovery.specs.Tables.{table_in}
 use Rattle.px_recovery.proofs.Explains.{index_batch, rows_batch}
 use Rattle.px_recovery.proofs.Numbered.{index_number, rows_number}
-use Rattle.px_server.specs.Kept.{HasPoints, HasShown, HasTallied, IsKept, IsOnDisk, IsShutAt, forms_in, number_in, owed, tells_fault}
+use Rattle.px_server.specs.Kept.{AreBuilt, HasPoints, HasShown, HasTallied, IsKept, IsOnDisk, IsShutAt, forms_in, number_in, owed, tells_fault}
 use Rattle.px_server.specs.Others.{Beginning, IsRegion}
 use Rattle.px_server.proofs.Beside.{own_shown}
+use Rattle.px_server.proofs.Built.{built_table}
 use Rattle.px_server.proofs.Elsewhere.{GoesOnIn, IsOfTable, no_entry, one_entry}
 use Rattle.px_server.proofs.Framed.{region_framed, region_here, rows_in_region}
 use Rattle.px_server.proofs.Lists.{all_at}
 use Rattle.px_server.proofs.Numbers.{HasPlace, IsStored, LacksNumber, has_place, index_lack, lacks_index, lacks_rows, part_at, rows_lack, rows_one, same_once, set_once, stored_index, stored_table}
 use Rattle.px_server.proofs.OpenBatches.{stamp_in}
-use Rattle.px_server.proofs.Written.{MovesThen, ShowsThen, TellsThen, handed, handed_late, handed_shut, handed_told}
+use Rattle.px_server.proofs.Written.{MovesThen, ShowsThen, TellsThen, handed, handed_late, handed_noted, handed_shut, handed_told}
 
 -- ---- 1. What becomes of the group
 
@@ -110,17 +111,19 @@ pub record RowsShown (b : Base) (index : ℕ → IndexForm) (es' : List Entry) (
   pub then : RowsThen (form_of b index g) es' v (read_of new)
   pub shown : IsShownBy b index es' g' then.table_data hs'
   pub told : AreTold (form_of b index g) es' then.table_data
+  pub built : AreBuilt (form_of b index g) es' then.table_data
 
 pub record IndexShown (b : Base) (index : ℕ → IndexForm) (es' : List Entry) (g g' : Group) (v : GroupData) (hs' : List HeldBatch) (i : ℕ) (new : Region) : Type 0 where
   pub then : IndexThen (form_of b index g) es' v i (read_of new)
   pub shown : IsShownBy b index es' g' then.table_data hs'
   pub told : AreTold (form_of b index g) es' then.table_data
+  pub built : AreBuilt (form_of b index g) es' then.table_data
 
 abbrev pub RowsShow : Base → List Entry → List Entry → Group → Group → (List HeldBatch → List HeldBatch) → Region → Type 0
-RowsShow b es es' g g' next new = (index : ℕ → IndexForm) (v : GroupData) (hs : List HeldBatch) → IsTallied b es g hs → IsShownBy b index es g v hs → IsToldBy b index es g v → RowsShown b index es' g g' v (next hs) new
+RowsShow b es es' g g' next new = (index : ℕ → IndexForm) (v : GroupData) (hs : List HeldBatch) → IsTallied b es g hs → IsShownBy b index es g v hs → IsToldBy b index es g v → AreBuilt (form_of b index g) es v → RowsShown b index es' g g' v (next hs) new
 
 abbrev pub IndexShows : Base → List Entry → List Entry → Group → Group → (List HeldBatch → List HeldBatch) → ℕ → Region → Type 0
-IndexShows b es es' g g' next i new = (index : ℕ → IndexForm) (v : GroupData) (hs : List HeldBatch) → IsTallied b es g hs → IsShownBy b index es g v hs → IsToldBy b index es g v → IndexShown b index es' g g' v (next hs) i new
+IndexShows b es es' g g' next i new = (index : ℕ → IndexForm) (v : GroupData) (hs : List HeldBatch) → IsTallied b es g hs → IsShownBy b index es g v hs → IsToldBy b index es g v → AreBuilt (form_of b index g) es v → IndexShown b index es' g g' v (next hs) i new
 
 -- the manifest's horizon stays
 abbrev pub IsSameHorizon : Region → Region → Type 0
@@ -130,10 +133,11 @@ IsSameHorizon old new = new.horizon ≡ old.horizon
 
 -- what is shown of the group then, as the server keeps it
 has_shown : (b : Base) (es' : List Entry) (g g' : Group) → g'.table ≡ g.table → (indexes : List Index) (v : ℕ → GroupData) (w : GroupData) (hs' : List HeldBatch) → IsTallied b es' g' hs' → IsShownBy b (forms_in indexes g.table) es' g' w hs'
-    → AreTold (form_of b (forms_in indexes g.table) g) es' w → ((i : ℕ) (x : IndexRegion) → slice_get g'.indexes.items i ≡ Some x → (get_or w.indexes i no_part).horizon ≡ x.region.horizon) → HasShown b es' indexes (with_part v (number_in g) w) g'
-has_shown b es' g g' table indexes v w hs' tallied shown told own =
+    → AreTold (form_of b (forms_in indexes g.table) g) es' w → AreBuilt (form_of b (forms_in indexes g.table) g) es' w → ((i : ℕ) (x : IndexRegion) → slice_get g'.indexes.items i ≡ Some x → (get_or w.indexes i no_part).horizon ≡ x.region.horizon) → HasShown b es' indexes (with_part v (number_in g) w) g'
+has_shown b es' g g' table indexes v w hs' tallied shown told built own =
     own_shown b es' indexes v w g.table g' table hs' tallied shown
     (record { told = subst (λ (x : Table). AreTold (table_form b x.id (forms_in indexes g.table) (row_form x)) es' w) (sym table) told; own = own })
+    (built_table b (forms_in indexes g.table) es' w g.table g'.table (sym table) built)
 
 module _ {D : Type 0} (d : Ghosts D) (tells_left : (x : D) (moment file : ℕ) (bytes : List ℕ) → d.left x moment file bytes → IsTrue d.tells)
     (up_to_now : (x : D) (moment file : ℕ) (bytes : List ℕ) → d.left x moment file bytes → moment ≤ d.calls x) (b : Base) (sound premise : Type 0) (began : Beginning)
@@ -208,17 +212,17 @@ module _ {D : Type 0} (d : Ghosts D) (tells_left : (x : D) (moment file : ℕ) (
         (show : RowsShow b es es' g g' next new) where
       rows_has : (indexes : List Index) (v : ℕ → GroupData) (has : HasShown b es indexes v g) → (w : RowsShown b (forms_in indexes g.table) es' g g' (v t) (next has.held) new) → HasShown b es' indexes (with_part v t w.then.table_data) g'
       rows_has indexes v has w =
-          has_shown b es' g g' to.table indexes v w.then.table_data (next has.held) (tallied has.held has.tallied) w.shown w.told
+          has_shown b es' g g' to.table indexes v w.then.table_data (next has.held) (tallied has.held has.tallied) w.shown w.told w.built
           (λ i x at. ap (λ (xs : List IndexPart). (get_or xs i no_part).horizon) w.then.indexes ∙ has.told.own i x (ap (λ (xs : List IndexRegion). slice_get xs i) (sym to.indexes) ∙ at))
 
       rows_shows : (indexes : List Index) (v : ℕ → GroupData) → HasShown b es indexes v g → ShowsThen b es' indexes v t g'
       rows_shows indexes v has = (let
-          w = show (forms_in indexes g.table) (v t) has.held has.tallied has.shown has.told
+          w = show (forms_in indexes g.table) (v t) has.held has.tallied has.shown has.told has.built
           in record { table_data = w.then.table_data; has = rows_has indexes v has w })
 
       rows_moves : (f : FolderData) (v : ℕ → GroupData) → Explains b es f v → IsOnDisk d disk f g → HasShown b es f.standing.indexes v g → MovesThen b es' f.standing.indexes (rows_changed f) v t g'
       rows_moves f v told on has = (let
-          w = show (forms_in f.standing.indexes g.table) (v t) has.held has.tallied has.shown has.told
+          w = show (forms_in f.standing.indexes g.table) (v t) has.held has.tallied has.shown has.told has.built
           in record { table_data = w.then.table_data; explains = rows_explain es' by f v told has.held has.shown (read_of new) written.reads w.then; has = rows_has f.standing.indexes v has w })
 
     -- all calls succeeded, and no entry is added
@@ -227,7 +231,7 @@ module _ {D : Type 0} (d : Ghosts D) (tells_left : (x : D) (moment file : ℕ) (
     rows_handed written horizons right next tallied show room =
         handed d tells_left up_to_now b sound premise began disk catalog standing groups trail late closed k running place g g' l is to.table to.points disk' g.rows new cells writes rows_lacks rows_drawn rows_holds rows_stand
         right next (same_once g g' to.indexes) written (rows_on_disk written) tallied
-        (rows_shows written horizons es (no_entry b es k.told.legal t) next tallied show) (rows_moves written horizons es (no_entry b es k.told.legal t) next tallied show) room
+        (λ given. rows_shows written horizons es (no_entry b es k.told.legal t) next tallied show) (λ given. rows_moves written horizons es (no_entry b es k.told.legal t) next tallied show) room
 
     -- with an entry that lasts
     pub rows_told : HasWritten d g.rows new disk disk' cells → IsSameHorizon g.rows new → IsRightGroup g' → (e : Entry) → lasting e ≡ true → e.calls ≡ d.calls disk' → IsOfTable b es t e → tells_fault e.act ≡ false → (next : List HeldBatch → List HeldBatch)
@@ -236,14 +240,14 @@ module _ {D : Type 0} (d : Ghosts D) (tells_left : (x : D) (moment file : ℕ) (
     rows_told written horizons right e lasts at of quiet next tallied points' show trail' entries room =
         handed_told d tells_left up_to_now b sound premise began disk catalog standing groups trail late closed k running place g g' l is to.table to.points disk' g.rows new cells writes rows_lacks rows_drawn rows_holds rows_stand
         right next (same_once g g' to.indexes) written (rows_on_disk written) e lasts at of quiet tallied points'
-        (rows_shows written horizons (es ++ e ∷ []) (one_entry b es k.told.legal t e of) next tallied show) (rows_moves written horizons (es ++ e ∷ []) (one_entry b es k.told.legal t e of) next tallied show) trail' entries room
+        (λ given. rows_shows written horizons (es ++ e ∷ []) (one_entry b es k.told.legal t e of) next tallied show) (λ given. rows_moves written horizons (es ++ e ∷ []) (one_entry b es k.told.legal t e of) next tallied show) trail' entries room
 
     -- a call failed: nothing was under way, or an entry
     pub rows_shut : (shut : Entry) (call : ℕ) → IsShutAt shut call → call ≡ d.calls disk' → Rose d disk disk' → (AreTraced es g → AreTraced es g') → map stamp_in g'.batches.items ≡ map stamp_in g.batches.items → RowsGo b es es g cells → (trail' : Recorded) → trail'.entries ≡ es ++ shut ∷ [] → owed g' + trail.room ≤ owed g + trail'.room + 1
         → IsKept d b sound premise began disk' catalog standing then trail' None (Some call)
     rows_shut shut call shut-is shut_at rose traced stamps go trail' entries room =
         handed_shut d tells_left up_to_now b sound premise began disk catalog standing groups trail late closed k running place g g' l is to.table to.points disk' g.rows new cells writes rows_lacks rows_drawn rows_holds rows_stand
-        shut call shut-is shut_at rose traced stamps trail' entries room (rows_tells es (no_entry b es k.told.legal t) go)
+        shut call shut-is shut_at rose traced stamps trail' entries room (λ given. rows_tells es (no_entry b es k.told.legal t) go)
 
     pub rows_late : (shut : Entry) (call : ℕ) → IsShutAt shut call → call ≡ d.calls disk' → Rose d disk disk' → (AreTraced es g → AreTraced es g') → map stamp_in g'.batches.items ≡ map stamp_in g.batches.items → (u : Entry) → lasting u ≡ true → u.calls ≡ d.calls disk' → IsOfTable b es t u → RowsGo b es (es ++ u ∷ []) g cells
         → (trail' : Recorded) → trail'.entries ≡ es ++ shut ∷ [] → owed g' + trail.room ≤ owed g + trail'.room + 1 → IsKept d b sound premise began disk' catalog standing then trail' (Some u) (Some call)
@@ -328,7 +332,7 @@ module _ {D : Type 0} (d : Ghosts D) (tells_left : (x : D) (moment file : ℕ) (
           inside : i < length (v t).indexes = (let c = has.shown.count in let lt = within g.indexes.items i x to.index in omega (arith, c, lt))
           in let
           part_then = with_cells (read_of new) (get_or (v t).indexes i no_part)
-          in has_shown b es' g g' to.table indexes v w.then.table_data (next has.held) (tallied has.held has.tallied) w.shown w.told
+          in has_shown b es' g g' to.table indexes v w.then.table_data (next has.held) (tallied has.held has.tallied) w.shown w.told w.built
           (λ j z at. ap (λ (xs : List IndexPart). (get_or xs j no_part).horizon) w.then.indexes ∙ elim (set_cases g.indexes.items i j (record x { region = new }) z (ap (λ (xs : List IndexRegion). slice_get xs j) (sym to.indexes) ∙ at)) [
             | inl q ↦
                 ap (λ (m : ℕ). (get_or (set (v t).indexes i part_then) m no_part).horizon) q.0
@@ -338,12 +342,12 @@ module _ {D : Type 0} (d : Ghosts D) (tells_left : (x : D) (moment file : ℕ) (
 
       index_show : (indexes : List Index) (v : ℕ → GroupData) → HasShown b es indexes v g → ShowsThen b es' indexes v t g'
       index_show indexes v has = (let
-          w = show (forms_in indexes g.table) (v t) has.held has.tallied has.shown has.told
+          w = show (forms_in indexes g.table) (v t) has.held has.tallied has.shown has.told has.built
           in record { table_data = w.then.table_data; has = index_has indexes v has w })
 
       index_moves : (f : FolderData) (v : ℕ → GroupData) → Explains b es f v → IsOnDisk d disk f g → HasShown b es f.standing.indexes v g → MovesThen b es' f.standing.indexes (index_changed f) v t g'
       index_moves f v told on has = (let
-          w = show (forms_in f.standing.indexes g.table) (v t) has.held has.tallied has.shown has.told
+          w = show (forms_in f.standing.indexes g.table) (v t) has.held has.tallied has.shown has.told has.built
           in record { table_data = w.then.table_data; explains = index_explain es' by f v told on has.held has.shown (read_of new) written.reads w.then; has = index_has f.standing.indexes v has w })
 
     -- all calls succeeded, and no entry is added
@@ -352,11 +356,21 @@ module _ {D : Type 0} (d : Ghosts D) (tells_left : (x : D) (moment file : ℕ) (
     index_handed written horizons right next tallied show room =
         handed d tells_left up_to_now b sound premise began disk catalog standing groups trail late closed k running place g g' l is to.table to.points disk' x.region new cells writes index_lacks index_drawn index_holds index_stands
         right next (set_once g g' i x new to.index to.indexes) written (index_on_disk written) tallied
-        (index_show written horizons es (no_entry b es k.told.legal t) next tallied show) (index_moves written horizons es (no_entry b es k.told.legal t) next tallied show) room
+        (λ given. index_show written horizons es (no_entry b es k.told.legal t) next tallied show) (λ given. index_moves written horizons es (no_entry b es k.told.legal t) next tallied show) room
+
+    -- with an entry that doesn't last, which tells of them where what was opened is sound
+    pub index_noted : HasWritten d x.region new disk disk' cells → IsSameHorizon x.region new → IsRightGroup g' → (e : Entry) → lasting e ≡ false → e.calls ≡ d.calls disk' → IsOfTable b es t e → tells_fault e.act ≡ false → (next : List HeldBatch → List HeldBatch)
+        → ((hs : List HeldBatch) → IsTallied b es g hs → IsTallied b (es ++ e ∷ []) g' (next hs)) → HasPoints (es ++ e ∷ []) g' → (sound → IndexGoes b es es g i x cells) → (sound → IndexShows b es (es ++ e ∷ []) g g' next i new)
+        → (trail' : Recorded) → trail'.entries ≡ es ++ e ∷ [] → owed g' + trail.room ≤ owed g + trail'.room → IsKept d b sound premise began disk' catalog standing then trail' late closed
+    index_noted written horizons right e quiet at of calm next tallied points' go show trail' entries room =
+        handed_noted d tells_left up_to_now b sound premise began disk catalog standing groups trail late closed k running place g g' l is to.table to.points disk' x.region new cells writes index_lacks index_drawn index_holds index_stands
+        right next (set_once g g' i x new to.index to.indexes) written (index_on_disk written) e quiet at of calm tallied points'
+        (λ given. index_show written horizons (es ++ e ∷ []) (one_entry b es k.told.legal t e of) next tallied (show given)) (λ given. index_tells es (no_entry b es k.told.legal t) (go given))
+        (λ given. index_moves written horizons (es ++ e ∷ []) (one_entry b es k.told.legal t e of) next tallied (show given)) trail' entries room
 
     -- a call failed with nothing under way
-    pub index_shut : (shut : Entry) (call : ℕ) → IsShutAt shut call → call ≡ d.calls disk' → Rose d disk disk' → (AreTraced es g → AreTraced es g') → map stamp_in g'.batches.items ≡ map stamp_in g.batches.items → IndexGoes b es es g i x cells → (trail' : Recorded) → trail'.entries ≡ es ++ shut ∷ [] → owed g' + trail.room ≤ owed g + trail'.room + 1
+    pub index_shut : (shut : Entry) (call : ℕ) → IsShutAt shut call → call ≡ d.calls disk' → Rose d disk disk' → (AreTraced es g → AreTraced es g') → map stamp_in g'.batches.items ≡ map stamp_in g.batches.items → (sound → IndexGoes b es es g i x cells) → (trail' : Recorded) → trail'.entries ≡ es ++ shut ∷ [] → owed g' + trail.room ≤ owed g + trail'.room + 1
         → IsKept d b sound premise began disk' catalog standing then trail' None (Some call)
     index_shut shut call shut-is shut_at rose traced stamps go trail' entries room =
         handed_shut d tells_left up_to_now b sound premise began disk catalog standing groups trail late closed k running place g g' l is to.table to.points disk' x.region new cells writes index_lacks index_drawn index_holds index_stands
-        shut call shut-is shut_at rose traced stamps trail' entries room (index_tells es (no_entry b es k.told.legal t) go)
+        shut call shut-is shut_at rose traced stamps trail' entries room (λ given. index_tells es (no_entry b es k.told.legal t) (go given))

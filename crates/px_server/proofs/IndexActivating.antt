@@ -1,5 +1,5 @@
 -- An index becomes active, as the code makes it so.
-use Rattle.std.proofs.Common.{◌≡◌, ◌<◌, ◌≤◌, ◌⊎◌, ◌+◌, ◌↔◌, ℕ, Bool, true, false, Option, Some, None, List, [], ◌∷◌, ◌++◌, IsSome, get_or, length, slice_get, refl, sym, ap, subst, ◌∙◌}
+use Rattle.std.proofs.Common.{◌≡◌, ◌≢◌, ◌<◌, ◌≤◌, ◌⊎◌, ◌+◌, ◌↔◌, ℕ, Bool, true, false, Option, Some, None, List, [], ◌∷◌, ◌++◌, IsSome, get_or, length, slice_get, refl, sym, ap, subst, ◌∙◌}
 use Rattle.std.specs.Prelude.{IsTrue, sum_by}
 use Rattle.std.specs.List.{slice_set}
 use Rattle.std.proofs.lemmas.Bool.{false≢true}
@@ -23,7 +23,7 @@ use Rattle.px_forms.specs.Indexes.{IndexForm}
 use Rattle.px_calls.specs.Calls.{DidDefine}
 use Rattle.px_calls.specs.Causes.{LacksIndex}
 use Rattle.px_calls.specs.Known.{Known}
-use Rattle.px_calls.specs.Requires.{CanActivate, MayActivate}
+use Rattle.px_calls.specs.Requires.{CanActivate, MayActivate, is_based}
 use Rattle.px_calls.specs.declared.definition.Definition.TheVariants as definition
 use Rattle.px_region.specs.declared.region.Region.{Region}
 use Rattle.px_schema.specs.Stands.{after}
@@ -44,49 +44,11 @@ use Rattle.px_server.specs.Kept.{HasFailed, HasTallied, HasTrailRoom, IsKept, Is
 use Rattle.px_server.specs.Others.{Beginning}
 use Rattle.px_server.specs.declared.defining.prepared.IndexToActivate.{IndexToActivate}
 use Rattle.px_server.specs.inner.Fitting.{IsIndexToActivate}
-use Rattle.px_server.specs.inner.Indexing.{HasRowAt}
 use Rattle.px_server.proofs.IndexAnswers.{did_activate}
 use Rattle.px_server.proofs.IndexFound.{id_is, number_found}
 use Rattle.px_server.proofs.IndexMay.{may_ready}
 use Rattle.px_server.proofs.Lists.{all_at}
 use Rattle.px_server.proofs.ReadyKept.{ready_failed, ready_kept}
-
--- ---- a group before it was looked at
-
-back_look : (x y : Region) → IsLookedAt x y → IsLookedAt y x
-back_look x y l = record {
-  alike = record { number = sym l.alike.number; wal = sym l.alike.wal; manifest = sym l.alike.manifest; flushing = sym l.alike.flushing; horizon = sym l.alike.horizon; store = sym l.alike.store; cells = sym l.alike.cells; bytes = sym l.alike.bytes };
-  promised = record { cells = sym l.promised.cells; bytes = sym l.promised.bytes };
-}
-
-back_looks : (xs ys : List IndexRegion) → AreLookedAt xs ys → AreLookedAt ys xs
-back_looks [] [] l = tt
-back_looks [] (y ∷ ys) l = absurd l
-back_looks (x ∷ xs) [] l = absurd l
-back_looks (x ∷ xs) (y ∷ ys) l = ((sym l.0.0, back_look x.region y.region l.0.1), back_looks xs ys l.1)
-
-back : (g h : Group) → HasLooked g h → HasLooked h g
-back g h l = record {
-  table = sym l.table;
-  rows = back_look g.rows h.rows l.rows;
-  indexes = back_looks g.indexes.items h.indexes.items l.indexes;
-  batches = sym l.batches;
-  points = sym l.points;
-  last = sym l.last;
-  horizon = sym l.horizon;
-}
-
-none_by : (o : RowState) → ((v : List Value) → o ≡ Some v → ⊥) → o ≡ None
-none_by None not = refl
-none_by (Some v) not = absurd (not v refl)
-
--- a look found no row, so none has a state
-pub none_seen : (g h : Group) → HasLooked g h → (s : ℕ) (has : Bool) → has ≡ false
-    → ((b : Base) (index : ℕ → IndexForm) (es : List Entry) (v : GroupData) (hs : List HeldBatch) → IsShownBy b index es g v hs → horizon_of b g.table.id.0 es ≤ s → (has ≡ true) ↔ HasRowAt b es g.table.id.0 s)
-    → (b : Base) (es : List Entry) → horizon_of b h.table.id.0 es ≤ s → (index : ℕ → IndexForm) (v : GroupData) (hs : List HeldBatch) → IsShownBy b index es h v hs → (r : List Value) → state_of b es h.table.id.0 r s ≡ None
-none_seen g h l s has empty rows b es low index v hs shown r = (let
-    told = rows b index es v hs (still_shown h g (back g h l) b index es v hs shown) (subst (λ (t : Table). horizon_of b t.id.0 es ≤ s) l.table low)
-    in none_by (state_of b es h.table.id.0 r s) (λ row is. false≢true (sym empty ∙ told.1 (r, row, ap (λ (t : Table). state_of b es t.id.0 r s) (sym l.table) ∙ is))))
 
 -- ---- an index of the group
 
@@ -133,13 +95,17 @@ module _ {D : Type 0} (d : Ghosts D) (tells_left : (x : D) (moment file : ℕ) (
     can : CanActivate sound before t.0 i.0 x.index
     can = may.each x.index index_is owner
 
-    pub low : horizon_of b g.table.id.0 es ≤ x.index.birth
+    low : horizon_of b g.table.id.0 es ≤ x.index.birth
     low = subst (λ (u : TableId). horizon_of b u.0 es ≤ x.index.birth) (sym mine) can.low
 
     decided : IsDecided es g.table.id.0 x.index.birth
     decided = subst (λ (u : TableId). IsDecided es u.0 x.index.birth) (sym mine) can.decided
 
-    module _ (none : (index : ℕ → IndexForm) (v : GroupData) (hs : List HeldBatch) → IsShownBy b index es g v hs → (r : List Value) → state_of b es g.table.id.0 r x.index.birth ≡ None) (p : IndexToActivate) (made : IsIndexToActivate standing x.index p)
+    all : sound → (r : List Value) → state_of b es g.table.id.0 r x.index.birth ≢ None → is_based es x.index.id.0 r ≡ true
+    all given = subst (λ (u : TableId). (r : List Value) → state_of b es u.0 r x.index.birth ≢ None → is_based es x.index.id.0 r ≡ true) (sym mine)
+        (subst (λ (n : IndexId). (r : List Value) → state_of b es t.0 r x.index.birth ≢ None → is_based es n.0 r ≡ true) (sym id) (can.based given))
+
+    module _ (p : IndexToActivate) (made : IsIndexToActivate standing x.index p)
         (disk' : D) (passes : Passes d disk disk' 4) (touches : HasCatalogue d catalog disk → TouchesOnly d disk disk' catalogue_files)
         (leaves : HasCatalogue d catalog disk → LeavesOnly d disk disk' (λ moment image. CatalogueStands image (standing_of catalog) ⊎ CatalogueStands image (after (standing_of catalog) (IndexIs p.item)))) (calls : ℕ) (at : calls ≡ d.calls disk') where
       abbrev y : Index
@@ -160,14 +126,14 @@ module _ {D : Type 0} (d : Ghosts D) (tells_left : (x : D) (moment file : ℕ) (
 
       pub activate_failed : (shut : Entry) (call : ℕ) → IsShutAt shut call → call ≡ d.calls disk' → HasFailed d disk' → (catalog' : Catalog) (trail' : Recorded) → trail'.entries ≡ es ++ shut ∷ [] → HasTrailRoom (Some call) groups trail'
           → IsKept d b sound premise began disk' catalog' standing groups trail' (Some e) (Some call)
-      activate_failed = ready_failed d tells_left up_to_now b sound premise began disk catalog standing groups trail late closed k running i x.index.birth place g l g_is e act_is may_come m x x_is id low decided none disk' at passes touches leaves_y
+      activate_failed = ready_failed d tells_left up_to_now b sound premise began disk catalog standing groups trail late closed k running i x.index.birth place g l g_is e act_is may_come m x x_is id low decided all disk' at passes touches leaves_y
 
       module _ (g' : Group) (active : HasActive g g' m) (catalog' : Catalog) (stored : HasCatalogue d catalog disk → HasCatalogue d catalog' disk') (defined : standing_of catalog' ≡ after (standing_of catalog) (IndexIs p.item))
           (trail' : Recorded) (entries : trail'.entries ≡ es ++ e ∷ []) (room : trail'.room + 1 ≡ trail.room) (enough : 2 + sum_by owed groups ≤ trail.room) where
         pub activate_kept : IsKept d b sound premise began disk' catalog' p.standing (slice_set groups place g') trail' late closed
         activate_kept = subst (λ (st : Standing). IsKept d b sound premise began disk' catalog' st (slice_set groups place g') trail' late closed) (sym (made.standing ∙ ap (λ (z : Index). after standing (IndexIs z)) made.item_is))
-            (ready_kept d tells_left up_to_now b sound premise began disk catalog standing groups trail late closed k running i x.index.birth place g l g_is e act_is may_come m x x_is id low decided none disk' at passes touches leaves_y
+            (ready_kept d tells_left up_to_now b sound premise began disk catalog standing groups trail late closed k running i x.index.birth place g l g_is e act_is may_come m x x_is id low decided all disk' at passes touches leaves_y
             g' active catalog' stored (defined ∙ ap (λ (z : Index). after (standing_of catalog) (IndexIs z)) made.item_is) trail' entries room enough)
 
-        pub activate_did : (n : ℕ) → n ≡ length trail'.entries → DidDefine sound before (record { seat = seat; base = b; damaged = damaged; alone = true; seen = trail'.entries }) (definition.Active t i) (record { number = i.0; stamp = x.index.birth; at = n })
-        activate_did n long = did_activate sound before k.told.legal t i x.index.birth calls trail'.entries entries activate_kept.told.legal n long
+        pub activate_did : (n : ℕ) → n ≡ length trail'.entries → DidDefine before (record { seat = seat; base = b; damaged = damaged; alone = true; seen = trail'.entries }) (definition.Active t i) (record { number = i.0; stamp = x.index.birth; at = n })
+        activate_did n long = did_activate before k.told.legal t i x.index.birth calls trail'.entries entries activate_kept.told.legal n long

@@ -31,6 +31,7 @@ use Rattle.px_defined.proofs.TalliedMore.{tallied_more}
 use Rattle.px_reading.specs.Doubts.{IsToldBy}
 use Rattle.px_recovery.specs.Tables.{form_in}
 use Rattle.px_server.specs.Kept.{HasShown, HasTallied, forms_in}
+use Rattle.px_server.proofs.Built.{are_born, built_as, built_table}
 use Rattle.px_server.proofs.Catalogued.{AreForms}
 use Rattle.px_server.proofs.Forms.{shown_forms, told_forms}
 use Rattle.px_server.proofs.ShownAt.{HasSameForms, shown_at}
@@ -94,3 +95,5 @@ module _ (b : Base) (right : IsRightBase b) (es : List Entry) (legal : IsLegal b
         tallied
         (shown_more b right es legal e may g g' y k.held k.tallied more i s what act_is refl index w shown form)
         (told_born index w k.held k.tallied shown form (told_forms b es g (forms_in xs g.table) index same w k.told))
+        (built_table b index es' (born_data i.0 s w) g.table g'.table (sym more.beside.table)
+        (are_born (form_of b index g) es w e t i s what (inl is) (bears b right es legal e may g g' y k.held k.tallied more i s what act_is refl index w shown form).bears (built_as b es g (forms_in xs g.table) index same w k.held k.shown k.built)))

@@ -10,7 +10,7 @@ use Rattle.px_tables.specs.declared.index.NewIndex.{NewIndex}
 use Rattle.px_tables.specs.declared.table.Table.{Table}
 use Rattle.px_trail.specs.Legal.{IsLegal}
 use Rattle.px_trail.specs.Trail.{catalogue_of, closing_call, horizon_of, last_of, table_of}
-use Rattle.px_calls.specs.Causes.{HasUnwritten, Refuses, define_cause}
+use Rattle.px_calls.specs.Causes.{Refuses, define_cause}
 use Rattle.px_calls.specs.Known.{Known}
 use Rattle.px_calls.specs.declared.definition.Definition.TheVariants as d
 use Rattle.px_calls.specs.declared.fault.StepFault.{StepFault}
@@ -29,9 +29,9 @@ use Rattle.px_server.specs.inner.Indexing.{MayMakeIndex}
 use Rattle.px_server.proofs.Found.{closed_by}
 use Rattle.px_server.proofs.Seen.{stays}
 
-module _ (k : Known) (legal : IsLegal k.base k.seen) (closed : Option ℕ) (closing : closing_call k.seen ≡ closed) (sound : Type 0) (what : NewIndex) where
+module _ (k : Known) (legal : IsLegal k.base k.seen) (closed : Option ℕ) (closing : closing_call k.seen ≡ closed) (what : NewIndex) where
   abbrev Refused : StepFault → Type 0
-  Refused f = Refuses (define_cause sound (d.Index what)) k k f
+  Refused f = Refuses (define_cause (d.Index what)) k k f
 
   pub when_closed : (call : ℕ) → closed ≡ Some call → Refused (Closed call)
   when_closed call is = closed_by k legal closed closing call is
@@ -56,20 +56,11 @@ module _ (k : Known) (legal : IsLegal k.base k.seen) (closed : Option ℕ) (clos
       pub no_stamp : most_of bound.Stamps ≤ g.last → Refused (Limit bound.Stamps (most_of bound.Stamps))
       no_stamp past = ((refl, (let n = last_is in omega (arith, n, past))), stays k legal, closing ∙ running)
 
-      unwritten_is : (has_to_write g ≡ true) ↔ HasUnwritten k what.table.0
-      unwritten_is = subst (λ (t : TableId). (has_to_write g ≡ true) ↔ HasUnwritten k t.0) own (pending k.base k.seen legal g hs tallied)
-
-      pub not_written : has_to_write g ≡ true → Refused (Limit bound.Build (most_of bound.Build))
-      not_written left = ((refl, inl (unwritten_is.0 left)), stays k legal, closing ∙ running)
-
-      pub may_make : IsSome (table_of k.base k.seen what.table.0) → IsUnused standing what.name → HasNumbers standing 2 → g.last < most_of bound.Stamps → has_to_write g ≡ false → ((t : ℕ) → horizon_of k.base t k.seen ≤ last_of k.base t k.seen) → MayMakeIndex k what
-      may_make stands unused numbers low none down = record {
+      pub may_make : IsSome (table_of k.base k.seen what.table.0) → IsUnused standing what.name → HasNumbers standing 2 → g.last < most_of bound.Stamps → MayMakeIndex k what
+      may_make stands unused numbers low = record {
         running = closing ∙ running;
         stands = stands;
         free = (free standing (catalogue_of k.base k.seen) agrees what.name).0 unused;
         numbers = (let n = agrees.next in omega (arith, n, numbers));
         stamps = (let n = last_is in omega (arith, n, low));
-        written = λ left. false≢true (sym none ∙ unwritten_is.1 left);
-        low = (let n = last_is in let m = down what.table.0 in omega (arith, n, m, low));
-        sees = stays k legal;
       }

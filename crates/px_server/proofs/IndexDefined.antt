@@ -43,14 +43,14 @@ module _ {D : Type 0} (d : Ghosts D) (tells_left : (x : D) (moment file : ℕ) (
     (t : TableId) (e : Entry) (own : Defines t e.act) (may : MayCome b trail.entries e) (at : e.calls ≡ d.calls disk')
     -- the table's data then
     (change : GroupData → GroupData)
-    (explains : (f : FolderData) (v : ℕ → GroupData) → f.standing ≡ standing_of catalog → AreUnmade f → AllByRecursion (HasShown b trail.entries f.standing.indexes v) groups → AllByRecursion (IsOnDisk d disk f) groups → Explains b trail.entries f v
+    (explains : sound → (f : FolderData) (v : ℕ → GroupData) → f.standing ≡ standing_of catalog → AreUnmade f → AllByRecursion (HasShown b trail.entries f.standing.indexes v) groups → AllByRecursion (IsOnDisk d disk f) groups → Explains b trail.entries f v
     → Explains b (trail.entries ++ e ∷ []) (with_standing (after f.standing item) f) (with_part v t.0 (change (v t.0))))
     (catalog' : Catalog) (stored : HasCatalogue d catalog disk → HasCatalogue d catalog' disk') (defined : standing_of catalog' ≡ after (standing_of catalog) item)
     (agrees : Agrees (after standing item) (catalogue_of b (trail.entries ++ e ∷ []))) (tables : (after standing item).tables ≡ standing.tables)
     -- its group, and what it is then
     (place : ℕ) (g g' : Group) (l : place < length groups) (is : get_or groups place g ≡ g) (mine : g.table.id ≡ t) (same : g'.table ≡ g.table) (same_owed : owed g' ≡ owed g)
     (own_points : HasPoints trail.entries g → HasPoints (trail.entries ++ e ∷ []) g') (own_right : IsRightGroup g → IsRightGroup g') (own_once : HasOnce g → HasOnce g') (own_tallied : HasTallied b trail.entries g → HasTallied b (trail.entries ++ e ∷ []) g')
-    (own_shown : (xs xs' : List Index) → AreForms xs (catalogue_of b trail.entries) → AreForms xs' (catalogue_of b (trail.entries ++ e ∷ [])) → (v : ℕ → GroupData) → HasShown b trail.entries xs v g → HasShown b (trail.entries ++ e ∷ []) xs' (with_part v t.0 (change (v t.0))) g')
+    (own_shown : sound → (xs xs' : List Index) → AreForms xs (catalogue_of b trail.entries) → AreForms xs' (catalogue_of b (trail.entries ++ e ∷ [])) → (v : ℕ → GroupData) → HasShown b trail.entries xs v g → HasShown b (trail.entries ++ e ∷ []) xs' (with_part v t.0 (change (v t.0))) g')
     (own_disk : IsTrue d.tells → (f : FolderData) → f.standing ≡ standing_of catalog → AreFresh d disk' f.standing.next → AreUnmade f → IsOnDisk d disk' f g → IsOnDisk d disk' (with_standing (after f.standing item) f) g') where
   abbrev es : List Entry
   es = trail.entries
@@ -80,5 +80,5 @@ module _ {D : Type 0} (d : Ghosts D) (tells_left : (x : D) (moment file : ℕ) (
       catalog' stored defined (after standing item) agrees (ap opened_standing defined ∙ same_after (standing_of catalog) standing item (k.told.same running))
       (slice_set groups place g') (map_set table_in_group groups place g g' l is same ∙ (k.each.stand ∙ sym tables)) Own carries
       (λ v q other. with_part-other v t.0 (change (v t.0)) q other)
-      (λ p. own_points p.1) own_right own_once (λ p. own_tallied p.1) (λ xs xs' forms forms' v p. own_shown xs xs' forms forms' v p.1) own_disk
+      (λ p. own_points p.1) own_right own_once (λ p. own_tallied p.1) (λ given xs xs' forms forms' v p. own_shown given xs xs' forms forms' v p.1) own_disk
       trail' entries (room_then trail' room enough)

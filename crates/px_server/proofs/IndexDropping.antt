@@ -98,8 +98,8 @@ module _ {D : Type 0} (d : Ghosts D) (tells_left : (x : D) (moment file : ℕ) (
           (gone_kept d tells_left up_to_now b sound premise began disk catalog standing groups trail late closed k running i place g l g_is e act_is may_come found.0 found.1.0 own none disk' at passes touches leaves
           g' less catalog' stored defined trail' entries room enough)
 
-      pub drop_did : (n : ℕ) → n ≡ length trail'.entries → DidDefine sound before (record { seat = seat; base = b; damaged = damaged; alone = true; seen = trail'.entries }) (definition.DropIndex t i) (record { number = i.0; stamp = 0; at = n })
-      drop_did n long = did_drop sound before k.told.legal t i calls trail'.entries entries drop_kept.told.legal n long
+      pub drop_did : (n : ℕ) → n ≡ length trail'.entries → DidDefine before (record { seat = seat; base = b; damaged = damaged; alone = true; seen = trail'.entries }) (definition.DropIndex t i) (record { number = i.0; stamp = 0; at = n })
+      drop_did n long = did_drop before k.told.legal t i calls trail'.entries entries drop_kept.told.legal n long
 
 -- no such index of the table at a place
 pub no_index_at : {D : Type 0} (d : Ghosts D) (b : Base) (sound premise : Type 0) (began : Beginning) (disk : D) (catalog : Catalog) (standing : Standing) (groups : List Group) (trail : Recorded) (late : Option Entry) (closed : Option ℕ) → IsKept d b sound premise began disk catalog standing groups trail late closed → closed ≡ None

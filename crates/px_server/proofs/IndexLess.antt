@@ -1,5 +1,5 @@
 -- What a group shows when an index of its table is dropped.
-use Rattle.std.proofs.Common.{◌≡◌, ℕ, Bool, List, [], ◌∷◌, ◌++◌, map, slice_get, Some, refl, sym, ap, subst, ◌∙◌}
+use Rattle.std.proofs.Common.{◌≡◌, ℕ, Bool, List, [], ◌∷◌, ◌++◌, map, get_or, slice_get, Some, refl, sym, ap, subst, ◌∙◌}
 use Rattle.std.specs.Prelude.{filter, not, ◌==◌}
 use Rattle.px_outside.specs.Parts.{with_part}
 use Rattle.px_outside.proofs.Parts.{with_part-here}
@@ -7,7 +7,9 @@ use Rattle.px_values.specs.declared.name.IndexId.{IndexId}
 use Rattle.px_values.specs.declared.name.TableId.{TableId}
 use Rattle.px_tables.specs.declared.index.Index.{Index}
 use Rattle.px_tables.specs.declared.table.Table.{Table}
+use Rattle.px_trail.specs.declared.entry.Act.{Act}
 use Rattle.px_trail.specs.declared.entry.Act.TheVariants.{Dropped}
+use Rattle.px_indexed.specs.Idle.{IsElsewhere}
 use Rattle.px_trail.specs.declared.entry.Entry.{Entry}
 use Rattle.px_trail.specs.Legal.{MayCome}
 use Rattle.px_trail.specs.Trail.{Base, catalogue_of}
@@ -30,6 +32,7 @@ use Rattle.px_defined.proofs.TalliedLess.{tallied_less}
 use Rattle.px_reading.specs.Doubts.{IsToldBy}
 use Rattle.px_recovery.specs.Tables.{form_in}
 use Rattle.px_server.specs.Kept.{HasShown, HasTallied, forms_in}
+use Rattle.px_server.proofs.Built.{IsUnbased, are_less, built_as, built_elsewhere, built_table}
 use Rattle.px_server.proofs.Catalogued.{AreForms}
 use Rattle.px_server.proofs.Forms.{shown_forms, told_forms}
 use Rattle.px_server.proofs.ShownAt.{HasSameForms, shown_at}
@@ -96,3 +99,6 @@ module _ (b : Base) (es : List Entry) (e : Entry) (may : MayCome b es e) (t : Ta
         (subst (λ (l : List HeldBatch). IsTallied b es' g' l) (none_open b es g k.held k.tallied none) tallied)
         (shown_forms b es' g' index index' same (dropped_data i.0 w) [] (then index w k.held k.tallied k.shown))
         (told_forms b es' g' index index' same (dropped_data i.0 w) (told_gone index w k.held k.tallied k.shown k.told))
+        (built_as b es' g' index index' same (dropped_data i.0 w) [] (then index w k.held k.tallied k.shown)
+        (built_table b index es' (dropped_data i.0 w) g.table g'.table (sym less.beside.table)
+        (are_less (form_of b index g) es' w i.0 (built_elsewhere (form_of b index g) es w k.shown.kept.group e may (subst (λ (act : Act). IsElsewhere g.table.id act) (sym is) tt) (λ j l. subst (IsUnbased (get_or w.indexes j no_part).id) (sym is) tt) k.built))))

@@ -17,7 +17,6 @@ use Rattle.px_trail.specs.Legal.{MayCome}
 use Rattle.px_trail.specs.Recorded.{Recorded}
 use Rattle.px_trail.specs.Trail.{Base, last_of, made_index, table_of}
 use Rattle.px_calls.specs.Calls.{DidDefine}
-use Rattle.px_calls.specs.Causes.{HasState}
 use Rattle.px_calls.specs.Requires.{IsIndexFit, IsNewIndex}
 use Rattle.px_calls.specs.declared.definition.Definition.TheVariants as definition
 use Rattle.px_schema.specs.Stands.{after}
@@ -95,8 +94,8 @@ module _ {D : Type 0} (d : Ghosts D) (tells_left : (x : D) (moment file : ℕ) (
         (born_kept d tells_left up_to_now b sound premise began disk catalog standing groups trail late closed k running what.table i s what e act_is may_come disk' at passes touches leaves_y place g l g_is mine fits
         g' (subst (λ (x : Index). HasIndexMore g g' x) made.index more) catalog' stored (defined ∙ ap (λ (x : Index). after (standing_of catalog) (IndexIs x)) item_is) trail' entries room enough)
 
-    pub make_did : (sound → HasState (record { seat = seat; base = b; damaged = damaged; alone = true; seen = es }) what.table.0 → ⊥) → (n : ℕ) → n ≡ length trail'.entries
-        → DidDefine sound (record { seat = seat; base = b; damaged = damaged; alone = true; seen = es }) (record { seat = seat; base = b; damaged = damaged; alone = true; seen = trail'.entries }) (definition.Index what) (record { number = p.index.id.0; stamp = s; at = n })
-    make_did empty n long = subst (λ (x : Index). DidDefine sound (record { seat = seat; base = b; damaged = damaged; alone = true; seen = es }) (record { seat = seat; base = b; damaged = damaged; alone = true; seen = trail'.entries }) (definition.Index what) (record { number = x.id.0; stamp = s; at = n })) (sym made.index)
-        (did_make d b sound premise began disk catalog standing groups trail late closed k running place g l g_is seat damaged what mine may.written empty i s (let n' = last_is in omega (arith, n', above)) most calls trail'.entries
+    pub make_did : (n : ℕ) → n ≡ length trail'.entries
+        → DidDefine (record { seat = seat; base = b; damaged = damaged; alone = true; seen = es }) (record { seat = seat; base = b; damaged = damaged; alone = true; seen = trail'.entries }) (definition.Index what) (record { number = p.index.id.0; stamp = s; at = n })
+    make_did n long = subst (λ (x : Index). DidDefine (record { seat = seat; base = b; damaged = damaged; alone = true; seen = es }) (record { seat = seat; base = b; damaged = damaged; alone = true; seen = trail'.entries }) (definition.Index what) (record { number = x.id.0; stamp = s; at = n })) (sym made.index)
+        (did_make (record { seat = seat; base = b; damaged = damaged; alone = true; seen = es }) k.told.legal what i s most calls trail'.entries
         (entries ∙ ap (λ (act : Act). es ++ record { seat = seat; calls = calls; act = act } ∷ []) act_is) make_kept.told.legal n long)

@@ -28,7 +28,7 @@ module _ {D : Type 0} (d : Ghosts D) (b : Base) (sound premise : Type 0) (began 
   abbrev entry : Act → Entry
   entry act = record { seat = seat; calls = d.calls disk'; act = act }
 
-  may_follow : (act : Act) → Follows b es seat (d.calls disk') act → MayCome b es (entry act)
+  pub may_follow : (act : Act) → Follows b es seat (d.calls disk') act → MayCome b es (entry act)
   may_follow act follows = record {
     follows = follows;
     shut = λ past. k.told.closing ∙ running;

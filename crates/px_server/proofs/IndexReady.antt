@@ -1,5 +1,5 @@
 -- What a group shows when an index of its table becomes active.
-use Rattle.std.proofs.Common.{◌≡◌, ◌<◌, ◌≤◌, inl, inr, ℕ, true, List, [], ◌∷◌, ◌++◌, length, get_or, set, slice_get, None, Some, refl, sym, ap, subst, ◌∙◌, arith, get_or-set_other, get_or-set_same}
+use Rattle.std.proofs.Common.{◌≡◌, ◌≢◌, ◌<◌, ◌≤◌, inl, inr, ℕ, Bool, true, false, cond, List, [], ◌∷◌, ◌++◌, length, get_or, set, slice_get, None, Some, refl, sym, ap, subst, ◌∙◌, arith, get_or-set_other, get_or-set_same}
 use Rattle.std.proofs.lemmas.Bool.{cases_eq}
 use Rattle.px_outside.specs.Parts.{with_part}
 use Rattle.px_outside.specs.declared.disk.Disk.{Ghosts}
@@ -22,8 +22,12 @@ use Rattle.px_trail.proofs.Orders.{WritesNone}
 use Rattle.px_forms.specs.Indexes.{IndexForm}
 use Rattle.px_indexrow.specs.Form.{index_form, owns}
 use Rattle.px_rows.specs.Spelled.{row_form}
-use Rattle.px_groupworld.specs.Group.{GroupData, GroupKept, IndexPart, no_part, table_form}
-use Rattle.px_groupworld.specs.Steps.{ready_data}
+use Rattle.px_groupworld.specs.Group.{GroupData, GroupKept, IndexPart, no_part, shape_in, table_form, world_in}
+use Rattle.px_groupworld.specs.Steps.{at_index, ready_data}
+use Rattle.px_world.specs.Events.{Comes, Ready}
+use Rattle.px_calls.specs.Requires.{is_based}
+use Rattle.px_values.specs.declared.change.What.{What}
+use Rattle.std.specs.Prelude.{nat_eq}
 use Rattle.px_groupworld.proofs.Cells.{group_ready}
 use Rattle.px_groupworld.proofs.Entries.{group_idle}
 use Rattle.px_indexed.specs.Idle.{IsElsewhere}
@@ -40,13 +44,15 @@ use Rattle.px_group.specs.declared.group.IndexRegion.{IndexRegion}
 use Rattle.px_defined.specs.Defined.{HasActive, HasOnce, active}
 use Rattle.px_defined.proofs.Lists.{same_at, set_cases, set_here, set_other, within}
 use Rattle.px_defined.proofs.Once.{only_at}
-use Rattle.px_defined.proofs.Ready.{active_comes, comes_ready}
-use Rattle.px_defined.proofs.ShownActive.{shown_active}
+use Rattle.px_defined.proofs.ShownActive.{active_steps, shown_active}
 use Rattle.px_defined.proofs.TalliedActive.{tallied_active}
 use Rattle.px_reading.specs.Doubts.{IsToldBy}
 use Rattle.px_recovery.specs.Folder.{FolderData}
 use Rattle.px_recovery.specs.Tables.{form_in, index_files}
-use Rattle.px_server.specs.Kept.{HasShown, HasTallied, forms_in}
+use Rattle.px_server.specs.Kept.{AreBuilt, HasShown, HasTallied, forms_in}
+use Rattle.px_built.specs.Built.{IsOfRun}
+use Rattle.px_built.proofs.Tables.{built_ready}
+use Rattle.px_server.proofs.Built.{IsUnbased, built_as, built_elsewhere, built_step, built_table, same_ids}
 use Rattle.px_server.proofs.Catalogued.{AreForms}
 use Rattle.px_server.proofs.Forms.{shown_forms, told_forms}
 use Rattle.px_server.proofs.ShownAt.{HasSameForms, shown_at}
@@ -57,23 +63,30 @@ active_form : (x : Table) (z : Index) → index_form x (record z { state = Activ
 unfolding owns
 active_form x z = refl
 
+run_ready : (c : Bool) → IsOfRun {K = List ℕ} {A = What} (cond c (Some Ready) None)
+run_ready true = tt
+run_ready false = tt
+
 -- ---- the table's data
 
--- at the birth of the index at the place all is written, no row has a state, and nothing is forgotten
+-- at the birth of the index at the place all is written, nothing is forgotten, and each row that the table had there was given its base version
+pub ready_comes : (b : Base) (es : List Entry) (g : Group) (place : ℕ) (x : IndexRegion) → slice_get g.indexes.items place ≡ Some x → horizon_of b g.table.id.0 es ≤ x.index.birth → IsDecided es g.table.id.0 x.index.birth
+    → ((r : List Value) → state_of b es g.table.id.0 r x.index.birth ≢ None → is_based es x.index.id.0 r ≡ true) → (index : ℕ → IndexForm) (v : GroupData) (hs : List HeldBatch) → IsShownBy b index es g v hs → AreBuilt (form_of b index g) es v
+    → (r : List Value) → Comes (shape_in (form_of b index g) v place r) (world_in (form_of b index g) es v place r) Ready
+ready_comes b es g place x x_is low decided all index v hs shown built =
+    let part = shown.parts place x x_is in
+    let inside : place < length v.indexes = (let l = within g.indexes.items place x x_is in let n = shown.count in omega (arith, l, n)) in
+    built_ready (form_of b index g) es v shown.kept.group place inside (subst (λ (p : ℕ). horizon_of b g.table.id.0 es ≤ p) (sym part.birth) low) (subst (λ (p : ℕ). IsDecided es g.table.id.0 p) (sym part.birth) decided)
+    (subst (λ (n : ℕ). (r : List Value) → state_of b es g.table.id.0 r (get_or v.indexes place no_part).birth ≢ None → is_based es n r ≡ true) (sym part.id)
+    (subst (λ (p : ℕ). (r : List Value) → state_of b es g.table.id.0 r p ≢ None → is_based es x.index.id.0 r ≡ true) (sym part.birth) all)) (built.each place inside)
+
 module _ (b : Base) (es : List Entry) (e : Entry) (may : MayCome b es e) (g : Group) (elsewhere : IsElsewhere g.table.id e.act) (place : ℕ) (x : IndexRegion) (x_is : slice_get g.indexes.items place ≡ Some x)
-    (low : horizon_of b g.table.id.0 es ≤ x.index.birth) (decided : IsDecided es g.table.id.0 x.index.birth) (index : ℕ → IndexForm) (v : GroupData) (hs : List HeldBatch) (shown : IsShownBy b index es g v hs)
-    (none : (r : List Value) → state_of b es g.table.id.0 r x.index.birth ≡ None) where
+    (index : ℕ → IndexForm) (v : GroupData) (hs : List HeldBatch) (shown : IsShownBy b index es g v hs) (comes : (r : List Value) → Comes (shape_in (form_of b index g) v place r) (world_in (form_of b index g) es v place r) Ready) where
   inside : place < length v.indexes
   inside = (let l = within g.indexes.items place x x_is in let n = shown.count in omega (arith, l, n))
 
-  birth_is : (get_or v.indexes place no_part).birth ≡ x.index.birth
-  birth_is = (shown.parts place x x_is).birth
-
   pub kept_ready : GroupKept (form_of b index g) (es ++ e ∷ []) (ready_data place v)
   kept_ready = (let
-      comes = comes_ready (form_of b index g) es v shown.kept.group place inside (subst (λ (p : ℕ). horizon_of b g.table.id.0 es ≤ p) (sym birth_is) low) (subst (λ (p : ℕ). IsDecided es g.table.id.0 p) (sym birth_is) decided)
-      (subst (λ (p : ℕ). (r : List Value) → state_of b es g.table.id.0 r p ≡ None) (sym birth_is) none)
-      in let
       ready = group_ready (form_of b index g) es v shown.kept.group place inside comes
       in (group_idle (form_of b index g) es (ready_data place v) ready.kept e may (act_idle g.table.id e elsewhere)).kept)
 
@@ -112,15 +125,26 @@ module _ (b : Base) (es : List Entry) (e : Entry) (may : MayCome b es e) (t : Ta
   has_tallied_ready once k = record { held = k.held; tallied = tallied_ready once k.held k.tallied }
 
   -- where the index may become active, whatever the group shows
-  module _ (low : horizon_of b g.table.id.0 es ≤ a.index.index.birth) (decided : IsDecided es g.table.id.0 a.index.index.birth)
-      (none : (index : ℕ → IndexForm) (v : GroupData) (hs : List HeldBatch) → IsShownBy b index es g v hs → (r : List Value) → state_of b es g.table.id.0 r a.index.index.birth ≡ None) where
-    shown_ready : (index : ℕ → IndexForm) (v : GroupData) (hs : List HeldBatch) → IsShownBy b index es g v hs → IsShownBy b index es' g' (ready_data place v) hs
-    shown_ready index v hs shown = shown_active b es e may g g' place hs a s act_is index v shown (active_comes b es g g' place hs a index v shown low decided (none index v hs shown))
+  module _ (low : horizon_of b g.table.id.0 es ≤ a.index.index.birth) (decided : IsDecided es g.table.id.0 a.index.index.birth) (all : (r : List Value) → state_of b es g.table.id.0 r a.index.index.birth ≢ None → is_based es a.index.index.id.0 r ≡ true) where
+    comes : (index : ℕ → IndexForm) (v : GroupData) (hs : List HeldBatch) → IsShownBy b index es g v hs → AreBuilt (form_of b index g) es v → (r : List Value) → Comes (shape_in (form_of b index g) v place r) (world_in (form_of b index g) es v place r) Ready
+    comes = ready_comes b es g place a.index a.is low decided all
 
-    told_ready : (index : ℕ → IndexForm) (v : GroupData) (hs : List HeldBatch) → IsShownBy b index es g v hs → IsToldBy b index es g v → IsToldBy b index es' g' (ready_data place v)
-    told_ready index v hs shown told = record {
+    shown_ready : (index : ℕ → IndexForm) (v : GroupData) (hs : List HeldBatch) → IsShownBy b index es g v hs → AreBuilt (form_of b index g) es v → IsShownBy b index es' g' (ready_data place v) hs
+    shown_ready index v hs shown built = shown_active b es e may g g' place hs a s act_is index v shown (comes index v hs shown built)
+
+    -- it goes on as one that is built
+    built_then : (index : ℕ → IndexForm) (v : GroupData) (hs : List HeldBatch) → IsShownBy b index es g v hs → AreBuilt (form_of b index g) es v → AreBuilt (form_of b index g') es' (ready_data place v)
+    built_then index v hs shown built =
+        let ready : IndexPart = record (get_or v.indexes place no_part) { is_built = true } in
+        let step = active_steps b es e may g g' place hs a s act_is index v shown (comes index v hs shown built) in
+        built_table b index es' (ready_data place v) g.table g'.table (sym a.beside.table)
+        (built_elsewhere (form_of b index g) es (ready_data place v) step.kept.group e may elsewhere_now (λ j l. subst (IsUnbased (get_or (ready_data place v).indexes j no_part).id) (sym is) tt)
+        (built_step (form_of b index g) es v shown.kept.group (λ j r. at_index place j (Some Ready)) (ready_data place v) step.does (λ j r. run_ready (nat_eq place j)) (λ j l. same_ids v.indexes place ready refl j l) built))
+
+    told_ready : (index : ℕ → IndexForm) (v : GroupData) (hs : List HeldBatch) → IsShownBy b index es g v hs → AreBuilt (form_of b index g) es v → IsToldBy b index es g v → IsToldBy b index es' g' (ready_data place v)
+    told_ready index v hs shown built told = record {
       told = subst (λ (u : Table). AreTold (table_form b u.id index (row_form u)) es' (ready_data place v)) (sym a.beside.table)
-          (told_same (form_of b index g) es v shown.kept.group es' (ready_data place v) (kept_ready b es e may g elsewhere_now place a.index a.is low decided index v hs shown (none index v hs shown)) told.told refl refl
+          (told_same (form_of b index g) es v shown.kept.group es' (ready_data place v) (kept_ready b es e may g elsewhere_now place a.index a.is index v hs shown (comes index v hs shown built)) told.told refl refl
           (quiet_written (form_of b index g) es v shown.kept.group e quiet));
       own = λ j z at. elim (set_cases g.indexes.items place j (active a.index) z (sym (ap (λ (l : List IndexRegion). slice_get l j) a.indexes) ∙ at)) [
         | inl here ↦
@@ -150,6 +174,7 @@ module _ (b : Base) (es : List Entry) (e : Entry) (may : MayCome b es e) (t : Ta
         let number' : g'.table.id.0 ≡ t.0 = ap (λ (u : Table). u.id.0) a.beside.table ∙ number in
         let w = v g.table.id.0 in
         let shown = shown_forms b es g (forms_in xs g.table) index same w k.held k.shown in
+        let built = built_as b es g (forms_in xs g.table) index same w k.held k.shown k.built in
         shown_at b es' xs' (with_part v t.0 (ready_data place (v t.0))) g' g.table (ready_data place w) k.held a.beside.table
         (ap (with_part v t.0 (ready_data place (v t.0))) number' ∙ (with_part-here v t.0 (ready_data place (v t.0)) ∙ ap (λ (n : ℕ). ready_data place (v n)) (sym number)))
-        tallied (shown_ready index w k.held shown) (told_ready index w k.held shown (told_forms b es g (forms_in xs g.table) index same w k.told))
+        tallied (shown_ready index w k.held shown built) (told_ready index w k.held shown built (told_forms b es g (forms_in xs g.table) index same w k.told)) (built_then index w k.held shown built)

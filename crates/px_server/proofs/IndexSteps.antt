@@ -15,7 +15,7 @@ use Rattle.px_trail.specs.declared.entry.Entry.{Entry}
 use Rattle.px_trail.specs.Recorded.{Recorded}
 use Rattle.px_trail.specs.Trail.{Base}
 use Rattle.px_calls.specs.Calls.{DidDefine}
-use Rattle.px_calls.specs.Causes.{HasState, Refuses, define_cause}
+use Rattle.px_calls.specs.Causes.{Refuses, define_cause}
 use Rattle.px_calls.specs.Known.{Known}
 use Rattle.px_calls.specs.Requires.{IsIndexFit}
 use Rattle.px_calls.specs.declared.definition.Definition.TheVariants as definition
@@ -93,10 +93,10 @@ module _ {D : Type 0} (d : Ghosts D) (tells_left : (x : D) (moment file : ℕ) (
           (make_kept d tells_left up_to_now b damaged sound premise began disk catalog standing groups1 mid late closed k1 running place g1 l1 (there g1) seat what mine1 may1 fit1 s above1 most p made disk' passes touches leaves calls at
           g2 more1 catalog' stored defined trail' entries room enough)
 
-      pub making_did : (sound → HasState (known trail.entries) what.table.0 → ⊥) → (n : ℕ) → n ≡ length trail'.entries → DidDefine sound (known trail.entries) (known trail'.entries) (definition.Index what) (record { number = p.index.id.0; stamp = s; at = n })
-      making_did empty n long = subst (λ (es : List Entry). DidDefine sound (known es) (known trail'.entries) (definition.Index what) (record { number = p.index.id.0; stamp = s; at = n })) mid_same
+      pub making_did : (n : ℕ) → n ≡ length trail'.entries → DidDefine (known trail.entries) (known trail'.entries) (definition.Index what) (record { number = p.index.id.0; stamp = s; at = n })
+      making_did n long = subst (λ (es : List Entry). DidDefine (known es) (known trail'.entries) (definition.Index what) (record { number = p.index.id.0; stamp = s; at = n })) mid_same
           (make_did d tells_left up_to_now b damaged sound premise began disk catalog standing groups1 mid late closed k1 running place g1 l1 (there g1) seat what mine1 may1 fit1 s above1 most p made disk' passes touches leaves calls at
-          g2 more1 catalog' stored defined trail' entries room enough (subst (λ (es : List Entry). sound → HasState (known es) what.table.0 → ⊥) (sym mid_same) empty) n long)
+          g2 more1 catalog' stored defined trail' entries room enough n long)
 
     module _ (trail' : Recorded) (late' : Option Entry) (closed' : Option ℕ) (fault : CatalogFault) (untouched : (fault ≡ Full) ⊎ (fault ≡ Memory) → (disk' ≡ disk) × (catalog' ≡ catalog)) (rose : fault ≡ WriteFault → Rose d disk disk')
         (kept : fault ≢ WriteFault → (trail'.entries ≡ mid.entries) × (late' ≡ late) × (closed' ≡ closed))
@@ -112,8 +112,8 @@ module _ {D : Type 0} (d : Ghosts D) (tells_left : (x : D) (moment file : ℕ) (
           (λ no. ((kept no).0 ∙ mid_same, (kept no).1, (kept no).2))
           (λ is. ((shut is).0 ∙ ap (λ (es : List Entry). es ++ record { seat = seat; calls = d.calls disk'; act = Shut (d.calls disk') } ∷ []) mid_same, (shut is).1, (shut is).2))
 
-      pub making_refused : (f : StepFault) → (fault ≡ Full → f ≡ NotReady 0) → (fault ≡ Memory → f ≡ MemoryFault) → (fault ≡ WriteFault → f ≡ Failed) → Refuses (define_cause sound (definition.Index what)) (known trail.entries) (known trail'.entries) f
-      making_refused f full memory failed = unwritten_refused sound (known trail.entries) k.told.legal closed k.told.closing running (definition.Index what) refl f trail'.entries (d.calls disk') making_failed.told.legal fault full memory failed
+      pub making_refused : (f : StepFault) → (fault ≡ Full → f ≡ NotReady 0) → (fault ≡ Memory → f ≡ MemoryFault) → (fault ≡ WriteFault → f ≡ Failed) → Refuses (define_cause (definition.Index what)) (known trail.entries) (known trail'.entries) f
+      making_refused f full memory failed = unwritten_refused (known trail.entries) k.told.legal closed k.told.closing running (definition.Index what) refl f trail'.entries (d.calls disk') making_failed.told.legal fault full memory failed
           (λ no. (kept no).0 ∙ mid_same) (λ is. (shut is).0 ∙ ap (λ (es : List Entry). es ++ record { seat = seat; calls = d.calls disk'; act = Shut (d.calls disk') } ∷ []) mid_same)
 
   -- ---- an index is dropped
@@ -135,8 +135,8 @@ module _ {D : Type 0} (d : Ghosts D) (tells_left : (x : D) (moment file : ℕ) (
       dropping_kept = drop_kept d tells_left up_to_now b damaged sound premise began disk catalog standing groups mid late closed km running place g l g_is seat t mine i has unused disk' passes touches leaves calls at
           g2 less1 catalog' stored defined now now_is trail' entries room spare_enough
 
-      pub dropping_did : (n : ℕ) → n ≡ length trail'.entries → DidDefine sound (known trail.entries) (known trail'.entries) (definition.DropIndex t i) (record { number = i.0; stamp = 0; at = n })
-      dropping_did n long = subst (λ (es : List Entry). DidDefine sound (known es) (known trail'.entries) (definition.DropIndex t i) (record { number = i.0; stamp = 0; at = n })) mid_same
+      pub dropping_did : (n : ℕ) → n ≡ length trail'.entries → DidDefine (known trail.entries) (known trail'.entries) (definition.DropIndex t i) (record { number = i.0; stamp = 0; at = n })
+      dropping_did n long = subst (λ (es : List Entry). DidDefine (known es) (known trail'.entries) (definition.DropIndex t i) (record { number = i.0; stamp = 0; at = n })) mid_same
           (drop_did d tells_left up_to_now b damaged sound premise began disk catalog standing groups mid late closed km running place g l g_is seat t mine i has unused disk' passes touches leaves calls at
           g2 less1 catalog' stored defined now now_is trail' entries room spare_enough n long)
 
@@ -151,6 +151,6 @@ module _ {D : Type 0} (d : Ghosts D) (tells_left : (x : D) (moment file : ℕ) (
           (λ no. ((kept no).0 ∙ mid_same, (kept no).1, (kept no).2))
           (λ is. ((shut is).0 ∙ ap (λ (es : List Entry). es ++ record { seat = seat; calls = d.calls disk'; act = Shut (d.calls disk') } ∷ []) mid_same, (shut is).1, (shut is).2))
 
-      pub dropping_refused : (f : StepFault) → (fault ≡ Full → f ≡ NotReady 0) → (fault ≡ Memory → f ≡ MemoryFault) → (fault ≡ WriteFault → f ≡ Failed) → Refuses (define_cause sound (definition.DropIndex t i)) (known trail.entries) (known trail'.entries) f
-      dropping_refused f full memory failed = unwritten_refused sound (known trail.entries) k.told.legal closed k.told.closing running (definition.DropIndex t i) refl f trail'.entries (d.calls disk') dropping_failed.told.legal fault full memory failed
+      pub dropping_refused : (f : StepFault) → (fault ≡ Full → f ≡ NotReady 0) → (fault ≡ Memory → f ≡ MemoryFault) → (fault ≡ WriteFault → f ≡ Failed) → Refuses (define_cause (definition.DropIndex t i)) (known trail.entries) (known trail'.entries) f
+      dropping_refused f full memory failed = unwritten_refused (known trail.entries) k.told.legal closed k.told.closing running (definition.DropIndex t i) refl f trail'.entries (d.calls disk') dropping_failed.told.legal fault full memory failed
           (λ no. (kept no).0 ∙ mid_same) (λ is. (shut is).0 ∙ ap (λ (es : List Entry). es ++ record { seat = seat; calls = d.calls disk'; act = Shut (d.calls disk') } ∷ []) mid_same)

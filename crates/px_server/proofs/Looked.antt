@@ -108,6 +108,7 @@ module _ (g g' : Group) (looked : HasLooked g g') where
         tallied = still_tallied g seen has b es k.held k.tallied;
         shown = still_shown g seen has b (forms_in indexes g.table) es (v g.table.id.0) k.held k.shown;
         told = looked_told g seen has b (forms_in indexes g.table) es (v g.table.id.0) k.told;
+        built = k.built;
       }
       in subst (HasShown b es indexes v) (sym same) shown)
 
@@ -138,8 +139,9 @@ module _ {D : Type 0} (d : Ghosts D) (b : Base) (sound premise : Type 0) (began 
   on_all : (P : Group → Type 0) → (P g → P g') → AllByRecursion P groups → AllByRecursion P then
   on_all P on all = all_set number_in P P groups place g g' l is once (λ h other p. p) (on (all_at P groups place g l is all)) all
 
-  parts_then : (f : FolderData) (v : ℕ → GroupData) → HasParts d b catalog groups disk es f v → HasParts d b catalog then disk es f v
+  parts_then : (f : FolderData) (v : ℕ → GroupData) → HasParts d b sound catalog groups disk es f v → HasParts d b sound catalog then disk es f v
   parts_then f v p = record {
+    given = p.given;
     stored = p.stored;
     standing = p.standing;
     regions = on_all (IsOnDisk d disk f) (looked_disk g g' looked d disk f) p.regions;
@@ -172,7 +174,7 @@ module _ {D : Type 0} (d : Ghosts D) (b : Base) (sound premise : Type 0) (began 
     shown = λ given running. (let
         s = k.shown given running
         in record { told = s.told; each = on_all (HasShown b es standing.indexes s.told) (looked_shown g g' looked b es standing.indexes s.told) s.each });
-    server = with_parts d b premise (HasParts d b catalog groups) (HasParts d b catalog then) disk es late closed k.server (λ running given tells. (let
+    server = with_parts d b premise (HasParts d b sound catalog groups) (HasParts d b sound catalog then) disk es late closed k.server (λ running given tells. (let
         goes = k.server.goes_on running given tells
         in record { folder = goes.folder; groups = goes.groups; stands = goes.stands; explains = goes.explains; has = parts_then goes.folder goes.groups goes.has }));
     room = room_then;

@@ -39,6 +39,7 @@ use Rattle.px_noting.specs.Apart.{IsApart}
 use Rattle.px_recovery.proofs.Server.{newest_early}
 use Rattle.px_server.specs.Kept.{HasTallied, IsKept, IsShutAt, number_in, owed, steps_of, tells_fault}
 use Rattle.px_server.specs.Others.{Beginning}
+use Rattle.px_server.proofs.Built.{IsOfOwn}
 use Rattle.px_server.proofs.Acted.{IsActed, acted, once_at, right_at, tallied_at}
 use Rattle.px_server.proofs.Handed.{IsSameHorizon, index_handed, index_shut}
 use Rattle.px_server.proofs.Marked.{closes_go, closes_show, closes_to, marks_go, marks_show, marks_to}
@@ -92,7 +93,7 @@ module _ {D : Type 0} (d : Ghosts D) (tells_left : (x : D) (moment file : ℕ) (
     phase_told s p act phased a less = (let
         may = phase_may b es e g.table.id s p act phased (k.told.closing ∙ running) early
         in acted d b sound premise began disk catalog standing groups trail late closed k place g l is tells_left up_to_now e at (ap lasts_by act) (ap tells_fault act) may (ap (closing_step closed) act ∙ phase_unshut closed g.table.id s p)
-        (catalogue-snoc b es e ∙ (ap (catalogue_step (catalogue_of b es)) act ∙ phase_still g.table.id s p (catalogue_of b es))) (phase_apart e.act g.table.id s p (number_in g) act refl) g' (a may) trail' entries (omega (arith, less, room)))
+        (catalogue-snoc b es e ∙ (ap (catalogue_step (catalogue_of b es)) act ∙ phase_still g.table.id s p (catalogue_of b es))) (phase_apart e.act g.table.id s p (number_in g) act refl) (subst (IsOfOwn b es (number_in g)) (sym act) tt) g' (a may) trail' entries (omega (arith, less, room)))
 
     marked_kept : (f : FinishesMarks g g' m) → e.act ≡ PhaseDone g.table.id f.batch.batch.stamp 1 → IsIn es e.seat g.table.id.0 f.batch.batch.stamp batches.Marking → IsKept d b sound premise began disk catalog standing (slice_set groups place g') trail' late closed
     marked_kept f act phase =
@@ -134,13 +135,13 @@ module _ {D : Type 0} (d : Ghosts D) (tells_left : (x : D) (moment file : ℕ) (
       pub marks_shut : HandsMarks d g g' disk disk' m → IsKept d b sound premise began disk' catalog standing (slice_set groups place g') trail' None (Some call)
       marks_shut o =
           index_shut d tells_left up_to_now b sound premise began disk catalog standing groups trail late closed k running place g g' l is disk' o.place o.index o.region o.cells (marks_to d b es' g g' disk disk' m o) o.writes
-          shut call shut-is shut_at rose (λ t. traced_marks d g g' disk disk' m es' t o) (stamps_step g g' m o.batch (record o.batch { batch = record o.batch.batch { marks = o.rest } }) o.step.step refl) (marks_go d b es' g g' disk disk' m o) trail' entries
+          shut call shut-is shut_at rose (λ t. traced_marks d g g' disk disk' m es' t o) (stamps_step g g' m o.batch (record o.batch { batch = record o.batch.batch { marks = o.rest } }) o.step.step refl) (λ given. marks_go d b es' g g' disk disk' m o) trail' entries
           (let s = owed_step g g' m o.batch (record o.batch { batch = record o.batch.batch { marks = o.rest } }) o.step.step in omega (arith, s, room))
 
       pub closes_shut : HandsCloses d g g' disk disk' m → IsKept d b sound premise began disk' catalog standing (slice_set groups place g') trail' None (Some call)
       closes_shut o =
           index_shut d tells_left up_to_now b sound premise began disk catalog standing groups trail late closed k running place g g' l is disk' o.place o.index o.region o.cells (closes_to d b es' g g' disk disk' m o) o.writes
-          shut call shut-is shut_at rose (λ t. traced_closes d g g' disk disk' m es' t o) (stamps_step g g' m o.batch (record o.batch { batch = record o.batch.batch { closes = o.rest } }) o.step.step refl) (closes_go d b es' g g' disk disk' m o) trail' entries
+          shut call shut-is shut_at rose (λ t. traced_closes d g g' disk disk' m es' t o) (stamps_step g g' m o.batch (record o.batch { batch = record o.batch.batch { closes = o.rest } }) o.step.step refl) (λ given. closes_go d b es' g g' disk disk' m o) trail' entries
           (let s = owed_step g g' m o.batch (record o.batch { batch = record o.batch.batch { closes = o.rest } }) o.step.step in omega (arith, s, room))
 
 -- ---- all indexes

@@ -1,18 +1,21 @@
 -- A batch marks the rows of an index, or all of its indexes are marked.
 use Rattle.std.proofs.Common.{◌≡◌, ◌<◌, ℕ, List, ◌++◌, length, get_or, refl, sym, ap, subst, ◌∙◌, arith}
 use Rattle.std.proofs.Math.ListN.{set}
+use Rattle.std.specs.Prelude.{nat_eq}
 use Rattle.px_outside.specs.declared.disk.Disk.{Ghosts}
 use Rattle.px_cells.specs.CellData.{CellData}
 use Rattle.px_cells.specs.Order.{ReadsSame}
 use Rattle.px_trail.specs.declared.entry.Entry.{Entry}
-use Rattle.px_trail.specs.Batches.{IsIn}
+use Rattle.px_trail.specs.Batches.{IsIn, change_of, has}
 use Rattle.px_trail.specs.Batches as trail
 use Rattle.px_trail.specs.Trail.{Base}
 use Rattle.px_region.specs.Region.{read_of}
 use Rattle.px_forms.specs.Indexes.{IndexForm}
+use Rattle.px_indexed.specs.Worlds.{change_event, row_event}
+use Rattle.px_world.specs.Events.{Mark, Verify}
 use Rattle.px_groupworld.specs.Group.{GroupData, GroupKept, TableForm, no_part}
-use Rattle.px_groupworld.specs.Steps.{cells_data, gone_on, with_cells}
-use Rattle.px_openbatches.specs.Pending.{HeldBatch}
+use Rattle.px_groupworld.specs.Steps.{at_index, cells_data, gone_on, with_cells}
+use Rattle.px_openbatches.specs.Pending.{HeldBatch, to_verify}
 use Rattle.px_phases.specs.Batch.{IsHeldAs}
 use Rattle.px_phases.proofs.Held.{closes_handed, marks_handed}
 use Rattle.px_tablesteps.specs.Kept.{open_of}
@@ -25,7 +28,8 @@ use Rattle.px_batching.specs.Known.{held_marked, held_verified, own_of}
 use Rattle.px_batching.specs.Steps.{HandsCloses, HandsMarks, WroteCloses, WroteMarks}
 use Rattle.px_batching.proofs.May.{closes_at, marks_at}
 use Rattle.px_batching.proofs.Pairs.{tied_at, to_tied}
-use Rattle.px_batching.proofs.Shown.{closes_shown, marks_shown}
+use Rattle.px_batching.proofs.Shown.{closes_shown, closes_steps, marks_shown, marks_steps}
+use Rattle.px_server.proofs.Built.{built_step, run_at, run_change_at, same_ids}
 use Rattle.px_server.proofs.Handed.{IndexGoes, IndexShows, IndexThen, ToIndex}
 
 -- what a repair rests on, where the cells of the rows stay
@@ -74,12 +78,16 @@ module _ {D : Type 0} (d : Ghosts D) (b : Base) (es : List Entry) (g g' : Group)
 -- where all calls succeeded
 pub marks_show : {D : Type 0} (d : Ghosts D) (b : Base) (es : List Entry) (g g' : Group) (old new : D) (m : ℕ) (right : IsRightGroup g) (w : WroteMarks d g g' old new m) → IndexShows b es es g g' (held_marked m) w.hands.place w.hands.region
 unfolding marks_then
-marks_show d b es g g' old new m right w index v hs k shown told = (let
+marks_show d b es g g' old new m right w index v hs k shown told built = (let
     then = marks_then d b es g g' old new m w.hands index v hs k shown (read_of w.hands.region) w.written.reads
     in record {
       then = then;
       shown = marks_shown b index es g g' v hs right k shown m d old new w;
       told = told_still (form_of b index g) es v then.table_data shown.kept.group then.kept told.told refl refl;
+      built = (let
+          own = own_of m hs
+          in built_step (form_of b index g) es v shown.kept.group (λ i r. at_index own.done i (change_event (Mark own.stamp) (change_of own.changes r))) then.table_data (marks_steps b index es g g' v hs right k shown m d old new w).does
+          (λ i r. run_change_at (Mark own.stamp) tt (nat_eq own.done i) (change_of own.changes r)) (λ i l. same_ids v.indexes own.done (with_cells (read_of w.hands.region) (get_or v.indexes own.done no_part)) refl i l) built);
     })
 
 -- ---- what closes them
@@ -122,10 +130,14 @@ module _ {D : Type 0} (d : Ghosts D) (b : Base) (es : List Entry) (g g' : Group)
 
 pub closes_show : {D : Type 0} (d : Ghosts D) (b : Base) (es : List Entry) (g g' : Group) (old new : D) (m : ℕ) (right : IsRightGroup g) (w : WroteCloses d g g' old new m) → IndexShows b es es g g' (held_verified m) w.hands.place w.hands.region
 unfolding closes_then
-closes_show d b es g g' old new m right w index v hs k shown told = (let
+closes_show d b es g g' old new m right w index v hs k shown told built = (let
     then = closes_then d b es g g' old new m w.hands index v hs k shown (read_of w.hands.region) w.written.reads
     in record {
       then = then;
       shown = closes_shown b index es g g' v hs right k shown m d old new w;
       told = told_still (form_of b index g) es v then.table_data shown.kept.group then.kept told.told refl refl;
+      built = (let
+          own = own_of m hs
+          in built_step (form_of b index g) es v shown.kept.group (λ i r. at_index own.verified i (row_event (Verify own.stamp) (has (to_verify own) r))) then.table_data (closes_steps b index es g g' v hs right k shown m d old new w).does
+          (λ i r. run_at (Verify own.stamp) tt (nat_eq own.verified i) (has (to_verify own) r)) (λ i l. same_ids v.indexes own.verified (with_cells (read_of w.hands.region) (get_or v.indexes own.verified no_part)) refl i l) built);
     })

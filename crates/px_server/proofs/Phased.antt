@@ -18,6 +18,7 @@ use Rattle.px_region.specs.declared.region.Region.{Region}
 use Rattle.px_rows.specs.Spelled.{row_form}
 use Rattle.px_forms.specs.Indexes.{IndexForm}
 use Rattle.px_groupworld.specs.Group.{GroupData, GroupKept, table_form}
+use Rattle.px_groupworld.specs.Steps.{nothing}
 use Rattle.px_openbatches.specs.Pending.{HeldBatch}
 use Rattle.px_tablereads.specs.Told.{AreTold}
 use Rattle.px_tablereads.proofs.Tells.{quiet_written, told_same}
@@ -30,13 +31,14 @@ use Rattle.px_batching.specs.Steps.{FinishesCloses, FinishesMarks, IsBatchStep, 
 use Rattle.px_batching.proofs.May.{stamp_is}
 use Rattle.px_batching.proofs.Places.{within}
 use Rattle.px_batching.proofs.Right.{right_marked, right_verified}
-use Rattle.px_batching.proofs.Shown.{marked_shown_on, verified_shown_on}
+use Rattle.px_batching.proofs.Shown.{marked_shown_on, marked_steps, verified_shown_on, verified_steps}
 use Rattle.px_batching.proofs.Tallied.{tallied_marked, tallied_verified}
 use Rattle.px_defined.specs.Defined.{HasOnce}
 use Rattle.px_reading.specs.Doubts.{IsToldBy}
 use Rattle.px_recovery.specs.Folder.{FolderData}
 use Rattle.px_server.specs.Kept.{HasTallied, IsOnDisk, owed, owed_by, steps_of}
 use Rattle.px_server.proofs.Acted.{IsActed}
+use Rattle.px_server.proofs.Built.{IsUnbased, built_table, built_told}
 use Rattle.px_server.proofs.Numbers.{same_once}
 
 -- ---- the entries that a group owes after a step of one batch
@@ -90,7 +92,7 @@ module _ {D : Type 0} (d : Ghosts D) (disk : D) (b : Base) (es : List Entry) (cl
         once = λ open_. same_once g g' (ap (λ w. w.items) f.step.indexes) once;
         traced = λ call shut. absurd (let no : None ≡ Some call = sym running ∙ shut in cc);
         begun = λ call shut. absurd (let no : None ≡ Some call = sym running ∙ shut in cc);
-        shown = λ open_ index v hs k shown told. (let
+        shown = λ open_ index v hs k shown told built. (let
             then = marked_shown_on b index es g g' v hs right k shown m f e may (own_act hs k)
             in record {
               after = v;
@@ -98,6 +100,8 @@ module _ {D : Type 0} (d : Ghosts D) (disk : D) (b : Base) (es : List Entry) (cl
               tallied = now hs k;
               shown = then;
               told = quiet_told d disk g g' m f.batch (record f.batch { phase = Writing }) f.step b es e (none_written e.act g.table.id f.batch.batch.stamp 1 act) index v hs shown then told;
+              built = built_table b index (es ++ e ∷ []) v g.table g'.table (sym f.step.step.table)
+                  (built_told (form_of b index g) es v shown.kept.group nothing e v (marked_steps b index es g g' v hs right k shown m f e may (own_act hs k)).does (λ i r. tt) (λ i l. refl) (λ n. subst (IsUnbased n) (sym act) tt) built);
               high = omega arith;
               low = refl;
               cells = refl;
@@ -119,7 +123,7 @@ module _ {D : Type 0} (d : Ghosts D) (disk : D) (b : Base) (es : List Entry) (cl
         once = λ open_. same_once g g' (ap (λ w. w.items) f.step.indexes) once;
         traced = λ call shut. absurd (let no : None ≡ Some call = sym running ∙ shut in cc);
         begun = λ call shut. absurd (let no : None ≡ Some call = sym running ∙ shut in cc);
-        shown = λ open_ index v hs k shown told. (let
+        shown = λ open_ index v hs k shown told built. (let
             then = verified_shown_on b index es g g' v hs right k shown m f e may (own_act hs k)
             in record {
               after = v;
@@ -127,6 +131,8 @@ module _ {D : Type 0} (d : Ghosts D) (disk : D) (b : Base) (es : List Entry) (cl
               tallied = now hs k;
               shown = then;
               told = quiet_told d disk g g' m f.batch (record f.batch { phase = Closing }) f.step b es e (none_written e.act g.table.id f.batch.batch.stamp 3 act) index v hs shown then told;
+              built = built_table b index (es ++ e ∷ []) v g.table g'.table (sym f.step.step.table)
+                  (built_told (form_of b index g) es v shown.kept.group nothing e v (verified_steps b index es g g' v hs right k shown m e may (own_act hs k)).does (λ i r. tt) (λ i l. refl) (λ n. subst (IsUnbased n) (sym act) tt) built);
               high = omega arith;
               low = refl;
               cells = refl;

@@ -115,10 +115,11 @@ module _ {D : Type 0} (d : Ghosts D) (g g' : Group) (disk disk' : D) (s : StepsR
   })
 
   pub rows_show : (b : Base) (es : List Entry) → RowsShow b es es g g' (λ hs. hs) g'.rows
-  rows_show b es index v hs k shown told = record {
+  rows_show b es index v hs k shown told built = record {
     then = record { table_data = v; kept = shown.kept.group; high = omega arith; low = refl; cells = shown.rows ∙ sym s.steps.read; indexes = refl };
     shown = subst (λ (h : Group). IsShownBy b index es h v hs) (sym s.same) (record { kept = shown.kept; rows = shown.rows ∙ sym s.steps.read; count = shown.count; parts = shown.parts; forms = shown.forms });
     told = told.told;
+    built = built;
   }
 
   pub rows_traced : (es : List Entry) → AreTraced es g → AreTraced es g'
@@ -223,10 +224,11 @@ module _ {D : Type 0} (d : Ghosts D) (g g' : Group) (disk disk' : D) (s : StepsI
         (record { kept = shown.kept; rows = shown.rows; count = shown.count ∙ sym same_index.count; parts = part_of; forms = form_of_part })
 
   pub index_shows : (b : Base) (es : List Entry) → IndexShows b es es g g' (λ hs. hs) s.place s.region
-  index_shows b es index v hs k shown told = record {
+  index_shows b es index v hs k shown told built = record {
     then = record { table_data = v; kept = shown.kept.group; high = omega arith; low = refl; cells = refl; indexes = parts_same b es index v hs shown };
     shown = shown_then b es index v hs shown;
     told = told.told;
+    built = built;
   }
 
   pub index_traced : (es : List Entry) → AreTraced es g → AreTraced es g'

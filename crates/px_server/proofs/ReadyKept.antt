@@ -1,5 +1,5 @@
 -- An index becomes active: what is true of a server stays so.
-use Rattle.std.proofs.Common.{◌≡◌, ◌<◌, ◌≤◌, ◌⊎◌, ◌+◌, inl, inr, ℕ, true, Option, Some, None, List, [], ◌∷◌, ◌++◌, get_or, length, map, slice_get, refl, sym, ap, subst, ◌∙◌, arith}
+use Rattle.std.proofs.Common.{◌≡◌, ◌≢◌, ◌<◌, ◌≤◌, ◌⊎◌, ◌+◌, inl, inr, ℕ, true, Option, Some, None, List, [], ◌∷◌, ◌++◌, get_or, length, map, slice_get, refl, sym, ap, subst, ◌∙◌, arith}
 use Rattle.std.specs.Prelude.{IsTrue, nat_eq, sum_by}
 use Rattle.std.specs.List.{AllByRecursion, flat_map, slice_set}
 use Rattle.std.proofs.lemmas.Bool.{eqb-true}
@@ -20,6 +20,7 @@ use Rattle.px_trail.specs.Recorded.{Recorded}
 use Rattle.px_trail.specs.States.{state_of}
 use Rattle.px_trail.specs.Trail.{Base, Catalogue, catalogue_of, catalogue_step, horizon_of}
 use Rattle.px_trail.proofs.Growth.{catalogue-snoc}
+use Rattle.px_calls.specs.Requires.{is_based}
 use Rattle.px_forms.specs.Indexes.{IndexForm}
 use Rattle.px_indexed.specs.Idle.{IsElsewhere}
 use Rattle.px_region.specs.Region.{Holds}
@@ -54,7 +55,7 @@ use Rattle.px_server.proofs.Catalogued.{define_failed}
 use Rattle.px_server.proofs.Defines.{Defines}
 use Rattle.px_server.proofs.Drawn.{among_right, regions_in}
 use Rattle.px_server.proofs.IndexDefined.{index_kept}
-use Rattle.px_server.proofs.IndexReady.{files_ready, has_shown_ready, has_tallied_ready, kept_ready}
+use Rattle.px_server.proofs.IndexReady.{files_ready, has_shown_ready, has_tallied_ready, kept_ready, ready_comes}
 use Rattle.px_server.proofs.Lists.{all_at}
 use Rattle.px_server.proofs.IndexStands.{region_found, same_regions}
 
@@ -72,7 +73,7 @@ module _ {D : Type 0} (d : Ghosts D) (tells_left : (x : D) (moment file : ℕ) (
     (i : IndexId) (s : ℕ) (place : ℕ) (g : Group) (l : place < length groups) (g_is : get_or groups place g ≡ g) (e : Entry) (is : e.act ≡ IndexState g.table.id i Active s) (may : MayCome b trail.entries e)
     (m : ℕ) (x : IndexRegion) (x_is : slice_get g.indexes.items m ≡ Some x) (id : x.index.id ≡ i)
     (low : horizon_of b g.table.id.0 trail.entries ≤ x.index.birth) (decided : IsDecided trail.entries g.table.id.0 x.index.birth)
-    (none : (index : ℕ → IndexForm) (v : GroupData) (hs : List HeldBatch) → IsShownBy b index trail.entries g v hs → (r : List Value) → state_of b trail.entries g.table.id.0 r x.index.birth ≡ None)
+    (all : sound → (r : List Value) → state_of b trail.entries g.table.id.0 r x.index.birth ≢ None → is_based trail.entries x.index.id.0 r ≡ true)
     (disk' : D) (at : e.calls ≡ d.calls disk') (passes : Passes d disk disk' 4) (touches : HasCatalogue d catalog disk → TouchesOnly d disk disk' catalogue_files)
     (leaves : HasCatalogue d catalog disk → LeavesOnly d disk disk' (λ moment image. CatalogueStands image (standing_of catalog) ⊎ CatalogueStands image (after (standing_of catalog) (IndexIs (activated x.index))))) where
   abbrev es : List Entry
@@ -116,9 +117,9 @@ module _ {D : Type 0} (d : Ghosts D) (tells_left : (x : D) (moment file : ℕ) (
       subst (λ (r : ℕ). IsAmong r (region_numbers (standing_of catalog))) one (among_right x.index.region (flat_map regions_of (standing_of catalog).tables) (map (λ (w : Index). w.region) (standing_of catalog).indexes)
       (subst (λ (rs : List ℕ). IsAmong x.index.region rs) (sym (same_regions (standing_of catalog) standing (k.told.same running))) (region_found standing.indexes i.0 x.index in_standing))))
 
-  explains : (f : FolderData) (v : ℕ → GroupData) → f.standing ≡ standing_of catalog → AreUnmade f → AllByRecursion (HasShown b es f.standing.indexes v) groups → AllByRecursion (IsOnDisk d disk f) groups → Explains b es f v
+  explains : sound → (f : FolderData) (v : ℕ → GroupData) → f.standing ≡ standing_of catalog → AreUnmade f → AllByRecursion (HasShown b es f.standing.indexes v) groups → AllByRecursion (IsOnDisk d disk f) groups → Explains b es f v
       → Explains b es' (with_standing (after f.standing (IndexIs y)) f) (with_part v t.0 (ready_data m (v t.0)))
-  explains f v fs unmade shown on told = (let
+  explains given f v fs unmade shown on told = (let
       here : HasShown b es f.standing.indexes v g = all_at (HasShown b es f.standing.indexes v) groups place g l g_is shown
       in let
       held : IsOnDisk d disk f g = all_at (IsOnDisk d disk f) groups place g l g_is on
@@ -131,9 +132,11 @@ module _ {D : Type 0} (d : Ghosts D) (tells_left : (x : D) (moment file : ℕ) (
       in let
       inside : m < length (v t.0).indexes = (let a = within g.indexes.items m x x_is in let n = here.shown.count in omega (arith, a, n))
       in let
-      files = files_ready b es e may g elsewhere m x x_is low decided index (v t.0) here.held here.shown (none index (v t.0) here.held here.shown) here.told d disk f part.number (held.indexes m x x_is)
+      comes = ready_comes b es g m x x_is low decided (all given) index (v t.0) here.held here.shown here.built
       in let
-      kept = kept_ready b es e may g elsewhere m x x_is low decided index (v t.0) here.held here.shown (none index (v t.0) here.held here.shown)
+      files = files_ready b es e may g elsewhere m x x_is index (v t.0) here.held here.shown comes here.told d disk f part.number (held.indexes m x x_is)
+      in let
+      kept = kept_ready b es e may g elsewhere m x x_is index (v t.0) here.held here.shown comes
       in subst (λ (w : Index). Explains b es' (with_standing (after f.standing (IndexIs w)) f) (with_part v t.0 (ready_data m (v t.0)))) z.1.1
       (folder_ready b es f v told e may t i s is g.table found z.0 z.1.0 (ap (λ (w : Index). w.table.0) z.1.1 ∙ ap (λ (u : TableId). u.0) part.table) m inside ((here.shown.parts m x x_is).id ∙ ap (λ (n : IndexId). n.0) id)
       (subst (λ (w : Index). IsFilesOf (record (get_or (v t.0).indexes m no_part) { is_built = true }) (index_files f.regions w)) (sym z.1.1) files) kept))
@@ -160,8 +163,8 @@ module _ {D : Type 0} (d : Ghosts D) (tells_left : (x : D) (moment file : ℕ) (
     decided' : IsDecided es t.0 a.index.index.birth
     decided' = subst (λ (w : IndexRegion). IsDecided es t.0 w.index.birth) same decided
 
-    none' : (index : ℕ → IndexForm) (v : GroupData) (hs : List HeldBatch) → IsShownBy b index es g v hs → (r : List Value) → state_of b es t.0 r a.index.index.birth ≡ None
-    none' = subst (λ (w : IndexRegion). (index : ℕ → IndexForm) (v : GroupData) (hs : List HeldBatch) → IsShownBy b index es g v hs → (r : List Value) → state_of b es t.0 r w.index.birth ≡ None) same none
+    all' : sound → (r : List Value) → state_of b es t.0 r a.index.index.birth ≢ None → is_based es a.index.index.id.0 r ≡ true
+    all' given = subst (λ (w : IndexRegion). (r : List Value) → state_of b es t.0 r w.index.birth ≢ None → is_based es w.index.id.0 r ≡ true) same (all given)
 
     once : HasOnce g
     once = all_at HasOnce groups place g l g_is (k.each.once running)
@@ -184,5 +187,5 @@ module _ {D : Type 0} (d : Ghosts D) (tells_left : (x : D) (moment file : ℕ) (
         index_kept d tells_left up_to_now b sound premise began disk catalog standing groups trail late closed k running disk' (IndexIs y) passes touches leaves regions t e own may at (ready_data m) explains catalog' stored defined agrees refl
         place g g' l g_is refl a.beside.table (same_owed g g' a.beside)
         (λ p. tallied'.tallied.points) (right_active g g' m a) (once_active g g' m a) (has_tallied_ready b es e may t i s is g g' refl m a id' once)
-        (λ xs xs' forms forms'. has_shown_ready b es e may t i s is g g' refl m a id' low' decided' none' xs xs' forms forms' once) own_disk
+        (λ given xs xs' forms forms'. has_shown_ready b es e may t i s is g g' refl m a id' low' decided' (all' given) xs xs' forms forms' once) own_disk
         trail' entries room enough

@@ -25,7 +25,7 @@ roomy d b sound premise began disk catalog standing groups trail late closed k t
   told = subst (λ (es : List Entry). IsTold b es closed (standing_of catalog) standing) (sym same) k.told;
   each = subst (λ (es : List Entry). AreGroups b es closed standing.tables groups) (sym same) k.each;
   shown = λ given running. subst (λ (es : List Entry). AreShown b es standing.indexes groups) (sym same) (k.shown given running);
-  server = subst (λ (es : List Entry). IsServer d b premise (HasParts d b catalog groups) disk es late closed) (sym same) k.server;
+  server = subst (λ (es : List Entry). IsServer d b premise (HasParts d b sound catalog groups) disk es late closed) (sym same) k.server;
   room = (let room = k.room in omega (arith, room, more));
   blamed = subst (λ (es : List Entry). has_told es ≡ true → HasFailed d disk) (sym same) k.blamed;
   last_call = k.last_call;

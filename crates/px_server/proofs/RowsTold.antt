@@ -126,7 +126,7 @@ module _ {D : Type 0} (d : Ghosts D) (tells_left : (x : D) (moment file : ℕ) (
 
   of : IsOfTable b es (number_in g) e
   unfolding catalogue_step
-  of = record { may = may; still = λ c. refl; apart = apart; unshut = refl }
+  of = record { may = may; still = λ c. refl; apart = apart; unshut = refl; own = tt }
 
   points_then : HasPoints (es ++ e ∷ []) g'
   unfolding points_step

@@ -24,7 +24,7 @@ use Rattle.px_region.specs.Region.{Holds, RegionData}
 use Rattle.px_region.specs.declared.region.Region.{Region}
 use Rattle.px_schema.specs.declared.standing.Standing.{Standing}
 use Rattle.px_catalog.specs.Catalogue.{standing_of}
-use Rattle.px_group.specs.Group.{IsRightGroup, IsShownBy, IsTallied}
+use Rattle.px_group.specs.Group.{IsRightGroup, IsShownBy, IsTallied, form_of}
 use Rattle.px_group.specs.declared.group.Begun.{Begun}
 use Rattle.px_group.specs.declared.group.Group.{Group}
 use Rattle.px_group.specs.declared.group.IndexRegion.{IndexRegion}
@@ -43,9 +43,10 @@ use Rattle.px_opening.specs.Opened.{IsGroupOf, IsOpenedAs, IsOpenedRight, IsPart
 use Rattle.px_opening.specs.declared.opened.Opened.{Opened}
 use Rattle.px_opening.proofs.Groups.{all_opened, all_right, all_shown, all_tallied, opened_agrees, right_base, shown_explains, shown_of}
 use Rattle.px_opening.proofs.Lists.{all_both, all_mapped, all_slice, index_opened, rising_once}
-use Rattle.px_server.specs.Kept.{AreGroups, HasParts, HasPoints, HasShown, HasTallied, IsKept, IsOnDisk, IsTold, forms_in, owed, owed_by}
+use Rattle.px_server.specs.Kept.{AreBuilt, AreGroups, HasParts, HasPoints, HasShown, HasTallied, IsKept, IsOnDisk, IsTold, forms_in, owed, owed_by}
 use Rattle.px_server.specs.Others.{Beginning, OthersStay}
 use Rattle.px_server.specs.Started.{HoldsOwn, IsOpenedOn}
+use Rattle.px_server.proofs.Built.{are_opened}
 use Rattle.px_server.proofs.Lists.{all_weaker, distinct_map}
 use Rattle.px_server.proofs.Low.{low_base}
 
@@ -80,6 +81,7 @@ shown_opened b es indexes v g s = record {
   tallied = s.tallied;
   shown = subst (λ (forms : ℕ → IndexForm). IsShownBy b forms es g (v g.table.id.0) s.held) (sym (forms_opened indexes g.table)) s.shown;
   told = subst (λ (forms : ℕ → IndexForm). IsToldBy b forms es g (v g.table.id.0)) (sym (forms_opened indexes g.table)) s.told;
+  built = subst (λ (forms : ℕ → IndexForm). AreBuilt (form_of b forms g) es (v g.table.id.0)) (sym (forms_opened indexes g.table)) s.built;
 }
 
 state_twice : (s : IndexState) → opened_state (opened_state s) ≡ opened_state s
@@ -104,6 +106,7 @@ shown_group f v g tallied shown own = record {
     told = told_opened (table_form (base_of f) g.table.id (forms_in f.standing.indexes g.table) (row_form g.table)) (base_of f) (table_files f g.table) (v g.table.id.0) own.base own.opened;
     own = λ i x is. own.horizons i x is;
   };
+  built = are_opened (form_of (base_of f) (forms_in f.standing.indexes g.table) g) (v g.table.id.0);
 }
 
 front : (P : Region → Type 0) (a b : List Region) → AllByRecursion P (a ++ b) → AllByRecursion P a
@@ -196,8 +199,9 @@ module _ (o : Opened) (r : IsOpenedRight o) where
       (recursion_from_All Opens groups (all_opened o r)))
 
   module _ {D : Type 0} (d : Ghosts D) (tells_left : (x : D) (moment file : ℕ) (bytes : List ℕ) → d.left x moment file bytes → IsTrue d.tells) (disk : D) where
-    parts_first : IsOpenedOn d disk o → HasParts d b o.catalog groups disk [] f (shown_of f)
-    parts_first on = record {
+    parts_first : (sound : Type 0) → sound → IsOpenedOn d disk o → HasParts d b sound o.catalog groups disk [] f (shown_of f)
+    parts_first sound given on = record {
+      given = given;
       stored = on.catalogue;
       standing = refl;
       regions = all_both (IsGroupOf f.regions f.standing.indexes) (λ g. AllByRecursion (HoldsOwn d disk) (regions_of g)) (IsOnDisk d disk f) (λ g k all. on_disk d disk f g k all) groups own
@@ -205,24 +209,24 @@ module _ (o : Opened) (r : IsOpenedRight o) where
       shown = shown_first on.sound;
     }
 
-    server_first : (premise : Type 0) → (premise → IsTrue d.tells → IsOpenedOn d disk o) → IsServer d b premise (HasParts d b o.catalog groups) disk [] None None
+    server_first : (sound premise : Type 0) → (premise → IsTrue d.tells → IsOpenedOn d disk o) → (premise → IsTrue d.tells → sound) → IsServer d b premise (HasParts d b sound o.catalog groups) disk [] None None
     unfolding closing_from
-    server_first premise on = record {
+    server_first sound premise on told = record {
       early = tt;
       lasts = λ given moment image left. (let k = on given (tells_left disk moment 0 (image 0) (left 0)) in inl (sound_stands f image (k.left moment image left) k.sound));
       legal = λ given tells. legal-none b;
-      goes_on = λ running given tells. (let k = on given tells in record { folder = f; groups = shown_of f; stands = k.stands; explains = shown_explains f k.sound; has = parts_first k });
+      goes_on = λ running given tells. (let k = on given tells in record { folder = f; groups = shown_of f; stands = k.stands; explains = shown_explains f k.sound; has = parts_first sound (told given tells) k });
       unlate = λ running. refl;
       closing = refl;
       late_is = λ u is. absurd cc;
     }
 
-    kept_over : (sound premise : Type 0) (began : Beginning) → (sound → IsSoundFolder f) → (premise → IsTrue d.tells → IsOpenedOn d disk o) → OthersStay d b began disk [] → (room bytes : ℕ) → room ≡ 1 → IsKept d b sound premise began disk o.catalog (opened_standing stored) groups (record { entries = []; room = room; bytes_room = bytes }) None None
-    kept_over sound premise began sounds on others room bytes one = record {
+    kept_over : (sound premise : Type 0) (began : Beginning) → (sound → IsSoundFolder f) → (premise → IsTrue d.tells → IsOpenedOn d disk o) → (premise → IsTrue d.tells → sound) → OthersStay d b began disk [] → (room bytes : ℕ) → room ≡ 1 → IsKept d b sound premise began disk o.catalog (opened_standing stored) groups (record { entries = []; room = room; bytes_room = bytes }) None None
+    kept_over sound premise began sounds on told others room bytes one = record {
       told = told_first;
       each = groups_first;
       shown = λ given running. record { told = shown_of f; each = all_weaker (HasShown b [] stored.indexes (shown_of f)) (HasShown b [] (map as_opened stored.indexes) (shown_of f)) (λ g s. shown_opened b [] stored.indexes (shown_of f) g s) groups (shown_first (sounds given)) };
-      server = server_first premise on;
+      server = server_first sound premise on told;
       room = (let none = owes_nothing f groups own in omega (arith, none, one));
       blamed = λ told. absurd (false≢true told);
       last_call = λ call is. absurd cc;
@@ -230,10 +234,10 @@ module _ (o : Opened) (r : IsOpenedRight o) where
     }
 
     -- a server with nothing done
-    pub kept_first : (b' : Base) → b' ≡ b → (sound premise : Type 0) (began : Beginning) → (sound → IsSoundFolder f) → (premise → IsTrue d.tells → IsOpenedOn d disk o) → OthersStay d b began disk [] → (standing : Standing) → standing ≡ opened_standing stored → (trail : Recorded) → trail.entries ≡ [] → trail.room ≡ 1
+    pub kept_first : (b' : Base) → b' ≡ b → (sound premise : Type 0) (began : Beginning) → (sound → IsSoundFolder f) → (premise → IsTrue d.tells → IsOpenedOn d disk o) → (premise → IsTrue d.tells → sound) → OthersStay d b began disk [] → (standing : Standing) → standing ≡ opened_standing stored → (trail : Recorded) → trail.entries ≡ [] → trail.room ≡ 1
         → IsKept d b' sound premise began disk o.catalog standing groups trail None None
-    kept_first b' base sound premise began sounds on others standing stands trail none one =
+    kept_first b' base sound premise began sounds on told others standing stands trail none one =
         subst (λ (x : Base). IsKept d x sound premise began disk o.catalog standing groups trail None None) (sym base)
         (subst (λ (x : Standing). IsKept d b sound premise began disk o.catalog x groups trail None None) (sym stands)
         (subst (λ (es : List Entry). IsKept d b sound premise began disk o.catalog (opened_standing stored) groups (record { entries = es; room = trail.room; bytes_room = trail.bytes_room }) None None) (sym none)
-        (kept_over sound premise began sounds on others trail.room trail.bytes_room one)))
+        (kept_over sound premise began sounds on told others trail.room trail.bytes_room one)))

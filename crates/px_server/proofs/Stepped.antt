@@ -89,7 +89,7 @@ module _ {D : Type 0} (d : Ghosts D) (tells_left : (x : D) (moment file : ℕ) (
         (λ c tells numbered h r a other. lacks_rows b es c tells numbered g right_here standing_here h r a other)
         (λ c tells numbered. rows_number c numbered t g.rows.number g.table (stored_table b es c tells g standing_here) (rows_one g right_here))
         (λ f on. on.rows) (inl (record { number = t; table = g.table; stands = standing_here.table; own = rows_one g right_here })) shut call shut-is shut_at rose (rows_traced d g g' disk disk' s es) (ap (λ (h : Group). map stamp_in h.batches.items) s.same) trail' entries (let o = owed_rows in omega (arith, o, room))
-        (λ f v told on has. unchanged g.rows g'.rows (λ x o. o.rows) f v told on)
+        (λ given f v told on has. unchanged g.rows g'.rows (λ x o. o.rows) f v told on)
 
   -- ---- of an index's region
 
@@ -121,7 +121,7 @@ module _ {D : Type 0} (d : Ghosts D) (tells_left : (x : D) (moment file : ℕ) (
         handed_shut d tells_left up_to_now b sound premise began disk catalog standing groups trail late closed k running place g g' l is (ap (λ (h : Group). h.table) s.same) (ap (λ (h : Group). h.points) s.same) disk' s.index.region s.region [] s.steps.writes
         (λ c tells numbered h r a other. lacks_index b es c tells numbered g right_here standing_here h r a other s.place s.index s.is)
         drawn (λ f on. on.indexes s.place s.index s.is) (inr (record { number = s.index.index.id.0; index = s.index.index; stands = standing_here.index s.place s.index s.is; own = part.number })) shut call shut-is shut_at rose (index_traced d g g' disk disk' s es) (ap (λ (h : Group). map stamp_in h.batches.items) s.same) trail' entries (let o = owed_index in omega (arith, o, room))
-        (λ f v told on has. unchanged s.index.region s.region (λ x o. o.indexes s.place s.index s.is) f v told on)
+        (λ given f v told on has. unchanged s.index.region s.region (λ x o. o.indexes s.place s.index s.is) f v told on)
 
   -- ---- of either
 

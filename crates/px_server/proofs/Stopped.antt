@@ -97,13 +97,13 @@ module _ {D : Type 0} (d : Ghosts D) (b : Base) (sound premise : Type 0) (began 
       begun = λ c is. all_weaker (HasBegun es) (HasBegun es') begun_on groups' begun;
     }
 
-    pub stopped : (catalog' : Catalog) (late' : Option Entry) → IsServer d b premise (HasParts d b catalog' groups') disk' (es ++ shut ∷ []) late' (Some call) → HasFailed d disk' → (premise → IsTrue d.tells → OthersStay d b began disk' es)
+    pub stopped : (catalog' : Catalog) (late' : Option Entry) → IsServer d b premise (HasParts d b sound catalog' groups') disk' (es ++ shut ∷ []) late' (Some call) → HasFailed d disk' → (premise → IsTrue d.tells → OthersStay d b began disk' es)
         → (trail' : Recorded) → trail'.entries ≡ es ++ shut ∷ [] → HasTrailRoom (Some call) groups' trail' → IsKept d b sound premise began disk' catalog' standing groups' trail' late' (Some call)
     stopped catalog' late' server failed others trail' entries room = record {
       told = subst (λ (ys : List Entry). IsTold b ys (Some call) (catalog'.standing) standing) (sym entries) (told catalog'.standing);
       each = subst (λ (ys : List Entry). AreGroups b ys (Some call) standing.tables groups') (sym entries) each;
       shown = λ given none. absurd cc;
-      server = subst (λ (ys : List Entry). IsServer d b premise (HasParts d b catalog' groups') disk' ys late' (Some call)) (sym entries) server;
+      server = subst (λ (ys : List Entry). IsServer d b premise (HasParts d b sound catalog' groups') disk' ys late' (Some call)) (sym entries) server;
       room = room;
       blamed = λ is. failed;
       last_call = λ c same. call_is c call same ∙ called;
@@ -111,6 +111,6 @@ module _ {D : Type 0} (d : Ghosts D) (b : Base) (sound premise : Type 0) (began 
     }
 
   -- and where no group has changed
-  pub stopped_same : (catalog' : Catalog) (late' : Option Entry) → IsServer d b premise (HasParts d b catalog' groups) disk' (es ++ shut ∷ []) late' (Some call) → HasFailed d disk' → (premise → IsTrue d.tells → OthersStay d b began disk' es)
+  pub stopped_same : (catalog' : Catalog) (late' : Option Entry) → IsServer d b premise (HasParts d b sound catalog' groups) disk' (es ++ shut ∷ []) late' (Some call) → HasFailed d disk' → (premise → IsTrue d.tells → OthersStay d b began disk' es)
       → (trail' : Recorded) → trail'.entries ≡ es ++ shut ∷ [] → HasTrailRoom (Some call) groups trail' → IsKept d b sound premise began disk' catalog' standing groups trail' late' (Some call)
   stopped_same = stopped groups k.each.stand k.each.points (all_traced b es groups (k.each.right running) (k.each.tallied running)) (all_begun b es groups (k.each.tallied running))

@@ -32,28 +32,28 @@ use Rattle.px_server.proofs.Found.{closed_by}
 use Rattle.px_server.proofs.Reserved.{roomy}
 use Rattle.px_server.proofs.Seen.{one_more, stays}
 
-module _ (sound : Type 0) (k : Known) (legal : IsLegal k.base k.seen) (closed : Option ℕ) (closing : closing_call k.seen ≡ closed) where
-  pub refused_closed : (x : _) (call : ℕ) → closed ≡ Some call → Refuses (define_cause sound x) k k (Closed call)
+module _ (k : Known) (legal : IsLegal k.base k.seen) (closed : Option ℕ) (closing : closing_call k.seen ≡ closed) where
+  pub refused_closed : (x : _) (call : ℕ) → closed ≡ Some call → Refuses (define_cause x) k k (Closed call)
   refused_closed x call is = closed_by k legal closed closing call is
 
   module _ (running : closed ≡ None) where
-    pub refused_memory : (x : _) → Refuses (define_cause sound x) k k Memory
+    pub refused_memory : (x : _) → Refuses (define_cause x) k k Memory
     refused_memory x = (tt, stays k legal, closing ∙ running)
 
-    pub table_full : (what : NewTable) → Refuses (define_cause sound (d.Table what)) k k (NotReady 0)
+    pub table_full : (what : NewTable) → Refuses (define_cause (d.Table what)) k k (NotReady 0)
     table_full what = (refl, stays k legal, closing ∙ running)
 
-    pub drop_full : (t : TableId) → Refuses (define_cause sound (d.DropTable t)) k k (NotReady 0)
+    pub drop_full : (t : TableId) → Refuses (define_cause (d.DropTable t)) k k (NotReady 0)
     drop_full t = (refl, stays k legal, closing ∙ running)
 
-    pub drop_in_use : (t : TableId) (count : ℕ) → uses_of t.0 k.seen ≡ count → 0 < count → Refuses (define_cause sound (d.DropTable t)) k k (InUse count)
+    pub drop_in_use : (t : TableId) (count : ℕ) → uses_of t.0 k.seen ≡ count → 0 < count → Refuses (define_cause (d.DropTable t)) k k (InUse count)
     drop_in_use t count is some = ((is, some), stays k legal, closing ∙ running)
 
   module _ (standing : Standing) (agrees : Agrees standing (catalogue_of k.base k.seen)) where
-    pub drop_no_table : closed ≡ None → (t : TableId) → AllByRecursion (λ (x : Table). x.id.0 ≡ t.0 → ⊥) standing.tables → Refuses (define_cause sound (d.DropTable t)) k k NoTable
+    pub drop_no_table : closed ≡ None → (t : TableId) → AllByRecursion (λ (x : Table). x.id.0 ≡ t.0 → ⊥) standing.tables → Refuses (define_cause (d.DropTable t)) k k NoTable
     drop_no_table running t all = (lacks k.base k.seen standing agrees t.0 all, stays k legal, closing ∙ running)
 
-    limits : (what : NewTable) (which : Bound) (count : ℕ) → IsUnmade standing closed what (Limit which count) → Refuses (define_cause sound (d.Table what)) k k (Limit which count)
+    limits : (what : NewTable) (which : Bound) (count : ℕ) → IsUnmade standing closed what (Limit which count) → Refuses (define_cause (d.Table what)) k k (Limit which count)
     limits what Tables count is = ((is.1, (let n = tables_counted k standing agrees in let full = is.2 in omega (arith, n, full))), stays k legal, closing ∙ is.0)
     limits what Ids count is = ((is.1, runs_out k standing agrees (length what.least_keys + 1) is.2), stays k legal, closing ∙ is.0)
     limits what Rows count is = absurd is
@@ -73,7 +73,7 @@ module _ (sound : Type 0) (k : Known) (legal : IsLegal k.base k.seen) (closed : 
     limits what Region count is = absurd is
     limits what Build count is = absurd is
 
-    pub refused_unmade : (what : NewTable) (f : StepFault) → IsUnmade standing closed what f → Refuses (define_cause sound (d.Table what)) k k f
+    pub refused_unmade : (what : NewTable) (f : StepFault) → IsUnmade standing closed what f → Refuses (define_cause (d.Table what)) k k f
     refused_unmade what (Closed call) is = closed_by k legal closed closing call is
     refused_unmade what NameExists is = (taken standing (catalogue_of k.base k.seen) agrees what.name is.1, stays k legal, closing ∙ is.0)
     refused_unmade what (Limit which count) is = limits what which count is
@@ -91,13 +91,13 @@ module _ (sound : Type 0) (k : Known) (legal : IsLegal k.base k.seen) (closed : 
 
   -- with an entry
   module _ (es : List Entry) (calls : ℕ) (then : IsLegal k.base es) where
-    pub refused_write : (x : _) → (call : ℕ) → es ≡ k.seen ++ record { seat = k.seat; calls = calls; act = Shut call } ∷ [] → Refuses (define_cause sound x) k (record k { seen = es }) WriteFault
+    pub refused_write : (x : _) → (call : ℕ) → es ≡ k.seen ++ record { seat = k.seat; calls = calls; act = Shut call } ∷ [] → Refuses (define_cause x) k (record k { seen = es }) WriteFault
     refused_write x call is = (tt, (call, one_more k es calls (Shut call) legal is then))
 
-    pub did_make : (what : NewTable) (m : Answered) → m.stamp ≡ 0 → m.at ≡ length es → es ≡ k.seen ++ record { seat = k.seat; calls = calls; act = MadeAct (record { 0 = m.number }) what } ∷ [] → DidDefine sound k (record k { seen = es }) (d.Table what) m
+    pub did_make : (what : NewTable) (m : Answered) → m.stamp ≡ 0 → m.at ≡ length es → es ≡ k.seen ++ record { seat = k.seat; calls = calls; act = MadeAct (record { 0 = m.number }) what } ∷ [] → DidDefine k (record k { seen = es }) (d.Table what) m
     did_make what m stamp at is = record { adds = one_more k es calls (MadeAct (record { 0 = m.number }) what) legal is then; made = stamp; at = at }
 
-    pub did_drop : (t : TableId) (m : Answered) → m.number ≡ t.0 → m.stamp ≡ 0 → m.at ≡ length es → es ≡ k.seen ++ record { seat = k.seat; calls = calls; act = Dropped t None } ∷ [] → DidDefine sound k (record k { seen = es }) (d.DropTable t) m
+    pub did_drop : (t : TableId) (m : Answered) → m.number ≡ t.0 → m.stamp ≡ 0 → m.at ≡ length es → es ≡ k.seen ++ record { seat = k.seat; calls = calls; act = Dropped t None } ∷ [] → DidDefine k (record k { seen = es }) (d.DropTable t) m
     did_drop t m number stamp at is = record { adds = one_more k es calls (Dropped t None) legal is then; made = (number, stamp); at = at }
 
 -- nothing was done but that room was taken

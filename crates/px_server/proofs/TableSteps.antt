@@ -73,17 +73,17 @@ module _ {D : Type 0} (d : Ghosts D) (b : Base) (sound premise : Type 0) (began 
   unwritten_kept WriteFault untouched rose kept shut room = shut_kept (failed_rose d disk disk' (rose refl)) (shut refl) room
 
 -- and what is told of it
-module _ (sound : Type 0) (k : Known) (legal : IsLegal k.base k.seen) (closed : Option ℕ) (closing : closing_call k.seen ≡ closed) (x : Definition)
-    (full : Refuses (define_cause sound x) k k (NotReady 0)) (memory : Refuses (define_cause sound x) k k MemoryFault) (f : StepFault) (es : List Entry) (calls : ℕ) (legal' : IsLegal k.base es) where
-  same_known : es ≡ k.seen → Refuses (define_cause sound x) k k f → Refuses (define_cause sound x) k (record k { seen = es }) f
-  same_known is r = subst (λ (ys : List Entry). Refuses (define_cause sound x) k (record k { seen = ys }) f) (sym is) r
+module _ (k : Known) (legal : IsLegal k.base k.seen) (closed : Option ℕ) (closing : closing_call k.seen ≡ closed) (x : Definition)
+    (full : Refuses (define_cause x) k k (NotReady 0)) (memory : Refuses (define_cause x) k k MemoryFault) (f : StepFault) (es : List Entry) (calls : ℕ) (legal' : IsLegal k.base es) where
+  same_known : es ≡ k.seen → Refuses (define_cause x) k k f → Refuses (define_cause x) k (record k { seen = es }) f
+  same_known is r = subst (λ (ys : List Entry). Refuses (define_cause x) k (record k { seen = ys }) f) (sym is) r
 
   pub unwritten_refused : (fault : CatalogFault) → (fault ≡ Full → f ≡ NotReady 0) → (fault ≡ Memory → f ≡ MemoryFault) → (fault ≡ WriteFault → f ≡ Failed) → (fault ≢ WriteFault → es ≡ k.seen)
-      → (fault ≡ WriteFault → es ≡ k.seen ++ record { seat = k.seat; calls = calls; act = Shut calls } ∷ []) → Refuses (define_cause sound x) k (record k { seen = es }) f
-  unwritten_refused Full is_full is_memory is_failed kept shut = same_known (kept (λ is. absurd cc)) (subst (λ (g : StepFault). Refuses (define_cause sound x) k k g) (sym (is_full refl)) full)
-  unwritten_refused Memory is_full is_memory is_failed kept shut = same_known (kept (λ is. absurd cc)) (subst (λ (g : StepFault). Refuses (define_cause sound x) k k g) (sym (is_memory refl)) memory)
+      → (fault ≡ WriteFault → es ≡ k.seen ++ record { seat = k.seat; calls = calls; act = Shut calls } ∷ []) → Refuses (define_cause x) k (record k { seen = es }) f
+  unwritten_refused Full is_full is_memory is_failed kept shut = same_known (kept (λ is. absurd cc)) (subst (λ (g : StepFault). Refuses (define_cause x) k k g) (sym (is_full refl)) full)
+  unwritten_refused Memory is_full is_memory is_failed kept shut = same_known (kept (λ is. absurd cc)) (subst (λ (g : StepFault). Refuses (define_cause x) k k g) (sym (is_memory refl)) memory)
   unwritten_refused WriteFault is_full is_memory is_failed kept shut =
-      subst (λ (g : StepFault). Refuses (define_cause sound x) k (record k { seen = es }) g) (sym (is_failed refl)) (refused_write sound k legal closed closing es calls legal' x calls (shut refl))
+      subst (λ (g : StepFault). Refuses (define_cause x) k (record k { seen = es }) g) (sym (is_failed refl)) (refused_write k legal closed closing es calls legal' x calls (shut refl))
 
 -- ---- a table is made
 

@@ -59,8 +59,9 @@ use Rattle.px_standing.specs.Agrees.{Agrees, IsUnused, opened_standing}
 use Rattle.px_standing.proofs.Defined.{table_gone as agrees_gone, table_made as agrees_made}
 use Rattle.px_standing.proofs.Looked.{free as is_free, tables_below}
 use Rattle.px_server.specs.inner.Making.{table_made}
-use Rattle.px_server.specs.Kept.{HasFailed, HasShown, HasTrailRoom, IsKept, IsOnDisk, IsShutAt, forms_in, number_in, owed, owed_by, table_in_group}
+use Rattle.px_server.specs.Kept.{AreBuilt, HasFailed, HasShown, HasTrailRoom, IsKept, IsOnDisk, IsShutAt, forms_in, number_in, owed, owed_by, table_in_group}
 use Rattle.px_server.specs.Others.{Beginning}
+use Rattle.px_server.proofs.Built.{none_built}
 use Rattle.px_server.proofs.Catalogued.{define_failed, define_kept}
 use Rattle.px_server.proofs.Drawn.{regions_in}
 use Rattle.px_server.proofs.Lists.{all_weaker}
@@ -206,8 +207,8 @@ module _ {D : Type 0} (d : Ghosts D) (tells_left : (x : D) (moment file : ℕ) (
       abbrev moved : (ℕ → GroupData) → ℕ → GroupData
       moved v = with_part v t.0 made_data
 
-      explains : (f : FolderData) (v : ℕ → GroupData) → f.standing ≡ standing_of catalog → AreUnmade f → AllByRecursion (HasShown b es f.standing.indexes v) groups → AllByRecursion (IsOnDisk d disk f) groups → Explains b es f v → Explains b (es ++ e ∷ []) (with_standing (after f.standing (TableIs made)) f) (moved v)
-      explains f v stands unmade shown on told =
+      explains : sound → (f : FolderData) (v : ℕ → GroupData) → f.standing ≡ standing_of catalog → AreUnmade f → AllByRecursion (HasShown b es f.standing.indexes v) groups → AllByRecursion (IsOnDisk d disk f) groups → Explains b es f v → Explains b (es ++ e ∷ []) (with_standing (after f.standing (TableIs made)) f) (moved v)
+      explains given f v stands unmade shown on told =
           subst (λ (n : ℕ). Explains b (es ++ e ∷ []) (with_standing (after f.standing (TableIs (made_table n t what))) f) (moved v)) (ap (λ (s : Standing). s.next) stands ∙ same_next)
           (explains_made b k.told.base es f unmade v told e made_may t what refl)
 
@@ -255,6 +256,7 @@ module _ {D : Type 0} (d : Ghosts D) (tells_left : (x : D) (moment file : ℕ) (
               tallied = tallied;
               shown = subst (λ (w : GroupData). IsShownBy b (forms_in xs g.table) now g w []) (sym here) (shown xs);
               told = subst (λ (w : GroupData). IsToldBy b (forms_in xs g.table) now g w) (sym here) (told_now xs);
+              built = subst (λ (w : GroupData). AreBuilt (form_of b (forms_in xs g.table) g) now w) (sym here) (none_built (form_of b (forms_in xs g.table) g) now made_data refl);
             })
 
         its_region : g.rows.number ≡ standing.next
@@ -287,7 +289,7 @@ module _ {D : Type 0} (d : Ghosts D) (tells_left : (x : D) (moment file : ℕ) (
             (groups ++ g ∷ [])
             (map-append table_in_group groups (g ∷ []) ∙ (ap (λ (ts : List Table). ts ++ g.table ∷ []) k.each.stand ∙ (ap (λ (x : Table). standing.tables ++ x ∷ []) fresh.table ∙ sym (put_last t.0 standing.tables made refl tables_away))))
             (λ P Q. Q g) (carries_end t.0 g groups away) (λ v q other. with_part-other v t.0 made_data q other)
-            tallied.points right (once_new made g fresh) (record { held = []; tallied = tallied }) (λ xs xs' forms forms' v. has_shown xs' v) on_disk trail' entries room
+            tallied.points right (once_new made g fresh) (record { held = []; tallied = tallied }) (λ given xs xs' forms forms' v. has_shown xs' v) on_disk trail' entries room
 
     -- ---- a table is dropped
 
@@ -303,8 +305,8 @@ module _ {D : Type 0} (d : Ghosts D) (tells_left : (x : D) (moment file : ℕ) (
       no_region : (n : ℕ) → IsAmong n (regions_in (TableGone t)) → IsAmong n (region_numbers (standing_of catalog)) ⊎ ((standing_of catalog).next ≤ n)
       no_region n among = absurd (false≢true among)
 
-      explains_less : (f : FolderData) (v : ℕ → GroupData) → f.standing ≡ standing_of catalog → AreUnmade f → AllByRecursion (HasShown b es f.standing.indexes v) groups → AllByRecursion (IsOnDisk d disk f) groups → Explains b es f v → Explains b (es ++ gone ∷ []) (with_standing (after f.standing (TableGone t)) f) v
-      explains_less f v is unmade shown on told = explains_gone b es f v told gone gone_may t refl
+      explains_less : sound → (f : FolderData) (v : ℕ → GroupData) → f.standing ≡ standing_of catalog → AreUnmade f → AllByRecursion (HasShown b es f.standing.indexes v) groups → AllByRecursion (IsOnDisk d disk f) groups → Explains b es f v → Explains b (es ++ gone ∷ []) (with_standing (after f.standing (TableGone t)) f) v
+      explains_less given f v is unmade shown on told = explains_gone b es f v told gone gone_may t refl
 
       pub gone_failed : (shut : Entry) (call : ℕ) → IsShutAt shut call → call ≡ d.calls disk' → HasFailed d disk' → (catalog' : Catalog) (trail' : Recorded) → trail'.entries ≡ es ++ shut ∷ [] → HasTrailRoom (Some call) groups trail'
           → IsKept d b sound premise began disk' catalog' standing groups trail' (Some gone) (Some call)
@@ -319,4 +321,4 @@ module _ {D : Type 0} (d : Ghosts D) (tells_left : (x : D) (moment file : ℕ) (
           (ap opened_standing defined ∙ same_after (standing_of catalog) standing (TableGone t) (k.told.same running))
           (filter (keeps t.0) groups) (map_less t.0 groups ∙ ap (other_tables t.0) k.each.stand)
           (λ P Q. Unit {0}) (carries_less t.0 groups) (λ v q other. refl)
-          tt tt tt tt (λ xs xs' forms forms' v. tt) (λ tells f is blank unmade. tt) trail' entries room
+          tt tt tt tt (λ given xs xs' forms forms' v. tt) (λ tells f is blank unmade. tt) trail' entries room

@@ -21,7 +21,7 @@ use Rattle.px_reading.specs.Doubts.{IsToldBy}
 use Rattle.px_tablereads.specs.Told.{AreTold}
 use Rattle.px_tablereads.proofs.Tells.{quiet_written, told_same}
 
-cells_elsewhere : (f : TableForm) (es : List Entry) (v : GroupData) → AreTold f es v → (e : Entry) → IsElsewhere f.id e.act → AreTold f (es ++ e ∷ []) v
+pub cells_elsewhere : (f : TableForm) (es : List Entry) (v : GroupData) → AreTold f es v → (e : Entry) → IsElsewhere f.id e.act → AreTold f (es ++ e ∷ []) v
 cells_elsewhere f es v told e n = record {
   each = λ r s l w. told.each r s l (ap (λ (h : History RowState). is_written (h.fate s)) (sym (history_idle f.rows.shape f.base es f.id 0 e (act_idle f.id e n).still r)) ∙ w);
 }

@@ -26,6 +26,7 @@ use Rattle.px_beginning.specs.Leaves.{AreAlike, LeavesGroup}
 use Rattle.px_beginning.proofs.Leaves.{before, shown_after, tallied_after}
 use Rattle.px_server.specs.Kept.{HasPoints, HasTallied, IsOnDisk, owed, owed_by}
 use Rattle.px_server.proofs.Acted.{IsActed}
+use Rattle.px_server.proofs.Built.{built_table}
 
 -- ---- indexes
 
@@ -83,12 +84,13 @@ module _ (g g' : Group) (l : LeavesGroup g g') where
     once = λ run. left_once once;
     traced = λ call shut. absurd (open_shut closed running call shut);
     begun = λ call shut. absurd (open_shut closed running call shut);
-    shown = λ run index v hs tallied shown told. record {
+    shown = λ run index v hs tallied shown told built. record {
       after = v;
       held = hs;
       tallied = tallied_after g g' l b es hs tallied;
       shown = shown_after g g' l b es hs index v shown;
       told = left_told b index es v told;
+      built = built_table b index es v g.table g'.table (sym l.table) built;
       high = omega arith;
       low = refl;
       cells = refl;

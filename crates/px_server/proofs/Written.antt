@@ -18,7 +18,7 @@ use Rattle.px_trail.specs.declared.entry.Entry.{Entry}
 use Rattle.px_trail.specs.Lasting.{lasting}
 use Rattle.px_trail.specs.Legal.{Follows, MayCome}
 use Rattle.px_trail.specs.Recorded.{Recorded}
-use Rattle.px_trail.specs.Trail.{Base, Catalogue, catalogue_of, catalogue_step, open_points, points_step}
+use Rattle.px_trail.specs.Trail.{Base, Catalogue, catalogue_of, catalogue_step, closing_step, open_points, points_step}
 use Rattle.px_trail.proofs.Growth.{catalogue-snoc, legal-snoc, points-snoc}
 use Rattle.px_wal.specs.Files.{HasFile}
 use Rattle.px_region.specs.Region.{Holds, Stands, with_batch}
@@ -46,7 +46,7 @@ use Rattle.px_server.specs.Kept.{AreGroups, AreShown, HasBegun, HasFailed, HasPa
 use Rattle.px_server.specs.Others.{Beginning, IsRegion, OthersStay}
 use Rattle.px_server.proofs.Beside.{once_then, points_then, right_then, shown_then, tallied_then}
 use Rattle.px_server.proofs.Blamed.{blamed_on, blamed_quiet, failed_rose}
-use Rattle.px_server.proofs.Changed.{changed_server, lasting_server, late_entry, shut_server}
+use Rattle.px_server.proofs.Changed.{changed_server, lasting_server, late_entry, noted_step, shut_server}
 use Rattle.px_server.proofs.Elsewhere.{GoesOnIn, IsOfTable, no_entry, one_entry}
 use Rattle.px_server.proofs.Framed.{catalogue_framed, group_framed}
 use Rattle.px_server.proofs.Lists.{all_at, all_both, all_set, all_weaker, map_set}
@@ -108,10 +108,10 @@ module _ {D : Type 0} (d : Ghosts D) (tells_left : (x : D) (moment file : ℕ) (
 
   -- ---- the disk
 
-  holds_now : (goes : GoesOn d b (HasParts d b catalog groups) disk es) → Holds d old disk (goes.folder.regions old.number)
+  holds_now : (goes : GoesOn d b (HasParts d b sound catalog groups) disk es) → Holds d old disk (goes.folder.regions old.number)
   holds_now goes = holds goes.folder (own (IsOnDisk d disk goes.folder) goes.has.regions)
 
-  drawn_now : (goes : GoesOn d b (HasParts d b catalog groups) disk es) → (1 ≤ old.number) × (old.number < goes.folder.standing.next)
+  drawn_now : (goes : GoesOn d b (HasParts d b sound catalog groups) disk es) → (1 ≤ old.number) × (old.number < goes.folder.standing.next)
   drawn_now goes = drawn goes.folder.standing goes.explains.catalogue goes.explains.numbered
 
   past : premise → IsTrue d.tells → (moment : ℕ) (image : Image) → moment < d.calls disk → IsLeft d.left disk' moment image → IsLeft d.left disk moment image
@@ -124,7 +124,7 @@ module _ {D : Type 0} (d : Ghosts D) (tells_left : (x : D) (moment file : ℕ) (
       goes = k.server.goes_on running given tells
       in others_on d b began es disk disk' (HasFile old.number) (own_file b es old.number stands) (writes.touches (goes.folder.regions old.number) (holds_now goes)) (k.others given tells))
 
-  left_now : (es' : List Entry) (goes : GoesOn d b (HasParts d b catalog groups) disk es) → TellsThen b es' (changed goes.folder) goes.groups t → LeavesFolder d b disk disk' es' goes.folder
+  left_now : (es' : List Entry) (goes : GoesOn d b (HasParts d b sound catalog groups) disk es) → TellsThen b es' (changed goes.folder) goes.groups t → LeavesFolder d b disk disk' es' goes.folder
   left_now es' goes tells = (let
       s = goes.folder.regions old.number
       in record {
@@ -147,8 +147,8 @@ module _ {D : Type 0} (d : Ghosts D) (tells_left : (x : D) (moment file : ℕ) (
 
   module _ (es' : List Entry) (by : GoesOnIn b es es' t) (right : IsRightGroup g') (next : List HeldBatch → List HeldBatch) (tallied : (hs : List HeldBatch) → IsTallied b es g hs → IsTallied b es' g' (next hs)) (only : HasOnce g → HasOnce g') (points' : HasPoints es' g')
       (written : HasWritten d old new disk disk' cells) (on_disk : (f : FolderData) → TellsCatalogue f.standing (catalogue_of b es) → AreNumbered f.standing → IsOnDisk d disk f g → IsOnDisk d disk' (changed f) g')
-      (shows : (indexes : List Index) (v : ℕ → GroupData) → HasShown b es indexes v g → ShowsThen b es' indexes v t g')
-      (moves : (f : FolderData) (v : ℕ → GroupData) → Explains b es f v → IsOnDisk d disk f g → HasShown b es f.standing.indexes v g → MovesThen b es' f.standing.indexes (changed f) v t g') where
+      (shows : sound → (indexes : List Index) (v : ℕ → GroupData) → HasShown b es indexes v g → ShowsThen b es' indexes v t g')
+      (moves : sound → (f : FolderData) (v : ℕ → GroupData) → Explains b es f v → IsOnDisk d disk f g → HasShown b es f.standing.indexes v g → MovesThen b es' f.standing.indexes (changed f) v t g') where
     told_then : IsTold b es' closed (standing_of catalog) standing
     told_then = record {
       base = k.told.base;
@@ -173,16 +173,16 @@ module _ {D : Type 0} (d : Ghosts D) (tells_left : (x : D) (moment file : ℕ) (
     }
 
     shown_set : (indexes : List Index) (v : ℕ → GroupData) (w : GroupData) → HasShown b es' indexes (with_part v t w) g' → AllByRecursion (HasShown b es indexes v) groups → AllByRecursion (HasShown b es' indexes (with_part v t w)) then
-    shown_set indexes v w here all = shown_then b es es' groups once place g g' l is by.others indexes v w all here
+    shown_set indexes v w here all = shown_then b es es' groups once place g g' l is by.others (k.each.right running) indexes v w all here
 
     shown_now : sound → closed ≡ None → AreShown b es' standing.indexes then
     shown_now given open_ = (let
         s = k.shown given open_
         in let
-        w = shows standing.indexes s.told (own (HasShown b es standing.indexes s.told) s.each)
+        w = shows given standing.indexes s.told (own (HasShown b es standing.indexes s.told) s.each)
         in record { told = with_part s.told t w.table_data; each = shown_set standing.indexes s.told w.table_data w.has s.each })
 
-    regions_then : (goes : GoesOn d b (HasParts d b catalog groups) disk es) → AllByRecursion (IsOnDisk d disk' (changed goes.folder)) then
+    regions_then : (goes : GoesOn d b (HasParts d b sound catalog groups) disk es) → AllByRecursion (IsOnDisk d disk' (changed goes.folder)) then
     regions_then goes = (let
         f = goes.folder
         in let
@@ -197,7 +197,7 @@ module _ {D : Type 0} (d : Ghosts D) (tells_left : (x : D) (moment file : ℕ) (
         (λ h other a. group_framed d disk disk' old.number touches f (with_batch s cells) h (lacks f.standing goes.explains.catalogue goes.explains.numbered h a.1.0 a.1.1.tallied.standing other) a.0)
         (on_disk f goes.explains.catalogue goes.explains.numbered (own (IsOnDisk d disk f) goes.has.regions)) all)
 
-    moves_then : (goes : GoesOn d b (HasParts d b catalog groups) disk es) → MovesFolder d b (HasParts d b catalog then) disk disk' es' goes.folder
+    moves_then : (goes : GoesOn d b (HasParts d b sound catalog groups) disk es) → MovesFolder d b (HasParts d b sound catalog then) disk disk' es' goes.folder
     unfolding left_now
     moves_then goes = (let
         f = goes.folder
@@ -208,13 +208,14 @@ module _ {D : Type 0} (d : Ghosts D) (tells_left : (x : D) (moment file : ℕ) (
         in let
         touches = writes.touches s (holds_now goes)
         in let
-        m = moves f v goes.explains (own (IsOnDisk d disk f) goes.has.regions) (own (HasShown b es f.standing.indexes v) goes.has.shown)
+        m = moves goes.has.given f v goes.explains (own (IsOnDisk d disk f) goes.has.regions) (own (HasShown b es f.standing.indexes v) goes.has.shown)
         in let
         stands = subst (λ (n : ℕ). StandsIn d disk' (HasFile n) (λ image. Stands n image (with_batch s cells))) writes.number (holds_stands d new disk' (with_batch s cells) (written.holds s (holds_now goes)))
         in record {
           left = left_now es' goes (record { table_data = m.table_data; explains = m.explains });
           on = moved_at d disk disk' f goes.stands old.number (drawn_now goes).0 (drawn_now goes).1 (with_batch s cells) touches stands;
           has = record {
+            given = goes.has.given;
             stored = catalogue_framed d disk disk' old.number touches catalog (drawn_now goes).0 goes.has.stored;
             standing = goes.has.standing;
             regions = regions_then goes;
@@ -223,12 +224,12 @@ module _ {D : Type 0} (d : Ghosts D) (tells_left : (x : D) (moment file : ℕ) (
         })
 
     -- the rest, once the server's promise on stops is told
-    finish : IsServer d b premise (HasParts d b catalog then) disk' es' late closed → (has_told es' ≡ true → HasFailed d disk') → (premise → IsTrue d.tells → OthersStay d b began disk' es') → (trail' : Recorded) → trail'.entries ≡ es' → owed g' + trail.room ≤ owed g + trail'.room → IsKept d b sound premise began disk' catalog standing then trail' late closed
+    finish : IsServer d b premise (HasParts d b sound catalog then) disk' es' late closed → (has_told es' ≡ true → HasFailed d disk') → (premise → IsTrue d.tells → OthersStay d b began disk' es') → (trail' : Recorded) → trail'.entries ≡ es' → owed g' + trail.room ≤ owed g + trail'.room → IsKept d b sound premise began disk' catalog standing then trail' late closed
     finish server blamed others trail' entries room = record {
       told = subst (λ (ys : List Entry). IsTold b ys closed (standing_of catalog) standing) (sym entries) told_then;
       each = subst (λ (ys : List Entry). AreGroups b ys closed standing.tables then) (sym entries) groups_then;
       shown = λ given open_. subst (λ (ys : List Entry). AreShown b ys standing.indexes then) (sym entries) (shown_now given open_);
-      server = subst (λ (ys : List Entry). IsServer d b premise (HasParts d b catalog then) disk' ys late closed) (sym entries) server;
+      server = subst (λ (ys : List Entry). IsServer d b premise (HasParts d b sound catalog then) disk' ys late closed) (sym entries) server;
       room = room_then closed trail' (omega (arith, room));
       blamed = subst (λ (ys : List Entry). has_told ys ≡ true → HasFailed d disk') (sym entries) blamed;
       last_call = λ c same. absurd (none_some c (sym running ∙ same));
@@ -238,15 +239,15 @@ module _ {D : Type 0} (d : Ghosts D) (tells_left : (x : D) (moment file : ℕ) (
   module _ (right : IsRightGroup g') (next : List HeldBatch → List HeldBatch) (only : HasOnce g → HasOnce g') (written : HasWritten d old new disk disk' cells)
       (on_disk : (f : FolderData) → TellsCatalogue f.standing (catalogue_of b es) → AreNumbered f.standing → IsOnDisk d disk f g → IsOnDisk d disk' (changed f) g') where
     -- and no entry is added
-    pub handed : (tallied : (hs : List HeldBatch) → IsTallied b es g hs → IsTallied b es g' (next hs)) → (shows : (indexes : List Index) (v : ℕ → GroupData) → HasShown b es indexes v g → ShowsThen b es indexes v t g')
-        → (moves : (f : FolderData) (v : ℕ → GroupData) → Explains b es f v → IsOnDisk d disk f g → HasShown b es f.standing.indexes v g → MovesThen b es f.standing.indexes (changed f) v t g') → owed g' ≤ owed g
+    pub handed : (tallied : (hs : List HeldBatch) → IsTallied b es g hs → IsTallied b es g' (next hs)) → (shows : sound → (indexes : List Index) (v : ℕ → GroupData) → HasShown b es indexes v g → ShowsThen b es indexes v t g')
+        → (moves : sound → (f : FolderData) (v : ℕ → GroupData) → Explains b es f v → IsOnDisk d disk f g → HasShown b es f.standing.indexes v g → MovesThen b es f.standing.indexes (changed f) v t g') → owed g' ≤ owed g
         → IsKept d b sound premise began disk' catalog standing then trail late closed
     handed tallied shows moves room = (let
         by = no_entry b es k.told.legal t
         in let
         points' : HasPoints es g' = λ seat s. (let mine = own (HasPoints es) k.each.points in ap (λ (x : Table). open_points seat x.id.0 s es) table ∙ (mine seat s ∙ ap (λ p. points_in seat s p.items) (sym points)))
         in finish es by right next tallied only points' written on_disk shows moves
-        (changed_server d tells_left up_to_now b premise (HasParts d b catalog groups) (HasParts d b catalog then) disk es late closed k.server running disk' writes.counts.later past
+        (changed_server d tells_left up_to_now b premise (HasParts d b sound catalog groups) (HasParts d b sound catalog then) disk es late closed k.server running disk' writes.counts.later past
         (moves_then es by right next tallied only points' written on_disk shows moves))
         (blamed_on d disk disk' es writes.counts.later writes.counts.faults_later k.blamed) others_on_disk trail refl (omega (arith, room)))
 
@@ -255,15 +256,35 @@ module _ {D : Type 0} (d : Ghosts D) (tells_left : (x : D) (moment file : ℕ) (
       abbrev es' : List Entry
       es' = es ++ e ∷ []
 
-      pub handed_told : (tallied : (hs : List HeldBatch) → IsTallied b es g hs → IsTallied b es' g' (next hs)) → (points' : HasPoints es' g') → (shows : (indexes : List Index) (v : ℕ → GroupData) → HasShown b es indexes v g → ShowsThen b es' indexes v t g')
-          → (moves : (f : FolderData) (v : ℕ → GroupData) → Explains b es f v → IsOnDisk d disk f g → HasShown b es f.standing.indexes v g → MovesThen b es' f.standing.indexes (changed f) v t g')
+      pub handed_told : (tallied : (hs : List HeldBatch) → IsTallied b es g hs → IsTallied b es' g' (next hs)) → (points' : HasPoints es' g') → (shows : sound → (indexes : List Index) (v : ℕ → GroupData) → HasShown b es indexes v g → ShowsThen b es' indexes v t g')
+          → (moves : sound → (f : FolderData) (v : ℕ → GroupData) → Explains b es f v → IsOnDisk d disk f g → HasShown b es f.standing.indexes v g → MovesThen b es' f.standing.indexes (changed f) v t g')
           → (trail' : Recorded) → trail'.entries ≡ es' → owed g' + trail.room ≤ owed g + trail'.room → IsKept d b sound premise began disk' catalog standing then trail' late closed
       handed_told tallied points' shows moves trail' entries room = (let
           by = one_entry b es k.told.legal t e of
           in finish es' by right next tallied only points' written on_disk shows moves
-          (lasting_server d tells_left up_to_now b premise (HasParts d b catalog groups) (HasParts d b catalog then) disk es late closed k.server running disk' writes.counts.later past writes.counts.at_most e lasts at of.may of.unshut
+          (lasting_server d tells_left up_to_now b premise (HasParts d b sound catalog groups) (HasParts d b sound catalog then) disk es late closed k.server running disk' writes.counts.later past writes.counts.at_most e lasts at of.may of.unshut
           (moves_then es' by right next tallied only points' written on_disk shows moves))
           (blamed_quiet d disk' es e quiet (blamed_on d disk disk' es writes.counts.later writes.counts.faults_later k.blamed))
+          (λ given tells. others_more d b began es (e ∷ []) disk' (others_on_disk given tells)) trail' entries room)
+
+    -- and an entry that doesn't last comes after them: the folder is told without it too
+    module _ (e : Entry) (quiet : lasting e ≡ false) (at : e.calls ≡ d.calls disk') (of : IsOfTable b es t e) (calm : tells_fault e.act ≡ false) where
+      abbrev noted : List Entry
+      noted = es ++ e ∷ []
+
+      pub handed_noted : (tallied : (hs : List HeldBatch) → IsTallied b es g hs → IsTallied b noted g' (next hs)) → (points' : HasPoints noted g') → (shows : sound → (indexes : List Index) (v : ℕ → GroupData) → HasShown b es indexes v g → ShowsThen b noted indexes v t g')
+          → (tells : sound → (f : FolderData) (v : ℕ → GroupData) → Explains b es f v → IsOnDisk d disk f g → HasShown b es f.standing.indexes v g → TellsThen b es (changed f) v t)
+          → (moves : sound → (f : FolderData) (v : ℕ → GroupData) → Explains b es f v → IsOnDisk d disk f g → HasShown b es f.standing.indexes v g → MovesThen b noted f.standing.indexes (changed f) v t g')
+          → (trail' : Recorded) → trail'.entries ≡ noted → owed g' + trail.room ≤ owed g + trail'.room → IsKept d b sound premise began disk' catalog standing then trail' late closed
+      unfolding left_now moves_then
+      handed_noted tallied points' shows tells moves trail' entries room = (let
+          by = one_entry b es k.told.legal t e of
+          in finish noted by right next tallied only points' written on_disk shows moves
+          (noted_step d tells_left up_to_now b premise (HasParts d b sound catalog groups) (HasParts d b sound catalog then) disk es late closed k.server running disk' writes.counts.later past e quiet at of.may (ap (λ (o : Option ℕ). closing_step o e.act) running ∙ (of.unshut ∙ sym running))
+          (λ goes. left_now es goes (tells goes.has.given goes.folder goes.groups goes.explains (own (IsOnDisk d disk goes.folder) goes.has.regions) (own (HasShown b es goes.folder.standing.indexes goes.groups) goes.has.shown)))
+          (λ goes. (moves_then noted by right next tallied only points' written on_disk shows moves goes).on)
+          (moves_then noted by right next tallied only points' written on_disk shows moves))
+          (blamed_quiet d disk' es e calm (blamed_on d disk disk' es writes.counts.later writes.counts.faults_later k.blamed))
           (λ given tells. others_more d b began es (e ∷ []) disk' (others_on_disk given tells)) trail' entries room)
 
   -- ---- a call failed
@@ -307,7 +328,7 @@ module _ {D : Type 0} (d : Ghosts D) (tells_left : (x : D) (moment file : ℕ) (
         in same ∙ (subst (λ (a : Act). points_step seat h.table.id.0 s (open_points seat h.table.id.0 s es) shut.seat a ≡ open_points seat h.table.id.0 s es) (sym shut-is)
         (apart_points h.table.id seat s (open_points seat h.table.id.0 s es) shut.seat (Shut call) tt) ∙ p seat s))
 
-    closed_then : (o : Option Entry) → IsServer d b premise (HasParts d b catalog then) disk' ended o (Some call) → IsKept d b sound premise began disk' catalog standing then trail' o (Some call)
+    closed_then : (o : Option Entry) → IsServer d b premise (HasParts d b sound catalog then) disk' ended o (Some call) → IsKept d b sound premise began disk' catalog standing then trail' o (Some call)
     closed_then o server = (let
         mine : HasPoints es g' = λ seat s. (let was = own (HasPoints es) k.each.points in ap (λ (x : Table). open_points seat x.id.0 s es) table ∙ (was seat s ∙ ap (λ p. points_in seat s p.items) (sym points)))
         in let
@@ -333,7 +354,7 @@ module _ {D : Type 0} (d : Ghosts D) (tells_left : (x : D) (moment file : ℕ) (
           told = subst (λ (ys : List Entry). IsTold b ys (Some call) (standing_of catalog) standing) (sym entries) told;
           each = subst (λ (ys : List Entry). AreGroups b ys (Some call) standing.tables then) (sym entries) each;
           shown = λ given none. absurd cc;
-          server = subst (λ (ys : List Entry). IsServer d b premise (HasParts d b catalog then) disk' ys o (Some call)) (sym entries) server;
+          server = subst (λ (ys : List Entry). IsServer d b premise (HasParts d b sound catalog then) disk' ys o (Some call)) (sym entries) server;
           room = room_then (Some call) trail' (let s : spare closed ≡ 1 = ap spare running in omega (arith, room, s));
           blamed = λ told_of. failed_rose d disk disk' rose;
           last_call = λ c same. call_is c call same ∙ called;
@@ -341,14 +362,14 @@ module _ {D : Type 0} (d : Ghosts D) (tells_left : (x : D) (moment file : ℕ) (
         })
 
     -- with nothing under way
-    pub handed_shut : ((f : FolderData) (v : ℕ → GroupData) → Explains b es f v → IsOnDisk d disk f g → HasShown b es f.standing.indexes v g → TellsThen b es (changed f) v t) → IsKept d b sound premise began disk' catalog standing then trail' None (Some call)
+    pub handed_shut : (sound → (f : FolderData) (v : ℕ → GroupData) → Explains b es f v → IsOnDisk d disk f g → HasShown b es f.standing.indexes v g → TellsThen b es (changed f) v t) → IsKept d b sound premise began disk' catalog standing then trail' None (Some call)
     handed_shut tells =
-        closed_then None (shut_server d tells_left up_to_now b premise (HasParts d b catalog groups) (HasParts d b catalog then) disk es late closed k.server running disk' writes.counts.later past shut call shut-is shut_at
-        (λ goes. left_now es goes (tells goes.folder goes.groups goes.explains (own (IsOnDisk d disk goes.folder) goes.has.regions) (own (HasShown b es goes.folder.standing.indexes goes.groups) goes.has.shown))))
+        closed_then None (shut_server d tells_left up_to_now b premise (HasParts d b sound catalog groups) (HasParts d b sound catalog then) disk es late closed k.server running disk' writes.counts.later past shut call shut-is shut_at
+        (λ goes. left_now es goes (tells goes.has.given goes.folder goes.groups goes.explains (own (IsOnDisk d disk goes.folder) goes.has.regions) (own (HasShown b es goes.folder.standing.indexes goes.groups) goes.has.shown))))
 
     -- with an entry that is late
     pub handed_late : (u : Entry) → lasting u ≡ true → u.calls ≡ d.calls disk' → MayCome b es u
         → ((f : FolderData) (v : ℕ → GroupData) → Explains b es f v → IsOnDisk d disk f g → HasShown b es f.standing.indexes v g → TellsThen b (es ++ u ∷ []) (changed f) v t) → IsKept d b sound premise began disk' catalog standing then trail' (Some u) (Some call)
     handed_late u lasts at may tells =
-        closed_then (Some u) (late_entry d tells_left up_to_now b premise (HasParts d b catalog groups) (HasParts d b catalog then) disk es late closed k.server running disk' writes.counts.later past shut call shut-is shut_at writes.counts.at_most u lasts at may
+        closed_then (Some u) (late_entry d tells_left up_to_now b premise (HasParts d b sound catalog groups) (HasParts d b sound catalog then) disk es late closed k.server running disk' writes.counts.later past shut call shut-is shut_at writes.counts.at_most u lasts at may
         (λ goes. left_now (es ++ u ∷ []) goes (tells goes.folder goes.groups goes.explains (own (IsOnDisk d disk goes.folder) goes.has.regions) (own (HasShown b es goes.folder.standing.indexes goes.groups) goes.has.shown))))

@@ -8,10 +8,12 @@ use Rattle.px_values.specs.declared.change.Change.{Change}
 use Rattle.px_trail.specs.declared.entry.Act.{Act}
 use Rattle.px_trail.specs.declared.entry.Act.TheVariants.{Wrote}
 use Rattle.px_trail.specs.declared.entry.Entry.{Entry}
-use Rattle.px_trail.specs.Batches.{rows_of}
+use Rattle.px_trail.specs.Batches.{has, rows_of}
 use Rattle.px_trail.specs.Legal.{Follows, IsWritable, MayCome}
 use Rattle.px_trail.specs.Trail.{Base}
 use Rattle.px_forms.specs.Indexes.{IndexForm}
+use Rattle.px_indexed.specs.Worlds.{row_event}
+use Rattle.px_world.specs.Events.{Write}
 use Rattle.px_forms.specs.Several.{cells_for}
 use Rattle.px_batchcells.proofs.RowsPut.{writes_some}
 use Rattle.px_groupworld.specs.Group.{GroupData, TableForm}
@@ -35,7 +37,8 @@ use Rattle.px_batching.specs.Known.{own_of}
 use Rattle.px_batching.specs.Steps.{HandsPuts, WrotePuts}
 use Rattle.px_batching.proofs.May.{stamp_is}
 use Rattle.px_batching.proofs.Pairs.{tied_at, to_tied}
-use Rattle.px_batching.proofs.Shown.{wrote_shown}
+use Rattle.px_batching.proofs.Shown.{wrote_shown, wrote_steps}
+use Rattle.px_server.proofs.Built.{IsUnbased, built_told, run_row}
 use Rattle.px_server.proofs.Handed.{RowsGo, RowsShow, RowsThen, ToRows}
 
 module _ {D : Type 0} (d : Ghosts D) (b : Base) (es : List Entry) (g g' : Group) (old new : D) (m : ℕ) (phase : Phase) (o : HandsPuts d g g' old new m phase) (e : Entry) (may : MayCome b es e) (act : e.act ≡ Wrote g.table.id o.batch.batch.stamp (rows_of o.batch.batch.changes)) where
@@ -100,8 +103,11 @@ wrote_to d g g' old new m phase o = record { table = o.step.step.table; points =
 module _ {D : Type 0} (d : Ghosts D) (b : Base) (es : List Entry) (g g' : Group) (old new : D) (m : ℕ) (right : IsRightGroup g) (w : WrotePuts d g g' old new m) (e : Entry) (may : MayCome b es e) (act : e.act ≡ Wrote g.table.id w.hands.batch.batch.stamp (rows_of w.hands.batch.batch.changes)) where
   pub wrote_shows : RowsShow b es (es ++ e ∷ []) g g' (λ hs. held_wrote (own_of m hs).stamp (rows_of w.hands.batch.batch.changes) hs) w.hands.region
   unfolding rows_then
-  wrote_shows index v hs k shown told = record {
+  wrote_shows index v hs k shown told built = record {
     then = rows_then d b es g g' old new m Verifying w.hands e may act index v hs k shown (read_of w.hands.region) w.written.reads;
     shown = wrote_shown b index es g g' v hs right k shown m d old new w e may (own_act d b es g g' old new m Verifying w.hands e may act index v hs k shown (read_of w.hands.region) w.written.reads);
     told = told_then d b es g g' old new m Verifying w.hands e may act index v hs k shown (read_of w.hands.region) w.written.reads told.told;
+    built = built_told (form_of b index g) es v shown.kept.group (λ i r. row_event (Write (own_of m hs).stamp) (has (rows_of w.hands.batch.batch.changes) r)) e (wrote_data (read_of w.hands.region) v)
+        (wrote_steps b index es g g' v hs right k shown m d old new w e may (own_act d b es g g' old new m Verifying w.hands e may act index v hs k shown (read_of w.hands.region) w.written.reads)).does
+        (λ i r. run_row (Write (own_of m hs).stamp) tt (has (rows_of w.hands.batch.batch.changes) r)) (λ i l. refl) (λ n. subst (IsUnbased n) (sym act) tt) built;
   }

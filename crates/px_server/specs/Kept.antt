@@ -13,13 +13,14 @@ use Rattle.px_trail.specs.declared.entry.Act.{Act}
 use Rattle.px_trail.specs.declared.entry.Act.TheVariants.{Missed, Shut}
 use Rattle.px_trail.specs.declared.entry.Entry.{Entry}
 use Rattle.px_forms.specs.Indexes.{IndexForm}
-use Rattle.px_groupworld.specs.Group.{GroupData}
+use Rattle.px_built.specs.Built.{IsBuiltBy}
+use Rattle.px_groupworld.specs.Group.{GroupData, TableForm}
 use Rattle.px_openbatches.specs.Pending.{HeldBatch}
 use Rattle.px_region.specs.Region.{Holds}
 use Rattle.px_schema.specs.declared.standing.Standing.{Standing}
 use Rattle.px_catalog.specs.Catalogue.{HasCatalogue, standing_of}
 use Rattle.px_catalog.specs.declared.catalog.Catalog.{Catalog}
-use Rattle.px_group.specs.Group.{AreTraced, IsRightGroup, IsShownBy, IsTallied, points_in}
+use Rattle.px_group.specs.Group.{AreTraced, IsRightGroup, IsShownBy, IsTallied, form_of, points_in}
 use Rattle.px_group.specs.declared.group.Begun.{Begun}
 use Rattle.px_group.specs.declared.group.Group.{Group}
 use Rattle.px_group.specs.declared.group.IndexRegion.{IndexRegion}
@@ -80,12 +81,17 @@ pub record AreGroups (b : Base) (es : List Entry) (closed : Option ℕ) (tables 
 abbrev pub forms_in : List Index → Table → ℕ → IndexForm
 forms_in indexes x = λ n. form_in x (index_in indexes n)
 
--- the group shows what these data of its table have, and a repair may rest on them
+-- what stays true of each index of the table while it is built
+pub record AreBuilt (f : TableForm) (es : List Entry) (v : GroupData) : Type 0 where
+  pub each : (i : ℕ) → i < length v.indexes → IsBuiltBy f es v i
+
+-- the group shows what these data of its table have, a repair may rest on them, and rows that were given their base versions have them
 pub record HasShown (b : Base) (es : List Entry) (indexes : List Index) (v : ℕ → GroupData) (g : Group) : Type 0 where
   pub held : List HeldBatch
   pub tallied : IsTallied b es g held
   pub shown : IsShownBy b (forms_in indexes g.table) es g (v g.table.id.0) held
   pub told : IsToldBy b (forms_in indexes g.table) es g (v g.table.id.0)
+  pub built : AreBuilt (form_of b (forms_in indexes g.table) g) es (v g.table.id.0)
 
 pub record AreShown (b : Base) (es : List Entry) (indexes : List Index) (groups : List Group) : Type 0 where
   pub told : ℕ → GroupData
@@ -98,8 +104,9 @@ pub record IsOnDisk {D : Type 0} (d : Ghosts D) (disk : D) (f : FolderData) (g :
   pub rows : Holds d g.rows disk (f.regions g.rows.number)
   pub indexes : (i : ℕ) (x : IndexRegion) → slice_get g.indexes.items i ≡ Some x → Holds d x.region disk (f.regions x.region.number)
 
--- what the server's own parts have where they go on from a folder with these tables
-pub record HasParts {D : Type 0} (d : Ghosts D) (b : Base) (catalog : Catalog) (groups : List Group) (disk : D) (es : List Entry) (f : FolderData) (v : ℕ → GroupData) : Type 0 where
+-- what the server's own parts have where they go on from a folder with these tables: what was opened is sound then
+pub record HasParts {D : Type 0} (d : Ghosts D) (b : Base) (sound : Type 0) (catalog : Catalog) (groups : List Group) (disk : D) (es : List Entry) (f : FolderData) (v : ℕ → GroupData) : Type 0 where
+  pub given : sound
   pub stored : HasCatalogue d catalog disk
   pub standing : f.standing ≡ standing_of catalog
   pub regions : AllByRecursion (IsOnDisk d disk f) groups
@@ -155,7 +162,7 @@ pub record IsKept {D : Type 0} (d : Ghosts D) (b : Base) (sound premise : Type 0
   pub told : IsTold b trail.entries closed (standing_of catalog) standing
   pub each : AreGroups b trail.entries closed standing.tables groups
   pub shown : sound → closed ≡ None → AreShown b trail.entries standing.indexes groups
-  pub server : IsServer d b premise (HasParts d b catalog groups) disk trail.entries late closed
+  pub server : IsServer d b premise (HasParts d b sound catalog groups) disk trail.entries late closed
   pub room : HasTrailRoom closed groups trail
   pub blamed : has_told trail.entries ≡ true → HasFailed d disk
   pub last_call : (call : ℕ) → closed ≡ Some call → call ≡ d.calls disk

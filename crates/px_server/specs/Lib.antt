@@ -1,3 +1,4 @@
+pub mod Bases
 pub mod Beginning
 pub mod Counts
 pub mod Ending

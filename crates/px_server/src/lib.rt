@@ -5,6 +5,7 @@
 //! step in `Steps` (px_calls), word by word; `finish` hands out what is promised of the disk and of the stamps.
 #![tactic(auto)]
 
+mod basing;
 mod beginning;
 mod defining;
 mod ending;

@@ -102,6 +102,7 @@ impl<D: CountsCalls, C: Clock + Drop, B: Based + Founded> Server<D, C, B> {
         requires base { B.base ≡ base_of (folder_in opened) }
         requires sound { B.sound → IsSoundFolder (folder_in opened) }
         requires disk { B.premise → IsTrue D.tells → IsOpenedOn ⟦<D as Disk>⟧ disk opened }
+        requires told { B.premise → IsTrue D.tells → B.sound }
         requires began { BeginsAt ⟦<D as Disk>⟧ B.began disk }
         requires times { IsTrue C.tells → (n : ℕ) → C.times clock n ≡ B.times n }
         ensures ok { IfOk result (λ s. s ≡ record { seat = 1; entries = []; late = None; closed = None; logged = map logged_in opened.groups.items; groups = opened.groups.items }) }

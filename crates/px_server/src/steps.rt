@@ -12,13 +12,13 @@ ghost use Rattle.px_server.specs.Repairs.{Mends};
 
 use crate::{Founded, Server};
 use px_calls::{
-    Chunk, Definition, Doubt, Fixing, Held, Made, Marks, Ordered, Path, Point, Receipt, Status,
-    StepFault, Steps, Ticket, Verifies, Work, Writes,
+    BaseRows, Chunk, Definition, Doubt, Fixing, Held, Made, Marks, Ordered, Path, Point, Receipt,
+    Status, StepFault, Steps, Ticket, Verifies, Work, Writes,
 };
 use px_outside::{Clock, CountsCalls};
 use px_seat::{Based, Single};
 use px_tables::Found;
-use px_values::{Changes, Key, Name, TableId};
+use px_values::{Changes, IndexId, Key, Name, TableId};
 
 impl<D: CountsCalls, C: Clock, B: Based + Founded> Steps for Server<D, C, B> {
     ghost use Rattle.px_server.specs.Shown.{known_by};
@@ -41,6 +41,8 @@ impl<D: CountsCalls, C: Clock, B: Based + Founded> Steps for Server<D, C, B> {
             Definition::Table(what) => self.define_table(what),
             Definition::Index(what) => self.define_index(what),
             Definition::Active { table, index } => self.define_active(*table, *index),
+            Definition::Disabled { table, index } => self.disable_index(*table, *index),
+            Definition::Rebuilding { table, index } => self.rebuild_index(*table, *index),
             Definition::DropTable(table) => self.drop_table(*table),
             Definition::DropIndex { table, index } => self.drop_index(*table, *index),
         }
@@ -113,6 +115,10 @@ impl<D: CountsCalls, C: Clock, B: Based + Founded> Steps for Server<D, C, B> {
         ensures refused { IfErr result (Refuses fix_cause (known_by B.base B.damaged self.old) (known_by B.base B.damaged self.new)) }
     {
         Server::fix(self, d)
+    }
+
+    fn base(&mut self, p: &Point, index: IndexId, rows: &BaseRows) -> Result<u64, StepFault> {
+        Server::base(self, p, index, rows)
     }
 
     fn close_point(&mut self, p: Point) {

@@ -1,32 +1,22 @@
 -- What definitions rest on.
-use Rattle.std.specs.Prelude.{◌≡◌, ◌<◌, ◌≤◌, ◌+◌, ◌⊎◌, ℕ, List, [], ◌∷◌, Some}
+use Rattle.std.specs.Prelude.{◌≡◌, ◌<◌, ◌≤◌, ◌+◌, ◌⊎◌, ℕ, List, [], ◌∷◌}
 use Rattle.px_values.specs.declared.name.IndexId.{IndexId}
 use Rattle.px_values.specs.declared.name.TableId.{TableId}
 use Rattle.px_tables.specs.declared.index.Index.{Index}
 use Rattle.px_values.specs.Limits.{most_of}
 use Rattle.px_values.specs.declared.limit.Limit.TheVariants.{Ids, Stamps}
-use Rattle.px_values.specs.declared.row.Value.{Value}
 use Rattle.px_tables.specs.declared.index.NewIndex.{NewIndex}
-use Rattle.px_trail.specs.States.{state_of}
-use Rattle.px_trail.specs.Trail.{Base, IsFree, catalogue_of, horizon_of, last_of}
-use Rattle.px_trail.specs.declared.entry.Entry.{Entry}
-use Rattle.px_calls.specs.Causes.{HasUnwritten, Stands}
-use Rattle.px_calls.specs.Known.{IsRunning, Known, Sees}
+use Rattle.px_trail.specs.Trail.{IsFree, catalogue_of, last_of}
+use Rattle.px_calls.specs.Causes.{Stands}
+use Rattle.px_calls.specs.Known.{IsRunning, Known}
 
--- a row of the table has a state at the stamp
-abbrev pub HasRowAt : Base → List Entry → ℕ → ℕ → Type 0
-HasRowAt b es t p = (r : List Value) × (v : List Value) × (state_of b es t r p ≡ Some v)
-
--- nothing hinders that the index is made, but for rows of its table
+-- nothing hinders that the index is made
 pub record MayMakeIndex (k : Known) (what : NewIndex) : Type 0 where
   pub running : IsRunning k
   pub stands : Stands k what.table.0
   pub free : IsFree (catalogue_of k.base k.seen) what.name
   pub numbers : (catalogue_of k.base k.seen).next + 2 ≤ most_of Ids + 1
   pub stamps : last_of k.base what.table.0 k.seen < most_of Stamps
-  pub written : HasUnwritten k what.table.0 → ⊥
-  pub low : horizon_of k.base what.table.0 k.seen ≤ most_of Stamps
-  pub sees : Sees k k
 
 -- one of these is the index of the table
 abbrev pub HasIndexOf : List Index → TableId → IndexId → Type 0

@@ -8,7 +8,6 @@ ghost use Rattle.px_server.specs.Shown.{known_by};
 use crate::defining::tables::limit;
 use crate::{Founded, Server};
 use px_calls::StepFault;
-use px_defined::has_pending;
 use px_outside::{Clock, CountsCalls};
 use px_seat::Based;
 use px_standing::{is_free, numbered_place};
@@ -16,9 +15,9 @@ use px_tables::NewIndex;
 use px_values::Limit;
 
 impl<D: CountsCalls, C: Clock, B: Based + Founded> Server<D, C, B> {
-    /// Why no index is made, whatever rows its table has.
+    /// Why no index is made.
     pub(crate) fn index_refusal(&self, what: &NewIndex) -> Option<StepFault>
-        ensures refused { IfSome result (Refuses (define_cause B.sound (IndexDefinition what.now)) (known_by B.base B.damaged self.now) (known_by B.base B.damaged self.now)) }
+        ensures refused { IfSome result (Refuses (define_cause (IndexDefinition what.now)) (known_by B.base B.damaged self.now) (known_by B.base B.damaged self.now)) }
         ensures may { IfNone result (MayMakeIndex (known_by B.base B.damaged self.now) what.now) }
     {
         if let Some(call) = self.closed {
@@ -38,9 +37,6 @@ impl<D: CountsCalls, C: Clock, B: Based + Founded> Server<D, C, B> {
         }
         if !self.standing.has_numbers(2) {
             return Some(limit(Limit::Ids));
-        }
-        if has_pending(&self.groups[place]) {
-            return Some(limit(Limit::Build));
         }
         None
     }

@@ -35,8 +35,8 @@ fn has_index(indexes: &[Index], table: TableId, index: IndexId) -> bool
 impl<D: CountsCalls, C: Clock, B: Based + Founded> Server<D, C, B> {
     /// Drops an index, where no point and no batch of its table is open. One that is disabled has no region here.
     pub fn drop_index(&mut self, table: TableId, index: IndexId) -> Result<Made, StepFault>
-        ensures ok { IfOk result (DidDefine B.sound (known_by B.base B.damaged self.old) (known_by B.base B.damaged self.new) (DropDefinition table index)) }
-        ensures refused { IfErr result (Refuses (define_cause B.sound (DropDefinition table index)) (known_by B.base B.damaged self.old) (known_by B.base B.damaged self.new)) }
+        ensures ok { IfOk result (DidDefine (known_by B.base B.damaged self.old) (known_by B.base B.damaged self.new) (DropDefinition table index)) }
+        ensures refused { IfErr result (Refuses (define_cause (DropDefinition table index)) (known_by B.base B.damaged self.old) (known_by B.base B.damaged self.new)) }
     {
         if let Some(call) = self.closed {
             return Err(StepFault::Closed { call });

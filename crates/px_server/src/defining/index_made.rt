@@ -1,7 +1,7 @@
 // An index is made.
 ghost use Rattle.std.specs.Prelude.{◌≡◌, IfErr, IfOk};
 ghost use Rattle.px_calls.specs.Calls.{DidDefine};
-ghost use Rattle.px_calls.specs.Causes.{HasState, Refuses, define_cause};
+ghost use Rattle.px_calls.specs.Causes.{Refuses, define_cause};
 ghost use Rattle.px_calls.specs.Requires.{IsIndexFit};
 ghost use Rattle.px_calls.specs.declared.definition.Definition.TheVariants.{Index as IndexDefinition};
 ghost use Rattle.px_server.specs.inner.Indexing.{MayMakeIndex};
@@ -10,43 +10,36 @@ ghost use Rattle.px_server.specs.Shown.{known_by};
 use crate::defining::failing::{take_entry, unwritten};
 use crate::defining::prepared::{IndexToMake, index_to_make};
 use crate::defining::stamps::next_stamp;
-use crate::defining::tables::limit;
 use crate::{Founded, Server};
 use px_calls::{Made, StepFault};
 use px_defined::{add_index, reserve_index};
 use px_outside::{Clock, CountsCalls};
-use px_schema::{CatalogItem, GREATEST_STAMP};
+use px_schema::CatalogItem;
 use px_seat::Based;
 use px_standing::numbered_place;
 use px_tables::NewIndex;
 use px_trail::{Act, Entry};
-use px_values::Limit;
 use std::mem;
 
 impl<D: CountsCalls, C: Clock, B: Based + Founded> Server<D, C, B> {
-    /// Makes an index, which is then being built. Its table is empty.
+    /// Makes an index, which is then being built.
     pub fn define_index(&mut self, what: &NewIndex) -> Result<Made, StepFault>
         requires { IsIndexFit (known_by B.base B.damaged self.old) what.now }
-        ensures ok { IfOk result (DidDefine B.sound (known_by B.base B.damaged self.old) (known_by B.base B.damaged self.new) (IndexDefinition what.now)) }
-        ensures refused { IfErr result (Refuses (define_cause B.sound (IndexDefinition what.now)) (known_by B.base B.damaged self.old) (known_by B.base B.damaged self.new)) }
+        ensures ok { IfOk result (DidDefine (known_by B.base B.damaged self.old) (known_by B.base B.damaged self.new) (IndexDefinition what.now)) }
+        ensures refused { IfErr result (Refuses (define_cause (IndexDefinition what.now)) (known_by B.base B.damaged self.old) (known_by B.base B.damaged self.new)) }
     {
         if let Some(fault) = self.index_refusal(what) {
             return Err(fault);
         }
-        match self.has_row(what.table, GREATEST_STAMP) {
-            Ok(true) => Err(limit(Limit::Build)),
-            Ok(false) => self.make_index(what),
-            Err(fault) => Err(fault),
-        }
+        self.make_index(what)
     }
 
     /// Makes the index, where nothing hinders it.
     fn make_index(&mut self, what: &NewIndex) -> Result<Made, StepFault>
         requires may { MayMakeIndex (known_by B.base B.damaged self.old) what.now }
         requires fits { IsIndexFit (known_by B.base B.damaged self.old) what.now }
-        requires empty { B.sound → HasState (known_by B.base B.damaged self.old) what.now.table.0 → ⊥ }
-        ensures ok { IfOk result (DidDefine B.sound (known_by B.base B.damaged self.old) (known_by B.base B.damaged self.new) (IndexDefinition what.now)) }
-        ensures refused { IfErr result (Refuses (define_cause B.sound (IndexDefinition what.now)) (known_by B.base B.damaged self.old) (known_by B.base B.damaged self.new)) }
+        ensures ok { IfOk result (DidDefine (known_by B.base B.damaged self.old) (known_by B.base B.damaged self.new) (IndexDefinition what.now)) }
+        ensures refused { IfErr result (Refuses (define_cause (IndexDefinition what.now)) (known_by B.base B.damaged self.old) (known_by B.base B.damaged self.new)) }
     {
         let Some(place) = numbered_place(&self.standing, what.table) else {
             unreachable!()

@@ -8,7 +8,6 @@ ghost use Rattle.px_server.specs.Shown.{known_by};
 
 use crate::defining::failing::{take_entry, unwritten};
 use crate::defining::prepared::{IndexToActivate, index_to_activate};
-use crate::defining::rows::is_filled;
 use crate::{Founded, Server};
 use px_calls::{Made, StepFault};
 use px_defined::index_place;
@@ -22,11 +21,11 @@ use px_values::{IndexId, TableId};
 use std::mem;
 
 impl<D: CountsCalls, C: Clock, B: Based + Founded> Server<D, C, B> {
-    /// Lets queries read the index. No row of its table has a state at its birth, since only indexes of empty tables are made.
+    /// Lets queries read the index. Each row that its table had at its birth was given its base version.
     pub fn define_active(&mut self, table: TableId, index: IndexId) -> Result<Made, StepFault>
         requires { MayActivate B.sound (known_by B.base B.damaged self.old) table.0 index.0 }
-        ensures ok { IfOk result (DidDefine B.sound (known_by B.base B.damaged self.old) (known_by B.base B.damaged self.new) (ActiveDefinition table index)) }
-        ensures refused { IfErr result (Refuses (define_cause B.sound (ActiveDefinition table index)) (known_by B.base B.damaged self.old) (known_by B.base B.damaged self.new)) }
+        ensures ok { IfOk result (DidDefine (known_by B.base B.damaged self.old) (known_by B.base B.damaged self.new) (ActiveDefinition table index)) }
+        ensures refused { IfErr result (Refuses (define_cause (ActiveDefinition table index)) (known_by B.base B.damaged self.old) (known_by B.base B.damaged self.new)) }
     {
         if let Some(call) = self.closed {
             return Err(StepFault::Closed { call });
@@ -44,17 +43,6 @@ impl<D: CountsCalls, C: Clock, B: Based + Founded> Server<D, C, B> {
             Ok(made) => made,
             Err(fault) => return Err(fault),
         };
-        match is_filled(self.alloc, &mut self.disk, &mut self.groups[place], stamp) {
-            Ok(false) => {}
-            Ok(true) => {
-                drop(made);
-                return Err(StepFault::NotReady { region: 0 });
-            }
-            Err(fault) => {
-                drop(made);
-                return Err(fault);
-            }
-        }
         let Ok(()) = take_entry(&mut self.trail) else {
             drop(made);
             return Err(StepFault::Memory);

@@ -31,7 +31,7 @@ pub(crate) struct IndexToActivate {
 }
 
 /// Whether the catalogue has a record for the index: each of its parts fits its field, and a snapshot has room for one index more.
-fn can_record(standing: &Standing, index: &Index) -> bool
+pub(crate) fn can_record(standing: &Standing, index: &Index) -> bool
     ensures { IsTrue result → CanRecord standing.now index.now }
 {
     let parts = index.parts.as_slice().len();
@@ -46,7 +46,7 @@ fn can_record(standing: &Standing, index: &Index) -> bool
 }
 
 /// What stands with an index, and the index for its record.
-fn with_record(
+pub(crate) fn with_record(
     alloc: Global,
     standing: &Standing,
     index: &Index,

@@ -185,8 +185,8 @@ impl<D: CountsCalls, C: Clock, B: Based + Founded> Server<D, C, B> {
     /// Makes a table. Its region has nothing yet.
     pub fn define_table(&mut self, what: &NewTable) -> Result<Made, StepFault>
         requires { IsNewTable what.now }
-        ensures ok { IfOk result (DidDefine B.sound (known_by B.base B.damaged self.old) (known_by B.base B.damaged self.new) (NewTableOf what.now)) }
-        ensures refused { IfErr result (Refuses (define_cause B.sound (NewTableOf what.now)) (known_by B.base B.damaged self.old) (known_by B.base B.damaged self.new)) }
+        ensures ok { IfOk result (DidDefine (known_by B.base B.damaged self.old) (known_by B.base B.damaged self.new) (NewTableOf what.now)) }
+        ensures refused { IfErr result (Refuses (define_cause (NewTableOf what.now)) (known_by B.base B.damaged self.old) (known_by B.base B.damaged self.new)) }
     {
         if let Err(fault) = check_table(self.closed, &self.standing, what) {
             return Err(fault);
@@ -246,8 +246,8 @@ impl<D: CountsCalls, C: Clock, B: Based + Founded> Server<D, C, B> {
 
     /// Drops a table with its indexes, where no point and no batch of it is open.
     pub fn drop_table(&mut self, table: TableId) -> Result<Made, StepFault>
-        ensures ok { IfOk result (DidDefine B.sound (known_by B.base B.damaged self.old) (known_by B.base B.damaged self.new) (DropTableOf table)) }
-        ensures refused { IfErr result (Refuses (define_cause B.sound (DropTableOf table)) (known_by B.base B.damaged self.old) (known_by B.base B.damaged self.new)) }
+        ensures ok { IfOk result (DidDefine (known_by B.base B.damaged self.old) (known_by B.base B.damaged self.new) (DropTableOf table)) }
+        ensures refused { IfErr result (Refuses (define_cause (DropTableOf table)) (known_by B.base B.damaged self.old) (known_by B.base B.damaged self.new)) }
     {
         if let Some(call) = self.closed {
             return Err(StepFault::Closed { call });

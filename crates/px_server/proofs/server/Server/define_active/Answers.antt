@@ -40,7 +40,7 @@ returns-in-Some-clause-refused g c = (let
     in let
     v : Shown = shown_of s.seat s.trail.entries s.late s.closed s.groups.items
     in
-    subst (λ (w : Shown). Refuses (define_cause g.B.Founded.sound (definition.Active c.args.table c.args.index)) (known_by b g.B.Based.damaged w) (known_by b g.B.Based.damaged w) (Closed c.in-Some.call)) c.self.view_is
+    subst (λ (w : Shown). Refuses (define_cause (definition.Active c.args.table c.args.index)) (known_by b g.B.Based.damaged w) (known_by b g.B.Based.damaged w) (Closed c.in-Some.call)) c.self.view_is
     (closed_by (known_by b g.B.Based.damaged v) k.told.legal s.closed k.told.closing c.in-Some.call c.in-Some.is))
 
 pub returns-in_default-numbered_place-clause-refused : goal.returns-in_default-numbered_place-clause-refused
@@ -55,7 +55,7 @@ returns-in_default-numbered_place-clause-refused g c = (let
     in let
     running : s.closed ≡ None = c.in_default.is
     in
-    subst (λ (w : Shown). Refuses (define_cause g.B.Founded.sound (definition.Active c.args.table c.args.index)) (known_by b g.B.Based.damaged w) (known_by b g.B.Based.damaged w) NoTable) c.self.view_is
+    subst (λ (w : Shown). Refuses (define_cause (definition.Active c.args.table c.args.index)) (known_by b g.B.Based.damaged w) (known_by b g.B.Based.damaged w) NoTable) c.self.view_is
     ((lacks b s.trail.entries s.standing k.told.agrees c.args.table.0 c.in_default-numbered_place.ensures.none, stays (known_by b g.B.Based.damaged v) k.told.legal, k.told.closing ∙ running)))
 
 pub returns-in_default-index_place-clause-refused : goal.returns-in_default-index_place-clause-refused
@@ -80,7 +80,7 @@ returns-in_default-index_place-clause-refused g c = (let
     in let
     own : h.table.id ≡ c.args.table = group_of s.groups.items s.standing.tables k.each.stand c.in-Some-numbered_place.place h l h_is c.args.table c.in-Some-numbered_place.ensures.numbered
     in
-    subst (λ (w : Shown). Refuses (define_cause g.B.Founded.sound (definition.Active c.args.table c.args.index)) (known_by b g.B.Based.damaged w) (known_by b g.B.Based.damaged w) NoIndex) c.self.view_is
+    subst (λ (w : Shown). Refuses (define_cause (definition.Active c.args.table c.args.index)) (known_by b g.B.Based.damaged w) (known_by b g.B.Based.damaged w) NoIndex) c.self.view_is
     ((no_index g.D.Disk g.met.D.Disk.told g.met.D.Disk.up_to_now b g.B.Based.damaged g.B.Founded.sound g.B.Founded.premise g.B.Founded.began s.disk s.catalog s.standing s.groups.items s.trail s.late s.closed k running c.in-Some-numbered_place.place h l h_is s.seat c.args.table own c.args.index may c.in_default-index_place.ensures.none, stays (known_by b g.B.Based.damaged v) k.told.legal, k.told.closing ∙ running)))
 
 pub returns-in-Err-clause-refused : goal.returns-in-Err-clause-refused
@@ -95,31 +95,9 @@ returns-in-Err-clause-refused g c = (let
     in let
     running : s.closed ≡ None = c.in_default.is
     in
-    subst (λ (f : StepFault). Refuses (define_cause g.B.Founded.sound (definition.Active c.args.table c.args.index)) (known_by b g.B.Based.damaged c.args.self.now) (known_by b g.B.Based.damaged c.args.self.now) f) (sym c.in-Err.ensures.refused)
-    (subst (λ (w : Shown). Refuses (define_cause g.B.Founded.sound (definition.Active c.args.table c.args.index)) (known_by b g.B.Based.damaged w) (known_by b g.B.Based.damaged w) Memory) c.self.view_is
-    (no_memory g.B.Founded.sound (known_by b g.B.Based.damaged v) k.told.legal s.closed k.told.closing running (definition.Active c.args.table c.args.index))))
-
-pub is_filled-requires : goal.is_filled-requires
-is_filled-requires g c = (let
-    s = c.self.inside
-    in let
-    k = c.self.invariant.0
-    in let
-    b = g.B.Based.base
-    in let
-    v : Shown = shown_of s.seat s.trail.entries s.late s.closed s.groups.items
-    in let
-    running : s.closed ≡ None = c.in_default.is
-    in let
-    l = place_in s.groups.items s.standing.tables k.each.stand c.in-Some-numbered_place.place c.in-Some-numbered_place.ensures.found
-    in let
-    h = c.index_mut.result.now
-    in let
-    h_is : get_or s.groups.items c.in-Some-numbered_place.place h ≡ h = sym c.index_mut.ensures.value
-    in let
-    own : h.table.id ≡ c.args.table = group_of s.groups.items s.standing.tables k.each.stand c.in-Some-numbered_place.place h l h_is c.args.table c.in-Some-numbered_place.ensures.numbered
-    in
-    record { right = all_at IsRightGroup s.groups.items c.in-Some-numbered_place.place h l h_is (k.each.right running) })
+    subst (λ (f : StepFault). Refuses (define_cause (definition.Active c.args.table c.args.index)) (known_by b g.B.Based.damaged c.args.self.now) (known_by b g.B.Based.damaged c.args.self.now) f) (sym c.in-Err.ensures.refused)
+    (subst (λ (w : Shown). Refuses (define_cause (definition.Active c.args.table c.args.index)) (known_by b g.B.Based.damaged w) (known_by b g.B.Based.damaged w) Memory) c.self.view_is
+    (no_memory (known_by b g.B.Based.damaged v) k.told.legal s.closed k.told.closing running (definition.Active c.args.table c.args.index))))
 
 pub invariant_of-self : goal.invariant_of-self
 invariant_of-self g c = (let
@@ -135,94 +113,13 @@ invariant_of-self g c = (let
     in let
     l = place_in s.groups.items s.standing.tables k.each.stand c.in-Some-numbered_place.place c.in-Some-numbered_place.ensures.found
     in let
-    h = c.index_mut.result.now
+    h = c.index-group.result.now
     in let
-    h_is : get_or s.groups.items c.in-Some-numbered_place.place h ≡ h = sym c.index_mut.ensures.value
-    in let
-    own : h.table.id ≡ c.args.table = group_of s.groups.items s.standing.tables k.each.stand c.in-Some-numbered_place.place h l h_is c.args.table c.in-Some-numbered_place.ensures.numbered
-    in let
-    kd : IsKept g.D.Disk b g.B.Founded.sound g.B.Founded.premise g.B.Founded.began c.is_filled.new.disk s.catalog s.standing s.groups.items s.trail s.late s.closed = subst (λ (y : g.row.D.Denot). IsKept g.D.Disk b g.B.Founded.sound g.B.Founded.premise g.B.Founded.began y s.catalog s.standing s.groups.items s.trail s.late s.closed) (sym c.is_filled.ensures.untouched) k
-    in
-    (looked_kept g.D.Disk b g.B.Founded.sound g.B.Founded.premise g.B.Founded.began c.is_filled.new.disk s.catalog s.standing s.groups.items s.trail s.late s.closed kd c.in-Some-numbered_place.place h c.is_filled.new.group l h_is c.is_filled.ensures.looked, c.self.invariant.1))
-
-pub invariant_of-self-in-Err-is_filled : goal.invariant_of-self-in-Err-is_filled
-invariant_of-self-in-Err-is_filled g c = (let
-    s = c.self.inside
-    in let
-    k = c.self.invariant.0
-    in let
-    b = g.B.Based.base
-    in let
-    v : Shown = shown_of s.seat s.trail.entries s.late s.closed s.groups.items
-    in let
-    running : s.closed ≡ None = c.in_default.is
-    in let
-    l = place_in s.groups.items s.standing.tables k.each.stand c.in-Some-numbered_place.place c.in-Some-numbered_place.ensures.found
-    in let
-    h = c.index_mut.result.now
-    in let
-    h_is : get_or s.groups.items c.in-Some-numbered_place.place h ≡ h = sym c.index_mut.ensures.value
+    h_is : get_or s.groups.items c.in-Some-numbered_place.place h ≡ h = sym c.index-group.ensures
     in let
     own : h.table.id ≡ c.args.table = group_of s.groups.items s.standing.tables k.each.stand c.in-Some-numbered_place.place h l h_is c.args.table c.in-Some-numbered_place.ensures.numbered
-    in let
-    kd : IsKept g.D.Disk b g.B.Founded.sound g.B.Founded.premise g.B.Founded.began c.is_filled.new.disk s.catalog s.standing s.groups.items s.trail s.late s.closed = subst (λ (y : g.row.D.Denot). IsKept g.D.Disk b g.B.Founded.sound g.B.Founded.premise g.B.Founded.began y s.catalog s.standing s.groups.items s.trail s.late s.closed) (sym c.is_filled.ensures.untouched) k
     in
-    (looked_kept g.D.Disk b g.B.Founded.sound g.B.Founded.premise g.B.Founded.began c.is_filled.new.disk s.catalog s.standing s.groups.items s.trail s.late s.closed kd c.in-Some-numbered_place.place h c.is_filled.new.group l h_is c.is_filled.ensures.looked, c.self.invariant.1))
-
-pub returns-in-Ok-true-clause-refused : goal.returns-in-Ok-true-clause-refused
-returns-in-Ok-true-clause-refused g c = (let
-    s = c.self.inside
-    in let
-    k = c.self.invariant.0
-    in let
-    b = g.B.Based.base
-    in let
-    v : Shown = shown_of s.seat s.trail.entries s.late s.closed s.groups.items
-    in let
-    running : s.closed ≡ None = c.in_default.is
-    in
-    subst (λ (w : Shown). Refuses (define_cause g.B.Founded.sound (definition.Active c.args.table c.args.index)) (known_by b g.B.Based.damaged w) (known_by b g.B.Based.damaged v) (NotReady 0)) c.self.view_is
-    ((refl, stays (known_by b g.B.Based.damaged v) k.told.legal, k.told.closing ∙ running)))
-
-pub returns-in-Err-is_filled-clause-refused : goal.returns-in-Err-is_filled-clause-refused
-returns-in-Err-is_filled-clause-refused g c = (let
-    s = c.self.inside
-    in let
-    k = c.self.invariant.0
-    in let
-    b = g.B.Based.base
-    in let
-    v : Shown = shown_of s.seat s.trail.entries s.late s.closed s.groups.items
-    in let
-    running : s.closed ≡ None = c.in_default.is
-    in
-    subst (λ (f : StepFault). Refuses (define_cause g.B.Founded.sound (definition.Active c.args.table c.args.index)) (known_by b g.B.Based.damaged c.args.self.now) (known_by b g.B.Based.damaged v) f) (sym c.in-Err-is_filled.ensures.refused)
-    (subst (λ (w : Shown). Refuses (define_cause g.B.Founded.sound (definition.Active c.args.table c.args.index)) (known_by b g.B.Based.damaged w) (known_by b g.B.Based.damaged v) Memory) c.self.view_is
-    (no_memory g.B.Founded.sound (known_by b g.B.Based.damaged v) k.told.legal s.closed k.told.closing running (definition.Active c.args.table c.args.index))))
-
-pub invariant_of-self-in_default-take_entry : goal.invariant_of-self-in_default-take_entry
-invariant_of-self-in_default-take_entry g c = (let
-    s = c.self.inside
-    in let
-    k = c.self.invariant.0
-    in let
-    b = g.B.Based.base
-    in let
-    v : Shown = shown_of s.seat s.trail.entries s.late s.closed s.groups.items
-    in let
-    running : s.closed ≡ None = c.in_default.is
-    in let
-    l = place_in s.groups.items s.standing.tables k.each.stand c.in-Some-numbered_place.place c.in-Some-numbered_place.ensures.found
-    in let
-    h = c.index_mut.result.now
-    in let
-    h_is : get_or s.groups.items c.in-Some-numbered_place.place h ≡ h = sym c.index_mut.ensures.value
-    in let
-    own : h.table.id ≡ c.args.table = group_of s.groups.items s.standing.tables k.each.stand c.in-Some-numbered_place.place h l h_is c.args.table c.in-Some-numbered_place.ensures.numbered
-    in let
-    kd : IsKept g.D.Disk b g.B.Founded.sound g.B.Founded.premise g.B.Founded.began c.is_filled.new.disk s.catalog s.standing s.groups.items s.trail s.late s.closed = subst (λ (y : g.row.D.Denot). IsKept g.D.Disk b g.B.Founded.sound g.B.Founded.premise g.B.Founded.began y s.catalog s.standing s.groups.items s.trail s.late s.closed) (sym c.is_filled.ensures.untouched) k
-    in
-    (roomy g.D.Disk b g.B.Founded.sound g.B.Founded.premise g.B.Founded.began c.is_filled.new.disk s.catalog s.standing (slice_set s.groups.items c.in-Some-numbered_place.place c.is_filled.new.group) s.trail s.late s.closed (looked_kept g.D.Disk b g.B.Founded.sound g.B.Founded.premise g.B.Founded.began c.is_filled.new.disk s.catalog s.standing s.groups.items s.trail s.late s.closed kd c.in-Some-numbered_place.place h c.is_filled.new.group l h_is c.is_filled.ensures.looked) c.take_entry.new.trail c.take_entry.ensures.same c.take_entry.ensures.least, (c.self.invariant.1.0, same_by_clock g.C.Clock g.B.Founded.times g.B.Based.base s.clock s.trail.entries c.self.invariant.1.1 c.take_entry.new.trail.entries c.take_entry.ensures.same)))
+    (roomy g.D.Disk b g.B.Founded.sound g.B.Founded.premise g.B.Founded.began s.disk s.catalog s.standing s.groups.items s.trail s.late s.closed k c.take_entry.new.trail c.take_entry.ensures.same c.take_entry.ensures.least, (c.self.invariant.1.0, same_by_clock g.C.Clock g.B.Founded.times g.B.Based.base s.clock s.trail.entries c.self.invariant.1.1 c.take_entry.new.trail.entries c.take_entry.ensures.same)))
 
 pub returns-in_default-take_entry-clause-refused : goal.returns-in_default-take_entry-clause-refused
 returns-in_default-take_entry-clause-refused g c = (let
@@ -236,9 +133,9 @@ returns-in_default-take_entry-clause-refused g c = (let
     in let
     running : s.closed ≡ None = c.in_default.is
     in
-    subst (λ (es : List Entry). Refuses (define_cause g.B.Founded.sound (definition.Active c.args.table c.args.index)) (known_by b g.B.Based.damaged c.args.self.now) (known_by b g.B.Based.damaged (record v { entries = es })) Memory) (sym c.take_entry.ensures.same)
-    (subst (λ (w : Shown). Refuses (define_cause g.B.Founded.sound (definition.Active c.args.table c.args.index)) (known_by b g.B.Based.damaged w) (known_by b g.B.Based.damaged v) Memory) c.self.view_is
-    (no_memory g.B.Founded.sound (known_by b g.B.Based.damaged v) k.told.legal s.closed k.told.closing running (definition.Active c.args.table c.args.index))))
+    subst (λ (es : List Entry). Refuses (define_cause (definition.Active c.args.table c.args.index)) (known_by b g.B.Based.damaged c.args.self.now) (known_by b g.B.Based.damaged (record v { entries = es })) Memory) (sym c.take_entry.ensures.same)
+    (subst (λ (w : Shown). Refuses (define_cause (definition.Active c.args.table c.args.index)) (known_by b g.B.Based.damaged w) (known_by b g.B.Based.damaged v) Memory) c.self.view_is
+    (no_memory (known_by b g.B.Based.damaged v) k.told.legal s.closed k.told.closing running (definition.Active c.args.table c.args.index))))
 
 pub append-requires : goal.append-requires
 append-requires g c = (let
@@ -256,29 +153,23 @@ append-requires g c = (let
     in let
     l = place_in s.groups.items s.standing.tables k.each.stand c.in-Some-numbered_place.place c.in-Some-numbered_place.ensures.found
     in let
-    h = c.index_mut.result.now
+    h = c.index-group.result.now
     in let
-    h_is : get_or s.groups.items c.in-Some-numbered_place.place h ≡ h = sym c.index_mut.ensures.value
+    h_is : get_or s.groups.items c.in-Some-numbered_place.place h ≡ h = sym c.index-group.ensures
     in let
     own : h.table.id ≡ c.args.table = group_of s.groups.items s.standing.tables k.each.stand c.in-Some-numbered_place.place h l h_is c.args.table c.in-Some-numbered_place.ensures.numbered
     in let
-    kd : IsKept g.D.Disk b g.B.Founded.sound g.B.Founded.premise g.B.Founded.began c.is_filled.new.disk s.catalog s.standing s.groups.items s.trail s.late s.closed = subst (λ (y : g.row.D.Denot). IsKept g.D.Disk b g.B.Founded.sound g.B.Founded.premise g.B.Founded.began y s.catalog s.standing s.groups.items s.trail s.late s.closed) (sym c.is_filled.ensures.untouched) k
-    in let
     x = c.index-part.result.now
     in let
-    same = same_there s.groups.items c.in-Some-numbered_place.place c.index-group.result.now h l (sym c.index-group.ensures) h_is
+    x_is : slice_get h.indexes.items c.in-Some-index_place.at ≡ Some x = got_at h.indexes.items c.in-Some-index_place.at x c.in-Some-index_place.ensures.found.0 c.index-part.ensures
     in let
-    x0_is : slice_get c.index-group.result.now.indexes.items c.in-Some-index_place.at ≡ Some x = got_at c.index-group.result.now.indexes.items c.in-Some-index_place.at x c.in-Some-index_place.ensures.found.0 c.index-part.ensures
-    in let
-    id : x.index.id ≡ c.args.index = c.in-Some-index_place.ensures.found.1 x x0_is
-    in let
-    x_is : slice_get h.indexes.items c.in-Some-index_place.at ≡ Some x = ap (λ (y : Group). slice_get y.indexes.items c.in-Some-index_place.at) (sym same) ∙ x0_is
+    id : x.index.id ≡ c.args.index = c.in-Some-index_place.ensures.found.1 x x_is
     in let
     short : c.args.table.0 < 256 ^ 4 = search rules
     in let
     here = part g.D.Disk g.met.D.Disk.told g.met.D.Disk.up_to_now b g.B.Based.damaged g.B.Founded.sound g.B.Founded.premise g.B.Founded.began s.disk s.catalog s.standing s.groups.items s.trail s.late s.closed k running c.in-Some-numbered_place.place h l h_is s.seat c.args.table own c.args.index may c.in-Some-index_place.at x x_is id
     in
-    record { right = fits_active g.D.Disk g.met.D.Disk.told g.met.D.Disk.up_to_now b g.B.Based.damaged g.B.Founded.sound g.B.Founded.premise g.B.Founded.began c.is_filled.new.disk s.catalog s.standing s.groups.items s.trail s.late s.closed kd running c.in-Some-numbered_place.place h l h_is s.seat c.args.table own c.args.index may c.in-Some-index_place.at x x_is id c.in-Ok.made c.in-Ok.ensures.ok (subst (λ (y : TableId). y.0 < 256 ^ 4) (sym (here.table ∙ own)) short) })
+    record { right = fits_active g.D.Disk g.met.D.Disk.told g.met.D.Disk.up_to_now b g.B.Based.damaged g.B.Founded.sound g.B.Founded.premise g.B.Founded.began s.disk s.catalog s.standing s.groups.items s.trail s.late s.closed k running c.in-Some-numbered_place.place h l h_is s.seat c.args.table own c.args.index may c.in-Some-index_place.at x x_is id c.in-Ok.made c.in-Ok.ensures.ok (subst (λ (y : TableId). y.0 < 256 ^ 4) (sym (here.table ∙ own)) short) })
 
 pub make_active-requires : goal.make_active-requires
 make_active-requires g c = (let
@@ -294,31 +185,25 @@ make_active-requires g c = (let
     in let
     l = place_in s.groups.items s.standing.tables k.each.stand c.in-Some-numbered_place.place c.in-Some-numbered_place.ensures.found
     in let
-    h = c.index_mut.result.now
+    h = c.index-group.result.now
     in let
-    h_is : get_or s.groups.items c.in-Some-numbered_place.place h ≡ h = sym c.index_mut.ensures.value
+    h_is : get_or s.groups.items c.in-Some-numbered_place.place h ≡ h = sym c.index-group.ensures
     in let
     own : h.table.id ≡ c.args.table = group_of s.groups.items s.standing.tables k.each.stand c.in-Some-numbered_place.place h l h_is c.args.table c.in-Some-numbered_place.ensures.numbered
     in let
     x = c.index-part.result.now
     in let
-    same = same_there s.groups.items c.in-Some-numbered_place.place c.index-group.result.now h l (sym c.index-group.ensures) h_is
+    x_is : slice_get h.indexes.items c.in-Some-index_place.at ≡ Some x = got_at h.indexes.items c.in-Some-index_place.at x c.in-Some-index_place.ensures.found.0 c.index-part.ensures
     in let
-    x0_is : slice_get c.index-group.result.now.indexes.items c.in-Some-index_place.at ≡ Some x = got_at c.index-group.result.now.indexes.items c.in-Some-index_place.at x c.in-Some-index_place.ensures.found.0 c.index-part.ensures
+    id : x.index.id ≡ c.args.index = c.in-Some-index_place.ensures.found.1 x x_is
     in let
-    id : x.index.id ≡ c.args.index = c.in-Some-index_place.ensures.found.1 x x0_is
-    in let
-    x_is : slice_get h.indexes.items c.in-Some-index_place.at ≡ Some x = ap (λ (y : Group). slice_get y.indexes.items c.in-Some-index_place.at) (sym same) ∙ x0_is
-    in let
-    there : c.index_mut-in-Ok-append.result.now ≡ c.is_filled.new.group = c.index_mut-in-Ok-append.ensures.value ∙ set_there s.groups.items c.in-Some-numbered_place.place c.is_filled.new.group c.index_mut-in-Ok-append.result.now l
-    in let
-    long = looked_length h.indexes.items c.is_filled.new.group.indexes.items c.is_filled.ensures.looked.indexes
+    there : c.index_mut.result.now ≡ h = same_there s.groups.items c.in-Some-numbered_place.place c.index_mut.result.now h l (sym c.index_mut.ensures.value) h_is
     in let
     low = within h.indexes.items c.in-Some-index_place.at x x_is
     in let
     count = ap (λ (y : Group). length y.indexes.items) there
     in
-    omega (arith, long, low, count))
+    omega (arith, low, count))
 
 pub invariant_of-self-in-Ok-append : goal.invariant_of-self-in-Ok-append
 invariant_of-self-in-Ok-append g c = (let
@@ -336,25 +221,19 @@ invariant_of-self-in-Ok-append g c = (let
     in let
     l = place_in s.groups.items s.standing.tables k.each.stand c.in-Some-numbered_place.place c.in-Some-numbered_place.ensures.found
     in let
-    h = c.index_mut.result.now
+    h = c.index-group.result.now
     in let
-    h_is : get_or s.groups.items c.in-Some-numbered_place.place h ≡ h = sym c.index_mut.ensures.value
+    h_is : get_or s.groups.items c.in-Some-numbered_place.place h ≡ h = sym c.index-group.ensures
     in let
     own : h.table.id ≡ c.args.table = group_of s.groups.items s.standing.tables k.each.stand c.in-Some-numbered_place.place h l h_is c.args.table c.in-Some-numbered_place.ensures.numbered
     in let
-    kd : IsKept g.D.Disk b g.B.Founded.sound g.B.Founded.premise g.B.Founded.began c.is_filled.new.disk s.catalog s.standing s.groups.items s.trail s.late s.closed = subst (λ (y : g.row.D.Denot). IsKept g.D.Disk b g.B.Founded.sound g.B.Founded.premise g.B.Founded.began y s.catalog s.standing s.groups.items s.trail s.late s.closed) (sym c.is_filled.ensures.untouched) k
-    in let
     x = c.index-part.result.now
     in let
-    same = same_there s.groups.items c.in-Some-numbered_place.place c.index-group.result.now h l (sym c.index-group.ensures) h_is
+    x_is : slice_get h.indexes.items c.in-Some-index_place.at ≡ Some x = got_at h.indexes.items c.in-Some-index_place.at x c.in-Some-index_place.ensures.found.0 c.index-part.ensures
     in let
-    x0_is : slice_get c.index-group.result.now.indexes.items c.in-Some-index_place.at ≡ Some x = got_at c.index-group.result.now.indexes.items c.in-Some-index_place.at x c.in-Some-index_place.ensures.found.0 c.index-part.ensures
-    in let
-    id : x.index.id ≡ c.args.index = c.in-Some-index_place.ensures.found.1 x x0_is
-    in let
-    x_is : slice_get h.indexes.items c.in-Some-index_place.at ≡ Some x = ap (λ (y : Group). slice_get y.indexes.items c.in-Some-index_place.at) (sym same) ∙ x0_is
+    id : x.index.id ≡ c.args.index = c.in-Some-index_place.ensures.found.1 x x_is
     in
-    (activating_kept g.D.Disk g.met.D.Disk.told g.met.D.Disk.up_to_now b g.B.Based.damaged g.B.Founded.sound g.B.Founded.premise g.B.Founded.began c.is_filled.new.disk s.catalog s.standing s.groups.items s.trail s.late s.closed kd running c.in-Some-numbered_place.place h l h_is s.seat c.args.table own c.args.index may c.in-Some-index_place.at x x_is id c.in-Ok.made c.in-Ok.ensures.ok c.is_filled.new.group c.is_filled.ensures.looked c.in-Ok-false.field-0 c.in-Ok-false.field-0-test c.in-Ok-false.ensures.rows c.take_entry.new.trail c.take_entry.ensures.same c.in-Ok-take_entry.ensures.ok c.append.new.disk c.append.new.self c.append.ensures.counts c.append.ensures.touches c.append.ensures.any_moment c.in-Ok-append.ensures.done c.in-Ok-append.ensures.defined c.index_mut-in-Ok-append.result.now c.index_mut-in-Ok-append.ensures.value c.make_active.new.group c.make_active.ensures c.replace-before.new.dest c.replace-before.ensures.after c.push.new.self c.call_count.result c.call_count.ensures c.push.ensures.entries c.push.ensures.room, (c.self.invariant.1.0, more_by_clock g.C.Clock g.B.Founded.times g.B.Based.base s.clock s.trail.entries c.self.invariant.1.1 c.push.new.self.entries (record { seat = s.seat; calls = c.call_count.result; act = act.IndexState c.args.table c.args.index Active c.index-part.result.now.index.birth }) (c.push.ensures.entries ∙ ap (λ (es : List Entry). es ++ (record { seat = s.seat; calls = c.call_count.result; act = act.IndexState c.args.table c.args.index Active c.index-part.result.now.index.birth }) ∷ []) c.take_entry.ensures.same) refl)))
+    (activating_kept g.D.Disk g.met.D.Disk.told g.met.D.Disk.up_to_now b g.B.Based.damaged g.B.Founded.sound g.B.Founded.premise g.B.Founded.began s.disk s.catalog s.standing s.groups.items s.trail s.late s.closed k running c.in-Some-numbered_place.place h l h_is s.seat c.args.table own c.args.index may c.in-Some-index_place.at x x_is id c.in-Ok.made c.in-Ok.ensures.ok c.take_entry.new.trail c.take_entry.ensures.same c.in-Ok-take_entry.ensures.ok c.append.new.disk c.append.new.self c.append.ensures.counts c.append.ensures.touches c.append.ensures.any_moment c.in-Ok-append.ensures.done c.in-Ok-append.ensures.defined c.index_mut.result.now (same_there s.groups.items c.in-Some-numbered_place.place c.index_mut.result.now h l (sym c.index_mut.ensures.value) h_is) c.make_active.new.group c.make_active.ensures c.replace-before.new.dest c.replace-before.ensures.after c.push.new.self c.call_count.result c.call_count.ensures c.push.ensures.entries c.push.ensures.room, (c.self.invariant.1.0, more_by_clock g.C.Clock g.B.Founded.times g.B.Based.base s.clock s.trail.entries c.self.invariant.1.1 c.push.new.self.entries (record { seat = s.seat; calls = c.call_count.result; act = act.IndexState c.args.table c.args.index Active c.index-part.result.now.index.birth }) (c.push.ensures.entries ∙ ap (λ (es : List Entry). es ++ (record { seat = s.seat; calls = c.call_count.result; act = act.IndexState c.args.table c.args.index Active c.index-part.result.now.index.birth }) ∷ []) c.take_entry.ensures.same) refl)))
 
 pub invariant_of-self-in-Err-append : goal.invariant_of-self-in-Err-append
 invariant_of-self-in-Err-append g c = (let
@@ -372,25 +251,19 @@ invariant_of-self-in-Err-append g c = (let
     in let
     l = place_in s.groups.items s.standing.tables k.each.stand c.in-Some-numbered_place.place c.in-Some-numbered_place.ensures.found
     in let
-    h = c.index_mut.result.now
+    h = c.index-group.result.now
     in let
-    h_is : get_or s.groups.items c.in-Some-numbered_place.place h ≡ h = sym c.index_mut.ensures.value
+    h_is : get_or s.groups.items c.in-Some-numbered_place.place h ≡ h = sym c.index-group.ensures
     in let
     own : h.table.id ≡ c.args.table = group_of s.groups.items s.standing.tables k.each.stand c.in-Some-numbered_place.place h l h_is c.args.table c.in-Some-numbered_place.ensures.numbered
     in let
-    kd : IsKept g.D.Disk b g.B.Founded.sound g.B.Founded.premise g.B.Founded.began c.is_filled.new.disk s.catalog s.standing s.groups.items s.trail s.late s.closed = subst (λ (y : g.row.D.Denot). IsKept g.D.Disk b g.B.Founded.sound g.B.Founded.premise g.B.Founded.began y s.catalog s.standing s.groups.items s.trail s.late s.closed) (sym c.is_filled.ensures.untouched) k
-    in let
     x = c.index-part.result.now
     in let
-    same = same_there s.groups.items c.in-Some-numbered_place.place c.index-group.result.now h l (sym c.index-group.ensures) h_is
+    x_is : slice_get h.indexes.items c.in-Some-index_place.at ≡ Some x = got_at h.indexes.items c.in-Some-index_place.at x c.in-Some-index_place.ensures.found.0 c.index-part.ensures
     in let
-    x0_is : slice_get c.index-group.result.now.indexes.items c.in-Some-index_place.at ≡ Some x = got_at c.index-group.result.now.indexes.items c.in-Some-index_place.at x c.in-Some-index_place.ensures.found.0 c.index-part.ensures
-    in let
-    id : x.index.id ≡ c.args.index = c.in-Some-index_place.ensures.found.1 x x0_is
-    in let
-    x_is : slice_get h.indexes.items c.in-Some-index_place.at ≡ Some x = ap (λ (y : Group). slice_get y.indexes.items c.in-Some-index_place.at) (sym same) ∙ x0_is
+    id : x.index.id ≡ c.args.index = c.in-Some-index_place.ensures.found.1 x x_is
     in
-    (activating_failed g.D.Disk g.met.D.Disk.told g.met.D.Disk.up_to_now b g.B.Based.damaged g.B.Founded.sound g.B.Founded.premise g.B.Founded.began c.is_filled.new.disk s.catalog s.standing s.groups.items s.trail s.late s.closed kd running c.in-Some-numbered_place.place h l h_is s.seat c.args.table own c.args.index may c.in-Some-index_place.at x x_is id c.in-Ok.made c.in-Ok.ensures.ok c.is_filled.new.group c.is_filled.ensures.looked c.in-Ok-false.field-0 c.in-Ok-false.field-0-test c.in-Ok-false.ensures.rows c.take_entry.new.trail c.take_entry.ensures.same c.in-Ok-take_entry.ensures.ok c.append.new.disk c.append.new.self c.append.ensures.counts c.append.ensures.touches c.append.ensures.any_moment c.unwritten.new.trail c.unwritten.new.late c.unwritten.new.closed c.in-Err-append.fault (λ e. c.in-Err-append.ensures.untouched (elim e [ inl x ↦ inl (ap Err x) | inr x ↦ inr (ap Err x) ])) (λ e. c.in-Err-append.ensures.failed (ap Err e)) c.unwritten.ensures.kept c.unwritten.ensures.shut c.unwritten.ensures.room, (c.self.invariant.1.0, unwritten_by_clock g.C.Clock g.B.Founded.times g.B.Based.base s.clock s.trail.entries c.self.invariant.1.1 c.in-Err-append.fault c.unwritten.new.trail.entries (record { seat = s.seat; calls = g.D.Disk.calls c.append.new.disk; act = act.Shut (g.D.Disk.calls c.append.new.disk) }) (λ n. (c.unwritten.ensures.kept n).0 ∙ c.take_entry.ensures.same) (λ e. (c.unwritten.ensures.shut e).0 ∙ ap (λ (es : List Entry). es ++ (record { seat = s.seat; calls = g.D.Disk.calls c.append.new.disk; act = act.Shut (g.D.Disk.calls c.append.new.disk) }) ∷ []) c.take_entry.ensures.same) refl)))
+    (activating_failed g.D.Disk g.met.D.Disk.told g.met.D.Disk.up_to_now b g.B.Based.damaged g.B.Founded.sound g.B.Founded.premise g.B.Founded.began s.disk s.catalog s.standing s.groups.items s.trail s.late s.closed k running c.in-Some-numbered_place.place h l h_is s.seat c.args.table own c.args.index may c.in-Some-index_place.at x x_is id c.in-Ok.made c.in-Ok.ensures.ok c.take_entry.new.trail c.take_entry.ensures.same c.in-Ok-take_entry.ensures.ok c.append.new.disk c.append.new.self c.append.ensures.counts c.append.ensures.touches c.append.ensures.any_moment c.unwritten.new.trail c.unwritten.new.late c.unwritten.new.closed c.in-Err-append.fault (λ e. c.in-Err-append.ensures.untouched (elim e [ inl x ↦ inl (ap Err x) | inr x ↦ inr (ap Err x) ])) (λ e. c.in-Err-append.ensures.failed (ap Err e)) c.unwritten.ensures.kept c.unwritten.ensures.shut c.unwritten.ensures.room, (c.self.invariant.1.0, unwritten_by_clock g.C.Clock g.B.Founded.times g.B.Based.base s.clock s.trail.entries c.self.invariant.1.1 c.in-Err-append.fault c.unwritten.new.trail.entries (record { seat = s.seat; calls = g.D.Disk.calls c.append.new.disk; act = act.Shut (g.D.Disk.calls c.append.new.disk) }) (λ n. (c.unwritten.ensures.kept n).0 ∙ c.take_entry.ensures.same) (λ e. (c.unwritten.ensures.shut e).0 ∙ ap (λ (es : List Entry). es ++ (record { seat = s.seat; calls = g.D.Disk.calls c.append.new.disk; act = act.Shut (g.D.Disk.calls c.append.new.disk) }) ∷ []) c.take_entry.ensures.same) refl)))
 
 pub returns-in-Ok-append-clause-ok : goal.returns-in-Ok-append-clause-ok
 returns-in-Ok-append-clause-ok g c = (let
@@ -408,30 +281,24 @@ returns-in-Ok-append-clause-ok g c = (let
     in let
     l = place_in s.groups.items s.standing.tables k.each.stand c.in-Some-numbered_place.place c.in-Some-numbered_place.ensures.found
     in let
-    h = c.index_mut.result.now
+    h = c.index-group.result.now
     in let
-    h_is : get_or s.groups.items c.in-Some-numbered_place.place h ≡ h = sym c.index_mut.ensures.value
+    h_is : get_or s.groups.items c.in-Some-numbered_place.place h ≡ h = sym c.index-group.ensures
     in let
     own : h.table.id ≡ c.args.table = group_of s.groups.items s.standing.tables k.each.stand c.in-Some-numbered_place.place h l h_is c.args.table c.in-Some-numbered_place.ensures.numbered
     in let
-    kd : IsKept g.D.Disk b g.B.Founded.sound g.B.Founded.premise g.B.Founded.began c.is_filled.new.disk s.catalog s.standing s.groups.items s.trail s.late s.closed = subst (λ (y : g.row.D.Denot). IsKept g.D.Disk b g.B.Founded.sound g.B.Founded.premise g.B.Founded.began y s.catalog s.standing s.groups.items s.trail s.late s.closed) (sym c.is_filled.ensures.untouched) k
-    in let
     x = c.index-part.result.now
     in let
-    same = same_there s.groups.items c.in-Some-numbered_place.place c.index-group.result.now h l (sym c.index-group.ensures) h_is
+    x_is : slice_get h.indexes.items c.in-Some-index_place.at ≡ Some x = got_at h.indexes.items c.in-Some-index_place.at x c.in-Some-index_place.ensures.found.0 c.index-part.ensures
     in let
-    x0_is : slice_get c.index-group.result.now.indexes.items c.in-Some-index_place.at ≡ Some x = got_at c.index-group.result.now.indexes.items c.in-Some-index_place.at x c.in-Some-index_place.ensures.found.0 c.index-part.ensures
-    in let
-    id : x.index.id ≡ c.args.index = c.in-Some-index_place.ensures.found.1 x x0_is
-    in let
-    x_is : slice_get h.indexes.items c.in-Some-index_place.at ≡ Some x = ap (λ (y : Group). slice_get y.indexes.items c.in-Some-index_place.at) (sym same) ∙ x0_is
+    id : x.index.id ≡ c.args.index = c.in-Some-index_place.ensures.found.1 x x_is
     in let
     v' : Shown = record v { entries = c.push.new.self.entries }
     in let
     m : Answered = record { number = c.args.index.0; stamp = x.index.birth; at = c.len.result }
     in
-    subst (λ (w : Shown). DidDefine g.B.Founded.sound (known_by b g.B.Based.damaged w) (known_by b g.B.Based.damaged v') (definition.Active c.args.table c.args.index) m) c.self.view_is
-    (activating_did g.D.Disk g.met.D.Disk.told g.met.D.Disk.up_to_now b g.B.Based.damaged g.B.Founded.sound g.B.Founded.premise g.B.Founded.began c.is_filled.new.disk s.catalog s.standing s.groups.items s.trail s.late s.closed kd running c.in-Some-numbered_place.place h l h_is s.seat c.args.table own c.args.index may c.in-Some-index_place.at x x_is id c.in-Ok.made c.in-Ok.ensures.ok c.is_filled.new.group c.is_filled.ensures.looked c.in-Ok-false.field-0 c.in-Ok-false.field-0-test c.in-Ok-false.ensures.rows c.take_entry.new.trail c.take_entry.ensures.same c.in-Ok-take_entry.ensures.ok c.append.new.disk c.append.new.self c.append.ensures.counts c.append.ensures.touches c.append.ensures.any_moment c.in-Ok-append.ensures.done c.in-Ok-append.ensures.defined c.index_mut-in-Ok-append.result.now c.index_mut-in-Ok-append.ensures.value c.make_active.new.group c.make_active.ensures c.replace-before.new.dest c.replace-before.ensures.after c.push.new.self c.call_count.result c.call_count.ensures c.push.ensures.entries c.push.ensures.room c.len.result c.len.ensures))
+    subst (λ (w : Shown). DidDefine (known_by b g.B.Based.damaged w) (known_by b g.B.Based.damaged v') (definition.Active c.args.table c.args.index) m) c.self.view_is
+    (activating_did g.D.Disk g.met.D.Disk.told g.met.D.Disk.up_to_now b g.B.Based.damaged g.B.Founded.sound g.B.Founded.premise g.B.Founded.began s.disk s.catalog s.standing s.groups.items s.trail s.late s.closed k running c.in-Some-numbered_place.place h l h_is s.seat c.args.table own c.args.index may c.in-Some-index_place.at x x_is id c.in-Ok.made c.in-Ok.ensures.ok c.take_entry.new.trail c.take_entry.ensures.same c.in-Ok-take_entry.ensures.ok c.append.new.disk c.append.new.self c.append.ensures.counts c.append.ensures.touches c.append.ensures.any_moment c.in-Ok-append.ensures.done c.in-Ok-append.ensures.defined c.index_mut.result.now (same_there s.groups.items c.in-Some-numbered_place.place c.index_mut.result.now h l (sym c.index_mut.ensures.value) h_is) c.make_active.new.group c.make_active.ensures c.replace-before.new.dest c.replace-before.ensures.after c.push.new.self c.call_count.result c.call_count.ensures c.push.ensures.entries c.push.ensures.room c.len.result c.len.ensures))
 
 pub returns-in-Err-append-clause-refused : goal.returns-in-Err-append-clause-refused
 returns-in-Err-append-clause-refused g c = (let
@@ -449,25 +316,19 @@ returns-in-Err-append-clause-refused g c = (let
     in let
     l = place_in s.groups.items s.standing.tables k.each.stand c.in-Some-numbered_place.place c.in-Some-numbered_place.ensures.found
     in let
-    h = c.index_mut.result.now
+    h = c.index-group.result.now
     in let
-    h_is : get_or s.groups.items c.in-Some-numbered_place.place h ≡ h = sym c.index_mut.ensures.value
+    h_is : get_or s.groups.items c.in-Some-numbered_place.place h ≡ h = sym c.index-group.ensures
     in let
     own : h.table.id ≡ c.args.table = group_of s.groups.items s.standing.tables k.each.stand c.in-Some-numbered_place.place h l h_is c.args.table c.in-Some-numbered_place.ensures.numbered
     in let
-    kd : IsKept g.D.Disk b g.B.Founded.sound g.B.Founded.premise g.B.Founded.began c.is_filled.new.disk s.catalog s.standing s.groups.items s.trail s.late s.closed = subst (λ (y : g.row.D.Denot). IsKept g.D.Disk b g.B.Founded.sound g.B.Founded.premise g.B.Founded.began y s.catalog s.standing s.groups.items s.trail s.late s.closed) (sym c.is_filled.ensures.untouched) k
-    in let
     x = c.index-part.result.now
     in let
-    same = same_there s.groups.items c.in-Some-numbered_place.place c.index-group.result.now h l (sym c.index-group.ensures) h_is
+    x_is : slice_get h.indexes.items c.in-Some-index_place.at ≡ Some x = got_at h.indexes.items c.in-Some-index_place.at x c.in-Some-index_place.ensures.found.0 c.index-part.ensures
     in let
-    x0_is : slice_get c.index-group.result.now.indexes.items c.in-Some-index_place.at ≡ Some x = got_at c.index-group.result.now.indexes.items c.in-Some-index_place.at x c.in-Some-index_place.ensures.found.0 c.index-part.ensures
-    in let
-    id : x.index.id ≡ c.args.index = c.in-Some-index_place.ensures.found.1 x x0_is
-    in let
-    x_is : slice_get h.indexes.items c.in-Some-index_place.at ≡ Some x = ap (λ (y : Group). slice_get y.indexes.items c.in-Some-index_place.at) (sym same) ∙ x0_is
+    id : x.index.id ≡ c.args.index = c.in-Some-index_place.ensures.found.1 x x_is
     in let
     v' : Shown = record v { entries = c.unwritten.new.trail.entries; late = c.unwritten.new.late; closed = c.unwritten.new.closed }
     in
-    subst (λ (w : Shown). Refuses (define_cause g.B.Founded.sound (definition.Active c.args.table c.args.index)) (known_by b g.B.Based.damaged w) (known_by b g.B.Based.damaged v') c.unwritten.result) c.self.view_is
-    (activating_refused g.D.Disk g.met.D.Disk.told g.met.D.Disk.up_to_now b g.B.Based.damaged g.B.Founded.sound g.B.Founded.premise g.B.Founded.began c.is_filled.new.disk s.catalog s.standing s.groups.items s.trail s.late s.closed kd running c.in-Some-numbered_place.place h l h_is s.seat c.args.table own c.args.index may c.in-Some-index_place.at x x_is id c.in-Ok.made c.in-Ok.ensures.ok c.is_filled.new.group c.is_filled.ensures.looked c.in-Ok-false.field-0 c.in-Ok-false.field-0-test c.in-Ok-false.ensures.rows c.take_entry.new.trail c.take_entry.ensures.same c.in-Ok-take_entry.ensures.ok c.append.new.disk c.append.new.self c.append.ensures.counts c.append.ensures.touches c.append.ensures.any_moment c.unwritten.new.trail c.unwritten.new.late c.unwritten.new.closed c.in-Err-append.fault (λ e. c.in-Err-append.ensures.untouched (elim e [ inl x ↦ inl (ap Err x) | inr x ↦ inr (ap Err x) ])) (λ e. c.in-Err-append.ensures.failed (ap Err e)) c.unwritten.ensures.kept c.unwritten.ensures.shut c.unwritten.ensures.room c.unwritten.result c.unwritten.ensures.full c.unwritten.ensures.memory c.unwritten.ensures.failed))
+    subst (λ (w : Shown). Refuses (define_cause (definition.Active c.args.table c.args.index)) (known_by b g.B.Based.damaged w) (known_by b g.B.Based.damaged v') c.unwritten.result) c.self.view_is
+    (activating_refused g.D.Disk g.met.D.Disk.told g.met.D.Disk.up_to_now b g.B.Based.damaged g.B.Founded.sound g.B.Founded.premise g.B.Founded.began s.disk s.catalog s.standing s.groups.items s.trail s.late s.closed k running c.in-Some-numbered_place.place h l h_is s.seat c.args.table own c.args.index may c.in-Some-index_place.at x x_is id c.in-Ok.made c.in-Ok.ensures.ok c.take_entry.new.trail c.take_entry.ensures.same c.in-Ok-take_entry.ensures.ok c.append.new.disk c.append.new.self c.append.ensures.counts c.append.ensures.touches c.append.ensures.any_moment c.unwritten.new.trail c.unwritten.new.late c.unwritten.new.closed c.in-Err-append.fault (λ e. c.in-Err-append.ensures.untouched (elim e [ inl x ↦ inl (ap Err x) | inr x ↦ inr (ap Err x) ])) (λ e. c.in-Err-append.ensures.failed (ap Err e)) c.unwritten.ensures.kept c.unwritten.ensures.shut c.unwritten.ensures.room c.unwritten.result c.unwritten.ensures.full c.unwritten.ensures.memory c.unwritten.ensures.failed))

@@ -26,8 +26,8 @@ returns-in-Err-clause-refused g c =
     let b = g.B.Based.base in
     let told = c.self.invariant.0.told in
     let v : Shown = shown_of s.seat s.trail.entries s.late s.closed s.groups.items in
-    subst (λ (w : Shown). Refuses (define_cause g.B.Founded.sound (NewTableOf c.args.what.now)) (known_by b g.B.Based.damaged w) (known_by b g.B.Based.damaged w) c.in-Err.fault) c.self.view_is
-    (refused_unmade g.B.Founded.sound (known_by b g.B.Based.damaged v) told.legal s.closed told.closing s.standing told.agrees c.args.what.now c.in-Err.fault c.in-Err.ensures.refused)
+    subst (λ (w : Shown). Refuses (define_cause (NewTableOf c.args.what.now)) (known_by b g.B.Based.damaged w) (known_by b g.B.Based.damaged w) c.in-Err.fault) c.self.view_is
+    (refused_unmade (known_by b g.B.Based.damaged v) told.legal s.closed told.closing s.standing told.agrees c.args.what.now c.in-Err.fault c.in-Err.ensures.refused)
 
 pub returns-in_default-parts_of-clause-refused : goal.returns-in_default-parts_of-clause-refused
 returns-in_default-parts_of-clause-refused g c =
@@ -36,8 +36,8 @@ returns-in_default-parts_of-clause-refused g c =
     let told = c.self.invariant.0.told in
     let may : MayMake s.standing s.closed c.args.what.now = on_ok c.check_table.result (MayMake s.standing s.closed c.args.what.now) c.check_table.ensures.ok (λ e is. search rules) in
     let v : Shown = shown_of s.seat s.trail.entries s.late s.closed s.groups.items in
-    subst (λ (w : Shown). Refuses (define_cause g.B.Founded.sound (NewTableOf c.args.what.now)) (known_by b g.B.Based.damaged w) (known_by b g.B.Based.damaged w) Memory) c.self.view_is
-    (refused_memory g.B.Founded.sound (known_by b g.B.Based.damaged v) told.legal s.closed told.closing may.running (NewTableOf c.args.what.now))
+    subst (λ (w : Shown). Refuses (define_cause (NewTableOf c.args.what.now)) (known_by b g.B.Based.damaged w) (known_by b g.B.Based.damaged w) Memory) c.self.view_is
+    (refused_memory (known_by b g.B.Based.damaged v) told.legal s.closed told.closing may.running (NewTableOf c.args.what.now))
 
 pub returns-in_default-take_room-clause-refused : goal.returns-in_default-take_room-clause-refused
 returns-in_default-take_room-clause-refused g c =
@@ -46,9 +46,9 @@ returns-in_default-take_room-clause-refused g c =
     let told = c.self.invariant.0.told in
     let may : MayMake s.standing s.closed c.args.what.now = on_ok c.check_table.result (MayMake s.standing s.closed c.args.what.now) c.check_table.ensures.ok (λ e is. search rules) in
     let v : Shown = shown_of s.seat s.trail.entries s.late s.closed s.groups.items in
-    subst (λ (w : Shown). Refuses (define_cause g.B.Founded.sound (NewTableOf c.args.what.now)) (known_by b g.B.Based.damaged w) (record (known_by b g.B.Based.damaged v) { seen = c.take_room.new.trail.entries }) Memory) c.self.view_is
-    (subst (λ (es : List Entry). Refuses (define_cause g.B.Founded.sound (NewTableOf c.args.what.now)) (known_by b g.B.Based.damaged v) (record (known_by b g.B.Based.damaged v) { seen = es }) Memory) (sym c.take_room.ensures.same)
-    (refused_memory g.B.Founded.sound (known_by b g.B.Based.damaged v) told.legal s.closed told.closing may.running (NewTableOf c.args.what.now)))
+    subst (λ (w : Shown). Refuses (define_cause (NewTableOf c.args.what.now)) (known_by b g.B.Based.damaged w) (record (known_by b g.B.Based.damaged v) { seen = c.take_room.new.trail.entries }) Memory) c.self.view_is
+    (subst (λ (es : List Entry). Refuses (define_cause (NewTableOf c.args.what.now)) (known_by b g.B.Based.damaged v) (record (known_by b g.B.Based.damaged v) { seen = es }) Memory) (sym c.take_room.ensures.same)
+    (refused_memory (known_by b g.B.Based.damaged v) told.legal s.closed told.closing may.running (NewTableOf c.args.what.now)))
 
 pub append-requires : goal.append-requires
 append-requires g c =
@@ -92,8 +92,8 @@ returns-in-Ok-append-clause-ok g c =
     let v' : Shown = record v { entries = c.push.new.self.entries } in
     let id = c.in-Ok.parts.group.table.id in
     let m : Answered = record { number = id.0; stamp = 0; at = c.len.result } in
-    subst (λ (w : Shown). DidDefine g.B.Founded.sound (known_by b g.B.Based.damaged w) (known_by b g.B.Based.damaged v') (NewTableOf c.args.what.now) m) c.self.view_is
-    (did_make g.B.Founded.sound (known_by b g.B.Based.damaged v) told.legal s.closed told.closing c.push.new.self.entries c.call_count.result (invariant_of-self-in-Ok-append g c).0.told.legal c.args.what.now m refl c.len.ensures
+    subst (λ (w : Shown). DidDefine (known_by b g.B.Based.damaged w) (known_by b g.B.Based.damaged v') (NewTableOf c.args.what.now) m) c.self.view_is
+    (did_make (known_by b g.B.Based.damaged v) told.legal s.closed told.closing c.push.new.self.entries c.call_count.result (invariant_of-self-in-Ok-append g c).0.told.legal c.args.what.now m refl c.len.ensures
     (c.push.ensures.entries ∙ (ap (λ (es : List Entry). es ++ record { seat = s.seat; calls = c.call_count.result; act = MadeAct id c.in-Ok.parts.copy } ∷ []) c.take_room.ensures.same
     ∙ ap (λ (w : NewTable). s.trail.entries ++ record { seat = s.seat; calls = c.call_count.result; act = MadeAct id w } ∷ []) c.in-Ok.ensures.copy_is)))
 
@@ -106,10 +106,10 @@ returns-in-Err-append-clause-refused g c =
     let v : Shown = shown_of s.seat s.trail.entries s.late s.closed s.groups.items in
     let v' : Shown = record v { entries = c.unwritten.new.trail.entries; late = c.unwritten.new.late; closed = c.unwritten.new.closed } in
     let calls = g.D.Disk.calls c.append.new.disk in
-    subst (λ (w : Shown). Refuses (define_cause g.B.Founded.sound (NewTableOf c.args.what.now)) (known_by b g.B.Based.damaged w) (known_by b g.B.Based.damaged v') c.unwritten.result) c.self.view_is
-    (unwritten_refused g.B.Founded.sound (known_by b g.B.Based.damaged v) told.legal s.closed told.closing (NewTableOf c.args.what.now)
-    (table_full g.B.Founded.sound (known_by b g.B.Based.damaged v) told.legal s.closed told.closing may.running c.args.what.now)
-    (refused_memory g.B.Founded.sound (known_by b g.B.Based.damaged v) told.legal s.closed told.closing may.running (NewTableOf c.args.what.now))
+    subst (λ (w : Shown). Refuses (define_cause (NewTableOf c.args.what.now)) (known_by b g.B.Based.damaged w) (known_by b g.B.Based.damaged v') c.unwritten.result) c.self.view_is
+    (unwritten_refused (known_by b g.B.Based.damaged v) told.legal s.closed told.closing (NewTableOf c.args.what.now)
+    (table_full (known_by b g.B.Based.damaged v) told.legal s.closed told.closing may.running c.args.what.now)
+    (refused_memory (known_by b g.B.Based.damaged v) told.legal s.closed told.closing may.running (NewTableOf c.args.what.now))
     c.unwritten.result c.unwritten.new.trail.entries calls (invariant_of-self-in-Err-append g c).0.told.legal c.in-Err-append.fault c.unwritten.ensures.full c.unwritten.ensures.memory c.unwritten.ensures.failed
     (λ n. (c.unwritten.ensures.kept n).0 ∙ c.take_room.ensures.same)
     (λ e. (c.unwritten.ensures.shut e).0 ∙ ap (λ (es : List Entry). es ++ record { seat = s.seat; calls = calls; act = Shut calls } ∷ []) c.take_room.ensures.same))

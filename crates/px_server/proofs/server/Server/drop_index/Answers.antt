@@ -31,7 +31,7 @@ returns-in-Some-clause-refused g c = (let
     in let
     v : Shown = shown_of s.seat s.trail.entries s.late s.closed s.groups.items
     in
-    subst (λ (w : Shown). Refuses (define_cause g.B.Founded.sound (definition.DropIndex c.args.table c.args.index)) (known_by b g.B.Based.damaged w) (known_by b g.B.Based.damaged w) (Closed c.in-Some.call)) c.self.view_is
+    subst (λ (w : Shown). Refuses (define_cause (definition.DropIndex c.args.table c.args.index)) (known_by b g.B.Based.damaged w) (known_by b g.B.Based.damaged w) (Closed c.in-Some.call)) c.self.view_is
     (closed_by (known_by b g.B.Based.damaged v) k.told.legal s.closed k.told.closing c.in-Some.call c.in-Some.is))
 
 pub returns-in_default-numbered_place-clause-refused : goal.returns-in_default-numbered_place-clause-refused
@@ -46,7 +46,7 @@ returns-in_default-numbered_place-clause-refused g c = (let
     in let
     running : s.closed ≡ None = c.in_default.is
     in
-    subst (λ (w : Shown). Refuses (define_cause g.B.Founded.sound (definition.DropIndex c.args.table c.args.index)) (known_by b g.B.Based.damaged w) (known_by b g.B.Based.damaged w) NoTable) c.self.view_is
+    subst (λ (w : Shown). Refuses (define_cause (definition.DropIndex c.args.table c.args.index)) (known_by b g.B.Based.damaged w) (known_by b g.B.Based.damaged w) NoTable) c.self.view_is
     ((lacks b s.trail.entries s.standing k.told.agrees c.args.table.0 c.in_default-numbered_place.ensures.none, stays (known_by b g.B.Based.damaged v) k.told.legal, k.told.closing ∙ running)))
 
 pub returns-then-not-has_index-clause-refused : goal.returns-then-not-has_index-clause-refused
@@ -61,7 +61,7 @@ returns-then-not-has_index-clause-refused g c = (let
     in let
     running : s.closed ≡ None = c.in_default.is
     in
-    subst (λ (w : Shown). Refuses (define_cause g.B.Founded.sound (definition.DropIndex c.args.table c.args.index)) (known_by b g.B.Based.damaged w) (known_by b g.B.Based.damaged w) NoIndex) c.self.view_is
+    subst (λ (w : Shown). Refuses (define_cause (definition.DropIndex c.args.table c.args.index)) (known_by b g.B.Based.damaged w) (known_by b g.B.Based.damaged w) NoIndex) c.self.view_is
     ((
       no_index_at g.D.Disk b g.B.Founded.sound g.B.Founded.premise g.B.Founded.began s.disk s.catalog s.standing s.groups.items s.trail s.late s.closed k running c.in-Some-numbered_place.place c.in-Some-numbered_place.ensures.found c.args.table c.in-Some-numbered_place.ensures.numbered c.args.index s.seat g.B.Based.damaged
           (λ has. false≢true (sym c.if-not-has_index.true ∙ c.has_index.ensures.1 (subst (λ xs. HasIndexOf xs c.args.table c.args.index) (sym c.as_slice.ensures) has))),
@@ -89,7 +89,7 @@ returns-then-count-gt0-clause-refused g c = (let
     in let
     own : h.table.id ≡ c.args.table = group_of s.groups.items s.standing.tables k.each.stand c.in-Some-numbered_place.place h l h_is c.args.table c.in-Some-numbered_place.ensures.numbered
     in
-    subst (λ (w : Shown). Refuses (define_cause g.B.Founded.sound (definition.DropIndex c.args.table c.args.index)) (known_by b g.B.Based.damaged w) (known_by b g.B.Based.damaged w) (InUse c.uses-count.result)) c.self.view_is
+    subst (λ (w : Shown). Refuses (define_cause (definition.DropIndex c.args.table c.args.index)) (known_by b g.B.Based.damaged w) (known_by b g.B.Based.damaged w) (InUse c.uses-count.result)) c.self.view_is
     ((in_use g.D.Disk g.met.D.Disk.told g.met.D.Disk.up_to_now b g.B.Based.damaged g.B.Founded.sound g.B.Founded.premise g.B.Founded.began s.disk s.catalog s.standing s.groups.items s.trail s.late s.closed k running c.in-Some-numbered_place.place h l h_is s.seat c.args.table own c.args.index c.uses-count.result c.uses-count.ensures (let some = c.if-count-gt0.true in omega (arith, some)), stays (known_by b g.B.Based.damaged v) k.told.legal, k.told.closing ∙ running)))
 
 pub returns-in_default-standing_after-clause-refused : goal.returns-in_default-standing_after-clause-refused
@@ -104,8 +104,8 @@ returns-in_default-standing_after-clause-refused g c = (let
     in let
     running : s.closed ≡ None = c.in_default.is
     in
-    subst (λ (w : Shown). Refuses (define_cause g.B.Founded.sound (definition.DropIndex c.args.table c.args.index)) (known_by b g.B.Based.damaged w) (known_by b g.B.Based.damaged w) Memory) c.self.view_is
-    (no_memory g.B.Founded.sound (known_by b g.B.Based.damaged v) k.told.legal s.closed k.told.closing running (definition.DropIndex c.args.table c.args.index)))
+    subst (λ (w : Shown). Refuses (define_cause (definition.DropIndex c.args.table c.args.index)) (known_by b g.B.Based.damaged w) (known_by b g.B.Based.damaged w) Memory) c.self.view_is
+    (no_memory (known_by b g.B.Based.damaged v) k.told.legal s.closed k.told.closing running (definition.DropIndex c.args.table c.args.index)))
 
 pub returns-in_default-take_entry-clause-refused : goal.returns-in_default-take_entry-clause-refused
 returns-in_default-take_entry-clause-refused g c = (let
@@ -119,9 +119,9 @@ returns-in_default-take_entry-clause-refused g c = (let
     in let
     running : s.closed ≡ None = c.in_default.is
     in
-    subst (λ (es : List Entry). Refuses (define_cause g.B.Founded.sound (definition.DropIndex c.args.table c.args.index)) (known_by b g.B.Based.damaged c.args.self.now) (known_by b g.B.Based.damaged (record v { entries = es })) Memory) (sym c.take_entry.ensures.same)
-    (subst (λ (w : Shown). Refuses (define_cause g.B.Founded.sound (definition.DropIndex c.args.table c.args.index)) (known_by b g.B.Based.damaged w) (known_by b g.B.Based.damaged v) Memory) c.self.view_is
-    (no_memory g.B.Founded.sound (known_by b g.B.Based.damaged v) k.told.legal s.closed k.told.closing running (definition.DropIndex c.args.table c.args.index))))
+    subst (λ (es : List Entry). Refuses (define_cause (definition.DropIndex c.args.table c.args.index)) (known_by b g.B.Based.damaged c.args.self.now) (known_by b g.B.Based.damaged (record v { entries = es })) Memory) (sym c.take_entry.ensures.same)
+    (subst (λ (w : Shown). Refuses (define_cause (definition.DropIndex c.args.table c.args.index)) (known_by b g.B.Based.damaged w) (known_by b g.B.Based.damaged v) Memory) c.self.view_is
+    (no_memory (known_by b g.B.Based.damaged v) k.told.legal s.closed k.told.closing running (definition.DropIndex c.args.table c.args.index))))
 
 pub append-requires : goal.append-requires
 append-requires g c = (let
@@ -225,7 +225,7 @@ returns-in-Ok-append-clause-ok g c = (let
     in let
     m : Answered = record { number = c.args.index.0; stamp = 0; at = c.len.result }
     in
-    subst (λ (w : Shown). DidDefine g.B.Founded.sound (known_by b g.B.Based.damaged w) (known_by b g.B.Based.damaged v') (definition.DropIndex c.args.table c.args.index) m) c.self.view_is
+    subst (λ (w : Shown). DidDefine (known_by b g.B.Based.damaged w) (known_by b g.B.Based.damaged v') (definition.DropIndex c.args.table c.args.index) m) c.self.view_is
     (dropping_did g.D.Disk g.met.D.Disk.told g.met.D.Disk.up_to_now b g.B.Based.damaged g.B.Founded.sound g.B.Founded.premise g.B.Founded.began s.disk s.catalog s.standing s.groups.items s.trail s.late s.closed k running c.in-Some-numbered_place.place h l h_is s.seat c.take_entry.new.trail c.take_entry.ensures.same c.in-Ok-take_entry.ensures.ok c.append.new.disk c.append.new.self c.append.ensures.counts c.append.ensures.touches c.args.table own c.args.index has unused c.append.ensures.any_moment c.in-Ok-append.ensures.done c.in-Ok-append.ensures.defined c.index_mut.result.now h2_is c.drop_index.new.group c.drop_index.ensures c.replace-before.new.dest (c.replace-before.ensures.after ∙ c.in-Ok.ensures) c.push.new.self c.call_count.result c.call_count.ensures c.push.ensures.entries c.push.ensures.room c.len.result c.len.ensures))
 
 pub returns-in-Err-clause-refused : goal.returns-in-Err-clause-refused
@@ -254,5 +254,5 @@ returns-in-Err-clause-refused g c = (let
     in let
     v' : Shown = record v { entries = c.unwritten.new.trail.entries; late = c.unwritten.new.late; closed = c.unwritten.new.closed }
     in
-    subst (λ (w : Shown). Refuses (define_cause g.B.Founded.sound (definition.DropIndex c.args.table c.args.index)) (known_by b g.B.Based.damaged w) (known_by b g.B.Based.damaged v') c.unwritten.result) c.self.view_is
+    subst (λ (w : Shown). Refuses (define_cause (definition.DropIndex c.args.table c.args.index)) (known_by b g.B.Based.damaged w) (known_by b g.B.Based.damaged v') c.unwritten.result) c.self.view_is
     (dropping_refused g.D.Disk g.met.D.Disk.told g.met.D.Disk.up_to_now b g.B.Based.damaged g.B.Founded.sound g.B.Founded.premise g.B.Founded.began s.disk s.catalog s.standing s.groups.items s.trail s.late s.closed k running c.in-Some-numbered_place.place h l h_is s.seat c.take_entry.new.trail c.take_entry.ensures.same c.in-Ok-take_entry.ensures.ok c.append.new.disk c.append.new.self c.append.ensures.counts c.append.ensures.touches c.args.table own c.args.index has unused c.append.ensures.any_moment c.unwritten.new.trail c.unwritten.new.late c.unwritten.new.closed c.in-Err.fault (λ e. c.in-Err.ensures.untouched (elim e [ inl x ↦ inl (ap Err x) | inr x ↦ inr (ap Err x) ])) (λ e. c.in-Err.ensures.failed (ap Err e)) c.unwritten.ensures.kept c.unwritten.ensures.shut c.unwritten.ensures.room c.unwritten.result c.unwritten.ensures.full c.unwritten.ensures.memory c.unwritten.ensures.failed))

@@ -25,8 +25,8 @@ returns-in-Some-clause-refused g c =
     let b = g.B.Based.base in
     let told = c.self.invariant.0.told in
     let v : Shown = shown_of s.seat s.trail.entries s.late s.closed s.groups.items in
-    subst (λ (w : Shown). Refuses (define_cause g.B.Founded.sound (DropTableOf c.args.table)) (known_by b g.B.Based.damaged w) (known_by b g.B.Based.damaged w) (Closed c.in-Some.call)) c.self.view_is
-    (refused_closed g.B.Founded.sound (known_by b g.B.Based.damaged v) told.legal s.closed told.closing (DropTableOf c.args.table) c.in-Some.call c.in-Some.is)
+    subst (λ (w : Shown). Refuses (define_cause (DropTableOf c.args.table)) (known_by b g.B.Based.damaged w) (known_by b g.B.Based.damaged w) (Closed c.in-Some.call)) c.self.view_is
+    (refused_closed (known_by b g.B.Based.damaged v) told.legal s.closed told.closing (DropTableOf c.args.table) c.in-Some.call c.in-Some.is)
 
 pub returns-in_default-numbered_place-clause-refused : goal.returns-in_default-numbered_place-clause-refused
 returns-in_default-numbered_place-clause-refused g c =
@@ -35,8 +35,8 @@ returns-in_default-numbered_place-clause-refused g c =
     let told = c.self.invariant.0.told in
     let v : Shown = shown_of s.seat s.trail.entries s.late s.closed s.groups.items in
     let running : s.closed ≡ None = none_of s.closed (λ x is. search rules) in
-    subst (λ (w : Shown). Refuses (define_cause g.B.Founded.sound (DropTableOf c.args.table)) (known_by b g.B.Based.damaged w) (known_by b g.B.Based.damaged w) (NoTable)) c.self.view_is
-    (drop_no_table g.B.Founded.sound (known_by b g.B.Based.damaged v) told.legal s.closed told.closing s.standing told.agrees running c.args.table c.in_default-numbered_place.ensures.none)
+    subst (λ (w : Shown). Refuses (define_cause (DropTableOf c.args.table)) (known_by b g.B.Based.damaged w) (known_by b g.B.Based.damaged w) (NoTable)) c.self.view_is
+    (drop_no_table (known_by b g.B.Based.damaged v) told.legal s.closed told.closing s.standing told.agrees running c.args.table c.in_default-numbered_place.ensures.none)
 
 pub returns-then-count-gt0-clause-refused : goal.returns-then-count-gt0-clause-refused
 returns-then-count-gt0-clause-refused g c =
@@ -45,8 +45,8 @@ returns-then-count-gt0-clause-refused g c =
     let told = c.self.invariant.0.told in
     let v : Shown = shown_of s.seat s.trail.entries s.late s.closed s.groups.items in
     let running : s.closed ≡ None = none_of s.closed (λ x is. search rules) in
-    subst (λ (w : Shown). Refuses (define_cause g.B.Founded.sound (DropTableOf c.args.table)) (known_by b g.B.Based.damaged w) (known_by b g.B.Based.damaged w) (InUse c.uses-count.result)) c.self.view_is
-    (drop_in_use g.B.Founded.sound (known_by b g.B.Based.damaged v) told.legal s.closed told.closing running c.args.table c.uses-count.result (table_uses g.D.Disk b g.B.Founded.sound g.B.Founded.premise g.B.Founded.began s.disk s.catalog s.standing s.groups.items s.trail s.late s.closed c.self.invariant.0 running c.args.table c.in-Some-numbered_place.place c.in-Some-numbered_place.ensures.found c.in-Some-numbered_place.ensures.numbered c.index.result.now (sym c.index.ensures) ∙ sym c.uses-count.ensures) c.if-count-gt0.true)
+    subst (λ (w : Shown). Refuses (define_cause (DropTableOf c.args.table)) (known_by b g.B.Based.damaged w) (known_by b g.B.Based.damaged w) (InUse c.uses-count.result)) c.self.view_is
+    (drop_in_use (known_by b g.B.Based.damaged v) told.legal s.closed told.closing running c.args.table c.uses-count.result (table_uses g.D.Disk b g.B.Founded.sound g.B.Founded.premise g.B.Founded.began s.disk s.catalog s.standing s.groups.items s.trail s.late s.closed c.self.invariant.0 running c.args.table c.in-Some-numbered_place.place c.in-Some-numbered_place.ensures.found c.in-Some-numbered_place.ensures.numbered c.index.result.now (sym c.index.ensures) ∙ sym c.uses-count.ensures) c.if-count-gt0.true)
 
 pub returns-in_default-standing_after-clause-refused : goal.returns-in_default-standing_after-clause-refused
 returns-in_default-standing_after-clause-refused g c =
@@ -55,8 +55,8 @@ returns-in_default-standing_after-clause-refused g c =
     let told = c.self.invariant.0.told in
     let v : Shown = shown_of s.seat s.trail.entries s.late s.closed s.groups.items in
     let running : s.closed ≡ None = none_of s.closed (λ x is. search rules) in
-    subst (λ (w : Shown). Refuses (define_cause g.B.Founded.sound (DropTableOf c.args.table)) (known_by b g.B.Based.damaged w) (known_by b g.B.Based.damaged w) (Memory)) c.self.view_is
-    (refused_memory g.B.Founded.sound (known_by b g.B.Based.damaged v) told.legal s.closed told.closing running (DropTableOf c.args.table))
+    subst (λ (w : Shown). Refuses (define_cause (DropTableOf c.args.table)) (known_by b g.B.Based.damaged w) (known_by b g.B.Based.damaged w) (Memory)) c.self.view_is
+    (refused_memory (known_by b g.B.Based.damaged v) told.legal s.closed told.closing running (DropTableOf c.args.table))
 
 pub returns-in_default-take_entry-clause-refused : goal.returns-in_default-take_entry-clause-refused
 returns-in_default-take_entry-clause-refused g c =
@@ -65,9 +65,9 @@ returns-in_default-take_entry-clause-refused g c =
     let told = c.self.invariant.0.told in
     let v : Shown = shown_of s.seat s.trail.entries s.late s.closed s.groups.items in
     let running : s.closed ≡ None = none_of s.closed (λ x is. search rules) in
-    subst (λ (w : Shown). Refuses (define_cause g.B.Founded.sound (DropTableOf c.args.table)) (known_by b g.B.Based.damaged w) (record (known_by b g.B.Based.damaged v) { seen = c.take_entry.new.trail.entries }) Memory) c.self.view_is
-    (subst (λ (es : List Entry). Refuses (define_cause g.B.Founded.sound (DropTableOf c.args.table)) (known_by b g.B.Based.damaged v) (record (known_by b g.B.Based.damaged v) { seen = es }) Memory) (sym c.take_entry.ensures.same)
-    (refused_memory g.B.Founded.sound (known_by b g.B.Based.damaged v) told.legal s.closed told.closing running (DropTableOf c.args.table)))
+    subst (λ (w : Shown). Refuses (define_cause (DropTableOf c.args.table)) (known_by b g.B.Based.damaged w) (record (known_by b g.B.Based.damaged v) { seen = c.take_entry.new.trail.entries }) Memory) c.self.view_is
+    (subst (λ (es : List Entry). Refuses (define_cause (DropTableOf c.args.table)) (known_by b g.B.Based.damaged v) (record (known_by b g.B.Based.damaged v) { seen = es }) Memory) (sym c.take_entry.ensures.same)
+    (refused_memory (known_by b g.B.Based.damaged v) told.legal s.closed told.closing running (DropTableOf c.args.table)))
 
 pub append-requires : goal.append-requires
 append-requires g c =
@@ -113,8 +113,8 @@ returns-in-Ok-append-clause-ok g c =
     let v : Shown = shown_of s.seat s.trail.entries s.late s.closed s.groups.items in
     let v' : Shown = record v { entries = c.push.new.self.entries } in
     let m : Answered = record { number = c.args.table.0; stamp = 0; at = c.len.result } in
-    subst (λ (w : Shown). DidDefine g.B.Founded.sound (known_by b g.B.Based.damaged w) (known_by b g.B.Based.damaged v') (DropTableOf c.args.table) m) c.self.view_is
-    (did_drop g.B.Founded.sound (known_by b g.B.Based.damaged v) told.legal s.closed told.closing c.push.new.self.entries c.call_count.result (invariant_of-self-in-Ok-append g c).0.told.legal c.args.table m refl refl c.len.ensures
+    subst (λ (w : Shown). DidDefine (known_by b g.B.Based.damaged w) (known_by b g.B.Based.damaged v') (DropTableOf c.args.table) m) c.self.view_is
+    (did_drop (known_by b g.B.Based.damaged v) told.legal s.closed told.closing c.push.new.self.entries c.call_count.result (invariant_of-self-in-Ok-append g c).0.told.legal c.args.table m refl refl c.len.ensures
     (c.push.ensures.entries ∙ ap (λ (es : List Entry). es ++ record { seat = s.seat; calls = c.call_count.result; act = Dropped c.args.table None } ∷ []) c.take_entry.ensures.same))
 
 pub returns-in-Err-clause-refused : goal.returns-in-Err-clause-refused
@@ -126,8 +126,8 @@ returns-in-Err-clause-refused g c =
     let running : s.closed ≡ None = none_of s.closed (λ x is. search rules) in
     let v' : Shown = record v { entries = c.unwritten.new.trail.entries; late = c.unwritten.new.late; closed = c.unwritten.new.closed } in
     let calls = g.D.Disk.calls c.append.new.disk in
-    subst (λ (w : Shown). Refuses (define_cause g.B.Founded.sound (DropTableOf c.args.table)) (known_by b g.B.Based.damaged w) (known_by b g.B.Based.damaged v') c.unwritten.result) c.self.view_is
-    (unwritten_refused g.B.Founded.sound (known_by b g.B.Based.damaged v) told.legal s.closed told.closing (DropTableOf c.args.table) (drop_full g.B.Founded.sound (known_by b g.B.Based.damaged v) told.legal s.closed told.closing running c.args.table) (refused_memory g.B.Founded.sound (known_by b g.B.Based.damaged v) told.legal s.closed told.closing running (DropTableOf c.args.table))
+    subst (λ (w : Shown). Refuses (define_cause (DropTableOf c.args.table)) (known_by b g.B.Based.damaged w) (known_by b g.B.Based.damaged v') c.unwritten.result) c.self.view_is
+    (unwritten_refused (known_by b g.B.Based.damaged v) told.legal s.closed told.closing (DropTableOf c.args.table) (drop_full (known_by b g.B.Based.damaged v) told.legal s.closed told.closing running c.args.table) (refused_memory (known_by b g.B.Based.damaged v) told.legal s.closed told.closing running (DropTableOf c.args.table))
     c.unwritten.result c.unwritten.new.trail.entries calls (invariant_of-self-in-Err g c).0.told.legal c.in-Err.fault c.unwritten.ensures.full c.unwritten.ensures.memory c.unwritten.ensures.failed
     (λ n. (c.unwritten.ensures.kept n).0 ∙ c.take_entry.ensures.same)
     (λ e. (c.unwritten.ensures.shut e).0 ∙ ap (λ (es : List Entry). es ++ record { seat = s.seat; calls = calls; act = Shut calls } ∷ []) c.take_entry.ensures.same))

@@ -7,7 +7,7 @@ use Rattle.px_trail.specs.declared.entry.Act.TheVariants as act
 use Rattle.px_trail.specs.declared.entry.Entry.{Entry}
 use Rattle.px_turns.specs.Turns.{drawn}
 use Rattle.px_calls.specs.Calls.{DidDefine}
-use Rattle.px_calls.specs.Causes.{HasState, Refuses, define_cause}
+use Rattle.px_calls.specs.Causes.{Refuses, define_cause}
 use Rattle.px_calls.specs.Requires.{IsIndexFit}
 use Rattle.px_calls.specs.declared.definition.Definition.TheVariants as definition
 use Rattle.px_calls.specs.declared.fault.StepFault.{StepFault}
@@ -96,9 +96,9 @@ returns-in-Err-clause-refused g c = (let
     in let
     running : s.closed ≡ None = sym k.told.closing ∙ may.running
     in
-    subst (λ (f : StepFault). Refuses (define_cause g.B.Founded.sound (definition.Index c.args.what.now)) (known_by b g.B.Based.damaged c.args.self.now) (known_by b g.B.Based.damaged v) f) (sym c.in-Err.ensures.refused)
-    (subst (λ (w : Shown). Refuses (define_cause g.B.Founded.sound (definition.Index c.args.what.now)) (known_by b g.B.Based.damaged w) (known_by b g.B.Based.damaged v) Memory) c.self.view_is
-    (no_memory g.B.Founded.sound (known_by b g.B.Based.damaged v) k.told.legal s.closed k.told.closing running (definition.Index c.args.what.now))))
+    subst (λ (f : StepFault). Refuses (define_cause (definition.Index c.args.what.now)) (known_by b g.B.Based.damaged c.args.self.now) (known_by b g.B.Based.damaged v) f) (sym c.in-Err.ensures.refused)
+    (subst (λ (w : Shown). Refuses (define_cause (definition.Index c.args.what.now)) (known_by b g.B.Based.damaged w) (known_by b g.B.Based.damaged v) Memory) c.self.view_is
+    (no_memory (known_by b g.B.Based.damaged v) k.told.legal s.closed k.told.closing running (definition.Index c.args.what.now))))
 
 pub invariant_of-self-in_default-take_entry : goal.invariant_of-self-in_default-take_entry
 invariant_of-self-in_default-take_entry g c = (let
@@ -124,9 +124,9 @@ returns-in_default-take_entry-clause-refused g c = (let
     in let
     running : s.closed ≡ None = sym k.told.closing ∙ may.running
     in
-    subst (λ (es : List Entry). Refuses (define_cause g.B.Founded.sound (definition.Index c.args.what.now)) (known_by b g.B.Based.damaged c.args.self.now) (known_by b g.B.Based.damaged (record v { entries = es })) Memory) (sym c.take_entry.ensures.same)
-    (subst (λ (w : Shown). Refuses (define_cause g.B.Founded.sound (definition.Index c.args.what.now)) (known_by b g.B.Based.damaged w) (known_by b g.B.Based.damaged v) Memory) c.self.view_is
-    (no_memory g.B.Founded.sound (known_by b g.B.Based.damaged v) k.told.legal s.closed k.told.closing running (definition.Index c.args.what.now))))
+    subst (λ (es : List Entry). Refuses (define_cause (definition.Index c.args.what.now)) (known_by b g.B.Based.damaged c.args.self.now) (known_by b g.B.Based.damaged (record v { entries = es })) Memory) (sym c.take_entry.ensures.same)
+    (subst (λ (w : Shown). Refuses (define_cause (definition.Index c.args.what.now)) (known_by b g.B.Based.damaged w) (known_by b g.B.Based.damaged v) Memory) c.self.view_is
+    (no_memory (known_by b g.B.Based.damaged v) k.told.legal s.closed k.told.closing running (definition.Index c.args.what.now))))
 
 pub invariant_of-self-in_default-reserve_index : goal.invariant_of-self-in_default-reserve_index
 invariant_of-self-in_default-reserve_index g c = (let
@@ -160,9 +160,9 @@ returns-in_default-reserve_index-clause-refused g c = (let
     in let
     running : s.closed ≡ None = sym k.told.closing ∙ may.running
     in
-    subst (λ (es : List Entry). Refuses (define_cause g.B.Founded.sound (definition.Index c.args.what.now)) (known_by b g.B.Based.damaged c.args.self.now) (known_by b g.B.Based.damaged (record v { entries = es })) Memory) (sym c.take_entry.ensures.same)
-    (subst (λ (w : Shown). Refuses (define_cause g.B.Founded.sound (definition.Index c.args.what.now)) (known_by b g.B.Based.damaged w) (known_by b g.B.Based.damaged v) Memory) c.self.view_is
-    (no_memory g.B.Founded.sound (known_by b g.B.Based.damaged v) k.told.legal s.closed k.told.closing running (definition.Index c.args.what.now))))
+    subst (λ (es : List Entry). Refuses (define_cause (definition.Index c.args.what.now)) (known_by b g.B.Based.damaged c.args.self.now) (known_by b g.B.Based.damaged (record v { entries = es })) Memory) (sym c.take_entry.ensures.same)
+    (subst (λ (w : Shown). Refuses (define_cause (definition.Index c.args.what.now)) (known_by b g.B.Based.damaged w) (known_by b g.B.Based.damaged v) Memory) c.self.view_is
+    (no_memory (known_by b g.B.Based.damaged v) k.told.legal s.closed k.told.closing running (definition.Index c.args.what.now))))
 
 pub append-requires : goal.append-requires
 append-requires g c = (let
@@ -300,14 +300,12 @@ returns-in-Ok-append-clause-ok g c = (let
     in let
     above : h.last < c.next_stamp-stamp.result = (let a = c.next_stamp-stamp.ensures.above in let same = ap (λ (x : Group). x.last) (same_there s.groups.items c.in-Some.place h c.index.result.now l h_is (sym c.index.ensures)) in omega (arith, a, same))
     in let
-    empty : g.B.Founded.sound → HasState (known_by b g.B.Based.damaged v) c.args.what.now.table.0 → ⊥ = subst (λ (w : Shown). g.B.Founded.sound → HasState (known_by b g.B.Based.damaged w) c.args.what.now.table.0 → ⊥) (sym c.self.view_is) c.requires.empty
-    in let
     v' : Shown = record v { entries = c.push.new.self.entries }
     in let
     m : Answered = record { number = c.in-Ok.made.index.id.0; stamp = c.next_stamp-stamp.result; at = c.len.result }
     in
-    subst (λ (w : Shown). DidDefine g.B.Founded.sound (known_by b g.B.Based.damaged w) (known_by b g.B.Based.damaged v') (definition.Index c.args.what.now) m) c.self.view_is
-    (making_did g.D.Disk g.met.D.Disk.told g.met.D.Disk.up_to_now b g.B.Based.damaged g.B.Founded.sound g.B.Founded.premise g.B.Founded.began s.disk s.catalog s.standing s.groups.items s.trail s.late s.closed k running c.in-Some.place h l h_is s.seat c.take_entry.new.trail c.take_entry.ensures.same c.in-Ok-take_entry.ensures.ok c.append.new.disk c.append.new.self c.append.ensures.counts c.append.ensures.touches c.args.what.now own may fit c.next_stamp-stamp.result above c.next_stamp-stamp.ensures.most c.in-Ok.made c.in-Ok.ensures.ok c.reserve_index.new.group c.reserve_index.ensures.same c.append.ensures.any_moment c.in-Ok-append.ensures.done c.in-Ok-append.ensures.defined c.index_mut-in-Ok-append.result.now c.index_mut-in-Ok-append.ensures.value c.add_index.new.group c.add_index.ensures c.replace-before.new.dest c.replace-before.ensures.after c.push.new.self c.call_count.result c.call_count.ensures c.push.ensures.entries c.push.ensures.room empty c.len.result c.len.ensures))
+    subst (λ (w : Shown). DidDefine (known_by b g.B.Based.damaged w) (known_by b g.B.Based.damaged v') (definition.Index c.args.what.now) m) c.self.view_is
+    (making_did g.D.Disk g.met.D.Disk.told g.met.D.Disk.up_to_now b g.B.Based.damaged g.B.Founded.sound g.B.Founded.premise g.B.Founded.began s.disk s.catalog s.standing s.groups.items s.trail s.late s.closed k running c.in-Some.place h l h_is s.seat c.take_entry.new.trail c.take_entry.ensures.same c.in-Ok-take_entry.ensures.ok c.append.new.disk c.append.new.self c.append.ensures.counts c.append.ensures.touches c.args.what.now own may fit c.next_stamp-stamp.result above c.next_stamp-stamp.ensures.most c.in-Ok.made c.in-Ok.ensures.ok c.reserve_index.new.group c.reserve_index.ensures.same c.append.ensures.any_moment c.in-Ok-append.ensures.done c.in-Ok-append.ensures.defined c.index_mut-in-Ok-append.result.now c.index_mut-in-Ok-append.ensures.value c.add_index.new.group c.add_index.ensures c.replace-before.new.dest c.replace-before.ensures.after c.push.new.self c.call_count.result c.call_count.ensures c.push.ensures.entries c.push.ensures.room c.len.result c.len.ensures))
 
 pub returns-in-Err-append-clause-refused : goal.returns-in-Err-append-clause-refused
 returns-in-Err-append-clause-refused g c = (let
@@ -337,5 +335,5 @@ returns-in-Err-append-clause-refused g c = (let
     in let
     v' : Shown = record v { entries = c.unwritten.new.trail.entries; late = c.unwritten.new.late; closed = c.unwritten.new.closed }
     in
-    subst (λ (w : Shown). Refuses (define_cause g.B.Founded.sound (definition.Index c.args.what.now)) (known_by b g.B.Based.damaged w) (known_by b g.B.Based.damaged v') c.unwritten.result) c.self.view_is
+    subst (λ (w : Shown). Refuses (define_cause (definition.Index c.args.what.now)) (known_by b g.B.Based.damaged w) (known_by b g.B.Based.damaged v') c.unwritten.result) c.self.view_is
     (making_refused g.D.Disk g.met.D.Disk.told g.met.D.Disk.up_to_now b g.B.Based.damaged g.B.Founded.sound g.B.Founded.premise g.B.Founded.began s.disk s.catalog s.standing s.groups.items s.trail s.late s.closed k running c.in-Some.place h l h_is s.seat c.take_entry.new.trail c.take_entry.ensures.same c.in-Ok-take_entry.ensures.ok c.append.new.disk c.append.new.self c.append.ensures.counts c.append.ensures.touches c.args.what.now own may fit c.next_stamp-stamp.result above c.next_stamp-stamp.ensures.most c.in-Ok.made c.in-Ok.ensures.ok c.reserve_index.new.group c.reserve_index.ensures.same c.append.ensures.any_moment c.unwritten.new.trail c.unwritten.new.late c.unwritten.new.closed c.in-Err-append.fault (λ e. c.in-Err-append.ensures.untouched (elim e [ inl x ↦ inl (ap Err x) | inr x ↦ inr (ap Err x) ])) (λ e. c.in-Err-append.ensures.failed (ap Err e)) c.unwritten.ensures.kept c.unwritten.ensures.shut c.unwritten.ensures.room c.unwritten.result c.unwritten.ensures.full c.unwritten.ensures.memory c.unwritten.ensures.failed))

@@ -1,0 +1,238 @@
+use Rattle.std.proofs.Common.{rules, ◌≡◌, ◌<◌, ◌^◌, inl, inr, Err, List, [], ◌∷◌, ◌++◌, get_or, refl, sym, ap, subst, ◌∙◌}
+use Rattle.px_values.specs.declared.name.TableId.{TableId}
+use Rattle.px_tables.specs.declared.index.Index.{Index}
+use Rattle.px_tables.specs.declared.index.IndexState.TheVariants.{Disabled}
+use Rattle.px_trail.specs.declared.entry.Act.TheVariants.{IndexState, Shut}
+use Rattle.px_trail.specs.declared.entry.Entry.{Entry}
+use Rattle.px_calls.specs.Calls.{DidDefine}
+use Rattle.px_calls.specs.Causes.{Refuses, define_cause}
+use Rattle.px_calls.specs.declared.definition.Definition.TheVariants as definition
+use Rattle.px_calls.specs.declared.definition.Made.{Made as Answered}
+use Rattle.px_calls.specs.declared.fault.StepFault.{StepFault}
+use Rattle.px_calls.specs.declared.fault.StepFault.TheVariants.{Memory}
+use Rattle.px_schema.specs.Records.{IsRight}
+use Rattle.px_schema.specs.declared.item.CatalogItem.TheVariants.{IndexIs}
+use Rattle.px_catalog.specs.Catalogue.{standing_of}
+use Rattle.px_group.specs.declared.group.Group.{Group}
+use Rattle.px_disabled.specs.Disabled.{disabled}
+use Rattle.px_server.specs.Shown.{Shown, known_by, shown_of}
+use Rattle.px_server.specs.inner.Quiet.{IsIndexToPut, IsQuietPlace, IsUnquiet}
+use Rattle.px_server.proofs.DownSteps.{disabling_did, disabling_failed, disabling_kept, disabling_refused}
+use Rattle.px_server.proofs.QuietPlaces.{fits_put, low, own, unquiet_disabled}
+use Rattle.px_server.proofs.Reserved.{same_there}
+use Rattle.px_server.proofs.Stamping.{more_by_clock, unwritten_by_clock}
+use Rattle.px_server.proofs.Unwritten.{no_memory}
+use Rattle.px_server.proofs.server.Server.disable_index.Goals as goal
+
+pub returns-in-Err-clause-refused : goal.returns-in-Err-clause-refused
+returns-in-Err-clause-refused g c = (let
+    s = c.self.inside
+    in let
+    k = c.self.invariant.0
+    in let
+    b = g.B.Based.base
+    in let
+    v : Shown = shown_of s.seat s.trail.entries s.late s.closed s.groups.items
+    in let
+    why : IsUnquiet s.standing s.groups.items s.closed c.args.table c.args.index c.in-Err.fault = subst (λ (gs : List Group). IsUnquiet s.standing gs s.closed c.args.table c.args.index c.in-Err.fault) c.as_slice.ensures.value c.in-Err.ensures.refused
+    in
+    subst (λ (w : Shown). Refuses (define_cause (definition.Disabled c.args.table c.args.index)) (known_by b g.B.Based.damaged w) (known_by b g.B.Based.damaged w) c.in-Err.fault) c.self.view_is
+    (unquiet_disabled g.D.Disk g.met.D.Disk.told g.met.D.Disk.up_to_now b g.B.Based.damaged g.B.Founded.sound g.B.Founded.premise g.B.Founded.began s.disk s.catalog s.standing s.groups.items s.trail s.late s.closed k s.seat c.args.table c.args.index c.in-Err.fault why))
+
+pub returns-in-Err-index_to_put-clause-refused : goal.returns-in-Err-index_to_put-clause-refused
+returns-in-Err-index_to_put-clause-refused g c = (let
+    s = c.self.inside
+    in let
+    k = c.self.invariant.0
+    in let
+    b = g.B.Based.base
+    in let
+    v : Shown = shown_of s.seat s.trail.entries s.late s.closed s.groups.items
+    in let
+    p = c.in-Ok.place
+    in let
+    at : IsQuietPlace s.standing s.groups.items s.closed c.args.table c.args.index p = subst (λ (gs : List Group). IsQuietPlace s.standing gs s.closed c.args.table c.args.index p) c.as_slice.ensures.value c.in-Ok.ensures.ok
+    in
+    subst (λ (w : Shown). Refuses (define_cause (definition.Disabled c.args.table c.args.index)) (known_by b g.B.Based.damaged w) (known_by b g.B.Based.damaged w) c.in-Err-index_to_put.fault) c.self.view_is
+    (subst (λ (f : StepFault). Refuses (define_cause (definition.Disabled c.args.table c.args.index)) (known_by b g.B.Based.damaged v) (known_by b g.B.Based.damaged v) f) (sym c.in-Err-index_to_put.ensures.refused)
+    (no_memory (known_by b g.B.Based.damaged v) k.told.legal s.closed k.told.closing at.running (definition.Disabled c.args.table c.args.index))))
+
+pub returns-in_default-clause-refused : goal.returns-in_default-clause-refused
+returns-in_default-clause-refused g c = (let
+    s = c.self.inside
+    in let
+    k = c.self.invariant.0
+    in let
+    b = g.B.Based.base
+    in let
+    v : Shown = shown_of s.seat s.trail.entries s.late s.closed s.groups.items
+    in let
+    p = c.in-Ok.place
+    in let
+    at : IsQuietPlace s.standing s.groups.items s.closed c.args.table c.args.index p = subst (λ (gs : List Group). IsQuietPlace s.standing gs s.closed c.args.table c.args.index p) c.as_slice.ensures.value c.in-Ok.ensures.ok
+    in
+    subst (λ (es : List Entry). Refuses (define_cause (definition.Disabled c.args.table c.args.index)) (known_by b g.B.Based.damaged c.args.self.now) (known_by b g.B.Based.damaged (record v { entries = es })) Memory) (sym c.take_entry.ensures.same)
+    (subst (λ (w : Shown). Refuses (define_cause (definition.Disabled c.args.table c.args.index)) (known_by b g.B.Based.damaged w) (known_by b g.B.Based.damaged v) Memory) c.self.view_is
+    (no_memory (known_by b g.B.Based.damaged v) k.told.legal s.closed k.told.closing at.running (definition.Disabled c.args.table c.args.index))))
+
+pub append-requires : goal.append-requires
+append-requires g c = (let
+    s = c.self.inside
+    in let
+    k = c.self.invariant.0
+    in let
+    b = g.B.Based.base
+    in let
+    v : Shown = shown_of s.seat s.trail.entries s.late s.closed s.groups.items
+    in let
+    p = c.in-Ok.place
+    in let
+    at : IsQuietPlace s.standing s.groups.items s.closed c.args.table c.args.index p = subst (λ (gs : List Group). IsQuietPlace s.standing gs s.closed c.args.table c.args.index p) c.as_slice.ensures.value c.in-Ok.ensures.ok
+    in let
+    x : Index = c.index-as_slice-place.result
+    in let
+    x_is : get_or s.standing.indexes p.index x ≡ x = ap (λ (xs : List Index). get_or xs p.index x) (sym c.as_slice-2.ensures) ∙ sym c.index-as_slice-place.is
+    in let
+    h : Group = c.index.result.now
+    in let
+    h_is : get_or s.groups.items p.table h ≡ h = sym c.index.ensures
+    in let
+    put : IsIndexToPut h.table s.standing (disabled x) c.in-Ok-index_to_put.made = subst (λ (w : Index). IsIndexToPut h.table s.standing (record w { state = Disabled; birth = x.birth; region = x.region }) c.in-Ok-index_to_put.made) x_is (c.in-Ok-index_to_put.ensures.ok x)
+    in let
+    small : c.args.table.0 < 256 ^ 4 = search rules
+    in let
+    short : x.table.0 < 256 ^ 4 = subst (λ (u : TableId). u.0 < 256 ^ 4) (sym (own g.D.Disk g.met.D.Disk.told g.met.D.Disk.up_to_now b g.B.Based.damaged g.B.Founded.sound g.B.Founded.premise g.B.Founded.began s.disk s.catalog s.standing s.groups.items s.trail s.late s.closed k s.seat c.args.table c.args.index p at x x_is h h_is)) small
+    in
+    record { right = subst (λ (y : Index). IsRight (standing_of s.catalog) (IndexIs y)) (sym put.item) (fits_put g.D.Disk g.met.D.Disk.told g.met.D.Disk.up_to_now b g.B.Based.damaged g.B.Founded.sound g.B.Founded.premise g.B.Founded.began s.disk s.catalog s.standing s.groups.items s.trail s.late s.closed k s.seat c.args.table c.args.index p at x x_is h h_is (disabled x) refl put.right put.can short) })
+
+pub invariant_of-self-in-Ok-append : goal.invariant_of-self-in-Ok-append
+invariant_of-self-in-Ok-append g c = (let
+    s = c.self.inside
+    in let
+    k = c.self.invariant.0
+    in let
+    b = g.B.Based.base
+    in let
+    v : Shown = shown_of s.seat s.trail.entries s.late s.closed s.groups.items
+    in let
+    p = c.in-Ok.place
+    in let
+    at : IsQuietPlace s.standing s.groups.items s.closed c.args.table c.args.index p = subst (λ (gs : List Group). IsQuietPlace s.standing gs s.closed c.args.table c.args.index p) c.as_slice.ensures.value c.in-Ok.ensures.ok
+    in let
+    x : Index = c.index-as_slice-place.result
+    in let
+    x_is : get_or s.standing.indexes p.index x ≡ x = ap (λ (xs : List Index). get_or xs p.index x) (sym c.as_slice-2.ensures) ∙ sym c.index-as_slice-place.is
+    in let
+    h : Group = c.index.result.now
+    in let
+    h_is : get_or s.groups.items p.table h ≡ h = sym c.index.ensures
+    in let
+    put : IsIndexToPut h.table s.standing (disabled x) c.in-Ok-index_to_put.made = subst (λ (w : Index). IsIndexToPut h.table s.standing (record w { state = Disabled; birth = x.birth; region = x.region }) c.in-Ok-index_to_put.made) x_is (c.in-Ok-index_to_put.ensures.ok x)
+    in let
+    h2_is : c.index_mut.result.now ≡ h = same_there s.groups.items p.table c.index_mut.result.now h (low g.D.Disk g.met.D.Disk.told g.met.D.Disk.up_to_now b g.B.Based.damaged g.B.Founded.sound g.B.Founded.premise g.B.Founded.began s.disk s.catalog s.standing s.groups.items s.trail s.late s.closed k s.seat c.args.table c.args.index p at x x_is h h_is) (sym c.index_mut.ensures.value) h_is
+    in let
+    e : Entry = record { seat = s.seat; calls = c.call_count.result; act = IndexState c.args.table c.args.index Disabled x.birth }
+    in (
+      disabling_kept g.D.Disk g.met.D.Disk.told g.met.D.Disk.up_to_now b g.B.Based.damaged g.B.Founded.sound g.B.Founded.premise g.B.Founded.began s.disk s.catalog s.standing s.groups.items s.trail s.late s.closed k s.seat c.args.table c.args.index p at x x_is h h_is c.in-Ok-index_to_put.made put c.take_entry.new.trail c.take_entry.ensures.same c.in-Ok-take_entry.ensures.ok c.append.new.disk c.append.new.self c.append.ensures.counts c.append.ensures.touches c.append.ensures.any_moment c.in-Ok-append.ensures.done c.in-Ok-append.ensures.defined c.index_mut.result.now h2_is c.drop_index.new.group c.drop_index.ensures c.replace-before.new.dest c.replace-before.ensures.after c.push.new.self c.call_count.result c.call_count.ensures c.push.ensures.entries c.push.ensures.room,
+      (
+        c.self.invariant.1.0,
+        more_by_clock g.C.Clock g.B.Founded.times b s.clock s.trail.entries c.self.invariant.1.1 c.push.new.self.entries e
+            (c.push.ensures.entries ∙ ap (λ (es : List Entry). es ++ e ∷ []) c.take_entry.ensures.same) refl,
+      ),
+    ))
+
+pub invariant_of-self-in-Err-append : goal.invariant_of-self-in-Err-append
+invariant_of-self-in-Err-append g c = (let
+    s = c.self.inside
+    in let
+    k = c.self.invariant.0
+    in let
+    b = g.B.Based.base
+    in let
+    v : Shown = shown_of s.seat s.trail.entries s.late s.closed s.groups.items
+    in let
+    p = c.in-Ok.place
+    in let
+    at : IsQuietPlace s.standing s.groups.items s.closed c.args.table c.args.index p = subst (λ (gs : List Group). IsQuietPlace s.standing gs s.closed c.args.table c.args.index p) c.as_slice.ensures.value c.in-Ok.ensures.ok
+    in let
+    x : Index = c.index-as_slice-place.result
+    in let
+    x_is : get_or s.standing.indexes p.index x ≡ x = ap (λ (xs : List Index). get_or xs p.index x) (sym c.as_slice-2.ensures) ∙ sym c.index-as_slice-place.is
+    in let
+    h : Group = c.index.result.now
+    in let
+    h_is : get_or s.groups.items p.table h ≡ h = sym c.index.ensures
+    in let
+    put : IsIndexToPut h.table s.standing (disabled x) c.in-Ok-index_to_put.made = subst (λ (w : Index). IsIndexToPut h.table s.standing (record w { state = Disabled; birth = x.birth; region = x.region }) c.in-Ok-index_to_put.made) x_is (c.in-Ok-index_to_put.ensures.ok x)
+    in let
+    shut : Entry = record { seat = s.seat; calls = g.D.Disk.calls c.append.new.disk; act = Shut (g.D.Disk.calls c.append.new.disk) }
+    in (
+      disabling_failed g.D.Disk g.met.D.Disk.told g.met.D.Disk.up_to_now b g.B.Based.damaged g.B.Founded.sound g.B.Founded.premise g.B.Founded.began s.disk s.catalog s.standing s.groups.items s.trail s.late s.closed k s.seat c.args.table c.args.index p at x x_is h h_is c.in-Ok-index_to_put.made put c.take_entry.new.trail c.take_entry.ensures.same c.in-Ok-take_entry.ensures.ok c.append.new.disk c.append.new.self c.append.ensures.counts c.append.ensures.touches c.append.ensures.any_moment c.unwritten.new.trail c.unwritten.new.late c.unwritten.new.closed c.in-Err-append.fault (λ e. c.in-Err-append.ensures.untouched (elim e [ inl z ↦ inl (ap Err z) | inr z ↦ inr (ap Err z) ])) (λ e. c.in-Err-append.ensures.failed (ap Err e)) c.unwritten.ensures.kept c.unwritten.ensures.shut c.unwritten.ensures.room,
+      (
+        c.self.invariant.1.0,
+        unwritten_by_clock g.C.Clock g.B.Founded.times b s.clock s.trail.entries c.self.invariant.1.1 c.in-Err-append.fault c.unwritten.new.trail.entries shut
+            (λ n. (c.unwritten.ensures.kept n).0 ∙ c.take_entry.ensures.same) (λ z. (c.unwritten.ensures.shut z).0 ∙ ap (λ (es : List Entry). es ++ shut ∷ []) c.take_entry.ensures.same) refl,
+      ),
+    ))
+
+pub returns-in-Ok-append-clause-ok : goal.returns-in-Ok-append-clause-ok
+returns-in-Ok-append-clause-ok g c = (let
+    s = c.self.inside
+    in let
+    k = c.self.invariant.0
+    in let
+    b = g.B.Based.base
+    in let
+    v : Shown = shown_of s.seat s.trail.entries s.late s.closed s.groups.items
+    in let
+    p = c.in-Ok.place
+    in let
+    at : IsQuietPlace s.standing s.groups.items s.closed c.args.table c.args.index p = subst (λ (gs : List Group). IsQuietPlace s.standing gs s.closed c.args.table c.args.index p) c.as_slice.ensures.value c.in-Ok.ensures.ok
+    in let
+    x : Index = c.index-as_slice-place.result
+    in let
+    x_is : get_or s.standing.indexes p.index x ≡ x = ap (λ (xs : List Index). get_or xs p.index x) (sym c.as_slice-2.ensures) ∙ sym c.index-as_slice-place.is
+    in let
+    h : Group = c.index.result.now
+    in let
+    h_is : get_or s.groups.items p.table h ≡ h = sym c.index.ensures
+    in let
+    put : IsIndexToPut h.table s.standing (disabled x) c.in-Ok-index_to_put.made = subst (λ (w : Index). IsIndexToPut h.table s.standing (record w { state = Disabled; birth = x.birth; region = x.region }) c.in-Ok-index_to_put.made) x_is (c.in-Ok-index_to_put.ensures.ok x)
+    in let
+    h2_is : c.index_mut.result.now ≡ h = same_there s.groups.items p.table c.index_mut.result.now h (low g.D.Disk g.met.D.Disk.told g.met.D.Disk.up_to_now b g.B.Based.damaged g.B.Founded.sound g.B.Founded.premise g.B.Founded.began s.disk s.catalog s.standing s.groups.items s.trail s.late s.closed k s.seat c.args.table c.args.index p at x x_is h h_is) (sym c.index_mut.ensures.value) h_is
+    in let
+    v' : Shown = record v { entries = c.push.new.self.entries }
+    in let
+    m : Answered = record { number = c.args.index.0; stamp = x.birth; at = c.len.result }
+    in
+    subst (λ (w : Shown). DidDefine (known_by b g.B.Based.damaged w) (known_by b g.B.Based.damaged v') (definition.Disabled c.args.table c.args.index) m) c.self.view_is
+    (disabling_did g.D.Disk g.met.D.Disk.told g.met.D.Disk.up_to_now b g.B.Based.damaged g.B.Founded.sound g.B.Founded.premise g.B.Founded.began s.disk s.catalog s.standing s.groups.items s.trail s.late s.closed k s.seat c.args.table c.args.index p at x x_is h h_is c.in-Ok-index_to_put.made put c.take_entry.new.trail c.take_entry.ensures.same c.in-Ok-take_entry.ensures.ok c.append.new.disk c.append.new.self c.append.ensures.counts c.append.ensures.touches c.append.ensures.any_moment c.in-Ok-append.ensures.done c.in-Ok-append.ensures.defined c.index_mut.result.now h2_is c.drop_index.new.group c.drop_index.ensures c.replace-before.new.dest c.replace-before.ensures.after c.push.new.self c.call_count.result c.call_count.ensures c.push.ensures.entries c.push.ensures.room c.len.result c.len.ensures))
+
+pub returns-in-Err-append-clause-refused : goal.returns-in-Err-append-clause-refused
+returns-in-Err-append-clause-refused g c = (let
+    s = c.self.inside
+    in let
+    k = c.self.invariant.0
+    in let
+    b = g.B.Based.base
+    in let
+    v : Shown = shown_of s.seat s.trail.entries s.late s.closed s.groups.items
+    in let
+    p = c.in-Ok.place
+    in let
+    at : IsQuietPlace s.standing s.groups.items s.closed c.args.table c.args.index p = subst (λ (gs : List Group). IsQuietPlace s.standing gs s.closed c.args.table c.args.index p) c.as_slice.ensures.value c.in-Ok.ensures.ok
+    in let
+    x : Index = c.index-as_slice-place.result
+    in let
+    x_is : get_or s.standing.indexes p.index x ≡ x = ap (λ (xs : List Index). get_or xs p.index x) (sym c.as_slice-2.ensures) ∙ sym c.index-as_slice-place.is
+    in let
+    h : Group = c.index.result.now
+    in let
+    h_is : get_or s.groups.items p.table h ≡ h = sym c.index.ensures
+    in let
+    put : IsIndexToPut h.table s.standing (disabled x) c.in-Ok-index_to_put.made = subst (λ (w : Index). IsIndexToPut h.table s.standing (record w { state = Disabled; birth = x.birth; region = x.region }) c.in-Ok-index_to_put.made) x_is (c.in-Ok-index_to_put.ensures.ok x)
+    in let
+    v' : Shown = record v { entries = c.unwritten.new.trail.entries; late = c.unwritten.new.late; closed = c.unwritten.new.closed }
+    in
+    subst (λ (w : Shown). Refuses (define_cause (definition.Disabled c.args.table c.args.index)) (known_by b g.B.Based.damaged w) (known_by b g.B.Based.damaged v') c.unwritten.result) c.self.view_is
+    (disabling_refused g.D.Disk g.met.D.Disk.told g.met.D.Disk.up_to_now b g.B.Based.damaged g.B.Founded.sound g.B.Founded.premise g.B.Founded.began s.disk s.catalog s.standing s.groups.items s.trail s.late s.closed k s.seat c.args.table c.args.index p at x x_is h h_is c.in-Ok-index_to_put.made put c.take_entry.new.trail c.take_entry.ensures.same c.in-Ok-take_entry.ensures.ok c.append.new.disk c.append.new.self c.append.ensures.counts c.append.ensures.touches c.append.ensures.any_moment c.unwritten.new.trail c.unwritten.new.late c.unwritten.new.closed c.in-Err-append.fault (λ e. c.in-Err-append.ensures.untouched (elim e [ inl z ↦ inl (ap Err z) | inr z ↦ inr (ap Err z) ])) (λ e. c.in-Err-append.ensures.failed (ap Err e)) c.unwritten.ensures.kept c.unwritten.ensures.shut c.unwritten.ensures.room c.unwritten.result c.unwritten.ensures.full c.unwritten.ensures.memory c.unwritten.ensures.failed))
