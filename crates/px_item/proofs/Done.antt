@@ -16,6 +16,8 @@ use Rattle.px_calls.specs.declared.status.Ordered.TheVariants as jobs
 use Rattle.px_calls.specs.Known.{Known}
 use Rattle.px_defining.specs.declared.define.DefineFault.{DefineFault}
 use Rattle.px_defining.specs.declared.define.DefineFault.TheVariants as undone
+use Rattle.px_upkeep.specs.declared.build.BuildFault.{BuildFault}
+use Rattle.px_upkeep.specs.declared.build.BuildFault.TheVariants as unbuilt
 use Rattle.px_reply.specs.declared.reply.Reply.{Reply}
 use Rattle.px_reply.specs.declared.reply.Reply.TheVariants as reply
 use Rattle.px_commanding.specs.Orders as orders
@@ -31,7 +33,7 @@ use Rattle.px_item.specs.declared.item.ItemState.TheVariants as state
 use Rattle.px_item.specs.declared.item.ItemTurn.{ItemTurn}
 use Rattle.px_item.specs.declared.item.ItemTurn.TheVariants as turn
 use Rattle.px_item.specs.Right as right
-use Rattle.px_item.specs.Right.{AsksToCommit, IsAtOnce, IsCommandRead, IsRead, IsRight, SaysOf, command_of, IsOrdered, index_absent, name_taken, order_reply, table_absent, undefined}
+use Rattle.px_item.specs.Right.{AsksToCommit, IsAtOnce, IsCommandRead, IsRead, IsRight, SaysOf, command_of, IsOrdered, index_absent, name_taken, not_built, order_reply, table_absent, undefined}
 use Rattle.px_item.specs.Turns.{Fits, FitsState, TellsDone, Turns}
 
 -- 1. Replies
@@ -54,6 +56,7 @@ table_other x = refl
 index_other : (x : Statement) → is_order (index_absent x) ≡ false
 index_other (s.DropIndex i) = either i.if_exists _ _ refl refl
 index_other (s.CreateIndex i) = refl
+index_other (s.AlterIndex i) = refl
 index_other x = refl
 
 name_other : (x : Statement) → is_order (name_taken x) ≡ false
@@ -71,6 +74,17 @@ undefined_other x undone.WriteFault = refl
 undefined_other x (undone.Damaged file place) = refl
 undefined_other x (undone.Closed call) = refl
 undefined_other x undone.Memory = refl
+
+unbuilt_other : (x : Statement) (f : BuildFault) → is_order (not_built x f) ≡ false
+unbuilt_other x unbuilt.NoTable = table_other x
+unbuilt_other x unbuilt.NoIndex = index_other x
+unbuilt_other x (unbuilt.Limit which count) = refl
+unbuilt_other x (unbuilt.BelowHorizon h) = refl
+unbuilt_other x unbuilt.ReadFault = refl
+unbuilt_other x unbuilt.WriteFault = refl
+unbuilt_other x (unbuilt.Damaged file place) = refl
+unbuilt_other x (unbuilt.Closed call) = refl
+unbuilt_other x unbuilt.Memory = refl
 
 -- 2. An answer that tells so is one to an order
 
@@ -115,12 +129,12 @@ module _ (a : Answered) (tells : is_order a.reply ≡ true) where
   ordered_only sound k before own st p (right.is_not_committed again h fault held asks outcome since stops says) = absurd (not_stopped h.name fault stops)
   ordered_only sound k before own st p (right.is_counted name s read outcome says none) = absurd (not_it _ says.0 refl)
   ordered_only sound k before own st p (right.is_not_counted name fault read outcome since says none) = absurd (⊎_elim (λ is. not_it _ is.0 refl) (λ is. not_it _ is.0 refl) says)
-  ordered_only sound k before own st p (right.is_dropped x f m e read scn bound fits is made says) = absurd (not_it _ says.0 refl)
-  ordered_only sound k before own st p (right.is_not_dropped x f fault e read scn bound fits is why since none says) = absurd (not_it _ says.0 (undefined_other x fault))
+  ordered_only sound k before own st p (right.is_defined x f m e read scn bound fits is none made says) = absurd (not_it _ says.0 refl)
+  ordered_only sound k before own st p (right.is_not_defined x f fault e read scn bound fits is why since none says) = absurd (not_it _ says.0 (undefined_other x fault))
   ordered_only sound k before own st p (right.is_created t m read one scn fits made says) = absurd (not_it _ says.0 refl)
   ordered_only sound k before own st p (right.is_not_created t fault read one scn fits why since none says) = absurd (not_it _ says.0 (undefined_other (s.CreateTable t) fault))
-  ordered_only sound k before own st p (right.is_index_made i f n read scn bound fits outcome says) = absurd (not_it _ says.0 refl)
-  ordered_only sound k before own st p (right.is_index_not_made i f why read scn bound fits outcome says) = absurd (⊎_elim (λ is. not_it _ is.0 (undefined_other (s.CreateIndex i) (right.index_fault why))) (λ is. not_it _ is.0 refl) says)
+  ordered_only sound k before own st p (right.is_index_built x f e t m c rest read scn bound fits is builds behind built asked says) = absurd (not_it _ says.0 refl)
+  ordered_only sound k before own st p (right.is_index_not_built x f e t m rest fault read scn bound fits is builds behind built says) = absurd (⊎_elim (λ is. not_it _ is.0 (unbuilt_other x fault)) (λ is. not_it _ is.0 refl) says)
   ordered_only sound k before own st p (right.is_index_absent i f read scn bound exists absent says none) = absurd (not_it _ says.0 refl)
   ordered_only sound k before own st p (right.is_selected q f x r read bound asked outcome shows) = absurd (not_it _ shows.rows refl)
   ordered_only sound k before own st p (right.is_not_selected q f x fault read bound asked outcome since says) = absurd (⊎_elim (λ is. not_it _ is.0 refl) (λ is. not_it _ is.0 refl) says)
@@ -185,7 +199,7 @@ module _ (sound : Type 0) (before : ℕ) (asked : Asked) (own : List Act) where
   no_order (state.Finding x) k other f job q = not_statement (seen_piece asked.piece) (command_of job) x f.read q
   no_order (state.Changing x run room) k other f job q = not_statement (seen_piece asked.piece) (command_of job) x f.0.read q
   no_order (state.Defining x run) k other f job q = not_statement (seen_piece asked.piece) (command_of job) x f.0.read q
-  no_order (state.Indexing x run) k other f job q = not_statement (seen_piece asked.piece) (command_of job) x f.0.read q
+  no_order (state.Building x run) k other f job q = not_statement (seen_piece asked.piece) (command_of job) x f.0.read q
   no_order (state.Selecting x run) k other f job q = not_statement (seen_piece asked.piece) (command_of job) x f.0.read q
   no_order (state.Deleting x run) k other f job q = not_statement (seen_piece asked.piece) (command_of job) x f.0.read q
   no_order (state.Seeking x run) k other f job q = not_statement (seen_piece asked.piece) (command_of job) x f.0.read q

@@ -41,8 +41,6 @@ use Rattle.px_commanding.specs.Commits as commits
 use Rattle.px_commanding.specs.declared.commit.CommitRun.{CommitRun}
 use Rattle.px_defining.specs.Turns as define
 use Rattle.px_defining.specs.declared.define.DefineState.{DefineState}
-use Rattle.px_indexing.specs.Turns as indexing
-use Rattle.px_indexing.specs.declared.index.IndexRun.{IndexRun}
 use Rattle.px_reply.specs.declared.reply.Reply.{Reply}
 use Rattle.px_reply.specs.declared.reply.Reply.TheVariants as reply
 use Rattle.px_reply.specs.declared.refusal.Refusal.TheVariants as refusal
@@ -53,10 +51,13 @@ use Rattle.px_item.specs.declared.item.ItemState.{ItemState}
 use Rattle.px_item.specs.declared.item.ItemState.TheVariants as state
 use Rattle.px_item.specs.declared.item.ItemTurn.{ItemTurn}
 use Rattle.px_item.specs.declared.item.ItemTurn.TheVariants as turn
+use Rattle.px_ast.specs.declared.definition.IndexAction.{IndexAction}
+use Rattle.px_ast.specs.declared.definition.IndexAction.TheVariants.{Disable, Rebuild}
+use Rattle.px_item.specs.Builds.{altered}
 use Rattle.px_item.specs.Right as right
-use Rattle.px_item.specs.Right.{AsksToCommit, MayHold, Follows, FollowsTo, GoesToCommit, MakesWay, holds, IsBoundTo, IsRead, IsRight, IsTold, MayRun, Says, changes, deletion_query, drop_of, plain, table_named, unfound}
+use Rattle.px_item.specs.Right.{AsksToCommit, MayHold, Follows, FollowsTo, GoesToCommit, MakesWay, holds, IsBoundTo, IsRead, IsRight, IsTold, MayRun, Says, changes, deletion_query, definition_of, plain, table_named, unfound}
 use Rattle.px_item.specs.Seeking.{SearchesIn, Seeks}
-use Rattle.px_item.specs.Turns.{Fits, IsAsking, IsDropping, Turns}
+use Rattle.px_item.specs.Turns.{Fits, IsAsking, IsDefining, Turns}
 use Rattle.px_planned.specs.Queries.{query_of}
 use Rattle.px_planned.specs.declared.planned.Planned.{Planned}
 use Rattle.px_scan.specs.Turns as scan
@@ -91,14 +92,22 @@ module _ (sound : Type 0) (before : ℕ) (asked : Asked) (mine : List Act) where
   some_definition : (x y : Definition) → Some x ≡ Some y → x ≡ y
   some_definition x y h = cc
 
-  one_index : (k : Known) (t : TableId) (o : Option IndexId) (y : Definition) → option_map (λ n. d.DropIndex t n) o ≡ Some y → CanDefine sound k y
-  one_index k t None y h = cc
-  one_index k t (Some n) y h = subst (λ (z : Definition). CanDefine sound k z) (some_definition (d.DropIndex t n) y h) tt
+  of_some : (k : Known) (make : IndexId → Definition) → ((n : IndexId) → CanDefine sound k (make n)) → (o : Option IndexId) (y : Definition) → option_map make o ≡ Some y → CanDefine sound k y
+  of_some k make can None y h = cc
+  of_some k make can (Some n) y h = subst (λ (z : Definition). CanDefine sound k z) (some_definition (make n) y h) (can n)
 
-  may_drop : (k : Known) (f : Found) (x : Statement) (y : Definition) → drop_of f x ≡ Some y → CanDefine sound k y
-  may_drop k f (s.DropTable t) y h = subst (λ (z : Definition). CanDefine sound k z) (some_definition (d.DropTable f.table.id) y h) tt
-  may_drop k f (s.DropIndex i) y h = one_index k f.table.id (index_of f.indexes i.name) y h
-  may_drop k f x y h = cc
+  may_alter : (k : Known) (t : TableId) (a : IndexAction) (n : IndexId) → CanDefine sound k (altered t a n)
+  may_alter k t Disable n = tt
+  may_alter k t Rebuild n = tt
+
+  may_define : (k : Known) (f : Found) (x : Statement) (y : Definition) → IsFound k.base k.seen f → right.IsFitFor f.table y → definition_of f x ≡ Some y → CanDefine sound k y
+  may_define k f (s.DropTable t) y found fit h = subst (λ (z : Definition). CanDefine sound k z) (some_definition (d.DropTable f.table.id) y h) tt
+  may_define k f (s.CreateIndex i) y found fit h =
+      let F : Definition → Type 0 = λ z. right.IsFitFor f.table z → CanDefine sound k z in
+      subst F (some_definition (d.Index (new_index f.table i)) y h) (λ fits. index_fits k f (new_index f.table i) found fits.0 fits.1) fit
+  may_define k f (s.DropIndex i) y found fit h = of_some k (λ n. d.DropIndex f.table.id n) (λ n. tt) (index_of f.indexes i.name) y h
+  may_define k f (s.AlterIndex i) y found fit h = of_some k (λ n. altered f.table.id i.action n) (may_alter k f.table.id i.action) (index_of f.indexes i.name) y h
+  may_define k f x y found fit h = cc
 
   plain_told : (x : Statement) (f : Found) (k : Known) (own : List Act) (r : Reply) (a : Answered) → IsRead (seen_piece asked.piece) (Ok x) → MayRun asked.settings x → IsBoundTo k.base k.seen a.first f (table_named x)
       → (r ≡ reply.Refused refusal.Memory) ⊎ ((fault : BindFault) × IsFirst (faults_in f x) fault × (r ≡ reply.Refused (right.bind_refusal fault))) → Says a r asked.settings → own ≡ [] → IsRight sound (plain k) before own asked.settings (seen_piece asked.piece) a
@@ -133,6 +142,7 @@ module _ (sound : Type 0) (before : ℕ) (asked : Asked) (mine : List Act) where
   goes_from x f k (state.Committing again run) fits legal found named off apart to = absurd to
   goes_from x f k (state.Counting name run) fits legal found named off apart to = absurd to
   goes_from x f k (state.Ordering run) fits legal found named off apart to = absurd to
+  goes_from x f k (state.Building y run) fits legal found named off apart to = absurd to
   goes_from x f k (state.Changing y run room) fits legal found named off apart (same, n) =
       let low = fits.begins in
       let within = fits.within in
@@ -165,27 +175,13 @@ module _ (sound : Type 0) (before : ℕ) (asked : Asked) (mine : List Act) where
   goes_from x f k (state.Defining y run) fits legal found named off apart (same, n) =
       let b = bound_here asked k (table_named x) f fits.within found named in
       let F : DefineState → Type 0 = λ z. define.Fits sound run.definition z k × define.IsGoing z in
-      let begins = subst F (sym n.2) (may_drop k f x run.definition n.1, tt) in
-      let dropping : IsDropping sound asked x run k = record { found = f; bound = b; right = n.0; definition = n.1; fits = begins.0; going = begins.1 } in
+      let begins = subst F (sym n.2) (may_define k f x run.definition found n.3 n.1, tt) in
+      let defining : IsDefining sound asked x run k = record { found = f; bound = b; right = n.0; definition = n.1; fits = begins.0; going = begins.1 } in
       record {
         begins = fits.begins;
         within = fits.within;
-        state = (subst (λ (z : Statement). IsAsking asked z) (sym same) fits.state, inl (subst (λ (z : Statement). IsDropping sound asked z run k) (sym same) dropping));
+        state = (subst (λ (z : Statement). IsAsking asked z) (sym same) fits.state, inl (subst (λ (z : Statement). IsDefining sound asked z run k) (sym same) defining));
         done = fits.done;
-      }
-  goes_from x f k (state.Indexing y run) fits legal found named off apart (same, n) =
-      let what = new_index f.table n.0 in
-      let b = bound_here asked k (table_named x) f fits.within found named in
-      let F : IndexRun → Type 0 = λ r. indexing.Fits sound asked.first what r k × ([] ≡ indexing.begun r) in
-      let new = subst F (sym n.3) ((fits.within, refl, index_fits k f what found refl n.4), refl) in
-      record {
-        begins = fits.begins;
-        within = fits.within;
-        state = (
-          subst (λ (z : Statement). IsAsking asked z) (sym same) fits.state,
-          record { create = n.0; is = same ∙ n.1; found = f; bound = subst (λ (z : Statement). IsBoundTo k.base k.seen asked.first f (table_named z)) n.1 b; right = n.2; fits = new.0 },
-        );
-        done = fits.done ∙ new.1;
       }
   goes_from x f k (state.Selecting y run) fits legal found named off apart (same, n) =
       let low = fits.begins in
@@ -278,7 +274,7 @@ module _ (sound : Type 0) (before : ℕ) (asked : Asked) (mine : List Act) where
     to_commit (state.Finding y) may change none g = absurd g
     to_commit (state.Changing y run room) may change none g = absurd g
     to_commit (state.Defining y run) may change none g = absurd g
-    to_commit (state.Indexing y run) may change none g = absurd g
+    to_commit (state.Building y run) may change none g = absurd g
     to_commit (state.Selecting y run) may change none g = absurd g
     to_commit (state.Deleting y run) may change none g = absurd g
     to_commit (state.Seeking y run) may change none g = absurd g
@@ -338,7 +334,7 @@ module _ (sound : Type 0) (before : ℕ) (asked : Asked) (mine : List Act) where
     seeks y (state.Finding z) on is places none g = absurd g
     seeks y (state.Changing z run room) on is places none g = absurd g
     seeks y (state.Defining z run) on is places none g = absurd g
-    seeks y (state.Indexing z run) on is places none g = absurd g
+    seeks y (state.Building z run) on is places none g = absurd g
     seeks y (state.Selecting z run) on is places none g = absurd g
     seeks y (state.Deleting z run) on is places none g = absurd g
     seeks y (state.Counting name run) on is places none g = absurd g

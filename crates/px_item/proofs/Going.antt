@@ -29,21 +29,17 @@ use Rattle.px_defining.specs.Turns as define
 use Rattle.px_defining.specs.declared.define.DefineFault.{DefineFault}
 use Rattle.px_defining.specs.declared.define.DefineRun.{DefineRun}
 use Rattle.px_defining.specs.declared.define.DefineTurn.TheVariants as dt
-use Rattle.px_indexing.specs.Turns as indexing
-use Rattle.px_indexing.specs.declared.index.IndexFault.{IndexFault}
-use Rattle.px_indexing.specs.declared.index.IndexRun.{IndexRun}
-use Rattle.px_indexing.specs.declared.index.IndexTurn.TheVariants as it
-use Rattle.px_indexing.specs.declared.index.Indexed.{Indexed}
 use Rattle.px_reply.specs.declared.reply.Reply.TheVariants as reply
 use Rattle.px_reply.specs.declared.refusal.Refusal.TheVariants as refusal
 use Rattle.px_item.specs.declared.answered.Answered.{Answered}
 use Rattle.px_item.specs.declared.answered.Asked.{Asked}
 use Rattle.px_item.specs.declared.item.ItemState.TheVariants as state
 use Rattle.px_item.specs.declared.item.ItemTurn.TheVariants as turn
+use Rattle.px_item.specs.Builds.{to_build}
 use Rattle.px_item.specs.Right as right
-use Rattle.px_item.specs.Right.{IsBoundTo, IsChanged, IsDefined, IsDeletion, IsIndexed, IsRead, IsRight, Says, after, changes, deletion_query, drop_of, one_change, plain, table_named}
-use Rattle.px_item.specs.Turns.{Fits, IsAsking, IsCreating, IsDropping, IsIndexing, Turns}
-use Rattle.px_item.proofs.Plain.{batch_plain, batch_since_plain, define_plain, define_since_plain, defined_plain, ended_plain, indexed_plain, outcome_plain, query_since_plain, removed_plain, stopped_plain}
+use Rattle.px_item.specs.Right.{IsBoundTo, IsChanged, IsDefined, IsDeletion, IsRead, IsRight, Says, after, changes, deletion_query, definition_of, one_change, plain, table_named}
+use Rattle.px_item.specs.Turns.{Fits, IsAsking, IsCreating, IsDefining, Turns}
+use Rattle.px_item.proofs.Plain.{batch_plain, batch_since_plain, define_plain, define_since_plain, defined_plain, ended_plain, outcome_plain, query_since_plain, removed_plain, stopped_plain}
 use Rattle.px_planned.specs.Queries.{query_of}
 use Rattle.px_planned.specs.declared.planned.Planned.{Planned}
 use Rattle.px_scan.specs.Turns as scan
@@ -60,7 +56,12 @@ use Rattle.px_select.specs.Selecting.{SelectTurns}
 use Rattle.px_select.specs.declared.run.SelectRun.{SelectRun}
 use Rattle.px_select.specs.declared.run.SelectTurn.TheVariants as ended
 use Rattle.px_select.specs.declared.run.Selected.{Selected}
-use Rattle.px_item.proofs.Passing.{Later, longer, of_ran, bound_later, drops_change, first_low, first_within, define_later, and_then}
+use Rattle.px_item.proofs.Passing.{Later, longer, of_ran, bound_later, asks_change, first_low, first_within, define_later, and_then}
+
+-- nothing is to be built behind a definition that was made
+abbrev pub IsAlone : Definition → Result Made DefineFault → Type 0
+IsAlone y (Ok m) = to_build y ≡ None
+IsAlone y (Err e) = Unit {0}
 
 -- `mine` is what was done for the item so far
 module _ (sound : Type 0) (before : ℕ) (asked : Asked) (mine : List Act) where
@@ -145,52 +146,52 @@ module _ (sound : Type 0) (before : ℕ) (asked : Asked) (mine : List Act) where
       let later = of_ran k k' acts ran in
       record { begins = f.begins; within = longer k k' asked.first later f.within; state = (f.state.0, define_later sound asked x old new k k' later f.state.1 definition (λ was. fits) (λ was. going)); done = and_then mine [] acts f.done ∙ quiet }
 
-  not_dropped : (x : Statement) (f : Found) (e : DefineFault) (y : Definition) (k : Known) (own : List Act) (a : Answered) → IsRead (seen_piece asked.piece) (Ok x) → asked.settings.scn ≡ None → IsBoundTo k.base k.seen a.first f (table_named x)
-      → faults_in f x ≡ [] → drop_of f x ≡ Some y → define.FaultIs sound y e k → define.MadeSince before e k → own ≡ [] → Says a (right.undefined x e) asked.settings ⊎ right.Refuses a refusal.Memory asked.settings
+  not_defined : (x : Statement) (f : Found) (e : DefineFault) (y : Definition) (k : Known) (own : List Act) (a : Answered) → IsRead (seen_piece asked.piece) (Ok x) → asked.settings.scn ≡ None → IsBoundTo k.base k.seen a.first f (table_named x)
+      → faults_in f x ≡ [] → definition_of f x ≡ Some y → define.FaultIs y e k → define.MadeSince before e k → own ≡ [] → Says a (right.undefined x e) asked.settings ⊎ right.Refuses a refusal.Memory asked.settings
       → IsRight sound (plain k) before own asked.settings (seen_piece asked.piece) a
-  not_dropped x f e y k own a read free bound none is told since quiet (inl says) = right.is_not_dropped x f e y read free bound none is (define_plain sound y e k told) (define_since_plain before e k since) quiet says
-  not_dropped x f e y k own a read free bound none is told since quiet (inr says) = right.is_at_once (right.is_lacking says) quiet
+  not_defined x f e y k own a read free bound none is told since quiet (inl says) = right.is_not_defined x f e y read free bound none is (define_plain y e k told) (define_since_plain before e k since) quiet says
+  not_defined x f e y k own a read free bound none is told since quiet (inr says) = right.is_at_once (right.is_lacking says) quiet
 
-  drop_told : (x : Statement) (old : DefineRun) (k k' : Known) (own : List Act) (r : Result Made DefineFault) (a : Answered) → Later k k' → IsAsking asked x → IsDropping sound asked x old k → define.IsOutcome sound old.definition own k' r
-      → define.IsSinceThen before k' (dt.Over r) → IsDefined asked x r a → IsRight sound (plain k') before own asked.settings (seen_piece asked.piece) a
-  drop_told x old k k' own (Ok m) a later asking j out since c =
+  asked_told : (x : Statement) (old : DefineRun) (k k' : Known) (own : List Act) (r : Result Made DefineFault) (a : Answered) → Later k k' → IsAsking asked x → IsDefining sound asked x old k → define.IsOutcome old.definition own k' r
+      → define.IsSinceThen before k' (dt.Over r) → IsAlone old.definition r → IsDefined asked x r a → IsRight sound (plain k') before own asked.settings (seen_piece asked.piece) a
+  asked_told x old k k' own (Ok m) a later asking j out since alone c =
       let bound = subst (λ (n : ℕ). IsBoundTo k'.base k'.seen n j.found (table_named x)) (sym c.0) (bound_later k k' asked.first j.found (table_named x) later j.bound) in
-      right.is_dropped x j.found m old.definition asking.read (asking.free (drops_change j.found x old.definition j.definition)) bound j.right j.definition (defined_plain sound old.definition own k' m out) c.1
-  drop_told x old k k' own (Err e) a later asking j out since c =
+      right.is_defined x j.found m old.definition asking.read (asking.free (asks_change j.found x old.definition j.definition)) bound j.right j.definition alone (defined_plain old.definition own k' m out) c.1
+  asked_told x old k k' own (Err e) a later asking j out since alone c =
       let bound = subst (λ (n : ℕ). IsBoundTo k'.base k'.seen n j.found (table_named x)) (sym c.0) (bound_later k k' asked.first j.found (table_named x) later j.bound) in
-      not_dropped x j.found e old.definition k' own a asking.read (asking.free (drops_change j.found x old.definition j.definition)) bound j.right j.definition out.0 since out.1 c.1
+      not_defined x j.found e old.definition k' own a asking.read (asking.free (asks_change j.found x old.definition j.definition)) bound j.right j.definition out.0 since out.1 c.1
 
   not_created : (t : CreateTable) (e : DefineFault) (k : Known) (own : List Act) (a : Answered) → IsRead (seen_piece asked.piece) (Ok (s.CreateTable t)) → right.is_none_of t.splits ≡ true → asked.settings.scn ≡ None → table_faults t ≡ []
-      → define.FaultIs sound (d.Table (new_table t)) e k → define.MadeSince before e k → own ≡ [] → Says a (right.undefined (s.CreateTable t) e) asked.settings ⊎ right.Refuses a refusal.Memory asked.settings
+      → define.FaultIs (d.Table (new_table t)) e k → define.MadeSince before e k → own ≡ [] → Says a (right.undefined (s.CreateTable t) e) asked.settings ⊎ right.Refuses a refusal.Memory asked.settings
       → IsRight sound (plain k) before own asked.settings (seen_piece asked.piece) a
-  not_created t e k own a read whole free none told since quiet (inl says) = right.is_not_created t e read whole free none (define_plain sound (d.Table (new_table t)) e k told) (define_since_plain before e k since) quiet says
+  not_created t e k own a read whole free none told since quiet (inl says) = right.is_not_created t e read whole free none (define_plain (d.Table (new_table t)) e k told) (define_since_plain before e k since) quiet says
   not_created t e k own a read whole free none told since quiet (inr says) = right.is_at_once (right.is_lacking says) quiet
 
-  create_told : (x : Statement) (old : DefineRun) (k k' : Known) (own : List Act) (r : Result Made DefineFault) (a : Answered) → IsAsking asked x → IsCreating sound x old k → define.IsOutcome sound old.definition own k' r
+  create_told : (x : Statement) (old : DefineRun) (k k' : Known) (own : List Act) (r : Result Made DefineFault) (a : Answered) → IsAsking asked x → IsCreating sound x old k → define.IsOutcome old.definition own k' r
       → define.IsSinceThen before k' (dt.Over r) → IsDefined asked x r a → IsRight sound (plain k') before own asked.settings (seen_piece asked.piece) a
   create_told x old k k' own (Ok m) a asking j out since c =
       let read = subst (λ (y : Statement). IsRead (seen_piece asked.piece) (Ok y)) j.is asking.read in
-      let made = subst (λ (y : Definition). define.HasDefined sound y own k' m) j.definition out in
+      let made = subst (λ (y : Definition). define.HasDefined y own k' m) j.definition out in
       let says = subst (λ (y : Statement). Says a (reply.Defined (right.word_of y)) asked.settings) j.is c.1 in
-      right.is_created j.create m read j.whole (asking.free (ap changes j.is)) j.right (defined_plain sound (d.Table (new_table j.create)) own k' m made) says
+      right.is_created j.create m read j.whole (asking.free (ap changes j.is)) j.right (defined_plain (d.Table (new_table j.create)) own k' m made) says
   create_told x old k k' own (Err e) a asking j out since c =
       let read = subst (λ (y : Statement). IsRead (seen_piece asked.piece) (Ok y)) j.is asking.read in
-      let fault = subst (λ (y : Definition). define.FaultIs sound y e k') j.definition out.0 in
+      let fault = subst (λ (y : Definition). define.FaultIs y e k') j.definition out.0 in
       let F : Statement → Type 0 = λ y. Says a (right.undefined y e) asked.settings ⊎ right.Refuses a refusal.Memory asked.settings in
       not_created j.create e k' own a read j.whole (asking.free (ap changes j.is)) j.right fault since out.1 (subst F j.is c.1)
 
-  define_told : (x : Statement) (old : DefineRun) (k k' : Known) (own : List Act) (r : Result Made DefineFault) (a : Answered) → Later k k' → IsAsking asked x → IsDropping sound asked x old k ⊎ IsCreating sound x old k
-      → define.IsOutcome sound old.definition own k' r → define.IsSinceThen before k' (dt.Over r) → IsDefined asked x r a → IsRight sound (plain k') before own asked.settings (seen_piece asked.piece) a
-  define_told x old k k' own r a later asking (inl j) out since c = drop_told x old k k' own r a later asking j out since c
-  define_told x old k k' own r a later asking (inr j) out since c = create_told x old k k' own r a asking j out since c
+  define_told : (x : Statement) (old : DefineRun) (k k' : Known) (own : List Act) (r : Result Made DefineFault) (a : Answered) → Later k k' → IsAsking asked x → IsDefining sound asked x old k ⊎ IsCreating sound x old k
+      → define.IsOutcome old.definition own k' r → define.IsSinceThen before k' (dt.Over r) → IsAlone old.definition r → IsDefined asked x r a → IsRight sound (plain k') before own asked.settings (seen_piece asked.piece) a
+  define_told x old k k' own r a later asking (inl j) out since alone c = asked_told x old k k' own r a later asking j out since alone c
+  define_told x old k k' own r a later asking (inr j) out since alone c = create_told x old k k' own r a asking j out since c
 
   defined_first : (x : Statement) (r : Result Made DefineFault) (a : Answered) → IsDefined asked x r a → a.first ≡ asked.first
   defined_first x (Ok m) a c = c.0
   defined_first x (Err e) a c = c.0
 
   pub define_is_over : (x : Statement) (old new : DefineRun) (k k' : Known) (r : Result Made DefineFault) (a : Answered) → Fits sound before asked mine (state.Defining x old) k → define.Turns sound old.definition old.state k new.state k' (dt.Over r)
-      → IsDefined asked x r a → Turns sound before asked mine k k' (turn.Over a)
-  define_is_over x old new k k' r a f t c =
+      → IsAlone old.definition r → IsDefined asked x r a → Turns sound before asked mine k k' (turn.Over a)
+  define_is_over x old new k k' r a f t alone c =
       let later = of_ran k k' t.acts t.ran in
       let first = defined_first x r a c in
       let low = f.begins in
@@ -202,67 +203,8 @@ module _ (sound : Type 0) (before : ℕ) (asked : Asked) (mine : List Act) where
         told = (
           first_low asked a first,
           first_within asked k' a (longer k k' asked.first later f.within) first,
-          subst (λ (l : List Act). IsRight sound (plain k') before l asked.settings (seen_piece asked.piece) a) (sym (and_then mine [] t.acts f.done)) (define_told x old k k' (outline t.acts) r a later f.state.0 f.state.1 t.told.1 since c),
+          subst (λ (l : List Act). IsRight sound (plain k') before l asked.settings (seen_piece asked.piece) a) (sym (and_then mine [] t.acts f.done)) (define_told x old k k' (outline t.acts) r a later f.state.0 f.state.1 t.told.1 since alone c),
         );
-      }
-
-  -- a CREATE INDEX goes on, and is over
-
-  pub index_goes_on : (x : Statement) (old new : IndexRun) (k k' : Known) → Fits sound before asked mine (state.Indexing x old) k → ((n : ℕ) → (what : NewIndex) → indexing.Fits sound n what old k → indexing.Turns sound n what old k k' (it.Stepped new))
-      → Turns sound before asked mine k k' (turn.Stepped (record { asked = asked; state = state.Indexing x new }))
-  index_goes_on x old new k k' f turns =
-      let j = f.state.1 in
-      let t = turns asked.first (new_index j.found.table j.create) j.fits in
-      let later = of_ran k k' t.acts t.ran in
-      record {
-        acts = t.acts;
-        ran = t.ran;
-        told = (
-          refl,
-          record {
-            begins = f.begins;
-            within = longer k k' asked.first later f.within;
-            state = (
-              f.state.0,
-              record { create = j.create; is = j.is; found = j.found; bound = bound_later k k' asked.first j.found j.create.table later j.bound; right = j.right; fits = t.told.0 },
-            );
-            done = and_then mine (indexing.begun old) t.acts f.done ∙ t.told.1;
-          },
-        );
-      }
-
-  indexed_first : (x : Statement) (r : Result Indexed IndexFault) (a : Answered) → IsIndexed asked x r a → a.first ≡ asked.first
-  indexed_first x (Ok n) a c = c.0
-  indexed_first x (Err why) a c = c.0
-
-  indexed_told : (x : Statement) (old : IndexRun) (k k' : Known) (own : List Act) (r : Result Indexed IndexFault) (a : Answered) → Later k k' → IsAsking asked x → (j : IsIndexing sound asked x old k) → indexing.IsOutcome sound asked.first (new_index j.found.table j.create) own k' r
-      → IsIndexed asked x r a → IsRight sound (plain k') before own asked.settings (seen_piece asked.piece) a
-  indexed_told x old k k' own (Ok n) a later asking j out c =
-      let what = new_index j.found.table j.create in
-      let read = subst (λ (y : Statement). IsRead (seen_piece asked.piece) (Ok y)) j.is asking.read in
-      let bound = subst (λ (n : ℕ). IsBoundTo k'.base k'.seen n j.found j.create.table) (sym c.0) (bound_later k k' asked.first j.found j.create.table later j.bound) in
-      let since = subst (λ (m : ℕ). indexing.IsOutcome sound m what own (plain k') (Ok n)) (sym c.0) (indexed_plain sound asked.first what own k' (Ok n) out) in
-      let says = subst (λ (y : Statement). Says a (reply.Defined (right.word_of y)) asked.settings) j.is c.1 in
-      right.is_index_made j.create j.found n read (asking.free (ap changes j.is)) bound j.right since says
-  indexed_told x old k k' own (Err why) a later asking j out c =
-      let what = new_index j.found.table j.create in
-      let read = subst (λ (y : Statement). IsRead (seen_piece asked.piece) (Ok y)) j.is asking.read in
-      let bound = subst (λ (n : ℕ). IsBoundTo k'.base k'.seen n j.found j.create.table) (sym c.0) (bound_later k k' asked.first j.found j.create.table later j.bound) in
-      let since = subst (λ (m : ℕ). indexing.IsOutcome sound m what own (plain k') (Err why)) (sym c.0) (indexed_plain sound asked.first what own k' (Err why) out) in
-      let F : Statement → Type 0 = λ y. Says a (right.undefined y (right.index_fault why)) asked.settings ⊎ right.Refuses a refusal.Memory asked.settings in
-      right.is_index_not_made j.create j.found why read (asking.free (ap changes j.is)) bound j.right since (subst F j.is c.1)
-
-  pub index_is_over : (x : Statement) (old : IndexRun) (k k' : Known) (r : Result Indexed IndexFault) (a : Answered) → Fits sound before asked mine (state.Indexing x old) k → ((n : ℕ) → (what : NewIndex) → indexing.Fits sound n what old k → indexing.Turns sound n what old k k' (it.Over r))
-      → IsIndexed asked x r a → Turns sound before asked mine k k' (turn.Over a)
-  index_is_over x old k k' r a f turns c =
-      let j = f.state.1 in
-      let t = turns asked.first (new_index j.found.table j.create) j.fits in
-      let later = of_ran k k' t.acts t.ran in
-      let first = indexed_first x r a c in
-      record {
-        acts = t.acts;
-        ran = t.ran;
-        told = (first_low asked a first, first_within asked k' a (longer k k' asked.first later f.within) first, subst (λ (l : List Act). IsRight sound (plain k') before l asked.settings (seen_piece asked.piece) a) (sym (and_then mine (indexing.begun old) t.acts f.done)) (indexed_told x old k k' (indexing.begun old ++ outline t.acts) r a later f.state.0 j t.told c));
       }
 
   -- a SELECT goes on, and is over

@@ -3,6 +3,8 @@ pub mod Committing
 pub mod Done
 pub mod Following
 pub mod Going
+pub mod Building
+pub mod Built
 pub mod Newly
 pub mod Ordering
 pub mod Passing

@@ -4,15 +4,16 @@ use Rattle.std.proofs.lemmas.List.{append-nil, drop-append-le, take-append-le}
 use Rattle.px_lex.specs.Script.{SeenPiece, seen_piece}
 use Rattle.px_ast.specs.declared.statement.Statement.{Statement}
 use Rattle.px_ast.specs.declared.statement.Statement.TheVariants as s
-use Rattle.px_create.specs.Indexes.{new_index}
 use Rattle.px_tables.specs.declared.found.Found.{Found}
 use Rattle.px_trail.specs.declared.entry.Act.{Act}
 use Rattle.px_trail.specs.declared.entry.Entry.{Entry}
 use Rattle.px_trail.specs.Answers.{IsAmong}
 use Rattle.px_trail.specs.Trail.{Base, acts_by}
 use Rattle.px_calls.specs.declared.definition.Definition.{Definition}
+use Rattle.px_calls.specs.declared.definition.Definition.TheVariants as d
+use Rattle.px_calls.specs.declared.definition.Made.{Made}
 use Rattle.px_calls.specs.Known.{Known, Passes, Ran, outline}
-use Rattle.px_calls.specs.Calls.{IsFound}
+use Rattle.px_calls.specs.Calls.{IsFound, made_index}
 use Rattle.px_calls.specs.Requires.{IsScn}
 use Rattle.px_calls.proofs.Runs.{acts_by-append, among-front}
 use Rattle.px_batch.specs.Turns as batch
@@ -29,14 +30,15 @@ use Rattle.px_commanding.proofs.Counting as numbering
 use Rattle.px_defining.specs.Turns as define
 use Rattle.px_defining.specs.declared.define.DefineRun.{DefineRun}
 use Rattle.px_defining.proofs.Defining as defining
-use Rattle.px_indexing.proofs.Indexing as making
 use Rattle.px_item.specs.declared.answered.Answered.{Answered}
 use Rattle.px_item.specs.declared.answered.Asked.{Asked}
 use Rattle.px_item.specs.declared.answered.Settings.{Settings}
 use Rattle.px_item.specs.declared.item.ItemState.{ItemState}
 use Rattle.px_item.specs.declared.item.ItemState.TheVariants as state
-use Rattle.px_item.specs.Right.{AsksToCommit, IsBoundTo, changes, deletion_query, drop_of, table_named}
-use Rattle.px_item.specs.Turns.{Fits, FitsState, IsCreating, IsDropping}
+use Rattle.px_item.specs.Right.{AsksToCommit, IsBoundTo, changes, deletion_query, definition_of, table_named}
+use Rattle.px_item.specs.Turns.{Fits, FitsState, IsCreating, IsDefining}
+use Rattle.px_upkeep.proofs.Whole as upkeep
+use Rattle.px_item.specs.Builds.{IsBuiltBehind, IsNumberOf, StandsAs}
 use Rattle.px_gather.specs.Query.{Query}
 use Rattle.px_planned.specs.Queries.{query_of}
 use Rattle.px_planned.specs.declared.planned.Planned.{Planned}
@@ -100,16 +102,32 @@ commit_since : (n : ℕ) (r : CommitRun) (k k' : Known) → Passes k k' → comm
 commit_since n Rattle.px_commanding.specs.declared.commit.CommitRun.TheVariants.Finding k k' h i = longer k k' n (of_passes k k' h) i
 commit_since n (Rattle.px_commanding.specs.declared.commit.CommitRun.TheVariants.Changing run room) k k' h i = since_passes k k' run.state n h i
 
-pub drops_change : (f : Found) (x : Statement) (y : Definition) → drop_of f x ≡ Some y → changes x ≡ true
-drops_change f (s.DropTable t) y h = refl
-drops_change f (s.DropIndex i) y h = refl
-drops_change f (s.CreateTable t) y h = refl
-drops_change f (s.CreateIndex t) y h = refl
-drops_change f (s.AlterIndex t) y h = refl
-drops_change f (s.Upsert t) y h = refl
-drops_change f (s.Delete t) y h = refl
-drops_change f (s.Select t) y h = cc
-drops_change f (s.Explain t) y h = cc
+pub asks_change : (f : Found) (x : Statement) (y : Definition) → definition_of f x ≡ Some y → changes x ≡ true
+asks_change f (s.DropTable t) y h = refl
+asks_change f (s.DropIndex i) y h = refl
+asks_change f (s.CreateIndex t) y h = refl
+asks_change f (s.AlterIndex t) y h = refl
+asks_change f (s.CreateTable t) y h = cc
+asks_change f (s.Upsert t) y h = cc
+asks_change f (s.Delete t) y h = cc
+asks_change f (s.Select t) y h = cc
+asks_change f (s.Explain t) y h = cc
+
+-- what was done for a build, under more entries and with more that was done
+pub behind_later : (n : ℕ) (e : Definition) (m : Made) (own rest more : List Act) (k k' : Known) → Later k k' → IsBuiltBehind n e m own rest k → IsBuiltBehind n e m (own ++ more) (rest ++ more) k'
+behind_later n e m own rest more k k' h b = record { one = ap (λ (l : List Act). l ++ more) b.one; made = b.made; from = b.from; within = longer k k' m.at h b.within }
+
+pub stands_later : (e : Definition) (m : Made) (k k' : Known) → Later k k' → m.at ≤ length k.seen → StandsAs e m k → StandsAs e m k'
+stands_later (d.Index what) m k k' h low b =
+    let same : take m.at k.seen ≡ take m.at k'.seen = sym (take-append-le m.at k.seen h.more low) ∙ ap (take m.at) (sym h.seen) in
+    let F : Base × List Entry → Type 0 = λ q. IsNumberOf q.0 q.1 what m.number in
+    subst F (λ i. (sym h.base i, same i)) b
+stands_later (d.Table what) m k k' h low b = tt
+stands_later (d.Active t i) m k k' h low b = tt
+stands_later (d.Disabled t i) m k k' h low b = tt
+stands_later (d.Rebuilding t i) m k k' h low b = tt
+stands_later (d.DropTable t) m k k' h low b = tt
+stands_later (d.DropIndex t i) m k k' h low b = tt
 
 -- a SELECT under others' entries
 pub select_since : (n : ℕ) (st : QueryState) (k k' : Known) → Passes k k' → scan.IsSince n st k → scan.IsSince n st k'
@@ -173,8 +191,8 @@ pub first_within : (asked : Asked) (k : Known) (a : Answered) → asked.first �
 first_within asked k a low e = omega arith
 
 -- a definition under way
-pub define_later : (sound : Type 0) (asked : Asked) (x : Statement) (old new : DefineRun) (k k' : Known) → Later k k' → IsDropping sound asked x old k ⊎ IsCreating sound x old k → new.definition ≡ old.definition → (define.Fits sound old.definition old.state k → define.Fits sound old.definition new.state k')
-    → (define.IsGoing old.state → define.IsGoing new.state) → IsDropping sound asked x new k' ⊎ IsCreating sound x new k'
+pub define_later : (sound : Type 0) (asked : Asked) (x : Statement) (old new : DefineRun) (k k' : Known) → Later k k' → IsDefining sound asked x old k ⊎ IsCreating sound x old k → new.definition ≡ old.definition → (define.Fits sound old.definition old.state k → define.Fits sound old.definition new.state k')
+    → (define.IsGoing old.state → define.IsGoing new.state) → IsDefining sound asked x new k' ⊎ IsCreating sound x new k'
 define_later sound asked x old new k k' later (inl j) definition fits going =
     inl record {
       found = j.found;
@@ -226,16 +244,24 @@ module _ (sound : Type 0) (before : ℕ) (asked : Asked) (mine : List Act) where
         f.2,
       )
   state_passes (state.Defining x run) k k' h f = (f.0, define_later sound asked x run run k k' (of_passes k k' h) f.1 refl (λ fits. defining.fits-kept sound run.definition run.state k k' h fits) (λ going. going))
-  state_passes (state.Indexing x run) k k' h f =
-      let j = f.1 in (
+  state_passes (state.Building x run) k k' h f =
+      let j = f.1 in
+      let later = of_passes k k' h in (
         f.0,
         record {
-          create = j.create;
-          is = j.is;
           found = j.found;
-          bound = bound_later k k' asked.first j.found j.create.table (of_passes k k' h) j.bound;
+          bound = bound_later k k' asked.first j.found (table_named x) later j.bound;
           right = j.right;
-          fits = making.fits-kept sound asked.first (new_index j.found.table j.create) run k k' h j.fits;
+          definition = j.definition;
+          asks = j.asks;
+          table = j.table;
+          builds = j.builds;
+          made = j.made;
+          rest = j.rest;
+          behind = record { one = j.behind.one; made = j.behind.made; from = j.behind.from; within = longer k k' j.made.at later j.behind.within };
+          stands = stands_later j.definition j.made k k' later j.behind.within j.stands;
+          legal = h.legal;
+          fits = upkeep.fits-kept sound j.made.at j.table (made_index j.made) j.rest run k k' h j.fits;
         },
       )
   state_passes (state.Selecting x run) k k' h f =

@@ -7,6 +7,7 @@ use Rattle.std.proofs.lemmas.List.{append-nil}
 use Rattle.px_values.specs.declared.change.Change.{Change}
 use Rattle.px_values.specs.declared.limit.Limit.{Limit}
 use Rattle.px_values.specs.declared.limit.Limit.TheVariants as bound
+use Rattle.px_values.specs.declared.name.IndexId.{IndexId}
 use Rattle.px_values.specs.declared.name.TableId.{TableId}
 use Rattle.px_tables.specs.declared.index.NewIndex.{NewIndex}
 use Rattle.px_tables.specs.declared.table.NewTable.{NewTable}
@@ -18,8 +19,8 @@ use Rattle.px_calls.specs.declared.definition.Made.{Made}
 use Rattle.px_calls.specs.declared.fault.StepFault.{StepFault}
 use Rattle.px_calls.specs.declared.fault.StepFault.TheVariants as step
 use Rattle.px_calls.specs.declared.ticket.Receipt.{Receipt}
-use Rattle.px_calls.specs.Calls.{IsFinished, IsMade}
-use Rattle.px_calls.specs.Causes.{batch_limit, definition_cause, new_index_cause, new_table_cause}
+use Rattle.px_calls.specs.Calls.{IsFinished}
+use Rattle.px_calls.specs.Causes.{batch_limit, definition_cause, new_index_cause, new_table_cause, rebuilding_cause}
 use Rattle.px_calls.specs.Known.{Known}
 use Rattle.px_batch.specs.Turns as batch
 use Rattle.px_batch.specs.declared.batch.BatchFault.{BatchFault}
@@ -27,10 +28,8 @@ use Rattle.px_batch.specs.declared.batch.BatchFault.TheVariants as unmade
 use Rattle.px_defining.specs.Turns as define
 use Rattle.px_defining.specs.declared.define.DefineFault.{DefineFault}
 use Rattle.px_defining.specs.declared.define.DefineFault.TheVariants as undone
-use Rattle.px_indexing.specs.Turns as indexing
-use Rattle.px_indexing.specs.declared.index.IndexFault.{IndexFault}
-use Rattle.px_indexing.specs.declared.index.IndexFault.TheVariants as unbuilt
-use Rattle.px_indexing.specs.declared.index.Indexed.{Indexed}
+use Rattle.px_upkeep.specs.Turns as building
+use Rattle.px_upkeep.specs.declared.build.BuildFault.{BuildFault}
 use Rattle.px_gather.specs.Query.{Query}
 use Rattle.px_planned.specs.Queries.{query_of}
 use Rattle.px_planned.specs.declared.planned.Planned.{Planned}
@@ -51,6 +50,7 @@ use Rattle.px_commanding.specs.declared.order.OrderFault.{OrderFault}
 use Rattle.px_commanding.specs.declared.order.OrderFault.TheVariants as undone_by
 use Rattle.px_held.specs.HeldData.{HeldData}
 use Rattle.px_calls.specs.declared.status.Status.{Status}
+use Rattle.px_item.specs.Builds.{IsBuiltBehind}
 use Rattle.px_item.specs.Right.{AsksToCommit, plain}
 
 limit_plain : (sound : Type 0) (t : ℕ) (cs : List Change) (which : Limit) (k : Known) → batch_limit sound t cs which k → batch_limit sound t cs which (plain k)
@@ -97,76 +97,81 @@ table_plain what (step.Limit which count) k h = h
 table_plain what (step.NotReady region) k h = h
 table_plain what f k h = h
 
-index_plain : (sound : Type 0) (what : NewIndex) (f : StepFault) (k : Known) → new_index_cause sound what f k → new_index_cause sound what f (plain k)
-index_plain sound what step.NameExists k h = h
-index_plain sound what step.NoTable k h = h
-index_plain sound what (step.Limit bound.Indexes count) k h = h
-index_plain sound what (step.Limit bound.Stamps count) k h = h
-index_plain sound what (step.Limit bound.Ids count) k h = h
-index_plain sound what (step.Limit bound.Build count) k h = h
-index_plain sound what (step.Limit which count) k h = h
-index_plain sound what (step.NotReady region) k h = h
-index_plain sound what f k h = h
+index_plain : (what : NewIndex) (f : StepFault) (k : Known) → new_index_cause what f k → new_index_cause what f (plain k)
+index_plain what step.NameExists k h = h
+index_plain what step.NoTable k h = h
+index_plain what (step.Limit bound.Indexes count) k h = h
+index_plain what (step.Limit bound.Stamps count) k h = h
+index_plain what (step.Limit bound.Ids count) k h = h
+index_plain what (step.Limit which count) k h = h
+index_plain what (step.NotReady region) k h = h
+index_plain what f k h = h
 
-cause_plain : (sound : Type 0) (x : Definition) (f : StepFault) (k : Known) → definition_cause sound x f k → definition_cause sound x f (plain k)
-cause_plain sound (d.Table what) f k h = table_plain what f k h
-cause_plain sound (d.Index what) f k h = index_plain sound what f k h
-cause_plain sound (d.Active t i) step.NoTable k h = h
-cause_plain sound (d.Active t i) step.NoIndex k h = h
-cause_plain sound (d.Active t i) (step.NotReady region) k h = h
-cause_plain sound (d.Active t i) f k h = h
-cause_plain sound (d.DropTable t) step.NoTable k h = h
-cause_plain sound (d.DropTable t) (step.InUse count) k h = h
-cause_plain sound (d.DropTable t) (step.NotReady region) k h = h
-cause_plain sound (d.DropTable t) f k h = h
-cause_plain sound (d.DropIndex t i) step.NoTable k h = h
-cause_plain sound (d.DropIndex t i) step.NoIndex k h = h
-cause_plain sound (d.DropIndex t i) (step.InUse count) k h = h
-cause_plain sound (d.DropIndex t i) (step.NotReady region) k h = h
-cause_plain sound (d.DropIndex t i) f k h = h
+again_plain : (t i : ℕ) (f : StepFault) (k : Known) → rebuilding_cause t i f k → rebuilding_cause t i f (plain k)
+again_plain t i step.NoTable k h = h
+again_plain t i step.NoIndex k h = h
+again_plain t i (step.Limit bound.Stamps count) k h = h
+again_plain t i (step.Limit bound.Ids count) k h = h
+again_plain t i (step.Limit which count) k h = h
+again_plain t i (step.InUse count) k h = h
+again_plain t i (step.NotReady region) k h = h
+again_plain t i f k h = h
 
-pub define_plain : (sound : Type 0) (x : Definition) (f : DefineFault) (k : Known) → define.FaultIs sound x f k → define.FaultIs sound x f (plain k)
-define_plain sound x undone.NameExists k h = cause_plain sound x step.NameExists k h
-define_plain sound x undone.NoTable k h = cause_plain sound x step.NoTable k h
-define_plain sound x undone.NoIndex k h = cause_plain sound x step.NoIndex k h
-define_plain sound x (undone.Limit which count) k h = cause_plain sound x (step.Limit which count) k h
-define_plain sound x undone.ReadFault k h = h
-define_plain sound x undone.WriteFault k h = h
-define_plain sound x (undone.Damaged file place) k h = h
-define_plain sound x (undone.Closed call) k h = h
-define_plain sound x undone.Memory k h = h
+cause_plain : (x : Definition) (f : StepFault) (k : Known) → definition_cause x f k → definition_cause x f (plain k)
+cause_plain (d.Table what) f k h = table_plain what f k h
+cause_plain (d.Index what) f k h = index_plain what f k h
+cause_plain (d.Active t i) step.NoTable k h = h
+cause_plain (d.Active t i) step.NoIndex k h = h
+cause_plain (d.Active t i) (step.NotReady region) k h = h
+cause_plain (d.Active t i) f k h = h
+cause_plain (d.Disabled t i) step.NoTable k h = h
+cause_plain (d.Disabled t i) step.NoIndex k h = h
+cause_plain (d.Disabled t i) (step.InUse count) k h = h
+cause_plain (d.Disabled t i) (step.NotReady region) k h = h
+cause_plain (d.Disabled t i) f k h = h
+cause_plain (d.Rebuilding t i) f k h = again_plain t.0 i.0 f k h
+cause_plain (d.DropTable t) step.NoTable k h = h
+cause_plain (d.DropTable t) (step.InUse count) k h = h
+cause_plain (d.DropTable t) (step.NotReady region) k h = h
+cause_plain (d.DropTable t) f k h = h
+cause_plain (d.DropIndex t i) step.NoTable k h = h
+cause_plain (d.DropIndex t i) step.NoIndex k h = h
+cause_plain (d.DropIndex t i) (step.InUse count) k h = h
+cause_plain (d.DropIndex t i) (step.NotReady region) k h = h
+cause_plain (d.DropIndex t i) f k h = h
+
+pub define_plain : (x : Definition) (f : DefineFault) (k : Known) → define.FaultIs x f k → define.FaultIs x f (plain k)
+define_plain x undone.NameExists k h = cause_plain x step.NameExists k h
+define_plain x undone.NoTable k h = cause_plain x step.NoTable k h
+define_plain x undone.NoIndex k h = cause_plain x step.NoIndex k h
+define_plain x (undone.Limit which count) k h = cause_plain x (step.Limit which count) k h
+define_plain x undone.ReadFault k h = h
+define_plain x undone.WriteFault k h = h
+define_plain x (undone.Damaged file place) k h = h
+define_plain x (undone.Closed call) k h = h
+define_plain x undone.Memory k h = h
 
 pub define_since_plain : (n : ℕ) (f : DefineFault) (k : Known) → define.MadeSince n f k → define.MadeSince n f (plain k)
 define_since_plain n undone.ReadFault k h = h
 define_since_plain n undone.WriteFault k h = h
 define_since_plain n f k h = h
 
-made_plain : (sound : Type 0) (x : Definition) (k : Known) (m : Made) → IsMade sound x k m → IsMade sound x (plain k) m
-made_plain sound (d.Table what) k m h = h
-made_plain sound (d.Index what) k m h = h
-made_plain sound (d.Active t i) k m h = h
-made_plain sound (d.DropTable t) k m h = h
-made_plain sound (d.DropIndex t i) k m h = h
+pub defined_plain : (x : Definition) (own : List Act) (k : Known) (m : Made) → define.HasDefined x own k m → define.HasDefined x own (plain k) m
+defined_plain x own k m h = record { one = h.one; made = h.made; at = h.at }
 
-pub defined_plain : (sound : Type 0) (x : Definition) (own : List Act) (k : Known) (m : Made) → define.HasDefined sound x own k m → define.HasDefined sound x own (plain k) m
-defined_plain sound x own k m h = record { one = h.one; made = made_plain sound x k m h.made; at = h.at }
-
-past_plain : (was k : Known) → indexing.IsPast was k → indexing.IsPast was (plain k)
+pub past_plain : (was k : Known) → building.IsPast was k → building.IsPast was (plain k)
 past_plain was k h = record { more = h.more; seen = h.seen; seat = h.seat; base = h.base; damaged = h.damaged }
 
-refused_plain : (sound : Type 0) (n : ℕ) (x : Definition) (f : DefineFault) (k : Known) → indexing.WasRefused sound n x f k → indexing.WasRefused sound n x f (plain k)
-refused_plain sound n x f k h = record { was = h.was; past = past_plain h.was k h.past; from = h.from; cause = h.cause; since = h.since }
+abbrev pub built_plain : (sound : Type 0) (n : ℕ) (t : TableId) (i : IndexId) (own : List Act) (k : Known) (m : Made) → building.IsOutcome sound n t i own k (Ok m) → building.IsOutcome sound n t i own (plain k) (Ok m)
+built_plain sound n t i own k m h =
+    let w = h.0 in
+    (record { was = w.was; past = past_plain w.was k w.past; from = w.from; index = w.index; is = w.is; owner = w.owner; state = w.state; birth = w.birth; number = w.number; at = w.at }, h.1)
 
-was_made_plain : (sound : Type 0) (n : ℕ) (what : NewIndex) (m : Made) (k : Known) → indexing.WasMade sound n what m k → indexing.WasMade sound n what m (plain k)
-was_made_plain sound n what m k h = record { was = h.was; past = past_plain h.was k h.past; from = h.from; made = h.made; at = h.at }
+pub unbuilt_plain : (sound : Type 0) (n : ℕ) (t : TableId) (i : IndexId) (own : List Act) (k : Known) (f : BuildFault) → building.IsOutcome sound n t i own k (Err f) → building.IsOutcome sound n t i own (plain k) (Err f)
+unbuilt_plain sound n t i own k f h = (record { was = h.0.was; past = past_plain h.0.was k h.0.past; from = h.0.from; cause = h.0.cause; since = h.0.since }, h.1)
 
-active_plain : (what : NewIndex) (i : Indexed) (k : Known) → indexing.BecameActive what i k → indexing.BecameActive what i (plain k)
-active_plain what i k h = record { was = h.was; past = past_plain h.was k h.past; index = h.index; is = h.is; state = h.state; definition = h.definition; at = h.at; behind = h.behind }
-
-pub indexed_plain : (sound : Type 0) (n : ℕ) (what : NewIndex) (own : List Act) (k : Known) (r : Result Indexed IndexFault) → indexing.IsOutcome sound n what own k r → indexing.IsOutcome sound n what own (plain k) r
-indexed_plain sound n what own k (Ok i) h = (was_made_plain sound n what i.made k h.0, active_plain what i k h.1, h.2)
-indexed_plain sound n what own k (Err (unbuilt.Unmade f)) h = (refused_plain sound n (d.Index what) f k h.0, h.1)
-indexed_plain sound n what own k (Err (unbuilt.Inactive m f)) h = (was_made_plain sound n what m k h.0, refused_plain sound n (indexing.activation what m) f k h.1, h.2)
+pub behind_plain : (n : ℕ) (e : Definition) (m : Made) (own rest : List Act) (k : Known) → IsBuiltBehind n e m own rest k → IsBuiltBehind n e m own rest (plain k)
+behind_plain n e m own rest k h = record { one = h.one; made = h.made; from = h.from; within = h.within }
 
 joined_plain : (q : Query) (k : Known) → IsJoined q k → IsJoined q (plain k)
 joined_plain q k j = record { found = j.found; within = j.within; is = j.is; table = j.table; stamp = j.stamp; joins = j.joins }

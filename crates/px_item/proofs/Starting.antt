@@ -60,7 +60,7 @@ start_state sound before asked (state.Defining y run) k low within i =
       (i.0, inr record { create = i.1.0; is = i.1.1; whole = i.1.2; right = c.0; definition = c.1; fits = fits.0; going = fits.1 }),
       refl,
     )
-start_state sound before asked (state.Indexing y run) k low within i = absurd i
+start_state sound before asked (state.Building y run) k low within i = absurd i
 start_state sound before asked (state.Selecting y run) k low within i = absurd i
 start_state sound before asked (state.Deleting y run) k low within i = absurd i
 start_state sound before asked (state.Seeking y run) k low within i = absurd i

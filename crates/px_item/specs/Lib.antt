@@ -1,3 +1,4 @@
+pub mod Builds
 pub mod Right
 pub mod Seeking
 pub mod Turns

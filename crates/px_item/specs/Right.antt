@@ -14,7 +14,8 @@ use Rattle.px_ast.specs.declared.statement.Statement.{Statement}
 use Rattle.px_ast.specs.declared.statement.Statement.TheVariants as s
 use Rattle.px_ast.specs.declared.statement.Delete.{Delete}
 use Rattle.px_ast.specs.declared.statement.Upsert.{Upsert}
-use Rattle.px_ast.specs.declared.definition.CreateIndex.{CreateIndex}
+use Rattle.px_ast.specs.declared.definition.IndexAction.{IndexAction}
+use Rattle.px_ast.specs.declared.definition.IndexAction.TheVariants.{Disable, Rebuild}
 use Rattle.px_ast.specs.declared.definition.CreateTable.{CreateTable}
 use Rattle.px_ast.specs.declared.definition.DropIndex.{DropIndex}
 use Rattle.px_parse.specs.Texts as texts
@@ -83,7 +84,7 @@ use Rattle.px_calls.specs.declared.status.Ordered.{Ordered}
 use Rattle.px_calls.specs.declared.status.Ordered.TheVariants as jobs
 use Rattle.px_calls.specs.declared.status.Status.{Status}
 use Rattle.px_calls.specs.declared.ticket.Receipt.{Receipt}
-use Rattle.px_calls.specs.Calls.{IsFound}
+use Rattle.px_calls.specs.Calls.{IsFound, made_index}
 use Rattle.px_calls.specs.Causes.{ClosedBy, NamesNoTable}
 use Rattle.px_calls.specs.Known.{IsRunning, Known}
 use Rattle.px_calls.specs.Requires.{FitsTable, IsNewIndex, IsNewTable}
@@ -96,17 +97,17 @@ use Rattle.px_defining.specs.declared.define.DefineFault.{DefineFault}
 use Rattle.px_defining.specs.declared.define.DefineFault.TheVariants as undone
 use Rattle.px_defining.specs.declared.define.DefineRun.{DefineRun}
 use Rattle.px_defining.specs.declared.define.DefineState.TheVariants as defines
-use Rattle.px_indexing.specs.Turns as indexing
-use Rattle.px_indexing.specs.declared.index.IndexFault.{IndexFault}
-use Rattle.px_indexing.specs.declared.index.IndexFault.TheVariants as unbuilt
-use Rattle.px_indexing.specs.declared.index.IndexRun.TheVariants as indexes
-use Rattle.px_indexing.specs.declared.index.Indexed.{Indexed}
+use Rattle.px_upkeep.specs.Turns as building
+use Rattle.px_upkeep.specs.declared.build.BuildFault.{BuildFault}
+use Rattle.px_upkeep.specs.declared.build.BuildFault.TheVariants as unbuilt
+use Rattle.px_upkeep.specs.declared.build.BuildRun.{BuildRun}
 use Rattle.px_reply.specs.declared.refusal.Refusal.{Refusal}
 use Rattle.px_reply.specs.declared.refusal.Refusal.TheVariants as refusal
 use Rattle.px_reply.specs.declared.reply.Defined.{Defined}
 use Rattle.px_reply.specs.declared.reply.Defined.TheVariants as defined
 use Rattle.px_reply.specs.declared.reply.Reply.{Reply}
 use Rattle.px_reply.specs.declared.reply.Reply.TheVariants as reply
+use Rattle.px_item.specs.Builds.{IsAskedFor, IsBuiltBehind, altered, to_build}
 use Rattle.px_item.specs.declared.answered.After.{After}
 use Rattle.px_item.specs.declared.answered.After.TheVariants as next_is
 use Rattle.px_item.specs.declared.answered.Answered.{Answered}
@@ -224,6 +225,10 @@ abbrev pub drops_index : Statement → Bool
 drops_index (s.DropIndex i) = true
 drops_index x = false
 
+abbrev pub alters_index : Statement → Bool
+alters_index (s.AlterIndex i) = true
+alters_index x = false
+
 abbrev pub is_select : Statement → Bool
 is_select (s.Select q) = true
 is_select x = false
@@ -248,9 +253,9 @@ is_built (s.Delete x) = true
 is_built (s.DropTable t) = true
 is_built (s.CreateIndex i) = true
 is_built (s.DropIndex i) = true
+is_built (s.AlterIndex i) = true
 is_built (s.Select q) = true
 is_built (s.Explain q) = true
-is_built x = false
 
 -- the statements that change something, which none may under an SCN
 abbrev pub changes : Statement → Bool
@@ -283,6 +288,7 @@ table_absent x = reply.Refused (refusal.NoTable (table_named x))
 abbrev pub index_absent : Statement → Reply
 index_absent (s.DropIndex i) = if i.if_exists then reply.Defined defined.IndexAbsent else reply.Refused (refusal.NoIndex i.name)
 index_absent (s.CreateIndex i) = reply.Refused (refusal.NoIndex i.name)
+index_absent (s.AlterIndex i) = reply.Refused (refusal.NoIndex i.name)
 index_absent x = reply.Refused refusal.Memory
 
 -- the name of what the statement makes stands
@@ -308,23 +314,38 @@ undefined x (undone.Damaged file place) = reply.Refused (refusal.Damaged file pl
 undefined x (undone.Closed call) = reply.Refused (refusal.Closed call)
 undefined x f = reply.Refused refusal.Memory
 
--- why an index doesn't stand active
-abbrev pub index_fault : IndexFault → DefineFault
-index_fault (unbuilt.Unmade f) = f
-index_fault (unbuilt.Inactive m f) = f
+-- the statement's index doesn't stand active
+abbrev pub not_built : Statement → BuildFault → Reply
+not_built x unbuilt.NoTable = table_absent x
+not_built x unbuilt.NoIndex = index_absent x
+not_built x (unbuilt.Limit which count) = reply.Refused (refusal.Limit which)
+not_built x (unbuilt.BelowHorizon h) = reply.Refused (refusal.BelowHorizon h)
+not_built x unbuilt.ReadFault = reply.Refused refusal.ReadFault
+not_built x unbuilt.WriteFault = reply.Refused refusal.WriteFault
+not_built x (unbuilt.Damaged file place) = reply.Refused (refusal.Damaged file place)
+not_built x (unbuilt.Closed call) = reply.Refused (refusal.Closed call)
+not_built x unbuilt.Memory = reply.Refused refusal.Memory
 
--- the word of what was made or dropped
+-- the word of what an ALTER INDEX did
+abbrev pub altered_word : IndexAction → Defined
+altered_word Disable = defined.IndexDisabled
+altered_word Rebuild = defined.IndexRebuilt
+
+-- the word of what was made, altered or dropped
 abbrev pub word_of : Statement → Defined
 word_of (s.CreateTable t) = defined.TableCreated
 word_of (s.CreateIndex i) = defined.IndexCreated
 word_of (s.DropIndex i) = defined.IndexDropped
+word_of (s.AlterIndex i) = altered_word i.action
 word_of x = defined.TableDropped
 
--- the definition that a statement asks for
-abbrev pub drop_of : Found → Statement → Option Definition
-drop_of f (s.DropTable t) = Some (d.DropTable f.table.id)
-drop_of f (s.DropIndex i) = option_map (λ n. d.DropIndex f.table.id n) (index_of f.indexes i.name)
-drop_of f x = None
+-- the definition that a statement asks for, with the table that it was bound to
+abbrev pub definition_of : Found → Statement → Option Definition
+definition_of f (s.DropTable t) = Some (d.DropTable f.table.id)
+definition_of f (s.CreateIndex i) = Some (d.Index (new_index f.table i))
+definition_of f (s.DropIndex i) = option_map (λ n. d.DropIndex f.table.id n) (index_of f.indexes i.name)
+definition_of f (s.AlterIndex i) = option_map (λ n. altered f.table.id i.action n) (index_of f.indexes i.name)
+definition_of f x = None
 
 -- ---- pieces
 
@@ -529,21 +550,21 @@ pub data IsRight (sound : Type 0) (k : Known) (before : ℕ) (own : List Act) (s
   -- an order is done, where upkeep had nothing left to do on a server that isn't closed
   is_ordered : (job : Ordered) → IsCommandRead p (Ok (command_of job)) → IsRunning k → Says a (order_reply job) st → own ≡ [] → IsRight sound k before own st p a
   is_not_ordered : (job : Ordered) (fault : OrderFault) → IsCommandRead p (Ok (command_of job)) → orders.FaultIs fault k → orders.MadeSince before fault k → Refuses a (order_refusal fault) st → own ≡ [] → IsRight sound k before own st p a
-  -- a DROP is one entry
-  is_dropped : (x : Statement) (f : Found) (m : Made) (e : Definition) → IsRead p (Ok x) → st.scn ≡ None → IsBoundTo k.base k.seen a.first f (table_named x) → faults_in f x ≡ [] → drop_of f x ≡ Some e → define.HasDefined sound e own k m
+  -- a DROP, and an ALTER INDEX that disables one, is one entry
+  is_defined : (x : Statement) (f : Found) (m : Made) (e : Definition) → IsRead p (Ok x) → st.scn ≡ None → IsBoundTo k.base k.seen a.first f (table_named x) → faults_in f x ≡ [] → definition_of f x ≡ Some e → to_build e ≡ None → define.HasDefined e own k m
       → Says a (reply.Defined (word_of x)) st → IsRight sound k before own st p a
-  is_not_dropped : (x : Statement) (f : Found) (fault : DefineFault) (e : Definition) → IsRead p (Ok x) → st.scn ≡ None → IsBoundTo k.base k.seen a.first f (table_named x) → faults_in f x ≡ [] → drop_of f x ≡ Some e → define.FaultIs sound e fault k
+  is_not_defined : (x : Statement) (f : Found) (fault : DefineFault) (e : Definition) → IsRead p (Ok x) → st.scn ≡ None → IsBoundTo k.base k.seen a.first f (table_named x) → faults_in f x ≡ [] → definition_of f x ≡ Some e → define.FaultIs e fault k
       → define.MadeSince before fault k → own ≡ [] → Says a (undefined x fault) st → IsRight sound k before own st p a
+  -- a CREATE INDEX, and an ALTER INDEX that builds one again, is one entry and then a build, at whose end the index stood active as it was asked for; or the build is refused, and leaves the index as is told there
+  is_index_built : (x : Statement) (f : Found) (e : Definition) (t : TableId) (m c : Made) (rest : List Act) → IsRead p (Ok x) → st.scn ≡ None → IsBoundTo k.base k.seen a.first f (table_named x) → faults_in f x ≡ [] → definition_of f x ≡ Some e → to_build e ≡ Some t
+      → IsBuiltBehind a.first e m own rest k → (built : building.IsOutcome sound m.at t (made_index m) rest k (Ok c)) → IsAskedFor e built.0.index → Says a (reply.Defined (word_of x)) st → IsRight sound k before own st p a
+  is_index_not_built : (x : Statement) (f : Found) (e : Definition) (t : TableId) (m : Made) (rest : List Act) (fault : BuildFault) → IsRead p (Ok x) → st.scn ≡ None → IsBoundTo k.base k.seen a.first f (table_named x) → faults_in f x ≡ [] → definition_of f x ≡ Some e → to_build e ≡ Some t
+      → IsBuiltBehind a.first e m own rest k → building.IsOutcome sound m.at t (made_index m) rest k (Err fault) → Says a (not_built x fault) st ⊎ Refuses a refusal.Memory st → IsRight sound k before own st p a
   -- a CREATE TABLE is one entry
-  is_created : (t : CreateTable) (m : Made) → IsRead p (Ok (s.CreateTable t)) → is_none_of t.splits ≡ true → st.scn ≡ None → table_faults t ≡ [] → define.HasDefined sound (d.Table (new_table t)) own k m → Says a (reply.Defined defined.TableCreated) st
+  is_created : (t : CreateTable) (m : Made) → IsRead p (Ok (s.CreateTable t)) → is_none_of t.splits ≡ true → st.scn ≡ None → table_faults t ≡ [] → define.HasDefined (d.Table (new_table t)) own k m → Says a (reply.Defined defined.TableCreated) st
       → IsRight sound k before own st p a
-  is_not_created : (t : CreateTable) (fault : DefineFault) → IsRead p (Ok (s.CreateTable t)) → is_none_of t.splits ≡ true → st.scn ≡ None → table_faults t ≡ [] → define.FaultIs sound (d.Table (new_table t)) fault k → define.MadeSince before fault k → own ≡ []
+  is_not_created : (t : CreateTable) (fault : DefineFault) → IsRead p (Ok (s.CreateTable t)) → is_none_of t.splits ≡ true → st.scn ≡ None → table_faults t ≡ [] → define.FaultIs (d.Table (new_table t)) fault k → define.MadeSince before fault k → own ≡ []
       → Says a (undefined (s.CreateTable t) fault) st → IsRight sound k before own st p a
-  -- a CREATE INDEX is made, and then made active, while its point is open; or refused, and what was made stays building
-  is_index_made : (i : CreateIndex) (f : Found) (n : Indexed) → IsRead p (Ok (s.CreateIndex i)) → st.scn ≡ None → IsBoundTo k.base k.seen a.first f i.table → index_faults f.table i ≡ [] → indexing.IsOutcome sound a.first (new_index f.table i) own k (Ok n)
-      → Says a (reply.Defined defined.IndexCreated) st → IsRight sound k before own st p a
-  is_index_not_made : (i : CreateIndex) (f : Found) (why : IndexFault) → IsRead p (Ok (s.CreateIndex i)) → st.scn ≡ None → IsBoundTo k.base k.seen a.first f i.table → index_faults f.table i ≡ []
-      → indexing.IsOutcome sound a.first (new_index f.table i) own k (Err why) → Says a (undefined (s.CreateIndex i) (index_fault why)) st ⊎ Refuses a refusal.Memory st → IsRight sound k before own st p a
   is_index_absent : (i : DropIndex) (f : Found) → IsRead p (Ok (s.DropIndex i)) → st.scn ≡ None → IsBoundTo k.base k.seen a.first f i.table → i.if_exists ≡ true → index_of f.indexes i.name ≡ None → Says a (reply.Defined defined.IndexAbsent) st → own ≡ []
       → IsRight sound k before own st p a
   -- a SELECT is answered at a point, by a path that is chosen there: exactly, under an SCN; and else as it is current
@@ -602,8 +623,7 @@ HasRoomForOne v = (v.items ≡ []) × (0 < vec_capacity v)
 -- what comes of a batch of one change of this table
 abbrev pub IsBatchOf : Table → TableId → Change → Next → Type 0
 IsBatchOf x t c (next.Change run room) = (run.table ≡ t) × (run.changes ≡ c ∷ []) × (run.state ≡ batches.Beginning) × FitsTable x c × HasRoomForOne room
-IsBatchOf x t c (next.Drop run) = ⊥
-IsBatchOf x t c (next.Index run) = ⊥
+IsBatchOf x t c (next.Define run) = ⊥
 IsBatchOf x t c (next.Select run) = ⊥
 IsBatchOf x t c (next.Delete run) = ⊥
 IsBatchOf x t c (next.Tell r) = r ≡ reply.Refused refusal.Memory
@@ -647,11 +667,15 @@ IsDeletionOf t filter (next.Delete run) = deleting.IsNew (planned_for t filter) 
 IsDeletionOf t filter (next.Tell r) = r ≡ reply.Refused refusal.Memory
 IsDeletionOf t filter n = ⊥
 
+-- an index that is made is one of this table
+abbrev pub IsFitFor : Table → Definition → Type 0
+IsFitFor t (d.Index what) = (what.table ≡ t.id) × IsNewIndex t what
+IsFitFor t e = Unit {0}
+
 -- what comes of a statement whose table was found
 abbrev pub IsNext : Option ℕ → Found → Statement → Next → Type 0
 IsNext scn f x (next.Change run room) = (u : Upsert) × (x ≡ s.Upsert u) × (upsert_faults f.table u ≡ []) × (run.table ≡ f.table.id) × (run.changes ≡ one_change f u) × (run.state ≡ batches.Beginning) × FitsTable f.table (change_of f.table u) × HasRoomForOne room
-IsNext scn f x (next.Drop run) = (faults_in f x ≡ []) × (drop_of f x ≡ Some run.definition) × (run.state ≡ defines.Defining)
-IsNext scn f x (next.Index run) = (i : CreateIndex) × (x ≡ s.CreateIndex i) × (index_faults f.table i ≡ []) × (run ≡ indexes.Opening (new_index f.table i)) × IsNewIndex f.table (new_index f.table i)
+IsNext scn f x (next.Define run) = (faults_in f x ≡ []) × (definition_of f x ≡ Some run.definition) × (run.state ≡ defines.Defining) × IsFitFor f.table run.definition
 IsNext scn f x (next.Select run) = (q : Select) × (x ≡ s.Select q) × IsAskedOf f q run.scan.query × (run.scan.scn ≡ scn) × scanning.IsNew run.scan.state × IsScn scn
 IsNext scn f x (next.Delete run) = (y : Delete) × (x ≡ s.Delete y) × (delete_faults f.table.columns y ≡ []) × deleting.IsNew (deletion_query f y) run.state
 IsNext scn f x (next.Tell r) = IsTold scn f x r
@@ -660,8 +684,8 @@ IsNext scn f x (next.Tell r) = IsTold scn f x r
 abbrev pub FollowsTo : Option ℕ → Statement → Found → ItemState → Type 0
 FollowsTo scn x f (state.Finding y) = ⊥
 FollowsTo scn x f (state.Changing y run room) = (y ≡ x) × IsNext scn f x (next.Change run room)
-FollowsTo scn x f (state.Defining y run) = (y ≡ x) × IsNext scn f x (next.Drop run)
-FollowsTo scn x f (state.Indexing y run) = (y ≡ x) × IsNext scn f x (next.Index run)
+FollowsTo scn x f (state.Defining y run) = (y ≡ x) × IsNext scn f x (next.Define run)
+FollowsTo scn x f (state.Building y run) = ⊥
 FollowsTo scn x f (state.Selecting y run) = (y ≡ x) × IsNext scn f x (next.Select run)
 FollowsTo scn x f (state.Deleting y run) = (y ≡ x) × IsNext scn f x (next.Delete run)
 FollowsTo scn x f (state.Seeking y run) = ⊥
@@ -701,9 +725,24 @@ abbrev pub IsDefined : Asked → Statement → Result Made DefineFault → Answe
 IsDefined asked x (Ok m) a = (a.first ≡ asked.first) × Says a (reply.Defined (word_of x)) asked.settings
 IsDefined asked x (Err f) a = (a.first ≡ asked.first) × (Says a (undefined x f) asked.settings ⊎ Refuses a refusal.Memory asked.settings)
 
-abbrev pub IsIndexed : Asked → Statement → Result Indexed IndexFault → Answered → Type 0
-IsIndexed asked x (Ok n) a = (a.first ≡ asked.first) × Says a (reply.Defined (word_of x)) asked.settings
-IsIndexed asked x (Err why) a = (a.first ≡ asked.first) × (Says a (undefined x (index_fault why)) asked.settings ⊎ Refuses a refusal.Memory asked.settings)
+abbrev pub IsBuilt : Asked → Statement → Result Made BuildFault → Answered → Type 0
+IsBuilt asked x (Ok m) a = (a.first ≡ asked.first) × Says a (reply.Defined (word_of x)) asked.settings
+IsBuilt asked x (Err why) a = (a.first ≡ asked.first) × (Says a (not_built x why) asked.settings ⊎ Refuses a refusal.Memory asked.settings)
+
+-- the build that follows a definition that was made
+abbrev pub IsBuildOf : Definition → Made → Option BuildRun → Type 0
+IsBuildOf e m None = to_build e ≡ None
+IsBuildOf e m (Some run) = (t : TableId) × (to_build e ≡ Some t) × building.IsNew t (made_index m) run
+
+abbrev pub IsBuildBehind : Statement → Definition → Made → ItemState → Type 0
+IsBuildBehind x e m (state.Building y run) = (y ≡ x) × IsBuildOf e m (Some run)
+IsBuildBehind x e m st = ⊥
+
+-- what comes of a definition that was made
+abbrev pub GoesOnBehind : Asked → Statement → Definition → Made → ItemTurn → Type 0
+GoesOnBehind asked x e m (turn.Stepped r) = (r.asked ≡ asked) × IsBuildBehind x e m r.state
+GoesOnBehind asked x e m (turn.Waiting r) = ⊥
+GoesOnBehind asked x e m (turn.Over a) = (to_build e ≡ None) × IsDefined asked x (Ok m) a
 
 abbrev pub IsSelection : Asked → Statement → Result Selected QueryFault → Answered → Type 0
 IsSelection asked x (Ok r) a = ShowsRows a r asked.settings

@@ -5,7 +5,6 @@ use Rattle.px_ast.specs.declared.statement.Statement.{Statement}
 use Rattle.px_ast.specs.declared.statement.Statement.TheVariants as s
 use Rattle.px_ast.specs.declared.statement.Delete.{Delete}
 use Rattle.px_ast.specs.declared.statement.Upsert.{Upsert}
-use Rattle.px_ast.specs.declared.definition.CreateIndex.{CreateIndex}
 use Rattle.px_ast.specs.declared.definition.CreateTable.{CreateTable}
 use Rattle.px_tables.specs.declared.found.Found.{Found}
 use Rattle.px_ast.specs.declared.statement.Select.{Select}
@@ -17,10 +16,14 @@ use Rattle.px_deleting.specs.declared.run.DeleteRun.{DeleteRun}
 use Rattle.px_bind.specs.Queries.{delete_faults}
 use Rattle.px_bind.specs.Requests.{faults_in}
 use Rattle.px_bind.specs.Upserts.{upsert_faults}
-use Rattle.px_create.specs.Indexes.{index_faults, new_index}
 use Rattle.px_create.specs.Tables.{new_table, table_faults}
+use Rattle.px_values.specs.declared.name.TableId.{TableId}
 use Rattle.px_trail.specs.declared.entry.Act.{Act}
+use Rattle.px_trail.specs.Legal.{IsLegal}
+use Rattle.px_calls.specs.declared.definition.Definition.{Definition}
 use Rattle.px_calls.specs.declared.definition.Definition.TheVariants as d
+use Rattle.px_calls.specs.declared.definition.Made.{Made}
+use Rattle.px_calls.specs.Calls.{made_index}
 use Rattle.px_calls.specs.declared.status.Ordered.{Ordered}
 use Rattle.px_calls.specs.Known.{Known, Ran, outline}
 use Rattle.px_held.specs.HeldData.{HeldData}
@@ -38,8 +41,9 @@ use Rattle.px_batch.specs.declared.run.BatchRun.{BatchRun}
 use Rattle.px_batch.specs.Turns as batch
 use Rattle.px_defining.specs.declared.define.DefineRun.{DefineRun}
 use Rattle.px_defining.specs.Turns as define
-use Rattle.px_indexing.specs.declared.index.IndexRun.{IndexRun}
-use Rattle.px_indexing.specs.Turns as indexing
+use Rattle.px_upkeep.specs.declared.build.BuildRun.{BuildRun}
+use Rattle.px_upkeep.specs.Turns as building
+use Rattle.px_item.specs.Builds.{IsBuiltBehind, StandsAs, to_build}
 use Rattle.px_item.specs.declared.answered.Asked.{Asked}
 use Rattle.px_item.specs.declared.answered.Settings.{Settings}
 use Rattle.px_item.specs.declared.item.Begun.{Begun}
@@ -49,7 +53,7 @@ use Rattle.px_item.specs.declared.item.ItemState.{ItemState}
 use Rattle.px_item.specs.declared.item.ItemState.TheVariants as state
 use Rattle.px_item.specs.declared.item.ItemTurn.{ItemTurn}
 use Rattle.px_item.specs.declared.item.ItemTurn.TheVariants as turn
-use Rattle.px_item.specs.Right.{AsksCommit, AsksToCommit, HasRoomForOne, IsAskedOf, MayRun, IsAtOnce, IsBoundTo, IsCommandRead, IsCreation, IsOfNoOther, IsRead, IsRight, command_of, creates_table, drop_of, is_none_of, one_change, order_reply, plain, deletion_query, table_named}
+use Rattle.px_item.specs.Right.{AsksCommit, AsksToCommit, HasRoomForOne, IsAskedOf, MayRun, IsAtOnce, IsBoundTo, IsCommandRead, IsCreation, IsOfNoOther, IsRead, IsRight, command_of, creates_table, definition_of, is_none_of, one_change, order_reply, plain, deletion_query, table_named}
 
 -- the statement was read, and may change something
 pub record IsAsking (asked : Asked) (x : Statement) : Type 0 where
@@ -70,12 +74,12 @@ pub record IsChanging (before : ℕ) (asked : Asked) (x : Statement) (run : Batc
   pub going : batch.IsGoing run.state
   pub since : batch.IsSince before run.state k
 
--- a DROP is under way
-pub record IsDropping (sound : Type 0) (asked : Asked) (x : Statement) (run : DefineRun) (k : Known) : Type 0 where
+-- what an index or a DROP asks for is being defined
+pub record IsDefining (sound : Type 0) (asked : Asked) (x : Statement) (run : DefineRun) (k : Known) : Type 0 where
   pub found : Found
   pub bound : IsBoundTo k.base k.seen asked.first found (table_named x)
   pub right : faults_in found x ≡ []
-  pub definition : drop_of found x ≡ Some run.definition
+  pub definition : definition_of found x ≡ Some run.definition
   pub fits : define.Fits sound run.definition run.state k
   pub going : define.IsGoing run.state
 
@@ -89,14 +93,21 @@ pub record IsCreating (sound : Type 0) (x : Statement) (run : DefineRun) (k : Kn
   pub fits : define.Fits sound run.definition run.state k
   pub going : define.IsGoing run.state
 
--- a CREATE INDEX is under way
-pub record IsIndexing (sound : Type 0) (asked : Asked) (x : Statement) (run : IndexRun) (k : Known) : Type 0 where
-  pub create : CreateIndex
-  pub is : x ≡ s.CreateIndex create
+-- the definition was made, and its index is being built; this was done for it
+pub record IsBuilding (sound : Type 0) (asked : Asked) (own : List Act) (x : Statement) (run : BuildRun) (k : Known) : Type 0 where
   pub found : Found
-  pub bound : IsBoundTo k.base k.seen asked.first found create.table
-  pub right : index_faults found.table create ≡ []
-  pub fits : indexing.Fits sound asked.first (new_index found.table create) run k
+  pub bound : IsBoundTo k.base k.seen asked.first found (table_named x)
+  pub right : faults_in found x ≡ []
+  pub definition : Definition
+  pub asks : definition_of found x ≡ Some definition
+  pub table : TableId
+  pub builds : to_build definition ≡ Some table
+  pub made : Made
+  pub rest : List Act
+  pub behind : IsBuiltBehind asked.first definition made own rest k
+  pub stands : StandsAs definition made k
+  pub legal : IsLegal k.base k.seen
+  pub fits : building.Fits sound made.at table (made_index made) rest run k
 
 -- a SELECT is under way
 pub record IsSelecting (sound : Type 0) (before : ℕ) (asked : Asked) (x : Statement) (run : SelectRun) (k : Known) : Type 0 where
@@ -160,8 +171,8 @@ IsOrdering asked run = IsCommandRead (seen_piece asked.piece) (Ok (command_of (o
 abbrev pub FitsState : Type 0 → ℕ → Asked → List Act → ItemState → Known → Type 0
 FitsState sound before asked own (state.Finding x) k = IsAsking asked x
 FitsState sound before asked own (state.Changing x run room) k = IsAsking asked x × IsChanging before asked x run k × HasRoomForOne room
-FitsState sound before asked own (state.Defining x run) k = IsAsking asked x × (IsDropping sound asked x run k ⊎ IsCreating sound x run k)
-FitsState sound before asked own (state.Indexing x run) k = IsAsking asked x × IsIndexing sound asked x run k
+FitsState sound before asked own (state.Defining x run) k = IsAsking asked x × (IsDefining sound asked x run k ⊎ IsCreating sound x run k)
+FitsState sound before asked own (state.Building x run) k = IsAsking asked x × IsBuilding sound asked own x run k
 FitsState sound before asked own (state.Selecting x run) k = IsAsking asked x × IsSelecting sound before asked x run k
 FitsState sound before asked own (state.Deleting x run) k = IsAsking asked x × IsDeleting sound asked own x run k
 FitsState sound before asked own (state.Seeking x run) k = IsAsking asked x × IsSeeking sound asked x run k
@@ -169,12 +180,12 @@ FitsState sound before asked own (state.Committing again run) k = IsCommitting b
 FitsState sound before asked own (state.Counting name run) k = IsCounting asked name run k
 FitsState sound before asked own (state.Ordering run) k = IsOrdering asked run
 
--- what the item has begun and not ended. What a DELETE has done is in IsDeleting
+-- what the item has begun and not ended. What a build has done is in IsBuilding, and what a DELETE has in IsDeleting
 abbrev pub HasBegun : List Act → ItemState → Type 0
 HasBegun own (state.Finding x) = own ≡ []
 HasBegun own (state.Changing x run room) = own ≡ batch.begun run.table run.changes run.state
 HasBegun own (state.Defining x run) = own ≡ []
-HasBegun own (state.Indexing x run) = own ≡ indexing.begun run
+HasBegun own (state.Building x run) = Unit {0}
 HasBegun own (state.Selecting x run) = own ≡ scan.opened run.scan.state
 HasBegun own (state.Deleting x run) = Unit {0}
 HasBegun own (state.Seeking x run) = own ≡ scan.opened run.scan.state
@@ -211,7 +222,7 @@ abbrev pub IsStart : Asked → ItemState → Type 0
 IsStart asked (state.Finding x) = IsAsking asked x × (creates_table x ≡ false)
 IsStart asked (state.Changing x run room) = ⊥
 IsStart asked (state.Defining x run) = IsAsking asked x × ((t : CreateTable) × (x ≡ s.CreateTable t) × (is_none_of t.splits ≡ true) × IsCreation t (Ok run))
-IsStart asked (state.Indexing x run) = ⊥
+IsStart asked (state.Building x run) = ⊥
 IsStart asked (state.Selecting x run) = ⊥
 IsStart asked (state.Deleting x run) = ⊥
 IsStart asked (state.Seeking x run) = ⊥

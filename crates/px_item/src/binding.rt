@@ -4,11 +4,12 @@ ghost use Rattle.px_calls.specs.Requires.{IsScn};
 ghost use Rattle.px_ast.specs.declared.statement.Statement.TheVariants as s;
 ghost use Rattle.px_deleting.specs.Asking.{planned_for};
 ghost use Rattle.px_reply.specs.declared.refusal.Refusal.TheVariants.{Memory};
+ghost use Rattle.px_item.specs.Builds.{altered as altered_as};
 ghost use Rattle.px_item.specs.Right as spec;
 ghost use Rattle.px_item.specs.Seeking.{IsSearchOf};
 
 use crate::refusing::bind_refusal;
-use px_ast::{CreateIndex, CreateTable, Statement};
+use px_ast::{CreateIndex, CreateTable, IndexAction, Statement};
 use px_batch::BatchRun;
 use px_bind::{Query, Request, bind};
 use px_calls::{Definition, Receipt};
@@ -18,13 +19,12 @@ use px_defining::DefineRun;
 use px_deleting::DeleteRun;
 use px_expr::Bound;
 use px_fitting::fits;
-use px_indexing::IndexRun;
 use px_plan::{PlanFault, choose, explain};
 use px_planned::Planned;
 use px_reply::{Defined, Refusal, Reply};
 use px_select::SelectRun;
 use px_tables::{Found, Table};
-use px_values::{Change, Changes, Items, Line, TableId};
+use px_values::{Change, Changes, IndexId, Items, Line, TableId};
 use std::alloc::{AllocError, Global};
 
 /// The most columns that have a place of one byte.
@@ -34,8 +34,7 @@ const MOST_PLACES: usize = 255;
 pub(crate) enum Next {
     /// With room for the batch's receipt.
     Change(BatchRun, Vec<Receipt>),
-    Drop(DefineRun),
-    Index(IndexRun),
+    Define(DefineRun),
     Select(SelectRun),
     Delete(DeleteRun),
     Tell(Reply),
@@ -155,7 +154,7 @@ fn index_dropped(alloc: Global, statement: &Statement, found: &Found) -> Next
 {
     match bind(alloc, statement, Some(found)) {
         Ok(Request::DropIndex { table, index }) => {
-            Next::Drop(DefineRun::new(Definition::DropIndex { table, index }))
+            Next::Define(DefineRun::new(Definition::DropIndex { table, index }))
         }
         Ok(Request::AbsentIndex) => Next::Tell(Reply::Defined(Defined::IndexAbsent)),
         Ok(other) => {
@@ -177,7 +176,38 @@ fn index_created(alloc: Global, create: &CreateIndex, found: &Found) -> Next
                 drop(index);
                 return Next::Tell(Reply::Refused(Refusal::Memory));
             }
-            Next::Index(IndexRun::new(index))
+            Next::Define(DefineRun::new(Definition::Index(index)))
+        }
+        Err(fault) => Next::Tell(Reply::Refused(bind_refusal(fault))),
+    }
+}
+
+/// What an ALTER INDEX asks for.
+fn altered(table: TableId, action: IndexAction, index: IndexId) -> Definition
+    ensures { result ≡ altered_as table action index }
+{
+    match action {
+        IndexAction::Disable => Definition::Disabled { table, index },
+        IndexAction::Rebuild => Definition::Rebuilding { table, index },
+    }
+}
+
+fn index_altered(alloc: Global, statement: &Statement, found: &Found) -> Next
+    requires alters { spec.alters_index statement.now ≡ true }
+    requires places { length found.now.table.columns ≤ 255 }
+    ensures { (scn : Option ℕ) → spec.IsNext scn found.now statement.now result }
+{
+    match bind(alloc, statement, Some(found)) {
+        Ok(
+            Request::AlterIndex {
+                table,
+                index,
+                action,
+            },
+        ) => Next::Define(DefineRun::new(altered(table, action, index))),
+        Ok(other) => {
+            drop(other);
+            Next::Tell(Reply::Refused(Refusal::Memory))
         }
         Err(fault) => Next::Tell(Reply::Refused(bind_refusal(fault))),
     }
@@ -373,10 +403,11 @@ pub(crate) fn next_of(alloc: Global, statement: &Statement, found: &Found, scn: 
     match statement {
         Statement::Upsert(_) => upserted(alloc, statement, found),
         Statement::DropTable(_) => {
-            Next::Drop(DefineRun::new(Definition::DropTable(found.table.id)))
+            Next::Define(DefineRun::new(Definition::DropTable(found.table.id)))
         }
         Statement::CreateIndex(create) => index_created(alloc, create, found),
         Statement::DropIndex(_) => index_dropped(alloc, statement, found),
+        Statement::AlterIndex(_) => index_altered(alloc, statement, found),
         Statement::Delete(_) => deleted(alloc, statement, found),
         Statement::Select(_) => selected(alloc, statement, found, scn),
         Statement::Explain(_) => explained(alloc, statement, found, scn),

@@ -10,22 +10,22 @@ use crate::binding::{self, Next};
 use crate::commanding::{commit, count, order};
 use crate::holding::{hold, holds};
 use crate::reading::{Read, read_piece};
-use crate::refusing::{table_named, unchanged, undefined, unfound, unselected};
+use crate::refusing::{table_named, unbuilt, unchanged, undefined, unfound, unselected};
 use crate::seeking::{gather, holds_rows, seek};
-use px_ast::Statement;
+use px_ast::{IndexAction, Statement};
 use px_batch::{BatchFault, BatchRun, BatchTurn};
-use px_calls::{Made, Receipt, Steps};
+use px_calls::{Definition, Made, Receipt, Steps};
 use px_commanding::{CommitRun, CountRun, OrderRun};
 use px_defining::{DefineFault, DefineRun, DefineTurn};
 use px_deleting::{DeleteFault, DeleteRun, DeleteTurn, Deleted};
-use px_indexing::{IndexFault, IndexRun, IndexTurn, Indexed};
 use px_lex::script::Piece;
 use px_reply::{Defined, Reply};
 use px_scan::QueryFault;
 use px_select::{SelectRun, SelectTurn, Selected};
 use px_sorted::Shown;
 use px_tables::Found;
-use px_values::{CountWord, Items, Name};
+use px_upkeep::{BuildFault, BuildRun, BuildTurn};
+use px_values::{CountWord, IndexId, Items, Name};
 use std::alloc::Global;
 
 /// What the next step of an item is.
@@ -34,10 +34,10 @@ pub enum ItemState {
     Finding(Statement),
     /// Its batch is under way. There is room for the receipt.
     Changing(Statement, BatchRun, Vec<Receipt>),
-    /// What it makes or drops is being defined.
+    /// What it makes, alters or drops is being defined.
     Defining(Statement, DefineRun),
-    /// Its index is being made.
-    Indexing(Statement, IndexRun),
+    /// Its index, which was defined, is being built.
+    Building(Statement, BuildRun),
     /// It is being selected.
     Selecting(Statement, SelectRun),
     /// Its rows are being deleted.
@@ -141,13 +141,9 @@ fn follow<'a>(alloc: Global, asked: Asked<'a>, statement: Statement, found: Foun
             asked,
             state: ItemState::Changing(statement, run, receipts),
         }),
-        Next::Drop(run) => ItemTurn::Stepped(ItemRun {
+        Next::Define(run) => ItemTurn::Stepped(ItemRun {
             asked,
             state: ItemState::Defining(statement, run),
-        }),
-        Next::Index(run) => ItemTurn::Stepped(ItemRun {
-            asked,
-            state: ItemState::Indexing(statement, run),
         }),
         Next::Select(run) => ItemTurn::Stepped(ItemRun {
             asked,
@@ -272,7 +268,17 @@ fn change<'a, S: Steps>(
     }
 }
 
-/// The word of what was made or dropped.
+/// The word of what an ALTER INDEX did.
+fn altered_word(action: IndexAction) -> Defined
+    ensures { result ≡ spec.altered_word action }
+{
+    match action {
+        IndexAction::Disable => Defined::IndexDisabled,
+        IndexAction::Rebuild => Defined::IndexRebuilt,
+    }
+}
+
+/// The word of what was made, altered or dropped.
 fn word_of(statement: &Statement) -> Defined
     ensures { result ≡ spec.word_of statement.now }
 {
@@ -280,6 +286,7 @@ fn word_of(statement: &Statement) -> Defined
         Statement::CreateTable(_) => Defined::TableCreated,
         Statement::CreateIndex(_) => Defined::IndexCreated,
         Statement::DropIndex(_) => Defined::IndexDropped,
+        Statement::AlterIndex(alter) => altered_word(alter.action),
         _ => Defined::TableDropped,
     }
 }
@@ -299,6 +306,47 @@ fn defined(
     };
     drop(statement);
     over(alloc, asked, reply)
+}
+
+/// The build that follows a definition, of an index that was made or is to be built again.
+fn build_of(alloc: Global, definition: &Definition, made: &Made) -> Option<BuildRun>
+    ensures { spec.IsBuildOf definition.now made.now result }
+{
+    match definition {
+        Definition::Index(what) => Some(BuildRun::new(
+            alloc,
+            what.table,
+            IndexId(made.number),
+            made.stamp,
+        )),
+        Definition::Rebuilding {
+            table,
+            index: _index,
+        } => Some(BuildRun::new(alloc, *table, IndexId(made.number), made.stamp)),
+        _ => None,
+    }
+}
+
+/// Goes on with a definition that was made: its index is built, or it is over. It makes no call.
+fn made_so<'a>(
+    alloc: Global,
+    asked: Asked<'a>,
+    statement: Statement,
+    run: DefineRun,
+    made: Made,
+) -> ItemTurn<'a>
+    ensures { spec.GoesOnBehind asked.entry statement run.definition made result }
+{
+    let definition = run.finish();
+    let build = build_of(alloc, &definition, &made);
+    drop(definition);
+    match build {
+        Some(run) => ItemTurn::Stepped(ItemRun {
+            asked,
+            state: ItemState::Building(statement, run),
+        }),
+        None => ItemTurn::Over(defined(alloc, asked, statement, Ok(made))),
+    }
 }
 
 /// Goes on with a definition.
@@ -321,57 +369,52 @@ fn define<'a, S: Steps>(
             asked,
             state: ItemState::Defining(statement, run),
         }),
-        DefineTurn::Over(result) => {
+        DefineTurn::Over(Ok(made)) => made_so(alloc, asked, statement, run, made),
+        DefineTurn::Over(Err(fault)) => {
             drop(run);
-            ItemTurn::Over(defined(alloc, asked, statement, result))
+            ItemTurn::Over(defined(alloc, asked, statement, Err(fault)))
         }
     }
 }
 
-/// Why an index doesn't stand active.
-fn fault_of(fault: IndexFault) -> DefineFault
-    ensures { result ≡ spec.index_fault fault }
-{
-    match fault {
-        IndexFault::Unmade(fault) => fault,
-        IndexFault::Inactive(_made, fault) => fault,
-    }
-}
-
-/// What a CREATE INDEX came to.
-fn indexed(
+/// What a build came to.
+fn built(
     alloc: Global,
     asked: Asked<'_>,
     statement: Statement,
-    came: Result<Indexed, IndexFault>,
+    came: Result<Made, BuildFault>,
 ) -> Answered
-    ensures { spec.IsIndexed asked.entry statement came result }
+    ensures { spec.IsBuilt asked.entry statement came result }
 {
     let reply = match came {
-        Ok(_indexed) => Reply::Defined(word_of(&statement)),
-        Err(fault) => undefined(alloc, &statement, fault_of(fault)),
+        Ok(_made) => Reply::Defined(word_of(&statement)),
+        Err(fault) => unbuilt(alloc, &statement, fault),
     };
     drop(statement);
     over(alloc, asked, reply)
 }
 
-/// Goes on with a CREATE INDEX.
-fn index<'a, S: Steps>(
+/// Goes on with a build.
+fn build<'a, S: Steps>(
     alloc: Global,
     s: &mut S,
     asked: Asked<'a>,
     statement: Statement,
-    run: IndexRun,
+    run: BuildRun,
 ) -> ItemTurn<'a>
-    requires { (before : ℕ) × (own : List Act) × Fits S.sound before asked own (ItemState.Indexing statement run) (S.known s.old) }
-    ensures { (before : ℕ) → (own : List Act) → Fits S.sound before asked.entry own (ItemState.Indexing statement run) (S.known s.old) → Turns S.sound before asked.entry own (S.known s.old) (S.known s.new) result }
+    requires { (before : ℕ) × (own : List Act) × Fits S.sound before asked own (ItemState.Building statement run) (S.known s.old) }
+    ensures { (before : ℕ) → (own : List Act) → Fits S.sound before asked.entry own (ItemState.Building statement run) (S.known s.old) → Turns S.sound before asked.entry own (S.known s.old) (S.known s.new) result }
 {
     match run.step(s) {
-        IndexTurn::Stepped(run) => ItemTurn::Stepped(ItemRun {
+        BuildTurn::Stepped(run) => ItemTurn::Stepped(ItemRun {
             asked,
-            state: ItemState::Indexing(statement, run),
+            state: ItemState::Building(statement, run),
         }),
-        IndexTurn::Over(came) => ItemTurn::Over(indexed(alloc, asked, statement, came)),
+        BuildTurn::Waiting(run) => ItemTurn::Waiting(ItemRun {
+            asked,
+            state: ItemState::Building(statement, run),
+        }),
+        BuildTurn::Over(came) => ItemTurn::Over(built(alloc, asked, statement, came)),
     }
 }
 
@@ -519,7 +562,7 @@ impl<'a> ItemRun<'a> {
                 change(alloc, s, asked, statement, run, receipts)
             }
             ItemState::Defining(statement, run) => define(alloc, s, asked, statement, run),
-            ItemState::Indexing(statement, run) => index(alloc, s, asked, statement, run),
+            ItemState::Building(statement, run) => build(alloc, s, asked, statement, run),
             ItemState::Selecting(statement, run) => select(alloc, s, asked, statement, run),
             ItemState::Deleting(statement, run) => delete(alloc, s, asked, statement, run),
             ItemState::Seeking(statement, run) => gather(alloc, s, asked, statement, run),

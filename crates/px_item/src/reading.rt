@@ -36,14 +36,7 @@ fn is_built(statement: &Statement) -> bool
 {
     match statement {
         Statement::CreateTable(create) => create.splits.as_slice().is_empty(),
-        Statement::Upsert(_)
-        | Statement::Delete(_)
-        | Statement::DropTable(_)
-        | Statement::CreateIndex(_)
-        | Statement::DropIndex(_)
-        | Statement::Select(_)
-        | Statement::Explain(_) => true,
-        _ => false,
+        _ => true,
     }
 }
 

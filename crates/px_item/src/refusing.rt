@@ -14,6 +14,7 @@ use px_parse::SyntaxFault;
 use px_reply::{Defined, Refusal, Reply};
 use px_resolve::fault::BindFault;
 use px_scan::QueryFault;
+use px_upkeep::BuildFault;
 use px_values::{Limit, Name};
 use std::alloc::Global;
 
@@ -130,6 +131,7 @@ fn index_absent(alloc: Global, statement: &Statement) -> Reply
             }
         }
         Statement::CreateIndex(create) => no_index(alloc, &create.name),
+        Statement::AlterIndex(alter) => no_index(alloc, &alter.name),
         _ => Reply::Refused(Refusal::Memory),
     }
 }
@@ -248,6 +250,25 @@ pub(crate) fn undefined(alloc: Global, statement: &Statement, fault: DefineFault
         DefineFault::Damaged { file, place } => Reply::Refused(Refusal::Damaged { file, place }),
         DefineFault::Closed { call } => Reply::Refused(Refusal::Closed { call }),
         DefineFault::Memory => Reply::Refused(Refusal::Memory),
+    }
+}
+
+/// What is told of an index that doesn't stand active.
+pub(crate) fn unbuilt(alloc: Global, statement: &Statement, fault: BuildFault) -> Reply
+    ensures { (result ≡ spec.not_built statement.now fault) ⊎ (result ≡ Refused Memory) }
+{
+    match fault {
+        BuildFault::NoTable => table_absent(alloc, statement),
+        BuildFault::NoIndex => index_absent(alloc, statement),
+        BuildFault::Limit { which, count: _ } => Reply::Refused(Refusal::Limit(which)),
+        BuildFault::BelowHorizon { horizon } => {
+            Reply::Refused(Refusal::BelowHorizon { horizon })
+        }
+        BuildFault::ReadFault => Reply::Refused(Refusal::ReadFault),
+        BuildFault::WriteFault => Reply::Refused(Refusal::WriteFault),
+        BuildFault::Damaged { file, place } => Reply::Refused(Refusal::Damaged { file, place }),
+        BuildFault::Closed { call } => Reply::Refused(Refusal::Closed { call }),
+        BuildFault::Memory => Reply::Refused(Refusal::Memory),
     }
 }
 

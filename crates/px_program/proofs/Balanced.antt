@@ -3,17 +3,21 @@ use Rattle.std.proofs.Common.{ℕ, ◌≡◌, ◌+◌, ◌-◌, ◌==◌, ◌&&�
 use Rattle.std.proofs.lemmas.Bool.{cases_Bool, false≢true}
 use Rattle.std.proofs.lemmas.Bool.Decides.{Decides-eqb}
 use Rattle.px_values.specs.declared.change.Change.{Change}
+use Rattle.px_values.specs.declared.name.IndexId.{IndexId}
 use Rattle.px_values.specs.declared.name.TableId.{TableId}
+use Rattle.px_tables.specs.declared.index.IndexState.{IndexState as BuildState}
+use Rattle.px_tables.specs.declared.index.IndexState.TheVariants.{Building}
 use Rattle.px_trail.specs.Batches.{Batch, batch_from, batch_of, batch_step, begun_batch}
 use Rattle.px_trail.specs.Trail.{acts_by, open_points, points_from, points_step}
 use Rattle.px_trail.specs.declared.entry.Act.{Act}
-use Rattle.px_trail.specs.declared.entry.Act.TheVariants.{Begun, Ended, Opened, Phase, Released, Wrote}
+use Rattle.px_trail.specs.declared.entry.Act.TheVariants.{Begun, Ended, IndexState, Opened, Phase, Released, Wrote}
 use Rattle.px_trail.specs.declared.entry.Entry.{Entry}
 use Rattle.px_calls.specs.Calls.{act_of}
 use Rattle.px_calls.specs.Known.{is_turn, outline}
 use Rattle.px_calls.specs.declared.definition.Definition.{Definition}
 use Rattle.px_calls.specs.declared.definition.Definition.TheVariants as d
 use Rattle.px_calls.specs.declared.definition.Made.{Made}
+use Rattle.px_upkeep.specs.Turns.{Try, Looked, Renewed, acts_of_tries}
 
 -- ---- 1. What is under way after a seat's acts
 
@@ -134,8 +138,21 @@ unfolding going going_step open_after open_step
 balanced-definition (d.Table what) m = record { batches = λ t s. refl; points = λ t s n. refl }
 balanced-definition (d.Index what) m = record { batches = λ t s. refl; points = λ t s n. refl }
 balanced-definition (d.Active t' i) m = record { batches = λ t s. refl; points = λ t s n. refl }
+balanced-definition (d.Disabled t' i) m = record { batches = λ t s. refl; points = λ t s n. refl }
+balanced-definition (d.Rebuilding t' i) m = record { batches = λ t s. refl; points = λ t s n. refl }
 balanced-definition (d.DropTable t') m = record { batches = λ t s. refl; points = λ t s n. refl }
 balanced-definition (d.DropIndex t' i) m = record { batches = λ t s. refl; points = λ t s n. refl }
+
+pub balanced-state : (t' : TableId) (i : IndexId) (state : BuildState) (stamp : ℕ) → IsBalanced (IndexState t' i state stamp ∷ [])
+unfolding going going_step open_after open_step
+balanced-state t' i state stamp = record { batches = λ t s. refl; points = λ t s n. refl }
+
+-- a point that was opened and closed for a build, or an index that was built again
+pub balanced-tries : (t : TableId) (i : IndexId) (tries : List Try) → IsBalanced (acts_of_tries t i tries)
+unfolding acts_of_tries
+balanced-tries t i [] = balanced-none
+balanced-tries t i (Looked stamp ∷ tries) = balanced-append _ (acts_of_tries t i tries) (balanced-point t stamp true) (balanced-tries t i tries)
+balanced-tries t i (Renewed stamp ∷ tries) = balanced-append _ (acts_of_tries t i tries) (balanced-state t i Building stamp) (balanced-tries t i tries)
 
 -- ---- 4. What the trail tells by the acts of each seat
 

@@ -3,6 +3,7 @@
 use Rattle.std.proofs.Common.{ℕ, zero, suc, ◌≡◌, ◌⊎◌, ◌||◌, ◌==◌, if◌then◌else◌, Bool, true, false, Option, None, Some, List, [], ◌∷◌, ◌++◌, Err, take, refl, sym, ◌∙◌, ap, subst, inl, inr, ⊎_elim}
 use Rattle.std.proofs.lemmas.Bool.{false≢true}
 use Rattle.px_values.specs.declared.change.Change.{Change}
+use Rattle.px_values.specs.declared.name.IndexId.{IndexId}
 use Rattle.px_values.specs.declared.name.TableId.{TableId}
 use Rattle.px_values.specs.declared.print.CountWord.TheVariants.{Affected, Held}
 use Rattle.px_values.specs.declared.limit.Limit.TheVariants.{Rows}
@@ -31,7 +32,9 @@ use Rattle.px_trail.specs.declared.entry.Act.{Act}
 use Rattle.px_trail.specs.declared.entry.Act.TheVariants.{Missed, Shut}
 use Rattle.px_trail.specs.declared.entry.Entry.{Entry}
 use Rattle.px_calls.specs.Causes.{IsDamagedAt}
+use Rattle.px_calls.specs.Calls.{act_of, made_index}
 use Rattle.px_calls.specs.Known.{Known}
+use Rattle.px_calls.specs.declared.definition.Made.{Made}
 use Rattle.px_calls.specs.declared.status.Ordered.{Ordered}
 use Rattle.px_calls.specs.declared.status.Ordered.TheVariants as jobs
 use Rattle.px_calls.specs.declared.definition.Definition.{Definition}
@@ -42,12 +45,11 @@ use Rattle.px_batch.specs.declared.batch.BatchFault.TheVariants as unmade
 use Rattle.px_defining.specs.Turns as define
 use Rattle.px_defining.specs.declared.define.DefineFault.{DefineFault}
 use Rattle.px_defining.specs.declared.define.DefineFault.TheVariants as undone
-use Rattle.px_create.specs.Indexes.{new_index}
 use Rattle.px_create.specs.Tables.{new_table}
-use Rattle.px_indexing.specs.Turns as indexing
-use Rattle.px_indexing.specs.declared.index.IndexFault.{IndexFault}
-use Rattle.px_indexing.specs.declared.index.IndexFault.TheVariants as unbuilt
-use Rattle.px_tables.specs.declared.index.NewIndex.{NewIndex}
+use Rattle.px_tables.specs.declared.index.IndexState.TheVariants.{Active, Disabled}
+use Rattle.px_upkeep.specs.Turns as building
+use Rattle.px_upkeep.specs.declared.build.BuildFault.{BuildFault}
+use Rattle.px_upkeep.specs.declared.build.BuildFault.TheVariants as unbuilt
 use Rattle.px_gather.specs.Query.{Query}
 use Rattle.px_plan.specs.Explained.{explained}
 use Rattle.px_calls.specs.declared.ticket.Receipt.{Receipt}
@@ -62,15 +64,16 @@ use Rattle.px_reply.specs.declared.refusal.Refusal.TheVariants as refusal
 use Rattle.px_reply.specs.declared.reply.Defined.TheVariants as defined
 use Rattle.px_reply.specs.declared.reply.Reply.{Reply}
 use Rattle.px_reply.specs.declared.reply.Reply.TheVariants as reply
+use Rattle.px_item.specs.Builds.{IsBuiltBehind}
 use Rattle.px_item.specs.Right as right
-use Rattle.px_item.specs.Right.{IsAtOnce, IsRight, SaysOf, batch_refusal, bind_refusal, command_refusal, index_absent, name_taken, one_change, query_refusal, syntax_refusal, table_absent, undefined, word_of}
+use Rattle.px_item.specs.Right.{IsAtOnce, IsRight, SaysOf, batch_refusal, bind_refusal, command_refusal, index_absent, name_taken, not_built, one_change, query_refusal, syntax_refusal, table_absent, undefined, word_of}
 use Rattle.px_item.specs.declared.answered.Answered.{Answered}
 use Rattle.px_item.specs.declared.answered.Settings.{Settings}
 use Rattle.px_session.specs.Replies.{is_fatal}
 use Rattle.px_server.specs.Kept.{has_told, tells_fault}
 use Rattle.px_program.specs.Status.{is_of_disk, refused_by}
 use Rattle.px_program.specs.Run.{undamaged}
-use Rattle.px_program.proofs.Balanced.{IsBalanced, balanced-batch, balanced-definition, balanced-none, balanced-point, balanced-append, balanced-within}
+use Rattle.px_program.proofs.Balanced.{IsBalanced, balanced-batch, balanced-definition, balanced-none, balanced-point, balanced-append, balanced-state, balanced-tries, balanced-within}
 
 -- ---- 1. Entries that tell of the disk
 
@@ -149,6 +152,7 @@ absent_quiet x = refl
 
 index_quiet : (x : Statement) → refused_by is_of_disk (index_absent x) ≡ false
 index_quiet (s.CreateIndex i) = refl
+index_quiet (s.AlterIndex i) = refl
 index_quiet (s.DropIndex i) = either i.if_exists (reply.Defined defined.IndexAbsent) (reply.Refused (refusal.NoIndex i.name)) refl refl
 index_quiet x = refl
 
@@ -203,27 +207,44 @@ undamaged_at : (k : Known) → k.damaged ≡ undamaged → (file place : ℕ) �
 undamaged_at k whole file place h = false≢true (sym (ap (λ (f : ℕ → ℕ → Bool). f file place) whole) ∙ h)
 
 -- a definition that was refused for the disk's sake has an entry that tells it
-defining_told : (sound : Type 0) (k : Known) → k.damaged ≡ undamaged → (x : Definition) (y : Statement) (f : DefineFault) → define.FaultIs sound x f k → refused_by is_of_disk (undefined y f) ≡ true → has_told k.seen ≡ true
-defining_told sound k whole x y undone.ReadFault is tell = told_by k.seat (Missed is.0) k.seen refl is.1
-defining_told sound k whole x y undone.WriteFault is tell = told_by k.seat (Shut is.0) k.seen refl is.1
-defining_told sound k whole x y (undone.Damaged file place) is tell = absurd (undamaged_at k whole file place is)
-defining_told sound k whole x y (undone.Closed call) is tell = closed_by call k.seen is
-defining_told sound k whole x y undone.NameExists is tell = absurd (false≢true (sym (name_quiet y) ∙ tell))
-defining_told sound k whole x y undone.NoTable is tell = absurd (false≢true (sym (absent_quiet y) ∙ tell))
-defining_told sound k whole x y undone.NoIndex is tell = absurd (false≢true (sym (index_quiet y) ∙ tell))
-defining_told sound k whole x y f is tell = absurd (false≢true tell)
+defining_told : (k : Known) → k.damaged ≡ undamaged → (x : Definition) (y : Statement) (f : DefineFault) → define.FaultIs x f k → refused_by is_of_disk (undefined y f) ≡ true → has_told k.seen ≡ true
+defining_told k whole x y undone.ReadFault is tell = told_by k.seat (Missed is.0) k.seen refl is.1
+defining_told k whole x y undone.WriteFault is tell = told_by k.seat (Shut is.0) k.seen refl is.1
+defining_told k whole x y (undone.Damaged file place) is tell = absurd (undamaged_at k whole file place is)
+defining_told k whole x y (undone.Closed call) is tell = closed_by call k.seen is
+defining_told k whole x y undone.NameExists is tell = absurd (false≢true (sym (name_quiet y) ∙ tell))
+defining_told k whole x y undone.NoTable is tell = absurd (false≢true (sym (absent_quiet y) ∙ tell))
+defining_told k whole x y undone.NoIndex is tell = absurd (false≢true (sym (index_quiet y) ∙ tell))
+defining_told k whole x y f is tell = absurd (false≢true tell)
 
--- and so has one that was refused earlier
-refused_told : (sound : Type 0) (k : Known) → k.damaged ≡ undamaged → (n : ℕ) (x : Definition) (y : Statement) (f : DefineFault) → indexing.WasRefused sound n x f k → refused_by is_of_disk (undefined y f) ≡ true → has_told k.seen ≡ true
-refused_told sound k whole n x y f w tell =
-    subst (λ (es : List Entry). has_told es ≡ true) (sym w.past.seen) (told_more w.was.seen w.past.more (defining_told sound w.was (sym w.past.damaged ∙ whole) x y f w.cause tell))
+-- so has a build
+building_told : (sound : Type 0) (k : Known) → k.damaged ≡ undamaged → (t i : ℕ) (y : Statement) (f : BuildFault) → building.FaultIs sound t i f k → refused_by is_of_disk (not_built y f) ≡ true → has_told k.seen ≡ true
+building_told sound k whole t i y unbuilt.ReadFault is tell = told_by k.seat (Missed is.0) k.seen refl is.1
+building_told sound k whole t i y unbuilt.WriteFault is tell = told_by k.seat (Shut is.0) k.seen refl is.1
+building_told sound k whole t i y (unbuilt.Damaged file place) is tell = absurd (undamaged_at k whole file place is)
+building_told sound k whole t i y (unbuilt.Closed call) is tell = closed_by call k.seen is
+building_told sound k whole t i y unbuilt.NoTable is tell = absurd (false≢true (sym (absent_quiet y) ∙ tell))
+building_told sound k whole t i y unbuilt.NoIndex is tell = absurd (false≢true (sym (index_quiet y) ∙ tell))
+building_told sound k whole t i y (unbuilt.Limit which count) is tell = absurd (false≢true tell)
+building_told sound k whole t i y (unbuilt.BelowHorizon h) is tell = absurd (false≢true tell)
+building_told sound k whole t i y unbuilt.Memory is tell = absurd (false≢true tell)
 
--- what was done while a point was open is balanced with it
-held : (what : NewIndex) (own inner : List Act) → indexing.Holds what own inner → IsBalanced inner → IsBalanced own
-held what own inner h b = subst IsBalanced (sym h.1) (balanced-within what.table h.0 false inner b)
+-- also one that was refused earlier
+refused_told : (sound : Type 0) (k : Known) → k.damaged ≡ undamaged → (n t i : ℕ) (y : Statement) (f : BuildFault) → building.WasRefused sound n t i f k → refused_by is_of_disk (not_built y f) ≡ true → has_told k.seen ≡ true
+refused_told sound k whole n t i y f w tell =
+    subst (λ (es : List Entry). has_told es ≡ true) (sym w.past.seen) (told_more w.was.seen w.past.more (building_told sound w.was (sym w.past.damaged ∙ whole) t i y f w.cause tell))
 
-third : {A B C : Type 0} → A × B × C → C
-third t = t.2
+-- what a build did is balanced
+tries_balanced : (t : TableId) (i : IndexId) (last own : List Act) → building.TriesThen t i last own → IsBalanced last → IsBalanced own
+tries_balanced t i last own h b = subst IsBalanced (sym h.1) (balanced-append (building.acts_of_tries t i h.0) last (balanced-tries t i h.0) b)
+
+tried_balanced : (t : TableId) (i : IndexId) (own : List Act) → building.HasTried t i own → IsBalanced own
+tried_balanced t i own (inl h) = tries_balanced t i [] own h balanced-none
+tried_balanced t i own (inr h) = tries_balanced t i _ own h.1 (balanced-state t i Disabled h.0)
+
+-- with its definition before it
+behind_balanced : (n : ℕ) (e : Definition) (m : Made) (own rest : List Act) (k : Known) → IsBuiltBehind n e m own rest k → IsBalanced rest → IsBalanced own
+behind_balanced n e m own rest k h b = subst IsBalanced (sym h.one) (balanced-append (act_of e m ∷ []) rest (balanced-definition e m) b)
 
 module _ (sound : Type 0) (k : Known) (whole : k.damaged ≡ undamaged) where
   Told : Reply → Type 0
@@ -244,9 +265,9 @@ module _ (sound : Type 0) (k : Known) (whole : k.damaged ≡ undamaged) where
   batch_told name t cs (unmade.Closed call) is tell = closed_by call k.seen is
   batch_told name t cs f is tell = absurd (false≢true tell)
 
-  define_told : (x : Definition) (y : Statement) (f : DefineFault) → define.FaultIs sound x f k → Told (undefined y f)
+  define_told : (x : Definition) (y : Statement) (f : DefineFault) → define.FaultIs x f k → Told (undefined y f)
   unfolding Told
-  define_told = defining_told sound k whole
+  define_told = defining_told k whole
 
   query_told : (name : List ℕ) (q : Query) (scn : Option ℕ) (f : QueryFault) → QueryFaultIs q scn f k → Told (reply.Refused (query_refusal name f))
   unfolding Told
@@ -307,16 +328,11 @@ module _ (sound : Type 0) (k : Known) (whole : k.damaged ≡ undamaged) where
     balanced = λ go. stopped_balanced name p own rs f h (ap (λ (g : BatchFault). is_fatal (reply.Refused (batch_refusal name g))) lacks.1);
   }
 
-  -- an index that wasn't made, or that wasn't made active
-  index_not : (y : Statement) (n : ℕ) (what : NewIndex) (own : List Act) (why : IndexFault) → indexing.IsOutcome sound n what own k (Err why) → IsBalanced own × Told (undefined y (right.index_fault why))
+  -- an index that wasn't built
+  not_active : (x : Statement) (n : ℕ) (t : TableId) (i : IndexId) (own rest : List Act) (f : BuildFault) (a : Reply) → IsBalanced own → building.IsOutcome sound n t i rest k (Err f) → (a ≡ not_built x f) ⊎ (a ≡ reply.Refused refusal.Memory) → IsFair k own a
   unfolding Told
-  index_not y n what own (unbuilt.Unmade f) o = (⊎_elim (λ none. subst IsBalanced (sym none.0) balanced-none) (λ h. held what own [] h balanced-none) o.1, refused_told sound k whole n (d.Index what) y f o.0)
-  index_not y n what own (unbuilt.Inactive m f) o = (held what own _ (third o) (balanced-definition (d.Index what) m), refused_told sound k whole n (indexing.activation what m) y f o.1)
-
-  index_unmade : (own : List Act) (a r : Reply) → IsBalanced own × Told r → (a ≡ r) ⊎ (a ≡ reply.Refused refusal.Memory) → IsFair k own a
-  unfolding Told
-  index_unmade own a r o (inl says) = record { told = λ tell. o.1 (sym (ap (refused_by is_of_disk) says) ∙ tell); balanced = λ go. o.0 }
-  index_unmade own a r o (inr says) = record { told = λ tell. absurd (false≢true (sym (ap (refused_by is_of_disk) says) ∙ tell)); balanced = λ go. o.0 }
+  not_active x n t i own rest f a balanced o (inl says) = record { told = λ tell. refused_told sound k whole n t.0 i.0 x f o.0 (sym (ap (refused_by is_of_disk) says) ∙ tell); balanced = λ go. balanced }
+  not_active x n t i own rest f a balanced o (inr says) = record { told = λ tell. absurd (false≢true (sym (ap (refused_by is_of_disk) says) ∙ tell)); balanced = λ go. balanced }
 
   -- a commit that was refused
   commit_told : (name : List ℕ) (h : HeldData) (f : BatchFault) → commits.FaultIs sound h f k → Told (reply.Refused (batch_refusal name f))
@@ -383,16 +399,15 @@ module _ (sound : Type 0) (k : Known) (whole : k.damaged ≡ undamaged) where
     told = λ tell. batch_told u.table f.table.id (one_change f u) fault is (sym (ap (refused_by is_of_disk) says.0) ∙ tell);
     balanced = λ go. batch_balanced u.table f.table.id (one_change f u) fault own left (sym (ap is_fatal says.0) ∙ go);
   }
-  fair before own st p a (right.is_dropped x f m e read scn bound fits is made says) = did own _ a.reply (reply.Defined (word_of x)) made.one (balanced-definition e m) says.0 refl
-  fair before own st p a (right.is_not_dropped x f fault e read scn bound fits is why since none says) = idle own a.reply (undefined x fault) none says.0 (define_told e x fault why)
+  fair before own st p a (right.is_defined x f m e read scn bound fits is none made says) = did own _ a.reply (reply.Defined (word_of x)) made.one (balanced-definition e m) says.0 refl
+  fair before own st p a (right.is_not_defined x f fault e read scn bound fits is why since none says) = idle own a.reply (undefined x fault) none says.0 (define_told e x fault why)
   fair before own st p a (right.is_created t m read one scn fits made says) = did own _ a.reply (reply.Defined defined.TableCreated) made.one (balanced-definition (d.Table (new_table t)) m) says.0 refl
   fair before own st p a (right.is_not_created t fault read one scn fits why since none says) = idle own a.reply (undefined (s.CreateTable t) fault) none says.0 (define_told (d.Table (new_table t)) (s.CreateTable t) fault why)
-  fair before own st p a (right.is_index_made i f n read scn bound fits outcome says) = record {
-    told = λ tell. absurd (false≢true (sym (ap (refused_by is_of_disk) says.0) ∙ tell));
-    balanced = λ go. held (new_index f.table i) own _ (third outcome) (balanced-append _ _ (balanced-definition (d.Index (new_index f.table i)) n.made) (balanced-definition (indexing.activation (new_index f.table i) n.made) n.active));
-  }
-  fair before own st p a (right.is_index_not_made i f why read scn bound fits outcome says) =
-      index_unmade own a.reply _ (index_not (s.CreateIndex i) a.first (new_index f.table i) own why outcome) (⊎_elim (λ is. inl is.0) (λ is. inr is.0) says)
+  fair before own st p a (right.is_index_built x f e t m c rest read scn bound fits is builds behind built asked says) =
+      did own own a.reply (reply.Defined (word_of x)) refl
+      (behind_balanced a.first e m own rest k behind (tries_balanced t (made_index m) _ rest built.1 (balanced-within t c.stamp true _ (balanced-state t (made_index m) Active c.stamp)))) says.0 refl
+  fair before own st p a (right.is_index_not_built x f e t m rest fault read scn bound fits is builds behind built says) =
+      not_active x m.at t (made_index m) own rest fault a.reply (behind_balanced a.first e m own rest k behind (tried_balanced t (made_index m) rest built.1)) built (⊎_elim (λ is. inl is.0) (λ is. inr is.0) says)
   fair before own st p a (right.is_index_absent i f read scn bound exists absent says none) = still own a.reply (reply.Defined defined.IndexAbsent) none says.0 refl
   fair before own st p a (right.is_selected q f x r read bound asked outcome shows) = did own _ a.reply (reply.Rows r.shown.rows) outcome.1 (balanced-point _ _ _) shows.rows refl
   fair before own st p a (right.is_not_selected q f x fault read bound asked outcome since says) =

@@ -99,6 +99,7 @@ fn run_over<
     requires damaged { B.damaged ≡ undamaged }
     requires sound { B.sound → IsSoundFolder (folder_in opened) }
     requires disk { B.premise → IsTrue D.tells → IsOpenedOn ⟦<D as Disk>⟧ disk opened }
+    requires told { B.premise → IsTrue D.tells → B.sound }
     requires began { BeginsAt ⟦<D as Disk>⟧ B.began disk }
     requires times { IsTrue C.tells → (n : ℕ) → C.times clock n ≡ B.times n }
     ensures { RanOpened ⟦<D as Disk>⟧ ⟦<C as Clock>⟧ ⟦<O as Sink>⟧ B.base B.sound B.premise B.began (IsLeft ⟦<D as Disk>⟧) B.times script.now disk out.old out.new result }
@@ -151,6 +152,7 @@ fn run_since<
     requires damaged { B.damaged ≡ undamaged }
     requires sound { B.sound → IsSoundFolder (folder_in opened) }
     requires opened { B.premise → IsTrue D.tells → IsOpenedNow ⟦<D as Disk>⟧ disk opened }
+    requires told { B.premise → IsTrue D.tells → B.sound }
     requires began { BeginsAt ⟦<D as Disk>⟧ B.began disk }
     requires from { B.from ≡ D.calls disk }
     requires all { B.all → StoodBefore ⟦<D as Disk>⟧ disk opened }

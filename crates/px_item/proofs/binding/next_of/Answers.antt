@@ -6,6 +6,9 @@ returns-in-Upsert c = c.upserted.ensures c.args.scn
 pub returns-in-DropIndex : goal.returns-in-DropIndex
 returns-in-DropIndex c = c.index_dropped.ensures c.args.scn
 
+pub returns-in-AlterIndex : goal.returns-in-AlterIndex
+returns-in-AlterIndex c = c.index_altered.ensures c.args.scn
+
 pub returns-in-Explain : goal.returns-in-Explain
 returns-in-Explain c = c.explained.ensures
 

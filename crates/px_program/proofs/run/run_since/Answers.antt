@@ -15,6 +15,9 @@ run_over-requires-clause-disk g c = λ κs bounds given tells.
     subst (λ x. IsOpenedOn (later d (at_least s.from s.all)) x c.args.opened) (sym c.new-later.ensures)
     (opened_later d (g.met.D.Disk g.world.𝓛 g.world.𝓜 g.world.𝓡 ((λ s x. x), (λ x. x), (λ x. x), λ x. x)).up_to_now s.from s.all c.args.disk c.args.opened c.requires.from c.requires.all (c.requires.opened given tells))
 
+pub run_over-requires-clause-told : goal.run_over-requires-clause-told
+run_over-requires-clause-told g c = λ κs bounds given tells. c.requires.told given tells
+
 pub run_over-requires-clause-began : goal.run_over-requires-clause-began
 run_over-requires-clause-began g c = λ κs bounds.
     let d = g.D.Disk in

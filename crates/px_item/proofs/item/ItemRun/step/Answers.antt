@@ -14,8 +14,8 @@ returns-in-Changing-clause-done g c = λ before own f tells. let is = rw c.in-Ch
 pub returns-in-Defining-clause-done : goal.returns-in-Defining-clause-done
 returns-in-Defining-clause-done g c = λ before own f tells. let is = rw c.in-Defining.is at f in absurd (not_told g.S.Steps.sound before c.args.self.asked own (state.Defining c.in-Defining.statement c.in-Defining.run') _ _ c.define.result tt is (c.define.ensures before own is) tells)
 
-pub returns-in-Indexing-clause-done : goal.returns-in-Indexing-clause-done
-returns-in-Indexing-clause-done g c = λ before own f tells. let is = rw c.in-Indexing.is at f in absurd (not_told g.S.Steps.sound before c.args.self.asked own (state.Indexing c.in-Indexing.statement c.in-Indexing.run') _ _ c.index.result tt is (c.index.ensures before own is) tells)
+pub returns-in-Building-clause-done : goal.returns-in-Building-clause-done
+returns-in-Building-clause-done g c = λ before own f tells. let is = rw c.in-Building.is at f in absurd (not_told g.S.Steps.sound before c.args.self.asked own (state.Building c.in-Building.statement c.in-Building.run') _ _ c.build.result tt is (c.build.ensures before own is) tells)
 
 pub returns-in-Selecting-clause-done : goal.returns-in-Selecting-clause-done
 returns-in-Selecting-clause-done g c = λ before own f tells. let is = rw c.in-Selecting.is at f in absurd (not_told g.S.Steps.sound before c.args.self.asked own (state.Selecting c.in-Selecting.statement c.in-Selecting.run') _ _ c.select.result tt is (c.select.ensures before own is) tells)
