@@ -3,6 +3,8 @@ use crate::runs::{Run, disk_of, ends, is_printed, run_again, run_new, run_words}
 use px_outside::{Choice, MemDisk};
 use px_program::Status;
 use std::alloc::{AllocError, Global};
+use std::fmt;
+use std::fmt::Write;
 use std::sync::Wait;
 use std::thread::Threads;
 
@@ -109,7 +111,15 @@ fn indexes_are_made_kept_and_dropped(rt: HostRuntime) {
             "CREATE INDEX I ON ORDERS (AMT) INCLUDE (ID);",
             "E10 column named twice: ID\n",
         ),
-        ("CREATE INDEX I ON ORDERS (AMT);", "E11 limit: BUILD 0\n"),
+        (
+            "ALTER INDEX BY_CUST ON NOWHERE DISABLE;",
+            "E05 no such table: NOWHERE\n",
+        ),
+        ("ALTER INDEX I ON ORDERS REBUILD;", "E09 no such index: I\n"),
+        (
+            "!scn 3\nALTER INDEX BY_CUST ON ORDERS DISABLE;",
+            "scn 3\nE13 not under scn\n",
+        ),
         (
             "DROP INDEX BY_CUST ON ORDERS; DROP INDEX BY_CUST ON ORDERS;",
             "index dropped\nE09 no such index: BY_CUST\n",
@@ -136,6 +146,193 @@ fn indexes_are_made_kept_and_dropped(rt: HostRuntime) {
         ),
     ] {
         assert!(rt; with_orders(&rt, alloc, statements, Status::Done, text) == Ok(true));
+    }
+}
+
+#[test]
+fn an_index_of_a_table_with_rows_has_them(rt: HostRuntime) {
+    let alloc = rt.alloc();
+    for (statements, text) in [
+        (
+            "CREATE INDEX BY_AMT ON ORDERS (AMT DESC) INCLUDE (CUST);
+SELECT CUST, AMT FROM ORDERS WHERE AMT = 7; EXPLAIN SELECT CUST, AMT FROM ORDERS WHERE AMT = 7;
+UPSERT INTO ORDERS (ID, CUST, AMT) VALUES (3,'cy',7); SELECT CUST, AMT FROM ORDERS WHERE AMT = 7;",
+            "index created\n'al', 7\n1 row selected\nSCAN INDEX BY_AMT OF ORDERS\nKEY EQUAL 1 RANGE 0\n1 row affected\n'al', 7\n'cy', 7\n2 rows selected\n",
+        ),
+        (
+            "CREATE INDEX BY_AMT ON ORDERS (AMT) INCLUDE (CUST);
+!scn 4
+EXPLAIN SELECT CUST, AMT FROM ORDERS WHERE AMT = 7; SELECT CUST, AMT FROM ORDERS WHERE AMT = 7;",
+            "index created\nscn 4\nSCAN TABLE ORDERS\nKEY EQUAL 0 RANGE 0\nFILTER\n'al', 7\n1 row selected\n",
+        ),
+    ] {
+        assert!(rt; with_orders(&rt, alloc, statements, Status::Done, text) == Ok(true));
+    }
+}
+
+/// A table of so many rows, and an index that is made then. Each third row has the same text.
+fn many_rows(alloc: Global, rows: u32) -> Result<String, fmt::Error> {
+    let mut script = String::new(alloc);
+    script.write_str("CREATE TABLE T (ID BIGINT PRIMARY KEY, A VARCHAR);\n!autocommit off\n")?;
+    for row in 0..rows {
+        let letter = if row % 3 == 0 { 'x' } else { 'y' };
+        write!(script, "UPSERT INTO T VALUES ({row}, '{letter}');")?;
+    }
+    script.write_str(
+        "\n!commit\nCREATE INDEX BY_A ON T (A);\nSELECT ID FROM T WHERE A = 'x' AND ID >= 120;\nEXPLAIN SELECT ID FROM T WHERE A = 'x' AND ID >= 120;\n",
+    )?;
+    Ok(script)
+}
+
+#[test]
+fn an_index_is_built_chunk_by_chunk(rt: HostRuntime) {
+    let alloc = rt.alloc();
+    let Ok(script) = many_rows(alloc, 130) else {
+        panic!(rt; "no memory")
+    };
+    let Ok(run) = run_new(&rt, alloc, &script) else {
+        panic!(rt; "no memory")
+    };
+    assert!(rt; run.status == Status::Done);
+    let end =
+        b"130 rows affected\nindex created\n120\n123\n126\n129\n4 rows selected\nSCAN INDEX BY_A OF T\nKEY EQUAL 1 RANGE 1\n";
+    assert!(rt; run.printed.held().ends_with(end));
+}
+
+#[test]
+fn an_index_is_disabled_and_built_again(rt: HostRuntime) {
+    let alloc = rt.alloc();
+    let all = "ALTER INDEX BY_CUST ON ORDERS DISABLE;
+EXPLAIN SELECT ID, CUST, AMT FROM ORDERS WHERE CUST = 'al';
+UPSERT INTO ORDERS (ID, CUST, AMT) VALUES (3,'al',9); SELECT ID, CUST, AMT FROM ORDERS WHERE CUST = 'al';
+ALTER INDEX BY_CUST ON ORDERS REBUILD;
+SELECT ID, CUST, AMT FROM ORDERS WHERE CUST = 'al'; EXPLAIN SELECT ID, CUST, AMT FROM ORDERS WHERE CUST = 'al';
+!scn 4
+SELECT ID, CUST, AMT FROM ORDERS WHERE CUST = 'al'; EXPLAIN SELECT ID, CUST, AMT FROM ORDERS WHERE CUST = 'al';
+";
+    let text = "index disabled
+SCAN TABLE ORDERS
+KEY EQUAL 0 RANGE 0
+FILTER
+1 row affected
+2, 'al', 7
+3, 'al', 9
+2 rows selected
+index rebuilt
+2, 'al', 7
+3, 'al', 9
+2 rows selected
+SCAN INDEX BY_CUST OF ORDERS
+KEY EQUAL 1 RANGE 0
+scn 4
+2, 'al', 7
+1 row selected
+SCAN TABLE ORDERS
+KEY EQUAL 0 RANGE 0
+FILTER
+";
+    assert!(rt; with_orders(&rt, alloc, all, Status::Done, text) == Ok(true));
+    let (again, text) = (
+        "ALTER INDEX BY_CUST ON ORDERS DISABLE; ALTER INDEX BY_CUST ON ORDERS DISABLE;
+DROP INDEX BY_CUST ON ORDERS;",
+        "index disabled\nindex disabled\nindex dropped\n",
+    );
+    assert!(rt; with_orders(&rt, alloc, again, Status::Done, text) == Ok(true));
+    let (at_once, text) = (
+        "ALTER INDEX BY_CUST ON ORDERS REBUILD; SELECT ID, CUST, AMT FROM ORDERS WHERE CUST = 'bo';",
+        "index rebuilt\n1, 'bo', 5\n1 row selected\n",
+    );
+    assert!(rt; with_orders(&rt, alloc, at_once, Status::Done, text) == Ok(true));
+}
+
+/// A table with one row whose text has so many letters, and an index on that text; and then a status.
+fn long_text(alloc: Global, letters: usize) -> Result<String, AllocError> {
+    let mut script = String::from_str(
+        alloc,
+        "CREATE TABLE ORDERS (ID BIGINT NOT NULL PRIMARY KEY, CUST VARCHAR, AMT INTEGER);
+UPSERT INTO ORDERS VALUES (1, '",
+    )?;
+    for _ in 0..letters {
+        script.push_str("x")?;
+    }
+    script.push_str(
+        "', 5);\nCREATE INDEX BY_CUST ON ORDERS (CUST) INCLUDE (AMT);\n!status ORDERS\n",
+    )?;
+    Ok(script)
+}
+
+#[test]
+fn an_index_with_a_key_that_is_too_long_is_disabled(rt: HostRuntime) {
+    let alloc = rt.alloc();
+    let Ok(script) = long_text(alloc, 1_020) else {
+        panic!(rt; "no memory")
+    };
+    let text = "table created
+1 row affected
+E11 limit: KEY 1024
+last 2 horizon 0
+cells 3 files 0
+BY_CUST DISABLED unverified 0
+";
+    assert!(rt; ends(&rt, alloc, &script, Status::Refused, text) == Ok(true));
+}
+
+/// What is asked where a stop came in a build: the same rows by the table, and by the path that is chosen.
+const BUILT: &str = "SELECT /*+ NO_INDEX */ CUST FROM ORDERS WHERE AMT = 7;
+SELECT CUST FROM ORDERS WHERE AMT = 7;
+";
+
+const SHOWN: &str = "'al'\n1 row selected\n'al'\n1 row selected\n";
+
+/// Whether what a stop leaves in that call of the statement shows the rows as they are; none where the call isn't made.
+fn keeps_rows<R: Threads + Wait + Sync>(
+    rt: &R,
+    alloc: Global,
+    disk: MemDisk,
+    statement: &str,
+    call: u64,
+    choice: Choice,
+) -> Result<Option<bool>, AllocError> {
+    let stopping = disk.image().stop_at(call, choice);
+    let run = run_words(rt, alloc, "run folder", stopping, statement)?;
+    if run.status == Status::Done {
+        drop(run);
+        return Ok(None);
+    }
+    let again = run_again(rt, alloc, disk_of(run), BUILT)?;
+    Ok(Some(is_printed(&again, Status::Done, SHOWN)))
+}
+
+#[test]
+fn a_build_that_is_stopped_at_each_call_changes_no_row(rt: HostRuntime) {
+    let alloc = rt.alloc();
+    for (statement, choice) in [
+        (
+            "CREATE INDEX BY_AMT ON ORDERS (AMT) INCLUDE (CUST);",
+            Choice::Old,
+        ),
+        (
+            "CREATE INDEX BY_AMT ON ORDERS (AMT) INCLUDE (CUST);",
+            Choice::New,
+        ),
+        ("ALTER INDEX BY_CUST ON ORDERS REBUILD;", Choice::Old),
+        ("ALTER INDEX BY_CUST ON ORDERS REBUILD;", Choice::Fill(255)),
+    ] {
+        let mut calls = 0;
+        for call in 1..200 {
+            let Ok(run) = orders(&rt, alloc) else {
+                panic!(rt; "no memory")
+            };
+            let Ok(shown) = keeps_rows(&rt, alloc, disk_of(run), statement, call, choice) else {
+                panic!(rt; "no memory")
+            };
+            let Some(is_right) = shown else {
+                break;
+            };
+            assert!(rt; is_right, "{statement} {call}");
+            calls = call;
+        }
+        assert!(rt; calls >= 8);
     }
 }
 

@@ -146,13 +146,8 @@ fn a_last_line_feed_adds_nothing(rt: HostRuntime) {
 #[test]
 fn what_is_not_built_is_left_out_piece_by_piece(rt: HostRuntime) {
     let alloc = rt.alloc();
-    for statement in [
-        "CREATE TABLE T (A BIGINT PRIMARY KEY) SPLIT ON (5)",
-        "ALTER INDEX I ON KV REBUILD",
-        "ALTER INDEX I ON KV DISABLE",
-    ] {
-        assert!(rt; is_refused(&rt, alloc, statement, FORM) == Ok(true));
-    }
+    let split = "CREATE TABLE T (A BIGINT PRIMARY KEY) SPLIT ON (5)";
+    assert!(rt; is_refused(&rt, alloc, split, FORM) == Ok(true));
     let script = "SELECT * FROM KV;\n  !compact\nSELECT * FROM KV;\n";
     let text = "0 rows selected\nE02 left out: FORM\n0 rows selected\n";
     assert!(rt; ends(&rt, alloc, script, Status::Refused, text) == Ok(true));

@@ -57,6 +57,7 @@ fn run_over<
     requires base { B.base ≡ base_of (folder_in opened) }
     requires sound { B.sound → IsSoundFolder (folder_in opened) }
     requires disk { B.premise → IsTrue D.tells → IsOpenedOn ⟦<D as Disk>⟧ disk opened }
+    requires told { B.premise → IsTrue D.tells → B.sound }
     requires began { BeginsAt ⟦<D as Disk>⟧ B.began disk }
     requires times { IsTrue C.tells → (n : ℕ) → C.times clock n ≡ B.times n }
 {

@@ -2,11 +2,11 @@
 ghost use Rattle.std.specs.Prelude.{◌≡◌};
 
 use px_calls::{
-    Chunk, Definition, Doubt, Fixing, Held, Made, Marks, Ordered, Path, Point, Receipt, Status,
-    StepFault, Steps, Ticket, Verifies, Work, Writes,
+    BaseRows, Chunk, Definition, Doubt, Fixing, Held, Made, Marks, Ordered, Path, Point, Receipt,
+    Status, StepFault, Steps, Ticket, Verifies, Work, Writes,
 };
 use px_tables::Found;
-use px_values::{Changes, Key, Name, TableId};
+use px_values::{Changes, IndexId, Key, Name, TableId};
 
 /// A server on which no table stands.
 #[derive(Drop)]
@@ -69,6 +69,11 @@ impl Steps for Bare {
 
     fn fix(&mut self, _d: &Doubt) -> Result<Fixing, StepFault> {
         Ok(Fixing::Gone)
+    }
+
+    // No point is open where no table stands, so no build of an index comes this far.
+    fn base(&mut self, _p: &Point, _index: IndexId, _rows: &BaseRows) -> Result<u64, StepFault> {
+        unreachable!()
     }
 
     fn close_point(&mut self, _p: Point) {
