@@ -1,6 +1,7 @@
 #!/usr/bin/env bash
 # A table is filled in batches of 100 rows, and then a covering index is made of it: in a run of its own, whose syncs are counted in a second run
-# where strace is there. Then a look-up by the index, and how many rows it has. SQLite (Python's, WAL, full syncs) makes the same index.
+# where strace is there, and once more on one processor, where taskset is. Then a look-up by the index, and how many rows it has. SQLite (Python's,
+# WAL, full syncs) makes the same index.
 # Usage: bench/builds.sh [ROWS [FOLDER]]: rows (20,000), and the folder on whose file system it is done (that of the program's build)
 set -eu
 top=$(cd "$(dirname "$0")/.." && pwd)
@@ -64,6 +65,18 @@ def syncs():
     return counts[1] - counts[0]
 
 
+def one_processor():
+    """The seconds of the making on one processor, without those of the opening there."""
+    if not shutil.which("taskset"):
+        return "none"
+    seconds = []
+    for script in ("", INDEX):
+        shutil.rmtree(f"{work}/copy", ignore_errors=True)
+        shutil.copytree(f"{work}/folder", f"{work}/copy")
+        seconds.append(run(script + "SELECT ID FROM P WHERE ID = 1;\n", "copy", ("taskset", "-c", "0"))[0])
+    return f"{seconds[1] - seconds[0]:.2f} s"
+
+
 try:
     print(f"load {os.getloadavg()[0]:.1f}, {rows} rows, in {place}")
     script = "CREATE TABLE P (ID BIGINT NOT NULL PRIMARY KEY, CITY VARCHAR, AGE INTEGER);\n!autocommit off\n"
@@ -71,8 +84,9 @@ try:
     print(f"filled without an index: {run(script)[0]:.2f} s")
     opening = run("SELECT ID FROM P WHERE ID = 1;\n")[0]
     made = syncs()
+    alone = one_processor()
     took = run(INDEX)[0]
-    print(f"the index made: {took - opening:.2f} s beside {opening:.2f} s of opening, SQLite {sqlite():.2f} s")
+    print(f"the index made: {took - opening:.2f} s beside {opening:.2f} s of opening, SQLite {sqlite():.2f} s; on one processor {alone}")
     # A base record for each 64 rows has two syncs; each definition has two.
     print(f"syncs: {made}, {2 * -(-rows // 64) + 4} of records and definitions")
     print(f"memory of the greatest run: {resource.getrusage(resource.RUSAGE_CHILDREN).ru_maxrss // 1024} MB")

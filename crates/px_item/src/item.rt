@@ -27,6 +27,7 @@ use px_tables::Found;
 use px_upkeep::{BuildFault, BuildRun, BuildTurn};
 use px_values::{CountWord, IndexId, Items, Name};
 use std::alloc::Global;
+use std::thread::Threads;
 
 /// What the next step of an item is.
 pub enum ItemState {
@@ -395,7 +396,8 @@ fn built(
 }
 
 /// Goes on with a build.
-fn build<'a, S: Steps>(
+fn build<'a, R: Threads + Sync, S: Steps>(
+    rt: &R,
     alloc: Global,
     s: &mut S,
     asked: Asked<'a>,
@@ -405,7 +407,7 @@ fn build<'a, S: Steps>(
     requires { (before : ℕ) × (own : List Act) × Fits S.sound before asked own (ItemState.Building statement run) (S.known s.old) }
     ensures { (before : ℕ) → (own : List Act) → Fits S.sound before asked.entry own (ItemState.Building statement run) (S.known s.old) → Turns S.sound before asked.entry own (S.known s.old) (S.known s.new) result }
 {
-    match run.step(s) {
+    match run.step(rt, s) {
         BuildTurn::Stepped(run) => ItemTurn::Stepped(ItemRun {
             asked,
             state: ItemState::Building(statement, run),
@@ -548,7 +550,7 @@ fn delete<'a, S: Steps>(
 
 impl<'a> ItemRun<'a> {
     /// Makes one call.
-    pub fn step<S: Steps>(self, alloc: Global, s: &mut S) -> ItemTurn<'a>
+    pub fn step<R: Threads + Sync, S: Steps>(self, rt: &R, alloc: Global, s: &mut S) -> ItemTurn<'a>
         requires { (before : ℕ) × (own : List Act) × Fits S.sound before self.asked own self.state (S.known s.old) }
         ensures turns { (before : ℕ) → (own : List Act) → Fits S.sound before self.entry.asked own self.entry.state (S.known s.old) → Turns S.sound before self.entry.asked own (S.known s.old) (S.known s.new) result }
 
@@ -562,7 +564,7 @@ impl<'a> ItemRun<'a> {
                 change(alloc, s, asked, statement, run, receipts)
             }
             ItemState::Defining(statement, run) => define(alloc, s, asked, statement, run),
-            ItemState::Building(statement, run) => build(alloc, s, asked, statement, run),
+            ItemState::Building(statement, run) => build(rt, alloc, s, asked, statement, run),
             ItemState::Selecting(statement, run) => select(alloc, s, asked, statement, run),
             ItemState::Deleting(statement, run) => delete(alloc, s, asked, statement, run),
             ItemState::Seeking(statement, run) => gather(alloc, s, asked, statement, run),

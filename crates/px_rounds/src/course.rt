@@ -7,10 +7,12 @@ use crate::gate::Gate;
 use px_calls::Steps;
 use px_session::{SessionRun, SessionTurn};
 use std::alloc::Global;
+use std::thread::Threads;
 
 /// What goes on a step at a time over any steps.
 pub(crate) trait Course {
     ghost use Rattle.std.specs.Prelude.{◌≡◌};
+    ghost use Rattle.std.specs.Thread.{IsSync};
     ghost use Rattle.px_calls.specs.Known.{Known};
     ghost use Rattle.px_session.specs.declared.run.SessionTurn.TheVariants.{Finished};
     ghost use Rattle.px_session.specs.declared.state.SessionState.{SessionState as States};
@@ -25,8 +27,14 @@ pub(crate) trait Course {
     /// It has come to its end.
     ghost over: { Self → Type 0 };
 
-    /// Makes one call at most.
-    fn advance<S: Steps>(&mut self, alloc: Global, s: &mut S) -> SessionTurn
+    /// Makes one call at most. An `impl` isn't told of the bound `Sync` at a method: so a clause tells it.
+    fn advance<R: Threads + Sync, S: Steps>(
+        &mut self,
+        rt: &R,
+        alloc: Global,
+        s: &mut S,
+    ) -> SessionTurn
+        requires sync { IsSync R.row }
         requires live { (began : States) × on_way S.sound began (S.known s.old) self.old }
         ensures steps { (began : States) → on_way S.sound began (S.known s.old) self.old → CameOn (on_way S.sound began) stays (S.known s.old) self.old (S.known s.new) self.new }
         ensures over { result ≡ Finished → over self.new };
@@ -42,8 +50,13 @@ impl<'a> Course for SessionRun<'a> {
 
     ghost over = { λ run. run.ending ≢ None };
 
-    fn advance<S: Steps>(&mut self, alloc: Global, s: &mut S) -> SessionTurn {
-        self.step(alloc, s)
+    fn advance<R: Threads + Sync, S: Steps>(
+        &mut self,
+        rt: &R,
+        alloc: Global,
+        s: &mut S,
+    ) -> SessionTurn {
+        self.step(rt, alloc, s)
     }
 
     fn pass<G: Gate>(&self, gate: &G) {

@@ -45,7 +45,7 @@ pub(crate) struct Job<'a, R: Wait, S: Single, N: LockNamed, B: Based> {
 }
 
 /// Runs a course to its end, through the gate after each step.
-fn run_gated<R: Wait, S: Steps, X: Course, G: Gate>(
+fn run_gated<R: Threads + Wait + Sync, S: Steps, X: Course, G: Gate>(
     rt: &R,
     alloc: Global,
     gate: &G,
@@ -56,7 +56,7 @@ fn run_gated<R: Wait, S: Steps, X: Course, G: Gate>(
     ensures ran { RanOut (X.on_way S.sound) X.stays X.over (S.known s.old) course.old (S.known s.new) course.new }
 {
     'steps: for _ in rt.forever() {
-        match course.advance(alloc, s) {
+        match course.advance(rt, alloc, s) {
             SessionTurn::Finished => return,
             SessionTurn::Waiting => thread::yield_now(),
             SessionTurn::Stepped | SessionTurn::Passed => {}
@@ -66,7 +66,7 @@ fn run_gated<R: Wait, S: Steps, X: Course, G: Gate>(
     unreachable!()
 }
 
-impl<'a, R: Wait, S: Single, N: LockNamed, B: Based> Job<'a, R, S, N, B> {
+impl<'a, R: Threads + Wait + Sync, S: Single, N: LockNamed, B: Based> Job<'a, R, S, N, B> {
     fn run<G: Gate>(&mut self, rt: &R, alloc: Global, gate: &G)
         requires ready { CanRun (⟦<SeatAt<'a, R, S, N, B> as Steps>⟧.known self.old.at) self.old.session self.old.stage }
         ensures same { (self.new.session ≡ self.old.session) × (self.new.number ≡ self.old.number) }

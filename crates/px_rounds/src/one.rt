@@ -14,6 +14,7 @@ use px_seat::Single;
 use px_session::{SessionRun, SessionState};
 use std::alloc::{AllocError, Global};
 use std::sync::Wait;
+use std::thread::Threads;
 
 /// The lists of a round, before its sessions begin: the pieces of each, and room for the others.
 #[derive(Drop)]
@@ -44,7 +45,7 @@ pub(crate) fn lists_for<'a>(
 }
 
 /// Runs a round on one thread. Where no memory is found for its lists it runs nothing, and hands the states back.
-pub fn in_turns<R: Wait, S: Single>(
+pub fn in_turns<R: Threads + Wait + Sync, S: Single>(
     rt: &R,
     alloc: Global,
     s: &mut S,

@@ -9,9 +9,11 @@ use px_seat::Single;
 use px_session::{SessionRun, SessionTurn};
 use std::alloc::Global;
 use std::sync::Wait;
+use std::thread::Threads;
 
 /// A step of the session at this place of the list. Session n stands at place n - 1, and has seat n.
-fn turn<S: Single>(
+fn turn<R: Threads + Sync, S: Single>(
+    rt: &R,
     alloc: Global,
     s: &mut S,
     runs: &mut [SessionRun<'_>],
@@ -23,11 +25,11 @@ fn turn<S: Single>(
     ensures turned { Turned S.sound (S.known s.old) runs.old (S.known s.new) runs.new }
 {
     s.act_as(place as u32 + 1);
-    runs[place].step(alloc, s)
+    runs[place].step(rt, alloc, s)
 }
 
 /// One call of a session, where it is there and not over.
-fn call<R: Wait, S: Single>(
+fn call<R: Threads + Wait + Sync, S: Single>(
     rt: &R,
     alloc: Global,
     s: &mut S,
@@ -43,7 +45,7 @@ fn call<R: Wait, S: Single>(
         return;
     }
     'calls: for _ in rt.forever() {
-        match turn(alloc, s, runs, session - 1) {
+        match turn(rt, alloc, s, runs, session - 1) {
             SessionTurn::Passed => {}
             SessionTurn::Stepped | SessionTurn::Waiting | SessionTurn::Finished => return,
         }
@@ -52,7 +54,7 @@ fn call<R: Wait, S: Single>(
 }
 
 /// The calls that a list of sessions names.
-fn listed<R: Wait, S: Single>(
+fn listed<R: Threads + Wait + Sync, S: Single>(
     rt: &R,
     alloc: Global,
     s: &mut S,
@@ -70,7 +72,12 @@ fn listed<R: Wait, S: Single>(
 }
 
 /// A call of each session.
-fn swept<R: Wait, S: Single>(rt: &R, alloc: Global, s: &mut S, runs: &mut [SessionRun<'_>])
+fn swept<R: Threads + Wait + Sync, S: Single>(
+    rt: &R,
+    alloc: Global,
+    s: &mut S,
+    runs: &mut [SessionRun<'_>],
+)
     requires count { length runs.old < 2 ^ 32 }
     requires single { IsSingle (S.known s.old) }
     requires live { (began : List States) × AreLive S.sound (S.known s.old) began runs.old }
@@ -93,7 +100,7 @@ fn are_over(runs: &[SessionRun<'_>]) -> bool
 }
 
 /// Runs sessions to their ends: first by the list of whose call is next, and then in turns.
-pub fn run_turns<R: Wait, S: Single>(
+pub fn run_turns<R: Threads + Wait + Sync, S: Single>(
     rt: &R,
     alloc: Global,
     s: &mut S,

@@ -17,6 +17,7 @@ use px_script::{Span, pieces, place_of};
 use px_values::Items;
 use std::alloc::Global;
 use std::sync::Wait;
+use std::thread::Threads;
 use std::{mem, thread};
 
 /// What a session does now.
@@ -230,8 +231,9 @@ impl<'a> SessionRun<'a> {
     }
 
     /// Goes on with the item that is under way.
-    fn go_on<S: Steps>(
+    fn go_on<R: Threads + Sync, S: Steps>(
         &mut self,
+        rt: &R,
         alloc: Global,
         s: &mut S,
         run: ItemRun<'a>,
@@ -243,7 +245,7 @@ impl<'a> SessionRun<'a> {
         ensures steps { (began : States) → IsLive S.sound (S.known s.old) began (with_doing self.old (Doing.Under run.entry span)) → StepsOn S.sound began (S.known s.old) (with_doing self.old (Doing.Under run.entry span)) (S.known s.new) self.new }
         ensures over { IsOverAt result self.new.ending }
     {
-        match run.step(alloc, s) {
+        match run.step(rt, alloc, s) {
             ItemTurn::Stepped(run) => {
                 self.set_doing(Doing::Under(run, span));
                 SessionTurn::Stepped
@@ -260,7 +262,12 @@ impl<'a> SessionRun<'a> {
     }
 
     /// Makes at most one call.
-    pub fn step<S: Steps>(&mut self, alloc: Global, s: &mut S) -> SessionTurn
+    pub fn step<R: Threads + Sync, S: Steps>(
+        &mut self,
+        rt: &R,
+        alloc: Global,
+        s: &mut S,
+    ) -> SessionTurn
         requires live { (began : States) × IsLive S.sound (S.known s.old) began self.old }
         ensures steps { (began : States) → IsLive S.sound (S.known s.old) began self.old → StepsOn S.sound began (S.known s.old) self.old (S.known s.new) self.new }
         ensures over { IsOverAt result self.new.ending }
@@ -270,7 +277,7 @@ impl<'a> SessionRun<'a> {
         }
         match mem::replace(&mut self.doing, Doing::Taken) {
             Doing::Idle(settings) => self.start(alloc, s, settings),
-            Doing::Under(run, span) => self.go_on(alloc, s, run, span),
+            Doing::Under(run, span) => self.go_on(rt, alloc, s, run, span),
             Doing::Taken => unreachable!(),
         }
     }
@@ -316,13 +323,18 @@ impl<'a> SessionRun<'a> {
 }
 
 /// Runs a session to its end.
-pub fn run_to_end<R: Wait, S: Steps>(rt: &R, alloc: Global, s: &mut S, run: &mut SessionRun<'_>)
+pub fn run_to_end<R: Threads + Wait + Sync, S: Steps>(
+    rt: &R,
+    alloc: Global,
+    s: &mut S,
+    run: &mut SessionRun<'_>,
+)
     requires live { (began : States) × IsLive S.sound (S.known s.old) began run.old }
     ensures steps { (began : States) → IsLive S.sound (S.known s.old) began run.old → StepsOn S.sound began (S.known s.old) run.old (S.known s.new) run.new }
     ensures over { run.new.ending ≢ None }
 {
     'steps: for _ in rt.forever() {
-        match run.step(alloc, s) {
+        match run.step(rt, alloc, s) {
             SessionTurn::Finished => return,
             SessionTurn::Waiting => thread::yield_now(),
             SessionTurn::Stepped | SessionTurn::Passed => {}

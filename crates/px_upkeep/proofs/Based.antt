@@ -1,5 +1,6 @@
 -- Each row that the table has at the birth is based in the end: what a look, a call of `base` and the end of the path make of the rows that were read.
-use Rattle.std.proofs.Common.{ℕ, ◌≡◌, ◌≤◌, not, Bool, true, false, Option, None, Some, List, [], ◌∷◌, ◌⊎◌, length, refl, sym, ◌∙◌, ap, subst, arith, inl, inr}
+use Rattle.std.proofs.Common.{ℕ, ◌≡◌, ◌≢◌, ◌≤◌, not, Bool, true, false, Option, None, Some, List, [], ◌∷◌, ◌++◌, ◌⊎◌, length, refl, sym, ◌∙◌, ap, subst, arith, inl, inr}
+use Rattle.std.specs.List.{AllByRecursion}
 use Rattle.px_values.specs.States.{RowState, Shape}
 use Rattle.px_values.specs.declared.name.IndexId.{IndexId}
 use Rattle.px_values.specs.declared.name.TableId.{TableId}
@@ -28,9 +29,9 @@ use Rattle.px_calls.specs.Requires.{CanActivate, CanDefine, MayActivate, MayBase
 use Rattle.px_calls.proofs.Activates.{some_index}
 use Rattle.px_calls.proofs.Bases.{did_based}
 use Rattle.px_gather.proofs.Shapes.{shape-of-table}
-use Rattle.px_upkeep.specs.Rows.{AreBaseRows, HasLong}
-use Rattle.px_upkeep.specs.Turns.{AreBased, AreOwn, AreRowsFor, HasLongRow, IsBuilding, IsWhole, WasFound, is_read, key_at, owner_at, state_at}
-use Rattle.px_upkeep.proofs.Chunks.{rows-all, rows-among, rows-count, rows-distinct, rows-each}
+use Rattle.px_upkeep.specs.Rows.{AreBaseRows, ArePieces, HasLong, gathered_then}
+use Rattle.px_upkeep.specs.Turns.{AreBased, AreOwn, HasLongRow, IsBuilding, IsFoundAt, IsPiece, IsWhole, WasFound, chunk_owners, found_owners, is_read, key_at, owner_at, state_at}
+use Rattle.px_upkeep.proofs.Chunks.{found-among, has-behind, has-front, has-parts, owners-then, rows-all, rows-count, rows-distinct, rows-each}
 use Rattle.px_upkeep.proofs.Growing.{Grown, building-stays, core, rows-based-stay}
 
 -- 1. The end of the path
@@ -39,7 +40,7 @@ is_empty : (v : Bool) → (false ≡ true) → v ≡ true
 is_empty v h = cc
 
 module _ (sound : Type 0) (k : Known) (t : TableId) (i : IndexId) (p : Point) (x : Index) (h : IsBuilding sound k t i p x) where
-  none_among : (r : List Value) → has (base_owners p.found.table []) r ≡ true → is_based k.seen i.0 r ≡ true
+  none_among : (r : List Value) → has [] r ≡ true → is_based k.seen i.0 r ≡ true
   unfolding has
   none_among r e = is_empty (is_based k.seen i.0 r) e
 
@@ -68,7 +69,7 @@ module _ (sound : Type 0) (k : Known) (t : TableId) (i : IndexId) (p : Point) (x
           let e = own s r row is in
           elim (based s row (ap (state_at k p) e ∙ is) refl) [
             | inl was ↦ subst (λ (q : List Value). is_based k.seen i.0 q ≡ true) e was
-            | inr among ↦ none_among r (subst (λ (q : List Value). has (base_owners p.found.table []) q ≡ true) e among)
+            | inr among ↦ none_among r (subst (λ (q : List Value). has [] q ≡ true) e among)
           ]
 
   -- 2. What a look shows
@@ -113,51 +114,74 @@ module _ (sound : Type 0) (k : Known) (t : TableId) (i : IndexId) (p : Point) (x
         let same : f.row ≡ r.0 = ap (λ (z : FoundRow). z.row) r.2 ∙ ap (λ (z : By). Rattle.px_calls.specs.Looks.shown_by p.found z r.0) whole.by in
         subst (λ (row : List Value). state_at k p (owner_at p row) ≡ Some row) (sym same) (row_is r.0 r.1)
 
-    module _ (rs : List BaseRow) (are : AreBaseRows p.found.table.columns (table_path p.found.table) (index_path p.found.table x) fs rs) where
-      shown_row : ShowsRows k.base k.seen p path after fs next → (row : List Value) → state_at k p (owner_at p row) ≡ Some row → is_past after (key_at p row) ≡ true → is_covered next (key_at p row) ≡ true
-          → has (base_owners p.found.table rs) (owner_at p row) ≡ true
-      shown_row s row is past covered =
-          let key : key_by p.found path.by row ≡ key_at p row = ap (λ (z : By). key_by p.found z row) whole.by in
-          let given = s.whole row (is_row row is) (on_whole path whole (key_by p.found path.by row)) (ap (is_past after) key ∙ past) (ap (is_covered next) key ∙ covered) in
-          elim given [
-            | inl among ↦ (let f = found_by p.found path.by row in
-                let same : f.row ≡ row = ap (λ (z : By). Rattle.px_calls.specs.Looks.shown_by p.found z row) whole.by in
-                subst (λ (q : List Value). has (base_owners p.found.table rs) (owner_at p q) ≡ true) same (rows-among p.found.table x f fs rs among are))
-            | inr doubt ↦ absurd (no_doubt doubt.0 doubt.2)
-          ]
+    shown_row : ShowsRows k.base k.seen p path after fs next → (row : List Value) → state_at k p (owner_at p row) ≡ Some row → is_past after (key_at p row) ≡ true → is_covered next (key_at p row) ≡ true
+        → has (found_owners p.found.table fs) (owner_at p row) ≡ true
+    shown_row s row is past covered =
+        let key : key_by p.found path.by row ≡ key_at p row = ap (λ (z : By). key_by p.found z row) whole.by in
+        let given = s.whole row (is_row row is) (on_whole path whole (key_by p.found path.by row)) (ap (is_past after) key ∙ past) (ap (is_covered next) key ∙ covered) in
+        elim given [
+          | inl among ↦ (let f = found_by p.found path.by row in
+              let same : f.row ≡ row = ap (λ (z : By). Rattle.px_calls.specs.Looks.shown_by p.found z row) whole.by in
+              subst (λ (q : List Value). has (found_owners p.found.table fs) (owner_at p q) ≡ true) same (found-among p.found.table f fs among))
+          | inr doubt ↦ absurd (no_doubt doubt.0 doubt.2)
+        ]
 
-      -- the rows that were read before are based, and those of the chunk are to be
-      pub looked : (sound → ShowsRows k.base k.seen p path after fs next) → (sound → AreBased k i p (is_read after) []) → sound → AreBased k i p (is_covered next) rs
-      looked rows before s row is covered = elim (read_or_past after (key_at p row)) [
-        | inl read ↦ (elim (before s row is read) [
-          | inl was ↦ inl was
-          | inr among ↦ inl (none_among (owner_at p row) among)
-        ])
-        | inr past ↦ inr (shown_row (rows s) row is past covered)
-      ]
+    -- the rows that were read before are based or gathered, and so are those of the chunk
+    pub looked : (cs : List (List FoundKey)) → (sound → ShowsRows k.base k.seen p path after fs next) → (sound → AreBased k i p (is_read after) (chunk_owners p.found.table cs)) → sound
+        → AreBased k i p (is_covered next) (chunk_owners p.found.table (gathered_then cs fs))
+    looked cs rows before s row is covered =
+        let owners = chunk_owners p.found.table cs in
+        let here = found_owners p.found.table fs in
+        let all = sym (owners-then p.found.table cs fs) in
+        let among : has (owners ++ here) (owner_at p row) ≡ true → has (chunk_owners p.found.table (gathered_then cs fs)) (owner_at p row) ≡ true = λ h. subst (λ (l : List (List Value)). has l (owner_at p row) ≡ true) all h in
+        elim (read_or_past after (key_at p row)) [
+          | inl read ↦ (elim (before s row is read) [
+            | inl was ↦ inl was
+            | inr found ↦ inr (among (has-front owners here (owner_at p row) found))
+          ])
+          | inr past ↦ inr (among (has-behind owners here (owner_at p row) (shown_row (rows s) row is past covered)))
+        ]
 
-      pub looked-rows : (sound → ShowsRows k.base k.seen p path after fs next) → AreRowsFor sound k p x rs
-      looked-rows rows = record {
-        each = rows-each p.found.table x fs rs are;
-        distinct = rows-distinct p.found.table x after fs rs shows.rising are;
-        there = λ s. rows-all p.found.table x (λ row. state_at k p (owner_at p row) ≡ Some row) fs rs (right_row (rows s)) are;
-      }
+    sized : (n : Option (List ℕ)) → IsSized fs n → length fs ≤ 64
+    sized None e = e
+    sized (Some last) e = omega (arith, e)
 
-      sized : (n : Option (List ℕ)) → IsSized fs n → length fs ≤ 64
-      sized None e = e
-      sized (Some last) e = omega (arith, e)
-
-      pub looked-few : length rs ≤ 64
-      looked-few = (let n = rows-count p.found.table x fs rs are in let m = sized next shows.sized in omega (arith, n, m))
+    pub looked-found : (sound → ShowsRows k.base k.seen p path after fs next) → fs ≢ [] → IsFoundAt sound k p fs
+    looked-found rows some = record {
+      past = after;
+      rising = shows.rising;
+      some = some;
+      few = sized next shows.sized;
+      there = λ s. right_row (rows s);
+    }
 
     pub looked-own : (sound → ShowsRows k.base k.seen p path after fs next) → sound → AreOwn k p
     looked-own rows s = rows_own (rows s)
 
+  -- 3. What is made of a chunk
+
+  module _ (fs : List FoundKey) (found : IsFoundAt sound k p fs) where
+    -- its rows with their keys in the index
+    pub found-piece : (rs : List BaseRow) → AreBaseRows p.found.table.columns (table_path p.found.table) (index_path p.found.table x) fs rs → IsPiece sound k p x rs
+    found-piece rs are = record {
+      rows = record {
+        each = rows-each p.found.table x fs rs are;
+        distinct = rows-distinct p.found.table x found.past fs rs found.rising are;
+        there = λ s. rows-all p.found.table x (λ row. state_at k p (owner_at p row) ≡ Some row) fs rs (found.there s) are;
+      };
+      some = λ none. found.some (no_rows fs rs (rows-count p.found.table x fs rs are) none);
+      few = (let n = rows-count p.found.table x fs rs are in let m = found.few in omega (arith, n, m));
+    }
+      where
+        no_rows : (gs : List FoundKey) (ys : List BaseRow) → length ys ≡ length gs → ys ≡ [] → gs ≡ []
+        no_rows [] ys n none = refl
+        no_rows (g ∷ gs) ys n none = (let m = ap length none in absurd (omega (arith, n, m)))
+
     -- a row whose key in the index is too long
-    pub looked-long : (n : ℕ) → (f : WasFound n k t i p x) → (sound → ShowsRows k.base k.seen p path after fs next) → HasLong (index_path p.found.table x) fs → sound → HasLongRow f.was t.0 i.0
-    looked-long n f rows long s =
+    pub found-long : (n : ℕ) → (f : WasFound n k t i p x) → HasLong (index_path p.found.table x) fs → sound → HasLongRow f.was t.0 i.0
+    found-long n f long s =
         let row = long.found.row in
-        let there : state_of f.was.base f.was.seen p.table.0 (owner_at p row) p.stamp ≡ Some row = sym (f.same (owner_at p row)) ∙ right_row (rows s) long.found long.among in
+        let there : state_of f.was.base f.was.seen p.table.0 (owner_at p row) p.stamp ≡ Some row = sym (f.same (owner_at p row)) ∙ found.there s long.found long.among in
         record {
           table = p.found.table;
           table_is = f.table;
@@ -169,17 +193,29 @@ module _ (sound : Type 0) (k : Known) (t : TableId) (i : IndexId) (p : Point) (x
           long = long.long;
         }
 
--- 3. What a call of `base` does
+  -- each chunk has a piece
+  pub found-pieces : (cs : List (List FoundKey)) (ps : List (List BaseRow)) → AllByRecursion (IsFoundAt sound k p) cs → ArePieces p.found.table.columns (table_path p.found.table) (index_path p.found.table x) cs ps
+      → AllByRecursion (IsPiece sound k p x) ps
+  found-pieces [] [] all are = tt
+  found-pieces [] (r ∷ ps) all are = absurd are
+  found-pieces (fs ∷ cs) [] all are = absurd are
+  found-pieces (fs ∷ cs) (r ∷ ps) all are = (found-piece fs all.0 r are.0, found-pieces cs ps all.1 are.1)
+
+-- 4. What a call of `base` does
 
 some_table : {y z : Table} → Some y ≡ Some z → y ≡ z
 some_table e = cc
 
--- the rows that were to be given their base versions have them
-pub bases : (sound : Type 0) (k k' : Known) (t : TableId) (i : IndexId) (p : Point) (x : Index) (done : List ℕ → Bool) (xs : List BaseRow) (at : ℕ) → Grown k k' → IsBuilding sound k t i p x → DidBase k k' p i xs at → AreBased k i p done xs → AreBased k' i p done []
-bases sound k k' t i p x done xs at g h did a row is read =
+-- the rows that were to be given their base versions have them, and the others are still to be
+pub bases : (sound : Type 0) (k k' : Known) (t : TableId) (i : IndexId) (p : Point) (x : Index) (done : List ℕ → Bool) (xs : List BaseRow) (more : List (List Value)) (at : ℕ) → Grown k k' → IsBuilding sound k t i p x → DidBase k k' p i xs at
+    → AreBased k i p done (base_owners p.found.table xs ++ more) → AreBased k' i p done more
+bases sound k k' t i p x done xs more at g h did a row is read =
     let now = building-stays sound k t i p x h k' g in
     let same : did.table ≡ p.found.table = some_table (sym did.table_is ∙ now.table_is) in
-    elim (rows-based-stay sound k t i p x h k' g done xs a row is read) [
+    elim (rows-based-stay sound k t i p x h k' g done (base_owners p.found.table xs ++ more) a row is read) [
       | inl was ↦ inl was
-      | inr among ↦ inl (did_based k k' p i xs at did (owner_at p row) (subst (λ (z : Table). has (base_owners z xs) (owner_at p row) ≡ true) (sym same) among))
+      | inr among ↦ (elim (has-parts (base_owners p.found.table xs) more (owner_at p row) among) [
+        | inl here ↦ inl (did_based k k' p i xs at did (owner_at p row) (subst (λ (z : Table). has (base_owners z xs) (owner_at p row) ≡ true) (sym same) here))
+        | inr later ↦ inr later
+      ])
     ]

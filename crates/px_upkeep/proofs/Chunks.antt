@@ -1,5 +1,7 @@
 -- The rows of a chunk, as they are given their base versions.
-use Rattle.std.proofs.Common.{ℕ, ◌≡◌, ◌||◌, Bool, true, false, Option, Some, List, [], ◌∷◌, map, length, refl, sym, ◌∙◌, ap, subst, arith, inl, inr}
+use Rattle.std.proofs.Common.{ℕ, ◌≡◌, ◌≢◌, ◌⊎◌, ◌||◌, Bool, true, false, Option, Some, List, [], ◌∷◌, ◌++◌, map, length, refl, sym, ◌∙◌, ap, subst, arith, inl, inr}
+use Rattle.std.proofs.lemmas.Grind.{flat_map-append}
+use Rattle.std.proofs.lemmas.List.{append-nil}
 use Rattle.std.specs.List.{AllByRecursion}
 use Rattle.std.specs.Ordering.{is_eq}
 use Rattle.px_values.proofs.Equal.{row_order-Decides}
@@ -17,6 +19,7 @@ use Rattle.px_trail.specs.Answers.{IsAmong}
 use Rattle.px_trail.specs.Batches.{has, is_distinct}
 use Rattle.px_trail.specs.States.{key_in}
 use Rattle.px_trail.specs.Trail.{table_shape}
+use Rattle.px_trail.proofs.Orders.{has-append}
 use Rattle.px_calls.specs.declared.query.BaseRow.{BaseRow}
 use Rattle.px_calls.specs.declared.query.FoundKey.{FoundKey}
 use Rattle.px_calls.specs.declared.query.FoundKey.TheVariants.{Sure, InDoubt}
@@ -24,7 +27,8 @@ use Rattle.px_calls.specs.declared.query.FoundRow.{FoundRow}
 use Rattle.px_calls.specs.Looks.{IsRisingFrom, key_less}
 use Rattle.px_calls.specs.Requires.{IsBaseRowOf, base_owners}
 use Rattle.px_calls.proofs.Keys.{irreflexive, transitive}
-use Rattle.px_upkeep.specs.Rows.{AreBaseRows}
+use Rattle.px_upkeep.specs.Rows.{AreBaseRows, ArePieces, gathered_then}
+use Rattle.px_upkeep.specs.Turns.{chunk_owners, found_owners, piece_owners}
 
 -- the values of a row's key in its table are those of its primary key
 own_values : (columns : List TableColumn) (key : List KeyPlace) (row : List Value) → values_on (map (key_part columns) key) row ≡ map (λ c. slice_index_or row c Null) (map (λ p. p.column) key)
@@ -105,19 +109,14 @@ module _ (t : Table) (x : Index) where
       let rest = rows-distinct (Some f.key) fs rs rising.1 h.1 in
       rw none rest
 
-  -- a row that was found is among them
-  pub rows-among : (g : FoundRow) (fs : List FoundKey) (rs : List BaseRow) → IsAmong (Sure g) fs → Are fs rs → has (base_owners t rs) (key_in (table_shape t) g.row) ≡ true
-  unfolding has IsAmong
-  rows-among g [] [] among h = absurd among
-  rows-among g [] (r ∷ rs) among h = absurd h
-  rows-among g (Sure f ∷ fs) [] among h = absurd h
-  rows-among g (InDoubt d ∷ fs) [] among h = absurd h
-  rows-among g (InDoubt d ∷ fs) (r ∷ rs) among h = absurd h
-  rows-among g (Sure f ∷ fs) (r ∷ rs) (inl e) h =
-      let same : r.row ≡ g.row = h.0.row ∙ ap (λ (z : FoundRow). z.row) (sure_same f g e) in
-      let is : is_eq (row_order (key_in (table_shape t) r.row) (key_in (table_shape t) g.row)) ≡ true = (row_order-Decides (key_in (table_shape t) r.row) (key_in (table_shape t) g.row)).1 (ap (key_in (table_shape t)) same) in
-      ap (λ (v : Bool). v || has (base_owners t rs) (key_in (table_shape t) g.row)) is
-  rows-among g (Sure f ∷ fs) (r ∷ rs) (inr among) h = or_true (is_eq (row_order (key_in (table_shape t) r.row) (key_in (table_shape t) g.row))) (has (base_owners t rs) (key_in (table_shape t) g.row)) (rows-among g fs rs among h.1)
+  -- their primary keys are those of the rows that were found
+  pub rows-owners : (fs : List FoundKey) (rs : List BaseRow) → Are fs rs → base_owners t rs ≡ found_owners t fs
+  rows-owners [] [] h = refl
+  rows-owners [] (r ∷ rs) h = absurd h
+  rows-owners (Sure f ∷ fs) [] h = absurd h
+  rows-owners (InDoubt d ∷ fs) [] h = absurd h
+  rows-owners (InDoubt d ∷ fs) (r ∷ rs) h = absurd h
+  rows-owners (Sure f ∷ fs) (r ∷ rs) h = (let rest = rows-owners fs rs h.1 in λ j. key_in (table_shape t) (h.0.row j) ∷ rest j)
 
   -- what holds of each row that was found holds of each of them
   pub rows-all : (P : List Value → Type 0) (fs : List FoundKey) (rs : List BaseRow) → ((f : FoundRow) → IsAmong (Sure f) fs → P f.row) → Are fs rs → AllByRecursion (λ (r : BaseRow). P r.row) rs
@@ -128,3 +127,74 @@ module _ (t : Table) (x : Index) where
   rows-all P (InDoubt d ∷ fs) [] on h = absurd h
   rows-all P (InDoubt d ∷ fs) (r ∷ rs) on h = absurd h
   rows-all P (Sure f ∷ fs) (r ∷ rs) on h = (subst P (sym h.0.row) (on f (inl refl)), rows-all P fs rs (λ g among. on g (inr among)) h.1)
+
+no_key : (f : FoundKey) (fs : List FoundKey) → f ∷ fs ≡ [] → ⊥
+no_key f fs e = cc
+
+-- what holds of each of two lists holds of each of both
+pub all-behind : {A : Type 0} (P : A → Type 0) (xs ys : List A) → AllByRecursion P xs → AllByRecursion P ys → AllByRecursion P (xs ++ ys)
+all-behind P [] ys a b = b
+all-behind P (x ∷ xs) ys a b = (a.0, all-behind P xs ys a.1 b)
+
+pub all-parts : {A : Type 0} (P : A → Type 0) (xs ys : List A) → AllByRecursion P (xs ++ ys) → AllByRecursion P xs × AllByRecursion P ys
+all-parts P [] ys all = (tt, all)
+all-parts P (x ∷ xs) ys all = (let rest = all-parts P xs ys all.1 in ((all.0, rest.0), rest.1))
+
+-- a row that was found is among them
+pub found-among : (t : Table) (g : FoundRow) (fs : List FoundKey) → IsAmong (Sure g) fs → has (found_owners t fs) (key_in (table_shape t) g.row) ≡ true
+unfolding has IsAmong
+found-among t g [] among = absurd among
+found-among t g (InDoubt d ∷ fs) (inl e) = (let z : ◌≡◌ {A = FoundKey} (InDoubt d) (Sure g) = e in cc)
+found-among t g (InDoubt d ∷ fs) (inr among) = found-among t g fs among
+found-among t g (Sure f ∷ fs) (inl e) =
+    let same : f.row ≡ g.row = ap (λ (z : FoundRow). z.row) (sure_same f g e) in
+    let is : is_eq (row_order (key_in (table_shape t) f.row) (key_in (table_shape t) g.row)) ≡ true = (row_order-Decides (key_in (table_shape t) f.row) (key_in (table_shape t) g.row)).1 (ap (key_in (table_shape t)) same) in
+    ap (λ (v : Bool). v || has (found_owners t fs) (key_in (table_shape t) g.row)) is
+found-among t g (Sure f ∷ fs) (inr among) = or_true (is_eq (row_order (key_in (table_shape t) f.row) (key_in (table_shape t) g.row))) (has (found_owners t fs) (key_in (table_shape t) g.row)) (found-among t g fs among)
+
+-- the primary keys of the rows of chunks, with one more chunk
+pub owners-then : (t : Table) (cs : List (List FoundKey)) (fs : List FoundKey) → chunk_owners t (gathered_then cs fs) ≡ chunk_owners t cs ++ found_owners t fs
+owners-then t cs [] = sym (append-nil (chunk_owners t cs))
+owners-then t cs (f ∷ fs) = flat_map-append (found_owners t) cs ((f ∷ fs) ∷ []) ∙ ap (λ (l : List (List Value)). chunk_owners t cs ++ l) (append-nil (found_owners t (f ∷ fs)))
+
+-- what holds of each chunk holds with one more
+pub chunks-then : (P : List FoundKey → Type 0) (cs : List (List FoundKey)) (fs : List FoundKey) → AllByRecursion P cs → (fs ≢ [] → P fs) → AllByRecursion P (gathered_then cs fs)
+chunks-then P cs [] all one = all
+chunks-then P cs (f ∷ fs) all one = all-behind P cs ((f ∷ fs) ∷ []) all (one (λ e. no_key f fs e), tt)
+
+-- one of two lists that were put together has the row
+pub has-parts : (xs ys : List (List Value)) (r : List Value) → has (xs ++ ys) r ≡ true → (has xs r ≡ true) ⊎ (has ys r ≡ true)
+has-parts xs ys r h = by_first (has xs r) (has ys r) (sym (has-append xs ys r) ∙ h)
+  where
+    by_first : (v w : Bool) → (v || w) ≡ true → (v ≡ true) ⊎ (w ≡ true)
+    by_first true w e = inl refl
+    by_first false w e = inr e
+
+pub has-front : (xs ys : List (List Value)) (r : List Value) → has xs r ≡ true → has (xs ++ ys) r ≡ true
+has-front xs ys r h = has-append xs ys r ∙ ap (λ (v : Bool). v || has ys r) h
+
+pub has-behind : (xs ys : List (List Value)) (r : List Value) → has ys r ≡ true → has (xs ++ ys) r ≡ true
+has-behind xs ys r h = has-append xs ys r ∙ or_true (has xs r) (has ys r) h
+
+-- the rows of pieces have the primary keys of those that were found in the chunks
+pub pieces-owners : (t : Table) (x : Index) (cs : List (List FoundKey)) (ps : List (List BaseRow)) → ArePieces t.columns (table_path t) (index_path t x) cs ps → piece_owners t ps ≡ chunk_owners t cs
+pieces-owners t x [] [] h = refl
+pieces-owners t x [] (p ∷ ps) h = absurd h
+pieces-owners t x (fs ∷ cs) [] h = absurd h
+pieces-owners t x (fs ∷ cs) (p ∷ ps) h = (let rest = pieces-owners t x cs ps h.1 in let first = rows-owners t x fs p h.0 in λ j. first j ++ rest j)
+
+-- the primary keys of pieces of which the last is taken first
+pub owners-last : (t : Table) (ps : List (List BaseRow)) (xs : List BaseRow) (r : List Value) → has (piece_owners t (ps ++ xs ∷ [])) r ≡ true → has (base_owners t xs ++ piece_owners t ps) r ≡ true
+owners-last t ps xs r h =
+    let all : piece_owners t (ps ++ xs ∷ []) ≡ piece_owners t ps ++ base_owners t xs = flat_map-append (base_owners t) ps (xs ∷ []) ∙ ap (λ (l : List (List Value)). piece_owners t ps ++ l) (append-nil (base_owners t xs)) in
+    elim (has-parts (piece_owners t ps) (base_owners t xs) r (subst (λ (l : List (List Value)). has l r ≡ true) all h)) [
+      | inl a ↦ has-behind (base_owners t xs) (piece_owners t ps) r a
+      | inr b ↦ has-front (base_owners t xs) (piece_owners t ps) r b
+    ]
+
+-- one of the chunks is among them
+pub one-among : (P : List FoundKey → Type 0) (cs : List (List FoundKey)) (fs : List FoundKey) → AllByRecursion P cs → IsAmong fs cs → P fs
+unfolding IsAmong
+one-among P [] fs all among = absurd among
+one-among P (c ∷ cs) fs all (inl e) = subst P e all.0
+one-among P (c ∷ cs) fs all (inr more) = one-among P cs fs all.1 more

@@ -20,6 +20,7 @@ use Rattle.px_trail.proofs.Batches.{last_step-le}
 use Rattle.px_trail.proofs.Growth.{catalogue-snoc, horizon-snoc, last-snoc, legal-prefix}
 use Rattle.px_trail.proofs.States.{decided-stays, state-stays}
 use Rattle.px_calls.specs.declared.query.BaseRow.{BaseRow}
+use Rattle.px_calls.specs.declared.query.FoundKey.{FoundKey}
 use Rattle.px_calls.specs.declared.query.Point.{Point}
 use Rattle.px_calls.specs.Known.{Known, Passes, Ran, is_turn, outline}
 use Rattle.px_calls.specs.Requires.{IsOpen, MayBase, base_step, is_based}
@@ -27,7 +28,7 @@ use Rattle.px_calls.proofs.Activates.{based-snoc, grown, low_step, one_apart, so
 use Rattle.px_calls.proofs.Bases.{passes_base}
 use Rattle.px_calls.proofs.Points.{quiet-open}
 use Rattle.px_calls.proofs.Stays.{table-was}
-use Rattle.px_upkeep.specs.Turns.{AreBased, AreOwn, AreRowsFor, IsBuilding, IsHeld, owner_at, state_at}
+use Rattle.px_upkeep.specs.Turns.{AreBased, AreOwn, AreRowsFor, IsBuilding, IsFoundAt, IsHeld, IsPiece, owner_at, state_at}
 
 -- 1. Time
 
@@ -193,6 +194,11 @@ state-same sound k k' p i xs g h r =
 pub held-stays : (k k' : Known) (t : TableId) (p : Point) → Grown k k' → IsHeld k t p → IsHeld k' t p
 held-stays k k' t p g h = record { table = h.table; scn = h.scn; is_open = quiet-open k k' g.more p g.seen g.quiet g.seat h.is_open; legal = g.legal }
 
+-- what follows from a fact of each element
+pub all-on : {A : Type 0} (P Q : A → Type 0) → ((x : A) → P x → Q x) → (ys : List A) → AllByRecursion P ys → AllByRecursion Q ys
+all-on P Q on [] a = tt
+all-on P Q on (y ∷ ys) a = (on y a.0, all-on P Q on ys a.1)
+
 no_rows : (sound : Type 0) (k : Known) (p : Point) (x : Index) → AreRowsFor sound k p x []
 unfolding is_distinct
 no_rows sound k p x = record { each = tt; distinct = refl; there = λ s. tt }
@@ -211,22 +217,18 @@ module _ (sound : Type 0) (k : Known) (t : TableId) (i : IndexId) (p : Point) (x
         table-was k.base p.table.0 k.seen g.more y (legal_here k k' g) h.drawn
         (sym (ap (λ (b : Base). table_of b k'.seen p.table.0) g.base ∙ ap (λ (l : List Entry). table_of k.base l p.table.0) g.seen) ∙ is)
 
-    all_on : (P Q : BaseRow → Type 0) → ((x : BaseRow) → P x → Q x) → (ys : List BaseRow) → AllByRecursion P ys → AllByRecursion Q ys
-    all_on P Q on [] a = tt
-    all_on P Q on (y ∷ ys) a = (on y a.0, all_on P Q on ys a.1)
-
     rows_before : (xs : List BaseRow) → AreRowsFor sound k' p x xs → AreRowsFor sound k p x xs
     rows_before xs r = record {
       each = r.each;
       distinct = r.distinct;
-      there = λ s. all_on _ _ (λ f a. sym (state-same sound k k' p i.0 [] g core (owner_at p f.row)) ∙ a) xs (r.there s);
+      there = λ s. all-on _ _ (λ f a. sym (state-same sound k k' p i.0 [] g core (owner_at p f.row)) ∙ a) xs (r.there s);
     }
 
     pub rows-stay : (xs : List BaseRow) → AreRowsFor sound k p x xs → AreRowsFor sound k' p x xs
     rows-stay xs r = record {
       each = r.each;
       distinct = r.distinct;
-      there = λ s. all_on _ _ (λ f a. state-same sound k k' p i.0 [] g core (owner_at p f.row) ∙ a) xs (r.there s);
+      there = λ s. all-on _ _ (λ f a. state-same sound k k' p i.0 [] g core (owner_at p f.row) ∙ a) xs (r.there s);
     }
 
     some_table : {y z : Table} → Some y ≡ Some z → y ≡ z
@@ -243,11 +245,23 @@ module _ (sound : Type 0) (k : Known) (t : TableId) (i : IndexId) (p : Point) (x
           bases = λ xs r. base-stays sound k k' p i.0 xs g h.held.is_open (h.bases xs (rows_before xs r));
         }
 
-    pub rows-based-stay : (done : List ℕ → Bool) (xs : List BaseRow) → AreBased k i p done xs → AreBased k' i p done xs
-    rows-based-stay done xs a row is read = elim (a row (sym (state-same sound k k' p i.0 [] g core (owner_at p row)) ∙ is) read) [
+    pub rows-based-stay : (done : List ℕ → Bool) (owners : List (List Value)) → AreBased k i p done owners → AreBased k' i p done owners
+    rows-based-stay done owners a row is read = elim (a row (sym (state-same sound k k' p i.0 [] g core (owner_at p row)) ∙ is) read) [
       | inl was ↦ inl (based-stays sound k k' p i.0 [] g h.held.is_open core (owner_at p row) was)
       | inr among ↦ inr among
     ]
+
+    pub piece-stays : (xs : List BaseRow) → IsPiece sound k p x xs → IsPiece sound k' p x xs
+    piece-stays xs h = record { rows = rows-stay xs h.rows; some = h.some; few = h.few }
+
+    pub found-stays : (fs : List FoundKey) → IsFoundAt sound k p fs → IsFoundAt sound k' p fs
+    found-stays fs h = record {
+      past = h.past;
+      rising = h.rising;
+      some = h.some;
+      few = h.few;
+      there = λ s f among. state-same sound k k' p i.0 [] g core (owner_at p f.row) ∙ h.there s f among;
+    }
 
     pub own-stays : AreOwn k p → AreOwn k' p
     own-stays o r row is = o r row (sym (state-same sound k k' p i.0 [] g core r) ∙ is)

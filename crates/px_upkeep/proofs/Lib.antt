@@ -8,3 +8,4 @@ pub mod Reading
 pub mod Ending
 pub mod Whole
 pub mod Keeping
+pub mod Making

@@ -1,6 +1,7 @@
 -- A point is opened at the birth.
 use Rattle.std.proofs.Common.{ℕ, ◌≡◌, ◌≤◌, ◌==◌, if◌then◌else◌, true, false, Option, None, Some, IsSome, Result, List, [], ◌∷◌, ◌++◌, ◌⊎◌, refl, sym, ◌∙◌, ap, subst, arith, inl, inr}
 use Rattle.std.proofs.lemmas.Bool.Decides.{Decides-eqb}
+use Rattle.std.specs.List.{AllByRecursion}
 use Rattle.px_values.specs.declared.name.IndexId.{IndexId}
 use Rattle.px_values.specs.declared.name.TableId.{TableId}
 use Rattle.px_tables.specs.declared.index.Index.{Index}
@@ -19,6 +20,7 @@ use Rattle.px_calls.specs.declared.fault.StepFault.{StepFault}
 use Rattle.px_calls.specs.declared.fault.StepFault.TheVariants as step
 use Rattle.px_calls.specs.declared.definition.Made.{Made}
 use Rattle.px_calls.specs.declared.query.BaseRow.{BaseRow}
+use Rattle.px_calls.specs.declared.query.FoundKey.{FoundKey}
 use Rattle.px_calls.specs.declared.query.Point.{Point}
 use Rattle.px_calls.specs.Calls.{DidOpen}
 use Rattle.px_calls.specs.Causes.{Refuses, Stands, open_cause}
@@ -36,7 +38,8 @@ use Rattle.px_upkeep.specs.declared.build.BuildState.TheVariants as s
 use Rattle.px_upkeep.specs.declared.build.Came.{Came}
 use Rattle.px_upkeep.specs.declared.build.Came.TheVariants as came
 use Rattle.px_upkeep.specs.declared.build.Next.TheVariants as next
-use Rattle.px_upkeep.specs.Turns.{AreBased, AreRowsFor, Begins, FitsState, HasPaths, IsAsked, IsBornAt, IsBuilding, IsDisabling, IsHeld, IsState, IsOutcome, IsUnopened, LacksIndexOf, Leads, Led, TriesThen, WasFound, WasRefused, is_read, opening, step_fault}
+use Rattle.px_upkeep.specs.declared.gathered.Gathered.{Gathered}
+use Rattle.px_upkeep.specs.Turns.{AreBased, AreRowsFor, Begins, FitsState, HasPaths, IsAsked, IsBornAt, IsBuilding, IsDisabling, IsFoundAt, IsHeld, IsState, IsOutcome, IsUnopened, LacksIndexOf, Leads, Led, TriesThen, WasFound, WasRefused, is_read, opening, step_fault}
 use Rattle.px_upkeep.proofs.Later.{Tells, asked-later, past-ran, past-same, plain, refused-call, refused-step, tries-still, tries-then}
 
 -- 1. The index among the point's definitions
@@ -174,15 +177,18 @@ module _ (sound : Type 0) (n : ℕ) (t : TableId) (i : IndexId) (own : List Act)
     never : false ≡ true → ⊥
     never e = cc
 
-    reading : HasPaths b x → IsState sound n t i (own ++ outline (act.Opened t p.stamp p.scn ∷ [])) (s.Reading b None) k'
-    reading paths = (
+    reading : (g : Gathered) → g.chunks ≡ [] → HasPaths b x → IsState sound n t i (own ++ outline (act.Opened t p.stamp p.scn ∷ [])) (s.Reading b None g) k'
+    reading g none paths = (
       subst (λ (q : Point). TriesThen t i (opening q ∷ []) (own ++ outline (act.Opened t p.stamp p.scn ∷ []))) (sym at) did,
       record {
-        index = x;
-        found = subst (λ (q : Point). WasFound n k' t i q x) (sym at) found;
-        building = subst (λ (q : Point). IsBuilding sound k' t i q x) (sym at) building;
-        paths = paths;
-        based = λ is_sound row there read. absurd (never read);
+        work = record {
+          index = x;
+          found = subst (λ (q : Point). WasFound n k' t i q x) (sym at) found;
+          building = subst (λ (q : Point). IsBuilding sound k' t i q x) (sym at) building;
+          paths = paths;
+          based = λ is_sound row there read. absurd (never read);
+        };
+        chunks = subst (λ (cs : List (List FoundKey)). AllByRecursion (IsFoundAt sound k' b.point) cs) (sym none) tt;
       },
     )
 
@@ -198,12 +204,12 @@ module _ (sound : Type 0) (n : ℕ) (t : TableId) (i : IndexId) (own : List Act)
   opens (s.Closing q (next.Refused f)) b =
       led (s.Closing q (next.Refused f)) (closing q b.0 (next.Refused f) (λ o. (subst (λ (g : BuildFault). WasRefused sound n t.0 i.0 g k') (sym b.1) (plain sound n t.0 i.0 why.Memory k' now.from tt tt), o)))
   opens (s.Closing q (next.Active m)) b = absurd b
-  opens (s.Reading w None) b = led (s.Reading w None) (reading w b.0 b.1.0 b.1.1 b.1.2)
-  opens (s.Reading w (Some last)) b = absurd b
+  opens (s.Reading w None g) b = led (s.Reading w None g) (reading w b.0 b.2.0 b.2.1 g b.1 b.2.2)
+  opens (s.Reading w (Some last) g) b = absurd b
   opens (s.Opening birth) b = absurd b
   opens (s.Renewing r) b = absurd b
-  opens (s.Basing w xs last) b = absurd b
-  opens (s.Settling w xs last) b = absurd b
+  opens (s.Basing w xs more last) b = absurd b
+  opens (s.Settling w xs more last) b = absurd b
   opens (s.Activating q r) b = absurd b
   opens (s.Disabling r f) b = absurd b
 
@@ -217,9 +223,9 @@ disabling sound n t i own f (s.Disabling r g) k asked tries why h =
     record { asked = asked; is = (tries, (h.0, going.0, going.1), subst (λ (z : BuildFault). WasRefused sound n t.0 i.0 z k) (sym h.2) why) }
 disabling sound n t i own f (s.Opening birth) k asked tries why h = absurd h
 disabling sound n t i own f (s.Renewing r) k asked tries why h = absurd h
-disabling sound n t i own f (s.Reading w after) k asked tries why h = absurd h
-disabling sound n t i own f (s.Basing w xs last) k asked tries why h = absurd h
-disabling sound n t i own f (s.Settling w xs last) k asked tries why h = absurd h
+disabling sound n t i own f (s.Reading w after g) k asked tries why h = absurd h
+disabling sound n t i own f (s.Basing w xs more last) k asked tries why h = absurd h
+disabling sound n t i own f (s.Settling w xs more last) k asked tries why h = absurd h
 disabling sound n t i own f (s.Activating q r) k asked tries why h = absurd h
 disabling sound n t i own f (s.Closing q x) k asked tries why h = absurd h
 

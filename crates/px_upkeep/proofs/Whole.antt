@@ -12,11 +12,11 @@ use Rattle.px_upkeep.specs.declared.build.BuildState.{BuildState}
 use Rattle.px_upkeep.specs.declared.build.BuildState.TheVariants as s
 use Rattle.px_upkeep.specs.declared.build.Next.{Next}
 use Rattle.px_upkeep.specs.declared.build.Next.TheVariants as next
-use Rattle.px_upkeep.specs.Turns.{Fits, FitsState, Follows, IsNew, IsState, is_read}
+use Rattle.px_upkeep.specs.Turns.{Fits, FitsState, Follows, IsNew, IsState}
 use Rattle.px_upkeep.proofs.Ending.{defining-stays}
 use Rattle.px_upkeep.proofs.Growing.{Grown, base-stays, grown-passes, held-stays}
 use Rattle.px_upkeep.proofs.Later.{active-later, asked-later, no-tries, past-passes, refused-later}
-use Rattle.px_upkeep.proofs.Reading.{basing-stays, work-stays}
+use Rattle.px_upkeep.proofs.Reading.{basing-stays, reading-stays}
 
 module _ (sound : Type 0) (n : ℕ) (t : TableId) (i : IndexId) (own : List Act) (k k' : Known) (h : Passes k k') where
   follows : (p : Point) (x : Next) → Follows sound n t i p x k own → Follows sound n t i p x k' own
@@ -32,9 +32,9 @@ module _ (sound : Type 0) (n : ℕ) (t : TableId) (i : IndexId) (own : List Act)
   state_on : (x : BuildState) → IsState sound n t i own x k → IsState sound n t i own x k'
   state_on (s.Opening birth) f = f
   state_on (s.Renewing r) f = (f.0, defining-stays sound (d.Rebuilding t i) r k k' h f.1)
-  state_on (s.Reading b after) f = (f.0, work-stays sound n t i b (is_read after) [] k k' grown f.1)
-  state_on (s.Basing b xs last) f = (f.0, basing-stays sound n t i b xs last k k' grown f.1)
-  state_on (s.Settling b xs last) f = (f.0, basing-stays sound n t i b xs last k k' grown f.1)
+  state_on (s.Reading b after g) f = (f.0, reading-stays sound n t i b after g.chunks k k' grown f.1)
+  state_on (s.Basing b xs more last) f = (f.0, basing-stays sound n t i b xs more last k k' grown f.1)
+  state_on (s.Settling b xs more last) f = (f.0, basing-stays sound n t i b xs more last k k' grown f.1)
   state_on (s.Activating p r) f = (
     f.0,
     record {

@@ -1,5 +1,6 @@
 -- The base versions of the rows that a look finds.
-use Rattle.std.specs.Prelude.{◌≡◌, ◌≤◌, List, [], ◌∷◌, ◌++◌, length}
+use Rattle.std.specs.Prelude.{◌≡◌, ◌≤◌, List, [], ◌∷◌, ◌++◌, length, Result, Err, IfOk}
+use Rattle.std.specs.List.{AllZip}
 use Rattle.px_values.specs.Limits.{most_key}
 use Rattle.px_keys.specs.Spelling.{Fits}
 use Rattle.px_tables.specs.declared.table.TableColumn.{TableColumn}
@@ -11,6 +12,10 @@ use Rattle.px_calls.specs.declared.query.FoundKey.{FoundKey}
 use Rattle.px_calls.specs.declared.query.FoundKey.TheVariants.{Sure}
 use Rattle.px_calls.specs.declared.query.FoundRow.{FoundRow}
 use Rattle.px_calls.specs.Causes.{IsLong}
+use Rattle.px_upkeep.specs.declared.rows.RowsFault.{RowsFault}
+use Rattle.px_upkeep.specs.declared.rows.RowsFault.TheVariants.{TooLong}
+
+-- 1. Rows
 
 -- The row that was found, with its key on an index's columns. It is one of a table with these columns and these columns of keys, and has there the key
 -- that it was found by
@@ -41,3 +46,25 @@ pub record HasLong (columns : List PathColumn) (fs : List FoundKey) : Type 0 whe
   pub found : FoundRow
   pub among : IsAmong (Sure found) fs
   pub long : IsLong (key_on columns found.row)
+
+-- 2. Chunks
+
+-- the chunks with one more behind them, unless it has no key
+abbrev pub gathered_then : List (List FoundKey) → List FoundKey → List (List FoundKey)
+gathered_then cs [] = cs
+gathered_then cs (f ∷ fs) = cs ++ (f ∷ fs) ∷ []
+
+-- what was made of a chunk: its rows, or none where a key is too long
+pub record IsMadeOf (table : List TableColumn) (keys columns : List PathColumn) (fs : List FoundKey) (r : Result (List BaseRow) RowsFault) : Type 0 where
+  pub ok : IfOk r (AreBaseRows table keys columns fs)
+  pub too_long : r ≡ Err TooLong → HasLong columns fs
+
+-- each chunk has its rows, in order
+abbrev pub ArePieces : List TableColumn → List PathColumn → List PathColumn → List (List FoundKey) → List (List BaseRow) → Type 0
+ArePieces table keys columns cs ps = AllZip (AreBaseRows table keys columns) cs ps
+
+-- one of the chunks has a row whose key on these columns is too long
+pub record HasLongIn (columns : List PathColumn) (cs : List (List FoundKey)) : Type 0 where
+  pub chunk : List FoundKey
+  pub among : IsAmong chunk cs
+  pub long : HasLong columns chunk

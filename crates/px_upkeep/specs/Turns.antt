@@ -1,5 +1,6 @@
 -- What one step of the build of an index does.
-use Rattle.std.specs.Prelude.{ℕ, ◌≡◌, ◌≢◌, ◌⊎◌, ◌≤◌, ◌++◌, not, Bool, true, false, Option, None, Some, Result, Ok, Err, List, [], ◌∷◌, length, drop}
+use Rattle.std.specs.Prelude.{ℕ, ◌≡◌, ◌≢◌, ◌⊎◌, ◌≤◌, ◌++◌, not, Bool, true, false, Option, None, Some, Result, Ok, Err, List, [], ◌∷◌, length, drop, flat_map}
+use Rattle.std.specs.List.{AllByRecursion}
 use Rattle.px_values.specs.Limits.{most_key}
 use Rattle.px_values.specs.declared.limit.Limit.TheVariants as bound
 use Rattle.px_values.specs.declared.name.IndexId.{IndexId}
@@ -25,11 +26,14 @@ use Rattle.px_calls.specs.declared.fault.StepFault.TheVariants as step
 use Rattle.px_calls.specs.declared.query.BaseRow.{BaseRow}
 use Rattle.px_calls.specs.declared.query.By.TheVariants as by
 use Rattle.px_calls.specs.declared.query.Chunk.{Chunk}
+use Rattle.px_calls.specs.declared.query.FoundKey.{FoundKey}
+use Rattle.px_calls.specs.declared.query.FoundKey.TheVariants.{Sure, InDoubt}
+use Rattle.px_calls.specs.declared.query.FoundRow.{FoundRow}
 use Rattle.px_calls.specs.declared.query.Path.{Path}
 use Rattle.px_calls.specs.declared.query.Point.{Point}
 use Rattle.px_calls.specs.Causes.{ClosedBy, IsDamagedAt, IsLong, LacksTable, Stands, rebuilding_cause}
 use Rattle.px_calls.specs.Known.{HasMade, Known, Ran, outline}
-use Rattle.px_calls.specs.Looks.{is_covered}
+use Rattle.px_calls.specs.Looks.{IsRisingFrom, is_covered}
 use Rattle.px_calls.specs.Requires.{IsBaseRowOf, IsDrawn, IsOpen, MayBase, base_owners, index_in, is_based}
 use Rattle.px_defining.specs.declared.define.DefineFault.{DefineFault}
 use Rattle.px_defining.specs.declared.define.DefineFault.TheVariants as fault
@@ -50,7 +54,7 @@ use Rattle.px_upkeep.specs.declared.build.Next.{Next}
 use Rattle.px_upkeep.specs.declared.build.Next.TheVariants as next
 use Rattle.px_upkeep.specs.declared.rows.RowsFault.{RowsFault}
 use Rattle.px_upkeep.specs.declared.rows.RowsFault.TheVariants as rows
-use Rattle.px_upkeep.specs.Rows.{AreBaseRows, HasLong}
+use Rattle.px_upkeep.specs.Rows.{ArePieces, HasLongIn, gathered_then}
 
 -- 1. Words of the code
 
@@ -206,9 +210,9 @@ key_at p row = key_on (table_path p.found.table) row
 
 -- these are rows of the table at the point, with their keys in the index, no two with one primary key
 pub record AreRowsFor (sound : Type 0) (k : Known) (p : Point) (x : Index) (xs : List BaseRow) : Type 0 where
-  pub each : Rattle.std.specs.List.AllByRecursion (IsBaseRowOf p.found.table x) xs
+  pub each : AllByRecursion (IsBaseRowOf p.found.table x) xs
   pub distinct : is_distinct (base_owners p.found.table xs) ≡ true
-  pub there : sound → Rattle.std.specs.List.AllByRecursion (λ f. state_at k p (owner_at p f.row) ≡ Some f.row) xs
+  pub there : sound → AllByRecursion (λ f. state_at k p (owner_at p f.row) ≡ Some f.row) xs
 
 -- The point is open at the birth of the index. The table stands as the point found it, and whichever rows of it are at the point may be given their base
 -- versions in the index
@@ -235,10 +239,23 @@ abbrev pub is_read : Option (List ℕ) → List ℕ → Bool
 is_read None key = false
 is_read (Some last) key = not (Rattle.px_calls.specs.Looks.key_less last key)
 
--- each row at the point with one of these keys was given its base version, or is among these rows
-abbrev pub AreBased : Known → IndexId → Point → (List ℕ → Bool) → List BaseRow → Type 0
-AreBased k i p done xs = (row : List Value) → state_at k p (owner_at p row) ≡ Some row → done (key_at p row) ≡ true
-    → (is_based k.seen i.0 (owner_at p row) ≡ true) ⊎ (has (base_owners p.found.table xs) (owner_at p row) ≡ true)
+-- the primary keys of the rows that were found: of one chunk, and of chunks
+abbrev pub found_owners : Table → List FoundKey → List (List Value)
+found_owners t [] = []
+found_owners t (Sure f ∷ fs) = key_in (table_shape t) f.row ∷ found_owners t fs
+found_owners t (InDoubt d ∷ fs) = found_owners t fs
+
+abbrev pub chunk_owners : Table → List (List FoundKey) → List (List Value)
+chunk_owners t cs = flat_map (found_owners t) cs
+
+-- the primary keys of rows that are to be given their base versions, piece by piece
+abbrev pub piece_owners : Table → List (List BaseRow) → List (List Value)
+piece_owners t ps = flat_map (base_owners t) ps
+
+-- each row at the point with one of these keys was given its base version, or is one of those with these primary keys, which are to be given theirs
+abbrev pub AreBased : Known → IndexId → Point → (List ℕ → Bool) → List (List Value) → Type 0
+AreBased k i p done owners = (row : List Value) → state_at k p (owner_at p row) ≡ Some row → done (key_at p row) ≡ true
+    → (is_based k.seen i.0 (owner_at p row) ≡ true) ⊎ (has owners (owner_at p row) ≡ true)
 
 -- each row at the point stands at its own primary key
 abbrev pub AreOwn : Known → Point → Type 0
@@ -267,20 +284,40 @@ pub record WasFound (n : ℕ) (k : Known) (t : TableId) (i : IndexId) (p : Point
   pub birth : x.birth ≡ p.stamp
   pub same : (r : List Value) → state_at k p r ≡ state_at was p r
 
--- a build at its point, where rows with these keys are done with or among those that are still to be given their base versions
-pub record IsAtWork (sound : Type 0) (n : ℕ) (k : Known) (t : TableId) (i : IndexId) (b : Build) (done : List ℕ → Bool) (xs : List BaseRow) : Type 0 where
+-- a build at its point, where rows with these keys are done with, or have one of these primary keys and are still to be given their base versions
+pub record IsAtWork (sound : Type 0) (n : ℕ) (k : Known) (t : TableId) (i : IndexId) (b : Build) (done : List ℕ → Bool) (owners : List (List Value)) : Type 0 where
   pub index : Index
   pub found : WasFound n k t i b.point index
   pub building : IsBuilding sound k t i b.point index
   pub paths : HasPaths b index
-  pub based : sound → AreBased k i b.point done xs
+  pub based : sound → AreBased k i b.point done owners
 
--- rows that are to be given their base versions, up to the last key of a chunk
-pub record IsBasing (sound : Type 0) (n : ℕ) (k : Known) (t : TableId) (i : IndexId) (b : Build) (xs : List BaseRow) (last : Option (List ℕ)) : Type 0 where
-  pub work : IsAtWork sound n k t i b (is_covered last) xs
+-- what was found by one look: keys that rise, with rows that are at the point
+pub record IsFoundAt (sound : Type 0) (k : Known) (p : Point) (fs : List FoundKey) : Type 0 where
+  pub past : Option (List ℕ)
+  pub rising : IsRisingFrom past fs
+  pub some : fs ≢ []
+  pub few : length fs ≤ 64
+  pub there : sound → (f : FoundRow) → IsAmong (Sure f) fs → state_at k p (owner_at p f.row) ≡ Some f.row
+
+-- a build that reads on past a key, with chunks that were found and have no base versions yet
+pub record IsReading (sound : Type 0) (n : ℕ) (k : Known) (t : TableId) (i : IndexId) (b : Build) (after : Option (List ℕ)) (cs : List (List FoundKey)) : Type 0 where
+  pub work : IsAtWork sound n k t i b (is_read after) (chunk_owners b.point.found.table cs)
+  pub chunks : AllByRecursion (IsFoundAt sound k b.point) cs
+
+-- rows that one call may give their base versions
+pub record IsPiece (sound : Type 0) (k : Known) (p : Point) (x : Index) (xs : List BaseRow) : Type 0 where
+  pub rows : AreRowsFor sound k p x xs
+  pub some : xs ≢ []
+  pub few : length xs ≤ 64
+
+-- these rows are to be given their base versions, and then more of them, piece by piece: all that were read and have none, up to the last key
+pub record IsBasing (sound : Type 0) (n : ℕ) (k : Known) (t : TableId) (i : IndexId) (b : Build) (xs : List BaseRow) (more : List (List BaseRow)) (last : Option (List ℕ)) : Type 0 where
+  pub work : IsAtWork sound n k t i b (is_covered last) (base_owners b.point.found.table xs ++ piece_owners b.point.found.table more)
   pub rows : AreRowsFor sound k b.point work.index xs
   pub some : xs ≢ []
   pub few : length xs ≤ 64
+  pub pieces : AllByRecursion (IsPiece sound k b.point work.index) more
   pub own : sound → AreOwn k b.point
 
 -- the index is to become active at its point
@@ -301,9 +338,9 @@ Follows sound n t i p (next.Refused f) k own = WasRefused sound n t.0 i.0 f k ×
 abbrev pub IsState : Type 0 → ℕ → TableId → IndexId → List Act → BuildState → Known → Type 0
 IsState sound n t i own (s.Opening birth) k = TriesThen t i [] own
 IsState sound n t i own (s.Renewing r) k = TriesThen t i [] own × IsDefining sound (d.Rebuilding t i) r k
-IsState sound n t i own (s.Reading b after) k = TriesThen t i (opening b.point ∷ []) own × IsAtWork sound n k t i b (is_read after) []
-IsState sound n t i own (s.Basing b xs last) k = TriesThen t i (opening b.point ∷ []) own × IsBasing sound n k t i b xs last
-IsState sound n t i own (s.Settling b xs last) k = TriesThen t i (opening b.point ∷ []) own × IsBasing sound n k t i b xs last
+IsState sound n t i own (s.Reading b after g) k = TriesThen t i (opening b.point ∷ []) own × IsReading sound n k t i b after g.chunks
+IsState sound n t i own (s.Basing b xs more last) k = TriesThen t i (opening b.point ∷ []) own × IsBasing sound n k t i b xs more last
+IsState sound n t i own (s.Settling b xs more last) k = TriesThen t i (opening b.point ∷ []) own × IsBasing sound n k t i b xs more last
 IsState sound n t i own (s.Activating p r) k = TriesThen t i (opening p ∷ []) own × IsActivating sound k t i p r
 IsState sound n t i own (s.Closing p after) k = IsHeld k t p × Follows sound n t i p after k own
 IsState sound n t i own (s.Disabling r f) k = TriesThen t i [] own × IsDefining sound (d.Disabled t i) r k × WasRefused sound n t.0 i.0 f k
@@ -371,7 +408,7 @@ Begins p i (s.Closing q (next.Failed f)) = (q ≡ p) × (f ≡ why.NoIndex) × (
 Begins p i (s.Closing q next.Renew) = q ≡ p
 Begins p i (s.Closing q (next.Again birth)) = q ≡ p
 Begins p i (s.Closing q (next.Refused f)) = (q ≡ p) × (f ≡ why.Memory)
-Begins p i (s.Reading b None) = (b.point ≡ p) × ((x : Index) × IsBornAt p i x × HasPaths b x)
+Begins p i (s.Reading b None g) = (b.point ≡ p) × (g.chunks ≡ []) × ((x : Index) × IsBornAt p i x × HasPaths b x)
 Begins p i x = ⊥
 
 -- the index is to be disabled
@@ -385,15 +422,32 @@ IsUnopened t i f (came.On x) = IsDisabling t i f x
 IsUnopened t i f (came.Over r) = r ≡ Err f
 IsUnopened t i f (came.Waits x) = ⊥
 
--- what comes behind a chunk that is done with
+-- what comes once all rows that were read have their base versions
 abbrev pub ReadsOn : Build → TableId → IndexId → Option (List ℕ) → BuildState → Type 0
-ReadsOn b t i (Some last) x = x ≡ s.Reading b (Some last)
+ReadsOn b t i (Some last) (s.Reading b' (Some after) g) = (b' ≡ b) × (after ≡ last) × (g.chunks ≡ [])
 ReadsOn b t i None (s.Activating p r) = (p ≡ b.point) × (r.definition ≡ d.Active t i) × (r.state ≡ state.Defining)
-ReadsOn b t i None x = ⊥
+ReadsOn b t i last x = ⊥
 
--- what comes of a chunk
-abbrev pub AfterLook : Build → TableId → IndexId → Chunk → BuildState → Type 0
-AfterLook b t i c (s.Basing b' xs last) = (b' ≡ b) × (last ≡ c.next) × (xs ≢ []) × AreBaseRows b.point.found.table.columns b.keys b.columns c.found xs
-AfterLook b t i c (s.Closing p (next.Refused (why.Limit bound.Key count))) = (p ≡ b.point) × (count ≡ most_key) × HasLong b.columns c.found
-AfterLook b t i c (s.Closing p (next.Refused why.Memory)) = p ≡ b.point
-AfterLook b t i c x = AreBaseRows b.point.found.table.columns b.keys b.columns c.found [] × ReadsOn b t i c.next x
+-- what comes where these rows are still to be given their base versions: the last piece is next
+abbrev pub BasesOn : Build → TableId → IndexId → List (List BaseRow) → Option (List ℕ) → BuildState → Type 0
+BasesOn b t i ps last (s.Basing b' xs more last') = (b' ≡ b) × (last' ≡ last) × (ps ≡ more ++ xs ∷ [])
+BasesOn b t i ps last x = (ps ≡ []) × ReadsOn b t i last x
+
+-- what comes of chunks whose base versions were made
+abbrev pub IsMade : Build → TableId → IndexId → List (List FoundKey) → Option (List ℕ) → BuildState → Type 0
+IsMade b t i cs last x = (ps : List (List BaseRow)) × ArePieces b.point.found.table.columns b.keys b.columns cs ps × BasesOn b t i ps last x
+
+-- what comes of chunks whose base versions were to be made
+abbrev pub AfterMaking : Build → TableId → IndexId → List (List FoundKey) → Option (List ℕ) → BuildState → Type 0
+AfterMaking b t i cs last (s.Closing p (next.Refused (why.Limit bound.Key count))) = (p ≡ b.point) × (count ≡ most_key) × HasLongIn b.columns cs
+AfterMaking b t i cs last (s.Closing p (next.Refused why.Memory)) = p ≡ b.point
+AfterMaking b t i cs last x = IsMade b t i cs last x
+
+-- it reads on, where there is more, with these chunks
+abbrev pub Gathers : Build → List (List FoundKey) → Option (List ℕ) → BuildState → Type 0
+Gathers b cs (Some last) (s.Reading b' (Some after) g) = (b' ≡ b) × (after ≡ last) × (g.chunks ≡ cs)
+Gathers b cs last x = ⊥
+
+-- what comes of a chunk, behind these
+abbrev pub AfterLook : Build → TableId → IndexId → List (List FoundKey) → Chunk → BuildState → Type 0
+AfterLook b t i cs c x = Gathers b (gathered_then cs c.found) c.next x ⊎ AfterMaking b t i (gathered_then cs c.found) c.next x

@@ -4,17 +4,21 @@ ghost use Rattle.std.specs.Option.{option_copied};
 ghost use Rattle.px_calls.specs.Requires.{index_among};
 ghost use Rattle.px_paths.specs.Paths.{index_path as index_path_of, table_path as table_path_of};
 ghost use Rattle.px_trail.specs.declared.entry.Act.{Act as Acts};
-ghost use Rattle.px_upkeep.specs.Turns.{AfterLook, Begins, Fits, FitsState, IsDisabling, IsUnopened, IsWhole, Leads, ReadsOn, Turns, definition_fault, first_or, next_of as next_is, rows_fault, step_fault};
+ghost use Rattle.px_upkeep.specs.Turns.{AfterLook, AfterMaking, BasesOn, Begins, Fits, FitsState, IsDisabling, IsUnopened, IsWhole, Leads, ReadsOn, Turns, definition_fault, first_or, next_of as next_is, rows_fault, step_fault};
 ghost use Rattle.px_values.specs.declared.name.IndexId.{IndexId as IndexNumber};
 ghost use Rattle.px_values.specs.declared.name.TableId.{TableId as TableNumber};
 
-use crate::rows::{RowsFault, base_rows};
-use px_calls::{BaseRows, By, Chunk, Definition, Made, Path, Point, StepFault, Steps, Work};
+use crate::gathered::Gathered;
+use crate::rows::{RowsFault, base_pieces};
+use px_calls::{
+    BaseRows, By, Chunk, Definition, FoundKey, Made, Path, Point, StepFault, Steps, Work,
+};
 use px_defining::{DefineFault, DefineRun, DefineTurn};
 use px_paths::{PathColumn, index_path, table_path};
 use px_tables::{Index, IndexState, Table};
 use px_values::{IndexId, Items, Key, Limit, MOST_KEY, TableId};
 use std::alloc::{AllocError, Global};
+use std::thread::Threads;
 
 /// The greatest stamp.
 const GREATEST_STAMP: u64 = 9_223_372_036_854_775_807;
@@ -63,12 +67,12 @@ pub enum BuildState {
     Opening(u64),
     /// The index is to be built again, from a new birth on.
     Renewing(DefineRun),
-    /// Past which key.
-    Reading(Build, Option<Key>),
-    /// Rows that are to be given their base versions, and the last key that was read where there are more.
-    Basing(Build, BaseRows, Option<Key>),
+    /// Past which key, and the chunks that were found since base versions were made.
+    Reading(Build, Option<Key>, Gathered),
+    /// Rows that are to be given their base versions, those that are to be given them later, and the last key that was read where there are more.
+    Basing(Build, BaseRows, Items<BaseRows>, Option<Key>),
     /// Upkeep, since the index's region was busy.
-    Settling(Build, BaseRows, Option<Key>),
+    Settling(Build, BaseRows, Items<BaseRows>, Option<Key>),
     /// The index is to become active.
     Activating(Point, DefineRun),
     Closing(Point, Next),
@@ -230,6 +234,7 @@ fn begin(alloc: Global, point: Point, index: IndexId) -> BuildState
                 path: whole(alloc),
             },
             None,
+            Gathered::new(alloc),
         ),
     }
 }
@@ -262,12 +267,18 @@ fn disabling(table: TableId, index: IndexId, f: BuildFault) -> BuildState
     BuildState::Disabling(DefineRun::new(Definition::Disabled { table, index }), f)
 }
 
-/// What comes behind a chunk that is done with. It makes no call.
-fn read_on(build: Build, table: TableId, index: IndexId, next: Option<Key>) -> BuildState
+/// What comes once all rows that were read have their base versions. It makes no call.
+fn read_on(
+    alloc: Global,
+    build: Build,
+    table: TableId,
+    index: IndexId,
+    next: Option<Key>,
+) -> BuildState
     ensures { ReadsOn build table index next result }
 {
     match next {
-        Some(last) => BuildState::Reading(build, Some(last)),
+        Some(last) => BuildState::Reading(build, Some(last), Gathered::new(alloc)),
         None => {
             let Build {
                 point,
@@ -280,34 +291,87 @@ fn read_on(build: Build, table: TableId, index: IndexId, next: Option<Key>) -> B
     }
 }
 
-/// What comes of a chunk: its rows are to be given their base versions. It makes no call.
-fn take(alloc: Global, build: Build, table: TableId, index: IndexId, chunk: Chunk) -> BuildState
-    ensures { AfterLook build table index chunk result }
+/// What comes where these rows are still to be given their base versions, piece by piece. It makes no call.
+fn base_on(
+    alloc: Global,
+    build: Build,
+    table: TableId,
+    index: IndexId,
+    pieces: Items<BaseRows>,
+    next: Option<Key>,
+) -> BuildState
+    ensures { BasesOn build table index pieces next result }
+{
+    let mut pieces = pieces.into_vec();
+    match pieces.pop() {
+        Some(rows) => BuildState::Basing(build, rows, Items::of(pieces), next),
+        None => {
+            drop(pieces);
+            read_on(alloc, build, table, index, next)
+        }
+    }
+}
+
+/// What comes of the chunks that were gathered: all their base versions are made. It makes no call.
+fn make<R: Threads + Sync>(
+    rt: &R,
+    alloc: Global,
+    build: Build,
+    table: TableId,
+    index: IndexId,
+    chunks: Items<Items<FoundKey>>,
+    next: Option<Key>,
+) -> BuildState
+    ensures { AfterMaking build table index chunks next result }
+{
+    match base_pieces(
+        rt,
+        alloc,
+        build.point.found.table.columns.as_slice(),
+        build.keys.as_slice(),
+        build.columns.as_slice(),
+        chunks,
+    ) {
+        Ok(pieces) => base_on(alloc, build, table, index, pieces, next),
+        Err(f) => {
+            drop(next);
+            failed(build, long_or_memory(f))
+        }
+    }
+}
+
+/// What comes of a chunk: it is gathered, and the base versions are made where there are enough chunks or no more. It makes no call.
+fn take<R: Threads + Sync>(
+    rt: &R,
+    alloc: Global,
+    build: Build,
+    table: TableId,
+    index: IndexId,
+    gathered: Gathered,
+    chunk: Chunk,
+) -> BuildState
+    ensures { AfterLook build table index gathered.chunks chunk result }
 {
     let Chunk {
         found,
         next,
         at: _at,
     } = chunk;
-    match base_rows(
-        alloc,
-        build.point.found.table.columns.as_slice(),
-        build.keys.as_slice(),
-        build.columns.as_slice(),
-        found,
-    ) {
-        Ok(rows) => {
-            if rows.as_slice().is_empty() {
-                drop(rows);
-                return read_on(build, table, index, next);
-            }
-            BuildState::Basing(build, rows, next)
-        }
-        Err(f) => {
+    let gathered = match gathered.with(found) {
+        Ok(gathered) => gathered,
+        Err(_) => {
             drop(next);
-            failed(build, long_or_memory(f))
+            return failed(build, BuildFault::Memory);
         }
+    };
+    if next.is_some() && !gathered.is_full() {
+        return BuildState::Reading(build, next, gathered);
     }
+    let Gathered {
+        chunks,
+        bytes: _bytes,
+    } = gathered;
+    make(rt, alloc, build, table, index, chunks, next)
 }
 
 fn long_or_memory(f: RowsFault) -> BuildFault
@@ -323,44 +387,52 @@ fn long_or_memory(f: RowsFault) -> BuildFault
 }
 
 /// Looks at the next rows.
-fn look<S: Steps>(
+fn look<R: Threads + Sync, S: Steps>(
+    rt: &R,
     s: &mut S,
     alloc: Global,
     table: TableId,
     index: IndexId,
     build: Build,
     after: Option<Key>,
+    gathered: Gathered,
 ) -> Came
-    requires { (n : ℕ) × (own : List Acts) × FitsState S.sound n table index own (BuildState.Reading build after) (S.known s.old) }
-    ensures { (n : ℕ) → (own : List Acts) → FitsState S.sound n table index own (BuildState.Reading build after) (S.known s.old) → Leads S.sound n table index own (S.known s.old) (S.known s.new) result }
+    requires { (n : ℕ) × (own : List Acts) × FitsState S.sound n table index own (BuildState.Reading build after gathered) (S.known s.old) }
+    ensures { (n : ℕ) → (own : List Acts) → FitsState S.sound n table index own (BuildState.Reading build after gathered) (S.known s.old) → Leads S.sound n table index own (S.known s.old) (S.known s.new) result }
 {
     match s.look(&build.point, &build.path, &after) {
-        Ok(chunk) => Came::On(take(alloc, build, table, index, chunk)),
-        Err(f) => Came::On(failed(build, fault_of(f))),
+        Ok(chunk) => Came::On(take(rt, alloc, build, table, index, gathered, chunk)),
+        Err(f) => {
+            drop(gathered);
+            Came::On(failed(build, fault_of(f)))
+        }
     }
 }
 
 /// Gives rows their base versions.
 fn base<S: Steps>(
     s: &mut S,
+    alloc: Global,
     table: TableId,
     index: IndexId,
     build: Build,
     rows: BaseRows,
+    more: Items<BaseRows>,
     next: Option<Key>,
 ) -> Came
-    requires { (n : ℕ) × (own : List Acts) × FitsState S.sound n table index own (BuildState.Basing build rows next) (S.known s.old) }
-    ensures { (n : ℕ) → (own : List Acts) → FitsState S.sound n table index own (BuildState.Basing build rows next) (S.known s.old) → Leads S.sound n table index own (S.known s.old) (S.known s.new) result }
+    requires { (n : ℕ) × (own : List Acts) × FitsState S.sound n table index own (BuildState.Basing build rows more next) (S.known s.old) }
+    ensures { (n : ℕ) → (own : List Acts) → FitsState S.sound n table index own (BuildState.Basing build rows more next) (S.known s.old) → Leads S.sound n table index own (S.known s.old) (S.known s.new) result }
 {
     match s.base(&build.point, index, &rows) {
         Ok(_) => {
             drop(rows);
-            Came::On(read_on(build, table, index, next))
+            Came::On(base_on(alloc, build, table, index, more, next))
         }
-        Err(StepFault::Busy { .. }) => Came::On(BuildState::Settling(build, rows, next)),
-        Err(StepFault::NotReady { .. }) => Came::On(BuildState::Settling(build, rows, next)),
+        Err(StepFault::Busy { .. }) => Came::On(BuildState::Settling(build, rows, more, next)),
+        Err(StepFault::NotReady { .. }) => Came::On(BuildState::Settling(build, rows, more, next)),
         Err(f) => {
             drop(rows);
+            drop(more);
             drop(next);
             Came::On(failed(build, fault_of(f)))
         }
@@ -374,15 +446,17 @@ fn settle<S: Steps>(
     index: IndexId,
     build: Build,
     rows: BaseRows,
+    more: Items<BaseRows>,
     next: Option<Key>,
 ) -> Came
-    ensures { (n : ℕ) → (own : List Acts) → FitsState S.sound n table index own (BuildState.Settling build rows next) (S.known s.old) → Leads S.sound n table index own (S.known s.old) (S.known s.new) result }
+    ensures { (n : ℕ) → (own : List Acts) → FitsState S.sound n table index own (BuildState.Settling build rows more next) (S.known s.old) → Leads S.sound n table index own (S.known s.old) (S.known s.new) result }
 {
     match s.upkeep() {
-        Ok(Work::Did) => Came::On(BuildState::Settling(build, rows, next)),
-        Ok(Work::Idle) => Came::On(BuildState::Basing(build, rows, next)),
+        Ok(Work::Did) => Came::On(BuildState::Settling(build, rows, more, next)),
+        Ok(Work::Idle) => Came::On(BuildState::Basing(build, rows, more, next)),
         Err(f) => {
             drop(rows);
+            drop(more);
             drop(next);
             Came::On(failed(build, fault_of(f)))
         }
@@ -487,7 +561,8 @@ fn disable<S: Steps>(
 }
 
 /// One step: one call.
-fn advance<S: Steps>(
+fn advance<R: Threads + Sync, S: Steps>(
+    rt: &R,
     s: &mut S,
     alloc: Global,
     table: TableId,
@@ -500,9 +575,15 @@ fn advance<S: Steps>(
     match state {
         BuildState::Opening(birth) => open(s, alloc, table, index, birth),
         BuildState::Renewing(run) => renew(s, table, index, run),
-        BuildState::Reading(build, after) => look(s, alloc, table, index, build, after),
-        BuildState::Basing(build, rows, next) => base(s, table, index, build, rows, next),
-        BuildState::Settling(build, rows, next) => settle(s, table, index, build, rows, next),
+        BuildState::Reading(build, after, gathered) => {
+            look(rt, s, alloc, table, index, build, after, gathered)
+        }
+        BuildState::Basing(build, rows, more, next) => {
+            base(s, alloc, table, index, build, rows, more, next)
+        }
+        BuildState::Settling(build, rows, more, next) => {
+            settle(s, table, index, build, rows, more, next)
+        }
         BuildState::Activating(point, run) => activate(s, table, index, point, run),
         BuildState::Closing(point, next) => close(s, table, index, point, next),
         BuildState::Disabling(run, first) => disable(s, table, index, run, first),
@@ -524,8 +605,8 @@ impl BuildRun {
         }
     }
 
-    /// Makes one call.
-    pub fn step<S: Steps>(self, s: &mut S) -> BuildTurn
+    /// Makes one call. The base versions of rows that were gathered are made outside of it.
+    pub fn step<R: Threads + Sync, S: Steps>(self, rt: &R, s: &mut S) -> BuildTurn
         requires { (n : ℕ) × (own : List Acts) × Fits S.sound n self.table self.index own self (S.known s.old) }
         ensures turns { (n : ℕ) → (t : TableNumber) → (i : IndexNumber) → (own : List Acts) → Fits S.sound n t i own self (S.known s.old) → Turns S.sound n t i own (S.known s.old) (S.known s.new) result }
     {
@@ -535,7 +616,7 @@ impl BuildRun {
             index,
             state,
         } = self;
-        match advance(s, alloc, table, index, state) {
+        match advance(rt, s, alloc, table, index, state) {
             Came::On(state) => BuildTurn::Stepped(BuildRun {
                 alloc,
                 table,

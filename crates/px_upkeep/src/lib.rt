@@ -7,8 +7,10 @@
 #![tactic(auto)]
 
 mod build;
+mod gathered;
 mod laws;
 mod rows;
 
 pub use build::{Build, BuildFault, BuildRun, BuildState, BuildTurn, Next};
+pub use gathered::Gathered;
 pub use laws::law_builds;

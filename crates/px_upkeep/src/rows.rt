@@ -4,7 +4,7 @@ ghost use Rattle.std.specs.List.{All};
 ghost use Rattle.px_calls.specs.Causes.{IsLong};
 ghost use Rattle.px_keys.specs.Spelling.{Fits, IsNullFixed, PartFits, columns_of, values_of};
 ghost use Rattle.px_paths.specs.Paths.{AreOfTypes, columns_on, key_on as key_on_path, values_on};
-ghost use Rattle.px_upkeep.specs.Rows.{AreBaseRows, HasLong, IsBaseOf, KeepsRow};
+ghost use Rattle.px_upkeep.specs.Rows.{AreBaseRows, ArePieces, HasLong, HasLongIn, IsBaseOf, IsMadeOf, KeepsRow};
 ghost use Rattle.px_upkeep.specs.declared.rows.RowsFault.TheVariants.{Memory};
 ghost use Rattle.px_values.specs.Limits.{most_key};
 ghost use Rattle.px_values.specs.Types.{HasType};
@@ -15,7 +15,9 @@ use px_keys::{KeyColumn, KeyFault, Part, encode_key};
 use px_paths::PathColumn;
 use px_tables::TableColumn;
 use px_values::{ColType, Direction, Items, Key, Value};
+use rayon::prelude::*;
 use std::alloc::{AllocError, Global};
+use std::thread::Threads;
 
 /// Why rows that were found have no base versions. A row that isn't one of its table, or not the one of its key, is told as want of memory: a sound
 /// folder has none.
@@ -212,4 +214,33 @@ pub(crate) fn base_rows(
         keep_row(alloc, table, keys, columns, key, &mut rows)?;
     }
     Ok(Items::of(rows))
+}
+
+/// The base versions of the rows of chunks, chunk by chunk, from as many threads as there are processors.
+pub(crate) fn base_pieces<R: Threads + Sync>(
+    rt: &R,
+    alloc: Global,
+    table: &[TableColumn],
+    keys: &[PathColumn],
+    columns: &[PathColumn],
+    chunks: Items<Items<FoundKey>>,
+) -> Result<Items<BaseRows>, RowsFault>
+    ensures ok { IfOk result (λ pieces. ArePieces table.now keys.now columns.now chunks pieces) }
+    ensures too_long { result ≡ Err RowsFault.TooLong → HasLongIn columns.now chunks }
+{
+    let made: Result<Result<Vec<BaseRows>, RowsFault>, AllocError> = chunks
+        .into_vec()
+        .into_par_iter()
+        .with_min_len(1)
+        .map(
+            |found: Items<FoundKey>| -> Result<BaseRows, RowsFault>
+                ensures { IsMadeOf table.entry.now keys.entry.now columns.entry.now found result }
+            { base_rows(alloc, table, keys, columns, found) },
+        )
+        .collect(rt, alloc);
+    match made {
+        Ok(Ok(pieces)) => Ok(Items::of(pieces)),
+        Ok(Err(fault)) => Err(fault),
+        Err(_) => Err(RowsFault::Memory),
+    }
 }

@@ -1,4 +1,6 @@
 use Rattle.std.proofs.Common.{sym, subst}
+use Rattle.std.proofs.Crossing.{crosses}
+use denote.Param.Send.{sendable}
 use Rattle.px_values.specs.declared.name.IndexId.{IndexId}
 use Rattle.px_values.specs.declared.name.TableId.{TableId}
 use Rattle.px_calls.specs.Calls.{made_index}
@@ -10,7 +12,7 @@ pub step-requires : goal.step-requires
 step-requires g c =
     let j = c.requires.2.state.1 in
     let F : TableId × IndexId → Type 0 = λ q. building.Fits g.S.Steps.sound j.made.at q.0 q.1 j.rest c.args.run (g.S.Steps.known c.args.s.now) in
-    (j.made.at, j.rest, subst F (λ i. (sym j.fits.table i, sym j.fits.index i)) j.fits)
+    (search (sendable, crosses) depth 40, (j.made.at, j.rest, subst F (λ i. (sym j.fits.table i, sym j.fits.index i)) j.fits))
 
 pub returns-in-Stepped : goal.returns-in-Stepped
 returns-in-Stepped g c = λ before own f. build_goes_on g.S.Steps.sound before c.args.asked own c.args.statement c.args.run _ _ _ f c.in-Stepped.ensures.turns

@@ -1,6 +1,8 @@
 use Rattle.std.proofs.Common.{rules, ◌≡◌, ◌∙◌, length, refl, sym, ap, subst}
 use Rattle.std.specs.Prelude.{slice_get}
+use Rattle.std.proofs.Crossing.{crosses}
 use Rattle.std.proofs.lemmas.Option.{slice_get_read}
+use denote.Param.Send.{sendable}
 use Rattle.px_turn.specs.Seats.{seen as list_seen}
 use Rattle.px_seat.specs.Grown.{mine}
 use Rattle.px_rounds.specs.declared.job.Job.{Job}
@@ -11,7 +13,7 @@ use Rattle.px_rounds.proofs.job.run_all.Goals as goal
 
 pub for_each_mut-requires-clause-accepts : goal.for_each_mut-requires-clause-accepts
 for_each_mut-requires-clause-accepts g c = λ κs bounds i p low is.
-    c.requires.ready i p.now (ap (λ l. slice_get l i) (sym c.as_mut_slice.ensures.value) ∙ slice_get_read c.as_mut_slice.result.now (length c.as_mut_slice.result.now) i p.now refl low is)
+    (c.requires.ready i p.now (ap (λ l. slice_get l i) (sym c.as_mut_slice.ensures.value) ∙ slice_get_read c.as_mut_slice.result.now (length c.as_mut_slice.result.now) i p.now refl low is), (search (sendable, crosses) depth 40, search (sendable, crosses) depth 40, search (sendable, crosses) depth 40, search (sendable, crosses) depth 40, search (sendable, crosses) depth 40, search (sendable, crosses) depth 40, search (sendable, crosses) depth 40))
 
 pub returns-clause-each : goal.returns-clause-each
 returns-clause-each g c = λ k a b ea eb.

@@ -11,7 +11,7 @@ run_turns-requires-clause-live g c =
     let k = g.S.Steps.known c.args.s.now in
     let states = c.args.states.items in
     let live = rounding.first_live g.S.Steps.sound k c.args.number c.seen.result states c.args.round.now c.in-Ok.lists.pieces.items c.opened-runs.result.items c.seen.ensures (search rules) c.opened-runs.ensures.first in
-    (states, subst (λ (l : List SessionRun). AreLive g.S.Steps.sound k states l) (sym c.as_mut_slice.ensures.value) live)
+    λ κs bounds. (states, subst (λ (l : List SessionRun). AreLive g.S.Steps.sound k states l) (sym c.as_mut_slice.ensures.value) live)
 
 pub opened-runs-requires-clause-placed : goal.opened-runs-requires-clause-placed
 opened-runs-requires-clause-placed g c = λ i pieces e. (c.in-Ok.ensures.cut.each i pieces e).placed
