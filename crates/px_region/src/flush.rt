@@ -117,6 +117,7 @@ impl Region {
     /// Orders that all that stands in the log be flushed: upkeep is due until it is. What comes behind isn't ordered.
     pub fn order_flush(&mut self)
         ensures ordered { IsOrdered self.new }
+        ensures only { self.new.ordered ≡ self.new.wal.last }
         ensures alike { IsAlike self.old self.new }
         ensures promised { IsSamePromise self.old self.new }
         ensures read { read_of self.new ≡ read_of self.old }
