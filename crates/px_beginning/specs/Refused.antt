@@ -10,10 +10,10 @@ use Rattle.px_beginning.specs.Rooms.{no_room}
 use Rattle.px_beginning.specs.declared.preparing.Prepared.{Prepared}
 use Rattle.px_beginning.specs.declared.rooms.Room.{Room}
 
--- A region refuses room: its log isn't open or has no room, or it would have too many cells or bytes, which are told without these.
+-- A region refuses a room that isn't empty: its log isn't open or has no room, or it would have too many cells or bytes, which are told without these.
 abbrev pub IsRefusedAt : Region → Room → BeginFault → Type 0
-IsRefusedAt region room (NotReady number) = (number ≡ region.number) × ((IsReady region → ⊥) ⊎ (HasRoom region room.cells room.bytes → ⊥))
-IsRefusedAt region room (Busy number cells bytes) = (number ≡ region.number) × (IsReady region × PassesLimit region room.cells room.bytes × (cells ≡ region.cells + region.promised) × (bytes ≡ region.bytes + region.promised_bytes))
+IsRefusedAt region room (NotReady number) = (number ≡ region.number) × (0 < room.cells + room.bytes) × ((IsReady region → ⊥) ⊎ (HasRoom region room.cells room.bytes → ⊥))
+IsRefusedAt region room (Busy number cells bytes) = (number ≡ region.number) × (0 < room.cells + room.bytes) × (IsReady region × PassesLimit region room.cells room.bytes × (cells ≡ region.cells + region.promised) × (bytes ≡ region.bytes + region.promised_bytes))
 IsRefusedAt region room Memory = Unit {0}
 IsRefusedAt region room (Limit limit) = ⊥
 IsRefusedAt region room ReadFault = ⊥

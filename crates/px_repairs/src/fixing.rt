@@ -1,8 +1,11 @@
 // A repair, from the look to the write.
-ghost use Rattle.std.specs.Prelude.{◌≡◌, ◌<◌, ◌≤◌, ◌+◌, length, Err};
+ghost use Rattle.std.specs.Prelude.{◌≡◌, ◌<◌, ◌≤◌, ◌+◌, Err, Some, length, slice_get};
 ghost use Rattle.px_outside.specs.OnDisk.{Rose};
 ghost use Rattle.px_group.specs.Group.{IsRightGroup};
+ghost use Rattle.px_group.specs.declared.group.IndexRegion.{IndexRegion as Part};
+ghost use Rattle.px_repairs.specs.Refused.{RefusesRepair};
 ghost use Rattle.px_repairs.specs.Repairs.{Fixes};
+ghost use Rattle.px_repairs.specs.declared.repairing.RepairFault.{RepairFault as Fault};
 
 use crate::judging::{Judged, judge};
 use crate::repairing::{RepairFault, repair};
@@ -25,6 +28,7 @@ pub fn fix<D: Disk>(
     requires right { IsRightGroup group.old }
     requires there { place < length group.old.indexes.items }
     ensures fixes { Fixes ⟦<D as Disk>⟧ group.old group.new disk.old disk.new place key.now stamp result }
+    ensures cause { (fault : Fault) → (x : Part) → result ≡ Err fault → slice_get group.old.indexes.items place ≡ Some x → RefusesRepair group.old place x key.now stamp fault }
     ensures counted { group.new.rows.looked ≤ group.old.rows.looked + 1 }
     ensures failed { result ≡ Err RepairFault.WriteFault → Rose ⟦<D as Disk>⟧ disk.old disk.new }
 {

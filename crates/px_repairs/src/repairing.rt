@@ -1,10 +1,13 @@
 // Writing a repair.
-ghost use Rattle.std.specs.Prelude.{◌≡◌, ◌≢◌, ◌<◌, ◌≤◌, ◌+◌, Err, OnErr, OnOk, length};
+ghost use Rattle.std.specs.Prelude.{◌≡◌, ◌≢◌, ◌<◌, ◌≤◌, ◌+◌, Err, OnErr, OnOk, Some, length, slice_get};
 ghost use Rattle.px_keptcells.specs.Kept.{laid};
 ghost use Rattle.px_outside.specs.OnDisk.{Rose};
 ghost use Rattle.px_region.specs.Promise.{IsAlike, IsSamePromise};
 ghost use Rattle.px_region.specs.Region.{read_of};
+ghost use Rattle.px_group.specs.declared.group.IndexRegion.{IndexRegion as Part};
+ghost use Rattle.px_repairs.specs.Refused.{RefusesCells, RefusesRoom};
 ghost use Rattle.px_repairs.specs.Repairs.{Repaired, Written};
+ghost use Rattle.px_repairs.specs.declared.repairing.RepairFault.{RepairFault as Fault};
 
 use px_gatelog::Frame;
 use px_group::Group;
@@ -30,6 +33,7 @@ fn take(region: &mut Region, cells: u64, bytes: u64) -> Result<(), RepairFault>
     ensures taken { OnOk result ((region.new.promised ≡ region.old.promised + cells) × (region.new.promised_bytes ≡ region.old.promised_bytes + bytes)) }
     ensures few { OnOk result ((cells ≤ 16384) × (bytes ≤ 16777216)) }
     ensures refused { OnErr result (IsSamePromise region.old region.new) }
+    ensures cause { (fault : Fault) → result ≡ Err fault → RefusesRoom region.old cells bytes fault }
     ensures quiet { result ≢ Err RepairFault.WriteFault }
     ensures alike { IsAlike region.old region.new }
     ensures read { read_of region.new ≡ read_of region.old }
@@ -51,6 +55,7 @@ fn write<D: Disk>(
 ) -> Result<(), RepairFault>
     requires some { 1 ≤ length (laid kept) }
     ensures written { Written ⟦<D as Disk>⟧ region.old region.new disk.old disk.new (laid kept) result }
+    ensures cause { (fault : Fault) → result ≡ Err fault → RefusesCells region.old (laid kept) fault }
     ensures failed { result ≡ Err RepairFault.WriteFault → Rose ⟦<D as Disk>⟧ disk.old disk.new }
 {
     let count = kept.count() as u64;
@@ -85,6 +90,7 @@ pub fn repair<D: Disk>(
     requires there { place < length group.old.indexes.items }
     requires some { 1 ≤ length (laid kept) }
     ensures repaired { Repaired ⟦<D as Disk>⟧ group.old group.new disk.old disk.new place (laid kept) result }
+    ensures cause { (fault : Fault) → (x : Part) → result ≡ Err fault → slice_get group.old.indexes.items place ≡ Some x → RefusesCells x.region (laid kept) fault }
     ensures no_row { group.new.rows ≡ group.old.rows }
     ensures failed { result ≡ Err RepairFault.WriteFault → Rose ⟦<D as Disk>⟧ disk.old disk.new }
 {

@@ -1,6 +1,9 @@
-use Rattle.std.proofs.Common.{refl}
+use Rattle.std.proofs.Common.{refl, subst}
 use Rattle.px_keptcells.specs.Kept.{laid}
+use Rattle.px_group.specs.declared.group.IndexRegion.{IndexRegion}
+use Rattle.px_batching.proofs.Places.{same_at}
 use Rattle.px_reading.proofs.Looked.{looked_index, no_look}
+use Rattle.px_repairs.specs.Refused.{RefusesCells}
 use Rattle.px_repairs.proofs.Handing.{got_some, repaired_by}
 use Rattle.px_repairs.proofs.repairing.repair.Goals as goal
 
@@ -27,3 +30,9 @@ returns-clause-repaired g c =
       horizon = refl;
     })
     c.write.result c.write.ensures.written
+
+pub returns-clause-cause : goal.returns-clause-cause
+returns-clause-cause g c fault y e at =
+    let items = c.args.group.now.indexes.items in
+    let x = c.index_mut.result.now in
+    subst (λ (z : IndexRegion). RefusesCells z.region (laid c.args.kept) fault) (same_at items c.args.place x y (got_some items c.args.place _ x c.requires.there c.index_mut.ensures.value) at) (c.write.ensures.cause fault e)

@@ -2,7 +2,11 @@ use Rattle.std.proofs.Common.{◌≡◌, length, arith}
 use Rattle.px_cellbytes.specs.Spelling.{all_bytes}
 use Rattle.px_keptcells.specs.Kept.{laid}
 use Rattle.px_repairs.proofs.Handing.{min_whole, writes_taken, written_taken}
+use Rattle.px_repairs.proofs.Refusing.{refused_for}
 use Rattle.px_repairs.proofs.repairing.write.Goals as goal
+
+pub returns-in-Err-clause-cause : goal.returns-in-Err-clause-cause
+returns-in-Err-clause-cause g c fault e = refused_for c.args.region.now (laid c.args.kept) c.count-count.result c.bytes-bytes.result c.count-count.ensures c.bytes-bytes.ensures fault (c.in-Err.ensures.cause fault e)
 
 pub returns-in-Ok-applied-clause-written : goal.returns-in-Ok-applied-clause-written
 returns-in-Ok-applied-clause-written g c =
