@@ -1,5 +1,5 @@
 -- Rows are given their base versions: what is true of a server stays so.
-use Rattle.std.proofs.Common.{◌≡◌, ◌≢◌, ◌<◌, ◌≤◌, ◌+◌, ℕ, Bool, true, false, inl, inr, Option, Some, None, Result, Ok, Err, List, [], ◌∷◌, ◌++◌, length, get_or, map, slice_get, refl, sym, ap, subst, ◌∙◌, arith}
+use Rattle.std.proofs.Common.{◌≡◌, ◌≢◌, ◌<◌, ◌≤◌, ◌+◌, ℕ, zero, suc, Bool, true, false, inl, inr, Option, Some, None, Result, Ok, Err, List, [], ◌∷◌, ◌++◌, length, get_or, map, slice_get, refl, sym, ap, subst, ◌∙◌, arith}
 use Rattle.std.specs.Prelude.{IfOk, IsSome, IsTrue, nat_eq, sum_by}
 use Rattle.std.specs.List.{AllByRecursion, slice_set}
 use Rattle.std.proofs.lemmas.Bool.{cases_eq}
@@ -57,7 +57,7 @@ use Rattle.px_basing.proofs.Right.{hands_of, right_based, tallied_based, traced_
 use Rattle.px_basing.proofs.Shown.{based_shown, based_steps, bases_step}
 use Rattle.px_built.specs.Built.{IsBuiltBy}
 use Rattle.px_built.proofs.Tables.{built_based, built_stays}
-use Rattle.px_server.specs.Bases.{AnswersBase}
+use Rattle.px_server.specs.Bases.{AnswersBase, IsRefusedBase, RefusesBases}
 use Rattle.px_server.specs.Kept.{AreBuilt, HasPoints, HasTallied, IsKept, IsShutAt, number_in, owed, owed_by}
 use Rattle.px_server.specs.Others.{Beginning}
 use Rattle.px_server.proofs.Acted.{once_at, points_at, right_at, tallied_at}
@@ -293,6 +293,19 @@ unbased_refused k legal running (Busy region cells bytes) answer is other = subs
 unbased_refused k legal running (NotReady region) answer is other = subst (λ (f : StepFault). Refuses base_cause k k f) (sym is) (tt, stays k legal, running)
 unbased_refused k legal running WriteFault answer is other = absurd (other refl)
 unbased_refused k legal running Memory answer is other = subst (λ (f : StepFault). Refuses base_cause k k f) (sym is) (tt, stays k legal, running)
+
+-- a list has what stands at a place within it
+pub there_at : {A : Type 0} (xs : List A) (n : ℕ) → n < length xs → (x : A) × (slice_get xs n ≡ Some x)
+there_at [] n l = absurd (omega (arith, l))
+there_at (x ∷ xs) zero l = (x, refl)
+there_at (x ∷ xs) (suc n) l = there_at xs n (omega (arith, l))
+
+-- the cause of a refusal is told with its answer
+pub refuses_bases : (groups : List Group) (p : Point) (i : IndexId) (xs : List BaseRow) (fault : BaseFault) (answer : StepFault) → AnswersBase fault answer → IsRefusedBase groups p i xs fault → RefusesBases groups p i xs answer
+refuses_bases groups p i xs (Busy region cells bytes) answer is r = subst (RefusesBases groups p i xs) (sym is) r
+refuses_bases groups p i xs (NotReady region) answer is r = subst (RefusesBases groups p i xs) (sym is) r
+refuses_bases groups p i xs WriteFault answer is r = subst (RefusesBases groups p i xs) (sym is) tt
+refuses_bases groups p i xs Memory answer is r = subst (RefusesBases groups p i xs) (sym is) tt
 
 pub got_ok : {T E : Type 0} (P : T → Type 0) (result : Result T E) (x : T) → result ≡ Ok x → IfOk result P → P x
 got_ok {T} {E} P (Ok y) x same h = subst P (let z : ◌≡◌ {A = Result T E} (Ok y) (Ok x) = same in cc) h

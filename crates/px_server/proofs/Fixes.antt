@@ -38,11 +38,12 @@ use Rattle.px_calls.specs.declared.fault.StepFault.{StepFault}
 use Rattle.px_calls.specs.declared.query.Doubt.{Doubt}
 use Rattle.px_calls.specs.declared.query.Fixing.{Fixing}
 use Rattle.px_calls.specs.declared.query.Fixing.TheVariants as fixing
+use Rattle.px_repairs.specs.Refused.{RefusesRepair}
 use Rattle.px_repairs.specs.Repairs.{Fixes, HandsRepair, HasFailed, HasFixed, HasStayed, IsRepair, IsUnderWay, WroteRepair, stands_in}
 use Rattle.px_repairs.specs.declared.repairing.RepairFault.{RepairFault}
 use Rattle.px_repairs.specs.declared.repairing.RepairFault.TheVariants.{Busy, NotReady, WriteFault, Memory}
 use Rattle.px_repairs.proofs.Handing.{got_some}
-use Rattle.px_server.specs.Repairs.{Answers, IsMended, Mends, StandsNoMore, Stays}
+use Rattle.px_server.specs.Repairs.{Answers, IsMended, Mends, RefusesFix, StandsNoMore, Stays}
 use Rattle.px_pointreads.proofs.Asked.{there_is}
 use Rattle.px_repairs.proofs.Right.{right_repaired, tallied_repaired, traced_repaired}
 use Rattle.px_repairs.proofs.Shown.{repair_steps, repaired_shown, repaired_steps}
@@ -396,3 +397,14 @@ module _ {D : Type 0} (d : Ghosts D) (g g' : Group) (disk disk' : D) (at n : ℕ
   answers_refused (Err NotReady) here answer is = subst (λ r. IfErr r (Refuses fix_cause k k')) (sym is) (tt, found.sees, found.running)
   answers_refused (Err WriteFault) never answer is = absurd never
   answers_refused (Err Memory) here answer is = subst (λ r. IfErr r (Refuses fix_cause k k')) (sym is) (tt, found.sees, found.running)
+
+-- ---- the cause of a refusal
+
+-- it is told with its answer
+pub answers_caused : (groups : List Group) (place : ℕ) (g : Group) → slice_get groups place ≡ Some g → (at : ℕ) (x : IndexRegion) → slice_get g.indexes.items at ≡ Some x → (q : Doubt) → x.index.id ≡ q.index → (n : ℕ) → n ≡ x.region.number
+    → (result : Result Fixing RepairFault) → ((fault : RepairFault) → result ≡ Err fault → RefusesRepair g at x q.key q.stamp fault) → (answer : Result Fixing StepFault) → Answers n result answer → IfErr answer (RefusesFix groups q)
+answers_caused groups place g here at x there q id n number (Ok fixing) cause answer is = subst (λ r. IfErr r (RefusesFix groups q)) (sym is) tt
+answers_caused groups place g here at x there q id n number (Err (Busy cells bytes)) cause answer is = subst (λ r. IfErr r (RefusesFix groups q)) (sym is) (record { place = place; group = g; at = here; part = at; index = x; of = there; id = id; number = number; refused = cause (Busy cells bytes) refl })
+answers_caused groups place g here at x there q id n number (Err NotReady) cause answer is = subst (λ r. IfErr r (RefusesFix groups q)) (sym is) (record { place = place; group = g; at = here; part = at; index = x; of = there; id = id; number = number; refused = cause NotReady refl })
+answers_caused groups place g here at x there q id n number (Err WriteFault) cause answer is = subst (λ r. IfErr r (RefusesFix groups q)) (sym is) tt
+answers_caused groups place g here at x there q id n number (Err Memory) cause answer is = subst (λ r. IfErr r (RefusesFix groups q)) (sym is) tt

@@ -72,6 +72,7 @@ pub mod ReadAt
 pub mod ReadyKept
 pub mod Refusing
 pub mod Released
+pub mod Renewed
 pub mod Reserved
 pub mod Room
 pub mod RowsTold

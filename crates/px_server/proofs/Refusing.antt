@@ -26,6 +26,7 @@ use Rattle.px_server.proofs.Seen.{stays}
 pub refuses_batch : (groups : List Group) (t : TableId) (es : List Entry) (cs : List Change) (f : StepFault) → IsRefusedIn groups t es cs f → RefusesBatch groups t es cs f
 refuses_batch groups t es cs (Limit which count) r = r
 refuses_batch groups t es cs (NotReady region) r = r
+refuses_batch groups t es cs (Busy region cells bytes) r = r
 refuses_batch groups t es cs f r = tt
 
 module _ (k : Known) (legal : IsLegal k.base k.seen) (running : closing_call k.seen ≡ None) (sound : Type 0) (t : ℕ) (cs : List Change) where

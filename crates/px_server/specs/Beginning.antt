@@ -84,10 +84,11 @@ pub record IsRefusedIn (groups : List Group) (t : TableId) (es : List Entry) (cs
   pub clock : ℕ
   pub unbegun : IsUnbegun group es cs clock f
 
--- A limit, or a region that isn't ready, is told of a batch only with its cause in the table's group.
+-- A limit, and a region that isn't ready or is busy, are told of a batch only with their cause in the table's group.
 abbrev pub RefusesBatch : List Group → TableId → List Entry → List Change → StepFault → Type 0
 RefusesBatch groups t es cs (Limit which count) = IsRefusedIn groups t es cs (Limit which count)
 RefusesBatch groups t es cs (NotReady region) = IsRefusedIn groups t es cs (NotReady region)
+RefusesBatch groups t es cs (Busy region cells bytes) = IsRefusedIn groups t es cs (Busy region cells bytes)
 RefusesBatch groups t es cs f = Unit {0}
 
 -- 3. Let in

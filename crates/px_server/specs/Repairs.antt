@@ -15,6 +15,7 @@ use Rattle.px_group.specs.declared.group.Group.{Group}
 use Rattle.px_group.specs.declared.group.IndexRegion.{IndexRegion}
 use Rattle.px_pointreads.specs.Points.{LacksIndex}
 use Rattle.px_reading.specs.Looked.{HasLooked}
+use Rattle.px_repairs.specs.Refused.{RefusesDue}
 use Rattle.px_repairs.specs.Repairs.{IsRegionStep, IsRepair, stands_in}
 use Rattle.px_repairs.specs.declared.repairing.RepairFault.{RepairFault}
 use Rattle.px_repairs.specs.declared.repairing.RepairFault.TheVariants.{Busy, NotReady, WriteFault, Memory}
@@ -75,3 +76,21 @@ abbrev pub Mends : List Group → List Group → Doubt → Fixing → Type 0
 Mends groups groups' d fixing.Fixed = IsMended groups groups' d
 Mends groups groups' d fixing.Gone = AllByRecursion (LacksIndex d.index) groups ⊎ StandsNoMore groups' d
 Mends groups groups' d fixing.InFlight = Unit {0}
+
+-- the region of the doubt's index, which has this number, refuses room for the repair that is due
+pub record IsRefusedFix (groups : List Group) (d : Doubt) (region : ℕ) (f : RepairFault) : Type 0 where
+  pub place : ℕ
+  pub group : Group
+  pub at : slice_get groups place ≡ Some group
+  pub part : ℕ
+  pub index : IndexRegion
+  pub of : slice_get group.indexes.items part ≡ Some index
+  pub id : index.index.id ≡ d.index
+  pub number : region ≡ index.region.number
+  pub refused : RefusesDue group part index d.key d.stamp f
+
+-- A region that is busy or isn't ready is told only so.
+abbrev pub RefusesFix : List Group → Doubt → StepFault → Type 0
+RefusesFix groups d (steps.Busy region cells bytes) = IsRefusedFix groups d region (Busy cells bytes)
+RefusesFix groups d (steps.NotReady region) = IsRefusedFix groups d region NotReady
+RefusesFix groups d f = Unit {0}

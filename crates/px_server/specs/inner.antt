@@ -2,3 +2,4 @@ pub mod Fitting
 pub mod Indexing
 pub mod Making
 pub mod Quiet
+pub mod Renewing

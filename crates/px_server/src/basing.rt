@@ -4,7 +4,7 @@ ghost use Rattle.px_basing.specs.declared.fault.BaseFault.{BaseFault as Fault};
 ghost use Rattle.px_calls.specs.Calls.{DidBase};
 ghost use Rattle.px_calls.specs.Causes.{Refuses, base_cause};
 ghost use Rattle.px_calls.specs.Requires.{IsOpen, MayBase};
-ghost use Rattle.px_server.specs.Bases.{AnswersBase};
+ghost use Rattle.px_server.specs.Bases.{AnswersBase, RefusesBases};
 ghost use Rattle.px_server.specs.Shown.{known_by};
 
 use crate::shutting::shut;
@@ -46,6 +46,7 @@ impl<D: CountsCalls, C: Clock, B: Based + Founded> Server<D, C, B> {
         requires few { length rows.now ≤ 64 }
         requires rows { MayBase B.sound (known_by B.base B.damaged self.old) p.now index.0 rows.now }
         ensures ok { IfOk result (DidBase (known_by B.base B.damaged self.old) (known_by B.base B.damaged self.new) p.now index rows.now) }
+        ensures caused { IfErr result (RefusesBases self.old.groups p.now index rows.now) }
         ensures refused { IfErr result (Refuses base_cause (known_by B.base B.damaged self.old) (known_by B.base B.damaged self.new)) }
     {
         if let Some(call) = self.closed {

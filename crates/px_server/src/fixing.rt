@@ -4,7 +4,7 @@ ghost use Rattle.px_calls.specs.Calls.{DidFix};
 ghost use Rattle.px_calls.specs.Causes.{Refuses, fix_cause};
 ghost use Rattle.px_server.specs.Looks.{rows_looked};
 ghost use Rattle.px_server.specs.Shown.{known_by};
-ghost use Rattle.px_server.specs.Repairs.{Answers, Mends, Stays};
+ghost use Rattle.px_server.specs.Repairs.{Answers, Mends, RefusesFix, Stays};
 
 use crate::shutting::shut;
 use crate::{Founded, Server};
@@ -62,6 +62,7 @@ impl<D: CountsCalls, C: Clock, B: Based + Founded> Server<D, C, B> {
         ensures fixes { IfOk result (Mends self.old.groups self.new.groups d.now) }
         ensures counted { rows_looked self.new.groups ≤ rows_looked self.old.groups + 1 }
         ensures refused { IfErr result (Refuses fix_cause (known_by B.base B.damaged self.old) (known_by B.base B.damaged self.new)) }
+        ensures caused { IfErr result (RefusesFix self.old.groups d.now) }
     {
         if let Some(call) = self.closed {
             return Err(StepFault::Closed { call });

@@ -18,6 +18,7 @@ mod opening;
 mod points;
 mod reading;
 mod readying;
+mod renewing;
 mod server;
 mod shutting;
 mod status;

@@ -1,11 +1,12 @@
 // What a table's status counts.
 ghost use Rattle.std.specs.Prelude.{◌≡◌, ◌<◌, ◌≤◌, IfErr, IfOk, filter, length, map, min};
+ghost use Rattle.std.specs.List.{All};
 ghost use Rattle.px_cells.specs.Order.{IsCellList};
 ghost use Rattle.px_calls.specs.Calls.{DidCount};
 ghost use Rattle.px_calls.specs.Causes.{Refuses, status_cause};
 ghost use Rattle.px_group.specs.Group.{IsRightGroup};
 ghost use Rattle.px_recovery.specs.Tables.{indexes_of};
-ghost use Rattle.px_server.specs.Counts.{AreUnverified, bare, count_as, is_unverified};
+ghost use Rattle.px_server.specs.Counts.{AreUnverified, CountKeys, CountsKeys, bare, count_as, is_unverified};
 ghost use Rattle.px_server.specs.Shown.{HasLogged, known_by, logged_by};
 
 use crate::{Founded, Server};
@@ -52,7 +53,8 @@ fn unverified_in(alloc: Global, cells: &[Cell]) -> Result<u64, AllocError>
 /// The count of an index; one that is disabled has no keys.
 fn count_of(alloc: Global, group: &Group, index: &Index) -> Result<IndexCount, AllocError>
     requires { IsRightGroup group.now }
-    ensures { IfOk result (λ c. bare c ≡ count_as index.now) }
+    ensures index { IfOk result (λ c. bare c ≡ count_as index.now) }
+    ensures keys { IfOk result (CountsKeys group.now) }
 {
     let unverified = match index_place(group, index.id) {
         Some(place) => unverified_in(alloc, group.indexes[place].region.sorted_cells())?,
@@ -75,12 +77,14 @@ fn counts_of(
     table: TableId,
 ) -> Result<IndexCounts, AllocError>
     requires { IsRightGroup group.now }
-    ensures { IfOk result (λ cs. map bare cs ≡ map count_as (indexes_of table.0 indexes.now)) }
+    ensures indexes { IfOk result (λ cs. map bare cs ≡ map count_as (indexes_of table.0 indexes.now)) }
+    ensures keys { IfOk result (λ cs. All (CountsKeys group.now) cs) }
 {
     let mut counts = Vec::new(alloc);
     for index in indexes {
         if index.table == table {
-            counts.push(count_of(alloc, group, index)?)?;
+            let count = count_of(alloc, group, index)?;
+            counts.push(count)?;
         }
     }
     Ok(Items::of(counts))
@@ -112,6 +116,7 @@ impl<D: CountsCalls, C: Clock, B: Based + Founded> Server<D, C, B> {
     pub fn status(&mut self, table: TableId) -> Result<Status, StepFault>
         ensures ok { IfOk result (DidCount (known_by B.base B.damaged self.old) (known_by B.base B.damaged self.new) table) }
         ensures counted { IfOk result (λ s. HasLogged self.old.logged table.0 s.cells) }
+        ensures keys { IfOk result (λ s. CountKeys self.old.groups table s.indexes) }
         ensures refused { IfErr result (Refuses (status_cause table.0) (known_by B.base B.damaged self.old) (known_by B.base B.damaged self.new)) }
     {
         if let Some(call) = self.closed {

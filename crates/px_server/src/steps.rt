@@ -8,7 +8,7 @@ ghost use Rattle.px_calls.specs.declared.query.By.TheVariants.{Index as ByIndex}
 ghost use Rattle.px_values.specs.declared.name.IndexId.{IndexId as Number};
 ghost use Rattle.px_server.specs.Beginning.{RefusesBatch};
 ghost use Rattle.px_server.specs.Looks.{AreOfIndexAt, HasCountedOf, rows_in, rows_looked};
-ghost use Rattle.px_server.specs.Repairs.{Mends};
+ghost use Rattle.px_server.specs.Repairs.{Mends, RefusesFix};
 
 use crate::{Founded, Server};
 use px_calls::{
@@ -113,6 +113,7 @@ impl<D: CountsCalls, C: Clock, B: Based + Founded> Steps for Server<D, C, B> {
         ensures fixes { IfOk result (Mends self.old.groups self.new.groups d.now) }
         ensures counted { rows_looked self.new.groups ≤ rows_looked self.old.groups + 1 }
         ensures refused { IfErr result (Refuses fix_cause (known_by B.base B.damaged self.old) (known_by B.base B.damaged self.new)) }
+        ensures caused { IfErr result (RefusesFix self.old.groups d.now) }
     {
         Server::fix(self, d)
     }

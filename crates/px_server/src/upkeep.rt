@@ -1,5 +1,5 @@
-// Upkeep: the logs of regions are made, and flushed.
-ghost use Rattle.std.specs.Prelude.{◌≡◌, ◌<◌, [], Err, IfErr, IfNone, IfOk, IfSome, OnOk, get_or, length};
+// Upkeep: the logs of regions are made, and flushed; a full catalogue is renewed.
+ghost use Rattle.std.specs.Prelude.{◌≡◌, ◌<◌, [], Err, None, IfErr, IfNone, IfOk, IfSome, OnOk, get_or, length};
 ghost use Rattle.std.specs.List.{AllByRecursion};
 ghost use Rattle.px_calls.specs.Calls.{DidOrder, DidWork, IsIdle};
 ghost use Rattle.px_calls.specs.Causes.{Refuses, order_cause, upkeep_cause};
@@ -115,18 +115,14 @@ fn order_all<D: Disk>(groups: &mut [Group])
 }
 
 impl<D: CountsCalls, C: Clock, B: Based + Founded> Server<D, C, B> {
-    /// Makes a step of the first region that has one to make: its log is made, or what stands in its log is flushed to a file. It is Idle where no
-    /// region of a table that stands has one to make: then all that was ordered is flushed. Where all that stands in the logs was ordered to be
-    /// flushed, that is so after the step, unless it is refused: for want of memory an order of the region is given up.
-    pub fn upkeep(&mut self) -> Result<Work, StepFault>
+    /// Makes a step of the first region that has one to make. It is Idle where no region of a table that stands has one to make.
+    fn upkeep_regions(&mut self) -> Result<Work, StepFault>
+        requires { self.old.closed ≡ None }
         ensures ok { IfOk result (DidWork (known_by B.base B.damaged self.old) (known_by B.base B.damaged self.new)) }
         ensures done { IfOk result (λ work. IsIdle work → HaveFlushed self.new.groups) }
         ensures ordered { IfOk result (λ work. AreOrdered self.old.groups → AreOrdered self.new.groups) }
         ensures refused { IfErr result (Refuses upkeep_cause (known_by B.base B.damaged self.old) (known_by B.base B.damaged self.new)) }
     {
-        if let Some(call) = self.closed {
-            return Err(StepFault::Closed { call });
-        }
         let Some((place, region)) = due_table(self.groups.as_slice()) else {
             return Ok(Work::Idle);
         };
@@ -141,6 +137,23 @@ impl<D: CountsCalls, C: Clock, B: Based + Founded> Server<D, C, B> {
                 Err(StepFault::WriteFault)
             }
         }
+    }
+
+    /// Makes a step of the renewal of a full catalogue; or else of the first region that has one to make: its log is made, or what stands in its
+    /// log is flushed to a file. It is Idle where no region of a table that stands has one to make: then all that was ordered is flushed. Where
+    /// all that stands in the logs was ordered to be flushed, that is so after the step, unless it is refused: for want of memory an order of
+    /// the region is given up.
+    pub fn upkeep(&mut self) -> Result<Work, StepFault>
+        ensures ok { IfOk result (DidWork (known_by B.base B.damaged self.old) (known_by B.base B.damaged self.new)) }
+        ensures done { IfOk result (λ work. IsIdle work → HaveFlushed self.new.groups) }
+        ensures ordered { IfOk result (λ work. AreOrdered self.old.groups → AreOrdered self.new.groups) }
+        ensures refused { IfErr result (Refuses upkeep_cause (known_by B.base B.damaged self.old) (known_by B.base B.damaged self.new)) }
+    {
+        let renewed = self.renew_catalog()?;
+        if renewed {
+            return Ok(Work::Did);
+        }
+        self.upkeep_regions()
     }
 
     /// Orders that all that stands now in the logs of the tables that stand be flushed: `upkeep` makes the steps. It makes no call.

@@ -18,10 +18,12 @@ use Rattle.px_group.specs.declared.group.IndexRegion.{IndexRegion}
 use Rattle.px_basing.specs.declared.fault.BaseFault.TheVariants.{WriteFault}
 use Rattle.px_baserows.specs.Rows.{owners_in}
 use Rattle.px_standing.proofs.Looked.{lacks}
+use Rattle.px_repairs.proofs.Handing.{got_some}
 use Rattle.px_server.specs.Kept.{IsKept}
 use Rattle.px_server.specs.Shown.{Shown, known_by, shown_of}
 use Rattle.px_server.proofs.Acted.{right_at}
-use Rattle.px_server.proofs.Based.{bases_failed, bases_stayed, bases_written, based_kept, did_base, given, got_ok, index_there, unbased_kept, unbased_refused}
+use Rattle.px_server.specs.Bases.{RefusesBases}
+use Rattle.px_server.proofs.Based.{bases_failed, bases_stayed, bases_written, based_kept, did_base, given, got_ok, index_there, refuses_bases, there_at, unbased_kept, unbased_refused}
 use Rattle.px_server.proofs.Fixes.{fix_stayed}
 use Rattle.px_server.proofs.Found.{closed_by}
 use Rattle.px_server.proofs.Released.{group_of, none_of, place_in}
@@ -282,8 +284,34 @@ returns-in-Err g c =
     let v : Shown = shown_of s.seat s.trail.entries s.late s.closed s.groups.items in
     let running : s.closed ≡ None = none_of s.closed (λ x is. search rules) in
     let other : c.in-Err.fault ≡ WriteFault → ⊥ = λ e. search rules in
+    let place = c.in-Some-numbered_place.place in
+    let l : place < length s.groups.items = place_in s.groups.items s.standing.tables k.each.stand place c.in-Some-numbered_place.ensures.found in
+    let h = c.index_mut.result.now in
+    let h_is : get_or s.groups.items place h ≡ h = sym c.index_mut.ensures.value in
+    let own : h.table.id ≡ c.args.p.now.table = group_of s.groups.items s.standing.tables k.each.stand place h l h_is c.args.p.now.table c.in-Some-numbered_place.ensures.numbered in
+    let at = c.in-Some-index_place.at in
+    let one : c.index.result.now ≡ h = same_there s.groups.items place c.index.result.now h l (sym c.index.ensures) h_is in
+    let named : (x : IndexRegion) → slice_get h.indexes.items at ≡ Some x → x.index.id ≡ c.args.index = λ x there. c.in-Some-index_place.ensures.found.1 x (ap (λ (y : Group). slice_get y.indexes.items at) one ∙ there) in
+    let inside : at < length h.indexes.items = subst (λ (y : Group). at < length y.indexes.items) one c.in-Some-index_place.ensures.found.0 in
+    let xs : List BaseRow = c.as_slice.result.now in
+    let same : xs ≡ c.args.rows.now = search rules in
+    let part = there_at h.indexes.items at inside in
     record {
       ok = tt;
+      caused =
+          subst (λ (w : Shown). RefusesBases w.groups c.args.p.now c.args.index c.args.rows.now c.unbased.result) c.self.view_is
+          (subst (λ (ys : List BaseRow). RefusesBases s.groups.items c.args.p.now c.args.index ys c.unbased.result) same
+          (refuses_bases s.groups.items c.args.p.now c.args.index xs c.in-Err.fault c.unbased.result c.unbased.ensures (record {
+            place = place;
+            group = h;
+            at = got_some s.groups.items place h h l (sym h_is);
+            table = own;
+            part = at;
+            index = part.0;
+            of = part.1;
+            id = named part.0 part.1;
+            refused = c.base-based.ensures.cause c.in-Err.fault part.0 c.in-Err.is part.1;
+          })));
       refused =
           subst (λ (w : Shown). Refuses base_cause (known_by b g.B.Based.damaged w) (known_by b g.B.Based.damaged (record v { entries = c.give_back.new.self.entries })) c.unbased.result) c.self.view_is
           (subst (λ (es : List Entry). Refuses base_cause (known_by b g.B.Based.damaged v) (known_by b g.B.Based.damaged (record v { entries = es })) c.unbased.result) (sym (c.give_back.ensures.same ∙ c.reserve.ensures.same))

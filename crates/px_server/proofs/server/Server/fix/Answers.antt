@@ -10,16 +10,18 @@ use Rattle.px_calls.specs.declared.query.Fixing.TheVariants.{Gone}
 use Rattle.px_group.specs.declared.group.Group.{Group}
 use Rattle.px_pointreads.specs.Points.{LacksIndex}
 use Rattle.px_server.specs.Looks.{rows_looked}
-use Rattle.px_server.specs.Repairs.{Mends, Stays}
+use Rattle.px_server.specs.Repairs.{Mends, RefusesFix, Stays}
 use Rattle.px_server.specs.Kept.{IsKept}
+use Rattle.px_repairs.specs.Refused.{RefusesRepair}
 use Rattle.px_repairs.specs.Repairs.{Fixes}
+use Rattle.px_repairs.proofs.Handing.{got_some}
 use Rattle.px_calls.specs.Known.{Adds}
 use Rattle.px_calls.specs.declared.query.Fixing.{Fixing}
 use Rattle.px_trail.specs.declared.entry.Act.TheVariants.{Fixed as FixedAct, Shut as ShutAct}
 use Rattle.px_trail.specs.Legal.{IsLegal}
 use Rattle.px_server.proofs.Seen.{one_more}
 use Rattle.px_server.specs.Shown.{Shown, known_by, shown_of}
-use Rattle.px_server.proofs.Fixes.{doubt_at, answers_ok, answers_refused, failed_kept, failed_of, fix_stayed, fixed_flight, fixed_kept, fixed_mends, fixed_of, stayed, stayed_flight, stayed_mends}
+use Rattle.px_server.proofs.Fixes.{doubt_at, answers_caused, answers_ok, answers_refused, failed_kept, failed_of, fix_stayed, fixed_flight, fixed_kept, fixed_mends, fixed_of, stayed, stayed_flight, stayed_mends}
 use Rattle.px_server.proofs.Found.{closed_by}
 use Rattle.px_server.proofs.Lists.{sum_set}
 use Rattle.px_server.proofs.ReadAt.{finds, inside}
@@ -144,6 +146,21 @@ returns-then-has_stayed-clause-refused g c =
     (finds (known_by b g.B.Based.damaged v) told.legal s.closed told.closing running)
     (stayed_flight g.D.Disk g.met.D.Disk.told g.met.D.Disk.up_to_now b g.B.Founded.sound g.B.Founded.premise g.B.Founded.began s.disk s.catalog s.standing s.groups.items s.trail s.late s.closed k running c.in-Some-doubt_place.at.group c.index_mut-group.result.now c.fix-fixed.new.group l (sym c.index_mut-group.ensures.value) c.fix-fixed.new.disk h c.in-Some-doubt_place.at.index c.args.d.now named)
     c.fix-fixed.result here c.answered.result c.answered.ensures))
+
+pub returns-then-has_stayed-clause-caused : goal.returns-then-has_stayed-clause-caused
+returns-then-has_stayed-clause-caused g c =
+    let s = c.self.inside in
+    let place = c.in-Some-doubt_place.at.group in
+    let at = c.in-Some-doubt_place.at.index in
+    let h = c.index_mut-group.result.now in
+    let x = c.index.result.now in
+    let l : place < length s.groups.items = inside s.groups.items c.deref.result.now place c.deref.ensures.value c.in-Some-doubt_place.ensures.within in
+    let named = doubt_at s.groups.items c.deref.result.now place at c.args.d.now.index h _ c.deref.ensures.value c.in-Some-doubt_place.ensures.within c.in-Some-doubt_place.ensures.numbered c.index_mut-group.ensures.value in
+    let there = got_some h.indexes.items at x x named.0 c.index.ensures in
+    let same : c.as_slice.result.now ≡ c.args.d.now.key = search rules in
+    subst (λ (w : Shown). IfErr c.answered.result (RefusesFix w.groups c.args.d.now)) c.self.view_is
+    (answers_caused s.groups.items place h (got_some s.groups.items place h h l c.index_mut-group.ensures.value) at x there c.args.d.now (named.1 x there) c.number-region.result c.number-region.ensures c.fix-fixed.result
+    (λ fault is. subst (λ (kk : List ℕ). RefusesRepair h at x kk c.args.d.now.stamp fault) same (c.fix-fixed.ensures.cause fault x is there)) c.answered.result c.answered.ensures)
 
 pub invariant_of-self-in-Ok-fixed : goal.invariant_of-self-in-Ok-fixed
 invariant_of-self-in-Ok-fixed g c =

@@ -5,7 +5,8 @@ use Rattle.px_calls.specs.declared.fault.StepFault.TheVariants.{Closed, Memory, 
 use Rattle.px_standing.proofs.Looked.{lacks}
 use Rattle.px_tables.specs.declared.index.Index.{Index}
 use Rattle.px_recovery.specs.Tables.{indexes_of}
-use Rattle.px_server.specs.Counts.{count_as}
+use Rattle.px_repairs.proofs.Handing.{got_some}
+use Rattle.px_server.specs.Counts.{CountKeys, count_as}
 use Rattle.px_server.specs.Shown.{HasLogged, Shown, known_by, shown_of}
 use Rattle.px_server.proofs.Found.{closed_by}
 use Rattle.px_server.proofs.Counted.{counts_no_memory, counts_no_table, did_count, has_logged}
@@ -49,7 +50,7 @@ returns-clause-ok g c =
           (own g.D.Disk b g.B.Founded.sound g.B.Founded.premise g.B.Founded.began s.disk s.catalog s.standing s.groups.items s.trail s.late s.closed kept running c.args.table place.place c.index-group.result.now place.ensures.found place.ensures.numbered (sym c.index-group.ensures))
           (told_here g.D.Disk b g.B.Founded.sound g.B.Founded.premise g.B.Founded.began s.disk s.catalog s.standing s.groups.items s.trail s.late s.closed kept running c.args.table place.place c.index-group.result.now place.ensures.found place.ensures.numbered (sym c.index-group.ensures))
           (record { last = c.index-group.result.now.last; horizon = c.index-group.result.now.horizon; cells = w.cells_in.result; files = w.files_in.result; indexes = w.in-Ok.indexes }) refl refl
-          (w.in-Ok.ensures ∙ ap (λ (xs : List Index). map count_as (indexes_of c.args.table.0 xs)) c.as_slice.ensures)))
+          (w.in-Ok.ensures.indexes ∙ ap (λ (xs : List Index). map count_as (indexes_of c.args.table.0 xs)) c.as_slice.ensures)))
       | in-Err w ↦ rw w.result-is tt
     ]
 
@@ -80,4 +81,23 @@ returns-clause-refused g c =
       | in-Ok w ↦ rw w.result-is tt
       | in-Err w ↦ rw w.result-is (subst (λ (u : Shown). Refuses (status_cause c.args.table.0) (known_by b g.B.Based.damaged u) (known_by b g.B.Based.damaged u) Memory) c.self.view_is
           (counts_no_memory (known_by b g.B.Based.damaged v) told.legal s.closed told.closing running s.standing told.agrees c.args.table))
+    ]
+
+pub returns-clause-keys : goal.returns-clause-keys
+returns-clause-keys g c =
+    let s = c.self.inside in
+    let b = g.B.Based.base in
+    let kept = c.self.invariant.0 in
+    let running : s.closed ≡ None = none_of s.closed (λ x is. search rules) in
+    let place = c.in-Some-numbered_place in
+    let inside = place_in s.groups.items s.standing.tables kept.each.stand place.place place.ensures.found in
+    elim c.match-counts_of.branch [
+      | in-Ok w ↦ rw w.result-is (subst (λ (u : Shown). CountKeys u.groups c.args.table w.in-Ok.indexes) c.self.view_is (record {
+        place = place.place;
+        group = c.index-group.result.now;
+        at = got_some s.groups.items place.place c.index-group.result.now c.index-group.result.now inside c.index-group.ensures;
+        id = own g.D.Disk b g.B.Founded.sound g.B.Founded.premise g.B.Founded.began s.disk s.catalog s.standing s.groups.items s.trail s.late s.closed kept running c.args.table place.place c.index-group.result.now place.ensures.found place.ensures.numbered (sym c.index-group.ensures);
+        counts = w.in-Ok.ensures.keys;
+      }))
+      | in-Err w ↦ rw w.result-is tt
     ]

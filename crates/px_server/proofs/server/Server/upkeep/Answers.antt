@@ -1,97 +1,30 @@
-use Rattle.std.proofs.Common.{◌≡◌, ◌<◌, ◌∙◌, Some, List, get_or, length, refl, sym, subst}
-use Rattle.px_trail.specs.declared.entry.Act.TheVariants.{Shut}
+use Rattle.std.proofs.Common.{◌≡◌, ◌∙◌, sym, ap, subst}
+use Rattle.std.specs.Prelude.{IfErr, IfOk}
 use Rattle.px_calls.specs.Calls.{DidWork}
 use Rattle.px_calls.specs.Causes.{Refuses, upkeep_cause}
-use Rattle.px_calls.specs.declared.fault.StepFault.TheVariants.{Closed, Memory, WriteFault}
-use Rattle.px_calls.specs.declared.status.Work.TheVariants.{Did, Idle}
-use Rattle.px_group.specs.declared.group.Group.{Group}
-use Rattle.px_server.specs.Shown.{Shown, known_by, shown_of}
-use Rattle.px_server.specs.Upkeep.{AreOrdered, HaveFlushed, IsOrderedTable}
-use Rattle.px_server.proofs.Lists.{all_at}
-use Rattle.px_server.proofs.Orders.{all_put}
-use Rattle.px_server.proofs.Found.{closed_by}
-use Rattle.px_server.proofs.Stamping.{more_by_clock}
-use Rattle.px_server.proofs.Stepped.{did_work, stepped, stopped, work_failed, work_no_memory}
+use Rattle.px_server.specs.Shown.{Shown, known_by}
+use Rattle.px_server.specs.Upkeep.{AreOrdered}
 use Rattle.px_server.proofs.server.Server.upkeep.Goals as goal
 
-pub returns-in-Some-clause-refused : goal.returns-in-Some-clause-refused
-returns-in-Some-clause-refused g c =
-    let s = c.self.inside in
+pub returns-then-renewed-clause-ordered : goal.returns-then-renewed-clause-ordered
+returns-then-renewed-clause-ordered g c = λ was. subst (λ (w : Shown). AreOrdered w.groups) (sym c.in_ok-renewed.ensures.same.0) was
+
+pub upkeep_regions-requires : goal.upkeep_regions-requires
+upkeep_regions-requires g c = ap (λ (w : Shown). w.closed) c.in_ok-renewed.ensures.same.0 ∙ c.in_ok-renewed.ensures.same.1
+
+pub returns-clause-ok : goal.returns-clause-ok
+returns-clause-ok g c =
     let b = g.B.Based.base in
-    let told = c.self.invariant.0.told in
-    let v : Shown = shown_of s.seat s.trail.entries s.late s.closed s.groups.items in
-    subst (λ (w : Shown). Refuses upkeep_cause (known_by b g.B.Based.damaged w) (known_by b g.B.Based.damaged w) (Closed c.in-Some.call)) c.self.view_is
-    (closed_by (known_by b g.B.Based.damaged v) told.legal s.closed told.closing c.in-Some.call c.in-Some.is)
+    let then = c.upkeep_regions.new.self in
+    subst (λ (w : Shown). IfOk c.upkeep_regions.result (DidWork (known_by b g.B.Based.damaged w) (known_by b g.B.Based.damaged then))) c.in_ok-renewed.ensures.same.0 c.upkeep_regions.ensures.ok
 
-pub returns-in_default-due_table-clause-ok : goal.returns-in_default-due_table-clause-ok
-returns-in_default-due_table-clause-ok g c =
-    let s = c.self.inside in
+pub returns-clause-ordered : goal.returns-clause-ordered
+returns-clause-ordered g c =
+    let then = c.upkeep_regions.new.self in
+    subst (λ (w : Shown). IfOk c.upkeep_regions.result (λ work. AreOrdered w.groups → AreOrdered then.groups)) c.in_ok-renewed.ensures.same.0 c.upkeep_regions.ensures.ordered
+
+pub returns-clause-refused : goal.returns-clause-refused
+returns-clause-refused g c =
     let b = g.B.Based.base in
-    let told = c.self.invariant.0.told in
-    let v : Shown = shown_of s.seat s.trail.entries s.late s.closed s.groups.items in
-    subst (λ (w : Shown). DidWork (known_by b g.B.Based.damaged w) (known_by b g.B.Based.damaged w) Idle) c.self.view_is (did_work (known_by b g.B.Based.damaged v) told.legal (told.closing ∙ c.in_default.is) Idle)
-
-pub returns-in_default-due_table-clause-done : goal.returns-in_default-due_table-clause-done
-returns-in_default-due_table-clause-done g c = λ idle. subst (λ (w : Shown). HaveFlushed w.groups) c.self.view_is (subst HaveFlushed c.as_slice.ensures.value c.in_default-due_table.ensures.none)
-
-pub step_table-requires : goal.step_table-requires
-step_table-requires g c = c.in-Some-due_table.ensures.some.1 c.index_mut-group.result.now (subst (λ (gs : List Group). get_or gs c.in-Some-due_table.place c.index_mut-group.result.now ≡ c.index_mut-group.result.now) (sym c.as_slice.ensures.value) (sym c.index_mut-group.ensures.value))
-
-pub invariant_of-self : goal.invariant_of-self
-invariant_of-self g c =
-    let s = c.self.inside in (
-      stepped g.D.Disk g.met.D.Disk.told g.met.D.Disk.up_to_now g.B.Based.base g.B.Founded.sound g.B.Founded.premise g.B.Founded.began s.disk s.catalog s.standing s.groups.items s.trail s.late s.closed c.self.invariant.0 c.in_default.is
-          c.in-Some-due_table.place c.index_mut-group.result.now c.step_table.new.group (subst (λ (gs : List Group). c.in-Some-due_table.place < length gs) c.as_slice.ensures.value c.in-Some-due_table.ensures.some.0) (sym c.index_mut-group.ensures.value) c.step_table.new.disk c.in-Ok.ensures.ok,
-      c.self.invariant.1,
-    )
-
-pub invariant_of-self-in-Err-Memory : goal.invariant_of-self-in-Err-Memory
-invariant_of-self-in-Err-Memory g c =
-    let s = c.self.inside in (
-      stepped g.D.Disk g.met.D.Disk.told g.met.D.Disk.up_to_now g.B.Based.base g.B.Founded.sound g.B.Founded.premise g.B.Founded.began s.disk s.catalog s.standing s.groups.items s.trail s.late s.closed c.self.invariant.0 c.in_default.is
-          c.in-Some-due_table.place c.index_mut-group.result.now c.step_table.new.group (subst (λ (gs : List Group). c.in-Some-due_table.place < length gs) c.as_slice.ensures.value c.in-Some-due_table.ensures.some.0) (sym c.index_mut-group.ensures.value) c.step_table.new.disk ((rw c.in-Err-Memory.field-0-is at c.in-Err-Memory.ensures.refused) refl),
-      c.self.invariant.1,
-    )
-
-pub invariant_of-self-in-Err-WriteFault : goal.invariant_of-self-in-Err-WriteFault
-invariant_of-self-in-Err-WriteFault g c =
-    let s = c.self.inside in
-    let failed = (rw c.in-Err-WriteFault.field-0-is at c.in-Err-WriteFault.ensures.failed) refl in (
-      stopped g.D.Disk g.met.D.Disk.told g.met.D.Disk.up_to_now g.B.Based.base g.B.Founded.sound g.B.Founded.premise g.B.Founded.began s.disk s.catalog s.standing s.groups.items s.trail s.late s.closed c.self.invariant.0 c.in_default.is
-          c.in-Some-due_table.place c.index_mut-group.result.now c.step_table.new.group (subst (λ (gs : List Group). c.in-Some-due_table.place < length gs) c.as_slice.ensures.value c.in-Some-due_table.ensures.some.0) (sym c.index_mut-group.ensures.value) c.step_table.new.disk failed.0 c.call_count-calls.result s.seat c.call_count-calls.ensures failed.1 c.shut.new.trail c.shut.ensures.entries c.shut.ensures.room,
-      (c.self.invariant.1.0, more_by_clock g.C.Clock g.B.Founded.times g.B.Based.base s.clock s.trail.entries c.self.invariant.1.1 c.shut.new.trail.entries (record { seat = s.seat; calls = c.call_count-calls.result; act = Shut c.call_count-calls.result }) c.shut.ensures.entries refl),
-    )
-
-pub returns-in-Ok-clause-ok : goal.returns-in-Ok-clause-ok
-returns-in-Ok-clause-ok g c =
-    let s = c.self.inside in
-    let b = g.B.Based.base in
-    let told = c.self.invariant.0.told in
-    let v : Shown = shown_of s.seat s.trail.entries s.late s.closed s.groups.items in
-    subst (λ (w : Shown). DidWork (known_by b g.B.Based.damaged w) (known_by b g.B.Based.damaged v) Did) c.self.view_is (did_work (known_by b g.B.Based.damaged v) told.legal (told.closing ∙ c.in_default.is) Did)
-
-pub returns-in-Ok-clause-ordered : goal.returns-in-Ok-clause-ordered
-returns-in-Ok-clause-ordered g c =
-    let s = c.self.inside in
-    let inside : c.in-Some-due_table.place < length s.groups.items = subst (λ (gs : List Group). c.in-Some-due_table.place < length gs) c.as_slice.ensures.value c.in-Some-due_table.ensures.some.0 in
-    λ was.
-    let was_here = subst (λ (w : Shown). AreOrdered w.groups) (sym c.self.view_is) was in
-    all_put IsOrderedTable s.groups.items c.in-Some-due_table.place c.step_table.new.group was_here (c.in-Ok.ensures.ordered (all_at IsOrderedTable s.groups.items c.in-Some-due_table.place c.index_mut-group.result.now inside (sym c.index_mut-group.ensures.value) was_here))
-
-pub returns-in-Err-Memory-clause-refused : goal.returns-in-Err-Memory-clause-refused
-returns-in-Err-Memory-clause-refused g c =
-    let s = c.self.inside in
-    let b = g.B.Based.base in
-    let told = c.self.invariant.0.told in
-    let v : Shown = shown_of s.seat s.trail.entries s.late s.closed s.groups.items in
-    subst (λ (w : Shown). Refuses upkeep_cause (known_by b g.B.Based.damaged w) (known_by b g.B.Based.damaged v) Memory) c.self.view_is (work_no_memory (known_by b g.B.Based.damaged v) told.legal (told.closing ∙ c.in_default.is))
-
-pub returns-in-Err-WriteFault-clause-refused : goal.returns-in-Err-WriteFault-clause-refused
-returns-in-Err-WriteFault-clause-refused g c =
-    let s = c.self.inside in
-    let b = g.B.Based.base in
-    let told = c.self.invariant.0.told in
-    let v : Shown = shown_of s.seat s.trail.entries s.late s.closed s.groups.items in
-    let v' : Shown = record v { entries = c.shut.new.trail.entries; closed = Some c.call_count-calls.result } in
-    subst (λ (w : Shown). Refuses upkeep_cause (known_by b g.B.Based.damaged w) (known_by b g.B.Based.damaged v') WriteFault) c.self.view_is
-    (work_failed (known_by b g.B.Based.damaged v) told.legal c.shut.new.trail.entries c.call_count-calls.result c.call_count-calls.result c.shut.ensures.entries (invariant_of-self-in-Err-WriteFault g c).0.told.legal)
+    let then = c.upkeep_regions.new.self in
+    subst (λ (w : Shown). IfErr c.upkeep_regions.result (Refuses upkeep_cause (known_by b g.B.Based.damaged w) (known_by b g.B.Based.damaged then))) c.in_ok-renewed.ensures.same.0 c.upkeep_regions.ensures.refused

@@ -1,0 +1,34 @@
+use Rattle.std.proofs.Common.{rules, ◌≡◌, ◌<◌, ◌-◌, ◌+◌, ◌⊎◌, inl, inr, ℕ, Bool, true, false, length, refl, sym, subst, arith}
+use Rattle.std.specs.Prelude.{not}
+use Rattle.px_schema.specs.Spelled.{standing_bytes}
+use Rattle.px_schema.specs.declared.standing.Standing.{Standing}
+use Rattle.px_catalog.specs.Catalogue.{IsFull, generation_of, room_of, standing_of, steps_left}
+use Rattle.px_catalog.specs.declared.catalog.Catalog.{Catalog}
+use Rattle.px_server.specs.inner.Renewing.{IsFilled}
+use Rattle.px_server.proofs.renewing.renew_step.Goals as goal
+
+long : (room n : ℕ) → room ≡ 67108864 - (22 + n) → room < 32768 → 67076074 < n
+long room n is few = omega arith
+
+longer : (n : ℕ) → 67108841 < n → 67076074 < n
+longer n more = omega arith
+
+-- behind the last step it is full only by what stands
+filled : (old new : Catalog) → standing_of new ≡ standing_of old → 1 < steps_left new → room_of new ≡ 67108864 - (22 + length (standing_bytes (standing_of old))) → IsFull new → IsFilled new
+filled old new same more room (inl few) = inr (subst (λ (s : Standing). 67076074 < length (standing_bytes s)) (sym same) (long (room_of new) (length (standing_bytes (standing_of old))) room few))
+filled old new same more room (inr laid) = absurd (omega (arith, more, laid))
+
+stays_filled : (c : Catalog) → (generation_of c ≡ 18446744073709551615) ⊎ (67108841 < length (standing_bytes (standing_of c))) → IsFilled c
+stays_filled c (inl none) = inl none
+stays_filled c (inr more) = inr (longer (length (standing_bytes (standing_of c))) more)
+
+not_false : (b : Bool) → not b ≡ false → b ≡ true
+not_false true e = refl
+not_false false e = sym e
+
+pub returns-in-Ok-Rolled-clause-undone : goal.returns-in-Ok-Rolled-clause-undone
+returns-in-Ok-Rolled-clause-undone g c = λ no has.
+    filled c.args.catalog.now c.roll_step.new.self c.roll_step.ensures.same (c.in-Ok-Rolled.ensures.opened (search rules)).1 (c.in-Ok-Rolled.ensures.room has (search rules)) (c.is_full.ensures.0 (not_false c.is_full.result no))
+
+pub returns-in-Err-Full-clause-undone : goal.returns-in-Err-Full-clause-undone
+returns-in-Err-Full-clause-undone g c = λ no has. subst IsFilled (sym (c.in-Err-Full.ensures.untouched (inl (search rules))).1) (stays_filled c.args.catalog.now (c.in-Err-Full.ensures.full (search rules)))

@@ -1,0 +1,63 @@
+// The catalogue is renewed where it is full.
+ghost use Rattle.std.specs.Prelude.{◌≡◌, IfErr, IfOk, None, OnOk, false, Err};
+ghost use Rattle.px_calls.specs.Calls.{DidWork};
+ghost use Rattle.px_calls.specs.Causes.{Refuses, upkeep_cause};
+ghost use Rattle.px_calls.specs.declared.status.Work.TheVariants.{Did as DidStep};
+ghost use Rattle.px_catalog.specs.Catalogue.{HasCatalogue};
+ghost use Rattle.px_outside.specs.OnDisk.{Rose};
+ghost use Rattle.px_region.specs.declared.fault.JobFault.TheVariants.{Memory, WriteFault};
+ghost use Rattle.px_server.specs.Shown.{known_by};
+ghost use Rattle.px_server.specs.inner.Renewing.{HasRenewed, IsFilled, Renews};
+
+use crate::shutting::shut;
+use crate::{Founded, Server};
+use px_calls::StepFault;
+use px_catalog::{Catalog, CatalogFault};
+use px_gatelog::Rolled;
+use px_outside::{Clock, CountsCalls, Disk};
+use px_region::JobFault;
+use px_seat::Based;
+
+/// Makes a step of the catalogue's renewal. Whether one was made from which it gets room: none is where no generation is left, or where a
+/// segment with nothing but what stands is full. What stands stays.
+fn renew_step<D: Disk>(catalog: &mut Catalog, disk: &mut D) -> Result<bool, JobFault>
+    ensures renews { Renews ⟦<D as Disk>⟧ catalog.old catalog.new disk.old disk.new }
+    ensures ok { OnOk result (HasRenewed ⟦<D as Disk>⟧ catalog.old catalog.new disk.old disk.new) }
+    ensures undone { IfOk result (λ did. did ≡ false → HasCatalogue ⟦<D as Disk>⟧ catalog.old disk.old → IsFilled catalog.new) }
+    ensures failed { result ≡ Err WriteFault → Rose ⟦<D as Disk>⟧ disk.old disk.new }
+    ensures refused { result ≡ Err Memory → HasRenewed ⟦<D as Disk>⟧ catalog.old catalog.new disk.old disk.new }
+{
+    match catalog.roll_step(disk) {
+        Ok(Rolled::More) => Ok(true),
+        Ok(Rolled::Rolled) => Ok(!catalog.is_full()),
+        Err(CatalogFault::Full) => Ok(false),
+        Err(CatalogFault::WriteFault) => Err(JobFault::WriteFault),
+        Err(CatalogFault::Memory) => Err(JobFault::Memory),
+    }
+}
+
+impl<D: CountsCalls, C: Clock, B: Based + Founded> Server<D, C, B> {
+    /// Makes a step of the catalogue's renewal where it is full. Whether one was made from which it gets room.
+    pub(crate) fn renew_catalog(&mut self) -> Result<bool, StepFault>
+        ensures ok { IfOk result (λ _. DidWork (known_by B.base B.damaged self.old) (known_by B.base B.damaged self.new) DidStep) }
+        ensures same { IfOk result (λ _. (self.new ≡ self.old) × (self.old.closed ≡ None)) }
+        ensures refused { IfErr result (Refuses upkeep_cause (known_by B.base B.damaged self.old) (known_by B.base B.damaged self.new)) }
+    {
+        if let Some(call) = self.closed {
+            return Err(StepFault::Closed { call });
+        }
+        if !self.catalog.is_full() {
+            return Ok(false);
+        }
+        match renew_step(&mut self.catalog, &mut self.disk) {
+            Ok(did) => Ok(did),
+            Err(JobFault::Memory) => Err(StepFault::Memory),
+            Err(JobFault::WriteFault) => {
+                let calls = self.disk.call_count();
+                self.closed = Some(calls);
+                shut(&mut self.trail, self.seat, calls);
+                Err(StepFault::WriteFault)
+            }
+        }
+    }
+}
