@@ -15,10 +15,7 @@ mod first;
 mod flushes;
 #[cfg(test)]
 mod held;
-#[cfg(test)]
-mod indexes;
-#[cfg(test)]
-mod runs;
+pub mod runs;
 #[cfg(test)]
 mod scripts;
 #[cfg(test)]
