@@ -15,6 +15,8 @@ use Rattle.px_planned.specs.Queries.{query_of}
 use Rattle.px_planned.specs.declared.planned.Planned.{Planned}
 use Rattle.px_scan.specs.Turns.{IsBound}
 use Rattle.px_deleting.specs.Deleting.{CanBegin}
+use Rattle.px_verifying.specs.declared.answer.VerifyKind.{VerifyKind}
+use Rattle.px_verifying.specs.Turns.{MayBegin}
 use Rattle.px_tests_steps.specs.Bare.{all_rows, bare, empty, one_gone}
 
 pub sees : Sees bare bare
@@ -93,3 +95,9 @@ bound_to p e = record { drawn = subst (λ (t : ℕ). IsDrawn bare t) (sym e) dra
 -- what a DELETE asks of its first step
 pub begins_on : (p : Planned) → p.table.id.0 ≡ 3 → CanBegin bare p
 begins_on p e = record { legal = legal-none empty; bound = bound_to p e }
+
+-- what a verification asks of its first step: numbers 3 and 2 were drawn
+
+pub may_begin : (v : VerifyKind) → MayBegin (record { 0 = 3 }) (record { 0 = 2 }) v bare
+unfolding catalogue_from
+may_begin v = λ is. (omega arith, omega arith)

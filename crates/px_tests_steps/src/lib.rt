@@ -1,4 +1,5 @@
-//! Tests of px_batch, px_scan, px_verify, px_select and px_deleting over the least server there is: no table stands on it, so all of them are refused.
+//! Tests of px_batch, px_scan, px_verify, px_verifying, px_select and px_deleting over the least server there is: no table stands on it, so all of them are
+//! refused.
 //!
 //! `Bare` makes each call of `Steps` with the answer that an empty catalogue asks for. Its contract is that of the trait, so that the clauses of
 //! the calls are shown to be met together, and the drivers are run once at a concrete type.
@@ -13,3 +14,5 @@ mod refused;
 mod reports;
 #[cfg(test)]
 mod selects;
+#[cfg(test)]
+mod verifications;

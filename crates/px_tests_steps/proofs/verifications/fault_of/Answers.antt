@@ -1,7 +1,7 @@
 use Rattle.std.proofs.Crossing.{crosses}
 use denote.Param.Send.{sendable}
-use Rattle.px_tests_verifying.proofs.Bares.{may_begin}
-use Rattle.px_tests_verifying.proofs.kinds.fault_of.Goals as goal
+use Rattle.px_tests_steps.proofs.Bares.{may_begin}
+use Rattle.px_tests_steps.proofs.verifications.fault_of.Goals as goal
 
 pub run_verify-requires : goal.run_verify-requires
 run_verify-requires g c = (search (sendable, crosses) depth 40, may_begin c.args.kind)

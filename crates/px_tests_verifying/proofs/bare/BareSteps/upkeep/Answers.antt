@@ -1,5 +1,0 @@
-use Rattle.px_tests_verifying.proofs.Bares.{finds}
-use Rattle.px_tests_verifying.proofs.bare.BareSteps.upkeep.Goals as goal
-
-pub returns-clause-ok : goal.returns-clause-ok
-returns-clause-ok c = finds
