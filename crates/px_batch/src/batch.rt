@@ -53,7 +53,8 @@ fn begin<S: Steps>(s: &mut S, table: TableId, changes: &Changes) -> (BatchState,
     requires rows { length changes.now ≤ 1000 }
     requires distinct { is_distinct (rows_of changes.now) ≡ true }
     requires fits { AreFitting (S.known s.old) table.0 changes.now }
-    ensures { Turns S.sound table changes.now BatchState.Beginning (S.known s.old) result.0 (S.known s.new) result.1 }
+    ensures turns { Turns S.sound table changes.now BatchState.Beginning (S.known s.old) result.0 (S.known s.new) result.1 }
+    ensures one_call { S.one_call s.old s.new }
 {
     match s.begin(table, changes) {
         Ok(t) => (BatchState::Marking(t), BatchTurn::Stepped),
@@ -83,7 +84,8 @@ fn begin<S: Steps>(s: &mut S, table: TableId, changes: &Changes) -> (BatchState,
 
 /// Upkeep, until there is none left. Then the batch is begun again.
 fn settle<S: Steps>(s: &mut S) -> (BatchState, BatchTurn)
-    ensures { (table : TableNumber) → (cs : List RowChange) → AreFitting (S.known s.old) table.0 cs → Turns S.sound table cs BatchState.Settling (S.known s.old) result.0 (S.known s.new) result.1 }
+    ensures turns { (table : TableNumber) → (cs : List RowChange) → AreFitting (S.known s.old) table.0 cs → Turns S.sound table cs BatchState.Settling (S.known s.old) result.0 (S.known s.new) result.1 }
+    ensures one_call { S.one_call s.old s.new }
 {
     match s.upkeep() {
         Ok(Work::Did) => (BatchState::Settling, BatchTurn::Stepped),
@@ -112,7 +114,8 @@ fn settle<S: Steps>(s: &mut S) -> (BatchState, BatchTurn)
 /// Marks the index rows of one region.
 fn mark<S: Steps>(s: &mut S, mut t: Ticket) -> (BatchState, BatchTurn)
     requires { TicketIn (S.known s.old) t Marking }
-    ensures { (cs : List RowChange) → Turns S.sound t.table cs (BatchState.Marking t) (S.known s.old) result.0 (S.known s.new) result.1 }
+    ensures turns { (cs : List RowChange) → Turns S.sound t.table cs (BatchState.Marking t) (S.known s.old) result.0 (S.known s.new) result.1 }
+    ensures one_call { S.one_call s.old s.new }
 {
     match s.mark(&mut t) {
         Ok(Marks::More) => (BatchState::Marking(t), BatchTurn::Stepped),
@@ -132,7 +135,8 @@ fn mark<S: Steps>(s: &mut S, mut t: Ticket) -> (BatchState, BatchTurn)
 /// Writes rows of one region. While an earlier batch is pending on one, the same step is tried again.
 fn write<S: Steps>(s: &mut S, mut t: Ticket) -> (BatchState, BatchTurn)
     requires { TicketIn (S.known s.old) t Writing }
-    ensures { (cs : List RowChange) → Turns S.sound t.table cs (BatchState.Writing t) (S.known s.old) result.0 (S.known s.new) result.1 }
+    ensures turns { (cs : List RowChange) → Turns S.sound t.table cs (BatchState.Writing t) (S.known s.old) result.0 (S.known s.new) result.1 }
+    ensures one_call { S.one_call s.old s.new }
 {
     match s.write(&mut t) {
         Ok(Writes::More) => (BatchState::Writing(t), BatchTurn::Stepped),
@@ -153,7 +157,8 @@ fn write<S: Steps>(s: &mut S, mut t: Ticket) -> (BatchState, BatchTurn)
 /// Verifies the index rows of one region. A failure here doesn't fail the batch.
 fn verify<S: Steps>(s: &mut S, mut t: Ticket) -> (BatchState, BatchTurn)
     requires { TicketIn (S.known s.old) t Verifying }
-    ensures { (cs : List RowChange) → Turns S.sound t.table cs (BatchState.Verifying t) (S.known s.old) result.0 (S.known s.new) result.1 }
+    ensures turns { (cs : List RowChange) → Turns S.sound t.table cs (BatchState.Verifying t) (S.known s.old) result.0 (S.known s.new) result.1 }
+    ensures one_call { S.one_call s.old s.new }
 {
     match s.verify_marks(&mut t) {
         Ok(Verifies::More) => (BatchState::Verifying(t), BatchTurn::Stepped),
@@ -167,7 +172,8 @@ fn verify<S: Steps>(s: &mut S, mut t: Ticket) -> (BatchState, BatchTurn)
 /// Ends the batch.
 fn end<S: Steps>(s: &mut S, t: Ticket) -> (BatchState, BatchTurn)
     requires { CanEnd (S.known s.old) t }
-    ensures { (cs : List RowChange) → Turns S.sound t.table cs (BatchState.Ending t) (S.known s.old) result.0 (S.known s.new) result.1 }
+    ensures turns { (cs : List RowChange) → Turns S.sound t.table cs (BatchState.Ending t) (S.known s.old) result.0 (S.known s.new) result.1 }
+    ensures one_call { S.one_call s.old s.new }
 {
     let receipt = s.end(t);
     (BatchState::Over, BatchTurn::Over(Ok(receipt)))
@@ -177,7 +183,8 @@ fn end<S: Steps>(s: &mut S, t: Ticket) -> (BatchState, BatchTurn)
 fn leave<S: Steps>(s: &mut S, t: Ticket, fault: BatchFault) -> (BatchState, BatchTurn)
     requires can { CanAbandon (S.known s.old) t }
     requires told { StopIs fault (S.known s.old) }
-    ensures { (cs : List RowChange) → Turns S.sound t.table cs (BatchState.Leaving t fault) (S.known s.old) result.0 (S.known s.new) result.1 }
+    ensures turns { (cs : List RowChange) → Turns S.sound t.table cs (BatchState.Leaving t fault) (S.known s.old) result.0 (S.known s.new) result.1 }
+    ensures one_call { S.one_call s.old s.new }
 {
     s.abandon(t);
     (BatchState::Over, BatchTurn::Over(Err(fault)))
@@ -195,7 +202,8 @@ pub(crate) fn advance<S: Steps>(
     requires distinct { is_distinct (rows_of changes.now) ≡ true }
     requires fits { Fits table changes.now state (S.known s.old) }
     requires going { IsGoing state }
-    ensures { Turns S.sound table changes.now state (S.known s.old) result.0 (S.known s.new) result.1 }
+    ensures turns { Turns S.sound table changes.now state (S.known s.old) result.0 (S.known s.new) result.1 }
+    ensures one_call { S.one_call s.old s.new }
 {
     match state {
         BatchState::Beginning => begin(s, table, changes),

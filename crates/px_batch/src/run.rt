@@ -44,6 +44,7 @@ impl BatchRun {
         ensures table { self.new.table ≡ self.old.table }
         ensures changes { self.new.changes ≡ self.old.changes }
         ensures turns { Turns S.sound self.old.table self.old.changes self.old.state (S.known s.old) self.new.state (S.known s.new) result }
+        ensures one_call { S.one_call s.old s.new }
     {
         let state = mem::replace(&mut self.state, BatchState::Over);
         let (state, turn) = batch::advance(s, self.table, &self.changes, state);

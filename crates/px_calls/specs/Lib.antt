@@ -3,3 +3,4 @@ pub mod Requires
 pub mod Causes
 pub mod Looks
 pub mod Calls
+pub mod Counts

@@ -6,6 +6,7 @@
 //! seat's batches and points go on from call to call, and that a call of one seat on a shared server is a call of its own.
 #![tactic(auto)]
 
+mod count;
 mod definition;
 mod fault;
 mod laws;
@@ -14,6 +15,7 @@ mod status;
 mod steps;
 mod ticket;
 
+pub use count::count_after;
 pub use definition::{Definition, Made};
 pub use fault::StepFault;
 pub use laws::{law_asked, law_points, law_runs, law_tickets};

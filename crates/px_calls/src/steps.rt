@@ -21,6 +21,10 @@ pub trait Steps {
     /// What the seat that calls knows of the trail.
     ghost known: { Self → Known };
 
+    /// That one call leads from the first to the second. Nothing more is told of it, so code over any steps can say it only where it makes exactly one
+    /// call; what counts its calls says by it that one more was made.
+    ghost one_call: { Self → Self → Type 0 };
+
     /// That what was opened is sound. What is told of rows and index rows rests on it; what is told of the trail doesn't.
     ghost sound: { Type 0 };
 
@@ -32,12 +36,14 @@ pub trait Steps {
 
     /// The table of a name, with its indexes.
     fn find(&mut self, name: &Name) -> Result<Found, StepFault>
+        ensures one_call { one_call self.old self.new }
         ensures ok { IfOk result (DidFind (known self.old) (known self.new) name.now) }
         ensures refused { IfErr result (Refuses (find_cause name.now) (known self.old) (known self.new)) };
 
     /// Makes a table or an index, makes an index active, disables one or builds it again, or drops one.
     fn define(&mut self, definition: &Definition) -> Result<Made, StepFault>
         requires { CanDefine sound (known self.old) definition.now }
+        ensures one_call { one_call self.old self.new }
         ensures ok { IfOk result (DidDefine (known self.old) (known self.new) definition.now) }
         ensures refused { IfErr result (Refuses (define_cause definition.now) (known self.old) (known self.new)) };
 
@@ -47,12 +53,14 @@ pub trait Steps {
         requires rows { length changes.now ≤ 1000 }
         requires distinct { is_distinct (rows_of changes.now) ≡ true }
         requires fits { AreFitting (known self.old) table.0 changes.now }
+        ensures one_call { one_call self.old self.new }
         ensures ok { IfOk result (DidBegin sound (known self.old) (known self.new) table changes.now) }
         ensures refused { IfErr result (Refuses (begin_cause sound table.0 changes.now) (known self.old) (known self.new)) };
 
     /// Phase 1 on one region: marks the batch's index rows. It takes no memory.
     fn mark(&mut self, t: &mut Ticket) -> Result<Marks, StepFault>
         requires { TicketIn (known self.old) t.old Marking }
+        ensures one_call { one_call self.old self.new }
         ensures ticket { t.new ≡ t.old }
         ensures ok { IfOk result (DidMark (known self.old) (known self.new) t.old) }
         ensures refused { IfErr result (Refuses write_cause (known self.old) (known self.new)) };
@@ -60,6 +68,7 @@ pub trait Steps {
     /// Phase 2 on one region: writes rows, each once no earlier batch is pending on it. It takes no memory.
     fn write(&mut self, t: &mut Ticket) -> Result<Writes, StepFault>
         requires { TicketIn (known self.old) t.old Writing }
+        ensures one_call { one_call self.old self.new }
         ensures ticket { t.new ≡ t.old }
         ensures ok { IfOk result (DidWrite (known self.old) (known self.new) t.old) }
         ensures refused { IfErr result (Refuses (rows_cause t.old.table.0 t.old.stamp) (known self.old) (known self.new)) };
@@ -67,6 +76,7 @@ pub trait Steps {
     /// Phase 3 on one region: verifies the index rows of rows that no other batch changed. It takes no memory.
     fn verify_marks(&mut self, t: &mut Ticket) -> Result<Verifies, StepFault>
         requires { TicketIn (known self.old) t.old Verifying }
+        ensures one_call { one_call self.old self.new }
         ensures ticket { t.new ≡ t.old }
         ensures ok { IfOk result (DidVerify (known self.old) (known self.new) t.old) }
         ensures refused { IfErr result (Refuses write_cause (known self.old) (known self.new)) };
@@ -74,17 +84,20 @@ pub trait Steps {
     /// Ends the batch. It takes no memory.
     fn end(&mut self, t: Ticket) -> Receipt
         requires { CanEnd (known self.old) t }
+        ensures one_call { one_call self.old self.new }
         ensures adds { Adds (known self.old) (known self.new) (Ended t.table t.stamp) }
         ensures receipt { IsReceipt (known self.new) t result };
 
     /// Gives up a batch that can't go on, since the server is closed.
     fn abandon(&mut self, t: Ticket)
         requires { CanAbandon (known self.old) t }
-        ensures { Sees (known self.old) (known self.new) };
+        ensures one_call { one_call self.old self.new }
+        ensures sees { Sees (known self.old) (known self.new) };
 
     /// Opens a point of the table: a current one, or one as of an SCN.
     fn open_point(&mut self, table: TableId, scn: Option<u64>) -> Result<Point, StepFault>
         requires { IsScn scn }
+        ensures one_call { one_call self.old self.new }
         ensures ok { IfOk result (DidOpen (known self.old) (known self.new) table scn) }
         ensures refused { IfErr result (Refuses (open_cause table.0 scn) (known self.old) (known self.new)) };
 
@@ -92,6 +105,7 @@ pub trait Steps {
     fn look(&mut self, p: &Point, path: &Path, after: &Option<Key>) -> Result<Chunk, StepFault>
         requires open { IsOpen (known self.old) p.now }
         requires path { CanLook p.now path.now }
+        ensures one_call { one_call self.old self.new }
         ensures ok { IfOk result (DidLook sound (known self.old) (known self.new) p.now path.now after.now) }
         ensures refused { IfErr result (Refuses read_cause (known self.old) (known self.new)) };
 
@@ -99,6 +113,7 @@ pub trait Steps {
     fn consult(&mut self, p: &Point, d: &mut Doubt) -> Result<Option<Held>, StepFault>
         requires open { IsOpen (known self.old) p.now }
         requires doubt { CanConsult p.now d.old }
+        ensures one_call { one_call self.old self.new }
         ensures ok { IfOk result (DidConsult sound (known self.old) (known self.new) p.now d.old d.new) }
         ensures same { IfErr result (λ f. d.new ≡ d.old) }
         ensures refused { IfErr result (Refuses read_cause (known self.old) (known self.new)) };
@@ -106,6 +121,7 @@ pub trait Steps {
     /// Repairs the index row of a doubt, by a verdict of its own. It may come after the point is closed.
     fn fix(&mut self, d: &Doubt) -> Result<Fixing, StepFault>
         requires { IsSome d.now.verdict }
+        ensures one_call { one_call self.old self.new }
         ensures ok { IfOk result (DidFix (known self.old) (known self.new) d.now) }
         ensures refused { IfErr result (Refuses fix_cause (known self.old) (known self.new)) };
 
@@ -115,29 +131,34 @@ pub trait Steps {
         requires some { rows.now ≢ [] }
         requires few { length rows.now ≤ 64 }
         requires rows { MayBase sound (known self.old) p.now index.0 rows.now }
+        ensures one_call { one_call self.old self.new }
         ensures ok { IfOk result (DidBase (known self.old) (known self.new) p.now index rows.now) }
         ensures refused { IfErr result (Refuses base_cause (known self.old) (known self.new)) };
 
     /// Closes the point. It takes no memory.
     fn close_point(&mut self, p: Point)
         requires { IsOpen (known self.old) p }
-        ensures { Adds (known self.old) (known self.new) (Released p.table p.stamp) };
+        ensures one_call { one_call self.old self.new }
+        ensures adds { Adds (known self.old) (known self.new) (Released p.table p.stamp) };
 
     /// Asks for what upkeep is to do before it is due, of each region of each table that stands. It makes no step of it, adds nothing to the trail and
     /// touches no file: `upkeep` makes the steps, and isn't Idle before they are made. It is refused only where the server is closed.
     fn order(&mut self, job: Ordered) -> Result<(), StepFault>
+        ensures one_call { one_call self.old self.new }
         ensures ok { IfOk result (DidOrder (known self.old) (known self.new)) }
         ensures ordered { IfOk result (λ _. ordered self.new) }
         ensures refused { IfErr result (Refuses order_cause (known self.old) (known self.new)) };
 
     /// One step of one job of upkeep. It is Idle where no region of a table that stands has a step to make: then all that was ordered is done.
     fn upkeep(&mut self) -> Result<Work, StepFault>
+        ensures one_call { one_call self.old self.new }
         ensures ok { IfOk result (DidWork (known self.old) (known self.new)) }
         ensures done { IfOk result (λ work. IsIdle work → done self.new) }
         ensures refused { IfErr result (Refuses upkeep_cause (known self.old) (known self.new)) };
 
     /// The table's last stamp and horizon, and counts of its cells, files and index rows.
     fn status(&mut self, table: TableId) -> Result<Status, StepFault>
+        ensures one_call { one_call self.old self.new }
         ensures ok { IfOk result (DidCount (known self.old) (known self.new) table) }
         ensures refused { IfErr result (Refuses (status_cause table.0) (known self.old) (known self.new)) };
 

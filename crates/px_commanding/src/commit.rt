@@ -76,7 +76,8 @@ fn unfound(fault: StepFault) -> BatchFault
 
 /// Finds the table of the changes.
 fn find<S: Steps>(alloc: Global, s: &mut S, held: &HeldChanges) -> CommitTurn
-    ensures { Turns S.sound held.now CommitRun.Finding (S.known s.old) (S.known s.new) result }
+    ensures turns { Turns S.sound held.now CommitRun.Finding (S.known s.old) (S.known s.new) result }
+    ensures one_call { S.one_call s.old s.new }
 {
     match s.find(held.name()) {
         Ok(found) => {
@@ -114,7 +115,8 @@ fn ended(
 /// Goes on with the batch.
 fn change<S: Steps>(s: &mut S, mut run: BatchRun, receipts: Vec<Receipt>) -> CommitTurn
     requires { (h : HeldData) × Fits h (CommitRun.Changing run receipts) (S.known s.old) }
-    ensures { (h : HeldData) → Fits h (CommitRun.Changing run receipts) (S.known s.old) → Turns S.sound h (CommitRun.Changing run receipts) (S.known s.old) (S.known s.new) result }
+    ensures turns { (h : HeldData) → Fits h (CommitRun.Changing run receipts) (S.known s.old) → Turns S.sound h (CommitRun.Changing run receipts) (S.known s.old) (S.known s.new) result }
+    ensures one_call { S.one_call s.old s.new }
 {
     match run.step(s) {
         BatchTurn::Stepped => CommitTurn::Stepped(CommitRun::Changing(run, receipts)),
@@ -138,6 +140,7 @@ impl CommitRun {
     pub fn step<S: Steps>(self, alloc: Global, s: &mut S, held: &HeldChanges) -> CommitTurn
         requires { Fits held.now self (S.known s.old) }
         ensures turns { Turns S.sound held.now self (S.known s.old) (S.known s.new) result }
+        ensures one_call { S.one_call s.old s.new }
     {
         match self {
             CommitRun::Finding => find(alloc, s, held),

@@ -57,7 +57,8 @@ fn uncounted(fault: StepFault) -> CountFault
 
 /// Finds the table.
 fn find<S: Steps>(s: &mut S, name: &Name) -> CountTurn
-    ensures { (n : ℕ) → Fits n name.now CountRun.Finding (S.known s.old) → Turns n name.now CountRun.Finding (S.known s.old) (S.known s.new) result }
+    ensures turns { (n : ℕ) → Fits n name.now CountRun.Finding (S.known s.old) → Turns n name.now CountRun.Finding (S.known s.old) (S.known s.new) result }
+    ensures one_call { S.one_call s.old s.new }
 {
     match s.find(name) {
         Ok(found) => {
@@ -71,7 +72,8 @@ fn find<S: Steps>(s: &mut S, name: &Name) -> CountTurn
 
 /// Counts.
 fn count<S: Steps>(s: &mut S, name: &Name, table: TableId) -> CountTurn
-    ensures { (n : ℕ) → Fits n name.now (CountRun.Counting table) (S.known s.old) → Turns n name.now (CountRun.Counting table) (S.known s.old) (S.known s.new) result }
+    ensures turns { (n : ℕ) → Fits n name.now (CountRun.Counting table) (S.known s.old) → Turns n name.now (CountRun.Counting table) (S.known s.old) (S.known s.new) result }
+    ensures one_call { S.one_call s.old s.new }
 {
     match s.status(table) {
         Ok(status) => CountTurn::Over(Ok(status)),
@@ -90,6 +92,7 @@ impl CountRun {
     /// Makes one call, for the table of this name.
     pub fn step<S: Steps>(self, s: &mut S, name: &Name) -> CountTurn
         ensures turns { (n : ℕ) → Fits n name.now self (S.known s.old) → Turns n name.now self (S.known s.old) (S.known s.new) result }
+        ensures one_call { S.one_call s.old s.new }
     {
         match self {
             CountRun::Finding => find(s, name),

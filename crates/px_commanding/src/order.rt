@@ -48,6 +48,7 @@ fn undone(fault: StepFault) -> OrderFault
 fn order<S: Steps>(s: &mut S, job: Ordered) -> OrderTurn
     ensures turns { Turns (S.known s.old) (S.known s.new) result }
     ensures leads { Leads (S.ordered s.new) (S.done s.new) (OrderRun.Ordering job) result }
+    ensures one_call { S.one_call s.old s.new }
 {
     match s.order(job) {
         Ok(()) => OrderTurn::Stepped(OrderRun::Working(job)),
@@ -59,6 +60,7 @@ fn order<S: Steps>(s: &mut S, job: Ordered) -> OrderTurn
 fn work<S: Steps>(s: &mut S, job: Ordered) -> OrderTurn
     ensures turns { Turns (S.known s.old) (S.known s.new) result }
     ensures leads { Leads (S.ordered s.new) (S.done s.new) (OrderRun.Working job) result }
+    ensures one_call { S.one_call s.old s.new }
 {
     match s.upkeep() {
         Ok(Work::Did) => OrderTurn::Stepped(OrderRun::Working(job)),
@@ -88,6 +90,7 @@ impl OrderRun {
     pub fn step<S: Steps>(self, s: &mut S) -> OrderTurn
         ensures turns { Turns (S.known s.old) (S.known s.new) result }
         ensures leads { Leads (S.ordered s.new) (S.done s.new) self result }
+        ensures one_call { S.one_call s.old s.new }
     {
         match self {
             OrderRun::Ordering(job) => order(s, job),

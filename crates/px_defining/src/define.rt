@@ -70,7 +70,8 @@ fn refused(f: StepFault) -> (DefineState, DefineTurn)
 /// Makes the definition.
 fn define<S: Steps>(s: &mut S, definition: &Definition) -> (DefineState, DefineTurn)
     requires { CanDefine S.sound (S.known s.old) definition.now }
-    ensures { Turns S.sound definition.now DefineState.Defining (S.known s.old) result.0 (S.known s.new) result.1 }
+    ensures turns { Turns S.sound definition.now DefineState.Defining (S.known s.old) result.0 (S.known s.new) result.1 }
+    ensures one_call { S.one_call s.old s.new }
 {
     match s.define(definition) {
         Ok(made) => (DefineState::Over, DefineTurn::Over(Ok(made))),
@@ -80,7 +81,8 @@ fn define<S: Steps>(s: &mut S, definition: &Definition) -> (DefineState, DefineT
 
 /// Upkeep, until there is none left. Then the definition is tried again.
 fn settle<S: Steps>(s: &mut S) -> (DefineState, DefineTurn)
-    ensures { (x : Definitions) → CanDefine S.sound (S.known s.old) x → Turns S.sound x DefineState.Settling (S.known s.old) result.0 (S.known s.new) result.1 }
+    ensures turns { (x : Definitions) → CanDefine S.sound (S.known s.old) x → Turns S.sound x DefineState.Settling (S.known s.old) result.0 (S.known s.new) result.1 }
+    ensures one_call { S.one_call s.old s.new }
 {
     match s.upkeep() {
         Ok(Work::Did) => (DefineState::Settling, DefineTurn::Stepped),
@@ -125,6 +127,7 @@ impl DefineRun {
         requires going { IsGoing self.old.state }
         ensures definition { self.new.definition ≡ self.old.definition }
         ensures turns { Turns S.sound self.old.definition self.old.state (S.known s.old) self.new.state (S.known s.new) result }
+        ensures one_call { S.one_call s.old s.new }
     {
         let (state, turn) = match self.state {
             DefineState::Defining => define(s, &self.definition),

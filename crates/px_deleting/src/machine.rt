@@ -113,7 +113,8 @@ fn found(alloc: Global, run: &SelectRun, selected: Selected) -> (DeleteState, De
 /// Goes on to find the rows.
 fn find<S: Steps>(s: &mut S, alloc: Global, mut run: SelectRun) -> (DeleteState, DeleteTurn)
     requires { (p : Plans) × Fits S.sound p (DeleteState.Finding run) (S.known s.old) }
-    ensures { (p : Plans) → Fits S.sound p (DeleteState.Finding run) (S.known s.old) → DeleteTurns S.sound p (DeleteState.Finding run) (S.known s.old) result.0 (S.known s.new) result.1 }
+    ensures turns { (p : Plans) → Fits S.sound p (DeleteState.Finding run) (S.known s.old) → DeleteTurns S.sound p (DeleteState.Finding run) (S.known s.old) result.0 (S.known s.new) result.1 }
+    ensures one_call { S.one_call s.old s.new }
 {
     match run.step(s) {
         SelectTurn::Stepped => (DeleteState::Finding(run), DeleteTurn::Stepped),
@@ -195,7 +196,8 @@ fn remove<S: Steps>(
     left: Left,
 ) -> (DeleteState, DeleteTurn)
     requires { (p : Plans) × Fits S.sound p (DeleteState.Removing run left) (S.known s.old) }
-    ensures { (p : Plans) → Fits S.sound p (DeleteState.Removing run left) (S.known s.old) → DeleteTurns S.sound p (DeleteState.Removing run left) (S.known s.old) result.0 (S.known s.new) result.1 }
+    ensures turns { (p : Plans) → Fits S.sound p (DeleteState.Removing run left) (S.known s.old) → DeleteTurns S.sound p (DeleteState.Removing run left) (S.known s.old) result.0 (S.known s.new) result.1 }
+    ensures one_call { S.one_call s.old s.new }
 {
     match run.step(s) {
         BatchTurn::Stepped => (DeleteState::Removing(run, left), DeleteTurn::Stepped),
@@ -224,7 +226,8 @@ pub(crate) fn advance<S: Steps>(
 ) -> (DeleteState, DeleteTurn)
     requires fits { (p : Plans) × Fits S.sound p state (S.known s.old) }
     requires going { IsGoing state }
-    ensures { (p : Plans) → Fits S.sound p state (S.known s.old) → DeleteTurns S.sound p state (S.known s.old) result.0 (S.known s.new) result.1 }
+    ensures turns { (p : Plans) → Fits S.sound p state (S.known s.old) → DeleteTurns S.sound p state (S.known s.old) result.0 (S.known s.new) result.1 }
+    ensures one_call { S.one_call s.old s.new }
 {
     match state {
         DeleteState::Finding(run) => find(s, alloc, run),

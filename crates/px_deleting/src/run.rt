@@ -38,6 +38,7 @@ impl DeleteRun {
         requires fits { (p : Plans) × Fits S.sound p self.old.state (S.known s.old) }
         requires going { IsGoing self.old.state }
         ensures turns { (p : Plans) → Fits S.sound p self.old.state (S.known s.old) → DeleteTurns S.sound p self.old.state (S.known s.old) self.new.state (S.known s.new) result }
+        ensures one_call { S.one_call s.old s.new }
     {
         let state = mem::replace(&mut self.state, DeleteState::Over);
         let (state, turn) = machine::advance(s, self.alloc, state);

@@ -1,11 +1,10 @@
 -- An index that is built behind its definition.
-use Rattle.std.proofs.Common.{ℕ, ◌≡◌, ◌<◌, ◌≤◌, ◌+◌, ◌==◌, if◌then◌else◌, Bool, true, false, Option, None, Some, Result, Ok, Err, List, [], ◌∷◌, ◌++◌, length, take, drop, refl, sym, ◌∙◌, ap, subst, arith, ◌⊎◌, inl, inr}
+use Rattle.std.proofs.Common.{ℕ, ◌≡◌, ◌<◌, ◌+◌, ◌==◌, if◌then◌else◌, Bool, true, false, Option, None, Some, List, [], ◌∷◌, ◌++◌, length, take, drop, refl, sym, ◌∙◌, ap, subst, arith, ◌⊎◌, inl, inr}
 use Rattle.std.specs.Option.{option_map}
 use Rattle.std.specs.Str.{bytes_eq}
 use Rattle.std.proofs.lemmas.Bool.{cases_eq}
 use Rattle.std.proofs.lemmas.List.{take-append-drop, take-append-le}
 use Rattle.std.proofs.Math.Seq.{take-length}
-use Rattle.px_lex.specs.Script.{seen_piece}
 use Rattle.px_ast.specs.declared.definition.IndexAction.{IndexAction}
 use Rattle.px_ast.specs.declared.definition.IndexAction.TheVariants.{Disable, Rebuild}
 use Rattle.px_ast.specs.declared.statement.Statement.{Statement}
@@ -32,7 +31,7 @@ use Rattle.px_calls.specs.declared.definition.Definition.{Definition}
 use Rattle.px_calls.specs.declared.definition.Definition.TheVariants as d
 use Rattle.px_calls.specs.declared.definition.Made.{Made as Answered}
 use Rattle.px_calls.specs.Calls.{IsFound, IsMade, act_of, made_index}
-use Rattle.px_calls.specs.Known.{Adds, Extends, Known, Ran, outline}
+use Rattle.px_calls.specs.Known.{Adds, Extends, Known}
 use Rattle.px_calls.specs.Requires.{IsDrawn}
 use Rattle.px_calls.proofs.Runs.{may-come}
 use Rattle.px_calls.proofs.Stays.{drawn-stays}

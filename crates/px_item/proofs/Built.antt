@@ -1,16 +1,13 @@
 -- How an item goes on whose index is built behind its definition.
-use Rattle.std.proofs.Common.{ℕ, ◌≡◌, ◌≤◌, None, Some, Result, Ok, Err, List, [], ◌∷◌, ◌++◌, length, refl, sym, ◌∙◌, ap, subst, arith, ◌⊎◌, inl, inr}
+use Rattle.std.proofs.Common.{ℕ, ◌≡◌, None, Some, Result, Ok, Err, List, [], ◌++◌, refl, sym, ◌∙◌, subst, arith, ◌⊎◌, inl, inr}
 use Rattle.px_lex.specs.Script.{seen_piece}
 use Rattle.px_ast.specs.declared.statement.Statement.{Statement}
 use Rattle.px_values.specs.declared.name.IndexId.{IndexId}
 use Rattle.px_values.specs.declared.name.TableId.{TableId}
-use Rattle.px_create.specs.Tables.{new_table}
 use Rattle.px_trail.specs.declared.entry.Act.{Act}
-use Rattle.px_trail.specs.Legal.{IsLegal}
 use Rattle.px_calls.specs.declared.definition.Definition.{Definition}
-use Rattle.px_calls.specs.declared.definition.Definition.TheVariants as d
 use Rattle.px_calls.specs.declared.definition.Made.{Made}
-use Rattle.px_calls.specs.Calls.{act_of, made_index}
+use Rattle.px_calls.specs.Calls.{made_index}
 use Rattle.px_calls.specs.Known.{Known, Ran, outline}
 use Rattle.px_defining.specs.Turns as define
 use Rattle.px_defining.specs.declared.define.DefineRun.{DefineRun}
@@ -20,7 +17,6 @@ use Rattle.px_upkeep.specs.declared.build.BuildFault.{BuildFault}
 use Rattle.px_upkeep.specs.declared.build.BuildRun.{BuildRun}
 use Rattle.px_upkeep.specs.declared.build.BuildTurn.TheVariants as bt
 use Rattle.px_upkeep.proofs.Whole as upkeep
-use Rattle.px_reply.specs.declared.refusal.Refusal.TheVariants as refusal
 use Rattle.px_item.specs.declared.answered.Answered.{Answered}
 use Rattle.px_item.specs.declared.answered.Asked.{Asked}
 use Rattle.px_item.specs.declared.item.ItemState.{ItemState}
@@ -29,11 +25,11 @@ use Rattle.px_item.specs.declared.item.ItemTurn.{ItemTurn}
 use Rattle.px_item.specs.declared.item.ItemTurn.TheVariants as turn
 use Rattle.px_item.specs.Builds.{IsBuiltBehind, to_build}
 use Rattle.px_item.specs.Right as right
-use Rattle.px_item.specs.Right.{GoesOnBehind, IsBoundTo, IsBuildBehind, IsBuilt, IsRight, Says, plain, table_named}
+use Rattle.px_item.specs.Right.{GoesOnBehind, IsBoundTo, IsBuildBehind, IsBuilt, IsRight, plain, table_named}
 use Rattle.px_item.specs.Turns.{Fits, IsAsking, IsBuilding, IsCreating, IsDefining, Turns}
 use Rattle.px_item.proofs.Building.{asked_for, bound_drawn, made_numbers}
 use Rattle.px_item.proofs.Going.{define_is_over}
-use Rattle.px_item.proofs.Passing.{Later, and_then, asks_change, behind_later, bound_later, first_low, first_within, longer, of_ran, stands_later}
+use Rattle.px_item.proofs.Passing.{and_then, asks_change, behind_later, bound_later, first_low, first_within, longer, of_ran, stands_later}
 use Rattle.px_item.proofs.Plain.{behind_plain, built_plain, unbuilt_plain}
 
 none_table : {A : Type 0} (t : TableId) → None ≡ Some t → A

@@ -6,14 +6,12 @@ use Rattle.px_ast.specs.declared.statement.Statement.{Statement}
 use Rattle.px_ast.specs.declared.statement.Statement.TheVariants as s
 use Rattle.px_values.specs.declared.change.Change.{Change}
 use Rattle.px_values.specs.declared.name.TableId.{TableId}
-use Rattle.px_create.specs.Indexes.{new_index}
 use Rattle.px_create.specs.Tables.{new_table, table_faults}
 use Rattle.px_ast.specs.declared.statement.Delete.{Delete}
 use Rattle.px_bind.specs.Queries.{delete_faults}
 use Rattle.px_bind.specs.Requests.{faults_in}
 use Rattle.px_bind.specs.Upserts.{upsert_faults}
 use Rattle.px_tables.specs.declared.found.Found.{Found}
-use Rattle.px_tables.specs.declared.index.NewIndex.{NewIndex}
 use Rattle.px_trail.specs.declared.entry.Act.{Act}
 use Rattle.px_calls.specs.declared.definition.Definition.{Definition}
 use Rattle.px_calls.specs.declared.definition.Definition.TheVariants as d

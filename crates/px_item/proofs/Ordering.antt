@@ -1,10 +1,8 @@
 -- How an order goes on.
 use Rattle.std.proofs.Common.{ℕ, ◌≡◌, Result, Ok, Err, List, [], ◌++◌, refl, sym, ◌∙◌, ap, subst, arith}
 use Rattle.px_lex.specs.Script.{seen_piece}
-use Rattle.px_commands.specs.declared.command.Command.{Command}
 use Rattle.px_trail.specs.declared.entry.Act.{Act}
 use Rattle.px_calls.specs.declared.status.Ordered.{Ordered}
-use Rattle.px_calls.specs.declared.status.Ordered.TheVariants as jobs
 use Rattle.px_calls.specs.Known.{Known, outline}
 use Rattle.px_commanding.specs.Orders as orders
 use Rattle.px_commanding.specs.declared.order.OrderFault.{OrderFault}

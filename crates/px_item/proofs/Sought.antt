@@ -27,7 +27,7 @@ use Rattle.px_item.specs.declared.answered.Asked.{Asked}
 use Rattle.px_item.specs.declared.item.ItemState.TheVariants as state
 use Rattle.px_item.specs.declared.item.ItemTurn.TheVariants as turn
 use Rattle.px_item.specs.Right as right
-use Rattle.px_item.specs.Right.{AreTooManyOf, IsBoundTo, IsHoldingAll, IsOfNoOther, IsRead, IsRight, changes, deletion_query, plain, table_named}
+use Rattle.px_item.specs.Right.{IsBoundTo, IsOfNoOther, IsRead, IsRight, changes, deletion_query, plain, table_named}
 use Rattle.px_item.specs.Seeking.{IsSought, KeepsFound, KeepsRows}
 use Rattle.px_item.specs.Turns.{Fits, IsSeeking, Turns}
 use Rattle.px_item.proofs.Passing.{Later, and_then, bound_later, first_low, first_within, longer, of_ran}

@@ -22,7 +22,7 @@ use Rattle.px_item.specs.declared.item.ItemRun.{ItemRun}
 use Rattle.px_item.specs.declared.item.ItemState.{ItemState}
 use Rattle.px_item.specs.declared.item.ItemState.TheVariants as state
 use Rattle.px_item.specs.Right as right
-use Rattle.px_item.specs.Right.{AsksCommit, AsksToCommit, IsAtOnce, IsCreation, IsCreationIf, IsRead, MayRun, Refuses, creates_table, is_built, is_none_of}
+use Rattle.px_item.specs.Right.{AsksCommit, AsksToCommit, IsAtOnce, IsCreationIf, IsRead, MayRun, Refuses, is_built}
 use Rattle.px_item.specs.Turns.{Fits, FitsState, HasBegun, IsBegun, IsStart}
 
 pub refused_so : (st : Settings) (p : SeenPiece) (x : Statement) (r : Refusal) (a : Answered) → IsRead p (Ok x) → MayRun st x → is_built x ≡ true → IsCreationIf x (Some (Err r)) → Refuses a r st → IsAtOnce st p a

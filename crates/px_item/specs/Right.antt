@@ -43,7 +43,7 @@ use Rattle.px_tables.specs.declared.table.Table.{Table}
 use Rattle.px_resolve.specs.Answers.{IsFirst}
 use Rattle.px_resolve.specs.declared.fault.BindFault.{BindFault}
 use Rattle.px_resolve.specs.declared.fault.BindFault.TheVariants as bind
-use Rattle.px_create.specs.Indexes.{index_faults, index_of, new_index}
+use Rattle.px_create.specs.Indexes.{index_of, new_index}
 use Rattle.px_create.specs.Tables.{new_table, table_faults}
 use Rattle.px_ast.specs.declared.statement.Select.{Select}
 use Rattle.px_bind.specs.Queries.{IsQuery, delete_faults, filter_of, select_faults}

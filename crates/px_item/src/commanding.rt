@@ -85,7 +85,8 @@ pub(crate) fn commit<'a, S: Steps>(
     run: CommitRun,
 ) -> ItemTurn<'a>
     requires { (before : ℕ) × (own : List Act) × Fits S.sound before asked own (ItemState.Committing again run) (S.known s.old) }
-    ensures { (before : ℕ) → (own : List Act) → Fits S.sound before asked.entry own (ItemState.Committing again run) (S.known s.old) → Turns S.sound before asked.entry own (S.known s.old) (S.known s.new) result }
+    ensures turns { (before : ℕ) → (own : List Act) → Fits S.sound before asked.entry own (ItemState.Committing again run) (S.known s.old) → Turns S.sound before asked.entry own (S.known s.old) (S.known s.new) result }
+    ensures one_call { S.one_call s.old s.new }
 {
     let turn = match &asked.settings.held {
         Some(held) => run.step(alloc, s, held),
@@ -129,7 +130,8 @@ pub(crate) fn count<'a, S: Steps>(
     name: Name,
     run: CountRun,
 ) -> ItemTurn<'a>
-    ensures { (before : ℕ) → (own : List Act) → Fits S.sound before asked.entry own (ItemState.Counting name run) (S.known s.old) → Turns S.sound before asked.entry own (S.known s.old) (S.known s.new) result }
+    ensures turns { (before : ℕ) → (own : List Act) → Fits S.sound before asked.entry own (ItemState.Counting name run) (S.known s.old) → Turns S.sound before asked.entry own (S.known s.old) (S.known s.new) result }
+    ensures one_call { S.one_call s.old s.new }
 {
     match run.step(s, &name) {
         CountTurn::Stepped(run) => ItemTurn::Stepped(ItemRun {
@@ -169,6 +171,7 @@ pub(crate) fn order<'a, S: Steps>(
 ) -> ItemTurn<'a>
     ensures turns { (before : ℕ) → (own : List Act) → Fits S.sound before asked.entry own (ItemState.Ordering run) (S.known s.old) → Turns S.sound before asked.entry own (S.known s.old) (S.known s.new) result }
     ensures done { TellsDone result → S.done s.new }
+    ensures one_call { S.one_call s.old s.new }
 {
     let job = run.job();
     match run.step(s) {

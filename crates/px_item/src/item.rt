@@ -168,7 +168,8 @@ fn find<'a, S: Steps>(
     asked: Asked<'a>,
     statement: Statement,
 ) -> ItemTurn<'a>
-    ensures { (before : ℕ) → (own : List Act) → Fits S.sound before asked.entry own (ItemState.Finding statement) (S.known s.old) → Turns S.sound before asked.entry own (S.known s.old) (S.known s.new) result }
+    ensures turns { (before : ℕ) → (own : List Act) → Fits S.sound before asked.entry own (ItemState.Finding statement) (S.known s.old) → Turns S.sound before asked.entry own (S.known s.old) (S.known s.new) result }
+    ensures one_call { S.one_call s.old s.new }
 {
     match s.find(table_named(&statement)) {
         Ok(found) => {
@@ -251,7 +252,8 @@ fn change<'a, S: Steps>(
     receipts: Vec<Receipt>,
 ) -> ItemTurn<'a>
     requires { (before : ℕ) × (own : List Act) × Fits S.sound before asked own (ItemState.Changing statement run receipts) (S.known s.old) }
-    ensures { (before : ℕ) → (own : List Act) → Fits S.sound before asked.entry own (ItemState.Changing statement run receipts) (S.known s.old) → Turns S.sound before asked.entry own (S.known s.old) (S.known s.new) result }
+    ensures turns { (before : ℕ) → (own : List Act) → Fits S.sound before asked.entry own (ItemState.Changing statement run receipts) (S.known s.old) → Turns S.sound before asked.entry own (S.known s.old) (S.known s.new) result }
+    ensures one_call { S.one_call s.old s.new }
 {
     match run.step(s) {
         BatchTurn::Stepped => ItemTurn::Stepped(ItemRun {
@@ -359,7 +361,8 @@ fn define<'a, S: Steps>(
     mut run: DefineRun,
 ) -> ItemTurn<'a>
     requires { (before : ℕ) × (own : List Act) × Fits S.sound before asked own (ItemState.Defining statement run) (S.known s.old) }
-    ensures { (before : ℕ) → (own : List Act) → Fits S.sound before asked.entry own (ItemState.Defining statement run) (S.known s.old) → Turns S.sound before asked.entry own (S.known s.old) (S.known s.new) result }
+    ensures turns { (before : ℕ) → (own : List Act) → Fits S.sound before asked.entry own (ItemState.Defining statement run) (S.known s.old) → Turns S.sound before asked.entry own (S.known s.old) (S.known s.new) result }
+    ensures one_call { S.one_call s.old s.new }
 {
     match run.step(s) {
         DefineTurn::Stepped => ItemTurn::Stepped(ItemRun {
@@ -405,7 +408,8 @@ fn build<'a, R: Threads + Sync, S: Steps>(
     run: BuildRun,
 ) -> ItemTurn<'a>
     requires { (before : ℕ) × (own : List Act) × Fits S.sound before asked own (ItemState.Building statement run) (S.known s.old) }
-    ensures { (before : ℕ) → (own : List Act) → Fits S.sound before asked.entry own (ItemState.Building statement run) (S.known s.old) → Turns S.sound before asked.entry own (S.known s.old) (S.known s.new) result }
+    ensures turns { (before : ℕ) → (own : List Act) → Fits S.sound before asked.entry own (ItemState.Building statement run) (S.known s.old) → Turns S.sound before asked.entry own (S.known s.old) (S.known s.new) result }
+    ensures one_call { S.one_call s.old s.new }
 {
     match run.step(rt, s) {
         BuildTurn::Stepped(run) => ItemTurn::Stepped(ItemRun {
@@ -475,7 +479,8 @@ fn select<'a, S: Steps>(
     mut run: SelectRun,
 ) -> ItemTurn<'a>
     requires { (before : ℕ) × (own : List Act) × Fits S.sound before asked own (ItemState.Selecting statement run) (S.known s.old) }
-    ensures { (before : ℕ) → (own : List Act) → Fits S.sound before asked.entry own (ItemState.Selecting statement run) (S.known s.old) → Turns S.sound before asked.entry own (S.known s.old) (S.known s.new) result }
+    ensures turns { (before : ℕ) → (own : List Act) → Fits S.sound before asked.entry own (ItemState.Selecting statement run) (S.known s.old) → Turns S.sound before asked.entry own (S.known s.old) (S.known s.new) result }
+    ensures one_call { S.one_call s.old s.new }
 {
     match run.step(s) {
         SelectTurn::Stepped => ItemTurn::Stepped(ItemRun {
@@ -530,7 +535,8 @@ fn delete<'a, S: Steps>(
     mut run: DeleteRun,
 ) -> ItemTurn<'a>
     requires { (before : ℕ) × (own : List Act) × Fits S.sound before asked own (ItemState.Deleting statement run) (S.known s.old) }
-    ensures { (before : ℕ) → (own : List Act) → Fits S.sound before asked.entry own (ItemState.Deleting statement run) (S.known s.old) → Turns S.sound before asked.entry own (S.known s.old) (S.known s.new) result }
+    ensures turns { (before : ℕ) → (own : List Act) → Fits S.sound before asked.entry own (ItemState.Deleting statement run) (S.known s.old) → Turns S.sound before asked.entry own (S.known s.old) (S.known s.new) result }
+    ensures one_call { S.one_call s.old s.new }
 {
     match run.step(s) {
         DeleteTurn::Stepped => ItemTurn::Stepped(ItemRun {
@@ -556,6 +562,7 @@ impl<'a> ItemRun<'a> {
 
         // That an order is done is told only where it is.
         ensures done { (before : ℕ) → (own : List Act) → Fits S.sound before self.entry.asked own self.entry.state (S.known s.old) → TellsDone result → S.done s.new }
+        ensures one_call { S.one_call s.old s.new }
     {
         let ItemRun { asked, state } = self;
         match state {

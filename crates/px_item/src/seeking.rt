@@ -191,7 +191,8 @@ pub(crate) fn gather<'a, S: Steps>(
     mut run: SelectRun,
 ) -> ItemTurn<'a>
     requires { (before : ℕ) × (own : List Act) × Fits S.sound before asked own (ItemState.Seeking statement run) (S.known s.old) }
-    ensures { (before : ℕ) → (own : List Act) → Fits S.sound before asked.entry own (ItemState.Seeking statement run) (S.known s.old) → Turns S.sound before asked.entry own (S.known s.old) (S.known s.new) result }
+    ensures turns { (before : ℕ) → (own : List Act) → Fits S.sound before asked.entry own (ItemState.Seeking statement run) (S.known s.old) → Turns S.sound before asked.entry own (S.known s.old) (S.known s.new) result }
+    ensures one_call { S.one_call s.old s.new }
 {
     match run.step(s) {
         SelectTurn::Stepped => ItemTurn::Stepped(ItemRun {

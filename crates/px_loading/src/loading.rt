@@ -87,7 +87,7 @@ pub fn load<D: Disk>(
 {
     if files.is_empty() {
         // A store's cells are sorted.
-        let _cells = store.as_slice();
+        let _count = store.piece_count();
         return Ok(store);
     }
     match load_files(alloc, disk, files) {

@@ -136,12 +136,12 @@ take_whole (c ∷ l) (suc m) le = ap (λ (x : List CellData). c ∷ x) (take_who
 
 -- ---- the first cells of a list
 
-front_at : (xs ys : List CellData) (i : ℕ) (d : CellData) → i < length xs → get_or (xs ++ ys) i d ≡ get_or xs i d
+pub front_at : (xs ys : List CellData) (i : ℕ) (d : CellData) → i < length xs → get_or (xs ++ ys) i d ≡ get_or xs i d
 front_at [] ys i d lt = absurd (omega arith)
 front_at (x ∷ xs) ys zero d lt = refl
 front_at (x ∷ xs) ys (suc i) d lt = front_at xs ys i d (omega arith)
 
-begins_front : (xs ys : List CellData) (i : ℕ) → i < length xs → begins_row (xs ++ ys) i ≡ begins_row xs i
+pub begins_front : (xs ys : List CellData) (i : ℕ) → i < length xs → begins_row (xs ++ ys) i ≡ begins_row xs i
 begins_front xs ys zero lt = begins_first (xs ++ ys) 0 refl ∙ sym (begins_first xs 0 refl)
 begins_front xs ys (suc i) lt =
     begins_next (xs ++ ys) (suc i) i refl ∙ (λ j. not (pointwise nat_eq (front_at xs ys i no_cell (omega arith) j).key (front_at xs ys (suc i) no_cell lt j).key)) ∙ sym (begins_next xs (suc i) i refl)
@@ -151,7 +151,7 @@ rows_front xs ys zero le = row_none (xs ++ ys) ∙ sym (row_none xs)
 rows_front xs ys (suc n) le =
     ap (rows_before (xs ++ ys)) (sym (add-one n)) ∙ row_step (xs ++ ys) n ∙ (λ j. rows_front xs ys n (omega arith) j + cond (begins_front xs ys n (omega arith) j) 1 0) ∙ sym (row_step xs n) ∙ ap (rows_before xs) (add-one n)
 
-has_at : (cells : List CellData) (i : ℕ) (d : CellData) → i < length cells → Has cells (get_or cells i d)
+pub has_at : (cells : List CellData) (i : ℕ) (d : CellData) → i < length cells → Has cells (get_or cells i d)
 has_at [] i d lt = absurd (omega arith)
 has_at (c ∷ cells) zero d lt = inl refl
 has_at (c ∷ cells) (suc i) d lt = inr (has_at cells i d (omega arith))

@@ -2,6 +2,7 @@ pub mod RowCells
 pub mod KeyOrder
 pub mod Cut
 pub mod Ends
+pub mod Piece
 pub mod Rising
 pub mod Among
 pub mod RowPart

@@ -9,7 +9,7 @@ ghost use Rattle.px_looks.specs.Keys.{IsWithin, next_key};
 ghost use Rattle.px_looks.specs.inner.Lent.{AreFirst, IsRowEnd};
 
 use px_cells::{Cell, place_after};
-use px_region::Region;
+use px_region::{FirstRows, Region};
 
 /// The cells of the first rows of a range.
 #[derive(Clone, Copy)]
@@ -17,6 +17,8 @@ pub(crate) struct Lent<'a> {
     pub(crate) cells: &'a [Cell],
     /// How many rows they are.
     pub(crate) rows: u64,
+    /// So many at most were to be lent: where they are fewer these are all of the range.
+    pub(crate) most: u64,
 }
 
 /// Whether a cell with this key stands at a place.
@@ -69,7 +71,8 @@ pub(crate) fn row_end(cells: &[Cell], at: usize) -> usize
 /// The first rows of a sorted list, at most so many.
 fn first_rows(cells: &[Cell], most: u64) -> Lent<'_>
     requires { IsAscending cells.now }
-    ensures { AreFirst cells.now most result.rows result.cells.now }
+    ensures first { AreFirst cells.now most result.rows result.cells.now }
+    ensures most { result.most ≡ most }
 {
     let mut end = 0usize;
     let mut rows = 0u64;
@@ -80,16 +83,29 @@ fn first_rows(cells: &[Cell], most: u64) -> Lent<'_>
     Lent {
         cells: &cells[..end],
         rows,
+        most,
     }
 }
 
-/// The first rows of a range, at most so many. Where fewer are there these are all. They aren't counted as looked at.
+/// The first rows of a range, at most so many, and at most those of one piece. They aren't counted as looked at.
 pub(crate) fn lend<'a>(region: &'a Region, low: &[u8], high: Option<&[u8]>, most: u64) -> Lent<'a>
     ensures counted { result.rows ≡ min (rows_before result.cells.now (length result.cells.now)) 18446744073709551615 }
-    ensures few { rows_before result.cells.now (length result.cells.now) ≤ most }
-    ensures all { result.rows < most → AreRows (read_of region.now) low.now (option_copied high.entry) result.cells.now }
+    ensures few { rows_before result.cells.now (length result.cells.now) ≤ result.most }
+    ensures all { result.rows < result.most → AreRows (read_of region.now) low.now (option_copied high.entry) result.cells.now }
     ensures part { 0 < length result.cells.now → AreRows (read_of region.now) low.now (Some (next_key (key_at result.cells.now (length result.cells.now - 1)))) result.cells.now }
     ensures within { 0 < length result.cells.now → IsWithin low.now (option_copied high.entry) (key_at result.cells.now (length result.cells.now - 1)) }
+    ensures most { result.most ≤ most }
+    ensures some { 0 < most → 0 < result.most }
 {
-    first_rows(region.rows(low, high), most)
+    let FirstRows { cells, is_all } = region.rows(low, high);
+    let lent = first_rows(cells, most);
+    if is_all {
+        return lent;
+    }
+    // More rows stand in the next piece.
+    Lent {
+        cells: lent.cells,
+        rows: lent.rows,
+        most: lent.rows,
+    }
 }

@@ -53,12 +53,12 @@ fn key_after(alloc: Global, key: &[u8]) -> Result<Key, AllocError>
     Ok(Key::of(bytes))
 }
 
-/// Where the rows behind the lent ones begin, if as many were lent as were wanted.
-fn end_of(alloc: Global, lent: &Lent<'_>, most: u64) -> Result<Option<Key>, AllocError>
-    ensures { IfOk result (λ end. MatchOption end ((lent.now.rows < most) ⊎ (length lent.now.cells.now ≡ 0)) (λ e. (0 < length lent.now.cells.now) × (e ≡ next_key (key_at lent.now.cells.now (length lent.now.cells.now - 1))))) }
+/// Where the rows behind the lent ones begin, if as many were lent as were to be.
+fn end_of(alloc: Global, lent: &Lent<'_>) -> Result<Option<Key>, AllocError>
+    ensures { IfOk result (λ end. MatchOption end ((lent.now.rows < lent.now.most) ⊎ (length lent.now.cells.now ≡ 0)) (λ e. (0 < length lent.now.cells.now) × (e ≡ next_key (key_at lent.now.cells.now (length lent.now.cells.now - 1))))) }
 {
     let count = lent.cells.len();
-    if lent.rows < most || count == 0 {
+    if lent.rows < lent.most || count == 0 {
         return Ok(None);
     }
     let end = key_after(alloc, lent.cells[count - 1].key())?;
@@ -92,7 +92,7 @@ fn look_part<D: Disk, R: Reader>(
     let _disk = disk;
     let lent = lend(region, low, high, most);
     let rows = lent.rows;
-    let Ok(end) = end_of(alloc, &lent, most) else {
+    let Ok(end) = end_of(alloc, &lent) else {
         return Err(LookFault::Memory);
     };
     let Ok(found) = find_all(alloc, reader, lent.cells) else {

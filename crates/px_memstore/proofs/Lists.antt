@@ -75,3 +75,20 @@ has_turned f1 f2 back merged w d = (
     ]
   ],
 )
+
+pub drop_within : (xs ys : List CellData) (n : ℕ) → n ≤ length xs → drop n (xs ++ ys) ≡ drop n xs ++ ys
+drop_within xs ys zero l = refl
+drop_within [] ys (suc n) l = absurd (omega (arith, l))
+drop_within (x ∷ xs) ys (suc n) l = drop_within xs ys n (omega (arith, l))
+
+pub take_whole : (xs : List CellData) (n : ℕ) → length xs ≤ n → take n xs ≡ xs
+take_whole [] zero l = refl
+take_whole [] (suc n) l = refl
+take_whole (x ∷ xs) zero l = absurd (omega (arith, l))
+take_whole (x ∷ xs) (suc n) l = ap (λ (l : List CellData). x ∷ l) (take_whole xs n (omega (arith, l)))
+
+pub drop_whole : (xs : List CellData) (n : ℕ) → length xs ≤ n → drop n xs ≡ []
+drop_whole [] zero l = refl
+drop_whole [] (suc n) l = refl
+drop_whole (x ∷ xs) zero l = absurd (omega (arith, l))
+drop_whole (x ∷ xs) (suc n) l = drop_whole xs n (omega (arith, l))

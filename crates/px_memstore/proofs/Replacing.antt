@@ -23,7 +23,7 @@ pub record IsReplacing (rest cells aside batch-0 cells-0 : List CellData) : Type
 pub replacing_none : (batch cells : List CellData) → IsAscending cells → IsAscending batch → IsReplacing batch cells [] batch cells
 replacing_none batch cells a b = record { ascending = a; sorted = subst IsAscending (sym (append-nil batch)) b; apart = λ m n h g. absurd g; same = λ d. (λ r. r, λ r. r) }
 
-reads_trans : (xs ys zs : List CellData) → ReadsSame xs ys → ReadsSame ys zs → ReadsSame xs zs
+pub reads_trans : (xs ys zs : List CellData) → ReadsSame xs ys → ReadsSame ys zs → ReadsSame xs zs
 reads_trans xs ys zs f g c = (λ r. (g c).0 ((f c).0 r), λ r. (f c).1 ((g c).1 r))
 
 -- a cell that has the place of none before it may stand first

@@ -65,6 +65,11 @@ unfolding last_cell
 last_more [] c = omega arith
 last_more (x ∷ cells) c = (let e = last_more cells c in omega arith)
 
+pub last_append : (xs ys : List CellData) → last_cell (xs ++ ys) ≡ max (last_cell xs) (last_cell ys)
+unfolding last_cell
+last_append [] ys = omega arith
+last_append (x ∷ xs) ys = (let e = last_append xs ys in omega (arith, e))
+
 pub last_next : (cells : List CellData) (i : ℕ) (c : CellData) → i < length cells → c ≡ get_or cells i c → last_cell (take (i + 1) cells) ≡ max (last_cell (take i cells)) c.stamp
 last_next cells i c lt is = ap last_cell (take_more cells i c lt ∙ ap (λ (x : CellData). take i cells ++ x ∷ []) (sym is)) ∙ last_more (take i cells) c
 

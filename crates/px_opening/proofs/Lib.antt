@@ -3,3 +3,4 @@ pub mod Rising
 pub mod Bases
 pub mod Groups
 pub mod Building
+pub mod Pieces

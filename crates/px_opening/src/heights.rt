@@ -1,6 +1,6 @@
 // The greatest numbers of a table's regions.
 ghost use Rattle.std.specs.Prelude.{◌≡◌, ℕ, All, IfSome, IfOk, map};
-ghost use Rattle.px_region.specs.Region.{RegionData};
+ghost use Rattle.px_region.specs.Region.{RegionData, read_of};
 ghost use Rattle.px_tablefolder.specs.Folder.{folder_high, folder_last, greatest_horizon, greatest_number, last_cell as greatest_stamp};
 ghost use Rattle.px_recovery.specs.Tables.{index_files, indexes_of};
 ghost use Rattle.px_opening.specs.Definitions.{IsOneRegion, first_number};
@@ -25,6 +25,17 @@ fn last_stamp(cells: &[Cell]) -> u64
     let mut last = 0;
     for cell in cells {
         last = last.max(cell.stamp());
+    }
+    last
+}
+
+/// The greatest stamp of what is read of a region.
+fn last_of(region: &Region) -> u64
+    ensures { result ≡ greatest_stamp (read_of region.now) }
+{
+    let mut last = 0;
+    for at in 0..region.piece_count() {
+        last = last.max(last_stamp(region.piece(at)));
     }
     last
 }
@@ -65,10 +76,7 @@ fn raised(heights: Heights, index: &Index, region: &Region) -> Heights
     ensures { (f : ℕ → RegionData) → IsDataOf f region.now → region.now.number ≡ index.now.region → IsRaised heights (index_files f index.now) result }
 {
     let horizon = region.horizon();
-    let own = index
-        .birth
-        .max(horizon)
-        .max(last_stamp(region.sorted_cells()));
+    let own = index.birth.max(horizon).max(last_of(region));
     Heights {
         last: heights.last.max(own),
         horizon: heights.horizon.max(horizon),
@@ -91,9 +99,7 @@ pub(crate) fn heights_of(
     let others = index_heights(table.id.0, indexes, regions)?;
     let horizon = region.horizon();
     Some(Heights {
-        last: horizon
-            .max(last_stamp(region.sorted_cells()))
-            .max(others.last),
+        last: horizon.max(last_of(region)).max(others.last),
         horizon: horizon.max(others.horizon),
     })
 }

@@ -53,10 +53,12 @@ fn test_rows(alloc: Global, table: &Table, region: &Region) -> Result<(), OpenFa
     ensures read { result ≢ Err OpenFault.ReadFault }
     ensures write { result ≢ Err OpenFault.WriteFault }
 {
-    if are_right_rows(alloc, table, region.sorted_cells())? {
-        return Ok(());
+    for at in 0..region.piece_count() {
+        if !are_right_rows(alloc, table, region.piece(at))? {
+            return Err(misshapen(region));
+        }
     }
-    Err(misshapen(region))
+    Ok(())
 }
 
 /// Tests what is read of the region of an index.
@@ -67,10 +69,12 @@ fn test_keys(alloc: Global, table: &Table, index: &Index, region: &Region) -> Re
     ensures read { result ≢ Err OpenFault.ReadFault }
     ensures write { result ≢ Err OpenFault.WriteFault }
 {
-    if are_right_keys(alloc, table, index, region.sorted_cells())? {
-        return Ok(());
+    for at in 0..region.piece_count() {
+        if !are_right_keys(alloc, table, index, region.piece(at))? {
+            return Err(misshapen(region));
+        }
     }
-    Err(misshapen(region))
+    Ok(())
 }
 
 /// Takes the region of a table's rows out of these.

@@ -23,6 +23,10 @@ pub record RegionData : Type 0 where
 abbrev pub read_of : Region → List CellData
 read_of region = region.store.cells
 
+-- The pieces that this list is lent in.
+abbrev pub pieces_of : Region → List (List CellData)
+pieces_of region = region.store.pieces
+
 -- How many cells stand in its log above the flushed number, each as often as it was written: the disk tells so (`counted` of `Holds`).
 abbrev pub logged_of : Region → ℕ
 logged_of region = region.cells

@@ -3,7 +3,7 @@
 //! Its list is the sorted list of what is read of its batches and files. `promise` takes room, `apply` puts a batch before the list,
 //! whole or not at all, and takes no memory. `prepare_step` makes the files of its log and manifest, `upkeep_step` flushes its
 //! batches to files of cells, and `reopen` reads all of these; what they stand for is told by `Stands`, and that a region goes on
-//! from it by `Holds`. A row or a range is given cell by cell to a taker, found in logarithmic time, with no copy.
+//! from it by `Holds`. A row, or the first rows of a range, are found in logarithmic time and lent, with no copy.
 #![tactic(auto)]
 
 mod fault;
@@ -17,5 +17,6 @@ mod taker;
 
 pub use fault::{JobFault, LookFault, PromiseFault};
 pub use prepare::JobStep;
+pub use px_memstore::FirstRows;
 pub use region::Region;
 pub use taker::CellTaker;

@@ -1,5 +1,5 @@
 -- Room that is refused for a repair.
-use Rattle.std.proofs.Common.{◌≡◌, ◌≤◌, ◌+◌, ℕ, Result, Err, Some, List, length, slice_get, ap, sym, subst, inl, inr, arith}
+use Rattle.std.proofs.Common.{◌≡◌, ◌≤◌, ℕ, Result, Err, Some, List, length, slice_get, ap, sym, subst, inl, inr, arith}
 use Rattle.std.specs.Prelude.{min}
 use Rattle.px_cells.specs.CellData.{CellData}
 use Rattle.px_cellbytes.specs.Spelling.{all_bytes}

@@ -8,13 +8,11 @@ use Rattle.std.proofs.lemmas.List.Elements.{All-head, All-tail}
 use Rattle.px_lex.specs.declared.script.Piece.{Piece}
 use Rattle.px_script.specs.declared.script.SessionText.{SessionText}
 use Rattle.px_trail.specs.declared.entry.Entry.{Entry}
-use Rattle.px_trail.specs.Legal.{IsLegal}
 use Rattle.px_trail.specs.Trail.{Base, acts_by}
 use Rattle.px_calls.specs.Known.{Known, Passes}
 use Rattle.px_reply.specs.declared.transcript.Transcript.{Transcript}
-use Rattle.px_session.specs.declared.run.SessionRun.{SessionRun}
 use Rattle.px_session.specs.declared.state.SessionState.{SessionState}
-use Rattle.px_session.specs.Live.{ArePlaced, IsLive, seen_of}
+use Rattle.px_session.specs.Live.{ArePlaced, seen_of}
 use Rattle.px_session.specs.Replies.{IsAnswered}
 use Rattle.px_session.proofs.Lives.{begins, live_passes}
 use Rattle.px_turn.specs.declared.lock.TurnSeat.{TurnSeat}
@@ -27,8 +25,8 @@ use Rattle.px_rounds.specs.Turns.{IsNoSession, as_seat}
 use Rattle.px_rounds.specs.declared.job.Came.{Came}
 use Rattle.px_rounds.specs.declared.job.Stage.{Stage}
 use Rattle.px_rounds.specs.declared.job.Stage.TheVariants.{Over, Ready}
-use Rattle.px_rounds.specs.inner.Desks.{AreCut, IsCut, IsFirst, IsTold}
-use Rattle.px_rounds.specs.inner.Jobs.{CanRun, CameOn, IsCame, IsSet, IsTaken, RanJob, RanStage, SeatTold, SeatsTold, Unchanged, told_of}
+use Rattle.px_rounds.specs.inner.Desks.{AreCut, IsCut, IsFirst}
+use Rattle.px_rounds.specs.inner.Jobs.{CanRun, IsCame, IsSet, IsTaken, RanJob, RanStage, SeatTold, SeatsTold, Unchanged}
 use Rattle.px_rounds.proofs.Lists.{get_lt, get_some}
 use Rattle.px_rounds.proofs.Rounding as rounding
 

@@ -11,9 +11,10 @@ use std::thread::Threads;
 
 /// What goes on a step at a time over any steps.
 pub(crate) trait Course {
-    ghost use Rattle.std.specs.Prelude.{◌≡◌};
+    ghost use Rattle.std.specs.Prelude.{◌≡◌, true, false};
     ghost use Rattle.std.specs.Thread.{IsSync};
     ghost use Rattle.px_calls.specs.Known.{Known};
+    ghost use Rattle.px_session.specs.Live.{makes_call};
     ghost use Rattle.px_session.specs.declared.run.SessionTurn.TheVariants.{Finished};
     ghost use Rattle.px_session.specs.declared.state.SessionState.{SessionState as States};
     ghost use Rattle.px_rounds.specs.inner.Jobs.{CameOn, Unchanged};
@@ -37,7 +38,9 @@ pub(crate) trait Course {
         requires sync { IsSync R.row }
         requires live { (began : States) × on_way S.sound began (S.known s.old) self.old }
         ensures steps { (began : States) → on_way S.sound began (S.known s.old) self.old → CameOn (on_way S.sound began) stays (S.known s.old) self.old (S.known s.new) self.new }
-        ensures over { result ≡ Finished → over self.new };
+        ensures over { result ≡ Finished → over self.new }
+        ensures one_call { makes_call result ≡ true → S.one_call s.old s.new }
+        ensures no_call { makes_call result ≡ false → s.new ≡ s.old };
 
     /// Goes through the gate.
     fn pass<G: Gate>(&self, gate: &G);

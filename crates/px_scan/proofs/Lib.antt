@@ -2,3 +2,4 @@ pub mod Quieting
 pub mod Turning
 pub mod Going
 pub mod Chaining
+pub mod Bounding

@@ -1,5 +1,5 @@
 //! How a query under way goes on, whoever makes its steps.
-ghost use Rattle.std.specs.Prelude.{◌≡◌, ◌≤◌, ℕ, List, Option, Result, length};
+ghost use Rattle.std.specs.Prelude.{◌≡◌, ◌≤◌, ◌+◌, ◌*◌, ℕ, List, Option, Result, length};
 ghost use Rattle.px_calls.specs.declared.query.Doubt.{Doubt as Doubts};
 ghost use Rattle.px_calls.specs.Known.{Known, Passes};
 ghost use Rattle.px_calls.specs.Requires.{IsScn};
@@ -11,6 +11,7 @@ ghost use Rattle.px_scan.specs.declared.machine.QueryState.{QueryState as States
 ghost use Rattle.px_scan.specs.declared.machine.QueryState.TheVariants as query_state;
 ghost use Rattle.px_scan.specs.declared.machine.Rest.{Rest as Rests};
 ghost use Rattle.px_scan.specs.declared.machine.Scan.{Scan as Scans};
+ghost use Rattle.px_scan.specs.Bounds.{AreSpending, HaveFound, counted_in};
 ghost use Rattle.px_scan.specs.Chains.{AreSteps, AreUnfaulted, IsSettled, Step, state_after};
 ghost use Rattle.px_scan.specs.Turns.{Fits, IsBound, IsNew, QueryTurns, RanQuery, SoFar};
 
@@ -28,4 +29,10 @@ pub fn law_turns<S: Steps>()
 /// A doubt that is to be consulted is consulted, and then fixed as that left it, where a query comes to its end without a fault.
 pub fn law_doubts<S: Steps>()
     ensures { (q : Query) → (scn : Option ℕ) → (x : Scans) → (r : Rests) → (d : Doubts) → (k : Known) → (os : List Step) → AreSteps S.sound q scn (query_state.Consulting x r d) k os → AreUnfaulted os → state_after (query_state.Consulting x r d) os ≡ query_state.Over → IsSettled S.sound x.point d os }
+{}
+
+/// A query makes at most three steps and three for each key that its looks find, but those of upkeep, those that wait, and repairs that are refused
+/// until upkeep is idle.
+pub fn law_bound<S: Steps>()
+    ensures { (s : States) → (os : List Step) → IsNew s → AreSpending S.sound s os → (n : ℕ) × HaveFound S.sound s os n × (counted_in s os ≤ 3 + 3 * n) }
 {}

@@ -1,7 +1,8 @@
 // A query as a machine: each step makes one call.
-ghost use Rattle.std.specs.Prelude.{◌≡◌, ◌++◌, ◌∷◌, [], ℕ, Option, List};
+ghost use Rattle.std.specs.Prelude.{◌≡◌, ◌≤◌, ◌++◌, ◌∷◌, [], ℕ, Option, List};
 ghost use Rattle.px_calls.specs.Calls.{AreRising};
 ghost use Rattle.px_calls.specs.Known.{Known};
+ghost use Rattle.px_scan.specs.Bounds.{Spends, left_of, through};
 ghost use Rattle.px_scan.specs.Faults.{IsScanFault, fault_of as fault_is, is_busy as is_busy_of};
 ghost use Rattle.px_scan.specs.Turns.{Fits, GoesOn, IsGoing, IsNext, IsReading, IsScanning, QueryTurns};
 
@@ -90,6 +91,7 @@ fn ended(x: Scan) -> QueryState
 fn go_on<Q: Asks, S: Steps>(query: &Q, mut x: Scan, rest: Rest) -> QueryState
     ensures goes { (scn : Option ℕ) → (k : Known) → IsScanning S.sound k (Q.asked query.now) scn x rest.keys.items rest.next rest.at → GoesOn S.sound k (Q.asked query.now) scn x.point result }
     ensures next { IsNext result }
+    ensures left { left_of result ≤ through rest.keys.items rest.next }
 {
     let Rest { mut keys, next, at } = rest;
     match keep_sure(query, &mut keys, at, &mut x.rows) {
@@ -118,7 +120,8 @@ fn follow<Q: Asks, S: Steps>(
     requires bound { point.found.table ≡ (Q.asked query.now).bound }
     requires rising { AreRising point.found.indexes }
     requires rows { rows.items ≡ [] }
-    ensures { (scn : Option ℕ) → (k : Known) → IsReading k (Q.asked query.now) scn point → GoesOn S.sound k (Q.asked query.now) scn point result }
+    ensures goes { (scn : Option ℕ) → (k : Known) → IsReading k (Q.asked query.now) scn point → GoesOn S.sound k (Q.asked query.now) scn point result }
+    ensures left { left_of result ≤ 2 }
 {
     match query.path(alloc, &point) {
         Ok(path) => QueryState::Looking(Scan { point, path, rows }, None),
@@ -136,7 +139,9 @@ fn open<Q: Asks, S: Steps>(
     rows: Vec<Placed>,
 ) -> (QueryState, QueryTurn)
     requires { Fits S.sound (Q.asked query.now) scn (QueryState.Opening rows) (S.known s.old) }
-    ensures { QueryTurns S.sound (Q.asked query.now) scn (QueryState.Opening rows) (S.known s.old) result.0 (S.known s.new) result.1 }
+    ensures turns { QueryTurns S.sound (Q.asked query.now) scn (QueryState.Opening rows) (S.known s.old) result.0 (S.known s.new) result.1 }
+    ensures spends { Spends S.sound (QueryState.Opening rows) (S.known s.old) result.0 (S.known s.new) result.1 }
+    ensures one_call { S.one_call s.old s.new }
 {
     match s.open_point(query.table(), scn) {
         Ok(point) => (
@@ -183,7 +188,9 @@ fn look<Q: Asks, S: Steps>(
     after: Option<Key>,
 ) -> (QueryState, QueryTurn)
     requires { Fits S.sound (Q.asked query.now) scn (QueryState.Looking x after) (S.known s.old) }
-    ensures { QueryTurns S.sound (Q.asked query.now) scn (QueryState.Looking x after) (S.known s.old) result.0 (S.known s.new) result.1 }
+    ensures turns { QueryTurns S.sound (Q.asked query.now) scn (QueryState.Looking x after) (S.known s.old) result.0 (S.known s.new) result.1 }
+    ensures spends { Spends S.sound (QueryState.Looking x after) (S.known s.old) result.0 (S.known s.new) result.1 }
+    ensures one_call { S.one_call s.old s.new }
 {
     match s.look(&x.point, &x.path, &after) {
         Ok(chunk) => (go_on::<Q, S>(query, x, rest_of(chunk)), QueryTurn::Stepped),
@@ -201,7 +208,9 @@ fn consult<Q: Asks, S: Steps>(
     mut doubt: Doubt,
 ) -> (QueryState, QueryTurn)
     requires { Fits S.sound (Q.asked query.now) scn (QueryState.Consulting x rest doubt) (S.known s.old) }
-    ensures { QueryTurns S.sound (Q.asked query.now) scn (QueryState.Consulting x rest doubt) (S.known s.old) result.0 (S.known s.new) result.1 }
+    ensures turns { QueryTurns S.sound (Q.asked query.now) scn (QueryState.Consulting x rest doubt) (S.known s.old) result.0 (S.known s.new) result.1 }
+    ensures spends { Spends S.sound (QueryState.Consulting x rest doubt) (S.known s.old) result.0 (S.known s.new) result.1 }
+    ensures one_call { S.one_call s.old s.new }
 {
     match s.consult(&x.point, &mut doubt) {
         Ok(held) => match keep_held(query, held, &mut x.rows) {
@@ -222,7 +231,9 @@ fn fix<Q: Asks, S: Steps>(
     doubt: Doubt,
 ) -> (QueryState, QueryTurn)
     requires { Fits S.sound (Q.asked query.now) scn (QueryState.Fixing x rest doubt) (S.known s.old) }
-    ensures { QueryTurns S.sound (Q.asked query.now) scn (QueryState.Fixing x rest doubt) (S.known s.old) result.0 (S.known s.new) result.1 }
+    ensures turns { QueryTurns S.sound (Q.asked query.now) scn (QueryState.Fixing x rest doubt) (S.known s.old) result.0 (S.known s.new) result.1 }
+    ensures spends { Spends S.sound (QueryState.Fixing x rest doubt) (S.known s.old) result.0 (S.known s.new) result.1 }
+    ensures one_call { S.one_call s.old s.new }
 {
     match s.fix(&doubt) {
         Ok(_) => (go_on::<Q, S>(query, x, rest), QueryTurn::Stepped),
@@ -245,7 +256,9 @@ fn settle<Q: Asks, S: Steps>(
     doubt: Doubt,
 ) -> (QueryState, QueryTurn)
     requires { Fits S.sound (Q.asked query.now) scn (QueryState.Settling x rest doubt) (S.known s.old) }
-    ensures { QueryTurns S.sound (Q.asked query.now) scn (QueryState.Settling x rest doubt) (S.known s.old) result.0 (S.known s.new) result.1 }
+    ensures turns { QueryTurns S.sound (Q.asked query.now) scn (QueryState.Settling x rest doubt) (S.known s.old) result.0 (S.known s.new) result.1 }
+    ensures spends { Spends S.sound (QueryState.Settling x rest doubt) (S.known s.old) result.0 (S.known s.new) result.1 }
+    ensures one_call { S.one_call s.old s.new }
 {
     match s.upkeep() {
         Ok(Work::Did) => (QueryState::Settling(x, rest, doubt), QueryTurn::Stepped),
@@ -263,7 +276,9 @@ fn close<Q: Asks, S: Steps>(
     end: Result<Vec<Placed>, QueryFault>,
 ) -> (QueryState, QueryTurn)
     requires { Fits S.sound (Q.asked query.now) scn (QueryState.Closing point end) (S.known s.old) }
-    ensures { QueryTurns S.sound (Q.asked query.now) scn (QueryState.Closing point end) (S.known s.old) result.0 (S.known s.new) result.1 }
+    ensures turns { QueryTurns S.sound (Q.asked query.now) scn (QueryState.Closing point end) (S.known s.old) result.0 (S.known s.new) result.1 }
+    ensures spends { Spends S.sound (QueryState.Closing point end) (S.known s.old) result.0 (S.known s.new) result.1 }
+    ensures one_call { S.one_call s.old s.new }
 {
     let first = point.found.at;
     s.close_point(point);
@@ -287,7 +302,9 @@ pub(crate) fn advance<Q: Asks, S: Steps>(
 ) -> (QueryState, QueryTurn)
     requires fits { Fits S.sound (Q.asked query.now) scn state (S.known s.old) }
     requires going { IsGoing state }
-    ensures { QueryTurns S.sound (Q.asked query.now) scn state (S.known s.old) result.0 (S.known s.new) result.1 }
+    ensures turns { QueryTurns S.sound (Q.asked query.now) scn state (S.known s.old) result.0 (S.known s.new) result.1 }
+    ensures spends { Spends S.sound state (S.known s.old) result.0 (S.known s.new) result.1 }
+    ensures one_call { S.one_call s.old s.new }
 {
     match state {
         QueryState::Opening(rows) => open(s, alloc, query, scn, rows),

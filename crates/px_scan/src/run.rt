@@ -1,6 +1,7 @@
 // A whole query.
 ghost use Rattle.std.specs.Prelude.{◌≡◌};
 ghost use Rattle.px_calls.specs.Requires.{IsScn};
+ghost use Rattle.px_scan.specs.Bounds.{Spends};
 ghost use Rattle.px_scan.specs.Turns.{Fits, IsBound, IsGoing, IsNew, QueryTurns, RanQuery};
 
 use crate::answer::{Answer, QueryFault, QueryTurn};
@@ -41,6 +42,8 @@ impl<Q: Asks> QueryRun<Q> {
         ensures query { self.new.query ≡ self.old.query }
         ensures scn { self.new.scn ≡ self.old.scn }
         ensures turns { QueryTurns S.sound (Q.asked self.old.query) self.old.scn self.old.state (S.known s.old) self.new.state (S.known s.new) result }
+        ensures spends { Spends S.sound self.old.state (S.known s.old) self.new.state (S.known s.new) result }
+        ensures one_call { S.one_call s.old s.new }
     {
         let state = mem::replace(&mut self.state, QueryState::Over);
         let (state, turn) = machine::advance(s, self.alloc, &self.query, self.scn, state);

@@ -6,7 +6,7 @@ ghost use Rattle.px_seat.specs.Grown.{WasSo, mine};
 use crate::owned::{Based, Owned, Single};
 use px_calls::{
     BaseRows, Chunk, Definition, Doubt, Fixing, Held, Made, Marks, Ordered, Path, Point, Receipt,
-    Status, StepFault, Steps, Ticket, Verifies, Work, Writes,
+    Status, StepFault, Steps, Ticket, Verifies, Work, Writes, count_after,
 };
 use px_tables::Found;
 use px_turn::{TurnLock, TurnSeat};
@@ -27,13 +27,14 @@ impl LockNamed for Brand {
     ghost name = { record { table = record { words = 0; slots = 0; views_name = 0; atom = 0; block = 0; offset = 0; slot_names = [] }; seats = 0 } };
 }
 
-/// A seat at the lock, between two turns.
+/// A seat at the lock, between two turns. It counts its calls.
 pub struct SeatAt<'a, R: Wait, S: Single, N: LockNamed, B: Based> {
     rt: &'a R,
     lock: &'a TurnLock<Owned<S, B>>,
     seat: TurnSeat<Owned<S, B>>,
     id: u32,
     seen: u64,
+    calls: u64,
     of: PhantomData<(N, B)>,
     ghost named: { name_of lock.now ≡ N.name },
     ghost is_seat: { IsSeat N.name seat × (number seat ≡ id) },
@@ -60,6 +61,7 @@ impl<'a, R: Wait, S: Single, N: LockNamed, B: Based> SeatAt<'a, R, S, N, B> {
             seat,
             id,
             seen,
+            calls: 0,
             of: PhantomData,
         }
     }
@@ -75,6 +77,7 @@ impl<'a, R: Wait, S: Single, N: LockNamed, B: Based> SeatAt<'a, R, S, N, B> {
             seat,
             id: _,
             seen: _,
+            calls: _,
             of: _,
         } = self;
         seat
@@ -82,7 +85,11 @@ impl<'a, R: Wait, S: Single, N: LockNamed, B: Based> SeatAt<'a, R, S, N, B> {
 }
 
 impl<'a, R: Wait, S: Single, N: LockNamed, B: Based> Steps for SeatAt<'a, R, S, N, B> {
+    ghost use Rattle.px_calls.specs.Counts.{count_after};
+
     ghost known = { λ s. mine s.id B.base B.damaged (list_seen s.seat) };
+
+    ghost one_call = { λ a b. b.calls ≡ count_after a.calls };
 
     ghost sound = { S.sound };
 
@@ -98,6 +105,7 @@ impl<'a, R: Wait, S: Single, N: LockNamed, B: Based> Steps for SeatAt<'a, R, S, 
         let seen = server.seen();
         guard.leave();
         self.seen = seen;
+        self.calls = count_after(self.calls);
         reply
     }
 
@@ -109,6 +117,7 @@ impl<'a, R: Wait, S: Single, N: LockNamed, B: Based> Steps for SeatAt<'a, R, S, 
         let seen = server.seen();
         guard.leave();
         self.seen = seen;
+        self.calls = count_after(self.calls);
         reply
     }
 
@@ -120,6 +129,7 @@ impl<'a, R: Wait, S: Single, N: LockNamed, B: Based> Steps for SeatAt<'a, R, S, 
         let seen = server.seen();
         guard.leave();
         self.seen = seen;
+        self.calls = count_after(self.calls);
         reply
     }
 
@@ -131,6 +141,7 @@ impl<'a, R: Wait, S: Single, N: LockNamed, B: Based> Steps for SeatAt<'a, R, S, 
         let seen = server.seen();
         guard.leave();
         self.seen = seen;
+        self.calls = count_after(self.calls);
         reply
     }
 
@@ -142,6 +153,7 @@ impl<'a, R: Wait, S: Single, N: LockNamed, B: Based> Steps for SeatAt<'a, R, S, 
         let seen = server.seen();
         guard.leave();
         self.seen = seen;
+        self.calls = count_after(self.calls);
         reply
     }
 
@@ -153,6 +165,7 @@ impl<'a, R: Wait, S: Single, N: LockNamed, B: Based> Steps for SeatAt<'a, R, S, 
         let seen = server.seen();
         guard.leave();
         self.seen = seen;
+        self.calls = count_after(self.calls);
         reply
     }
 
@@ -164,6 +177,7 @@ impl<'a, R: Wait, S: Single, N: LockNamed, B: Based> Steps for SeatAt<'a, R, S, 
         let seen = server.seen();
         guard.leave();
         self.seen = seen;
+        self.calls = count_after(self.calls);
         reply
     }
 
@@ -175,6 +189,7 @@ impl<'a, R: Wait, S: Single, N: LockNamed, B: Based> Steps for SeatAt<'a, R, S, 
         let seen = server.seen();
         guard.leave();
         self.seen = seen;
+        self.calls = count_after(self.calls);
     }
 
     fn open_point(&mut self, table: TableId, scn: Option<u64>) -> Result<Point, StepFault> {
@@ -185,6 +200,7 @@ impl<'a, R: Wait, S: Single, N: LockNamed, B: Based> Steps for SeatAt<'a, R, S, 
         let seen = server.seen();
         guard.leave();
         self.seen = seen;
+        self.calls = count_after(self.calls);
         reply
     }
 
@@ -196,6 +212,7 @@ impl<'a, R: Wait, S: Single, N: LockNamed, B: Based> Steps for SeatAt<'a, R, S, 
         let seen = server.seen();
         guard.leave();
         self.seen = seen;
+        self.calls = count_after(self.calls);
         reply
     }
 
@@ -207,6 +224,7 @@ impl<'a, R: Wait, S: Single, N: LockNamed, B: Based> Steps for SeatAt<'a, R, S, 
         let seen = server.seen();
         guard.leave();
         self.seen = seen;
+        self.calls = count_after(self.calls);
         reply
     }
 
@@ -218,6 +236,7 @@ impl<'a, R: Wait, S: Single, N: LockNamed, B: Based> Steps for SeatAt<'a, R, S, 
         let seen = server.seen();
         guard.leave();
         self.seen = seen;
+        self.calls = count_after(self.calls);
         reply
     }
 
@@ -229,6 +248,7 @@ impl<'a, R: Wait, S: Single, N: LockNamed, B: Based> Steps for SeatAt<'a, R, S, 
         let seen = server.seen();
         guard.leave();
         self.seen = seen;
+        self.calls = count_after(self.calls);
         reply
     }
 
@@ -240,6 +260,7 @@ impl<'a, R: Wait, S: Single, N: LockNamed, B: Based> Steps for SeatAt<'a, R, S, 
         let seen = server.seen();
         guard.leave();
         self.seen = seen;
+        self.calls = count_after(self.calls);
     }
 
     fn order(&mut self, job: Ordered) -> Result<(), StepFault> {
@@ -250,6 +271,7 @@ impl<'a, R: Wait, S: Single, N: LockNamed, B: Based> Steps for SeatAt<'a, R, S, 
         let seen = server.seen();
         guard.leave();
         self.seen = seen;
+        self.calls = count_after(self.calls);
         reply
     }
 
@@ -261,6 +283,7 @@ impl<'a, R: Wait, S: Single, N: LockNamed, B: Based> Steps for SeatAt<'a, R, S, 
         let seen = server.seen();
         guard.leave();
         self.seen = seen;
+        self.calls = count_after(self.calls);
         reply
     }
 
@@ -272,6 +295,7 @@ impl<'a, R: Wait, S: Single, N: LockNamed, B: Based> Steps for SeatAt<'a, R, S, 
         let seen = server.seen();
         guard.leave();
         self.seen = seen;
+        self.calls = count_after(self.calls);
         reply
     }
 

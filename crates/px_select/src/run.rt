@@ -79,6 +79,7 @@ impl SelectRun {
         ensures planned { self.new.scan.query ≡ self.old.scan.query }
         ensures scn { self.new.scan.scn ≡ self.old.scan.scn }
         ensures turns { SelectTurns S.sound self.old.scan.query self.old.scan.scn self.old.scan.state (S.known s.old) self.new.scan.state (S.known s.new) result }
+        ensures one_call { S.one_call s.old s.new }
     {
         match self.scan.step(s) {
             QueryTurn::Stepped => SelectTurn::Stepped,

@@ -1,12 +1,11 @@
 -- The step that makes an index active, from the clauses of its calls.
-use Rattle.std.proofs.Common.{◌≡◌, ◌≢◌, ◌<◌, ◌≤◌, ◌⊎◌, ◌^◌, ◌+◌, ◌↔◌, ℕ, Bool, true, Option, Some, None, List, [], ◌∷◌, ◌++◌, false, zero, suc, slice_get, get_or, length, refl, sym, ap, subst, ◌∙◌, arith}
+use Rattle.std.proofs.Common.{◌≡◌, ◌≢◌, ◌<◌, ◌≤◌, ◌⊎◌, ◌^◌, ◌+◌, ℕ, Bool, true, Option, Some, None, List, [], ◌∷◌, ◌++◌, zero, suc, slice_get, get_or, length, refl, sym, ap, subst, ◌∙◌, arith}
 use Rattle.std.specs.Prelude.{IsTrue, sum_by}
 use Rattle.std.specs.List.{slice_set}
 use Rattle.px_outside.specs.OnDisk.{LeavesOnly, Passes, Rose, TouchesOnly}
 use Rattle.px_outside.specs.declared.disk.Disk.{Ghosts}
 use Rattle.px_values.specs.declared.name.IndexId.{IndexId}
 use Rattle.px_values.specs.declared.name.TableId.{TableId}
-use Rattle.px_tables.specs.declared.table.Table.{Table}
 use Rattle.px_trail.specs.declared.entry.Act.TheVariants.{IndexState, Shut}
 use Rattle.px_trail.specs.declared.entry.Entry.{Entry}
 use Rattle.px_trail.specs.Recorded.{Recorded}
@@ -29,27 +28,18 @@ use Rattle.px_defined.specs.Defined.{HasActive}
 use Rattle.px_server.specs.Kept.{HasTrailRoom, IsKept, owed}
 use Rattle.px_server.specs.Others.{Beginning}
 use Rattle.px_server.specs.inner.Fitting.{IsIndexToActivate}
-use Rattle.px_server.proofs.Reserved.{roomy, set_long, set_there}
+use Rattle.px_server.proofs.Reserved.{roomy}
 use Rattle.px_server.proofs.Unwritten.{unwritten_kept, unwritten_refused}
-use Rattle.px_values.specs.declared.row.Value.{Value}
 use Rattle.px_tables.specs.declared.index.Index.{Index}
 use Rattle.px_tables.specs.declared.index.IndexState.TheVariants.{Active}
-use Rattle.px_trail.specs.Trail.{horizon_of}
-use Rattle.px_trail.specs.States.{state_of}
-use Rattle.px_forms.specs.Indexes.{IndexForm}
-use Rattle.px_groupworld.specs.Group.{GroupData}
-use Rattle.px_openbatches.specs.Pending.{HeldBatch}
-use Rattle.px_group.specs.Group.{IsRightGroup, IsShownBy}
+use Rattle.px_group.specs.Group.{IsRightGroup}
 use Rattle.px_group.specs.declared.group.IndexRegion.{IndexRegion}
 use Rattle.px_calls.specs.Requires.{MayActivate}
 use Rattle.px_schema.specs.Records.{IsRight}
-use Rattle.px_reading.specs.Looked.{HasLooked}
-use Rattle.px_reading.proofs.Looked.{Looked, looked_on}
-use Rattle.px_server.specs.declared.defining.prepared.IndexToActivate.{IndexToActivate}
+use Rattle.px_server.specs.declared.defining.prepared.IndexToPut.{IndexToPut}
 use Rattle.px_server.proofs.IndexActivating.{activate_did, activate_failed, activate_kept, part}
 use Rattle.px_server.proofs.IndexFits.{fits_index}
 use Rattle.px_server.proofs.Lists.{all_at}
-use Rattle.px_server.proofs.Looked.{looked_kept}
 use Rattle.px_indexrow.specs.Form.{IsRightIndex}
 
 pub got_at : {A : Type 0} (xs : List A) (m : ℕ) (x : A) → m < length xs → x ≡ get_or xs m x → slice_get xs m ≡ Some x
@@ -61,7 +51,7 @@ module _ {D : Type 0} (d : Ghosts D) (tells_left : (x : D) (moment file : ℕ) (
     (up_to_now : (x : D) (moment file : ℕ) (bytes : List ℕ) → d.left x moment file bytes → moment ≤ d.calls x) (b : Base) (damaged : ℕ → ℕ → Bool) (sound premise : Type 0) (began : Beginning)
     (disk : D) (catalog : Catalog) (standing : Standing) (groups : List Group) (trail : Recorded) (late : Option Entry) (closed : Option ℕ) (k : IsKept d b sound premise began disk catalog standing groups trail late closed) (running : closed ≡ None)
     (place : ℕ) (g : Group) (l : place < length groups) (g_is : get_or groups place g ≡ g) (seat : ℕ) (t : TableId) (mine : g.table.id ≡ t) (i : IndexId) (may : MayActivate sound (record { seat = seat; base = b; damaged = damaged; alone = true; seen = trail.entries }) t.0 i.0)
-    (m : ℕ) (x : IndexRegion) (x_is : slice_get g.indexes.items m ≡ Some x) (id : x.index.id ≡ i) (p : IndexToActivate) (made : IsIndexToActivate standing x.index p) where
+    (m : ℕ) (x : IndexRegion) (x_is : slice_get g.indexes.items m ≡ Some x) (id : x.index.id ≡ i) (p : IndexToPut) (made : IsIndexToActivate standing x.index p) where
   abbrev known : List Entry → Known
   known es = record { seat = seat; base = b; damaged = damaged; alone = true; seen = es }
 

@@ -1,18 +1,12 @@
--- The index at a place, and what is put there when it is built again.
-use Rattle.std.proofs.Common.{◌≡◌, ◌<◌, ℕ, zero, suc, List, [], ◌∷◌, get_or, length, refl, subst, arith}
+-- What is put at an index's place when it is built again.
+use Rattle.std.proofs.Common.{◌≡◌, ℕ, get_or, subst}
 use Rattle.px_tables.specs.declared.index.Index.{Index}
 use Rattle.px_tables.specs.declared.index.IndexState.TheVariants.{Building}
 use Rattle.px_tables.specs.declared.table.Table.{Table}
 use Rattle.px_schema.specs.declared.standing.Standing.{Standing}
 use Rattle.px_disabled.specs.Disabled.{rebuilt}
-use Rattle.px_server.specs.declared.defining.put.IndexToPut.{IndexToPut}
+use Rattle.px_server.specs.declared.defining.prepared.IndexToPut.{IndexToPut}
 use Rattle.px_server.specs.inner.Quiet.{IsIndexToPut}
-
--- there is one at each place
-pub some_there : {A : Type 0} (xs : List A) (i : ℕ) → i < length xs → (x : A) × (get_or xs i x ≡ x)
-some_there [] i l = absurd (omega (arith, l))
-some_there (x ∷ xs) zero l = (x, refl)
-some_there (x ∷ xs) (suc i) l = some_there xs i (omega (arith, l))
 
 pub put_there : (t : Table) (s : Standing) (place : ℕ) (x : Index) → get_or s.indexes place x ≡ x → (birth : ℕ) (q : IndexToPut) → ((none : Index) → IsIndexToPut t s (record (get_or s.indexes place none) { state = Building; birth = birth; region = s.next }) q)
     → (u : Table) → t ≡ u → IsIndexToPut u s (rebuilt birth s.next x) q

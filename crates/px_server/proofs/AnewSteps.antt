@@ -37,7 +37,7 @@ use Rattle.px_defined.specs.Defined.{HasIndexAnew, IsSame}
 use Rattle.px_disabled.specs.Disabled.{rebuilt}
 use Rattle.px_server.specs.Kept.{HasTrailRoom, IsKept, owed}
 use Rattle.px_server.specs.Others.{Beginning}
-use Rattle.px_server.specs.declared.defining.put.IndexToPut.{IndexToPut}
+use Rattle.px_server.specs.declared.defining.prepared.IndexToPut.{IndexToPut}
 use Rattle.px_server.specs.declared.defining.quiet.IndexPlace.{IndexPlace}
 use Rattle.px_server.specs.inner.Quiet.{IsIndexToPut, IsQuietPlace}
 use Rattle.px_server.proofs.AnewKept.{anew_failed, anew_kept}

@@ -1,5 +1,5 @@
 -- Rows are given their base versions: what is true of a server stays so.
-use Rattle.std.proofs.Common.{◌≡◌, ◌≢◌, ◌<◌, ◌≤◌, ◌+◌, ℕ, zero, suc, Bool, true, false, inl, inr, Option, Some, None, Result, Ok, Err, List, [], ◌∷◌, ◌++◌, length, get_or, map, slice_get, refl, sym, ap, subst, ◌∙◌, arith}
+use Rattle.std.proofs.Common.{◌≡◌, ◌≢◌, ◌<◌, ◌≤◌, ◌+◌, ℕ, zero, suc, Bool, true, inl, inr, Option, Some, None, Result, Ok, Err, List, [], ◌∷◌, ◌++◌, length, get_or, map, slice_get, refl, sym, ap, subst, ◌∙◌, arith}
 use Rattle.std.specs.Prelude.{IfOk, IsSome, IsTrue, nat_eq, sum_by}
 use Rattle.std.specs.List.{AllByRecursion, slice_set}
 use Rattle.std.proofs.lemmas.Bool.{cases_eq}
@@ -24,7 +24,7 @@ use Rattle.px_calls.specs.Calls.{DidBase}
 use Rattle.px_calls.specs.Causes.{Refuses, base_cause}
 use Rattle.px_calls.specs.Known.{Adds, IsRunning, Known}
 use Rattle.px_calls.specs.declared.fault.StepFault.{StepFault}
-use Rattle.px_calls.specs.Requires.{IsBaseRowOf, MayBase, base_owners, is_based}
+use Rattle.px_calls.specs.Requires.{IsBaseRowOf, MayBase, base_owners}
 use Rattle.px_calls.specs.declared.query.BaseRow.{BaseRow}
 use Rattle.px_calls.specs.declared.query.Point.{Point}
 use Rattle.px_region.specs.Region.{read_of}

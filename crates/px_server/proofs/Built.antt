@@ -1,10 +1,9 @@
 -- Indexes that are built, while steps and entries come: what stays true of them.
 use Rattle.std.proofs.Common.{◌≡◌, ◌≢◌, ◌⊎◌, ◌<◌, ◌==◌, ◌||◌, if◌then◌else◌, ℕ, Bool, true, false, cond, inl, inr, Option, Some, None, List, [], ◌∷◌, ◌++◌, length, get_or, set, slice_get, refl, sym, ap, subst, ◌∙◌, arith, get_or-set_other, get_or-set_same}
-use Rattle.std.specs.Prelude.{filter, nat_eq, not}
+use Rattle.std.specs.Prelude.{filter, not}
 use Rattle.std.proofs.lemmas.Bool.{cases_eq, cases_lt, false≢true, ne_eqb}
 use Rattle.std.proofs.lemmas.Option.{get_or_from_slice_get}
 use Rattle.std.proofs.Math.ListN.{length-append}
-use Rattle.px_cells.specs.CellData.{CellData}
 use Rattle.px_values.specs.declared.change.What.{What}
 use Rattle.px_values.specs.declared.name.IndexId.{IndexId}
 use Rattle.px_values.specs.declared.name.TableId.{TableId}
@@ -26,8 +25,8 @@ use Rattle.px_rows.specs.Spelled.{row_form}
 use Rattle.px_indexed.specs.Idle.{IsElsewhere}
 use Rattle.px_indexed.specs.Worlds.{begin_event, change_event, row_event, world_at}
 use Rattle.px_indexed.proofs.Idle.{act_idle}
-use Rattle.px_groupworld.specs.Group.{GroupData, GroupKept, IndexPart, TableForm, index_in, no_part, shape_in, table_form, world_in}
-use Rattle.px_groupworld.specs.Steps.{Bears, Does, Events, born_data, with_cells}
+use Rattle.px_groupworld.specs.Group.{GroupData, GroupKept, IndexPart, TableForm, index_in, no_part, table_form}
+use Rattle.px_groupworld.specs.Steps.{Bears, Does, Events, born_data}
 use Rattle.px_groupworld.proofs.Entries.{group_idle}
 use Rattle.px_openbatches.specs.Pending.{HeldBatch}
 use Rattle.px_group.specs.Group.{IsRightGroup, IsRightPart, IsShownBy, IsTallied, form_of}
@@ -35,7 +34,7 @@ use Rattle.px_group.specs.declared.group.Group.{Group}
 use Rattle.px_group.specs.declared.group.IndexRegion.{IndexRegion}
 use Rattle.px_defined.specs.Defined.{dropped_data}
 use Rattle.px_defined.proofs.Lists.{all_at, from_filter, get_end, within}
-use Rattle.px_built.specs.Built.{HasBase, IsBuiltBy, IsOfRun}
+use Rattle.px_built.specs.Built.{HasBase, IsOfRun}
 use Rattle.px_built.proofs.Tables.{based_entry, built_bears, built_born, built_moved, built_opened, built_stays}
 use Rattle.px_server.specs.Kept.{AreBuilt, number_in}
 use Rattle.px_server.proofs.Forms.{form_at, get_some}

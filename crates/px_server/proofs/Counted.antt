@@ -1,10 +1,6 @@
 -- What a status counts, and what the trail tells of it.
 use Rattle.std.proofs.Common.{◌≡◌, ◌<◌, ℕ, zero, suc, inl, inr, Option, Some, None, List, [], ◌∷◌, length, get_or, map, min, refl, sym, ap, subst, ◌∙◌, arith}
 use Rattle.std.specs.List.{AllByRecursion}
-use Rattle.px_cells.specs.CellData.{CellData}
-use Rattle.px_cells.specs.Order.{GoesWith, IsAscending, IsCellList}
-use Rattle.px_cells.specs.Sight.{IsPlainRegion}
-use Rattle.px_cells.proofs.Among.{has_all, reads_from_has}
 use Rattle.px_values.specs.declared.name.TableId.{TableId}
 use Rattle.px_tables.specs.declared.index.Index.{Index}
 use Rattle.px_tables.specs.declared.table.Table.{Table}
@@ -27,10 +23,6 @@ use Rattle.px_server.specs.Counts.{bare, count_as}
 use Rattle.px_server.specs.Kept.{HasTallied}
 use Rattle.px_server.specs.Shown.{HasLogged, logged_by, logged_in}
 use Rattle.px_server.proofs.Seen.{stays}
-
--- what is read of a region is a list of cells
-pub cells_list : (cells : List CellData) → IsPlainRegion cells → IsAscending cells → IsCellList cells
-cells_list cells plain up = record { ascending = up; placed = has_all GoesWith cells (λ c has. plain.placed c (reads_from_has cells c up has)) }
 
 -- ---- the counts are those of the indexes
 

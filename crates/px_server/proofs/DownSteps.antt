@@ -33,7 +33,7 @@ use Rattle.px_defined.specs.Defined.{HasIndexLess}
 use Rattle.px_disabled.specs.Disabled.{disabled}
 use Rattle.px_server.specs.Kept.{HasTrailRoom, IsKept, owed}
 use Rattle.px_server.specs.Others.{Beginning}
-use Rattle.px_server.specs.declared.defining.put.IndexToPut.{IndexToPut}
+use Rattle.px_server.specs.declared.defining.prepared.IndexToPut.{IndexToPut}
 use Rattle.px_server.specs.declared.defining.quiet.IndexPlace.{IndexPlace}
 use Rattle.px_server.specs.inner.Quiet.{IsIndexToPut, IsQuietPlace}
 use Rattle.px_server.proofs.DownKept.{down_failed, down_kept}

@@ -8,7 +8,7 @@ use Rattle.px_values.specs.declared.name.TableId.{TableId}
 use Rattle.px_tables.specs.declared.table.Table.{Table}
 use Rattle.px_trail.specs.declared.entry.Act.TheVariants.{Ended}
 use Rattle.px_trail.specs.declared.entry.Entry.{Entry}
-use Rattle.px_trail.specs.Batches.{Batch, IsIn, batch_of, phase_of}
+use Rattle.px_trail.specs.Batches.{Batch, IsIn, batch_of}
 use Rattle.px_trail.specs.Batches as phases
 use Rattle.px_trail.specs.Legal.{Follows, IsEndable, MayCome}
 use Rattle.px_trail.specs.Recorded.{Recorded}

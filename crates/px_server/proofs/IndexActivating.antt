@@ -1,8 +1,7 @@
 -- An index becomes active, as the code makes it so.
-use Rattle.std.proofs.Common.{◌≡◌, ◌≢◌, ◌<◌, ◌≤◌, ◌⊎◌, ◌+◌, ◌↔◌, ℕ, Bool, true, false, Option, Some, None, List, [], ◌∷◌, ◌++◌, IsSome, get_or, length, slice_get, refl, sym, ap, subst, ◌∙◌}
+use Rattle.std.proofs.Common.{◌≡◌, ◌≢◌, ◌<◌, ◌≤◌, ◌⊎◌, ◌+◌, ℕ, Bool, true, Option, Some, None, List, [], ◌∷◌, ◌++◌, IsSome, get_or, length, slice_get, refl, sym, ap, subst, ◌∙◌}
 use Rattle.std.specs.Prelude.{IsTrue, sum_by}
 use Rattle.std.specs.List.{slice_set}
-use Rattle.std.proofs.lemmas.Bool.{false≢true}
 use Rattle.px_outside.specs.OnDisk.{LeavesOnly, Passes, TouchesOnly}
 use Rattle.px_outside.specs.declared.disk.Disk.{Ghosts}
 use Rattle.px_values.specs.declared.name.IndexId.{IndexId}
@@ -16,33 +15,26 @@ use Rattle.px_trail.specs.declared.entry.Entry.{Entry}
 use Rattle.px_trail.specs.Batches.{IsDecided}
 use Rattle.px_trail.specs.Legal.{MayCome}
 use Rattle.px_trail.specs.Recorded.{Recorded}
-use Rattle.px_values.specs.States.{RowState}
 use Rattle.px_trail.specs.States.{state_of}
 use Rattle.px_trail.specs.Trail.{Base, horizon_of, index_of, table_of}
-use Rattle.px_forms.specs.Indexes.{IndexForm}
 use Rattle.px_calls.specs.Calls.{DidDefine}
 use Rattle.px_calls.specs.Causes.{LacksIndex}
 use Rattle.px_calls.specs.Known.{Known}
 use Rattle.px_calls.specs.Requires.{CanActivate, MayActivate, is_based}
 use Rattle.px_calls.specs.declared.definition.Definition.TheVariants as definition
-use Rattle.px_region.specs.declared.region.Region.{Region}
 use Rattle.px_schema.specs.Stands.{after}
 use Rattle.px_schema.specs.declared.item.CatalogItem.TheVariants.{IndexIs}
 use Rattle.px_schema.specs.declared.standing.Standing.{Standing}
 use Rattle.px_catalog.specs.Catalogue.{CatalogueStands, HasCatalogue, catalogue_files, standing_of}
 use Rattle.px_catalog.specs.declared.catalog.Catalog.{Catalog}
-use Rattle.px_groupworld.specs.Group.{GroupData}
-use Rattle.px_openbatches.specs.Pending.{HeldBatch}
-use Rattle.px_group.specs.Group.{IsRightGroup, IsRightPart, IsShownBy}
+use Rattle.px_group.specs.Group.{IsRightGroup, IsRightPart}
 use Rattle.px_group.specs.declared.group.Group.{Group}
 use Rattle.px_group.specs.declared.group.IndexRegion.{IndexRegion}
 use Rattle.px_defined.specs.Defined.{HasActive}
 use Rattle.px_defined.proofs.Lists as placed
-use Rattle.px_reading.specs.Looked.{AreLookedAt, HasLooked, IsLookedAt}
-use Rattle.px_reading.proofs.Looked.{still_shown}
 use Rattle.px_server.specs.Kept.{HasFailed, HasTallied, HasTrailRoom, IsKept, IsShutAt, owed}
 use Rattle.px_server.specs.Others.{Beginning}
-use Rattle.px_server.specs.declared.defining.prepared.IndexToActivate.{IndexToActivate}
+use Rattle.px_server.specs.declared.defining.prepared.IndexToPut.{IndexToPut}
 use Rattle.px_server.specs.inner.Fitting.{IsIndexToActivate}
 use Rattle.px_server.proofs.IndexAnswers.{did_activate}
 use Rattle.px_server.proofs.IndexFound.{id_is, number_found}
@@ -105,7 +97,7 @@ module _ {D : Type 0} (d : Ghosts D) (tells_left : (x : D) (moment file : ℕ) (
     all given = subst (λ (u : TableId). (r : List Value) → state_of b es u.0 r x.index.birth ≢ None → is_based es x.index.id.0 r ≡ true) (sym mine)
         (subst (λ (n : IndexId). (r : List Value) → state_of b es t.0 r x.index.birth ≢ None → is_based es n.0 r ≡ true) (sym id) (can.based given))
 
-    module _ (p : IndexToActivate) (made : IsIndexToActivate standing x.index p)
+    module _ (p : IndexToPut) (made : IsIndexToActivate standing x.index p)
         (disk' : D) (passes : Passes d disk disk' 4) (touches : HasCatalogue d catalog disk → TouchesOnly d disk disk' catalogue_files)
         (leaves : HasCatalogue d catalog disk → LeavesOnly d disk disk' (λ moment image. CatalogueStands image (standing_of catalog) ⊎ CatalogueStands image (after (standing_of catalog) (IndexIs p.item)))) (calls : ℕ) (at : calls ≡ d.calls disk') where
       abbrev y : Index

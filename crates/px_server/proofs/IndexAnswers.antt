@@ -1,5 +1,5 @@
 -- What the definitions of indexes answer.
-use Rattle.std.proofs.Common.{◌≡◌, ◌<◌, ◌≤◌, ℕ, Some, List, [], ◌∷◌, ◌++◌, length, refl, ◌∙◌}
+use Rattle.std.proofs.Common.{◌≡◌, ◌≤◌, ℕ, Some, List, [], ◌∷◌, ◌++◌, length, refl}
 use Rattle.px_values.specs.Limits.{most_of}
 use Rattle.px_values.specs.declared.limit.Limit.TheVariants as bound
 use Rattle.px_values.specs.declared.name.IndexId.{IndexId}

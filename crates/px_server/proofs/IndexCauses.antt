@@ -1,7 +1,6 @@
 -- Why no index is made, and what is told where nothing hinders it.
-use Rattle.std.proofs.Common.{◌≡◌, ◌≢◌, ◌≤◌, ◌<◌, inl, ℕ, true, false, Option, None, Some, List, refl, sym, ap, subst, ◌∙◌, arith}
-use Rattle.std.specs.Prelude.{◌↔◌, IsSome}
-use Rattle.std.proofs.lemmas.Bool.{false≢true}
+use Rattle.std.proofs.Common.{◌≡◌, ◌≢◌, ◌≤◌, ◌<◌, ℕ, Option, None, Some, List, refl, sym, ap, ◌∙◌, arith}
+use Rattle.std.specs.Prelude.{IsSome}
 use Rattle.px_values.specs.declared.name.TableId.{TableId}
 use Rattle.std.specs.List.{AllByRecursion}
 use Rattle.px_values.specs.Limits.{most_of}
@@ -9,7 +8,7 @@ use Rattle.px_values.specs.declared.limit.Limit.TheVariants as bound
 use Rattle.px_tables.specs.declared.index.NewIndex.{NewIndex}
 use Rattle.px_tables.specs.declared.table.Table.{Table}
 use Rattle.px_trail.specs.Legal.{IsLegal}
-use Rattle.px_trail.specs.Trail.{catalogue_of, closing_call, horizon_of, last_of, table_of}
+use Rattle.px_trail.specs.Trail.{catalogue_of, closing_call, last_of, table_of}
 use Rattle.px_calls.specs.Causes.{Refuses, define_cause}
 use Rattle.px_calls.specs.Known.{Known}
 use Rattle.px_calls.specs.declared.definition.Definition.TheVariants as d
@@ -20,8 +19,6 @@ use Rattle.px_schema.specs.declared.standing.Standing.{Standing}
 use Rattle.px_group.specs.Group.{IsTallied}
 use Rattle.px_group.specs.declared.group.Group.{Group}
 use Rattle.px_openbatches.specs.Pending.{HeldBatch}
-use Rattle.px_defined.specs.Defined.{has_to_write}
-use Rattle.px_defined.proofs.Pending.{pending}
 use Rattle.px_standing.specs.Agrees.{Agrees, IsUnused}
 use Rattle.px_standing.proofs.Looked.{free, lacks, taken}
 use Rattle.px_standing.proofs.Counted.{indexes_counted, runs_out}

@@ -27,10 +27,9 @@ use Rattle.px_group.specs.declared.group.Group.{Group}
 use Rattle.px_defined.specs.Defined.{HasIndexLess}
 use Rattle.px_server.specs.Kept.{HasFailed, HasTallied, HasTrailRoom, IsKept, IsShutAt, owed}
 use Rattle.px_server.specs.Others.{Beginning}
-use Rattle.px_server.specs.inner.Indexing.{HasIndexOf}
 use Rattle.px_server.proofs.GoneKept.{gone_failed, gone_kept}
 use Rattle.px_server.proofs.IndexAnswers.{did_drop}
-use Rattle.px_server.proofs.IndexFound.{lacks_of, stands_of}
+use Rattle.px_server.proofs.IndexFound.{HasIndexOf, lacks_of, stands_of}
 use Rattle.px_server.proofs.IndexMay.{may_drop}
 use Rattle.px_server.proofs.Lists.{all_at}
 use Rattle.px_server.proofs.Uses.{is_quiet, uses_are}
@@ -52,14 +51,7 @@ module _ {D : Type 0} (d : Ghosts D) (tells_left : (x : D) (moment file : ℕ) (
   tallied : HasTallied b es g
   tallied = all_at (HasTallied b es) groups place g l g_is (k.each.tallied running)
 
-  stands : table_of b es t.0 ≡ Some g.table
-  stands = ap (λ (u : TableId). table_of b es u.0) (sym mine) ∙ tallied.tallied.standing.table
-
-  -- no such index
-  pub no_index : (HasIndexOf standing.indexes t i → ⊥) → LacksIndex before t.0 i.0
-  no_index not = (subst (λ (o : Option Table). IsSome o) (sym stands) refl, lacks_of b es standing k.told.agrees t i not)
-
-  -- or it is in use
+  -- it is in use
   pub in_use : (count : ℕ) → count ≡ length g.points.items + length g.batches.items → 0 < count → IsInUse before t.0 count
   in_use count is some = ((let n = uses_are b es g tallied.held tallied.tallied k.told.legal in subst (λ (u : TableId). uses_of u.0 es ≡ length g.points.items + length g.batches.items) mine n ∙ sym is), some)
 

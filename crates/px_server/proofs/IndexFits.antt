@@ -28,7 +28,7 @@ use Rattle.px_server.specs.Kept.{HasTallied, IsKept}
 use Rattle.px_server.specs.Others.{Beginning}
 use Rattle.px_server.specs.declared.defining.prepared.IndexToMake.{IndexToMake}
 use Rattle.px_server.specs.inner.Fitting.{CanRecord, IsIndexToMake}
-use Rattle.px_server.specs.inner.Indexing.{HasIndexOf}
+use Rattle.px_server.proofs.IndexFound.{HasIndexOf}
 use Rattle.px_server.proofs.IndexRecord.{among_found, index_right, width_found}
 use Rattle.px_server.proofs.Lists.{all_at}
 use Rattle.px_server.proofs.SameStanding.{same_count, same_numbers}

@@ -1,5 +1,5 @@
 -- An index of a table among those that stand.
-use Rattle.std.proofs.Common.{◌≡◌, ◌≢◌, ◌<◌, ◌≤◌, inl, inr, ℕ, zero, suc, Bool, true, false, Some, List, [], ◌∷◌, length, get_or, take, refl, sym, ap, ◌∙◌, arith}
+use Rattle.std.proofs.Common.{◌≡◌, ◌≢◌, ◌<◌, ◌⊎◌, inl, inr, ℕ, zero, suc, Bool, true, false, Some, List, [], ◌∷◌, length, get_or, refl, sym, ap, ◌∙◌, arith}
 use Rattle.std.specs.List.{AllByRecursion}
 use Rattle.std.specs.Prelude.{◌==◌, if◌then◌else◌}
 use Rattle.std.proofs.lemmas.Bool.{cases_eq, eq-eqb, ne_eqb}
@@ -14,7 +14,11 @@ use Rattle.px_recovery.specs.Tables.{index_in, number_of_index}
 use Rattle.px_standing.specs.Agrees.{Agrees}
 use Rattle.px_standing.proofs.Finder.{among_found}
 use Rattle.px_standing.proofs.Looked.{index_finder}
-use Rattle.px_server.specs.inner.Indexing.{HasIndexOf}
+
+-- one of these is the index of the table
+abbrev pub HasIndexOf : List Index → TableId → IndexId → Type 0
+HasIndexOf [] t i = ⊥
+HasIndexOf (x ∷ xs) t i = ((x.id ≡ i) × (x.table ≡ t)) ⊎ HasIndexOf xs t i
 
 among_index : (xs : List Index) (t : TableId) (i : IndexId) → HasIndexOf xs t i → (x : Index) × (IsAmong x xs × ((x.id ≡ i) × (x.table ≡ t)))
 unfolding IsAmong
@@ -22,21 +26,16 @@ among_index [] t i has = absurd has
 among_index (x ∷ xs) t i (inl own) = (x, (inl refl, own))
 among_index (x ∷ xs) t i (inr later) = (let r = among_index xs t i later in (r.0, (inr r.1.0, r.1.1)))
 
--- one of them that was found, or none
-pub has_at : (xs : List Index) (t : TableId) (i : IndexId) (n : ℕ) (x : Index) → n < length xs → x ≡ get_or xs n x → (x.id ≡ i) × (x.table ≡ t) → HasIndexOf xs t i
-has_at [] t i n x l at own = absurd (omega (arith, l))
-has_at (y ∷ ys) t i zero x l at own = inl (ap (λ (z : Index). z.id) (sym at) ∙ own.0, ap (λ (z : Index). z.table) (sym at) ∙ own.1)
-has_at (y ∷ ys) t i (suc n) x l at own = inr (has_at ys t i n x (omega (arith, l)) at own)
+-- one that stands at a place, or none
+pub has_at : (xs : List Index) (t : TableId) (i : IndexId) (n : ℕ) → n < length xs → ((none : Index) → (get_or xs n none).id ≡ i) → ((none : Index) → (get_or xs n none).table ≡ t) → HasIndexOf xs t i
+has_at [] t i n l id own = absurd (omega (arith, l))
+has_at (y ∷ ys) t i zero l id own = inl (id y, own y)
+has_at (y ∷ ys) t i (suc n) l id own = inr (has_at ys t i n (omega (arith, l)) id own)
 
 pub has_none : (xs : List Index) (t : TableId) (i : IndexId) → AllByRecursion (λ (x : Index). (x.id ≡ i) × (x.table ≡ t) → ⊥) xs → HasIndexOf xs t i → ⊥
 has_none [] t i all has = has
 has_none (x ∷ xs) t i all (inl own) = all.0 own
 has_none (x ∷ xs) t i all (inr later) = has_none xs t i all.1 later
-
-pub take_whole : {A : Type 0} (P : A → Type 0) (xs : List A) (n : ℕ) → length xs ≤ n → AllByRecursion P (take n xs) → AllByRecursion P xs
-take_whole P [] n l all = tt
-take_whole P (x ∷ xs) zero l all = absurd (omega (arith, l))
-take_whole P (x ∷ xs) (suc n) l all = (all.0, take_whole P xs n (omega (arith, l)) all.1)
 
 if_true : {A : Type 0} (v : Bool) (a c : A) → v ≡ true → (if v then a else c) ≡ a
 if_true true a c h = refl

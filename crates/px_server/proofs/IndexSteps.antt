@@ -34,8 +34,9 @@ use Rattle.px_server.specs.Kept.{HasTrailRoom, IsKept, owed}
 use Rattle.px_server.specs.Others.{Beginning}
 use Rattle.px_server.specs.declared.defining.prepared.IndexToMake.{IndexToMake}
 use Rattle.px_server.specs.inner.Fitting.{IsIndexToMake}
-use Rattle.px_server.specs.inner.Indexing.{HasIndexOf, MayMakeIndex}
+use Rattle.px_server.specs.inner.Indexing.{MayMakeIndex}
 use Rattle.px_server.proofs.IndexDropping.{drop_did, drop_failed, drop_kept}
+use Rattle.px_server.proofs.IndexFound.{HasIndexOf}
 use Rattle.px_server.proofs.IndexMaking.{make_did, make_failed, make_kept}
 use Rattle.px_server.proofs.Reserved.{roomy, set_long, set_there}
 use Rattle.px_server.proofs.Unwritten.{reserved, unwritten_kept, unwritten_refused}

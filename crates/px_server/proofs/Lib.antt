@@ -20,6 +20,7 @@ pub mod Drawn
 pub mod Elsewhere
 pub mod Ended
 pub mod Ends
+pub mod Entered
 pub mod Fields
 pub mod Finished
 pub mod FitsRows
@@ -46,6 +47,7 @@ pub mod IndexReady
 pub mod IndexRecord
 pub mod IndexStands
 pub mod IndexSteps
+pub mod Joined
 pub mod Left
 pub mod LetIn
 pub mod Letting

@@ -14,8 +14,9 @@ use Rattle.px_trail.specs.declared.entry.Entry.{Entry}
 use Rattle.px_trail.specs.Legal.{Follows, IsOf, IsQuiet, MayCome, MayState}
 use Rattle.px_trail.specs.Recorded.{Recorded}
 use Rattle.px_trail.specs.Trail.{Base, index_of, last_of}
-use Rattle.px_calls.specs.Causes.{Refuses, define_cause}
+use Rattle.px_calls.specs.Causes.{IsInUse, LacksIndex, LacksTable, Refuses, define_cause}
 use Rattle.px_calls.specs.Known.{Known}
+use Rattle.px_calls.specs.declared.definition.Definition.{Definition}
 use Rattle.px_calls.specs.declared.definition.Definition.TheVariants as definition
 use Rattle.px_calls.specs.declared.fault.StepFault.{StepFault}
 use Rattle.px_calls.specs.declared.fault.StepFault.TheVariants as fault
@@ -38,7 +39,7 @@ use Rattle.px_server.specs.inner.Fitting.{CanRecord}
 use Rattle.px_server.specs.inner.Quiet.{IsQuietPlace, IsUnquiet, IsUsed}
 use Rattle.px_server.specs.declared.defining.quiet.IndexPlace.{IndexPlace}
 use Rattle.px_server.proofs.Found.{closed_by}
-use Rattle.px_server.proofs.IndexDropping.{in_use, no_index_at}
+use Rattle.px_server.proofs.IndexDropping.{in_use as table_in_use, no_index_at}
 use Rattle.px_server.proofs.IndexFits.{fits_index}
 use Rattle.px_server.proofs.IndexFound.{has_none}
 use Rattle.px_server.proofs.IndexMay.{may_follow}
@@ -62,47 +63,41 @@ module _ {D : Type 0} (d : Ghosts D) (tells_left : (x : D) (moment file : ℕ) (
 
   -- ---- why it isn't changed
 
-  used : closed ≡ None → (count : ℕ) (u : IsUsed standing groups t count) → define_cause (definition.Disabled t i) (fault.InUse count) known
+  used : closed ≡ None → (count : ℕ) (u : IsUsed standing groups t count) → IsInUse known t.0 count
   used running count u =
       let l = place_in groups standing.tables k.each.stand u.place u.table.low in
-      in_use d tells_left up_to_now b damaged sound premise began disk catalog standing groups trail late closed k running u.place u.group l u.is seat t (group_of groups standing.tables k.each.stand u.place u.group l u.is t u.table.is) i count u.count_is u.some
+      table_in_use d tells_left up_to_now b damaged sound premise began disk catalog standing groups trail late closed k running u.place u.group l u.is seat t (group_of groups standing.tables k.each.stand u.place u.group l u.is t u.table.is) i count u.count_is u.some
 
-  pub unquiet_disabled : (f : StepFault) → IsUnquiet standing groups closed t i f → Refuses (define_cause (definition.Disabled t i)) known known f
-  unquiet_disabled (fault.Closed call) is = closed_by known k.told.legal closed k.told.closing call is
-  unquiet_disabled fault.NoTable is = (lacks b es standing k.told.agrees t.0 is.1, stays known k.told.legal, k.told.closing ∙ is.0)
-  unquiet_disabled fault.NoIndex is = (
-    no_index_at d b sound premise began disk catalog standing groups trail late closed k is.0 is.1.0 is.1.1.low t is.1.1.is i seat damaged (has_none standing.indexes t i is.2),
+  -- what a definition says of these four causes
+  unquiet : (x : Definition) → (LacksTable known t.0 → define_cause x fault.NoTable known) → (LacksIndex known t.0 i.0 → define_cause x fault.NoIndex known) → ((count : ℕ) → IsInUse known t.0 count → define_cause x (fault.InUse count) known)
+      → (f : StepFault) → IsUnquiet standing groups closed t i f → Refuses (define_cause x) known known f
+  unquiet x no_table no_index in_use (fault.Closed call) is = closed_by known k.told.legal closed k.told.closing call is
+  unquiet x no_table no_index in_use fault.NoTable is = (no_table (lacks b es standing k.told.agrees t.0 is.1), stays known k.told.legal, k.told.closing ∙ is.0)
+  unquiet x no_table no_index in_use fault.NoIndex is = (
+    no_index (no_index_at d b sound premise began disk catalog standing groups trail late closed k is.0 is.1.0 is.1.1.low t is.1.1.is i seat damaged (has_none standing.indexes t i is.2)),
     stays known k.told.legal,
     k.told.closing ∙ is.0,
   )
-  unquiet_disabled (fault.InUse count) is = (used is.0 count is.1, stays known k.told.legal, k.told.closing ∙ is.0)
-  unquiet_disabled fault.NameExists is = absurd is
-  unquiet_disabled (fault.Limit which count) is = absurd is
-  unquiet_disabled (fault.Busy region cells bytes) is = absurd is
-  unquiet_disabled (fault.NotReady region) is = absurd is
-  unquiet_disabled (fault.NotYet stamp) is = absurd is
-  unquiet_disabled (fault.BelowHorizon horizon) is = absurd is
-  unquiet_disabled fault.ReadFault is = absurd is
-  unquiet_disabled fault.WriteFault is = absurd is
-  unquiet_disabled (fault.Damaged file place) is = absurd is
-  unquiet_disabled fault.Memory is = absurd is
+  unquiet x no_table no_index in_use (fault.InUse count) is = (in_use count (used is.0 count is.1), stays known k.told.legal, k.told.closing ∙ is.0)
+  unquiet x no_table no_index in_use fault.NameExists is = absurd is
+  unquiet x no_table no_index in_use (fault.Limit which count) is = absurd is
+  unquiet x no_table no_index in_use (fault.Busy region cells bytes) is = absurd is
+  unquiet x no_table no_index in_use (fault.NotReady region) is = absurd is
+  unquiet x no_table no_index in_use (fault.NotYet stamp) is = absurd is
+  unquiet x no_table no_index in_use (fault.BelowHorizon horizon) is = absurd is
+  unquiet x no_table no_index in_use fault.ReadFault is = absurd is
+  unquiet x no_table no_index in_use fault.WriteFault is = absurd is
+  unquiet x no_table no_index in_use (fault.Damaged file place) is = absurd is
+  unquiet x no_table no_index in_use fault.Memory is = absurd is
 
-  -- the same stands against that it is built again
+  pub unquiet_disabled : (f : StepFault) → IsUnquiet standing groups closed t i f → Refuses (define_cause (definition.Disabled t i)) known known f
+  unquiet_disabled = unquiet (definition.Disabled t i) (λ c. c) (λ c. c) (λ n c. c)
+
   pub unquiet_rebuilding : (f : StepFault) → IsUnquiet standing groups closed t i f → Refuses (define_cause (definition.Rebuilding t i)) known known f
-  unquiet_rebuilding (fault.Closed call) is = unquiet_disabled (fault.Closed call) is
-  unquiet_rebuilding fault.NoTable is = unquiet_disabled fault.NoTable is
-  unquiet_rebuilding fault.NoIndex is = unquiet_disabled fault.NoIndex is
-  unquiet_rebuilding (fault.InUse count) is = unquiet_disabled (fault.InUse count) is
-  unquiet_rebuilding fault.NameExists is = absurd is
-  unquiet_rebuilding (fault.Limit which count) is = absurd is
-  unquiet_rebuilding (fault.Busy region cells bytes) is = absurd is
-  unquiet_rebuilding (fault.NotReady region) is = absurd is
-  unquiet_rebuilding (fault.NotYet stamp) is = absurd is
-  unquiet_rebuilding (fault.BelowHorizon horizon) is = absurd is
-  unquiet_rebuilding fault.ReadFault is = absurd is
-  unquiet_rebuilding fault.WriteFault is = absurd is
-  unquiet_rebuilding (fault.Damaged file place) is = absurd is
-  unquiet_rebuilding fault.Memory is = absurd is
+  unquiet_rebuilding = unquiet (definition.Rebuilding t i) (λ c. c) (λ c. c) (λ n c. c)
+
+  pub unquiet_dropping : (f : StepFault) → IsUnquiet standing groups closed t i f → Refuses (define_cause (definition.DropIndex t i)) known known f
+  unquiet_dropping = unquiet (definition.DropIndex t i) (λ c. c) (λ c. c) (λ n c. c)
 
   -- ---- where it is quiet
 

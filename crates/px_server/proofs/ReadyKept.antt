@@ -21,7 +21,6 @@ use Rattle.px_trail.specs.States.{state_of}
 use Rattle.px_trail.specs.Trail.{Base, Catalogue, catalogue_of, catalogue_step, horizon_of}
 use Rattle.px_trail.proofs.Growth.{catalogue-snoc}
 use Rattle.px_calls.specs.Requires.{is_based}
-use Rattle.px_forms.specs.Indexes.{IndexForm}
 use Rattle.px_indexed.specs.Idle.{IsElsewhere}
 use Rattle.px_region.specs.Region.{Holds}
 use Rattle.px_region.specs.declared.region.Region.{Region}
@@ -33,8 +32,7 @@ use Rattle.px_catalog.specs.declared.catalog.Catalog.{Catalog}
 use Rattle.px_tablefolder.specs.Folder.{IsFilesOf}
 use Rattle.px_groupworld.specs.Group.{GroupData, no_part}
 use Rattle.px_groupworld.specs.Steps.{ready_data}
-use Rattle.px_openbatches.specs.Pending.{HeldBatch}
-use Rattle.px_group.specs.Group.{IsRightGroup, IsRightPart, IsShownBy}
+use Rattle.px_group.specs.Group.{IsRightGroup, IsRightPart}
 use Rattle.px_group.specs.declared.group.Group.{Group}
 use Rattle.px_group.specs.declared.group.IndexRegion.{IndexRegion}
 use Rattle.px_defined.specs.Defined.{HasActive, HasOnce, active}

@@ -60,3 +60,9 @@ pub same_there : {A : Type 0} (xs : List A) (i : ℕ) (x y : A) → i < length x
 same_there [] i x y l at also = absurd (omega (arith, l))
 same_there (z ∷ zs) zero x y l at also = sym at ∙ also
 same_there (z ∷ zs) (suc i) x y l at also = same_there zs i x y (omega (arith, l)) at also
+
+-- there is one at each place
+pub some_there : {A : Type 0} (xs : List A) (i : ℕ) → i < length xs → (x : A) × (get_or xs i x ≡ x)
+some_there [] i l = absurd (omega (arith, l))
+some_there (x ∷ xs) zero l = (x, refl)
+some_there (x ∷ xs) (suc i) l = some_there xs i (omega (arith, l))

@@ -6,7 +6,10 @@ use Rattle.px_catalog.specs.declared.fault.CatalogFault.TheVariants.{Full, Memor
 use Rattle.px_outside.specs.declared.clock.Clock.{Ghosts}
 use Rattle.px_trail.specs.Trail.{Base, last_of}
 use Rattle.px_trail.specs.declared.entry.Entry.{Entry}
+use Rattle.px_trail.specs.declared.entry.Act.TheVariants.{Shut}
+use Rattle.px_calls.specs.declared.fault.StepFault.{StepFault}
 use Rattle.px_turns.specs.Turns.{drawn}
+use Rattle.px_server.specs.inner.Entering.{IsUnwritten}
 use Rattle.px_server.specs.Stamps.{AreStamped, Draw, IsByClock, IsStamped, draw_of}
 
 module _ (times : ℕ → ℕ) (base : Base) where
@@ -83,6 +86,12 @@ module _ {C : Type 0} (c : Ghosts C) (times : ℕ → ℕ) (base : Base) where
     unwritten_by_clock Full es' e kept shut none = same_by_clock es' (kept (λ is. absurd cc))
     unwritten_by_clock Memory es' e kept shut none = same_by_clock es' (kept (λ is. absurd cc))
     unwritten_by_clock WriteFault es' e kept shut none = more_by_clock es' e (shut refl) none
+
+    -- the same behind a trail with more room
+    pub unwritten_entry_by_clock : (mid : List Entry) → mid ≡ es → (fault : CatalogFault) (e : Entry) (es' : List Entry) (late late' : Option Entry) (closed closed' : Option ℕ) (f : StepFault) → IsUnwritten fault e mid es' late late' closed closed' f → IsByClock c times base clock es'
+    unwritten_entry_by_clock mid same fault e es' late late' closed closed' f u =
+        let shut : Entry = record { seat = e.seat; calls = e.calls; act = Shut e.calls } in
+        unwritten_by_clock fault es' shut (λ n. (u.kept n).0 ∙ same) (λ z. (u.shut z).0 ∙ ap (λ (xs : List Entry). xs ++ shut ∷ []) same) refl
 
     module _ (clock' : C) (rest : IsTrue c.tells → (m : ℕ) → c.times clock' m ≡ c.times clock (m + 1)) where
       -- the clock has told a number

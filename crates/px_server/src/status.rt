@@ -1,11 +1,13 @@
 // What a table's status counts.
 ghost use Rattle.std.specs.Prelude.{◌≡◌, ◌<◌, ◌≤◌, IfErr, IfOk, filter, length, map, min};
 ghost use Rattle.std.specs.List.{All};
-ghost use Rattle.px_cells.specs.Order.{IsCellList};
+ghost use Rattle.px_cells.specs.Sight.{IsPlainRegion};
+ghost use Rattle.px_cells.specs.Visible.{IsView};
 ghost use Rattle.px_calls.specs.Calls.{DidCount};
 ghost use Rattle.px_calls.specs.Causes.{Refuses, status_cause};
 ghost use Rattle.px_group.specs.Group.{IsRightGroup};
 ghost use Rattle.px_recovery.specs.Tables.{indexes_of};
+ghost use Rattle.px_region.specs.Region.{read_of};
 ghost use Rattle.px_server.specs.Counts.{AreUnverified, CountKeys, CountsKeys, bare, count_as, is_unverified};
 ghost use Rattle.px_server.specs.Shown.{HasLogged, known_by, logged_by};
 
@@ -15,6 +17,7 @@ use px_cells::{Cell, visible_in};
 use px_defined::index_place;
 use px_group::Group;
 use px_outside::{Clock, CountsCalls};
+use px_region::Region;
 use px_seat::Based;
 use px_standing::numbered_place;
 use px_tables::Index;
@@ -41,12 +44,25 @@ fn unverified_among(cells: &[Cell]) -> u64
     cells.iter().filter(|cell| is_unverified(cell)).count() as u64
 }
 
-/// How many keys of an index with these cells have a newest version that isn't verified.
-fn unverified_in(alloc: Global, cells: &[Cell]) -> Result<u64, AllocError>
-    requires { IsCellList cells.now }
-    ensures { IfOk result (AreUnverified cells.now) }
+/// What a point above all stamps sees of a region.
+fn seen_of(alloc: Global, region: &Region) -> Result<Vec<Cell>, AllocError>
+    requires { IsPlainRegion (read_of region.now) }
+    ensures { IfOk result (λ seen. IsView (read_of region.now) 18446744073709551615 seen.items) }
 {
-    let seen = visible_in(alloc, cells, u64::MAX)?;
+    let mut seen = Vec::new(alloc);
+    for at in 0..region.piece_count() {
+        let mut part = visible_in(alloc, region.piece(at), u64::MAX)?.into_vec();
+        seen.append(&mut part)?;
+    }
+    Ok(seen)
+}
+
+/// How many keys of an index with this region have a newest version that isn't verified.
+fn unverified_in(alloc: Global, region: &Region) -> Result<u64, AllocError>
+    requires { IsPlainRegion (read_of region.now) }
+    ensures { IfOk result (AreUnverified (read_of region.now)) }
+{
+    let seen = seen_of(alloc, region)?;
     Ok(unverified_among(seen.as_slice()))
 }
 
@@ -57,7 +73,7 @@ fn count_of(alloc: Global, group: &Group, index: &Index) -> Result<IndexCount, A
     ensures keys { IfOk result (CountsKeys group.now) }
 {
     let unverified = match index_place(group, index.id) {
-        Some(place) => unverified_in(alloc, group.indexes[place].region.sorted_cells())?,
+        Some(place) => unverified_in(alloc, &group.indexes[place].region)?,
         None => 0,
     };
     let name = Name::from_str(alloc, index.name.as_str())?;

@@ -26,6 +26,9 @@ impl<D: CountsCalls, C: Clock, B: Based + Founded> Steps for Server<D, C, B> {
 
     ghost known = { λ s. known_by B.base B.damaged s };
 
+    // It doesn't count its calls.
+    ghost one_call = { λ _ _. Unit {0} };
+
     ghost sound = { B.sound };
 
     ghost ordered = { λ s. AreOrdered s.groups };

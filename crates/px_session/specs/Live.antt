@@ -24,6 +24,13 @@ use Rattle.px_session.specs.declared.state.Ending.TheVariants.{Fatal}
 use Rattle.px_session.specs.declared.state.SessionState.{SessionState}
 use Rattle.px_session.specs.Replies.{AreReplied, EndsAs, Standing, at_first, goes_on, has_fatal, is_fatal, own_since, place_from, settled}
 
+-- the step made one call of its seat's; any other makes none
+abbrev pub makes_call : SessionTurn → Bool
+makes_call turn.Stepped = true
+makes_call turn.Waiting = true
+makes_call turn.Passed = false
+makes_call turn.Finished = false
+
 abbrev pub with_doing : SessionRun → Doing → SessionRun
 with_doing run d = record run { doing = d }
 

@@ -6,7 +6,7 @@ ghost use Rattle.px_script.specs.Pieces.{span_of};
 ghost use Rattle.px_calls.specs.Known.{Known};
 ghost use Rattle.px_session.specs.declared.state.SessionState.{SessionState as States};
 ghost use Rattle.px_session.specs.Replies as replies;
-ghost use Rattle.px_session.specs.Live.{ArePlaced, IsLive, IsOverAt, IsPushed, IsSame, StartsFrom, StepsOn, UnderWay, with_doing};
+ghost use Rattle.px_session.specs.Live.{ArePlaced, IsLive, IsOverAt, IsPushed, IsSame, StartsFrom, StepsOn, UnderWay, makes_call, with_doing};
 
 use crate::state::{Ending, SessionState, is_fatal, state_after};
 use px_calls::Steps;
@@ -219,6 +219,7 @@ impl<'a> SessionRun<'a> {
         requires going { self.old.ending ≡ None }
         ensures steps { (began : States) → IsLive S.sound (S.known s.now) began (with_doing self.old (Doing.Idle settings)) → StepsOn S.sound began (S.known s.now) (with_doing self.old (Doing.Idle settings)) (S.known s.now) self.new }
         ensures over { IsOverAt result self.new.ending }
+        ensures no_call { makes_call result ≡ false }
     {
         let Some(piece) = piece_at(self.pieces.as_slice(), self.next) else {
             return self.finish(settings, Ending::Whole);
@@ -244,6 +245,8 @@ impl<'a> SessionRun<'a> {
         requires going { self.old.ending ≡ None }
         ensures steps { (began : States) → IsLive S.sound (S.known s.old) began (with_doing self.old (Doing.Under run.entry span)) → StepsOn S.sound began (S.known s.old) (with_doing self.old (Doing.Under run.entry span)) (S.known s.new) self.new }
         ensures over { IsOverAt result self.new.ending }
+        ensures calls { makes_call result ≡ true }
+        ensures one_call { S.one_call s.old s.new }
     {
         match run.step(rt, alloc, s) {
             ItemTurn::Stepped(run) => {
@@ -271,6 +274,8 @@ impl<'a> SessionRun<'a> {
         requires live { (began : States) × IsLive S.sound (S.known s.old) began self.old }
         ensures steps { (began : States) → IsLive S.sound (S.known s.old) began self.old → StepsOn S.sound began (S.known s.old) self.old (S.known s.new) self.new }
         ensures over { IsOverAt result self.new.ending }
+        ensures one_call { makes_call result ≡ true → S.one_call s.old s.new }
+        ensures no_call { makes_call result ≡ false → s.new ≡ s.old }
     {
         if self.ending.is_some() {
             return SessionTurn::Finished;

@@ -209,8 +209,9 @@ pub fn shown(alloc: Global, disk: &mut MemDisk) -> Option<Vec<u64>> {
     let manifest = Manifest::start(alloc, disk, 1).ok()?;
     let Replayed { store, .. } = Wal::replay(alloc, disk, 1, manifest.snapshot().flushed).ok()?;
     let flushing = Flushing::open(alloc, disk, 1, &manifest).ok()?;
+    let unflushed = store.into_cells();
     let mut sources = Vec::new(alloc);
-    sources.push(Source::Slice(store.as_slice())).ok()?;
+    sources.push(Source::Slice(unflushed.as_slice())).ok()?;
     for file in flushing.files() {
         let cursor = Cursor::begin(alloc, disk, file, &[], None).ok()?;
         sources.push(Source::File(cursor)).ok()?;

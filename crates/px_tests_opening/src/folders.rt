@@ -44,7 +44,9 @@ fn counted(opened: &Opened) -> Found {
         found.indexes = group.indexes.len();
         found.last = group.last;
         found.horizon = group.horizon;
-        found.cells = group.rows.sorted_cells().len();
+        for at in 0..group.rows.piece_count() {
+            found.cells = found.cells.wrapping_add(group.rows.piece(at).len());
+        }
     }
     found
 }

@@ -1,5 +1,5 @@
 // What the tests of regions have together.
-ghost use Rattle.std.specs.Prelude.{◌≡◌, ◌≤◌, ◌<◌, ◌+◌, ◌^◌, true, length, IfOk, OnOk};
+ghost use Rattle.std.specs.Prelude.{◌≡◌, ◌≤◌, ◌<◌, ◌+◌, ◌^◌, length, IfOk, OnOk};
 
 use px_cellbytes::read_cells;
 use px_cells::{Cell, CellKind};
@@ -17,16 +17,10 @@ pub struct Values {
 impl CellTaker for Values {
     ghost has_taken = { λ t cells. Unit {0} };
 
-    ghost wants = { λ t cells. true };
-
     fn take(&mut self, cell: &Cell) -> Result<(), AllocError> {
         self.bytes.extend_from_slice(cell.key())?;
         self.bytes.extend_from_slice(cell.value())?;
         Ok(())
-    }
-
-    fn wants_row(&self) -> bool {
-        true
     }
 }
 
@@ -35,13 +29,16 @@ pub fn shown(alloc: Global, disk: &mut MemDisk, region: &mut Region) -> Option<V
     let mut values = Values {
         bytes: Vec::new(alloc),
     };
-    match region.scan(disk, b"", None, &mut values) {
-        Ok(()) => Some(values.bytes),
-        Err(_) => {
-            drop(values);
-            None
+    let _disk = disk;
+    for at in 0..region.piece_count() {
+        for cell in region.piece(at) {
+            if values.take(cell).is_err() {
+                drop(values);
+                return None;
+            }
         }
     }
+    Some(values.bytes)
 }
 
 /// Whether this was shown.

@@ -32,6 +32,8 @@ impl Steps for Bare {
 
     ghost known = { λ s. bare s.seat };
 
+    ghost one_call = { λ _ _. Unit {0} };
+
     ghost sound = { Unit {0} };
 
     ghost ordered = { λ _. Unit {0} };

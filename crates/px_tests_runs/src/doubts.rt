@@ -2,6 +2,7 @@
 use px_cells::{Cell, CellKind};
 use px_opening::{Opened, open};
 use px_outside::MemDisk;
+use px_region::Region;
 use std::alloc::Global;
 
 /// The qualifier of the column that has the status of an index row.
@@ -28,12 +29,21 @@ fn is_doubt(cells: &[Cell], status: &Cell) -> bool {
         && !cells.iter().any(|cell| hides(cell, status))
 }
 
+/// How many keys of a region are in doubt: all cells of a key are in one piece.
+fn doubts_in(region: &Region) -> usize {
+    let mut count: usize = 0;
+    for at in 0..region.piece_count() {
+        let cells = region.piece(at);
+        count = count.saturating_add(cells.iter().filter(|cell| is_doubt(cells, cell)).count());
+    }
+    count
+}
+
 fn counted(opened: &Opened) -> usize {
     let mut count: usize = 0;
     for group in opened.groups.as_slice() {
         for index in group.indexes.as_slice() {
-            let cells = index.region.sorted_cells();
-            count = count.saturating_add(cells.iter().filter(|cell| is_doubt(cells, cell)).count());
+            count = count.saturating_add(doubts_in(&index.region));
         }
     }
     count

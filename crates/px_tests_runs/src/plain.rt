@@ -4,6 +4,7 @@ use crate::model::{Fields, Version, View, newest};
 use px_cells::{Cell, CellKind};
 use px_group::{Group, IndexRegion};
 use px_opening::Opened;
+use px_region::Region;
 use px_tables::{IndexState, KeyPlace};
 use px_values::Direction;
 use std::alloc::{AllocError, Global};
@@ -37,14 +38,12 @@ fn span_at(cells: &[Cell], from: usize) -> Span {
     }
 }
 
-/// Where the cells of a key stand; none where there are none.
-fn span_of(cells: &[Cell], key: &[u8]) -> Span {
-    for from in 0..cells.len() {
-        if cells[from].key() == key {
-            return span_at(cells, from);
-        }
+/// All of the cells.
+fn whole(cells: &[Cell]) -> Span {
+    Span {
+        from: 0,
+        to: cells.len(),
     }
-    Span { from: 0, to: 0 }
 }
 
 /// Whether a marker hides what stands at a stamp of its key.
@@ -162,13 +161,14 @@ fn row_in(versions: &[Version], view: View, id: u32) -> Option<Fields> {
 /// Whether the cells of a table give a key its row in view, or none.
 fn tells_row(
     alloc: Global,
-    cells: &[Cell],
+    region: &Region,
     row: Option<Fields>,
     id: u32,
     point: u64,
 ) -> Result<bool, AllocError> {
     let key = row_key(alloc, Fields { id, a: 0, b: 0 })?;
-    let span = span_of(cells, &key);
+    let cells = region.row(&key);
+    let span = whole(cells);
     let is_there = value_at(cells, span, EMPTY, point).is_some();
     let Some(row) = row else {
         return Ok(!is_there);
@@ -188,19 +188,19 @@ fn has_row(
     point: u64,
 ) -> Result<bool, AllocError> {
     let key = index_key(alloc, index.index.parts.as_slice(), row)?;
-    let cells = index.region.sorted_cells();
-    Ok(value_at(cells, span_of(cells, &key), EMPTY, point).is_some())
+    let cells = index.region.row(&key);
+    Ok(value_at(cells, whole(cells), EMPTY, point).is_some())
 }
 
 /// Whether the key at these places is that of a row, with the values that the index holds beside it.
 fn is_row(
     alloc: Global,
     index: &IndexRegion,
+    cells: &[Cell],
     span: Span,
     row: Fields,
     point: u64,
 ) -> Result<bool, AllocError> {
-    let cells = index.region.sorted_cells();
     let key = index_key(alloc, index.index.parts.as_slice(), row)?;
     if span.from >= cells.len() || cells[span.from].key() != key.as_slice() {
         return Ok(false);
@@ -218,6 +218,7 @@ fn is_row(
 fn is_some_row(
     alloc: Global,
     index: &IndexRegion,
+    cells: &[Cell],
     span: Span,
     versions: &[Version],
     view: View,
@@ -225,7 +226,7 @@ fn is_some_row(
 ) -> Result<bool, AllocError> {
     for id in 0..KEYS {
         if let Some(row) = row_in(versions, view, id) {
-            if is_row(alloc, index, span, row, point)? {
+            if is_row(alloc, index, cells, span, row, point)? {
                 return Ok(true);
             }
         }
@@ -241,7 +242,23 @@ fn are_verified_right(
     view: View,
     point: u64,
 ) -> Result<bool, AllocError> {
-    let cells = index.region.sorted_cells();
+    for at in 0..index.region.piece_count() {
+        if !are_right_in(alloc, index, index.region.piece(at), versions, view, point)? {
+            return Ok(false);
+        }
+    }
+    Ok(true)
+}
+
+/// The same of those among these cells.
+fn are_right_in(
+    alloc: Global,
+    index: &IndexRegion,
+    cells: &[Cell],
+    versions: &[Version],
+    view: View,
+    point: u64,
+) -> Result<bool, AllocError> {
     let mut behind = 0;
     for from in 0..cells.len() {
         if from < behind {
@@ -251,7 +268,7 @@ fn are_verified_right(
         behind = span.to;
         let status = value_at(cells, span, EMPTY, point);
         let is_verified = status.is_some_and(|bytes| bytes == [1u8].as_slice());
-        if is_verified && !is_some_row(alloc, index, span, versions, view, point)? {
+        if is_verified && !is_some_row(alloc, index, cells, span, versions, view, point)? {
             return Ok(false);
         }
     }
@@ -268,7 +285,7 @@ fn are_rows_told(
 ) -> Result<bool, AllocError> {
     for id in 0..KEYS {
         let row = row_in(versions, view, id);
-        if !tells_row(alloc, group.rows.sorted_cells(), row, id, point)? {
+        if !tells_row(alloc, &group.rows, row, id, point)? {
             return Ok(false);
         }
         let Some(row) = row else {
@@ -337,10 +354,8 @@ pub fn has_stamp(
 ) -> Result<bool, AllocError> {
     let key = row_key(alloc, Fields { id, a: 0, b: 0 })?;
     for group in opened.groups.as_slice() {
-        let cells = group.rows.sorted_cells();
-        if group.table.id.0 == table
-            && cells.iter().any(|cell| cell.key() == key.as_slice() && cell.stamp() == stamp)
-        {
+        let cells = group.rows.row(&key);
+        if group.table.id.0 == table && cells.iter().any(|cell| cell.stamp() == stamp) {
             return Ok(true);
         }
     }

@@ -1,21 +1,38 @@
 // A server without a table.
 ghost use Rattle.std.specs.Prelude.{◌≡◌};
+ghost use Rattle.px_calls.specs.Counts.{count_after as after_one};
 
 use px_calls::{
     BaseRows, Chunk, Definition, Doubt, Fixing, Held, Made, Marks, Ordered, Path, Point, Receipt,
-    Status, StepFault, Steps, Ticket, Verifies, Work, Writes,
+    Status, StepFault, Steps, Ticket, Verifies, Work, Writes, count_after,
 };
 use px_tables::Found;
 use px_values::{Changes, IndexId, Key, Name, TableId};
 
-/// A server on which no table stands.
+/// A server on which no table stands. It counts its calls.
 #[derive(Drop)]
-pub(crate) struct Bare;
+pub(crate) struct Bare {
+    pub(crate) calls: u64,
+}
+
+impl Bare {
+    pub(crate) fn new() -> Bare {
+        Bare { calls: 0 }
+    }
+
+    fn count(&mut self)
+        ensures { self.new.calls ≡ after_one self.old.calls }
+    {
+        self.calls = count_after(self.calls);
+    }
+}
 
 impl Steps for Bare {
     ghost use Rattle.px_tests_steps.specs.Bare.{bare};
 
     ghost known = { λ _. bare };
+
+    ghost one_call = { λ a b. b.calls ≡ after_one a.calls };
 
     ghost sound = { Unit {0} };
 
@@ -24,14 +41,17 @@ impl Steps for Bare {
     ghost done = { λ _. Unit {0} };
 
     fn find(&mut self, _name: &Name) -> Result<Found, StepFault> {
+        self.count();
         Err(StepFault::NoTable)
     }
 
     fn define(&mut self, _definition: &Definition) -> Result<Made, StepFault> {
+        self.count();
         Err(StepFault::Memory)
     }
 
     fn begin(&mut self, _table: TableId, _changes: &Changes) -> Result<Ticket, StepFault> {
+        self.count();
         Err(StepFault::NoTable)
     }
 
@@ -56,6 +76,7 @@ impl Steps for Bare {
     }
 
     fn open_point(&mut self, _table: TableId, _scn: Option<u64>) -> Result<Point, StepFault> {
+        self.count();
         Err(StepFault::NoTable)
     }
 
@@ -68,6 +89,7 @@ impl Steps for Bare {
     }
 
     fn fix(&mut self, _d: &Doubt) -> Result<Fixing, StepFault> {
+        self.count();
         Ok(Fixing::Gone)
     }
 
@@ -81,14 +103,17 @@ impl Steps for Bare {
     }
 
     fn order(&mut self, _job: Ordered) -> Result<(), StepFault> {
+        self.count();
         Ok(())
     }
 
     fn upkeep(&mut self) -> Result<Work, StepFault> {
+        self.count();
         Ok(Work::Idle)
     }
 
     fn status(&mut self, _table: TableId) -> Result<Status, StepFault> {
+        self.count();
         Err(StepFault::NoTable)
     }
 

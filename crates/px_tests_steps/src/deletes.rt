@@ -28,7 +28,7 @@ fn all_rows(alloc: Global) -> Result<DeleteRun, AllocError>
 #[test]
 fn a_delete_is_refused(rt: HostRuntime) -> Result<(), AllocError> {
     let run = all_rows(rt.alloc())?;
-    let deleted = run_delete(&rt, &mut Bare, run);
+    let deleted = run_delete(&rt, &mut Bare::new(), run);
     assert!(rt; deleted.receipts.is_empty());
     assert!(rt; matches!(deleted.end, Err(DeleteFault::Unread(QueryFault::NoTable))));
     Ok(())

@@ -51,13 +51,17 @@ fn one_change(alloc: Global) -> Result<Changes, AllocError>
 #[test]
 fn a_batch_is_refused(rt: HostRuntime) -> Result<(), AllocError> {
     let changes = one_change(rt.alloc())?;
-    let answer = run_batch(&rt, &mut Bare, TableId(3), changes);
+    let mut bare = Bare::new();
+    let answer = run_batch(&rt, &mut bare, TableId(3), changes);
     assert!(rt; matches!(answer, Err(BatchFault::NoTable)));
+    assert!(rt; bare.calls == 1);
     Ok(())
 }
 
 #[test]
 fn a_query_is_refused(rt: HostRuntime) {
-    let answer = run_query(&rt, rt.alloc(), &mut Bare, AllRows, None);
+    let mut bare = Bare::new();
+    let answer = run_query(&rt, rt.alloc(), &mut bare, AllRows, None);
     assert!(rt; matches!(answer, Err(QueryFault::NoTable)));
+    assert!(rt; bare.calls == 1);
 }

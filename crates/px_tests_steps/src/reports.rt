@@ -5,6 +5,6 @@ use px_verify::{ReportFault, run_report};
 
 #[test]
 fn a_report_is_refused(rt: HostRuntime) {
-    let answer = run_report(&rt, rt.alloc(), &mut Bare, TableId(3), IndexId(4));
+    let answer = run_report(&rt, rt.alloc(), &mut Bare::new(), TableId(3), IndexId(4));
     assert!(rt; matches!(answer, Err(ReportFault::NoTable)));
 }

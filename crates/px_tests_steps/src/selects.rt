@@ -36,7 +36,7 @@ fn all_rows(alloc: Global) -> Result<Planned, AllocError>
 #[test]
 fn a_select_is_refused(rt: HostRuntime) -> Result<(), AllocError> {
     let planned = all_rows(rt.alloc())?;
-    let answer = run_select(&rt, rt.alloc(), &mut Bare, planned, None);
+    let answer = run_select(&rt, rt.alloc(), &mut Bare::new(), planned, None);
     assert!(rt; matches!(answer, Err(QueryFault::NoTable)));
     Ok(())
 }

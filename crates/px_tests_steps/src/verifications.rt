@@ -16,7 +16,7 @@ fn fault_of<R: Threads + Wait + Sync>(
     alloc: Global,
     kind: VerifyKind,
 ) -> Option<VerifyFault> {
-    match run_verify(rt, alloc, &mut Bare, TableId(3), IndexId(2), kind) {
+    match run_verify(rt, alloc, &mut Bare::new(), TableId(3), IndexId(2), kind) {
         Err(Unfinished { done, fault }) if is_nothing(done) => Some(fault),
         _ => None,
     }

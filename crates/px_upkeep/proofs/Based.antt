@@ -24,7 +24,7 @@ use Rattle.px_calls.specs.declared.query.Path.{Path}
 use Rattle.px_calls.specs.declared.query.Point.{Point}
 use Rattle.px_calls.specs.Calls.{DidBase}
 use Rattle.px_calls.specs.Known.{Known}
-use Rattle.px_calls.specs.Looks.{AreDoubtsOf, IsRightRow, IsRowAt, IsShown, IsSized, Shows, ShowsRows, found_by, is_covered, is_on, is_past, key_by, key_less, row_at}
+use Rattle.px_calls.specs.Looks.{IsRowAt, IsSized, Shows, ShowsRows, found_by, is_covered, is_on, is_past, key_by, key_less, row_at}
 use Rattle.px_calls.specs.Requires.{CanActivate, CanDefine, MayActivate, MayBase, base_owners, is_based}
 use Rattle.px_calls.proofs.Activates.{some_index}
 use Rattle.px_calls.proofs.Bases.{did_based}

@@ -1,4 +1,3 @@
-pub mod Indexes
 pub mod Chunks
 pub mod Growing
 pub mod Based

@@ -39,7 +39,7 @@ use Rattle.px_upkeep.specs.declared.build.Came.{Came}
 use Rattle.px_upkeep.specs.declared.build.Came.TheVariants as came
 use Rattle.px_upkeep.specs.declared.build.Next.TheVariants as next
 use Rattle.px_upkeep.specs.declared.gathered.Gathered.{Gathered}
-use Rattle.px_upkeep.specs.Turns.{AreBased, AreRowsFor, Begins, FitsState, HasPaths, IsAsked, IsBornAt, IsBuilding, IsDisabling, IsFoundAt, IsHeld, IsState, IsOutcome, IsUnopened, LacksIndexOf, Leads, Led, TriesThen, WasFound, WasRefused, is_read, opening, step_fault}
+use Rattle.px_upkeep.specs.Turns.{AreRowsFor, Begins, FitsState, HasPaths, IsAsked, IsBornAt, IsBuilding, IsDisabling, IsFoundAt, IsHeld, IsState, IsOutcome, IsUnopened, LacksIndexOf, Leads, Led, TriesThen, WasFound, WasRefused, opening, step_fault}
 use Rattle.px_upkeep.proofs.Later.{Tells, asked-later, past-ran, past-same, plain, refused-call, refused-step, tries-still, tries-then}
 
 -- 1. The index among the point's definitions

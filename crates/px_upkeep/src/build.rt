@@ -1,7 +1,5 @@
 // The build of an index as a machine: each step makes one call.
 ghost use Rattle.std.specs.Prelude.{◌≡◌, ◌≤◌, ℕ, List, IfOk};
-ghost use Rattle.std.specs.Option.{option_copied};
-ghost use Rattle.px_calls.specs.Requires.{index_among};
 ghost use Rattle.px_paths.specs.Paths.{index_path as index_path_of, table_path as table_path_of};
 ghost use Rattle.px_trail.specs.declared.entry.Act.{Act as Acts};
 ghost use Rattle.px_upkeep.specs.Turns.{AfterLook, AfterMaking, BasesOn, Begins, Fits, FitsState, IsDisabling, IsUnopened, IsWhole, Leads, ReadsOn, Turns, definition_fault, first_or, next_of as next_is, rows_fault, step_fault};
@@ -14,6 +12,7 @@ use px_calls::{
     BaseRows, By, Chunk, Definition, FoundKey, Made, Path, Point, StepFault, Steps, Work,
 };
 use px_defining::{DefineFault, DefineRun, DefineTurn};
+use px_entries::index_of;
 use px_paths::{PathColumn, index_path, table_path};
 use px_tables::{Index, IndexState, Table};
 use px_values::{IndexId, Items, Key, Limit, MOST_KEY, TableId};
@@ -166,20 +165,6 @@ fn scn_of(birth: u64) -> u64
     birth.min(GREATEST_STAMP) + 1
 }
 
-fn index_of(indexes: &[Index], index: IndexId) -> Option<&Index>
-    ensures { option_copied result ≡ index_among index.0 indexes.now }
-{
-    match indexes {
-        [] => None,
-        [first, others @ ..] => {
-            if first.id == index {
-                return Some(first);
-            }
-            index_of(others, index)
-        }
-    }
-}
-
 /// The paths of a build at its point.
 fn paths(
     alloc: Global,
@@ -241,7 +226,8 @@ fn begin(alloc: Global, point: Point, index: IndexId) -> BuildState
 
 /// Opens a point at the birth. While a batch at or below it is undecided, the same step is tried again.
 fn open<S: Steps>(s: &mut S, alloc: Global, table: TableId, index: IndexId, birth: u64) -> Came
-    ensures { (n : ℕ) → (own : List Acts) → FitsState S.sound n table index own (BuildState.Opening birth) (S.known s.old) → Leads S.sound n table index own (S.known s.old) (S.known s.new) result }
+    ensures turns { (n : ℕ) → (own : List Acts) → FitsState S.sound n table index own (BuildState.Opening birth) (S.known s.old) → Leads S.sound n table index own (S.known s.old) (S.known s.new) result }
+    ensures one_call { S.one_call s.old s.new }
 {
     match s.open_point(table, Some(scn_of(birth))) {
         Ok(point) => Came::On(begin(alloc, point, index)),
@@ -398,7 +384,8 @@ fn look<R: Threads + Sync, S: Steps>(
     gathered: Gathered,
 ) -> Came
     requires { (n : ℕ) × (own : List Acts) × FitsState S.sound n table index own (BuildState.Reading build after gathered) (S.known s.old) }
-    ensures { (n : ℕ) → (own : List Acts) → FitsState S.sound n table index own (BuildState.Reading build after gathered) (S.known s.old) → Leads S.sound n table index own (S.known s.old) (S.known s.new) result }
+    ensures turns { (n : ℕ) → (own : List Acts) → FitsState S.sound n table index own (BuildState.Reading build after gathered) (S.known s.old) → Leads S.sound n table index own (S.known s.old) (S.known s.new) result }
+    ensures one_call { S.one_call s.old s.new }
 {
     match s.look(&build.point, &build.path, &after) {
         Ok(chunk) => Came::On(take(rt, alloc, build, table, index, gathered, chunk)),
@@ -421,7 +408,8 @@ fn base<S: Steps>(
     next: Option<Key>,
 ) -> Came
     requires { (n : ℕ) × (own : List Acts) × FitsState S.sound n table index own (BuildState.Basing build rows more next) (S.known s.old) }
-    ensures { (n : ℕ) → (own : List Acts) → FitsState S.sound n table index own (BuildState.Basing build rows more next) (S.known s.old) → Leads S.sound n table index own (S.known s.old) (S.known s.new) result }
+    ensures turns { (n : ℕ) → (own : List Acts) → FitsState S.sound n table index own (BuildState.Basing build rows more next) (S.known s.old) → Leads S.sound n table index own (S.known s.old) (S.known s.new) result }
+    ensures one_call { S.one_call s.old s.new }
 {
     match s.base(&build.point, index, &rows) {
         Ok(_) => {
@@ -449,7 +437,8 @@ fn settle<S: Steps>(
     more: Items<BaseRows>,
     next: Option<Key>,
 ) -> Came
-    ensures { (n : ℕ) → (own : List Acts) → FitsState S.sound n table index own (BuildState.Settling build rows more next) (S.known s.old) → Leads S.sound n table index own (S.known s.old) (S.known s.new) result }
+    ensures turns { (n : ℕ) → (own : List Acts) → FitsState S.sound n table index own (BuildState.Settling build rows more next) (S.known s.old) → Leads S.sound n table index own (S.known s.old) (S.known s.new) result }
+    ensures one_call { S.one_call s.old s.new }
 {
     match s.upkeep() {
         Ok(Work::Did) => Came::On(BuildState::Settling(build, rows, more, next)),
@@ -472,7 +461,8 @@ fn activate<S: Steps>(
     mut run: DefineRun,
 ) -> Came
     requires { (n : ℕ) × (own : List Acts) × FitsState S.sound n table index own (BuildState.Activating point run) (S.known s.old) }
-    ensures { (n : ℕ) → (own : List Acts) → FitsState S.sound n table index own (BuildState.Activating point run) (S.known s.old) → Leads S.sound n table index own (S.known s.old) (S.known s.new) result }
+    ensures turns { (n : ℕ) → (own : List Acts) → FitsState S.sound n table index own (BuildState.Activating point run) (S.known s.old) → Leads S.sound n table index own (S.known s.old) (S.known s.new) result }
+    ensures one_call { S.one_call s.old s.new }
 {
     match run.step(s) {
         DefineTurn::Stepped => Came::On(BuildState::Activating(point, run)),
@@ -491,7 +481,8 @@ fn activate<S: Steps>(
 /// Closes the point.
 fn close<S: Steps>(s: &mut S, table: TableId, index: IndexId, point: Point, next: Next) -> Came
     requires { (n : ℕ) × (own : List Acts) × FitsState S.sound n table index own (BuildState.Closing point next) (S.known s.old) }
-    ensures { (n : ℕ) → (own : List Acts) → FitsState S.sound n table index own (BuildState.Closing point next) (S.known s.old) → Leads S.sound n table index own (S.known s.old) (S.known s.new) result }
+    ensures turns { (n : ℕ) → (own : List Acts) → FitsState S.sound n table index own (BuildState.Closing point next) (S.known s.old) → Leads S.sound n table index own (S.known s.old) (S.known s.new) result }
+    ensures one_call { S.one_call s.old s.new }
 {
     s.close_point(point);
     match next {
@@ -509,7 +500,8 @@ fn close<S: Steps>(s: &mut S, table: TableId, index: IndexId, point: Point, next
 /// Has the index built again, from a new birth on.
 fn renew<S: Steps>(s: &mut S, table: TableId, index: IndexId, mut run: DefineRun) -> Came
     requires { (n : ℕ) × (own : List Acts) × FitsState S.sound n table index own (BuildState.Renewing run) (S.known s.old) }
-    ensures { (n : ℕ) → (own : List Acts) → FitsState S.sound n table index own (BuildState.Renewing run) (S.known s.old) → Leads S.sound n table index own (S.known s.old) (S.known s.new) result }
+    ensures turns { (n : ℕ) → (own : List Acts) → FitsState S.sound n table index own (BuildState.Renewing run) (S.known s.old) → Leads S.sound n table index own (S.known s.old) (S.known s.new) result }
+    ensures one_call { S.one_call s.old s.new }
 {
     match run.step(s) {
         DefineTurn::Stepped => Came::On(BuildState::Renewing(run)),
@@ -544,7 +536,8 @@ fn disable<S: Steps>(
     first: BuildFault,
 ) -> Came
     requires { (n : ℕ) × (own : List Acts) × FitsState S.sound n table index own (BuildState.Disabling run first) (S.known s.old) }
-    ensures { (n : ℕ) → (own : List Acts) → FitsState S.sound n table index own (BuildState.Disabling run first) (S.known s.old) → Leads S.sound n table index own (S.known s.old) (S.known s.new) result }
+    ensures turns { (n : ℕ) → (own : List Acts) → FitsState S.sound n table index own (BuildState.Disabling run first) (S.known s.old) → Leads S.sound n table index own (S.known s.old) (S.known s.new) result }
+    ensures one_call { S.one_call s.old s.new }
 {
     match run.step(s) {
         DefineTurn::Stepped => Came::On(BuildState::Disabling(run, first)),
@@ -570,7 +563,8 @@ fn advance<R: Threads + Sync, S: Steps>(
     state: BuildState,
 ) -> Came
     requires { (n : ℕ) × (own : List Acts) × FitsState S.sound n table index own state (S.known s.old) }
-    ensures { (n : ℕ) → (own : List Acts) → FitsState S.sound n table index own state (S.known s.old) → Leads S.sound n table index own (S.known s.old) (S.known s.new) result }
+    ensures turns { (n : ℕ) → (own : List Acts) → FitsState S.sound n table index own state (S.known s.old) → Leads S.sound n table index own (S.known s.old) (S.known s.new) result }
+    ensures one_call { S.one_call s.old s.new }
 {
     match state {
         BuildState::Opening(birth) => open(s, alloc, table, index, birth),
@@ -609,6 +603,7 @@ impl BuildRun {
     pub fn step<R: Threads + Sync, S: Steps>(self, rt: &R, s: &mut S) -> BuildTurn
         requires { (n : ℕ) × (own : List Acts) × Fits S.sound n self.table self.index own self (S.known s.old) }
         ensures turns { (n : ℕ) → (t : TableNumber) → (i : IndexNumber) → (own : List Acts) → Fits S.sound n t i own self (S.known s.old) → Turns S.sound n t i own (S.known s.old) (S.known s.new) result }
+        ensures one_call { S.one_call s.old s.new }
     {
         let BuildRun {
             alloc,

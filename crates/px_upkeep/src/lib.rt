@@ -14,3 +14,4 @@ mod rows;
 pub use build::{Build, BuildFault, BuildRun, BuildState, BuildTurn, Next};
 pub use gathered::Gathered;
 pub use laws::law_builds;
+pub use rows::{RowsFault, base_pieces};

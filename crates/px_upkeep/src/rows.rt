@@ -1,8 +1,7 @@
 // The base versions of the rows that a look finds.
-ghost use Rattle.std.specs.Prelude.{◌≡◌, ◌↔◌, ◌⊎◌, ◌≤◌, ◌∷◌, [], IfOk, OnOk, IsTrue, true, length, ℕ};
-ghost use Rattle.std.specs.List.{All};
+ghost use Rattle.std.specs.Prelude.{◌≡◌, ◌⊎◌, ◌≤◌, ◌∷◌, [], IfOk, OnOk, true, length, ℕ};
 ghost use Rattle.px_calls.specs.Causes.{IsLong};
-ghost use Rattle.px_keys.specs.Spelling.{Fits, IsNullFixed, PartFits, columns_of, values_of};
+ghost use Rattle.px_keys.specs.Spelling.{Fits};
 ghost use Rattle.px_paths.specs.Paths.{AreOfTypes, columns_on, key_on as key_on_path, values_on};
 ghost use Rattle.px_upkeep.specs.Rows.{AreBaseRows, ArePieces, HasLong, HasLongIn, IsBaseOf, IsMadeOf, KeepsRow};
 ghost use Rattle.px_upkeep.specs.declared.rows.RowsFault.TheVariants.{Memory};
@@ -11,6 +10,7 @@ ghost use Rattle.px_values.specs.Types.{HasType};
 ghost use Rattle.px_values.specs.declared.row.Value.TheVariants.{Null};
 
 use px_calls::{BaseRow, BaseRows, FoundKey, FoundRow};
+use px_entries::{can_stand, parts_of};
 use px_keys::{KeyColumn, KeyFault, Part, encode_key};
 use px_paths::PathColumn;
 use px_tables::TableColumn;
@@ -22,7 +22,8 @@ use std::thread::Threads;
 /// Why rows that were found have no base versions. A row that isn't one of its table, or not the one of its key, is told as want of memory: a sound
 /// folder has none.
 #[derive(Clone, Copy)]
-pub(crate) enum RowsFault {
+pub enum RowsFault {
+    /// A row's key in the index is longer than a key may be.
     TooLong,
     Memory,
 }
@@ -33,33 +34,6 @@ impl From<AllocError> for RowsFault {
     fn from(_fault: AllocError) -> RowsFault {
         RowsFault::Memory
     }
-}
-
-/// The row's values on a path, each with its column.
-fn parts_of<'a>(
-    alloc: Global,
-    path: &[PathColumn],
-    row: &'a [Value],
-    null: &'a Value,
-) -> Result<Vec<Part<'a>>, AllocError>
-    requires { null.now ≡ Null }
-    ensures columns { IfOk result (λ parts. columns_of parts.items ≡ columns_on path.now) }
-    ensures values { IfOk result (λ parts. values_of parts.items ≡ values_on path.now row.now) }
-{
-    let mut parts = Vec::with_capacity(alloc, path.len())?;
-    for column in path {
-        parts.push(Part {
-            column: column.column,
-            value: row.get(column.place as usize).unwrap_or(null),
-        })?;
-    }
-    Ok(parts)
-}
-
-fn can_stand(parts: &[Part<'_>]) -> bool
-    ensures { IsTrue result ↔ All (λ part. PartFits part ⊎ IsNullFixed part) parts.now }
-{
-    parts.iter().all(|part| part.can_stand())
 }
 
 /// The row's key on a path. A row whose values don't fit the path's columns has none.
@@ -216,8 +190,9 @@ pub(crate) fn base_rows(
     Ok(Items::of(rows))
 }
 
-/// The base versions of the rows of chunks, chunk by chunk, from as many threads as there are processors.
-pub(crate) fn base_pieces<R: Threads + Sync>(
+/// The base versions, in an index with these columns, of the rows that looks on their table's own path found (`keys` are its columns): chunk by chunk,
+/// from as many threads as there are processors. `TooLong` comes where a row's key in the index is too long, and then nothing is kept.
+pub fn base_pieces<R: Threads + Sync>(
     rt: &R,
     alloc: Global,
     table: &[TableColumn],

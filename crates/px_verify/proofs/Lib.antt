@@ -2,7 +2,6 @@ pub mod Adding
 pub mod Agreeing
 pub mod Counts
 pub mod Fronts
-pub mod Indexes
 pub mod Keeping
 pub mod Later
 pub mod Looked

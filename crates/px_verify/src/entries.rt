@@ -1,14 +1,14 @@
 // What is kept of the keys that looks find.
-ghost use Rattle.std.specs.Prelude.{◌≡◌, ◌↔◌, ◌⊎◌, ◌++◌, ◌∷◌, [], Some, IfOk, OnOk, IsTrue, get_or, map};
-ghost use Rattle.std.specs.List.{All};
-ghost use Rattle.px_keys.specs.Spelling.{Fits, IsNullFixed, PartFits, columns_of, values_of};
+ghost use Rattle.std.specs.Prelude.{◌≡◌, ◌++◌, ◌∷◌, [], Some, IfOk, OnOk, get_or, map};
+ghost use Rattle.px_keys.specs.Spelling.{Fits};
 ghost use Rattle.px_paths.specs.Paths.{columns_on, key_on as key_on_path, values_on};
 ghost use Rattle.px_values.specs.declared.row.Value.TheVariants.{Null};
 ghost use Rattle.px_verify.specs.Lists.{HaveKeys, entries_of, entry_on, values_in, version_of as version_is};
 
 use crate::report::{IndexEntry, Version};
 use px_calls::FoundKey;
-use px_keys::{KeyFault, Part, encode_key, spell_front};
+use px_entries::{can_stand, parts_of};
+use px_keys::{KeyFault, encode_key, spell_front};
 use px_paths::PathColumn;
 use px_values::{Items, Key, Row, Value};
 use std::alloc::{AllocError, Global};
@@ -32,33 +32,6 @@ fn included_values(alloc: Global, included: &[u8], row: &[Value]) -> Result<Row,
         values.push(value_in(alloc, row, *column)?)?;
     }
     Ok(Items::of(values))
-}
-
-/// The row's values on a path, each with its column.
-fn parts_of<'a>(
-    alloc: Global,
-    path: &[PathColumn],
-    row: &'a [Value],
-    null: &'a Value,
-) -> Result<Vec<Part<'a>>, AllocError>
-    requires { null.now ≡ Null }
-    ensures columns { IfOk result (λ parts. columns_of parts.items ≡ columns_on path.now) }
-    ensures values { IfOk result (λ parts. values_of parts.items ≡ values_on path.now row.now) }
-{
-    let mut parts = Vec::with_capacity(alloc, path.len())?;
-    for column in path {
-        parts.push(Part {
-            column: column.column,
-            value: row.get(column.place as usize).unwrap_or(null),
-        })?;
-    }
-    Ok(parts)
-}
-
-fn can_stand(parts: &[Part<'_>]) -> bool
-    ensures { IsTrue result ↔ All (λ part. PartFits part ⊎ IsNullFixed part) parts.now }
-{
-    parts.iter().all(|part| part.can_stand())
 }
 
 /// The row's key on a path, however long it is. A row whose values don't fit the path's columns has none.

@@ -1,8 +1,8 @@
 // A report as a machine: each step makes one call.
-ghost use Rattle.std.specs.Prelude.{◌≡◌, ◌↔◌, ◌⊎◌, ℕ, List, Option, None, Some, IfOk, IfErr, IsTrue, option_copied};
+ghost use Rattle.std.specs.Prelude.{◌≡◌, ◌↔◌, ◌⊎◌, ℕ, List, Option, None, Some, IfOk, IfErr, IsTrue};
 ghost use Rattle.px_calls.specs.declared.query.By.{By as Bys};
 ghost use Rattle.px_calls.specs.Known.{Known};
-ghost use Rattle.px_calls.specs.Requires.{IsReadable, index_among, index_in};
+ghost use Rattle.px_calls.specs.Requires.{IsReadable, index_in};
 ghost use Rattle.px_values.specs.declared.name.TableId.{TableId as TableIds};
 ghost use Rattle.px_verify.specs.Faults.{IsLookFault, fault_of as fault_is};
 ghost use Rattle.px_verify.specs.Looking.{HasLooked, whole};
@@ -16,6 +16,7 @@ use crate::entries::{keep_rows, keep_versions};
 use crate::merging::{compare, sort};
 use crate::report::{IndexEntry, Report, Version};
 use px_calls::{By, Chunk, Path, Point, StepFault, Steps};
+use px_entries::index_of;
 use px_paths::{PathColumn, index_path};
 use px_tables::{Index, IndexState};
 use px_values::{IndexId, Items, Key, TableId};
@@ -90,21 +91,6 @@ fn ended(x: Reading) -> ReportState
         versions,
     } = x;
     ReportState::Closing(point, Ok(Lists { rows, versions }))
-}
-
-/// The index of a number among definitions.
-fn index_of(indexes: &[Index], index: IndexId) -> Option<&Index>
-    ensures { option_copied result ≡ index_among index.0 indexes.now }
-{
-    match indexes {
-        [] => None,
-        [first, others @ ..] => {
-            if first.id == index {
-                return Some(first);
-            }
-            index_of(others, index)
-        }
-    }
 }
 
 /// The index as it is in the point.
@@ -216,7 +202,8 @@ fn open<S: Steps>(
     table: TableId,
     index: IndexId,
 ) -> (ReportState, ReportTurn)
-    ensures { ReportTurns S.sound table index ReportState.Opening (S.known s.old) result.0 (S.known s.new) result.1 }
+    ensures turns { ReportTurns S.sound table index ReportState.Opening (S.known s.old) result.0 (S.known s.new) result.1 }
+    ensures one_call { S.one_call s.old s.new }
 {
     match s.open_point(table, Some(NEWEST_SCN)) {
         Ok(point) => (begin::<S>(alloc, point, index), ReportTurn::Stepped),
@@ -251,7 +238,8 @@ fn look_at_rows<S: Steps>(
     after: Option<Key>,
 ) -> (ReportState, ReportTurn)
     requires { Fits S.sound table index (ReportState.Rows x after) (S.known s.old) }
-    ensures { ReportTurns S.sound table index (ReportState.Rows x after) (S.known s.old) result.0 (S.known s.new) result.1 }
+    ensures turns { ReportTurns S.sound table index (ReportState.Rows x after) (S.known s.old) result.0 (S.known s.new) result.1 }
+    ensures one_call { S.one_call s.old s.new }
 {
     let path = whole_path(alloc, By::Table);
     match s.look(&x.point, &path, &after) {
@@ -270,7 +258,8 @@ fn look_at_versions<S: Steps>(
     after: Option<Key>,
 ) -> (ReportState, ReportTurn)
     requires { Fits S.sound table index (ReportState.Versions x after) (S.known s.old) }
-    ensures { ReportTurns S.sound table index (ReportState.Versions x after) (S.known s.old) result.0 (S.known s.new) result.1 }
+    ensures turns { ReportTurns S.sound table index (ReportState.Versions x after) (S.known s.old) result.0 (S.known s.new) result.1 }
+    ensures one_call { S.one_call s.old s.new }
 {
     let path = whole_path(alloc, By::Index(index));
     match s.look(&x.point, &path, &after) {
@@ -303,7 +292,8 @@ fn close<S: Steps>(
     end: Result<Lists, ReportFault>,
 ) -> (ReportState, ReportTurn)
     requires { Fits S.sound table index (ReportState.Closing point end) (S.known s.old) }
-    ensures { ReportTurns S.sound table index (ReportState.Closing point end) (S.known s.old) result.0 (S.known s.new) result.1 }
+    ensures turns { ReportTurns S.sound table index (ReportState.Closing point end) (S.known s.old) result.0 (S.known s.new) result.1 }
+    ensures one_call { S.one_call s.old s.new }
 {
     let first = point.found.at;
     s.close_point(point);
@@ -334,7 +324,8 @@ pub(crate) fn advance<S: Steps>(
 ) -> (ReportState, ReportTurn)
     requires fits { Fits S.sound table index state (S.known s.old) }
     requires going { IsGoing state }
-    ensures { ReportTurns S.sound table index state (S.known s.old) result.0 (S.known s.new) result.1 }
+    ensures turns { ReportTurns S.sound table index state (S.known s.old) result.0 (S.known s.new) result.1 }
+    ensures one_call { S.one_call s.old s.new }
 {
     match state {
         ReportState::Opening => open(s, alloc, table, index),

@@ -41,6 +41,7 @@ impl ReportRun {
         ensures table { self.new.table ≡ self.old.table }
         ensures index { self.new.index ≡ self.old.index }
         ensures turns { ReportTurns S.sound self.old.table self.old.index self.old.state (S.known s.old) self.new.state (S.known s.new) result }
+        ensures one_call { S.one_call s.old s.new }
     {
         let state = mem::replace(&mut self.state, ReportState::Over);
         let (state, turn) = machine::advance(s, self.alloc, self.table, self.index, state);

@@ -115,7 +115,8 @@ fn refused(done: Reports, fault: VerifyFault) -> Came
 /// One step of the report that comes first.
 fn report_before<S: Steps>(s: &mut S, asked: Asked, done: Reports, mut run: ReportRun) -> Came
     requires { (n : ℕ) × (own : List Acts) × FitsState S.sound n asked.table asked.index asked.kind own done (VerifyState.Before run) (S.known s.old) }
-    ensures { (n : ℕ) → (own : List Acts) → FitsState S.sound n asked.table asked.index asked.kind own done (VerifyState.Before run) (S.known s.old) → Turns S.sound n asked.table asked.index asked.kind own (VerifyState.Before run) (S.known s.old) (S.known s.new) result.done result.state result.turn }
+    ensures turns { (n : ℕ) → (own : List Acts) → FitsState S.sound n asked.table asked.index asked.kind own done (VerifyState.Before run) (S.known s.old) → Turns S.sound n asked.table asked.index asked.kind own (VerifyState.Before run) (S.known s.old) (S.known s.new) result.done result.state result.turn }
+    ensures one_call { S.one_call s.old s.new }
 {
     match run.step(s) {
         ReportTurn::Stepped => went_on(done, VerifyState::Before(run)),
@@ -143,7 +144,8 @@ fn report_before<S: Steps>(s: &mut S, asked: Asked, done: Reports, mut run: Repo
 /// One step of the definition that puts the index back to building.
 fn define<S: Steps>(s: &mut S, asked: Asked, done: Reports, mut run: DefineRun) -> Came
     requires { (n : ℕ) × (own : List Acts) × FitsState S.sound n asked.table asked.index asked.kind own done (VerifyState.Defining run) (S.known s.old) }
-    ensures { (n : ℕ) → (own : List Acts) → FitsState S.sound n asked.table asked.index asked.kind own done (VerifyState.Defining run) (S.known s.old) → Turns S.sound n asked.table asked.index asked.kind own (VerifyState.Defining run) (S.known s.old) (S.known s.new) result.done result.state result.turn }
+    ensures turns { (n : ℕ) → (own : List Acts) → FitsState S.sound n asked.table asked.index asked.kind own done (VerifyState.Defining run) (S.known s.old) → Turns S.sound n asked.table asked.index asked.kind own (VerifyState.Defining run) (S.known s.old) (S.known s.new) result.done result.state result.turn }
+    ensures one_call { S.one_call s.old s.new }
 {
     match run.step(s) {
         DefineTurn::Stepped => went_on(done, VerifyState::Defining(run)),
@@ -169,7 +171,8 @@ fn build<R: Threads + Sync, S: Steps>(
     run: BuildRun,
 ) -> Came
     requires { (n : ℕ) × (own : List Acts) × FitsState S.sound n asked.table asked.index asked.kind own done (VerifyState.Building run) (S.known s.old) }
-    ensures { (n : ℕ) → (own : List Acts) → FitsState S.sound n asked.table asked.index asked.kind own done (VerifyState.Building run) (S.known s.old) → Turns S.sound n asked.table asked.index asked.kind own (VerifyState.Building run) (S.known s.old) (S.known s.new) result.done result.state result.turn }
+    ensures turns { (n : ℕ) → (own : List Acts) → FitsState S.sound n asked.table asked.index asked.kind own done (VerifyState.Building run) (S.known s.old) → Turns S.sound n asked.table asked.index asked.kind own (VerifyState.Building run) (S.known s.old) (S.known s.new) result.done result.state result.turn }
+    ensures one_call { S.one_call s.old s.new }
 {
     match run.step(rt, s) {
         BuildTurn::Stepped(run) => went_on(done, VerifyState::Building(run)),
@@ -193,7 +196,8 @@ fn build<R: Threads + Sync, S: Steps>(
 /// One step of the report behind the rebuilding.
 fn report_after<S: Steps>(s: &mut S, asked: Asked, done: Reports, mut run: ReportRun) -> Came
     requires { (n : ℕ) × (own : List Acts) × FitsState S.sound n asked.table asked.index asked.kind own done (VerifyState.After run) (S.known s.old) }
-    ensures { (n : ℕ) → (own : List Acts) → FitsState S.sound n asked.table asked.index asked.kind own done (VerifyState.After run) (S.known s.old) → Turns S.sound n asked.table asked.index asked.kind own (VerifyState.After run) (S.known s.old) (S.known s.new) result.done result.state result.turn }
+    ensures turns { (n : ℕ) → (own : List Acts) → FitsState S.sound n asked.table asked.index asked.kind own done (VerifyState.After run) (S.known s.old) → Turns S.sound n asked.table asked.index asked.kind own (VerifyState.After run) (S.known s.old) (S.known s.new) result.done result.state result.turn }
+    ensures one_call { S.one_call s.old s.new }
 {
     match run.step(s) {
         ReportTurn::Stepped => went_on(done, VerifyState::After(run)),
@@ -222,7 +226,8 @@ pub(crate) fn advance<R: Threads + Sync, S: Steps>(
     state: VerifyState,
 ) -> Came
     requires { (n : ℕ) × (own : List Acts) × FitsState S.sound n asked.table asked.index asked.kind own done state (S.known s.old) }
-    ensures { (n : ℕ) → (own : List Acts) → FitsState S.sound n asked.table asked.index asked.kind own done state (S.known s.old) → Turns S.sound n asked.table asked.index asked.kind own state (S.known s.old) (S.known s.new) result.done result.state result.turn }
+    ensures turns { (n : ℕ) → (own : List Acts) → FitsState S.sound n asked.table asked.index asked.kind own done state (S.known s.old) → Turns S.sound n asked.table asked.index asked.kind own state (S.known s.old) (S.known s.new) result.done result.state result.turn }
+    ensures one_call { S.one_call s.old s.new }
 {
     match state {
         VerifyState::Before(run) => report_before(s, asked, done, run),

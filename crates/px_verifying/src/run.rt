@@ -59,6 +59,7 @@ impl VerifyRun {
         ensures index { self.new.index ≡ self.old.index }
         ensures kind { self.new.kind ≡ self.old.kind }
         ensures turns { (n : ℕ) → (own : List Acts) → FitsState S.sound n self.old.table self.old.index self.old.kind own self.old.done self.old.state (S.known s.old) → Turns S.sound n self.old.table self.old.index self.old.kind own self.old.state (S.known s.old) (S.known s.new) self.new.done self.new.state result }
+        ensures one_call { S.one_call s.old s.new }
     {
         let asked = Asked {
             alloc: self.alloc,

@@ -9,7 +9,7 @@ use Rattle.px_tables.specs.declared.index.Index.{Index}
 use Rattle.px_tables.specs.declared.index.IndexState.TheVariants.{Active}
 use Rattle.px_tables.specs.declared.index.NewIndex.{NewIndex}
 use Rattle.px_trail.specs.Trail.{made_index}
-use Rattle.px_server.specs.declared.defining.prepared.IndexToActivate.{IndexToActivate}
+use Rattle.px_server.specs.declared.defining.prepared.IndexToPut.{IndexToPut}
 use Rattle.px_server.specs.declared.defining.prepared.IndexToMake.{IndexToMake}
 
 -- its name, its numbers and its lists fit their fields
@@ -36,7 +36,7 @@ pub record IsIndexToMake (s : Standing) (stamp : ℕ) (what : NewIndex) (p : Ind
   pub standing : p.standing ≡ after s (IndexIs p.index)
 
 -- an index that is to become active
-pub record IsIndexToActivate (s : Standing) (i : Index) (p : IndexToActivate) : Type 0 where
+pub record IsIndexToActivate (s : Standing) (i : Index) (p : IndexToPut) : Type 0 where
   pub can : CanRecord s p.item
   pub item_is : p.item ≡ record i { state = Active }
   pub standing : p.standing ≡ after s (IndexIs p.item)

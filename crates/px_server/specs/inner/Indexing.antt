@@ -1,8 +1,5 @@
 -- What definitions rest on.
-use Rattle.std.specs.Prelude.{◌≡◌, ◌<◌, ◌≤◌, ◌+◌, ◌⊎◌, ℕ, List, [], ◌∷◌}
-use Rattle.px_values.specs.declared.name.IndexId.{IndexId}
-use Rattle.px_values.specs.declared.name.TableId.{TableId}
-use Rattle.px_tables.specs.declared.index.Index.{Index}
+use Rattle.std.specs.Prelude.{◌<◌, ◌≤◌, ◌+◌}
 use Rattle.px_values.specs.Limits.{most_of}
 use Rattle.px_values.specs.declared.limit.Limit.TheVariants.{Ids, Stamps}
 use Rattle.px_tables.specs.declared.index.NewIndex.{NewIndex}
@@ -17,8 +14,3 @@ pub record MayMakeIndex (k : Known) (what : NewIndex) : Type 0 where
   pub free : IsFree (catalogue_of k.base k.seen) what.name
   pub numbers : (catalogue_of k.base k.seen).next + 2 ≤ most_of Ids + 1
   pub stamps : last_of k.base what.table.0 k.seen < most_of Stamps
-
--- one of these is the index of the table
-abbrev pub HasIndexOf : List Index → TableId → IndexId → Type 0
-HasIndexOf [] t i = ⊥
-HasIndexOf (x ∷ xs) t i = ((x.id ≡ i) × (x.table ≡ t)) ⊎ HasIndexOf xs t i

@@ -12,7 +12,7 @@ use Rattle.px_schema.specs.declared.standing.Standing.{Standing}
 use Rattle.px_group.specs.declared.group.Group.{Group}
 use Rattle.px_calls.specs.declared.fault.StepFault.{StepFault}
 use Rattle.px_calls.specs.declared.fault.StepFault.TheVariants.{Closed, InUse, NoIndex, NoTable}
-use Rattle.px_server.specs.declared.defining.put.IndexToPut.{IndexToPut}
+use Rattle.px_server.specs.declared.defining.prepared.IndexToPut.{IndexToPut}
 use Rattle.px_server.specs.declared.defining.quiet.IndexPlace.{IndexPlace}
 use Rattle.px_server.specs.inner.Fitting.{CanRecord}
 

@@ -1,8 +1,11 @@
-// A definition that wasn't written.
-ghost use Rattle.std.specs.Prelude.{◌≡◌, ◌≢◌, ◌<◌, ◌≤◌, ◌+◌, ◌++◌, ◌∷◌, [], ℕ, length, vec_len, vec_capacity, OnOk, Some};
+// The entry of a definition, or what is left of one that wasn't written.
+ghost use Rattle.std.specs.Prelude.{◌≡◌, ◌≢◌, ◌<◌, ◌≤◌, ◌+◌, ◌++◌, ◌∷◌, [], ℕ, length, vec_len, vec_capacity, IfErr, OnOk, Err, Ok, Some};
 ghost use Rattle.px_calls.specs.declared.fault.StepFault.TheVariants.{Memory as MemoryFault, NotReady as NotReadyFault, WriteFault as Failed};
 ghost use Rattle.px_catalog.specs.declared.fault.CatalogFault.TheVariants.{Full as FullCatalog, Memory as NoMemory, WriteFault as WriteFailed};
+ghost use Rattle.px_catalog.specs.declared.fault.CatalogFault.{CatalogFault as CatalogFaults};
 ghost use Rattle.px_trail.specs.declared.entry.Act.TheVariants.{Shut as ShutAct};
+ghost use Rattle.px_trail.specs.Count.{counted_act};
+ghost use Rattle.px_server.specs.inner.Entering.{HasEntered, IsUnwritten};
 
 use crate::shutting::shut;
 use px_calls::StepFault;
@@ -37,7 +40,7 @@ pub(crate) fn take_room(groups: &mut Vec<Group>, trail: &mut Trail) -> Result<()
 
 /// What is left of a definition whose record wasn't written, for whose entry there is room. A failed write closes the server, and the
 /// entry is late.
-pub(crate) fn unwritten<D: CountsCalls>(
+fn unwritten<D: CountsCalls>(
     fault: CatalogFault,
     disk: &D,
     seat: u32,
@@ -72,5 +75,32 @@ pub(crate) fn unwritten<D: CountsCalls>(
             trail.give_back(1, 0);
             StepFault::Memory
         }
+    }
+}
+
+/// What a definition is told by once the catalogue answered, for whose entry, which begins no batch, there is room: it is added, or the definition is
+/// unwritten.
+pub(crate) fn entered<D: CountsCalls>(
+    outcome: Result<(), CatalogFault>,
+    disk: &D,
+    seat: u32,
+    act: Act,
+    trail: &mut Trail,
+    late: &mut Option<Entry>,
+    closed: &mut Option<u64>,
+) -> Result<(), StepFault>
+    requires bytes { counted_act act ≡ 0 }
+    requires room { 0 < trail.old.room }
+    ensures ok { OnOk result ((outcome ≡ Ok tt) × HasEntered (record { seat = seat; calls = D.calls disk.now; act = act }) trail.old.entries trail.new.entries late.old late.new closed.old closed.new) }
+    ensures refused { IfErr result (λ f. (fault : CatalogFaults) × (outcome ≡ Err fault) × IsUnwritten fault (record { seat = seat; calls = D.calls disk.now; act = act }) trail.old.entries trail.new.entries late.old late.new closed.old closed.new f) }
+    ensures room { trail.new.room + 1 ≡ trail.old.room }
+{
+    match outcome {
+        Ok(()) => {
+            let calls = disk.call_count();
+            trail.push(Entry { seat, calls, act });
+            Ok(())
+        }
+        Err(fault) => Err(unwritten(fault, disk, seat, act, trail, late, closed)),
     }
 }

@@ -5,8 +5,9 @@ ghost use Rattle.px_calls.specs.Causes.{Refuses, define_cause};
 ghost use Rattle.px_calls.specs.declared.definition.Definition.TheVariants.{Disabled as DisabledDefinition};
 ghost use Rattle.px_server.specs.Shown.{known_by};
 
-use crate::defining::failing::{take_entry, unwritten};
-use crate::defining::put::{IndexToPut, index_to_put};
+use crate::defining::failing::{entered, take_entry};
+use crate::defining::prepared::IndexToPut;
+use crate::defining::put::index_to_put;
 use crate::defining::quiet::quiet_place;
 use crate::{Founded, Server};
 use px_calls::{Made, StepFault};
@@ -14,7 +15,7 @@ use px_outside::{Clock, CountsCalls};
 use px_schema::CatalogItem;
 use px_seat::Based;
 use px_tables::IndexState;
-use px_trail::{Act, Entry};
+use px_trail::Act;
 use px_values::{IndexId, TableId};
 use std::mem;
 
@@ -24,19 +25,16 @@ impl<D: CountsCalls, C: Clock, B: Based + Founded> Server<D, C, B> {
         ensures ok { IfOk result (DidDefine (known_by B.base B.damaged self.old) (known_by B.base B.damaged self.new) (DisabledDefinition table index)) }
         ensures refused { IfErr result (Refuses (define_cause (DisabledDefinition table index)) (known_by B.base B.damaged self.old) (known_by B.base B.damaged self.new)) }
     {
-        let place = match quiet_place(
+        let place = quiet_place(
             self.closed,
             &self.standing,
             self.groups.as_slice(),
             table,
             index,
-        ) {
-            Ok(place) => place,
-            Err(fault) => return Err(fault),
-        };
+        )?;
         let one = &self.standing.indexes.as_slice()[place.index];
         let (birth, region) = (one.birth, one.region);
-        let made = match index_to_put(
+        let made = index_to_put(
             self.alloc,
             &self.groups[place.table].table,
             &self.standing,
@@ -44,10 +42,7 @@ impl<D: CountsCalls, C: Clock, B: Based + Founded> Server<D, C, B> {
             IndexState::Disabled,
             birth,
             region,
-        ) {
-            Ok(made) => made,
-            Err(fault) => return Err(fault),
-        };
+        )?;
         let Ok(()) = take_entry(&mut self.trail) else {
             drop(made);
             return Err(StepFault::Memory);
@@ -64,16 +59,17 @@ impl<D: CountsCalls, C: Clock, B: Based + Founded> Server<D, C, B> {
             state: IndexState::Disabled,
             stamp: birth,
         };
-        match self
-            .catalog
-            .append(&mut self.disk, CatalogItem::IndexIs(item))
-        {
+        match entered(
+            self.catalog
+                .append(&mut self.disk, CatalogItem::IndexIs(item)),
+            &self.disk,
+            self.seat,
+            act,
+            &mut self.trail,
+            &mut self.late,
+            &mut self.closed,
+        ) {
             Ok(()) => {
-                self.trail.push(Entry {
-                    seat: self.seat,
-                    calls: self.disk.call_count(),
-                    act,
-                });
                 px_defined::drop_index(&mut self.groups[place.table], index);
                 let before = mem::replace(&mut self.standing, standing);
                 drop(before);
@@ -85,15 +81,7 @@ impl<D: CountsCalls, C: Clock, B: Based + Founded> Server<D, C, B> {
             }
             Err(fault) => {
                 drop(standing);
-                Err(unwritten(
-                    fault,
-                    &self.disk,
-                    self.seat,
-                    act,
-                    &mut self.trail,
-                    &mut self.late,
-                    &mut self.closed,
-                ))
+                Err(fault)
             }
         }
     }

@@ -7,7 +7,7 @@ ghost use Rattle.px_calls.specs.declared.definition.Definition.TheVariants.{Inde
 ghost use Rattle.px_server.specs.inner.Indexing.{MayMakeIndex};
 ghost use Rattle.px_server.specs.Shown.{known_by};
 
-use crate::defining::failing::{take_entry, unwritten};
+use crate::defining::failing::{entered, take_entry};
 use crate::defining::prepared::{IndexToMake, index_to_make};
 use crate::defining::stamps::next_stamp;
 use crate::{Founded, Server};
@@ -18,7 +18,7 @@ use px_schema::CatalogItem;
 use px_seat::Based;
 use px_standing::numbered_place;
 use px_tables::NewIndex;
-use px_trail::{Act, Entry};
+use px_trail::Act;
 use std::mem;
 
 impl<D: CountsCalls, C: Clock, B: Based + Founded> Server<D, C, B> {
@@ -45,10 +45,7 @@ impl<D: CountsCalls, C: Clock, B: Based + Founded> Server<D, C, B> {
             unreachable!()
         };
         let stamp = next_stamp(&mut self.clock, self.groups[place].last);
-        let made = match index_to_make(self.alloc, &self.standing, stamp, what) {
-            Ok(made) => made,
-            Err(fault) => return Err(fault),
-        };
+        let made = index_to_make(self.alloc, &self.standing, stamp, what)?;
         let Ok(()) = take_entry(&mut self.trail) else {
             drop(made);
             return Err(StepFault::Memory);
@@ -70,16 +67,17 @@ impl<D: CountsCalls, C: Clock, B: Based + Founded> Server<D, C, B> {
             stamp,
             what: definition,
         };
-        match self
-            .catalog
-            .append(&mut self.disk, CatalogItem::IndexIs(item))
-        {
+        match entered(
+            self.catalog
+                .append(&mut self.disk, CatalogItem::IndexIs(item)),
+            &self.disk,
+            self.seat,
+            act,
+            &mut self.trail,
+            &mut self.late,
+            &mut self.closed,
+        ) {
             Ok(()) => {
-                self.trail.push(Entry {
-                    seat: self.seat,
-                    calls: self.disk.call_count(),
-                    act,
-                });
                 add_index(self.alloc, &mut self.groups[place], index);
                 let before = mem::replace(&mut self.standing, standing);
                 drop(before);
@@ -92,15 +90,7 @@ impl<D: CountsCalls, C: Clock, B: Based + Founded> Server<D, C, B> {
             Err(fault) => {
                 drop(index);
                 drop(standing);
-                Err(unwritten(
-                    fault,
-                    &self.disk,
-                    self.seat,
-                    act,
-                    &mut self.trail,
-                    &mut self.late,
-                    &mut self.closed,
-                ))
+                Err(fault)
             }
         }
     }

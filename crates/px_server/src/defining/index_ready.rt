@@ -6,8 +6,8 @@ ghost use Rattle.px_calls.specs.Requires.{MayActivate};
 ghost use Rattle.px_calls.specs.declared.definition.Definition.TheVariants.{Active as ActiveDefinition};
 ghost use Rattle.px_server.specs.Shown.{known_by};
 
-use crate::defining::failing::{take_entry, unwritten};
-use crate::defining::prepared::{IndexToActivate, index_to_activate};
+use crate::defining::failing::{entered, take_entry};
+use crate::defining::prepared::{IndexToPut, index_to_activate};
 use crate::{Founded, Server};
 use px_calls::{Made, StepFault};
 use px_defined::index_place;
@@ -16,7 +16,7 @@ use px_schema::CatalogItem;
 use px_seat::Based;
 use px_standing::numbered_place;
 use px_tables::IndexState;
-use px_trail::{Act, Entry};
+use px_trail::Act;
 use px_values::{IndexId, TableId};
 use std::mem;
 
@@ -39,31 +39,34 @@ impl<D: CountsCalls, C: Clock, B: Based + Founded> Server<D, C, B> {
         };
         let part = &group.indexes[at];
         let stamp = part.index.birth;
-        let made = match index_to_activate(self.alloc, &self.standing, &part.index) {
-            Ok(made) => made,
-            Err(fault) => return Err(fault),
-        };
+        let made = index_to_activate(self.alloc, &self.standing, &part.index)?;
         let Ok(()) = take_entry(&mut self.trail) else {
             drop(made);
             return Err(StepFault::Memory);
         };
-        let IndexToActivate { item, standing } = made;
+        let IndexToPut {
+            index: before,
+            item,
+            standing,
+        } = made;
+        drop(before);
         let act = Act::IndexState {
             table,
             index,
             state: IndexState::Active,
             stamp,
         };
-        match self
-            .catalog
-            .append(&mut self.disk, CatalogItem::IndexIs(item))
-        {
+        match entered(
+            self.catalog
+                .append(&mut self.disk, CatalogItem::IndexIs(item)),
+            &self.disk,
+            self.seat,
+            act,
+            &mut self.trail,
+            &mut self.late,
+            &mut self.closed,
+        ) {
             Ok(()) => {
-                self.trail.push(Entry {
-                    seat: self.seat,
-                    calls: self.disk.call_count(),
-                    act,
-                });
                 px_defined::make_active(&mut self.groups[place], at);
                 let before = mem::replace(&mut self.standing, standing);
                 drop(before);
@@ -75,15 +78,7 @@ impl<D: CountsCalls, C: Clock, B: Based + Founded> Server<D, C, B> {
             }
             Err(fault) => {
                 drop(standing);
-                Err(unwritten(
-                    fault,
-                    &self.disk,
-                    self.seat,
-                    act,
-                    &mut self.trail,
-                    &mut self.late,
-                    &mut self.closed,
-                ))
+                Err(fault)
             }
         }
     }

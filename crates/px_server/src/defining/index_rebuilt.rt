@@ -5,8 +5,9 @@ ghost use Rattle.px_calls.specs.Causes.{Refuses, define_cause};
 ghost use Rattle.px_calls.specs.declared.definition.Definition.TheVariants.{Rebuilding as RebuildingDefinition};
 ghost use Rattle.px_server.specs.Shown.{known_by};
 
-use crate::defining::failing::{take_entry, unwritten};
-use crate::defining::put::{IndexToPut, index_to_put};
+use crate::defining::failing::{entered, take_entry};
+use crate::defining::prepared::IndexToPut;
+use crate::defining::put::index_to_put;
 use crate::defining::quiet::quiet_place;
 use crate::defining::stamps::next_stamp;
 use crate::defining::tables::limit;
@@ -17,7 +18,7 @@ use px_outside::{Clock, CountsCalls};
 use px_schema::CatalogItem;
 use px_seat::Based;
 use px_tables::IndexState;
-use px_trail::{Act, Entry};
+use px_trail::Act;
 use px_values::{IndexId, Limit, TableId};
 use std::mem;
 
@@ -27,16 +28,13 @@ impl<D: CountsCalls, C: Clock, B: Based + Founded> Server<D, C, B> {
         ensures ok { IfOk result (DidDefine (known_by B.base B.damaged self.old) (known_by B.base B.damaged self.new) (RebuildingDefinition table index)) }
         ensures refused { IfErr result (Refuses (define_cause (RebuildingDefinition table index)) (known_by B.base B.damaged self.old) (known_by B.base B.damaged self.new)) }
     {
-        let place = match quiet_place(
+        let place = quiet_place(
             self.closed,
             &self.standing,
             self.groups.as_slice(),
             table,
             index,
-        ) {
-            Ok(place) => place,
-            Err(fault) => return Err(fault),
-        };
+        )?;
         if self.groups[place.table].last >= Limit::Stamps.most() {
             return Err(limit(Limit::Stamps));
         }
@@ -45,7 +43,7 @@ impl<D: CountsCalls, C: Clock, B: Based + Founded> Server<D, C, B> {
         }
         let stamp = next_stamp(&mut self.clock, self.groups[place.table].last);
         let (birth, region) = (stamp, self.standing.next);
-        let made = match index_to_put(
+        let made = index_to_put(
             self.alloc,
             &self.groups[place.table].table,
             &self.standing,
@@ -53,10 +51,7 @@ impl<D: CountsCalls, C: Clock, B: Based + Founded> Server<D, C, B> {
             IndexState::Building,
             birth,
             region,
-        ) {
-            Ok(made) => made,
-            Err(fault) => return Err(fault),
-        };
+        )?;
         let Ok(()) = take_entry(&mut self.trail) else {
             drop(made);
             return Err(StepFault::Memory);
@@ -76,16 +71,17 @@ impl<D: CountsCalls, C: Clock, B: Based + Founded> Server<D, C, B> {
             state: IndexState::Building,
             stamp,
         };
-        match self
-            .catalog
-            .append(&mut self.disk, CatalogItem::IndexIs(item))
-        {
+        match entered(
+            self.catalog
+                .append(&mut self.disk, CatalogItem::IndexIs(item)),
+            &self.disk,
+            self.seat,
+            act,
+            &mut self.trail,
+            &mut self.late,
+            &mut self.closed,
+        ) {
             Ok(()) => {
-                self.trail.push(Entry {
-                    seat: self.seat,
-                    calls: self.disk.call_count(),
-                    act,
-                });
                 replace_index(self.alloc, &mut self.groups[place.table], anew);
                 let before = mem::replace(&mut self.standing, standing);
                 drop(before);
@@ -98,15 +94,7 @@ impl<D: CountsCalls, C: Clock, B: Based + Founded> Server<D, C, B> {
             Err(fault) => {
                 drop(anew);
                 drop(standing);
-                Err(unwritten(
-                    fault,
-                    &self.disk,
-                    self.seat,
-                    act,
-                    &mut self.trail,
-                    &mut self.late,
-                    &mut self.closed,
-                ))
+                Err(fault)
             }
         }
     }

@@ -23,9 +23,10 @@ pub(crate) struct IndexToMake {
     pub(crate) standing: Standing,
 }
 
-/// An index that becomes active, for the catalogue; and what stands then.
+/// An index with another record, once for its group and once for the catalogue; and what stands then.
 #[derive(Drop)]
-pub(crate) struct IndexToActivate {
+pub(crate) struct IndexToPut {
+    pub(crate) index: Index,
     pub(crate) item: Index,
     pub(crate) standing: Standing,
 }
@@ -45,15 +46,39 @@ pub(crate) fn can_record(standing: &Standing, index: &Index) -> bool
         && (standing.indexes.as_slice().len() as u64) < GREATEST_COUNT
 }
 
-/// What stands with an index, and the index for its record.
+/// The index with its record, and what stands then.
 pub(crate) fn with_record(
     alloc: Global,
     standing: &Standing,
+    index: Index,
+) -> Result<IndexToPut, AllocError>
+    requires can { CanRecord standing.now index }
+    ensures index { IfOk result (λ r. r.index ≡ index) }
+    ensures item { IfOk result (λ r. r.item ≡ index) }
+    ensures standing { IfOk result (λ r. r.standing ≡ stands_after standing.now (IndexIs index)) }
+{
+    match record_and_standing(alloc, standing, &index) {
+        Ok((item, standing)) => Ok(IndexToPut {
+            index,
+            item,
+            standing,
+        }),
+        Err(fault) => {
+            drop(index);
+            Err(fault)
+        }
+    }
+}
+
+/// The index for its record, and what stands then.
+fn record_and_standing(
+    alloc: Global,
+    standing: &Standing,
     index: &Index,
-) -> Result<IndexToActivate, AllocError>
+) -> Result<(Index, Standing), AllocError>
     requires can { CanRecord standing.now index.now }
-    ensures item { IfOk result (λ r. r.item ≡ index.now) }
-    ensures standing { IfOk result (λ r. r.standing ≡ stands_after standing.now (IndexIs index.now)) }
+    ensures item { IfOk result (λ r. r.0 ≡ index.now) }
+    ensures standing { IfOk result (λ r. r.1 ≡ stands_after standing.now (IndexIs index.now)) }
 {
     let item = index.copied(alloc)?;
     let copy = match index.copied(alloc) {
@@ -64,7 +89,7 @@ pub(crate) fn with_record(
         }
     };
     match standing_after(alloc, standing, CatalogItem::IndexIs(copy)) {
-        Ok(standing) => Ok(IndexToActivate { item, standing }),
+        Ok(standing) => Ok((item, standing)),
         Err(fault) => {
             drop(item);
             Err(fault)
@@ -92,30 +117,24 @@ pub(crate) fn index_to_make(
         drop(index);
         return Err(StepFault::Memory);
     }
-    let IndexToActivate {
-        item,
-        standing: after,
-    } = match with_record(alloc, standing, &index) {
-        Ok(made) => made,
-        Err(_) => {
-            drop(index);
-            return Err(StepFault::Memory);
-        }
+    let Ok(put) = with_record(alloc, standing, index) else {
+        return Err(StepFault::Memory);
     };
-    match what.copied(alloc) {
-        Ok(what) => Ok(IndexToMake {
-            index,
-            item,
-            what,
-            standing: after,
-        }),
-        Err(_) => {
-            drop(index);
-            drop(item);
-            drop(after);
-            Err(StepFault::Memory)
-        }
-    }
+    let Ok(what) = what.copied(alloc) else {
+        drop(put);
+        return Err(StepFault::Memory);
+    };
+    let IndexToPut {
+        index,
+        item,
+        standing,
+    } = put;
+    Ok(IndexToMake {
+        index,
+        item,
+        what,
+        standing,
+    })
 }
 
 /// The index as one that is active.
@@ -123,7 +142,7 @@ pub(crate) fn index_to_activate(
     alloc: Global,
     standing: &Standing,
     index: &Index,
-) -> Result<IndexToActivate, StepFault>
+) -> Result<IndexToPut, StepFault>
     ensures ok { IfOk result (IsIndexToActivate standing.now index.now) }
     ensures refused { IfErr result (λ f. f ≡ NoMemory) }
 {
@@ -135,9 +154,7 @@ pub(crate) fn index_to_activate(
         drop(active);
         return Err(StepFault::Memory);
     }
-    let made = with_record(alloc, standing, &active);
-    drop(active);
-    match made {
+    match with_record(alloc, standing, active) {
         Ok(made) => Ok(made),
         Err(_) => Err(StepFault::Memory),
     }

@@ -4,20 +4,12 @@ ghost use Rattle.px_calls.specs.declared.fault.StepFault.TheVariants.{Memory as 
 ghost use Rattle.px_server.specs.inner.Quiet.{IsIndexToPut};
 ghost use Rattle.px_tables.specs.declared.index.Index.{Index as Indexes};
 
-use crate::defining::prepared::{IndexToActivate, can_record, with_record};
+use crate::defining::prepared::{IndexToPut, can_record, with_record};
 use px_calls::StepFault;
 use px_cellshapes::is_right_index;
 use px_schema::Standing;
-use px_tables::{Index, IndexState, Table};
+use px_tables::{IndexState, Table};
 use std::alloc::Global;
-
-/// An index with another record, once for its group and once for the catalogue; and what stands then.
-#[derive(Drop)]
-pub(crate) struct IndexToPut {
-    pub(crate) index: Index,
-    pub(crate) item: Index,
-    pub(crate) standing: Standing,
-}
 
 /// The index at this place of those that stand, of the table, in this state, with this birth and this region. One that isn't right for its
 /// table, or that the catalogue can't spell, is told as want of memory: no folder with such an index is opened.
@@ -44,18 +36,8 @@ pub(crate) fn index_to_put(
         drop(index);
         return Err(StepFault::Memory);
     }
-    match with_record(alloc, standing, &index) {
-        Ok(made) => {
-            let IndexToActivate { item, standing } = made;
-            Ok(IndexToPut {
-                index,
-                item,
-                standing,
-            })
-        }
-        Err(_) => {
-            drop(index);
-            Err(StepFault::Memory)
-        }
+    match with_record(alloc, standing, index) {
+        Ok(made) => Ok(made),
+        Err(_) => Err(StepFault::Memory),
     }
 }

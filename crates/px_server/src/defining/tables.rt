@@ -14,7 +14,7 @@ ghost use Rattle.px_schema.specs.Stands.{after as stands_after, drawn_by};
 ghost use Rattle.px_server.specs.Shown.{known_by};
 ghost use Rattle.px_server.specs.inner.Making.{AreParts, IsUnmade, MayMake, table_made};
 
-use crate::defining::failing::{take_entry, take_room, unwritten};
+use crate::defining::failing::{entered, take_entry, take_room};
 use crate::defining::spelled::{are_spelled, is_spelled};
 use crate::{Founded, Server};
 use px_calls::{Made, StepFault};
@@ -25,7 +25,7 @@ use px_schema::{CatalogItem, Standing};
 use px_seat::Based;
 use px_standing::{is_free, new_table, numbered_place};
 use px_tables::{NewTable, Table};
-use px_trail::{Act, Entry};
+use px_trail::Act;
 use px_values::{Limit, TableId};
 use std::alloc::{AllocError, Global};
 use std::mem;
@@ -209,16 +209,17 @@ impl<D: CountsCalls, C: Clock, B: Based + Founded> Server<D, C, B> {
         };
         let table = group.table.id;
         let act = Act::Made { table, what: copy };
-        match self
-            .catalog
-            .append(&mut self.disk, CatalogItem::TableIs(item))
-        {
+        match entered(
+            self.catalog
+                .append(&mut self.disk, CatalogItem::TableIs(item)),
+            &self.disk,
+            self.seat,
+            act,
+            &mut self.trail,
+            &mut self.late,
+            &mut self.closed,
+        ) {
             Ok(()) => {
-                self.trail.push(Entry {
-                    seat: self.seat,
-                    calls: self.disk.call_count(),
-                    act,
-                });
                 self.groups.push_reserved(group);
                 let before = mem::replace(&mut self.standing, standing);
                 drop(before);
@@ -231,15 +232,7 @@ impl<D: CountsCalls, C: Clock, B: Based + Founded> Server<D, C, B> {
             Err(fault) => {
                 drop(group);
                 drop(standing);
-                Err(unwritten(
-                    fault,
-                    &self.disk,
-                    self.seat,
-                    act,
-                    &mut self.trail,
-                    &mut self.late,
-                    &mut self.closed,
-                ))
+                Err(fault)
             }
         }
     }
@@ -268,16 +261,17 @@ impl<D: CountsCalls, C: Clock, B: Based + Founded> Server<D, C, B> {
             return Err(StepFault::Memory);
         };
         let act = Act::Dropped { table, index: None };
-        match self
-            .catalog
-            .append(&mut self.disk, CatalogItem::TableGone(table))
-        {
+        match entered(
+            self.catalog
+                .append(&mut self.disk, CatalogItem::TableGone(table)),
+            &self.disk,
+            self.seat,
+            act,
+            &mut self.trail,
+            &mut self.late,
+            &mut self.closed,
+        ) {
             Ok(()) => {
-                self.trail.push(Entry {
-                    seat: self.seat,
-                    calls: self.disk.call_count(),
-                    act,
-                });
                 self.groups.retain(|group| group.table.id.0 != table.0);
                 let before = mem::replace(&mut self.standing, standing);
                 drop(before);
@@ -289,15 +283,7 @@ impl<D: CountsCalls, C: Clock, B: Based + Founded> Server<D, C, B> {
             }
             Err(fault) => {
                 drop(standing);
-                Err(unwritten(
-                    fault,
-                    &self.disk,
-                    self.seat,
-                    act,
-                    &mut self.trail,
-                    &mut self.late,
-                    &mut self.closed,
-                ))
+                Err(fault)
             }
         }
     }

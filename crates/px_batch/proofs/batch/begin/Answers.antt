@@ -4,39 +4,39 @@ use Rattle.px_batch.proofs.Turning as turning
 use Rattle.px_batch.proofs.Turning.{early_begin, early_settle}
 use Rattle.px_batch.proofs.batch.begin.Goals as goal
 
-pub returns-in-Ok : goal.returns-in-Ok
-returns-in-Ok g c = turning.begins _ _ _ _ _ _ c.in-Ok.ensures.ok
+pub returns-in-Ok-clause-turns : goal.returns-in-Ok-clause-turns
+returns-in-Ok-clause-turns g c = turning.begins _ _ _ _ _ _ c.in-Ok.ensures.ok
 
-pub returns-in-Err-Busy : goal.returns-in-Err-Busy
-returns-in-Err-Busy g c = turning.is_busy _ _ _ c.args.table c.args.changes.now c.requires.fits (rw c.in-Err-Busy.field-0-is at c.in-Err-Busy.ensures.refused).1
+pub returns-in-Err-Busy-clause-turns : goal.returns-in-Err-Busy-clause-turns
+returns-in-Err-Busy-clause-turns g c = turning.is_busy _ _ _ c.args.table c.args.changes.now c.requires.fits (rw c.in-Err-Busy.field-0-is at c.in-Err-Busy.ensures.refused).1
 
-pub returns-in-Err-NotReady : goal.returns-in-Err-NotReady
-returns-in-Err-NotReady g c = turning.is_busy _ _ _ c.args.table c.args.changes.now c.requires.fits (rw c.in-Err-NotReady.field-0-is at c.in-Err-NotReady.ensures.refused).1
+pub returns-in-Err-NotReady-clause-turns : goal.returns-in-Err-NotReady-clause-turns
+returns-in-Err-NotReady-clause-turns g c = turning.is_busy _ _ _ c.args.table c.args.changes.now c.requires.fits (rw c.in-Err-NotReady.field-0-is at c.in-Err-NotReady.ensures.refused).1
 
-pub returns-in-Err-NoTable : goal.returns-in-Err-NoTable
-returns-in-Err-NoTable g c =
+pub returns-in-Err-NoTable-clause-turns : goal.returns-in-Err-NoTable-clause-turns
+returns-in-Err-NoTable-clause-turns g c =
     let h = (rw c.in-Err-NoTable.field-0-is at c.in-Err-NoTable.ensures.refused) in
     turning.stops _ _ _ c.args.table c.args.changes.now state.Beginning fault.NoTable early_begin (λ n. tt) h.0 h.1
 
-pub returns-in-Err-Limit : goal.returns-in-Err-Limit
-returns-in-Err-Limit g c =
+pub returns-in-Err-Limit-clause-turns : goal.returns-in-Err-Limit-clause-turns
+returns-in-Err-Limit-clause-turns g c =
     let h = (rw c.in-Err-Limit.field-0-is at c.in-Err-Limit.ensures.refused) in
     turning.stops _ _ _ c.args.table c.args.changes.now state.Beginning (fault.Limit _ _) early_begin (λ n. tt) h.0 h.1
 
-pub returns-in-Err-Closed : goal.returns-in-Err-Closed
-returns-in-Err-Closed g c =
+pub returns-in-Err-Closed-clause-turns : goal.returns-in-Err-Closed-clause-turns
+returns-in-Err-Closed-clause-turns g c =
     let h = (rw c.in-Err-Closed.field-0-is at c.in-Err-Closed.ensures.refused) in
     turning.stops _ _ _ c.args.table c.args.changes.now state.Beginning (fault.Closed _) early_begin (λ n. tt) h.0 h.1
 
-pub returns-in-Err-Memory : goal.returns-in-Err-Memory
-returns-in-Err-Memory g c =
+pub returns-in-Err-Memory-clause-turns : goal.returns-in-Err-Memory-clause-turns
+returns-in-Err-Memory-clause-turns g c =
     let h = (rw c.in-Err-Memory.field-0-is at c.in-Err-Memory.ensures.refused) in
     turning.stops _ _ _ c.args.table c.args.changes.now state.Beginning fault.Memory early_begin (λ n. tt) tt h.1
 
-pub returns-in-Err-Damaged : goal.returns-in-Err-Damaged
-returns-in-Err-Damaged g c =
+pub returns-in-Err-Damaged-clause-turns : goal.returns-in-Err-Damaged-clause-turns
+returns-in-Err-Damaged-clause-turns g c =
     let h = (rw c.in-Err-Damaged.field-0-is at c.in-Err-Damaged.ensures.refused) in
     turning.stops _ _ _ c.args.table c.args.changes.now state.Beginning (fault.Damaged _ _) early_begin (λ n. tt) h.0.1 h.1
 
-pub returns-in-Err-ReadFault : goal.returns-in-Err-ReadFault
-returns-in-Err-ReadFault g c = turning.misses _ _ _ c.args.table c.args.changes.now state.Beginning early_begin (rw c.in-Err-ReadFault.field-0-is at c.in-Err-ReadFault.ensures.refused).1
+pub returns-in-Err-ReadFault-clause-turns : goal.returns-in-Err-ReadFault-clause-turns
+returns-in-Err-ReadFault-clause-turns g c = turning.misses _ _ _ c.args.table c.args.changes.now state.Beginning early_begin (rw c.in-Err-ReadFault.field-0-is at c.in-Err-ReadFault.ensures.refused).1

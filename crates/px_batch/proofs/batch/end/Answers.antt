@@ -2,5 +2,5 @@ use Rattle.px_batch.proofs.Turning as turning
 use Rattle.px_batch.proofs.Turning.{early_begin, early_settle}
 use Rattle.px_batch.proofs.batch.end.Goals as goal
 
-pub returns : goal.returns
-returns g c = λ cs. turning.ends _ _ _ c.args.t cs _ c.end-receipt.ensures.adds c.end-receipt.ensures.receipt
+pub returns-clause-turns : goal.returns-clause-turns
+returns-clause-turns g c = λ cs. turning.ends _ _ _ c.args.t cs _ c.end-receipt.ensures.adds c.end-receipt.ensures.receipt

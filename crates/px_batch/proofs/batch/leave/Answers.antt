@@ -2,5 +2,5 @@ use Rattle.px_batch.proofs.Turning as turning
 use Rattle.px_batch.proofs.Turning.{early_begin, early_settle}
 use Rattle.px_batch.proofs.batch.leave.Goals as goal
 
-pub returns : goal.returns
-returns g c = λ cs. turning.leaves _ _ _ c.args.t cs c.args.fault c.requires.can c.requires.told c.abandon.ensures
+pub returns-clause-turns : goal.returns-clause-turns
+returns-clause-turns g c = λ cs. turning.leaves _ _ _ c.args.t cs c.args.fault c.requires.can c.requires.told c.abandon.ensures.sees

@@ -3,7 +3,6 @@ use Rattle.std.proofs.Crossing.{crosses}
 use denote.Param.Send.{sendable}
 use Rattle.px_values.specs.declared.name.IndexId.{IndexId}
 use Rattle.px_values.specs.declared.name.TableId.{TableId}
-use Rattle.px_calls.specs.Calls.{made_index}
 use Rattle.px_upkeep.specs.Turns as building
 use Rattle.px_item.proofs.Built.{build_goes_on, build_is_over, build_waits}
 use Rattle.px_item.proofs.item.build.Goals as goal
@@ -14,11 +13,11 @@ step-requires g c =
     let F : TableId × IndexId → Type 0 = λ q. building.Fits g.S.Steps.sound j.made.at q.0 q.1 j.rest c.args.run (g.S.Steps.known c.args.s.now) in
     (search (sendable, crosses) depth 40, (j.made.at, j.rest, subst F (λ i. (sym j.fits.table i, sym j.fits.index i)) j.fits))
 
-pub returns-in-Stepped : goal.returns-in-Stepped
-returns-in-Stepped g c = λ before own f. build_goes_on g.S.Steps.sound before c.args.asked own c.args.statement c.args.run _ _ _ f c.in-Stepped.ensures.turns
+pub returns-in-Stepped-clause-turns : goal.returns-in-Stepped-clause-turns
+returns-in-Stepped-clause-turns g c = λ before own f. build_goes_on g.S.Steps.sound before c.args.asked own c.args.statement c.args.run _ _ _ f c.in-Stepped.ensures.turns
 
-pub returns-in-Waiting : goal.returns-in-Waiting
-returns-in-Waiting g c = λ before own f. build_waits g.S.Steps.sound before c.args.asked own c.args.statement c.args.run _ _ _ f c.in-Waiting.ensures.turns
+pub returns-in-Waiting-clause-turns : goal.returns-in-Waiting-clause-turns
+returns-in-Waiting-clause-turns g c = λ before own f. build_waits g.S.Steps.sound before c.args.asked own c.args.statement c.args.run _ _ _ f c.in-Waiting.ensures.turns
 
-pub returns-in-Over : goal.returns-in-Over
-returns-in-Over g c = λ before own f. build_is_over g.S.Steps.sound before c.args.asked own c.args.statement c.args.run _ _ _ c.built.result f c.in-Over.ensures.turns c.built.ensures
+pub returns-in-Over-clause-turns : goal.returns-in-Over-clause-turns
+returns-in-Over-clause-turns g c = λ before own f. build_is_over g.S.Steps.sound before c.args.asked own c.args.statement c.args.run _ _ _ c.built.result f c.in-Over.ensures.turns c.built.ensures

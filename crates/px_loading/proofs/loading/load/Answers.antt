@@ -7,7 +7,7 @@ use Rattle.px_loading.proofs.loading.load.Goals as goal
 
 pub returns-then-is_empty-clause-loaded : goal.returns-then-is_empty-clause-loaded
 returns-then-is_empty-clause-loaded g c = λ region named lists tells have.
-    settled_alone c.args.store.cells lists c.as_slice-cells.ensures.sorted (have_none g.D.Disk region c.args.disk.now named c.args.files.now lists (eqb-true (length c.args.files.now) 0 (sym c.if-is_empty.ensures)) have)
+    settled_alone c.args.store.cells lists c.piece_count-count.ensures.sorted (have_none g.D.Disk region c.args.disk.now named c.args.files.now lists (eqb-true (length c.args.files.now) 0 (sym c.if-is_empty.ensures)) have)
 
 pub returns-in-Ok-clause-loaded : goal.returns-in-Ok-clause-loaded
 returns-in-Ok-clause-loaded g c = λ region named lists tells have.

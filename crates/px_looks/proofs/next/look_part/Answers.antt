@@ -13,11 +13,11 @@ find_all-requires-clause-list g c = (rows_list (read_of c.args.region.now) c.arg
 pub find_all-requires-clause-admits : goal.find_all-requires-clause-admits
 find_all-requires-clause-admits g c =
     let e = c.lend-lent.ensures in
-    let taken : IsTaken (read_of c.args.region.now) c.args.low.now (option_copied c.args.high) c.args.most c.lend-lent.result.rows c.lend-lent.result.cells.now
+    let taken : IsTaken (read_of c.args.region.now) c.args.low.now (option_copied c.args.high) c.lend-lent.result.most c.lend-lent.result.rows c.lend-lent.result.cells.now
     = record { counted = e.counted; few = e.few; all = e.all; part = e.part; within = e.within } in
-    (part_admits (read_of c.args.region.now) c.args.low.now (option_copied c.args.high) c.args.most c.lend-lent.result.rows c.lend-lent.result.cells.now taken (g.R.Reader.admits c.args.reader.now) c.requires.admits)
+    (part_admits (read_of c.args.region.now) c.args.low.now (option_copied c.args.high) c.lend-lent.result.most c.lend-lent.result.rows c.lend-lent.result.cells.now taken (g.R.Reader.admits c.args.reader.now) c.requires.admits)
 
-taken : (g : Over) (c : goal.After-look_at g) → IsTaken (read_of c.args.region.now) c.args.low.now (option_copied c.args.high) c.args.most c.lend-lent.result.rows c.lend-lent.result.cells.now
+taken : (g : Over) (c : goal.After-look_at g) → IsTaken (read_of c.args.region.now) c.args.low.now (option_copied c.args.high) c.lend-lent.result.most c.lend-lent.result.rows c.lend-lent.result.cells.now
 taken g c = (let e = c.lend-lent.ensures in record { counted = e.counted; few = e.few; all = e.all; part = e.part; within = e.within })
 
 among : (g : Over) (c : goal.After-look_at g) → FoundAmong (g.R.Reader.shows c.args.reader.now) c.lend-lent.result.cells.now (length c.lend-lent.result.cells.now) c.in-Ok-find_all.found.items
@@ -25,17 +25,17 @@ among g c = c.in-Ok-find_all.ensures.found
 
 pub returns-clause-found : goal.returns-clause-found
 returns-clause-found g c =
-    part_found (read_of c.args.region.now) c.args.low.now (option_copied c.args.high) c.args.most c.lend-lent.result.rows c.lend-lent.result.cells.now (taken g c) (g.R.Reader.shows c.args.reader.now) c.law.ensures.some c.in-Ok-find_all.found.items (among g c)
-    c.requires.most c.in-Ok.end c.in-Ok.ensures
+    part_found (read_of c.args.region.now) c.args.low.now (option_copied c.args.high) c.lend-lent.result.most c.lend-lent.result.rows c.lend-lent.result.cells.now (taken g c) (g.R.Reader.shows c.args.reader.now) c.law.ensures.some c.in-Ok-find_all.found.items (among g c)
+    (c.lend-lent.ensures.some c.requires.most) c.in-Ok.end c.in-Ok.ensures
 
 pub returns-clause-up : goal.returns-clause-up
 returns-clause-up g c =
-    part_up (read_of c.args.region.now) c.args.low.now (option_copied c.args.high) c.args.most c.lend-lent.result.rows c.lend-lent.result.cells.now (taken g c) (g.R.Reader.shows c.args.reader.now) c.law.ensures.some c.in-Ok-find_all.found.items (among g c)
+    part_up (read_of c.args.region.now) c.args.low.now (option_copied c.args.high) c.lend-lent.result.most c.lend-lent.result.rows c.lend-lent.result.cells.now (taken g c) (g.R.Reader.shows c.args.reader.now) c.law.ensures.some c.in-Ok-find_all.found.items (among g c)
     c.in-Ok.end c.in-Ok.ensures
 
 pub returns-clause-below : goal.returns-clause-below
 returns-clause-below g c =
-    part_below (read_of c.args.region.now) c.args.low.now (option_copied c.args.high) c.args.most c.lend-lent.result.rows c.lend-lent.result.cells.now (taken g c) (g.R.Reader.shows c.args.reader.now) c.law.ensures.some c.in-Ok-find_all.found.items (among g c)
+    part_below (read_of c.args.region.now) c.args.low.now (option_copied c.args.high) c.lend-lent.result.most c.lend-lent.result.rows c.lend-lent.result.cells.now (taken g c) (g.R.Reader.shows c.args.reader.now) c.law.ensures.some c.in-Ok-find_all.found.items (among g c)
 
 pub returns-clause-counted : goal.returns-clause-counted
 returns-clause-counted g c =

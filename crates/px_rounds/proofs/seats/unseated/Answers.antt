@@ -1,4 +1,4 @@
-use Rattle.std.proofs.Common.{rules, ◌≡◌, ◌∙◌, ℕ, ◌+◌, ◌<◌, false, [], ◌∷◌, ◌++◌, Some, length, drop, refl, sym, ap, subst, ⊎_elim, arith, length-append}
+use Rattle.std.proofs.Common.{rules, ◌≡◌, ◌∙◌, ◌+◌, ◌<◌, false, [], ◌∷◌, ◌++◌, length, drop, refl, sym, ap, subst, ⊎_elim, arith, length-append}
 use Rattle.std.specs.Prelude.{slice_get}
 use Rattle.px_reply.specs.declared.transcript.Transcript.{Transcript}
 use Rattle.px_session.specs.declared.state.SessionState.{SessionState}

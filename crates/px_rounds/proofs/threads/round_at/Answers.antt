@@ -1,5 +1,5 @@
-use Rattle.std.proofs.Common.{rules, ◌≡◌, ◌≤◌, ◌∙◌, ◌++◌, ℕ, Some, List, length, sym, ap, subst}
-use Rattle.std.specs.Prelude.{slice_get, vec_capacity}
+use Rattle.std.proofs.Common.{rules, ◌≡◌, ◌≤◌, ◌∙◌, ◌++◌, List, length, sym, ap, subst}
+use Rattle.std.specs.Prelude.{vec_capacity}
 use Rattle.px_trail.specs.declared.entry.Entry.{Entry}
 use Rattle.px_turn.specs.Lists.{GrownBelow, GrownByOthers}
 use Rattle.px_turn.specs.Seats.{number, seen as list_seen}

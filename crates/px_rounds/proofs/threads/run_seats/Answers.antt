@@ -1,4 +1,4 @@
-use Rattle.std.proofs.Common.{rules, ◌≡◌, ◌∙◌, ◌<◌, ◌+◌, ◌-◌, ℕ, length, refl, sym, ap, arith, length-drop}
+use Rattle.std.proofs.Common.{◌≡◌, ◌∙◌, ◌+◌, length, refl, sym, ap, arith, length-drop}
 use Rattle.std.specs.Prelude.{slice_get}
 use Rattle.px_turn.specs.Seats.{seen as list_seen}
 use Rattle.px_seat.specs.Grown.{mine}

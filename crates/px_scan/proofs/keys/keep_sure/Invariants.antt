@@ -1,4 +1,4 @@
-use Rattle.std.proofs.Common.{◌≡◌, ℕ, Option, List}
+use Rattle.std.proofs.Common.{◌≡◌, ◌≤◌, ℕ, Option, List, length}
 use Rattle.px_tables.specs.declared.found.Found.{Found}
 use Rattle.px_trail.specs.declared.entry.Entry.{Entry}
 use Rattle.px_calls.specs.declared.query.By.{By}
@@ -14,6 +14,7 @@ invariant-keys g l =
       rows : (f : Frame) (es : List Entry) (next : Option (List ℕ)) → f.query ≡ g.Q.Asks.asked l.query → IsPathFor f.query f.point f.path
           → Pending f es l.at l.fn.keys.items next (given_of l.fn.rows.items) → Pending f es l.at l.keys.items next (given_of l.rows.items);
       doubts : (f : Found) (w : By) → AreDoubtsOf f w l.fn.keys.items → AreDoubtsOf f w l.keys.items;
+      fewer : length l.keys.items ≤ length l.fn.keys.items;
     }
 
 abbrev pub decreases-keys : goal.decreases-keys

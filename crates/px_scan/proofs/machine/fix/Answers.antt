@@ -2,6 +2,7 @@ use Rattle.std.proofs.Common.{refl, ◌≡◌, true, false}
 use Rattle.px_scan.specs.Faults.{is_busy}
 use Rattle.px_scan.proofs.Quieting as quieting
 use Rattle.px_scan.proofs.Turning as turning
+use Rattle.px_scan.proofs.Bounding as bounding
 use Rattle.px_scan.proofs.machine.fix.Goals as goal
 
 pub fault_of-requires : goal.fault_of-requires
@@ -9,21 +10,30 @@ fault_of-requires g c =
     let no : is_busy c.in-Err.f ≡ false = cc in
     (quieting.fix_ends (g.Q.Asks.asked c.args.query.now) _ _ c.in-Err.f c.in-Err.ensures.refused no).ends
 
-pub returns-then-is_busy : goal.returns-then-is_busy
-returns-then-is_busy g c =
+pub returns-then-is_busy-clause-turns : goal.returns-then-is_busy-clause-turns
+returns-then-is_busy-clause-turns g c =
     let yes : is_busy c.in-Err.f ≡ true = cc in
     let quiet = quieting.fix_busy _ _ c.in-Err.f c.in-Err.ensures.refused yes in
     turning.steps g.S.Steps.sound _ _ (g.Q.Asks.asked c.args.query.now) c.args.scn c.args.x.point _ _ quiet refl (λ n le. le)
     (turning.goes-settling g.S.Steps.sound _ _ _ c.args.x c.args.rest c.args.doubt (turning.grown-scanning g.S.Steps.sound _ _ _ _ _ _ _ _ (quieting.grown-quiet _ _ quiet) c.requires.0) c.requires.1) refl
 
-pub returns-in-Ok : goal.returns-in-Ok
-returns-in-Ok g c =
+pub returns-in-Ok-clause-turns : goal.returns-in-Ok-clause-turns
+returns-in-Ok-clause-turns g c =
     let quiet = quieting.quiet-fixes _ _ _ _ c.in-Ok.ensures.ok in
     let s = turning.grown-scanning g.S.Steps.sound _ _ _ _ _ _ _ _ (quieting.grown-quiet _ _ quiet) c.requires.0 in
     turning.steps g.S.Steps.sound _ _ (g.Q.Asks.asked c.args.query.now) c.args.scn c.args.x.point _ _ quiet refl (λ n le. le) (c.go_on.ensures.goes c.args.scn _ s) (turning.after-fix _ _ _ _ _ c.go_on.ensures.next c.in-Ok.ensures.ok)
 
-pub returns-else-is_busy : goal.returns-else-is_busy
-returns-else-is_busy g c =
+pub returns-else-is_busy-clause-turns : goal.returns-else-is_busy-clause-turns
+returns-else-is_busy-clause-turns g c =
     let no : is_busy c.in-Err.f ≡ false = cc in
     let e = quieting.fix_ends (g.Q.Asks.asked c.args.query.now) _ _ c.in-Err.f c.in-Err.ensures.refused no in
     turning.fails g.S.Steps.sound _ _ (g.Q.Asks.asked c.args.query.now) c.args.scn c.args.x.point _ _ _ c.failed.ensures c.requires.0.reading refl (λ n le. le) e.quiet (rw c.fault_of.ensures e.told) (rw c.fault_of.ensures (e.made c.args.x.point.found.at c.requires.0.reading.point.within)) tt
+
+pub returns-then-is_busy-clause-spends : goal.returns-then-is_busy-clause-spends
+returns-then-is_busy-clause-spends g c = bounding.spends_refused g.S.Steps.sound _ _ _ _ c.args.rest _ _
+
+pub returns-in-Ok-clause-spends : goal.returns-in-Ok-clause-spends
+returns-in-Ok-clause-spends g c = bounding.spends_fixing g.S.Steps.sound _ _ c.args.x c.args.rest c.args.doubt _ c.go_on.ensures.left
+
+pub returns-else-is_busy-clause-spends : goal.returns-else-is_busy-clause-spends
+returns-else-is_busy-clause-spends g c = bounding.spends_end g.S.Steps.sound _ _ _ _ _ _ _ c.failed.ensures refl (bounding.at_least c.args.x c.args.rest c.args.doubt)

@@ -2,6 +2,7 @@ use Rattle.std.proofs.Common.{refl}
 use Rattle.px_scan.specs.Turns.{frame}
 use Rattle.px_scan.proofs.Going as going
 use Rattle.px_scan.proofs.Turning as turning
+use Rattle.px_scan.proofs.Bounding as bounding
 use Rattle.px_scan.proofs.machine.go_on.Goals as goal
 
 pub returns-in-Doubt-clause-goes : goal.returns-in-Doubt-clause-goes
@@ -32,3 +33,21 @@ returns-in-Full-clause-goes g c = λ scn k s.
 
 pub returns-clause-goes : goal.returns-clause-goes
 returns-clause-goes g c = λ scn k s. going.no-memory-on g.S.Steps.sound k _ scn _ _ c.failed.ensures s.reading
+
+pub returns-in-Doubt-clause-left : goal.returns-in-Doubt-clause-left
+returns-in-Doubt-clause-left g c = bounding.consulting_left _ _ c.args.rest.next (rw c.in-Doubt.is at c.keep_sure.ensures.fewer)
+
+pub returns-in-None-clause-left : goal.returns-in-None-clause-left
+returns-in-None-clause-left g c = bounding.closing_left _ _ _ _ _ c.ended.ensures
+
+pub returns-then-is_full-clause-left : goal.returns-then-is_full-clause-left
+returns-then-is_full-clause-left g c = bounding.closing_left _ _ _ _ _ c.ended-then-is_full.ensures
+
+pub returns-in-End-clause-left : goal.returns-in-End-clause-left
+returns-in-End-clause-left g c = bounding.looking_left c.args.rest.keys.items _ _ c.in-Some.is
+
+pub returns-in-Full-clause-left : goal.returns-in-Full-clause-left
+returns-in-Full-clause-left g c = bounding.closing_left _ _ _ _ _ c.ended-in-Full.ensures
+
+pub returns-clause-left : goal.returns-clause-left
+returns-clause-left g c = bounding.closing_left _ _ _ _ _ c.failed.ensures

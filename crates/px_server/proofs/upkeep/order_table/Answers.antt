@@ -1,6 +1,6 @@
 use Rattle.std.proofs.Common.{◌≡◌, ◌<◌, ◌∙◌, length, slice_get, Some, refl, inl, inr, arith}
 use Rattle.px_server.specs.Upkeep as upkeep
-use Rattle.px_server.specs.Upkeep.{IsOrderedIndex, SteppedTable}
+use Rattle.px_server.specs.Upkeep.{IsOrderedIndex}
 use Rattle.px_server.proofs.Orders.{got_there, order_steps, order_written, set_length, set_next, taken_all}
 use Rattle.px_server.proofs.upkeep.order_table.Goals as goal
 

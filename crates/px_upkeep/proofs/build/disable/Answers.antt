@@ -1,14 +1,14 @@
 use Rattle.px_upkeep.proofs.Ending.{disable-goes-on, disable-waits, is-disabled, not-disabled}
 use Rattle.px_upkeep.proofs.build.disable.Goals as goal
 
-pub returns-in-Stepped : goal.returns-in-Stepped
-returns-in-Stepped g c = λ n own f. disable-goes-on g.S.Steps.sound n c.args.table c.args.index own c.args.run c.step.new.self _ _ _ f c.in-Stepped.ensures.definition c.in-Stepped.ensures.turns
+pub returns-in-Stepped-clause-turns : goal.returns-in-Stepped-clause-turns
+returns-in-Stepped-clause-turns g c = λ n own f. disable-goes-on g.S.Steps.sound n c.args.table c.args.index own c.args.run c.step.new.self _ _ _ f c.in-Stepped.ensures.definition c.in-Stepped.ensures.turns
 
-pub returns-in-Waiting : goal.returns-in-Waiting
-returns-in-Waiting g c = λ n own f. disable-waits g.S.Steps.sound n c.args.table c.args.index own c.args.run c.step.new.self _ _ _ _ f c.in-Waiting.ensures.definition c.in-Waiting.ensures.turns
+pub returns-in-Waiting-clause-turns : goal.returns-in-Waiting-clause-turns
+returns-in-Waiting-clause-turns g c = λ n own f. disable-waits g.S.Steps.sound n c.args.table c.args.index own c.args.run c.step.new.self _ _ _ _ f c.in-Waiting.ensures.definition c.in-Waiting.ensures.turns
 
-pub returns-in-Over-Ok : goal.returns-in-Over-Ok
-returns-in-Over-Ok g c = λ n own f. is-disabled g.S.Steps.sound n c.args.table c.args.index own c.args.run _ _ _ _ _ f (rw c.in-Over-Ok.field-0-is at c.in-Over-Ok.ensures.turns)
+pub returns-in-Over-Ok-clause-turns : goal.returns-in-Over-Ok-clause-turns
+returns-in-Over-Ok-clause-turns g c = λ n own f. is-disabled g.S.Steps.sound n c.args.table c.args.index own c.args.run _ _ _ _ _ f (rw c.in-Over-Ok.field-0-is at c.in-Over-Ok.ensures.turns)
 
-pub returns-in-Over-Err : goal.returns-in-Over-Err
-returns-in-Over-Err g c = λ n own f. rw (c.fault_told.ensures, c.fault_after.ensures) (not-disabled g.S.Steps.sound n c.args.table c.args.index own c.args.run _ _ _ _ _ f (rw c.in-Over-Err.field-0-is at c.in-Over-Err.ensures.turns))
+pub returns-in-Over-Err-clause-turns : goal.returns-in-Over-Err-clause-turns
+returns-in-Over-Err-clause-turns g c = λ n own f. rw (c.fault_told.ensures, c.fault_after.ensures) (not-disabled g.S.Steps.sound n c.args.table c.args.index own c.args.run _ _ _ _ _ f (rw c.in-Over-Err.field-0-is at c.in-Over-Err.ensures.turns))

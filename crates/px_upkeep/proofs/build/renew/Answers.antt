@@ -1,14 +1,14 @@
 use Rattle.px_upkeep.proofs.Ending.{is-renewed, not-renewed, renew-goes-on, renew-waits}
 use Rattle.px_upkeep.proofs.build.renew.Goals as goal
 
-pub returns-in-Stepped : goal.returns-in-Stepped
-returns-in-Stepped g c = λ n own f. renew-goes-on g.S.Steps.sound n c.args.table c.args.index own c.args.run c.step.new.self _ _ f c.in-Stepped.ensures.definition c.in-Stepped.ensures.turns
+pub returns-in-Stepped-clause-turns : goal.returns-in-Stepped-clause-turns
+returns-in-Stepped-clause-turns g c = λ n own f. renew-goes-on g.S.Steps.sound n c.args.table c.args.index own c.args.run c.step.new.self _ _ f c.in-Stepped.ensures.definition c.in-Stepped.ensures.turns
 
-pub returns-in-Waiting : goal.returns-in-Waiting
-returns-in-Waiting g c = λ n own f. renew-waits g.S.Steps.sound n c.args.table c.args.index own c.args.run c.step.new.self _ _ _ f c.in-Waiting.ensures.definition c.in-Waiting.ensures.turns
+pub returns-in-Waiting-clause-turns : goal.returns-in-Waiting-clause-turns
+returns-in-Waiting-clause-turns g c = λ n own f. renew-waits g.S.Steps.sound n c.args.table c.args.index own c.args.run c.step.new.self _ _ _ f c.in-Waiting.ensures.definition c.in-Waiting.ensures.turns
 
-pub returns-in-Over-Ok : goal.returns-in-Over-Ok
-returns-in-Over-Ok g c = λ n own f. is-renewed g.S.Steps.sound n c.args.table c.args.index own c.args.run _ _ _ _ f (rw c.in-Over-Ok.field-0-is at c.in-Over-Ok.ensures.turns)
+pub returns-in-Over-Ok-clause-turns : goal.returns-in-Over-Ok-clause-turns
+returns-in-Over-Ok-clause-turns g c = λ n own f. is-renewed g.S.Steps.sound n c.args.table c.args.index own c.args.run _ _ _ _ f (rw c.in-Over-Ok.field-0-is at c.in-Over-Ok.ensures.turns)
 
-pub returns-in-Over-Err : goal.returns-in-Over-Err
-returns-in-Over-Err g c = λ n own f. rw c.fault_after.ensures (not-renewed g.S.Steps.sound n c.args.table c.args.index own c.args.run _ _ _ _ f (rw c.in-Over-Err.field-0-is at c.in-Over-Err.ensures.turns))
+pub returns-in-Over-Err-clause-turns : goal.returns-in-Over-Err-clause-turns
+returns-in-Over-Err-clause-turns g c = λ n own f. rw c.fault_after.ensures (not-renewed g.S.Steps.sound n c.args.table c.args.index own c.args.run _ _ _ _ f (rw c.in-Over-Err.field-0-is at c.in-Over-Err.ensures.turns))

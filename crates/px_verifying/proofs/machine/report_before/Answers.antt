@@ -14,17 +14,17 @@ step-requires-clause-fits g c =
 pub step-requires-clause-going : goal.step-requires-clause-going
 step-requires-clause-going g c = c.requires.2.is.1.going
 
-pub returns-in-Stepped : goal.returns-in-Stepped
-returns-in-Stepped g c = λ n own f. let a = c.args.asked in rw c.went_on.ensures (first-on g.S.Steps.sound n a.table a.index a.kind own c.args.done _ _ c.args.run c.step.new.self f c.in-Stepped.ensures.table c.in-Stepped.ensures.index c.in-Stepped.ensures.turns)
+pub returns-in-Stepped-clause-turns : goal.returns-in-Stepped-clause-turns
+returns-in-Stepped-clause-turns g c = λ n own f. let a = c.args.asked in rw c.went_on.ensures (first-on g.S.Steps.sound n a.table a.index a.kind own c.args.done _ _ c.args.run c.step.new.self f c.in-Stepped.ensures.table c.in-Stepped.ensures.index c.in-Stepped.ensures.turns)
 
-pub returns-in-Waiting : goal.returns-in-Waiting
-returns-in-Waiting g c = λ n own f. let a = c.args.asked in rw c.waits.ensures (first-waits g.S.Steps.sound n a.table a.index a.kind own c.args.done _ _ c.args.run c.step.new.self f _ c.in-Waiting.ensures.table c.in-Waiting.ensures.index c.in-Waiting.ensures.turns)
+pub returns-in-Waiting-clause-turns : goal.returns-in-Waiting-clause-turns
+returns-in-Waiting-clause-turns g c = λ n own f. let a = c.args.asked in rw c.waits.ensures (first-waits g.S.Steps.sound n a.table a.index a.kind own c.args.done _ _ c.args.run c.step.new.self f _ c.in-Waiting.ensures.table c.in-Waiting.ensures.index c.in-Waiting.ensures.turns)
 
-pub returns-in-Over-Err : goal.returns-in-Over-Err
-returns-in-Over-Err g c = λ n own f. let a = c.args.asked in rw (c.refused.ensures, c.report_fault.ensures) (first-refused g.S.Steps.sound n a.table a.index a.kind own c.args.done _ _ c.args.run c.step.new.self f _ (rw c.in-Over-Err.field-0-is at c.in-Over-Err.ensures.turns))
+pub returns-in-Over-Err-clause-turns : goal.returns-in-Over-Err-clause-turns
+returns-in-Over-Err-clause-turns g c = λ n own f. let a = c.args.asked in rw (c.refused.ensures, c.report_fault.ensures) (first-refused g.S.Steps.sound n a.table a.index a.kind own c.args.done _ _ c.args.run c.step.new.self f _ (rw c.in-Over-Err.field-0-is at c.in-Over-Err.ensures.turns))
 
-pub returns-then-rebuilds : goal.returns-then-rebuilds
-returns-then-rebuilds g c = λ n own f. let a = c.args.asked in rw c.went_on-then-rebuilds.ensures (first-then g.S.Steps.sound n a.table a.index a.kind own c.args.done _ _ c.args.run c.step.new.self f _ _ (sym c.rebuilds.ensures ∙ c.if-rebuilds.true) c.rebuilding_of.ensures (rw c.in-Over-Ok.field-0-is at c.in-Over-Ok.ensures.turns))
+pub returns-then-rebuilds-clause-turns : goal.returns-then-rebuilds-clause-turns
+returns-then-rebuilds-clause-turns g c = λ n own f. let a = c.args.asked in rw c.went_on-then-rebuilds.ensures (first-then g.S.Steps.sound n a.table a.index a.kind own c.args.done _ _ c.args.run c.step.new.self f _ _ (sym c.rebuilds.ensures ∙ c.if-rebuilds.true) c.rebuilding_of.ensures (rw c.in-Over-Ok.field-0-is at c.in-Over-Ok.ensures.turns))
 
-pub returns-else-rebuilds : goal.returns-else-rebuilds
-returns-else-rebuilds g c = λ n own f. let a = c.args.asked in rw c.finished.ensures (first-whole g.S.Steps.sound n a.table a.index a.kind own c.args.done _ _ c.args.run c.step.new.self f _ (sym c.rebuilds.ensures ∙ c.if-rebuilds.false) (rw c.in-Over-Ok.field-0-is at c.in-Over-Ok.ensures.turns))
+pub returns-else-rebuilds-clause-turns : goal.returns-else-rebuilds-clause-turns
+returns-else-rebuilds-clause-turns g c = λ n own f. let a = c.args.asked in rw c.finished.ensures (first-whole g.S.Steps.sound n a.table a.index a.kind own c.args.done _ _ c.args.run c.step.new.self f _ (sym c.rebuilds.ensures ∙ c.if-rebuilds.false) (rw c.in-Over-Ok.field-0-is at c.in-Over-Ok.ensures.turns))

@@ -34,8 +34,8 @@ invariant_of-self g c =
       counted = c.seen-seen.ensures ∙ sym (ap (λ (k : Known). length k.seen) (grows.knows g.S.Steps.known g.B.Based.base g.B.Based.damaged me.id (list_seen me.seat) c.act_as.new.self c.close_point.new.self (list_seen c.leave.new.self.1.0) e c.close_point.ensures.grew c.leave.ensures.seen));
     }
 
-pub returns : goal.returns
-returns g c =
+pub returns-clause-adds : goal.returns-clause-adds
+returns-clause-adds g c =
     let me = c.args.self.now in
     let now = c.enter-guard.ensures.entered ∙ ap (λ (v : g.row.S.Denot). (g.S.Steps.known v).seen) (sym c.value-server.ensures.value) in
     let e = grows.enters g.S.Steps.known g.B.Based.base g.B.Based.damaged me.id (number me.seat) (list_seen me.seat) (entered c.enter-guard.result) c.value-server.result.now c.act_as.new.self

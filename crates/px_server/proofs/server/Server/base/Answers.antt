@@ -1,15 +1,12 @@
-use Rattle.std.proofs.Common.{rules, ◌≡◌, ◌<◌, ◌≤◌, ◌+◌, ◌∙◌, None, Some, Ok, Err, ℕ, Option, List, [], ◌∷◌, ◌++◌, length, get_or, slice_get, refl, sym, ap, subst, arith}
-use Rattle.std.specs.Prelude.{IfErr, IfOk, IsSome}
+use Rattle.std.proofs.Common.{rules, ◌≡◌, ◌<◌, ◌≤◌, ◌+◌, ◌∙◌, None, Some, Err, Option, List, [], ◌∷◌, ◌++◌, length, get_or, slice_get, refl, sym, ap, subst, arith}
 use Rattle.std.specs.List.{slice_set}
-use Rattle.std.proofs.lemmas.Bool.{false≢true}
 use Rattle.px_values.specs.declared.row.Value.{Value}
-use Rattle.px_tables.specs.declared.table.Table.{Table}
 use Rattle.px_trail.specs.Trail.{table_of}
 use Rattle.px_trail.specs.declared.entry.Act.TheVariants.{Based as BasedAct, Shut as ShutAct}
 use Rattle.px_trail.specs.declared.entry.Entry.{Entry}
 use Rattle.px_calls.specs.Calls.{DidBase}
 use Rattle.px_calls.specs.Causes.{Refuses, base_cause}
-use Rattle.px_calls.specs.Known.{Adds, Known}
+use Rattle.px_calls.specs.Known.{Adds}
 use Rattle.px_calls.specs.Requires.{MayBase}
 use Rattle.px_calls.specs.declared.fault.StepFault.TheVariants.{Closed, Memory}
 use Rattle.px_calls.specs.declared.query.BaseRow.{BaseRow}

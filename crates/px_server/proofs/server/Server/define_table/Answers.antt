@@ -14,7 +14,8 @@ use Rattle.px_schema.specs.declared.standing.Standing.{Standing}
 use Rattle.px_catalog.specs.Catalogue.{standing_of}
 use Rattle.px_server.specs.Shown.{Shown, known_by, shown_of}
 use Rattle.px_server.specs.inner.Making.{MayMake}
-use Rattle.px_server.proofs.Stamping.{more_by_clock, unwritten_by_clock}
+use Rattle.px_server.proofs.Entered.{entered_kept, of_ok}
+use Rattle.px_server.proofs.Stamping.{more_by_clock, unwritten_entry_by_clock}
 use Rattle.px_server.proofs.TableCauses.{did_make, refused_memory, refused_unmade, table_full}
 use Rattle.px_server.proofs.TableRecord.{made_right}
 use Rattle.px_server.proofs.TableSteps.{making_failed, making_kept, on_ok, unwritten_refused}
@@ -59,57 +60,58 @@ append-requires g c =
           (made_right (standing_of s.catalog) s.standing s.closed c.args.what.now (ap (λ (st : Standing). st.tables) (c.self.invariant.0.told.same may.running)) c.requires may);
     }
 
-pub invariant_of-self-in-Ok-append : goal.invariant_of-self-in-Ok-append
-invariant_of-self-in-Ok-append g c =
+pub invariant_of-self-in-Ok-entered : goal.invariant_of-self-in-Ok-entered
+invariant_of-self-in-Ok-entered g c =
     let s = c.self.inside in
     let may : MayMake s.standing s.closed c.args.what.now = on_ok c.check_table.result (MayMake s.standing s.closed c.args.what.now) c.check_table.ensures.ok (λ e is. search rules) in (
-      making_kept g.D.Disk g.met.D.Disk.told g.met.D.Disk.up_to_now g.B.Based.base g.B.Founded.sound g.B.Founded.premise g.B.Founded.began s.disk s.catalog s.standing s.groups.items s.trail s.late s.closed c.self.invariant.0
+      entered_kept g.D.Disk g.B.Based.base g.B.Founded.sound g.B.Founded.premise g.B.Founded.began c.append.new.disk c.append.new.self _ _ c.entered.new.trail s.late c.entered.new.late s.closed c.entered.new.closed _ _ c.in-Ok-entered.ensures.ok.1
+          (making_kept g.D.Disk g.met.D.Disk.told g.met.D.Disk.up_to_now g.B.Based.base g.B.Founded.sound g.B.Founded.premise g.B.Founded.began s.disk s.catalog s.standing s.groups.items s.trail s.late s.closed c.self.invariant.0
           c.append.new.disk c.append.new.self c.append.ensures.counts c.append.ensures.touches s.seat c.take_room.new.trail c.take_room.ensures.same c.in-Ok-take_room.ensures.ok.1 c.take_room.new.groups.items c.take_room.ensures.groups
           c.args.what.now c.requires may c.in-Ok.parts.item c.in-Ok.parts.group c.in-Ok.parts.standing c.in-Ok.parts.copy c.in-Ok.ensures c.append.ensures.any_moment
-          c.in-Ok-append.ensures.done c.in-Ok-append.ensures.defined c.replace-before.new.dest c.replace-before.ensures.after c.push_reserved.new.self.items c.push_reserved.ensures.items
-          c.push.new.self c.call_count.result c.call_count.ensures c.push.ensures.entries c.push.ensures.room,
-      (c.self.invariant.1.0, more_by_clock g.C.Clock g.B.Founded.times g.B.Based.base s.clock s.trail.entries c.self.invariant.1.1 c.push.new.self.entries (record { seat = s.seat; calls = c.call_count.result; act = MadeAct c.in-Ok.parts.group.table.id c.in-Ok.parts.copy }) (c.push.ensures.entries ∙ ap (λ (es : List Entry). es ++ (record { seat = s.seat; calls = c.call_count.result; act = MadeAct c.in-Ok.parts.group.table.id c.in-Ok.parts.copy }) ∷ []) c.take_room.ensures.same) refl),
+          (λ h. of_ok c.append.result tt _ c.in-Ok-entered.ensures.ok.0 (c.append.ensures.done h)) (of_ok c.append.result tt _ c.in-Ok-entered.ensures.ok.0 c.append.ensures.defined) c.replace-before.new.dest c.replace-before.ensures.after c.push_reserved.new.self.items c.push_reserved.ensures.items
+          c.entered.new.trail (g.D.Disk.calls c.append.new.disk) refl c.in-Ok-entered.ensures.ok.1.entries c.entered.ensures.room),
+      (c.self.invariant.1.0, more_by_clock g.C.Clock g.B.Founded.times g.B.Based.base s.clock s.trail.entries c.self.invariant.1.1 c.entered.new.trail.entries (record { seat = s.seat; calls = g.D.Disk.calls c.append.new.disk; act = MadeAct c.in-Ok.parts.group.table.id c.in-Ok.parts.copy }) (c.in-Ok-entered.ensures.ok.1.entries ∙ ap (λ (es : List Entry). es ++ (record { seat = s.seat; calls = g.D.Disk.calls c.append.new.disk; act = MadeAct c.in-Ok.parts.group.table.id c.in-Ok.parts.copy }) ∷ []) c.take_room.ensures.same) refl),
     )
 
-pub invariant_of-self-in-Err-append : goal.invariant_of-self-in-Err-append
-invariant_of-self-in-Err-append g c =
+pub invariant_of-self-in-Err-entered : goal.invariant_of-self-in-Err-entered
+invariant_of-self-in-Err-entered g c =
     let s = c.self.inside in
     let may : MayMake s.standing s.closed c.args.what.now = on_ok c.check_table.result (MayMake s.standing s.closed c.args.what.now) c.check_table.ensures.ok (λ e is. search rules) in (
       making_failed g.D.Disk g.met.D.Disk.told g.met.D.Disk.up_to_now g.B.Based.base g.B.Founded.sound g.B.Founded.premise g.B.Founded.began s.disk s.catalog s.standing s.groups.items s.trail s.late s.closed c.self.invariant.0
           c.append.new.disk c.append.new.self c.append.ensures.counts c.append.ensures.touches s.seat c.take_room.new.trail c.take_room.ensures.same c.in-Ok-take_room.ensures.ok.1 c.take_room.new.groups.items c.take_room.ensures.groups
           c.args.what.now c.requires may c.in-Ok.parts.item c.in-Ok.parts.group c.in-Ok.parts.standing c.in-Ok.parts.copy c.in-Ok.ensures c.append.ensures.any_moment
-          c.unwritten.new.trail c.unwritten.new.late c.unwritten.new.closed c.in-Err-append.fault (λ e. c.in-Err-append.ensures.untouched (elim e [ inl x ↦ inl (ap Err x) | inr x ↦ inr (ap Err x) ])) (λ e. c.in-Err-append.ensures.failed (ap Err e))
-          c.unwritten.ensures.kept c.unwritten.ensures.shut c.unwritten.ensures.room,
-      (c.self.invariant.1.0, unwritten_by_clock g.C.Clock g.B.Founded.times g.B.Based.base s.clock s.trail.entries c.self.invariant.1.1 c.in-Err-append.fault c.unwritten.new.trail.entries (record { seat = s.seat; calls = g.D.Disk.calls c.append.new.disk; act = Shut (g.D.Disk.calls c.append.new.disk) }) (λ n. (c.unwritten.ensures.kept n).0 ∙ c.take_room.ensures.same) (λ e. (c.unwritten.ensures.shut e).0 ∙ ap (λ (es : List Entry). es ++ (record { seat = s.seat; calls = g.D.Disk.calls c.append.new.disk; act = Shut (g.D.Disk.calls c.append.new.disk) }) ∷ []) c.take_room.ensures.same) refl),
+          c.entered.new.trail c.entered.new.late c.entered.new.closed c.in-Err-entered.ensures.refused.0 (λ e. c.append.ensures.untouched (elim e [ inl x ↦ inl (c.in-Err-entered.ensures.refused.1 ∙ ap Err x) | inr x ↦ inr (c.in-Err-entered.ensures.refused.1 ∙ ap Err x) ])) (λ e. c.append.ensures.failed (c.in-Err-entered.ensures.refused.1 ∙ ap Err e))
+          c.in-Err-entered.ensures.refused.2.kept c.in-Err-entered.ensures.refused.2.shut c.entered.ensures.room,
+      (c.self.invariant.1.0, unwritten_entry_by_clock g.C.Clock g.B.Founded.times g.B.Based.base s.clock s.trail.entries c.self.invariant.1.1 c.take_room.new.trail.entries c.take_room.ensures.same c.in-Err-entered.ensures.refused.0 _ c.entered.new.trail.entries _ _ _ _ _ c.in-Err-entered.ensures.refused.2),
     )
 
-pub returns-in-Ok-append-clause-ok : goal.returns-in-Ok-append-clause-ok
-returns-in-Ok-append-clause-ok g c =
+pub returns-in-Ok-entered-clause-ok : goal.returns-in-Ok-entered-clause-ok
+returns-in-Ok-entered-clause-ok g c =
     let s = c.self.inside in
     let b = g.B.Based.base in
     let told = c.self.invariant.0.told in
     let v : Shown = shown_of s.seat s.trail.entries s.late s.closed s.groups.items in
-    let v' : Shown = record v { entries = c.push.new.self.entries } in
+    let v' : Shown = record v { entries = c.entered.new.trail.entries } in
     let id = c.in-Ok.parts.group.table.id in
     let m : Answered = record { number = id.0; stamp = 0; at = c.len.result } in
     subst (λ (w : Shown). DidDefine (known_by b g.B.Based.damaged w) (known_by b g.B.Based.damaged v') (NewTableOf c.args.what.now) m) c.self.view_is
-    (did_make (known_by b g.B.Based.damaged v) told.legal s.closed told.closing c.push.new.self.entries c.call_count.result (invariant_of-self-in-Ok-append g c).0.told.legal c.args.what.now m refl c.len.ensures
-    (c.push.ensures.entries ∙ (ap (λ (es : List Entry). es ++ record { seat = s.seat; calls = c.call_count.result; act = MadeAct id c.in-Ok.parts.copy } ∷ []) c.take_room.ensures.same
-    ∙ ap (λ (w : NewTable). s.trail.entries ++ record { seat = s.seat; calls = c.call_count.result; act = MadeAct id w } ∷ []) c.in-Ok.ensures.copy_is)))
+    (did_make (known_by b g.B.Based.damaged v) told.legal s.closed told.closing c.entered.new.trail.entries (g.D.Disk.calls c.append.new.disk) (invariant_of-self-in-Ok-entered g c).0.told.legal c.args.what.now m refl c.len.ensures
+    (c.in-Ok-entered.ensures.ok.1.entries ∙ (ap (λ (es : List Entry). es ++ record { seat = s.seat; calls = g.D.Disk.calls c.append.new.disk; act = MadeAct id c.in-Ok.parts.copy } ∷ []) c.take_room.ensures.same
+    ∙ ap (λ (w : NewTable). s.trail.entries ++ record { seat = s.seat; calls = g.D.Disk.calls c.append.new.disk; act = MadeAct id w } ∷ []) c.in-Ok.ensures.copy_is)))
 
-pub returns-in-Err-append-clause-refused : goal.returns-in-Err-append-clause-refused
-returns-in-Err-append-clause-refused g c =
+pub returns-in-Err-entered-clause-refused : goal.returns-in-Err-entered-clause-refused
+returns-in-Err-entered-clause-refused g c =
     let s = c.self.inside in
     let b = g.B.Based.base in
     let told = c.self.invariant.0.told in
     let may : MayMake s.standing s.closed c.args.what.now = on_ok c.check_table.result (MayMake s.standing s.closed c.args.what.now) c.check_table.ensures.ok (λ e is. search rules) in
     let v : Shown = shown_of s.seat s.trail.entries s.late s.closed s.groups.items in
-    let v' : Shown = record v { entries = c.unwritten.new.trail.entries; late = c.unwritten.new.late; closed = c.unwritten.new.closed } in
+    let v' : Shown = record v { entries = c.entered.new.trail.entries; late = c.entered.new.late; closed = c.entered.new.closed } in
     let calls = g.D.Disk.calls c.append.new.disk in
-    subst (λ (w : Shown). Refuses (define_cause (NewTableOf c.args.what.now)) (known_by b g.B.Based.damaged w) (known_by b g.B.Based.damaged v') c.unwritten.result) c.self.view_is
+    subst (λ (w : Shown). Refuses (define_cause (NewTableOf c.args.what.now)) (known_by b g.B.Based.damaged w) (known_by b g.B.Based.damaged v') c.in-Err-entered.fault) c.self.view_is
     (unwritten_refused (known_by b g.B.Based.damaged v) told.legal s.closed told.closing (NewTableOf c.args.what.now)
     (table_full (known_by b g.B.Based.damaged v) told.legal s.closed told.closing may.running c.args.what.now)
     (refused_memory (known_by b g.B.Based.damaged v) told.legal s.closed told.closing may.running (NewTableOf c.args.what.now))
-    c.unwritten.result c.unwritten.new.trail.entries calls (invariant_of-self-in-Err-append g c).0.told.legal c.in-Err-append.fault c.unwritten.ensures.full c.unwritten.ensures.memory c.unwritten.ensures.failed
-    (λ n. (c.unwritten.ensures.kept n).0 ∙ c.take_room.ensures.same)
-    (λ e. (c.unwritten.ensures.shut e).0 ∙ ap (λ (es : List Entry). es ++ record { seat = s.seat; calls = calls; act = Shut calls } ∷ []) c.take_room.ensures.same))
+    c.in-Err-entered.fault c.entered.new.trail.entries calls (invariant_of-self-in-Err-entered g c).0.told.legal c.in-Err-entered.ensures.refused.0 c.in-Err-entered.ensures.refused.2.full c.in-Err-entered.ensures.refused.2.memory c.in-Err-entered.ensures.refused.2.failed
+    (λ n. (c.in-Err-entered.ensures.refused.2.kept n).0 ∙ c.take_room.ensures.same)
+    (λ e. (c.in-Err-entered.ensures.refused.2.shut e).0 ∙ ap (λ (es : List Entry). es ++ record { seat = s.seat; calls = calls; act = Shut calls } ∷ []) c.take_room.ensures.same))

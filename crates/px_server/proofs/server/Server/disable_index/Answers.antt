@@ -1,8 +1,9 @@
 use Rattle.std.proofs.Common.{rules, ◌≡◌, ◌<◌, ◌^◌, inl, inr, Err, List, [], ◌∷◌, ◌++◌, get_or, refl, sym, ap, subst, ◌∙◌}
+use Rattle.std.proofs.lemmas.Result.{err_from_is_err_and}
 use Rattle.px_values.specs.declared.name.TableId.{TableId}
 use Rattle.px_tables.specs.declared.index.Index.{Index}
 use Rattle.px_tables.specs.declared.index.IndexState.TheVariants.{Disabled}
-use Rattle.px_trail.specs.declared.entry.Act.TheVariants.{IndexState, Shut}
+use Rattle.px_trail.specs.declared.entry.Act.TheVariants.{IndexState}
 use Rattle.px_trail.specs.declared.entry.Entry.{Entry}
 use Rattle.px_calls.specs.Calls.{DidDefine}
 use Rattle.px_calls.specs.Causes.{Refuses, define_cause}
@@ -17,15 +18,16 @@ use Rattle.px_group.specs.declared.group.Group.{Group}
 use Rattle.px_disabled.specs.Disabled.{disabled}
 use Rattle.px_server.specs.Shown.{Shown, known_by, shown_of}
 use Rattle.px_server.specs.inner.Quiet.{IsIndexToPut, IsQuietPlace, IsUnquiet}
+use Rattle.px_server.proofs.Entered.{entered_kept, of_ok}
 use Rattle.px_server.proofs.DownSteps.{disabling_did, disabling_failed, disabling_kept, disabling_refused}
 use Rattle.px_server.proofs.QuietPlaces.{fits_put, low, own, unquiet_disabled}
 use Rattle.px_server.proofs.Reserved.{same_there}
-use Rattle.px_server.proofs.Stamping.{more_by_clock, unwritten_by_clock}
+use Rattle.px_server.proofs.Stamping.{more_by_clock, unwritten_entry_by_clock}
 use Rattle.px_server.proofs.Unwritten.{no_memory}
 use Rattle.px_server.proofs.server.Server.disable_index.Goals as goal
 
-pub returns-in-Err-clause-refused : goal.returns-in-Err-clause-refused
-returns-in-Err-clause-refused g c = (let
+pub returns-in_err-place-clause-refused : goal.returns-in_err-place-clause-refused
+returns-in_err-place-clause-refused g c = (let
     s = c.self.inside
     in let
     k = c.self.invariant.0
@@ -34,13 +36,18 @@ returns-in-Err-clause-refused g c = (let
     in let
     v : Shown = shown_of s.seat s.trail.entries s.late s.closed s.groups.items
     in let
-    why : IsUnquiet s.standing s.groups.items s.closed c.args.table c.args.index c.in-Err.fault = subst (λ (gs : List Group). IsUnquiet s.standing gs s.closed c.args.table c.args.index c.in-Err.fault) c.as_slice.ensures.value c.in-Err.ensures.refused
+    f = c.in_err-place.field-0.0
+    in let
+    why : IsUnquiet s.standing s.groups.items s.closed c.args.table c.args.index f = subst (λ (gs : List Group). IsUnquiet s.standing gs s.closed c.args.table c.args.index f) c.as_slice.ensures.value c.in_err-place.ensures.refused
+    in let
+    e = err_from_is_err_and c.from_residual.result c.from_residual.ensures.1
     in
-    subst (λ (w : Shown). Refuses (define_cause (definition.Disabled c.args.table c.args.index)) (known_by b g.B.Based.damaged w) (known_by b g.B.Based.damaged w) c.in-Err.fault) c.self.view_is
-    (unquiet_disabled g.D.Disk g.met.D.Disk.told g.met.D.Disk.up_to_now b g.B.Based.damaged g.B.Founded.sound g.B.Founded.premise g.B.Founded.began s.disk s.catalog s.standing s.groups.items s.trail s.late s.closed k s.seat c.args.table c.args.index c.in-Err.fault why))
+    rw e.1 (subst (λ (x : StepFault). Refuses (define_cause (definition.Disabled c.args.table c.args.index)) (known_by b g.B.Based.damaged c.args.self.now) (known_by b g.B.Based.damaged c.args.self.now) x) (sym e.2)
+    (subst (λ (w : Shown). Refuses (define_cause (definition.Disabled c.args.table c.args.index)) (known_by b g.B.Based.damaged w) (known_by b g.B.Based.damaged w) f) c.self.view_is
+    (unquiet_disabled g.D.Disk g.met.D.Disk.told g.met.D.Disk.up_to_now b g.B.Based.damaged g.B.Founded.sound g.B.Founded.premise g.B.Founded.began s.disk s.catalog s.standing s.groups.items s.trail s.late s.closed k s.seat c.args.table c.args.index f why))))
 
-pub returns-in-Err-index_to_put-clause-refused : goal.returns-in-Err-index_to_put-clause-refused
-returns-in-Err-index_to_put-clause-refused g c = (let
+pub returns-in_err-made-clause-refused : goal.returns-in_err-made-clause-refused
+returns-in_err-made-clause-refused g c = (let
     s = c.self.inside
     in let
     k = c.self.invariant.0
@@ -49,13 +56,15 @@ returns-in-Err-index_to_put-clause-refused g c = (let
     in let
     v : Shown = shown_of s.seat s.trail.entries s.late s.closed s.groups.items
     in let
-    p = c.in-Ok.place
+    p = c.in_ok-place.place
     in let
-    at : IsQuietPlace s.standing s.groups.items s.closed c.args.table c.args.index p = subst (λ (gs : List Group). IsQuietPlace s.standing gs s.closed c.args.table c.args.index p) c.as_slice.ensures.value c.in-Ok.ensures.ok
+    at : IsQuietPlace s.standing s.groups.items s.closed c.args.table c.args.index p = subst (λ (gs : List Group). IsQuietPlace s.standing gs s.closed c.args.table c.args.index p) c.as_slice.ensures.value c.in_ok-place.ensures.ok
+    in let
+    e = err_from_is_err_and c.from_residual-in_err-made.result c.from_residual-in_err-made.ensures.1
     in
-    subst (λ (w : Shown). Refuses (define_cause (definition.Disabled c.args.table c.args.index)) (known_by b g.B.Based.damaged w) (known_by b g.B.Based.damaged w) c.in-Err-index_to_put.fault) c.self.view_is
-    (subst (λ (f : StepFault). Refuses (define_cause (definition.Disabled c.args.table c.args.index)) (known_by b g.B.Based.damaged v) (known_by b g.B.Based.damaged v) f) (sym c.in-Err-index_to_put.ensures.refused)
-    (no_memory (known_by b g.B.Based.damaged v) k.told.legal s.closed k.told.closing at.running (definition.Disabled c.args.table c.args.index))))
+    rw e.1 (subst (λ (f : StepFault). Refuses (define_cause (definition.Disabled c.args.table c.args.index)) (known_by b g.B.Based.damaged c.args.self.now) (known_by b g.B.Based.damaged c.args.self.now) f) (sym (e.2 ∙ c.in_err-made.ensures.refused))
+    (subst (λ (w : Shown). Refuses (define_cause (definition.Disabled c.args.table c.args.index)) (known_by b g.B.Based.damaged w) (known_by b g.B.Based.damaged w) Memory) c.self.view_is
+    (no_memory (known_by b g.B.Based.damaged v) k.told.legal s.closed k.told.closing at.running (definition.Disabled c.args.table c.args.index)))))
 
 pub returns-in_default-clause-refused : goal.returns-in_default-clause-refused
 returns-in_default-clause-refused g c = (let
@@ -67,9 +76,9 @@ returns-in_default-clause-refused g c = (let
     in let
     v : Shown = shown_of s.seat s.trail.entries s.late s.closed s.groups.items
     in let
-    p = c.in-Ok.place
+    p = c.in_ok-place.place
     in let
-    at : IsQuietPlace s.standing s.groups.items s.closed c.args.table c.args.index p = subst (λ (gs : List Group). IsQuietPlace s.standing gs s.closed c.args.table c.args.index p) c.as_slice.ensures.value c.in-Ok.ensures.ok
+    at : IsQuietPlace s.standing s.groups.items s.closed c.args.table c.args.index p = subst (λ (gs : List Group). IsQuietPlace s.standing gs s.closed c.args.table c.args.index p) c.as_slice.ensures.value c.in_ok-place.ensures.ok
     in
     subst (λ (es : List Entry). Refuses (define_cause (definition.Disabled c.args.table c.args.index)) (known_by b g.B.Based.damaged c.args.self.now) (known_by b g.B.Based.damaged (record v { entries = es })) Memory) (sym c.take_entry.ensures.same)
     (subst (λ (w : Shown). Refuses (define_cause (definition.Disabled c.args.table c.args.index)) (known_by b g.B.Based.damaged w) (known_by b g.B.Based.damaged v) Memory) c.self.view_is
@@ -85,9 +94,9 @@ append-requires g c = (let
     in let
     v : Shown = shown_of s.seat s.trail.entries s.late s.closed s.groups.items
     in let
-    p = c.in-Ok.place
+    p = c.in_ok-place.place
     in let
-    at : IsQuietPlace s.standing s.groups.items s.closed c.args.table c.args.index p = subst (λ (gs : List Group). IsQuietPlace s.standing gs s.closed c.args.table c.args.index p) c.as_slice.ensures.value c.in-Ok.ensures.ok
+    at : IsQuietPlace s.standing s.groups.items s.closed c.args.table c.args.index p = subst (λ (gs : List Group). IsQuietPlace s.standing gs s.closed c.args.table c.args.index p) c.as_slice.ensures.value c.in_ok-place.ensures.ok
     in let
     x : Index = c.index-as_slice-place.result
     in let
@@ -97,7 +106,7 @@ append-requires g c = (let
     in let
     h_is : get_or s.groups.items p.table h ≡ h = sym c.index.ensures
     in let
-    put : IsIndexToPut h.table s.standing (disabled x) c.in-Ok-index_to_put.made = subst (λ (w : Index). IsIndexToPut h.table s.standing (record w { state = Disabled; birth = x.birth; region = x.region }) c.in-Ok-index_to_put.made) x_is (c.in-Ok-index_to_put.ensures.ok x)
+    put : IsIndexToPut h.table s.standing (disabled x) c.in_ok-made.made = subst (λ (w : Index). IsIndexToPut h.table s.standing (record w { state = Disabled; birth = x.birth; region = x.region }) c.in_ok-made.made) x_is (c.in_ok-made.ensures.ok x)
     in let
     small : c.args.table.0 < 256 ^ 4 = search rules
     in let
@@ -105,8 +114,8 @@ append-requires g c = (let
     in
     record { right = subst (λ (y : Index). IsRight (standing_of s.catalog) (IndexIs y)) (sym put.item) (fits_put g.D.Disk g.met.D.Disk.told g.met.D.Disk.up_to_now b g.B.Based.damaged g.B.Founded.sound g.B.Founded.premise g.B.Founded.began s.disk s.catalog s.standing s.groups.items s.trail s.late s.closed k s.seat c.args.table c.args.index p at x x_is h h_is (disabled x) refl put.right put.can short) })
 
-pub invariant_of-self-in-Ok-append : goal.invariant_of-self-in-Ok-append
-invariant_of-self-in-Ok-append g c = (let
+pub invariant_of-self-in-Ok-entered : goal.invariant_of-self-in-Ok-entered
+invariant_of-self-in-Ok-entered g c = (let
     s = c.self.inside
     in let
     k = c.self.invariant.0
@@ -115,9 +124,9 @@ invariant_of-self-in-Ok-append g c = (let
     in let
     v : Shown = shown_of s.seat s.trail.entries s.late s.closed s.groups.items
     in let
-    p = c.in-Ok.place
+    p = c.in_ok-place.place
     in let
-    at : IsQuietPlace s.standing s.groups.items s.closed c.args.table c.args.index p = subst (λ (gs : List Group). IsQuietPlace s.standing gs s.closed c.args.table c.args.index p) c.as_slice.ensures.value c.in-Ok.ensures.ok
+    at : IsQuietPlace s.standing s.groups.items s.closed c.args.table c.args.index p = subst (λ (gs : List Group). IsQuietPlace s.standing gs s.closed c.args.table c.args.index p) c.as_slice.ensures.value c.in_ok-place.ensures.ok
     in let
     x : Index = c.index-as_slice-place.result
     in let
@@ -127,22 +136,23 @@ invariant_of-self-in-Ok-append g c = (let
     in let
     h_is : get_or s.groups.items p.table h ≡ h = sym c.index.ensures
     in let
-    put : IsIndexToPut h.table s.standing (disabled x) c.in-Ok-index_to_put.made = subst (λ (w : Index). IsIndexToPut h.table s.standing (record w { state = Disabled; birth = x.birth; region = x.region }) c.in-Ok-index_to_put.made) x_is (c.in-Ok-index_to_put.ensures.ok x)
+    put : IsIndexToPut h.table s.standing (disabled x) c.in_ok-made.made = subst (λ (w : Index). IsIndexToPut h.table s.standing (record w { state = Disabled; birth = x.birth; region = x.region }) c.in_ok-made.made) x_is (c.in_ok-made.ensures.ok x)
     in let
     h2_is : c.index_mut.result.now ≡ h = same_there s.groups.items p.table c.index_mut.result.now h (low g.D.Disk g.met.D.Disk.told g.met.D.Disk.up_to_now b g.B.Based.damaged g.B.Founded.sound g.B.Founded.premise g.B.Founded.began s.disk s.catalog s.standing s.groups.items s.trail s.late s.closed k s.seat c.args.table c.args.index p at x x_is h h_is) (sym c.index_mut.ensures.value) h_is
     in let
-    e : Entry = record { seat = s.seat; calls = c.call_count.result; act = IndexState c.args.table c.args.index Disabled x.birth }
+    e : Entry = record { seat = s.seat; calls = g.D.Disk.calls c.append.new.disk; act = IndexState c.args.table c.args.index Disabled x.birth }
     in (
-      disabling_kept g.D.Disk g.met.D.Disk.told g.met.D.Disk.up_to_now b g.B.Based.damaged g.B.Founded.sound g.B.Founded.premise g.B.Founded.began s.disk s.catalog s.standing s.groups.items s.trail s.late s.closed k s.seat c.args.table c.args.index p at x x_is h h_is c.in-Ok-index_to_put.made put c.take_entry.new.trail c.take_entry.ensures.same c.in-Ok-take_entry.ensures.ok c.append.new.disk c.append.new.self c.append.ensures.counts c.append.ensures.touches c.append.ensures.any_moment c.in-Ok-append.ensures.done c.in-Ok-append.ensures.defined c.index_mut.result.now h2_is c.drop_index.new.group c.drop_index.ensures c.replace-before.new.dest c.replace-before.ensures.after c.push.new.self c.call_count.result c.call_count.ensures c.push.ensures.entries c.push.ensures.room,
+      entered_kept g.D.Disk b g.B.Founded.sound g.B.Founded.premise g.B.Founded.began c.append.new.disk c.append.new.self _ _ c.entered.new.trail s.late c.entered.new.late s.closed c.entered.new.closed _ _ c.in-Ok-entered.ensures.ok.1
+          (disabling_kept g.D.Disk g.met.D.Disk.told g.met.D.Disk.up_to_now b g.B.Based.damaged g.B.Founded.sound g.B.Founded.premise g.B.Founded.began s.disk s.catalog s.standing s.groups.items s.trail s.late s.closed k s.seat c.args.table c.args.index p at x x_is h h_is c.in_ok-made.made put c.take_entry.new.trail c.take_entry.ensures.same c.in-Ok.ensures.ok c.append.new.disk c.append.new.self c.append.ensures.counts c.append.ensures.touches c.append.ensures.any_moment (λ h. of_ok c.append.result tt _ c.in-Ok-entered.ensures.ok.0 (c.append.ensures.done h)) (of_ok c.append.result tt _ c.in-Ok-entered.ensures.ok.0 c.append.ensures.defined) c.index_mut.result.now h2_is c.drop_index.new.group c.drop_index.ensures c.replace-before.new.dest c.replace-before.ensures.after c.entered.new.trail (g.D.Disk.calls c.append.new.disk) refl c.in-Ok-entered.ensures.ok.1.entries c.entered.ensures.room),
       (
         c.self.invariant.1.0,
-        more_by_clock g.C.Clock g.B.Founded.times b s.clock s.trail.entries c.self.invariant.1.1 c.push.new.self.entries e
-            (c.push.ensures.entries ∙ ap (λ (es : List Entry). es ++ e ∷ []) c.take_entry.ensures.same) refl,
+        more_by_clock g.C.Clock g.B.Founded.times b s.clock s.trail.entries c.self.invariant.1.1 c.entered.new.trail.entries e
+            (c.in-Ok-entered.ensures.ok.1.entries ∙ ap (λ (es : List Entry). es ++ e ∷ []) c.take_entry.ensures.same) refl,
       ),
     ))
 
-pub invariant_of-self-in-Err-append : goal.invariant_of-self-in-Err-append
-invariant_of-self-in-Err-append g c = (let
+pub invariant_of-self-in-Err : goal.invariant_of-self-in-Err
+invariant_of-self-in-Err g c = (let
     s = c.self.inside
     in let
     k = c.self.invariant.0
@@ -151,9 +161,9 @@ invariant_of-self-in-Err-append g c = (let
     in let
     v : Shown = shown_of s.seat s.trail.entries s.late s.closed s.groups.items
     in let
-    p = c.in-Ok.place
+    p = c.in_ok-place.place
     in let
-    at : IsQuietPlace s.standing s.groups.items s.closed c.args.table c.args.index p = subst (λ (gs : List Group). IsQuietPlace s.standing gs s.closed c.args.table c.args.index p) c.as_slice.ensures.value c.in-Ok.ensures.ok
+    at : IsQuietPlace s.standing s.groups.items s.closed c.args.table c.args.index p = subst (λ (gs : List Group). IsQuietPlace s.standing gs s.closed c.args.table c.args.index p) c.as_slice.ensures.value c.in_ok-place.ensures.ok
     in let
     x : Index = c.index-as_slice-place.result
     in let
@@ -163,20 +173,17 @@ invariant_of-self-in-Err-append g c = (let
     in let
     h_is : get_or s.groups.items p.table h ≡ h = sym c.index.ensures
     in let
-    put : IsIndexToPut h.table s.standing (disabled x) c.in-Ok-index_to_put.made = subst (λ (w : Index). IsIndexToPut h.table s.standing (record w { state = Disabled; birth = x.birth; region = x.region }) c.in-Ok-index_to_put.made) x_is (c.in-Ok-index_to_put.ensures.ok x)
-    in let
-    shut : Entry = record { seat = s.seat; calls = g.D.Disk.calls c.append.new.disk; act = Shut (g.D.Disk.calls c.append.new.disk) }
+    put : IsIndexToPut h.table s.standing (disabled x) c.in_ok-made.made = subst (λ (w : Index). IsIndexToPut h.table s.standing (record w { state = Disabled; birth = x.birth; region = x.region }) c.in_ok-made.made) x_is (c.in_ok-made.ensures.ok x)
     in (
-      disabling_failed g.D.Disk g.met.D.Disk.told g.met.D.Disk.up_to_now b g.B.Based.damaged g.B.Founded.sound g.B.Founded.premise g.B.Founded.began s.disk s.catalog s.standing s.groups.items s.trail s.late s.closed k s.seat c.args.table c.args.index p at x x_is h h_is c.in-Ok-index_to_put.made put c.take_entry.new.trail c.take_entry.ensures.same c.in-Ok-take_entry.ensures.ok c.append.new.disk c.append.new.self c.append.ensures.counts c.append.ensures.touches c.append.ensures.any_moment c.unwritten.new.trail c.unwritten.new.late c.unwritten.new.closed c.in-Err-append.fault (λ e. c.in-Err-append.ensures.untouched (elim e [ inl z ↦ inl (ap Err z) | inr z ↦ inr (ap Err z) ])) (λ e. c.in-Err-append.ensures.failed (ap Err e)) c.unwritten.ensures.kept c.unwritten.ensures.shut c.unwritten.ensures.room,
+      disabling_failed g.D.Disk g.met.D.Disk.told g.met.D.Disk.up_to_now b g.B.Based.damaged g.B.Founded.sound g.B.Founded.premise g.B.Founded.began s.disk s.catalog s.standing s.groups.items s.trail s.late s.closed k s.seat c.args.table c.args.index p at x x_is h h_is c.in_ok-made.made put c.take_entry.new.trail c.take_entry.ensures.same c.in-Ok.ensures.ok c.append.new.disk c.append.new.self c.append.ensures.counts c.append.ensures.touches c.append.ensures.any_moment c.entered.new.trail c.entered.new.late c.entered.new.closed c.in-Err.ensures.refused.0 (λ e. c.append.ensures.untouched (elim e [ inl z ↦ inl (c.in-Err.ensures.refused.1 ∙ ap Err z) | inr z ↦ inr (c.in-Err.ensures.refused.1 ∙ ap Err z) ])) (λ e. c.append.ensures.failed (c.in-Err.ensures.refused.1 ∙ ap Err e)) c.in-Err.ensures.refused.2.kept c.in-Err.ensures.refused.2.shut c.entered.ensures.room,
       (
         c.self.invariant.1.0,
-        unwritten_by_clock g.C.Clock g.B.Founded.times b s.clock s.trail.entries c.self.invariant.1.1 c.in-Err-append.fault c.unwritten.new.trail.entries shut
-            (λ n. (c.unwritten.ensures.kept n).0 ∙ c.take_entry.ensures.same) (λ z. (c.unwritten.ensures.shut z).0 ∙ ap (λ (es : List Entry). es ++ shut ∷ []) c.take_entry.ensures.same) refl,
+        unwritten_entry_by_clock g.C.Clock g.B.Founded.times b s.clock s.trail.entries c.self.invariant.1.1 c.take_entry.new.trail.entries c.take_entry.ensures.same c.in-Err.ensures.refused.0 _ c.entered.new.trail.entries _ _ _ _ _ c.in-Err.ensures.refused.2,
       ),
     ))
 
-pub returns-in-Ok-append-clause-ok : goal.returns-in-Ok-append-clause-ok
-returns-in-Ok-append-clause-ok g c = (let
+pub returns-in-Ok-entered-clause-ok : goal.returns-in-Ok-entered-clause-ok
+returns-in-Ok-entered-clause-ok g c = (let
     s = c.self.inside
     in let
     k = c.self.invariant.0
@@ -185,9 +192,9 @@ returns-in-Ok-append-clause-ok g c = (let
     in let
     v : Shown = shown_of s.seat s.trail.entries s.late s.closed s.groups.items
     in let
-    p = c.in-Ok.place
+    p = c.in_ok-place.place
     in let
-    at : IsQuietPlace s.standing s.groups.items s.closed c.args.table c.args.index p = subst (λ (gs : List Group). IsQuietPlace s.standing gs s.closed c.args.table c.args.index p) c.as_slice.ensures.value c.in-Ok.ensures.ok
+    at : IsQuietPlace s.standing s.groups.items s.closed c.args.table c.args.index p = subst (λ (gs : List Group). IsQuietPlace s.standing gs s.closed c.args.table c.args.index p) c.as_slice.ensures.value c.in_ok-place.ensures.ok
     in let
     x : Index = c.index-as_slice-place.result
     in let
@@ -197,19 +204,19 @@ returns-in-Ok-append-clause-ok g c = (let
     in let
     h_is : get_or s.groups.items p.table h ≡ h = sym c.index.ensures
     in let
-    put : IsIndexToPut h.table s.standing (disabled x) c.in-Ok-index_to_put.made = subst (λ (w : Index). IsIndexToPut h.table s.standing (record w { state = Disabled; birth = x.birth; region = x.region }) c.in-Ok-index_to_put.made) x_is (c.in-Ok-index_to_put.ensures.ok x)
+    put : IsIndexToPut h.table s.standing (disabled x) c.in_ok-made.made = subst (λ (w : Index). IsIndexToPut h.table s.standing (record w { state = Disabled; birth = x.birth; region = x.region }) c.in_ok-made.made) x_is (c.in_ok-made.ensures.ok x)
     in let
     h2_is : c.index_mut.result.now ≡ h = same_there s.groups.items p.table c.index_mut.result.now h (low g.D.Disk g.met.D.Disk.told g.met.D.Disk.up_to_now b g.B.Based.damaged g.B.Founded.sound g.B.Founded.premise g.B.Founded.began s.disk s.catalog s.standing s.groups.items s.trail s.late s.closed k s.seat c.args.table c.args.index p at x x_is h h_is) (sym c.index_mut.ensures.value) h_is
     in let
-    v' : Shown = record v { entries = c.push.new.self.entries }
+    v' : Shown = record v { entries = c.entered.new.trail.entries }
     in let
     m : Answered = record { number = c.args.index.0; stamp = x.birth; at = c.len.result }
     in
     subst (λ (w : Shown). DidDefine (known_by b g.B.Based.damaged w) (known_by b g.B.Based.damaged v') (definition.Disabled c.args.table c.args.index) m) c.self.view_is
-    (disabling_did g.D.Disk g.met.D.Disk.told g.met.D.Disk.up_to_now b g.B.Based.damaged g.B.Founded.sound g.B.Founded.premise g.B.Founded.began s.disk s.catalog s.standing s.groups.items s.trail s.late s.closed k s.seat c.args.table c.args.index p at x x_is h h_is c.in-Ok-index_to_put.made put c.take_entry.new.trail c.take_entry.ensures.same c.in-Ok-take_entry.ensures.ok c.append.new.disk c.append.new.self c.append.ensures.counts c.append.ensures.touches c.append.ensures.any_moment c.in-Ok-append.ensures.done c.in-Ok-append.ensures.defined c.index_mut.result.now h2_is c.drop_index.new.group c.drop_index.ensures c.replace-before.new.dest c.replace-before.ensures.after c.push.new.self c.call_count.result c.call_count.ensures c.push.ensures.entries c.push.ensures.room c.len.result c.len.ensures))
+    (disabling_did g.D.Disk g.met.D.Disk.told g.met.D.Disk.up_to_now b g.B.Based.damaged g.B.Founded.sound g.B.Founded.premise g.B.Founded.began s.disk s.catalog s.standing s.groups.items s.trail s.late s.closed k s.seat c.args.table c.args.index p at x x_is h h_is c.in_ok-made.made put c.take_entry.new.trail c.take_entry.ensures.same c.in-Ok.ensures.ok c.append.new.disk c.append.new.self c.append.ensures.counts c.append.ensures.touches c.append.ensures.any_moment (λ h. of_ok c.append.result tt _ c.in-Ok-entered.ensures.ok.0 (c.append.ensures.done h)) (of_ok c.append.result tt _ c.in-Ok-entered.ensures.ok.0 c.append.ensures.defined) c.index_mut.result.now h2_is c.drop_index.new.group c.drop_index.ensures c.replace-before.new.dest c.replace-before.ensures.after c.entered.new.trail (g.D.Disk.calls c.append.new.disk) refl c.in-Ok-entered.ensures.ok.1.entries c.entered.ensures.room c.len.result c.len.ensures))
 
-pub returns-in-Err-append-clause-refused : goal.returns-in-Err-append-clause-refused
-returns-in-Err-append-clause-refused g c = (let
+pub returns-in-Err-clause-refused : goal.returns-in-Err-clause-refused
+returns-in-Err-clause-refused g c = (let
     s = c.self.inside
     in let
     k = c.self.invariant.0
@@ -218,9 +225,9 @@ returns-in-Err-append-clause-refused g c = (let
     in let
     v : Shown = shown_of s.seat s.trail.entries s.late s.closed s.groups.items
     in let
-    p = c.in-Ok.place
+    p = c.in_ok-place.place
     in let
-    at : IsQuietPlace s.standing s.groups.items s.closed c.args.table c.args.index p = subst (λ (gs : List Group). IsQuietPlace s.standing gs s.closed c.args.table c.args.index p) c.as_slice.ensures.value c.in-Ok.ensures.ok
+    at : IsQuietPlace s.standing s.groups.items s.closed c.args.table c.args.index p = subst (λ (gs : List Group). IsQuietPlace s.standing gs s.closed c.args.table c.args.index p) c.as_slice.ensures.value c.in_ok-place.ensures.ok
     in let
     x : Index = c.index-as_slice-place.result
     in let
@@ -230,9 +237,9 @@ returns-in-Err-append-clause-refused g c = (let
     in let
     h_is : get_or s.groups.items p.table h ≡ h = sym c.index.ensures
     in let
-    put : IsIndexToPut h.table s.standing (disabled x) c.in-Ok-index_to_put.made = subst (λ (w : Index). IsIndexToPut h.table s.standing (record w { state = Disabled; birth = x.birth; region = x.region }) c.in-Ok-index_to_put.made) x_is (c.in-Ok-index_to_put.ensures.ok x)
+    put : IsIndexToPut h.table s.standing (disabled x) c.in_ok-made.made = subst (λ (w : Index). IsIndexToPut h.table s.standing (record w { state = Disabled; birth = x.birth; region = x.region }) c.in_ok-made.made) x_is (c.in_ok-made.ensures.ok x)
     in let
-    v' : Shown = record v { entries = c.unwritten.new.trail.entries; late = c.unwritten.new.late; closed = c.unwritten.new.closed }
+    v' : Shown = record v { entries = c.entered.new.trail.entries; late = c.entered.new.late; closed = c.entered.new.closed }
     in
-    subst (λ (w : Shown). Refuses (define_cause (definition.Disabled c.args.table c.args.index)) (known_by b g.B.Based.damaged w) (known_by b g.B.Based.damaged v') c.unwritten.result) c.self.view_is
-    (disabling_refused g.D.Disk g.met.D.Disk.told g.met.D.Disk.up_to_now b g.B.Based.damaged g.B.Founded.sound g.B.Founded.premise g.B.Founded.began s.disk s.catalog s.standing s.groups.items s.trail s.late s.closed k s.seat c.args.table c.args.index p at x x_is h h_is c.in-Ok-index_to_put.made put c.take_entry.new.trail c.take_entry.ensures.same c.in-Ok-take_entry.ensures.ok c.append.new.disk c.append.new.self c.append.ensures.counts c.append.ensures.touches c.append.ensures.any_moment c.unwritten.new.trail c.unwritten.new.late c.unwritten.new.closed c.in-Err-append.fault (λ e. c.in-Err-append.ensures.untouched (elim e [ inl z ↦ inl (ap Err z) | inr z ↦ inr (ap Err z) ])) (λ e. c.in-Err-append.ensures.failed (ap Err e)) c.unwritten.ensures.kept c.unwritten.ensures.shut c.unwritten.ensures.room c.unwritten.result c.unwritten.ensures.full c.unwritten.ensures.memory c.unwritten.ensures.failed))
+    subst (λ (w : Shown). Refuses (define_cause (definition.Disabled c.args.table c.args.index)) (known_by b g.B.Based.damaged w) (known_by b g.B.Based.damaged v') c.in-Err.fault) c.self.view_is
+    (disabling_refused g.D.Disk g.met.D.Disk.told g.met.D.Disk.up_to_now b g.B.Based.damaged g.B.Founded.sound g.B.Founded.premise g.B.Founded.began s.disk s.catalog s.standing s.groups.items s.trail s.late s.closed k s.seat c.args.table c.args.index p at x x_is h h_is c.in_ok-made.made put c.take_entry.new.trail c.take_entry.ensures.same c.in-Ok.ensures.ok c.append.new.disk c.append.new.self c.append.ensures.counts c.append.ensures.touches c.append.ensures.any_moment c.entered.new.trail c.entered.new.late c.entered.new.closed c.in-Err.ensures.refused.0 (λ e. c.append.ensures.untouched (elim e [ inl z ↦ inl (c.in-Err.ensures.refused.1 ∙ ap Err z) | inr z ↦ inr (c.in-Err.ensures.refused.1 ∙ ap Err z) ])) (λ e. c.append.ensures.failed (c.in-Err.ensures.refused.1 ∙ ap Err e)) c.in-Err.ensures.refused.2.kept c.in-Err.ensures.refused.2.shut c.entered.ensures.room c.in-Err.fault c.in-Err.ensures.refused.2.full c.in-Err.ensures.refused.2.memory c.in-Err.ensures.refused.2.failed))

@@ -12,8 +12,9 @@ use Rattle.px_schema.specs.declared.standing.Standing.{Standing}
 use Rattle.px_catalog.specs.Catalogue.{standing_of}
 use Rattle.px_group.specs.declared.group.Group.{Group}
 use Rattle.px_server.specs.Shown.{Shown, known_by, shown_of}
+use Rattle.px_server.proofs.Entered.{entered_kept, of_ok}
 use Rattle.px_server.proofs.Released.{none_of}
-use Rattle.px_server.proofs.Stamping.{more_by_clock, unwritten_by_clock}
+use Rattle.px_server.proofs.Stamping.{more_by_clock, unwritten_entry_by_clock}
 use Rattle.px_server.proofs.TableCauses.{did_drop, drop_full, drop_in_use, drop_no_table, refused_closed, refused_memory}
 use Rattle.px_server.proofs.TableRecord.{gone_right}
 use Rattle.px_server.proofs.TableSteps.{dropping_failed, dropping_kept, table_uses, unwritten_refused}
@@ -78,18 +79,19 @@ append-requires g c =
           (c.in-Some-numbered_place.ensures.numbered c.index.result.now.table) (search rules);
     }
 
-pub invariant_of-self-in-Ok-append : goal.invariant_of-self-in-Ok-append
-invariant_of-self-in-Ok-append g c =
+pub invariant_of-self-in-Ok-entered : goal.invariant_of-self-in-Ok-entered
+invariant_of-self-in-Ok-entered g c =
     let s = c.self.inside in
     let running : s.closed ≡ None = none_of s.closed (λ x is. search rules) in
     let unused : length c.index.result.now.points.items + length c.index.result.now.batches.items ≡ 0 = (let n = c.uses-count.ensures in let z = c.if-count-gt0.false in omega (arith, n, z)) in (
-      dropping_kept g.D.Disk g.met.D.Disk.told g.met.D.Disk.up_to_now g.B.Based.base g.B.Founded.sound g.B.Founded.premise g.B.Founded.began s.disk s.catalog s.standing s.groups.items s.trail s.late s.closed c.self.invariant.0
+      entered_kept g.D.Disk g.B.Based.base g.B.Founded.sound g.B.Founded.premise g.B.Founded.began c.append.new.disk c.append.new.self _ _ c.entered.new.trail s.late c.entered.new.late s.closed c.entered.new.closed _ _ c.in-Ok-entered.ensures.ok.1
+          (dropping_kept g.D.Disk g.met.D.Disk.told g.met.D.Disk.up_to_now g.B.Based.base g.B.Founded.sound g.B.Founded.premise g.B.Founded.began s.disk s.catalog s.standing s.groups.items s.trail s.late s.closed c.self.invariant.0
           c.append.new.disk c.append.new.self c.append.ensures.counts c.append.ensures.touches s.seat c.take_entry.new.trail c.take_entry.ensures.same c.in-Ok-take_entry.ensures.ok s.groups.items refl
           running c.args.table c.in-Some-numbered_place.place c.in-Some-numbered_place.ensures.found c.in-Some-numbered_place.ensures.numbered c.index.result.now (sym c.index.ensures) unused c.append.ensures.any_moment
-          c.in-Ok-append.ensures.done c.in-Ok-append.ensures.defined c.replace-before.new.dest (c.replace-before.ensures.after ∙ c.in-Ok.ensures) c.retain.new.self.items
+          (λ h. of_ok c.append.result tt _ c.in-Ok-entered.ensures.ok.0 (c.append.ensures.done h)) (of_ok c.append.result tt _ c.in-Ok-entered.ensures.ok.0 c.append.ensures.defined) c.replace-before.new.dest (c.replace-before.ensures.after ∙ c.in-Ok.ensures) c.retain.new.self.items
           (filter_same _ (λ (x : Group). not (x.table.id.0 == c.args.table.0)) _ (λ x v f' k. search rules) _ _ c.retain.ensures.filtered)
-          c.push.new.self c.call_count.result c.call_count.ensures c.push.ensures.entries c.push.ensures.room,
-      (c.self.invariant.1.0, more_by_clock g.C.Clock g.B.Founded.times g.B.Based.base s.clock s.trail.entries c.self.invariant.1.1 c.push.new.self.entries (record { seat = s.seat; calls = c.call_count.result; act = Dropped c.args.table None }) (c.push.ensures.entries ∙ ap (λ (es : List Entry). es ++ (record { seat = s.seat; calls = c.call_count.result; act = Dropped c.args.table None }) ∷ []) c.take_entry.ensures.same) refl),
+          c.entered.new.trail (g.D.Disk.calls c.append.new.disk) refl c.in-Ok-entered.ensures.ok.1.entries c.entered.ensures.room),
+      (c.self.invariant.1.0, more_by_clock g.C.Clock g.B.Founded.times g.B.Based.base s.clock s.trail.entries c.self.invariant.1.1 c.entered.new.trail.entries (record { seat = s.seat; calls = g.D.Disk.calls c.append.new.disk; act = Dropped c.args.table None }) (c.in-Ok-entered.ensures.ok.1.entries ∙ ap (λ (es : List Entry). es ++ (record { seat = s.seat; calls = g.D.Disk.calls c.append.new.disk; act = Dropped c.args.table None }) ∷ []) c.take_entry.ensures.same) refl),
     )
 
 pub invariant_of-self-in-Err : goal.invariant_of-self-in-Err
@@ -100,22 +102,22 @@ invariant_of-self-in-Err g c =
       dropping_failed g.D.Disk g.met.D.Disk.told g.met.D.Disk.up_to_now g.B.Based.base g.B.Founded.sound g.B.Founded.premise g.B.Founded.began s.disk s.catalog s.standing s.groups.items s.trail s.late s.closed c.self.invariant.0
           c.append.new.disk c.append.new.self c.append.ensures.counts c.append.ensures.touches s.seat c.take_entry.new.trail c.take_entry.ensures.same c.in-Ok-take_entry.ensures.ok s.groups.items refl
           running c.args.table c.in-Some-numbered_place.place c.in-Some-numbered_place.ensures.found c.in-Some-numbered_place.ensures.numbered c.index.result.now (sym c.index.ensures) unused c.append.ensures.any_moment
-          c.unwritten.new.trail c.unwritten.new.late c.unwritten.new.closed c.in-Err.fault (λ e. c.in-Err.ensures.untouched (elim e [ inl x ↦ inl (ap Err x) | inr x ↦ inr (ap Err x) ])) (λ e. c.in-Err.ensures.failed (ap Err e))
-          c.unwritten.ensures.kept c.unwritten.ensures.shut c.unwritten.ensures.room,
-      (c.self.invariant.1.0, unwritten_by_clock g.C.Clock g.B.Founded.times g.B.Based.base s.clock s.trail.entries c.self.invariant.1.1 c.in-Err.fault c.unwritten.new.trail.entries (record { seat = s.seat; calls = g.D.Disk.calls c.append.new.disk; act = Shut (g.D.Disk.calls c.append.new.disk) }) (λ n. (c.unwritten.ensures.kept n).0 ∙ c.take_entry.ensures.same) (λ e. (c.unwritten.ensures.shut e).0 ∙ ap (λ (es : List Entry). es ++ (record { seat = s.seat; calls = g.D.Disk.calls c.append.new.disk; act = Shut (g.D.Disk.calls c.append.new.disk) }) ∷ []) c.take_entry.ensures.same) refl),
+          c.entered.new.trail c.entered.new.late c.entered.new.closed c.in-Err.ensures.refused.0 (λ e. c.append.ensures.untouched (elim e [ inl x ↦ inl (c.in-Err.ensures.refused.1 ∙ ap Err x) | inr x ↦ inr (c.in-Err.ensures.refused.1 ∙ ap Err x) ])) (λ e. c.append.ensures.failed (c.in-Err.ensures.refused.1 ∙ ap Err e))
+          c.in-Err.ensures.refused.2.kept c.in-Err.ensures.refused.2.shut c.entered.ensures.room,
+      (c.self.invariant.1.0, unwritten_entry_by_clock g.C.Clock g.B.Founded.times g.B.Based.base s.clock s.trail.entries c.self.invariant.1.1 c.take_entry.new.trail.entries c.take_entry.ensures.same c.in-Err.ensures.refused.0 _ c.entered.new.trail.entries _ _ _ _ _ c.in-Err.ensures.refused.2),
     )
 
-pub returns-in-Ok-append-clause-ok : goal.returns-in-Ok-append-clause-ok
-returns-in-Ok-append-clause-ok g c =
+pub returns-in-Ok-entered-clause-ok : goal.returns-in-Ok-entered-clause-ok
+returns-in-Ok-entered-clause-ok g c =
     let s = c.self.inside in
     let b = g.B.Based.base in
     let told = c.self.invariant.0.told in
     let v : Shown = shown_of s.seat s.trail.entries s.late s.closed s.groups.items in
-    let v' : Shown = record v { entries = c.push.new.self.entries } in
+    let v' : Shown = record v { entries = c.entered.new.trail.entries } in
     let m : Answered = record { number = c.args.table.0; stamp = 0; at = c.len.result } in
     subst (λ (w : Shown). DidDefine (known_by b g.B.Based.damaged w) (known_by b g.B.Based.damaged v') (DropTableOf c.args.table) m) c.self.view_is
-    (did_drop (known_by b g.B.Based.damaged v) told.legal s.closed told.closing c.push.new.self.entries c.call_count.result (invariant_of-self-in-Ok-append g c).0.told.legal c.args.table m refl refl c.len.ensures
-    (c.push.ensures.entries ∙ ap (λ (es : List Entry). es ++ record { seat = s.seat; calls = c.call_count.result; act = Dropped c.args.table None } ∷ []) c.take_entry.ensures.same))
+    (did_drop (known_by b g.B.Based.damaged v) told.legal s.closed told.closing c.entered.new.trail.entries (g.D.Disk.calls c.append.new.disk) (invariant_of-self-in-Ok-entered g c).0.told.legal c.args.table m refl refl c.len.ensures
+    (c.in-Ok-entered.ensures.ok.1.entries ∙ ap (λ (es : List Entry). es ++ record { seat = s.seat; calls = g.D.Disk.calls c.append.new.disk; act = Dropped c.args.table None } ∷ []) c.take_entry.ensures.same))
 
 pub returns-in-Err-clause-refused : goal.returns-in-Err-clause-refused
 returns-in-Err-clause-refused g c =
@@ -124,10 +126,10 @@ returns-in-Err-clause-refused g c =
     let told = c.self.invariant.0.told in
     let v : Shown = shown_of s.seat s.trail.entries s.late s.closed s.groups.items in
     let running : s.closed ≡ None = none_of s.closed (λ x is. search rules) in
-    let v' : Shown = record v { entries = c.unwritten.new.trail.entries; late = c.unwritten.new.late; closed = c.unwritten.new.closed } in
+    let v' : Shown = record v { entries = c.entered.new.trail.entries; late = c.entered.new.late; closed = c.entered.new.closed } in
     let calls = g.D.Disk.calls c.append.new.disk in
-    subst (λ (w : Shown). Refuses (define_cause (DropTableOf c.args.table)) (known_by b g.B.Based.damaged w) (known_by b g.B.Based.damaged v') c.unwritten.result) c.self.view_is
+    subst (λ (w : Shown). Refuses (define_cause (DropTableOf c.args.table)) (known_by b g.B.Based.damaged w) (known_by b g.B.Based.damaged v') c.in-Err.fault) c.self.view_is
     (unwritten_refused (known_by b g.B.Based.damaged v) told.legal s.closed told.closing (DropTableOf c.args.table) (drop_full (known_by b g.B.Based.damaged v) told.legal s.closed told.closing running c.args.table) (refused_memory (known_by b g.B.Based.damaged v) told.legal s.closed told.closing running (DropTableOf c.args.table))
-    c.unwritten.result c.unwritten.new.trail.entries calls (invariant_of-self-in-Err g c).0.told.legal c.in-Err.fault c.unwritten.ensures.full c.unwritten.ensures.memory c.unwritten.ensures.failed
-    (λ n. (c.unwritten.ensures.kept n).0 ∙ c.take_entry.ensures.same)
-    (λ e. (c.unwritten.ensures.shut e).0 ∙ ap (λ (es : List Entry). es ++ record { seat = s.seat; calls = calls; act = Shut calls } ∷ []) c.take_entry.ensures.same))
+    c.in-Err.fault c.entered.new.trail.entries calls (invariant_of-self-in-Err g c).0.told.legal c.in-Err.ensures.refused.0 c.in-Err.ensures.refused.2.full c.in-Err.ensures.refused.2.memory c.in-Err.ensures.refused.2.failed
+    (λ n. (c.in-Err.ensures.refused.2.kept n).0 ∙ c.take_entry.ensures.same)
+    (λ e. (c.in-Err.ensures.refused.2.shut e).0 ∙ ap (λ (es : List Entry). es ++ record { seat = s.seat; calls = calls; act = Shut calls } ∷ []) c.take_entry.ensures.same))

@@ -1,4 +1,4 @@
-use Rattle.std.proofs.Common.{◌≡◌, IsSome, Option, refl, sym, ap, subst, ◌∙◌, arith}
+use Rattle.std.proofs.Common.{IsSome, Option, refl, sym, ap, subst, ◌∙◌, arith}
 use Rattle.px_values.specs.declared.limit.Limit.TheVariants as bound
 use Rattle.px_values.specs.Limits.{most_of}
 use Rattle.px_calls.specs.Causes.{Refuses, define_cause}

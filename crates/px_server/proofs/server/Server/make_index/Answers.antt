@@ -1,5 +1,6 @@
 use Rattle.std.proofs.Common.{rules, ◌≡◌, ◌<◌, ◌^◌, inl, inr, ℕ, IsSome, Option, None, Some, Err, List, [], ◌∷◌, ◌++◌, get_or, refl, sym, ap, subst, ◌∙◌, arith}
 use Rattle.std.proofs.lemmas.Bool.{false≢true}
+use Rattle.std.proofs.lemmas.Result.{err_from_is_err_and}
 use Rattle.px_values.specs.declared.name.TableId.{TableId}
 use Rattle.px_tables.specs.declared.table.Table.{Table}
 use Rattle.px_trail.specs.Trail.{last_of, table_of}
@@ -16,9 +17,10 @@ use Rattle.px_standing.proofs.Looked.{lacks}
 use Rattle.px_server.specs.Kept.{HasTallied}
 use Rattle.px_server.specs.Shown.{Shown, known_by, shown_of}
 use Rattle.px_server.specs.Stamps.{draw}
+use Rattle.px_server.proofs.Entered.{entered_kept, of_ok}
 use Rattle.px_server.proofs.Lists.{all_at}
 use Rattle.px_server.proofs.Released.{group_of, place_in}
-use Rattle.px_server.proofs.Stamping.{drawn_by_clock, read_by_clock, same_by_clock, unwritten_by_clock}
+use Rattle.px_server.proofs.Stamping.{drawn_by_clock, read_by_clock, same_by_clock, unwritten_entry_by_clock}
 use Rattle.px_server.proofs.Unwritten.{no_memory, reserved}
 use Rattle.px_calls.specs.declared.definition.Made.{Made as Answered}
 use Rattle.px_group.specs.declared.group.Group.{Group}
@@ -82,8 +84,8 @@ invariant_of-self g c = (let
     in
     (c.self.invariant.0, (c.self.invariant.1.0, read_by_clock g.C.Clock g.B.Founded.times b s.clock s.trail.entries c.self.invariant.1.1 c.next_stamp-stamp.new.clock c.next_stamp-stamp.ensures.rest)))
 
-pub returns-in-Err-clause-refused : goal.returns-in-Err-clause-refused
-returns-in-Err-clause-refused g c = (let
+pub returns-in_err-made-clause-refused : goal.returns-in_err-made-clause-refused
+returns-in_err-made-clause-refused g c = (let
     s = c.self.inside
     in let
     k = c.self.invariant.0
@@ -95,10 +97,12 @@ returns-in-Err-clause-refused g c = (let
     may : MayMakeIndex (known_by b g.B.Based.damaged v) c.args.what.now = subst (λ (w : Shown). MayMakeIndex (known_by b g.B.Based.damaged w) c.args.what.now) (sym c.self.view_is) c.requires.may
     in let
     running : s.closed ≡ None = sym k.told.closing ∙ may.running
+    in let
+    e = err_from_is_err_and c.from_residual.result c.from_residual.ensures.1
     in
-    subst (λ (f : StepFault). Refuses (define_cause (definition.Index c.args.what.now)) (known_by b g.B.Based.damaged c.args.self.now) (known_by b g.B.Based.damaged v) f) (sym c.in-Err.ensures.refused)
+    rw e.1 (subst (λ (f : StepFault). Refuses (define_cause (definition.Index c.args.what.now)) (known_by b g.B.Based.damaged c.args.self.now) (known_by b g.B.Based.damaged v) f) (sym (e.2 ∙ c.in_err-made.ensures.refused))
     (subst (λ (w : Shown). Refuses (define_cause (definition.Index c.args.what.now)) (known_by b g.B.Based.damaged w) (known_by b g.B.Based.damaged v) Memory) c.self.view_is
-    (no_memory (known_by b g.B.Based.damaged v) k.told.legal s.closed k.told.closing running (definition.Index c.args.what.now))))
+    (no_memory (known_by b g.B.Based.damaged v) k.told.legal s.closed k.told.closing running (definition.Index c.args.what.now)))))
 
 pub invariant_of-self-in_default-take_entry : goal.invariant_of-self-in_default-take_entry
 invariant_of-self-in_default-take_entry g c = (let
@@ -194,10 +198,10 @@ append-requires g c = (let
     in let
     short : c.args.what.now.table.0 < 256 ^ 4 = search rules
     in
-    record { right = fits_made g.D.Disk b g.B.Founded.sound g.B.Founded.premise g.B.Founded.began s.disk s.catalog s.standing s.groups.items s.trail s.late s.closed k running c.in-Some.place h l h_is c.args.what.now own (fit.fits h.table stands) short c.next_stamp-stamp.result c.in-Ok.made c.in-Ok.ensures.ok })
+    record { right = fits_made g.D.Disk b g.B.Founded.sound g.B.Founded.premise g.B.Founded.began s.disk s.catalog s.standing s.groups.items s.trail s.late s.closed k running c.in-Some.place h l h_is c.args.what.now own (fit.fits h.table stands) short c.next_stamp-stamp.result c.in_ok-made.made c.in_ok-made.ensures.ok })
 
-pub invariant_of-self-in-Ok-append : goal.invariant_of-self-in-Ok-append
-invariant_of-self-in-Ok-append g c = (let
+pub invariant_of-self-in-Ok-entered : goal.invariant_of-self-in-Ok-entered
+invariant_of-self-in-Ok-entered g c = (let
     s = c.self.inside
     in let
     k = c.self.invariant.0
@@ -228,18 +232,19 @@ invariant_of-self-in-Ok-append g c = (let
     in let
     last_is : last_of b c.args.what.now.table.0 s.trail.entries ≡ c.index.result.now.last = ap (λ (t : TableId). last_of b t.0 s.trail.entries) (sym own) ∙ (tallied.tallied.last ∙ ap (λ (x : Group). x.last) there)
     in let
-    e : Entry = record { seat = s.seat; calls = c.call_count.result; act = act.IndexMade c.args.what.now.table c.in-Ok.made.index.id c.next_stamp-stamp.result c.in-Ok.made.what }
+    e : Entry = record { seat = s.seat; calls = g.D.Disk.calls c.append.new.disk; act = act.IndexMade c.args.what.now.table c.in_ok-made.made.index.id c.next_stamp-stamp.result c.in_ok-made.made.what }
     in (
-      making_kept g.D.Disk g.met.D.Disk.told g.met.D.Disk.up_to_now b g.B.Based.damaged g.B.Founded.sound g.B.Founded.premise g.B.Founded.began s.disk s.catalog s.standing s.groups.items s.trail s.late s.closed k running c.in-Some.place h l h_is s.seat c.take_entry.new.trail c.take_entry.ensures.same c.in-Ok-take_entry.ensures.ok c.append.new.disk c.append.new.self c.append.ensures.counts c.append.ensures.touches c.args.what.now own may fit c.next_stamp-stamp.result above c.next_stamp-stamp.ensures.most c.in-Ok.made c.in-Ok.ensures.ok c.reserve_index.new.group c.reserve_index.ensures.same c.append.ensures.any_moment c.in-Ok-append.ensures.done c.in-Ok-append.ensures.defined c.index_mut-in-Ok-append.result.now c.index_mut-in-Ok-append.ensures.value c.add_index.new.group c.add_index.ensures c.replace-before.new.dest c.replace-before.ensures.after c.push.new.self c.call_count.result c.call_count.ensures c.push.ensures.entries c.push.ensures.room,
+      entered_kept g.D.Disk b g.B.Founded.sound g.B.Founded.premise g.B.Founded.began c.append.new.disk c.append.new.self _ _ c.entered.new.trail s.late c.entered.new.late s.closed c.entered.new.closed _ _ c.in-Ok-entered.ensures.ok.1
+          (making_kept g.D.Disk g.met.D.Disk.told g.met.D.Disk.up_to_now b g.B.Based.damaged g.B.Founded.sound g.B.Founded.premise g.B.Founded.began s.disk s.catalog s.standing s.groups.items s.trail s.late s.closed k running c.in-Some.place h l h_is s.seat c.take_entry.new.trail c.take_entry.ensures.same c.in-Ok.ensures.ok c.append.new.disk c.append.new.self c.append.ensures.counts c.append.ensures.touches c.args.what.now own may fit c.next_stamp-stamp.result above c.next_stamp-stamp.ensures.most c.in_ok-made.made c.in_ok-made.ensures.ok c.reserve_index.new.group c.reserve_index.ensures.same c.append.ensures.any_moment (λ h. of_ok c.append.result tt _ c.in-Ok-entered.ensures.ok.0 (c.append.ensures.done h)) (of_ok c.append.result tt _ c.in-Ok-entered.ensures.ok.0 c.append.ensures.defined) c.index_mut-in-Ok-entered.result.now c.index_mut-in-Ok-entered.ensures.value c.add_index.new.group c.add_index.ensures c.replace-before.new.dest c.replace-before.ensures.after c.entered.new.trail (g.D.Disk.calls c.append.new.disk) refl c.in-Ok-entered.ensures.ok.1.entries c.entered.ensures.room),
       (
         c.self.invariant.1.0,
-        drawn_by_clock g.C.Clock g.B.Founded.times b s.clock s.trail.entries c.self.invariant.1.1 c.next_stamp-stamp.new.clock c.next_stamp-stamp.ensures.rest c.push.new.self.entries e (draw c.args.what.now.table.0 c.next_stamp-stamp.result) (c.push.ensures.entries ∙ ap (λ (es : List Entry). es ++ e ∷ []) c.take_entry.ensures.same) refl
+        drawn_by_clock g.C.Clock g.B.Founded.times b s.clock s.trail.entries c.self.invariant.1.1 c.next_stamp-stamp.new.clock c.next_stamp-stamp.ensures.rest c.entered.new.trail.entries e (draw c.args.what.now.table.0 c.next_stamp-stamp.result) (c.in-Ok-entered.ensures.ok.1.entries ∙ ap (λ (es : List Entry). es ++ e ∷ []) c.take_entry.ensures.same) refl
             (λ tells. ap (λ (n : ℕ). drawn n (g.C.Clock.times s.clock 0)) last_is ∙ c.next_stamp-stamp.ensures.drawn tells),
       ),
     ))
 
-pub invariant_of-self-in-Err-append : goal.invariant_of-self-in-Err-append
-invariant_of-self-in-Err-append g c = (let
+pub invariant_of-self-in-Err : goal.invariant_of-self-in-Err
+invariant_of-self-in-Err g c = (let
     s = c.self.inside
     in let
     k = c.self.invariant.0
@@ -263,19 +268,16 @@ invariant_of-self-in-Err-append g c = (let
     own : h.table.id ≡ c.args.what.now.table = group_of s.groups.items s.standing.tables k.each.stand c.in-Some.place h l h_is c.args.what.now.table c.in-Some.ensures.numbered
     in let
     above : h.last < c.next_stamp-stamp.result = (let a = c.next_stamp-stamp.ensures.above in let same = ap (λ (x : Group). x.last) (same_there s.groups.items c.in-Some.place h c.index.result.now l h_is (sym c.index.ensures)) in omega (arith, a, same))
-    in let
-    shut : Entry = record { seat = s.seat; calls = g.D.Disk.calls c.append.new.disk; act = act.Shut (g.D.Disk.calls c.append.new.disk) }
     in (
-      making_failed g.D.Disk g.met.D.Disk.told g.met.D.Disk.up_to_now b g.B.Based.damaged g.B.Founded.sound g.B.Founded.premise g.B.Founded.began s.disk s.catalog s.standing s.groups.items s.trail s.late s.closed k running c.in-Some.place h l h_is s.seat c.take_entry.new.trail c.take_entry.ensures.same c.in-Ok-take_entry.ensures.ok c.append.new.disk c.append.new.self c.append.ensures.counts c.append.ensures.touches c.args.what.now own may fit c.next_stamp-stamp.result above c.next_stamp-stamp.ensures.most c.in-Ok.made c.in-Ok.ensures.ok c.reserve_index.new.group c.reserve_index.ensures.same c.append.ensures.any_moment c.unwritten.new.trail c.unwritten.new.late c.unwritten.new.closed c.in-Err-append.fault (λ e. c.in-Err-append.ensures.untouched (elim e [ inl x ↦ inl (ap Err x) | inr x ↦ inr (ap Err x) ])) (λ e. c.in-Err-append.ensures.failed (ap Err e)) c.unwritten.ensures.kept c.unwritten.ensures.shut c.unwritten.ensures.room,
+      making_failed g.D.Disk g.met.D.Disk.told g.met.D.Disk.up_to_now b g.B.Based.damaged g.B.Founded.sound g.B.Founded.premise g.B.Founded.began s.disk s.catalog s.standing s.groups.items s.trail s.late s.closed k running c.in-Some.place h l h_is s.seat c.take_entry.new.trail c.take_entry.ensures.same c.in-Ok.ensures.ok c.append.new.disk c.append.new.self c.append.ensures.counts c.append.ensures.touches c.args.what.now own may fit c.next_stamp-stamp.result above c.next_stamp-stamp.ensures.most c.in_ok-made.made c.in_ok-made.ensures.ok c.reserve_index.new.group c.reserve_index.ensures.same c.append.ensures.any_moment c.entered.new.trail c.entered.new.late c.entered.new.closed c.in-Err.ensures.refused.0 (λ e. c.append.ensures.untouched (elim e [ inl x ↦ inl (c.in-Err.ensures.refused.1 ∙ ap Err x) | inr x ↦ inr (c.in-Err.ensures.refused.1 ∙ ap Err x) ])) (λ e. c.append.ensures.failed (c.in-Err.ensures.refused.1 ∙ ap Err e)) c.in-Err.ensures.refused.2.kept c.in-Err.ensures.refused.2.shut c.entered.ensures.room,
       (
         c.self.invariant.1.0,
-        unwritten_by_clock g.C.Clock g.B.Founded.times b c.next_stamp-stamp.new.clock s.trail.entries (read_by_clock g.C.Clock g.B.Founded.times b s.clock s.trail.entries c.self.invariant.1.1 c.next_stamp-stamp.new.clock c.next_stamp-stamp.ensures.rest) c.in-Err-append.fault c.unwritten.new.trail.entries shut
-            (λ n. (c.unwritten.ensures.kept n).0 ∙ c.take_entry.ensures.same) (λ e. (c.unwritten.ensures.shut e).0 ∙ ap (λ (es : List Entry). es ++ shut ∷ []) c.take_entry.ensures.same) refl,
+        unwritten_entry_by_clock g.C.Clock g.B.Founded.times b c.next_stamp-stamp.new.clock s.trail.entries (read_by_clock g.C.Clock g.B.Founded.times b s.clock s.trail.entries c.self.invariant.1.1 c.next_stamp-stamp.new.clock c.next_stamp-stamp.ensures.rest) c.take_entry.new.trail.entries c.take_entry.ensures.same c.in-Err.ensures.refused.0 _ c.entered.new.trail.entries _ _ _ _ _ c.in-Err.ensures.refused.2,
       ),
     ))
 
-pub returns-in-Ok-append-clause-ok : goal.returns-in-Ok-append-clause-ok
-returns-in-Ok-append-clause-ok g c = (let
+pub returns-in-Ok-entered-clause-ok : goal.returns-in-Ok-entered-clause-ok
+returns-in-Ok-entered-clause-ok g c = (let
     s = c.self.inside
     in let
     k = c.self.invariant.0
@@ -300,15 +302,15 @@ returns-in-Ok-append-clause-ok g c = (let
     in let
     above : h.last < c.next_stamp-stamp.result = (let a = c.next_stamp-stamp.ensures.above in let same = ap (λ (x : Group). x.last) (same_there s.groups.items c.in-Some.place h c.index.result.now l h_is (sym c.index.ensures)) in omega (arith, a, same))
     in let
-    v' : Shown = record v { entries = c.push.new.self.entries }
+    v' : Shown = record v { entries = c.entered.new.trail.entries }
     in let
-    m : Answered = record { number = c.in-Ok.made.index.id.0; stamp = c.next_stamp-stamp.result; at = c.len.result }
+    m : Answered = record { number = c.in_ok-made.made.index.id.0; stamp = c.next_stamp-stamp.result; at = c.len.result }
     in
     subst (λ (w : Shown). DidDefine (known_by b g.B.Based.damaged w) (known_by b g.B.Based.damaged v') (definition.Index c.args.what.now) m) c.self.view_is
-    (making_did g.D.Disk g.met.D.Disk.told g.met.D.Disk.up_to_now b g.B.Based.damaged g.B.Founded.sound g.B.Founded.premise g.B.Founded.began s.disk s.catalog s.standing s.groups.items s.trail s.late s.closed k running c.in-Some.place h l h_is s.seat c.take_entry.new.trail c.take_entry.ensures.same c.in-Ok-take_entry.ensures.ok c.append.new.disk c.append.new.self c.append.ensures.counts c.append.ensures.touches c.args.what.now own may fit c.next_stamp-stamp.result above c.next_stamp-stamp.ensures.most c.in-Ok.made c.in-Ok.ensures.ok c.reserve_index.new.group c.reserve_index.ensures.same c.append.ensures.any_moment c.in-Ok-append.ensures.done c.in-Ok-append.ensures.defined c.index_mut-in-Ok-append.result.now c.index_mut-in-Ok-append.ensures.value c.add_index.new.group c.add_index.ensures c.replace-before.new.dest c.replace-before.ensures.after c.push.new.self c.call_count.result c.call_count.ensures c.push.ensures.entries c.push.ensures.room c.len.result c.len.ensures))
+    (making_did g.D.Disk g.met.D.Disk.told g.met.D.Disk.up_to_now b g.B.Based.damaged g.B.Founded.sound g.B.Founded.premise g.B.Founded.began s.disk s.catalog s.standing s.groups.items s.trail s.late s.closed k running c.in-Some.place h l h_is s.seat c.take_entry.new.trail c.take_entry.ensures.same c.in-Ok.ensures.ok c.append.new.disk c.append.new.self c.append.ensures.counts c.append.ensures.touches c.args.what.now own may fit c.next_stamp-stamp.result above c.next_stamp-stamp.ensures.most c.in_ok-made.made c.in_ok-made.ensures.ok c.reserve_index.new.group c.reserve_index.ensures.same c.append.ensures.any_moment (λ h. of_ok c.append.result tt _ c.in-Ok-entered.ensures.ok.0 (c.append.ensures.done h)) (of_ok c.append.result tt _ c.in-Ok-entered.ensures.ok.0 c.append.ensures.defined) c.index_mut-in-Ok-entered.result.now c.index_mut-in-Ok-entered.ensures.value c.add_index.new.group c.add_index.ensures c.replace-before.new.dest c.replace-before.ensures.after c.entered.new.trail (g.D.Disk.calls c.append.new.disk) refl c.in-Ok-entered.ensures.ok.1.entries c.entered.ensures.room c.len.result c.len.ensures))
 
-pub returns-in-Err-append-clause-refused : goal.returns-in-Err-append-clause-refused
-returns-in-Err-append-clause-refused g c = (let
+pub returns-in-Err-clause-refused : goal.returns-in-Err-clause-refused
+returns-in-Err-clause-refused g c = (let
     s = c.self.inside
     in let
     k = c.self.invariant.0
@@ -333,7 +335,7 @@ returns-in-Err-append-clause-refused g c = (let
     in let
     above : h.last < c.next_stamp-stamp.result = (let a = c.next_stamp-stamp.ensures.above in let same = ap (λ (x : Group). x.last) (same_there s.groups.items c.in-Some.place h c.index.result.now l h_is (sym c.index.ensures)) in omega (arith, a, same))
     in let
-    v' : Shown = record v { entries = c.unwritten.new.trail.entries; late = c.unwritten.new.late; closed = c.unwritten.new.closed }
+    v' : Shown = record v { entries = c.entered.new.trail.entries; late = c.entered.new.late; closed = c.entered.new.closed }
     in
-    subst (λ (w : Shown). Refuses (define_cause (definition.Index c.args.what.now)) (known_by b g.B.Based.damaged w) (known_by b g.B.Based.damaged v') c.unwritten.result) c.self.view_is
-    (making_refused g.D.Disk g.met.D.Disk.told g.met.D.Disk.up_to_now b g.B.Based.damaged g.B.Founded.sound g.B.Founded.premise g.B.Founded.began s.disk s.catalog s.standing s.groups.items s.trail s.late s.closed k running c.in-Some.place h l h_is s.seat c.take_entry.new.trail c.take_entry.ensures.same c.in-Ok-take_entry.ensures.ok c.append.new.disk c.append.new.self c.append.ensures.counts c.append.ensures.touches c.args.what.now own may fit c.next_stamp-stamp.result above c.next_stamp-stamp.ensures.most c.in-Ok.made c.in-Ok.ensures.ok c.reserve_index.new.group c.reserve_index.ensures.same c.append.ensures.any_moment c.unwritten.new.trail c.unwritten.new.late c.unwritten.new.closed c.in-Err-append.fault (λ e. c.in-Err-append.ensures.untouched (elim e [ inl x ↦ inl (ap Err x) | inr x ↦ inr (ap Err x) ])) (λ e. c.in-Err-append.ensures.failed (ap Err e)) c.unwritten.ensures.kept c.unwritten.ensures.shut c.unwritten.ensures.room c.unwritten.result c.unwritten.ensures.full c.unwritten.ensures.memory c.unwritten.ensures.failed))
+    subst (λ (w : Shown). Refuses (define_cause (definition.Index c.args.what.now)) (known_by b g.B.Based.damaged w) (known_by b g.B.Based.damaged v') c.in-Err.fault) c.self.view_is
+    (making_refused g.D.Disk g.met.D.Disk.told g.met.D.Disk.up_to_now b g.B.Based.damaged g.B.Founded.sound g.B.Founded.premise g.B.Founded.began s.disk s.catalog s.standing s.groups.items s.trail s.late s.closed k running c.in-Some.place h l h_is s.seat c.take_entry.new.trail c.take_entry.ensures.same c.in-Ok.ensures.ok c.append.new.disk c.append.new.self c.append.ensures.counts c.append.ensures.touches c.args.what.now own may fit c.next_stamp-stamp.result above c.next_stamp-stamp.ensures.most c.in_ok-made.made c.in_ok-made.ensures.ok c.reserve_index.new.group c.reserve_index.ensures.same c.append.ensures.any_moment c.entered.new.trail c.entered.new.late c.entered.new.closed c.in-Err.ensures.refused.0 (λ e. c.append.ensures.untouched (elim e [ inl x ↦ inl (c.in-Err.ensures.refused.1 ∙ ap Err x) | inr x ↦ inr (c.in-Err.ensures.refused.1 ∙ ap Err x) ])) (λ e. c.append.ensures.failed (c.in-Err.ensures.refused.1 ∙ ap Err e)) c.in-Err.ensures.refused.2.kept c.in-Err.ensures.refused.2.shut c.entered.ensures.room c.in-Err.fault c.in-Err.ensures.refused.2.full c.in-Err.ensures.refused.2.memory c.in-Err.ensures.refused.2.failed))

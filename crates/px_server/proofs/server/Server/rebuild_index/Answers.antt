@@ -1,5 +1,6 @@
 use Rattle.std.proofs.Common.{rules, ◌≡◌, ◌<◌, ◌≤◌, ◌^◌, inl, inr, ℕ, Err, List, [], ◌∷◌, ◌++◌, length, get_or, refl, sym, ap, subst, ◌∙◌, arith}
 use Rattle.std.proofs.lemmas.Bool.{false≢true}
+use Rattle.std.proofs.lemmas.Result.{err_from_is_err_and}
 use Rattle.px_values.specs.Limits.{most_of}
 use Rattle.px_values.specs.declared.limit.Limit.TheVariants as bound
 use Rattle.px_values.specs.declared.name.TableId.{TableId}
@@ -24,17 +25,18 @@ use Rattle.px_disabled.specs.Disabled.{rebuilt}
 use Rattle.px_server.specs.Shown.{Shown, known_by, shown_of}
 use Rattle.px_server.specs.Stamps.{draw}
 use Rattle.px_server.specs.inner.Quiet.{IsIndexToPut, IsQuietPlace, IsUnquiet}
-use Rattle.px_server.proofs.AnewPut.{put_there, some_there}
+use Rattle.px_server.proofs.Entered.{entered_kept, of_ok}
+use Rattle.px_server.proofs.AnewPut.{put_there}
 use Rattle.px_server.proofs.AnewSteps.{rebuilding_did, rebuilding_failed, rebuilding_kept, rebuilding_refused}
 use Rattle.px_server.proofs.QuietPlaces.{fits_put, last_is as last_of_place, no_number, no_stamp, own as own_table, unquiet_rebuilding}
 use Rattle.px_server.proofs.Released.{place_in}
-use Rattle.px_server.proofs.Reserved.{roomy, same_there}
-use Rattle.px_server.proofs.Stamping.{drawn_by_clock, read_by_clock, same_by_clock, unwritten_by_clock}
+use Rattle.px_server.proofs.Reserved.{roomy, same_there, some_there}
+use Rattle.px_server.proofs.Stamping.{drawn_by_clock, read_by_clock, same_by_clock, unwritten_entry_by_clock}
 use Rattle.px_server.proofs.Unwritten.{no_memory, reserved}
 use Rattle.px_server.proofs.server.Server.rebuild_index.Goals as goal
 
-pub returns-in-Err-clause-refused : goal.returns-in-Err-clause-refused
-returns-in-Err-clause-refused g c = (let
+pub returns-in_err-place-clause-refused : goal.returns-in_err-place-clause-refused
+returns-in_err-place-clause-refused g c = (let
     s = c.self.inside
     in let
     k = c.self.invariant.0
@@ -43,10 +45,15 @@ returns-in-Err-clause-refused g c = (let
     in let
     v : Shown = shown_of s.seat s.trail.entries s.late s.closed s.groups.items
     in let
-    why : IsUnquiet s.standing s.groups.items s.closed c.args.table c.args.index c.in-Err.fault = subst (λ gs. IsUnquiet s.standing gs s.closed c.args.table c.args.index c.in-Err.fault) c.as_slice.ensures.value c.in-Err.ensures.refused
+    f = c.in_err-place.field-0.0
+    in let
+    why : IsUnquiet s.standing s.groups.items s.closed c.args.table c.args.index f = subst (λ gs. IsUnquiet s.standing gs s.closed c.args.table c.args.index f) c.as_slice.ensures.value c.in_err-place.ensures.refused
+    in let
+    e = err_from_is_err_and c.from_residual.result c.from_residual.ensures.1
     in
-    subst (λ (w : Shown). Refuses (define_cause (definition.Rebuilding c.args.table c.args.index)) (known_by b g.B.Based.damaged w) (known_by b g.B.Based.damaged w) c.in-Err.fault) {x = v} c.self.view_is
-    (unquiet_rebuilding g.D.Disk g.met.D.Disk.told g.met.D.Disk.up_to_now b g.B.Based.damaged g.B.Founded.sound g.B.Founded.premise g.B.Founded.began s.disk s.catalog s.standing s.groups.items s.trail s.late s.closed k s.seat c.args.table c.args.index c.in-Err.fault why))
+    rw e.1 (subst (λ (x : StepFault). Refuses (define_cause (definition.Rebuilding c.args.table c.args.index)) (known_by b g.B.Based.damaged c.args.self.now) (known_by b g.B.Based.damaged c.args.self.now) x) (sym e.2)
+    (subst (λ (w : Shown). Refuses (define_cause (definition.Rebuilding c.args.table c.args.index)) (known_by b g.B.Based.damaged w) (known_by b g.B.Based.damaged w) f) {x = v} c.self.view_is
+    (unquiet_rebuilding g.D.Disk g.met.D.Disk.told g.met.D.Disk.up_to_now b g.B.Based.damaged g.B.Founded.sound g.B.Founded.premise g.B.Founded.began s.disk s.catalog s.standing s.groups.items s.trail s.late s.closed k s.seat c.args.table c.args.index f why))))
 
 pub returns-then-index-most-clause-refused : goal.returns-then-index-most-clause-refused
 returns-then-index-most-clause-refused g c = (let
@@ -58,9 +65,9 @@ returns-then-index-most-clause-refused g c = (let
     in let
     v : Shown = shown_of s.seat s.trail.entries s.late s.closed s.groups.items
     in let
-    p = c.in-Ok.place
+    p = c.in_ok-place.place
     in let
-    at : IsQuietPlace s.standing s.groups.items s.closed c.args.table c.args.index p = subst (λ gs. IsQuietPlace s.standing gs s.closed c.args.table c.args.index p) c.as_slice.ensures.value c.in-Ok.ensures.ok
+    at : IsQuietPlace s.standing s.groups.items s.closed c.args.table c.args.index p = subst (λ gs. IsQuietPlace s.standing gs s.closed c.args.table c.args.index p) c.as_slice.ensures.value c.in_ok-place.ensures.ok
     in let
     one = some_there s.standing.indexes p.index at.low
     in let
@@ -84,9 +91,9 @@ returns-then-not-has_numbers-clause-refused g c = (let
     in let
     v : Shown = shown_of s.seat s.trail.entries s.late s.closed s.groups.items
     in let
-    p = c.in-Ok.place
+    p = c.in_ok-place.place
     in let
-    at : IsQuietPlace s.standing s.groups.items s.closed c.args.table c.args.index p = subst (λ gs. IsQuietPlace s.standing gs s.closed c.args.table c.args.index p) c.as_slice.ensures.value c.in-Ok.ensures.ok
+    at : IsQuietPlace s.standing s.groups.items s.closed c.args.table c.args.index p = subst (λ gs. IsQuietPlace s.standing gs s.closed c.args.table c.args.index p) c.as_slice.ensures.value c.in_ok-place.ensures.ok
     in let
     one = some_there s.standing.indexes p.index at.low
     in let
@@ -108,8 +115,8 @@ invariant_of-self g c = (let
     in
     (c.self.invariant.0, (c.self.invariant.1.0, read_by_clock g.C.Clock g.B.Founded.times b s.clock s.trail.entries c.self.invariant.1.1 c.next_stamp-stamp.new.clock c.next_stamp-stamp.ensures.rest)))
 
-pub returns-in-Err-index_to_put-clause-refused : goal.returns-in-Err-index_to_put-clause-refused
-returns-in-Err-index_to_put-clause-refused g c = (let
+pub returns-in_err-made-clause-refused : goal.returns-in_err-made-clause-refused
+returns-in_err-made-clause-refused g c = (let
     s = c.self.inside
     in let
     k = c.self.invariant.0
@@ -118,13 +125,15 @@ returns-in-Err-index_to_put-clause-refused g c = (let
     in let
     v : Shown = shown_of s.seat s.trail.entries s.late s.closed s.groups.items
     in let
-    p = c.in-Ok.place
+    p = c.in_ok-place.place
     in let
-    at : IsQuietPlace s.standing s.groups.items s.closed c.args.table c.args.index p = subst (λ gs. IsQuietPlace s.standing gs s.closed c.args.table c.args.index p) c.as_slice.ensures.value c.in-Ok.ensures.ok
+    at : IsQuietPlace s.standing s.groups.items s.closed c.args.table c.args.index p = subst (λ gs. IsQuietPlace s.standing gs s.closed c.args.table c.args.index p) c.as_slice.ensures.value c.in_ok-place.ensures.ok
+    in let
+    e = err_from_is_err_and c.from_residual-in_err-made.result c.from_residual-in_err-made.ensures.1
     in
-    subst (λ (f : StepFault). Refuses (define_cause (definition.Rebuilding c.args.table c.args.index)) (known_by b g.B.Based.damaged c.args.self.now) (known_by b g.B.Based.damaged v) f) {x = Memory} (sym c.in-Err-index_to_put.ensures.refused)
-    (subst (λ (w : Shown). Refuses (define_cause (definition.Rebuilding c.args.table c.args.index)) (known_by b g.B.Based.damaged w) (known_by b g.B.Based.damaged v) Memory) {x = v} c.self.view_is
-    (no_memory (known_by b g.B.Based.damaged v) k.told.legal s.closed k.told.closing at.running (definition.Rebuilding c.args.table c.args.index))))
+    rw e.1 (subst (λ (f : StepFault). Refuses (define_cause (definition.Rebuilding c.args.table c.args.index)) (known_by b g.B.Based.damaged c.args.self.now) (known_by b g.B.Based.damaged v) f) (sym (e.2 ∙ c.in_err-made.ensures.refused))
+    (subst (λ (w : Shown). Refuses (define_cause (definition.Rebuilding c.args.table c.args.index)) (known_by b g.B.Based.damaged w) (known_by b g.B.Based.damaged v) Memory) c.self.view_is
+    (no_memory (known_by b g.B.Based.damaged v) k.told.legal s.closed k.told.closing at.running (definition.Rebuilding c.args.table c.args.index)))))
 
 pub invariant_of-self-in_default : goal.invariant_of-self-in_default
 invariant_of-self-in_default g c = (let
@@ -144,9 +153,9 @@ returns-in_default-clause-refused g c = (let
     in let
     v : Shown = shown_of s.seat s.trail.entries s.late s.closed s.groups.items
     in let
-    p = c.in-Ok.place
+    p = c.in_ok-place.place
     in let
-    at : IsQuietPlace s.standing s.groups.items s.closed c.args.table c.args.index p = subst (λ gs. IsQuietPlace s.standing gs s.closed c.args.table c.args.index p) c.as_slice.ensures.value c.in-Ok.ensures.ok
+    at : IsQuietPlace s.standing s.groups.items s.closed c.args.table c.args.index p = subst (λ gs. IsQuietPlace s.standing gs s.closed c.args.table c.args.index p) c.as_slice.ensures.value c.in_ok-place.ensures.ok
     in
     subst (λ (es : List Entry). Refuses (define_cause (definition.Rebuilding c.args.table c.args.index)) (known_by b g.B.Based.damaged c.args.self.now) (known_by b g.B.Based.damaged (record v { entries = es })) Memory) {x = s.trail.entries} (sym c.take_entry.ensures.same)
     (subst (λ (w : Shown). Refuses (define_cause (definition.Rebuilding c.args.table c.args.index)) (known_by b g.B.Based.damaged w) (known_by b g.B.Based.damaged v) Memory) {x = v} c.self.view_is
@@ -160,9 +169,9 @@ invariant_of-self-in_default-reserve_index g c = (let
     in let
     b = g.B.Based.base
     in let
-    p = c.in-Ok.place
+    p = c.in_ok-place.place
     in let
-    at : IsQuietPlace s.standing s.groups.items s.closed c.args.table c.args.index p = subst (λ gs. IsQuietPlace s.standing gs s.closed c.args.table c.args.index p) c.as_slice.ensures.value c.in-Ok.ensures.ok
+    at : IsQuietPlace s.standing s.groups.items s.closed c.args.table c.args.index p = subst (λ gs. IsQuietPlace s.standing gs s.closed c.args.table c.args.index p) c.as_slice.ensures.value c.in_ok-place.ensures.ok
     in let
     l : p.table < length s.groups.items = place_in s.groups.items s.standing.tables k.each.stand p.table at.table.low
     in let
@@ -182,9 +191,9 @@ returns-in_default-reserve_index-clause-refused g c = (let
     in let
     v : Shown = shown_of s.seat s.trail.entries s.late s.closed s.groups.items
     in let
-    p = c.in-Ok.place
+    p = c.in_ok-place.place
     in let
-    at : IsQuietPlace s.standing s.groups.items s.closed c.args.table c.args.index p = subst (λ gs. IsQuietPlace s.standing gs s.closed c.args.table c.args.index p) c.as_slice.ensures.value c.in-Ok.ensures.ok
+    at : IsQuietPlace s.standing s.groups.items s.closed c.args.table c.args.index p = subst (λ gs. IsQuietPlace s.standing gs s.closed c.args.table c.args.index p) c.as_slice.ensures.value c.in_ok-place.ensures.ok
     in
     subst (λ (es : List Entry). Refuses (define_cause (definition.Rebuilding c.args.table c.args.index)) (known_by b g.B.Based.damaged c.args.self.now) (known_by b g.B.Based.damaged (record v { entries = es })) Memory) {x = s.trail.entries} (sym c.take_entry.ensures.same)
     (subst (λ (w : Shown). Refuses (define_cause (definition.Rebuilding c.args.table c.args.index)) (known_by b g.B.Based.damaged w) (known_by b g.B.Based.damaged v) Memory) {x = v} c.self.view_is
@@ -198,9 +207,9 @@ append-requires g c = (let
     in let
     b = g.B.Based.base
     in let
-    p = c.in-Ok.place
+    p = c.in_ok-place.place
     in let
-    at : IsQuietPlace s.standing s.groups.items s.closed c.args.table c.args.index p = subst (λ gs. IsQuietPlace s.standing gs s.closed c.args.table c.args.index p) c.as_slice.ensures.value c.in-Ok.ensures.ok
+    at : IsQuietPlace s.standing s.groups.items s.closed c.args.table c.args.index p = subst (λ gs. IsQuietPlace s.standing gs s.closed c.args.table c.args.index p) c.as_slice.ensures.value c.in_ok-place.ensures.ok
     in let
     one = some_there s.standing.indexes p.index at.low
     in let
@@ -210,7 +219,7 @@ append-requires g c = (let
     in let
     h_is : get_or s.groups.items p.table h ≡ h = sym c.index_mut.ensures.value
     in let
-    put : IsIndexToPut h.table s.standing (rebuilt c.next_stamp-stamp.result s.standing.next one.0) c.in-Ok-index_to_put.made = put_there c.index-3.result.now.table s.standing p.index one.0 one.1 c.next_stamp-stamp.result c.in-Ok-index_to_put.made c.in-Ok-index_to_put.ensures.ok h.table (ap (λ (x : Group). x.table) (same_there s.groups.items p.table c.index-3.result.now h l (sym c.index-3.ensures) h_is))
+    put : IsIndexToPut h.table s.standing (rebuilt c.next_stamp-stamp.result s.standing.next one.0) c.in_ok-made.made = put_there c.index-3.result.now.table s.standing p.index one.0 one.1 c.next_stamp-stamp.result c.in_ok-made.made c.in_ok-made.ensures.ok h.table (ap (λ (x : Group). x.table) (same_there s.groups.items p.table c.index-3.result.now h l (sym c.index-3.ensures) h_is))
     in let
     short : c.args.table.0 < 256 ^ 4 = search rules
     in let
@@ -218,17 +227,17 @@ append-requires g c = (let
     in
     record { right = subst (λ (y : Index). IsRight (standing_of s.catalog) (IndexIs y)) (sym put.item) (fits_put g.D.Disk g.met.D.Disk.told g.met.D.Disk.up_to_now b g.B.Based.damaged g.B.Founded.sound g.B.Founded.premise g.B.Founded.began s.disk s.catalog s.standing s.groups.items s.trail s.late s.closed k s.seat c.args.table c.args.index p at one.0 one.1 h h_is (rebuilt c.next_stamp-stamp.result s.standing.next one.0) refl put.right put.can (subst (λ (t : TableId). t.0 < 256 ^ 4) (sym own) short)) })
 
-pub invariant_of-self-in-Ok-append : goal.invariant_of-self-in-Ok-append
-invariant_of-self-in-Ok-append g c = (let
+pub invariant_of-self-in-Ok-entered : goal.invariant_of-self-in-Ok-entered
+invariant_of-self-in-Ok-entered g c = (let
     s = c.self.inside
     in let
     k = c.self.invariant.0
     in let
     b = g.B.Based.base
     in let
-    p = c.in-Ok.place
+    p = c.in_ok-place.place
     in let
-    at : IsQuietPlace s.standing s.groups.items s.closed c.args.table c.args.index p = subst (λ gs. IsQuietPlace s.standing gs s.closed c.args.table c.args.index p) c.as_slice.ensures.value c.in-Ok.ensures.ok
+    at : IsQuietPlace s.standing s.groups.items s.closed c.args.table c.args.index p = subst (λ gs. IsQuietPlace s.standing gs s.closed c.args.table c.args.index p) c.as_slice.ensures.value c.in_ok-place.ensures.ok
     in let
     one = some_there s.standing.indexes p.index at.low
     in let
@@ -240,31 +249,32 @@ invariant_of-self-in-Ok-append g c = (let
     in let
     above : h.last < c.next_stamp-stamp.result = (let a = c.next_stamp-stamp.ensures.above in let same = ap (λ (x : Group). x.last) (same_there s.groups.items p.table h c.index-2.result.now l h_is (sym c.index-2.ensures)) in omega (arith, a, same))
     in let
-    put : IsIndexToPut h.table s.standing (rebuilt c.next_stamp-stamp.result s.standing.next one.0) c.in-Ok-index_to_put.made = put_there c.index-3.result.now.table s.standing p.index one.0 one.1 c.next_stamp-stamp.result c.in-Ok-index_to_put.made c.in-Ok-index_to_put.ensures.ok h.table (ap (λ (x : Group). x.table) (same_there s.groups.items p.table c.index-3.result.now h l (sym c.index-3.ensures) h_is))
+    put : IsIndexToPut h.table s.standing (rebuilt c.next_stamp-stamp.result s.standing.next one.0) c.in_ok-made.made = put_there c.index-3.result.now.table s.standing p.index one.0 one.1 c.next_stamp-stamp.result c.in_ok-made.made c.in_ok-made.ensures.ok h.table (ap (λ (x : Group). x.table) (same_there s.groups.items p.table c.index-3.result.now h l (sym c.index-3.ensures) h_is))
     in let
     last_is : last_of b c.args.table.0 s.trail.entries ≡ c.index-2.result.now.last = last_of_place g.D.Disk g.met.D.Disk.told g.met.D.Disk.up_to_now b g.B.Based.damaged g.B.Founded.sound g.B.Founded.premise g.B.Founded.began s.disk s.catalog s.standing s.groups.items s.trail s.late s.closed k s.seat c.args.table c.args.index p at one.0 one.1 h h_is ∙ ap (λ (x : Group). x.last) (same_there s.groups.items p.table h c.index-2.result.now l h_is (sym c.index-2.ensures))
     in let
-    e : Entry = record { seat = s.seat; calls = c.call_count.result; act = act.IndexState c.args.table c.args.index Building c.next_stamp-stamp.result }
+    e : Entry = record { seat = s.seat; calls = g.D.Disk.calls c.append.new.disk; act = act.IndexState c.args.table c.args.index Building c.next_stamp-stamp.result }
     in (
-      rebuilding_kept g.D.Disk g.met.D.Disk.told g.met.D.Disk.up_to_now b g.B.Based.damaged g.B.Founded.sound g.B.Founded.premise g.B.Founded.began s.disk s.catalog s.standing s.groups.items s.trail s.late s.closed k s.seat c.args.table c.args.index p at one.0 one.1 h h_is c.next_stamp-stamp.result above c.next_stamp-stamp.ensures.most c.in-Ok-index_to_put.made put c.reserve_index.new.group c.reserve_index.ensures.same c.take_entry.new.trail c.take_entry.ensures.same c.in-Ok-take_entry.ensures.ok c.append.new.disk c.append.new.self c.append.ensures.counts c.append.ensures.touches c.append.ensures.any_moment c.in-Ok-append.ensures.done c.in-Ok-append.ensures.defined c.index_mut-in-Ok-append.result.now c.index_mut-in-Ok-append.ensures.value c.replace_index.new.group c.replace_index.ensures c.replace-before.new.dest c.replace-before.ensures.after c.push.new.self c.call_count.result c.call_count.ensures c.push.ensures.entries c.push.ensures.room,
+      entered_kept g.D.Disk b g.B.Founded.sound g.B.Founded.premise g.B.Founded.began c.append.new.disk c.append.new.self _ _ c.entered.new.trail s.late c.entered.new.late s.closed c.entered.new.closed _ _ c.in-Ok-entered.ensures.ok.1
+          (rebuilding_kept g.D.Disk g.met.D.Disk.told g.met.D.Disk.up_to_now b g.B.Based.damaged g.B.Founded.sound g.B.Founded.premise g.B.Founded.began s.disk s.catalog s.standing s.groups.items s.trail s.late s.closed k s.seat c.args.table c.args.index p at one.0 one.1 h h_is c.next_stamp-stamp.result above c.next_stamp-stamp.ensures.most c.in_ok-made.made put c.reserve_index.new.group c.reserve_index.ensures.same c.take_entry.new.trail c.take_entry.ensures.same c.in-Ok.ensures.ok c.append.new.disk c.append.new.self c.append.ensures.counts c.append.ensures.touches c.append.ensures.any_moment (λ h. of_ok c.append.result tt _ c.in-Ok-entered.ensures.ok.0 (c.append.ensures.done h)) (of_ok c.append.result tt _ c.in-Ok-entered.ensures.ok.0 c.append.ensures.defined) c.index_mut-in-Ok-entered.result.now c.index_mut-in-Ok-entered.ensures.value c.replace_index.new.group c.replace_index.ensures c.replace-before.new.dest c.replace-before.ensures.after c.entered.new.trail (g.D.Disk.calls c.append.new.disk) refl c.in-Ok-entered.ensures.ok.1.entries c.entered.ensures.room),
       (
         c.self.invariant.1.0,
-        drawn_by_clock g.C.Clock g.B.Founded.times b s.clock s.trail.entries c.self.invariant.1.1 c.next_stamp-stamp.new.clock c.next_stamp-stamp.ensures.rest c.push.new.self.entries e (draw c.args.table.0 c.next_stamp-stamp.result) (c.push.ensures.entries ∙ ap (λ (es : List Entry). es ++ e ∷ []) c.take_entry.ensures.same) refl
+        drawn_by_clock g.C.Clock g.B.Founded.times b s.clock s.trail.entries c.self.invariant.1.1 c.next_stamp-stamp.new.clock c.next_stamp-stamp.ensures.rest c.entered.new.trail.entries e (draw c.args.table.0 c.next_stamp-stamp.result) (c.in-Ok-entered.ensures.ok.1.entries ∙ ap (λ (es : List Entry). es ++ e ∷ []) c.take_entry.ensures.same) refl
             (λ tells. ap (λ (n : ℕ). drawn n (g.C.Clock.times s.clock 0)) last_is ∙ c.next_stamp-stamp.ensures.drawn tells),
       ),
     ))
 
-pub invariant_of-self-in-Err-append : goal.invariant_of-self-in-Err-append
-invariant_of-self-in-Err-append g c = (let
+pub invariant_of-self-in-Err : goal.invariant_of-self-in-Err
+invariant_of-self-in-Err g c = (let
     s = c.self.inside
     in let
     k = c.self.invariant.0
     in let
     b = g.B.Based.base
     in let
-    p = c.in-Ok.place
+    p = c.in_ok-place.place
     in let
-    at : IsQuietPlace s.standing s.groups.items s.closed c.args.table c.args.index p = subst (λ gs. IsQuietPlace s.standing gs s.closed c.args.table c.args.index p) c.as_slice.ensures.value c.in-Ok.ensures.ok
+    at : IsQuietPlace s.standing s.groups.items s.closed c.args.table c.args.index p = subst (λ gs. IsQuietPlace s.standing gs s.closed c.args.table c.args.index p) c.as_slice.ensures.value c.in_ok-place.ensures.ok
     in let
     one = some_there s.standing.indexes p.index at.low
     in let
@@ -276,20 +286,17 @@ invariant_of-self-in-Err-append g c = (let
     in let
     above : h.last < c.next_stamp-stamp.result = (let a = c.next_stamp-stamp.ensures.above in let same = ap (λ (x : Group). x.last) (same_there s.groups.items p.table h c.index-2.result.now l h_is (sym c.index-2.ensures)) in omega (arith, a, same))
     in let
-    put : IsIndexToPut h.table s.standing (rebuilt c.next_stamp-stamp.result s.standing.next one.0) c.in-Ok-index_to_put.made = put_there c.index-3.result.now.table s.standing p.index one.0 one.1 c.next_stamp-stamp.result c.in-Ok-index_to_put.made c.in-Ok-index_to_put.ensures.ok h.table (ap (λ (x : Group). x.table) (same_there s.groups.items p.table c.index-3.result.now h l (sym c.index-3.ensures) h_is))
-    in let
-    shut : Entry = record { seat = s.seat; calls = g.D.Disk.calls c.append.new.disk; act = act.Shut (g.D.Disk.calls c.append.new.disk) }
+    put : IsIndexToPut h.table s.standing (rebuilt c.next_stamp-stamp.result s.standing.next one.0) c.in_ok-made.made = put_there c.index-3.result.now.table s.standing p.index one.0 one.1 c.next_stamp-stamp.result c.in_ok-made.made c.in_ok-made.ensures.ok h.table (ap (λ (x : Group). x.table) (same_there s.groups.items p.table c.index-3.result.now h l (sym c.index-3.ensures) h_is))
     in (
-      rebuilding_failed g.D.Disk g.met.D.Disk.told g.met.D.Disk.up_to_now b g.B.Based.damaged g.B.Founded.sound g.B.Founded.premise g.B.Founded.began s.disk s.catalog s.standing s.groups.items s.trail s.late s.closed k s.seat c.args.table c.args.index p at one.0 one.1 h h_is c.next_stamp-stamp.result above c.next_stamp-stamp.ensures.most c.in-Ok-index_to_put.made put c.reserve_index.new.group c.reserve_index.ensures.same c.take_entry.new.trail c.take_entry.ensures.same c.in-Ok-take_entry.ensures.ok c.append.new.disk c.append.new.self c.append.ensures.counts c.append.ensures.touches c.append.ensures.any_moment c.unwritten.new.trail c.unwritten.new.late c.unwritten.new.closed c.in-Err-append.fault (λ e. c.in-Err-append.ensures.untouched (elim e [ inl x ↦ inl (ap Err x) | inr x ↦ inr (ap Err x) ])) (λ e. c.in-Err-append.ensures.failed (ap Err e)) c.unwritten.ensures.kept c.unwritten.ensures.shut c.unwritten.ensures.room,
+      rebuilding_failed g.D.Disk g.met.D.Disk.told g.met.D.Disk.up_to_now b g.B.Based.damaged g.B.Founded.sound g.B.Founded.premise g.B.Founded.began s.disk s.catalog s.standing s.groups.items s.trail s.late s.closed k s.seat c.args.table c.args.index p at one.0 one.1 h h_is c.next_stamp-stamp.result above c.next_stamp-stamp.ensures.most c.in_ok-made.made put c.reserve_index.new.group c.reserve_index.ensures.same c.take_entry.new.trail c.take_entry.ensures.same c.in-Ok.ensures.ok c.append.new.disk c.append.new.self c.append.ensures.counts c.append.ensures.touches c.append.ensures.any_moment c.entered.new.trail c.entered.new.late c.entered.new.closed c.in-Err.ensures.refused.0 (λ e. c.append.ensures.untouched (elim e [ inl x ↦ inl (c.in-Err.ensures.refused.1 ∙ ap Err x) | inr x ↦ inr (c.in-Err.ensures.refused.1 ∙ ap Err x) ])) (λ e. c.append.ensures.failed (c.in-Err.ensures.refused.1 ∙ ap Err e)) c.in-Err.ensures.refused.2.kept c.in-Err.ensures.refused.2.shut c.entered.ensures.room,
       (
         c.self.invariant.1.0,
-        unwritten_by_clock g.C.Clock g.B.Founded.times b c.next_stamp-stamp.new.clock s.trail.entries (read_by_clock g.C.Clock g.B.Founded.times b s.clock s.trail.entries c.self.invariant.1.1 c.next_stamp-stamp.new.clock c.next_stamp-stamp.ensures.rest) c.in-Err-append.fault c.unwritten.new.trail.entries shut
-            (λ n. (c.unwritten.ensures.kept n).0 ∙ c.take_entry.ensures.same) (λ e. (c.unwritten.ensures.shut e).0 ∙ ap (λ (es : List Entry). es ++ shut ∷ []) c.take_entry.ensures.same) refl,
+        unwritten_entry_by_clock g.C.Clock g.B.Founded.times b c.next_stamp-stamp.new.clock s.trail.entries (read_by_clock g.C.Clock g.B.Founded.times b s.clock s.trail.entries c.self.invariant.1.1 c.next_stamp-stamp.new.clock c.next_stamp-stamp.ensures.rest) c.take_entry.new.trail.entries c.take_entry.ensures.same c.in-Err.ensures.refused.0 _ c.entered.new.trail.entries _ _ _ _ _ c.in-Err.ensures.refused.2,
       ),
     ))
 
-pub returns-in-Ok-append-clause-ok : goal.returns-in-Ok-append-clause-ok
-returns-in-Ok-append-clause-ok g c = (let
+pub returns-in-Ok-entered-clause-ok : goal.returns-in-Ok-entered-clause-ok
+returns-in-Ok-entered-clause-ok g c = (let
     s = c.self.inside
     in let
     k = c.self.invariant.0
@@ -298,9 +305,9 @@ returns-in-Ok-append-clause-ok g c = (let
     in let
     v : Shown = shown_of s.seat s.trail.entries s.late s.closed s.groups.items
     in let
-    p = c.in-Ok.place
+    p = c.in_ok-place.place
     in let
-    at : IsQuietPlace s.standing s.groups.items s.closed c.args.table c.args.index p = subst (λ gs. IsQuietPlace s.standing gs s.closed c.args.table c.args.index p) c.as_slice.ensures.value c.in-Ok.ensures.ok
+    at : IsQuietPlace s.standing s.groups.items s.closed c.args.table c.args.index p = subst (λ gs. IsQuietPlace s.standing gs s.closed c.args.table c.args.index p) c.as_slice.ensures.value c.in_ok-place.ensures.ok
     in let
     one = some_there s.standing.indexes p.index at.low
     in let
@@ -312,17 +319,17 @@ returns-in-Ok-append-clause-ok g c = (let
     in let
     above : h.last < c.next_stamp-stamp.result = (let a = c.next_stamp-stamp.ensures.above in let same = ap (λ (x : Group). x.last) (same_there s.groups.items p.table h c.index-2.result.now l h_is (sym c.index-2.ensures)) in omega (arith, a, same))
     in let
-    put : IsIndexToPut h.table s.standing (rebuilt c.next_stamp-stamp.result s.standing.next one.0) c.in-Ok-index_to_put.made = put_there c.index-3.result.now.table s.standing p.index one.0 one.1 c.next_stamp-stamp.result c.in-Ok-index_to_put.made c.in-Ok-index_to_put.ensures.ok h.table (ap (λ (x : Group). x.table) (same_there s.groups.items p.table c.index-3.result.now h l (sym c.index-3.ensures) h_is))
+    put : IsIndexToPut h.table s.standing (rebuilt c.next_stamp-stamp.result s.standing.next one.0) c.in_ok-made.made = put_there c.index-3.result.now.table s.standing p.index one.0 one.1 c.next_stamp-stamp.result c.in_ok-made.made c.in_ok-made.ensures.ok h.table (ap (λ (x : Group). x.table) (same_there s.groups.items p.table c.index-3.result.now h l (sym c.index-3.ensures) h_is))
     in let
-    v' : Shown = record v { entries = c.push.new.self.entries }
+    v' : Shown = record v { entries = c.entered.new.trail.entries }
     in let
     m : Answered = record { number = c.args.index.0; stamp = c.next_stamp-stamp.result; at = c.len.result }
     in
     subst (λ (w : Shown). DidDefine (known_by b g.B.Based.damaged w) (known_by b g.B.Based.damaged v') (definition.Rebuilding c.args.table c.args.index) m) {x = v} c.self.view_is
-    (rebuilding_did g.D.Disk g.met.D.Disk.told g.met.D.Disk.up_to_now b g.B.Based.damaged g.B.Founded.sound g.B.Founded.premise g.B.Founded.began s.disk s.catalog s.standing s.groups.items s.trail s.late s.closed k s.seat c.args.table c.args.index p at one.0 one.1 h h_is c.next_stamp-stamp.result above c.next_stamp-stamp.ensures.most c.in-Ok-index_to_put.made put c.reserve_index.new.group c.reserve_index.ensures.same c.take_entry.new.trail c.take_entry.ensures.same c.in-Ok-take_entry.ensures.ok c.append.new.disk c.append.new.self c.append.ensures.counts c.append.ensures.touches c.append.ensures.any_moment c.in-Ok-append.ensures.done c.in-Ok-append.ensures.defined c.index_mut-in-Ok-append.result.now c.index_mut-in-Ok-append.ensures.value c.replace_index.new.group c.replace_index.ensures c.replace-before.new.dest c.replace-before.ensures.after c.push.new.self c.call_count.result c.call_count.ensures c.push.ensures.entries c.push.ensures.room c.len.result c.len.ensures))
+    (rebuilding_did g.D.Disk g.met.D.Disk.told g.met.D.Disk.up_to_now b g.B.Based.damaged g.B.Founded.sound g.B.Founded.premise g.B.Founded.began s.disk s.catalog s.standing s.groups.items s.trail s.late s.closed k s.seat c.args.table c.args.index p at one.0 one.1 h h_is c.next_stamp-stamp.result above c.next_stamp-stamp.ensures.most c.in_ok-made.made put c.reserve_index.new.group c.reserve_index.ensures.same c.take_entry.new.trail c.take_entry.ensures.same c.in-Ok.ensures.ok c.append.new.disk c.append.new.self c.append.ensures.counts c.append.ensures.touches c.append.ensures.any_moment (λ h. of_ok c.append.result tt _ c.in-Ok-entered.ensures.ok.0 (c.append.ensures.done h)) (of_ok c.append.result tt _ c.in-Ok-entered.ensures.ok.0 c.append.ensures.defined) c.index_mut-in-Ok-entered.result.now c.index_mut-in-Ok-entered.ensures.value c.replace_index.new.group c.replace_index.ensures c.replace-before.new.dest c.replace-before.ensures.after c.entered.new.trail (g.D.Disk.calls c.append.new.disk) refl c.in-Ok-entered.ensures.ok.1.entries c.entered.ensures.room c.len.result c.len.ensures))
 
-pub returns-in-Err-append-clause-refused : goal.returns-in-Err-append-clause-refused
-returns-in-Err-append-clause-refused g c = (let
+pub returns-in-Err-clause-refused : goal.returns-in-Err-clause-refused
+returns-in-Err-clause-refused g c = (let
     s = c.self.inside
     in let
     k = c.self.invariant.0
@@ -331,9 +338,9 @@ returns-in-Err-append-clause-refused g c = (let
     in let
     v : Shown = shown_of s.seat s.trail.entries s.late s.closed s.groups.items
     in let
-    p = c.in-Ok.place
+    p = c.in_ok-place.place
     in let
-    at : IsQuietPlace s.standing s.groups.items s.closed c.args.table c.args.index p = subst (λ gs. IsQuietPlace s.standing gs s.closed c.args.table c.args.index p) c.as_slice.ensures.value c.in-Ok.ensures.ok
+    at : IsQuietPlace s.standing s.groups.items s.closed c.args.table c.args.index p = subst (λ gs. IsQuietPlace s.standing gs s.closed c.args.table c.args.index p) c.as_slice.ensures.value c.in_ok-place.ensures.ok
     in let
     one = some_there s.standing.indexes p.index at.low
     in let
@@ -345,9 +352,9 @@ returns-in-Err-append-clause-refused g c = (let
     in let
     above : h.last < c.next_stamp-stamp.result = (let a = c.next_stamp-stamp.ensures.above in let same = ap (λ (x : Group). x.last) (same_there s.groups.items p.table h c.index-2.result.now l h_is (sym c.index-2.ensures)) in omega (arith, a, same))
     in let
-    put : IsIndexToPut h.table s.standing (rebuilt c.next_stamp-stamp.result s.standing.next one.0) c.in-Ok-index_to_put.made = put_there c.index-3.result.now.table s.standing p.index one.0 one.1 c.next_stamp-stamp.result c.in-Ok-index_to_put.made c.in-Ok-index_to_put.ensures.ok h.table (ap (λ (x : Group). x.table) (same_there s.groups.items p.table c.index-3.result.now h l (sym c.index-3.ensures) h_is))
+    put : IsIndexToPut h.table s.standing (rebuilt c.next_stamp-stamp.result s.standing.next one.0) c.in_ok-made.made = put_there c.index-3.result.now.table s.standing p.index one.0 one.1 c.next_stamp-stamp.result c.in_ok-made.made c.in_ok-made.ensures.ok h.table (ap (λ (x : Group). x.table) (same_there s.groups.items p.table c.index-3.result.now h l (sym c.index-3.ensures) h_is))
     in let
-    v' : Shown = record v { entries = c.unwritten.new.trail.entries; late = c.unwritten.new.late; closed = c.unwritten.new.closed }
+    v' : Shown = record v { entries = c.entered.new.trail.entries; late = c.entered.new.late; closed = c.entered.new.closed }
     in
-    subst (λ (w : Shown). Refuses (define_cause (definition.Rebuilding c.args.table c.args.index)) (known_by b g.B.Based.damaged w) (known_by b g.B.Based.damaged v') c.unwritten.result) {x = v} c.self.view_is
-    (rebuilding_refused g.D.Disk g.met.D.Disk.told g.met.D.Disk.up_to_now b g.B.Based.damaged g.B.Founded.sound g.B.Founded.premise g.B.Founded.began s.disk s.catalog s.standing s.groups.items s.trail s.late s.closed k s.seat c.args.table c.args.index p at one.0 one.1 h h_is c.next_stamp-stamp.result above c.next_stamp-stamp.ensures.most c.in-Ok-index_to_put.made put c.reserve_index.new.group c.reserve_index.ensures.same c.take_entry.new.trail c.take_entry.ensures.same c.in-Ok-take_entry.ensures.ok c.append.new.disk c.append.new.self c.append.ensures.counts c.append.ensures.touches c.append.ensures.any_moment c.unwritten.new.trail c.unwritten.new.late c.unwritten.new.closed c.in-Err-append.fault (λ e. c.in-Err-append.ensures.untouched (elim e [ inl x ↦ inl (ap Err x) | inr x ↦ inr (ap Err x) ])) (λ e. c.in-Err-append.ensures.failed (ap Err e)) c.unwritten.ensures.kept c.unwritten.ensures.shut c.unwritten.ensures.room c.unwritten.result c.unwritten.ensures.full c.unwritten.ensures.memory c.unwritten.ensures.failed))
+    subst (λ (w : Shown). Refuses (define_cause (definition.Rebuilding c.args.table c.args.index)) (known_by b g.B.Based.damaged w) (known_by b g.B.Based.damaged v') c.in-Err.fault) {x = v} c.self.view_is
+    (rebuilding_refused g.D.Disk g.met.D.Disk.told g.met.D.Disk.up_to_now b g.B.Based.damaged g.B.Founded.sound g.B.Founded.premise g.B.Founded.began s.disk s.catalog s.standing s.groups.items s.trail s.late s.closed k s.seat c.args.table c.args.index p at one.0 one.1 h h_is c.next_stamp-stamp.result above c.next_stamp-stamp.ensures.most c.in_ok-made.made put c.reserve_index.new.group c.reserve_index.ensures.same c.take_entry.new.trail c.take_entry.ensures.same c.in-Ok.ensures.ok c.append.new.disk c.append.new.self c.append.ensures.counts c.append.ensures.touches c.append.ensures.any_moment c.entered.new.trail c.entered.new.late c.entered.new.closed c.in-Err.ensures.refused.0 (λ e. c.append.ensures.untouched (elim e [ inl x ↦ inl (c.in-Err.ensures.refused.1 ∙ ap Err x) | inr x ↦ inr (c.in-Err.ensures.refused.1 ∙ ap Err x) ])) (λ e. c.append.ensures.failed (c.in-Err.ensures.refused.1 ∙ ap Err e)) c.in-Err.ensures.refused.2.kept c.in-Err.ensures.refused.2.shut c.entered.ensures.room c.in-Err.fault c.in-Err.ensures.refused.2.full c.in-Err.ensures.refused.2.memory c.in-Err.ensures.refused.2.failed))

@@ -1,4 +1,4 @@
-use Rattle.std.proofs.Common.{◌≡◌, ◌∙◌, None, Some, refl, sym, ap, subst}
+use Rattle.std.proofs.Common.{◌∙◌, Some, refl, subst}
 use Rattle.px_trail.specs.declared.entry.Act.TheVariants.{Shut}
 use Rattle.px_calls.specs.Calls.{DidWork}
 use Rattle.px_calls.specs.Causes.{Refuses, upkeep_cause}

@@ -1,4 +1,4 @@
-use Rattle.std.proofs.Common.{◌≡◌, ◌∙◌, sym, ap, subst}
+use Rattle.std.proofs.Common.{◌∙◌, sym, ap, subst}
 use Rattle.std.specs.Prelude.{IfErr, IfOk}
 use Rattle.px_calls.specs.Calls.{DidWork}
 use Rattle.px_calls.specs.Causes.{Refuses, upkeep_cause}
