@@ -9,6 +9,8 @@ mod build_stops;
 #[cfg(test)]
 mod builds;
 #[cfg(test)]
+mod chunk_stops;
+#[cfg(test)]
 mod orders;
 #[cfg(test)]
 mod queries;

@@ -1,0 +1,282 @@
+// What is run next: the texts of all sessions, and whose steps are next.
+use crate::asked::{By, text_of};
+use px_script::{Script, SessionText};
+use px_tests_runs::dice::Dice;
+use px_tests_runs::scripts::add_scn;
+use px_values::{Items, Text};
+use std::alloc::{AllocError, Global};
+
+/// The sessions that write.
+const WRITERS: u32 = 3;
+
+/// The session that asks.
+pub const LOOKER: u32 = 7;
+
+/// Whose step may be next, each as often as is likely. Two sessions make and change an index each, and the sixth flushes.
+const TURNS: [u32; 17] = [1, 1, 1, 2, 2, 2, 3, 3, 3, 4, 4, 5, 5, 6, 6, 7, 7];
+
+const LETTERS: [&str; 8] = ["NULL", "'a'", "'b'", "'c'", "'d'", "'e'", "'f'", "'g'"];
+
+/// One call beside which its session has nothing open.
+const PAUSE: &str = "SELECT ID FROM NOWHERE;\n";
+
+/// One batch of several rows.
+const TWO: &str = "!autocommit off
+UPSERT INTO T VALUES (#, $, %);
+UPSERT INTO T VALUES (#, $, %);
+!autocommit on
+";
+
+const FOUR: &str = "!autocommit off
+UPSERT INTO T VALUES (#, $, %);
+UPSERT INTO T (ID, A) VALUES (#, $);
+DELETE FROM T WHERE ID = #;
+UPSERT INTO T VALUES (#, $, %);
+!autocommit on
+";
+
+const FIVE: &str = "!autocommit off
+UPSERT INTO T (ID, B) VALUES (#, %);
+UPSERT INTO T VALUES (#, $, %);
+UPSERT INTO T VALUES (#, $, %);
+UPSERT INTO T (ID, A) VALUES (#, $);
+UPSERT INTO T VALUES (#, $, %);
+!autocommit on
+";
+
+/// Statements of writers, in which `#` stands for a key, `$` for a letter and `%` for a number.
+const CHANGES: [&str; 14] = [
+    PAUSE,
+    PAUSE,
+    PAUSE,
+    "UPSERT INTO T VALUES (#, $, %);\n",
+    "UPSERT INTO T VALUES (#, $, %);\n",
+    "UPSERT INTO T VALUES (#, $, %);\n",
+    "UPSERT INTO T (ID, A) VALUES (#, $);\n",
+    "UPSERT INTO T (ID, B) VALUES (#, %);\n",
+    "DELETE FROM T WHERE ID = #;\n",
+    "DELETE FROM T WHERE ID IN (#, #, #);\n",
+    "DELETE FROM T WHERE A = $ AND B = %;\n",
+    TWO,
+    FOUR,
+    FIVE,
+];
+
+/// Statements on the first index, and on the second.
+const FIRST: [&str; 8] = [
+    "CREATE INDEX IF NOT EXISTS T_A ON T (A) INCLUDE (B);\n",
+    "CREATE INDEX IF NOT EXISTS T_A ON T (A) INCLUDE (B);\n",
+    "CREATE INDEX IF NOT EXISTS T_A ON T (A) INCLUDE (B);\n",
+    "ALTER INDEX T_A ON T REBUILD;\n",
+    "ALTER INDEX T_A ON T REBUILD;\n",
+    "ALTER INDEX T_A ON T REBUILD;\n",
+    "ALTER INDEX T_A ON T DISABLE;\n",
+    "DROP INDEX IF EXISTS T_A ON T;\n",
+];
+
+const SECOND: [&str; 8] = [
+    "CREATE INDEX IF NOT EXISTS T_B ON T (B DESC);\n",
+    "CREATE INDEX IF NOT EXISTS T_B ON T (B DESC);\n",
+    "CREATE INDEX IF NOT EXISTS T_B ON T (B DESC);\n",
+    "ALTER INDEX T_B ON T REBUILD;\n",
+    "ALTER INDEX T_B ON T REBUILD;\n",
+    "ALTER INDEX T_B ON T REBUILD;\n",
+    "ALTER INDEX T_B ON T DISABLE;\n",
+    "DROP INDEX IF EXISTS T_B ON T;\n",
+];
+
+const FLUSHES: [&str; 3] = [PAUSE, "!flush\n", "!flush\n"];
+
+/// The texts of all sessions, whose steps are next, and by which paths the session asks that only reads.
+#[derive(Drop)]
+pub struct Plan {
+    pub script: Script,
+    pub schedule: Vec<u32>,
+    pub asked: Vec<By>,
+}
+
+/// One of some words.
+fn word(dice: &mut Dice, words: &[&'static str]) -> &'static str {
+    match words.get(dice.place(words.len())) {
+        Some(word) => *word,
+        None => "",
+    }
+}
+
+/// Adds a number from 1 to another.
+fn add_number(text: &mut String, dice: &mut Dice, most: u32) -> Result<(), AllocError> {
+    let mut digits = itoa::Buffer::new();
+    text.push_str(digits.format(dice.below(most).saturating_add(1)))
+}
+
+/// Adds a letter of a statement, or what it stands for.
+fn add_letter(
+    text: &mut String,
+    dice: &mut Dice,
+    keys: u32,
+    letter: char,
+) -> Result<(), AllocError> {
+    match letter {
+        '#' => add_number(text, dice, keys),
+        '$' => text.push_str(word(dice, &LETTERS)),
+        '%' => add_number(text, dice, 9),
+        _ => text.push(letter),
+    }
+}
+
+fn add_statement(
+    text: &mut String,
+    dice: &mut Dice,
+    keys: u32,
+    statement: &str,
+) -> Result<(), AllocError> {
+    for letter in statement.chars() {
+        add_letter(text, dice, keys, letter)?;
+    }
+    Ok(())
+}
+
+/// The text that makes a table with rows of the first so many keys.
+pub fn set_up(alloc: Global, dice: &mut Dice, rows: u32) -> Result<String, AllocError> {
+    let mut text = String::from_str(
+        alloc,
+        "CREATE TABLE T (ID BIGINT NOT NULL PRIMARY KEY, A VARCHAR, B INTEGER);\n!autocommit off\n",
+    )?;
+    for row in 0..rows {
+        let mut digits = itoa::Buffer::new();
+        text.push_str("UPSERT INTO T VALUES (")?;
+        text.push_str(digits.format(row.saturating_add(1)))?;
+        add_statement(&mut text, dice, rows, ", $, %);\n")?;
+    }
+    text.push_str("!commit\n!flush\n")?;
+    Ok(text)
+}
+
+/// So many of some statements.
+fn statements(
+    alloc: Global,
+    dice: &mut Dice,
+    keys: u32,
+    words: &[&'static str],
+    count: u32,
+) -> Result<String, AllocError> {
+    let mut text = String::new(alloc);
+    for _ in 0..count {
+        let statement = word(dice, words);
+        add_statement(&mut text, dice, keys, statement)?;
+    }
+    Ok(text)
+}
+
+/// Adds an SCN up to some stamps behind the last one, or none.
+fn add_random_scn(text: &mut String, dice: &mut Dice, last: u64) -> Result<(), AllocError> {
+    if dice.below(3) == 0 {
+        return text.push_str("!scn off\n");
+    }
+    let back = u64::from(dice.below(24));
+    add_scn(text, last.saturating_add(18).saturating_sub(back).max(1))
+}
+
+/// Queries, each behind an SCN or none.
+fn looks(
+    alloc: Global,
+    dice: &mut Dice,
+    last: u64,
+    asked: &mut Vec<By>,
+    count: u32,
+) -> Result<String, AllocError> {
+    let mut text = String::new(alloc);
+    for _ in 0..count {
+        add_random_scn(&mut text, dice, last)?;
+        let by = if dice.below(2) == 0 {
+            By::Letter
+        } else {
+            By::Number
+        };
+        text.push_str(text_of(by))?;
+        asked.push(by)?;
+    }
+    Ok(text)
+}
+
+/// How many steps a session makes in a row: now and then a statement's, so that nothing is open behind it, or a query's, so that nobody acts beside it.
+fn streak(dice: &mut Dice, session: u32) -> u32 {
+    match (session, dice.below(8)) {
+        (LOOKER, 0..=2) => 30,
+        (1..=3, 0) => 9,
+        (4..=5, 0) => 4,
+        _ => 1,
+    }
+}
+
+fn add_streak(schedule: &mut Vec<u32>, session: u32, count: u32) -> Result<(), AllocError> {
+    for _ in 0..count {
+        schedule.push(session)?;
+    }
+    Ok(())
+}
+
+/// Random steps. In half of the runs an index is made or changed before the others begin.
+fn turns(alloc: Global, dice: &mut Dice, count: u32) -> Result<Vec<u32>, AllocError> {
+    let mut schedule = Vec::new(alloc);
+    let first = dice.below(4);
+    if first < 2 {
+        add_streak(&mut schedule, first + 4, 3)?;
+    }
+    for _ in 0..count {
+        let session = match TURNS.get(dice.place(TURNS.len())) {
+            Some(session) => *session,
+            None => 0,
+        };
+        let steps = streak(dice, session);
+        add_streak(&mut schedule, session, steps)?;
+    }
+    Ok(schedule)
+}
+
+fn add_session(texts: &mut Vec<SessionText>, session: u32, text: String) -> Result<(), AllocError> {
+    texts.push(SessionText {
+        session,
+        text: Text::of(text),
+    })?;
+    Ok(())
+}
+
+/// The texts of the sessions that change rows, indexes and files.
+fn changes(alloc: Global, dice: &mut Dice, keys: u32) -> Result<Vec<SessionText>, AllocError> {
+    let mut texts = Vec::new(alloc);
+    for place in 0..WRITERS {
+        let count = dice.below(6).saturating_add(4);
+        let text = statements(alloc, dice, keys, &CHANGES, count)?;
+        add_session(&mut texts, place.saturating_add(1), text)?;
+    }
+    let first = statements(alloc, dice, keys, &FIRST, 3)?;
+    add_session(&mut texts, 4, first)?;
+    let second = statements(alloc, dice, keys, &SECOND, 3)?;
+    add_session(&mut texts, 5, second)?;
+    let flushes = statements(alloc, dice, keys, &FLUSHES, 8)?;
+    add_session(&mut texts, 6, flushes)?;
+    Ok(texts)
+}
+
+/// A plan of so many turns, for rows of so many keys and stamps behind the last one.
+pub fn planned(
+    alloc: Global,
+    dice: &mut Dice,
+    keys: u32,
+    last: u64,
+    count: u32,
+) -> Result<Plan, AllocError> {
+    let mut asked = Vec::new(alloc);
+    let mut texts = changes(alloc, dice, keys)?;
+    let text = looks(alloc, dice, last, &mut asked, 6)?;
+    add_session(&mut texts, LOOKER, text)?;
+    let schedule = turns(alloc, dice, count)?;
+    let mut rounds = Vec::new(alloc);
+    rounds.push(Items::of(texts))?;
+    Ok(Plan {
+        script: Items::of(rounds),
+        schedule,
+        asked,
+    })
+}
