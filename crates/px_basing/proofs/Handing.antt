@@ -1,11 +1,10 @@
 -- Room that is refused, and what became of the table.
-use Rattle.std.proofs.Common.{◌≡◌, ◌≢◌, ℕ, ◌≤◌, Result, Ok, Err, Some, List, [], ◌∷◌, length, ap, ◌∙◌, subst, inl, inr, arith}
+use Rattle.std.proofs.Common.{◌≡◌, ◌≢◌, ℕ, ◌≤◌, Result, Ok, Err, Some, List, [], ◌∷◌, length, ap, ◌∙◌, subst, arith}
 use Rattle.std.specs.Prelude.{min, slice_get}
 use Rattle.px_outside.specs.declared.disk.Disk.{Ghosts}
 use Rattle.px_cells.specs.CellData.{CellData}
 use Rattle.px_cellbytes.specs.Spelling.{all_bytes}
 use Rattle.px_keptcells.specs.Kept.{laid}
-use Rattle.px_region.specs.Promise.{HasRoom, PassesLimit}
 use Rattle.px_region.specs.declared.region.Region.{Region}
 use Rattle.px_indexrow.specs.Form.{index_form}
 use Rattle.px_baserows.specs.Rows.{base_parts}
@@ -16,6 +15,8 @@ use Rattle.px_batching.proofs.Places.{same_at}
 use Rattle.px_reading.specs.Looked.{HasLooked, IsLookedAt}
 use Rattle.px_reading.proofs.Looked.{no_look, no_looks}
 use Rattle.px_repairs.specs.Repairs.{HasStayed, IsRegionStep}
+use Rattle.px_repairs.specs.declared.repairing.RepairFault.TheVariants as repair
+use Rattle.px_repairs.proofs.Refusing as refusing
 use Rattle.px_basing.specs.Basing.{Bases, WroteBases, Written, cells_at}
 use Rattle.px_basing.specs.Refused.{IsRefused, IsRefusedFor}
 use Rattle.px_basing.specs.declared.fault.BaseFault.{BaseFault}
@@ -23,30 +24,15 @@ use Rattle.px_basing.specs.declared.fault.BaseFault.TheVariants.{Busy, NotReady,
 
 -- ---- room
 
--- what is refused for fewer is refused for more
-more_passes : (region : Region) (c n c' n' : ℕ) → c ≤ c' → n ≤ n' → PassesLimit region c n → PassesLimit region c' n'
-more_passes region c n c' n' l m (inl p) = inl (omega (arith, l, p))
-more_passes region c n c' n' l m (inr p) = inr (omega (arith, m, p))
-
-more_room : (region : Region) (c n c' n' : ℕ) → c ≤ c' → n ≤ n' → HasRoom region c' n' → HasRoom region c n
-more_room region c n c' n' l m r = ((let a = r.0 in omega (arith, l, a)), (let b = r.1 in omega (arith, l, m, b)))
-
-refused_more : (region : Region) (c n c' n' : ℕ) → c ≤ c' → n ≤ n' → (fault : BaseFault) → IsRefused region c n fault → IsRefused region c' n' fault
-refused_more region c n c' n' l m (NotReady number) (is, inl r) = (is, inl r)
-refused_more region c n c' n' l m (NotReady number) (is, inr r) = (is, inr (λ h. r (more_room region c n c' n' l m h)))
-refused_more region c n c' n' l m (Busy number a b) r = (r.0, (r.1.0, more_passes region c n c' n' l m r.1.1, r.1.2, r.1.3))
-refused_more region c n c' n' l m WriteFault r = tt
-refused_more region c n c' n' l m Memory r = tt
-
 pub err_same : {A : Type 0} (a b : BaseFault) → ◌≡◌ {A = Result A BaseFault} (Err a) (Err b) → a ≡ b
 err_same a b e = cc
 
-min_less : (n m : ℕ) → m ≡ min n 18446744073709551615 → m ≤ n
-min_less n m e = omega (arith, e)
-
 -- counts that stand still at their type's end
 pub refused_for : (region : Region) (cells : List CellData) (c n : ℕ) → c ≡ min (length cells) 18446744073709551615 → n ≡ min (length (all_bytes cells)) 18446744073709551615 → (fault : BaseFault) → IsRefused region c n fault → IsRefusedFor region cells fault
-refused_for region cells c n a b fault r = refused_more region c n (length cells) (length (all_bytes cells)) (min_less (length cells) c a) (min_less (length (all_bytes cells)) n b) fault r
+refused_for region cells c n a b (NotReady number) r = (r.0, refusing.refused_for region cells c n a b repair.NotReady r.1)
+refused_for region cells c n a b (Busy number had had_bytes) r = (r.0, refusing.refused_for region cells c n a b (repair.Busy had had_bytes) r.1)
+refused_for region cells c n a b WriteFault r = tt
+refused_for region cells c n a b Memory r = tt
 
 -- ---- the cells
 

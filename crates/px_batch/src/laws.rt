@@ -1,14 +1,16 @@
 //! How a batch under way goes on, whoever makes its steps.
-ghost use Rattle.std.specs.Prelude.{◌≡◌, ℕ, List, Result};
+ghost use Rattle.std.specs.Prelude.{◌≡◌, ◌≤◌, ◌+◌, ◌*◌, ℕ, List, Result};
 ghost use Rattle.px_values.specs.declared.change.Change.{Change as RowChange};
 ghost use Rattle.px_values.specs.declared.name.TableId.{TableId as TableNumber};
 ghost use Rattle.px_calls.specs.declared.ticket.Receipt.{Receipt as Receipts};
+ghost use Rattle.px_calls.specs.declared.ticket.Ticket.{Ticket as Tickets};
 ghost use Rattle.px_calls.specs.Known.{Known, Passes};
 ghost use Rattle.px_calls.specs.Requires.{AreFitting};
 ghost use Rattle.px_batch.specs.declared.batch.BatchFault.{BatchFault as Faults};
 ghost use Rattle.px_batch.specs.declared.batch.BatchState.{BatchState as States};
 ghost use Rattle.px_batch.specs.declared.batch.BatchState.TheVariants.{Beginning};
 ghost use Rattle.px_batch.specs.declared.batch.BatchTurn.TheVariants.{Stepped, Waiting, Over};
+ghost use Rattle.px_batch.specs.Bounds.{AreSpending, Step, counted_in};
 ghost use Rattle.px_batch.specs.Turns.{Fits, RanBatch, SoFar, Turns};
 
 use px_calls::Steps;
@@ -20,4 +22,10 @@ pub fn law_turns<S: Steps>()
     ensures steps { (table : TableNumber) → (cs : List RowChange) → (k0 : Known) → (k : Known) → (k' : Known) → (old : States) → (new : States) → SoFar table cs k0 k old → Turns S.sound table cs old k new k' Stepped → SoFar table cs k0 k' new }
     ensures waits { (table : TableNumber) → (cs : List RowChange) → (k0 : Known) → (k : Known) → (k' : Known) → (old : States) → (new : States) → (stamp : ℕ) → SoFar table cs k0 k old → Turns S.sound table cs old k new k' (Waiting stamp) → SoFar table cs k0 k' new }
     ensures ends { (table : TableNumber) → (cs : List RowChange) → (k0 : Known) → (k : Known) → (k' : Known) → (old : States) → (new : States) → (r : Result Receipts Faults) → SoFar table cs k0 k old → Turns S.sound table cs old k new k' (Over r) → RanBatch S.sound table cs k0 k' r }
+{}
+
+/// A batch on a table of n indexes makes at most 6 + 2 n steps where nobody else acts, but those of upkeep, those that wait, and beginnings that are
+/// refused until upkeep is idle: 22 on a table of eight indexes, the most that CREATE INDEX makes.
+pub fn law_bound()
+    ensures { (n : ℕ) → (left : Tickets → ℕ) → (os : List Step) → AreSpending n left Beginning os → counted_in Beginning os ≤ 6 + 2 * n }
 {}

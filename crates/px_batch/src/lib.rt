@@ -11,5 +11,5 @@ mod laws;
 mod run;
 
 pub use batch::{BatchFault, BatchState, BatchTurn};
-pub use laws::law_turns;
+pub use laws::{law_bound, law_turns};
 pub use run::{BatchRun, run_batch};

@@ -7,7 +7,6 @@
 
 mod admitting;
 mod cells;
-mod copying;
 mod fault;
 mod laws;
 mod pending;
@@ -17,7 +16,6 @@ mod rooms;
 mod rows;
 
 pub use admitting::admit;
-pub use copying::copied;
 pub use fault::BeginFault;
 pub use laws::{law_begins, law_leaves, law_reads};
 pub use preparing::{Prepared, prepare};

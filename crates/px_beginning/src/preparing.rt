@@ -17,11 +17,11 @@ ghost use Rattle.px_beginning.specs.Reads.{forms_in};
 ghost use Rattle.px_beginning.specs.Rooms.{AreRoomsOf, HasManyBytes, HasManyCells, MakesTooMuch};
 
 use crate::cells::{closes_of_indexes, marks_of_indexes};
-use crate::copying::{copied, copied_rows};
 use crate::pending::flags_of;
 use crate::rooms::{limit_of, room_of, rooms_of};
 use crate::rows::{row_keys, transitions_of};
 use crate::{BeginFault, Room};
+use px_copying::{copied, copied_rows};
 use px_group::{Begun, Group};
 use px_keptcells::KeptCells;
 use px_outside::Disk;
@@ -175,7 +175,7 @@ fn batch_of(
     ensures { IfOk result (λ b. b ≡ record { stamp = stamp; changes = changes.now; met = map (is_left_in (map batch_in batches.now)) (rows_of changes.now); marks = made.marks.items; puts = Some made.puts; closes = made.closes.items }) }
 {
     let met = flags_of(alloc, changes.as_slice(), batches)?;
-    let own = copied(alloc, changes)?;
+    let own = copied(alloc, changes.as_slice())?;
     let MadeCells {
         marks,
         puts,

@@ -4,12 +4,12 @@
 #![tactic(auto)]
 
 use px_calls::{FoundKey, FoundRow};
-use px_entries::{can_stand, parts_of};
-use px_keys::{KeyColumn, encode_key};
+use px_entries::key_on;
+use px_keys::KeyColumn;
 use px_paths::PathColumn;
 use px_tables::TableColumn;
 use px_upkeep::base_pieces;
-use px_values::{ColType, Direction, Items, Key, Name, Text, Value};
+use px_values::{ColType, Direction, Items, Name, Text, Value};
 use std::alloc::{AllocError, Global};
 use std::rt::Runtime;
 use std::thread::Threads;
@@ -44,19 +44,6 @@ fn path_column(place: u8, ty: ColType) -> PathColumn {
     }
 }
 
-// The key of a row, where it has one.
-fn key_of(alloc: Global, path: &[PathColumn], row: &[Value]) -> Result<Option<Key>, AllocError> {
-    let null = Value::Null;
-    let parts = parts_of(alloc, path, row, &null)?;
-    if !can_stand(&parts) {
-        return Ok(None);
-    }
-    match encode_key(alloc, &parts) {
-        Ok(key) => Ok(Some(key)),
-        Err(_) => Ok(None),
-    }
-}
-
 // The row with this number: its number, a text that sorts otherwise than it, and a small number.
 fn row_of(alloc: Global, number: u64) -> Result<Vec<Value>, AllocError> {
     let mut digits = itoa::Buffer::new();
@@ -78,7 +65,7 @@ fn chunk(
     let mut found = Vec::new(alloc);
     for number in first..end.min(first.saturating_add(CHUNK)) {
         let row = row_of(alloc, number)?;
-        match key_of(alloc, path, &row)? {
+        match key_on(alloc, path, &row)? {
             Some(key) => found.push(FoundKey::Sure(FoundRow {
                 key,
                 row: Items::of(row),

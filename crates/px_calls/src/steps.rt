@@ -1,10 +1,14 @@
 // The steps.
-ghost use Rattle.std.specs.Prelude.{◌≡◌, ◌≢◌, length, IfOk, IfErr, IsSome, true, [], ◌<◌, ◌≤◌};
+ghost use Rattle.std.specs.Prelude.{◌≡◌, ◌≢◌, ℕ, length, IfOk, IfErr, IsSome, true, [], ◌<◌, ◌≤◌, ◌+◌, ◌*◌};
 ghost use Rattle.px_trail.specs.Batches.{Marking, Writing, Verifying, is_distinct, rows_of};
 ghost use Rattle.px_trail.specs.declared.entry.Act.TheVariants.{Ended, Released};
+ghost use Rattle.px_values.specs.declared.name.IndexId.{IndexId as IndexNumber};
+ghost use Rattle.px_calls.specs.declared.query.By.TheVariants.{Index as ByIndex, Table as ByTable};
+ghost use Rattle.px_calls.specs.declared.ticket.Ticket.{Ticket as Tickets};
+ghost use Rattle.px_calls.specs.Counts.{HasRisenBy};
 ghost use Rattle.px_calls.specs.Known.{Known, Sees, Adds};
 ghost use Rattle.px_calls.specs.Requires.{AreFitting, CanAbandon, CanConsult, CanDefine, CanEnd, CanLook, IsOpen, IsScn, MayBase, TicketIn};
-ghost use Rattle.px_calls.specs.Causes.{Refuses, base_cause, begin_cause, define_cause, find_cause, fix_cause, open_cause, order_cause, read_cause, rows_cause, status_cause, upkeep_cause, write_cause};
+ghost use Rattle.px_calls.specs.Causes.{Refuses, base_cause, begin_cause, define_cause, find_cause, fix_cause, indexes_of, open_cause, order_cause, read_cause, rows_cause, status_cause, upkeep_cause, write_cause};
 ghost use Rattle.px_calls.specs.Calls.{DidBase, DidBegin, DidConsult, DidCount, DidDefine, DidFind, DidFix, DidLook, DidMark, DidOpen, DidOrder, DidVerify, DidWork, DidWrite, IsIdle, IsReceipt};
 
 use crate::definition::{Definition, Made};
@@ -24,6 +28,12 @@ pub trait Steps {
     /// That one call leads from the first to the second. Nothing more is told of it, so code over any steps can say it only where it makes exactly one
     /// call; what counts its calls says by it that one more was made.
     ghost one_call: { Self → Self → Type 0 };
+
+    /// How many calls are left at most to a batch before it may end, where nobody else acts and no call of it is refused.
+    ghost left: { Self → Tickets → ℕ };
+
+    /// How many rows of tables were looked at, where nobody else acts.
+    ghost looked: { Self → ℕ };
 
     /// That what was opened is sound. What is told of rows and index rows rests on it; what is told of the trail doesn't.
     ghost sound: { Type 0 };
@@ -55,6 +65,7 @@ pub trait Steps {
         requires fits { AreFitting (known self.old) table.0 changes.now }
         ensures one_call { one_call self.old self.new }
         ensures ok { IfOk result (DidBegin sound (known self.old) (known self.new) table changes.now) }
+        ensures few { IfOk result (λ t. (known self.old).alone ≡ true → left self.new t ≤ 3 + 2 * indexes_of (known self.new) table.0) }
         ensures refused { IfErr result (Refuses (begin_cause sound table.0 changes.now) (known self.old) (known self.new)) };
 
     /// Phase 1 on one region: marks the batch's index rows. It takes no memory.
@@ -63,6 +74,7 @@ pub trait Steps {
         ensures one_call { one_call self.old self.new }
         ensures ticket { t.new ≡ t.old }
         ensures ok { IfOk result (DidMark (known self.old) (known self.new) t.old) }
+        ensures fewer { IfOk result (λ _. (known self.old).alone ≡ true → left self.new t.old < left self.old t.old) }
         ensures refused { IfErr result (Refuses write_cause (known self.old) (known self.new)) };
 
     /// Phase 2 on one region: writes rows, each once no earlier batch is pending on it. It takes no memory.
@@ -71,6 +83,8 @@ pub trait Steps {
         ensures one_call { one_call self.old self.new }
         ensures ticket { t.new ≡ t.old }
         ensures ok { IfOk result (DidWrite (known self.old) (known self.new) t.old) }
+        ensures fewer { IfOk result (λ _. (known self.old).alone ≡ true → left self.new t.old < left self.old t.old) }
+        ensures no_more { IfErr result (λ f. (known self.old).alone ≡ true → (stamp : ℕ) → f ≡ StepFault.NotYet stamp → left self.new t.old ≤ left self.old t.old) }
         ensures refused { IfErr result (Refuses (rows_cause t.old.table.0 t.old.stamp) (known self.old) (known self.new)) };
 
     /// Phase 3 on one region: verifies the index rows of rows that no other batch changed. It takes no memory.
@@ -79,6 +93,7 @@ pub trait Steps {
         ensures one_call { one_call self.old self.new }
         ensures ticket { t.new ≡ t.old }
         ensures ok { IfOk result (DidVerify (known self.old) (known self.new) t.old) }
+        ensures fewer { IfOk result (λ _. (known self.old).alone ≡ true → left self.new t.old < left self.old t.old) }
         ensures refused { IfErr result (Refuses write_cause (known self.old) (known self.new)) };
 
     /// Ends the batch. It takes no memory.
@@ -99,14 +114,18 @@ pub trait Steps {
         requires { IsScn scn }
         ensures one_call { one_call self.old self.new }
         ensures ok { IfOk result (DidOpen (known self.old) (known self.new) table scn) }
+        ensures unlooked { (known self.old).alone ≡ true → looked self.new ≡ looked self.old }
         ensures refused { IfErr result (Refuses (open_cause table.0 scn) (known self.old) (known self.new)) };
 
-    /// The next keys of the path past `after`.
+    /// The next keys of the path past `after`. By an index no row is looked at; by the table's own keys at least each row that is given, up to the
+    /// count's last value.
     fn look(&mut self, p: &Point, path: &Path, after: &Option<Key>) -> Result<Chunk, StepFault>
         requires open { IsOpen (known self.old) p.now }
         requires path { CanLook p.now path.now }
         ensures one_call { one_call self.old self.new }
         ensures ok { IfOk result (DidLook sound (known self.old) (known self.new) p.now path.now after.now) }
+        ensures unlooked { (known self.old).alone ≡ true → (i : IndexNumber) → path.now.by ≡ ByIndex i → looked self.new ≡ looked self.old }
+        ensures looked_each { IfOk result (λ c. (known self.old).alone ≡ true → path.now.by ≡ ByTable → HasRisenBy (length c.found) (looked self.old) (looked self.new)) }
         ensures refused { IfErr result (Refuses read_cause (known self.old) (known self.new)) };
 
     /// The row of a doubt at the point, where its key is the doubt's. Leaves a verdict in the doubt.
@@ -116,6 +135,7 @@ pub trait Steps {
         ensures one_call { one_call self.old self.new }
         ensures ok { IfOk result (DidConsult sound (known self.old) (known self.new) p.now d.old d.new) }
         ensures same { IfErr result (λ f. d.new ≡ d.old) }
+        ensures looked_once { (known self.old).alone ≡ true → looked self.new ≤ looked self.old + 1 }
         ensures refused { IfErr result (Refuses read_cause (known self.old) (known self.new)) };
 
     /// Repairs the index row of a doubt, by a verdict of its own. It may come after the point is closed.
@@ -123,6 +143,7 @@ pub trait Steps {
         requires { IsSome d.now.verdict }
         ensures one_call { one_call self.old self.new }
         ensures ok { IfOk result (DidFix (known self.old) (known self.new) d.now) }
+        ensures looked_once { (known self.old).alone ≡ true → looked self.new ≤ looked self.old + 1 }
         ensures refused { IfErr result (Refuses fix_cause (known self.old) (known self.new)) };
 
     /// Gives rows of the point their base versions in an index that was born there: verified ones, at its birth.
@@ -139,6 +160,7 @@ pub trait Steps {
     fn close_point(&mut self, p: Point)
         requires { IsOpen (known self.old) p }
         ensures one_call { one_call self.old self.new }
+        ensures unlooked { (known self.old).alone ≡ true → looked self.new ≡ looked self.old }
         ensures adds { Adds (known self.old) (known self.new) (Released p.table p.stamp) };
 
     /// Asks for what upkeep is to do before it is due, of each region of each table that stands. It makes no step of it, adds nothing to the trail and
@@ -153,6 +175,7 @@ pub trait Steps {
     fn upkeep(&mut self) -> Result<Work, StepFault>
         ensures one_call { one_call self.old self.new }
         ensures ok { IfOk result (DidWork (known self.old) (known self.new)) }
+        ensures unlooked { (known self.old).alone ≡ true → looked self.new ≡ looked self.old }
         ensures done { IfOk result (λ work. IsIdle work → done self.new) }
         ensures refused { IfErr result (Refuses upkeep_cause (known self.old) (known self.new)) };
 

@@ -5,8 +5,8 @@ ghost use Rattle.px_trail.specs.Trail.{table_shape};
 ghost use Rattle.px_held.specs.Held.{AreTooMany, with_changes};
 ghost use Rattle.px_held.specs.HeldData as spec;
 
-use crate::copying::copied;
 use crate::holding::{HoldFault, hold, hold_each};
+use px_copying::copied;
 use px_tables::Table;
 use px_values::{Change, Changes, Name, TableId};
 use std::alloc::{AllocError, Global};

@@ -6,7 +6,6 @@
 #![tactic(auto)]
 
 mod changes;
-mod copying;
 mod holding;
 mod laws;
 mod merging;

@@ -134,7 +134,7 @@ pub fn fix(
         Repair::Leave => Ok(Cells::new(alloc)),
         Repair::Verify => {
             match state {
-                Some(row) if stamp <= horizon => version(
+                Some(row) if stamp <= horizon => version_at(
                     alloc,
                     table,
                     index,
@@ -199,7 +199,7 @@ fn version_if(
     ensures { IfOk result (λ cells. cells ≡ version_cells_of (index_form table.now index.now) stamp byte state.now key.now) }
 {
     match (key, state) {
-        (Some(key), Some(state)) => version(
+        (Some(key), Some(state)) => version_at(
             alloc,
             table,
             index,
@@ -212,8 +212,8 @@ fn version_if(
     }
 }
 
-/// A version: its status, and a cell for each included column.
-fn version(
+/// A version of a row's state at a key: its status, and a cell for each included column.
+pub fn version_at(
     alloc: Global,
     table: &Table,
     index: &Index,

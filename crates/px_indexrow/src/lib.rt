@@ -10,7 +10,7 @@ mod doubt;
 mod keys;
 mod laws;
 
-pub use cells::{UNVERIFIED, VERIFIED, base, closes, fix, marks};
+pub use cells::{UNVERIFIED, VERIFIED, base, closes, fix, marks, version_at};
 pub use doubt::{ChangeFate, Repair, Told, Version, verdict};
 pub use keys::index_key;
 pub use laws::{law_batches, law_index};

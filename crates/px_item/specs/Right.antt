@@ -639,10 +639,11 @@ Adds t o c o' (Ok u) = HoldsNow t c o o'
 Adds t o c o' (Err unheld.Rows) = (o' ≡ o) × IsFullOf t c o
 Adds t o c o' (Err unheld.Memory) = o' ≡ o
 
-abbrev pub held_reply : Result (Unit {0}) HoldFault → Reply
-held_reply (Ok u) = reply.Count 1 Held
-held_reply (Err unheld.Rows) = reply.Refused (refusal.Limit bound.Rows)
-held_reply (Err unheld.Memory) = reply.Refused refusal.Memory
+-- what is told of so many rows that are held, or aren't
+abbrev pub held_reply : ℕ → Result (Unit {0}) HoldFault → Reply
+held_reply rows (Ok u) = reply.Count rows Held
+held_reply rows (Err unheld.Rows) = reply.Refused (refusal.Limit bound.Rows)
+held_reply rows (Err unheld.Memory) = reply.Refused refusal.Memory
 
 -- what is told of the plan of a query
 abbrev pub IsExplanation : Found → Option ℕ → Query → Reply → Type 0

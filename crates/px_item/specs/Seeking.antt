@@ -63,11 +63,6 @@ AddsRows t o cs o' (Ok u) = (o' ≡ held_with t o cs) × (length (with_changes (
 AddsRows t o cs o' (Err unheld.Rows) = (o' ≡ o) × (1000 < length (with_changes (table_shape t) (changes_in o) cs))
 AddsRows t o cs o' (Err unheld.Memory) = o' ≡ o
 
-abbrev pub rows_reply : ℕ → Result (Unit {0}) HoldFault → Reply
-rows_reply n (Ok u) = reply.Count n Held
-rows_reply n (Err unheld.Rows) = reply.Refused (refusal.Limit bound.Rows)
-rows_reply n (Err unheld.Memory) = reply.Refused refusal.Memory
-
 -- what is told of these removals of rows of the table
 abbrev pub KeepsRows : Asked → Table → List Change → Answered → Type 0
 KeepsRows asked t cs a = (a.first ≡ asked.first) × (Refuses a refusal.Memory asked.settings ⊎ (((st' : Settings) × IsHoldingAll t cs asked.settings st' × Says a (reply.Count (length cs) Held) st') ⊎ (AreTooManyOf t cs asked.settings × Refuses a (refusal.Limit bound.Rows) asked.settings)))

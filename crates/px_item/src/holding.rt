@@ -54,13 +54,13 @@ fn added(
     }
 }
 
-/// What is told of a row that is held, or isn't.
-fn held_reply(came: Result<(), HoldFault>) -> Reply
-    ensures { result ≡ spec.held_reply came }
+/// What is told of so many rows that are held, or aren't.
+pub(crate) fn held_reply(rows: u64, came: Result<(), HoldFault>) -> Reply
+    ensures { result ≡ spec.held_reply rows came }
 {
     match came {
         Ok(()) => Reply::Count {
-            rows: 1,
+            rows,
             word: CountWord::Held,
         },
         Err(HoldFault::Rows) => Reply::Refused(Refusal::Limit(Limit::Rows)),
@@ -96,7 +96,7 @@ fn keep<'a>(alloc: Global, asked: Asked<'a>, table: &Table, change: Change) -> I
         autocommit,
         held,
     };
-    ItemTurn::Over(told(alloc, held_reply(came), first, after))
+    ItemTurn::Over(told(alloc, held_reply(1, came), first, after))
 }
 
 /// Goes on with an UPSERT whose table was found, where changes are held. It makes no call.

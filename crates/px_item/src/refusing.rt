@@ -184,15 +184,7 @@ pub(crate) fn unfound(alloc: Global, statement: &Statement, fault: StepFault) ->
 pub(crate) fn unchanged(alloc: Global, statement: &Statement, fault: BatchFault) -> Reply
     ensures { (result ≡ Refused (spec.batch_refusal (spec.table_named statement.now) fault)) ⊎ ((result ≡ Refused Memory) × (fault ≡ BatchFault.NoTable)) }
 {
-    match fault {
-        BatchFault::NoTable => no_table(alloc, table_named(statement)),
-        BatchFault::Limit { which, count: _ } => Reply::Refused(Refusal::Limit(which)),
-        BatchFault::ReadFault => Reply::Refused(Refusal::ReadFault),
-        BatchFault::WriteFault => Reply::Refused(Refusal::WriteFault),
-        BatchFault::Damaged { file, place } => Reply::Refused(Refusal::Damaged { file, place }),
-        BatchFault::Closed { call } => Reply::Refused(Refusal::Closed { call }),
-        BatchFault::Memory => Reply::Refused(Refusal::Memory),
-    }
+    uncommitted(alloc, table_named(statement), fault)
 }
 
 /// What is told of a commit that wasn't made.

@@ -7,7 +7,7 @@ ghost use Rattle.px_item.specs.Turns.{Fits, Turns};
 
 use crate::answered::{Answered, Asked, Settings, told};
 use crate::binding::search_of;
-use crate::holding::is_of_another;
+use crate::holding::{held_reply, is_of_another};
 use crate::item::{ItemRun, ItemState, ItemTurn, over};
 use crate::refusing::unselected;
 use px_ast::Statement;
@@ -21,7 +21,7 @@ use px_scan::QueryFault;
 use px_select::{SelectRun, SelectTurn, Selected};
 use px_sorted::Shown;
 use px_tables::{Found, Table};
-use px_values::{Change, CountWord, Limit, TableId};
+use px_values::{Change, TableId};
 use std::alloc::Global;
 use std::collections::VecDeque;
 
@@ -95,20 +95,6 @@ fn added(
             (after, Ok(()))
         }
         Err(fault) => (held, Err(fault)),
-    }
-}
-
-/// What is told of removals that are held, or aren't.
-fn held_reply(rows: u64, came: Result<(), HoldFault>) -> Reply
-    ensures { result ≡ spec.rows_reply rows came }
-{
-    match came {
-        Ok(()) => Reply::Count {
-            rows,
-            word: CountWord::Held,
-        },
-        Err(HoldFault::Rows) => Reply::Refused(Refusal::Limit(Limit::Rows)),
-        Err(HoldFault::Memory) => Reply::Refused(Refusal::Memory),
     }
 }
 

@@ -3,3 +3,4 @@ pub mod Turning
 pub mod Going
 pub mod Chaining
 pub mod Bounding
+pub mod Looking

@@ -13,12 +13,13 @@ use Rattle.px_scan.specs.declared.machine.QueryState.{QueryState}
 use Rattle.px_scan.specs.declared.machine.QueryState.TheVariants as state
 use Rattle.px_scan.specs.Turns.{QueryTurns}
 
--- a step: what the seat knew before and after its call, the state then, and what it came to
+-- a step: what the seat knew before and after its call, the state then, what it came to, and how many rows of tables were looked at by then
 pub record Step : Type 0 where
   pub before : Known
   pub after : Known
   pub state : QueryState
   pub turn : QueryTurn
+  pub looked : ℕ
 
 -- steps from a state on, with others' entries before each
 abbrev pub AreSteps : Type 0 → Query → Option ℕ → QueryState → Known → List Step → Type 0

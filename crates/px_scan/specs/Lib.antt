@@ -2,3 +2,4 @@ pub mod Faults
 pub mod Turns
 pub mod Chains
 pub mod Bounds
+pub mod Looking

@@ -7,6 +7,7 @@ ghost use Rattle.px_calls.specs.Looks.{AreDoubtsOf};
 ghost use Rattle.px_gather.specs.Gathered.{Frame, Pending, is_full as is_full_of, kept, kept_held};
 ghost use Rattle.px_gather.specs.Query.{IsPathFor};
 ghost use Rattle.px_scan.specs.Bounds.{AreFewer};
+ghost use Rattle.px_scan.specs.Looking.{HasFewerDoubts};
 ghost use Rattle.px_scan.specs.Turns.{AreStillDoubts, StopsAt, given_of};
 
 use crate::answer::{Placed, QueryFault};
@@ -80,6 +81,7 @@ pub(crate) fn keep_sure<Q: Asks>(
     ensures gathers { (f : Frame) → (es : List Entry) → (next : Option (List ℕ)) → f.query ≡ Q.asked query.now → IsPathFor f.query f.point f.path → Pending f es at keys.old.items next (given_of rows.old.items) → StopsAt f es at keys.new.items next result (given_of rows.new.items) }
     ensures doubts { (f : FoundTable) → (w : Bys) → AreDoubtsOf f w keys.old.items → AreStillDoubts f w keys.new.items result }
     ensures fewer { AreFewer keys.old.items keys.new.items result }
+    ensures fewer_doubts { HasFewerDoubts keys.old.items keys.new.items result }
 {
     'keys: while let Some(key) = keys.pop_front() {
         if is_full(query, rows.as_slice()) {

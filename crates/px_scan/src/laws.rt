@@ -12,6 +12,7 @@ ghost use Rattle.px_scan.specs.declared.machine.QueryState.TheVariants as query_
 ghost use Rattle.px_scan.specs.declared.machine.Rest.{Rest as Rests};
 ghost use Rattle.px_scan.specs.declared.machine.Scan.{Scan as Scans};
 ghost use Rattle.px_scan.specs.Bounds.{AreSpending, HaveFound, counted_in};
+ghost use Rattle.px_scan.specs.Looking.{AreLooking, HaveFoundDoubts, looked_after, refused_in};
 ghost use Rattle.px_scan.specs.Chains.{AreSteps, AreUnfaulted, IsSettled, Step, state_after};
 ghost use Rattle.px_scan.specs.Turns.{Fits, IsBound, IsNew, QueryTurns, RanQuery, SoFar};
 
@@ -35,4 +36,10 @@ pub fn law_doubts<S: Steps>()
 /// until upkeep is idle.
 pub fn law_bound<S: Steps>()
     ensures { (s : States) → (os : List Step) → IsNew s → AreSpending S.sound s os → (n : ℕ) × HaveFound S.sound s os n × (counted_in s os ≤ 3 + 3 * n) }
+{}
+
+/// Where nobody else acts, a query by an index looks at no more than two rows of tables for each doubt that its looks find, and one for each repair that
+/// is refused until upkeep is idle.
+pub fn law_looks<S: Steps>()
+    ensures { (m : ℕ) → (s : States) → (os : List Step) → IsNew s → AreLooking S.sound m s os → (d : ℕ) × HaveFoundDoubts S.sound s os d × (looked_after m os ≤ m + 2 * d + refused_in s os) }
 {}

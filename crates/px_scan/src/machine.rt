@@ -1,8 +1,9 @@
 // A query as a machine: each step makes one call.
-ghost use Rattle.std.specs.Prelude.{◌≡◌, ◌≤◌, ◌++◌, ◌∷◌, [], ℕ, Option, List};
+ghost use Rattle.std.specs.Prelude.{◌≡◌, ◌≤◌, ◌++◌, ◌∷◌, ◌*◌, [], ℕ, true, Option, List};
 ghost use Rattle.px_calls.specs.Calls.{AreRising};
 ghost use Rattle.px_calls.specs.Known.{Known};
 ghost use Rattle.px_scan.specs.Bounds.{Spends, left_of, through};
+ghost use Rattle.px_scan.specs.Looking.{IsByIndex, Looks, doubts_in, to_look};
 ghost use Rattle.px_scan.specs.Faults.{IsScanFault, fault_of as fault_is, is_busy as is_busy_of};
 ghost use Rattle.px_scan.specs.Turns.{Fits, GoesOn, IsGoing, IsNext, IsReading, IsScanning, QueryTurns};
 
@@ -92,6 +93,7 @@ fn go_on<Q: Asks, S: Steps>(query: &Q, mut x: Scan, rest: Rest) -> QueryState
     ensures goes { (scn : Option ℕ) → (k : Known) → IsScanning S.sound k (Q.asked query.now) scn x rest.keys.items rest.next rest.at → GoesOn S.sound k (Q.asked query.now) scn x.point result }
     ensures next { IsNext result }
     ensures left { left_of result ≤ through rest.keys.items rest.next }
+    ensures to_look { to_look result ≤ 2 * doubts_in rest.keys.items }
 {
     let Rest { mut keys, next, at } = rest;
     match keep_sure(query, &mut keys, at, &mut x.rows) {
@@ -122,6 +124,7 @@ fn follow<Q: Asks, S: Steps>(
     requires rows { rows.items ≡ [] }
     ensures goes { (scn : Option ℕ) → (k : Known) → IsReading k (Q.asked query.now) scn point → GoesOn S.sound k (Q.asked query.now) scn point result }
     ensures left { left_of result ≤ 2 }
+    ensures to_look { to_look result ≡ 0 }
 {
     match query.path(alloc, &point) {
         Ok(path) => QueryState::Looking(Scan { point, path, rows }, None),
@@ -141,6 +144,7 @@ fn open<Q: Asks, S: Steps>(
     requires { Fits S.sound (Q.asked query.now) scn (QueryState.Opening rows) (S.known s.old) }
     ensures turns { QueryTurns S.sound (Q.asked query.now) scn (QueryState.Opening rows) (S.known s.old) result.0 (S.known s.new) result.1 }
     ensures spends { Spends S.sound (QueryState.Opening rows) (S.known s.old) result.0 (S.known s.new) result.1 }
+    ensures looks { (S.known s.old).alone ≡ true → Looks S.sound (QueryState.Opening rows) (S.known s.old) (S.looked s.old) result.0 (S.known s.new) (S.looked s.new) }
     ensures one_call { S.one_call s.old s.new }
 {
     match s.open_point(query.table(), scn) {
@@ -190,6 +194,7 @@ fn look<Q: Asks, S: Steps>(
     requires { Fits S.sound (Q.asked query.now) scn (QueryState.Looking x after) (S.known s.old) }
     ensures turns { QueryTurns S.sound (Q.asked query.now) scn (QueryState.Looking x after) (S.known s.old) result.0 (S.known s.new) result.1 }
     ensures spends { Spends S.sound (QueryState.Looking x after) (S.known s.old) result.0 (S.known s.new) result.1 }
+    ensures looks { (S.known s.old).alone ≡ true → IsByIndex (QueryState.Looking x after) → Looks S.sound (QueryState.Looking x after) (S.known s.old) (S.looked s.old) result.0 (S.known s.new) (S.looked s.new) }
     ensures one_call { S.one_call s.old s.new }
 {
     match s.look(&x.point, &x.path, &after) {
@@ -210,6 +215,7 @@ fn consult<Q: Asks, S: Steps>(
     requires { Fits S.sound (Q.asked query.now) scn (QueryState.Consulting x rest doubt) (S.known s.old) }
     ensures turns { QueryTurns S.sound (Q.asked query.now) scn (QueryState.Consulting x rest doubt) (S.known s.old) result.0 (S.known s.new) result.1 }
     ensures spends { Spends S.sound (QueryState.Consulting x rest doubt) (S.known s.old) result.0 (S.known s.new) result.1 }
+    ensures looks { (S.known s.old).alone ≡ true → Looks S.sound (QueryState.Consulting x rest doubt) (S.known s.old) (S.looked s.old) result.0 (S.known s.new) (S.looked s.new) }
     ensures one_call { S.one_call s.old s.new }
 {
     match s.consult(&x.point, &mut doubt) {
@@ -233,6 +239,7 @@ fn fix<Q: Asks, S: Steps>(
     requires { Fits S.sound (Q.asked query.now) scn (QueryState.Fixing x rest doubt) (S.known s.old) }
     ensures turns { QueryTurns S.sound (Q.asked query.now) scn (QueryState.Fixing x rest doubt) (S.known s.old) result.0 (S.known s.new) result.1 }
     ensures spends { Spends S.sound (QueryState.Fixing x rest doubt) (S.known s.old) result.0 (S.known s.new) result.1 }
+    ensures looks { (S.known s.old).alone ≡ true → Looks S.sound (QueryState.Fixing x rest doubt) (S.known s.old) (S.looked s.old) result.0 (S.known s.new) (S.looked s.new) }
     ensures one_call { S.one_call s.old s.new }
 {
     match s.fix(&doubt) {
@@ -258,6 +265,7 @@ fn settle<Q: Asks, S: Steps>(
     requires { Fits S.sound (Q.asked query.now) scn (QueryState.Settling x rest doubt) (S.known s.old) }
     ensures turns { QueryTurns S.sound (Q.asked query.now) scn (QueryState.Settling x rest doubt) (S.known s.old) result.0 (S.known s.new) result.1 }
     ensures spends { Spends S.sound (QueryState.Settling x rest doubt) (S.known s.old) result.0 (S.known s.new) result.1 }
+    ensures looks { (S.known s.old).alone ≡ true → Looks S.sound (QueryState.Settling x rest doubt) (S.known s.old) (S.looked s.old) result.0 (S.known s.new) (S.looked s.new) }
     ensures one_call { S.one_call s.old s.new }
 {
     match s.upkeep() {
@@ -278,6 +286,7 @@ fn close<Q: Asks, S: Steps>(
     requires { Fits S.sound (Q.asked query.now) scn (QueryState.Closing point end) (S.known s.old) }
     ensures turns { QueryTurns S.sound (Q.asked query.now) scn (QueryState.Closing point end) (S.known s.old) result.0 (S.known s.new) result.1 }
     ensures spends { Spends S.sound (QueryState.Closing point end) (S.known s.old) result.0 (S.known s.new) result.1 }
+    ensures looks { (S.known s.old).alone ≡ true → Looks S.sound (QueryState.Closing point end) (S.known s.old) (S.looked s.old) result.0 (S.known s.new) (S.looked s.new) }
     ensures one_call { S.one_call s.old s.new }
 {
     let first = point.found.at;
@@ -304,6 +313,7 @@ pub(crate) fn advance<Q: Asks, S: Steps>(
     requires going { IsGoing state }
     ensures turns { QueryTurns S.sound (Q.asked query.now) scn state (S.known s.old) result.0 (S.known s.new) result.1 }
     ensures spends { Spends S.sound state (S.known s.old) result.0 (S.known s.new) result.1 }
+    ensures looks { (S.known s.old).alone ≡ true → IsByIndex state → Looks S.sound state (S.known s.old) (S.looked s.old) result.0 (S.known s.new) (S.looked s.new) }
     ensures one_call { S.one_call s.old s.new }
 {
     match state {

@@ -153,3 +153,7 @@ if_ok P Q (Err e) f h = tt
 pub if_err : {A B : Type 0} (P Q : B → Type 0) (r : Result A B) → ((x : B) → P x → Q x) → IfErr r P → IfErr r Q
 if_err P Q (Ok x) f h = tt
 if_err P Q (Err e) f h = f e h
+
+-- a seat at the lock isn't alone
+pub not_alone : {A : Type 0} → false ≡ true → A
+not_alone alone = absurd cc

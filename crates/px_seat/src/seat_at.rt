@@ -27,18 +27,37 @@ impl LockNamed for Brand {
     ghost name = { record { table = record { words = 0; slots = 0; views_name = 0; atom = 0; block = 0; offset = 0; slot_names = [] }; seats = 0 } };
 }
 
+/// How many calls a seat has made, and how many entries it has seen.
+#[derive(Drop)]
+struct Counts {
+    calls: u64,
+    seen: u64,
+}
+
+impl Counts {
+    ghost use Rattle.px_calls.specs.Counts.{count_after};
+
+    /// One call more, in which so many entries were seen.
+    fn count(&mut self, seen: u64)
+        ensures calls { self.new.calls ≡ count_after self.old.calls }
+        ensures seen { self.new.seen ≡ seen }
+    {
+        self.calls = count_after(self.calls);
+        self.seen = seen;
+    }
+}
+
 /// A seat at the lock, between two turns. It counts its calls.
 pub struct SeatAt<'a, R: Wait, S: Single, N: LockNamed, B: Based> {
     rt: &'a R,
     lock: &'a TurnLock<Owned<S, B>>,
     seat: TurnSeat<Owned<S, B>>,
     id: u32,
-    seen: u64,
-    calls: u64,
+    counts: Counts,
     of: PhantomData<(N, B)>,
     ghost named: { name_of lock.now ≡ N.name },
     ghost is_seat: { IsSeat N.name seat × (number seat ≡ id) },
-    ghost counted: { seen ≡ length (list_seen seat) },
+    ghost counted: { counts.seen ≡ length (list_seen seat) },
 }
 
 impl<'a, R: Wait, S: Single, N: LockNamed, B: Based> SeatAt<'a, R, S, N, B> {
@@ -60,8 +79,7 @@ impl<'a, R: Wait, S: Single, N: LockNamed, B: Based> SeatAt<'a, R, S, N, B> {
             lock,
             seat,
             id,
-            seen,
-            calls: 0,
+            counts: Counts { calls: 0, seen },
             of: PhantomData,
         }
     }
@@ -76,8 +94,7 @@ impl<'a, R: Wait, S: Single, N: LockNamed, B: Based> SeatAt<'a, R, S, N, B> {
             lock: _,
             seat,
             id: _,
-            seen: _,
-            calls: _,
+            counts: _,
             of: _,
         } = self;
         seat
@@ -89,7 +106,12 @@ impl<'a, R: Wait, S: Single, N: LockNamed, B: Based> Steps for SeatAt<'a, R, S, 
 
     ghost known = { λ s. mine s.id B.base B.damaged (list_seen s.seat) };
 
-    ghost one_call = { λ a b. b.calls ≡ count_after a.calls };
+    ghost one_call = { λ a b. b.counts.calls ≡ count_after a.counts.calls };
+
+    // Others may act, so nothing is told of it.
+    ghost left = { λ _ _. 0 };
+
+    ghost looked = { λ _. 0 };
 
     ghost sound = { S.sound };
 
@@ -104,8 +126,7 @@ impl<'a, R: Wait, S: Single, N: LockNamed, B: Based> Steps for SeatAt<'a, R, S, 
         let reply = server.find(name);
         let seen = server.seen();
         guard.leave();
-        self.seen = seen;
-        self.calls = count_after(self.calls);
+        self.counts.count(seen);
         reply
     }
 
@@ -116,8 +137,7 @@ impl<'a, R: Wait, S: Single, N: LockNamed, B: Based> Steps for SeatAt<'a, R, S, 
         let reply = server.define(definition);
         let seen = server.seen();
         guard.leave();
-        self.seen = seen;
-        self.calls = count_after(self.calls);
+        self.counts.count(seen);
         reply
     }
 
@@ -128,8 +148,7 @@ impl<'a, R: Wait, S: Single, N: LockNamed, B: Based> Steps for SeatAt<'a, R, S, 
         let reply = server.begin(table, changes);
         let seen = server.seen();
         guard.leave();
-        self.seen = seen;
-        self.calls = count_after(self.calls);
+        self.counts.count(seen);
         reply
     }
 
@@ -140,8 +159,7 @@ impl<'a, R: Wait, S: Single, N: LockNamed, B: Based> Steps for SeatAt<'a, R, S, 
         let reply = server.mark(t);
         let seen = server.seen();
         guard.leave();
-        self.seen = seen;
-        self.calls = count_after(self.calls);
+        self.counts.count(seen);
         reply
     }
 
@@ -152,8 +170,7 @@ impl<'a, R: Wait, S: Single, N: LockNamed, B: Based> Steps for SeatAt<'a, R, S, 
         let reply = server.write(t);
         let seen = server.seen();
         guard.leave();
-        self.seen = seen;
-        self.calls = count_after(self.calls);
+        self.counts.count(seen);
         reply
     }
 
@@ -164,8 +181,7 @@ impl<'a, R: Wait, S: Single, N: LockNamed, B: Based> Steps for SeatAt<'a, R, S, 
         let reply = server.verify_marks(t);
         let seen = server.seen();
         guard.leave();
-        self.seen = seen;
-        self.calls = count_after(self.calls);
+        self.counts.count(seen);
         reply
     }
 
@@ -176,8 +192,7 @@ impl<'a, R: Wait, S: Single, N: LockNamed, B: Based> Steps for SeatAt<'a, R, S, 
         let reply = server.end(t);
         let seen = server.seen();
         guard.leave();
-        self.seen = seen;
-        self.calls = count_after(self.calls);
+        self.counts.count(seen);
         reply
     }
 
@@ -188,8 +203,7 @@ impl<'a, R: Wait, S: Single, N: LockNamed, B: Based> Steps for SeatAt<'a, R, S, 
         server.abandon(t);
         let seen = server.seen();
         guard.leave();
-        self.seen = seen;
-        self.calls = count_after(self.calls);
+        self.counts.count(seen);
     }
 
     fn open_point(&mut self, table: TableId, scn: Option<u64>) -> Result<Point, StepFault> {
@@ -199,8 +213,7 @@ impl<'a, R: Wait, S: Single, N: LockNamed, B: Based> Steps for SeatAt<'a, R, S, 
         let reply = server.open_point(table, scn);
         let seen = server.seen();
         guard.leave();
-        self.seen = seen;
-        self.calls = count_after(self.calls);
+        self.counts.count(seen);
         reply
     }
 
@@ -211,8 +224,7 @@ impl<'a, R: Wait, S: Single, N: LockNamed, B: Based> Steps for SeatAt<'a, R, S, 
         let reply = server.look(p, path, after);
         let seen = server.seen();
         guard.leave();
-        self.seen = seen;
-        self.calls = count_after(self.calls);
+        self.counts.count(seen);
         reply
     }
 
@@ -223,8 +235,7 @@ impl<'a, R: Wait, S: Single, N: LockNamed, B: Based> Steps for SeatAt<'a, R, S, 
         let reply = server.consult(p, d);
         let seen = server.seen();
         guard.leave();
-        self.seen = seen;
-        self.calls = count_after(self.calls);
+        self.counts.count(seen);
         reply
     }
 
@@ -235,8 +246,7 @@ impl<'a, R: Wait, S: Single, N: LockNamed, B: Based> Steps for SeatAt<'a, R, S, 
         let reply = server.fix(d);
         let seen = server.seen();
         guard.leave();
-        self.seen = seen;
-        self.calls = count_after(self.calls);
+        self.counts.count(seen);
         reply
     }
 
@@ -247,8 +257,7 @@ impl<'a, R: Wait, S: Single, N: LockNamed, B: Based> Steps for SeatAt<'a, R, S, 
         let reply = server.base(p, index, rows);
         let seen = server.seen();
         guard.leave();
-        self.seen = seen;
-        self.calls = count_after(self.calls);
+        self.counts.count(seen);
         reply
     }
 
@@ -259,8 +268,7 @@ impl<'a, R: Wait, S: Single, N: LockNamed, B: Based> Steps for SeatAt<'a, R, S, 
         server.close_point(p);
         let seen = server.seen();
         guard.leave();
-        self.seen = seen;
-        self.calls = count_after(self.calls);
+        self.counts.count(seen);
     }
 
     fn order(&mut self, job: Ordered) -> Result<(), StepFault> {
@@ -270,8 +278,7 @@ impl<'a, R: Wait, S: Single, N: LockNamed, B: Based> Steps for SeatAt<'a, R, S, 
         let reply = server.order(job);
         let seen = server.seen();
         guard.leave();
-        self.seen = seen;
-        self.calls = count_after(self.calls);
+        self.counts.count(seen);
         reply
     }
 
@@ -282,8 +289,7 @@ impl<'a, R: Wait, S: Single, N: LockNamed, B: Based> Steps for SeatAt<'a, R, S, 
         let reply = server.upkeep();
         let seen = server.seen();
         guard.leave();
-        self.seen = seen;
-        self.calls = count_after(self.calls);
+        self.counts.count(seen);
         reply
     }
 
@@ -294,12 +300,11 @@ impl<'a, R: Wait, S: Single, N: LockNamed, B: Based> Steps for SeatAt<'a, R, S, 
         let reply = server.status(table);
         let seen = server.seen();
         guard.leave();
-        self.seen = seen;
-        self.calls = count_after(self.calls);
+        self.counts.count(seen);
         reply
     }
 
     fn seen(&self) -> u64 {
-        self.seen
+        self.counts.seen
     }
 }

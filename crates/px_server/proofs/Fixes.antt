@@ -404,7 +404,7 @@ module _ {D : Type 0} (d : Ghosts D) (g g' : Group) (disk disk' : D) (at n : ℕ
 pub answers_caused : (groups : List Group) (place : ℕ) (g : Group) → slice_get groups place ≡ Some g → (at : ℕ) (x : IndexRegion) → slice_get g.indexes.items at ≡ Some x → (q : Doubt) → x.index.id ≡ q.index → (n : ℕ) → n ≡ x.region.number
     → (result : Result Fixing RepairFault) → ((fault : RepairFault) → result ≡ Err fault → RefusesRepair g at x q.key q.stamp fault) → (answer : Result Fixing StepFault) → Answers n result answer → IfErr answer (RefusesFix groups q)
 answers_caused groups place g here at x there q id n number (Ok fixing) cause answer is = subst (λ r. IfErr r (RefusesFix groups q)) (sym is) tt
-answers_caused groups place g here at x there q id n number (Err (Busy cells bytes)) cause answer is = subst (λ r. IfErr r (RefusesFix groups q)) (sym is) (record { place = place; group = g; at = here; part = at; index = x; of = there; id = id; number = number; refused = cause (Busy cells bytes) refl })
-answers_caused groups place g here at x there q id n number (Err NotReady) cause answer is = subst (λ r. IfErr r (RefusesFix groups q)) (sym is) (record { place = place; group = g; at = here; part = at; index = x; of = there; id = id; number = number; refused = cause NotReady refl })
+answers_caused groups place g here at x there q id n number (Err (Busy cells bytes)) cause answer is = subst (λ r. IfErr r (RefusesFix groups q)) (sym is) (record { place = place; group = g; at = here; part = at; index = x; of = there; id = id; refused = (number, cause (Busy cells bytes) refl) })
+answers_caused groups place g here at x there q id n number (Err NotReady) cause answer is = subst (λ r. IfErr r (RefusesFix groups q)) (sym is) (record { place = place; group = g; at = here; part = at; index = x; of = there; id = id; refused = (number, cause NotReady refl) })
 answers_caused groups place g here at x there q id n number (Err WriteFault) cause answer is = subst (λ r. IfErr r (RefusesFix groups q)) (sym is) tt
 answers_caused groups place g here at x there q id n number (Err Memory) cause answer is = subst (λ r. IfErr r (RefusesFix groups q)) (sym is) tt

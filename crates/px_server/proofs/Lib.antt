@@ -99,3 +99,6 @@ pub mod Uses
 pub mod Verified
 pub mod Written
 pub mod Wrote
+pub mod CallsLeft
+pub mod Answered
+pub mod RowsLooked

@@ -1,6 +1,6 @@
 -- One element of a list is changed, and the others are kept.
 use Rattle.std.proofs.Common.{◌≡◌, ◌≢◌, ◌+◌, ◌<◌, ◌≤◌, ℕ, zero, suc, List, [], ◌∷◌, Some, length, get_or, map, refl, sym, ap, subst, ◌∙◌, arith}
-use Rattle.std.proofs.lemmas.List.Sums.{sum_by-cons}
+use Rattle.std.proofs.lemmas.List.Sums.{sum_by-cons, sum_by-set}
 use Rattle.std.specs.Prelude.{sum_by}
 use Rattle.std.specs.List.{AllByRecursion, slice_get, slice_set}
 use Rattle.px_outside.specs.Parts.{AreDistinct, HasNone}
@@ -46,6 +46,10 @@ pub sum_set : {A : Type 0} (f : A → ℕ) (gs : List A) (i : ℕ) (g g' : A) �
 sum_set f [] i g g' l is more = absurd (omega (arith, l))
 sum_set f (y ∷ ys) zero g g' l is more = (let e = ap f is in let a = sum_by-cons f g' ys in let b = sum_by-cons f y ys in omega (arith, e, more, a, b))
 sum_set f (y ∷ ys) (suc i) g g' l is more = (let r = sum_set f ys i g g' (omega (arith, l)) is more in let a = sum_by-cons f y (slice_set ys i g') in let b = sum_by-cons f y ys in omega (arith, r, a, b))
+
+-- where it is the same, so is the sum
+pub sum_kept : {A : Type 0} (f : A → ℕ) (gs : List A) (i : ℕ) (g g' : A) → i < length gs → get_or gs i g ≡ g → f g' ≡ f g → sum_by f (slice_set gs i g') ≡ sum_by f gs
+sum_kept f gs i g g' l is same = (let one = sum_by-set f gs i g' g l in let was : f (get_or gs i g) ≡ f g = ap f is in omega (arith, one, was, same))
 
 pub rising_distinct : {A : Type 0} (num : A → ℕ) (xs : List A) → AreRisingBy num xs → AreDistinct num xs
 rising_distinct num [] up = tt

@@ -38,7 +38,7 @@ steps_some Writing = omega arith
 steps_some Verifying = omega arith
 steps_some Closing = omega arith
 
-get_at : (ms : List Begun) (m : ℕ) (x : Begun) → slice_get ms m ≡ Some x → (m < length ms) × (get_or ms m x ≡ x)
+pub get_at : (ms : List Begun) (m : ℕ) (x : Begun) → slice_get ms m ≡ Some x → (m < length ms) × (get_or ms m x ≡ x)
 get_at [] m x is = absurd cc
 get_at (y ∷ ms) zero x is = (omega arith, (let own : y ≡ x = (let z : Some y ≡ Some x = is in cc) in own))
 get_at (y ∷ ms) (suc m) x is = (let rest = get_at ms m x is in (let n = rest.0 in omega (arith, n), rest.1))

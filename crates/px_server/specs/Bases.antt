@@ -1,8 +1,7 @@
 -- What is answered where base versions aren't written.
-use Rattle.std.specs.Prelude.{◌≡◌, ℕ, List, Some, slice_get}
+use Rattle.std.specs.Prelude.{◌≡◌, List}
 use Rattle.px_values.specs.declared.name.IndexId.{IndexId}
 use Rattle.px_group.specs.declared.group.Group.{Group}
-use Rattle.px_group.specs.declared.group.IndexRegion.{IndexRegion}
 use Rattle.px_basing.specs.Basing.{cells_at}
 use Rattle.px_basing.specs.Refused.{IsRefusedFor}
 use Rattle.px_basing.specs.declared.fault.BaseFault.{BaseFault}
@@ -11,6 +10,7 @@ use Rattle.px_calls.specs.declared.fault.StepFault.{StepFault}
 use Rattle.px_calls.specs.declared.fault.StepFault.TheVariants as steps
 use Rattle.px_calls.specs.declared.query.BaseRow.{BaseRow}
 use Rattle.px_calls.specs.declared.query.Point.{Point}
+use Rattle.px_server.specs.Refused.{IsRefusedIn}
 
 -- the same fault, as a step tells it
 abbrev pub AnswersBase : BaseFault → StepFault → Type 0
@@ -20,16 +20,8 @@ AnswersBase WriteFault answer = answer ≡ steps.WriteFault
 AnswersBase Memory answer = answer ≡ steps.Memory
 
 -- the region of the point's table's index of this number refuses room for the base versions of these rows
-pub record IsRefusedBase (groups : List Group) (p : Point) (i : IndexId) (xs : List BaseRow) (f : BaseFault) : Type 0 where
-  pub place : ℕ
-  pub group : Group
-  pub at : slice_get groups place ≡ Some group
-  pub table : group.table.id ≡ p.table
-  pub part : ℕ
-  pub index : IndexRegion
-  pub of : slice_get group.indexes.items part ≡ Some index
-  pub id : index.index.id ≡ i
-  pub refused : IsRefusedFor index.region (cells_at group index xs) f
+abbrev pub IsRefusedBase : List Group → Point → IndexId → List BaseRow → BaseFault → Type 0
+IsRefusedBase groups p i xs f = IsRefusedIn groups i (λ group part index. (group.table.id ≡ p.table) × IsRefusedFor index.region (cells_at group index xs) f)
 
 -- A region that is busy or isn't ready is told only so.
 abbrev pub RefusesBases : List Group → Point → IndexId → List BaseRow → StepFault → Type 0

@@ -7,9 +7,11 @@ pub mod Logged
 pub mod Looks
 pub mod Others
 pub mod Points
+pub mod Refused
 pub mod Repairs
 pub mod Shown
 pub mod Stamps
 pub mod Started
 pub mod Upkeep
 pub mod inner
+pub mod CallsLeft

@@ -19,6 +19,7 @@ use Rattle.px_repairs.specs.Refused.{RefusesDue}
 use Rattle.px_repairs.specs.Repairs.{IsRegionStep, IsRepair, stands_in}
 use Rattle.px_repairs.specs.declared.repairing.RepairFault.{RepairFault}
 use Rattle.px_repairs.specs.declared.repairing.RepairFault.TheVariants.{Busy, NotReady, WriteFault, Memory}
+use Rattle.px_server.specs.Refused.{IsRefusedIn}
 
 -- where it is made in the region of this number
 abbrev pub Answers : ℕ → Result Fixing RepairFault → Result Fixing StepFault → Type 0
@@ -78,16 +79,8 @@ Mends groups groups' d fixing.Gone = AllByRecursion (LacksIndex d.index) groups 
 Mends groups groups' d fixing.InFlight = Unit {0}
 
 -- the region of the doubt's index, which has this number, refuses room for the repair that is due
-pub record IsRefusedFix (groups : List Group) (d : Doubt) (region : ℕ) (f : RepairFault) : Type 0 where
-  pub place : ℕ
-  pub group : Group
-  pub at : slice_get groups place ≡ Some group
-  pub part : ℕ
-  pub index : IndexRegion
-  pub of : slice_get group.indexes.items part ≡ Some index
-  pub id : index.index.id ≡ d.index
-  pub number : region ≡ index.region.number
-  pub refused : RefusesDue group part index d.key d.stamp f
+abbrev pub IsRefusedFix : List Group → Doubt → ℕ → RepairFault → Type 0
+IsRefusedFix groups d region f = IsRefusedIn groups d.index (λ group part index. (region ≡ index.region.number) × RefusesDue group part index d.key d.stamp f)
 
 -- A region that is busy or isn't ready is told only so.
 abbrev pub RefusesFix : List Group → Doubt → StepFault → Type 0

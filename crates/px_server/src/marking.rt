@@ -1,10 +1,11 @@
 // The marks of a batch.
-ghost use Rattle.std.specs.Prelude.{◌≡◌, IfErr, IfOk};
+ghost use Rattle.std.specs.Prelude.{◌≡◌, ◌<◌, IfErr, IfOk};
 ghost use Rattle.px_trail.specs.Batches.{Marking, Verifying};
 ghost use Rattle.px_trail.specs.declared.entry.Act.TheVariants.{Phase as PhaseAct};
 ghost use Rattle.px_calls.specs.Calls.{DidMark, DidVerify};
 ghost use Rattle.px_calls.specs.Causes.{Refuses, write_cause};
 ghost use Rattle.px_calls.specs.Requires.{TicketIn};
+ghost use Rattle.px_server.specs.CallsLeft.{calls_left};
 ghost use Rattle.px_server.specs.Shown.{known_by};
 
 use crate::shutting::shut;
@@ -35,6 +36,7 @@ impl<D: CountsCalls, C: Clock, B: Based + Founded> Server<D, C, B> {
     pub fn mark(&mut self, t: &mut Ticket) -> Result<Marks, StepFault>
         requires { TicketIn (known_by B.base B.damaged self.old) t.old Marking }
         ensures ticket { t.new ≡ t.old }
+        ensures fewer { IfOk result (λ _. calls_left self.new.groups t.old < calls_left self.old.groups t.old) }
         ensures ok { IfOk result (DidMark (known_by B.base B.damaged self.old) (known_by B.base B.damaged self.new) t.old) }
         ensures refused { IfErr result (Refuses write_cause (known_by B.base B.damaged self.old) (known_by B.base B.damaged self.new)) }
     {
@@ -71,6 +73,7 @@ impl<D: CountsCalls, C: Clock, B: Based + Founded> Server<D, C, B> {
     pub fn verify_marks(&mut self, t: &mut Ticket) -> Result<Verifies, StepFault>
         requires { TicketIn (known_by B.base B.damaged self.old) t.old Verifying }
         ensures ticket { t.new ≡ t.old }
+        ensures fewer { IfOk result (λ _. calls_left self.new.groups t.old < calls_left self.old.groups t.old) }
         ensures ok { IfOk result (DidVerify (known_by B.base B.damaged self.old) (known_by B.base B.damaged self.new) t.old) }
         ensures refused { IfErr result (Refuses write_cause (known_by B.base B.damaged self.old) (known_by B.base B.damaged self.new)) }
     {

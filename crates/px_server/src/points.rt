@@ -9,6 +9,7 @@ ghost use Rattle.px_calls.specs.Known.{Adds};
 ghost use Rattle.px_calls.specs.Requires.{IsOpen, IsScn};
 ghost use Rattle.px_trail.specs.declared.entry.Act.TheVariants.{Released as ReleasedAct};
 ghost use Rattle.px_calls.specs.declared.fault.StepFault.TheVariants.{Memory};
+ghost use Rattle.px_server.specs.Looks.{rows_looked};
 ghost use Rattle.px_server.specs.Points.{HasLeft, HasNoneLeft, IsNoPointOf, IsPointOf, is_left_at};
 ghost use Rattle.px_server.specs.Shown.{known_by};
 
@@ -93,6 +94,7 @@ impl<D: CountsCalls, C: Clock, B: Based + Founded> Server<D, C, B> {
     /// Opens a point of the table: a current one, or one as of an SCN.
     pub fn open_point(&mut self, table: TableId, scn: Option<u64>) -> Result<Point, StepFault>
         requires { IsScn scn }
+        ensures unlooked { rows_looked self.new.groups ≡ rows_looked self.old.groups }
         ensures ok { IfOk result (DidOpen (known_by B.base B.damaged self.old) (known_by B.base B.damaged self.new) table scn) }
         ensures refused { IfErr result (Refuses (open_cause table.0 scn) (known_by B.base B.damaged self.old) (known_by B.base B.damaged self.new)) }
     {
@@ -128,7 +130,8 @@ impl<D: CountsCalls, C: Clock, B: Based + Founded> Server<D, C, B> {
     /// Closes the point. It takes no memory.
     pub fn close_point(&mut self, p: Point)
         requires { IsOpen (known_by B.base B.damaged self.old) p }
-        ensures { Adds (known_by B.base B.damaged self.old) (known_by B.base B.damaged self.new) (ReleasedAct p.table p.stamp) }
+        ensures unlooked { rows_looked self.new.groups ≡ rows_looked self.old.groups }
+        ensures adds { Adds (known_by B.base B.damaged self.old) (known_by B.base B.damaged self.new) (ReleasedAct p.table p.stamp) }
     {
         let Point {
             table,

@@ -2,9 +2,10 @@
 ghost use Rattle.std.specs.Prelude.{◌≡◌, ◌≤◌, ◌+◌, ◌↔◌, IfErr, IfOk, List, None, Some, length, map};
 ghost use Rattle.px_calls.specs.Calls.{DidConsult, DidLook};
 ghost use Rattle.px_calls.specs.Causes.{Refuses, read_cause};
+ghost use Rattle.px_calls.specs.Counts.{HasRisenBy};
 ghost use Rattle.px_calls.specs.Requires.{CanConsult, CanLook, IsOpen};
 ghost use Rattle.px_values.specs.declared.row.Value.{Value as ColumnValue};
-ghost use Rattle.px_calls.specs.declared.query.By.TheVariants.{Index as ByIndex};
+ghost use Rattle.px_calls.specs.declared.query.By.TheVariants.{Index as ByIndex, Table as ByTable};
 ghost use Rattle.px_values.specs.declared.name.IndexId.{IndexId as Number};
 ghost use Rattle.px_server.specs.Looks.{AreOfIndexAt, HasCountedOf, rows_in, rows_looked};
 ghost use Rattle.px_server.specs.Shown.{known_by};
@@ -57,6 +58,7 @@ impl<D: CountsCalls, C: Clock, B: Based + Founded> Server<D, C, B> {
         ensures ok { IfOk result (DidLook B.sound (known_by B.base B.damaged self.old) (known_by B.base B.damaged self.new) p.now path.now after.now) }
         ensures versions { IfOk result (λ c. (i : Number) → path.now.by ≡ ByIndex i → AreOfIndexAt self.old.groups p.now i c.found) }
         ensures no_row { (i : Number) → path.now.by ≡ ByIndex i → map rows_in self.new.groups ≡ map rows_in self.old.groups }
+        ensures risen { IfOk result (λ c. path.now.by ≡ ByTable → HasRisenBy (length c.found) (rows_looked self.old.groups) (rows_looked self.new.groups)) }
         ensures counted { IfOk result (λ c. HasCountedOf self.old.groups self.new.groups p.now path.now.by (length c.found)) }
         ensures refused { IfErr result (Refuses read_cause (known_by B.base B.damaged self.old) (known_by B.base B.damaged self.new)) }
     {

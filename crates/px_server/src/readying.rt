@@ -14,8 +14,9 @@ ghost use Rattle.px_beginning.specs.Rooms.{HasManyBytes, HasManyCells};
 ghost use Rattle.px_beginning.specs.declared.fault.BeginFault.{BeginFault as Cause};
 ghost use Rattle.px_server.specs.Beginning.{IsReady, unready_cause};
 
-use px_beginning::{BeginFault, Prepared, copied, prepare};
+use px_beginning::{BeginFault, Prepared, prepare};
 use px_calls::StepFault;
+use px_copying::copied;
 use px_group::Group;
 use px_outside::Disk;
 use px_turns::next_stamp;
@@ -89,7 +90,7 @@ pub(crate) fn ready_of<D: Disk>(
         drop(prepared);
         return Err(over(Limit::Stamps));
     };
-    match copied(alloc, changes) {
+    match copied(alloc, changes.as_slice()) {
         Ok(changes) => Ok(Ready {
             prepared,
             started: Started { stamp, changes },

@@ -40,6 +40,7 @@ impl<D: CountsCalls, C: Clock, B: Based + Founded> Server<D, C, B> {
     /// Makes a step of the catalogue's renewal where it is full. Whether one was made from which it gets room.
     pub(crate) fn renew_catalog(&mut self) -> Result<bool, StepFault>
         ensures ok { IfOk result (λ _. DidWork (known_by B.base B.damaged self.old) (known_by B.base B.damaged self.new) DidStep) }
+        ensures groups { self.new.groups ≡ self.old.groups }
         ensures same { IfOk result (λ _. (self.new ≡ self.old) × (self.old.closed ≡ None)) }
         ensures refused { IfErr result (Refuses upkeep_cause (known_by B.base B.damaged self.old) (known_by B.base B.damaged self.new)) }
     {

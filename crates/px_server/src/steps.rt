@@ -1,10 +1,11 @@
 // The server as drivers see it.
-ghost use Rattle.std.specs.Prelude.{◌≡◌, ◌≢◌, ◌≤◌, ◌+◌, [], IfErr, IfOk, IsSome, length, map, true};
+ghost use Rattle.std.specs.Prelude.{◌≡◌, ◌≢◌, ◌≤◌, ◌+◌, ◌*◌, [], IfErr, IfOk, IsSome, length, map, true};
 ghost use Rattle.px_trail.specs.Batches.{is_distinct, rows_of};
 ghost use Rattle.px_calls.specs.Calls.{DidBegin, DidConsult, DidFix, DidLook};
-ghost use Rattle.px_calls.specs.Causes.{Refuses, begin_cause, fix_cause, read_cause};
+ghost use Rattle.px_calls.specs.Causes.{Refuses, begin_cause, fix_cause, indexes_of, read_cause};
+ghost use Rattle.px_calls.specs.Counts.{HasRisenBy};
 ghost use Rattle.px_calls.specs.Requires.{AreFitting, CanConsult, CanLook, IsOpen};
-ghost use Rattle.px_calls.specs.declared.query.By.TheVariants.{Index as ByIndex};
+ghost use Rattle.px_calls.specs.declared.query.By.TheVariants.{Index as ByIndex, Table as ByTable};
 ghost use Rattle.px_values.specs.declared.name.IndexId.{IndexId as Number};
 ghost use Rattle.px_server.specs.Beginning.{RefusesBatch};
 ghost use Rattle.px_server.specs.Looks.{AreOfIndexAt, HasCountedOf, rows_in, rows_looked};
@@ -21,6 +22,7 @@ use px_tables::Found;
 use px_values::{Changes, IndexId, Key, Name, TableId};
 
 impl<D: CountsCalls, C: Clock, B: Based + Founded> Steps for Server<D, C, B> {
+    ghost use Rattle.px_server.specs.CallsLeft.{calls_left};
     ghost use Rattle.px_server.specs.Shown.{known_by};
     ghost use Rattle.px_server.specs.Upkeep.{AreOrdered, HaveFlushed};
 
@@ -28,6 +30,10 @@ impl<D: CountsCalls, C: Clock, B: Based + Founded> Steps for Server<D, C, B> {
 
     // It doesn't count its calls.
     ghost one_call = { λ _ _. Unit {0} };
+
+    ghost left = { λ s. calls_left s.groups };
+
+    ghost looked = { λ s. rows_looked s.groups };
 
     ghost sound = { B.sound };
 
@@ -56,6 +62,7 @@ impl<D: CountsCalls, C: Clock, B: Based + Founded> Steps for Server<D, C, B> {
         requires rows { length changes.now ≤ 1000 }
         requires distinct { is_distinct (rows_of changes.now) ≡ true }
         requires fits { AreFitting (known_by B.base B.damaged self.old) table.0 changes.now }
+        ensures few { IfOk result (λ t. (known_by B.base B.damaged self.old).alone ≡ true → calls_left self.new.groups t ≤ 3 + 2 * indexes_of (known_by B.base B.damaged self.new) table.0) }
         ensures ok { IfOk result (DidBegin B.sound (known_by B.base B.damaged self.old) (known_by B.base B.damaged self.new) table changes.now) }
         ensures refused { IfErr result (Refuses (begin_cause B.sound table.0 changes.now) (known_by B.base B.damaged self.old) (known_by B.base B.damaged self.new)) }
         ensures caused { IfErr result (RefusesBatch self.old.groups table self.old.entries changes.now) }
@@ -90,6 +97,8 @@ impl<D: CountsCalls, C: Clock, B: Based + Founded> Steps for Server<D, C, B> {
     fn look(&mut self, p: &Point, path: &Path, after: &Option<Key>) -> Result<Chunk, StepFault>
         requires open { IsOpen (known_by B.base B.damaged self.old) p.now }
         requires path { CanLook p.now path.now }
+        ensures unlooked { (known_by B.base B.damaged self.old).alone ≡ true → (i : Number) → path.now.by ≡ ByIndex i → rows_looked self.new.groups ≡ rows_looked self.old.groups }
+        ensures looked_each { IfOk result (λ c. (known_by B.base B.damaged self.old).alone ≡ true → path.now.by ≡ ByTable → HasRisenBy (length c.found) (rows_looked self.old.groups) (rows_looked self.new.groups)) }
         ensures ok { IfOk result (DidLook B.sound (known_by B.base B.damaged self.old) (known_by B.base B.damaged self.new) p.now path.now after.now) }
         ensures versions { IfOk result (λ c. (i : Number) → path.now.by ≡ ByIndex i → AreOfIndexAt self.old.groups p.now i c.found) }
         ensures no_row { (i : Number) → path.now.by ≡ ByIndex i → map rows_in self.new.groups ≡ map rows_in self.old.groups }
@@ -102,6 +111,7 @@ impl<D: CountsCalls, C: Clock, B: Based + Founded> Steps for Server<D, C, B> {
     fn consult(&mut self, p: &Point, d: &mut Doubt) -> Result<Option<Held>, StepFault>
         requires open { IsOpen (known_by B.base B.damaged self.old) p.now }
         requires doubt { CanConsult p.now d.old }
+        ensures looked_once { (known_by B.base B.damaged self.old).alone ≡ true → rows_looked self.new.groups ≤ rows_looked self.old.groups + 1 }
         ensures ok { IfOk result (DidConsult B.sound (known_by B.base B.damaged self.old) (known_by B.base B.damaged self.new) p.now d.old d.new) }
         ensures same { IfErr result (λ f. d.new ≡ d.old) }
         ensures counted { rows_looked self.new.groups ≤ rows_looked self.old.groups + 1 }
@@ -112,6 +122,7 @@ impl<D: CountsCalls, C: Clock, B: Based + Founded> Steps for Server<D, C, B> {
 
     fn fix(&mut self, d: &Doubt) -> Result<Fixing, StepFault>
         requires { IsSome d.now.verdict }
+        ensures looked_once { (known_by B.base B.damaged self.old).alone ≡ true → rows_looked self.new.groups ≤ rows_looked self.old.groups + 1 }
         ensures ok { IfOk result (DidFix (known_by B.base B.damaged self.old) (known_by B.base B.damaged self.new) d.now) }
         ensures fixes { IfOk result (Mends self.old.groups self.new.groups d.now) }
         ensures counted { rows_looked self.new.groups ≤ rows_looked self.old.groups + 1 }

@@ -8,6 +8,7 @@ ghost use Rattle.px_group.specs.declared.group.Group.{Group as Groups};
 ghost use Rattle.px_outside.specs.OnDisk.{Rose};
 ghost use Rattle.px_region.specs.Ordered.{IsSameOrder};
 ghost use Rattle.px_region.specs.declared.fault.JobFault.TheVariants.{Memory, WriteFault};
+ghost use Rattle.px_server.specs.Looks.{rows_looked};
 ghost use Rattle.px_server.specs.Shown.{known_by};
 ghost use Rattle.px_server.specs.Upkeep.{AllSettle, AreOrdered, HasFlushedIndex, HasFlushedTable, HaveFlushed, IsDueIn, IsOrderedTable, Settles, SteppedTable, StepsOn, StepsTable};
 
@@ -33,6 +34,7 @@ fn step_region<D: Disk>(region: &mut Region, disk: &mut D) -> Result<JobStep, Jo
     ensures steps { StepsOn ⟦<D as Disk>⟧ region.old region.new disk.old disk.new }
     ensures ok { OnOk result (HasWritten ⟦<D as Disk>⟧ region.old region.new disk.old disk.new []) }
     ensures ordered { OnOk result (IsSameOrder region.old region.new) }
+    ensures looked { region.new.looked ≡ region.old.looked }
     ensures failed { result ≡ Err WriteFault → Rose ⟦<D as Disk>⟧ disk.old disk.new }
     ensures refused { result ≡ Err Memory → HasWritten ⟦<D as Disk>⟧ region.old region.new disk.old disk.new [] }
 {
@@ -84,6 +86,7 @@ fn step_table<D: Disk>(group: &mut Group, region: Due, disk: &mut D) -> Result<J
     requires { IsDueIn group.old region }
     ensures ok { OnOk result (SteppedTable ⟦<D as Disk>⟧ group.old group.new disk.old disk.new) }
     ensures ordered { OnOk result (IsOrderedTable group.old → IsOrderedTable group.new) }
+    ensures looked { group.new.rows.looked ≡ group.old.rows.looked }
     ensures failed { result ≡ Err WriteFault → StepsTable ⟦<D as Disk>⟧ group.old group.new disk.old disk.new × Rose ⟦<D as Disk>⟧ disk.old disk.new }
     ensures refused { result ≡ Err Memory → SteppedTable ⟦<D as Disk>⟧ group.old group.new disk.old disk.new }
 {
@@ -119,6 +122,7 @@ impl<D: CountsCalls, C: Clock, B: Based + Founded> Server<D, C, B> {
     fn upkeep_regions(&mut self) -> Result<Work, StepFault>
         requires { self.old.closed ≡ None }
         ensures ok { IfOk result (DidWork (known_by B.base B.damaged self.old) (known_by B.base B.damaged self.new)) }
+        ensures unlooked { rows_looked self.new.groups ≡ rows_looked self.old.groups }
         ensures done { IfOk result (λ work. IsIdle work → HaveFlushed self.new.groups) }
         ensures ordered { IfOk result (λ work. AreOrdered self.old.groups → AreOrdered self.new.groups) }
         ensures refused { IfErr result (Refuses upkeep_cause (known_by B.base B.damaged self.old) (known_by B.base B.damaged self.new)) }
@@ -145,6 +149,7 @@ impl<D: CountsCalls, C: Clock, B: Based + Founded> Server<D, C, B> {
     /// the region is given up.
     pub fn upkeep(&mut self) -> Result<Work, StepFault>
         ensures ok { IfOk result (DidWork (known_by B.base B.damaged self.old) (known_by B.base B.damaged self.new)) }
+        ensures unlooked { rows_looked self.new.groups ≡ rows_looked self.old.groups }
         ensures done { IfOk result (λ work. IsIdle work → HaveFlushed self.new.groups) }
         ensures ordered { IfOk result (λ work. AreOrdered self.old.groups → AreOrdered self.new.groups) }
         ensures refused { IfErr result (Refuses upkeep_cause (known_by B.base B.damaged self.old) (known_by B.base B.damaged self.new)) }

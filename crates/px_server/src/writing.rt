@@ -1,10 +1,11 @@
 // The rows of a batch are written.
-ghost use Rattle.std.specs.Prelude.{◌≡◌, IfErr, IfOk, Some};
+ghost use Rattle.std.specs.Prelude.{◌≡◌, ◌<◌, ◌≤◌, ℕ, IfErr, IfOk, Some};
 ghost use Rattle.px_trail.specs.Batches.{Writing};
 ghost use Rattle.px_calls.specs.Calls.{DidWrite};
 ghost use Rattle.px_calls.specs.Causes.{Refuses, rows_cause};
 ghost use Rattle.px_calls.specs.Requires.{TicketIn};
 ghost use Rattle.px_trail.specs.declared.entry.Act.TheVariants.{Wrote as WroteAct};
+ghost use Rattle.px_server.specs.CallsLeft.{calls_left};
 ghost use Rattle.px_server.specs.Shown.{known_by};
 
 use crate::shutting::shut;
@@ -44,6 +45,8 @@ impl<D: CountsCalls, C: Clock, B: Based + Founded> Server<D, C, B> {
     pub fn write(&mut self, t: &mut Ticket) -> Result<Writes, StepFault>
         requires { TicketIn (known_by B.base B.damaged self.old) t.old Writing }
         ensures ticket { t.new ≡ t.old }
+        ensures fewer { IfOk result (λ _. calls_left self.new.groups t.old < calls_left self.old.groups t.old) }
+        ensures no_more { IfErr result (λ f. (stamp : ℕ) → f ≡ StepFault.NotYet stamp → calls_left self.new.groups t.old ≤ calls_left self.old.groups t.old) }
         ensures ok { IfOk result (DidWrite (known_by B.base B.damaged self.old) (known_by B.base B.damaged self.new) t.old) }
         ensures refused { IfErr result (Refuses (rows_cause t.old.table.0 t.old.stamp) (known_by B.base B.damaged self.old) (known_by B.base B.damaged self.new)) }
     {

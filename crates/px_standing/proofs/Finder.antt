@@ -152,7 +152,7 @@ module _ {A : Type 0} where
   same_by g h n true is same k = counts g n true (ap is_some same ∙ is) ∙ (ap (λ (m : ℕ). suc m) k ∙ sym (counts h n true is))
   same_by g h n false is same k = counts g n false (ap is_some same ∙ is) ∙ (k ∙ sym (counts h n false is))
 
-  counted_one : (g h : ℕ → Option A) (a : ℕ) → is_some (g a) ≡ true → is_some (h a) ≡ false → ((m : ℕ) → a ≢ m → g m ≡ h m) → (n : ℕ) → (a < n → counted g n ≡ suc (counted h n)) × (n ≤ a → counted g n ≡ counted h n)
+  pub counted_one : (g h : ℕ → Option A) (a : ℕ) → is_some (g a) ≡ true → is_some (h a) ≡ false → ((m : ℕ) → a ≢ m → g m ≡ h m) → (n : ℕ) → (a < n → counted g n ≡ suc (counted h n)) × (n ≤ a → counted g n ≡ counted h n)
   unfolding counted
   counted_one g h a some none same zero = ((λ l. absurd (omega (arith, l))), (λ l. refl))
   counted_one g h a some none same (suc n) =

@@ -7,8 +7,10 @@ use px_baserows::{base_versions, owners_of};
 use px_calls::BaseRow;
 use px_cells::Cells;
 use px_indexrow::index_key;
-use px_tables::{Index, IndexState, KeyPlace, Table, TableColumn};
-use px_values::{ColType, Direction, IndexId, Items, Name, Row, Rows, TableId, Value};
+use px_tables::{Index, IndexState, Table, TableColumn};
+use px_tests_layouts as layouts;
+use px_tests_layouts::{column, keyed_table, place};
+use px_values::{ColType, Direction, Items, Row, Rows, Value};
 use std::alloc::{AllocError, Global};
 
 /// A table with an index, and two of its rows.
@@ -26,30 +28,6 @@ pub struct Answer {
     pub owners: Rows,
 }
 
-fn column(
-    alloc: Global,
-    name: &str,
-    column_type: ColType,
-    not_null: bool,
-) -> Result<TableColumn, AllocError>
-    ensures { IfOk result (λ c. c ≡ record { name = name.now; column_type = column_type; not_null = not_null }) }
-{
-    let name = Name::from_str(alloc, name)?;
-    Ok(TableColumn {
-        name,
-        column_type,
-        not_null,
-    })
-}
-
-fn place(alloc: Global, column: u8, direction: Direction) -> Result<Items<KeyPlace>, AllocError>
-    ensures { IfOk result (λ places. places ≡ record { column = column; direction = direction } ∷ []) }
-{
-    let mut places = Vec::new(alloc);
-    places.push(KeyPlace { column, direction })?;
-    Ok(Items::of(places))
-}
-
 fn columns(alloc: Global) -> Result<Items<TableColumn>, AllocError>
     ensures { IfOk result (λ columns. columns ≡ worked_table.columns) }
 {
@@ -63,39 +41,15 @@ fn columns(alloc: Global) -> Result<Items<TableColumn>, AllocError>
 fn table(alloc: Global) -> Result<Table, AllocError>
     ensures { IfOk result (λ table. table ≡ worked_table) }
 {
-    let name = Name::from_str(alloc, "T")?;
     let columns = columns(alloc)?;
-    match place(alloc, 0, Direction::Ascending) {
-        Ok(key) => Ok(Table {
-            id: TableId(4),
-            name,
-            columns,
-            key,
-            regions: Items::of(Vec::new(alloc)),
-        }),
-        Err(fault) => {
-            drop(columns);
-            Err(fault)
-        }
-    }
+    keyed_table(alloc, 4, columns)
 }
 
 fn index(alloc: Global) -> Result<Index, AllocError>
     ensures { IfOk result (λ index. index ≡ worked_index) }
 {
-    let name = Name::from_str(alloc, "I")?;
     let parts = place(alloc, 1, Direction::Ascending)?;
-    let included = Vec::from_slice(alloc, &[2])?;
-    Ok(Index {
-        id: IndexId(6),
-        table: TableId(4),
-        name,
-        state: IndexState::Building,
-        birth: 3,
-        region: 5,
-        parts,
-        included: Items::of(included),
-    })
+    layouts::index(alloc, IndexState::Building, 3, parts, &[2])
 }
 
 fn first(alloc: Global) -> Result<Row, AllocError>

@@ -1,10 +1,8 @@
 // Statements over one table, and what binding answers to each, worked out by hand.
 use crate::printed::answer;
-use px_ast::Statement;
-use px_bind::{BindFault, Request, bind};
-use px_parse::parse;
-use px_tables::{Found, Index, IndexState, NewIndex, NewTable, Table, TableRegion};
-use px_values::{IndexId, Items, Key, Line, TableId};
+use px_tables::{Found, IndexState};
+use px_tests_bound::{bound, table_of, with_index};
+use px_values::Line;
 use std::alloc::{AllocError, Global};
 use std::process::Abort;
 use std::test::Fail;
@@ -140,122 +138,8 @@ SELECT /*+ \"NO_INDEX\" FAST ! NO_INDEX */ A FROM T => select 0
 EXPLAIN SELECT A FROM T WHERE C = 1 => explain 0 where (c2 = 1)
 EXPLAIN SELECT Z FROM T => E04 Z";
 
-fn read(rt: &impl Abort, alloc: Global, text: &str) -> Statement {
-    match parse(alloc, text) {
-        Ok(statement) => statement,
-        Err(_) => panic!(rt; "no statement: {text}"),
-    }
-}
-
-/// Region 1, with the empty least key.
-fn one_region(alloc: Global) -> Result<Items<TableRegion>, AllocError> {
-    let mut regions = Vec::new(alloc);
-    regions.push(TableRegion {
-        number: 1,
-        least_key: Key::of(Vec::new(alloc)),
-    })?;
-    Ok(Items::of(regions))
-}
-
-/// The table of a new one, with these regions.
-fn standing(new: NewTable, regions: Items<TableRegion>) -> Table {
-    let NewTable {
-        name,
-        columns,
-        key,
-        least_keys,
-    } = new;
-    drop(least_keys);
-    Table {
-        id: TableId(2),
-        name,
-        columns,
-        key,
-        regions,
-    }
-}
-
-fn built(new: NewIndex) -> Index {
-    let NewIndex {
-        table,
-        name,
-        parts,
-        included,
-    } = new;
-    Index {
-        id: IndexId(7),
-        table,
-        name,
-        state: IndexState::Active,
-        birth: 1,
-        region: 6,
-        parts,
-        included,
-    }
-}
-
-/// The list of this index alone.
-fn listed(alloc: Global, index: Index) -> Result<Items<Index>, AllocError> {
-    let mut indexes = Vec::new(alloc);
-    if indexes.push(index).is_err() {
-        drop(indexes);
-        return Err(AllocError);
-    }
-    Ok(Items::of(indexes))
-}
-
-fn new_table(rt: &impl Abort, alloc: Global) -> NewTable {
-    let statement = read(rt, alloc, TABLE);
-    let bound = match &statement {
-        Statement::CreateTable(_) => bind(alloc, &statement, None),
-        _ => panic!(rt; "no CREATE TABLE"),
-    };
-    drop(statement);
-    match bound {
-        Ok(
-            Request::CreateTable {
-                if_not_exists: _,
-                table,
-            },
-        ) => table,
-        _ => panic!(rt; "no table"),
-    }
-}
-
-fn table(rt: &impl Abort, alloc: Global) -> Result<Table, AllocError> {
-    let new = new_table(rt, alloc);
-    match one_region(alloc) {
-        Ok(regions) => Ok(standing(new, regions)),
-        Err(fault) => {
-            drop(new);
-            Err(fault)
-        }
-    }
-}
-
-/// What binding answers to a statement.
-fn bound(rt: &impl Abort, alloc: Global, text: &str, found: &Found) -> Result<Request, BindFault> {
-    let statement = read(rt, alloc, text);
-    assert!(rt; found.table.columns.as_slice().len() <= 255);
-    let answer = bind(alloc, &statement, Some(found));
-    drop(statement);
-    answer
-}
-
-fn index(rt: &impl Abort, alloc: Global, found: &Found) -> Index {
-    match bound(rt, alloc, INDEX, found) {
-        Ok(
-            Request::CreateIndex {
-                if_not_exists: _,
-                index,
-            },
-        ) => built(index),
-        _ => panic!(rt; "no index"),
-    }
-}
-
 fn printed(rt: &impl Abort, alloc: Global, text: &str, found: &Found) -> Result<Line, AllocError> {
-    let bound = bound(rt, alloc, text, found);
+    let bound = bound(alloc, text, found).expect(rt, text);
     let mut line = Line::new(alloc);
     let done = answer(&bound, &mut line);
     drop(bound);
@@ -268,38 +152,10 @@ fn printed(rt: &impl Abort, alloc: Global, text: &str, found: &Found) -> Result<
     }
 }
 
-/// The index, bound on the table alone.
-fn first_index(rt: &impl Abort, alloc: Global) -> Result<Index, AllocError> {
-    let table = table(rt, alloc)?;
-    let bare = Found {
-        table,
-        indexes: Items::of(Vec::new(alloc)),
-        at: 0,
-    };
-    let index = index(rt, alloc, &bare);
-    drop(bare);
-    Ok(index)
-}
-
-fn indexes(rt: &impl Abort, alloc: Global) -> Result<Items<Index>, AllocError> {
-    let index = first_index(rt, alloc)?;
-    listed(alloc, index)
-}
-
 /// The table with its index.
-fn found(rt: &impl Abort, alloc: Global) -> Result<Found, AllocError> {
-    let table = table(rt, alloc)?;
-    match indexes(rt, alloc) {
-        Ok(indexes) => Ok(Found {
-            table,
-            indexes,
-            at: 0,
-        }),
-        Err(fault) => {
-            drop(table);
-            Err(fault)
-        }
-    }
+fn found(rt: &impl Abort, alloc: Global) -> Found {
+    let bare = table_of(alloc, 2, TABLE).expect(rt, "a table");
+    with_index(alloc, bare, 7, IndexState::Active, 1, INDEX).expect(rt, "an index")
 }
 
 /// Tests each line, and gives how many there are.
@@ -317,7 +173,7 @@ fn are_bound(rt: &impl Abort, alloc: Global, found: &Found) -> Result<u32, Alloc
 
 #[test]
 fn statements_are_bound_or_refused(rt: HostRuntime) -> Result<(), Fail> {
-    let found = found(&rt, rt.alloc())?;
+    let found = found(&rt, rt.alloc());
     let lines = are_bound(&rt, rt.alloc(), &found);
     drop(found);
     assert_eq!(rt; lines?, 122);

@@ -1,9 +1,10 @@
 // Queries by each path, and whether their answers are exact.
-use crate::exact::{Order, is_exact};
-use crate::rows::{Version, View, as_of};
 use crate::stands::{Stands, after_entries, is_read};
 use px_reply::{Item, Reply, Transcript};
+use px_tests_runs::model::{Version, View, as_of};
+use px_tests_runs::queries::{Order, Query, Which, is_answer};
 use px_trail::{Act, Trail};
+use px_values::Row;
 use std::alloc::{AllocError, Global};
 
 /// By which path a query is to go: by the table, or by an index, where it can be read.
@@ -25,10 +26,26 @@ pub fn text_of(by: By) -> &'static str {
 /// In which order the rows come at a point below a stamp: that of the index, if it is read there.
 pub fn order_of(by: By, stands: Stands, below: u64) -> Order {
     match by {
-        By::Letter if is_read(stands.first, below) => Order::ByLetter,
-        By::Number if is_read(stands.second, below) => Order::ByNumber,
+        By::Letter if is_read(stands.first, below) => Order::ByA,
+        By::Number if is_read(stands.second, below) => Order::ByB,
         _ => Order::ById,
     }
+}
+
+/// Whether these are exactly the rows in view, in their order.
+pub fn is_exact(
+    alloc: Global,
+    versions: &[Version],
+    view: View,
+    order: Order,
+    rows: &[Row],
+) -> Result<bool, AllocError> {
+    let query = Query {
+        table: 0,
+        order,
+        which: Which::All,
+    };
+    is_answer(alloc, versions, view, query, rows)
 }
 
 /// A point that a seat opened: which entry of the run tells it, its stamp, and whether it is one as of an SCN.
@@ -68,12 +85,13 @@ fn is_alone(trail: &Trail, seat: u32, from: u64, to: u64) -> bool {
 
 /// What a query is to have seen: as of its SCN all that was ever written at or below the point, and else what was written when its point was opened,
 /// if nobody acted meanwhile.
-fn view_of(trail: &Trail, seat: u32, at: Opening, last: u64) -> Option<View> {
+fn view_of(trail: &Trail, table: u32, seat: u32, at: Opening, last: u64) -> Option<View> {
     if at.scn {
-        return Some(as_of(at.stamp.saturating_add(1)));
+        return Some(as_of(table, at.stamp.saturating_add(1)));
     }
     if is_alone(trail, seat, at.place, last) {
         Some(View {
+            table,
             below: u64::MAX,
             within: at.place,
         })
@@ -118,6 +136,7 @@ pub fn answered(
     trail: &Trail,
     stands: Stands,
     versions: &[Version],
+    table: u32,
     seat: u32,
     item: &Item,
     by: By,
@@ -126,7 +145,7 @@ pub fn answered(
     let Some(at) = opened_by(trail, seat, first.saturating_sub(1), last) else {
         return Ok(Came::Untold);
     };
-    let (Some(view), Reply::Rows(_)) = (view_of(trail, seat, at, last), &item.reply) else {
+    let (Some(view), Reply::Rows(_)) = (view_of(trail, table, seat, at, last), &item.reply) else {
         return Ok(Came::Untold);
     };
     let then = after_entries(stands, trail, at.place);
@@ -142,10 +161,23 @@ pub struct Ask {
     pub stands: Stands,
 }
 
+/// What the answer of a query by itself came to.
+fn came_to(
+    alloc: Global,
+    versions: &[Version],
+    table: u32,
+    item: &Item,
+    ask: &Ask,
+) -> Result<Came, AllocError> {
+    let order = order_of(ask.by, ask.stands, ask.below);
+    judged(alloc, versions, as_of(table, ask.below), order, &item.reply)
+}
+
 /// How many answers by an index were exact, of a session by itself; none where an answer is wrong. Of a command nothing is asked.
 pub fn exact_answers(
     alloc: Global,
     versions: &[Version],
+    table: u32,
     transcript: &Transcript,
     asked: &[Option<Ask>],
 ) -> Result<Option<u64>, AllocError> {
@@ -158,14 +190,7 @@ pub fn exact_answers(
         let Some(Some(ask)) = asked.get(place) else {
             continue;
         };
-        let order = order_of(ask.by, ask.stands, ask.below);
-        match judged(
-            alloc,
-            versions,
-            as_of(ask.below),
-            order,
-            &items[place].reply,
-        )? {
+        match came_to(alloc, versions, table, &items[place], ask)? {
             Came::Exact { by_index: true } => count = count.saturating_add(1),
             Came::Exact { by_index: false } => {}
             _ => return Ok(None),

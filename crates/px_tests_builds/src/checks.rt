@@ -1,11 +1,11 @@
 // What is asked of a folder behind a run: the rows by both indexes as of their births and stamps behind them, and newest; and once they are built again.
-use crate::asked::{Ask, By, exact_answers, text_of};
-use crate::exact::{Order, is_exact};
-use crate::rows::{Version, as_of};
+use crate::asked::{Ask, By, exact_answers, is_exact, text_of};
 use crate::stands::{Stand, Stands};
 use px_reply::{Reply, Transcript};
 use px_tables::IndexState;
 use px_tests_runs::dice::Dice;
+use px_tests_runs::model::{Version, as_of};
+use px_tests_runs::queries::Order;
 use px_tests_runs::scripts::add_scn;
 use std::alloc::{AllocError, Global};
 
@@ -137,6 +137,7 @@ pub fn check_of(
 fn is_first_exact(
     alloc: Global,
     versions: &[Version],
+    table: u32,
     transcript: &Transcript,
 ) -> Result<bool, AllocError> {
     let [item, ..] = transcript.items.as_slice() else {
@@ -145,13 +146,8 @@ fn is_first_exact(
     let Reply::Rows(rows) = &item.reply else {
         return Ok(false);
     };
-    is_exact(
-        alloc,
-        versions,
-        as_of(u64::MAX),
-        Order::ById,
-        rows.as_slice(),
-    )
+    let view = as_of(table, u64::MAX);
+    is_exact(alloc, versions, view, Order::ById, rows.as_slice())
 }
 
 /// Leaves of the versions from a place on, which a stopped step was to write, all or none, as the first answer tells.
@@ -159,9 +155,10 @@ pub fn decide(
     alloc: Global,
     versions: &mut Vec<Version>,
     settled: usize,
+    table: u32,
     transcript: &Transcript,
 ) -> Result<(), AllocError> {
-    if versions.len() > settled && !is_first_exact(alloc, versions, transcript)? {
+    if versions.len() > settled && !is_first_exact(alloc, versions, table, transcript)? {
         versions.truncate(settled);
     }
     Ok(())
@@ -171,8 +168,9 @@ pub fn decide(
 pub fn judged(
     alloc: Global,
     versions: &[Version],
+    table: u32,
     transcript: &Transcript,
     check: &Check,
 ) -> Result<Option<u64>, AllocError> {
-    exact_answers(alloc, versions, transcript, &check.asked)
+    exact_answers(alloc, versions, table, transcript, &check.asked)
 }

@@ -1,5 +1,7 @@
 // What was met in runs.
-use crate::stands::{Stands, after, is_in};
+use crate::plans::FLUSHER;
+use crate::stands::{Stands, after, after_entries, is_in};
+use px_reply::{Item, Reply, Transcript};
 use px_tables::IndexState;
 use px_trail::{Act, Trail};
 
@@ -24,7 +26,8 @@ pub struct Tally {
     /// Batches that began between two steps of a build, and those that wrote rows there.
     pub begun: u64,
     pub wrote: u64,
-    /// Runs after which the table had fewer files than before, so that some were merged.
+    /// Flushes that ended while an index was built, and files of the table's rows that were merged into another: three of each four.
+    pub flushed: u64,
     pub merged: u64,
     /// Exact answers by an index: while others acted, and after a run.
     pub answers: u64,
@@ -45,6 +48,7 @@ pub const NOTHING: Tally = Tally {
     cut: 0,
     begun: 0,
     wrote: 0,
+    flushed: 0,
     merged: 0,
     answers: 0,
     dated: 0,
@@ -126,6 +130,7 @@ impl Tally {
             && self.unopened >= least.unopened
             && self.begun >= least.begun
             && self.wrote >= least.wrote
+            && self.flushed >= least.flushed
             && self.merged >= least.merged
             && self.answers >= least.answers
             && self.dated >= least.dated
@@ -141,6 +146,54 @@ impl Tally {
             count(&mut self.cut);
         }
     }
+}
+
+/// Whether rows were written from one entry to another.
+fn has_written(trail: &Trail, from: u64, to: u64) -> bool {
+    for place in from..to.min(trail.len()) {
+        if matches!(&trail.entry(place).act, Act::Wrote { .. }) {
+            return true;
+        }
+    }
+    false
+}
+
+/// How many files of the table's rows a session's flushes made at least: one each before which rows were written behind the one before.
+fn files_of(trail: &Trail, items: &[Item]) -> u64 {
+    let (mut count, mut behind): (u64, u64) = (0, 0);
+    for item in items {
+        if matches!(&item.reply, Reply::Flushed) {
+            if has_written(trail, behind, item.evidence.first) {
+                count = count.saturating_add(1);
+            }
+            behind = item.evidence.last;
+        }
+    }
+    count
+}
+
+/// How many files of the table's rows the flushes of a run made at least.
+pub fn files_made(trail: &Trail, transcripts: &[Transcript]) -> u64 {
+    for transcript in transcripts {
+        if transcript.session == FLUSHER {
+            return files_of(trail, transcript.items.as_slice());
+        }
+    }
+    0
+}
+
+/// How many flushes of a run that began with these indexes ended while one was built.
+pub fn flushes_within(trail: &Trail, transcripts: &[Transcript], stands: Stands) -> u64 {
+    let mut count: u64 = 0;
+    for transcript in transcripts {
+        for item in transcript.items.as_slice() {
+            let then = after_entries(stands, trail, item.evidence.last);
+            if matches!(&item.reply, Reply::Flushed) && is_building(then) {
+                count = count.saturating_add(1);
+            }
+        }
+    }
+    count
 }
 
 fn is_building(stands: Stands) -> bool {

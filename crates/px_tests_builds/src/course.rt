@@ -1,17 +1,17 @@
 // Runs on one disk, each stopped somewhere or not, and what is there behind each of them.
 use crate::asked::{Came, answered};
 use crate::checks::{Check, check_of, decide, judged};
-use crate::counts::{NOTHING, Tally, count};
+use crate::counts::{NOTHING, Tally, count, files_made, flushes_within};
 use crate::plans::{LOOKER, Plan, planned, set_up};
-use crate::rows::{Version, add_late, add_written, settle};
 use crate::stands::{NONE, Stands, after_late, as_opened, stands_in};
 use px_opening::{Opened, open};
 use px_outside::{CallMade, Choice, MemDisk};
 use px_reply::Transcript;
 use px_tests_runs::copies::{add_files, copied};
 use px_tests_runs::dice::Dice;
+use px_tests_runs::model::{Version, add_late, add_written, last_stamp, settle, tables_made};
 use px_tests_runs::runs::{Outcome, Ran, disk_of, run, run_read};
-use px_trail::{Act, Entry, Trail};
+use px_trail::{Entry, Trail};
 use std::alloc::{AllocError, Global};
 use std::sync::Wait;
 use std::thread::Threads;
@@ -42,35 +42,23 @@ pub struct Making {
     pub points: u32,
 }
 
-/// The dated rows on a disk, of which those from a place on may be there or not; the numbers of its files, the indexes, the greatest stamp, how many files
-/// the table's rows have, how many calls of the disk open its folder, how many the last run made behind its opening that wasn't stopped, the greatest key,
-/// and what was met.
+/// The dated rows of the table of this number, of which those from a place on may be there or not; the numbers of its disk's files, the indexes, the greatest
+/// stamp, how many files the table's rows have, and how many the last run's flushes made; how many calls of the disk open its folder, how many the last
+/// run made behind its opening that wasn't stopped, the greatest key, and what was met.
 #[derive(Drop)]
 pub struct Course {
+    table: u32,
     versions: Vec<Version>,
     settled: usize,
     files: Vec<u64>,
     stands: Stands,
     last: u64,
     row_files: u64,
+    files_made: u64,
     opening: u32,
     calls: u32,
     keys: u32,
     tally: Tally,
-}
-
-/// The greatest stamp that a run drew.
-fn last_stamp(trail: &Trail, before: u64) -> u64 {
-    let mut last = before;
-    for place in 0..trail.len() {
-        match &trail.entry(place).act {
-            Act::Begun { stamp, .. }
-            | Act::IndexMade { stamp, .. }
-            | Act::IndexState { stamp, .. } => last = last.max(*stamp),
-            _ => {}
-        }
-    }
-    last
 }
 
 /// Whether a call failed.
@@ -142,9 +130,9 @@ impl Course {
             if place % 2 == 0 {
                 continue;
             }
-            let seat = transcript.session;
+            let (table, seat, item) = (self.table, transcript.session, &items[place]);
             let (stands, versions) = (self.stands, self.versions.as_slice());
-            match answered(alloc, trail, stands, versions, seat, &items[place], *by)? {
+            match answered(alloc, trail, stands, versions, table, seat, item, *by)? {
                 Came::Exact { by_index: true } => count(&mut self.tally.answers),
                 Came::Wrong => return Ok(false),
                 _ => {}
@@ -172,13 +160,16 @@ impl Course {
     /// Adds what a run wrote and did. Whether all answers in it are right.
     fn add(&mut self, alloc: Global, ran: &Ran<MemDisk>, plan: &Plan) -> Result<bool, AllocError> {
         add_files(ran.disk.calls_made(), &mut self.files)?;
-        add_written(&ran.trail, &mut self.versions)?;
+        add_written(alloc, &ran.trail, &mut self.versions)?;
         let all = ran.transcripts.as_slice();
         let is_right = self.are_looks_right(alloc, &ran.trail, all, plan)?;
         settle(&mut self.versions);
         self.settled = self.versions.len();
-        add_late(&ran.trail, &ran.late, &mut self.versions)?;
-        self.last = last_stamp(&ran.trail, self.last);
+        add_late(alloc, &ran.trail, &ran.late, &mut self.versions)?;
+        self.last = self.last.max(last_stamp(&ran.trail));
+        self.files_made = files_made(&ran.trail, all);
+        let within = flushes_within(&ran.trail, all, self.stands);
+        self.tally.flushed = self.tally.flushed.saturating_add(within);
         self.stands = self.tally.add_trail(&ran.trail, self.stands);
         if has_failed(ran.disk.calls_made()) {
             count(&mut self.tally.stops);
@@ -192,10 +183,11 @@ impl Course {
     fn take(&mut self, found: Found, late: &Option<Entry>) -> bool {
         let there = as_opened(found.stands);
         let (before, after) = (self.stands, after_late(self.stands, late));
-        if found.row_files < self.row_files {
-            count(&mut self.tally.merged);
-        }
+        let files = self.row_files.saturating_add(self.files_made);
+        let merged = files.saturating_sub(found.row_files);
+        self.tally.merged = self.tally.merged.saturating_add(merged);
         self.row_files = found.row_files;
+        self.files_made = 0;
         self.stands = there;
         there == as_opened(before) || there == as_opened(after)
     }
@@ -210,9 +202,10 @@ impl Course {
         let [transcript] = transcripts else {
             return Ok(false);
         };
-        decide(alloc, &mut self.versions, self.settled, transcript)?;
+        let table = self.table;
+        decide(alloc, &mut self.versions, self.settled, table, transcript)?;
         self.settled = self.versions.len();
-        match judged(alloc, &self.versions, transcript, asked)? {
+        match judged(alloc, &self.versions, table, transcript, asked)? {
             Some(more) => {
                 self.tally.dated = self.tally.dated.saturating_add(more);
                 Ok(true)
@@ -295,6 +288,7 @@ impl Course {
             late,
             transcripts,
             printed,
+            whole: _,
         } = ran;
         drop(trail);
         drop(transcripts);
@@ -395,16 +389,23 @@ fn begun(
     let mut files = Vec::new(alloc);
     add_files(ran.disk.calls_made(), &mut files)?;
     let mut versions = Vec::new(alloc);
-    add_written(&ran.trail, &mut versions)?;
+    add_written(alloc, &ran.trail, &mut versions)?;
     settle(&mut versions);
     let settled = versions.len();
+    let tables = tables_made(alloc, &ran.trail)?;
+    let table = match tables.as_slice() {
+        [table, ..] => *table,
+        _ => 0,
+    };
     Ok(Course {
+        table,
         versions,
         settled,
         files,
         stands: NONE,
-        last: last_stamp(&ran.trail, 0),
+        last: last_stamp(&ran.trail),
         row_files: 0,
+        files_made: 0,
         opening: 0,
         calls: making.calls,
         keys: rows.saturating_add(20),
@@ -420,7 +421,8 @@ fn opened_first(
 ) -> Result<(MemDisk, Course), Wrong> {
     let found = found_on(alloc, &mut disk);
     course.opening = calls_of(&disk);
-    if found.is_ok() && add_files(disk.calls_made(), &mut course.files).is_ok() {
+    if let (Ok(found), Ok(())) = (found, add_files(disk.calls_made(), &mut course.files)) {
+        course.row_files = found.row_files;
         return Ok((disk, course));
     }
     drop(disk);

@@ -11,11 +11,7 @@ mod counts;
 #[cfg(test)]
 mod course;
 #[cfg(test)]
-mod exact;
-#[cfg(test)]
 mod plans;
-#[cfg(test)]
-mod rows;
 #[cfg(test)]
 mod seeds;
 #[cfg(test)]

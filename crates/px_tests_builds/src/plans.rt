@@ -9,11 +9,14 @@ use std::alloc::{AllocError, Global};
 /// The sessions that write.
 const WRITERS: u32 = 3;
 
+/// The session that flushes.
+pub const FLUSHER: u32 = 6;
+
 /// The session that asks.
 pub const LOOKER: u32 = 7;
 
-/// Whose step may be next, each as often as is likely. Two sessions make and change an index each, and the sixth flushes.
-const TURNS: [u32; 17] = [1, 1, 1, 2, 2, 2, 3, 3, 3, 4, 4, 5, 5, 6, 6, 7, 7];
+/// Whose step may be next, each as often as is likely. Two sessions make and change an index each.
+const TURNS: [u32; 17] = [1, 1, 2, 2, 3, 3, 4, 4, 5, 5, 6, 6, 6, 6, 6, 7, 7];
 
 const LETTERS: [&str; 8] = ["NULL", "'a'", "'b'", "'c'", "'d'", "'e'", "'f'", "'g'"];
 
@@ -62,30 +65,40 @@ const CHANGES: [&str; 14] = [
     FIVE,
 ];
 
+/// The first statement on the first index, and on the second.
+const MADE: [&str; 2] = [
+    "CREATE INDEX IF NOT EXISTS T_A ON T (A) INCLUDE (B);\n",
+    "CREATE INDEX IF NOT EXISTS T_B ON T (B DESC);\n",
+];
+
 /// Statements on the first index, and on the second.
 const FIRST: [&str; 8] = [
     "CREATE INDEX IF NOT EXISTS T_A ON T (A) INCLUDE (B);\n",
-    "CREATE INDEX IF NOT EXISTS T_A ON T (A) INCLUDE (B);\n",
-    "CREATE INDEX IF NOT EXISTS T_A ON T (A) INCLUDE (B);\n",
     "ALTER INDEX T_A ON T REBUILD;\n",
     "ALTER INDEX T_A ON T REBUILD;\n",
     "ALTER INDEX T_A ON T REBUILD;\n",
+    "ALTER INDEX T_A ON T REBUILD;\n",
+    "ALTER INDEX T_A ON T DISABLE;\n",
     "ALTER INDEX T_A ON T DISABLE;\n",
     "DROP INDEX IF EXISTS T_A ON T;\n",
 ];
 
 const SECOND: [&str; 8] = [
     "CREATE INDEX IF NOT EXISTS T_B ON T (B DESC);\n",
-    "CREATE INDEX IF NOT EXISTS T_B ON T (B DESC);\n",
-    "CREATE INDEX IF NOT EXISTS T_B ON T (B DESC);\n",
+    "ALTER INDEX T_B ON T REBUILD;\n",
     "ALTER INDEX T_B ON T REBUILD;\n",
     "ALTER INDEX T_B ON T REBUILD;\n",
     "ALTER INDEX T_B ON T REBUILD;\n",
     "ALTER INDEX T_B ON T DISABLE;\n",
+    "ALTER INDEX T_B ON T DISABLE;\n",
     "DROP INDEX IF EXISTS T_B ON T;\n",
 ];
 
-const FLUSHES: [&str; 3] = [PAUSE, "!flush\n", "!flush\n"];
+/// Before each flush the session writes rows, so that each makes a file, and four of these are merged.
+const FLUSHES: [&str; 2] = [
+    "UPSERT INTO T VALUES (#, $, %);\n!flush\n",
+    "DELETE FROM T WHERE ID IN (#, #);\n!flush\n",
+];
 
 /// The texts of all sessions, whose steps are next, and by which paths the session asks that only reads.
 #[derive(Drop)]
@@ -168,6 +181,19 @@ fn statements(
     Ok(text)
 }
 
+/// The statements of a session on an index: it is made, if it isn't there, and then changed.
+fn definitions(
+    alloc: Global,
+    dice: &mut Dice,
+    first: &str,
+    words: &[&'static str],
+) -> Result<String, AllocError> {
+    let mut text = String::from_str(alloc, first)?;
+    let rest = statements(alloc, dice, 0, words, 4)?;
+    text.push_str(rest.as_str())?;
+    Ok(text)
+}
+
 /// Adds an SCN up to some stamps behind the last one, or none.
 fn add_random_scn(text: &mut String, dice: &mut Dice, last: u64) -> Result<(), AllocError> {
     if dice.below(3) == 0 {
@@ -203,6 +229,7 @@ fn looks(
 fn streak(dice: &mut Dice, session: u32) -> u32 {
     match (session, dice.below(8)) {
         (LOOKER, 0..=2) => 30,
+        (FLUSHER, 0) => 12,
         (1..=3, 0) => 9,
         (4..=5, 0) => 4,
         _ => 1,
@@ -250,12 +277,12 @@ fn changes(alloc: Global, dice: &mut Dice, keys: u32) -> Result<Vec<SessionText>
         let text = statements(alloc, dice, keys, &CHANGES, count)?;
         add_session(&mut texts, place.saturating_add(1), text)?;
     }
-    let first = statements(alloc, dice, keys, &FIRST, 3)?;
+    let first = definitions(alloc, dice, MADE[0], &FIRST)?;
     add_session(&mut texts, 4, first)?;
-    let second = statements(alloc, dice, keys, &SECOND, 3)?;
+    let second = definitions(alloc, dice, MADE[1], &SECOND)?;
     add_session(&mut texts, 5, second)?;
-    let flushes = statements(alloc, dice, keys, &FLUSHES, 8)?;
-    add_session(&mut texts, 6, flushes)?;
+    let flushes = statements(alloc, dice, keys, &FLUSHES, 5)?;
+    add_session(&mut texts, FLUSHER, flushes)?;
     Ok(texts)
 }
 

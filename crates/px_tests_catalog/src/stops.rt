@@ -1,7 +1,8 @@
 use crate::{add, table_body};
 use px_catalog::Catalog;
-use px_outside::{CallMade, Choice, DeviceCall, Disk, MemDisk};
+use px_outside::{CallMade, DeviceCall, Disk, MemDisk};
 use px_schema::Standing;
+use px_tests_stops::{CHOICES, Run, calls_of, stop};
 use std::alloc::Global;
 use std::test::Fail;
 
@@ -96,44 +97,28 @@ fn opens(alloc: Global, image: &mut MemDisk) -> Option<u64> {
     if more { Some(count) } else { None }
 }
 
-/// How many calls a run makes, if it ends.
-fn calls_of_run(alloc: Global) -> Option<u64> {
-    let mut told = 0;
-    let mut disk = MemDisk::new(alloc);
-    let ended = run(alloc, &mut disk, &mut told).is_some() && told == MOST;
-    let calls = disk.calls_made().len() as u64;
-    drop(disk);
-    if ended { Some(calls) } else { None }
-}
+/// Definitions and drops, between which the catalogue is renewed.
+struct Definitions;
 
-/// Whether a stop in this call leaves what was told, or one more.
-fn is_whole(alloc: Global, call: u64, choice: Choice) -> bool {
-    let mut told = 0;
-    let mut disk = MemDisk::new(alloc).stop_at(call, choice);
-    let ended = run(alloc, &mut disk, &mut told).is_some();
-    let mut image = disk.image();
-    let count = opens(alloc, &mut image);
-    drop(image);
-    match count {
-        Some(count) => !ended && (count == told || count == told.saturating_add(1)),
-        None => false,
+impl Run for Definitions {
+    fn make(&self, alloc: Global, disk: &mut MemDisk, told: &mut u64) -> Option<()> {
+        run(alloc, disk, told)
+    }
+
+    fn shown(&self, alloc: Global, image: &mut MemDisk) -> Option<u64> {
+        opens(alloc, image)
     }
 }
 
 #[test]
 fn a_stop_leaves_a_definition_whole_or_not_at_all(rt: HostRuntime) -> Result<(), Fail> {
     let alloc = rt.alloc();
-    let calls = calls_of_run(alloc).ok_or("not ended")?;
-    assert!(rt; calls > 40 && calls < 60, "{calls}");
+    let (calls, told) = calls_of(alloc, &Definitions).ok_or("not ended")?;
+    assert!(rt; told == MOST && calls > 40 && calls < 60, "{calls}");
     for call in 1..=calls {
-        for choice in [
-            Choice::Old,
-            Choice::New,
-            Choice::Fill(0),
-            Choice::Fill(1),
-            Choice::Fill(255),
-        ] {
-            assert!(rt; is_whole(alloc, call, choice), "call {call}");
+        for choice in CHOICES {
+            let left = stop(alloc, &Definitions, call, choice);
+            assert!(rt; !left.whole && left.is_well(), "call {call}");
         }
     }
     Ok(())

@@ -4,7 +4,9 @@ ghost use Rattle.std.specs.Prelude.{◌≡◌, IfOk};
 use px_cells::{Cell, CellKind, Cells, is_cell_list};
 use px_cellshapes::{are_right_keys, are_right_rows, is_right_index, is_right_table};
 use px_tables::{Index, IndexState, KeyPlace, Table, TableColumn};
-use px_values::{ColType, Direction, IndexId, Items, Name, TableId};
+use px_tests_layouts as layouts;
+use px_tests_layouts::column;
+use px_values::{ColType, Direction, Items};
 use std::alloc::{AllocError, Global};
 use std::process::Abort;
 use std::test::Fail;
@@ -14,20 +16,11 @@ static ROW: [u8; 1] = [0x85];
 
 static INDEX_ROW: [u8; 3] = [0x62, 0, 0x85];
 
-fn column(alloc: Global, name: &str, column_type: ColType) -> Result<TableColumn, AllocError> {
-    let name = Name::from_str(alloc, name)?;
-    Ok(TableColumn {
-        name,
-        column_type,
-        not_null: false,
-    })
-}
-
 fn columns(alloc: Global) -> Result<Items<TableColumn>, AllocError> {
     let mut columns = Vec::new(alloc);
-    columns.push(column(alloc, "ID", ColType::TinyInt)?)?;
-    columns.push(column(alloc, "C", ColType::Varchar)?)?;
-    columns.push(column(alloc, "A", ColType::UnsignedInt)?)?;
+    columns.push(column(alloc, "ID", ColType::TinyInt, false)?)?;
+    columns.push(column(alloc, "C", ColType::Varchar, false)?)?;
+    columns.push(column(alloc, "A", ColType::UnsignedInt, false)?)?;
     Ok(Items::of(columns))
 }
 
@@ -44,16 +37,9 @@ fn places(alloc: Global, columns: &[u8]) -> Result<Items<KeyPlace>, AllocError> 
 
 /// A table of ID, C and A with this primary key.
 fn table(alloc: Global, key: &[u8]) -> Result<Table, AllocError> {
-    let name = Name::from_str(alloc, "T")?;
     let columns = columns(alloc)?;
     match places(alloc, key) {
-        Ok(key) => Ok(Table {
-            id: TableId(4),
-            name,
-            columns,
-            key,
-            regions: Items::of(Vec::new(alloc)),
-        }),
+        Ok(key) => layouts::table(alloc, 4, columns, key),
         Err(fault) => {
             drop(columns);
             Err(fault)
@@ -62,19 +48,8 @@ fn table(alloc: Global, key: &[u8]) -> Result<Table, AllocError> {
 }
 
 fn index(alloc: Global, parts: &[u8], included: &[u8]) -> Result<Index, AllocError> {
-    let name = Name::from_str(alloc, "I")?;
     let parts = places(alloc, parts)?;
-    let included = Vec::from_slice(alloc, included)?;
-    Ok(Index {
-        id: IndexId(6),
-        table: TableId(4),
-        name,
-        state: IndexState::Active,
-        birth: 0,
-        region: 5,
-        parts,
-        included: Items::of(included),
-    })
+    layouts::index(alloc, IndexState::Active, 0, parts, included)
 }
 
 /// A cell at the stamp 9.

@@ -1,6 +1,7 @@
 use crate::pieces::{Parts, begin, flush, mark, merge, newest, opened, put, shown, step};
 use px_flushing::FlushStep;
 use px_outside::{Choice, Disk, MemDisk};
+use px_tests_stops::{Run, all_stop_well, calls_of};
 use std::alloc::Global;
 use std::test::Fail;
 
@@ -141,67 +142,54 @@ fn goes_on(alloc: Global, image: &mut MemDisk) -> Option<bool> {
     Some(merged && flushed && before == after)
 }
 
-// At each call of the disk a stop leaves the rows that were told, and the one under way or not, and a compaction goes on from there.
-fn stops_well(alloc: Global, call: u64, choice: Choice) -> bool {
-    let mut told = 0;
-    let mut disk = MemDisk::new(alloc).stop_at(call, choice);
-    let whole = run(alloc, &mut disk, &mut told).is_some();
-    let mut image = disk.image();
-    let rows = rows_shown(alloc, &mut image);
-    let more = goes_on(alloc, &mut image);
-    drop(image);
-    match rows {
-        Some(rows) => {
-            more == Some(true) && (rows == told || !whole && rows == told.saturating_add(1))
-        }
-        None => false,
+/// Four rows in four files.
+struct Filled;
+
+impl Run for Filled {
+    fn make(&self, alloc: Global, disk: &mut MemDisk, told: &mut u64) -> Option<()> {
+        let mut parts = opened(alloc, disk)?;
+        let done = fill(alloc, disk, &mut parts, told);
+        drop(parts);
+        done
+    }
+
+    fn shown(&self, alloc: Global, image: &mut MemDisk) -> Option<u64> {
+        rows_shown(alloc, image)
     }
 }
 
-// How many calls it takes until four files are named, and until the end.
-fn calls_of_run(alloc: Global) -> Option<(u64, u64)> {
-    let mut told = 0;
-    let mut disk = MemDisk::new(alloc);
-    let mut parts = opened(alloc, &mut disk)?;
-    let filled = fill(alloc, &mut disk, &mut parts, &mut told);
-    let first = disk.calls_made().len() as u64;
-    drop(parts);
-    drop(disk);
-    filled?;
-    let mut disk = MemDisk::new(alloc);
-    let done = run(alloc, &mut disk, &mut told);
-    let calls = disk.calls_made().len() as u64;
-    drop(disk);
-    done?;
-    Some((first, calls))
-}
+/// The compaction of these beside a fifth row, which a further compaction leaves as it is.
+struct Compactions;
 
-// Whether a stop in any call of the compaction and behind it does.
-fn each_stops_well(alloc: Global, choice: Choice) -> bool {
-    for call in 117..156u64 {
-        if !stops_well(alloc, call, choice) {
-            return false;
-        }
+impl Run for Compactions {
+    fn make(&self, alloc: Global, disk: &mut MemDisk, told: &mut u64) -> Option<()> {
+        run(alloc, disk, told)
     }
-    true
+
+    fn shown(&self, alloc: Global, image: &mut MemDisk) -> Option<u64> {
+        let rows = rows_shown(alloc, image);
+        if goes_on(alloc, image)? { rows } else { None }
+    }
 }
 
 #[test]
 fn a_stop_in_a_compaction_loses_nothing(rt: HostRuntime) -> Result<(), Fail> {
-    let calls = calls_of_run(rt.alloc());
-    assert!(rt; calls == Some((117, 155)), "{calls:?}");
-    assert!(rt; each_stops_well(rt.alloc(), Choice::Old));
+    let first = calls_of(rt.alloc(), &Filled);
+    assert!(rt; first == Some((117, 4)), "{first:?}");
+    let calls = calls_of(rt.alloc(), &Compactions);
+    assert!(rt; calls == Some((155, 5)), "{calls:?}");
+    assert!(rt; all_stop_well(rt.alloc(), &Compactions, 117, 156, Choice::Old));
     Ok(())
 }
 
 #[test]
 fn nor_does_one_that_leaves_all(rt: HostRuntime) -> Result<(), Fail> {
-    assert!(rt; each_stops_well(rt.alloc(), Choice::New));
+    assert!(rt; all_stop_well(rt.alloc(), &Compactions, 117, 156, Choice::New));
     Ok(())
 }
 
 #[test]
 fn nor_does_one_that_leaves_ones(rt: HostRuntime) -> Result<(), Fail> {
-    assert!(rt; each_stops_well(rt.alloc(), Choice::Fill(1)));
+    assert!(rt; all_stop_well(rt.alloc(), &Compactions, 117, 156, Choice::Fill(1)));
     Ok(())
 }

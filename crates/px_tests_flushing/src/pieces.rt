@@ -1,15 +1,15 @@
 // What the tests of flushes have together.
-ghost use Rattle.std.specs.Prelude.{◌≡◌, ◌≤◌, ◌<◌, ◌^◌, true, length};
 
 use px_cellbytes::read_cells;
-use px_cells::{Cell, CellKind};
+use px_cells::CellKind;
 use px_cursor::Cursor;
 use px_flushing::{FlushStep, Flushing};
 use px_gatelog::{Frame, Rolled};
 use px_outside::MemDisk;
-use px_sources::{CellTaker, Source, give};
+use px_sources::{Source, give};
+use px_tests_storage::{Seen, push_cell};
 use px_wal::{FileEntry, Manifest, Replayed, Wal};
-use std::alloc::{AllocError, Global};
+use std::alloc::Global;
 
 /// A region with its open files.
 #[derive(Drop)]
@@ -17,31 +17,6 @@ pub struct Parts {
     pub manifest: Manifest,
     pub wal: Wal,
     pub flushing: Flushing,
-}
-
-/// Keeps a number for each cell: ten times its row, and its stamp.
-#[derive(Drop)]
-struct Seen {
-    cells: Vec<u64>,
-}
-
-impl CellTaker for Seen {
-    ghost has_taken = { λ seen cells. 0 ≤ 0 };
-
-    ghost wants = { λ seen cells. true };
-
-    fn take(&mut self, cell: &Cell) -> Result<(), AllocError> {
-        let row = match cell.key() {
-            [] => 0,
-            [row, ..] => u64::from(*row),
-        };
-        self.cells.push(row * 10 + cell.stamp() % 10)?;
-        Ok(())
-    }
-
-    fn wants_row(&self) -> bool {
-        true
-    }
 }
 
 /// Opens the manifest of region 1, and its next segment where none is open.
@@ -79,23 +54,6 @@ pub fn opened(alloc: Global, disk: &mut MemDisk) -> Option<Parts> {
     })
 }
 
-/// The bytes of one cell of a row, of the kind of a code, whose value has so many bytes.
-fn cell_bytes(
-    alloc: Global,
-    row: u8,
-    stamp: u8,
-    kind: u8,
-    len: u16,
-) -> Result<Vec<u8>, AllocError> {
-    let mut bytes = Vec::new(alloc);
-    bytes.extend_from_slice(&[0, 1, row, 1, 0, 0, 0, 0, 0, 0, 0, stamp, kind])?;
-    bytes.extend_from_slice(&len.to_be_bytes())?;
-    for _ in 0..len {
-        bytes.push(row)?;
-    }
-    Ok(bytes)
-}
-
 /// Writes a batch of one cell.
 fn write(
     alloc: Global,
@@ -106,7 +64,8 @@ fn write(
     kind: CellKind,
     len: u16,
 ) -> Option<()> {
-    let bytes = cell_bytes(alloc, row, stamp, kind.code(), len).ok()?;
+    let mut bytes = Vec::new(alloc);
+    push_cell(&mut bytes, row, stamp, kind.code(), len).ok()?;
     if bytes.len() > 1_000_000 || !parts.wal.is_open() {
         return None;
     }

@@ -1,5 +1,6 @@
 use crate::pieces::{Parts, flush, opened, put, shown, step, switch};
 use px_outside::{Choice, MemDisk};
+use px_tests_stops::{Run, all_stop_well, calls_of};
 use std::alloc::Global;
 use std::test::Fail;
 
@@ -60,71 +61,48 @@ fn goes_on(alloc: Global, image: &mut MemDisk) -> Option<bool> {
     Some(flushed && before == after)
 }
 
-// At each call of the disk a stop leaves the rows that were told, and the one under way or not, and a flush goes on from there.
-fn stops_well(alloc: Global, call: u64, choice: Choice) -> bool {
-    let mut told = 0;
-    let mut disk = MemDisk::new(alloc).stop_at(call, choice);
-    let whole = run(alloc, &mut disk, &mut told).is_some();
-    let mut image = disk.image();
-    let rows = rows_shown(alloc, &mut image);
-    let more = goes_on(alloc, &mut image);
-    drop(image);
-    match rows {
-        Some(rows) => {
-            more == Some(true) && (rows == told || !whole && rows == told.saturating_add(1))
-        }
-        None => false,
-    }
-}
+/// Three rows and their flushes, which a further flush leaves as they are.
+struct Flushes;
 
-fn calls_of_run(alloc: Global) -> Option<u64> {
-    let mut told = 0;
-    let mut disk = MemDisk::new(alloc);
-    let done = run(alloc, &mut disk, &mut told);
-    let calls = disk.calls_made().len() as u64;
-    drop(disk);
-    done?;
-    Some(calls)
-}
-
-// Whether a stop in any call of the run does.
-fn each_stops_well(alloc: Global, choice: Choice) -> bool {
-    for call in 1..76u64 {
-        if !stops_well(alloc, call, choice) {
-            return false;
-        }
+impl Run for Flushes {
+    fn make(&self, alloc: Global, disk: &mut MemDisk, told: &mut u64) -> Option<()> {
+        run(alloc, disk, told)
     }
-    true
+
+    fn shown(&self, alloc: Global, image: &mut MemDisk) -> Option<u64> {
+        let rows = rows_shown(alloc, image);
+        if goes_on(alloc, image)? { rows } else { None }
+    }
 }
 
 #[test]
 fn a_stop_in_a_flush_loses_nothing(rt: HostRuntime) -> Result<(), Fail> {
-    let calls = calls_of_run(rt.alloc());
-    assert!(rt; calls == Some(75), "{calls:?}");
-    assert!(rt; each_stops_well(rt.alloc(), Choice::Old));
+    let calls = calls_of(rt.alloc(), &Flushes);
+    assert!(rt; calls == Some((75, 3)), "{calls:?}");
+    assert!(rt; all_stop_well(rt.alloc(), &Flushes, 1, 76, Choice::Old));
     Ok(())
 }
 
 #[test]
 fn nor_does_one_that_leaves_all(rt: HostRuntime) -> Result<(), Fail> {
-    assert!(rt; each_stops_well(rt.alloc(), Choice::New));
+    assert!(rt; all_stop_well(rt.alloc(), &Flushes, 1, 76, Choice::New));
     Ok(())
 }
 
 #[test]
 fn nor_does_one_that_leaves_zeros(rt: HostRuntime) -> Result<(), Fail> {
-    assert!(rt; each_stops_well(rt.alloc(), Choice::Fill(0)));
+    assert!(rt; all_stop_well(rt.alloc(), &Flushes, 1, 76, Choice::Fill(0)));
     Ok(())
 }
 
 #[test]
 fn nor_does_one_that_leaves_ones(rt: HostRuntime) -> Result<(), Fail> {
-    assert!(rt; each_stops_well(rt.alloc(), Choice::Fill(1)));
+    assert!(rt; all_stop_well(rt.alloc(), &Flushes, 1, 76, Choice::Fill(1)));
     Ok(())
 }
 
 #[test]
 fn nor_does_one_that_leaves_full_bytes(rt: HostRuntime) -> Result<(), Fail> {
-    assert!(rt; each_stops_well(rt.alloc(), Choice::Fill(255)));
+    assert!(rt; all_stop_well(rt.alloc(), &Flushes, 1, 76, Choice::Fill(255)));
     Ok(())
 }

@@ -1,8 +1,8 @@
 // Changes as the tests write them, made and compared.
-use px_tables::{KeyPlace, Table, TableColumn};
-use px_values::{
-    Assignment, Change, ColType, Direction, Items, Name, Row, TableId, Text, Value, What,
-};
+use px_tables::{Table, TableColumn};
+use px_tests_layouts as layouts;
+use px_tests_layouts::{column, places};
+use px_values::{Assignment, Change, ColType, Direction, Items, Row, Text, Value, What};
 use std::alloc::{AllocError, Global};
 
 /// A row of the key, by its two texts; the empty one is NULL.
@@ -11,50 +11,23 @@ pub type Written = (&'static str, &'static str);
 /// What a change does: it sets these columns to these texts, of which the empty one is NULL, or it removes the row.
 pub type Doing = Option<&'static [(u8, &'static str)]>;
 
-fn column(alloc: Global, name: &str) -> Result<TableColumn, AllocError> {
-    let name = Name::from_str(alloc, name)?;
-    Ok(TableColumn {
-        name,
-        column_type: ColType::Varchar,
-        not_null: false,
-    })
-}
-
 fn columns(alloc: Global) -> Result<Items<TableColumn>, AllocError> {
     let mut columns = Vec::new(alloc);
     for name in ["A", "K", "B", "L", "C"] {
-        columns.push(column(alloc, name)?)?;
+        columns.push(column(alloc, name, ColType::Varchar, false)?)?;
     }
     Ok(Items::of(columns))
 }
 
-// The second column and the fourth are the key.
-fn key(alloc: Global) -> Result<Items<KeyPlace>, AllocError> {
-    let first = KeyPlace {
-        column: 1,
-        direction: Direction::Ascending,
-    };
-    let second = KeyPlace {
-        column: 3,
-        direction: Direction::Descending,
-    };
-    Ok(Items::of(vec![in alloc; first, second]?))
-}
-
 /// A table of five columns, of which 0, 2 and 4 are outside the key.
 pub fn table(alloc: Global) -> Result<Table, AllocError> {
-    let name = Name::from_str(alloc, "T")?;
-    let key = key(alloc)?;
+    let key = places(
+        alloc,
+        &[(1, Direction::Ascending), (3, Direction::Descending)],
+    )?;
     match columns(alloc) {
-        Ok(columns) => Ok(Table {
-            id: TableId(5),
-            name,
-            columns,
-            key,
-            regions: Items::of(Vec::new(alloc)),
-        }),
+        Ok(columns) => layouts::table(alloc, 5, columns, key),
         Err(fault) => {
-            drop(name);
             drop(key);
             Err(fault)
         }

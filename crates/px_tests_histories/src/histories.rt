@@ -4,10 +4,11 @@ use px_outside::{Choice, MemDisk};
 use px_tests_runs::answers::{are_right, are_rows};
 use px_tests_runs::dice::Dice;
 use px_tests_runs::doubts::doubts;
+use px_tests_runs::model::tables_made;
 use px_tests_runs::queries::TEXTS;
 use px_tests_runs::runs::{Outcome, disk_of, run};
 use px_tests_runs::scripts::{Planned, SET_UP, add_changes, add_scn};
-use px_trail::{Act, Trail};
+use px_trail::Trail;
 use std::alloc::{AllocError, Global};
 use std::sync::Wait;
 use std::thread::Threads;
@@ -25,17 +26,6 @@ pub enum Wrong {
     /// A doubt is left.
     Doubt,
     Memory,
-}
-
-/// The numbers of the tables that a run made.
-fn tables_made(alloc: Global, trail: &Trail) -> Result<Vec<u32>, AllocError> {
-    let mut tables = Vec::new(alloc);
-    for place in 0..trail.len() {
-        if let Act::Made { table, .. } = &trail.entry(place).act {
-            tables.push(table.0)?;
-        }
-    }
-    Ok(tables)
 }
 
 /// What is told of the tables of a new disk.
@@ -58,23 +48,17 @@ fn set_up<R: Threads + Wait + Sync>(
     alloc: Global,
     tally: Tally,
 ) -> Result<(MemDisk, Told), Wrong> {
-    match run(rt, alloc, MemDisk::new(alloc), SET_UP, &[]) {
-        Outcome::Ran(ran) => {
-            let told = fresh(alloc, &ran.trail, tally);
-            let disk = disk_of(ran);
-            match told {
-                Ok(told) => Ok((disk, told)),
-                Err(wrong) => {
-                    drop(disk);
-                    Err(wrong)
-                }
-            }
-        }
-        Outcome::Unopened(disk) => {
+    let Some(ran) = run(rt, alloc, MemDisk::new(alloc), SET_UP, &[]).ran() else {
+        return Err(Wrong::SetUp);
+    };
+    let told = fresh(alloc, &ran.trail, tally);
+    let disk = disk_of(ran);
+    match told {
+        Ok(told) => Ok((disk, told)),
+        Err(wrong) => {
             drop(disk);
-            Err(Wrong::SetUp)
+            Err(wrong)
         }
-        Outcome::Lacked => Err(Wrong::Memory),
     }
 }
 
@@ -95,15 +79,27 @@ SELECT /*+ NO_INDEX */ ID, A, B FROM V;
 ";
 
 /// The disk after a run, and whether its answers are those as of each stamp to the last one, or of the newest rows where none is named.
-fn judged(outcome: Outcome, told: &Told, last: Option<u64>) -> Result<(MemDisk, bool), Wrong> {
+fn judged(
+    alloc: Global,
+    outcome: Outcome,
+    told: &Told,
+    last: Option<u64>,
+) -> Result<(MemDisk, bool), Wrong> {
     match outcome {
         Outcome::Ran(ran) => {
             let all = ran.transcripts.as_slice();
             let is_right = match last {
-                Some(last) => are_right(&told.versions, all, last, &told.tables),
-                None => are_rows(&told.versions, all, &told.tables),
+                Some(last) => are_right(alloc, &told.versions, all, last, &told.tables),
+                None => are_rows(alloc, &told.versions, all, &told.tables),
             };
-            Ok((disk_of(ran), is_right))
+            let disk = disk_of(ran);
+            match is_right {
+                Ok(is_right) => Ok((disk, is_right)),
+                Err(_) => {
+                    drop(disk);
+                    Err(Wrong::Memory)
+                }
+            }
         }
         Outcome::Unopened(disk) => {
             drop(disk);
@@ -124,7 +120,7 @@ fn decided<R: Threads + Wait + Sync>(
         return Ok(disk);
     }
     let outcome = run(rt, alloc, disk.image(), TABLE_ROWS, &[]);
-    let (disk, is_written) = judged(outcome, told, None)?;
+    let (disk, is_written) = judged(alloc, outcome, told, None)?;
     if !is_written {
         told.versions.truncate(told.settled);
     }
@@ -133,11 +129,17 @@ fn decided<R: Threads + Wait + Sync>(
 }
 
 /// The disk after a run of what was planned, where each answer was right.
-fn told_of(outcome: Outcome, told: &mut Told, planned: &Planned) -> Result<MemDisk, Wrong> {
+fn told_of(
+    alloc: Global,
+    outcome: Outcome,
+    told: &mut Told,
+    planned: &Planned,
+) -> Result<MemDisk, Wrong> {
     match outcome {
         Outcome::Ran(ran) => {
             let all = ran.transcripts.as_slice();
-            let added = told.add(&ran.trail, &ran.late, all, planned.looker, &planned.asked);
+            let (looker, asked) = (planned.looker, planned.asked.as_slice());
+            let added = told.add(alloc, &ran.trail, &ran.late, all, looker, asked);
             let disk = disk_of(ran);
             match added {
                 Ok(true) => Ok(disk),
@@ -174,7 +176,7 @@ fn lived<R: Threads + Wait + Sync>(
         return Err(Wrong::Memory);
     }
     let outcome = run(rt, alloc, disk, &planned.text, &planned.schedule);
-    let left = told_of(outcome, told, &planned);
+    let left = told_of(alloc, outcome, told, &planned);
     drop(planned);
     match left {
         Ok(disk) => decided(rt, alloc, disk, told),
@@ -223,7 +225,7 @@ fn queried<R: Threads + Wait + Sync>(
     }
     let outcome = run(rt, alloc, disk.image(), &text, &[]);
     drop(text);
-    let (disk, is_right) = judged(outcome, told, Some(told.last))?;
+    let (disk, is_right) = judged(alloc, outcome, told, Some(told.last))?;
     if is_right {
         return Ok(disk);
     }

@@ -1,24 +1,19 @@
 // A table of orders with an index, which the tests begin with.
 use px_program::Status;
-use px_tests_program::runs::{Run, ends, run_new};
+use px_tests_program::runs::{Run, ends_behind, run_new};
 use std::alloc::{AllocError, Global};
 use std::sync::Wait;
 use std::thread::Threads;
 
-/// A table of orders with an index that covers their amounts, which is born at stamp 1.
-const SET_UP: &str =
+/// A table of orders with an index that covers their amounts, which is born at stamp 1, and two orders, at the stamps 2 and 3.
+const ORDERS: &str =
     "CREATE TABLE ORDERS (ID BIGINT NOT NULL PRIMARY KEY, CUST VARCHAR, AMT INTEGER, NOTE VARCHAR);
 CREATE INDEX BY_CUST ON ORDERS (CUST) INCLUDE (AMT);
-";
-
-const MADE: &str = "table created\nindex created\n";
-
-/// Two orders, at the stamps 2 and 3.
-const TWO: &str = "UPSERT INTO ORDERS (ID, CUST, AMT) VALUES (1,'bo',5);
+UPSERT INTO ORDERS (ID, CUST, AMT) VALUES (1,'bo',5);
 UPSERT INTO ORDERS (ID, CUST, AMT) VALUES (2,'al',7);
 ";
 
-const ADDED: &str = "1 row affected\n1 row affected\n";
+const ORDERED: &str = "table created\nindex created\n1 row affected\n1 row affected\n";
 
 /// Whether the set-up with two orders, and these statements behind it, end so and print this.
 pub(crate) fn with_orders<R: Threads + Wait + Sync>(
@@ -28,20 +23,10 @@ pub(crate) fn with_orders<R: Threads + Wait + Sync>(
     status: Status,
     text: &str,
 ) -> Result<bool, AllocError> {
-    let (mut script, mut printed) = (
-        String::from_str(alloc, SET_UP)?,
-        String::from_str(alloc, MADE)?,
-    );
-    script.push_str(TWO)?;
-    script.push_str(statements)?;
-    printed.push_str(ADDED)?;
-    printed.push_str(text)?;
-    ends(rt, alloc, &script, status, &printed)
+    ends_behind(rt, alloc, (ORDERS, ORDERED), statements, status, text)
 }
 
 /// The orders, on a disk.
 pub(crate) fn orders<R: Threads + Wait + Sync>(rt: &R, alloc: Global) -> Result<Run, AllocError> {
-    let mut script = String::from_str(alloc, SET_UP)?;
-    script.push_str(TWO)?;
-    run_new(rt, alloc, &script)
+    run_new(rt, alloc, ORDERS)
 }

@@ -7,10 +7,10 @@ ghost use Rattle.px_tests_indexrow.specs.Worked.{worked, worked_change, worked_i
 use px_cells::Cells;
 use px_indexrow::{base, closes, marks};
 use px_rows::{RowFault, cells_of};
-use px_tables::{Index, IndexState, KeyPlace, Table, TableColumn};
-use px_values::{
-    Assignment, Change, ColType, Direction, IndexId, Items, Name, Row, TableId, Text, Value, What,
-};
+use px_tables::{Index, IndexState, Table, TableColumn};
+use px_tests_layouts as layouts;
+use px_tests_layouts::{column, keyed_table, place};
+use px_values::{Assignment, Change, ColType, Direction, Items, Row, Text, Value, What};
 use std::alloc::{AllocError, Global};
 
 /// A change of a row of a table with an index, and the row before and after it.
@@ -21,30 +21,6 @@ pub struct Case {
     pub change: Change,
     pub old: Option<Row>,
     pub new: Option<Row>,
-}
-
-fn column(
-    alloc: Global,
-    name: &str,
-    column_type: ColType,
-    not_null: bool,
-) -> Result<TableColumn, AllocError>
-    ensures { IfOk result (λ c. c ≡ record { name = name.now; column_type = column_type; not_null = not_null }) }
-{
-    let name = Name::from_str(alloc, name)?;
-    Ok(TableColumn {
-        name,
-        column_type,
-        not_null,
-    })
-}
-
-fn place(alloc: Global, column: u8, direction: Direction) -> Result<Items<KeyPlace>, AllocError>
-    ensures { IfOk result (λ places. places ≡ record { column = column; direction = direction } ∷ []) }
-{
-    let mut places = Vec::new(alloc);
-    places.push(KeyPlace { column, direction })?;
-    Ok(Items::of(places))
 }
 
 fn columns(alloc: Global) -> Result<Items<TableColumn>, AllocError>
@@ -61,39 +37,15 @@ fn columns(alloc: Global) -> Result<Items<TableColumn>, AllocError>
 fn table(alloc: Global) -> Result<Table, AllocError>
     ensures { IfOk result (λ table. table ≡ worked_table) }
 {
-    let name = Name::from_str(alloc, "T")?;
     let columns = columns(alloc)?;
-    match place(alloc, 0, Direction::Ascending) {
-        Ok(key) => Ok(Table {
-            id: TableId(4),
-            name,
-            columns,
-            key,
-            regions: Items::of(Vec::new(alloc)),
-        }),
-        Err(fault) => {
-            drop(columns);
-            Err(fault)
-        }
-    }
+    keyed_table(alloc, 4, columns)
 }
 
 fn index(alloc: Global) -> Result<Index, AllocError>
     ensures { IfOk result (λ index. index ≡ worked_index) }
 {
-    let name = Name::from_str(alloc, "I")?;
     let parts = place(alloc, 2, Direction::Descending)?;
-    let included = Vec::from_slice(alloc, &[1, 3])?;
-    Ok(Index {
-        id: IndexId(6),
-        table: TableId(4),
-        name,
-        state: IndexState::Active,
-        birth: 0,
-        region: 5,
-        parts,
-        included: Items::of(included),
-    })
+    layouts::index(alloc, IndexState::Active, 0, parts, &[1, 3])
 }
 
 fn text(alloc: Global, text: &str) -> Result<Value, AllocError>

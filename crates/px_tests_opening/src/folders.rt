@@ -2,12 +2,12 @@
 ghost use Rattle.std.specs.Prelude.{◌≤◌, ◌<◌, ◌^◌, length};
 
 use px_catalog::Catalog;
-use px_cellbytes::read_cells;
-use px_gatelog::Frame;
 use px_opening::{OpenFault, Opened, open};
 use px_outside::{Disk, MemDisk};
-use px_region::{JobStep, Region};
+use px_region::Region;
 use px_schema::read_definition;
+use px_tests_storage as storage;
+use px_tests_storage::prepared;
 use std::alloc::Global;
 
 /// The first file of region 1's log.
@@ -99,36 +99,7 @@ pub fn put(alloc: Global, disk: &mut MemDisk, number: u32, bytes: &[u8], count: 
 {
     let mut region = Region::reopen(alloc, disk, number).ok()?;
     let done = prepared(disk, &mut region).is_some()
-        && written(alloc, disk, &mut region, bytes, count).is_some();
+        && storage::put(alloc, disk, &mut region, bytes, count).is_some();
     drop(region);
-    if done { Some(()) } else { None }
-}
-
-fn prepared(disk: &mut MemDisk, region: &mut Region) -> Option<()> {
-    for _ in 0..8 {
-        if region.prepare_step(disk).ok()? == JobStep::Done {
-            return Some(());
-        }
-    }
-    None
-}
-
-fn written(
-    alloc: Global,
-    disk: &mut MemDisk,
-    region: &mut Region,
-    bytes: &[u8],
-    count: u32,
-) -> Option<()>
-    requires few { 1 ≤ count }
-    requires short { length bytes.now < 2 ^ 32 }
-{
-    region.promise(count as u64, bytes.len() as u64).ok()?;
-    let mut frame = Frame::with_room(alloc, 12 + bytes.len() as u64).ok()?;
-    let done = match read_cells(alloc, bytes, count) {
-        Ok(cells) => region.apply(disk, cells, &mut frame).is_ok(),
-        Err(_) => false,
-    };
-    drop(frame);
     if done { Some(()) } else { None }
 }

@@ -1,10 +1,11 @@
 // Queries over six tables with twelve indexes, and what EXPLAIN prints of each, worked out by hand.
 use px_ast::Statement;
-use px_bind::{BindFault, Query, Request, bind};
+use px_bind::{Query, Request};
 use px_parse::parse;
 use px_plan::{PlanFault, choose, explain};
-use px_tables::{Found, Index, IndexState, NewIndex, NewTable, Table, TableRegion};
-use px_values::{IndexId, Items, Key, Line, TableId};
+use px_tables::{Found, IndexState};
+use px_tests_bound::{bound, table_of, with_index};
+use px_values::Line;
 use std::alloc::{AllocError, Global};
 use std::process::Abort;
 use std::test::Fail;
@@ -121,98 +122,6 @@ const QUERIES: &str = "0 SELECT * FROM ORDERS => SCAN TABLE ORDERS/KEY EQUAL 0 R
 0 SELECT * FROM U WHERE X = 5 AND ID >= 1 AND ID < 4 ORDER BY ID LIMIT 2 => SCAN INDEX U_X OF U/KEY EQUAL 1 RANGE 1/LIMIT 2
 0 SELECT * FROM U WHERE ID = -1 AND X < -1 => SCAN TABLE U/KEY EQUAL 1 RANGE 0/FILTER";
 
-fn read(rt: &impl Abort, alloc: Global, text: &str) -> Statement {
-    match parse(alloc, text) {
-        Ok(statement) => statement,
-        Err(_) => panic!(rt; "no statement: {text}"),
-    }
-}
-
-/// The table of a new one, with one region.
-fn standing(alloc: Global, number: u32, new: NewTable) -> Result<Table, AllocError> {
-    let mut regions = Vec::new(alloc);
-    regions.push(TableRegion {
-        number: 1,
-        least_key: Key::of(Vec::new(alloc)),
-    })?;
-    let NewTable {
-        name,
-        columns,
-        key,
-        least_keys,
-    } = new;
-    drop(least_keys);
-    Ok(Table {
-        id: TableId(number),
-        name,
-        columns,
-        key,
-        regions: Items::of(regions),
-    })
-}
-
-fn built(number: u32, state: IndexState, birth: u64, new: NewIndex) -> Index {
-    let NewIndex {
-        table,
-        name,
-        parts,
-        included,
-    } = new;
-    Index {
-        id: IndexId(number),
-        table,
-        name,
-        state,
-        birth,
-        region: 6,
-        parts,
-        included,
-    }
-}
-
-fn new_table(rt: &impl Abort, alloc: Global, number: u32, text: &str) -> Result<Found, AllocError> {
-    let statement = read(rt, alloc, text);
-    let bound = match &statement {
-        Statement::CreateTable(_) => bind(alloc, &statement, None),
-        _ => panic!(rt; "no table: {text}"),
-    };
-    drop(statement);
-    match bound {
-        Ok(
-            Request::CreateTable {
-                if_not_exists: _,
-                table,
-            },
-        ) => Ok(Found {
-            table: standing(alloc, number, table)?,
-            indexes: Items::of(Vec::new(alloc)),
-            at: 0,
-        }),
-        _ => panic!(rt; "not bound: {text}"),
-    }
-}
-
-/// What binding answers to a statement on a table.
-fn bound(rt: &impl Abort, alloc: Global, text: &str, found: &Found) -> Result<Request, BindFault> {
-    let statement = read(rt, alloc, text);
-    assert!(rt; found.table.columns.as_slice().len() <= 255);
-    let answer = bind(alloc, &statement, Some(found));
-    drop(statement);
-    answer
-}
-
-fn new_index(rt: &impl Abort, alloc: Global, text: &str, found: &Found) -> NewIndex {
-    match bound(rt, alloc, text, found) {
-        Ok(
-            Request::CreateIndex {
-                if_not_exists: _,
-                index,
-            },
-        ) => index,
-        _ => panic!(rt; "not bound: {text}"),
-    }
-}
-
 fn state(rt: &impl Abort, word: &str) -> IndexState {
     match word {
         "ACTIVE" => IndexState::Active,
@@ -223,26 +132,12 @@ fn state(rt: &impl Abort, word: &str) -> IndexState {
 }
 
 /// The table with one index more, of a line.
-fn with_index(
-    rt: &impl Abort,
-    alloc: Global,
-    number: u32,
-    line: &str,
-    found: Found,
-) -> Result<Found, AllocError> {
+fn with_line(rt: &impl Abort, alloc: Global, number: u32, line: &str, found: Found) -> Found {
     let (word, others) = line.split_once(" ").expect(rt, "a state");
     let (birth, text) = others.split_once(" ").expect(rt, "a birth");
     let state = state(rt, word);
     let birth = birth.parse::<u64>().expect(rt, "a stamp");
-    let new = new_index(rt, alloc, text, &found);
-    let Found { table, indexes, at } = found;
-    let mut indexes = indexes.into_vec();
-    indexes.push(built(number, state, birth, new))?;
-    Ok(Found {
-        table,
-        indexes: Items::of(indexes),
-        at,
-    })
+    with_index(alloc, found, number, state, birth, text).expect(rt, "an index")
 }
 
 fn tables(rt: &impl Abort, alloc: Global) -> Result<Vec<Found>, AllocError> {
@@ -251,10 +146,10 @@ fn tables(rt: &impl Abort, alloc: Global) -> Result<Vec<Found>, AllocError> {
     for line in TABLES.lines() {
         number = number.saturating_add(1);
         let next = if line.starts_with("CREATE TABLE") {
-            new_table(rt, alloc, number, line)?
+            table_of(alloc, number, line).expect(rt, "a table")
         } else {
             let found = tables.pop().expect(rt, "a table");
-            with_index(rt, alloc, number, line, found)?
+            with_line(rt, alloc, number, line, found)
         };
         tables.push(next)?;
     }
@@ -263,7 +158,9 @@ fn tables(rt: &impl Abort, alloc: Global) -> Result<Vec<Found>, AllocError> {
 
 /// The query of a text on one of these tables, and the number of that table.
 fn query(rt: &impl Abort, alloc: Global, text: &str, tables: &[Found]) -> (usize, Query) {
-    let statement = read(rt, alloc, text);
+    let Ok(statement) = parse(alloc, text) else {
+        panic!(rt; "no statement: {text}")
+    };
     let place = match &statement {
         Statement::Select(select) => tables
             .iter()
@@ -273,8 +170,8 @@ fn query(rt: &impl Abort, alloc: Global, text: &str, tables: &[Found]) -> (usize
     };
     drop(statement);
     assert!(rt; place < tables.len());
-    match bound(rt, alloc, text, &tables[place]) {
-        Ok(Request::Select(query)) => (place, query),
+    match bound(alloc, text, &tables[place]) {
+        Some(Ok(Request::Select(query))) => (place, query),
         _ => panic!(rt; "not bound: {text}"),
     }
 }

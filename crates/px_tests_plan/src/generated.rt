@@ -9,7 +9,8 @@ use px_expr::{Bound, Term, Test, Truth, holds};
 use px_keys::{Part, encode_key};
 use px_paths::PathColumn;
 use px_plan::{Plan, choose, path_columns};
-use px_tables::{Found, Index, IndexState, KeyPlace, Table, TableColumn, TableRegion};
+use px_tables::{Found, Index, IndexState, Table, TableColumn, TableRegion};
+use px_tests_layouts::{column, places};
 use px_values::{ColType, Direction, IndexId, Items, Key, Name, TableId, Text, Value};
 use std::alloc::{AllocError, Global};
 use std::process::Abort;
@@ -52,37 +53,12 @@ impl Dice {
 
 // ---- a table with a descending text that may be NULL in its key, and three indexes
 
-fn column(
-    alloc: Global,
-    name: &str,
-    column_type: ColType,
-    not_null: bool,
-) -> Result<TableColumn, AllocError> {
-    let name = Name::from_str(alloc, name)?;
-    Ok(TableColumn {
-        name,
-        column_type,
-        not_null,
-    })
-}
-
 fn columns(alloc: Global) -> Result<Items<TableColumn>, AllocError> {
     let mut list = Vec::new(alloc);
     list.push(column(alloc, "A", ColType::TinyInt, false)?)?;
     list.push(column(alloc, "B", ColType::Varchar, false)?)?;
     list.push(column(alloc, "C", ColType::Integer, false)?)?;
     list.push(column(alloc, "D", ColType::Boolean, false)?)?;
-    Ok(Items::of(list))
-}
-
-fn places(alloc: Global, places: &[(u8, Direction)]) -> Result<Items<KeyPlace>, AllocError> {
-    let mut list = Vec::new(alloc);
-    for place in places {
-        list.push(KeyPlace {
-            column: place.0,
-            direction: place.1,
-        })?;
-    }
     Ok(Items::of(list))
 }
 

@@ -2,14 +2,14 @@
 ghost use Rattle.std.specs.Prelude.{◌≡◌, IfOk};
 ghost use Rattle.px_calls.specs.Calls.{AreRising};
 
-use px_ast::Statement;
-use px_bind::{BindFault, Query, Request, bind};
+use px_bind::{Query, Request};
 use px_calls::{By, Path, Point};
-use px_parse::parse;
 use px_planned::Planned;
 use px_scan::{Asks, PathFault};
-use px_tables::{Found, Index, IndexState, NewIndex, NewTable, Table, TableRegion};
-use px_values::{IndexId, Items, Key, Row, TableId, Text, Value};
+use px_tables::{Found, Index, IndexState};
+use px_tests_bound::{bound, index_of, table_of};
+use px_tests_layouts::row;
+use px_values::Items;
 use std::alloc::{AllocError, Global};
 use std::process::Abort;
 use std::test::Fail;
@@ -64,98 +64,19 @@ SELECT * FROM ORDERS WHERE AMT < 100 LIMIT 2 => 0 1 2 ; 2
 SELECT * FROM ORDERS WHERE AMT < 100 ORDER BY AMT LIMIT 2 => 0 1 2 ; -
 SELECT * FROM ORDERS LIMIT 0 => 0 1 2 3 ; 0";
 
-fn read(rt: &impl Abort, alloc: Global, text: &str) -> Statement {
-    match parse(alloc, text) {
-        Ok(statement) => statement,
-        Err(_) => panic!(rt; "no statement: {text}"),
-    }
-}
-
-/// What binding answers to a statement.
-fn bound(rt: &impl Abort, alloc: Global, text: &str, found: &Found) -> Result<Request, BindFault> {
-    let statement = read(rt, alloc, text);
-    assert!(rt; found.table.columns.as_slice().len() <= 255);
-    let answer = bind(alloc, &statement, Some(found));
-    drop(statement);
-    answer
-}
-
-/// The table of a new one, with one region.
-fn standing(alloc: Global, new: NewTable) -> Result<Table, AllocError> {
-    let mut regions = Vec::new(alloc);
-    regions.push(TableRegion {
-        number: 1,
-        least_key: Key::of(Vec::new(alloc)),
-    })?;
-    let NewTable {
-        name,
-        columns,
-        key,
-        least_keys,
-    } = new;
-    drop(least_keys);
-    Ok(Table {
-        id: TableId(3),
-        name,
-        columns,
-        key,
-        regions: Items::of(regions),
-    })
-}
-
-fn new_table(rt: &impl Abort, alloc: Global) -> Result<Found, AllocError> {
-    let statement = read(rt, alloc, TABLE);
-    let bound = match &statement {
-        Statement::CreateTable(_) => bind(alloc, &statement, None),
-        _ => panic!(rt; "no table"),
-    };
-    drop(statement);
-    match bound {
-        Ok(
-            Request::CreateTable {
-                if_not_exists: _,
-                table,
-            },
-        ) => Ok(Found {
-            table: standing(alloc, table)?,
-            indexes: Items::of(Vec::new(alloc)),
-            at: 0,
-        }),
-        _ => panic!(rt; "not bound"),
-    }
-}
-
-fn built(number: u32, state: IndexState, birth: u64, new: NewIndex) -> Index
+/// An index of the table, of a number.
+fn index(
+    rt: &impl Abort,
+    alloc: Global,
+    number: u32,
+    state: IndexState,
+    birth: u64,
+    text: &str,
+    found: &Found,
+) -> Index
     ensures { result.id.0 ≡ number }
 {
-    let NewIndex {
-        table,
-        name,
-        parts,
-        included,
-    } = new;
-    Index {
-        id: IndexId(number),
-        table,
-        name,
-        state,
-        birth,
-        region: 6,
-        parts,
-        included,
-    }
-}
-
-fn new_index(rt: &impl Abort, alloc: Global, text: &str, found: &Found) -> NewIndex {
-    match bound(rt, alloc, text, found) {
-        Ok(
-            Request::CreateIndex {
-                if_not_exists: _,
-                index,
-            },
-        ) => index,
-        _ => panic!(rt; "not bound: {text}"),
-    }
+    index_of(alloc, number, state, birth, text, found).expect(rt, "an index")
 }
 
 /// The three indexes, in order of number.
@@ -163,12 +84,9 @@ fn three_indexes(rt: &impl Abort, alloc: Global, found: &Found) -> Result<Items<
     ensures { IfOk result AreRising }
 {
     let mut indexes = Vec::new(alloc);
-    let first = new_index(rt, alloc, BY_CUST, found);
-    indexes.push(built(7, IndexState::Active, 1, first))?;
-    let second = new_index(rt, alloc, BY_CA, found);
-    indexes.push(built(8, IndexState::Active, 5, second))?;
-    let third = new_index(rt, alloc, BY_AMT, found);
-    indexes.push(built(9, IndexState::Building, 1, third))?;
+    indexes.push(index(rt, alloc, 7, IndexState::Active, 1, BY_CUST, found))?;
+    indexes.push(index(rt, alloc, 8, IndexState::Active, 5, BY_CA, found))?;
+    indexes.push(index(rt, alloc, 9, IndexState::Building, 1, BY_AMT, found))?;
     Ok(Items::of(indexes))
 }
 
@@ -176,7 +94,7 @@ fn three_indexes(rt: &impl Abort, alloc: Global, found: &Found) -> Result<Items<
 fn whole_table(rt: &impl Abort, alloc: Global) -> Result<Found, AllocError>
     ensures { IfOk result (λ f. AreRising f.indexes) }
 {
-    let bare = new_table(rt, alloc)?;
+    let bare = table_of(alloc, 3, TABLE).expect(rt, "a table");
     let indexes = three_indexes(rt, alloc, &bare);
     let Found {
         table,
@@ -194,8 +112,8 @@ fn whole_table(rt: &impl Abort, alloc: Global) -> Result<Found, AllocError>
 }
 
 fn query(rt: &impl Abort, alloc: Global, text: &str, found: &Found) -> Query {
-    match bound(rt, alloc, text, found) {
-        Ok(Request::Select(query)) => query,
+    match bound(alloc, text, found) {
+        Some(Ok(Request::Select(query))) => query,
         _ => panic!(rt; "not bound: {text}"),
     }
 }
@@ -303,27 +221,6 @@ fn paths_are_chosen(rt: HostRuntime) -> Result<(), Fail> {
     drop(found);
     assert_eq!(rt; count?, 20);
     Ok(())
-}
-
-fn value(alloc: Global, word: &str) -> Result<Value, AllocError> {
-    if word == "NULL" {
-        return Ok(Value::Null);
-    }
-    match word.parse::<i64>() {
-        Ok(number) => Ok(Value::Number(i128::from(number))),
-        Err(_) => {
-            let text = Text::from_str(alloc, word)?;
-            Ok(Value::Text(text))
-        }
-    }
-}
-
-fn row(alloc: Global, line: &str) -> Result<Row, AllocError> {
-    let mut values = Vec::new(alloc);
-    for word in line.split_whitespace() {
-        values.push(value(alloc, word)?)?;
-    }
-    Ok(Items::of(values))
 }
 
 /// Whether the row of a line meets the condition.

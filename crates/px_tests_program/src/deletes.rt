@@ -1,5 +1,5 @@
 // Rows are removed, by table and by index, and are there as of earlier stamps.
-use crate::runs::{disk_of, ends, is_printed, run_again, run_new};
+use crate::runs::{disk_of, ends_behind, is_printed, run_again, run_new};
 use px_program::Status;
 use std::alloc::{AllocError, Global};
 use std::sync::Wait;
@@ -30,13 +30,7 @@ fn ordered<R: Threads + Wait + Sync>(
     status: Status,
     text: &str,
 ) -> Result<bool, AllocError> {
-    let (mut script, mut printed) = (
-        String::from_str(alloc, ORDERS)?,
-        String::from_str(alloc, ORDERED)?,
-    );
-    script.push_str(statements)?;
-    printed.push_str(text)?;
-    ends(rt, alloc, &script, status, &printed)
+    ends_behind(rt, alloc, (ORDERS, ORDERED), statements, status, text)
 }
 
 #[test]

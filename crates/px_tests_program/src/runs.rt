@@ -149,3 +149,21 @@ pub fn ends<R: Threads + Wait + Sync>(
     let run = run_new(rt, alloc, script)?;
     Ok(is_printed(&run, status, text))
 }
+
+/// Whether these statements, behind those of a set-up and what it prints, end so and print this.
+pub fn ends_behind<R: Threads + Wait + Sync>(
+    rt: &R,
+    alloc: Global,
+    set_up: (&str, &str),
+    statements: &str,
+    status: Status,
+    text: &str,
+) -> Result<bool, AllocError> {
+    let (mut script, mut printed) = (
+        String::from_str(alloc, set_up.0)?,
+        String::from_str(alloc, set_up.1)?,
+    );
+    script.push_str(statements)?;
+    printed.push_str(text)?;
+    ends(rt, alloc, &script, status, &printed)
+}

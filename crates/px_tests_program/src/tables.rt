@@ -1,5 +1,5 @@
 // Tables of every type: definitions, rows, conditions, order, and what refuses them.
-use crate::runs::ends;
+use crate::runs::{ends, ends_behind};
 use px_program::Status;
 use std::alloc::{AllocError, Global};
 use std::sync::Wait;
@@ -21,18 +21,12 @@ fn ordered<R: Threads + Wait + Sync>(
     statements: &str,
     text: &str,
 ) -> Result<bool, AllocError> {
-    let (mut script, mut printed) = (
-        String::from_str(alloc, ORDERS)?,
-        String::from_str(alloc, ORDERED)?,
-    );
-    script.push_str(statements)?;
-    printed.push_str(text)?;
     let status = if text.starts_with("E") {
         Status::Refused
     } else {
         Status::Done
     };
-    ends(rt, alloc, &script, status, &printed)
+    ends_behind(rt, alloc, (ORDERS, ORDERED), statements, status, text)
 }
 
 #[test]

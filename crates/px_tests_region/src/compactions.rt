@@ -1,20 +1,11 @@
-use crate::pieces::{is_shown, opened, put_row, shown};
+use crate::pieces::{flush, opened, put_row, rows_in};
 use px_gatelog::{Frame, Rolled};
 use px_outside::{Choice, MemDisk};
-use px_region::{JobStep, Region};
+use px_region::Region;
+use px_tests_stops::{Run, calls_of, stops_well};
 use px_wal::Manifest;
 use std::alloc::Global;
 use std::test::Fail;
-
-/// Makes the steps up to the end of a flush.
-fn flush(disk: &mut MemDisk, region: &mut Region) -> Option<()> {
-    for _ in 0..100u64 {
-        if region.upkeep_step(disk).ok()? == JobStep::Done {
-            return Some(());
-        }
-    }
-    None
-}
 
 /// How many files the manifest of region 3 names.
 fn named(alloc: Global, disk: &mut MemDisk) -> Option<usize> {
@@ -52,28 +43,30 @@ fn run(alloc: Global, disk: &mut MemDisk, told: &mut u64) -> Option<()> {
     done
 }
 
-// What a folder shows after so many of them: the empty column of each, and then each value, the latest first.
-fn expected(rows: u64) -> &'static [u8] {
-    match rows {
-        0 => b"",
-        1 => b"a\0a\x001",
-        2 => b"a\0a\0a\x002a\x001",
-        3 => b"a\0a\0a\0a\x003a\x002a\x001",
-        4 => b"a\0a\0a\0a\0a\x004a\x003a\x002a\x001",
-        _ => b"a\0a\0a\0a\0a\0a\x005a\x004a\x003a\x002a\x001",
-    }
-}
+// What a folder shows after each number of them: the empty column of each, and then each value, the latest first.
+const EXPECTED: [&[u8]; 6] = [
+    b"",
+    b"a\0a\x001",
+    b"a\0a\0a\x002a\x001",
+    b"a\0a\0a\0a\x003a\x002a\x001",
+    b"a\0a\0a\0a\0a\x004a\x003a\x002a\x001",
+    b"a\0a\0a\0a\0a\0a\x005a\x004a\x003a\x002a\x001",
+];
 
-// Whether an image shows what stands after so many, also after a further flush.
-fn shows(alloc: Global, image: &mut MemDisk, rows: u64) -> Option<bool> {
+// How many rows an image shows, if they are the same after a further flush.
+fn rows_shown(alloc: Global, image: &mut MemDisk) -> Option<u64> {
     let mut region = opened(alloc, image, 3)?;
-    let before = shown(alloc, image, &mut region);
+    let before = rows_in(alloc, image, &mut region, &EXPECTED);
     let flushed = flush(image, &mut region).is_some() && flush(image, &mut region).is_some();
     drop(region);
     let mut again = Region::reopen(alloc, image, 3).ok()?;
-    let after = shown(alloc, image, &mut again);
+    let after = rows_in(alloc, image, &mut again, &EXPECTED);
     drop(again);
-    Some(flushed & is_shown(before, expected(rows)) & is_shown(after, expected(rows)))
+    if flushed && after == before {
+        before
+    } else {
+        None
+    }
 }
 
 #[test]
@@ -85,8 +78,8 @@ fn four_files_are_merged_before_a_flush(rt: HostRuntime) -> Result<(), Fail> {
     assert!(rt; done == Some(()) && told == 5);
     let files = named(alloc, &mut disk);
     assert!(rt; files == Some(2), "{files:?}");
-    let right = shows(alloc, &mut disk, 5);
-    assert!(rt; right == Some(true), "{right:?}");
+    let rows = rows_shown(alloc, &mut disk);
+    assert!(rt; rows == Some(5), "{rows:?}");
     Ok(())
 }
 
@@ -113,48 +106,34 @@ fn a_renewed_manifest_names_the_same(rt: HostRuntime) -> Result<(), Fail> {
     assert!(rt; renewed(alloc, &mut disk) == Some(3));
     assert!(rt; renewed(alloc, &mut disk) == Some(3));
     assert!(rt; named(alloc, &mut disk) == Some(2));
-    let right = shows(alloc, &mut disk, 5);
-    assert!(rt; right == Some(true), "{right:?}");
+    let rows = rows_shown(alloc, &mut disk);
+    assert!(rt; rows == Some(5), "{rows:?}");
     Ok(())
 }
 
-// Stops in the fifth flush, with the compaction before it. What a stop at a call leaves, with how many rows were told by then, and whether the run came to its end.
-fn stopped(alloc: Global, call: u64, choice: Choice) -> (MemDisk, u64, bool) {
-    let mut told = 0;
-    let mut disk = MemDisk::new(alloc).stop_at(call, choice);
-    let whole = run(alloc, &mut disk, &mut told).is_some();
-    (disk.image(), told, whole)
-}
+/// Five rows, each with its flush, of which the last one has a compaction before it.
+struct Compactions;
 
-fn stops_well(alloc: Global, call: u64, choice: Choice) -> bool {
-    let (mut image, told, whole) = stopped(alloc, call, choice);
-    let here = shows(alloc, &mut image, told) == Some(true);
-    drop(image);
-    if here || whole {
-        return here;
+impl Run for Compactions {
+    fn make(&self, alloc: Global, disk: &mut MemDisk, told: &mut u64) -> Option<()> {
+        run(alloc, disk, told)
     }
-    let (mut image, told, _) = stopped(alloc, call, choice);
-    let next = shows(alloc, &mut image, told.saturating_add(1)) == Some(true);
-    drop(image);
-    next
-}
 
-fn calls_of(alloc: Global) -> u64 {
-    let mut told = 0;
-    let mut disk = MemDisk::new(alloc);
-    let _ = run(alloc, &mut disk, &mut told);
-    let calls = disk.calls_made().len() as u64;
-    drop(disk);
-    calls
+    fn shown(&self, alloc: Global, image: &mut MemDisk) -> Option<u64> {
+        rows_shown(alloc, image)
+    }
 }
 
 #[test]
 fn a_stop_in_a_compaction_leaves_what_is_read(rt: HostRuntime) -> Result<(), Fail> {
     let alloc = rt.alloc();
-    let calls = calls_of(alloc);
-    assert!(rt; calls > 100, "{calls}");
+    let (calls, told) = calls_of(alloc, &Compactions).ok_or("not run")?;
+    assert!(rt; calls > 100 && told == 5, "{calls}");
     for call in calls.saturating_sub(60)..calls {
-        assert!(rt; stops_well(alloc, call, Choice::New), "{call} new");
+        assert!(rt;
+            stops_well(alloc, &Compactions, call, Choice::New),
+            "call {call}"
+        );
     }
     Ok(())
 }

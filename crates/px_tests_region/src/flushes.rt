@@ -1,20 +1,11 @@
-use crate::pieces::{is_shown, opened, put_row, shown};
+use crate::pieces::{THREE, flush, opened, put_row, rows_in};
 use px_outside::{Choice, MemDisk};
-use px_region::{JobStep, Region};
+use px_region::Region;
+use px_tests_stops::{Run, calls_of, stops_well};
 use std::alloc::Global;
 use std::test::Fail;
 
-/// Makes the steps of a flush, and answers their number.
-fn flush(disk: &mut MemDisk, region: &mut Region) -> Option<u64> {
-    for steps in 1..100u64 {
-        if region.upkeep_step(disk).ok()? == JobStep::Done {
-            return Some(steps);
-        }
-    }
-    None
-}
-
-/// Makes so many steps of one.
+/// Makes so many steps of a flush.
 fn steps(disk: &mut MemDisk, region: &mut Region, most: u64) -> Option<()> {
     for _ in 0..most {
         region.upkeep_step(disk).ok()?;
@@ -45,31 +36,22 @@ fn run(alloc: Global, disk: &mut MemDisk, told: &mut u64) -> Option<u64> {
     Some(logged)
 }
 
-// What a folder shows after so many of the rows.
-fn expected(rows: u64) -> &'static [u8] {
-    match rows {
-        0 => b"",
-        1 => b"a\0a\x000",
-        2 => b"a\0a\x000b\0b\x001",
-        _ => b"a\0a\0a\x002a\x000b\0b\x001",
-    }
-}
-
-// Whether an image shows what stands after so many rows, also after a flush of all.
-fn shows(alloc: Global, image: &mut MemDisk, rows: u64) -> Option<bool> {
+// How many rows an image shows, if they are the same after a flush of all.
+fn rows_shown(alloc: Global, image: &mut MemDisk) -> Option<u64> {
     let mut region = opened(alloc, image, 3)?;
-    let before = shown(alloc, image, &mut region);
+    let before = rows_in(alloc, image, &mut region, &THREE);
     let flushed = flush(image, &mut region).is_some() && flush(image, &mut region).is_some();
     let logged = region.logged_cells();
-    let after = shown(alloc, image, &mut region);
+    let after = rows_in(alloc, image, &mut region, &THREE);
     drop(region);
     let mut again = Region::reopen(alloc, image, 3).ok()?;
-    let opened = shown(alloc, image, &mut again);
+    let opened = rows_in(alloc, image, &mut again, &THREE);
     drop(again);
-    let right = is_shown(before, expected(rows))
-        & is_shown(after, expected(rows))
-        & is_shown(opened, expected(rows));
-    Some(right && flushed && logged == 0)
+    if flushed && logged == 0 && after == before && opened == before {
+        before
+    } else {
+        None
+    }
 }
 
 #[test]
@@ -79,50 +61,34 @@ fn a_flush_leaves_what_is_read(rt: HostRuntime) -> Result<(), Fail> {
     let mut told = 0;
     let logged = run(alloc, &mut disk, &mut told);
     assert!(rt; logged == Some(2), "{logged:?}");
-    let right = shows(alloc, &mut disk, 3);
-    assert!(rt; right == Some(true), "{right:?}");
+    let rows = rows_shown(alloc, &mut disk);
+    assert!(rt; rows == Some(3), "{rows:?}");
     Ok(())
 }
 
-// What a stop at a call leaves, with how many rows were told by then, and whether the run came to its end.
-fn stopped(alloc: Global, call: u64, choice: Choice) -> (MemDisk, u64, bool) {
-    let mut told = 0;
-    let mut disk = MemDisk::new(alloc).stop_at(call, choice);
-    let whole = run(alloc, &mut disk, &mut told).is_some();
-    (disk.image(), told, whole)
-}
+/// Three rows and the flush of two.
+struct Flushes;
 
-fn stops_well(alloc: Global, call: u64, choice: Choice) -> bool {
-    let (mut image, told, whole) = stopped(alloc, call, choice);
-    let here = shows(alloc, &mut image, told) == Some(true);
-    drop(image);
-    if here || whole {
-        return here;
+impl Run for Flushes {
+    fn make(&self, alloc: Global, disk: &mut MemDisk, told: &mut u64) -> Option<()> {
+        run(alloc, disk, told)?;
+        Some(())
     }
-    let (mut image, told, _) = stopped(alloc, call, choice);
-    let next = shows(alloc, &mut image, told.saturating_add(1)) == Some(true);
-    drop(image);
-    next
-}
 
-fn calls_of(alloc: Global) -> u64 {
-    let mut told = 0;
-    let mut disk = MemDisk::new(alloc);
-    let _ = run(alloc, &mut disk, &mut told);
-    let calls = disk.calls_made().len() as u64;
-    drop(disk);
-    calls
+    fn shown(&self, alloc: Global, image: &mut MemDisk) -> Option<u64> {
+        rows_shown(alloc, image)
+    }
 }
 
 #[test]
 fn a_stop_in_a_flush_leaves_what_is_read(rt: HostRuntime) -> Result<(), Fail> {
     let alloc = rt.alloc();
-    let calls = calls_of(alloc);
-    assert!(rt; calls > 50, "{calls}");
+    let (calls, told) = calls_of(alloc, &Flushes).ok_or("not run")?;
+    assert!(rt; calls > 50 && told == 3, "{calls}");
     for call in 0..calls {
-        assert!(rt; stops_well(alloc, call, Choice::Old), "{call} old");
-        assert!(rt; stops_well(alloc, call, Choice::New), "{call} new");
-        assert!(rt; stops_well(alloc, call, Choice::Fill(1)), "{call} fill");
+        for choice in [Choice::Old, Choice::New, Choice::Fill(1)] {
+            assert!(rt; stops_well(alloc, &Flushes, call, choice), "call {call}");
+        }
     }
     Ok(())
 }

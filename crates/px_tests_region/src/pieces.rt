@@ -1,12 +1,18 @@
 // What the tests of regions have together.
-ghost use Rattle.std.specs.Prelude.{◌≡◌, ◌≤◌, ◌<◌, ◌+◌, ◌^◌, length, IfOk, OnOk};
 
-use px_cellbytes::read_cells;
 use px_cells::{Cell, CellKind};
-use px_gatelog::Frame;
 use px_outside::MemDisk;
 use px_region::{CellTaker, JobStep, Region};
+use px_tests_storage::{prepared, put};
 use std::alloc::{AllocError, Global};
+
+/// What a region shows after each number of three rows: of `a`, of `b`, and of `a` again.
+pub const THREE: [&[u8]; 4] = [
+    b"",
+    b"a\0a\x000",
+    b"a\0a\x000b\0b\x001",
+    b"a\0a\0a\x002a\x000b\0b\x001",
+];
 
 /// Takes keys and values, one after the other.
 #[derive(Drop)]
@@ -39,6 +45,24 @@ pub fn shown(alloc: Global, disk: &mut MemDisk, region: &mut Region) -> Option<V
         }
     }
     Some(values.bytes)
+}
+
+/// After how many rows a region shows what it does, by what it shows after each number of them.
+pub fn rows_in(
+    alloc: Global,
+    disk: &mut MemDisk,
+    region: &mut Region,
+    expected: &[&[u8]],
+) -> Option<u64> {
+    let seen = shown(alloc, disk, region)?;
+    let mut rows = 0u64;
+    for text in expected {
+        if seen.as_slice() == *text {
+            return Some(rows);
+        }
+        rows = rows.saturating_add(1);
+    }
+    None
 }
 
 /// Whether this was shown.
@@ -78,27 +102,6 @@ pub fn row(alloc: Global, key: &[u8], stamp: u64, value: &[u8]) -> Result<Vec<u8
     Ok(bytes)
 }
 
-/// Writes the cells of bytes as one batch.
-pub fn put(
-    alloc: Global,
-    disk: &mut MemDisk,
-    region: &mut Region,
-    bytes: &[u8],
-    count: u32,
-) -> Option<()>
-    requires few { 1 ≤ count }
-    requires short { length bytes.now < 2 ^ 32 }
-{
-    region.promise(count as u64, bytes.len() as u64).ok()?;
-    let mut frame = Frame::with_room(alloc, 12 + bytes.len() as u64).ok()?;
-    let done = match read_cells(alloc, bytes, count) {
-        Ok(cells) => region.apply(disk, cells, &mut frame).is_ok(),
-        Err(_) => false,
-    };
-    drop(frame);
-    if done { Some(()) } else { None }
-}
-
 /// Writes a row.
 pub fn put_row(
     alloc: Global,
@@ -127,12 +130,12 @@ pub fn opened(alloc: Global, disk: &mut MemDisk, number: u32) -> Option<Region> 
     }
 }
 
-/// Makes a region's files where there are none.
-fn prepared(disk: &mut MemDisk, region: &mut Region) -> Option<()> {
-    for _ in 0..8 {
-        if region.prepare_step(disk).ok()? == JobStep::Done {
-            return Some(());
+/// Makes the steps up to the end of a flush, and answers their number.
+pub fn flush(disk: &mut MemDisk, region: &mut Region) -> Option<u64> {
+    for steps in 1..100u64 {
+        if region.upkeep_step(disk).ok()? == JobStep::Done {
+            return Some(steps);
         }
     }
-    Some(())
+    None
 }

@@ -1,6 +1,7 @@
-use crate::pieces::{Values, is_shown, opened, put, put_row, row, shown};
+use crate::pieces::{Values, is_shown, opened, put_row, row, shown};
 use px_outside::{Disk, MemDisk};
 use px_region::{PromiseFault, Region};
+use px_tests_storage::put;
 use std::alloc::{AllocError, Global};
 use std::test::Fail;
 

@@ -1,7 +1,7 @@
 // Rows with their dates, as a trail tells them.
 use px_trail::{Act, Entry, Trail};
-use px_values::{Change, Changes, Value, What};
-use std::alloc::AllocError;
+use px_values::{Change, Changes, Row, Rows, Value, What};
+use std::alloc::{AllocError, Global};
 
 /// A row: its key, its letter counted from 'a' as 1, and its number. 0 is NULL in the last two.
 #[derive(Clone, Copy, PartialEq, Eq)]
@@ -29,11 +29,17 @@ pub struct View {
     pub within: u64,
 }
 
-fn is_seen(version: &Version, view: View, id: u32) -> bool {
-    version.table == view.table
-        && version.fields.id == id
-        && version.stamp < view.below
-        && version.place <= view.within
+/// All that was ever written of a table below a stamp.
+pub fn as_of(table: u32, below: u64) -> View {
+    View {
+        table,
+        below,
+        within: u64::MAX,
+    }
+}
+
+fn is_seen(version: &Version, view: View) -> bool {
+    version.table == view.table && version.stamp < view.below && version.place <= view.within
 }
 
 fn is_newer(version: &Version, best: &Option<Version>) -> bool {
@@ -43,21 +49,51 @@ fn is_newer(version: &Version, best: &Option<Version>) -> bool {
     }
 }
 
-/// The newest version of a key.
-pub fn newest(versions: &[Version], view: View, id: u32) -> Option<Version> {
-    let mut best: Option<Version> = None;
-    for version in versions {
-        if is_seen(version, view, id) && is_newer(version, &best) {
-            best = Some(*version);
+/// Keeps a version by its key where none that is there is newer.
+fn keep(rows: &mut Vec<Option<Version>>, version: &Version) -> Result<(), AllocError> {
+    let place = version.fields.id as usize;
+    for _ in rows.len()..place.saturating_add(1) {
+        rows.push(None)?;
+    }
+    if let Some(slot) = rows.get_mut(place) {
+        if is_newer(version, slot) {
+            *slot = Some(*version);
         }
     }
-    best
+    Ok(())
+}
+
+/// The newest version in view of each key, at the place of its key.
+pub fn newest(
+    alloc: Global,
+    versions: &[Version],
+    view: View,
+) -> Result<Vec<Option<Version>>, AllocError> {
+    let mut rows = Vec::new(alloc);
+    for version in versions {
+        if is_seen(version, view) {
+            keep(&mut rows, version)?;
+        }
+    }
+    Ok(rows)
+}
+
+/// The row of a key among the newest, where it is there.
+pub fn row_of(rows: &[Option<Version>], id: u32) -> Option<Fields> {
+    match rows.get(id as usize) {
+        Some(Some(version)) => if version.is_there {
+            Some(version.fields)
+        } else {
+            None
+        },
+        _ => None,
+    }
 }
 
 /// A letter or a number of a row; 0 for NULL.
 pub fn small(value: &Value) -> u32 {
     match value {
-        Value::Number(number) => if *number > 0 && *number < 100 {
+        Value::Number(number) => if *number > 0 && *number < 1_000 {
             *number as u32
         } else {
             0
@@ -70,28 +106,16 @@ pub fn small(value: &Value) -> u32 {
     }
 }
 
-fn id_of(change: &Change) -> u32 {
-    match change.row.as_slice() {
+fn key_of(row: &Row) -> u32 {
+    match row.as_slice() {
         [value, ..] => small(value),
         _ => 0,
     }
 }
 
-/// The row before a change: NULL in each column where there is none.
-fn fields_before(before: &Option<Version>, id: u32) -> Fields {
-    match before {
-        Some(version) => if version.is_there {
-            version.fields
-        } else {
-            Fields { id, a: 0, b: 0 }
-        },
-        None => Fields { id, a: 0, b: 0 },
-    }
-}
-
-/// What a change makes of a row, and whether it is there then.
-fn changed(before: &Option<Version>, change: &Change) -> (bool, Fields) {
-    let mut fields = fields_before(before, id_of(change));
+/// What a change makes of a row, and whether it is there then. A column of a row that wasn't there is NULL.
+fn changed(before: Option<Fields>, id: u32, change: &Change) -> (bool, Fields) {
+    let mut fields = before.unwrap_or(Fields { id, a: 0, b: 0 });
     let What::Set(assignments) = &change.what else {
         return (false, fields);
     };
@@ -122,54 +146,81 @@ fn begun(trail: &Trail, number: u32, wanted: u64) -> Option<&Changes> {
     None
 }
 
-/// Adds what an entry wrote, as the one of this number.
+/// The change of a row.
+fn change_of(changes: &Changes, id: u32) -> Option<&Change> {
+    for change in changes.as_slice() {
+        if key_of(&change.row) == id {
+            return Some(change);
+        }
+    }
+    None
+}
+
+/// Adds what a batch made of some of its rows, which were these before.
+fn add_rows(
+    changes: &Changes,
+    rows: &Rows,
+    before: &[Option<Version>],
+    at: View,
+    place: u64,
+    versions: &mut Vec<Version>,
+) -> Result<(), AllocError> {
+    for row in rows.as_slice() {
+        let id = key_of(row);
+        if let Some(change) = change_of(changes, id) {
+            let (is_there, fields) = changed(row_of(before, id), id, change);
+            versions.push(Version {
+                table: at.table,
+                stamp: at.below,
+                place,
+                is_there,
+                fields,
+            })?;
+        }
+    }
+    Ok(())
+}
+
+/// Adds what an entry wrote, as the one of this number. A batch may be written in parts.
 fn add(
+    alloc: Global,
     trail: &Trail,
     entry: &Entry,
     place: u64,
     versions: &mut Vec<Version>,
 ) -> Result<(), AllocError> {
-    let Act::Wrote { table, stamp, .. } = &entry.act else {
+    let Act::Wrote { table, stamp, rows } = &entry.act else {
         return Ok(());
     };
     let Some(changes) = begun(trail, table.0, *stamp) else {
         return Ok(());
     };
-    for change in changes.as_slice() {
-        let view = View {
-            table: table.0,
-            below: *stamp,
-            within: u64::MAX,
-        };
-        let before = newest(versions, view, id_of(change));
-        let (is_there, fields) = changed(&before, change);
-        versions.push(Version {
-            table: table.0,
-            stamp: *stamp,
-            place,
-            is_there,
-            fields,
-        })?;
-    }
-    Ok(())
+    let at = as_of(table.0, *stamp);
+    let before = newest(alloc, versions, at)?;
+    add_rows(changes, rows, &before, at, place, versions)
 }
 
 /// Adds all that a run wrote.
-pub fn add_written(trail: &Trail, versions: &mut Vec<Version>) -> Result<(), AllocError> {
+pub fn add_written(
+    alloc: Global,
+    trail: &Trail,
+    versions: &mut Vec<Version>,
+) -> Result<(), AllocError> {
     for place in 0..trail.len() {
-        add(trail, trail.entry(place), place + 1, versions)?;
+        add(alloc, trail, trail.entry(place), place + 1, versions)?;
     }
     Ok(())
 }
 
 /// Adds what the run would have written whose step was stopped.
 pub fn add_late(
+    alloc: Global,
     trail: &Trail,
     late: &Option<Entry>,
     versions: &mut Vec<Version>,
 ) -> Result<(), AllocError> {
     match late {
-        Some(entry) => add(trail, entry, 0, versions),
+        Some(entry) => add(alloc, trail, entry, 0, versions),
         None => Ok(()),
     }
 }
@@ -185,9 +236,23 @@ pub fn settle(versions: &mut [Version]) {
 pub fn last_stamp(trail: &Trail) -> u64 {
     let mut last = 0;
     for place in 0..trail.len() {
-        if let Act::Begun { stamp, .. } = &trail.entry(place).act {
-            last = last.max(*stamp);
+        match &trail.entry(place).act {
+            Act::Begun { stamp, .. }
+            | Act::IndexMade { stamp, .. }
+            | Act::IndexState { stamp, .. } => last = last.max(*stamp),
+            _ => {}
         }
     }
     last
+}
+
+/// The numbers of the tables that a run made.
+pub fn tables_made(alloc: Global, trail: &Trail) -> Result<Vec<u32>, AllocError> {
+    let mut tables = Vec::new(alloc);
+    for place in 0..trail.len() {
+        if let Act::Made { table, .. } = &trail.entry(place).act {
+            tables.push(table.0)?;
+        }
+    }
+    Ok(tables)
 }

@@ -1,6 +1,6 @@
 // What the cells of an opened folder tell, read one by one, beside rows with their dates. The first three columns of each table are a key, a letter
 // and a number.
-use crate::model::{Fields, Version, View, newest};
+use crate::model::{Fields, Version, View, newest, row_of};
 use px_cells::{Cell, CellKind};
 use px_group::{Group, IndexRegion};
 use px_opening::Opened;
@@ -148,16 +148,6 @@ fn index_key(alloc: Global, parts: &[KeyPlace], row: Fields) -> Result<Vec<u8>, 
     Ok(key)
 }
 
-/// The row of a key in view, where there is one.
-fn row_in(versions: &[Version], view: View, id: u32) -> Option<Fields> {
-    let version = newest(versions, view, id)?;
-    if version.is_there {
-        Some(version.fields)
-    } else {
-        None
-    }
-}
-
 /// Whether the cells of a table give a key its row in view, or none.
 fn tells_row(
     alloc: Global,
@@ -214,18 +204,17 @@ fn is_row(
     Ok(true)
 }
 
-/// Whether the key at these places is that of a row in view.
+/// Whether the key at these places is that of one of the newest rows.
 fn is_some_row(
     alloc: Global,
     index: &IndexRegion,
     cells: &[Cell],
     span: Span,
-    versions: &[Version],
-    view: View,
+    rows: &[Option<Version>],
     point: u64,
 ) -> Result<bool, AllocError> {
     for id in 0..KEYS {
-        if let Some(row) = row_in(versions, view, id) {
+        if let Some(row) = row_of(rows, id) {
             if is_row(alloc, index, cells, span, row, point)? {
                 return Ok(true);
             }
@@ -234,16 +223,15 @@ fn is_some_row(
     Ok(false)
 }
 
-/// Whether each key of an index whose newest version is verified is that of a row in view. Of the others nothing is told.
+/// Whether each key of an index whose newest version is verified is that of one of the newest rows. Of the others nothing is told.
 fn are_verified_right(
     alloc: Global,
     index: &IndexRegion,
-    versions: &[Version],
-    view: View,
+    rows: &[Option<Version>],
     point: u64,
 ) -> Result<bool, AllocError> {
     for at in 0..index.region.piece_count() {
-        if !are_right_in(alloc, index, index.region.piece(at), versions, view, point)? {
+        if !are_right_in(alloc, index, index.region.piece(at), rows, point)? {
             return Ok(false);
         }
     }
@@ -255,8 +243,7 @@ fn are_right_in(
     alloc: Global,
     index: &IndexRegion,
     cells: &[Cell],
-    versions: &[Version],
-    view: View,
+    rows: &[Option<Version>],
     point: u64,
 ) -> Result<bool, AllocError> {
     let mut behind = 0;
@@ -268,23 +255,22 @@ fn are_right_in(
         behind = span.to;
         let status = value_at(cells, span, EMPTY, point);
         let is_verified = status.is_some_and(|bytes| bytes == [1u8].as_slice());
-        if is_verified && !is_some_row(alloc, index, cells, span, versions, view, point)? {
+        if is_verified && !is_some_row(alloc, index, cells, span, rows, point)? {
             return Ok(false);
         }
     }
     Ok(true)
 }
 
-/// Whether the rows of a table in view are told by its cells, and each by each of its indexes.
+/// Whether the newest rows of a table are told by its cells, and each by each of its indexes.
 fn are_rows_told(
     alloc: Global,
     group: &Group,
-    versions: &[Version],
-    view: View,
+    rows: &[Option<Version>],
     point: u64,
 ) -> Result<bool, AllocError> {
     for id in 0..KEYS {
-        let row = row_in(versions, view, id);
+        let row = row_of(rows, id);
         if !tells_row(alloc, &group.rows, row, id, point)? {
             return Ok(false);
         }
@@ -308,7 +294,8 @@ pub fn is_told(
     view: View,
     point: u64,
 ) -> Result<bool, AllocError> {
-    if !are_rows_told(alloc, group, versions, view, point)? {
+    let rows = newest(alloc, versions, view)?;
+    if !are_rows_told(alloc, group, &rows, point)? {
         return Ok(false);
     }
     for index in group.indexes.as_slice() {
@@ -316,7 +303,7 @@ pub fn is_told(
             return Ok(false);
         }
         let is_asked = index.index.birth <= point;
-        if is_asked && !are_verified_right(alloc, index, versions, view, point)? {
+        if is_asked && !are_verified_right(alloc, index, &rows, point)? {
             return Ok(false);
         }
     }

@@ -1,9 +1,13 @@
 // Queries through each index, and whether an answer is right by the dated rows.
-use crate::model::{Fields, Version, View, newest, small};
+use crate::model::{Fields, Version, View, newest, row_of, small};
 use px_values::Row;
+use std::alloc::{AllocError, Global};
 
-/// In which order a query gives its rows.
-#[derive(Clone, Copy)]
+/// Keys, letters and numbers are below it.
+const WIDTH: u32 = 1_000;
+
+/// In which order a query gives its rows: that of the table's keys, or of an index's. B descends where it is the only one, and A where it is the second.
+#[derive(Clone, Copy, PartialEq, Eq)]
 pub enum Order {
     ById,
     ByA,
@@ -135,67 +139,112 @@ fn is_among(which: Which, row: Fields) -> bool {
     }
 }
 
-/// The place of a row in an order: it rises with the row's values there.
+/// A number of three others that is greater the greater the first of them is that differs.
+fn joined(first: u32, second: u32, third: u32) -> u32 {
+    first
+        .saturating_mul(WIDTH)
+        .saturating_add(second)
+        .saturating_mul(WIDTH)
+        .saturating_add(third)
+}
+
+fn descending(value: u32) -> u32 {
+    WIDTH.saturating_sub(1).saturating_sub(value)
+}
+
+/// The place of a row in an order: it rises with the row's values there. NULL is least.
 fn rank(order: Order, row: Fields) -> u32 {
-    let (id, a, b) = (row.id % 8, row.a % 4, row.b % 4);
     match order {
-        Order::ById => id,
-        Order::ByA => a * 8 + id,
-        Order::ByB => (3 - b) * 8 + id,
-        Order::ByAB => (a * 4 + b) * 8 + id,
-        Order::ByBA => (b * 4 + (3 - a)) * 8 + id,
+        Order::ById => row.id,
+        Order::ByA => joined(0, row.a, row.id),
+        Order::ByB => joined(0, descending(row.b), row.id),
+        Order::ByAB => joined(row.a, row.b, row.id),
+        Order::ByBA => joined(row.b, descending(row.a), row.id),
     }
 }
 
-fn is_before(order: Order, row: Fields, best: &Option<Fields>) -> bool {
-    match best {
-        Some(old) => rank(order, row) < rank(order, *old),
-        None => true,
-    }
+/// What an answer shows of a row. Some show no letter.
+#[derive(Clone, Copy)]
+struct Shown {
+    id: u32,
+    a: Option<u32>,
+    b: u32,
 }
 
-/// Of the rows in view the one that a query gives next, from a rank on.
-fn next_row(versions: &[Version], view: View, query: Query, from: u32) -> Option<Fields> {
-    let mut best: Option<Fields> = None;
-    for id in 1..5 {
-        let Some(version) = newest(versions, view, id) else {
-            continue;
-        };
-        let row = version.fields;
-        if version.is_there
-            && is_among(query.which, row)
-            && rank(query.order, row) >= from
-            && is_before(query.order, row, &best)
-        {
-            best = Some(row);
-        }
-    }
-    best
-}
-
-/// The values of a row that was answered.
-pub fn fields_of(row: &Row) -> Option<Fields> {
+fn shown_in(row: &Row) -> Option<Shown> {
     match row.as_slice() {
-        [id, a, b] => Some(Fields {
+        [id, a, b] => Some(Shown {
             id: small(id),
-            a: small(a),
+            a: Some(small(a)),
+            b: small(b),
+        }),
+        [id, b] => Some(Shown {
+            id: small(id),
+            a: None,
             b: small(b),
         }),
         _ => None,
     }
 }
 
-/// Whether these are exactly the rows in view that the query gives, in its order.
-pub fn is_answer(versions: &[Version], view: View, query: Query, rows: &[Row]) -> bool {
-    let mut from = 0;
-    for row in rows {
-        let next = next_row(versions, view, query, from);
-        if next.is_none() || fields_of(row) != next {
-            return false;
+fn is_shown(row: Fields, shown: Shown) -> bool {
+    row.b == shown.b
+        && match shown.a {
+            Some(a) => row.a == a,
+            None => true,
         }
-        if let Some(fields) = next {
-            from = rank(query.order, fields).saturating_add(1);
+}
+
+/// The row of a key among those that are left, where the query gives it.
+fn given(left: &[Option<Version>], which: Which, id: u32) -> Option<Fields> {
+    let row = row_of(left, id)?;
+    if is_among(which, row) {
+        Some(row)
+    } else {
+        None
+    }
+}
+
+/// Takes the row that is answered out of those that are left, and gives its rank; none where it isn't there, or is another.
+fn take(left: &mut [Option<Version>], query: Query, answered: &Row) -> Option<u32> {
+    let shown = shown_in(answered)?;
+    let row = given(left, query.which, shown.id)?;
+    if !is_shown(row, shown) {
+        return None;
+    }
+    if let Some(slot) = left.get_mut(shown.id as usize) {
+        *slot = None;
+    }
+    Some(rank(query.order, row))
+}
+
+/// Whether the query gives none of those that are left.
+fn are_all_taken(left: &[Option<Version>], which: Which) -> bool {
+    for slot in left {
+        if let Some(version) = slot {
+            if version.is_there && is_among(which, version.fields) {
+                return false;
+            }
         }
     }
-    next_row(versions, view, query, from).is_none()
+    true
+}
+
+/// Whether these are exactly the rows in view that the query gives, in its order.
+pub fn is_answer(
+    alloc: Global,
+    versions: &[Version],
+    view: View,
+    query: Query,
+    rows: &[Row],
+) -> Result<bool, AllocError> {
+    let mut left = newest(alloc, versions, view)?;
+    let mut from = 0;
+    for row in rows {
+        match take(&mut left, query, row) {
+            Some(rank) if rank >= from => from = rank.saturating_add(1),
+            _ => return Ok(false),
+        }
+    }
+    Ok(are_all_taken(&left, query.which))
 }

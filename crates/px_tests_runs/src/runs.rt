@@ -8,12 +8,12 @@ ghost use Rattle.px_server.specs.Others.{BeginsAt};
 use px_opening::{Opened, open};
 use px_outside::{Clock, CountsCalls, Disk, FixedClock, MemDisk, MemSink, Metered};
 use px_reply::Transcripts;
-use px_rounds::{NoGate, Rounds, run_rounds};
+use px_rounds::{Gate, NoGate, Rounds, run_rounds};
 use px_script::{Script, read_script};
 use px_seat::{Based, Single};
 use px_server::{Founded, Server};
 use px_trail::{Entry, Trail};
-use std::alloc::Global;
+use std::alloc::{AllocError, Global};
 use std::marker::Brand;
 use std::sync::Wait;
 use std::thread::Threads;
@@ -29,6 +29,8 @@ pub struct Ran<D> {
     pub late: Option<Entry>,
     pub transcripts: Transcripts,
     pub printed: MemSink,
+    /// All of the script was run and printed.
+    pub whole: bool,
 }
 
 /// The disk after a run.
@@ -39,6 +41,7 @@ pub fn disk_of(ran: Ran<MemDisk>) -> MemDisk {
         late,
         transcripts,
         printed,
+        whole: _,
     } = ran;
     drop(trail);
     drop(late);
@@ -49,36 +52,45 @@ pub fn disk_of(ran: Ran<MemDisk>) -> MemDisk {
 
 /// Runs a script on steps with which nothing was done.
 #[tactic(auto, using(crate::proofs::Serving::is_single))]
-fn scheduled<R: Threads + Wait + Sync, S: Single + Send>(
+fn scheduled<R: Threads + Wait + Sync, G: Gate + Sync, S: Single + Send>(
     rt: &R,
     alloc: Global,
+    gate: &G,
     server: S,
     script: &Script,
-    schedule: &[u32],
+    schedule: Option<&[u32]>,
     printed: &mut MemSink,
 ) -> Rounds<S>
     requires alone { (S.known server).alone ≡ true }
     requires nothing { (S.known server).seen ≡ [] }
 {
-    run_rounds(rt, alloc, &NoGate, server, script, Some(schedule), printed)
+    run_rounds(rt, alloc, gate, server, script, schedule, printed)
 }
 
 /// Runs a script on a server with which nothing was done.
 fn served<
     R: Threads + Wait + Sync,
+    G: Gate + Sync,
     D: CountsCalls + Send,
     C: Clock + Drop + Send,
     B: Based + Founded + Send + Sync,
->(rt: &R, alloc: Global, server: Server<D, C, B>, script: &Script, schedule: &[u32]) -> Ran<D>
+>(
+    rt: &R,
+    alloc: Global,
+    gate: &G,
+    server: Server<D, C, B>,
+    script: &Script,
+    schedule: Option<&[u32]>,
+) -> Ran<D>
     requires { server.entries ≡ [] }
 {
     let mut printed = MemSink::new(alloc);
     let Rounds {
         server,
         transcripts,
-        sink_failed: _,
-        memory: _,
-    } = scheduled(rt, alloc, server, script, schedule, &mut printed);
+        sink_failed,
+        memory,
+    } = scheduled(rt, alloc, gate, server, script, schedule, &mut printed);
     let (disk, trail, late) = server.finish();
     Ran {
         disk,
@@ -86,23 +98,26 @@ fn served<
         late,
         transcripts,
         printed,
+        whole: !(sink_failed || memory),
     }
 }
 
 /// Runs a script over a folder that was opened. `B` tells the base, and nothing is told of the disk.
 fn run_over<
     R: Threads + Wait + Sync,
+    G: Gate + Sync,
     D: CountsCalls + Send,
     C: Clock + Drop + Send,
     B: Based + Founded + Send + Sync,
 >(
     rt: &R,
     alloc: Global,
+    gate: &G,
     disk: D,
     clock: C,
     opened: Opened,
     script: &Script,
-    schedule: &[u32],
+    schedule: Option<&[u32]>,
 ) -> Result<Ran<D>, D>
     requires right { IsOpenedRight opened }
     requires base { B.base ≡ base_of (folder_in opened) }
@@ -112,36 +127,52 @@ fn run_over<
     requires times { IsTrue C.tells → (n : ℕ) → C.times clock n ≡ B.times n }
 {
     match Server::<D, C, B>::over(alloc, disk, clock, LOOKBACK, opened) {
-        Ok(server) => Ok(served(rt, alloc, server, script, schedule)),
+        Ok(server) => Ok(served(rt, alloc, gate, server, script, schedule)),
         Err(disk) => Err(disk),
     }
 }
 
 /// Runs a script over a folder that was opened.
-fn run_opened<R: Threads + Wait + Sync, D: CountsCalls + Send, C: Clock + Drop + Send>(
+fn run_opened<
+    R: Threads + Wait + Sync,
+    G: Gate + Sync,
+    D: CountsCalls + Send,
+    C: Clock + Drop + Send,
+>(
     rt: &R,
     alloc: Global,
+    gate: &G,
     disk: D,
     clock: C,
     opened: Opened,
     script: &Script,
-    schedule: &[u32],
+    schedule: Option<&[u32]>,
 ) -> Result<Ran<D>, D>
     requires right { IsOpenedRight opened }
 {
-    run_over::<R, D, C, Brand>(rt, alloc, disk, clock, opened, script, schedule)
+    run_over::<R, G, D, C, Brand>(rt, alloc, gate, disk, clock, opened, script, schedule)
 }
 
 /// Opens the folder, and runs a script on its tables. The disk comes back where a call of it failed.
-fn run_on<R: Threads + Wait + Sync, D: CountsCalls + Send>(
+fn run_on<R: Threads + Wait + Sync, G: Gate + Sync, D: CountsCalls + Send>(
     rt: &R,
     alloc: Global,
+    gate: &G,
     mut disk: D,
     script: &Script,
-    schedule: &[u32],
+    schedule: Option<&[u32]>,
 ) -> Result<Ran<D>, D> {
     match open(alloc, &mut disk) {
-        Ok(opened) => run_opened(rt, alloc, disk, FixedClock(0), opened, script, schedule),
+        Ok(opened) => run_opened(
+            rt,
+            alloc,
+            gate,
+            disk,
+            FixedClock(0),
+            opened,
+            script,
+            schedule,
+        ),
         Err(_) => Err(disk),
     }
 }
@@ -154,7 +185,54 @@ pub enum Outcome {
     Lacked,
 }
 
-/// A run of a script that was read, on a disk that had no call yet.
+impl Outcome {
+    /// What was run, if anything was.
+    pub fn ran(self) -> Option<Ran<MemDisk>> {
+        match self {
+            Outcome::Ran(ran) => Some(ran),
+            Outcome::Unopened(disk) => {
+                drop(disk);
+                None
+            }
+            Outcome::Lacked => None,
+        }
+    }
+}
+
+/// A run of a script that was read, on a disk that had no call yet: in threads through a gate, or by a schedule.
+fn run_through<R: Threads + Wait + Sync, G: Gate + Sync>(
+    rt: &R,
+    alloc: Global,
+    gate: &G,
+    disk: MemDisk,
+    script: &Script,
+    schedule: Option<&[u32]>,
+) -> Outcome
+    requires fresh { (calls_of disk ≡ 0) × (faults_of disk ≡ 0) × (first_fault_of disk ≡ 0) }
+{
+    match run_on(rt, alloc, gate, Metered::new(disk), script, schedule) {
+        Ok(
+            Ran {
+                disk,
+                trail,
+                late,
+                transcripts,
+                printed,
+                whole,
+            },
+        ) => Outcome::Ran(Ran {
+            disk: disk.into_disk(),
+            trail,
+            late,
+            transcripts,
+            printed,
+            whole,
+        }),
+        Err(disk) => Outcome::Unopened(disk.into_disk()),
+    }
+}
+
+/// A run of a script that was read by a schedule, on a disk that had no call yet.
 pub fn run_read<R: Threads + Wait + Sync>(
     rt: &R,
     alloc: Global,
@@ -164,24 +242,35 @@ pub fn run_read<R: Threads + Wait + Sync>(
 ) -> Outcome
     requires fresh { (calls_of disk ≡ 0) × (faults_of disk ≡ 0) × (first_fault_of disk ≡ 0) }
 {
-    match run_on(rt, alloc, Metered::new(disk), script, schedule) {
-        Ok(
-            Ran {
-                disk,
-                trail,
-                late,
-                transcripts,
-                printed,
-            },
-        ) => Outcome::Ran(Ran {
-            disk: disk.into_disk(),
-            trail,
-            late,
-            transcripts,
-            printed,
-        }),
-        Err(disk) => Outcome::Unopened(disk.into_disk()),
+    run_through(rt, alloc, &NoGate, disk, script, Some(schedule))
+}
+
+/// What a script prints on an empty folder in memory, if all of it is run: in threads through a gate, or by a schedule.
+pub fn run_whole<R: Threads + Wait + Sync, G: Gate + Sync>(
+    rt: &R,
+    alloc: Global,
+    gate: &G,
+    text: &str,
+    schedule: Option<&[u32]>,
+) -> Option<MemSink> {
+    let script = read_script(alloc, text.as_bytes()).ok()?;
+    let Ran {
+        disk,
+        trail,
+        late,
+        transcripts,
+        printed,
+        whole,
+    } = run_through(rt, alloc, gate, MemDisk::new(alloc), &script, schedule).ran()?;
+    drop(disk);
+    drop(trail);
+    drop(late);
+    drop(transcripts);
+    if whole {
+        return Some(printed);
     }
+    drop(printed);
+    None
 }
 
 /// A run of a script on a disk that had no call yet.

@@ -1,6 +1,6 @@
 // An index is built while another session changes rows of its table, in an order that a schedule says.
-use crate::served::run_scheduled;
-use px_outside::MemSink;
+use px_rounds::NoGate;
+use px_tests_runs::runs::run_whole;
 use std::alloc::Global;
 use std::fmt;
 use std::fmt::Write;
@@ -89,9 +89,12 @@ fn is_built<R: Threads + Wait + Sync>(
     schedule: &[u32],
 ) -> Result<bool, fmt::Error> {
     let script = script(alloc)?;
-    let mut sink = MemSink::new(alloc);
-    let whole = run_scheduled(rt, alloc, &script, schedule, &mut sink);
-    Ok(whole && sink.held().ends_with(PRINTED.as_bytes()))
+    Ok(
+        match run_whole(rt, alloc, &NoGate, &script, Some(schedule)) {
+            Some(printed) => printed.held().ends_with(PRINTED.as_bytes()),
+            None => false,
+        },
+    )
 }
 
 #[test]

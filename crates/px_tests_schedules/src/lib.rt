@@ -5,5 +5,3 @@
 mod builds;
 #[cfg(test)]
 mod schedules;
-#[cfg(test)]
-mod served;

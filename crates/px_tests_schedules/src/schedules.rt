@@ -1,6 +1,6 @@
 // Two sessions change one row at once, in an order that a schedule says.
-use crate::served::run_scheduled;
-use px_outside::MemSink;
+use px_rounds::NoGate;
+use px_tests_runs::runs::run_whole;
 use std::alloc::{AllocError, Global};
 use std::sync::Wait;
 use std::thread::Threads;
@@ -107,10 +107,13 @@ fn ends_so<R: Threads + Wait + Sync>(
 ) -> Result<bool, AllocError> {
     let mut script = String::from_str(alloc, CHANGES)?;
     script.push_str(asked)?;
-    let mut sink = MemSink::new(alloc);
-    let whole = run_scheduled(rt, alloc, &script, schedule, &mut sink);
     let replies = replies(alloc, last)?;
-    Ok(whole && sink.held() == replies.as_bytes())
+    Ok(
+        match run_whole(rt, alloc, &NoGate, &script, Some(schedule)) {
+            Some(printed) => printed.held() == replies.as_bytes(),
+            None => false,
+        },
+    )
 }
 
 #[test]

@@ -3,7 +3,8 @@ use px_plan::Asked;
 use px_scan::Placed;
 use px_sorted::{Shown, answered};
 use px_tables::KeyPlace;
-use px_values::{Direction, Items, Line, Row, Text, Value, print_rows};
+use px_tests_layouts::{numbers, row};
+use px_values::{Direction, Items, Line, Value, print_rows};
 use std::alloc::{AllocError, Global};
 use std::test::Fail;
 
@@ -44,27 +45,6 @@ const ORDERS: &str = "; - => 0 1 2 3 4 5 6
 1-; 8 => 3 0 2 6 5 1 4
 1+ 2+; 2 => 4 1
 1+; 18446744073709551615 => 1 4 5 0 2 6 3";
-
-fn value(alloc: Global, word: &str) -> Result<Value, AllocError> {
-    if word == "NULL" {
-        return Ok(Value::Null);
-    }
-    match word.parse::<i64>() {
-        Ok(number) => Ok(Value::Number(i128::from(number))),
-        Err(_) => {
-            let text = Text::from_str(alloc, word)?;
-            Ok(Value::Text(text))
-        }
-    }
-}
-
-fn row(alloc: Global, line: &str) -> Result<Row, AllocError> {
-    let mut values = Vec::new(alloc);
-    for word in line.split_whitespace() {
-        values.push(value(alloc, word)?)?;
-    }
-    Ok(Items::of(values))
-}
 
 fn rows(alloc: Global) -> Result<Vec<Placed>, AllocError> {
     let mut rows = Vec::new(alloc);
@@ -135,15 +115,6 @@ fn answer(
             Err(fault)
         }
     }
-}
-
-/// The numbers that a line has.
-fn numbers(alloc: Global, words: &str) -> Result<Vec<u64>, AllocError> {
-    let mut numbers = Vec::new(alloc);
-    for word in words.split_whitespace() {
-        numbers.push(word.parse::<u64>().unwrap_or(u64::MAX))?;
-    }
-    Ok(numbers)
 }
 
 #[test]

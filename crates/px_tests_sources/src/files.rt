@@ -1,16 +1,17 @@
-ghost use Rattle.std.specs.Prelude.{◌≡◌, ◌+◌, ◌<◌, ◌≤◌, true, length, IfOk, IfSome};
+ghost use Rattle.std.specs.Prelude.{IfSome};
 ghost use Rattle.px_cellbytes.specs.Reading.{IsWritten};
 
 use px_cellbytes::read_cells;
-use px_cells::{Cell, Cells};
+use px_cells::{Cell, CellKind, Cells};
 use px_cursor::Cursor;
 use px_file::RegionFile;
 use px_files::{free_local, open_files};
 use px_making::{MakeStep, Making};
 use px_outside::{Disk, MemDisk};
-use px_sources::{CellTaker, Source, give};
+use px_sources::{Source, give};
+use px_tests_storage::{Seen, push_cell};
 use px_wal::FileEntry;
-use std::alloc::{AllocError, Global};
+use std::alloc::Global;
 use std::test::Fail;
 
 /// The local files 4 and 5 of region 1.
@@ -18,23 +19,13 @@ const FILES: [u64; 2] = [4_294_967_300, 4_294_967_301];
 
 const ROWS: [u8; 12] = [0, 1, 2, 3, 4, 5, 6, 7, 8, 9, 10, 11];
 
-/// Adds the bytes of a cell of a row.
-fn put(to: &mut Vec<u8>, row: u8, stamp: u8, len: u16) -> Result<(), AllocError> {
-    to.extend_from_slice(&[0, 1, row, 1, 0, 0, 0, 0, 0, 0, 0, stamp, 4])?;
-    to.extend_from_slice(&len.to_be_bytes())?;
-    for _ in 0..len {
-        to.push(row)?;
-    }
-    Ok(())
-}
-
 /// The cells of some rows at a stamp. Four of them with values of 9,000 bytes make a block.
 fn cells_of(alloc: Global, rows: &[u8], stamp: u8, len: u16) -> Option<Cells>
     ensures { IfSome result (λ cells. IsWritten cells) }
 {
     let mut bytes = Vec::new(alloc);
     for row in rows {
-        put(&mut bytes, *row, stamp, len).ok()?;
+        push_cell(&mut bytes, *row, stamp, CellKind::Put.code(), len).ok()?;
     }
     let count = u32::try_from(rows.len()).ok()?;
     read_cells(alloc, &bytes, count).ok()
@@ -64,31 +55,6 @@ fn made(
 ) -> Option<RegionFile> {
     let cells = cells_of(alloc, rows, stamp, 9_000)?;
     make(alloc, disk, file, &cells)
-}
-
-/// Keeps a number for each cell: ten times its row, and its stamp.
-#[derive(Drop)]
-struct Seen {
-    cells: Vec<u64>,
-}
-
-impl CellTaker for Seen {
-    ghost has_taken = { λ seen cells. 0 ≤ 0 };
-
-    ghost wants = { λ seen cells. true };
-
-    fn take(&mut self, cell: &Cell) -> Result<(), AllocError> {
-        let row = match cell.key() {
-            [] => 0,
-            [row, ..] => u64::from(*row),
-        };
-        self.cells.push(row * 10 + cell.stamp() % 10)?;
-        Ok(())
-    }
-
-    fn wants_row(&self) -> bool {
-        true
-    }
 }
 
 /// What is given of a slice over a file, within a range.

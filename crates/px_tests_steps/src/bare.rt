@@ -34,6 +34,10 @@ impl Steps for Bare {
 
     ghost one_call = { λ a b. b.calls ≡ after_one a.calls };
 
+    ghost left = { λ _ _. 0 };
+
+    ghost looked = { λ _. 0 };
+
     ghost sound = { Unit {0} };
 
     ghost ordered = { λ _. Unit {0} };

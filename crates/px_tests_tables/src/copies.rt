@@ -1,27 +1,9 @@
 // Copies of a table with an index, and what they were made from.
-use px_tables::{
-    Found, Index, IndexState, KeyPlace, NewIndex, NewTable, Table, TableColumn, TableRegion,
-};
+use px_tables::{Found, Index, IndexState, NewIndex, NewTable, Table, TableColumn, TableRegion};
+use px_tests_layouts::{column, place};
 use px_values::{ColType, Direction, IndexId, Items, Key, Name, TableId};
 use std::alloc::{AllocError, Global};
 use std::test::Fail;
-
-fn column(alloc: Global, name: &str, not_null: bool) -> Result<TableColumn, AllocError> {
-    let name = Name::from_str(alloc, name)?;
-    Ok(TableColumn {
-        name,
-        column_type: ColType::Varchar,
-        not_null,
-    })
-}
-
-fn key(alloc: Global) -> Result<Items<KeyPlace>, AllocError> {
-    let part = KeyPlace {
-        column: 1,
-        direction: Direction::Descending,
-    };
-    Ok(Items::of(vec![in alloc; part]?))
-}
 
 fn region(alloc: Global, number: u32, least_key: &[u8]) -> Result<TableRegion, AllocError> {
     let bytes = Vec::from_slice(alloc, least_key)?;
@@ -40,8 +22,13 @@ fn regions(alloc: Global) -> Result<Items<TableRegion>, AllocError> {
 
 fn columns(alloc: Global) -> Result<Items<TableColumn>, AllocError> {
     let mut columns = Vec::new(alloc);
-    columns.push(column(alloc, "A", false)?)?;
-    columns.push(column(alloc, "a name of more than sixteen bytes", true)?)?;
+    columns.push(column(alloc, "A", ColType::Varchar, false)?)?;
+    columns.push(column(
+        alloc,
+        "a name of more than sixteen bytes",
+        ColType::Varchar,
+        true,
+    )?)?;
     Ok(Items::of(columns))
 }
 
@@ -58,7 +45,7 @@ fn lists(alloc: Global) -> Result<(Items<TableColumn>, Items<TableRegion>), Allo
 }
 
 fn table(alloc: Global) -> Result<Table, AllocError> {
-    let key = key(alloc)?;
+    let key = place(alloc, 1, Direction::Descending)?;
     let name = Name::from_str(alloc, "T")?;
     match lists(alloc) {
         Ok((columns, regions)) => Ok(Table {
@@ -76,7 +63,7 @@ fn table(alloc: Global) -> Result<Table, AllocError> {
 }
 
 fn index(alloc: Global) -> Result<Index, AllocError> {
-    let parts = key(alloc)?;
+    let parts = place(alloc, 1, Direction::Descending)?;
     let included = vec![in alloc; 0]?;
     let name = Name::from_str(alloc, "T_A")?;
     Ok(Index {

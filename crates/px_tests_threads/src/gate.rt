@@ -1,8 +1,7 @@
 // A session is held between two steps of its batch until another has been answered.
-use crate::served::run_new;
-use px_outside::MemSink;
 use px_rounds::Gate;
 use px_session::SessionRun;
+use px_tests_runs::runs::run_whole;
 use std::alloc::Global;
 use std::sync::Wait;
 use std::sync::atomic::{AtomicBool, AtomicU64, Ordering};
@@ -75,11 +74,11 @@ impl Gate for Held {
 /// Whether session 2 was answered while session 1 was held, and both as they must be.
 fn runs_beside<R: Threads + Wait + Sync>(rt: &R, alloc: Global) -> bool {
     let gate = Held::new();
-    let mut out = MemSink::new(alloc);
-    let whole = run_new(rt, alloc, &gate, SCRIPT, &mut out);
-    let right = out.held() == "1 row affected\n@2\n0 rows selected\n".as_bytes();
-    drop(out);
-    whole && right && gate.held_one()
+    let right = match run_whole(rt, alloc, &gate, SCRIPT, None) {
+        Some(printed) => printed.held() == "1 row affected\n@2\n0 rows selected\n".as_bytes(),
+        None => false,
+    };
+    right && gate.held_one()
 }
 
 #[test]

@@ -6,5 +6,3 @@
 
 #[cfg(test)]
 mod gate;
-#[cfg(test)]
-mod served;

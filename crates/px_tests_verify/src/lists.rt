@@ -1,4 +1,5 @@
 // Entries and versions, and the report on them, worked out by hand.
+use px_tests_layouts::numbers;
 use px_values::{Items, Key, Row, Text, Value};
 use px_verify::{IndexEntry, Version, compare, sort};
 use std::alloc::{AllocError, Global};
@@ -77,15 +78,6 @@ fn versions(alloc: Global, words: &str) -> Result<Vec<Version>, AllocError> {
         versions.push(version(alloc, word)?)?;
     }
     Ok(versions)
-}
-
-/// The numbers that a line has.
-fn numbers(alloc: Global, words: &str) -> Result<Vec<u64>, AllocError> {
-    let mut numbers = Vec::new(alloc);
-    for word in words.split_whitespace() {
-        numbers.push(word.parse::<u64>().unwrap_or(u64::MAX))?;
-    }
-    Ok(numbers)
 }
 
 #[test]

@@ -7,7 +7,7 @@ use px_reply::Transcript;
 use px_tests_runs::answers::answered;
 use px_tests_runs::copies::{add_files, copied};
 use px_tests_runs::dice::Dice;
-use px_tests_runs::model::{Version, add_late, add_written, settle};
+use px_tests_runs::model::{Version, add_late, add_written, settle, tables_made};
 use px_tests_runs::plain::{are_told, has_stamp};
 use px_tests_runs::queries::QUERIES;
 use px_tests_runs::runs::{Outcome, Ran, disk_of, run, run_read};
@@ -66,12 +66,13 @@ fn most_open(trail: &Trail) -> u64 {
 
 /// How many answers of a session that asks are right, of the newest rows and as of an earlier stamp; none where one is wrong.
 fn right_answers(
+    alloc: Global,
     trail: &Trail,
     versions: &[Version],
     transcript: &Transcript,
     asked: &[usize],
     tables: &[u32],
-) -> Option<(usize, usize)> {
+) -> Result<Option<(usize, usize)>, AllocError> {
     let (mut newest, mut dated): (usize, usize) = (0, 0);
     let items = transcript.items.as_slice();
     for place in 0..items.len() {
@@ -79,23 +80,31 @@ fn right_answers(
             continue;
         }
         let is_newest = place < QUERIES.len();
-        let query = if is_newest {
-            place
-        } else {
-            *asked.get(place.wrapping_sub(QUERIES.len()).wrapping_sub(1))?
+        let Some(query) = asked_at(asked, place) else {
+            return Ok(None);
         };
-        let seat = transcript.session;
-        match answered(trail, versions, seat, &items[place], query, tables) {
+        let (seat, item) = (transcript.session, &items[place]);
+        match answered(alloc, trail, versions, seat, item, query, tables)? {
             Some(true) => if is_newest {
                 newest = newest.saturating_add(1);
             } else {
                 dated = dated.saturating_add(1);
             },
-            Some(false) => return None,
+            Some(false) => return Ok(None),
             None => {}
         }
     }
-    Some((newest, dated))
+    Ok(Some((newest, dated)))
+}
+
+/// Which query an item of a session that asks is: each of the newest rows, a command, and those as of an earlier stamp.
+fn asked_at(asked: &[usize], place: usize) -> Option<usize> {
+    if place < QUERIES.len() {
+        return Some(place);
+    }
+    asked
+        .get(place.wrapping_sub(QUERIES.len()).wrapping_sub(1))
+        .copied()
 }
 
 /// The queries as of earlier stamps of a session that asks.
@@ -110,20 +119,28 @@ fn asked_by(plan: &Plan, session: u32) -> &[usize] {
 
 impl Course {
     /// Counts the right answers of a run. Whether none is wrong.
-    fn count_answers(&mut self, trail: &Trail, transcripts: &[Transcript], plan: &Plan) -> bool {
+    fn count_answers(
+        &mut self,
+        alloc: Global,
+        trail: &Trail,
+        transcripts: &[Transcript],
+        plan: &Plan,
+    ) -> Result<bool, AllocError> {
         for transcript in transcripts {
             if transcript.session <= SESSIONS {
                 continue;
             }
             let asked = asked_by(plan, transcript.session);
             let Some((newest, dated)) = right_answers(
+                alloc,
                 trail,
                 &self.versions,
                 transcript,
                 asked,
                 &self.tables,
-            ) else {
-                return false;
+            )?
+            else {
+                return Ok(false);
             };
             let count = newest.saturating_add(dated) as u64;
             self.tally.answers = self.tally.answers.saturating_add(count);
@@ -131,7 +148,7 @@ impl Course {
                 self.tally.steps = self.tally.steps.saturating_add(1);
             }
         }
-        true
+        Ok(true)
     }
 
     /// Counts what the disk held after each step of a run. Whether that was right each time.
@@ -161,14 +178,16 @@ impl Course {
         plan: &Plan,
         dice: &mut Dice,
     ) -> Result<(), Wrong> {
-        if add_written(&ran.trail, &mut self.versions).is_err()
+        if add_written(alloc, &ran.trail, &mut self.versions).is_err()
             || add_files(ran.disk.calls_made(), &mut self.files).is_err()
         {
             return Err(Wrong::Memory);
         }
         self.tally.open = self.tally.open.max(most_open(&ran.trail));
-        if !self.count_answers(&ran.trail, ran.transcripts.as_slice(), plan) {
-            return Err(Wrong::Answer);
+        match self.count_answers(alloc, &ran.trail, ran.transcripts.as_slice(), plan) {
+            Ok(true) => {}
+            Ok(false) => return Err(Wrong::Answer),
+            Err(_) => return Err(Wrong::Memory),
         }
         if !self.count_images(alloc, before, ran, dice) {
             return Err(Wrong::Image);
@@ -186,7 +205,7 @@ impl Course {
         late: &Option<Entry>,
     ) -> Result<bool, AllocError> {
         let settled = self.versions.len();
-        add_late(trail, late, &mut self.versions)?;
+        add_late(alloc, trail, late, &mut self.versions)?;
         let mut there: usize = 0;
         for place in settled..self.versions.len() {
             let version = self.versions[place];
@@ -268,6 +287,7 @@ impl Course {
             late,
             transcripts,
             printed,
+            whole: _,
         } = ran;
         drop(transcripts);
         drop(printed);
@@ -337,17 +357,6 @@ fn choice(dice: &mut Dice) -> Choice {
     }
 }
 
-/// The numbers of the tables that a run made.
-fn tables_made(alloc: Global, trail: &Trail) -> Result<Vec<u32>, AllocError> {
-    let mut tables = Vec::new(alloc);
-    for place in 0..trail.len() {
-        if let Act::Made { table, .. } = &trail.entry(place).act {
-            tables.push(table.0)?;
-        }
-    }
-    Ok(tables)
-}
-
 /// The beginning of a course: what the run left that made its tables.
 fn begun(alloc: Global, ran: &Ran<MemDisk>, tally: Tally) -> Result<Course, AllocError> {
     let mut files = Vec::new(alloc);
@@ -367,23 +376,17 @@ fn set_up<R: Threads + Wait + Sync>(
     alloc: Global,
     tally: Tally,
 ) -> Result<(MemDisk, Course), Wrong> {
-    match run(rt, alloc, MemDisk::new(alloc), SET_UP, &[]) {
-        Outcome::Ran(ran) => {
-            let course = begun(alloc, &ran, tally);
-            let disk = disk_of(ran);
-            match course {
-                Ok(course) => Ok((disk, course)),
-                Err(_) => {
-                    drop(disk);
-                    Err(Wrong::Memory)
-                }
-            }
-        }
-        Outcome::Unopened(disk) => {
+    let Some(ran) = run(rt, alloc, MemDisk::new(alloc), SET_UP, &[]).ran() else {
+        return Err(Wrong::SetUp);
+    };
+    let course = begun(alloc, &ran, tally);
+    let disk = disk_of(ran);
+    match course {
+        Ok(course) => Ok((disk, course)),
+        Err(_) => {
             drop(disk);
-            Err(Wrong::SetUp)
+            Err(Wrong::Memory)
         }
-        Outcome::Lacked => Err(Wrong::Memory),
     }
 }
 

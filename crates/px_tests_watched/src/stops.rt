@@ -6,7 +6,7 @@ use px_reply::{Reply, Transcript};
 use px_tables::IndexState;
 use px_tests_runs::copies::{add_files, copied};
 use px_tests_runs::doubts::doubts;
-use px_tests_runs::model::{Version, View, add_late, add_written, settle};
+use px_tests_runs::model::{Version, add_late, add_written, as_of, settle};
 use px_tests_runs::plain::{are_told, has_stamp};
 use px_tests_runs::queries::{Order, Query, Which, is_answer};
 use px_tests_runs::runs::{Outcome, Ran, disk_of, run};
@@ -106,10 +106,10 @@ fn stands(trail: &Trail, late: &Option<Entry>, part: Part) -> Option<bool> {
 fn left_by(alloc: Global, ran: &Ran<MemDisk>) -> Result<Left, AllocError> {
     let (mut versions, mut files) = (Vec::new(alloc), Vec::new(alloc));
     add_files(ran.disk.calls_made(), &mut files)?;
-    add_written(&ran.trail, &mut versions)?;
+    add_written(alloc, &ran.trail, &mut versions)?;
     settle(&mut versions);
     let settled = versions.len();
-    add_late(&ran.trail, &ran.late, &mut versions)?;
+    add_late(alloc, &ran.trail, &ran.late, &mut versions)?;
     Ok(Left {
         versions,
         settled,
@@ -206,26 +206,30 @@ impl Left {
     }
 
     /// Whether a query was answered by the rows that are there.
-    fn is_answered(&self, transcript: &Transcript, place: usize, query: Query) -> bool {
+    fn is_answered(
+        &self,
+        alloc: Global,
+        transcript: &Transcript,
+        place: usize,
+        query: Query,
+    ) -> bool {
         let Some(version) = self.versions.as_slice().first() else {
             return true;
         };
-        let view = View {
-            table: version.table,
-            below: NEWEST,
-            within: u64::MAX,
+        let view = as_of(version.table, NEWEST);
+        let Some(item) = transcript.items.as_slice().get(place) else {
+            return false;
         };
-        match transcript.items.as_slice().get(place) {
-            Some(item) => match &item.reply {
-                Reply::Rows(rows) => is_answer(&self.versions, view, query, rows.as_slice()),
-                _ => false,
-            },
-            None => false,
+        match &item.reply {
+            Reply::Rows(rows) => {
+                is_answer(alloc, &self.versions, view, query, rows.as_slice()) == Ok(true)
+            }
+            _ => false,
         }
     }
 
     /// Whether both queries were answered by the rows that are there.
-    fn are_answered(&self, transcripts: &[Transcript]) -> bool {
+    fn are_answered(&self, alloc: Global, transcripts: &[Transcript]) -> bool {
         let [transcript] = transcripts else {
             return false;
         };
@@ -234,7 +238,8 @@ impl Left {
         } else {
             BY_TABLE
         };
-        self.is_answered(transcript, 0, BY_TABLE) && self.is_answered(transcript, 1, by_index)
+        self.is_answered(alloc, transcript, 0, BY_TABLE)
+            && self.is_answered(alloc, transcript, 1, by_index)
     }
 }
 
@@ -295,7 +300,7 @@ fn read<R: Threads + Wait + Sync>(
     match run(rt, alloc, disk.image().stop_at(again, choice), READ, &[]) {
         Outcome::Ran(ran) => {
             let is_stopped = has_failed(ran.disk.calls_made());
-            let is_right = is_stopped || left.are_answered(ran.transcripts.as_slice());
+            let is_right = is_stopped || left.are_answered(alloc, ran.transcripts.as_slice());
             let disk = disk_of(ran).image();
             if is_right {
                 return Some((disk, is_stopped));

@@ -1,7 +1,7 @@
 // Steps of a few batches and queries, in orders and with stops that were worked out by hand.
 use px_outside::{Choice, MemDisk};
 use px_reply::{Item, Transcript};
-use px_tests_runs::runs::{Outcome, Ran, disk_of, run};
+use px_tests_runs::runs::{disk_of, run};
 use px_trail::{Act, Trail};
 use px_values::Value;
 use std::alloc::Global;
@@ -91,17 +91,6 @@ fn last_places(trail: &Trail) -> Places {
     places
 }
 
-fn ran_of(outcome: Outcome) -> Option<Ran<MemDisk>> {
-    match outcome {
-        Outcome::Ran(ran) => Some(ran),
-        Outcome::Unopened(disk) => {
-            drop(disk);
-            None
-        }
-        Outcome::Lacked => None,
-    }
-}
-
 /// The disk after a script on a disk.
 fn after<R: Threads + Wait + Sync>(
     rt: &R,
@@ -109,7 +98,7 @@ fn after<R: Threads + Wait + Sync>(
     disk: MemDisk,
     text: &str,
 ) -> Option<MemDisk> {
-    let ran = ran_of(run(rt, alloc, disk.image(), text, &[]))?;
+    let ran = run(rt, alloc, disk.image(), text, &[]).ran()?;
     Some(disk_of(ran))
 }
 
@@ -122,12 +111,12 @@ fn two_rows<R: Threads + Wait + Sync>(rt: &R, alloc: Global) -> Option<MemDisk> 
 /// The table without rows, whose regions have their logs: what a stop leaves behind the beginning of an UPSERT, whose stamp 2 is nowhere then.
 fn prepared<R: Threads + Wait + Sync>(rt: &R, alloc: Global) -> Option<MemDisk> {
     let disk = after(rt, alloc, MemDisk::new(alloc), ORDERS)?;
-    let ran = ran_of(run(rt, alloc, disk.image(), TWO_ROWS, &[]))?;
+    let ran = run(rt, alloc, disk.image(), TWO_ROWS, &[]).ran()?;
     let call = calls_at(&ran.trail, Step::Begun(2));
     drop(ran);
     let disk = after(rt, alloc, MemDisk::new(alloc), ORDERS)?;
     let stopping = disk.image().stop_at(call?.saturating_add(1), Choice::Old);
-    let ran = ran_of(run(rt, alloc, stopping, TWO_ROWS, &[]))?;
+    let ran = run(rt, alloc, stopping, TWO_ROWS, &[]).ran()?;
     Some(disk_of(ran))
 }
 
@@ -139,12 +128,12 @@ fn stopped<R: Threads + Wait + Sync>(
     behind: Step,
 ) -> Option<MemDisk> {
     let disk = two_rows(rt, alloc)?;
-    let ran = ran_of(run(rt, alloc, disk.image(), text, &[]))?;
+    let ran = run(rt, alloc, disk.image(), text, &[]).ran()?;
     let call = calls_at(&ran.trail, behind);
     drop(ran);
     let disk = two_rows(rt, alloc)?;
     let stopping = disk.image().stop_at(call?.saturating_add(1), Choice::Old);
-    let ran = ran_of(run(rt, alloc, stopping, text, &[]))?;
+    let ran = run(rt, alloc, stopping, text, &[]).ran()?;
     Some(disk_of(ran))
 }
 
@@ -157,7 +146,7 @@ fn prints<R: Threads + Wait + Sync>(
     printed: &str,
     steps: &[Step],
 ) -> bool {
-    let Some(ran) = ran_of(run(rt, alloc, disk.image(), text, &[])) else {
+    let Some(ran) = run(rt, alloc, disk.image(), text, &[]).ran() else {
         return false;
     };
     let is_right = ran.printed.held() == printed.as_bytes() && has_steps(&ran.trail, steps);
@@ -317,7 +306,7 @@ fn two_batches_meet_on_a_row(rt: HostRuntime) {
     let Some(disk) = prepared(&rt, alloc) else {
         panic!(rt; "not prepared")
     };
-    let Some(ran) = ran_of(run(&rt, alloc, disk.image(), MEETING, &MEETS)) else {
+    let Some(ran) = run(&rt, alloc, disk.image(), MEETING, &MEETS).ran() else {
         panic!(rt; "not run")
     };
     let all = ran.transcripts.as_slice();
@@ -365,7 +354,7 @@ fn a_late_repair_brings_no_row_back(rt: HostRuntime) {
     let Some(disk) = prepared(&rt, alloc) else {
         panic!(rt; "not prepared")
     };
-    let Some(ran) = ran_of(run(&rt, alloc, disk.image(), LATE, &LATE_STEPS)) else {
+    let Some(ran) = run(&rt, alloc, disk.image(), LATE, &LATE_STEPS).ran() else {
         panic!(rt; "not run")
     };
     let right = ran.printed.held() == LATE_PRINTED.as_bytes();
@@ -395,7 +384,7 @@ fn an_index_is_dropped_once_no_point_is_open(rt: HostRuntime) {
     let Some(disk) = two_rows(&rt, alloc) else {
         panic!(rt; "not made")
     };
-    let Some(ran) = ran_of(run(&rt, alloc, disk.image(), DROPPING, &DROPS)) else {
+    let Some(ran) = run(&rt, alloc, disk.image(), DROPPING, &DROPS).ran() else {
         panic!(rt; "not run")
     };
     let right = ran.printed.held() == DROPPED.as_bytes();

@@ -10,11 +10,11 @@ ghost use Rattle.px_values.specs.Types.{HasType};
 ghost use Rattle.px_values.specs.declared.row.Value.TheVariants.{Null};
 
 use px_calls::{BaseRow, BaseRows, FoundKey, FoundRow};
-use px_entries::{can_stand, parts_of};
-use px_keys::{KeyColumn, KeyFault, Part, encode_key};
+use px_entries::key_on;
+use px_keys::{KeyColumn, Part};
 use px_paths::PathColumn;
 use px_tables::TableColumn;
-use px_values::{ColType, Direction, Items, Key, Value};
+use px_values::{ColType, Direction, Items, Key, MOST_KEY, Value};
 use rayon::prelude::*;
 use std::alloc::{AllocError, Global};
 use std::thread::Threads;
@@ -36,22 +36,21 @@ impl From<AllocError> for RowsFault {
     }
 }
 
-/// The row's key on a path. A row whose values don't fit the path's columns has none.
-fn key_on(alloc: Global, path: &[PathColumn], row: &[Value]) -> Result<Key, RowsFault>
+/// The row's key on a path, where it is no longer than a key may be. A row whose values don't fit the path's columns has none.
+fn short_key_on(alloc: Global, path: &[PathColumn], row: &[Value]) -> Result<Key, RowsFault>
     ensures fits { IfOk result (λ key. Fits (columns_on path.now) (values_on path.now row.now)) }
     ensures key { IfOk result (λ key. key_on_path path.now row.now ≡ key) }
     ensures short { IfOk result (λ key. length key ≤ most_key) }
     ensures too_long { result ≡ Err RowsFault.TooLong → IsLong (key_on_path path.now row.now) }
 {
-    let null = Value::Null;
-    let parts = parts_of(alloc, path, row, &null)?;
-    if !can_stand(&parts) {
-        return Err(RowsFault::Memory);
-    }
-    match encode_key(alloc, &parts) {
-        Ok(key) => Ok(key),
-        Err(KeyFault::TooLong) => Err(RowsFault::TooLong),
-        Err(_) => Err(RowsFault::Memory),
+    match key_on(alloc, path, row)? {
+        None => Err(RowsFault::Memory),
+        Some(key) => {
+            if key.as_slice().len() > MOST_KEY {
+                return Err(RowsFault::TooLong);
+            }
+            Ok(key)
+        }
     }
 }
 
@@ -97,7 +96,7 @@ fn is_row(
     if !are_of_types(table, row) {
         return Ok(false);
     }
-    match key_on(alloc, keys, row) {
+    match short_key_on(alloc, keys, row) {
         Ok(own) => Ok(own.as_slice() == found.key.as_slice()),
         Err(RowsFault::TooLong) => Ok(false),
         Err(RowsFault::Memory) => Err(AllocError),
@@ -118,7 +117,7 @@ fn base_key(
     if !is_row(alloc, table, keys, found)? {
         return Err(RowsFault::Memory);
     }
-    key_on(alloc, columns, found.row.as_slice())
+    short_key_on(alloc, columns, found.row.as_slice())
 }
 
 /// The base version of a row that was found.

@@ -1,11 +1,6 @@
 -- What is kept of found keys, one after another.
-use Rattle.std.proofs.Common.{ℕ, ◌≡◌, Bool, true, false, Option, None, Some, List, [], ◌∷◌, ◌++◌, refl, sym, ◌∙◌, ap, subst, ◌⊎◌, inl, inr, append_assoc}
-use Rattle.std.specs.List.{All, Contains}
-use Rattle.std.proofs.lemmas.List.Elements.{All-cons, All-contains, All-nil}
-use Rattle.px_values.specs.declared.row.Value.{Value}
-use Rattle.px_keys.specs.Spelling.{Fits, IsNullFixed, PartFits, columns_of, values_of}
-use Rattle.px_keys.specs.declared.parts.KeyColumn.{KeyColumn}
-use Rattle.px_keys.specs.declared.parts.Part.{Part}
+use Rattle.std.proofs.Common.{ℕ, ◌≡◌, Option, None, Some, List, [], ◌∷◌, ◌++◌, refl, sym, ◌∙◌, ap, subst, inl, inr, append_assoc}
+use Rattle.px_keys.specs.Spelling.{Fits}
 use Rattle.px_paths.specs.Paths.{columns_on, values_on}
 use Rattle.px_paths.specs.declared.path.PathColumn.{PathColumn}
 use Rattle.px_trail.specs.Answers.{IsAmong}
@@ -15,25 +10,6 @@ use Rattle.px_calls.specs.declared.query.FoundRow.{FoundRow}
 use Rattle.px_verify.specs.declared.report.IndexEntry.{IndexEntry}
 use Rattle.px_verify.specs.Lists.{HaveKeys, entries_of, entry_on}
 use Rattle.px_verify.proofs.Counts.{here, there}
-
--- parts that fit their columns can stand in a key
-fitting : (parts : List Part) → Fits (columns_of parts) (values_of parts) → All (λ part. PartFits part ⊎ IsNullFixed part) parts
-fitting [] h = All-nil (λ part. PartFits part ⊎ IsNullFixed part)
-fitting (p ∷ parts) h = All-cons (λ part. PartFits part ⊎ IsNullFixed part) p parts (inl h.0) (fitting parts h.1)
-
-pub parts-fit : (parts : List Part) (columns : List KeyColumn) (values : List Value) → columns_of parts ≡ columns → values_of parts ≡ values → Fits columns values → All (λ part. PartFits part ⊎ IsNullFixed part) parts
-parts-fit parts columns values c v h = fitting parts (subst (λ (cs : List KeyColumn). Fits cs (values_of parts)) (sym c) (subst (Fits columns) (sym v) h))
-
-all-fit : (parts : List Part) → Fits (columns_of parts) (values_of parts) → All PartFits parts
-all-fit [] h = All-nil PartFits
-all-fit (p ∷ parts) h = All-cons PartFits p parts h.0 (all-fit parts h.1)
-
--- none of them is a NULL where none may be
-pub none-fixed : (parts : List Part) (columns : List KeyColumn) (values : List Value) → columns_of parts ≡ columns → values_of parts ≡ values → Fits columns values → ((part : Part) × Contains parts part × IsNullFixed part) → ⊥
-none-fixed parts columns values c v h n =
-    let fits : PartFits n.0 = All-contains PartFits parts n.0 (all-fit parts (subst (λ (cs : List KeyColumn). Fits cs (values_of parts)) (sym c) (subst (Fits columns) (sym v) h))) n.1 in
-    let no : ◌≡◌ {A = Bool} true false = sym (fits.1 n.2.0) ∙ n.2.1 in
-    cc
 
 pub key-fits : (path : List PathColumn) (key : FoundKey) (f : FoundRow) → key ≡ Sure f → HaveKeys path (key ∷ []) → Fits (columns_on path) (values_on path f.row)
 key-fits path key f is h = h f (subst (λ (k : FoundKey). IsAmong (Sure f) (k ∷ [])) (sym is) (here (Sure f) []))

@@ -1,16 +1,15 @@
 // What is kept of the keys that looks find.
 ghost use Rattle.std.specs.Prelude.{◌≡◌, ◌++◌, ◌∷◌, [], Some, IfOk, OnOk, get_or, map};
 ghost use Rattle.px_keys.specs.Spelling.{Fits};
-ghost use Rattle.px_paths.specs.Paths.{columns_on, key_on as key_on_path, values_on};
+ghost use Rattle.px_paths.specs.Paths.{columns_on, values_on};
 ghost use Rattle.px_values.specs.declared.row.Value.TheVariants.{Null};
 ghost use Rattle.px_verify.specs.Lists.{HaveKeys, entries_of, entry_on, values_in, version_of as version_is};
 
 use crate::report::{IndexEntry, Version};
 use px_calls::FoundKey;
-use px_entries::{can_stand, parts_of};
-use px_keys::{KeyFault, encode_key, spell_front};
+use px_entries::key_on;
 use px_paths::PathColumn;
-use px_values::{Items, Key, Row, Value};
+use px_values::{Items, Row, Value};
 use std::alloc::{AllocError, Global};
 
 /// The value of a column, or NULL where the row has none.
@@ -32,23 +31,6 @@ fn included_values(alloc: Global, included: &[u8], row: &[Value]) -> Result<Row,
         values.push(value_in(alloc, row, *column)?)?;
     }
     Ok(Items::of(values))
-}
-
-/// The row's key on a path, however long it is. A row whose values don't fit the path's columns has none.
-fn key_on(alloc: Global, path: &[PathColumn], row: &[Value]) -> Result<Option<Key>, AllocError>
-    ensures { IfOk result (λ key. Fits (columns_on path.now) (values_on path.now row.now) → key ≡ Some (key_on_path path.now row.now)) }
-{
-    let null = Value::Null;
-    let parts = parts_of(alloc, path, row, &null)?;
-    if !can_stand(&parts) {
-        return Ok(None);
-    }
-    match encode_key(alloc, &parts) {
-        Ok(key) => Ok(Some(key)),
-        Err(KeyFault::TooLong) => Ok(Some(Key::of(spell_front(alloc, &parts)?))),
-        Err(KeyFault::NullFixed) => Ok(None),
-        Err(_) => Err(AllocError),
-    }
 }
 
 /// The entry that a row asks for, if it has a key.

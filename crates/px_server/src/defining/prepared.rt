@@ -154,8 +154,5 @@ pub(crate) fn index_to_activate(
         drop(active);
         return Err(StepFault::Memory);
     }
-    match with_record(alloc, standing, active) {
-        Ok(made) => Ok(made),
-        Err(_) => Err(StepFault::Memory),
-    }
+    with_record(alloc, standing, active).map_err(|_| StepFault::Memory)
 }

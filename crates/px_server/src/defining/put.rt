@@ -36,8 +36,5 @@ pub(crate) fn index_to_put(
         drop(index);
         return Err(StepFault::Memory);
     }
-    match with_record(alloc, standing, index) {
-        Ok(made) => Ok(made),
-        Err(_) => Err(StepFault::Memory),
-    }
+    with_record(alloc, standing, index).map_err(|_| StepFault::Memory)
 }

@@ -16,7 +16,7 @@ add-requires-clause-fitting c =
     let x = c.args.index.now in
     let base = c.base-item.result in
     let is = all_at (IsBaseRow t x) c.args.rows.now c.loop-base.base-index base c.requires.rows.each c.loop-base-test.true c.base-item.is in
-    let cells : c.in_ok-cells.cells ≡ version_cells (index_form t x) base.key c.args.stamp 1 (Some base.row) = c.in_ok-cells.ensures ∙ (λ i. version_cells (index_form t x) (c.as_slice-key.ensures i) c.args.stamp 1 (Some (c.as_slice.ensures i))) in
+    let cells : c.in_ok-cells.cells ≡ version_cells (index_form t x) base.key c.args.stamp 1 (Some base.row) = c.in_ok-cells.ensures ∙ (λ i. version_cells (index_form t x) (c.as_slice-key.ensures i) c.args.stamp 1 (Some (c.as_slice-row.ensures i))) in
     subst (AllByRecursion IsFitting) (sym cells) (version_fits t x c.requires.table.columns c.requires.index (Some base.row) is.fits base.key is.short c.args.stamp c.ranges.stamp.fits)
 
 pub add-requires-clause-apart : goal.add-requires-clause-apart
@@ -25,7 +25,7 @@ add-requires-clause-apart c =
     let x = c.args.index.now in
     let base = c.base-item.result in
     let is = all_at (IsBaseRow t x) c.args.rows.now c.loop-base.base-index base c.requires.rows.each c.loop-base-test.true c.base-item.is in
-    let cells : c.in_ok-cells.cells ≡ version_cells (index_form t x) base.key c.args.stamp 1 (Some base.row) = c.in_ok-cells.ensures ∙ (λ i. version_cells (index_form t x) (c.as_slice-key.ensures i) c.args.stamp 1 (Some (c.as_slice.ensures i))) in
+    let cells : c.in_ok-cells.cells ≡ version_cells (index_form t x) base.key c.args.stamp 1 (Some base.row) = c.in_ok-cells.ensures ∙ (λ i. version_cells (index_form t x) (c.as_slice-key.ensures i) c.args.stamp 1 (Some (c.as_slice-row.ensures i))) in
     subst IsApart (sym cells) (version_apart t x c.requires.table.columns c.requires.index (Some base.row) is.fits base.key is.short c.args.stamp c.ranges.stamp.fits)
 
 pub add-requires-clause-other_keys : goal.add-requires-clause-other_keys
@@ -33,6 +33,6 @@ add-requires-clause-other_keys c =
     let t = c.args.table.now in
     let x = c.args.index.now in
     let base = c.base-item.result in
-    let cells : c.in_ok-cells.cells ≡ version_cells (index_form t x) base.key c.args.stamp 1 (Some base.row) = c.in_ok-cells.ensures ∙ (λ i. version_cells (index_form t x) (c.as_slice-key.ensures i) c.args.stamp 1 (Some (c.as_slice.ensures i))) in
+    let cells : c.in_ok-cells.cells ≡ version_cells (index_form t x) base.key c.args.stamp 1 (Some base.row) = c.in_ok-cells.ensures ∙ (λ i. version_cells (index_form t x) (c.as_slice-key.ensures i) c.args.stamp 1 (Some (c.as_slice-row.ensures i))) in
     subst (λ (p : List (List CellData)). HaveOtherKeys (laid p) c.in_ok-cells.cells) (sym c.loop-base.invariant)
     (subst (HaveOtherKeys (laid (Rattle.px_baserows.specs.Rows.base_parts (index_form t x) c.args.stamp (Rattle.std.proofs.Common.take c.loop-base.base-index c.args.rows.now)))) (sym cells) (elsewhere t x c.args.stamp c.args.rows.now c.requires.rows c.loop-base.base-index base c.loop-base-test.true c.base-item.is))

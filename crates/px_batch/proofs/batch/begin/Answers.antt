@@ -1,3 +1,4 @@
+use Rattle.std.proofs.Common.{arith}
 use Rattle.px_batch.specs.declared.batch.BatchFault.TheVariants as fault
 use Rattle.px_batch.specs.declared.batch.BatchState.TheVariants as state
 use Rattle.px_batch.proofs.Turning as turning
@@ -40,3 +41,30 @@ returns-in-Err-Damaged-clause-turns g c =
 
 pub returns-in-Err-ReadFault-clause-turns : goal.returns-in-Err-ReadFault-clause-turns
 returns-in-Err-ReadFault-clause-turns g c = turning.misses _ _ _ c.args.table c.args.changes.now state.Beginning early_begin (rw c.in-Err-ReadFault.field-0-is at c.in-Err-ReadFault.ensures.refused).1
+
+pub returns-in-Ok-clause-spends : goal.returns-in-Ok-clause-spends
+returns-in-Ok-clause-spends g c = λ alone n few_indexes. let few = c.in-Ok.ensures.few alone in omega arith
+
+pub returns-in-Err-Busy-clause-spends : goal.returns-in-Err-Busy-clause-spends
+returns-in-Err-Busy-clause-spends g c = λ alone n few_indexes. omega arith
+
+pub returns-in-Err-NotReady-clause-spends : goal.returns-in-Err-NotReady-clause-spends
+returns-in-Err-NotReady-clause-spends g c = λ alone n few_indexes. omega arith
+
+pub returns-in-Err-NoTable-clause-spends : goal.returns-in-Err-NoTable-clause-spends
+returns-in-Err-NoTable-clause-spends g c = λ alone n few_indexes. omega arith
+
+pub returns-in-Err-Limit-clause-spends : goal.returns-in-Err-Limit-clause-spends
+returns-in-Err-Limit-clause-spends g c = λ alone n few_indexes. omega arith
+
+pub returns-in-Err-Closed-clause-spends : goal.returns-in-Err-Closed-clause-spends
+returns-in-Err-Closed-clause-spends g c = λ alone n few_indexes. omega arith
+
+pub returns-in-Err-Memory-clause-spends : goal.returns-in-Err-Memory-clause-spends
+returns-in-Err-Memory-clause-spends g c = λ alone n few_indexes. omega arith
+
+pub returns-in-Err-Damaged-clause-spends : goal.returns-in-Err-Damaged-clause-spends
+returns-in-Err-Damaged-clause-spends g c = λ alone n few_indexes. omega arith
+
+pub returns-in-Err-ReadFault-clause-spends : goal.returns-in-Err-ReadFault-clause-spends
+returns-in-Err-ReadFault-clause-spends g c = λ alone n few_indexes. omega arith

@@ -1,3 +1,4 @@
+use Rattle.std.proofs.Common.{arith}
 use Rattle.px_batch.specs.declared.batch.BatchFault.TheVariants as fault
 use Rattle.px_batch.specs.declared.batch.BatchState.TheVariants as state
 use Rattle.px_batch.proofs.Turning as turning
@@ -30,3 +31,24 @@ pub returns-in-Err-Memory-clause-turns : goal.returns-in-Err-Memory-clause-turns
 returns-in-Err-Memory-clause-turns g c = λ table cs f.
     let h = (rw c.in-Err-Memory.field-0-is at c.in-Err-Memory.ensures.refused) in
     turning.stops _ _ _ table cs state.Settling fault.Memory early_settle (λ n. tt) tt h.1
+
+pub returns-in-Ok-Did-clause-spends : goal.returns-in-Ok-Did-clause-spends
+returns-in-Ok-Did-clause-spends g c = λ alone n. omega arith
+
+pub returns-in-Ok-Idle-clause-spends : goal.returns-in-Ok-Idle-clause-spends
+returns-in-Ok-Idle-clause-spends g c = λ alone n. omega arith
+
+pub returns-in-Err-ReadFault-clause-spends : goal.returns-in-Err-ReadFault-clause-spends
+returns-in-Err-ReadFault-clause-spends g c = λ alone n. omega arith
+
+pub returns-in-Err-WriteFault-clause-spends : goal.returns-in-Err-WriteFault-clause-spends
+returns-in-Err-WriteFault-clause-spends g c = λ alone n. omega arith
+
+pub returns-in-Err-Damaged-clause-spends : goal.returns-in-Err-Damaged-clause-spends
+returns-in-Err-Damaged-clause-spends g c = λ alone n. omega arith
+
+pub returns-in-Err-Closed-clause-spends : goal.returns-in-Err-Closed-clause-spends
+returns-in-Err-Closed-clause-spends g c = λ alone n. omega arith
+
+pub returns-in-Err-Memory-clause-spends : goal.returns-in-Err-Memory-clause-spends
+returns-in-Err-Memory-clause-spends g c = λ alone n. omega arith

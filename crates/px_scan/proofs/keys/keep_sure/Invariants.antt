@@ -5,6 +5,7 @@ use Rattle.px_calls.specs.declared.query.By.{By}
 use Rattle.px_calls.specs.Looks.{AreDoubtsOf}
 use Rattle.px_gather.specs.Gathered.{Frame, Pending}
 use Rattle.px_gather.specs.Query.{IsPathFor}
+use Rattle.px_scan.specs.Looking.{doubts_in}
 use Rattle.px_scan.specs.Turns.{given_of}
 use Rattle.px_scan.proofs.keys.keep_sure.Given as goal
 
@@ -15,6 +16,7 @@ invariant-keys g l =
           → Pending f es l.at l.fn.keys.items next (given_of l.fn.rows.items) → Pending f es l.at l.keys.items next (given_of l.rows.items);
       doubts : (f : Found) (w : By) → AreDoubtsOf f w l.fn.keys.items → AreDoubtsOf f w l.keys.items;
       fewer : length l.keys.items ≤ length l.fn.keys.items;
+      doubts_left : doubts_in l.keys.items ≤ doubts_in l.fn.keys.items;
     }
 
 abbrev pub decreases-keys : goal.decreases-keys

@@ -2,6 +2,7 @@ use Rattle.std.proofs.Common.{refl, arith}
 use Rattle.px_scan.proofs.Quieting as quieting
 use Rattle.px_scan.proofs.Turning as turning
 use Rattle.px_scan.proofs.Bounding as bounding
+use Rattle.px_scan.proofs.Looking as looking
 use Rattle.px_scan.proofs.machine.consult.Goals as goal
 
 pub consult-requires-clause-doubt : goal.consult-requires-clause-doubt
@@ -30,3 +31,12 @@ returns-in-Err-keep_held-clause-spends g c = bounding.spends_end g.S.Steps.sound
 
 pub returns-in-Err-clause-spends : goal.returns-in-Err-clause-spends
 returns-in-Err-clause-spends g c = bounding.spends_end g.S.Steps.sound _ _ _ _ _ _ _ c.failed-in-Err.ensures refl (omega arith)
+
+pub returns-in-Ok-keep_held-clause-looks : goal.returns-in-Ok-keep_held-clause-looks
+returns-in-Ok-keep_held-clause-looks g c = λ alone. looking.looks_one g.S.Steps.sound _ _ _ _ _ _ refl (c.consult.ensures.looked_once alone) refl (omega arith)
+
+pub returns-in-Err-keep_held-clause-looks : goal.returns-in-Err-keep_held-clause-looks
+returns-in-Err-keep_held-clause-looks g c = λ alone. looking.looks_one g.S.Steps.sound _ _ _ _ _ _ refl (c.consult.ensures.looked_once alone) refl (let none = looking.closing_look _ _ _ 0 c.failed.ensures in omega arith)
+
+pub returns-in-Err-clause-looks : goal.returns-in-Err-clause-looks
+returns-in-Err-clause-looks g c = λ alone. looking.looks_one g.S.Steps.sound _ _ _ _ _ _ refl (c.consult.ensures.looked_once alone) refl (let none = looking.closing_look _ _ _ 0 c.failed-in-Err.ensures in omega arith)

@@ -1,8 +1,9 @@
-use Rattle.std.proofs.Common.{refl, ◌≡◌, true, false}
+use Rattle.std.proofs.Common.{refl, ◌≡◌, true, false, arith}
 use Rattle.px_scan.specs.Faults.{is_busy}
 use Rattle.px_scan.proofs.Quieting as quieting
 use Rattle.px_scan.proofs.Turning as turning
 use Rattle.px_scan.proofs.Bounding as bounding
+use Rattle.px_scan.proofs.Looking as looking
 use Rattle.px_scan.proofs.machine.fix.Goals as goal
 
 pub fault_of-requires : goal.fault_of-requires
@@ -37,3 +38,12 @@ returns-in-Ok-clause-spends g c = bounding.spends_fixing g.S.Steps.sound _ _ c.a
 
 pub returns-else-is_busy-clause-spends : goal.returns-else-is_busy-clause-spends
 returns-else-is_busy-clause-spends g c = bounding.spends_end g.S.Steps.sound _ _ _ _ _ _ _ c.failed.ensures refl (bounding.at_least c.args.x c.args.rest c.args.doubt)
+
+pub returns-then-is_busy-clause-looks : goal.returns-then-is_busy-clause-looks
+returns-then-is_busy-clause-looks g c = λ alone. looking.looks_refused g.S.Steps.sound _ _ _ _ _ _ c.args.rest _ _ (c.fix.ensures.looked_once alone)
+
+pub returns-in-Ok-clause-looks : goal.returns-in-Ok-clause-looks
+returns-in-Ok-clause-looks g c = λ alone. looking.looks_one g.S.Steps.sound _ _ _ _ _ _ refl (c.fix.ensures.looked_once alone) refl (let most = c.go_on.ensures.to_look in omega arith)
+
+pub returns-else-is_busy-clause-looks : goal.returns-else-is_busy-clause-looks
+returns-else-is_busy-clause-looks g c = λ alone. looking.looks_one g.S.Steps.sound _ _ _ _ _ _ refl (c.fix.ensures.looked_once alone) refl (let none = looking.closing_look _ _ _ 0 c.failed.ensures in omega arith)

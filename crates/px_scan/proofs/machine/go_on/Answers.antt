@@ -3,6 +3,7 @@ use Rattle.px_scan.specs.Turns.{frame}
 use Rattle.px_scan.proofs.Going as going
 use Rattle.px_scan.proofs.Turning as turning
 use Rattle.px_scan.proofs.Bounding as bounding
+use Rattle.px_scan.proofs.Looking as looking
 use Rattle.px_scan.proofs.machine.go_on.Goals as goal
 
 pub returns-in-Doubt-clause-goes : goal.returns-in-Doubt-clause-goes
@@ -51,3 +52,18 @@ returns-in-Full-clause-left g c = bounding.closing_left _ _ _ _ _ c.ended-in-Ful
 
 pub returns-clause-left : goal.returns-clause-left
 returns-clause-left g c = bounding.closing_left _ _ _ _ _ c.failed.ensures
+
+pub returns-in-Doubt-clause-to_look : goal.returns-in-Doubt-clause-to_look
+returns-in-Doubt-clause-to_look g c = looking.consulting_look _ _ (rw c.in-Doubt.is at c.keep_sure.ensures.fewer_doubts)
+
+pub returns-in-None-clause-to_look : goal.returns-in-None-clause-to_look
+returns-in-None-clause-to_look g c = looking.closing_look _ _ _ _ c.ended.ensures
+
+pub returns-then-is_full-clause-to_look : goal.returns-then-is_full-clause-to_look
+returns-then-is_full-clause-to_look g c = looking.closing_look _ _ _ _ c.ended-then-is_full.ensures
+
+pub returns-in-Full-clause-to_look : goal.returns-in-Full-clause-to_look
+returns-in-Full-clause-to_look g c = looking.closing_look _ _ _ _ c.ended-in-Full.ensures
+
+pub returns-clause-to_look : goal.returns-clause-to_look
+returns-clause-to_look g c = looking.closing_look _ _ _ _ c.failed.ensures

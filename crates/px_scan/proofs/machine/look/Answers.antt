@@ -3,6 +3,7 @@ use Rattle.px_scan.proofs.Going as going
 use Rattle.px_scan.proofs.Quieting as quieting
 use Rattle.px_scan.proofs.Turning as turning
 use Rattle.px_scan.proofs.Bounding as bounding
+use Rattle.px_scan.proofs.Looking as looking
 use Rattle.px_scan.proofs.machine.look.Goals as goal
 
 pub fault_of-requires : goal.fault_of-requires
@@ -24,3 +25,9 @@ returns-in-Ok-clause-spends g c = bounding.spends_look g.S.Steps.sound _ _ c.arg
 
 pub returns-clause-spends : goal.returns-clause-spends
 returns-clause-spends g c = bounding.spends_end g.S.Steps.sound _ _ _ _ _ _ _ c.failed.ensures (inl refl) (omega arith)
+
+pub returns-in-Ok-clause-looks : goal.returns-in-Ok-clause-looks
+returns-in-Ok-clause-looks g c = λ alone is. looking.looks_chunk g.S.Steps.sound _ _ _ _ c.args.x c.args.after _ _ _ c.rest_of.ensures.keys c.in-Ok.ensures.ok (c.look.ensures.unlooked alone is.0 is.1) c.go_on.ensures.to_look
+
+pub returns-clause-looks : goal.returns-clause-looks
+returns-clause-looks g c = λ alone is. looking.looks_none g.S.Steps.sound _ _ _ _ _ _ (inl refl) (c.look.ensures.unlooked alone is.0 is.1) (looking.closing_look _ _ _ _ c.failed.ensures)

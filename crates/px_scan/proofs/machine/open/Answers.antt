@@ -1,5 +1,7 @@
+use Rattle.std.proofs.Common.{refl, arith}
 use Rattle.px_scan.proofs.Turning as turning
 use Rattle.px_scan.proofs.Bounding as bounding
+use Rattle.px_scan.proofs.Looking as looking
 use Rattle.px_scan.proofs.machine.«open».Goals as goal
 
 pub follow-requires-clause-bound : goal.follow-requires-clause-bound
@@ -53,3 +55,21 @@ returns-in-Err-Closed-clause-spends g c = bounding.spends_unopened g.S.Steps.sou
 
 pub returns-in-Err-Memory-clause-spends : goal.returns-in-Err-Memory-clause-spends
 returns-in-Err-Memory-clause-spends g c = bounding.spends_unopened g.S.Steps.sound _ _ c.args.rows _
+
+pub returns-in-Ok-clause-looks : goal.returns-in-Ok-clause-looks
+returns-in-Ok-clause-looks g c = λ alone. looking.looks_none g.S.Steps.sound _ _ _ _ _ _ refl (c.open_point.ensures.unlooked alone) (let none = c.follow.ensures.to_look in omega arith)
+
+pub returns-in-Err-NotYet-clause-looks : goal.returns-in-Err-NotYet-clause-looks
+returns-in-Err-NotYet-clause-looks g c = λ alone. looking.looks_none g.S.Steps.sound _ _ _ _ _ _ refl (c.open_point.ensures.unlooked alone) (omega arith)
+
+pub returns-in-Err-NoTable-clause-looks : goal.returns-in-Err-NoTable-clause-looks
+returns-in-Err-NoTable-clause-looks g c = λ alone. looking.looks_none g.S.Steps.sound _ _ _ _ _ _ refl (c.open_point.ensures.unlooked alone) (omega arith)
+
+pub returns-in-Err-BelowHorizon-clause-looks : goal.returns-in-Err-BelowHorizon-clause-looks
+returns-in-Err-BelowHorizon-clause-looks g c = λ alone. looking.looks_none g.S.Steps.sound _ _ _ _ _ _ refl (c.open_point.ensures.unlooked alone) (omega arith)
+
+pub returns-in-Err-Closed-clause-looks : goal.returns-in-Err-Closed-clause-looks
+returns-in-Err-Closed-clause-looks g c = λ alone. looking.looks_none g.S.Steps.sound _ _ _ _ _ _ refl (c.open_point.ensures.unlooked alone) (omega arith)
+
+pub returns-in-Err-Memory-clause-looks : goal.returns-in-Err-Memory-clause-looks
+returns-in-Err-Memory-clause-looks g c = λ alone. looking.looks_none g.S.Steps.sound _ _ _ _ _ _ refl (c.open_point.ensures.unlooked alone) (omega arith)

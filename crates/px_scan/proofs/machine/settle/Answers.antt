@@ -1,8 +1,9 @@
-use Rattle.std.proofs.Common.{refl}
+use Rattle.std.proofs.Common.{refl, arith}
 use Rattle.px_calls.specs.declared.status.Work.TheVariants as work
 use Rattle.px_scan.proofs.Quieting as quieting
 use Rattle.px_scan.proofs.Turning as turning
 use Rattle.px_scan.proofs.Bounding as bounding
+use Rattle.px_scan.proofs.Looking as looking
 use Rattle.px_scan.proofs.machine.settle.Goals as goal
 
 pub fault_of-requires : goal.fault_of-requires
@@ -33,3 +34,12 @@ returns-in-Ok-Idle-clause-spends g c = bounding.spends_settled g.S.Steps.sound _
 
 pub returns-in-Err-clause-spends : goal.returns-in-Err-clause-spends
 returns-in-Err-clause-spends g c = bounding.spends_end g.S.Steps.sound _ _ _ _ _ _ _ c.failed.ensures refl (bounding.at_least c.args.x c.args.rest c.args.doubt)
+
+pub returns-in-Ok-Did-clause-looks : goal.returns-in-Ok-Did-clause-looks
+returns-in-Ok-Did-clause-looks g c = λ alone. looking.looks_none g.S.Steps.sound _ _ _ _ _ _ refl (c.upkeep.ensures.unlooked alone) (omega arith)
+
+pub returns-in-Ok-Idle-clause-looks : goal.returns-in-Ok-Idle-clause-looks
+returns-in-Ok-Idle-clause-looks g c = λ alone. looking.looks_none g.S.Steps.sound _ _ _ _ _ _ refl (c.upkeep.ensures.unlooked alone) (omega arith)
+
+pub returns-in-Err-clause-looks : goal.returns-in-Err-clause-looks
+returns-in-Err-clause-looks g c = λ alone. looking.looks_none g.S.Steps.sound _ _ _ _ _ _ refl (c.upkeep.ensures.unlooked alone) (looking.closing_look _ _ _ _ c.failed.ensures)

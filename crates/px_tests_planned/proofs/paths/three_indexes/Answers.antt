@@ -4,4 +4,4 @@ use Rattle.px_tests_planned.proofs.paths.three_indexes.Goals as goal
 pub returns : goal.returns
 returns g c =
     rw (c.of.ensures, c.in_ok-push-3.ensures.items, c.in_ok-push-2.ensures.items, c.in_ok-push.ensures.items, c.new-indexes.ensures.items)
-    (three-rising c.built.result c.built-2.result c.built-3.result c.built.ensures c.built-2.ensures c.built-3.ensures)
+    (three-rising c.index.result c.index-2.result c.index-3.result c.index.ensures c.index-2.ensures c.index-3.ensures)

@@ -33,7 +33,7 @@ invariant_of-self g c =
     record {
       named = me.named;
       is_seat = (subst (λ l. IsSeat l c.leave.new.self.1.0) (c.enter-guard.ensures.same_lock ∙ me.named) c.leave.ensures.seat.0, c.leave.ensures.seat.1 ∙ (c.enter-guard.ensures.turn.1 ∙ me.is_seat.1));
-      counted = c.seen-seen.ensures ∙ sym (ap (λ (k : Known). length k.seen) (grows.knows g.S.Steps.known g.B.Based.base g.B.Based.damaged me.id (list_seen me.seat) c.act_as.new.self c.begin-reply.new.self (list_seen c.leave.new.self.1.0) e c.begin-reply.ensures.grew c.leave.ensures.seen));
+      counted = c.count.ensures.seen ∙ (c.seen-seen.ensures ∙ sym (ap (λ (k : Known). length k.seen) (grows.knows g.S.Steps.known g.B.Based.base g.B.Based.damaged me.id (list_seen me.seat) c.act_as.new.self c.begin-reply.new.self (list_seen c.leave.new.self.1.0) e c.begin-reply.ensures.grew c.leave.ensures.seen)));
     }
 
 pub returns-clause-ok : goal.returns-clause-ok
@@ -55,3 +55,6 @@ returns-clause-refused g c =
     let new = grows.knows g.S.Steps.known g.B.Based.base g.B.Based.damaged me.id (list_seen me.seat) c.act_as.new.self c.begin-reply.new.self (list_seen c.leave.new.self.1.0) e c.begin-reply.ensures.grew c.leave.ensures.seen in
     let old = mine me.id g.B.Based.base g.B.Based.damaged (list_seen me.seat) in
     subst (λ (k : Known). IfErr c.begin-reply.result (Refuses (begin_cause g.S.Steps.sound c.args.table.0 c.args.changes.now) old k)) (sym new) (grows.if_err _ _ c.begin-reply.result (λ f h. grows.refuses-shared (begin_cause g.S.Steps.sound c.args.table.0 c.args.changes.now) old (g.S.Steps.known c.act_as.new.self) (g.S.Steps.known c.begin-reply.new.self) f (shares.begin_shared g.S.Steps.sound c.args.table.0 c.args.changes.now) refl e.passes h) c.begin-reply.ensures.refused)
+
+pub returns-clause-few : goal.returns-clause-few
+returns-clause-few g c = grows.if_ok _ _ c.begin-reply.result (λ x h alone. grows.not_alone alone) c.begin-reply.ensures.ok

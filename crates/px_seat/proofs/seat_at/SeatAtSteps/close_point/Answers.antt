@@ -31,7 +31,7 @@ invariant_of-self g c =
     record {
       named = me.named;
       is_seat = (subst (λ l. IsSeat l c.leave.new.self.1.0) (c.enter-guard.ensures.same_lock ∙ me.named) c.leave.ensures.seat.0, c.leave.ensures.seat.1 ∙ (c.enter-guard.ensures.turn.1 ∙ me.is_seat.1));
-      counted = c.seen-seen.ensures ∙ sym (ap (λ (k : Known). length k.seen) (grows.knows g.S.Steps.known g.B.Based.base g.B.Based.damaged me.id (list_seen me.seat) c.act_as.new.self c.close_point.new.self (list_seen c.leave.new.self.1.0) e c.close_point.ensures.grew c.leave.ensures.seen));
+      counted = c.count.ensures.seen ∙ (c.seen-seen.ensures ∙ sym (ap (λ (k : Known). length k.seen) (grows.knows g.S.Steps.known g.B.Based.base g.B.Based.damaged me.id (list_seen me.seat) c.act_as.new.self c.close_point.new.self (list_seen c.leave.new.self.1.0) e c.close_point.ensures.grew c.leave.ensures.seen)));
     }
 
 pub returns-clause-adds : goal.returns-clause-adds

@@ -33,7 +33,7 @@ invariant_of-self g c =
     record {
       named = me.named;
       is_seat = (subst (λ l. IsSeat l c.leave.new.self.1.0) (c.enter-guard.ensures.same_lock ∙ me.named) c.leave.ensures.seat.0, c.leave.ensures.seat.1 ∙ (c.enter-guard.ensures.turn.1 ∙ me.is_seat.1));
-      counted = c.seen-seen.ensures ∙ sym (ap (λ (k : Known). length k.seen) (grows.knows g.S.Steps.known g.B.Based.base g.B.Based.damaged me.id (list_seen me.seat) c.act_as.new.self c.look-reply.new.self (list_seen c.leave.new.self.1.0) e c.look-reply.ensures.grew c.leave.ensures.seen));
+      counted = c.count.ensures.seen ∙ (c.seen-seen.ensures ∙ sym (ap (λ (k : Known). length k.seen) (grows.knows g.S.Steps.known g.B.Based.base g.B.Based.damaged me.id (list_seen me.seat) c.act_as.new.self c.look-reply.new.self (list_seen c.leave.new.self.1.0) e c.look-reply.ensures.grew c.leave.ensures.seen)));
     }
 
 pub returns-clause-ok : goal.returns-clause-ok
@@ -55,3 +55,6 @@ returns-clause-refused g c =
     let new = grows.knows g.S.Steps.known g.B.Based.base g.B.Based.damaged me.id (list_seen me.seat) c.act_as.new.self c.look-reply.new.self (list_seen c.leave.new.self.1.0) e c.look-reply.ensures.grew c.leave.ensures.seen in
     let old = mine me.id g.B.Based.base g.B.Based.damaged (list_seen me.seat) in
     subst (λ (k : Known). IfErr c.look-reply.result (Refuses (read_cause) old k)) (sym new) (grows.if_err _ _ c.look-reply.result (λ f h. grows.refuses-shared (read_cause) old (g.S.Steps.known c.act_as.new.self) (g.S.Steps.known c.look-reply.new.self) f (shares.read_shared) refl e.passes h) c.look-reply.ensures.refused)
+
+pub returns-clause-looked_each : goal.returns-clause-looked_each
+returns-clause-looked_each g c = grows.if_ok _ _ c.look-reply.result (λ x h alone. grows.not_alone alone) c.look-reply.ensures.ok

@@ -34,7 +34,7 @@ invariant_of-self g c =
     record {
       named = me.named;
       is_seat = (subst (λ l. IsSeat l c.leave.new.self.1.0) (c.enter-guard.ensures.same_lock ∙ me.named) c.leave.ensures.seat.0, c.leave.ensures.seat.1 ∙ (c.enter-guard.ensures.turn.1 ∙ me.is_seat.1));
-      counted = c.seen-seen.ensures ∙ sym (ap (λ (k : Known). length k.seen) (grows.knows g.S.Steps.known g.B.Based.base g.B.Based.damaged me.id (list_seen me.seat) c.act_as.new.self c.verify_marks-reply.new.self (list_seen c.leave.new.self.1.0) e c.verify_marks-reply.ensures.grew c.leave.ensures.seen));
+      counted = c.count.ensures.seen ∙ (c.seen-seen.ensures ∙ sym (ap (λ (k : Known). length k.seen) (grows.knows g.S.Steps.known g.B.Based.base g.B.Based.damaged me.id (list_seen me.seat) c.act_as.new.self c.verify_marks-reply.new.self (list_seen c.leave.new.self.1.0) e c.verify_marks-reply.ensures.grew c.leave.ensures.seen)));
     }
 
 pub returns-clause-ok : goal.returns-clause-ok
@@ -56,3 +56,6 @@ returns-clause-refused g c =
     let new = grows.knows g.S.Steps.known g.B.Based.base g.B.Based.damaged me.id (list_seen me.seat) c.act_as.new.self c.verify_marks-reply.new.self (list_seen c.leave.new.self.1.0) e c.verify_marks-reply.ensures.grew c.leave.ensures.seen in
     let old = mine me.id g.B.Based.base g.B.Based.damaged (list_seen me.seat) in
     subst (λ (k : Known). IfErr c.verify_marks-reply.result (Refuses (write_cause) old k)) (sym new) (grows.if_err _ _ c.verify_marks-reply.result (λ f h. grows.refuses-shared (write_cause) old (g.S.Steps.known c.act_as.new.self) (g.S.Steps.known c.verify_marks-reply.new.self) f (shares.write_shared) refl e.passes h) c.verify_marks-reply.ensures.refused)
+
+pub returns-clause-fewer : goal.returns-clause-fewer
+returns-clause-fewer g c = grows.if_ok _ _ c.verify_marks-reply.result (λ x h alone. grows.not_alone alone) c.verify_marks-reply.ensures.ok

@@ -34,7 +34,7 @@ invariant_of-self g c =
     record {
       named = me.named;
       is_seat = (subst (λ l. IsSeat l c.leave.new.self.1.0) (c.enter-guard.ensures.same_lock ∙ me.named) c.leave.ensures.seat.0, c.leave.ensures.seat.1 ∙ (c.enter-guard.ensures.turn.1 ∙ me.is_seat.1));
-      counted = c.seen-seen.ensures ∙ sym (ap (λ (k : Known). length k.seen) (grows.knows g.S.Steps.known g.B.Based.base g.B.Based.damaged me.id (list_seen me.seat) c.act_as.new.self c.write-reply.new.self (list_seen c.leave.new.self.1.0) e c.write-reply.ensures.grew c.leave.ensures.seen));
+      counted = c.count.ensures.seen ∙ (c.seen-seen.ensures ∙ sym (ap (λ (k : Known). length k.seen) (grows.knows g.S.Steps.known g.B.Based.base g.B.Based.damaged me.id (list_seen me.seat) c.act_as.new.self c.write-reply.new.self (list_seen c.leave.new.self.1.0) e c.write-reply.ensures.grew c.leave.ensures.seen)));
     }
 
 pub returns-clause-ok : goal.returns-clause-ok
@@ -56,3 +56,9 @@ returns-clause-refused g c =
     let new = grows.knows g.S.Steps.known g.B.Based.base g.B.Based.damaged me.id (list_seen me.seat) c.act_as.new.self c.write-reply.new.self (list_seen c.leave.new.self.1.0) e c.write-reply.ensures.grew c.leave.ensures.seen in
     let old = mine me.id g.B.Based.base g.B.Based.damaged (list_seen me.seat) in
     subst (λ (k : Known). IfErr c.write-reply.result (Refuses (rows_cause c.args.t.now.table.0 c.args.t.now.stamp) old k)) (sym new) (grows.if_err _ _ c.write-reply.result (λ f h. grows.refuses-shared (rows_cause c.args.t.now.table.0 c.args.t.now.stamp) old (g.S.Steps.known c.act_as.new.self) (g.S.Steps.known c.write-reply.new.self) f (shares.rows_shared c.args.t.now.table.0 c.args.t.now.stamp) refl e.passes h) c.write-reply.ensures.refused)
+
+pub returns-clause-fewer : goal.returns-clause-fewer
+returns-clause-fewer g c = grows.if_ok _ _ c.write-reply.result (λ x h alone. grows.not_alone alone) c.write-reply.ensures.ok
+
+pub returns-clause-no_more : goal.returns-clause-no_more
+returns-clause-no_more g c = grows.if_err _ _ c.write-reply.result (λ x h alone. grows.not_alone alone) c.write-reply.ensures.refused

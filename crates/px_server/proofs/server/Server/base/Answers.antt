@@ -302,12 +302,11 @@ returns-in-Err g c =
             place = place;
             group = h;
             at = got_some s.groups.items place h h l (sym h_is);
-            table = own;
             part = at;
             index = part.0;
             of = part.1;
             id = named part.0 part.1;
-            refused = c.base-based.ensures.cause c.in-Err.fault part.0 c.in-Err.is part.1;
+            refused = (own, c.base-based.ensures.cause c.in-Err.fault part.0 c.in-Err.is part.1);
           })));
       refused =
           subst (λ (w : Shown). Refuses base_cause (known_by b g.B.Based.damaged w) (known_by b g.B.Based.damaged (record v { entries = c.give_back.new.self.entries })) c.unbased.result) c.self.view_is

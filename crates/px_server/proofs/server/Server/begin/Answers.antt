@@ -20,6 +20,7 @@ use Rattle.px_server.proofs.Begun.{drawn_above}
 use Rattle.px_server.proofs.Found.{closed_by}
 use Rattle.px_server.proofs.Left.{left_none}
 use Rattle.px_server.proofs.Letting.{begun_kept, fit_here, last_here, left_kept, long_there, right_here, short_there, stands_here}
+use Rattle.px_server.proofs.CallsLeft.{few}
 use Rattle.px_server.proofs.Refusing.{begun_no_table, did_begin, refuses_batch, unbegun}
 use Rattle.px_server.proofs.Released.{group_of, none_of, place_in}
 use Rattle.px_server.proofs.Stamping.{drawn_by_clock, read_by_clock, same_by_clock}
@@ -156,3 +157,10 @@ returns-in-Err-clause-caused g c =
       clock = c.now-clock.result;
       unbegun = c.in-Err.ensures.refused;
     }))
+
+pub returns-in-Ok-clause-few : goal.returns-in-Ok-clause-few
+returns-in-Ok-clause-few g c =
+    let s = c.self.inside in
+    let running : s.closed ≡ None = none_of s.closed (λ x is. search rules) in
+    few g.D.Disk g.B.Based.base g.B.Founded.sound g.B.Founded.premise g.B.Founded.began c.let_in-begun.new.disk s.catalog s.standing (slice_set s.groups.items c.in-Some-numbered_place.place c.let_in-begun.new.group) c.push.new.self s.late s.closed (invariant_of-self g c).0 running
+    (record { table = c.args.table; stamp = c.in-Ok.started.stamp })

@@ -1,12 +1,17 @@
-use Rattle.std.proofs.Common.{◌≡◌, ◌<◌, refl, sym, subst, arith}
+use Rattle.std.proofs.Common.{◌≡◌, ◌<◌, refl, sym, ap, subst, arith}
+use Rattle.std.specs.List.{slice_set}
 use Rattle.px_calls.specs.Known.{Adds}
 use Rattle.px_calls.specs.Requires.{IsOpen}
 use Rattle.px_trail.specs.Trail.{open_points}
 use Rattle.px_trail.specs.declared.entry.Act.TheVariants.{Released as ReleasedAct}
+use Rattle.px_region.specs.declared.region.Region.{Region}
+use Rattle.px_group.specs.declared.group.Group.{Group}
 use Rattle.px_standing.proofs.Looked.{lacks}
+use Rattle.px_server.specs.Looks.{rows_looked}
 use Rattle.px_server.specs.Shown.{Shown, known_by, shown_of}
+use Rattle.px_server.proofs.Lists.{sum_kept}
 use Rattle.px_server.proofs.Opened.{none_open}
-use Rattle.px_server.proofs.Released.{closes, has_point}
+use Rattle.px_server.proofs.Released.{closes, has_point, place_in}
 use Rattle.px_server.proofs.Seen.{one_more}
 use Rattle.px_server.proofs.Stamping.{more_by_clock}
 use Rattle.px_server.proofs.server.Server.close_point.Goals as goal
@@ -37,11 +42,18 @@ unreachable-requires g c =
     none_open g.B.Based.base s.trail.entries told.legal c.args.p.table.0 (lacks g.B.Based.base s.trail.entries s.standing told.agrees c.args.p.table.0 c.in-None.ensures.none) s.seat c.args.p.stamp in
     omega (arith, none, open_)
 
-pub returns : goal.returns
-returns g c =
+pub returns-clause-adds : goal.returns-clause-adds
+returns-clause-adds g c =
     let s = c.self.inside in
     let told = c.self.invariant.0.told in
     let v : Shown = shown_of s.seat s.trail.entries s.late s.closed s.groups.items in
     let v' : Shown = record v { entries = c.push.new.self.entries } in
     subst (λ (w : Shown). Adds (known_by g.B.Based.base g.B.Based.damaged w) (known_by g.B.Based.base g.B.Based.damaged v') (ReleasedAct c.args.p.table c.args.p.stamp)) c.self.view_is
     (one_more (known_by g.B.Based.base g.B.Based.damaged v) c.push.new.self.entries c.call_count.result (ReleasedAct c.args.p.table c.args.p.stamp) told.legal c.push.ensures.entries (invariant_of-self g c).0.told.legal)
+
+pub returns-clause-unlooked : goal.returns-clause-unlooked
+returns-clause-unlooked g c =
+    let s = c.self.inside in
+    let l = place_in s.groups.items s.standing.tables c.self.invariant.0.each.stand c.in-Some.place c.in-Some.ensures.found in
+    subst (λ (w : Shown). rows_looked (slice_set s.groups.items c.in-Some.place c.close_point.new.group) ≡ rows_looked w.groups) c.self.view_is
+    (sum_kept (λ (h : Group). h.rows.looked) s.groups.items c.in-Some.place c.index_mut.result.now c.close_point.new.group l (sym c.index_mut.ensures.value) (ap (λ (r : Region). r.looked) c.close_point.ensures.released.same.rows))

@@ -1,16 +1,22 @@
-use Rattle.std.proofs.Common.{rules, ◌≡◌, ◌∙◌, ◌<◌, None, length, map, sym, subst}
+use Rattle.std.proofs.Common.{rules, ◌≡◌, ◌∙◌, ◌<◌, None, List, length, map, sym, subst}
 use Rattle.std.specs.List.{slice_set}
 use Rattle.px_calls.specs.Calls.{DidLook}
 use Rattle.px_calls.specs.Causes.{Refuses, read_cause}
+use Rattle.px_calls.specs.Counts.{HasRisenBy}
 use Rattle.px_calls.specs.declared.fault.StepFault.TheVariants.{Closed, Memory}
+use Rattle.px_calls.specs.declared.query.By.{By}
+use Rattle.px_calls.specs.declared.query.FoundKey.{FoundKey}
+use Rattle.px_looks.specs.Counted.{HasCounted}
+use Rattle.px_pointreads.specs.Counted.{HasCountedBy}
 use Rattle.px_server.specs.Kept.{IsKept}
-use Rattle.px_server.specs.Looks.{AreOfIndexAt, HasCountedOf, rows_in}
+use Rattle.px_server.specs.Looks.{AreOfIndexAt, HasCountedOf, rows_in, rows_looked}
 use Rattle.px_server.specs.Shown.{Shown, known_by, shown_of}
 use Rattle.px_server.proofs.Found.{closed_by}
 use Rattle.px_server.proofs.Lists.{map_set}
 use Rattle.px_server.proofs.Looked.{looked_kept}
 use Rattle.px_server.proofs.ReadAt.{counted_at, did_look, inside, no_memory, read_at, versions_at}
 use Rattle.px_server.proofs.Released.{none_of}
+use Rattle.px_server.proofs.RowsLooked.{risen_at}
 use Rattle.px_server.proofs.server.Server.look.Goals.{in-Ok, in-Err}
 use Rattle.px_server.proofs.server.Server.look.Goals as goal
 
@@ -96,5 +102,18 @@ returns-clause-counted g c =
       | in-Ok w ↦ rw w.result-is (subst (λ (u : Shown). HasCountedOf u.groups (slice_set s.groups.items c.in-Some-point_place.place c.look.new.group) c.args.p.now c.args.path.now.by (length w.chunk.result.found)) c.self.view_is
           (counted_at c.args.p.now s.groups.items c.deref.result.now c.in-Some-point_place.place c.index_mut-group.result.now _ c.look.new.group c.deref.ensures.value c.in-Some-point_place.ensures.within c.in-Some-point_place.ensures.read c.index_mut-group.ensures.value
           c.args.path.now.by w.in-Ok.next.found w.chunk.result.found w.chunk.ensures.0 w.in-Ok.ensures.counted))
+      | in-Err w ↦ rw w.result-is tt
+    ]
+
+pub returns-clause-risen : goal.returns-clause-risen
+returns-clause-risen g c =
+    let s = c.self.inside in
+    let place = c.in-Some-point_place.place in
+    let h = c.index_mut-group.result.now in
+    let l : place < length s.groups.items = inside s.groups.items c.deref.result.now place c.deref.ensures.value c.in-Some-point_place.ensures.within in
+    elim c.match-look.branch [
+      | in-Ok w ↦ rw w.result-is (λ by. subst (λ (u : Shown). HasRisenBy (length w.chunk.result.found) (rows_looked u.groups) (rows_looked (slice_set s.groups.items place c.look.new.group))) c.self.view_is
+          (risen_at s.groups.items place h c.look.new.group l (sym c.index_mut-group.ensures.value) (length w.chunk.result.found)
+          (subst (λ (fs : List FoundKey). HasCounted h.rows c.look.new.group.rows (length fs)) (sym w.chunk.ensures.0) (subst (λ (q : By). HasCountedBy h c.look.new.group q (length w.in-Ok.next.found)) by w.in-Ok.ensures.counted))))
       | in-Err w ↦ rw w.result-is tt
     ]

@@ -1,4 +1,5 @@
 use Rattle.std.proofs.Common.{◌≡◌, ◌<◌, ◌∙◌, Some, [], ◌∷◌, ◌++◌, length, slice_get, refl, sym, ap, subst, arith}
+use Rattle.std.specs.List.{slice_set}
 use Rattle.px_values.specs.declared.name.TableId.{TableId}
 use Rattle.px_trail.specs.Batches.{IsIn, Marking as InMarking}
 use Rattle.px_trail.specs.declared.entry.Act.TheVariants.{Phase as PhaseAct, Shut}
@@ -12,8 +13,10 @@ use Rattle.px_calls.specs.declared.fault.StepFault.TheVariants.{Closed}
 use Rattle.px_group.specs.declared.group.Begun.{Begun}
 use Rattle.px_group.specs.declared.group.Group.{Group}
 use Rattle.px_group.specs.declared.group.Phase.TheVariants.{Marking}
+use Rattle.px_server.specs.CallsLeft.{calls_left}
 use Rattle.px_server.specs.Kept.{IsKept}
 use Rattle.px_server.specs.Shown.{Shown, known_by, shown_of}
+use Rattle.px_server.proofs.CallsLeft.{fewer, mark_less}
 use Rattle.px_server.proofs.Found.{closed_by}
 use Rattle.px_server.proofs.MarkSteps.{marked_all, marked_more, marks_all, marks_kept, marks_shut}
 use Rattle.px_server.proofs.Seen.{one_more, stays}
@@ -135,3 +138,33 @@ returns-in-Err-clause-refused g c =
             (one_more (known_by g.B.Based.base g.B.Based.damaged v) c.shut.new.trail.entries c.call_count-calls.result act told.legal c.shut.ensures.entries (invariant_of-self-in-Err g c).0.told.legal),
       ),
     )
+
+pub returns-in-More-clause-fewer : goal.returns-in-More-clause-fewer
+returns-in-More-clause-fewer g c =
+    let s = c.self.inside in
+    let place = c.in-Some-numbered_place.place in
+    let h = c.index_mut-group.result.now in
+    let t = c.args.t.now in
+    let mine : IsIn s.trail.entries s.seat t.table.0 t.stamp InMarking = subst (λ (v : Shown). TicketIn (known_by g.B.Based.base g.B.Based.damaged v) t InMarking) (sym c.self.view_is) c.requires in
+    let inside = there g.D.Disk g.B.Based.base g.B.Founded.sound g.B.Founded.premise g.B.Founded.began s.disk s.catalog s.standing s.groups.items s.trail s.late s.closed c.self.invariant.0 t s.seat Marking mine (in_marking mine.batch mine.phase).0 c.in_default.is place c.in-Some-numbered_place.ensures.found c.in-Some-numbered_place.ensures.numbered h c.index_mut-group.ensures.value in
+    let own : h.table.id ≡ t.table = own_table g.D.Disk g.B.Based.base g.B.Founded.sound g.B.Founded.premise g.B.Founded.began s.disk s.catalog s.standing s.groups.items s.trail s.late s.closed c.self.invariant.0 t s.seat Marking mine (in_marking mine.batch mine.phase).0 c.in_default.is place c.in-Some-numbered_place.ensures.found c.in-Some-numbered_place.ensures.numbered h c.index_mut-group.ensures.value in
+    let same : c.index.result.now ≡ h = same_read s.groups.items place c.index.result.now h inside c.index.ensures c.index_mut-group.ensures.value in
+    let stamp : (x : Begun) → slice_get h.batches.items c.in-Some-batch_place.batch ≡ Some x → x.batch.stamp ≡ t.stamp = subst (λ (q : Group). (x : Begun) → slice_get q.batches.items c.in-Some-batch_place.batch ≡ Some x → x.batch.stamp ≡ t.stamp) same c.in-Some-batch_place.ensures.found.1 in
+    subst (λ (w : Shown). calls_left (slice_set s.groups.items place c.mark-outcome.new.group) t < calls_left w.groups t) c.self.view_is
+    (fewer s.groups.items place h c.mark-outcome.new.group inside (sym c.index_mut-group.ensures.value) t
+    (mark_less g.D.Disk c.in-Some-batch_place.batch t.table.0 t.stamp h c.mark-outcome.new.group s.disk c.mark-outcome.new.disk c.mark-outcome.result c.in-Ok.marked c.in-Ok.is c.mark-outcome.ensures.steps stamp (ap (λ (x : TableId). x.0) own)))
+
+pub returns-in-AllMarked-clause-fewer : goal.returns-in-AllMarked-clause-fewer
+returns-in-AllMarked-clause-fewer g c =
+    let s = c.self.inside in
+    let place = c.in-Some-numbered_place.place in
+    let h = c.index_mut-group.result.now in
+    let t = c.args.t.now in
+    let mine : IsIn s.trail.entries s.seat t.table.0 t.stamp InMarking = subst (λ (v : Shown). TicketIn (known_by g.B.Based.base g.B.Based.damaged v) t InMarking) (sym c.self.view_is) c.requires in
+    let inside = there g.D.Disk g.B.Based.base g.B.Founded.sound g.B.Founded.premise g.B.Founded.began s.disk s.catalog s.standing s.groups.items s.trail s.late s.closed c.self.invariant.0 t s.seat Marking mine (in_marking mine.batch mine.phase).0 c.in_default.is place c.in-Some-numbered_place.ensures.found c.in-Some-numbered_place.ensures.numbered h c.index_mut-group.ensures.value in
+    let own : h.table.id ≡ t.table = own_table g.D.Disk g.B.Based.base g.B.Founded.sound g.B.Founded.premise g.B.Founded.began s.disk s.catalog s.standing s.groups.items s.trail s.late s.closed c.self.invariant.0 t s.seat Marking mine (in_marking mine.batch mine.phase).0 c.in_default.is place c.in-Some-numbered_place.ensures.found c.in-Some-numbered_place.ensures.numbered h c.index_mut-group.ensures.value in
+    let same : c.index.result.now ≡ h = same_read s.groups.items place c.index.result.now h inside c.index.ensures c.index_mut-group.ensures.value in
+    let stamp : (x : Begun) → slice_get h.batches.items c.in-Some-batch_place.batch ≡ Some x → x.batch.stamp ≡ t.stamp = subst (λ (q : Group). (x : Begun) → slice_get q.batches.items c.in-Some-batch_place.batch ≡ Some x → x.batch.stamp ≡ t.stamp) same c.in-Some-batch_place.ensures.found.1 in
+    subst (λ (w : Shown). calls_left (slice_set s.groups.items place c.mark-outcome.new.group) t < calls_left w.groups t) c.self.view_is
+    (fewer s.groups.items place h c.mark-outcome.new.group inside (sym c.index_mut-group.ensures.value) t
+    (mark_less g.D.Disk c.in-Some-batch_place.batch t.table.0 t.stamp h c.mark-outcome.new.group s.disk c.mark-outcome.new.disk c.mark-outcome.result c.in-Ok.marked c.in-Ok.is c.mark-outcome.ensures.steps stamp (ap (λ (x : TableId). x.0) own)))

@@ -1,4 +1,5 @@
 use Rattle.std.proofs.Common.{rules, ◌≡◌, Bool, None, [], ◌∷◌, ◌++◌, refl, sym, ap, subst, ◌∙◌}
+use Rattle.std.specs.List.{slice_set}
 use Rattle.std.proofs.lemmas.Result.{err_from_is_err_and}
 use Rattle.px_calls.specs.Calls.{DidOpen}
 use Rattle.px_calls.specs.Causes.{Refuses, open_cause}
@@ -7,11 +8,14 @@ use Rattle.px_calls.specs.declared.fault.StepFault.TheVariants.{Closed, Memory, 
 use Rattle.px_tables.specs.declared.found.Found.{Found}
 use Rattle.px_trail.specs.declared.entry.Act.TheVariants.{Opened as OpenedAct}
 use Rattle.px_trail.specs.Recorded.{Recorded}
+use Rattle.px_region.specs.declared.region.Region.{Region}
 use Rattle.px_group.specs.declared.group.Group.{Group}
 use Rattle.px_standing.proofs.Looked.{lacks}
+use Rattle.px_server.specs.Looks.{rows_looked}
 use Rattle.px_server.specs.Points.{IsPointOf}
 use Rattle.px_server.specs.Shown.{Shown, known_by, shown_of}
 use Rattle.px_server.proofs.Found.{closed_by}
+use Rattle.px_server.proofs.Lists.{sum_kept}
 use Rattle.px_server.proofs.PointOpened.{did_open, no_point, one_there, open_no_memory, open_no_table, opens, opens_none, own, right_here, told_here}
 use Rattle.px_server.proofs.Released.{none_of, place_in}
 use Rattle.px_server.proofs.Stamping.{more_by_clock, same_by_clock}
@@ -127,3 +131,19 @@ returns-clause-ok g c =
     c.args.scn c.in_ok-stamp.stamp point g.met.D.Disk.told g.met.D.Disk.up_to_now s.seat c.call_count.result c.call_count.ensures g.B.Based.damaged c.note_point.new.trail
     (made.entries ∙ ap (λ (v : Bool). s.trail.entries ++ record { seat = s.seat; calls = c.call_count.result; act = OpenedAct c.args.table c.in_ok-stamp.stamp v } ∷ []) c.is_some-scn.ensures)
     (invariant_of-self-2 g c).0.told f c.in-Ok.ensures.table c.in-Ok.ensures.indexes c.len-2.ensures))
+
+pub returns-in-Err-clause-unlooked : goal.returns-in-Err-clause-unlooked
+returns-in-Err-clause-unlooked g c =
+    let s = c.self.inside in
+    let place = c.in-Some-numbered_place in
+    let l = place_in s.groups.items s.standing.tables c.self.invariant.0.each.stand place.place place.ensures.found in
+    subst (λ (w : Shown). rows_looked (slice_set s.groups.items place.place c.note_point.new.group) ≡ rows_looked w.groups) c.self.view_is
+    (sum_kept (λ (h : Group). h.rows.looked) s.groups.items place.place c.index_mut.result.now c.note_point.new.group l (sym c.index_mut.ensures.value) (ap (λ (r : Region). r.looked) c.in-Err.ensures.same.rows))
+
+pub returns-clause-unlooked : goal.returns-clause-unlooked
+returns-clause-unlooked g c =
+    let s = c.self.inside in
+    let place = c.in-Some-numbered_place in
+    let l = place_in s.groups.items s.standing.tables c.self.invariant.0.each.stand place.place place.ensures.found in
+    subst (λ (w : Shown). rows_looked (slice_set s.groups.items place.place c.note_point.new.group) ≡ rows_looked w.groups) c.self.view_is
+    (sum_kept (λ (h : Group). h.rows.looked) s.groups.items place.place c.index_mut.result.now c.note_point.new.group l (sym c.index_mut.ensures.value) (ap (λ (r : Region). r.looked) c.in_default-note_point.ensures.same.rows))

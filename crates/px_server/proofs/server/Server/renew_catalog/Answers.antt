@@ -1,4 +1,4 @@
-use Rattle.std.proofs.Common.{◌∙◌, Some, refl, subst}
+use Rattle.std.proofs.Common.{◌∙◌, Some, refl, ap, subst}
 use Rattle.px_trail.specs.declared.entry.Act.TheVariants.{Shut}
 use Rattle.px_calls.specs.Calls.{DidWork}
 use Rattle.px_calls.specs.Causes.{Refuses, upkeep_cause}
@@ -78,3 +78,12 @@ returns-in-Err-WriteFault-clause-refused g c =
     let v' : Shown = record v { entries = c.shut.new.trail.entries; closed = Some c.call_count-calls.result } in
     subst (λ (w : Shown). Refuses upkeep_cause (known_by b g.B.Based.damaged w) (known_by b g.B.Based.damaged v') WriteFault) c.self.view_is
     (work_failed (known_by b g.B.Based.damaged v) told.legal c.shut.new.trail.entries c.call_count-calls.result c.call_count-calls.result c.shut.ensures.entries (invariant_of-self-in-Err-WriteFault g c).0.told.legal)
+
+pub returns-in-Ok-clause-groups : goal.returns-in-Ok-clause-groups
+returns-in-Ok-clause-groups g c = ap (λ (w : Shown). w.groups) c.self.view_is
+
+pub returns-in-Err-Memory-clause-groups : goal.returns-in-Err-Memory-clause-groups
+returns-in-Err-Memory-clause-groups g c = ap (λ (w : Shown). w.groups) c.self.view_is
+
+pub returns-in-Err-WriteFault-clause-groups : goal.returns-in-Err-WriteFault-clause-groups
+returns-in-Err-WriteFault-clause-groups g c = ap (λ (w : Shown). w.groups) c.self.view_is

@@ -2,6 +2,7 @@ use Rattle.std.proofs.Common.{◌∙◌, sym, ap, subst}
 use Rattle.std.specs.Prelude.{IfErr, IfOk}
 use Rattle.px_calls.specs.Calls.{DidWork}
 use Rattle.px_calls.specs.Causes.{Refuses, upkeep_cause}
+use Rattle.px_server.specs.Looks.{rows_looked}
 use Rattle.px_server.specs.Shown.{Shown, known_by}
 use Rattle.px_server.specs.Upkeep.{AreOrdered}
 use Rattle.px_server.proofs.server.Server.upkeep.Goals as goal
@@ -28,3 +29,12 @@ returns-clause-refused g c =
     let b = g.B.Based.base in
     let then = c.upkeep_regions.new.self in
     subst (λ (w : Shown). IfErr c.upkeep_regions.result (Refuses upkeep_cause (known_by b g.B.Based.damaged w) (known_by b g.B.Based.damaged then))) c.in_ok-renewed.ensures.same.0 c.upkeep_regions.ensures.refused
+
+pub returns-clause-unlooked : goal.returns-clause-unlooked
+returns-clause-unlooked g c = c.upkeep_regions.ensures.unlooked ∙ ap rows_looked c.renew_catalog.ensures.groups
+
+pub returns-then-renewed-clause-unlooked : goal.returns-then-renewed-clause-unlooked
+returns-then-renewed-clause-unlooked g c = ap rows_looked c.renew_catalog.ensures.groups
+
+pub returns-in_err-renewed-clause-unlooked : goal.returns-in_err-renewed-clause-unlooked
+returns-in_err-renewed-clause-unlooked g c = ap rows_looked c.renew_catalog.ensures.groups

@@ -1,13 +1,15 @@
 use Rattle.std.proofs.Common.{◌≡◌, ◌<◌, ◌∙◌, None, Some, List, get_or, length, refl, sym, ap, subst}
+use Rattle.std.specs.List.{slice_set}
 use Rattle.px_trail.specs.declared.entry.Act.TheVariants.{Shut}
 use Rattle.px_calls.specs.Calls.{DidWork}
 use Rattle.px_calls.specs.Causes.{Refuses, upkeep_cause}
 use Rattle.px_calls.specs.declared.fault.StepFault.TheVariants.{Memory, WriteFault}
 use Rattle.px_calls.specs.declared.status.Work.TheVariants.{Did, Idle}
 use Rattle.px_group.specs.declared.group.Group.{Group}
+use Rattle.px_server.specs.Looks.{rows_looked}
 use Rattle.px_server.specs.Shown.{Shown, known_by, shown_of}
 use Rattle.px_server.specs.Upkeep.{AreOrdered, HaveFlushed, IsOrderedTable}
-use Rattle.px_server.proofs.Lists.{all_at}
+use Rattle.px_server.proofs.Lists.{all_at, sum_kept}
 use Rattle.px_server.proofs.Orders.{all_put}
 use Rattle.px_server.proofs.Stamping.{more_by_clock}
 use Rattle.px_server.proofs.Stepped.{did_work, stepped, stopped, work_failed, work_no_memory}
@@ -91,3 +93,24 @@ returns-in-Err-WriteFault-clause-refused g c =
     let v' : Shown = record v { entries = c.shut.new.trail.entries; closed = Some c.call_count-calls.result } in
     subst (λ (w : Shown). Refuses upkeep_cause (known_by b g.B.Based.damaged w) (known_by b g.B.Based.damaged v') WriteFault) c.self.view_is
     (work_failed (known_by b g.B.Based.damaged v) told.legal c.shut.new.trail.entries c.call_count-calls.result c.call_count-calls.result c.shut.ensures.entries (invariant_of-self-in-Err-WriteFault g c).0.told.legal)
+
+pub returns-in-Ok-clause-unlooked : goal.returns-in-Ok-clause-unlooked
+returns-in-Ok-clause-unlooked g c =
+    let s = c.self.inside in
+    let inside : c.in-Some.place < length s.groups.items = subst (λ (gs : List Group). c.in-Some.place < length gs) c.as_slice.ensures.value c.in-Some.ensures.some.0 in
+    subst (λ (w : Shown). rows_looked (slice_set s.groups.items c.in-Some.place c.step_table.new.group) ≡ rows_looked w.groups) c.self.view_is
+    (sum_kept (λ (h : Group). h.rows.looked) s.groups.items c.in-Some.place c.index_mut-group.result.now c.step_table.new.group inside (sym c.index_mut-group.ensures.value) c.step_table.ensures.looked)
+
+pub returns-in-Err-Memory-clause-unlooked : goal.returns-in-Err-Memory-clause-unlooked
+returns-in-Err-Memory-clause-unlooked g c =
+    let s = c.self.inside in
+    let inside : c.in-Some.place < length s.groups.items = subst (λ (gs : List Group). c.in-Some.place < length gs) c.as_slice.ensures.value c.in-Some.ensures.some.0 in
+    subst (λ (w : Shown). rows_looked (slice_set s.groups.items c.in-Some.place c.step_table.new.group) ≡ rows_looked w.groups) c.self.view_is
+    (sum_kept (λ (h : Group). h.rows.looked) s.groups.items c.in-Some.place c.index_mut-group.result.now c.step_table.new.group inside (sym c.index_mut-group.ensures.value) c.step_table.ensures.looked)
+
+pub returns-in-Err-WriteFault-clause-unlooked : goal.returns-in-Err-WriteFault-clause-unlooked
+returns-in-Err-WriteFault-clause-unlooked g c =
+    let s = c.self.inside in
+    let inside : c.in-Some.place < length s.groups.items = subst (λ (gs : List Group). c.in-Some.place < length gs) c.as_slice.ensures.value c.in-Some.ensures.some.0 in
+    subst (λ (w : Shown). rows_looked (slice_set s.groups.items c.in-Some.place c.step_table.new.group) ≡ rows_looked w.groups) c.self.view_is
+    (sum_kept (λ (h : Group). h.rows.looked) s.groups.items c.in-Some.place c.index_mut-group.result.now c.step_table.new.group inside (sym c.index_mut-group.ensures.value) c.step_table.ensures.looked)

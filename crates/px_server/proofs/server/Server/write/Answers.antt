@@ -1,5 +1,6 @@
 use Rattle.std.proofs.Common.{◌≡◌, ◌<◌, ◌≤◌, ◌∙◌, Option, Some, List, [], ◌∷◌, ◌++◌, length, refl, sym, ap, subst, slice_get, arith}
 use Rattle.std.specs.List.{slice_set}
+use Rattle.px_values.specs.declared.name.TableId.{TableId}
 use Rattle.px_trail.specs.declared.entry.Act.TheVariants.{Shut, Wrote}
 use Rattle.px_trail.specs.declared.entry.Entry.{Entry}
 use Rattle.px_trail.specs.Batches.{IsIn, Verifying as InVerifying, Writing as InWriting}
@@ -13,12 +14,14 @@ use Rattle.px_group.specs.declared.group.Group.{Group}
 use Rattle.px_group.specs.declared.group.Begun.{Begun}
 use Rattle.px_group.specs.declared.group.Phase.TheVariants.{Writing}
 use Rattle.px_batching.specs.Steps.{IsBlocked, IsFree}
+use Rattle.px_server.specs.CallsLeft.{calls_left}
 use Rattle.px_server.specs.Kept.{IsKept}
 use Rattle.px_server.specs.Shown.{Shown, known_by, shown_of}
+use Rattle.px_server.proofs.CallsLeft.{fewer, write_less}
 use Rattle.px_server.proofs.Found.{closed_by}
 use Rattle.px_server.proofs.RowsTold.{blocked_waits, did_write, not_yet, unwritten_kept, write_failed, writing_there, wrote_in, wrote_kept}
 use Rattle.px_server.proofs.Stamping.{more_by_clock}
-use Rattle.px_server.proofs.Ticketed.{batch_somewhere, same_read, stands_somewhere, there, ticket_in}
+use Rattle.px_server.proofs.Ticketed.{batch_somewhere, own_table, same_read, stands_somewhere, there, ticket_in}
 use Rattle.px_server.proofs.server.Server.write.Goals as goal
 
 pub returns-in-Some-clause-refused : goal.returns-in-Some-clause-refused
@@ -186,3 +189,33 @@ returns-in-Err-clause-refused g c =
     let v' : Shown = record v { entries = c.shut.new.trail.entries; late = c.keep.new.late; closed = Some c.call_count-calls.result } in
     subst (λ (w : Shown). Refuses (rows_cause t.table.0 t.stamp) (known_by b g.B.Based.damaged w) (known_by b g.B.Based.damaged v') WriteFault) c.self.view_is
     (write_failed (known_by b g.B.Based.damaged v) told.legal t c.shut.new.trail.entries c.call_count-calls.result c.call_count-calls.result c.shut.ensures.entries (invariant_of-self-in-Err g c).0.told.legal)
+
+pub returns-in-Some-clause-no_more : goal.returns-in-Some-clause-no_more
+returns-in-Some-clause-no_more g c = λ stamp is. omega arith
+
+pub returns-in-Some-blocker-clause-no_more : goal.returns-in-Some-blocker-clause-no_more
+returns-in-Some-blocker-clause-no_more g c = λ stamp is. omega arith
+
+pub returns-in-Err-clause-no_more : goal.returns-in-Err-clause-no_more
+returns-in-Err-clause-no_more g c = λ stamp is. absurd cc
+
+pub returns-in-Ok-clause-fewer : goal.returns-in-Ok-clause-fewer
+returns-in-Ok-clause-fewer g c =
+    let s = c.self.inside in
+    let b = g.B.Based.base in
+    let t = c.args.t.now in
+    let v : Shown = shown_of s.seat s.trail.entries s.late s.closed s.groups.items in
+    let mine : IsIn s.trail.entries s.seat t.table.0 t.stamp InWriting = ticket_in b g.B.Based.damaged t InWriting v c.args.self.now c.self.view_is c.requires in
+    let place = c.in-Some-numbered_place.place in
+    let m = c.in-Some-batch_place.batch in
+    let h = c.index.result.now in
+    let inside = there g.D.Disk b g.B.Founded.sound g.B.Founded.premise g.B.Founded.began s.disk s.catalog s.standing s.groups.items s.trail s.late s.closed c.self.invariant.0 t s.seat Writing mine (in_writing mine.batch mine.phase).0
+    c.in_default.is place c.in-Some-numbered_place.ensures.found c.in-Some-numbered_place.ensures.numbered h c.index.ensures in
+    let y = c.index_mut-group.result.now in
+    let own : y.table.id ≡ t.table = own_table g.D.Disk b g.B.Founded.sound g.B.Founded.premise g.B.Founded.began s.disk s.catalog s.standing s.groups.items s.trail s.late s.closed c.self.invariant.0 t s.seat Writing mine (in_writing mine.batch mine.phase).0
+    c.in_default.is place c.in-Some-numbered_place.ensures.found c.in-Some-numbered_place.ensures.numbered y c.index_mut-group.ensures.value in
+    let one : y ≡ h = same_read s.groups.items place y h inside c.index_mut-group.ensures.value c.index.ensures in
+    let stamp : (x : Begun) → slice_get y.batches.items m ≡ Some x → x.batch.stamp ≡ t.stamp = subst (λ (z : Group). (x : Begun) → slice_get z.batches.items m ≡ Some x → x.batch.stamp ≡ t.stamp) (sym one) c.in-Some-batch_place.ensures.found.1 in
+    subst (λ (w : Shown). calls_left (slice_set s.groups.items place c.write-outcome.new.group) t < calls_left w.groups t) c.self.view_is
+    (fewer s.groups.items place y c.write-outcome.new.group inside (sym c.index_mut-group.ensures.value) t
+    (write_less g.D.Disk m t.table.0 t.stamp y c.write-outcome.new.group s.disk c.write-outcome.new.disk c.in-Ok.ensures.written stamp (ap (λ (x : TableId). x.0) own)))

@@ -1,5 +1,0 @@
-use Rattle.px_tests_threads.proofs.Serving.{is_single}
-use Rattle.px_tests_threads.proofs.served.run_script.Goals as goal
-
-pub run_rounds-requires-clause-single : goal.run_rounds-requires-clause-single
-run_rounds-requires-clause-single g c κs bounds = is_single (g.S.Steps.known c.args.server) c.requires.alone c.requires.nothing
