@@ -1,7 +1,7 @@
 -- A run in which nothing fails outside; and that nothing is left under way.
-use Rattle.std.proofs.Common.{ℕ, zero, suc, ◌≡◌, ◌<◌, ◌≤◌, ◌⊎◌, ◌||◌, Bool, true, false, Option, None, Some, List, [], ◌∷◌, ◌++◌, length, take, refl, sym, ◌∙◌, ap, subst, arith, inl, inr, ⊎_elim}
+use Rattle.std.proofs.Common.{ℕ, zero, suc, ◌≡◌, ◌<◌, ◌≤◌, ◌⊎◌, ◌||◌, ◌==◌, Bool, true, false, Option, None, Some, List, [], ◌∷◌, ◌++◌, length, take, refl, sym, ◌∙◌, ap, subst, arith, inl, inr, ⊎_elim}
 use Rattle.std.specs.List.{list_any}
-use Rattle.std.proofs.lemmas.Bool.{cases_Bool, cases_lt, false≢true}
+use Rattle.std.proofs.lemmas.Bool.{cases_Bool, cases_lt, eqb-false, eqb-true, false≢true}
 use Rattle.std.proofs.lemmas.List.{append-nil, length-replicate}
 use Rattle.std.proofs.Math.Seq.{take-length}
 use Rattle.px_outside.specs.Disk.{last_count}
@@ -15,28 +15,33 @@ use Rattle.px_script.specs.declared.script.SessionText.{SessionText}
 use Rattle.px_trail.specs.Trail.{acts_by}
 use Rattle.px_trail.specs.declared.entry.Entry.{Entry}
 use Rattle.px_calls.specs.Known.{Known, outline}
-use Rattle.px_reply.specs.Refusals.{cause_of}
+use Rattle.px_reply.specs.Refusals.{cause_of, refusal_in}
 use Rattle.px_reply.specs.declared.refusal.Cause.{Cause}
 use Rattle.px_reply.specs.declared.refusal.Cause.TheVariants as cause
 use Rattle.px_reply.specs.declared.refusal.Refusal.{Refusal}
 use Rattle.px_reply.specs.declared.refusal.Refusal.TheVariants as refusal
 use Rattle.px_reply.specs.declared.reply.Reply.{Reply}
-use Rattle.px_reply.specs.declared.reply.Reply.TheVariants.{Refused as RefusedReply}
 use Rattle.px_reply.specs.declared.transcript.Item.{Item}
 use Rattle.px_reply.specs.declared.transcript.Transcript.{Transcript}
-use Rattle.px_session.specs.Replies.{has_fatal, is_closing, is_fatal, own_since}
+use Rattle.px_session.specs.Replies.{has_fatal, is_closing, is_fatal, own_since, stops}
 use Rattle.px_rounds.specs.Rounds.{fresh}
+use Rattle.px_rounds.specs.Turns.{as_seat}
 use Rattle.px_rounds.specs.Written.{IsWritten}
 use Rattle.px_server.specs.Kept.{HasFailed, has_told}
-use Rattle.px_program.specs.Answers.{AnswersScript, stopped_by}
-use Rattle.px_program.specs.Complete.{AreWholeRounds, IsComplete, IsToldWhy, IsWholeScript, is_any}
+use Rattle.px_program.specs.Answers.{AnswersJob, AnswersScript, AnswersVerification, IsVerified, one_item, stopped_by}
+use Rattle.px_program.specs.Complete.{AreWholeRounds, HasEnded, IsComplete, IsOneReply, IsToldWhy, IsWholeJob, IsWholeScript, is_any}
 use Rattle.px_program.specs.Ended.{AllEnded}
 use Rattle.px_program.specs.Run.{undamaged}
-use Rattle.px_program.specs.Status.{IsQuietStatus, causes_of, damage_of, first_damage, is_memory, is_of_disk, is_statement, items_of, or_else, place_of, quiet_status, refused_by, some_refused_by, status_of, whole_status}
+use Rattle.px_program.specs.Status.{IsQuietStatus, causes_of, comes_from, damage_of, first_damage, is_memory, is_of_disk, is_statement, items_of, or_else, place_in, place_of, quiet_status, refused_by, some_refused_by, status_of, whole_status}
 use Rattle.px_program.specs.declared.causes.Causes.{Causes}
 use Rattle.px_program.specs.declared.causes.Place.{Place}
+use Rattle.px_program.specs.declared.job.Job.{Job}
+use Rattle.px_program.specs.declared.job.Job.TheVariants.{Script, Verify}
 use Rattle.px_program.specs.declared.status.Status.{Status}
 use Rattle.px_program.specs.declared.status.Status.TheVariants.{Done}
+use Rattle.px_verified.specs.declared.asked.Verification.{Verification}
+use Rattle.px_program.proofs.Items.{IsFair}
+use Rattle.px_program.proofs.Verified.{fair as fair_verification}
 use Rattle.px_program.proofs.Balanced.{IsBalanced, balanced-none, batches_ended, points_closed}
 use Rattle.px_program.proofs.Sessions.{fresh_going, or_none, rounds_balanced, rounds_told, whole_rounds}
 
@@ -54,9 +59,12 @@ closing_tells refusal.WriteFault h = absurd (false≢true (sym h))
 closing_tells (refusal.Closed call) h = absurd (false≢true (sym h))
 closing_tells r h = refl
 
+stop_tells : (o : Option Refusal) → comes_from is_of_disk o ≡ false → stops o ≡ false
+stop_tells (Some r) h = closing_tells r h
+stop_tells None h = refl
+
 fatal_tells : (r : Reply) → refused_by is_of_disk r ≡ false → is_fatal r ≡ false
-fatal_tells (RefusedReply r) h = closing_tells r h
-fatal_tells r h = refl
+fatal_tells r h = stop_tells (refusal_in r) h
 
 none_fatal : (items : List Item) → some_refused_by is_of_disk items ≡ false → has_fatal items ≡ false
 none_fatal items h = all_none (λ i. refused_by is_of_disk i.reply) (λ i. is_fatal i.reply) (λ i none. fatal_tells i.reply none) items h
@@ -65,9 +73,12 @@ place_tells : (r : Refusal) → is_of_disk (cause_of r) ≡ false → place_of r
 place_tells (refusal.Damaged file place) h = absurd (false≢true (sym h))
 place_tells r h = refl
 
+no_place : (o : Option Refusal) → comes_from is_of_disk o ≡ false → place_in o ≡ None
+no_place (Some r) h = place_tells r h
+no_place None h = refl
+
 damage_tells : (r : Reply) → refused_by is_of_disk r ≡ false → damage_of r ≡ None
-damage_tells (RefusedReply r) h = place_tells r h
-damage_tells r h = refl
+damage_tells r h = no_place (refusal_in r) h
 
 none_damaged : (items : List Item) → some_refused_by is_of_disk items ≡ false → first_damage items ≡ None
 none_damaged [] h = refl
@@ -81,9 +92,12 @@ no_cause cause.Device a b c = a
 no_cause cause.Closing a b c = a
 no_cause cause.Memory a b c = b
 
+none_at_all : (o : Option Refusal) → comes_from is_of_disk o ≡ false → comes_from is_memory o ≡ false → comes_from is_statement o ≡ false → comes_from is_any o ≡ false
+none_at_all (Some r) a b c = no_cause (cause_of r) a b c
+none_at_all None a b c = refl
+
 refusal_is : (r : Reply) → refused_by is_of_disk r ≡ false → refused_by is_memory r ≡ false → refused_by is_statement r ≡ false → refused_by is_any r ≡ false
-refusal_is (RefusedReply r) a b c = no_cause (cause_of r) a b c
-refusal_is r a b c = refl
+refusal_is r a b c = none_at_all (refusal_in r) a b c
 
 none_refused : (items : List Item) → some_refused_by is_of_disk items ≡ false → some_refused_by is_memory items ≡ false → some_refused_by is_statement items ≡ false → some_refused_by is_any items ≡ false
 none_refused [] a b c = refl
@@ -159,10 +173,6 @@ module _ (sound : Type 0) (k : Known) (script : List ℕ) (ts : List Transcript)
       subst IsBalanced (all_own seat) own
   seats_balanced whole (inr h) go seat = subst (λ (l : List Entry). IsBalanced (outline (acts_by seat l))) (sym (no_entries k.seen h.still)) balanced-none
 
-  -- where no session is stopped, nothing is left under way
-  pub script_ended : k.damaged ≡ undamaged → AnswersScript sound k 0 script ts sink_failed memory → has_fatal (items_of ts) ≡ false → AllEnded k.seen
-  script_ended whole h go = record { batches = batches_ended k.seen (seats_balanced whole h go); points = points_closed k.seen (seats_balanced whole h go) }
-
   -- each session came to its end
   script_whole : AnswersScript sound k 0 script ts sink_failed memory → has_fatal (items_of ts) ≡ false → sink_failed ≡ false → memory ≡ false → IsWholeScript script ts ⊎ IsToldWhy script ts
   script_whole (inl a) go sent enough =
@@ -179,12 +189,72 @@ module _ (sound : Type 0) (k : Known) (script : List ℕ) (ts : List Transcript)
       })
   script_whole (inr h) go sent enough = ⊎_elim (λ is. inr (h.fault, h.why, is)) (λ none. absurd (false≢true (sym enough ∙ none.1))) h.told
 
-  -- ---- 4. The run
+-- ---- 4. A verification
 
-  module _ {D O : Type 0} (d : DiskGhosts D) (s : SinkGhosts O) (disk : D) (out out' : O) (text : List ℕ) (status : Status) (whole : k.damaged ≡ undamaged) (answers : AnswersScript sound k 0 script ts sink_failed memory) (written : IsWritten s out out' text sink_failed memory)
+module _ (sound : Type 0) (k : Known) (v : Verification) (ts : List Transcript) (memory : Bool) where
+  here : (b : Bool) → (b || false) ≡ true → b ≡ true
+  here true h = h
+  here false h = h
+
+  not_here : (b : Bool) → (b || false) ≡ false → b ≡ false
+  not_here true h = h
+  not_here false h = h
+
+  verification_fair : (h : IsVerified sound k 0 v ts) → k.damaged ≡ undamaged → IsFair (as_seat 1 k) (own_since 1 0 k.seen) h.reply
+  verification_fair h whole = fair_verification sound (as_seat 1 k) whole v 0 (own_since 1 0 k.seen) h.reply h.right
+
+  verification_told : k.damaged ≡ undamaged → AnswersVerification sound k 0 v ts memory → some_refused_by is_of_disk (items_of ts) ≡ true → has_told k.seen ≡ true
+  verification_told whole (inl h) tell = (verification_fair h whole).told (here (refused_by is_of_disk h.reply) (sym (ap (λ (l : List Transcript). some_refused_by is_of_disk (items_of l)) h.told) ∙ tell))
+  verification_told whole (inr h) tell = absurd (false≢true (sym (ap (λ (l : List Transcript). some_refused_by is_of_disk (items_of l)) h.none) ∙ tell))
+
+  verification_balanced : k.damaged ≡ undamaged → AnswersVerification sound k 0 v ts memory → has_fatal (items_of ts) ≡ false → (seat : ℕ) → IsBalanced (outline (acts_by seat k.seen))
+  unfolding acts_by
+  verification_balanced whole (inl h) go seat =
+      let quiet = not_here (is_fatal h.reply) (sym (ap (λ (l : List Transcript). has_fatal (items_of l)) h.told) ∙ go) in
+      elim (seat == 1) as (λ b. (seat == 1) ≡ b → IsBalanced (outline (acts_by seat k.seen))) [
+        | true ↦ λ e. subst (λ (n : ℕ). IsBalanced (outline (acts_by n k.seen))) (sym (eqb-true seat 1 e)) ((verification_fair h whole).balanced quiet)
+        | false ↦ λ e. subst IsBalanced (sym (ap outline (h.others seat (eqb-false seat 1 e)))) balanced-none
+      ] refl
+  verification_balanced whole (inr h) go seat = subst (λ (l : List Entry). IsBalanced (outline (acts_by seat l))) (sym (no_entries k.seen h.still)) balanced-none
+
+  verification_whole : AnswersVerification sound k 0 v ts memory → memory ≡ false → IsOneReply ts
+  verification_whole (inl h) enough = (h.reply, 0, length k.seen, h.told)
+  verification_whole (inr h) enough = absurd (false≢true (sym enough ∙ h.lacks))
+
+-- ---- 5. A job
+
+module _ (sound : Type 0) (k : Known) (ts : List Transcript) (sink_failed memory : Bool) where
+  job_told : (job : Job) → k.damaged ≡ undamaged → AnswersJob sound k 0 job ts sink_failed memory → some_refused_by is_of_disk (items_of ts) ≡ true → has_told k.seen ≡ true
+  job_told (Script script) whole a tell = script_told sound k script ts sink_failed memory whole a tell
+  job_told (Verify v) whole a tell = verification_told sound k v ts memory whole a tell
+
+  job_balanced : (job : Job) → k.damaged ≡ undamaged → AnswersJob sound k 0 job ts sink_failed memory → has_fatal (items_of ts) ≡ false → (seat : ℕ) → IsBalanced (outline (acts_by seat k.seen))
+  job_balanced (Script script) whole a go seat = seats_balanced sound k script ts sink_failed memory whole a go seat
+  job_balanced (Verify v) whole a go seat = verification_balanced sound k v ts memory whole a go seat
+
+  job_whole : (job : Job) → AnswersJob sound k 0 job ts sink_failed memory → has_fatal (items_of ts) ≡ false → sink_failed ≡ false → memory ≡ false → HasEnded job ts
+  job_whole (Script script) a go sent enough = script_whole sound k script ts sink_failed memory a go sent enough
+  job_whole (Verify v) a go sent enough = verification_whole sound k v ts memory a enough
+
+  -- of a job of which nothing is refused all was done
+  all_done : (job : Job) → HasEnded job ts → some_refused_by is_any (items_of ts) ≡ false → IsWholeJob job ts
+  all_done (Script script) (inl w) none = w
+  all_done (Script script) (inr why) none = absurd (false≢true (sym none ∙ ap (λ (l : List Transcript). some_refused_by is_any (items_of l)) why.2))
+  all_done (Verify v) w none = w
+
+module _ (sound : Type 0) (k : Known) (job : Job) (ts : List Transcript) (sink_failed memory : Bool) where
+  -- where no session is stopped, nothing is left under way
+  pub job_ended : k.damaged ≡ undamaged → AnswersJob sound k 0 job ts sink_failed memory → has_fatal (items_of ts) ≡ false → AllEnded k.seen
+  job_ended whole h go =
+      let balanced = job_balanced sound k ts sink_failed memory job whole h go in
+      record { batches = batches_ended k.seen balanced; points = points_closed k.seen balanced }
+
+  -- ---- 6. The run
+
+  module _ {D O : Type 0} (d : DiskGhosts D) (s : SinkGhosts O) (disk : D) (out out' : O) (text : List ℕ) (status : Status) (whole : k.damaged ≡ undamaged) (answers : AnswersJob sound k 0 job ts sink_failed memory) (written : IsWritten s out out' text sink_failed memory)
       (is : status ≡ status_of sink_failed (d.first_fault disk) memory (causes_of (items_of ts))) (blamed : has_told k.seen ≡ true → HasFailed d disk) (first : 0 < d.faults disk → 0 < d.first_fault disk) (some : 0 < d.first_fault disk → 0 < d.faults disk) where
     untold : (HasFailed d disk → ⊥) → some_refused_by is_of_disk (items_of ts) ≡ false
-    untold fine = ⊎_elim (λ tell. absurd (fine (blamed (script_told whole answers tell)))) (λ none. none) (cases_Bool (some_refused_by is_of_disk (items_of ts)))
+    untold fine = ⊎_elim (λ tell. absurd (fine (blamed (job_told sound k ts sink_failed memory job whole answers tell)))) (λ none. none) (cases_Bool (some_refused_by is_of_disk (items_of ts)))
 
     unfailed : (HasFailed d disk → ⊥) → d.first_fault disk ≡ 0
     unfailed fine = ⊎_elim (λ (up : 0 < d.first_fault disk). absurd (fine (inl (some up)))) (λ (low : d.first_fault disk ≤ 0). omega arith) (cases_lt 0 (d.first_fault disk))
@@ -203,19 +273,15 @@ module _ (sound : Type 0) (k : Known) (script : List ℕ) (ts : List Transcript)
           ]
         ])
 
-    whole_done : status ≡ Done → IsWholeScript script ts ⊎ IsToldWhy script ts → some_refused_by is_any (items_of ts) ≡ false → IsWholeScript script ts
-    whole_done done (inl w) none = w
-    whole_done done (inr why) none = absurd (false≢true (sym none ∙ ap (λ (l : List Transcript). some_refused_by is_any (items_of l)) why.2))
-
-    pub complete : IsComplete d s disk out out' script ts memory status
+    pub complete : IsComplete d s disk out out' job ts memory status
     complete = record {
       answered = untold;
       goes_on = λ fine. none_fatal (items_of ts) (untold fine);
       quiet = λ fine kept. subst IsQuietStatus (sym is) (quiet_by sink_failed (d.first_fault disk) memory (causes_of (items_of ts)) (sent kept) (unfailed fine) (none_damaged (items_of ts) (untold fine)));
-      ended = λ fine kept enough. script_whole answers (none_fatal (items_of ts) (untold fine)) (sent kept) enough;
+      ended = λ fine kept enough. job_whole sound k ts sink_failed memory job answers (none_fatal (items_of ts) (untold fine)) (sent kept) enough;
       done = λ done low.
           let by = done_by sink_failed (d.first_fault disk) memory (causes_of (items_of ts)) (sym is ∙ done) in
           let fine = fine_done done low in
           let none = none_refused (items_of ts) (untold fine) by.lacked_is by.refused_is in
-          record { whole = whole_done done (script_whole answers (none_fatal (items_of ts) (untold fine)) by.sink_is by.memory_is) none; none_refused = none; enough = by.memory_is; sent = written.quiet by.sink_is };
+          record { whole = all_done sound k ts sink_failed memory job (job_whole sound k ts sink_failed memory job answers (none_fatal (items_of ts) (untold fine)) by.sink_is by.memory_is) none; none_refused = none; enough = by.memory_is; sent = written.quiet by.sink_is };
     }

@@ -85,7 +85,7 @@ pub or_right : (a b : Bool) → b ≡ true → (a || b) ≡ true
 or_right true b h = refl
 or_right false b h = h
 
-told_by : (seat : ℕ) (act : Act) (es : List Entry) → tells_fault act ≡ true → IsAmong act (acts_by seat es) → has_told es ≡ true
+pub told_by : (seat : ℕ) (act : Act) (es : List Entry) → tells_fault act ≡ true → IsAmong act (acts_by seat es) → has_told es ≡ true
 unfolding acts_by IsAmong
 told_by seat act [] tells h = absurd h
 told_by seat act (e ∷ es) tells h =
@@ -105,7 +105,7 @@ closed_step call (Shut c) es more h = refl
 closed_step call (Missed c) es more h = refl
 closed_step call act es more h = more h
 
-closed_by : (call : ℕ) (es : List Entry) → closing_call es ≡ Some call → has_told es ≡ true
+pub closed_by : (call : ℕ) (es : List Entry) → closing_call es ≡ Some call → has_told es ≡ true
 unfolding closing_from
 closed_by call [] h = none_some call h
 closed_by call (e ∷ es) h = closed_step call e.act es (closed_by call es) h
@@ -119,7 +119,7 @@ told_front (suc n) (e ∷ es) h =
       | false ↦ λ g. told_front n es g
     ] h
 
-told_more : (es more : List Entry) → has_told es ≡ true → has_told (es ++ more) ≡ true
+pub told_more : (es more : List Entry) → has_told es ≡ true → has_told (es ++ more) ≡ true
 told_more [] more h = absurd (false≢true h)
 told_more (e ∷ es) more h =
     elim (tells_fault e.act) as (λ v. (v || has_told es) ≡ true → (v || has_told (es ++ more)) ≡ true) [
@@ -203,7 +203,7 @@ pub record IsFair (k : Known) (own : List Act) (r : Reply) : Type 0 where
   pub balanced : is_fatal r ≡ false → IsBalanced own
 
 -- no place is damaged
-undamaged_at : (k : Known) → k.damaged ≡ undamaged → (file place : ℕ) → IsDamagedAt k file place → ⊥
+pub undamaged_at : (k : Known) → k.damaged ≡ undamaged → (file place : ℕ) → IsDamagedAt k file place → ⊥
 undamaged_at k whole file place h = false≢true (sym (ap (λ (f : ℕ → ℕ → Bool). f file place) whole) ∙ h)
 
 -- a definition that was refused for the disk's sake has an entry that tells it
@@ -235,10 +235,10 @@ refused_told sound k whole n t i y f w tell =
     subst (λ (es : List Entry). has_told es ≡ true) (sym w.past.seen) (told_more w.was.seen w.past.more (building_told sound w.was (sym w.past.damaged ∙ whole) t i y f w.cause tell))
 
 -- what a build did is balanced
-tries_balanced : (t : TableId) (i : IndexId) (last own : List Act) → building.TriesThen t i last own → IsBalanced last → IsBalanced own
+pub tries_balanced : (t : TableId) (i : IndexId) (last own : List Act) → building.TriesThen t i last own → IsBalanced last → IsBalanced own
 tries_balanced t i last own h b = subst IsBalanced (sym h.1) (balanced-append (building.acts_of_tries t i h.0) last (balanced-tries t i h.0) b)
 
-tried_balanced : (t : TableId) (i : IndexId) (own : List Act) → building.HasTried t i own → IsBalanced own
+pub tried_balanced : (t : TableId) (i : IndexId) (own : List Act) → building.HasTried t i own → IsBalanced own
 tried_balanced t i own (inl h) = tries_balanced t i [] own h balanced-none
 tried_balanced t i own (inr h) = tries_balanced t i _ own h.1 (balanced-state t i Disabled h.0)
 

@@ -7,3 +7,4 @@ pub mod Serving
 pub mod Sessions
 pub mod Later
 pub mod Stops
+pub mod Verified

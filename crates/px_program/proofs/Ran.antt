@@ -1,7 +1,6 @@
 -- What a run leaves, by what its parts leave.
 use Rattle.std.proofs.Common.{◌≡◌, ◌≢◌, ◌<◌, ◌≤◌, ◌⊎◌, ◌+◌, inl, inr, ℕ, zero, suc, Bool, true, false, List, [], None, IsTrue, refl, sym, ap, subst, ◌∙◌, arith}
-use Rattle.std.specs.Prelude.{Option, Some, drop, take, map, option_map, sum_by}
-use Rattle.std.specs.Option.{is_some}
+use Rattle.std.specs.Prelude.{Option, Some, drop, take, map, sum_by}
 use Rattle.std.proofs.lemmas.Bool.{cases_lt, false≢true}
 use Rattle.px_outside.specs.Disk.{Image}
 use Rattle.px_outside.specs.Faults.{FaultsRose}
@@ -25,16 +24,20 @@ use Rattle.px_trail.specs.Trail.{Base}
 use Rattle.px_trail.specs.declared.entry.Entry.{Entry}
 use Rattle.px_server.specs.Others.{OthersStay, beginning_at, part_files}
 use Rattle.px_server.specs.Started.{IsOpenedOn, KeepsFolder, StartsSound}
-use Rattle.px_program.specs.Run.{IsRun, IsUnrun, ReadsAll, ReadsSome, Stops, known_over, most_read, run_given, run_left, ReadsSound}
+use Rattle.px_program.specs.Run.{AsksFor, HasRead, HasReadSome, IsRun, IsUnrun, Stops, known_over, most_read, run_given, run_left, ReadsSound}
 use Rattle.px_program.proofs.Stops.{starts_reads}
 use Rattle.px_program.specs.Status.{is_memory_status}
-use Rattle.px_program.specs.Words.{folder_in as folder_named}
+use Rattle.px_arguments.specs.Arguments.{SeenCommand, Run, Verify, command_in}
 use Rattle.px_program.specs.inner.Outcomes.{with_disk}
 use Rattle.px_program.specs.inner.Running.{IsCausedBy, IsOpenedNow, LeavesNothing, RanFolder, RanOn, RanOpened, RanOver, StoodBefore, Unopened, IsLeftSince, at_least, stopped_by}
+use Rattle.px_verifying.specs.declared.answer.VerifyKind.{VerifyKind}
+use Rattle.px_verified.specs.declared.asked.Verification.{Verification}
+use Rattle.px_program.specs.declared.job.Job.{Job}
+use Rattle.px_program.specs.declared.job.Job.TheVariants as jobs
 use Rattle.px_program.specs.declared.outcome.Outcome.{Outcome}
 use Rattle.px_program.specs.declared.status.Status.{Status}
 use Rattle.px_program.specs.declared.status.Status.TheVariants.{BadWords, Memory, SourceFault}
-use Rattle.px_program.proofs.Complete.{complete, script_ended}
+use Rattle.px_program.proofs.Complete.{complete, job_ended}
 
 -- a disk of the premise of a run, on which no call is made
 pub keeps_still : {D : Type 0} (d : DiskGhosts D) (disk : D) → ((moment file : ℕ) (bytes : List ℕ) → d.left disk moment file bytes → moment ≤ d.calls disk) → StartsSound d disk → KeepsFolder d disk disk
@@ -69,9 +72,9 @@ caused_by d old new fault.WriteFault read write damaged = write refl
 caused_by d old new (fault.Damaged file place) read write damaged = damaged file place refl
 caused_by d old new fault.Memory read write damaged = tt
 
-module _ {D C O : Type 0} (d : DiskGhosts D) (c : ClockGhosts C) (k : SinkGhosts O) (script : List ℕ) (clock : C) (old new : D) (out out' : O) (o : Outcome D)
+module _ {D C O : Type 0} (d : DiskGhosts D) (c : ClockGhosts C) (k : SinkGhosts O) (job : Job) (clock : C) (old new : D) (out out' : O) (o : Outcome D)
     (law : (starts : StartsSound d old) (moment : ℕ) (image : Image) → IsLeft d new moment image → Recovers (base_of starts.sound.folder) [] None moment image) where
-  pub not_opened : (f : OpenFault) → o.disk ≡ new → o.status ≡ stopped_by f (d.first_fault new) → IsCausedBy d old new f → LeavesNothing out out' o → (IsTrue d.tells → TouchesOnly d old new catalogue_files) → RanOn d c k script clock old out out' o
+  pub not_opened : (f : OpenFault) → o.disk ≡ new → o.status ≡ stopped_by f (d.first_fault new) → IsCausedBy d old new f → LeavesNothing out out' o → (IsTrue d.tells → TouchesOnly d old new catalogue_files) → RanOn d c k job clock old out out' o
   not_opened f same status caused nothing touches = inr (record {
     fault = f;
     status = subst (λ (x : D). o.status ≡ stopped_by f (d.first_fault x)) (sym same) status;
@@ -88,7 +91,7 @@ module _ {D C O : Type 0} (d : DiskGhosts D) (c : ClockGhosts C) (k : SinkGhosts
       → ((calls : ℕ → ℕ) → IsTrue d.tells → AreOpenedBy (d.seen old) (region_numbers (folder_in w).standing) calls → Passes d old new (17 + sum_by calls (region_numbers (folder_in w).standing))) → (IsTrue d.tells → TouchesOnly d old new catalogue_files)
       → (StartsSound d old → IsTrue d.tells → IsOpenedOn d new w) → (ReadsSound d old → IsTrue d.tells → IsOpenedNow d new w)
       → d.calls new ≤ d.calls o.disk → ((moment file : ℕ) (bytes : List ℕ) → moment < d.calls new → d.left o.disk moment file bytes → d.left new moment file bytes)
-      → RanOpened d c k (base_of (folder_in w)) (IsSoundFolder (folder_in w)) (IsTrue d.tells → IsOpenedNow d new w) (beginning_at d new) (IsLeftSince d (d.calls new) (StoodBefore d new w)) (c.times clock) script new out out' o → RanOn d c k script clock old out out' o
+      → RanOpened d c k (base_of (folder_in w)) (IsSoundFolder (folder_in w)) (IsTrue d.tells → IsOpenedNow d new w) (beginning_at d new) (IsLeftSince d (d.calls new) (StoodBefore d new w)) (c.times clock) job new out out' o → RanOn d c k job clock old out out' o
   opened_ran tells_left w stood sound passes touches opened now within past (inl r) = inl (record {
     folder = folder_in w;
     origin = record { stands = stood; sound = sound };
@@ -130,7 +133,7 @@ module _ {D C O : Type 0} (d : DiskGhosts D) (c : ClockGhosts C) (k : SinkGhosts
 abbrev pub through : {D E : Type 0} → DiskGhosts D → (E → D) → DiskGhosts E
 through d of = record { tells = d.tells; seen = λ m. d.seen (of m); first = λ m. d.first (of m); left = λ m. d.left (of m); calls = λ m. d.calls (of m); faults = λ m. d.faults (of m); first_fault = λ m. d.first_fault (of m) }
 
-module _ {D E C O : Type 0} (d : DiskGhosts D) (of : E → D) (c : ClockGhosts C) (k : SinkGhosts O) (script : List ℕ) (clock : C) (m : E) (out out' : O) (o : Outcome E) where
+module _ {D E C O : Type 0} (d : DiskGhosts D) (of : E → D) (c : ClockGhosts C) (k : SinkGhosts O) (job : Job) (clock : C) (m : E) (out out' : O) (o : Outcome E) where
   stands_through : (x : E) (f : FolderData) → StandsOn (through d of) x f → StandsOn d (of x) f
   stands_through x f s = record {
     parts = λ n kept. record { each = λ image left. (s.parts n kept).each image left };
@@ -148,7 +151,7 @@ module _ {D E C O : Type 0} (d : DiskGhosts D) (of : E → D) (c : ClockGhosts C
   told_through opened moment (inl starts) = inl (starts_through starts)
   told_through opened moment (inr since) = inr since
 
-  folder_through : RanFolder (through d of) c k script clock m out out' o → RanFolder d c k script clock (of m) out out' (with_disk (of o.disk) o)
+  folder_through : RanFolder (through d of) c k job clock m out out' o → RanFolder d c k job clock (of m) out out' (with_disk (of o.disk) o)
   folder_through r = record {
     folder = r.folder;
     origin = record { stands = r.origin.stands; sound = r.origin.sound };
@@ -193,25 +196,20 @@ module _ {D E C O : Type 0} (d : DiskGhosts D) (of : E → D) (c : ClockGhosts C
     recovers = λ starts moment image left. u.recovers (starts_through starts) moment image left;
   }
 
-  run_through : RanOn (through d of) c k script clock m out out' o → RanOn d c k script clock (of m) out out' (with_disk (of o.disk) o)
+  run_through : RanOn (through d of) c k job clock m out out' o → RanOn d c k job clock (of m) out out' (with_disk (of o.disk) o)
   run_through (inl r) = inl (folder_through r)
   run_through (inr u) = inr (unopened_through u)
 
   -- what a run on the disk leaves, where it began with this disk under its own
-  pub ran_through : (disk back : D) → of m ≡ disk → back ≡ of o.disk → RanOn (through d of) c k script clock m out out' o → RanOn d c k script clock disk out out' (with_disk back o)
+  pub ran_through : (disk back : D) → of m ≡ disk → back ≡ of o.disk → RanOn (through d of) c k job clock m out out' o → RanOn d c k job clock disk out out' (with_disk back o)
   ran_through disk back is end r =
-      subst (λ (x : D). RanOn d c k script clock x out out' (with_disk back o)) is (subst (λ (x : D). RanOn d c k script clock (of m) out out' (with_disk x o)) (sym end) (run_through r))
+      subst (λ (x : D). RanOn d c k job clock x out out' (with_disk back o)) is (subst (λ (x : D). RanOn d c k job clock (of m) out out' (with_disk x o)) (sym end) (run_through r))
 
 -- ---- the whole run
 
--- whether the words name a folder, where it was found
-pub named_none : {A : Type 0} (f : A → List ℕ) (o : Option A) (w : Option (List ℕ)) → option_map f o ≡ w → is_some o ≡ false → w ≡ None
-named_none f None w is none = sym is
-named_none f (Some x) w is none = absurd (false≢true (sym none))
-
-pub named_some : {A : Type 0} (f : A → List ℕ) (o : Option A) (w : Option (List ℕ)) → option_map f o ≡ w → is_some o ≡ true → w ≢ None
-named_some f None w is some = absurd (false≢true some)
-named_some f (Some x) w is some = λ none. false≢true (sym (ap is_some (is ∙ none)))
+-- the words are those of a verification
+pub verifies : {I : Type 0} (s : SourceGhosts I) (input : I) (words : List (List ℕ)) (folder table index : List ℕ) (kind : VerifyKind) (v : Verification) → command_in words ≡ Some (Verify folder table index kind) → v ≡ record { table = table; index = index; kind = kind } → AsksFor s words input input (jobs.Verify v)
+verifies s input words folder table index kind v named is = record { folder = folder; words_are_verify = named ∙ ap (λ (x : Verification). Some (Verify folder x.table x.index x.kind)) (sym is); input_is_left = refl }
 
 -- no word, or no script
 module _ {D C I O : Type 0} (d : DiskGhosts D) (c : ClockGhosts C) (s : SourceGhosts I) (k : SinkGhosts O) (disk : D) (clock : C) (input input' : I) (out : O) (words : List (List ℕ)) (o : Outcome D) where
@@ -229,26 +227,25 @@ module _ {D C I O : Type 0} (d : DiskGhosts D) (c : ClockGhosts C) (s : SourceGh
     stops_recover = λ starts moment image left. recovers starts moment image (subst (λ (x : D). IsLeft d x moment image) same left);
   })
 
-module _ {D C I O : Type 0} (d : DiskGhosts D) (c : ClockGhosts C) (s : SourceGhosts I) (k : SinkGhosts O) (disk : D) (clock : C) (input input' : I) (out out' : O) (words : List (List ℕ)) (named : folder_named words ≢ None) (read : ReadsAll s input input') (o : Outcome D) where
-  some_read : ReadsSome s input input'
-  some_read tells = (most_read, omega arith, read tells)
+module _ {D C I O : Type 0} (d : DiskGhosts D) (c : ClockGhosts C) (s : SourceGhosts I) (k : SinkGhosts O) (disk : D) (clock : C) (input input' : I) (out out' : O) (words : List (List ℕ)) (command : SeenCommand) (named : command_in words ≡ Some command) (read : HasRead s command input input') (o : Outcome D) where
+  some_read : (x : SeenCommand) → HasRead s x input input' → HasReadSome s x input input'
+  some_read (Run folder) r = λ tells. (most_read, omega arith, r tells)
+  some_read (Verify folder table index kind) r = r
 
   stops_by : d.faults disk ≡ 0 → (0 < d.first_fault o.disk → 0 < d.faults o.disk) → (f : OpenFault) (n : ℕ) → n ≡ d.first_fault o.disk → IsCausedBy d disk o.disk f → Stops d s disk o.disk input input' words (stopped_by f n)
   stops_by fresh failed f (suc n) is caused = (let
       some : 0 < d.first_fault o.disk = omega (arith, is)
-      in (named, (inl (omega (arith, fresh, failed some)), is), read))
-  stops_by fresh failed fault.ReadFault zero is caused = (named, (caused, is), read)
-  stops_by fresh failed fault.WriteFault zero is caused = (named, (caused, is), read)
-  stops_by fresh failed (fault.Damaged file place) zero is caused = (named, caused, read)
-  stops_by fresh failed fault.Memory zero is caused = (named, tt, some_read)
+      in (command, named, (inl (omega (arith, fresh, failed some)), is), read))
+  stops_by fresh failed fault.ReadFault zero is caused = (command, named, (caused, is), read)
+  stops_by fresh failed fault.WriteFault zero is caused = (command, named, (caused, is), read)
+  stops_by fresh failed (fault.Damaged file place) zero is caused = (command, named, caused, read)
+  stops_by fresh failed fault.Memory zero is caused = (command, named, tt, some_read command read)
 
-  pub run_of : (script : List ℕ) → (IsTrue s.tells → script ≡ take most_read (s.remaining input)) → d.calls disk ≡ 0 → d.faults disk ≡ 0 → (0 < d.faults o.disk → 0 < d.first_fault o.disk) → (0 < d.first_fault o.disk → 0 < d.faults o.disk) → RanOn d c k script clock disk out out' o
+  pub run_of : (job : Job) → AsksFor s words input input' job → d.calls disk ≡ 0 → d.faults disk ≡ 0 → (0 < d.faults o.disk → 0 < d.first_fault o.disk) → (0 < d.first_fault o.disk → 0 < d.faults o.disk) → RanOn d c k job clock disk out out' o
       → IsUnrun d s (run_given disk clock input out words) (run_left o input' out') ⊎ IsRun d c s k (run_given disk clock input out words) (run_left o input' out')
-  run_of script is none fresh known failed (inl r) = inr (record {
-    words_name_a_folder = named;
-    script = script;
-    script_is_the_input = is;
-    input_is_read = read;
+  run_of job asks none fresh known failed (inl r) = inr (record {
+    job = job;
+    job_is_asked_for = asks;
     folder = r.folder;
     origin_is_the_folder = r.origin;
     trail_is_legal = r.over.legal;
@@ -272,10 +269,10 @@ module _ {D C I O : Type 0} (d : DiskGhosts D) (c : ClockGhosts C) (s : SourceGh
     closed_by_its_last_call = r.over.closed_at;
     status_is_caused = r.over.status;
     faults_are_theirs = r.over.blamed;
-    all_is_ended = script_ended (IsSoundFolder r.folder) (known_over (base_of r.folder) r.over.seat o.trail.entries) script o.transcripts r.over.sink_failed o.memory refl r.over.replied;
-    run_is_complete = complete (IsSoundFolder r.folder) (known_over (base_of r.folder) r.over.seat o.trail.entries) script o.transcripts r.over.sink_failed o.memory d k o.disk out out' (printed o.transcripts) o.status refl r.over.replied r.over.written r.over.status r.over.blamed known failed;
+    all_is_ended = job_ended (IsSoundFolder r.folder) (known_over (base_of r.folder) r.over.seat o.trail.entries) job o.transcripts r.over.sink_failed o.memory refl r.over.replied;
+    run_is_complete = complete (IsSoundFolder r.folder) (known_over (base_of r.folder) r.over.seat o.trail.entries) job o.transcripts r.over.sink_failed o.memory d k o.disk out out' (printed o.transcripts) o.status refl r.over.replied r.over.written r.over.status r.over.blamed known failed;
   })
-  run_of script is none fresh known failed (inr u) = inl (record {
+  run_of job asks none fresh known failed (inr u) = inl (record {
     cause = subst (λ (x : Status). Stops d s disk o.disk input input' words x) (sym u.status) (stops_by fresh failed u.fault (d.first_fault o.disk) refl u.caused);
     no_entries = u.nothing.entries;
     no_late = u.nothing.late;

@@ -22,6 +22,7 @@ use Rattle.px_server.specs.Others.{Beginning, BeginsAt}
 use Rattle.px_server.specs.Started.{HoldsOwn, IsOpenedOn, StartsSound}
 use Rattle.px_program.proofs.Later.{holds_later, later, log_later}
 use Rattle.px_program.specs.Run.{ReadsSound}
+use Rattle.px_program.specs.declared.job.Job.{Job}
 use Rattle.px_program.specs.inner.Running.{IsOpenedNow, RanOpened, StoodBefore, IsLeftSince, at_least}
 use Rattle.px_program.specs.declared.outcome.Outcome.{Outcome}
 
@@ -104,9 +105,9 @@ module _ {D : Type 0} (d : DiskGhosts D) (up_to_now : (x : D) (moment file : ℕ
       each moment image (inr since) left = stands_left d up_to_now disk (folder_in o) k.stands moment image (omega (arith, now, since)) left
 
   -- what a run over it leaves of the disk itself
-  pub ran_later : {C O : Type 0} (c : ClockGhosts C) (k : SinkGhosts O) (base : Base) (sound premise : Type 0) (began : Beginning) (times : ℕ → ℕ) (script : List ℕ) (disk : D) (out out' : O) (o : Outcome D) → at ≤ d.calls o.disk → at ≡ began.moment
-      → RanOpened (later d (at_least at all)) c k base sound premise began (IsLeft (later d (at_least at all))) times script disk out out' o → RanOpened d c k base sound premise began (IsLeftSince d at all) times script disk out out' o
-  ran_later c k base sound premise began times script disk out out' o within now (inl r) = inl (record {
+  pub ran_later : {C O : Type 0} (c : ClockGhosts C) (k : SinkGhosts O) (base : Base) (sound premise : Type 0) (began : Beginning) (times : ℕ → ℕ) (job : Job) (disk : D) (out out' : O) (o : Outcome D) → at ≤ d.calls o.disk → at ≡ began.moment
+      → RanOpened (later d (at_least at all)) c k base sound premise began (IsLeft (later d (at_least at all))) times job disk out out' o → RanOpened d c k base sound premise began (IsLeftSince d at all) times job disk out out' o
+  ran_later c k base sound premise began times job disk out out' o within now (inl r) = inl (record {
     legal = r.legal;
     stamped = r.stamped;
     seat = r.seat;
@@ -126,4 +127,4 @@ module _ {D : Type 0} (d : DiskGhosts D) (up_to_now : (x : D) (moment file : ℕ
         s = r.others given tells
         in record { later = s.later; left = λ moment file bytes since other is. s.left moment file bytes since other (inr (omega (arith, now, since)), is); seen = s.seen });
   })
-  ran_later c k base sound premise began times script disk out out' o within now (inr l) = inr (record { status = l.status; back = l.back; nothing = record { entries = l.nothing.entries; late = l.nothing.late; transcripts = l.nothing.transcripts; memory = l.nothing.memory; unwritten = l.nothing.unwritten } })
+  ran_later c k base sound premise began times job disk out out' o within now (inr l) = inr (record { status = l.status; back = l.back; nothing = record { entries = l.nothing.entries; late = l.nothing.late; transcripts = l.nothing.transcripts; memory = l.nothing.memory; unwritten = l.nothing.unwritten } })

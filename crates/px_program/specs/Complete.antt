@@ -12,14 +12,17 @@ use Rattle.px_script.specs.Scripts.{StopsScript, script_of}
 use Rattle.px_script.specs.declared.script.ScriptFault.{ScriptFault}
 use Rattle.px_script.specs.declared.script.SessionText.{SessionText}
 use Rattle.px_reply.specs.declared.refusal.Cause.{Cause}
+use Rattle.px_reply.specs.declared.reply.Reply.{Reply}
 use Rattle.px_reply.specs.declared.reply.Reply.TheVariants.{Count}
 use Rattle.px_reply.specs.declared.transcript.Item.{Item}
 use Rattle.px_reply.specs.declared.transcript.Transcript.{Transcript}
 use Rattle.px_rounds.specs.Rounds.{AreWithin, in_order, text_in}
 use Rattle.px_server.specs.Kept.{HasFailed}
 use Rattle.px_session.specs.Replies.{has_fatal}
-use Rattle.px_program.specs.Answers.{stopped_by}
+use Rattle.px_program.specs.Answers.{one_item, stopped_by}
 use Rattle.px_program.specs.Status.{IsQuietStatus, is_of_disk, items_of, some_refused_by}
+use Rattle.px_program.specs.declared.job.Job.{Job}
+use Rattle.px_program.specs.declared.job.Job.TheVariants.{Script, Verify}
 use Rattle.px_program.specs.declared.status.Status.{Status}
 use Rattle.px_program.specs.declared.status.Status.TheVariants.{Done}
 
@@ -67,11 +70,27 @@ pub record IsWholeScript (script : List ℕ) (ts : List Transcript) : Type 0 whe
 abbrev pub IsToldWhy : List ℕ → List Transcript → Type 0
 IsToldWhy script ts = (fault : ScriptFault) × StopsScript script fault × (ts ≡ stopped_by fault (length script))
 
+-- session 1 is told one thing, in the first round
+abbrev pub IsOneReply : List Transcript → Type 0
+IsOneReply ts = (reply : Reply) × (first : ℕ) × (last : ℕ) × (ts ≡ one_item 0 reply first last)
+
+-- ---- jobs
+
+-- all that a job asks for has its reply
+abbrev pub IsWholeJob : Job → List Transcript → Type 0
+IsWholeJob (Script script) ts = IsWholeScript script ts
+IsWholeJob (Verify v) ts = IsOneReply ts
+
+-- so, or nothing of the script is run
+abbrev pub HasEnded : Job → List Transcript → Type 0
+HasEnded (Script script) ts = IsWholeScript script ts ⊎ IsToldWhy script ts
+HasEnded (Verify v) ts = IsOneReply ts
+
 -- ---- runs
 
--- each statement of each session was answered, and none refused; no memory was lacked, and the sink took all
-pub record IsAnsweredWhole {O : Type 0} (k : SinkGhosts O) (out out' : O) (script : List ℕ) (ts : List Transcript) (memory : Bool) : Type 0 where
-  pub whole : IsWholeScript script ts
+-- each statement of each session was answered, or the verification was, and none refused; no memory was lacked, and the sink took all
+pub record IsAnsweredWhole {O : Type 0} (k : SinkGhosts O) (out out' : O) (job : Job) (ts : List Transcript) (memory : Bool) : Type 0 where
+  pub whole : IsWholeJob job ts
   pub none_refused : some_refused_by is_any (items_of ts) ≡ false
   pub enough : memory ≡ false
   pub sent : k.faults out' ≡ k.faults out
@@ -79,9 +98,9 @@ pub record IsAnsweredWhole {O : Type 0} (k : SinkGhosts O) (out out' : O) (scrip
 -- Where no call of the disk failed, no statement is refused for the disk's sake, and so none stops its session. Where the sink didn't fail either, the
 -- status is Done, Refused or Memory; and each session comes to its end, unless memory was lacked outside a statement, or nothing of the script is run.
 -- Done comes only where each statement of each session was answered, and none refused, unless the count of calls stands at its last value.
-pub record IsComplete {D O : Type 0} (d : DiskGhosts D) (k : SinkGhosts O) (disk : D) (out out' : O) (script : List ℕ) (ts : List Transcript) (memory : Bool) (status : Status) : Type 0 where
+pub record IsComplete {D O : Type 0} (d : DiskGhosts D) (k : SinkGhosts O) (disk : D) (out out' : O) (job : Job) (ts : List Transcript) (memory : Bool) (status : Status) : Type 0 where
   pub answered : (HasFailed d disk → ⊥) → some_refused_by is_of_disk (items_of ts) ≡ false
   pub goes_on : (HasFailed d disk → ⊥) → has_fatal (items_of ts) ≡ false
   pub quiet : (HasFailed d disk → ⊥) → (FaultsRose (k.faults out) (k.faults out') → ⊥) → IsQuietStatus status
-  pub ended : (HasFailed d disk → ⊥) → (FaultsRose (k.faults out) (k.faults out') → ⊥) → memory ≡ false → IsWholeScript script ts ⊎ IsToldWhy script ts
-  pub done : status ≡ Done → d.calls disk < last_count → IsAnsweredWhole k out out' script ts memory
+  pub ended : (HasFailed d disk → ⊥) → (FaultsRose (k.faults out) (k.faults out') → ⊥) → memory ≡ false → HasEnded job ts
+  pub done : status ≡ Done → d.calls disk < last_count → IsAnsweredWhole k out out' job ts memory

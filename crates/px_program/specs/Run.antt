@@ -26,11 +26,14 @@ use Rattle.px_server.specs.Others.{part_files}
 use Rattle.px_server.specs.Started.{StartsSound, StandsBy}
 use Rattle.px_session.specs.Replies.{has_fatal}
 use Rattle.px_server.specs.Stamps.{AreStamped}
-use Rattle.px_program.specs.Answers.{AnswersScript}
+use Rattle.px_arguments.specs.Arguments.{SeenCommand, Run, Verify, command_in}
+use Rattle.px_verified.specs.declared.asked.Verification.{Verification}
+use Rattle.px_program.specs.Answers.{AnswersJob}
 use Rattle.px_program.specs.Complete.{IsComplete}
 use Rattle.px_program.specs.Ended.{AllEnded}
 use Rattle.px_program.specs.Status.{causes_of, is_memory_status, items_of, status_of}
-use Rattle.px_program.specs.Words.{folder_in}
+use Rattle.px_program.specs.declared.job.Job.{Job}
+use Rattle.px_program.specs.declared.job.Job.TheVariants as jobs
 use Rattle.px_program.specs.declared.outcome.Outcome.{Outcome}
 use Rattle.px_program.specs.declared.status.Status.{Status}
 use Rattle.px_program.specs.declared.status.Status.TheVariants.{Done, Refused, BadWords, Device, Memory, Damaged, SourceFault, SinkFault}
@@ -69,6 +72,36 @@ ReadsAll s input input' = IsTrue s.tells → s.remaining input' ≡ drop most_re
 abbrev pub ReadsSome : {I : Type 0} → SourceGhosts I → I → I → Type 0
 ReadsSome s input input' = IsTrue s.tells → (n : ℕ) × (n ≤ most_read) × (s.remaining input' ≡ drop n (s.remaining input))
 
+-- a command's input was read: of a script all of it; for a verification none
+abbrev pub HasRead : {I : Type 0} → SourceGhosts I → SeenCommand → I → I → Type 0
+HasRead s (Run folder) input input' = ReadsAll s input input'
+HasRead s (Verify folder table index kind) input input' = input' ≡ input
+
+-- or some of it was, until the run was stopped
+abbrev pub HasReadSome : {I : Type 0} → SourceGhosts I → SeenCommand → I → I → Type 0
+HasReadSome s (Run folder) input input' = ReadsSome s input input'
+HasReadSome s (Verify folder table index kind) input input' = input' ≡ input
+
+-- ---- the command
+
+-- the words are `run DIR`, and the script is the input to its end, or to one byte past the greatest script
+pub record RunsScript {I : Type 0} (s : SourceGhosts I) (words : List (List ℕ)) (input input' : I) (script : List ℕ) : Type 0 where
+  pub folder : List ℕ
+  pub words_are_run : command_in words ≡ Some (Run folder)
+  pub script_is_the_input : IsTrue s.tells → script ≡ take most_read (s.remaining input)
+  pub input_is_read : ReadsAll s input input'
+
+-- the words are `verify DIR` with the names and the kind, and no input is read
+pub record RunsVerification {I : Type 0} (words : List (List ℕ)) (input input' : I) (v : Verification) : Type 0 where
+  pub folder : List ℕ
+  pub words_are_verify : command_in words ≡ Some (Verify folder v.table v.index v.kind)
+  pub input_is_left : input' ≡ input
+
+-- the job is what the words ask for
+abbrev pub AsksFor : {I : Type 0} → SourceGhosts I → (words : List (List ℕ)) → I → I → Job → Type 0
+AsksFor s words input input' (jobs.Script script) = RunsScript s words input input' script
+AsksFor s words input input' (jobs.Verify v) = RunsVerification words input input' v
+
 -- ---- the trail
 
 -- the folder that was there, as it was read, and what the trail's first entry is told over
@@ -101,10 +134,10 @@ StopsDisk d disk disk' status = ⊥
 
 -- why nothing was run, and what became of disk and input
 abbrev pub Stops : {D I : Type 0} → DiskGhosts D → SourceGhosts I → D → D → I → I → (words : List (List ℕ)) → Status → Type 0
-Stops d s disk disk' input input' words BadWords = (folder_in words ≡ None) × (disk' ≡ disk) × (input' ≡ input)
-Stops d s disk disk' input input' words SourceFault = (folder_in words ≢ None) × (disk' ≡ disk) × FaultsRose (s.faults input) (s.faults input') × ReadsSome s input input'
-Stops d s disk disk' input input' words Memory = (folder_in words ≢ None) × StopsDisk d disk disk' Memory × ReadsSome s input input'
-Stops d s disk disk' input input' words status = (folder_in words ≢ None) × StopsDisk d disk disk' status × ReadsAll s input input'
+Stops d s disk disk' input input' words BadWords = (command_in words ≡ None) × (disk' ≡ disk) × (input' ≡ input)
+Stops d s disk disk' input input' words SourceFault = ((folder : List ℕ) × (command_in words ≡ Some (Run folder))) × (disk' ≡ disk) × FaultsRose (s.faults input) (s.faults input') × ReadsSome s input input'
+Stops d s disk disk' input input' words Memory = (c : SeenCommand) × (command_in words ≡ Some c) × StopsDisk d disk disk' Memory × HasReadSome s c input input'
+Stops d s disk disk' input input' words status = (c : SeenCommand) × (command_in words ≡ Some c) × StopsDisk d disk disk' status × HasRead s c input input'
 
 -- Nothing was run: nothing is told but the status, no byte is written, all files but the catalogue's stay as they were, and each image that a stop may
 -- leave recovers
@@ -120,22 +153,20 @@ pub record IsUnrun {D C I O : Type 0} (d : DiskGhosts D) (s : SourceGhosts I) (g
 
 -- ---- a run
 
--- The words name a folder, the input was read, and its script was run on what the folder stood for
+-- What the words ask for was done on what the folder stood for: the script of the input was run, or an index was verified
 pub record IsRun {D C I O : Type 0} (d : DiskGhosts D) (c : ClockGhosts C) (s : SourceGhosts I) (k : SinkGhosts O) (given : RunGiven D C I O) (left : RunLeft D I O) : Type 0 where
-  pub words_name_a_folder : folder_in given.words ≢ None
-  pub script : List ℕ
-  pub script_is_the_input : IsTrue s.tells → script ≡ take most_read (s.remaining given.input)
-  pub input_is_read : ReadsAll s given.input left.input
+  pub job : Job
+  pub job_is_asked_for : AsksFor s given.words given.input left.input job
   -- what was there, and the trail of what was done to it
   pub folder : FolderData
   pub origin_is_the_folder : IsOrigin d given.disk folder
   pub trail_is_legal : IsLegal (base_of folder) left.outcome.trail.entries
   -- each stamp that was drawn is the one behind its table's last by a number that the clock told, each by a later one
   pub stamps_are_by_the_clock : IsTrue c.tells → (n : ℕ) × AreStamped (c.times given.clock) (base_of folder) [] 0 n left.outcome.trail.entries
-  -- the sessions are answered, round by round; what is told of rows is told where the folder was sound
+  -- the sessions are answered, round by round, or the verification is; what is told of rows is told where the folder was sound
   pub seat : ℕ
   pub sink_failed : Bool
-  pub items_are_replied : AnswersScript (IsSoundFolder folder) (known_over (base_of folder) seat left.outcome.trail.entries) 0 script left.outcome.transcripts sink_failed left.outcome.memory
+  pub items_are_replied : AnswersJob (IsSoundFolder folder) (known_over (base_of folder) seat left.outcome.trail.entries) 0 job left.outcome.transcripts sink_failed left.outcome.memory
   pub bytes_are_printed : IsWritten k given.out left.out (printed left.outcome.transcripts) sink_failed left.outcome.memory
   -- each image that a stop may leave at a moment of the run stands for what was there then, or for this and the one entry under way
   pub stops_recover : StartsSound d given.disk → (moment : ℕ) (image : Image) → IsLeft d left.outcome.disk moment image → Recovers (base_of folder) left.outcome.trail.entries left.outcome.late moment image
@@ -157,7 +188,7 @@ pub record IsRun {D C I O : Type 0} (d : DiskGhosts D) (c : ClockGhosts C) (s : 
   pub faults_are_theirs : has_told left.outcome.trail.entries ≡ true → HasFailed d left.outcome.disk
   -- where no session is stopped, each batch has ended, and each point is closed
   pub all_is_ended : has_fatal (items_of left.outcome.transcripts) ≡ false → AllEnded left.outcome.trail.entries
-  pub run_is_complete : IsComplete d k left.outcome.disk given.out left.out script left.outcome.transcripts left.outcome.memory left.outcome.status
+  pub run_is_complete : IsComplete d k left.outcome.disk given.out left.out job left.outcome.transcripts left.outcome.memory left.outcome.status
 
 -- where a call of the disk failed, the status tells the first that did, or that the sink failed too
 abbrev pub FaultsAreTold : {D : Type 0} → DiskGhosts D → D → D → Status → Type 0

@@ -1,13 +1,12 @@
 -- The status of a run, by its causes.
 use Rattle.std.specs.Prelude.{ℕ, zero, suc, Bool, true, false, ◌||◌, if◌then◌else◌, List, [], ◌∷◌, Option, None, Some}
 use Rattle.std.specs.List.{flat_map, list_any}
-use Rattle.px_reply.specs.Refusals.{cause_of}
+use Rattle.px_reply.specs.Refusals.{cause_of, refusal_in}
 use Rattle.px_reply.specs.declared.refusal.Cause.{Cause}
 use Rattle.px_reply.specs.declared.refusal.Cause.TheVariants.{Statement, Device as OfDevice, Closing, Memory as NoMemory}
 use Rattle.px_reply.specs.declared.refusal.Refusal.{Refusal}
 use Rattle.px_reply.specs.declared.refusal.Refusal.TheVariants.{Damaged as DamagedRefusal}
 use Rattle.px_reply.specs.declared.reply.Reply.{Reply}
-use Rattle.px_reply.specs.declared.reply.Reply.TheVariants.{Refused as RefusedReply}
 use Rattle.px_reply.specs.declared.transcript.Item.{Item}
 use Rattle.px_reply.specs.declared.transcript.Transcript.{Transcript}
 use Rattle.px_program.specs.declared.causes.Causes.{Causes}
@@ -33,10 +32,13 @@ is_of_disk OfDevice = true
 is_of_disk Closing = true
 is_of_disk NoMemory = false
 
+abbrev pub comes_from : (Cause → Bool) → Option Refusal → Bool
+comes_from kind (Some refusal) = kind (cause_of refusal)
+comes_from kind None = false
+
 -- the statement was refused, with a cause of this kind
 abbrev pub refused_by : (Cause → Bool) → Reply → Bool
-refused_by kind (RefusedReply refusal) = kind (cause_of refusal)
-refused_by kind reply = false
+refused_by kind reply = comes_from kind (refusal_in reply)
 
 abbrev pub some_refused_by : (Cause → Bool) → List Item → Bool
 some_refused_by kind items = list_any (λ i. refused_by kind i.reply) items
@@ -45,10 +47,13 @@ abbrev pub place_of : Refusal → Option Place
 place_of (DamagedRefusal file place) = Some (record { file = file; place = place })
 place_of refusal = None
 
+abbrev pub place_in : Option Refusal → Option Place
+place_in (Some refusal) = place_of refusal
+place_in None = None
+
 -- the place that the statement found damaged
 abbrev pub damage_of : Reply → Option Place
-damage_of (RefusedReply refusal) = place_of refusal
-damage_of reply = None
+damage_of reply = place_in (refusal_in reply)
 
 abbrev pub or_else : Option Place → Option Place → Option Place
 or_else None other = other

@@ -28,8 +28,8 @@ pub struct Causes {
 fn damage_of(reply: &Reply) -> Option<Place>
     ensures { result ≡ spec.damage_of reply.now }
 {
-    match reply {
-        Reply::Refused(Refusal::Damaged { file, place }) => Some(Place {
+    match reply.refusal() {
+        Some(Refusal::Damaged { file, place }) => Some(Place {
             file: *file,
             place: *place,
         }),
@@ -40,18 +40,18 @@ fn damage_of(reply: &Reply) -> Option<Place>
 fn lacked(reply: &Reply) -> bool
     ensures { result ≡ refused_by is_memory reply.now }
 {
-    match reply {
-        Reply::Refused(refusal) => matches!(refusal.cause(), Cause::Memory),
-        _ => false,
+    match reply.refusal() {
+        Some(refusal) => matches!(refusal.cause(), Cause::Memory),
+        None => false,
     }
 }
 
 fn refused(reply: &Reply) -> bool
     ensures { result ≡ refused_by is_statement reply.now }
 {
-    match reply {
-        Reply::Refused(refusal) => matches!(refusal.cause(), Cause::Statement),
-        _ => false,
+    match reply.refusal() {
+        Some(refusal) => matches!(refusal.cause(), Cause::Statement),
+        None => false,
     }
 }
 

@@ -1,5 +1,5 @@
 // A run of the program, from its words to its status.
-ghost use Rattle.std.specs.Prelude.{◌≡◌, ◌<◌, ◌≤◌, ◌⊎◌, [], None, map, IsTrue, ℕ, List};
+ghost use Rattle.std.specs.Prelude.{◌≡◌, ◌<◌, ◌≤◌, ◌⊎◌, [], None, Some, map, IsTrue, ℕ, List};
 ghost use Rattle.std.specs.String.{string_bytes};
 ghost use Rattle.px_outside.specs.Disk.{Image};
 ghost use Rattle.px_outside.specs.OnDisk.{IsLeft};
@@ -13,23 +13,28 @@ ghost use Rattle.px_rounds.specs.Written.{IsWritten};
 ghost use Rattle.px_server.specs.Others.{BeginsAt, beginning_at};
 ghost use Rattle.px_server.specs.Shown.{known_by};
 ghost use Rattle.px_server.specs.Started.{IsOpenedOn, StartsSound};
-ghost use Rattle.px_program.specs.Answers.{AnswersScript};
+ghost use Rattle.px_program.specs.Answers.{AnswersJob};
+ghost use Rattle.px_arguments.specs.Arguments.{Run, Verify, command_in as command_said};
 ghost use Rattle.px_program.specs.Run.{FaultsAreTold, IsRun, IsUnrun, run_given, run_left, undamaged};
 ghost use Rattle.px_program.specs.Status.{is_memory_status};
 ghost use Rattle.px_program.specs.inner.Running.{IsOpenedNow, RanOn, RanOpened, StoodBefore, IsLeftSince, stopped_by};
 
 use crate::causes::{causes_in, status_after};
+use crate::job::Job;
 use crate::outcome::{Outcome, unrun};
-use crate::served::run_script;
+use crate::served::{run_script, run_verified};
 use crate::since::{Later, Since};
 use crate::status::Status;
 use crate::watched::Watched;
-use crate::words::folder_word;
+use crate::words::verification;
+use px_arguments::{Command, command_in};
 use px_opening::{OpenFault, Opened, open};
 use px_outside::{Clock, CountsCalls, Disk, InputFault, Metered, Sink, Source, read_all};
 use px_rounds::Rounds;
 use px_seat::Based;
 use px_server::{Founded, Server, law_starts};
+use px_values::Items;
+use px_verified::VerifyKind;
 use std::alloc::Global;
 use std::marker::Brand;
 use std::sync::Wait;
@@ -55,29 +60,30 @@ fn status_unopened(fault: OpenFault, failed: u64) -> Status
     }
 }
 
-/// Runs a script on a server with which nothing was done, and writes its replies.
+/// Does a job on a server with which nothing was done, and writes the replies.
 fn serve<
     R: Threads + Wait + Sync,
     D: CountsCalls + Send,
     C: Clock + Drop + Send,
     O: Sink,
     B: Based + Founded + Send + Sync,
->(
-    rt: &R,
-    alloc: Global,
-    server: Server<D, C, B>,
-    script: &[u8],
-    out: &mut O,
-) -> Rounds<Server<D, C, B>>
+>(rt: &R, alloc: Global, server: Server<D, C, B>, job: Job, out: &mut O) -> Rounds<Server<D, C, B>>
     requires { server.entries ≡ [] }
     ensures goes { GoesOn (known_by B.base B.damaged server) (known_by B.base B.damaged result.server) }
-    ensures answered { AnswersScript B.sound (known_by B.base B.damaged result.server) 0 script.now result.transcripts result.sink_failed result.memory }
+    ensures answered { AnswersJob B.sound (known_by B.base B.damaged result.server) 0 job result.transcripts result.sink_failed result.memory }
     ensures written { IsWritten ⟦<O as Sink>⟧ out.old out.new (printed result.transcripts) result.sink_failed result.memory }
 {
-    run_script(rt, alloc, server, script, out)
+    match job {
+        Job::Script(script) => {
+            let rounds = run_script(rt, alloc, server, script.as_slice(), out);
+            drop(script);
+            rounds
+        }
+        Job::Verify(asked) => run_verified(rt, alloc, server, asked, out),
+    }
 }
 
-/// Runs a script over a folder that was opened, and writes its replies. `B` tells the base, whether the folder is sound, the premise, and what
+/// Does a job over a folder that was opened, and writes the replies. `B` tells the base, whether the folder is sound, the premise, and what
 /// the clock has to tell.
 fn run_over<
     R: Threads + Wait + Sync,
@@ -85,15 +91,7 @@ fn run_over<
     C: Clock + Drop + Send,
     O: Sink,
     B: Based + Founded + Send + Sync,
->(
-    rt: &R,
-    alloc: Global,
-    script: &[u8],
-    disk: D,
-    opened: Opened,
-    clock: C,
-    out: &mut O,
-) -> Outcome<D>
+>(rt: &R, alloc: Global, job: Job, disk: D, opened: Opened, clock: C, out: &mut O) -> Outcome<D>
     requires right { IsOpenedRight opened }
     requires base { B.base ≡ base_of (folder_in opened) }
     requires damaged { B.damaged ≡ undamaged }
@@ -102,10 +100,11 @@ fn run_over<
     requires told { B.premise → IsTrue D.tells → B.sound }
     requires began { BeginsAt ⟦<D as Disk>⟧ B.began disk }
     requires times { IsTrue C.tells → (n : ℕ) → C.times clock n ≡ B.times n }
-    ensures { RanOpened ⟦<D as Disk>⟧ ⟦<C as Clock>⟧ ⟦<O as Sink>⟧ B.base B.sound B.premise B.began (IsLeft ⟦<D as Disk>⟧) B.times script.now disk out.old out.new result }
+    ensures { RanOpened ⟦<D as Disk>⟧ ⟦<C as Clock>⟧ ⟦<O as Sink>⟧ B.base B.sound B.premise B.began (IsLeft ⟦<D as Disk>⟧) B.times job disk out.old out.new result }
 {
     match Server::<D, C, B>::over(alloc, disk, clock, LOOKBACK, opened) {
         Err(disk) => {
+            drop(job);
             let status = status_unopened(OpenFault::Memory, disk.first_fault());
             unrun(alloc, disk, status)
         }
@@ -115,7 +114,7 @@ fn run_over<
                 transcripts,
                 sink_failed,
                 memory,
-            } = serve(rt, alloc, server, script, out);
+            } = serve(rt, alloc, server, job, out);
             let (disk, trail, late) = server.finish();
             let causes = causes_in(transcripts.as_slice());
             let status = status_after(sink_failed, disk.first_fault(), memory, causes);
@@ -138,15 +137,7 @@ fn run_since<
     C: Clock + Drop + Send,
     O: Sink,
     B: Based + Founded + Since + Send + Sync,
->(
-    rt: &R,
-    alloc: Global,
-    script: &[u8],
-    disk: D,
-    opened: Opened,
-    clock: C,
-    out: &mut O,
-) -> Outcome<D>
+>(rt: &R, alloc: Global, job: Job, disk: D, opened: Opened, clock: C, out: &mut O) -> Outcome<D>
     requires right { IsOpenedRight opened }
     requires base { B.base ≡ base_of (folder_in opened) }
     requires damaged { B.damaged ≡ undamaged }
@@ -158,71 +149,72 @@ fn run_since<
     requires all { B.all → StoodBefore ⟦<D as Disk>⟧ disk opened }
     requires was { (moment : ℕ) → (file : ℕ) → (bytes : List ℕ) → moment < B.from → D.left disk moment file bytes → B.was moment file bytes }
     requires times { IsTrue C.tells → (n : ℕ) → C.times clock n ≡ B.times n }
-    ensures ran { RanOpened ⟦<D as Disk>⟧ ⟦<C as Clock>⟧ ⟦<O as Sink>⟧ B.base B.sound B.premise B.began (IsLeftSince ⟦<D as Disk>⟧ B.from B.all) B.times script.now disk out.old out.new result }
+    ensures ran { RanOpened ⟦<D as Disk>⟧ ⟦<C as Clock>⟧ ⟦<O as Sink>⟧ B.base B.sound B.premise B.began (IsLeftSince ⟦<D as Disk>⟧ B.from B.all) B.times job disk out.old out.new result }
     ensures begun { B.from ≤ D.calls result.disk }
     ensures past { (moment : ℕ) → (file : ℕ) → (bytes : List ℕ) → moment < B.from → D.left result.disk moment file bytes → B.was moment file bytes }
 {
     let later = Later::<D, B>::new(disk);
-    run_over::<R, Later<D, B>, C, O, B>(rt, alloc, script, later, opened, clock, out).map_disk(
+    run_over::<R, Later<D, B>, C, O, B>(rt, alloc, job, later, opened, clock, out).map_disk(
         Later::<D, B>::into_disk,
     )
 }
 
-/// Runs a script over a folder that was opened.
+/// Does a job over a folder that was opened.
 fn run_opened<R: Threads + Wait + Sync, D: CountsCalls + Send, C: Clock + Drop + Send, O: Sink>(
     rt: &R,
     alloc: Global,
-    script: &[u8],
+    job: Job,
     disk: D,
     opened: Opened,
     clock: C,
     out: &mut O,
 ) -> Outcome<D>
     requires right { IsOpenedRight opened }
-    ensures ran { RanOpened ⟦<D as Disk>⟧ ⟦<C as Clock>⟧ ⟦<O as Sink>⟧ (base_of (folder_in opened)) (IsSoundFolder (folder_in opened)) (IsTrue D.tells → IsOpenedNow ⟦<D as Disk>⟧ disk opened) (beginning_at ⟦<D as Disk>⟧ disk) (IsLeftSince ⟦<D as Disk>⟧ (D.calls disk) (StoodBefore ⟦<D as Disk>⟧ disk opened)) (C.times clock) script.now disk out.old out.new result }
+    ensures ran { RanOpened ⟦<D as Disk>⟧ ⟦<C as Clock>⟧ ⟦<O as Sink>⟧ (base_of (folder_in opened)) (IsSoundFolder (folder_in opened)) (IsTrue D.tells → IsOpenedNow ⟦<D as Disk>⟧ disk opened) (beginning_at ⟦<D as Disk>⟧ disk) (IsLeftSince ⟦<D as Disk>⟧ (D.calls disk) (StoodBefore ⟦<D as Disk>⟧ disk opened)) (C.times clock) job disk out.old out.new result }
     ensures begun { D.calls disk ≤ D.calls result.disk }
     ensures past { (moment : ℕ) → (file : ℕ) → (bytes : List ℕ) → moment < D.calls disk → D.left result.disk moment file bytes → D.left disk moment file bytes }
 {
-    run_since::<R, D, C, O, Brand>(rt, alloc, script, disk, opened, clock, out)
+    run_since::<R, D, C, O, Brand>(rt, alloc, job, disk, opened, clock, out)
 }
 
-/// Opens the folder, and runs a script on its tables.
+/// Opens the folder, and does a job on its tables.
 fn run_on<R: Threads + Wait + Sync, D: CountsCalls + Send, C: Clock + Drop + Send, O: Sink>(
     rt: &R,
     alloc: Global,
-    script: &[u8],
+    job: Job,
     mut disk: D,
     clock: C,
     out: &mut O,
 ) -> Outcome<D>
-    ensures { RanOn ⟦<D as Disk>⟧ ⟦<C as Clock>⟧ ⟦<O as Sink>⟧ script.now clock disk out.old out.new result }
+    ensures { RanOn ⟦<D as Disk>⟧ ⟦<C as Clock>⟧ ⟦<O as Sink>⟧ job clock disk out.old out.new result }
 {
     law_starts::<D>();
     match open(alloc, &mut disk) {
         Err(fault) => {
+            drop(job);
             let status = status_unopened(fault, disk.first_fault());
             unrun(alloc, disk, status)
         }
-        Ok(opened) => run_opened(rt, alloc, script, disk, opened, clock, out),
+        Ok(opened) => run_opened(rt, alloc, job, disk, opened, clock, out),
     }
 }
 
-/// Runs a script on the tables of the folder that the disk holds. Its calls are counted.
+/// Does a job on the tables of the folder that the disk holds. Its calls are counted.
 fn run_folder<R: Threads + Wait + Sync, D: Disk + Send, C: Clock + Drop + Send, O: Sink>(
     rt: &R,
     alloc: Global,
-    script: &[u8],
+    job: Job,
     disk: D,
     clock: C,
     out: &mut O,
 ) -> Outcome<D>
     requires fresh { (D.calls disk ≡ 0) × (D.faults disk ≡ 0) × (D.first_fault disk ≡ 0) }
-    ensures run { RanOn ⟦<D as Disk>⟧ ⟦<C as Clock>⟧ ⟦<O as Sink>⟧ script.now clock disk out.old out.new result }
+    ensures run { RanOn ⟦<D as Disk>⟧ ⟦<C as Clock>⟧ ⟦<O as Sink>⟧ job clock disk out.old out.new result }
     ensures known { 0 < D.faults result.disk → 0 < D.first_fault result.disk }
     ensures failed { 0 < D.first_fault result.disk → 0 < D.faults result.disk }
 {
     let counted = Metered::new(Watched::new(disk));
-    run_on(rt, alloc, script, counted, clock, out)
+    run_on(rt, alloc, job, counted, clock, out)
         .map_disk(Metered::<Watched<D>>::into_disk)
         .map_disk(Watched::<D>::into_disk)
 }
@@ -241,8 +233,65 @@ fn untouched<D: Disk>(alloc: Global, disk: D, status: Status) -> Outcome<D>
     unrun(alloc, disk, status)
 }
 
-/// Runs the program: reads a script from the input, runs its sessions on the tables in the folder that the disk holds, and writes their
-/// replies. The words are those after the program's name. The disk had no call yet.
+/// Reads a script from the input, and runs its sessions.
+fn run_input<R: Threads + Wait + Sync, D: Disk + Send, C: Clock + Drop + Send, I: Source, O: Sink>(
+    rt: &R,
+    alloc: Global,
+    words: &[String],
+    disk: D,
+    clock: C,
+    input: &mut I,
+    out: &mut O,
+) -> Outcome<D>
+    requires fresh { (D.calls disk ≡ 0) × (D.faults disk ≡ 0) × (D.first_fault disk ≡ 0) }
+    requires named { (folder : List ℕ) × (command_said (map string_bytes words.now) ≡ Some (Run folder)) }
+    ensures run { IsUnrun ⟦<D as Disk>⟧ ⟦<I as Source>⟧ (run_given disk clock input.old out.old (map string_bytes words.now)) (run_left result input.new out.new)
+        ⊎ IsRun ⟦<D as Disk>⟧ ⟦<C as Clock>⟧ ⟦<I as Source>⟧ ⟦<O as Sink>⟧ (run_given disk clock input.old out.old (map string_bytes words.now)) (run_left result input.new out.new) }
+    ensures faults_are_told { FaultsAreTold ⟦<D as Disk>⟧ disk result.disk result.status }
+{
+    match read_all(alloc, input, MOST_READ) {
+        Ok(script) => {
+            let job = Job::Script(Items::of(script));
+            run_folder(rt, alloc, job, disk, clock, out)
+        }
+        Err(InputFault::ReadFault) => untouched(alloc, disk, Status::SourceFault),
+        Err(InputFault::Memory) => untouched(alloc, disk, Status::Memory),
+    }
+}
+
+/// Verifies an index. No input is read.
+fn run_verification<
+    R: Threads + Wait + Sync,
+    D: Disk + Send,
+    C: Clock + Drop + Send,
+    I: Source,
+    O: Sink,
+>(
+    rt: &R,
+    alloc: Global,
+    words: &[String],
+    table: &str,
+    index: &str,
+    kind: VerifyKind,
+    disk: D,
+    clock: C,
+    input: &mut I,
+    out: &mut O,
+) -> Outcome<D>
+    requires fresh { (D.calls disk ≡ 0) × (D.faults disk ≡ 0) × (D.first_fault disk ≡ 0) }
+    requires named { (folder : List ℕ) × (command_said (map string_bytes words.now) ≡ Some (Verify folder table.now index.now kind)) }
+    ensures run { IsUnrun ⟦<D as Disk>⟧ ⟦<I as Source>⟧ (run_given disk clock input.old out.old (map string_bytes words.now)) (run_left result input.new out.new)
+        ⊎ IsRun ⟦<D as Disk>⟧ ⟦<C as Clock>⟧ ⟦<I as Source>⟧ ⟦<O as Sink>⟧ (run_given disk clock input.old out.old (map string_bytes words.now)) (run_left result input.new out.new) }
+    ensures faults_are_told { FaultsAreTold ⟦<D as Disk>⟧ disk result.disk result.status }
+{
+    match verification(alloc, table, index, kind) {
+        Ok(asked) => run_folder(rt, alloc, Job::Verify(asked), disk, clock, out),
+        Err(_) => untouched(alloc, disk, Status::Memory),
+    }
+}
+
+/// Runs the program: reads a script from the input and runs its sessions on the tables in the folder that the disk holds, or verifies an
+/// index of one, as the words say, and writes the replies. The words are those after the program's name. The disk had no call yet.
 pub fn phoenix<
     R: Threads + Wait + Sync,
     D: Disk + Send,
@@ -263,12 +312,20 @@ pub fn phoenix<
         ⊎ IsRun ⟦<D as Disk>⟧ ⟦<C as Clock>⟧ ⟦<I as Source>⟧ ⟦<O as Sink>⟧ (run_given disk clock input.old out.old (map string_bytes words.now)) (run_left result input.new out.new) }
     ensures faults_are_told { FaultsAreTold ⟦<D as Disk>⟧ disk result.disk result.status }
 {
-    if folder_word(words).is_none() {
-        return untouched(alloc, disk, Status::BadWords);
-    }
-    match read_all(alloc, input, MOST_READ) {
-        Ok(script) => run_folder(rt, alloc, &script, disk, clock, out),
-        Err(InputFault::ReadFault) => untouched(alloc, disk, Status::SourceFault),
-        Err(InputFault::Memory) => untouched(alloc, disk, Status::Memory),
+    match command_in(words) {
+        None => untouched(alloc, disk, Status::BadWords),
+        Some(Command::Run { folder: _folder }) => {
+            run_input(rt, alloc, words, disk, clock, input, out)
+        }
+        Some(
+            Command::Verify {
+                folder: _folder,
+                table,
+                index,
+                kind,
+            },
+        ) => run_verification(
+            rt, alloc, words, table, index, kind, disk, clock, input, out,
+        ),
     }
 }

@@ -49,7 +49,9 @@ impl Status {
 pub fn tell<R: Eprint>(rt: &R, status: Status) {
     let _ = match status {
         Status::Done | Status::Refused => Ok(()),
-        Status::BadWords => rt.eprintln("bad words\nusage: nipuhako run DIR < SCRIPT"),
+        Status::BadWords => rt.eprintln(
+            "bad words\nusage: nipuhako run DIR < SCRIPT\n       nipuhako verify DIR --table NAME --index NAME --kind NONE|ONLY|BEFORE|AFTER|BOTH",
+        ),
         Status::Device { call } => rt.eprintln(format_args!("device fault at call {call}")),
         Status::Memory => rt.eprintln("out of memory"),
         Status::Damaged { file, place } => {

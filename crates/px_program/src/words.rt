@@ -1,43 +1,43 @@
 // The words after the program's name.
-ghost use Rattle.std.specs.Prelude.{◌≡◌, ℕ, map, option_map, IfOk, IfSome};
+ghost use Rattle.std.specs.Prelude.{◌≡◌, map, option_map, IfOk, IfSome};
 ghost use Rattle.std.specs.String.{string_bytes};
 ghost use Rattle.px_outside.specs.FolderDisk.{folder_calls, folder_faults, folder_first_fault, folder_name};
-ghost use Rattle.px_program.specs.Words.{folder_in, is_folder, run_word};
+ghost use Rattle.px_program.specs.Words.{folder_in};
 
+use px_arguments::command_in;
 use px_outside::FolderDisk;
+use px_values::Name;
+use px_verified::{Verification, VerifyKind};
 use std::alloc::{AllocError, Global};
 use std::fs::File;
 use std::rt::Files;
 
-/// The folder that the words name, exactly where they are the command `run DIR`. DIR isn't empty and doesn't begin
-/// with `-`.
-pub fn folder_word(words: &[String]) -> Option<&str>
+/// The folder that the words name, exactly where they are a command.
+fn folder_word(words: &[String]) -> Option<&str>
     ensures { option_map (λ folder. folder.now) result ≡ folder_in (map string_bytes words.now) }
 {
-    match words {
-        [command, folder] => {
-            if is_run(command.as_bytes()) && names_folder(folder.as_bytes()) {
-                Some(folder.as_str())
-            } else {
-                None
-            }
-        }
-        _ => None,
+    match command_in(words) {
+        Some(command) => Some(command.folder()),
+        None => None,
     }
 }
 
-fn is_run(word: &[u8]) -> bool
-    ensures { result ≡ run_word word.now }
+/// A verification by its words. The names are taken as they are written.
+pub(crate) fn verification(
+    alloc: Global,
+    table: &str,
+    index: &str,
+    kind: VerifyKind,
+) -> Result<Verification, AllocError>
+    ensures { IfOk result (λ v. v ≡ record { table = table.now; index = index.now; kind = kind }) }
 {
-    matches!(word, b"run")
-}
-
-fn names_folder(word: &[u8]) -> bool
-    ensures { result ≡ is_folder word.now }
-{
-    match word.first() {
-        None => false,
-        Some(first) => *first != b'-',
+    let table = Name::from_str(alloc, table)?;
+    match Name::from_str(alloc, index) {
+        Ok(index) => Ok(Verification { table, index, kind }),
+        Err(fault) => {
+            drop(table);
+            Err(fault)
+        }
     }
 }
 

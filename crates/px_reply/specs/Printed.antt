@@ -13,6 +13,8 @@ use Rattle.px_calls.specs.declared.status.IndexCount.{IndexCount}
 use Rattle.px_calls.specs.declared.status.Status.{Status}
 use Rattle.px_reply.specs.declared.refusal.Refusal.{Refusal}
 use Rattle.px_reply.specs.declared.refusal.Refusal.TheVariants.{Syntax, LeftOut, Form, IndexJoin, NameExists, NoColumn, NoTable, Mismatch, OutOfRange, NullKey, NoIndex, Twice, Limit, BelowHorizon, UnderScn, ReadFault, WriteFault, Closed, Damaged, Memory}
+use Rattle.px_reply.specs.declared.reply.Checked.{Checked}
+use Rattle.px_reply.specs.declared.reply.Counts.{Counts}
 use Rattle.px_reply.specs.declared.reply.Defined.{Defined}
 use Rattle.px_reply.specs.declared.reply.Defined.TheVariants.{TableCreated, TableKept, TableDropped, TableAbsent, IndexCreated, IndexKept, IndexDropped, IndexAbsent, IndexDisabled, IndexRebuilt}
 use Rattle.px_reply.specs.declared.reply.Reply.{Reply}
@@ -98,6 +100,32 @@ two_numbers first one second other = line (first ++ decimal one ++ second ++ dec
 abbrev pub status_lines : Status → List ℕ
 status_lines status = two_numbers (codes "last ") status.last (codes " horizon ") status.horizon ++ two_numbers (codes "cells ") status.cells (codes " files ") status.files ++ index_lines status.indexes
 
+-- ---- a verification
+
+-- `matching 2`
+abbrev pub numbered : (word : List ℕ) → ℕ → List ℕ
+numbered word n = line (word ++ decimal n)
+
+-- the five lines of a report
+abbrev pub counts_lines : Counts → List ℕ
+counts_lines c = numbered (codes "matching ") c.matching ++ numbered (codes "unverified ") c.unverified ++ numbered (codes "missing ") c.missing ++ numbered (codes "extra ") c.extra ++ numbered (codes "wrong ") c.wrong
+
+abbrev pub report_lines : Option Counts → List ℕ
+report_lines None = []
+report_lines (Some c) = counts_lines c
+
+abbrev pub rebuilt_line : Bool → List ℕ
+rebuilt_line true = line (codes "rebuilt")
+rebuilt_line false = []
+
+abbrev pub refused_line : Option Refusal → List ℕ
+refused_line None = []
+refused_line (Some refusal) = line (refusal_text refusal)
+
+-- the parts that were finished, in order, and then why the next one wasn't
+abbrev pub checked_lines : Checked → List ℕ
+checked_lines x = report_lines x.before ++ rebuilt_line x.rebuilt ++ report_lines x.after ++ refused_line x.refused
+
 -- ---- replies
 
 -- a line for each row, and how many there are
@@ -118,6 +146,7 @@ printed_reply (replies.Autocommit on) = line (autocommit_text on)
 printed_reply (replies.Status status) = status_lines status
 printed_reply replies.Flushed = line (codes "flushed")
 printed_reply replies.Compacted = line (codes "compacted")
+printed_reply (replies.Verified checked) = checked_lines checked
 printed_reply (replies.Refused refusal) = line (refusal_text refusal)
 
 -- ---- transcripts

@@ -12,5 +12,5 @@ mod transcript;
 
 pub use print::{print_refusal, print_reply, print_transcripts};
 pub use refusal::{Cause, Refusal};
-pub use reply::{Defined, Reply};
+pub use reply::{Checked, Counts, Defined, Reply};
 pub use transcript::{Evidence, Item, Items, Places, Receipts, Transcript, Transcripts};

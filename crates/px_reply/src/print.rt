@@ -3,7 +3,7 @@ ghost use Rattle.std.specs.Prelude.{◌≡◌, ◌++◌, ◌∷◌, [], OnOk, co
 ghost use Rattle.px_reply.specs.Printed as spec;
 
 use crate::refusal::Refusal;
-use crate::reply::{Defined, Reply};
+use crate::reply::{Checked, Counts, Defined, Reply};
 use crate::transcript::{Item, Transcript, Transcripts};
 use itoa::Buffer;
 use px_calls::{IndexCount, Status};
@@ -202,6 +202,60 @@ fn refusal_line(refusal: &Refusal, to: &mut Line) -> Result<(), AllocError>
     to.push_str("\n")
 }
 
+/// Adds a line of a word and a number.
+fn numbered(word: &str, count: u64, to: &mut Line) -> Result<(), AllocError>
+    ensures { OnOk result (to.new ≡ to.old ++ spec.numbered word.now count) }
+{
+    with_number(word, count, to)?;
+    to.push_str("\n")
+}
+
+fn counts(counts: Counts, to: &mut Line) -> Result<(), AllocError>
+    ensures { OnOk result (to.new ≡ to.old ++ spec.counts_lines counts) }
+{
+    numbered("matching ", counts.matching, to)?;
+    numbered("unverified ", counts.unverified, to)?;
+    numbered("missing ", counts.missing, to)?;
+    numbered("extra ", counts.extra, to)?;
+    numbered("wrong ", counts.wrong, to)
+}
+
+/// Adds the lines of a report, where there is one.
+fn report(report: Option<Counts>, to: &mut Line) -> Result<(), AllocError>
+    ensures { OnOk result (to.new ≡ to.old ++ spec.report_lines report) }
+{
+    match report {
+        Some(report) => counts(report, to),
+        None => Ok(()),
+    }
+}
+
+fn rebuilt(rebuilt: bool, to: &mut Line) -> Result<(), AllocError>
+    ensures { OnOk result (to.new ≡ to.old ++ spec.rebuilt_line rebuilt) }
+{
+    if rebuilt { line("rebuilt", to) } else { Ok(()) }
+}
+
+/// Adds the line of a refusal, where there is one.
+fn refused(refusal: &Option<Refusal>, to: &mut Line) -> Result<(), AllocError>
+    ensures { OnOk result (to.new ≡ to.old ++ spec.refused_line refusal.now) }
+{
+    match refusal {
+        Some(refusal) => refusal_line(refusal, to),
+        None => Ok(()),
+    }
+}
+
+/// Adds the parts of a verification that were finished, in order, and why the next one wasn't.
+fn checked(checked: &Checked, to: &mut Line) -> Result<(), AllocError>
+    ensures { OnOk result (to.new ≡ to.old ++ spec.checked_lines checked.now) }
+{
+    report(checked.before, to)?;
+    rebuilt(checked.rebuilt, to)?;
+    report(checked.after, to)?;
+    refused(&checked.refused, to)
+}
+
 /// Adds the lines of a reply, each with its line feed. Where no memory is found the line has a part of them.
 pub fn print_reply(reply: &Reply, to: &mut Line) -> Result<(), AllocError>
     ensures { OnOk result (to.new ≡ to.old ++ spec.printed_reply reply.now) }
@@ -216,6 +270,7 @@ pub fn print_reply(reply: &Reply, to: &mut Line) -> Result<(), AllocError>
         Reply::Status(answer) => status(answer, to),
         Reply::Flushed => line("flushed", to),
         Reply::Compacted => line("compacted", to),
+        Reply::Verified(parts) => checked(parts, to),
         Reply::Refused(refusal) => refusal_line(refusal, to),
     }
 }

@@ -1,5 +1,5 @@
 -- What a session's items answer, one after another, and what a session comes to in a round.
-use Rattle.std.specs.Prelude.{ℕ, ◌≡◌, ◌≤◌, Bool, true, false, ◌||◌, if◌then◌else◌, List, [], ◌∷◌, ◌++◌, length, take, drop}
+use Rattle.std.specs.Prelude.{ℕ, ◌≡◌, ◌≤◌, Bool, true, false, ◌||◌, if◌then◌else◌, Option, None, Some, List, [], ◌∷◌, ◌++◌, length, take, drop}
 use Rattle.std.specs.List.{list_any}
 use Rattle.px_lex.specs.Script.{SeenPiece}
 use Rattle.px_script.specs.Pieces.{span_of}
@@ -10,7 +10,7 @@ use Rattle.px_calls.specs.Known.{Known, outline}
 use Rattle.px_reply.specs.declared.refusal.Refusal.{Refusal}
 use Rattle.px_reply.specs.declared.refusal.Refusal.TheVariants as refusal
 use Rattle.px_reply.specs.declared.reply.Reply.{Reply}
-use Rattle.px_reply.specs.declared.reply.Reply.TheVariants.{Refused}
+use Rattle.px_reply.specs.Refusals.{refusal_in}
 use Rattle.px_reply.specs.declared.transcript.Item.{Item}
 use Rattle.px_reply.specs.declared.transcript.Transcript.{Transcript}
 use Rattle.px_item.specs.declared.answered.After.{After}
@@ -29,10 +29,13 @@ is_closing refusal.WriteFault = true
 is_closing (refusal.Closed call) = true
 is_closing r = false
 
+abbrev pub stops : Option Refusal → Bool
+stops (Some r) = is_closing r
+stops None = false
+
 -- the session is stopped by it
 abbrev pub is_fatal : Reply → Bool
-is_fatal (Refused r) = is_closing r
-is_fatal r = false
+is_fatal r = stops (refusal_in r)
 
 -- what the seat itself began, ended, opened, closed and defined after the first n entries
 abbrev pub own_since : ℕ → ℕ → List Entry → List Act

@@ -27,9 +27,9 @@ pub enum Ending {
 pub(crate) fn is_fatal(reply: &Reply) -> bool
     ensures { result ≡ spec.is_fatal reply.now }
 {
-    match reply {
-        Reply::Refused(refusal) => refusal.cause() == Cause::Closing,
-        _ => false,
+    match reply.refusal() {
+        Some(refusal) => refusal.cause() == Cause::Closing,
+        None => false,
     }
 }
 

@@ -77,6 +77,9 @@ fn bad_words_touch_nothing(rt: HostRuntime) {
         "run run d",
         "run d --",
         "run d --lookback -1",
+        "verify d",
+        "verify d --table T --index I",
+        "run d --table T",
     ] {
         let Ok(run) = run_words(&rt, alloc, line, MemDisk::new(alloc), FIRST_SCRIPT) else {
             panic!(rt; "no memory")

@@ -1,6 +1,6 @@
 // Replies and their lines, as the description of the language has them.
 use px_calls::{IndexCount, Status};
-use px_reply::{Cause, Defined, Refusal, Reply, print_reply};
+use px_reply::{Cause, Checked, Counts, Defined, Refusal, Reply, print_reply};
 use px_tables::IndexState;
 use px_values::{CountWord, IndexId, Items, Limit, Line, Name, Row, Rows, Text, Value};
 use std::alloc::{AllocError, Global};
@@ -251,5 +251,89 @@ fn plans_and_statuses_have_their_lines(rt: HostRuntime) -> Result<(), Fail> {
         Reply::Status(status),
         "last 4 horizon 0\ncells 15 files 3\nBY_CUST ACTIVE unverified 2\nb BUILDING unverified 0\n",
     )?;
+    Ok(())
+}
+
+const BEFORE: Counts = Counts {
+    matching: 1,
+    unverified: 2,
+    missing: 3,
+    extra: 4,
+    wrong: 5,
+};
+
+const AFTER: Counts = Counts {
+    matching: 6,
+    unverified: 0,
+    missing: 0,
+    extra: 0,
+    wrong: 0,
+};
+
+#[test]
+fn verifications_have_their_lines(rt: HostRuntime) -> Result<(), Fail> {
+    let alloc = rt.alloc();
+    let parts = [
+        (None, false, None, ""),
+        (None, true, None, "rebuilt\n"),
+        (
+            Some(BEFORE),
+            false,
+            None,
+            "matching 1\nunverified 2\nmissing 3\nextra 4\nwrong 5\n",
+        ),
+        (
+            Some(BEFORE),
+            true,
+            None,
+            "matching 1\nunverified 2\nmissing 3\nextra 4\nwrong 5\nrebuilt\n",
+        ),
+        (
+            None,
+            true,
+            Some(AFTER),
+            "rebuilt\nmatching 6\nunverified 0\nmissing 0\nextra 0\nwrong 0\n",
+        ),
+        (
+            Some(BEFORE),
+            true,
+            Some(AFTER),
+            "matching 1\nunverified 2\nmissing 3\nextra 4\nwrong 5\nrebuilt\nmatching 6\nunverified 0\nmissing 0\nextra 0\nwrong 0\n",
+        ),
+    ];
+    for (before, rebuilt, after, expected) in parts {
+        expect(
+            &rt,
+            alloc,
+            Reply::Verified(Checked {
+                before,
+                rebuilt,
+                after,
+                refused: None,
+            }),
+            expected,
+        )?;
+    }
+    Ok(())
+}
+
+#[test]
+fn a_refusal_comes_after_the_parts_that_were_finished(rt: HostRuntime) -> Result<(), Fail> {
+    let alloc = rt.alloc();
+    let name = named(alloc, "BY_CUST")?;
+    let reply = Reply::Verified(Checked {
+        before: Some(BEFORE),
+        rebuilt: false,
+        after: None,
+        refused: Some(Refusal::NoIndex(name)),
+    });
+    assert!(rt; matches!(reply.refusal(), Some(Refusal::NoIndex(_))));
+    expect(
+        &rt,
+        alloc,
+        reply,
+        "matching 1\nunverified 2\nmissing 3\nextra 4\nwrong 5\nE09 no such index: BY_CUST\n",
+    )?;
+    assert!(rt; Reply::Flushed.refusal().is_none());
     Ok(())
 }

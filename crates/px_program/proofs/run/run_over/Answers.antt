@@ -1,6 +1,6 @@
 use Rattle.std.proofs.Common.{true, inl, rules, sym, subst}
 use Rattle.px_trail.specs.Legal.{IsLegal}
-use Rattle.px_program.specs.Answers.{AnswersScript}
+use Rattle.px_program.specs.Answers.{AnswersJob}
 use Rattle.px_program.specs.Run.{known_over}
 use Rattle.px_program.proofs.run.run_over.Goals as goal
 
@@ -11,14 +11,14 @@ returns-in-Ok g c =
     let s = c.serve-server in
     let r = s.result in
     let f = c.finish-disk.ensures in
-    let script = c.args.script.now in
+    let job = c.args.job in
     inl (record {
       legal = subst (λ es. IsLegal b es) (sym f.entries) s.ensures.goes.single.legal;
       stamped = f.stamped;
       seat = r.server.seat;
       sink_failed = r.sink_failed;
-      replied = subst (λ es. AnswersScript sound (known_over b r.server.seat es) 0 script r.transcripts r.sink_failed r.memory) (sym f.entries)
-          (subst (λ damaged. AnswersScript sound (record { seat = r.server.seat; base = b; damaged = damaged; alone = true; seen = r.server.entries }) 0 script r.transcripts r.sink_failed r.memory) c.requires.damaged s.ensures.answered);
+      replied = subst (λ es. AnswersJob sound (known_over b r.server.seat es) 0 job r.transcripts r.sink_failed r.memory) (sym f.entries)
+          (subst (λ damaged. AnswersJob sound (record { seat = r.server.seat; base = b; damaged = damaged; alone = true; seen = r.server.entries }) 0 job r.transcripts r.sink_failed r.memory) c.requires.damaged s.ensures.answered);
       written = s.ensures.written;
       recovers = f.recovers;
       stands = f.stands;

@@ -1,0 +1,118 @@
+-- The words after the program's name.
+use Rattle.std.specs.Prelude.{ℕ, Bool, true, false, ◌==◌, ◌||◌, not, if◌then◌else◌, List, [], ◌∷◌, length, codes, Option, None, Some, option_map, option_and_then, option_copied}
+use Rattle.std.specs.Option.{is_some}
+use Rattle.std.specs.List.{before_first, after_first}
+use Rattle.std.specs.Str.{bytes_eq}
+use Rattle.px_verifying.specs.declared.answer.VerifyKind.{VerifyKind}
+use Rattle.px_verifying.specs.declared.answer.VerifyKind.TheVariants as kind
+use Rattle.px_arguments.specs.declared.command.Command.{Command}
+use Rattle.px_arguments.specs.declared.command.Command.TheVariants as command
+use Rattle.px_arguments.specs.declared.said.Part.{Part}
+use Rattle.px_arguments.specs.declared.said.Part.TheVariants as part
+use Rattle.px_arguments.specs.declared.said.Said.{Said}
+
+-- 1. Words
+
+-- a word that may be a folder, or the value of the option before it: it isn't empty, and doesn't begin with `-`
+abbrev pub is_plain : List ℕ → Bool
+is_plain [] = false
+is_plain (first ∷ rest) = not (first == 45)
+
+abbrev pub is_equals : ℕ → Bool
+is_equals b = b == 61
+
+abbrev pub option_named : List ℕ → Option Part
+option_named word = if bytes_eq word (codes "--table") then Some part.Table else (if bytes_eq word (codes "--index") then Some part.Index else (if bytes_eq word (codes "--kind") then Some part.Kind else None))
+
+abbrev pub kind_named : List ℕ → Option VerifyKind
+kind_named word = if bytes_eq word (codes "NONE") then Some kind.None
+    else (if bytes_eq word (codes "ONLY") then Some kind.Only
+    else (if bytes_eq word (codes "BEFORE") then Some kind.Before
+    else (if bytes_eq word (codes "AFTER") then Some kind.After
+    else (if bytes_eq word (codes "BOTH") then Some kind.Both
+    else None))))
+
+-- 2. What words say, one after another
+
+-- the folder, the values of the options, and the option whose value is the next word
+pub record SeenSaid : Type 0 where
+  pub folder : Option (List ℕ)
+  pub table : Option (List ℕ)
+  pub index : Option (List ℕ)
+  pub kind : Option (List ℕ)
+  pub awaits : Option Part
+
+abbrev pub seen_said : Said → SeenSaid
+seen_said s = record { folder = option_copied s.folder; table = option_copied s.table; index = option_copied s.index; kind = option_copied s.kind; awaits = s.awaits }
+
+abbrev pub nothing : SeenSaid
+nothing = record { folder = None; table = None; index = None; kind = None; awaits = None }
+
+-- the value that was given to a part
+abbrev pub value_in : SeenSaid → Part → Option (List ℕ)
+value_in s part.Folder = s.folder
+value_in s part.Table = s.table
+value_in s part.Index = s.index
+value_in s part.Kind = s.kind
+
+abbrev pub with_value : SeenSaid → Part → List ℕ → SeenSaid
+with_value s part.Folder value = record s { folder = Some value }
+with_value s part.Table value = record s { table = Some value }
+with_value s part.Index value = record s { index = Some value }
+with_value s part.Kind value = record s { kind = Some value }
+
+-- each part is given once
+abbrev pub give : SeenSaid → Part → List ℕ → Option SeenSaid
+give s p value = if is_some (value_in s p) then None else Some (with_value s p value)
+
+-- an option's value stands behind its `=`, or is the next word
+abbrev pub give_option : SeenSaid → Option Part → (word : List ℕ) → Option SeenSaid
+give_option s None word = if is_plain word then give s part.Folder word else None
+give_option s (Some p) word = if length (before_first is_equals word) == length word then Some (record s { awaits = Some p })
+    else (if length (after_first is_equals word) == 0 then None else give s p (after_first is_equals word))
+
+-- a word that isn't the value of an option before it: an option, or the folder
+abbrev pub begin : SeenSaid → List ℕ → Option SeenSaid
+begin s word = give_option s (option_named (before_first is_equals word)) word
+
+abbrev pub take_awaited : SeenSaid → Option Part → List ℕ → Option SeenSaid
+take_awaited s None word = begin s word
+take_awaited s (Some p) word = if is_plain word then give (record s { awaits = None }) p word else None
+
+abbrev pub take_word : SeenSaid → List ℕ → Option SeenSaid
+take_word s word = take_awaited s s.awaits word
+
+-- what all words say behind those before them, and nothing where one of them has no place
+abbrev pub said_from : SeenSaid → List (List ℕ) → Option SeenSaid
+said_from s [] = if is_some s.awaits then None else Some s
+said_from s (word ∷ words) = option_and_then (λ more. said_from more words) (take_word s word)
+
+-- 3. Commands
+
+pub data SeenCommand : Type 0 where
+  Run : (folder : List ℕ) → SeenCommand
+  Verify : (folder table index : List ℕ) → VerifyKind → SeenCommand
+
+abbrev pub seen : Command → SeenCommand
+seen (command.Run folder) = Run folder.now
+seen (command.Verify folder table index kind) = Verify folder.now table.now index.now kind
+
+abbrev pub folder_of : SeenCommand → List ℕ
+folder_of (Run folder) = folder
+folder_of (Verify folder table index kind) = folder
+
+-- `run DIR`
+abbrev pub run_of : SeenSaid → Option SeenCommand
+run_of s = if is_some s.table || is_some s.index || is_some s.kind then None else option_map (λ folder. Run folder) s.folder
+
+-- `verify DIR --table NAME --index NAME --kind KIND`
+abbrev pub verify_of : SeenSaid → Option SeenCommand
+verify_of s = option_and_then (λ folder. option_and_then (λ table. option_and_then (λ index. option_map (λ k. Verify folder table index k) (option_and_then kind_named s.kind)) s.index) s.table) s.folder
+
+abbrev pub command_of : (word : List ℕ) → SeenSaid → Option SeenCommand
+command_of word s = if bytes_eq word (codes "run") then run_of s else (if bytes_eq word (codes "verify") then verify_of s else None)
+
+-- the command that the words are
+abbrev pub command_in : List (List ℕ) → Option SeenCommand
+command_in [] = None
+command_in (word ∷ words) = option_and_then (command_of word) (said_from nothing words)

@@ -1,0 +1,105 @@
+// Commands.
+ghost use Rattle.std.specs.Prelude.{◌≡◌, map, option_map};
+ghost use Rattle.std.specs.String.{string_bytes};
+ghost use Rattle.px_arguments.specs.Arguments as spec;
+
+use crate::said::{Said, said_by};
+use px_verifying::VerifyKind;
+
+/// A command of the program. Its folder and names are as they were written.
+#[derive(Clone, Copy)]
+pub enum Command<'a> {
+    /// `run DIR`.
+    Run {
+        folder: &'a str,
+    },
+    /// `verify DIR --table NAME --index NAME --kind KIND`.
+    Verify {
+        folder: &'a str,
+        table: &'a str,
+        index: &'a str,
+        kind: VerifyKind,
+    },
+}
+
+impl<'a> Command<'a> {
+    /// The folder that it is about.
+    pub fn folder(self) -> &'a str
+        ensures { result.now ≡ spec.folder_of (spec.seen self.entry) }
+    {
+        match self {
+            Command::Run { folder } => folder,
+            Command::Verify { folder, .. } => folder,
+        }
+    }
+}
+
+/// The kind of a verification by its word.
+fn kind_named(word: &str) -> Option<VerifyKind>
+    ensures { result ≡ spec.kind_named word.now }
+{
+    if word == "NONE" {
+        Some(VerifyKind::None)
+    } else if word == "ONLY" {
+        Some(VerifyKind::Only)
+    } else if word == "BEFORE" {
+        Some(VerifyKind::Before)
+    } else if word == "AFTER" {
+        Some(VerifyKind::After)
+    } else if word == "BOTH" {
+        Some(VerifyKind::Both)
+    } else {
+        None
+    }
+}
+
+fn run_of(said: Said<'_>) -> Option<Command<'_>>
+    ensures { option_map spec.seen result ≡ spec.run_of (spec.seen_said said.entry) }
+{
+    if said.table.is_some() || said.index.is_some() || said.kind.is_some() {
+        return None;
+    }
+    let folder = said.folder?;
+    Some(Command::Run { folder })
+}
+
+fn verify_of(said: Said<'_>) -> Option<Command<'_>>
+    ensures { option_map spec.seen result ≡ spec.verify_of (spec.seen_said said.entry) }
+{
+    let folder = said.folder?;
+    let table = said.table?;
+    let index = said.index?;
+    let kind = said.kind?;
+    let kind = kind_named(kind)?;
+    Some(Command::Verify {
+        folder,
+        table,
+        index,
+        kind,
+    })
+}
+
+fn command_of<'a>(word: &str, said: Said<'a>) -> Option<Command<'a>>
+    ensures { option_map spec.seen result ≡ spec.command_of word.now (spec.seen_said said.entry) }
+{
+    if word == "run" {
+        run_of(said)
+    } else if word == "verify" {
+        verify_of(said)
+    } else {
+        None
+    }
+}
+
+/// The command that the words are, and none where they are no command.
+pub fn command_in(words: &[String]) -> Option<Command<'_>>
+    ensures { option_map spec.seen result ≡ spec.command_in (map string_bytes words.now) }
+{
+    let Some((word, rest)) = words.split_first() else {
+        return None;
+    };
+    match said_by(rest) {
+        Some(said) => command_of(word.as_str(), said),
+        None => None,
+    }
+}

@@ -1,0 +1,12 @@
+//! The words after the program's name, as the command that they are.
+//!
+//! A command is its own word, the folder, and its options, as `--name value` or `--name=value`, in any order and each at most once
+//! (specs/Arguments). Words that are no command have no answer, and nothing else is said of them.
+#![tactic(auto)]
+
+mod command;
+mod laws;
+mod said;
+
+pub use command::{Command, command_in};
+pub use laws::law_spelled;

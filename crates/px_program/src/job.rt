@@ -1,0 +1,12 @@
+// What a command asks of the tables of its folder.
+use px_values::Items;
+use px_verified::Verification;
+
+/// What a command asks of the tables of its folder.
+#[derive(Drop)]
+pub enum Job {
+    /// The scripts of sessions, as they were read.
+    Script(Items<u8>),
+    /// The verification of an index.
+    Verify(Verification),
+}
