@@ -23,12 +23,11 @@ fn cell(
     stamp: u64,
     kind: CellKind,
 ) -> Result<Cell, AllocError> {
-    let key = Vec::from_slice(alloc, &row.to_be_bytes())?;
-    let value = match kind {
-        CellKind::Put => Vec::from_slice(alloc, b"value")?,
-        _ => Vec::new(alloc),
+    let value: &[u8] = match kind {
+        CellKind::Put => b"value",
+        _ => &[],
     };
-    Ok(Cell::new(key, qualifier, stamp, kind, value))
+    Cell::new(alloc, &row.to_be_bytes(), qualifier, stamp, kind, value)
 }
 
 // Of one in so many rows six cells: a row that was gone once, two versions, a NULL over a value, and a value.

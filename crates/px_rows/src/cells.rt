@@ -122,8 +122,7 @@ pub fn column_cell(
         return cell(alloc, key, qualifier, stamp, CellKind::DeleteColumn, &[]);
     }
     let bytes = stored_value(alloc, columns[place].column_type, value)?;
-    let key = Vec::from_slice(alloc, key)?;
-    Ok(Cell::new(key, qualifier, stamp, CellKind::Put, bytes))
+    Cell::new(alloc, key, qualifier, stamp, CellKind::Put, &bytes)
 }
 
 /// A cell with copies of the key and the value.
@@ -137,7 +136,5 @@ pub fn cell(
 ) -> Result<Cell, AllocError>
     ensures { IfOk result (λ cell. cell ≡ record { key = key.now; qualifier = qualifier; stamp = stamp; kind = kind; value = value.now }) }
 {
-    let key = Vec::from_slice(alloc, key)?;
-    let value = Vec::from_slice(alloc, value)?;
-    Ok(Cell::new(key, qualifier, stamp, kind, value))
+    Cell::new(alloc, key, qualifier, stamp, kind, value)
 }

@@ -20,14 +20,7 @@ pub(crate) fn cell(alloc: Global, word: &[u8], value: u8) -> Result<Cell, AllocE
     };
     let qualifier = qualifier.saturating_sub(b'0');
     let stamp = u64::from(stamp.saturating_sub(b'0'));
-    let key = Vec::from_slice(alloc, key)?;
-    match Vec::from_slice(alloc, &[value]) {
-        Ok(value) => Ok(Cell::new(key, qualifier, stamp, kind_of(letter), value)),
-        Err(fault) => {
-            drop(key);
-            Err(fault)
-        }
-    }
+    Cell::new(alloc, key, qualifier, stamp, kind_of(letter), &[value])
 }
 
 /// Puts the cell of a word behind others; its value is the word's last byte.

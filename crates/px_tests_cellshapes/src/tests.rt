@@ -77,9 +77,7 @@ fn cell(
     kind: CellKind,
     value: &[u8],
 ) -> Result<Cell, AllocError> {
-    let key = Vec::from_slice(alloc, key)?;
-    let value = Vec::from_slice(alloc, value)?;
-    Ok(Cell::new(key, qualifier, 9, kind, value))
+    Cell::new(alloc, key, qualifier, 9, kind, value)
 }
 
 fn list_of(alloc: Global, cell: Cell) -> Result<Cells, AllocError> {
@@ -123,7 +121,7 @@ fn is_row_cell(
 fn is_text_key(alloc: Global, letters: usize) -> Result<bool, AllocError> {
     let mut key = vec![in alloc; b'a'; letters]?;
     key.push(0)?;
-    let empty = Cell::new(key, 1, 9, CellKind::Put, Vec::new(alloc));
+    let empty = Cell::new(alloc, &key, 1, 9, CellKind::Put, &[])?;
     let cells = list_of(alloc, empty)?;
     match table(alloc, &[1]) {
         Ok(table) => {

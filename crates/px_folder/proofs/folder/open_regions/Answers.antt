@@ -24,6 +24,11 @@ returns-in-Err-clause-damaged g c = λ file place is tells.
       damaged = subst (λ (image : Image). region.IsFirstDamaged (get_or ns i 0) image file place) c.loop-number.invariant.seen (c.in-Err.ensures.damaged file place (search rules) tells);
     }
 
+pub returns-then-is_err-clause-quiet : goal.returns-then-is_err-clause-quiet
+returns-then-is_err-clause-quiet g c =
+    let d = g.D.Disk in
+    stays_then d.calls d.left c.args.disk.now c.loop-number.disk c.reopen.new.disk c.loop-number.invariant.quiet c.reopen.ensures.quiet
+
 pub loop-number-preserved : goal.loop-number-preserved
 loop-number-preserved g c =
     let d = g.D.Disk in
