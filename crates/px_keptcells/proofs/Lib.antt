@@ -1,3 +1,4 @@
 pub mod Handed
 pub mod Parts
+pub mod Rows
 pub mod Sorted

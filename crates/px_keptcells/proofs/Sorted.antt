@@ -114,13 +114,3 @@ bytes_sum (c ∷ cells) = length-append (cell_bytes c) (all_bytes cells) ∙ (ap
 
 pub moved_bytes : (xs ys : List CellData) → IsPermutation xs ys → length (all_bytes ys) ≡ length (all_bytes xs)
 moved_bytes xs ys p = bytes_sum ys ∙ (sum_by-IsPermutation (λ c. length (cell_bytes c)) xs ys p ∙ sym (bytes_sum xs))
-
-apart_once : (cells : List CellData) → ((c : CellData) → places c cells ≤ 1) → IsApart cells
-apart_once [] o = tt
-apart_once (x ∷ cells) o = (
-  has_all (λ d. SamePlace x d → ⊥) cells (λ d h q. (let n = counted x d cells h q in let m = o x in let w = more_places x x cells in let z : at_place x x ≡ 1 = ap (λ (o : Ordering). cond (is_eq o) 1 0) (equal_from_place x x (place_trans x d x q (place_back x d q))) in omega arith)),
-  apart_once cells (λ c. (let n = o c in let z = more_places c x cells in omega arith)),
-)
-
-pub moved_apart : (xs ys : List CellData) → IsPermutation xs ys → IsApart xs → IsApart ys
-moved_apart xs ys p a = apart_once ys (λ c. (let n = once xs a c in let m = sum_by-IsPermutation (at_place c) xs ys p in omega arith))

@@ -6,11 +6,11 @@ use Rattle.std.specs.declared.cmp.Ordering.TheVariants.{Less}
 use Rattle.std.proofs.lemmas.List.{append-nil, drop-set, take-set}
 use Rattle.px_cells.specs.CellData.{CellData}
 use Rattle.px_cells.specs.Among.{Has}
-use Rattle.px_cells.specs.Order.{Below, IsAscending, IsSettled, Reads, ReadsSame, SamePlace, key_cmp}
-use Rattle.px_cells.proofs.Among.{HasNone, all_has, ascending_join, ascending_left, ascending_right, has_all, has_append, has_from_reads, has_left, has_right, reads_append, reads_from_has, reads_left, reads_right}
+use Rattle.px_cells.specs.Order.{IsAscending, IsSettled, Reads, SamePlace, key_cmp}
+use Rattle.px_cells.proofs.Among.{HasNone, ascending_join, ascending_left, ascending_right, has_all, has_append, has_from_reads, has_left, has_right, reads_append, reads_from_has, reads_left, reads_right}
 use Rattle.px_cells.proofs.Orders.{below_from_order, by_key, equal_key}
 use Rattle.px_memstore.specs.Pieces.{AreApart, KeysApart, chained}
-use Rattle.px_memstore.specs.inner.Pieces.{ArePieces, IsFilled, cut_at}
+use Rattle.px_memstore.specs.inner.Pieces.{IsFilled, cut_at}
 
 -- ---- lists of pieces
 

@@ -7,9 +7,10 @@ use Rattle.px_cells.specs.Among.{Has}
 use Rattle.px_cells.specs.Order.{Below, IsAscending, SamePlace}
 use Rattle.px_cells.proofs.Orders.{below_trans}
 use Rattle.px_cells.proofs.Among.{all_has, ascending_join, ascending_left, ascending_right, before_is_below, has_append, has_left, has_right}
-use Rattle.px_memstore.specs.inner.Merging.{IsTurned}
+use Rattle.px_memstore.specs.inner.Merging.{ArePlaces}
 use Rattle.px_memstore.proofs.Lists.{Ended, across, drop_front, ended, get_front, take_front, take_within}
 use Rattle.px_memstore.proofs.Placed.{greater_is_above}
+use Rattle.px_memstore.proofs.Turned.{IsTurned, left_place, places_drop, places_take, places_to, right_place}
 
 module _ (old turned : List CellData) (middle half at : ℕ) (within : middle + half ≤ length old) (some : 0 < half) (first : IsAscending (take middle old)) (second : IsAscending (drop middle old))
     (apart : (m n : CellData) → Has (take middle old) m → Has (drop middle old) n → SamePlace m n → ⊥) (t : IsTurned old turned middle half at) where
@@ -144,6 +145,26 @@ module _ (old turned : List CellData) (middle half at : ℕ) (within : middle + 
   pub right_side : (right : List CellData) → right ≡ drop (at + half) turned → Side right a2 b2 (middle - at)
   right_side right e = side_of right a2 b2 (middle - at) (e ∙ (ap (drop (at + half)) is ∙ drop_front (a1 ++ b1) (a2 ++ b2) (at + half) left_len)) a2_len (ascending_right a1 a2 split) (ascending_right b1 b2 back_split)
       (λ m n h g. apart m n (in_a m (has_right a1 a2 m h)) (in_w n (has_right b1 b2 n g)))
+
+  at_within : at ≤ length (take middle old)
+  at_within = (let l = t.within in omega (arith, a_len, l))
+
+  -- the cells of each side belong into its first part
+  pub left_places : (left : List CellData) (before : ℕ) (ps : List ℕ) → left ≡ take (at + half) turned → ArePlaces (take middle old) before (drop middle old) ps → ArePlaces (take at left) before (drop at left) (take half ps)
+  left_places left before ps e a =
+      let whole : left ≡ a1 ++ b1 = e ∙ (ap (take (at + half)) is ∙ take_front (a1 ++ b1) (a2 ++ b2) (at + half) left_len) in
+      let f : take at left ≡ a1 = ap (take at) whole ∙ take_front a1 b1 at a1_len in
+      let g : drop at left ≡ b1 = ap (drop at) whole ∙ drop_front a1 b1 at a1_len in
+      subst (λ (l : List CellData). ArePlaces l before (drop at left) (take half ps)) (sym f) (subst (λ (l : List CellData). ArePlaces a1 before l (take half ps)) (sym g)
+      (places_to (take middle old) a1 before before b1 (take half ps) (λ c p h. left_place (take middle old) before at pivot c p at_within from (at_most c (has_right a1 b1 c h))) (places_take (take middle old) before (drop middle old) ps half a)))
+
+  pub right_places : (right : List CellData) (before : ℕ) (ps : List ℕ) → right ≡ drop (at + half) turned → ArePlaces (take middle old) before (drop middle old) ps → ArePlaces (take (middle - at) right) (before + at) (drop (middle - at) right) (drop half ps)
+  right_places right before ps e a =
+      let whole : right ≡ a2 ++ b2 = e ∙ (ap (drop (at + half)) is ∙ drop_front (a1 ++ b1) (a2 ++ b2) (at + half) left_len) in
+      let f : take (middle - at) right ≡ a2 = ap (take (middle - at)) whole ∙ take_front a2 b2 (middle - at) a2_len in
+      let g : drop (middle - at) right ≡ b2 = ap (drop (middle - at)) whole ∙ drop_front a2 b2 (middle - at) a2_len in
+      subst (λ (l : List CellData). ArePlaces l (before + at) (drop (middle - at) right) (drop half ps)) (sym f) (subst (λ (l : List CellData). ArePlaces a2 (before + at) l (drop half ps)) (sym g)
+      (places_to (take middle old) a2 before (before + at) b2 (drop half ps) (λ c p h. right_place (take middle old) before at pivot c p at_within below (across b1 b2 pivot c back_split pivot_in h)) (places_drop (take middle old) before (drop middle old) ps half a)))
 
   -- both sides, merged, are the whole
   module _ (left right left' right' : List CellData) (l : Side left a1 b1 at) (r : Side right a2 b2 (middle - at)) (up : IsAscending left') (up2 : IsAscending right') (same : (d : CellData) → Has left' d ↔ Has left d) (same2 : (d : CellData) → Has right' d ↔ Has right d) where

@@ -132,3 +132,9 @@ equal_so_is a b o is e f t = place_from_equal a b (sym e ∙ eq_equal o (sym f �
 
 pub equal_is_so : (a b : CellData) (o : Ordering) (is : Bool) → o ≡ cell_cmp a b → is ≡ is_eq o → SamePlace a b → is ≡ true
 equal_is_so a b o is e f s = f ∙ ap is_eq (e ∙ equal_from_place a b s)
+
+pub less_so_is : (a b : CellData) (o : Ordering) (is : Bool) → o ≡ cell_cmp a b → is ≡ is_lt o → is ≡ true → Below a b
+less_so_is a b o is e f t = sym e ∙ less_of o (sym f ∙ t)
+
+pub less_is_so : (a b : CellData) (o : Ordering) (is : Bool) → o ≡ cell_cmp a b → is ≡ is_lt o → is ≡ false → Below a b → ⊥
+less_is_so a b o is e f t s = (let z : true ≡ false = sym (f ∙ ap is_lt (e ∙ s)) ∙ t in cc)

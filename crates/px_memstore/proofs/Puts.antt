@@ -1,12 +1,11 @@
 -- The last cells of a batch are put into their piece, until none is left.
 use Rattle.std.proofs.Common.{◌≡◌, ◌≢◌, ℕ, zero, suc, ◌+◌, ◌-◌, ◌<◌, ◌≤◌, ◌⊎◌, Bool, true, false, List, [], ◌∷◌, ◌++◌, length, take, drop, get_or, refl, sym, ◌∙◌, ap, subst, inl, inr, arith, append_assoc, length-append, length-drop, length-take-le, rules, take-append-drop, vec_capacity}
 use Rattle.std.specs.Prelude.{max, nat_eq}
-use Rattle.std.specs.declared.cmp.Ordering.TheVariants.{Less, Equal, Greater}
+use Rattle.std.specs.declared.cmp.Ordering.TheVariants.{Less, Greater}
 use Rattle.std.specs.List.{AllByRecursion}
-use Rattle.std.proofs.lemmas.List.{append-nil}
 use Rattle.px_cells.specs.CellData.{CellData}
 use Rattle.px_cells.specs.Among.{Has}
-use Rattle.px_cells.specs.Order.{Below, IsAscending, IsSettled, Reads, ReadsSame, key_cmp}
+use Rattle.px_cells.specs.Order.{IsAscending, IsSettled, Reads, ReadsSame, key_cmp}
 use Rattle.px_cells.specs.Rows.{AllAbove, AllBelow, AllFrom, AllUpTo}
 use Rattle.px_cells.proofs.Among.{all_has, ascending_left, ascending_right, before_is_below, has_append, has_from_reads, has_right, reads_behind}
 use Rattle.px_cells.proofs.Orders.{equal_key}

@@ -1,6 +1,6 @@
 -- Two parts of a list are merged.
 use Rattle.std.proofs.Common.{◌≡◌, ℕ, ◌+◌, ◌-◌, ◌<◌, ◌≤◌, List, [], ◌∷◌, ◌++◌, length, take, drop, get_or, refl, sym, ◌∙◌, ap, subst, inl, inr, arith, append_assoc, length-append, length-take-le, length-drop, take-append-drop}
-use Rattle.std.proofs.lemmas.List.{append-nil}
+use Rattle.std.proofs.lemmas.List.{append-nil, take-take}
 use Rattle.std.specs.Prelude.{◌↔◌}
 use Rattle.std.specs.List.{AllByRecursion}
 use Rattle.px_cells.specs.CellData.{CellData}
@@ -8,9 +8,10 @@ use Rattle.px_cells.specs.Among.{Has}
 use Rattle.px_cells.specs.Order.{Below, IsAscending, SamePlace}
 use Rattle.px_cells.proofs.Orders.{below_trans}
 use Rattle.px_cells.proofs.Among.{all_has, ascending_join, ascending_left, ascending_right, before_is_below, has_all, has_append, has_left, has_right}
-use Rattle.px_memstore.specs.inner.Merging.{IsTurned}
+use Rattle.px_memstore.specs.inner.Merging.{ArePlaces}
 use Rattle.px_memstore.proofs.Lists.{Ended, across, drop_front, ended, get_front, has_turned, take_front, take_within}
 use Rattle.px_memstore.proofs.Placed.{greater_is_above}
+use Rattle.px_memstore.proofs.Turned.{IsTurned, left_place, places_take, places_to}
 
 -- on the way: what is left of the first part, what is left of the second, and what is merged, which is above both
 pub record IsWeaving (old : List CellData) (end rest : ℕ) (cells : List CellData) : Type 0 where
@@ -151,6 +152,29 @@ module _ (old cells new : List CellData) (end rest at : ℕ) (w : IsWeaving old 
     apart = λ m n h g. w.apart m n (in_front m (has_left f1 f2 m h)) (in_back n (has_left cut.front (cut.last ∷ []) n g));
     same = same_cells;
   }
+
+  -- what is left of the second part belongs into what is left of the first
+  pub weaving_places : (before : ℕ) (ps : List ℕ) → ArePlaces (take end cells) before (take rest (drop end cells)) (take rest ps) → ArePlaces (take at new) before (take (rest - 1) (drop at new)) (take (rest - 1) ps)
+  weaving_places before ps places =
+      let few = places_take w.front before w.back (take rest ps) (rest - 1) (subst (λ (l : List CellData). ArePlaces w.front before l (take rest ps)) second (subst (λ (l : List CellData). ArePlaces l before (take rest (drop end cells)) (take rest ps)) taken places)) in
+      let same = subst (λ (l : List CellData). ArePlaces w.front before l (take (rest - 1) ps)) shorter (subst (λ (l : List ℕ). ArePlaces w.front before (take (rest - 1) w.back) l) (take-take (rest - 1) rest ps (omega (arith, some))) few) in
+      let moved = places_to w.front f1 before before cut.front (take (rest - 1) ps) (λ c p h. left_place w.front before at cut.last c p within from (inr (before_is_below cut.front [] cut.last c back_split h))) same in
+      subst (λ (l : List CellData). ArePlaces l before (take (rest - 1) (drop at new)) (take (rest - 1) ps)) (sym now_front) (subst (λ (l : List CellData). ArePlaces f1 before l (take (rest - 1) ps)) (sym now_back) moved)
+    where
+      f1_len : length f1 ≡ at
+      f1_len = length-take-le at w.front within
+
+      cut_len : length cut.front ≡ rest - 1
+      cut_len = (let b = w.back_len in let c = ap (λ (xs : List CellData). length xs) cut.is in let e = length-append cut.front (cut.last ∷ []) in omega (arith, b, c, e))
+
+      shorter : take (rest - 1) w.back ≡ cut.front
+      shorter = ap (take (rest - 1)) cut.is ∙ take_front cut.front (cut.last ∷ []) (rest - 1) cut_len
+
+      now_front : take at new ≡ f1
+      now_front = ap (take at) new_is ∙ take_front f1 (cut.front ++ (cut.last ∷ (f2 ++ w.merged))) at f1_len
+
+      now_back : take (rest - 1) (drop at new) ≡ cut.front
+      now_back = ap (λ (l : List CellData). take (rest - 1) (drop at l)) new_is ∙ (ap (take (rest - 1)) (drop_front f1 (cut.front ++ (cut.last ∷ (f2 ++ w.merged))) at f1_len) ∙ take_front cut.front (cut.last ∷ (f2 ++ w.merged)) (rest - 1) cut_len)
 
 -- what is left of the first part is sorted
 pub weaving_front : (old cells : List CellData) (end rest : ℕ) → IsWeaving old end rest cells → IsAscending (take end cells)

@@ -1,3 +1,4 @@
 pub mod Merging
 pub mod Pieces
 pub mod Store
+pub mod Waiting

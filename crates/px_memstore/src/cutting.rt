@@ -38,13 +38,13 @@ fn best_cut(cells: &[Cell], key: &[u8]) -> usize
     requires { IsAscending cells.now }
 {
     let count = cells.len();
-    let eighth = count / 8;
+    let few = count / 64;
     let place = place_of(cells, key);
-    if place < eighth {
-        return eighth;
+    if place < few {
+        return few;
     }
-    if count - eighth < place {
-        return count - eighth;
+    if count - few < place {
+        return count - few;
     }
     count / 2
 }

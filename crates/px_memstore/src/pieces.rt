@@ -7,7 +7,7 @@ ghost use Rattle.px_cells.specs.Rows.{IsBeforeEnd, IsRow};
 ghost use Rattle.px_memstore.specs.Pieces.{AreFirstRows, chained};
 ghost use Rattle.px_memstore.specs.inner.Pieces.{ArePieces, HasMore, IsPlace, begins_by as begins, lists};
 
-use px_cells::{Cell, Cells, row_in, rows_in};
+use px_cells::{Cell, Cells, key_order, row_in, rows_in};
 use std::alloc::{AllocError, Global};
 
 /// A sorted list of cells in pieces, each of whole rows.
@@ -36,7 +36,7 @@ pub(crate) fn begins_by(piece: &Vec<Cell>, key: &[u8]) -> bool
 {
     match piece.first() {
         None => true,
-        Some(cell) => cell.key().cmp(key).is_le(),
+        Some(cell) => key_order(cell.key(), key).is_le(),
     }
 }
 

@@ -15,7 +15,7 @@ pub(crate) fn stands_at(cells: &[Cell], at: usize, cell: &Cell) -> bool
 }
 
 /// The place of the first cell of a sorted list that isn't below a cell, found by halving.
-pub(crate) fn place_for(cells: &[Cell], cell: &Cell) -> usize
+fn place_for(cells: &[Cell], cell: &Cell) -> usize
     requires { IsAscending cells.now }
     ensures within { result ≤ length cells.now }
     ensures below { AllByRecursion (λ m. Below m cell.now) (take result cells.now) }
@@ -26,4 +26,24 @@ pub(crate) fn place_for(cells: &[Cell], cell: &Cell) -> usize
             ensures { result ≡ is_lt (cell_cmp other.now cell.entry.now) }
         { cell_order(other, cell).is_lt() },
     )
+}
+
+/// The same, where the place is mostly near the end: steps that double go down from there, and then what is between two of them is halved.
+pub(crate) fn place_near(cells: &[Cell], cell: &Cell) -> usize
+    requires { IsAscending cells.now }
+    ensures within { result ≤ length cells.now }
+    ensures below { AllByRecursion (λ m. Below m cell.now) (take result cells.now) }
+    ensures from { AllByRecursion (λ m. Below m cell.now → ⊥) (drop result cells.now) }
+{
+    let mut step: usize = 1;
+    let mut high = cells.len();
+    while step <= high {
+        let low = high - step;
+        if cell_order(&cells[low], cell).is_lt() {
+            return low + 1 + place_for(&cells[low + 1..high], cell);
+        }
+        high = low;
+        step = step.saturating_mul(2);
+    }
+    place_for(&cells[..high], cell)
 }

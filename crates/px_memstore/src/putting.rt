@@ -3,10 +3,12 @@ ghost use Rattle.std.specs.Prelude.{◌≡◌, ◌≤◌, ◌<◌, ◌+◌, ◌-
 ghost use Rattle.px_cells.specs.Order.{IsAscending, IsSettled};
 ghost use Rattle.px_memstore.specs.Pieces.{chained};
 ghost use Rattle.px_memstore.specs.inner.Pieces.{ArePieces, HasBegin, IsLast, IsPut, IsSame, lists};
+ghost use Rattle.px_memstore.specs.inner.Waiting.{IsIdle, waiting_room};
 
 use crate::cutting::{PIECE, is_tight};
 use crate::merging::merge;
 use crate::pieces::Pieces;
+use crate::waiting::Waiting;
 use px_cells::{Cell, place_of};
 
 /// The last cells of a batch, which belong into one piece.
@@ -57,18 +59,21 @@ impl Pieces {
         PIECE.saturating_sub(self.first.len())
     }
 
-    /// Cuts the piece of the last cells of a batch where they have no room.
+    /// The last cells of a batch, once the piece where they belong was cut, if they have no room there.
     #[tactic(auto, using(crate::proofs::Puts::same_itself, crate::proofs::Puts::same_trans))]
-    fn make_room(&mut self, spares: &mut Vec<Vec<Cell>>, batch: &[Cell])
+    fn room_for(&mut self, spares: &mut Vec<Vec<Cell>>, batch: &[Cell]) -> Last
         requires pieces { ArePieces (lists self.old) }
         requires sorted { IsAscending batch.now }
         requires some { 0 < length batch.now }
-        ensures { IsSame self.old self.new }
+        ensures same { IsSame self.old self.new }
+        ensures last { IsLast (lists self.new) batch.now result.at result.from }
     {
         let last = last_of(self, batch);
         if self.free(last.at) < batch.len() - last.from {
             self.cut_for(spares, last.at, batch[batch.len() - 1].key());
+            return last_of(self, batch);
         }
+        last
     }
 
     /// Moves the cells of all others into the first.
@@ -86,17 +91,17 @@ impl Pieces {
     }
 
     /// Merges the cells of a batch from a place on into the first piece.
-    fn merge_first(&mut self, waiting: &mut Vec<Cell>, batch: &mut Vec<Cell>, from: usize)
+    fn merge_first(&mut self, waiting: &mut Waiting, batch: &mut Vec<Cell>, from: usize)
         requires pieces { ArePieces (lists self.old) }
         requires count { self.old.count ≡ length (chained (lists self.old)) }
         requires room { self.old.count + vec_len batch.old ≤ vec_capacity self.old.first }
         requires sorted { IsAscending batch.old.items }
         requires last { IsLast (lists self.old) batch.old.items 0 from }
-        requires none { waiting.old.items ≡ [] }
-        requires aside { vec_len batch.old ≤ vec_capacity waiting.old }
+        requires none { IsIdle waiting.old }
+        requires aside { vec_len batch.old ≤ waiting_room waiting.old }
         ensures put { IsPut self.old batch.old.items self.new batch.new.items }
-        ensures none { waiting.new.items ≡ [] }
-        ensures aside { vec_capacity waiting.old ≤ vec_capacity waiting.new }
+        ensures none { IsIdle waiting.new }
+        ensures aside { waiting_room waiting.old ≤ waiting_room waiting.new }
     {
         let free = self.free(0);
         let from = if free == 0 {
@@ -113,7 +118,7 @@ impl Pieces {
     fn merge_other(
         &mut self,
         at: usize,
-        waiting: &mut Vec<Cell>,
+        waiting: &mut Waiting,
         batch: &mut Vec<Cell>,
         from: usize,
     ) -> bool
@@ -123,12 +128,12 @@ impl Pieces {
         requires room { self.old.count + vec_len batch.old ≤ vec_capacity self.old.first }
         requires sorted { IsAscending batch.old.items }
         requires last { IsLast (lists self.old) batch.old.items (at + 1) from }
-        requires none { waiting.old.items ≡ [] }
-        requires aside { vec_len batch.old ≤ vec_capacity waiting.old }
+        requires none { IsIdle waiting.old }
+        requires aside { vec_len batch.old ≤ waiting_room waiting.old }
         ensures put { result ≡ true → IsPut self.old batch.old.items self.new batch.new.items }
         ensures full { result ≡ false → (self.new ≡ self.old) × (batch.new ≡ batch.old) }
-        ensures none { waiting.new.items ≡ [] }
-        ensures aside { vec_capacity waiting.old ≤ vec_capacity waiting.new }
+        ensures none { IsIdle waiting.new }
+        ensures aside { waiting_room waiting.old ≤ waiting_room waiting.new }
     {
         let free = self.others[at].capacity() - self.others[at].len();
         if free == 0 {
@@ -146,19 +151,18 @@ impl Pieces {
     }
 
     /// Merges the last cells of a batch into the piece where they belong. Where it is full, the cells of all pieces come into one.
-    fn put_last(&mut self, waiting: &mut Vec<Cell>, batch: &mut Vec<Cell>)
+    fn put_last(&mut self, last: Last, waiting: &mut Waiting, batch: &mut Vec<Cell>)
         requires pieces { ArePieces (lists self.old) }
         requires count { self.old.count ≡ length (chained (lists self.old)) }
         requires room { self.old.count + vec_len batch.old ≤ vec_capacity self.old.first }
         requires sorted { IsAscending batch.old.items }
-        requires some { 0 < vec_len batch.old }
-        requires none { waiting.old.items ≡ [] }
-        requires aside { vec_len batch.old ≤ vec_capacity waiting.old }
+        requires last { IsLast (lists self.old) batch.old.items last.at last.from }
+        requires none { IsIdle waiting.old }
+        requires aside { vec_len batch.old ≤ waiting_room waiting.old }
         ensures put { IsPut self.old batch.old.items self.new batch.new.items }
-        ensures none { waiting.new.items ≡ [] }
-        ensures aside { vec_capacity waiting.old ≤ vec_capacity waiting.new }
+        ensures none { IsIdle waiting.new }
+        ensures aside { waiting_room waiting.old ≤ waiting_room waiting.new }
     {
-        let last = last_of(self, batch);
         if last.at == 0 {
             self.merge_first(waiting, batch, last.from);
             return;
@@ -174,27 +178,27 @@ impl Pieces {
     pub(crate) fn put(
         &mut self,
         spares: &mut Vec<Vec<Cell>>,
-        waiting: &mut Vec<Cell>,
+        waiting: &mut Waiting,
         batch: Vec<Cell>,
     )
         requires pieces { ArePieces (lists self.old) }
         requires count { self.old.count ≡ length (chained (lists self.old)) }
         requires room { self.old.count + vec_len batch ≤ vec_capacity self.old.first }
         requires sorted { IsAscending batch.items }
-        requires none { waiting.old.items ≡ [] }
-        requires aside { vec_len batch ≤ vec_capacity waiting.old }
+        requires none { IsIdle waiting.old }
+        requires aside { vec_len batch ≤ waiting_room waiting.old }
         ensures merged { IsSettled (batch.items ++ chained (lists self.old)) (chained (lists self.new)) }
         ensures pieces { ArePieces (lists self.new) }
         ensures count { self.new.count ≡ length (chained (lists self.new)) }
         ensures len { self.new.count ≤ self.old.count + vec_len batch }
         ensures capacity { vec_capacity self.old.first ≤ vec_capacity self.new.first }
-        ensures none { waiting.new.items ≡ [] }
-        ensures aside { vec_capacity waiting.old ≤ vec_capacity waiting.new }
+        ensures none { IsIdle waiting.new }
+        ensures aside { waiting_room waiting.old ≤ waiting_room waiting.new }
     {
         let mut batch = batch;
         while !batch.is_empty() {
-            self.make_room(spares, &batch);
-            self.put_last(waiting, &mut batch);
+            let last = self.room_for(spares, &batch);
+            self.put_last(last, waiting, &mut batch);
         }
     }
 }

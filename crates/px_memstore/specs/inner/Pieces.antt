@@ -1,9 +1,7 @@
 -- The pieces of a list, and what is done with them.
-use Rattle.std.specs.Prelude.{◌≡◌, ◌≢◌, ◌≤◌, ◌<◌, ◌+◌, ◌++◌, ℕ, Bool, true, Option, Some, List, [], ◌∷◌, length, take, drop, get_or, map, vec_len, vec_capacity}
-use Rattle.std.specs.declared.cmp.Ordering.TheVariants.{Less, Greater}
+use Rattle.std.specs.Prelude.{◌≡◌, ◌≤◌, ◌<◌, ◌+◌, ◌++◌, ℕ, Bool, true, Option, Some, List, [], ◌∷◌, length, take, drop, get_or, map, vec_capacity}
 use Rattle.std.specs.List.{AllByRecursion}
 use Rattle.std.specs.Ordering.{is_le}
-use Rattle.px_cells.specs.Among.{Has}
 use Rattle.px_cells.specs.CellData.{CellData}
 use Rattle.px_cells.specs.Order.{IsSettled, key_cmp}
 use Rattle.px_cells.specs.Rows.{AllAbove, AllBelow, AllFrom}

@@ -1,4 +1,4 @@
-use Rattle.std.proofs.Common.{◌≡◌, ◌<◌, [], ℕ, List, arith, get_or, length, refl, subst, sym}
+use Rattle.std.proofs.Common.{ℕ, List, arith, refl, subst}
 use Rattle.px_cells.specs.CellData.{CellData}
 use Rattle.px_memstore.specs.inner.Pieces.{HasBegin, IsPlace, lists}
 use Rattle.px_memstore.proofs.Puts.{last_first, last_other}

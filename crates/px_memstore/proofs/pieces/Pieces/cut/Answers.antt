@@ -1,4 +1,4 @@
-use Rattle.std.proofs.Common.{◌<◌, List, Vec, Global, ap, arith, drop, length, subst, sym, take}
+use Rattle.std.proofs.Common.{List, Vec, Global, ap, arith, drop, length, subst, sym, take}
 use Rattle.std.proofs.lemmas.List.{length-map}
 use Rattle.px_cells.specs.CellData.{CellData}
 use Rattle.px_cells.specs.Order.{IsAscending}

@@ -1,4 +1,4 @@
-use Rattle.std.proofs.Common.{◌≡◌, ◌≤◌, ◌<◌, ◌+◌, ◌-◌, List, arith, length, drop, refl, subst, sym, take}
+use Rattle.std.proofs.Common.{◌≤◌, ◌<◌, ◌+◌, ◌-◌, List, arith, length, refl, subst, sym}
 use Rattle.px_cells.specs.CellData.{CellData}
 use Rattle.px_memstore.specs.inner.Pieces.{IsPut, lists}
 use Rattle.px_memstore.specs.declared.pieces.Pieces.{Pieces}

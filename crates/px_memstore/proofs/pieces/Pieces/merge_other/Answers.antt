@@ -1,4 +1,4 @@
-use Rattle.std.proofs.Common.{◌≡◌, ◌≤◌, ◌<◌, ◌+◌, ◌-◌, ◌++◌, [], List, Vec, Global, ap, arith, get_or, length, drop, refl, subst, sym, take}
+use Rattle.std.proofs.Common.{◌+◌, ◌-◌, ◌++◌, List, Vec, Global, ap, arith, length, drop, subst, sym}
 use Rattle.std.specs.Vec.{with_item}
 use Rattle.px_cells.specs.CellData.{CellData}
 use Rattle.px_cells.specs.Order.{IsAscending, IsSettled}

@@ -10,13 +10,13 @@ use Rattle.px_memstore.proofs.pieces.Pieces.put.Goals as goal
 pub loop-self-preserved : goal.loop-self-preserved
 loop-self-preserved c =
     let i = c.loop-self.invariant in
-    let mid = c.make_room.new.self in
+    let mid = c.room_for-last.new.self in
     let new = c.put_last.new.self in
     let batch = c.loop-self.batch.items in
     let left = c.put_last.new.batch.items in
     let b0 = c.args.batch.items in
     let c0 = chained (lists c.args.self.now) in
-    let s = c.make_room.ensures in
+    let s = c.room_for-last.ensures.same in
     let p = c.put_last.ensures.put in
     let same = subst (λ (l : List CellData). ReadsSame (batch ++ l) (b0 ++ c0)) (sym s.cells) i.same in
     let n = left_len mid new batch left p in

@@ -1,7 +1,8 @@
-use Rattle.std.proofs.Common.{◌≡◌, ◌+◌, ◌≤◌, ◌++◌, [], length, vec_capacity, vec_len}
+use Rattle.std.proofs.Common.{◌≡◌, ◌+◌, ◌≤◌, ◌++◌, length, vec_capacity, vec_len}
 use Rattle.px_cells.specs.Order.{IsAscending, ReadsSame}
 use Rattle.px_memstore.specs.Pieces.{chained}
 use Rattle.px_memstore.specs.inner.Pieces.{ArePieces, lists}
+use Rattle.px_memstore.specs.inner.Waiting.{IsIdle, waiting_room}
 use Rattle.px_memstore.proofs.pieces.Pieces.put.Given as goal
 
 abbrev pub invariant-loop-self : goal.invariant-loop-self
@@ -13,8 +14,8 @@ invariant-loop-self l = record {
   len : l.self.count + vec_len l.batch ≤ l.fn.self.count + vec_len l.fn.batch;
   short : vec_len l.batch ≤ vec_len l.fn.batch;
   capacity : vec_capacity l.fn.self.first ≤ vec_capacity l.self.first;
-  none : l.waiting.items ≡ [];
-  aside : vec_capacity l.fn.waiting ≤ vec_capacity l.waiting;
+  none : IsIdle l.waiting;
+  aside : waiting_room l.fn.waiting ≤ waiting_room l.waiting;
 }
 
 abbrev pub decreases-loop-self : goal.decreases-loop-self

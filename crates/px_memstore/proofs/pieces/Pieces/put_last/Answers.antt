@@ -1,5 +1,4 @@
-use Rattle.std.proofs.Common.{◌∷◌, [], List, Vec, Global, map, refl, subst, sym}
-use Rattle.px_cells.specs.CellData.{CellData}
+use Rattle.std.proofs.Common.{◌∷◌, Vec, Global, map, refl, subst, sym}
 use Rattle.px_cells.specs.declared.cell.Cell.{Cell}
 use Rattle.px_memstore.specs.inner.Pieces.{ArePieces, lists}
 use Rattle.px_memstore.specs.declared.pieces.Pieces.{Pieces}

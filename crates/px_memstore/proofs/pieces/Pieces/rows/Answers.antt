@@ -1,4 +1,4 @@
-use Rattle.std.proofs.Common.{◌≡◌, ◌<◌, ◌+◌, [], List, Vec, Global, ap, arith, length, refl, rules, subst, sym}
+use Rattle.std.proofs.Common.{◌<◌, ◌+◌, List, Vec, Global, arith, length, subst, sym}
 use Rattle.std.specs.Option.{option_copied}
 use Rattle.std.proofs.lemmas.List.{length-map}
 use Rattle.px_cells.specs.CellData.{CellData}

@@ -1,4 +1,4 @@
-use Rattle.std.proofs.Common.{◌∷◌, ◌∙◌, List, Vec, Global, ap, drop, map, take}
+use Rattle.std.proofs.Common.{◌∷◌, ◌∙◌, List, Vec, Global, ap, map, take}
 use Rattle.px_cells.specs.CellData.{CellData}
 use Rattle.px_cells.specs.declared.cell.Cell.{Cell}
 use Rattle.px_memstore.proofs.pieces.Pieces.split_first.Goals as goal

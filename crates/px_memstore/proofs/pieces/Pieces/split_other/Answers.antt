@@ -1,7 +1,6 @@
-use Rattle.std.proofs.Common.{◌∷◌, ◌∙◌, List, Vec, Global, ap, arith, length, map}
-use Rattle.px_cells.specs.CellData.{CellData}
+use Rattle.std.proofs.Common.{◌∷◌, ◌∙◌, List, Vec, Global, ap, map}
 use Rattle.px_cells.specs.declared.cell.Cell.{Cell}
-use Rattle.px_memstore.proofs.Finding.{cut_lists, next_lists}
+use Rattle.px_memstore.proofs.Finding.{cut_lists}
 use Rattle.px_memstore.proofs.pieces.Pieces.split_other.Goals as goal
 
 pub returns-clause-cut : goal.returns-clause-cut

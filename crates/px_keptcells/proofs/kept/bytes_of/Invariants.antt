@@ -1,7 +1,0 @@
-use Rattle.std.proofs.Common.{◌≡◌, length, min, take}
-use Rattle.px_cellbytes.specs.Spelling.{all_bytes}
-use Rattle.px_keptcells.specs.Kept.{laid}
-use Rattle.px_keptcells.proofs.kept.bytes_of.Given as goal
-
-abbrev pub invariant-loop-part : goal.invariant-loop-part
-invariant-loop-part l = l.bytes ≡ min (length (all_bytes (laid (take l.part-index l.parts)))) 18446744073709551615
