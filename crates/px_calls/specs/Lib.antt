@@ -4,3 +4,4 @@ pub mod Causes
 pub mod Looks
 pub mod Calls
 pub mod Counts
+pub mod Doubtful

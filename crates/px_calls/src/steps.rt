@@ -1,11 +1,13 @@
 // The steps.
-ghost use Rattle.std.specs.Prelude.{◌≡◌, ◌≢◌, ℕ, length, IfOk, IfErr, IsSome, true, [], ◌<◌, ◌≤◌, ◌+◌, ◌*◌};
+ghost use Rattle.std.specs.Prelude.{◌≡◌, ◌≢◌, ℕ, Bool, length, IfOk, IfErr, IsSome, true, [], ◌<◌, ◌≤◌, ◌+◌, ◌*◌};
 ghost use Rattle.px_trail.specs.Batches.{Marking, Writing, Verifying, is_distinct, rows_of};
 ghost use Rattle.px_trail.specs.declared.entry.Act.TheVariants.{Ended, Released};
 ghost use Rattle.px_values.specs.declared.name.IndexId.{IndexId as IndexNumber};
 ghost use Rattle.px_calls.specs.declared.query.By.TheVariants.{Index as ByIndex, Table as ByTable};
+ghost use Rattle.px_calls.specs.declared.query.Point.{Point as Points};
 ghost use Rattle.px_calls.specs.declared.ticket.Ticket.{Ticket as Tickets};
 ghost use Rattle.px_calls.specs.Counts.{HasRisenBy};
+ghost use Rattle.px_calls.specs.Doubtful.{AreDoubtful, AreOthersDoubtful, AreStillDoubtful, IndexVersion, IsForRoom, version_of};
 ghost use Rattle.px_calls.specs.Known.{Known, Sees, Adds};
 ghost use Rattle.px_calls.specs.Requires.{AreFitting, CanAbandon, CanConsult, CanDefine, CanEnd, CanLook, IsOpen, IsScn, MayBase, TicketIn};
 ghost use Rattle.px_calls.specs.Causes.{Refuses, base_cause, begin_cause, define_cause, find_cause, fix_cause, indexes_of, open_cause, order_cause, read_cause, rows_cause, status_cause, upkeep_cause, write_cause};
@@ -34,6 +36,9 @@ pub trait Steps {
 
     /// How many rows of tables were looked at, where nobody else acts.
     ghost looked: { Self → ℕ };
+
+    /// Whether a version of an index row is in doubt at a point, where nobody else acts.
+    ghost doubtful: { Self → Points → IndexVersion → Bool };
 
     /// That what was opened is sound. What is told of rows and index rows rests on it; what is told of the trail doesn't.
     ghost sound: { Type 0 };
@@ -126,6 +131,7 @@ pub trait Steps {
         ensures ok { IfOk result (DidLook sound (known self.old) (known self.new) p.now path.now after.now) }
         ensures unlooked { (known self.old).alone ≡ true → (i : IndexNumber) → path.now.by ≡ ByIndex i → looked self.new ≡ looked self.old }
         ensures looked_each { IfOk result (λ c. (known self.old).alone ≡ true → path.now.by ≡ ByTable → HasRisenBy (length c.found) (looked self.old) (looked self.new)) }
+        ensures doubts { IfOk result (λ c. (known self.old).alone ≡ true → AreDoubtful (doubtful self.new) p.now c.found) }
         ensures refused { IfErr result (Refuses read_cause (known self.old) (known self.new)) };
 
     /// The row of a doubt at the point, where its key is the doubt's. Leaves a verdict in the doubt.
@@ -136,14 +142,19 @@ pub trait Steps {
         ensures ok { IfOk result (DidConsult sound (known self.old) (known self.new) p.now d.old d.new) }
         ensures same { IfErr result (λ f. d.new ≡ d.old) }
         ensures looked_once { (known self.old).alone ≡ true → looked self.new ≤ looked self.old + 1 }
+        ensures still { (known self.old).alone ≡ true → AreStillDoubtful (known self.old) (doubtful self.old) (doubtful self.new) }
         ensures refused { IfErr result (Refuses read_cause (known self.old) (known self.new)) };
 
-    /// Repairs the index row of a doubt, by a verdict of its own. It may come after the point is closed.
+    /// Repairs the index row of a doubt, by a verdict of its own. It may come after the point is closed. Where the version is still in doubt at an open
+    /// point, it isn't gone.
     fn fix(&mut self, d: &Doubt) -> Result<Fixing, StepFault>
         requires { IsSome d.now.verdict }
         ensures one_call { one_call self.old self.new }
         ensures ok { IfOk result (DidFix (known self.old) (known self.new) d.now) }
         ensures looked_once { (known self.old).alone ≡ true → looked self.new ≤ looked self.old + 1 }
+        ensures there { IfOk result (λ fixing. (known self.old).alone ≡ true → sound → (p : Points) → IsOpen (known self.old) p → doubtful self.old p (version_of d.now) ≡ true → fixing ≢ Fixing.Gone) }
+        ensures others { IfOk result (λ _. (known self.old).alone ≡ true → sound → AreOthersDoubtful (known self.old) d.now.key (doubtful self.old) (doubtful self.new)) }
+        ensures still { IfErr result (λ f. (known self.old).alone ≡ true → IsForRoom f → AreStillDoubtful (known self.old) (doubtful self.old) (doubtful self.new)) }
         ensures refused { IfErr result (Refuses fix_cause (known self.old) (known self.new)) };
 
     /// Gives rows of the point their base versions in an index that was born there: verified ones, at its birth.
@@ -176,6 +187,7 @@ pub trait Steps {
         ensures one_call { one_call self.old self.new }
         ensures ok { IfOk result (DidWork (known self.old) (known self.new)) }
         ensures unlooked { (known self.old).alone ≡ true → looked self.new ≡ looked self.old }
+        ensures still { IfOk result (λ _. (known self.old).alone ≡ true → AreStillDoubtful (known self.old) (doubtful self.old) (doubtful self.new)) }
         ensures done { IfOk result (λ work. IsIdle work → done self.new) }
         ensures refused { IfErr result (Refuses upkeep_cause (known self.old) (known self.new)) };
 

@@ -1,5 +1,5 @@
 -- A query's steps are bounded by the keys that its looks find.
-use Rattle.std.proofs.Common.{ℕ, suc, ◌≡◌, ◌≤◌, ◌<◌, ◌+◌, ◌*◌, ◌⊎◌, Option, None, Some, Result, Vec, List, [], ◌∷◌, length, refl, subst, ap, sym, inl, inr, arith}
+use Rattle.std.proofs.Common.{ℕ, suc, ◌≡◌, ◌≤◌, ◌<◌, ◌+◌, ◌*◌, Option, None, Some, Result, Vec, List, [], ◌∷◌, length, refl, subst, ap, sym, inr, arith}
 use Rattle.std.specs.declared.alloc.Global.{Global}
 use Rattle.px_calls.specs.declared.query.Chunk.{Chunk}
 use Rattle.px_calls.specs.declared.query.Doubt.{Doubt}
@@ -17,7 +17,7 @@ use Rattle.px_scan.specs.declared.machine.QueryState.{QueryState}
 use Rattle.px_scan.specs.declared.machine.QueryState.TheVariants as state
 use Rattle.px_scan.specs.declared.machine.Rest.{Rest}
 use Rattle.px_scan.specs.declared.machine.Scan.{Scan}
-use Rattle.px_scan.specs.Bounds.{AreSpending, HasFound, HaveFound, Spends, behind, counted, counted_in, left_of, through}
+use Rattle.px_scan.specs.Bounds.{AreSpending, HasFound, HaveFound, Spends, counted, counted_in, left_of, through}
 use Rattle.px_scan.specs.Chains.{Step, state_after}
 use Rattle.px_scan.specs.Turns.{IsNew}
 

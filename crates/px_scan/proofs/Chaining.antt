@@ -38,7 +38,7 @@ fixes d o (state.Closing x (Ok v)) is h u = inr h.1
 fixes d o (state.Closing x (Err f)) is h u = absurd u
 fixes d o state.Over is h u = inr h.1
 
-works : (d : Doubt) (s : QueryState) → AfterWork d s → IsUnfaulted s → IsToFix s d
+pub works : (d : Doubt) (s : QueryState) → AfterWork d s → IsUnfaulted s → IsToFix s d
 works d (state.Opening rows) h u = absurd h
 works d (state.Looking x a) h u = absurd h
 works d (state.Consulting x r e) h u = absurd h

@@ -4,3 +4,4 @@ pub mod Going
 pub mod Chaining
 pub mod Bounding
 pub mod Looking
+pub mod Mending

@@ -1,5 +1,5 @@
 -- The rows that a query by an index looks at are bounded by the doubts that it finds.
-use Rattle.std.proofs.Common.{ℕ, ◌≡◌, ◌≤◌, ◌<◌, ◌+◌, ◌*◌, ◌⊎◌, Option, None, Some, Result, Vec, List, [], ◌∷◌, refl, ◌∙◌, ap, inl, inr, arith}
+use Rattle.std.proofs.Common.{ℕ, ◌≡◌, ◌≤◌, ◌<◌, ◌+◌, ◌*◌, Option, Result, Vec, List, [], ◌∷◌, refl, ◌∙◌, ap, inr, arith}
 use Rattle.std.specs.declared.alloc.Global.{Global}
 use Rattle.px_calls.specs.declared.query.Chunk.{Chunk}
 use Rattle.px_calls.specs.declared.query.Doubt.{Doubt}
@@ -16,7 +16,7 @@ use Rattle.px_scan.specs.declared.machine.QueryState.TheVariants as state
 use Rattle.px_scan.specs.declared.machine.Rest.{Rest}
 use Rattle.px_scan.specs.declared.machine.Scan.{Scan}
 use Rattle.px_scan.specs.Chains.{Step, state_after}
-use Rattle.px_scan.specs.Looking.{AreLooking, HasFoundDoubts, HaveFoundDoubts, Looks, asked_by, doubts_in, looked_after, refused_in, refused_to, to_look}
+use Rattle.px_scan.specs.Looking.{AreLooking, HasFoundDoubts, HaveFoundDoubts, Looks, asked_by, doubts_in, looked_after, refused_in, to_look}
 use Rattle.px_scan.specs.Turns.{IsNew}
 
 -- 1. Doubts that are left of a chunk

@@ -1,11 +1,12 @@
 -- A query's turns, one after another.
-use Rattle.std.specs.Prelude.{ℕ, Option, Err, List, [], ◌∷◌}
+use Rattle.std.specs.Prelude.{ℕ, Bool, Option, Err, List, [], ◌∷◌}
 use Rattle.px_trail.specs.Answers.{IsAmong}
 use Rattle.px_calls.specs.declared.query.Doubt.{Doubt}
 use Rattle.px_calls.specs.declared.query.Fixing.{Fixing}
 use Rattle.px_calls.specs.declared.query.Held.{Held}
 use Rattle.px_calls.specs.declared.query.Point.{Point}
 use Rattle.px_calls.specs.Calls.{DidConsult, DidFix}
+use Rattle.px_calls.specs.Doubtful.{IndexVersion}
 use Rattle.px_calls.specs.Known.{Known, Passes}
 use Rattle.px_gather.specs.Query.{Query}
 use Rattle.px_scan.specs.declared.answer.QueryTurn.{QueryTurn}
@@ -13,13 +14,15 @@ use Rattle.px_scan.specs.declared.machine.QueryState.{QueryState}
 use Rattle.px_scan.specs.declared.machine.QueryState.TheVariants as state
 use Rattle.px_scan.specs.Turns.{QueryTurns}
 
--- a step: what the seat knew before and after its call, the state then, what it came to, and how many rows of tables were looked at by then
+-- a step: what the seat knew before and after its call, the state then, what it came to, how many rows of tables were looked at by then, and which
+-- versions of index rows were then in doubt
 pub record Step : Type 0 where
   pub before : Known
   pub after : Known
   pub state : QueryState
   pub turn : QueryTurn
   pub looked : ℕ
+  pub doubtful : Point → IndexVersion → Bool
 
 -- steps from a state on, with others' entries before each
 abbrev pub AreSteps : Type 0 → Query → Option ℕ → QueryState → Known → List Step → Type 0

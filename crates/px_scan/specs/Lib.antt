@@ -3,3 +3,4 @@ pub mod Turns
 pub mod Chains
 pub mod Bounds
 pub mod Looking
+pub mod Fixes

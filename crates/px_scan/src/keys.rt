@@ -1,12 +1,15 @@
 // Going through the keys of a chunk.
-ghost use Rattle.std.specs.Prelude.{◌≡◌, ◌++◌, ℕ, Option, List, IfErr, OnOk, length};
+ghost use Rattle.std.specs.Prelude.{◌≡◌, ◌++◌, ℕ, Bool, Option, List, IfErr, OnOk, length};
 ghost use Rattle.px_tables.specs.declared.found.Found.{Found as FoundTable};
 ghost use Rattle.px_trail.specs.declared.entry.Entry.{Entry};
 ghost use Rattle.px_calls.specs.declared.query.By.{By as Bys};
+ghost use Rattle.px_calls.specs.declared.query.Point.{Point as Points};
+ghost use Rattle.px_calls.specs.Doubtful.{IndexVersion};
 ghost use Rattle.px_calls.specs.Looks.{AreDoubtsOf};
 ghost use Rattle.px_gather.specs.Gathered.{Frame, Pending, is_full as is_full_of, kept, kept_held};
 ghost use Rattle.px_gather.specs.Query.{IsPathFor};
 ghost use Rattle.px_scan.specs.Bounds.{AreFewer};
+ghost use Rattle.px_scan.specs.Fixes.{AreRisingDoubts, StopsDoubtful};
 ghost use Rattle.px_scan.specs.Looking.{HasFewerDoubts};
 ghost use Rattle.px_scan.specs.Turns.{AreStillDoubts, StopsAt, given_of};
 
@@ -82,6 +85,7 @@ pub(crate) fn keep_sure<Q: Asks>(
     ensures doubts { (f : FoundTable) → (w : Bys) → AreDoubtsOf f w keys.old.items → AreStillDoubts f w keys.new.items result }
     ensures fewer { AreFewer keys.old.items keys.new.items result }
     ensures fewer_doubts { HasFewerDoubts keys.old.items keys.new.items result }
+    ensures doubtful { (f : Points → IndexVersion → Bool) → (p : Points) → (low : Option (List ℕ)) → AreRisingDoubts f p low keys.old.items → StopsDoubtful f p keys.new.items result }
 {
     'keys: while let Some(key) = keys.pop_front() {
         if is_full(query, rows.as_slice()) {

@@ -1,6 +1,8 @@
 //! How a query under way goes on, whoever makes its steps.
-ghost use Rattle.std.specs.Prelude.{◌≡◌, ◌≤◌, ◌+◌, ◌*◌, ℕ, List, Option, Result, length};
+ghost use Rattle.std.specs.Prelude.{◌≡◌, ◌≤◌, ◌+◌, ◌*◌, ℕ, Bool, List, Option, Result, length};
 ghost use Rattle.px_calls.specs.declared.query.Doubt.{Doubt as Doubts};
+ghost use Rattle.px_calls.specs.declared.query.Point.{Point as Points};
+ghost use Rattle.px_calls.specs.Doubtful.{IndexVersion};
 ghost use Rattle.px_calls.specs.Known.{Known, Passes};
 ghost use Rattle.px_calls.specs.Requires.{IsScn};
 ghost use Rattle.px_gather.specs.Query.{Query};
@@ -13,6 +15,7 @@ ghost use Rattle.px_scan.specs.declared.machine.Rest.{Rest as Rests};
 ghost use Rattle.px_scan.specs.declared.machine.Scan.{Scan as Scans};
 ghost use Rattle.px_scan.specs.Bounds.{AreSpending, HaveFound, counted_in};
 ghost use Rattle.px_scan.specs.Looking.{AreLooking, HaveFoundDoubts, looked_after, refused_in};
+ghost use Rattle.px_scan.specs.Fixes.{AreFixed, AreKeepingDoubts};
 ghost use Rattle.px_scan.specs.Chains.{AreSteps, AreUnfaulted, IsSettled, Step, state_after};
 ghost use Rattle.px_scan.specs.Turns.{Fits, IsBound, IsNew, QueryTurns, RanQuery, SoFar};
 
@@ -42,4 +45,9 @@ pub fn law_bound<S: Steps>()
 /// is refused until upkeep is idle.
 pub fn law_looks<S: Steps>()
     ensures { (m : ℕ) → (s : States) → (os : List Step) → IsNew s → AreLooking S.sound m s os → (d : ℕ) × HaveFoundDoubts S.sound s os d × (looked_after m os ≤ m + 2 * d + refused_in s os) }
+{}
+
+/// Where nobody else acts and a query comes to its end without a fault, each doubt that it consulted has an entry of its repair, unless it is to be left.
+pub fn law_fixed<S: Steps>()
+    ensures { (q : Query) → (scn : Option ℕ) → (f : Points → IndexVersion → Bool) → (s : States) → (k : Known) → (os : List Step) → IsNew s → AreSteps S.sound q scn s k os → AreKeepingDoubts k f s os → AreUnfaulted os → state_after s os ≡ query_state.Over → AreFixed s os }
 {}

@@ -1,9 +1,12 @@
 // A query as a machine: each step makes one call.
-ghost use Rattle.std.specs.Prelude.{◌≡◌, ◌≤◌, ◌++◌, ◌∷◌, ◌*◌, [], ℕ, true, Option, List};
+ghost use Rattle.std.specs.Prelude.{◌≡◌, ◌≤◌, ◌++◌, ◌∷◌, ◌*◌, [], ℕ, Bool, true, Option, List};
 ghost use Rattle.px_calls.specs.Calls.{AreRising};
+ghost use Rattle.px_calls.specs.Doubtful.{IndexVersion};
 ghost use Rattle.px_calls.specs.Known.{Known};
+ghost use Rattle.px_calls.specs.declared.query.Point.{Point as Points};
 ghost use Rattle.px_scan.specs.Bounds.{Spends, left_of, through};
 ghost use Rattle.px_scan.specs.Looking.{IsByIndex, Looks, doubts_in, to_look};
+ghost use Rattle.px_scan.specs.Fixes.{AreRisingDoubts, HasDoubts, KeepsDoubts};
 ghost use Rattle.px_scan.specs.Faults.{IsScanFault, fault_of as fault_is, is_busy as is_busy_of};
 ghost use Rattle.px_scan.specs.Turns.{Fits, GoesOn, IsGoing, IsNext, IsReading, IsScanning, QueryTurns};
 
@@ -94,6 +97,7 @@ fn go_on<Q: Asks, S: Steps>(query: &Q, mut x: Scan, rest: Rest) -> QueryState
     ensures next { IsNext result }
     ensures left { left_of result ≤ through rest.keys.items rest.next }
     ensures to_look { to_look result ≤ 2 * doubts_in rest.keys.items }
+    ensures doubts { (f : Points → IndexVersion → Bool) → (k : Known) → (low : Option (List ℕ)) → AreRisingDoubts f x.point low rest.keys.items → HasDoubts f k result }
 {
     let Rest { mut keys, next, at } = rest;
     match keep_sure(query, &mut keys, at, &mut x.rows) {
@@ -125,6 +129,7 @@ fn follow<Q: Asks, S: Steps>(
     ensures goes { (scn : Option ℕ) → (k : Known) → IsReading k (Q.asked query.now) scn point → GoesOn S.sound k (Q.asked query.now) scn point result }
     ensures left { left_of result ≤ 2 }
     ensures to_look { to_look result ≡ 0 }
+    ensures doubts { (f : Points → IndexVersion → Bool) → (k : Known) → HasDoubts f k result }
 {
     match query.path(alloc, &point) {
         Ok(path) => QueryState::Looking(Scan { point, path, rows }, None),
@@ -145,6 +150,7 @@ fn open<Q: Asks, S: Steps>(
     ensures turns { QueryTurns S.sound (Q.asked query.now) scn (QueryState.Opening rows) (S.known s.old) result.0 (S.known s.new) result.1 }
     ensures spends { Spends S.sound (QueryState.Opening rows) (S.known s.old) result.0 (S.known s.new) result.1 }
     ensures looks { (S.known s.old).alone ≡ true → Looks S.sound (QueryState.Opening rows) (S.known s.old) (S.looked s.old) result.0 (S.known s.new) (S.looked s.new) }
+    ensures doubts { (S.known s.old).alone ≡ true → S.sound → KeepsDoubts (QueryState.Opening rows) (S.known s.old) (S.doubtful s.old) result.0 (S.known s.new) (S.doubtful s.new) }
     ensures one_call { S.one_call s.old s.new }
 {
     match s.open_point(query.table(), scn) {
@@ -195,6 +201,7 @@ fn look<Q: Asks, S: Steps>(
     ensures turns { QueryTurns S.sound (Q.asked query.now) scn (QueryState.Looking x after) (S.known s.old) result.0 (S.known s.new) result.1 }
     ensures spends { Spends S.sound (QueryState.Looking x after) (S.known s.old) result.0 (S.known s.new) result.1 }
     ensures looks { (S.known s.old).alone ≡ true → IsByIndex (QueryState.Looking x after) → Looks S.sound (QueryState.Looking x after) (S.known s.old) (S.looked s.old) result.0 (S.known s.new) (S.looked s.new) }
+    ensures doubts { (S.known s.old).alone ≡ true → S.sound → KeepsDoubts (QueryState.Looking x after) (S.known s.old) (S.doubtful s.old) result.0 (S.known s.new) (S.doubtful s.new) }
     ensures one_call { S.one_call s.old s.new }
 {
     match s.look(&x.point, &x.path, &after) {
@@ -216,6 +223,7 @@ fn consult<Q: Asks, S: Steps>(
     ensures turns { QueryTurns S.sound (Q.asked query.now) scn (QueryState.Consulting x rest doubt) (S.known s.old) result.0 (S.known s.new) result.1 }
     ensures spends { Spends S.sound (QueryState.Consulting x rest doubt) (S.known s.old) result.0 (S.known s.new) result.1 }
     ensures looks { (S.known s.old).alone ≡ true → Looks S.sound (QueryState.Consulting x rest doubt) (S.known s.old) (S.looked s.old) result.0 (S.known s.new) (S.looked s.new) }
+    ensures doubts { (S.known s.old).alone ≡ true → S.sound → KeepsDoubts (QueryState.Consulting x rest doubt) (S.known s.old) (S.doubtful s.old) result.0 (S.known s.new) (S.doubtful s.new) }
     ensures one_call { S.one_call s.old s.new }
 {
     match s.consult(&x.point, &mut doubt) {
@@ -240,6 +248,7 @@ fn fix<Q: Asks, S: Steps>(
     ensures turns { QueryTurns S.sound (Q.asked query.now) scn (QueryState.Fixing x rest doubt) (S.known s.old) result.0 (S.known s.new) result.1 }
     ensures spends { Spends S.sound (QueryState.Fixing x rest doubt) (S.known s.old) result.0 (S.known s.new) result.1 }
     ensures looks { (S.known s.old).alone ≡ true → Looks S.sound (QueryState.Fixing x rest doubt) (S.known s.old) (S.looked s.old) result.0 (S.known s.new) (S.looked s.new) }
+    ensures doubts { (S.known s.old).alone ≡ true → S.sound → KeepsDoubts (QueryState.Fixing x rest doubt) (S.known s.old) (S.doubtful s.old) result.0 (S.known s.new) (S.doubtful s.new) }
     ensures one_call { S.one_call s.old s.new }
 {
     match s.fix(&doubt) {
@@ -266,6 +275,7 @@ fn settle<Q: Asks, S: Steps>(
     ensures turns { QueryTurns S.sound (Q.asked query.now) scn (QueryState.Settling x rest doubt) (S.known s.old) result.0 (S.known s.new) result.1 }
     ensures spends { Spends S.sound (QueryState.Settling x rest doubt) (S.known s.old) result.0 (S.known s.new) result.1 }
     ensures looks { (S.known s.old).alone ≡ true → Looks S.sound (QueryState.Settling x rest doubt) (S.known s.old) (S.looked s.old) result.0 (S.known s.new) (S.looked s.new) }
+    ensures doubts { (S.known s.old).alone ≡ true → S.sound → KeepsDoubts (QueryState.Settling x rest doubt) (S.known s.old) (S.doubtful s.old) result.0 (S.known s.new) (S.doubtful s.new) }
     ensures one_call { S.one_call s.old s.new }
 {
     match s.upkeep() {
@@ -287,6 +297,7 @@ fn close<Q: Asks, S: Steps>(
     ensures turns { QueryTurns S.sound (Q.asked query.now) scn (QueryState.Closing point end) (S.known s.old) result.0 (S.known s.new) result.1 }
     ensures spends { Spends S.sound (QueryState.Closing point end) (S.known s.old) result.0 (S.known s.new) result.1 }
     ensures looks { (S.known s.old).alone ≡ true → Looks S.sound (QueryState.Closing point end) (S.known s.old) (S.looked s.old) result.0 (S.known s.new) (S.looked s.new) }
+    ensures doubts { (S.known s.old).alone ≡ true → S.sound → KeepsDoubts (QueryState.Closing point end) (S.known s.old) (S.doubtful s.old) result.0 (S.known s.new) (S.doubtful s.new) }
     ensures one_call { S.one_call s.old s.new }
 {
     let first = point.found.at;
@@ -314,6 +325,7 @@ pub(crate) fn advance<Q: Asks, S: Steps>(
     ensures turns { QueryTurns S.sound (Q.asked query.now) scn state (S.known s.old) result.0 (S.known s.new) result.1 }
     ensures spends { Spends S.sound state (S.known s.old) result.0 (S.known s.new) result.1 }
     ensures looks { (S.known s.old).alone ≡ true → IsByIndex state → Looks S.sound state (S.known s.old) (S.looked s.old) result.0 (S.known s.new) (S.looked s.new) }
+    ensures doubts { (S.known s.old).alone ≡ true → S.sound → KeepsDoubts state (S.known s.old) (S.doubtful s.old) result.0 (S.known s.new) (S.doubtful s.new) }
     ensures one_call { S.one_call s.old s.new }
 {
     match state {

@@ -2,6 +2,7 @@
 ghost use Rattle.std.specs.Prelude.{◌≡◌, true};
 ghost use Rattle.px_calls.specs.Requires.{IsScn};
 ghost use Rattle.px_scan.specs.Bounds.{Spends};
+ghost use Rattle.px_scan.specs.Fixes.{KeepsDoubts};
 ghost use Rattle.px_scan.specs.Looking.{IsByIndex, Looks};
 ghost use Rattle.px_scan.specs.Turns.{Fits, IsBound, IsGoing, IsNew, QueryTurns, RanQuery};
 
@@ -45,6 +46,7 @@ impl<Q: Asks> QueryRun<Q> {
         ensures turns { QueryTurns S.sound (Q.asked self.old.query) self.old.scn self.old.state (S.known s.old) self.new.state (S.known s.new) result }
         ensures spends { Spends S.sound self.old.state (S.known s.old) self.new.state (S.known s.new) result }
         ensures looks { (S.known s.old).alone ≡ true → IsByIndex self.old.state → Looks S.sound self.old.state (S.known s.old) (S.looked s.old) self.new.state (S.known s.new) (S.looked s.new) }
+        ensures doubts { (S.known s.old).alone ≡ true → S.sound → KeepsDoubts self.old.state (S.known s.old) (S.doubtful s.old) self.new.state (S.known s.new) (S.doubtful s.new) }
         ensures one_call { S.one_call s.old s.new }
     {
         let state = mem::replace(&mut self.state, QueryState::Over);

@@ -102,6 +102,7 @@ impl<'a, R: Wait, S: Single, N: LockNamed, B: Based> SeatAt<'a, R, S, N, B> {
 }
 
 impl<'a, R: Wait, S: Single, N: LockNamed, B: Based> Steps for SeatAt<'a, R, S, N, B> {
+    ghost use Rattle.std.specs.Prelude.{false};
     ghost use Rattle.px_calls.specs.Counts.{count_after};
 
     ghost known = { λ s. mine s.id B.base B.damaged (list_seen s.seat) };
@@ -112,6 +113,8 @@ impl<'a, R: Wait, S: Single, N: LockNamed, B: Based> Steps for SeatAt<'a, R, S, 
     ghost left = { λ _ _. 0 };
 
     ghost looked = { λ _. 0 };
+
+    ghost doubtful = { λ _ _ _. false };
 
     ghost sound = { S.sound };
 

@@ -102,3 +102,5 @@ pub mod Wrote
 pub mod CallsLeft
 pub mod Answered
 pub mod RowsLooked
+pub mod Doubted
+pub mod Sighted

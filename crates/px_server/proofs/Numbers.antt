@@ -102,7 +102,7 @@ has_place t (x ∷ xs) q y is own = elim (cases_eq x.id.0 q) [
 none_once : (xs : List IndexRegion) (j : ℕ) (x y : IndexRegion) → AllByRecursion (λ z. x.index.id.0 ≢ z.index.id.0) xs → slice_get xs j ≡ Some y → x.index.id.0 ≢ y.index.id.0
 none_once xs j x y all at = all_at (λ z. x.index.id.0 ≢ z.index.id.0) xs j y at all
 
-once_at : (xs : List IndexRegion) (i j : ℕ) (x y : IndexRegion) → AreOnceIn xs → slice_get xs i ≡ Some x → slice_get xs j ≡ Some y → x.index.id.0 ≡ y.index.id.0 → i ≡ j
+pub once_at : (xs : List IndexRegion) (i j : ℕ) (x y : IndexRegion) → AreOnceIn xs → slice_get xs i ≡ Some x → slice_get xs j ≡ Some y → x.index.id.0 ≡ y.index.id.0 → i ≡ j
 once_at [] i j x y once a c same = absurd cc
 once_at (z ∷ xs) zero zero x y once a c same = refl
 once_at (z ∷ xs) zero (suc j) x y once a c same = absurd (none_once xs j z y once.0 c (ap (λ (w : IndexRegion). w.index.id.0) (some_same z x a) ∙ same))

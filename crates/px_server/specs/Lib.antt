@@ -15,3 +15,4 @@ pub mod Started
 pub mod Upkeep
 pub mod inner
 pub mod CallsLeft
+pub mod Sights

@@ -1,9 +1,12 @@
 // Repairs.
-ghost use Rattle.std.specs.Prelude.{◌≡◌, ◌≤◌, ◌+◌, ◌↔◌, IfErr, IfOk, IsSome, IsTrue};
+ghost use Rattle.std.specs.Prelude.{◌≡◌, ◌≢◌, ◌≤◌, ◌+◌, ◌↔◌, true, IfErr, IfOk, IsSome, IsTrue};
 ghost use Rattle.px_calls.specs.Calls.{DidFix};
 ghost use Rattle.px_calls.specs.Causes.{Refuses, fix_cause};
+ghost use Rattle.px_calls.specs.Doubtful.{IndexVersion, IsForRoom, version_of};
+ghost use Rattle.px_calls.specs.declared.query.Point.{Point as Points};
 ghost use Rattle.px_server.specs.Looks.{rows_looked};
 ghost use Rattle.px_server.specs.Shown.{known_by};
+ghost use Rattle.px_server.specs.Sights.{have_doubt};
 ghost use Rattle.px_server.specs.Repairs.{Answers, Mends, RefusesFix, Stays};
 
 use crate::shutting::shut;
@@ -55,12 +58,16 @@ fn answered(fixed: Result<Fixing, RepairFault>, region: u32) -> Result<Fixing, S
 }
 
 impl<D: CountsCalls, C: Clock, B: Based + Founded> Server<D, C, B> {
-    /// Repairs the index row of a doubt, by a verdict of its own. It may come after the point is closed.
+    /// Repairs the index row of a doubt, by a verdict of its own. It may come after the point is closed. A version that is in doubt at a point isn't gone,
+    /// and what is in doubt at another key stays so.
     pub fn fix(&mut self, d: &Doubt) -> Result<Fixing, StepFault>
         requires { IsSome d.now.verdict }
         ensures ok { IfOk result (DidFix (known_by B.base B.damaged self.old) (known_by B.base B.damaged self.new) d.now) }
         ensures fixes { IfOk result (Mends self.old.groups self.new.groups d.now) }
         ensures counted { rows_looked self.new.groups ≤ rows_looked self.old.groups + 1 }
+        ensures there { IfOk result (λ fixing. (p : Points) → have_doubt self.old.groups p (version_of d.now) ≡ true → fixing ≢ Fixing.Gone) }
+        ensures others { IfOk result (λ _. B.sound → (p : Points) → (v : IndexVersion) → v.key ≢ d.now.key → have_doubt self.new.groups p v ≡ have_doubt self.old.groups p v) }
+        ensures still { IfErr result (λ f. IsForRoom f → (p : Points) → (v : IndexVersion) → have_doubt self.new.groups p v ≡ have_doubt self.old.groups p v) }
         ensures refused { IfErr result (Refuses fix_cause (known_by B.base B.damaged self.old) (known_by B.base B.damaged self.new)) }
         ensures caused { IfErr result (RefusesFix self.old.groups d.now) }
     {

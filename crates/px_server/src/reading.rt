@@ -3,12 +3,15 @@ ghost use Rattle.std.specs.Prelude.{◌≡◌, ◌≤◌, ◌+◌, ◌↔◌, If
 ghost use Rattle.px_calls.specs.Calls.{DidConsult, DidLook};
 ghost use Rattle.px_calls.specs.Causes.{Refuses, read_cause};
 ghost use Rattle.px_calls.specs.Counts.{HasRisenBy};
+ghost use Rattle.px_calls.specs.Doubtful.{AreDoubtful, IndexVersion};
 ghost use Rattle.px_calls.specs.Requires.{CanConsult, CanLook, IsOpen};
 ghost use Rattle.px_values.specs.declared.row.Value.{Value as ColumnValue};
 ghost use Rattle.px_calls.specs.declared.query.By.TheVariants.{Index as ByIndex, Table as ByTable};
+ghost use Rattle.px_calls.specs.declared.query.Point.{Point as Points};
 ghost use Rattle.px_values.specs.declared.name.IndexId.{IndexId as Number};
 ghost use Rattle.px_server.specs.Looks.{AreOfIndexAt, HasCountedOf, rows_in, rows_looked};
 ghost use Rattle.px_server.specs.Shown.{known_by};
+ghost use Rattle.px_server.specs.Sights.{have_doubt};
 
 use crate::{Founded, Server};
 use px_calls::{Chunk, Doubt, Held, Path, Point, StepFault, Verdict};
@@ -60,6 +63,7 @@ impl<D: CountsCalls, C: Clock, B: Based + Founded> Server<D, C, B> {
         ensures no_row { (i : Number) → path.now.by ≡ ByIndex i → map rows_in self.new.groups ≡ map rows_in self.old.groups }
         ensures risen { IfOk result (λ c. path.now.by ≡ ByTable → HasRisenBy (length c.found) (rows_looked self.old.groups) (rows_looked self.new.groups)) }
         ensures counted { IfOk result (λ c. HasCountedOf self.old.groups self.new.groups p.now path.now.by (length c.found)) }
+        ensures doubts { IfOk result (λ c. AreDoubtful (have_doubt self.new.groups) p.now c.found) }
         ensures refused { IfErr result (Refuses read_cause (known_by B.base B.damaged self.old) (known_by B.base B.damaged self.new)) }
     {
         if let Some(call) = self.closed {
@@ -82,6 +86,7 @@ impl<D: CountsCalls, C: Clock, B: Based + Founded> Server<D, C, B> {
         ensures ok { IfOk result (DidConsult B.sound (known_by B.base B.damaged self.old) (known_by B.base B.damaged self.new) p.now d.old d.new) }
         ensures same { IfErr result (λ f. d.new ≡ d.old) }
         ensures counted { rows_looked self.new.groups ≤ rows_looked self.old.groups + 1 }
+        ensures doubts { (q : Points) → (v : IndexVersion) → have_doubt self.new.groups q v ≡ have_doubt self.old.groups q v }
         ensures refused { IfErr result (Refuses read_cause (known_by B.base B.damaged self.old) (known_by B.base B.damaged self.new)) }
     {
         if let Some(call) = self.closed {

@@ -4,12 +4,15 @@ ghost use Rattle.px_trail.specs.Batches.{is_distinct, rows_of};
 ghost use Rattle.px_calls.specs.Calls.{DidBegin, DidConsult, DidFix, DidLook};
 ghost use Rattle.px_calls.specs.Causes.{Refuses, begin_cause, fix_cause, indexes_of, read_cause};
 ghost use Rattle.px_calls.specs.Counts.{HasRisenBy};
+ghost use Rattle.px_calls.specs.Doubtful.{AreDoubtful, AreOthersDoubtful, AreStillDoubtful, IsForRoom, version_of};
 ghost use Rattle.px_calls.specs.Requires.{AreFitting, CanConsult, CanLook, IsOpen};
 ghost use Rattle.px_calls.specs.declared.query.By.TheVariants.{Index as ByIndex, Table as ByTable};
+ghost use Rattle.px_calls.specs.declared.query.Point.{Point as Points};
 ghost use Rattle.px_values.specs.declared.name.IndexId.{IndexId as Number};
 ghost use Rattle.px_server.specs.Beginning.{RefusesBatch};
 ghost use Rattle.px_server.specs.Looks.{AreOfIndexAt, HasCountedOf, rows_in, rows_looked};
 ghost use Rattle.px_server.specs.Repairs.{Mends, RefusesFix};
+ghost use Rattle.px_server.specs.Sights.{have_doubt};
 
 use crate::{Founded, Server};
 use px_calls::{
@@ -24,6 +27,7 @@ use px_values::{Changes, IndexId, Key, Name, TableId};
 impl<D: CountsCalls, C: Clock, B: Based + Founded> Steps for Server<D, C, B> {
     ghost use Rattle.px_server.specs.CallsLeft.{calls_left};
     ghost use Rattle.px_server.specs.Shown.{known_by};
+    ghost use Rattle.px_server.specs.Sights.{have_doubt};
     ghost use Rattle.px_server.specs.Upkeep.{AreOrdered, HaveFlushed};
 
     ghost known = { λ s. known_by B.base B.damaged s };
@@ -34,6 +38,8 @@ impl<D: CountsCalls, C: Clock, B: Based + Founded> Steps for Server<D, C, B> {
     ghost left = { λ s. calls_left s.groups };
 
     ghost looked = { λ s. rows_looked s.groups };
+
+    ghost doubtful = { λ s. have_doubt s.groups };
 
     ghost sound = { B.sound };
 
@@ -99,6 +105,7 @@ impl<D: CountsCalls, C: Clock, B: Based + Founded> Steps for Server<D, C, B> {
         requires path { CanLook p.now path.now }
         ensures unlooked { (known_by B.base B.damaged self.old).alone ≡ true → (i : Number) → path.now.by ≡ ByIndex i → rows_looked self.new.groups ≡ rows_looked self.old.groups }
         ensures looked_each { IfOk result (λ c. (known_by B.base B.damaged self.old).alone ≡ true → path.now.by ≡ ByTable → HasRisenBy (length c.found) (rows_looked self.old.groups) (rows_looked self.new.groups)) }
+        ensures doubts { IfOk result (λ c. (known_by B.base B.damaged self.old).alone ≡ true → AreDoubtful (have_doubt self.new.groups) p.now c.found) }
         ensures ok { IfOk result (DidLook B.sound (known_by B.base B.damaged self.old) (known_by B.base B.damaged self.new) p.now path.now after.now) }
         ensures versions { IfOk result (λ c. (i : Number) → path.now.by ≡ ByIndex i → AreOfIndexAt self.old.groups p.now i c.found) }
         ensures no_row { (i : Number) → path.now.by ≡ ByIndex i → map rows_in self.new.groups ≡ map rows_in self.old.groups }
@@ -112,6 +119,7 @@ impl<D: CountsCalls, C: Clock, B: Based + Founded> Steps for Server<D, C, B> {
         requires open { IsOpen (known_by B.base B.damaged self.old) p.now }
         requires doubt { CanConsult p.now d.old }
         ensures looked_once { (known_by B.base B.damaged self.old).alone ≡ true → rows_looked self.new.groups ≤ rows_looked self.old.groups + 1 }
+        ensures still { (known_by B.base B.damaged self.old).alone ≡ true → AreStillDoubtful (known_by B.base B.damaged self.old) (have_doubt self.old.groups) (have_doubt self.new.groups) }
         ensures ok { IfOk result (DidConsult B.sound (known_by B.base B.damaged self.old) (known_by B.base B.damaged self.new) p.now d.old d.new) }
         ensures same { IfErr result (λ f. d.new ≡ d.old) }
         ensures counted { rows_looked self.new.groups ≤ rows_looked self.old.groups + 1 }
@@ -123,6 +131,9 @@ impl<D: CountsCalls, C: Clock, B: Based + Founded> Steps for Server<D, C, B> {
     fn fix(&mut self, d: &Doubt) -> Result<Fixing, StepFault>
         requires { IsSome d.now.verdict }
         ensures looked_once { (known_by B.base B.damaged self.old).alone ≡ true → rows_looked self.new.groups ≤ rows_looked self.old.groups + 1 }
+        ensures there { IfOk result (λ fixing. (known_by B.base B.damaged self.old).alone ≡ true → B.sound → (p : Points) → IsOpen (known_by B.base B.damaged self.old) p → have_doubt self.old.groups p (version_of d.now) ≡ true → fixing ≢ Fixing.Gone) }
+        ensures others { IfOk result (λ _. (known_by B.base B.damaged self.old).alone ≡ true → B.sound → AreOthersDoubtful (known_by B.base B.damaged self.old) d.now.key (have_doubt self.old.groups) (have_doubt self.new.groups)) }
+        ensures still { IfErr result (λ f. (known_by B.base B.damaged self.old).alone ≡ true → IsForRoom f → AreStillDoubtful (known_by B.base B.damaged self.old) (have_doubt self.old.groups) (have_doubt self.new.groups)) }
         ensures ok { IfOk result (DidFix (known_by B.base B.damaged self.old) (known_by B.base B.damaged self.new) d.now) }
         ensures fixes { IfOk result (Mends self.old.groups self.new.groups d.now) }
         ensures counted { rows_looked self.new.groups ≤ rows_looked self.old.groups + 1 }

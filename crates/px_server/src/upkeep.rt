@@ -3,6 +3,8 @@ ghost use Rattle.std.specs.Prelude.{◌≡◌, ◌<◌, [], Err, None, IfErr, If
 ghost use Rattle.std.specs.List.{AllByRecursion};
 ghost use Rattle.px_calls.specs.Calls.{DidOrder, DidWork, IsIdle};
 ghost use Rattle.px_calls.specs.Causes.{Refuses, order_cause, upkeep_cause};
+ghost use Rattle.px_calls.specs.Doubtful.{IndexVersion};
+ghost use Rattle.px_calls.specs.declared.query.Point.{Point as Points};
 ghost use Rattle.px_group.specs.Writing.{HasWritten};
 ghost use Rattle.px_group.specs.declared.group.Group.{Group as Groups};
 ghost use Rattle.px_outside.specs.OnDisk.{Rose};
@@ -10,6 +12,7 @@ ghost use Rattle.px_region.specs.Ordered.{IsSameOrder};
 ghost use Rattle.px_region.specs.declared.fault.JobFault.TheVariants.{Memory, WriteFault};
 ghost use Rattle.px_server.specs.Looks.{rows_looked};
 ghost use Rattle.px_server.specs.Shown.{known_by};
+ghost use Rattle.px_server.specs.Sights.{have_doubt};
 ghost use Rattle.px_server.specs.Upkeep.{AllSettle, AreOrdered, HasFlushedIndex, HasFlushedTable, HaveFlushed, IsDueIn, IsOrderedTable, Settles, SteppedTable, StepsOn, StepsTable};
 
 use crate::shutting::shut;
@@ -123,6 +126,7 @@ impl<D: CountsCalls, C: Clock, B: Based + Founded> Server<D, C, B> {
         requires { self.old.closed ≡ None }
         ensures ok { IfOk result (DidWork (known_by B.base B.damaged self.old) (known_by B.base B.damaged self.new)) }
         ensures unlooked { rows_looked self.new.groups ≡ rows_looked self.old.groups }
+        ensures doubts { IfOk result (λ _. (p : Points) → (v : IndexVersion) → have_doubt self.new.groups p v ≡ have_doubt self.old.groups p v) }
         ensures done { IfOk result (λ work. IsIdle work → HaveFlushed self.new.groups) }
         ensures ordered { IfOk result (λ work. AreOrdered self.old.groups → AreOrdered self.new.groups) }
         ensures refused { IfErr result (Refuses upkeep_cause (known_by B.base B.damaged self.old) (known_by B.base B.damaged self.new)) }
@@ -150,6 +154,7 @@ impl<D: CountsCalls, C: Clock, B: Based + Founded> Server<D, C, B> {
     pub fn upkeep(&mut self) -> Result<Work, StepFault>
         ensures ok { IfOk result (DidWork (known_by B.base B.damaged self.old) (known_by B.base B.damaged self.new)) }
         ensures unlooked { rows_looked self.new.groups ≡ rows_looked self.old.groups }
+        ensures doubts { IfOk result (λ _. (p : Points) → (v : IndexVersion) → have_doubt self.new.groups p v ≡ have_doubt self.old.groups p v) }
         ensures done { IfOk result (λ work. IsIdle work → HaveFlushed self.new.groups) }
         ensures ordered { IfOk result (λ work. AreOrdered self.old.groups → AreOrdered self.new.groups) }
         ensures refused { IfErr result (Refuses upkeep_cause (known_by B.base B.damaged self.old) (known_by B.base B.damaged self.new)) }

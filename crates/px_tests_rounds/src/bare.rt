@@ -28,6 +28,7 @@ impl Single for Bare {
 }
 
 impl Steps for Bare {
+    ghost use Rattle.std.specs.Prelude.{false};
     ghost use Rattle.px_tests_rounds.specs.Bare.{bare};
 
     ghost known = { λ s. bare s.seat };
@@ -37,6 +38,8 @@ impl Steps for Bare {
     ghost left = { λ _ _. 0 };
 
     ghost looked = { λ _. 0 };
+
+    ghost doubtful = { λ _ _ _. false };
 
     ghost sound = { Unit {0} };
 

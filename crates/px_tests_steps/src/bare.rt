@@ -28,6 +28,7 @@ impl Bare {
 }
 
 impl Steps for Bare {
+    ghost use Rattle.std.specs.Prelude.{false};
     ghost use Rattle.px_tests_steps.specs.Bare.{bare};
 
     ghost known = { λ _. bare };
@@ -37,6 +38,8 @@ impl Steps for Bare {
     ghost left = { λ _ _. 0 };
 
     ghost looked = { λ _. 0 };
+
+    ghost doubtful = { λ _ _ _. false };
 
     ghost sound = { Unit {0} };
 

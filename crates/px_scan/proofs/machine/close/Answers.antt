@@ -21,3 +21,9 @@ returns-in-Ok-clause-looks g c = λ alone. looking.looks_none g.S.Steps.sound _ 
 
 pub returns-in-Err-clause-looks : goal.returns-in-Err-clause-looks
 returns-in-Err-clause-looks g c = λ alone. looking.looks_none g.S.Steps.sound _ _ _ _ _ _ refl (c.close_point.ensures.unlooked alone) (omega arith)
+
+pub returns-in-Ok-clause-doubts : goal.returns-in-Ok-clause-doubts
+returns-in-Ok-clause-doubts g c = λ alone sound. record { kept = λ h. tt; fixed = λ h. tt }
+
+pub returns-in-Err-clause-doubts : goal.returns-in-Err-clause-doubts
+returns-in-Err-clause-doubts g c = λ alone sound. record { kept = λ h. tt; fixed = λ h. tt }

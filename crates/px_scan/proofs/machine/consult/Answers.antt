@@ -3,6 +3,7 @@ use Rattle.px_scan.proofs.Quieting as quieting
 use Rattle.px_scan.proofs.Turning as turning
 use Rattle.px_scan.proofs.Bounding as bounding
 use Rattle.px_scan.proofs.Looking as looking
+use Rattle.px_scan.proofs.Mending as mending
 use Rattle.px_scan.proofs.machine.consult.Goals as goal
 
 pub consult-requires-clause-doubt : goal.consult-requires-clause-doubt
@@ -40,3 +41,20 @@ returns-in-Err-keep_held-clause-looks g c = λ alone. looking.looks_one g.S.Step
 
 pub returns-in-Err-clause-looks : goal.returns-in-Err-clause-looks
 returns-in-Err-clause-looks g c = λ alone. looking.looks_one g.S.Steps.sound _ _ _ _ _ _ refl (c.consult.ensures.looked_once alone) refl (let none = looking.closing_look _ _ _ 0 c.failed-in-Err.ensures in omega arith)
+
+pub returns-in-Ok-keep_held-clause-doubts : goal.returns-in-Ok-keep_held-clause-doubts
+returns-in-Ok-keep_held-clause-doubts g c = λ alone sound.
+    record {
+      kept = λ h. (
+        mending.consulted_doubtful g.S.Steps.sound (g.S.Steps.known c.args.s.now) (g.S.Steps.known c.consult.new.self) (g.S.Steps.doubtful c.consult.new.self) c.args.x.point c.args.doubt c.consult.new.d _ c.args.rest.keys.items c.in-Ok.ensures.ok
+            (mending.still_doubtful (g.S.Steps.known c.args.s.now) (g.S.Steps.doubtful c.args.s.now) (g.S.Steps.doubtful c.consult.new.self) c.args.x.point c.args.doubt c.args.rest.keys.items (c.consult.ensures.still alone) c.requires.0.reading.is_open h),
+        mending.consulted_due g.S.Steps.sound (g.S.Steps.known c.args.s.now) (g.S.Steps.known c.consult.new.self) c.args.x.point c.args.doubt c.consult.new.d _ c.in-Ok.ensures.ok,
+      );
+      fixed = λ h. tt;
+    }
+
+pub returns-in-Err-keep_held-clause-doubts : goal.returns-in-Err-keep_held-clause-doubts
+returns-in-Err-keep_held-clause-doubts g c = λ alone sound. mending.closes_doubts _ _ _ _ _ _ _ _ c.failed.ensures
+
+pub returns-in-Err-clause-doubts : goal.returns-in-Err-clause-doubts
+returns-in-Err-clause-doubts g c = λ alone sound. mending.closes_doubts _ _ _ _ _ _ _ _ c.failed-in-Err.ensures

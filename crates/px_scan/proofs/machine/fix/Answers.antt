@@ -1,9 +1,10 @@
-use Rattle.std.proofs.Common.{refl, ◌≡◌, true, false, arith}
+use Rattle.std.proofs.Common.{refl, ◌≡◌, true, false, Some, arith}
 use Rattle.px_scan.specs.Faults.{is_busy}
 use Rattle.px_scan.proofs.Quieting as quieting
 use Rattle.px_scan.proofs.Turning as turning
 use Rattle.px_scan.proofs.Bounding as bounding
 use Rattle.px_scan.proofs.Looking as looking
+use Rattle.px_scan.proofs.Mending as mending
 use Rattle.px_scan.proofs.machine.fix.Goals as goal
 
 pub fault_of-requires : goal.fault_of-requires
@@ -47,3 +48,15 @@ returns-in-Ok-clause-looks g c = λ alone. looking.looks_one g.S.Steps.sound _ _
 
 pub returns-else-is_busy-clause-looks : goal.returns-else-is_busy-clause-looks
 returns-else-is_busy-clause-looks g c = λ alone. looking.looks_one g.S.Steps.sound _ _ _ _ _ _ refl (c.fix.ensures.looked_once alone) refl (let none = looking.closing_look _ _ _ 0 c.failed.ensures in omega arith)
+
+pub returns-then-is_busy-clause-doubts : goal.returns-then-is_busy-clause-doubts
+returns-then-is_busy-clause-doubts g c = λ alone sound.
+    let yes : is_busy c.in-Err.f ≡ true = cc in
+    mending.refused_doubt _ _ _ _ c.args.x c.args.rest c.args.doubt c.in-Err.f alone c.requires.0.reading.is_open yes c.in-Err.ensures.refused (c.in-Err.ensures.still alone)
+
+pub returns-in-Ok-clause-doubts : goal.returns-in-Ok-clause-doubts
+returns-in-Ok-clause-doubts g c = λ alone sound.
+    mending.fixes_doubt _ _ _ _ c.args.x c.args.rest c.args.doubt _ _ alone c.requires.0.reading.is_open c.in-Ok.ensures.ok (c.in-Ok.ensures.there alone sound) (c.in-Ok.ensures.others alone sound) (c.go_on.ensures.doubts (g.S.Steps.doubtful c.fix.new.self) (g.S.Steps.known c.fix.new.self) (Some c.args.doubt.key))
+
+pub returns-else-is_busy-clause-doubts : goal.returns-else-is_busy-clause-doubts
+returns-else-is_busy-clause-doubts g c = λ alone sound. mending.closes_doubts _ _ _ _ _ _ _ _ c.failed.ensures

@@ -4,6 +4,7 @@ use Rattle.px_scan.proofs.Going as going
 use Rattle.px_scan.proofs.Turning as turning
 use Rattle.px_scan.proofs.Bounding as bounding
 use Rattle.px_scan.proofs.Looking as looking
+use Rattle.px_scan.proofs.Mending as mending
 use Rattle.px_scan.proofs.machine.go_on.Goals as goal
 
 pub returns-in-Doubt-clause-goes : goal.returns-in-Doubt-clause-goes
@@ -67,3 +68,18 @@ returns-in-Full-clause-to_look g c = looking.closing_look _ _ _ _ c.ended-in-Ful
 
 pub returns-clause-to_look : goal.returns-clause-to_look
 returns-clause-to_look g c = looking.closing_look _ _ _ _ c.failed.ensures
+
+pub returns-in-Doubt-clause-doubts : goal.returns-in-Doubt-clause-doubts
+returns-in-Doubt-clause-doubts g c = λ f k low h. rw c.in-Doubt.is at (c.keep_sure.ensures.doubtful f c.args.x.point low h)
+
+pub returns-in-None-clause-doubts : goal.returns-in-None-clause-doubts
+returns-in-None-clause-doubts g c = λ f k low h. mending.closed_doubts f k _ _ _ c.ended.ensures
+
+pub returns-then-is_full-clause-doubts : goal.returns-then-is_full-clause-doubts
+returns-then-is_full-clause-doubts g c = λ f k low h. mending.closed_doubts f k _ _ _ c.ended-then-is_full.ensures
+
+pub returns-in-Full-clause-doubts : goal.returns-in-Full-clause-doubts
+returns-in-Full-clause-doubts g c = λ f k low h. mending.closed_doubts f k _ _ _ c.ended-in-Full.ensures
+
+pub returns-clause-doubts : goal.returns-clause-doubts
+returns-clause-doubts g c = λ f k low h. mending.closed_doubts f k _ _ _ c.failed.ensures

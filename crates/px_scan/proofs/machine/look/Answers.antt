@@ -4,6 +4,7 @@ use Rattle.px_scan.proofs.Quieting as quieting
 use Rattle.px_scan.proofs.Turning as turning
 use Rattle.px_scan.proofs.Bounding as bounding
 use Rattle.px_scan.proofs.Looking as looking
+use Rattle.px_scan.proofs.Mending as mending
 use Rattle.px_scan.proofs.machine.look.Goals as goal
 
 pub fault_of-requires : goal.fault_of-requires
@@ -31,3 +32,15 @@ returns-in-Ok-clause-looks g c = λ alone is. looking.looks_chunk g.S.Steps.soun
 
 pub returns-clause-looks : goal.returns-clause-looks
 returns-clause-looks g c = λ alone is. looking.looks_none g.S.Steps.sound _ _ _ _ _ _ (inl refl) (c.look.ensures.unlooked alone is.0 is.1) (looking.closing_look _ _ _ _ c.failed.ensures)
+
+pub returns-in-Ok-clause-doubts : goal.returns-in-Ok-clause-doubts
+returns-in-Ok-clause-doubts g c = λ alone sound.
+    let d = c.in-Ok.ensures.doubts alone in
+    let r = c.in-Ok.ensures.ok.shows.rising in
+    record {
+      kept = λ h. c.go_on.ensures.doubts (g.S.Steps.doubtful c.look.new.self) (g.S.Steps.known c.look.new.self) c.args.after (mending.rest_rising (g.S.Steps.doubtful c.look.new.self) c.args.x.point c.args.after _ c.rest_of.result.keys.items c.rest_of.ensures.keys r d);
+      fixed = λ h. tt;
+    }
+
+pub returns-clause-doubts : goal.returns-clause-doubts
+returns-clause-doubts g c = λ alone sound. mending.closes_doubts _ _ _ _ _ _ _ _ c.failed.ensures

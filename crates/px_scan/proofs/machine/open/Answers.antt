@@ -73,3 +73,21 @@ returns-in-Err-Closed-clause-looks g c = λ alone. looking.looks_none g.S.Steps.
 
 pub returns-in-Err-Memory-clause-looks : goal.returns-in-Err-Memory-clause-looks
 returns-in-Err-Memory-clause-looks g c = λ alone. looking.looks_none g.S.Steps.sound _ _ _ _ _ _ refl (c.open_point.ensures.unlooked alone) (omega arith)
+
+pub returns-in-Ok-clause-doubts : goal.returns-in-Ok-clause-doubts
+returns-in-Ok-clause-doubts g c = λ alone sound. record { kept = λ h. c.follow.ensures.doubts (g.S.Steps.doubtful c.open_point.new.self) (g.S.Steps.known c.open_point.new.self); fixed = λ h. tt }
+
+pub returns-in-Err-NotYet-clause-doubts : goal.returns-in-Err-NotYet-clause-doubts
+returns-in-Err-NotYet-clause-doubts g c = λ alone sound. record { kept = λ h. tt; fixed = λ h. tt }
+
+pub returns-in-Err-NoTable-clause-doubts : goal.returns-in-Err-NoTable-clause-doubts
+returns-in-Err-NoTable-clause-doubts g c = λ alone sound. record { kept = λ h. tt; fixed = λ h. tt }
+
+pub returns-in-Err-BelowHorizon-clause-doubts : goal.returns-in-Err-BelowHorizon-clause-doubts
+returns-in-Err-BelowHorizon-clause-doubts g c = λ alone sound. record { kept = λ h. tt; fixed = λ h. tt }
+
+pub returns-in-Err-Closed-clause-doubts : goal.returns-in-Err-Closed-clause-doubts
+returns-in-Err-Closed-clause-doubts g c = λ alone sound. record { kept = λ h. tt; fixed = λ h. tt }
+
+pub returns-in-Err-Memory-clause-doubts : goal.returns-in-Err-Memory-clause-doubts
+returns-in-Err-Memory-clause-doubts g c = λ alone sound. record { kept = λ h. tt; fixed = λ h. tt }

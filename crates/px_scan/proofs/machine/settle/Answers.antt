@@ -4,6 +4,7 @@ use Rattle.px_scan.proofs.Quieting as quieting
 use Rattle.px_scan.proofs.Turning as turning
 use Rattle.px_scan.proofs.Bounding as bounding
 use Rattle.px_scan.proofs.Looking as looking
+use Rattle.px_scan.proofs.Mending as mending
 use Rattle.px_scan.proofs.machine.settle.Goals as goal
 
 pub fault_of-requires : goal.fault_of-requires
@@ -43,3 +44,18 @@ returns-in-Ok-Idle-clause-looks g c = λ alone. looking.looks_none g.S.Steps.sou
 
 pub returns-in-Err-clause-looks : goal.returns-in-Err-clause-looks
 returns-in-Err-clause-looks g c = λ alone. looking.looks_none g.S.Steps.sound _ _ _ _ _ _ refl (c.upkeep.ensures.unlooked alone) (looking.closing_look _ _ _ _ c.failed.ensures)
+
+pub returns-in-Ok-Did-clause-doubts : goal.returns-in-Ok-Did-clause-doubts
+returns-in-Ok-Did-clause-doubts g c = λ alone sound. record {
+  kept = λ h. mending.settles_doubt _ _ _ _ c.args.x c.args.rest c.args.doubt _ alone c.requires.0.reading.is_open c.in-Ok-Did.ensures.ok (c.in-Ok-Did.ensures.still alone) h;
+  fixed = λ h. tt;
+}
+
+pub returns-in-Ok-Idle-clause-doubts : goal.returns-in-Ok-Idle-clause-doubts
+returns-in-Ok-Idle-clause-doubts g c = λ alone sound. record {
+  kept = λ h. mending.settles_doubt _ _ _ _ c.args.x c.args.rest c.args.doubt _ alone c.requires.0.reading.is_open c.in-Ok-Idle.ensures.ok (c.in-Ok-Idle.ensures.still alone) h;
+  fixed = λ h. tt;
+}
+
+pub returns-in-Err-clause-doubts : goal.returns-in-Err-clause-doubts
+returns-in-Err-clause-doubts g c = λ alone sound. mending.closes_doubts _ _ _ _ _ _ _ _ c.failed.ensures

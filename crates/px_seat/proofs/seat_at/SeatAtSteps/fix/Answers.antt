@@ -46,3 +46,12 @@ returns-clause-refused g c =
     let new = grows.knows g.S.Steps.known g.B.Based.base g.B.Based.damaged me.id (list_seen me.seat) c.act_as.new.self c.fix-reply.new.self (list_seen c.leave.new.self.1.0) e c.fix-reply.ensures.grew c.leave.ensures.seen in
     let old = mine me.id g.B.Based.base g.B.Based.damaged (list_seen me.seat) in
     subst (λ (k : Known). IfErr c.fix-reply.result (Refuses (fix_cause) old k)) (sym new) (grows.if_err _ _ c.fix-reply.result (λ f h. grows.refuses-shared (fix_cause) old (g.S.Steps.known c.act_as.new.self) (g.S.Steps.known c.fix-reply.new.self) f (shares.fix_shared) refl e.passes h) c.fix-reply.ensures.refused)
+
+pub returns-clause-there : goal.returns-clause-there
+returns-clause-there g c = grows.if_ok _ _ c.fix-reply.result (λ x h alone. grows.not_alone alone) c.fix-reply.ensures.ok
+
+pub returns-clause-others : goal.returns-clause-others
+returns-clause-others g c = grows.if_ok _ _ c.fix-reply.result (λ x h alone. grows.not_alone alone) c.fix-reply.ensures.ok
+
+pub returns-clause-still : goal.returns-clause-still
+returns-clause-still g c = grows.if_err _ _ c.fix-reply.result (λ f h alone. grows.not_alone alone) c.fix-reply.ensures.refused

@@ -58,3 +58,6 @@ returns-clause-refused g c =
 
 pub returns-clause-looked_each : goal.returns-clause-looked_each
 returns-clause-looked_each g c = grows.if_ok _ _ c.look-reply.result (λ x h alone. grows.not_alone alone) c.look-reply.ensures.ok
+
+pub returns-clause-doubts : goal.returns-clause-doubts
+returns-clause-doubts g c = grows.if_ok _ _ c.look-reply.result (λ x h alone. grows.not_alone alone) c.look-reply.ensures.ok

@@ -49,3 +49,6 @@ returns-clause-refused g c =
 
 pub returns-clause-done : goal.returns-clause-done
 returns-clause-done g c = grows.if_ok _ _ c.upkeep-reply.result (λ work h idle. (c.upkeep-reply.new.self, h idle, sym c.leave.ensures.seen)) c.upkeep-reply.ensures.done
+
+pub returns-clause-still : goal.returns-clause-still
+returns-clause-still g c = grows.if_ok _ _ c.upkeep-reply.result (λ x h alone. grows.not_alone alone) c.upkeep-reply.ensures.ok

@@ -1,4 +1,4 @@
-use Rattle.std.proofs.Common.{rules, ◌≡◌, ◌∙◌, ◌+◌, ◌<◌, ◌≤◌, ℕ, None, Some, length, ap, sym, subst}
+use Rattle.std.proofs.Common.{refl, rules, ◌≡◌, ◌∙◌, ◌+◌, ◌<◌, ◌≤◌, ℕ, None, Some, length, ap, sym, subst}
 use Rattle.std.specs.List.{slice_set}
 use Rattle.px_calls.specs.Calls.{DidConsult}
 use Rattle.px_calls.specs.Causes.{Refuses, read_cause}
@@ -7,11 +7,13 @@ use Rattle.px_server.specs.Kept.{HasTallied, IsKept}
 use Rattle.px_group.specs.declared.group.Group.{Group}
 use Rattle.px_server.specs.Looks.{rows_looked}
 use Rattle.px_server.specs.Shown.{Shown, known_by, shown_of}
+use Rattle.px_server.specs.Sights.{have_doubt}
 use Rattle.px_server.proofs.Found.{closed_by}
 use Rattle.px_server.proofs.Lists.{all_at, sum_set}
 use Rattle.px_server.proofs.Looked.{looked_kept}
 use Rattle.px_server.proofs.ReadAt.{did_consult, inside, no_memory, read_at}
 use Rattle.px_server.proofs.Released.{none_of}
+use Rattle.px_server.proofs.Sighted.{looked_table, put_tables}
 use Rattle.px_server.proofs.server.Server.consult.Goals.{in-Ok, in-Err}
 use Rattle.px_server.proofs.server.Server.consult.Goals as goal
 
@@ -81,3 +83,16 @@ returns-clause-counted g c =
     let l : c.in-Some-point_place.place < length s.groups.items = inside s.groups.items c.deref.result.now c.in-Some-point_place.place c.deref.ensures.value c.in-Some-point_place.ensures.within in
     subst (λ (u : Shown). rows_looked (slice_set s.groups.items c.in-Some-point_place.place c.consult.new.group) ≤ rows_looked u.groups + 1) c.self.view_is
     (sum_set (λ (h : Group). h.rows.looked) s.groups.items c.in-Some-point_place.place c.index_mut-group.result.now c.consult.new.group l (sym c.index_mut-group.ensures.value) c.consult.ensures.counted)
+
+pub returns-in-Some-clause-doubts : goal.returns-in-Some-clause-doubts
+returns-in-Some-clause-doubts g c = λ q v. refl
+
+pub returns-in_default-point_place-clause-doubts : goal.returns-in_default-point_place-clause-doubts
+returns-in_default-point_place-clause-doubts g c = λ q v. refl
+
+pub returns-clause-doubts : goal.returns-clause-doubts
+returns-clause-doubts g c = λ q v.
+    let s = c.self.inside in
+    let l : c.in-Some-point_place.place < length s.groups.items = inside s.groups.items c.deref.result.now c.in-Some-point_place.place c.deref.ensures.value c.in-Some-point_place.ensures.within in
+    subst (λ (u : Shown). have_doubt (slice_set s.groups.items c.in-Some-point_place.place c.consult.new.group) q v ≡ have_doubt u.groups q v) c.self.view_is
+    (put_tables q v s.groups.items c.in-Some-point_place.place c.index_mut-group.result.now c.consult.new.group l (sym c.index_mut-group.ensures.value) (looked_table q v c.index_mut-group.result.now c.consult.new.group c.consult.ensures.looked))

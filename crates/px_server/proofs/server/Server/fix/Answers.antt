@@ -1,15 +1,19 @@
 use Rattle.std.proofs.Common.{rules, ◌≡◌, ◌∙◌, ◌<◌, None, List, length, sym, subst, arith}
-use Rattle.std.proofs.Common.{◌≤◌, ◌+◌, ◌++◌, ◌∷◌, [], ap, get_or, inl, Some, refl}
+use Rattle.std.proofs.Common.{◌≢◌, true, ◌≤◌, ◌+◌, ◌++◌, ◌∷◌, [], ap, get_or, inl, Some, refl}
 use Rattle.std.specs.Prelude.{IfErr, IfOk, Option, ℕ}
 use Rattle.std.specs.List.{AllByRecursion, slice_set}
 use Rattle.px_calls.specs.Calls.{DidFix, Finds, IsInFlight}
 use Rattle.px_calls.specs.Causes.{Refuses, fix_cause}
 use Rattle.px_calls.specs.declared.fault.StepFault.TheVariants.{Closed, Memory}
 use Rattle.px_trail.specs.declared.entry.Entry.{Entry}
-use Rattle.px_calls.specs.declared.query.Fixing.TheVariants.{Gone}
+use Rattle.px_calls.specs.declared.query.Fixing.TheVariants.{Fixed as AsFixed, Gone}
 use Rattle.px_group.specs.declared.group.Group.{Group}
 use Rattle.px_pointreads.specs.Points.{LacksIndex}
 use Rattle.px_server.specs.Looks.{rows_looked}
+use Rattle.px_server.specs.Sights.{have_doubt}
+use Rattle.px_calls.specs.Doubtful.{IndexVersion, IsForRoom, version_of}
+use Rattle.px_calls.specs.declared.fault.StepFault.{StepFault}
+use Rattle.px_calls.specs.declared.query.Point.{Point}
 use Rattle.px_server.specs.Repairs.{Mends, RefusesFix, Stays}
 use Rattle.px_server.specs.Kept.{IsKept}
 use Rattle.px_repairs.specs.Refused.{RefusesRepair}
@@ -28,6 +32,7 @@ use Rattle.px_server.proofs.ReadAt.{finds, inside}
 use Rattle.px_server.proofs.Released.{none_of}
 use Rattle.px_server.proofs.Reserved.{roomy}
 use Rattle.px_server.proofs.Seen.{stays}
+use Rattle.px_server.proofs.Sighted.{answers_there, fixed_others, none_there, others_told, stayed_doubts, still_told}
 use Rattle.px_server.proofs.Stamping.{more_by_clock, same_by_clock}
 use Rattle.px_server.proofs.server.Server.fix.Goals as goal
 
@@ -286,3 +291,106 @@ returns-in-Err-clause-counted g c =
     let l : c.in-Some-doubt_place.at.group < length s.groups.items = inside s.groups.items c.deref.result.now c.in-Some-doubt_place.at.group c.deref.ensures.value c.in-Some-doubt_place.ensures.within in
     subst (λ (u : Shown). rows_looked (slice_set s.groups.items c.in-Some-doubt_place.at.group c.fix-fixed.new.group) ≤ rows_looked u.groups + 1) c.self.view_is
     (counted_by s.groups.items c.in-Some-doubt_place.at.group c.index_mut-group.result.now c.fix-fixed.new.group l (sym c.index_mut-group.ensures.value) c.fix-fixed.ensures.counted)
+
+-- ---- what is in doubt
+
+pub returns-in-Some-clause-still : goal.returns-in-Some-clause-still
+returns-in-Some-clause-still g c = λ room. absurd room
+
+pub returns-in_default-copied-clause-still : goal.returns-in_default-copied-clause-still
+returns-in_default-copied-clause-still g c = λ room. absurd room
+
+pub returns-then-is_err-clause-still : goal.returns-then-is_err-clause-still
+returns-then-is_err-clause-still g c = λ room. absurd room
+
+pub returns-in-Err-clause-still : goal.returns-in-Err-clause-still
+returns-in-Err-clause-still g c = λ room. absurd room
+
+pub returns-in_default-doubt_place-clause-others : goal.returns-in_default-doubt_place-clause-others
+returns-in_default-doubt_place-clause-others g c = λ given p v apart. refl
+
+pub returns-in_default-doubt_place-clause-there : goal.returns-in_default-doubt_place-clause-there
+returns-in_default-doubt_place-clause-there g c =
+    let s = c.self.inside in
+    subst (λ (w : Shown). (p : Point) → have_doubt w.groups p (version_of c.args.d.now) ≡ true → Gone ≢ Gone) c.self.view_is
+    (λ p had same. none_there s.groups.items c.args.d.now (subst (AllByRecursion (LacksIndex c.args.d.now.index)) c.deref.ensures.value c.in_default-doubt_place.ensures.none) p had)
+
+pub returns-then-has_stayed-clause-there : goal.returns-then-has_stayed-clause-there
+returns-then-has_stayed-clause-there g c =
+    let s = c.self.inside in
+    let b = g.B.Based.base in
+    let k = c.self.invariant.0 in
+    let place = c.in-Some-doubt_place.at.group in
+    let at = c.in-Some-doubt_place.at.index in
+    let h = c.index_mut-group.result.now in
+    let h' = c.fix-fixed.new.group in
+    let running : s.closed ≡ None = none_of s.closed (λ x is. search rules) in
+    let l : place < length s.groups.items = inside s.groups.items c.deref.result.now place c.deref.ensures.value c.in-Some-doubt_place.ensures.within in
+    let named = doubt_at s.groups.items c.deref.result.now place at c.args.d.now.index h _ c.deref.ensures.value c.in-Some-doubt_place.ensures.within c.in-Some-doubt_place.ensures.numbered c.index_mut-group.ensures.value in
+    let same : c.as_slice.result.now ≡ c.args.d.now.key = search rules in
+    let fixes = subst (λ (kk : List ℕ). Fixes g.D.Disk h h' s.disk c.fix-fixed.new.disk at kk c.args.d.now.stamp c.fix-fixed.result) same c.fix-fixed.ensures.fixes in
+    let here : Stays c.fix-fixed.result = search rules in
+    subst (λ (w : Shown). IfOk c.answered.result (λ f. (p : Point) → have_doubt w.groups p (version_of c.args.d.now) ≡ true → f ≢ Gone)) c.self.view_is
+    (answers_there g.D.Disk b g.B.Founded.sound g.B.Founded.premise g.B.Founded.began s.disk s.catalog s.standing s.groups.items s.trail s.late s.closed k running place h h' l (sym c.index_mut-group.ensures.value) c.fix-fixed.new.disk at c.args.d.now named.0 named.1 c.number-region.result c.fix-fixed.result here fixes c.answered.result c.answered.ensures)
+
+pub returns-then-has_stayed-clause-others : goal.returns-then-has_stayed-clause-others
+returns-then-has_stayed-clause-others g c =
+    let s = c.self.inside in
+    let b = g.B.Based.base in
+    let k = c.self.invariant.0 in
+    let place = c.in-Some-doubt_place.at.group in
+    let at = c.in-Some-doubt_place.at.index in
+    let h = c.index_mut-group.result.now in
+    let h' = c.fix-fixed.new.group in
+    let running : s.closed ≡ None = none_of s.closed (λ x is. search rules) in
+    let l : place < length s.groups.items = inside s.groups.items c.deref.result.now place c.deref.ensures.value c.in-Some-doubt_place.ensures.within in
+    let here : Stays c.fix-fixed.result = search rules in
+    let h-stayed = stayed g.D.Disk h h' s.disk c.fix-fixed.new.disk at c.as_slice.result.now c.args.d.now.stamp c.fix-fixed.result here c.fix-fixed.ensures.fixes in
+    subst (λ (w : Shown). IfOk c.answered.result (λ f. g.B.Founded.sound → (p : Point) (v : IndexVersion) → v.key ≢ c.args.d.now.key → have_doubt (slice_set s.groups.items place h') p v ≡ have_doubt w.groups p v)) c.self.view_is
+    (others_told (g.B.Founded.sound → (p : Point) (v : IndexVersion) → v.key ≢ c.args.d.now.key → have_doubt (slice_set s.groups.items place h') p v ≡ have_doubt s.groups.items p v)
+    (λ given p v apart. stayed_doubts g.D.Disk b g.B.Founded.sound g.B.Founded.premise g.B.Founded.began s.disk s.catalog s.standing s.groups.items s.trail s.late s.closed k running place h h' l (sym c.index_mut-group.ensures.value) c.fix-fixed.new.disk h-stayed p v) c.answered.result)
+
+pub returns-then-has_stayed-clause-still : goal.returns-then-has_stayed-clause-still
+returns-then-has_stayed-clause-still g c =
+    let s = c.self.inside in
+    let b = g.B.Based.base in
+    let k = c.self.invariant.0 in
+    let place = c.in-Some-doubt_place.at.group in
+    let at = c.in-Some-doubt_place.at.index in
+    let h = c.index_mut-group.result.now in
+    let h' = c.fix-fixed.new.group in
+    let running : s.closed ≡ None = none_of s.closed (λ x is. search rules) in
+    let l : place < length s.groups.items = inside s.groups.items c.deref.result.now place c.deref.ensures.value c.in-Some-doubt_place.ensures.within in
+    let here : Stays c.fix-fixed.result = search rules in
+    let h-stayed = stayed g.D.Disk h h' s.disk c.fix-fixed.new.disk at c.as_slice.result.now c.args.d.now.stamp c.fix-fixed.result here c.fix-fixed.ensures.fixes in
+    subst (λ (w : Shown). IfErr c.answered.result (λ f. IsForRoom f → (p : Point) (v : IndexVersion) → have_doubt (slice_set s.groups.items place h') p v ≡ have_doubt w.groups p v)) c.self.view_is
+    (still_told ((p : Point) (v : IndexVersion) → have_doubt (slice_set s.groups.items place h') p v ≡ have_doubt s.groups.items p v)
+    (λ p v. stayed_doubts g.D.Disk b g.B.Founded.sound g.B.Founded.premise g.B.Founded.began s.disk s.catalog s.standing s.groups.items s.trail s.late s.closed k running place h h' l (sym c.index_mut-group.ensures.value) c.fix-fixed.new.disk h-stayed p v) c.answered.result)
+
+not_gone : (x : Fixing) → x ≡ AsFixed → x ≢ Gone
+not_gone x fixed gone = (let z : ◌≡◌ {A = Fixing} AsFixed Gone = sym fixed ∙ gone in cc)
+
+pub returns-in-Ok-fixed-clause-there : goal.returns-in-Ok-fixed-clause-there
+returns-in-Ok-fixed-clause-there g c = λ p had.
+    let s = c.self.inside in
+    let never : Stays c.fix-fixed.result → ⊥ = λ st. search rules in
+    let f = fixed_of g.D.Disk c.index_mut-group.result.now c.fix-fixed.new.group s.disk c.fix-fixed.new.disk c.in-Some-doubt_place.at.index c.as_slice.result.now c.args.d.now.stamp c.fix-fixed.result c.in-Ok-fixed.fixing never c.in-Ok-fixed.is c.fix-fixed.ensures.fixes in
+    not_gone c.in-Ok-fixed.fixing f.1
+
+pub returns-in-Ok-fixed-clause-others : goal.returns-in-Ok-fixed-clause-others
+returns-in-Ok-fixed-clause-others g c =
+    let s = c.self.inside in
+    let b = g.B.Based.base in
+    let k = c.self.invariant.0 in
+    let place = c.in-Some-doubt_place.at.group in
+    let at = c.in-Some-doubt_place.at.index in
+    let h = c.index_mut-group.result.now in
+    let h' = c.fix-fixed.new.group in
+    let running : s.closed ≡ None = none_of s.closed (λ x is. search rules) in
+    let l : place < length s.groups.items = inside s.groups.items c.deref.result.now place c.deref.ensures.value c.in-Some-doubt_place.ensures.within in
+    let same : c.as_slice.result.now ≡ c.args.d.now.key = search rules in
+    let fixes = subst (λ (kk : List ℕ). Fixes g.D.Disk h h' s.disk c.fix-fixed.new.disk at kk c.args.d.now.stamp c.fix-fixed.result) same c.fix-fixed.ensures.fixes in
+    let never : Stays c.fix-fixed.result → ⊥ = λ st. search rules in
+    let f = fixed_of g.D.Disk h h' s.disk c.fix-fixed.new.disk at c.args.d.now.key c.args.d.now.stamp c.fix-fixed.result c.in-Ok-fixed.fixing never c.in-Ok-fixed.is fixes in
+    subst (λ (w : Shown). g.B.Founded.sound → (p : Point) (v : IndexVersion) → v.key ≢ c.args.d.now.key → have_doubt (slice_set s.groups.items place h') p v ≡ have_doubt w.groups p v) c.self.view_is
+    (λ given p v apart. fixed_others g.D.Disk b g.B.Founded.sound g.B.Founded.premise g.B.Founded.began s.disk s.catalog s.standing s.groups.items s.trail s.late s.closed k running place h h' l (sym c.index_mut-group.ensures.value) given c.fix-fixed.new.disk at c.args.d.now.key c.args.d.now.stamp f.0 p v apart)

@@ -17,6 +17,7 @@ use Rattle.px_server.proofs.Looked.{looked_kept}
 use Rattle.px_server.proofs.ReadAt.{counted_at, did_look, inside, no_memory, read_at, versions_at}
 use Rattle.px_server.proofs.Released.{none_of}
 use Rattle.px_server.proofs.RowsLooked.{risen_at}
+use Rattle.px_server.proofs.Sighted.{found_doubts}
 use Rattle.px_server.proofs.server.Server.look.Goals.{in-Ok, in-Err}
 use Rattle.px_server.proofs.server.Server.look.Goals as goal
 
@@ -115,5 +116,14 @@ returns-clause-risen g c =
       | in-Ok w ↦ rw w.result-is (λ by. subst (λ (u : Shown). HasRisenBy (length w.chunk.result.found) (rows_looked u.groups) (rows_looked (slice_set s.groups.items place c.look.new.group))) c.self.view_is
           (risen_at s.groups.items place h c.look.new.group l (sym c.index_mut-group.ensures.value) (length w.chunk.result.found)
           (subst (λ (fs : List FoundKey). HasCounted h.rows c.look.new.group.rows (length fs)) (sym w.chunk.ensures.0) (subst (λ (q : By). HasCountedBy h c.look.new.group q (length w.in-Ok.next.found)) by w.in-Ok.ensures.counted))))
+      | in-Err w ↦ rw w.result-is tt
+    ]
+
+pub returns-clause-doubts : goal.returns-clause-doubts
+returns-clause-doubts g c =
+    let s = c.self.inside in
+    elim c.match-look.branch [
+      | in-Ok w ↦ rw w.result-is (found_doubts c.args.p.now s.groups.items c.deref.result.now c.in-Some-point_place.place c.index_mut-group.result.now _ c.look.new.group c.deref.ensures.value c.in-Some-point_place.ensures.within c.in-Some-point_place.ensures.read c.index_mut-group.ensures.value c.look.ensures.looked
+          c.args.path.now.by w.in-Ok.next.found w.chunk.result.found w.chunk.ensures.0 w.in-Ok.ensures.keys.doubts w.in-Ok.ensures.versions)
       | in-Err w ↦ rw w.result-is tt
     ]

@@ -3,7 +3,9 @@ use Rattle.std.specs.Prelude.{IfErr, IfOk}
 use Rattle.px_calls.specs.Calls.{DidWork}
 use Rattle.px_calls.specs.Causes.{Refuses, upkeep_cause}
 use Rattle.px_server.specs.Looks.{rows_looked}
+use Rattle.px_server.proofs.Answered.{if_ok}
 use Rattle.px_server.specs.Shown.{Shown, known_by}
+use Rattle.px_server.specs.Sights.{have_doubt}
 use Rattle.px_server.specs.Upkeep.{AreOrdered}
 use Rattle.px_server.proofs.server.Server.upkeep.Goals as goal
 
@@ -38,3 +40,9 @@ returns-then-renewed-clause-unlooked g c = ap rows_looked c.renew_catalog.ensure
 
 pub returns-in_err-renewed-clause-unlooked : goal.returns-in_err-renewed-clause-unlooked
 returns-in_err-renewed-clause-unlooked g c = ap rows_looked c.renew_catalog.ensures.groups
+
+pub returns-then-renewed-clause-doubts : goal.returns-then-renewed-clause-doubts
+returns-then-renewed-clause-doubts g c = λ p v. ap (λ gs. have_doubt gs p v) c.renew_catalog.ensures.groups
+
+pub returns-clause-doubts : goal.returns-clause-doubts
+returns-clause-doubts g c = if_ok _ _ c.upkeep_regions.result (λ w told p v. told p v ∙ ap (λ gs. have_doubt gs p v) c.renew_catalog.ensures.groups) c.upkeep_regions.ensures.doubts

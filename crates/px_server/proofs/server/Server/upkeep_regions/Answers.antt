@@ -8,9 +8,11 @@ use Rattle.px_calls.specs.declared.status.Work.TheVariants.{Did, Idle}
 use Rattle.px_group.specs.declared.group.Group.{Group}
 use Rattle.px_server.specs.Looks.{rows_looked}
 use Rattle.px_server.specs.Shown.{Shown, known_by, shown_of}
+use Rattle.px_server.specs.Sights.{have_doubt}
 use Rattle.px_server.specs.Upkeep.{AreOrdered, HaveFlushed, IsOrderedTable}
 use Rattle.px_server.proofs.Lists.{all_at, sum_kept}
 use Rattle.px_server.proofs.Orders.{all_put}
+use Rattle.px_server.proofs.Sighted.{put_tables, stepped_table}
 use Rattle.px_server.proofs.Stamping.{more_by_clock}
 use Rattle.px_server.proofs.Stepped.{did_work, stepped, stopped, work_failed, work_no_memory}
 use Rattle.px_server.proofs.server.Server.upkeep_regions.Goals as goal
@@ -114,3 +116,13 @@ returns-in-Err-WriteFault-clause-unlooked g c =
     let inside : c.in-Some.place < length s.groups.items = subst (λ (gs : List Group). c.in-Some.place < length gs) c.as_slice.ensures.value c.in-Some.ensures.some.0 in
     subst (λ (w : Shown). rows_looked (slice_set s.groups.items c.in-Some.place c.step_table.new.group) ≡ rows_looked w.groups) c.self.view_is
     (sum_kept (λ (h : Group). h.rows.looked) s.groups.items c.in-Some.place c.index_mut-group.result.now c.step_table.new.group inside (sym c.index_mut-group.ensures.value) c.step_table.ensures.looked)
+
+pub returns-in_default-clause-doubts : goal.returns-in_default-clause-doubts
+returns-in_default-clause-doubts g c = λ p v. refl
+
+pub returns-in-Ok-clause-doubts : goal.returns-in-Ok-clause-doubts
+returns-in-Ok-clause-doubts g c = λ p v.
+    let s = c.self.inside in
+    let inside : c.in-Some.place < length s.groups.items = subst (λ (gs : List Group). c.in-Some.place < length gs) c.as_slice.ensures.value c.in-Some.ensures.some.0 in
+    subst (λ (w : Shown). have_doubt (slice_set s.groups.items c.in-Some.place c.step_table.new.group) p v ≡ have_doubt w.groups p v) c.self.view_is
+    (put_tables p v s.groups.items c.in-Some.place c.index_mut-group.result.now c.step_table.new.group inside (sym c.index_mut-group.ensures.value) (stepped_table p v g.D.Disk c.index_mut-group.result.now c.step_table.new.group s.disk c.step_table.new.disk c.in-Ok.ensures.ok))

@@ -3,3 +3,6 @@ use Rattle.px_tests_steps.proofs.bare.BareSteps.upkeep.Goals as goal
 
 pub returns-clause-ok : goal.returns-clause-ok
 returns-clause-ok c = finds
+
+pub returns-clause-still : goal.returns-clause-still
+returns-clause-still c = λ alone p v is_open was. was
