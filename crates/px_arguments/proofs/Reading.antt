@@ -1,9 +1,11 @@
 -- Words are read as the command that they spell, and only as that.
-use Rattle.std.proofs.Common.{ℕ, zero, suc, min, ◌&&◌, ◌≡◌, ◌≢◌, ◌+◌, ◌<◌, ◌↔◌, if◌then◌else◌, ◌==◌, ◌||◌, not, Bool, true, false, Option, None, Some, List, [], ◌∷◌, ◌++◌, codes, length, take, get_or, refl, sym, ◌∙◌, ap, subst, arith, length-take, append_assoc}
+use Rattle.std.proofs.Common.{ℕ, zero, suc, min, ◌&&◌, ◌≡◌, ◌≢◌, ◌<◌, ◌≤◌, ◌↔◌, if◌then◌else◌, ◌==◌, ◌||◌, not, Bool, true, false, Option, None, Some, List, [], ◌∷◌, ◌++◌, codes, length, take, get_or, refl, sym, ◌∙◌, ap, subst, arith, length-take, append_assoc}
 use Rattle.std.specs.Option.{is_some, option_and_then, option_map}
 use Rattle.std.specs.List.{AllByRecursion, before_first, after_first, position_or_len}
-use Rattle.std.specs.Str.{bytes_eq}
-use Rattle.std.proofs.lemmas.Bool.{false≢true, eqb-false, eqb-true}
+use Rattle.std.specs.Prelude.{nat_le, nat_lt, ◌^◌}
+use Rattle.std.specs.Str.{all_ascii_digits, bytes_eq}
+use Rattle.std.specs.Str.Parse.{digits_value}
+use Rattle.std.proofs.lemmas.Bool.{false≢true, eqb-false, eqb-true, le-leb, leb-true, ltb-true}
 use Rattle.std.proofs.lemmas.Option.{option_and_then_some}
 use Rattle.std.proofs.lemmas.List.{append-nil, take_all}
 use Rattle.std.proofs.lemmas.List.Sums.{split_at_first, passes_at_first}
@@ -12,8 +14,9 @@ use Rattle.px_verifying.specs.declared.answer.VerifyKind.{VerifyKind}
 use Rattle.px_verifying.specs.declared.answer.VerifyKind.TheVariants as kind
 use Rattle.px_arguments.specs.declared.said.Part.{Part}
 use Rattle.px_arguments.specs.declared.said.Part.TheVariants as part
-use Rattle.px_arguments.specs.Arguments.{SeenCommand, Run, Verify, SeenSaid, begin, command_in, command_of, give, give_option, is_equals, is_plain, kind_named, nothing, option_named, run_of, said_from, take_awaited, take_word, value_in, verify_of, with_value}
-use Rattle.px_arguments.specs.Spelled.{Asks, Given, IsGiven, IsSpelled, is_apart, is_folder, is_joined, is_same, kind_word, option_word, values_of, words_of}
+use Rattle.px_arguments.specs.Arguments.{SeenCommand, Run, Verify, Load, SeenSaid, begin, command_in, command_of, give, give_option, has_loaded, has_verified, is_equals, is_plain, kind_named, load, load_of, nothing, number_named, option_named, rows_named, run_of, said_from, some_rows, take_awaited, take_word, value_in, verify_of, with_value}
+use Rattle.px_arguments.proofs.Numbers.{named, numerals}
+use Rattle.px_arguments.specs.Spelled.{Asks, Given, HasNoLoad, HasNoVerify, IsGiven, IsNumber, IsSpelled, is_apart, is_folder, is_joined, is_same, kind_word, option_word, values_of, words_of}
 
 -- 1. Words
 
@@ -23,22 +26,27 @@ same_bytes w = (bytes_eq-Decides w w).1 refl
 from_bytes : (w x : List ℕ) → bytes_eq w x ≡ true → w ≡ x
 from_bytes w x h = (bytes_eq-Decides w x).0 h
 
-named_by : (w : List ℕ) (p : Part) (a b c : Bool) → bytes_eq w (codes "--table") ≡ a → bytes_eq w (codes "--index") ≡ b → bytes_eq w (codes "--kind") ≡ c
-    → (if a then Some part.Table else (if b then Some part.Index else (if c then Some part.Kind else None))) ≡ Some p → option_word p ≡ Some w
-named_by w p true b c is_table h k e = let which : p ≡ part.Table = cc in subst (λ (q : Part). option_word q ≡ Some w) (sym which) (ap Some (sym (from_bytes w (codes "--table") is_table)))
-named_by w p false true c t is_index k e = let which : p ≡ part.Index = cc in subst (λ (q : Part). option_word q ≡ Some w) (sym which) (ap Some (sym (from_bytes w (codes "--index") is_index)))
-named_by w p false false true t h is_kind e = let which : p ≡ part.Kind = cc in subst (λ (q : Part). option_word q ≡ Some w) (sym which) (ap Some (sym (from_bytes w (codes "--kind") is_kind)))
-named_by w p false false false t h k e = cc
-
--- a word that names an option is its word
-word_is : (w : List ℕ) (p : Part) → option_named w ≡ Some p → option_word p ≡ Some w
-word_is w p h = named_by w p (bytes_eq w (codes "--table")) (bytes_eq w (codes "--index")) (bytes_eq w (codes "--kind")) refl refl refl h
-
 none_some : {A : Type 0} (x : A) → None ≡ Some x → ⊥
 none_some x h = cc
 
 some_is : {A : Type 0} (x y : A) → Some x ≡ Some y → x ≡ y
 some_is x y h = cc
+
+named_as : (w : List ℕ) (p q : Part) (name : List ℕ) → option_word q ≡ Some name → w ≡ name → Some q ≡ Some p → option_word p ≡ Some w
+named_as w p q name word is same = subst (λ (x : Part). option_word x ≡ Some w) (some_is q p same) (word ∙ ap Some (sym is))
+
+named_by : (w : List ℕ) (p : Part) (a b c d e : Bool) → bytes_eq w (codes "--table") ≡ a → bytes_eq w (codes "--index") ≡ b → bytes_eq w (codes "--kind") ≡ c → bytes_eq w (codes "--number") ≡ d → bytes_eq w (codes "--rows") ≡ e
+    → (if a then Some part.Table else (if b then Some part.Index else (if c then Some part.Kind else (if d then Some part.Number else (if e then Some part.Rows else None))))) ≡ Some p → option_word p ≡ Some w
+named_by w p true b c d e ha hb hc hd he is = named_as w p part.Table (codes "--table") refl (from_bytes w (codes "--table") ha) is
+named_by w p false true c d e ha hb hc hd he is = named_as w p part.Index (codes "--index") refl (from_bytes w (codes "--index") hb) is
+named_by w p false false true d e ha hb hc hd he is = named_as w p part.Kind (codes "--kind") refl (from_bytes w (codes "--kind") hc) is
+named_by w p false false false true e ha hb hc hd he is = named_as w p part.Number (codes "--number") refl (from_bytes w (codes "--number") hd) is
+named_by w p false false false false true ha hb hc hd he is = named_as w p part.Rows (codes "--rows") refl (from_bytes w (codes "--rows") he) is
+named_by w p false false false false false ha hb hc hd he is = absurd (none_some p is)
+
+-- a word that names an option is its word
+word_is : (w : List ℕ) (p : Part) → option_named w ≡ Some p → option_word p ≡ Some w
+word_is w p h = named_by w p (bytes_eq w (codes "--table")) (bytes_eq w (codes "--index")) (bytes_eq w (codes "--kind")) (bytes_eq w (codes "--number")) (bytes_eq w (codes "--rows")) refl refl refl refl refl h
 
 -- an option's word names it, alone and in front of `=`
 pub record IsOption (p : Part) (name : List ℕ) : Type 0 where
@@ -57,13 +65,15 @@ option_is part.Folder name h = absurd (none_some name h)
 option_is part.Table name h = subst (IsOption part.Table) (some_is (codes "--table") name h) (record { alone = refl; alone_whole = refl; joined = λ value. refl; joined_part = λ value. unequal 7 (length (codes "--table" ++ codes "=" ++ value)) _ refl (omega arith); joined_value = λ value. refl })
 option_is part.Index name h = subst (IsOption part.Index) (some_is (codes "--index") name h) (record { alone = refl; alone_whole = refl; joined = λ value. refl; joined_part = λ value. unequal 7 (length (codes "--index" ++ codes "=" ++ value)) _ refl (omega arith); joined_value = λ value. refl })
 option_is part.Kind name h = subst (IsOption part.Kind) (some_is (codes "--kind") name h) (record { alone = refl; alone_whole = refl; joined = λ value. refl; joined_part = λ value. unequal 6 (length (codes "--kind" ++ codes "=" ++ value)) _ refl (omega arith); joined_value = λ value. refl })
+option_is part.Number name h = subst (IsOption part.Number) (some_is (codes "--number") name h) (record { alone = refl; alone_whole = refl; joined = λ value. refl; joined_part = λ value. unequal 8 (length (codes "--number" ++ codes "=" ++ value)) _ refl (omega arith); joined_value = λ value. refl })
+option_is part.Rows name h = subst (IsOption part.Rows) (some_is (codes "--rows") name h) (record { alone = refl; alone_whole = refl; joined = λ value. refl; joined_part = λ value. unequal 6 (length (codes "--rows" ++ codes "=" ++ value)) _ refl (omega arith); joined_value = λ value. refl })
 
 untrue : (b : Bool) → not b ≡ true → b ≡ false
 untrue true h = absurd (false≢true h)
 untrue false h = refl
 
 other_named : (x : ℕ) (l : List ℕ) → (x == 45) ≡ false → option_named (x ∷ l) ≡ None
-other_named x l e = ap (λ b. if b && bytes_eq l (codes "-table") then Some part.Table else (if b && bytes_eq l (codes "-index") then Some part.Index else (if b && bytes_eq l (codes "-kind") then Some part.Kind else None))) e
+other_named x l e = ap (λ b. if b && bytes_eq l (codes "-table") then Some part.Table else (if b && bytes_eq l (codes "-index") then Some part.Index else (if b && bytes_eq l (codes "-kind") then Some part.Kind else (if b && bytes_eq l (codes "-number") then Some part.Number else (if b && bytes_eq l (codes "-rows") then Some part.Rows else None))))) e
 
 front_named : (n x : ℕ) (l : List ℕ) → (x == 45) ≡ false → option_named (take n (x ∷ l)) ≡ None
 front_named zero x l e = refl
@@ -115,6 +125,8 @@ keeps_waiting s x p v h = elim (value_in s p) as (λ o. (if is_some o then None 
     same part.Table = refl
     same part.Index = refl
     same part.Kind = refl
+    same part.Number = refl
+    same part.Rows = refl
 
 -- a folder, an option with its value, and the two in one word, behind what was said before
 module _ (s : SeenSaid) (calm : s.awaits ≡ None) where
@@ -266,12 +278,18 @@ value_with s part.Index part.Index v = refl
 value_with s part.Index p v = refl
 value_with s part.Kind part.Kind v = refl
 value_with s part.Kind p v = refl
+value_with s part.Number part.Number v = refl
+value_with s part.Number p v = refl
+value_with s part.Rows part.Rows v = refl
+value_with s part.Rows p v = refl
 
 same_part : (q p : Part) → is_same q p ≡ true → q ≡ p
 same_part part.Folder part.Folder h = refl
 same_part part.Table part.Table h = refl
 same_part part.Index part.Index h = refl
 same_part part.Kind part.Kind h = refl
+same_part part.Number part.Number h = refl
+same_part part.Rows part.Rows h = refl
 same_part q p h = absurd (false≢true h)
 
 same_itself : (p : Part) → is_same p p ≡ true
@@ -279,6 +297,8 @@ same_itself part.Folder = refl
 same_itself part.Table = refl
 same_itself part.Index = refl
 same_itself part.Kind = refl
+same_itself part.Number = refl
+same_itself part.Rows = refl
 
 given_once : (s x : SeenSaid) (p : Part) (v : List ℕ) → give s p v ≡ Some x → (value_in s p ≡ None) × (x ≡ with_value s p v)
 given_once s x p v h = elim (value_in s p) as (λ o. (if is_some o then None else Some (with_value s p v)) ≡ Some x → (o ≡ None) × (x ≡ with_value s p v)) [
@@ -331,8 +351,10 @@ all_given [] s t st =
     let a : s.table ≡ t.table = sym (unlisted t.table s.table (st.values part.Table)) in
     let b : s.index ≡ t.index = sym (unlisted t.index s.index (st.values part.Index)) in
     let c : s.kind ≡ t.kind = sym (unlisted t.kind s.kind (st.values part.Kind)) in
+    let d : s.number ≡ t.number = sym (unlisted t.number s.number (st.values part.Number)) in
+    let r : s.rows ≡ t.rows = sym (unlisted t.rows s.rows (st.values part.Rows)) in
     let w : s.awaits ≡ t.awaits = sym st.awaits in
-    ap Some (λ i. record { folder = f i; table = a i; index = b i; kind = c i; awaits = w i })
+    ap Some (λ i. record { folder = f i; table = a i; index = b i; kind = c i; number = d i; rows = r i; awaits = w i })
 all_given (g ∷ gs) s t st =
     let v = g.value in
     let p = g.part in
@@ -367,44 +389,97 @@ kind_by w k false false false false false ha hb hc hd he h = absurd (none_some k
 word_of_kind : (w : List ℕ) (k : VerifyKind) → kind_named w ≡ Some k → w ≡ kind_word k
 word_of_kind w k h = kind_by w k (bytes_eq w (codes "NONE")) (bytes_eq w (codes "ONLY")) (bytes_eq w (codes "BEFORE")) (bytes_eq w (codes "AFTER")) (bytes_eq w (codes "BOTH")) refl refl refl refl refl h
 
--- what a list of words asks for, where these parts were given
-IsAsked : SeenCommand → SeenSaid → List ℕ → Type 0
-IsAsked (Run folder) t word = (word ≡ codes "run") × (t.folder ≡ Some folder) × (t.table ≡ None) × (t.index ≡ None) × (t.kind ≡ None)
-IsAsked (Verify folder table index k) t word = (word ≡ codes "verify") × (t.folder ≡ Some folder) × (t.table ≡ Some table) × (t.index ≡ Some index) × (t.kind ≡ Some (kind_word k))
+-- a number is read of its digits, and of nothing else
+number_of : (text : List ℕ) (n : ℕ) → IsNumber text n → number_named text ≡ Some n
+number_of text n h =
+    let v = h.value in
+    let low = h.within in
+    named text (numerals.from text h.digits.1, h.digits.0, omega (arith, v, low)) ∙ ap Some v
+
+number_read : (text : List ℕ) (n : ℕ) → number_named text ≡ Some n → IsNumber text n
+number_read text n h = by_parts (all_ascii_digits text) (nat_lt 0 (length text)) (nat_lt (digits_value 10 text) (2 ^ 64)) refl refl refl h
+  where
+    by_parts : (a b c : Bool) → all_ascii_digits text ≡ a → nat_lt 0 (length text) ≡ b → nat_lt (digits_value 10 text) (2 ^ 64) ≡ c → (if a && b && c then Some (digits_value 10 text) else None) ≡ Some n → IsNumber text n
+    by_parts true true true digits some short e =
+        let v : digits_value 10 text ≡ n = some_is (digits_value 10 text) n e in
+        let low = ltb-true (digits_value 10 text) (2 ^ 64) short in
+        record { digits = (ltb-true 0 (length text) some, numerals.to text digits); value = v; within = omega (arith, v, low) }
+    by_parts true true false digits some short e = absurd (none_some n e)
+    by_parts true false c digits some short e = absurd (none_some n e)
+    by_parts false b c digits some short e = absurd (none_some n e)
+
+-- and so many rows
+rows_of : (text : List ℕ) (n : ℕ) → IsNumber text n → 1 ≤ n → n ≤ 100000 → rows_named text ≡ Some n
+rows_of text n h some few =
+    let least : nat_le 1 n ≡ true = le-leb 1 n some in
+    let most : nat_le n 100000 ≡ true = le-leb n 100000 few in
+    ap (option_and_then some_rows) (number_of text n h) ∙ (λ i. if least i && most i then Some n else None)
+
+-- a number of rows is read of its digits
+record HasRows (text : List ℕ) (n : ℕ) : Type 0 where
+  are : IsNumber text n
+  some : 1 ≤ n
+  few : n ≤ 100000
+
+rows_read : (text : List ℕ) (n : ℕ) → rows_named text ≡ Some n → HasRows text n
+rows_read text n h = option_and_then_some some_rows (number_named text) n h (λ m named e. by_parts m named (nat_le 1 m) (nat_le m 100000) refl refl e)
+  where
+    by_parts : (m : ℕ) → number_named text ≡ Some m → (a b : Bool) → nat_le 1 m ≡ a → nat_le m 100000 ≡ b → (if a && b then Some m else None) ≡ Some n → HasRows text n
+    by_parts m named true true some few e = subst (HasRows text) (some_is m n e) (record { are = number_read text m named; some = leb-true 1 m some; few = leb-true m 100000 few })
+    by_parts m named true false some few e = absurd (none_some n e)
+    by_parts m named false b some few e = absurd (none_some n e)
 
 -- the parts that spell a command, and what they come to
-said_for : SeenCommand → SeenSaid
-said_for (Run folder) = record { folder = Some folder; table = None; index = None; kind = None; awaits = None }
-said_for (Verify folder table index k) = record { folder = Some folder; table = Some table; index = Some index; kind = Some (kind_word k); awaits = None }
+said_for : (c : SeenCommand) (word : List ℕ) (gs : List Given) → Asks c word gs → SeenSaid
+said_for (Run folder) word gs a = record { folder = Some folder; table = None; index = None; kind = None; number = None; rows = None; awaits = None }
+said_for (Verify folder table index k) word gs a = record { folder = Some folder; table = Some table; index = Some index; kind = Some (kind_word k); number = None; rows = None; awaits = None }
+said_for (Load folder l) word gs a = record { folder = Some folder; table = None; index = None; kind = None; number = Some a.3.number; rows = Some a.3.rows; awaits = None }
 
-settles : (c : SeenCommand) (word : List ℕ) (gs : List Given) → Asks c word gs → Settled nothing gs (said_for c)
+settles : (c : SeenCommand) (word : List ℕ) (gs : List Given) (a : Asks c word gs) → Settled nothing gs (said_for c word gs a)
 unfolding said_for
 settles (Run folder) word gs a = record { values = by_part; awaits = refl }
   where
-    by_part : (q : Part) → listed (value_in (said_for (Run folder)) q) ≡ listed (value_in nothing q) ++ values_of q gs
+    by_part : (q : Part) → listed (value_in (said_for (Run folder) word gs a) q) ≡ listed (value_in nothing q) ++ values_of q gs
     by_part part.Folder = sym a.1
-    by_part part.Table = sym a.2
-    by_part part.Index = sym a.3
-    by_part part.Kind = sym a.4
+    by_part part.Table = sym a.2.0
+    by_part part.Index = sym a.2.1
+    by_part part.Kind = sym a.2.2
+    by_part part.Number = sym a.3.0
+    by_part part.Rows = sym a.3.1
 settles (Verify folder table index k) word gs a = record { values = by_part; awaits = refl }
   where
-    by_part : (q : Part) → listed (value_in (said_for (Verify folder table index k)) q) ≡ listed (value_in nothing q) ++ values_of q gs
+    by_part : (q : Part) → listed (value_in (said_for (Verify folder table index k) word gs a) q) ≡ listed (value_in nothing q) ++ values_of q gs
     by_part part.Folder = sym a.1
-    by_part part.Table = sym a.2
-    by_part part.Index = sym a.3
-    by_part part.Kind = sym a.4
+    by_part part.Table = sym a.2.0
+    by_part part.Index = sym a.2.1
+    by_part part.Kind = sym a.2.2
+    by_part part.Number = sym a.3.0
+    by_part part.Rows = sym a.3.1
+settles (Load folder l) word gs a = record { values = by_part; awaits = refl }
+  where
+    by_part : (q : Part) → listed (value_in (said_for (Load folder l) word gs a) q) ≡ listed (value_in nothing q) ++ values_of q gs
+    by_part part.Folder = sym a.1
+    by_part part.Table = sym a.2.0
+    by_part part.Index = sym a.2.1
+    by_part part.Kind = sym a.2.2
+    by_part part.Number = sym a.3.number_given
+    by_part part.Rows = sym a.3.rows_given
 
-commands : (c : SeenCommand) (word : List ℕ) (gs : List Given) → Asks c word gs → command_of word (said_for c) ≡ Some c
+commands : (c : SeenCommand) (word : List ℕ) (gs : List Given) (a : Asks c word gs) → command_of word (said_for c word gs a) ≡ Some c
 unfolding said_for
-commands (Run folder) word gs a = ap (λ (w : List ℕ). command_of w (said_for (Run folder))) a.0
+commands (Run folder) word gs a = ap (λ (w : List ℕ). command_of w (said_for (Run folder) word gs a)) a.0
 commands (Verify folder table index k) word gs a =
-    ap (λ (w : List ℕ). command_of w (said_for (Verify folder table index k))) a.0 ∙ ap (option_map (λ x. Verify folder table index x)) (kind_of_word k)
+    ap (λ (w : List ℕ). command_of w (said_for (Verify folder table index k) word gs a)) a.0 ∙ ap (option_map (λ x. Verify folder table index x)) (kind_of_word k)
+commands (Load folder l) word gs a =
+    ap (λ (w : List ℕ). command_of w (said_for (Load folder l) word gs a)) a.0
+    ∙ (ap (option_and_then (λ number. option_map (λ rows. load folder number rows) (rows_named a.3.rows))) (number_of a.3.number l.number a.3.number_is)
+    ∙ ap (option_map (λ rows. load folder l.number rows)) (rows_of a.3.rows l.rows a.3.rows_are a.3.some a.3.few))
 
 -- words that spell a command are read as it
 spelled_is_read : (words : List (List ℕ)) (c : SeenCommand) → IsSpelled words c → command_in words ≡ Some c
 spelled_is_read words c h =
     ap command_in h.words_are
-    ∙ (ap (option_and_then (command_of h.word)) (all_said h.parts nothing refl h.each ∙ all_given h.parts nothing (said_for c) (settles c h.word h.parts h.asks)) ∙ commands c h.word h.parts h.asks)
+    ∙ (ap (option_and_then (command_of h.word)) (all_said h.parts nothing refl h.each ∙ all_given h.parts nothing (said_for c h.word h.parts h.asks) (settles c h.word h.parts h.asks)) ∙ commands c h.word h.parts h.asks)
 
 -- a part that has a value was given it, and no more
 given_here : (gs : List Given) (t : SeenSaid) → Settled nothing gs t → (q : Part) (v : List ℕ) → value_in t q ≡ Some v → values_of q gs ≡ v ∷ []
@@ -415,6 +490,8 @@ given_here gs t st q v is = sym (st.values q ∙ none_first q) ∙ ap listed is
     none_first part.Table = refl
     none_first part.Index = refl
     none_first part.Kind = refl
+    none_first part.Number = refl
+    none_first part.Rows = refl
 
 not_given : (gs : List Given) (t : SeenSaid) → Settled nothing gs t → (q : Part) → value_in t q ≡ None → values_of q gs ≡ []
 not_given gs t st q none = sym (st.values q ∙ none_first q) ∙ ap listed none
@@ -424,45 +501,121 @@ not_given gs t st q none = sym (st.values q ∙ none_first q) ∙ ap listed none
     none_first part.Table = refl
     none_first part.Index = refl
     none_first part.Kind = refl
+    none_first part.Number = refl
+    none_first part.Rows = refl
 
 module _ (gs : List Given) (t : SeenSaid) (st : Settled nothing gs t) (c : SeenCommand) where
-  asks_run : (word : List ℕ) → word ≡ codes "run" → run_of t ≡ Some c → Asks c word gs
-  asks_run word is h = by_options t.table t.index t.kind t.folder refl refl refl refl h
+  no_verify : t.table ≡ None → t.index ≡ None → t.kind ≡ None → HasNoVerify gs
+  no_verify ta tb tk = (not_given gs t st part.Table ta, not_given gs t st part.Index tb, not_given gs t st part.Kind tk)
+
+  no_load : t.number ≡ None → t.rows ≡ None → HasNoLoad gs
+  no_load tn tr = (not_given gs t st part.Number tn, not_given gs t st part.Rows tr)
+
+  -- where no option of a command was given, it has none
+  without_verify : {A : Type 0} → has_verified t ≡ false → (t.table ≡ None → t.index ≡ None → t.kind ≡ None → A) → A
+  without_verify {A} h go = by_options t.table t.index t.kind refl refl refl h
     where
-      by_options : (a b k f : Option (List ℕ)) → t.table ≡ a → t.index ≡ b → t.kind ≡ k → t.folder ≡ f → (if is_some a || is_some b || is_some k then None else option_map (λ folder. Run folder) f) ≡ Some c → Asks c word gs
-      by_options None None None (Some folder) ta tb tk tf e =
+      by_options : (a b k : Option (List ℕ)) → t.table ≡ a → t.index ≡ b → t.kind ≡ k → (is_some a || is_some b || is_some k) ≡ false → A
+      by_options None None None ta tb tk e = go ta tb tk
+      by_options (Some x) b k ta tb tk e = absurd (false≢true (sym e))
+      by_options None (Some x) k ta tb tk e = absurd (false≢true (sym e))
+      by_options None None (Some x) ta tb tk e = absurd (false≢true (sym e))
+
+  without_load : {A : Type 0} → has_loaded t ≡ false → (t.number ≡ None → t.rows ≡ None → A) → A
+  without_load {A} h go = by_options t.number t.rows refl refl h
+    where
+      by_options : (n r : Option (List ℕ)) → t.number ≡ n → t.rows ≡ r → (is_some n || is_some r) ≡ false → A
+      by_options None None tn tr e = go tn tr
+      by_options (Some x) r tn tr e = absurd (false≢true (sym e))
+      by_options None (Some x) tn tr e = absurd (false≢true (sym e))
+
+  asks_run : (word : List ℕ) → word ≡ codes "run" → run_of t ≡ Some c → Asks c word gs
+  asks_run word is h = by_options (has_verified t) (has_loaded t) refl refl h
+    where
+      by_folder : HasNoVerify gs → HasNoLoad gs → (f : Option (List ℕ)) → t.folder ≡ f → option_map (λ folder. Run folder) f ≡ Some c → Asks c word gs
+      by_folder verify load (Some folder) tf e =
           let which : Run folder ≡ c = some_is (Run folder) c e in
-          subst (λ (x : SeenCommand). Asks x word gs) which (is, given_here gs t st part.Folder folder tf, not_given gs t st part.Table ta, not_given gs t st part.Index tb, not_given gs t st part.Kind tk)
-      by_options None None None None ta tb tk tf e = absurd (none_some c e)
-      by_options (Some x) b k f ta tb tk tf e = absurd (none_some c e)
-      by_options None (Some x) k f ta tb tk tf e = absurd (none_some c e)
-      by_options None None (Some x) f ta tb tk tf e = absurd (none_some c e)
+          subst (λ (x : SeenCommand). Asks x word gs) which (is, given_here gs t st part.Folder folder tf, verify, load)
+      by_folder verify load None tf e = absurd (none_some c e)
+
+      by_options : (v l : Bool) → has_verified t ≡ v → has_loaded t ≡ l → (if v || l then None else option_map (λ folder. Run folder) t.folder) ≡ Some c → Asks c word gs
+      by_options false false tv tl e = without_verify tv (λ ta tb tk. without_load tl (λ tn tr. by_folder (no_verify ta tb tk) (no_load tn tr) t.folder refl e))
+      by_options true l tv tl e = absurd (none_some c e)
+      by_options false true tv tl e = absurd (none_some c e)
 
   asks_verify : (word : List ℕ) → word ≡ codes "verify" → verify_of t ≡ Some c → Asks c word gs
-  asks_verify word is h = by_options t.folder t.table t.index t.kind refl refl refl refl h
+  asks_verify word is h = by_load (has_loaded t) refl h
     where
-      by_options : (f a b k : Option (List ℕ)) → t.folder ≡ f → t.table ≡ a → t.index ≡ b → t.kind ≡ k
+      by_options : HasNoLoad gs → (f a b k : Option (List ℕ)) → t.folder ≡ f → t.table ≡ a → t.index ≡ b → t.kind ≡ k
           → option_and_then (λ folder. option_and_then (λ table. option_and_then (λ index. option_map (λ x. Verify folder table index x) (option_and_then kind_named k)) b) a) f ≡ Some c → Asks c word gs
-      by_options (Some f) (Some a) (Some b) (Some w) tf ta tb tk e = by_kind (kind_named w) refl e
+      by_options load (Some f) (Some a) (Some b) (Some w) tf ta tb tk e = by_kind (kind_named w) refl e
         where
           by_kind : (o : Option VerifyKind) → kind_named w ≡ o → option_map (λ x. Verify f a b x) o ≡ Some c → Asks c word gs
           by_kind None named j = absurd (none_some c j)
           by_kind (Some k) named j =
               let which : Verify f a b k ≡ c = some_is (Verify f a b k) c j in
               let of_kind : values_of part.Kind gs ≡ kind_word k ∷ [] = given_here gs t st part.Kind w tk ∙ ap (λ (l : List ℕ). l ∷ []) (word_of_kind w k named) in
-              subst (λ (x : SeenCommand). Asks x word gs) which (is, given_here gs t st part.Folder f tf, given_here gs t st part.Table a ta, given_here gs t st part.Index b tb, of_kind)
-      by_options None a b k tf ta tb tk e = absurd (none_some c e)
-      by_options (Some f) None b k tf ta tb tk e = absurd (none_some c e)
-      by_options (Some f) (Some a) None k tf ta tb tk e = absurd (none_some c e)
-      by_options (Some f) (Some a) (Some b) None tf ta tb tk e = absurd (none_some c e)
+              subst (λ (x : SeenCommand). Asks x word gs) which (is, given_here gs t st part.Folder f tf, (given_here gs t st part.Table a ta, given_here gs t st part.Index b tb, of_kind), load)
+      by_options load None a b k tf ta tb tk e = absurd (none_some c e)
+      by_options load (Some f) None b k tf ta tb tk e = absurd (none_some c e)
+      by_options load (Some f) (Some a) None k tf ta tb tk e = absurd (none_some c e)
+      by_options load (Some f) (Some a) (Some b) None tf ta tb tk e = absurd (none_some c e)
+
+      by_load : (l : Bool) → has_loaded t ≡ l
+          → (if l then None else option_and_then (λ folder. option_and_then (λ table. option_and_then (λ index. option_map (λ x. Verify folder table index x) (option_and_then kind_named t.kind)) t.index) t.table) t.folder) ≡ Some c → Asks c word gs
+      by_load false tl e = without_load tl (λ tn tr. by_options (no_load tn tr) t.folder t.table t.index t.kind refl refl refl refl e)
+      by_load true tl e = absurd (none_some c e)
+
+  asks_load : (word : List ℕ) → word ≡ codes "load" → load_of t ≡ Some c → Asks c word gs
+  asks_load word is h = by_verify (has_verified t) refl h
+    where
+      by_options : HasNoVerify gs → (f n r : Option (List ℕ)) → t.folder ≡ f → t.number ≡ n → t.rows ≡ r
+          → option_and_then (λ folder. option_and_then (λ number. option_map (λ rows. load folder number rows) (option_and_then rows_named r)) (option_and_then number_named n)) f ≡ Some c → Asks c word gs
+      by_options verify (Some f) (Some n) (Some r) tf tn tr e = by_numbers (number_named n) (rows_named r) refl refl e
+        where
+          by_numbers : (a b : Option ℕ) → number_named n ≡ a → rows_named r ≡ b → option_and_then (λ number. option_map (λ rows. load f number rows) b) a ≡ Some c → Asks c word gs
+          by_numbers (Some number) (Some rows) an ar j =
+              let which : load f number rows ≡ c = some_is (load f number rows) c j in
+              let are : HasRows r rows = rows_read r rows ar in
+              subst (λ (x : SeenCommand). Asks x word gs) which (
+                is,
+                given_here gs t st part.Folder f tf,
+                verify,
+                record {
+                  number = n;
+                  number_given = given_here gs t st part.Number n tn;
+                  number_is = number_read n number an;
+                  rows = r;
+                  rows_given = given_here gs t st part.Rows r tr;
+                  rows_are = are.are;
+                  some = are.some;
+                  few = are.few;
+                },
+              )
+          by_numbers None b an ar j = absurd (none_some c j)
+          by_numbers (Some number) None an ar j = absurd (none_some c j)
+      by_options verify None n r tf tn tr e = absurd (none_some c e)
+      by_options verify (Some f) None r tf tn tr e = absurd (none_some c e)
+      by_options verify (Some f) (Some n) None tf tn tr e = no_rows (number_named n) e
+        where
+          no_rows : (o : Option ℕ) → option_and_then (λ number. option_map (λ rows. load f number rows) None) o ≡ Some c → Asks c word gs
+          no_rows None j = absurd (none_some c j)
+          no_rows (Some number) j = absurd (none_some c j)
+
+      by_verify : (v : Bool) → has_verified t ≡ v
+          → (if v then None else option_and_then (λ folder. option_and_then (λ number. option_map (λ rows. load folder number rows) (option_and_then rows_named t.rows)) (option_and_then number_named t.number)) t.folder) ≡ Some c → Asks c word gs
+      by_verify false tv e = without_verify tv (λ ta tb tk. by_options (no_verify ta tb tk) t.folder t.number t.rows refl refl refl e)
+      by_verify true tv e = absurd (none_some c e)
 
   asks : (word : List ℕ) → command_of word t ≡ Some c → Asks c word gs
-  asks word h = by_word (bytes_eq word (codes "run")) (bytes_eq word (codes "verify")) refl refl h
+  asks word h = by_word (bytes_eq word (codes "run")) (bytes_eq word (codes "verify")) (bytes_eq word (codes "load")) refl refl refl h
     where
-      by_word : (a b : Bool) → bytes_eq word (codes "run") ≡ a → bytes_eq word (codes "verify") ≡ b → (if a then run_of t else (if b then verify_of t else None)) ≡ Some c → Asks c word gs
-      by_word true b is other e = asks_run word (from_bytes word (codes "run") is) e
-      by_word false true other is e = asks_verify word (from_bytes word (codes "verify") is) e
-      by_word false false one other e = absurd (none_some c e)
+      by_word : (a b d : Bool) → bytes_eq word (codes "run") ≡ a → bytes_eq word (codes "verify") ≡ b → bytes_eq word (codes "load") ≡ d
+          → (if a then run_of t else (if b then verify_of t else (if d then load_of t else None))) ≡ Some c → Asks c word gs
+      by_word true b d is other third e = asks_run word (from_bytes word (codes "run") is) e
+      by_word false true d one is third e = asks_verify word (from_bytes word (codes "verify") is) e
+      by_word false false true one other is e = asks_load word (from_bytes word (codes "load") is) e
+      by_word false false false one other third e = absurd (none_some c e)
 
 -- and words that are read as a command spell it
 read_is_spelled : (words : List (List ℕ)) (c : SeenCommand) → command_in words ≡ Some c → IsSpelled words c

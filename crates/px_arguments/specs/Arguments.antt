@@ -1,8 +1,10 @@
 -- The words after the program's name.
-use Rattle.std.specs.Prelude.{ℕ, Bool, true, false, ◌==◌, ◌||◌, not, if◌then◌else◌, List, [], ◌∷◌, length, codes, Option, None, Some, option_map, option_and_then, option_copied}
+use Rattle.std.specs.Prelude.{ℕ, Bool, false, ◌==◌, ◌||◌, ◌&&◌, ◌^◌, nat_le, nat_lt, not, if◌then◌else◌, List, [], ◌∷◌, length, codes, Option, None, Some, option_map, option_and_then, option_copied}
 use Rattle.std.specs.Option.{is_some}
 use Rattle.std.specs.List.{before_first, after_first}
-use Rattle.std.specs.Str.{bytes_eq}
+use Rattle.std.specs.Str.{all_ascii_digits, bytes_eq}
+use Rattle.std.specs.Str.Parse.{digits_value}
+use Rattle.px_load.specs.declared.script.Load.{Load as Loads}
 use Rattle.px_verifying.specs.declared.answer.VerifyKind.{VerifyKind}
 use Rattle.px_verifying.specs.declared.answer.VerifyKind.TheVariants as kind
 use Rattle.px_arguments.specs.declared.command.Command.{Command}
@@ -22,7 +24,12 @@ abbrev pub is_equals : ℕ → Bool
 is_equals b = b == 61
 
 abbrev pub option_named : List ℕ → Option Part
-option_named word = if bytes_eq word (codes "--table") then Some part.Table else (if bytes_eq word (codes "--index") then Some part.Index else (if bytes_eq word (codes "--kind") then Some part.Kind else None))
+option_named word = if bytes_eq word (codes "--table") then Some part.Table
+    else (if bytes_eq word (codes "--index") then Some part.Index
+    else (if bytes_eq word (codes "--kind") then Some part.Kind
+    else (if bytes_eq word (codes "--number") then Some part.Number
+    else (if bytes_eq word (codes "--rows") then Some part.Rows
+    else None))))
 
 abbrev pub kind_named : List ℕ → Option VerifyKind
 kind_named word = if bytes_eq word (codes "NONE") then Some kind.None
@@ -32,6 +39,17 @@ kind_named word = if bytes_eq word (codes "NONE") then Some kind.None
     else (if bytes_eq word (codes "BOTH") then Some kind.Both
     else None))))
 
+-- the number that decimal digits alone spell, where it has 64 bits
+abbrev pub number_named : List ℕ → Option ℕ
+number_named word = if all_ascii_digits word && nat_lt 0 (length word) && nat_lt (digits_value 10 word) (2 ^ 64) then Some (digits_value 10 word) else None
+
+-- so many rows may be loaded
+abbrev pub some_rows : ℕ → Option ℕ
+some_rows n = if nat_le 1 n && nat_le n 100000 then Some n else None
+
+abbrev pub rows_named : List ℕ → Option ℕ
+rows_named word = option_and_then some_rows (number_named word)
+
 -- 2. What words say, one after another
 
 -- the folder, the values of the options, and the option whose value is the next word
@@ -40,13 +58,15 @@ pub record SeenSaid : Type 0 where
   pub table : Option (List ℕ)
   pub index : Option (List ℕ)
   pub kind : Option (List ℕ)
+  pub number : Option (List ℕ)
+  pub rows : Option (List ℕ)
   pub awaits : Option Part
 
 abbrev pub seen_said : Said → SeenSaid
-seen_said s = record { folder = option_copied s.folder; table = option_copied s.table; index = option_copied s.index; kind = option_copied s.kind; awaits = s.awaits }
+seen_said s = record { folder = option_copied s.folder; table = option_copied s.table; index = option_copied s.index; kind = option_copied s.kind; number = option_copied s.number; rows = option_copied s.rows; awaits = s.awaits }
 
 abbrev pub nothing : SeenSaid
-nothing = record { folder = None; table = None; index = None; kind = None; awaits = None }
+nothing = record { folder = None; table = None; index = None; kind = None; number = None; rows = None; awaits = None }
 
 -- the value that was given to a part
 abbrev pub value_in : SeenSaid → Part → Option (List ℕ)
@@ -54,12 +74,16 @@ value_in s part.Folder = s.folder
 value_in s part.Table = s.table
 value_in s part.Index = s.index
 value_in s part.Kind = s.kind
+value_in s part.Number = s.number
+value_in s part.Rows = s.rows
 
 abbrev pub with_value : SeenSaid → Part → List ℕ → SeenSaid
 with_value s part.Folder value = record s { folder = Some value }
 with_value s part.Table value = record s { table = Some value }
 with_value s part.Index value = record s { index = Some value }
 with_value s part.Kind value = record s { kind = Some value }
+with_value s part.Number value = record s { number = Some value }
+with_value s part.Rows value = record s { rows = Some value }
 
 -- each part is given once
 abbrev pub give : SeenSaid → Part → List ℕ → Option SeenSaid
@@ -92,25 +116,48 @@ said_from s (word ∷ words) = option_and_then (λ more. said_from more words) (
 pub data SeenCommand : Type 0 where
   Run : (folder : List ℕ) → SeenCommand
   Verify : (folder table index : List ℕ) → VerifyKind → SeenCommand
+  Load : (folder : List ℕ) → Loads → SeenCommand
 
 abbrev pub seen : Command → SeenCommand
 seen (command.Run folder) = Run folder.now
 seen (command.Verify folder table index kind) = Verify folder.now table.now index.now kind
+seen (command.Load folder load) = Load folder.now load
 
 abbrev pub folder_of : SeenCommand → List ℕ
 folder_of (Run folder) = folder
 folder_of (Verify folder table index kind) = folder
+folder_of (Load folder load) = folder
+
+-- an option of `verify` was given
+abbrev pub has_verified : SeenSaid → Bool
+has_verified s = is_some s.table || is_some s.index || is_some s.kind
+
+-- an option of `load` was
+abbrev pub has_loaded : SeenSaid → Bool
+has_loaded s = is_some s.number || is_some s.rows
 
 -- `run DIR`
 abbrev pub run_of : SeenSaid → Option SeenCommand
-run_of s = if is_some s.table || is_some s.index || is_some s.kind then None else option_map (λ folder. Run folder) s.folder
+run_of s = if has_verified s || has_loaded s then None else option_map (λ folder. Run folder) s.folder
 
 -- `verify DIR --table NAME --index NAME --kind KIND`
 abbrev pub verify_of : SeenSaid → Option SeenCommand
-verify_of s = option_and_then (λ folder. option_and_then (λ table. option_and_then (λ index. option_map (λ k. Verify folder table index k) (option_and_then kind_named s.kind)) s.index) s.table) s.folder
+verify_of s = if has_loaded s then None
+    else option_and_then (λ folder. option_and_then (λ table. option_and_then (λ index. option_map (λ k. Verify folder table index k) (option_and_then kind_named s.kind)) s.index) s.table) s.folder
+
+abbrev pub load : (folder : List ℕ) → (number rows : ℕ) → SeenCommand
+load folder number rows = Load folder (record { number = number; rows = rows })
+
+-- `load DIR --number S --rows N`
+abbrev pub load_of : SeenSaid → Option SeenCommand
+load_of s = if has_verified s then None
+    else option_and_then (λ folder. option_and_then (λ number. option_map (λ rows. load folder number rows) (option_and_then rows_named s.rows)) (option_and_then number_named s.number)) s.folder
 
 abbrev pub command_of : (word : List ℕ) → SeenSaid → Option SeenCommand
-command_of word s = if bytes_eq word (codes "run") then run_of s else (if bytes_eq word (codes "verify") then verify_of s else None)
+command_of word s = if bytes_eq word (codes "run") then run_of s
+    else (if bytes_eq word (codes "verify") then verify_of s
+    else (if bytes_eq word (codes "load") then load_of s
+    else None))
 
 -- the command that the words are
 abbrev pub command_in : List (List ℕ) → Option SeenCommand

@@ -1,11 +1,13 @@
 -- How a command is written in words.
-use Rattle.std.specs.Prelude.{ℕ, ◌≡◌, ◌≢◌, Bool, true, false, if◌then◌else◌, List, [], ◌∷◌, ◌++◌, codes, Option, None, Some}
+use Rattle.std.specs.Prelude.{ℕ, ◌≡◌, ◌≢◌, ◌<◌, ◌≤◌, ◌^◌, Bool, true, false, if◌then◌else◌, List, [], ◌∷◌, ◌++◌, codes, Option, None, Some}
 use Rattle.std.specs.List.{AllByRecursion}
+use Rattle.std.specs.Str.Parse.{IsNumeral, digits_value}
+use Rattle.px_load.specs.declared.script.Load.{Load as Loads}
 use Rattle.px_verifying.specs.declared.answer.VerifyKind.{VerifyKind}
 use Rattle.px_verifying.specs.declared.answer.VerifyKind.TheVariants as kind
 use Rattle.px_arguments.specs.declared.said.Part.{Part}
 use Rattle.px_arguments.specs.declared.said.Part.TheVariants as part
-use Rattle.px_arguments.specs.Arguments.{SeenCommand, Run, Verify, is_plain}
+use Rattle.px_arguments.specs.Arguments.{SeenCommand, Run, Verify, Load, is_plain}
 
 -- the word of an option
 abbrev pub option_word : Part → Option (List ℕ)
@@ -13,6 +15,8 @@ option_word part.Folder = None
 option_word part.Table = Some (codes "--table")
 option_word part.Index = Some (codes "--index")
 option_word part.Kind = Some (codes "--kind")
+option_word part.Number = Some (codes "--number")
+option_word part.Rows = Some (codes "--rows")
 
 abbrev pub kind_word : VerifyKind → List ℕ
 kind_word kind.None = codes "NONE"
@@ -20,6 +24,12 @@ kind_word kind.Only = codes "ONLY"
 kind_word kind.Before = codes "BEFORE"
 kind_word kind.After = codes "AFTER"
 kind_word kind.Both = codes "BOTH"
+
+-- decimal digits alone, at least one, which come to this number; it has 64 bits at most
+pub record IsNumber (text : List ℕ) (n : ℕ) : Type 0 where
+  pub digits : IsNumeral 10 text
+  pub value : digits_value 10 text ≡ n
+  pub within : n < 2 ^ 64
 
 -- 1. Parts
 
@@ -44,6 +54,8 @@ is_same part.Folder part.Folder = true
 is_same part.Table part.Table = true
 is_same part.Index part.Index = true
 is_same part.Kind part.Kind = true
+is_same part.Number part.Number = true
+is_same part.Rows part.Rows = true
 is_same p q = false
 
 -- the values that are given to a part, in order
@@ -53,10 +65,34 @@ values_of p (g ∷ gs) = (if is_same p g.part then g.value ∷ [] else []) ++ va
 
 -- 2. Commands
 
--- `run DIR`, and no option; or `verify DIR` with each option once
+-- no option of `verify` is given
+abbrev pub HasNoVerify : List Given → Type 0
+HasNoVerify gs = (values_of part.Table gs ≡ []) × (values_of part.Index gs ≡ []) × (values_of part.Kind gs ≡ [])
+
+-- no option of `load` is
+abbrev pub HasNoLoad : List Given → Type 0
+HasNoLoad gs = (values_of part.Number gs ≡ []) × (values_of part.Rows gs ≡ [])
+
+-- each option of `verify` is given once
+abbrev pub GivesVerify : (table index : List ℕ) → VerifyKind → List Given → Type 0
+GivesVerify table index k gs = (values_of part.Table gs ≡ table ∷ []) × (values_of part.Index gs ≡ index ∷ []) × (values_of part.Kind gs ≡ kind_word k ∷ [])
+
+-- each option of `load` is given once, by a number; there is at least one row, and at most 100,000
+pub record GivesLoad (l : Loads) (gs : List Given) : Type 0 where
+  pub number : List ℕ
+  pub number_given : values_of part.Number gs ≡ number ∷ []
+  pub number_is : IsNumber number l.number
+  pub rows : List ℕ
+  pub rows_given : values_of part.Rows gs ≡ rows ∷ []
+  pub rows_are : IsNumber rows l.rows
+  pub some : 1 ≤ l.rows
+  pub few : l.rows ≤ 100000
+
+-- the command's own word, its folder once, and its own options
 abbrev pub Asks : SeenCommand → (word : List ℕ) → List Given → Type 0
-Asks (Run folder) word gs = (word ≡ codes "run") × (values_of part.Folder gs ≡ folder ∷ []) × (values_of part.Table gs ≡ []) × (values_of part.Index gs ≡ []) × (values_of part.Kind gs ≡ [])
-Asks (Verify folder table index k) word gs = (word ≡ codes "verify") × (values_of part.Folder gs ≡ folder ∷ []) × (values_of part.Table gs ≡ table ∷ []) × (values_of part.Index gs ≡ index ∷ []) × (values_of part.Kind gs ≡ kind_word k ∷ [])
+Asks (Run folder) word gs = (word ≡ codes "run") × (values_of part.Folder gs ≡ folder ∷ []) × HasNoVerify gs × HasNoLoad gs
+Asks (Verify folder table index k) word gs = (word ≡ codes "verify") × (values_of part.Folder gs ≡ folder ∷ []) × GivesVerify table index k gs × HasNoLoad gs
+Asks (Load folder l) word gs = (word ≡ codes "load") × (values_of part.Folder gs ≡ folder ∷ []) × HasNoVerify gs × GivesLoad l gs
 
 -- the words spell the command: its own word, and then its parts in any order
 pub record IsSpelled (words : List (List ℕ)) (c : SeenCommand) : Type 0 where

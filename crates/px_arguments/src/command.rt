@@ -3,7 +3,9 @@ ghost use Rattle.std.specs.Prelude.{◌≡◌, map, option_map};
 ghost use Rattle.std.specs.String.{string_bytes};
 ghost use Rattle.px_arguments.specs.Arguments as spec;
 
+use crate::number::{number_named, rows_named};
 use crate::said::{Said, said_by};
+use px_load::Load;
 use px_verifying::VerifyKind;
 
 /// A command of the program. Its folder and names are as they were written.
@@ -20,6 +22,11 @@ pub enum Command<'a> {
         index: &'a str,
         kind: VerifyKind,
     },
+    /// `load DIR --number S --rows N`.
+    Load {
+        folder: &'a str,
+        load: Load,
+    },
 }
 
 impl<'a> Command<'a> {
@@ -30,6 +37,7 @@ impl<'a> Command<'a> {
         match self {
             Command::Run { folder } => folder,
             Command::Verify { folder, .. } => folder,
+            Command::Load { folder, .. } => folder,
         }
     }
 }
@@ -53,10 +61,24 @@ fn kind_named(word: &str) -> Option<VerifyKind>
     }
 }
 
+/// Whether an option of `verify` was given.
+fn has_verified(said: Said<'_>) -> bool
+    ensures { result ≡ spec.has_verified (spec.seen_said said.entry) }
+{
+    said.table.is_some() || said.index.is_some() || said.kind.is_some()
+}
+
+/// Whether an option of `load` was given.
+fn has_loaded(said: Said<'_>) -> bool
+    ensures { result ≡ spec.has_loaded (spec.seen_said said.entry) }
+{
+    said.number.is_some() || said.rows.is_some()
+}
+
 fn run_of(said: Said<'_>) -> Option<Command<'_>>
     ensures { option_map spec.seen result ≡ spec.run_of (spec.seen_said said.entry) }
 {
-    if said.table.is_some() || said.index.is_some() || said.kind.is_some() {
+    if has_verified(said) || has_loaded(said) {
         return None;
     }
     let folder = said.folder?;
@@ -66,6 +88,9 @@ fn run_of(said: Said<'_>) -> Option<Command<'_>>
 fn verify_of(said: Said<'_>) -> Option<Command<'_>>
     ensures { option_map spec.seen result ≡ spec.verify_of (spec.seen_said said.entry) }
 {
+    if has_loaded(said) {
+        return None;
+    }
     let folder = said.folder?;
     let table = said.table?;
     let index = said.index?;
@@ -79,6 +104,23 @@ fn verify_of(said: Said<'_>) -> Option<Command<'_>>
     })
 }
 
+fn load_of(said: Said<'_>) -> Option<Command<'_>>
+    ensures { option_map spec.seen result ≡ spec.load_of (spec.seen_said said.entry) }
+{
+    if has_verified(said) {
+        return None;
+    }
+    let folder = said.folder?;
+    let number = said.number?;
+    let number = number_named(number)?;
+    let rows = said.rows?;
+    let rows = rows_named(rows)?;
+    Some(Command::Load {
+        folder,
+        load: Load { number, rows },
+    })
+}
+
 fn command_of<'a>(word: &str, said: Said<'a>) -> Option<Command<'a>>
     ensures { option_map spec.seen result ≡ spec.command_of word.now (spec.seen_said said.entry) }
 {
@@ -86,6 +128,8 @@ fn command_of<'a>(word: &str, said: Said<'a>) -> Option<Command<'a>>
         run_of(said)
     } else if word == "verify" {
         verify_of(said)
+    } else if word == "load" {
+        load_of(said)
     } else {
         None
     }

@@ -6,6 +6,7 @@
 
 mod command;
 mod laws;
+mod number;
 mod said;
 
 pub use command::{Command, command_in};

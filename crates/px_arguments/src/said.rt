@@ -10,6 +10,8 @@ pub(crate) enum Part {
     Table,
     Index,
     Kind,
+    Number,
+    Rows,
 }
 
 /// What the words so far gave.
@@ -19,6 +21,8 @@ pub(crate) struct Said<'a> {
     pub(crate) table: Option<&'a str>,
     pub(crate) index: Option<&'a str>,
     pub(crate) kind: Option<&'a str>,
+    pub(crate) number: Option<&'a str>,
+    pub(crate) rows: Option<&'a str>,
     /// The option whose value is the next word.
     awaits: Option<Part>,
 }
@@ -43,6 +47,10 @@ fn option_named(word: &str) -> Option<Part>
         Some(Part::Index)
     } else if word == "--kind" {
         Some(Part::Kind)
+    } else if word == "--number" {
+        Some(Part::Number)
+    } else if word == "--rows" {
+        Some(Part::Rows)
     } else {
         None
     }
@@ -80,6 +88,20 @@ fn give<'a>(said: Said<'a>, part: Part, value: &'a str) -> Option<Said<'a>>
                 return None;
             }
             more.kind = Some(value);
+            Some(more)
+        }
+        Part::Number => {
+            if said.number.is_some() {
+                return None;
+            }
+            more.number = Some(value);
+            Some(more)
+        }
+        Part::Rows => {
+            if said.rows.is_some() {
+                return None;
+            }
+            more.rows = Some(value);
             Some(more)
         }
     }
@@ -139,6 +161,8 @@ pub(crate) fn said_by(words: &[String]) -> Option<Said<'_>>
         table: None,
         index: None,
         kind: None,
+        number: None,
+        rows: None,
         awaits: None,
     };
     for word in words {

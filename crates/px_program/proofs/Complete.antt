@@ -24,7 +24,10 @@ use Rattle.px_reply.specs.declared.reply.Reply.{Reply}
 use Rattle.px_reply.specs.declared.transcript.Item.{Item}
 use Rattle.px_reply.specs.declared.transcript.Transcript.{Transcript}
 use Rattle.px_session.specs.Replies.{has_fatal, is_closing, is_fatal, own_since, stops}
-use Rattle.px_rounds.specs.Rounds.{fresh}
+use Rattle.px_load.specs.declared.script.Load.{Load as Loads}
+use Rattle.px_load.specs.Script.{load_text}
+use Rattle.px_loaded.specs.Loads.{RanLoad}
+use Rattle.px_rounds.specs.Rounds.{RanScript, fresh}
 use Rattle.px_rounds.specs.Turns.{as_seat}
 use Rattle.px_rounds.specs.Written.{IsWritten}
 use Rattle.px_server.specs.Kept.{HasFailed, has_told}
@@ -36,7 +39,7 @@ use Rattle.px_program.specs.Status.{IsQuietStatus, causes_of, comes_from, damage
 use Rattle.px_program.specs.declared.causes.Causes.{Causes}
 use Rattle.px_program.specs.declared.causes.Place.{Place}
 use Rattle.px_program.specs.declared.job.Job.{Job}
-use Rattle.px_program.specs.declared.job.Job.TheVariants.{Script, Verify}
+use Rattle.px_program.specs.declared.job.Job.TheVariants.{Script, Verify, Load}
 use Rattle.px_program.specs.declared.status.Status.{Status}
 use Rattle.px_program.specs.declared.status.Status.TheVariants.{Done}
 use Rattle.px_verified.specs.declared.asked.Verification.{Verification}
@@ -154,10 +157,13 @@ no_entries (e ∷ es) h = absurd (omega arith)
 
 module _ (sound : Type 0) (k : Known) (script : List ℕ) (ts : List Transcript) (sink_failed memory : Bool) where
   -- a reply that tells of the disk has an entry that tells it
+  ran_told : k.damaged ≡ undamaged → RanScript sound k 0 (script_of script) ts sink_failed memory → some_refused_by is_of_disk (items_of ts) ≡ true → has_told k.seen ≡ true
+  ran_told whole a tell =
+      let r = a.ran in
+      rounds_told sound k whole 0 1 (fresh a.sessions) r.passed r.done (length k.seen) a.states memory r.answered (sym (ap (λ (l : List Transcript). some_refused_by is_of_disk (items_of l)) r.flat) ∙ tell)
+
   script_told : k.damaged ≡ undamaged → AnswersScript sound k 0 script ts sink_failed memory → some_refused_by is_of_disk (items_of ts) ≡ true → has_told k.seen ≡ true
-  script_told whole (inl a) tell =
-      let r = a.ran.ran in
-      rounds_told sound k whole 0 1 (fresh a.ran.sessions) r.passed r.done (length k.seen) a.ran.states memory r.answered (sym (ap (λ (l : List Transcript). some_refused_by is_of_disk (items_of l)) r.flat) ∙ tell)
+  script_told whole (inl a) tell = ran_told whole a.ran tell
   script_told whole (inr h) tell = absurd (false≢true (sym (⊎_elim
       (λ is. ap (λ (l : List Transcript). some_refused_by is_of_disk (items_of l)) is ∙ stopped_quiet h.fault (length script))
       (λ none. ap (λ (l : List Transcript). some_refused_by is_of_disk (items_of l)) none.0) h.told) ∙ tell))
@@ -165,28 +171,34 @@ module _ (sound : Type 0) (k : Known) (script : List ℕ) (ts : List Transcript)
   all_own : (seat : ℕ) → own_since seat 0 (take (length k.seen) k.seen) ≡ outline (acts_by seat k.seen)
   all_own seat = ap (λ (l : List Entry). outline (acts_by seat l)) (take-length k.seen)
 
+  ran_balanced : k.damaged ≡ undamaged → RanScript sound k 0 (script_of script) ts sink_failed memory → has_fatal (items_of ts) ≡ false → (seat : ℕ) → IsBalanced (outline (acts_by seat k.seen))
+  ran_balanced whole a go seat =
+      let r = a.ran in
+      let own = rounds_balanced sound k whole 0 1 (fresh a.sessions) r.passed r.done (length k.seen) a.states memory r.answered (sym (ap (λ (l : List Transcript). has_fatal (items_of l)) r.flat) ∙ go) seat in
+      subst IsBalanced (all_own seat) own
+
   seats_balanced : k.damaged ≡ undamaged → AnswersScript sound k 0 script ts sink_failed memory → has_fatal (items_of ts) ≡ false → (seat : ℕ) → IsBalanced (outline (acts_by seat k.seen))
   unfolding acts_by
-  seats_balanced whole (inl a) go seat =
-      let r = a.ran.ran in
-      let own = rounds_balanced sound k whole 0 1 (fresh a.ran.sessions) r.passed r.done (length k.seen) a.ran.states memory r.answered (sym (ap (λ (l : List Transcript). has_fatal (items_of l)) r.flat) ∙ go) seat in
-      subst IsBalanced (all_own seat) own
+  seats_balanced whole (inl a) go seat = ran_balanced whole a.ran go seat
   seats_balanced whole (inr h) go seat = subst (λ (l : List Entry). IsBalanced (outline (acts_by seat l))) (sym (no_entries k.seen h.still)) balanced-none
 
   -- each session came to its end
-  script_whole : AnswersScript sound k 0 script ts sink_failed memory → has_fatal (items_of ts) ≡ false → sink_failed ≡ false → memory ≡ false → IsWholeScript script ts ⊎ IsToldWhy script ts
-  script_whole (inl a) go sent enough =
-      let n = a.ran.sessions in
-      let r = a.ran.ran in
+  ran_whole : RanScript sound k 0 (script_of script) ts sink_failed memory → has_fatal (items_of ts) ≡ false → sink_failed ≡ false → memory ≡ false → IsWholeScript script ts
+  ran_whole a go sent enough =
+      let n = a.sessions in
+      let r = a.ran in
       let all : r.passed ≡ script_of script = sym (append-nil r.passed) ∙ (ap (λ (l : List (List SessionText)). r.passed ++ l) (sym (r.whole sent enough)) ∙ r.all) in
-      inl (record {
+      record {
         sessions = n;
-        within = a.ran.within;
+        within = a.within;
         rounds = r.done;
         flat = r.flat;
         whole = subst (λ (rounds : List (List SessionText)). AreWholeRounds n rounds r.done) all
-            (whole_rounds sound k n 0 1 (fresh n) r.passed r.done (length k.seen) a.ran.states memory enough (length-replicate n _) (fresh_going n) (sym (ap (λ (l : List Transcript). has_fatal (items_of l)) r.flat) ∙ go) r.answered);
-      })
+            (whole_rounds sound k n 0 1 (fresh n) r.passed r.done (length k.seen) a.states memory enough (length-replicate n _) (fresh_going n) (sym (ap (λ (l : List Transcript). has_fatal (items_of l)) r.flat) ∙ go) r.answered);
+      }
+
+  script_whole : AnswersScript sound k 0 script ts sink_failed memory → has_fatal (items_of ts) ≡ false → sink_failed ≡ false → memory ≡ false → IsWholeScript script ts ⊎ IsToldWhy script ts
+  script_whole (inl a) go sent enough = inl (ran_whole a.ran go sent enough)
   script_whole (inr h) go sent enough = ⊎_elim (λ is. inr (h.fault, h.why, is)) (λ none. absurd (false≢true (sym enough ∙ none.1))) h.told
 
 -- ---- 4. A verification
@@ -221,26 +233,50 @@ module _ (sound : Type 0) (k : Known) (v : Verification) (ts : List Transcript) 
   verification_whole (inl h) enough = (h.reply, 0, length k.seen, h.told)
   verification_whole (inr h) enough = absurd (false≢true (sym enough ∙ h.lacks))
 
--- ---- 5. A job
+-- ---- 5. A load
+
+module _ (sound : Type 0) (k : Known) (l : Loads) (ts : List Transcript) (memory : Bool) where
+  load_told : k.damaged ≡ undamaged → RanLoad sound k 0 l ts memory → some_refused_by is_of_disk (items_of ts) ≡ true → has_told k.seen ≡ true
+  load_told whole (inl h) tell = ran_told sound k (load_text l) ts false h.lacked whole h.ran tell
+  load_told whole (inr h) tell = absurd (false≢true (sym (ap (λ (l : List Transcript). some_refused_by is_of_disk (items_of l)) h.none) ∙ tell))
+
+  load_balanced : k.damaged ≡ undamaged → RanLoad sound k 0 l ts memory → has_fatal (items_of ts) ≡ false → (seat : ℕ) → IsBalanced (outline (acts_by seat k.seen))
+  unfolding acts_by
+  load_balanced whole (inl h) go seat = ran_balanced sound k (load_text l) ts false h.lacked whole h.ran go seat
+  load_balanced whole (inr h) go seat = subst (λ (l : List Entry). IsBalanced (outline (acts_by seat l))) (sym (no_entries k.seen h.still)) balanced-none
+
+  not_lacked : (b : Bool) → (b ≡ true → memory ≡ true) → memory ≡ false → b ≡ false
+  not_lacked true h enough = absurd (false≢true (sym enough ∙ h refl))
+  not_lacked false h enough = refl
+
+  load_whole : RanLoad sound k 0 l ts memory → has_fatal (items_of ts) ≡ false → memory ≡ false → IsWholeScript (load_text l) ts
+  load_whole (inl h) go enough = ran_whole sound k (load_text l) ts false h.lacked h.ran go refl (not_lacked h.lacked h.told enough)
+  load_whole (inr h) go enough = absurd (false≢true (sym enough ∙ h.lacked))
+
+-- ---- 6. A job
 
 module _ (sound : Type 0) (k : Known) (ts : List Transcript) (sink_failed memory : Bool) where
   job_told : (job : Job) → k.damaged ≡ undamaged → AnswersJob sound k 0 job ts sink_failed memory → some_refused_by is_of_disk (items_of ts) ≡ true → has_told k.seen ≡ true
   job_told (Script script) whole a tell = script_told sound k script ts sink_failed memory whole a tell
   job_told (Verify v) whole a tell = verification_told sound k v ts memory whole a tell
+  job_told (Load l) whole a tell = load_told sound k l ts memory whole a tell
 
   job_balanced : (job : Job) → k.damaged ≡ undamaged → AnswersJob sound k 0 job ts sink_failed memory → has_fatal (items_of ts) ≡ false → (seat : ℕ) → IsBalanced (outline (acts_by seat k.seen))
   job_balanced (Script script) whole a go seat = seats_balanced sound k script ts sink_failed memory whole a go seat
   job_balanced (Verify v) whole a go seat = verification_balanced sound k v ts memory whole a go seat
+  job_balanced (Load l) whole a go seat = load_balanced sound k l ts memory whole a go seat
 
   job_whole : (job : Job) → AnswersJob sound k 0 job ts sink_failed memory → has_fatal (items_of ts) ≡ false → sink_failed ≡ false → memory ≡ false → HasEnded job ts
   job_whole (Script script) a go sent enough = script_whole sound k script ts sink_failed memory a go sent enough
   job_whole (Verify v) a go sent enough = verification_whole sound k v ts memory a enough
+  job_whole (Load l) a go sent enough = load_whole sound k l ts memory a go enough
 
   -- of a job of which nothing is refused all was done
   all_done : (job : Job) → HasEnded job ts → some_refused_by is_any (items_of ts) ≡ false → IsWholeJob job ts
   all_done (Script script) (inl w) none = w
   all_done (Script script) (inr why) none = absurd (false≢true (sym none ∙ ap (λ (l : List Transcript). some_refused_by is_any (items_of l)) why.2))
   all_done (Verify v) w none = w
+  all_done (Load l) w none = w
 
 module _ (sound : Type 0) (k : Known) (job : Job) (ts : List Transcript) (sink_failed memory : Bool) where
   -- where no session is stopped, nothing is left under way
@@ -249,7 +285,7 @@ module _ (sound : Type 0) (k : Known) (job : Job) (ts : List Transcript) (sink_f
       let balanced = job_balanced sound k ts sink_failed memory job whole h go in
       record { batches = batches_ended k.seen balanced; points = points_closed k.seen balanced }
 
-  -- ---- 6. The run
+  -- ---- 7. The run
 
   module _ {D O : Type 0} (d : DiskGhosts D) (s : SinkGhosts O) (disk : D) (out out' : O) (text : List ℕ) (status : Status) (whole : k.damaged ≡ undamaged) (answers : AnswersJob sound k 0 job ts sink_failed memory) (written : IsWritten s out out' text sink_failed memory)
       (is : status ≡ status_of sink_failed (d.first_fault disk) memory (causes_of (items_of ts))) (blamed : has_told k.seen ≡ true → HasFailed d disk) (first : 0 < d.faults disk → 0 < d.first_fault disk) (some : 0 < d.first_fault disk → 0 < d.faults disk) where

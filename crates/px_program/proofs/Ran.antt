@@ -14,7 +14,7 @@ use Rattle.px_recovery.specs.Folder.{FolderData, IsEmptyFrom, StandsFor, StandsO
 use Rattle.px_recovery.specs.Stands.{Recovers}
 use Rattle.px_folder.specs.Calls.{AreOpenedBy}
 use Rattle.px_folder.specs.Damage.{IsFirstDamaged}
-use Rattle.px_reply.specs.Printed.{printed}
+use Rattle.px_program.specs.Answers.{printed_for}
 use Rattle.px_opening.specs.Opened.{folder_in}
 use Rattle.px_opening.specs.declared.fault.OpenFault.{OpenFault}
 use Rattle.px_opening.specs.declared.fault.OpenFault.TheVariants as fault
@@ -27,9 +27,10 @@ use Rattle.px_server.specs.Started.{IsOpenedOn, KeepsFolder, StartsSound}
 use Rattle.px_program.specs.Run.{AsksFor, HasRead, HasReadSome, IsRun, IsUnrun, Stops, known_over, most_read, run_given, run_left, ReadsSound}
 use Rattle.px_program.proofs.Stops.{starts_reads}
 use Rattle.px_program.specs.Status.{is_memory_status}
-use Rattle.px_arguments.specs.Arguments.{SeenCommand, Run, Verify, command_in}
+use Rattle.px_arguments.specs.Arguments.{SeenCommand, Run, Verify, Load, command_in}
 use Rattle.px_program.specs.inner.Outcomes.{with_disk}
 use Rattle.px_program.specs.inner.Running.{IsCausedBy, IsOpenedNow, LeavesNothing, RanFolder, RanOn, RanOpened, RanOver, StoodBefore, Unopened, IsLeftSince, at_least, stopped_by}
+use Rattle.px_load.specs.declared.script.Load.{Load as Loads}
 use Rattle.px_verifying.specs.declared.answer.VerifyKind.{VerifyKind}
 use Rattle.px_verified.specs.declared.asked.Verification.{Verification}
 use Rattle.px_program.specs.declared.job.Job.{Job}
@@ -211,6 +212,10 @@ module _ {D E C O : Type 0} (d : DiskGhosts D) (of : E → D) (c : ClockGhosts C
 pub verifies : {I : Type 0} (s : SourceGhosts I) (input : I) (words : List (List ℕ)) (folder table index : List ℕ) (kind : VerifyKind) (v : Verification) → command_in words ≡ Some (Verify folder table index kind) → v ≡ record { table = table; index = index; kind = kind } → AsksFor s words input input (jobs.Verify v)
 verifies s input words folder table index kind v named is = record { folder = folder; words_are_verify = named ∙ ap (λ (x : Verification). Some (Verify folder x.table x.index x.kind)) (sym is); input_is_left = refl }
 
+-- and those of a load
+pub loads : {I : Type 0} (s : SourceGhosts I) (input : I) (words : List (List ℕ)) (folder : List ℕ) (l : Loads) → command_in words ≡ Some (Load folder l) → AsksFor s words input input (jobs.Load l)
+loads s input words folder l named = record { folder = folder; words_are_load = named; input_is_left = refl }
+
 -- no word, or no script
 module _ {D C I O : Type 0} (d : DiskGhosts D) (c : ClockGhosts C) (s : SourceGhosts I) (k : SinkGhosts O) (disk : D) (clock : C) (input input' : I) (out : O) (words : List (List ℕ)) (o : Outcome D) where
   pub not_run : (status : Status) → o.status ≡ status → o.disk ≡ disk → Stops d s disk disk input input' words status → o.trail.entries ≡ [] → o.late ≡ None → o.transcripts ≡ [] → o.memory ≡ is_memory_status status → TouchesOnly d disk disk catalogue_files
@@ -231,6 +236,7 @@ module _ {D C I O : Type 0} (d : DiskGhosts D) (c : ClockGhosts C) (s : SourceGh
   some_read : (x : SeenCommand) → HasRead s x input input' → HasReadSome s x input input'
   some_read (Run folder) r = λ tells. (most_read, omega arith, r tells)
   some_read (Verify folder table index kind) r = r
+  some_read (Load folder load) r = r
 
   stops_by : d.faults disk ≡ 0 → (0 < d.first_fault o.disk → 0 < d.faults o.disk) → (f : OpenFault) (n : ℕ) → n ≡ d.first_fault o.disk → IsCausedBy d disk o.disk f → Stops d s disk o.disk input input' words (stopped_by f n)
   stops_by fresh failed f (suc n) is caused = (let
@@ -270,7 +276,7 @@ module _ {D C I O : Type 0} (d : DiskGhosts D) (c : ClockGhosts C) (s : SourceGh
     status_is_caused = r.over.status;
     faults_are_theirs = r.over.blamed;
     all_is_ended = job_ended (IsSoundFolder r.folder) (known_over (base_of r.folder) r.over.seat o.trail.entries) job o.transcripts r.over.sink_failed o.memory refl r.over.replied;
-    run_is_complete = complete (IsSoundFolder r.folder) (known_over (base_of r.folder) r.over.seat o.trail.entries) job o.transcripts r.over.sink_failed o.memory d k o.disk out out' (printed o.transcripts) o.status refl r.over.replied r.over.written r.over.status r.over.blamed known failed;
+    run_is_complete = complete (IsSoundFolder r.folder) (known_over (base_of r.folder) r.over.seat o.trail.entries) job o.transcripts r.over.sink_failed o.memory d k o.disk out out' (printed_for job o.transcripts) o.status refl r.over.replied r.over.written r.over.status r.over.blamed known failed;
   })
   run_of job asks none fresh known failed (inr u) = inl (record {
     cause = subst (λ (x : Status). Stops d s disk o.disk input input' words x) (sym u.status) (stops_by fresh failed u.fault (d.first_fault o.disk) refl u.caused);

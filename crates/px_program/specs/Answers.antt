@@ -1,11 +1,12 @@
--- What a script is answered, and what a verification is.
-use Rattle.std.specs.Prelude.{ℕ, ◌≡◌, ◌≢◌, ◌<◌, ◌⊎◌, Bool, true, false, List, [], ◌∷◌, drop, length, vec_capacity}
+-- What a script is answered, and what a verification and a load are.
+use Rattle.std.specs.Prelude.{ℕ, ◌≡◌, ◌≢◌, ◌<◌, ◌≤◌, ◌⊎◌, Bool, true, false, List, [], ◌∷◌, drop, length, vec_capacity}
 use Rattle.px_values.specs.declared.limit.Limit.TheVariants as bound
 use Rattle.px_script.specs.declared.script.ScriptFault.{ScriptFault}
 use Rattle.px_script.specs.declared.script.ScriptFault.TheVariants.{TooLong, NotUtf8, Memory}
 use Rattle.px_script.specs.Scripts.{IsReadable, StopsScript, script_of}
 use Rattle.px_trail.specs.Trail.{acts_by}
 use Rattle.px_calls.specs.Known.{Known}
+use Rattle.px_reply.specs.Printed.{printed}
 use Rattle.px_reply.specs.declared.refusal.Refusal.{Refusal}
 use Rattle.px_reply.specs.declared.refusal.Refusal.TheVariants as refusal
 use Rattle.px_reply.specs.declared.reply.Reply.{Reply}
@@ -17,8 +18,10 @@ use Rattle.px_rounds.specs.Turns.{as_seat}
 use Rattle.px_session.specs.Replies.{own_since}
 use Rattle.px_verified.specs.declared.asked.Verification.{Verification}
 use Rattle.px_verified.specs.Verified.{IsRight}
+use Rattle.px_load.specs.Told.{told}
+use Rattle.px_loaded.specs.Loads.{RanLoad}
 use Rattle.px_program.specs.declared.job.Job.{Job}
-use Rattle.px_program.specs.declared.job.Job.TheVariants.{Script, Verify}
+use Rattle.px_program.specs.declared.job.Job.TheVariants.{Script, Verify, Load}
 use Rattle.px_program.specs.declared.replies.Room.{Room}
 
 -- how it is told that nothing of a script is run
@@ -78,3 +81,16 @@ AnswersVerification sound k from v ts memory = IsVerified sound k from v ts ⊎ 
 abbrev pub AnswersJob : Type 0 → Known → ℕ → Job → List Transcript → (sink_failed memory : Bool) → Type 0
 AnswersJob sound k from (Script script) ts sink_failed memory = AnswersScript sound k from script ts sink_failed memory
 AnswersJob sound k from (Verify v) ts sink_failed memory = AnswersVerification sound k from v ts memory
+AnswersJob sound k from (Load l) ts sink_failed memory = RanLoad sound k from l ts memory
+
+-- what is printed of the answers to a job: the replies; of a load the first refusal alone, or the counts of its rows
+abbrev pub printed_for : Job → List Transcript → List ℕ
+printed_for (Script script) ts = printed ts
+printed_for (Verify v) ts = printed ts
+printed_for (Load l) ts = told l ts
+
+-- a load has at most 100,000 rows
+abbrev pub IsWithin : Job → Type 0
+IsWithin (Script script) = Unit {0}
+IsWithin (Verify v) = Unit {0}
+IsWithin (Load l) = l.rows ≤ 100000

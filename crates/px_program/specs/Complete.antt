@@ -19,10 +19,11 @@ use Rattle.px_reply.specs.declared.transcript.Transcript.{Transcript}
 use Rattle.px_rounds.specs.Rounds.{AreWithin, in_order, text_in}
 use Rattle.px_server.specs.Kept.{HasFailed}
 use Rattle.px_session.specs.Replies.{has_fatal}
+use Rattle.px_load.specs.Script.{load_text}
 use Rattle.px_program.specs.Answers.{one_item, stopped_by}
 use Rattle.px_program.specs.Status.{IsQuietStatus, is_of_disk, items_of, some_refused_by}
 use Rattle.px_program.specs.declared.job.Job.{Job}
-use Rattle.px_program.specs.declared.job.Job.TheVariants.{Script, Verify}
+use Rattle.px_program.specs.declared.job.Job.TheVariants.{Script, Verify, Load}
 use Rattle.px_program.specs.declared.status.Status.{Status}
 use Rattle.px_program.specs.declared.status.Status.TheVariants.{Done}
 
@@ -80,15 +81,17 @@ IsOneReply ts = (reply : Reply) × (first : ℕ) × (last : ℕ) × (ts ≡ one_
 abbrev pub IsWholeJob : Job → List Transcript → Type 0
 IsWholeJob (Script script) ts = IsWholeScript script ts
 IsWholeJob (Verify v) ts = IsOneReply ts
+IsWholeJob (Load l) ts = IsWholeScript (load_text l) ts
 
--- so, or nothing of the script is run
+-- so, or nothing of the script is run; that of a load always is
 abbrev pub HasEnded : Job → List Transcript → Type 0
 HasEnded (Script script) ts = IsWholeScript script ts ⊎ IsToldWhy script ts
 HasEnded (Verify v) ts = IsOneReply ts
+HasEnded (Load l) ts = IsWholeScript (load_text l) ts
 
 -- ---- runs
 
--- each statement of each session was answered, or the verification was, and none refused; no memory was lacked, and the sink took all
+-- each statement of each session was answered, those of a load's too, or the verification was, and none refused; no memory was lacked, and the sink took all
 pub record IsAnsweredWhole {O : Type 0} (k : SinkGhosts O) (out out' : O) (job : Job) (ts : List Transcript) (memory : Bool) : Type 0 where
   pub whole : IsWholeJob job ts
   pub none_refused : some_refused_by is_any (items_of ts) ≡ false

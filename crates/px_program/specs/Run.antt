@@ -11,7 +11,6 @@ use Rattle.px_trail.specs.declared.entry.Entry.{Entry}
 use Rattle.px_trail.specs.Legal.{IsLegal}
 use Rattle.px_trail.specs.Trail.{Base, closing_call}
 use Rattle.px_calls.specs.Known.{Known}
-use Rattle.px_reply.specs.Printed.{printed}
 use Rattle.px_reply.specs.declared.transcript.Transcript.{Transcript}
 use Rattle.px_catalog.specs.Catalogue.{catalogue_files}
 use Rattle.px_recovery.specs.Base.{IsSound, IsSoundFolder, base_of}
@@ -26,9 +25,10 @@ use Rattle.px_server.specs.Others.{part_files}
 use Rattle.px_server.specs.Started.{StartsSound, StandsBy}
 use Rattle.px_session.specs.Replies.{has_fatal}
 use Rattle.px_server.specs.Stamps.{AreStamped}
-use Rattle.px_arguments.specs.Arguments.{SeenCommand, Run, Verify, command_in}
+use Rattle.px_arguments.specs.Arguments.{SeenCommand, Run, Verify, Load, command_in}
+use Rattle.px_load.specs.declared.script.Load.{Load as Loads}
 use Rattle.px_verified.specs.declared.asked.Verification.{Verification}
-use Rattle.px_program.specs.Answers.{AnswersJob}
+use Rattle.px_program.specs.Answers.{AnswersJob, printed_for}
 use Rattle.px_program.specs.Complete.{IsComplete}
 use Rattle.px_program.specs.Ended.{AllEnded}
 use Rattle.px_program.specs.Status.{causes_of, is_memory_status, items_of, status_of}
@@ -72,15 +72,17 @@ ReadsAll s input input' = IsTrue s.tells → s.remaining input' ≡ drop most_re
 abbrev pub ReadsSome : {I : Type 0} → SourceGhosts I → I → I → Type 0
 ReadsSome s input input' = IsTrue s.tells → (n : ℕ) × (n ≤ most_read) × (s.remaining input' ≡ drop n (s.remaining input))
 
--- a command's input was read: of a script all of it; for a verification none
+-- a command's input was read: of a script all of it; for a verification and a load none
 abbrev pub HasRead : {I : Type 0} → SourceGhosts I → SeenCommand → I → I → Type 0
 HasRead s (Run folder) input input' = ReadsAll s input input'
 HasRead s (Verify folder table index kind) input input' = input' ≡ input
+HasRead s (Load folder load) input input' = input' ≡ input
 
 -- or some of it was, until the run was stopped
 abbrev pub HasReadSome : {I : Type 0} → SourceGhosts I → SeenCommand → I → I → Type 0
 HasReadSome s (Run folder) input input' = ReadsSome s input input'
 HasReadSome s (Verify folder table index kind) input input' = input' ≡ input
+HasReadSome s (Load folder load) input input' = input' ≡ input
 
 -- ---- the command
 
@@ -97,10 +99,17 @@ pub record RunsVerification {I : Type 0} (words : List (List ℕ)) (input input'
   pub words_are_verify : command_in words ≡ Some (Verify folder v.table v.index v.kind)
   pub input_is_left : input' ≡ input
 
+-- the words are `load DIR` with the number and the count of rows, and no input is read
+pub record RunsLoad {I : Type 0} (words : List (List ℕ)) (input input' : I) (l : Loads) : Type 0 where
+  pub folder : List ℕ
+  pub words_are_load : command_in words ≡ Some (Load folder l)
+  pub input_is_left : input' ≡ input
+
 -- the job is what the words ask for
 abbrev pub AsksFor : {I : Type 0} → SourceGhosts I → (words : List (List ℕ)) → I → I → Job → Type 0
 AsksFor s words input input' (jobs.Script script) = RunsScript s words input input' script
 AsksFor s words input input' (jobs.Verify v) = RunsVerification words input input' v
+AsksFor s words input input' (jobs.Load l) = RunsLoad words input input' l
 
 -- ---- the trail
 
@@ -153,7 +162,7 @@ pub record IsUnrun {D C I O : Type 0} (d : DiskGhosts D) (s : SourceGhosts I) (g
 
 -- ---- a run
 
--- What the words ask for was done on what the folder stood for: the script of the input was run, or an index was verified
+-- What the words ask for was done on what the folder stood for: the script of the input was run, an index was verified, or rows were loaded
 pub record IsRun {D C I O : Type 0} (d : DiskGhosts D) (c : ClockGhosts C) (s : SourceGhosts I) (k : SinkGhosts O) (given : RunGiven D C I O) (left : RunLeft D I O) : Type 0 where
   pub job : Job
   pub job_is_asked_for : AsksFor s given.words given.input left.input job
@@ -163,11 +172,11 @@ pub record IsRun {D C I O : Type 0} (d : DiskGhosts D) (c : ClockGhosts C) (s : 
   pub trail_is_legal : IsLegal (base_of folder) left.outcome.trail.entries
   -- each stamp that was drawn is the one behind its table's last by a number that the clock told, each by a later one
   pub stamps_are_by_the_clock : IsTrue c.tells → (n : ℕ) × AreStamped (c.times given.clock) (base_of folder) [] 0 n left.outcome.trail.entries
-  -- the sessions are answered, round by round, or the verification is; what is told of rows is told where the folder was sound
+  -- the sessions are answered, round by round, those of a load's script too, or the verification is; what is told of rows is told where the folder was sound
   pub seat : ℕ
   pub sink_failed : Bool
   pub items_are_replied : AnswersJob (IsSoundFolder folder) (known_over (base_of folder) seat left.outcome.trail.entries) 0 job left.outcome.transcripts sink_failed left.outcome.memory
-  pub bytes_are_printed : IsWritten k given.out left.out (printed left.outcome.transcripts) sink_failed left.outcome.memory
+  pub bytes_are_printed : IsWritten k given.out left.out (printed_for job left.outcome.transcripts) sink_failed left.outcome.memory
   -- each image that a stop may leave at a moment of the run stands for what was there then, or for this and the one entry under way
   pub stops_recover : StartsSound d given.disk → (moment : ℕ) (image : Image) → IsLeft d left.outcome.disk moment image → Recovers (base_of folder) left.outcome.trail.entries left.outcome.late moment image
   -- and so does each at a moment from the opening's end on, where a stop may lose what reads gave at first; before it a stop leaves the files as at first, but for the catalogue's

@@ -1,4 +1,5 @@
 // What a command asks of the tables of its folder.
+use px_load::Load;
 use px_values::Items;
 use px_verified::Verification;
 
@@ -9,4 +10,6 @@ pub enum Job {
     Script(Items<u8>),
     /// The verification of an index.
     Verify(Verification),
+    /// A load, of at most 100,000 rows.
+    Load(Load),
 }

@@ -7,14 +7,13 @@ ghost use Rattle.px_opening.specs.Opened.{IsOpenedRight, folder_in};
 ghost use Rattle.px_opening.specs.declared.fault.OpenFault.TheVariants as fault;
 ghost use Rattle.px_recovery.specs.Base.{IsSoundFolder, base_of};
 ghost use Rattle.px_recovery.specs.Stands.{Recovers};
-ghost use Rattle.px_reply.specs.Printed.{printed};
 ghost use Rattle.px_rounds.specs.Turns.{GoesOn};
 ghost use Rattle.px_rounds.specs.Written.{IsWritten};
 ghost use Rattle.px_server.specs.Others.{BeginsAt, beginning_at};
 ghost use Rattle.px_server.specs.Shown.{known_by};
 ghost use Rattle.px_server.specs.Started.{IsOpenedOn, StartsSound};
-ghost use Rattle.px_program.specs.Answers.{AnswersJob};
-ghost use Rattle.px_arguments.specs.Arguments.{Run, Verify, command_in as command_said};
+ghost use Rattle.px_program.specs.Answers.{AnswersJob, IsWithin, printed_for};
+ghost use Rattle.px_arguments.specs.Arguments.{Load as Loads, Run, Verify, command_in as command_said};
 ghost use Rattle.px_program.specs.Run.{FaultsAreTold, IsRun, IsUnrun, run_given, run_left, undamaged};
 ghost use Rattle.px_program.specs.Status.{is_memory_status};
 ghost use Rattle.px_program.specs.inner.Running.{IsOpenedNow, RanOn, RanOpened, StoodBefore, IsLeftSince, stopped_by};
@@ -27,7 +26,9 @@ use crate::since::{Later, Since};
 use crate::status::Status;
 use crate::watched::Watched;
 use crate::words::verification;
-use px_arguments::{Command, command_in};
+use px_arguments::{Command, command_in, law_spelled};
+use px_load::Load;
+use px_loaded::run_load;
 use px_opening::{OpenFault, Opened, open};
 use px_outside::{Clock, CountsCalls, Disk, InputFault, Metered, Sink, Source, read_all};
 use px_rounds::Rounds;
@@ -68,10 +69,11 @@ fn serve<
     O: Sink,
     B: Based + Founded + Send + Sync,
 >(rt: &R, alloc: Global, server: Server<D, C, B>, job: Job, out: &mut O) -> Rounds<Server<D, C, B>>
-    requires { server.entries ≡ [] }
+    requires nothing { server.entries ≡ [] }
+    requires within { IsWithin job }
     ensures goes { GoesOn (known_by B.base B.damaged server) (known_by B.base B.damaged result.server) }
     ensures answered { AnswersJob B.sound (known_by B.base B.damaged result.server) 0 job result.transcripts result.sink_failed result.memory }
-    ensures written { IsWritten ⟦<O as Sink>⟧ out.old out.new (printed result.transcripts) result.sink_failed result.memory }
+    ensures written { IsWritten ⟦<O as Sink>⟧ out.old out.new (printed_for job result.transcripts) result.sink_failed result.memory }
 {
     match job {
         Job::Script(script) => {
@@ -80,6 +82,7 @@ fn serve<
             rounds
         }
         Job::Verify(asked) => run_verified(rt, alloc, server, asked, out),
+        Job::Load(load) => run_load(rt, alloc, server, load, out),
     }
 }
 
@@ -92,6 +95,7 @@ fn run_over<
     O: Sink,
     B: Based + Founded + Send + Sync,
 >(rt: &R, alloc: Global, job: Job, disk: D, opened: Opened, clock: C, out: &mut O) -> Outcome<D>
+    requires within { IsWithin job }
     requires right { IsOpenedRight opened }
     requires base { B.base ≡ base_of (folder_in opened) }
     requires damaged { B.damaged ≡ undamaged }
@@ -138,6 +142,7 @@ fn run_since<
     O: Sink,
     B: Based + Founded + Since + Send + Sync,
 >(rt: &R, alloc: Global, job: Job, disk: D, opened: Opened, clock: C, out: &mut O) -> Outcome<D>
+    requires within { IsWithin job }
     requires right { IsOpenedRight opened }
     requires base { B.base ≡ base_of (folder_in opened) }
     requires damaged { B.damaged ≡ undamaged }
@@ -169,6 +174,7 @@ fn run_opened<R: Threads + Wait + Sync, D: CountsCalls + Send, C: Clock + Drop +
     clock: C,
     out: &mut O,
 ) -> Outcome<D>
+    requires within { IsWithin job }
     requires right { IsOpenedRight opened }
     ensures ran { RanOpened ⟦<D as Disk>⟧ ⟦<C as Clock>⟧ ⟦<O as Sink>⟧ (base_of (folder_in opened)) (IsSoundFolder (folder_in opened)) (IsTrue D.tells → IsOpenedNow ⟦<D as Disk>⟧ disk opened) (beginning_at ⟦<D as Disk>⟧ disk) (IsLeftSince ⟦<D as Disk>⟧ (D.calls disk) (StoodBefore ⟦<D as Disk>⟧ disk opened)) (C.times clock) job disk out.old out.new result }
     ensures begun { D.calls disk ≤ D.calls result.disk }
@@ -186,6 +192,7 @@ fn run_on<R: Threads + Wait + Sync, D: CountsCalls + Send, C: Clock + Drop + Sen
     clock: C,
     out: &mut O,
 ) -> Outcome<D>
+    requires { IsWithin job }
     ensures { RanOn ⟦<D as Disk>⟧ ⟦<C as Clock>⟧ ⟦<O as Sink>⟧ job clock disk out.old out.new result }
 {
     law_starts::<D>();
@@ -209,6 +216,7 @@ fn run_folder<R: Threads + Wait + Sync, D: Disk + Send, C: Clock + Drop + Send, 
     out: &mut O,
 ) -> Outcome<D>
     requires fresh { (D.calls disk ≡ 0) × (D.faults disk ≡ 0) × (D.first_fault disk ≡ 0) }
+    requires within { IsWithin job }
     ensures run { RanOn ⟦<D as Disk>⟧ ⟦<C as Clock>⟧ ⟦<O as Sink>⟧ job clock disk out.old out.new result }
     ensures known { 0 < D.faults result.disk → 0 < D.first_fault result.disk }
     ensures failed { 0 < D.first_fault result.disk → 0 < D.faults result.disk }
@@ -290,8 +298,36 @@ fn run_verification<
     }
 }
 
+/// Puts the rows of a load into a table of its own, and asks for them. No input is read.
+fn run_loading<
+    R: Threads + Wait + Sync,
+    D: Disk + Send,
+    C: Clock + Drop + Send,
+    I: Source,
+    O: Sink,
+>(
+    rt: &R,
+    alloc: Global,
+    words: &[String],
+    load: Load,
+    disk: D,
+    clock: C,
+    input: &mut I,
+    out: &mut O,
+) -> Outcome<D>
+    requires fresh { (D.calls disk ≡ 0) × (D.faults disk ≡ 0) × (D.first_fault disk ≡ 0) }
+    requires named { (folder : List ℕ) × (command_said (map string_bytes words.now) ≡ Some (Loads folder load)) }
+    ensures run { IsUnrun ⟦<D as Disk>⟧ ⟦<I as Source>⟧ (run_given disk clock input.old out.old (map string_bytes words.now)) (run_left result input.new out.new)
+        ⊎ IsRun ⟦<D as Disk>⟧ ⟦<C as Clock>⟧ ⟦<I as Source>⟧ ⟦<O as Sink>⟧ (run_given disk clock input.old out.old (map string_bytes words.now)) (run_left result input.new out.new) }
+    ensures faults_are_told { FaultsAreTold ⟦<D as Disk>⟧ disk result.disk result.status }
+{
+    law_spelled();
+    run_folder(rt, alloc, Job::Load(load), disk, clock, out)
+}
+
 /// Runs the program: reads a script from the input and runs its sessions on the tables in the folder that the disk holds, or verifies an
-/// index of one, as the words say, and writes the replies. The words are those after the program's name. The disk had no call yet.
+/// index of one, or loads rows into a table, as the words say, and writes the replies or what is told of the load. The words are those after
+/// the program's name. The disk had no call yet.
 pub fn phoenix<
     R: Threads + Wait + Sync,
     D: Disk + Send,
@@ -327,5 +363,11 @@ pub fn phoenix<
         ) => run_verification(
             rt, alloc, words, table, index, kind, disk, clock, input, out,
         ),
+        Some(
+            Command::Load {
+                folder: _folder,
+                load,
+            },
+        ) => run_loading(rt, alloc, words, load, disk, clock, input, out),
     }
 }

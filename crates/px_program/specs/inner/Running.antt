@@ -9,7 +9,6 @@ use Rattle.px_outside.specs.declared.sink.Sink.{Ghosts as SinkGhosts}
 use Rattle.px_trail.specs.Legal.{IsLegal}
 use Rattle.px_trail.specs.Trail.{Base, closing_call}
 use Rattle.px_trail.specs.declared.entry.Entry.{Entry}
-use Rattle.px_reply.specs.Printed.{printed}
 use Rattle.px_recovery.specs.Base.{IsSoundFolder, base_of}
 use Rattle.px_catalog.specs.Catalogue.{HasCatalogue, catalogue_files}
 use Rattle.px_recovery.specs.Folder.{FolderData, StandsFor, StandsOn, region_numbers}
@@ -26,7 +25,7 @@ use Rattle.px_server.specs.Kept.{HasFailed, has_told}
 use Rattle.px_server.specs.Others.{Beginning, OthersStay, beginning_at}
 use Rattle.px_server.specs.Stamps.{AreStamped}
 use Rattle.px_server.specs.Started.{HoldsOwn, StandsBy, StartsSound}
-use Rattle.px_program.specs.Answers.{AnswersJob}
+use Rattle.px_program.specs.Answers.{AnswersJob, printed_for}
 use Rattle.px_program.specs.Run.{IsOrigin, ReadsSound, known_over}
 use Rattle.px_program.specs.Status.{causes_of, is_memory_status, items_of, status_of}
 use Rattle.px_program.specs.declared.job.Job.{Job}
@@ -64,7 +63,7 @@ pub record RanOver {D C O : Type 0} (d : DiskGhosts D) (c : ClockGhosts C) (k : 
   pub seat : ℕ
   pub sink_failed : Bool
   pub replied : AnswersJob sound (known_over base seat outcome.trail.entries) 0 job outcome.transcripts sink_failed outcome.memory
-  pub written : IsWritten k out out' (printed outcome.transcripts) sink_failed outcome.memory
+  pub written : IsWritten k out out' (printed_for job outcome.transcripts) sink_failed outcome.memory
   pub recovers : premise → (moment : ℕ) (image : Image) → Left outcome.disk moment image → Recovers base outcome.trail.entries outcome.late moment image
   pub stands : closing_call outcome.trail.entries ≡ None → premise → IsTrue d.tells → StandsBy d base outcome.disk outcome.trail.entries
   pub unlate : closing_call outcome.trail.entries ≡ None → outcome.late ≡ None

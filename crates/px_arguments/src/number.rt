@@ -1,0 +1,30 @@
+// Numbers among the words.
+ghost use Rattle.std.specs.Prelude.{◌≡◌};
+ghost use Rattle.px_arguments.specs.Arguments as spec;
+
+use px_load::MOST_ROWS;
+
+/// The number that decimal digits alone spell, where it isn't above the greatest of 64 bits.
+pub(crate) fn number_named(word: &str) -> Option<u64>
+    ensures { result ≡ spec.number_named word.now }
+{
+    if word.starts_with('+') {
+        return None;
+    }
+    match word.parse::<u64>() {
+        Ok(number) => Some(number),
+        Err(_) => None,
+    }
+}
+
+/// The number of rows of a load.
+pub(crate) fn rows_named(word: &str) -> Option<u64>
+    ensures { result ≡ spec.rows_named word.now }
+{
+    let rows = number_named(word)?;
+    if 1 <= rows && rows <= MOST_ROWS {
+        Some(rows)
+    } else {
+        None
+    }
+}
