@@ -1,6 +1,7 @@
 #!/usr/bin/env bash
-# How much memory a run takes: for each UPSERT of 35 bytes into a row of its own, for each piece that is no statement, and for the rows of a
-# SELECT beside its printed bytes. The greatest resident memory of each run is what the system counts.
+# How much memory a run takes: for each UPSERT of 35 bytes into a row of its own, for each piece that is no statement, for the rows of a
+# SELECT beside its printed bytes, and for the rows of eight tables of a folder that is opened, beside the bytes of the same rows in flushed files. The
+# greatest resident memory of each run is what the system counts.
 # Usage: bench/memory.sh [UPSERTS [PIECES [ROWS]]] (8000, 1000000, 8000)
 # A region holds 8,192 such rows until flushes come. It needs GNU time as /usr/bin/time.
 set -eu
@@ -43,6 +44,15 @@ try:
     printed = (printed_by_most - printed) // 100
     held = (most - some) // 100 - printed
     print(f"a SELECT of {rows} rows: {held} bytes for its rows, {held / printed:.2f} times the {printed} that it prints")
+    folder, flushed = work + "/tables", work + "/flushed"
+    tables = "".join(f"CREATE TABLE T{t} (K BIGINT NOT NULL PRIMARY KEY, V INTEGER);" for t in range(8))
+    run(folder, tables + "".join(f"UPSERT INTO T{t} VALUES ({k}, {k % 1000});" for k in range(rows) for t in range(8)))
+    run(flushed, tables + "".join(f"UPSERT INTO T{t} VALUES ({k}, {k % 1000});" for k in range(rows) for t in range(8)) + "\n!flush\n")
+    most, _ = run(folder, "")
+    # What the flush made are the files of rows.
+    files = sum(os.path.getsize(f"{flushed}/{name}") for name in set(os.listdir(flushed)) - set(os.listdir(folder)))
+    held = most - none
+    print(f"eight tables of {rows} rows, opened: {held / (16 * rows):.0f} bytes a cell, {held / files:.2f} times the {files / (16 * rows):.1f} bytes of a cell in a flushed file")
 finally:
     subprocess.call(["rm", "-rf", work])
 PY
