@@ -122,7 +122,7 @@ same_at [] i a b l e = absurd (omega arith)
 same_at (x ∷ cells) zero a b l e = e
 same_at (x ∷ cells) (suc i) a b l e = same_at cells i a b (omega arith) e
 
-eq_equal : (o : Ordering) → is_eq o ≡ true → o ≡ Equal
+pub eq_equal : (o : Ordering) → is_eq o ≡ true → o ≡ Equal
 eq_equal Less h = cc
 eq_equal Equal h = refl
 eq_equal Greater h = cc

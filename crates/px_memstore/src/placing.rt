@@ -15,7 +15,7 @@ pub(crate) fn stands_at(cells: &[Cell], at: usize, cell: &Cell) -> bool
 }
 
 /// The place of the first cell of a sorted list that isn't below a cell, found by halving.
-fn place_for(cells: &[Cell], cell: &Cell) -> usize
+pub(crate) fn place_for(cells: &[Cell], cell: &Cell) -> usize
     requires { IsAscending cells.now }
     ensures within { result ≤ length cells.now }
     ensures below { AllByRecursion (λ m. Below m cell.now) (take result cells.now) }

@@ -1,5 +1,5 @@
 -- The pieces of a list, and what is done with them.
-use Rattle.std.specs.Prelude.{◌≡◌, ◌≤◌, ◌<◌, ◌+◌, ◌++◌, ℕ, Bool, true, Option, Some, List, [], ◌∷◌, length, take, drop, get_or, map, vec_capacity}
+use Rattle.std.specs.Prelude.{◌≡◌, ◌≤◌, ◌<◌, ◌+◌, ◌++◌, ℕ, Bool, true, false, Option, Some, List, [], ◌∷◌, length, take, drop, get_or, map, vec_capacity}
 use Rattle.std.specs.List.{AllByRecursion}
 use Rattle.std.specs.Ordering.{is_le}
 use Rattle.px_cells.specs.CellData.{CellData}
@@ -11,6 +11,11 @@ use Rattle.px_memstore.specs.declared.pieces.Pieces.{Pieces}
 -- the lists of all pieces
 abbrev pub lists : Pieces → List (List CellData)
 lists p = p.first.items ∷ map (λ v. v.items) p.others.items
+
+-- whether a piece has a cell
+abbrev pub is_filled : List CellData → Bool
+is_filled [] = false
+is_filled (c ∷ cells) = true
 
 abbrev pub IsFilled : List CellData → Type 0
 IsFilled p = 0 < length p
