@@ -1,13 +1,14 @@
 -- A region's files, and the flush of its log.
-use Rattle.std.specs.Prelude.{◌≡◌, ◌≤◌, ◌<◌, ◌+◌, ◌∷◌, [], ℕ, max, List, length, map, take, drop, Option, Some, None}
+use Rattle.std.specs.Prelude.{◌≡◌, ◌≤◌, ◌<◌, ◌+◌, ◌∷◌, ◌⊎◌, [], ℕ, max, List, length, map, take, drop, Option, Some, None, Result, Ok, Err}
 use Rattle.px_outside.specs.Disk.{Image}
 use Rattle.px_outside.specs.declared.disk.Disk.{Ghosts}
 use Rattle.px_cells.specs.CellData.{CellData}
 use Rattle.px_file.specs.Format.{cells_in}
 use Rattle.px_file.specs.declared.region_file.RegionFile.{RegionFile}
+use Rattle.px_merge.specs.Kept.{IsKept}
 use Rattle.px_merge.specs.Merged.{joined}
 use Rattle.px_merge.specs.Settle.{settle}
-use Rattle.px_wal.specs.Batches.{Batch, above}
+use Rattle.px_wal.specs.Batches.{AreOver, Batch, above}
 use Rattle.px_wal.specs.Files.{file_of}
 use Rattle.px_wal.specs.Form.{byte_count, cell_count}
 use Rattle.px_wal.specs.Manifest.{names}
@@ -17,8 +18,12 @@ use Rattle.px_wal.specs.declared.wal.Wal.{Wal}
 use Rattle.px_files.specs.Locals.{IsFree}
 use Rattle.px_naming.specs.Naming.{HasParts, RegionReads, one_more}
 use Rattle.px_frozen.specs.Frozen.{IsFrozen}
+use Rattle.px_frozen.specs.FrozenData.{FrozenData}
 use Rattle.px_loading.specs.Gathering.{HasGathered}
 use Rattle.px_flushing.specs.Stage.{IsStage}
+use Rattle.px_flushing.specs.declared.fault.FlushFault.{FlushFault}
+use Rattle.px_flushing.specs.declared.flushing.FlushStep.{FlushStep}
+use Rattle.px_flushing.specs.declared.flushing.FlushStep.TheVariants as step
 use Rattle.px_flushing.specs.declared.job.Flush.{Flush}
 use Rattle.px_flushing.specs.declared.job.Gather.{Gather}
 use Rattle.px_flushing.specs.declared.job.Job.{Job}
@@ -41,10 +46,15 @@ pub record IsGathering {D : Type 0} (d : Ghosts D) (files : List RegionFile) (li
   pub lists_are : take gather.count lists ≡ map cells_in blocks
   pub has : HasGathered d gather.gathering disk (take gather.count files) blocks
 
--- What is read of so many of the newest files goes to a file that the manifest doesn't name, which has a number of its own and as many of these cells
--- as its stage says.
+-- all that is read of cells, or what a horizon keeps of it
+abbrev pub HasKept : Option ℕ → (cells kept : List CellData) → Type 0
+HasKept None cells kept = kept ≡ cells
+HasKept (Some h) cells kept = IsKept cells h kept
+
+-- What is read of so many of the newest files, or what a horizon keeps of it, goes to a file that the manifest doesn't name, which has a number of its own and
+-- as many of these cells as its stage says.
 pub record IsMerging {D : Type 0} (d : Ghosts D) (region : ℕ) (named : SnapshotData) (lists : List (List CellData)) (disk : D) (merge : Merge) : Type 0 where
-  pub cells : merge.frozen.cells ≡ settle (joined (take merge.count lists))
+  pub cells : HasKept merge.horizon (settle (joined (take merge.count lists))) merge.frozen.cells
   pub free : IsFree named.files merge.local
   pub stage : IsStage d (file_of region merge.local) disk merge.frozen.cells merge.stage
 
@@ -61,6 +71,18 @@ upto_of None = 0
 upto_of (Some (job.Flush flush)) = flush.frozen.upto
 upto_of (Some (job.Gather gather)) = 0
 upto_of (Some (job.Merge merge)) = 0
+
+-- the horizon of a compaction that forgets
+abbrev pub horizon_of : Option Job → Option ℕ
+horizon_of None = None
+horizon_of (Some (job.Flush flush)) = None
+horizon_of (Some (job.Gather gather)) = gather.horizon
+horizon_of (Some (job.Merge merge)) = merge.horizon
+
+-- a compaction may forget at this horizon, if it has one, where every batch that isn't in a file is above it
+abbrev pub MayForget : Option ℕ → List Batch → Type 0
+MayForget None batches = Unit {0}
+MayForget (Some h) batches = AreOver h batches
 
 -- no file is named or begun
 pub record IsFreshFlushing (number : ℕ) (flushing : Flushing) : Type 0 where
@@ -79,6 +101,17 @@ pub record IsRead (region : ℕ) (image : Image) (horizon : ℕ) (cells : List C
   pub named : SnapshotData
   pub reads : RegionReads region image named cells
   pub horizon_is : named.horizon ≡ horizon
+
+-- the image's files of a region are read as what a horizon keeps of this list, and its manifest names that horizon
+pub record IsReadKept (region : ℕ) (image : Image) (horizon : ℕ) (cells : List CellData) : Type 0 where
+  pub kept : List CellData
+  pub keeps : IsKept cells horizon kept
+  pub read : IsRead region image horizon kept
+
+-- they are read as this list, with this horizon; or, of a compaction that forgets, as what its horizon keeps
+abbrev pub ReadsFrom : Option ℕ → (region : ℕ) → Image → (horizon : ℕ) → List CellData → Type 0
+ReadsFrom None region image horizon cells = IsRead region image horizon cells
+ReadsFrom (Some h) region image horizon cells = IsRead region image horizon cells ⊎ IsReadKept region image h cells
 
 -- what is named after a flush up to a number, whose file has this local number and so many bytes
 abbrev pub named_next : SnapshotData → (upto local len : ℕ) → RegionFile → SnapshotData
@@ -100,6 +133,24 @@ merged_next named count local len file = record {
   files = record { local = local; len = len; cells = file.index.cells } ∷ drop count named.files;
 }
 
+-- what is named after a compaction of all files that keeps what a horizon does
+abbrev pub forgot_next : SnapshotData → (horizon local len : ℕ) → RegionFile → SnapshotData
+forgot_next named horizon local len file = record {
+  flushed = named.flushed;
+  horizon = horizon;
+  stamp = named.stamp;
+  compactions = one_more named.compactions;
+  files = record { local = local; len = len; cells = file.index.cells } ∷ [];
+}
+
+-- one file is named in place of all, with a horizon that isn't below the one before
+pub record HasForgotten (old new : SnapshotData) (horizon : ℕ) : Type 0 where
+  pub raised : old.horizon ≤ horizon
+  pub local : ℕ
+  pub len : ℕ
+  pub file : RegionFile
+  pub is : new ≡ forgot_next old horizon local len file
+
 -- one file is named in place of some of the newest
 pub record HasMerged (old new : SnapshotData) : Type 0 where
   pub count : ℕ
@@ -114,3 +165,35 @@ pub record IsRaised (old new : ℕ) (batches : List Batch) (cells bytes : ℕ) :
   pub later : old < new
   pub counted : cell_count (above old batches) ≡ cells + cell_count (above new batches)
   pub weighed : byte_count (above old batches) ≡ bytes + byte_count (above new batches)
+
+-- what is read after a step: the same, or what the horizon keeps at which it forgot
+abbrev pub Goes : Result FlushStep FlushFault → (old new : List CellData) → Type 0
+Goes (Ok step.More) old new = new ≡ old
+Goes (Ok (step.Named cells bytes)) old new = new ≡ old
+Goes (Ok step.Merged) old new = new ≡ old
+Goes (Ok (step.Forgot horizon)) old new = IsKept old horizon new
+Goes (Ok step.Done) old new = new ≡ old
+Goes (Err fault) old new = new ≡ old
+
+-- the cells that were kept are those of the one file
+abbrev pub HasOnly : Option FrozenData → List (List CellData) → Type 0
+HasOnly None lists = ⊥
+HasOnly (Some kept) lists = lists ≡ kept.cells ∷ []
+
+-- after a step that forgot, the cells that it kept can be taken, and are those of the one file
+abbrev pub HasForgot : Result FlushStep FlushFault → Flushing → (lists : List (List CellData)) → Type 0
+HasForgot (Ok step.More) flushing lists = Unit {0}
+HasForgot (Ok (step.Named cells bytes)) flushing lists = Unit {0}
+HasForgot (Ok step.Merged) flushing lists = Unit {0}
+HasForgot (Ok (step.Forgot horizon)) flushing lists = HasOnly flushing.kept lists
+HasForgot (Ok step.Done) flushing lists = Unit {0}
+HasForgot (Err fault) flushing lists = Unit {0}
+
+-- the horizon that is named after a step
+abbrev pub horizon_after : Result FlushStep FlushFault → ℕ → ℕ
+horizon_after (Ok step.More) h = h
+horizon_after (Ok (step.Named cells bytes)) h = h
+horizon_after (Ok step.Merged) h = h
+horizon_after (Ok (step.Forgot horizon)) h = horizon
+horizon_after (Ok step.Done) h = h
+horizon_after (Err fault) h = h

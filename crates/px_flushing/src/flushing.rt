@@ -2,7 +2,7 @@
 ghost use Rattle.std.specs.Prelude.{◌≡◌, ◌≢◌, ◌≤◌, ◌<◌, ◌+◌, ◌*◌, ◌∷◌, ◌↔◌, ℕ, false, List, length, IsTrue, IfOk, IsErr, OnOk, OnErr, Ok, Err, None, Some, max, vec_len, vec_capacity};
 ghost use Rattle.px_outside.specs.OnDisk.{LeavesOnly, Passes, Rose, Stays, TouchesOnly};
 ghost use Rattle.px_cells.specs.CellData.{CellData};
-ghost use Rattle.px_wal.specs.Batches.{Batch as BatchData, cells_over};
+ghost use Rattle.px_wal.specs.Batches.{Batch as BatchData, above, cells_over};
 ghost use Rattle.px_wal.specs.Files.{HasFile as IsFileOf, file_of};
 ghost use Rattle.px_wal.specs.Manifest.{HasSnapshot, is_open, manifest_files, names};
 ghost use Rattle.px_wal.specs.Snapshot.{IsSnapshot};
@@ -13,7 +13,7 @@ ghost use Rattle.px_wal.specs.declared.wal.Wal.{Wal as Logs};
 ghost use Rattle.px_files.specs.Calls.{opening_calls};
 ghost use Rattle.px_files.specs.Files.{IsFirstBad};
 ghost use Rattle.px_naming.specs.Naming.{HasParts};
-ghost use Rattle.px_flushing.specs.Flushing.{HasFlushing, IsBegun, IsFreshFlushing, HasMerged, IsRaised, IsRead, named_next, upto_of};
+ghost use Rattle.px_flushing.specs.Flushing.{Goes, HasFlushing, HasForgot, HasForgotten, IsBegun, IsFreshFlushing, HasMerged, IsRaised, IsRead, MayForget, ReadsFrom, horizon_after, horizon_of, named_next, upto_of};
 ghost use Rattle.px_flushing.specs.declared.fault.FlushFault.TheVariants.{Damaged, ReadFault, WriteFault};
 
 use crate::fault::{of_append, of_read};
@@ -38,6 +38,8 @@ pub enum FlushStep {
     Named { cells: u64, bytes: u64 },
     /// One file is named in place of some of the newest. No compaction is under way.
     Merged,
+    /// One file of what a horizon keeps is named in place of all, with the horizon. No compaction is under way.
+    Forgot { horizon: u64 },
     /// No batch of the log's older segment stands above the flushed number. No flush is under way.
     Done,
 }
@@ -51,6 +53,8 @@ pub struct Flushing {
     pub(crate) flush: Option<Job>,
     /// With so many files a compaction found no memory.
     pub(crate) given_up: usize,
+    /// The cells that the last compaction kept that forgot, until they are taken.
+    pub(crate) kept: Option<Frozen>,
 }
 
 /// Whether no batch of the log's older segment stands above the flushed number.
@@ -71,6 +75,7 @@ impl Flushing {
             files: Vec::new(alloc),
             flush: None,
             given_up: 0,
+            kept: None,
         }
     }
 
@@ -98,6 +103,7 @@ impl Flushing {
                 files,
                 flush: None,
                 given_up: 0,
+                kept: None,
             }),
             Err(fault) => Err(fault),
         }
@@ -145,7 +151,7 @@ impl Flushing {
         requires { self.old.flush ≡ None }
         ensures done { (batches : List BatchData) (lists : List (List CellData)) → HasFlushing ⟦<D as Disk>⟧ manifest.now wal.now self.old disk.old batches lists → HasFlushing ⟦<D as Disk>⟧ manifest.now wal.now self.new disk.new batches lists }
         ensures ended { result ≡ Ok FlushStep.Done → (self.new.flush ≡ None) × (wal.now.older_to ≤ (names manifest.now).flushed) }
-        ensures unnamed { ((cells bytes : ℕ) → result ≢ Ok (FlushStep.Named cells bytes)) × (result ≢ Ok FlushStep.Merged) }
+        ensures unnamed { ((cells bytes : ℕ) → result ≢ Ok (FlushStep.Named cells bytes)) × (result ≢ Ok FlushStep.Merged) × ((horizon : ℕ) → result ≢ Ok (FlushStep.Forgot horizon)) }
         ensures sound { (batches : List BatchData) (lists : List (List CellData)) → HasFlushing ⟦<D as Disk>⟧ manifest.now wal.now self.old disk.old batches lists → result ≢ Err Damaged }
         ensures read_failed { result ≡ Err ReadFault → Rose ⟦<D as Disk>⟧ disk.old disk.new }
         ensures write_failed { result ≡ Err WriteFault → Rose ⟦<D as Disk>⟧ disk.old disk.new }
@@ -319,7 +325,7 @@ impl Flushing {
         ensures any_moment { (wal : Logs) (batches : List BatchData) (lists : List (List CellData)) → HasParts ⟦<D as Disk>⟧ self.old.number manifest.old wal disk.old batches self.old.files.items lists
             → IsBegun ⟦<D as Disk>⟧ self.old.number (names manifest.old) batches disk.old flush
             → LeavesOnly ⟦<D as Disk>⟧ disk.old disk.new (λ moment image. IsRead self.old.number image (names manifest.old).horizon (cells_over (names manifest.old).flushed batches lists)) }
-        ensures only { (result ≢ Ok FlushStep.Done) × (result ≢ Ok FlushStep.Merged) }
+        ensures only { (result ≢ Ok FlushStep.Done) × (result ≢ Ok FlushStep.Merged) × ((horizon : ℕ) → result ≢ Ok (FlushStep.Forgot horizon)) }
         ensures named { (batches : List BatchData) (cells bytes : ℕ) → IsBegun ⟦<D as Disk>⟧ self.old.number (names manifest.old) batches disk.old flush → result ≡ Ok (FlushStep.Named cells bytes)
             → (self.new.flush ≡ None) × IsRaised (names manifest.old).flushed (names manifest.new).flushed batches cells bytes }
         ensures horizon { (names manifest.new).horizon ≡ (names manifest.old).horizon }
@@ -347,26 +353,28 @@ impl Flushing {
     /// Makes one step of a flush: takes the cells of the batches of the log's older segment that are above the flushed number, or
     /// makes one step of their file, or names it; or of the compaction that is under way: reads a block of its files, or makes one step of the file
     /// that they are merged to, or names it. Batches may be written between two steps, which neither takes. What is read of the region's
-    /// files stays at each moment. Where the answer isn't `WriteFault` the region goes on, and the step may be made again; a compaction that finds no memory for
-    /// its cells is given up, and isn't asked for again until there are more files.
+    /// files stays at each moment, but for a compaction that forgets: once its file is named what is read is what its horizon keeps. Where the
+    /// answer isn't `WriteFault` the region goes on, and the step may be made again; a compaction that finds no memory for its cells is given up,
+    /// and isn't asked for again until there are more files.
     pub fn step<D: Disk>(
         &mut self,
         disk: &mut D,
         manifest: &mut Manifest,
         wal: &Wal,
     ) -> Result<FlushStep, FlushFault>
-        ensures done { (batches : List BatchData) (lists : List (List CellData)) → HasFlushing ⟦<D as Disk>⟧ manifest.old wal.now self.old disk.old batches lists → result ≢ Err WriteFault
-            → (after : List (List CellData)) × HasFlushing ⟦<D as Disk>⟧ manifest.new wal.now self.new disk.new batches after × (cells_over (names manifest.new).flushed batches after ≡ cells_over (names manifest.old).flushed batches lists) }
+        ensures done { (batches : List BatchData) (lists : List (List CellData)) → HasFlushing ⟦<D as Disk>⟧ manifest.old wal.now self.old disk.old batches lists → MayForget (horizon_of self.old.flush) (above (names manifest.old).flushed batches) → result ≢ Err WriteFault
+            → (after : List (List CellData)) × HasFlushing ⟦<D as Disk>⟧ manifest.new wal.now self.new disk.new batches after × Goes result (cells_over (names manifest.old).flushed batches lists) (cells_over (names manifest.new).flushed batches after) × HasForgot result self.new after }
 
-        // At each moment of the call a stop leaves the region's files as they are read now.
-        ensures any_moment { (batches : List BatchData) (lists : List (List CellData)) → HasFlushing ⟦<D as Disk>⟧ manifest.old wal.now self.old disk.old batches lists
-            → LeavesOnly ⟦<D as Disk>⟧ disk.old disk.new (λ moment image. IsRead self.old.number image (names manifest.old).horizon (cells_over (names manifest.old).flushed batches lists)) }
+        // At each moment of the call a stop leaves the region's files as they are read now, or with what the horizon keeps at which it forgets.
+        ensures any_moment { (batches : List BatchData) (lists : List (List CellData)) → HasFlushing ⟦<D as Disk>⟧ manifest.old wal.now self.old disk.old batches lists → MayForget (horizon_of self.old.flush) (above (names manifest.old).flushed batches)
+            → LeavesOnly ⟦<D as Disk>⟧ disk.old disk.new (λ moment image. ReadsFrom (horizon_of self.old.flush) self.old.number image (names manifest.old).horizon (cells_over (names manifest.old).flushed batches lists)) }
         ensures ended { result ≡ Ok FlushStep.Done → (self.new.flush ≡ None) × (wal.now.older_to ≤ (names manifest.old).flushed) }
         ensures named { (batches : List BatchData) (lists : List (List CellData)) (cells bytes : ℕ) → HasFlushing ⟦<D as Disk>⟧ manifest.old wal.now self.old disk.old batches lists → result ≡ Ok (FlushStep.Named cells bytes)
             → (self.new.flush ≡ None) × IsRaised (names manifest.old).flushed (names manifest.new).flushed batches cells bytes }
         ensures merged { result ≡ Ok FlushStep.Merged → (self.new.flush ≡ None) × HasMerged (names manifest.old) (names manifest.new) }
-        ensures horizon { (names manifest.new).horizon ≡ (names manifest.old).horizon }
-        ensures still { ((cells bytes : ℕ) → result ≢ Ok (FlushStep.Named cells bytes)) → result ≢ Ok FlushStep.Merged → names manifest.new ≡ names manifest.old }
+        ensures forgot { (horizon : ℕ) → result ≡ Ok (FlushStep.Forgot horizon) → (self.new.flush ≡ None) × (horizon_of self.old.flush ≡ Some horizon) × HasForgotten (names manifest.old) (names manifest.new) horizon }
+        ensures horizon { (names manifest.new).horizon ≡ horizon_after result (names manifest.old).horizon }
+        ensures still { ((cells bytes : ℕ) → result ≢ Ok (FlushStep.Named cells bytes)) → result ≢ Ok FlushStep.Merged → ((horizon : ℕ) → result ≢ Ok (FlushStep.Forgot horizon)) → names manifest.new ≡ names manifest.old }
         ensures flushed { (names manifest.new).flushed ≤ max (names manifest.old).flushed (upto_of self.old.flush) }
         ensures sound { (batches : List BatchData) (lists : List (List CellData)) → HasFlushing ⟦<D as Disk>⟧ manifest.old wal.now self.old disk.old batches lists → result ≢ Err Damaged }
         ensures read_failed { result ≡ Err ReadFault → Rose ⟦<D as Disk>⟧ disk.old disk.new }

@@ -12,17 +12,19 @@ pub struct Flush {
     pub(crate) stage: Stage,
 }
 
-/// A compaction of so many of the newest files, whose cells are gathered.
+/// A compaction of so many of the newest files, whose cells are gathered; with a horizon it is of all files, and keeps what the horizon does.
 #[derive(Drop)]
 pub struct Gather {
     pub(crate) count: usize,
+    pub(crate) horizon: Option<u64>,
     pub(crate) gathering: Gathering,
 }
 
-/// A compaction of so many of the newest files, whose cells go to one file.
+/// A compaction of so many of the newest files, whose cells, or what a horizon keeps of them, go to one file.
 #[derive(Drop)]
 pub struct Merge {
     pub(crate) count: usize,
+    pub(crate) horizon: Option<u64>,
     pub(crate) frozen: Frozen,
     /// The local number of its file.
     pub(crate) local: u32,

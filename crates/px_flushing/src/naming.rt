@@ -1,5 +1,5 @@
 // What naming a flush's file takes.
-ghost use Rattle.std.specs.Prelude.{◌≡◌, ◌≢◌, ◌≤◌, ◌<◌, ◌+◌, ◌*◌, ◌∷◌, ◌↔◌, false, length, map, max, drop, IsTrue, IfOk, OnOk, Err, vec_len, vec_capacity};
+ghost use Rattle.std.specs.Prelude.{◌≡◌, ◌≢◌, ◌≤◌, ◌<◌, ◌+◌, ◌*◌, ◌∷◌, ◌↔◌, [], false, length, map, max, drop, IsTrue, IfOk, OnOk, Err, vec_len, vec_capacity};
 ghost use Rattle.std.specs.List.{AllByRecursion};
 ghost use Rattle.px_wal.specs.Manifest.{is_open, names};
 ghost use Rattle.px_wal.specs.Snapshot.{IsEntry, IsSnapshot};
@@ -9,6 +9,7 @@ ghost use Rattle.px_flushing.specs.declared.fault.FlushFault.TheVariants.{Damage
 
 use crate::FlushFault;
 use px_file::RegionFile;
+use px_forgetting::forgotten_after;
 use px_gatelog::Frame;
 use px_naming::{merged_after, named_after};
 use px_wal::{FileEntry, Manifest, Snapshot};
@@ -129,6 +130,33 @@ pub(crate) fn prepare_merged(
         return Err(FlushFault::NotReady);
     }
     match merged_after(alloc, named, count, entry) {
+        Ok(after) => framed(alloc, after),
+        Err(_) => Err(FlushFault::Memory),
+    }
+}
+
+/// Takes the memory that naming a file in place of all needs, with a horizon that isn't below the one that is named. It makes no call.
+pub(crate) fn prepare_kept(
+    alloc: Global,
+    manifest: &Manifest,
+    horizon: u64,
+    entry: FileEntry,
+) -> Result<Naming, FlushFault>
+    ensures raised { OnOk result ((names manifest.now).horizon ≤ horizon) }
+    ensures may { OnOk result (is_open manifest.now × (manifest.now.rolling ≡ false)) }
+    ensures right { IfOk result (λ n. IsSnapshot (snapshot_of n.after)) }
+    ensures after { IfOk result (λ n. snapshot_of n.after ≡ record { flushed = (names manifest.now).flushed; horizon = horizon; stamp = (names manifest.now).stamp; compactions = one_more (names manifest.now).compactions; files = file_data entry ∷ [] }) }
+    ensures room { IfOk result (λ n. 26 + 20 * length (files_of n.after) ≤ n.frame.room) }
+    ensures never { (result ≢ Err ReadFault) × (result ≢ Err WriteFault) × (result ≢ Err Damaged) }
+{
+    if !may_name(manifest) {
+        return Err(FlushFault::NotReady);
+    }
+    let named = manifest.snapshot();
+    if named.files.len() == 0 || named.horizon > horizon {
+        return Err(FlushFault::NotReady);
+    }
+    match forgotten_after(alloc, named, horizon, entry) {
         Ok(after) => framed(alloc, after),
         Err(_) => Err(FlushFault::Memory),
     }

@@ -112,4 +112,5 @@ module _ {D : Type 0} (d : DiskGhosts D) (tell : ℕ → Type 0) (disk : D) wher
         horizon = k.horizon;
         counted = k.counted;
         weighed = k.weighed;
+        least = k.least;
       }

@@ -3,6 +3,7 @@ pub mod Server
 pub mod Steps
 pub mod Cells
 pub mod Tables
+pub mod Changed
 pub mod Numbered
 pub mod Regions
 pub mod Explains

@@ -1,9 +1,9 @@
 -- A table whose folder goes on, as it was or with a batch in one of its regions.
-use Rattle.std.proofs.Common.{◌≡◌, ◌≢◌, ◌<◌, ◌≤◌, inl, inr, ℕ, zero, suc, true, false, List, [], ◌∷◌, ◌++◌, length, map, get_or, refl, sym, ap, subst, ◌∙◌, arith}
+use Rattle.std.proofs.Common.{◌≡◌, ◌<◌, ◌≤◌, inl, inr, ℕ, zero, suc, true, false, List, [], ◌∷◌, ◌++◌, length, map, get_or, refl, sym, ap, subst, ◌∙◌, arith}
 use Rattle.std.specs.List.{AllByRecursion}
 use Rattle.std.proofs.Math.ListN.{set, length-set}
 use Rattle.std.proofs.lemmas.Bool.{cases_eq}
-use Rattle.std.proofs.lemmas.List.{get_or-set_same, get_or-set_other, length-map}
+use Rattle.std.proofs.lemmas.List.{get_or-set_same, get_or-set_other}
 use Rattle.px_outside.specs.Parts.{AreDistinct, HasNone}
 use Rattle.px_outside.proofs.Parts.{with_part-here, with_part-other}
 use Rattle.px_cells.specs.CellData.{CellData}
@@ -15,15 +15,12 @@ use Rattle.px_tables.specs.declared.table.Table.{Table}
 use Rattle.px_tables.specs.declared.table.TableRegion.{TableRegion}
 use Rattle.px_trail.specs.declared.entry.Entry.{Entry}
 use Rattle.px_trail.specs.Trail.{Base, last_of}
-use Rattle.px_indexed.proofs.Regions.{none_above}
-use Rattle.px_groupworld.specs.Group.{GroupData, GroupKept, IndexPart, TableForm, index_in as index_at, no_part}
-use Rattle.px_groupworld.specs.Steps.{with_cells}
+use Rattle.px_groupworld.specs.Group.{GroupData, GroupKept, IndexPart, TableForm, no_part}
 use Rattle.px_tablefolder.specs.Folder.{IndexFiles, IsFilesOf, IsFolderOf, TableFiles, last_cell, no_files}
-use Rattle.px_tablefolder.proofs.Stamped.{cells_within}
 use Rattle.px_region.specs.Region.{RegionData, with_batch}
 use Rattle.px_recovery.specs.Folder.{FolderData, with_region}
-use Rattle.px_recovery.specs.Tables.{AreInRegion, HasIndex, IsOneOf, TellsTable, form_of, index_files, indexes_of, is_active, number_of, number_of_region, region_at, region_of_index, table_files}
-use Rattle.px_recovery.proofs.Cells.{all_batch, cells_else, cells_written, horizon_at, horizon_else, horizon_same, indexes_else, values_batch}
+use Rattle.px_recovery.specs.Tables.{AreInRegion, HasIndex, IsOneOf, TellsTable, form_of, indexes_of, number_of, number_of_region, region_at, region_of_index, table_files}
+use Rattle.px_recovery.proofs.Cells.{all_batch, cells_else, cells_written, horizon_else, horizon_same, indexes_else, values_batch}
 
 -- ---- places of lists
 
@@ -126,7 +123,7 @@ noted_table b es es' f x v v' tells kept last high low cells indexes =
       stand = subst (λ (l : List IndexPart). AllStanding f.standing.indexes x.id.0 l) (sym indexes) tells.stand;
     }
 
--- ---- a batch
+-- ---- a batch in a region of the table's rows
 
 module _ (b : Base) (es es' : List Entry) (f : FolderData) (x : Table) (v v' : GroupData) (tells : TellsTable b es f x v) (kept : GroupKept (form_of b f.standing.indexes x) es' v') (last : last_of b x.id.0 es ≤ last_of b x.id.0 es')
     (high : v.high ≤ v'.high) (low : v'.low ≡ v.low) (n : ℕ) (batch : List CellData) where
@@ -164,131 +161,4 @@ module _ (b : Base) (es es' : List Entry) (f : FolderData) (x : Table) (v v' : G
       placed = placed_more x.regions tells.placed;
       once = subst (λ (l : List IndexPart). AreDistinct number_of l) (sym indexes) tells.once;
       stand = subst (λ (l : List IndexPart). AllStanding f.standing.indexes x.id.0 l) (sym indexes) tells.stand;
-    }
-
-  -- in the region of an index
-  abbrev stood : List Index
-  stood = indexes_of x.id.0 f.standing.indexes
-
-  module _ (place : ℕ) (i : Index) (there : place < length stood) (at : get_or stood place i ≡ i) (is : i.region ≡ n) (only : (q : ℕ) → q < length stood → q ≢ place → ((get_or stood q i).region ≢ n) × ((get_or stood q i).id.0 ≢ i.id.0))
-      (rows : HasNone number_of_region n x.regions) (j : ℕ) (lt : j < length v.indexes) (id : (get_or v.indexes j no_part).id ≡ i.id.0) (same : value_at (get_or v.indexes j no_part).cells ≡ value_at (f.regions n).cells) (new : List CellData)
-      (reads : ReadsSame new (batch ++ (get_or v.indexes j no_part).cells)) (cells : v'.cells ≡ v.cells) (indexes : v'.indexes ≡ set v.indexes j (with_cells new (get_or v.indexes j no_part))) where
-    abbrev part : IndexPart
-    part = get_or v.indexes j no_part
-
-    -- what is read of the region then
-    read_now : value_at new ≡ value_at (f'.regions n).cells
-    read_now =
-        values_put batch part.cells new reads
-        ∙ (ap (λ (c : Contents). over_contents (value_at batch) c) same
-        ∙ (sym (values_batch (f.regions n) batch) ∙ ap (λ (r : RegionData). value_at r.cells) (sym (with_part-here f.regions n s))))
-
-    horizons : (m : ℕ) → (f'.regions m).horizon ≡ (f.regions m).horizon
-    horizons = horizon_at f.regions n s refl
-
-    old_at : (q : ℕ) → q < length stood → get_or (table_files f x).indexes q no_files ≡ index_files f.regions (get_or stood q i)
-    old_at q l = at_map (index_files f.regions) stood q no_files i l
-
-    new_at : (q : ℕ) → q < length stood → get_or (table_files f' x).indexes q no_files ≡ index_files f'.regions (get_or stood q i)
-    new_at q l = at_map (index_files f'.regions) stood q no_files i l
-
-    old_inside : (q : ℕ) → q < length stood → q < length (table_files f x).indexes
-    old_inside q l = let e = length-map stood (index_files f.regions) in omega arith
-
-    inside : (q : ℕ) → q < length (table_files f' x).indexes → q < length stood
-    inside q l = let e = length-map stood (index_files f'.regions) in omega arith
-
-    inside_set : (k : ℕ) → k < length v.indexes → k < length (set v.indexes j (with_cells new part))
-    inside_set k l = let e = length-set v.indexes j (with_cells new part) in omega arith
-
-    here_old : is_active i.state ≡ true → IsFilesOf part (index_files f.regions i)
-    here_old a =
-        let e : get_or (table_files f x).indexes place no_files ≡ index_files f.regions i = old_at place there ∙ ap (index_files f.regions) at in
-        let o = tells.files.active place (old_inside place there) (ap (λ (y : IndexFiles). y.is_active) e ∙ a) in
-        let m : IsFilesOf (get_or v.indexes o.0 no_part) (index_files f.regions i) = subst (λ (y : IndexFiles). IsFilesOf (get_or v.indexes o.0 no_part) y) e o.1.1 in
-        let k : o.0 ≡ j = one_place number_of v.indexes o.0 j no_part tells.once o.1.0 lt (m.id ∙ sym id) in
-        subst (λ (k : ℕ). IsFilesOf (get_or v.indexes k no_part) (index_files f.regions i)) k m
-
-    here_new : is_active i.state ≡ true → IsFilesOf (with_cells new part) (index_files f'.regions i)
-    here_new a =
-        let o = here_old a in
-        record { id = o.id; cells = read_now ∙ ap (λ (m : ℕ). value_at (f'.regions m).cells) (sym is); birth = o.birth; horizon = o.horizon ∙ sym (horizons i.region); built = o.built }
-
-    abbrev Active : List IndexPart → IndexFiles → Type 0
-    Active xs y = (k : ℕ) × ((k < length xs) × IsFilesOf (get_or xs k no_part) y)
-
-    else_files : (q : ℕ) → (get_or stood q i).region ≢ n → index_files f'.regions (get_or stood q i) ≡ index_files f.regions (get_or stood q i)
-    else_files q not = λ k. (let e = with_part-other f.regions n s (get_or stood q i).region not in
-        record { id = (get_or stood q i).id.0; cells = (e k).cells; birth = (get_or stood q i).birth; horizon = (e k).horizon; is_active = is_active (get_or stood q i).state })
-
-    active_else : (q : ℕ) → q < length stood → q ≢ place → is_active (get_or stood q i).state ≡ true → Active (set v.indexes j (with_cells new part)) (index_files f'.regions (get_or stood q i))
-    active_else q l not a =
-        let o = tells.files.active q (old_inside q l) (ap (λ (y : IndexFiles). y.is_active) (old_at q l) ∙ a) in
-        let m : IsFilesOf (get_or v.indexes o.0 no_part) (index_files f.regions (get_or stood q i)) = subst (λ (y : IndexFiles). IsFilesOf (get_or v.indexes o.0 no_part) y) (old_at q l) o.1.1 in
-        let apart : o.0 ≢ j = (λ e. (only q l not).1 (sym m.id ∙ (ap (λ (k : ℕ). (get_or v.indexes k no_part).id) e ∙ id))) in (
-          o.0,
-          (
-            inside_set o.0 o.1.0,
-            subst (λ (y : IndexFiles). IsFilesOf (get_or (set v.indexes j (with_cells new part)) o.0 no_part) y) (sym (else_files q (only q l not).0))
-                (subst (λ (z : IndexPart). IsFilesOf z (index_files f.regions (get_or stood q i))) (sym (get_or-set_other v.indexes j o.0 (with_cells new part) no_part apart)) m),
-          ),
-        )
-
-    active_here : is_active i.state ≡ true → Active (set v.indexes j (with_cells new part)) (index_files f'.regions i)
-    active_here a = (j, (inside_set j lt, subst (λ (z : IndexPart). IsFilesOf z (index_files f'.regions i)) (sym (get_or-set_same v.indexes j (with_cells new part) no_part lt)) (here_new a)))
-
-    active_at : (q : ℕ) → q < length stood → is_active (get_or stood q i).state ≡ true → Active (set v.indexes j (with_cells new part)) (index_files f'.regions (get_or stood q i))
-    active_at q l a = elim (cases_eq q place) [
-      | inl e ↦
-          let here : get_or stood q i ≡ i = ap (λ (k : ℕ). get_or stood k i) e ∙ at in
-          subst (λ (y : Index). Active (set v.indexes j (with_cells new part)) (index_files f'.regions y)) (sym here) (active_here (ap (λ (y : Index). is_active y.state) (sym here) ∙ a))
-      | inr not ↦ active_else q l not a
-    ]
-
-    abbrev most : ℕ
-    most = last_of b x.id.0 es'
-
-    part_now : get_or v'.indexes j no_part ≡ with_cells new part
-    part_now = ap (λ (l : List IndexPart). get_or l j no_part) indexes ∙ get_or-set_same v.indexes j (with_cells new part) no_part lt
-
-    within_here : last_cell (f'.regions n).cells ≤ most
-    within_here =
-        let l : j < length v'.indexes = subst (λ (l : List IndexPart). j < length l) (sym indexes) (inside_set j lt) in
-        let k = kept.indexes j l in
-        cells_within (f'.regions n).cells most (λ key q u d above.
-        ap (λ (c : Contents). c key q u d) (sym read_now ∙ ap (λ (y : IndexPart). value_at y.cells) (sym part_now))
-        ∙ none_above (index_at form v' j).form most (get_or v'.indexes j no_part).cells k.cells key q u d above)
-
-    others_at : (q : ℕ) → q < length stood → is_active (get_or stood q i).state ≡ false → ((get_or stood q i).birth ≤ most) × (last_cell (f'.regions (get_or stood q i).region).cells ≤ most)
-    others_at q l a =
-        let e = old_at q l in
-        let o = tells.files.others q (old_inside q l) (ap (λ (y : IndexFiles). y.is_active) e ∙ a) in
-        let birth : (get_or stood q i).birth ≤ last_of b x.id.0 es = subst (λ (y : IndexFiles). y.birth ≤ last_of b x.id.0 es) e o.0 in
-        let below : last_cell (f.regions (get_or stood q i).region).cells ≤ last_of b x.id.0 es = subst (λ (y : IndexFiles). last_cell y.cells ≤ last_of b x.id.0 es) e o.1 in (
-          omega (arith, birth, last),
-          elim (cases_eq (get_or stood q i).region n) [
-            | inl same ↦ subst (λ (m : ℕ). last_cell (f'.regions m).cells ≤ most) (sym same) within_here
-            | inr not ↦ subst (λ (r : RegionData). last_cell r.cells ≤ most) (sym (with_part-other f.regions n s (get_or stood q i).region not)) (omega (arith, below, last))
-          ],
-        )
-
-    pub index_wrote : TellsTable b es' f' x v'
-    index_wrote = record {
-      kept = kept;
-      files = record {
-        horizon = horizon_else f.regions n s x.regions rows ∙ (tells.files.horizon ∙ sym low);
-        cells = ap value_at (cells_else f.regions n s x.regions rows) ∙ (tells.files.cells ∙ ap value_at (sym cells));
-        active = λ q l a. subst (λ (xs : List IndexPart). Active xs (get_or (table_files f' x).indexes q no_files)) (sym indexes)
-            (subst (λ (y : IndexFiles). Active (set v.indexes j (with_cells new part)) y) (sym (new_at q (inside q l))) (active_at q (inside q l) (ap (λ (y : IndexFiles). y.is_active) (sym (new_at q (inside q l))) ∙ a)));
-        below = λ q l.
-            let e = old_at q (inside q l) in
-            let o = tells.files.below q (old_inside q (inside q l)) in
-            let h : (f.regions (get_or stood q i).region).horizon ≤ v.high = subst (λ (y : IndexFiles). y.horizon ≤ v.high) e o in
-            let g = horizons (get_or stood q i).region in
-            subst (λ (y : IndexFiles). y.horizon ≤ v'.high) (sym (new_at q (inside q l))) (omega (arith, h, g, high));
-        others = λ q l a. subst (λ (y : IndexFiles). (y.birth ≤ most) × (last_cell y.cells ≤ most)) (sym (new_at q (inside q l))) (others_at q (inside q l) (ap (λ (y : IndexFiles). y.is_active) (sym (new_at q (inside q l))) ∙ a));
-      };
-      placed = placed_else f x n s x.regions rows tells.placed;
-      stand = subst (λ (l : List IndexPart). AllStanding f.standing.indexes x.id.0 l) (sym indexes) (standing_set f.standing.indexes x.id.0 v.indexes j (with_cells new part) refl tells.stand);
-      once = subst (λ (l : List IndexPart). AreDistinct number_of l) (sym indexes) (distinct_set v.indexes j (with_cells new part) no_part lt refl tells.once);
     }

@@ -14,8 +14,10 @@ ghost use Rattle.px_outside.specs.Standing.{StandsIn};
 ghost use Rattle.px_cells.specs.CellData.{CellData};
 ghost use Rattle.px_cells.specs.Contents.{value_at};
 ghost use Rattle.px_cells.specs.Order.{ReadsSame};
+ghost use Rattle.px_merge.specs.Kept.{IsKept as IsKeptList};
 ghost use Rattle.px_tables.specs.declared.index.Index.{Index};
 ghost use Rattle.px_tables.specs.declared.table.Table.{Table};
+ghost use Rattle.px_tables.specs.declared.table.TableRegion.{TableRegion};
 ghost use Rattle.px_trail.specs.declared.entry.Act.TheVariants.{Dropped, IndexMade, IndexState, Made, Shut};
 ghost use Rattle.px_trail.specs.declared.entry.Entry.{Entry as Entries};
 ghost use Rattle.px_trail.specs.Lasting.{lasting};
@@ -80,14 +82,16 @@ pub fn law_regions<D: Disk>()
     ensures kept { (old : D) → (new : D) → (f : FolderData) → StandsOn ⟦<D as Disk>⟧ old f → (n : ℕ) → 1 ≤ n → n < f.standing.next → TouchesOnly ⟦<D as Disk>⟧ old new (HasFile n) → StandsIn ⟦<D as Disk>⟧ new (HasFile n) (λ image. Stands n image (f.regions n)) → StandsOn ⟦<D as Disk>⟧ new f }
 {}
 
-/// A step of one table after which the folder is told: of its open batches and its horizon, with a batch in one region of its rows, or
-/// with one in the region of one of its indexes. All other tables go on as they were.
+/// A step of one table after which the folder is told: of its open batches and its horizon, with a batch in one region of its rows or in
+/// that of one of its indexes, or when one of them has forgotten at a horizon. All other tables go on as they were.
 pub fn law_tables()
     ensures none { (b : Base) → (es : List Entries) → (f : FolderData) → (v : ℕ → GroupData) → Explains b es f v → (t : ℕ) → GoesOnBy b es es f v t }
     ensures entry { (b : Base) → (es : List Entries) → (f : FolderData) → (v : ℕ → GroupData) → Explains b es f v → (t : ℕ) → (e : Entries) → MayCome b es e → catalogue_of b (es ++ e ∷ []) ≡ catalogue_of b es → ((q : ℕ) → (y : Table) → q ≢ t → table_in f.standing.tables q ≡ Some y → IsElsewhere y.id e.act) → GoesOnBy b es (es ++ e ∷ []) f v t }
     ensures noted { (b : Base) → (es : List Entries) → (more : List Entries) → (f : FolderData) → (v : ℕ → GroupData) → Explains b es f v → (t : ℕ) → GoesOnBy b es more f v t → (x : Table) → table_in f.standing.tables t ≡ Some x → (w : GroupData) → GroupKept (form_of b f.standing.indexes x) more w → (v t).high ≤ w.high → w.low ≡ (v t).low → w.cells ≡ (v t).cells → w.indexes ≡ (v t).indexes → Explains b more f (with_part v t w) }
     ensures rows { (b : Base) → (es : List Entries) → (more : List Entries) → (f : FolderData) → (v : ℕ → GroupData) → Explains b es f v → (t : ℕ) → GoesOnBy b es more f v t → (x : Table) → table_in f.standing.tables t ≡ Some x → (w : GroupData) → GroupKept (form_of b f.standing.indexes x) more w → (v t).high ≤ w.high → w.low ≡ (v t).low → (n : ℕ) → (batch : List CellData) → IsOneOf n x.regions → AreInRegion x n batch → ReadsSame w.cells (batch ++ (v t).cells) → w.indexes ≡ (v t).indexes → Explains b more (with_region n (with_batch (f.regions n) batch) f) (with_part v t w) }
     ensures index { (b : Base) → (es : List Entries) → (more : List Entries) → (f : FolderData) → (v : ℕ → GroupData) → Explains b es f v → (t : ℕ) → GoesOnBy b es more f v t → (x : Table) → table_in f.standing.tables t ≡ Some x → (w : GroupData) → GroupKept (form_of b f.standing.indexes x) more w → (v t).high ≤ w.high → w.low ≡ (v t).low → (n : ℕ) → (batch : List CellData) → (place : ℕ) → (i : Index) → place < length (indexes_of x.id.0 f.standing.indexes) → get_or (indexes_of x.id.0 f.standing.indexes) place i ≡ i → i.region ≡ n → (j : ℕ) → j < length (v t).indexes → (get_or (v t).indexes j no_part).id ≡ i.id.0 → value_at (get_or (v t).indexes j no_part).cells ≡ value_at (f.regions n).cells → (cells : List CellData) → ReadsSame cells (batch ++ (get_or (v t).indexes j no_part).cells) → w.cells ≡ (v t).cells → w.indexes ≡ set (v t).indexes j (with_cells cells (get_or (v t).indexes j no_part)) → Explains b more (with_region n (with_batch (f.regions n) batch) f) (with_part v t w) }
+    ensures forgot_rows { (b : Base) → (es : List Entries) → (more : List Entries) → (f : FolderData) → (v : ℕ → GroupData) → Explains b es f v → (t : ℕ) → GoesOnBy b es more f v t → (x : Table) → table_in f.standing.tables t ≡ Some x → (w : GroupData) → GroupKept (form_of b f.standing.indexes x) more w → (v t).high ≤ w.high → (g : TableRegion) → x.regions ≡ g ∷ [] → (h : ℕ) → (cells : List CellData) → IsKeptList (f.regions g.number).cells h cells → w.low ≡ h → ReadsSame w.cells cells → w.indexes ≡ (v t).indexes → Explains b more (with_region g.number (record { cells = cells; horizon = h }) f) (with_part v t w) }
+    ensures forgot_index { (b : Base) → (es : List Entries) → (more : List Entries) → (f : FolderData) → (v : ℕ → GroupData) → Explains b es f v → (t : ℕ) → GoesOnBy b es more f v t → (x : Table) → table_in f.standing.tables t ≡ Some x → (w : GroupData) → GroupKept (form_of b f.standing.indexes x) more w → (v t).high ≤ w.high → w.low ≡ (v t).low → (n : ℕ) → (place : ℕ) → (i : Index) → place < length (indexes_of x.id.0 f.standing.indexes) → get_or (indexes_of x.id.0 f.standing.indexes) place i ≡ i → i.region ≡ n → (j : ℕ) → j < length (v t).indexes → (get_or (v t).indexes j no_part).id ≡ i.id.0 → (h : ℕ) → (cells : List CellData) → (read : List CellData) → ReadsSame read cells → w.cells ≡ (v t).cells → w.indexes ≡ set (v t).indexes j (record (get_or (v t).indexes j no_part) { cells = read; horizon = h }) → Explains b more (with_region n (record { cells = cells; horizon = h }) f) (with_part v t w) }
 {}
 
 /// A definition or a drop after which the folder is told: a table is made, or dropped with its indexes; an index is made, becomes active, or is dropped.

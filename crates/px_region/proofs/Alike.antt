@@ -4,7 +4,7 @@ use Rattle.px_region.specs.Promise.{IsAlike}
 use Rattle.px_region.specs.declared.region.Region.{Region}
 
 pub alike_refl : (x : Region) → IsAlike x x
-alike_refl x = record { number = refl; wal = refl; manifest = refl; flushing = refl; horizon = refl; store = refl; cells = refl; bytes = refl }
+alike_refl x = record { number = refl; wal = refl; manifest = refl; flushing = refl; horizon = refl; store = refl; cells = refl; bytes = refl; stamps = refl }
 
 pub alike_then : (x y z : Region) → IsAlike x y → IsAlike y z → IsAlike x z
 alike_then x y z a b = record {
@@ -16,4 +16,5 @@ alike_then x y z a b = record {
   store = b.store ∙ a.store;
   cells = b.cells ∙ a.cells;
   bytes = b.bytes ∙ a.bytes;
+  stamps = b.stamps ∙ a.stamps;
 }

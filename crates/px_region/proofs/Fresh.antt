@@ -60,4 +60,5 @@ module _ {D : Type 0} (d : Ghosts D) (number : ℕ) (region : Region) (disk : D)
     horizon = sym fresh.horizon;
     counted = fresh.cells;
     weighed = fresh.bytes;
+    least = tt;
   }

@@ -1,5 +1,5 @@
 -- What a region has.
-use Rattle.std.proofs.Common.{◌≡◌, ◌⊎◌, ℕ, ◌+◌, ◌*◌, ◌<◌, ◌≤◌, List, [], ◌∷◌, ◌++◌, None, length, take, get_or, refl, sym, ap, subst, ◌∙◌, arith, inl, inr}
+use Rattle.std.proofs.Common.{◌≡◌, ◌⊎◌, ℕ, ◌+◌, ◌*◌, ◌<◌, ◌≤◌, List, [], ◌∷◌, ◌++◌, Option, None, Some, length, take, get_or, refl, sym, ap, subst, ◌∙◌, arith, inl, inr}
 use Rattle.std.proofs.lemmas.List.{length-append, take_more}
 use Rattle.px_outside.specs.Disk.{Image, IsLeft}
 use Rattle.px_outside.specs.OnDisk.{LeavesOnly, TouchesOnly}
@@ -11,6 +11,7 @@ use Rattle.px_cells.specs.CellData.{CellData}
 use Rattle.px_cells.specs.Order.{IsSettled}
 use Rattle.px_cellbytes.specs.Spelling.{all_bytes, cell_bytes}
 use Rattle.px_cellbytes.proofs.Bytes.{all_bytes-push, length-cell_bytes}
+use Rattle.px_merge.specs.Kept.{IsKept}
 use Rattle.px_merge.specs.Settle.{settle}
 use Rattle.px_merge.proofs.Settling.{settled_is}
 use Rattle.px_wal.specs.Batches.{Batch, IsRest, above, cells_over}
@@ -24,12 +25,15 @@ use Rattle.px_wal.specs.declared.wal.Wal.{Wal}
 use Rattle.px_wal.proofs.Cuts.{written_last}
 use Rattle.px_wal.proofs.Numbers.{above_more, bytes_more, cells_more}
 use Rattle.px_wal.proofs.Parting.{rest_above, rest_cells}
-use Rattle.px_flushing.specs.Flushing.{HasFlushing, IsRead}
+use Rattle.px_flushing.specs.Flushing.{HasFlushing, IsRead, ReadsFrom}
 use Rattle.px_flushing.specs.declared.flushing.Flushing.{Flushing}
 use Rattle.px_flushing.proofs.Going.{flushing_kept, flushing_more, flushing_stands}
 use Rattle.px_flushing.proofs.Logs as flush
 use Rattle.px_region.specs.Region.{Holds, RegionData, Stands, data_of, with_batch}
+use Rattle.px_region.specs.Forgetting.{StandsFrom}
 use Rattle.px_region.specs.Promise.{IsAlike}
+use Rattle.px_region.specs.Stamps.{HaveLeast}
+use Rattle.px_region.specs.declared.stamps.LeastStamps.{LeastStamps}
 use Rattle.px_region.specs.declared.region.Region.{Region}
 
 -- ---- the files of a region
@@ -48,7 +52,7 @@ files_apart m n file other a b = other (let i = a.is in let j = b.is in let k = 
 
 -- ---- a region by its fields
 
-pub record HoldsBy {D : Type 0} (d : Ghosts D) (number : ℕ) (manifest : Manifest) (wal : Wal) (flushing : Flushing) (horizon : ℕ) (store : List CellData) (cells bytes : ℕ) (disk : D) (s : RegionData) : Type 0 where
+pub record HoldsBy {D : Type 0} (d : Ghosts D) (number : ℕ) (manifest : Manifest) (wal : Wal) (flushing : Flushing) (horizon : ℕ) (store : List CellData) (cells bytes : ℕ) (stamps : LeastStamps) (disk : D) (s : RegionData) : Type 0 where
   pub batches : List Batch
   pub lists : List (List CellData)
   pub has : HasFlushing d manifest wal flushing disk batches lists
@@ -59,21 +63,23 @@ pub record HoldsBy {D : Type 0} (d : Ghosts D) (number : ℕ) (manifest : Manife
   pub horizon_is : s.horizon ≡ horizon
   pub counted : cells ≡ cell_count (above (names manifest).flushed batches)
   pub weighed : bytes ≡ byte_count (above (names manifest).flushed batches)
+  pub least : HaveLeast stamps (above (names manifest).flushed batches)
 
-pub by_fields : {D : Type 0} (d : Ghosts D) (number : ℕ) (manifest : Manifest) (wal : Wal) (flushing : Flushing) (horizon : ℕ) (store : List CellData) (cells bytes : ℕ) (disk : D) (s : RegionData) (region : Region)
-    → HoldsBy d number manifest wal flushing horizon store cells bytes disk s → number ≡ region.number → manifest ≡ region.manifest → wal ≡ region.wal → flushing ≡ region.flushing → horizon ≡ region.horizon → store ≡ region.store.cells → cells ≡ region.cells → bytes ≡ region.bytes
-    → Holds d region disk s
-by_fields {D} d number manifest wal flushing horizon store cells bytes disk s region holds a b c e f g h i =
-    all (subst (λ (n : ℕ). HoldsBy d n region.manifest region.wal region.flushing region.horizon region.store.cells region.cells region.bytes disk s) a
-    (subst (λ (m : Manifest). HoldsBy d number m region.wal region.flushing region.horizon region.store.cells region.cells region.bytes disk s) b
-    (subst (λ (w : Wal). HoldsBy d number manifest w region.flushing region.horizon region.store.cells region.cells region.bytes disk s) c
-    (subst (λ (x : Flushing). HoldsBy d number manifest wal x region.horizon region.store.cells region.cells region.bytes disk s) e
-    (subst (λ (n : ℕ). HoldsBy d number manifest wal flushing n region.store.cells region.cells region.bytes disk s) f
-    (subst (λ (l : List CellData). HoldsBy d number manifest wal flushing horizon l region.cells region.bytes disk s) g
-    (subst (λ (n : ℕ). HoldsBy d number manifest wal flushing horizon store n region.bytes disk s) h
-    (subst (λ (n : ℕ). HoldsBy d number manifest wal flushing horizon store cells n disk s) i holds))))))))
+pub by_fields : {D : Type 0} (d : Ghosts D) (number : ℕ) (manifest : Manifest) (wal : Wal) (flushing : Flushing) (horizon : ℕ) (store : List CellData) (cells bytes : ℕ) (stamps : LeastStamps) (disk : D) (s : RegionData) (region : Region)
+    → HoldsBy d number manifest wal flushing horizon store cells bytes stamps disk s → number ≡ region.number → manifest ≡ region.manifest → wal ≡ region.wal → flushing ≡ region.flushing → horizon ≡ region.horizon → store ≡ region.store.cells → cells ≡ region.cells → bytes ≡ region.bytes
+    → stamps ≡ region.stamps → Holds d region disk s
+by_fields {D} d number manifest wal flushing horizon store cells bytes stamps disk s region holds a b c e f g h i j =
+    all (subst (λ (n : ℕ). HoldsBy d n region.manifest region.wal region.flushing region.horizon region.store.cells region.cells region.bytes region.stamps disk s) a
+    (subst (λ (m : Manifest). HoldsBy d number m region.wal region.flushing region.horizon region.store.cells region.cells region.bytes region.stamps disk s) b
+    (subst (λ (w : Wal). HoldsBy d number manifest w region.flushing region.horizon region.store.cells region.cells region.bytes region.stamps disk s) c
+    (subst (λ (x : Flushing). HoldsBy d number manifest wal x region.horizon region.store.cells region.cells region.bytes region.stamps disk s) e
+    (subst (λ (n : ℕ). HoldsBy d number manifest wal flushing n region.store.cells region.cells region.bytes region.stamps disk s) f
+    (subst (λ (l : List CellData). HoldsBy d number manifest wal flushing horizon l region.cells region.bytes region.stamps disk s) g
+    (subst (λ (n : ℕ). HoldsBy d number manifest wal flushing horizon store n region.bytes region.stamps disk s) h
+    (subst (λ (n : ℕ). HoldsBy d number manifest wal flushing horizon store cells n region.stamps disk s) i
+    (subst (λ (x : LeastStamps). HoldsBy d number manifest wal flushing horizon store cells bytes x disk s) j holds)))))))))
   where
-    all : HoldsBy d region.number region.manifest region.wal region.flushing region.horizon region.store.cells region.cells region.bytes disk s → Holds d region disk s
+    all : HoldsBy d region.number region.manifest region.wal region.flushing region.horizon region.store.cells region.cells region.bytes region.stamps disk s → Holds d region disk s
     all x = record {
       batches = x.batches;
       lists = x.lists;
@@ -85,6 +91,7 @@ by_fields {D} d number manifest wal flushing horizon store cells bytes disk s re
       horizon = x.horizon_is;
       counted = x.counted;
       weighed = x.weighed;
+      least = x.least;
     }
 
 module _ {D : Type 0} (d : Ghosts D) (region : Region) (disk : D) (s : RegionData) (holds : Holds d region disk s) where
@@ -94,7 +101,7 @@ module _ {D : Type 0} (d : Ghosts D) (region : Region) (disk : D) (s : RegionDat
   abbrev flushed : ℕ
   flushed = (names region.manifest).flushed
 
-  parts : HoldsBy d region.number region.manifest region.wal region.flushing region.horizon region.store.cells region.cells region.bytes disk s
+  parts : HoldsBy d region.number region.manifest region.wal region.flushing region.horizon region.store.cells region.cells region.bytes region.stamps disk s
   parts = record {
     batches = holds.batches;
     lists = holds.lists;
@@ -106,13 +113,14 @@ module _ {D : Type 0} (d : Ghosts D) (region : Region) (disk : D) (s : RegionDat
     horizon_is = holds.horizon;
     counted = holds.counted;
     weighed = holds.weighed;
+    least = holds.least;
   }
 
   -- a region that differs in its room alone has the same
   pub holds_alike : (new : Region) → IsAlike region new → Holds d new disk s
   holds_alike new alike =
-      by_fields d region.number region.manifest region.wal region.flushing region.horizon region.store.cells region.cells region.bytes disk s new parts (sym alike.number) (sym alike.manifest) (sym alike.wal) (sym alike.flushing) (sym alike.horizon) (sym alike.store) (sym alike.cells)
-      (sym alike.bytes)
+      by_fields d region.number region.manifest region.wal region.flushing region.horizon region.store.cells region.cells region.bytes region.stamps disk s new parts (sym alike.number) (sym alike.manifest) (sym alike.wal) (sym alike.flushing) (sym alike.horizon) (sym alike.store)
+      (sym alike.cells) (sym alike.bytes) (sym alike.stamps)
 
   -- its store has what it has
   pub store_is_all : region.store.cells ≡ s.cells
@@ -137,6 +145,20 @@ module _ {D : Type 0} (d : Ghosts D) (region : Region) (disk : D) (s : RegionDat
   pub leaves_same : (disk' : D) → LeavesOnly d disk disk' (λ moment image. IsRead own image (names region.manifest).horizon (cells_over flushed holds.batches holds.lists)) → LeavesOnly d disk disk' (λ moment image. Stands region.number image s)
   leaves_same disk' leaves = record { each = λ moment image since left. read_same image (leaves.each moment image since left) }
 
+  -- files that a compaction may leave
+  pub leaves_from : (o : Option ℕ) (disk' : D) → LeavesOnly d disk disk' (λ moment image. ReadsFrom o own image (names region.manifest).horizon (cells_over flushed holds.batches holds.lists)) → LeavesOnly d disk disk' (λ moment image. StandsFrom o region.number image s)
+  leaves_from None disk' leaves = leaves_same disk' leaves
+  leaves_from (Some h) disk' leaves = record {
+    each = λ moment image since left. elim (leaves.each moment image since left) [
+      | inl reads ↦ inl (read_same image reads)
+      | inr reads ↦ inr (record {
+        kept = record { cells = reads.kept; horizon = h };
+        forgets = record { kept = subst (λ (l : List CellData). IsKept l h reads.kept) all_cells reads.keeps; horizon_is = refl };
+        stands = subst (λ (n : ℕ). IsRead n image h reads.kept) holds.number reads.read;
+      })
+    ];
+  }
+
   -- its files stand for what it has, whatever a stop leaves of the files
   pub holds_stands : StandsIn d disk (HasFile region.number) (λ image. Stands region.number image s)
   holds_stands =
@@ -159,6 +181,7 @@ module _ {D : Type 0} (d : Ghosts D) (region : Region) (disk : D) (s : RegionDat
         horizon = holds.horizon;
         counted = holds.counted;
         weighed = holds.weighed;
+        least = holds.least;
       }
 
   -- no call
@@ -183,9 +206,9 @@ module _ {D : Type 0} (d : Ghosts D) (region : Region) (disk : D) (s : RegionDat
     log_stays leaves = record { each = λ moment image since left. log_as holds.batches s all_cells refl moment image since left (leaves.each moment image since left) }
 
     pub log_rolled : (wal : Wal) (new : Region) → HasBatches d own flushed wal disk' holds.batches → region.number ≡ new.number → region.manifest ≡ new.manifest → wal ≡ new.wal → region.flushing ≡ new.flushing → region.horizon ≡ new.horizon
-        → region.store.cells ≡ new.store.cells → region.cells ≡ new.cells → region.bytes ≡ new.bytes → Holds d new disk' s
-    log_rolled wal new log number manifest wal_is flushing horizon store cells bytes =
-        by_fields d region.number region.manifest wal region.flushing region.horizon region.store.cells region.cells region.bytes disk' s new
+        → region.store.cells ≡ new.store.cells → region.cells ≡ new.cells → region.bytes ≡ new.bytes → region.stamps ≡ new.stamps → Holds d new disk' s
+    log_rolled wal new log number manifest wal_is flushing horizon store cells bytes stamps =
+        by_fields d region.number region.manifest wal region.flushing region.horizon region.store.cells region.cells region.bytes region.stamps disk' s new
         (record {
           batches = holds.batches;
           lists = holds.lists;
@@ -197,8 +220,9 @@ module _ {D : Type 0} (d : Ghosts D) (region : Region) (disk : D) (s : RegionDat
           horizon_is = holds.horizon;
           counted = holds.counted;
           weighed = holds.weighed;
+          least = holds.least;
         })
-        number manifest wal_is flushing horizon store cells bytes
+        number manifest wal_is flushing horizon store cells bytes stamps
 
     -- that leave the batches above the flushed number
     pub log_rests : LeavesOnly d disk disk' (λ moment image. (rest : List Batch) × IsRest flushed holds.batches rest × LogStands own flushed image rest) → LeavesOnly d disk disk' (λ moment image. Stands region.number image s)
@@ -208,10 +232,10 @@ module _ {D : Type 0} (d : Ghosts D) (region : Region) (disk : D) (s : RegionDat
           log_as left_with.0 s (rest_cells flushed holds.batches left_with.0 holds.lists left_with.1 ∙ all_cells) refl moment image since left left_with.2;
     }
 
-    pub log_switched : (wal : Wal) (new : Region) (rest : List Batch) → IsRest flushed holds.batches rest → region.flushing.flush ≡ None → HasBatches d own flushed wal disk' rest → region.number ≡ new.number → region.manifest ≡ new.manifest → wal ≡ new.wal → region.flushing ≡ new.flushing
-        → region.horizon ≡ new.horizon → region.store.cells ≡ new.store.cells → region.cells ≡ new.cells → region.bytes ≡ new.bytes → Holds d new disk' s
-    log_switched wal new rest is idle log number manifest wal_is flushing horizon store cells bytes =
-        by_fields d region.number region.manifest wal region.flushing region.horizon region.store.cells region.cells region.bytes disk' s new
+    pub log_switched : (wal : Wal) (stamps : LeastStamps) (new : Region) (rest : List Batch) → IsRest flushed holds.batches rest → region.flushing.flush ≡ None → HasBatches d own flushed wal disk' rest → HaveLeast stamps (above flushed rest) → region.number ≡ new.number → region.manifest ≡ new.manifest
+        → wal ≡ new.wal → region.flushing ≡ new.flushing → region.horizon ≡ new.horizon → region.store.cells ≡ new.store.cells → region.cells ≡ new.cells → region.bytes ≡ new.bytes → stamps ≡ new.stamps → Holds d new disk' s
+    log_switched wal stamps new rest is idle log least number manifest wal_is flushing horizon store cells bytes stamps_are =
+        by_fields d region.number region.manifest wal region.flushing region.horizon region.store.cells region.cells region.bytes stamps disk' s new
         (record {
           batches = rest;
           lists = holds.lists;
@@ -223,8 +247,13 @@ module _ {D : Type 0} (d : Ghosts D) (region : Region) (disk : D) (s : RegionDat
           horizon_is = holds.horizon;
           counted = holds.counted ∙ ap cell_count (sym (rest_above flushed holds.batches rest is));
           weighed = holds.weighed ∙ ap byte_count (sym (rest_above flushed holds.batches rest is));
+          least = least;
         })
-        number manifest wal_is flushing horizon store cells bytes
+        number manifest wal_is flushing horizon store cells bytes stamps_are
+
+    -- the least stamps of those that are left
+    pub rest_least : (rest : List Batch) → IsRest flushed holds.batches rest → HaveLeast region.stamps (above flushed rest)
+    rest_least rest is = subst (HaveLeast region.stamps) (sym (rest_above flushed holds.batches rest is)) holds.least
 
     -- that append a batch
     module _ (b : Batch) (over : flushed < b.number) where
@@ -240,12 +269,12 @@ module _ {D : Type 0} (d : Ghosts D) (region : Region) (disk : D) (s : RegionDat
         ];
       }
 
-      pub log_more : (wal : Wal) (store : List CellData) (cells bytes : ℕ) (new : Region) → region.wal.last < b.number → HasBatches d own flushed wal disk' (holds.batches ++ b ∷ []) → IsSettled (b.cells ++ region.store.cells) store
-          → cells ≡ region.cells + length b.cells → bytes ≡ region.bytes + length (all_bytes b.cells) → region.number ≡ new.number → region.manifest ≡ new.manifest → wal ≡ new.wal → region.flushing ≡ new.flushing → region.horizon ≡ new.horizon → store ≡ new.store.cells → cells ≡ new.cells
-          → bytes ≡ new.bytes → Holds d new disk' (with_batch s b.cells)
-      log_more wal store cells bytes new next log settled counted weighed number manifest wal_is flushing horizon store_is cells_is bytes_is =
+      pub log_more : (wal : Wal) (store : List CellData) (cells bytes : ℕ) (stamps : LeastStamps) (new : Region) → region.wal.last < b.number → HasBatches d own flushed wal disk' (holds.batches ++ b ∷ []) → IsSettled (b.cells ++ region.store.cells) store
+          → cells ≡ region.cells + length b.cells → bytes ≡ region.bytes + length (all_bytes b.cells) → ((batches : List Batch) → HaveLeast region.stamps batches → HaveLeast stamps (batches ++ b ∷ [])) → region.number ≡ new.number → region.manifest ≡ new.manifest → wal ≡ new.wal → region.flushing ≡ new.flushing → region.horizon ≡ new.horizon → store ≡ new.store.cells → cells ≡ new.cells
+          → bytes ≡ new.bytes → stamps ≡ new.stamps → Holds d new disk' (with_batch s b.cells)
+      log_more wal store cells bytes stamps new next log settled counted weighed least number manifest wal_is flushing horizon store_is cells_is bytes_is stamps_are =
           let is : store ≡ settle (b.cells ++ region.store.cells) = settled_is (b.cells ++ region.store.cells) store settled in
-          by_fields d region.number region.manifest wal region.flushing region.horizon store cells bytes disk' (with_batch s b.cells) new
+          by_fields d region.number region.manifest wal region.flushing region.horizon store cells bytes stamps disk' (with_batch s b.cells) new
           (record {
             batches = holds.batches ++ b ∷ [];
             lists = holds.lists;
@@ -257,8 +286,9 @@ module _ {D : Type 0} (d : Ghosts D) (region : Region) (disk : D) (s : RegionDat
             horizon_is = holds.horizon;
             counted = counted ∙ ap (λ (n : ℕ). n + length b.cells) holds.counted ∙ sym (cells_more (above flushed holds.batches) b) ∙ ap cell_count (sym (above_more flushed holds.batches b over));
             weighed = weighed ∙ ap (λ (n : ℕ). n + length (all_bytes b.cells)) holds.weighed ∙ sym (bytes_more (above flushed holds.batches) b) ∙ ap byte_count (sym (above_more flushed holds.batches b over));
+            least = subst (HaveLeast stamps) (sym (above_more flushed holds.batches b over)) (least (above flushed holds.batches) holds.least);
           })
-          number manifest wal_is flushing horizon store_is cells_is bytes_is
+          number manifest wal_is flushing horizon store_is cells_is bytes_is stamps_are
 
   -- ---- calls on the manifest
 
@@ -274,9 +304,9 @@ module _ {D : Type 0} (d : Ghosts D) (region : Region) (disk : D) (s : RegionDat
     }
 
     pub manifest_rolled : (manifest : Manifest) (new : Region) → HasSnapshot d own manifest disk' → names manifest ≡ names region.manifest → region.number ≡ new.number → manifest ≡ new.manifest → region.wal ≡ new.wal → region.flushing ≡ new.flushing → region.horizon ≡ new.horizon
-        → region.store.cells ≡ new.store.cells → region.cells ≡ new.cells → region.bytes ≡ new.bytes → Holds d new disk' s
-    manifest_rolled manifest new named same number manifest_is wal_is flushing horizon store cells bytes =
-        by_fields d region.number manifest region.wal region.flushing region.horizon region.store.cells region.cells region.bytes disk' s new
+        → region.store.cells ≡ new.store.cells → region.cells ≡ new.cells → region.bytes ≡ new.bytes → region.stamps ≡ new.stamps → Holds d new disk' s
+    manifest_rolled manifest new named same number manifest_is wal_is flushing horizon store cells bytes stamps =
+        by_fields d region.number manifest region.wal region.flushing region.horizon region.store.cells region.cells region.bytes region.stamps disk' s new
         (record {
           batches = holds.batches;
           lists = holds.lists;
@@ -288,38 +318,47 @@ module _ {D : Type 0} (d : Ghosts D) (region : Region) (disk : D) (s : RegionDat
           horizon_is = holds.horizon;
           counted = holds.counted ∙ ap (λ (n : SnapshotData). cell_count (above n.flushed holds.batches)) (sym same);
           weighed = holds.weighed ∙ ap (λ (n : SnapshotData). byte_count (above n.flushed holds.batches)) (sym same);
+          least = subst (λ (n : SnapshotData). HaveLeast region.stamps (above n.flushed holds.batches)) (sym same) holds.least;
         })
-        number manifest_is wal_is flushing horizon store cells bytes
+        number manifest_is wal_is flushing horizon store cells bytes stamps
 
   -- ---- a step of a flush
 
-  pub flush_went : (disk' : D) (manifest : Manifest) (flushing : Flushing) (after : List (List CellData)) (cells bytes : ℕ) (new : Region) → HasFlushing d manifest region.wal flushing disk' holds.batches after
-      → cells_over (names manifest).flushed holds.batches after ≡ cells_over flushed holds.batches holds.lists → flushing.number ≡ own → (names manifest).horizon ≡ (names region.manifest).horizon
-      → cells ≡ cell_count (above (names manifest).flushed holds.batches) → bytes ≡ byte_count (above (names manifest).flushed holds.batches) → region.number ≡ new.number → manifest ≡ new.manifest → region.wal ≡ new.wal → flushing ≡ new.flushing → region.horizon ≡ new.horizon
-      → region.store.cells ≡ new.store.cells → cells ≡ new.cells → bytes ≡ new.bytes → Holds d new disk' s
-  flush_went disk' manifest flushing after cells bytes new has same mine still counted weighed number manifest_is wal_is flushing_is horizon store cells_is bytes_is =
-      by_fields d region.number manifest region.wal flushing region.horizon region.store.cells cells bytes disk' s new
+  -- that may forget: the files are read with another horizon, and the store has what is read then
+  pub flush_forgot : (disk' : D) (manifest : Manifest) (flushing : Flushing) (after : List (List CellData)) (horizon : ℕ) (store : List CellData) (cells bytes : ℕ) (stamps : LeastStamps) (t : RegionData) (new : Region) → HasFlushing d manifest region.wal flushing disk' holds.batches after
+      → store ≡ cells_over (names manifest).flushed holds.batches after → flushing.number ≡ own → horizon ≡ (names manifest).horizon → t.cells ≡ store → t.horizon ≡ horizon → cells ≡ cell_count (above (names manifest).flushed holds.batches) → bytes ≡ byte_count (above (names manifest).flushed holds.batches)
+      → HaveLeast stamps (above (names manifest).flushed holds.batches) → region.number ≡ new.number → manifest ≡ new.manifest → region.wal ≡ new.wal → flushing ≡ new.flushing → horizon ≡ new.horizon → store ≡ new.store.cells → cells ≡ new.cells → bytes ≡ new.bytes → stamps ≡ new.stamps → Holds d new disk' t
+  flush_forgot disk' manifest flushing after horizon store cells bytes stamps t new has store_is mine named cells_are horizon_is counted weighed least number manifest_is wal_is flushing_is horizon_same store_same cells_is bytes_is stamps_are =
+      by_fields d region.number manifest region.wal flushing horizon store cells bytes stamps disk' t new
       (record {
         batches = holds.batches;
         lists = after;
         has = has;
         own = mine ∙ holds.number;
-        store_is = holds.store ∙ sym same;
-        named = holds.named ∙ sym still;
-        cells_are = holds.cells;
-        horizon_is = holds.horizon;
+        store_is = store_is;
+        named = named;
+        cells_are = cells_are;
+        horizon_is = horizon_is;
         counted = counted;
         weighed = weighed;
+        least = least;
       })
-      number manifest_is wal_is flushing_is horizon store cells_is bytes_is
+      number manifest_is wal_is flushing_is horizon_same store_same cells_is bytes_is stamps_are
+
+  pub flush_went : (disk' : D) (manifest : Manifest) (flushing : Flushing) (after : List (List CellData)) (cells bytes : ℕ) (stamps : LeastStamps) (new : Region) → HasFlushing d manifest region.wal flushing disk' holds.batches after
+      → cells_over (names manifest).flushed holds.batches after ≡ cells_over flushed holds.batches holds.lists → flushing.number ≡ own → (names manifest).horizon ≡ (names region.manifest).horizon → cells ≡ cell_count (above (names manifest).flushed holds.batches)
+      → bytes ≡ byte_count (above (names manifest).flushed holds.batches) → HaveLeast stamps (above (names manifest).flushed holds.batches) → region.number ≡ new.number → manifest ≡ new.manifest → region.wal ≡ new.wal → flushing ≡ new.flushing → region.horizon ≡ new.horizon
+      → region.store.cells ≡ new.store.cells → cells ≡ new.cells → bytes ≡ new.bytes → stamps ≡ new.stamps → Holds d new disk' s
+  flush_went disk' manifest flushing after cells bytes stamps new has same mine still counted weighed least =
+      flush_forgot disk' manifest flushing after region.horizon region.store.cells cells bytes stamps s new has (holds.store ∙ sym same) mine (holds.named ∙ sym still) holds.cells holds.horizon counted weighed least
 
   -- that names nothing
   pub flush_same : (disk' : D) (manifest : Manifest) (flushing : Flushing) (after : List (List CellData)) (new : Region) → HasFlushing d manifest region.wal flushing disk' holds.batches after
       → cells_over (names manifest).flushed holds.batches after ≡ cells_over flushed holds.batches holds.lists → flushing.number ≡ own → names manifest ≡ names region.manifest → region.number ≡ new.number → manifest ≡ new.manifest → region.wal ≡ new.wal → flushing ≡ new.flushing
-      → region.horizon ≡ new.horizon → region.store.cells ≡ new.store.cells → region.cells ≡ new.cells → region.bytes ≡ new.bytes → Holds d new disk' s
+      → region.horizon ≡ new.horizon → region.store.cells ≡ new.store.cells → region.cells ≡ new.cells → region.bytes ≡ new.bytes → region.stamps ≡ new.stamps → Holds d new disk' s
   flush_same disk' manifest flushing after new has same mine still =
-      flush_went disk' manifest flushing after region.cells region.bytes new has same mine (ap (λ (n : SnapshotData). n.horizon) still) (holds.counted ∙ ap (λ (n : SnapshotData). cell_count (above n.flushed holds.batches)) (sym still))
-      (holds.weighed ∙ ap (λ (n : SnapshotData). byte_count (above n.flushed holds.batches)) (sym still))
+      flush_went disk' manifest flushing after region.cells region.bytes region.stamps new has same mine (ap (λ (n : SnapshotData). n.horizon) still) (holds.counted ∙ ap (λ (n : SnapshotData). cell_count (above n.flushed holds.batches)) (sym still))
+      (holds.weighed ∙ ap (λ (n : SnapshotData). byte_count (above n.flushed holds.batches)) (sym still)) (subst (λ (n : SnapshotData). HaveLeast region.stamps (above n.flushed holds.batches)) (sym still) holds.least)
 
   pub touches_files : (disk' : D) → TouchesOnly d disk disk' (HasFile own) → TouchesOnly d disk disk' (HasFile region.number)
   touches_files disk' touches = subst (λ (n : ℕ). TouchesOnly d disk disk' (HasFile n)) holds.number touches

@@ -1,9 +1,11 @@
+pub mod Least
 pub mod Holding
 pub mod Given
 pub mod Opening
 pub mod OneStanding
 pub mod Fresh
 pub mod Steps
+pub mod Left
 pub mod Alike
 pub mod Calls
 pub mod Logged

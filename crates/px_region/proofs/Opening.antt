@@ -31,6 +31,8 @@ use Rattle.px_flushing.specs.declared.flushing.Flushing.{Flushing}
 use Rattle.px_flushing.proofs.Going.{flushing_kept}
 use Rattle.px_region.specs.Region.{Holds, RegionData, Stands}
 use Rattle.px_region.specs.Opened.{IsAssembled, IsFirstDamaged}
+use Rattle.px_region.specs.Stamps.{HaveLeast}
+use Rattle.px_region.specs.declared.stamps.LeastStamps.{LeastStamps}
 use Rattle.px_region.specs.Opened.IsFirstDamaged.{in_file, in_log}
 use Rattle.px_region.specs.declared.region.Region.{Region}
 use Rattle.px_region.proofs.Holding.{by_fields}
@@ -54,14 +56,14 @@ module _ {D : Type 0} (d : Ghosts D) (number : ℕ) (old mid new : D) (manifest 
   loaded_cells : (store loaded : List CellData) → store ≡ settle (later_first (above (names manifest).flushed batches)) → loaded ≡ settle (store ++ joined lists) → loaded ≡ cells_over (names manifest).flushed batches lists
   loaded_cells store loaded is all = all ∙ ap (λ (l : List CellData). settle (l ++ joined lists)) is ∙ settle_front (later_first (above (names manifest).flushed batches)) (joined lists)
 
-  pub assembled_by : (store : List CellData) (cells bytes : ℕ) (loaded : List CellData) (horizon : ℕ) (region : Region) → d.seen mid ≡ d.seen old → Stays d mid new → d.seen new ≡ d.seen mid → store ≡ settle (later_first (above (names manifest).flushed batches))
-      → cells ≡ cell_count (above (names manifest).flushed batches) → bytes ≡ byte_count (above (names manifest).flushed batches) → loaded ≡ settle (store ++ joined lists) → horizon ≡ (names manifest).horizon → number ≡ region.number → manifest ≡ region.manifest
-      → wal ≡ region.wal → flushing ≡ region.flushing → horizon ≡ region.horizon → loaded ≡ region.store.cells → cells ≡ region.cells → bytes ≡ region.bytes → IsAssembled d number (d.seen old) (names manifest) batches region new
-  assembled_by store cells bytes loaded horizon region seen stays same is counted weighed all named number_is manifest_is wal_is flushing_is horizon_is store_is cells_is bytes_is = record {
+  pub assembled_by : (store : List CellData) (cells bytes : ℕ) (stamps : LeastStamps) (loaded : List CellData) (horizon : ℕ) (region : Region) → d.seen mid ≡ d.seen old → Stays d mid new → d.seen new ≡ d.seen mid → store ≡ settle (later_first (above (names manifest).flushed batches))
+      → cells ≡ cell_count (above (names manifest).flushed batches) → bytes ≡ byte_count (above (names manifest).flushed batches) → HaveLeast stamps (above (names manifest).flushed batches) → loaded ≡ settle (store ++ joined lists) → horizon ≡ (names manifest).horizon → number ≡ region.number → manifest ≡ region.manifest
+      → wal ≡ region.wal → flushing ≡ region.flushing → horizon ≡ region.horizon → loaded ≡ region.store.cells → cells ≡ region.cells → bytes ≡ region.bytes → stamps ≡ region.stamps → IsAssembled d number (d.seen old) (names manifest) batches region new
+  assembled_by store cells bytes stamps loaded horizon region seen stays same is counted weighed least all named number_is manifest_is wal_is flushing_is horizon_is store_is cells_is bytes_is stamps_are = record {
     lists = lists;
     files = subst (λ (i : Image). FilesStand number i (names manifest).files lists) seen (seen_stand d number mid (names manifest).files flushing.files.items lists tells have);
     holds =
-        by_fields d number manifest wal flushing horizon loaded cells bytes new (record { cells = cells_over (names manifest).flushed batches lists; horizon = (names manifest).horizon }) region
+        by_fields d number manifest wal flushing horizon loaded cells bytes stamps new (record { cells = cells_over (names manifest).flushed batches lists; horizon = (names manifest).horizon }) region
         (record {
           batches = batches;
           lists = lists;
@@ -73,8 +75,9 @@ module _ {D : Type 0} (d : Ghosts D) (number : ℕ) (old mid new : D) (manifest 
           horizon_is = sym named;
           counted = counted;
           weighed = weighed;
+          least = least;
         })
-        number_is manifest_is wal_is flushing_is horizon_is store_is cells_is bytes_is;
+        number_is manifest_is wal_is flushing_is horizon_is store_is cells_is bytes_is stamps_are;
     few = subst (λ (f : Flushing). opening_calls f.files.items + loading_calls f.files.items ≤ files_calls lists) flushing_is (files_most d number mid (names manifest).files flushing.files.items lists have);
   }
 

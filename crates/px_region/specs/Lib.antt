@@ -1,3 +1,4 @@
+pub mod Stamps
 pub mod Region
 pub mod Promise
 pub mod Giving
@@ -6,3 +7,4 @@ pub mod Fresh
 pub mod Faults
 pub mod Calls
 pub mod Ordered
+pub mod Forgetting

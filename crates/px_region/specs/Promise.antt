@@ -33,6 +33,7 @@ pub record IsAlike (old new : Region) : Type 0 where
   pub store : new.store.cells ≡ old.store.cells
   pub cells : new.cells ≡ old.cells
   pub bytes : new.bytes ≡ old.bytes
+  pub stamps : new.stamps ≡ old.stamps
 
 -- the same room is promised
 pub record IsSamePromise (old new : Region) : Type 0 where

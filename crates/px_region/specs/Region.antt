@@ -12,6 +12,7 @@ use Rattle.px_wal.specs.Batches.{Batch, above, cells_over}
 use Rattle.px_wal.specs.Form.{byte_count, cell_count}
 use Rattle.px_wal.specs.Manifest.{names}
 use Rattle.px_flushing.specs.Flushing.{HasFlushing, IsRead}
+use Rattle.px_region.specs.Stamps.{HaveLeast}
 use Rattle.px_region.specs.declared.region.Region.{Region}
 
 -- What a region stands for: the sorted list of what is read of it, and the horizon.
@@ -56,3 +57,4 @@ pub record Holds {D : Type 0} (d : Ghosts D) (region : Region) (disk : D) (s : R
   pub horizon : s.horizon ≡ region.horizon
   pub counted : region.cells ≡ cell_count (above (names region.manifest).flushed batches)
   pub weighed : region.bytes ≡ byte_count (above (names region.manifest).flushed batches)
+  pub least : HaveLeast region.stamps (above (names region.manifest).flushed batches)

@@ -5,9 +5,9 @@ ghost use Rattle.px_region.specs.Faults.{job_fault};
 ghost use Rattle.px_outside.specs.OnDisk.{LeavesOnly, Passes, Rose, TouchesOnly};
 ghost use Rattle.px_wal.specs.Files.{HasFile};
 
-use crate::{JobFault, JobStep, Region};
-use px_flushing::{FlushFault, FlushStep};
-use px_gatelog::{AppendFault, Frame};
+use crate::{ForgetStep, JobFault, JobStep, Region};
+use px_flushing::FlushFault;
+use px_gatelog::{AppendFault, Frame, Rolled};
 use px_outside::Disk;
 use px_wal::FileEntry;
 
@@ -41,7 +41,7 @@ fn run_len(files: &[FileEntry]) -> usize {
 
 /// What a fault of a flush is to a job. A log that isn't read as it was written is put aside like want of memory: while the disk tells, that
 /// doesn't come.
-fn of_flush(fault: FlushFault) -> JobFault
+pub(crate) fn of_flush(fault: FlushFault) -> JobFault
     ensures { result ≡ job_fault fault }
 {
     match fault {
@@ -55,6 +55,8 @@ fn of_flush(fault: FlushFault) -> JobFault
 impl Region {
     ghost use Rattle.px_region.specs.Region.{Holds, RegionData, Stands, data_of, read_of};
     ghost use Rattle.px_region.specs.Ordered.{HasFlushed, IsOrdered, IsSameOrder, flushed_of};
+    ghost use Rattle.px_flushing.specs.Flushing.{horizon_of};
+    ghost use Rattle.px_region.specs.Forgetting.{StaysWanted};
     ghost use Rattle.px_region.specs.Promise.{IsAlike, IsSamePromise};
     ghost use Rattle.px_region.specs.declared.fault.JobFault.TheVariants.{Memory, WriteFault};
 
@@ -72,7 +74,7 @@ impl Region {
     }
 
     /// Whether the manifest is to be renewed: its segment has no room to name other files, or the next one is under way.
-    fn is_full(&self) -> bool {
+    pub(crate) fn is_full(&self) -> bool {
         self.manifest.is_open()
             && (self.manifest.is_rolling() || !self.manifest.has_room(MOST_FILES as u64))
     }
@@ -160,9 +162,15 @@ impl Region {
         ensures horizon { (data_of self.new).horizon ≡ (data_of self.old).horizon }
         ensures looked { self.new.looked ≡ self.old.looked }
         ensures ordered { OnOk result (IsSameOrder self.old self.new) }
+        ensures wanted { OnOk result (StaysWanted self.old self.new) }
     {
         match self.wal.switch_step(disk) {
-            Ok(_) => Ok(JobStep::More),
+            Ok(Rolled::More) => Ok(JobStep::More),
+            Ok(Rolled::Rolled) => {
+                let last = self.wal.last();
+                self.stamps.age(last);
+                Ok(JobStep::More)
+            }
             Err(AppendFault::WriteFault) => Err(JobFault::WriteFault),
             Err(AppendFault::Full) => {
                 self.ordered = 0;
@@ -187,6 +195,7 @@ impl Region {
         ensures horizon { (data_of self.new).horizon ≡ (data_of self.old).horizon }
         ensures looked { self.new.looked ≡ self.old.looked }
         ensures ordered { OnOk result (IsSameOrder self.old self.new) }
+        ensures wanted { OnOk result (StaysWanted self.old self.new) }
     {
         let mut frame = match Frame::with_room(self.alloc, self.manifest.snapshot().body_len()) {
             Ok(frame) => frame,
@@ -215,12 +224,41 @@ impl Region {
         ensures horizon { (data_of self.new).horizon ≡ (data_of self.old).horizon }
         ensures looked { self.new.looked ≡ self.old.looked }
         ensures ordered { IsSameOrder self.old self.new }
+        ensures wanted { StaysWanted self.old self.new }
     {
         self.flushing.compact::<D>(count);
     }
 
-    /// Makes one step of the flush of what stands in the log's older segment, or of the compaction that is under way. Where none can be made, a flush is ordered
-    /// no more.
+    /// Makes one step of the flush of what stands in the log's older segment, or of the compaction that is under way, which forgets nothing. Where none
+    /// can be made, a flush is ordered no more.
+    fn plain_step<D: Disk>(&mut self, disk: &mut D) -> Result<JobStep, JobFault>
+        requires { horizon_of self.old.flushing.flush ≡ None }
+        ensures done { (s : RegionData) → Holds ⟦<D as Disk>⟧ self.old disk.old s → OnOk result (Holds ⟦<D as Disk>⟧ self.new disk.new s) }
+
+        // At each moment of the call a stop leaves the region as it is.
+        ensures any_moment { (s : RegionData) → Holds ⟦<D as Disk>⟧ self.old disk.old s → LeavesOnly ⟦<D as Disk>⟧ disk.old disk.new (λ moment image. Stands self.old.number image s) }
+        ensures failed { result ≡ Err WriteFault → Rose ⟦<D as Disk>⟧ disk.old disk.new }
+        ensures refused { (s : RegionData) → Holds ⟦<D as Disk>⟧ self.old disk.old s → result ≡ Err Memory → Holds ⟦<D as Disk>⟧ self.new disk.new s }
+        ensures touches { (s : RegionData) → Holds ⟦<D as Disk>⟧ self.old disk.old s → TouchesOnly ⟦<D as Disk>⟧ disk.old disk.new (HasFile self.old.number) }
+        ensures counts { Passes ⟦<D as Disk>⟧ disk.old disk.new 4 }
+        ensures promised { IsSamePromise self.old self.new }
+        ensures read { read_of self.new ≡ read_of self.old }
+        ensures number { self.new.number ≡ self.old.number }
+        ensures horizon { (data_of self.new).horizon ≡ (data_of self.old).horizon }
+        ensures looked { self.new.looked ≡ self.old.looked }
+        ensures ordered { OnOk result (IsSameOrder self.old self.new) }
+        ensures wanted { OnOk result (StaysWanted self.old self.new) }
+    {
+        match self.files_step(disk) {
+            Ok(ForgetStep::More) => Ok(JobStep::More),
+            Ok(ForgetStep::Forgot) => Ok(JobStep::More),
+            Ok(ForgetStep::Done) => Ok(JobStep::Done),
+            Err(fault) => Err(fault),
+        }
+    }
+
+    /// Makes one step of the flush of what stands in the log's older segment, or of the compaction that is under way. Where none can be made, a flush
+    /// is ordered no more. A compaction that forgets is given up, since it goes on with its horizon alone, by `forget_step`.
     fn flush_step<D: Disk>(&mut self, disk: &mut D) -> Result<JobStep, JobFault>
         ensures done { (s : RegionData) → Holds ⟦<D as Disk>⟧ self.old disk.old s → OnOk result (Holds ⟦<D as Disk>⟧ self.new disk.new s) }
 
@@ -236,30 +274,20 @@ impl Region {
         ensures horizon { (data_of self.new).horizon ≡ (data_of self.old).horizon }
         ensures looked { self.new.looked ≡ self.old.looked }
         ensures ordered { OnOk result (IsSameOrder self.old self.new) }
+        ensures wanted { OnOk result (StaysWanted self.old self.new) }
     {
-        if self.flushing.upto() > self.wal.last() {
-            self.ordered = 0;
-            return Err(JobFault::Memory);
-        }
-        match self.flushing.step(disk, &mut self.manifest, &self.wal) {
-            Ok(FlushStep::More) => Ok(JobStep::More),
-            Ok(FlushStep::Merged) => Ok(JobStep::More),
-            Ok(FlushStep::Done) => Ok(JobStep::Done),
-            Ok(FlushStep::Named { cells, bytes }) => {
-                self.cells = self.cells.saturating_sub(cells);
-                self.bytes = self.bytes.saturating_sub(bytes);
-                Ok(JobStep::Done)
-            }
-            Err(fault) => {
-                self.ordered = 0;
-                Err(of_flush(fault))
+        match self.flushing.horizon() {
+            None => self.plain_step(disk),
+            Some(_) => {
+                self.flushing.give_up::<D>();
+                Ok(JobStep::More)
             }
         }
     }
 
-    /// Makes one step of upkeep: of its log or its manifest, where one isn't open or the manifest is full; of a compaction that is due; of the switch of the log to its other segment; or of
-    /// a flush. What is read stays, and what the region stands for stays at each moment. `Done` comes where a flush ended, or
-    /// nothing is left to do.
+    /// Makes one step of upkeep: of its log or its manifest, where one isn't open or the manifest is full; of a compaction that is due; of the switch of
+    /// the log to its other segment; or of a flush. What is read stays, and what the region stands for stays at each moment. `Done` comes where a flush
+    /// ended, or nothing is left to do.
     ///
     /// A WriteFault comes where a call of the disk failed, and then no call may follow. Where no memory is found the step may be made again; and a
     /// flush that was ordered isn't any more, so that an order which can't be met is told once.
@@ -278,6 +306,7 @@ impl Region {
         ensures horizon { (data_of self.new).horizon ≡ (data_of self.old).horizon }
         ensures looked { self.new.looked ≡ self.old.looked }
         ensures ordered { OnOk result (IsSameOrder self.old self.new) }
+        ensures wanted { OnOk result (StaysWanted self.old self.new) }
     {
         if !self.wal.is_open() || !self.manifest.is_open() {
             return self.prepare_step(disk);

@@ -17,6 +17,7 @@ pub enum JobStep {
 
 impl Region {
     ghost use Rattle.px_region.specs.Region.{Holds, RegionData, Stands, data_of, read_of};
+    ghost use Rattle.px_region.specs.Forgetting.{StaysWanted};
     ghost use Rattle.px_region.specs.Ordered.{IsSameOrder};
     ghost use Rattle.px_region.specs.Promise.{IsPrepared, IsSamePromise};
     ghost use Rattle.px_region.specs.declared.fault.JobFault.TheVariants.{Memory, WriteFault};
@@ -40,6 +41,7 @@ impl Region {
         ensures horizon { (data_of self.new).horizon ≡ (data_of self.old).horizon }
         ensures looked { self.new.looked ≡ self.old.looked }
         ensures ordered { OnOk result (IsSameOrder self.old self.new) }
+        ensures wanted { OnOk result (StaysWanted self.old self.new) }
     {
         if !self.wal.is_open() {
             return match self.wal.roll_step(disk) {

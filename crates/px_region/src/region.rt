@@ -5,6 +5,7 @@ ghost use Rattle.px_cellbytes.specs.Spelling.{IsShortEnough, all_bytes};
 ghost use Rattle.px_wal.specs.Wal.{is_open as opened_wal, room_of as wal_room};
 
 use crate::PromiseFault;
+use crate::stamps::LeastStamps;
 use px_cells::{Cell, Cells};
 use px_flushing::Flushing;
 use px_gatelog::Frame;
@@ -44,6 +45,10 @@ pub struct Region {
     pub(crate) looked: u64,
     /// The number of the last batch that is ordered to be flushed, 0 where none is.
     pub(crate) ordered: u64,
+    /// Whether a compaction that forgets is wanted.
+    pub(crate) wanted: bool,
+    /// The least stamps of the batches above the flushed number.
+    pub(crate) stamps: LeastStamps,
     ghost roomy: { 19 * promised + promised_bytes ≤ wal_room wal },
     ghost stored: { promised ≤ store.room },
     ghost few: { promised ≤ 16384 },
@@ -99,6 +104,8 @@ impl Region {
             promised_bytes: 0,
             looked: 0,
             ordered: 0,
+            wanted: false,
+            stamps: LeastStamps::none(),
         }
     }
 
@@ -239,7 +246,8 @@ impl Region {
                 self.promised_bytes = 0;
                 Err(Failed)
             }
-            Ok(_) => {
+            Ok(number) => {
+                self.stamps.add(number, cells.as_slice());
                 self.store.put(cells);
                 self.promised -= count;
                 self.promised_bytes -= bytes;

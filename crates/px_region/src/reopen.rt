@@ -3,6 +3,7 @@ ghost use Rattle.std.specs.Prelude.{◌≡◌, ◌+◌, ℕ, List, IsTrue, IfOk,
 ghost use Rattle.px_outside.specs.OnDisk.{Passes, Rose, Stays};
 
 use crate::Region;
+use crate::stamps::LeastStamps;
 use px_flushing::Flushing;
 use px_gatelog::StartFault;
 use px_loading::load;
@@ -54,6 +55,7 @@ impl Region {
             cells,
             bytes,
         } = replayed;
+        let stamps = LeastStamps::of_store(&store);
         let store = match load(alloc, disk, store, flushing.files()) {
             Ok(store) => store,
             Err(fault) => {
@@ -78,6 +80,8 @@ impl Region {
             promised_bytes: 0,
             looked: 0,
             ordered: 0,
+            wanted: false,
+            stamps,
         })
     }
 

@@ -1,7 +1,27 @@
-use crate::pieces::{flush, newest, opened, put, shown, step, switch};
+use crate::pieces::{Parts, flush, newest, opened, put, shown, step, switch};
 use px_flushing::FlushStep;
 use px_outside::{Disk, MemDisk};
+use std::alloc::Global;
 use std::test::Fail;
+
+/// Writes five batches, makes steps of their flush and writes a batch between them. Answers whether there were more steps behind each.
+fn write_beside(alloc: Global, disk: &mut MemDisk, parts: &mut Parts) -> Option<bool> {
+    for row in 0..5u8 {
+        put(alloc, disk, parts, row, 1, 9_000)?;
+    }
+    switch(disk, parts)?;
+    let mut more = true;
+    // The cells are taken, the file is begun, and a block of four cells is written.
+    for _ in 0..3 {
+        more = step(disk, parts)? == FlushStep::More && more;
+    }
+    put(alloc, disk, parts, 2, 2, 1)?;
+    // The other block, no further one, index and footer, and the length.
+    for _ in 0..4 {
+        more = step(disk, parts)? == FlushStep::More && more;
+    }
+    Some(more)
+}
 
 #[test]
 fn a_flush_goes_on_beside_batches(rt: HostRuntime) -> Result<(), Fail> {
@@ -9,19 +29,7 @@ fn a_flush_goes_on_beside_batches(rt: HostRuntime) -> Result<(), Fail> {
     let mut disk = MemDisk::new(alloc);
     let mut parts = opened(alloc, &mut disk).ok_or("not opened")?;
     assert!(rt; step(&mut disk, &mut parts) == Some(FlushStep::Done));
-    for row in 0..5u8 {
-        put(alloc, &mut disk, &mut parts, row, 1, 9_000).ok_or("not put")?;
-    }
-    switch(&mut disk, &mut parts).ok_or("not switched")?;
-    // The cells are taken, the file is begun, and a block of four cells is written.
-    for _ in 0..3 {
-        assert!(rt; step(&mut disk, &mut parts) == Some(FlushStep::More));
-    }
-    put(alloc, &mut disk, &mut parts, 2, 2, 1).ok_or("not put")?;
-    // The other block, no further one, index and footer, the length, and the name.
-    for _ in 0..4 {
-        assert!(rt; step(&mut disk, &mut parts) == Some(FlushStep::More));
-    }
+    assert!(rt; write_beside(alloc, &mut disk, &mut parts) == Some(true));
     let named = FlushStep::Named {
         cells: 5,
         bytes: 45_075,

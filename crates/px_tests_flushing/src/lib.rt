@@ -7,6 +7,8 @@ mod compactions;
 #[cfg(test)]
 mod flushes;
 #[cfg(test)]
+mod forgettings;
+#[cfg(test)]
 mod pieces;
 #[cfg(test)]
 mod stops;

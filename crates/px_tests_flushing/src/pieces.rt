@@ -127,7 +127,7 @@ pub fn flush(disk: &mut MemDisk, parts: &mut Parts) -> Option<u64> {
     for steps in 1..100u64 {
         match step(disk, parts)? {
             FlushStep::More => {}
-            FlushStep::Merged => return None,
+            FlushStep::Merged | FlushStep::Forgot { .. } => return None,
             FlushStep::Named { .. } | FlushStep::Done => return Some(steps),
         }
     }
@@ -149,7 +149,28 @@ pub fn merge(disk: &mut MemDisk, parts: &mut Parts) -> Option<u64> {
         match step(disk, parts)? {
             FlushStep::More => {}
             FlushStep::Merged => return Some(steps),
-            FlushStep::Named { .. } | FlushStep::Done => return None,
+            FlushStep::Forgot { .. } | FlushStep::Named { .. } | FlushStep::Done => return None,
+        }
+    }
+    None
+}
+
+/// Begins a compaction of all files, which keeps what a horizon does.
+pub fn begin_forgetting(parts: &mut Parts, horizon: u64) -> Option<()> {
+    if !parts.flushing.is_idle() {
+        return None;
+    }
+    parts.flushing.forget_all::<MemDisk>(horizon);
+    Some(())
+}
+
+/// Makes the steps of one that was begun, and answers the horizon that it named.
+pub fn forget(disk: &mut MemDisk, parts: &mut Parts) -> Option<u64> {
+    for _ in 0..100u64 {
+        match step(disk, parts)? {
+            FlushStep::More => {}
+            FlushStep::Forgot { horizon } => return Some(horizon),
+            FlushStep::Merged | FlushStep::Named { .. } | FlushStep::Done => return None,
         }
     }
     None

@@ -1,5 +1,6 @@
 //! Tests of px_wal, px_frozen and px_region over their public calls: the bytes of the first segment, room, stops at each call of
-//! the disk, what a flush writes, the compaction of four files, the switch to another segment, and folders that aren't of the format.
+//! the disk, what a flush writes, the compaction of four files, one that forgets, the switch to another segment, and folders that aren't
+//! of the format.
 #![tactic(auto)]
 
 #[cfg(test)]
@@ -8,6 +9,8 @@ mod compactions;
 mod damage;
 #[cfg(test)]
 mod flushes;
+#[cfg(test)]
+mod forgettings;
 #[cfg(test)]
 mod frozen;
 #[cfg(test)]

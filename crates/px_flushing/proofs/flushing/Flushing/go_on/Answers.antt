@@ -2,7 +2,7 @@ use Rattle.std.proofs.Common.{◌≡◌, ◌∷◌, refl}
 use Rattle.px_outside.proofs.Moments.{touches_more}
 use Rattle.px_wal.specs.Files.{HasFile, file_of}
 use Rattle.px_wal.specs.Manifest.{manifest_files, names}
-use Rattle.px_flushing.specs.declared.flushing.FlushStep.TheVariants.{Done, Merged, More, Named}
+use Rattle.px_flushing.specs.declared.flushing.FlushStep.TheVariants.{Done, Forgot, Merged, More, Named}
 use Rattle.px_flushing.specs.declared.stage.Stage.TheVariants as stage
 use Rattle.px_flushing.proofs.Going.{begun_at, free_own, manifest_own, more_only, named_goes, ok_then, ok_told, raised_as, same_by, wrote_leaves}
 use Rattle.px_flushing.proofs.flushing.Flushing.go_on.Goals as goal
@@ -30,6 +30,7 @@ pub returns-in-Measured-clause-only : goal.returns-in-Measured-clause-only
 returns-in-Measured-clause-only g c = (
   λ e. (let w = ok_told _ _ Done _ _ c.name.ensures.named e in let same : Done ≡ Named _ _ = w.0 in cc),
   λ e. (let w = ok_told _ _ Merged _ _ c.name.ensures.named e in let same : Merged ≡ Named _ _ = w.0 in cc),
+  λ h e. (let w = ok_told _ _ (Forgot h) _ _ c.name.ensures.named e in let same : Forgot h ≡ Named _ _ = w.0 in cc),
 )
 
 pub returns-in-Measured-clause-named : goal.returns-in-Measured-clause-named
@@ -63,6 +64,7 @@ pub returns-in_default-clause-only : goal.returns-in_default-clause-only
 returns-in_default-clause-only g c = (
   λ e. (let same : Done ≡ More = more_only _ Done c.write.ensures.more e in cc),
   λ e. (let same : Merged ≡ More = more_only _ Merged c.write.ensures.more e in cc),
+  λ h e. (let same : Forgot h ≡ More = more_only _ (Forgot h) c.write.ensures.more e in cc),
 )
 
 pub returns-in_default-clause-named : goal.returns-in_default-clause-named

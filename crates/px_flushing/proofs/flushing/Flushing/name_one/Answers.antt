@@ -20,7 +20,7 @@ use Rattle.px_flushing.proofs.flushing.Flushing.name_one.Goals as goal
 pub returns-in-Err-clause-kept : goal.returns-in-Err-clause-kept
 returns-in-Err-clause-kept g c = λ wal batches lists parts merging other. (
   refl,
-  by_fields g.D.Disk c.args.manifest.now wal c.args.self.now.number c.args.self.now.files.items (Some (job.Merge (record { count = c.args.count; frozen = c.args.frozen; local = c.args.local; stage = stage.Measured c.args.file c.args.len }))) c.args.disk.now batches lists c.keep.new.self parts merging
+  by_fields g.D.Disk c.args.manifest.now wal c.args.self.now.number c.args.self.now.files.items (Some (job.Merge (record { count = c.args.count; horizon = None; frozen = c.args.frozen; local = c.args.local; stage = stage.Measured c.args.file c.args.len }))) c.args.disk.now batches lists c.keep.new.self parts merging
       (sym (c.keep.ensures.files.0 ∙ c.ready_merged.ensures.same.0)) (sym (ap (λ v. v.items) c.keep.ensures.files.1 ∙ c.ready_merged.ensures.same.1)) (sym c.keep.ensures.flush),
 )
 
@@ -56,7 +56,7 @@ returns-clause-kept g c = λ wal batches lists parts merging other.
     let self = c.args.self.now in
     let full = append_full c.in-Err-name_merged.fault (λ is. other (ap Err (c.of_append.ensures ∙ ap append_fault is))) in
     let still = c.in-Err-name_merged.ensures.untouched (ap Err full) in
-    let merge : Merge = record { count = c.args.count; frozen = c.args.frozen; local = c.args.local; stage = stage.Measured c.args.file c.args.len } in
+    let merge : Merge = record { count = c.args.count; horizon = None; frozen = c.args.frozen; local = c.args.local; stage = stage.Measured c.args.file c.args.len } in
     let merging-1 = subst (λ x. IsMerging g.D.Disk self.number (names c.args.manifest.now) lists x merge) (sym still.0) merging in
     let parts-1 = subst (λ x. HasParts g.D.Disk self.number c.args.manifest.now wal x batches self.files.items lists) (sym still.0) parts in (
       still.1,

@@ -5,4 +5,4 @@ use Rattle.px_region.proofs.region.Region.begin_compaction.Goals as goal
 pub returns-clause-done : goal.returns-clause-done
 returns-clause-done g c = λ s disk holds.
     let self = c.args.self.now in
-    flush_same g.D.Disk self disk s holds disk self.manifest c.compact.new.self holds.lists _ (c.compact.ensures.begun self.manifest self.wal disk holds.batches holds.lists holds.has) refl c.compact.ensures.files.0 refl refl refl refl refl refl refl refl refl
+    flush_same g.D.Disk self disk s holds disk self.manifest c.compact.new.self holds.lists _ (c.compact.ensures.begun self.manifest self.wal disk holds.batches holds.lists holds.has) refl c.compact.ensures.files.0 refl refl refl refl refl refl refl refl refl refl

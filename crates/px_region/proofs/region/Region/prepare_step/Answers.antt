@@ -4,7 +4,7 @@ use Rattle.px_region.proofs.region.Region.prepare_step.Goals as goal
 
 pub returns-in-Ok-clause-done : goal.returns-in-Ok-clause-done
 returns-in-Ok-clause-done g c = λ s holds.
-    log_rolled g.D.Disk c.args.self.now c.args.disk.now s holds c.roll_step.new.disk (c.roll_step.ensures.touches _ _ holds.batches holds.has.parts.log) _ _ (c.in-Ok.ensures.done _ _ holds.batches holds.has.parts.log) refl refl refl refl refl refl refl refl
+    log_rolled g.D.Disk c.args.self.now c.args.disk.now s holds c.roll_step.new.disk (c.roll_step.ensures.touches _ _ holds.batches holds.has.parts.log) _ _ (c.in-Ok.ensures.done _ _ holds.batches holds.has.parts.log) refl refl refl refl refl refl refl refl refl
 
 pub returns-in-Ok-clause-any_moment : goal.returns-in-Ok-clause-any_moment
 returns-in-Ok-clause-any_moment g c = λ s holds.
@@ -28,7 +28,7 @@ returns-in-Err-with_room-clause-any_moment g c = λ s holds. stands_now g.D.Disk
 
 pub returns-in-Ok-More-clause-done : goal.returns-in-Ok-More-clause-done
 returns-in-Ok-More-clause-done g c = λ s holds.
-    manifest_rolled g.D.Disk c.args.self.now c.args.disk.now s holds c.roll_step-2.new.disk (c.roll_step-2.ensures.touches _ holds.has.parts.named) _ _ (c.in-Ok-More.ensures.done _ holds.has.parts.named) c.roll_step-2.ensures.named refl refl refl refl refl refl refl refl
+    manifest_rolled g.D.Disk c.args.self.now c.args.disk.now s holds c.roll_step-2.new.disk (c.roll_step-2.ensures.touches _ holds.has.parts.named) _ _ (c.in-Ok-More.ensures.done _ holds.has.parts.named) c.roll_step-2.ensures.named refl refl refl refl refl refl refl refl refl
 
 pub returns-in-Ok-More-clause-any_moment : goal.returns-in-Ok-More-clause-any_moment
 returns-in-Ok-More-clause-any_moment g c = λ s holds.
@@ -39,7 +39,7 @@ returns-in-Ok-More-clause-touches g c = λ s holds. touches_manifest g.D.Disk c.
 
 pub returns-in-Ok-Rolled-clause-done : goal.returns-in-Ok-Rolled-clause-done
 returns-in-Ok-Rolled-clause-done g c = λ s holds.
-    manifest_rolled g.D.Disk c.args.self.now c.args.disk.now s holds c.roll_step-2.new.disk (c.roll_step-2.ensures.touches _ holds.has.parts.named) _ _ (c.in-Ok-Rolled.ensures.done _ holds.has.parts.named) c.roll_step-2.ensures.named refl refl refl refl refl refl refl refl
+    manifest_rolled g.D.Disk c.args.self.now c.args.disk.now s holds c.roll_step-2.new.disk (c.roll_step-2.ensures.touches _ holds.has.parts.named) _ _ (c.in-Ok-Rolled.ensures.done _ holds.has.parts.named) c.roll_step-2.ensures.named refl refl refl refl refl refl refl refl refl
 
 pub returns-in-Ok-Rolled-clause-any_moment : goal.returns-in-Ok-Rolled-clause-any_moment
 returns-in-Ok-Rolled-clause-any_moment g c = λ s holds.

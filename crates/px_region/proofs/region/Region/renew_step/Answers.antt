@@ -7,7 +7,7 @@ returns-in-Err-clause-any_moment g c = λ s holds. stands_now g.D.Disk c.args.se
 
 pub returns-in-Ok-roll_step-clause-done : goal.returns-in-Ok-roll_step-clause-done
 returns-in-Ok-roll_step-clause-done g c = λ s holds.
-    manifest_rolled g.D.Disk c.args.self.now c.args.disk.now s holds c.roll_step.new.disk (c.roll_step.ensures.touches _ holds.has.parts.named) _ _ (c.in-Ok-roll_step.ensures.done _ holds.has.parts.named) c.roll_step.ensures.named refl refl refl refl refl refl refl refl
+    manifest_rolled g.D.Disk c.args.self.now c.args.disk.now s holds c.roll_step.new.disk (c.roll_step.ensures.touches _ holds.has.parts.named) _ _ (c.in-Ok-roll_step.ensures.done _ holds.has.parts.named) c.roll_step.ensures.named refl refl refl refl refl refl refl refl refl
 
 pub returns-in-Ok-roll_step-clause-any_moment : goal.returns-in-Ok-roll_step-clause-any_moment
 returns-in-Ok-roll_step-clause-any_moment g c = λ s holds.

@@ -1,0 +1,5 @@
+pub mod Horizons
+pub mod Named
+pub mod Parts
+pub mod Rows
+pub mod Slices

@@ -1,0 +1,4 @@
+pub mod Kept
+pub mod Rows
+pub mod Indexes
+pub mod Raised
