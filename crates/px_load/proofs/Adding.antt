@@ -1,6 +1,6 @@
 -- What is added to a text, and to what is counted of the replies.
 use Rattle.std.proofs.Common.{◌≡◌, ℕ, ◌+◌, Bool, true, false, List, [], ◌∷◌, ◌++◌, refl, sym, ◌∙◌, ap, add-one, append_assoc}
-use Rattle.std.specs.Prelude.{Option, Some, None}
+use Rattle.std.specs.Prelude.{Option, Some, None, Result, Ok, Err, is_ok, OnOk, if◌then◌else◌}
 use Rattle.px_reply.specs.declared.refusal.Refusal.{Refusal}
 use Rattle.px_load.specs.declared.script.Load.{Load}
 use Rattle.px_load.specs.declared.told.Came.{Came}
@@ -13,6 +13,11 @@ pub came_more : (answers : List Answer) (answer : Answer) → more (came_of answ
 came_more [] answer = refl
 came_more (first ∷ []) answer = refl
 came_more (first ∷ second ∷ others) answer = refl
+
+-- a text that was added to, where memory was found
+pub where_added : {A B : Type 0} (r : Result A B) (old new more : List ℕ) → new ≡ (if is_ok r then old ++ more else old) → OnOk r (new ≡ old ++ more)
+where_added (Ok x) old new more e = e
+where_added (Err x) old new more e = tt
 
 -- a text of four parts
 pub four_parts : (t t1 t2 t3 t4 a b c d : List ℕ) → t1 ≡ t ++ a → t2 ≡ t1 ++ b → t3 ≡ t2 ++ c → t4 ≡ t3 ++ d → t4 ≡ t ++ (((a ++ b) ++ c) ++ d)

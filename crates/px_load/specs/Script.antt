@@ -1,15 +1,13 @@
 -- The script of a load.
-use Rattle.std.specs.Prelude.{ℕ, zero, suc, ◌+◌, ◌%◌, ◌==◌, ◌||◌, Bool, if◌then◌else◌, List, [], ◌++◌, codes, decimal}
+use Rattle.std.specs.Prelude.{ℕ, zero, suc, ◌+◌, ◌%◌, ◌==◌, ◌||◌, Bool, if◌then◌else◌, List, [], ◌++◌, codes}
+use Rattle.px_reply.specs.Printed.{with_number}
 use Rattle.px_load.specs.declared.rows.LoadRow.{LoadRow}
 use Rattle.px_load.specs.declared.script.Load.{Load}
 use Rattle.px_load.specs.Rows.{behind_rows, row_behind}
 
-abbrev pub numbered : (before : List ℕ) (number : ℕ) → List ℕ
-numbered before number = before ++ decimal number
-
 -- `UPSERT INTO LOAD VALUES (0, 'G24', 937);`
 unfoldable pub upsert : LoadRow → List ℕ
-upsert row = numbered (codes "UPSERT INTO LOAD VALUES (") row.id ++ numbered (codes ", 'G") row.group ++ numbered (codes "', ") row.amount ++ codes ");\n"
+upsert row = with_number (codes "UPSERT INTO LOAD VALUES (") row.id ++ with_number (codes ", 'G") row.group ++ with_number (codes "', ") row.amount ++ codes ");\n"
 
 -- a commit stands behind every hundredth row, and behind the last
 abbrev pub is_committed : (place rows : ℕ) → Bool

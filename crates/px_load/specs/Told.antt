@@ -1,5 +1,5 @@
 -- What is told of a load.
-use Rattle.std.specs.Prelude.{ℕ, ◌≡◌, Bool, true, false, min, nat_lt, if◌then◌else◌, List, [], ◌∷◌, ◌++◌, length, Option, Some, None, ℤ, pos, negsuc, codes, decimal}
+use Rattle.std.specs.Prelude.{ℕ, ◌≡◌, Bool, true, false, min, nat_lt, if◌then◌else◌, List, [], ◌∷◌, ◌++◌, length, Option, Some, None, ℤ, pos, negsuc, codes}
 use Rattle.std.specs.List.{flat_map, sum_by}
 use Rattle.px_values.specs.declared.row.Value.{Value}
 use Rattle.px_values.specs.declared.row.Value.TheVariants.{Number}
@@ -8,7 +8,7 @@ use Rattle.px_reply.specs.declared.reply.Reply.{Reply}
 use Rattle.px_reply.specs.declared.reply.Reply.TheVariants.{Rows, Refused}
 use Rattle.px_reply.specs.declared.transcript.Item.{Item}
 use Rattle.px_reply.specs.declared.transcript.Transcript.{Transcript}
-use Rattle.px_reply.specs.Printed.{refusal_text}
+use Rattle.px_reply.specs.Printed.{numbered, refusal_line, with_number}
 use Rattle.px_load.specs.declared.script.Load.{Load}
 use Rattle.px_load.specs.declared.told.Came.{Came}
 use Rattle.px_load.specs.declared.told.Came.TheVariants.{Nothing, ByTable, ByBoth}
@@ -19,9 +19,6 @@ items_of [] = []
 items_of (only ∷ others) = only.items
 
 -- ---- refusals
-
-abbrev pub refusal_line : Refusal → List ℕ
-refusal_line refusal = refusal_text refusal ++ codes "\n"
 
 abbrev pub refused_or : Reply → Option Refusal → Option Refusal
 refused_or (Refused refusal) others = Some refusal
@@ -82,15 +79,9 @@ more (ByBoth rows indexed amount) answer = ByBoth rows indexed amount
 
 -- ---- the lines
 
-abbrev pub numbered : (text : List ℕ) (number : ℕ) → List ℕ
-numbered text number = text ++ decimal number
-
-abbrev pub line : (text : List ℕ) (number : ℕ) → List ℕ
-line text number = numbered text number ++ codes "\n"
-
 -- `load 0 rows 1`, `table rows 1`, `index rows 1`, `amount 937`; nothing where not both queries were answered
 abbrev pub lines : Load → Came → List ℕ
-lines load (ByBoth rows indexed amount) = numbered (codes "load ") load.number ++ line (codes " rows ") load.rows ++ line (codes "table rows ") rows ++ line (codes "index rows ") indexed ++ line (codes "amount ") amount
+lines load (ByBoth rows indexed amount) = with_number (codes "load ") load.number ++ numbered (codes " rows ") load.rows ++ numbered (codes "table rows ") rows ++ numbered (codes "index rows ") indexed ++ numbered (codes "amount ") amount
 lines load came = []
 
 abbrev pub told_of : Load → Option Refusal → Came → List ℕ

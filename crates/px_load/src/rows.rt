@@ -16,7 +16,7 @@ pub struct LoadRow {
 const GROUPS: u64 = 50;
 
 /// Amounts are below it.
-const AMOUNTS: u64 = 1_000;
+pub const AMOUNTS: u64 = 1_000;
 
 /// The next row of a load of so many rows, by three draws.
 pub fn next_row(draws: &mut Draws, rows: u64) -> LoadRow

@@ -1,6 +1,7 @@
 // The script of a load.
 ghost use Rattle.std.specs.Prelude.{◌≡◌, ◌<◌, ◌++◌, IfOk, OnOk};
 ghost use Rattle.std.specs.String.{string_bytes};
+ghost use Rattle.px_reply.specs.Printed.{with_number};
 ghost use Rattle.px_load.specs.Rows.{after};
 ghost use Rattle.px_load.specs.Script as spec;
 
@@ -34,15 +35,9 @@ SELECT /*+ INDEX(LOAD LOAD_GRP) */ ID, GRP, AMT FROM LOAD;
 /// Rows are committed by so many.
 const BATCH: u64 = 100;
 
-fn add_text(text: &mut String, more: &str) -> Result<(), AllocError>
-    ensures { OnOk result (string_bytes text.new ≡ string_bytes text.old ++ more.now) }
-{
-    text.push_str(more)
-}
-
 /// Adds a text, and a number behind it.
 fn add_number(text: &mut String, before: &str, number: u64) -> Result<(), AllocError>
-    ensures { OnOk result (string_bytes text.new ≡ string_bytes text.old ++ spec.numbered before.now number) }
+    ensures { OnOk result (string_bytes text.new ≡ string_bytes text.old ++ with_number before.now number) }
 {
     let mut buffer = Buffer::new();
     text.push_str(before)?;
@@ -56,7 +51,7 @@ fn add_upsert(text: &mut String, row: LoadRow) -> Result<(), AllocError>
     add_number(text, "UPSERT INTO LOAD VALUES (", row.id)?;
     add_number(text, ", 'G", row.group)?;
     add_number(text, "', ", row.amount)?;
-    add_text(text, ");\n")
+    text.push_str(");\n")
 }
 
 /// Whether a commit stands behind the row of this place.
@@ -99,6 +94,6 @@ pub fn load_text(alloc: Global, load: Load) -> Result<String, AllocError>
 {
     let mut text = String::from_str(alloc, BEFORE)?;
     add_rows(&mut text, load)?;
-    add_text(&mut text, BEHIND)?;
+    text.push_str(BEHIND)?;
     Ok(text)
 }

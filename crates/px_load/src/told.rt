@@ -3,8 +3,10 @@ ghost use Rattle.std.specs.Prelude.{◌≡◌, ◌++◌, IfOk, OnOk};
 ghost use Rattle.px_load.specs.Told as spec;
 
 use crate::Load;
-use itoa::Buffer;
-use px_reply::{Item, Refusal, Reply, Transcript, Transcripts, print_refusal};
+use crate::rows::AMOUNTS;
+use px_reply::{
+    Item, Reply, Transcript, Transcripts, print_numbered, print_refusal_line, print_with_number,
+};
 use px_values::{Line, Row, Value};
 use std::alloc::AllocError;
 
@@ -22,26 +24,6 @@ pub enum Came {
     },
 }
 
-/// Amounts are below it.
-const AMOUNTS: i128 = 1_000;
-
-/// Adds a text, and a number behind it.
-fn add_number(text: &str, number: u64, to: &mut Line) -> Result<(), AllocError>
-    ensures { OnOk result (to.new ≡ to.old ++ spec.numbered text.now number) }
-{
-    let mut buffer = Buffer::new();
-    to.push_str(text)?;
-    to.push_str(buffer.format(number))
-}
-
-/// Adds a line that ends with a number.
-fn add_line(text: &str, number: u64, to: &mut Line) -> Result<(), AllocError>
-    ensures { OnOk result (to.new ≡ to.old ++ spec.line text.now number) }
-{
-    add_number(text, number, to)?;
-    to.push_str("\n")
-}
-
 /// Adds the lines of a load, of whose queries this came.
 fn add_lines(load: Load, came: Came, to: &mut Line) -> Result<(), AllocError>
     ensures { OnOk result (to.new ≡ to.old ++ spec.lines load came) }
@@ -54,19 +36,11 @@ fn add_lines(load: Load, came: Came, to: &mut Line) -> Result<(), AllocError>
     else {
         return Ok(());
     };
-    add_number("load ", load.number, to)?;
-    add_line(" rows ", load.rows, to)?;
-    add_line("table rows ", rows, to)?;
-    add_line("index rows ", indexed, to)?;
-    add_line("amount ", amount, to)
-}
-
-/// Adds the line of a refusal.
-fn add_refusal(refusal: &Refusal, to: &mut Line) -> Result<(), AllocError>
-    ensures { OnOk result (to.new ≡ to.old ++ spec.refusal_line refusal.now) }
-{
-    print_refusal(refusal, to)?;
-    to.push_str("\n")
+    print_with_number("load ", load.number, to)?;
+    print_numbered(" rows ", load.rows, to)?;
+    print_numbered("table rows ", rows, to)?;
+    print_numbered("index rows ", indexed, to)?;
+    print_numbered("amount ", amount, to)
 }
 
 /// Adds the line of the first refusal. Answers whether there is one.
@@ -76,7 +50,7 @@ fn add_first_refusal(items: &[Item], to: &mut Line) -> Result<bool, AllocError>
     let mut left = items;
     'items: while let Some((item, rest)) = left.split_first() {
         if let Reply::Refused(refusal) = &item.reply {
-            add_refusal(refusal, to)?;
+            print_refusal_line(refusal, to)?;
             return Ok(true);
         }
         left = rest;
@@ -89,7 +63,7 @@ fn amount_in(row: &Row) -> u64
     ensures { result ≡ spec.amount_in row.now }
 {
     match row.as_slice() {
-        [_, _, Value::Number(number)] => if *number >= 0 && *number < AMOUNTS {
+        [_, _, Value::Number(number)] => if *number >= 0 && *number < i128::from(AMOUNTS) {
             *number as u64
         } else {
             0

@@ -22,6 +22,19 @@ use Rattle.px_reply.specs.declared.reply.Reply.TheVariants as replies
 use Rattle.px_reply.specs.declared.transcript.Item.{Item}
 use Rattle.px_reply.specs.declared.transcript.Transcript.{Transcript}
 
+-- ---- texts and lines
+
+-- a text, and a number behind it
+abbrev pub with_number : (text : List ℕ) (n : ℕ) → List ℕ
+with_number text n = text ++ decimal n
+
+abbrev pub line : List ℕ → List ℕ
+line text = text ++ 10 ∷ []
+
+-- `matching 2`
+abbrev pub numbered : (text : List ℕ) (n : ℕ) → List ℕ
+numbered text n = line (with_number text n)
+
 -- ---- refusals
 
 abbrev pub limit_text : Bound → List ℕ
@@ -53,6 +66,9 @@ refusal_text (Closed call) = codes "F3 closed by device call " ++ decimal call
 refusal_text (Damaged file place) = damaged_text file place
 refusal_text Memory = codes "M1 out of memory"
 
+abbrev pub refusal_line : Refusal → List ℕ
+refusal_line refusal = line (refusal_text refusal)
+
 -- ---- other answers of one line
 
 abbrev pub defined_text : Defined → List ℕ
@@ -82,9 +98,6 @@ state_text Building = codes " BUILDING"
 state_text Active = codes " ACTIVE"
 state_text Disabled = codes " DISABLED"
 
-abbrev pub line : List ℕ → List ℕ
-line text = text ++ 10 ∷ []
-
 -- `NAME ACTIVE unverified 2`
 abbrev pub index_line : IndexCount → List ℕ
 index_line index = line (index.name ++ state_text index.state ++ codes " unverified " ++ decimal index.unverified)
@@ -102,10 +115,6 @@ status_lines status = two_numbers (codes "last ") status.last (codes " horizon "
 
 -- ---- a verification
 
--- `matching 2`
-abbrev pub numbered : (word : List ℕ) → ℕ → List ℕ
-numbered word n = line (word ++ decimal n)
-
 -- the five lines of a report
 abbrev pub counts_lines : Counts → List ℕ
 counts_lines c = numbered (codes "matching ") c.matching ++ numbered (codes "unverified ") c.unverified ++ numbered (codes "missing ") c.missing ++ numbered (codes "extra ") c.extra ++ numbered (codes "wrong ") c.wrong
@@ -120,7 +129,7 @@ rebuilt_line false = []
 
 abbrev pub refused_line : Option Refusal → List ℕ
 refused_line None = []
-refused_line (Some refusal) = line (refusal_text refusal)
+refused_line (Some refusal) = refusal_line refusal
 
 -- the parts that were finished, in order, and then why the next one wasn't
 abbrev pub checked_lines : Checked → List ℕ
@@ -147,7 +156,7 @@ printed_reply (replies.Status status) = status_lines status
 printed_reply replies.Flushed = line (codes "flushed")
 printed_reply replies.Compacted = line (codes "compacted")
 printed_reply (replies.Verified checked) = checked_lines checked
-printed_reply (replies.Refused refusal) = line (refusal_text refusal)
+printed_reply (replies.Refused refusal) = refusal_line refusal
 
 -- ---- transcripts
 

@@ -10,7 +10,10 @@ mod refusal;
 mod reply;
 mod transcript;
 
-pub use print::{print_refusal, print_reply, print_transcripts};
+pub use print::{
+    print_numbered, print_refusal, print_refusal_line, print_reply, print_transcripts,
+    print_with_number,
+};
 pub use refusal::{Cause, Refusal};
 pub use reply::{Checked, Counts, Defined, Reply};
 pub use transcript::{Evidence, Item, Items, Places, Receipts, Transcript, Transcripts};

@@ -1,5 +1,5 @@
 // Printing transcripts.
-ghost use Rattle.std.specs.Prelude.{◌≡◌, ◌++◌, ◌∷◌, [], OnOk, codes, decimal};
+ghost use Rattle.std.specs.Prelude.{◌≡◌, ◌++◌, OnOk};
 ghost use Rattle.px_reply.specs.Printed as spec;
 
 use crate::refusal::Refusal;
@@ -11,19 +11,13 @@ use px_tables::IndexState;
 use px_values::{CountWord, Limit, Line, Rows, print_count, print_rows};
 use std::alloc::AllocError;
 
-fn number(number: u64, to: &mut Line) -> Result<(), AllocError>
-    ensures { OnOk result (to.new ≡ to.old ++ decimal number) }
+/// Adds a text, and a number behind it. Where no memory is found the line has a part of them.
+pub fn print_with_number(text: &str, number: u64, to: &mut Line) -> Result<(), AllocError>
+    ensures { OnOk result (to.new ≡ to.old ++ spec.with_number text.now number) }
 {
     let mut buffer = Buffer::new();
-    to.push_str(buffer.format(number))
-}
-
-/// Adds a text, and a number behind it.
-fn with_number(text: &str, place: u64, to: &mut Line) -> Result<(), AllocError>
-    ensures { OnOk result (to.new ≡ to.old ++ (text.now ++ decimal place)) }
-{
     to.push_str(text)?;
-    number(place, to)
+    to.push_str(buffer.format(number))
 }
 
 /// Adds a text, and a name behind it.
@@ -38,14 +32,14 @@ fn limit(limit: Limit, to: &mut Line) -> Result<(), AllocError>
     ensures { OnOk result (to.new ≡ to.old ++ spec.limit_text limit) }
 {
     with_name("E11 limit: ", limit.word(), to)?;
-    with_number(" ", limit.most(), to)
+    print_with_number(" ", limit.most(), to)
 }
 
 fn damaged(file: u64, place: u64, to: &mut Line) -> Result<(), AllocError>
     ensures { OnOk result (to.new ≡ to.old ++ spec.damaged_text file place) }
 {
-    with_number("F4 damaged file ", file, to)?;
-    with_number(" at ", place, to)
+    print_with_number("F4 damaged file ", file, to)?;
+    print_with_number(" at ", place, to)
 }
 
 /// Adds the text of a refusal, without a line feed. Where no memory is found the line has a part of it.
@@ -53,24 +47,32 @@ pub fn print_refusal(refusal: &Refusal, to: &mut Line) -> Result<(), AllocError>
     ensures { OnOk result (to.new ≡ to.old ++ spec.refusal_text refusal.now) }
 {
     match refusal {
-        Refusal::Syntax { place } => with_number("E01 syntax at byte ", *place, to),
+        Refusal::Syntax { place } => print_with_number("E01 syntax at byte ", *place, to),
         Refusal::LeftOut { name } => with_name("E02 left out: ", name, to),
         Refusal::Form => to.push_str("E02 left out: FORM"),
         Refusal::IndexJoin => to.push_str("E02 left out: INDEX JOIN"),
         Refusal::NameExists(name) => with_name("E03 name exists: ", name.as_str(), to),
         Refusal::NoColumn(name) => with_name("E04 no such column: ", name.as_str(), to),
         Refusal::NoTable(name) => with_name("E05 no such table: ", name.as_str(), to),
-        Refusal::Mismatch { place } => with_number("E06 type mismatch at byte ", *place, to),
-        Refusal::OutOfRange { place } => with_number("E07 value out of range at byte ", *place, to),
+        Refusal::Mismatch { place } => print_with_number("E06 type mismatch at byte ", *place, to),
+        Refusal::OutOfRange { place } => print_with_number(
+            "E07 value out of range at byte ",
+            *place,
+            to,
+        ),
         Refusal::NullKey(name) => with_name("E08 null key column: ", name.as_str(), to),
         Refusal::NoIndex(name) => with_name("E09 no such index: ", name.as_str(), to),
         Refusal::Twice(name) => with_name("E10 column named twice: ", name.as_str(), to),
         Refusal::Limit(which) => limit(*which, to),
-        Refusal::BelowHorizon { horizon } => with_number("E12 scn below horizon ", *horizon, to),
+        Refusal::BelowHorizon { horizon } => print_with_number(
+            "E12 scn below horizon ",
+            *horizon,
+            to,
+        ),
         Refusal::UnderScn => to.push_str("E13 not under scn"),
         Refusal::ReadFault => to.push_str("F1 read fault"),
         Refusal::WriteFault => to.push_str("F2 write fault"),
-        Refusal::Closed { call } => with_number("F3 closed by device call ", *call, to),
+        Refusal::Closed { call } => print_with_number("F3 closed by device call ", *call, to),
         Refusal::Damaged { file, place } => damaged(*file, *place, to),
         Refusal::Memory => to.push_str("M1 out of memory"),
     }
@@ -99,7 +101,7 @@ fn scn(scn: Option<u64>, to: &mut Line) -> Result<(), AllocError>
     ensures { OnOk result (to.new ≡ to.old ++ spec.scn_text scn) }
 {
     match scn {
-        Some(number) => with_number("scn ", number, to),
+        Some(number) => print_with_number("scn ", number, to),
         None => to.push_str("scn off"),
     }
 }
@@ -129,7 +131,7 @@ fn index_line(index: &IndexCount, to: &mut Line) -> Result<(), AllocError>
     ensures { OnOk result (to.new ≡ to.old ++ spec.index_line index.now) }
 {
     with_name(index.name.as_str(), state_text(index.state), to)?;
-    with_number(" unverified ", index.unverified, to)?;
+    print_with_number(" unverified ", index.unverified, to)?;
     to.push_str("\n")
 }
 
@@ -152,8 +154,8 @@ fn two_numbers(
 ) -> Result<(), AllocError>
     ensures { OnOk result (to.new ≡ to.old ++ spec.two_numbers first.now one second.now other) }
 {
-    with_number(first, one, to)?;
-    with_number(second, other, to)?;
+    print_with_number(first, one, to)?;
+    print_with_number(second, other, to)?;
     to.push_str("\n")
 }
 
@@ -195,29 +197,30 @@ fn scn_line(number: Option<u64>, to: &mut Line) -> Result<(), AllocError>
     to.push_str("\n")
 }
 
-fn refusal_line(refusal: &Refusal, to: &mut Line) -> Result<(), AllocError>
-    ensures { OnOk result (to.new ≡ to.old ++ spec.line (spec.refusal_text refusal.now)) }
+/// Adds the line of a refusal. Where no memory is found the line has a part of it.
+pub fn print_refusal_line(refusal: &Refusal, to: &mut Line) -> Result<(), AllocError>
+    ensures { OnOk result (to.new ≡ to.old ++ spec.refusal_line refusal.now) }
 {
     print_refusal(refusal, to)?;
     to.push_str("\n")
 }
 
-/// Adds a line of a word and a number.
-fn numbered(word: &str, count: u64, to: &mut Line) -> Result<(), AllocError>
-    ensures { OnOk result (to.new ≡ to.old ++ spec.numbered word.now count) }
+/// Adds a line of a text and a number behind it. Where no memory is found the line has a part of it.
+pub fn print_numbered(text: &str, number: u64, to: &mut Line) -> Result<(), AllocError>
+    ensures { OnOk result (to.new ≡ to.old ++ spec.numbered text.now number) }
 {
-    with_number(word, count, to)?;
+    print_with_number(text, number, to)?;
     to.push_str("\n")
 }
 
 fn counts(counts: Counts, to: &mut Line) -> Result<(), AllocError>
     ensures { OnOk result (to.new ≡ to.old ++ spec.counts_lines counts) }
 {
-    numbered("matching ", counts.matching, to)?;
-    numbered("unverified ", counts.unverified, to)?;
-    numbered("missing ", counts.missing, to)?;
-    numbered("extra ", counts.extra, to)?;
-    numbered("wrong ", counts.wrong, to)
+    print_numbered("matching ", counts.matching, to)?;
+    print_numbered("unverified ", counts.unverified, to)?;
+    print_numbered("missing ", counts.missing, to)?;
+    print_numbered("extra ", counts.extra, to)?;
+    print_numbered("wrong ", counts.wrong, to)
 }
 
 /// Adds the lines of a report, where there is one.
@@ -241,7 +244,7 @@ fn refused(refusal: &Option<Refusal>, to: &mut Line) -> Result<(), AllocError>
     ensures { OnOk result (to.new ≡ to.old ++ spec.refused_line refusal.now) }
 {
     match refusal {
-        Some(refusal) => refusal_line(refusal, to),
+        Some(refusal) => print_refusal_line(refusal, to),
         None => Ok(()),
     }
 }
@@ -271,7 +274,7 @@ pub fn print_reply(reply: &Reply, to: &mut Line) -> Result<(), AllocError>
         Reply::Flushed => line("flushed", to),
         Reply::Compacted => line("compacted", to),
         Reply::Verified(parts) => checked(parts, to),
-        Reply::Refused(refusal) => refusal_line(refusal, to),
+        Reply::Refused(refusal) => print_refusal_line(refusal, to),
     }
 }
 
@@ -291,7 +294,7 @@ fn print_head(session: u32, has_items: bool, to: &mut Line) -> Result<(), AllocE
     if session == 1 || !has_items {
         return Ok(());
     }
-    with_number("@", u64::from(session), to)?;
+    print_with_number("@", u64::from(session), to)?;
     to.push_str("\n")
 }
 

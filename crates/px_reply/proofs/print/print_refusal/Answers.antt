@@ -16,16 +16,16 @@ pub returns-in-NoIndex : goal.returns-in-NoIndex
 returns-in-NoIndex c = rw c.in-NoIndex.is (rw c.as_str-in-NoIndex.ensures at c.with_name-in-NoIndex.ensures)
 
 pub returns-in-Mismatch : goal.returns-in-Mismatch
-returns-in-Mismatch c = rw c.in-Mismatch.is c.with_number-in-Mismatch.ensures
+returns-in-Mismatch c = rw c.in-Mismatch.is c.print_with_number-in-Mismatch.ensures
 
 pub returns-in-OutOfRange : goal.returns-in-OutOfRange
-returns-in-OutOfRange c = rw c.in-OutOfRange.is c.with_number-in-OutOfRange.ensures
+returns-in-OutOfRange c = rw c.in-OutOfRange.is c.print_with_number-in-OutOfRange.ensures
 
 pub returns-in-BelowHorizon : goal.returns-in-BelowHorizon
-returns-in-BelowHorizon c = rw c.in-BelowHorizon.is c.with_number-in-BelowHorizon.ensures
+returns-in-BelowHorizon c = rw c.in-BelowHorizon.is c.print_with_number-in-BelowHorizon.ensures
 
 pub returns-in-Closed : goal.returns-in-Closed
-returns-in-Closed c = rw c.in-Closed.is c.with_number-in-Closed.ensures
+returns-in-Closed c = rw c.in-Closed.is c.print_with_number-in-Closed.ensures
 
 pub returns-in-UnderScn : goal.returns-in-UnderScn
 returns-in-UnderScn c = rw c.in-UnderScn.is c.push_str-in-UnderScn.ensures.ok
