@@ -8,10 +8,8 @@ set -eu
 top=$(cd "$(dirname "$0")/.." && pwd)
 program=${NIPUHAKO:-$top/crates/px_main/out/px_main}
 # Proves and builds the program, where that wasn't done yet.
-if [ -z "${NIPUHAKO:-}" ]; then
-    "$top/nipuhako" run "$top/crates/px_main/out/none" </dev/null
-    rm -rf "$top/crates/px_main/out/none"
-fi
+[ -n "${NIPUHAKO:-}" ] || "$top/nipuhako" run "$top/crates/px_main/out/none" </dev/null
+rm -rf "$top/crates/px_main/out/none"
 exec python3 - "$program" "${1:-1000000}" "${2:-3}" "${3:-$(dirname "$program")}" <<'PY'
 import math, os, resource, shutil, subprocess, sys, tempfile, time
 

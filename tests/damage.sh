@@ -12,34 +12,14 @@ trap 'rm -rf "$work"' EXIT
 program=${NIPUHAKO:-./nipuhako}
 wrong=0
 rows=3000
+. tests/shared/folders.sh
 
 # The region of the table's rows and that of the index, in a folder in which both are the first ones behind KV.
 table=3
 index=5
 
-# $1 is the status, $2 the input, the words after it the command and what stands behind the folder; standard input is what is to be printed.
-prints() {
-    local status=$1 input=$2 command=$3
-    shift 3
-    cat >"$work/want"
-    printf 'status %s\n' "$status" >>"$work/want"
-    printf '%s' "$input" | "$program" "$command" "$work/folder" "$@" >"$work/out" 2>"$work/err"
-    printf 'status %s\n' "$?" >>"$work/out"
-    if ! cmp -s "$work/out" "$work/want"; then
-        echo "WRONG: $title: $command $* $input (< wanted, > printed)"
-        diff -a "$work/want" "$work/out"
-        cat "$work/err"
-        wrong=1
-    fi
-}
-
 verifies() {
     prints 0 '' verify --table ORDERS --index BY_CUST --kind "$1"
-}
-
-# The lines of a report.
-report() {
-    printf 'matching %s\nunverified %s\nmissing %s\nextra %s\nwrong %s\n' "$@"
 }
 
 # Asks for the row $1 through the index; the words after it are what is to be printed before the count.

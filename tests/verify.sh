@@ -9,6 +9,7 @@ work=$(mktemp -d -p /dev/shm 2>/dev/null || mktemp -d)
 trap 'rm -rf "$work"' EXIT
 program=${NIPUHAKO:-./nipuhako}
 wrong=0
+. tests/shared/folders.sh
 
 # A folder with two orders and an index; its region is the fifth.
 orders() {
@@ -21,25 +22,11 @@ UPSERT INTO ORDERS (ID, CUST, AMT) VALUES (2,'al',7);
 SCRIPT
 }
 
-# The lines of a report.
-report() {
-    printf 'matching %s\nunverified %s\nmissing %s\nextra %s\nwrong %s\n' "$@"
-}
-
 # $1 is the status, the words after it those behind the folder; standard input is what is to be printed.
 verifies() {
     local status=$1
     shift
-    cat >"$work/want"
-    printf 'status %s\n' "$status" >>"$work/want"
-    "$program" verify "$work/folder" "$@" >"$work/out" 2>"$work/err" </dev/null
-    printf 'status %s\n' "$?" >>"$work/out"
-    if ! cmp -s "$work/out" "$work/want"; then
-        echo "WRONG: $title: verify $* (< wanted, > printed)"
-        diff -a "$work/want" "$work/out"
-        cat "$work/err"
-        wrong=1
-    fi
+    prints "$status" '' verify "$@"
 }
 
 of_orders() {
