@@ -10,16 +10,15 @@ cd "$(dirname "$0")/.." || exit 1
 work=$(mktemp -d -p /dev/shm 2>/dev/null || mktemp -d)
 trap 'rm -rf "$work"' EXIT
 program=${NIPUHAKO:-./nipuhako}
-wrong=0
-rows=3000
 . tests/shared/folders.sh
+rows=3000
 
 # The region of the table's rows and that of the index, in a folder in which both are the first ones behind KV.
 table=3
 index=5
 
 verifies() {
-    prints 0 '' verify --table ORDERS --index BY_CUST --kind "$1"
+    prints 0 '' verify folder --table ORDERS --index BY_CUST --kind "$1"
 }
 
 # Asks for the row $1 through the index; the words after it are what is to be printed before the count.
@@ -28,9 +27,9 @@ row_is() {
     query="SELECT /*+ INDEX(ORDERS BY_CUST) */ ID, CUST, AMT FROM ORDERS WHERE CUST = 'c$(($1 % 100))' AND ID = $1;"
     shift
     if [ $# = 0 ]; then
-        echo '0 rows selected' | prints 0 "$query" run
+        echo '0 rows selected' | prints 0 "$query" run folder
     else
-        printf '%s\n1 row selected\n' "$1" | prints 0 "$query" run
+        printf '%s\n1 row selected\n' "$1" | prints 0 "$query" run folder
     fi
 }
 
@@ -165,7 +164,7 @@ copied
 report "$rows" 0 0 0 0 | verifies ONLY
 row_is 1517 "1517, 'c17', 1517"
 printf 'SCAN INDEX BY_CUST OF ORDERS\nKEY EQUAL 2 RANGE 0\n' |
-    prints 0 "EXPLAIN SELECT /*+ INDEX(ORDERS BY_CUST) */ ID, CUST, AMT FROM ORDERS WHERE CUST = 'c17' AND ID = 1517;" run
+    prints 0 "EXPLAIN SELECT /*+ INDEX(ORDERS BY_CUST) */ ID, CUST, AMT FROM ORDERS WHERE CUST = 'c17' AND ID = 1517;" run folder
 
 title='files that are written again as they were'
 damage "$index" 1:01:01 1517

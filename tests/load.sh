@@ -7,25 +7,14 @@ cd "$(dirname "$0")/.." || exit 1
 work=$(mktemp -d -p /dev/shm 2>/dev/null || mktemp -d)
 trap 'rm -rf "$work"' EXIT
 program=${NIPUHAKO:-./nipuhako}
-wrong=0
+. tests/shared/folders.sh
+title='a load'
 
 # $1 is the status, $2 the folder, the words after it those behind the folder; standard input is what is to be printed.
 loads() {
-    local status=$1 folder=$2
-    shift 2
-    cat >"$work/want"
-    printf 'status %s\n' "$status" >>"$work/want"
-    "$program" load "$work/$folder" "$@" >"$work/out" 2>"$work/err" </dev/null
-    printf 'status %s\n' "$?" >>"$work/out"
-    same "load $folder $*" "$work/want" "$work/out"
-}
-
-# $1 says what is compared; $2 is what is wanted, and $3 what there is.
-same() {
-    cmp -s "$2" "$3" && return
-    echo "WRONG: $1 (< wanted, > printed)"
-    diff -a "$2" "$3" | head -n 20
-    wrong=1
+    local status=$1
+    shift
+    prints "$status" '' load "$@"
 }
 
 # What a load of the number $1 with $2 rows tells, and with `rows` behind them its rows as a query gives them.
@@ -83,7 +72,7 @@ rows_by second NO_INDEX >"$work/by_second"
 same 'the rows by the table' "$work/want" "$work/by_table"
 same 'the rows by the index' "$work/want" "$work/by_index"
 same 'the rows of the second folder' "$work/want" "$work/by_second"
-printf 'matching %s\nunverified 0\nmissing 0\nextra 0\nwrong 0\n' "$(wc -l <"$work/want")" >"$work/report"
+report "$(wc -l <"$work/want")" 0 0 0 0 >"$work/report"
 "$program" verify "$work/first" --table LOAD --index LOAD_GRP --kind ONLY >"$work/out"
 same 'the report on the index' "$work/report" "$work/out"
 

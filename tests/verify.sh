@@ -8,7 +8,6 @@ cd "$(dirname "$0")/.." || exit 1
 work=$(mktemp -d -p /dev/shm 2>/dev/null || mktemp -d)
 trap 'rm -rf "$work"' EXIT
 program=${NIPUHAKO:-./nipuhako}
-wrong=0
 . tests/shared/folders.sh
 
 # A folder with two orders and an index; its region is the fifth.
@@ -26,7 +25,7 @@ SCRIPT
 verifies() {
     local status=$1
     shift
-    prints "$status" '' verify "$@"
+    prints "$status" '' verify folder "$@"
 }
 
 of_orders() {
