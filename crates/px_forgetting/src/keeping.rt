@@ -1,13 +1,13 @@
 // Keeping what a horizon asks for, in place.
-ghost use Rattle.std.specs.Prelude.{◌≡◌, ◌≤◌, ◌<◌, ◌+◌, ◌-◌, ◌↔◌, IsTrue, IfOk, length, take, drop};
-ghost use Rattle.px_cells.specs.Order.{IsAscending, IsCellList, cell_cmp};
+ghost use Rattle.std.specs.Prelude.{◌≡◌, ◌≤◌, ◌<◌, ◌+◌, ◌-◌, IfOk, length, take, drop};
+ghost use Rattle.px_cells.specs.Order.{IsAscending, IsCellList};
 ghost use Rattle.px_cells.specs.Visible.{IsView};
-ghost use Rattle.px_merge.specs.Kept.{IsKept, IsNext};
+ghost use Rattle.px_merge.specs.Kept.{IsKept};
 ghost use Rattle.px_forgetting.specs.Rows.{AreApart};
 
-use px_cells::{Cell, Cells, cell_order, place_after, visible_in};
+use px_cells::{Cell, Cells, place_after, visible_in};
+use px_merge::{is_above, is_next};
 use std::alloc::{AllocError, Global};
-use std::cmp::Ordering;
 
 /// How many cells the first row has.
 fn row_len(rest: &[Cell]) -> usize
@@ -18,29 +18,6 @@ fn row_len(rest: &[Cell]) -> usize
     ensures apart { AreApart (take result rest.now) (drop result rest.now) }
 {
     place_after(rest, rest[0].key())
-}
-
-/// Whether the next of the cells that are seen is at the place of a cell.
-fn is_next(seen: &[Cell], next: usize, cell: &Cell) -> bool
-    ensures { IsTrue result ↔ IsNext seen.now next cell.now }
-{
-    next < seen.len() && is_at(&seen[next], cell)
-}
-
-fn is_at(a: &Cell, b: &Cell) -> bool
-    ensures { IsTrue result ↔ (cell_cmp a.now b.now ≡ Ordering.Equal) }
-{
-    match cell_order(a, b) {
-        Ordering::Equal => true,
-        Ordering::Less | Ordering::Greater => false,
-    }
-}
-
-/// Whether a cell is above the horizon.
-fn is_above(cell: &Cell, horizon: u64) -> bool
-    ensures { IsTrue result ↔ (horizon < cell.now.stamp) }
-{
-    cell.stamp() > horizon
 }
 
 /// Moves what is kept of a row, which stands behind a gap, to the front: the cells above the horizon, and those that are seen.
