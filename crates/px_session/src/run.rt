@@ -1,7 +1,7 @@
 // A session's run.
-ghost use Rattle.std.specs.Prelude.{◌≡◌, ◌≢◌, ◌<◌, ◌+◌, ◌^◌, ◌++◌, ◌∷◌, [], length, map, drop, vec_capacity, List, None, Some, IfOk, IfErr, true, false};
+ghost use Rattle.std.specs.Prelude.{◌≡◌, ◌≢◌, ◌<◌, ◌+◌, ◌^◌, ◌++◌, ◌∷◌, [], length, map, drop, vec_capacity, None, Some, true, false};
 ghost use Rattle.std.specs.List.{All, slice_get};
-ghost use Rattle.px_lex.specs.Script.{IsScript, Section, pieces_from, seen_piece};
+ghost use Rattle.px_lex.specs.Script.{seen_piece};
 ghost use Rattle.px_script.specs.Pieces.{span_of};
 ghost use Rattle.px_calls.specs.Known.{Known};
 ghost use Rattle.px_session.specs.declared.state.SessionState.{SessionState as States};
@@ -13,7 +13,7 @@ use px_calls::Steps;
 use px_item::{After, Answered, Begun, ItemRun, ItemTurn, Settings, begin};
 use px_lex::script::Piece;
 use px_reply::{Evidence, Item, Transcript};
-use px_script::{Span, pieces, place_of};
+use px_script::{Span, place_of};
 use px_values::Items;
 use std::alloc::Global;
 use std::sync::Wait;
@@ -93,25 +93,6 @@ fn settled(after: After) -> (Settings, bool)
 }
 
 impl<'a> SessionRun<'a> {
-    /// A session at the beginning of a round, when it has seen `from` entries. Where no memory is found its state is handed back.
-    pub fn new(
-        alloc: Global,
-        session: u32,
-        round: u64,
-        text: &'a str,
-        state: SessionState,
-        from: u64,
-    ) -> Result<SessionRun<'a>, SessionState>
-        ensures pieces { IfOk result (λ run. (xs : List Section) × IsScript text.now xs × (map seen_piece run.pieces.items ≡ pieces_from 0 xs)) }
-        ensures starts { IfOk result (StartsFrom state from) }
-        ensures err { IfErr result (λ s. s ≡ state) }
-    {
-        match pieces(alloc, text) {
-            Ok(pieces) => Ok(SessionRun::of(alloc, session, round, pieces, state, from)),
-            Err(_) => Err(state),
-        }
-    }
-
     /// A session of these pieces at the beginning of a round, when it has seen `from` entries.
     pub fn of(
         alloc: Global,
