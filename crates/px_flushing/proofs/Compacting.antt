@@ -32,7 +32,7 @@ use Rattle.px_frozen.specs.FrozenData.{FrozenData}
 use Rattle.px_loading.specs.Gathering.{HasGathered, HaveBlocks, IsFresh}
 use Rattle.px_loading.specs.declared.gathering.Gathering.{Gathering}
 use Rattle.px_loading.proofs.Gathered.{gathered_none}
-use Rattle.px_flushing.specs.Flushing.{Goes, HasFlushing, HasForgot, HasKept, HasOnly, IsGathering, IsMerging, IsRead, ReadsFrom, forgot_next, horizon_after, merged_next}
+use Rattle.px_flushing.specs.Flushing.{Goes, HasFlushing, HasForgot, HasKept, HasOnly, IsGathering, IsMerging, IsRead, ReadsFrom, forgot_next, horizon_after, measured_of, merged_next}
 use Rattle.px_flushing.specs.declared.fault.FlushFault.{FlushFault}
 use Rattle.px_flushing.specs.declared.fault.FlushFault.TheVariants.{WriteFault}
 use Rattle.px_flushing.specs.declared.flushing.FlushStep.{FlushStep}
@@ -292,6 +292,10 @@ kept_named before after h local len file Q (Err f) is still = (let e = still ref
 pub kept_still : (before after : SnapshotData) (h : ℕ) (Q R : Type 0) (r : Result FlushStep FlushFault) → IfOk r (λ x. (x ≡ step.Forgot h) × Q × R) → (IsErr r → after ≡ before) → ((k : ℕ) → r ≢ Ok (step.Forgot k)) → after ≡ before
 kept_still before after h Q R (Ok x) is still none = absurd (none h (ap (λ (y : FlushStep). Ok y) is.0))
 kept_still before after h Q R (Err f) is still none = still refl
+
+-- the file of a compaction that forgets is measured
+pub measured_then : (o : Option ℕ) (h : ℕ) (s : Stage) (file : RegionFile) (len : ℕ) (frozen : FrozenData) → o ≡ Some h → s ≡ stage.Measured file len → measured_of o s frozen ≡ Some frozen
+measured_then o h s file len frozen some is = ap (λ (x : Option ℕ). measured_of x s frozen) some ∙ ap (λ (x : Stage). measured_of (Some h) x frozen) is
 
 -- of a compaction whose horizon is known
 pub merging_with : {D : Type 0} (d : Ghosts D) (number : ℕ) (named : SnapshotData) (lists : List (List CellData)) (disk : D) (count : ℕ) (o p : Option ℕ) (frozen : FrozenData) (local : ℕ) (s : Stage) → o ≡ p → IsMerging d number named lists disk (record { count = count; horizon = o; frozen = frozen; local = local; stage = s })

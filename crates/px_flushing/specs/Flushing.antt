@@ -30,6 +30,8 @@ use Rattle.px_flushing.specs.declared.job.Job.{Job}
 use Rattle.px_flushing.specs.declared.job.Job.TheVariants as job
 use Rattle.px_flushing.specs.declared.job.Merge.{Merge}
 use Rattle.px_flushing.specs.declared.flushing.Flushing.{Flushing}
+use Rattle.px_flushing.specs.declared.stage.Stage.{Stage}
+use Rattle.px_flushing.specs.declared.stage.Stage.TheVariants as how
 
 -- A flush that was begun, which the manifest doesn't name: its cells are those of some batches above the flushed number, and
 -- its file, which has a number of its own, has as many of them as its stage says.
@@ -78,6 +80,22 @@ horizon_of None = None
 horizon_of (Some (job.Flush flush)) = None
 horizon_of (Some (job.Gather gather)) = gather.horizon
 horizon_of (Some (job.Merge merge)) = merge.horizon
+
+-- the cells of a compaction that forgets, once its file is measured
+abbrev pub measured_of : Option ℕ → Stage → FrozenData → Option FrozenData
+measured_of None s frozen = None
+measured_of (Some h) how.Frozen frozen = None
+measured_of (Some h) (how.Making making) frozen = None
+measured_of (Some h) (how.Written making) frozen = None
+measured_of (Some h) (how.Made made) frozen = None
+measured_of (Some h) (how.Measured made len) frozen = Some frozen
+
+-- the cells of the file that the next step names, where it is that of a compaction that forgets
+abbrev pub naming_of : Option Job → Option FrozenData
+naming_of None = None
+naming_of (Some (job.Flush flush)) = None
+naming_of (Some (job.Gather gather)) = None
+naming_of (Some (job.Merge merge)) = measured_of merge.horizon merge.stage merge.frozen
 
 -- a compaction may forget at this horizon, if it has one, where every batch that isn't in a file is above it
 abbrev pub MayForget : Option ℕ → List Batch → Type 0

@@ -1,5 +1,6 @@
 // A compaction: some of a region's newest files are merged to one, or all, of which one keeps what a horizon does.
 ghost use Rattle.std.specs.Prelude.{◌≡◌, ◌≢◌, ◌≤◌, ◌<◌, ◌+◌, ◌*◌, ◌∷◌, [], ℕ, false, List, length, take, drop, IfOk, IsErr, OnOk, OnErr, Ok, Err, None, Some, vec_len, vec_capacity};
+ghost use Rattle.std.specs.Option.{option_copied};
 ghost use Rattle.px_outside.specs.OnDisk.{LeavesOnly, Passes, Rose, TouchesOnly};
 ghost use Rattle.px_cells.specs.CellData.{CellData};
 ghost use Rattle.px_cellbytes.specs.Reading.{IsWritten};
@@ -14,7 +15,7 @@ ghost use Rattle.px_wal.specs.SnapshotOf.{files_of, snapshot_of};
 ghost use Rattle.px_wal.specs.declared.manifest.Manifest.{Manifest as Manifests};
 ghost use Rattle.px_wal.specs.declared.wal.Wal.{Wal as Logs};
 ghost use Rattle.px_naming.specs.Naming.{HasParts};
-ghost use Rattle.px_flushing.specs.Flushing.{Goes, HasFlushing, HasForgot, HasForgotten, HasKept, HasMerged, IsGathering, IsMerging, IsRead, MayForget, ReadsFrom, forgot_next, horizon_after, horizon_of, merged_next};
+ghost use Rattle.px_flushing.specs.Flushing.{Goes, HasFlushing, HasForgot, HasForgotten, HasKept, HasMerged, IsGathering, IsMerging, IsRead, MayForget, ReadsFrom, forgot_next, horizon_after, horizon_of, measured_of, merged_next, naming_of};
 ghost use Rattle.px_flushing.specs.declared.fault.FlushFault.TheVariants.{Damaged, ReadFault, WriteFault};
 
 use crate::fault::{of_append, of_read};
@@ -133,6 +134,16 @@ impl Flushing {
         match &self.flush {
             Some(Job::Gather(gather)) => gather.horizon,
             Some(Job::Merge(merge)) => merge.horizon,
+            _ => None,
+        }
+    }
+
+    /// The cells of the file that the next step names, where it is that of a compaction that forgets.
+    pub fn naming(&self) -> Option<&Frozen>
+        ensures { option_copied result ≡ naming_of self.now.flush }
+    {
+        match &self.flush {
+            Some(Job::Merge(merge)) => merge.measured(),
             _ => None,
         }
     }
@@ -515,6 +526,7 @@ impl Flushing {
         ensures only { (result ≢ Ok FlushStep.Done) × ((cells bytes : ℕ) → result ≢ Ok (FlushStep.Named cells bytes)) }
         ensures merged { result ≡ Ok FlushStep.Merged → (self.new.flush ≡ None) × HasMerged (names manifest.old) (names manifest.new) }
         ensures forgot { (h : ℕ) → result ≡ Ok (FlushStep.Forgot h) → (self.new.flush ≡ None) × (horizon ≡ Some h) × HasForgotten (names manifest.old) (names manifest.new) h }
+        ensures keeps { (h : ℕ) → result ≡ Ok (FlushStep.Forgot h) → self.new.kept ≡ Some frozen }
         ensures horizon { ((names manifest.new).horizon ≡ horizon_after result (names manifest.old).horizon) × ((names manifest.new).flushed ≡ (names manifest.old).flushed) }
         ensures still { result ≢ Ok FlushStep.Merged → ((h : ℕ) → result ≢ Ok (FlushStep.Forgot h)) → names manifest.new ≡ names manifest.old }
         ensures sound { result ≢ Err Damaged }
@@ -551,6 +563,7 @@ impl Flushing {
         ensures only { (result ≢ Ok FlushStep.Done) × ((cells bytes : ℕ) → result ≢ Ok (FlushStep.Named cells bytes)) }
         ensures merged { result ≡ Ok FlushStep.Merged → (self.new.flush ≡ None) × HasMerged (names manifest.old) (names manifest.new) }
         ensures forgot { (horizon : ℕ) → result ≡ Ok (FlushStep.Forgot horizon) → (self.new.flush ≡ None) × (merge.horizon ≡ Some horizon) × HasForgotten (names manifest.old) (names manifest.new) horizon }
+        ensures keeps { (horizon : ℕ) → result ≡ Ok (FlushStep.Forgot horizon) → (measured_of merge.horizon merge.stage merge.frozen ≡ Some merge.frozen) × (self.new.kept ≡ Some merge.frozen) }
         ensures horizon { ((names manifest.new).horizon ≡ horizon_after result (names manifest.old).horizon) × ((names manifest.new).flushed ≡ (names manifest.old).flushed) }
         ensures still { result ≢ Ok FlushStep.Merged → ((horizon : ℕ) → result ≢ Ok (FlushStep.Forgot horizon)) → names manifest.new ≡ names manifest.old }
         ensures sound { result ≢ Err Damaged }

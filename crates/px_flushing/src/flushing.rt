@@ -12,8 +12,9 @@ ghost use Rattle.px_wal.specs.declared.manifest.Manifest.{Manifest as Manifests}
 ghost use Rattle.px_wal.specs.declared.wal.Wal.{Wal as Logs};
 ghost use Rattle.px_files.specs.Calls.{opening_calls};
 ghost use Rattle.px_files.specs.Files.{IsFirstBad};
+ghost use Rattle.px_frozen.specs.FrozenData.{FrozenData};
 ghost use Rattle.px_naming.specs.Naming.{HasParts};
-ghost use Rattle.px_flushing.specs.Flushing.{Goes, HasFlushing, HasForgot, HasForgotten, IsBegun, IsFreshFlushing, HasMerged, IsRaised, IsRead, MayForget, ReadsFrom, horizon_after, horizon_of, named_next, upto_of};
+ghost use Rattle.px_flushing.specs.Flushing.{Goes, HasFlushing, HasForgot, HasForgotten, IsBegun, IsFreshFlushing, HasMerged, IsRaised, IsRead, MayForget, ReadsFrom, horizon_after, horizon_of, named_next, naming_of, upto_of};
 ghost use Rattle.px_flushing.specs.declared.fault.FlushFault.TheVariants.{Damaged, ReadFault, WriteFault};
 
 use crate::fault::{of_append, of_read};
@@ -373,6 +374,7 @@ impl Flushing {
             → (self.new.flush ≡ None) × IsRaised (names manifest.old).flushed (names manifest.new).flushed batches cells bytes }
         ensures merged { result ≡ Ok FlushStep.Merged → (self.new.flush ≡ None) × HasMerged (names manifest.old) (names manifest.new) }
         ensures forgot { (horizon : ℕ) → result ≡ Ok (FlushStep.Forgot horizon) → (self.new.flush ≡ None) × (horizon_of self.old.flush ≡ Some horizon) × HasForgotten (names manifest.old) (names manifest.new) horizon }
+        ensures keeps { (horizon : ℕ) → result ≡ Ok (FlushStep.Forgot horizon) → (kept : FrozenData) × (naming_of self.old.flush ≡ Some kept) × (self.new.kept ≡ Some kept) }
         ensures horizon { (names manifest.new).horizon ≡ horizon_after result (names manifest.old).horizon }
         ensures still { ((cells bytes : ℕ) → result ≢ Ok (FlushStep.Named cells bytes)) → result ≢ Ok FlushStep.Merged → ((horizon : ℕ) → result ≢ Ok (FlushStep.Forgot horizon)) → names manifest.new ≡ names manifest.old }
         ensures flushed { (names manifest.new).flushed ≤ max (names manifest.old).flushed (upto_of self.old.flush) }

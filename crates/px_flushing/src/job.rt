@@ -1,4 +1,8 @@
 // What may be under way in a region's files.
+ghost use Rattle.std.specs.Prelude.{◌≡◌};
+ghost use Rattle.std.specs.Option.{option_copied};
+ghost use Rattle.px_flushing.specs.Flushing.{measured_of};
+
 use crate::Stage;
 use px_frozen::Frozen;
 use px_loading::Gathering;
@@ -29,6 +33,18 @@ pub struct Merge {
     /// The local number of its file.
     pub(crate) local: u32,
     pub(crate) stage: Stage,
+}
+
+impl Merge {
+    /// Its cells, where it forgets and its file is measured.
+    pub(crate) fn measured(&self) -> Option<&Frozen>
+        ensures { option_copied result ≡ measured_of self.now.horizon self.now.stage self.now.frozen }
+    {
+        match (self.horizon, &self.stage) {
+            (Some(_), Stage::Measured(_, _)) => Some(&self.frozen),
+            _ => None,
+        }
+    }
 }
 
 /// A flush or a compaction.

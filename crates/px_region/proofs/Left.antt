@@ -40,7 +40,7 @@ use Rattle.px_region.proofs.Least.{least_over}
 -- ---- what a test leaves
 
 module _ (test : CellData → Bool) where
-  filter_from : (cells : List CellData) (c : CellData) → Has (filter test cells) c → Has cells c × (test c ≡ true)
+  pub filter_from : (cells : List CellData) (c : CellData) → Has (filter test cells) c → Has cells c × (test c ≡ true)
   filter_from [] c has = absurd has
   filter_from (x ∷ cells) c has = go (test x) refl (λ rest. filter_from cells c rest) has
     where
@@ -49,7 +49,7 @@ module _ (test : CellData → Bool) where
       go true e next (inr rest) = (let r = next rest in (inr r.0, r.1))
       go false e next rest = (let r = next rest in (inr r.0, r.1))
 
-  filter_to : (cells : List CellData) (c : CellData) → Has cells c → test c ≡ true → Has (filter test cells) c
+  pub filter_to : (cells : List CellData) (c : CellData) → Has cells c → test c ≡ true → Has (filter test cells) c
   filter_to [] c has e = has
   filter_to (x ∷ cells) c (inl same) e = subst (λ (b : Bool). Has (cond b (x ∷ filter test cells) (filter test cells)) c) (sym (ap test same ∙ e)) (inl same)
   filter_to (x ∷ cells) c (inr has) e = go (test x) (filter_to cells c has e)
@@ -58,7 +58,7 @@ module _ (test : CellData → Bool) where
       go true rest = inr rest
       go false rest = rest
 
-  filter_sorted : (cells : List CellData) → IsAscending cells → IsAscending (filter test cells)
+  pub filter_sorted : (cells : List CellData) → IsAscending cells → IsAscending (filter test cells)
   filter_sorted [] sorted = tt
   filter_sorted (x ∷ cells) sorted = go (test x) (filter_sorted cells sorted.1)
     where
@@ -66,7 +66,7 @@ module _ (test : CellData → Bool) where
       go true rest = (has_all (Below x) (filter test cells) (λ m has. all_has (Below x) cells m sorted.0 (filter_from cells m has).0), rest)
       go false rest = rest
 
-or_true : (b : Bool) → (b || true) ≡ true
+pub or_true : (b : Bool) → (b || true) ≡ true
 or_true true = refl
 or_true false = refl
 
@@ -75,19 +75,19 @@ is_equal Less e = cc
 is_equal Equal e = refl
 is_equal Greater e = cc
 
-place_some : (kept : List CellData) (c : CellData) → has_place kept c ≡ true → (k : CellData) × (Has kept k × SamePlace k c)
+pub place_some : (kept : List CellData) (c : CellData) → has_place kept c ≡ true → (k : CellData) × (Has kept k × SamePlace k c)
 place_some [] c e = cc
 place_some (k ∷ kept) c e = elim (cases_Bool (is_eq (cell_cmp k c))) [
   | inl same ↦ (k, (inl refl, place_from_equal k c (is_equal (cell_cmp k c) same)))
   | inr other ↦ (let r = place_some kept c (sym (ap (λ (b : Bool). b || has_place kept c) other) ∙ e) in (r.0, (inr r.1.0, r.1.1)))
 ]
 
-place_of : (kept : List CellData) (c : CellData) → Has kept c → has_place kept c ≡ true
+pub place_of : (kept : List CellData) (c : CellData) → Has kept c → has_place kept c ≡ true
 place_of [] c has = absurd has
 place_of (k ∷ kept) c (inl same) = ap (λ (b : Bool). b || has_place kept c) (ap is_eq (equal_from_place k c (place_same k c same)))
 place_of (k ∷ kept) c (inr has) = ap (λ (b : Bool). is_eq (cell_cmp k c) || b) (place_of kept c has) ∙ or_true (is_eq (cell_cmp k c))
 
-stays_by : (kept : List CellData) (h : ℕ) (c : CellData) → stays kept h c ≡ true → (h < c.stamp) ⊎ (has_place kept c ≡ true)
+pub stays_by : (kept : List CellData) (h : ℕ) (c : CellData) → stays kept h c ≡ true → (h < c.stamp) ⊎ (has_place kept c ≡ true)
 stays_by kept h c e = elim (cases_lt h c.stamp) [
   | inl l ↦ inl l
   | inr le ↦ inr (sym (ap (λ (b : Bool). b || has_place kept c) (le-ltb h c.stamp le)) ∙ e)

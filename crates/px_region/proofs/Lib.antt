@@ -6,6 +6,7 @@ pub mod OneStanding
 pub mod Fresh
 pub mod Steps
 pub mod Left
+pub mod Right
 pub mod Alike
 pub mod Calls
 pub mod Logged

@@ -49,6 +49,9 @@ horizon_named r cells bytes before after is same = subst (λ (x : Result FlushSt
 pub some_not : (o : Option ℕ) (h : ℕ) → o ≡ Some h → o ≢ None
 some_not o h some none = (let e : None ≡ Some h = sym none ∙ some in cc)
 
+pub some_one : (o : Option ℕ) (h k : ℕ) → o ≡ Some h → o ≡ Some k → h ≡ k
+some_one o h k some other = (let e : Some h ≡ Some k = sym some ∙ other in cc)
+
 pub none_stands : {D : Type 0} (d : Ghosts D) (o : Option ℕ) (old new : D) (number : ℕ) (s : RegionData) → o ≡ None → LeavesOnly d old new (λ moment image. StandsFrom o number image s) → LeavesOnly d old new (λ moment image. Stands number image s)
 none_stands d o old new number s none leaves = subst (λ (x : Option ℕ). LeavesOnly d old new (λ moment image. StandsFrom x number image s)) none leaves
 

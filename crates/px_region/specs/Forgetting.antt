@@ -1,7 +1,10 @@
 -- What a region has once what a horizon hides is forgotten.
-use Rattle.std.specs.Prelude.{◌≡◌, ◌≤◌, ◌⊎◌, ℕ, true, false, Option, Some, None}
+use Rattle.std.specs.Prelude.{◌≡◌, ◌≤◌, ◌⊎◌, ℕ, true, false, List, Option, Some, None}
 use Rattle.px_outside.specs.Disk.{Image}
+use Rattle.px_cells.specs.CellData.{CellData}
+use Rattle.px_memstore.specs.Left.{left}
 use Rattle.px_merge.specs.Kept.{IsKept}
+use Rattle.px_frozen.specs.FrozenData.{FrozenData}
 use Rattle.px_flushing.specs.Flushing.{horizon_of}
 use Rattle.px_region.specs.Region.{RegionData, Stands}
 use Rattle.px_region.specs.Stamps.{Allows}
@@ -40,6 +43,16 @@ StandsFrom (Some h) number image s = Stands number image s ⊎ StandsKept number
 abbrev pub ForgetsBy : Option ℕ → (old new : RegionData) → Type 0
 ForgetsBy None old new = ⊥
 ForgetsBy (Some h) old new = Forgets h old new × (old.horizon ≤ h)
+
+-- the cells that a compaction kept, where its file is to be named next, leave of these what the horizon keeps
+abbrev pub IsKeptRight : ℕ → Option FrozenData → (cells : List CellData) → Type 0
+IsKeptRight h None cells = Unit {0}
+IsKeptRight h (Some kept) cells = IsKept cells h (left kept.cells h cells)
+
+-- so it is of the compaction that is under way, if it forgets
+abbrev pub MayName : Option ℕ → Option FrozenData → (cells : List CellData) → Type 0
+MayName None kept cells = Unit {0}
+MayName (Some h) kept cells = IsKeptRight h kept cells
 
 -- the horizon of the compaction that is under way, if it forgets, is below all that isn't in a file
 abbrev pub MayGoOn : Option ℕ → LeastStamps → Type 0

@@ -4,15 +4,17 @@ ghost use Rattle.px_outside.specs.OnDisk.{LeavesOnly, Passes, Rose, TouchesOnly}
 ghost use Rattle.px_cells.specs.CellData.{CellData};
 ghost use Rattle.px_cells.specs.Order.{IsAscending};
 ghost use Rattle.px_memstore.specs.Left.{left};
+ghost use Rattle.px_merge.specs.Kept.{IsKept};
 ghost use Rattle.px_wal.specs.Batches.{Batch as BatchData};
 ghost use Rattle.px_wal.specs.Files.{HasFile};
 ghost use Rattle.px_wal.specs.declared.manifest.Manifest.{Manifest as Manifests};
 ghost use Rattle.px_wal.specs.declared.wal.Wal.{Wal as Logs};
 ghost use Rattle.px_frozen.specs.FrozenData.{FrozenData};
-ghost use Rattle.px_flushing.specs.Flushing.{HasFlushing, horizon_of};
+ghost use Rattle.px_flushing.specs.Flushing.{HasFlushing, horizon_of, naming_of};
 ghost use Rattle.px_region.specs.Stamps.{Allows};
 
 use crate::flush::of_flush;
+use crate::keeping::keeps_right;
 use crate::{JobFault, JobStep, Region};
 use px_flushing::{FlushStep, Flushing};
 use px_memstore::MemStore;
@@ -48,7 +50,7 @@ fn thin<D: Disk>(store: &mut MemStore, flushing: &mut Flushing, horizon: u64)
 
 impl Region {
     ghost use Rattle.px_region.specs.Region.{Holds, RegionData, Stands, data_of, read_of};
-    ghost use Rattle.px_region.specs.Forgetting.{Forgets, ForgetsBy, HasForgotten, IsForgetting, MayGoOn, StandsFrom, StandsKept, StaysWanted};
+    ghost use Rattle.px_region.specs.Forgetting.{Forgets, ForgetsBy, HasForgotten, IsForgetting, IsKeptRight, MayGoOn, MayName, StandsFrom, StandsKept, StaysWanted};
     ghost use Rattle.px_region.specs.Ordered.{IsOrdered, IsSameOrder};
     ghost use Rattle.px_region.specs.Promise.{IsAlike, IsSamePromise};
     ghost use Rattle.px_region.specs.declared.fault.JobFault.TheVariants.{Memory, WriteFault};
@@ -127,10 +129,13 @@ impl Region {
     /// Makes one step of the flush of what stands in the log's older segment, or of the compaction that is under way. Where none can be made, a flush
     /// is ordered no more.
     pub(crate) fn files_step<D: Disk>(&mut self, disk: &mut D) -> Result<ForgetStep, JobFault>
-        requires { MayGoOn (horizon_of self.old.flushing.flush) self.old.stamps }
+        requires above { MayGoOn (horizon_of self.old.flushing.flush) self.old.stamps }
+        requires right { MayName (horizon_of self.old.flushing.flush) (naming_of self.old.flushing.flush) (read_of self.old) }
         ensures done { (s : RegionData) → Holds ⟦<D as Disk>⟧ self.old disk.old s → OnOk result (result ≢ Ok ForgetStep.Forgot → Holds ⟦<D as Disk>⟧ self.new disk.new s) }
         ensures forgot { (s : RegionData) → Holds ⟦<D as Disk>⟧ self.old disk.old s → result ≡ Ok ForgetStep.Forgot → Holds ⟦<D as Disk>⟧ self.new disk.new (data_of self.new) × ForgetsBy (horizon_of self.old.flushing.flush) s (data_of self.new) }
         ensures only { result ≡ Ok ForgetStep.Forgot → horizon_of self.old.flushing.flush ≢ None }
+        ensures forgot_at { (h : ℕ) → horizon_of self.old.flushing.flush ≡ Some h → result ≡ Ok ForgetStep.Forgot → (data_of self.new).horizon ≡ h }
+        ensures forgot_read { (h : ℕ) → horizon_of self.old.flushing.flush ≡ Some h → result ≡ Ok ForgetStep.Forgot → IsKept (read_of self.old) h (read_of self.new) }
 
         // At each moment of the call a stop leaves the region as it is, or as what the horizon of its compaction keeps.
         ensures any_moment { (s : RegionData) → Holds ⟦<D as Disk>⟧ self.old disk.old s → LeavesOnly ⟦<D as Disk>⟧ disk.old disk.new (λ moment image. StandsFrom (horizon_of self.old.flushing.flush) self.old.number image s) }
@@ -178,12 +183,43 @@ impl Region {
         }
     }
 
-    /// Makes one step of the compaction that is under way and forgets at this horizon. Where it finds no memory, none is wanted any more.
+    /// Whether the compaction that is under way, and forgets at this horizon, may make its next step: where that names its file, the file has of what is read
+    /// exactly the cells that the horizon keeps. A disk that gives back other bytes than were written could else take cells from memory.
+    fn may_name(&self, horizon: u64) -> bool
+        ensures { IsTrue result → IsKeptRight horizon (naming_of self.now.flushing.flush) (read_of self.now) }
+    {
+        match self.flushing.naming() {
+            None => true,
+            Some(kept) => match keeps_right(self.alloc, &self.store, kept.cells(), horizon) {
+                Ok(right) => right,
+                Err(_) => false,
+            },
+        }
+    }
+
+    /// Gives up what is under way. No compaction that forgets is wanted any more, and nothing is ordered.
+    fn give_up<D: Disk>(&mut self)
+        ensures done { (s : RegionData) (disk : D) → Holds ⟦<D as Disk>⟧ self.old disk s → Holds ⟦<D as Disk>⟧ self.new disk s }
+        ensures promised { IsSamePromise self.old self.new }
+        ensures read { read_of self.new ≡ read_of self.old }
+        ensures number { self.new.number ≡ self.old.number }
+        ensures horizon { (data_of self.new).horizon ≡ (data_of self.old).horizon }
+        ensures looked { self.new.looked ≡ self.old.looked }
+    {
+        self.flushing.give_up::<D>();
+        self.wanted = false;
+        self.ordered = 0;
+    }
+
+    /// Makes one step of the compaction that is under way and forgets at this horizon. Where it finds no memory, or its file has other cells than the horizon
+    /// keeps, none is wanted any more.
     fn kept_step<D: Disk>(&mut self, disk: &mut D, horizon: u64) -> Result<ForgetStep, JobFault>
         requires under { IsForgetting self.old horizon }
         requires above { Allows self.old.stamps horizon }
         ensures done { (s : RegionData) → Holds ⟦<D as Disk>⟧ self.old disk.old s → OnOk result (result ≢ Ok ForgetStep.Forgot → Holds ⟦<D as Disk>⟧ self.new disk.new s) }
         ensures forgot { (s : RegionData) → Holds ⟦<D as Disk>⟧ self.old disk.old s → result ≡ Ok ForgetStep.Forgot → Holds ⟦<D as Disk>⟧ self.new disk.new (data_of self.new) × Forgets horizon s (data_of self.new) × (s.horizon ≤ horizon) }
+        ensures forgot_at { result ≡ Ok ForgetStep.Forgot → (data_of self.new).horizon ≡ horizon }
+        ensures forgot_read { result ≡ Ok ForgetStep.Forgot → IsKept (read_of self.old) horizon (read_of self.new) }
 
         // At each moment of the call a stop leaves the region as it is, or as what the horizon keeps.
         ensures any_moment { (s : RegionData) → Holds ⟦<D as Disk>⟧ self.old disk.old s → LeavesOnly ⟦<D as Disk>⟧ disk.old disk.new (λ moment image. Stands self.old.number image s ⊎ StandsKept self.old.number image horizon s) }
@@ -200,6 +236,10 @@ impl Region {
         ensures wanted { OnOk result (result ≢ Ok ForgetStep.Forgot → StaysWanted self.old self.new) }
         ensures forgotten { result ≡ Ok ForgetStep.Forgot → HasForgotten self.new }
     {
+        if !self.may_name(horizon) {
+            self.give_up::<D>();
+            return Err(JobFault::Memory);
+        }
         match self.files_step(disk) {
             Ok(ForgetStep::More) => {
                 if self.flushing.is_idle() {
@@ -229,8 +269,8 @@ impl Region {
     /// horizon, or beside which a cell came at or below it, is given up, and begins anew with `begin_forgetting` while it is wanted. What is read stays, and
     /// what the region stands for stays at each moment, until it forgot: then it has what the horizon keeps, and its manifest names that horizon.
     ///
-    /// A WriteFault comes where a call of the disk failed, and then no call may follow. Where no memory is found the region goes on, and a flush or a
-    /// compaction that was ordered isn't any more.
+    /// A WriteFault comes where a call of the disk failed, and then no call may follow. Where no memory is found, or the file that would be named has other
+    /// cells than the horizon keeps, the region goes on, and a flush or a compaction that was ordered isn't any more.
     pub fn forget_step<D: Disk>(
         &mut self,
         disk: &mut D,
@@ -238,6 +278,8 @@ impl Region {
     ) -> Result<ForgetStep, JobFault>
         ensures done { (s : RegionData) → Holds ⟦<D as Disk>⟧ self.old disk.old s → OnOk result (result ≢ Ok ForgetStep.Forgot → Holds ⟦<D as Disk>⟧ self.new disk.new s) }
         ensures forgot { (s : RegionData) → Holds ⟦<D as Disk>⟧ self.old disk.old s → result ≡ Ok ForgetStep.Forgot → Holds ⟦<D as Disk>⟧ self.new disk.new (data_of self.new) × Forgets horizon s (data_of self.new) × (s.horizon ≤ horizon) }
+        ensures forgot_at { result ≡ Ok ForgetStep.Forgot → (data_of self.new).horizon ≡ horizon }
+        ensures forgot_read { result ≡ Ok ForgetStep.Forgot → IsKept (read_of self.old) horizon (read_of self.new) }
 
         // At each moment of the call a stop leaves the region as it is, or as what the horizon keeps.
         ensures any_moment { (s : RegionData) → Holds ⟦<D as Disk>⟧ self.old disk.old s → LeavesOnly ⟦<D as Disk>⟧ disk.old disk.new (λ moment image. Stands self.old.number image s ⊎ StandsKept self.old.number image horizon s) }

@@ -10,6 +10,7 @@
 mod fault;
 mod flush;
 mod forget;
+mod keeping;
 pub mod laws;
 mod prepare;
 mod reading;

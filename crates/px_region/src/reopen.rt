@@ -55,7 +55,10 @@ impl Region {
             cells,
             bytes,
         } = replayed;
-        let stamps = LeastStamps::of_store(&store);
+        let mut stamps = LeastStamps::of_store(&store);
+        let last = wal.last();
+        // What was read is older than all that comes.
+        stamps.age(last);
         let store = match load(alloc, disk, store, flushing.files()) {
             Ok(store) => store,
             Err(fault) => {

@@ -1,7 +1,8 @@
 use crate::pieces::{flush, is_shown, opened, put_row, shown};
-use px_outside::{Choice, MemDisk};
+use px_outside::{Choice, Disk, MemDisk};
 use px_region::{ForgetStep, Region};
 use px_tests_stops::{Run, calls_of, stops_well};
+use px_wal::local_file;
 use std::alloc::Global;
 use std::test::Fail;
 
@@ -128,6 +129,69 @@ fn another_horizon_begins_anew(rt: HostRuntime) -> Result<(), Fail> {
     let wanted = region.wants_to_forget();
     drop(region);
     assert!(rt; filled && given_up && done.is_some() && horizon == 2 && !wanted);
+    Ok(())
+}
+
+// A row that stands in the log at the horizon is flushed before, by a region that is opened again too.
+#[test]
+fn a_region_forgets_what_it_read_again(rt: HostRuntime) -> Result<(), Fail> {
+    let alloc = rt.alloc();
+    let mut disk = MemDisk::new(alloc);
+    let mut region = opened(alloc, &mut disk, 3).ok_or("not opened")?;
+    let filled = fill(alloc, &mut disk, &mut region).is_some();
+    drop(region);
+    let mut again = opened(alloc, &mut disk, 3).ok_or("not opened again")?;
+    let steps = forget(&mut disk, &mut again, 3);
+    let kept = is_shown(shown(alloc, &mut disk, &mut again), b"a\0a\x003b\0b\x004");
+    let horizon = again.horizon();
+    drop(again);
+    assert!(rt; filled && kept && horizon == 3, "{steps:?}");
+    Ok(())
+}
+
+// Puts other bytes at the place where these are first in a file.
+fn put_over(disk: &mut MemDisk, file: u64, found: &[u8], put: &[u8]) -> Option<()> {
+    let mut bytes = [0u8; 256];
+    let read = disk.read(file, 0, &mut bytes).ok()?;
+    for at in 0..read {
+        if bytes[at..read].starts_with(found) {
+            return disk.write(file, at as u64, put).ok();
+        }
+    }
+    None
+}
+
+// The second file gets the stamp 1 where it had 2, behind the back of the region.
+fn changed(alloc: Global, disk: &mut MemDisk, region: &mut Region) -> Option<()> {
+    fill(alloc, disk, region)?;
+    flush(disk, region)?;
+    for qualifier in [1u8, 3] {
+        let had = [97, 0, qualifier, 0, 0, 0, 0, 0, 0, 0, 2];
+        let has = [97, 0, qualifier, 0, 0, 0, 0, 0, 0, 0, 1];
+        put_over(disk, local_file(3, SECOND), &had, &has)?;
+    }
+    Some(())
+}
+
+// The local number of the second file of cells: the log has two before them, and the manifest.
+const SECOND: u32 = 5;
+
+// What is read stays as it is where a file has other cells than were written: the compaction is given up.
+#[test]
+fn a_file_of_other_cells_takes_none_from_memory(rt: HostRuntime) -> Result<(), Fail> {
+    let alloc = rt.alloc();
+    let mut disk = MemDisk::new(alloc);
+    let mut region = opened(alloc, &mut disk, 3).ok_or("not opened")?;
+    let changed = changed(alloc, &mut disk, &mut region).is_some();
+    let steps = forget(&mut disk, &mut region, 2);
+    let all = is_shown(shown(alloc, &mut disk, &mut region), ALL);
+    let horizon = region.horizon();
+    let wanted = region.wants_to_forget();
+    drop(region);
+    assert!(rt;
+        changed && steps.is_none() && all && horizon == 0 && !wanted,
+        "{steps:?} {changed} {all} {horizon}"
+    );
     Ok(())
 }
 

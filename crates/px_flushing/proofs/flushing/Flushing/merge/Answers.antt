@@ -6,7 +6,7 @@ use Rattle.px_wal.specs.Files.{HasFile, file_of}
 use Rattle.px_wal.specs.Manifest.{manifest_files, names}
 use Rattle.px_flushing.specs.declared.flushing.FlushStep.TheVariants.{Done, Forgot, Merged, More, Named}
 use Rattle.px_flushing.specs.declared.stage.Stage.TheVariants as stage
-use Rattle.px_flushing.proofs.Compacting.{forgot_none, goes_same, horizon_same, merging_at, reads_from}
+use Rattle.px_flushing.proofs.Compacting.{forgot_none, goes_same, horizon_same, measured_then, merging_at, reads_from}
 use Rattle.px_flushing.proofs.Going.{free_own, manifest_own, more_only, wrote_leaves}
 use Rattle.px_flushing.proofs.flushing.Flushing.merge.Goals as goal
 
@@ -21,6 +21,11 @@ pub returns-in-Measured-clause-any_moment : goal.returns-in-Measured-clause-any_
 returns-in-Measured-clause-any_moment g c = λ wal batches lists parts is may.
     let m = c.args.merge in
     c.name_measured.ensures.any_moment wal batches lists parts (merging_at g.D.Disk c.args.self.now.number (names c.args.manifest.now) lists c.args.disk.now m.count m.horizon m.frozen m.local m.stage (stage.Measured c.in-Measured.file c.in-Measured.len) is c.in-Measured.is) may
+
+pub returns-in-Measured-clause-keeps : goal.returns-in-Measured-clause-keeps
+returns-in-Measured-clause-keeps g c = λ h e.
+    let m = c.args.merge in
+    (measured_then m.horizon h m.stage c.in-Measured.file c.in-Measured.len m.frozen (c.name_measured.ensures.forgot h e).1 c.in-Measured.is, c.name_measured.ensures.keeps h e)
 
 pub returns-in-Measured-clause-touches : goal.returns-in-Measured-clause-touches
 returns-in-Measured-clause-touches g c = λ wal batches lists parts is.
@@ -51,6 +56,9 @@ returns-in_default-clause-merged g c = λ e. (let same : Merged ≡ More = more_
 
 pub returns-in_default-clause-forgot : goal.returns-in_default-clause-forgot
 returns-in_default-clause-forgot g c = λ h e. (let same : Forgot h ≡ More = more_only _ (Forgot h) c.write_merged.ensures.more e in cc)
+
+pub returns-in_default-clause-keeps : goal.returns-in_default-clause-keeps
+returns-in_default-clause-keeps g c = λ h e. (let same : Forgot h ≡ More = more_only _ (Forgot h) c.write_merged.ensures.more e in cc)
 
 pub returns-in_default-clause-horizon : goal.returns-in_default-clause-horizon
 returns-in_default-clause-horizon g c = (horizon_same c.write_merged.result _ _ (λ h e. (let same : Forgot h ≡ More = more_only _ (Forgot h) c.write_merged.ensures.more e in cc)) refl, refl)

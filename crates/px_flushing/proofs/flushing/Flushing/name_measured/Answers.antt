@@ -42,6 +42,9 @@ returns-in-None-clause-merged g c = λ e.
 pub returns-in-None-clause-forgot : goal.returns-in-None-clause-forgot
 returns-in-None-clause-forgot g c = λ h e. (let same : Forgot h ≡ Merged = only_this _ Merged (Forgot h) _ _ c.name_one.ensures.named e in cc)
 
+pub returns-in-None-clause-keeps : goal.returns-in-None-clause-keeps
+returns-in-None-clause-keeps g c = λ h e. (let same : Forgot h ≡ Merged = only_this _ Merged (Forgot h) _ _ c.name_one.ensures.named e in cc)
+
 pub returns-in-None-clause-horizon : goal.returns-in-None-clause-horizon
 returns-in-None-clause-horizon g c = (
   horizon_same c.name_one.result _ _ (λ h e. (let same : Forgot h ≡ Merged = only_this _ Merged (Forgot h) _ _ c.name_one.ensures.named e in cc)) c.name_one.ensures.horizon.0,
@@ -83,6 +86,9 @@ returns-in-Some-clause-forgot g c = λ h e.
       subst (λ (k : ℕ). HasForgotten (names c.args.manifest.now) (names c.name_kept.new.manifest) k) (sym same)
           (record { raised = ok_at _ (Forgot h) _ c.name_kept.ensures.raised e; local = c.args.local; len = c.args.len; file = c.args.file; is = w.2 }),
     )
+
+pub returns-in-Some-clause-keeps : goal.returns-in-Some-clause-keeps
+returns-in-Some-clause-keeps g c = λ h e. ok_at _ (Forgot h) _ c.name_kept.ensures.held e
 
 pub returns-in-Some-clause-horizon : goal.returns-in-Some-clause-horizon
 returns-in-Some-clause-horizon g c = kept_named (names c.args.manifest.now) (names c.name_kept.new.manifest) c.in-Some.horizon c.args.local c.args.len c.args.file _ c.name_kept.result c.name_kept.ensures.named c.name_kept.ensures.unnamed

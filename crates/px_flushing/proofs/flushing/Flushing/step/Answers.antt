@@ -5,7 +5,7 @@ use Rattle.px_outside.proofs.Moments.{touches_more}
 use Rattle.px_wal.specs.Batches.{above, cells_over}
 use Rattle.px_wal.specs.Files.{HasFile}
 use Rattle.px_wal.specs.Manifest.{names}
-use Rattle.px_flushing.specs.Flushing.{MayForget, ReadsFrom, horizon_of}
+use Rattle.px_flushing.specs.Flushing.{MayForget, ReadsFrom, horizon_of, naming_of}
 use Rattle.px_flushing.specs.declared.flushing.FlushStep.TheVariants.{Forgot, More}
 use Rattle.px_flushing.specs.declared.job.Job.TheVariants as job
 use Rattle.px_flushing.proofs.Compacting.{forgot_none, goes_before, goes_same, horizon_same, reads_from}
@@ -31,6 +31,9 @@ returns-in-None-clause-any_moment g c = λ batches lists has may.
 pub returns-in-None-clause-forgot : goal.returns-in-None-clause-forgot
 returns-in-None-clause-forgot g c = λ h e. absurd (c.begin.ensures.unnamed.2 h e)
 
+pub returns-in-None-clause-keeps : goal.returns-in-None-clause-keeps
+returns-in-None-clause-keeps g c = λ h e. absurd (c.begin.ensures.unnamed.2 h e)
+
 pub returns-in-None-clause-horizon : goal.returns-in-None-clause-horizon
 returns-in-None-clause-horizon g c = horizon_same c.begin.result _ _ c.begin.ensures.unnamed.2 refl
 
@@ -55,6 +58,9 @@ returns-in-Some-Flush-clause-done g c = λ batches lists has may other.
 
 pub returns-in-Some-Flush-clause-forgot : goal.returns-in-Some-Flush-clause-forgot
 returns-in-Some-Flush-clause-forgot g c = λ h e. absurd (c.go_on.ensures.only.2 h e)
+
+pub returns-in-Some-Flush-clause-keeps : goal.returns-in-Some-Flush-clause-keeps
+returns-in-Some-Flush-clause-keeps g c = λ h e. absurd (c.go_on.ensures.only.2 h e)
 
 pub returns-in-Some-Flush-clause-horizon : goal.returns-in-Some-Flush-clause-horizon
 returns-in-Some-Flush-clause-horizon g c = horizon_same c.go_on.result _ _ c.go_on.ensures.only.2 c.go_on.ensures.horizon
@@ -92,6 +98,9 @@ returns-in-Some-Gather-clause-any_moment g c = λ batches lists has may.
 pub returns-in-Some-Gather-clause-forgot : goal.returns-in-Some-Gather-clause-forgot
 returns-in-Some-Gather-clause-forgot g c = λ h e. (let same : Forgot h ≡ More = more_only _ (Forgot h) c.gather.ensures.more e in cc)
 
+pub returns-in-Some-Gather-clause-keeps : goal.returns-in-Some-Gather-clause-keeps
+returns-in-Some-Gather-clause-keeps g c = λ h e. (let same : Forgot h ≡ More = more_only _ (Forgot h) c.gather.ensures.more e in cc)
+
 pub returns-in-Some-Gather-clause-horizon : goal.returns-in-Some-Gather-clause-horizon
 returns-in-Some-Gather-clause-horizon g c = horizon_same c.gather.result _ _ (λ h e. (let same : Forgot h ≡ More = more_only _ (Forgot h) c.gather.ensures.more e in cc)) refl
 
@@ -105,6 +114,11 @@ pub returns-in-Some-Merge-clause-forgot : goal.returns-in-Some-Merge-clause-forg
 returns-in-Some-Merge-clause-forgot g c = λ h e.
     let w = c.merge.ensures.forgot h e in
     (w.0, ap horizon_of (sym c.take.ensures.value ∙ c.in-Some-Merge.is ∙ ap (λ j. Some j) c.in-Some-Merge.field-0-is) ∙ w.1, w.2)
+
+pub returns-in-Some-Merge-clause-keeps : goal.returns-in-Some-Merge-clause-keeps
+returns-in-Some-Merge-clause-keeps g c = λ h e.
+    let w = c.merge.ensures.keeps h e in
+    (c.in-Some-Merge.merge.frozen, ap naming_of (sym c.take.ensures.value ∙ c.in-Some-Merge.is ∙ ap (λ j. Some j) c.in-Some-Merge.field-0-is) ∙ w.0, w.1)
 
 pub returns-in-Some-Merge-clause-any_moment : goal.returns-in-Some-Merge-clause-any_moment
 returns-in-Some-Merge-clause-any_moment g c = λ batches lists has may.

@@ -1,4 +1,4 @@
-use Rattle.std.proofs.Common.{◌≡◌, ap, refl, sym, subst, Err, List}
+use Rattle.std.proofs.Common.{◌≡◌, ◌∙◌, ap, refl, sym, subst, Err, List}
 use Rattle.px_outside.proofs.Moments.{rose_later}
 use Rattle.px_files.specs.Calls.{opening_calls}
 use Rattle.px_gatelog.specs.declared.fault.StartFault.TheVariants.{Damaged, ReadFault}
@@ -6,6 +6,7 @@ use Rattle.px_wal.specs.Manifest.{names}
 use Rattle.px_wal.specs.declared.snapshot.Snapshot.{Snapshot}
 use Rattle.px_file.specs.declared.region_file.RegionFile.{RegionFile}
 use Rattle.px_files.specs.Files.{HaveFiles}
+use Rattle.px_region.proofs.Least.{upto_last}
 use Rattle.px_region.proofs.Opening.{assembled_by, have}
 use Rattle.px_region.proofs.region.Region.assembled.Goals as goal
 
@@ -16,7 +17,7 @@ returns-clause-opened g c = λ batches tells named log stored.
     let files = subst (λ (l : List RegionFile). HaveFiles g.D.Disk c.args.number c.open.new.disk (names c.args.manifest).files l went.0) (sym c.files.ensures)
     (have g.D.Disk c.args.number c.args.disk.now c.open.new.disk c.load.new.disk c.args.manifest _ _ batches went.0 tells went.1 mine) in
     assembled_by g.D.Disk c.args.number c.args.disk.now c.open.new.disk c.load.new.disk c.args.manifest _ _ batches went.0 tells went.1 mine
-    _ _ _ _ _ _ _ c.open.ensures.seen c.load.ensures.quiet c.load.ensures.seen stored.store stored.cells stored.bytes (c.of_store-stamps.ensures _ stored.store) (c.in-Ok-load.ensures.loaded _ _ went.0 tells files) (ap (λ (s : Snapshot). s.horizon) c.snapshot.ensures) refl refl refl refl refl refl refl refl refl
+    _ _ _ _ _ _ _ c.open.ensures.seen c.load.ensures.quiet c.load.ensures.seen stored.store stored.cells stored.bytes (c.age.ensures _ (upto_last (names c.args.manifest).flushed c.last-last.result batches log.right.rising (c.last-last.ensures ∙ log.last)) (c.of_store-stamps.ensures _ stored.store)) (c.in-Ok-load.ensures.loaded _ _ went.0 tells files) (ap (λ (s : Snapshot). s.horizon) c.snapshot.ensures) refl refl refl refl refl refl refl refl refl
 
 pub returns-in-Err-load-clause-damaged : goal.returns-in-Err-load-clause-damaged
 returns-in-Err-load-clause-damaged g c = λ batches file place tells named log e.

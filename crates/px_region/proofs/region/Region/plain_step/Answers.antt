@@ -1,9 +1,13 @@
 use Rattle.std.proofs.Common.{ap, Ok}
+use Rattle.px_region.proofs.Right.{none_named}
 use Rattle.px_region.proofs.Steps.{none_on, none_stands}
 use Rattle.px_region.proofs.region.Region.plain_step.Goals as goal
 
-pub files_step-requires : goal.files_step-requires
-files_step-requires g c = none_on _ c.args.self.now.stamps c.requires
+pub files_step-requires-clause-above : goal.files_step-requires-clause-above
+files_step-requires-clause-above g c = none_on _ c.args.self.now.stamps c.requires
+
+pub files_step-requires-clause-right : goal.files_step-requires-clause-right
+files_step-requires-clause-right g c = none_named _ _ c.args.self.now.store.cells c.requires
 
 pub returns-in-Ok-More-clause-done : goal.returns-in-Ok-More-clause-done
 returns-in-Ok-More-clause-done g c = λ s holds. c.in-Ok-More.ensures.done s holds (λ e. cc)
