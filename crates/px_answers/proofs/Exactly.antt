@@ -11,11 +11,11 @@ use Rattle.px_values.specs.declared.row.Value.{Value}
 use Rattle.px_keys.specs.Spelling.{Fits}
 use Rattle.px_keys.proofs.KeyOrders.{spelled_order_alone}
 use Rattle.px_tables.specs.declared.table.KeyPlace.{KeyPlace}
-use Rattle.px_trail.specs.Answers.{AreInOrder, Asked, Given, IsAmong, IsCut, IsGiven, IsWithin}
+use Rattle.px_trail.specs.Answers.{AreInOrder, Asked, Given, IsAmong, IsCutByLimit, IsRowGiven, IsWithinLimit}
 use Rattle.px_paths.specs.Paths.{columns_on, key_on, values_on}
 use Rattle.px_paths.specs.declared.path.PathColumn.{PathColumn}
 use Rattle.px_bind.specs.declared.request.Query.{Query}
-use Rattle.px_plan.specs.Answers.{Ascends, IsAnswer, by_order, comes_before, cut_off, shown}
+use Rattle.px_plan.specs.Answers.{Ascends, IsAnswer, by_order, comes_before, cut_off, row_answered}
 use Rattle.px_plan.specs.Plans.{IsSelected}
 use Rattle.px_plan.proofs.OneAnswer.{before_total, here, nothing_in, split, there}
 use Rattle.px_answers.specs.Selects.{goes_before, in_order_of}
@@ -112,7 +112,7 @@ module _ (q : Asked) (one_way : (x y : List Value) → q.before x y ≡ true →
   none_given (Some zero) s ss (inr l) = refl
   none_given (Some (suc n)) s ss (inr l) = let e : ◌≡◌ {A = Option ℕ} (Some (suc n)) (Some l.most) = l.is in let f : suc n ≡ l.most = cc in let g = l.full in absurd (omega arith)
 
-  pub firsts : (limit : Option ℕ) (xs : List Given) (ss : List (List Value)) → Rises q.before ss → AreInOrder q xs → IsWithin limit (length xs) → ((x : Given) → IsAmong x xs → Contains ss x.row) → ((row : List Value) → Contains ss row → Has xs row ⊎ IsLeft q limit xs row) → rows_of xs ≡ cut_off limit ss
+  pub firsts : (limit : Option ℕ) (xs : List Given) (ss : List (List Value)) → Rises q.before ss → AreInOrder q xs → IsWithinLimit limit (length xs) → ((x : Given) → IsAmong x xs → Contains ss x.row) → ((row : List Value) → Contains ss row → Has xs row ⊎ IsLeft q limit xs row) → rows_of xs ≡ cut_off limit ss
   unfolding AreInOrder IsAmong
   firsts None [] [] r o w h k = refl
   firsts (Some zero) [] [] r o w h k = refl
@@ -171,16 +171,16 @@ rises q path (s ∷ ss) f a = (
 
 -- 3. The answer
 
-map_rows : (q : Query) (xs : List Given) → map (λ g. shown q g.row) xs ≡ map (shown q) (rows_of xs)
+map_rows : (q : Query) (xs : List Given) → map (λ g. row_answered q g.row) xs ≡ map (row_answered q) (rows_of xs)
 map_rows q [] = refl
-map_rows q (x ∷ xs) = ap (λ (l : List (List Value)). shown q x.row ∷ l) (map_rows q xs)
+map_rows q (x ∷ xs) = ap (λ (l : List (List Value)). row_answered q x.row ∷ l) (map_rows q xs)
 
 -- what is given of the rows at a point
 pub record GivesAll (a : Asked) (q : Query) (At : List Value → Type 0) (xs : List Given) : Type 0 where
   pub held : (x : Given) → IsAmong x xs → At x.row × (a.meets x.row ≡ true)
   pub ordered : AreInOrder (in_order_of q.order q.limit a) xs
-  pub within : IsWithin q.limit (length xs)
-  pub whole : (row : List Value) → At row → a.meets row ≡ true → IsGiven (in_order_of q.order q.limit a) xs row ⊎ IsCut (in_order_of q.order q.limit a) xs row
+  pub within : IsWithinLimit q.limit (length xs)
+  pub whole : (row : List Value) → At row → a.meets row ≡ true → IsRowGiven (in_order_of q.order q.limit a) xs row ⊎ IsCutByLimit (in_order_of q.order q.limit a) xs row
 
 module _ (a : Asked) (q : Query) (path : List PathColumn) (At : List Value → Type 0) (rows : List (List Value)) (xs : List Given) (sortable : IsSortable a q.order q.limit) (g : GivesAll a q At xs)
     (keyed : a.path_key ≡ key_on path)
@@ -220,10 +220,10 @@ module _ (a : Asked) (q : Query) (path : List PathColumn) (At : List Value → T
     | inr cut ↦ inr (record { most = cut.limit; is = cut.is; full = cut.full; behind = cut.behind })
   ]
 
-  pub answer-is : (answer : List (List Value)) → IsAnswer rows q path answer → IsAnswer rows q path (map (λ x. shown q x.row) xs)
+  pub answer-is : (answer : List (List Value)) → IsAnswer rows q path answer → IsAnswer rows q path (map (λ x. row_answered q x.row) xs)
   answer-is answer s = record {
     sorted = s.sorted;
     ascends = s.ascends;
     selected = s.selected;
-    given = map_rows q xs ∙ ap (map (shown q)) (firsts asked one_way q.limit xs s.sorted (rising answer s) g.ordered g.within (among answer s) (covered answer s));
+    given = map_rows q xs ∙ ap (map (row_answered q)) (firsts asked one_way q.limit xs s.sorted (rising answer s) g.ordered g.within (among answer s) (covered answer s));
   }

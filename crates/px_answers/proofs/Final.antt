@@ -12,7 +12,7 @@ use Rattle.std.proofs.lemmas.List.Sorted.{ranks_by}
 use Rattle.px_values.specs.declared.row.Value.{Value}
 use Rattle.px_values.proofs.ValueOrder.{total_along}
 use Rattle.px_tables.specs.declared.table.KeyPlace.{KeyPlace}
-use Rattle.px_trail.specs.Answers.{AreInOrder, Asked, Given, IsAmong, IsCut, IsGiven, IsWithin}
+use Rattle.px_trail.specs.Answers.{AreInOrder, Asked, Given, IsAmong, IsCutByLimit, IsRowGiven, IsWithinLimit}
 use Rattle.px_bind.specs.declared.request.Query.{Query}
 use Rattle.px_calls.specs.Looks.{key_less}
 use Rattle.px_calls.proofs.Keys.{asymmetric, up_to_or}
@@ -244,7 +244,7 @@ module _ (a : Asked) (order : List KeyPlace) (limit : Option ℕ) (s : IsSortabl
       ∙ ap (λ (w : List ℕ). is_lt (ordering_then (by_order order x z) (slice_cmp nat_cmp w (a.path_key z)))) k
 
   -- a row that was given is given in the end, or cut off
-  kept_or_cut : (m : Option ℕ) (ys : List Given) (row : List Value) → AreInOrder q ys → limit ≡ m → IsGiven a ys row → IsGiven q (cut_off m ys) row ⊎ IsCut q (cut_off m ys) row
+  kept_or_cut : (m : Option ℕ) (ys : List Given) (row : List Value) → AreInOrder q ys → limit ≡ m → IsRowGiven a ys row → IsRowGiven q (cut_off m ys) row ⊎ IsCutByLimit q (cut_off m ys) row
   kept_or_cut None ys row o e h = inl (record { given = h.given; among = h.among; same = h.same })
   kept_or_cut (Some n) ys row o e h = elim (taken_or_behind n h.given ys o h.among) [
     | inl k ↦ inl (record { given = h.given; among = k; same = h.same })
@@ -256,11 +256,11 @@ module _ (a : Asked) (order : List KeyPlace) (limit : Option ℕ) (s : IsSortabl
     })
   ]
 
-  sorted_given : (xs : List Given) (row : List Value) → IsGiven a xs row → IsGiven a (stably_sorted less xs) row
+  sorted_given : (xs : List Given) (row : List Value) → IsRowGiven a xs row → IsRowGiven a (stably_sorted less xs) row
   sorted_given xs row h = record { given = h.given; among = sorted_to less h.given xs h.among; same = h.same }
 
   -- where nothing is sorted, what was cut off stays so
-  still_cut : (xs : List Given) (row : List Value) → (c : IsCut a xs row) → (order ≡ []) → limit ≡ Some c.limit → IsCut q (given_last order limit xs) row
+  still_cut : (xs : List Given) (row : List Value) → (c : IsCutByLimit a xs row) → (order ≡ []) → limit ≡ Some c.limit → IsCutByLimit q (given_last order limit xs) row
   still_cut xs row c plain_order e = record {
     limit = c.limit;
     is = e;
@@ -274,7 +274,7 @@ module _ (a : Asked) (order : List KeyPlace) (limit : Option ℕ) (s : IsSortabl
         subst (λ (o : List KeyPlace). goes_before o a.path_key row x.row ≡ false) (sym plain_order) b);
   }
 
-  pub last_whole : (xs : List Given) (row : List Value) → AreInOrder a xs → IsGiven a xs row ⊎ IsCut a xs row → IsGiven q (given_last order limit xs) row ⊎ IsCut q (given_last order limit xs) row
+  pub last_whole : (xs : List Given) (row : List Value) → AreInOrder a xs → IsRowGiven a xs row ⊎ IsCutByLimit a xs row → IsRowGiven q (given_last order limit xs) row ⊎ IsCutByLimit q (given_last order limit xs) row
   last_whole xs row o (inl h) = kept_or_cut limit (stably_sorted less xs) row (sorted_order xs o) refl (sorted_given xs row h)
   last_whole xs row o (inr c) = let l = s.limited c.limit c.is in inr (still_cut xs row c l.0 l.1)
 
@@ -296,9 +296,9 @@ take_short zero xs = omega arith
 take_short (suc n) [] = omega arith
 take_short (suc n) (x ∷ xs) = let h = take_short n xs in omega arith
 
-cut_within : (m : Option ℕ) (xs : List Given) → IsWithin m (length (cut_off m xs))
+cut_within : (m : Option ℕ) (xs : List Given) → IsWithinLimit m (length (cut_off m xs))
 cut_within None xs = tt
 cut_within (Some n) xs = take_short n xs
 
-pub last_within : (order : List KeyPlace) (limit : Option ℕ) (xs : List Given) → IsWithin limit (length (given_last order limit xs))
+pub last_within : (order : List KeyPlace) (limit : Option ℕ) (xs : List Given) → IsWithinLimit limit (length (given_last order limit xs))
 last_within order limit xs = cut_within limit (stably_sorted (is_less order) xs)

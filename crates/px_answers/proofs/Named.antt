@@ -17,7 +17,7 @@ use Rattle.px_planned.specs.Queries.{limit_if, query_of, values_at}
 use Rattle.px_planned.specs.declared.planned.Planned.{Planned}
 use Rattle.px_scan.specs.declared.answer.Placed.{Placed}
 use Rattle.px_scan.specs.Turns.{given_of}
-use Rattle.px_sorted.specs.Sorting.{answer_of, given_rows, is_before, put_in, row_shown, sorted_by, stably_sorted}
+use Rattle.px_sorted.specs.Sorting.{answer_of, given_rows, is_ordered_before, put_in, row_shown, sorted_by, stably_sorted}
 use Rattle.px_answers.specs.Selects.{AreShown}
 use Rattle.px_answers.proofs.Final.{IsSortable, given_last, is_less, order_total}
 
@@ -150,11 +150,11 @@ module _ (p : Planned) where
 abbrev given : Placed → Given
 given r = record { row = r.row; at = r.at }
 
-put_given : (order : List KeyPlace) (x : Placed) (ys : List Placed) → given_of (put_in (is_before order) x ys) ≡ put_in (is_less order) (given x) (given_of ys)
+put_given : (order : List KeyPlace) (x : Placed) (ys : List Placed) → given_of (put_in (is_ordered_before order) x ys) ≡ put_in (is_less order) (given x) (given_of ys)
 put_given order x [] = refl
-put_given order x (y ∷ ys) = at (put_given order x ys) (is_before order y x) refl
+put_given order x (y ∷ ys) = at (put_given order x ys) (is_ordered_before order y x) refl
   where
-    at : given_of (put_in (is_before order) x ys) ≡ put_in (is_less order) (given x) (given_of ys) → (b : Bool) → is_before order y x ≡ b → given_of (put_in (is_before order) x (y ∷ ys)) ≡ put_in (is_less order) (given x) (given_of (y ∷ ys))
+    at : given_of (put_in (is_ordered_before order) x ys) ≡ put_in (is_less order) (given x) (given_of ys) → (b : Bool) → is_ordered_before order y x ≡ b → given_of (put_in (is_ordered_before order) x (y ∷ ys)) ≡ put_in (is_less order) (given x) (given_of (y ∷ ys))
     at more true e = rw e (ap (λ rest. given y ∷ rest) more)
     at more false e = rw e refl
 

@@ -35,8 +35,8 @@ use Rattle.px_calls.specs.declared.query.By.TheVariants as bys
 use Rattle.px_calls.specs.declared.query.Path.{Path}
 use Rattle.px_calls.specs.declared.query.Point.{Point}
 use Rattle.px_calls.specs.Causes.{stamp_at}
-use Rattle.px_calls.specs.Looks.{columns_by, index_columns}
-use Rattle.px_calls.specs.Requires.{CanReadBy, IsReadable, index_in}
+use Rattle.px_calls.specs.Looks.{columns_by, index_path_in}
+use Rattle.px_calls.specs.Requires.{CanReadBy, IsReadable, index_of_found}
 use Rattle.px_gather.specs.Answers.{IsAnswerBy, IsCurrentOf, IsExactOf}
 use Rattle.px_gather.specs.Query.{IsPathFor, asked}
 use Rattle.px_plan.specs.Answers.{AreKeyed, IsAnswer}
@@ -122,13 +122,13 @@ record IsPathBy (found : Found) (by : By) : Type 0 where
   pub index : Option Index
   pub is : columns_by found by ≡ path_of found.table index
 
-index_path_is : (p : Point) (n : ℕ) (o : Option Index) → index_in p.found n ≡ o → IsReadable p o → (index : Option Index) × (index_columns p.found (index_in p.found n) ≡ path_of p.found.table index)
+index_path_is : (p : Point) (n : ℕ) (o : Option Index) → index_of_found p.found n ≡ o → IsReadable p o → (index : Option Index) × (index_path_in p.found (index_of_found p.found n) ≡ path_of p.found.table index)
 index_path_is p n None e h = absurd h
-index_path_is p n (Some x) e h = (Some x, ap (index_columns p.found) e)
+index_path_is p n (Some x) e h = (Some x, ap (index_path_in p.found) e)
 
 path_is : (p : Point) (by : By) → CanReadBy p by → IsPathBy p.found by
 path_is p bys.Table h = record { index = None; is = refl }
-path_is p (bys.Index i) h = let z = index_path_is p i.0 (index_in p.found i.0) refl h in record { index = z.0; is = z.1 }
+path_is p (bys.Index i) h = let z = index_path_is p i.0 (index_of_found p.found i.0) refl h in record { index = z.0; is = z.1 }
 
 -- 4. Exact answers
 

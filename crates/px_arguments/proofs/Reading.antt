@@ -16,7 +16,7 @@ use Rattle.px_arguments.specs.declared.said.Part.{Part}
 use Rattle.px_arguments.specs.declared.said.Part.TheVariants as part
 use Rattle.px_arguments.specs.Arguments.{SeenCommand, Run, Verify, Load, SeenSaid, begin, command_in, command_of, give, give_option, has_loaded, has_verified, is_equals, is_plain, kind_named, load, load_of, nothing, number_named, option_named, rows_named, run_of, said_from, some_rows, take_awaited, take_word, value_in, verify_of, with_value}
 use Rattle.px_arguments.proofs.Numbers.{named, numerals}
-use Rattle.px_arguments.specs.Spelled.{Asks, Given, HasNoLoad, HasNoVerify, IsGiven, IsNumber, IsSpelled, is_apart, is_folder, is_joined, is_same, kind_word, option_word, values_of, words_of}
+use Rattle.px_arguments.specs.Spelled.{Asks, GivenPart, HasNoLoad, HasNoVerify, IsGiven, IsNumber, IsSpelled, is_apart, is_folder, is_joined, is_same, kind_word, option_word, values_given, words_of}
 
 -- 1. Words
 
@@ -159,7 +159,7 @@ module _ (s : SeenSaid) (calm : s.awaits ≡ None) where
       ∙ (ap (λ b. if b then Some (record s { awaits = Some p }) else (if length (after_first is_equals w) == 0 then None else give s p (after_first is_equals w))) (is.joined_part v)
       ∙ (ap (λ (l : List ℕ). if length l == 0 then None else give s p l) (is.joined_value v) ∙ ap (λ b. if b then None else give s p v) (not_empty v some))))
 
-  given_said : (g : Given) (rest : List (List ℕ)) → IsGiven g → said_from s (g.words ++ rest) ≡ option_and_then (λ t. said_from t rest) (give s g.part g.value)
+  given_said : (g : GivenPart) (rest : List (List ℕ)) → IsGiven g → said_from s (g.words ++ rest) ≡ option_and_then (λ t. said_from t rest) (give s g.part g.value)
   given_said g rest (is_folder which plain words) =
       ap (λ (l : List (List ℕ)). said_from s (l ++ rest)) words
       ∙ (ap (option_and_then (λ t. said_from t rest)) (folder_said g.value plain) ∙ ap (λ (p : Part). option_and_then (λ t. said_from t rest) (give s p g.value)) (sym which))
@@ -171,11 +171,11 @@ module _ (s : SeenSaid) (calm : s.awaits ≡ None) where
       ∙ ap (option_and_then (λ t. said_from t rest)) (joined_said g.part name g.value (option_is g.part name option) some)
 
 -- what the parts give, one after another
-gives : SeenSaid → List Given → Option SeenSaid
+gives : SeenSaid → List GivenPart → Option SeenSaid
 gives s [] = Some s
 gives s (g ∷ gs) = option_and_then (λ t. gives t gs) (give s g.part g.value)
 
-all_said : (gs : List Given) (s : SeenSaid) → s.awaits ≡ None → AllByRecursion IsGiven gs → said_from s (words_of gs) ≡ gives s gs
+all_said : (gs : List GivenPart) (s : SeenSaid) → s.awaits ≡ None → AllByRecursion IsGiven gs → said_from s (words_of gs) ≡ gives s gs
 unfolding gives
 all_said [] s calm each = ap (λ (o : Option Part). if is_some o then None else Some s) calm
 all_said (g ∷ gs) s calm each =
@@ -215,7 +215,7 @@ module _ (s x : SeenSaid) (w : List ℕ) where
 
 -- the parts that were read
 record WasRead (s : SeenSaid) (words : List (List ℕ)) (t : SeenSaid) : Type 0 where
-  parts : List Given
+  parts : List GivenPart
   words_are : words ≡ words_of parts
   each : AllByRecursion IsGiven parts
   gives_it : gives s parts ≡ Some t
@@ -225,7 +225,7 @@ record IsRead (words : List (List ℕ)) : Type 0 where
   here : (s t : SeenSaid) → s.awaits ≡ None → said_from s words ≡ Some t → WasRead s words t
   waits : (s t : SeenSaid) (p : Part) (name : List ℕ) → option_word p ≡ Some name → s.awaits ≡ None → said_from (record s { awaits = Some p }) words ≡ Some t → WasRead s (name ∷ words) t
 
-one_more : (g : Given) (s x t : SeenSaid) (rest : List (List ℕ)) → IsGiven g → give s g.part g.value ≡ Some x → WasRead x rest t → WasRead s (g.words ++ rest) t
+one_more : (g : GivenPart) (s x t : SeenSaid) (rest : List (List ℕ)) → IsGiven g → give s g.part g.value ≡ Some x → WasRead x rest t → WasRead s (g.words ++ rest) t
 unfolding gives
 one_more g s x t rest is given r = record {
   parts = g ∷ r.parts;
@@ -265,8 +265,8 @@ listed None = []
 listed (Some v) = v ∷ []
 
 -- behind what was given before, each part has what these give
-record Settled (s : SeenSaid) (gs : List Given) (t : SeenSaid) : Type 0 where
-  values : (q : Part) → listed (value_in t q) ≡ listed (value_in s q) ++ values_of q gs
+record Settled (s : SeenSaid) (gs : List GivenPart) (t : SeenSaid) : Type 0 where
+  values : (q : Part) → listed (value_in t q) ≡ listed (value_in s q) ++ values_given q gs
   awaits : t.awaits ≡ s.awaits
 
 value_with : (s : SeenSaid) (q p : Part) (v : List ℕ) → value_in (with_value s p v) q ≡ (if is_same q p then Some v else value_in s q)
@@ -313,7 +313,7 @@ value_then s q p v more none = ap (λ (o : Option (List ℕ)). listed o ++ more)
   | false ↦ λ e. refl
 ] refl
 
-settled : (gs : List Given) (s t : SeenSaid) → gives s gs ≡ Some t → Settled s gs t
+settled : (gs : List GivenPart) (s t : SeenSaid) → gives s gs ≡ Some t → Settled s gs t
 unfolding gives
 settled [] s t h =
     let same : s ≡ t = some_is s t h in
@@ -322,7 +322,7 @@ settled (g ∷ gs) s t h = option_and_then_some (λ x. gives x gs) (give s g.par
     let once : (value_in s g.part ≡ None) × (x ≡ with_value s g.part g.value) = given_once s x g.part g.value e in
     let rest : Settled x gs t = settled gs x t j in
     record {
-      values = λ q. rest.values q ∙ (ap (λ (y : SeenSaid). listed (value_in y q) ++ values_of q gs) once.1 ∙ value_then s q g.part g.value (values_of q gs) once.0);
+      values = λ q. rest.values q ∙ (ap (λ (y : SeenSaid). listed (value_in y q) ++ values_given q gs) once.1 ∙ value_then s q g.part g.value (values_given q gs) once.0);
       awaits = rest.awaits ∙ keeps_waiting s x g.part g.value e;
     })
 
@@ -344,7 +344,7 @@ none_before : (o p : Option (List ℕ)) (v : List ℕ) (more : List (List ℕ)) 
 none_before None p v more h = refl
 none_before (Some u) p v more h = absurd (one_at_most p u v more h)
 
-all_given : (gs : List Given) (s t : SeenSaid) → Settled s gs t → gives s gs ≡ Some t
+all_given : (gs : List GivenPart) (s t : SeenSaid) → Settled s gs t → gives s gs ≡ Some t
 unfolding gives
 all_given [] s t st =
     let f : s.folder ≡ t.folder = sym (unlisted t.folder s.folder (st.values part.Folder)) in
@@ -358,12 +358,12 @@ all_given [] s t st =
 all_given (g ∷ gs) s t st =
     let v = g.value in
     let p = g.part in
-    let here : listed (value_in t p) ≡ listed (value_in s p) ++ (v ∷ values_of p gs) = st.values p ∙ ap (λ b. listed (value_in s p) ++ ((if b then v ∷ [] else []) ++ values_of p gs)) (same_itself p) in
-    let none : value_in s p ≡ None = none_before (value_in s p) (value_in t p) v (values_of p gs) here in
+    let here : listed (value_in t p) ≡ listed (value_in s p) ++ (v ∷ values_given p gs) = st.values p ∙ ap (λ b. listed (value_in s p) ++ ((if b then v ∷ [] else []) ++ values_given p gs)) (same_itself p) in
+    let none : value_in s p ≡ None = none_before (value_in s p) (value_in t p) v (values_given p gs) here in
     let given : give s p v ≡ Some (with_value s p v) = give_none s p v none in
     ap (option_and_then (λ x. gives x gs)) given
     ∙ all_given gs (with_value s p v) t (record {
-      values = λ q. st.values q ∙ sym (value_then s q p v (values_of q gs) none);
+      values = λ q. st.values q ∙ sym (value_then s q p v (values_given q gs) none);
       awaits = st.awaits ∙ sym (keeps_waiting s (with_value s p v) p v given);
     })
 
@@ -430,16 +430,16 @@ rows_read text n h = option_and_then_some some_rows (number_named text) n h (λ 
     by_parts m named false b some few e = absurd (none_some n e)
 
 -- the parts that spell a command, and what they come to
-said_for : (c : SeenCommand) (word : List ℕ) (gs : List Given) → Asks c word gs → SeenSaid
+said_for : (c : SeenCommand) (word : List ℕ) (gs : List GivenPart) → Asks c word gs → SeenSaid
 said_for (Run folder) word gs a = record { folder = Some folder; table = None; index = None; kind = None; number = None; rows = None; awaits = None }
 said_for (Verify folder table index k) word gs a = record { folder = Some folder; table = Some table; index = Some index; kind = Some (kind_word k); number = None; rows = None; awaits = None }
 said_for (Load folder l) word gs a = record { folder = Some folder; table = None; index = None; kind = None; number = Some a.3.number; rows = Some a.3.rows; awaits = None }
 
-settles : (c : SeenCommand) (word : List ℕ) (gs : List Given) (a : Asks c word gs) → Settled nothing gs (said_for c word gs a)
+settles : (c : SeenCommand) (word : List ℕ) (gs : List GivenPart) (a : Asks c word gs) → Settled nothing gs (said_for c word gs a)
 unfolding said_for
 settles (Run folder) word gs a = record { values = by_part; awaits = refl }
   where
-    by_part : (q : Part) → listed (value_in (said_for (Run folder) word gs a) q) ≡ listed (value_in nothing q) ++ values_of q gs
+    by_part : (q : Part) → listed (value_in (said_for (Run folder) word gs a) q) ≡ listed (value_in nothing q) ++ values_given q gs
     by_part part.Folder = sym a.1
     by_part part.Table = sym a.2.0
     by_part part.Index = sym a.2.1
@@ -448,7 +448,7 @@ settles (Run folder) word gs a = record { values = by_part; awaits = refl }
     by_part part.Rows = sym a.3.1
 settles (Verify folder table index k) word gs a = record { values = by_part; awaits = refl }
   where
-    by_part : (q : Part) → listed (value_in (said_for (Verify folder table index k) word gs a) q) ≡ listed (value_in nothing q) ++ values_of q gs
+    by_part : (q : Part) → listed (value_in (said_for (Verify folder table index k) word gs a) q) ≡ listed (value_in nothing q) ++ values_given q gs
     by_part part.Folder = sym a.1
     by_part part.Table = sym a.2.0
     by_part part.Index = sym a.2.1
@@ -457,7 +457,7 @@ settles (Verify folder table index k) word gs a = record { values = by_part; awa
     by_part part.Rows = sym a.3.1
 settles (Load folder l) word gs a = record { values = by_part; awaits = refl }
   where
-    by_part : (q : Part) → listed (value_in (said_for (Load folder l) word gs a) q) ≡ listed (value_in nothing q) ++ values_of q gs
+    by_part : (q : Part) → listed (value_in (said_for (Load folder l) word gs a) q) ≡ listed (value_in nothing q) ++ values_given q gs
     by_part part.Folder = sym a.1
     by_part part.Table = sym a.2.0
     by_part part.Index = sym a.2.1
@@ -465,7 +465,7 @@ settles (Load folder l) word gs a = record { values = by_part; awaits = refl }
     by_part part.Number = sym a.3.number_given
     by_part part.Rows = sym a.3.rows_given
 
-commands : (c : SeenCommand) (word : List ℕ) (gs : List Given) (a : Asks c word gs) → command_of word (said_for c word gs a) ≡ Some c
+commands : (c : SeenCommand) (word : List ℕ) (gs : List GivenPart) (a : Asks c word gs) → command_of word (said_for c word gs a) ≡ Some c
 unfolding said_for
 commands (Run folder) word gs a = ap (λ (w : List ℕ). command_of w (said_for (Run folder) word gs a)) a.0
 commands (Verify folder table index k) word gs a =
@@ -482,10 +482,10 @@ spelled_is_read words c h =
     ∙ (ap (option_and_then (command_of h.word)) (all_said h.parts nothing refl h.each ∙ all_given h.parts nothing (said_for c h.word h.parts h.asks) (settles c h.word h.parts h.asks)) ∙ commands c h.word h.parts h.asks)
 
 -- a part that has a value was given it, and no more
-given_here : (gs : List Given) (t : SeenSaid) → Settled nothing gs t → (q : Part) (v : List ℕ) → value_in t q ≡ Some v → values_of q gs ≡ v ∷ []
+given_here : (gs : List GivenPart) (t : SeenSaid) → Settled nothing gs t → (q : Part) (v : List ℕ) → value_in t q ≡ Some v → values_given q gs ≡ v ∷ []
 given_here gs t st q v is = sym (st.values q ∙ none_first q) ∙ ap listed is
   where
-    none_first : (p : Part) → listed (value_in nothing p) ++ values_of p gs ≡ values_of p gs
+    none_first : (p : Part) → listed (value_in nothing p) ++ values_given p gs ≡ values_given p gs
     none_first part.Folder = refl
     none_first part.Table = refl
     none_first part.Index = refl
@@ -493,10 +493,10 @@ given_here gs t st q v is = sym (st.values q ∙ none_first q) ∙ ap listed is
     none_first part.Number = refl
     none_first part.Rows = refl
 
-not_given : (gs : List Given) (t : SeenSaid) → Settled nothing gs t → (q : Part) → value_in t q ≡ None → values_of q gs ≡ []
+not_given : (gs : List GivenPart) (t : SeenSaid) → Settled nothing gs t → (q : Part) → value_in t q ≡ None → values_given q gs ≡ []
 not_given gs t st q none = sym (st.values q ∙ none_first q) ∙ ap listed none
   where
-    none_first : (p : Part) → listed (value_in nothing p) ++ values_of p gs ≡ values_of p gs
+    none_first : (p : Part) → listed (value_in nothing p) ++ values_given p gs ≡ values_given p gs
     none_first part.Folder = refl
     none_first part.Table = refl
     none_first part.Index = refl
@@ -504,7 +504,7 @@ not_given gs t st q none = sym (st.values q ∙ none_first q) ∙ ap listed none
     none_first part.Number = refl
     none_first part.Rows = refl
 
-module _ (gs : List Given) (t : SeenSaid) (st : Settled nothing gs t) (c : SeenCommand) where
+module _ (gs : List GivenPart) (t : SeenSaid) (st : Settled nothing gs t) (c : SeenCommand) where
   no_verify : t.table ≡ None → t.index ≡ None → t.kind ≡ None → HasNoVerify gs
   no_verify ta tb tk = (not_given gs t st part.Table ta, not_given gs t st part.Index tb, not_given gs t st part.Kind tk)
 
@@ -554,7 +554,7 @@ module _ (gs : List Given) (t : SeenSaid) (st : Settled nothing gs t) (c : SeenC
           by_kind None named j = absurd (none_some c j)
           by_kind (Some k) named j =
               let which : Verify f a b k ≡ c = some_is (Verify f a b k) c j in
-              let of_kind : values_of part.Kind gs ≡ kind_word k ∷ [] = given_here gs t st part.Kind w tk ∙ ap (λ (l : List ℕ). l ∷ []) (word_of_kind w k named) in
+              let of_kind : values_given part.Kind gs ≡ kind_word k ∷ [] = given_here gs t st part.Kind w tk ∙ ap (λ (l : List ℕ). l ∷ []) (word_of_kind w k named) in
               subst (λ (x : SeenCommand). Asks x word gs) which (is, given_here gs t st part.Folder f tf, (given_here gs t st part.Table a ta, given_here gs t st part.Index b tb, of_kind), load)
       by_options load None a b k tf ta tb tk e = absurd (none_some c e)
       by_options load (Some f) None b k tf ta tb tk e = absurd (none_some c e)

@@ -118,15 +118,15 @@ pub data SeenCommand : Type 0 where
   Verify : (folder table index : List ℕ) → VerifyKind → SeenCommand
   Load : (folder : List ℕ) → Loads → SeenCommand
 
-abbrev pub seen : Command → SeenCommand
-seen (command.Run folder) = Run folder.now
-seen (command.Verify folder table index kind) = Verify folder.now table.now index.now kind
-seen (command.Load folder load) = Load folder.now load
+abbrev pub seen_command : Command → SeenCommand
+seen_command (command.Run folder) = Run folder.now
+seen_command (command.Verify folder table index kind) = Verify folder.now table.now index.now kind
+seen_command (command.Load folder load) = Load folder.now load
 
-abbrev pub folder_of : SeenCommand → List ℕ
-folder_of (Run folder) = folder
-folder_of (Verify folder table index kind) = folder
-folder_of (Load folder load) = folder
+abbrev pub command_folder : SeenCommand → List ℕ
+command_folder (Run folder) = folder
+command_folder (Verify folder table index kind) = folder
+command_folder (Load folder load) = folder
 
 -- an option of `verify` was given
 abbrev pub has_verified : SeenSaid → Bool

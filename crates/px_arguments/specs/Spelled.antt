@@ -34,18 +34,18 @@ pub record IsNumber (text : List ℕ) (n : ℕ) : Type 0 where
 -- 1. Parts
 
 -- a part with its value, and the words that give it
-pub record Given : Type 0 where
+pub record GivenPart : Type 0 where
   pub part : Part
   pub value : List ℕ
   pub words : List (List ℕ)
 
 -- `DIR`, `--name value` or `--name=value`; a value isn't empty, and a word of its own doesn't begin with `-`
-pub data IsGiven (g : Given) : Type 0 where
+pub data IsGiven (g : GivenPart) : Type 0 where
   is_folder : g.part ≡ part.Folder → is_plain g.value ≡ true → g.words ≡ g.value ∷ [] → IsGiven g
   is_apart : (name : List ℕ) → option_word g.part ≡ Some name → is_plain g.value ≡ true → g.words ≡ name ∷ g.value ∷ [] → IsGiven g
   is_joined : (name : List ℕ) → option_word g.part ≡ Some name → g.value ≢ [] → g.words ≡ (name ++ codes "=" ++ g.value) ∷ [] → IsGiven g
 
-abbrev pub words_of : List Given → List (List ℕ)
+abbrev pub words_of : List GivenPart → List (List ℕ)
 words_of [] = []
 words_of (g ∷ gs) = g.words ++ words_of gs
 
@@ -59,45 +59,45 @@ is_same part.Rows part.Rows = true
 is_same p q = false
 
 -- the values that are given to a part, in order
-abbrev pub values_of : Part → List Given → List (List ℕ)
-values_of p [] = []
-values_of p (g ∷ gs) = (if is_same p g.part then g.value ∷ [] else []) ++ values_of p gs
+abbrev pub values_given : Part → List GivenPart → List (List ℕ)
+values_given p [] = []
+values_given p (g ∷ gs) = (if is_same p g.part then g.value ∷ [] else []) ++ values_given p gs
 
 -- 2. Commands
 
 -- no option of `verify` is given
-abbrev pub HasNoVerify : List Given → Type 0
-HasNoVerify gs = (values_of part.Table gs ≡ []) × (values_of part.Index gs ≡ []) × (values_of part.Kind gs ≡ [])
+abbrev pub HasNoVerify : List GivenPart → Type 0
+HasNoVerify gs = (values_given part.Table gs ≡ []) × (values_given part.Index gs ≡ []) × (values_given part.Kind gs ≡ [])
 
 -- no option of `load` is
-abbrev pub HasNoLoad : List Given → Type 0
-HasNoLoad gs = (values_of part.Number gs ≡ []) × (values_of part.Rows gs ≡ [])
+abbrev pub HasNoLoad : List GivenPart → Type 0
+HasNoLoad gs = (values_given part.Number gs ≡ []) × (values_given part.Rows gs ≡ [])
 
 -- each option of `verify` is given once
-abbrev pub GivesVerify : (table index : List ℕ) → VerifyKind → List Given → Type 0
-GivesVerify table index k gs = (values_of part.Table gs ≡ table ∷ []) × (values_of part.Index gs ≡ index ∷ []) × (values_of part.Kind gs ≡ kind_word k ∷ [])
+abbrev pub GivesVerify : (table index : List ℕ) → VerifyKind → List GivenPart → Type 0
+GivesVerify table index k gs = (values_given part.Table gs ≡ table ∷ []) × (values_given part.Index gs ≡ index ∷ []) × (values_given part.Kind gs ≡ kind_word k ∷ [])
 
 -- each option of `load` is given once, by a number; there is at least one row, and at most 100,000
-pub record GivesLoad (l : Loads) (gs : List Given) : Type 0 where
+pub record GivesLoad (l : Loads) (gs : List GivenPart) : Type 0 where
   pub number : List ℕ
-  pub number_given : values_of part.Number gs ≡ number ∷ []
+  pub number_given : values_given part.Number gs ≡ number ∷ []
   pub number_is : IsNumber number l.number
   pub rows : List ℕ
-  pub rows_given : values_of part.Rows gs ≡ rows ∷ []
+  pub rows_given : values_given part.Rows gs ≡ rows ∷ []
   pub rows_are : IsNumber rows l.rows
   pub some : 1 ≤ l.rows
   pub few : l.rows ≤ 100000
 
 -- the command's own word, its folder once, and its own options
-abbrev pub Asks : SeenCommand → (word : List ℕ) → List Given → Type 0
-Asks (Run folder) word gs = (word ≡ codes "run") × (values_of part.Folder gs ≡ folder ∷ []) × HasNoVerify gs × HasNoLoad gs
-Asks (Verify folder table index k) word gs = (word ≡ codes "verify") × (values_of part.Folder gs ≡ folder ∷ []) × GivesVerify table index k gs × HasNoLoad gs
-Asks (Load folder l) word gs = (word ≡ codes "load") × (values_of part.Folder gs ≡ folder ∷ []) × HasNoVerify gs × GivesLoad l gs
+abbrev pub Asks : SeenCommand → (word : List ℕ) → List GivenPart → Type 0
+Asks (Run folder) word gs = (word ≡ codes "run") × (values_given part.Folder gs ≡ folder ∷ []) × HasNoVerify gs × HasNoLoad gs
+Asks (Verify folder table index k) word gs = (word ≡ codes "verify") × (values_given part.Folder gs ≡ folder ∷ []) × GivesVerify table index k gs × HasNoLoad gs
+Asks (Load folder l) word gs = (word ≡ codes "load") × (values_given part.Folder gs ≡ folder ∷ []) × HasNoVerify gs × GivesLoad l gs
 
 -- the words spell the command: its own word, and then its parts in any order
 pub record IsSpelled (words : List (List ℕ)) (c : SeenCommand) : Type 0 where
   pub word : List ℕ
-  pub parts : List Given
+  pub parts : List GivenPart
   pub words_are : words ≡ word ∷ words_of parts
   pub each : AllByRecursion IsGiven parts
   pub asks : Asks c word parts

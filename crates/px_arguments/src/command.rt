@@ -32,7 +32,7 @@ pub enum Command<'a> {
 impl<'a> Command<'a> {
     /// The folder that it is about.
     pub fn folder(self) -> &'a str
-        ensures { result.now ≡ spec.folder_of (spec.seen self.entry) }
+        ensures { result.now ≡ spec.command_folder (spec.seen_command self.entry) }
     {
         match self {
             Command::Run { folder } => folder,
@@ -76,7 +76,7 @@ fn has_loaded(said: Said<'_>) -> bool
 }
 
 fn run_of(said: Said<'_>) -> Option<Command<'_>>
-    ensures { option_map spec.seen result ≡ spec.run_of (spec.seen_said said.entry) }
+    ensures { option_map spec.seen_command result ≡ spec.run_of (spec.seen_said said.entry) }
 {
     if has_verified(said) || has_loaded(said) {
         return None;
@@ -86,7 +86,7 @@ fn run_of(said: Said<'_>) -> Option<Command<'_>>
 }
 
 fn verify_of(said: Said<'_>) -> Option<Command<'_>>
-    ensures { option_map spec.seen result ≡ spec.verify_of (spec.seen_said said.entry) }
+    ensures { option_map spec.seen_command result ≡ spec.verify_of (spec.seen_said said.entry) }
 {
     if has_loaded(said) {
         return None;
@@ -105,7 +105,7 @@ fn verify_of(said: Said<'_>) -> Option<Command<'_>>
 }
 
 fn load_of(said: Said<'_>) -> Option<Command<'_>>
-    ensures { option_map spec.seen result ≡ spec.load_of (spec.seen_said said.entry) }
+    ensures { option_map spec.seen_command result ≡ spec.load_of (spec.seen_said said.entry) }
 {
     if has_verified(said) {
         return None;
@@ -122,7 +122,7 @@ fn load_of(said: Said<'_>) -> Option<Command<'_>>
 }
 
 fn command_of<'a>(word: &str, said: Said<'a>) -> Option<Command<'a>>
-    ensures { option_map spec.seen result ≡ spec.command_of word.now (spec.seen_said said.entry) }
+    ensures { option_map spec.seen_command result ≡ spec.command_of word.now (spec.seen_said said.entry) }
 {
     if word == "run" {
         run_of(said)
@@ -137,7 +137,7 @@ fn command_of<'a>(word: &str, said: Said<'a>) -> Option<Command<'a>>
 
 /// The command that the words are, and none where they are no command.
 pub fn command_in(words: &[String]) -> Option<Command<'_>>
-    ensures { option_map spec.seen result ≡ spec.command_in (map string_bytes words.now) }
+    ensures { option_map spec.seen_command result ≡ spec.command_in (map string_bytes words.now) }
 {
     let Some((word, rest)) = words.split_first() else {
         return None;

@@ -4,7 +4,7 @@ use Rattle.std.specs.List.{AllByRecursion}
 use Rattle.px_cells.specs.CellData.{CellData}
 use Rattle.px_cells.specs.Order.{IsApart, SamePlace}
 use Rattle.px_forms.specs.Indexes.{IndexForm, IsPlaced}
-use Rattle.px_indexrow.specs.Form.{FitsState, IsRightIndex, index_form}
+use Rattle.px_indexrow.specs.Form.{FitsRowState, IsRightIndex, index_form}
 use Rattle.px_indexrow.specs.Lists.{column_cell, column_cells, status_cell, version_cells}
 use Rattle.px_indexrow.proofs.KeysHeld.{form_placed}
 use Rattle.px_keptcells.specs.Kept.{IsFitting}
@@ -80,7 +80,7 @@ columns_count f k s state (suc n) = ap suc (columns_count f k s state n)
 pub version_count : (f : IndexForm) (k : List ℕ) (s byte : ℕ) (state : RowState) → length (version_cells f k s byte state) ≡ suc f.columns
 version_count f k s byte state = ap suc (columns_count f k s state f.columns)
 
-module _ (t : Table) (x : Index) (most : length t.columns ≤ 254) (right : IsRightIndex t x) (state : RowState) (fits : FitsState t state) (k : List ℕ) (short : length k ≤ 1024) (s : ℕ) (stamp : s < 18446744073709551616) where
+module _ (t : Table) (x : Index) (most : length t.columns ≤ 254) (right : IsRightIndex t x) (state : RowState) (fits : FitsRowState t state) (k : List ℕ) (short : length k ≤ 1024) (s : ℕ) (stamp : s < 18446744073709551616) where
   abbrev f : IndexForm
   f = index_form t x
 

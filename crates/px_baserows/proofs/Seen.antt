@@ -13,7 +13,7 @@ use Rattle.px_forms.specs.Several.{cells_for}
 use Rattle.px_forms.proofs.RowViews.{rows_view}
 use Rattle.px_forms.proofs.Views.{view_same}
 use Rattle.px_indexrow.specs.Form.{IsRightIndex, index_form}
-use Rattle.px_indexrow.specs.Lists.{base_of, version_cells, version_if}
+use Rattle.px_indexrow.specs.Lists.{base_version, version_cells, version_if}
 use Rattle.px_indexrow.proofs.FixesSeen.{base_view}
 use Rattle.px_indexrow.proofs.KeysHeld.{form_laws, form_placed}
 use Rattle.px_indexrow.proofs.MarksSeen.{base_owned}
@@ -33,15 +33,15 @@ use Rattle.px_baserows.proofs.Given.{key_spelled}
 
 -- ---- they are base versions
 
-version_is : (t : Table) (i : Index) (s : ℕ) (x : BaseRow) → IsBaseRow t i x → base_of (index_form t i) (owner_in t x.row) s (Some x.row) ≡ version_cells (index_form t i) x.key s 1 (Some x.row)
+version_is : (t : Table) (i : Index) (s : ℕ) (x : BaseRow) → IsBaseRow t i x → base_version (index_form t i) (owner_in t x.row) s (Some x.row) ≡ version_cells (index_form t i) x.key s 1 (Some x.row)
 version_is t i s x is = ap (version_if (index_form t i) s 1 (Some x.row)) is.key
 
 -- where this is each one's state
 pub laid_is : (t : Table) (i : Index) (s : ℕ) (state : List Value → RowState) (xs : List BaseRow) → AllByRecursion (IsBaseRow t i) xs → AllByRecursion (λ x. state (owner_in t x.row) ≡ Some x.row) xs
-    → cells_for (λ r. base_of (index_form t i) r s (state r)) (owners_in t xs) ≡ laid (base_parts (index_form t i) s xs)
+    → cells_for (λ r. base_version (index_form t i) r s (state r)) (owners_in t xs) ≡ laid (base_parts (index_form t i) s xs)
 unfolding cells_for
 laid_is t i s state [] a b = refl
-laid_is t i s state (x ∷ xs) a b = (λ j. (ap (base_of (index_form t i) (owner_in t x.row) s) b.0 ∙ version_is t i s x a.0) j ++ laid_is t i s state xs a.1 b.1 j)
+laid_is t i s state (x ∷ xs) a b = (λ j. (ap (base_version (index_form t i) (owner_in t x.row) s) b.0 ∙ version_is t i s x a.0) j ++ laid_is t i s state xs a.1 b.1 j)
 
 -- ---- what each row sees
 
@@ -51,7 +51,7 @@ bases_seen sh t i right s state xs are stood cells same r =
     let f : IndexForm = index_form t i in
     view_same f r cells (laid (base_parts f s xs)) same
     ∙ (ap (view_at f r) (sym (laid_is t i s state xs are.each stood))
-    ∙ rows_view f (form_laws t i) (λ q. base_of f q s (state q)) (λ q. base_cells (shape_at sh f q) s (state q)) (λ q. base_owned f (form_laws t i) q s (state q)) (λ q. base_view sh f (form_laws t i) (form_placed t i right) q s (state q)) (owners_in t xs) are.distinct r)
+    ∙ rows_view f (form_laws t i) (λ q. base_version f q s (state q)) (λ q. base_cells (shape_at sh f q) s (state q)) (λ q. base_owned f (form_laws t i) q s (state q)) (λ q. base_view sh f (form_laws t i) (form_placed t i right) q s (state q)) (owners_in t xs) are.distinct r)
 
 -- ---- their shape
 

@@ -3,7 +3,7 @@ use Rattle.std.specs.Prelude.{◌≡◌, ◌≤◌, ℕ, true, List, map, length
 use Rattle.std.specs.List.{AllByRecursion}
 use Rattle.px_cells.specs.CellData.{CellData}
 use Rattle.px_forms.specs.Indexes.{IndexForm}
-use Rattle.px_indexrow.specs.Form.{FitsState, key_of_state}
+use Rattle.px_indexrow.specs.Form.{FitsRowState, key_of_state}
 use Rattle.px_indexrow.specs.Lists.{version_cells}
 use Rattle.px_keys.specs.Spelling.{Fits}
 use Rattle.px_rows.specs.Keys.{row_columns}
@@ -26,7 +26,7 @@ owner_in t row = map (λ p. get_or row p.column Null) t.key
 
 -- the row has a value of its type for each column, its primary key values may be a key, and its key in the index is this one, and not too long
 pub record IsBaseRow (t : Table) (i : Index) (x : BaseRow) : Type 0 where
-  pub fits : FitsState t (Some x.row)
+  pub fits : FitsRowState t (Some x.row)
   pub owner : Fits (row_columns t) (owner_in t x.row)
   pub key : key_of_state t i (owner_in t x.row) (Some x.row) ≡ Some x.key
   pub short : length x.key ≤ most_key

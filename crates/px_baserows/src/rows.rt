@@ -1,7 +1,7 @@
 // The primary keys of rows.
 ghost use Rattle.std.specs.Prelude.{◌≡◌, ◌<◌, IfOk, Some, length};
 ghost use Rattle.std.specs.List.{All, AllByRecursion};
-ghost use Rattle.px_indexrow.specs.Form.{FitsState};
+ghost use Rattle.px_indexrow.specs.Form.{FitsRowState};
 ghost use Rattle.px_rows.specs.Keys.{IsRightTable};
 ghost use Rattle.px_baserows.specs.Rows.{owner_in, owners_in};
 
@@ -26,7 +26,7 @@ fn owner_of(alloc: Global, table: &Table, row: &[Value]) -> Result<Row, AllocErr
 /// The primary key values of each row, in order.
 pub fn owners_of(alloc: Global, table: &Table, rows: &[BaseRow]) -> Result<Rows, AllocError>
     requires table { IsRightTable table.now }
-    requires fits { AllByRecursion (λ x. FitsState table.now (Some x.row)) rows.now }
+    requires fits { AllByRecursion (λ x. FitsRowState table.now (Some x.row)) rows.now }
     ensures { IfOk result (λ owners. owners ≡ owners_in table.now rows.now) }
 {
     let mut owners = Vec::with_capacity(alloc, rows.len())?;

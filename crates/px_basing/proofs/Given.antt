@@ -1,7 +1,7 @@
 -- Rows as the calls of a server have them are rows with their keys in an index.
 use Rattle.std.proofs.Common.{◌≡◌, ℕ, zero, suc, ◌<◌, ◌≤◌, ◌⊎◌, Some, List, [], ◌∷◌, length, map, get_or, refl, ap, sym, ◌∙◌, subst, inl, inr, arith}
 use Rattle.px_cellshapes.proofs.Paths.{index_columns_same, table_columns}
-use Rattle.px_indexrow.specs.Form.{FitsState, IsRightIndex, index_columns, index_values}
+use Rattle.px_indexrow.specs.Form.{FitsRowState, IsRightIndex, index_columns, index_values}
 use Rattle.px_indexrow.proofs.KeysHeld.{key_is}
 use Rattle.px_keys.specs.Spelling.{Fits, spelled}
 use Rattle.px_paths.specs.Paths.{AreOfTypes, FitsRow, columns_on, index_path, key_on, table_path, values_on}
@@ -50,7 +50,7 @@ owner_fits t row f = subst (λ (vs : List Value). Fits (row_columns t) vs) (own_
 
 pub given_row : (t : Table) (x : Index) (y : BaseRow) → IsRightTable t → IsRightIndex t x → FitsRow t y.row → key_on (index_path t x) y.row ≡ y.key → length y.key ≤ most_key → IsBaseRow t x y
 given_row t x y table right fits key short =
-    let state : FitsState t (Some y.row) = (count_is t.columns y.row fits.types, typed_at t.columns y.row fits.types) in
+    let state : FitsRowState t (Some y.row) = (count_is t.columns y.row fits.types, typed_at t.columns y.row fits.types) in
     let owner = owner_fits t y.row fits.key in
     let same : key_on (index_path t x) y.row ≡ spelled (index_columns t x) (index_values t x (owner_in t y.row) y.row) = (λ i. spelled (index_columns_same t x i) (values_are t x (owner_in t y.row) y.row (owner_is t y.row) i)) in
     record { fits = state; owner = owner; key = key_is t x (owner_in t y.row) y.row table right owner state ∙ ap Some (sym same ∙ key); short = short }

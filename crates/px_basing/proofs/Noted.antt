@@ -2,11 +2,11 @@
 use Rattle.std.proofs.Common.{◌≡◌, ℕ, List, [], ◌∷◌, ◌++◌, refl, ap, sym, ◌∙◌, subst, arith}
 use Rattle.px_forms.specs.Indexes.{IndexForm}
 use Rattle.px_groupworld.specs.Group.{GroupData, TableForm, shape_in, world_in}
-use Rattle.px_groupworld.specs.Steps.{Events, nothing}
+use Rattle.px_groupworld.specs.Steps.{Events, no_events}
 use Rattle.px_world.specs.IndexCells.{Moves}
 use Rattle.px_indexed.specs.Idle.{IsElsewhere}
 use Rattle.px_indexed.proofs.Idle.{act_idle}
-use Rattle.px_noting.specs.Apart.{IsApart}
+use Rattle.px_noting.specs.Apart.{IsApartFrom}
 use Rattle.px_noting.proofs.Others.{tallied_apart, traced_elsewhere}
 use Rattle.px_openbatches.specs.Pending.{HeldBatch}
 use Rattle.px_tablesteps.specs.Kept.{TableKept, TableSteps}
@@ -23,8 +23,8 @@ use Rattle.px_group.specs.Group.{AreStanding, AreTraced, IsShownBy, IsTallied, f
 use Rattle.px_group.specs.declared.group.Group.{Group}
 
 module _ (e : Entry) (i : IndexId) (rows : List (List Value)) (is : e.act ≡ Based i rows) where
-  apart : (id : TableId) → IsApart id e.act
-  apart id = subst (IsApart id) (sym is) tt
+  apart : (id : TableId) → IsApartFrom id e.act
+  apart id = subst (IsApartFrom id) (sym is) tt
 
   pub elsewhere : (id : TableId) → IsElsewhere id e.act
   elsewhere id = subst (IsElsewhere id) (sym is) tt
@@ -49,7 +49,7 @@ module _ (e : Entry) (i : IndexId) (rows : List (List Value)) (is : e.act ≡ Ba
   traced_noted b es g k = record { each = traced_elsewhere b es g.table.id e (elsewhere g.table.id) g.batches.items k.each; once = k.once }
 
   module _ (f : TableForm) (ev : Events) (es : List Entry) (v now : GroupData) (hs : List HeldBatch) (may : MayCome f.base es e) where
-    then : TableKept f es now hs → TableSteps f nothing es now (es ++ e ∷ []) now hs
+    then : TableKept f es now hs → TableSteps f no_events es now (es ++ e ∷ []) now hs
     then k = table_idle f es now hs k e may (act_idle f.id e (elsewhere f.id))
 
     -- a step, and then the entry

@@ -38,7 +38,7 @@ use Rattle.px_repairs.proofs.Right.{index_before}
 use Rattle.px_baserows.specs.Rows.{owners_in}
 use Rattle.px_calls.specs.declared.query.BaseRow.{BaseRow}
 use Rattle.px_baserows.proofs.May.{can_base}
-use Rattle.px_basing.specs.Basing.{AreGiven, StoodAtBirth, WroteBases, cells_at}
+use Rattle.px_basing.specs.Basing.{AreGiven, StoodAtBirth, WroteBases, base_cells_of}
 
 no_birth : (here own : Bool) → IsNoBirthOf (cond here (row_event BaseVersion own) None)
 no_birth true true = tt
@@ -101,14 +101,14 @@ module _ (g : Group) (place : ℕ) (xs : List BaseRow) (right : IsRightGroup g) 
   pub there : place < length v.indexes
   there = (let l = within g.indexes.items place x at in let n = shown.count in omega (arith, l, n))
 
-  can : (put : List CellData) → ReadsSame put (cells_at g x xs) → CanBase form es v place (owners_in g.table xs) put
+  can : (put : List CellData) → ReadsSame put (base_cells_of g x xs) → CanBase form es v place (owners_in g.table xs) put
   can put same =
       let part = shown.parts place x at in
       let form_is : index (get_or v.indexes place no_part).id ≡ index_form g.table x.index = ap index part.id ∙ shown.forms place x at in
       can_base b index es g.table v shown.kept.group place there x.index right.table (all_at (IsRightPart g.table) g.indexes.items place x at right.parts).index form_is part.birth xs (given x at) (stood x at) put same
 
   -- whatever is read of the region then, as long as it reads as the cells before all that there were
-  pub bases_step : (put : List CellData) → ReadsSame put (cells_at g x xs) → (new : List CellData) → ReadsSame new (put ++ read_of x.region) → TableSteps form event es v es (cells_data place new v) hs
+  pub bases_step : (put : List CellData) → ReadsSame put (base_cells_of g x xs) → (new : List CellData) → ReadsSame new (put ++ read_of x.region) → TableSteps form event es v es (cells_data place new v) hs
   bases_step put same new reads =
       let group : Steps form event es v es (cells_data place new v) = group_base form es v shown.kept.group place put new (subst (λ (l : List CellData). ReadsSame new (put ++ l)) (sym (shown.parts place x at).cells) reads) (owners_in g.table xs) (can put same) in
       table_regions form es v hs shown.kept event (cells_data place new v) group (λ i r. no_birth (nat_eq place i) (has (owners_in g.table xs) r)) refl

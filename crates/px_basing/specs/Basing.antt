@@ -27,8 +27,8 @@ abbrev pub StoodAtBirth : Base → List Entry → Group → ℕ → List BaseRow
 StoodAtBirth b es g place xs = (x : IndexRegion) → slice_get g.indexes.items place ≡ Some x → StoodAt b es g.table x.index.birth xs
 
 -- the cells of their base versions
-abbrev pub cells_at : Group → IndexRegion → List BaseRow → List CellData
-cells_at g x xs = laid (base_parts (index_form g.table x.index) x.index.birth xs)
+abbrev pub base_cells_of : Group → IndexRegion → List BaseRow → List CellData
+base_cells_of g x xs = laid (base_parts (index_form g.table x.index) x.index.birth xs)
 
 -- 2. What is written
 
@@ -37,14 +37,14 @@ pub record HandsBases {D : Type 0} (d : Ghosts D) (g g' : Group) (disk disk' : D
   pub index : IndexRegion
   pub region : Region
   pub step : IsRegionStep g g' place index region
-  pub hands : HandsTo d index.region region disk disk' (cells_at g index xs)
+  pub hands : HandsTo d index.region region disk disk' (base_cells_of g index xs)
 
 -- where it doesn't fail they are written, and the room that was taken for them is used
 pub record WroteBases {D : Type 0} (d : Ghosts D) (g g' : Group) (disk disk' : D) (place : ℕ) (xs : List BaseRow) : Type 0 where
   pub index : IndexRegion
   pub region : Region
   pub step : IsRegionStep g g' place index region
-  pub wrote : WroteTo d index.region region disk disk' (cells_at g index xs)
+  pub wrote : WroteTo d index.region region disk disk' (base_cells_of g index xs)
 
 -- what writing to a region leaves, by the answer: a refusal of room leaves it as it was
 abbrev pub Written : {D T : Type 0} → Ghosts D → Region → Region → D → D → List CellData → Result T BaseFault → Type 0

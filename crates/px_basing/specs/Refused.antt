@@ -9,12 +9,12 @@ use Rattle.px_basing.specs.declared.fault.BaseFault.{BaseFault}
 use Rattle.px_basing.specs.declared.fault.BaseFault.TheVariants.{Busy, NotReady, WriteFault, Memory}
 
 -- the region, which has this number, refuses room for so many cells and bytes, as it does for a repair
-abbrev pub IsRefused : Region → (cells bytes : ℕ) → BaseFault → Type 0
-IsRefused region cells bytes (NotReady number) = (number ≡ region.number) × RefusesRoom region cells bytes repair.NotReady
-IsRefused region cells bytes (Busy number had had_bytes) = (number ≡ region.number) × RefusesRoom region cells bytes (repair.Busy had had_bytes)
-IsRefused region cells bytes WriteFault = Unit {0}
-IsRefused region cells bytes Memory = Unit {0}
+abbrev pub IsRoomRefused : Region → (cells bytes : ℕ) → BaseFault → Type 0
+IsRoomRefused region cells bytes (NotReady number) = (number ≡ region.number) × RefusesRoom region cells bytes repair.NotReady
+IsRoomRefused region cells bytes (Busy number had had_bytes) = (number ≡ region.number) × RefusesRoom region cells bytes (repair.Busy had had_bytes)
+IsRoomRefused region cells bytes WriteFault = Unit {0}
+IsRoomRefused region cells bytes Memory = Unit {0}
 
 -- for these cells
 abbrev pub IsRefusedFor : Region → List CellData → BaseFault → Type 0
-IsRefusedFor region cells fault = IsRefused region (length cells) (byte_count cells) fault
+IsRefusedFor region cells fault = IsRoomRefused region (length cells) (byte_count cells) fault

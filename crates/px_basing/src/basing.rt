@@ -4,7 +4,7 @@ ghost use Rattle.px_outside.specs.OnDisk.{Rose};
 ghost use Rattle.px_group.specs.Group.{IsRightGroup};
 ghost use Rattle.px_group.specs.declared.group.IndexRegion.{IndexRegion as Part};
 ghost use Rattle.px_baserows.specs.Rows.{AreBaseRows, owners_in};
-ghost use Rattle.px_basing.specs.Basing.{Bases, cells_at};
+ghost use Rattle.px_basing.specs.Basing.{Bases, base_cells_of};
 ghost use Rattle.px_basing.specs.Refused.{IsRefusedFor};
 ghost use Rattle.px_basing.specs.declared.fault.BaseFault.{BaseFault as Fault};
 
@@ -35,7 +35,7 @@ pub fn base<D: Disk>(
     requires rows { (x : Part) → slice_get group.old.indexes.items place ≡ Some x → AreBaseRows group.old.table x.index rows.now }
     ensures bases { Bases ⟦<D as Disk>⟧ group.old group.new disk.old disk.new place rows.now result }
     ensures owners { IfOk result (λ owners. owners ≡ owners_in group.old.table rows.now) }
-    ensures cause { (fault : Fault) → (x : Part) → result ≡ Err fault → slice_get group.old.indexes.items place ≡ Some x → IsRefusedFor x.region (cells_at group.old x rows.now) fault }
+    ensures cause { (fault : Fault) → (x : Part) → result ≡ Err fault → slice_get group.old.indexes.items place ≡ Some x → IsRefusedFor x.region (base_cells_of group.old x rows.now) fault }
     ensures failed { result ≡ Err BaseFault.WriteFault → Rose ⟦<D as Disk>⟧ disk.old disk.new }
 {
     let part = &group.indexes[place];

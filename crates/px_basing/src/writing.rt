@@ -5,7 +5,7 @@ ghost use Rattle.px_outside.specs.OnDisk.{Rose};
 ghost use Rattle.px_region.specs.Promise.{IsAlike, IsSamePromise};
 ghost use Rattle.px_region.specs.Region.{read_of};
 ghost use Rattle.px_basing.specs.Basing.{Written};
-ghost use Rattle.px_basing.specs.Refused.{IsRefused, IsRefusedFor};
+ghost use Rattle.px_basing.specs.Refused.{IsRefusedFor, IsRoomRefused};
 ghost use Rattle.px_basing.specs.declared.fault.BaseFault.{BaseFault as Fault};
 
 use crate::BaseFault;
@@ -20,7 +20,7 @@ fn take(region: &mut Region, cells: u64, bytes: u64) -> Result<(), BaseFault>
     ensures taken { OnOk result ((region.new.promised ≡ region.old.promised + cells) × (region.new.promised_bytes ≡ region.old.promised_bytes + bytes)) }
     ensures few { OnOk result ((cells ≤ 16384) × (bytes ≤ 16777216)) }
     ensures refused { OnErr result (IsSamePromise region.old region.new) }
-    ensures cause { (fault : Fault) → result ≡ Err fault → IsRefused region.old cells bytes fault }
+    ensures cause { (fault : Fault) → result ≡ Err fault → IsRoomRefused region.old cells bytes fault }
     ensures quiet { result ≢ Err BaseFault.WriteFault }
     ensures alike { IsAlike region.old region.new }
     ensures read { read_of region.new ≡ read_of region.old }

@@ -10,10 +10,10 @@ use Rattle.px_trail.specs.Trail.{acts_by, closing_call}
 use Rattle.px_calls.specs.declared.fault.StepFault.TheVariants as step
 use Rattle.px_calls.specs.declared.ticket.Receipt.{Receipt}
 use Rattle.px_calls.specs.declared.ticket.Ticket.{Ticket}
-use Rattle.px_calls.specs.Known.{Known, Passes, Sees, Adds, Ran, HasMade, outline}
+use Rattle.px_calls.specs.Known.{Known, TimePasses, Sees, Adds, Ran, HasMade, outline}
 use Rattle.px_calls.specs.Causes.{Refuses, rows_cause, write_cause}
 use Rattle.px_calls.specs.Calls.{DidBegin, Finds, IsReceipt, WroteRows}
-use Rattle.px_calls.specs.Requires.{AreFitting, CanAbandon, IsShut, TicketIn}
+use Rattle.px_calls.specs.Requires.{AreFitting, CanAbandon, IsServerShut, TicketIn}
 use Rattle.px_calls.proofs.Runs.{adds-begun, adds-marked, adds-shut, adds-verified, closing-grows, outline-append, passes-made, passes-shut, passes-ticket, ran-adds, ran-made, ran-none, ran-sees, ran-then, refuses-ticket, sees-ticket}
 use Rattle.px_calls.proofs.Stays.{grown-fits, passes-fits, ran-since, since-stays}
 use Rattle.px_batch.specs.declared.batch.BatchFault.{BatchFault}
@@ -21,7 +21,7 @@ use Rattle.px_batch.specs.declared.batch.BatchFault.TheVariants as fault
 use Rattle.px_batch.specs.declared.batch.BatchState.{BatchState}
 use Rattle.px_batch.specs.declared.batch.BatchState.TheVariants as state
 use Rattle.px_batch.specs.declared.batch.BatchTurn.TheVariants as turn
-use Rattle.px_batch.specs.Turns.{FaultIs, Fits, IsGoing, IsOutcome, IsSince, IsSinceThen, IsStopping, MadeSince, RanBatch, SoFar, StopIs, Turns, begun}
+use Rattle.px_batch.specs.Turns.{BatchFaultIs, BatchFaultSince, BatchTurns, FitsBatch, IsBatchGoing, IsBatchOutcome, IsBatchSince, IsBatchSinceThen, IsStopping, RanBatch, SoFar, StopIs, begun_by_batch}
 
 -- 1. Places
 
@@ -39,7 +39,7 @@ made_since : (k k' : Known) (a : Act) (n : ℕ) → Adds k k' a → n ≤ length
 unfolding IsAmong
 made_since k k' a n h low = ran-since k k' (a ∷ []) a n low (ran-adds k k' a h) (inl refl)
 
-shut : (k : Known) (call : ℕ) → closing_call k.seen ≡ Some call → IsShut k
+shut : (k : Known) (call : ℕ) → closing_call k.seen ≡ Some call → IsServerShut k
 shut k call h n = cc
 
 -- 2. Calls before there is a ticket
@@ -49,26 +49,26 @@ adds_fits k k' a t cs h f =
     let e = h.extends in
     grown-fits h.between k' _ t cs e.seen e.base e.legal (passes-fits k h.between t cs h.sees.passes f)
 
-pub begins : (sound : Type 0) (k k' : Known) (t : Ticket) (table : TableId) (cs : List Change) → DidBegin sound k k' table cs t → Turns sound table cs state.Beginning k (state.Marking t) k' turn.Stepped
+pub begins : (sound : Type 0) (k k' : Known) (t : Ticket) (table : TableId) (cs : List Change) → DidBegin sound k k' table cs t → BatchTurns sound table cs state.Beginning k (state.Marking t) k' turn.Stepped
 begins sound k k' t table cs h =
     let r = ran-adds k k' (act.Begun table t.stamp cs) h.adds in
     let a : Adds k k' (act.Begun t.table t.stamp cs) = subst (λ (n : TableId). Adds k k' (act.Begun n t.stamp cs)) (sym h.table) h.adds in
     record { acts = act.Begun table t.stamp cs ∷ []; ran = r; fits = (h.table, adds-begun k k' t cs a); told = (tt, refl); since = λ n low. grown k k' _ n r low }
 
 -- a call that adds nothing, and the batch is to be begun or upkeep to be made
-pub settles : (sound : Type 0) (k k' : Known) (table : TableId) (cs : List Change) (old new : BatchState) → ((n : ℕ) → IsSince n old k → n ≤ length k.seen) → ((n : ℕ) → n ≤ length k'.seen → IsSince n new k') → begun table cs old ≡ [] → begun table cs new ≡ [] → IsGoing new → Fits table cs new k' → Sees k k' → Turns sound table cs old k new k' turn.Stepped
+pub settles : (sound : Type 0) (k k' : Known) (table : TableId) (cs : List Change) (old new : BatchState) → ((n : ℕ) → IsBatchSince n old k → n ≤ length k.seen) → ((n : ℕ) → n ≤ length k'.seen → IsBatchSince n new k') → begun_by_batch table cs old ≡ [] → begun_by_batch table cs new ≡ [] → IsBatchGoing new → FitsBatch table cs new k' → Sees k k' → BatchTurns sound table cs old k new k' turn.Stepped
 settles sound k k' table cs old new from to none none' going fits h =
     let r = ran-sees k k' h in
     record { acts = []; ran = r; fits = fits; told = (going, ap (λ (l : List Act). l ++ []) none ∙ sym none'); since = λ n low. to n (grown k k' [] n r (from n low)) }
 
-pub works : (sound : Type 0) (k k' : Known) (table : TableId) (cs : List Change) → AreFitting k table.0 cs → Finds k k' ⊎ ((t : TableId) × (h : ℕ) × Adds k k' (act.Raised t h)) → Turns sound table cs state.Settling k state.Settling k' turn.Stepped
+pub works : (sound : Type 0) (k k' : Known) (table : TableId) (cs : List Change) → AreFitting k table.0 cs → Finds k k' ⊎ ((t : TableId) × (h : ℕ) × Adds k k' (act.Raised t h)) → BatchTurns sound table cs state.Settling k state.Settling k' turn.Stepped
 works sound k k' table cs f (inl h) = let r = ran-sees k k' h.sees in record { acts = []; ran = r; fits = passes-fits k k' table.0 cs h.sees.passes f; told = (tt, refl); since = λ n low. grown k k' _ n r low }
 works sound k k' table cs f (inr h) = let r = ran-adds k k' (act.Raised h.0 h.1) h.2 in record { acts = act.Raised h.0 h.1 ∷ []; ran = r; fits = adds_fits k k' _ table.0 cs h.2 f; told = (tt, refl); since = λ n low. grown k k' _ n r low }
 
-pub idles : (sound : Type 0) (k k' : Known) (table : TableId) (cs : List Change) → AreFitting k table.0 cs → Finds k k' → Turns sound table cs state.Settling k state.Beginning k' turn.Stepped
+pub idles : (sound : Type 0) (k k' : Known) (table : TableId) (cs : List Change) → AreFitting k table.0 cs → Finds k k' → BatchTurns sound table cs state.Settling k state.Beginning k' turn.Stepped
 idles sound k k' table cs f h = settles sound k k' table cs state.Settling state.Beginning (λ n l. l) (λ n l. l) refl refl tt (passes-fits k k' table.0 cs h.sees.passes f) h.sees
 
-pub is_busy : (sound : Type 0) (k k' : Known) (table : TableId) (cs : List Change) → AreFitting k table.0 cs → Sees k k' → Turns sound table cs state.Beginning k state.Settling k' turn.Stepped
+pub is_busy : (sound : Type 0) (k k' : Known) (table : TableId) (cs : List Change) → AreFitting k table.0 cs → Sees k k' → BatchTurns sound table cs state.Beginning k state.Settling k' turn.Stepped
 is_busy sound k k' table cs f h = settles sound k k' table cs state.Beginning state.Settling (λ n l. l) (λ n l. l) refl refl tt (passes-fits k k' table.0 cs h.passes f) h
 
 -- nothing was begun yet
@@ -76,21 +76,21 @@ pub data IsEarly : BatchState → Type 0 where
   early_begin : IsEarly state.Beginning
   early_settle : IsEarly state.Settling
 
-early_low : (old : BatchState) (n : ℕ) (k : Known) → IsEarly old → IsSince n old k → n ≤ length k.seen
+early_low : (old : BatchState) (n : ℕ) (k : Known) → IsEarly old → IsBatchSince n old k → n ≤ length k.seen
 early_low old n k early_begin h = h
 early_low old n k early_settle h = h
 
-early_none : (table : TableId) (cs : List Change) (old : BatchState) → IsEarly old → begun table cs old ++ [] ≡ []
+early_none : (table : TableId) (cs : List Change) (old : BatchState) → IsEarly old → begun_by_batch table cs old ++ [] ≡ []
 early_none table cs old early_begin = refl
 early_none table cs old early_settle = refl
 
 -- a refusal that adds nothing ends the run
-pub stops : (sound : Type 0) (k k' : Known) (table : TableId) (cs : List Change) (old : BatchState) (f : BatchFault) → IsEarly old → ((n : ℕ) → MadeSince n f k') → FaultIs sound table cs f k' → Sees k k' → Turns sound table cs old k state.Over k' (turn.Over (Err f))
+pub stops : (sound : Type 0) (k k' : Known) (table : TableId) (cs : List Change) (old : BatchState) (f : BatchFault) → IsEarly old → ((n : ℕ) → BatchFaultSince n f k') → BatchFaultIs sound table cs f k' → Sees k k' → BatchTurns sound table cs old k state.Over k' (turn.Over (Err f))
 stops sound k k' table cs old f early since told h =
     record { acts = []; ran = ran-sees k k' h; fits = tt; told = (refl, (told, inl (early_none table cs old early))); since = λ n low. since n }
 
 -- so does a failed read, and a failed write of upkeep
-pub misses : (sound : Type 0) (k k' : Known) (table : TableId) (cs : List Change) (old : BatchState) → IsEarly old → ((call : ℕ) × Adds k k' (act.Missed call)) → Turns sound table cs old k state.Over k' (turn.Over (Err fault.ReadFault))
+pub misses : (sound : Type 0) (k k' : Known) (table : TableId) (cs : List Change) (old : BatchState) → IsEarly old → ((call : ℕ) × Adds k k' (act.Missed call)) → BatchTurns sound table cs old k state.Over k' (turn.Over (Err fault.ReadFault))
 misses sound k k' table cs old early h =
     record {
       acts = act.Missed h.0 ∷ [];
@@ -100,7 +100,7 @@ misses sound k k' table cs old early h =
       since = λ n low. (h.0, made_since k k' (act.Missed h.0) n h.1 (early_low old n k early low));
     }
 
-pub shuts : (sound : Type 0) (k k' : Known) (table : TableId) (cs : List Change) (old : BatchState) → IsEarly old → ((call : ℕ) × Adds k k' (act.Shut call)) → Turns sound table cs old k state.Over k' (turn.Over (Err fault.WriteFault))
+pub shuts : (sound : Type 0) (k k' : Known) (table : TableId) (cs : List Change) (old : BatchState) → IsEarly old → ((call : ℕ) × Adds k k' (act.Shut call)) → BatchTurns sound table cs old k state.Over k' (turn.Over (Err fault.WriteFault))
 shuts sound k k' table cs old early h =
     record {
       acts = act.Shut h.0 ∷ [];
@@ -112,15 +112,15 @@ shuts sound k k' table cs old early h =
 
 -- 3. Phase 1
 
-pub marks : (sound : Type 0) (k k' : Known) (t : Ticket) (cs : List Change) → TicketIn k t Marking → Finds k k' → Turns sound t.table cs (state.Marking t) k (state.Marking t) k' turn.Stepped
+pub marks : (sound : Type 0) (k k' : Known) (t : Ticket) (cs : List Change) → TicketIn k t Marking → Finds k k' → BatchTurns sound t.table cs (state.Marking t) k (state.Marking t) k' turn.Stepped
 marks sound k k' t cs i h = let r = ran-sees k k' h.sees in record { acts = []; ran = r; fits = (refl, sees-ticket k k' t Marking h.sees i); told = (tt, refl); since = λ n low. grown k k' _ n r low }
 
-pub marks_all : (sound : Type 0) (k k' : Known) (t : Ticket) (cs : List Change) → TicketIn k t Marking → Adds k k' (act.Phase t.table t.stamp 1) → Turns sound t.table cs (state.Marking t) k (state.Writing t) k' turn.Stepped
+pub marks_all : (sound : Type 0) (k k' : Known) (t : Ticket) (cs : List Change) → TicketIn k t Marking → Adds k k' (act.Phase t.table t.stamp 1) → BatchTurns sound t.table cs (state.Marking t) k (state.Writing t) k' turn.Stepped
 marks_all sound k k' t cs i h =
     let r = ran-adds k k' (act.Phase t.table t.stamp 1) h in
     record { acts = act.Phase t.table t.stamp 1 ∷ []; ran = r; fits = (refl, adds-marked k k' t h i); told = (tt, refl); since = λ n low. grown k k' _ n r low }
 
-pub mark_fails : (sound : Type 0) (k k' : Known) (t : Ticket) (cs : List Change) → TicketIn k t Marking → Refuses write_cause k k' step.WriteFault → Turns sound t.table cs (state.Marking t) k (state.Leaving t fault.WriteFault) k' turn.Stepped
+pub mark_fails : (sound : Type 0) (k k' : Known) (t : Ticket) (cs : List Change) → TicketIn k t Marking → Refuses write_cause k k' step.WriteFault → BatchTurns sound t.table cs (state.Marking t) k (state.Leaving t fault.WriteFault) k' turn.Stepped
 mark_fails sound k k' t cs i h =
     let call = h.1.0 in
     let r = ran-adds k k' (act.Shut call) h.1.1 in
@@ -132,25 +132,25 @@ mark_fails sound k k' t cs i h =
       since = λ n low. (grown k k' _ n r low, (call, made_since k k' (act.Shut call) n h.1.1 low));
     }
 
-pub mark_closed : (sound : Type 0) (k k' : Known) (t : Ticket) (cs : List Change) (call : ℕ) → TicketIn k t Marking → Refuses write_cause k k' (step.Closed call) → Turns sound t.table cs (state.Marking t) k (state.Leaving t (fault.Closed call)) k' turn.Stepped
+pub mark_closed : (sound : Type 0) (k k' : Known) (t : Ticket) (cs : List Change) (call : ℕ) → TicketIn k t Marking → Refuses write_cause k k' (step.Closed call) → BatchTurns sound t.table cs (state.Marking t) k (state.Leaving t (fault.Closed call)) k' turn.Stepped
 mark_closed sound k k' t cs call i h =
     let r = ran-sees k k' h.1 in
     record { acts = []; ran = r; fits = (refl, (shut k' call h.0, inl (sees-ticket k k' t Marking h.1 i)), h.0); told = (tt, refl); since = λ n low. (grown k k' _ n r low, tt) }
 
 -- 4. Phase 2
 
-pub writes : (sound : Type 0) (k k' : Known) (t : Ticket) (cs : List Change) → WroteRows k k' t Writing → Turns sound t.table cs (state.Writing t) k (state.Writing t) k' turn.Stepped
+pub writes : (sound : Type 0) (k k' : Known) (t : Ticket) (cs : List Change) → WroteRows k k' t Writing → BatchTurns sound t.table cs (state.Writing t) k (state.Writing t) k' turn.Stepped
 writes sound k k' t cs h = let r = ran-adds k k' (act.Wrote t.table t.stamp h.rows) h.adds in record { acts = act.Wrote t.table t.stamp h.rows ∷ []; ran = r; fits = (refl, h.next); told = (tt, refl); since = λ n low. grown k k' _ n r low }
 
-pub writes_all : (sound : Type 0) (k k' : Known) (t : Ticket) (cs : List Change) → WroteRows k k' t Verifying → Turns sound t.table cs (state.Writing t) k (state.Verifying t) k' turn.Stepped
+pub writes_all : (sound : Type 0) (k k' : Known) (t : Ticket) (cs : List Change) → WroteRows k k' t Verifying → BatchTurns sound t.table cs (state.Writing t) k (state.Verifying t) k' turn.Stepped
 writes_all sound k k' t cs h = let r = ran-adds k k' (act.Wrote t.table t.stamp h.rows) h.adds in record { acts = act.Wrote t.table t.stamp h.rows ∷ []; ran = r; fits = (refl, h.next); told = (tt, refl); since = λ n low. grown k k' _ n r low }
 
-pub waits : (sound : Type 0) (k k' : Known) (t : Ticket) (cs : List Change) (stamp : ℕ) → TicketIn k t Writing → Refuses (rows_cause t.table.0 t.stamp) k k' (step.NotYet stamp) → Turns sound t.table cs (state.Writing t) k (state.Writing t) k' (turn.Waiting stamp)
+pub waits : (sound : Type 0) (k k' : Known) (t : Ticket) (cs : List Change) (stamp : ℕ) → TicketIn k t Writing → Refuses (rows_cause t.table.0 t.stamp) k k' (step.NotYet stamp) → BatchTurns sound t.table cs (state.Writing t) k (state.Writing t) k' (turn.Waiting stamp)
 waits sound k k' t cs stamp i h =
     let r = ran-sees k k' h.1 in
     record { acts = []; ran = r; fits = (refl, sees-ticket k k' t Writing h.1 i); told = (tt, refl, record { ticket = t; is = refl; waiting = h.0 }); since = λ n low. grown k k' _ n r low }
 
-pub write_fails : (sound : Type 0) (k k' : Known) (t : Ticket) (cs : List Change) → TicketIn k t Writing → Refuses (rows_cause t.table.0 t.stamp) k k' step.WriteFault → Turns sound t.table cs (state.Writing t) k (state.Leaving t fault.WriteFault) k' turn.Stepped
+pub write_fails : (sound : Type 0) (k k' : Known) (t : Ticket) (cs : List Change) → TicketIn k t Writing → Refuses (rows_cause t.table.0 t.stamp) k k' step.WriteFault → BatchTurns sound t.table cs (state.Writing t) k (state.Leaving t fault.WriteFault) k' turn.Stepped
 write_fails sound k k' t cs i h =
     let call = h.1.0 in
     let r = ran-adds k k' (act.Shut call) h.1.1 in
@@ -162,22 +162,22 @@ write_fails sound k k' t cs i h =
       since = λ n low. (grown k k' _ n r low, (call, made_since k k' (act.Shut call) n h.1.1 low));
     }
 
-pub write_closed : (sound : Type 0) (k k' : Known) (t : Ticket) (cs : List Change) (call : ℕ) → TicketIn k t Writing → Refuses (rows_cause t.table.0 t.stamp) k k' (step.Closed call) → Turns sound t.table cs (state.Writing t) k (state.Leaving t (fault.Closed call)) k' turn.Stepped
+pub write_closed : (sound : Type 0) (k k' : Known) (t : Ticket) (cs : List Change) (call : ℕ) → TicketIn k t Writing → Refuses (rows_cause t.table.0 t.stamp) k k' (step.Closed call) → BatchTurns sound t.table cs (state.Writing t) k (state.Leaving t (fault.Closed call)) k' turn.Stepped
 write_closed sound k k' t cs call i h =
     let r = ran-sees k k' h.1 in
     record { acts = []; ran = r; fits = (refl, (shut k' call h.0, inr (sees-ticket k k' t Writing h.1 i)), h.0); told = (tt, refl); since = λ n low. (grown k k' _ n r low, tt) }
 
 -- 5. Phase 3
 
-pub verifies : (sound : Type 0) (k k' : Known) (t : Ticket) (cs : List Change) → TicketIn k t Verifying → Finds k k' → Turns sound t.table cs (state.Verifying t) k (state.Verifying t) k' turn.Stepped
+pub verifies : (sound : Type 0) (k k' : Known) (t : Ticket) (cs : List Change) → TicketIn k t Verifying → Finds k k' → BatchTurns sound t.table cs (state.Verifying t) k (state.Verifying t) k' turn.Stepped
 verifies sound k k' t cs i h = let r = ran-sees k k' h.sees in record { acts = []; ran = r; fits = (refl, sees-ticket k k' t Verifying h.sees i); told = (tt, refl); since = λ n low. grown k k' _ n r low }
 
-pub verifies_all : (sound : Type 0) (k k' : Known) (t : Ticket) (cs : List Change) → TicketIn k t Verifying → Adds k k' (act.Phase t.table t.stamp 3) → Turns sound t.table cs (state.Verifying t) k (state.Ending t) k' turn.Stepped
+pub verifies_all : (sound : Type 0) (k k' : Known) (t : Ticket) (cs : List Change) → TicketIn k t Verifying → Adds k k' (act.Phase t.table t.stamp 3) → BatchTurns sound t.table cs (state.Verifying t) k (state.Ending t) k' turn.Stepped
 verifies_all sound k k' t cs i h =
     let r = ran-adds k k' (act.Phase t.table t.stamp 3) h in
     record { acts = act.Phase t.table t.stamp 3 ∷ []; ran = r; fits = (refl, inl (adds-verified k k' t h i)); told = (tt, refl); since = λ n low. grown k k' _ n r low }
 
-pub verify_fails : (sound : Type 0) (k k' : Known) (t : Ticket) (cs : List Change) → TicketIn k t Verifying → Refuses write_cause k k' step.WriteFault → Turns sound t.table cs (state.Verifying t) k (state.Ending t) k' turn.Stepped
+pub verify_fails : (sound : Type 0) (k k' : Known) (t : Ticket) (cs : List Change) → TicketIn k t Verifying → Refuses write_cause k k' step.WriteFault → BatchTurns sound t.table cs (state.Verifying t) k (state.Ending t) k' turn.Stepped
 verify_fails sound k k' t cs i h =
     let call = h.1.0 in
     let r = ran-adds k k' (act.Shut call) h.1.1 in
@@ -189,14 +189,14 @@ verify_fails sound k k' t cs i h =
       since = λ n low. grown k k' _ n r low;
     }
 
-pub verify_closed : (sound : Type 0) (k k' : Known) (t : Ticket) (cs : List Change) (call : ℕ) → TicketIn k t Verifying → Refuses write_cause k k' (step.Closed call) → Turns sound t.table cs (state.Verifying t) k (state.Ending t) k' turn.Stepped
+pub verify_closed : (sound : Type 0) (k k' : Known) (t : Ticket) (cs : List Change) (call : ℕ) → TicketIn k t Verifying → Refuses write_cause k k' (step.Closed call) → BatchTurns sound t.table cs (state.Verifying t) k (state.Ending t) k' turn.Stepped
 verify_closed sound k k' t cs call i h =
     let r = ran-sees k k' h.1 in
     record { acts = []; ran = r; fits = (refl, inr (shut k' call h.0, sees-ticket k k' t Verifying h.1 i)); told = (tt, refl); since = λ n low. grown k k' _ n r low }
 
 -- 6. The end
 
-pub ends : (sound : Type 0) (k k' : Known) (t : Ticket) (cs : List Change) (r : Receipt) → Adds k k' (act.Ended t.table t.stamp) → IsReceipt k' t r → Turns sound t.table cs (state.Ending t) k state.Over k' (turn.Over (Ok r))
+pub ends : (sound : Type 0) (k k' : Known) (t : Ticket) (cs : List Change) (r : Receipt) → Adds k k' (act.Ended t.table t.stamp) → IsReceipt k' t r → BatchTurns sound t.table cs (state.Ending t) k state.Over k' (turn.Over (Ok r))
 ends sound k k' t cs r h i =
     let ran = ran-adds k k' (act.Ended t.table t.stamp) h in
     record {
@@ -214,7 +214,7 @@ ends sound k k' t cs r h i =
     }
 
 -- what tells a fault that stops a batch stays, since it is in the trail
-stop_made : (f : BatchFault) (k k' : Known) → Passes k k' → StopIs f k → StopIs f k'
+stop_made : (f : BatchFault) (k k' : Known) → TimePasses k k' → StopIs f k → StopIs f k'
 stop_made fault.WriteFault k k' h j = (j.0, passes-made k k' (act.Shut j.0) h j.1)
 stop_made (fault.Closed call) k k' h j = ap closing_call h.seen ∙ closing-grows k.seen h.others call j
 stop_made fault.NoTable k k' h j = absurd j
@@ -223,7 +223,7 @@ stop_made fault.ReadFault k k' h j = absurd j
 stop_made (fault.Damaged file place) k k' h j = absurd j
 stop_made fault.Memory k k' h j = absurd j
 
-stop_tells : (sound : Type 0) (table : TableId) (cs : List Change) (f : BatchFault) (k : Known) → StopIs f k → FaultIs sound table cs f k
+stop_tells : (sound : Type 0) (table : TableId) (cs : List Change) (f : BatchFault) (k : Known) → StopIs f k → BatchFaultIs sound table cs f k
 stop_tells sound table cs fault.WriteFault k j = j
 stop_tells sound table cs (fault.Closed call) k j = j
 stop_tells sound table cs fault.NoTable k j = absurd j
@@ -241,12 +241,12 @@ stop_stops fault.ReadFault k j = absurd j
 stop_stops (fault.Damaged file place) k j = absurd j
 stop_stops fault.Memory k j = absurd j
 
-since_made : (f : BatchFault) (k k' : Known) (acts : List Act) (n : ℕ) → n ≤ length k.seen → Ran k k' acts → MadeSince n f k → MadeSince n f k'
+since_made : (f : BatchFault) (k k' : Known) (acts : List Act) (n : ℕ) → n ≤ length k.seen → Ran k k' acts → BatchFaultSince n f k → BatchFaultSince n f k'
 since_made fault.ReadFault k k' acts n low h j = (j.0, since-stays k k' acts (act.Missed j.0) n low h j.1)
 since_made fault.WriteFault k k' acts n low h j = (j.0, since-stays k k' acts (act.Shut j.0) n low h j.1)
 since_made f k k' acts n low h j = tt
 
-pub leaves : (sound : Type 0) (k k' : Known) (t : Ticket) (cs : List Change) (f : BatchFault) → CanAbandon k t → StopIs f k → Sees k k' → Turns sound t.table cs (state.Leaving t f) k state.Over k' (turn.Over (Err f))
+pub leaves : (sound : Type 0) (k k' : Known) (t : Ticket) (cs : List Change) (f : BatchFault) → CanAbandon k t → StopIs f k → Sees k k' → BatchTurns sound t.table cs (state.Leaving t f) k state.Over k' (turn.Over (Err f))
 leaves sound k k' t cs f can told h =
     let j = stop_made f k k' h.passes told in
     record {
@@ -262,10 +262,10 @@ leaves sound k k' t cs f can told h =
 pub starts : (table : TableId) (cs : List Change) (k : Known) → AreFitting k table.0 cs → SoFar table cs k k state.Beginning
 starts table cs k f = record { acts = []; ran = ran-none k; so_far = refl; fits = f; going = tt; since = omega arith }
 
-joined : (table : TableId) (cs : List Change) (old : BatchState) (xs ys : List Act) → outline xs ≡ begun table cs old → outline (xs ++ ys) ≡ begun table cs old ++ outline ys
+joined : (table : TableId) (cs : List Change) (old : BatchState) (xs ys : List Act) → outline xs ≡ begun_by_batch table cs old → outline (xs ++ ys) ≡ begun_by_batch table cs old ++ outline ys
 joined table cs old xs ys h = outline-append xs ys ∙ ap (λ (l : List Act). l ++ outline ys) h
 
-pub steps_on : (sound : Type 0) (table : TableId) (cs : List Change) (k0 k k' : Known) (old new : BatchState) → SoFar table cs k0 k old → Turns sound table cs old k new k' turn.Stepped → SoFar table cs k0 k' new
+pub steps_on : (sound : Type 0) (table : TableId) (cs : List Change) (k0 k k' : Known) (old new : BatchState) → SoFar table cs k0 k old → BatchTurns sound table cs old k new k' turn.Stepped → SoFar table cs k0 k' new
 steps_on sound table cs k0 k k' old new h t =
     record {
       acts = h.acts ++ t.acts;
@@ -276,7 +276,7 @@ steps_on sound table cs k0 k k' old new h t =
       since = t.since (length k0.seen) h.since;
     }
 
-pub waits_on : (sound : Type 0) (table : TableId) (cs : List Change) (k0 k k' : Known) (old new : BatchState) (stamp : ℕ) → SoFar table cs k0 k old → Turns sound table cs old k new k' (turn.Waiting stamp) → SoFar table cs k0 k' new
+pub waits_on : (sound : Type 0) (table : TableId) (cs : List Change) (k0 k k' : Known) (old new : BatchState) (stamp : ℕ) → SoFar table cs k0 k old → BatchTurns sound table cs old k new k' (turn.Waiting stamp) → SoFar table cs k0 k' new
 waits_on sound table cs k0 k k' old new stamp h t =
     record {
       acts = h.acts ++ t.acts;
@@ -287,26 +287,26 @@ waits_on sound table cs k0 k k' old new stamp h t =
       since = t.since (length k0.seen) h.since;
     }
 
-outcome_by : (sound : Type 0) (table : TableId) (cs : List Change) (k : Known) (r : Result Receipt BatchFault) (xs ys : List Act) → xs ≡ ys → IsOutcome sound table cs ys k r → IsOutcome sound table cs xs k r
-outcome_by sound table cs k r xs ys e h = subst (λ (l : List Act). IsOutcome sound table cs l k r) (sym e) h
+outcome_by : (sound : Type 0) (table : TableId) (cs : List Change) (k : Known) (r : Result Receipt BatchFault) (xs ys : List Act) → xs ≡ ys → IsBatchOutcome sound table cs ys k r → IsBatchOutcome sound table cs xs k r
+outcome_by sound table cs k r xs ys e h = subst (λ (l : List Act). IsBatchOutcome sound table cs l k r) (sym e) h
 
-over_since : (n : ℕ) (s : BatchState) (k : Known) (r : Result Receipt BatchFault) → IsSinceThen n s k (turn.Over r) → IsSinceThen n state.Over k (turn.Over r)
+over_since : (n : ℕ) (s : BatchState) (k : Known) (r : Result Receipt BatchFault) → IsBatchSinceThen n s k (turn.Over r) → IsBatchSinceThen n state.Over k (turn.Over r)
 over_since n s k (Ok r) h = h
 over_since n s k (Err f) h = h
 
-pub ends_as : (sound : Type 0) (table : TableId) (cs : List Change) (k0 k k' : Known) (old new : BatchState) (r : Result Receipt BatchFault) → SoFar table cs k0 k old → Turns sound table cs old k new k' (turn.Over r) → RanBatch sound table cs k0 k' r
+pub ends_as : (sound : Type 0) (table : TableId) (cs : List Change) (k0 k k' : Known) (old new : BatchState) (r : Result Receipt BatchFault) → SoFar table cs k0 k old → BatchTurns sound table cs old k new k' (turn.Over r) → RanBatch sound table cs k0 k' r
 ends_as sound table cs k0 k k' old new r h t =
     record {
       acts = h.acts ++ t.acts;
       ran = ran-then k0 k k' h.acts t.acts h.ran t.ran;
-      outcome = outcome_by sound table cs k' r (outline (h.acts ++ t.acts)) (begun table cs old ++ outline t.acts) (joined table cs old h.acts t.acts h.so_far) t.told.1;
+      outcome = outcome_by sound table cs k' r (outline (h.acts ++ t.acts)) (begun_by_batch table cs old ++ outline t.acts) (joined table cs old h.acts t.acts h.so_far) t.told.1;
       since = over_since (length k0.seen) new k' r (t.since (length k0.seen) h.since);
     }
 
 -- 8. Between two steps
 
 -- entries of other seats leave a run as it is
-pub fits-kept : (table : TableId) (cs : List Change) (s : BatchState) (k k' : Known) → Passes k k' → Fits table cs s k → Fits table cs s k'
+pub fits-kept : (table : TableId) (cs : List Change) (s : BatchState) (k k' : Known) → TimePasses k k' → FitsBatch table cs s k → FitsBatch table cs s k'
 fits-kept table cs state.Beginning k k' h f = passes-fits k k' table.0 cs h f
 fits-kept table cs state.Settling k k' h f = passes-fits k k' table.0 cs h f
 fits-kept table cs (state.Marking t) k k' h f = (f.0, passes-ticket k k' t Marking h f.1)

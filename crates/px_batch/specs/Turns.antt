@@ -11,9 +11,9 @@ use Rattle.px_trail.specs.Trail.{acts_by}
 use Rattle.px_calls.specs.declared.ticket.Receipt.{Receipt}
 use Rattle.px_calls.specs.declared.ticket.Ticket.{Ticket}
 use Rattle.px_calls.specs.Known.{Known, Ran, HasMade, outline}
-use Rattle.px_calls.specs.Causes.{ClosedBy, IsDamagedAt, IsWaiting, LacksTable, Stands, batch_limit}
+use Rattle.px_calls.specs.Causes.{ClosedBy, IsDamagedAt, IsWaiting, LacksTable, TableStands, batch_limit}
 use Rattle.px_calls.specs.Calls.{IsReceipt}
-use Rattle.px_calls.specs.Requires.{AreFitting, CanAbandon, CanEnd, IsShut, TicketIn}
+use Rattle.px_calls.specs.Requires.{AreFitting, CanAbandon, CanEnd, IsServerShut, TicketIn}
 use Rattle.px_batch.specs.declared.batch.BatchFault.{BatchFault}
 use Rattle.px_batch.specs.declared.batch.BatchFault.TheVariants as fault
 use Rattle.px_batch.specs.declared.batch.BatchState.{BatchState}
@@ -24,20 +24,20 @@ use Rattle.px_batch.specs.declared.batch.BatchTurn.TheVariants as turn
 -- 1. Faults
 
 -- what tells the fault, in what the seat has then seen
-abbrev pub FaultIs : Type 0 → TableId → List Change → BatchFault → Known → Type 0
-FaultIs sound table cs fault.NoTable k = LacksTable k table.0
-FaultIs sound table cs (fault.Limit which count) k = Stands k table.0 × (count ≡ most_of which) × batch_limit sound table.0 cs which k
-FaultIs sound table cs fault.ReadFault k = (call : ℕ) × HasMade k (act.Missed call)
-FaultIs sound table cs fault.WriteFault k = (call : ℕ) × HasMade k (act.Shut call)
-FaultIs sound table cs (fault.Damaged file place) k = IsDamagedAt k file place
-FaultIs sound table cs (fault.Closed call) k = ClosedBy call k
-FaultIs sound table cs fault.Memory k = Unit {0}
+abbrev pub BatchFaultIs : Type 0 → TableId → List Change → BatchFault → Known → Type 0
+BatchFaultIs sound table cs fault.NoTable k = LacksTable k table.0
+BatchFaultIs sound table cs (fault.Limit which count) k = TableStands k table.0 × (count ≡ most_of which) × batch_limit sound table.0 cs which k
+BatchFaultIs sound table cs fault.ReadFault k = (call : ℕ) × HasMade k (act.Missed call)
+BatchFaultIs sound table cs fault.WriteFault k = (call : ℕ) × HasMade k (act.Shut call)
+BatchFaultIs sound table cs (fault.Damaged file place) k = IsDamagedAt k file place
+BatchFaultIs sound table cs (fault.Closed call) k = ClosedBy call k
+BatchFaultIs sound table cs fault.Memory k = Unit {0}
 
 -- the entry that tells a failed device call is one of the seat's own after the first n
-abbrev pub MadeSince : ℕ → BatchFault → Known → Type 0
-MadeSince n fault.ReadFault k = (call : ℕ) × IsAmong (act.Missed call) (acts_by k.seat (drop n k.seen))
-MadeSince n fault.WriteFault k = (call : ℕ) × IsAmong (act.Shut call) (acts_by k.seat (drop n k.seen))
-MadeSince n f k = Unit {0}
+abbrev pub BatchFaultSince : ℕ → BatchFault → Known → Type 0
+BatchFaultSince n fault.ReadFault k = (call : ℕ) × IsAmong (act.Missed call) (acts_by k.seat (drop n k.seen))
+BatchFaultSince n fault.WriteFault k = (call : ℕ) × IsAmong (act.Shut call) (acts_by k.seat (drop n k.seen))
+BatchFaultSince n f k = Unit {0}
 
 -- the faults that come to a batch that has begun: the server was closed
 abbrev pub IsStopping : BatchFault → Type 0
@@ -54,46 +54,46 @@ StopIs f k = ⊥
 -- 2. States
 
 -- The state is as the trail tells. Others' entries keep this
-abbrev pub Fits : TableId → List Change → BatchState → Known → Type 0
-Fits table cs state.Beginning k = AreFitting k table.0 cs
-Fits table cs state.Settling k = AreFitting k table.0 cs
-Fits table cs (state.Marking t) k = (t.table ≡ table) × TicketIn k t Marking
-Fits table cs (state.Writing t) k = (t.table ≡ table) × TicketIn k t Writing
-Fits table cs (state.Verifying t) k = (t.table ≡ table) × TicketIn k t Verifying
-Fits table cs (state.Ending t) k = (t.table ≡ table) × CanEnd k t
-Fits table cs (state.Leaving t f) k = (t.table ≡ table) × CanAbandon k t × StopIs f k
-Fits table cs state.Over k = Unit {0}
+abbrev pub FitsBatch : TableId → List Change → BatchState → Known → Type 0
+FitsBatch table cs state.Beginning k = AreFitting k table.0 cs
+FitsBatch table cs state.Settling k = AreFitting k table.0 cs
+FitsBatch table cs (state.Marking t) k = (t.table ≡ table) × TicketIn k t Marking
+FitsBatch table cs (state.Writing t) k = (t.table ≡ table) × TicketIn k t Writing
+FitsBatch table cs (state.Verifying t) k = (t.table ≡ table) × TicketIn k t Verifying
+FitsBatch table cs (state.Ending t) k = (t.table ≡ table) × CanEnd k t
+FitsBatch table cs (state.Leaving t f) k = (t.table ≡ table) × CanAbandon k t × StopIs f k
+FitsBatch table cs state.Over k = Unit {0}
 
-abbrev pub IsGoing : BatchState → Type 0
-IsGoing state.Over = ⊥
-IsGoing s = Unit {0}
+abbrev pub IsBatchGoing : BatchState → Type 0
+IsBatchGoing state.Over = ⊥
+IsBatchGoing s = Unit {0}
 
 -- what the run has begun and not ended
-abbrev pub begun : TableId → List Change → BatchState → List Act
-begun table cs state.Beginning = []
-begun table cs state.Settling = []
-begun table cs (state.Marking t) = act.Begun table t.stamp cs ∷ []
-begun table cs (state.Writing t) = act.Begun table t.stamp cs ∷ []
-begun table cs (state.Verifying t) = act.Begun table t.stamp cs ∷ []
-begun table cs (state.Ending t) = act.Begun table t.stamp cs ∷ []
-begun table cs (state.Leaving t f) = act.Begun table t.stamp cs ∷ []
-begun table cs state.Over = []
+abbrev pub begun_by_batch : TableId → List Change → BatchState → List Act
+begun_by_batch table cs state.Beginning = []
+begun_by_batch table cs state.Settling = []
+begun_by_batch table cs (state.Marking t) = act.Begun table t.stamp cs ∷ []
+begun_by_batch table cs (state.Writing t) = act.Begun table t.stamp cs ∷ []
+begun_by_batch table cs (state.Verifying t) = act.Begun table t.stamp cs ∷ []
+begun_by_batch table cs (state.Ending t) = act.Begun table t.stamp cs ∷ []
+begun_by_batch table cs (state.Leaving t f) = act.Begun table t.stamp cs ∷ []
+begun_by_batch table cs state.Over = []
 
 -- a fault that the state tells came after the first n entries
-abbrev pub IsSince : ℕ → BatchState → Known → Type 0
-IsSince n (state.Leaving t f) k = (n ≤ length k.seen) × MadeSince n f k
-IsSince n s k = n ≤ length k.seen
+abbrev pub IsBatchSince : ℕ → BatchState → Known → Type 0
+IsBatchSince n (state.Leaving t f) k = (n ≤ length k.seen) × BatchFaultSince n f k
+IsBatchSince n s k = n ≤ length k.seen
 
 -- 3. Steps
 
 -- the receipt is that of the one batch that the run began and ended
-pub record HasEnded (table : TableId) (cs : List Change) (acts : List Act) (k : Known) (r : Receipt) : Type 0 where
+pub record HasEndedBatch (table : TableId) (cs : List Change) (acts : List Act) (k : Known) (r : Receipt) : Type 0 where
   pub one : acts ≡ act.Begun table r.stamp cs ∷ act.Ended table r.stamp ∷ []
   pub receipt : IsReceipt k (record { table = table; stamp = r.stamp }) r
 
 -- nothing was begun; or the server was closed under one batch that was begun
 abbrev pub HasLeft : TableId → List Change → BatchFault → List Act → Known → Type 0
-HasLeft table cs f acts k = (acts ≡ []) ⊎ (IsStopping f × IsShut k × ((stamp : ℕ) × (acts ≡ act.Begun table stamp cs ∷ [])))
+HasLeft table cs f acts k = (acts ≡ []) ⊎ (IsStopping f × IsServerShut k × ((stamp : ℕ) × (acts ≡ act.Begun table stamp cs ∷ [])))
 
 -- the batch that waits, and for which
 pub record Waits (k : Known) (old : BatchState) (stamp : ℕ) : Type 0 where
@@ -102,29 +102,29 @@ pub record Waits (k : Known) (old : BatchState) (stamp : ℕ) : Type 0 where
   pub waiting : IsWaiting k ticket.table.0 ticket.stamp stamp
 
 -- what the run comes to, where `own` is what the seat began and ended for it
-abbrev pub IsOutcome : Type 0 → TableId → List Change → List Act → Known → Result Receipt BatchFault → Type 0
-IsOutcome sound table cs own k (Ok r) = HasEnded table cs own k r
-IsOutcome sound table cs own k (Err f) = FaultIs sound table cs f k × HasLeft table cs f own k
+abbrev pub IsBatchOutcome : Type 0 → TableId → List Change → List Act → Known → Result Receipt BatchFault → Type 0
+IsBatchOutcome sound table cs own k (Ok r) = HasEndedBatch table cs own k r
+IsBatchOutcome sound table cs own k (Err f) = BatchFaultIs sound table cs f k × HasLeft table cs f own k
 
 -- what a step came to, where `own` is what the seat began and ended for the run so far
 abbrev pub Told : Type 0 → TableId → List Change → BatchState → List Act → BatchState → Known → BatchTurn → Type 0
-Told sound table cs old own new k turn.Stepped = IsGoing new × (own ≡ begun table cs new)
-Told sound table cs old own new k (turn.Waiting stamp) = IsGoing new × (own ≡ begun table cs new) × Waits k old stamp
-Told sound table cs old own new k (turn.Over r) = (new ≡ state.Over) × IsOutcome sound table cs own k r
+Told sound table cs old own new k turn.Stepped = IsBatchGoing new × (own ≡ begun_by_batch table cs new)
+Told sound table cs old own new k (turn.Waiting stamp) = IsBatchGoing new × (own ≡ begun_by_batch table cs new) × Waits k old stamp
+Told sound table cs old own new k (turn.Over r) = (new ≡ state.Over) × IsBatchOutcome sound table cs own k r
 
-abbrev pub IsSinceThen : ℕ → BatchState → Known → BatchTurn → Type 0
-IsSinceThen n new k turn.Stepped = IsSince n new k
-IsSinceThen n new k (turn.Waiting stamp) = IsSince n new k
-IsSinceThen n new k (turn.Over (Ok r)) = n ≤ r.at
-IsSinceThen n new k (turn.Over (Err f)) = MadeSince n f k
+abbrev pub IsBatchSinceThen : ℕ → BatchState → Known → BatchTurn → Type 0
+IsBatchSinceThen n new k turn.Stepped = IsBatchSince n new k
+IsBatchSinceThen n new k (turn.Waiting stamp) = IsBatchSince n new k
+IsBatchSinceThen n new k (turn.Over (Ok r)) = n ≤ r.at
+IsBatchSinceThen n new k (turn.Over (Err f)) = BatchFaultSince n f k
 
 -- one step of a batch
-pub record Turns (sound : Type 0) (table : TableId) (cs : List Change) (old : BatchState) (k : Known) (new : BatchState) (k' : Known) (t : BatchTurn) : Type 0 where
+pub record BatchTurns (sound : Type 0) (table : TableId) (cs : List Change) (old : BatchState) (k : Known) (new : BatchState) (k' : Known) (t : BatchTurn) : Type 0 where
   pub acts : List Act
   pub ran : Ran k k' acts
-  pub fits : Fits table cs new k'
-  pub told : Told sound table cs old (begun table cs old ++ outline acts) new k' t
-  pub since : (n : ℕ) → IsSince n old k → IsSinceThen n new k' t
+  pub fits : FitsBatch table cs new k'
+  pub told : Told sound table cs old (begun_by_batch table cs old ++ outline acts) new k' t
+  pub since : (n : ℕ) → IsBatchSince n old k → IsBatchSinceThen n new k' t
 
 -- 4. Whole batches
 
@@ -133,14 +133,14 @@ pub record Turns (sound : Type 0) (table : TableId) (cs : List Change) (old : Ba
 pub record RanBatch (sound : Type 0) (table : TableId) (cs : List Change) (k k' : Known) (r : Result Receipt BatchFault) : Type 0 where
   pub acts : List Act
   pub ran : Ran k k' acts
-  pub outcome : IsOutcome sound table cs (outline acts) k' r
-  pub since : IsSinceThen (length k.seen) state.Over k' (turn.Over r)
+  pub outcome : IsBatchOutcome sound table cs (outline acts) k' r
+  pub since : IsBatchSinceThen (length k.seen) state.Over k' (turn.Over r)
 
 -- a batch on its way: what the seat did so far is to have begun what the run holds
 pub record SoFar (table : TableId) (cs : List Change) (k k' : Known) (s : BatchState) : Type 0 where
   pub acts : List Act
   pub ran : Ran k k' acts
-  pub so_far : outline acts ≡ begun table cs s
-  pub fits : Fits table cs s k'
-  pub going : IsGoing s
-  pub since : IsSince (length k.seen) s k'
+  pub so_far : outline acts ≡ begun_by_batch table cs s
+  pub fits : FitsBatch table cs s k'
+  pub going : IsBatchGoing s
+  pub since : IsBatchSince (length k.seen) s k'

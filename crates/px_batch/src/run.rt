@@ -1,10 +1,10 @@
 // A whole batch.
 ghost use Rattle.std.specs.Prelude.{◌≡◌, ◌≢◌, ◌≤◌, ℕ, [], true, length};
 ghost use Rattle.px_trail.specs.Batches.{is_distinct, rows_of};
-ghost use Rattle.px_calls.specs.Causes.{indexes_of};
+ghost use Rattle.px_calls.specs.Causes.{index_count};
 ghost use Rattle.px_calls.specs.Requires.{AreFitting};
 ghost use Rattle.px_batch.specs.Bounds.{Spends};
-ghost use Rattle.px_batch.specs.Turns.{Fits, IsGoing, RanBatch, Turns};
+ghost use Rattle.px_batch.specs.Turns.{BatchTurns, FitsBatch, IsBatchGoing, RanBatch};
 
 use crate::batch::{self, BatchFault, BatchState, BatchTurn};
 use px_calls::{Receipt, Steps};
@@ -41,12 +41,12 @@ impl BatchRun {
 
     /// Makes one call.
     pub fn step<S: Steps>(&mut self, s: &mut S) -> BatchTurn
-        requires fits { Fits self.old.table self.old.changes self.old.state (S.known s.old) }
-        requires going { IsGoing self.old.state }
+        requires fits { FitsBatch self.old.table self.old.changes self.old.state (S.known s.old) }
+        requires going { IsBatchGoing self.old.state }
         ensures table { self.new.table ≡ self.old.table }
         ensures changes { self.new.changes ≡ self.old.changes }
-        ensures turns { Turns S.sound self.old.table self.old.changes self.old.state (S.known s.old) self.new.state (S.known s.new) result }
-        ensures spends { (S.known s.old).alone ≡ true → (n : ℕ) → indexes_of (S.known s.new) self.old.table.0 ≤ n → Spends n (S.left s.old) self.old.state (S.left s.new) self.new.state result }
+        ensures turns { BatchTurns S.sound self.old.table self.old.changes self.old.state (S.known s.old) self.new.state (S.known s.new) result }
+        ensures spends { (S.known s.old).alone ≡ true → (n : ℕ) → index_count (S.known s.new) self.old.table.0 ≤ n → Spends n (S.left s.old) self.old.state (S.left s.new) self.new.state result }
         ensures one_call { S.one_call s.old s.new }
     {
         let state = mem::replace(&mut self.state, BatchState::Over);

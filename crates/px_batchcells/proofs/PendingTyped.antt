@@ -7,9 +7,9 @@ use Rattle.px_groupworld.specs.Group.{GroupData, GroupKept, table_form}
 use Rattle.px_groupworld.proofs.Entries.{rows_of_group}
 use Rattle.px_history.specs.Rows.{row_as, row_in}
 use Rattle.px_history.proofs.Changes.{all_listed}
-use Rattle.px_indexrow.specs.Form.{FitsState}
+use Rattle.px_indexrow.specs.Form.{FitsRowState}
 use Rattle.px_indexrow.proofs.StatesFit.{apply_fits}
-use Rattle.px_openbatches.specs.Pending.{HeldBatch, HeldKept, IsHeld, after_pending, applied_if, left_as, left_of}
+use Rattle.px_openbatches.specs.Pending.{HeldBatch, HeldKept, IsHeldBatch, after_pending, applied_if, change_left, left_as}
 use Rattle.px_rows.specs.Keys.{IsRightTable}
 use Rattle.px_rows.specs.Spelled.{FitsTable, row_form}
 use Rattle.px_tables.specs.declared.table.Table.{Table}
@@ -26,7 +26,7 @@ use Rattle.px_batchcells.proofs.RowsTyped.{spelled_typed}
 
 module _ (t : Table) (b : Base) (id : TableId) (index : ℕ → IndexForm) (es : List Entry) (v : GroupData) (k : GroupKept (table_form b id index (row_form t)) es v) where
   -- what an open batch does to a row
-  pub change_typed : (h : HeldBatch) → IsHeld es id.0 h → (r : List Value) (w : What) → change_of h.changes r ≡ Some w → FitsTable t r w
+  pub change_typed : (h : HeldBatch) → IsHeldBatch es id.0 h → (r : List Value) (w : What) → change_of h.changes r ≡ Some w → FitsTable t r w
   change_typed h is r w e =
       all_listed (λ d. FitsTable t r d.what) (record { stamp = h.stamp; what = w }) (begun id.0 r es) (k.told.fits r)
       (((rows_of_group (table_form b id index (row_form t)) es v k).tied r).listed h.stamp (record { what = w; written = has is.batch.written r; ended = is.batch.ended })
@@ -34,18 +34,18 @@ module _ (t : Table) (b : Base) (id : TableId) (index : ℕ → IndexForm) (es :
 
 module _ (t : Table) (right : IsRightTable t) (b : Base) (id : TableId) (index : ℕ → IndexForm) (es : List Entry) (v : GroupData) (k : GroupKept (table_form b id index (row_form t)) es v) where
   -- the state after what a batch is still to write
-  left_typed : (h : HeldBatch) → IsHeld es id.0 h → (r : List Value) (o : RowState) → FitsState t o → FitsState t (applied_if (table_shape t) r o (left_of h r))
+  left_typed : (h : HeldBatch) → IsHeldBatch es id.0 h → (r : List Value) (o : RowState) → FitsRowState t o → FitsRowState t (applied_if (table_shape t) r o (change_left h r))
   left_typed h is r o s = by (change_of h.changes r) refl (has h.written r)
     where
-      by : (c : Option What) → change_of h.changes r ≡ c → (x : Bool) → FitsState t (applied_if (table_shape t) r o (left_as c x))
+      by : (c : Option What) → change_of h.changes r ≡ c → (x : Bool) → FitsRowState t (applied_if (table_shape t) r o (left_as c x))
       by None e x = s
       by (Some w) e true = s
       by (Some w) e false = apply_fits t r o w right (change_typed t b id index es v k h is r w e) s
 
-  after_typed : (r : List Value) (hs : List HeldBatch) → AllByRecursion (IsHeld es id.0) hs → (o : RowState) → FitsState t o → FitsState t (after_pending (table_shape t) r o hs)
+  after_typed : (r : List Value) (hs : List HeldBatch) → AllByRecursion (IsHeldBatch es id.0) hs → (o : RowState) → FitsRowState t o → FitsRowState t (after_pending (table_shape t) r o hs)
   unfolding after_pending
   after_typed r [] a o s = s
-  after_typed r (h ∷ hs) a o s = after_typed r hs a.1 (applied_if (table_shape t) r o (left_of h r)) (left_typed h a.0 r o s)
+  after_typed r (h ∷ hs) a o s = after_typed r hs a.1 (applied_if (table_shape t) r o (change_left h r)) (left_typed h a.0 r o s)
 
   pub expected_typed : AreTyped t v.low (b.state id.0) → (hs : List HeldBatch) → HeldKept b es id.0 hs → AreTyped t v.low (λ r p. after_pending (table_shape t) r ((row_form t).spelled (value_at v.cells) r p) hs)
   expected_typed base hs held = record { each = λ r p l. after_typed r hs held.each ((row_form t).spelled (value_at v.cells) r p) ((spelled_typed t right b id index es v k base).each r p l) }

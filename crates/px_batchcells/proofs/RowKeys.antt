@@ -14,7 +14,7 @@ use Rattle.px_tablefolder.specs.Folder.{IsFolderBase, TableFiles}
 use Rattle.px_tables.specs.declared.table.Table.{Table}
 use Rattle.px_trail.specs.Batches.{change_of}
 use Rattle.px_trail.specs.Trail.{Base, table_shape}
-use Rattle.px_trail.specs.States.{Dated, applied, begun, begun_by, dated, is_written}
+use Rattle.px_trail.specs.States.{Dated, applied, begun, begun_by, dated, is_row_written}
 use Rattle.px_trail.proofs.Growth.{begun-snoc}
 use Rattle.px_trail.specs.declared.entry.Act.{Act}
 use Rattle.px_trail.specs.declared.entry.Act.TheVariants.{Begun}
@@ -44,7 +44,7 @@ applied_key t r p keep (d ∷ ds) o a b h = any_key t r a.0.0 b.0 (applied (tabl
 
 pub spelled_keys : (t : Table) (b : Base) (id : TableId) (index : ℕ → IndexForm) (es : List Entry) (v : GroupData) → GroupKept (table_form b id index (row_form t)) es v → HaveShortKeys t v.low (b.state id.0) → AreShort t id.0 es → HaveShortKeys t v.low ((row_form t).spelled (value_at v.cells))
 spelled_keys t b id index es v k base short = record {
-  each = λ r p l. subst (HasShortKey t r) (sym (k.told.spells r p l)) (applied_key t r p (λ d. is_written es id.0 r d.stamp) (begun id.0 r es) (b.state id.0 r p) (k.told.fits r) (short.each r) (base.each r p l));
+  each = λ r p l. subst (HasShortKey t r) (sym (k.told.spells r p l)) (applied_key t r p (λ d. is_row_written es id.0 r d.stamp) (begun id.0 r es) (b.state id.0 r p) (k.told.fits r) (short.each r) (base.each r p l));
 }
 
 pub opened_keys : (t : Table) (b : Base) (id : TableId) (n : TableFiles) → IsFolderBase b id.0 (row_form t) n → HaveShortKeys t n.horizon ((row_form t).spelled (value_at n.cells)) → (low : ℕ) → HaveShortKeys t low (b.state id.0)

@@ -16,7 +16,7 @@ use Rattle.px_forms.specs.Indexes.{IndexForm}
 use Rattle.px_groupworld.specs.Group.{table_form}
 use Rattle.px_openbatches.specs.Made.{IsPutOfRow}
 use Rattle.px_rows.specs.Keys.{row_key}
-use Rattle.px_rows.specs.Spelled.{cells_at, change_cells, row_form, table_form as row_table}
+use Rattle.px_rows.specs.Spelled.{change_cells, change_contents, row_form, row_spelling}
 use Rattle.px_tablereads.specs.Told.{StandsAt, WritesSome}
 use Rattle.px_tables.specs.declared.table.Table.{Table}
 use Rattle.px_trail.specs.Trail.{Base}
@@ -25,7 +25,7 @@ use Rattle.px_values.specs.declared.change.What.TheVariants.{Set, Gone}
 use Rattle.px_values.specs.declared.name.TableId.{TableId}
 use Rattle.px_values.specs.declared.row.Value.{Value}
 
-not_delete : (t : Table) (w : What) (q : ℕ) (v : List ℕ) (d : CellKind) → change_cells (row_table t) w q d ≡ Some v → d ≡ Delete → ⊥
+not_delete : (t : Table) (w : What) (q : ℕ) (v : List ℕ) (d : CellKind) → change_cells (row_spelling t) w q d ≡ Some v → d ≡ Delete → ⊥
 not_delete t (Set as') q v Delete e z = cc
 not_delete t Gone q v Delete e z = cc
 not_delete t w q v Put e z = cc
@@ -33,18 +33,18 @@ not_delete t w q v DeleteFamilyVersion e z = cc
 not_delete t w q v DeleteColumn e z = cc
 not_delete t w q v DeleteFamily e z = cc
 
-module _ (b : Base) (id : TableId) (index : ℕ → IndexForm) (t : Table) (r : List Value) (s : ℕ) (w : What) (cells : List CellData) (list : IsCellList cells) (own : AllByRecursion (λ x. x.key ≡ row_key t r) cells) (values : value_at cells ≡ cells_at (row_table t) r s w) where
+module _ (b : Base) (id : TableId) (index : ℕ → IndexForm) (t : Table) (r : List Value) (s : ℕ) (w : What) (cells : List CellData) (list : IsCellList cells) (own : AllByRecursion (λ x. x.key ≡ row_key t r) cells) (values : value_at cells ≡ change_contents (row_spelling t) r s w) where
   -- its cells are at the row's key, of kinds that may stand there
   pub puts_keys : AllByRecursion (IsPutOfRow (table_form b id index (row_form t)) r) cells
   puts_keys = has_all (IsPutOfRow (table_form b id index (row_form t)) r) cells (λ x h. record {
     key = all_has (λ x. x.key ≡ row_key t r) cells x own h;
     placed = all_has GoesWith cells x list.placed h;
     kind = λ e.
-        (let stands : cells_at (row_table t) r s w x.key x.qualifier x.stamp x.kind ≡ Some x.value = (λ i. sym values i x.key x.qualifier x.stamp x.kind) ∙ value_from_reads cells x.key x.qualifier x.stamp x.kind x.value (reads_from_has cells x list.ascending h) in
+        (let stands : change_contents (row_spelling t) r s w x.key x.qualifier x.stamp x.kind ≡ Some x.value = (λ i. sym values i x.key x.qualifier x.stamp x.kind) ∙ value_from_reads cells x.key x.qualifier x.stamp x.kind x.value (reads_from_has cells x list.ascending h) in
         at (pointwise nat_eq x.key (row_key t r) && nat_eq s x.stamp) x stands e);
   })
     where
-      at : (v : Bool) (x : CellData) → cond v (change_cells (row_table t) w x.qualifier x.kind) None ≡ Some x.value → x.kind ≡ Delete → ⊥
+      at : (v : Bool) (x : CellData) → cond v (change_cells (row_spelling t) w x.qualifier x.kind) None ≡ Some x.value → x.kind ≡ Delete → ⊥
       at true x z e = not_delete t w x.qualifier x.value x.kind z e
       at false x z e = cc
 
@@ -53,8 +53,8 @@ module _ (b : Base) (id : TableId) (index : ℕ → IndexForm) (t : Table) (r : 
   puts_values q u d = λ i. values i ((row_form t).key_of r) q u d
 
 -- the cell of a change at the row's key and the change's stamp
-own_cell : (t : Table) (r : List Value) (s : ℕ) (w : What) (q : ℕ) (d : CellKind) → cells_at (row_table t) r s w (row_key t r) q s d ≡ change_cells (row_table t) w q d
-own_cell t r s w q d = λ i. cond ((bytes_eq-Decides (row_key t r) (row_key t r)).1 refl i && eq-eqb s s refl i) (change_cells (row_table t) w q d) None
+own_cell : (t : Table) (r : List Value) (s : ℕ) (w : What) (q : ℕ) (d : CellKind) → change_contents (row_spelling t) r s w (row_key t r) q s d ≡ change_cells (row_spelling t) w q d
+own_cell t r s w q d = λ i. cond ((bytes_eq-Decides (row_key t r) (row_key t r)).1 refl i && eq-eqb s s refl i) (change_cells (row_spelling t) w q d) None
 
 -- a row that is set has its empty column, and one that is removed its DeleteFamily
 pub writes_some : (t : Table) → WritesSome (row_form t)

@@ -25,10 +25,10 @@ ghost use Rattle.px_indexrow.specs.Lists.{closes_of, fix_of, marks_of};
 ghost use Rattle.px_openbatches.specs.Made.{IsIndexRow, IsPutOfRow};
 ghost use Rattle.px_cells.specs.Contents.{Contents, value_at};
 ghost use Rattle.px_cells.specs.declared.kind.CellKind.{CellKind};
-ghost use Rattle.px_forms.specs.Rows.{IsClearFrom, IsCompactedAt, IsWritten};
-ghost use Rattle.px_openbatches.specs.Pending.{HeldBatch, HeldKept, IsHeld, after_pending};
+ghost use Rattle.px_forms.specs.Rows.{IsChangeWritten, IsClearFrom, IsCompactedAt};
+ghost use Rattle.px_openbatches.specs.Pending.{HeldBatch, HeldKept, IsHeldBatch, after_pending};
 ghost use Rattle.px_rows.specs.Keys.{IsRightTable, row_key};
-ghost use Rattle.px_rows.specs.Spelled.{FitsTable, cells_at, row_form, table_form as rows_form};
+ghost use Rattle.px_rows.specs.Spelled.{FitsTable, change_contents, row_form, row_spelling};
 ghost use Rattle.px_tablefolder.specs.Folder.{IsFolderBase, TableFiles};
 ghost use Rattle.px_tablereads.specs.Told.{WritesSome};
 ghost use Rattle.px_tables.specs.declared.table.Table.{Table};
@@ -51,8 +51,8 @@ pub fn law_rows_made()
 
 /// The cells of a row's change are such as an open batch keeps, and each change writes one.
 pub fn law_rows_put()
-    ensures keys { (b : Base) → (id : TableNumber) → (index : ℕ → IndexForm) → (t : Table) → (r : List ColumnValue) → (s : ℕ) → (w : What) → (cells : List CellData) → IsCellList cells → AllByRecursion (λ c. c.key ≡ row_key t r) cells → value_at cells ≡ cells_at (rows_form t) r s w → AllByRecursion (IsPutOfRow (table_form b id index (row_form t)) r) cells }
-    ensures puts { (b : Base) → (id : TableNumber) → (index : ℕ → IndexForm) → (t : Table) → (r : List ColumnValue) → (s : ℕ) → (w : What) → (cells : List CellData) → IsCellList cells → AllByRecursion (λ c. c.key ≡ row_key t r) cells → value_at cells ≡ cells_at (rows_form t) r s w → (q : ℕ) → (u : ℕ) → (d : CellKind) → value_at cells ((row_form t).key_of r) q u d ≡ (row_form t).cells_of r s w ((row_form t).key_of r) q u d }
+    ensures keys { (b : Base) → (id : TableNumber) → (index : ℕ → IndexForm) → (t : Table) → (r : List ColumnValue) → (s : ℕ) → (w : What) → (cells : List CellData) → IsCellList cells → AllByRecursion (λ c. c.key ≡ row_key t r) cells → value_at cells ≡ change_contents (row_spelling t) r s w → AllByRecursion (IsPutOfRow (table_form b id index (row_form t)) r) cells }
+    ensures puts { (b : Base) → (id : TableNumber) → (index : ℕ → IndexForm) → (t : Table) → (r : List ColumnValue) → (s : ℕ) → (w : What) → (cells : List CellData) → IsCellList cells → AllByRecursion (λ c. c.key ≡ row_key t r) cells → value_at cells ≡ change_contents (row_spelling t) r s w → (q : ℕ) → (u : ℕ) → (d : CellKind) → value_at cells ((row_form t).key_of r) q u d ≡ (row_form t).cells_of r s w ((row_form t).key_of r) q u d }
     ensures some { (t : Table) → WritesSome (row_form t) }
 {}
 
@@ -65,7 +65,7 @@ pub fn law_fixes<F: Formed>()
 /// states that a new batch counts on, and the changes of open batches are ones that the table lets in.
 pub fn law_typed()
     ensures spelled { (t : Table) → IsRightTable t → (b : Base) → (id : TableNumber) → (index : ℕ → IndexForm) → (es : List Entries) → (v : GroupData) → GroupKept (table_form b id index (row_form t)) es v → AreTyped t v.low (b.state id.0) → AreTyped t v.low ((row_form t).spelled (value_at v.cells)) }
-    ensures change { (t : Table) → (b : Base) → (id : TableNumber) → (index : ℕ → IndexForm) → (es : List Entries) → (v : GroupData) → GroupKept (table_form b id index (row_form t)) es v → (h : HeldBatch) → IsHeld es id.0 h → (r : List ColumnValue) → (w : What) → change_of h.changes r ≡ Some w → FitsTable t r w }
+    ensures change { (t : Table) → (b : Base) → (id : TableNumber) → (index : ℕ → IndexForm) → (es : List Entries) → (v : GroupData) → GroupKept (table_form b id index (row_form t)) es v → (h : HeldBatch) → IsHeldBatch es id.0 h → (r : List ColumnValue) → (w : What) → change_of h.changes r ≡ Some w → FitsTable t r w }
     ensures expected { (t : Table) → IsRightTable t → (b : Base) → (id : TableNumber) → (index : ℕ → IndexForm) → (es : List Entries) → (v : GroupData) → GroupKept (table_form b id index (row_form t)) es v → AreTyped t v.low (b.state id.0) → (hs : List HeldBatch) → HeldKept b es id.0 hs → AreTyped t v.low (λ r p. after_pending (table_shape t) r ((row_form t).spelled (value_at v.cells) r p) hs) }
 {}
 
@@ -73,7 +73,7 @@ pub fn law_typed()
 /// of a run that opens the folder has such states.
 pub fn law_stays_typed()
     ensures nothing { (t : Table) → (low : ℕ) → AreTyped t low ((row_form t).spelled (λ k q s d. None)) }
-    ensures written { (t : Table) → (low : ℕ) → (g : Contents) → (g' : Contents) → (r : List ColumnValue) → IsRightTable t → (s : ℕ) → (w : What) → low < s → FitsTable t r w → (row_form t).IsWhole low g r → IsClearFrom (row_form t) g r s → IsWritten (row_form t) g g' r s w → IsTypedFrom t low ((row_form t).spelled g r) → IsTypedFrom t low ((row_form t).spelled g' r) }
+    ensures written { (t : Table) → (low : ℕ) → (g : Contents) → (g' : Contents) → (r : List ColumnValue) → IsRightTable t → (s : ℕ) → (w : What) → low < s → FitsTable t r w → (row_form t).IsWhole low g r → IsClearFrom (row_form t) g r s → IsChangeWritten (row_form t) g g' r s w → IsTypedFrom t low ((row_form t).spelled g r) → IsTypedFrom t low ((row_form t).spelled g' r) }
     ensures compacted { (t : Table) → (low : ℕ) → (g : Contents) → (g' : Contents) → (r : List ColumnValue) → (h : ℕ) → low ≤ h → (row_form t).IsWhole low g r → IsCompactedAt g g' ((row_form t).key_of r) h → IsTypedFrom t low ((row_form t).spelled g r) → IsTypedFrom t h ((row_form t).spelled g' r) }
     ensures opened { (t : Table) → (b : Base) → (id : TableNumber) → (n : TableFiles) → IsFolderBase b id.0 (row_form t) n → AreTyped t n.horizon ((row_form t).spelled (value_at n.cells)) → (low : ℕ) → AreTyped t low (b.state id.0) }
 {}

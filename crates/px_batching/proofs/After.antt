@@ -7,7 +7,7 @@ use Rattle.px_cells.specs.CellData.{CellData}
 use Rattle.px_group.specs.declared.group.Begun.{Begun}
 use Rattle.px_group.specs.declared.group.Group.{Group}
 use Rattle.px_group.specs.declared.group.Phase.TheVariants.{Marking, Verifying}
-use Rattle.px_batching.specs.Steps.{HandsCloses, HandsMarks, HasClosed, HasCloses, HasMarked, HasMarks, IsAt, IsBatchStep}
+use Rattle.px_batching.specs.Steps.{HandsCloses, HandsMarks, HasClosed, HasCloses, HasMarkedIndexes, HasMarks, IsBatchStep, StandsInPhase}
 use Rattle.px_batching.proofs.Places.{same_at, set_here, within}
 use Rattle.px_batching.proofs.Ready.{item_at}
 
@@ -20,35 +20,35 @@ pub stands : (g g' : Group) (m : ℕ) (x x' : Begun) → IsBatchStep g g' m x x'
 stands g g' m x x' s = ap (λ (l : List Begun). slice_get l m) s.batches ∙ set_here g.batches.items m x x' s.batch
 
 -- before a step
-pub has_marks : (g : Group) (m : ℕ) → IsAt g m Marking → (z : Begun) → z ≡ get_or g.batches.items m z → (n : ℕ) → n ≡ length z.batch.marks → 0 < n → HasMarks g m
+pub has_marks : (g : Group) (m : ℕ) → StandsInPhase g m Marking → (z : Begun) → z ≡ get_or g.batches.items m z → (n : ℕ) → n ≡ length z.batch.marks → 0 < n → HasMarks g m
 has_marks g m h z e n is l = record { at = record { batch = z; is = at; phase_is = ap (λ (x : Begun). x.phase) (sym (same_at g.batches.items m h.batch z h.is at)) ∙ h.phase_is }; left = omega arith }
   where
     at : slice_get g.batches.items m ≡ Some z
     at = item_at g.batches.items m z (within g.batches.items m h.batch h.is) e
 
-pub has_marked : (g : Group) (m : ℕ) → IsAt g m Marking → (z : Begun) → z ≡ get_or g.batches.items m z → (n : ℕ) → n ≡ length z.batch.marks → n ≡ 0 → HasMarked g m
+pub has_marked : (g : Group) (m : ℕ) → StandsInPhase g m Marking → (z : Begun) → z ≡ get_or g.batches.items m z → (n : ℕ) → n ≡ length z.batch.marks → n ≡ 0 → HasMarkedIndexes g m
 has_marked g m h z e n is l = record { at = record { batch = z; is = at; phase_is = ap (λ (x : Begun). x.phase) (sym (same_at g.batches.items m h.batch z h.is at)) ∙ h.phase_is }; none = none_left z.batch.marks (omega arith) }
   where
     at : slice_get g.batches.items m ≡ Some z
     at = item_at g.batches.items m z (within g.batches.items m h.batch h.is) e
 
-pub has_closes : (g : Group) (m : ℕ) → IsAt g m Verifying → (z : Begun) → z ≡ get_or g.batches.items m z → (n : ℕ) → n ≡ length z.batch.closes → 0 < n → HasCloses g m
+pub has_closes : (g : Group) (m : ℕ) → StandsInPhase g m Verifying → (z : Begun) → z ≡ get_or g.batches.items m z → (n : ℕ) → n ≡ length z.batch.closes → 0 < n → HasCloses g m
 has_closes g m h z e n is l = record { at = record { batch = z; is = at; phase_is = ap (λ (x : Begun). x.phase) (sym (same_at g.batches.items m h.batch z h.is at)) ∙ h.phase_is }; left = omega arith }
   where
     at : slice_get g.batches.items m ≡ Some z
     at = item_at g.batches.items m z (within g.batches.items m h.batch h.is) e
 
-pub has_closed : (g : Group) (m : ℕ) → IsAt g m Verifying → (z : Begun) → z ≡ get_or g.batches.items m z → (n : ℕ) → n ≡ length z.batch.closes → n ≡ 0 → HasClosed g m
+pub has_closed : (g : Group) (m : ℕ) → StandsInPhase g m Verifying → (z : Begun) → z ≡ get_or g.batches.items m z → (n : ℕ) → n ≡ length z.batch.closes → n ≡ 0 → HasClosed g m
 has_closed g m h z e n is l = record { at = record { batch = z; is = at; phase_is = ap (λ (x : Begun). x.phase) (sym (same_at g.batches.items m h.batch z h.is at)) ∙ h.phase_is }; none = none_left z.batch.closes (omega arith) }
   where
     at : slice_get g.batches.items m ≡ Some z
     at = item_at g.batches.items m z (within g.batches.items m h.batch h.is) e
 
 -- after one
-pub still_marking : {D : Type 0} (d : Ghosts D) (g g' : Group) (disk disk' : D) (m : ℕ) → HandsMarks d g g' disk disk' m → IsAt g' m Marking
+pub still_marking : {D : Type 0} (d : Ghosts D) (g g' : Group) (disk disk' : D) (m : ℕ) → HandsMarks d g g' disk disk' m → StandsInPhase g' m Marking
 still_marking d g g' disk disk' m h = record { batch = record h.batch { batch = record h.batch.batch { marks = h.rest } }; is = stands g g' m h.batch (record h.batch { batch = record h.batch.batch { marks = h.rest } }) h.step.step; phase_is = h.marking }
 
-pub still_verifying : {D : Type 0} (d : Ghosts D) (g g' : Group) (disk disk' : D) (m : ℕ) → HandsCloses d g g' disk disk' m → IsAt g' m Verifying
+pub still_verifying : {D : Type 0} (d : Ghosts D) (g g' : Group) (disk disk' : D) (m : ℕ) → HandsCloses d g g' disk disk' m → StandsInPhase g' m Verifying
 still_verifying d g g' disk disk' m h = record { batch = record h.batch { batch = record h.batch.batch { closes = h.rest } }; is = stands g g' m h.batch (record h.batch { batch = record h.batch.batch { closes = h.rest } }) h.step.step; phase_is = h.verifying }
 
 -- a batch that is written to twice

@@ -7,10 +7,10 @@ use Rattle.px_cells.specs.Order.{ReadsSame}
 use Rattle.px_merge.specs.Merged.{joined}
 use Rattle.px_merge.specs.Settle.{settle}
 use Rattle.px_merge.proofs.Settling.{settle_back, settle_is}
-use Rattle.px_wal.specs.Batches.{above, later_first}
+use Rattle.px_wal.specs.Batches.{batches_above, later_first}
 use Rattle.px_wal.specs.Files.{HasFile}
-use Rattle.px_wal.specs.Manifest.{names}
-use Rattle.px_region.specs.Region.{Holds, RegionData, read_of, with_batch}
+use Rattle.px_wal.specs.Manifest.{named_snapshot}
+use Rattle.px_region.specs.Region.{RegionData, RegionHolds, read_of, with_batch}
 use Rattle.px_region.specs.declared.region.Region.{Region}
 use Rattle.px_region.proofs.Holding.{stands_now, store_is_all}
 use Rattle.px_group.specs.Writing.{HasWritten, WritesTo}
@@ -32,11 +32,11 @@ module _ {D : Type 0} (d : Ghosts D) (region : Region) (disk : D) (up_to_now : (
 
 module _ {D : Type 0} (d : Ghosts D) (region : Region) (disk : D) where
   -- a batch without a cell changes nothing
-  pub same_data : (s : RegionData) → Holds d region disk s → with_batch s [] ≡ s
+  pub same_data : (s : RegionData) → RegionHolds d region disk s → with_batch s [] ≡ s
   same_data s holds = λ i. record { cells = q i; horizon = s.horizon }
     where
       older : List CellData
-      older = later_first (above (names region.manifest).flushed holds.batches) ++ joined holds.lists
+      older = later_first (batches_above (named_snapshot region.manifest).flushed holds.batches) ++ joined holds.lists
 
       is : s.cells ≡ settle older
       is = sym (store_is_all d region disk s holds) ∙ holds.store
@@ -46,7 +46,7 @@ module _ {D : Type 0} (d : Ghosts D) (region : Region) (disk : D) where
 
   pub written_none : (cells : List CellData) → cells ≡ [] → HasWritten d region region disk disk cells
   written_none cells e = subst (λ (l : List CellData). HasWritten d region region disk disk l) (sym e) record {
-    holds = λ s holds. subst (λ (w : RegionData). Holds d region disk w) (sym (same_data s holds)) holds;
+    holds = λ s holds. subst (λ (w : RegionData). RegionHolds d region disk w) (sym (same_data s holds)) holds;
     reads = λ c. (λ r. r, λ r. r);
   }
 
@@ -54,7 +54,7 @@ pub reads_settled : (batch old new : List CellData) → new ≡ settle (batch ++
 reads_settled batch old new e = subst (λ (l : List CellData). ReadsSame l (batch ++ old)) (sym e) (settle_is (batch ++ old)).same
 
 pub has_written : {D T E : Type 0} (d : Ghosts D) (old new : Region) (disk disk' : D) (cells : List CellData) (result : Result T E)
-    → ((s : RegionData) → Holds d old disk s → OnOk result (Holds d new disk' (with_batch s cells)))
+    → ((s : RegionData) → RegionHolds d old disk s → OnOk result (RegionHolds d new disk' (with_batch s cells)))
     → OnOk result (read_of new ≡ settle (cells ++ read_of old))
     → OnOk result (HasWritten d old new disk disk' cells)
 has_written d old new disk disk' cells (Ok x) holds read = record { holds = holds; reads = reads_settled cells (read_of old) (read_of new) read }

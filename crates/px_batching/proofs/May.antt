@@ -12,13 +12,13 @@ use Rattle.px_values.specs.declared.change.Change.{Change}
 use Rattle.px_values.specs.declared.change.What.{What}
 use Rattle.px_values.specs.declared.row.Value.{Value}
 use Rattle.px_trail.specs.declared.entry.Entry.{Entry}
-use Rattle.px_trail.specs.Batches.{Batch, IsIn, IsPending, IsSoundBatch, IsSoundOption, batch_of, change_of, has, rows_of, unwritten}
+use Rattle.px_trail.specs.Batches.{Batch, IsBatchIn, IsPending, IsSoundBatch, IsSoundOption, batch_of, change_of, has, rows_of, unwritten}
 use Rattle.px_trail.specs.Legal.{IsLegal, IsWritable}
 use Rattle.px_trail.specs.Trail.{Base}
 use Rattle.px_trail.proofs.Batches.{batch-sound}
 use Rattle.px_trail.proofs.Orders.{filter-has, has-change, has-filter}
 use Rattle.px_history.proofs.Changes.{change-has}
-use Rattle.px_openbatches.specs.Pending.{HeldBatch, IsHeld, is_in}
+use Rattle.px_openbatches.specs.Pending.{HeldBatch, IsHeldBatch, is_in}
 use Rattle.px_openbatches.proofs.Helds.{same_batch}
 use Rattle.px_phases.specs.Batch.{IsHeldAs, left_in}
 use Rattle.px_tablesteps.specs.Kept.{no_held}
@@ -27,7 +27,7 @@ use Rattle.px_group.specs.declared.group.Begun.{Begun}
 use Rattle.px_group.specs.declared.group.Group.{Group}
 use Rattle.px_group.specs.declared.group.Phase.{Phase}
 use Rattle.px_group.specs.declared.group.Phase.TheVariants.{Writing}
-use Rattle.px_batching.specs.Steps.{HandsCloses, HandsMarks, IsAt, IsBlocked, IsFree, IsSeat, WaitsFor, blocks}
+use Rattle.px_batching.specs.Steps.{HandsCloses, HandsMarks, IsBlocked, IsOfSeat, IsUnblocked, StandsInPhase, WaitsFor, blocks}
 use Rattle.px_batching.proofs.Pairs.{AreTied, IsTied, each_at, tied_at, to_tied}
 use Rattle.px_batching.proofs.Places.{all_at, same_at}
 use Rattle.px_batching.proofs.Ready.{stage_puts}
@@ -80,7 +80,7 @@ abbrev if_some : Bool → Option What → Option What
 if_some v o = if v then o else None
 
 -- what is left of a batch, and of the one that the trail tells
-module _ (es : List Entry) (t : ℕ) (w : Begun) (h : HeldBatch) (like : IsHeldAs w.batch h) (q : IsHeld es t h) where
+module _ (es : List Entry) (t : ℕ) (w : Begun) (h : HeldBatch) (like : IsHeldAs w.batch h) (q : IsHeldBatch es t h) where
   -- a row that isn't written yet is left
   left_of_told : (z : Batch) → batch_of t h.stamp es ≡ Some z → (r : List Value) → has (unwritten z) r ≡ true → is_some (left_in w.batch r) ≡ true
   left_of_told z is r u =
@@ -125,13 +125,13 @@ module _ (b : Base) (es : List Entry) (g : Group) (hs : List HeldBatch) (k : IsT
   pub stamp_is : (y : Begun) → slice_get g.batches.items m ≡ Some y → h.stamp ≡ y.batch.stamp
   stamp_is y at = (tied_at es t g.batches.items hs ties m y at).1.0.stamp
 
-  pub in_phase : (p : Phase) (a : IsAt g m p) (seat : ℕ) → IsSeat es t a.batch.batch.stamp seat → IsIn es seat t a.batch.batch.stamp (as_phase p)
+  pub in_phase : (p : Phase) (a : StandsInPhase g m p) (seat : ℕ) → IsOfSeat es t a.batch.batch.stamp seat → IsBatchIn es seat t a.batch.batch.stamp (as_phase p)
   in_phase p a seat mine =
       (let w = tied_at es t g.batches.items hs ties m a.batch a.is in
       let is : batch_of t a.batch.batch.stamp es ≡ Some w.1.1.batch = ap (λ (n : ℕ). batch_of t n es) (sym w.1.0.stamp) ∙ w.1.1.is in
       record { batch = w.1.1.batch; is = is; mine = mine w.1.1.batch is; phase = w.1.1.phase ∙ ap as_phase a.phase_is })
 
-  module _ (r : IsRightGroup g) (a : IsAt g m Writing) where
+  module _ (r : IsRightGroup g) (a : StandsInPhase g m Writing) where
     abbrev x : Begun
     x = a.batch
 
@@ -141,8 +141,8 @@ module _ (b : Base) (es : List Entry) (g : Group) (hs : List HeldBatch) (k : IsT
     abbrev own : Batch
     own = tie.1.1.batch
 
-    abbrev known : IsHeld es t h
-    known = each_at (IsHeld es t) hs m tie.0 k.held.each
+    abbrev known : IsHeldBatch es t h
+    known = each_at (IsHeldBatch es t) hs m tie.0 k.held.each
 
     own_is : batch_of t x.batch.stamp es ≡ Some own
     own_is = ap (λ (n : ℕ). batch_of t n es) (sym tie.1.0.stamp) ∙ tie.1.1.is
@@ -154,7 +154,7 @@ module _ (b : Base) (es : List Entry) (g : Group) (hs : List HeldBatch) (k : IsT
         some_left true e w = ap is_some w.1
         some_left false e w = absurd (false≢true e)
 
-    pub writable : IsLegal b es → IsFree g m → (seat : ℕ) → IsSeat es t x.batch.stamp seat → IsWritable es seat t x.batch.stamp (rows_of x.batch.changes)
+    pub writable : IsLegal b es → IsUnblocked g m → (seat : ℕ) → IsOfSeat es t x.batch.stamp seat → IsWritable es seat t x.batch.stamp (rows_of x.batch.changes)
     unfolding has
     writable legal free seat mine = record {
       batch = own;
@@ -174,7 +174,7 @@ module _ (b : Base) (es : List Entry) (g : Group) (hs : List HeldBatch) (k : IsT
         none q c p false e =
             (let f = found es t p.stamp g.batches.items hs ties (k.held.all p.stamp p.batch p.is e) in
             let w = tied_at es t g.batches.items hs ties f.0 f.1.0 f.1.1.0 in
-            let wh = each_at (IsHeld es t) hs f.0 w.0 k.held.each in
+            let wh = each_at (IsHeldBatch es t) hs f.0 w.0 k.held.each in
             let l = left_of_told es t f.1.0 (get_or hs f.0 no_held) w.1.0 wh p.batch (ap (λ (n : ℕ). batch_of t n es) f.1.1.1 ∙ p.is) q p.left in
             let earlier : f.1.0.batch.stamp < x.batch.stamp = (let s = w.1.0.stamp in let u = f.1.1.1 in let o = p.smaller in omega arith) in
             let test : nat_lt f.1.0.batch.stamp x.batch.stamp ≡ true = grind (arith, nat_tests) in
@@ -190,7 +190,7 @@ module _ (b : Base) (es : List Entry) (g : Group) (hs : List HeldBatch) (k : IsT
         let parts = and_parts (nat_lt o.earlier.batch.stamp x.batch.stamp) (list_any (λ (c : Change). is_some (left_in o.earlier.batch c.row)) x.batch.changes) yes in
         let row = some_row (λ (y : List Value). is_some (left_in o.earlier.batch y)) x.batch.changes parts.1 in
         let w = tied_at es t g.batches.items hs ties o.place o.earlier o.earlier_is in
-        let wh = each_at (IsHeld es t) hs o.place w.0 k.held.each in
+        let wh = each_at (IsHeldBatch es t) hs o.place w.0 k.held.each in
         let test = parts.0 in
         let stamp = o.stamp in
         record {

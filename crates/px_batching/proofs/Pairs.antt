@@ -4,7 +4,7 @@ use Rattle.std.specs.Prelude.{nat_eq}
 use Rattle.std.specs.List.{AllByRecursion}
 use Rattle.std.proofs.lemmas.Bool.{ne_eqb, eq-eqb}
 use Rattle.px_trail.specs.declared.entry.Entry.{Entry}
-use Rattle.px_openbatches.specs.Pending.{HeldBatch, IsRisingFrom, held_ended, is_in}
+use Rattle.px_openbatches.specs.Pending.{AreStampsRisingFrom, HeldBatch, held_ended, is_in}
 use Rattle.px_phases.specs.Batch.{AreHeldAs, IsHeldAs}
 use Rattle.px_tablesteps.specs.Kept.{no_held}
 use Rattle.px_group.specs.Group.{AreInPhase, IsInPhase, batch_in}
@@ -62,11 +62,11 @@ IsAlone s m [] = Unit {0}
 IsAlone s zero (h ∷ hs) = AllByRecursion (λ k. s ≡ k.stamp → ⊥) hs
 IsAlone s (suc m) (h ∷ hs) = (s ≡ h.stamp → ⊥) × IsAlone s m hs
 
-above : (q : ℕ) (hs : List HeldBatch) → IsRisingFrom q hs → (p : ℕ) → p ≤ q → AllByRecursion (λ (k : HeldBatch). p < k.stamp) hs
+above : (q : ℕ) (hs : List HeldBatch) → AreStampsRisingFrom q hs → (p : ℕ) → p ≤ q → AllByRecursion (λ (k : HeldBatch). p < k.stamp) hs
 above q [] r p l = tt
 above q (h ∷ hs) r p l = ((let m = r.0 in omega arith), above h.stamp hs r.1 p (let m = r.0 in omega arith))
 
-above_at : (q : ℕ) (hs : List HeldBatch) → IsRisingFrom q hs → (m : ℕ) → m < length hs → q < (get_or hs m no_held).stamp
+above_at : (q : ℕ) (hs : List HeldBatch) → AreStampsRisingFrom q hs → (m : ℕ) → m < length hs → q < (get_or hs m no_held).stamp
 above_at q [] r m l = absurd (omega arith)
 above_at q (h ∷ hs) r zero l = r.0
 above_at q (h ∷ hs) r (suc m) l = (let z = above_at h.stamp hs r.1 m (omega arith) in let o = r.0 in omega arith)
@@ -75,7 +75,7 @@ differ : (s : ℕ) (hs : List HeldBatch) → AllByRecursion (λ (k : HeldBatch).
 differ s [] a = tt
 differ s (h ∷ hs) a = ((λ e. (let l = a.0 in omega arith)), differ s hs a.1)
 
-pub alone : (q : ℕ) (hs : List HeldBatch) → IsRisingFrom q hs → (m : ℕ) → m < length hs → IsAlone (get_or hs m no_held).stamp m hs
+pub alone : (q : ℕ) (hs : List HeldBatch) → AreStampsRisingFrom q hs → (m : ℕ) → m < length hs → IsAlone (get_or hs m no_held).stamp m hs
 alone q [] r m l = tt
 alone q (h ∷ hs) r zero l = differ h.stamp hs (above h.stamp hs r.1 h.stamp (omega arith))
 alone q (h ∷ hs) r (suc m) l = ((λ e. (let z = above_at h.stamp hs r.1 m (omega arith) in omega arith)), alone h.stamp hs r.1 m (omega arith))
@@ -124,11 +124,11 @@ module _ (es es' : List Entry) (t s : ℕ) (others : (x : Begun) (h : HeldBatch)
 
 -- 4. A known batch that has gone on keeps its stamp
 
-pub rising_set : (q : ℕ) (hs : List HeldBatch) (m : ℕ) (h : HeldBatch) → h.stamp ≡ (get_or hs m no_held).stamp → IsRisingFrom q hs → IsRisingFrom q (set hs m h)
+pub rising_set : (q : ℕ) (hs : List HeldBatch) (m : ℕ) (h : HeldBatch) → h.stamp ≡ (get_or hs m no_held).stamp → AreStampsRisingFrom q hs → AreStampsRisingFrom q (set hs m h)
 rising_set q [] m h e r = tt
 rising_set q (k ∷ hs) zero h e r = ((let l = r.0 in omega arith), lower hs r.1)
   where
-    lower : (ks : List HeldBatch) → IsRisingFrom k.stamp ks → IsRisingFrom h.stamp ks
+    lower : (ks : List HeldBatch) → AreStampsRisingFrom k.stamp ks → AreStampsRisingFrom h.stamp ks
     lower [] w = tt
     lower (z ∷ ks) w = ((let l = w.0 in omega arith), w.1)
 rising_set q (k ∷ hs) (suc m) h e r = (r.0, rising_set k.stamp hs m h e r.1)

@@ -7,7 +7,7 @@ use Rattle.px_cells.specs.CellData.{CellData}
 use Rattle.px_keptcells.specs.Kept.{laid}
 use Rattle.px_trail.specs.Batches.{rows_of}
 use Rattle.px_phases.specs.Batch.{BatchData}
-use Rattle.px_group.specs.Group.{IsRightBatch, IsRightGroup, IsStage}
+use Rattle.px_group.specs.Group.{FitsPhase, IsRightBatch, IsRightGroup}
 use Rattle.px_group.specs.Room.{byte_count, bytes_at, bytes_of_rows, cells_at, cells_of_rows, closes_for, marks_for, IsLight}
 use Rattle.px_group.specs.declared.group.Begun.{Begun}
 use Rattle.px_group.specs.declared.group.Group.{Group}
@@ -15,7 +15,7 @@ use Rattle.px_group.specs.declared.group.IndexRegion.{IndexRegion}
 use Rattle.px_group.specs.declared.group.Phase.{Phase}
 use Rattle.px_group.specs.declared.group.Phase.TheVariants.{Marking, Writing, Verifying, Closing}
 use Rattle.px_region.specs.declared.region.Region.{Region}
-use Rattle.px_batching.specs.Steps.{HasCloses, HasMarks, IsAt, UsesRoom}
+use Rattle.px_batching.specs.Steps.{HasCloses, HasMarks, StandsInPhase, UsesRoom}
 use Rattle.px_batching.proofs.Places.{all_at, same_at, within}
 use Rattle.px_batching.proofs.Right.{kept_here}
 
@@ -149,7 +149,7 @@ pub record IsNextPuts (g : Group) (m : ℕ) (z : Begun) : Type 0 where
   pub room : length (laid parts) ≤ g.rows.promised
   pub room_bytes : byte_count (laid parts) ≤ g.rows.promised_bytes
 
-pub stage_puts : (p : Phase) (n : ℕ) (o : BatchData) → p ≡ Writing → IsStage p n o → is_some o.puts ≡ true
+pub stage_puts : (p : Phase) (n : ℕ) (o : BatchData) → p ≡ Writing → FitsPhase p n o → is_some o.puts ≡ true
 stage_puts Marking n o e s = cc
 stage_puts Writing n o e s = s.0
 stage_puts Verifying n o e s = cc
@@ -163,7 +163,7 @@ abbrev puts_in : Option (List (List CellData)) → List (List CellData)
 puts_in None = []
 puts_in (Some parts) = parts
 
-pub ready_puts : (g : Group) (m : ℕ) → IsRightGroup g → (h : IsAt g m Writing) (z : Begun) → z ≡ get_or g.batches.items m z → IsNextPuts g m z
+pub ready_puts : (g : Group) (m : ℕ) → IsRightGroup g → (h : StandsInPhase g m Writing) (z : Begun) → z ≡ get_or g.batches.items m z → IsNextPuts g m z
 ready_puts g m r h z e =
     let at : slice_get g.batches.items m ≡ Some z = item_at g.batches.items m z (within g.batches.items m h.batch h.is) e in
     let same : h.batch ≡ z = same_at g.batches.items m h.batch z h.is at in

@@ -15,7 +15,7 @@ use Rattle.px_phases.specs.Batch.{AllFit, BatchData}
 use Rattle.px_rows.specs.Keys.{IsRightTable}
 use Rattle.px_cellshapes.specs.Keys.{AreRightKeys}
 use Rattle.px_cellshapes.specs.Rows.{AreRightRows}
-use Rattle.px_group.specs.Group.{AreRightParts, IsRightBatch, IsRightGroup, IsRightPart, IsShaped, IsStage, region_of}
+use Rattle.px_group.specs.Group.{AreRightParts, FitsPhase, IsRightBatch, IsRightGroup, IsRightPart, IsShaped, region_of}
 use Rattle.px_group.specs.Room.{byte_count, closes_for, kept_for, marks_for, puts_for}
 use Rattle.px_group.specs.declared.group.Begun.{Begun}
 use Rattle.px_group.specs.declared.group.Group.{Group}
@@ -129,31 +129,31 @@ right_quiet g g' m x x' s b c now r = record {
 
 -- 3. What is kept in each phase
 
-stage_marks : (p : Phase) (n : ℕ) (b : BatchData) (rest : List (List (List CellData))) → p ≡ Marking → IsStage p n b → IsStage p n (record b { marks = rest })
+stage_marks : (p : Phase) (n : ℕ) (b : BatchData) (rest : List (List (List CellData))) → p ≡ Marking → FitsPhase p n b → FitsPhase p n (record b { marks = rest })
 stage_marks Marking n b rest e s = s
 stage_marks Writing n b rest e s = cc
 stage_marks Verifying n b rest e s = cc
 stage_marks Closing n b rest e s = cc
 
-stage_closes : (p : Phase) (n : ℕ) (b : BatchData) (rest : List (List (List CellData))) → p ≡ Verifying → IsStage p n b → IsStage p n (record b { closes = rest })
+stage_closes : (p : Phase) (n : ℕ) (b : BatchData) (rest : List (List (List CellData))) → p ≡ Verifying → FitsPhase p n b → FitsPhase p n (record b { closes = rest })
 stage_closes Marking n b rest e s = cc
 stage_closes Writing n b rest e s = cc
 stage_closes Verifying n b rest e s = s
 stage_closes Closing n b rest e s = cc
 
-stage_written : (p : Phase) (n : ℕ) (b : BatchData) → p ≡ Writing → IsStage p n b → IsStage Verifying n (record b { puts = None })
+stage_written : (p : Phase) (n : ℕ) (b : BatchData) → p ≡ Writing → FitsPhase p n b → FitsPhase Verifying n (record b { puts = None })
 stage_written Marking n b e s = cc
 stage_written Writing n b e s = (refl, s.2)
 stage_written Verifying n b e s = cc
 stage_written Closing n b e s = cc
 
-stage_marked : (p : Phase) (n : ℕ) (b : BatchData) → p ≡ Marking → b.marks ≡ [] → IsStage p n b → IsStage Writing n b
+stage_marked : (p : Phase) (n : ℕ) (b : BatchData) → p ≡ Marking → b.marks ≡ [] → FitsPhase p n b → FitsPhase Writing n b
 stage_marked Marking n b e none s = (s.0, s.1, none)
 stage_marked Writing n b e none s = cc
 stage_marked Verifying n b e none s = cc
 stage_marked Closing n b e none s = cc
 
-stage_verified : (p : Phase) (n : ℕ) (b : BatchData) → p ≡ Verifying → b.closes ≡ [] → IsStage p n b → IsStage Closing n b
+stage_verified : (p : Phase) (n : ℕ) (b : BatchData) → p ≡ Verifying → b.closes ≡ [] → FitsPhase p n b → FitsPhase Closing n b
 stage_verified Marking n b e none s = cc
 stage_verified Writing n b e none s = cc
 stage_verified Verifying n b e none s = (s.0, s.1, none)

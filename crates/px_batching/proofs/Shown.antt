@@ -14,7 +14,7 @@ use Rattle.px_values.specs.declared.row.Value.{Value}
 use Rattle.px_values.specs.declared.change.Change.{Change}
 use Rattle.px_trail.specs.declared.entry.Act.TheVariants.{Ended, Phase as PhaseDone, Wrote}
 use Rattle.px_trail.specs.declared.entry.Entry.{Entry}
-use Rattle.px_trail.specs.Batches.{Batch, IsConcurrent, IsIn, batch_of, change_of, has, rows_of}
+use Rattle.px_trail.specs.Batches.{Batch, IsBatchIn, IsConcurrent, batch_of, change_of, has, rows_of}
 use Rattle.px_trail.specs.Batches as trail
 use Rattle.px_trail.specs.Legal.{MayCome}
 use Rattle.px_trail.specs.Trail.{Base}
@@ -26,21 +26,21 @@ use Rattle.px_indexrow.specs.Form.{index_form}
 use Rattle.px_indexed.specs.Worlds.{change_event, row_event}
 use Rattle.px_rows.specs.Spelled.{row_form}
 use Rattle.px_forms.specs.Several.{cells_for}
-use Rattle.px_openbatches.specs.Made.{RowCells, cells_at}
+use Rattle.px_openbatches.specs.Made.{RowCells, picked_cells}
 use Rattle.px_groupworld.specs.Group.{GroupData, IndexPart, TableForm, no_part, shape_in, table_form, world_in}
-use Rattle.px_groupworld.specs.Steps.{at_index, cells_data, ended_data, gone_on, nothing, with_cells, wrote_data}
+use Rattle.px_groupworld.specs.Steps.{at_index, cells_data, ended_data, gone_on, no_events, with_cells, wrote_data}
 use Rattle.px_openbatches.specs.Pending.{HeldBatch, held_ended, held_wrote, to_verify}
 use Rattle.px_phases.specs.Batch.{BatchData, IsHeldAs}
 use Rattle.px_phases.proofs.Held.{closes_handed, marks_handed, puts_handed}
 use Rattle.px_tablesteps.specs.Kept.{TableKept, TableSteps, no_held, open_of}
 use Rattle.px_tablesteps.proofs.Steps.{receipt_closed, table_ended, table_mark, table_marked, table_verified, table_verify, table_wrote}
-use Rattle.px_group.specs.Group.{IsInPhase, IsPartOf, IsRightBatch, IsRightGroup, IsShownBy, IsStage, IsTallied, as_phase, form_of}
+use Rattle.px_group.specs.Group.{FitsPhase, IsInPhase, IsPartOf, IsRightBatch, IsRightGroup, IsShownBy, IsTallied, as_phase, form_of}
 use Rattle.px_group.specs.declared.group.Begun.{Begun}
 use Rattle.px_group.specs.declared.group.Group.{Group}
 use Rattle.px_group.specs.declared.group.IndexRegion.{IndexRegion}
 use Rattle.px_group.specs.declared.group.Phase.{Phase}
 use Rattle.px_group.specs.declared.group.Phase.TheVariants.{Closing, Marking, Verifying, Writing}
-use Rattle.px_batching.specs.Steps.{FinishesCloses, FinishesMarks, IsAt, IsIndexStep, LetsGo, WroteCloses, WroteMarks, WrotePuts}
+use Rattle.px_batching.specs.Steps.{FinishesCloses, FinishesMarks, IsIndexStep, LetsGo, StandsInPhase, WroteCloses, WroteMarks, WrotePuts}
 use Rattle.px_batching.proofs.Pairs.{tied_at, to_tied}
 use Rattle.px_batching.proofs.Places.{all_at, set_cases, within}
 
@@ -71,7 +71,7 @@ forms_on : (index : ℕ → IndexForm) (g g' : Group) → g'.table ≡ g.table �
     → ((k : ℕ) (z : IndexRegion) → slice_get g.indexes.items k ≡ Some z → index z.index.id.0 ≡ index_form g.table z.index) → (k : ℕ) (z : IndexRegion) → slice_get g'.indexes.items k ≡ Some z → index z.index.id.0 ≡ index_form g'.table z.index
 forms_on index g g' t back forms k z at = (let w = back k z at in subst (λ (u : Table). index z.index.id.0 ≡ index_form u z.index) (sym t) (subst (λ (q : Index). index q.id.0 ≡ index_form g.table q) w.1.1 (forms k w.0 w.1.0)))
 
-stage_closed : (p : Phase) (n : ℕ) (o : BatchData) → p ≡ Closing → IsStage p n o → o.closes ≡ []
+stage_closed : (p : Phase) (n : ℕ) (o : BatchData) → p ≡ Closing → FitsPhase p n o → o.closes ≡ []
 stage_closed Marking n o e s = cc
 stage_closed Writing n o e s = cc
 stage_closed Verifying n o e s = cc
@@ -110,7 +110,7 @@ module _ (b : Base) (index : ℕ → IndexForm) (es : List Entry) (g g' : Group)
         let o = w.hands in
         let p = place_of o.batch o.step.step.batch in
         let phase = p.1.1 in
-        let in_phase : IsIn es phase.batch.seat t h.stamp trail.Marking = record { batch = phase.batch; is = phase.is; mine = refl; phase = phase.phase ∙ ap as_phase o.marking } in
+        let in_phase : IsBatchIn es phase.batch.seat t h.stamp trail.Marking = record { batch = phase.batch; is = phase.is; mine = refl; phase = phase.phase ∙ ap as_phase o.marking } in
         let l = ap (λ (q : List (List (List CellData))). length q) o.kept in
         let to_mark = p.1.0.to_mark in
         let count = phase.count in
@@ -144,7 +144,7 @@ module _ (b : Base) (index : ℕ → IndexForm) (es : List Entry) (g g' : Group)
         let o = w.hands in
         let p = place_of o.batch o.step.step.batch in
         let phase = p.1.1 in
-        let in_phase : IsIn es phase.batch.seat t h.stamp trail.Verifying = record { batch = phase.batch; is = phase.is; mine = refl; phase = phase.phase ∙ ap as_phase o.verifying } in
+        let in_phase : IsBatchIn es phase.batch.seat t h.stamp trail.Verifying = record { batch = phase.batch; is = phase.is; mine = refl; phase = phase.phase ∙ ap as_phase o.verifying } in
         let l = ap (λ (q : List (List (List CellData))). length q) o.kept in
         let to_close = p.1.0.to_verify in
         let count = phase.count in
@@ -181,7 +181,7 @@ module _ (b : Base) (index : ℕ → IndexForm) (es : List Entry) (g g' : Group)
         let p = place_of o.batch o.step.step.batch in
         let rows = rows_of o.batch.batch.changes in
         table_wrote form es v hs shown.kept e may m p.0 rows act o.cells (read_of o.region)
-        (subst (λ (cs : List Change). ReadsSame o.cells (cells_for (cells_at (λ (q : RowCells). q.puts) h.cells) (rows_of cs))) p.1.0.changes (puts_handed o.batch.batch h p.1.0 o.parts o.kept o.cells o.handed))
+        (subst (λ (cs : List Change). ReadsSame o.cells (cells_for (picked_cells (λ (q : RowCells). q.puts) h.cells) (rows_of cs))) p.1.0.changes (puts_handed o.batch.batch h p.1.0 o.parts o.kept o.cells o.handed))
         (subst (λ (q : List CellData). ReadsSame (read_of o.region) (o.cells ++ q)) (sym shown.rows) w.written.reads)
 
     pub wrote_shown : (w : WrotePuts d g g' disk disk' m) (e : Entry) → MayCome b es e → e.act ≡ Wrote g.table.id h.stamp (rows_of w.hands.batch.batch.changes) → IsShownBy b index (es ++ e ∷ []) g' (wrote_data (read_of w.hands.region) v) (held_wrote h.stamp (rows_of w.hands.batch.batch.changes) hs)
@@ -206,7 +206,7 @@ module _ (b : Base) (index : ℕ → IndexForm) (es : List Entry) (g g' : Group)
     forms = forms_on index g g' tab (λ i z at. (z, (sym (ap (λ q. slice_get q.items i) indexes) ∙ at, refl))) shown.forms;
   }
 
-  pub marked_steps : FinishesMarks g g' m → (e : Entry) → MayCome b es e → e.act ≡ PhaseDone g.table.id h.stamp 1 → TableSteps form nothing es v (es ++ e ∷ []) v hs
+  pub marked_steps : FinishesMarks g g' m → (e : Entry) → MayCome b es e → e.act ≡ PhaseDone g.table.id h.stamp 1 → TableSteps form no_events es v (es ++ e ∷ []) v hs
   marked_steps o e may act =
       let p = place_of o.batch o.step.step.batch in
       let l = ap (λ (q : List (List (List CellData))). length q) o.none in
@@ -216,7 +216,7 @@ module _ (b : Base) (index : ℕ → IndexForm) (es : List Entry) (g g' : Group)
   pub marked_shown_on : FinishesMarks g g' m → (e : Entry) → MayCome b es e → e.act ≡ PhaseDone g.table.id h.stamp 1 → IsShownBy b index (es ++ e ∷ []) g' v hs
   marked_shown_on o e may act = quiet_shown (es ++ e ∷ []) v hs o.step.step.table o.step.rows o.step.indexes refl refl (marked_steps o e may act).kept
 
-  pub verified_steps : (e : Entry) → MayCome b es e → e.act ≡ PhaseDone g.table.id h.stamp 3 → TableSteps form nothing es v (es ++ e ∷ []) v hs
+  pub verified_steps : (e : Entry) → MayCome b es e → e.act ≡ PhaseDone g.table.id h.stamp 3 → TableSteps form no_events es v (es ++ e ∷ []) v hs
   verified_steps e may act = table_verified form es v hs shown.kept e may h.stamp act
 
   pub verified_shown_on : FinishesCloses g g' m → (e : Entry) → MayCome b es e → e.act ≡ PhaseDone g.table.id h.stamp 3 → IsShownBy b index (es ++ e ∷ []) g' v hs
@@ -235,7 +235,7 @@ module _ (b : Base) (index : ℕ → IndexForm) (es : List Entry) (g g' : Group)
 
   -- 5. The receipt: where all is verified, the marks of each row that isn't concurrent are closed
 
-  pub closed_at : (a : IsAt g m Closing) (i : ℕ) → i < a.batch.count → (q : List Value) → has (rows_of a.batch.batch.changes) q ≡ true → (IsConcurrent es t a.batch.batch.stamp q → ⊥) → Closed (shape_in form v i q) (world_in form es v i q) a.batch.batch.stamp
+  pub closed_at : (a : StandsInPhase g m Closing) (i : ℕ) → i < a.batch.count → (q : List Value) → has (rows_of a.batch.batch.changes) q ≡ true → (IsConcurrent es t a.batch.batch.stamp q → ⊥) → Closed (shape_in form v i q) (world_in form es v i q) a.batch.batch.stamp
   closed_at a i below q mine lone =
       let p = place_of a.batch a.is in
       let none = stage_closed a.batch.phase a.batch.count a.batch.batch a.phase_is (all_at (IsRightBatch g) g.batches.items m a.batch a.is r.batches).stage in

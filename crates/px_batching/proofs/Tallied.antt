@@ -18,11 +18,11 @@ use Rattle.px_trail.specs.Trail.{Base, Catalogue, catalogue_of, catalogue_step, 
 use Rattle.px_trail.proofs.Batches.{after-verifying, after-writing, in_marking, in_verifying, in_writing}
 use Rattle.px_trail.proofs.Growth.{catalogue-snoc, horizon-snoc, last-snoc, points-snoc}
 use Rattle.px_trail.proofs.Orders.{has-append}
-use Rattle.px_openbatches.specs.Pending.{HeldBatch, HeldKept, IsHeld, held_ended, held_wrote, writes_rows}
+use Rattle.px_openbatches.specs.Pending.{HeldBatch, HeldKept, IsHeldBatch, held_ended, held_wrote, writes_rows}
 use Rattle.px_phases.specs.Batch.{BatchData, IsHeldAs}
 use Rattle.px_phases.proofs.Held.{marked, other_wrote, verified, wrote}
 use Rattle.px_tablesteps.specs.Kept.{no_held}
-use Rattle.px_group.specs.Group.{AreInPhase, AreStanding, IsInPhase, IsRightBatch, IsRightGroup, IsStage, IsTallied, as_phase, points_in}
+use Rattle.px_group.specs.Group.{AreInPhase, AreStanding, FitsPhase, IsInPhase, IsRightBatch, IsRightGroup, IsTallied, as_phase, points_in}
 use Rattle.px_values.specs.Order.{row_order}
 use Rattle.px_values.proofs.Equal.{row_order-Decides}
 use Rattle.std.specs.Ordering.{is_eq}
@@ -118,13 +118,13 @@ module _ (b : Base) (es es' : List Entry) (g g' : Group) (hs hs' : List HeldBatc
 
 -- 3. Steps without an entry
 
-pub held_done : (es : List Entry) (t : ℕ) (h : HeldBatch) (d v : ℕ) → IsHeld es t h → IsHeld es t (record h { done = d; verified = v })
+pub held_done : (es : List Entry) (t : ℕ) (h : HeldBatch) (d v : ℕ) → IsHeldBatch es t h → IsHeldBatch es t (record h { done = d; verified = v })
 held_done es t h d v k = record { batch = k.batch; is = k.is; changes = k.changes; written = k.written; running = k.running; met_from = k.met_from; met_to = k.met_to; counted = k.counted }
 
 kept_done : (b : Base) (es : List Entry) (t : ℕ) (hs : List HeldBatch) (m d v : ℕ) → m < length hs → HeldKept b es t hs → HeldKept b es t (set hs m (record (get_or hs m no_held) { done = d; verified = v }))
 kept_done b es t hs m d v l k = record {
   rising = rising_set (b.last t) hs m (record (get_or hs m no_held) { done = d; verified = v }) refl k.rising;
-  each = all_set (IsHeld es t) hs m (record (get_or hs m no_held) { done = d; verified = v }) (held_done es t (get_or hs m no_held) d v (each_at (IsHeld es t) hs m l k.each)) k.each;
+  each = all_set (IsHeldBatch es t) hs m (record (get_or hs m no_held) { done = d; verified = v }) (held_done es t (get_or hs m no_held) d v (each_at (IsHeldBatch es t) hs m l k.each)) k.each;
   all = λ u y q n. in_set u hs m (record (get_or hs m no_held) { done = d; verified = v }) refl ∙ k.all u y q n;
 }
 
@@ -187,7 +187,7 @@ none_left (c ∷ cs) ws rows f =
     let z = none_left cs ws rows (λ r h. f r (or_right (is_eq (row_order c.row r)) (has (rows_of cs) r) h)) in
     ap (λ (v : Bool). cond (not v) (c.row ∷ filter (λ r. not (has (ws ++ rows) r)) (rows_of cs)) (filter (λ r. not (has (ws ++ rows) r)) (rows_of cs))) w ∙ z)
 
-stage_some : (p : Phase) (n : ℕ) (o : BatchData) → p ≡ Marking → IsStage p n o → is_some o.puts ≡ true
+stage_some : (p : Phase) (n : ℕ) (o : BatchData) → p ≡ Marking → FitsPhase p n o → is_some o.puts ≡ true
 stage_some Marking n o e s = s.0
 stage_some Writing n o e s = cc
 stage_some Verifying n o e s = cc
@@ -209,8 +209,8 @@ module _ (b : Base) (es : List Entry) (e : Entry) (g g' : Group) (hs : List Held
   abbrev only : IsAlone own.stamp m hs
   only = alone (b.last id) hs k.held.rising m pair.0
 
-  abbrev known : IsHeld es id own
-  known = each_at (IsHeld es id) hs m pair.0 k.held.each
+  abbrev known : IsHeldBatch es id own
+  known = each_at (IsHeldBatch es id) hs m pair.0 k.held.each
 
   same_told : told ≡ known.batch
   same_told = same_batch (sym pair.1.1.is ∙ known.is)

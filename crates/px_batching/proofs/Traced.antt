@@ -20,10 +20,10 @@ use Rattle.px_trail.proofs.Orders.{has-change}
 use Rattle.px_history.proofs.Changes.{change-has}
 use Rattle.px_indexed.specs.Idle.{IsElsewhere}
 use Rattle.px_indexed.proofs.Idle.{act_idle}
-use Rattle.px_openbatches.specs.Pending.{HeldBatch, IsHeld, IsRisingFrom, flagged}
+use Rattle.px_openbatches.specs.Pending.{AreStampsRisingFrom, HeldBatch, IsHeldBatch, flagged}
 use Rattle.px_openbatches.proofs.Helds.{concurrent_last, concurrent_more, held_on, left_within}
 use Rattle.px_openbatches.proofs.Meetings.{concurrent_met, met_concurrent}
-use Rattle.px_group.specs.Group.{AreOnce, AreTraced, IsRightBatch, IsRightGroup, IsTallied, IsTraced}
+use Rattle.px_group.specs.Group.{AreTraced, HaveOwnStamps, IsRightBatch, IsRightGroup, IsTallied, IsTraced}
 use Rattle.px_group.specs.declared.group.Begun.{Begun}
 use Rattle.px_group.specs.declared.group.Group.{Group}
 use Rattle.px_batching.specs.Receipts.{IsReceiptOf}
@@ -37,7 +37,7 @@ use Rattle.px_batching.proofs.Trails.{TakesOn, held_other, pending_before, takes
 
 -- 1. Of a table that the trail tells
 
-trace_all : (g : Group) (es : List Entry) (t : ℕ) (xs : List Begun) (hs : List HeldBatch) → AllByRecursion (IsRightBatch g) xs → AreTied es t xs hs → AllByRecursion (IsHeld es t) hs → AllByRecursion (IsTraced es t) xs
+trace_all : (g : Group) (es : List Entry) (t : ℕ) (xs : List Begun) (hs : List HeldBatch) → AllByRecursion (IsRightBatch g) xs → AreTied es t xs hs → AllByRecursion (IsHeldBatch es t) hs → AllByRecursion (IsTraced es t) xs
 trace_all g es t [] hs r a h = tt
 trace_all g es t (x ∷ xs) [] r a h = absurd a
 trace_all g es t (x ∷ xs) (k ∷ hs) r a h = (
@@ -55,12 +55,12 @@ trace_all g es t (x ∷ xs) (k ∷ hs) r a h = (
   trace_all g es t xs hs r.1 a.1 h.1,
 )
 
-stamps_above : (es : List Entry) (t q : ℕ) (xs : List Begun) (hs : List HeldBatch) → AreTied es t xs hs → IsRisingFrom q hs → (p : ℕ) → p ≤ q → AllByRecursion (λ (x : Begun). p ≢ x.batch.stamp) xs
+stamps_above : (es : List Entry) (t q : ℕ) (xs : List Begun) (hs : List HeldBatch) → AreTied es t xs hs → AreStampsRisingFrom q hs → (p : ℕ) → p ≤ q → AllByRecursion (λ (x : Begun). p ≢ x.batch.stamp) xs
 stamps_above es t q [] hs a r p l = tt
 stamps_above es t q (x ∷ xs) [] a r p l = absurd a
 stamps_above es t q (x ∷ xs) (h ∷ hs) a r p l = ((λ e. (let m = r.0 in let s = a.0.0.stamp in omega arith)), stamps_above es t h.stamp xs hs a.1 r.1 p (let m = r.0 in omega arith))
 
-once_all : (es : List Entry) (t q : ℕ) (xs : List Begun) (hs : List HeldBatch) → AreTied es t xs hs → IsRisingFrom q hs → AreOnce xs
+once_all : (es : List Entry) (t q : ℕ) (xs : List Begun) (hs : List HeldBatch) → AreTied es t xs hs → AreStampsRisingFrom q hs → HaveOwnStamps xs
 once_all es t q [] hs a r = tt
 once_all es t q (x ∷ xs) [] a r = absurd a
 once_all es t q (x ∷ xs) (h ∷ hs) a r = (stamps_above es t h.stamp xs hs a.1 r.1 x.batch.stamp (let s = a.0.0.stamp in omega arith), once_all es t h.stamp xs hs a.1 r.1)
@@ -98,7 +98,7 @@ trace_same es t x x' s r = record {
 differs_set : (s : ℕ) (xs : List Begun) (m : ℕ) (x x' : Begun) → slice_get xs m ≡ Some x → x'.batch.stamp ≡ x.batch.stamp → AllByRecursion (λ (y : Begun). s ≢ y.batch.stamp) xs → AllByRecursion (λ (y : Begun). s ≢ y.batch.stamp) (set xs m x')
 differs_set s xs m x x' at e a = all_set (λ (y : Begun). s ≢ y.batch.stamp) xs m x' (λ q. all_at (λ (y : Begun). s ≢ y.batch.stamp) xs m x at a (q ∙ e)) a
 
-once_set : (xs : List Begun) (m : ℕ) (x x' : Begun) → slice_get xs m ≡ Some x → x'.batch.stamp ≡ x.batch.stamp → AreOnce xs → AreOnce (set xs m x')
+once_set : (xs : List Begun) (m : ℕ) (x x' : Begun) → slice_get xs m ≡ Some x → x'.batch.stamp ≡ x.batch.stamp → HaveOwnStamps xs → HaveOwnStamps (set xs m x')
 once_set [] m x x' at e a = tt
 once_set (y ∷ xs) zero x x' at e a = ((let q : y ≡ x = cc in subst (λ (n : ℕ). AllByRecursion (λ (z : Begun). n ≢ z.batch.stamp) xs) (ap (λ (z : Begun). z.batch.stamp) q ∙ sym e) a.0), a.1)
 once_set (y ∷ xs) (suc m) x x' at e a = (differs_set y.batch.stamp xs m x x' at e a.0, once_set xs m x x' at e a.1)
@@ -108,7 +108,7 @@ traced_step es g g' m x x' s same r = record {
   each = subst (λ (t : Table). AllByRecursion (IsTraced es t.id.0) g'.batches.items) (sym s.table)
       (subst (λ (l : List Begun). AllByRecursion (IsTraced es g.table.id.0) l) (sym s.batches)
       (all_set (IsTraced es g.table.id.0) g.batches.items m x' (trace_same es g.table.id.0 x x' same (all_at (IsTraced es g.table.id.0) g.batches.items m x s.batch r.each)) r.each));
-  once = subst AreOnce (sym s.batches) (once_set g.batches.items m x x' s.batch same.stamp r.once);
+  once = subst HaveOwnStamps (sym s.batches) (once_set g.batches.items m x x' s.batch same.stamp r.once);
 }
 
 -- a batch is let go
@@ -119,7 +119,7 @@ module _ {A : Type 0} (P : A → Type 0) where
   all_remove (x ∷ xs) zero a = a.1
   all_remove (x ∷ xs) (suc m) a = (a.0, all_remove xs m a.1)
 
-once_remove : (xs : List Begun) (m : ℕ) → AreOnce xs → AreOnce (remove xs m)
+once_remove : (xs : List Begun) (m : ℕ) → HaveOwnStamps xs → HaveOwnStamps (remove xs m)
 once_remove [] zero a = tt
 once_remove [] (suc m) a = tt
 once_remove (x ∷ xs) zero a = a.1
@@ -129,12 +129,12 @@ pub traced_gone : (es : List Entry) (g g' : Group) (m : ℕ) (x : Begun) → Let
 traced_gone es g g' m x l r = record {
   each = subst (λ (t : Table). AllByRecursion (IsTraced es t.id.0) g'.batches.items) (sym l.table)
       (subst (λ (xs : List Begun). AllByRecursion (IsTraced es g.table.id.0) xs) (sym l.batches) (all_remove (IsTraced es g.table.id.0) g.batches.items m r.each));
-  once = subst AreOnce (sym l.batches) (once_remove g.batches.items m r.once);
+  once = subst HaveOwnStamps (sym l.batches) (once_remove g.batches.items m r.once);
 }
 
 -- 3. Entries
 
-with_held : (es es' : List Entry) (t : ℕ) (x : Begun) (r : IsTraced es t x) → IsHeld es' t r.held → IsTraced es' t x
+with_held : (es es' : List Entry) (t : ℕ) (x : Begun) (r : IsTraced es t x) → IsHeldBatch es' t r.held → IsTraced es' t x
 with_held es es' t x r k = record { held = r.held; is = k; stamp = r.stamp; changes = r.changes; distinct = r.distinct; flags = r.flags; met = r.met; receipt = r.receipt; few = r.few }
 
 -- an entry of others
@@ -162,7 +162,7 @@ module _ (es : List Entry) (e : Entry) (tid : TableId) (s : ℕ) (y : Batch) (k 
   trace_others [] n a = tt
   trace_others (x ∷ xs) n a = (trace_other x n.0 a.0, trace_others xs n.1 a.1)
 
-  trace_without : (xs : List Begun) (m : ℕ) (x : Begun) → slice_get xs m ≡ Some x → x.batch.stamp ≡ s → AreOnce xs → AllByRecursion (IsTraced es tid.0) xs → AllByRecursion (IsTraced (es ++ e ∷ []) tid.0) (remove xs m)
+  trace_without : (xs : List Begun) (m : ℕ) (x : Begun) → slice_get xs m ≡ Some x → x.batch.stamp ≡ s → HaveOwnStamps xs → AllByRecursion (IsTraced es tid.0) xs → AllByRecursion (IsTraced (es ++ e ∷ []) tid.0) (remove xs m)
   trace_without [] zero x at z o a = tt
   trace_without [] (suc m) x at z o a = tt
   trace_without (w ∷ xs) zero x at z o a = (let q : w ≡ x = cc in trace_others xs (subst (λ (n : ℕ). AllByRecursion (λ (v : Begun). n ≢ v.batch.stamp) xs) (ap (λ (v : Begun). v.batch.stamp) q ∙ z) o.0) a.1)
@@ -176,7 +176,7 @@ traced_ended es e g g' m x l a r =
     record {
       each = subst (λ (t : Table). AllByRecursion (IsTraced (es ++ e ∷ []) t.id.0) g'.batches.items) (sym l.table)
           (subst (λ (xs : List Begun). AllByRecursion (IsTraced (es ++ e ∷ []) g.table.id.0) xs) (sym l.batches) (trace_without es e g.table.id x.batch.stamp own.is.batch k g.batches.items m x l.batch refl r.once r.each));
-      once = subst AreOnce (sym l.batches) (once_remove g.batches.items m r.once);
+      once = subst HaveOwnStamps (sym l.batches) (once_remove g.batches.items m r.once);
     })
 
 -- 4. The receipt

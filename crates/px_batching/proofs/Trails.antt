@@ -14,7 +14,7 @@ use Rattle.px_trail.specs.Batches.{Batch, batch_of, batch_step, change_of, has}
 use Rattle.px_trail.specs.Trail.{Base}
 use Rattle.px_trail.proofs.Growth.{batch_of-snoc}
 use Rattle.px_trail.proofs.Orders.{has-append}
-use Rattle.px_openbatches.specs.Pending.{HeldBatch, HeldKept, IsHeld, IsPendingOn, IsRisingFrom, held_ended, held_wrote, is_in, is_left, left_as, writes_rows}
+use Rattle.px_openbatches.specs.Pending.{AreStampsRisingFrom, HeldBatch, HeldKept, IsHeldBatch, IsPendingOn, held_ended, held_wrote, is_in, is_left, left_as, writes_rows}
 use Rattle.px_openbatches.proofs.Helds.{held_on, same_batch}
 
 some_none : {A : Type 0} {x : A} → Some x ≡ None → ⊥
@@ -120,16 +120,16 @@ module _ (es : List Entry) (e : Entry) (t s : ℕ) (x y : Batch) (k : TakesOn es
     | inr z ↦ record { batch = p.batch; is = sym (k.there u z) ∙ p.is; what = p.what; left = p.left }
   ]
 
-  pub held_other : (h : HeldBatch) → (s ≡ h.stamp → ⊥) → IsHeld es t h → IsHeld (es ++ e ∷ []) t h
+  pub held_other : (h : HeldBatch) → (s ≡ h.stamp → ⊥) → IsHeldBatch es t h → IsHeldBatch (es ++ e ∷ []) t h
   held_other h n q = held_on es t h q e pending_before h.written (λ l. l) q.batch (k.there h.stamp n ∙ q.is) q.changes q.written q.running
 
-  pub held_here : (h : HeldBatch) → s ≡ h.stamp → IsHeld es t h → (written : List (List Value)) → (list_any (λ c. not (has written c.row)) h.changes ≡ true → is_left h ≡ true) → ((r : List Value) → has y.written r ≡ has written r) → y.ended ≡ false → IsHeld (es ++ e ∷ []) t (record h { written = written })
+  pub held_here : (h : HeldBatch) → s ≡ h.stamp → IsHeldBatch es t h → (written : List (List Value)) → (list_any (λ c. not (has written c.row)) h.changes ≡ true → is_left h ≡ true) → ((r : List Value) → has y.written r ≡ has written r) → y.ended ≡ false → IsHeldBatch (es ++ e ∷ []) t (record h { written = written })
   held_here h z q written fewer writes running =
       let same : x ≡ q.batch = same_batch (sym k.here ∙ (ap (λ (v : ℕ). batch_of t v es) z ∙ q.is)) in
       held_on es t h q e pending_before written fewer y (ap (λ (v : ℕ). batch_of t v (es ++ e ∷ [])) (sym z) ∙ k.now) (k.changes ∙ (ap (λ (w : Batch). w.changes) same ∙ q.changes)) writes running
 
   -- the batch of the stamp is the one that is held
-  pub held_same : (h : HeldBatch) → s ≡ h.stamp → (q : IsHeld es t h) → x ≡ q.batch
+  pub held_same : (h : HeldBatch) → s ≡ h.stamp → (q : IsHeldBatch es t h) → x ≡ q.batch
   held_same h z q = same_batch (sym k.here ∙ (ap (λ (v : ℕ). batch_of t v es) z ∙ q.is))
 
 -- 3. All of them
@@ -141,15 +141,15 @@ left_more (c ∷ cs) ws more h = elim (cases_Bool (has ws c.row)) [
   | inr e ↦ rw e refl
 ]
 
-pub rising_less : (q q' : ℕ) → q' ≤ q → (hs : List HeldBatch) → IsRisingFrom q hs → IsRisingFrom q' hs
+pub rising_less : (q q' : ℕ) → q' ≤ q → (hs : List HeldBatch) → AreStampsRisingFrom q hs → AreStampsRisingFrom q' hs
 rising_less q q' l [] r = tt
 rising_less q q' l (h ∷ hs) r = ((let m = r.0 in omega arith), r.1)
 
-rising_wrote : (s : ℕ) (rows : List (List Value)) (q : ℕ) (hs : List HeldBatch) → IsRisingFrom q hs → IsRisingFrom q (held_wrote s rows hs)
+rising_wrote : (s : ℕ) (rows : List (List Value)) (q : ℕ) (hs : List HeldBatch) → AreStampsRisingFrom q hs → AreStampsRisingFrom q (held_wrote s rows hs)
 rising_wrote s rows q [] r = tt
 rising_wrote s rows q (h ∷ hs) r = (r.0, rising_wrote s rows h.stamp hs r.1)
 
-rising_filter : (p : HeldBatch → Bool) (q : ℕ) (hs : List HeldBatch) → IsRisingFrom q hs → IsRisingFrom q (filter p hs)
+rising_filter : (p : HeldBatch → Bool) (q : ℕ) (hs : List HeldBatch) → AreStampsRisingFrom q hs → AreStampsRisingFrom q (filter p hs)
 rising_filter p q [] r = tt
 rising_filter p q (h ∷ hs) r = elim (cases_Bool (p h)) [
   | inl e ↦ (let z = rising_filter p h.stamp hs r.1 in rw e (r.0, z))
@@ -168,11 +168,11 @@ in_ended s u n (x ∷ xs) = (let z = in_ended s u n xs in elim (cases_eq x.stamp
 ])
 
 module _ (b : Base) (es : List Entry) (e : Entry) (t s : ℕ) (x y : Batch) (k : TakesOn es e t s x y) (running : x.ended ≡ false) where
-  each_phase : ((r : List Value) → has y.written r ≡ has x.written r) → y.ended ≡ false → (hs : List HeldBatch) → AllByRecursion (IsHeld es t) hs → AllByRecursion (IsHeld (es ++ e ∷ []) t) hs
+  each_phase : ((r : List Value) → has y.written r ≡ has x.written r) → y.ended ≡ false → (hs : List HeldBatch) → AllByRecursion (IsHeldBatch es t) hs → AllByRecursion (IsHeldBatch (es ++ e ∷ []) t) hs
   each_phase w r [] a = tt
   each_phase w r (h ∷ hs) a = (one, each_phase w r hs a.1)
     where
-      one : IsHeld (es ++ e ∷ []) t h
+      one : IsHeldBatch (es ++ e ∷ []) t h
       one = elim (cases_eq s h.stamp) [
         | inl z ↦ held_here es e t s x y k h z a.0 h.written (λ l. l) (λ q. w q ∙ (ap (λ (o : Batch). has o.written q) (held_same es e t s x y k h z a.0) ∙ a.0.written q)) r
         | inr z ↦ held_other es e t s x y k h z a.0
@@ -189,11 +189,11 @@ module _ (b : Base) (es : List Entry) (e : Entry) (t s : ℕ) (x y : Batch) (k :
     ];
   }
 
-  each_wrote : (rows : List (List Value)) → y.written ≡ x.written ++ rows → y.ended ≡ false → (hs : List HeldBatch) → AllByRecursion (IsHeld es t) hs → AllByRecursion (IsHeld (es ++ e ∷ []) t) (held_wrote s rows hs)
+  each_wrote : (rows : List (List Value)) → y.written ≡ x.written ++ rows → y.ended ≡ false → (hs : List HeldBatch) → AllByRecursion (IsHeldBatch es t) hs → AllByRecursion (IsHeldBatch (es ++ e ∷ []) t) (held_wrote s rows hs)
   each_wrote rows w r [] a = tt
   each_wrote rows w r (h ∷ hs) a = (one, each_wrote rows w r hs a.1)
     where
-      by : (v : Bool) → nat_eq h.stamp s ≡ v → IsHeld (es ++ e ∷ []) t (record h { written = cond v (h.written ++ rows) h.written })
+      by : (v : Bool) → nat_eq h.stamp s ≡ v → IsHeldBatch (es ++ e ∷ []) t (record h { written = cond v (h.written ++ rows) h.written })
       by true z =
           (let at : s ≡ h.stamp = sym (eqb-true h.stamp s z) in
           held_here es e t s x y k h at a.0 (h.written ++ rows) (left_more h.changes h.written rows)
@@ -201,7 +201,7 @@ module _ (b : Base) (es : List Entry) (e : Entry) (t s : ℕ) (x y : Batch) (k :
           r)
       by false z = held_other es e t s x y k h (λ i. false≢true (sym z ∙ eq-eqb h.stamp s (sym i))) a.0
 
-      one : IsHeld (es ++ e ∷ []) t (writes_rows s rows h)
+      one : IsHeldBatch (es ++ e ∷ []) t (writes_rows s rows h)
       one = by (nat_eq h.stamp s) refl
 
   -- rows are written
@@ -215,7 +215,7 @@ module _ (b : Base) (es : List Entry) (e : Entry) (t s : ℕ) (x y : Batch) (k :
     ];
   }
 
-  each_ended : (hs : List HeldBatch) → AllByRecursion (IsHeld es t) hs → AllByRecursion (IsHeld (es ++ e ∷ []) t) (held_ended s hs)
+  each_ended : (hs : List HeldBatch) → AllByRecursion (IsHeldBatch es t) hs → AllByRecursion (IsHeldBatch (es ++ e ∷ []) t) (held_ended s hs)
   each_ended [] a = tt
   each_ended (h ∷ hs) a = (let z = each_ended hs a.1 in elim (cases_eq h.stamp s) [
     | inl u ↦ (let v : not (nat_eq h.stamp s) ≡ false = ap not (eq-eqb h.stamp s u) in rw v z)

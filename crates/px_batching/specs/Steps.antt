@@ -28,7 +28,7 @@ use Rattle.px_group.specs.declared.group.Phase.TheVariants.{Marking, Writing, Ve
 -- 1. What changes
 
 -- the batch at the place is in this phase
-pub record IsAt (g : Group) (m : ℕ) (phase : Phase) : Type 0 where
+pub record StandsInPhase (g : Group) (m : ℕ) (phase : Phase) : Type 0 where
   pub batch : Begun
   pub is : slice_get g.batches.items m ≡ Some batch
   pub phase_is : batch.phase ≡ phase
@@ -70,7 +70,7 @@ pub record UsesRoom (old new : Region) (cells bytes : ℕ) : Type 0 where
 
 -- the batch at the place has marks to hand out
 pub record HasMarks (g : Group) (m : ℕ) : Type 0 where
-  pub at : IsAt g m Marking
+  pub at : StandsInPhase g m Marking
   pub left : 0 < length at.batch.batch.marks
 
 -- The marks of the batch at place m for its next index are handed to that index's region, whether or not the disk fails.
@@ -103,8 +103,8 @@ pub record FinishesMarks (g g' : Group) (m : ℕ) : Type 0 where
   pub step : IsQuietStep g g' m batch (record batch { phase = Writing })
 
 -- the batch at the place has marked its indexes
-pub record HasMarked (g : Group) (m : ℕ) : Type 0 where
-  pub at : IsAt g m Marking
+pub record HasMarkedIndexes (g : Group) (m : ℕ) : Type 0 where
+  pub at : StandsInPhase g m Marking
   pub none : at.batch.batch.marks ≡ []
 
 -- with the last index, or at once where there is none
@@ -148,7 +148,7 @@ pub record WrotePuts {D : Type 0} (d : Ghosts D) (g g' : Group) (disk disk' : D)
 
 -- the batch at the place has marks to close
 pub record HasCloses (g : Group) (m : ℕ) : Type 0 where
-  pub at : IsAt g m Verifying
+  pub at : StandsInPhase g m Verifying
   pub left : 0 < length at.batch.batch.closes
 
 -- What closes the marks for the next index, but those of the rows that the batch met, is handed to that index's region.
@@ -182,7 +182,7 @@ pub record FinishesCloses (g g' : Group) (m : ℕ) : Type 0 where
 
 -- the marks of the batch at the place are closed
 pub record HasClosed (g : Group) (m : ℕ) : Type 0 where
-  pub at : IsAt g m Verifying
+  pub at : StandsInPhase g m Verifying
   pub none : at.batch.batch.closes ≡ []
 
 -- with the last index, or at once where there is none
@@ -238,7 +238,7 @@ pub record IsBlocked (g : Group) (m : ℕ) (s : ℕ) : Type 0 where
   pub blocked : blocks earlier.batch batch.batch ≡ true
 
 -- none does
-pub record IsFree (g : Group) (m : ℕ) : Type 0 where
+pub record IsUnblocked (g : Group) (m : ℕ) : Type 0 where
   pub batch : Begun
   pub is : slice_get g.batches.items m ≡ Some batch
   pub free : (n : ℕ) (x : Begun) → slice_get g.batches.items n ≡ Some x → blocks x.batch batch.batch ≡ false
@@ -246,8 +246,8 @@ pub record IsFree (g : Group) (m : ℕ) : Type 0 where
 -- 7. In the words of the trail
 
 -- the batch is this seat's
-abbrev pub IsSeat : List Entry → ℕ → ℕ → ℕ → Type 0
-IsSeat es t s seat = (y : Batch) → batch_of t s es ≡ Some y → y.seat ≡ seat
+abbrev pub IsOfSeat : List Entry → ℕ → ℕ → ℕ → Type 0
+IsOfSeat es t s seat = (y : Batch) → batch_of t s es ≡ Some y → y.seat ≡ seat
 
 -- an earlier batch is still to write a row that this one is still to write
 pub record WaitsFor (es : List Entry) (t s earlier : ℕ) : Type 0 where

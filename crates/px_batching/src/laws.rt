@@ -3,7 +3,7 @@ ghost use Rattle.std.specs.Prelude.{◌≡◌, ◌<◌, ◌++◌, ◌∷◌, [],
 ghost use Rattle.px_forms.specs.Indexes.{IndexForm};
 ghost use Rattle.px_groupworld.specs.Group.{GroupData, shape_in, world_in};
 ghost use Rattle.px_region.specs.Region.{read_of};
-ghost use Rattle.px_groupworld.specs.Steps.{at_index, ended_data, nothing, wrote_data};
+ghost use Rattle.px_groupworld.specs.Steps.{at_index, ended_data, no_events, wrote_data};
 ghost use Rattle.px_group.specs.Group.{AreTraced, IsRightGroup, IsShownBy, IsTallied, as_phase, form_of};
 ghost use Rattle.px_group.specs.declared.group.Begun.{Begun as Batches};
 ghost use Rattle.px_group.specs.declared.group.Group.{Group as Tables};
@@ -13,7 +13,7 @@ ghost use Rattle.px_indexed.specs.Idle.{IsElsewhere};
 ghost use Rattle.px_indexed.specs.Worlds.{change_event, row_event};
 ghost use Rattle.px_openbatches.specs.Pending.{HeldBatch, held_ended, held_wrote, to_verify};
 ghost use Rattle.px_tablesteps.specs.Kept.{TableSteps};
-ghost use Rattle.px_trail.specs.Batches.{IsConcurrent, IsIn, change_of, has, rows_of};
+ghost use Rattle.px_trail.specs.Batches.{IsBatchIn, IsConcurrent, change_of, has, rows_of};
 ghost use Rattle.px_trail.specs.Legal.{IsLegal, IsWritable, MayCome};
 ghost use Rattle.px_trail.specs.Trail.{Base};
 ghost use Rattle.px_trail.specs.declared.entry.Act.TheVariants.{Ended, Phase as PhaseDone, Wrote};
@@ -23,7 +23,7 @@ ghost use Rattle.px_world.specs.Closed.{Closed};
 ghost use Rattle.px_world.specs.Events.{End, Mark, Verify, Write};
 ghost use Rattle.px_batching.specs.Known.{held_marked, held_verified, own_of, shown_marked, shown_verified};
 ghost use Rattle.px_batching.specs.Receipts.{IsReceiptOf};
-ghost use Rattle.px_batching.specs.Steps.{Ends, FinishesCloses, FinishesMarks, HandsCloses, HandsMarks, HandsPuts, IsAt, IsBlocked, IsFree, IsSeat, LetsGo, WaitsFor, WroteCloses, WroteMarks, WrotePuts};
+ghost use Rattle.px_batching.specs.Steps.{Ends, FinishesCloses, FinishesMarks, HandsCloses, HandsMarks, HandsPuts, IsBlocked, IsOfSeat, IsUnblocked, LetsGo, StandsInPhase, WaitsFor, WroteCloses, WroteMarks, WrotePuts};
 ghost use Rattle.px_batching.specs.declared.ending.Told.{Told as Telling};
 
 use px_outside::Disk;
@@ -42,7 +42,7 @@ pub fn law_marked()
     ensures right { (g : Tables) → (h : Tables) → (m : ℕ) → IsRightGroup g → FinishesMarks g h m → IsRightGroup h }
     ensures tallied { (g : Tables) → (h : Tables) → (m : ℕ) → IsRightGroup g → (b : Base) → (es : List Entries) → (hs : List HeldBatch) → IsTallied b es g hs → FinishesMarks g h m → (e : Entries) → e.act ≡ PhaseDone g.table.id (own_of m hs).stamp 1 → IsTallied b (es ++ e ∷ []) h hs }
     ensures shown { (g : Tables) → (h : Tables) → (m : ℕ) → IsRightGroup g → (b : Base) → (es : List Entries) → (hs : List HeldBatch) → IsTallied b es g hs → (index : ℕ → IndexForm) → (v : GroupData) → IsShownBy b index es g v hs → FinishesMarks g h m → (e : Entries) → MayCome b es e → e.act ≡ PhaseDone g.table.id (own_of m hs).stamp 1 → IsShownBy b index (es ++ e ∷ []) h v hs }
-    ensures steps { (g : Tables) → (h : Tables) → (m : ℕ) → IsRightGroup g → (b : Base) → (es : List Entries) → (hs : List HeldBatch) → IsTallied b es g hs → (index : ℕ → IndexForm) → (v : GroupData) → IsShownBy b index es g v hs → FinishesMarks g h m → (e : Entries) → MayCome b es e → e.act ≡ PhaseDone g.table.id (own_of m hs).stamp 1 → TableSteps (form_of b index g) nothing es v (es ++ e ∷ []) v hs }
+    ensures steps { (g : Tables) → (h : Tables) → (m : ℕ) → IsRightGroup g → (b : Base) → (es : List Entries) → (hs : List HeldBatch) → IsTallied b es g hs → (index : ℕ → IndexForm) → (v : GroupData) → IsShownBy b index es g v hs → FinishesMarks g h m → (e : Entries) → MayCome b es e → e.act ≡ PhaseDone g.table.id (own_of m hs).stamp 1 → TableSteps (form_of b index g) no_events es v (es ++ e ∷ []) v hs }
 {}
 
 /// A batch's rows are written.
@@ -67,7 +67,7 @@ pub fn law_verified()
     ensures right { (g : Tables) → (h : Tables) → (m : ℕ) → IsRightGroup g → FinishesCloses g h m → IsRightGroup h }
     ensures tallied { (g : Tables) → (h : Tables) → (m : ℕ) → IsRightGroup g → (b : Base) → (es : List Entries) → (hs : List HeldBatch) → IsTallied b es g hs → FinishesCloses g h m → (e : Entries) → e.act ≡ PhaseDone g.table.id (own_of m hs).stamp 3 → IsTallied b (es ++ e ∷ []) h hs }
     ensures shown { (g : Tables) → (h : Tables) → (m : ℕ) → IsRightGroup g → (b : Base) → (es : List Entries) → (hs : List HeldBatch) → IsTallied b es g hs → (index : ℕ → IndexForm) → (v : GroupData) → IsShownBy b index es g v hs → FinishesCloses g h m → (e : Entries) → MayCome b es e → e.act ≡ PhaseDone g.table.id (own_of m hs).stamp 3 → IsShownBy b index (es ++ e ∷ []) h v hs }
-    ensures steps { (g : Tables) → (h : Tables) → (m : ℕ) → IsRightGroup g → (b : Base) → (es : List Entries) → (hs : List HeldBatch) → IsTallied b es g hs → (index : ℕ → IndexForm) → (v : GroupData) → IsShownBy b index es g v hs → (e : Entries) → MayCome b es e → e.act ≡ PhaseDone g.table.id (own_of m hs).stamp 3 → TableSteps (form_of b index g) nothing es v (es ++ e ∷ []) v hs }
+    ensures steps { (g : Tables) → (h : Tables) → (m : ℕ) → IsRightGroup g → (b : Base) → (es : List Entries) → (hs : List HeldBatch) → IsTallied b es g hs → (index : ℕ → IndexForm) → (v : GroupData) → IsShownBy b index es g v hs → (e : Entries) → MayCome b es e → e.act ≡ PhaseDone g.table.id (own_of m hs).stamp 3 → TableSteps (form_of b index g) no_events es v (es ++ e ∷ []) v hs }
 {}
 
 /// A batch is let go when it ends. `closed`: at each of its indexes the marks are closed of each row that isn't concurrent, once all was
@@ -77,7 +77,7 @@ pub fn law_ends()
     ensures tallied { (g : Tables) → (h : Tables) → (m : ℕ) → (b : Base) → (es : List Entries) → (hs : List HeldBatch) → IsTallied b es g hs → (x : Batches) → LetsGo g h m x → (e : Entries) → e.act ≡ Ended g.table.id (own_of m hs).stamp → IsTallied b (es ++ e ∷ []) h (held_ended (own_of m hs).stamp hs) }
     ensures shown { (g : Tables) → (h : Tables) → (m : ℕ) → IsRightGroup g → (b : Base) → (es : List Entries) → (hs : List HeldBatch) → IsTallied b es g hs → (index : ℕ → IndexForm) → (v : GroupData) → IsShownBy b index es g v hs → (x : Batches) → LetsGo g h m x → x.batch.marks ≡ [] → (e : Entries) → MayCome b es e → e.act ≡ Ended g.table.id (own_of m hs).stamp → IsShownBy b index (es ++ e ∷ []) h (ended_data (own_of m hs).stamp v) (held_ended (own_of m hs).stamp hs) }
     ensures steps { (g : Tables) → (h : Tables) → (m : ℕ) → IsRightGroup g → (b : Base) → (es : List Entries) → (hs : List HeldBatch) → IsTallied b es g hs → (index : ℕ → IndexForm) → (v : GroupData) → IsShownBy b index es g v hs → (x : Batches) → LetsGo g h m x → x.batch.marks ≡ [] → (e : Entries) → MayCome b es e → e.act ≡ Ended g.table.id (own_of m hs).stamp → TableSteps (form_of b index g) (λ i r. change_event (End (own_of m hs).stamp) (change_of (own_of m hs).changes r)) es v (es ++ e ∷ []) (ended_data (own_of m hs).stamp v) (held_ended (own_of m hs).stamp hs) }
-    ensures closed { (g : Tables) → (m : ℕ) → IsRightGroup g → (b : Base) → (es : List Entries) → (hs : List HeldBatch) → IsTallied b es g hs → (index : ℕ → IndexForm) → (v : GroupData) → IsShownBy b index es g v hs → (a : IsAt g m InClosing) → (i : ℕ) → i < a.batch.count → (r : List ColumnValue) → has (rows_of a.batch.batch.changes) r ≡ true → (IsConcurrent es g.table.id.0 a.batch.batch.stamp r → ⊥) → Closed (shape_in (form_of b index g) v i r) (world_in (form_of b index g) es v i r) a.batch.batch.stamp }
+    ensures closed { (g : Tables) → (m : ℕ) → IsRightGroup g → (b : Base) → (es : List Entries) → (hs : List HeldBatch) → IsTallied b es g hs → (index : ℕ → IndexForm) → (v : GroupData) → IsShownBy b index es g v hs → (a : StandsInPhase g m InClosing) → (i : ℕ) → i < a.batch.count → (r : List ColumnValue) → has (rows_of a.batch.batch.changes) r ≡ true → (IsConcurrent es g.table.id.0 a.batch.batch.stamp r → ⊥) → Closed (shape_in (form_of b index g) v i r) (world_in (form_of b index g) es v i r) a.batch.batch.stamp }
 {}
 
 /// What its end needs of each open batch stays true whatever becomes of the regions, and with it the receipt is right: its rows are
@@ -97,7 +97,7 @@ pub fn law_traced<D: Disk>()
 /// them, and a batch that is blocked waits for another.
 pub fn law_may()
     ensures stamp { (g : Tables) → (m : ℕ) → (b : Base) → (es : List Entries) → (hs : List HeldBatch) → IsTallied b es g hs → (x : Batches) → slice_get g.batches.items m ≡ Some x → (own_of m hs).stamp ≡ x.batch.stamp }
-    ensures phase { (g : Tables) → (m : ℕ) → (b : Base) → (es : List Entries) → (hs : List HeldBatch) → IsTallied b es g hs → (p : Phases) → (a : IsAt g m p) → (seat : ℕ) → IsSeat es g.table.id.0 a.batch.batch.stamp seat → IsIn es seat g.table.id.0 a.batch.batch.stamp (as_phase p) }
-    ensures writable { (g : Tables) → (m : ℕ) → IsRightGroup g → (b : Base) → (es : List Entries) → IsLegal b es → (hs : List HeldBatch) → IsTallied b es g hs → (a : IsAt g m InWriting) → IsFree g m → (seat : ℕ) → IsSeat es g.table.id.0 a.batch.batch.stamp seat → IsWritable es seat g.table.id.0 a.batch.batch.stamp (rows_of a.batch.batch.changes) }
-    ensures waits { (g : Tables) → (m : ℕ) → IsRightGroup g → (b : Base) → (es : List Entries) → (hs : List HeldBatch) → IsTallied b es g hs → (a : IsAt g m InWriting) → (s : ℕ) → IsBlocked g m s → WaitsFor es g.table.id.0 a.batch.batch.stamp s }
+    ensures phase { (g : Tables) → (m : ℕ) → (b : Base) → (es : List Entries) → (hs : List HeldBatch) → IsTallied b es g hs → (p : Phases) → (a : StandsInPhase g m p) → (seat : ℕ) → IsOfSeat es g.table.id.0 a.batch.batch.stamp seat → IsBatchIn es seat g.table.id.0 a.batch.batch.stamp (as_phase p) }
+    ensures writable { (g : Tables) → (m : ℕ) → IsRightGroup g → (b : Base) → (es : List Entries) → IsLegal b es → (hs : List HeldBatch) → IsTallied b es g hs → (a : StandsInPhase g m InWriting) → IsUnblocked g m → (seat : ℕ) → IsOfSeat es g.table.id.0 a.batch.batch.stamp seat → IsWritable es seat g.table.id.0 a.batch.batch.stamp (rows_of a.batch.batch.changes) }
+    ensures waits { (g : Tables) → (m : ℕ) → IsRightGroup g → (b : Base) → (es : List Entries) → (hs : List HeldBatch) → IsTallied b es g hs → (a : StandsInPhase g m InWriting) → (s : ℕ) → IsBlocked g m s → WaitsFor es g.table.id.0 a.batch.batch.stamp s }
 {}

@@ -4,7 +4,7 @@ ghost use Rattle.px_outside.specs.OnDisk.{Rose};
 ghost use Rattle.px_group.specs.Group.{IsRightGroup};
 ghost use Rattle.px_group.specs.Room.{most_bytes};
 ghost use Rattle.px_group.specs.declared.group.Phase.TheVariants.{Marking as InMarking};
-ghost use Rattle.px_batching.specs.Steps.{FinishesMarks, HandsMarks, HasMarked, HasMarks, IsAt, Marked, WroteMarks};
+ghost use Rattle.px_batching.specs.Steps.{FinishesMarks, HandsMarks, HasMarkedIndexes, HasMarks, Marked, StandsInPhase, WroteMarks};
 
 use crate::handing::hand;
 use px_calls::Marks;
@@ -36,7 +36,7 @@ pub fn mark_index<D: Disk>(
 
 /// The batch at this place has marked its indexes, and is to write its rows.
 pub fn finish_marking(group: &mut Group, place: usize)
-    requires { HasMarked group.old place }
+    requires { HasMarkedIndexes group.old place }
     ensures { FinishesMarks group.old group.new place }
 {
     group.batches[place].phase = Phase::Writing;
@@ -50,7 +50,7 @@ pub fn mark<D: Disk>(
     place: usize,
 ) -> Result<Marks, Failed>
     requires right { IsRightGroup group.old }
-    requires marking { IsAt group.old place InMarking }
+    requires marking { StandsInPhase group.old place InMarking }
     requires room { 12 + most_bytes ≤ frame.old.room }
     ensures right { OnOk result (IsRightGroup group.new) }
     ensures steps { Marked ⟦<D as Disk>⟧ group.old group.new disk.old disk.new place result }

@@ -4,7 +4,7 @@ ghost use Rattle.px_outside.specs.OnDisk.{Rose};
 ghost use Rattle.px_group.specs.Group.{IsRightGroup};
 ghost use Rattle.px_group.specs.Room.{most_bytes};
 ghost use Rattle.px_group.specs.declared.group.Phase.TheVariants.{Verifying as InVerifying};
-ghost use Rattle.px_batching.specs.Steps.{FinishesCloses, HandsCloses, HasClosed, HasCloses, IsAt, Verified, WroteCloses};
+ghost use Rattle.px_batching.specs.Steps.{FinishesCloses, HandsCloses, HasClosed, HasCloses, StandsInPhase, Verified, WroteCloses};
 
 use crate::handing::hand_some;
 use px_calls::Verifies;
@@ -61,7 +61,7 @@ pub fn verify<D: Disk>(
     place: usize,
 ) -> Result<Verifies, Failed>
     requires right { IsRightGroup group.old }
-    requires verifying { IsAt group.old place InVerifying }
+    requires verifying { StandsInPhase group.old place InVerifying }
     requires room { 12 + most_bytes ≤ frame.old.room }
     ensures right { OnOk result (IsRightGroup group.new) }
     ensures steps { Verified ⟦<D as Disk>⟧ group.old group.new disk.old disk.new place result }

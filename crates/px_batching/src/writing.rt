@@ -7,7 +7,7 @@ ghost use Rattle.px_cells.specs.CellData.{CellData};
 ghost use Rattle.px_keptcells.specs.Kept.{laid};
 ghost use Rattle.px_phases.specs.Batch.{IsHanded, left_in};
 ghost use Rattle.px_trail.specs.Batches.{rows_of};
-ghost use Rattle.px_batching.specs.Steps.{HandsPuts, IsAt, IsBlocked, IsFree, TakesRows, WrotePuts, blocks as blocks_test};
+ghost use Rattle.px_batching.specs.Steps.{HandsPuts, IsBlocked, IsUnblocked, StandsInPhase, TakesRows, WrotePuts, blocks as blocks_test};
 ghost use Rattle.px_group.specs.declared.group.Phase.TheVariants.{Writing as InWriting};
 ghost use Rattle.std.specs.Prelude.{is_some};
 ghost use Rattle.std.specs.List.{list_any};
@@ -41,7 +41,7 @@ fn blocks(earlier: &OpenBatch, batch: &OpenBatch) -> bool
 pub fn blocker(group: &Group, place: usize) -> Option<u64>
     requires { place < length group.now.batches.items }
     ensures blocked { IfSome result (IsBlocked group.now place) }
-    ensures free { IfNone result (IsFree group.now place) }
+    ensures free { IfNone result (IsUnblocked group.now place) }
 {
     let batch = &group.batches[place].batch;
     let found = group
@@ -88,7 +88,7 @@ pub fn write<D: Disk>(
     place: usize,
 ) -> Result<Rows, Unwritten>
     requires right { IsRightGroup group.old }
-    requires writing { IsAt group.old place InWriting }
+    requires writing { StandsInPhase group.old place InWriting }
     requires room { 12 + most_bytes ≤ frame.old.room }
     ensures hands { OnErr result (HandsPuts ⟦<D as Disk>⟧ group.old group.new disk.old disk.new place InWriting) }
     ensures right { OnOk result (IsRightGroup group.new) }

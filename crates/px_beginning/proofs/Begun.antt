@@ -20,7 +20,7 @@ use Rattle.px_indexrow.specs.Form.{index_form}
 use Rattle.px_openbatches.proofs.Helds.{held_after_begun}
 use Rattle.px_openbatches.specs.Made.{IsComputed}
 use Rattle.px_openbatches.specs.Opens.{form_in}
-use Rattle.px_openbatches.specs.Pending.{HeldBatch, HeldKept, after_pending, fresh_held, held_begun, is_pending_in, meets}
+use Rattle.px_openbatches.specs.Pending.{HeldBatch, HeldKept, after_pending, fresh_held, held_begun, is_pending_in, with_met}
 use Rattle.px_region.specs.Region.{read_of}
 use Rattle.px_rows.specs.Spelled.{row_form}
 use Rattle.px_tables.specs.declared.table.Table.{Table}
@@ -48,15 +48,15 @@ use Rattle.px_phases.proofs.Begun.{begun_held, computed, rows_are}
 use Rattle.px_phases.proofs.Held.{met_held}
 use Rattle.px_phases.proofs.Left.{change_fits, rows_same, states_same}
 use Rattle.px_phases.specs.Batch.{AllFit, AreHeldAs, BatchData, IsHeldAs, is_left_in}
-use Rattle.px_phases.specs.Begun.{AreFrom, begun_batch, no_form}
+use Rattle.px_phases.specs.Begun.{AreFrom, no_form, prepared_batch}
 use Rattle.px_beginning.specs.Admits.{Admits, met_by}
-use Rattle.px_beginning.specs.Begins.{IsBatchOf, held_with, old_state, rows_made}
-use Rattle.px_beginning.specs.Reads.{form_at, forms_in}
+use Rattle.px_beginning.specs.Begins.{IsBatchOf, held_with_begun, old_state, rows_made}
+use Rattle.px_beginning.specs.Reads.{form_at, index_forms}
 use Rattle.px_beginning.specs.Rooms.{fresh_batch}
 
 -- 1. The forms of the indexes
 
-pub form_is : (t : Table) (is : List IndexRegion) (i : ℕ) (x : IndexRegion) → slice_get is i ≡ Some x → get_or (forms_in t is) i no_form ≡ form_at t x
+pub form_is : (t : Table) (is : List IndexRegion) (i : ℕ) (x : IndexRegion) → slice_get is i ≡ Some x → get_or (index_forms t is) i no_form ≡ form_at t x
 form_is t [] i x e = cc
 form_is t (y ∷ is) zero x e = (let z : y ≡ x = cc in ap (form_at t) z)
 form_is t (y ∷ is) (suc i) x e = form_is t is i x e
@@ -122,17 +122,17 @@ module _ (b : Base) (es : List Entry) (g : Group) (hs : List HeldBatch) (e : Ent
     apart : (u : ℕ) (x : Batch) → batch_of t u es ≡ Some x → s ≡ u → ⊥
     apart u x q z = (let n : None ≡ Some x = sym (batch-none b t s es later) ∙ (ap (λ (v : ℕ). batch_of t v es) z ∙ q) in cc)
 
-    in_phase : (m : Begun) (h : HeldBatch) → IsInPhase es t m h → IsInPhase after t (met_by cs m) (meets cs h)
+    in_phase : (m : Begun) (h : HeldBatch) → IsInPhase es t m h → IsInPhase after t (met_by cs m) (with_met cs h)
     in_phase m h p = record { batch = p.batch; is = there h.stamp (apart h.stamp p.batch p.is) ∙ p.is; phase = p.phase; count = p.count }
 
     phases : (n : ℕ) (bd : BatchData) (fh : HeldBatch) → fh.stamp ≡ s → fh.count ≡ n → (ms : List Begun) (hs : List HeldBatch) → AreHeldAs (map batch_in ms) hs → AreInPhase es t ms hs
-        → AreInPhase after t (map (met_by cs) ms ++ fresh_batch n bd ∷ []) (map (meets cs) hs ++ fh ∷ [])
+        → AreInPhase after t (map (met_by cs) ms ++ fresh_batch n bd ∷ []) (map (with_met cs) hs ++ fh ∷ [])
     phases n bd fh at count [] [] a p = (record { batch = trail.begun_batch e.seat cs; is = ap (λ (v : ℕ). batch_of t v after) at ∙ here; phase = refl; count = count }, tt)
     phases n bd fh at count [] (h ∷ hs) a p = absurd a
     phases n bd fh at count (m ∷ ms) [] a p = absurd a
     phases n bd fh at count (m ∷ ms) (h ∷ hs) a p = (in_phase m h p.0, phases n bd fh at count ms hs a.1 p.1)
 
-all_held : (cs : List Change) (n : ℕ) (bd : BatchData) (fh : HeldBatch) → IsHeldAs bd fh → (ms : List Begun) (hs : List HeldBatch) → AreHeldAs (map batch_in ms) hs → AreHeldAs (map batch_in (map (met_by cs) ms ++ fresh_batch n bd ∷ [])) (map (meets cs) hs ++ fh ∷ [])
+all_held : (cs : List Change) (n : ℕ) (bd : BatchData) (fh : HeldBatch) → IsHeldAs bd fh → (ms : List Begun) (hs : List HeldBatch) → AreHeldAs (map batch_in ms) hs → AreHeldAs (map batch_in (map (met_by cs) ms ++ fresh_batch n bd ∷ [])) (map (with_met cs) hs ++ fh ∷ [])
 all_held cs n bd fh new [] [] a = (new, tt)
 all_held cs n bd fh new [] (h ∷ hs) a = absurd a
 all_held cs n bd fh new (m ∷ ms) [] a = absurd a
@@ -143,11 +143,11 @@ all_held cs n bd fh new (m ∷ ms) (h ∷ hs) a = (met_held m.batch h a.0 cs, al
 -- the batch is the one that begins, and knows the rows on which others are pending
 held_new : (g : Group) (s : ℕ) (cs : List Change) (bd : BatchData) (p : IsBatchOf g s cs bd) (hs : List HeldBatch) → is_distinct (rows_of cs) ≡ true → AreHeldAs (batches_of g) hs → IsHeldAs bd (fresh_held s cs (length g.indexes.items) (rows_made g s cs bd p) hs)
 held_new g s cs bd p hs d a =
-    let fs = forms_in g.table g.indexes.items in
+    let fs = index_forms g.table g.indexes.items in
     let flags : map (is_left_in (batches_of g)) (rows_of cs) ≡ map (is_pending_in hs) (rows_of cs) = λ i. map (λ r. rows_same r (batches_of g) hs a i) (rows_of cs) in
-    let n : length (forms_in g.table g.indexes.items) ≡ length g.indexes.items = length-map g.indexes.items (form_at g.table) in
+    let n : length (index_forms g.table g.indexes.items) ≡ length g.indexes.items = length-map g.indexes.items (form_at g.table) in
     subst (λ (x : BatchData). IsHeldAs x (fresh_held s cs (length g.indexes.items) (rows_made g s cs bd p) hs)) (sym p.made.is)
-    (subst (λ (c : ℕ). IsHeldAs (begun_batch fs s cs p.transitions p.made.parts (map (is_left_in (batches_of g)) (rows_of cs))) (fresh_held s cs c (rows_made g s cs bd p) hs)) n
+    (subst (λ (c : ℕ). IsHeldAs (prepared_batch fs s cs p.transitions p.made.parts (map (is_left_in (batches_of g)) (rows_of cs))) (fresh_held s cs c (rows_made g s cs bd p) hs)) n
     (begun_held g.table fs s cs p.transitions p.made.parts (map (is_left_in (batches_of g)) (rows_of cs)) hs d p.read.are p.made.puts flags))
 
 module _ (b : Base) (es : List Entry) (g : Group) (hs : List HeldBatch) (e : Entry) (s : ℕ) (cs : List Change) (may : MayCome b es e) (is : e.act ≡ BegunAct g.table.id s cs) (bd : BatchData) (p : IsBatchOf g s cs bd) (g' : Group) (a : Admits g bd g') where
@@ -171,7 +171,7 @@ module _ (b : Base) (es : List Entry) (g : Group) (hs : List HeldBatch) (e : Ent
             (z.0, (z.1.0, (ap (λ (l : Vec IndexRegion). slice_get l.items z.0) a.indexes ∙ z.1.1.0, z.1.1.1))));
       }
 
-  pub tallied : IsTableBase b g.table.id.0 → IsLegal b es → IsTallied b es g hs → IsTallied b (es ++ e ∷ []) g' (held_with g s cs bd p hs)
+  pub tallied : IsTableBase b g.table.id.0 → IsLegal b es → IsTallied b es g hs → IsTallied b (es ++ e ∷ []) g' (held_with_begun g s cs bd p hs)
   tallied base legal w =
       let fh : HeldBatch = fresh_held s cs (length g.indexes.items) (rows_made g s cs bd p) hs in
       let t' : g.table.id.0 ≡ g'.table.id.0 = ap (λ (t : Table). t.id.0) (sym a.table) in
@@ -179,11 +179,11 @@ module _ (b : Base) (es : List Entry) (g : Group) (hs : List HeldBatch) (e : Ent
         standing = stands w.standing;
         last = ap (λ (n : ℕ). last_of b n (es ++ e ∷ [])) (sym t') ∙ (last_now b es g hs e s cs may is ∙ (sym stamp_is ∙ sym a.last));
         horizon = ap (λ (n : ℕ). horizon_of b n (es ++ e ∷ [])) (sym t') ∙ (same_horizon b es g hs e s cs may is ∙ (w.horizon ∙ sym a.horizon));
-        held = subst (λ (n : ℕ). HeldKept b (es ++ e ∷ []) n (held_with g s cs bd p hs)) t'
+        held = subst (λ (n : ℕ). HeldKept b (es ++ e ∷ []) n (held_with_begun g s cs bd p hs)) t'
             (held_after_begun (table_shape g.table) b es g.table.id (horizon_of b g.table.id.0 es) (rows b es g hs e s cs may is base legal) hs w.held e s cs is (later b es g hs e s cs may is) (length g.indexes.items) (rows_made g s cs bd p));
-        batches = subst (λ (l : List Begun). AreHeldAs (map batch_in l) (held_with g s cs bd p hs)) (sym batches_are) (all_held cs (length g.indexes.items) bd fh (held_new g s cs bd p hs (distinct b es g hs e s cs may is) w.batches) g.batches.items hs w.batches);
-        phases = subst (λ (n : ℕ). AreInPhase (es ++ e ∷ []) n g'.batches.items (held_with g s cs bd p hs)) t'
-            (subst (λ (l : List Begun). AreInPhase (es ++ e ∷ []) g.table.id.0 l (held_with g s cs bd p hs)) (sym batches_are) (phases b es g hs e s cs may is base legal (length g.indexes.items) bd fh refl refl g.batches.items hs w.batches w.phases));
+        batches = subst (λ (l : List Begun). AreHeldAs (map batch_in l) (held_with_begun g s cs bd p hs)) (sym batches_are) (all_held cs (length g.indexes.items) bd fh (held_new g s cs bd p hs (distinct b es g hs e s cs may is) w.batches) g.batches.items hs w.batches);
+        phases = subst (λ (n : ℕ). AreInPhase (es ++ e ∷ []) n g'.batches.items (held_with_begun g s cs bd p hs)) t'
+            (subst (λ (l : List Begun). AreInPhase (es ++ e ∷ []) g.table.id.0 l (held_with_begun g s cs bd p hs)) (sym batches_are) (phases b es g hs e s cs may is base legal (length g.indexes.items) bd fh refl refl g.batches.items hs w.batches w.phases));
         points = λ seat q. ap (λ (n : ℕ). open_points seat n q (es ++ e ∷ [])) (sym t') ∙ (same_points b es g hs e s cs may is seat q ∙ (w.points seat q ∙ ap (λ (l : Vec OpenPoint). points_in seat q l.items) (sym a.points)));
       }
 
@@ -207,20 +207,20 @@ module _ (b : Base) (es : List Entry) (g : Group) (hs : List HeldBatch) (e : Ent
         let n = newest in
         omega arith
 
-    count : length (forms_in g.table g.indexes.items) ≡ length v.indexes
+    count : length (index_forms g.table g.indexes.items) ≡ length v.indexes
     count = length-map g.indexes.items (form_at g.table) ∙ sym shown.count
 
-    same_form : (i : ℕ) → i < length (forms_in g.table g.indexes.items) → form_in f v.indexes i ≡ get_or (forms_in g.table g.indexes.items) i no_form
+    same_form : (i : ℕ) → i < length (index_forms g.table g.indexes.items) → form_in f v.indexes i ≡ get_or (index_forms g.table g.indexes.items) i no_form
     same_form i l =
         let x = element g.indexes.items i (let n = length-map g.indexes.items (form_at g.table) in omega arith) in
         ap index (shown.parts i x.0 x.1).id ∙ (shown.forms i x.0 x.1 ∙ sym (form_is g.table g.indexes.items i x.0 x.1))
 
-    laws : (i : ℕ) → i < length (forms_in g.table g.indexes.items) → IsIndexForm (get_or (forms_in g.table g.indexes.items) i no_form)
+    laws : (i : ℕ) → i < length (index_forms g.table g.indexes.items) → IsIndexForm (get_or (index_forms g.table g.indexes.items) i no_form)
     laws i l =
         let x = element g.indexes.items i (let n = length-map g.indexes.items (form_at g.table) in omega arith) in
         subst IsIndexForm (sym (form_is g.table g.indexes.items i x.0 x.1)) (form_laws g.table x.0.index)
 
-    placed : (i : ℕ) → i < length (forms_in g.table g.indexes.items) → IsPlaced (get_or (forms_in g.table g.indexes.items) i no_form)
+    placed : (i : ℕ) → i < length (index_forms g.table g.indexes.items) → IsPlaced (get_or (index_forms g.table g.indexes.items) i no_form)
     placed i l =
         let x = element g.indexes.items i (let n = length-map g.indexes.items (form_at g.table) in omega arith) in
         subst IsPlaced (sym (form_is g.table g.indexes.items i x.0 x.1)) (form_placed g.table x.0.index (part_right (IsRightPart g.table) g.indexes.items i x.0 right.parts x.1).index)
@@ -237,15 +237,15 @@ module _ (b : Base) (es : List Entry) (g : Group) (hs : List HeldBatch) (e : Ent
 
     made : AllByRecursion (IsComputed f (form_in f v.indexes) (length v.indexes) s cs old) (rows_made g s cs bd p)
     made = subst (λ (n : ℕ). AllByRecursion (IsComputed f (form_in f v.indexes) n s cs old) (rows_made g s cs bd p)) count
-        (computed b g.table.id index g.table (forms_in g.table g.indexes.items) (form_in f v.indexes) same_form laws placed s cs p.transitions p.made.parts old (distinct b es g hs e s cs may is) p.read.are p.made.puts from)
+        (computed b g.table.id index g.table (index_forms g.table g.indexes.items) (form_in f v.indexes) same_form laws placed s cs p.transitions p.made.parts old (distinct b es g hs e s cs may is) p.read.are p.made.puts from)
 
-    pub steps : TableSteps f (λ i r. begin_event s (change_of cs r)) es v (es ++ e ∷ []) (begun_data s v) (held_with g s cs bd p hs)
+    pub steps : TableSteps f (λ i r. begin_event s (change_of cs r)) es v (es ++ e ∷ []) (begun_data s v) (held_with_begun g s cs bd p hs)
     steps = subst (λ (n : ℕ). TableSteps f (λ i r. begin_event s (change_of cs r)) es v (es ++ e ∷ []) (begun_data s v) (held_begun s cs n (rows_made g s cs bd p) hs)) shown.count
-        (table_begun f es v hs shown.kept e may s cs is fits greatest_stamp newest within (rows_made g s cs bd p) (rows_are (forms_in g.table g.indexes.items) s g.table cs p.transitions p.made.parts p.read.are p.made.puts) made)
+        (table_begun f es v hs shown.kept e may s cs is fits greatest_stamp newest within (rows_made g s cs bd p) (rows_are (index_forms g.table g.indexes.items) s g.table cs p.transitions p.made.parts p.read.are p.made.puts) made)
 
-    pub shows : IsShownBy b index (es ++ e ∷ []) g' (begun_data s v) (held_with g s cs bd p hs)
+    pub shows : IsShownBy b index (es ++ e ∷ []) g' (begun_data s v) (held_with_begun g s cs bd p hs)
     shows = record {
-      kept = subst (λ (t : Table). TableKept (table_form b t.id index (row_form t)) (es ++ e ∷ []) (begun_data s v) (held_with g s cs bd p hs)) (sym a.table) steps.kept;
+      kept = subst (λ (t : Table). TableKept (table_form b t.id index (row_form t)) (es ++ e ∷ []) (begun_data s v) (held_with_begun g s cs bd p hs)) (sym a.table) steps.kept;
       rows = shown.rows ∙ ap read_of (sym a.rows);
       count = shown.count ∙ ap (λ (l : Vec IndexRegion). length l.items) (sym a.indexes);
       parts = λ i x q. shown.parts i x (ap (λ (l : Vec IndexRegion). slice_get l.items i) (sym a.indexes) ∙ q);

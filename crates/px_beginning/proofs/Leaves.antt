@@ -9,7 +9,7 @@ use Rattle.px_groupworld.specs.Group.{GroupData, table_form}
 use Rattle.px_indexrow.specs.Form.{index_form, IsRightIndex}
 use Rattle.px_openbatches.specs.Pending.{HeldBatch, HeldKept}
 use Rattle.px_phases.specs.Batch.{AllFit, AreHeldAs, BatchData, is_left_in}
-use Rattle.px_phases.specs.Begun.{AreFrom, begun_batch}
+use Rattle.px_phases.specs.Begun.{AreFrom, prepared_batch}
 use Rattle.px_phases.specs.Phases.{ArePuts, AreTransitions, HasLongIndexed}
 use Rattle.px_region.specs.Promise.{IsAlike}
 use Rattle.px_region.specs.Region.{read_of}
@@ -31,7 +31,7 @@ use Rattle.px_group.specs.declared.group.IndexRegion.{IndexRegion}
 use Rattle.px_group.specs.declared.group.OpenPoint.{OpenPoint}
 use Rattle.px_beginning.specs.Begins.{AreRead, IsBatchOf, IsMadeOf, old_state}
 use Rattle.px_beginning.specs.Leaves.{AreAlike, LeavesGroup}
-use Rattle.px_beginning.specs.Reads.{forms_in, old_in}
+use Rattle.px_beginning.specs.Reads.{index_forms, old_in}
 use Rattle.px_values.specs.declared.row.Value.{Value}
 use Rattle.px_values.specs.States.{RowState}
 use Rattle.px_trail.specs.Batches.{rows_of}
@@ -49,7 +49,7 @@ alike_count [] (y ∷ ys) a = absurd a
 alike_count (x ∷ xs) [] a = absurd a
 alike_count (x ∷ xs) (y ∷ ys) a = (let n = alike_count xs ys a.1 in omega arith)
 
-pub alike_forms : (t : Table) (xs ys : List IndexRegion) → AreAlike xs ys → forms_in t xs ≡ forms_in t ys
+pub alike_forms : (t : Table) (xs ys : List IndexRegion) → AreAlike xs ys → index_forms t xs ≡ index_forms t ys
 alike_forms t [] [] a = refl
 alike_forms t [] (y ∷ ys) a = absurd a
 alike_forms t (x ∷ xs) [] a = absurd a
@@ -199,14 +199,14 @@ module _ (g g' : Group) (l : LeavesGroup g g') where
   made_after s cs xs bd p = record {
     parts = p.parts;
     puts = subst (λ (t : Table). ArePuts t s cs p.parts) (sym l.table) p.puts;
-    is = p.is ∙ (λ i. begun_batch (forms_same i) s cs xs p.parts (map (is_left_in (map batch_in (sym l.batches i))) (rows_of cs)));
+    is = p.is ∙ (λ i. prepared_batch (forms_same i) s cs xs p.parts (map (is_left_in (map batch_in (sym l.batches i))) (rows_of cs)));
     short = alike_all (λ x. HasLongIndexed g.table x.index cs xs → ⊥) (λ y. HasLongIndexed g'.table y.index cs xs → ⊥)
         (λ x y e a n z. n (subst (λ (t : Table). HasLongIndexed t x.index cs xs) l.table (subst (λ (i : Index). HasLongIndexed g'.table i cs xs) e z)))
         g.indexes.items g'.indexes.items l.indexes p.short;
   }
     where
-      forms_same : forms_in g.table g.indexes.items ≡ forms_in g'.table g'.indexes.items
-      forms_same = alike_forms g.table g.indexes.items g'.indexes.items l.indexes ∙ ap (λ (t : Table). forms_in t g'.indexes.items) (sym l.table)
+      forms_same : index_forms g.table g.indexes.items ≡ index_forms g'.table g'.indexes.items
+      forms_same = alike_forms g.table g.indexes.items g'.indexes.items l.indexes ∙ ap (λ (t : Table). index_forms t g'.indexes.items) (sym l.table)
 
   pub batch_after : (s : ℕ) (cs : List Change) (bd : BatchData) → IsBatchOf g s cs bd → IsBatchOf g' s cs bd
   batch_after s cs bd p = record {

@@ -21,7 +21,7 @@ use Rattle.px_phases.specs.Phases.{AreTransitions, HasLongIndexed, IsTransition}
 use Rattle.px_phases.specs.declared.transition.Transition.{Transition}
 use Rattle.px_beginning.specs.Admits.{met_by}
 use Rattle.px_beginning.specs.Faults.{HasLongIn, HasLongRow}
-use Rattle.px_beginning.specs.Reads.{form_at, forms_in}
+use Rattle.px_beginning.specs.Reads.{form_at, index_forms}
 
 -- 1. Batches
 
@@ -54,11 +54,11 @@ met_is cs m b e = λ j. record m { batch = e j }
 
 -- 2. Indexes
 
-pub kept_more : {A : Type 0} (g : IndexForm → A) (t : Table) (is : List IndexRegion) (i : ℕ) (x : IndexRegion) → i < length is → x ≡ get_or is i x → map g (forms_in t (take (i + 1) is)) ≡ map g (forms_in t (take i is)) ++ g (form_at t x) ∷ []
+pub kept_more : {A : Type 0} (g : IndexForm → A) (t : Table) (is : List IndexRegion) (i : ℕ) (x : IndexRegion) → i < length is → x ≡ get_or is i x → map g (index_forms t (take (i + 1) is)) ≡ map g (index_forms t (take i is)) ++ g (form_at t x) ∷ []
 kept_more g t is i x l e =
-    ap (λ (xs : List IndexRegion). map g (forms_in t xs)) (take_more is i x l)
+    ap (λ (xs : List IndexRegion). map g (index_forms t xs)) (take_more is i x l)
     ∙ (ap (map g) (map-append (form_at t) (take i is) (get_or is i x ∷ []))
-    ∙ (map-append g (forms_in t (take i is)) (form_at t (get_or is i x) ∷ []) ∙ ap (λ (y : IndexRegion). map g (forms_in t (take i is)) ++ g (form_at t y) ∷ []) (sym e)))
+    ∙ (map-append g (index_forms t (take i is)) (form_at t (get_or is i x) ∷ []) ∙ ap (λ (y : IndexRegion). map g (index_forms t (take i is)) ++ g (form_at t y) ∷ []) (sym e)))
 
 pub all_more : {A : Type 0} (P : A → Type 0) (xs : List A) (i : ℕ) (x : A) → i < length xs → x ≡ get_or xs i x → AllByRecursion P (take i xs) → P x → AllByRecursion P (take (i + 1) xs)
 all_more {A = A} P xs i x l e a p = subst (AllByRecursion P) (sym (take_more xs i x l)) (end (take i xs) a (subst P e p))

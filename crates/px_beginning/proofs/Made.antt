@@ -22,7 +22,7 @@ use Rattle.px_values.specs.declared.change.Change.{Change}
 use Rattle.px_beginning.proofs.Promised.{kept_inside}
 use Rattle.px_beginning.specs.Begins.{AreRead, IsMadeOf}
 use Rattle.px_beginning.specs.Reads.{old_in}
-use Rattle.px_beginning.specs.Rooms.{AreRoomsFor, AreRoomsOf, HasFew, IsLight, PassesAt, PassesIn, fresh_batch, no_room}
+use Rattle.px_beginning.specs.Rooms.{AreRoomsFor, AreRoomsOf, HasFew, IsLightRoom, PassesAt, PassesIn, fresh_batch, no_room}
 use Rattle.px_beginning.specs.declared.rooms.Room.{Room}
 use Rattle.px_beginning.specs.declared.preparing.Prepared.{Prepared}
 
@@ -43,7 +43,7 @@ exact x n limit e l m = omega arith
 
 pub rooms_are : (n : ℕ) (p : Prepared) (marks closes : List (List (List CellData))) (puts : List (List CellData)) → p.batch.marks ≡ marks → p.batch.closes ≡ closes → p.batch.puts ≡ Some puts → length marks ≡ n → length closes ≡ n
     → p.rows.cells ≡ min (length (laid puts)) 18446744073709551615 → p.rows.bytes ≡ min (length (all_bytes (laid puts))) 18446744073709551615 → AreRoomsFor p.indexes.items marks closes
-    → (HasFew p.rows × All HasFew p.indexes.items) × (IsLight p.rows × All IsLight p.indexes.items) → AreRoomsOf n p
+    → (HasFew p.rows × All HasFew p.indexes.items) × (IsLightRoom p.rows × All IsLightRoom p.indexes.items) → AreRoomsOf n p
 rooms_are n p marks closes puts em ec ep lm lc rc rb r light = record {
   rows = (
     exact p.rows.cells (length (laid puts)) 8192 rc light.0.0 (omega arith) ∙ ap (λ (o : Option (List (List CellData))). length (laid (parts_or_none o))) (sym ep),
@@ -122,7 +122,7 @@ module _ (n : ℕ) (batch : BatchData) (rows : Room) (rooms : List Room) (marks 
       (λ z. inr (z.0, (inside z.0 z.1.0, subst (λ (k : ℕ). 8192 < k) (cells_is z.0) (above (get_or rooms z.0 no_room).cells (length (laid (get_or marks z.0 [])) + length (laid (get_or closes z.0 []))) 8192 (r.each z.0 (let l = z.1.0 in let c = r.count in omega (arith, l, c))).cells z.1.1))))
       (which (λ (x : Room). x.cells) 8192 rows rooms passes)
 
-  pub many_bytes : PassesIn IsLight rows rooms → PassesAt bytes_of_rows bytes_at 8388608 n batch
+  pub many_bytes : PassesIn IsLightRoom rows rooms → PassesAt bytes_of_rows bytes_at 8388608 n batch
   many_bytes passes = ⊎_elim (λ lt. inl (subst (λ (k : ℕ). 8388608 < k) rows_bytes (above rows.bytes (length (all_bytes (laid puts))) 8388608 rb lt)))
       (λ z. inr (z.0, (inside z.0 z.1.0, subst (λ (k : ℕ). 8388608 < k) (bytes_is z.0) (above (get_or rooms z.0 no_room).bytes (length (all_bytes (laid (get_or marks z.0 []))) + length (all_bytes (laid (get_or closes z.0 [])))) 8388608 (r.each z.0 (let l = z.1.0 in let c = r.count in omega (arith, l, c))).bytes z.1.1))))
       (which (λ (x : Room). x.bytes) 8388608 rows rooms passes)

@@ -14,7 +14,7 @@ use Rattle.px_values.specs.declared.change.What.{What}
 use Rattle.px_values.specs.declared.row.Value.{Value}
 use Rattle.px_cellshapes.specs.Rows.{AreRightRows}
 use Rattle.px_forms.specs.Indexes.{IndexForm}
-use Rattle.px_indexrow.specs.Form.{FitsState, IsLong, IsRightIndex, index_form}
+use Rattle.px_indexrow.specs.Form.{FitsRowState, IsLongInIndex, IsRightIndex, index_form}
 use Rattle.px_phases.proofs.FirstRows.{new_fits}
 use Rattle.px_phases.specs.Batch.{AllFit, BatchData}
 use Rattle.px_phases.specs.Begun.{no_form}
@@ -23,13 +23,13 @@ use Rattle.px_phases.specs.declared.transition.Transition.{Transition}
 use Rattle.px_region.specs.Region.{read_of}
 use Rattle.px_region.specs.declared.region.Region.{Region}
 use Rattle.px_rows.specs.Keys.{IsRightTable, row_columns, row_key}
-use Rattle.px_rows.specs.Spelled.{FitsTable, cells_at, table_form}
+use Rattle.px_rows.specs.Spelled.{FitsTable, change_contents, row_spelling}
 use Rattle.px_tables.specs.declared.index.Index.{Index}
 use Rattle.px_tables.specs.declared.table.Table.{Table}
 use Rattle.px_trail.specs.Batches.{is_distinct, rows_of}
 use Rattle.px_values.specs.Limits.{most_key}
 use Rattle.px_values.specs.declared.change.Change.{Change}
-use Rattle.px_group.specs.Group.{AreRightParts, IsRightBatch, IsRightGroup, IsRightPart, IsShaped, IsStage, most_rows, region_of}
+use Rattle.px_group.specs.Group.{AreRightParts, FitsPhase, IsRightBatch, IsRightGroup, IsRightPart, IsShaped, most_rows, region_of}
 use Rattle.px_group.specs.Room.{HasRooms, closes_for, kept_for, marks_for, puts_for}
 use Rattle.px_group.specs.declared.group.Begun.{Begun}
 use Rattle.px_group.specs.declared.group.Group.{Group}
@@ -40,7 +40,7 @@ use Rattle.px_beginning.proofs.Begun.{form_is, part_right}
 use Rattle.px_beginning.proofs.Promised.{kept_inside, rooms_admitted}
 use Rattle.px_beginning.specs.Admits.{Admits, HasRoomsWith, met_by}
 use Rattle.px_beginning.specs.Begins.{IsBatchOf}
-use Rattle.px_beginning.specs.Reads.{form_at, forms_in}
+use Rattle.px_beginning.specs.Reads.{form_at, index_forms}
 use Rattle.px_beginning.specs.Rooms.{fresh_batch}
 
 -- 1. The shapes of the cells
@@ -49,13 +49,13 @@ abbrev pub Listed : Type 0
 Listed = (t : Table) (i : Index) (cells : List CellData) → AllByRecursion (IsRightIndexCell t i) cells → AreRightKeys t i cells
 
 abbrev pub MarksRight : Type 0
-MarksRight = (t : Table) (i : Index) (r : List Value) (s : ℕ) (old new : RowState) → IsRightTable t → IsRightIndex t i → Fits (row_columns t) r → FitsState t old → FitsState t new → (IsLong t i r old → ⊥) → (IsLong t i r new → ⊥) → AllByRecursion (IsRightIndexCell t i) (marks_of (index_form t i) r s old new)
+MarksRight = (t : Table) (i : Index) (r : List Value) (s : ℕ) (old new : RowState) → IsRightTable t → IsRightIndex t i → Fits (row_columns t) r → FitsRowState t old → FitsRowState t new → (IsLongInIndex t i r old → ⊥) → (IsLongInIndex t i r new → ⊥) → AllByRecursion (IsRightIndexCell t i) (marks_of (index_form t i) r s old new)
 
 abbrev pub ClosesRight : Type 0
-ClosesRight = (t : Table) (i : Index) (r : List Value) (s : ℕ) (old new : RowState) → IsRightTable t → IsRightIndex t i → Fits (row_columns t) r → FitsState t old → FitsState t new → (IsLong t i r old → ⊥) → (IsLong t i r new → ⊥) → AllByRecursion (IsRightIndexCell t i) (closes_of (index_form t i) r s old new)
+ClosesRight = (t : Table) (i : Index) (r : List Value) (s : ℕ) (old new : RowState) → IsRightTable t → IsRightIndex t i → Fits (row_columns t) r → FitsRowState t old → FitsRowState t new → (IsLongInIndex t i r old → ⊥) → (IsLongInIndex t i r new → ⊥) → AllByRecursion (IsRightIndexCell t i) (closes_of (index_form t i) r s old new)
 
 abbrev pub PutsRight : Type 0
-PutsRight = (t : Table) (r : List Value) (s : ℕ) (w : What) (cells : List CellData) → FitsTable t r w → length (row_key t r) ≤ most_key → value_at cells ≡ cells_at (table_form t) r s w → AreRightRows t cells
+PutsRight = (t : Table) (r : List Value) (s : ℕ) (w : What) (cells : List CellData) → FitsTable t r w → length (row_key t r) ≤ most_key → value_at cells ≡ change_contents (row_spelling t) r s w → AreRightRows t cells
 
 module _ (listed : Listed) (marks_right : MarksRight) (closes_right : ClosesRight) (put : PutsRight) where
   marks_shaped : (t : Table) (x : Index) (s : ℕ) (cs : List Change) (xs : List Transition) → IsRightTable t → IsRightIndex t x → AreTransitions t cs xs → (HasLongIndexed t x cs xs → ⊥) → AreRightParts t x (mark_parts (index_form t x) s cs xs)
@@ -92,7 +92,7 @@ module _ (listed : Listed) (marks_right : MarksRight) (closes_right : ClosesRigh
   n = length g.indexes.items
 
   abbrev fs : List IndexForm
-  fs = forms_in g.table g.indexes.items
+  fs = index_forms g.table g.indexes.items
 
   pub marks_count : length bd.marks ≡ n
   marks_count = ap (λ (b : BatchData). length b.marks) p.made.is ∙ (length-map fs (λ f. mark_parts f s cs p.transitions) ∙ length-map g.indexes.items (form_at g.table))
@@ -167,7 +167,7 @@ module _ (listed : Listed) (marks_right : MarksRight) (closes_right : ClosesRigh
     shaped = (let z = shaped_now m q.shaped in record { puts = z.puts; marks = z.marks; closes = z.closes });
   }
     where
-      stage_same : (ph : Phase) → IsStage ph m.count m.batch → IsStage ph m.count (met_by bd.changes m).batch
+      stage_same : (ph : Phase) → FitsPhase ph m.count m.batch → FitsPhase ph m.count (met_by bd.changes m).batch
       stage_same Marking w = w
       stage_same Writing w = w
       stage_same Verifying w = w

@@ -7,7 +7,7 @@ use Rattle.px_group.specs.declared.group.Group.{Group}
 use Rattle.px_openbatches.specs.Made.{RowCells}
 use Rattle.px_openbatches.specs.Pending.{HeldBatch, held_begun}
 use Rattle.px_phases.specs.Batch.{BatchData, is_left_in}
-use Rattle.px_phases.specs.Begun.{AreFrom, begun_batch, made_rows}
+use Rattle.px_phases.specs.Begun.{AreFrom, made_rows, prepared_batch}
 use Rattle.px_phases.specs.Phases.{ArePuts, AreTransitions, HasLongIndexed}
 use Rattle.px_phases.specs.declared.transition.Transition.{Transition}
 use Rattle.px_region.specs.Region.{read_of}
@@ -18,7 +18,7 @@ use Rattle.px_values.specs.States.{RowState}
 use Rattle.px_values.specs.declared.change.Change.{Change}
 use Rattle.px_values.specs.declared.row.Value.{Value}
 use Rattle.px_beginning.specs.Faults.{HasLongIn, HasLongRow}
-use Rattle.px_beginning.specs.Reads.{forms_in, old_in}
+use Rattle.px_beginning.specs.Reads.{index_forms, old_in}
 
 -- 1. What is read
 
@@ -38,7 +38,7 @@ pub record AreRead (g : Group) (cs : List Change) (xs : List Transition) : Type 
 pub record IsMadeOf (g : Group) (s : ℕ) (cs : List Change) (xs : List Transition) (b : BatchData) : Type 0 where
   pub parts : List (List CellData)
   pub puts : ArePuts g.table s cs parts
-  pub is : b ≡ begun_batch (forms_in g.table g.indexes.items) s cs xs parts (map (is_left_in (batches_of g)) (rows_of cs))
+  pub is : b ≡ prepared_batch (index_forms g.table g.indexes.items) s cs xs parts (map (is_left_in (batches_of g)) (rows_of cs))
   pub short : AllByRecursion (λ x. HasLongIndexed g.table x.index cs xs → ⊥) g.indexes.items
 
 -- the batch of these changes, as it begins: it is made of what is read, and no key is too long
@@ -50,11 +50,11 @@ pub record IsBatchOf (g : Group) (s : ℕ) (cs : List Change) (b : BatchData) : 
 
 -- its cells, row by row
 abbrev pub rows_made : (g : Group) (s : ℕ) (cs : List Change) (b : BatchData) → IsBatchOf g s cs b → List RowCells
-rows_made g s cs b p = made_rows (forms_in g.table g.indexes.items) s cs p.transitions p.made.parts
+rows_made g s cs b p = made_rows (index_forms g.table g.indexes.items) s cs p.transitions p.made.parts
 
 -- the open batches after it has begun
-abbrev pub held_with : (g : Group) (s : ℕ) (cs : List Change) (b : BatchData) → IsBatchOf g s cs b → List HeldBatch → List HeldBatch
-held_with g s cs b p hs = held_begun s cs (length g.indexes.items) (rows_made g s cs b p) hs
+abbrev pub held_with_begun : (g : Group) (s : ℕ) (cs : List Change) (b : BatchData) → IsBatchOf g s cs b → List HeldBatch → List HeldBatch
+held_with_begun g s cs b p hs = held_begun s cs (length g.indexes.items) (rows_made g s cs b p) hs
 
 -- 3. Keys that are too long
 

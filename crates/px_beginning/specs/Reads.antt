@@ -32,5 +32,5 @@ abbrev pub form_at : Table → IndexRegion → IndexForm
 form_at t x = index_form t x.index
 
 -- the forms of the indexes, in their order
-abbrev pub forms_in : Table → List IndexRegion → List IndexForm
-forms_in t indexes = map (form_at t) indexes
+abbrev pub index_forms : Table → List IndexRegion → List IndexForm
+index_forms t indexes = map (form_at t) indexes

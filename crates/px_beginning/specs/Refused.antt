@@ -2,7 +2,7 @@
 use Rattle.std.specs.Prelude.{◌≡◌, ◌+◌, ◌<◌, ◌≤◌, ◌⊎◌, ℕ, List, length, get_or}
 use Rattle.px_group.specs.declared.group.Group.{Group}
 use Rattle.px_group.specs.declared.group.IndexRegion.{IndexRegion}
-use Rattle.px_region.specs.Promise.{HasRoom, IsReady, PassesLimit}
+use Rattle.px_region.specs.Promise.{HasLogRoom, IsLogReady, PassesLimit}
 use Rattle.px_region.specs.declared.region.Region.{Region}
 use Rattle.px_beginning.specs.declared.fault.BeginFault.{BeginFault}
 use Rattle.px_beginning.specs.declared.fault.BeginFault.TheVariants.{Limit, NotReady, Busy, ReadFault, Damaged, Memory}
@@ -12,8 +12,8 @@ use Rattle.px_beginning.specs.declared.rooms.Room.{Room}
 
 -- A region refuses a room that isn't empty: its log isn't open or has no room, or it would have too many cells or bytes, which are told without these.
 abbrev pub IsRefusedAt : Region → Room → BeginFault → Type 0
-IsRefusedAt region room (NotReady number) = (number ≡ region.number) × (0 < room.cells + room.bytes) × ((IsReady region → ⊥) ⊎ (HasRoom region room.cells room.bytes → ⊥))
-IsRefusedAt region room (Busy number cells bytes) = (number ≡ region.number) × (0 < room.cells + room.bytes) × (IsReady region × PassesLimit region room.cells room.bytes × (cells ≡ region.cells + region.promised) × (bytes ≡ region.bytes + region.promised_bytes))
+IsRefusedAt region room (NotReady number) = (number ≡ region.number) × (0 < room.cells + room.bytes) × ((IsLogReady region → ⊥) ⊎ (HasLogRoom region room.cells room.bytes → ⊥))
+IsRefusedAt region room (Busy number cells bytes) = (number ≡ region.number) × (0 < room.cells + room.bytes) × (IsLogReady region × PassesLimit region room.cells room.bytes × (cells ≡ region.cells + region.promised) × (bytes ≡ region.bytes + region.promised_bytes))
 IsRefusedAt region room Memory = Unit {0}
 IsRefusedAt region room (Limit limit) = ⊥
 IsRefusedAt region room ReadFault = ⊥

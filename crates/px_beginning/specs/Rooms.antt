@@ -37,8 +37,8 @@ abbrev pub HasFew : Room → Type 0
 HasFew room = room.cells ≤ 8192
 
 -- at most 8,388,608 bytes of them
-abbrev pub IsLight : Room → Type 0
-IsLight room = room.bytes ≤ 8388608
+abbrev pub IsLightRoom : Room → Type 0
+IsLightRoom room = room.bytes ≤ 8388608
 
 -- not all of the rooms are so
 abbrev pub PassesIn : (Room → Type 0) → Room → List Room → Type 0
@@ -56,7 +56,7 @@ pub record AreRoomsOf (count : ℕ) (p : Prepared) : Type 0 where
   pub count_is : length p.indexes.items ≡ count
   pub indexes : (i : ℕ) → i < count → ((get_or p.indexes.items i no_room).cells ≡ cells_at i (fresh_batch count p.batch)) × ((get_or p.indexes.items i no_room).bytes ≡ bytes_at i (fresh_batch count p.batch))
   pub few : HasFew p.rows × All HasFew p.indexes.items
-  pub light : IsLight p.rows × All IsLight p.indexes.items
+  pub light : IsLightRoom p.rows × All IsLightRoom p.indexes.items
 
 -- 4. Too much room
 

@@ -6,7 +6,7 @@ ghost use Rattle.px_rows.specs.Keys.{IsRightTable};
 ghost use Rattle.px_trail.specs.Batches.{is_distinct, rows_of};
 ghost use Rattle.px_phases.specs.Phases.{AreTransitions, HasLongIndexed, close_parts, mark_parts};
 ghost use Rattle.px_beginning.specs.Faults.{HasLongIn};
-ghost use Rattle.px_beginning.specs.Reads.{forms_in};
+ghost use Rattle.px_beginning.specs.Reads.{index_forms};
 ghost use Rattle.px_values.specs.declared.limit.Limit.{Limit as Bound};
 ghost use Rattle.px_beginning.specs.declared.fault.BeginFault.{BeginFault as Fault};
 
@@ -58,7 +58,7 @@ pub(crate) fn marks_of_indexes(
     requires indexes { AllByRecursion (λ x. IsRightIndex table.now x.index) indexes.now }
     requires distinct { is_distinct (rows_of changes.now) ≡ true }
     requires transitions { AreTransitions table.now changes.now transitions.now }
-    ensures kept { IfOk result (λ kept. kept.items ≡ map (λ f. mark_parts f stamp changes.now transitions.now) (forms_in table.now indexes.now)) }
+    ensures kept { IfOk result (λ kept. kept.items ≡ map (λ f. mark_parts f stamp changes.now transitions.now) (index_forms table.now indexes.now)) }
     ensures long { result ≡ Err (Fault.Limit Bound.Key) → HasLongIn table.now indexes.now changes.now transitions.now }
     ensures short { IsOk result → AllByRecursion (λ x. HasLongIndexed table.now x.index changes.now transitions.now → ⊥) indexes.now }
     ensures only { (limit : Bound) → result ≡ Err (Fault.Limit limit) → limit ≡ Bound.Key }
@@ -108,7 +108,7 @@ pub(crate) fn closes_of_indexes(
     requires indexes { AllByRecursion (λ x. IsRightIndex table.now x.index) indexes.now }
     requires distinct { is_distinct (rows_of changes.now) ≡ true }
     requires transitions { AreTransitions table.now changes.now transitions.now }
-    ensures kept { IfOk result (λ kept. kept.items ≡ map (λ f. close_parts f stamp changes.now transitions.now) (forms_in table.now indexes.now)) }
+    ensures kept { IfOk result (λ kept. kept.items ≡ map (λ f. close_parts f stamp changes.now transitions.now) (index_forms table.now indexes.now)) }
     ensures long { result ≡ Err (Fault.Limit Bound.Key) → HasLongIn table.now indexes.now changes.now transitions.now }
     ensures only { (limit : Bound) → result ≡ Err (Fault.Limit limit) → limit ≡ Bound.Key }
 {

@@ -20,7 +20,7 @@ ghost use Rattle.px_trail.specs.declared.entry.Entry.{Entry as Entries};
 ghost use Rattle.px_values.specs.declared.change.Change.{Change as RowChange};
 ghost use Rattle.px_values.specs.declared.row.Value.{Value as ColumnValue};
 ghost use Rattle.px_beginning.specs.Admits.{Admits, HasRoomsWith};
-ghost use Rattle.px_beginning.specs.Begins.{IsBatchOf, held_with, old_state};
+ghost use Rattle.px_beginning.specs.Begins.{IsBatchOf, held_with_begun, old_state};
 ghost use Rattle.px_beginning.specs.Leaves.{KeepsRooms, LeavesGroup, TakesRooms};
 ghost use Rattle.px_beginning.specs.Rooms.{AreRoomsOf, fresh_batch};
 ghost use Rattle.px_beginning.specs.declared.preparing.Prepared.{Prepared as PreparedBatch};
@@ -41,9 +41,9 @@ pub fn law_leaves()
 /// What letting a batch in is, where its entry may come: the batch is the table's last one, the step is Begin of each of its rows at
 /// every index, and the table is right as before.
 pub fn law_begins()
-    ensures tallied { (b : Base) (es : List Entries) (g : Groups) (hs : List HeldBatch) (e : Entries) (s : ℕ) (cs : List RowChange) → MayCome b es e → e.act ≡ BegunAct g.table.id s cs → (bd : BatchData) (p : IsBatchOf g s cs bd) (g' : Groups) → Admits g bd g' → IsTableBase b g.table.id.0 → IsLegal b es → IsTallied b es g hs → IsTallied b (es ++ e ∷ []) g' (held_with g s cs bd p hs) }
-    ensures steps { (b : Base) (es : List Entries) (g : Groups) (hs : List HeldBatch) (e : Entries) (s : ℕ) (cs : List RowChange) → MayCome b es e → e.act ≡ BegunAct g.table.id s cs → (bd : BatchData) (p : IsBatchOf g s cs bd) (g' : Groups) → Admits g bd g' → (index : ℕ → IndexForm) (v : GroupData) → IsRightGroup g → AllFit g.table cs → s ≤ greatest_stamp → IsTallied b es g hs → IsShownBy b index es g v hs → TableSteps (form_of b index g) (λ i r. begin_event s (change_of cs r)) es v (es ++ e ∷ []) (begun_data s v) (held_with g s cs bd p hs) }
-    ensures shown { (b : Base) (es : List Entries) (g : Groups) (hs : List HeldBatch) (e : Entries) (s : ℕ) (cs : List RowChange) → MayCome b es e → e.act ≡ BegunAct g.table.id s cs → (bd : BatchData) (p : IsBatchOf g s cs bd) (g' : Groups) → Admits g bd g' → (index : ℕ → IndexForm) (v : GroupData) → IsRightGroup g → AllFit g.table cs → s ≤ greatest_stamp → IsTallied b es g hs → IsShownBy b index es g v hs → IsShownBy b index (es ++ e ∷ []) g' (begun_data s v) (held_with g s cs bd p hs) }
+    ensures tallied { (b : Base) (es : List Entries) (g : Groups) (hs : List HeldBatch) (e : Entries) (s : ℕ) (cs : List RowChange) → MayCome b es e → e.act ≡ BegunAct g.table.id s cs → (bd : BatchData) (p : IsBatchOf g s cs bd) (g' : Groups) → Admits g bd g' → IsTableBase b g.table.id.0 → IsLegal b es → IsTallied b es g hs → IsTallied b (es ++ e ∷ []) g' (held_with_begun g s cs bd p hs) }
+    ensures steps { (b : Base) (es : List Entries) (g : Groups) (hs : List HeldBatch) (e : Entries) (s : ℕ) (cs : List RowChange) → MayCome b es e → e.act ≡ BegunAct g.table.id s cs → (bd : BatchData) (p : IsBatchOf g s cs bd) (g' : Groups) → Admits g bd g' → (index : ℕ → IndexForm) (v : GroupData) → IsRightGroup g → AllFit g.table cs → s ≤ greatest_stamp → IsTallied b es g hs → IsShownBy b index es g v hs → TableSteps (form_of b index g) (λ i r. begin_event s (change_of cs r)) es v (es ++ e ∷ []) (begun_data s v) (held_with_begun g s cs bd p hs) }
+    ensures shown { (b : Base) (es : List Entries) (g : Groups) (hs : List HeldBatch) (e : Entries) (s : ℕ) (cs : List RowChange) → MayCome b es e → e.act ≡ BegunAct g.table.id s cs → (bd : BatchData) (p : IsBatchOf g s cs bd) (g' : Groups) → Admits g bd g' → (index : ℕ → IndexForm) (v : GroupData) → IsRightGroup g → AllFit g.table cs → s ≤ greatest_stamp → IsTallied b es g hs → IsShownBy b index es g v hs → IsShownBy b index (es ++ e ∷ []) g' (begun_data s v) (held_with_begun g s cs bd p hs) }
     ensures right { (g : Groups) (s : ℕ) (cs : List RowChange) (bd : BatchData) (p : IsBatchOf g s cs bd) (g' : Groups) → Admits g bd g' → IsRightGroup g → AllFit g.table cs → is_distinct (rows_of cs) ≡ true → cs ≢ [] → length cs ≤ most_rows → HasRooms g → HasRoomsWith g (fresh_batch (length g.indexes.items) bd) → IsRightGroup g' }
 {
     law_keys_read();

@@ -1,7 +1,7 @@
 // What the batches of a table are still to write.
 ghost use Rattle.std.specs.Prelude.{◌≡◌, IfOk, is_some, map};
 ghost use Rattle.std.specs.List.{AllByRecursion, list_any};
-ghost use Rattle.px_indexrow.specs.Form.{FitsState};
+ghost use Rattle.px_indexrow.specs.Form.{FitsRowState};
 ghost use Rattle.px_rows.specs.Keys.{IsRightTable};
 ghost use Rattle.px_trail.specs.Batches.{rows_of};
 ghost use Rattle.px_trail.specs.Trail.{table_shape};
@@ -24,10 +24,10 @@ pub(crate) fn expected_of(
     batches: &[Begun],
 ) -> Result<Option<Row>, AllocError>
     requires table { IsRightTable table.now }
-    requires state { FitsState table.now state }
+    requires state { FitsRowState table.now state }
     requires fit { AllByRecursion (λ m. AllFit table.now m.batch.changes) batches.now }
     ensures state { IfOk result (λ new. new ≡ pending_state (table_shape table.now) row.now state (map batch_in batches.now)) }
-    ensures fits { IfOk result (λ new. FitsState table.now new) }
+    ensures fits { IfOk result (λ new. FitsRowState table.now new) }
 {
     let mut state = state;
     for begun in batches {

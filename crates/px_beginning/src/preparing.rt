@@ -13,7 +13,7 @@ ghost use Rattle.px_beginning.specs.declared.fault.BeginFault.{BeginFault as Fau
 ghost use Rattle.px_beginning.specs.Begins.{IsBatchOf, IsMadeOf, NeedsLongKey};
 ghost use Rattle.px_beginning.specs.Faults.{HasLongIn};
 ghost use Rattle.px_beginning.specs.Leaves.{KeepsRooms, LeavesGroup};
-ghost use Rattle.px_beginning.specs.Reads.{forms_in};
+ghost use Rattle.px_beginning.specs.Reads.{index_forms};
 ghost use Rattle.px_beginning.specs.Rooms.{AreRoomsOf, HasManyBytes, HasManyCells, MakesTooMuch};
 
 use crate::cells::{closes_of_indexes, marks_of_indexes};
@@ -143,8 +143,8 @@ fn made_of(
     requires short { AllByRecursion (λ c. length (row_key group.now.table c.row) ≤ most_key) changes.now }
     requires distinct { is_distinct (rows_of changes.now) ≡ true }
     requires transitions { AreTransitions group.now.table changes.now transitions.now }
-    ensures marks { IfOk result (λ made. made.marks.items ≡ map (λ f. mark_parts f stamp changes.now transitions.now) (forms_in group.now.table group.now.indexes.items)) }
-    ensures closes { IfOk result (λ made. made.closes.items ≡ map (λ f. close_parts f stamp changes.now transitions.now) (forms_in group.now.table group.now.indexes.items)) }
+    ensures marks { IfOk result (λ made. made.marks.items ≡ map (λ f. mark_parts f stamp changes.now transitions.now) (index_forms group.now.table group.now.indexes.items)) }
+    ensures closes { IfOk result (λ made. made.closes.items ≡ map (λ f. close_parts f stamp changes.now transitions.now) (index_forms group.now.table group.now.indexes.items)) }
     ensures puts { IfOk result (λ made. ArePuts group.now.table stamp changes.now made.puts) }
     ensures short { IfOk result (λ made. AllByRecursion (λ x. HasLongIndexed group.now.table x.index changes.now transitions.now → ⊥) group.now.indexes.items) }
     ensures long { result ≡ Err (Fault.Limit Bound.Key) → HasLongIn group.now.table group.now.indexes.items changes.now transitions.now }

@@ -3,7 +3,7 @@ ghost use Rattle.std.specs.Prelude.{◌≡◌, ◌↔◌, IfOk, IsTrue, Some, No
 ghost use Rattle.std.specs.List.{All};
 ghost use Rattle.px_cellbytes.specs.Spelling.{all_bytes};
 ghost use Rattle.px_keptcells.specs.Kept.{laid};
-ghost use Rattle.px_beginning.specs.Rooms.{AreRoomsFor, HasFew, HasRoomFor, IsLight, PassesIn};
+ghost use Rattle.px_beginning.specs.Rooms.{AreRoomsFor, HasFew, HasRoomFor, IsLightRoom, PassesIn};
 ghost use Rattle.px_values.specs.declared.limit.Limit.{Limit as Bound};
 
 use px_keptcells::KeptCells;
@@ -71,7 +71,7 @@ fn are_few(rooms: &[Room]) -> bool
 
 /// Whether none of them has too many bytes.
 fn are_light(rooms: &[Room]) -> bool
-    ensures { IsTrue result ↔ All IsLight rooms.now }
+    ensures { IsTrue result ↔ All IsLightRoom rooms.now }
 {
     rooms.iter().all(|room| room.bytes <= MOST_BYTES)
 }
@@ -79,9 +79,9 @@ fn are_light(rooms: &[Room]) -> bool
 /// The limit that a batch passes which takes this room in the data region and in the indexes.
 pub(crate) fn limit_of(rows: Room, indexes: &[Room]) -> Option<Limit>
     ensures cells { result ≡ Some Bound.Cells ↔ PassesIn HasFew rows indexes.now }
-    ensures bytes { result ≡ Some Bound.Bytes ↔ ((PassesIn HasFew rows indexes.now → ⊥) × PassesIn IsLight rows indexes.now) }
+    ensures bytes { result ≡ Some Bound.Bytes ↔ ((PassesIn HasFew rows indexes.now → ⊥) × PassesIn IsLightRoom rows indexes.now) }
     ensures of_cells { result ≡ Some Bound.Key → ⊥ }
-    ensures none { result ≡ None → (HasFew rows × All HasFew indexes.now) × (IsLight rows × All IsLight indexes.now) }
+    ensures none { result ≡ None → (HasFew rows × All HasFew indexes.now) × (IsLightRoom rows × All IsLightRoom indexes.now) }
 {
     if rows.cells > MOST_CELLS || !are_few(indexes) {
         return Some(Limit::Cells);

@@ -3,7 +3,7 @@ ghost use Rattle.std.specs.Prelude.{◌≡◌, ◌≢◌, ◌≤◌, [], true, l
 ghost use Rattle.std.specs.List.{AllByRecursion};
 ghost use Rattle.px_values.specs.Order.{row_order};
 ghost use Rattle.px_trail.specs.Batches.{has as has_row, is_distinct as are_apart, rows_of};
-ghost use Rattle.px_calls.specs.Requires.{FitsTable};
+ghost use Rattle.px_calls.specs.Requires.{IsChangeOf};
 
 use px_fitting::fits;
 use px_tables::Table;
@@ -78,7 +78,7 @@ fn are_distinct(changes: &[Change]) -> bool
 
 /// Whether each change is one of a row of the table.
 pub fn are_fitting(table: &Table, changes: &[Change]) -> bool
-    ensures { result ≡ true → AllByRecursion (FitsTable table.now) changes.now }
+    ensures { result ≡ true → AllByRecursion (IsChangeOf table.now) changes.now }
 {
     match changes {
         [] => true,

@@ -5,7 +5,7 @@ use Rattle.std.specs.Option.{option_and_then, option_map, option_map_or, option_
 use Rattle.std.specs.Str.{bytes_eq, str_eq_ignore_ascii_case}
 use Rattle.px_lex.specs.declared.kind.Kind.TheVariants as k
 use Rattle.px_lex.specs.Kinds.{same_kind}
-use Rattle.px_lex.specs.Lexemes.{Seen, Lexeme, IsReading, tokens_from, before_fault}
+use Rattle.px_lex.specs.Lexemes.{Seen, Lexeme, IsTextReading, tokens_from, before_fault}
 use Rattle.px_bind.specs.declared.request.Hint.{Hint}
 use Rattle.px_bind.specs.declared.request.Hint.TheVariants.{Index, NoIndex}
 
@@ -65,7 +65,7 @@ hints_among table zero (t ∷ tokens) = option_to_list (hint_at table (t ∷ tok
 -- the hints in what stands inside a hint's token: of a text with a lexical fault the tokens before it count
 abbrev pub AreInside : List ℕ → Option (List ℕ) → List Hint → Type 0
 AreInside table None found = found ≡ []
-AreInside table (Some inner) found = (xs : List Lexeme) × IsReading inner xs × (found ≡ hints_among table 0 (tokens_from 0 (before_fault xs)))
+AreInside table (Some inner) found = (xs : List Lexeme) × IsTextReading inner xs × (found ≡ hints_among table 0 (tokens_from 0 (before_fault xs)))
 
 -- the hints of a query of this table
 abbrev pub AreHints : List ℕ → Option (List ℕ) → List Hint → Type 0

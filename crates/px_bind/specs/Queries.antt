@@ -9,8 +9,8 @@ use Rattle.px_tables.specs.declared.table.Table.{Table}
 use Rattle.px_tables.specs.declared.table.TableColumn.{TableColumn}
 use Rattle.px_resolve.specs.Conditions.{condition_faults, bound_over}
 use Rattle.px_bind.specs.Hints.{AreHints}
-use Rattle.px_resolve.specs.Literals.{number_of, range_if}
-use Rattle.px_resolve.specs.Names.{names_of, part_names, place_of, places_from, key_place, known}
+use Rattle.px_resolve.specs.Literals.{number_of_digits, range_if}
+use Rattle.px_resolve.specs.Names.{names_of, part_names, place_of_name, places_from, key_place, known}
 use Rattle.px_resolve.specs.declared.conditions.Check.{Check}
 use Rattle.px_resolve.specs.declared.conditions.Check.TheVariants.{Names, Operands}
 use Rattle.px_resolve.specs.declared.fault.BindFault.{BindFault}
@@ -29,7 +29,7 @@ shown_faults columns (Some names) = known (names_of columns) names
 
 abbrev pub limit_faults : Option RowLimit → List BindFault
 limit_faults None = []
-limit_faults (Some l) = range_if (nat_lt 9223372036854775807 (number_of l.digits)) l.place
+limit_faults (Some l) = range_if (nat_lt 9223372036854775807 (number_of_digits l.digits)) l.place
 
 -- names, then literals
 abbrev pub select_faults : List TableColumn → Select → List BindFault
@@ -49,14 +49,14 @@ filter_of columns (Some c) = Some (bound_over columns c)
 -- the columns that are shown: all, in order of definition, for `*`
 abbrev pub shown_of : List TableColumn → Option (List (List ℕ)) → List ℕ
 shown_of columns None = places_from 0 columns
-shown_of columns (Some names) = map (place_of (names_of columns)) names
+shown_of columns (Some names) = map (place_of_name (names_of columns)) names
 
 abbrev pub limit_of : Option RowLimit → Option ℕ
 limit_of None = None
-limit_of (Some l) = Some (number_of l.digits)
+limit_of (Some l) = Some (number_of_digits l.digits)
 
-abbrev pub query_of : Table → List Hint → Select → Query
-query_of t hints q = record {
+abbrev pub bound_query : Table → List Hint → Select → Query
+bound_query t hints q = record {
   table = t.id;
   hints = hints;
   shown = shown_of t.columns q.columns;
@@ -66,4 +66,4 @@ query_of t hints q = record {
 }
 
 abbrev pub IsQuery : Table → Select → Query → Type 0
-IsQuery t q query = (hints : List Hint) × AreHints t.name q.hint hints × (query ≡ query_of t hints q)
+IsQuery t q query = (hints : List Hint) × AreHints t.name q.hint hints × (query ≡ bound_query t hints q)

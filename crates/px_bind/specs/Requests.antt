@@ -6,10 +6,10 @@ use Rattle.px_ast.specs.declared.definition.IndexAction.{IndexAction}
 use Rattle.px_values.specs.declared.name.IndexId.{IndexId}
 use Rattle.px_values.specs.declared.name.TableId.{TableId}
 use Rattle.px_tables.specs.declared.found.Found.{Found}
-use Rattle.px_create.specs.Indexes.{index_faults, index_of, missing, new_index}
+use Rattle.px_create.specs.Indexes.{index_faults, index_id_named, missing_index, new_index}
 use Rattle.px_bind.specs.Queries.{IsQuery, delete_faults, filter_of, select_faults}
 use Rattle.px_create.specs.Tables.{new_table, table_faults}
-use Rattle.px_bind.specs.Upserts.{change_of, upsert_faults}
+use Rattle.px_bind.specs.Upserts.{upsert_change, upsert_faults}
 use Rattle.px_resolve.specs.declared.fault.BindFault.{BindFault}
 use Rattle.px_bind.specs.declared.request.Query.{Query}
 use Rattle.px_bind.specs.declared.request.Request.{Request}
@@ -21,8 +21,8 @@ abbrev pub faults_in : Found → Statement → List BindFault
 faults_in found (s.CreateTable t) = table_faults t
 faults_in found (s.DropTable d) = []
 faults_in found (s.CreateIndex i) = index_faults found.table i
-faults_in found (s.DropIndex d) = missing found.indexes d.if_exists d.name
-faults_in found (s.AlterIndex a) = missing found.indexes false a.name
+faults_in found (s.DropIndex d) = missing_index found.indexes d.if_exists d.name
+faults_in found (s.AlterIndex a) = missing_index found.indexes false a.name
 faults_in found (s.Upsert u) = upsert_faults found.table u
 faults_in found (s.Delete d) = delete_faults found.table.columns d
 faults_in found (s.Select q) = select_faults found.table.columns q
@@ -48,9 +48,9 @@ abbrev pub AsksIn : Found → Statement → Request → Type 0
 AsksIn found (s.CreateTable t) request = request ≡ r.CreateTable t.if_not_exists (new_table t)
 AsksIn found (s.DropTable d) request = request ≡ r.DropTable found.table.id
 AsksIn found (s.CreateIndex i) request = request ≡ r.CreateIndex i.if_not_exists (new_index found.table i)
-AsksIn found (s.DropIndex d) request = request ≡ drop_request found.table.id (index_of found.indexes d.name)
-AsksIn found (s.AlterIndex a) request = request ≡ alter_request found.table.id a.action (index_of found.indexes a.name)
-AsksIn found (s.Upsert u) request = request ≡ r.Upsert found.table.id (change_of found.table u)
+AsksIn found (s.DropIndex d) request = request ≡ drop_request found.table.id (index_id_named found.indexes d.name)
+AsksIn found (s.AlterIndex a) request = request ≡ alter_request found.table.id a.action (index_id_named found.indexes a.name)
+AsksIn found (s.Upsert u) request = request ≡ r.Upsert found.table.id (upsert_change found.table u)
 AsksIn found (s.Delete d) request = request ≡ r.Delete found.table.id (filter_of found.table.columns d.filter)
 AsksIn found (s.Select q) request = (query : Query) × IsQuery found.table q query × (request ≡ r.Select query)
 AsksIn found (s.Explain q) request = (query : Query) × IsQuery found.table q query × (request ≡ r.Explain query)

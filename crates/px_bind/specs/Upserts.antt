@@ -12,14 +12,14 @@ use Rattle.px_ast.specs.declared.statement.Upsert.{Upsert}
 use Rattle.px_tables.specs.declared.table.KeyPlace.{KeyPlace}
 use Rattle.px_tables.specs.declared.table.Table.{Table}
 use Rattle.px_tables.specs.declared.table.TableColumn.{TableColumn}
-use Rattle.px_resolve.specs.Names.{names_of, place_of, once, places_from, key_may_be_null}
-use Rattle.px_resolve.specs.Literals.{value_of, is_null, literal_faults, mismatch_if}
+use Rattle.px_resolve.specs.Names.{names_of, place_of_name, once, places_from, key_may_be_null}
+use Rattle.px_resolve.specs.Literals.{value_of_literal, is_null, literal_faults, mismatch_if}
 use Rattle.px_resolve.specs.declared.fault.BindFault.{BindFault}
 use Rattle.px_resolve.specs.declared.fault.BindFault.TheVariants.{NullKey}
 
 -- the columns that it names, as places: all of the table where it has no list
 abbrev pub named : Table → Upsert → List ℕ
-named t u = elim u.columns [ None ↦ places_from 0 t.columns | Some names ↦ map (place_of (names_of t.columns)) names ]
+named t u = elim u.columns [ None ↦ places_from 0 t.columns | Some names ↦ map (place_of_name (names_of t.columns)) names ]
 
 abbrev pub list_faults : Table → Option (List (List ℕ)) → List BindFault
 list_faults t None = []
@@ -42,7 +42,7 @@ position_of (p ∷ places) place = if nat_eq p place then 0 else position_of pla
 
 -- the value that is given for the column at a place; NULL where none is
 abbrev pub given : List ℕ → List Literal → ℕ → Value
-given places ls place = option_map_or (λ l. value_of l.constant) (slice_get ls (position_of places place)) Null
+given places ls place = option_map_or (λ l. value_of_literal l.constant) (slice_get ls (position_of places place)) Null
 
 -- a key column that may not be NULL, and is
 abbrev pub null_key : List TableColumn → List ℕ → List Literal → KeyPlace → List BindFault
@@ -64,14 +64,14 @@ is_key key place = list_any (λ k. nat_eq k.column place) key
 
 -- the assignment of a value to the column at a place, where that isn't one of the key
 abbrev pub assignment_of : List KeyPlace → ℕ → Literal → List Assignment
-assignment_of key place l = if is_key key place then [] else record { column = place; value = value_of l.constant } ∷ []
+assignment_of key place l = if is_key key place then [] else record { column = place; value = value_of_literal l.constant } ∷ []
 
 -- an assignment for each column but those of the key, in text order
-abbrev pub assigned : List KeyPlace → List ℕ → List Literal → List Assignment
-assigned key places [] = []
-assigned key [] (l ∷ ls) = []
-assigned key (p ∷ places) (l ∷ ls) = assignment_of key p l ++ assigned key places ls
+abbrev pub assignments_of : List KeyPlace → List ℕ → List Literal → List Assignment
+assignments_of key places [] = []
+assignments_of key [] (l ∷ ls) = []
+assignments_of key (p ∷ places) (l ∷ ls) = assignment_of key p l ++ assignments_of key places ls
 
 -- the values of the key, in its order, and those assignments
-abbrev pub change_of : Table → Upsert → Change
-change_of t u = record { row = map (λ k. given (named t u) u.values k.column) t.key; what = Set (assigned t.key (named t u) u.values) }
+abbrev pub upsert_change : Table → Upsert → Change
+upsert_change t u = record { row = map (λ k. given (named t u) u.values k.column) t.key; what = Set (assignments_of t.key (named t u) u.values) }

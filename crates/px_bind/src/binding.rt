@@ -1,12 +1,12 @@
 // Statements bound to what stands.
 ghost use Rattle.std.specs.Prelude.{◌≡◌, ◌≤◌, IfOk, false, length};
 ghost use Rattle.std.specs.Option.{option_copied};
-ghost use Rattle.px_resolve.specs.Answers.{Finds};
-ghost use Rattle.px_create.specs.Indexes.{index_faults, index_of, missing, new_index};
+ghost use Rattle.px_resolve.specs.Answers.{AnswersFirst};
+ghost use Rattle.px_create.specs.Indexes.{index_faults, index_id_named, missing_index, new_index};
 ghost use Rattle.px_bind.specs.Queries.{IsQuery, delete_faults, filter_of, select_faults};
 ghost use Rattle.px_bind.specs.Requests.{Asks, AsksIn, HasPlaces, IsFoundFor, alter_request, drop_request, faults_in, faults_of};
 ghost use Rattle.px_create.specs.Tables.{new_table, table_faults};
-ghost use Rattle.px_bind.specs.Upserts.{change_of, upsert_faults};
+ghost use Rattle.px_bind.specs.Upserts.{upsert_change, upsert_faults};
 ghost use Rattle.px_bind.specs.declared.request.Query.{Query};
 
 use crate::Request;
@@ -32,7 +32,7 @@ pub fn bind(
 ) -> Result<Request, BindFault>
     requires found { IsFoundFor statement.now (option_copied found) }
     requires places { HasPlaces (option_copied found) }
-    ensures refused { Finds (faults_of (option_copied found.entry) statement.now) result }
+    ensures refused { AnswersFirst (faults_of (option_copied found.entry) statement.now) result }
     ensures asked { IfOk result (Asks (option_copied found.entry) statement.now) }
 {
     match (statement, found) {
@@ -45,7 +45,7 @@ pub fn bind(
 /// The same where the table stands.
 fn bind_in(alloc: Global, statement: &Statement, found: &Found) -> Result<Request, BindFault>
     requires { length found.now.table.columns ≤ 255 }
-    ensures faults { Finds (faults_in found.now statement.now) result }
+    ensures faults { AnswersFirst (faults_in found.now statement.now) result }
     ensures request { IfOk result (AsksIn found.now statement.now) }
 {
     match statement {
@@ -62,7 +62,7 @@ fn bind_in(alloc: Global, statement: &Statement, found: &Found) -> Result<Reques
 }
 
 fn create_table(alloc: Global, create: &CreateTable) -> Result<Request, BindFault>
-    ensures faults { Finds (table_faults create.now) result }
+    ensures faults { AnswersFirst (table_faults create.now) result }
     ensures request { IfOk result (λ r. r ≡ Request.CreateTable create.now.if_not_exists (new_table create.now)) }
 {
     match bind_table(alloc, create) {
@@ -76,7 +76,7 @@ fn create_table(alloc: Global, create: &CreateTable) -> Result<Request, BindFaul
 
 fn create_index(alloc: Global, table: &Table, create: &CreateIndex) -> Result<Request, BindFault>
     requires { length table.now.columns ≤ 255 }
-    ensures faults { Finds (index_faults table.now create.now) result }
+    ensures faults { AnswersFirst (index_faults table.now create.now) result }
     ensures request { IfOk result (λ r. r ≡ Request.CreateIndex create.now.if_not_exists (new_index table.now create.now)) }
 {
     match bind_index(alloc, table, create) {
@@ -89,8 +89,8 @@ fn create_index(alloc: Global, table: &Table, create: &CreateIndex) -> Result<Re
 }
 
 fn drop_index(alloc: Global, found: &Found, dropped: &DropIndex) -> Result<Request, BindFault>
-    ensures faults { Finds (missing found.now.indexes dropped.now.if_exists dropped.now.name) result }
-    ensures request { IfOk result (λ r. r ≡ drop_request found.now.table.id (index_of found.now.indexes dropped.now.name)) }
+    ensures faults { AnswersFirst (missing_index found.now.indexes dropped.now.if_exists dropped.now.name) result }
+    ensures request { IfOk result (λ r. r ≡ drop_request found.now.table.id (index_id_named found.now.indexes dropped.now.name)) }
 {
     let indexes = found.indexes.as_slice();
     match bind_index_name(alloc, indexes, dropped.if_exists, &dropped.name) {
@@ -104,8 +104,8 @@ fn drop_index(alloc: Global, found: &Found, dropped: &DropIndex) -> Result<Reque
 }
 
 fn alter_index(alloc: Global, found: &Found, alter: &AlterIndex) -> Result<Request, BindFault>
-    ensures faults { Finds (missing found.now.indexes false alter.now.name) result }
-    ensures request { IfOk result (λ r. r ≡ alter_request found.now.table.id alter.now.action (index_of found.now.indexes alter.now.name)) }
+    ensures faults { AnswersFirst (missing_index found.now.indexes false alter.now.name) result }
+    ensures request { IfOk result (λ r. r ≡ alter_request found.now.table.id alter.now.action (index_id_named found.now.indexes alter.now.name)) }
 {
     let indexes = found.indexes.as_slice();
     match bind_index_name(alloc, indexes, false, &alter.name) {
@@ -121,8 +121,8 @@ fn alter_index(alloc: Global, found: &Found, alter: &AlterIndex) -> Result<Reque
 
 fn upsert_request(alloc: Global, table: &Table, upsert: &Upsert) -> Result<Request, BindFault>
     requires { length table.now.columns ≤ 255 }
-    ensures faults { Finds (upsert_faults table.now upsert.now) result }
-    ensures request { IfOk result (λ r. r ≡ Request.Upsert table.now.id (change_of table.now upsert.now)) }
+    ensures faults { AnswersFirst (upsert_faults table.now upsert.now) result }
+    ensures request { IfOk result (λ r. r ≡ Request.Upsert table.now.id (upsert_change table.now upsert.now)) }
 {
     match bind_upsert(alloc, table, upsert) {
         Ok(change) => Ok(Request::Upsert {
@@ -135,7 +135,7 @@ fn upsert_request(alloc: Global, table: &Table, upsert: &Upsert) -> Result<Reque
 
 fn delete_request(alloc: Global, table: &Table, delete: &Delete) -> Result<Request, BindFault>
     requires { length table.now.columns ≤ 255 }
-    ensures faults { Finds (delete_faults table.now.columns delete.now) result }
+    ensures faults { AnswersFirst (delete_faults table.now.columns delete.now) result }
     ensures request { IfOk result (λ r. r ≡ Request.Delete table.now.id (filter_of table.now.columns delete.now.filter)) }
 {
     match bind_delete(alloc, table.columns.as_slice(), delete) {
@@ -149,7 +149,7 @@ fn delete_request(alloc: Global, table: &Table, delete: &Delete) -> Result<Reque
 
 fn select_request(alloc: Global, table: &Table, select: &Select) -> Result<Request, BindFault>
     requires { length table.now.columns ≤ 255 }
-    ensures faults { Finds (select_faults table.now.columns select.now) result }
+    ensures faults { AnswersFirst (select_faults table.now.columns select.now) result }
     ensures request { IfOk result (λ r. (query : Query) × IsQuery table.now select.now query × (r ≡ Request.Select query)) }
 {
     match bind_select(alloc, table, select) {
@@ -160,7 +160,7 @@ fn select_request(alloc: Global, table: &Table, select: &Select) -> Result<Reque
 
 fn explain_request(alloc: Global, table: &Table, select: &Select) -> Result<Request, BindFault>
     requires { length table.now.columns ≤ 255 }
-    ensures faults { Finds (select_faults table.now.columns select.now) result }
+    ensures faults { AnswersFirst (select_faults table.now.columns select.now) result }
     ensures request { IfOk result (λ r. (query : Query) × IsQuery table.now select.now query × (r ≡ Request.Explain query)) }
 {
     match bind_select(alloc, table, select) {

@@ -1,8 +1,8 @@
 // SELECT, EXPLAIN and DELETE.
 ghost use Rattle.std.specs.Prelude.{◌≡◌, ◌≤◌, ◌++◌, [], IfOk, OnOk, length, map};
-ghost use Rattle.px_resolve.specs.Answers.{Finds};
-ghost use Rattle.px_resolve.specs.Names.{key_place, known, names_of, part_names, place_of};
-ghost use Rattle.px_bind.specs.Queries.{IsQuery, delete_faults, filter_faults, filter_of, limit_faults, limit_of, query_of, select_faults, shown_faults, shown_of};
+ghost use Rattle.px_resolve.specs.Answers.{AnswersFirst};
+ghost use Rattle.px_resolve.specs.Names.{key_place, known, names_of, part_names, place_of_name};
+ghost use Rattle.px_bind.specs.Queries.{IsQuery, bound_query, delete_faults, filter_faults, filter_of, limit_faults, limit_of, select_faults, shown_faults, shown_of};
 ghost use Rattle.px_resolve.specs.declared.conditions.Check.TheVariants as checks;
 
 use crate::hints::bind_hints;
@@ -27,7 +27,7 @@ fn check_filter(
     columns: &[TableColumn],
     filter: &Option<Boxed<Condition>>,
 ) -> Result<(), BindFault>
-    ensures { Finds (filter_faults check columns.now filter.now) result }
+    ensures { AnswersFirst (filter_faults check columns.now filter.now) result }
 {
     match filter {
         Some(condition) => check_condition(alloc, check, columns, condition.get()),
@@ -40,7 +40,7 @@ fn check_shown(
     columns: &[TableColumn],
     shown: &Option<Items<Name>>,
 ) -> Result<(), BindFault>
-    ensures { Finds (shown_faults columns.now shown.now) result }
+    ensures { AnswersFirst (shown_faults columns.now shown.now) result }
 {
     match shown {
         Some(names) => check_all_known(alloc, columns, names.as_slice()),
@@ -49,7 +49,7 @@ fn check_shown(
 }
 
 fn check_row_limit(limit: &Option<RowLimit>) -> Result<(), BindFault>
-    ensures { Finds (limit_faults limit.now) result }
+    ensures { AnswersFirst (limit_faults limit.now) result }
 {
     match limit {
         Some(limit) => check_range(number(limit.digits.as_str()) > MOST_ROWS, limit.place),
@@ -63,7 +63,7 @@ fn check_select_names(
     columns: &[TableColumn],
     select: &Select,
 ) -> Result<(), BindFault>
-    ensures { Finds (shown_faults columns.now select.now.columns ++ (filter_faults checks.Names columns.now select.now.filter ++ known (names_of columns.now) (part_names select.now.order))) result }
+    ensures { AnswersFirst (shown_faults columns.now select.now.columns ++ (filter_faults checks.Names columns.now select.now.filter ++ known (names_of columns.now) (part_names select.now.order))) result }
 {
     check_shown(alloc, columns, &select.columns)?;
     check_filter(alloc, Check::Names, columns, &select.filter)?;
@@ -73,7 +73,7 @@ fn check_select_names(
 /// Refuses a query in which anything is wrong.
 fn check_select(alloc: Global, columns: &[TableColumn], select: &Select) -> Result<(), BindFault>
     ensures limit { OnOk result (limit_faults select.now.limit ≡ []) }
-    ensures faults { Finds (select_faults columns.now select.now) result }
+    ensures faults { AnswersFirst (select_faults columns.now select.now) result }
 {
     check_select_names(alloc, columns, select)?;
     check_filter(alloc, Check::Operands, columns, &select.filter)?;
@@ -82,7 +82,7 @@ fn check_select(alloc: Global, columns: &[TableColumn], select: &Select) -> Resu
 
 /// Refuses a DELETE in which anything is wrong.
 fn check_delete(alloc: Global, columns: &[TableColumn], delete: &Delete) -> Result<(), BindFault>
-    ensures { Finds (delete_faults columns.now delete.now) result }
+    ensures { AnswersFirst (delete_faults columns.now delete.now) result }
 {
     check_filter(alloc, Check::Names, columns, &delete.filter)?;
     check_filter(alloc, Check::Operands, columns, &delete.filter)
@@ -159,7 +159,7 @@ fn make_query(
 ) -> Result<Query, AllocError>
     requires columns { length table.now.columns ≤ 255 }
     requires limit { limit_faults select.now.limit ≡ [] }
-    ensures { IfOk result (λ q. q ≡ query_of table.now hints select.now) }
+    ensures { IfOk result (λ q. q ≡ bound_query table.now hints select.now) }
 {
     let columns = table.columns.as_slice();
     match make_lists(alloc, columns, select) {
@@ -189,7 +189,7 @@ fn make_query(
 /// The query that a SELECT asks for.
 pub(crate) fn bind_select(alloc: Global, table: &Table, select: &Select) -> Result<Query, BindFault>
     requires { length table.now.columns ≤ 255 }
-    ensures faults { Finds (select_faults table.now.columns select.now) result }
+    ensures faults { AnswersFirst (select_faults table.now.columns select.now) result }
     ensures query { IfOk result (IsQuery table.now select.now) }
 {
     check_select(alloc, table.columns.as_slice(), select)?;
@@ -207,7 +207,7 @@ pub(crate) fn bind_delete(
     delete: &Delete,
 ) -> Result<Option<Bound>, BindFault>
     requires { length columns.now ≤ 255 }
-    ensures faults { Finds (delete_faults columns.now delete.now) result }
+    ensures faults { AnswersFirst (delete_faults columns.now delete.now) result }
     ensures filter { IfOk result (λ f. f ≡ filter_of columns.now delete.now.filter) }
 {
     check_delete(alloc, columns, delete)?;

@@ -2,9 +2,9 @@
 ghost use Rattle.std.specs.Prelude.{◌≡◌, ◌≤◌, ◌++◌, ◌∷◌, [], All, IfOk, OnOk, length, map, nat_eq, not};
 ghost use Rattle.std.specs.List.{flat_map, slice_get};
 ghost use Rattle.std.specs.Option.{option_copied, option_to_list};
-ghost use Rattle.px_resolve.specs.Answers.{Finds};
-ghost use Rattle.px_resolve.specs.Literals.{is_null, mismatch_if, value_of};
-ghost use Rattle.px_bind.specs.Upserts.{assigned, assignment_of, change_of, given, given_faults, is_key, list_faults, named, null_key, position_of, upsert_faults, value_faults};
+ghost use Rattle.px_resolve.specs.Answers.{AnswersFirst};
+ghost use Rattle.px_resolve.specs.Literals.{is_null, mismatch_if, value_of_literal};
+ghost use Rattle.px_bind.specs.Upserts.{assignment_of, assignments_of, given, given_faults, is_key, list_faults, named, null_key, position_of, upsert_change, upsert_faults, value_faults};
 
 use px_ast::{Literal, Upsert};
 use px_resolve::fault::BindFault;
@@ -16,7 +16,7 @@ use std::alloc::{AllocError, Global};
 
 /// The columns that an UPSERT names, as places: all of the table where it has no list.
 fn bind_columns(alloc: Global, table: &Table, upsert: &Upsert) -> Result<Vec<usize>, BindFault>
-    ensures faults { Finds (list_faults table.now upsert.now.columns) result }
+    ensures faults { AnswersFirst (list_faults table.now upsert.now.columns) result }
     ensures places { IfOk result (λ places. places.items ≡ named table.now upsert.now) }
     ensures bound { IfOk result (λ places. All (λ p. p ≤ length table.now.columns) places.items) }
 {
@@ -31,7 +31,7 @@ fn bind_columns(alloc: Global, table: &Table, upsert: &Upsert) -> Result<Vec<usi
 
 /// Refuses a literal that can't be a value of the column at a place.
 fn check_given(columns: &[TableColumn], place: usize, literal: &Literal) -> Result<(), BindFault>
-    ensures { Finds (value_faults columns.now place literal.now) result }
+    ensures { AnswersFirst (value_faults columns.now place literal.now) result }
 {
     match columns.get(place) {
         Some(column) => check_value(column.column_type, literal),
@@ -46,7 +46,7 @@ fn check_all_given(
     values: &[Literal],
 ) -> Result<(), BindFault>
     requires { length values.now ≤ length places.now }
-    ensures { Finds (given_faults columns.now places.now values.now) result }
+    ensures { AnswersFirst (given_faults columns.now places.now values.now) result }
 {
     for (index, literal) in values.iter().enumerate() {
         if let Err(fault) = check_given(columns, places[index], literal) {
@@ -108,7 +108,7 @@ fn check_key_column(
     values: &[Literal],
     part: KeyPlace,
 ) -> Result<(), BindFault>
-    ensures { Finds (null_key columns.now places.now values.now part) result }
+    ensures { AnswersFirst (null_key columns.now places.now values.now part) result }
 {
     match columns.get(part.column as usize) {
         Some(column) => {
@@ -131,7 +131,7 @@ fn check_key(
     places: &[usize],
     values: &[Literal],
 ) -> Result<(), BindFault>
-    ensures { Finds (flat_map (null_key columns.now places.now values.now) key.now) result }
+    ensures { AnswersFirst (flat_map (null_key columns.now places.now values.now) key.now) result }
 {
     for part in key {
         if let Err(fault) = check_key_column(alloc, columns, places, values, *part) {
@@ -144,7 +144,7 @@ fn check_key(
 /// Refuses values of another number than the columns.
 fn check_count(upsert: &Upsert, places: usize) -> Result<(), BindFault>
     ensures count { OnOk result (length upsert.now.values ≡ places) }
-    ensures faults { Finds (mismatch_if (not (nat_eq (length upsert.now.values) places)) upsert.now.values_place) result }
+    ensures faults { AnswersFirst (mismatch_if (not (nat_eq (length upsert.now.values) places)) upsert.now.values_place) result }
 {
     if upsert.values.as_slice().len() != places {
         return Err(BindFault::Mismatch {
@@ -162,7 +162,7 @@ fn check_values(
     places: &[usize],
 ) -> Result<(), BindFault>
     ensures count { OnOk result (length upsert.now.values ≡ length places.now) }
-    ensures faults { Finds (mismatch_if (not (nat_eq (length upsert.now.values) (length places.now))) upsert.now.values_place ++ (given_faults table.now.columns places.now upsert.now.values ++ flat_map (null_key table.now.columns places.now upsert.now.values) table.now.key)) result }
+    ensures faults { AnswersFirst (mismatch_if (not (nat_eq (length upsert.now.values) (length places.now))) upsert.now.values_place ++ (given_faults table.now.columns places.now upsert.now.values ++ flat_map (null_key table.now.columns places.now upsert.now.values) table.now.key)) result }
 {
     check_count(upsert, places.len())?;
     check_all_given(table.columns.as_slice(), places, upsert.values.as_slice())?;
@@ -237,7 +237,7 @@ fn assignments(
 ) -> Result<Assignments, AllocError>
     requires count { length values.now ≡ length places.now }
     requires bound { All (λ p. p ≤ 255) places.now }
-    ensures { IfOk result (λ found. found ≡ assigned key.now places.now values.now) }
+    ensures { IfOk result (λ found. found ≡ assignments_of key.now places.now values.now) }
 {
     let mut found = Vec::with_capacity(alloc, values.len())?;
     for (index, literal) in values.iter().enumerate() {
@@ -262,7 +262,7 @@ fn change(
 ) -> Result<Change, AllocError>
     requires count { length values.now ≡ length places.now }
     requires bound { All (λ p. p ≤ 255) places.now }
-    ensures { IfOk result (λ c. c ≡ record { row = map (λ k. given places.now values.now k.column) table.now.key; what = What.Set (assigned table.now.key places.now values.now) }) }
+    ensures { IfOk result (λ c. c ≡ record { row = map (λ k. given places.now values.now k.column) table.now.key; what = What.Set (assignments_of table.now.key places.now values.now) }) }
 {
     let row = key_row(alloc, table, places, values)?;
     match assignments(alloc, table.key.as_slice(), places, values) {
@@ -284,8 +284,8 @@ pub(crate) fn bind_upsert(
     upsert: &Upsert,
 ) -> Result<Change, BindFault>
     requires { length table.now.columns ≤ 255 }
-    ensures faults { Finds (upsert_faults table.now upsert.now) result }
-    ensures change { IfOk result (λ c. c ≡ change_of table.now upsert.now) }
+    ensures faults { AnswersFirst (upsert_faults table.now upsert.now) result }
+    ensures change { IfOk result (λ c. c ≡ upsert_change table.now upsert.now) }
 {
     let places = bind_columns(alloc, table, upsert)?;
     check_values(alloc, table, upsert, places.as_slice())?;

@@ -6,15 +6,15 @@ use Rattle.px_cells.specs.Order.{Below}
 use Rattle.px_cellbytes.specs.declared.fault.CellFault.{CellFault}
 use Rattle.px_cellbytes.specs.declared.fault.CellFault.TheVariants.{Short, BadKind, OutOfOrder, Memory}
 use Rattle.px_cellbytes.specs.Spelling.{all_bytes, cell_bytes}
-use Rattle.px_cellbytes.specs.Reading.{IsFault, IsWritten, moved, place_of}
+use Rattle.px_cellbytes.specs.Reading.{IsFault, IsWritten, moved, place_of_fault}
 use Rattle.px_cellbytes.specs.Reading.IsFault.{short, bad_kind, out_of_order}
 use Rattle.px_cellbytes.proofs.Bytes.{length-cell_bytes}
 use Rattle.px_cellbytes.proofs.Unique.{cell_same}
 use Rattle.px_cellbytes.proofs.OneReading.{AllFit, Compared, compared, least_one, no_fault}
 use Rattle.px_cellbytes.proofs.OneReading.Compared.{longer, shorter}
-use Rattle.px_block.specs.Block.{IsClosed, block_bytes, count_bytes}
-use Rattle.px_block.specs.Reading.{AreBlock, ComesAfter, HasCount, IsBlockFault, IsBodyFault, IsFront, IsFrontFault, IsNextFault, IsReading, behind, count_in}
-use Rattle.px_block.specs.Reading.IsNextFault.{of_cell, of_count}
+use Rattle.px_block.specs.Block.{IsClosedBlock, block_bytes, count_bytes}
+use Rattle.px_block.specs.Reading.{AreBlock, ComesAfter, HasCount, IsBlockFault, IsBodyFault, IsFront, IsFrontFault, IsNextBlockFault, IsReading, behind, count_in}
+use Rattle.px_block.specs.Reading.IsNextBlockFault.{of_cell, of_count}
 use Rattle.px_block.specs.Reading.IsFrontFault.{of_head, of_body}
 use Rattle.px_block.specs.Reading.IsBlockFault.{of_front, of_rest}
 use Rattle.px_block.proofs.Counts.{count_in_front, drop_count, length-count_bytes}
@@ -41,14 +41,14 @@ within_front (c ∷ cells) (f ∷ front) z last zs e =
     let s = ap (λ (x : CellData). length (cell_bytes x)) same in
     omega arith
 
-part_open : (cells : List CellData) (z : CellData) (zs : List CellData) → IsClosed (cells ++ z ∷ zs) → length (all_bytes cells) < 32768
+part_open : (cells : List CellData) (z : CellData) (zs : List CellData) → IsClosedBlock (cells ++ z ∷ zs) → length (all_bytes cells) < 32768
 part_open cells z zs closed = (let w = within_front cells closed.front z closed.last zs closed.ends in let b = closed.before in omega arith)
 
 -- the count of a block fits, and isn't zero
-pub block_count : (cells : List CellData) → IsClosed cells → length cells < 2 ^ 32
+pub block_count : (cells : List CellData) → IsClosedBlock cells → length cells < 2 ^ 32
 block_count cells closed = (let n = no_longer closed.front in let b = closed.before in let e = ap (λ (l : List CellData). length l) closed.ends in let a = length-append closed.front (closed.last ∷ []) in omega arith)
 
-pub block_some : (cells : List CellData) → IsClosed cells → length cells ≡ 0 → ⊥
+pub block_some : (cells : List CellData) → IsClosedBlock cells → length cells ≡ 0 → ⊥
 block_some cells closed none = (let e = ap (λ (l : List CellData). length l) closed.ends in let a = length-append closed.front (closed.last ∷ []) in omega arith)
 
 -- ---- what begins the bytes
@@ -88,20 +88,20 @@ no_cell_fault before [] zs z rest more fault w after is (out_of_order front last
     below (subst (λ (x : CellData). Below last x) same.0 (after front last b z zs refl))
 
 no_next_fault : (before cells zs : List CellData) (z : CellData) (rest more : List ℕ) (fault : CellFault) → IsWritten (cells ++ z ∷ zs) → ComesAfter before (cells ++ z ∷ zs) → length (all_bytes cells) < 32768
-    → rest ≡ all_bytes (z ∷ zs) ++ more → IsNextFault before cells rest fault → ⊥
+    → rest ≡ all_bytes (z ∷ zs) ++ more → IsNextBlockFault before cells rest fault → ⊥
 no_next_fault before cells zs z rest more fault w after under is (of_cell least lt there e) = no_cell_fault before cells zs z rest (all_bytes zs ++ more) least w after (is ∙ append_assoc (cell_bytes z) (all_bytes zs) more) there.there
 no_next_fault before cells zs z rest more fault w after under is (of_count closed full e) = omega arith
 
 -- so far it isn't full
-next_open : (before cells front : List CellData) (z : CellData) (zs : List CellData) (rest : List ℕ) (fault : CellFault) → cells ≡ front ++ z ∷ zs → IsNextFault before cells rest fault → length (all_bytes front) < 32768
+next_open : (before cells front : List CellData) (z : CellData) (zs : List CellData) (rest : List ℕ) (fault : CellFault) → cells ≡ front ++ z ∷ zs → IsNextBlockFault before cells rest fault → length (all_bytes front) < 32768
 next_open before cells front z zs rest fault is (of_cell least lt there e) = (let s = ap (λ (l : List CellData). length (all_bytes l)) is in let l = longer_bytes front (z ∷ zs) in omega arith)
   where
     longer_bytes : (xs ys : List CellData) → length (all_bytes xs) ≤ length (all_bytes (xs ++ ys))
     longer_bytes [] ys = omega arith
     longer_bytes (x ∷ xs) ys = (let a = length-append (cell_bytes x) (all_bytes xs) in let b = length-append (cell_bytes x) (all_bytes (xs ++ ys)) in let r = longer_bytes xs ys in omega arith)
-next_open before cells front z zs rest fault is (of_count closed full e) = part_open front z zs (subst IsClosed is closed)
+next_open before cells front z zs rest fault is (of_count closed full e) = part_open front z zs (subst IsClosedBlock is closed)
 
-same_next : (before cells : List CellData) (rest : List ℕ) (f g : CellFault) → IsNextFault before cells rest f → IsNextFault before cells rest g → f ≡ g
+same_next : (before cells : List CellData) (rest : List ℕ) (f g : CellFault) → IsNextBlockFault before cells rest f → IsNextBlockFault before cells rest g → f ≡ g
 same_next before cells rest f g (of_cell l lt a e) (of_cell m le b d) =
     e ∙ ap (moved (length (all_bytes cells))) (least_one (behind before cells) rest l m a.there b.there (let x = a.least m b.there in let y = b.least l a.there in omega arith)) ∙ sym d
 same_next before cells rest f g (of_cell l lt a e) (of_count closed full d) = absurd (omega arith)
@@ -122,13 +122,13 @@ front_or_fault before bytes cells rest fault f (of_body inner has body e) =
     by (longer zs is more) = (let l = ap (λ (l : List CellData). length l) is in let a = length-append cells zs in let n = fewer in omega arith)
     by (shorter [] is more) = (let l = ap (λ (l : List CellData). length l) (is ∙ append-nil body.cells) in let n = fewer in omega arith)
     by (shorter (z ∷ zs) is more) =
-        no_next_fault before body.cells zs z body.rest rest inner (subst IsWritten is f.block.written) (subst (ComesAfter before) is f.after) (part_open body.cells z zs (subst IsClosed is f.block.closed)) more body.next
+        no_next_fault before body.cells zs z body.rest rest inner (subst IsWritten is f.block.written) (subst (ComesAfter before) is f.after) (part_open body.cells z zs (subst IsClosedBlock is f.block.closed)) more body.next
 
 one_body : (before : List CellData) (count : ℕ) (bytes : List ℕ) (f g : CellFault) → IsBodyFault before count bytes f → IsBodyFault before count bytes g → f ≡ g
 one_body before count bytes f g a b = by (compared a.cells b.cells a.rest b.rest (fit a.cells a.begin.written) (fit b.cells b.begin.written) (sym a.begin.spelled ∙ b.begin.spelled))
   where
     same : a.cells ≡ b.cells → a.rest ≡ b.rest → f ≡ g
-    same p q = same_next before b.cells b.rest f g (subst (λ (l : List ℕ). IsNextFault before b.cells l f) q (subst (λ (l : List CellData). IsNextFault before l a.rest f) p a.next)) b.next
+    same p q = same_next before b.cells b.rest f g (subst (λ (l : List ℕ). IsNextBlockFault before b.cells l f) q (subst (λ (l : List CellData). IsNextBlockFault before l a.rest f) p a.next)) b.next
 
     by : Compared a.cells b.cells a.rest b.rest → f ≡ g
     by (longer [] is more) = same (sym (is ∙ append-nil a.cells)) more
@@ -167,28 +167,28 @@ one_reading bytes (Err f) (Err g) a b = ap (λ (x : CellFault). Err x) (one_bloc
 
 -- ---- places
 
-fault_within : (before : List CellData) (bytes : List ℕ) (fault : CellFault) → IsFault before bytes fault → place_of fault ≤ length bytes
-fault_within before bytes fault (short p cut e) = (let a = ap place_of e in let b = cut.before in omega arith)
-fault_within before bytes fault (bad_kind inside wrong e) = (let a = ap place_of e in omega arith)
-fault_within before bytes fault (out_of_order front last c tail b fits ranged spelled below e) = (let a = ap place_of e in omega arith)
+fault_within : (before : List CellData) (bytes : List ℕ) (fault : CellFault) → IsFault before bytes fault → place_of_fault fault ≤ length bytes
+fault_within before bytes fault (short p cut e) = (let a = ap place_of_fault e in let b = cut.before in omega arith)
+fault_within before bytes fault (bad_kind inside wrong e) = (let a = ap place_of_fault e in omega arith)
+fault_within before bytes fault (out_of_order front last c tail b fits ranged spelled below e) = (let a = ap place_of_fault e in omega arith)
 
-place_moved : (n : ℕ) (fault : CellFault) → place_of (moved n fault) ≤ n + place_of fault
+place_moved : (n : ℕ) (fault : CellFault) → place_of_fault (moved n fault) ≤ n + place_of_fault fault
 place_moved n (Short p) = omega arith
 place_moved n (BadKind p) = omega arith
 place_moved n (OutOfOrder p) = omega arith
 place_moved n Memory = omega arith
 
-body_within : (before : List CellData) (count : ℕ) (bytes : List ℕ) (fault : CellFault) → IsBodyFault before count bytes fault → place_of fault ≤ length bytes
+body_within : (before : List CellData) (count : ℕ) (bytes : List ℕ) (fault : CellFault) → IsBodyFault before count bytes fault → place_of_fault fault ≤ length bytes
 body_within before count bytes fault b = by b.next
   where
     long : length bytes ≡ length (all_bytes b.cells) + length b.rest
     long = ap (λ (l : List ℕ). length l) b.begin.spelled ∙ length-append (all_bytes b.cells) b.rest
 
-    by : IsNextFault before b.cells b.rest fault → place_of fault ≤ length bytes
-    by (of_cell least under there e) = (let a = ap place_of e in let m = place_moved (length (all_bytes b.cells)) least in let w = fault_within (behind before b.cells) b.rest least there.there in let l = long in omega arith)
-    by (of_count closed full e) = (let a = ap place_of e in let l = long in omega arith)
+    by : IsNextBlockFault before b.cells b.rest fault → place_of_fault fault ≤ length bytes
+    by (of_cell least under there e) = (let a = ap place_of_fault e in let m = place_moved (length (all_bytes b.cells)) least in let w = fault_within (behind before b.cells) b.rest least there.there in let l = long in omega arith)
+    by (of_count closed full e) = (let a = ap place_of_fault e in let l = long in omega arith)
 
 -- a fault stands within the bytes, or at their end
-pub front_within : (before : List CellData) (bytes : List ℕ) (fault : CellFault) → IsFrontFault before bytes fault → place_of fault ≤ length bytes
-front_within before bytes fault (of_head none e) = (let a = ap place_of e in omega arith)
-front_within before bytes fault (of_body inner has body e) = (let a = ap place_of e in let m = place_moved 4 inner in let w = body_within before (count_in bytes) (drop 4 bytes) inner body in let l = length-drop 4 bytes in let h = has.0 in omega arith)
+pub front_within : (before : List CellData) (bytes : List ℕ) (fault : CellFault) → IsFrontFault before bytes fault → place_of_fault fault ≤ length bytes
+front_within before bytes fault (of_head none e) = (let a = ap place_of_fault e in omega arith)
+front_within before bytes fault (of_body inner has body e) = (let a = ap place_of_fault e in let m = place_moved 4 inner in let w = body_within before (count_in bytes) (drop 4 bytes) inner body in let l = length-drop 4 bytes in let h = has.0 in omega arith)

@@ -11,17 +11,17 @@ use Rattle.px_cellbytes.specs.Reading.{IsLeastFault, moved}
 use Rattle.px_cellbytes.specs.inner.Fields.{IsNextCell}
 use Rattle.px_cellbytes.proofs.NextFaults.{none_last}
 use Rattle.px_cellbytes.proofs.Steps.{HasRead, read_more, read_none}
-use Rattle.px_block.specs.Block.{IsClosed, block_bytes}
+use Rattle.px_block.specs.Block.{IsClosedBlock, block_bytes}
 use Rattle.px_block.specs.Reading.{BeginWith, ComesAfter, HasCount, IsBlockFault, IsBodyFault, IsFront, IsFrontFault, behind, count_in}
 use Rattle.px_block.specs.Reading.IsBlockFault.{of_rest}
 use Rattle.px_block.specs.Reading.IsFrontFault.{of_body}
-use Rattle.px_block.specs.Reading.IsNextFault.{of_cell, of_count}
+use Rattle.px_block.specs.Reading.IsNextBlockFault.{of_cell, of_count}
 
 -- these cells were read, behind others, and they end at a place
 pub record HasBegun (before : List CellData) (bytes : List ℕ) (cells : List CellData) (at : ℕ) : Type 0 where
   pub read : HasRead bytes cells at
   pub after : ComesAfter before cells
-  pub closed : (cells ≡ []) ⊎ IsClosed cells
+  pub closed : (cells ≡ []) ⊎ IsClosedBlock cells
 
 pub begun_none : (before : List CellData) (bytes : List ℕ) → HasBegun before bytes [] 0
 begun_none before bytes = record { read = read_none bytes; after = λ front last is c more e. cc; closed = inl refl }
@@ -71,15 +71,15 @@ begun_full before bytes cells at count begun lt full = record {
   next = of_count (closed begun.closed) (let e = begun.read.ends in omega arith) (ap (λ (n : ℕ). OutOfOrder n) begun.read.ends);
 }
   where
-    closed : (cells ≡ []) ⊎ IsClosed cells → IsClosed cells
+    closed : (cells ≡ []) ⊎ IsClosedBlock cells → IsClosedBlock cells
     closed (inl none) = absurd (let e = begun.read.ends in let n = ap (λ (l : List CellData). length (all_bytes l)) none in omega arith)
     closed (inr is) = is
 
 -- all were read
-pub begun_closed : (before : List CellData) (bytes : List ℕ) (cells : List CellData) (at count : ℕ) → HasBegun before bytes cells at → length cells ≡ count → count ≢ 0 → IsClosed cells
+pub begun_closed : (before : List CellData) (bytes : List ℕ) (cells : List CellData) (at count : ℕ) → HasBegun before bytes cells at → length cells ≡ count → count ≢ 0 → IsClosedBlock cells
 begun_closed before bytes cells at count begun counted some = by begun.closed
   where
-    by : (cells ≡ []) ⊎ IsClosed cells → IsClosed cells
+    by : (cells ≡ []) ⊎ IsClosedBlock cells → IsClosedBlock cells
     by (inl none) = absurd (some (let n = ap (λ (l : List CellData). length l) none in omega arith))
     by (inr is) = is
 

@@ -14,11 +14,11 @@ abbrev pub block_bytes : List CellData → List ℕ
 block_bytes cells = count_bytes (length cells) ++ all_bytes cells
 
 -- a block of these cells is closed
-abbrev pub IsFull : List CellData → Type 0
-IsFull cells = 32768 ≤ length (all_bytes cells)
+abbrev pub IsBlockFull : List CellData → Type 0
+IsBlockFull cells = 32768 ≤ length (all_bytes cells)
 
 -- there is a cell, and without the last of them the block wasn't full yet
-pub record IsClosed (cells : List CellData) : Type 0 where
+pub record IsClosedBlock (cells : List CellData) : Type 0 where
   pub front : List CellData
   pub last : CellData
   pub ends : cells ≡ front ++ last ∷ []
@@ -27,4 +27,4 @@ pub record IsClosed (cells : List CellData) : Type 0 where
 -- The cells of a block. It may have fewer bytes than a full one, as the last of a file.
 pub record IsBlock (cells : List CellData) : Type 0 where
   pub written : IsWritten cells
-  pub closed : IsClosed cells
+  pub closed : IsClosedBlock cells

@@ -7,7 +7,7 @@ use Rattle.px_cellbytes.specs.declared.fault.CellFault.{CellFault}
 use Rattle.px_cellbytes.specs.declared.fault.CellFault.TheVariants.{Short, OutOfOrder}
 use Rattle.px_cellbytes.specs.Spelling.{all_bytes}
 use Rattle.px_cellbytes.specs.Reading.{IsLeastFault, IsWritten, moved}
-use Rattle.px_block.specs.Block.{IsBlock, IsClosed, IsFull, block_bytes}
+use Rattle.px_block.specs.Block.{IsBlock, IsBlockFull, IsClosedBlock, block_bytes}
 
 -- the count in the first four bytes
 unfoldable pub count_in : List ℕ → ℕ
@@ -44,9 +44,9 @@ pub record BeginWith (before : List CellData) (bytes : List ℕ) (cells : List C
 
 -- What is wrong behind the first cells of a block that has more: the next cell, or that there is one where the block is
 -- full.
-pub data IsNextFault (before cells : List CellData) (rest : List ℕ) (fault : CellFault) : Type 0 where
-  of_cell : (least : CellFault) → length (all_bytes cells) < 32768 → IsLeastFault (behind before cells) rest least → fault ≡ moved (length (all_bytes cells)) least → IsNextFault before cells rest fault
-  of_count : IsClosed cells → IsFull cells → fault ≡ OutOfOrder (length (all_bytes cells)) → IsNextFault before cells rest fault
+pub data IsNextBlockFault (before cells : List CellData) (rest : List ℕ) (fault : CellFault) : Type 0 where
+  of_cell : (least : CellFault) → length (all_bytes cells) < 32768 → IsLeastFault (behind before cells) rest least → fault ≡ moved (length (all_bytes cells)) least → IsNextBlockFault before cells rest fault
+  of_count : IsClosedBlock cells → IsBlockFull cells → fault ≡ OutOfOrder (length (all_bytes cells)) → IsNextBlockFault before cells rest fault
 
 -- the first fault of bytes that should begin with so many cells of a block
 pub record IsBodyFault (before : List CellData) (count : ℕ) (bytes : List ℕ) (fault : CellFault) : Type 0 where
@@ -54,7 +54,7 @@ pub record IsBodyFault (before : List CellData) (count : ℕ) (bytes : List ℕ)
   pub rest : List ℕ
   pub begin : BeginWith before bytes cells rest
   pub fewer : length cells < count
-  pub next : IsNextFault before cells rest fault
+  pub next : IsNextBlockFault before cells rest fault
 
 -- The first fault of bytes that should begin with a block, behind these cells. Its place is 0 where there is no count.
 pub data IsFrontFault (before : List CellData) (bytes : List ℕ) (fault : CellFault) : Type 0 where

@@ -3,7 +3,7 @@ ghost use Rattle.std.specs.Prelude.{◌≡◌, ◌≢◌, ◌≤◌, ◌<◌, �
 ghost use Rattle.px_cells.specs.CellData.{CellData};
 ghost use Rattle.px_cellbytes.specs.declared.fault.CellFault.{CellFault};
 ghost use Rattle.px_cellbytes.specs.Spelling.{all_bytes};
-ghost use Rattle.px_block.specs.Block.{IsClosed, block_bytes, count_bytes};
+ghost use Rattle.px_block.specs.Block.{IsClosedBlock, block_bytes, count_bytes};
 ghost use Rattle.px_block.specs.Reading.{AreBlock, BeginWith, HasCount, IsBlockFault, IsBodyFault, IsFront, IsFrontFault, IsReading, behind as behind_of, count_in};
 
 use crate::write::BLOCK_SIZE;
@@ -94,7 +94,7 @@ fn count_of(bytes: &[u8]) -> u32
 fn read_body(alloc: Global, bytes: &[u8], count: u32, before: &[Cell]) -> Result<Front, CellFault>
     requires some { count ≢ 0 }
     ensures begin { IfOk result (λ body. BeginWith before.now bytes.now body.cells (drop body.end bytes.now)) }
-    ensures closed { IfOk result (λ body. IsClosed body.cells) }
+    ensures closed { IfOk result (λ body. IsClosedBlock body.cells) }
     ensures counted { IfOk result (λ body. length body.cells ≡ count) }
     ensures end { IfOk result (λ body. (body.end ≡ length (all_bytes body.cells)) × (body.end ≤ length bytes.now)) }
     ensures fault { IfErr result (λ fault. fault ≢ CellFault.Memory → IsBodyFault before.now count bytes.now fault) }

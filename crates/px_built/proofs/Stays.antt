@@ -4,8 +4,8 @@ use Rattle.std.specs.Prelude.{nat_eq, nat_lt}
 use Rattle.std.proofs.lemmas.Bool.{cases_lt, cond-true, cond-false, eq-eqb, false≢true, lt-ltb, ne_eqb}
 use Rattle.std.proofs.lemmas.Bool.Decides.{nat_tests}
 use Rattle.px_cells.proofs.Newest.{newest-at, newest-here}
-use Rattle.px_world.specs.Shape.{Shape, has_key}
-use Rattle.px_world.specs.World.{Absent, Fate, IsDecided, Status, Undecided, Verified, World, Written, expected, is_there, is_undecided, is_written, live, st, state_at, top}
+use Rattle.px_world.specs.Shape.{WorldShape, has_key}
+use Rattle.px_world.specs.World.{Absent, Fate, IsWorldDecided, Status, Undecided, Verified, World, Written, expected, is_there, is_undecided, is_written, live, st, state_at, top}
 use Rattle.px_world.specs.Events.{Event, Begin, Mark, Write, Verify, End, Raise, Forget, Fix, Birth, Base, Ready, Stop, Verdict, Leave, ToVerify, ToRetire, ToErase, May, due, fixed, happens, is_at, set_stamp}
 use Rattle.px_world.specs.Facts.{Kept}
 use Rattle.px_world.specs.IndexCells.{Moves}
@@ -28,13 +28,13 @@ off false c h = refl
 lt_not : (a b : ℕ) → b ≤ a → nat_lt a b ≡ false
 lt_not a b l = grind (arith, nat_tests, l)
 
-module _ {K S X A : Type 0} (n : Shape K S X A) (w : World K S X) where
+module _ {K S X A : Type 0} (n : WorldShape K S X A) (w : World K S X) where
   -- the changes at or below the birth stay as they are
   module _ (t : ℕ) (later : w.birth < t) (f : Fate) (fresh : S) where
     state_below : (new : ℕ → S) → ((s : ℕ) → s ≤ w.birth → new s ≡ w.new s) → state_at w.base (λ s. is_written (set_stamp t f w.fate s)) new w.birth ≡ st w w.birth
     state_below new same = state_at-same w.base (λ s. is_written (w.fate s)) w.new (λ s. is_written (set_stamp t f w.fate s)) new w.birth (λ s l. ap is_written (set_stamp-below t f w.fate s (omega (arith, l, later)))) same
 
-    decided_below : IsDecided w w.birth → (s : ℕ) → s ≤ w.birth → is_undecided (set_stamp t f w.fate s) ≡ false
+    decided_below : IsWorldDecided w w.birth → (s : ℕ) → s ≤ w.birth → is_undecided (set_stamp t f w.fate s) ≡ false
     decided_below d s l = ap is_undecided (set_stamp-below t f w.fate s (omega (arith, l, later))) ∙ d s l
 
   module _ (g : Kept n w) (h : HasBase n w) where

@@ -25,7 +25,7 @@ use Rattle.px_values.specs.declared.name.IndexId.{IndexId}
 use Rattle.px_values.specs.declared.name.TableId.{TableId}
 use Rattle.px_values.specs.declared.row.Value.{Value}
 use Rattle.px_world.specs.Events.{Base as BaseVersion, Comes, Ready}
-use Rattle.px_world.specs.Shape.{has_key, key_in}
+use Rattle.px_world.specs.Shape.{has_key, is_key_there}
 use Rattle.px_world.specs.World.{Fate, Verified, Written, is_undecided, st}
 use Rattle.px_built.specs.Built.{HasBase, IsBuiltBy, IsOfRun}
 use Rattle.px_built.proofs.Stays.{moves_base, moves_given}
@@ -166,7 +166,7 @@ module _ (f : TableForm) (es : List Entry) (v : GroupData) (k : GroupKept f es v
 
   no_key : (r : List Value) (key : List ℕ) → has_key (shape_in f v i r) key None ≡ false
   unfolding has_key
-  no_key r key = ap (λ (o : Option (List ℕ)). key_in (shape_in f v i r).same_key key o) ((k.indexes i l).form.nothing r)
+  no_key r key = ap (λ (o : Option (List ℕ)). is_key_there (shape_in f v i r).same_key key o) ((k.indexes i l).form.nothing r)
 
   pub built_ready : horizon_of f.base f.id.0 es ≤ birth → IsDecided es f.id.0 birth → ((r : List Value) → state_of f.base es f.id.0 r birth ≢ None → is_based es (get_or v.indexes i no_part).id r ≡ true) → IsBuiltBy f es v i → (r : List Value) → Comes (shape_in f v i r) (world_in f es v i r) Ready
   built_ready low decided all built r =

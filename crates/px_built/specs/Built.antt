@@ -3,14 +3,14 @@ use Rattle.std.specs.Prelude.{◌≡◌, ℕ, ◌≤◌, true, List, get_or, Opt
 use Rattle.px_values.specs.declared.row.Value.{Value}
 use Rattle.px_trail.specs.declared.entry.Entry.{Entry}
 use Rattle.px_calls.specs.Requires.{is_based}
-use Rattle.px_world.specs.Shape.{Shape, has_key}
-use Rattle.px_world.specs.World.{IsDecided, Verified, World, st}
+use Rattle.px_world.specs.Shape.{WorldShape, has_key}
+use Rattle.px_world.specs.World.{IsWorldDecided, Verified, World, st}
 use Rattle.px_world.specs.Events.{Event, Begin, Mark, Write, Verify, End, Raise, Forget, Fix, Birth, Base, Ready, Stop}
 use Rattle.px_groupworld.specs.Group.{GroupData, TableForm, no_part, shape_in, world_in}
 
 -- at or below the birth nothing is undecided; and while the table's horizon isn't above it, a verified version stands there at the row's key
-pub record HasBase {K S X A : Type 0} (n : Shape K S X A) (w : World K S X) : Type 0 where
-  pub decided : IsDecided w w.birth
+pub record HasBase {K S X A : Type 0} (n : WorldShape K S X A) (w : World K S X) : Type 0 where
+  pub decided : IsWorldDecided w w.birth
   pub version : w.raised ≤ w.birth → (k : K) → has_key n k (st w w.birth) ≡ true → w.status k w.birth ≡ Verified
 
 -- each row that an entry says was given its base version, since the birth of the index at the place

@@ -21,7 +21,7 @@ use Rattle.px_trail.proofs.Standing.{points-kept, set_number-other, set_number-s
 use Rattle.px_trail.proofs.States.{decided-stays, state-stays}
 use Rattle.px_calls.specs.declared.definition.Definition.{Definition}
 use Rattle.px_calls.specs.declared.definition.Definition.TheVariants as d
-use Rattle.px_calls.specs.Known.{Known, Passes}
+use Rattle.px_calls.specs.Known.{Known, TimePasses}
 use Rattle.px_calls.specs.Requires.{CanActivate, CanDefine, IsIndexFit, MayActivate, base_from, base_step, is_based}
 use Rattle.px_calls.proofs.Stays.{drawn-stays, table-was}
 
@@ -201,7 +201,7 @@ activates-all sound k (e ∷ others) t i legal apart h =
     let one = activates sound k e t i (legal-prefix k.base (k.seen ++ e ∷ []) others l) (one_apart k.seat e none.0) h in
     subst (λ (l : List Entry). MayActivate sound (record k { seen = l }) t i) (sym split) (activates-all sound (grown k (e ∷ [])) others t i l none.1 one)
 
-fits_index : (k k' : Known) (what : NewIndex) → Passes k k' → IsIndexFit k what → IsIndexFit k' what
+fits_index : (k k' : Known) (what : NewIndex) → TimePasses k k' → IsIndexFit k what → IsIndexFit k' what
 fits_index k k' what p h =
     let legal : IsLegal k.base (k.seen ++ p.others) = subst (λ (b : Base). IsLegal b (k.seen ++ p.others)) p.base (subst (λ (s : List Entry). IsLegal k'.base s) p.seen p.legal) in
     let tables : (n : ℕ) → table_of k'.base k'.seen n ≡ table_of k.base (k.seen ++ p.others) n = λ n. ap (λ (b : Base). table_of b k'.seen n) p.base ∙ ap (λ (s : List Entry). table_of k.base s n) p.seen in
@@ -221,13 +221,13 @@ alone_no_matter sound v k t i h = record {
       record { state = a.state; stamp = a.stamp; below = a.below; known = a.known; guarded = a.guarded; low = a.low; decided = a.decided; based = a.based });
 }
 
-passes-activate : (sound : Type 0) (k k' : Known) (t i : ℕ) → Passes k k' → MayActivate sound k t i → MayActivate sound k' t i
+passes-activate : (sound : Type 0) (k k' : Known) (t i : ℕ) → TimePasses k k' → MayActivate sound k t i → MayActivate sound k' t i
 passes-activate sound k k' t i p h =
     let legal : IsLegal k.base (k.seen ++ p.others) = subst (λ (b : Base). IsLegal b (k.seen ++ p.others)) p.base (subst (λ (s : List Entry). IsLegal k'.base s) p.seen p.legal) in
     let all = activates-all sound k p.others t i legal p.apart h in
     subst (λ (z : Known). MayActivate sound z t i) (λ j. record { seat = sym p.seat j; base = sym p.base j; damaged = sym p.damaged j; alone = k'.alone; seen = sym p.seen j }) (alone_no_matter sound k'.alone (grown k p.others) t i all)
 
-pub passes-define : (sound : Type 0) (k k' : Known) (x : Definition) → Passes k k' → CanDefine sound k x → CanDefine sound k' x
+pub passes-define : (sound : Type 0) (k k' : Known) (x : Definition) → TimePasses k k' → CanDefine sound k x → CanDefine sound k' x
 passes-define sound k k' (d.Table what) p h = h
 passes-define sound k k' (d.Index what) p h = fits_index k k' what p h
 passes-define sound k k' (d.Active t i) p h = passes-activate sound k k' t.0 i.0 p h

@@ -21,8 +21,8 @@ use Rattle.px_trail.proofs.Batches.{last_step-le}
 use Rattle.px_trail.proofs.Growth.{acts_by-none, catalogue-snoc, horizon-snoc, last-snoc, legal-prefix}
 use Rattle.px_trail.proofs.Standing.{points-kept, set_number-other, set_number-same}
 use Rattle.px_trail.proofs.States.{decided-stays, state-stays}
-use Rattle.px_calls.specs.Known.{Known, Passes}
-use Rattle.px_calls.specs.Requires.{IsBaseRowOf, IsOpen, MayBase, base_owners, base_step, is_based}
+use Rattle.px_calls.specs.Known.{Known, TimePasses}
+use Rattle.px_calls.specs.Requires.{HasOpen, IsBaseRowOf, MayBase, base_owners, base_step, is_based}
 use Rattle.px_calls.specs.declared.query.Point.{Point}
 use Rattle.px_calls.proofs.Stays.{drawn-stays}
 use Rattle.px_calls.proofs.Activates.{based-snoc, grown, low_step, not_disabled, one_apart, some_index}
@@ -151,7 +151,7 @@ all_on sound k (e ∷ others) p i fs legal apart held h =
 alone_no_matter : (sound : Type 0) (v : Bool) (k : Known) (p : Point) (i : ℕ) (fs : List BaseRow) → MayBase sound k p i fs → MayBase sound (record k { alone = v }) p i fs
 alone_no_matter sound v k p i fs h = record { table_drawn = h.table_drawn; index_drawn = h.index_drawn; table = h.table; table_is = h.table_is; index = h.index; index_is = h.index_is; owner = h.owner; state = h.state; birth = h.birth; known = h.known; low = h.low; decided = h.decided; each = h.each; distinct = h.distinct; there = h.there }
 
-pub passes_base : (sound : Type 0) (k k' : Known) (p : Point) (i : ℕ) (fs : List BaseRow) → Passes k k' → IsOpen k p → MayBase sound k p i fs → MayBase sound k' p i fs
+pub passes_base : (sound : Type 0) (k k' : Known) (p : Point) (i : ℕ) (fs : List BaseRow) → TimePasses k k' → HasOpen k p → MayBase sound k p i fs → MayBase sound k' p i fs
 passes_base sound k k' p i fs q held h =
     let legal : IsLegal k.base (k.seen ++ q.others) = subst (λ (b : Base). IsLegal b (k.seen ++ q.others)) q.base (subst (λ (s : List Entry). IsLegal k'.base s) q.seen q.legal) in
     let all = all_on sound k q.others p i fs legal q.apart held h in

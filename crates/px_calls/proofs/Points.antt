@@ -8,8 +8,8 @@ use Rattle.px_trail.specs.declared.entry.Entry.{Entry}
 use Rattle.px_trail.specs.Trail.{acts_by, points_step, points_from, open_points}
 use Rattle.px_trail.proofs.Growth.{points_from-append, points-snoc}
 use Rattle.px_calls.specs.declared.query.Point.{Point}
-use Rattle.px_calls.specs.Known.{Known, Passes, Adds, Ran, outline, is_turn}
-use Rattle.px_calls.specs.Requires.{IsOpen}
+use Rattle.px_calls.specs.Known.{Known, TimePasses, Adds, Ran, outline, is_turn}
+use Rattle.px_calls.specs.Requires.{HasOpen}
 
 step_other : (seat t s n seat' : ℕ) (act : Act) → (seat' == seat) ≡ false → points_step seat t s n seat' act ≡ n
 unfolding points_step
@@ -40,7 +40,7 @@ points-quiet seat t s n (e ∷ es) h =
     ] refl h
 
 -- entries in which the seat opens and closes nothing leave a point open
-pub quiet-open : (k k' : Known) (more : List Entry) (p : Point) → k'.seen ≡ k.seen ++ more → outline (acts_by k.seat more) ≡ [] → k'.seat ≡ k.seat → IsOpen k p → IsOpen k' p
+pub quiet-open : (k k' : Known) (more : List Entry) (p : Point) → k'.seen ≡ k.seen ++ more → outline (acts_by k.seat more) ≡ [] → k'.seat ≡ k.seat → HasOpen k p → HasOpen k' p
 quiet-open k k' more p seen quiet seat was =
     let e : open_points k'.seat p.table.0 p.stamp k'.seen ≡ open_points k.seat p.table.0 p.stamp k.seen =
     ap (λ (n : ℕ). open_points n p.table.0 p.stamp k'.seen) seat
@@ -49,11 +49,11 @@ quiet-open k k' more p seen quiet seat was =
     omega arith
 
 -- calls that open and close nothing leave a point open
-pub ran-open : (k k' : Known) (acts : List Act) (p : Point) → Ran k k' acts → outline acts ≡ [] → IsOpen k p → IsOpen k' p
+pub ran-open : (k k' : Known) (acts : List Act) (p : Point) → Ran k k' acts → outline acts ≡ [] → HasOpen k p → HasOpen k' p
 ran-open k k' acts p h quiet was = quiet-open k k' h.added p h.seen (ap outline h.own ∙ quiet) h.seat was
 
 -- others' entries leave a point open
-pub passes-open : (k k' : Known) (p : Point) → Passes k k' → IsOpen k p → IsOpen k' p
+pub passes-open : (k k' : Known) (p : Point) → TimePasses k k' → HasOpen k p → HasOpen k' p
 passes-open k k' p h was = quiet-open k k' h.others p h.seen (ap outline h.apart) h.seat was
 
 opened_one : (seat s n : ℕ) (t : TableId) (scn : Bool) → points_step seat t.0 s n seat (Opened t s scn) ≡ n + 1
@@ -64,7 +64,7 @@ opened_one seat s n t scn =
     let d : (s == s) ≡ true = (Decides-eqb s s).1 refl in
     rw (a, b, d) refl
 
-pub adds-opened : (k k' : Known) (p : Point) (scn : Bool) → Adds k k' (Opened p.table p.stamp scn) → IsOpen k' p
+pub adds-opened : (k k' : Known) (p : Point) (scn : Bool) → Adds k k' (Opened p.table p.stamp scn) → HasOpen k' p
 adds-opened k k' p scn h =
     let e = h.extends in
     let at : open_points k'.seat p.table.0 p.stamp k'.seen ≡ open_points h.between.seat p.table.0 p.stamp h.between.seen + 1 =

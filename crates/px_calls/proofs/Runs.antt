@@ -8,7 +8,7 @@ use Rattle.px_trail.specs.declared.entry.Act.{Act}
 use Rattle.px_trail.specs.declared.entry.Act.TheVariants.{Begun, Phase, Missed, Shut}
 use Rattle.px_trail.specs.declared.entry.Entry.{Entry}
 use Rattle.px_trail.specs.Answers.{IsAmong}
-use Rattle.px_trail.specs.Batches.{Batch, BatchPhase, Closing, IsIn, Marking, Verifying, Writing, batch_of, batch_step}
+use Rattle.px_trail.specs.Batches.{Batch, BatchPhase, Closing, IsBatchIn, Marking, Verifying, Writing, batch_of, batch_step}
 use Rattle.px_trail.specs.Legal.{Follows, IsLegal, MayCome}
 use Rattle.px_trail.specs.Trail.{Base, acts_by, closing_call, closing_from, closing_step}
 use Rattle.px_trail.proofs.Batches.{begun-in, in-kept, marked-in, verified-in}
@@ -16,9 +16,9 @@ use Rattle.px_trail.proofs.Growth.{batch_of-snoc, closing_from-append}
 use Rattle.px_calls.specs.declared.fault.StepFault.{StepFault}
 use Rattle.px_calls.specs.declared.fault.StepFault.TheVariants.{ReadFault, WriteFault}
 use Rattle.px_calls.specs.declared.ticket.Ticket.{Ticket}
-use Rattle.px_calls.specs.Known.{Known, Passes, Sees, Extends, Adds, Ran, outline, is_turn, HasMade}
+use Rattle.px_calls.specs.Known.{Known, TimePasses, Sees, Extends, Adds, Ran, outline, is_turn, HasMade}
 use Rattle.px_calls.specs.Causes.{Refuses}
-use Rattle.px_calls.specs.Requires.{TicketIn, IsShut}
+use Rattle.px_calls.specs.Requires.{TicketIn, IsServerShut}
 
 pub acts_by-append : (seat : ℕ) (xs ys : List Entry) → acts_by seat (xs ++ ys) ≡ acts_by seat xs ++ acts_by seat ys
 unfolding acts_by
@@ -106,11 +106,11 @@ may-come k k' act h =
 -- 2. Tickets
 
 -- others' entries leave a ticket
-pub passes-ticket : (k k' : Known) (t : Ticket) (p : BatchPhase) → Passes k k' → TicketIn k t p → TicketIn k' t p
+pub passes-ticket : (k k' : Known) (t : Ticket) (p : BatchPhase) → TimePasses k k' → TicketIn k t p → TicketIn k' t p
 passes-ticket k k' t p h i =
     let legal : IsLegal k'.base (k.seen ++ h.others) = subst (λ (l : List Entry). IsLegal k'.base l) h.seen h.legal in
-    let kept : IsIn (k.seen ++ h.others) k.seat t.table.0 t.stamp p = in-kept k'.base k.seen h.others k.seat t.table.0 t.stamp p legal h.apart i in
-    subst (λ (l : List Entry). IsIn l k'.seat t.table.0 t.stamp p) (sym h.seen) (subst (λ (n : ℕ). IsIn (k.seen ++ h.others) n t.table.0 t.stamp p) (sym h.seat) kept)
+    let kept : IsBatchIn (k.seen ++ h.others) k.seat t.table.0 t.stamp p = in-kept k'.base k.seen h.others k.seat t.table.0 t.stamp p legal h.apart i in
+    subst (λ (l : List Entry). IsBatchIn l k'.seat t.table.0 t.stamp p) (sym h.seen) (subst (λ (n : ℕ). IsBatchIn (k.seen ++ h.others) n t.table.0 t.stamp p) (sym h.seat) kept)
 
 pub sees-ticket : (k k' : Known) (t : Ticket) (p : BatchPhase) → Sees k k' → TicketIn k t p → TicketIn k' t p
 sees-ticket k k' t p h i = passes-ticket k k' t p h.passes i
@@ -152,10 +152,10 @@ refuses-ticket Cause k k' WriteFault t p h i = adds-ticket k k' t p (Shut h.1.0)
 refuses-ticket Cause k k' f t p h i = sees-ticket k k' t p h.1 i
 
 -- the batch after the seat's own entry
-pub as-seat : (k k' : Known) (t : Ticket) (p : BatchPhase) (act : Act) → (h : Extends k k' act) → IsIn (k.seen ++ record { seat = k.seat; calls = h.calls; act = act } ∷ []) k.seat t.table.0 t.stamp p → TicketIn k' t p
+pub as-seat : (k k' : Known) (t : Ticket) (p : BatchPhase) (act : Act) → (h : Extends k k' act) → IsBatchIn (k.seen ++ record { seat = k.seat; calls = h.calls; act = act } ∷ []) k.seat t.table.0 t.stamp p → TicketIn k' t p
 as-seat k k' t p act h i =
-    subst (λ (l : List Entry). IsIn l k'.seat t.table.0 t.stamp p) (sym h.seen)
-    (subst (λ (n : ℕ). IsIn (k.seen ++ record { seat = k.seat; calls = h.calls; act = act } ∷ []) n t.table.0 t.stamp p) (sym h.seat) i)
+    subst (λ (l : List Entry). IsBatchIn l k'.seat t.table.0 t.stamp p) (sym h.seen)
+    (subst (λ (n : ℕ). IsBatchIn (k.seen ++ record { seat = k.seat; calls = h.calls; act = act } ∷ []) n t.table.0 t.stamp p) (sym h.seat) i)
 
 pub adds-begun : (k k' : Known) (t : Ticket) (cs : List Change) → Adds k k' (Begun t.table t.stamp cs) → TicketIn k' t Marking
 unfolding Follows
@@ -200,10 +200,10 @@ shut_grows es more shut =
       | Some call ↦ λ c n. let j = closing-grows es more call c in cc
     ] refl
 
-pub ran-shut : (k k' : Known) (acts : List Act) → Ran k k' acts → IsShut k → IsShut k'
+pub ran-shut : (k k' : Known) (acts : List Act) → Ran k k' acts → IsServerShut k → IsServerShut k'
 ran-shut k k' acts h shut = λ n. shut_grows k.seen h.added shut (ap closing_call (sym h.seen) ∙ n)
 
-pub passes-shut : (k k' : Known) → Passes k k' → IsShut k → IsShut k'
+pub passes-shut : (k k' : Known) → TimePasses k k' → IsServerShut k → IsServerShut k'
 passes-shut k k' h shut = λ n. shut_grows k.seen h.others shut (ap closing_call (sym h.seen) ∙ n)
 
 pub adds-shut : (k k' : Known) (call : ℕ) → Adds k k' (Shut call) → closing_call k'.seen ≡ Some call
@@ -239,7 +239,7 @@ ran-made k k' acts act h (inr m) =
 pub outline-append : (xs ys : List Act) → outline (xs ++ ys) ≡ outline xs ++ outline ys
 outline-append xs ys = filter-append is_turn xs ys
 
-pub passes-made : (k k' : Known) (act : Act) → Passes k k' → HasMade k act → HasMade k' act
+pub passes-made : (k k' : Known) (act : Act) → TimePasses k k' → HasMade k act → HasMade k' act
 passes-made k k' act h m =
     let e : acts_by k'.seat k'.seen ≡ acts_by k.seat k.seen ++ acts_by k.seat h.others = ap (λ (n : ℕ). acts_by n k'.seen) h.seat ∙ (ap (acts_by k.seat) h.seen ∙ acts_by-append k.seat k.seen h.others) in
     subst (λ (l : List Act). IsAmong act l) (sym e) (among-front act (acts_by k.seat k.seen) (acts_by k.seat h.others) m)

@@ -12,7 +12,7 @@ use Rattle.px_trail.specs.Legal.{Follows, IsLegal}
 use Rattle.px_trail.specs.Trail.{Base, Catalogue, acts_by, catalogue_of, catalogue_step, set_number, table_of}
 use Rattle.px_trail.proofs.Growth.{catalogue-snoc, legal-induct}
 use Rattle.px_trail.proofs.Standing.{set_number-other, set_number-same}
-use Rattle.px_calls.specs.Known.{Known, Passes, Ran}
+use Rattle.px_calls.specs.Known.{Known, Ran, TimePasses}
 use Rattle.px_calls.specs.Requires.{AreFitting}
 use Rattle.px_calls.proofs.Runs.{acts_by-append, among-append, among-front}
 
@@ -74,7 +74,7 @@ grown-fits k k' more t cs seen base legal h =
       each = λ x now. h.each x (table-was k.base t k.seen more x l h.drawn (sym (tables t) ∙ now));
     }
 
-pub passes-fits : (k k' : Known) (t : ℕ) (cs : List Change) → Passes k k' → AreFitting k t cs → AreFitting k' t cs
+pub passes-fits : (k k' : Known) (t : ℕ) (cs : List Change) → TimePasses k k' → AreFitting k t cs → AreFitting k' t cs
 passes-fits k k' t cs h f = grown-fits k k' h.others t cs h.seen h.base h.legal f
 
 -- 3. Own acts since a place

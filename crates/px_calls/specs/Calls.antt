@@ -77,16 +77,16 @@ pub record DidFind (k k' : Known) (name : List ℕ) (f : Found) : Type 0 where
   pub name_is : f.table.name ≡ name
   pub found : IsFound k'.base k'.seen f
 
-abbrev pub made_table : Answered → TableId
-made_table m = record { 0 = m.number }
+abbrev pub table_id_made : Answered → TableId
+table_id_made m = record { 0 = m.number }
 
-abbrev pub made_index : Answered → IndexId
-made_index m = record { 0 = m.number }
+abbrev pub index_id_made : Answered → IndexId
+index_id_made m = record { 0 = m.number }
 
 -- the entry that a definition adds
 abbrev pub act_of : Definition → Answered → Act
-act_of (d.Table what) m = Made (made_table m) what
-act_of (d.Index what) m = IndexMade what.table (made_index m) m.stamp what
+act_of (d.Table what) m = Made (table_id_made m) what
+act_of (d.Index what) m = IndexMade what.table (index_id_made m) m.stamp what
 act_of (d.Active t i) m = IndexState t i Active m.stamp
 act_of (d.Disabled t i) m = IndexState t i Disabled m.stamp
 act_of (d.Rebuilding t i) m = IndexState t i Building m.stamp
@@ -94,18 +94,18 @@ act_of (d.DropTable t) m = Dropped t None
 act_of (d.DropIndex t i) m = Dropped t (Some i)
 
 -- A new table and what is dropped have no stamp; what stands keeps its number. An index that is made, or built again, draws a stamp
-abbrev pub IsMade : Definition → Answered → Type 0
-IsMade (d.Table what) m = m.stamp ≡ 0
-IsMade (d.Index what) m = m.stamp ≤ most_of bound.Stamps
-IsMade (d.Active t i) m = m.number ≡ i.0
-IsMade (d.Disabled t i) m = m.number ≡ i.0
-IsMade (d.Rebuilding t i) m = (m.number ≡ i.0) × (m.stamp ≤ most_of bound.Stamps)
-IsMade (d.DropTable t) m = (m.number ≡ t.0) × (m.stamp ≡ 0)
-IsMade (d.DropIndex t i) m = (m.number ≡ i.0) × (m.stamp ≡ 0)
+abbrev pub IsDefinitionMade : Definition → Answered → Type 0
+IsDefinitionMade (d.Table what) m = m.stamp ≡ 0
+IsDefinitionMade (d.Index what) m = m.stamp ≤ most_of bound.Stamps
+IsDefinitionMade (d.Active t i) m = m.number ≡ i.0
+IsDefinitionMade (d.Disabled t i) m = m.number ≡ i.0
+IsDefinitionMade (d.Rebuilding t i) m = (m.number ≡ i.0) × (m.stamp ≤ most_of bound.Stamps)
+IsDefinitionMade (d.DropTable t) m = (m.number ≡ t.0) × (m.stamp ≡ 0)
+IsDefinitionMade (d.DropIndex t i) m = (m.number ≡ i.0) × (m.stamp ≡ 0)
 
 pub record DidDefine (k k' : Known) (x : Definition) (m : Answered) : Type 0 where
   pub adds : Adds k k' (act_of x m)
-  pub made : IsMade x m
+  pub made : IsDefinitionMade x m
   pub at : m.at ≡ length k'.seen
 
 -- 2. Batches
@@ -236,9 +236,9 @@ DidWork k k' work.Did = Finds k k' ⊎ ((t : TableId) × (h : ℕ) × Adds k k' 
 DidWork k k' work.Idle = Finds k k'
 
 -- upkeep had no step to make
-abbrev pub IsIdle : Work → Type 0
-IsIdle work.Did = ⊥
-IsIdle work.Idle = Unit {0}
+abbrev pub IsIdleWork : Work → Type 0
+IsIdleWork work.Did = ⊥
+IsIdleWork work.Idle = Unit {0}
 
 -- an order is no event: what comes of it, upkeep does
 abbrev pub DidOrder : Known → Known → Unit {0} → Type 0

@@ -55,20 +55,20 @@ abbrev pub NamesNoTable : Known → List ℕ → Type 0
 NamesNoTable k name = (t : ℕ) (x : Table) → table_of k.base k.seen t ≡ Some x → x.name ≢ name
 
 -- the table stands
-abbrev pub Stands : Known → ℕ → Type 0
-Stands k t = IsSome (table_of k.base k.seen t)
+abbrev pub TableStands : Known → ℕ → Type 0
+TableStands k t = IsSome (table_of k.base k.seen t)
 
 abbrev pub LacksTable : Known → ℕ → Type 0
 LacksTable k t = table_of k.base k.seen t ≡ None
 
 -- the table has no index of this number
 abbrev pub LacksIndex : Known → ℕ → ℕ → Type 0
-LacksIndex k t i = Stands k t × ((x : Index) → index_of k.base k.seen i ≡ Some x → x.table.0 ≢ t)
+LacksIndex k t i = TableStands k t × ((x : Index) → index_of k.base k.seen i ≡ Some x → x.table.0 ≢ t)
 
 -- how many numbers below n have something
-unfoldable pub counted : {A : Type 0} → (ℕ → Option A) → ℕ → ℕ
-counted f zero = 0
-counted f (suc n) = if is_some (f n) then suc (counted f n) else counted f n
+unfoldable pub count_below : {A : Type 0} → (ℕ → Option A) → ℕ → ℕ
+count_below f zero = 0
+count_below f (suc n) = if is_some (f n) then suc (count_below f n) else count_below f n
 
 -- the index, where it is of that table
 abbrev pub of_table : ℕ → Option Index → Option Index
@@ -77,10 +77,10 @@ of_table t (Some x) = if x.table.0 == t then Some x else None
 
 -- how many tables stand, and how many indexes a table has
 abbrev pub tables_of : Known → ℕ
-tables_of k = let c = catalogue_of k.base k.seen in counted c.tables c.next
+tables_of k = let c = catalogue_of k.base k.seen in count_below c.tables c.next
 
-abbrev pub indexes_of : Known → ℕ → ℕ
-indexes_of k t = let c = catalogue_of k.base k.seen in counted (λ i. of_table t (c.indexes i)) c.next
+abbrev pub index_count : Known → ℕ → ℕ
+index_count k t = let c = catalogue_of k.base k.seen in count_below (λ i. of_table t (c.indexes i)) c.next
 
 -- the next n numbers would pass the greatest
 abbrev pub RunsOut : Known → ℕ → Type 0
@@ -119,7 +119,7 @@ new_table_cause what f k = ⊥
 abbrev pub new_index_cause : NewIndex → StepFault → Known → Type 0
 new_index_cause what NameExists k = HasName (catalogue_of k.base k.seen) what.name
 new_index_cause what NoTable k = LacksTable k what.table.0
-new_index_cause what (Limit bound.Indexes count) k = (count ≡ most_of bound.Indexes) × (most_of bound.Indexes ≤ indexes_of k what.table.0)
+new_index_cause what (Limit bound.Indexes count) k = (count ≡ most_of bound.Indexes) × (most_of bound.Indexes ≤ index_count k what.table.0)
 new_index_cause what (Limit bound.Stamps count) k = (count ≡ most_of bound.Stamps) × (most_of bound.Stamps ≤ last_of k.base what.table.0 k.seen)
 new_index_cause what (Limit bound.Ids count) k = (count ≡ most_of bound.Ids) × RunsOut k 2
 new_index_cause what (NotReady region) k = region ≡ 0
@@ -228,11 +228,11 @@ batch_limit sound t cs which k = ⊥
 
 abbrev pub begin_cause : Type 0 → ℕ → List Change → StepFault → Known → Type 0
 begin_cause sound t cs NoTable k = LacksTable k t
-begin_cause sound t cs (Limit which count) k = Stands k t × (count ≡ most_of which) × batch_limit sound t cs which k
-begin_cause sound t cs (Busy region cells bytes) k = Stands k t
-begin_cause sound t cs (NotReady region) k = Stands k t
-begin_cause sound t cs ReadFault k = Stands k t
-begin_cause sound t cs (Damaged file place) k = Stands k t × IsDamagedAt k file place
+begin_cause sound t cs (Limit which count) k = TableStands k t × (count ≡ most_of which) × batch_limit sound t cs which k
+begin_cause sound t cs (Busy region cells bytes) k = TableStands k t
+begin_cause sound t cs (NotReady region) k = TableStands k t
+begin_cause sound t cs ReadFault k = TableStands k t
+begin_cause sound t cs (Damaged file place) k = TableStands k t × IsDamagedAt k file place
 begin_cause sound t cs (Closed call) k = ClosedBy call k
 begin_cause sound t cs Memory k = Unit {0}
 begin_cause sound t cs f k = ⊥
@@ -276,8 +276,8 @@ pub record IsUndecided (k : Known) (t p stamp : ℕ) : Type 0 where
 
 abbrev pub open_cause : ℕ → Option ℕ → StepFault → Known → Type 0
 open_cause t scn NoTable k = LacksTable k t
-open_cause t (Some scn) (BelowHorizon h) k = Stands k t × (horizon_of k.base t k.seen ≡ h) × (scn - 1 < h)
-open_cause t (Some scn) (NotYet stamp) k = Stands k t × (horizon_of k.base t k.seen ≤ scn - 1) × IsUndecided k t (stamp_at (Some scn) t k.base k.seen) stamp
+open_cause t (Some scn) (BelowHorizon h) k = TableStands k t × (horizon_of k.base t k.seen ≡ h) × (scn - 1 < h)
+open_cause t (Some scn) (NotYet stamp) k = TableStands k t × (horizon_of k.base t k.seen ≤ scn - 1) × IsUndecided k t (stamp_at (Some scn) t k.base k.seen) stamp
 open_cause t scn (Closed call) k = ClosedBy call k
 open_cause t scn Memory k = Unit {0}
 open_cause t scn f k = ⊥
@@ -322,8 +322,8 @@ order_cause f k = ⊥
 
 abbrev pub status_cause : ℕ → StepFault → Known → Type 0
 status_cause t NoTable k = LacksTable k t
-status_cause t ReadFault k = Stands k t
-status_cause t (Damaged file place) k = Stands k t × IsDamagedAt k file place
+status_cause t ReadFault k = TableStands k t
+status_cause t (Damaged file place) k = TableStands k t × IsDamagedAt k file place
 status_cause t (Closed call) k = ClosedBy call k
 status_cause t Memory k = Unit {0}
 status_cause t f k = ⊥

@@ -9,7 +9,7 @@ use Rattle.px_calls.specs.declared.query.FoundKey.{FoundKey}
 use Rattle.px_calls.specs.declared.query.FoundKey.TheVariants.{InDoubt}
 use Rattle.px_calls.specs.declared.query.Point.{Point}
 use Rattle.px_calls.specs.Known.{Known}
-use Rattle.px_calls.specs.Requires.{IsOpen}
+use Rattle.px_calls.specs.Requires.{HasOpen}
 
 -- the version of a stamp at a key of an index
 pub record IndexVersion : Type 0 where
@@ -27,11 +27,11 @@ AreDoubtful doubtful p fs = (d : Doubt) → IsAmong (InDoubt d) fs → doubtful 
 
 -- what was in doubt at an open point is so still
 abbrev pub AreStillDoubtful : Known → (Point → IndexVersion → Bool) → (Point → IndexVersion → Bool) → Type 0
-AreStillDoubtful k old new = (p : Point) (v : IndexVersion) → IsOpen k p → old p v ≡ true → new p v ≡ true
+AreStillDoubtful k old new = (p : Point) (v : IndexVersion) → HasOpen k p → old p v ≡ true → new p v ≡ true
 
 -- and so it is at every key but this one
 abbrev pub AreOthersDoubtful : Known → List ℕ → (Point → IndexVersion → Bool) → (Point → IndexVersion → Bool) → Type 0
-AreOthersDoubtful k key old new = (p : Point) (v : IndexVersion) → IsOpen k p → v.key ≢ key → old p v ≡ true → new p v ≡ true
+AreOthersDoubtful k key old new = (p : Point) (v : IndexVersion) → HasOpen k p → v.key ≢ key → old p v ≡ true → new p v ≡ true
 
 -- a region has no room before it is flushed, or no open log
 abbrev pub IsForRoom : StepFault → Type 0

@@ -17,7 +17,7 @@ pub record Known : Type 0 where
   pub seen : List Entry
 
 -- time passes: others' entries come, and what is seen is legal
-pub record Passes (k k' : Known) : Type 0 where
+pub record TimePasses (k k' : Known) : Type 0 where
   pub others : List Entry
   pub seen : k'.seen ≡ k.seen ++ others
   pub apart : acts_by k.seat others ≡ []
@@ -28,7 +28,7 @@ pub record Passes (k k' : Known) : Type 0 where
 
 -- a call that adds nothing: the seat has then seen what others added since its call before, and that is legal
 pub record Sees (k k' : Known) : Type 0 where
-  pub passes : Passes k k'
+  pub passes : TimePasses k k'
   pub alone : k.alone ≡ true → passes.others ≡ []
   pub as_alone : k'.alone ≡ k.alone
 

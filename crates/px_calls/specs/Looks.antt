@@ -22,7 +22,7 @@ use Rattle.px_calls.specs.declared.query.FoundKey.TheVariants.{Sure, InDoubt}
 use Rattle.px_calls.specs.declared.query.FoundRow.{FoundRow}
 use Rattle.px_calls.specs.declared.query.Path.{Path}
 use Rattle.px_calls.specs.declared.query.Point.{Point}
-use Rattle.px_calls.specs.Requires.{FitsRow, index_in}
+use Rattle.px_calls.specs.Requires.{FitsRow, index_of_found}
 
 -- 1. Keys
 
@@ -49,14 +49,14 @@ is_covered (Some last) k = not (key_less last k)
 
 -- 2. Rows
 
-abbrev pub index_columns : Found → Option Index → List PathColumn
-index_columns f None = []
-index_columns f (Some x) = index_path f.table x
+abbrev pub index_path_in : Found → Option Index → List PathColumn
+index_path_in f None = []
+index_path_in f (Some x) = index_path f.table x
 
 -- the columns of the keys that a table is read by
 abbrev pub columns_by : Found → By → List PathColumn
 columns_by f Table = table_path f.table
-columns_by f (Indexed i) = index_columns f (index_in f i.0)
+columns_by f (Indexed i) = index_path_in f (index_of_found f i.0)
 
 -- the row's key there
 abbrev pub key_by : Found → By → List Value → List ℕ
@@ -69,7 +69,7 @@ shown_in f (Some x) row = shown_on f.table x row
 -- what is shown there of the row
 abbrev pub shown_by : Found → By → List Value → List Value
 shown_by f Table row = row
-shown_by f (Indexed i) row = shown_in f (index_in f i.0) row
+shown_by f (Indexed i) row = shown_in f (index_of_found f i.0) row
 
 -- the state of a row at a point, after these entries: at its stamp, or of a current point the newest state
 abbrev pub row_at : Base → List Entry → Point → List Value → RowState
@@ -106,8 +106,8 @@ abbrev pub IsRightRow : Base → List Entry → Point → By → FoundRow → Ty
 IsRightRow b es p by f = (row : List Value) × IsRowAt b es p row × (f ≡ found_by p.found by row)
 
 -- the row is given, sure or in doubt
-abbrev pub IsShown : List FoundKey → Found → By → List Value → Type 0
-IsShown fs f by row = IsAmong (Sure (found_by f by row)) fs ⊎ ((d : Doubt) × (d.key ≡ key_by f by row) × IsAmong (InDoubt d) fs)
+abbrev pub IsRowShown : List FoundKey → Found → By → List Value → Type 0
+IsRowShown fs f by row = IsAmong (Sure (found_by f by row)) fs ⊎ ((d : Doubt) × (d.key ≡ key_by f by row) × IsAmong (InDoubt d) fs)
 
 -- so many keys are given where there are more
 abbrev pub IsSized : List FoundKey → Option (List ℕ) → Type 0
@@ -131,4 +131,4 @@ pub record ShowsRows (b : Base) (es : List Entry) (p : Point) (path : Path) (aft
   pub own : (r row : List Value) → row_at b es p r ≡ Some row → key_in (shape_of b es p.table.0) row ≡ r
   pub whole : (row : List Value) → IsRowAt b es p row
       → is_on path (key_by p.found path.by row) ≡ true → is_past after (key_by p.found path.by row) ≡ true → is_covered next (key_by p.found path.by row) ≡ true
-      → IsShown fs p.found path.by row
+      → IsRowShown fs p.found path.by row

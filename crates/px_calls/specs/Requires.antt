@@ -27,7 +27,7 @@ pub use Rattle.px_paths.specs.Paths.{AreOfTypes, FitsRow}
 use Rattle.px_trail.specs.declared.entry.Act.{Act}
 use Rattle.px_trail.specs.declared.entry.Act.TheVariants.{Based, IndexMade, IndexState}
 use Rattle.px_trail.specs.declared.entry.Entry.{Entry}
-use Rattle.px_trail.specs.Batches.{BatchPhase, IsDecided, IsIn, Closing, Marking, Verifying, Writing, has, is_distinct}
+use Rattle.px_trail.specs.Batches.{BatchPhase, IsDecided, IsBatchIn, Closing, Marking, Verifying, Writing, has, is_distinct}
 use Rattle.px_trail.specs.States.{key_in, state_of}
 use Rattle.px_trail.specs.Trail.{catalogue_of, closing_call, horizon_of, index_of, last_of, open_points, table_of, table_shape}
 use Rattle.px_calls.specs.declared.definition.Definition.{Definition}
@@ -49,9 +49,9 @@ AreOnce [] = Unit {0}
 AreOnce (n ∷ ns) = AllByRecursion (λ m. m ≢ n) ns × AreOnce ns
 
 -- no name stands twice
-unfoldable pub AreApart : List (List ℕ) → Type 0
-AreApart [] = Unit {0}
-AreApart (n ∷ ns) = AllByRecursion (λ m. m ≢ n) ns × AreApart ns
+unfoldable pub AreDistinctNames : List (List ℕ) → Type 0
+AreDistinctNames [] = Unit {0}
+AreDistinctNames (n ∷ ns) = AllByRecursion (λ m. m ≢ n) ns × AreDistinctNames ns
 
 -- each key is below the next
 unfoldable pub AreAscending : List (List ℕ) → Type 0
@@ -64,7 +64,7 @@ pub record IsNewTable (what : NewTable) : Type 0 where
   pub name : length what.name ≤ most_of Name
   pub columns : length what.columns ≤ most_of Columns
   pub names : AllByRecursion (λ c. length c.name ≤ most_of Name) what.columns
-  pub apart : AreApart (map (λ c. c.name) what.columns)
+  pub apart : AreDistinctNames (map (λ c. c.name) what.columns)
   pub key : what.key ≢ []
   pub places : AllByRecursion (λ p. p.column < length what.columns) what.key
   pub once : AreOnce (map (λ p. p.column) what.key)
@@ -175,42 +175,42 @@ AssignsTo t assignments =
     AllByRecursion (λ a. (a.column < length t.columns) × (is_keyed t.key a.column ≡ false) × ((a.value ≡ Null) ⊎ HasType (type_in (slice_get t.columns a.column)) a.value)) assignments
 
 -- each column once
-abbrev pub FitsWhat : Table → What → Type 0
-FitsWhat t (Set assignments) = AssignsTo t assignments × AreOnce (map (λ a. a.column) assignments)
-FitsWhat t Gone = Unit {0}
+abbrev pub AssignsOnce : Table → What → Type 0
+AssignsOnce t (Set assignments) = AssignsTo t assignments × AreOnce (map (λ a. a.column) assignments)
+AssignsOnce t Gone = Unit {0}
 
 -- the change is one of this table's rows
-pub record FitsTable (t : Table) (c : Change) : Type 0 where
+pub record IsChangeOf (t : Table) (c : Change) : Type 0 where
   pub row : Fits (columns_on (table_path t)) c.row
-  pub what : FitsWhat t c.what
+  pub what : AssignsOnce t c.what
 
 -- the changes are of rows of the table, if it stands
 pub record AreFitting (k : Known) (t : ℕ) (cs : List Change) : Type 0 where
   pub drawn : IsDrawn k t
-  pub each : (x : Table) → table_of k.base k.seen t ≡ Some x → AllByRecursion (FitsTable x) cs
+  pub each : (x : Table) → table_of k.base k.seen t ≡ Some x → AllByRecursion (IsChangeOf x) cs
 
 -- 4. Tickets: each condition on earlier answers is told by the trail that the seat has seen
 
 -- the seat's own batch is in this phase
 abbrev pub TicketIn : Known → Ticket → BatchPhase → Type 0
-TicketIn k t phase = IsIn k.seen k.seat t.table.0 t.stamp phase
+TicketIn k t phase = IsBatchIn k.seen k.seat t.table.0 t.stamp phase
 
-abbrev pub IsShut : Known → Type 0
-IsShut k = closing_call k.seen ≢ None
+abbrev pub IsServerShut : Known → Type 0
+IsServerShut k = closing_call k.seen ≢ None
 
 -- all is done, or all is written and the server is closed
 abbrev pub CanEnd : Known → Ticket → Type 0
-CanEnd k t = TicketIn k t Closing ⊎ (IsShut k × TicketIn k t Verifying)
+CanEnd k t = TicketIn k t Closing ⊎ (IsServerShut k × TicketIn k t Verifying)
 
 -- the server is closed, and not all is written
 abbrev pub CanAbandon : Known → Ticket → Type 0
-CanAbandon k t = IsShut k × (TicketIn k t Marking ⊎ TicketIn k t Writing)
+CanAbandon k t = IsServerShut k × (TicketIn k t Marking ⊎ TicketIn k t Writing)
 
 -- 5. Points
 
 -- the seat has the point open
-abbrev pub IsOpen : Known → Point → Type 0
-IsOpen k p = 0 < open_points k.seat p.table.0 p.stamp k.seen
+abbrev pub HasOpen : Known → Point → Type 0
+HasOpen k p = 0 < open_points k.seat p.table.0 p.stamp k.seen
 
 -- a greatest SCN is one above the greatest stamp
 abbrev pub IsScn : Option ℕ → Type 0
@@ -222,8 +222,8 @@ unfoldable pub index_among : ℕ → List Index → Option Index
 index_among i [] = None
 index_among i (x ∷ xs) = if x.id.0 == i then Some x else index_among i xs
 
-abbrev pub index_in : Found → ℕ → Option Index
-index_in f i = index_among i f.indexes
+abbrev pub index_of_found : Found → ℕ → Option Index
+index_of_found f i = index_among i f.indexes
 
 -- the index is one of the point's definitions, active, and born at or below the point
 abbrev pub IsReadable : Point → Option Index → Type 0
@@ -233,7 +233,7 @@ IsReadable p (Some x) = (x.state ≡ Active) × (x.birth ≤ p.stamp)
 -- the table may be read by these keys at the point
 abbrev pub CanReadBy : Point → By → Type 0
 CanReadBy p by.Table = Unit {0}
-CanReadBy p (by.Index i) = IsReadable p (index_in p.found i.0)
+CanReadBy p (by.Index i) = IsReadable p (index_of_found p.found i.0)
 
 -- the path may be read at the point
 abbrev pub CanLook : Point → Path → Type 0
@@ -242,5 +242,5 @@ CanLook p path = CanReadBy p path.by
 -- the doubt is of an index among the point's definitions, and has a key of that index
 pub record CanConsult (p : Point) (d : Doubt) : Type 0 where
   pub index : Index
-  pub is : index_in p.found d.index.0 ≡ Some index
+  pub is : index_of_found p.found d.index.0 ≡ Some index
   pub key : IsKey most_key (columns_on (index_path p.found.table index)) d.key

@@ -12,10 +12,10 @@ ghost use Rattle.px_tables.specs.declared.table.Table.{Table as Tables};
 ghost use Rattle.px_calls.specs.declared.query.BaseRow.{BaseRow as Given};
 ghost use Rattle.px_calls.specs.declared.query.Point.{Point as Points};
 ghost use Rattle.px_calls.specs.declared.ticket.Ticket.{Ticket as Tickets};
-ghost use Rattle.px_calls.specs.Known.{Known, Passes, Sees, Adds, Ran, HasMade, outline};
+ghost use Rattle.px_calls.specs.Known.{Known, TimePasses, Sees, Adds, Ran, HasMade, outline};
 ghost use Rattle.px_calls.specs.declared.definition.Definition.{Definition as Definitions};
 ghost use Rattle.px_calls.specs.Calls.{DidBase};
-ghost use Rattle.px_calls.specs.Requires.{AreFitting, CanDefine, IsOpen, IsShut, MayBase, TicketIn, base_owners, is_based};
+ghost use Rattle.px_calls.specs.Requires.{AreFitting, CanDefine, HasOpen, IsServerShut, MayBase, TicketIn, base_owners, is_based};
 ghost use Rattle.px_values.specs.declared.name.IndexId.{IndexId as IndexNumber};
 ghost use Rattle.px_values.specs.declared.row.Value.{Value as ColumnValue};
 ghost use Rattle.px_trail.specs.Batches.{has};
@@ -36,20 +36,20 @@ pub fn law_runs()
 /// A batch is marked first, then written, then verified, and stays where it is under others' entries and under a call that adds no
 /// entry of it.
 pub fn law_tickets()
-    ensures others { (k : Known) → (k' : Known) → (t : Tickets) → (p : BatchPhase) → Passes k k' → TicketIn k t p → TicketIn k' t p }
+    ensures others { (k : Known) → (k' : Known) → (t : Tickets) → (p : BatchPhase) → TimePasses k k' → TicketIn k t p → TicketIn k' t p }
     ensures sees { (k : Known) → (k' : Known) → (t : Tickets) → (p : BatchPhase) → Sees k k' → TicketIn k t p → TicketIn k' t p }
     ensures begins { (k : Known) → (k' : Known) → (t : Tickets) → (cs : List RowChange) → Adds k k' (Begun t.table t.stamp cs) → TicketIn k' t Marking }
     ensures marks { (k : Known) → (k' : Known) → (t : Tickets) → Adds k k' (Phase t.table t.stamp 1) → TicketIn k t Marking → TicketIn k' t Writing }
     ensures verifies { (k : Known) → (k' : Known) → (t : Tickets) → Adds k k' (Phase t.table t.stamp 3) → TicketIn k t Verifying → TicketIn k' t Closing }
     ensures closes { (k : Known) → (k' : Known) → (call : ℕ) → Adds k k' (Shut call) → closing_call k'.seen ≡ Some call }
-    ensures shut { (k : Known) → (k' : Known) → Passes k k' → IsShut k → IsShut k' }
+    ensures shut { (k : Known) → (k' : Known) → TimePasses k k' → IsServerShut k → IsServerShut k' }
 {}
 
 /// A point is open from its opening on, under others' entries and under calls that open and close nothing.
 pub fn law_points()
-    ensures opens { (k : Known) → (k' : Known) → (p : Points) → (scn : Bool) → Adds k k' (Opened p.table p.stamp scn) → IsOpen k' p }
-    ensures others { (k : Known) → (k' : Known) → (p : Points) → Passes k k' → IsOpen k p → IsOpen k' p }
-    ensures stays { (k : Known) → (k' : Known) → (acts : List Acts) → (p : Points) → Ran k k' acts → outline acts ≡ [] → IsOpen k p → IsOpen k' p }
+    ensures opens { (k : Known) → (k' : Known) → (p : Points) → (scn : Bool) → Adds k k' (Opened p.table p.stamp scn) → HasOpen k' p }
+    ensures others { (k : Known) → (k' : Known) → (p : Points) → TimePasses k k' → HasOpen k p → HasOpen k' p }
+    ensures stays { (k : Known) → (k' : Known) → (acts : List Acts) → (p : Points) → Ran k k' acts → outline acts ≡ [] → HasOpen k p → HasOpen k' p }
 {}
 
 /// What is asked of changes, definitions and base versions stays true under others' entries, since a table whose number was drawn stays as it is
@@ -57,9 +57,9 @@ pub fn law_points()
 /// an own act is one since any place before it.
 pub fn law_asked<S: Steps>()
     ensures tables { (b : Base) → (t : ℕ) → (es : List Entries) → (more : List Entries) → (x : Tables) → IsLegal b (es ++ more) → t < (catalogue_of b es).next → table_of b (es ++ more) t ≡ Some x → table_of b es t ≡ Some x }
-    ensures fits { (k : Known) → (k' : Known) → (t : ℕ) → (cs : List RowChange) → Passes k k' → AreFitting k t cs → AreFitting k' t cs }
-    ensures defines { (k : Known) → (k' : Known) → (x : Definitions) → Passes k k' → CanDefine S.sound k x → CanDefine S.sound k' x }
-    ensures bases { (k : Known) → (k' : Known) → (p : Points) → (i : ℕ) → (xs : List Given) → Passes k k' → IsOpen k p → MayBase S.sound k p i xs → MayBase S.sound k' p i xs }
+    ensures fits { (k : Known) → (k' : Known) → (t : ℕ) → (cs : List RowChange) → TimePasses k k' → AreFitting k t cs → AreFitting k' t cs }
+    ensures defines { (k : Known) → (k' : Known) → (x : Definitions) → TimePasses k k' → CanDefine S.sound k x → CanDefine S.sound k' x }
+    ensures bases { (k : Known) → (k' : Known) → (p : Points) → (i : ℕ) → (xs : List Given) → TimePasses k k' → HasOpen k p → MayBase S.sound k p i xs → MayBase S.sound k' p i xs }
     ensures based { (k : Known) → (k' : Known) → (p : Points) → (i : IndexNumber) → (xs : List Given) → (at : ℕ) → (d : DidBase k k' p i xs at) → (r : List ColumnValue) → has (base_owners d.table xs) r ≡ true → is_based k'.seen i.0 r ≡ true }
     ensures since { (k : Known) → (k' : Known) → (acts : List Acts) → (act : Acts) → (n : ℕ) → n ≤ length k.seen → Ran k k' acts → IsAmong act acts → IsAmong act (acts_by k'.seat (drop n k'.seen)) }
 {}

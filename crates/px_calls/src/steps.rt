@@ -9,9 +9,9 @@ ghost use Rattle.px_calls.specs.declared.ticket.Ticket.{Ticket as Tickets};
 ghost use Rattle.px_calls.specs.Counts.{HasRisenBy};
 ghost use Rattle.px_calls.specs.Doubtful.{AreDoubtful, AreOthersDoubtful, AreStillDoubtful, IndexVersion, IsForRoom, version_of};
 ghost use Rattle.px_calls.specs.Known.{Known, Sees, Adds};
-ghost use Rattle.px_calls.specs.Requires.{AreFitting, CanAbandon, CanConsult, CanDefine, CanEnd, CanLook, IsOpen, IsScn, MayBase, TicketIn};
-ghost use Rattle.px_calls.specs.Causes.{Refuses, base_cause, begin_cause, define_cause, find_cause, fix_cause, indexes_of, open_cause, order_cause, read_cause, rows_cause, status_cause, upkeep_cause, write_cause};
-ghost use Rattle.px_calls.specs.Calls.{DidBase, DidBegin, DidConsult, DidCount, DidDefine, DidFind, DidFix, DidLook, DidMark, DidOpen, DidOrder, DidVerify, DidWork, DidWrite, IsIdle, IsReceipt};
+ghost use Rattle.px_calls.specs.Requires.{AreFitting, CanAbandon, CanConsult, CanDefine, CanEnd, CanLook, HasOpen, IsScn, MayBase, TicketIn};
+ghost use Rattle.px_calls.specs.Causes.{Refuses, base_cause, begin_cause, define_cause, find_cause, fix_cause, index_count, open_cause, order_cause, read_cause, rows_cause, status_cause, upkeep_cause, write_cause};
+ghost use Rattle.px_calls.specs.Calls.{DidBase, DidBegin, DidConsult, DidCount, DidDefine, DidFind, DidFix, DidLook, DidMark, DidOpen, DidOrder, DidVerify, DidWork, DidWrite, IsIdleWork, IsReceipt};
 
 use crate::definition::{Definition, Made};
 use crate::fault::StepFault;
@@ -70,7 +70,7 @@ pub trait Steps {
         requires fits { AreFitting (known self.old) table.0 changes.now }
         ensures one_call { one_call self.old self.new }
         ensures ok { IfOk result (DidBegin sound (known self.old) (known self.new) table changes.now) }
-        ensures few { IfOk result (λ t. (known self.old).alone ≡ true → left self.new t ≤ 3 + 2 * indexes_of (known self.new) table.0) }
+        ensures few { IfOk result (λ t. (known self.old).alone ≡ true → left self.new t ≤ 3 + 2 * index_count (known self.new) table.0) }
         ensures refused { IfErr result (Refuses (begin_cause sound table.0 changes.now) (known self.old) (known self.new)) };
 
     /// Phase 1 on one region: marks the batch's index rows. It takes no memory.
@@ -125,7 +125,7 @@ pub trait Steps {
     /// The next keys of the path past `after`. By an index no row is looked at; by the table's own keys at least each row that is given, up to the
     /// count's last value.
     fn look(&mut self, p: &Point, path: &Path, after: &Option<Key>) -> Result<Chunk, StepFault>
-        requires open { IsOpen (known self.old) p.now }
+        requires open { HasOpen (known self.old) p.now }
         requires path { CanLook p.now path.now }
         ensures one_call { one_call self.old self.new }
         ensures ok { IfOk result (DidLook sound (known self.old) (known self.new) p.now path.now after.now) }
@@ -136,7 +136,7 @@ pub trait Steps {
 
     /// The row of a doubt at the point, where its key is the doubt's. Leaves a verdict in the doubt.
     fn consult(&mut self, p: &Point, d: &mut Doubt) -> Result<Option<Held>, StepFault>
-        requires open { IsOpen (known self.old) p.now }
+        requires open { HasOpen (known self.old) p.now }
         requires doubt { CanConsult p.now d.old }
         ensures one_call { one_call self.old self.new }
         ensures ok { IfOk result (DidConsult sound (known self.old) (known self.new) p.now d.old d.new) }
@@ -152,14 +152,14 @@ pub trait Steps {
         ensures one_call { one_call self.old self.new }
         ensures ok { IfOk result (DidFix (known self.old) (known self.new) d.now) }
         ensures looked_once { (known self.old).alone ≡ true → looked self.new ≤ looked self.old + 1 }
-        ensures there { IfOk result (λ fixing. (known self.old).alone ≡ true → sound → (p : Points) → IsOpen (known self.old) p → doubtful self.old p (version_of d.now) ≡ true → fixing ≢ Fixing.Gone) }
+        ensures there { IfOk result (λ fixing. (known self.old).alone ≡ true → sound → (p : Points) → HasOpen (known self.old) p → doubtful self.old p (version_of d.now) ≡ true → fixing ≢ Fixing.Gone) }
         ensures others { IfOk result (λ _. (known self.old).alone ≡ true → sound → AreOthersDoubtful (known self.old) d.now.key (doubtful self.old) (doubtful self.new)) }
         ensures still { IfErr result (λ f. (known self.old).alone ≡ true → IsForRoom f → AreStillDoubtful (known self.old) (doubtful self.old) (doubtful self.new)) }
         ensures refused { IfErr result (Refuses fix_cause (known self.old) (known self.new)) };
 
     /// Gives rows of the point their base versions in an index that was born there: verified ones, at its birth.
     fn base(&mut self, p: &Point, index: IndexId, rows: &BaseRows) -> Result<u64, StepFault>
-        requires open { IsOpen (known self.old) p.now }
+        requires open { HasOpen (known self.old) p.now }
         requires some { rows.now ≢ [] }
         requires few { length rows.now ≤ 64 }
         requires rows { MayBase sound (known self.old) p.now index.0 rows.now }
@@ -169,7 +169,7 @@ pub trait Steps {
 
     /// Closes the point. It takes no memory.
     fn close_point(&mut self, p: Point)
-        requires { IsOpen (known self.old) p }
+        requires { HasOpen (known self.old) p }
         ensures one_call { one_call self.old self.new }
         ensures unlooked { (known self.old).alone ≡ true → looked self.new ≡ looked self.old }
         ensures adds { Adds (known self.old) (known self.new) (Released p.table p.stamp) };
@@ -188,7 +188,7 @@ pub trait Steps {
         ensures ok { IfOk result (DidWork (known self.old) (known self.new)) }
         ensures unlooked { (known self.old).alone ≡ true → looked self.new ≡ looked self.old }
         ensures still { IfOk result (λ _. (known self.old).alone ≡ true → AreStillDoubtful (known self.old) (doubtful self.old) (doubtful self.new)) }
-        ensures done { IfOk result (λ work. IsIdle work → done self.new) }
+        ensures done { IfOk result (λ work. IsIdleWork work → done self.new) }
         ensures refused { IfErr result (Refuses upkeep_cause (known self.old) (known self.new)) };
 
     /// The table's last stamp and horizon, and counts of its cells, files and index rows.

@@ -8,21 +8,21 @@ use Rattle.px_outside.specs.declared.disk.Disk.{Ghosts}
 use Rattle.px_outside.proofs.Moments.{leaves_then, rose_later, stays_touches, touches_more, touches_none, touches_then}
 use Rattle.px_gatelog.specs.Damage.{IsFirstWrong}
 use Rattle.px_gatelog.specs.Format.{LogPlace, LogRecord, records_of, segments_of}
-use Rattle.px_gatelog.specs.GateLog.{GoesOnBy, generation_in, steps_left as log_steps}
+use Rattle.px_gatelog.specs.GateLog.{LogGoesOnBy, generation_in, steps_left as log_steps}
 use Rattle.px_gatelog.specs.Records.{HasLog, RecordsStand}
 use Rattle.px_gatelog.specs.Start.{Started}
 use Rattle.px_gatelog.specs.declared.gate_log.GateLog.{GateLog}
 use Rattle.px_gatelog.specs.declared.segment.Segment.{Segment}
 use Rattle.px_gatelog.proofs.LogRecords.{empty_records, some_records, started_records}
 use Rattle.px_gatelog.proofs.Standing.{segments_same}
-use Rattle.px_schema.specs.Format.{standing}
-use Rattle.px_schema.specs.Fresh.{fresh}
+use Rattle.px_schema.specs.Format.{standing_piece}
+use Rattle.px_schema.specs.Fresh.{fresh_standing}
 use Rattle.px_schema.specs.Spelled.{standing_bytes}
 use Rattle.px_schema.specs.declared.standing.Standing.{Standing}
 use Rattle.px_catalog.specs.Reading.{catalogue_form, or_fresh, snapshot_record, value_of}
-use Rattle.px_catalog.specs.Catalogue.{CatalogueStands, HasCatalogue, HasSameSegment, catalogue_files, generation_of, is_open, standing_of, steps_left}
-use Rattle.px_catalog.specs.Damage.{IsFirstDamaged}
-use Rattle.px_catalog.specs.Damage.IsFirstDamaged.{in_log, long_first, long_second}
+use Rattle.px_catalog.specs.Catalogue.{CatalogueStands, HasCatalogue, HasSameSegment, catalogue_files, catalogue_steps_left, generation_of, is_catalogue_open, standing_of}
+use Rattle.px_catalog.specs.Damage.{IsFirstDamagedInCatalogue}
+use Rattle.px_catalog.specs.Damage.IsFirstDamagedInCatalogue.{in_log, long_first, long_second}
 use Rattle.px_catalog.specs.inner.Reader.{HasTaken}
 use Rattle.px_catalog.specs.declared.catalog.Catalog.{Catalog}
 use Rattle.px_catalog.proofs.Values.{no_records, taken_right, taken_value}
@@ -42,14 +42,14 @@ ok_err r x e a b = (let c : Ok x ≡ Err e = sym a ∙ b in cc)
 err_same : {T E : Type 0} (r : Result T E) (x y : E) → r ≡ Err x → r ≡ Err y → x ≡ y
 err_same r x y a b = (let c : Err x ≡ Err y = sym a ∙ b in cc)
 
-pub damaged_stands : (image : Image) (file place : ℕ) (s : Standing) → IsFirstDamaged image file place → CatalogueStands image s → ⊥
+pub damaged_stands : (image : Image) (file place : ℕ) (s : Standing) → IsFirstDamagedInCatalogue image file place → CatalogueStands image s → ⊥
 damaged_stands image file place s (in_log wrong) stands = ok_err (segments_of catalogue_form (image 0) (image 1)) stands.stand.0 _ stands.stand.1 wrong.read
 damaged_stands image file place s (long_first none long file_is place_is) stands =
     let within = stands.short (records_once image stands.records [] stands.stand none) in omega (arith, within.0, long)
 damaged_stands image file place s (long_second none short long file_is place_is) stands =
     let within = stands.short (records_once image stands.records [] stands.stand none) in omega (arith, within.1, long)
 
-damaged_in : (image : Image) (file place other at : ℕ) → IsFirstWrong catalogue_form 0 1 (image 0) (image 1) file place → IsFirstDamaged image other at → (file ≡ other) × (place ≡ at)
+damaged_in : (image : Image) (file place other at : ℕ) → IsFirstWrong catalogue_form 0 1 (image 0) (image 1) file place → IsFirstDamagedInCatalogue image other at → (file ≡ other) × (place ≡ at)
 damaged_in image file place other at wrong (in_log too) =
     let same = err_same (segments_of catalogue_form (image 0) (image 1)) _ _ wrong.read too.read in
     (wrong.file_is ∙ ap (λ (p : LogPlace). if p.in_second then 1 else 0) same ∙ sym too.file_is, ap (λ (p : LogPlace). p.place) same)
@@ -59,7 +59,7 @@ damaged_in image file place other at wrong (long_second none short long file_is 
 swapped : (file place other at : ℕ) → (file ≡ other) × (place ≡ at) → (other ≡ file) × (at ≡ place)
 swapped file place other at same = (sym same.0, sym same.1)
 
-pub damaged_once : (image : Image) (file place other at : ℕ) → IsFirstDamaged image file place → IsFirstDamaged image other at → (file ≡ other) × (place ≡ at)
+pub damaged_once : (image : Image) (file place other at : ℕ) → IsFirstDamagedInCatalogue image file place → IsFirstDamagedInCatalogue image other at → (file ≡ other) × (place ≡ at)
 damaged_once image file place other at (in_log wrong) two = damaged_in image file place other at wrong two
 damaged_once image file place other at one (in_log wrong) = swapped other at file place (damaged_in image other at file place wrong one)
 damaged_once image file place other at (long_first none long file_is place_is) (long_first none' long' file_is' place_is') = (file_is ∙ sym file_is', place_is ∙ sym place_is')
@@ -68,7 +68,7 @@ damaged_once image file place other at (long_second none short long file_is plac
 damaged_once image file place other at (long_second none short long file_is place_is) (long_second none' short' long' file_is' place_is') = (file_is ∙ sym file_is', place_is ∙ sym place_is')
 
 -- a folder whose two files have no byte stands for the fresh catalogue
-pub empty_stands : (image : Image) → image 0 ≡ [] → image 1 ≡ [] → CatalogueStands image fresh
+pub empty_stands : (image : Image) → image 0 ≡ [] → image 1 ≡ [] → CatalogueStands image fresh_standing
 empty_stands image none nothing = record {
   records = [];
   stand = empty_records catalogue_form 0 1 image none nothing;
@@ -90,7 +90,7 @@ module _ {D : Type 0} (d : Ghosts D) (old mid : D) (taken : Option Standing) (lo
   goes_on = started_records d catalogue_form 0 1 (λ records. HasTaken taken records) old mid log (records_of started.segments) started more stood
 
   none_open : (IsSome log.newest → ⊥) → records_of started.segments ≡ []
-  none_open closed = ap records_of (subst (λ (o : Option Segment). GoesOnBy catalogue_form o (d.seen mid log.first) (d.seen mid log.second) started.segments) (not_some log.newest closed) started.settled.state.goes_on).2
+  none_open closed = ap records_of (subst (λ (o : Option Segment). LogGoesOnBy catalogue_form o (d.seen mid log.first) (d.seen mid log.second) started.segments) (not_some log.newest closed) started.settled.state.goes_on).2
 
   -- with an open segment
   pub opened_with : (c : Catalog) → c.log ≡ log → IsSome log.newest → standing_of c ≡ or_fresh taken → CatalogueStands (d.seen old) (standing_of c) × HasCatalogue d c mid
@@ -102,13 +102,13 @@ module _ {D : Type 0} (d : Ghosts D) (old mid : D) (taken : Option Standing) (lo
           records = records_of started.segments;
           log = subst (λ (l : GateLog). HasLog d catalogue_form 0 1 mid l (records_of started.segments) (snapshot_record (standing_of c) ∷ [])) (sym log_is) goes_on;
           value = value;
-          right = subst standing.right (sym named) (taken_right taken (records_of started.segments) started.taken);
+          right = subst standing_piece.right (sym named) (taken_right taken (records_of started.segments) started.taken);
           short = λ none. absurd (some none);
         },
       )
 
   -- and without
-  pub opened_without : (c : Catalog) → c.log ≡ log → (IsSome log.newest → ⊥) → standing_of c ≡ fresh → length (d.seen mid 0) ≤ 4096 → length (d.seen mid 1) ≤ 4096 → d.seen mid ≡ d.seen old
+  pub opened_without : (c : Catalog) → c.log ≡ log → (IsSome log.newest → ⊥) → standing_of c ≡ fresh_standing → length (d.seen mid 0) ≤ 4096 → length (d.seen mid 1) ≤ 4096 → d.seen mid ≡ d.seen old
       → CatalogueStands (d.seen old) (standing_of c) × HasCatalogue d c mid
   opened_without c log_is closed named one two same =
       let none = none_open closed in
@@ -123,7 +123,7 @@ module _ {D : Type 0} (d : Ghosts D) (old mid : D) (taken : Option Standing) (lo
           records = records_of started.segments;
           log = subst (λ (l : GateLog). HasLog d catalogue_form 0 1 mid l (records_of started.segments) (snapshot_record (standing_of c) ∷ [])) (sym log_is) goes_on;
           value = value;
-          right = subst standing.right (sym named) (taken_right None [] refl);
+          right = subst standing_piece.right (sym named) (taken_right None [] refl);
           short = λ is. (
             λ bytes left. subst (λ (l : List ℕ). length l ≤ 4096) (sym (durable 0 log.first started.first_is started.settled.first_durable bytes left)) one,
             λ bytes left. subst (λ (l : List ℕ). length l ≤ 4096) (sym (durable 1 log.second started.second_is started.settled.second_durable bytes left)) two,
@@ -147,10 +147,10 @@ generation_none : (newest : Option Segment) → newest ≡ None → generation_i
 generation_none None is full = omega arith
 generation_none (Some s) is full = cc
 
-fresh_long : length (standing_bytes fresh) ≡ 34
+fresh_long : length (standing_bytes fresh_standing) ≡ 34
 fresh_long = refl
 
-pub never_full : (c : Catalog) → (is_open c → ⊥) → standing_of c ≡ fresh → (generation_of c ≡ 18446744073709551615) ⊎ (67108841 < length (standing_bytes (standing_of c))) → ⊥
+pub never_full : (c : Catalog) → (is_catalogue_open c → ⊥) → standing_of c ≡ fresh_standing → (generation_of c ≡ 18446744073709551615) ⊎ (67108841 < length (standing_bytes (standing_of c))) → ⊥
 never_full c closed named (inl last) = generation_none c.log.newest (not_some c.log.newest closed) last
 never_full c closed named (inr long) = (let short : length (standing_bytes (standing_of c)) ≡ 34 = ap (λ (s : Standing). length (standing_bytes s)) named ∙ fresh_long in omega (arith, short, long))
 
@@ -158,15 +158,15 @@ never_full c closed named (inr long) = (let short : length (standing_bytes (stan
 pub record Making {D : Type 0} (d : Ghosts D) (from : Catalog) (old : D) (c : Catalog) (disk : D) : Type 0 where
   pub has : HasCatalogue d from old → HasCatalogue d c disk
   pub same : standing_of c ≡ standing_of from
-  pub fresh_is : standing_of c ≡ fresh
-  pub closed : is_open c → ⊥
+  pub fresh_is : standing_of c ≡ fresh_standing
+  pub closed : is_catalogue_open c → ⊥
   pub leaves : HasCatalogue d from old → LeavesOnly d old disk (λ moment image. CatalogueStands image (standing_of from))
   pub touches : HasCatalogue d from old → TouchesOnly d old disk catalogue_files
-  pub counts : Passes d old disk (9 - 3 * steps_left c)
+  pub counts : Passes d old disk (9 - 3 * catalogue_steps_left c)
   pub faults : d.faults disk ≡ d.faults old
 
 module _ {D : Type 0} (d : Ghosts D) (from : Catalog) (old : D) where
-  pub making_none : ((x : D) (moment file : ℕ) (bytes : List ℕ) → d.left x moment file bytes → moment ≤ d.calls x) → standing_of from ≡ fresh → (is_open from → ⊥) → Making d from old from old
+  pub making_none : ((x : D) (moment file : ℕ) (bytes : List ℕ) → d.left x moment file bytes → moment ≤ d.calls x) → standing_of from ≡ fresh_standing → (is_catalogue_open from → ⊥) → Making d from old from old
   making_none up_to_now named closed = record {
     has = λ has. has;
     same = refl;
@@ -199,9 +199,9 @@ module _ {D : Type 0} (d : Ghosts D) (from : Catalog) (old : D) where
         }
 
     pub step_failed : Rose d disk disk' → Rose d old disk'
-    step_failed rose = rose_later d.calls d.faults d.first old disk disk' (9 - 3 * steps_left c) making.counts rose
+    step_failed rose = rose_later d.calls d.faults d.first old disk disk' (9 - 3 * catalogue_steps_left c) making.counts rose
 
-    pub making_more : (c' : Catalog) → (HasCatalogue d c disk → HasCatalogue d c' disk') → standing_of c' ≡ standing_of c → HasSameSegment c c' → steps_left c' + 1 ≡ steps_left c → d.faults disk' ≡ d.faults disk → Making d from old c' disk'
+    pub making_more : (c' : Catalog) → (HasCatalogue d c disk → HasCatalogue d c' disk') → standing_of c' ≡ standing_of c → HasSameSegment c c' → catalogue_steps_left c' + 1 ≡ catalogue_steps_left c → d.faults disk' ≡ d.faults disk → Making d from old c' disk'
     making_more c' done same kept fewer unfailed =
         let steps = steps_are c in
         record {

@@ -4,7 +4,7 @@ use Rattle.std.specs.List.{AllByRecursion, flat_map}
 use Rattle.px_tables.specs.declared.table.KeyPlace.{KeyPlace}
 use Rattle.px_tables.specs.declared.table.TableColumn.{TableColumn}
 use Rattle.px_tables.specs.declared.table.TableRegion.{TableRegion}
-use Rattle.px_schema.specs.Spelled.{body_of, built_bytes, column_bytes, list_bytes, name_bytes, part_bytes, region_bytes}
+use Rattle.px_schema.specs.Spelled.{body_of, built_bytes, column_bytes, key_part_bytes, list_bytes, name_bytes, region_bytes}
 use Rattle.px_schema.specs.declared.item.CatalogItem.{CatalogItem}
 use Rattle.px_schema.specs.declared.item.CatalogItem.TheVariants.{IndexGone, IndexIs, TableGone, TableIs}
 use Rattle.px_catalog.specs.Limits.{IsWithinLimits}
@@ -17,7 +17,7 @@ flat_long f P most each (x ∷ l) all =
     let long = length-append (f x) (flat_map f l) in
     omega (arith, one, more, long)
 
-parts_long : (l : List KeyPlace) → length (flat_map part_bytes l) ≤ 2 * length l
+parts_long : (l : List KeyPlace) → length (flat_map key_part_bytes l) ≤ 2 * length l
 parts_long [] = omega arith
 parts_long (p ∷ l) = let more = parts_long l in omega (arith, more)
 
@@ -35,13 +35,13 @@ body_long (TableIs t) is =
     let columns = flat_long column_bytes (λ c. length c.name ≤ 128) 131 column_long t.columns is.names in
     let regions = flat_long region_bytes (λ r. length r.least_key ≤ 1024) 1030 region_long t.regions is.keys in
     let key = parts_long t.key in
-    let two = length-append (list_bytes part_bytes t.key) (list_bytes region_bytes t.regions) in
-    let three = length-append (list_bytes column_bytes t.columns) (list_bytes part_bytes t.key ++ list_bytes region_bytes t.regions) in
-    let four = length-append (name_bytes t.name) (list_bytes column_bytes t.columns ++ (list_bytes part_bytes t.key ++ list_bytes region_bytes t.regions)) in
+    let two = length-append (list_bytes key_part_bytes t.key) (list_bytes region_bytes t.regions) in
+    let three = length-append (list_bytes column_bytes t.columns) (list_bytes key_part_bytes t.key ++ list_bytes region_bytes t.regions) in
+    let four = length-append (name_bytes t.name) (list_bytes column_bytes t.columns ++ (list_bytes key_part_bytes t.key ++ list_bytes region_bytes t.regions)) in
     omega (arith, columns, regions, key, two, three, four, is.name, is.columns, is.key, is.regions)
 body_long (IndexIs i) is =
     let parts = parts_long i.parts in
-    let two = length-append (list_bytes part_bytes i.parts) (name_bytes i.included) in
+    let two = length-append (list_bytes key_part_bytes i.parts) (name_bytes i.included) in
     let three = length-append (name_bytes i.name) (built_bytes i) in
     omega (arith, parts, two, three, is.name, is.parts, is.included)
 body_long (TableGone n) is = omega arith

@@ -4,15 +4,15 @@ use Rattle.std.specs.List.{AllByRecursion}
 use Rattle.std.proofs.Math.Logic.{∥∥₁_elim}
 use Rattle.std.proofs.Props.{props}
 use Rattle.std.specs.Prelude.{◌==◌, if◌then◌else◌, nat_lt}
-use Rattle.px_gatelog.specs.Format.{AllFit, LogRecord}
+use Rattle.px_gatelog.specs.Format.{AllRecordsFit, LogRecord}
 use Rattle.px_pieces.specs.Pieces.{Piece}
 use Rattle.px_pieces.specs.Reading.{reading_of, reading_wrong}
-use Rattle.px_schema.specs.Format.{greatest_count, index, standing, table}
-use Rattle.px_schema.specs.Fresh.{fresh, fresh_right}
-use Rattle.px_schema.specs.Outcomes.{Answers}
-use Rattle.px_schema.specs.Records.{IsRight, definition_of, in_body, index_id, one_index, one_table, snapshot_of, table_id}
+use Rattle.px_schema.specs.Format.{greatest_count, index, standing_piece, table}
+use Rattle.px_schema.specs.Fresh.{fresh_right, fresh_standing}
+use Rattle.px_schema.specs.Outcomes.{AnswersRecord}
+use Rattle.px_schema.specs.Records.{IsRightCatalogItem, definition_in_body, in_body, index_id, one_index, one_table, snapshot_in_body, table_id}
 use Rattle.px_schema.specs.Spelled.{FitsSnapshot, standing_bytes}
-use Rattle.px_schema.specs.Stands.{after, drawn_by}
+use Rattle.px_schema.specs.Stands.{drawn_by, stands_after}
 use Rattle.px_schema.specs.declared.fault.DefFault.{DefFault}
 use Rattle.px_schema.specs.declared.fault.DefFault.TheVariants.{Memory, NotADefinition}
 use Rattle.px_schema.specs.declared.item.CatalogItem.{CatalogItem}
@@ -22,7 +22,7 @@ use Rattle.px_schema.proofs.RecordLaws.{definition_read, definition_taken, snaps
 use Rattle.px_schema.proofs.Rights.{index_numbers, snapshot_fits, table_numbers}
 use Rattle.px_schema.proofs.StaysRight.{after_right}
 use Rattle.px_catalog.specs.Reading.{after_item, catalogue_form, first_of, item_record, next_of, or_fresh, read_behind, read_or, snapshot_record, value_from, value_of, wrong_of}
-use Rattle.px_catalog.specs.inner.Reader.{HasTaken, StandsBy, read_on}
+use Rattle.px_catalog.specs.inner.Reader.{HasTaken, StandsByRecords, read_on}
 
 -- ---- a record behind others
 
@@ -32,8 +32,8 @@ value_from_push s (x ∷ records) r = value_from_push (read_or s (next_of s x)) 
 
 pub value_more : (records : List LogRecord) (r : LogRecord) (s : Standing) → read_behind records r ≡ Ok s → value_of (records ++ r ∷ []) ≡ s
 unfolding value_of read_behind
-value_more [] r s is = ap (read_or fresh) is
-value_more (x ∷ before) r s is = value_from_push (read_or fresh (first_of x)) before r ∙ ap (read_or (value_from (read_or fresh (first_of x)) before)) is
+value_more [] r s is = ap (read_or fresh_standing) is
+value_more (x ∷ before) r s is = value_from_push (read_or fresh_standing (first_of x)) before r ∙ ap (read_or (value_from (read_or fresh_standing (first_of x)) before)) is
 
 pub behind_some : (records : List LogRecord) (r : LogRecord) (s : Standing) → (records ≡ [] → ⊥) → value_of records ≡ s → read_behind records r ≡ next_of s r
 unfolding read_behind
@@ -45,7 +45,7 @@ unfolding read_behind
 behind_none [] r none = refl
 behind_none (x ∷ before) r none = absurd cc
 
-pub no_records : value_of [] ≡ fresh
+pub no_records : value_of [] ≡ fresh_standing
 unfolding value_of
 no_records = refl
 
@@ -55,74 +55,74 @@ not_nil (x ∷ records) r is = absurd cc
 
 -- ---- definitions and snapshots
 
-pub next_item : (s : Standing) (d : CatalogItem) → IsRight s d → next_of s (item_record d) ≡ Ok (after s d)
+pub next_item : (s : Standing) (d : CatalogItem) → IsRightCatalogItem s d → next_of s (item_record d) ≡ Ok (stands_after s d)
 unfolding next_of
 next_item s d right = ap (after_item s) (definition_read s d right)
 
 -- the numbers of a right one are below the greatest next number
-pub drawn_short : (s : Standing) (d : CatalogItem) → IsRight s d → AllByRecursion (λ k. k < 4294967295) (drawn_by d)
+pub drawn_short : (s : Standing) (d : CatalogItem) → IsRightCatalogItem s d → AllByRecursion (λ k. k < 4294967295) (drawn_by d)
 drawn_short s (TableIs t) right = table_numbers t right.0
 drawn_short s (IndexIs i) right = index_numbers s.tables i right.0
 drawn_short s (TableGone n) right = tt
 drawn_short s (IndexGone n) right = tt
 
-first_snapshot : (s : Standing) → standing.right s → first_of (snapshot_record s) ≡ Ok s
+first_snapshot : (s : Standing) → standing_piece.right s → first_of (snapshot_record s) ≡ Ok s
 unfolding first_of
 first_snapshot s right = snapshot_read s right
 
 -- a snapshot alone
-pub value_alone : (s : Standing) → standing.right s → value_of (snapshot_record s ∷ []) ≡ s
+pub value_alone : (s : Standing) → standing_piece.right s → value_of (snapshot_record s ∷ []) ≡ s
 unfolding value_of
-value_alone s right = ap (read_or fresh) (first_snapshot s right)
+value_alone s right = ap (read_or fresh_standing) (first_snapshot s right)
 
-pub alone_fits : (s : Standing) → standing.right s → length (standing_bytes s) < 2 ^ 32 → AllFit catalogue_form [] (snapshot_record s ∷ [])
+pub alone_fits : (s : Standing) → standing_piece.right s → length (standing_bytes s) < 2 ^ 32 → AllRecordsFit catalogue_form [] (snapshot_record s ∷ [])
 unfolding read_behind
 alone_fits s right short = ((ap wrong_of (first_snapshot s right), short, tt), refl)
 
 -- what is right is written as a snapshot
-pub merely_fits : (s : Standing) → ∥ standing.right s ∥₁ → FitsSnapshot s
+pub merely_fits : (s : Standing) → ∥ standing_piece.right s ∥₁ → FitsSnapshot s
 merely_fits s right = ∥∥₁_elim right (hlevel props) (λ r. snapshot_fits s r)
 
-pub merely_after : (s t : Standing) (d : CatalogItem) → IsRight s d → t ≡ after s d → ∥ standing.right s ∥₁ → ∥ standing.right t ∥₁
-merely_after s t d is same right = ∥∥₁_elim right (hlevel) (λ r. ∣ subst standing.right (sym same) (after_right s d r is) ∣₁)
+pub merely_after : (s t : Standing) (d : CatalogItem) → IsRightCatalogItem s d → t ≡ stands_after s d → ∥ standing_piece.right s ∥₁ → ∥ standing_piece.right t ∥₁
+merely_after s t d is same right = ∥∥₁_elim right (hlevel) (λ r. ∣ subst standing_piece.right (sym same) (after_right s d r is) ∣₁)
 
 -- ---- what a reader answers
 
-pub read_ok : (s t : Standing) (r : LogRecord) (d : CatalogItem) → definition_of s r.kind r.body ≡ Ok d → t ≡ after s d → next_of s r ≡ Ok t
+pub read_ok : (s t : Standing) (r : LogRecord) (d : CatalogItem) → definition_in_body s r.kind r.body ≡ Ok d → t ≡ stands_after s d → next_of s r ≡ Ok t
 unfolding next_of
 read_ok s t r d is same = ap (after_item s) is ∙ ap (λ (u : Standing). Ok u) (sym same)
 
-pub answers_next : (s : Standing) (r : LogRecord) (fault : DefFault) → Answers (definition_of s r.kind r.body) (Err fault) → Answers (next_of s r) (Err fault)
+pub answers_next : (s : Standing) (r : LogRecord) (fault : DefFault) → AnswersRecord (definition_in_body s r.kind r.body) (Err fault) → AnswersRecord (next_of s r) (Err fault)
 unfolding next_of
 answers_next s r (NotADefinition place) is = ap (after_item s) is
 answers_next s r Memory is = tt
 
-pub answers_first : (r : LogRecord) (result : Result Standing DefFault) → Answers (snapshot_of r.kind r.body) result → Answers (first_of r) result
+pub answers_first : (r : LogRecord) (result : Result Standing DefFault) → AnswersRecord (snapshot_in_body r.kind r.body) result → AnswersRecord (first_of r) result
 unfolding first_of
 answers_first r result is = is
 
-pub wrong_at : (o : Option Standing) (r : LogRecord) (fault : DefFault) (place : ℕ) → fault ≡ NotADefinition place → Answers (read_on o r) (Err fault) → read_on o r ≡ Err place
-wrong_at o r fault place is answers = let P : DefFault → Type 0 = λ f. Answers (read_on o r) (Err f) in subst P is answers
+pub wrong_at : (o : Option Standing) (r : LogRecord) (fault : DefFault) (place : ℕ) → fault ≡ NotADefinition place → AnswersRecord (read_on o r) (Err fault) → read_on o r ≡ Err place
+wrong_at o r fault place is answers = let P : DefFault → Type 0 = λ f. AnswersRecord (read_on o r) (Err f) in subst P is answers
 
 pub on_before : (o b : Option Standing) (r : LogRecord) (e : Result Standing ℕ) → b ≡ o → read_on b r ≡ e → read_on o r ≡ e
 on_before o b r e same is = ap (λ (x : Option Standing). read_on x r) (sym same) ∙ is
 
-item_of : (s t : Standing) (e : Result CatalogItem ℕ) → after_item s e ≡ Ok t → (d : CatalogItem) × ((e ≡ Ok d) × (t ≡ after s d))
+item_of : (s t : Standing) (e : Result CatalogItem ℕ) → after_item s e ≡ Ok t → (d : CatalogItem) × ((e ≡ Ok d) × (t ≡ stands_after s d))
 item_of s t (Ok d) is = (d, (refl, (cc)))
 item_of s t (Err place) is = absurd cc
 
-right_next : (s t : Standing) (r : LogRecord) → standing.right s → next_of s r ≡ Ok t → standing.right t
+right_next : (s t : Standing) (r : LogRecord) → standing_piece.right s → next_of s r ≡ Ok t → standing_piece.right t
 unfolding next_of
 right_next s t r right is =
-    let read = item_of s t (definition_of s r.kind r.body) is in
+    let read = item_of s t (definition_in_body s r.kind r.body) is in
     let taken = definition_taken s r.kind r.body read.0 read.1.0 in
-    subst standing.right (sym read.1.1) (after_right s read.0 right taken.1)
+    subst standing_piece.right (sym read.1.1) (after_right s read.0 right taken.1)
 
-right_first : (t : Standing) (r : LogRecord) → first_of r ≡ Ok t → standing.right t
+right_first : (t : Standing) (r : LogRecord) → first_of r ≡ Ok t → standing_piece.right t
 unfolding first_of
 right_first t r is = (snapshot_taken r.kind r.body t is).1
 
-pub taken_more : (o : Option Standing) (records : List LogRecord) (r : LogRecord) (s : Standing) → HasTaken o records → read_on o r ≡ Ok s → StandsBy (records ++ r ∷ []) s
+pub taken_more : (o : Option Standing) (records : List LogRecord) (r : LogRecord) (s : Standing) → HasTaken o records → read_on o r ≡ Ok s → StandsByRecords (records ++ r ∷ []) s
 taken_more None records r s none is = record { value = value_more records r s (behind_none records r none ∙ is); some = not_nil records r; right = right_first s r is }
 taken_more (Some t) records r s by is = record { value = value_more records r s (behind_some records r t by.some by.value ∙ is); some = not_nil records r; right = right_next t s r by.right is }
 
@@ -146,11 +146,11 @@ first_within : (r : LogRecord) (p : ℕ) → first_of r ≡ Err p → p ≤ 5 + 
 unfolding first_of
 first_within r p is = by (r.kind == 1) is
   where
-    by : (b : Bool) → (if b then in_body (λ (s : Standing). s) (reading_of standing r.body) else Err 0) ≡ Err p → p ≤ 5 + length r.body
-    by true is = in_body_within (λ (s : Standing). s) standing r.body p is
+    by : (b : Bool) → (if b then in_body (λ (s : Standing). s) (reading_of standing_piece r.body) else Err 0) ≡ Err p → p ≤ 5 + length r.body
+    by true is = in_body_within (λ (s : Standing). s) standing_piece r.body p is
     by false is = (let same : 0 ≡ p = (let it : Err 0 ≡ Err p = is in cc) in omega arith)
 
-item_within : (s : Standing) (kind : ℕ) (body : List ℕ) (p : ℕ) → definition_of s kind body ≡ Err p → p ≤ 5 + length body
+item_within : (s : Standing) (kind : ℕ) (body : List ℕ) (p : ℕ) → definition_in_body s kind body ≡ Err p → p ≤ 5 + length body
 item_within s kind body p is = two (kind == 2) is
   where
     zero_is : {U : Type 0} (e : Result U ℕ) → e ≡ Err 0 → e ≡ Err p → p ≤ 5 + length body
@@ -188,7 +188,7 @@ after_item_err s (Err q) p is = (let same : q ≡ p = (let it : Err q ≡ Err p 
 
 next_within : (s : Standing) (r : LogRecord) (p : ℕ) → next_of s r ≡ Err p → p ≤ 5 + length r.body
 unfolding next_of
-next_within s r p is = item_within s r.kind r.body p (after_item_err s (definition_of s r.kind r.body) p is)
+next_within s r p is = item_within s r.kind r.body p (after_item_err s (definition_in_body s r.kind r.body) p is)
 
 pub read_within : (o : Option Standing) (r : LogRecord) (p : ℕ) → read_on o r ≡ Err p → p ≤ 5 + length r.body
 read_within None r p is = first_within r p is
@@ -200,6 +200,6 @@ pub taken_value : (o : Option Standing) (records : List LogRecord) → HasTaken 
 taken_value None records none = ap value_of none ∙ no_records
 taken_value (Some s) records by = by.value
 
-pub taken_right : (o : Option Standing) (records : List LogRecord) → HasTaken o records → standing.right (or_fresh o)
+pub taken_right : (o : Option Standing) (records : List LogRecord) → HasTaken o records → standing_piece.right (or_fresh o)
 taken_right None records none = fresh_right
 taken_right (Some s) records by = by.right

@@ -1,12 +1,12 @@
 -- A catalogue that goes on, and what its files stand for.
 use Rattle.std.specs.Prelude.{◌≡◌, ◌≤◌, ◌<◌, ◌⊎◌, ◌∷◌, [], ℕ, List, length}
 use Rattle.px_outside.specs.Disk.{Image}
-use Rattle.px_outside.specs.Lengths.{IsWithin}
+use Rattle.px_outside.specs.Lengths.{IsWithinLength}
 use Rattle.px_outside.specs.declared.disk.Disk.{Ghosts}
 use Rattle.px_gatelog.specs.Format.{LogRecord}
-use Rattle.px_gatelog.specs.GateLog.{is_open as log_is_open, newest_generation, room_of as log_room, steps_left as log_steps}
+use Rattle.px_gatelog.specs.GateLog.{is_log_open, newest_generation, room_of_log, steps_left as log_steps}
 use Rattle.px_gatelog.specs.Records.{HasLog, RecordsStand, has_files}
-use Rattle.px_schema.specs.Format.{standing}
+use Rattle.px_schema.specs.Format.{standing_piece}
 use Rattle.px_schema.specs.declared.standing.Standing.{Standing}
 use Rattle.px_catalog.specs.Reading.{catalogue_form, snapshot_record, value_of}
 use Rattle.px_catalog.specs.inner.Lengths.{most_of_empty}
@@ -21,20 +21,20 @@ abbrev pub standing_of : Catalog → Standing
 standing_of c = c.standing
 
 -- it has an open segment
-abbrev pub is_open : Catalog → Type 0
-is_open c = log_is_open c.log
+abbrev pub is_catalogue_open : Catalog → Type 0
+is_catalogue_open c = is_log_open c.log
 
 -- how many bytes the newest segment has left, its closed gate among them
-abbrev pub room_of : Catalog → ℕ
-room_of c = log_room c.log
+abbrev pub room_of_catalogue : Catalog → ℕ
+room_of_catalogue c = room_of_log c.log
 
 -- how many steps the making of the next segment has left
-abbrev pub steps_left : Catalog → ℕ
-steps_left c = log_steps c.log
+abbrev pub catalogue_steps_left : Catalog → ℕ
+catalogue_steps_left c = log_steps c.log
 
 -- No definition is added: fewer than 32,768 bytes are left, or the next segment is laid out, whose snapshot would lack it.
-abbrev pub IsFull : Catalog → Type 0
-IsFull c = (room_of c < 32768) ⊎ (steps_left c ≡ 1)
+abbrev pub IsCatalogueFull : Catalog → Type 0
+IsCatalogueFull c = (room_of_catalogue c < 32768) ⊎ (catalogue_steps_left c ≡ 1)
 
 -- the generation of the newest segment, 0 where none is open
 abbrev pub generation_of : Catalog → ℕ
@@ -57,5 +57,5 @@ pub record HasCatalogue {D : Type 0} (d : Ghosts D) (c : Catalog) (disk : D) : T
   pub records : List LogRecord
   pub log : HasLog d catalogue_form 0 1 disk c.log records (snapshot_record (standing_of c) ∷ [])
   pub value : value_of records ≡ standing_of c
-  pub right : standing.right (standing_of c)
-  pub short : records ≡ [] → IsWithin d disk 0 most_of_empty × IsWithin d disk 1 most_of_empty
+  pub right : standing_piece.right (standing_of c)
+  pub short : records ≡ [] → IsWithinLength d disk 0 most_of_empty × IsWithinLength d disk 1 most_of_empty

@@ -4,10 +4,10 @@
 -- Where there is no record, the fresh catalogue stands.
 use Rattle.std.specs.Prelude.{ℕ, false, List, [], ◌∷◌, Option, Some, None, Result, Ok, Err}
 use Rattle.px_gatelog.specs.Format.{LogForm, LogRecord}
-use Rattle.px_schema.specs.Fresh.{fresh}
-use Rattle.px_schema.specs.Records.{definition_of, snapshot_of}
+use Rattle.px_schema.specs.Fresh.{fresh_standing}
+use Rattle.px_schema.specs.Records.{definition_in_body, snapshot_in_body}
 use Rattle.px_schema.specs.Spelled.{body_of, kind_of, standing_bytes}
-use Rattle.px_schema.specs.Stands.{after}
+use Rattle.px_schema.specs.Stands.{stands_after}
 use Rattle.px_schema.specs.declared.item.CatalogItem.{CatalogItem}
 use Rattle.px_schema.specs.declared.standing.Standing.{Standing}
 
@@ -20,15 +20,15 @@ item_record d = record { kind = kind_of d; body = body_of d }
 
 -- what stands after a definition that was read
 abbrev pub after_item : Standing → Result CatalogItem ℕ → Result Standing ℕ
-after_item s (Ok d) = Ok (after s d)
+after_item s (Ok d) = Ok (stands_after s d)
 after_item s (Err place) = Err place
 
 -- what stands by a first record, and by one more where something stands, or the first wrong place of the record
 unfoldable pub first_of : LogRecord → Result Standing ℕ
-first_of r = snapshot_of r.kind r.body
+first_of r = snapshot_in_body r.kind r.body
 
 unfoldable pub next_of : Standing → LogRecord → Result Standing ℕ
-next_of s r = after_item s (definition_of s r.kind r.body)
+next_of s r = after_item s (definition_in_body s r.kind r.body)
 
 -- what was read, or else what stood
 abbrev pub read_or : Standing → Result Standing ℕ → Standing
@@ -41,8 +41,8 @@ value_from s (r ∷ records) = value_from (read_or s (next_of s r)) records
 
 -- what stands by records
 unfoldable pub value_of : List LogRecord → Standing
-value_of [] = fresh
-value_of (r ∷ records) = value_from (read_or fresh (first_of r)) records
+value_of [] = fresh_standing
+value_of (r ∷ records) = value_from (read_or fresh_standing (first_of r)) records
 
 -- what stands by a record behind others
 unfoldable pub read_behind : List LogRecord → LogRecord → Result Standing ℕ
@@ -51,7 +51,7 @@ read_behind (x ∷ before) r = next_of (value_of (x ∷ before)) r
 
 -- what was read, or the fresh catalogue
 abbrev pub or_fresh : Option Standing → Standing
-or_fresh None = fresh
+or_fresh None = fresh_standing
 or_fresh (Some s) = s
 
 abbrev pub wrong_of : Result Standing ℕ → Option ℕ

@@ -1,7 +1,7 @@
 // The catalogue of a folder.
 ghost use Rattle.std.specs.Prelude.{◌≡◌, ◌≢◌, ◌≤◌, ◌<◌, ◌+◌, ◌-◌, ◌⊎◌, ◌↔◌, ℕ, length, IsTrue, IfOk, IsErr, OnOk, Ok, Err};
 ghost use Rattle.px_outside.specs.OnDisk.{LeavesOnly, Passes, Rose, TouchesOnly};
-ghost use Rattle.px_schema.specs.Format.{standing as standing_piece};
+ghost use Rattle.px_schema.specs.Format.{standing_piece};
 
 use crate::CatalogFault;
 use crate::frames::{item_frame, snapshot_frame};
@@ -23,10 +23,10 @@ pub struct Catalog {
 }
 
 impl Catalog {
-    ghost use Rattle.px_schema.specs.Records.{IsRight};
+    ghost use Rattle.px_schema.specs.Records.{IsRightCatalogItem};
     ghost use Rattle.px_schema.specs.Spelled.{body_of, standing_bytes};
-    ghost use Rattle.px_schema.specs.Stands.{after as stands_after};
-    ghost use Rattle.px_catalog.specs.Catalogue.{CatalogueStands, HasCatalogue, HasSameSegment, IsFull, catalogue_files, generation_of, is_open as opened_catalogue, room_of, standing_of, steps_left};
+    ghost use Rattle.px_schema.specs.Stands.{stands_after};
+    ghost use Rattle.px_catalog.specs.Catalogue.{CatalogueStands, HasCatalogue, HasSameSegment, IsCatalogueFull, catalogue_files, catalogue_steps_left, generation_of, is_catalogue_open, room_of_catalogue, standing_of};
 
     /// The tables and indexes that stand, and the next number.
     pub fn standing(&self) -> &Standing
@@ -37,7 +37,7 @@ impl Catalog {
 
     /// Whether it has an open segment.
     pub fn is_open(&self) -> bool
-        ensures { IsTrue result ↔ opened_catalogue self.now }
+        ensures { IsTrue result ↔ is_catalogue_open self.now }
     {
         self.log.is_open()
     }
@@ -45,14 +45,14 @@ impl Catalog {
     /// Whether no definition is added before the next segment is made: the newest one has fewer than 32,768 bytes left, or
     /// the next one is laid out.
     pub fn is_full(&self) -> bool
-        ensures { IsTrue result ↔ IsFull self.now }
+        ensures { IsTrue result ↔ IsCatalogueFull self.now }
     {
         !self.log.has_room(FULL_BELOW - 7) || self.log.is_laid()
     }
 
     /// What stands after a definition.
     fn after(&self, item: CatalogItem) -> Result<Standing, AllocError>
-        requires right { IsRight (standing_of self.now) item }
+        requires right { IsRightCatalogItem (standing_of self.now) item }
         ensures { IfOk result (λ s. s ≡ stands_after (standing_of self.now) item) }
     {
         match self.standing.copied(self.alloc) {
@@ -67,7 +67,7 @@ impl Catalog {
     /// Adds a definition, or the end of one. After `Ok` it is there. A stop in the call leaves it whole or not at all.
     /// Where the disk fails, no call may follow.
     pub fn append<D: Disk>(&mut self, disk: &mut D, item: CatalogItem) -> Result<(), CatalogFault>
-        requires right { IsRight (standing_of self.old) item }
+        requires right { IsRightCatalogItem (standing_of self.old) item }
         ensures done { HasCatalogue ⟦<D as Disk>⟧ self.old disk.old → OnOk result (HasCatalogue ⟦<D as Disk>⟧ self.new disk.new) }
         ensures defined { OnOk result (standing_of self.new ≡ stands_after (standing_of self.old) item) }
 
@@ -76,16 +76,16 @@ impl Catalog {
             → LeavesOnly ⟦<D as Disk>⟧ disk.old disk.new (λ moment image. CatalogueStands image (standing_of self.old) ⊎ CatalogueStands image (stands_after (standing_of self.old) item)) }
 
         // It is full where `is_full` says so, and where the segment has no room for the record.
-        ensures full { result ≡ Err CatalogFault.Full → IsFull self.old ⊎ (room_of self.old < 7 + length (body_of item)) }
-        ensures full_told { IsFull self.old → result ≡ Err CatalogFault.Full }
-        ensures room { OnOk result (room_of self.new + (6 + length (body_of item)) ≡ room_of self.old) }
+        ensures full { result ≡ Err CatalogFault.Full → IsCatalogueFull self.old ⊎ (room_of_catalogue self.old < 7 + length (body_of item)) }
+        ensures full_told { IsCatalogueFull self.old → result ≡ Err CatalogFault.Full }
+        ensures room { OnOk result (room_of_catalogue self.new + (6 + length (body_of item)) ≡ room_of_catalogue self.old) }
         ensures untouched { result ≡ Err CatalogFault.Full ⊎ (result ≡ Err CatalogFault.Memory) → (disk.new ≡ disk.old) × (self.new ≡ self.old) }
         ensures failed { result ≡ Err CatalogFault.WriteFault → Rose ⟦<D as Disk>⟧ disk.old disk.new }
         ensures unfailed { result ≢ Err CatalogFault.WriteFault → D.faults disk.new ≡ D.faults disk.old }
         ensures touches { HasCatalogue ⟦<D as Disk>⟧ self.old disk.old → TouchesOnly ⟦<D as Disk>⟧ disk.old disk.new catalogue_files }
         ensures counts { Passes ⟦<D as Disk>⟧ disk.old disk.new 4 }
-        ensures open { opened_catalogue self.old → opened_catalogue self.new }
-        ensures steps { steps_left self.new ≡ steps_left self.old }
+        ensures open { is_catalogue_open self.old → is_catalogue_open self.new }
+        ensures steps { catalogue_steps_left self.new ≡ catalogue_steps_left self.old }
     {
         if self.is_full() {
             drop(item);
@@ -120,13 +120,13 @@ impl Catalog {
 
         // At each moment of the call a stop leaves what stands.
         ensures any_moment { HasCatalogue ⟦<D as Disk>⟧ self.old disk.old → LeavesOnly ⟦<D as Disk>⟧ disk.old disk.new (λ moment image. CatalogueStands image (standing_of self.old)) }
-        ensures opened { result ≡ Ok Rolled.Rolled → opened_catalogue self.new × (1 < steps_left self.new) }
+        ensures opened { result ≡ Ok Rolled.Rolled → is_catalogue_open self.new × (1 < catalogue_steps_left self.new) }
 
         // Behind the last step it has the snapshot alone.
-        ensures room { HasCatalogue ⟦<D as Disk>⟧ self.old disk.old → result ≡ Ok Rolled.Rolled → room_of self.new ≡ 67108864 - (22 + length (standing_bytes (standing_of self.old))) }
-        ensures more { result ≡ Ok Rolled.More → steps_left self.new + 1 ≡ steps_left self.old }
+        ensures room { HasCatalogue ⟦<D as Disk>⟧ self.old disk.old → result ≡ Ok Rolled.Rolled → room_of_catalogue self.new ≡ 67108864 - (22 + length (standing_bytes (standing_of self.old))) }
+        ensures more { result ≡ Ok Rolled.More → catalogue_steps_left self.new + 1 ≡ catalogue_steps_left self.old }
         ensures kept { result ≡ Ok Rolled.More → HasSameSegment self.old self.new }
-        ensures open { OnOk result (opened_catalogue self.old → opened_catalogue self.new) }
+        ensures open { OnOk result (is_catalogue_open self.old → is_catalogue_open self.new) }
         ensures full { result ≡ Err CatalogFault.Full → (generation_of self.old ≡ 18446744073709551615) ⊎ (67108841 < length (standing_bytes (standing_of self.old))) }
         ensures untouched { result ≡ Err CatalogFault.Full ⊎ (result ≡ Err CatalogFault.Memory) → (disk.new ≡ disk.old) × (self.new ≡ self.old) }
         ensures failed { result ≡ Err CatalogFault.WriteFault → Rose ⟦<D as Disk>⟧ disk.old disk.new }

@@ -1,7 +1,7 @@
 // The records of the catalogue in frames.
 ghost use Rattle.std.specs.Prelude.{◌≡◌, ◌≢◌, ◌≤◌, ◌<◌, length, IfOk, Err};
 ghost use Rattle.px_gatelog.specs.Framed.{record_of};
-ghost use Rattle.px_schema.specs.Spelled.{Fits, FitsSnapshot, body_of, standing_bytes};
+ghost use Rattle.px_schema.specs.Spelled.{FitsCatalogItem, FitsSnapshot, body_of, standing_bytes};
 ghost use Rattle.px_catalog.specs.Reading.{item_record, snapshot_record};
 
 use crate::CatalogFault;
@@ -32,7 +32,7 @@ fn framed(alloc: Global, kind: u8, body: &[u8]) -> Result<Frame, CatalogFault>
 
 /// The record of a definition.
 pub(crate) fn item_frame(alloc: Global, item: &CatalogItem) -> Result<Frame, CatalogFault>
-    requires fits { Fits item.now }
+    requires fits { FitsCatalogItem item.now }
     ensures framed { IfOk result (λ frame. record_of frame ≡ item_record item.now) }
     ensures full { result ≡ Err CatalogFault.Full → 67108864 < length (body_of item.now) }
     ensures unwritten { result ≢ Err CatalogFault.WriteFault }

@@ -1,7 +1,7 @@
 // Opening the catalogue of a folder.
 ghost use Rattle.std.specs.Prelude.{◌≡◌, ◌≢◌, ◌≤◌, ◌<◌, ◌+◌, ◌⊎◌, ◌↔◌, ℕ, length, IsTrue, IfOk, IfSome, IsErr, OnOk, Ok, Err};
 ghost use Rattle.px_outside.specs.OnDisk.{LeavesOnly, Passes, Rose, Stays, TouchesOnly};
-ghost use Rattle.px_schema.specs.Format.{standing as standing_piece};
+ghost use Rattle.px_schema.specs.Format.{standing_piece};
 ghost use Rattle.px_catalog.specs.Reading.{or_fresh};
 ghost use Rattle.px_catalog.specs.inner.Lengths.{most_of_empty};
 
@@ -58,11 +58,11 @@ fn with_standing(alloc: Global, log: GateLog, read: Option<Standing>) -> Result<
 }
 
 impl Catalog {
-    ghost use Rattle.px_schema.specs.Fresh.{fresh as fresh_standing};
+    ghost use Rattle.px_schema.specs.Fresh.{fresh_standing};
     ghost use Rattle.px_schema.specs.declared.standing.Standing.{Standing as SchemaStanding};
     ghost use Rattle.px_outside.specs.Standing.{StandsIn};
-    ghost use Rattle.px_catalog.specs.Catalogue.{CatalogueStands, HasCatalogue, catalogue_files, is_open as opened_catalogue, standing_of, steps_left};
-    ghost use Rattle.px_catalog.specs.Damage.{IsFirstDamaged};
+    ghost use Rattle.px_catalog.specs.Catalogue.{CatalogueStands, HasCatalogue, catalogue_files, catalogue_steps_left, is_catalogue_open, standing_of};
+    ghost use Rattle.px_catalog.specs.Damage.{IsFirstDamagedInCatalogue};
 
     /// Opens the catalogue that is in files 0 and 1. In a folder without one the fresh catalogue stands. Nothing is
     /// written, and a stop in the call leaves nothing new.
@@ -71,9 +71,9 @@ impl Catalog {
     /// disk failed.
     pub fn reopen<D: Disk>(alloc: Global, disk: &mut D) -> Result<Catalog, StartFault>
         ensures opened { IsTrue D.tells → IfOk result (λ c. CatalogueStands (D.seen disk.old) (standing_of c) × HasCatalogue ⟦<D as Disk>⟧ c disk.new) }
-        ensures damaged { (file place : ℕ) → result ≡ Err (StartFault.Damaged file place) → IsTrue D.tells → IsFirstDamaged (D.seen disk.old) file place }
-        ensures fresh { IfOk result (λ c. (opened_catalogue c → ⊥) → standing_of c ≡ fresh_standing) }
-        ensures unlaid { IfOk result (λ c. 1 < steps_left c) }
+        ensures damaged { (file place : ℕ) → result ≡ Err (StartFault.Damaged file place) → IsTrue D.tells → IsFirstDamagedInCatalogue (D.seen disk.old) file place }
+        ensures fresh { IfOk result (λ c. (is_catalogue_open c → ⊥) → standing_of c ≡ fresh_standing) }
+        ensures unlaid { IfOk result (λ c. 1 < catalogue_steps_left c) }
         ensures quiet { Stays ⟦<D as Disk>⟧ disk.old disk.new }
         ensures seen { D.seen disk.new ≡ D.seen disk.old }
         ensures read_failed { result ≡ Err StartFault.ReadFault → Rose ⟦<D as Disk>⟧ disk.old disk.new }
@@ -96,11 +96,11 @@ impl Catalog {
     /// Makes the first segment, in three steps at most.
     fn make_first<D: Disk>(&mut self, disk: &mut D) -> Result<(), StartFault>
         requires fresh { standing_of self.old ≡ fresh_standing }
-        requires closed { opened_catalogue self.old → ⊥ }
+        requires closed { is_catalogue_open self.old → ⊥ }
         ensures done { HasCatalogue ⟦<D as Disk>⟧ self.old disk.old → OnOk result (HasCatalogue ⟦<D as Disk>⟧ self.new disk.new) }
         ensures same { standing_of self.new ≡ standing_of self.old }
         ensures any_moment { HasCatalogue ⟦<D as Disk>⟧ self.old disk.old → LeavesOnly ⟦<D as Disk>⟧ disk.old disk.new (λ moment image. CatalogueStands image (standing_of self.old)) }
-        ensures open { OnOk result (opened_catalogue self.new) }
+        ensures open { OnOk result (is_catalogue_open self.new) }
         ensures undamaged { (file place : ℕ) → result ≢ Err (StartFault.Damaged file place) }
         ensures failed { result ≡ Err StartFault.WriteFault → Rose ⟦<D as Disk>⟧ disk.old disk.new }
         ensures unread { result ≢ Err StartFault.ReadFault }
@@ -123,8 +123,8 @@ impl Catalog {
     /// moment. Over a damaged one nothing is written.
     pub fn start<D: Disk>(alloc: Global, disk: &mut D) -> Result<Catalog, StartFault>
         ensures started { IsTrue D.tells → IfOk result (λ c. CatalogueStands (D.seen disk.old) (standing_of c) × HasCatalogue ⟦<D as Disk>⟧ c disk.new) }
-        ensures open { IfOk result (λ c. opened_catalogue c) }
-        ensures damaged { (file place : ℕ) → result ≡ Err (StartFault.Damaged file place) → IsTrue D.tells → IsFirstDamaged (D.seen disk.old) file place }
+        ensures open { IfOk result (λ c. is_catalogue_open c) }
+        ensures damaged { (file place : ℕ) → result ≡ Err (StartFault.Damaged file place) → IsTrue D.tells → IsFirstDamagedInCatalogue (D.seen disk.old) file place }
         ensures untouched { (file place : ℕ) → result ≡ Err (StartFault.Damaged file place) → Stays ⟦<D as Disk>⟧ disk.old disk.new × (D.seen disk.new ≡ D.seen disk.old) }
 
         // Where a stop at first leaves what stands, it does at each moment of the call.

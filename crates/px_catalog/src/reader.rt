@@ -1,7 +1,7 @@
 // What stands, as the records of the catalogue's log are read.
 ghost use Rattle.std.specs.Prelude.{◌≡◌, ◌<◌, ◌^◌, [], length};
-ghost use Rattle.px_schema.specs.Format.{standing as standing_piece};
-ghost use Rattle.px_schema.specs.Outcomes.{Answers};
+ghost use Rattle.px_schema.specs.Format.{standing_piece};
+ghost use Rattle.px_schema.specs.Outcomes.{AnswersRecord};
 ghost use Rattle.px_catalog.specs.Reading.{catalogue_form, next_of};
 ghost use Rattle.px_catalog.specs.inner.Reader.{HasTaken, read_on};
 
@@ -12,7 +12,7 @@ use std::alloc::{AllocError, Global};
 /// What stands by a definition more.
 fn read_next(alloc: Global, standing: Standing, kind: u8, body: &[u8]) -> Result<Standing, DefFault>
     requires short { length body.now < 2 ^ 32 }
-    ensures { Answers (next_of standing (record { kind = kind; body = body.now })) result }
+    ensures { AnswersRecord (next_of standing (record { kind = kind; body = body.now })) result }
 {
     match read_definition(alloc, kind, body, &standing) {
         Ok(item) => Ok(standing.after(item)?),
@@ -31,7 +31,7 @@ fn read_record(
     body: &[u8],
 ) -> Result<Standing, DefFault>
     requires short { length body.now < 2 ^ 32 }
-    ensures { Answers (read_on standing (record { kind = kind; body = body.now })) result }
+    ensures { AnswersRecord (read_on standing (record { kind = kind; body = body.now })) result }
 {
     match standing {
         None => read_snapshot(alloc, kind, body),

@@ -4,16 +4,16 @@ use Rattle.std.proofs.lemmas.Slice.Eq.{bytes_eq-Decides}
 use Rattle.std.proofs.lemmas.Bool.{cases_Bool, cond-true, cond-false, eqb-true, eq-eqb, and_parts, both_ways}
 use Rattle.px_cells.specs.declared.kind.CellKind.{CellKind}
 use Rattle.px_cells.specs.declared.kind.CellKind.TheVariants.{Put, Delete, DeleteFamilyVersion, DeleteColumn, DeleteFamily}
-use Rattle.px_cells.specs.Kind.{code_of, kind_of}
+use Rattle.px_cells.specs.Kind.{code_of, kind_of_code}
 use Rattle.px_cells.specs.CellData.{CellData}
 use Rattle.px_cells.specs.Order.{SamePlace, Reads, ReadsSame}
 use Rattle.px_cells.specs.Contents.{cell_of, stands_at, value_at, or_else, over_contents}
 
 -- no two kinds have one code
 pub kind_from_code : (a b : CellKind) → code_of a ≡ code_of b → a ≡ b
-kind_from_code a b h = (let e : Some a ≡ Some b = sym (back a) ∙ (ap kind_of h ∙ back b) in cc)
+kind_from_code a b h = (let e : Some a ≡ Some b = sym (back a) ∙ (ap kind_of_code h ∙ back b) in cc)
   where
-    back : (k : CellKind) → kind_of (code_of k) ≡ Some k
+    back : (k : CellKind) → kind_of_code (code_of k) ≡ Some k
     back Put = refl
     back Delete = refl
     back DeleteFamilyVersion = refl

@@ -14,7 +14,7 @@ use Rattle.px_tables.specs.declared.index.Index.{Index}
 use Rattle.px_tables.specs.declared.table.Table.{Table}
 use Rattle.px_values.specs.declared.column.ColType.{ColType}
 use Rattle.px_cellshapes.specs.Keys.{AreRightKeys, FitsIncluded, FitsKeyPlace, IsRightIndexCell}
-use Rattle.px_cellshapes.specs.Rows.{AreRightRows, FitsColumn, FitsPlace, IsRightRowCell}
+use Rattle.px_cellshapes.specs.Rows.{AreRightRows, FitsColumnCell, FitsPlace, IsRightRowCell}
 use Rattle.px_cellshapes.specs.Values.{IsStored}
 use Rattle.px_cellshapes.proofs.Each.{all_from_each, each_from_all}
 
@@ -29,10 +29,10 @@ shows (Err e) f g h = h
 
 -- 2. Qualifiers
 
-pub column_place : (t : Table) (q : ℕ) (d : CellKind) (v : List ℕ) (answer : Result Bool AllocError) → 2 ≤ q → Shows answer (FitsColumn t (q - 2) d v) → Shows answer (FitsPlace t q d v)
+pub column_place : (t : Table) (q : ℕ) (d : CellKind) (v : List ℕ) (answer : Result Bool AllocError) → 2 ≤ q → Shows answer (FitsColumnCell t (q - 2) d v) → Shows answer (FitsPlace t q d v)
 column_place t zero d v answer l h = absurd (omega arith)
 column_place t (suc zero) d v answer l h = absurd (omega arith)
-column_place t (suc (suc c)) d v answer l h = (let e : suc (suc c) - 2 ≡ c = omega arith in subst (λ (n : ℕ). Shows answer (FitsColumn t n d v)) e h)
+column_place t (suc (suc c)) d v answer l h = (let e : suc (suc c) - 2 ≡ c = omega arith in subst (λ (n : ℕ). Shows answer (FitsColumnCell t n d v)) e h)
 
 pub included_place : (t : Table) (i : Index) (q : ℕ) (d : CellKind) (v : List ℕ) (answer : Result Bool AllocError) → 2 ≤ q → Shows answer (FitsIncluded t i (q - 2) d v) → Shows answer (FitsKeyPlace t i q d v)
 included_place t i zero d v answer l h = absurd (omega arith)

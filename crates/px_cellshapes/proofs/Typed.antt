@@ -7,12 +7,12 @@ use Rattle.px_cells.specs.CellData.{CellData}
 use Rattle.px_cells.specs.Contents.{Contents, cell_of, value_at}
 use Rattle.px_cells.specs.Sight.{puts_at, seen_at, stops_at}
 use Rattle.px_cells.proofs.Newest.{newest-is}
-use Rattle.px_indexrow.specs.Form.{FitsState}
+use Rattle.px_indexrow.specs.Form.{FitsRowState}
 use Rattle.px_indexrow.proofs.StatesFit.{apply_fits}
 use Rattle.px_keys.specs.Reading.{IsKey}
 use Rattle.px_keys.specs.Spelling.{IsKeyOf, IsKeyWithin}
 use Rattle.px_rows.specs.Keys.{IsRightTable, column_in, row_columns, row_key}
-use Rattle.px_rows.specs.Spelled.{column_at, decoded, overlay, pick, row_form, state_if, table_form}
+use Rattle.px_rows.specs.Spelled.{column_at, decoded, overlay, pick, row_form, row_spelling, state_if}
 use Rattle.px_rows.proofs.KeysBack.{row_key-apart, row_key-fits}
 use Rattle.px_rows.proofs.Overlays.{overlay_length}
 use Rattle.px_tables.specs.declared.table.Table.{Table}
@@ -57,7 +57,7 @@ overlay_at o i [] c l = absurd (omega arith)
 overlay_at o i (x ∷ xs) zero l = (let e : i ≡ i + 0 = omega arith in ap (λ (n : ℕ). pick (o n) x) e)
 overlay_at o i (x ∷ xs) (suc c) l = (let e : suc i + c ≡ i + suc c = omega arith in overlay_at o (suc i) xs c (omega arith) ∙ ap (λ (n : ℕ). pick (o n) (get_or xs c Null)) e)
 
-pub overlay_fits : (t : Table) (o : ℕ → Option Value) (row : List Value) → FitsState t (Some row) → ((c : ℕ) (v : Value) → o c ≡ Some v → HasType (column_in t.columns c).column_type v) → FitsState t (Some (overlay o 0 row))
+pub overlay_fits : (t : Table) (o : ℕ → Option Value) (row : List Value) → FitsRowState t (Some row) → ((c : ℕ) (v : Value) → o c ≡ Some v → HasType (column_in t.columns c).column_type v) → FitsRowState t (Some (overlay o 0 row))
 overlay_fits t o row h f = (
   overlay_length o 0 row ∙ h.0,
   λ c l. (let n = h.0 in let e : 0 + c ≡ c = omega arith in
@@ -77,11 +77,11 @@ module _ (t : Table) (cells : List CellData) (each : EachRead (IsRightRowCell t)
   right_cell : (q s : ℕ) (v : List ℕ) → value_at cells (row_key t r) q s Put ≡ Some v → IsRightRowCell t (cell_of (row_key t r) q s Put v)
   right_cell q s v e = each (cell_of (row_key t r) q s Put v) e
 
-  value_typed : (c s : ℕ) (v : Value) (o : Option (List ℕ)) → value_at cells (row_key t r) (suc (suc c)) s Put ≡ o → decoded (table_form t) c o ≡ Some v → HasType (column_in t.columns c).column_type v
+  value_typed : (c s : ℕ) (v : Value) (o : Option (List ℕ)) → value_at cells (row_key t r) (suc (suc c)) s Put ≡ o → decoded (row_spelling t) c o ≡ Some v → HasType (column_in t.columns c).column_type v
   value_typed c s v None e h = cc
   value_typed c s v (Some bytes) e h = subst (HasType (column_in t.columns c).column_type) (some_is h) ((right_cell (suc (suc c)) s bytes e).fits.stored refl).typed
 
-  seen_typed : (p c : ℕ) (v : Value) (o : Option ℕ) → decoded (table_form t) c (read_at (λ s. value_at cells (row_key t r) (suc (suc c)) s Put) o) ≡ Some v → HasType (column_in t.columns c).column_type v
+  seen_typed : (p c : ℕ) (v : Value) (o : Option ℕ) → decoded (row_spelling t) c (read_at (λ s. value_at cells (row_key t r) (suc (suc c)) s Put) o) ≡ Some v → HasType (column_in t.columns c).column_type v
   seen_typed p c v None h = cc
   seen_typed p c v (Some s) h = value_typed c s v (value_at cells (row_key t r) (suc (suc c)) s Put) refl h
 
@@ -92,14 +92,14 @@ module _ (t : Table) (cells : List CellData) (each : EachRead (IsRightRowCell t)
   pub short_key : (row : List Value) (p : ℕ) → (row_form t).spelled (value_at cells) r p ≡ Some row → IsKeyOf (row_columns t) r (row_key t r)
   short_key row p = by (seen_at (value_at cells) (row_key t r) 1 p) refl
     where
-      by : (o : Option ℕ) → seen_at (value_at cells) (row_key t r) 1 p ≡ o → state_if o (overlay (column_at (table_form t) (value_at cells) r p) 0 (fresh_row (table_shape t) r)) ≡ Some row → IsKeyOf (row_columns t) r (row_key t r)
+      by : (o : Option ℕ) → seen_at (value_at cells) (row_key t r) 1 p ≡ o → state_if o (overlay (column_at (row_spelling t) (value_at cells) r p) 0 (fresh_row (table_shape t) r)) ≡ Some row → IsKeyOf (row_columns t) r (row_key t r)
       by None e h = cc
       by (Some s) e h = seen_key p s e
 
   -- and values of its columns' types
-  pub spelled_fits : IsRightTable t → (p : ℕ) → FitsState t ((row_form t).spelled (value_at cells) r p)
+  pub spelled_fits : IsRightTable t → (p : ℕ) → FitsRowState t ((row_form t).spelled (value_at cells) r p)
   spelled_fits right p = by (seen_at (value_at cells) (row_key t r) 1 p) refl
     where
-      by : (o : Option ℕ) → seen_at (value_at cells) (row_key t r) 1 p ≡ o → FitsState t (state_if o (overlay (column_at (table_form t) (value_at cells) r p) 0 (fresh_row (table_shape t) r)))
+      by : (o : Option ℕ) → seen_at (value_at cells) (row_key t r) 1 p ≡ o → FitsRowState t (state_if o (overlay (column_at (row_spelling t) (value_at cells) r p) 0 (fresh_row (table_shape t) r)))
       by None e = tt
-      by (Some s) e = overlay_fits t (column_at (table_form t) (value_at cells) r p) (fresh_row (table_shape t) r) (apply_fits t r None (Set []) right ((seen_key p s e).fits, tt) tt) (λ c v h. seen_typed p c v (seen_at (value_at cells) (row_key t r) (suc (suc c)) p) h)
+      by (Some s) e = overlay_fits t (column_at (row_spelling t) (value_at cells) r p) (fresh_row (table_shape t) r) (apply_fits t r None (Set []) right ((seen_key p s e).fits, tt) tt) (λ c v h. seen_typed p c v (seen_at (value_at cells) (row_key t r) (suc (suc c)) p) h)

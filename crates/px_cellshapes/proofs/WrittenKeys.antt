@@ -7,8 +7,8 @@ use Rattle.std.proofs.lemmas.Bool.{cases_lt, eq-eqb, false≢true}
 use Rattle.std.proofs.lemmas.List.Folds.{list_any_at}
 use Rattle.px_cells.specs.CellData.{CellData}
 use Rattle.px_forms.specs.Several.{cells_for}
-use Rattle.px_indexrow.specs.Form.{FitsState, IsLong, IsRightIndex, bytes_if, included_at, index_columns, index_form, index_values, key_of_state, owns}
-use Rattle.px_indexrow.specs.Lists.{base_of, closes_of, column_cell, column_cells, erase_cell, family_cell, family_if, fix_of, left_key, marks_of, status_cell, status_if, version_if}
+use Rattle.px_indexrow.specs.Form.{FitsRowState, IsLongInIndex, IsRightIndex, bytes_if, included_at, index_columns, index_form, index_values, key_of_state, owns}
+use Rattle.px_indexrow.specs.Lists.{base_version, closes_of, column_cell, column_cells, erase_cell, family_cell, family_if, fix_of, left_key, marks_of, status_cell, status_if, version_if}
 use Rattle.px_indexrow.proofs.KeysHeld.{values_fit}
 use Rattle.px_keys.specs.Reading.{IsKey}
 use Rattle.px_keys.specs.Spelling.{Fits, spelled}
@@ -60,7 +60,7 @@ column_right t i k s c (Number n) l h ty = value_right t i k s c (Number n) l h 
 column_right t i k s c (Truth b) l h ty = value_right t i k s c (Truth b) l h ty (λ e. cc)
 column_right t i k s c (Text b) l h ty = value_right t i k s c (Text b) l h ty (λ e. cc)
 
-columns_right : (t : Table) (i : Index) → IsRightIndex t i → (k : List ℕ) (s : ℕ) (state : RowState) → FitsState t state → IsIndexKey t i k → (n : ℕ) → n ≤ length i.included → AreRight t i (column_cells (index_form t i) k s state n)
+columns_right : (t : Table) (i : Index) → IsRightIndex t i → (k : List ℕ) (s : ℕ) (state : RowState) → FitsRowState t state → IsIndexKey t i k → (n : ℕ) → n ≤ length i.included → AreRight t i (column_cells (index_form t i) k s state n)
 unfolding column_cells
 columns_right t i right k s state f h zero l = tt
 columns_right t i right k s None f h (suc n) l = (null_right t i k s n (omega arith) h, columns_right t i right k s None f h n (omega arith))
@@ -73,7 +73,7 @@ cond_is true k k' e = cc
 cond_is false k k' e = cc
 
 -- the key of a state is one of the index, where it isn't too long
-state_key : (t : Table) (i : Index) (r : List Value) (state : RowState) → IsRightTable t → IsRightIndex t i → Fits (row_columns t) r → FitsState t state → (IsLong t i r state → ⊥) → (k : List ℕ) → key_of_state t i r state ≡ Some k → IsIndexKey t i k
+state_key : (t : Table) (i : Index) (r : List Value) (state : RowState) → IsRightTable t → IsRightIndex t i → Fits (row_columns t) r → FitsRowState t state → (IsLongInIndex t i r state → ⊥) → (k : List ℕ) → key_of_state t i r state ≡ Some k → IsIndexKey t i k
 state_key t i r None right index f s n k e = cc
 state_key t i r (Some row) right index f s n k e = (
   index_values t i r row,
@@ -105,7 +105,7 @@ left_old (Some x) (Some y) k e = by (pointwise nat_eq x y) e
 abbrev AreKeys : Table → Index → Option (List ℕ) → Type 0
 AreKeys t i o = (k : List ℕ) → o ≡ Some k → IsIndexKey t i k
 
-version_right : (t : Table) (i : Index) → IsRightIndex t i → (s byte : ℕ) (state : RowState) → FitsState t state → IsStatus (byte ∷ []) → (o : Option (List ℕ)) → AreKeys t i o → AreRight t i (version_if (index_form t i) s byte state o)
+version_right : (t : Table) (i : Index) → IsRightIndex t i → (s byte : ℕ) (state : RowState) → FitsRowState t state → IsStatus (byte ∷ []) → (o : Option (List ℕ)) → AreKeys t i o → AreRight t i (version_if (index_form t i) s byte state o)
 version_right t i right s byte state f b None h = tt
 version_right t i right s byte state f b (Some k) h = (status_right t i k s byte b (h k refl), columns_right t i right k s state f (h k refl) (length i.included) (omega arith))
 
@@ -117,7 +117,7 @@ family_if_right : (t : Table) (i : Index) (s : ℕ) (o : Option (List ℕ)) → 
 family_if_right t i s None h = tt
 family_if_right t i s (Some k) h = (family_right t i k s (h k refl), tt)
 
-module _ (t : Table) (i : Index) (r : List Value) (s : ℕ) (old new : RowState) (right : IsRightTable t) (index : IsRightIndex t i) (fits : Fits (row_columns t) r) (old_fits : FitsState t old) (new_fits : FitsState t new) (old_short : IsLong t i r old → ⊥) (new_short : IsLong t i r new → ⊥) where
+module _ (t : Table) (i : Index) (r : List Value) (s : ℕ) (old new : RowState) (right : IsRightTable t) (index : IsRightIndex t i) (fits : Fits (row_columns t) r) (old_fits : FitsRowState t old) (new_fits : FitsRowState t new) (old_short : IsLongInIndex t i r old → ⊥) (new_short : IsLongInIndex t i r new → ⊥) where
   new_key : AreKeys t i (key_of_state t i r new)
   new_key = state_key t i r new right index fits new_fits new_short
 
@@ -130,10 +130,10 @@ module _ (t : Table) (i : Index) (r : List Value) (s : ℕ) (old new : RowState)
   pub closes_right : AreRight t i (closes_of (index_form t i) r s old new)
   closes_right = all_append (IsRightIndexCell t i) (status_if s 1 (key_of_state t i r new)) (family_if s (left_key (key_of_state t i r old) (key_of_state t i r new))) (status_if_right t i s 1 (inl refl) (key_of_state t i r new) new_key) (family_if_right t i s (left_key (key_of_state t i r old) (key_of_state t i r new)) left_is)
 
-pub base_right : (t : Table) (i : Index) (r : List Value) (s : ℕ) (state : RowState) → IsRightTable t → IsRightIndex t i → Fits (row_columns t) r → FitsState t state → (IsLong t i r state → ⊥) → AreRight t i (base_of (index_form t i) r s state)
+pub base_right : (t : Table) (i : Index) (r : List Value) (s : ℕ) (state : RowState) → IsRightTable t → IsRightIndex t i → Fits (row_columns t) r → FitsRowState t state → (IsLongInIndex t i r state → ⊥) → AreRight t i (base_version (index_form t i) r s state)
 base_right t i r s state right index f h n = version_right t i index s 1 state h (inl refl) (key_of_state t i r state) (state_key t i r state right index f h n)
 
-pub fix_right : (t : Table) (i : Index) (h : ℕ) (state : RowState) (k : List ℕ) (s : ℕ) (v : Verdict) → IsRightIndex t i → FitsState t state → IsIndexKey t i k → AreRight t i (fix_of (index_form t i) h state k s v)
+pub fix_right : (t : Table) (i : Index) (h : ℕ) (state : RowState) (k : List ℕ) (s : ℕ) (v : Verdict) → IsRightIndex t i → FitsRowState t state → IsIndexKey t i k → AreRight t i (fix_of (index_form t i) h state k s v)
 fix_right t i h state k s Leave right f key = tt
 fix_right t i h state k s ToVerify right f key = (status_right t i k s 1 (inl refl) key, by (nat_lt h s))
   where

@@ -12,7 +12,7 @@ use Rattle.px_cells.specs.Kind.{is_family}
 use Rattle.px_keys.specs.Reading.{IsKey}
 use Rattle.px_keys.specs.Spelling.{Fits}
 use Rattle.px_rows.specs.Keys.{column_in, row_columns, row_key}
-use Rattle.px_rows.specs.Spelled.{FitsTable, FitsWhat, assigned_to, cells_at, change_cells, null_value, put_value, table_form}
+use Rattle.px_rows.specs.Spelled.{FitsTable, FitsWhat, assigned_to, change_cells, change_contents, null_value, put_value, row_spelling}
 use Rattle.px_rows.specs.Stored.{stored}
 use Rattle.px_rows.proofs.KeysBack.{row_key-fits}
 use Rattle.px_rows.proofs.Spelled.{IsGiven, assigned_fits}
@@ -22,7 +22,7 @@ use Rattle.px_values.specs.declared.change.What.{What}
 use Rattle.px_values.specs.declared.change.What.TheVariants.{Set, Gone}
 use Rattle.px_values.specs.declared.row.Value.{Value}
 use Rattle.px_values.specs.declared.row.Value.TheVariants.{Null, Number, Truth, Text}
-use Rattle.px_cellshapes.specs.Rows.{FitsColumn, FitsPlace, IsRightRowCell}
+use Rattle.px_cellshapes.specs.Rows.{FitsColumnCell, FitsPlace, IsRightRowCell}
 use Rattle.px_cellshapes.specs.Values.{IsStored}
 use Rattle.px_cellshapes.proofs.Each.{EachRead}
 use Rattle.px_cellshapes.proofs.StoredValues.{stored_is}
@@ -39,28 +39,28 @@ record IsRightAt (t : Table) (q : ℕ) (d : CellKind) (v : List ℕ) : Type 0 wh
 some_bytes : {a b : List ℕ} → Some a ≡ Some b → a ≡ b
 some_bytes e = cc
 
-given : (t : Table) (c : ℕ) (x : Value) (v : List ℕ) → IsGiven t c x → x ≢ Null → stored (column_in t.columns c).column_type x ≡ v → FitsColumn t c Put v
+given : (t : Table) (c : ℕ) (x : Value) (v : List ℕ) → IsGiven t c x → x ≢ Null → stored (column_in t.columns c).column_type x ≡ v → FitsColumnCell t c Put v
 given t c x v h n e = record {
   within = h.within;
   beside = h.beside;
   stored = λ p. subst (IsStored (column_in t.columns c).column_type) e (stored_is (column_in t.columns c).column_type x h.has_type n);
 }
 
-put_given : (t : Table) (c : ℕ) (o : Option Value) (v : List ℕ) → ((x : Value) → o ≡ Some x → IsGiven t c x) → put_value (table_form t) c o ≡ Some v → FitsColumn t c Put v
+put_given : (t : Table) (c : ℕ) (o : Option Value) (v : List ℕ) → ((x : Value) → o ≡ Some x → IsGiven t c x) → put_value (row_spelling t) c o ≡ Some v → FitsColumnCell t c Put v
 put_given t c None v f e = cc
 put_given t c (Some Null) v f e = cc
 put_given t c (Some (Number n)) v f e = given t c (Number n) v (f (Number n) refl) (λ z. cc) (some_bytes e)
 put_given t c (Some (Truth b)) v f e = given t c (Truth b) v (f (Truth b) refl) (λ z. cc) (some_bytes e)
 put_given t c (Some (Text b)) v f e = given t c (Text b) v (f (Text b) refl) (λ z. cc) (some_bytes e)
 
-null_given : (t : Table) (c : ℕ) (o : Option Value) (v : List ℕ) → ((x : Value) → o ≡ Some x → IsGiven t c x) → null_value o ≡ Some v → FitsColumn t c DeleteColumn v
+null_given : (t : Table) (c : ℕ) (o : Option Value) (v : List ℕ) → ((x : Value) → o ≡ Some x → IsGiven t c x) → null_value o ≡ Some v → FitsColumnCell t c DeleteColumn v
 null_given t c None v f e = cc
 null_given t c (Some Null) v f e = (let h = f Null refl in record { within = h.within; beside = h.beside; stored = λ p. cc })
 null_given t c (Some (Number n)) v f e = cc
 null_given t c (Some (Truth b)) v f e = cc
 null_given t c (Some (Text b)) v f e = cc
 
-change_right : (t : Table) (w : What) (q : ℕ) (d : CellKind) (v : List ℕ) → FitsWhat t w → change_cells (table_form t) w q d ≡ Some v → IsRightAt t q d v
+change_right : (t : Table) (w : What) (q : ℕ) (d : CellKind) (v : List ℕ) → FitsWhat t w → change_cells (row_spelling t) w q d ≡ Some v → IsRightAt t q d v
 change_right t (Set as') zero Put v f e = cc
 change_right t (Set as') (suc zero) Put v f e = record { placed = (λ h. absurd (false≢true h), λ h. cc); no_delete = λ h. cc; no_version = λ h. cc; fits = λ p. sym (some_bytes e) }
 change_right t (Set as') (suc (suc c)) Put v f e = record { placed = (λ h. absurd (false≢true h), λ h. cc); no_delete = λ h. cc; no_version = λ h. cc; fits = put_given t c (assigned_to as' c) v (assigned_fits t as' f c) e }
@@ -86,10 +86,10 @@ cond_parts false o v e = cc
 pub row_is_key : (t : Table) (r : List Value) → Fits (row_columns t) r → length (row_key t r) ≤ most_key → IsKey most_key (row_columns t) (row_key t r)
 row_is_key t r f l = (r, record { fits = f; spells = sym (row_key-fits t r f); short = l })
 
-pub change_each : (t : Table) (r : List Value) (s : ℕ) (w : What) (cells : List CellData) → FitsTable t r w → length (row_key t r) ≤ most_key → value_at cells ≡ cells_at (table_form t) r s w → EachRead (IsRightRowCell t) cells
+pub change_each : (t : Table) (r : List Value) (s : ℕ) (w : What) (cells : List CellData) → FitsTable t r w → length (row_key t r) ≤ most_key → value_at cells ≡ change_contents (row_spelling t) r s w → EachRead (IsRightRowCell t) cells
 change_each t r s w cells f l same c v =
-    let e : cells_at (table_form t) r s w c.key c.qualifier c.stamp c.kind ≡ Some c.value = (λ i. sym same i c.key c.qualifier c.stamp c.kind) ∙ v in
-    let at = cond_parts (pointwise nat_eq c.key (row_key t r) && nat_eq s c.stamp) (change_cells (table_form t) w c.qualifier c.kind) c.value e in
+    let e : change_contents (row_spelling t) r s w c.key c.qualifier c.stamp c.kind ≡ Some c.value = (λ i. sym same i c.key c.qualifier c.stamp c.kind) ∙ v in
+    let at = cond_parts (pointwise nat_eq c.key (row_key t r) && nat_eq s c.stamp) (change_cells (row_spelling t) w c.qualifier c.kind) c.value e in
     let own : c.key ≡ row_key t r = (bytes_eq-Decides c.key (row_key t r)).0 (and_parts (pointwise nat_eq c.key (row_key t r)) (nat_eq s c.stamp) at.0).0 in
     let right = change_right t w c.qualifier c.kind c.value f.1 at.1 in
     record {

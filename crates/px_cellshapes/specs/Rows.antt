@@ -12,7 +12,7 @@ use Rattle.px_values.specs.Limits.{most_key}
 use Rattle.px_cellshapes.specs.Values.{IsStored}
 
 -- a cell of a column: it is one outside the primary key, and what is put is a value of its type
-pub record FitsColumn (t : Table) (column : ℕ) (kind : CellKind) (value : List ℕ) : Type 0 where
+pub record FitsColumnCell (t : Table) (column : ℕ) (kind : CellKind) (value : List ℕ) : Type 0 where
   pub within : column < length t.columns
   pub beside : is_part t.key column ≡ false
   pub stored : kind ≡ Put → IsStored (column_in t.columns column).column_type value
@@ -21,7 +21,7 @@ pub record FitsColumn (t : Table) (column : ℕ) (kind : CellKind) (value : List
 abbrev pub FitsPlace : Table → ℕ → CellKind → List ℕ → Type 0
 FitsPlace t zero kind value = Unit {0}
 FitsPlace t (suc zero) kind value = kind ≡ Put → value ≡ []
-FitsPlace t (suc (suc column)) kind value = FitsColumn t column kind value
+FitsPlace t (suc (suc column)) kind value = FitsColumnCell t column kind value
 
 -- A cell of a row: its key is one of the table's row keys, its kind is one that stands at its qualifier, and neither a Delete nor a
 -- marker of one version, and what is put there is a value of the column.

@@ -7,14 +7,14 @@ ghost use Rattle.px_cells.specs.Order.{IsAscending, IsCellList, Reads, ReadsSame
 ghost use Rattle.px_cells.specs.Sight.{IsPlainRegion};
 ghost use Rattle.px_forms.specs.Several.{cells_for};
 ghost use Rattle.px_indexed.specs.Kept.{AreIndexCells, AreRowCells, IsCompacted};
-ghost use Rattle.px_indexrow.specs.Form.{FitsState, IsLong, IsRightIndex, index_columns, index_form};
-ghost use Rattle.px_indexrow.specs.Lists.{base_of, closes_of, fix_of, marks_of};
+ghost use Rattle.px_indexrow.specs.Form.{FitsRowState, IsLongInIndex, IsRightIndex, index_columns, index_form};
+ghost use Rattle.px_indexrow.specs.Lists.{base_version, closes_of, fix_of, marks_of};
 ghost use Rattle.px_keys.specs.Reading.{IsKey};
 ghost use Rattle.px_keys.specs.Spelling.{Fits, IsKeyOf};
 ghost use Rattle.px_merge.specs.Settle.{settle};
 ghost use Rattle.px_paths.specs.Paths.{columns_on, index_path as path_of_index, table_path as path_of_table};
 ghost use Rattle.px_rows.specs.Keys.{IsRightTable, row_columns, row_key};
-ghost use Rattle.px_rows.specs.Spelled.{FitsTable, IsPlainAt, cells_at, row_form, table_form};
+ghost use Rattle.px_rows.specs.Spelled.{FitsTable, IsPlainAt, change_contents, row_form, row_spelling};
 ghost use Rattle.px_tables.specs.declared.index.Index.{Index as Indexes};
 ghost use Rattle.px_tables.specs.declared.table.Table.{Table as Tables};
 ghost use Rattle.px_values.specs.Limits.{most_key};
@@ -39,7 +39,7 @@ pub fn law_rows_read()
     ensures plain { (t : Tables) (cells : List CellData) → AreRightRows t cells → IsPlainRegion cells }
     ensures plain_at { (t : Tables) (cells : List CellData) → AreRightRows t cells → (k : List ℕ) → IsPlainAt (value_at cells) k }
     ensures owned { (t : Tables) (cells : List CellData) → AreRightRows t cells → AreRowCells (row_form t) cells }
-    ensures typed { (t : Tables) (cells : List CellData) → IsRightTable t → AreRightRows t cells → (r : List ColumnValue) (p : ℕ) → FitsState t ((row_form t).spelled (value_at cells) r p) }
+    ensures typed { (t : Tables) (cells : List CellData) → IsRightTable t → AreRightRows t cells → (r : List ColumnValue) (p : ℕ) → FitsRowState t ((row_form t).spelled (value_at cells) r p) }
     ensures short { (t : Tables) (cells : List CellData) → AreRightRows t cells → (r row : List ColumnValue) (p : ℕ) → (row_form t).spelled (value_at cells) r p ≡ Some row → IsKeyOf (row_columns t) r (row_key t r) }
 {}
 
@@ -73,14 +73,14 @@ pub fn law_keys_stay()
 
 /// The cells of a change that fits are right, where the row's key has at most 1,024 bytes.
 pub fn law_rows_written()
-    ensures put { (t : Tables) (r : List ColumnValue) (s : ℕ) (w : What) (cells : List CellData) → FitsTable t r w → length (row_key t r) ≤ most_key → value_at cells ≡ cells_at (table_form t) r s w → AreRightRows t cells }
-    ensures each { (t : Tables) (r : List ColumnValue) (s : ℕ) (w : What) (cells : List CellData) → FitsTable t r w → length (row_key t r) ≤ most_key → value_at cells ≡ cells_at (table_form t) r s w → IsCellList cells → AllByRecursion (IsRightRowCell t) cells }
+    ensures put { (t : Tables) (r : List ColumnValue) (s : ℕ) (w : What) (cells : List CellData) → FitsTable t r w → length (row_key t r) ≤ most_key → value_at cells ≡ change_contents (row_spelling t) r s w → AreRightRows t cells }
+    ensures each { (t : Tables) (r : List ColumnValue) (s : ℕ) (w : What) (cells : List CellData) → FitsTable t r w → length (row_key t r) ≤ most_key → value_at cells ≡ change_contents (row_spelling t) r s w → IsCellList cells → AllByRecursion (IsRightRowCell t) cells }
 {}
 
 /// So are the marks, the closes, the base versions and the repairs of index rows, where their keys have at most 1,024 bytes.
 pub fn law_keys_written()
-    ensures marks { (t : Tables) (i : Indexes) (r : List ColumnValue) (s : ℕ) (old new : RowState) → IsRightTable t → IsRightIndex t i → Fits (row_columns t) r → FitsState t old → FitsState t new → (IsLong t i r old → ⊥) → (IsLong t i r new → ⊥) → AllByRecursion (IsRightIndexCell t i) (marks_of (index_form t i) r s old new) }
-    ensures closes { (t : Tables) (i : Indexes) (r : List ColumnValue) (s : ℕ) (old new : RowState) → IsRightTable t → IsRightIndex t i → Fits (row_columns t) r → FitsState t old → FitsState t new → (IsLong t i r old → ⊥) → (IsLong t i r new → ⊥) → AllByRecursion (IsRightIndexCell t i) (closes_of (index_form t i) r s old new) }
-    ensures base { (t : Tables) (i : Indexes) (r : List ColumnValue) (s : ℕ) (state : RowState) → IsRightTable t → IsRightIndex t i → Fits (row_columns t) r → FitsState t state → (IsLong t i r state → ⊥) → AllByRecursion (IsRightIndexCell t i) (base_of (index_form t i) r s state) }
-    ensures fix { (t : Tables) (i : Indexes) (h : ℕ) (state : RowState) (k : List ℕ) (s : ℕ) (v : Verdict) → IsRightIndex t i → FitsState t state → IsKey most_key (index_columns t i) k → AllByRecursion (IsRightIndexCell t i) (fix_of (index_form t i) h state k s v) }
+    ensures marks { (t : Tables) (i : Indexes) (r : List ColumnValue) (s : ℕ) (old new : RowState) → IsRightTable t → IsRightIndex t i → Fits (row_columns t) r → FitsRowState t old → FitsRowState t new → (IsLongInIndex t i r old → ⊥) → (IsLongInIndex t i r new → ⊥) → AllByRecursion (IsRightIndexCell t i) (marks_of (index_form t i) r s old new) }
+    ensures closes { (t : Tables) (i : Indexes) (r : List ColumnValue) (s : ℕ) (old new : RowState) → IsRightTable t → IsRightIndex t i → Fits (row_columns t) r → FitsRowState t old → FitsRowState t new → (IsLongInIndex t i r old → ⊥) → (IsLongInIndex t i r new → ⊥) → AllByRecursion (IsRightIndexCell t i) (closes_of (index_form t i) r s old new) }
+    ensures base { (t : Tables) (i : Indexes) (r : List ColumnValue) (s : ℕ) (state : RowState) → IsRightTable t → IsRightIndex t i → Fits (row_columns t) r → FitsRowState t state → (IsLongInIndex t i r state → ⊥) → AllByRecursion (IsRightIndexCell t i) (base_version (index_form t i) r s state) }
+    ensures fix { (t : Tables) (i : Indexes) (h : ℕ) (state : RowState) (k : List ℕ) (s : ℕ) (v : Verdict) → IsRightIndex t i → FitsRowState t state → IsKey most_key (index_columns t i) k → AllByRecursion (IsRightIndexCell t i) (fix_of (index_form t i) h state k s v) }
 {}

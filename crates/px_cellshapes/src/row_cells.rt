@@ -5,7 +5,7 @@ ghost use Rattle.px_cells.specs.Order.{IsAscending};
 ghost use Rattle.px_keys.specs.Reading.{IsKey};
 ghost use Rattle.px_rows.specs.Keys.{IsRightTable, row_columns};
 ghost use Rattle.px_values.specs.Limits.{most_key};
-ghost use Rattle.px_cellshapes.specs.Rows.{AreRightRows, FitsColumn, FitsPlace, IsRightRowCell};
+ghost use Rattle.px_cellshapes.specs.Rows.{AreRightRows, FitsColumnCell, FitsPlace, IsRightRowCell};
 
 use crate::definitions::is_part;
 use crate::keys::{columns_of, has_key};
@@ -74,7 +74,7 @@ fn fits_place(alloc: Global, table: &Table, cell: &Cell) -> Result<bool, AllocEr
 
 /// Whether the column is one outside the primary key, and what the cell puts is a value of it.
 fn fits_column(alloc: Global, table: &Table, column: u8, cell: &Cell) -> Result<bool, AllocError>
-    ensures { IfOk result (λ fits. IsTrue fits ↔ FitsColumn table.now column cell.now.kind cell.now.value) }
+    ensures { IfOk result (λ fits. IsTrue fits ↔ FitsColumnCell table.now column cell.now.kind cell.now.value) }
 {
     let columns = table.columns.as_slice();
     if column as usize >= columns.len() || is_part(table.key.as_slice(), column) {

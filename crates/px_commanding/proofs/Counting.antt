@@ -14,7 +14,7 @@ use Rattle.px_calls.specs.declared.fault.StepFault.TheVariants as step
 use Rattle.px_calls.specs.declared.status.Status.{Status}
 use Rattle.px_calls.specs.Calls.{DidCount, DidFind, IsFound}
 use Rattle.px_calls.specs.Causes.{Refuses, find_cause, status_cause}
-use Rattle.px_calls.specs.Known.{Adds, HasMade, Known, Passes, Ran, Sees}
+use Rattle.px_calls.specs.Known.{Adds, HasMade, Known, Ran, Sees, TimePasses}
 use Rattle.px_calls.proofs.Runs.{ran-adds, ran-made, ran-sees}
 use Rattle.px_calls.proofs.Stays.{ran-since}
 use Rattle.px_batch.proofs.Turning.{grown}
@@ -23,7 +23,7 @@ use Rattle.px_commanding.specs.declared.count.CountFault.TheVariants as fault
 use Rattle.px_commanding.specs.declared.count.CountRun.{CountRun}
 use Rattle.px_commanding.specs.declared.count.CountRun.TheVariants as run
 use Rattle.px_commanding.specs.declared.count.CountTurn.TheVariants as turn
-use Rattle.px_commanding.specs.Counts.{FaultIs, Fits, MadeSince, Turns, WasFound, uncounted, unfound}
+use Rattle.px_commanding.specs.Counts.{CountFaultIs, CountFaultSince, CountTurns, FitsCount, WasTableFound, uncounted, unfound}
 
 -- the call's own act is one of the seat's
 made : (k k' : Known) (a : Act) → Adds k k' a → HasMade k' a
@@ -37,7 +37,7 @@ made_since k k' a n h low = ran-since k k' (a ∷ []) a n low (ran-adds k k' a h
 module _ (n : ℕ) (name : List ℕ) where
   -- 1. More entries
 
-  found-later : (t : TableId) (k k' : Known) (more : List Entry) → k'.seen ≡ k.seen ++ more → k'.base ≡ k.base → WasFound n name t k → WasFound n name t k'
+  found-later : (t : TableId) (k k' : Known) (more : List Entry) → k'.seen ≡ k.seen ++ more → k'.base ≡ k.base → WasTableFound n name t k → WasTableFound n name t k'
   found-later t k k' more seen base w =
       let same : take w.place k.seen ≡ take w.place k'.seen = sym (take-append-le w.place k.seen more w.within) ∙ ap (take w.place) (sym seen) in
       let F : Base × List Entry → Type 0 = λ q. IsFound q.0 q.1 w.found in
@@ -47,13 +47,13 @@ module _ (n : ℕ) (name : List ℕ) where
   low-later : (k k' : Known) (more : List Entry) → k'.seen ≡ k.seen ++ more → n ≤ length k.seen → n ≤ length k'.seen
   low-later k k' more seen low = let e = ap length seen in let len = length-append k.seen more in omega arith
 
-  pub fits-kept : (r : CountRun) (k k' : Known) → Passes k k' → Fits n name r k → Fits n name r k'
+  pub fits-kept : (r : CountRun) (k k' : Known) → TimePasses k k' → FitsCount n name r k → FitsCount n name r k'
   fits-kept run.Finding k k' p f = low-later k k' p.others p.seen f
   fits-kept (run.Counting t) k k' p f = found-later t k k' p.others p.seen p.base f
 
   -- 2. The table is found, or isn't
 
-  pub found-one : (k k' : Known) (f : Found) → n ≤ length k.seen → DidFind k k' name f → Turns n name run.Finding k k' (turn.Stepped (run.Counting f.table.id))
+  pub found-one : (k k' : Known) (f : Found) → n ≤ length k.seen → DidFind k k' name f → CountTurns n name run.Finding k k' (turn.Stepped (run.Counting f.table.id))
   found-one k k' f low did =
       let ran = ran-sees k k' did.finds.sees in
       record {
@@ -64,10 +64,10 @@ module _ (n : ℕ) (name : List ℕ) where
         since = λ m u. tt;
       }
 
-  quietly : (k k' : Known) (old : CountRun) (e : CountFault) → FaultIs n name e k' → ((m : ℕ) → MadeSince m e k') → Sees k k' → Turns n name old k k' (turn.Over (Err e))
+  quietly : (k k' : Known) (old : CountRun) (e : CountFault) → CountFaultIs n name e k' → ((m : ℕ) → CountFaultSince m e k') → Sees k k' → CountTurns n name old k k' (turn.Over (Err e))
   quietly k k' old e is since sees = record { acts = []; ran = ran-sees k k' sees; quiet = refl; told = is; since = λ m u. since m }
 
-  pub found-none : (k k' : Known) (f : StepFault) → Refuses (find_cause name) k k' f → Turns n name run.Finding k k' (turn.Over (Err (unfound f)))
+  pub found-none : (k k' : Known) (f : StepFault) → Refuses (find_cause name) k k' f → CountTurns n name run.Finding k k' (turn.Over (Err (unfound f)))
   found-none k k' step.NoTable r = quietly k k' run.Finding fault.NoTable (inl r.0) (λ m. tt) r.1
   found-none k k' (step.Closed call) r = quietly k k' run.Finding (fault.Closed call) r.0 (λ m. tt) r.1
   found-none k k' step.Memory r = quietly k k' run.Finding fault.Memory tt (λ m. tt) r.1
@@ -85,7 +85,7 @@ module _ (n : ℕ) (name : List ℕ) where
 
   -- 3. It is counted, or isn't
 
-  pub counted : (t : TableId) (k k' : Known) (s : Status) → WasFound n name t k → DidCount k k' t s → Turns n name (run.Counting t) k k' (turn.Over (Ok s))
+  pub counted : (t : TableId) (k k' : Known) (s : Status) → WasTableFound n name t k → DidCount k k' t s → CountTurns n name (run.Counting t) k k' (turn.Over (Ok s))
   counted t k k' s w did =
       let ran = ran-sees k k' did.finds.sees in
       record {
@@ -96,7 +96,7 @@ module _ (n : ℕ) (name : List ℕ) where
         since = λ m u. tt;
       }
 
-  pub not-counted : (t : TableId) (k k' : Known) (f : StepFault) → WasFound n name t k → Refuses (status_cause t.0) k k' f → Turns n name (run.Counting t) k k' (turn.Over (Err (uncounted f)))
+  pub not-counted : (t : TableId) (k k' : Known) (f : StepFault) → WasTableFound n name t k → Refuses (status_cause t.0) k k' f → CountTurns n name (run.Counting t) k k' (turn.Over (Err (uncounted f)))
   not-counted t k k' step.NoTable w r =
       let ran = ran-sees k k' r.1 in
       quietly k k' (run.Counting t) fault.NoTable (inr (t, found-later t k k' ran.added ran.seen ran.base w, r.0)) (λ m. tt) r.1

@@ -19,7 +19,7 @@ use Rattle.px_commanding.specs.declared.order.OrderFault.TheVariants as fault
 use Rattle.px_commanding.specs.declared.order.OrderRun.{OrderRun}
 use Rattle.px_commanding.specs.declared.order.OrderTurn.{OrderTurn}
 use Rattle.px_commanding.specs.declared.order.OrderTurn.TheVariants as turn
-use Rattle.px_commanding.specs.Orders.{AreAdded, FaultIs, MadeSince, Turns, undone}
+use Rattle.px_commanding.specs.Orders.{AreAdded, OrderFaultIs, OrderFaultSince, OrderTurns, undone}
 
 -- nothing of it is begun, opened or defined
 pub is_quiet : (t : OrderTurn) (acts : List Act) → AreAdded t acts → outline acts ≡ []
@@ -43,25 +43,25 @@ made_since k k' a n h low = ran-since k k' (a ∷ []) a n low (ran-adds k k' a h
 
 -- 1. It goes on
 
-pub goes_on : (r : OrderRun) (k k' : Known) → Finds k k' → Turns k k' (turn.Stepped r)
+pub goes_on : (r : OrderRun) (k k' : Known) → Finds k k' → OrderTurns k k' (turn.Stepped r)
 goes_on r k k' f = record { acts = []; ran = ran-sees k k' f.sees; added = inl refl; told = tt; since = λ m low. tt }
 
-raised : (r : OrderRun) (k k' : Known) (t : TableId) (h : ℕ) → Adds k k' (act.Raised t h) → Turns k k' (turn.Stepped r)
+raised : (r : OrderRun) (k k' : Known) (t : TableId) (h : ℕ) → Adds k k' (act.Raised t h) → OrderTurns k k' (turn.Stepped r)
 raised r k k' t h adds = record { acts = act.Raised t h ∷ []; ran = ran-adds k k' (act.Raised t h) adds; added = inr (t, h, refl); told = tt; since = λ m low. tt }
 
-pub works_on : (r : OrderRun) (k k' : Known) → DidWork k k' done.Did → Turns k k' (turn.Stepped r)
+pub works_on : (r : OrderRun) (k k' : Known) → DidWork k k' done.Did → OrderTurns k k' (turn.Stepped r)
 works_on r k k' (inl f) = goes_on r k k' f
 works_on r k k' (inr (t, h, adds)) = raised r k k' t h adds
 
 -- 2. It is over
 
-pub is_done : (k k' : Known) → Finds k k' → Turns k k' (turn.Over (Ok tt))
+pub is_done : (k k' : Known) → Finds k k' → OrderTurns k k' (turn.Over (Ok tt))
 is_done k k' f = record { acts = []; ran = ran-sees k k' f.sees; added = refl; told = f.running; since = λ m low. tt }
 
-quietly : (k k' : Known) (e : OrderFault) → AreAdded (turn.Over (Err e)) [] → FaultIs e k' → ((m : ℕ) → MadeSince m e k') → Sees k k' → Turns k k' (turn.Over (Err e))
+quietly : (k k' : Known) (e : OrderFault) → AreAdded (turn.Over (Err e)) [] → OrderFaultIs e k' → ((m : ℕ) → OrderFaultSince m e k') → Sees k k' → OrderTurns k k' (turn.Over (Err e))
 quietly k k' e none is since sees = record { acts = []; ran = ran-sees k k' sees; added = none; told = is; since = λ m low. since m }
 
-pub not_ordered : (k k' : Known) (f : StepFault) → Refuses order_cause k k' f → Turns k k' (turn.Over (Err (undone f)))
+pub not_ordered : (k k' : Known) (f : StepFault) → Refuses order_cause k k' f → OrderTurns k k' (turn.Over (Err (undone f)))
 not_ordered k k' (step.Closed call) r = quietly k k' (fault.Closed call) refl r.0 (λ m. tt) r.1
 not_ordered k k' step.Memory r = absurd r.0
 not_ordered k k' step.NoTable r = absurd r.0
@@ -77,7 +77,7 @@ not_ordered k k' (step.NotYet stamp) r = absurd r.0
 not_ordered k k' (step.BelowHorizon horizon) r = absurd r.0
 not_ordered k k' (step.Damaged file place) r = absurd r.0
 
-pub not_done : (k k' : Known) (f : StepFault) → Refuses upkeep_cause k k' f → Turns k k' (turn.Over (Err (undone f)))
+pub not_done : (k k' : Known) (f : StepFault) → Refuses upkeep_cause k k' f → OrderTurns k k' (turn.Over (Err (undone f)))
 not_done k k' step.ReadFault r =
     let call = r.1.0 in
     let adds = r.1.1 in

@@ -12,7 +12,7 @@ use Rattle.px_calls.specs.declared.ticket.Receipt.{Receipt}
 use Rattle.px_calls.specs.Calls.{IsFound}
 use Rattle.px_calls.specs.Causes.{LacksTable, NamesNoTable}
 use Rattle.px_calls.specs.Known.{Known, Ran, outline}
-use Rattle.px_calls.specs.Requires.{FitsTable}
+use Rattle.px_calls.specs.Requires.{IsChangeOf}
 use Rattle.px_batch.specs.Turns as batch
 use Rattle.px_batch.specs.declared.batch.BatchFault.{BatchFault}
 use Rattle.px_batch.specs.declared.batch.BatchFault.TheVariants as fault
@@ -34,9 +34,9 @@ abbrev pub IsGone : Known → HeldData → Type 0
 IsGone k h = NamesNoTable k h.name ⊎ (LacksTable k h.table.0 ⊎ ((f : Found) × IsFound k.base k.seen f × (f.table.name ≡ h.name) × (f.table.id ≢ h.table)))
 
 -- what tells the fault, in what the seat has then seen
-abbrev pub FaultIs : Type 0 → HeldData → BatchFault → Known → Type 0
-FaultIs sound h fault.NoTable k = IsGone k h
-FaultIs sound h f k = batch.FaultIs sound h.table h.changes f k
+abbrev pub CommitFaultIs : Type 0 → HeldData → BatchFault → Known → Type 0
+CommitFaultIs sound h fault.NoTable k = IsGone k h
+CommitFaultIs sound h f k = batch.BatchFaultIs sound h.table h.changes f k
 
 -- 2. States
 
@@ -44,24 +44,24 @@ abbrev pub HasRoomForOne : Vec Receipt Global → Type 0
 HasRoomForOne v = (v.items ≡ []) × (0 < vec_capacity v)
 
 -- The state is as the trail tells, where these changes are held. Others' entries keep this
-abbrev pub Fits : HeldData → CommitRun → Known → Type 0
-Fits h run.Finding k = Unit {0}
-Fits h (run.Changing r room) k = (r.table ≡ h.table) × (r.changes ≡ h.changes) × batch.Fits r.table r.changes r.state k × batch.IsGoing r.state × HasRoomForOne room
+abbrev pub FitsCommit : HeldData → CommitRun → Known → Type 0
+FitsCommit h run.Finding k = Unit {0}
+FitsCommit h (run.Changing r room) k = (r.table ≡ h.table) × (r.changes ≡ h.changes) × batch.FitsBatch r.table r.changes r.state k × batch.IsBatchGoing r.state × HasRoomForOne room
 
 -- what the run has begun and not ended
-abbrev pub begun : CommitRun → List Act
-begun run.Finding = []
-begun (run.Changing r room) = batch.begun r.table r.changes r.state
+abbrev pub begun_by_commit : CommitRun → List Act
+begun_by_commit run.Finding = []
+begun_by_commit (run.Changing r room) = batch.begun_by_batch r.table r.changes r.state
 
 -- a fault that the state tells came after the first n entries
-abbrev pub IsSince : ℕ → CommitRun → Known → Type 0
-IsSince n run.Finding k = n ≤ length k.seen
-IsSince n (run.Changing r room) k = batch.IsSince n r.state k
+abbrev pub IsCommitSince : ℕ → CommitRun → Known → Type 0
+IsCommitSince n run.Finding k = n ≤ length k.seen
+IsCommitSince n (run.Changing r room) k = batch.IsBatchSince n r.state k
 
 -- the batch that is begun where this table was found, or why none is
 abbrev pub IsBegun : HeldData → Table → Result CommitRun BatchFault → Type 0
 IsBegun h t (Ok run.Finding) = ⊥
-IsBegun h t (Ok (run.Changing r room)) = (t.id ≡ h.table) × (r.table ≡ h.table) × (r.changes ≡ h.changes) × (r.state ≡ Beginning) × AllByRecursion (FitsTable t) h.changes × HasRoomForOne room
+IsBegun h t (Ok (run.Changing r room)) = (t.id ≡ h.table) × (r.table ≡ h.table) × (r.changes ≡ h.changes) × (r.state ≡ Beginning) × AllByRecursion (IsChangeOf t) h.changes × HasRoomForOne room
 IsBegun h t (Err fault.NoTable) = t.id ≢ h.table
 IsBegun h t (Err fault.Memory) = Unit {0}
 IsBegun h t (Err f) = ⊥
@@ -76,25 +76,25 @@ IsEnded came r = ⊥
 
 -- What a commit comes to, where `own` is what the seat began and ended for it: one batch of exactly the held changes, with its receipt; or
 -- none, unless the server was closed under it
-abbrev pub IsOutcome : Type 0 → HeldData → List Act → Known → Result (Vec Receipt Global) BatchFault → Type 0
-IsOutcome sound h own k (Ok rs) = (r : Receipt) × (rs.items ≡ r ∷ []) × batch.HasEnded h.table h.changes own k r
-IsOutcome sound h own k (Err f) = FaultIs sound h f k × batch.HasLeft h.table h.changes f own k
+abbrev pub IsCommitOutcome : Type 0 → HeldData → List Act → Known → Result (Vec Receipt Global) BatchFault → Type 0
+IsCommitOutcome sound h own k (Ok rs) = (r : Receipt) × (rs.items ≡ r ∷ []) × batch.HasEndedBatch h.table h.changes own k r
+IsCommitOutcome sound h own k (Err f) = CommitFaultIs sound h f k × batch.HasLeft h.table h.changes f own k
 
 -- it goes on, or is over, where `own` is what the seat did for it so far
 abbrev pub Told : Type 0 → HeldData → List Act → Known → CommitTurn → Type 0
-Told sound h own k (turn.Stepped r) = Fits h r k × (own ≡ begun r)
-Told sound h own k (turn.Waiting r) = Fits h r k × (own ≡ begun r)
-Told sound h own k (turn.Over r) = IsOutcome sound h own k r
+Told sound h own k (turn.Stepped r) = FitsCommit h r k × (own ≡ begun_by_commit r)
+Told sound h own k (turn.Waiting r) = FitsCommit h r k × (own ≡ begun_by_commit r)
+Told sound h own k (turn.Over r) = IsCommitOutcome sound h own k r
 
-abbrev pub IsSinceThen : ℕ → Known → CommitTurn → Type 0
-IsSinceThen n k (turn.Stepped r) = IsSince n r k
-IsSinceThen n k (turn.Waiting r) = IsSince n r k
-IsSinceThen n k (turn.Over (Ok rs)) = Unit {0}
-IsSinceThen n k (turn.Over (Err f)) = batch.MadeSince n f k
+abbrev pub IsCommitSinceThen : ℕ → Known → CommitTurn → Type 0
+IsCommitSinceThen n k (turn.Stepped r) = IsCommitSince n r k
+IsCommitSinceThen n k (turn.Waiting r) = IsCommitSince n r k
+IsCommitSinceThen n k (turn.Over (Ok rs)) = Unit {0}
+IsCommitSinceThen n k (turn.Over (Err f)) = batch.BatchFaultSince n f k
 
 -- one step of a commit
-pub record Turns (sound : Type 0) (h : HeldData) (old : CommitRun) (k k' : Known) (t : CommitTurn) : Type 0 where
+pub record CommitTurns (sound : Type 0) (h : HeldData) (old : CommitRun) (k k' : Known) (t : CommitTurn) : Type 0 where
   pub acts : List Act
   pub ran : Ran k k' acts
-  pub told : Told sound h (begun old ++ outline acts) k' t
-  pub since : (n : ℕ) → IsSince n old k → IsSinceThen n k' t
+  pub told : Told sound h (begun_by_commit old ++ outline acts) k' t
+  pub since : (n : ℕ) → IsCommitSince n old k → IsCommitSinceThen n k' t

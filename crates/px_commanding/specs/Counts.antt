@@ -35,7 +35,7 @@ uncounted (step.Closed call) = fault.Closed call
 uncounted f = fault.Memory
 
 -- the table of this name and number stood after some entry from n on
-pub record WasFound (n : ℕ) (name : List ℕ) (t : TableId) (k : Known) : Type 0 where
+pub record WasTableFound (n : ℕ) (name : List ℕ) (t : TableId) (k : Known) : Type 0 where
   pub place : ℕ
   pub from : n ≤ place
   pub within : place ≤ length k.seen
@@ -53,41 +53,41 @@ pub record IsStatusOf (k : Known) (t : ℕ) (s : Status) : Type 0 where
   pub all : (x : Index) → index_of k.base k.seen x.id.0 ≡ Some x → x.table.0 ≡ t → (c : IndexCount) × IsAmong c s.indexes × (c.index ≡ x.id)
 
 -- what tells the fault, in what the seat has then seen, where the run was begun after the first n entries
-abbrev pub FaultIs : ℕ → List ℕ → CountFault → Known → Type 0
-FaultIs n name fault.NoTable k = NamesNoTable k name ⊎ ((t : TableId) × WasFound n name t k × LacksTable k t.0)
-FaultIs n name fault.ReadFault k = (call : ℕ) × HasMade k (act.Missed call)
-FaultIs n name (fault.Damaged file place) k = IsDamagedAt k file place
-FaultIs n name (fault.Closed call) k = ClosedBy call k
-FaultIs n name fault.Memory k = Unit {0}
+abbrev pub CountFaultIs : ℕ → List ℕ → CountFault → Known → Type 0
+CountFaultIs n name fault.NoTable k = NamesNoTable k name ⊎ ((t : TableId) × WasTableFound n name t k × LacksTable k t.0)
+CountFaultIs n name fault.ReadFault k = (call : ℕ) × HasMade k (act.Missed call)
+CountFaultIs n name (fault.Damaged file place) k = IsDamagedAt k file place
+CountFaultIs n name (fault.Closed call) k = ClosedBy call k
+CountFaultIs n name fault.Memory k = Unit {0}
 
 -- the entry that tells a failed device call is one of the seat's own after the first m
-abbrev pub MadeSince : ℕ → CountFault → Known → Type 0
-MadeSince m fault.ReadFault k = (call : ℕ) × IsAmong (act.Missed call) (acts_by k.seat (drop m k.seen))
-MadeSince m f k = Unit {0}
+abbrev pub CountFaultSince : ℕ → CountFault → Known → Type 0
+CountFaultSince m fault.ReadFault k = (call : ℕ) × IsAmong (act.Missed call) (acts_by k.seat (drop m k.seen))
+CountFaultSince m f k = Unit {0}
 
 -- The state is as the trail tells, where the run was begun after the first n entries. Others' entries keep this
-abbrev pub Fits : ℕ → List ℕ → CountRun → Known → Type 0
-Fits n name run.Finding k = n ≤ length k.seen
-Fits n name (run.Counting t) k = WasFound n name t k
+abbrev pub FitsCount : ℕ → List ℕ → CountRun → Known → Type 0
+FitsCount n name run.Finding k = n ≤ length k.seen
+FitsCount n name (run.Counting t) k = WasTableFound n name t k
 
 -- what a status comes to: what is told of the table that was found, or why nothing is
-abbrev pub IsOutcome : ℕ → List ℕ → Known → Result Status CountFault → Type 0
-IsOutcome n name k (Ok s) = (t : TableId) × WasFound n name t k × IsStatusOf k t.0 s
-IsOutcome n name k (Err f) = FaultIs n name f k
+abbrev pub IsCountOutcome : ℕ → List ℕ → Known → Result Status CountFault → Type 0
+IsCountOutcome n name k (Ok s) = (t : TableId) × WasTableFound n name t k × IsStatusOf k t.0 s
+IsCountOutcome n name k (Err f) = CountFaultIs n name f k
 
 abbrev pub Told : ℕ → List ℕ → Known → CountTurn → Type 0
-Told n name k (turn.Stepped r) = Fits n name r k
-Told n name k (turn.Over r) = IsOutcome n name k r
+Told n name k (turn.Stepped r) = FitsCount n name r k
+Told n name k (turn.Over r) = IsCountOutcome n name k r
 
-abbrev pub IsSinceThen : ℕ → Known → CountTurn → Type 0
-IsSinceThen m k (turn.Stepped r) = Unit {0}
-IsSinceThen m k (turn.Over (Ok s)) = Unit {0}
-IsSinceThen m k (turn.Over (Err f)) = MadeSince m f k
+abbrev pub IsCountSinceThen : ℕ → Known → CountTurn → Type 0
+IsCountSinceThen m k (turn.Stepped r) = Unit {0}
+IsCountSinceThen m k (turn.Over (Ok s)) = Unit {0}
+IsCountSinceThen m k (turn.Over (Err f)) = CountFaultSince m f k
 
 -- one step of a status, for which nothing is begun, opened or defined
-pub record Turns (n : ℕ) (name : List ℕ) (old : CountRun) (k k' : Known) (t : CountTurn) : Type 0 where
+pub record CountTurns (n : ℕ) (name : List ℕ) (old : CountRun) (k k' : Known) (t : CountTurn) : Type 0 where
   pub acts : List Act
   pub ran : Ran k k' acts
   pub quiet : outline acts ≡ []
   pub told : Told n name k' t
-  pub since : (m : ℕ) → m ≤ length k.seen → IsSinceThen m k' t
+  pub since : (m : ℕ) → m ≤ length k.seen → IsCountSinceThen m k' t

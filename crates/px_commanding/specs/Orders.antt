@@ -27,18 +27,18 @@ undone (step.Closed call) = fault.Closed call
 undone f = fault.Memory
 
 -- what tells the fault, in what the seat has then seen
-abbrev pub FaultIs : OrderFault → Known → Type 0
-FaultIs fault.ReadFault k = (call : ℕ) × HasMade k (act.Missed call)
-FaultIs fault.WriteFault k = (call : ℕ) × HasMade k (act.Shut call)
-FaultIs (fault.Damaged file place) k = IsDamagedAt k file place
-FaultIs (fault.Closed call) k = ClosedBy call k
-FaultIs fault.Memory k = Unit {0}
+abbrev pub OrderFaultIs : OrderFault → Known → Type 0
+OrderFaultIs fault.ReadFault k = (call : ℕ) × HasMade k (act.Missed call)
+OrderFaultIs fault.WriteFault k = (call : ℕ) × HasMade k (act.Shut call)
+OrderFaultIs (fault.Damaged file place) k = IsDamagedAt k file place
+OrderFaultIs (fault.Closed call) k = ClosedBy call k
+OrderFaultIs fault.Memory k = Unit {0}
 
 -- the entry that tells a failed device call is one of the seat's own after the first m
-abbrev pub MadeSince : ℕ → OrderFault → Known → Type 0
-MadeSince m fault.ReadFault k = (call : ℕ) × IsAmong (act.Missed call) (acts_by k.seat (drop m k.seen))
-MadeSince m fault.WriteFault k = (call : ℕ) × IsAmong (act.Shut call) (acts_by k.seat (drop m k.seen))
-MadeSince m f k = Unit {0}
+abbrev pub OrderFaultSince : ℕ → OrderFault → Known → Type 0
+OrderFaultSince m fault.ReadFault k = (call : ℕ) × IsAmong (act.Missed call) (acts_by k.seat (drop m k.seen))
+OrderFaultSince m fault.WriteFault k = (call : ℕ) × IsAmong (act.Shut call) (acts_by k.seat (drop m k.seen))
+OrderFaultSince m f k = Unit {0}
 
 -- 2. Steps
 
@@ -48,12 +48,12 @@ job_of (run.Ordering job) = job
 job_of (run.Working job) = job
 
 -- the run gives the order first, then steps upkeep, and is over only where that has nothing left to do, or a call is refused
-abbrev pub Leads : (ordered done : Type 0) → OrderRun → OrderTurn → Type 0
-Leads ordered done (run.Ordering job) (turn.Stepped r) = (r ≡ run.Working job) × ordered
-Leads ordered done (run.Ordering job) (turn.Over (Ok u)) = ⊥
-Leads ordered done (run.Working job) (turn.Stepped r) = r ≡ run.Working job
-Leads ordered done (run.Working job) (turn.Over (Ok u)) = done
-Leads ordered done r (turn.Over (Err f)) = Unit {0}
+abbrev pub OrderLeads : (ordered done : Type 0) → OrderRun → OrderTurn → Type 0
+OrderLeads ordered done (run.Ordering job) (turn.Stepped r) = (r ≡ run.Working job) × ordered
+OrderLeads ordered done (run.Ordering job) (turn.Over (Ok u)) = ⊥
+OrderLeads ordered done (run.Working job) (turn.Stepped r) = r ≡ run.Working job
+OrderLeads ordered done (run.Working job) (turn.Over (Ok u)) = done
+OrderLeads ordered done r (turn.Over (Err f)) = Unit {0}
 
 -- what the step adds to the trail: nothing but a horizon that rises, or what tells a failed device call
 abbrev pub AreAdded : OrderTurn → List Act → Type 0
@@ -63,23 +63,23 @@ AreAdded (turn.Over (Err fault.WriteFault)) acts = (call : ℕ) × (acts ≡ act
 AreAdded (turn.Over r) acts = acts ≡ []
 
 -- what an order comes to: it is done while the server isn't closed, or why not
-abbrev pub IsOutcome : Known → Result (Unit {0}) OrderFault → Type 0
-IsOutcome k (Ok u) = IsRunning k
-IsOutcome k (Err f) = FaultIs f k
+abbrev pub IsOrderOutcome : Known → Result (Unit {0}) OrderFault → Type 0
+IsOrderOutcome k (Ok u) = IsRunning k
+IsOrderOutcome k (Err f) = OrderFaultIs f k
 
 abbrev pub Told : Known → OrderTurn → Type 0
 Told k (turn.Stepped r) = Unit {0}
-Told k (turn.Over r) = IsOutcome k r
+Told k (turn.Over r) = IsOrderOutcome k r
 
-abbrev pub IsSinceThen : ℕ → Known → OrderTurn → Type 0
-IsSinceThen m k (turn.Stepped r) = Unit {0}
-IsSinceThen m k (turn.Over (Ok u)) = Unit {0}
-IsSinceThen m k (turn.Over (Err f)) = MadeSince m f k
+abbrev pub IsOrderSinceThen : ℕ → Known → OrderTurn → Type 0
+IsOrderSinceThen m k (turn.Stepped r) = Unit {0}
+IsOrderSinceThen m k (turn.Over (Ok u)) = Unit {0}
+IsOrderSinceThen m k (turn.Over (Err f)) = OrderFaultSince m f k
 
 -- one step of an order, for which nothing is begun, opened or defined
-pub record Turns (k k' : Known) (t : OrderTurn) : Type 0 where
+pub record OrderTurns (k k' : Known) (t : OrderTurn) : Type 0 where
   pub acts : List Act
   pub ran : Ran k k' acts
   pub added : AreAdded t acts
   pub told : Told k' t
-  pub since : (m : ℕ) → m ≤ length k.seen → IsSinceThen m k' t
+  pub since : (m : ℕ) → m ≤ length k.seen → IsOrderSinceThen m k' t

@@ -2,8 +2,8 @@
 ghost use Rattle.std.specs.Prelude.{◌≡◌, true};
 ghost use Rattle.std.specs.List.{AllByRecursion};
 ghost use Rattle.px_held.specs.HeldData.{HeldData};
-ghost use Rattle.px_calls.specs.Requires.{FitsTable};
-ghost use Rattle.px_commanding.specs.Commits.{Fits, HasRoomForOne, IsBegun, IsEnded, Turns, unfound as unfound_as};
+ghost use Rattle.px_calls.specs.Requires.{IsChangeOf};
+ghost use Rattle.px_commanding.specs.Commits.{CommitTurns, FitsCommit, HasRoomForOne, IsBegun, IsEnded, unfound as unfound_as};
 
 use px_batch::{BatchFault, BatchRun, BatchTurn};
 use px_calls::{Receipt, StepFault, Steps};
@@ -32,7 +32,7 @@ pub enum CommitTurn {
 
 /// Whether each change is one of a row of the table.
 fn all_fit(table: &Table, changes: &[Change]) -> bool
-    ensures { result ≡ true → AllByRecursion (FitsTable table.now) changes.now }
+    ensures { result ≡ true → AllByRecursion (IsChangeOf table.now) changes.now }
 {
     match changes {
         [] => true,
@@ -76,7 +76,7 @@ fn unfound(fault: StepFault) -> BatchFault
 
 /// Finds the table of the changes.
 fn find<S: Steps>(alloc: Global, s: &mut S, held: &HeldChanges) -> CommitTurn
-    ensures turns { Turns S.sound held.now CommitRun.Finding (S.known s.old) (S.known s.new) result }
+    ensures turns { CommitTurns S.sound held.now CommitRun.Finding (S.known s.old) (S.known s.new) result }
     ensures one_call { S.one_call s.old s.new }
 {
     match s.find(held.name()) {
@@ -114,8 +114,8 @@ fn ended(
 
 /// Goes on with the batch.
 fn change<S: Steps>(s: &mut S, mut run: BatchRun, receipts: Vec<Receipt>) -> CommitTurn
-    requires { (h : HeldData) × Fits h (CommitRun.Changing run receipts) (S.known s.old) }
-    ensures turns { (h : HeldData) → Fits h (CommitRun.Changing run receipts) (S.known s.old) → Turns S.sound h (CommitRun.Changing run receipts) (S.known s.old) (S.known s.new) result }
+    requires { (h : HeldData) × FitsCommit h (CommitRun.Changing run receipts) (S.known s.old) }
+    ensures turns { (h : HeldData) → FitsCommit h (CommitRun.Changing run receipts) (S.known s.old) → CommitTurns S.sound h (CommitRun.Changing run receipts) (S.known s.old) (S.known s.new) result }
     ensures one_call { S.one_call s.old s.new }
 {
     match run.step(s) {
@@ -138,8 +138,8 @@ impl CommitRun {
 
     /// Makes one call, for these changes.
     pub fn step<S: Steps>(self, alloc: Global, s: &mut S, held: &HeldChanges) -> CommitTurn
-        requires { Fits held.now self (S.known s.old) }
-        ensures turns { Turns S.sound held.now self (S.known s.old) (S.known s.new) result }
+        requires { FitsCommit held.now self (S.known s.old) }
+        ensures turns { CommitTurns S.sound held.now self (S.known s.old) (S.known s.new) result }
         ensures one_call { S.one_call s.old s.new }
     {
         match self {

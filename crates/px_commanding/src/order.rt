@@ -1,6 +1,6 @@
 // An order to upkeep as a machine: it is given, and then upkeep is stepped until it is idle. Each step makes one call.
 ghost use Rattle.std.specs.Prelude.{◌≡◌};
-ghost use Rattle.px_commanding.specs.Orders.{Leads, Turns, job_of, undone as undone_as};
+ghost use Rattle.px_commanding.specs.Orders.{OrderLeads, OrderTurns, job_of, undone as undone_as};
 
 use px_calls::{Ordered, StepFault, Steps, Work};
 
@@ -46,8 +46,8 @@ fn undone(fault: StepFault) -> OrderFault
 
 /// Gives the order.
 fn order<S: Steps>(s: &mut S, job: Ordered) -> OrderTurn
-    ensures turns { Turns (S.known s.old) (S.known s.new) result }
-    ensures leads { Leads (S.ordered s.new) (S.done s.new) (OrderRun.Ordering job) result }
+    ensures turns { OrderTurns (S.known s.old) (S.known s.new) result }
+    ensures leads { OrderLeads (S.ordered s.new) (S.done s.new) (OrderRun.Ordering job) result }
     ensures one_call { S.one_call s.old s.new }
 {
     match s.order(job) {
@@ -58,8 +58,8 @@ fn order<S: Steps>(s: &mut S, job: Ordered) -> OrderTurn
 
 /// Makes a step of upkeep.
 fn work<S: Steps>(s: &mut S, job: Ordered) -> OrderTurn
-    ensures turns { Turns (S.known s.old) (S.known s.new) result }
-    ensures leads { Leads (S.ordered s.new) (S.done s.new) (OrderRun.Working job) result }
+    ensures turns { OrderTurns (S.known s.old) (S.known s.new) result }
+    ensures leads { OrderLeads (S.ordered s.new) (S.done s.new) (OrderRun.Working job) result }
     ensures one_call { S.one_call s.old s.new }
 {
     match s.upkeep() {
@@ -88,8 +88,8 @@ impl OrderRun {
 
     /// Makes one call. It is over where upkeep was idle behind the order, or where a call was refused.
     pub fn step<S: Steps>(self, s: &mut S) -> OrderTurn
-        ensures turns { Turns (S.known s.old) (S.known s.new) result }
-        ensures leads { Leads (S.ordered s.new) (S.done s.new) self result }
+        ensures turns { OrderTurns (S.known s.old) (S.known s.new) result }
+        ensures leads { OrderLeads (S.ordered s.new) (S.done s.new) self result }
         ensures one_call { S.one_call s.old s.new }
     {
         match self {

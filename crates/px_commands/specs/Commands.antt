@@ -7,7 +7,7 @@ use Rattle.px_lex.specs.Kinds.{same_kind}
 use Rattle.px_lex.specs.declared.token.LexFault.{LexFault}
 use Rattle.px_lex.specs.declared.token.LexFault.TheVariants as lexical
 use Rattle.px_lex.specs.Lexemes.{Seen, Lexeme, before_fault, fault_from, tokens_from}
-use Rattle.px_resolve.specs.Literals.{number_of}
+use Rattle.px_resolve.specs.Literals.{number_of_digits}
 use Rattle.px_commands.specs.declared.command.Command.{Command}
 use Rattle.px_commands.specs.declared.command.CommandFault.{CommandFault}
 use Rattle.px_commands.specs.declared.command.CommandFault.TheVariants as faults
@@ -19,21 +19,21 @@ use Rattle.px_commands.specs.declared.word.Word.TheVariants.{Scn, Off, On, Commi
 
 -- ---- words
 
-abbrev pub or_else : (is : Bool) → Word → Option Word → Option Word
-or_else true word other = Some word
-or_else false word other = other
+abbrev pub word_or_else : (is : Bool) → Word → Option Word → Option Word
+word_or_else true word other = Some word
+word_or_else false word other = other
 
 -- the word that a text is, in any case of letters
 abbrev pub word_of : List ℕ → Option Word
 word_of text =
-    or_else (str_eq_ignore_ascii_case text (codes "scn")) Scn
-    (or_else (str_eq_ignore_ascii_case text (codes "off")) Off
-    (or_else (str_eq_ignore_ascii_case text (codes "on")) On
-    (or_else (str_eq_ignore_ascii_case text (codes "commit")) Commit
-    (or_else (str_eq_ignore_ascii_case text (codes "autocommit")) Autocommit
-    (or_else (str_eq_ignore_ascii_case text (codes "status")) Status
-    (or_else (str_eq_ignore_ascii_case text (codes "flush")) Flush
-    (or_else (str_eq_ignore_ascii_case text (codes "compact")) Compact None)))))))
+    word_or_else (str_eq_ignore_ascii_case text (codes "scn")) Scn
+    (word_or_else (str_eq_ignore_ascii_case text (codes "off")) Off
+    (word_or_else (str_eq_ignore_ascii_case text (codes "on")) On
+    (word_or_else (str_eq_ignore_ascii_case text (codes "commit")) Commit
+    (word_or_else (str_eq_ignore_ascii_case text (codes "autocommit")) Autocommit
+    (word_or_else (str_eq_ignore_ascii_case text (codes "status")) Status
+    (word_or_else (str_eq_ignore_ascii_case text (codes "flush")) Flush
+    (word_or_else (str_eq_ignore_ascii_case text (codes "compact")) Compact None)))))))
 
 -- ---- arguments
 
@@ -49,7 +49,7 @@ off_said other = Err (Stuck 1)
 
 -- a number from 1 on, or `off`
 abbrev pub scn_said : Seen → Result Command Fault
-scn_said t = if same_kind t.kind k.Number then an_scn t.place (number_of t.text) else off_said (word_of t.text)
+scn_said t = if same_kind t.kind k.Number then an_scn t.place (number_of_digits t.text) else off_said (word_of t.text)
 
 abbrev pub switched : Option Word → Result Command Fault
 switched (Some On) = Ok (commands.Autocommit true)
@@ -67,16 +67,16 @@ before_last c (b ∷ []) = if b == c then Some [] else None
 before_last c (b ∷ a ∷ text) = option_map (λ l. b ∷ l) (before_last c (a ∷ text))
 
 -- the text between double quotes
-abbrev pub unquoted : List ℕ → Option (List ℕ)
-unquoted [] = None
-unquoted (b ∷ text) = if b == 34 then before_last 34 text else None
+abbrev pub unquoted_name : List ℕ → Option (List ℕ)
+unquoted_name [] = None
+unquoted_name (b ∷ text) = if b == 34 then before_last 34 text else None
 
-abbrev pub name_of : List ℕ → List ℕ
-name_of text = unwrap_or (unquoted text) (map to_ascii_uppercase text)
+abbrev pub name_in_text : List ℕ → List ℕ
+name_in_text text = unwrap_or (unquoted_name text) (map to_ascii_uppercase text)
 
 -- a name: as it stands between double quotes, or in capitals
 abbrev pub status_said : Seen → Result Command Fault
-status_said t = if same_kind t.kind k.Name then Ok (commands.Status (name_of t.text)) else Err (Stuck 1)
+status_said t = if same_kind t.kind k.Name then Ok (commands.Status (name_in_text t.text)) else Err (Stuck 1)
 
 abbrev pub argument : Word → Seen → Result Command Fault
 argument Scn t = scn_said t
@@ -162,5 +162,5 @@ answer None ts end = told (said ts) ts end
 answer (Some fault) ts end = cut_short (said ts) ts end
 
 -- What may be answered to a text of this reading: the answer by its tokens before the first fault, or that no memory was found.
-abbrev pub Answers : List ℕ → List Lexeme → Result Command CommandFault → Type 0
-Answers text xs result = (result ≡ answer (fault_from 0 xs) (tokens_from 0 (before_fault xs)) (end_of text (fault_from 0 xs))) ⊎ (result ≡ Err faults.Memory)
+abbrev pub AnswersCommand : List ℕ → List Lexeme → Result Command CommandFault → Type 0
+AnswersCommand text xs result = (result ≡ answer (fault_from 0 xs) (tokens_from 0 (before_fault xs)) (end_of text (fault_from 0 xs))) ⊎ (result ≡ Err faults.Memory)

@@ -1,6 +1,6 @@
 // Reading a session command.
 ghost use Rattle.std.specs.Prelude.{◌≡◌, List, None, Some, map, IfOk, MatchOption};
-ghost use Rattle.px_lex.specs.Lexemes.{Lexeme, IsReading, seen};
+ghost use Rattle.px_lex.specs.Lexemes.{Lexeme, IsTextReading, seen};
 ghost use Rattle.px_commands.specs.Commands as spec;
 
 use crate::command::{Command, CommandFault};
@@ -53,14 +53,14 @@ fn autocommit(token: &Token<'_>) -> Result<Command, Fault>
 
 /// The text between double quotes.
 fn unquoted(text: &str) -> Option<&str>
-    ensures { MatchOption result (spec.unquoted text.now ≡ None) (λ inner. spec.unquoted text.now ≡ Some inner.now) }
+    ensures { MatchOption result (spec.unquoted_name text.now ≡ None) (λ inner. spec.unquoted_name text.now ≡ Some inner.now) }
 {
     text.strip_prefix('"')?.strip_suffix('"')
 }
 
 /// The name that a text is: as it stands between double quotes, or in capitals.
 fn name(alloc: Global, text: &str) -> Result<Name, AllocError>
-    ensures { IfOk result (λ n. n ≡ spec.name_of text.now) }
+    ensures { IfOk result (λ n. n ≡ spec.name_in_text text.now) }
 {
     match unquoted(text) {
         Some(inner) => Name::from_str(alloc, inner),
@@ -220,7 +220,7 @@ fn cut_short(
 /// What a session command says, whose text begins behind its `!`; or the place, counted from there, at which no command
 /// goes on or whose number is no SCN.
 pub fn read_command(alloc: Global, text: &str) -> Result<Command, CommandFault>
-    ensures { (xs : List Lexeme) × IsReading text.now xs × spec.Answers text.now xs result }
+    ensures { (xs : List Lexeme) × IsTextReading text.now xs × spec.AnswersCommand text.now xs result }
 {
     let lexed = match lex(alloc, text) {
         Ok(lexed) => lexed,

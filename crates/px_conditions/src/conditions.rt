@@ -3,7 +3,7 @@ ghost use Rattle.std.specs.Prelude.{◌≡◌, [], ◌∷◌};
 ghost use Rattle.px_lex.specs.declared.kind.Kind.TheVariants as k;
 ghost use Rattle.px_ast.specs.Rule.{made, sees, separated, ◌▹◌, ◌◃◌};
 ghost use Rattle.px_ast.specs.Grammar as grammar;
-ghost use Rattle.px_words.specs.Reading.{Gives, Puts, behind_first};
+ghost use Rattle.px_words.specs.Reading.{GivesOutcome, Puts, behind_first};
 
 use crate::predicates::predicate;
 use px_ast::{Boxed, Condition};
@@ -14,7 +14,7 @@ use px_words::fault::ReadFault;
 use std::alloc::Global;
 
 fn all_of(mut parts: Vec<Condition>) -> Condition
-    ensures { result ≡ grammar.joined Condition.And parts.items }
+    ensures { result ≡ grammar.joined_conditions Condition.And parts.items }
 {
     if parts.len() == 1 {
         return parts.remove(0);
@@ -23,7 +23,7 @@ fn all_of(mut parts: Vec<Condition>) -> Condition
 }
 
 fn any_of(mut parts: Vec<Condition>) -> Condition
-    ensures { result ≡ grammar.joined Condition.Or parts.items }
+    ensures { result ≡ grammar.joined_conditions Condition.Or parts.items }
 {
     if parts.len() == 1 {
         return parts.remove(0);
@@ -34,7 +34,7 @@ fn any_of(mut parts: Vec<Condition>) -> Condition
 #[cycle(condition)]
 #[tactic(auto, unfolding(px_ast::specs::Grammar::part))]
 fn part(alloc: Global, tokens: &mut Cursor<'_>, depth: usize) -> Result<Condition, ReadFault>
-    ensures { Gives ((grammar.part depth).at tokens.old) result tokens.new }
+    ensures { GivesOutcome ((grammar.part depth).at tokens.old) result tokens.new }
 {
     if depth == 0 {
         if tokens.sees(Kind::Not) || tokens.sees(Kind::OpenParen) {
@@ -54,7 +54,7 @@ fn part(alloc: Global, tokens: &mut Cursor<'_>, depth: usize) -> Result<Conditio
 /// `NOT part`
 #[cycle(condition)]
 fn negated(alloc: Global, tokens: &mut Cursor<'_>, depth: usize) -> Result<Condition, ReadFault>
-    ensures { Gives ((made Condition.Not (k.Not ▹ grammar.part depth)).at tokens.old) result tokens.new }
+    ensures { GivesOutcome ((made Condition.Not (k.Not ▹ grammar.part depth)).at tokens.old) result tokens.new }
 {
     word(tokens, Kind::Not)?;
     let inner = part(alloc, tokens, depth)?;
@@ -64,7 +64,7 @@ fn negated(alloc: Global, tokens: &mut Cursor<'_>, depth: usize) -> Result<Condi
 /// `( disjunction )`
 #[cycle(condition)]
 fn enclosed(alloc: Global, tokens: &mut Cursor<'_>, depth: usize) -> Result<Condition, ReadFault>
-    ensures { Gives ((k.OpenParen ▹ grammar.disjunction (grammar.part depth) ◃ k.CloseParen).at tokens.old) result tokens.new }
+    ensures { GivesOutcome ((k.OpenParen ▹ grammar.disjunction (grammar.part depth) ◃ k.CloseParen).at tokens.old) result tokens.new }
 {
     word(tokens, Kind::OpenParen)?;
     let inner = disjunction(alloc, tokens, depth)?;
@@ -117,7 +117,7 @@ fn parts_behind(
     depth: usize,
     first: Condition,
 ) -> Result<Items<Condition>, ReadFault>
-    ensures { Gives (behind_first k.And (grammar.part depth) first tokens.old) result tokens.new }
+    ensures { GivesOutcome (behind_first k.And (grammar.part depth) first tokens.old) result tokens.new }
 {
     let mut found = Vec::new(alloc);
     found.push(first)?;
@@ -173,7 +173,7 @@ fn conjunctions(
     tokens: &mut Cursor<'_>,
     depth: usize,
 ) -> Result<Items<Condition>, ReadFault>
-    ensures { Gives ((separated k.Or (grammar.conjunction (grammar.part depth))).at tokens.old) result tokens.new }
+    ensures { GivesOutcome ((separated k.Or (grammar.conjunction (grammar.part depth))).at tokens.old) result tokens.new }
 {
     let mut found = Vec::new(alloc);
     put_conjunction(alloc, tokens, depth, &mut found)?;
@@ -194,7 +194,7 @@ pub fn disjunction(
     tokens: &mut Cursor<'_>,
     depth: usize,
 ) -> Result<Condition, ReadFault>
-    ensures { Gives ((grammar.disjunction (grammar.part depth)).at tokens.old) result tokens.new }
+    ensures { GivesOutcome ((grammar.disjunction (grammar.part depth)).at tokens.old) result tokens.new }
 {
     Ok(any_of(conjunctions(alloc, tokens, depth)?.into_vec()))
 }

@@ -1,9 +1,9 @@
 // Comparisons, IS NULL, IN and BETWEEN.
 ghost use Rattle.std.specs.Prelude.{◌≡◌, [], ◌∷◌};
 ghost use Rattle.px_lex.specs.declared.kind.Kind.TheVariants as k;
-ghost use Rattle.px_ast.specs.Rule.{Got, sees, word, written, ◌then◌, ◌▹◌, ◌◃◌};
+ghost use Rattle.px_ast.specs.Rule.{Got, presence_of, sees, word, ◌then◌, ◌▹◌, ◌◃◌};
 ghost use Rattle.px_ast.specs.Grammar as grammar;
-ghost use Rattle.px_words.specs.Reading.{Gives, applied};
+ghost use Rattle.px_words.specs.Reading.{GivesOutcome, applied_to};
 
 use px_ast::{Boxed, Comparison, Literal, Operand, Predicate};
 use px_lex::kind::Kind;
@@ -16,7 +16,7 @@ use std::alloc::Global;
 
 #[tactic(auto, unfolding(px_ast::specs::Grammar::operand))]
 fn operand(alloc: Global, tokens: &mut Cursor<'_>) -> Result<Operand, ReadFault>
-    ensures { Gives (grammar.operand.at tokens.old) result tokens.new }
+    ensures { GivesOutcome (grammar.operand.at tokens.old) result tokens.new }
 {
     if tokens.sees(Kind::Name) {
         let token = tokens.take(Kind::Name)?;
@@ -30,7 +30,7 @@ fn operand(alloc: Global, tokens: &mut Cursor<'_>) -> Result<Operand, ReadFault>
 
 #[tactic(auto, unfolding(px_ast::specs::Grammar::comparison))]
 fn comparison(tokens: &mut Cursor<'_>) -> Result<Comparison, ReadFault>
-    ensures { Gives (grammar.comparison.at tokens.old) result tokens.new }
+    ensures { GivesOutcome (grammar.comparison.at tokens.old) result tokens.new }
 {
     if tokens.takes(Kind::Equal) {
         return Ok(Comparison::Equal);
@@ -56,7 +56,7 @@ fn comparison_end(
     alloc: Global,
     tokens: &mut Cursor<'_>,
 ) -> Result<(Comparison, Operand), ReadFault>
-    ensures { Gives ((grammar.comparison then grammar.operand).at tokens.old) result tokens.new }
+    ensures { GivesOutcome ((grammar.comparison then grammar.operand).at tokens.old) result tokens.new }
 {
     let comparison = comparison(tokens)?;
     Ok((comparison, operand(alloc, tokens)?))
@@ -64,7 +64,7 @@ fn comparison_end(
 
 #[tactic(auto, unfolding(px_ast::specs::Grammar::compared))]
 fn compared(alloc: Global, tokens: &mut Cursor<'_>, left: Operand) -> Result<Predicate, ReadFault>
-    ensures { Gives (applied (grammar.compared.at tokens.old) left) result tokens.new }
+    ensures { GivesOutcome (applied_to (grammar.compared.at tokens.old) left) result tokens.new }
 {
     match comparison_end(alloc, tokens) {
         Ok((comparison, right)) => Ok(Predicate::Compare {
@@ -81,14 +81,14 @@ fn compared(alloc: Global, tokens: &mut Cursor<'_>, left: Operand) -> Result<Pre
 
 /// Takes NOT, if it is written.
 fn negation(tokens: &mut Cursor<'_>) -> bool
-    ensures { (written (word k.Not)).at tokens.old ≡ Got result tokens.new }
+    ensures { (presence_of (word k.Not)).at tokens.old ≡ Got result tokens.new }
 {
     tokens.takes(Kind::Not)
 }
 
 /// `IS [NOT] NULL`, and whether NOT is written.
 fn null_end(tokens: &mut Cursor<'_>) -> Result<bool, ReadFault>
-    ensures { Gives ((k.Is ▹ (written (word k.Not) ◃ k.Null)).at tokens.old) result tokens.new }
+    ensures { GivesOutcome ((k.Is ▹ (presence_of (word k.Not) ◃ k.Null)).at tokens.old) result tokens.new }
 {
     word(tokens, Kind::Is)?;
     let negated = negation(tokens);
@@ -96,9 +96,9 @@ fn null_end(tokens: &mut Cursor<'_>) -> Result<bool, ReadFault>
     Ok(negated)
 }
 
-#[tactic(auto, unfolding(px_ast::specs::Grammar::is_null))]
+#[tactic(auto, unfolding(px_ast::specs::Grammar::null_predicate))]
 fn is_null(tokens: &mut Cursor<'_>, operand: Operand) -> Result<Predicate, ReadFault>
-    ensures { Gives (applied (grammar.is_null.at tokens.old) operand) result tokens.new }
+    ensures { GivesOutcome (applied_to (grammar.null_predicate.at tokens.old) operand) result tokens.new }
 {
     match null_end(tokens) {
         Ok(negated) => Ok(Predicate::IsNull { operand, negated }),
@@ -111,7 +111,7 @@ fn is_null(tokens: &mut Cursor<'_>, operand: Operand) -> Result<Predicate, ReadF
 
 /// `IN literals`
 fn list_end(alloc: Global, tokens: &mut Cursor<'_>) -> Result<Items<Literal>, ReadFault>
-    ensures { Gives ((k.In ▹ grammar.literals).at tokens.old) result tokens.new }
+    ensures { GivesOutcome ((k.In ▹ grammar.literals).at tokens.old) result tokens.new }
 {
     word(tokens, Kind::In)?;
     literals(alloc, tokens)
@@ -124,7 +124,7 @@ fn among(
     negated: bool,
     operand: Operand,
 ) -> Result<Predicate, ReadFault>
-    ensures { Gives (applied (applied (grammar.among.at tokens.old) negated) operand) result tokens.new }
+    ensures { GivesOutcome (applied_to (applied_to (grammar.among.at tokens.old) negated) operand) result tokens.new }
 {
     match list_end(alloc, tokens) {
         Ok(literals) => Ok(Predicate::In {
@@ -144,7 +144,7 @@ fn ends(
     alloc: Global,
     tokens: &mut Cursor<'_>,
 ) -> Result<(Boxed<Operand>, Boxed<Operand>), ReadFault>
-    ensures { Gives ((k.Between ▹ (grammar.operand then k.And ▹ grammar.operand)).at tokens.old) result tokens.new }
+    ensures { GivesOutcome ((k.Between ▹ (grammar.operand then k.And ▹ grammar.operand)).at tokens.old) result tokens.new }
 {
     word(tokens, Kind::Between)?;
     let low = Boxed::new(alloc, operand(alloc, tokens)?)?;
@@ -159,7 +159,7 @@ fn ends(
 
 /// `AND operand`
 fn behind_and(alloc: Global, tokens: &mut Cursor<'_>) -> Result<Boxed<Operand>, ReadFault>
-    ensures { Gives ((k.And ▹ grammar.operand).at tokens.old) result tokens.new }
+    ensures { GivesOutcome ((k.And ▹ grammar.operand).at tokens.old) result tokens.new }
 {
     word(tokens, Kind::And)?;
     Ok(Boxed::new(alloc, operand(alloc, tokens)?)?)
@@ -172,7 +172,7 @@ fn between(
     negated: bool,
     left: Operand,
 ) -> Result<Predicate, ReadFault>
-    ensures { Gives (applied (applied (grammar.between.at tokens.old) negated) left) result tokens.new }
+    ensures { GivesOutcome (applied_to (applied_to (grammar.between.at tokens.old) negated) left) result tokens.new }
 {
     match ends(alloc, tokens) {
         Ok((low, high)) => Ok(Predicate::Between {
@@ -197,7 +197,7 @@ fn in_or_between(
     negated: bool,
     left: Operand,
 ) -> Result<Predicate, ReadFault>
-    ensures { Gives (applied (applied ((grammar.in_or_between depth).at tokens.old) negated) left) result tokens.new }
+    ensures { GivesOutcome (applied_to (applied_to ((grammar.in_or_between depth).at tokens.old) negated) left) result tokens.new }
 {
     if tokens.sees(Kind::In) {
         if depth == 0 {
@@ -216,7 +216,7 @@ fn ranged(
     depth: usize,
     left: Operand,
 ) -> Result<Predicate, ReadFault>
-    ensures { Gives (applied ((grammar.ranged depth).at tokens.old) left) result tokens.new }
+    ensures { GivesOutcome (applied_to ((grammar.ranged depth).at tokens.old) left) result tokens.new }
 {
     let negated = negation(tokens);
     in_or_between(alloc, tokens, depth, negated, left)
@@ -234,14 +234,14 @@ fn begins_comparison(tokens: &Cursor<'_>) -> bool
 }
 
 /// What makes a predicate of the operand before it.
-#[tactic(auto, unfolding(px_ast::specs::Grammar::predicate_end, px_ast::specs::Grammar::compared, px_ast::specs::Grammar::comparison, px_ast::specs::Grammar::is_null))]
+#[tactic(auto, unfolding(px_ast::specs::Grammar::predicate_end, px_ast::specs::Grammar::compared, px_ast::specs::Grammar::comparison, px_ast::specs::Grammar::null_predicate))]
 fn predicate_end(
     alloc: Global,
     tokens: &mut Cursor<'_>,
     depth: usize,
     left: Operand,
 ) -> Result<Predicate, ReadFault>
-    ensures { Gives (applied ((grammar.predicate_end depth).at tokens.old) left) result tokens.new }
+    ensures { GivesOutcome (applied_to ((grammar.predicate_end depth).at tokens.old) left) result tokens.new }
 {
     if begins_comparison(tokens) {
         compared(alloc, tokens, left)
@@ -259,7 +259,7 @@ pub fn predicate(
     tokens: &mut Cursor<'_>,
     depth: usize,
 ) -> Result<Predicate, ReadFault>
-    ensures { Gives ((grammar.predicate depth).at tokens.old) result tokens.new }
+    ensures { GivesOutcome ((grammar.predicate depth).at tokens.old) result tokens.new }
 {
     let left = operand(alloc, tokens)?;
     predicate_end(alloc, tokens, depth, left)

@@ -13,7 +13,7 @@ use Rattle.px_ranges.specs.declared.leading.Span.{Span}
 use Rattle.px_ranges.specs.declared.leading.Leading.{Leading}
 use Rattle.px_paths.specs.declared.path.PathColumn.{PathColumn}
 use Rattle.px_conjuncts.specs.Conjuncts.{told_by, equal_in, lower_in, upper_in}
-use Rattle.px_conjuncts.specs.Paths.{or_first, first_told, without_first, span_of, led_by, leading_of, is_told, without_bounds, rest_of, unmarked}
+use Rattle.px_conjuncts.specs.Paths.{or_first, first_told, without_first, span_between, led_by, leading_of, is_told, without_bounds, conjuncts_left, unmarked}
 
 -- ---- the first that tells it
 
@@ -207,14 +207,14 @@ behind vs l = record { equal = vs ++ l.equal; span = l.span }
 pub record Walked (path : List PathColumn) (cs : List Bound) (marks : List Bool) (vs : List Value) (i : ℕ) : Type 0 where
   pub count : length marks ≡ length cs
   pub leads : leading_of path cs ≡ behind vs (leading_of (drop i path) (unmarked cs marks))
-  pub leaves : rest_of path cs ≡ rest_of (drop i path) (unmarked cs marks)
+  pub leaves : conjuncts_left path cs ≡ conjuncts_left (drop i path) (unmarked cs marks)
 
 pub walk_begin : (path : List PathColumn) (cs : List Bound) (marks : List Bool) → marks ≡ replicate (length cs) false → Walked path cs marks [] 0
 walk_begin path cs marks e =
     let is : unmarked cs marks ≡ cs = ap (λ (ms : List Bool). unmarked cs ms) e ∙ no_marks cs in record {
       count = ap length e ∙ replicate_count (length cs);
       leads = ap (λ (bs : List Bound). leading_of path bs) (sym is);
-      leaves = ap (λ (bs : List Bound). rest_of path bs) (sym is);
+      leaves = ap (λ (bs : List Bound). conjuncts_left path bs) (sym is);
     }
   where
     replicate_count : (n : ℕ) → length (replicate n false) ≡ n
@@ -238,34 +238,34 @@ pub walk_more : (path : List PathColumn) (cs : List Bound) (marks marks' : List 
 walk_more path cs marks marks' vs i p v l e n t w h =
     let bs = unmarked cs marks in
     let d = drop_at path i p l e in
-    let s = span_of (first_told (lower_in p) bs) (first_told (upper_in p) bs) in
+    let s = span_between (first_told (lower_in p) bs) (first_told (upper_in p) bs) in
     let more = leading_of (drop (suc i) path) (without_first (equal_in p) bs) in record {
       count = n;
       leads = h.leads ∙ ap (λ (q : List PathColumn). behind vs (leading_of q bs)) d ∙ ap (λ (o : Option Value). behind vs (led_by o more s)) t ∙ behind_more vs v more
           ∙ ap (λ (x : List Bound). behind (vs ++ v ∷ []) (leading_of (drop (suc i) path) x)) (sym w);
-      leaves = h.leaves ∙ ap (λ (q : List PathColumn). rest_of q bs) d ∙ ap (λ (o : Option Value). if is_some o then rest_of (drop (suc i) path) (without_first (equal_in p) bs) else without_bounds p true true bs) t
-          ∙ ap (λ (x : List Bound). rest_of (drop (suc i) path) x) (sym w);
+      leaves = h.leaves ∙ ap (λ (q : List PathColumn). conjuncts_left q bs) d ∙ ap (λ (o : Option Value). if is_some o then conjuncts_left (drop (suc i) path) (without_first (equal_in p) bs) else without_bounds p true true bs) t
+          ∙ ap (λ (x : List Bound). conjuncts_left (drop (suc i) path) x) (sym w);
     }
 
 -- a column without one
-pub walk_bounds : (path : List PathColumn) (cs : List Bound) (marks marks' marks'' : List Bool) (vs : List Value) (i : ℕ) (p : PathColumn) (s : Option Span) → i < length path → p ≡ get_or path i p → first_told (equal_in p) (unmarked cs marks) ≡ None → unmarked cs marks' ≡ without_first (equal_in p) (unmarked cs marks) → unmarked cs marks' ≡ unmarked cs marks → s ≡ span_of (first_told (lower_in p) (unmarked cs marks')) (first_told (upper_in p) (unmarked cs marks')) → unmarked cs marks'' ≡ without_bounds p true true (unmarked cs marks') → Walked path cs marks vs i → (record { equal = vs; span = s } ≡ leading_of path cs) × (unmarked cs marks'' ≡ rest_of path cs)
+pub walk_bounds : (path : List PathColumn) (cs : List Bound) (marks marks' marks'' : List Bool) (vs : List Value) (i : ℕ) (p : PathColumn) (s : Option Span) → i < length path → p ≡ get_or path i p → first_told (equal_in p) (unmarked cs marks) ≡ None → unmarked cs marks' ≡ without_first (equal_in p) (unmarked cs marks) → unmarked cs marks' ≡ unmarked cs marks → s ≡ span_between (first_told (lower_in p) (unmarked cs marks')) (first_told (upper_in p) (unmarked cs marks')) → unmarked cs marks'' ≡ without_bounds p true true (unmarked cs marks') → Walked path cs marks vs i → (record { equal = vs; span = s } ≡ leading_of path cs) × (unmarked cs marks'' ≡ conjuncts_left path cs)
 walk_bounds path cs marks marks' marks'' vs i p s l e t w same b left h =
     let bs = unmarked cs marks in
     let d = drop_at path i p l e in
-    let spanned : s ≡ span_of (first_told (lower_in p) bs) (first_told (upper_in p) bs) = b ∙ ap (λ (x : List Bound). span_of (first_told (lower_in p) x) (first_told (upper_in p) x)) same in
+    let spanned : s ≡ span_between (first_told (lower_in p) bs) (first_told (upper_in p) bs) = b ∙ ap (λ (x : List Bound). span_between (first_told (lower_in p) x) (first_told (upper_in p) x)) same in
     let more = leading_of (drop (suc i) path) (without_first (equal_in p) bs) in (
-      ap (λ (o : Option Span). record { equal = vs; span = o }) spanned ∙ ap (λ (xs : List Value). record { equal = xs; span = span_of (first_told (lower_in p) bs) (first_told (upper_in p) bs) }) (sym (append-nil vs))
-          ∙ sym (h.leads ∙ ap (λ (q : List PathColumn). behind vs (leading_of q bs)) d ∙ ap (λ (o : Option Value). behind vs (led_by o more (span_of (first_told (lower_in p) bs) (first_told (upper_in p) bs)))) t),
+      ap (λ (o : Option Span). record { equal = vs; span = o }) spanned ∙ ap (λ (xs : List Value). record { equal = xs; span = span_between (first_told (lower_in p) bs) (first_told (upper_in p) bs) }) (sym (append-nil vs))
+          ∙ sym (h.leads ∙ ap (λ (q : List PathColumn). behind vs (leading_of q bs)) d ∙ ap (λ (o : Option Value). behind vs (led_by o more (span_between (first_told (lower_in p) bs) (first_told (upper_in p) bs)))) t),
       left ∙ ap (λ (x : List Bound). without_bounds p true true x) same
-          ∙ sym (h.leaves ∙ ap (λ (q : List PathColumn). rest_of q bs) d ∙ ap (λ (o : Option Value). if is_some o then rest_of (drop (suc i) path) (without_first (equal_in p) bs) else without_bounds p true true bs) t),
+          ∙ sym (h.leaves ∙ ap (λ (q : List PathColumn). conjuncts_left q bs) d ∙ ap (λ (o : Option Value). if is_some o then conjuncts_left (drop (suc i) path) (without_first (equal_in p) bs) else without_bounds p true true bs) t),
     )
 
 -- all columns have one
-pub walk_end : (path : List PathColumn) (cs : List Bound) (marks : List Bool) (vs : List Value) (i : ℕ) → i ≡ length path → Walked path cs marks vs i → (record { equal = vs; span = None } ≡ leading_of path cs) × (unmarked cs marks ≡ rest_of path cs)
+pub walk_end : (path : List PathColumn) (cs : List Bound) (marks : List Bool) (vs : List Value) (i : ℕ) → i ≡ length path → Walked path cs marks vs i → (record { equal = vs; span = None } ≡ leading_of path cs) × (unmarked cs marks ≡ conjuncts_left path cs)
 walk_end path cs marks vs i e h =
     let d = behind_all path i e in (
       ap (λ (xs : List Value). record { equal = xs; span = None }) (sym (append-nil vs)) ∙ sym (h.leads ∙ ap (λ (q : List PathColumn). behind vs (leading_of q (unmarked cs marks))) d),
-      sym (h.leaves ∙ ap (λ (q : List PathColumn). rest_of q (unmarked cs marks)) d),
+      sym (h.leaves ∙ ap (λ (q : List PathColumn). conjuncts_left q (unmarked cs marks)) d),
     )
 
 pub no_first : {A : Type 0} (f : Test → Option A) (bs : List Bound) → first_told f bs ≡ None → without_first f bs ≡ bs
@@ -286,10 +286,10 @@ abbrev pub column_at : List PathColumn → ℕ → PathColumn
 column_at path n = get_or path n (record { place = 0; column = record { ty = TinyInt; direction = Ascending; may_be_null = false } })
 
 -- the end of the walk at a column without a value, from what the calls say of their own marks
-pub walk_none : (path : List PathColumn) (cs : List Bound) (marks first found second last : List Bool) (vs : List Value) (i : ℕ) (p : PathColumn) (s : Option Span) → i < length path → p ≡ get_or path i p → first ≡ marks → None ≡ first_told (equal_in p) (unmarked cs first) → unmarked cs found ≡ without_first (equal_in p) (unmarked cs first) → second ≡ found → s ≡ span_of (first_told (lower_in p) (unmarked cs second)) (first_told (upper_in p) (unmarked cs second)) → unmarked cs last ≡ without_bounds p true true (unmarked cs second) → Walked path cs marks vs i → (record { equal = vs; span = s } ≡ leading_of path cs) × (unmarked cs last ≡ rest_of path cs)
+pub walk_none : (path : List PathColumn) (cs : List Bound) (marks first found second last : List Bool) (vs : List Value) (i : ℕ) (p : PathColumn) (s : Option Span) → i < length path → p ≡ get_or path i p → first ≡ marks → None ≡ first_told (equal_in p) (unmarked cs first) → unmarked cs found ≡ without_first (equal_in p) (unmarked cs first) → second ≡ found → s ≡ span_between (first_told (lower_in p) (unmarked cs second)) (first_told (upper_in p) (unmarked cs second)) → unmarked cs last ≡ without_bounds p true true (unmarked cs second) → Walked path cs marks vs i → (record { equal = vs; span = s } ≡ leading_of path cs) × (unmarked cs last ≡ conjuncts_left path cs)
 walk_none path cs marks first found second last vs i p s l e f t w g b left h =
     let none : first_told (equal_in p) (unmarked cs marks) ≡ None = sym (t ∙ ap (λ (ms : List Bool). first_told (equal_in p) (unmarked cs ms)) f) in
     let without = w ∙ ap (λ (ms : List Bool). without_first (equal_in p) (unmarked cs ms)) f in
     walk_bounds path cs marks found last vs i p s l e none without (without ∙ no_first (equal_in p) (unmarked cs marks) none)
-    (b ∙ ap (λ (ms : List Bool). span_of (first_told (lower_in p) (unmarked cs ms)) (first_told (upper_in p) (unmarked cs ms))) g)
+    (b ∙ ap (λ (ms : List Bool). span_between (first_told (lower_in p) (unmarked cs ms)) (first_told (upper_in p) (unmarked cs ms))) g)
     (left ∙ ap (λ (ms : List Bool). without_bounds p true true (unmarked cs ms)) g) h

@@ -11,7 +11,7 @@ use Rattle.px_ranges.specs.Led.{EdgeIsFor, IsFor, can_bound}
 use Rattle.px_ranges.specs.declared.leading.Edge.{Edge}
 use Rattle.px_paths.specs.declared.path.PathColumn.{PathColumn}
 use Rattle.px_conjuncts.specs.Conjuncts.{at_column, edge, equal_in, lower_in, told_by, upper_in}
-use Rattle.px_conjuncts.specs.Paths.{first_told, leading_of, led_by, or_first, span_of, without_first}
+use Rattle.px_conjuncts.specs.Paths.{first_told, leading_of, led_by, or_first, span_between, without_first}
 use Rattle.px_conjuncts.proofs.TestSays.{at_place, from_beside}
 use Rattle.px_paths.specs.Paths.{columns_on}
 
@@ -55,7 +55,7 @@ first_can p f g (b ∷ bs) = by_told (first_can p f g bs) (told_by f b) refl
     by_told rest (Some e) t = subst (λ (o : Option Edge). EdgeIsFor p.column (or_first o (first_told f bs))) (sym t) (told_can p f g b e t)
     by_told rest None t = subst (λ (o : Option Edge). EdgeIsFor p.column (or_first o (first_told f bs))) (sym t) rest
 
-spanned : (p : PathColumn) (path : List PathColumn) (l u : Option Edge) → EdgeIsFor p.column l → EdgeIsFor p.column u → IsFor (columns_on (p ∷ path)) [] (span_of l u)
+spanned : (p : PathColumn) (path : List PathColumn) (l u : Option Edge) → EdgeIsFor p.column l → EdgeIsFor p.column u → IsFor (columns_on (p ∷ path)) [] (span_between l u)
 spanned p path None None h k = tt
 spanned p path (Some a) None h k = (h, k)
 spanned p path None (Some b) h k = (h, k)
@@ -68,9 +68,9 @@ leading_is_for (p ∷ path) bs = by_told (leading_is_for path (without_first (eq
     by_told : (let more = leading_of path (without_first (equal_in p) bs) in IsFor (columns_on path) more.equal more.span) → (o : Option Value) → first_told (equal_in p) bs ≡ o → IsFor (columns_on (p ∷ path)) (leading_of (p ∷ path) bs).equal (leading_of (p ∷ path) bs).span
     by_told rest o t =
         let more = leading_of path (without_first (equal_in p) bs) in
-        let s = span_of (first_told (lower_in p) bs) (first_told (upper_in p) bs) in
+        let s = span_between (first_told (lower_in p) bs) (first_told (upper_in p) bs) in
         subst (λ (x : Option Value). IsFor (columns_on (p ∷ path)) (led_by x more s).equal (led_by x more s).span) (sym t) (each o rest)
       where
-        each : (o : Option Value) → (let more = leading_of path (without_first (equal_in p) bs) in IsFor (columns_on path) more.equal more.span) → (let more = leading_of path (without_first (equal_in p) bs) in let s = span_of (first_told (lower_in p) bs) (first_told (upper_in p) bs) in IsFor (columns_on (p ∷ path)) (led_by o more s).equal (led_by o more s).span)
+        each : (o : Option Value) → (let more = leading_of path (without_first (equal_in p) bs) in IsFor (columns_on path) more.equal more.span) → (let more = leading_of path (without_first (equal_in p) bs) in let s = span_between (first_told (lower_in p) bs) (first_told (upper_in p) bs) in IsFor (columns_on (p ∷ path)) (led_by o more s).equal (led_by o more s).span)
         each (Some v) rest = rest
         each None rest = spanned p path (first_told (lower_in p) bs) (first_told (upper_in p) bs) (first_can p (lower_in p) (lower_can p) bs) (first_can p (upper_in p) (upper_can p) bs)

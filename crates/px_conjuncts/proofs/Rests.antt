@@ -12,7 +12,7 @@ use Rattle.px_ranges.specs.declared.leading.Edge.{Edge}
 use Rattle.px_ranges.specs.declared.leading.Leading.{Leading}
 use Rattle.px_paths.specs.declared.path.PathColumn.{PathColumn}
 use Rattle.px_conjuncts.specs.Conjuncts.{all_true, told_by, equal_in, lower_in, upper_in}
-use Rattle.px_conjuncts.specs.Paths.{or_first, first_told, without_first, span_of, led_by, leading_of, is_told, without_bounds, rest_of}
+use Rattle.px_conjuncts.specs.Paths.{or_first, first_told, without_first, span_between, led_by, leading_of, is_told, without_bounds, conjuncts_left}
 use Rattle.px_conjuncts.proofs.TestSays.{equal_says, bound_says, Over, Under, Says}
 use Rattle.px_paths.specs.Paths.{values_on}
 
@@ -131,13 +131,13 @@ bounds_told column low high (b ∷ bs) row =
 
 -- ---- a path
 
-in_span : (l u : Option Edge) (x : Value) (xs : List Value) → Within l u x ↔ FirstIsIn (span_of l u) (x ∷ xs)
+in_span : (l u : Option Edge) (x : Value) (xs : List Value) → Within l u x ↔ FirstIsIn (span_between l u) (x ∷ xs)
 in_span None None x xs = (λ h. tt, λ h. (tt, tt))
 in_span (Some a) None x xs = (λ h. (h.0.0, h.0.1, tt), λ h. ((h.0, h.1), tt))
 in_span None (Some b) x xs = (λ h. (h.1.0, tt, h.1.1), λ h. (tt, (h.0, h.2)))
 in_span (Some a) (Some b) x xs = (λ h. (h.0.0, h.0.1, h.1.1), λ h. ((h.0, h.1), (h.0, h.2)))
 
-pub conjuncts_are : (path : List PathColumn) (bs : List Bound) (row : List Value) → all_true row bs ↔ (IsLed (leading_of path bs) (values_on path row) × all_true row (rest_of path bs))
+pub conjuncts_are : (path : List PathColumn) (bs : List Bound) (row : List Value) → all_true row bs ↔ (IsLed (leading_of path bs) (values_on path row) × all_true row (conjuncts_left path bs))
 conjuncts_are [] bs row = (λ h. ((refl, tt), h), λ h. h.1)
 conjuncts_are (p ∷ path) bs row = by_told (conjuncts_are path (without_first (equal_in p) bs) row) (first_told (equal_in p) bs) refl
   where
@@ -147,15 +147,15 @@ conjuncts_are (p ∷ path) bs row = by_told (conjuncts_are path (without_first (
     tails : (x y : Value) (xs ys : List Value) → x ∷ xs ≡ y ∷ ys → xs ≡ ys
     tails x y xs ys e = cc
 
-    by_told : (let left = without_first (equal_in p) bs in all_true row left ↔ (IsLed (leading_of path left) (values_on path row) × all_true row (rest_of path left))) → (o : Option Value) → first_told (equal_in p) bs ≡ o → all_true row bs ↔ (IsLed (leading_of (p ∷ path) bs) (values_on (p ∷ path) row) × all_true row (rest_of (p ∷ path) bs))
+    by_told : (let left = without_first (equal_in p) bs in all_true row left ↔ (IsLed (leading_of path left) (values_on path row) × all_true row (conjuncts_left path left))) → (o : Option Value) → first_told (equal_in p) bs ≡ o → all_true row bs ↔ (IsLed (leading_of (p ∷ path) bs) (values_on (p ∷ path) row) × all_true row (conjuncts_left (p ∷ path) bs))
     by_told rest (Some v) t =
         let left = without_first (equal_in p) bs in
         let more = leading_of path left in
-        let led : leading_of (p ∷ path) bs ≡ record { equal = v ∷ more.equal; span = more.span } = ap (λ (o : Option Value). led_by o more (span_of (first_told (lower_in p) bs) (first_told (upper_in p) bs))) t in
-        let kept : rest_of (p ∷ path) bs ≡ rest_of path left = ap (λ (o : Option Value). if is_some o then rest_of path left else without_bounds p true true bs) t in
+        let led : leading_of (p ∷ path) bs ≡ record { equal = v ∷ more.equal; span = more.span } = ap (λ (o : Option Value). led_by o more (span_between (first_told (lower_in p) bs) (first_told (upper_in p) bs))) t in
+        let kept : conjuncts_left (p ∷ path) bs ≡ conjuncts_left path left = ap (λ (o : Option Value). if is_some o then conjuncts_left path left else without_bounds p true true bs) t in
         let first = first_equal p bs row v t in
         let n = length more.equal in
-        subst (λ (l : Leading). all_true row bs ↔ (IsLed l (get_or row p.place Null ∷ values_on path row) × all_true row (rest_of (p ∷ path) bs))) (sym led)
+        subst (λ (l : Leading). all_true row bs ↔ (IsLed l (get_or row p.place Null ∷ values_on path row) × all_true row (conjuncts_left (p ∷ path) bs))) (sym led)
         (subst (λ (r : List Bound). all_true row bs ↔ (IsLed (record { equal = v ∷ more.equal; span = more.span }) (get_or row p.place Null ∷ values_on path row) × all_true row r)) (sym kept) (
           λ h. (let k = first.0 h in let r = rest.0 k.1 in
               ((ap (λ (y : Value). y ∷ take n (values_on path row)) k.0 ∙ ap (λ (ys : List Value). v ∷ ys) r.0.0, r.0.1), r.1)),
@@ -164,12 +164,12 @@ conjuncts_are (p ∷ path) bs row = by_told (conjuncts_are path (without_first (
     by_told rest None t =
         let left = without_first (equal_in p) bs in
         let more = leading_of path left in
-        let s = span_of (first_told (lower_in p) bs) (first_told (upper_in p) bs) in
+        let s = span_between (first_told (lower_in p) bs) (first_told (upper_in p) bs) in
         let led : leading_of (p ∷ path) bs ≡ record { equal = []; span = s } = ap (λ (o : Option Value). led_by o more s) t in
-        let kept : rest_of (p ∷ path) bs ≡ without_bounds p true true bs = ap (λ (o : Option Value). if is_some o then rest_of path left else without_bounds p true true bs) t in
+        let kept : conjuncts_left (p ∷ path) bs ≡ without_bounds p true true bs = ap (λ (o : Option Value). if is_some o then conjuncts_left path left else without_bounds p true true bs) t in
         let told = bounds_told p true true bs row in
         let spans = in_span (first_told (lower_in p) bs) (first_told (upper_in p) bs) (get_or row p.place Null) (values_on path row) in
-        subst (λ (l : Leading). all_true row bs ↔ (IsLed l (get_or row p.place Null ∷ values_on path row) × all_true row (rest_of (p ∷ path) bs))) (sym led)
+        subst (λ (l : Leading). all_true row bs ↔ (IsLed l (get_or row p.place Null ∷ values_on path row) × all_true row (conjuncts_left (p ∷ path) bs))) (sym led)
         (subst (λ (r : List Bound). all_true row bs ↔ (IsLed (record { equal = []; span = s }) (get_or row p.place Null ∷ values_on path row) × all_true row r)) (sym kept) (
           λ h. (let k = told.0 h in ((refl, spans.0 k.0), k.1)),
           λ h. told.1 (spans.1 h.0.1, h.1),

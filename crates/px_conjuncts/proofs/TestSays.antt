@@ -8,8 +8,8 @@ use Rattle.px_values.specs.declared.row.Value as values
 use Rattle.px_values.specs.declared.row.Value.TheVariants.{Null, Number, Truth, Text}
 use Rattle.px_ast.specs.declared.condition.Comparison.{Comparison}
 use Rattle.px_ast.specs.declared.condition.Comparison.TheVariants as c
-use Rattle.px_expr.specs.Holds.{meets, compared, null_test, test_of}
-use Rattle.px_expr.specs.Truth.{told, ◌and◌}
+use Rattle.px_expr.specs.Holds.{meets, compared_values, null_test, test_of}
+use Rattle.px_expr.specs.Truth.{known_truth, ◌and◌}
 use Rattle.px_expr.specs.declared.bound.Truth.TheVariants as truths
 use Rattle.px_expr.specs.declared.bound.Term.TheVariants.{Column, Value as Given}
 use Rattle.px_expr.specs.declared.bound.Test.{Test}
@@ -21,23 +21,23 @@ use Rattle.px_paths.specs.declared.path.PathColumn.{PathColumn}
 use Rattle.px_conjuncts.specs.Conjuncts.{unless_null, at_column, edge, edge_beside, equal_in, lower_in, upper_in}
 
 -- a comparison of two values is told, where neither is NULL
-compared_is : (how : Comparison) (x w : values.Value) → x ≢ Null → w ≢ Null → compared how x w ≡ told (meets how (value_order x w))
+compared_is : (how : Comparison) (x w : values.Value) → x ≢ Null → w ≢ Null → compared_values how x w ≡ known_truth (meets how (value_order x w))
 compared_is how Null w n m = absurd (n refl)
 compared_is how x Null n m = absurd (m refl)
 compared_is how x w n m = refl
 
-compared_true : (how : Comparison) (x w : values.Value) → compared how x w ≡ truths.True → x ≢ Null
+compared_true : (how : Comparison) (x w : values.Value) → compared_values how x w ≡ truths.True → x ≢ Null
 compared_true how Null w e z = cc
 compared_true how (Number n) w e z = cc
 compared_true how (Truth n) w e z = cc
 compared_true how (Text n) w e z = cc
 
-told_true : (b : Bool) → (told b ≡ truths.True) ↔ (b ≡ true)
+told_true : (b : Bool) → (known_truth b ≡ truths.True) ↔ (b ≡ true)
 told_true true = (λ e. refl, λ e. refl)
 told_true false = (λ e. cc, λ e. cc)
 
 -- true of a value exactly where it isn't NULL and the order of the two meets the comparison
-pub compared_holds : (how : Comparison) (x w : values.Value) → w ≢ Null → (compared how x w ≡ truths.True) ↔ ((x ≢ Null) × (meets how (value_order x w) ≡ true))
+pub compared_holds : (how : Comparison) (x w : values.Value) → w ≢ Null → (compared_values how x w ≡ truths.True) ↔ ((x ≢ Null) × (meets how (value_order x w) ≡ true))
 compared_holds how x w m = (
   λ e. (let n = compared_true how x w e in (n, (told_true (meets how (value_order x w))).0 (sym (compared_is how x w n m) ∙ e))),
   λ h. compared_is how x w h.0 m ∙ (told_true (meets how (value_order x w))).1 h.1,
@@ -73,12 +73,12 @@ meets_under false Greater = (λ e. cc, λ h. elim h [ inl e ↦ cc | inr e ↦ l
 meets_under false Equal = (λ e. cc, λ h. elim h [ inl e ↦ cc | inr e ↦ let f = e.0 in cc ])
 meets_under false Less = (λ e. inl refl, λ h. refl)
 
-over_holds : (i : Bool) (x w : values.Value) → w ≢ Null → (compared (over_word i) x w ≡ truths.True) ↔ ((x ≢ Null) × Inside Greater i (value_order x w))
+over_holds : (i : Bool) (x w : values.Value) → w ≢ Null → (compared_values (over_word i) x w ≡ truths.True) ↔ ((x ≢ Null) × Inside Greater i (value_order x w))
 over_holds i x w m =
     let h = compared_holds (over_word i) x w m in
     let g = meets_over i (value_order x w) in (λ e. (let k = h.0 e in (k.0, g.0 k.1)), λ k. h.1 (k.0, g.1 k.1))
 
-under_holds : (i : Bool) (x w : values.Value) → w ≢ Null → (compared (under_word i) x w ≡ truths.True) ↔ ((x ≢ Null) × Inside Less i (value_order x w))
+under_holds : (i : Bool) (x w : values.Value) → w ≢ Null → (compared_values (under_word i) x w ≡ truths.True) ↔ ((x ≢ Null) × Inside Less i (value_order x w))
 under_holds i x w m =
     let h = compared_holds (under_word i) x w m in
     let g = meets_under i (value_order x w) in (λ e. (let k = h.0 e in (k.0, g.0 k.1)), λ k. h.1 (k.0, g.1 k.1))
@@ -127,7 +127,7 @@ null_holds (Number n) = (λ e. cc, λ e. cc)
 null_holds (Truth n) = (λ e. cc, λ e. cc)
 null_holds (Text n) = (λ e. cc, λ e. cc)
 
-equal_holds : (x w : values.Value) → w ≢ Null → (compared c.Equal x w ≡ truths.True) ↔ (x ≡ w)
+equal_holds : (x w : values.Value) → w ≢ Null → (compared_values c.Equal x w ≡ truths.True) ↔ (x ≡ w)
 equal_holds x w m =
     let h = compared_holds c.Equal x w m in
     let g = meets_equal (value_order x w) in (
@@ -141,7 +141,7 @@ equal_says column (Compare c.Equal (Column place) (Given w)) row v e =
     let at = at_place column place (unless_null w) v e in
     let is = given_is w v at.1 in
     let h = equal_holds (get_or row place Null) v is.1 in
-    let m : compared c.Equal (get_or row place Null) w ≡ compared c.Equal (get_or row place Null) v = ap (λ (z : values.Value). compared c.Equal (get_or row place Null) z) is.0 in
+    let m : compared_values c.Equal (get_or row place Null) w ≡ compared_values c.Equal (get_or row place Null) v = ap (λ (z : values.Value). compared_values c.Equal (get_or row place Null) z) is.0 in
     let p : get_or row place Null ≡ get_or row column.place Null = ap (λ (k : ℕ). get_or row k Null) at.0 in
     (λ f. sym p ∙ h.0 (sym m ∙ f), λ f. m ∙ h.1 (p ∙ f))
 equal_says column (IsNull (Column place) false) row v e =
@@ -171,23 +171,23 @@ abbrev pub Says : Option Edge → Option Edge → values.Value → Type 0 → Ty
 Says None None x S = Unit {0}
 Says l u x S = S ↔ (Over l x × Under u x)
 
-over_says : (i : Bool) (column : PathColumn) (place : ℕ) (v : values.Value) (row : List values.Value) (e : Edge) → at_column column place (edge column i v) ≡ Some e → (compared (over_word i) (get_or row place Null) v ≡ truths.True) ↔ Over (Some e) (get_or row column.place Null)
+over_says : (i : Bool) (column : PathColumn) (place : ℕ) (v : values.Value) (row : List values.Value) (e : Edge) → at_column column place (edge column i v) ≡ Some e → (compared_values (over_word i) (get_or row place Null) v ≡ truths.True) ↔ Over (Some e) (get_or row column.place Null)
 over_says i column place v row e h =
     let at = at_place column place (edge column i v) e h in
     let is = edge_is column i v e at.1 in
     let holds = over_holds i (get_or row place Null) v is.0 in
-    let found : (compared (over_word i) (get_or row place Null) v ≡ truths.True) ↔ Over (Some (record { value = v; included = i })) (get_or row place Null) = holds in
-    subst (λ (k : ℕ). (compared (over_word i) (get_or row place Null) v ≡ truths.True) ↔ Over (Some e) (get_or row k Null)) at.0
-    (subst (λ (d : Edge). (compared (over_word i) (get_or row place Null) v ≡ truths.True) ↔ Over (Some d) (get_or row place Null)) (sym is.1) found)
+    let found : (compared_values (over_word i) (get_or row place Null) v ≡ truths.True) ↔ Over (Some (record { value = v; included = i })) (get_or row place Null) = holds in
+    subst (λ (k : ℕ). (compared_values (over_word i) (get_or row place Null) v ≡ truths.True) ↔ Over (Some e) (get_or row k Null)) at.0
+    (subst (λ (d : Edge). (compared_values (over_word i) (get_or row place Null) v ≡ truths.True) ↔ Over (Some d) (get_or row place Null)) (sym is.1) found)
 
-under_says : (i : Bool) (column : PathColumn) (place : ℕ) (v : values.Value) (row : List values.Value) (e : Edge) → at_column column place (edge column i v) ≡ Some e → (compared (under_word i) (get_or row place Null) v ≡ truths.True) ↔ Under (Some e) (get_or row column.place Null)
+under_says : (i : Bool) (column : PathColumn) (place : ℕ) (v : values.Value) (row : List values.Value) (e : Edge) → at_column column place (edge column i v) ≡ Some e → (compared_values (under_word i) (get_or row place Null) v ≡ truths.True) ↔ Under (Some e) (get_or row column.place Null)
 under_says i column place v row e h =
     let at = at_place column place (edge column i v) e h in
     let is = edge_is column i v e at.1 in
     let holds = under_holds i (get_or row place Null) v is.0 in
-    let found : (compared (under_word i) (get_or row place Null) v ≡ truths.True) ↔ Under (Some (record { value = v; included = i })) (get_or row place Null) = holds in
-    subst (λ (k : ℕ). (compared (under_word i) (get_or row place Null) v ≡ truths.True) ↔ Under (Some e) (get_or row k Null)) at.0
-    (subst (λ (d : Edge). (compared (under_word i) (get_or row place Null) v ≡ truths.True) ↔ Under (Some d) (get_or row place Null)) (sym is.1) found)
+    let found : (compared_values (under_word i) (get_or row place Null) v ≡ truths.True) ↔ Under (Some (record { value = v; included = i })) (get_or row place Null) = holds in
+    subst (λ (k : ℕ). (compared_values (under_word i) (get_or row place Null) v ≡ truths.True) ↔ Under (Some e) (get_or row k Null)) at.0
+    (subst (λ (d : Edge). (compared_values (under_word i) (get_or row place Null) v ≡ truths.True) ↔ Under (Some d) (get_or row place Null)) (sym is.1) found)
 
 pub both_true : (a b : _) → (a and b ≡ truths.True) ↔ ((a ≡ truths.True) × (b ≡ truths.True))
 both_true truths.False b = (λ e. cc, λ h. let f = h.0 in cc)
@@ -253,7 +253,7 @@ bound_says column (Compare c.LessEqual (Column place) (Given v)) row =
 bound_says column (Between (Column place) false (Given a) (Given b)) row =
     let x = get_or row place Null in
     two_sided (at_column column place (edge_beside column b a)) (at_column column place (edge_beside column a b)) (get_or row column.place Null) _ _ _
-    (both_true (compared c.GreaterEqual x a) (compared c.LessEqual x b))
+    (both_true (compared_values c.GreaterEqual x a) (compared_values c.LessEqual x b))
     (λ e h. over_says true column place a row e (from_beside column place a b e h))
     (λ d h. under_says true column place b row d (from_beside column place b a d h))
     (paired column place a b)

@@ -34,9 +34,9 @@ without_first f (b ∷ bs) = if is_some (told_by f b) then bs else b ∷ without
 -- ---- what they say of a path
 
 -- the bounds of a column, where it has one
-abbrev pub span_of : Option Edge → Option Edge → Option Span
-span_of None None = None
-span_of lower upper = Some (record { lower = lower; upper = upper })
+abbrev pub span_between : Option Edge → Option Edge → Option Span
+span_between None None = None
+span_between lower upper = Some (record { lower = lower; upper = upper })
 
 -- a value goes before what is told of the columns behind it; where there is none, the bounds end it
 abbrev pub led_by : Option Value → Leading → Option Span → Leading
@@ -47,7 +47,7 @@ led_by None more span = record { equal = []; span = span }
 abbrev pub leading_of : List PathColumn → List Bound → Leading
 leading_of [] bs = record { equal = []; span = None }
 leading_of (p ∷ path) bs =
-    led_by (first_told (equal_in p) bs) (leading_of path (without_first (equal_in p) bs)) (span_of (first_told (lower_in p) bs) (first_told (upper_in p) bs))
+    led_by (first_told (equal_in p) bs) (leading_of path (without_first (equal_in p) bs)) (span_between (first_told (lower_in p) bs) (first_told (upper_in p) bs))
 
 -- ---- the conjuncts that this doesn't tell
 
@@ -66,10 +66,10 @@ without_bounds p low high (b ∷ bs) =
     let others = without_bounds p (low && not (is_some l)) (high && not (is_some u)) bs in
     if is_told low high l u then others else b ∷ others
 
-abbrev pub rest_of : List PathColumn → List Bound → List Bound
-rest_of [] bs = bs
-rest_of (p ∷ path) bs =
-    if is_some (first_told (equal_in p) bs) then rest_of path (without_first (equal_in p) bs) else without_bounds p true true bs
+abbrev pub conjuncts_left : List PathColumn → List Bound → List Bound
+conjuncts_left [] bs = bs
+conjuncts_left (p ∷ path) bs =
+    if is_some (first_told (equal_in p) bs) then conjuncts_left path (without_first (equal_in p) bs) else without_bounds p true true bs
 
 -- ---- as the code has it
 
@@ -81,7 +81,7 @@ abbrev pub edge_of : Side → Edge
 edge_of s = record { value = s.value.now; included = s.included }
 
 abbrev pub span_in : Bounds → Option Span
-span_in b = span_of (option_map edge_of b.lower) (option_map edge_of b.upper)
+span_in b = span_between (option_map edge_of b.lower) (option_map edge_of b.upper)
 
 abbrev pub leading_told : Told → Leading
 leading_told t = record { equal = map equal_value t.equal.items; span = span_in t.bounds }

@@ -2,7 +2,7 @@
 ghost use Rattle.std.specs.Prelude.{◌≡◌, true, false, not, IfOk, length, map, replicate};
 ghost use Rattle.std.specs.Option.{is_some, option_map};
 ghost use Rattle.px_conjuncts.specs.Conjuncts.{equal_in as equal_of, lower_in as lower_of, upper_in as upper_of};
-ghost use Rattle.px_conjuncts.specs.Paths.{edge_of, equal_value, first_told, is_told as is_told_by, leading_of, leading_told, or_first, rest_of, span_in, span_of, unmarked, without_bounds, without_first};
+ghost use Rattle.px_conjuncts.specs.Paths.{conjuncts_left, edge_of, equal_value, first_told, is_told as is_told_by, leading_of, leading_told, or_first, span_between, span_in, unmarked, without_bounds, without_first};
 
 use crate::tests_of::{equal_in, lower_in, upper_in};
 use crate::{Bounds, EqualTo, Side, Told};
@@ -19,7 +19,7 @@ pub fn told<'a>(
     conjuncts: &'a [Bound],
 ) -> Result<Told<'a>, AllocError>
     ensures leading { IfOk result (λ t. leading_told t ≡ leading_of path.now conjuncts.now) }
-    ensures rest { IfOk result (λ t. unmarked conjuncts.now t.marks.items ≡ rest_of path.now conjuncts.now) }
+    ensures rest { IfOk result (λ t. unmarked conjuncts.now t.marks.items ≡ conjuncts_left path.now conjuncts.now) }
     ensures marks { IfOk result (λ t. length t.marks.items ≡ length conjuncts.now) }
 {
     let mut marks = no_marks(alloc, conjuncts.len())?;
@@ -103,7 +103,7 @@ fn first_side<'a>(found: Option<Side<'a>>, later: Option<Side<'a>>) -> Option<Si
 /// mark.
 fn first_bounds<'a>(column: PathColumn, conjuncts: &'a [Bound], marks: &mut [bool]) -> Bounds<'a>
     requires { length marks.old ≡ length conjuncts.now }
-    ensures bounds { span_in result ≡ span_of (first_told (lower_of column) (unmarked conjuncts.now marks.old)) (first_told (upper_of column) (unmarked conjuncts.now marks.old)) }
+    ensures bounds { span_in result ≡ span_between (first_told (lower_of column) (unmarked conjuncts.now marks.old)) (first_told (upper_of column) (unmarked conjuncts.now marks.old)) }
     ensures left { unmarked conjuncts.now marks.new ≡ without_bounds column true true (unmarked conjuncts.now marks.old) }
 {
     let mut lower = None;

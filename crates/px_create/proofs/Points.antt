@@ -5,7 +5,7 @@ use Rattle.std.specs.List.{AllByRecursion}
 use Rattle.px_ast.specs.declared.literal.Literal.{Literal}
 use Rattle.px_keys.specs.declared.parts.KeyColumn.{KeyColumn}
 use Rattle.px_values.specs.declared.row.Value.{Value}
-use Rattle.px_resolve.specs.Literals.{literal_faults, value_of}
+use Rattle.px_resolve.specs.Literals.{literal_faults, value_of_literal}
 use Rattle.px_create.specs.Tables.{point_faults, points_faults}
 use Rattle.px_resolve.proofs.Walks.{no_front, no_rest}
 
@@ -13,7 +13,7 @@ typed : (column : KeyColumn) (before : Option Value) (ls : List Literal) → poi
 typed column before [] none = tt
 typed column before (l ∷ ls) none = (
   no_front (literal_faults column.ty l) _ (no_front (point_faults column before l) _ none),
-  typed column (Some (value_of l.constant)) ls (no_rest (point_faults column before l) _ none),
+  typed column (Some (value_of_literal l.constant)) ls (no_rest (point_faults column before l) _ none),
 )
 
 pub points_typed : (column : KeyColumn) (before : Option Value) (ls : List Literal) → points_faults column before ls ≡ [] → All (λ l. literal_faults column.ty l ≡ []) ls

@@ -6,9 +6,9 @@ use Rattle.px_values.specs.declared.limit.Limit.TheVariants.{Name}
 use Rattle.px_resolve.specs.declared.fault.BindFault.{BindFault}
 use Rattle.px_resolve.specs.declared.fault.BindFault.TheVariants.{Passed}
 
-abbrev pub passed : Limit → ℕ → List BindFault
-passed limit n = if nat_lt (most_of limit) n then Passed limit ∷ [] else []
+abbrev pub limit_passed : Limit → ℕ → List BindFault
+limit_passed limit n = if nat_lt (most_of limit) n then Passed limit ∷ [] else []
 
 -- a name that is too long
 abbrev pub name_limit : List ℕ → List BindFault
-name_limit name = passed Name (length name)
+name_limit name = limit_passed Name (length name)

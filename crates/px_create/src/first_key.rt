@@ -3,7 +3,7 @@ ghost use Rattle.std.specs.Prelude.{◌≡◌, ◌≤◌, ◌++◌, IfOk, OnOk, 
 ghost use Rattle.std.specs.List.{flat_map};
 ghost use Rattle.std.specs.Option.{option_map};
 ghost use Rattle.px_resolve.specs.Names.{key_place};
-ghost use Rattle.px_create.specs.Tables.{constraint_key, first_key as first_key_of, inline_key, key_of, new_names};
+ghost use Rattle.px_create.specs.Tables.{constraint_key, first_key_column, inline_key_places, key_of, new_names};
 
 use px_ast::{Column, CreateTable, KeyConstraint, KeyPart};
 use px_keys::KeyColumn;
@@ -21,7 +21,7 @@ pub(crate) struct FirstKey {
 
 /// The place of the first column with a primary key, and its direction.
 fn first_inline(columns: &[Column]) -> Option<(usize, Direction)>
-    ensures { option_map (λ p. record { column = p.0; direction = p.1 }) result ≡ slice_get (flat_map (inline_key (new_names columns.now)) columns.now) 0 }
+    ensures { option_map (λ p. record { column = p.0; direction = p.1 }) result ≡ slice_get (flat_map (inline_key_places (new_names columns.now)) columns.now) 0 }
 {
     for column in columns {
         if let Some(direction) = column.key {
@@ -67,7 +67,7 @@ pub(crate) fn has_key(statement: &CreateTable) -> bool
 
 /// The first key column of a new table.
 pub(crate) fn first_key(statement: &CreateTable) -> Option<FirstKey>
-    ensures { result ≡ first_key_of statement.now }
+    ensures { result ≡ first_key_column statement.now }
 {
     let Some((place, direction)) = first_part(statement) else {
         return None;
@@ -87,7 +87,7 @@ pub(crate) fn first_key(statement: &CreateTable) -> Option<FirstKey>
 
 fn add_inline(key: &mut Vec<KeyPlace>, columns: &[Column]) -> Result<(), AllocError>
     requires { length columns.now ≤ 255 }
-    ensures { OnOk result (key.new.items ≡ key.old.items ++ flat_map (inline_key (new_names columns.now)) columns.now) }
+    ensures { OnOk result (key.new.items ≡ key.old.items ++ flat_map (inline_key_places (new_names columns.now)) columns.now) }
 {
     for column in columns {
         if let Some(direction) = column.key {

@@ -1,8 +1,8 @@
 // CREATE INDEX, DROP INDEX and ALTER INDEX.
 ghost use Rattle.std.specs.Prelude.{◌≡◌, ◌≤◌, ◌++◌, [], IfOk, OnOk, length, map};
-ghost use Rattle.px_resolve.specs.Answers.{Finds};
-ghost use Rattle.px_create.specs.Indexes.{index_faults, index_of, missing, new_index};
-ghost use Rattle.px_resolve.specs.Names.{key_place, names_of, once, part_names, place_of};
+ghost use Rattle.px_resolve.specs.Answers.{AnswersFirst};
+ghost use Rattle.px_create.specs.Indexes.{index_faults, index_id_named, missing_index, new_index};
+ghost use Rattle.px_resolve.specs.Names.{key_place, names_of, once, part_names, place_of_name};
 
 use crate::limits::check_name_limit;
 use px_ast::CreateIndex;
@@ -20,8 +20,8 @@ fn held(
     key: &[KeyPlace],
     statement: &CreateIndex,
 ) -> Result<Vec<usize>, BindFault>
-    ensures faults { Finds (once (names_of columns.now) [] (part_names statement.now.parts)) result }
-    ensures places { IfOk result (λ places. places.items ≡ map (place_of (names_of columns.now)) (part_names statement.now.parts) ++ map (λ p. p.column) key.now) }
+    ensures faults { AnswersFirst (once (names_of columns.now) [] (part_names statement.now.parts)) result }
+    ensures places { IfOk result (λ places. places.items ≡ map (place_of_name (names_of columns.now)) (part_names statement.now.parts) ++ map (λ p. p.column) key.now) }
 {
     let mut places = bind_once(alloc, columns, &[], statement.parts.as_slice())?;
     match add_key(&mut places, key) {
@@ -44,7 +44,7 @@ fn add_key(places: &mut Vec<usize>, key: &[KeyPlace]) -> Result<(), AllocError>
 
 /// Refuses names that are wrong in a CREATE INDEX.
 fn check_index(alloc: Global, table: &Table, statement: &CreateIndex) -> Result<(), BindFault>
-    ensures { Finds (index_faults table.now statement.now) result }
+    ensures { AnswersFirst (index_faults table.now statement.now) result }
 {
     let columns = table.columns.as_slice();
     let before = held(alloc, columns, table.key.as_slice(), statement)?;
@@ -64,7 +64,7 @@ pub fn bind_index(
     statement: &CreateIndex,
 ) -> Result<NewIndex, BindFault>
     requires { length table.now.columns ≤ 255 }
-    ensures faults { Finds (index_faults table.now statement.now) result }
+    ensures faults { AnswersFirst (index_faults table.now statement.now) result }
     ensures index { IfOk result (λ i. i ≡ new_index table.now statement.now) }
 {
     check_index(alloc, table, statement)?;
@@ -99,7 +99,7 @@ fn make_parts(
     statement: &CreateIndex,
 ) -> Result<(Items<KeyPlace>, Items<u8>), AllocError>
     requires { length columns.now ≤ 255 }
-    ensures { IfOk result (λ made. (made.0 ≡ map (key_place (names_of columns.now)) statement.now.parts) × (made.1 ≡ map (place_of (names_of columns.now)) statement.now.include)) }
+    ensures { IfOk result (λ made. (made.0 ≡ map (key_place (names_of columns.now)) statement.now.parts) × (made.1 ≡ map (place_of_name (names_of columns.now)) statement.now.include)) }
 {
     let parts = key_places(alloc, columns, statement.parts.as_slice())?;
     match column_places(alloc, columns, statement.include.as_slice()) {
@@ -113,7 +113,7 @@ fn make_parts(
 
 /// The number of the index of this name.
 fn find_index(indexes: &[Index], name: &Name) -> Option<IndexId>
-    ensures { result ≡ index_of indexes.now name.now }
+    ensures { result ≡ index_id_named indexes.now name.now }
 {
     for index in indexes {
         if index.name.as_str() == name.as_str() {
@@ -130,8 +130,8 @@ pub fn bind_index_name(
     if_exists: bool,
     name: &Name,
 ) -> Result<Option<IndexId>, BindFault>
-    ensures faults { Finds (missing indexes.now if_exists name.now) result }
-    ensures index { IfOk result (λ found. found ≡ index_of indexes.now name.now) }
+    ensures faults { AnswersFirst (missing_index indexes.now if_exists name.now) result }
+    ensures index { IfOk result (λ found. found ≡ index_id_named indexes.now name.now) }
 {
     let found = find_index(indexes, name);
     if found.is_none() && !if_exists {

@@ -1,13 +1,13 @@
 // Limits that a definition passes.
-ghost use Rattle.px_resolve.specs.Answers.{Finds};
-ghost use Rattle.px_create.specs.Limits.{name_limit, passed};
+ghost use Rattle.px_resolve.specs.Answers.{AnswersFirst};
+ghost use Rattle.px_create.specs.Limits.{limit_passed, name_limit};
 
 use px_resolve::fault::BindFault;
 use px_values::{Limit, Name};
 
 /// Refuses a count that passes a limit.
 pub(crate) fn check_limit(limit: Limit, count: u64) -> Result<(), BindFault>
-    ensures { Finds (passed limit count) result }
+    ensures { AnswersFirst (limit_passed limit count) result }
 {
     if count > limit.most() {
         return Err(BindFault::Passed(limit));
@@ -17,7 +17,7 @@ pub(crate) fn check_limit(limit: Limit, count: u64) -> Result<(), BindFault>
 
 /// Refuses a name that is too long.
 pub(crate) fn check_name_limit(name: &Name) -> Result<(), BindFault>
-    ensures { Finds (name_limit name.now) result }
+    ensures { AnswersFirst (name_limit name.now) result }
 {
     check_limit(Limit::Name, name.as_str().len() as u64)
 }

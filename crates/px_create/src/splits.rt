@@ -2,8 +2,8 @@
 ghost use Rattle.std.specs.Prelude.{◌≡◌, ◌++◌, ◌∷◌, [], All, IfOk, OnOk, map};
 ghost use Rattle.std.specs.List.{flat_map};
 ghost use Rattle.std.specs.Option.{option_copied};
-ghost use Rattle.px_resolve.specs.Answers.{Finds};
-ghost use Rattle.px_resolve.specs.Literals.{HasText, is_bad_text, literal_faults, range_if, value_of};
+ghost use Rattle.px_resolve.specs.Answers.{AnswersFirst};
+ghost use Rattle.px_resolve.specs.Literals.{HasText, is_bad_text, literal_faults, range_if, value_of_literal};
 ghost use Rattle.px_keys.specs.Spelling.{FitsColumn, part_bytes};
 ghost use Rattle.px_values.specs.Types.{HasType};
 ghost use Rattle.px_create.specs.Tables.{is_long, is_not_above, null_split, null_splits, point_faults, points_faults, split_keys, splits_faults};
@@ -45,8 +45,8 @@ fn check_point(
     literal: &Literal,
     value: &Value,
 ) -> Result<(), BindFault>
-    requires { value.now ≡ value_of literal.now.constant }
-    ensures { Finds (point_faults column (option_copied before.entry) literal.now) result }
+    requires { value.now ≡ value_of_literal literal.now.constant }
+    ensures { AnswersFirst (point_faults column (option_copied before.entry) literal.now) result }
 {
     if let Err(fault) = check_value(column.ty, literal) {
         return Err(fault);
@@ -57,8 +57,8 @@ fn check_point(
 
 /// Refuses the first of these points that is wrong. `values` are what the literals are.
 fn check_points(column: KeyColumn, literals: &[Literal], values: &[Value]) -> Result<(), BindFault>
-    requires { values.now ≡ map (λ l. value_of l.constant) literals.now }
-    ensures { Finds (points_faults column None literals.now) result }
+    requires { values.now ≡ map (λ l. value_of_literal l.constant) literals.now }
+    ensures { AnswersFirst (points_faults column None literals.now) result }
 {
     let mut before = None;
     for (index, literal) in literals.iter().enumerate() {
@@ -73,7 +73,7 @@ fn check_points(column: KeyColumn, literals: &[Literal], values: &[Value]) -> Re
 
 /// Refuses the first literal that no column can have.
 fn check_texts(literals: &[Literal]) -> Result<(), BindFault>
-    ensures { Finds (flat_map (λ l. range_if (is_bad_text (value_of l.constant)) l.place) literals.now) result }
+    ensures { AnswersFirst (flat_map (λ l. range_if (is_bad_text (value_of_literal l.constant)) l.place) literals.now) result }
 {
     for literal in literals {
         check_text(literal)?;
@@ -87,7 +87,7 @@ pub(crate) fn check_splits(
     first: Option<FirstKey>,
     literals: &[Literal],
 ) -> Result<(), BindFault>
-    ensures { Finds (splits_faults first literals.now) result }
+    ensures { AnswersFirst (splits_faults first literals.now) result }
 {
     let Some(first) = first else {
         return check_texts(literals);
@@ -105,7 +105,7 @@ fn check_null_split(
     first: FirstKey,
     literal: &Literal,
 ) -> Result<(), BindFault>
-    ensures { Finds (null_split columns.now first literal.now) result }
+    ensures { AnswersFirst (null_split columns.now first literal.now) result }
 {
     if !is_null_literal(literal) || first.column.may_be_null {
         return Ok(());
@@ -123,7 +123,7 @@ pub(crate) fn check_null_splits(
     first: Option<FirstKey>,
     literals: &[Literal],
 ) -> Result<(), BindFault>
-    ensures { Finds (null_splits columns.now first literals.now) result }
+    ensures { AnswersFirst (null_splits columns.now first literals.now) result }
 {
     let Some(first) = first else {
         return Ok(());
@@ -162,7 +162,7 @@ fn fitting(column: KeyColumn, value: &Value) -> KeyColumn
 /// A split point as a key part.
 fn split_key(alloc: Global, column: KeyColumn, literal: &Literal) -> Result<Key, AllocError>
     requires { literal_faults column.ty literal.now ≡ [] }
-    ensures { IfOk result (λ key. key ≡ part_bytes column (value_of literal.now.constant)) }
+    ensures { IfOk result (λ key. key ≡ part_bytes column (value_of_literal literal.now.constant)) }
 {
     let value = value(alloc, &literal.constant)?;
     has_text(&value);
@@ -186,7 +186,7 @@ fn add_split_keys(
     literals: &[Literal],
 ) -> Result<(), AllocError>
     requires { All (λ l. literal_faults column.ty l ≡ []) literals.now }
-    ensures { OnOk result (keys.new.items ≡ keys.old.items ++ map (λ l. part_bytes column (value_of l.constant)) literals.now) }
+    ensures { OnOk result (keys.new.items ≡ keys.old.items ++ map (λ l. part_bytes column (value_of_literal l.constant)) literals.now) }
 {
     for literal in literals {
         keys.push(split_key(alloc, column, literal)?)?;

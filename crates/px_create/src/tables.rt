@@ -1,9 +1,9 @@
 // CREATE TABLE.
 ghost use Rattle.std.specs.Prelude.{◌≡◌, ◌≤◌, ◌+◌, ◌++◌, ◌∷◌, [], false, IfOk, OnOk, length, map};
 ghost use Rattle.std.specs.List.{flat_map};
-ghost use Rattle.px_resolve.specs.Answers.{Finds};
-ghost use Rattle.px_create.specs.Limits.{name_limit, passed};
-ghost use Rattle.px_create.specs.Tables.{first_key as first_key_of, key_of, split_keys, splits_faults, constraint_faults, constraint_limit, is_keyed, keyless, limits_of_table, named_before, null_faults, new_column, new_names, new_table, repeated, table_faults, table_name_faults, twice_if};
+ghost use Rattle.px_resolve.specs.Answers.{AnswersFirst};
+ghost use Rattle.px_create.specs.Limits.{limit_passed, name_limit};
+ghost use Rattle.px_create.specs.Tables.{first_key_column, key_of, split_keys, splits_faults, constraint_faults, constraint_limit, is_keyed_inline, keyless, limits_of_table, named_before, null_faults, new_column, new_names, new_table, repeated, table_faults, table_name_faults, twice_if};
 
 use crate::first_key::{FirstKey, first_key, has_key, make_key};
 use crate::limits::{check_limit, check_name_limit};
@@ -16,7 +16,7 @@ use px_values::{Items, Key, Limit, Name};
 use std::alloc::{AllocError, Global};
 
 fn check_column(alloc: Global, column: &Column, twice: bool) -> Result<(), BindFault>
-    ensures { Finds (twice_if twice column.now.name) result }
+    ensures { AnswersFirst (twice_if twice column.now.name) result }
 {
     if twice {
         return Err(BindFault::Twice(copied(alloc, &column.name)?));
@@ -26,7 +26,7 @@ fn check_column(alloc: Global, column: &Column, twice: bool) -> Result<(), BindF
 
 /// Refuses the first column whose name an earlier one has, or with a primary key where one stands before.
 fn check_columns(alloc: Global, columns: &[Column]) -> Result<(), BindFault>
-    ensures { Finds (repeated (new_names columns.now) 0 false columns.now) result }
+    ensures { AnswersFirst (repeated (new_names columns.now) 0 false columns.now) result }
 {
     let mut keyed = false;
     for (place, column) in columns.iter().enumerate() {
@@ -38,7 +38,7 @@ fn check_columns(alloc: Global, columns: &[Column]) -> Result<(), BindFault>
 }
 
 fn has_inline_key(columns: &[Column]) -> bool
-    ensures { result ≡ is_keyed columns.now }
+    ensures { result ≡ is_keyed_inline columns.now }
 {
     columns.iter().any(|column| column.key.is_some())
 }
@@ -65,7 +65,7 @@ fn check_constraint(
     columns: &[Column],
     constraint: &Option<KeyConstraint>,
 ) -> Result<(), BindFault>
-    ensures { Finds (constraint_faults columns.now constraint.now) result }
+    ensures { AnswersFirst (constraint_faults columns.now constraint.now) result }
 {
     let Some(constraint) = constraint else {
         return Ok(());
@@ -82,7 +82,7 @@ fn check_constraint(
 
 /// Refuses a table without a primary key.
 fn check_keyed(alloc: Global, statement: &CreateTable) -> Result<(), BindFault>
-    ensures { Finds (keyless statement.now) result }
+    ensures { AnswersFirst (keyless statement.now) result }
 {
     if has_key(statement) {
         return Ok(());
@@ -94,7 +94,7 @@ fn check_keyed(alloc: Global, statement: &CreateTable) -> Result<(), BindFault>
 }
 
 fn check_column_names(columns: &[Column]) -> Result<(), BindFault>
-    ensures { Finds (flat_map (λ c. name_limit c.name) columns.now) result }
+    ensures { AnswersFirst (flat_map (λ c. name_limit c.name) columns.now) result }
 {
     for column in columns {
         check_name_limit(&column.name)?;
@@ -103,7 +103,7 @@ fn check_column_names(columns: &[Column]) -> Result<(), BindFault>
 }
 
 fn check_constraint_name(constraint: &Option<KeyConstraint>) -> Result<(), BindFault>
-    ensures { Finds (constraint_limit constraint.now) result }
+    ensures { AnswersFirst (constraint_limit constraint.now) result }
 {
     match constraint {
         Some(constraint) => check_name_limit(&constraint.name),
@@ -114,7 +114,7 @@ fn check_constraint_name(constraint: &Option<KeyConstraint>) -> Result<(), BindF
 /// Refuses counts that are too great.
 fn check_counts(statement: &CreateTable) -> Result<(), BindFault>
     ensures columns { OnOk result (length statement.now.columns ≤ 64) }
-    ensures faults { Finds (passed Limit.Columns (length statement.now.columns) ++ passed Limit.Regions (length statement.now.splits + 1)) result }
+    ensures faults { AnswersFirst (limit_passed Limit.Columns (length statement.now.columns) ++ limit_passed Limit.Regions (length statement.now.splits + 1)) result }
 {
     check_limit(Limit::Columns, statement.columns.as_slice().len() as u64)?;
     check_limit(Limit::Regions, statement.splits.as_slice().len() as u64 + 1)
@@ -122,7 +122,7 @@ fn check_counts(statement: &CreateTable) -> Result<(), BindFault>
 
 fn check_limits(statement: &CreateTable) -> Result<(), BindFault>
     ensures columns { OnOk result (length statement.now.columns ≤ 64) }
-    ensures faults { Finds (limits_of_table statement.now) result }
+    ensures faults { AnswersFirst (limits_of_table statement.now) result }
 {
     check_name_limit(&statement.name)?;
     check_column_names(statement.columns.as_slice())?;
@@ -131,7 +131,7 @@ fn check_limits(statement: &CreateTable) -> Result<(), BindFault>
 }
 
 fn check_names(alloc: Global, statement: &CreateTable) -> Result<(), BindFault>
-    ensures { Finds (table_name_faults statement.now) result }
+    ensures { AnswersFirst (table_name_faults statement.now) result }
 {
     let columns = statement.columns.as_slice();
     check_columns(alloc, columns)?;
@@ -144,8 +144,8 @@ fn check_nulls(
     statement: &CreateTable,
     first: Option<FirstKey>,
 ) -> Result<(), BindFault>
-    requires { first ≡ first_key_of statement.now }
-    ensures { Finds (null_faults statement.now) result }
+    requires { first ≡ first_key_column statement.now }
+    ensures { AnswersFirst (null_faults statement.now) result }
 {
     check_keyed(alloc, statement)?;
     check_null_splits(
@@ -159,8 +159,8 @@ fn check_nulls(
 /// Refuses a CREATE TABLE in which anything is wrong.
 fn check_table(alloc: Global, statement: &CreateTable) -> Result<(), BindFault>
     ensures columns { OnOk result (length statement.now.columns ≤ 64) }
-    ensures splits { OnOk result (splits_faults (first_key_of statement.now) statement.now.splits ≡ []) }
-    ensures faults { Finds (table_faults statement.now) result }
+    ensures splits { OnOk result (splits_faults (first_key_column statement.now) statement.now.splits ≡ []) }
+    ensures faults { AnswersFirst (table_faults statement.now) result }
 {
     check_names(alloc, statement)?;
     let first = first_key(statement);
@@ -219,8 +219,8 @@ fn make_keys(
     statement: &CreateTable,
 ) -> Result<(Items<KeyPlace>, Items<Key>), AllocError>
     requires columns { length statement.now.columns ≤ 255 }
-    requires splits { splits_faults (first_key_of statement.now) statement.now.splits ≡ [] }
-    ensures { IfOk result (λ keys. (keys.0 ≡ key_of statement.now) × (keys.1 ≡ [] ∷ split_keys (first_key_of statement.now) statement.now.splits)) }
+    requires splits { splits_faults (first_key_column statement.now) statement.now.splits ≡ [] }
+    ensures { IfOk result (λ keys. (keys.0 ≡ key_of statement.now) × (keys.1 ≡ [] ∷ split_keys (first_key_column statement.now) statement.now.splits)) }
 {
     let key = make_key(alloc, statement)?;
     match least_keys(alloc, first_key(statement), statement.splits.as_slice()) {
@@ -234,7 +234,7 @@ fn make_keys(
 
 fn make_table(alloc: Global, statement: &CreateTable) -> Result<NewTable, AllocError>
     requires columns { length statement.now.columns ≤ 255 }
-    requires splits { splits_faults (first_key_of statement.now) statement.now.splits ≡ [] }
+    requires splits { splits_faults (first_key_column statement.now) statement.now.splits ≡ [] }
     ensures { IfOk result (λ t. t ≡ new_table statement.now) }
 {
     let (name, columns) = make_head(alloc, statement)?;
@@ -255,7 +255,7 @@ fn make_table(alloc: Global, statement: &CreateTable) -> Result<NewTable, AllocE
 
 /// The table that a CREATE TABLE asks for.
 pub fn bind_table(alloc: Global, statement: &CreateTable) -> Result<NewTable, BindFault>
-    ensures faults { Finds (table_faults statement.now) result }
+    ensures faults { AnswersFirst (table_faults statement.now) result }
     ensures table { IfOk result (λ t. t ≡ new_table statement.now) }
 {
     check_table(alloc, statement)?;

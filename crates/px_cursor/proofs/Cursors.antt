@@ -22,7 +22,7 @@ use Rattle.px_file.specs.declared.region_file.RegionFile.{RegionFile}
 use Rattle.px_file.proofs.Kept.{kept_quiet}
 use Rattle.px_file.proofs.Ranges as file
 use Rattle.px_cursor.specs.Range.{EndsAt, cells_within, is_within}
-use Rattle.px_cursor.specs.Cursor.{Gives, IsAt, IsSameRange, shown, within}
+use Rattle.px_cursor.specs.Cursor.{CursorGives, IsAt, IsSameRange, cells_in_memory, within}
 use Rattle.px_cursor.specs.declared.cursor.Cursor.{Cursor}
 use Rattle.px_cursor.proofs.Ranges.{none_below, none_from, rows_are, rows_within}
 
@@ -82,7 +82,7 @@ tail_same e = cc
 module _ {D : Type 0} (d : Ghosts D) where
   -- a block was read
   pub at_loaded : (old new : Cursor) (disk disk' : D) (left block : List CellData) (at : IsAt d old disk left) → IsSameRange old new → new.next ≡ old.next + 1 → old.until ≤ old.at → old.next < old.limit → Stays d disk disk' → d.seen disk' ≡ d.seen disk
-      → old.limit ≤ length at.blocks → block ≡ get_or at.blocks old.next [] → IsAscending block → AreRows block old.low.now (option_copied old.high) (shown new) → IsAt d new disk' left
+      → old.limit ≤ length at.blocks → block ≡ get_or at.blocks old.next [] → IsAscending block → AreRows block old.low.now (option_copied old.high) (cells_in_memory new) → IsAt d new disk' left
   at_loaded old new disk disk' left block at range next none more stays same inside block_is sorted part = record {
     tells = at.tells;
     blocks = at.blocks;
@@ -93,14 +93,14 @@ module _ {D : Type 0} (d : Ghosts D) where
         at.left_is ∙ ap (λ (l : List CellData). l ++ within old (drop old.next at.blocks)) (shown_none old.block old.at old.until none)
         ∙ within_block old.low.now (option_copied old.high) at.blocks old.next (omega arith)
         ∙ ap (λ (l : List CellData). cells_within old.low.now (option_copied old.high) l ++ within old (drop (old.next + 1) at.blocks)) (sym block_is)
-        ∙ ap (λ (l : List CellData). l ++ within old (drop (old.next + 1) at.blocks)) (sym (rows_are old.low.now (option_copied old.high) block (shown new) sorted part))
-        ∙ ap (λ (n : ℕ). shown new ++ within old (drop n at.blocks)) (sym next)
-        ∙ ap (λ (l : Bor (List ℕ)). shown new ++ cells_within l.now (option_copied old.high) (cells_in (drop new.next at.blocks))) (sym range.low)
-        ∙ ap (λ (h : Option (Bor (List ℕ))). shown new ++ cells_within new.low.now (option_copied h) (cells_in (drop new.next at.blocks))) (sym range.high);
+        ∙ ap (λ (l : List CellData). l ++ within old (drop (old.next + 1) at.blocks)) (sym (rows_are old.low.now (option_copied old.high) block (cells_in_memory new) sorted part))
+        ∙ ap (λ (n : ℕ). cells_in_memory new ++ within old (drop n at.blocks)) (sym next)
+        ∙ ap (λ (l : Bor (List ℕ)). cells_in_memory new ++ cells_within l.now (option_copied old.high) (cells_in (drop new.next at.blocks))) (sym range.low)
+        ∙ ap (λ (h : Option (Bor (List ℕ))). cells_in_memory new ++ cells_within new.low.now (option_copied h) (cells_in (drop new.next at.blocks))) (sym range.high);
   }
 
   -- the first cell was passed
-  pub at_stepped : (old new : Cursor) (disk : D) (c : CellData) (left : List CellData) → Gives d old disk (c ∷ left) → old.at < old.until → new.file ≡ old.file → new.low ≡ old.low → new.high ≡ old.high → new.first ≡ old.first → new.next ≡ old.next → new.limit ≡ old.limit
+  pub at_stepped : (old new : Cursor) (disk : D) (c : CellData) (left : List CellData) → CursorGives d old disk (c ∷ left) → old.at < old.until → new.file ≡ old.file → new.low ≡ old.low → new.high ≡ old.high → new.first ≡ old.first → new.next ≡ old.next → new.limit ≡ old.limit
       → new.block ≡ old.block → new.at ≡ old.at + 1 → new.until ≡ old.until → IsAt d new disk left
   at_stepped old new disk c left gives lt file low high first next limit block at until = record {
     tells = gives.at.tells;
@@ -113,13 +113,13 @@ module _ {D : Type 0} (d : Ghosts D) where
         ∙ ap (λ (l : List CellData). take (old.until - (old.at + 1)) (drop (old.at + 1) l) ++ within old (drop old.next gives.at.blocks)) (sym block)
         ∙ ap (λ (n : ℕ). take (old.until - n) (drop n new.block) ++ within old (drop old.next gives.at.blocks)) (sym at)
         ∙ ap (λ (n : ℕ). take (n - new.at) (drop new.at new.block) ++ within old (drop old.next gives.at.blocks)) (sym until)
-        ∙ ap (λ (n : ℕ). shown new ++ within old (drop n gives.at.blocks)) (sym next)
-        ∙ ap (λ (l : Bor (List ℕ)). shown new ++ cells_within l.now (option_copied old.high) (cells_in (drop new.next gives.at.blocks))) (sym low)
-        ∙ ap (λ (h : Option (Bor (List ℕ))). shown new ++ cells_within new.low.now (option_copied h) (cells_in (drop new.next gives.at.blocks))) (sym high);
+        ∙ ap (λ (n : ℕ). cells_in_memory new ++ within old (drop n gives.at.blocks)) (sym next)
+        ∙ ap (λ (l : Bor (List ℕ)). cells_in_memory new ++ cells_within l.now (option_copied old.high) (cells_in (drop new.next gives.at.blocks))) (sym low)
+        ∙ ap (λ (h : Option (Bor (List ℕ))). cells_in_memory new ++ cells_within new.low.now (option_copied h) (cells_in (drop new.next gives.at.blocks))) (sym high);
   }
 
   -- where none is in memory, none is left
-  pub none_left : (cursor : Cursor) (disk : D) (left : List CellData) → Gives d cursor disk left → cursor.until ≤ cursor.at → left ≡ []
+  pub none_left : (cursor : Cursor) (disk : D) (left : List CellData) → CursorGives d cursor disk left → cursor.until ≤ cursor.at → left ≡ []
   none_left cursor disk left gives none =
       gives.at.left_is ∙ ap (λ (l : List CellData). l ++ within cursor (drop cursor.next gives.at.blocks)) (shown_none cursor.block cursor.at cursor.until none)
       ∙ elim gives.ready [
@@ -127,7 +127,7 @@ module _ {D : Type 0} (d : Ghosts D) where
         | inr end ↦ past_limit gives.at.blocks cursor.low.now (option_copied cursor.high) cursor.limit cursor.next gives.at.has.right.each gives.at.limit end
       ]
 
-  pub none_to_step : (cursor : Cursor) (disk : D) (c : CellData) (left : List CellData) → Gives d cursor disk (c ∷ left) → cursor.until ≤ cursor.at → ⊥
+  pub none_to_step : (cursor : Cursor) (disk : D) (c : CellData) (left : List CellData) → CursorGives d cursor disk (c ∷ left) → cursor.until ≤ cursor.at → ⊥
   none_to_step cursor disk c left gives none = (let e = none_left cursor disk (c ∷ left) gives none in cc)
 
   -- nothing was read yet
@@ -148,7 +148,7 @@ module _ {D : Type 0} (d : Ghosts D) where
   first_rows cursor blocks are = rows_within cursor.low.now (option_copied cursor.high) (cells_in blocks) are.written.listed.ascending
 
   -- calls that change nothing leave what it gives
-  pub gives_quiet : (cursor : Cursor) (old new : D) (left : List CellData) → Gives d cursor old left → Stays d old new → d.seen new ≡ d.seen old → Gives d cursor new left
+  pub gives_quiet : (cursor : Cursor) (old new : D) (left : List CellData) → CursorGives d cursor old left → Stays d old new → d.seen new ≡ d.seen old → CursorGives d cursor new left
   gives_quiet cursor old new left gives stays same = record {
     at = record {
       tells = gives.at.tells;
@@ -162,17 +162,17 @@ module _ {D : Type 0} (d : Ghosts D) where
   }
 
   -- what it gives begins with what it shows
-  pub begins_none : (cursor : Cursor) (disk : D) (left : List CellData) → Gives d cursor disk left → shown cursor ≡ [] → left ≡ []
+  pub begins_none : (cursor : Cursor) (disk : D) (left : List CellData) → CursorGives d cursor disk left → cells_in_memory cursor ≡ [] → left ≡ []
   begins_none cursor disk left gives none = elim (cases_lt cursor.at cursor.until) [
     | inl lt ↦ absurd (let e = shown_step cursor.block cursor.at cursor.until no_cell lt cursor.within in let z = sym none ∙ e in cc)
     | inr le ↦ none_left cursor disk left gives le
   ]
 
-  pub begins_some : (cursor : Cursor) (disk : D) (left : List CellData) (c : CellData) (rest : List CellData) → Gives d cursor disk left → shown cursor ≡ c ∷ rest → (more : List CellData) × (left ≡ c ∷ more)
+  pub begins_some : (cursor : Cursor) (disk : D) (left : List CellData) (c : CellData) (rest : List CellData) → CursorGives d cursor disk left → cells_in_memory cursor ≡ c ∷ rest → (more : List CellData) × (left ≡ c ∷ more)
   begins_some cursor disk left c rest gives some =
       (rest ++ within cursor (drop cursor.next gives.at.blocks), gives.at.left_is ∙ ap (λ (l : List CellData). l ++ within cursor (drop cursor.next gives.at.blocks)) some)
 
-  pub some_left : (cursor : Cursor) (disk : D) (left : List CellData) → Gives d cursor disk left → cursor.at < cursor.until → (c : CellData) × (more : List CellData) × (left ≡ c ∷ more)
+  pub some_left : (cursor : Cursor) (disk : D) (left : List CellData) → CursorGives d cursor disk left → cursor.at < cursor.until → (c : CellData) × (more : List CellData) × (left ≡ c ∷ more)
   some_left cursor disk left gives lt =
       let b = begins_some cursor disk left (get_or cursor.block cursor.at no_cell) (take (cursor.until - (cursor.at + 1)) (drop (cursor.at + 1) cursor.block)) gives (shown_step cursor.block cursor.at cursor.until no_cell lt cursor.within) in
       (get_or cursor.block cursor.at no_cell, b.0, b.1)

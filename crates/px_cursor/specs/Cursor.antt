@@ -10,8 +10,8 @@ use Rattle.px_cursor.specs.Range.{EndsAt, cells_within}
 use Rattle.px_cursor.specs.declared.cursor.Cursor.{Cursor}
 
 -- the cells in memory that weren't passed
-abbrev pub shown : Cursor → List CellData
-shown c = take (c.until - c.at) (drop c.at c.block)
+abbrev pub cells_in_memory : Cursor → List CellData
+cells_in_memory c = take (c.until - c.at) (drop c.at c.block)
 
 -- how many blocks of the file it has read
 abbrev pub blocks_read : Cursor → ℕ
@@ -33,10 +33,10 @@ pub record IsAt {D : Type 0} (d : Ghosts D) (cursor : Cursor) (disk : D) (left :
   pub has : HasBlocks d cursor.file.now disk blocks
   pub first : IsFirstBlock blocks cursor.low.now cursor.first
   pub limit : EndsAt blocks (option_copied cursor.high) cursor.limit
-  pub left_is : left ≡ shown cursor ++ within cursor (drop cursor.next blocks)
+  pub left_is : left ≡ cells_in_memory cursor ++ within cursor (drop cursor.next blocks)
 
 -- it gives these cells, of which the next is in memory
-pub record Gives {D : Type 0} (d : Ghosts D) (cursor : Cursor) (disk : D) (left : List CellData) : Type 0 where
+pub record CursorGives {D : Type 0} (d : Ghosts D) (cursor : Cursor) (disk : D) (left : List CellData) : Type 0 where
   pub at : IsAt d cursor disk left
   pub ready : (cursor.at < cursor.until) ⊎ (cursor.limit ≤ cursor.next)
 

@@ -35,7 +35,7 @@ pub struct Cursor<'a> {
 }
 
 impl<'a> Cursor<'a> {
-    ghost use Rattle.px_cursor.specs.Cursor.{Gives, IsAt, IsSameRange, blocks_in, blocks_read, shown};
+    ghost use Rattle.px_cursor.specs.Cursor.{CursorGives, IsAt, IsSameRange, blocks_in, blocks_read, cells_in_memory};
 
     /// Begins at the first cell of the range: with it in memory, where there is one.
     pub fn begin<D: Disk>(
@@ -46,7 +46,7 @@ impl<'a> Cursor<'a> {
         high: Option<&'a [u8]>,
     ) -> Result<Cursor<'a>, FileFault>
         ensures begun { (blocks : List (List CellData)) → IsTrue D.tells → HasBlocks ⟦<D as Disk>⟧ file.now disk.old blocks
-            → IfOk result (λ cursor. (left : List CellData) × AreRows (cells_in blocks) low.now (option_copied high.entry) left × Gives ⟦<D as Disk>⟧ cursor disk.new left) }
+            → IfOk result (λ cursor. (left : List CellData) × AreRows (cells_in blocks) low.now (option_copied high.entry) left × CursorGives ⟦<D as Disk>⟧ cursor disk.new left) }
         ensures sound { (blocks : List (List CellData)) (at place : ℕ) → IsTrue D.tells → HasBlocks ⟦<D as Disk>⟧ file.now disk.old blocks → result ≢ Err (FileFault.Damaged at place) }
         ensures file { (at place : ℕ) → result ≡ Err (FileFault.Damaged at place) → at ≡ file.now.file }
         ensures seen { D.seen disk.new ≡ D.seen disk.old }
@@ -79,7 +79,7 @@ impl<'a> Cursor<'a> {
 
     /// The next cell.
     pub fn head(&self) -> Option<&Cell>
-        ensures { IsHead result (shown self.now) }
+        ensures { IsHead result (cells_in_memory self.now) }
     {
         if self.at < self.until {
             Some(&self.block.as_slice()[self.at])
@@ -90,8 +90,8 @@ impl<'a> Cursor<'a> {
 
     /// Passes the next cell. Where it is the last of its block, the next block is read, if that may have cells of the range.
     pub fn step<D: Disk>(&mut self, alloc: Global, disk: &mut D) -> Result<(), FileFault>
-        ensures stepped { (c : CellData) (left : List CellData) → Gives ⟦<D as Disk>⟧ self.old disk.old (c ∷ left) → OnOk result (Gives ⟦<D as Disk>⟧ self.new disk.new left) }
-        ensures sound { (left : List CellData) (at place : ℕ) → Gives ⟦<D as Disk>⟧ self.old disk.old left → result ≢ Err (FileFault.Damaged at place) }
+        ensures stepped { (c : CellData) (left : List CellData) → CursorGives ⟦<D as Disk>⟧ self.old disk.old (c ∷ left) → OnOk result (CursorGives ⟦<D as Disk>⟧ self.new disk.new left) }
+        ensures sound { (left : List CellData) (at place : ℕ) → CursorGives ⟦<D as Disk>⟧ self.old disk.old left → result ≢ Err (FileFault.Damaged at place) }
         ensures file { (at place : ℕ) → result ≡ Err (FileFault.Damaged at place) → at ≡ self.old.file.now.file }
         ensures range { IsSameRange self.old self.new }
         ensures seen { D.seen disk.new ≡ D.seen disk.old }
@@ -108,7 +108,7 @@ impl<'a> Cursor<'a> {
 
     /// Where no cell is left in memory, reads the next block, until there is one or no block is left.
     fn fill<D: Disk>(&mut self, alloc: Global, disk: &mut D) -> Result<(), FileFault>
-        ensures filled { (left : List CellData) → IsAt ⟦<D as Disk>⟧ self.old disk.old left → OnOk result (Gives ⟦<D as Disk>⟧ self.new disk.new left) }
+        ensures filled { (left : List CellData) → IsAt ⟦<D as Disk>⟧ self.old disk.old left → OnOk result (CursorGives ⟦<D as Disk>⟧ self.new disk.new left) }
         ensures sound { (left : List CellData) (at place : ℕ) → IsAt ⟦<D as Disk>⟧ self.old disk.old left → result ≢ Err (FileFault.Damaged at place) }
         ensures file { (at place : ℕ) → result ≡ Err (FileFault.Damaged at place) → at ≡ self.old.file.now.file }
         ensures range { IsSameRange self.old self.new }

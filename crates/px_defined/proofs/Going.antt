@@ -10,7 +10,7 @@ use Rattle.px_trail.specs.Trail.{Base, horizon_of, last_of, open_points, points_
 use Rattle.px_trail.proofs.Growth.{batch_of-snoc, horizon-snoc, points-snoc}
 use Rattle.px_indexed.specs.Idle.{IsElsewhere}
 use Rattle.px_indexed.proofs.Idle.{act_idle}
-use Rattle.px_openbatches.specs.Pending.{HeldBatch, HeldKept, IsHeld}
+use Rattle.px_openbatches.specs.Pending.{HeldBatch, HeldKept, IsHeldBatch}
 use Rattle.px_openbatches.proofs.Helds.{all_more, held_on}
 use Rattle.px_phases.specs.Batch.{AreHeldAs, BatchData}
 use Rattle.px_group.specs.Group.{AreInPhase, AreStanding, IsTallied, batch_in, points_in}
@@ -40,13 +40,13 @@ module _ (b : Base) (es : List Entry) (e : Entry) (g g' : Group) (hs : List Held
   still : (u : ℕ) → batch_of t u (es ++ e ∷ []) ≡ batch_of t u es
   still u = batch_of-snoc t u es e ∙ (act_idle g.table.id e elsewhere).still.batches u (batch_of t u es)
 
-  held_still : (h : HeldBatch) → IsHeld es t h → IsHeld (es ++ e ∷ []) t h
+  held_still : (h : HeldBatch) → IsHeldBatch es t h → IsHeldBatch (es ++ e ∷ []) t h
   held_still h q = held_on es t h q e (λ u r p. record { batch = p.batch; is = sym (still u) ∙ p.is; what = p.what; left = p.left }) h.written (λ l. l) q.batch (still h.stamp ∙ q.is) q.changes q.written q.running
 
   held_now : HeldKept b (es ++ e ∷ []) t hs
   held_now = record {
     rising = k.held.rising;
-    each = all_more (IsHeld es t) (IsHeld (es ++ e ∷ []) t) held_still hs k.held.each;
+    each = all_more (IsHeldBatch es t) (IsHeldBatch (es ++ e ∷ []) t) held_still hs k.held.each;
     all = λ u y q n. k.held.all u y (sym (still u) ∙ q) n;
   }
 

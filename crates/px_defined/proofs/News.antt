@@ -10,7 +10,7 @@ use Rattle.px_tables.specs.declared.index.NewIndex.{NewIndex}
 use Rattle.px_tables.specs.declared.table.KeyPlace.{KeyPlace}
 use Rattle.px_tables.specs.declared.table.NewTable.{NewTable}
 use Rattle.px_tables.specs.declared.table.Table.{Table}
-use Rattle.px_trail.specs.Trail.{made_index, made_table, numbered}
+use Rattle.px_trail.specs.Trail.{made_index, made_table, numbered_regions}
 use Rattle.px_rows.specs.Keys.{IsRightTable, are_distinct, is_part}
 use Rattle.px_indexrow.specs.Form.{IsRightIndex}
 use Rattle.px_calls.specs.Requires.{AreOnce, IsNewIndex, IsNewTable}
@@ -58,5 +58,5 @@ new_index_right t n id s what h = record {
 
 -- a table that isn't split has one region
 pub one_region : (n : ℕ) (id : TableId) (what : NewTable) → what.least_keys ≡ [] ∷ [] → (made_table n id what).regions ≡ (record { number = n; least_key = [] }) ∷ []
-unfolding numbered
-one_region n id what e = ap (numbered n) e
+unfolding numbered_regions
+one_region n id what e = ap (numbered_regions n) e

@@ -10,7 +10,7 @@ use Rattle.px_trail.specs.Trail.{horizon_of}
 use Rattle.px_trail.proofs.Orders.{filter-has, has-change}
 use Rattle.px_history.specs.Rows.{fate_by, row_as, row_in}
 use Rattle.px_world.specs.Events.{Comes, Ready}
-use Rattle.px_world.specs.Shape.{has_key, key_in}
+use Rattle.px_world.specs.Shape.{has_key, is_key_there}
 use Rattle.px_world.specs.World.{Fate, Written, is_undecided, st}
 use Rattle.px_indexed.specs.Worlds.{history_at}
 use Rattle.px_groupworld.specs.Group.{GroupData, GroupKept, TableForm, no_part, shape_in, world_in}
@@ -56,7 +56,7 @@ module _ (f : TableForm) (es : List Entry) (v : GroupData) (k : GroupKept f es v
 module _ (f : TableForm) (es : List Entry) (v : GroupData) (k : GroupKept f es v) (i : ℕ) (l : i < length v.indexes) where
   no_key : (r : List Value) (key : List ℕ) → has_key (shape_in f v i r) key None ≡ false
   unfolding has_key
-  no_key r key = ap (λ (o : Option (List ℕ)). key_in (shape_in f v i r).same_key key o) ((k.indexes i l).form.nothing r)
+  no_key r key = ap (λ (o : Option (List ℕ)). is_key_there (shape_in f v i r).same_key key o) ((k.indexes i l).form.nothing r)
 
   -- at its birth all is written, and no row has a state that is still read
   pub comes_ready : horizon_of f.base f.id.0 es ≤ (get_or v.indexes i no_part).birth → IsDecided es f.id.0 (get_or v.indexes i no_part).birth → ((r : List Value) → state_of f.base es f.id.0 r (get_or v.indexes i no_part).birth ≡ None) → (r : List Value) → Comes (shape_in f v i r) (world_in f es v i r) Ready

@@ -19,7 +19,7 @@ use Rattle.px_indexrow.specs.Form.{index_form, owns}
 use Rattle.px_indexed.specs.Idle.{IsElsewhere}
 use Rattle.px_indexed.proofs.Idle.{act_idle}
 use Rattle.px_groupworld.specs.Group.{GroupData, IndexPart, no_part, shape_in, world_in}
-use Rattle.px_groupworld.specs.Steps.{Events, at_index, nothing, ready_data}
+use Rattle.px_groupworld.specs.Steps.{Events, at_index, no_events, ready_data}
 use Rattle.px_groupworld.proofs.Cells.{group_ready}
 use Rattle.px_openbatches.specs.Opens.{IsNoBirthOf}
 use Rattle.px_openbatches.specs.Pending.{HeldBatch}
@@ -66,7 +66,7 @@ module _ (b : Base) (es : List Entry) (e : Entry) (may : MayCome b es e) (g g' :
   elsewhere : IsElsewhere g.table.id e.act
   elsewhere = subst (λ (a : Act). IsElsewhere g.table.id a) (sym is) tt
 
-  pub active_told : TableSteps (form_of b index g) nothing es (ready_data place v) (es ++ e ∷ []) (ready_data place v) hs
+  pub active_told : TableSteps (form_of b index g) no_events es (ready_data place v) (es ++ e ∷ []) (ready_data place v) hs
   active_told = table_idle (form_of b index g) es (ready_data place v) hs active_steps.kept e may (act_idle g.table.id e elsewhere)
 
   active_at : (j : ℕ) (z : IndexRegion) → slice_get g'.indexes.items j ≡ Some z → IsPutOrStands g.indexes.items place j (active h.index) z

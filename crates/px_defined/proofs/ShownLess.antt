@@ -15,7 +15,7 @@ use Rattle.px_indexed.specs.Kept.{IndexKept}
 use Rattle.px_indexed.specs.Worlds.{Indexed}
 use Rattle.px_indexed.proofs.Idle.{act_idle}
 use Rattle.px_groupworld.specs.Group.{GroupData, GroupKept, IndexPart, OpenBatch, TableForm, as_index, no_part}
-use Rattle.px_groupworld.specs.Steps.{nothing}
+use Rattle.px_groupworld.specs.Steps.{no_events}
 use Rattle.px_openbatches.specs.Pending.{HeldBatch, HeldKept}
 use Rattle.px_tablesteps.specs.Kept.{TableKept, TableSteps, open_of}
 use Rattle.px_tablesteps.proofs.Steps.{table_idle}
@@ -71,7 +71,7 @@ module _ (b : Base) (es : List Entry) (e : Entry) (may : MayCome b es e) (g g' :
   none_held_now : hs ≡ []
   none_held_now = none_open b es g hs k none
 
-  told : TableSteps form nothing es v (es ++ e ∷ []) v hs
+  told : TableSteps form no_events es v (es ++ e ∷ []) v hs
   told = table_idle form es v hs shown.kept e may (act_idle g.table.id e elsewhere)
 
   less_kept : TableKept form (es ++ e ∷ []) (dropped_data n v) []

@@ -22,7 +22,7 @@ pub record IsSameBeside (g g' : Group) : Type 0 where
   pub horizon : g'.horizon ≡ g.horizon
 
 -- the same table
-pub record IsSame (g g' : Group) : Type 0 where
+pub record IsSameTable (g g' : Group) : Type 0 where
   pub beside : IsSameBeside g g'
   pub indexes : g'.indexes.items ≡ g.indexes.items
   pub last : g'.last ≡ g.last

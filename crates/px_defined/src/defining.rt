@@ -1,6 +1,6 @@
 // What a definition does to a table.
 ghost use Rattle.std.specs.Prelude.{◌≡◌, ◌<◌, ◌∷◌, [], ℕ, length, slice_get, vec_len, vec_capacity, IfSome, IfNone, Some, OnOk};
-ghost use Rattle.px_defined.specs.Defined.{HasActive, HasIndexAnew, HasIndexLess, HasIndexMore, IsNewGroup, IsSame, has_to_write, is_to_write as before_writes};
+ghost use Rattle.px_defined.specs.Defined.{HasActive, HasIndexAnew, HasIndexLess, HasIndexMore, IsNewGroup, IsSameTable, has_to_write, is_to_write as before_writes};
 ghost use Rattle.px_tables.specs.declared.table.TableRegion.{TableRegion};
 ghost use Rattle.px_group.specs.declared.group.IndexRegion.{IndexRegion as IndexRegions};
 
@@ -30,7 +30,7 @@ pub fn new_group(alloc: Global, table: Table) -> Group
 /// Takes room for one index more.
 pub fn reserve_index(group: &mut Group) -> Result<(), AllocError>
     ensures room { OnOk result (vec_len group.new.indexes < vec_capacity group.new.indexes) }
-    ensures same { IsSame group.old group.new }
+    ensures same { IsSameTable group.old group.new }
 {
     group.indexes.reserve(1)
 }

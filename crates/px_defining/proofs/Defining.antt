@@ -10,7 +10,7 @@ use Rattle.px_calls.specs.declared.definition.Definition.TheVariants as d
 use Rattle.px_calls.specs.declared.definition.Made.{Made}
 use Rattle.px_calls.specs.declared.fault.StepFault.{StepFault}
 use Rattle.px_calls.specs.declared.fault.StepFault.TheVariants as step
-use Rattle.px_calls.specs.Known.{Known, Passes, Sees, Adds, Ran, HasMade, outline}
+use Rattle.px_calls.specs.Known.{Known, TimePasses, Sees, Adds, Ran, HasMade, outline}
 use Rattle.px_calls.specs.Causes.{Refuses, define_cause, upkeep_cause}
 use Rattle.px_calls.specs.Calls.{DidDefine, Finds, act_of}
 use Rattle.px_calls.specs.Requires.{CanDefine}
@@ -23,7 +23,7 @@ use Rattle.px_defining.specs.declared.define.DefineFault.TheVariants as fault
 use Rattle.px_defining.specs.declared.define.DefineState.{DefineState}
 use Rattle.px_defining.specs.declared.define.DefineState.TheVariants as state
 use Rattle.px_defining.specs.declared.define.DefineTurn.TheVariants as turn
-use Rattle.px_defining.specs.Turns.{FaultIs, Fits, MadeSince, Turns, fault_of, state_after, turn_after}
+use Rattle.px_defining.specs.Turns.{DefinitionFaultIs, DefinitionFaultSince, DefinitionTurns, FitsDefinition, fault_of, state_after, turn_after}
 
 -- 1. Places
 
@@ -54,7 +54,7 @@ module _ (sound : Type 0) where
   outlined (d.DropTable t) m = refl
   outlined (d.DropIndex t i) m = refl
 
-  pub defines : (k k' : Known) (x : Definition) (m : Made) → DidDefine k k' x m → Turns sound x state.Defining k state.Over k' (turn.Over (Ok m))
+  pub defines : (k k' : Known) (x : Definition) (m : Made) → DidDefine k k' x m → DefinitionTurns sound x state.Defining k state.Over k' (turn.Over (Ok m))
   defines k k' x m h =
       let r = ran-adds k k' (act_of x m) h.adds in
       record {
@@ -67,10 +67,10 @@ module _ (sound : Type 0) where
       }
 
   -- a refusal that adds nothing
-  plain : (k k' : Known) (x : Definition) (old : DefineState) (f : DefineFault) → ((n : ℕ) → MadeSince n f k') → FaultIs x f k' → Sees k k' → Turns sound x old k state.Over k' (turn.Over (Err f))
+  plain : (k k' : Known) (x : Definition) (old : DefineState) (f : DefineFault) → ((n : ℕ) → DefinitionFaultSince n f k') → DefinitionFaultIs x f k' → Sees k k' → DefinitionTurns sound x old k state.Over k' (turn.Over (Err f))
   plain k k' x old f since told h = record { acts = []; ran = ran-sees k k' h; fits = tt; told = (refl, (told, refl)); since = λ n low. since n; adds = tt }
 
-  shuts : (k k' : Known) (x : Definition) (old : DefineState) → ((call : ℕ) × Adds k k' (act.Shut call)) → Turns sound x old k state.Over k' (turn.Over (Err fault.WriteFault))
+  shuts : (k k' : Known) (x : Definition) (old : DefineState) → ((call : ℕ) × Adds k k' (act.Shut call)) → DefinitionTurns sound x old k state.Over k' (turn.Over (Err fault.WriteFault))
   shuts k k' x old h =
       record {
         acts = act.Shut h.0 ∷ [];
@@ -81,7 +81,7 @@ module _ (sound : Type 0) where
         adds = tt;
       }
 
-  misses : (k k' : Known) (x : Definition) (old : DefineState) → ((call : ℕ) × Adds k k' (act.Missed call)) → Turns sound x old k state.Over k' (turn.Over (Err fault.ReadFault))
+  misses : (k k' : Known) (x : Definition) (old : DefineState) → ((call : ℕ) × Adds k k' (act.Missed call)) → DefinitionTurns sound x old k state.Over k' (turn.Over (Err fault.ReadFault))
   misses k k' x old h =
       record {
         acts = act.Missed h.0 ∷ [];
@@ -111,7 +111,7 @@ module _ (sound : Type 0) where
   no_damage (d.DropTable t) k file place h = h
   no_damage (d.DropIndex t i) k file place h = h
 
-  pub refuses : (k k' : Known) (x : Definition) (f : StepFault) → CanDefine sound k x → Refuses (define_cause x) k k' f → Turns sound x state.Defining k (state_after f) k' (turn_after f)
+  pub refuses : (k k' : Known) (x : Definition) (f : StepFault) → CanDefine sound k x → Refuses (define_cause x) k k' f → DefinitionTurns sound x state.Defining k (state_after f) k' (turn_after f)
   refuses k k' x step.NameExists can h = plain k k' x state.Defining fault.NameExists (λ n. tt) h.0 h.1
   refuses k k' x step.NoTable can h = plain k k' x state.Defining fault.NoTable (λ n. tt) h.0 h.1
   refuses k k' x step.NoIndex can h = plain k k' x state.Defining fault.NoIndex (λ n. tt) h.0 h.1
@@ -137,14 +137,14 @@ module _ (sound : Type 0) where
   raised : (k k' : Known) (x : Definition) (t : TableId) (h : ℕ) → Adds k k' (act.Raised t h) → CanDefine sound k x → CanDefine sound k' x
   raised k k' x t h a can = rises-define sound a.between k' x t h a.extends (passes-define sound k a.between x a.sees.passes can)
 
-  pub works : (k k' : Known) (x : Definition) → CanDefine sound k x → Finds k k' ⊎ ((t : TableId) × (h : ℕ) × Adds k k' (act.Raised t h)) → Turns sound x state.Settling k state.Settling k' turn.Stepped
+  pub works : (k k' : Known) (x : Definition) → CanDefine sound k x → Finds k k' ⊎ ((t : TableId) × (h : ℕ) × Adds k k' (act.Raised t h)) → DefinitionTurns sound x state.Settling k state.Settling k' turn.Stepped
   works k k' x can (inl h) = let r = ran-sees k k' h.sees in record { acts = []; ran = r; fits = passes-define sound k k' x h.sees.passes can; told = (tt, refl); since = λ n low. grown k k' _ n r low; adds = tt }
   works k k' x can (inr h) = let r = ran-adds k k' (act.Raised h.0 h.1) h.2 in record { acts = act.Raised h.0 h.1 ∷ []; ran = r; fits = raised k k' x h.0 h.1 h.2 can; told = (tt, refl); since = λ n low. grown k k' _ n r low; adds = tt }
 
-  pub idles : (k k' : Known) (x : Definition) → CanDefine sound k x → Finds k k' → Turns sound x state.Settling k state.Defining k' turn.Stepped
+  pub idles : (k k' : Known) (x : Definition) → CanDefine sound k x → Finds k k' → DefinitionTurns sound x state.Settling k state.Defining k' turn.Stepped
   idles k k' x can h = let r = ran-sees k k' h.sees in record { acts = []; ran = r; fits = passes-define sound k k' x h.sees.passes can; told = (tt, refl); since = λ n low. grown k k' _ n r low; adds = tt }
 
-  pub upkeep_refuses : (k k' : Known) (x : Definition) (f : StepFault) → Refuses upkeep_cause k k' f → Turns sound x state.Settling k state.Over k' (turn.Over (Err (fault_of f)))
+  pub upkeep_refuses : (k k' : Known) (x : Definition) (f : StepFault) → Refuses upkeep_cause k k' f → DefinitionTurns sound x state.Settling k state.Over k' (turn.Over (Err (fault_of f)))
   upkeep_refuses k k' x step.ReadFault h = misses k k' x state.Settling h.1
   upkeep_refuses k k' x step.WriteFault h = shuts k k' x state.Settling h.1
   upkeep_refuses k k' x (step.Damaged file place) h = plain k k' x state.Settling (fault.Damaged file place) (λ n. tt) h.0 h.1
@@ -162,7 +162,7 @@ module _ (sound : Type 0) where
 
   -- 4. Between two steps
 
-  pub fits-kept : (x : Definition) (s : DefineState) (k k' : Known) → Passes k k' → Fits sound x s k → Fits sound x s k'
+  pub fits-kept : (x : Definition) (s : DefineState) (k k' : Known) → TimePasses k k' → FitsDefinition sound x s k → FitsDefinition sound x s k'
   fits-kept x state.Defining k k' h f = passes-define sound k k' x h f
   fits-kept x state.Settling k k' h f = passes-define sound k k' x h f
   fits-kept x state.Over k k' h f = tt

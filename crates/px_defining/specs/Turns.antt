@@ -10,7 +10,7 @@ use Rattle.px_calls.specs.declared.fault.StepFault.{StepFault}
 use Rattle.px_calls.specs.declared.fault.StepFault.TheVariants as step
 use Rattle.px_calls.specs.Known.{Adds, Known, Ran, HasMade, outline}
 use Rattle.px_calls.specs.Causes.{ClosedBy, IsDamagedAt, definition_cause}
-use Rattle.px_calls.specs.Calls.{IsMade, act_of}
+use Rattle.px_calls.specs.Calls.{IsDefinitionMade, act_of}
 use Rattle.px_calls.specs.Requires.{CanDefine}
 use Rattle.px_defining.specs.declared.define.DefineFault.{DefineFault}
 use Rattle.px_defining.specs.declared.define.DefineFault.TheVariants as fault
@@ -44,59 +44,59 @@ turn_after (step.InUse count) = turn.Waiting count
 turn_after f = turn.Over (Err (fault_of f))
 
 -- what tells the fault, in what the seat has then seen
-abbrev pub FaultIs : Definition → DefineFault → Known → Type 0
-FaultIs x fault.NameExists k = definition_cause x step.NameExists k
-FaultIs x fault.NoTable k = definition_cause x step.NoTable k
-FaultIs x fault.NoIndex k = definition_cause x step.NoIndex k
-FaultIs x (fault.Limit which count) k = definition_cause x (step.Limit which count) k
-FaultIs x fault.ReadFault k = (call : ℕ) × HasMade k (act.Missed call)
-FaultIs x fault.WriteFault k = (call : ℕ) × HasMade k (act.Shut call)
-FaultIs x (fault.Damaged file place) k = IsDamagedAt k file place
-FaultIs x (fault.Closed call) k = ClosedBy call k
-FaultIs x fault.Memory k = Unit {0}
+abbrev pub DefinitionFaultIs : Definition → DefineFault → Known → Type 0
+DefinitionFaultIs x fault.NameExists k = definition_cause x step.NameExists k
+DefinitionFaultIs x fault.NoTable k = definition_cause x step.NoTable k
+DefinitionFaultIs x fault.NoIndex k = definition_cause x step.NoIndex k
+DefinitionFaultIs x (fault.Limit which count) k = definition_cause x (step.Limit which count) k
+DefinitionFaultIs x fault.ReadFault k = (call : ℕ) × HasMade k (act.Missed call)
+DefinitionFaultIs x fault.WriteFault k = (call : ℕ) × HasMade k (act.Shut call)
+DefinitionFaultIs x (fault.Damaged file place) k = IsDamagedAt k file place
+DefinitionFaultIs x (fault.Closed call) k = ClosedBy call k
+DefinitionFaultIs x fault.Memory k = Unit {0}
 
 -- the entry that tells a failed device call is one of the seat's own after the first n
-abbrev pub MadeSince : ℕ → DefineFault → Known → Type 0
-MadeSince n fault.ReadFault k = (call : ℕ) × IsAmong (act.Missed call) (acts_by k.seat (drop n k.seen))
-MadeSince n fault.WriteFault k = (call : ℕ) × IsAmong (act.Shut call) (acts_by k.seat (drop n k.seen))
-MadeSince n f k = Unit {0}
+abbrev pub DefinitionFaultSince : ℕ → DefineFault → Known → Type 0
+DefinitionFaultSince n fault.ReadFault k = (call : ℕ) × IsAmong (act.Missed call) (acts_by k.seat (drop n k.seen))
+DefinitionFaultSince n fault.WriteFault k = (call : ℕ) × IsAmong (act.Shut call) (acts_by k.seat (drop n k.seen))
+DefinitionFaultSince n f k = Unit {0}
 
 -- 2. States
 
 -- The state is as the trail tells. Others' entries keep this
-abbrev pub Fits : Type 0 → Definition → DefineState → Known → Type 0
-Fits sound x state.Defining k = CanDefine sound k x
-Fits sound x state.Settling k = CanDefine sound k x
-Fits sound x state.Over k = Unit {0}
+abbrev pub FitsDefinition : Type 0 → Definition → DefineState → Known → Type 0
+FitsDefinition sound x state.Defining k = CanDefine sound k x
+FitsDefinition sound x state.Settling k = CanDefine sound k x
+FitsDefinition sound x state.Over k = Unit {0}
 
-abbrev pub IsGoing : DefineState → Type 0
-IsGoing state.Over = ⊥
-IsGoing s = Unit {0}
+abbrev pub IsDefinitionGoing : DefineState → Type 0
+IsDefinitionGoing state.Over = ⊥
+IsDefinitionGoing s = Unit {0}
 
 -- 3. Steps
 
 -- the one entry that the run added is that of the definition
 pub record HasDefined (x : Definition) (own : List Act) (k : Known) (m : Made) : Type 0 where
   pub one : own ≡ act_of x m ∷ []
-  pub made : IsMade x m
+  pub made : IsDefinitionMade x m
   pub at : m.at ≡ length k.seen
 
 -- what the run comes to, where `own` is what the seat began, ended, opened, closed and defined for it
-abbrev pub IsOutcome : Definition → List Act → Known → Result Made DefineFault → Type 0
-IsOutcome x own k (Ok m) = HasDefined x own k m
-IsOutcome x own k (Err f) = FaultIs x f k × (own ≡ [])
+abbrev pub IsDefinitionOutcome : Definition → List Act → Known → Result Made DefineFault → Type 0
+IsDefinitionOutcome x own k (Ok m) = HasDefined x own k m
+IsDefinitionOutcome x own k (Err f) = DefinitionFaultIs x f k × (own ≡ [])
 
 -- what a step came to
 abbrev pub Told : Definition → List Act → DefineState → Known → DefineTurn → Type 0
-Told x own new k turn.Stepped = IsGoing new × (own ≡ [])
-Told x own new k (turn.Waiting count) = IsGoing new × (own ≡ []) × definition_cause x (step.InUse count) k
-Told x own new k (turn.Over r) = (new ≡ state.Over) × IsOutcome x own k r
+Told x own new k turn.Stepped = IsDefinitionGoing new × (own ≡ [])
+Told x own new k (turn.Waiting count) = IsDefinitionGoing new × (own ≡ []) × definition_cause x (step.InUse count) k
+Told x own new k (turn.Over r) = (new ≡ state.Over) × IsDefinitionOutcome x own k r
 
-abbrev pub IsSinceThen : ℕ → Known → DefineTurn → Type 0
-IsSinceThen n k turn.Stepped = n ≤ length k.seen
-IsSinceThen n k (turn.Waiting count) = n ≤ length k.seen
-IsSinceThen n k (turn.Over (Ok m)) = n ≤ m.at
-IsSinceThen n k (turn.Over (Err f)) = MadeSince n f k
+abbrev pub IsDefinitionSinceThen : ℕ → Known → DefineTurn → Type 0
+IsDefinitionSinceThen n k turn.Stepped = n ≤ length k.seen
+IsDefinitionSinceThen n k (turn.Waiting count) = n ≤ length k.seen
+IsDefinitionSinceThen n k (turn.Over (Ok m)) = n ≤ m.at
+IsDefinitionSinceThen n k (turn.Over (Err f)) = DefinitionFaultSince n f k
 
 -- the definition's entry is the last that the seat has then seen
 abbrev pub AddsThen : Definition → Known → Known → DefineTurn → Type 0
@@ -104,10 +104,10 @@ AddsThen x k k' (turn.Over (Ok m)) = Adds k k' (act_of x m)
 AddsThen x k k' t = Unit {0}
 
 -- one step of a definition
-pub record Turns (sound : Type 0) (x : Definition) (old : DefineState) (k : Known) (new : DefineState) (k' : Known) (t : DefineTurn) : Type 0 where
+pub record DefinitionTurns (sound : Type 0) (x : Definition) (old : DefineState) (k : Known) (new : DefineState) (k' : Known) (t : DefineTurn) : Type 0 where
   pub acts : List Act
   pub ran : Ran k k' acts
-  pub fits : Fits sound x new k'
+  pub fits : FitsDefinition sound x new k'
   pub told : Told x (outline acts) new k' t
-  pub since : (n : ℕ) → n ≤ length k.seen → IsSinceThen n k' t
+  pub since : (n : ℕ) → n ≤ length k.seen → IsDefinitionSinceThen n k' t
   pub adds : AddsThen x k k' t

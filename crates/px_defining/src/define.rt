@@ -2,7 +2,7 @@
 ghost use Rattle.std.specs.Prelude.{◌≡◌};
 ghost use Rattle.px_calls.specs.declared.definition.Definition.{Definition as Definitions};
 ghost use Rattle.px_calls.specs.Requires.{CanDefine};
-ghost use Rattle.px_defining.specs.Turns.{Fits, IsGoing, Turns, fault_of as fault_is, state_after, turn_after};
+ghost use Rattle.px_defining.specs.Turns.{DefinitionTurns, FitsDefinition, IsDefinitionGoing, fault_of as fault_is, state_after, turn_after};
 
 use px_calls::{Definition, Made, StepFault, Steps, Work};
 use px_values::Limit;
@@ -70,7 +70,7 @@ fn refused(f: StepFault) -> (DefineState, DefineTurn)
 /// Makes the definition.
 fn define<S: Steps>(s: &mut S, definition: &Definition) -> (DefineState, DefineTurn)
     requires { CanDefine S.sound (S.known s.old) definition.now }
-    ensures turns { Turns S.sound definition.now DefineState.Defining (S.known s.old) result.0 (S.known s.new) result.1 }
+    ensures turns { DefinitionTurns S.sound definition.now DefineState.Defining (S.known s.old) result.0 (S.known s.new) result.1 }
     ensures one_call { S.one_call s.old s.new }
 {
     match s.define(definition) {
@@ -81,7 +81,7 @@ fn define<S: Steps>(s: &mut S, definition: &Definition) -> (DefineState, DefineT
 
 /// Upkeep, until there is none left. Then the definition is tried again.
 fn settle<S: Steps>(s: &mut S) -> (DefineState, DefineTurn)
-    ensures turns { (x : Definitions) → CanDefine S.sound (S.known s.old) x → Turns S.sound x DefineState.Settling (S.known s.old) result.0 (S.known s.new) result.1 }
+    ensures turns { (x : Definitions) → CanDefine S.sound (S.known s.old) x → DefinitionTurns S.sound x DefineState.Settling (S.known s.old) result.0 (S.known s.new) result.1 }
     ensures one_call { S.one_call s.old s.new }
 {
     match s.upkeep() {
@@ -123,10 +123,10 @@ impl DefineRun {
 
     /// Makes one call.
     pub fn step<S: Steps>(&mut self, s: &mut S) -> DefineTurn
-        requires fits { Fits S.sound self.old.definition self.old.state (S.known s.old) }
-        requires going { IsGoing self.old.state }
+        requires fits { FitsDefinition S.sound self.old.definition self.old.state (S.known s.old) }
+        requires going { IsDefinitionGoing self.old.state }
         ensures definition { self.new.definition ≡ self.old.definition }
-        ensures turns { Turns S.sound self.old.definition self.old.state (S.known s.old) self.new.state (S.known s.new) result }
+        ensures turns { DefinitionTurns S.sound self.old.definition self.old.state (S.known s.old) self.new.state (S.known s.new) result }
         ensures one_call { S.one_call s.old s.new }
     {
         let (state, turn) = match self.state {

@@ -5,7 +5,7 @@ use Rattle.px_lex.specs.declared.kind.Kind.TheVariants as k
 use Rattle.px_lex.specs.Lexemes.{Seen}
 use Rattle.px_ast.specs.declared.definition.Column.{Column}
 use Rattle.px_ast.specs.declared.definition.KeyConstraint.{KeyConstraint}
-use Rattle.px_ast.specs.Rule.{sees, Outcome, Got, Stuck, Deep, and_then, word, ended, one_more, listing_at}
+use Rattle.px_ast.specs.Rule.{sees, Outcome, Got, Stuck, Deep, and_then, word, ended_list, one_item_more, listing_at}
 use Rattle.px_ast.specs.Grammar.{column, constraint, columns}
 use Rattle.px_definitions.specs.declared.columns.Item.{Item}
 use Rattle.px_definitions.specs.declared.columns.Item.TheVariants as items
@@ -22,14 +22,14 @@ list_at n ts = listing_at k.Comma column constraint n ts
 
 -- what comes behind an item
 abbrev behind : ℕ → Item → List Seen → Outcome Listed
-behind n (items.Column c) rest = and_then (list_at n rest) (one_more c)
+behind n (items.Column c) rest = and_then (list_at n rest) (one_item_more c)
 behind n (items.Constraint c) rest = Got ([], Some c) rest
 behind n items.Nothing rest = Got ([], None) rest
 
 abbrev further : ℕ → Column → List Seen → Outcome Listed
-further n c rest = and_then (list_at n rest) (one_more c)
+further n c rest = and_then (list_at n rest) (one_item_more c)
 
-last_is : (n : ℕ) (o : Outcome KeyConstraint) → and_then (and_then o (λ c rest. Got (items.Constraint c) rest)) (behind n) ≡ and_then o ended
+last_is : (n : ℕ) (o : Outcome KeyConstraint) → and_then (and_then o (λ c rest. Got (items.Constraint c) rest)) (behind n) ≡ and_then o ended_list
 last_is n (Got c rest) = refl
 last_is n (Stuck rest) = refl
 last_is n Deep = refl
@@ -39,15 +39,15 @@ more_is n (Got c rest) = refl
 more_is n (Stuck rest) = refl
 more_is n Deep = refl
 
-behind_is : (n : ℕ) (ts : List Seen) → and_then (behind_comma ts) (behind n) ≡ cond (sees constraint.begins ts) (and_then (constraint.at ts) ended) (and_then (column.at ts) (further n))
+behind_is : (n : ℕ) (ts : List Seen) → and_then (behind_comma ts) (behind n) ≡ cond (sees constraint.begins ts) (and_then (constraint.at ts) ended_list) (and_then (column.at ts) (further n))
 behind_is n ts = by_test (sees constraint.begins ts)
   where
-    by_test : (b : Bool) → and_then (cond b (a_constraint ts) (a_column ts)) (behind n) ≡ cond b (and_then (constraint.at ts) ended) (and_then (column.at ts) (further n))
+    by_test : (b : Bool) → and_then (cond b (a_constraint ts) (a_column ts)) (behind n) ≡ cond b (and_then (constraint.at ts) ended_list) (and_then (column.at ts) (further n))
     by_test true = last_is n (constraint.at ts)
     by_test false = more_is n (column.at ts)
 
 abbrev past_comma : ℕ → Unit {0} → List Seen → Outcome Listed
-past_comma n u rest = cond (sees constraint.begins rest) (and_then (constraint.at rest) ended) (and_then (column.at rest) (further n))
+past_comma n u rest = cond (sees constraint.begins rest) (and_then (constraint.at rest) ended_list) (and_then (column.at rest) (further n))
 
 comma_is : (n : ℕ) (o : Outcome (Unit {0})) → and_then (and_then o (λ u rest. behind_comma rest)) (behind n) ≡ and_then o (past_comma n)
 comma_is n (Got u rest) = behind_is n rest
@@ -57,7 +57,7 @@ comma_is n Deep = refl
 by_item : (n : ℕ) (ts : List Seen) → list_at (suc n) ts ≡ and_then (item ts) (behind n)
 by_item n ts = by_test (sees (k.Comma ∷ []) ts) (sees constraint.begins ts)
   where
-    by_test : (b c : Bool) → cond b (and_then ((word k.Comma).at ts) (past_comma n)) (cond c (and_then (constraint.at ts) ended) (Got ([], None) ts))
+    by_test : (b c : Bool) → cond b (and_then ((word k.Comma).at ts) (past_comma n)) (cond c (and_then (constraint.at ts) ended_list) (Got ([], None) ts))
         ≡ and_then (cond b (and_then ((word k.Comma).at ts) (λ u rest. behind_comma rest)) (cond c (a_constraint ts) (Got items.Nothing ts))) (behind n)
     by_test true c = sym (comma_is n ((word k.Comma).at ts))
     by_test false true = sym (last_is n (constraint.at ts))
@@ -67,7 +67,7 @@ by_item n ts = by_test (sees (k.Comma ∷ []) ts) (sees constraint.begins ts)
 abbrev pub with_columns : List Column → Outcome Listed → Outcome Listed
 with_columns front o = and_then o (λ x end. Got (front ++ x.0, x.1) end)
 
-regroup : (front : List Column) (c : Column) (o : Outcome Listed) → with_columns front (and_then o (one_more c)) ≡ with_columns (front ++ c ∷ []) o
+regroup : (front : List Column) (c : Column) (o : Outcome Listed) → with_columns front (and_then o (one_item_more c)) ≡ with_columns (front ++ c ∷ []) o
 regroup front c (Got x end) = ap (λ (cs : List Column). Got (cs, x.1) end) (sym (append_assoc front (c ∷ []) x.0))
 regroup front c (Stuck rest) = refl
 regroup front c Deep = refl

@@ -4,7 +4,7 @@ ghost use Rattle.px_lex.specs.declared.kind.Kind.TheVariants as k;
 ghost use Rattle.px_ast.specs.Rule.{Got, separated, ◌then◌, ◌▹◌};
 ghost use Rattle.px_ast.specs.Grammar as grammar;
 ghost use Rattle.px_definitions.specs.inner.Columns as spec;
-ghost use Rattle.px_words.specs.Reading.{Gives};
+ghost use Rattle.px_words.specs.Reading.{GivesOutcome};
 
 use px_ast::{Column, KeyConstraint, KeyPart};
 use px_lex::kind::Kind;
@@ -15,9 +15,9 @@ use px_words::names::name;
 use std::alloc::Global;
 
 /// The direction that is written, or else ascending.
-#[tactic(auto, unfolding(px_ast::specs::Grammar::directed, px_ast::specs::Grammar::direction))]
+#[tactic(auto, unfolding(px_ast::specs::Grammar::optional_direction, px_ast::specs::Grammar::direction))]
 fn directed(tokens: &mut Cursor<'_>) -> Direction
-    ensures { grammar.directed.at tokens.old ≡ Got result tokens.new }
+    ensures { grammar.optional_direction.at tokens.old ≡ Got result tokens.new }
 {
     if tokens.takes(Kind::Asc) {
         return Direction::Ascending;
@@ -30,7 +30,7 @@ fn directed(tokens: &mut Cursor<'_>) -> Direction
 
 #[tactic(auto, unfolding(px_ast::specs::Grammar::keypart))]
 fn keypart(alloc: Global, tokens: &mut Cursor<'_>) -> Result<KeyPart, ReadFault>
-    ensures { Gives (grammar.keypart.at tokens.old) result tokens.new }
+    ensures { GivesOutcome (grammar.keypart.at tokens.old) result tokens.new }
 {
     let column = name(alloc, tokens)?;
     let direction = directed(tokens);
@@ -38,7 +38,7 @@ fn keypart(alloc: Global, tokens: &mut Cursor<'_>) -> Result<KeyPart, ReadFault>
 }
 
 fn next_keypart(alloc: Global, tokens: &mut Cursor<'_>) -> Result<KeyPart, ReadFault>
-    ensures { Gives ((k.Comma ▹ grammar.keypart).at tokens.old) result tokens.new }
+    ensures { GivesOutcome ((k.Comma ▹ grammar.keypart).at tokens.old) result tokens.new }
 {
     word(tokens, Kind::Comma)?;
     keypart(alloc, tokens)
@@ -46,7 +46,7 @@ fn next_keypart(alloc: Global, tokens: &mut Cursor<'_>) -> Result<KeyPart, ReadF
 
 /// `keypart { , keypart }`
 pub fn keypart_list(alloc: Global, tokens: &mut Cursor<'_>) -> Result<Items<KeyPart>, ReadFault>
-    ensures { Gives ((separated k.Comma grammar.keypart).at tokens.old) result tokens.new }
+    ensures { GivesOutcome ((separated k.Comma grammar.keypart).at tokens.old) result tokens.new }
 {
     let first = keypart(alloc, tokens)?;
     let mut found = Vec::new(alloc);
@@ -63,7 +63,7 @@ pub fn keypart_list(alloc: Global, tokens: &mut Cursor<'_>) -> Result<Items<KeyP
 /// `( keypart { , keypart } )`
 #[tactic(auto, unfolding(px_ast::specs::Grammar::keyparts))]
 pub fn keyparts(alloc: Global, tokens: &mut Cursor<'_>) -> Result<Items<KeyPart>, ReadFault>
-    ensures { Gives (grammar.keyparts.at tokens.old) result tokens.new }
+    ensures { GivesOutcome (grammar.keyparts.at tokens.old) result tokens.new }
 {
     word(tokens, Kind::OpenParen)?;
     let found = keypart_list(alloc, tokens)?;
@@ -78,7 +78,7 @@ pub fn keyparts(alloc: Global, tokens: &mut Cursor<'_>) -> Result<Items<KeyPart>
 
 #[tactic(auto, unfolding(px_ast::specs::Grammar::column_type))]
 fn column_type(tokens: &mut Cursor<'_>) -> Result<ColType, ReadFault>
-    ensures { Gives (grammar.column_type.at tokens.old) result tokens.new }
+    ensures { GivesOutcome (grammar.column_type.at tokens.old) result tokens.new }
 {
     if tokens.takes(Kind::Tinyint) {
         return Ok(ColType::TinyInt);
@@ -108,7 +108,7 @@ fn column_type(tokens: &mut Cursor<'_>) -> Result<ColType, ReadFault>
 /// Whether NOT NULL is written. NULL alone says the same as nothing.
 #[tactic(auto, unfolding(px_ast::specs::Grammar::nullness))]
 fn nullness(tokens: &mut Cursor<'_>) -> Result<bool, ReadFault>
-    ensures { Gives (grammar.nullness.at tokens.old) result tokens.new }
+    ensures { GivesOutcome (grammar.nullness.at tokens.old) result tokens.new }
 {
     if tokens.takes(Kind::Not) {
         word(tokens, Kind::Null)?;
@@ -120,7 +120,7 @@ fn nullness(tokens: &mut Cursor<'_>) -> Result<bool, ReadFault>
 
 #[tactic(auto, unfolding(px_ast::specs::Grammar::inline_key))]
 fn inline_key(tokens: &mut Cursor<'_>) -> Result<Option<Direction>, ReadFault>
-    ensures { Gives (grammar.inline_key.at tokens.old) result tokens.new }
+    ensures { GivesOutcome (grammar.inline_key.at tokens.old) result tokens.new }
 {
     if !tokens.takes(Kind::Primary) {
         return Ok(None);
@@ -133,7 +133,7 @@ type ColumnEnd = (ColType, (bool, Option<Direction>));
 
 /// What stands behind a column's name.
 fn column_end(tokens: &mut Cursor<'_>) -> Result<ColumnEnd, ReadFault>
-    ensures { Gives ((grammar.column_type then grammar.nullness then grammar.inline_key).at tokens.old) result tokens.new }
+    ensures { GivesOutcome ((grammar.column_type then grammar.nullness then grammar.inline_key).at tokens.old) result tokens.new }
 {
     let column_type = column_type(tokens)?;
     let not_null = nullness(tokens)?;
@@ -143,7 +143,7 @@ fn column_end(tokens: &mut Cursor<'_>) -> Result<ColumnEnd, ReadFault>
 
 #[tactic(auto, unfolding(px_ast::specs::Grammar::column))]
 fn column(alloc: Global, tokens: &mut Cursor<'_>) -> Result<Column, ReadFault>
-    ensures { Gives (grammar.column.at tokens.old) result tokens.new }
+    ensures { GivesOutcome (grammar.column.at tokens.old) result tokens.new }
 {
     let name = name(alloc, tokens)?;
     match column_end(tokens) {
@@ -162,7 +162,7 @@ fn column(alloc: Global, tokens: &mut Cursor<'_>) -> Result<Column, ReadFault>
 
 /// `PRIMARY KEY keyparts`
 fn primary_key(alloc: Global, tokens: &mut Cursor<'_>) -> Result<Items<KeyPart>, ReadFault>
-    ensures { Gives ((k.Primary ▹ k.Key ▹ grammar.keyparts).at tokens.old) result tokens.new }
+    ensures { GivesOutcome ((k.Primary ▹ k.Key ▹ grammar.keyparts).at tokens.old) result tokens.new }
 {
     word(tokens, Kind::Primary)?;
     word(tokens, Kind::Key)?;
@@ -171,7 +171,7 @@ fn primary_key(alloc: Global, tokens: &mut Cursor<'_>) -> Result<Items<KeyPart>,
 
 #[tactic(auto, unfolding(px_ast::specs::Grammar::constraint))]
 fn constraint(alloc: Global, tokens: &mut Cursor<'_>) -> Result<KeyConstraint, ReadFault>
-    ensures { Gives (grammar.constraint.at tokens.old) result tokens.new }
+    ensures { GivesOutcome (grammar.constraint.at tokens.old) result tokens.new }
 {
     word(tokens, Kind::Constraint)?;
     let name = name(alloc, tokens)?;
@@ -195,7 +195,7 @@ pub enum Item {
 /// A column or the constraint.
 #[tactic(auto, unfolding(px_ast::specs::Grammar::constraint))]
 fn column_or_constraint(alloc: Global, tokens: &mut Cursor<'_>) -> Result<Item, ReadFault>
-    ensures { Gives (spec.behind_comma tokens.old) result tokens.new }
+    ensures { GivesOutcome (spec.behind_comma tokens.old) result tokens.new }
 {
     if tokens.sees(Kind::Constraint) {
         Ok(Item::Constraint(constraint(alloc, tokens)?))
@@ -207,7 +207,7 @@ fn column_or_constraint(alloc: Global, tokens: &mut Cursor<'_>) -> Result<Item, 
 /// What stands behind a column.
 #[tactic(auto, unfolding(px_ast::specs::Grammar::constraint))]
 fn next_item(alloc: Global, tokens: &mut Cursor<'_>) -> Result<Item, ReadFault>
-    ensures { Gives (spec.item tokens.old) result tokens.new }
+    ensures { GivesOutcome (spec.item tokens.old) result tokens.new }
 {
     if tokens.takes(Kind::Comma) {
         return column_or_constraint(alloc, tokens);
@@ -224,7 +224,7 @@ pub fn columns(
     alloc: Global,
     tokens: &mut Cursor<'_>,
 ) -> Result<(Items<Column>, Option<KeyConstraint>), ReadFault>
-    ensures { Gives (grammar.columns.at tokens.old) result tokens.new }
+    ensures { GivesOutcome (grammar.columns.at tokens.old) result tokens.new }
 {
     let first = column(alloc, tokens)?;
     let mut found = Vec::new(alloc);

@@ -3,7 +3,7 @@ ghost use Rattle.std.specs.Prelude.{◌≡◌, [], ◌∷◌};
 ghost use Rattle.px_lex.specs.declared.kind.Kind.TheVariants as k;
 ghost use Rattle.px_ast.specs.Rule.{optional, ◌then◌, ◌▹◌, ◌◃◌};
 ghost use Rattle.px_ast.specs.Grammar as grammar;
-ghost use Rattle.px_words.specs.Reading.{Gives};
+ghost use Rattle.px_words.specs.Reading.{GivesOutcome};
 
 use crate::columns::{columns, keyparts};
 use px_ast::{
@@ -21,7 +21,7 @@ use std::alloc::Global;
 /// `[IF NOT EXISTS]`
 #[tactic(auto, unfolding(px_ast::specs::Grammar::if_not_exists))]
 fn if_not_exists(tokens: &mut Cursor<'_>) -> Result<bool, ReadFault>
-    ensures { Gives (grammar.if_not_exists.at tokens.old) result tokens.new }
+    ensures { GivesOutcome (grammar.if_not_exists.at tokens.old) result tokens.new }
 {
     if !tokens.takes(Kind::If) {
         return Ok(false);
@@ -34,7 +34,7 @@ fn if_not_exists(tokens: &mut Cursor<'_>) -> Result<bool, ReadFault>
 /// `[IF EXISTS]`
 #[tactic(auto, unfolding(px_ast::specs::Grammar::if_exists))]
 fn if_exists(tokens: &mut Cursor<'_>) -> Result<bool, ReadFault>
-    ensures { Gives (grammar.if_exists.at tokens.old) result tokens.new }
+    ensures { GivesOutcome (grammar.if_exists.at tokens.old) result tokens.new }
 {
     if !tokens.takes(Kind::If) {
         return Ok(false);
@@ -45,7 +45,7 @@ fn if_exists(tokens: &mut Cursor<'_>) -> Result<bool, ReadFault>
 
 /// `ON name`
 fn on_table(alloc: Global, tokens: &mut Cursor<'_>) -> Result<Name, ReadFault>
-    ensures { Gives ((k.On ▹ grammar.name).at tokens.old) result tokens.new }
+    ensures { GivesOutcome ((k.On ▹ grammar.name).at tokens.old) result tokens.new }
 {
     word(tokens, Kind::On)?;
     name(alloc, tokens)
@@ -55,7 +55,7 @@ type Columns = (Items<Column>, Option<KeyConstraint>);
 
 /// `( columns )`
 fn column_list(alloc: Global, tokens: &mut Cursor<'_>) -> Result<Columns, ReadFault>
-    ensures { Gives ((k.OpenParen ▹ grammar.columns ◃ k.CloseParen).at tokens.old) result tokens.new }
+    ensures { GivesOutcome ((k.OpenParen ▹ grammar.columns ◃ k.CloseParen).at tokens.old) result tokens.new }
 {
     word(tokens, Kind::OpenParen)?;
     let found = columns(alloc, tokens)?;
@@ -70,7 +70,7 @@ fn column_list(alloc: Global, tokens: &mut Cursor<'_>) -> Result<Columns, ReadFa
 
 /// `[SPLIT ON literals]`
 fn splits(alloc: Global, tokens: &mut Cursor<'_>) -> Result<Items<Literal>, ReadFault>
-    ensures { Gives ((optional (k.Split ▹ k.On ▹ grammar.literals)).at tokens.old) result tokens.new }
+    ensures { GivesOutcome ((optional (k.Split ▹ k.On ▹ grammar.literals)).at tokens.old) result tokens.new }
 {
     if !tokens.takes(Kind::Split) {
         return Ok(Items::of(Vec::new(alloc)));
@@ -81,7 +81,7 @@ fn splits(alloc: Global, tokens: &mut Cursor<'_>) -> Result<Items<Literal>, Read
 
 /// `[INCLUDE names]`
 fn include(alloc: Global, tokens: &mut Cursor<'_>) -> Result<Items<Name>, ReadFault>
-    ensures { Gives ((optional (k.Include ▹ grammar.names)).at tokens.old) result tokens.new }
+    ensures { GivesOutcome ((optional (k.Include ▹ grammar.names)).at tokens.old) result tokens.new }
 {
     if !tokens.takes(Kind::Include) {
         return Ok(Items::of(Vec::new(alloc)));
@@ -94,7 +94,7 @@ fn columns_and_splits(
     alloc: Global,
     tokens: &mut Cursor<'_>,
 ) -> Result<(Columns, Items<Literal>), ReadFault>
-    ensures { Gives (((k.OpenParen ▹ grammar.columns ◃ k.CloseParen) then optional (k.Split ▹ k.On ▹ grammar.literals)).at tokens.old) result tokens.new }
+    ensures { GivesOutcome (((k.OpenParen ▹ grammar.columns ◃ k.CloseParen) then optional (k.Split ▹ k.On ▹ grammar.literals)).at tokens.old) result tokens.new }
 {
     let columns = column_list(alloc, tokens)?;
     match splits(alloc, tokens) {
@@ -108,7 +108,7 @@ fn columns_and_splits(
 
 #[tactic(auto, unfolding(px_ast::specs::Grammar::create_table))]
 pub fn create_table(alloc: Global, tokens: &mut Cursor<'_>) -> Result<CreateTable, ReadFault>
-    ensures { Gives (grammar.create_table.at tokens.old) result tokens.new }
+    ensures { GivesOutcome (grammar.create_table.at tokens.old) result tokens.new }
 {
     word(tokens, Kind::Table)?;
     let if_not_exists = if_not_exists(tokens)?;
@@ -130,7 +130,7 @@ pub fn create_table(alloc: Global, tokens: &mut Cursor<'_>) -> Result<CreateTabl
 
 #[tactic(auto, unfolding(px_ast::specs::Grammar::drop_table))]
 pub fn drop_table(alloc: Global, tokens: &mut Cursor<'_>) -> Result<DropTable, ReadFault>
-    ensures { Gives (grammar.drop_table.at tokens.old) result tokens.new }
+    ensures { GivesOutcome (grammar.drop_table.at tokens.old) result tokens.new }
 {
     word(tokens, Kind::Table)?;
     let if_exists = if_exists(tokens)?;
@@ -142,7 +142,7 @@ type Parts = (Items<KeyPart>, Items<Name>);
 
 /// `keyparts [INCLUDE names]`
 fn parts_and_include(alloc: Global, tokens: &mut Cursor<'_>) -> Result<Parts, ReadFault>
-    ensures { Gives ((grammar.keyparts then optional (k.Include ▹ grammar.names)).at tokens.old) result tokens.new }
+    ensures { GivesOutcome ((grammar.keyparts then optional (k.Include ▹ grammar.names)).at tokens.old) result tokens.new }
 {
     let parts = keyparts(alloc, tokens)?;
     match include(alloc, tokens) {
@@ -156,7 +156,7 @@ fn parts_and_include(alloc: Global, tokens: &mut Cursor<'_>) -> Result<Parts, Re
 
 /// `ON name`, and what stands behind it.
 fn index_end(alloc: Global, tokens: &mut Cursor<'_>) -> Result<(Name, Parts), ReadFault>
-    ensures { Gives ((k.On ▹ grammar.name then grammar.keyparts then optional (k.Include ▹ grammar.names)).at tokens.old) result tokens.new }
+    ensures { GivesOutcome ((k.On ▹ grammar.name then grammar.keyparts then optional (k.Include ▹ grammar.names)).at tokens.old) result tokens.new }
 {
     let table = on_table(alloc, tokens)?;
     match parts_and_include(alloc, tokens) {
@@ -170,7 +170,7 @@ fn index_end(alloc: Global, tokens: &mut Cursor<'_>) -> Result<(Name, Parts), Re
 
 #[tactic(auto, unfolding(px_ast::specs::Grammar::create_index))]
 pub fn create_index(alloc: Global, tokens: &mut Cursor<'_>) -> Result<CreateIndex, ReadFault>
-    ensures { Gives (grammar.create_index.at tokens.old) result tokens.new }
+    ensures { GivesOutcome (grammar.create_index.at tokens.old) result tokens.new }
 {
     word(tokens, Kind::Index)?;
     let if_not_exists = if_not_exists(tokens)?;
@@ -192,7 +192,7 @@ pub fn create_index(alloc: Global, tokens: &mut Cursor<'_>) -> Result<CreateInde
 
 #[tactic(auto, unfolding(px_ast::specs::Grammar::drop_index))]
 pub fn drop_index(alloc: Global, tokens: &mut Cursor<'_>) -> Result<DropIndex, ReadFault>
-    ensures { Gives (grammar.drop_index.at tokens.old) result tokens.new }
+    ensures { GivesOutcome (grammar.drop_index.at tokens.old) result tokens.new }
 {
     word(tokens, Kind::Index)?;
     let if_exists = if_exists(tokens)?;
@@ -212,7 +212,7 @@ pub fn drop_index(alloc: Global, tokens: &mut Cursor<'_>) -> Result<DropIndex, R
 
 #[tactic(auto, unfolding(px_ast::specs::Grammar::index_action))]
 fn index_action(tokens: &mut Cursor<'_>) -> Result<IndexAction, ReadFault>
-    ensures { Gives (grammar.index_action.at tokens.old) result tokens.new }
+    ensures { GivesOutcome (grammar.index_action.at tokens.old) result tokens.new }
 {
     if tokens.takes(Kind::Disable) {
         return Ok(IndexAction::Disable);
@@ -226,7 +226,7 @@ fn table_and_action(
     alloc: Global,
     tokens: &mut Cursor<'_>,
 ) -> Result<(Name, IndexAction), ReadFault>
-    ensures { Gives ((k.On ▹ grammar.name then grammar.index_action).at tokens.old) result tokens.new }
+    ensures { GivesOutcome ((k.On ▹ grammar.name then grammar.index_action).at tokens.old) result tokens.new }
 {
     let table = on_table(alloc, tokens)?;
     match index_action(tokens) {
@@ -240,7 +240,7 @@ fn table_and_action(
 
 #[tactic(auto, unfolding(px_ast::specs::Grammar::alter_index))]
 pub fn alter_index(alloc: Global, tokens: &mut Cursor<'_>) -> Result<AlterIndex, ReadFault>
-    ensures { Gives (grammar.alter_index.at tokens.old) result tokens.new }
+    ensures { GivesOutcome (grammar.alter_index.at tokens.old) result tokens.new }
 {
     word(tokens, Kind::Index)?;
     let name = name(alloc, tokens)?;

@@ -20,7 +20,7 @@ use Rattle.px_removals.specs.Removals.{IsSplit}
 use Rattle.px_deleting.specs.declared.deleted.Deleted.{Deleted}
 use Rattle.px_deleting.specs.declared.deleted.DeleteFault.{DeleteFault}
 use Rattle.px_deleting.specs.declared.deleted.Removed.{Removed}
-use Rattle.px_deleting.specs.Deleting.{AreMade, HasMade, HasRemoved, IsEnd, RanDelete}
+use Rattle.px_deleting.specs.Deleting.{AreMade, HasMadeBatch, HasRemoved, IsDeleteEnd, RanDelete}
 
 -- 1. The changes of a batch are those with which it was begun
 
@@ -90,7 +90,7 @@ same_changes : (o : Option Batch) (xs ys : List Change) → HasChanges o xs → 
 same_changes None xs ys h k = absurd h
 same_changes (Some x) xs ys h k = sym h ∙ k
 
-part_counted : (k : Known) (t : TableId) (cs : List Change) (acts : List Act) (r : Receipt) → IsLegal k.base k.seen → IsAmong (Begun t r.stamp cs) (acts_by k.seat k.seen) → HasMade k t cs acts r → r.rows ≡ length cs
+part_counted : (k : Known) (t : TableId) (cs : List Change) (acts : List Act) (r : Receipt) → IsLegal k.base k.seen → IsAmong (Begun t r.stamp cs) (acts_by k.seat k.seen) → HasMadeBatch k t cs acts r → r.rows ≡ length cs
 part_counted k t cs acts r legal among h =
     let receipt = h.ended.receipt in
     let now : HasChanges (batch_of t.0 r.stamp k.seen) cs = begun-has k.base k.seen k.seat t r.stamp cs legal among in
@@ -157,4 +157,4 @@ removed_counted sound p k k' d m acts legal own h =
 pub counted : (sound : Type 0) (p : Planned) (k k' : Known) (d : Deleted) (m : Removed) → RanDelete sound p k k' d → IsLegal k.base k.seen → d.end ≡ Ok m → m.rows ≡ sum_by (λ r. r.rows) d.receipts.items
 counted sound p k k' d m h legal e =
     removed_counted sound p k k' d m h.acts (h.ran.legal legal) (λ a w. ran-made k k' h.acts a h.ran (inl (among_filtered a h.acts w)))
-    (subst (λ (r : Result Removed DeleteFault). IsEnd sound p (outline h.acts) k' d.receipts.items r) e h.outcome)
+    (subst (λ (r : Result Removed DeleteFault). IsDeleteEnd sound p (outline h.acts) k' d.receipts.items r) e h.outcome)

@@ -11,7 +11,7 @@ use Rattle.px_trail.specs.Batches.{rows_of}
 use Rattle.px_trail.specs.Legal.{IsLegal}
 use Rattle.px_calls.specs.declared.ticket.Receipt.{Receipt}
 use Rattle.px_calls.specs.Known.{Known, Ran, outline}
-use Rattle.px_calls.specs.Requires.{AreFitting, FitsTable}
+use Rattle.px_calls.specs.Requires.{AreFitting, IsChangeOf}
 use Rattle.px_batch.specs.Turns as batch
 use Rattle.px_batch.specs.declared.batch.BatchFault.{BatchFault}
 use Rattle.px_batch.specs.declared.batch.BatchFault.TheVariants as unmade
@@ -41,14 +41,14 @@ use Rattle.px_deleting.specs.declared.deleted.Removed.{Removed}
 use Rattle.px_deleting.specs.declared.machine.DeleteState.{DeleteState}
 use Rattle.px_deleting.specs.declared.machine.DeleteState.TheVariants as state
 use Rattle.px_deleting.specs.declared.machine.Left.{Left}
-use Rattle.px_deleting.specs.Deleting.{AreMade, CanBegin, DeleteTurns, FitsFinding, FitsRemoving, HasFound, HasMade, IsEnd, IsEndSince, IsOutcome, IsRemoving}
+use Rattle.px_deleting.specs.Deleting.{AreMade, CanBegin, DeleteTurns, FitsFinding, FitsRemoving, HasFoundRows, HasMadeBatch, IsDeleteEnd, IsDeleteOutcome, IsEndSince, IsRemoving}
 use Rattle.px_deleting.specs.inner.Going.{IsAfterAnswer, IsAfterBatch, IsAfterFound, IsNextRun, IsStopped, IsUnread}
 use Rattle.px_deleting.proofs.Past.{all-later, can-later, fitting-later, fitting-now, found-later, made-more, ran-later, was-now}
 
 -- 1. The rows are being found
 
 -- what the seat did for the run so far is what the SELECT has opened
-so_far : (own : List Act) (s : QueryState) (acts : List Act) → own ≡ scan.opened s → own ++ outline acts ≡ scan.opened s ++ outline acts
+so_far : (own : List Act) (s : QueryState) (acts : List Act) → own ≡ scan.opened_by_query s → own ++ outline acts ≡ scan.opened_by_query s ++ outline acts
 so_far own s acts e = ap (λ (l : List Act). l ++ outline acts) e
 
 can_after : (k k' : Known) (p : Planned) (acts : List Act) → Ran k k' acts → CanBegin k p → CanBegin k' p
@@ -56,12 +56,12 @@ can_after k k' p acts r c = can-later k k' p (ran-later k k' acts r) (r.legal c.
 
 -- the run goes on
 finding_fits : (sound : Type 0) (p : Planned) (k k' : Known) (run new : SelectRun) (acts : List Act) → new.scan.query ≡ run.scan.query → new.scan.scn ≡ run.scan.scn → FitsFinding sound p run k → Ran k k' acts
-    → scan.Fits sound (query_of run.scan.query) run.scan.scn new.scan.state k' → scan.IsGoing new.scan.state → FitsFinding sound p new k'
+    → scan.FitsScan sound (query_of run.scan.query) run.scan.scn new.scan.state k' → scan.IsQueryGoing new.scan.state → FitsFinding sound p new k'
 finding_fits sound p k k' run new acts q s h r fits going = record {
   can = can_after k k' p acts r h.can;
   planned = q ∙ h.planned;
   scn = s ∙ h.scn;
-  fits = subst (λ (w : Planned). scan.Fits sound (query_of w) new.scan.scn new.scan.state k') (sym q) (subst (λ (n : Option ℕ). scan.Fits sound (query_of run.scan.query) n new.scan.state k') (sym s) fits);
+  fits = subst (λ (w : Planned). scan.FitsScan sound (query_of w) new.scan.scn new.scan.state k') (sym q) (subst (λ (n : Option ℕ). scan.FitsScan sound (query_of run.scan.query) n new.scan.state k') (sym s) fits);
   going = going;
 }
 
@@ -76,8 +76,8 @@ finds-on sound p k k' run new q s h t = record {
   edge = t.edge;
 }
 
-awaited : (p q : Planned) (scn : Option ℕ) (s : QueryState) (k : Known) (stamp : ℕ) → q ≡ p → scn ≡ None → scan.IsAwaited (query_of q) scn s k stamp → scan.IsAwaited (query_of p) None s k stamp
-awaited p q scn s k stamp e n h = subst (λ (w : Planned). scan.IsAwaited (query_of w) None s k stamp) e (subst (λ (m : Option ℕ). scan.IsAwaited (query_of q) m s k stamp) n h)
+awaited : (p q : Planned) (scn : Option ℕ) (s : QueryState) (k : Known) (stamp : ℕ) → q ≡ p → scn ≡ None → scan.IsAwaitedByQuery (query_of q) scn s k stamp → scan.IsAwaitedByQuery (query_of p) None s k stamp
+awaited p q scn s k stamp e n h = subst (λ (w : Planned). scan.IsAwaitedByQuery (query_of w) None s k stamp) e (subst (λ (m : Option ℕ). scan.IsAwaitedByQuery (query_of q) m s k stamp) n h)
 
 pub finds-waiting : (sound : Type 0) (p : Planned) (k k' : Known) (run new : SelectRun) (stamp : ℕ) → new.scan.query ≡ run.scan.query → new.scan.scn ≡ run.scan.scn → FitsFinding sound p run k
     → selecting.SelectTurns sound run.scan.query run.scan.scn run.scan.state k new.scan.state k' (selects.Waiting stamp) → DeleteTurns sound p (state.Finding run) k (state.Finding new) k' (turn.Waiting stamp)
@@ -91,17 +91,17 @@ finds-waiting sound p k k' run new stamp q s h t = record {
 }
 
 -- what the SELECT came to, as the query of the DELETE
-came_to : (sound : Type 0) (p : Planned) (k k' : Known) (run : SelectRun) (acts own : List Act) (r : Result Selected QueryFault) → FitsFinding sound p run k → own ≡ scan.opened run.scan.state
-    → selecting.IsOutcome sound run.scan.query run.scan.scn (scan.opened run.scan.state ++ outline acts) k' r → selecting.IsOutcome sound p None (own ++ outline acts) k' r
+came_to : (sound : Type 0) (p : Planned) (k k' : Known) (run : SelectRun) (acts own : List Act) (r : Result Selected QueryFault) → FitsFinding sound p run k → own ≡ scan.opened_by_query run.scan.state
+    → selecting.IsSelectOutcome sound run.scan.query run.scan.scn (scan.opened_by_query run.scan.state ++ outline acts) k' r → selecting.IsSelectOutcome sound p None (own ++ outline acts) k' r
 came_to sound p k k' run acts own r h e o =
-    subst (λ (l : List Act). selecting.IsOutcome sound p None l k' r) (sym (so_far own run.scan.state acts e))
-    (subst (λ (w : Planned). selecting.IsOutcome sound w None (scan.opened run.scan.state ++ outline acts) k' r) h.planned
-    (subst (λ (n : Option ℕ). selecting.IsOutcome sound run.scan.query n (scan.opened run.scan.state ++ outline acts) k' r) h.scn o))
+    subst (λ (l : List Act). selecting.IsSelectOutcome sound p None l k' r) (sym (so_far own run.scan.state acts e))
+    (subst (λ (w : Planned). selecting.IsSelectOutcome sound w None (scan.opened_by_query run.scan.state ++ outline acts) k' r) h.planned
+    (subst (λ (n : Option ℕ). selecting.IsSelectOutcome sound run.scan.query n (scan.opened_by_query run.scan.state ++ outline acts) k' r) h.scn o))
 
-unread_end : (sound : Type 0) (p : Planned) (own : List Act) (k : Known) (f : QueryFault) (d : Deleted) → IsUnread f (turn.Over d) → selecting.IsOutcome sound p None own k (Err f) → IsOutcome sound p own k d
-unread_end sound p own k f d u o = subst (λ (r : Result Removed DeleteFault). IsEnd sound p own k d.receipts.items r) (sym u.1) (u.0, o)
+unread_end : (sound : Type 0) (p : Planned) (own : List Act) (k : Known) (f : QueryFault) (d : Deleted) → IsUnread f (turn.Over d) → selecting.IsSelectOutcome sound p None own k (Err f) → IsDeleteOutcome sound p own k d
+unread_end sound p own k f d u o = subst (λ (r : Result Removed DeleteFault). IsDeleteEnd sound p own k d.receipts.items r) (sym u.1) (u.0, o)
 
-unread_since : (n : ℕ) (k : Known) (f : QueryFault) (d : Deleted) → IsUnread f (turn.Over d) → scan_faults.MadeSince n f k → IsEndSince n d.end k
+unread_since : (n : ℕ) (k : Known) (f : QueryFault) (d : Deleted) → IsUnread f (turn.Over d) → scan_faults.QueryFaultSince n f k → IsEndSince n d.end k
 unread_since n k f d u h = subst (λ (r : Result Removed DeleteFault). IsEndSince n r k) (sym u.1) h
 
 -- the rows were not found
@@ -120,18 +120,18 @@ finds-none sound p k k' run new f (turn.Over d) h t u = record {
 
 -- 2. The rows are found
 
-memory_is : (sound : Type 0) (p : Planned) (own : List Act) (k : Known) (a : Selected) → selecting.IsOutcome sound p None own k (Ok a) → selecting.IsOutcome sound p None own k (Err unread.Memory)
+memory_is : (sound : Type 0) (p : Planned) (own : List Act) (k : Known) (a : Selected) → selecting.IsSelectOutcome sound p None own k (Ok a) → selecting.IsSelectOutcome sound p None own k (Err unread.Memory)
 memory_is sound p own k a h = (tt, inr (_, _, h.1))
 
-found_now : (sound : Type 0) (p : Planned) (own : List Act) (k : Known) (a : Selected) (cs : List Change) → selecting.IsOutcome sound p None own k (Ok a) → AreRemovals a.shown.rows cs → HasFound sound p k a.first own cs
+found_now : (sound : Type 0) (p : Planned) (own : List Act) (k : Known) (a : Selected) (cs : List Change) → selecting.IsSelectOutcome sound p None own k (Ok a) → AreRemovals a.shown.rows cs → HasFoundRows sound p k a.first own cs
 found_now sound p own k a cs h r = record { past = k; was = was-now k; answer = a; opened = refl; outcome = h; removals = r }
 
 -- all of none
-none_end : (sound : Type 0) (p : Planned) (own : List Act) (k : Known) (a : Selected) (cs : List Change) (d : Deleted) → selecting.IsOutcome sound p None own k (Ok a) → AreRemovals a.shown.rows cs → cs ≡ []
-    → d.receipts.items ≡ [] → d.end ≡ Ok (record { rows = 0; first = a.first }) → IsOutcome sound p own k d
+none_end : (sound : Type 0) (p : Planned) (own : List Act) (k : Known) (a : Selected) (cs : List Change) (d : Deleted) → selecting.IsSelectOutcome sound p None own k (Ok a) → AreRemovals a.shown.rows cs → cs ≡ []
+    → d.receipts.items ≡ [] → d.end ≡ Ok (record { rows = 0; first = a.first }) → IsDeleteOutcome sound p own k d
 none_end sound p own k a cs d h r none rs e =
-    subst (λ (l : List Receipt). IsEnd sound p own k l d.end) (sym rs)
-    (subst (λ (w : Result Removed DeleteFault). IsEnd sound p own k [] w) (sym e) (record {
+    subst (λ (l : List Receipt). IsDeleteEnd sound p own k l d.end) (sym rs)
+    (subst (λ (w : Result Removed DeleteFault). IsDeleteEnd sound p own k [] w) (sym e) (record {
       changes = cs;
       parts = [];
       finding = own;
@@ -147,24 +147,24 @@ none_end sound p own k a cs d h r none rs e =
 next_fits : (p : Planned) (k : Known) (t : TableId) (cs : List Change) (run : BatchRun) (left : Left) → t ≡ p.table.id → IsNextRun t cs run left → IsLegal k.base k.seen → AreFitting k p.table.id.0 cs → IsStrictlySortedBy row_order (rows_of cs)
     → length (drop 1000 cs) + 1000 * (length left.receipts.items + 1) ≤ 1000 * vec_capacity left.receipts → FitsRemoving p run left k
 next_fits p k t cs run left e n legal f s room =
-    let fit : batch.Fits p.table.id (take 1000 cs) batches.Beginning k = fitting-front k p.table.id.0 1000 cs f in
+    let fit : batch.FitsBatch p.table.id (take 1000 cs) batches.Beginning k = fitting-front k p.table.id.0 1000 cs f in
     record {
       legal = legal;
       table = n.table ∙ e;
       left_table = n.left_table ∙ e;
-      fits = subst (λ (i : TableId). batch.Fits i run.changes run.state k) (sym (n.table ∙ e))
-          (subst (λ (l : List Change). batch.Fits p.table.id l run.state k) (sym n.part) (subst (λ (b : BatchState). batch.Fits p.table.id (take 1000 cs) b k) (sym n.beginning) fit));
-      going = subst (λ (b : BatchState). batch.IsGoing b) (sym n.beginning) tt;
+      fits = subst (λ (i : TableId). batch.FitsBatch i run.changes run.state k) (sym (n.table ∙ e))
+          (subst (λ (l : List Change). batch.FitsBatch p.table.id l run.state k) (sym n.part) (subst (λ (b : BatchState). batch.FitsBatch p.table.id (take 1000 cs) b k) (sym n.beginning) fit));
+      going = subst (λ (b : BatchState). batch.IsBatchGoing b) (sym n.beginning) tt;
       ordered = subst (λ (l : List Change). IsStrictlySortedBy row_order (rows_of l)) (sym n.behind) (sorted-rest 1000 cs s);
       fitting = subst (λ (l : List Change). AreFitting k p.table.id.0 l) (sym n.behind) (fitting-rest k p.table.id.0 1000 cs f);
       room = subst (λ (l : List Change). length l + 1000 * (length left.receipts.items + 1) ≤ 1000 * vec_capacity left.receipts) (sym n.behind) room;
     }
 
-begun_none : (t : TableId) (cs : List Change) (b : BatchState) → b ≡ batches.Beginning → batch.begun t cs b ≡ []
-begun_none t cs b e = ap (λ (x : BatchState). batch.begun t cs x) e
+begun_none : (t : TableId) (cs : List Change) (b : BatchState) → b ≡ batches.Beginning → batch.begun_by_batch t cs b ≡ []
+begun_none t cs b e = ap (λ (x : BatchState). batch.begun_by_batch t cs x) e
 
-since_begin : (n : ℕ) (b : BatchState) (k : Known) → b ≡ batches.Beginning → n ≤ length k.seen → batch.IsSince n b k
-since_begin n b k e h = subst (λ (x : BatchState). batch.IsSince n x k) (sym e) h
+since_begin : (n : ℕ) (b : BatchState) (k : Known) → b ≡ batches.Beginning → n ≤ length k.seen → batch.IsBatchSince n b k
+since_begin n b k e h = subst (λ (x : BatchState). batch.IsBatchSince n x k) (sym e) h
 
 some_length : (cs : List Change) → cs ≢ [] → 0 < length cs
 some_length [] h = absurd (h refl)
@@ -175,7 +175,7 @@ first_room cs m some h = let s = some_length cs some in let d = length-drop 1000
 
 -- the first batch is begun, or nothing is to be removed, or no memory was found
 pub found-then : (sound : Type 0) (p : Planned) (k k' : Known) (run : SelectRun) (ended : QueryState) (a : Selected) (cs : List Change) (new : DeleteState) (t : DeleteTurn) → FitsFinding sound p run k
-    → selecting.SelectTurns sound run.scan.query run.scan.scn run.scan.state k ended k' (selects.Over (Ok a)) → AreRemovals a.shown.rows cs → AllByRecursion (FitsTable p.table) cs → IsAfterFound p.table.id cs a.first new t
+    → selecting.SelectTurns sound run.scan.query run.scan.scn run.scan.state k ended k' (selects.Over (Ok a)) → AreRemovals a.shown.rows cs → AllByRecursion (IsChangeOf p.table) cs → IsAfterFound p.table.id cs a.first new t
     → DeleteTurns sound p (state.Finding run) k new k' t
 found-then sound p k k' run ended a cs (state.Removing next left) turn.Stepped h t r f w =
     let can = can_after k k' p t.acts t.ran h.can in
@@ -193,7 +193,7 @@ found-then sound p k k' run ended a cs (state.Removing next left) turn.Stepped h
           rest = cs;
           finding = own ++ outline t.acts;
           making = [];
-          found = subst (λ (m : ℕ). HasFound sound p k' m (own ++ outline t.acts) cs) (sym w.4) (found_now sound p (own ++ outline t.acts) k' a cs o r);
+          found = subst (λ (m : ℕ). HasFoundRows sound p k' m (own ++ outline t.acts) cs) (sym w.4) (found_now sound p (own ++ outline t.acts) k' a cs o r);
           made = subst (λ (rs : List Receipt). AreMade k' p.table.id [] rs []) (sym w.1) refl;
           split = refl;
           some = n.some;
@@ -246,12 +246,12 @@ behind own finding making began more e =
     ap (λ (l : List Act). l ++ more) e ∙ (append_assoc finding (making ++ began) more ∙ ap (λ (l : List Act). finding ++ l) (append_assoc making began more))
 
 removing_fits : (sound : Type 0) (p : Planned) (k k' : Known) (run new : BatchRun) (left : Left) (acts : List Act) → new.table ≡ run.table → new.changes ≡ run.changes → FitsRemoving p run left k → Ran k k' acts
-    → batch.Fits run.table run.changes new.state k' → batch.IsGoing new.state → FitsRemoving p new left k'
+    → batch.FitsBatch run.table run.changes new.state k' → batch.IsBatchGoing new.state → FitsRemoving p new left k'
 removing_fits sound p k k' run new left acts e c h r fits going = record {
   legal = r.legal h.legal;
   table = e ∙ h.table;
   left_table = h.left_table;
-  fits = subst (λ (i : TableId). batch.Fits i new.changes new.state k') (sym e) (subst (λ (l : List Change). batch.Fits run.table l new.state k') (sym c) fits);
+  fits = subst (λ (i : TableId). batch.FitsBatch i new.changes new.state k') (sym e) (subst (λ (l : List Change). batch.FitsBatch run.table l new.state k') (sym c) fits);
   going = going;
   ordered = h.ordered;
   fitting = fitting-later k k' p.table.id.0 left.changes.items (ran-later k k' acts r) (r.legal h.legal) h.fitting;
@@ -259,15 +259,15 @@ removing_fits sound p k k' run new left acts e c h r fits going = record {
 }
 
 -- what the batch has begun, by the number of the query's table
-begun_is : (p : Planned) (t : TableId) (cs : List Change) (b : BatchState) → t ≡ p.table.id → batch.begun t cs b ≡ batch.begun p.table.id cs b
-begun_is p t cs b e = ap (λ (i : TableId). batch.begun i cs b) e
+begun_is : (p : Planned) (t : TableId) (cs : List Change) (b : BatchState) → t ≡ p.table.id → batch.begun_by_batch t cs b ≡ batch.begun_by_batch p.table.id cs b
+begun_is p t cs b e = ap (λ (i : TableId). batch.begun_by_batch i cs b) e
 
 removing_done : (sound : Type 0) (p : Planned) (k k' : Known) (run new : BatchRun) (left : Left) (acts own : List Act) → run.table ≡ p.table.id → new.changes ≡ run.changes → Ran k k' acts
-    → batch.begun run.table run.changes run.state ++ outline acts ≡ batch.begun run.table run.changes new.state → IsRemoving sound p own k run left → IsRemoving sound p (own ++ outline acts) k' new left
+    → batch.begun_by_batch run.table run.changes run.state ++ outline acts ≡ batch.begun_by_batch run.table run.changes new.state → IsRemoving sound p own k run left → IsRemoving sound p (own ++ outline acts) k' new left
 removing_done sound p k k' run new left acts own e c r goes d =
     let later = ran-later k k' acts r in
-    let here : batch.begun p.table.id run.changes run.state ++ outline acts ≡ batch.begun p.table.id new.changes new.state =
-    ap (λ (l : List Act). l ++ outline acts) (sym (begun_is p run.table run.changes run.state e)) ∙ (goes ∙ (begun_is p run.table run.changes new.state e ∙ ap (λ (l : List Change). batch.begun p.table.id l new.state) (sym c))) in
+    let here : batch.begun_by_batch p.table.id run.changes run.state ++ outline acts ≡ batch.begun_by_batch p.table.id new.changes new.state =
+    ap (λ (l : List Act). l ++ outline acts) (sym (begun_is p run.table run.changes run.state e)) ∙ (goes ∙ (begun_is p run.table run.changes new.state e ∙ ap (λ (l : List Change). batch.begun_by_batch p.table.id l new.state) (sym c))) in
     record {
       changes = d.changes;
       parts = d.parts;
@@ -281,11 +281,11 @@ removing_done sound p k k' run new left acts own e c r goes d =
       part = c ∙ d.part;
       behind = d.behind;
       rows = d.rows;
-      own_is = behind own d.finding d.making (batch.begun p.table.id run.changes run.state) (outline acts) d.own_is ∙ ap (λ (l : List Act). d.finding ++ (d.making ++ l)) here;
+      own_is = behind own d.finding d.making (batch.begun_by_batch p.table.id run.changes run.state) (outline acts) d.own_is ∙ ap (λ (l : List Act). d.finding ++ (d.making ++ l)) here;
     }
 
 pub removes-on : (sound : Type 0) (p : Planned) (k k' : Known) (run new : BatchRun) (left : Left) → new.table ≡ run.table → new.changes ≡ run.changes → FitsRemoving p run left k
-    → batch.Turns sound run.table run.changes run.state k new.state k' came.Stepped → DeleteTurns sound p (state.Removing run left) k (state.Removing new left) k' turn.Stepped
+    → batch.BatchTurns sound run.table run.changes run.state k new.state k' came.Stepped → DeleteTurns sound p (state.Removing run left) k (state.Removing new left) k' turn.Stepped
 removes-on sound p k k' run new left e c h t = record {
   acts = t.acts;
   ran = t.ran;
@@ -296,7 +296,7 @@ removes-on sound p k k' run new left e c h t = record {
 }
 
 pub removes-waiting : (sound : Type 0) (p : Planned) (k k' : Known) (run new : BatchRun) (left : Left) (stamp : ℕ) → new.table ≡ run.table → new.changes ≡ run.changes → FitsRemoving p run left k
-    → batch.Turns sound run.table run.changes run.state k new.state k' (came.Waiting stamp) → DeleteTurns sound p (state.Removing run left) k (state.Removing new left) k' (turn.Waiting stamp)
+    → batch.BatchTurns sound run.table run.changes run.state k new.state k' (came.Waiting stamp) → DeleteTurns sound p (state.Removing run left) k (state.Removing new left) k' (turn.Waiting stamp)
 removes-waiting sound p k k' run new left stamp e c h t = record {
   acts = t.acts;
   ran = t.ran;
@@ -310,14 +310,14 @@ removes-waiting sound p k k' run new left stamp e c h t = record {
 
 -- what the seat did for a batch that is ended
 abbrev mine : Planned → BatchRun → List Act → List Act
-mine p run acts = batch.begun p.table.id run.changes run.state ++ outline acts
+mine p run acts = batch.begun_by_batch p.table.id run.changes run.state ++ outline acts
 
 -- its outcome, by the number of the query's table
 outcome_is : (sound : Type 0) (p : Planned) (k : Known) (run : BatchRun) (acts : List Act) (r : Result Receipt BatchFault) → run.table ≡ p.table.id
-    → batch.IsOutcome sound run.table run.changes (batch.begun run.table run.changes run.state ++ outline acts) k r → batch.IsOutcome sound p.table.id run.changes (mine p run acts) k r
-outcome_is sound p k run acts r e h = subst (λ (i : TableId). batch.IsOutcome sound i run.changes (batch.begun i run.changes run.state ++ outline acts) k r) e h
+    → batch.IsBatchOutcome sound run.table run.changes (batch.begun_by_batch run.table run.changes run.state ++ outline acts) k r → batch.IsBatchOutcome sound p.table.id run.changes (mine p run acts) k r
+outcome_is sound p k run acts r e h = subst (λ (i : TableId). batch.IsBatchOutcome sound i run.changes (batch.begun_by_batch i run.changes run.state ++ outline acts) k r) e h
 
-has_made : (p : Planned) (k : Known) (run : BatchRun) (acts : List Act) (r : Receipt) → batch.HasEnded p.table.id run.changes (mine p run acts) k r → HasMade k p.table.id run.changes (mine p run acts) r
+has_made : (p : Planned) (k : Known) (run : BatchRun) (acts : List Act) (r : Receipt) → batch.HasEndedBatch p.table.id run.changes (mine p run acts) k r → HasMadeBatch k p.table.id run.changes (mine p run acts) r
 has_made p k run acts r h = record { past = k; was = was-now k; ended = h }
 
 -- one part more is removed
@@ -326,13 +326,13 @@ record OneMore (sound : Type 0) (p : Planned) (own : List Act) (k : Known) (left
   parts : List (List Change)
   finding : List Act
   making : List Act
-  found : HasFound sound p k left.first finding changes
+  found : HasFoundRows sound p k left.first finding changes
   made : AreMade k p.table.id parts (left.receipts.items ++ r ∷ []) making
   split : IsSplit changes parts left.changes.items
   rows : left.rows ≡ length changes
   own_is : own ≡ finding ++ making
 
-one_more : (sound : Type 0) (p : Planned) (k k' : Known) (run : BatchRun) (left : Left) (acts own : List Act) (r : Receipt) → Ran k k' acts → batch.HasEnded p.table.id run.changes (mine p run acts) k' r → IsRemoving sound p own k run left
+one_more : (sound : Type 0) (p : Planned) (k k' : Known) (run : BatchRun) (left : Left) (acts own : List Act) (r : Receipt) → Ran k k' acts → batch.HasEndedBatch p.table.id run.changes (mine p run acts) k' r → IsRemoving sound p own k run left
     → OneMore sound p (own ++ outline acts) k' left r
 one_more sound p k k' run left acts own r ran ended d =
     let later = ran-later k k' acts ran in
@@ -346,15 +346,15 @@ one_more sound p k k' run left acts own r ran ended d =
       split = subst (λ (l : List Change). IsSplit d.changes (d.parts ++ l ∷ []) left.changes.items) (sym d.part)
           (subst (λ (l : List Change). IsSplit d.changes (d.parts ++ take 1000 d.rest ∷ []) l) (sym d.behind) (split-more d.changes d.parts d.rest d.split d.some));
       rows = d.rows;
-      own_is = behind own d.finding d.making (batch.begun p.table.id run.changes run.state) (outline acts) d.own_is;
+      own_is = behind own d.finding d.making (batch.begun_by_batch p.table.id run.changes run.state) (outline acts) d.own_is;
     }
 
 -- nothing is left
 all_removed : (sound : Type 0) (p : Planned) (own : List Act) (k : Known) (left : Left) (r : Receipt) (d : Deleted) → OneMore sound p own k left r → left.changes.items ≡ [] → d.receipts.items ≡ left.receipts.items ++ r ∷ []
-    → d.end ≡ Ok (record { rows = left.rows; first = left.first }) → IsOutcome sound p own k d
+    → d.end ≡ Ok (record { rows = left.rows; first = left.first }) → IsDeleteOutcome sound p own k d
 all_removed sound p own k left r d o none rs e =
-    subst (λ (l : List Receipt). IsEnd sound p own k l d.end) (sym rs)
-    (subst (λ (w : Result Removed DeleteFault). IsEnd sound p own k (left.receipts.items ++ r ∷ []) w) (sym e) (record {
+    subst (λ (l : List Receipt). IsDeleteEnd sound p own k l d.end) (sym rs)
+    (subst (λ (w : Result Removed DeleteFault). IsDeleteEnd sound p own k (left.receipts.items ++ r ∷ []) w) (sym e) (record {
       changes = o.changes;
       parts = o.parts;
       finding = o.finding;
@@ -368,10 +368,10 @@ all_removed sound p own k left r d o none rs e =
 
 -- no memory was found for the next part
 no_memory : (sound : Type 0) (p : Planned) (own : List Act) (k : Known) (left : Left) (r : Receipt) (d : Deleted) → OneMore sound p own k left r → left.changes.items ≢ [] → d.receipts.items ≡ left.receipts.items ++ r ∷ []
-    → d.end ≡ Err (fault.Unmade unmade.Memory) → IsOutcome sound p own k d
+    → d.end ≡ Err (fault.Unmade unmade.Memory) → IsDeleteOutcome sound p own k d
 no_memory sound p own k left r d o some rs e =
-    subst (λ (l : List Receipt). IsEnd sound p own k l d.end) (sym rs)
-    (subst (λ (w : Result Removed DeleteFault). IsEnd sound p own k (left.receipts.items ++ r ∷ []) w) (sym e) (record {
+    subst (λ (l : List Receipt). IsDeleteEnd sound p own k l d.end) (sym rs)
+    (subst (λ (w : Result Removed DeleteFault). IsDeleteEnd sound p own k (left.receipts.items ++ r ∷ []) w) (sym e) (record {
       changes = o.changes;
       parts = o.parts;
       rest = left.changes.items;
@@ -396,7 +396,7 @@ going_on sound p own k left new next r o n rs rows first = record {
   rest = left.changes.items;
   finding = o.finding;
   making = o.making;
-  found = subst (λ (m : ℕ). HasFound sound p k m o.finding o.changes) (sym first) o.found;
+  found = subst (λ (m : ℕ). HasFoundRows sound p k m o.finding o.changes) (sym first) o.found;
   made = subst (λ (l : List Receipt). AreMade k p.table.id o.parts l o.making) (sym rs) o.made;
   split = o.split;
   some = n.some;
@@ -420,11 +420,11 @@ room_for left new r some h rs cap =
     rw (one, cap) next
 
 -- when it ended
-ended_at : (sound : Type 0) (n : ℕ) (table : TableId) (cs : List Change) (own : List Act) (k : Known) (r : Receipt) → batch.IsOutcome sound table cs own k (Ok r) → n ≤ r.at → n ≤ length k.seen
+ended_at : (sound : Type 0) (n : ℕ) (table : TableId) (cs : List Change) (own : List Act) (k : Known) (r : Receipt) → batch.IsBatchOutcome sound table cs own k (Ok r) → n ≤ r.at → n ≤ length k.seen
 ended_at sound n table cs own k r o h = let e = o.receipt.at in omega arith
 
 pub removes-then : (sound : Type 0) (p : Planned) (k k' : Known) (run : BatchRun) (left : Left) (ended : BatchState) (r : Receipt) (new : DeleteState) (t : DeleteTurn) → FitsRemoving p run left k
-    → batch.Turns sound run.table run.changes run.state k ended k' (came.Over (Ok r)) → IsAfterBatch left r new t → DeleteTurns sound p (state.Removing run left) k new k' t
+    → batch.BatchTurns sound run.table run.changes run.state k ended k' (came.Over (Ok r)) → IsAfterBatch left r new t → DeleteTurns sound p (state.Removing run left) k new k' t
 removes-then sound p k k' run left ended r (state.Removing next new) turn.Stepped h t w =
     let legal = t.ran.legal h.legal in
     record {
@@ -454,12 +454,12 @@ removes-then sound p k k' run left ended r state.Over (turn.Over d) h t (rs, inr
 removes-then sound p k k' run left ended r new t' h t w = absurd w
 
 -- a batch isn't made, and none behind it
-stopped_end : (sound : Type 0) (p : Planned) (k k' : Known) (run : BatchRun) (left : Left) (acts own : List Act) (f : BatchFault) (d : Deleted) → Ran k k' acts → batch.IsOutcome sound p.table.id run.changes (mine p run acts) k' (Err f)
-    → IsRemoving sound p own k run left → IsStopped left.receipts.items f (turn.Over d) → IsOutcome sound p (own ++ outline acts) k' d
+stopped_end : (sound : Type 0) (p : Planned) (k k' : Known) (run : BatchRun) (left : Left) (acts own : List Act) (f : BatchFault) (d : Deleted) → Ran k k' acts → batch.IsBatchOutcome sound p.table.id run.changes (mine p run acts) k' (Err f)
+    → IsRemoving sound p own k run left → IsStopped left.receipts.items f (turn.Over d) → IsDeleteOutcome sound p (own ++ outline acts) k' d
 stopped_end sound p k k' run left acts own f d ran o b s =
     let later = ran-later k k' acts ran in
-    subst (λ (l : List Receipt). IsEnd sound p (own ++ outline acts) k' l d.end) (sym s.0)
-    (subst (λ (w : Result Removed DeleteFault). IsEnd sound p (own ++ outline acts) k' left.receipts.items w) (sym s.1) (record {
+    subst (λ (l : List Receipt). IsDeleteEnd sound p (own ++ outline acts) k' l d.end) (sym s.0)
+    (subst (λ (w : Result Removed DeleteFault). IsDeleteEnd sound p (own ++ outline acts) k' left.receipts.items w) (sym s.1) (record {
       changes = b.changes;
       parts = b.parts;
       rest = b.rest;
@@ -471,12 +471,12 @@ stopped_end sound p k k' run left acts own f d ran o b s =
       made = all-later k k' p.table.id b.parts left.receipts.items b.making later b.made;
       split = b.split;
       some = b.some;
-      outcome = subst (λ (l : List Change). batch.IsOutcome sound p.table.id l (mine p run acts) k' (Err f)) b.part o;
-      own_is = behind own b.finding b.making (batch.begun p.table.id run.changes run.state) (outline acts) b.own_is;
+      outcome = subst (λ (l : List Change). batch.IsBatchOutcome sound p.table.id l (mine p run acts) k' (Err f)) b.part o;
+      own_is = behind own b.finding b.making (batch.begun_by_batch p.table.id run.changes run.state) (outline acts) b.own_is;
     }))
 
 pub removes-no-more : (sound : Type 0) (p : Planned) (k k' : Known) (run : BatchRun) (left : Left) (ended : BatchState) (f : BatchFault) (t : DeleteTurn) → FitsRemoving p run left k
-    → batch.Turns sound run.table run.changes run.state k ended k' (came.Over (Err f)) → IsStopped left.receipts.items f t → DeleteTurns sound p (state.Removing run left) k state.Over k' t
+    → batch.BatchTurns sound run.table run.changes run.state k ended k' (came.Over (Err f)) → IsStopped left.receipts.items f t → DeleteTurns sound p (state.Removing run left) k state.Over k' t
 removes-no-more sound p k k' run left ended f turn.Stepped h t s = absurd s
 removes-no-more sound p k k' run left ended f (turn.Waiting n) h t s = absurd s
 removes-no-more sound p k k' run left ended f (turn.Over d) h t s = record {

@@ -10,11 +10,11 @@ use Rattle.px_trail.specs.declared.entry.Entry.{Entry}
 use Rattle.px_trail.specs.Legal.{IsLegal}
 use Rattle.px_trail.specs.Trail.{Base, catalogue_of, table_of}
 use Rattle.px_calls.specs.declared.ticket.Receipt.{Receipt}
-use Rattle.px_calls.specs.Known.{Known, Passes, Ran}
-use Rattle.px_calls.specs.Requires.{AreFitting, FitsTable}
+use Rattle.px_calls.specs.Known.{Known, Ran, TimePasses}
+use Rattle.px_calls.specs.Requires.{AreFitting, IsChangeOf}
 use Rattle.px_calls.proofs.Stays.{drawn-stays, grown-fits, table-was}
 use Rattle.px_planned.specs.declared.planned.Planned.{Planned}
-use Rattle.px_deleting.specs.Deleting.{AreMade, CanBegin, HasFound, HasMade, WasKnown}
+use Rattle.px_deleting.specs.Deleting.{AreMade, CanBegin, HasFoundRows, HasMadeBatch, WasKnown}
 
 -- 1. Moments
 
@@ -28,7 +28,7 @@ pub record Later (k k' : Known) : Type 0 where
 pub ran-later : (k k' : Known) (acts : List Act) → Ran k k' acts → Later k k'
 ran-later k k' acts h = record { more = h.added; seen = h.seen; base = h.base; seat = h.seat }
 
-pub passes-later : (k k' : Known) → Passes k k' → Later k k'
+pub passes-later : (k k' : Known) → TimePasses k k' → Later k k'
 passes-later k k' h = record { more = h.others; seen = h.seen; base = h.base; seat = h.seat }
 
 pub was-now : (k : Known) → WasKnown k k
@@ -44,10 +44,10 @@ was-later past k k' h w = record {
 
 -- 2. What was found and made
 
-pub found-later : (sound : Type 0) (p : Planned) (k k' : Known) (first : ℕ) (acts : List Act) (cs : List Change) → Later k k' → HasFound sound p k first acts cs → HasFound sound p k' first acts cs
+pub found-later : (sound : Type 0) (p : Planned) (k k' : Known) (first : ℕ) (acts : List Act) (cs : List Change) → Later k k' → HasFoundRows sound p k first acts cs → HasFoundRows sound p k' first acts cs
 found-later sound p k k' first acts cs h f = record { past = f.past; was = was-later f.past k k' h f.was; answer = f.answer; opened = f.opened; outcome = f.outcome; removals = f.removals }
 
-pub made-later : (k k' : Known) (t : TableId) (cs : List Change) (acts : List Act) (r : Receipt) → Later k k' → HasMade k t cs acts r → HasMade k' t cs acts r
+pub made-later : (k k' : Known) (t : TableId) (cs : List Change) (acts : List Act) (r : Receipt) → Later k k' → HasMadeBatch k t cs acts r → HasMadeBatch k' t cs acts r
 made-later k k' t cs acts r h m = record { past = m.past; was = was-later m.past k k' h m.was; ended = m.ended }
 
 pub all-later : (k k' : Known) (t : TableId) (parts : List (List Change)) (rs : List Receipt) (acts : List Act) → Later k k' → AreMade k t parts rs acts → AreMade k' t parts rs acts
@@ -57,7 +57,7 @@ all-later k k' t (cs ∷ parts) [] acts h m = absurd m
 all-later k k' t (cs ∷ parts) (r ∷ rs) acts h m = (m.0, m.1, m.2, made-later k k' t cs m.0 r h m.3, all-later k k' t parts rs m.1 h m.4)
 
 -- one batch more
-pub made-more : (k : Known) (t : TableId) (parts : List (List Change)) (rs : List Receipt) (acts : List Act) (cs : List Change) (r : Receipt) (mine : List Act) → AreMade k t parts rs acts → HasMade k t cs mine r
+pub made-more : (k : Known) (t : TableId) (parts : List (List Change)) (rs : List Receipt) (acts : List Act) (cs : List Change) (r : Receipt) (mine : List Act) → AreMade k t parts rs acts → HasMadeBatch k t cs mine r
     → AreMade k t (parts ++ cs ∷ []) (rs ++ r ∷ []) (acts ++ mine)
 made-more k t [] [] acts cs r mine m h = (mine, [], ap (λ (l : List Act). l ++ mine) m ∙ sym (append-nil mine), h, refl)
 made-more k t [] (x ∷ rs) acts cs r mine m h = absurd m
@@ -86,8 +86,8 @@ pub fitting-later : (k k' : Known) (t : ℕ) (cs : List Change) → Later k k' �
 fitting-later k k' t cs h legal f = grown-fits k k' h.more t cs h.seen h.base legal f
 
 -- changes that fit the table to which the query was bound
-pub fitting-now : (k : Known) (p : Planned) (cs : List Change) → CanBegin k p → AllByRecursion (FitsTable p.table) cs → AreFitting k p.table.id.0 cs
+pub fitting-now : (k : Known) (p : Planned) (cs : List Change) → CanBegin k p → AllByRecursion (IsChangeOf p.table) cs → AreFitting k p.table.id.0 cs
 fitting-now k p cs c f = record {
   drawn = c.bound.drawn;
-  each = λ x now. subst (λ (y : Table). AllByRecursion (FitsTable y) cs) (sym (c.bound.is x now)) f;
+  each = λ x now. subst (λ (y : Table). AllByRecursion (IsChangeOf y) cs) (sym (c.bound.is x now)) f;
 }

@@ -4,7 +4,7 @@ use Rattle.px_values.specs.declared.change.Change.{Change}
 use Rattle.px_tables.specs.declared.table.Table.{Table}
 use Rattle.px_expr.specs.declared.bound.Bound.{Bound}
 use Rattle.px_trail.specs.declared.entry.Act.{Act}
-use Rattle.px_calls.specs.Known.{Known, Passes, outline}
+use Rattle.px_calls.specs.Known.{Known, TimePasses, outline}
 use Rattle.px_calls.proofs.Runs.{outline-append, ran-then}
 use Rattle.px_batch.proofs.Turning as batching
 use Rattle.px_planned.specs.Queries.{query_of}
@@ -17,13 +17,13 @@ use Rattle.px_deleting.specs.declared.deleted.DeleteTurn.TheVariants as turn
 use Rattle.px_deleting.specs.declared.deleted.Deleted.{Deleted}
 use Rattle.px_deleting.specs.declared.machine.DeleteState.{DeleteState}
 use Rattle.px_deleting.specs.declared.machine.DeleteState.TheVariants as state
-use Rattle.px_deleting.specs.Deleting.{AreCurrent, CanBegin, DeleteTurns, Fits, HasDone, HasFound, IsNew, IsOutcome, RanDelete, SoFar}
+use Rattle.px_deleting.specs.Deleting.{AreCurrent, CanBegin, DeleteTurns, FitsDelete, HasDone, HasFoundRows, IsDeleteNew, IsDeleteOutcome, RanDelete, SoFar}
 use Rattle.px_deleting.proofs.Past.{all-later, can-later, fitting-later, found-later, passes-later}
 
 -- 1. Between two steps
 
 -- entries of other seats leave a run as it is
-pub fits-kept : (sound : Type 0) (p : Planned) (s : DeleteState) (k k' : Known) → Passes k k' → Fits sound p s k → Fits sound p s k'
+pub fits-kept : (sound : Type 0) (p : Planned) (s : DeleteState) (k k' : Known) → TimePasses k k' → FitsDelete sound p s k → FitsDelete sound p s k'
 fits-kept sound p (state.Finding run) k k' h f = record {
   can = can-later k k' p (passes-later k k' h) h.legal f.can;
   planned = f.planned;
@@ -44,7 +44,7 @@ fits-kept sound p (state.Removing run left) k k' h f = record {
 fits-kept sound p state.Over k k' h f = tt
 
 -- and what was done for it
-pub done-kept : (sound : Type 0) (p : Planned) (own : List Act) (s : DeleteState) (k k' : Known) → Passes k k' → HasDone sound p own s k → HasDone sound p own s k'
+pub done-kept : (sound : Type 0) (p : Planned) (own : List Act) (s : DeleteState) (k k' : Known) → TimePasses k k' → HasDone sound p own s k → HasDone sound p own s k'
 done-kept sound p own (state.Finding run) k k' h d = d
 done-kept sound p own (state.Removing run left) k k' h d =
     let later = passes-later k k' h in
@@ -67,11 +67,11 @@ done-kept sound p own state.Over k k' h d = tt
 
 -- 2. On the way
 
-pub begins : (sound : Type 0) (p : Planned) (s : DeleteState) (k : Known) → IsNew p s → CanBegin k p → SoFar sound p k k s
+pub begins : (sound : Type 0) (p : Planned) (s : DeleteState) (k : Known) → IsDeleteNew p s → CanBegin k p → SoFar sound p k k s
 begins sound p (state.Finding run) k h c =
     let bound = subst (λ (w : Planned). scan.IsBound k (query_of w)) (sym h.0) c.bound in
-    let scn : scan.SoFar sound (query_of run.scan.query) run.scan.scn k k run.scan.state =
-    subst (λ (n : Option ℕ). scan.SoFar sound (query_of run.scan.query) n k k run.scan.state) (sym h.1) (scanning.starts sound (query_of run.scan.query) None run.scan.state k h.2 bound tt) in
+    let scn : scan.QuerySoFar sound (query_of run.scan.query) run.scan.scn k k run.scan.state =
+    subst (λ (n : Option ℕ). scan.QuerySoFar sound (query_of run.scan.query) n k k run.scan.state) (sym h.1) (scanning.starts sound (query_of run.scan.query) None run.scan.state k h.2 bound tt) in
     record {
       acts = scn.acts;
       ran = scn.ran;
@@ -113,13 +113,13 @@ ends-as sound p k0 k k' old new d h t =
     record {
       acts = h.acts ++ t.acts;
       ran = ran-then k0 k k' h.acts t.acts h.ran t.ran;
-      outcome = subst (λ (l : List Act). IsOutcome sound p l k' d) (sym (outline-append h.acts t.acts)) told.1;
+      outcome = subst (λ (l : List Act). IsDeleteOutcome sound p l k' d) (sym (outline-append h.acts t.acts)) told.1;
       since = t.since (length k0.seen) h.since;
     }
 
 -- 3. Which rows
 
-pub are-current : (sound : Type 0) (t : Table) (filter : Option Bound) (k : Known) (first : ℕ) (acts : List Act) (cs : List Change) → HasFound sound (planned_for t filter) k first acts cs → sound → AreCurrent k t filter first cs
+pub are-current : (sound : Type 0) (t : Table) (filter : Option Bound) (k : Known) (first : ℕ) (acts : List Act) (cs : List Change) → HasFoundRows sound (planned_for t filter) k first acts cs → sound → AreCurrent k t filter first cs
 are-current sound t filter k first acts cs h is =
     let selected = h.outcome.0 in
     let answer = selected.answer is in

@@ -19,7 +19,7 @@ use Rattle.px_calls.specs.Requires.{AreFitting}
 use Rattle.px_batch.specs.Turns as batch
 use Rattle.px_batch.specs.declared.batch.BatchFault.{BatchFault}
 use Rattle.px_batch.specs.declared.run.BatchRun.{BatchRun}
-use Rattle.px_gather.specs.Answers.{IsPointOf}
+use Rattle.px_gather.specs.Answers.{IsPointOfQuery}
 use Rattle.px_gather.specs.Query.{IsPathFor}
 use Rattle.px_planned.specs.Queries.{query_of}
 use Rattle.px_planned.specs.declared.planned.Planned.{Planned}
@@ -52,24 +52,24 @@ pub record WasKnown (past k : Known) : Type 0 where
   pub seat : k.seat ≡ past.seat
 
 -- the rows were found, by a query whose point was opened and closed, and these changes remove them
-pub record HasFound (sound : Type 0) (p : Planned) (k : Known) (first : ℕ) (acts : List Act) (cs : List Change) : Type 0 where
+pub record HasFoundRows (sound : Type 0) (p : Planned) (k : Known) (first : ℕ) (acts : List Act) (cs : List Change) : Type 0 where
   pub past : Known
   pub was : WasKnown past k
   pub answer : Selected
   pub opened : answer.first ≡ first
-  pub outcome : selecting.IsOutcome sound p None acts past (Ok answer)
+  pub outcome : selecting.IsSelectOutcome sound p None acts past (Ok answer)
   pub removals : AreRemovals answer.shown.rows cs
 
 -- the batch was begun and ended, and has this receipt
-pub record HasMade (k : Known) (t : TableId) (cs : List Change) (acts : List Act) (r : Receipt) : Type 0 where
+pub record HasMadeBatch (k : Known) (t : TableId) (cs : List Change) (acts : List Act) (r : Receipt) : Type 0 where
   pub past : Known
   pub was : WasKnown past k
-  pub ended : batch.HasEnded t cs acts past r
+  pub ended : batch.HasEndedBatch t cs acts past r
 
 -- these batches were made, one after another
 abbrev pub AreMade : Known → TableId → List (List Change) → List Receipt → List Act → Type 0
 AreMade k t [] [] acts = acts ≡ []
-AreMade k t (cs ∷ parts) (r ∷ rs) acts = (mine : List Act) × (others : List Act) × (acts ≡ mine ++ others) × HasMade k t cs mine r × AreMade k t parts rs others
+AreMade k t (cs ∷ parts) (r ∷ rs) acts = (mine : List Act) × (others : List Act) × (acts ≡ mine ++ others) × HasMadeBatch k t cs mine r × AreMade k t parts rs others
 AreMade k t parts rs acts = ⊥
 
 -- the rows are found, some of their parts are removed, and the next one is under way
@@ -79,18 +79,18 @@ pub record IsRemoving (sound : Type 0) (p : Planned) (own : List Act) (k : Known
   pub rest : List Change
   pub finding : List Act
   pub making : List Act
-  pub found : HasFound sound p k left.first finding changes
+  pub found : HasFoundRows sound p k left.first finding changes
   pub made : AreMade k p.table.id parts left.receipts.items making
   pub split : IsSplit changes parts rest
   pub some : rest ≢ []
   pub part : run.changes ≡ take 1000 rest
   pub behind : left.changes.items ≡ drop 1000 rest
   pub rows : left.rows ≡ length changes
-  pub own_is : own ≡ finding ++ (making ++ batch.begun p.table.id run.changes run.state)
+  pub own_is : own ≡ finding ++ (making ++ batch.begun_by_batch p.table.id run.changes run.state)
 
 -- what the seat began, ended, opened, closed and defined for the run so far
 abbrev pub HasDone : Type 0 → Planned → List Act → DeleteState → Known → Type 0
-HasDone sound p own (state.Finding run) k = own ≡ scan.opened run.scan.state
+HasDone sound p own (state.Finding run) k = own ≡ scan.opened_by_query run.scan.state
 HasDone sound p own (state.Removing run left) k = IsRemoving sound p own k run left
 HasDone sound p own state.Over k = Unit {0}
 
@@ -101,44 +101,44 @@ pub record CanBegin (k : Known) (p : Planned) : Type 0 where
   pub legal : IsLegal k.base k.seen
   pub bound : scan.IsBound k (query_of p)
 
-abbrev pub IsNew : Planned → DeleteState → Type 0
-IsNew p (state.Finding run) = (run.scan.query ≡ p) × (run.scan.scn ≡ None) × scan.IsNew run.scan.state
-IsNew p s = ⊥
+abbrev pub IsDeleteNew : Planned → DeleteState → Type 0
+IsDeleteNew p (state.Finding run) = (run.scan.query ≡ p) × (run.scan.scn ≡ None) × scan.IsQueryNew run.scan.state
+IsDeleteNew p s = ⊥
 
 -- the rows are being found
 pub record FitsFinding (sound : Type 0) (p : Planned) (run : SelectRun) (k : Known) : Type 0 where
   pub can : CanBegin k p
   pub planned : run.scan.query ≡ p
   pub scn : run.scan.scn ≡ None
-  pub fits : scan.Fits sound (query_of run.scan.query) run.scan.scn run.scan.state k
-  pub going : scan.IsGoing run.scan.state
+  pub fits : scan.FitsScan sound (query_of run.scan.query) run.scan.scn run.scan.state k
+  pub going : scan.IsQueryGoing run.scan.state
 
 -- a batch of them is being removed, and there is room for the receipts of all batches that are left
 pub record FitsRemoving (p : Planned) (run : BatchRun) (left : Left) (k : Known) : Type 0 where
   pub legal : IsLegal k.base k.seen
   pub table : run.table ≡ p.table.id
   pub left_table : left.table ≡ p.table.id
-  pub fits : batch.Fits run.table run.changes run.state k
-  pub going : batch.IsGoing run.state
+  pub fits : batch.FitsBatch run.table run.changes run.state k
+  pub going : batch.IsBatchGoing run.state
   pub ordered : IsStrictlySortedBy row_order (rows_of left.changes.items)
   pub fitting : AreFitting k p.table.id.0 left.changes.items
   pub room : length left.changes.items + 1000 * (length left.receipts.items + 1) ≤ 1000 * vec_capacity left.receipts
 
 -- The state is as the trail tells. Others' entries keep this
-abbrev pub Fits : Type 0 → Planned → DeleteState → Known → Type 0
-Fits sound p (state.Finding run) k = FitsFinding sound p run k
-Fits sound p (state.Removing run left) k = FitsRemoving p run left k
-Fits sound p state.Over k = Unit {0}
+abbrev pub FitsDelete : Type 0 → Planned → DeleteState → Known → Type 0
+FitsDelete sound p (state.Finding run) k = FitsFinding sound p run k
+FitsDelete sound p (state.Removing run left) k = FitsRemoving p run left k
+FitsDelete sound p state.Over k = Unit {0}
 
-abbrev pub IsGoing : DeleteState → Type 0
-IsGoing state.Over = ⊥
-IsGoing s = Unit {0}
+abbrev pub IsDeleteGoing : DeleteState → Type 0
+IsDeleteGoing state.Over = ⊥
+IsDeleteGoing s = Unit {0}
 
 -- nothing was opened or begun before the first n entries were there
-abbrev pub IsSince : ℕ → DeleteState → Known → Type 0
-IsSince n (state.Finding run) k = scan.IsSince n run.scan.state k
-IsSince n (state.Removing run left) k = (n ≤ left.first) × batch.IsSince n run.state k
-IsSince n state.Over k = Unit {0}
+abbrev pub IsDeleteSince : ℕ → DeleteState → Known → Type 0
+IsDeleteSince n (state.Finding run) k = scan.IsQuerySince n run.scan.state k
+IsDeleteSince n (state.Removing run left) k = (n ≤ left.first) × batch.IsBatchSince n run.state k
+IsDeleteSince n state.Over k = Unit {0}
 
 -- 3. Outcomes
 
@@ -148,7 +148,7 @@ pub record HasRemoved (sound : Type 0) (p : Planned) (own : List Act) (k : Known
   pub parts : List (List Change)
   pub finding : List Act
   pub making : List Act
-  pub found : HasFound sound p k m.first finding changes
+  pub found : HasFoundRows sound p k m.first finding changes
   pub made : AreMade k p.table.id parts rs making
   pub split : IsSplit changes parts []
   pub rows : m.rows ≡ length changes
@@ -163,59 +163,59 @@ pub record HasStopped (sound : Type 0) (p : Planned) (own : List Act) (k : Known
   pub finding : List Act
   pub making : List Act
   pub stopping : List Act
-  pub found : HasFound sound p k first finding changes
+  pub found : HasFoundRows sound p k first finding changes
   pub made : AreMade k p.table.id parts rs making
   pub split : IsSplit changes parts rest
   pub some : rest ≢ []
-  pub outcome : batch.IsOutcome sound p.table.id (take 1000 rest) stopping k (Err f)
+  pub outcome : batch.IsBatchOutcome sound p.table.id (take 1000 rest) stopping k (Err f)
   pub own_is : own ≡ finding ++ (making ++ stopping)
 
 -- What a DELETE came to, where `own` is what the seat began, ended, opened, closed and defined for it
-abbrev pub IsEnd : Type 0 → Planned → List Act → Known → List Receipt → Result Removed DeleteFault → Type 0
-IsEnd sound p own k rs (Ok m) = HasRemoved sound p own k rs m
-IsEnd sound p own k rs (Err (fault.Unread f)) = (rs ≡ []) × selecting.IsOutcome sound p None own k (Err f)
-IsEnd sound p own k rs (Err (fault.Unmade f)) = HasStopped sound p own k rs f
+abbrev pub IsDeleteEnd : Type 0 → Planned → List Act → Known → List Receipt → Result Removed DeleteFault → Type 0
+IsDeleteEnd sound p own k rs (Ok m) = HasRemoved sound p own k rs m
+IsDeleteEnd sound p own k rs (Err (fault.Unread f)) = (rs ≡ []) × selecting.IsSelectOutcome sound p None own k (Err f)
+IsDeleteEnd sound p own k rs (Err (fault.Unmade f)) = HasStopped sound p own k rs f
 
-abbrev pub IsOutcome : Type 0 → Planned → List Act → Known → Deleted → Type 0
-IsOutcome sound p own k d = IsEnd sound p own k d.receipts.items d.end
+abbrev pub IsDeleteOutcome : Type 0 → Planned → List Act → Known → Deleted → Type 0
+IsDeleteOutcome sound p own k d = IsDeleteEnd sound p own k d.receipts.items d.end
 
 -- its point was opened after the first n entries, or the entry of a failed device call came after them
 abbrev pub IsEndSince : ℕ → Result Removed DeleteFault → Known → Type 0
 IsEndSince n (Ok m) k = n ≤ m.first
-IsEndSince n (Err (fault.Unread f)) k = scan_faults.MadeSince n f k
-IsEndSince n (Err (fault.Unmade f)) k = batch.MadeSince n f k
+IsEndSince n (Err (fault.Unread f)) k = scan_faults.QueryFaultSince n f k
+IsEndSince n (Err (fault.Unmade f)) k = batch.BatchFaultSince n f k
 
 -- 4. Steps
 
 -- the batch that waits, and for which
 abbrev pub IsAwaited : Planned → DeleteState → Known → ℕ → Type 0
-IsAwaited p (state.Finding run) k stamp = scan.IsAwaited (query_of p) None run.scan.state k stamp
+IsAwaited p (state.Finding run) k stamp = scan.IsAwaitedByQuery (query_of p) None run.scan.state k stamp
 IsAwaited p (state.Removing run left) k stamp = batch.Waits k run.state stamp
 IsAwaited p state.Over k stamp = ⊥
 
 -- what a step came to, where `own` is what the seat began, ended, opened, closed and defined for the run so far
 abbrev pub Told : Type 0 → Planned → DeleteState → List Act → DeleteState → Known → DeleteTurn → Type 0
-Told sound p old own new k turn.Stepped = IsGoing new × HasDone sound p own new k
-Told sound p old own new k (turn.Waiting stamp) = IsGoing new × HasDone sound p own new k × IsAwaited p old k stamp
-Told sound p old own new k (turn.Over d) = (new ≡ state.Over) × IsOutcome sound p own k d
+Told sound p old own new k turn.Stepped = IsDeleteGoing new × HasDone sound p own new k
+Told sound p old own new k (turn.Waiting stamp) = IsDeleteGoing new × HasDone sound p own new k × IsAwaited p old k stamp
+Told sound p old own new k (turn.Over d) = (new ≡ state.Over) × IsDeleteOutcome sound p own k d
 
-abbrev pub IsSinceThen : ℕ → DeleteState → Known → DeleteTurn → Type 0
-IsSinceThen n new k turn.Stepped = IsSince n new k
-IsSinceThen n new k (turn.Waiting stamp) = IsSince n new k
-IsSinceThen n new k (turn.Over d) = IsEndSince n d.end k
+abbrev pub IsDeleteSinceThen : ℕ → DeleteState → Known → DeleteTurn → Type 0
+IsDeleteSinceThen n new k turn.Stepped = IsDeleteSince n new k
+IsDeleteSinceThen n new k (turn.Waiting stamp) = IsDeleteSince n new k
+IsDeleteSinceThen n new k (turn.Over d) = IsEndSince n d.end k
 
 -- while the rows are being found, each call is one that px_scan makes there
 abbrev pub Edge : Type 0 → DeleteState → Known → DeleteState → Known → Type 0
-Edge sound (state.Finding run) k (state.Finding new) k' = scan.Edge sound run.scan.state k new.scan.state k'
+Edge sound (state.Finding run) k (state.Finding new) k' = scan.QueryEdge sound run.scan.state k new.scan.state k'
 Edge sound s k new k' = Unit {0}
 
 -- one step of a DELETE
 pub record DeleteTurns (sound : Type 0) (p : Planned) (old : DeleteState) (k : Known) (new : DeleteState) (k' : Known) (t : DeleteTurn) : Type 0 where
   pub acts : List Act
   pub ran : Ran k k' acts
-  pub fits : Fits sound p new k'
+  pub fits : FitsDelete sound p new k'
   pub told : (own : List Act) → HasDone sound p own old k → Told sound p old (own ++ outline acts) new k' t
-  pub since : (n : ℕ) → IsSince n old k → IsSinceThen n new k' t
+  pub since : (n : ℕ) → IsDeleteSince n old k → IsDeleteSinceThen n new k' t
   pub edge : Edge sound old k new k'
 
 -- 5. A whole DELETE
@@ -223,7 +223,7 @@ pub record DeleteTurns (sound : Type 0) (p : Planned) (old : DeleteState) (k : K
 pub record RanDelete (sound : Type 0) (p : Planned) (k k' : Known) (d : Deleted) : Type 0 where
   pub acts : List Act
   pub ran : Ran k k' acts
-  pub outcome : IsOutcome sound p (outline acts) k' d
+  pub outcome : IsDeleteOutcome sound p (outline acts) k' d
   pub since : IsEndSince (length k.seen) d.end k'
 
 -- a DELETE on its way
@@ -231,9 +231,9 @@ pub record SoFar (sound : Type 0) (p : Planned) (k k' : Known) (s : DeleteState)
   pub acts : List Act
   pub ran : Ran k k' acts
   pub done : HasDone sound p (outline acts) s k'
-  pub fits : Fits sound p s k'
-  pub going : IsGoing s
-  pub since : IsSince (length k.seen) s k'
+  pub fits : FitsDelete sound p s k'
+  pub going : IsDeleteGoing s
+  pub since : IsDeleteSince (length k.seen) s k'
 
 -- 6. Which rows
 
@@ -242,7 +242,7 @@ pub record AreCurrent (k : Known) (t : Table) (filter : Option Bound) (first : �
   pub past : Known
   pub was : WasKnown past k
   pub point : Point
-  pub is_point : IsPointOf past.base past.seen (query_of (planned_for t filter)) None point
+  pub is_point : IsPointOfQuery past.base past.seen (query_of (planned_for t filter)) None point
   pub path : Path
   pub chosen : IsPathFor (query_of (planned_for t filter)) point path
   pub given : List Given

@@ -4,7 +4,7 @@ ghost use Rattle.std.specs.List.Sorted.{IsStrictlySortedBy};
 ghost use Rattle.px_values.specs.Order.{row_order};
 ghost use Rattle.px_trail.specs.Batches.{rows_of};
 ghost use Rattle.px_planned.specs.declared.planned.Planned.{Planned as Plans};
-ghost use Rattle.px_deleting.specs.Deleting.{DeleteTurns, Fits, IsGoing};
+ghost use Rattle.px_deleting.specs.Deleting.{DeleteTurns, FitsDelete, IsDeleteGoing};
 ghost use Rattle.px_deleting.specs.inner.Going.{IsAfterAnswer, IsAfterBatch, IsAfterFound, IsStopped, IsUnread, IsWhole};
 
 use crate::deleted::{DeleteFault, DeleteTurn, Deleted, Removed};
@@ -112,8 +112,8 @@ fn found(alloc: Global, run: &SelectRun, selected: Selected) -> (DeleteState, De
 
 /// Goes on to find the rows.
 fn find<S: Steps>(s: &mut S, alloc: Global, mut run: SelectRun) -> (DeleteState, DeleteTurn)
-    requires { (p : Plans) × Fits S.sound p (DeleteState.Finding run) (S.known s.old) }
-    ensures turns { (p : Plans) → Fits S.sound p (DeleteState.Finding run) (S.known s.old) → DeleteTurns S.sound p (DeleteState.Finding run) (S.known s.old) result.0 (S.known s.new) result.1 }
+    requires { (p : Plans) × FitsDelete S.sound p (DeleteState.Finding run) (S.known s.old) }
+    ensures turns { (p : Plans) → FitsDelete S.sound p (DeleteState.Finding run) (S.known s.old) → DeleteTurns S.sound p (DeleteState.Finding run) (S.known s.old) result.0 (S.known s.new) result.1 }
     ensures one_call { S.one_call s.old s.new }
 {
     match run.step(s) {
@@ -195,8 +195,8 @@ fn remove<S: Steps>(
     mut run: BatchRun,
     left: Left,
 ) -> (DeleteState, DeleteTurn)
-    requires { (p : Plans) × Fits S.sound p (DeleteState.Removing run left) (S.known s.old) }
-    ensures turns { (p : Plans) → Fits S.sound p (DeleteState.Removing run left) (S.known s.old) → DeleteTurns S.sound p (DeleteState.Removing run left) (S.known s.old) result.0 (S.known s.new) result.1 }
+    requires { (p : Plans) × FitsDelete S.sound p (DeleteState.Removing run left) (S.known s.old) }
+    ensures turns { (p : Plans) → FitsDelete S.sound p (DeleteState.Removing run left) (S.known s.old) → DeleteTurns S.sound p (DeleteState.Removing run left) (S.known s.old) result.0 (S.known s.new) result.1 }
     ensures one_call { S.one_call s.old s.new }
 {
     match run.step(s) {
@@ -224,9 +224,9 @@ pub(crate) fn advance<S: Steps>(
     alloc: Global,
     state: DeleteState,
 ) -> (DeleteState, DeleteTurn)
-    requires fits { (p : Plans) × Fits S.sound p state (S.known s.old) }
-    requires going { IsGoing state }
-    ensures turns { (p : Plans) → Fits S.sound p state (S.known s.old) → DeleteTurns S.sound p state (S.known s.old) result.0 (S.known s.new) result.1 }
+    requires fits { (p : Plans) × FitsDelete S.sound p state (S.known s.old) }
+    requires going { IsDeleteGoing state }
+    ensures turns { (p : Plans) → FitsDelete S.sound p state (S.known s.old) → DeleteTurns S.sound p state (S.known s.old) result.0 (S.known s.new) result.1 }
     ensures one_call { S.one_call s.old s.new }
 {
     match state {

@@ -2,7 +2,7 @@
 ghost use Rattle.std.specs.Prelude.{◌≡◌, IfOk};
 ghost use Rattle.px_planned.specs.declared.planned.Planned.{Planned as Plans};
 ghost use Rattle.px_deleting.specs.Asking.{planned_for};
-ghost use Rattle.px_deleting.specs.Deleting.{CanBegin, DeleteTurns, Fits, IsGoing, IsNew, RanDelete};
+ghost use Rattle.px_deleting.specs.Deleting.{CanBegin, DeleteTurns, FitsDelete, IsDeleteGoing, IsDeleteNew, RanDelete};
 
 use crate::asking;
 use crate::deleted::{DeleteTurn, Deleted};
@@ -24,7 +24,7 @@ pub struct DeleteRun {
 impl DeleteRun {
     /// A run that has made no step, of the rows of a table that meet a condition.
     pub fn new(alloc: Global, table: Table, filter: Option<Bound>) -> Result<DeleteRun, AllocError>
-        ensures { IfOk result (λ run. IsNew (planned_for table filter) run.state) }
+        ensures { IfOk result (λ run. IsDeleteNew (planned_for table filter) run.state) }
     {
         let planned = asking::planned(alloc, table, filter)?;
         Ok(DeleteRun {
@@ -35,9 +35,9 @@ impl DeleteRun {
 
     /// Makes one call.
     pub fn step<S: Steps>(&mut self, s: &mut S) -> DeleteTurn
-        requires fits { (p : Plans) × Fits S.sound p self.old.state (S.known s.old) }
-        requires going { IsGoing self.old.state }
-        ensures turns { (p : Plans) → Fits S.sound p self.old.state (S.known s.old) → DeleteTurns S.sound p self.old.state (S.known s.old) self.new.state (S.known s.new) result }
+        requires fits { (p : Plans) × FitsDelete S.sound p self.old.state (S.known s.old) }
+        requires going { IsDeleteGoing self.old.state }
+        ensures turns { (p : Plans) → FitsDelete S.sound p self.old.state (S.known s.old) → DeleteTurns S.sound p self.old.state (S.known s.old) self.new.state (S.known s.new) result }
         ensures one_call { S.one_call s.old s.new }
     {
         let state = mem::replace(&mut self.state, DeleteState::Over);
@@ -60,8 +60,8 @@ impl DeleteRun {
 
 /// Removes rows. It tries again for as long as the server is busy or an earlier batch is pending.
 pub fn run_delete<R: Wait, S: Steps>(rt: &R, s: &mut S, mut run: DeleteRun) -> Deleted
-    requires new { (p : Plans) × IsNew p run.state × CanBegin (S.known s.old) p }
-    ensures { (p : Plans) → IsNew p run.state → CanBegin (S.known s.old) p → RanDelete S.sound p (S.known s.old) (S.known s.new) result }
+    requires new { (p : Plans) × IsDeleteNew p run.state × CanBegin (S.known s.old) p }
+    ensures { (p : Plans) → IsDeleteNew p run.state → CanBegin (S.known s.old) p → RanDelete S.sound p (S.known s.old) (S.known s.new) result }
 {
     'steps: for _ in rt.forever() {
         match run.step(s) {

@@ -10,7 +10,7 @@ use Rattle.px_tables.specs.declared.index.IndexState.TheVariants.{Building, Disa
 use Rattle.px_trail.specs.declared.entry.Act.TheVariants.{IndexState}
 use Rattle.px_trail.specs.Trail.{Catalogue, catalogue_step, numbers_for, set_number, with_state}
 use Rattle.px_trail.proofs.Standing.{set_number-other, set_number-same}
-use Rattle.px_schema.specs.Stands.{after}
+use Rattle.px_schema.specs.Stands.{stands_after}
 use Rattle.px_schema.specs.declared.item.CatalogItem.TheVariants.{IndexIs}
 use Rattle.px_schema.specs.declared.standing.Standing.{Standing}
 use Rattle.px_schema.proofs.Numbers.{below_next}
@@ -52,8 +52,8 @@ module _ (s : Standing) (c : Catalogue) (k : Agrees s c) (t : TableId) (i : Inde
   low = found_all number_of_index index_in index_finder (λ (w : Index). AllByRecursion (λ (n : ℕ). n < s.next) (w.region ∷ w.id.0 ∷ [])) s.indexes i.0 x k.order.below.indexes found
 
   -- the index in this state
-  module _ (state : BuildState) (y : Index) (same : x.id.0 ≡ y.id.0) (table : x.table.0 ≡ y.table.0) (is : with_state state stamp c.next (Some x) ≡ Some y) (next : (after s (IndexIs y)).next ≡ s.next + numbers_for state) where
-    put : AreSwapped x y same table s.indexes (after s (IndexIs y)).indexes
+  module _ (state : BuildState) (y : Index) (same : x.id.0 ≡ y.id.0) (table : x.table.0 ≡ y.table.0) (is : with_state state stamp c.next (Some x) ≡ Some y) (next : (stands_after s (IndexIs y)).next ≡ s.next + numbers_for state) where
+    put : AreSwapped x y same table s.indexes (stands_after s (IndexIs y)).indexes
     put = put_swapped x y same table s.indexes (ap (index_in s.indexes) (sym same ∙ number) ∙ found) (rising_apart s.indexes k.order.indexes)
 
     told : with_state state stamp c.next (c.indexes i.0) ≡ Some y
@@ -62,12 +62,12 @@ module _ (s : Standing) (c : Catalogue) (k : Agrees s c) (t : TableId) (i : Inde
     at : (q : ℕ) → i.0 ≡ q → set_number i.0 (with_state state stamp c.next (c.indexes i.0)) c.indexes q ≡ with_state state stamp c.next (c.indexes i.0)
     at q same = subst (λ (m : ℕ). set_number i.0 (with_state state stamp c.next (c.indexes i.0)) c.indexes m ≡ with_state state stamp c.next (c.indexes i.0)) same (set_number-same i.0 (with_state state stamp c.next (c.indexes i.0)) c.indexes)
 
-    in_state : Agrees (after s (IndexIs y)) (catalogue_step c (IndexState t i state stamp))
+    in_state : Agrees (stands_after s (IndexIs y)) (catalogue_step c (IndexState t i state stamp))
     unfolding catalogue_step
     in_state = record {
       order = record {
         tables = k.order.tables;
-        indexes = rising_swapped x y same table s.indexes (after s (IndexIs y)).indexes put k.order.indexes;
+        indexes = rising_swapped x y same table s.indexes (stands_after s (IndexIs y)).indexes put k.order.indexes;
         below = below_next s (IndexIs y) k.order.below;
       };
       next = next ∙ ap (λ (n : ℕ). n + numbers_for state) k.next;
@@ -78,8 +78,8 @@ module _ (s : Standing) (c : Catalogue) (k : Agrees s c) (t : TableId) (i : Inde
       ];
     }
 
-  pub agrees_disabled : Agrees (after s (IndexIs (disabled x))) (catalogue_step c (IndexState t i Disabled stamp))
+  pub agrees_disabled : Agrees (stands_after s (IndexIs (disabled x))) (catalogue_step c (IndexState t i Disabled stamp))
   agrees_disabled = in_state Disabled (disabled x) refl refl refl (let a = low.0 in let d = low.1.0 in omega (arith, a, d))
 
-  pub agrees_rebuilt : Agrees (after s (IndexIs (rebuilt stamp s.next x))) (catalogue_step c (IndexState t i Building stamp))
+  pub agrees_rebuilt : Agrees (stands_after s (IndexIs (rebuilt stamp s.next x))) (catalogue_step c (IndexState t i Building stamp))
   agrees_rebuilt = in_state Building (rebuilt stamp s.next x) refl refl (ap (λ (n : ℕ). Some (rebuilt stamp n x)) (sym k.next)) (let d = low.1.0 in omega (arith, d))

@@ -19,13 +19,13 @@ use Rattle.px_indexed.specs.Idle.{IsElsewhere}
 use Rattle.px_indexed.proofs.Idle.{act_idle}
 use Rattle.px_groupworld.specs.Group.{GroupData, GroupKept}
 use Rattle.px_groupworld.proofs.Entries.{group_idle}
-use Rattle.px_schema.specs.Stands.{after}
+use Rattle.px_schema.specs.Stands.{stands_after}
 use Rattle.px_schema.specs.declared.item.CatalogItem.TheVariants.{IndexIs}
 use Rattle.px_schema.specs.declared.standing.Standing.{Standing}
 use Rattle.px_schema.proofs.Numbers.{below_next, next_up, put_all_indexes}
 use Rattle.px_recovery.specs.Folder.{FolderData, with_standing}
 use Rattle.px_recovery.specs.Stands.{AreNumbered, Explains, TellsCatalogue, opened_index}
-use Rattle.px_recovery.specs.Tables.{form_of, index_in, number_of_index, region_of_index, table_in, without_index}
+use Rattle.px_recovery.specs.Tables.{form_of_table, index_in, number_of_index, region_of_index, table_in, without_index}
 use Rattle.px_recovery.proofs.Swaps.{AreSwapped, distinct_kept, none_kept, put_here, put_other}
 use Rattle.px_standing.proofs.Finder.{found_all, found_number}
 use Rattle.px_standing.proofs.Looked.{index_finder}
@@ -63,7 +63,7 @@ module _ (b : Base) (es : List Entry) (f : FolderData) (v : ℕ → GroupData) (
   y = disabled z
 
   abbrev now : Standing
-  now = after s (IndexIs y)
+  now = stands_after s (IndexIs y)
 
   number : z.id.0 ≡ i.0
   number = found_number number_of_index index_in index_finder s.indexes i.0 z stood
@@ -116,8 +116,8 @@ module _ (b : Base) (es : List Entry) (f : FolderData) (v : ℕ → GroupData) (
   abbrev w' : GroupData
   w' = without_index y.id.0 (v t.0)
 
-  kept_now : GroupKept (form_of b now.indexes x) es' w'
-  kept_now = (group_idle (form_of b now.indexes x) es w' (kept_less b es f v told e may idle t x found z y refl refl stood' mine closed) e may (act_idle x.id e (idle x.id))).kept
+  kept_now : GroupKept (form_of_table b now.indexes x) es' w'
+  kept_now = (group_idle (form_of_table b now.indexes x) es w' (kept_less b es f v told e may idle t x found z y refl refl stood' mine closed) e may (act_idle x.id e (idle x.id))).kept
 
   gone : Explains b es' (with_standing now f) (with_part v t.0 w')
   gone =

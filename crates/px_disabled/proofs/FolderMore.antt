@@ -26,13 +26,13 @@ use Rattle.px_groupworld.specs.Steps.{born_data}
 use Rattle.px_groupworld.proofs.Births.{group_born}
 use Rattle.px_region.specs.Region.{RegionData}
 use Rattle.px_tablefolder.specs.Folder.{last_cell}
-use Rattle.px_schema.specs.Stands.{after}
+use Rattle.px_schema.specs.Stands.{stands_after}
 use Rattle.px_schema.specs.declared.item.CatalogItem.TheVariants.{IndexIs}
 use Rattle.px_schema.specs.declared.standing.Standing.{Standing}
 use Rattle.px_schema.proofs.Numbers.{below_next, next_up, put_all_indexes}
 use Rattle.px_recovery.specs.Folder.{AreUnmade, FolderData, no_data, with_standing}
 use Rattle.px_recovery.specs.Stands.{AreNumbered, Explains, TellsCatalogue, opened_index}
-use Rattle.px_recovery.specs.Tables.{HasIndex, form_in, form_of, index_in, number_of, number_of_index, region_of_index, table_in, without_index}
+use Rattle.px_recovery.specs.Tables.{HasTableIndex, form_of_index, form_of_table, index_in, number_of_index, number_of_part, region_of_index, table_in, without_index}
 use Rattle.px_recovery.proofs.Ends.{distinct_end, get_end_new, get_end_old, none_under}
 use Rattle.px_recovery.proofs.Numbered.{rows_number}
 use Rattle.px_recovery.proofs.Swaps.{AreSwapped, distinct_kept, put_here, put_other}
@@ -54,7 +54,7 @@ anew_twice : (o : Option Index) (stamp n : ℕ) → anew stamp n (opened_index o
 anew_twice None stamp n = refl
 anew_twice (Some z) stamp n = refl
 
-none_twice : (n : ℕ) (xs : List IndexPart) → ((j : ℕ) → j < length xs → (get_or xs j no_part).id ≢ n) → HasNone number_of n xs
+none_twice : (n : ℕ) (xs : List IndexPart) → ((j : ℕ) → j < length xs → (get_or xs j no_part).id ≢ n) → HasNone number_of_part n xs
 none_twice n [] each = tt
 none_twice n (p ∷ xs) each = (each 0 (omega arith), none_twice n xs (λ j l. each (suc j) (omega (arith, l))))
 
@@ -76,7 +76,7 @@ module _ (b : Base) (es : List Entry) (f : FolderData) (unmade : AreUnmade f) (v
   y = rebuilt stamp s.next z
 
   abbrev now : Standing
-  now = after s (IndexIs y)
+  now = stands_after s (IndexIs y)
 
   abbrev n : ℕ
   n = y.id.0
@@ -166,10 +166,10 @@ module _ (b : Base) (es : List Entry) (f : FolderData) (unmade : AreUnmade f) (v
   here : index_in now.indexes n ≡ Some y
   here = put_here z y refl refl s.indexes n refl
 
-  kept_born : GroupKept (form_of b now.indexes x) es' born
+  kept_born : GroupKept (form_of_table b now.indexes x) es' born
   kept_born =
-      (group_born (form_of b now.indexes x) es w' (kept_less b es f v told e may idle t x found z y refl refl stood' mine closed) e may (act_idle x.id e (idle x.id)) n stamp (subst (λ (k : ℕ). last_of b k es < stamp) (sym own') drawn) drawn_now
-      (subst (λ (k : IndexForm). IsIndexForm k) (sym (ap (form_in x) here)) (form_laws x y))).kept
+      (group_born (form_of_table b now.indexes x) es w' (kept_less b es f v told e may idle t x found z y refl refl stood' mine closed) e may (act_idle x.id e (idle x.id)) n stamp (subst (λ (k : ℕ). last_of b k es < stamp) (sym own') drawn) drawn_now
+      (subst (λ (k : IndexForm). IsIndexForm k) (sym (ap (form_of_index x) here)) (form_laws x y))).kept
 
   nothing_there : f.regions s.next ≡ no_data
   nothing_there = unmade s.next (omega arith)
@@ -184,16 +184,16 @@ module _ (b : Base) (es : List Entry) (f : FolderData) (unmade : AreUnmade f) (v
   holds : (k : ℕ) → k < length w'.indexes → (k < length born.indexes) × (get_or born.indexes k no_part ≡ get_or w'.indexes k no_part)
   holds k l = ((let m = length-append w'.indexes (part ∷ []) in omega (arith, m, l)), get_end_old w'.indexes part no_part k l)
 
-  once_born : AreDistinct number_of born.indexes
-  once_born = distinct_end number_of w'.indexes part (once_less b es f v told e may idle t x found z y refl refl stood' mine closed) (none_twice n w'.indexes (none_less b es f v told e may idle t x found z y refl refl stood' mine closed))
+  once_born : AreDistinct number_of_part born.indexes
+  once_born = distinct_end number_of_part w'.indexes part (once_less b es f v told e may idle t x found z y refl refl stood' mine closed) (none_twice n w'.indexes (none_less b es f v told e may idle t x found z y refl refl stood' mine closed))
 
-  stand_born : (j : ℕ) → j < length born.indexes → HasIndex now.indexes x.id.0 (get_or born.indexes j no_part).id
+  stand_born : (j : ℕ) → j < length born.indexes → HasTableIndex now.indexes x.id.0 (get_or born.indexes j no_part).id
   stand_born j l = elim (cases_lt j (length w'.indexes)) [
-    | inl m ↦ subst (λ (p : IndexPart). HasIndex now.indexes x.id.0 p.id) (sym (get_end_old w'.indexes part no_part j m)) (stand_less b es f v told e may idle t x found z y refl refl stood' mine closed j m)
+    | inl m ↦ subst (λ (p : IndexPart). HasTableIndex now.indexes x.id.0 p.id) (sym (get_end_old w'.indexes part no_part j m)) (stand_less b es f v told e may idle t x found z y refl refl stood' mine closed j m)
     | inr m ↦
         let k = length-append w'.indexes (part ∷ []) in
         let at : j ≡ length w'.indexes = omega (arith, k, l, m) in
-        subst (λ (p : IndexPart). HasIndex now.indexes x.id.0 p.id) (sym (get_end_new w'.indexes part no_part j at)) (y, (here, mine ∙ sym own'))
+        subst (λ (p : IndexPart). HasTableIndex now.indexes x.id.0 p.id) (sym (get_end_new w'.indexes part no_part j at)) (y, (here, mine ∙ sym own'))
   ]
 
   anew_told : Explains b es' (with_standing now f) (with_part v t.0 born)

@@ -17,16 +17,16 @@ use Rattle.px_trail.proofs.Growth.{last-snoc, legal-snoc}
 use Rattle.px_indexed.specs.Idle.{IsElsewhere}
 use Rattle.px_indexed.proofs.Idle.{act_idle}
 use Rattle.px_indexed.proofs.Regions.{none_above}
-use Rattle.px_groupworld.specs.Group.{GroupData, GroupKept, IndexPart, index_in as index_at, no_part}
+use Rattle.px_groupworld.specs.Group.{GroupData, GroupKept, IndexPart, indexed_at, no_part}
 use Rattle.px_groupworld.proofs.Entries.{group_idle}
 use Rattle.px_tablefolder.specs.Folder.{IndexFiles, IsFilesOf, IsFolderOf, last_cell, no_files}
 use Rattle.px_tablefolder.proofs.Stamped.{cells_within}
-use Rattle.px_schema.specs.Stands.{after}
+use Rattle.px_schema.specs.Stands.{stands_after}
 use Rattle.px_schema.specs.declared.item.CatalogItem.TheVariants.{IndexIs}
 use Rattle.px_schema.specs.declared.standing.Standing.{Standing}
 use Rattle.px_recovery.specs.Folder.{FolderData, with_standing}
 use Rattle.px_recovery.specs.Stands.{AreNumbered, Explains, TellsCatalogue}
-use Rattle.px_recovery.specs.Tables.{HasIndex, TellsTable, form_in, form_of, index_files, index_in, indexes_of, is_active, number_of, table_files, table_in, without_index}
+use Rattle.px_recovery.specs.Tables.{HasTableIndex, TellsTable, form_of_index, form_of_table, index_files, index_in, indexes_of, is_active, number_of_part, table_files, table_in, without_index}
 use Rattle.px_recovery.proofs.Fewer.{from_filter, kept_fewer, to_filter}
 use Rattle.px_recovery.proofs.Forms.{other_forms, same_table}
 use Rattle.px_recovery.proofs.IndexDrops.{once_fewer}
@@ -78,7 +78,7 @@ module _ (b : Base) (es : List Entry) (f : FolderData) (v : ℕ → GroupData) (
   es' = es ++ e ∷ []
 
   abbrev now : Standing
-  now = after s (IndexIs y)
+  now = stands_after s (IndexIs y)
 
   abbrev w : GroupData
   w = v t.0
@@ -107,7 +107,7 @@ module _ (b : Base) (es : List Entry) (f : FolderData) (v : ℕ → GroupData) (
   tells_other q k apart at =
       let there = told.tables q k at in
       let num = found_number s.tables q k at in
-      same_table b es es' f now k (v q) there (group_idle (form_of b s.indexes k) es (v q) there.kept e may (act_idle k.id e (idle k.id))).kept (last_up k.id.0)
+      same_table b es es' f now k (v q) there (group_idle (form_of_table b s.indexes k) es (v q) there.kept e may (act_idle k.id e (idle k.id))).kept (last_up k.id.0)
       (λ m i stands its. stays m i (λ is.
       let one : Some z ≡ Some i = sym stood ∙ (ap (index_in s.indexes) (sym is) ∙ stands) in
       let one_is : z ≡ i = cc in
@@ -119,24 +119,24 @@ module _ (b : Base) (es : List Entry) (f : FolderData) (v : ℕ → GroupData) (
   abbrev keeps : IndexPart → Bool
   keeps p = not (p.id == n)
 
-  stand_from : (m : ℕ) → m < length w.indexes → keeps (get_or w.indexes m no_part) ≡ true → HasIndex now.indexes x.id.0 (get_or w.indexes m no_part).id
+  stand_from : (m : ℕ) → m < length w.indexes → keeps (get_or w.indexes m no_part) ≡ true → HasTableIndex now.indexes x.id.0 (get_or w.indexes m no_part).id
   stand_from m l kept = (let h = here.stand m l in (h.0, (stays (get_or w.indexes m no_part).id h.0 (not_same (get_or w.indexes m no_part).id n kept) h.1.0, h.1.1)))
 
-  pub stand_less : (k : ℕ) → k < length w'.indexes → HasIndex now.indexes x.id.0 (get_or w'.indexes k no_part).id
-  stand_less k l = (let m = from_filter keeps w.indexes no_part k l in subst (λ (p : IndexPart). HasIndex now.indexes x.id.0 p.id) (sym m.1.1.0) (stand_from m.0 m.1.0 m.1.1.1))
+  pub stand_less : (k : ℕ) → k < length w'.indexes → HasTableIndex now.indexes x.id.0 (get_or w'.indexes k no_part).id
+  stand_less k l = (let m = from_filter keeps w.indexes no_part k l in subst (λ (p : IndexPart). HasTableIndex now.indexes x.id.0 p.id) (sym m.1.1.0) (stand_from m.0 m.1.0 m.1.1.1))
 
-  form_from : (m : ℕ) → m < length w.indexes → keeps (get_or w.indexes m no_part) ≡ true → form_in x (index_in now.indexes (get_or w.indexes m no_part).id) ≡ form_in x (index_in s.indexes (get_or w.indexes m no_part).id)
-  form_from m l kept = (let h = here.stand m l in ap (form_in x) (stays (get_or w.indexes m no_part).id h.0 (not_same (get_or w.indexes m no_part).id n kept) h.1.0 ∙ sym h.1.0))
+  form_from : (m : ℕ) → m < length w.indexes → keeps (get_or w.indexes m no_part) ≡ true → form_of_index x (index_in now.indexes (get_or w.indexes m no_part).id) ≡ form_of_index x (index_in s.indexes (get_or w.indexes m no_part).id)
+  form_from m l kept = (let h = here.stand m l in ap (form_of_index x) (stays (get_or w.indexes m no_part).id h.0 (not_same (get_or w.indexes m no_part).id n kept) h.1.0 ∙ sym h.1.0))
 
-  form_less : (k : ℕ) → k < length w'.indexes → form_in x (index_in now.indexes (get_or w'.indexes k no_part).id) ≡ form_in x (index_in s.indexes (get_or w'.indexes k no_part).id)
+  form_less : (k : ℕ) → k < length w'.indexes → form_of_index x (index_in now.indexes (get_or w'.indexes k no_part).id) ≡ form_of_index x (index_in s.indexes (get_or w'.indexes k no_part).id)
   form_less k l =
       (let m = from_filter keeps w.indexes no_part k l in
-      subst (λ (p : IndexPart). form_in x (index_in now.indexes p.id) ≡ form_in x (index_in s.indexes p.id)) (sym m.1.1.0) (form_from m.0 m.1.0 m.1.1.1))
+      subst (λ (p : IndexPart). form_of_index x (index_in now.indexes p.id) ≡ form_of_index x (index_in s.indexes p.id)) (sym m.1.1.0) (form_from m.0 m.1.0 m.1.1.1))
 
-  pub kept_less : GroupKept (form_of b now.indexes x) es w'
-  kept_less = other_forms (form_of b s.indexes x) (λ m. form_in x (index_in now.indexes m)) es w' form_less (kept_fewer (form_of b s.indexes x) es w keeps here.kept closed)
+  pub kept_less : GroupKept (form_of_table b now.indexes x) es w'
+  kept_less = other_forms (form_of_table b s.indexes x) (λ m. form_of_index x (index_in now.indexes m)) es w' form_less (kept_fewer (form_of_table b s.indexes x) es w keeps here.kept closed)
 
-  pub once_less : AreDistinct number_of w'.indexes
+  pub once_less : AreDistinct number_of_part w'.indexes
   once_less = once_fewer keeps w.indexes here.once
 
   pub none_less : (k : ℕ) → k < length w'.indexes → (get_or w'.indexes k no_part).id ≢ n
@@ -209,7 +209,7 @@ module _ (b : Base) (es : List Entry) (f : FolderData) (v : ℕ → GroupData) (
       | inr k ↦ subst (λ (m : Index). ((g m).birth ≤ most) × (last_cell (g m).cells ≤ most)) (sym k.1) (birth, stamps)
     ]
 
-    pub files_now : IsFolderOf (form_of b now.indexes x) es' (record w { indexes = parts; opens = [] }) (table_files (with_standing now f) x)
+    pub files_now : IsFolderOf (form_of_table b now.indexes x) es' (record w { indexes = parts; opens = [] }) (table_files (with_standing now f) x)
     files_now = record {
       horizon = here.files.horizon;
       cells = here.files.cells;
@@ -222,7 +222,7 @@ module _ (b : Base) (es : List Entry) (f : FolderData) (v : ℕ → GroupData) (
     next = record w { indexes = parts; opens = [] }
 
     -- the folder is told
-    module _ (kept : GroupKept (form_of b now.indexes x) es' next) (once : AreDistinct number_of parts) (stand : (k : ℕ) → k < length parts → HasIndex now.indexes x.id.0 (get_or parts k no_part).id) where
+    module _ (kept : GroupKept (form_of_table b now.indexes x) es' next) (once : AreDistinct number_of_part parts) (stand : (k : ℕ) → k < length parts → HasTableIndex now.indexes x.id.0 (get_or parts k no_part).id) where
       tells_own : TellsTable b es' (with_standing now f) x next
       tells_own = record { kept = kept; files = files_now; placed = here.placed; once = once; stand = stand }
 
@@ -253,7 +253,7 @@ module _ (b : Base) (es : List Entry) (f : FolderData) (v : ℕ → GroupData) (
           let same_birth = its.birth in (
             omega (arith, birth, same_birth),
             (
-              cells_within (g (get_or old q z)).cells (last_of b x.id.0 es) (λ k c p d above. ap (λ (u : Contents). u k c p d) (sym its.cells) ∙ none_above (index_at (form_of b s.indexes x) w o.0).form (last_of b x.id.0 es) (get_or w.indexes o.0 no_part).cells kept.cells k c p d above),
+              cells_within (g (get_or old q z)).cells (last_of b x.id.0 es) (λ k c p d above. ap (λ (u : Contents). u k c p d) (sym its.cells) ∙ none_above (indexed_at (form_of_table b s.indexes x) w o.0).form (last_of b x.id.0 es) (get_or w.indexes o.0 no_part).cells kept.cells k c p d above),
               below,
             ),
           )

@@ -20,7 +20,7 @@ ghost use Rattle.px_outside.specs.Parts.{with_part};
 ghost use Rattle.px_recovery.specs.Folder.{AreUnmade, FolderData, with_standing};
 ghost use Rattle.px_recovery.specs.Stands.{Explains};
 ghost use Rattle.px_recovery.specs.Tables.{index_in, table_in, without_index};
-ghost use Rattle.px_schema.specs.Stands.{after};
+ghost use Rattle.px_schema.specs.Stands.{stands_after};
 ghost use Rattle.px_schema.specs.declared.item.CatalogItem.TheVariants.{IndexIs};
 ghost use Rattle.px_schema.specs.declared.standing.Standing.{Standing as Definitions};
 ghost use Rattle.px_standing.specs.Agrees.{Agrees};
@@ -50,12 +50,12 @@ pub fn law_rebuilt()
 
 /// What stands with the index's new record is what the trail tells after the entry: disabled, or building with the stamp and the next number.
 pub fn law_stands()
-    ensures gone { (s : Definitions) → (c : Catalogue) → Agrees s c → (t : TableNumber) → (i : IndexNumber) → (stamp : ℕ) → (x : Indexes) → index_in s.indexes i.0 ≡ Some x → Agrees (after s (IndexIs (disabled x))) (catalogue_step c (IndexState t i IsDisabled stamp)) }
-    ensures anew { (s : Definitions) → (c : Catalogue) → Agrees s c → (t : TableNumber) → (i : IndexNumber) → (stamp : ℕ) → (x : Indexes) → index_in s.indexes i.0 ≡ Some x → Agrees (after s (IndexIs (rebuilt stamp s.next x))) (catalogue_step c (IndexState t i IsBuilding stamp)) }
+    ensures gone { (s : Definitions) → (c : Catalogue) → Agrees s c → (t : TableNumber) → (i : IndexNumber) → (stamp : ℕ) → (x : Indexes) → index_in s.indexes i.0 ≡ Some x → Agrees (stands_after s (IndexIs (disabled x))) (catalogue_step c (IndexState t i IsDisabled stamp)) }
+    ensures anew { (s : Definitions) → (c : Catalogue) → Agrees s c → (t : TableNumber) → (i : IndexNumber) → (stamp : ℕ) → (x : Indexes) → index_in s.indexes i.0 ≡ Some x → Agrees (stands_after s (IndexIs (rebuilt stamp s.next x))) (catalogue_step c (IndexState t i IsBuilding stamp)) }
 {}
 
 /// And the folder is told then: the table without the index, or with it anew, where its old region is of no part and its new one has nothing.
 pub fn law_folder()
-    ensures gone { (b : Base) → (es : List Entries) → (f : FolderData) → (v : ℕ → GroupData) → Explains b es f v → (e : Entries) → MayCome b es e → (t : TableNumber) → (i : IndexNumber) → (stamp : ℕ) → e.act ≡ IndexState t i IsDisabled stamp → (x : DefinedTable) → table_in f.standing.tables t.0 ≡ Some x → (z : Indexes) → index_in f.standing.indexes i.0 ≡ Some z → z.table.0 ≡ t.0 → (v t.0).opens ≡ [] → Explains b (es ++ e ∷ []) (with_standing (after f.standing (IndexIs (disabled z))) f) (with_part v t.0 (without_index i.0 (v t.0))) }
-    ensures anew { (b : Base) → (es : List Entries) → (f : FolderData) → AreUnmade f → (v : ℕ → GroupData) → Explains b es f v → (e : Entries) → MayCome b es e → (t : TableNumber) → (i : IndexNumber) → (stamp : ℕ) → e.act ≡ IndexState t i IsBuilding stamp → (x : DefinedTable) → table_in f.standing.tables t.0 ≡ Some x → (z : Indexes) → index_in f.standing.indexes i.0 ≡ Some z → z.table.0 ≡ t.0 → (v t.0).opens ≡ [] → Explains b (es ++ e ∷ []) (with_standing (after f.standing (IndexIs (rebuilt stamp f.standing.next z))) f) (with_part v t.0 (born_data i.0 stamp (without_index i.0 (v t.0)))) }
+    ensures gone { (b : Base) → (es : List Entries) → (f : FolderData) → (v : ℕ → GroupData) → Explains b es f v → (e : Entries) → MayCome b es e → (t : TableNumber) → (i : IndexNumber) → (stamp : ℕ) → e.act ≡ IndexState t i IsDisabled stamp → (x : DefinedTable) → table_in f.standing.tables t.0 ≡ Some x → (z : Indexes) → index_in f.standing.indexes i.0 ≡ Some z → z.table.0 ≡ t.0 → (v t.0).opens ≡ [] → Explains b (es ++ e ∷ []) (with_standing (stands_after f.standing (IndexIs (disabled z))) f) (with_part v t.0 (without_index i.0 (v t.0))) }
+    ensures anew { (b : Base) → (es : List Entries) → (f : FolderData) → AreUnmade f → (v : ℕ → GroupData) → Explains b es f v → (e : Entries) → MayCome b es e → (t : TableNumber) → (i : IndexNumber) → (stamp : ℕ) → e.act ≡ IndexState t i IsBuilding stamp → (x : DefinedTable) → table_in f.standing.tables t.0 ≡ Some x → (z : Indexes) → index_in f.standing.indexes i.0 ≡ Some z → z.table.0 ≡ t.0 → (v t.0).opens ≡ [] → Explains b (es ++ e ∷ []) (with_standing (stands_after f.standing (IndexIs (rebuilt stamp f.standing.next z))) f) (with_part v t.0 (born_data i.0 stamp (without_index i.0 (v t.0)))) }
 {}

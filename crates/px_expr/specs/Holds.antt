@@ -7,7 +7,7 @@ use Rattle.px_ast.specs.declared.condition.Comparison.TheVariants as c
 use Rattle.px_values.specs.Order.{value_order}
 use Rattle.px_values.specs.declared.row.Value as values
 use Rattle.px_values.specs.declared.row.Value.TheVariants.{Null}
-use Rattle.px_expr.specs.Truth.{told, opposite, negated_if, ◌and◌, ◌or◌, some_of}
+use Rattle.px_expr.specs.Truth.{known_truth, opposite, negated_if, ◌and◌, ◌or◌, some_of}
 use Rattle.px_expr.specs.declared.bound.Truth.{Truth}
 use Rattle.px_expr.specs.declared.bound.Truth.TheVariants as truths
 use Rattle.px_expr.specs.declared.bound.Term.{Term}
@@ -31,27 +31,27 @@ meets c.GreaterEqual o.Equal = true
 meets how order = false
 
 -- two values compared: unknown where one is NULL
-abbrev pub compared : Comparison → values.Value → values.Value → Truth
-compared how Null b = truths.Unknown
-compared how a Null = truths.Unknown
-compared how a b = told (meets how (value_order a b))
+abbrev pub compared_values : Comparison → values.Value → values.Value → Truth
+compared_values how Null b = truths.Unknown
+compared_values how a Null = truths.Unknown
+compared_values how a b = known_truth (meets how (value_order a b))
 
 abbrev pub null_test : values.Value → Truth
 null_test Null = truths.True
 null_test v = truths.False
 
 -- the value of a term in a row
-abbrev pub value_in : List values.Value → Term → values.Value
-value_in row (terms.Column place) = get_or row place Null
-value_in row (terms.Value v) = v
+abbrev pub term_value : List values.Value → Term → values.Value
+term_value row (terms.Column place) = get_or row place Null
+term_value row (terms.Value v) = v
 
 -- IN is an OR of equalities, and BETWEEN an AND of two comparisons
 abbrev pub test_of : List values.Value → Test → Truth
-test_of row (tests.Compare how left right) = compared how (value_in row left) (value_in row right)
-test_of row (tests.IsNull term negated) = negated_if negated (null_test (value_in row term))
-test_of row (tests.In term negated vs) = negated_if negated (some_of (map (compared c.Equal (value_in row term)) vs))
+test_of row (tests.Compare how left right) = compared_values how (term_value row left) (term_value row right)
+test_of row (tests.IsNull term negated) = negated_if negated (null_test (term_value row term))
+test_of row (tests.In term negated vs) = negated_if negated (some_of (map (compared_values c.Equal (term_value row term)) vs))
 test_of row (tests.Between term negated low high) =
-    negated_if negated (compared c.GreaterEqual (value_in row term) (value_in row low) and compared c.LessEqual (value_in row term) (value_in row high))
+    negated_if negated (compared_values c.GreaterEqual (term_value row term) (term_value row low) and compared_values c.LessEqual (term_value row term) (term_value row high))
 
 -- the truth of a condition over a row
 abbrev mutual

@@ -1,8 +1,8 @@
 // The truth of a condition without AND, OR and NOT.
 ghost use Rattle.std.specs.Prelude.{◌≡◌, ◌↔◌, IsTrue, map};
 ghost use Rattle.px_ast.specs.declared.condition.Comparison.TheVariants as comparisons;
-ghost use Rattle.px_expr.specs.Holds.{compared, meets, null_test, test_of, value_in};
-ghost use Rattle.px_expr.specs.Truth.{negated_if, some_of, told, ◌and◌};
+ghost use Rattle.px_expr.specs.Holds.{compared_values, meets, null_test, term_value, test_of};
+ghost use Rattle.px_expr.specs.Truth.{known_truth, negated_if, some_of, ◌and◌};
 ghost use Rattle.px_values.specs.declared.row.Value.TheVariants.{Null};
 
 use crate::truth::{both, either, negated};
@@ -67,7 +67,7 @@ fn truth_with(test: &Test, row: &[Value], null: &Value) -> Truth
 /// The value of a term in a row.
 fn value_of<'a>(row: &'a [Value], null: &'a Value, term: &'a Term) -> &'a Value
     requires { null.now ≡ Null }
-    ensures { result.now ≡ value_in row.now term.now }
+    ensures { result.now ≡ term_value row.now term.now }
 {
     match term {
         Term::Column(place) => match row.get(*place as usize) {
@@ -93,14 +93,14 @@ fn is_met(comparison: Comparison, order: Ordering) -> bool
 }
 
 fn known(is: bool) -> Truth
-    ensures { result ≡ told is }
+    ensures { result ≡ known_truth is }
 {
     if is { Truth::True } else { Truth::False }
 }
 
 /// A comparison of two values.
 fn comparison_truth(comparison: Comparison, a: &Value, b: &Value) -> Truth
-    ensures { result ≡ compared comparison a.now b.now }
+    ensures { result ≡ compared_values comparison a.now b.now }
 {
     match (a, b) {
         (Value::Null, _) | (_, Value::Null) => Truth::Unknown,
@@ -122,7 +122,7 @@ fn negated_where(written: bool, truth: Truth) -> Truth
 
 /// An OR of equalities.
 fn among(value: &Value, values: &[Value]) -> Truth
-    ensures { result ≡ some_of (map (compared comparisons.Equal value.now) values.now) }
+    ensures { result ≡ some_of (map (compared_values comparisons.Equal value.now) values.now) }
 {
     let mut found = Truth::False;
     for other in values {
@@ -135,7 +135,7 @@ fn among(value: &Value, values: &[Value]) -> Truth
 }
 
 fn between(value: &Value, low: &Value, high: &Value) -> Truth
-    ensures { result ≡ (compared comparisons.GreaterEqual value.now low.now and compared comparisons.LessEqual value.now high.now) }
+    ensures { result ≡ (compared_values comparisons.GreaterEqual value.now low.now and compared_values comparisons.LessEqual value.now high.now) }
 {
     both(
         comparison_truth(Comparison::GreaterEqual, value, low),

@@ -7,18 +7,18 @@ use Rattle.px_cells.specs.CellData.{CellData}
 use Rattle.px_cellbytes.specs.Spelling.{IsShortEnough, all_bytes, cell_bytes}
 use Rattle.px_cellbytes.proofs.Bytes.{all_bytes-push, length-cell_bytes}
 use Rattle.px_cellbytes.proofs.NextFaults.{last_of}
-use Rattle.px_block.specs.Block.{IsBlock, IsClosed, block_bytes}
+use Rattle.px_block.specs.Block.{IsBlock, IsClosedBlock, block_bytes}
 use Rattle.px_block.proofs.Counts.{length-block_bytes}
 use Rattle.px_block.proofs.OneBlock.{no_longer}
-use Rattle.px_file.specs.Format.{blocks_bytes, cells_in, end_of, entry_of, greatest, index_of}
+use Rattle.px_file.specs.Format.{block_index, blocks_bytes, blocks_end, cells_in, entry_of, greatest_stamp_in}
 
-pub greatest_append : (xs ys : List CellData) → greatest (xs ++ ys) ≡ max (greatest xs) (greatest ys)
+pub greatest_append : (xs ys : List CellData) → greatest_stamp_in (xs ++ ys) ≡ max (greatest_stamp_in xs) (greatest_stamp_in ys)
 greatest_append [] ys = omega arith
 greatest_append (x ∷ xs) ys = (let r = greatest_append xs ys in omega arith)
 
-pub greatest_more : (cells : List CellData) (i : ℕ) (c : CellData) → i < length cells → c ≡ get_or cells i c → greatest (take (i + 1) cells) ≡ max (greatest (take i cells)) c.stamp
+pub greatest_more : (cells : List CellData) (i : ℕ) (c : CellData) → i < length cells → c ≡ get_or cells i c → greatest_stamp_in (take (i + 1) cells) ≡ max (greatest_stamp_in (take i cells)) c.stamp
 greatest_more cells i c lt e =
-    let a = ap greatest (take_more cells i c lt) ∙ ap (λ (x : CellData). greatest (take i cells ++ x ∷ [])) (sym e) in
+    let a = ap greatest_stamp_in (take_more cells i c lt) ∙ ap (λ (x : CellData). greatest_stamp_in (take i cells ++ x ∷ [])) (sym e) in
     let b = greatest_append (take i cells) (c ∷ []) in
     omega arith
 
@@ -32,7 +32,7 @@ bytes_more cells i c lt e =
 pub cell_small : (c : CellData) → IsShortEnough c → length (cell_bytes c) ≤ 131084
 cell_small c s = (let l = length-cell_bytes c in let k = s.key in let v = s.value in omega arith)
 
-pub length-index_of : (place : ℕ) (blocks : List (List CellData)) → length (index_of place blocks) ≡ length blocks
+pub length-index_of : (place : ℕ) (blocks : List (List CellData)) → length (block_index place blocks) ≡ length blocks
 length-index_of place [] = refl
 length-index_of place (b ∷ blocks) = (let r = length-index_of (place + length (block_bytes b)) blocks in omega arith)
 
@@ -44,17 +44,17 @@ pub bytes_push : (blocks : List (List CellData)) (b : List CellData) → blocks_
 bytes_push [] b = append-nil (block_bytes b)
 bytes_push (x ∷ blocks) b = ap (λ (l : List ℕ). block_bytes x ++ l) (bytes_push blocks b) ∙ sym (append_assoc (block_bytes x) (blocks_bytes blocks) (block_bytes b))
 
-pub end_push : (blocks : List (List CellData)) (b : List CellData) → end_of (blocks ++ b ∷ []) ≡ end_of blocks + length (block_bytes b)
+pub end_push : (blocks : List (List CellData)) (b : List CellData) → blocks_end (blocks ++ b ∷ []) ≡ blocks_end blocks + length (block_bytes b)
 end_push blocks b = (let e = ap (λ (l : List ℕ). length l) (bytes_push blocks b) in let a = length-append (blocks_bytes blocks) (block_bytes b) in omega arith)
 
-index_push : (place : ℕ) (blocks : List (List CellData)) (b : List CellData) → index_of place (blocks ++ b ∷ []) ≡ index_of place blocks ++ entry_of (place + length (blocks_bytes blocks)) b ∷ []
+index_push : (place : ℕ) (blocks : List (List CellData)) (b : List CellData) → block_index place (blocks ++ b ∷ []) ≡ block_index place blocks ++ entry_of (place + length (blocks_bytes blocks)) b ∷ []
 index_push place [] b = (let e : place ≡ place + 0 = omega arith in ap (λ (n : ℕ). entry_of n b ∷ []) e)
 index_push place (x ∷ blocks) b =
     let a = length-append (block_bytes x) (blocks_bytes blocks) in
     let e : place + length (block_bytes x) + length (blocks_bytes blocks) ≡ place + length (blocks_bytes (x ∷ blocks)) = omega arith in
-    ap (λ l. entry_of place x ∷ l) (index_push (place + length (block_bytes x)) blocks b ∙ ap (λ (n : ℕ). index_of (place + length (block_bytes x)) blocks ++ entry_of n b ∷ []) e)
+    ap (λ l. entry_of place x ∷ l) (index_push (place + length (block_bytes x)) blocks b ∙ ap (λ (n : ℕ). block_index (place + length (block_bytes x)) blocks ++ entry_of n b ∷ []) e)
 
-pub index_more : (blocks : List (List CellData)) (b : List CellData) → index_of 8 (blocks ++ b ∷ []) ≡ index_of 8 blocks ++ entry_of (end_of blocks) b ∷ []
+pub index_more : (blocks : List (List CellData)) (b : List CellData) → block_index 8 (blocks ++ b ∷ []) ≡ block_index 8 blocks ++ entry_of (blocks_end blocks) b ∷ []
 index_more blocks b = index_push 8 blocks b
 
 -- the last cell is short, and all before it fit a block that isn't full
@@ -89,7 +89,7 @@ short_at (x ∷ cells) zero c all lt e = subst IsShortEnough (sym e) all.0
 short_at (x ∷ cells) (suc i) c all lt e = short_at cells i c all.1 (omega arith) e
 
 -- cells that aren't full are a block
-pub closed_all : (cells : List CellData) → 1 ≤ length cells → length (all_bytes cells) < 32768 → IsClosed cells
+pub closed_all : (cells : List CellData) → 1 ≤ length cells → length (all_bytes cells) < 32768 → IsClosedBlock cells
 closed_all cells some under = elim (last_of cells) [
   | inl none ↦ absurd (let l = ap (λ (l : List CellData). length l) none in omega arith)
   | inr l ↦ record {

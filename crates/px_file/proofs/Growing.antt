@@ -11,7 +11,7 @@ use Rattle.px_cells.proofs.Stamps.{has_push}
 use Rattle.px_cellbytes.specs.Spelling.{IsShortEnough}
 use Rattle.px_cellbytes.specs.Reading.{IsBare, IsInRange, IsWritten}
 use Rattle.px_cellbytes.proofs.NextFaults.{last_of, last_same}
-use Rattle.px_block.specs.Block.{IsBlock, IsFull}
+use Rattle.px_block.specs.Block.{IsBlock, IsBlockFull}
 use Rattle.px_block.specs.Reading.{ComesAfter}
 use Rattle.px_file.specs.Format.{AreBlocks, AreFull, cells_in}
 use Rattle.px_file.specs.Format.AreFull.{some}
@@ -80,7 +80,7 @@ after_take before n cells after = λ front last is c more e. after front last is
 pub blocks_none : AreBlocks []
 blocks_none = record { each = tt; full = Rattle.px_file.specs.Format.AreFull.none refl; written = record { listed = record { ascending = tt; placed = tt }; bare = tt; short = tt; ranged = tt }; few = omega arith }
 
-pub blocks_more : (blocks : List (List CellData)) (b : List CellData) → AreBlocks blocks → AllByRecursion IsFull blocks → IsBlock b → ComesAfter (cells_in blocks) b → length (blocks ++ b ∷ []) < 2 ^ 32 → AreBlocks (blocks ++ b ∷ [])
+pub blocks_more : (blocks : List (List CellData)) (b : List CellData) → AreBlocks blocks → AllByRecursion IsBlockFull blocks → IsBlock b → ComesAfter (cells_in blocks) b → length (blocks ++ b ∷ []) < 2 ^ 32 → AreBlocks (blocks ++ b ∷ [])
 blocks_more blocks b right full is after few = record {
   each = all_append IsBlock blocks (b ∷ []) right.each (is, tt);
   full = some blocks b refl full;

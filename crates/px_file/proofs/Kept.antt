@@ -7,7 +7,7 @@ use Rattle.px_outside.specs.declared.disk.Disk.{Ghosts}
 use Rattle.px_outside.proofs.Moments.{only_kept, only_stays}
 use Rattle.px_cells.specs.CellData.{CellData}
 use Rattle.px_file.specs.Files.{HasBlocks}
-use Rattle.px_file.specs.Format.{FileStands, cells_in, greatest}
+use Rattle.px_file.specs.Format.{FileStands, cells_in, greatest_stamp_in}
 use Rattle.px_file.specs.declared.region_file.RegionFile.{RegionFile}
 
 module _ {D : Type 0} (d : Ghosts D) where
@@ -28,7 +28,7 @@ module _ {D : Type 0} (d : Ghosts D) where
   }
 
   pub left_stands : (disk : D) (image : Image) (file : RegionFile) (blocks : List (List CellData)) → IsTrue d.tells → IsLeft d disk (d.calls disk) image → HasBlocks d file disk blocks
-      → FileStands (image file.file) (cells_in blocks) (greatest (cells_in blocks))
+      → FileStands (image file.file) (cells_in blocks) (greatest_stamp_in (cells_in blocks))
   left_stands disk image file blocks tells left has = record {
     blocks = blocks;
     right = has.right;

@@ -7,12 +7,12 @@ use Rattle.px_outside.specs.declared.disk.Disk.{Ghosts}
 use Rattle.px_cells.specs.CellData.{CellData}
 use Rattle.px_cellbytes.specs.declared.fault.CellFault.{CellFault}
 use Rattle.px_cellbytes.specs.declared.fault.CellFault.TheVariants.{Short, BadKind, OutOfOrder, Memory}
-use Rattle.px_cellbytes.specs.Reading.{place_of}
+use Rattle.px_cellbytes.specs.Reading.{place_of_fault}
 use Rattle.px_block.specs.Block.{IsBlock, block_bytes}
 use Rattle.px_block.specs.Reading.{AreBlock, IsBlockFault}
 use Rattle.px_block.specs.Reading.IsBlockFault.{of_front, of_rest}
 use Rattle.px_block.proofs.OneBlock.{front_within, one_reading}
-use Rattle.px_file.specs.Format.{EntryData, blocks_bytes, file_bytes, index_of, letters, tail_of}
+use Rattle.px_file.specs.Format.{EntryData, block_index, blocks_bytes, file_bytes, letters, tail_of}
 use Rattle.px_file.specs.Files.{HasBlocks}
 use Rattle.px_file.specs.declared.region_file.RegionFile.{RegionFile}
 use Rattle.px_file.proofs.Blocks.{length-index_of}
@@ -27,7 +27,7 @@ pub record IsEntry (e : EntryData) (from : ℕ) (blocks : List (List CellData)) 
   pub place : e.place ≡ from + length (blocks_bytes (take i blocks))
   pub len : e.len ≡ length (block_bytes (get_or blocks i []))
 
-pub entry_at : (place : ℕ) (blocks : List (List CellData)) (i : ℕ) (e : EntryData) → i < length blocks → e ≡ get_or (index_of place blocks) i e → IsEntry e place blocks i
+pub entry_at : (place : ℕ) (blocks : List (List CellData)) (i : ℕ) (e : EntryData) → i < length blocks → e ≡ get_or (block_index place blocks) i e → IsEntry e place blocks i
 entry_at place [] i e lt is = absurd (omega arith)
 entry_at place (b ∷ blocks) zero e lt is = record { place = (let p = ap (λ (x : EntryData). x.place) is in omega arith); len = ap (λ (x : EntryData). x.len) is }
 entry_at place (b ∷ blocks) (suc i) e lt is =
@@ -49,11 +49,11 @@ bytes_at (b ∷ blocks) (suc i) rest lt =
           ∙ ap (drop here) (drop_at (block_bytes b) (blocks_bytes blocks ++ rest) (length (block_bytes b)) refl) ∙ r.1,
     )
 
-block_within : (bytes : List ℕ) (fault : CellFault) → IsBlockFault bytes fault → place_of fault ≤ length bytes
+block_within : (bytes : List ℕ) (fault : CellFault) → IsBlockFault bytes fault → place_of_fault fault ≤ length bytes
 block_within bytes fault (of_front f) = front_within [] bytes fault f
-block_within bytes fault (of_rest cells rest f some e) = (let a = ap place_of e in let l = ap (λ (l : List ℕ). length l) f.spelled in let b = length-append (block_bytes cells) rest in omega arith)
+block_within bytes fault (of_rest cells rest f some e) = (let a = ap place_of_fault e in let l = ap (λ (l : List ℕ). length l) f.spelled in let b = length-append (block_bytes cells) rest in omega arith)
 
-pub block_fault_small : (bytes : List ℕ) (fault : CellFault) → (fault ≢ Memory → IsBlockFault bytes fault) → place_of fault ≤ length bytes
+pub block_fault_small : (bytes : List ℕ) (fault : CellFault) → (fault ≢ Memory → IsBlockFault bytes fault) → place_of_fault fault ≤ length bytes
 block_fault_small bytes (Short p) is = block_within bytes (Short p) (is (λ e. cc))
 block_fault_small bytes (BadKind p) is = block_within bytes (BadKind p) (is (λ e. cc))
 block_fault_small bytes (OutOfOrder p) is = block_within bytes (OutOfOrder p) (is (λ e. cc))

@@ -15,7 +15,7 @@ use Rattle.px_cells.specs.Scan.{no_cell}
 use Rattle.px_cells.proofs.Among.{all_has, has_all, has_append, has_right, ascending_right}
 use Rattle.px_cells.proofs.RowLemmas.{parted_lt}
 use Rattle.px_block.specs.Block.{IsBlock, block_bytes}
-use Rattle.px_file.specs.Format.{AreBlocks, EntryData, cells_in, first_key, index_of}
+use Rattle.px_file.specs.Format.{AreBlocks, EntryData, block_index, cells_in, first_key}
 use Rattle.px_file.specs.Ranges.{AreBelow, BeginsBelow, IsFirstBlock}
 use Rattle.px_file.proofs.Blocks.{length-index_of}
 
@@ -56,7 +56,7 @@ first_ascend ((c ∷ cells) ∷ blocks) each up = (
 
 -- ---- first keys
 
-key_at : (place : ℕ) (blocks : List (List CellData)) (i : ℕ) (e : EntryData) (b : List CellData) → i < length blocks → (get_or (index_of place blocks) i e).key ≡ first_key (get_or blocks i b)
+key_at : (place : ℕ) (blocks : List (List CellData)) (i : ℕ) (e : EntryData) (b : List CellData) → i < length blocks → (get_or (block_index place blocks) i e).key ≡ first_key (get_or blocks i b)
 key_at place [] i e b lt = absurd (omega arith)
 key_at place (x ∷ blocks) zero e b lt = refl
 key_at place (x ∷ blocks) (suc i) e b lt = key_at (place + length (block_bytes x)) blocks i e b (omega arith)
@@ -66,7 +66,7 @@ cell_at [] i b c lt = absurd (omega arith)
 cell_at (x ∷ blocks) zero b c lt = first_key_is x
 cell_at (x ∷ blocks) (suc i) b c lt = cell_at blocks i b c (omega arith)
 
-pub parted : (blocks : List (List CellData)) (key : List ℕ) → AreBlocks blocks → IsPartitionedBy (λ e. is_lt (key_cmp e.key key)) (index_of 8 blocks)
+pub parted : (blocks : List (List CellData)) (key : List ℕ) → AreBlocks blocks → IsPartitionedBy (λ e. is_lt (key_cmp e.key key)) (block_index 8 blocks)
 parted blocks key are i j d l h p =
     let long = length-index_of 8 blocks in
     let same = length-first_cells blocks in
@@ -89,7 +89,7 @@ lt_not : (o : Ordering) → is_lt o ≡ false → o ≡ Less → ⊥
 lt_not o h e = (let z = ap is_lt e in let y : true ≡ false = sym z ∙ h in cc)
 
 pub are_below : (blocks : List (List CellData)) (key : List ℕ) (n : ℕ) → n ≤ length blocks
-    → AllWithin (λ e. is_lt (key_cmp e.key key) ≡ true) (index_of 8 blocks) 0 n → AllWithin (λ e. is_lt (key_cmp e.key key) ≡ false) (index_of 8 blocks) n (length (index_of 8 blocks))
+    → AllWithin (λ e. is_lt (key_cmp e.key key) ≡ true) (block_index 8 blocks) 0 n → AllWithin (λ e. is_lt (key_cmp e.key key) ≡ false) (block_index 8 blocks) n (length (block_index 8 blocks))
     → AreBelow blocks key n
 are_below blocks key n le under over = record {
   below = recursion_from_All (BeginsBelow key) (take n blocks) (λ k b h.

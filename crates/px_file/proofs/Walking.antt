@@ -5,21 +5,21 @@ use Rattle.std.specs.Int.{w32, from_be_bytes}
 use Rattle.std.specs.List.{AllByRecursion}
 use Rattle.std.proofs.lemmas.List.{drop-drop, drop_at, length-take, take-append-drop, take-take}
 use Rattle.std.proofs.lemmas.Bool.{cases_Bool}
-use Rattle.px_outside.specs.Disk.{Image, Rose, Stays}
+use Rattle.px_outside.specs.Disk.{Image, RoseBy, StaysBy}
 use Rattle.px_outside.specs.OnDisk.{Only, Passes}
 use Rattle.px_outside.proofs.Moments.{only_stays}
 use Rattle.px_outside.specs.declared.disk.Disk.{Ghosts}
 use Rattle.px_cells.specs.CellData.{CellData}
 use Rattle.px_cellbytes.specs.declared.fault.CellFault.{CellFault}
 use Rattle.px_cellbytes.specs.declared.fault.CellFault.TheVariants.{Short, BadKind, OutOfOrder, Memory}
-use Rattle.px_cellbytes.specs.Reading.{place_of}
-use Rattle.px_block.specs.Block.{IsBlock, IsFull, block_bytes}
+use Rattle.px_cellbytes.specs.Reading.{place_of_fault}
+use Rattle.px_block.specs.Block.{IsBlock, IsBlockFull, block_bytes}
 use Rattle.px_block.specs.Reading.{ComesAfter, HasCount, IsFront, IsFrontFault, count_in}
 use Rattle.px_block.proofs.OneBlock.{front_within}
 use Rattle.px_file.specs.Format.{blocks_bytes, cells_in, letters, tail_bytes}
 use Rattle.px_file.specs.IndexOf.{IsIndex}
-use Rattle.px_file.specs.Reading.{DiffersAt, IsFirstWrong, last_block}
-use Rattle.px_file.specs.Reading.IsFirstWrong.{in_block, in_tail}
+use Rattle.px_file.specs.Reading.{DiffersAt, IsFirstWrongInFile, last_block}
+use Rattle.px_file.specs.Reading.IsFirstWrongInFile.{in_block, in_tail}
 use Rattle.px_file.specs.Files.{HasBlocks}
 use Rattle.px_file.specs.declared.index.Index.{Index}
 use Rattle.px_file.specs.inner.Walk.{HasIndex, HasWalked, IsWalked}
@@ -66,7 +66,7 @@ count_back n rest le has = (let l = length-take n rest in let h = has.0 in (omeg
 
 -- ---- one step
 
-pub fault_small : (before : List CellData) (bytes : List ℕ) (fault : CellFault) → (fault ≢ Memory → IsFrontFault before bytes fault) → place_of fault ≤ length bytes
+pub fault_small : (before : List CellData) (bytes : List ℕ) (fault : CellFault) → (fault ≢ Memory → IsFrontFault before bytes fault) → place_of_fault fault ≤ length bytes
 fault_small before bytes (Short p) is = front_within before bytes (Short p) (is (λ e. cc))
 fault_small before bytes (BadKind p) is = front_within before bytes (BadKind p) (is (λ e. cc))
 fault_small before bytes (OutOfOrder p) is = front_within before bytes (OutOfOrder p) (is (λ e. cc))
@@ -92,7 +92,7 @@ module _ {D : Type 0} (d : Ghosts D) (file : ℕ) where
     }
 
     pub walk_more : (after : Walk) (before cells : List CellData) (rest : List ℕ) → walk.more ≡ true → before ≡ walk.before → IsFront before bytes cells rest → IsIndex after.index (blocks ++ cells ∷ [])
-        → after.before ≡ cells → (after.more ≡ true) ↔ IsFull cells → IsWalked d file after new
+        → after.before ≡ cells → (after.more ≡ true) ↔ IsBlockFull cells → IsWalked d file after new
     walk_more after before cells rest full ahead front index kept fuller = record {
       blocks = blocks ++ cells ∷ [];
       walked = record {
@@ -100,8 +100,8 @@ module _ {D : Type 0} (d : Ghosts D) (file : ℕ) where
             (after_blocks blocks cells w.right.each (subst (λ (l : List CellData). ComesAfter l cells) (ahead ∙ w.before) front.after)) (index_few after.index (blocks ++ cells ∷ []) index);
         index = index;
         before = kept ∙ sym (last_push blocks cells);
-        full = λ on. all_append IsFull blocks (cells ∷ []) (w.full full) (fuller.0 on, tt);
-        ends = λ ended tells goes. (let on = fuller.1 (all_last IsFull blocks cells goes.full) in let e : true ≡ false = sym on ∙ ended in cc);
+        full = λ on. all_append IsBlockFull blocks (cells ∷ []) (w.full full) (fuller.0 on, tt);
+        ends = λ ended tells goes. (let on = fuller.1 (all_last IsBlockFull blocks cells goes.full) in let e : true ≡ false = sym on ∙ ended in cc);
         seen = λ tells. subst (λ (s : Image). s file ≡ letters ++ (blocks_bytes (blocks ++ cells ∷ []) ++ drop after.index.end (s file))) (sym same) (seen tells);
       };
     }
@@ -120,12 +120,12 @@ module _ {D : Type 0} (d : Ghosts D) (file : ℕ) where
             ∙ ap (λ (l : List ℕ). letters ++ l) (sym (append_assoc (blocks_bytes blocks) (block_bytes cells) (drop after.index.end s)) ∙ ap (λ (l : List ℕ). l ++ drop after.index.end s) (sym (bytes_push blocks cells)))
 
     pub walk_wrong : (before : List CellData) (fault : CellFault) (told : FileFault) (at place : ℕ) → walk.more ≡ true → length walk.index.entries.items < 4294967295 → before ≡ walk.before → HasCount bytes
-        → (fault ≢ Memory → IsFrontFault before bytes fault) → (fault ≡ Memory → told ≡ NoMemory) → (fault ≢ Memory → told ≡ Damaged file (walk.index.end + place_of fault)) → told ≡ Damaged at place
-        → (at ≡ file) × (IsTrue d.tells → IsFirstWrong (d.seen old file) place)
+        → (fault ≢ Memory → IsFrontFault before bytes fault) → (fault ≡ Memory → told ≡ NoMemory) → (fault ≢ Memory → told ≡ Damaged file (walk.index.end + place_of_fault fault)) → told ≡ Damaged at place
+        → (at ≡ file) × (IsTrue d.tells → IsFirstWrongInFile (d.seen old file) place)
     walk_wrong before fault told at place full few ahead has wrong memory damaged is =
         let other : fault ≢ Memory = λ e. (let m = memory e in cc) in
         let t = damaged other in
-        let p : walk.index.end + place_of fault ≡ place = cc in (
+        let p : walk.index.end + place_of_fault fault ≡ place = cc in (
           (let f : file ≡ at = cc in sym f),
           λ tells. in_block blocks (drop walk.index.end (d.seen old file)) fault (record { right = w.right; spelled = w.seen tells })
               (record {
@@ -167,7 +167,7 @@ module _ {D : Type 0} (d : Ghosts D) (file : ℕ) where
   }
 
   -- index and footer stand behind the blocks,
-  pub file_opened : (index : Index) (old new : D) (has : HasIndex d file index old) → d.seen new ≡ d.seen old → Stays d.calls d.left old new → Only d old file
+  pub file_opened : (index : Index) (old new : D) (has : HasIndex d file index old) → d.seen new ≡ d.seen old → StaysBy d.calls d.left old new → Only d old file
       → (IsTrue d.tells → drop index.end (d.seen old file) ≡ tail_bytes index.entries.items index.end index.cells index.stamp) → HasBlocks d (record { file = file; index = index }) new has.blocks
   file_opened index old new has same stays only tail = record {
     right = has.right;
@@ -178,20 +178,20 @@ module _ {D : Type 0} (d : Ghosts D) (file : ℕ) where
 
   -- or the first place is wrong where they don't
   pub tail_wrong : (index : Index) (disk : D) (place inner : ℕ) → HasIndex d file index disk → IsTrue d.tells → DiffersAt (tail_bytes index.entries.items index.end index.cells index.stamp) (drop index.end (d.seen disk file)) inner
-      → place ≡ index.end + inner → IsFirstWrong (d.seen disk file) place
+      → place ≡ index.end + inner → IsFirstWrongInFile (d.seen disk file) place
   tail_wrong index disk place inner has tells differs is =
       in_tail has.blocks (drop index.end (d.seen disk file)) inner (record { right = has.right; spelled = has.seen tells }) (has.last tells)
       (subst (λ (l : List ℕ). DiffersAt l (drop index.end (d.seen disk file)) inner) (tail_is index has.blocks has.is) differs) (let e = has.is.end in omega arith)
 
   -- no call
-  pub stays_none : ((x : D) (moment f : ℕ) (bytes : List ℕ) → d.left x moment f bytes → moment ≤ d.calls x) → (disk : D) → Stays d.calls d.left disk disk
+  pub stays_none : ((x : D) (moment f : ℕ) (bytes : List ℕ) → d.left x moment f bytes → moment ≤ d.calls x) → (disk : D) → StaysBy d.calls d.left disk disk
   stays_none up_to_now disk = record {
     past = λ moment f bytes before is. is;
     now = λ moment f bytes since is. (let now : moment ≡ d.calls disk = (let le = up_to_now disk moment f bytes is in omega arith) in subst (λ (m : ℕ). d.left disk m f bytes) now is);
     later = omega arith;
   }
 
-  pub rose_from : (first old new : D) → d.faults first ≤ d.faults old → Rose d.calls d.faults old new → Rose d.calls d.faults first new
+  pub rose_from : (first old new : D) → d.faults first ≤ d.faults old → RoseBy d.calls d.faults old new → RoseBy d.calls d.faults first new
   rose_from first old new le (inl rose) = inl (omega arith)
   rose_from first old new le (inr last) = inr last
 

@@ -2,23 +2,23 @@
 use Rattle.std.proofs.Common.{◌≡◌, ℕ, ◌+◌, ◌^◌, ◌<◌, true, List, [], ◌∷◌, ◌++◌, length, take, drop, sym, ap, subst, ◌∙◌, arith, append_assoc, length-append}
 use Rattle.std.specs.Prelude.{IsTrue}
 use Rattle.std.proofs.lemmas.List.{append-nil, drop_all, take_all}
-use Rattle.px_outside.specs.Disk.{written}
+use Rattle.px_outside.specs.Disk.{after_write}
 use Rattle.px_outside.specs.declared.disk.Disk.{Ghosts}
 use Rattle.px_outside.specs.OnDisk.{Only}
 use Rattle.px_outside.proofs.Written.{written_inside}
 use Rattle.px_cells.specs.CellData.{CellData}
-use Rattle.px_block.specs.Block.{IsBlock, IsFull, block_bytes}
+use Rattle.px_block.specs.Block.{IsBlock, IsBlockFull, block_bytes}
 use Rattle.px_block.specs.Reading.{ComesAfter}
 use Rattle.px_file.specs.Format.{blocks_bytes, cells_in, letters, tail_bytes, tail_of}
 use Rattle.px_file.specs.IndexOf.{IsIndex}
-use Rattle.px_file.specs.Files.{HasBlocks, HasWritten}
+use Rattle.px_file.specs.Files.{HasBlocks, HasWrittenBlocks}
 use Rattle.px_file.specs.declared.index.Index.{Index}
 use Rattle.px_file.specs.declared.region_file.RegionFile.{RegionFile}
 use Rattle.px_file.specs.declared.writer.FileWriter.{FileWriter}
 use Rattle.px_file.proofs.Blocks.{bytes_push, length-index_of}
 use Rattle.px_file.proofs.Growing.{all_append, blocks_more}
 
-pub written_end : (at : ℕ) (bytes file : List ℕ) → at ≡ length file → written at bytes file ≡ file ++ bytes
+pub written_end : (at : ℕ) (bytes file : List ℕ) → at ≡ length file → after_write at bytes file ≡ file ++ bytes
 written_end at bytes file is =
     let front : take at file ≡ file = take_all at file (omega arith) in
     let none : drop (at + length bytes) file ≡ [] = drop_all (at + length bytes) file (omega arith) in
@@ -31,9 +31,9 @@ pub tail_is : (index : Index) (blocks : List (List CellData)) → IsIndex index 
 tail_is index blocks is = (let a = is.entries in let b = is.end in let c = is.cells in let e = is.stamp in cc)
 
 module _ {D : Type 0} (d : Ghosts D) (old new : D) where
-  pub file_finished : (writer : FileWriter) (file : RegionFile) (blocks : List (List CellData)) (bytes : List ℕ) → HasWritten d writer old blocks → file.file ≡ writer.file → file.index ≡ writer.index
+  pub file_finished : (writer : FileWriter) (file : RegionFile) (blocks : List (List CellData)) (bytes : List ℕ) → HasWrittenBlocks d writer old blocks → file.file ≡ writer.file → file.index ≡ writer.index
       → bytes ≡ tail_bytes writer.index.entries.items writer.index.end writer.index.cells writer.index.stamp
-      → (IsTrue d.tells → d.seen new writer.file ≡ written writer.index.end bytes (d.seen old writer.file)) → Only d new writer.file → HasBlocks d file new blocks
+      → (IsTrue d.tells → d.seen new writer.file ≡ after_write writer.index.end bytes (d.seen old writer.file)) → Only d new writer.file → HasBlocks d file new blocks
   file_finished writer file blocks bytes has same index is sees only = record {
     right = has.right;
     index = subst (λ (i : Index). IsIndex i blocks) (sym index) has.index;
@@ -45,12 +45,12 @@ module _ {D : Type 0} (d : Ghosts D) (old new : D) where
     only = subst (Only d new) (sym same) only;
   }
 
-  pub block_written : (writer after : FileWriter) (blocks : List (List CellData)) (b : List CellData) (bytes : List ℕ) → HasWritten d writer old blocks → writer.full ≡ true → IsBlock b → ComesAfter (cells_in blocks) b
-      → after.file ≡ writer.file → IsIndex after.index (blocks ++ b ∷ []) → (after.full ≡ true → IsFull b) → bytes ≡ block_bytes b
-      → (IsTrue d.tells → d.seen new writer.file ≡ written writer.index.end bytes (d.seen old writer.file)) → HasWritten d after new (blocks ++ b ∷ [])
+  pub block_written : (writer after : FileWriter) (blocks : List (List CellData)) (b : List CellData) (bytes : List ℕ) → HasWrittenBlocks d writer old blocks → writer.full ≡ true → IsBlock b → ComesAfter (cells_in blocks) b
+      → after.file ≡ writer.file → IsIndex after.index (blocks ++ b ∷ []) → (after.full ≡ true → IsBlockFull b) → bytes ≡ block_bytes b
+      → (IsTrue d.tells → d.seen new writer.file ≡ after_write writer.index.end bytes (d.seen old writer.file)) → HasWrittenBlocks d after new (blocks ++ b ∷ [])
   block_written writer after blocks b bytes has full block behind same index fuller is sees = record {
     right = blocks_more blocks b has.right (has.full full) block behind (index_few after.index (blocks ++ b ∷ []) index);
-    full = λ yes. all_append IsFull blocks (b ∷ []) (has.full full) (fuller yes, tt);
+    full = λ yes. all_append IsBlockFull blocks (b ∷ []) (has.full full) (fuller yes, tt);
     index = index;
     seen = λ tells. (
         let before = has.seen tells in

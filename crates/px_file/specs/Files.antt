@@ -4,16 +4,16 @@ use Rattle.std.specs.List.{AllByRecursion}
 use Rattle.px_outside.specs.declared.disk.Disk.{Ghosts}
 use Rattle.px_outside.specs.OnDisk.{Only}
 use Rattle.px_cells.specs.CellData.{CellData}
-use Rattle.px_block.specs.Block.{IsFull}
+use Rattle.px_block.specs.Block.{IsBlockFull}
 use Rattle.px_file.specs.Format.{AreBlocks, blocks_bytes, file_bytes, letters}
 use Rattle.px_file.specs.IndexOf.{IsIndex}
 use Rattle.px_file.specs.declared.region_file.RegionFile.{RegionFile}
 use Rattle.px_file.specs.declared.writer.FileWriter.{FileWriter}
 
 -- these blocks were written so far, and what the disk tells of the file ends with them
-pub record HasWritten {D : Type 0} (d : Ghosts D) (writer : FileWriter) (disk : D) (blocks : List (List CellData)) : Type 0 where
+pub record HasWrittenBlocks {D : Type 0} (d : Ghosts D) (writer : FileWriter) (disk : D) (blocks : List (List CellData)) : Type 0 where
   pub right : AreBlocks blocks
-  pub full : writer.full ≡ true → AllByRecursion IsFull blocks
+  pub full : writer.full ≡ true → AllByRecursion IsBlockFull blocks
   pub index : IsIndex writer.index blocks
   pub seen : IsTrue d.tells → d.seen disk writer.file ≡ letters ++ blocks_bytes blocks
 

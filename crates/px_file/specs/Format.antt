@@ -9,7 +9,7 @@ use Rattle.std.specs.List.{AllByRecursion, flat_map}
 use Rattle.px_cells.specs.CellData.{CellData}
 use Rattle.px_cellbytes.specs.Spelling.{size_bytes}
 use Rattle.px_cellbytes.specs.Reading.{IsWritten}
-use Rattle.px_block.specs.Block.{IsBlock, IsFull, block_bytes}
+use Rattle.px_block.specs.Block.{IsBlock, IsBlockFull, block_bytes}
 
 -- ---- blocks
 
@@ -20,7 +20,7 @@ cells_in blocks = flat_map (λ b. b) blocks
 -- Each block but the last is full.
 pub data AreFull (blocks : List (List CellData)) : Type 0 where
   none : blocks ≡ [] → AreFull blocks
-  some : (front : List (List CellData)) (last : List CellData) → blocks ≡ front ++ last ∷ [] → AllByRecursion IsFull front → AreFull blocks
+  some : (front : List (List CellData)) (last : List CellData) → blocks ≡ front ++ last ∷ [] → AllByRecursion IsBlockFull front → AreFull blocks
 
 -- The blocks of a file. There are fewer than the footer's field can count.
 pub record AreBlocks (blocks : List (List CellData)) : Type 0 where
@@ -30,19 +30,19 @@ pub record AreBlocks (blocks : List (List CellData)) : Type 0 where
   pub few : length blocks < 2 ^ 32
 
 -- the greatest stamp of cells, or 0
-abbrev pub greatest : List CellData → ℕ
-greatest [] = 0
-greatest (c ∷ cells) = max c.stamp (greatest cells)
+abbrev pub greatest_stamp_in : List CellData → ℕ
+greatest_stamp_in [] = 0
+greatest_stamp_in (c ∷ cells) = max c.stamp (greatest_stamp_in cells)
 
 -- ---- spelling
 
 -- a number in eight bytes
-unfoldable pub word : ℕ → List ℕ
-word n = to_be_bytes w64 n
+unfoldable pub word_bytes : ℕ → List ℕ
+word_bytes n = to_be_bytes w64 n
 
 -- a number in four bytes
-unfoldable pub half_word : ℕ → List ℕ
-half_word n = to_be_bytes w32 n
+unfoldable pub half_word_bytes : ℕ → List ℕ
+half_word_bytes n = to_be_bytes w32 n
 
 -- `PHXFIL01`
 abbrev pub letters : List ℕ
@@ -69,30 +69,30 @@ abbrev pub entry_of : ℕ → List CellData → EntryData
 entry_of place block = record { place = place; len = length (block_bytes block); key = first_key block }
 
 -- the index of blocks of which the first stands at a place
-abbrev pub index_of : ℕ → List (List CellData) → List EntryData
-index_of place [] = []
-index_of place (b ∷ blocks) = entry_of place b ∷ index_of (place + length (block_bytes b)) blocks
+abbrev pub block_index : ℕ → List (List CellData) → List EntryData
+block_index place [] = []
+block_index place (b ∷ blocks) = entry_of place b ∷ block_index (place + length (block_bytes b)) blocks
 
 abbrev pub entry_bytes : EntryData → List ℕ
-entry_bytes e = word e.place ++ (half_word e.len ++ (size_bytes (length e.key) ++ e.key))
+entry_bytes e = word_bytes e.place ++ (half_word_bytes e.len ++ (size_bytes (length e.key) ++ e.key))
 
-abbrev pub index_bytes : List EntryData → List ℕ
-index_bytes entries = flat_map entry_bytes entries
+abbrev pub entries_bytes : List EntryData → List ℕ
+entries_bytes entries = flat_map entry_bytes entries
 
 abbrev pub footer_bytes : (place blocks cells stamp : ℕ) → List ℕ
-footer_bytes place blocks cells stamp = word place ++ (half_word blocks ++ (word cells ++ (word stamp ++ last_letters)))
+footer_bytes place blocks cells stamp = word_bytes place ++ (half_word_bytes blocks ++ (word_bytes cells ++ (word_bytes stamp ++ last_letters)))
 
 -- index and footer
 unfoldable pub tail_bytes : List EntryData → (place cells stamp : ℕ) → List ℕ
-tail_bytes entries place cells stamp = index_bytes entries ++ footer_bytes place (length entries) cells stamp
+tail_bytes entries place cells stamp = entries_bytes entries ++ footer_bytes place (length entries) cells stamp
 
 -- where the blocks end
-abbrev pub end_of : List (List CellData) → ℕ
-end_of blocks = 8 + length (blocks_bytes blocks)
+abbrev pub blocks_end : List (List CellData) → ℕ
+blocks_end blocks = 8 + length (blocks_bytes blocks)
 
 -- index and footer of blocks
 abbrev pub tail_of : List (List CellData) → List ℕ
-tail_of blocks = tail_bytes (index_of 8 blocks) (end_of blocks) (length (cells_in blocks)) (greatest (cells_in blocks))
+tail_of blocks = tail_bytes (block_index 8 blocks) (blocks_end blocks) (length (cells_in blocks)) (greatest_stamp_in (cells_in blocks))
 
 -- the bytes of a file with these blocks
 abbrev pub file_bytes : List (List CellData) → List ℕ
@@ -104,4 +104,4 @@ pub record FileStands (bytes : List ℕ) (cells : List CellData) (stamp : ℕ) :
   pub right : AreBlocks blocks
   pub spelled : bytes ≡ file_bytes blocks
   pub cells_are : cells ≡ cells_in blocks
-  pub stamp_is : stamp ≡ greatest cells
+  pub stamp_is : stamp ≡ greatest_stamp_in cells

@@ -3,10 +3,10 @@ use Rattle.std.specs.Prelude.{◌≡◌, ◌≢◌, ◌<◌, ℕ, ◌+◌, List,
 use Rattle.std.specs.List.{AllByRecursion}
 use Rattle.px_cells.specs.CellData.{CellData}
 use Rattle.px_cellbytes.specs.declared.fault.CellFault.{CellFault}
-use Rattle.px_cellbytes.specs.Reading.{place_of}
-use Rattle.px_block.specs.Block.{IsFull}
+use Rattle.px_cellbytes.specs.Reading.{place_of_fault}
+use Rattle.px_block.specs.Block.{IsBlockFull}
 use Rattle.px_block.specs.Reading.{HasCount, IsFrontFault}
-use Rattle.px_file.specs.Format.{AreBlocks, blocks_bytes, end_of, letters, tail_of}
+use Rattle.px_file.specs.Format.{AreBlocks, blocks_bytes, blocks_end, letters, tail_of}
 
 -- one of both has another byte there, or ends there alone
 pub data IsOther (right found : List ℕ) (place : ℕ) : Type 0 where
@@ -34,15 +34,15 @@ pub record BeginsWith (bytes : List ℕ) (blocks : List (List CellData)) (rest :
 -- begin with a count of cells, which isn't zero. Else the index follows: it begins with the first block's place, whose
 -- first four bytes are zero.
 pub record GoesOn (blocks : List (List CellData)) (rest : List ℕ) : Type 0 where
-  pub full : AllByRecursion IsFull blocks
+  pub full : AllByRecursion IsBlockFull blocks
   pub fewer : length blocks < 4294967295
   pub counted : HasCount rest
 
 -- The first place where bytes aren't of a file. They are read from the front: the first letters; block by block, of which
 -- none has more than 163,855 bytes; and then index and footer, which the blocks tell.
-pub data IsFirstWrong (bytes : List ℕ) (place : ℕ) : Type 0 where
-  in_letters : DiffersAt letters (take 8 bytes) place → IsFirstWrong bytes place
+pub data IsFirstWrongInFile (bytes : List ℕ) (place : ℕ) : Type 0 where
+  in_letters : DiffersAt letters (take 8 bytes) place → IsFirstWrongInFile bytes place
   in_block : (blocks : List (List CellData)) (rest : List ℕ) (fault : CellFault) → BeginsWith bytes blocks rest → GoesOn blocks rest → IsFrontFault (last_block blocks) (take 163855 rest) fault
-      → place ≡ end_of blocks + place_of fault → IsFirstWrong bytes place
+      → place ≡ blocks_end blocks + place_of_fault fault → IsFirstWrongInFile bytes place
   in_tail : (blocks : List (List CellData)) (rest : List ℕ) (inner : ℕ) → BeginsWith bytes blocks rest → (GoesOn blocks rest → ⊥) → DiffersAt (tail_of blocks) rest inner
-      → place ≡ end_of blocks + inner → IsFirstWrong bytes place
+      → place ≡ blocks_end blocks + inner → IsFirstWrongInFile bytes place

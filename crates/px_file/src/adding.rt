@@ -4,7 +4,7 @@ ghost use Rattle.std.specs.List.{AllByRecursion};
 ghost use Rattle.px_cells.specs.CellData.{CellData};
 ghost use Rattle.px_cellbytes.specs.Spelling.{IsShortEnough};
 ghost use Rattle.px_block.specs.Block.{IsBlock, block_bytes};
-ghost use Rattle.px_file.specs.Format.{first_key as first_key_of, greatest as greatest_of};
+ghost use Rattle.px_file.specs.Format.{first_key as first_key_of, greatest_stamp_in};
 ghost use Rattle.px_file.specs.IndexOf.{IsIndex};
 
 use crate::index::{Index, IndexEntry};
@@ -65,7 +65,7 @@ fn first_key(alloc: Global, block: &[Cell]) -> Result<Vec<u8>, AllocError>
 
 /// The greatest of a stamp and those of some cells.
 fn greatest(stamp: u64, block: &[Cell]) -> u64
-    ensures { result ≡ max stamp (greatest_of block.now) }
+    ensures { result ≡ max stamp (greatest_stamp_in block.now) }
 {
     let mut most = stamp;
     for cell in block {

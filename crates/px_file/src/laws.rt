@@ -4,7 +4,7 @@ ghost use Rattle.px_outside.specs.Disk.{Image};
 ghost use Rattle.px_outside.specs.OnDisk.{IsLeft, Stays, TouchesOnly};
 ghost use Rattle.px_cells.specs.CellData.{CellData};
 ghost use Rattle.px_file.specs.Files.{HasBlocks};
-ghost use Rattle.px_file.specs.Format.{FileStands, cells_in, greatest};
+ghost use Rattle.px_file.specs.Format.{FileStands, cells_in, greatest_stamp_in};
 ghost use Rattle.px_file.specs.declared.region_file.RegionFile.{RegionFile};
 
 use px_outside::Disk;
@@ -20,5 +20,5 @@ pub fn a_file_is_kept<D: Disk>()
 /// What a stop leaves of a file stands for its cells.
 pub fn a_file_stands<D: Disk>()
     ensures { (disk : D) (image : Image) (file : RegionFile) (blocks : List (List CellData)) → IsTrue D.tells → IsLeft ⟦<D as Disk>⟧ disk (D.calls disk) image
-        → HasBlocks ⟦<D as Disk>⟧ file disk blocks → FileStands (image file.file) (cells_in blocks) (greatest (cells_in blocks)) }
+        → HasBlocks ⟦<D as Disk>⟧ file disk blocks → FileStands (image file.file) (cells_in blocks) (greatest_stamp_in (cells_in blocks)) }
 {}

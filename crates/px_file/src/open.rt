@@ -2,11 +2,11 @@
 ghost use Rattle.std.specs.Prelude.{◌≡◌, ◌≢◌, ◌≤◌, ◌<◌, ◌⊎◌, ◌+◌, ◌-◌, ◌*◌, ◌^◌, ◌++◌, ◌∷◌, [], ◌↔◌, ℕ, true, false, List, length, take, IsTrue, IfOk, IsErr, OnOk, Ok, Err};
 ghost use Rattle.px_outside.specs.OnDisk.{Only, Passes, Rose, Stays};
 ghost use Rattle.px_cells.specs.CellData.{CellData};
-ghost use Rattle.px_block.specs.Block.{IsBlock, IsFull, block_bytes};
+ghost use Rattle.px_block.specs.Block.{IsBlock, IsBlockFull, block_bytes};
 ghost use Rattle.px_file.specs.Files.{HasBlocks};
 ghost use Rattle.px_file.specs.Format.{letters};
 ghost use Rattle.px_file.specs.IndexOf.{IsIndex};
-ghost use Rattle.px_file.specs.Reading.{IsFirstWrong};
+ghost use Rattle.px_file.specs.Reading.{IsFirstWrongInFile};
 ghost use Rattle.px_file.specs.inner.Walk.{HasIndex, HasWalked, IsWalked};
 
 use crate::FileFault;
@@ -43,7 +43,7 @@ impl Walk {
         requires count { length self.old.index.entries.items + 1 < 2 ^ 32 }
         ensures added { (blocks : List (List CellData)) → IsIndex self.old.index blocks → OnOk result (IsIndex self.new.index (blocks ++ front.cells ∷ [])) }
         ensures before { OnOk result (self.new.before ≡ front.cells) }
-        ensures full { OnOk result ((self.new.more ≡ true) ↔ IsFull front.cells) }
+        ensures full { OnOk result ((self.new.more ≡ true) ↔ IsBlockFull front.cells) }
         ensures count { OnOk result (length self.new.index.entries.items ≡ length self.old.index.entries.items + 1) }
     {
         let Front { cells, end } = front;
@@ -66,7 +66,7 @@ impl Walk {
         requires count { length self.old.index.entries.items < 4294967295 }
         ensures done { (blocks : List (List CellData)) → HasWalked ⟦<D as Disk>⟧ file self.old disk.old blocks → OnOk result (IsWalked ⟦<D as Disk>⟧ file self.new disk.new) }
         ensures wrong { (blocks : List (List CellData)) (at place : ℕ) → HasWalked ⟦<D as Disk>⟧ file self.old disk.old blocks → result ≡ Err (FileFault.Damaged at place)
-            → (at ≡ file) × (IsTrue D.tells → IsFirstWrong (D.seen disk.old file) place) }
+            → (at ≡ file) × (IsTrue D.tells → IsFirstWrongInFile (D.seen disk.old file) place) }
         ensures count { OnOk result (((self.new.more ≡ false) × (length self.new.index.entries.items ≡ length self.old.index.entries.items)) ⊎ (length self.new.index.entries.items ≡ length self.old.index.entries.items + 1)) }
         ensures window { length window.new ≡ 163855 }
         ensures seen { D.seen disk.new ≡ D.seen disk.old }
@@ -100,7 +100,7 @@ fn read_blocks<D: Disk>(
 ) -> Result<(), FileFault>
     requires { length window.old ≡ 163855 }
     ensures read { IsWalked ⟦<D as Disk>⟧ file walk.old disk.old → OnOk result (HasIndex ⟦<D as Disk>⟧ file walk.new.index disk.new) }
-    ensures wrong { (at place : ℕ) → IsWalked ⟦<D as Disk>⟧ file walk.old disk.old → result ≡ Err (FileFault.Damaged at place) → (at ≡ file) × (IsTrue D.tells → IsFirstWrong (D.seen disk.old file) place) }
+    ensures wrong { (at place : ℕ) → IsWalked ⟦<D as Disk>⟧ file walk.old disk.old → result ≡ Err (FileFault.Damaged at place) → (at ≡ file) × (IsTrue D.tells → IsFirstWrongInFile (D.seen disk.old file) place) }
     ensures seen { D.seen disk.new ≡ D.seen disk.old }
     ensures quiet { Stays ⟦<D as Disk>⟧ disk.old disk.new }
     ensures failed { result ≡ Err FileFault.ReadFault → Rose ⟦<D as Disk>⟧ disk.old disk.new }
@@ -120,7 +120,7 @@ fn read_blocks<D: Disk>(
 fn read_index<D: Disk>(alloc: Global, disk: &mut D, file: u64) -> Result<Index, FileFault>
     ensures read { (IsTrue D.tells → take 8 (D.seen disk.old file) ≡ letters) → IfOk result (λ index. HasIndex ⟦<D as Disk>⟧ file index disk.new) }
     ensures wrong { (at place : ℕ) → (IsTrue D.tells → take 8 (D.seen disk.old file) ≡ letters) → result ≡ Err (FileFault.Damaged at place)
-        → (at ≡ file) × (IsTrue D.tells → IsFirstWrong (D.seen disk.old file) place) }
+        → (at ≡ file) × (IsTrue D.tells → IsFirstWrongInFile (D.seen disk.old file) place) }
     ensures seen { D.seen disk.new ≡ D.seen disk.old }
     ensures quiet { Stays ⟦<D as Disk>⟧ disk.old disk.new }
     ensures failed { result ≡ Err FileFault.ReadFault → Rose ⟦<D as Disk>⟧ disk.old disk.new }
@@ -148,7 +148,7 @@ impl RegionFile {
     pub fn open<D: Disk>(alloc: Global, disk: &mut D, file: u64) -> Result<RegionFile, FileFault>
         ensures opened { Only ⟦<D as Disk>⟧ disk.old file → IfOk result (λ opened. (blocks : List (List CellData)) × HasBlocks ⟦<D as Disk>⟧ opened disk.new blocks) }
         ensures file { IfOk result (λ opened. opened.file ≡ file) }
-        ensures damaged { (at place : ℕ) → result ≡ Err (FileFault.Damaged at place) → (at ≡ file) × (IsTrue D.tells → IsFirstWrong (D.seen disk.old file) place) }
+        ensures damaged { (at place : ℕ) → result ≡ Err (FileFault.Damaged at place) → (at ≡ file) × (IsTrue D.tells → IsFirstWrongInFile (D.seen disk.old file) place) }
         ensures seen { D.seen disk.new ≡ D.seen disk.old }
         ensures quiet { Stays ⟦<D as Disk>⟧ disk.old disk.new }
         ensures failed { result ≡ Err FileFault.ReadFault → Rose ⟦<D as Disk>⟧ disk.old disk.new }
@@ -177,7 +177,7 @@ fn finish<D: Disk>(
 ) -> Result<RegionFile, FileFault>
     ensures opened { HasIndex ⟦<D as Disk>⟧ file index disk.old → Only ⟦<D as Disk>⟧ disk.old file → IfOk result (λ opened. (blocks : List (List CellData)) × HasBlocks ⟦<D as Disk>⟧ opened disk.new blocks) }
     ensures file { IfOk result (λ opened. opened.file ≡ file) }
-    ensures damaged { (at place : ℕ) → HasIndex ⟦<D as Disk>⟧ file index disk.old → result ≡ Err (FileFault.Damaged at place) → (at ≡ file) × (IsTrue D.tells → IsFirstWrong (D.seen disk.old file) place) }
+    ensures damaged { (at place : ℕ) → HasIndex ⟦<D as Disk>⟧ file index disk.old → result ≡ Err (FileFault.Damaged at place) → (at ≡ file) × (IsTrue D.tells → IsFirstWrongInFile (D.seen disk.old file) place) }
     ensures seen { D.seen disk.new ≡ D.seen disk.old }
     ensures quiet { Stays ⟦<D as Disk>⟧ disk.old disk.new }
     ensures failed { result ≡ Err FileFault.ReadFault → Rose ⟦<D as Disk>⟧ disk.old disk.new }

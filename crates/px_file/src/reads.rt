@@ -1,7 +1,7 @@
 // Reads of a file.
 ghost use Rattle.std.specs.Prelude.{◌≡◌, ◌≢◌, ◌≤◌, ◌<◌, ◌+◌, ◌^◌, ℕ, true, IsTrue, IfOk, IsErr, OnOk, Err, length, take, drop};
 ghost use Rattle.px_outside.specs.OnDisk.{Passes, Rose, Stays};
-ghost use Rattle.px_cellbytes.specs.Reading.{place_of};
+ghost use Rattle.px_cellbytes.specs.Reading.{place_of_fault};
 ghost use Rattle.px_cellbytes.specs.declared.fault.CellFault.TheVariants.{Memory as NoMemory};
 ghost use Rattle.px_file.specs.Format.{letters as file_letters, tail_bytes};
 ghost use Rattle.px_file.specs.Reading.{DiffersAt};
@@ -57,9 +57,9 @@ pub(crate) fn read_bytes<D: Disk>(
 
 /// The fault of a block that stands at a place of a file.
 pub(crate) fn damaged(file: u64, at: u64, fault: CellFault) -> FileFault
-    requires { at + place_of fault < 2 ^ 64 }
+    requires { at + place_of_fault fault < 2 ^ 64 }
     ensures memory { fault ≡ NoMemory → result ≡ FileFault.Memory }
-    ensures place { fault ≢ NoMemory → result ≡ FileFault.Damaged file (at + place_of fault) }
+    ensures place { fault ≢ NoMemory → result ≡ FileFault.Damaged file (at + place_of_fault fault) }
 {
     match fault {
         CellFault::Short { place }

@@ -4,7 +4,7 @@ ghost use Rattle.std.specs.Ordering.{is_lt};
 ghost use Rattle.px_cells.specs.CellData.{CellData};
 ghost use Rattle.px_cells.specs.Order.{key_cmp};
 ghost use Rattle.px_cells.specs.Rows.{AllFrom};
-ghost use Rattle.px_file.specs.Format.{AreBlocks, cells_in, index_of};
+ghost use Rattle.px_file.specs.Format.{AreBlocks, block_index, cells_in};
 ghost use Rattle.px_file.specs.IndexOf.{IsIndex};
 ghost use Rattle.px_file.specs.Ranges.{AreBelow, IsFirstBlock};
 
@@ -14,7 +14,7 @@ use crate::region_file::RegionFile;
 /// How many blocks begin below a key. It takes logarithmic time.
 pub(crate) fn begin_below(entries: &[IndexEntry], key: &[u8]) -> usize
     ensures within { result ≤ length entries.now }
-    ensures below { (blocks : List (List CellData)) → AreBlocks blocks → entries.now ≡ index_of 8 blocks → AreBelow blocks key.now result }
+    ensures below { (blocks : List (List CellData)) → AreBlocks blocks → entries.now ≡ block_index 8 blocks → AreBelow blocks key.now result }
 {
     entries.partition_point(
         |entry: &IndexEntry| -> bool

@@ -1,7 +1,7 @@
 // The bytes of an index and a footer.
 ghost use Rattle.std.specs.Prelude.{◌≡◌, ◌≤◌, ◌<◌, ◌+◌, ◌*◌, ◌^◌, ◌++◌, ◌∷◌, [], List, length, OnOk, OnErr, IfOk};
 ghost use Rattle.px_cellbytes.specs.Spelling.{size_bytes};
-ghost use Rattle.px_file.specs.Format.{EntryData, entry_bytes, footer_bytes, half_word, index_bytes, last_letters, tail_bytes, word};
+ghost use Rattle.px_file.specs.Format.{EntryData, entries_bytes, entry_bytes, footer_bytes, half_word_bytes, last_letters, tail_bytes, word_bytes};
 
 use crate::index::{Index, IndexEntry};
 use std::alloc::{AllocError, Global};
@@ -25,7 +25,7 @@ pub(crate) fn tail(alloc: Global, index: &Index) -> Result<Vec<u8>, AllocError>
 }
 
 fn put_entries(entries: &[IndexEntry], to: &mut Vec<u8>) -> Result<(), AllocError>
-    ensures { OnOk result (to.new.items ≡ to.old.items ++ index_bytes entries.now) }
+    ensures { OnOk result (to.new.items ≡ to.old.items ++ entries_bytes entries.now) }
 {
     for entry in entries {
         put_entry(entry, to)?;
@@ -42,16 +42,16 @@ fn put_entry(entry: &IndexEntry, to: &mut Vec<u8>) -> Result<(), AllocError>
     to.extend_from_slice(&entry.key)
 }
 
-#[tactic(auto, unfolding(crate::specs::Format::word))]
+#[tactic(auto, unfolding(crate::specs::Format::word_bytes))]
 fn put_word(n: u64, to: &mut Vec<u8>) -> Result<(), AllocError>
-    ensures { OnOk result (to.new.items ≡ to.old.items ++ word n) }
+    ensures { OnOk result (to.new.items ≡ to.old.items ++ word_bytes n) }
 {
     to.extend_from_slice(&n.to_be_bytes())
 }
 
-#[tactic(auto, unfolding(crate::specs::Format::half_word))]
+#[tactic(auto, unfolding(crate::specs::Format::half_word_bytes))]
 fn put_half(n: u32, to: &mut Vec<u8>) -> Result<(), AllocError>
-    ensures { OnOk result (to.new.items ≡ to.old.items ++ half_word n) }
+    ensures { OnOk result (to.new.items ≡ to.old.items ++ half_word_bytes n) }
 {
     to.extend_from_slice(&n.to_be_bytes())
 }

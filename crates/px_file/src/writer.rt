@@ -5,10 +5,10 @@ ghost use Rattle.px_outside.specs.OnDisk.{Passes, Rose, TouchesOnly};
 ghost use Rattle.px_cells.specs.CellData.{CellData};
 ghost use Rattle.px_cellbytes.specs.Spelling.{IsShortEnough};
 ghost use Rattle.px_cellbytes.specs.Reading.{IsWritten};
-ghost use Rattle.px_block.specs.Block.{IsBlock, IsClosed, IsFull, block_bytes};
+ghost use Rattle.px_block.specs.Block.{IsBlock, IsBlockFull, IsClosedBlock, block_bytes};
 ghost use Rattle.px_block.specs.Reading.{ComesAfter};
 ghost use Rattle.px_file.specs.Format.{cells_in};
-ghost use Rattle.px_file.specs.Files.{HasBlocks, HasWritten};
+ghost use Rattle.px_file.specs.Files.{HasBlocks, HasWrittenBlocks};
 
 use crate::MakeFault;
 use crate::index::Index;
@@ -41,8 +41,8 @@ fn block_len(cells: &[Cell]) -> usize
     requires short { AllByRecursion IsShortEnough cells.now }
     ensures some { 1 ≤ result }
     ensures within { result ≤ length cells.now }
-    ensures closed { IsClosed (take result cells.now) }
-    ensures full { result < length cells.now → IsFull (take result cells.now) }
+    ensures closed { IsClosedBlock (take result cells.now) }
+    ensures full { result < length cells.now → IsBlockFull (take result cells.now) }
 {
     let mut size = 0;
     for (i, cell) in cells.iter().enumerate() {
@@ -59,7 +59,7 @@ fn spell(alloc: Global, block: &[Cell]) -> Result<Vec<u8>, AllocError>
     requires { IsBlock block.now }
     ensures spelled { IfOk result (λ bytes. bytes.items ≡ block_bytes block.now) }
     ensures small { IfOk result (λ bytes. length bytes.items ≤ 163855) }
-    ensures full { IfOk result (λ bytes. (32772 ≤ length bytes.items) ↔ IsFull block.now) }
+    ensures full { IfOk result (λ bytes. (32772 ≤ length bytes.items) ↔ IsBlockFull block.now) }
 {
     let mut bytes = Vec::new(alloc);
     write_block(block, &mut bytes)?;
@@ -69,7 +69,7 @@ fn spell(alloc: Global, block: &[Cell]) -> Result<Vec<u8>, AllocError>
 impl FileWriter {
     /// Begins a file: it is cut to nothing, this is brought to the disk, and the first bytes are written.
     pub fn begin<D: Disk>(alloc: Global, disk: &mut D, file: u64) -> Result<FileWriter, MakeFault>
-        ensures begun { IfOk result (λ writer. HasWritten ⟦<D as Disk>⟧ writer disk.new []) }
+        ensures begun { IfOk result (λ writer. HasWrittenBlocks ⟦<D as Disk>⟧ writer disk.new []) }
         ensures file { IfOk result (λ writer. (writer.file ≡ file) × (writer.full ≡ true)) }
         ensures failed { result ≡ Err MakeFault.WriteFault → Rose ⟦<D as Disk>⟧ disk.old disk.new }
         ensures never { result ≢ Err MakeFault.Full }
@@ -104,8 +104,8 @@ impl FileWriter {
         requires goes_on { self.old.full ≡ true }
         requires some { 1 ≤ length cells.now }
         requires written { IsWritten cells.now }
-        ensures done { (blocks : List (List CellData)) → HasWritten ⟦<D as Disk>⟧ self.old disk.old blocks → ComesAfter (cells_in blocks) cells.now
-            → IfOk result (λ n. HasWritten ⟦<D as Disk>⟧ self.new disk.new (blocks ++ take n cells.now ∷ [])) }
+        ensures done { (blocks : List (List CellData)) → HasWrittenBlocks ⟦<D as Disk>⟧ self.old disk.old blocks → ComesAfter (cells_in blocks) cells.now
+            → IfOk result (λ n. HasWrittenBlocks ⟦<D as Disk>⟧ self.new disk.new (blocks ++ take n cells.now ∷ [])) }
         ensures taken { IfOk result (λ n. (1 ≤ n) × (n ≤ length cells.now)) }
         ensures goes_on { IfOk result (λ n. n < length cells.now → self.new.full ≡ true) }
         ensures file { self.new.file ≡ self.old.file }
@@ -130,7 +130,7 @@ impl FileWriter {
 
     /// Writes the index and the footer, and brings the file to the disk.
     pub fn finish<D: Disk>(self, alloc: Global, disk: &mut D) -> Result<RegionFile, MakeFault>
-        ensures done { (blocks : List (List CellData)) → HasWritten ⟦<D as Disk>⟧ self disk.old blocks → IfOk result (λ file. HasBlocks ⟦<D as Disk>⟧ file disk.new blocks) }
+        ensures done { (blocks : List (List CellData)) → HasWrittenBlocks ⟦<D as Disk>⟧ self disk.old blocks → IfOk result (λ file. HasBlocks ⟦<D as Disk>⟧ file disk.new blocks) }
         ensures file { IfOk result (λ file. file.file ≡ self.file) }
         ensures failed { result ≡ Err MakeFault.WriteFault → Rose ⟦<D as Disk>⟧ disk.old disk.new }
         ensures never { result ≢ Err MakeFault.Full }

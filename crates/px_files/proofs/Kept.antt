@@ -8,15 +8,15 @@ use Rattle.px_outside.specs.declared.disk.Disk.{Ghosts}
 use Rattle.px_outside.proofs.Moments.{touches_more}
 use Rattle.px_cells.specs.CellData.{CellData}
 use Rattle.px_file.specs.Files.{HasBlocks}
-use Rattle.px_file.specs.Format.{FileStands, cells_in, greatest}
+use Rattle.px_file.specs.Format.{FileStands, cells_in, greatest_stamp_in}
 use Rattle.px_file.specs.declared.region_file.RegionFile.{RegionFile}
 use Rattle.px_file.proofs.Kept as file
 use Rattle.px_wal.specs.Files.{file_of}
 use Rattle.px_wal.specs.Snapshot.{FileData}
-use Rattle.px_files.specs.Files.{FilesStand, HasFile, HaveFiles, IsOneOf}
+use Rattle.px_files.specs.Files.{FilesStand, HasFileCells, HaveFiles, IsNamedFile}
 
 module _ {D : Type 0} (d : Ghosts D) (region : ℕ) where
-  file_apart : (old new : D) (f : FileData) (o : RegionFile) (l : List CellData) (touched : ℕ → Type 0) → TouchesOnly d old new touched → (touched (file_of region f.local) → ⊥) → HasFile d region old f o l → HasFile d region new f o l
+  file_apart : (old new : D) (f : FileData) (o : RegionFile) (l : List CellData) (touched : ℕ → Type 0) → TouchesOnly d old new touched → (touched (file_of region f.local) → ⊥) → HasFileCells d region old f o l → HasFileCells d region new f o l
   file_apart old new f o l touched touches apart has = record {
     is = has.is;
     blocks = has.blocks;
@@ -24,10 +24,10 @@ module _ {D : Type 0} (d : Ghosts D) (region : ℕ) where
     cells = has.cells;
   }
 
-  file_quiet : (old new : D) (f : FileData) (o : RegionFile) (l : List CellData) → Stays d old new → d.seen new ≡ d.seen old → HasFile d region old f o l → HasFile d region new f o l
+  file_quiet : (old new : D) (f : FileData) (o : RegionFile) (l : List CellData) → Stays d old new → d.seen new ≡ d.seen old → HasFileCells d region old f o l → HasFileCells d region new f o l
   file_quiet old new f o l stays same has = record { is = has.is; blocks = has.blocks; has = file.kept_quiet d old new o has.blocks stays same has.has; cells = has.cells }
 
-  pub have_apart : (old new : D) (named : List FileData) (files : List RegionFile) (lists : List (List CellData)) (touched : ℕ → Type 0) → TouchesOnly d old new touched → ((file : ℕ) → IsOneOf region named file → touched file → ⊥)
+  pub have_apart : (old new : D) (named : List FileData) (files : List RegionFile) (lists : List (List CellData)) (touched : ℕ → Type 0) → TouchesOnly d old new touched → ((file : ℕ) → IsNamedFile region named file → touched file → ⊥)
       → HaveFiles d region old named files lists → HaveFiles d region new named files lists
   have_apart old new [] [] [] touched touches apart have = tt
   have_apart old new [] [] (l ∷ lists) touched touches apart have = absurd have
@@ -47,10 +47,10 @@ module _ {D : Type 0} (d : Ghosts D) (region : ℕ) where
 
   -- ---- what they stand for
 
-  bytes_stand : (disk : D) (f : FileData) (o : RegionFile) (l : List CellData) (bytes : List ℕ) → IsTrue d.tells → HasFile d region disk f o l → bytes ≡ d.seen disk o.file → FileStands bytes l (greatest l)
+  bytes_stand : (disk : D) (f : FileData) (o : RegionFile) (l : List CellData) (bytes : List ℕ) → IsTrue d.tells → HasFileCells d region disk f o l → bytes ≡ d.seen disk o.file → FileStands bytes l (greatest_stamp_in l)
   bytes_stand disk f o l bytes tells has is = record { blocks = has.blocks; right = has.has.right; spelled = is ∙ has.has.seen tells; cells_are = has.cells; stamp_is = refl }
 
-  stand_by : (disk : D) (image : Image) (named : List FileData) (files : List RegionFile) (lists : List (List CellData)) → IsTrue d.tells → ((file : ℕ) → IsOneOf region named file → d.left disk (d.calls disk) file (image file))
+  stand_by : (disk : D) (image : Image) (named : List FileData) (files : List RegionFile) (lists : List (List CellData)) → IsTrue d.tells → ((file : ℕ) → IsNamedFile region named file → d.left disk (d.calls disk) file (image file))
       → HaveFiles d region disk named files lists → FilesStand region image named lists
   stand_by disk image [] [] [] tells left have = tt
   stand_by disk image [] [] (l ∷ lists) tells left have = absurd have
@@ -63,7 +63,7 @@ module _ {D : Type 0} (d : Ghosts D) (region : ℕ) where
     stand_by disk image named files lists tells (λ t own. left t (inr own)) have.1,
   )
 
-  pub have_stand : (disk : D) (named : List FileData) (files : List RegionFile) (lists : List (List CellData)) → IsTrue d.tells → HaveFiles d region disk named files lists → StandsIn d disk (IsOneOf region named) (λ image. FilesStand region image named lists)
+  pub have_stand : (disk : D) (named : List FileData) (files : List RegionFile) (lists : List (List CellData)) → IsTrue d.tells → HaveFiles d region disk named files lists → StandsIn d disk (IsNamedFile region named) (λ image. FilesStand region image named lists)
   have_stand disk named files lists tells have = record { each = λ image left. stand_by disk image named files lists tells left have }
 
   -- what is read of them stands for it too
@@ -78,7 +78,7 @@ module _ {D : Type 0} (d : Ghosts D) (region : ℕ) where
 
   -- ---- one file more
 
-  pub have_more : (disk : D) (named : List FileData) (files : List RegionFile) (lists : List (List CellData)) (f : FileData) (o : RegionFile) (l : List CellData) → HaveFiles d region disk named files lists → HasFile d region disk f o l
+  pub have_more : (disk : D) (named : List FileData) (files : List RegionFile) (lists : List (List CellData)) (f : FileData) (o : RegionFile) (l : List CellData) → HaveFiles d region disk named files lists → HasFileCells d region disk f o l
       → HaveFiles d region disk (named ++ f ∷ []) (files ++ o ∷ []) (lists ++ l ∷ [])
   have_more disk [] [] [] f o l have has = (has, tt)
   have_more disk [] [] (y ∷ lists) f o l have has = absurd have

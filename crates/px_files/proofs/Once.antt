@@ -9,7 +9,7 @@ use Rattle.px_block.specs.Block.{IsBlock, block_bytes}
 use Rattle.px_block.specs.Reading.{HasCount, IsFront, count_in}
 use Rattle.px_block.specs.Reading.IsFrontFault.{of_head}
 use Rattle.px_block.proofs.OneBlock.{front_or_fault, one_front}
-use Rattle.px_file.specs.Format.{FileStands, blocks_bytes, cells_in, end_of, entry_bytes, file_bytes, first_key, footer_bytes, half_word, index_bytes, index_of, last_letters, letters, tail_bytes, tail_of, word}
+use Rattle.px_file.specs.Format.{FileStands, block_index, blocks_bytes, blocks_end, cells_in, entries_bytes, entry_bytes, file_bytes, first_key, footer_bytes, half_word_bytes, last_letters, letters, tail_bytes, tail_of, word_bytes}
 use Rattle.px_cellbytes.specs.Spelling.{size_bytes}
 use Rattle.px_wal.specs.Snapshot.{FileData}
 use Rattle.px_files.specs.Files.{FilesStand}
@@ -37,18 +37,18 @@ blocks_once (x ∷ xs) (y ∷ ys) tx ty each each' nx ny e =
 
 -- ---- no block begins where the index does
 
-eight : (rest : List ℕ) → HasCount (word 8 ++ rest) → ⊥
-unfolding word count_in
+eight : (rest : List ℕ) → HasCount (word_bytes 8 ++ rest) → ⊥
+unfolding word_bytes count_in
 eight rest h = h.1 refl
 
-tail_begins : (blocks : List (List CellData)) → (rest : List ℕ) × (tail_of blocks ≡ word 8 ++ rest)
+tail_begins : (blocks : List (List CellData)) → (rest : List ℕ) × (tail_of blocks ≡ word_bytes 8 ++ rest)
 unfolding tail_bytes
-tail_begins [] = (half_word 0 ++ (word 0 ++ (word 0 ++ last_letters)), refl)
+tail_begins [] = (half_word_bytes 0 ++ (word_bytes 0 ++ (word_bytes 0 ++ last_letters)), refl)
 tail_begins (b ∷ blocks) =
-    let own = half_word (length (block_bytes b)) ++ (size_bytes (length (first_key b)) ++ first_key b) in
-    let others = index_bytes (index_of (8 + length (block_bytes b)) blocks) in
-    let foot = footer_bytes (end_of (b ∷ blocks)) (length (index_of 8 (b ∷ blocks))) (length (cells_in (b ∷ blocks))) (Rattle.px_file.specs.Format.greatest (cells_in (b ∷ blocks))) in
-    (own ++ (others ++ foot), ap (λ (l : List ℕ). l ++ foot) (append_assoc (word 8) own others) ∙ append_assoc (word 8) (own ++ others) foot ∙ ap (λ (l : List ℕ). word 8 ++ l) (append_assoc own others foot))
+    let own = half_word_bytes (length (block_bytes b)) ++ (size_bytes (length (first_key b)) ++ first_key b) in
+    let others = entries_bytes (block_index (8 + length (block_bytes b)) blocks) in
+    let foot = footer_bytes (blocks_end (b ∷ blocks)) (length (block_index 8 (b ∷ blocks))) (length (cells_in (b ∷ blocks))) (Rattle.px_file.specs.Format.greatest_stamp_in (cells_in (b ∷ blocks))) in
+    (own ++ (others ++ foot), ap (λ (l : List ℕ). l ++ foot) (append_assoc (word_bytes 8) own others) ∙ append_assoc (word_bytes 8) (own ++ others) foot ∙ ap (λ (l : List ℕ). word_bytes 8 ++ l) (append_assoc own others foot))
 
 no_count : (blocks : List (List CellData)) → HasCount (tail_of blocks) → ⊥
 no_count blocks h = (let t = tail_begins blocks in eight t.0 (subst HasCount t.1 h))

@@ -8,14 +8,14 @@ use Rattle.px_outside.specs.declared.disk.Disk.{Ghosts}
 use Rattle.px_cells.specs.CellData.{CellData}
 use Rattle.px_file.specs.Files.{HasBlocks}
 use Rattle.px_file.specs.Format.{cells_in}
-use Rattle.px_file.specs.Reading.{IsFirstWrong}
+use Rattle.px_file.specs.Reading.{IsFirstWrongInFile}
 use Rattle.px_file.specs.declared.region_file.RegionFile.{RegionFile}
 use Rattle.px_wal.specs.Files.{file_of}
 use Rattle.px_wal.specs.Snapshot.{FileData}
 use Rattle.px_wal.specs.SnapshotOf.{file_data}
 use Rattle.px_wal.specs.declared.snapshot.FileEntry.{FileEntry}
 use Rattle.px_files.specs.Calls.{opening_calls}
-use Rattle.px_files.specs.Files.{FilesStand, HasFile, HaveFiles, IsFirstBad}
+use Rattle.px_files.specs.Files.{FilesStand, HasFileCells, HaveFiles, IsFirstBad}
 use Rattle.px_files.proofs.Kept.{have_more, have_quiet, seen_stand}
 
 -- an entry at a place, whatever stands for one that isn't there
@@ -62,7 +62,7 @@ module _ {D : Type 0} (d : Ghosts D) (region : ℕ) where
       → o.file ≡ file_of region e.local → ((blocks : List (List CellData)) × HasBlocks d o new blocks) → more ≡ files ++ o ∷ [] → AreOpen new (map file_data (take (i + 1) entries)) more
   open_more old new entries i e files more o open_ lt is stays same file has more-is =
       let quiet = have_quiet d region old new (map file_data (take i entries)) files open_.lists stays same open_.have in
-      let one : HasFile d region new (file_data e) o (cells_in has.0) = record { is = file; blocks = has.0; has = has.1; cells = refl } in
+      let one : HasFileCells d region new (file_data e) o (cells_in has.0) = record { is = file; blocks = has.0; has = has.1; cells = refl } in
       let all = have_more d region new (map file_data (take i entries)) files open_.lists (file_data e) o (cells_in has.0) quiet one in
       record {
         lists = open_.lists ++ cells_in has.0 ∷ [];
@@ -71,7 +71,7 @@ module _ {D : Type 0} (d : Ghosts D) (region : ℕ) where
       }
 
   pub first_bad : (first old : D) (entries : List FileEntry) (i : ℕ) (e : FileEntry) (files : List RegionFile) (file place : ℕ) → IsTrue d.tells → AreOpen old (map file_data (take i entries)) files → i < length entries → e ≡ get_or entries i e → d.seen old ≡ d.seen first
-      → file ≡ file_of region e.local → IsFirstWrong (d.seen old file) place → IsFirstBad region (d.seen first) (map file_data entries) file place
+      → file ≡ file_of region e.local → IsFirstWrongInFile (d.seen old file) place → IsFirstBad region (d.seen first) (map file_data entries) file place
   first_bad first old entries i e files file place tells open_ lt is same file-is wrong = record {
     before = map file_data (take i entries);
     lists = open_.lists;
@@ -80,5 +80,5 @@ module _ {D : Type 0} (d : Ghosts D) (region : ℕ) where
     cut = cut_at entries i e lt is;
     right = subst (λ (s : Image). FilesStand region s (map file_data (take i entries)) open_.lists) same (seen_stand d region old (map file_data (take i entries)) files open_.lists tells open_.have);
     file_is = file-is;
-    wrong = subst (λ (s : Image). IsFirstWrong (s file) place) same wrong;
+    wrong = subst (λ (s : Image). IsFirstWrongInFile (s file) place) same wrong;
   }

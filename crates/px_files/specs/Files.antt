@@ -4,26 +4,26 @@ use Rattle.px_outside.specs.Disk.{Image}
 use Rattle.px_outside.specs.declared.disk.Disk.{Ghosts}
 use Rattle.px_cells.specs.CellData.{CellData}
 use Rattle.px_file.specs.Files.{HasBlocks}
-use Rattle.px_file.specs.Format.{FileStands, cells_in, greatest}
-use Rattle.px_file.specs.Reading.{IsFirstWrong}
+use Rattle.px_file.specs.Format.{FileStands, cells_in, greatest_stamp_in}
+use Rattle.px_file.specs.Reading.{IsFirstWrongInFile}
 use Rattle.px_file.specs.declared.region_file.RegionFile.{RegionFile}
 use Rattle.px_wal.specs.Files.{file_of}
 use Rattle.px_wal.specs.Snapshot.{FileData}
 
 -- it is one of the files that are named
-abbrev pub IsOneOf : ℕ → List FileData → ℕ → Type 0
-IsOneOf region [] file = ⊥
-IsOneOf region (f ∷ named) file = (file ≡ file_of region f.local) ⊎ IsOneOf region named file
+abbrev pub IsNamedFile : ℕ → List FileData → ℕ → Type 0
+IsNamedFile region [] file = ⊥
+IsNamedFile region (f ∷ named) file = (file ≡ file_of region f.local) ⊎ IsNamedFile region named file
 
 -- the files of an image that are named have these lists
 abbrev pub FilesStand : ℕ → Image → List FileData → List (List CellData) → Type 0
 FilesStand region image [] [] = Unit {0}
 FilesStand region image [] (l ∷ lists) = ⊥
 FilesStand region image (f ∷ named) [] = ⊥
-FilesStand region image (f ∷ named) (l ∷ lists) = FileStands (image (file_of region f.local)) l (greatest l) × FilesStand region image named lists
+FilesStand region image (f ∷ named) (l ∷ lists) = FileStands (image (file_of region f.local)) l (greatest_stamp_in l) × FilesStand region image named lists
 
 -- the disk tells that an open file is this one, and that it has the cells, all of it on the disk
-pub record HasFile {D : Type 0} (d : Ghosts D) (region : ℕ) (disk : D) (f : FileData) (file : RegionFile) (list : List CellData) : Type 0 where
+pub record HasFileCells {D : Type 0} (d : Ghosts D) (region : ℕ) (disk : D) (f : FileData) (file : RegionFile) (list : List CellData) : Type 0 where
   pub is : file.file ≡ file_of region f.local
   pub blocks : List (List CellData)
   pub has : HasBlocks d file disk blocks
@@ -36,7 +36,7 @@ HaveFiles d region disk [] [] (l ∷ lists) = ⊥
 HaveFiles d region disk [] (o ∷ files) lists = ⊥
 HaveFiles d region disk (f ∷ named) [] lists = ⊥
 HaveFiles d region disk (f ∷ named) (o ∷ files) [] = ⊥
-HaveFiles d region disk (f ∷ named) (o ∷ files) (l ∷ lists) = HasFile d region disk f o l × HaveFiles d region disk named files lists
+HaveFiles d region disk (f ∷ named) (o ∷ files) (l ∷ lists) = HasFileCells d region disk f o l × HaveFiles d region disk named files lists
 
 -- the place is the first that isn't of the format, in the first of the named files that has one
 pub record IsFirstBad (region : ℕ) (image : Image) (named : List FileData) (file place : ℕ) : Type 0 where
@@ -47,4 +47,4 @@ pub record IsFirstBad (region : ℕ) (image : Image) (named : List FileData) (fi
   pub cut : named ≡ before ++ bad ∷ rest
   pub right : FilesStand region image before lists
   pub file_is : file ≡ file_of region bad.local
-  pub wrong : IsFirstWrong (image file) place
+  pub wrong : IsFirstWrongInFile (image file) place

@@ -8,7 +8,7 @@ IsNamed [] local = ⊥
 IsNamed (f ∷ files) local = (f.local ≡ local) ⊎ IsNamed files local
 
 -- the least local number from 4 on that no file has
-pub record IsFree (files : List FileData) (local : ℕ) : Type 0 where
+pub record IsFreeLocal (files : List FileData) (local : ℕ) : Type 0 where
   pub own : 4 ≤ local
   pub short : local < 4294967295
   pub free : IsNamed files local → ⊥

@@ -4,7 +4,7 @@ ghost use Rattle.px_outside.specs.OnDisk.{Passes, Rose, Stays};
 ghost use Rattle.px_cells.specs.CellData.{CellData};
 ghost use Rattle.px_file.specs.Files.{HasBlocks};
 ghost use Rattle.px_file.specs.Format.{cells_in};
-ghost use Rattle.px_file.specs.Reading.{IsFirstWrong};
+ghost use Rattle.px_file.specs.Reading.{IsFirstWrongInFile};
 ghost use Rattle.px_wal.specs.Files.{file_of};
 ghost use Rattle.px_wal.specs.Snapshot.{FileData};
 ghost use Rattle.px_wal.specs.SnapshotOf.{file_data};
@@ -22,7 +22,7 @@ use std::alloc::{AllocError, Global};
 fn open_one<D: Disk>(alloc: Global, disk: &mut D, file: u64) -> Result<RegionFile, StartFault>
     ensures opened { IfOk result (λ opened. (blocks : List (List CellData)) × HasBlocks ⟦<D as Disk>⟧ opened disk.new blocks) }
     ensures file { IfOk result (λ opened. opened.file ≡ file) }
-    ensures damaged { (at place : ℕ) → result ≡ Err (StartFault.Damaged at place) → (at ≡ file) × (IsTrue D.tells → IsFirstWrong (D.seen disk.old file) place) }
+    ensures damaged { (at place : ℕ) → result ≡ Err (StartFault.Damaged at place) → (at ≡ file) × (IsTrue D.tells → IsFirstWrongInFile (D.seen disk.old file) place) }
     ensures seen { D.seen disk.new ≡ D.seen disk.old }
     ensures quiet { Stays ⟦<D as Disk>⟧ disk.old disk.new }
     ensures read_failed { result ≡ Err StartFault.ReadFault → Rose ⟦<D as Disk>⟧ disk.old disk.new }

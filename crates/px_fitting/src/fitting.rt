@@ -3,7 +3,7 @@ ghost use Rattle.std.specs.Prelude.{◌≡◌, ◌≢◌, true, false, map};
 ghost use Rattle.std.specs.List.{AllByRecursion};
 ghost use Rattle.px_keys.specs.Spelling.{Fits, FitsColumn};
 ghost use Rattle.px_paths.specs.Paths.{columns_on, is_keyed as is_keyed_of, key_part};
-ghost use Rattle.px_calls.specs.Requires.{AreOnce, AssignsTo, FitsTable, FitsWhat};
+ghost use Rattle.px_calls.specs.Requires.{AreOnce, AssignsOnce, AssignsTo, IsChangeOf};
 ghost use Rattle.px_values.specs.declared.row.Value.TheVariants.{Null};
 ghost use Rattle.px_fitting.specs.Assigned.{IsAssignedTo};
 
@@ -117,7 +117,7 @@ fn are_once(assignments: &[Assignment]) -> bool
 }
 
 fn fits_what(table: &Table, what: &What) -> bool
-    ensures { result ≡ true → FitsWhat table.now what.now }
+    ensures { result ≡ true → AssignsOnce table.now what.now }
 {
     match what {
         What::Set(assignments) => {
@@ -129,7 +129,7 @@ fn fits_what(table: &Table, what: &What) -> bool
 
 /// Whether the change is one of a row of the table.
 pub fn fits(table: &Table, change: &Change) -> bool
-    ensures { result ≡ true → FitsTable table.now change.now }
+    ensures { result ≡ true → IsChangeOf table.now change.now }
 {
     fits_key(
         table.columns.as_slice(),

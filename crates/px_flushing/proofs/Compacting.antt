@@ -12,18 +12,18 @@ use Rattle.px_cellbytes.specs.Spelling.{IsShortEnough}
 use Rattle.px_file.specs.Files.{HasBlocks}
 use Rattle.px_file.specs.Format.{cells_in}
 use Rattle.px_file.specs.declared.region_file.RegionFile.{RegionFile}
-use Rattle.px_merge.specs.Kept.{IsKept}
+use Rattle.px_merge.specs.Kept.{IsKeptList}
 use Rattle.px_merge.specs.Merged.{joined}
 use Rattle.px_merge.specs.Settle.{settle}
 use Rattle.px_merge.proofs.Settling.{settle_placed}
-use Rattle.px_wal.specs.Batches.{AreOver, Batch, above, cells_over}
+use Rattle.px_wal.specs.Batches.{AreOverHorizon, LogBatch, batches_above, cells_over}
 use Rattle.px_wal.specs.Files.{file_of}
-use Rattle.px_wal.specs.Manifest.{names}
+use Rattle.px_wal.specs.Manifest.{named_snapshot}
 use Rattle.px_wal.specs.Snapshot.{FileData, SnapshotData}
 use Rattle.px_wal.specs.declared.manifest.Manifest.{Manifest}
 use Rattle.px_wal.specs.declared.wal.Wal.{Wal}
 use Rattle.px_files.specs.Files.{HaveFiles}
-use Rattle.px_naming.specs.Naming.{IsCompacted, RegionReads}
+use Rattle.px_naming.specs.Naming.{IsCompactedFile, RegionReads}
 use Rattle.px_naming.proofs.Named.{merged_same}
 use Rattle.px_forgetting.specs.Forgetting.{IsForgotten}
 use Rattle.px_forgetting.proofs.Horizons.{kept_written}
@@ -32,7 +32,7 @@ use Rattle.px_frozen.specs.FrozenData.{FrozenData}
 use Rattle.px_loading.specs.Gathering.{HasGathered, HaveBlocks, IsFresh}
 use Rattle.px_loading.specs.declared.gathering.Gathering.{Gathering}
 use Rattle.px_loading.proofs.Gathered.{gathered_none}
-use Rattle.px_flushing.specs.Flushing.{Goes, HasFlushing, HasForgot, HasKept, HasOnly, IsGathering, IsMerging, IsRead, ReadsFrom, forgot_next, horizon_after, measured_of, merged_next}
+use Rattle.px_flushing.specs.Flushing.{Goes, HasFlushing, HasForgot, HasKept, HasOnly, IsGathering, IsMerging, IsRegionRead, ReadsFrom, forgot_next, horizon_after, measured_of, merged_next}
 use Rattle.px_flushing.specs.declared.fault.FlushFault.{FlushFault}
 use Rattle.px_flushing.specs.declared.fault.FlushFault.TheVariants.{WriteFault}
 use Rattle.px_flushing.specs.declared.flushing.FlushStep.{FlushStep}
@@ -158,9 +158,9 @@ drop_next n files rest more a b = b ∙ ap (drop 1) a ∙ one n files
     one (suc n) [] = (let e : suc n + 1 ≡ suc (n + 1) = omega arith in sym (ap (λ (k : ℕ). drop k files_none) e))
     one (suc n) (f ∷ files) = (let e : suc n + 1 ≡ suc (n + 1) = omega arith in one n files ∙ sym (ap (λ (k : ℕ). drop k (f ∷ files)) e))
 
-module _ {D : Type 0} (d : Ghosts D) (region : ℕ) (manifest : Manifest) (disk : D) (batches : List Batch) (lists : List (List CellData)) (count : ℕ) (frozen : FrozenData) (local len : ℕ) (file : RegionFile)
-    (merging : IsMerging d region (names manifest) lists disk (record { count = count; horizon = None; frozen = frozen; local = local; stage = stage.Measured file len })) (after : SnapshotData) (after-is : after ≡ merged_next (names manifest) count local len file) where
-  pub compacted_by : IsCompacted d region disk (names manifest) after lists count file frozen.cells
+module _ {D : Type 0} (d : Ghosts D) (region : ℕ) (manifest : Manifest) (disk : D) (batches : List LogBatch) (lists : List (List CellData)) (count : ℕ) (frozen : FrozenData) (local len : ℕ) (file : RegionFile)
+    (merging : IsMerging d region (named_snapshot manifest) lists disk (record { count = count; horizon = None; frozen = frozen; local = local; stage = stage.Measured file len })) (after : SnapshotData) (after-is : after ≡ merged_next (named_snapshot manifest) count local len file) where
+  pub compacted_by : IsCompactedFile d region disk (named_snapshot manifest) after lists count file frozen.cells
   compacted_by =
       let made = merging.stage.1 in
       record {
@@ -172,8 +172,8 @@ module _ {D : Type 0} (d : Ghosts D) (region : ℕ) (manifest : Manifest) (disk 
       }
 
   -- with the file the same is read
-  pub merged_by : cells_over after.flushed batches (frozen.cells ∷ drop count lists) ≡ cells_over (names manifest).flushed batches lists
-  merged_by = merged_same d region disk (names manifest) after batches lists count file frozen.cells compacted_by
+  pub merged_by : cells_over after.flushed batches (frozen.cells ∷ drop count lists) ≡ cells_over (named_snapshot manifest).flushed batches lists
+  merged_by = merged_same d region disk (named_snapshot manifest) after batches lists count file frozen.cells compacted_by
 
 -- ---- it keeps what a horizon does
 
@@ -196,10 +196,10 @@ none_behind count files all file long is = is ∙ ap (λ (l : List RegionFile). 
     past (suc n) [] le = refl
     past (suc n) (f ∷ fs) le = past n fs (omega arith)
 
-module _ {D : Type 0} (d : Ghosts D) (region : ℕ) (manifest : Manifest) (disk : D) (batches : List Batch) (lists : List (List CellData)) (count h : ℕ) (frozen : FrozenData) (local len : ℕ) (file : RegionFile)
-    (merging : IsMerging d region (names manifest) lists disk (record { count = count; horizon = Some h; frozen = frozen; local = local; stage = stage.Measured file len })) (over : AreOver h (above (names manifest).flushed batches)) (all : length lists ≤ count)
-    (after : SnapshotData) (after-is : after ≡ forgot_next (names manifest) h local len file) where
-  pub forgotten_by : IsForgotten d region disk (names manifest) after batches lists file frozen.cells
+module _ {D : Type 0} (d : Ghosts D) (region : ℕ) (manifest : Manifest) (disk : D) (batches : List LogBatch) (lists : List (List CellData)) (count h : ℕ) (frozen : FrozenData) (local len : ℕ) (file : RegionFile)
+    (merging : IsMerging d region (named_snapshot manifest) lists disk (record { count = count; horizon = Some h; frozen = frozen; local = local; stage = stage.Measured file len })) (over : AreOverHorizon h (batches_above (named_snapshot manifest).flushed batches)) (all : length lists ≤ count)
+    (after : SnapshotData) (after-is : after ≡ forgot_next (named_snapshot manifest) h local len file) where
+  pub forgotten_by : IsForgotten d region disk (named_snapshot manifest) after batches lists file frozen.cells
   forgotten_by =
       let made = merging.stage.1 in
       let at : h ≡ after.horizon = sym (ap (λ (n : SnapshotData). n.horizon) after-is) in
@@ -208,22 +208,22 @@ module _ {D : Type 0} (d : Ghosts D) (region : ℕ) (manifest : Manifest) (disk 
         alone = ap (λ (n : SnapshotData). n.files) after-is;
         has = record { is = merging.stage.0; blocks = made.blocks; has = made.has; cells = sym made.all };
         same = ap (λ (n : SnapshotData). n.flushed) after-is;
-        kept = subst (λ (k : ℕ). IsKept (settle (joined lists)) k frozen.cells) at (subst (λ (l : List (List CellData)). IsKept (settle (joined l)) h frozen.cells) (take_all count lists all) merging.cells);
-        over = subst (λ (k : ℕ). AreOver k (above (names manifest).flushed batches)) at over;
+        kept = subst (λ (k : ℕ). IsKeptList (settle (joined lists)) k frozen.cells) at (subst (λ (l : List (List CellData)). IsKeptList (settle (joined l)) h frozen.cells) (take_all count lists all) merging.cells);
+        over = subst (λ (k : ℕ). AreOverHorizon k (batches_above (named_snapshot manifest).flushed batches)) at over;
       }
 
 -- of its name a stop leaves what was named and read, or what the horizon keeps, under it
-pub kept_leaves : {D : Type 0} (d : Ghosts D) (region : ℕ) (manifest : Manifest) (old new : D) (after : SnapshotData) (h : ℕ) (cells kept : List CellData) → after.horizon ≡ h → IsKept cells after.horizon kept
-    → LeavesOnly d old new (λ moment image. RegionReads region image (names manifest) cells ⊎ RegionReads region image after kept) → LeavesOnly d old new (λ moment image. ReadsFrom (Some h) region image (names manifest).horizon cells)
+pub kept_leaves : {D : Type 0} (d : Ghosts D) (region : ℕ) (manifest : Manifest) (old new : D) (after : SnapshotData) (h : ℕ) (cells kept : List CellData) → after.horizon ≡ h → IsKeptList cells after.horizon kept
+    → LeavesOnly d old new (λ moment image. RegionReads region image (named_snapshot manifest) cells ⊎ RegionReads region image after kept) → LeavesOnly d old new (λ moment image. ReadsFrom (Some h) region image (named_snapshot manifest).horizon cells)
 kept_leaves d region manifest old new after h cells kept at keeps leaves = record {
   each = λ moment image since left. elim (leaves.each moment image since left) [
-    | inl reads ↦ inl (record { named = names manifest; reads = reads; horizon_is = refl })
-    | inr reads ↦ inr (record { kept = kept; keeps = subst (λ (k : ℕ). IsKept cells k kept) at keeps; read = record { named = after; reads = reads; horizon_is = at } })
+    | inl reads ↦ inl (record { named = named_snapshot manifest; reads = reads; horizon_is = refl })
+    | inr reads ↦ inr (record { kept = kept; keeps = subst (λ (k : ℕ). IsKeptList cells k kept) at keeps; read = record { named = after; reads = reads; horizon_is = at } })
   ];
 }
 
 -- what is read as before is so of any compaction
-pub reads_from : (o : Option ℕ) {D : Type 0} (d : Ghosts D) (region horizon : ℕ) (old new : D) (cells : List CellData) → LeavesOnly d old new (λ moment image. IsRead region image horizon cells) → LeavesOnly d old new (λ moment image. ReadsFrom o region image horizon cells)
+pub reads_from : (o : Option ℕ) {D : Type 0} (d : Ghosts D) (region horizon : ℕ) (old new : D) (cells : List CellData) → LeavesOnly d old new (λ moment image. IsRegionRead region image horizon cells) → LeavesOnly d old new (λ moment image. ReadsFrom o region image horizon cells)
 reads_from None d region horizon old new cells leaves = leaves
 reads_from (Some h) d region horizon old new cells leaves = record { each = λ moment image since left. inl (leaves.each moment image since left) }
 
@@ -259,25 +259,25 @@ only_this (Ok y) x s Q R ok e = (let same : y ≡ s = cc in sym same ∙ ok.0)
 only_this (Err f) x s Q R ok e = cc
 
 -- all that goes on, with what is read
-abbrev pub GoesBy : {D : Type 0} → Ghosts D → (r : Result FlushStep FlushFault) → (manifest after : Manifest) → Wal → Flushing → D → List Batch → List (List CellData) → Type 0
+abbrev pub GoesBy : {D : Type 0} → Ghosts D → (r : Result FlushStep FlushFault) → (manifest after : Manifest) → Wal → Flushing → D → List LogBatch → List (List CellData) → Type 0
 GoesBy d r manifest after wal flushing disk batches lists =
-    (more : List (List CellData)) × HasFlushing d after wal flushing disk batches more × Goes r (cells_over (names manifest).flushed batches lists) (cells_over (names after).flushed batches more) × HasForgot r flushing more
+    (more : List (List CellData)) × HasFlushing d after wal flushing disk batches more × Goes r (cells_over (named_snapshot manifest).flushed batches lists) (cells_over (named_snapshot after).flushed batches more) × HasForgot r flushing more
 
 -- naming a file that keeps what a horizon does goes on, unless a write failed
-pub kept_goes : {D : Type 0} (d : Ghosts D) (manifest after : Manifest) (wal : Wal) (flushing : Flushing) (disk : D) (batches : List Batch) (lists : List (List CellData)) (frozen : FrozenData) (h : ℕ) (Q R : Type 0) (r : Result FlushStep FlushFault)
+pub kept_goes : {D : Type 0} (d : Ghosts D) (manifest after : Manifest) (wal : Wal) (flushing : Flushing) (disk : D) (batches : List LogBatch) (lists : List (List CellData)) (frozen : FrozenData) (h : ℕ) (Q R : Type 0) (r : Result FlushStep FlushFault)
     → OnOk r (HasFlushing d after wal flushing disk batches (frozen.cells ∷ [])) → OnErr r (r ≢ Err WriteFault → (after ≡ manifest) × HasFlushing d after wal flushing disk batches lists) → IfOk r (λ x. (x ≡ step.Forgot h) × Q × R)
-    → OnOk r (IsKept (cells_over (names manifest).flushed batches lists) h (cells_over (names after).flushed batches (frozen.cells ∷ []))) → OnOk r (flushing.kept ≡ Some frozen) → r ≢ Err WriteFault → GoesBy d r manifest after wal flushing disk batches lists
+    → OnOk r (IsKeptList (cells_over (named_snapshot manifest).flushed batches lists) h (cells_over (named_snapshot after).flushed batches (frozen.cells ∷ []))) → OnOk r (flushing.kept ≡ Some frozen) → r ≢ Err WriteFault → GoesBy d r manifest after wal flushing disk batches lists
 kept_goes d manifest after wal flushing disk batches lists frozen h Q R (Ok x) done kept is whole held other = (
   frozen.cells ∷ [],
   done,
-  subst (λ (y : FlushStep). Goes (Ok y) (cells_over (names manifest).flushed batches lists) (cells_over (names after).flushed batches (frozen.cells ∷ []))) (sym is.0) whole,
+  subst (λ (y : FlushStep). Goes (Ok y) (cells_over (named_snapshot manifest).flushed batches lists) (cells_over (named_snapshot after).flushed batches (frozen.cells ∷ []))) (sym is.0) whole,
   subst (λ (y : FlushStep). HasForgot (Ok y) flushing (frozen.cells ∷ [])) (sym is.0) (subst (λ (k : Option FrozenData). HasOnly k (frozen.cells ∷ [])) (sym held) refl),
 )
-kept_goes d manifest after wal flushing disk batches lists frozen h Q R (Err f) done kept is whole held other = (lists, (kept other).1, ap (λ (m : Manifest). cells_over (names m).flushed batches lists) (kept other).0, tt)
+kept_goes d manifest after wal flushing disk batches lists frozen h Q R (Err f) done kept is whole held other = (lists, (kept other).1, ap (λ (m : Manifest). cells_over (named_snapshot m).flushed batches lists) (kept other).0, tt)
 
 -- one that goes on as before does
-pub goes_before : {D : Type 0} (d : Ghosts D) (r : Result FlushStep FlushFault) (manifest after : Manifest) (wal : Wal) (flushing : Flushing) (disk : D) (batches : List Batch) (lists : List (List CellData)) → ((h : ℕ) → r ≢ Ok (step.Forgot h))
-    → ((more : List (List CellData)) × HasFlushing d after wal flushing disk batches more × (cells_over (names after).flushed batches more ≡ cells_over (names manifest).flushed batches lists)) → GoesBy d r manifest after wal flushing disk batches lists
+pub goes_before : {D : Type 0} (d : Ghosts D) (r : Result FlushStep FlushFault) (manifest after : Manifest) (wal : Wal) (flushing : Flushing) (disk : D) (batches : List LogBatch) (lists : List (List CellData)) → ((h : ℕ) → r ≢ Ok (step.Forgot h))
+    → ((more : List (List CellData)) × HasFlushing d after wal flushing disk batches more × (cells_over (named_snapshot after).flushed batches more ≡ cells_over (named_snapshot manifest).flushed batches lists)) → GoesBy d r manifest after wal flushing disk batches lists
 goes_before d r manifest after wal flushing disk batches lists none z = (z.0, z.1, goes_same r _ _ none z.2, forgot_none r flushing z.0 none)
 
 -- what is named after it

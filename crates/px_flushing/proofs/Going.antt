@@ -11,10 +11,10 @@ use Rattle.px_cells.specs.CellData.{CellData}
 use Rattle.px_file.specs.declared.region_file.RegionFile.{RegionFile}
 use Rattle.px_file.proofs.Kept.{kept_apart}
 use Rattle.px_merge.specs.Settle.{settle}
-use Rattle.px_wal.specs.Batches.{AreRising, Batch, above, between, cells_over, later_first}
+use Rattle.px_wal.specs.Batches.{AreRisingBatches, LogBatch, batches_above, batches_between, cells_over, later_first}
 use Rattle.px_wal.specs.Files.{HasFile, file_of}
-use Rattle.px_wal.specs.Form.{byte_count, cell_count, last_of}
-use Rattle.px_wal.specs.Manifest.{HasSnapshot, manifest_files, names}
+use Rattle.px_wal.specs.Form.{batch_byte_count, cell_count, last_batch_number}
+use Rattle.px_wal.specs.Manifest.{HasSnapshot, manifest_files, named_snapshot}
 use Rattle.px_wal.specs.Snapshot.{FileData, IsEntry, SnapshotData}
 use Rattle.px_wal.specs.Wal.{HasBatches, log_files}
 use Rattle.px_wal.specs.declared.manifest.Manifest.{Manifest}
@@ -22,15 +22,15 @@ use Rattle.px_wal.specs.declared.wal.Wal.{Wal}
 use Rattle.px_wal.proofs.Appended.{log_kept}
 use Rattle.px_wal.proofs.Cuts.{flushed_same}
 use Rattle.px_wal.proofs.Named.{manifest_kept}
-use Rattle.px_files.specs.Files.{HaveFiles, IsOneOf}
-use Rattle.px_files.specs.Locals.{IsFree}
+use Rattle.px_files.specs.Files.{HaveFiles, IsNamedFile}
+use Rattle.px_files.specs.Locals.{IsFreeLocal}
 use Rattle.px_files.proofs.Kept.{have_apart}
 use Rattle.px_naming.specs.Naming.{HasParts, IsFlushed}
 use Rattle.px_frozen.specs.Frozen.{IsFrozen}
 use Rattle.px_frozen.specs.FrozenData.{FrozenData}
 use Rattle.px_frozen.proofs.Coming.{bytes_freed, cells_freed, frozen_more}
 use Rattle.px_loading.specs.Gathering.{HaveBlocks}
-use Rattle.px_flushing.specs.Flushing.{HasFlushing, IsBegun, IsGathering, IsMerging, IsRaised, IsRead, IsUnderWay, named_next}
+use Rattle.px_flushing.specs.Flushing.{HasFlushing, IsBegun, IsGathering, IsJobUnderWay, IsMerging, IsRaised, IsRegionRead, named_next}
 use Rattle.px_flushing.specs.Stage.{IsStage}
 use Rattle.px_flushing.specs.declared.fault.FlushFault.{FlushFault}
 use Rattle.px_flushing.specs.declared.fault.FlushFault.TheVariants.{WriteFault}
@@ -48,7 +48,7 @@ use Rattle.px_flushing.proofs.Parts.{IsPart, free_apart, part_own, parts_kept, p
 use Rattle.px_flushing.proofs.Stages.{stage_kept}
 
 -- a free number's file is one of the region
-pub free_own : (region local file : ℕ) (files : List FileData) → IsFree files local → file ≡ file_of region local → HasFile region file
+pub free_own : (region local file : ℕ) (files : List FileData) → IsFreeLocal files local → file ≡ file_of region local → HasFile region file
 free_own region local file files free is = record { local = local; is = is; short = (let s = free.short in omega arith) }
 
 pub manifest_own : (region file : ℕ) → manifest_files region file → HasFile region file
@@ -62,29 +62,29 @@ manifest_log region file (inl a) (inr b) = omega arith
 manifest_log region file (inr a) (inl b) = omega arith
 manifest_log region file (inr a) (inr b) = omega arith
 
-pub named_log : (region file : ℕ) (named : List FileData) → AllByRecursion IsEntry named → IsOneOf region named file → log_files region file → ⊥
+pub named_log : (region file : ℕ) (named : List FileData) → AllByRecursion IsEntry named → IsNamedFile region named file → log_files region file → ⊥
 named_log region file [] all own touched = own
 named_log region file (f ∷ named) all (inl is) (inl b) = (let o = all.0.own in omega arith)
 named_log region file (f ∷ named) all (inl is) (inr b) = (let o = all.0.own in omega arith)
 named_log region file (f ∷ named) all (inr own) touched = named_log region file named all.1 own touched
 
-pub named_manifest : (region file : ℕ) (named : List FileData) → AllByRecursion IsEntry named → IsOneOf region named file → manifest_files region file → ⊥
+pub named_manifest : (region file : ℕ) (named : List FileData) → AllByRecursion IsEntry named → IsNamedFile region named file → manifest_files region file → ⊥
 named_manifest region file [] all own touched = own
 named_manifest region file (f ∷ named) all (inl is) (inl b) = (let o = all.0.own in omega arith)
 named_manifest region file (f ∷ named) all (inl is) (inr b) = (let o = all.0.own in omega arith)
 named_manifest region file (f ∷ named) all (inr own) touched = named_manifest region file named all.1 own touched
 
 -- the file of a flush is none of its log or manifest
-pub log_apart : (region local : ℕ) (files : List FileData) → IsFree files local → log_files region (file_of region local) → ⊥
+pub log_apart : (region local : ℕ) (files : List FileData) → IsFreeLocal files local → log_files region (file_of region local) → ⊥
 log_apart region local files free (inl is) = (let o = free.own in omega arith)
 log_apart region local files free (inr is) = (let o = free.own in omega arith)
 
-pub manifest_free : (region local : ℕ) (files : List FileData) → IsFree files local → manifest_files region (file_of region local) → ⊥
+pub manifest_free : (region local : ℕ) (files : List FileData) → IsFreeLocal files local → manifest_files region (file_of region local) → ⊥
 manifest_free region local files free (inl is) = (let o = free.own in omega arith)
 manifest_free region local files free (inr is) = (let o = free.own in omega arith)
 
 -- a log that has a batch above a number
-some_batch : (flushed upto : ℕ) (batches : List Batch) → flushed < upto → upto ≤ last_of flushed batches → (b : Batch) × ((more : List Batch) × (batches ≡ b ∷ more))
+some_batch : (flushed upto : ℕ) (batches : List LogBatch) → flushed < upto → upto ≤ last_batch_number flushed batches → (b : LogBatch) × ((more : List LogBatch) × (batches ≡ b ∷ more))
 some_batch flushed upto [] later within = absurd (omega arith)
 some_batch flushed upto (b ∷ batches) later within = (b, (batches, refl))
 
@@ -95,7 +95,7 @@ unflushed flushed last never = by (cases_lt flushed last)
     by (inl lt) = lt
     by (inr le) = absurd (never le)
 
-module _ {D : Type 0} (d : Ghosts D) (region : ℕ) (named : SnapshotData) (batches : List Batch) where
+module _ {D : Type 0} (d : Ghosts D) (region : ℕ) (named : SnapshotData) (batches : List LogBatch) where
   -- ---- calls on other files
 
   pub begun_kept : (old new : D) (flush : Flush) (touched : ℕ → Type 0) → TouchesOnly d old new touched → (touched (file_of region flush.local) → ⊥) → IsBegun d region named batches old flush → IsBegun d region named batches new flush
@@ -115,7 +115,7 @@ module _ {D : Type 0} (d : Ghosts D) (region : ℕ) (named : SnapshotData) (batc
 
   -- the blocks of named files
   blocks_kept : (old new : D) (n : ℕ) (entries : List FileData) (files : List RegionFile) (lists : List (List CellData)) (blocks : List (List (List CellData))) (touched : ℕ → Type 0) → TouchesOnly d old new touched
-      → ((file : ℕ) → IsOneOf region entries file → touched file → ⊥) → HaveFiles d region old entries files lists → HaveBlocks d old (take n files) blocks → HaveBlocks d new (take n files) blocks
+      → ((file : ℕ) → IsNamedFile region entries file → touched file → ⊥) → HaveFiles d region old entries files lists → HaveBlocks d old (take n files) blocks → HaveBlocks d new (take n files) blocks
   blocks_kept old new zero entries files lists [] touched touches apart have blocks = tt
   blocks_kept old new zero entries files lists (b ∷ rest) touched touches apart have blocks = absurd blocks
   blocks_kept old new (suc n) entries [] lists [] touched touches apart have blocks = tt
@@ -128,7 +128,7 @@ module _ {D : Type 0} (d : Ghosts D) (region : ℕ) (named : SnapshotData) (batc
     blocks_kept old new n entries files lists rest touched touches (λ file own. apart file (inr own)) have.1 blocks.1,
   )
 
-  pub gathering_kept : (old new : D) (files : List RegionFile) (lists : List (List CellData)) (gather : Gather) (touched : ℕ → Type 0) → TouchesOnly d old new touched → ((file : ℕ) → IsOneOf region named.files file → touched file → ⊥)
+  pub gathering_kept : (old new : D) (files : List RegionFile) (lists : List (List CellData)) (gather : Gather) (touched : ℕ → Type 0) → TouchesOnly d old new touched → ((file : ℕ) → IsNamedFile region named.files file → touched file → ⊥)
       → HaveFiles d region old named.files files lists → IsGathering d files lists old gather → IsGathering d files lists new gather
   gathering_kept old new files lists gather touched touches apart have is = record {
     blocks = is.blocks;
@@ -143,8 +143,8 @@ module _ {D : Type 0} (d : Ghosts D) (region : ℕ) (named : SnapshotData) (batc
   }
 
   -- calls on files that aren't named, and whose numbers aren't free
-  pub under_kept : (old new : D) (files : List RegionFile) (lists : List (List CellData)) (under : Option Job) (touched : ℕ → Type 0) → TouchesOnly d old new touched → ((file : ℕ) → IsOneOf region named.files file → touched file → ⊥)
-      → ((local : ℕ) → IsFree named.files local → touched (file_of region local) → ⊥) → HaveFiles d region old named.files files lists → IsUnderWay d region named batches files lists old under → IsUnderWay d region named batches files lists new under
+  pub under_kept : (old new : D) (files : List RegionFile) (lists : List (List CellData)) (under : Option Job) (touched : ℕ → Type 0) → TouchesOnly d old new touched → ((file : ℕ) → IsNamedFile region named.files file → touched file → ⊥)
+      → ((local : ℕ) → IsFreeLocal named.files local → touched (file_of region local) → ⊥) → HaveFiles d region old named.files files lists → IsJobUnderWay d region named batches files lists old under → IsJobUnderWay d region named batches files lists new under
   under_kept old new files lists None touched touches apart free have is = tt
   under_kept old new files lists (Some (job.Flush flush)) touched touches apart free have is = begun_kept old new flush touched touches (λ own. free flush.local is.free own) is
   under_kept old new files lists (Some (job.Gather gather)) touched touches apart free have is = gathering_kept old new files lists gather touched touches apart have is
@@ -152,8 +152,8 @@ module _ {D : Type 0} (d : Ghosts D) (region : ℕ) (named : SnapshotData) (batc
 
   -- ---- a batch comes
 
-  under_more : (old new : D) (files : List RegionFile) (lists : List (List CellData)) (under : Option Job) (b : Batch) → last_of named.flushed batches < b.number → TouchesOnly d old new (log_files region) → AllByRecursion IsEntry named.files
-      → HaveFiles d region old named.files files lists → IsUnderWay d region named batches files lists old under → IsUnderWay d region named (batches ++ b ∷ []) files lists new under
+  under_more : (old new : D) (files : List RegionFile) (lists : List (List CellData)) (under : Option Job) (b : LogBatch) → last_batch_number named.flushed batches < b.number → TouchesOnly d old new (log_files region) → AllByRecursion IsEntry named.files
+      → HaveFiles d region old named.files files lists → IsJobUnderWay d region named batches files lists old under → IsJobUnderWay d region named (batches ++ b ∷ []) files lists new under
   under_more old new files lists None b next touches entries have is = tt
   under_more old new files lists (Some (job.Flush flush)) b next touches entries have is = record {
     frozen = frozen_more named.flushed batches b flush.frozen next is.frozen;
@@ -166,31 +166,31 @@ module _ {D : Type 0} (d : Ghosts D) (region : ℕ) (named : SnapshotData) (batc
 
 -- ---- by fields
 
-pub by_fields : {D : Type 0} (d : Ghosts D) (manifest : Manifest) (wal : Wal) (number : ℕ) (files : List RegionFile) (under : Option Job) (disk : D) (batches : List Batch) (lists : List (List CellData)) (flushing : Flushing)
-    → HasParts d number manifest wal disk batches files lists → IsUnderWay d number (names manifest) batches files lists disk under → number ≡ flushing.number → files ≡ flushing.files.items → under ≡ flushing.flush → HasFlushing d manifest wal flushing disk batches lists
+pub by_fields : {D : Type 0} (d : Ghosts D) (manifest : Manifest) (wal : Wal) (number : ℕ) (files : List RegionFile) (under : Option Job) (disk : D) (batches : List LogBatch) (lists : List (List CellData)) (flushing : Flushing)
+    → HasParts d number manifest wal disk batches files lists → IsJobUnderWay d number (named_snapshot manifest) batches files lists disk under → number ≡ flushing.number → files ≡ flushing.files.items → under ≡ flushing.flush → HasFlushing d manifest wal flushing disk batches lists
 by_fields d manifest wal number files under disk batches lists flushing parts is a b c = record {
   parts =
       subst (λ (l : List RegionFile). HasParts d flushing.number manifest wal disk batches l lists) b (subst (λ (n : ℕ). HasParts d n manifest wal disk batches files lists) a parts);
   flush =
-      subst (λ (f : Option Job). IsUnderWay d flushing.number (names manifest) batches flushing.files.items lists disk f) c
-      (subst (λ (l : List RegionFile). IsUnderWay d flushing.number (names manifest) batches l lists disk under) b (subst (λ (n : ℕ). IsUnderWay d n (names manifest) batches files lists disk under) a is));
+      subst (λ (f : Option Job). IsJobUnderWay d flushing.number (named_snapshot manifest) batches flushing.files.items lists disk f) c
+      (subst (λ (l : List RegionFile). IsJobUnderWay d flushing.number (named_snapshot manifest) batches l lists disk under) b (subst (λ (n : ℕ). IsJobUnderWay d n (named_snapshot manifest) batches files lists disk under) a is));
 }
 
 -- ---- its steps
 
-module _ {D : Type 0} (d : Ghosts D) (number : ℕ) (manifest : Manifest) (wal : Wal) (old new : D) (batches : List Batch) (files : List RegionFile) (lists : List (List CellData)) where
-  quiet_apart : (file : ℕ) → IsPart number (names manifest) file → ⊥ → ⊥
+module _ {D : Type 0} (d : Ghosts D) (number : ℕ) (manifest : Manifest) (wal : Wal) (old new : D) (batches : List LogBatch) (files : List RegionFile) (lists : List (List CellData)) where
+  quiet_apart : (file : ℕ) → IsPart number (named_snapshot manifest) file → ⊥ → ⊥
   quiet_apart file own never = never
 
   -- the files are opened
-  pub opened_by : (named : List FileData) → named ≡ (names manifest).files → IsTrue d.tells → HasSnapshot d number manifest old → HasBatches d number (names manifest).flushed wal old batches → Stays d old new → d.seen new ≡ d.seen old
+  pub opened_by : (named : List FileData) → named ≡ (named_snapshot manifest).files → IsTrue d.tells → HasSnapshot d number manifest old → HasBatches d number (named_snapshot manifest).flushed wal old batches → Stays d old new → d.seen new ≡ d.seen old
       → HaveFiles d number new named files lists → HasParts d number manifest wal new batches files lists
   opened_by named is tells has log stays same have =
       let none = stays_touches d.calls d.left d.seen old new stays same in
       record {
         tells = tells;
         named = manifest_kept d number manifest old has new (λ file. ⊥) none (λ file own never. never);
-        log = log_kept d number (names manifest).flushed wal old batches log new (λ file. ⊥) none (λ file own never. never);
+        log = log_kept d number (named_snapshot manifest).flushed wal old batches log new (λ file. ⊥) none (λ file own never. never);
         have = subst (λ (l : List FileData). HaveFiles d number new l files lists) is have;
       }
 
@@ -199,17 +199,17 @@ module _ {D : Type 0} (d : Ghosts D) (number : ℕ) (manifest : Manifest) (wal :
     parts_quiet stays same = parts_kept d number manifest wal old batches files lists parts new (λ file. ⊥) (stays_touches d.calls d.left d.seen old new stays same) quiet_apart
 
     -- a flush is begun
-    pub begun_by : (flushed local : ℕ) (named : List FileData) (frozen : FrozenData) → flushed ≡ (names manifest).flushed → named ≡ (names manifest).files → ((b : List Batch) → HasBatches d number flushed wal old b → IsFrozen flushed b frozen)
-        → frozen.upto ≡ wal.older_to → (names manifest).flushed < wal.older_to → IsFree named local → IsBegun d number (names manifest) batches new (record { frozen = frozen; local = local; stage = stage.Frozen })
+    pub begun_by : (flushed local : ℕ) (named : List FileData) (frozen : FrozenData) → flushed ≡ (named_snapshot manifest).flushed → named ≡ (named_snapshot manifest).files → ((b : List LogBatch) → HasBatches d number flushed wal old b → IsFrozen flushed b frozen)
+        → frozen.upto ≡ wal.older_to → (named_snapshot manifest).flushed < wal.older_to → IsFreeLocal named local → IsBegun d number (named_snapshot manifest) batches new (record { frozen = frozen; local = local; stage = stage.Frozen })
     begun_by flushed local named frozen a b give upto later free = record {
       frozen = subst (λ (n : ℕ). IsFrozen n batches frozen) a (give batches (subst (λ (n : ℕ). HasBatches d number n wal old batches) (sym a) parts.log));
       later = omega (arith, upto);
-      free = subst (λ (l : List FileData). IsFree l local) b free;
+      free = subst (λ (l : List FileData). IsFreeLocal l local) b free;
       stage = tt;
     }
 
 -- a step of its file is made
-module _ {D : Type 0} (d : Ghosts D) (number : ℕ) (named : SnapshotData) (old new : D) (batches : List Batch) (frozen : FrozenData) (local file : ℕ) (cells : List CellData) (before after : Stage) (begun : IsBegun d number named batches old (record { frozen = frozen; local = local; stage = before }))
+module _ {D : Type 0} (d : Ghosts D) (number : ℕ) (named : SnapshotData) (old new : D) (batches : List LogBatch) (frozen : FrozenData) (local file : ℕ) (cells : List CellData) (before after : Stage) (begun : IsBegun d number named batches old (record { frozen = frozen; local = local; stage = before }))
     (file-is : file ≡ file_of number local) (cells-are : cells ≡ frozen.cells) (touches : IsStage d file old cells before → TouchesOnly d old new (λ touched. touched ≡ file)) (stands : IsStage d file old cells before → IsStage d file new cells after) where
   was : IsStage d file old cells before
   was = subst (λ (f : ℕ). IsStage d f old cells before) (sym file-is) (subst (λ (l : List CellData). IsStage d (file_of number local) old l before) (sym cells-are) begun.stage)
@@ -226,64 +226,64 @@ module _ {D : Type 0} (d : Ghosts D) (number : ℕ) (named : SnapshotData) (old 
   wrote_touches = subst (λ (f : ℕ). TouchesOnly d old new (λ touched. touched ≡ f)) file-is (touches was)
 
 -- calls on the file of a flush leave all else
-module _ {D : Type 0} (d : Ghosts D) (number : ℕ) (manifest : Manifest) (wal : Wal) (old new : D) (batches : List Batch) (files : List RegionFile) (lists : List (List CellData)) (parts : HasParts d number manifest wal old batches files lists)
-    (local : ℕ) (free : IsFree (names manifest).files local) (touches : TouchesOnly d old new (λ touched. touched ≡ file_of number local)) where
+module _ {D : Type 0} (d : Ghosts D) (number : ℕ) (manifest : Manifest) (wal : Wal) (old new : D) (batches : List LogBatch) (files : List RegionFile) (lists : List (List CellData)) (parts : HasParts d number manifest wal old batches files lists)
+    (local : ℕ) (free : IsFreeLocal (named_snapshot manifest).files local) (touches : TouchesOnly d old new (λ touched. touched ≡ file_of number local)) where
   pub wrote_parts : HasParts d number manifest wal new batches files lists
-  wrote_parts = parts_kept d number manifest wal old batches files lists parts new (λ touched. touched ≡ file_of number local) touches (λ f own same. free_apart number local f (names manifest) free own same)
+  wrote_parts = parts_kept d number manifest wal old batches files lists parts new (λ touched. touched ≡ file_of number local) touches (λ f own same. free_apart number local f (named_snapshot manifest) free own same)
 
-  pub wrote_leaves : LeavesOnly d old new (λ moment image. IsRead number image (names manifest).horizon (cells_over (names manifest).flushed batches lists))
-  wrote_leaves = parts_leave d number manifest wal old batches files lists parts new (λ touched. touched ≡ file_of number local) touches (λ f own same. free_apart number local f (names manifest) free own same)
+  pub wrote_leaves : LeavesOnly d old new (λ moment image. IsRegionRead number image (named_snapshot manifest).horizon (cells_over (named_snapshot manifest).flushed batches lists))
+  wrote_leaves = parts_leave d number manifest wal old batches files lists parts new (λ touched. touched ≡ file_of number local) touches (λ f own same. free_apart number local f (named_snapshot manifest) free own same)
 
-module _ {D : Type 0} (d : Ghosts D) (manifest : Manifest) (wal : Wal) (flushing : Flushing) (disk : D) (batches : List Batch) (lists : List (List CellData)) (has : HasFlushing d manifest wal flushing disk batches lists) where
+module _ {D : Type 0} (d : Ghosts D) (manifest : Manifest) (wal : Wal) (flushing : Flushing) (disk : D) (batches : List LogBatch) (lists : List (List CellData)) (has : HasFlushing d manifest wal flushing disk batches lists) where
   pub flushing_kept : (disk' : D) → TouchesOnly d disk disk' (λ touched. HasFile flushing.number touched → ⊥) → HasFlushing d manifest wal flushing disk' batches lists
   flushing_kept disk' touches = record {
     parts =
-        parts_kept d flushing.number manifest wal disk batches flushing.files.items lists has.parts disk' (λ touched. HasFile flushing.number touched → ⊥) touches (λ file own touched. touched (part_own flushing.number file (names manifest) has.parts.named.right.files own));
+        parts_kept d flushing.number manifest wal disk batches flushing.files.items lists has.parts disk' (λ touched. HasFile flushing.number touched → ⊥) touches (λ file own touched. touched (part_own flushing.number file (named_snapshot manifest) has.parts.named.right.files own));
     flush =
-        under_kept d flushing.number (names manifest) batches disk disk' flushing.files.items lists flushing.flush (λ touched. HasFile flushing.number touched → ⊥) touches
-        (λ file own touched. touched (part_own flushing.number file (names manifest) has.parts.named.right.files (inr (inr own)))) (λ local free touched. touched (free_own flushing.number local (file_of flushing.number local) (names manifest).files free refl)) has.parts.have
+        under_kept d flushing.number (named_snapshot manifest) batches disk disk' flushing.files.items lists flushing.flush (λ touched. HasFile flushing.number touched → ⊥) touches
+        (λ file own touched. touched (part_own flushing.number file (named_snapshot manifest) has.parts.named.right.files (inr (inr own)))) (λ local free touched. touched (free_own flushing.number local (file_of flushing.number local) (named_snapshot manifest).files free refl)) has.parts.have
         has.flush;
   }
 
-  pub flushing_stands : StandsIn d disk (HasFile flushing.number) (λ image. IsRead flushing.number image (names manifest).horizon (cells_over (names manifest).flushed batches lists))
+  pub flushing_stands : StandsIn d disk (HasFile flushing.number) (λ image. IsRegionRead flushing.number image (named_snapshot manifest).horizon (cells_over (named_snapshot manifest).flushed batches lists))
   flushing_stands =
       let all = parts_stand d flushing.number manifest wal disk batches flushing.files.items lists has.parts in
-      record { each = λ image left. all.each image (λ file own. left file (part_own flushing.number file (names manifest) has.parts.named.right.files own)) }
+      record { each = λ image left. all.each image (λ file own. left file (part_own flushing.number file (named_snapshot manifest) has.parts.named.right.files own)) }
 
-  pub flushing_more : (new : Wal) (disk' : D) (b : Batch) → TouchesOnly d disk disk' (log_files flushing.number) → wal.last < b.number → HasBatches d flushing.number (names manifest).flushed new disk' (batches ++ b ∷ [])
+  pub flushing_more : (new : Wal) (disk' : D) (b : LogBatch) → TouchesOnly d disk disk' (log_files flushing.number) → wal.last < b.number → HasBatches d flushing.number (named_snapshot manifest).flushed new disk' (batches ++ b ∷ [])
       → HasFlushing d manifest new flushing disk' (batches ++ b ∷ []) lists
   flushing_more new disk' b touches next log = record {
     parts = record {
       tells = has.parts.tells;
       named = manifest_kept d flushing.number manifest disk has.parts.named disk' (log_files flushing.number) touches (λ file own touched. manifest_log flushing.number file own touched);
       log = log;
-      have = have_apart d flushing.number disk disk' (names manifest).files flushing.files.items lists (log_files flushing.number) touches (λ file own touched. named_log flushing.number file (names manifest).files has.parts.named.right.files own touched) has.parts.have;
+      have = have_apart d flushing.number disk disk' (named_snapshot manifest).files flushing.files.items lists (log_files flushing.number) touches (λ file own touched. named_log flushing.number file (named_snapshot manifest).files has.parts.named.right.files own touched) has.parts.have;
     };
-    flush = under_more d flushing.number (names manifest) batches disk disk' flushing.files.items lists flushing.flush b (let l = has.parts.log.last in omega arith) touches has.parts.named.right.files has.parts.have has.flush;
+    flush = under_more d flushing.number (named_snapshot manifest) batches disk disk' flushing.files.items lists flushing.flush b (let l = has.parts.log.last in omega arith) touches has.parts.named.right.files has.parts.have has.flush;
   }
 
 -- what is under way
-pub under_is : {D : Type 0} (d : Ghosts D) (manifest : Manifest) (wal : Wal) (flushing : Flushing) (disk : D) (batches : List Batch) (lists : List (List CellData)) (under : Option Job) → HasFlushing d manifest wal flushing disk batches lists → flushing.flush ≡ under
-    → IsUnderWay d flushing.number (names manifest) batches flushing.files.items lists disk under
-under_is d manifest wal flushing disk batches lists under has is = subst (λ (f : Option Job). IsUnderWay d flushing.number (names manifest) batches flushing.files.items lists disk f) is has.flush
+pub under_is : {D : Type 0} (d : Ghosts D) (manifest : Manifest) (wal : Wal) (flushing : Flushing) (disk : D) (batches : List LogBatch) (lists : List (List CellData)) (under : Option Job) → HasFlushing d manifest wal flushing disk batches lists → flushing.flush ≡ under
+    → IsJobUnderWay d flushing.number (named_snapshot manifest) batches flushing.files.items lists disk under
+under_is d manifest wal flushing disk batches lists under has is = subst (λ (f : Option Job). IsJobUnderWay d flushing.number (named_snapshot manifest) batches flushing.files.items lists disk f) is has.flush
 
 -- a flush that is at a stage
-pub begun_at : {D : Type 0} (d : Ghosts D) (number : ℕ) (named : SnapshotData) (batches : List Batch) (disk : D) (frozen : FrozenData) (local : ℕ) (before s : Stage) → IsBegun d number named batches disk (record { frozen = frozen; local = local; stage = before }) → before ≡ s
+pub begun_at : {D : Type 0} (d : Ghosts D) (number : ℕ) (named : SnapshotData) (batches : List LogBatch) (disk : D) (frozen : FrozenData) (local : ℕ) (before s : Stage) → IsBegun d number named batches disk (record { frozen = frozen; local = local; stage = before }) → before ≡ s
     → IsBegun d number named batches disk (record { frozen = frozen; local = local; stage = s })
 begun_at d number named batches disk frozen local before s is b = subst (λ (x : Stage). IsBegun d number named batches disk (record { frozen = frozen; local = local; stage = x })) b is
 
 -- what goes on behind a step
-abbrev pub GoesOn : {D : Type 0} → Ghosts D → (manifest after : Manifest) → Wal → Flushing → D → List Batch → List (List CellData) → Type 0
-GoesOn d manifest after wal flushing disk batches lists = (more : List (List CellData)) × HasFlushing d after wal flushing disk batches more × (cells_over (names after).flushed batches more ≡ cells_over (names manifest).flushed batches lists)
+abbrev pub GoesOn : {D : Type 0} → Ghosts D → (manifest after : Manifest) → Wal → Flushing → D → List LogBatch → List (List CellData) → Type 0
+GoesOn d manifest after wal flushing disk batches lists = (more : List (List CellData)) × HasFlushing d after wal flushing disk batches more × (cells_over (named_snapshot after).flushed batches more ≡ cells_over (named_snapshot manifest).flushed batches lists)
 
 -- ---- a file is named
 
-module _ {D : Type 0} (d : Ghosts D) (region : ℕ) (manifest : Manifest) (disk : D) (batches : List Batch) (frozen : FrozenData) (local len : ℕ) (file : RegionFile)
-    (begun : IsBegun d region (names manifest) batches disk (record { frozen = frozen; local = local; stage = stage.Measured file len })) (after : SnapshotData) (after-is : after ≡ named_next (names manifest) frozen.upto local len file) where
-  pub flushed_by : IsFlushed d region disk (names manifest) after batches file frozen.cells
+module _ {D : Type 0} (d : Ghosts D) (region : ℕ) (manifest : Manifest) (disk : D) (batches : List LogBatch) (frozen : FrozenData) (local len : ℕ) (file : RegionFile)
+    (begun : IsBegun d region (named_snapshot manifest) batches disk (record { frozen = frozen; local = local; stage = stage.Measured file len })) (after : SnapshotData) (after-is : after ≡ named_next (named_snapshot manifest) frozen.upto local len file) where
+  pub flushed_by : IsFlushed d region disk (named_snapshot manifest) after batches file frozen.cells
   flushed_by =
       let made = begun.stage.1 in
-      let some = some_batch (names manifest).flushed frozen.upto batches begun.later begun.frozen.within in
+      let some = some_batch (named_snapshot manifest).flushed frozen.upto batches begun.later begun.frozen.within in
       record {
         entry = record { local = local; len = len; cells = file.index.cells };
         before = ap (λ (n : SnapshotData). n.files) after-is;
@@ -292,36 +292,36 @@ module _ {D : Type 0} (d : Ghosts D) (region : ℕ) (manifest : Manifest) (disk 
         some = some.0;
         more = some.1.0;
         batches_are = some.1.1;
-        cells = begun.frozen.cells ∙ ap (λ (n : ℕ). settle (later_first (between (names manifest).flushed n batches))) (sym (ap (λ (n : SnapshotData). n.flushed) after-is));
+        cells = begun.frozen.cells ∙ ap (λ (n : ℕ). settle (later_first (batches_between (named_snapshot manifest).flushed n batches))) (sym (ap (λ (n : SnapshotData). n.flushed) after-is));
       }
 
-  pub raised_by : IsRaised (names manifest).flushed after.flushed batches frozen.count frozen.bytes
+  pub raised_by : IsRaised (named_snapshot manifest).flushed after.flushed batches frozen.count frozen.bytes
   raised_by =
       let e : after.flushed ≡ frozen.upto = ap (λ (n : SnapshotData). n.flushed) after-is in
-      let le : (names manifest).flushed ≤ frozen.upto = (let l = begun.later in omega arith) in
+      let le : (named_snapshot manifest).flushed ≤ frozen.upto = (let l = begun.later in omega arith) in
       record {
         later = (let l = begun.later in omega arith);
-        counted = cells_freed (names manifest).flushed batches frozen le begun.frozen ∙ ap (λ (n : ℕ). frozen.count + cell_count (above n batches)) (sym e);
-        weighed = bytes_freed (names manifest).flushed batches frozen le begun.frozen ∙ ap (λ (n : ℕ). frozen.bytes + byte_count (above n batches)) (sym e);
+        counted = cells_freed (named_snapshot manifest).flushed batches frozen le begun.frozen ∙ ap (λ (n : ℕ). frozen.count + cell_count (batches_above n batches)) (sym e);
+        weighed = bytes_freed (named_snapshot manifest).flushed batches frozen le begun.frozen ∙ ap (λ (n : ℕ). frozen.bytes + batch_byte_count (batches_above n batches)) (sym e);
       }
 
-  pub raised_as : (cells bytes : ℕ) → cells ≡ frozen.count → bytes ≡ frozen.bytes → IsRaised (names manifest).flushed after.flushed batches cells bytes
+  pub raised_as : (cells bytes : ℕ) → cells ≡ frozen.count → bytes ≡ frozen.bytes → IsRaised (named_snapshot manifest).flushed after.flushed batches cells bytes
   raised_as cells bytes a b = record {
     later = raised_by.later;
-    counted = raised_by.counted ∙ ap (λ (n : ℕ). n + cell_count (above after.flushed batches)) (sym a);
-    weighed = raised_by.weighed ∙ ap (λ (n : ℕ). n + byte_count (above after.flushed batches)) (sym b);
+    counted = raised_by.counted ∙ ap (λ (n : ℕ). n + cell_count (batches_above after.flushed batches)) (sym a);
+    weighed = raised_by.weighed ∙ ap (λ (n : ℕ). n + batch_byte_count (batches_above after.flushed batches)) (sym b);
   }
 
   -- with the file the same is read
-  pub same_by : AreRising batches → (lists : List (List CellData)) → cells_over after.flushed batches (frozen.cells ∷ lists) ≡ cells_over (names manifest).flushed batches lists
-  same_by rising lists = flushed_same (names manifest).flushed after.flushed batches lists frozen.cells flushed_by.later rising flushed_by.cells
+  pub same_by : AreRisingBatches batches → (lists : List (List CellData)) → cells_over after.flushed batches (frozen.cells ∷ lists) ≡ cells_over (named_snapshot manifest).flushed batches lists
+  same_by rising lists = flushed_same (named_snapshot manifest).flushed after.flushed batches lists frozen.cells flushed_by.later rising flushed_by.cells
 
 -- naming a file goes on, unless a write failed
-pub named_goes : {D : Type 0} (d : Ghosts D) (manifest after : Manifest) (wal : Wal) (flushing : Flushing) (disk : D) (batches : List Batch) (lists others : List (List CellData)) (r : Result FlushStep FlushFault)
+pub named_goes : {D : Type 0} (d : Ghosts D) (manifest after : Manifest) (wal : Wal) (flushing : Flushing) (disk : D) (batches : List LogBatch) (lists others : List (List CellData)) (r : Result FlushStep FlushFault)
     → OnOk r (HasFlushing d after wal flushing disk batches others) → OnErr r (r ≢ Err WriteFault → (after ≡ manifest) × HasFlushing d after wal flushing disk batches lists)
-    → OnOk r (cells_over (names after).flushed batches others ≡ cells_over (names manifest).flushed batches lists) → r ≢ Err WriteFault → GoesOn d manifest after wal flushing disk batches lists
+    → OnOk r (cells_over (named_snapshot after).flushed batches others ≡ cells_over (named_snapshot manifest).flushed batches lists) → r ≢ Err WriteFault → GoesOn d manifest after wal flushing disk batches lists
 named_goes d manifest after wal flushing disk batches lists others (Ok x) done kept same other = (others, done, same)
-named_goes d manifest after wal flushing disk batches lists others (Err f) done kept same other = (lists, (kept other).1, ap (λ (m : Manifest). cells_over (names m).flushed batches lists) (kept other).0)
+named_goes d manifest after wal flushing disk batches lists others (Err f) done kept same other = (lists, (kept other).1, ap (λ (m : Manifest). cells_over (named_snapshot m).flushed batches lists) (kept other).0)
 
 -- ---- what a step answers
 

@@ -5,13 +5,13 @@ use Rattle.px_outside.specs.OnDisk.{Stays, TouchesOnly}
 use Rattle.px_outside.specs.declared.disk.Disk.{Ghosts}
 use Rattle.px_outside.proofs.Moments.{stays_touches, touches_more}
 use Rattle.px_cells.specs.CellData.{CellData}
-use Rattle.px_file.specs.Files.{HasWritten}
+use Rattle.px_file.specs.Files.{HasWrittenBlocks}
 use Rattle.px_file.specs.declared.fault.MakeFault.{MakeFault}
 use Rattle.px_file.specs.declared.fault.MakeFault.TheVariants as make
 use Rattle.px_file.specs.declared.region_file.RegionFile.{RegionFile}
 use Rattle.px_file.specs.declared.writer.FileWriter.{FileWriter}
 use Rattle.px_file.proofs.Kept.{kept_apart, kept_quiet}
-use Rattle.px_making.specs.Making.{HasCells, IsMade, IsMaking, file_of}
+use Rattle.px_making.specs.Making.{HasCells, IsFileMade, IsMaking, file_made}
 use Rattle.px_making.specs.declared.making.Making.{Making}
 use Rattle.px_gatelog.specs.declared.fault.AppendFault.{AppendFault}
 use Rattle.px_gatelog.specs.declared.fault.AppendFault.TheVariants as append
@@ -79,26 +79,26 @@ append_other append.Full (inr e) = cc
 -- ---- what a stage has
 
 module _ {D : Type 0} (d : Ghosts D) (file : ℕ) (disk : D) (cells : List CellData) (s : Stage) where
-  pub making_of : (m : Making) → s ≡ stage.Making m → IsStage d file disk cells s → (file_of m ≡ file) × IsMaking d m disk cells
+  pub making_of : (m : Making) → s ≡ stage.Making m → IsStage d file disk cells s → (file_made m ≡ file) × IsMaking d m disk cells
   making_of m e is = subst (λ (x : Stage). IsStage d file disk cells x) e is
 
-  pub written_of : (m : Making) → s ≡ stage.Written m → IsStage d file disk cells s → (file_of m ≡ file) × HasCells d m disk cells
+  pub written_of : (m : Making) → s ≡ stage.Written m → IsStage d file disk cells s → (file_made m ≡ file) × HasCells d m disk cells
   written_of m e is = subst (λ (x : Stage). IsStage d file disk cells x) e is
 
-  pub made_of : (made : RegionFile) → s ≡ stage.Made made → IsStage d file disk cells s → (made.file ≡ file) × IsMade d made disk cells
+  pub made_of : (made : RegionFile) → s ≡ stage.Made made → IsStage d file disk cells s → (made.file ≡ file) × IsFileMade d made disk cells
   made_of made e is = subst (λ (x : Stage). IsStage d file disk cells x) e is
 
 -- ---- calls on other files
 
 module _ {D : Type 0} (d : Ghosts D) (old new : D) where
-  written_kept : (writer : FileWriter) (blocks : List (List CellData)) → d.seen new writer.file ≡ d.seen old writer.file → HasWritten d writer old blocks → HasWritten d writer new blocks
+  written_kept : (writer : FileWriter) (blocks : List (List CellData)) → d.seen new writer.file ≡ d.seen old writer.file → HasWrittenBlocks d writer old blocks → HasWrittenBlocks d writer new blocks
   written_kept writer blocks same has = record { right = has.right; full = has.full; index = has.index; seen = λ tells. same ∙ has.seen tells }
 
-  pub made_kept : (file : RegionFile) (cells : List CellData) → TouchesOnly d old new (λ touched. touched ≢ file.file) → IsMade d file old cells → IsMade d file new cells
+  pub made_kept : (file : RegionFile) (cells : List CellData) → TouchesOnly d old new (λ touched. touched ≢ file.file) → IsFileMade d file old cells → IsFileMade d file new cells
   made_kept file cells touches made = record { blocks = made.blocks; has = kept_apart d old new file made.blocks touches made.has; all = made.all }
 
   -- calls that change nothing
-  pub made_quiet : (file : RegionFile) (cells : List CellData) → Stays d old new → d.seen new ≡ d.seen old → IsMade d file old cells → IsMade d file new cells
+  pub made_quiet : (file : RegionFile) (cells : List CellData) → Stays d old new → d.seen new ≡ d.seen old → IsFileMade d file old cells → IsFileMade d file new cells
   made_quiet file cells stays same made = record { blocks = made.blocks; has = kept_quiet d old new file made.blocks stays same made.has; all = made.all }
 
   pub quiet_touches : Stays d old new → d.seen new ≡ d.seen old → (touched : ℕ → Type 0) → TouchesOnly d old new touched

@@ -5,18 +5,18 @@ use Rattle.px_outside.specs.declared.disk.Disk.{Ghosts}
 use Rattle.px_cells.specs.CellData.{CellData}
 use Rattle.px_file.specs.Format.{cells_in}
 use Rattle.px_file.specs.declared.region_file.RegionFile.{RegionFile}
-use Rattle.px_merge.specs.Kept.{IsKept}
+use Rattle.px_merge.specs.Kept.{IsKeptList}
 use Rattle.px_merge.specs.Merged.{joined}
 use Rattle.px_merge.specs.Settle.{settle}
-use Rattle.px_wal.specs.Batches.{AreOver, Batch, above}
+use Rattle.px_wal.specs.Batches.{AreOverHorizon, LogBatch, batches_above}
 use Rattle.px_wal.specs.Files.{file_of}
-use Rattle.px_wal.specs.Form.{byte_count, cell_count}
-use Rattle.px_wal.specs.Manifest.{names}
+use Rattle.px_wal.specs.Form.{batch_byte_count, cell_count}
+use Rattle.px_wal.specs.Manifest.{named_snapshot}
 use Rattle.px_wal.specs.Snapshot.{SnapshotData}
 use Rattle.px_wal.specs.declared.manifest.Manifest.{Manifest}
 use Rattle.px_wal.specs.declared.wal.Wal.{Wal}
-use Rattle.px_files.specs.Locals.{IsFree}
-use Rattle.px_naming.specs.Naming.{HasParts, RegionReads, one_more}
+use Rattle.px_files.specs.Locals.{IsFreeLocal}
+use Rattle.px_naming.specs.Naming.{HasParts, RegionReads, one_compaction_more}
 use Rattle.px_frozen.specs.Frozen.{IsFrozen}
 use Rattle.px_frozen.specs.FrozenData.{FrozenData}
 use Rattle.px_loading.specs.Gathering.{HasGathered}
@@ -35,10 +35,10 @@ use Rattle.px_flushing.specs.declared.stage.Stage.TheVariants as how
 
 -- A flush that was begun, which the manifest doesn't name: its cells are those of some batches above the flushed number, and
 -- its file, which has a number of its own, has as many of them as its stage says.
-pub record IsBegun {D : Type 0} (d : Ghosts D) (region : ℕ) (named : SnapshotData) (batches : List Batch) (disk : D) (flush : Flush) : Type 0 where
+pub record IsBegun {D : Type 0} (d : Ghosts D) (region : ℕ) (named : SnapshotData) (batches : List LogBatch) (disk : D) (flush : Flush) : Type 0 where
   pub frozen : IsFrozen named.flushed batches flush.frozen
   pub later : named.flushed < flush.frozen.upto
-  pub free : IsFree named.files flush.local
+  pub free : IsFreeLocal named.files flush.local
   pub stage : IsStage d (file_of region flush.local) disk flush.frozen.cells flush.stage
 
 -- The cells of so many of the newest files are gathered, to be merged.
@@ -51,21 +51,21 @@ pub record IsGathering {D : Type 0} (d : Ghosts D) (files : List RegionFile) (li
 -- all that is read of cells, or what a horizon keeps of it
 abbrev pub HasKept : Option ℕ → (cells kept : List CellData) → Type 0
 HasKept None cells kept = kept ≡ cells
-HasKept (Some h) cells kept = IsKept cells h kept
+HasKept (Some h) cells kept = IsKeptList cells h kept
 
 -- What is read of so many of the newest files, or what a horizon keeps of it, goes to a file that the manifest doesn't name, which has a number of its own and
 -- as many of these cells as its stage says.
 pub record IsMerging {D : Type 0} (d : Ghosts D) (region : ℕ) (named : SnapshotData) (lists : List (List CellData)) (disk : D) (merge : Merge) : Type 0 where
   pub cells : HasKept merge.horizon (settle (joined (take merge.count lists))) merge.frozen.cells
-  pub free : IsFree named.files merge.local
+  pub free : IsFreeLocal named.files merge.local
   pub stage : IsStage d (file_of region merge.local) disk merge.frozen.cells merge.stage
 
 -- a flush or a compaction that may be under way
-abbrev pub IsUnderWay : {D : Type 0} → Ghosts D → ℕ → SnapshotData → List Batch → List RegionFile → List (List CellData) → D → Option Job → Type 0
-IsUnderWay d region named batches files lists disk None = Unit {0}
-IsUnderWay d region named batches files lists disk (Some (job.Flush flush)) = IsBegun d region named batches disk flush
-IsUnderWay d region named batches files lists disk (Some (job.Gather gather)) = IsGathering d files lists disk gather
-IsUnderWay d region named batches files lists disk (Some (job.Merge merge)) = IsMerging d region named lists disk merge
+abbrev pub IsJobUnderWay : {D : Type 0} → Ghosts D → ℕ → SnapshotData → List LogBatch → List RegionFile → List (List CellData) → D → Option Job → Type 0
+IsJobUnderWay d region named batches files lists disk None = Unit {0}
+IsJobUnderWay d region named batches files lists disk (Some (job.Flush flush)) = IsBegun d region named batches disk flush
+IsJobUnderWay d region named batches files lists disk (Some (job.Gather gather)) = IsGathering d files lists disk gather
+IsJobUnderWay d region named batches files lists disk (Some (job.Merge merge)) = IsMerging d region named lists disk merge
 
 -- the number of the last batch of a flush, 0 where none is under way
 abbrev pub upto_of : Option Job → ℕ
@@ -75,11 +75,11 @@ upto_of (Some (job.Gather gather)) = 0
 upto_of (Some (job.Merge merge)) = 0
 
 -- the horizon of a compaction that forgets
-abbrev pub horizon_of : Option Job → Option ℕ
-horizon_of None = None
-horizon_of (Some (job.Flush flush)) = None
-horizon_of (Some (job.Gather gather)) = gather.horizon
-horizon_of (Some (job.Merge merge)) = merge.horizon
+abbrev pub forgetting_horizon : Option Job → Option ℕ
+forgetting_horizon None = None
+forgetting_horizon (Some (job.Flush flush)) = None
+forgetting_horizon (Some (job.Gather gather)) = gather.horizon
+forgetting_horizon (Some (job.Merge merge)) = merge.horizon
 
 -- the cells of a compaction that forgets, once its file is measured
 abbrev pub measured_of : Option ℕ → Stage → FrozenData → Option FrozenData
@@ -98,9 +98,9 @@ naming_of (Some (job.Gather gather)) = None
 naming_of (Some (job.Merge merge)) = measured_of merge.horizon merge.stage merge.frozen
 
 -- a compaction may forget at this horizon, if it has one, where every batch that isn't in a file is above it
-abbrev pub MayForget : Option ℕ → List Batch → Type 0
+abbrev pub MayForget : Option ℕ → List LogBatch → Type 0
 MayForget None batches = Unit {0}
-MayForget (Some h) batches = AreOver h batches
+MayForget (Some h) batches = AreOverHorizon h batches
 
 -- no file is named or begun
 pub record IsFreshFlushing (number : ℕ) (flushing : Flushing) : Type 0 where
@@ -110,12 +110,12 @@ pub record IsFreshFlushing (number : ℕ) (flushing : Flushing) : Type 0 where
 
 -- The disk tells that manifest, log and open files of the region have this, all of it on the disk, and that it goes on from
 -- there, with the flush or the compaction that may be under way.
-pub record HasFlushing {D : Type 0} (d : Ghosts D) (manifest : Manifest) (wal : Wal) (flushing : Flushing) (disk : D) (batches : List Batch) (lists : List (List CellData)) : Type 0 where
+pub record HasFlushing {D : Type 0} (d : Ghosts D) (manifest : Manifest) (wal : Wal) (flushing : Flushing) (disk : D) (batches : List LogBatch) (lists : List (List CellData)) : Type 0 where
   pub parts : HasParts d flushing.number manifest wal disk batches flushing.files.items lists
-  pub flush : IsUnderWay d flushing.number (names manifest) batches flushing.files.items lists disk flushing.flush
+  pub flush : IsJobUnderWay d flushing.number (named_snapshot manifest) batches flushing.files.items lists disk flushing.flush
 
 -- the image's files of a region are read as this list, and its manifest names this horizon
-pub record IsRead (region : ℕ) (image : Image) (horizon : ℕ) (cells : List CellData) : Type 0 where
+pub record IsRegionRead (region : ℕ) (image : Image) (horizon : ℕ) (cells : List CellData) : Type 0 where
   pub named : SnapshotData
   pub reads : RegionReads region image named cells
   pub horizon_is : named.horizon ≡ horizon
@@ -123,13 +123,13 @@ pub record IsRead (region : ℕ) (image : Image) (horizon : ℕ) (cells : List C
 -- the image's files of a region are read as what a horizon keeps of this list, and its manifest names that horizon
 pub record IsReadKept (region : ℕ) (image : Image) (horizon : ℕ) (cells : List CellData) : Type 0 where
   pub kept : List CellData
-  pub keeps : IsKept cells horizon kept
-  pub read : IsRead region image horizon kept
+  pub keeps : IsKeptList cells horizon kept
+  pub read : IsRegionRead region image horizon kept
 
 -- they are read as this list, with this horizon; or, of a compaction that forgets, as what its horizon keeps
 abbrev pub ReadsFrom : Option ℕ → (region : ℕ) → Image → (horizon : ℕ) → List CellData → Type 0
-ReadsFrom None region image horizon cells = IsRead region image horizon cells
-ReadsFrom (Some h) region image horizon cells = IsRead region image horizon cells ⊎ IsReadKept region image h cells
+ReadsFrom None region image horizon cells = IsRegionRead region image horizon cells
+ReadsFrom (Some h) region image horizon cells = IsRegionRead region image horizon cells ⊎ IsReadKept region image h cells
 
 -- what is named after a flush up to a number, whose file has this local number and so many bytes
 abbrev pub named_next : SnapshotData → (upto local len : ℕ) → RegionFile → SnapshotData
@@ -147,7 +147,7 @@ merged_next named count local len file = record {
   flushed = named.flushed;
   horizon = named.horizon;
   stamp = named.stamp;
-  compactions = one_more named.compactions;
+  compactions = one_compaction_more named.compactions;
   files = record { local = local; len = len; cells = file.index.cells } ∷ drop count named.files;
 }
 
@@ -157,12 +157,12 @@ forgot_next named horizon local len file = record {
   flushed = named.flushed;
   horizon = horizon;
   stamp = named.stamp;
-  compactions = one_more named.compactions;
+  compactions = one_compaction_more named.compactions;
   files = record { local = local; len = len; cells = file.index.cells } ∷ [];
 }
 
 -- one file is named in place of all, with a horizon that isn't below the one before
-pub record HasForgotten (old new : SnapshotData) (horizon : ℕ) : Type 0 where
+pub record HasForgottenFiles (old new : SnapshotData) (horizon : ℕ) : Type 0 where
   pub raised : old.horizon ≤ horizon
   pub local : ℕ
   pub len : ℕ
@@ -179,17 +179,17 @@ pub record HasMerged (old new : SnapshotData) : Type 0 where
   pub is : new ≡ merged_next old count local len file
 
 -- the flushed number has risen, and so many cells and bytes of batches aren't above it any more
-pub record IsRaised (old new : ℕ) (batches : List Batch) (cells bytes : ℕ) : Type 0 where
+pub record IsRaised (old new : ℕ) (batches : List LogBatch) (cells bytes : ℕ) : Type 0 where
   pub later : old < new
-  pub counted : cell_count (above old batches) ≡ cells + cell_count (above new batches)
-  pub weighed : byte_count (above old batches) ≡ bytes + byte_count (above new batches)
+  pub counted : cell_count (batches_above old batches) ≡ cells + cell_count (batches_above new batches)
+  pub weighed : batch_byte_count (batches_above old batches) ≡ bytes + batch_byte_count (batches_above new batches)
 
 -- what is read after a step: the same, or what the horizon keeps at which it forgot
 abbrev pub Goes : Result FlushStep FlushFault → (old new : List CellData) → Type 0
 Goes (Ok step.More) old new = new ≡ old
 Goes (Ok (step.Named cells bytes)) old new = new ≡ old
 Goes (Ok step.Merged) old new = new ≡ old
-Goes (Ok (step.Forgot horizon)) old new = IsKept old horizon new
+Goes (Ok (step.Forgot horizon)) old new = IsKeptList old horizon new
 Goes (Ok step.Done) old new = new ≡ old
 Goes (Err fault) old new = new ≡ old
 

@@ -4,18 +4,18 @@ ghost use Rattle.std.specs.Option.{option_copied};
 ghost use Rattle.px_outside.specs.OnDisk.{LeavesOnly, Passes, Rose, TouchesOnly};
 ghost use Rattle.px_cells.specs.CellData.{CellData};
 ghost use Rattle.px_cellbytes.specs.Reading.{IsWritten};
-ghost use Rattle.px_merge.specs.Kept.{IsKept};
+ghost use Rattle.px_merge.specs.Kept.{IsKeptList};
 ghost use Rattle.px_merge.specs.Merged.{joined};
 ghost use Rattle.px_merge.specs.Settle.{settle};
-ghost use Rattle.px_wal.specs.Batches.{AreOver, Batch as BatchData, above, cells_over};
+ghost use Rattle.px_wal.specs.Batches.{AreOverHorizon, LogBatch, batches_above, cells_over};
 ghost use Rattle.px_wal.specs.Files.{HasFile as IsFileOf, file_of};
-ghost use Rattle.px_wal.specs.Manifest.{HasSnapshot, is_open, manifest_files, names};
+ghost use Rattle.px_wal.specs.Manifest.{HasSnapshot, is_manifest_open, manifest_files, named_snapshot};
 ghost use Rattle.px_wal.specs.Snapshot.{IsSnapshot};
 ghost use Rattle.px_wal.specs.SnapshotOf.{files_of, snapshot_of};
 ghost use Rattle.px_wal.specs.declared.manifest.Manifest.{Manifest as Manifests};
 ghost use Rattle.px_wal.specs.declared.wal.Wal.{Wal as Logs};
 ghost use Rattle.px_naming.specs.Naming.{HasParts};
-ghost use Rattle.px_flushing.specs.Flushing.{Goes, HasFlushing, HasForgot, HasForgotten, HasKept, HasMerged, IsGathering, IsMerging, IsRead, MayForget, ReadsFrom, forgot_next, horizon_after, horizon_of, measured_of, merged_next, naming_of};
+ghost use Rattle.px_flushing.specs.Flushing.{Goes, HasFlushing, HasForgot, HasForgottenFiles, HasKept, HasMerged, IsGathering, IsMerging, IsRegionRead, MayForget, ReadsFrom, forgetting_horizon, forgot_next, horizon_after, measured_of, merged_next, naming_of};
 ghost use Rattle.px_flushing.specs.declared.fault.FlushFault.TheVariants.{Damaged, ReadFault, WriteFault};
 
 use crate::fault::{of_append, of_read};
@@ -36,7 +36,7 @@ use std::alloc::Global;
 
 /// What a horizon keeps of cells that were gathered.
 fn kept_at(alloc: Global, cells: Cells, horizon: u64) -> Result<Cells, FlushFault>
-    ensures kept { IfOk result (λ kept. IsKept cells horizon kept) }
+    ensures kept { IfOk result (λ kept. IsKeptList cells horizon kept) }
     ensures never { (result ≢ Err ReadFault) × (result ≢ Err WriteFault) }
     ensures sound { IsWritten cells → result ≢ Err Damaged }
 {
@@ -71,9 +71,9 @@ impl Flushing {
     /// Begins a compaction of so many of the newest files, where there are so many, with a horizon or without. It makes no call.
     fn start<D: Disk>(&mut self, count: usize, horizon: Option<u64>)
         requires { self.old.flush ≡ None }
-        ensures begun { (manifest : Manifests) (wal : Logs) (disk : D) (batches : List BatchData) (lists : List (List CellData)) → HasFlushing ⟦<D as Disk>⟧ manifest wal self.old disk batches lists → HasFlushing ⟦<D as Disk>⟧ manifest wal self.new disk batches lists }
+        ensures begun { (manifest : Manifests) (wal : Logs) (disk : D) (batches : List LogBatch) (lists : List (List CellData)) → HasFlushing ⟦<D as Disk>⟧ manifest wal self.old disk batches lists → HasFlushing ⟦<D as Disk>⟧ manifest wal self.new disk batches lists }
         ensures started { count ≤ length self.old.files.items → self.new.flush ≢ None }
-        ensures horizon { count ≤ length self.old.files.items → horizon_of self.new.flush ≡ horizon }
+        ensures horizon { count ≤ length self.old.files.items → forgetting_horizon self.new.flush ≡ horizon }
         ensures files { (self.new.number ≡ self.old.number) × (self.new.files ≡ self.old.files) }
     {
         self.given_up = 0;
@@ -89,9 +89,9 @@ impl Flushing {
     /// Begins a compaction of so many of the newest files, where there are so many. It makes no call.
     pub fn compact<D: Disk>(&mut self, count: usize)
         requires { self.old.flush ≡ None }
-        ensures begun { (manifest : Manifests) (wal : Logs) (disk : D) (batches : List BatchData) (lists : List (List CellData)) → HasFlushing ⟦<D as Disk>⟧ manifest wal self.old disk batches lists → HasFlushing ⟦<D as Disk>⟧ manifest wal self.new disk batches lists }
+        ensures begun { (manifest : Manifests) (wal : Logs) (disk : D) (batches : List LogBatch) (lists : List (List CellData)) → HasFlushing ⟦<D as Disk>⟧ manifest wal self.old disk batches lists → HasFlushing ⟦<D as Disk>⟧ manifest wal self.new disk batches lists }
         ensures started { count ≤ length self.old.files.items → self.new.flush ≢ None }
-        ensures horizon { count ≤ length self.old.files.items → horizon_of self.new.flush ≡ None }
+        ensures horizon { count ≤ length self.old.files.items → forgetting_horizon self.new.flush ≡ None }
         ensures files { (self.new.number ≡ self.old.number) × (self.new.files ≡ self.old.files) }
     {
         self.start::<D>(count, None);
@@ -100,9 +100,9 @@ impl Flushing {
     /// Begins a compaction of all files, which is to keep what a horizon does. It makes no call.
     pub fn forget_all<D: Disk>(&mut self, horizon: u64)
         requires { self.old.flush ≡ None }
-        ensures begun { (manifest : Manifests) (wal : Logs) (disk : D) (batches : List BatchData) (lists : List (List CellData)) → HasFlushing ⟦<D as Disk>⟧ manifest wal self.old disk batches lists → HasFlushing ⟦<D as Disk>⟧ manifest wal self.new disk batches lists }
+        ensures begun { (manifest : Manifests) (wal : Logs) (disk : D) (batches : List LogBatch) (lists : List (List CellData)) → HasFlushing ⟦<D as Disk>⟧ manifest wal self.old disk batches lists → HasFlushing ⟦<D as Disk>⟧ manifest wal self.new disk batches lists }
         ensures started { self.new.flush ≢ None }
-        ensures horizon { horizon_of self.new.flush ≡ Some horizon }
+        ensures horizon { forgetting_horizon self.new.flush ≡ Some horizon }
         ensures files { (self.new.number ≡ self.old.number) × (self.new.files ≡ self.old.files) }
     {
         let count = self.files.len();
@@ -111,7 +111,7 @@ impl Flushing {
 
     /// Gives up what is under way. No manifest names anything of it.
     pub fn give_up<D: Disk>(&mut self)
-        ensures kept { (manifest : Manifests) (wal : Logs) (disk : D) (batches : List BatchData) (lists : List (List CellData)) → HasFlushing ⟦<D as Disk>⟧ manifest wal self.old disk batches lists → HasFlushing ⟦<D as Disk>⟧ manifest wal self.new disk batches lists }
+        ensures kept { (manifest : Manifests) (wal : Logs) (disk : D) (batches : List LogBatch) (lists : List (List CellData)) → HasFlushing ⟦<D as Disk>⟧ manifest wal self.old disk batches lists → HasFlushing ⟦<D as Disk>⟧ manifest wal self.new disk batches lists }
         ensures idle { self.new.flush ≡ None }
         ensures files { (self.new.number ≡ self.old.number) × (self.new.files ≡ self.old.files) }
     {
@@ -121,7 +121,7 @@ impl Flushing {
     /// Takes the cells that the last compaction kept that forgot, if they weren't taken yet.
     pub fn take_kept<D: Disk>(&mut self) -> Option<Frozen>
         ensures taken { result ≡ self.old.kept }
-        ensures held { (manifest : Manifests) (wal : Logs) (disk : D) (batches : List BatchData) (lists : List (List CellData)) → HasFlushing ⟦<D as Disk>⟧ manifest wal self.old disk batches lists → HasFlushing ⟦<D as Disk>⟧ manifest wal self.new disk batches lists }
+        ensures held { (manifest : Manifests) (wal : Logs) (disk : D) (batches : List LogBatch) (lists : List (List CellData)) → HasFlushing ⟦<D as Disk>⟧ manifest wal self.old disk batches lists → HasFlushing ⟦<D as Disk>⟧ manifest wal self.new disk batches lists }
         ensures same { (self.new.number ≡ self.old.number) × (self.new.files ≡ self.old.files) × (self.new.flush ≡ self.old.flush) }
     {
         self.kept.take()
@@ -129,7 +129,7 @@ impl Flushing {
 
     /// The horizon of the compaction that is under way, if it forgets.
     pub fn horizon(&self) -> Option<u64>
-        ensures { result ≡ horizon_of self.now.flush }
+        ensures { result ≡ forgetting_horizon self.now.flush }
     {
         match &self.flush {
             Some(Job::Gather(gather)) => gather.horizon,
@@ -157,7 +157,7 @@ impl Flushing {
         cells: Cells,
     ) -> Result<FlushStep, FlushFault>
         requires { self.old.flush ≡ None }
-        ensures done { (wal : Logs) (disk : D) (batches : List BatchData) (lists : List (List CellData)) → HasParts ⟦<D as Disk>⟧ self.old.number manifest.now wal disk batches self.old.files.items lists
+        ensures done { (wal : Logs) (disk : D) (batches : List LogBatch) (lists : List (List CellData)) → HasParts ⟦<D as Disk>⟧ self.old.number manifest.now wal disk batches self.old.files.items lists
             → HasKept horizon (settle (joined (take count lists))) cells → HasFlushing ⟦<D as Disk>⟧ manifest.now wal self.new disk batches lists }
         ensures more { OnOk result (result ≡ Ok FlushStep.More) }
         ensures never { (result ≢ Err ReadFault) × (result ≢ Err WriteFault) }
@@ -195,7 +195,7 @@ impl Flushing {
         cells: Cells,
     ) -> Result<FlushStep, FlushFault>
         requires { self.old.flush ≡ None }
-        ensures done { (wal : Logs) (disk : D) (batches : List BatchData) (lists : List (List CellData)) → HasParts ⟦<D as Disk>⟧ self.old.number manifest.now wal disk batches self.old.files.items lists
+        ensures done { (wal : Logs) (disk : D) (batches : List LogBatch) (lists : List (List CellData)) → HasParts ⟦<D as Disk>⟧ self.old.number manifest.now wal disk batches self.old.files.items lists
             → cells ≡ settle (joined (take count lists)) → HasFlushing ⟦<D as Disk>⟧ manifest.now wal self.new disk batches lists }
         ensures more { OnOk result (result ≡ Ok FlushStep.More) }
         ensures never { (result ≢ Err ReadFault) × (result ≢ Err WriteFault) }
@@ -221,7 +221,7 @@ impl Flushing {
         gather: Gather,
     ) -> Result<FlushStep, FlushFault>
         requires { self.old.flush ≡ None }
-        ensures done { (wal : Logs) (batches : List BatchData) (lists : List (List CellData)) → HasParts ⟦<D as Disk>⟧ self.old.number manifest.now wal disk.old batches self.old.files.items lists
+        ensures done { (wal : Logs) (batches : List LogBatch) (lists : List (List CellData)) → HasParts ⟦<D as Disk>⟧ self.old.number manifest.now wal disk.old batches self.old.files.items lists
             → IsGathering ⟦<D as Disk>⟧ self.old.files.items lists disk.old gather → HasFlushing ⟦<D as Disk>⟧ manifest.now wal self.new disk.new batches lists }
         ensures more { OnOk result (result ≡ Ok FlushStep.More) }
         ensures sound { (lists : List (List CellData)) → IsGathering ⟦<D as Disk>⟧ self.old.files.items lists disk.old gather → result ≢ Err Damaged }
@@ -266,13 +266,13 @@ impl Flushing {
 
     /// Makes the next step of the file.
     fn write_merged<D: Disk>(&mut self, disk: &mut D, merge: Merge) -> Result<FlushStep, FlushFault>
-        ensures done { (manifest : Manifests) (wal : Logs) (batches : List BatchData) (lists : List (List CellData)) → HasParts ⟦<D as Disk>⟧ self.old.number manifest wal disk.old batches self.old.files.items lists
-            → IsMerging ⟦<D as Disk>⟧ self.old.number (names manifest) lists disk.old merge → HasFlushing ⟦<D as Disk>⟧ manifest wal self.new disk.new batches lists }
+        ensures done { (manifest : Manifests) (wal : Logs) (batches : List LogBatch) (lists : List (List CellData)) → HasParts ⟦<D as Disk>⟧ self.old.number manifest wal disk.old batches self.old.files.items lists
+            → IsMerging ⟦<D as Disk>⟧ self.old.number (named_snapshot manifest) lists disk.old merge → HasFlushing ⟦<D as Disk>⟧ manifest wal self.new disk.new batches lists }
         ensures more { OnOk result (result ≡ Ok FlushStep.More) }
         ensures sound { result ≢ Err Damaged }
         ensures read_failed { result ≡ Err ReadFault → Rose ⟦<D as Disk>⟧ disk.old disk.new }
         ensures write_failed { result ≡ Err WriteFault → Rose ⟦<D as Disk>⟧ disk.old disk.new }
-        ensures touches { (manifest : Manifests) (lists : List (List CellData)) → IsMerging ⟦<D as Disk>⟧ self.old.number (names manifest) lists disk.old merge
+        ensures touches { (manifest : Manifests) (lists : List (List CellData)) → IsMerging ⟦<D as Disk>⟧ self.old.number (named_snapshot manifest) lists disk.old merge
             → TouchesOnly ⟦<D as Disk>⟧ disk.old disk.new (λ touched. touched ≡ file_of self.old.number merge.local) }
         ensures counts { Passes ⟦<D as Disk>⟧ disk.old disk.new 4 }
         ensures number { self.new.number ≡ self.old.number }
@@ -311,9 +311,9 @@ impl Flushing {
         ensures same { (self.new.number ≡ self.old.number) × (self.new.files.items ≡ self.old.files.items) × (self.new.flush ≡ self.old.flush) }
         ensures first { OnOk result ((vec_len self.new.files < vec_capacity self.new.files) × (count ≤ length self.new.files.items)) }
         ensures some { OnOk result (1 ≤ count) }
-        ensures may { OnOk result (is_open manifest.now × (manifest.now.rolling ≡ false)) }
+        ensures may { OnOk result (is_manifest_open manifest.now × (manifest.now.rolling ≡ false)) }
         ensures right { IfOk result (λ n. IsSnapshot (snapshot_of n.after)) }
-        ensures after { IfOk result (λ n. snapshot_of n.after ≡ merged_next (names manifest.now) count local len file.now) }
+        ensures after { IfOk result (λ n. snapshot_of n.after ≡ merged_next (named_snapshot manifest.now) count local len file.now) }
         ensures room { IfOk result (λ n. 26 + 20 * length (files_of n.after) ≤ n.frame.room) }
         ensures never { (result ≢ Err ReadFault) × (result ≢ Err WriteFault) × (result ≢ Err Damaged) }
     {
@@ -344,22 +344,22 @@ impl Flushing {
         len: u64,
     ) -> Result<FlushStep, FlushFault>
         requires { self.old.flush ≡ None }
-        ensures named { IfOk result (λ step. (step ≡ FlushStep.Merged) × (self.new.flush ≡ None) × (names manifest.new ≡ merged_next (names manifest.old) count local len file)) }
+        ensures named { IfOk result (λ step. (step ≡ FlushStep.Merged) × (self.new.flush ≡ None) × (named_snapshot manifest.new ≡ merged_next (named_snapshot manifest.old) count local len file)) }
         ensures some { OnOk result (1 ≤ count) }
-        ensures done { (wal : Logs) (batches : List BatchData) (lists : List (List CellData)) → HasParts ⟦<D as Disk>⟧ self.old.number manifest.old wal disk.old batches self.old.files.items lists
-            → IsMerging ⟦<D as Disk>⟧ self.old.number (names manifest.old) lists disk.old (record { count = count; horizon = None; frozen = frozen; local = local; stage = Stage.Measured file len })
+        ensures done { (wal : Logs) (batches : List LogBatch) (lists : List (List CellData)) → HasParts ⟦<D as Disk>⟧ self.old.number manifest.old wal disk.old batches self.old.files.items lists
+            → IsMerging ⟦<D as Disk>⟧ self.old.number (named_snapshot manifest.old) lists disk.old (record { count = count; horizon = None; frozen = frozen; local = local; stage = Stage.Measured file len })
             → OnOk result (HasFlushing ⟦<D as Disk>⟧ manifest.new wal self.new disk.new batches (frozen.cells ∷ drop count lists)) }
-        ensures kept { (wal : Logs) (batches : List BatchData) (lists : List (List CellData)) → HasParts ⟦<D as Disk>⟧ self.old.number manifest.old wal disk.old batches self.old.files.items lists
-            → IsMerging ⟦<D as Disk>⟧ self.old.number (names manifest.old) lists disk.old (record { count = count; horizon = None; frozen = frozen; local = local; stage = Stage.Measured file len })
+        ensures kept { (wal : Logs) (batches : List LogBatch) (lists : List (List CellData)) → HasParts ⟦<D as Disk>⟧ self.old.number manifest.old wal disk.old batches self.old.files.items lists
+            → IsMerging ⟦<D as Disk>⟧ self.old.number (named_snapshot manifest.old) lists disk.old (record { count = count; horizon = None; frozen = frozen; local = local; stage = Stage.Measured file len })
             → OnErr result (result ≢ Err WriteFault → (manifest.new ≡ manifest.old) × HasFlushing ⟦<D as Disk>⟧ manifest.new wal self.new disk.new batches lists) }
 
         // At each moment of the call a stop leaves the region's files as they are read now.
-        ensures any_moment { (wal : Logs) (batches : List BatchData) (lists : List (List CellData)) → HasParts ⟦<D as Disk>⟧ self.old.number manifest.old wal disk.old batches self.old.files.items lists
-            → IsMerging ⟦<D as Disk>⟧ self.old.number (names manifest.old) lists disk.old (record { count = count; horizon = None; frozen = frozen; local = local; stage = Stage.Measured file len })
-            → LeavesOnly ⟦<D as Disk>⟧ disk.old disk.new (λ moment image. IsRead self.old.number image (names manifest.old).horizon (cells_over (names manifest.old).flushed batches lists)) }
+        ensures any_moment { (wal : Logs) (batches : List LogBatch) (lists : List (List CellData)) → HasParts ⟦<D as Disk>⟧ self.old.number manifest.old wal disk.old batches self.old.files.items lists
+            → IsMerging ⟦<D as Disk>⟧ self.old.number (named_snapshot manifest.old) lists disk.old (record { count = count; horizon = None; frozen = frozen; local = local; stage = Stage.Measured file len })
+            → LeavesOnly ⟦<D as Disk>⟧ disk.old disk.new (λ moment image. IsRegionRead self.old.number image (named_snapshot manifest.old).horizon (cells_over (named_snapshot manifest.old).flushed batches lists)) }
         ensures never { (result ≢ Err ReadFault) × (result ≢ Err Damaged) }
-        ensures unnamed { IsErr result → names manifest.new ≡ names manifest.old }
-        ensures horizon { ((names manifest.new).horizon ≡ (names manifest.old).horizon) × ((names manifest.new).flushed ≡ (names manifest.old).flushed) }
+        ensures unnamed { IsErr result → named_snapshot manifest.new ≡ named_snapshot manifest.old }
+        ensures horizon { ((named_snapshot manifest.new).horizon ≡ (named_snapshot manifest.old).horizon) × ((named_snapshot manifest.new).flushed ≡ (named_snapshot manifest.old).flushed) }
         ensures write_failed { result ≡ Err WriteFault → Rose ⟦<D as Disk>⟧ disk.old disk.new }
         ensures touches { HasSnapshot ⟦<D as Disk>⟧ self.old.number manifest.old disk.old → TouchesOnly ⟦<D as Disk>⟧ disk.old disk.new (manifest_files self.old.number) }
         ensures counts { Passes ⟦<D as Disk>⟧ disk.old disk.new 4 }
@@ -411,10 +411,10 @@ impl Flushing {
     ) -> Result<Naming, FlushFault>
         ensures same { (self.new.number ≡ self.old.number) × (self.new.files.items ≡ self.old.files.items) × (self.new.flush ≡ self.old.flush) }
         ensures first { OnOk result ((vec_len self.new.files < vec_capacity self.new.files) × (count ≡ length self.new.files.items)) }
-        ensures raised { OnOk result ((names manifest.now).horizon ≤ horizon) }
-        ensures may { OnOk result (is_open manifest.now × (manifest.now.rolling ≡ false)) }
+        ensures raised { OnOk result ((named_snapshot manifest.now).horizon ≤ horizon) }
+        ensures may { OnOk result (is_manifest_open manifest.now × (manifest.now.rolling ≡ false)) }
         ensures right { IfOk result (λ n. IsSnapshot (snapshot_of n.after)) }
-        ensures after { IfOk result (λ n. snapshot_of n.after ≡ forgot_next (names manifest.now) horizon local len file.now) }
+        ensures after { IfOk result (λ n. snapshot_of n.after ≡ forgot_next (named_snapshot manifest.now) horizon local len file.now) }
         ensures room { IfOk result (λ n. 26 + 20 * length (files_of n.after) ≤ n.frame.room) }
         ensures never { (result ≢ Err ReadFault) × (result ≢ Err WriteFault) × (result ≢ Err Damaged) }
     {
@@ -446,25 +446,25 @@ impl Flushing {
         len: u64,
     ) -> Result<FlushStep, FlushFault>
         requires { self.old.flush ≡ None }
-        ensures named { IfOk result (λ step. (step ≡ FlushStep.Forgot horizon) × (self.new.flush ≡ None) × (names manifest.new ≡ forgot_next (names manifest.old) horizon local len file)) }
-        ensures raised { OnOk result ((names manifest.old).horizon ≤ horizon) }
+        ensures named { IfOk result (λ step. (step ≡ FlushStep.Forgot horizon) × (self.new.flush ≡ None) × (named_snapshot manifest.new ≡ forgot_next (named_snapshot manifest.old) horizon local len file)) }
+        ensures raised { OnOk result ((named_snapshot manifest.old).horizon ≤ horizon) }
         ensures held { OnOk result (self.new.kept ≡ Some frozen) }
-        ensures done { (wal : Logs) (batches : List BatchData) (lists : List (List CellData)) → HasParts ⟦<D as Disk>⟧ self.old.number manifest.old wal disk.old batches self.old.files.items lists
-            → IsMerging ⟦<D as Disk>⟧ self.old.number (names manifest.old) lists disk.old (record { count = count; horizon = Some horizon; frozen = frozen; local = local; stage = Stage.Measured file len }) → AreOver horizon (above (names manifest.old).flushed batches)
+        ensures done { (wal : Logs) (batches : List LogBatch) (lists : List (List CellData)) → HasParts ⟦<D as Disk>⟧ self.old.number manifest.old wal disk.old batches self.old.files.items lists
+            → IsMerging ⟦<D as Disk>⟧ self.old.number (named_snapshot manifest.old) lists disk.old (record { count = count; horizon = Some horizon; frozen = frozen; local = local; stage = Stage.Measured file len }) → AreOverHorizon horizon (batches_above (named_snapshot manifest.old).flushed batches)
             → OnOk result (HasFlushing ⟦<D as Disk>⟧ manifest.new wal self.new disk.new batches (frozen.cells ∷ [])) }
-        ensures whole { (wal : Logs) (batches : List BatchData) (lists : List (List CellData)) → HasParts ⟦<D as Disk>⟧ self.old.number manifest.old wal disk.old batches self.old.files.items lists
-            → IsMerging ⟦<D as Disk>⟧ self.old.number (names manifest.old) lists disk.old (record { count = count; horizon = Some horizon; frozen = frozen; local = local; stage = Stage.Measured file len }) → AreOver horizon (above (names manifest.old).flushed batches)
-            → OnOk result (IsKept (cells_over (names manifest.old).flushed batches lists) horizon (cells_over (names manifest.new).flushed batches (frozen.cells ∷ []))) }
-        ensures kept { (wal : Logs) (batches : List BatchData) (lists : List (List CellData)) → HasParts ⟦<D as Disk>⟧ self.old.number manifest.old wal disk.old batches self.old.files.items lists
-            → IsMerging ⟦<D as Disk>⟧ self.old.number (names manifest.old) lists disk.old (record { count = count; horizon = Some horizon; frozen = frozen; local = local; stage = Stage.Measured file len })
+        ensures whole { (wal : Logs) (batches : List LogBatch) (lists : List (List CellData)) → HasParts ⟦<D as Disk>⟧ self.old.number manifest.old wal disk.old batches self.old.files.items lists
+            → IsMerging ⟦<D as Disk>⟧ self.old.number (named_snapshot manifest.old) lists disk.old (record { count = count; horizon = Some horizon; frozen = frozen; local = local; stage = Stage.Measured file len }) → AreOverHorizon horizon (batches_above (named_snapshot manifest.old).flushed batches)
+            → OnOk result (IsKeptList (cells_over (named_snapshot manifest.old).flushed batches lists) horizon (cells_over (named_snapshot manifest.new).flushed batches (frozen.cells ∷ []))) }
+        ensures kept { (wal : Logs) (batches : List LogBatch) (lists : List (List CellData)) → HasParts ⟦<D as Disk>⟧ self.old.number manifest.old wal disk.old batches self.old.files.items lists
+            → IsMerging ⟦<D as Disk>⟧ self.old.number (named_snapshot manifest.old) lists disk.old (record { count = count; horizon = Some horizon; frozen = frozen; local = local; stage = Stage.Measured file len })
             → OnErr result (result ≢ Err WriteFault → (manifest.new ≡ manifest.old) × HasFlushing ⟦<D as Disk>⟧ manifest.new wal self.new disk.new batches lists) }
 
         // At each moment of the call a stop leaves the region's files as they are read now, or what the horizon keeps, under it.
-        ensures any_moment { (wal : Logs) (batches : List BatchData) (lists : List (List CellData)) → HasParts ⟦<D as Disk>⟧ self.old.number manifest.old wal disk.old batches self.old.files.items lists
-            → IsMerging ⟦<D as Disk>⟧ self.old.number (names manifest.old) lists disk.old (record { count = count; horizon = Some horizon; frozen = frozen; local = local; stage = Stage.Measured file len }) → AreOver horizon (above (names manifest.old).flushed batches)
-            → LeavesOnly ⟦<D as Disk>⟧ disk.old disk.new (λ moment image. ReadsFrom (Some horizon) self.old.number image (names manifest.old).horizon (cells_over (names manifest.old).flushed batches lists)) }
+        ensures any_moment { (wal : Logs) (batches : List LogBatch) (lists : List (List CellData)) → HasParts ⟦<D as Disk>⟧ self.old.number manifest.old wal disk.old batches self.old.files.items lists
+            → IsMerging ⟦<D as Disk>⟧ self.old.number (named_snapshot manifest.old) lists disk.old (record { count = count; horizon = Some horizon; frozen = frozen; local = local; stage = Stage.Measured file len }) → AreOverHorizon horizon (batches_above (named_snapshot manifest.old).flushed batches)
+            → LeavesOnly ⟦<D as Disk>⟧ disk.old disk.new (λ moment image. ReadsFrom (Some horizon) self.old.number image (named_snapshot manifest.old).horizon (cells_over (named_snapshot manifest.old).flushed batches lists)) }
         ensures never { (result ≢ Err ReadFault) × (result ≢ Err Damaged) }
-        ensures unnamed { IsErr result → names manifest.new ≡ names manifest.old }
+        ensures unnamed { IsErr result → named_snapshot manifest.new ≡ named_snapshot manifest.old }
         ensures write_failed { result ≡ Err WriteFault → Rose ⟦<D as Disk>⟧ disk.old disk.new }
         ensures touches { HasSnapshot ⟦<D as Disk>⟧ self.old.number manifest.old disk.old → TouchesOnly ⟦<D as Disk>⟧ disk.old disk.new (manifest_files self.old.number) }
         ensures counts { Passes ⟦<D as Disk>⟧ disk.old disk.new 4 }
@@ -517,18 +517,18 @@ impl Flushing {
         len: u64,
     ) -> Result<FlushStep, FlushFault>
         requires { self.old.flush ≡ None }
-        ensures done { (wal : Logs) (batches : List BatchData) (lists : List (List CellData)) → HasParts ⟦<D as Disk>⟧ self.old.number manifest.old wal disk.old batches self.old.files.items lists
-            → IsMerging ⟦<D as Disk>⟧ self.old.number (names manifest.old) lists disk.old (record { count = count; horizon = horizon; frozen = frozen; local = local; stage = Stage.Measured file len }) → MayForget horizon (above (names manifest.old).flushed batches) → result ≢ Err WriteFault
-            → (after : List (List CellData)) × HasFlushing ⟦<D as Disk>⟧ manifest.new wal self.new disk.new batches after × Goes result (cells_over (names manifest.old).flushed batches lists) (cells_over (names manifest.new).flushed batches after) × HasForgot result self.new after }
-        ensures any_moment { (wal : Logs) (batches : List BatchData) (lists : List (List CellData)) → HasParts ⟦<D as Disk>⟧ self.old.number manifest.old wal disk.old batches self.old.files.items lists
-            → IsMerging ⟦<D as Disk>⟧ self.old.number (names manifest.old) lists disk.old (record { count = count; horizon = horizon; frozen = frozen; local = local; stage = Stage.Measured file len }) → MayForget horizon (above (names manifest.old).flushed batches)
-            → LeavesOnly ⟦<D as Disk>⟧ disk.old disk.new (λ moment image. ReadsFrom horizon self.old.number image (names manifest.old).horizon (cells_over (names manifest.old).flushed batches lists)) }
+        ensures done { (wal : Logs) (batches : List LogBatch) (lists : List (List CellData)) → HasParts ⟦<D as Disk>⟧ self.old.number manifest.old wal disk.old batches self.old.files.items lists
+            → IsMerging ⟦<D as Disk>⟧ self.old.number (named_snapshot manifest.old) lists disk.old (record { count = count; horizon = horizon; frozen = frozen; local = local; stage = Stage.Measured file len }) → MayForget horizon (batches_above (named_snapshot manifest.old).flushed batches) → result ≢ Err WriteFault
+            → (after : List (List CellData)) × HasFlushing ⟦<D as Disk>⟧ manifest.new wal self.new disk.new batches after × Goes result (cells_over (named_snapshot manifest.old).flushed batches lists) (cells_over (named_snapshot manifest.new).flushed batches after) × HasForgot result self.new after }
+        ensures any_moment { (wal : Logs) (batches : List LogBatch) (lists : List (List CellData)) → HasParts ⟦<D as Disk>⟧ self.old.number manifest.old wal disk.old batches self.old.files.items lists
+            → IsMerging ⟦<D as Disk>⟧ self.old.number (named_snapshot manifest.old) lists disk.old (record { count = count; horizon = horizon; frozen = frozen; local = local; stage = Stage.Measured file len }) → MayForget horizon (batches_above (named_snapshot manifest.old).flushed batches)
+            → LeavesOnly ⟦<D as Disk>⟧ disk.old disk.new (λ moment image. ReadsFrom horizon self.old.number image (named_snapshot manifest.old).horizon (cells_over (named_snapshot manifest.old).flushed batches lists)) }
         ensures only { (result ≢ Ok FlushStep.Done) × ((cells bytes : ℕ) → result ≢ Ok (FlushStep.Named cells bytes)) }
-        ensures merged { result ≡ Ok FlushStep.Merged → (self.new.flush ≡ None) × HasMerged (names manifest.old) (names manifest.new) }
-        ensures forgot { (h : ℕ) → result ≡ Ok (FlushStep.Forgot h) → (self.new.flush ≡ None) × (horizon ≡ Some h) × HasForgotten (names manifest.old) (names manifest.new) h }
+        ensures merged { result ≡ Ok FlushStep.Merged → (self.new.flush ≡ None) × HasMerged (named_snapshot manifest.old) (named_snapshot manifest.new) }
+        ensures forgot { (h : ℕ) → result ≡ Ok (FlushStep.Forgot h) → (self.new.flush ≡ None) × (horizon ≡ Some h) × HasForgottenFiles (named_snapshot manifest.old) (named_snapshot manifest.new) h }
         ensures keeps { (h : ℕ) → result ≡ Ok (FlushStep.Forgot h) → self.new.kept ≡ Some frozen }
-        ensures horizon { ((names manifest.new).horizon ≡ horizon_after result (names manifest.old).horizon) × ((names manifest.new).flushed ≡ (names manifest.old).flushed) }
-        ensures still { result ≢ Ok FlushStep.Merged → ((h : ℕ) → result ≢ Ok (FlushStep.Forgot h)) → names manifest.new ≡ names manifest.old }
+        ensures horizon { ((named_snapshot manifest.new).horizon ≡ horizon_after result (named_snapshot manifest.old).horizon) × ((named_snapshot manifest.new).flushed ≡ (named_snapshot manifest.old).flushed) }
+        ensures still { result ≢ Ok FlushStep.Merged → ((h : ℕ) → result ≢ Ok (FlushStep.Forgot h)) → named_snapshot manifest.new ≡ named_snapshot manifest.old }
         ensures sound { result ≢ Err Damaged }
         ensures read_failed { result ≢ Err ReadFault }
         ensures write_failed { result ≡ Err WriteFault → Rose ⟦<D as Disk>⟧ disk.old disk.new }
@@ -552,25 +552,25 @@ impl Flushing {
         merge: Merge,
     ) -> Result<FlushStep, FlushFault>
         requires { self.old.flush ≡ None }
-        ensures done { (wal : Logs) (batches : List BatchData) (lists : List (List CellData)) → HasParts ⟦<D as Disk>⟧ self.old.number manifest.old wal disk.old batches self.old.files.items lists
-            → IsMerging ⟦<D as Disk>⟧ self.old.number (names manifest.old) lists disk.old merge → MayForget merge.horizon (above (names manifest.old).flushed batches) → result ≢ Err WriteFault
-            → (after : List (List CellData)) × HasFlushing ⟦<D as Disk>⟧ manifest.new wal self.new disk.new batches after × Goes result (cells_over (names manifest.old).flushed batches lists) (cells_over (names manifest.new).flushed batches after) × HasForgot result self.new after }
+        ensures done { (wal : Logs) (batches : List LogBatch) (lists : List (List CellData)) → HasParts ⟦<D as Disk>⟧ self.old.number manifest.old wal disk.old batches self.old.files.items lists
+            → IsMerging ⟦<D as Disk>⟧ self.old.number (named_snapshot manifest.old) lists disk.old merge → MayForget merge.horizon (batches_above (named_snapshot manifest.old).flushed batches) → result ≢ Err WriteFault
+            → (after : List (List CellData)) × HasFlushing ⟦<D as Disk>⟧ manifest.new wal self.new disk.new batches after × Goes result (cells_over (named_snapshot manifest.old).flushed batches lists) (cells_over (named_snapshot manifest.new).flushed batches after) × HasForgot result self.new after }
 
         // At each moment of the call a stop leaves the region's files as they are read now, or what the horizon keeps, under it.
-        ensures any_moment { (wal : Logs) (batches : List BatchData) (lists : List (List CellData)) → HasParts ⟦<D as Disk>⟧ self.old.number manifest.old wal disk.old batches self.old.files.items lists
-            → IsMerging ⟦<D as Disk>⟧ self.old.number (names manifest.old) lists disk.old merge → MayForget merge.horizon (above (names manifest.old).flushed batches)
-            → LeavesOnly ⟦<D as Disk>⟧ disk.old disk.new (λ moment image. ReadsFrom merge.horizon self.old.number image (names manifest.old).horizon (cells_over (names manifest.old).flushed batches lists)) }
+        ensures any_moment { (wal : Logs) (batches : List LogBatch) (lists : List (List CellData)) → HasParts ⟦<D as Disk>⟧ self.old.number manifest.old wal disk.old batches self.old.files.items lists
+            → IsMerging ⟦<D as Disk>⟧ self.old.number (named_snapshot manifest.old) lists disk.old merge → MayForget merge.horizon (batches_above (named_snapshot manifest.old).flushed batches)
+            → LeavesOnly ⟦<D as Disk>⟧ disk.old disk.new (λ moment image. ReadsFrom merge.horizon self.old.number image (named_snapshot manifest.old).horizon (cells_over (named_snapshot manifest.old).flushed batches lists)) }
         ensures only { (result ≢ Ok FlushStep.Done) × ((cells bytes : ℕ) → result ≢ Ok (FlushStep.Named cells bytes)) }
-        ensures merged { result ≡ Ok FlushStep.Merged → (self.new.flush ≡ None) × HasMerged (names manifest.old) (names manifest.new) }
-        ensures forgot { (horizon : ℕ) → result ≡ Ok (FlushStep.Forgot horizon) → (self.new.flush ≡ None) × (merge.horizon ≡ Some horizon) × HasForgotten (names manifest.old) (names manifest.new) horizon }
+        ensures merged { result ≡ Ok FlushStep.Merged → (self.new.flush ≡ None) × HasMerged (named_snapshot manifest.old) (named_snapshot manifest.new) }
+        ensures forgot { (horizon : ℕ) → result ≡ Ok (FlushStep.Forgot horizon) → (self.new.flush ≡ None) × (merge.horizon ≡ Some horizon) × HasForgottenFiles (named_snapshot manifest.old) (named_snapshot manifest.new) horizon }
         ensures keeps { (horizon : ℕ) → result ≡ Ok (FlushStep.Forgot horizon) → (measured_of merge.horizon merge.stage merge.frozen ≡ Some merge.frozen) × (self.new.kept ≡ Some merge.frozen) }
-        ensures horizon { ((names manifest.new).horizon ≡ horizon_after result (names manifest.old).horizon) × ((names manifest.new).flushed ≡ (names manifest.old).flushed) }
-        ensures still { result ≢ Ok FlushStep.Merged → ((horizon : ℕ) → result ≢ Ok (FlushStep.Forgot horizon)) → names manifest.new ≡ names manifest.old }
+        ensures horizon { ((named_snapshot manifest.new).horizon ≡ horizon_after result (named_snapshot manifest.old).horizon) × ((named_snapshot manifest.new).flushed ≡ (named_snapshot manifest.old).flushed) }
+        ensures still { result ≢ Ok FlushStep.Merged → ((horizon : ℕ) → result ≢ Ok (FlushStep.Forgot horizon)) → named_snapshot manifest.new ≡ named_snapshot manifest.old }
         ensures sound { result ≢ Err Damaged }
         ensures read_failed { result ≡ Err ReadFault → Rose ⟦<D as Disk>⟧ disk.old disk.new }
         ensures write_failed { result ≡ Err WriteFault → Rose ⟦<D as Disk>⟧ disk.old disk.new }
-        ensures touches { (wal : Logs) (batches : List BatchData) (lists : List (List CellData)) → HasParts ⟦<D as Disk>⟧ self.old.number manifest.old wal disk.old batches self.old.files.items lists
-            → IsMerging ⟦<D as Disk>⟧ self.old.number (names manifest.old) lists disk.old merge → TouchesOnly ⟦<D as Disk>⟧ disk.old disk.new (IsFileOf self.old.number) }
+        ensures touches { (wal : Logs) (batches : List LogBatch) (lists : List (List CellData)) → HasParts ⟦<D as Disk>⟧ self.old.number manifest.old wal disk.old batches self.old.files.items lists
+            → IsMerging ⟦<D as Disk>⟧ self.old.number (named_snapshot manifest.old) lists disk.old merge → TouchesOnly ⟦<D as Disk>⟧ disk.old disk.new (IsFileOf self.old.number) }
         ensures counts { Passes ⟦<D as Disk>⟧ disk.old disk.new 4 }
         ensures number { self.new.number ≡ self.old.number }
     {

@@ -2,9 +2,9 @@
 ghost use Rattle.std.specs.Prelude.{◌≡◌, ◌≢◌, ◌≤◌, ◌<◌, ◌+◌, ◌*◌, ◌∷◌, ◌↔◌, ℕ, false, List, length, IsTrue, IfOk, IsErr, OnOk, OnErr, Ok, Err, None, Some, max, vec_len, vec_capacity};
 ghost use Rattle.px_outside.specs.OnDisk.{LeavesOnly, Passes, Rose, Stays, TouchesOnly};
 ghost use Rattle.px_cells.specs.CellData.{CellData};
-ghost use Rattle.px_wal.specs.Batches.{Batch as BatchData, above, cells_over};
+ghost use Rattle.px_wal.specs.Batches.{LogBatch, batches_above, cells_over};
 ghost use Rattle.px_wal.specs.Files.{HasFile as IsFileOf, file_of};
-ghost use Rattle.px_wal.specs.Manifest.{HasSnapshot, is_open, manifest_files, names};
+ghost use Rattle.px_wal.specs.Manifest.{HasSnapshot, is_manifest_open, manifest_files, named_snapshot};
 ghost use Rattle.px_wal.specs.Snapshot.{IsSnapshot};
 ghost use Rattle.px_wal.specs.SnapshotOf.{files_of, snapshot_of};
 ghost use Rattle.px_wal.specs.Wal.{HasBatches};
@@ -14,7 +14,7 @@ ghost use Rattle.px_files.specs.Calls.{opening_calls};
 ghost use Rattle.px_files.specs.Files.{IsFirstBad};
 ghost use Rattle.px_frozen.specs.FrozenData.{FrozenData};
 ghost use Rattle.px_naming.specs.Naming.{HasParts};
-ghost use Rattle.px_flushing.specs.Flushing.{Goes, HasFlushing, HasForgot, HasForgotten, IsBegun, IsFreshFlushing, HasMerged, IsRaised, IsRead, MayForget, ReadsFrom, horizon_after, horizon_of, named_next, naming_of, upto_of};
+ghost use Rattle.px_flushing.specs.Flushing.{Goes, HasFlushing, HasForgot, HasForgottenFiles, IsBegun, IsFreshFlushing, HasMerged, IsRaised, IsRegionRead, MayForget, ReadsFrom, horizon_after, forgetting_horizon, named_next, naming_of, upto_of};
 ghost use Rattle.px_flushing.specs.declared.fault.FlushFault.TheVariants.{Damaged, ReadFault, WriteFault};
 
 use crate::fault::{of_append, of_read};
@@ -60,7 +60,7 @@ pub struct Flushing {
 
 /// Whether no batch of the log's older segment stands above the flushed number.
 fn is_flushed(manifest: &Manifest, wal: &Wal) -> bool
-    ensures { IsTrue result ↔ (wal.now.older_to ≤ (names manifest.now).flushed) }
+    ensures { IsTrue result ↔ (wal.now.older_to ≤ (named_snapshot manifest.now).flushed) }
 {
     wal.older_to() <= manifest.snapshot().flushed
 }
@@ -87,10 +87,10 @@ impl Flushing {
         number: u32,
         manifest: &Manifest,
     ) -> Result<Flushing, StartFault>
-        ensures opened { (wal : Logs) (batches : List BatchData) → IsTrue D.tells → HasSnapshot ⟦<D as Disk>⟧ number manifest.now disk.old → HasBatches ⟦<D as Disk>⟧ number (names manifest.now).flushed wal disk.old batches
+        ensures opened { (wal : Logs) (batches : List LogBatch) → IsTrue D.tells → HasSnapshot ⟦<D as Disk>⟧ number manifest.now disk.old → HasBatches ⟦<D as Disk>⟧ number (named_snapshot manifest.now).flushed wal disk.old batches
             → IfOk result (λ flushing. (lists : List (List CellData)) × HasFlushing ⟦<D as Disk>⟧ manifest.now wal flushing disk.new batches lists) }
         ensures idle { IfOk result (λ flushing. (flushing.number ≡ number) × (flushing.flush ≡ None)) }
-        ensures damaged { (file place : ℕ) → IsTrue D.tells → result ≡ Err (StartFault.Damaged file place) → IsFirstBad number (D.seen disk.old) (names manifest.now).files file place }
+        ensures damaged { (file place : ℕ) → IsTrue D.tells → result ≡ Err (StartFault.Damaged file place) → IsFirstBad number (D.seen disk.old) (named_snapshot manifest.now).files file place }
         ensures seen { D.seen disk.new ≡ D.seen disk.old }
         ensures quiet { Stays ⟦<D as Disk>⟧ disk.old disk.new }
         ensures read_failed { result ≡ Err StartFault.ReadFault → Rose ⟦<D as Disk>⟧ disk.old disk.new }
@@ -150,10 +150,10 @@ impl Flushing {
         wal: &Wal,
     ) -> Result<FlushStep, FlushFault>
         requires { self.old.flush ≡ None }
-        ensures done { (batches : List BatchData) (lists : List (List CellData)) → HasFlushing ⟦<D as Disk>⟧ manifest.now wal.now self.old disk.old batches lists → HasFlushing ⟦<D as Disk>⟧ manifest.now wal.now self.new disk.new batches lists }
-        ensures ended { result ≡ Ok FlushStep.Done → (self.new.flush ≡ None) × (wal.now.older_to ≤ (names manifest.now).flushed) }
+        ensures done { (batches : List LogBatch) (lists : List (List CellData)) → HasFlushing ⟦<D as Disk>⟧ manifest.now wal.now self.old disk.old batches lists → HasFlushing ⟦<D as Disk>⟧ manifest.now wal.now self.new disk.new batches lists }
+        ensures ended { result ≡ Ok FlushStep.Done → (self.new.flush ≡ None) × (wal.now.older_to ≤ (named_snapshot manifest.now).flushed) }
         ensures unnamed { ((cells bytes : ℕ) → result ≢ Ok (FlushStep.Named cells bytes)) × (result ≢ Ok FlushStep.Merged) × ((horizon : ℕ) → result ≢ Ok (FlushStep.Forgot horizon)) }
-        ensures sound { (batches : List BatchData) (lists : List (List CellData)) → HasFlushing ⟦<D as Disk>⟧ manifest.now wal.now self.old disk.old batches lists → result ≢ Err Damaged }
+        ensures sound { (batches : List LogBatch) (lists : List (List CellData)) → HasFlushing ⟦<D as Disk>⟧ manifest.now wal.now self.old disk.old batches lists → result ≢ Err Damaged }
         ensures read_failed { result ≡ Err ReadFault → Rose ⟦<D as Disk>⟧ disk.old disk.new }
         ensures write_failed { result ≡ Err WriteFault → Rose ⟦<D as Disk>⟧ disk.old disk.new }
         ensures touches { TouchesOnly ⟦<D as Disk>⟧ disk.old disk.new (λ touched. ⊥) }
@@ -189,13 +189,13 @@ impl Flushing {
         local: u32,
         stage: Stage,
     ) -> Result<FlushStep, FlushFault>
-        ensures done { (manifest : Manifests) (wal : Logs) (batches : List BatchData) (lists : List (List CellData)) → HasParts ⟦<D as Disk>⟧ self.old.number manifest wal disk.old batches self.old.files.items lists
-            → IsBegun ⟦<D as Disk>⟧ self.old.number (names manifest) batches disk.old (record { frozen = frozen; local = local; stage = stage }) → HasFlushing ⟦<D as Disk>⟧ manifest wal self.new disk.new batches lists }
+        ensures done { (manifest : Manifests) (wal : Logs) (batches : List LogBatch) (lists : List (List CellData)) → HasParts ⟦<D as Disk>⟧ self.old.number manifest wal disk.old batches self.old.files.items lists
+            → IsBegun ⟦<D as Disk>⟧ self.old.number (named_snapshot manifest) batches disk.old (record { frozen = frozen; local = local; stage = stage }) → HasFlushing ⟦<D as Disk>⟧ manifest wal self.new disk.new batches lists }
         ensures more { OnOk result (result ≡ Ok FlushStep.More) }
         ensures sound { result ≢ Err Damaged }
         ensures read_failed { result ≡ Err ReadFault → Rose ⟦<D as Disk>⟧ disk.old disk.new }
         ensures write_failed { result ≡ Err WriteFault → Rose ⟦<D as Disk>⟧ disk.old disk.new }
-        ensures touches { (manifest : Manifests) (batches : List BatchData) → IsBegun ⟦<D as Disk>⟧ self.old.number (names manifest) batches disk.old (record { frozen = frozen; local = local; stage = stage })
+        ensures touches { (manifest : Manifests) (batches : List LogBatch) → IsBegun ⟦<D as Disk>⟧ self.old.number (named_snapshot manifest) batches disk.old (record { frozen = frozen; local = local; stage = stage })
             → TouchesOnly ⟦<D as Disk>⟧ disk.old disk.new (λ touched. touched ≡ file_of self.old.number local) }
         ensures counts { Passes ⟦<D as Disk>⟧ disk.old disk.new 4 }
         ensures number { self.new.number ≡ self.old.number }
@@ -224,9 +224,9 @@ impl Flushing {
     ) -> Result<Naming, FlushFault>
         ensures same { (self.new.number ≡ self.old.number) × (self.new.files.items ≡ self.old.files.items) × (self.new.flush ≡ self.old.flush) }
         ensures first { OnOk result (vec_len self.new.files < vec_capacity self.new.files) }
-        ensures may { OnOk result (is_open manifest.now × (manifest.now.rolling ≡ false)) }
+        ensures may { OnOk result (is_manifest_open manifest.now × (manifest.now.rolling ≡ false)) }
         ensures right { IfOk result (λ n. IsSnapshot (snapshot_of n.after)) }
-        ensures after { IfOk result (λ n. snapshot_of n.after ≡ named_next (names manifest.now) upto local len file.now) }
+        ensures after { IfOk result (λ n. snapshot_of n.after ≡ named_next (named_snapshot manifest.now) upto local len file.now) }
         ensures room { IfOk result (λ n. 26 + 20 * length (files_of n.after) ≤ n.frame.room) }
         ensures never { (result ≢ Err ReadFault) × (result ≢ Err WriteFault) × (result ≢ Err Damaged) }
     {
@@ -253,20 +253,20 @@ impl Flushing {
         len: u64,
     ) -> Result<FlushStep, FlushFault>
         requires { self.old.flush ≡ None }
-        ensures named { IfOk result (λ step. (step ≡ FlushStep.Named frozen.count frozen.bytes) × (self.new.flush ≡ None) × (names manifest.new ≡ named_next (names manifest.old) frozen.upto local len file)) }
-        ensures done { (wal : Logs) (batches : List BatchData) (lists : List (List CellData)) → HasParts ⟦<D as Disk>⟧ self.old.number manifest.old wal disk.old batches self.old.files.items lists
-            → IsBegun ⟦<D as Disk>⟧ self.old.number (names manifest.old) batches disk.old (record { frozen = frozen; local = local; stage = Stage.Measured file len }) → OnOk result (HasFlushing ⟦<D as Disk>⟧ manifest.new wal self.new disk.new batches (frozen.cells ∷ lists)) }
-        ensures kept { (wal : Logs) (batches : List BatchData) (lists : List (List CellData)) → HasParts ⟦<D as Disk>⟧ self.old.number manifest.old wal disk.old batches self.old.files.items lists
-            → IsBegun ⟦<D as Disk>⟧ self.old.number (names manifest.old) batches disk.old (record { frozen = frozen; local = local; stage = Stage.Measured file len })
+        ensures named { IfOk result (λ step. (step ≡ FlushStep.Named frozen.count frozen.bytes) × (self.new.flush ≡ None) × (named_snapshot manifest.new ≡ named_next (named_snapshot manifest.old) frozen.upto local len file)) }
+        ensures done { (wal : Logs) (batches : List LogBatch) (lists : List (List CellData)) → HasParts ⟦<D as Disk>⟧ self.old.number manifest.old wal disk.old batches self.old.files.items lists
+            → IsBegun ⟦<D as Disk>⟧ self.old.number (named_snapshot manifest.old) batches disk.old (record { frozen = frozen; local = local; stage = Stage.Measured file len }) → OnOk result (HasFlushing ⟦<D as Disk>⟧ manifest.new wal self.new disk.new batches (frozen.cells ∷ lists)) }
+        ensures kept { (wal : Logs) (batches : List LogBatch) (lists : List (List CellData)) → HasParts ⟦<D as Disk>⟧ self.old.number manifest.old wal disk.old batches self.old.files.items lists
+            → IsBegun ⟦<D as Disk>⟧ self.old.number (named_snapshot manifest.old) batches disk.old (record { frozen = frozen; local = local; stage = Stage.Measured file len })
             → OnErr result (result ≢ Err WriteFault → (manifest.new ≡ manifest.old) × HasFlushing ⟦<D as Disk>⟧ manifest.new wal self.new disk.new batches lists) }
 
         // At each moment of the call a stop leaves the region's files as they are read now.
-        ensures any_moment { (wal : Logs) (batches : List BatchData) (lists : List (List CellData)) → HasParts ⟦<D as Disk>⟧ self.old.number manifest.old wal disk.old batches self.old.files.items lists
-            → IsBegun ⟦<D as Disk>⟧ self.old.number (names manifest.old) batches disk.old (record { frozen = frozen; local = local; stage = Stage.Measured file len })
-            → LeavesOnly ⟦<D as Disk>⟧ disk.old disk.new (λ moment image. IsRead self.old.number image (names manifest.old).horizon (cells_over (names manifest.old).flushed batches lists)) }
+        ensures any_moment { (wal : Logs) (batches : List LogBatch) (lists : List (List CellData)) → HasParts ⟦<D as Disk>⟧ self.old.number manifest.old wal disk.old batches self.old.files.items lists
+            → IsBegun ⟦<D as Disk>⟧ self.old.number (named_snapshot manifest.old) batches disk.old (record { frozen = frozen; local = local; stage = Stage.Measured file len })
+            → LeavesOnly ⟦<D as Disk>⟧ disk.old disk.new (λ moment image. IsRegionRead self.old.number image (named_snapshot manifest.old).horizon (cells_over (named_snapshot manifest.old).flushed batches lists)) }
         ensures never { (result ≢ Err ReadFault) × (result ≢ Err Damaged) }
-        ensures unnamed { IsErr result → names manifest.new ≡ names manifest.old }
-        ensures horizon { (names manifest.new).horizon ≡ (names manifest.old).horizon }
+        ensures unnamed { IsErr result → named_snapshot manifest.new ≡ named_snapshot manifest.old }
+        ensures horizon { (named_snapshot manifest.new).horizon ≡ (named_snapshot manifest.old).horizon }
         ensures write_failed { result ≡ Err WriteFault → Rose ⟦<D as Disk>⟧ disk.old disk.new }
         ensures touches { HasSnapshot ⟦<D as Disk>⟧ self.old.number manifest.old disk.old → TouchesOnly ⟦<D as Disk>⟧ disk.old disk.new (manifest_files self.old.number) }
         ensures counts { Passes ⟦<D as Disk>⟧ disk.old disk.new 4 }
@@ -318,25 +318,25 @@ impl Flushing {
         flush: Flush,
     ) -> Result<FlushStep, FlushFault>
         requires { self.old.flush ≡ None }
-        ensures done { (wal : Logs) (batches : List BatchData) (lists : List (List CellData)) → HasParts ⟦<D as Disk>⟧ self.old.number manifest.old wal disk.old batches self.old.files.items lists
-            → IsBegun ⟦<D as Disk>⟧ self.old.number (names manifest.old) batches disk.old flush → result ≢ Err WriteFault
-            → (after : List (List CellData)) × HasFlushing ⟦<D as Disk>⟧ manifest.new wal self.new disk.new batches after × (cells_over (names manifest.new).flushed batches after ≡ cells_over (names manifest.old).flushed batches lists) }
+        ensures done { (wal : Logs) (batches : List LogBatch) (lists : List (List CellData)) → HasParts ⟦<D as Disk>⟧ self.old.number manifest.old wal disk.old batches self.old.files.items lists
+            → IsBegun ⟦<D as Disk>⟧ self.old.number (named_snapshot manifest.old) batches disk.old flush → result ≢ Err WriteFault
+            → (after : List (List CellData)) × HasFlushing ⟦<D as Disk>⟧ manifest.new wal self.new disk.new batches after × (cells_over (named_snapshot manifest.new).flushed batches after ≡ cells_over (named_snapshot manifest.old).flushed batches lists) }
 
         // At each moment of the call a stop leaves the region's files as they are read now.
-        ensures any_moment { (wal : Logs) (batches : List BatchData) (lists : List (List CellData)) → HasParts ⟦<D as Disk>⟧ self.old.number manifest.old wal disk.old batches self.old.files.items lists
-            → IsBegun ⟦<D as Disk>⟧ self.old.number (names manifest.old) batches disk.old flush
-            → LeavesOnly ⟦<D as Disk>⟧ disk.old disk.new (λ moment image. IsRead self.old.number image (names manifest.old).horizon (cells_over (names manifest.old).flushed batches lists)) }
+        ensures any_moment { (wal : Logs) (batches : List LogBatch) (lists : List (List CellData)) → HasParts ⟦<D as Disk>⟧ self.old.number manifest.old wal disk.old batches self.old.files.items lists
+            → IsBegun ⟦<D as Disk>⟧ self.old.number (named_snapshot manifest.old) batches disk.old flush
+            → LeavesOnly ⟦<D as Disk>⟧ disk.old disk.new (λ moment image. IsRegionRead self.old.number image (named_snapshot manifest.old).horizon (cells_over (named_snapshot manifest.old).flushed batches lists)) }
         ensures only { (result ≢ Ok FlushStep.Done) × (result ≢ Ok FlushStep.Merged) × ((horizon : ℕ) → result ≢ Ok (FlushStep.Forgot horizon)) }
-        ensures named { (batches : List BatchData) (cells bytes : ℕ) → IsBegun ⟦<D as Disk>⟧ self.old.number (names manifest.old) batches disk.old flush → result ≡ Ok (FlushStep.Named cells bytes)
-            → (self.new.flush ≡ None) × IsRaised (names manifest.old).flushed (names manifest.new).flushed batches cells bytes }
-        ensures horizon { (names manifest.new).horizon ≡ (names manifest.old).horizon }
-        ensures still { ((cells bytes : ℕ) → result ≢ Ok (FlushStep.Named cells bytes)) → names manifest.new ≡ names manifest.old }
-        ensures flushed { (names manifest.new).flushed ≤ max (names manifest.old).flushed flush.frozen.upto }
+        ensures named { (batches : List LogBatch) (cells bytes : ℕ) → IsBegun ⟦<D as Disk>⟧ self.old.number (named_snapshot manifest.old) batches disk.old flush → result ≡ Ok (FlushStep.Named cells bytes)
+            → (self.new.flush ≡ None) × IsRaised (named_snapshot manifest.old).flushed (named_snapshot manifest.new).flushed batches cells bytes }
+        ensures horizon { (named_snapshot manifest.new).horizon ≡ (named_snapshot manifest.old).horizon }
+        ensures still { ((cells bytes : ℕ) → result ≢ Ok (FlushStep.Named cells bytes)) → named_snapshot manifest.new ≡ named_snapshot manifest.old }
+        ensures flushed { (named_snapshot manifest.new).flushed ≤ max (named_snapshot manifest.old).flushed flush.frozen.upto }
         ensures sound { result ≢ Err Damaged }
         ensures read_failed { result ≡ Err ReadFault → Rose ⟦<D as Disk>⟧ disk.old disk.new }
         ensures write_failed { result ≡ Err WriteFault → Rose ⟦<D as Disk>⟧ disk.old disk.new }
-        ensures touches { (wal : Logs) (batches : List BatchData) (lists : List (List CellData)) → HasParts ⟦<D as Disk>⟧ self.old.number manifest.old wal disk.old batches self.old.files.items lists
-            → IsBegun ⟦<D as Disk>⟧ self.old.number (names manifest.old) batches disk.old flush → TouchesOnly ⟦<D as Disk>⟧ disk.old disk.new (IsFileOf self.old.number) }
+        ensures touches { (wal : Logs) (batches : List LogBatch) (lists : List (List CellData)) → HasParts ⟦<D as Disk>⟧ self.old.number manifest.old wal disk.old batches self.old.files.items lists
+            → IsBegun ⟦<D as Disk>⟧ self.old.number (named_snapshot manifest.old) batches disk.old flush → TouchesOnly ⟦<D as Disk>⟧ disk.old disk.new (IsFileOf self.old.number) }
         ensures counts { Passes ⟦<D as Disk>⟧ disk.old disk.new 4 }
         ensures number { self.new.number ≡ self.old.number }
     {
@@ -363,25 +363,25 @@ impl Flushing {
         manifest: &mut Manifest,
         wal: &Wal,
     ) -> Result<FlushStep, FlushFault>
-        ensures done { (batches : List BatchData) (lists : List (List CellData)) → HasFlushing ⟦<D as Disk>⟧ manifest.old wal.now self.old disk.old batches lists → MayForget (horizon_of self.old.flush) (above (names manifest.old).flushed batches) → result ≢ Err WriteFault
-            → (after : List (List CellData)) × HasFlushing ⟦<D as Disk>⟧ manifest.new wal.now self.new disk.new batches after × Goes result (cells_over (names manifest.old).flushed batches lists) (cells_over (names manifest.new).flushed batches after) × HasForgot result self.new after }
+        ensures done { (batches : List LogBatch) (lists : List (List CellData)) → HasFlushing ⟦<D as Disk>⟧ manifest.old wal.now self.old disk.old batches lists → MayForget (forgetting_horizon self.old.flush) (batches_above (named_snapshot manifest.old).flushed batches) → result ≢ Err WriteFault
+            → (after : List (List CellData)) × HasFlushing ⟦<D as Disk>⟧ manifest.new wal.now self.new disk.new batches after × Goes result (cells_over (named_snapshot manifest.old).flushed batches lists) (cells_over (named_snapshot manifest.new).flushed batches after) × HasForgot result self.new after }
 
         // At each moment of the call a stop leaves the region's files as they are read now, or with what the horizon keeps at which it forgets.
-        ensures any_moment { (batches : List BatchData) (lists : List (List CellData)) → HasFlushing ⟦<D as Disk>⟧ manifest.old wal.now self.old disk.old batches lists → MayForget (horizon_of self.old.flush) (above (names manifest.old).flushed batches)
-            → LeavesOnly ⟦<D as Disk>⟧ disk.old disk.new (λ moment image. ReadsFrom (horizon_of self.old.flush) self.old.number image (names manifest.old).horizon (cells_over (names manifest.old).flushed batches lists)) }
-        ensures ended { result ≡ Ok FlushStep.Done → (self.new.flush ≡ None) × (wal.now.older_to ≤ (names manifest.old).flushed) }
-        ensures named { (batches : List BatchData) (lists : List (List CellData)) (cells bytes : ℕ) → HasFlushing ⟦<D as Disk>⟧ manifest.old wal.now self.old disk.old batches lists → result ≡ Ok (FlushStep.Named cells bytes)
-            → (self.new.flush ≡ None) × IsRaised (names manifest.old).flushed (names manifest.new).flushed batches cells bytes }
-        ensures merged { result ≡ Ok FlushStep.Merged → (self.new.flush ≡ None) × HasMerged (names manifest.old) (names manifest.new) }
-        ensures forgot { (horizon : ℕ) → result ≡ Ok (FlushStep.Forgot horizon) → (self.new.flush ≡ None) × (horizon_of self.old.flush ≡ Some horizon) × HasForgotten (names manifest.old) (names manifest.new) horizon }
+        ensures any_moment { (batches : List LogBatch) (lists : List (List CellData)) → HasFlushing ⟦<D as Disk>⟧ manifest.old wal.now self.old disk.old batches lists → MayForget (forgetting_horizon self.old.flush) (batches_above (named_snapshot manifest.old).flushed batches)
+            → LeavesOnly ⟦<D as Disk>⟧ disk.old disk.new (λ moment image. ReadsFrom (forgetting_horizon self.old.flush) self.old.number image (named_snapshot manifest.old).horizon (cells_over (named_snapshot manifest.old).flushed batches lists)) }
+        ensures ended { result ≡ Ok FlushStep.Done → (self.new.flush ≡ None) × (wal.now.older_to ≤ (named_snapshot manifest.old).flushed) }
+        ensures named { (batches : List LogBatch) (lists : List (List CellData)) (cells bytes : ℕ) → HasFlushing ⟦<D as Disk>⟧ manifest.old wal.now self.old disk.old batches lists → result ≡ Ok (FlushStep.Named cells bytes)
+            → (self.new.flush ≡ None) × IsRaised (named_snapshot manifest.old).flushed (named_snapshot manifest.new).flushed batches cells bytes }
+        ensures merged { result ≡ Ok FlushStep.Merged → (self.new.flush ≡ None) × HasMerged (named_snapshot manifest.old) (named_snapshot manifest.new) }
+        ensures forgot { (horizon : ℕ) → result ≡ Ok (FlushStep.Forgot horizon) → (self.new.flush ≡ None) × (forgetting_horizon self.old.flush ≡ Some horizon) × HasForgottenFiles (named_snapshot manifest.old) (named_snapshot manifest.new) horizon }
         ensures keeps { (horizon : ℕ) → result ≡ Ok (FlushStep.Forgot horizon) → (kept : FrozenData) × (naming_of self.old.flush ≡ Some kept) × (self.new.kept ≡ Some kept) }
-        ensures horizon { (names manifest.new).horizon ≡ horizon_after result (names manifest.old).horizon }
-        ensures still { ((cells bytes : ℕ) → result ≢ Ok (FlushStep.Named cells bytes)) → result ≢ Ok FlushStep.Merged → ((horizon : ℕ) → result ≢ Ok (FlushStep.Forgot horizon)) → names manifest.new ≡ names manifest.old }
-        ensures flushed { (names manifest.new).flushed ≤ max (names manifest.old).flushed (upto_of self.old.flush) }
-        ensures sound { (batches : List BatchData) (lists : List (List CellData)) → HasFlushing ⟦<D as Disk>⟧ manifest.old wal.now self.old disk.old batches lists → result ≢ Err Damaged }
+        ensures horizon { (named_snapshot manifest.new).horizon ≡ horizon_after result (named_snapshot manifest.old).horizon }
+        ensures still { ((cells bytes : ℕ) → result ≢ Ok (FlushStep.Named cells bytes)) → result ≢ Ok FlushStep.Merged → ((horizon : ℕ) → result ≢ Ok (FlushStep.Forgot horizon)) → named_snapshot manifest.new ≡ named_snapshot manifest.old }
+        ensures flushed { (named_snapshot manifest.new).flushed ≤ max (named_snapshot manifest.old).flushed (upto_of self.old.flush) }
+        ensures sound { (batches : List LogBatch) (lists : List (List CellData)) → HasFlushing ⟦<D as Disk>⟧ manifest.old wal.now self.old disk.old batches lists → result ≢ Err Damaged }
         ensures read_failed { result ≡ Err ReadFault → Rose ⟦<D as Disk>⟧ disk.old disk.new }
         ensures write_failed { result ≡ Err WriteFault → Rose ⟦<D as Disk>⟧ disk.old disk.new }
-        ensures touches { (batches : List BatchData) (lists : List (List CellData)) → HasFlushing ⟦<D as Disk>⟧ manifest.old wal.now self.old disk.old batches lists → TouchesOnly ⟦<D as Disk>⟧ disk.old disk.new (IsFileOf self.old.number) }
+        ensures touches { (batches : List LogBatch) (lists : List (List CellData)) → HasFlushing ⟦<D as Disk>⟧ manifest.old wal.now self.old disk.old batches lists → TouchesOnly ⟦<D as Disk>⟧ disk.old disk.new (IsFileOf self.old.number) }
         ensures counts { Passes ⟦<D as Disk>⟧ disk.old disk.new 4 }
         ensures number { self.new.number ≡ self.old.number }
     {

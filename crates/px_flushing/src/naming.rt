@@ -1,10 +1,10 @@
 // What naming a flush's file takes.
 ghost use Rattle.std.specs.Prelude.{◌≡◌, ◌≢◌, ◌≤◌, ◌<◌, ◌+◌, ◌*◌, ◌∷◌, ◌↔◌, [], false, length, map, max, drop, IsTrue, IfOk, OnOk, Err, vec_len, vec_capacity};
 ghost use Rattle.std.specs.List.{AllByRecursion};
-ghost use Rattle.px_wal.specs.Manifest.{is_open, names};
+ghost use Rattle.px_wal.specs.Manifest.{is_manifest_open, named_snapshot};
 ghost use Rattle.px_wal.specs.Snapshot.{IsEntry, IsSnapshot};
 ghost use Rattle.px_wal.specs.SnapshotOf.{file_data, files_of, snapshot_of};
-ghost use Rattle.px_naming.specs.Naming.{one_more};
+ghost use Rattle.px_naming.specs.Naming.{one_compaction_more};
 ghost use Rattle.px_flushing.specs.declared.fault.FlushFault.TheVariants.{Damaged, ReadFault, WriteFault};
 
 use crate::FlushFault;
@@ -56,7 +56,7 @@ fn is_right(snapshot: &Snapshot) -> bool
 
 /// Whether the manifest may name something else, as far as its segment goes.
 fn may_name(manifest: &Manifest) -> bool
-    ensures { IsTrue result → is_open manifest.now × (manifest.now.rolling ≡ false) }
+    ensures { IsTrue result → is_manifest_open manifest.now × (manifest.now.rolling ≡ false) }
 {
     manifest.is_open() && !manifest.is_rolling()
 }
@@ -89,9 +89,9 @@ pub(crate) fn prepare(
     stamp: u64,
     entry: FileEntry,
 ) -> Result<Naming, FlushFault>
-    ensures may { OnOk result (is_open manifest.now × (manifest.now.rolling ≡ false)) }
+    ensures may { OnOk result (is_manifest_open manifest.now × (manifest.now.rolling ≡ false)) }
     ensures right { IfOk result (λ n. IsSnapshot (snapshot_of n.after)) }
-    ensures after { IfOk result (λ n. snapshot_of n.after ≡ record { flushed = upto; horizon = (names manifest.now).horizon; stamp = max (names manifest.now).stamp stamp; compactions = (names manifest.now).compactions; files = file_data entry ∷ (names manifest.now).files }) }
+    ensures after { IfOk result (λ n. snapshot_of n.after ≡ record { flushed = upto; horizon = (named_snapshot manifest.now).horizon; stamp = max (named_snapshot manifest.now).stamp stamp; compactions = (named_snapshot manifest.now).compactions; files = file_data entry ∷ (named_snapshot manifest.now).files }) }
     ensures room { IfOk result (λ n. 26 + 20 * length (files_of n.after) ≤ n.frame.room) }
     ensures never { (result ≢ Err ReadFault) × (result ≢ Err WriteFault) × (result ≢ Err Damaged) }
 {
@@ -116,9 +116,9 @@ pub(crate) fn prepare_merged(
     entry: FileEntry,
 ) -> Result<Naming, FlushFault>
     ensures some { OnOk result (1 ≤ count) }
-    ensures may { OnOk result (is_open manifest.now × (manifest.now.rolling ≡ false)) }
+    ensures may { OnOk result (is_manifest_open manifest.now × (manifest.now.rolling ≡ false)) }
     ensures right { IfOk result (λ n. IsSnapshot (snapshot_of n.after)) }
-    ensures after { IfOk result (λ n. snapshot_of n.after ≡ record { flushed = (names manifest.now).flushed; horizon = (names manifest.now).horizon; stamp = (names manifest.now).stamp; compactions = one_more (names manifest.now).compactions; files = file_data entry ∷ drop count (names manifest.now).files }) }
+    ensures after { IfOk result (λ n. snapshot_of n.after ≡ record { flushed = (named_snapshot manifest.now).flushed; horizon = (named_snapshot manifest.now).horizon; stamp = (named_snapshot manifest.now).stamp; compactions = one_compaction_more (named_snapshot manifest.now).compactions; files = file_data entry ∷ drop count (named_snapshot manifest.now).files }) }
     ensures room { IfOk result (λ n. 26 + 20 * length (files_of n.after) ≤ n.frame.room) }
     ensures never { (result ≢ Err ReadFault) × (result ≢ Err WriteFault) × (result ≢ Err Damaged) }
 {
@@ -142,10 +142,10 @@ pub(crate) fn prepare_kept(
     horizon: u64,
     entry: FileEntry,
 ) -> Result<Naming, FlushFault>
-    ensures raised { OnOk result ((names manifest.now).horizon ≤ horizon) }
-    ensures may { OnOk result (is_open manifest.now × (manifest.now.rolling ≡ false)) }
+    ensures raised { OnOk result ((named_snapshot manifest.now).horizon ≤ horizon) }
+    ensures may { OnOk result (is_manifest_open manifest.now × (manifest.now.rolling ≡ false)) }
     ensures right { IfOk result (λ n. IsSnapshot (snapshot_of n.after)) }
-    ensures after { IfOk result (λ n. snapshot_of n.after ≡ record { flushed = (names manifest.now).flushed; horizon = horizon; stamp = (names manifest.now).stamp; compactions = one_more (names manifest.now).compactions; files = file_data entry ∷ [] }) }
+    ensures after { IfOk result (λ n. snapshot_of n.after ≡ record { flushed = (named_snapshot manifest.now).flushed; horizon = horizon; stamp = (named_snapshot manifest.now).stamp; compactions = one_compaction_more (named_snapshot manifest.now).compactions; files = file_data entry ∷ [] }) }
     ensures room { IfOk result (λ n. 26 + 20 * length (files_of n.after) ≤ n.frame.room) }
     ensures never { (result ≢ Err ReadFault) × (result ≢ Err WriteFault) × (result ≢ Err Damaged) }
 {

@@ -3,7 +3,7 @@ ghost use Rattle.std.specs.Prelude.{◌≡◌, ◌≢◌, ℕ, List, IsTrue, Som
 ghost use Rattle.px_outside.specs.OnDisk.{Passes, Rose, Stays, TouchesOnly};
 ghost use Rattle.px_cells.specs.CellData.{CellData};
 ghost use Rattle.px_cellbytes.specs.Reading.{IsWritten};
-ghost use Rattle.px_making.specs.Making.{HasCells, IsMade, IsMaking, file_of as file_made};
+ghost use Rattle.px_making.specs.Making.{HasCells, IsFileMade, IsMaking, file_made};
 ghost use Rattle.px_flushing.specs.Stage.{IsStage};
 ghost use Rattle.px_flushing.specs.declared.fault.FlushFault.TheVariants.{Damaged, ReadFault, WriteFault};
 
@@ -87,7 +87,7 @@ fn finish<D: Disk>(alloc: Global, disk: &mut D, making: Making) -> (Stage, Optio
 
 /// Finds out how many bytes the file has.
 fn measure<D: Disk>(disk: &mut D, file: u64, made: RegionFile) -> (Stage, Option<FlushFault>)
-    ensures stands { (cells : List CellData) → made.file ≡ file → IsMade ⟦<D as Disk>⟧ made disk.old cells → IsStage ⟦<D as Disk>⟧ file disk.new cells result.0 }
+    ensures stands { (cells : List CellData) → made.file ≡ file → IsFileMade ⟦<D as Disk>⟧ made disk.old cells → IsStage ⟦<D as Disk>⟧ file disk.new cells result.0 }
     ensures read_failed { result.1 ≡ Some ReadFault → Rose ⟦<D as Disk>⟧ disk.old disk.new }
     ensures write_failed { result.1 ≢ Some WriteFault }
     ensures sound { result.1 ≢ Some Damaged }

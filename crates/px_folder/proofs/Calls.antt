@@ -14,7 +14,7 @@ use Rattle.px_region.specs.Calls.{IsOpenedBy}
 use Rattle.px_region.proofs.Calls.{passes_most, passes_then}
 use Rattle.px_wal.specs.Files.{HasFile}
 use Rattle.px_folder.specs.Calls.{AreOpenedBy}
-use Rattle.px_folder.specs.Drawn.{IsDrawn}
+use Rattle.px_folder.specs.Drawn.{IsRegionDrawn}
 use Rattle.px_folder.proofs.Local.{opened_local}
 use Rattle.px_folder.proofs.Reading.{apart}
 
@@ -44,11 +44,11 @@ pub opened_permuted : (image : Image) (numbers moved : List ℕ) (calls : ℕ �
 opened_permuted image numbers moved calls is all = (All-permutation (λ n. IsOpenedBy n image (calls n)) numbers moved is all, sum_by-IsPermutation calls numbers moved is)
 
 -- the regions were there before the catalogue was made
-pub opened_before : {D : Type 0} (d : Ghosts D) (old mid : D) (next : ℕ) (numbers : List ℕ) (calls : ℕ → ℕ) → TouchesOnly d old mid catalogue_files → All (IsDrawn next) numbers → AreOpenedBy (d.seen old) numbers calls → AreOpenedBy (d.seen mid) numbers calls
+pub opened_before : {D : Type 0} (d : Ghosts D) (old mid : D) (next : ℕ) (numbers : List ℕ) (calls : ℕ → ℕ) → TouchesOnly d old mid catalogue_files → All (IsRegionDrawn next) numbers → AreOpenedBy (d.seen old) numbers calls → AreOpenedBy (d.seen mid) numbers calls
 opened_before d old mid next numbers calls touches drawn all =
-    All-from_recursion (λ n. IsOpenedBy n (d.seen mid) (calls n)) numbers (each numbers (recursion_from_All (IsDrawn next) numbers drawn) (recursion_from_All (λ n. IsOpenedBy n (d.seen old) (calls n)) numbers all))
+    All-from_recursion (λ n. IsOpenedBy n (d.seen mid) (calls n)) numbers (each numbers (recursion_from_All (IsRegionDrawn next) numbers drawn) (recursion_from_All (λ n. IsOpenedBy n (d.seen old) (calls n)) numbers all))
   where
-    each : (ns : List ℕ) → AllByRecursion (IsDrawn next) ns → AllByRecursion (λ n. IsOpenedBy n (d.seen old) (calls n)) ns → AllByRecursion (λ n. IsOpenedBy n (d.seen mid) (calls n)) ns
+    each : (ns : List ℕ) → AllByRecursion (IsRegionDrawn next) ns → AllByRecursion (λ n. IsOpenedBy n (d.seen old) (calls n)) ns → AllByRecursion (λ n. IsOpenedBy n (d.seen mid) (calls n)) ns
     each [] one two = tt
     each (n ∷ ns) one two =
         (opened_local n (d.seen old) (d.seen mid) (λ file own. sym (touches.sees file (λ its. apart d n file one.0.some own its))) (calls n) two.0, each ns one.1 two.1)

@@ -2,22 +2,22 @@
 use Rattle.std.proofs.Common.{◌≡◌, ◌<◌, ℕ, List, [], ◌∷◌, ◌++◌, map, refl, sym, ap, subst, ◌∙◌, arith}
 use Rattle.std.specs.List.{AllByRecursion}
 use Rattle.px_cells.specs.CellData.{CellData}
-use Rattle.px_file.specs.Format.{FileStands, greatest}
-use Rattle.px_file.specs.Reading.{IsFirstWrong as WrongFile}
+use Rattle.px_file.specs.Format.{FileStands, greatest_stamp_in}
+use Rattle.px_file.specs.Reading.{IsFirstWrongInFile}
 use Rattle.px_files.specs.Files.{FilesStand}
 use Rattle.px_outside.specs.Disk.{Image}
 use Rattle.px_gatelog.specs.Damage.{IsFirstWrong}
 use Rattle.px_gatelog.specs.Format.{LogForm, LogRecord, segments_of}
 use Rattle.px_gatelog.specs.Records.{RecordsStand}
-use Rattle.px_wal.specs.Batches.{Batch}
+use Rattle.px_wal.specs.Batches.{LogBatch}
 use Rattle.px_wal.specs.Files.{HasFile, file_of}
 use Rattle.px_wal.specs.Form.{batch_record, wal_form}
 use Rattle.px_wal.specs.Manifest.{SnapshotStands}
 use Rattle.px_wal.specs.Snapshot.{FileData, IsEntry, SnapshotData, manifest_form}
 use Rattle.px_wal.specs.Wal.{LogStands}
 use Rattle.px_region.specs.Calls.{IsOpenedBy}
-use Rattle.px_region.specs.Opened.{IsFirstDamaged, in_file, in_log, in_manifest}
-use Rattle.px_region.specs.Region.{RegionData, Stands}
+use Rattle.px_region.specs.Opened.{IsFirstDamagedInRegion, in_file, in_log, in_manifest}
+use Rattle.px_region.specs.Region.{RegionData, RegionStands}
 
 -- the files before one, and that one
 entries_cut : (before : List FileData) (f : FileData) (rest : List FileData) → AllByRecursion IsEntry (before ++ f ∷ rest) → AllByRecursion IsEntry before × IsEntry f
@@ -34,7 +34,7 @@ module _ (number : ℕ) (image other : Image) (same : (file : ℕ) → HasFile n
   snapshot_local : (s : SnapshotData) → SnapshotStands number image s → SnapshotStands number other s
   snapshot_local s x = record { records = x.records; stands = records_local manifest_form 2 3 (omega arith) (omega arith) x.records x.stands; last = x.last; right = x.right }
 
-  log_local : (flushed : ℕ) (batches : List Batch) → LogStands number flushed image batches → LogStands number flushed other batches
+  log_local : (flushed : ℕ) (batches : List LogBatch) → LogStands number flushed image batches → LogStands number flushed other batches
   log_local flushed batches x = record { records = records_local (wal_form flushed) 0 1 (omega arith) (omega arith) (map batch_record batches) x.records; right = x.right }
 
   -- the files that a manifest names
@@ -42,9 +42,9 @@ module _ (number : ℕ) (image other : Image) (same : (file : ℕ) → HasFile n
   files_local [] [] all x = tt
   files_local [] (l ∷ lists) all x = absurd x
   files_local (f ∷ named) [] all x = absurd x
-  files_local (f ∷ named) (l ∷ lists) all x = (subst (λ (b : List ℕ). FileStands b l (greatest l)) (at f.local (let e = all.0.local in omega arith)) x.0, files_local named lists all.1 x.1)
+  files_local (f ∷ named) (l ∷ lists) all x = (subst (λ (b : List ℕ). FileStands b l (greatest_stamp_in l)) (at f.local (let e = all.0.local in omega arith)) x.0, files_local named lists all.1 x.1)
 
-  pub stands_local : (s : RegionData) → Stands number image s → Stands number other s
+  pub stands_local : (s : RegionData) → RegionStands number image s → RegionStands number other s
   stands_local s x = record {
     named = x.named;
     reads = record {
@@ -64,7 +64,7 @@ module _ (number : ℕ) (image other : Image) (same : (file : ℕ) → HasFile n
       subst (λ (x : List ℕ). IsFirstWrong form (file_of number a) (file_of number b) x (other (file_of number b)) file place) (at a la)
       (subst (λ (x : List ℕ). IsFirstWrong form (file_of number a) (file_of number b) (image (file_of number a)) x file place) (at b lb) w)
 
-  pub damaged_local : (file place : ℕ) → IsFirstDamaged number image file place → IsFirstDamaged number other file place
+  pub damaged_local : (file place : ℕ) → IsFirstDamagedInRegion number image file place → IsFirstDamagedInRegion number other file place
   damaged_local file place (in_manifest w) = in_manifest (wrong_local manifest_form 2 3 (omega arith) (omega arith) file place w)
   damaged_local file place (in_log named stands w) = in_log named (snapshot_local named stands) (wrong_local (wal_form named.flushed) 0 1 (omega arith) (omega arith) file place w)
   damaged_local file place (in_file named batches stands log bad) =
@@ -78,7 +78,7 @@ module _ (number : ℕ) (image other : Image) (same : (file : ℕ) → HasFile n
         cut = bad.cut;
         right = files_local bad.before bad.lists all.0 bad.right;
         file_is = bad.file_is;
-        wrong = subst (λ (b : List ℕ). WrongFile b place) same bad.wrong;
+        wrong = subst (λ (b : List ℕ). IsFirstWrongInFile b place) same bad.wrong;
       })
 
   pub opened_local : (calls : ℕ) → IsOpenedBy number image calls → IsOpenedBy number other calls

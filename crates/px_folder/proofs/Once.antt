@@ -7,7 +7,7 @@ use Rattle.std.proofs.lemmas.List.Elements.{All-from_recursion, recursion_from_A
 use Rattle.std.proofs.lemmas.List.Sorted.{All-permutation, IsPermutation-sym, sum_by-IsPermutation}
 use Rattle.std.proofs.lemmas.List.Sums.{sum_by-cons}
 use Rattle.px_outside.specs.Parts.{AreDistinct, HasNone}
-use Rattle.px_recovery.specs.Folder.{IsAmong}
+use Rattle.px_recovery.specs.Folder.{IsNumberAmong}
 use Rattle.px_folder.specs.Drawn.{same_number}
 
 -- ---- a number that is among others
@@ -23,7 +23,7 @@ among_none n (m ∷ l) is = elim (cases_eq m n) [
   | inr other ↦ (other, among_none n l (sym (ap (λ (b : Bool). b || list_any (λ k. k == n) l) (ne_eqb m n other)) ∙ is))
 ]
 
-pub among_permuted : (n : ℕ) (l k : List ℕ) → IsPermutation l k → IsAmong n l → IsAmong n k
+pub among_permuted : (n : ℕ) (l k : List ℕ) → IsPermutation l k → IsNumberAmong n l → IsNumberAmong n k
 among_permuted n l k moved is = elim (cases_Bool (list_any (λ m. m == n) k)) [
   | inl there ↦ there
   | inr not ↦ absurd (

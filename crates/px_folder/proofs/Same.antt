@@ -17,22 +17,22 @@ use Rattle.px_region.specs.Region.{RegionData}
 use Rattle.px_region.proofs.OneStanding as region
 use Rattle.px_schema.specs.declared.standing.Standing.{Standing}
 use Rattle.px_catalog.proofs.Opening as catalogue
-use Rattle.px_recovery.specs.Base.{IsSoundFolder, IsSoundPart, base_of, told_of}
-use Rattle.px_recovery.specs.Folder.{FolderData, IsAmong, IsKept, StandsFor, region_numbers, regions_of}
+use Rattle.px_recovery.specs.Base.{IsSoundFolder, IsSoundPart, base_of, told_of_table}
+use Rattle.px_recovery.specs.Folder.{FolderData, IsKeptPart, IsNumberAmong, StandsFor, region_numbers, regions_of}
 use Rattle.px_recovery.specs.Stands.{AreNumbered, opened_index}
-use Rattle.px_recovery.specs.Tables.{AreInRegion, cells_in, form_of, horizon_in, index_files, index_in, indexes_of, table_files, table_in}
+use Rattle.px_recovery.specs.Tables.{AreInRegion, cells_of_regions, form_of_table, horizon_in, index_files, index_in, indexes_of, table_files, table_in}
 use Rattle.px_recovery.proofs.Numbered.{all_found, found_by}
 
 -- ---- numbers that are named
 
-among_left : (n : ℕ) (a b : List ℕ) → IsAmong n a → IsAmong n (a ++ b)
+among_left : (n : ℕ) (a b : List ℕ) → IsNumberAmong n a → IsNumberAmong n (a ++ b)
 among_left n [] b is = absurd cc
 among_left n (m ∷ a) b is = elim (cases_eq m n) [
   | inl same ↦ ap (λ (c : Bool). c || list_any (λ k. k == n) (a ++ b)) (eq-eqb m n same)
   | inr other ↦ ap (λ (c : Bool). c || list_any (λ k. k == n) (a ++ b)) (ne_eqb m n other) ∙ among_left n a b (sym (ap (λ (c : Bool). c || list_any (λ k. k == n) a) (ne_eqb m n other)) ∙ is)
 ]
 
-among_right : (n : ℕ) (a b : List ℕ) → IsAmong n b → IsAmong n (a ++ b)
+among_right : (n : ℕ) (a b : List ℕ) → IsNumberAmong n b → IsNumberAmong n (a ++ b)
 among_right n [] b is = is
 among_right n (m ∷ a) b is = elim (cases_eq m n) [
   | inl same ↦ ap (λ (c : Bool). c || list_any (λ k. k == n) (a ++ b)) (eq-eqb m n same)
@@ -47,69 +47,69 @@ named_more : (P Q : ℕ → Type 0) → ((n : ℕ) → P n → Q n) → (gs : Li
 named_more P Q more [] all = tt
 named_more P Q more (g ∷ gs) all = (more g.number all.0, named_more P Q more gs all.1)
 
-own_regions : (gs : List TableRegion) → AllNamed (λ n. IsAmong n (map (λ (r : TableRegion). r.number) gs)) gs
+own_regions : (gs : List TableRegion) → AllNamed (λ n. IsNumberAmong n (map (λ (r : TableRegion). r.number) gs)) gs
 own_regions [] = tt
 own_regions (g ∷ gs) = (
   ap (λ (c : Bool). c || list_any (λ k. k == g.number) (map (λ (r : TableRegion). r.number) gs)) (eq-eqb g.number g.number refl),
-  named_more (λ n. IsAmong n (map (λ (r : TableRegion). r.number) gs)) (λ n. IsAmong n (g.number ∷ map (λ (r : TableRegion). r.number) gs)) (λ n is. among_right n (g.number ∷ []) (map (λ (r : TableRegion). r.number) gs) is) gs (own_regions gs),
+  named_more (λ n. IsNumberAmong n (map (λ (r : TableRegion). r.number) gs)) (λ n. IsNumberAmong n (g.number ∷ map (λ (r : TableRegion). r.number) gs)) (λ n is. among_right n (g.number ∷ []) (map (λ (r : TableRegion). r.number) gs) is) gs (own_regions gs),
 )
 
-table_regions : (ts : List Table) (t : ℕ) (x : Table) → table_in ts t ≡ Some x → AllNamed (λ n. IsAmong n (flat_map regions_of ts)) x.regions
+table_regions : (ts : List Table) (t : ℕ) (x : Table) → table_in ts t ≡ Some x → AllNamed (λ n. IsNumberAmong n (flat_map regions_of ts)) x.regions
 unfolding table_in
 table_regions [] t x is = absurd cc
 table_regions (y ∷ ts) t x is = elim (found_by y x (table_in ts t) (y.id.0 == t) is) [
-  | inl e ↦ subst (λ (z : Table). AllNamed (λ n. IsAmong n (flat_map regions_of (y ∷ ts))) z.regions) e.1
-      (named_more (λ n. IsAmong n (regions_of y)) (λ n. IsAmong n (flat_map regions_of (y ∷ ts))) (λ n own. among_left n (regions_of y) (flat_map regions_of ts) own) y.regions (own_regions y.regions))
-  | inr e ↦ named_more (λ n. IsAmong n (flat_map regions_of ts)) (λ n. IsAmong n (flat_map regions_of (y ∷ ts))) (λ n own. among_right n (regions_of y) (flat_map regions_of ts) own) x.regions (table_regions ts t x e.1)
+  | inl e ↦ subst (λ (z : Table). AllNamed (λ n. IsNumberAmong n (flat_map regions_of (y ∷ ts))) z.regions) e.1
+      (named_more (λ n. IsNumberAmong n (regions_of y)) (λ n. IsNumberAmong n (flat_map regions_of (y ∷ ts))) (λ n own. among_left n (regions_of y) (flat_map regions_of ts) own) y.regions (own_regions y.regions))
+  | inr e ↦ named_more (λ n. IsNumberAmong n (flat_map regions_of ts)) (λ n. IsNumberAmong n (flat_map regions_of (y ∷ ts))) (λ n own. among_right n (regions_of y) (flat_map regions_of ts) own) x.regions (table_regions ts t x e.1)
 ]
 
 all_indexes : (P Q : ℕ → Type 0) → ((n : ℕ) → P n → Q n) → (is : List Index) → AllByRecursion (λ (i : Index). P i.region) is → AllByRecursion (λ (i : Index). Q i.region) is
 all_indexes P Q more [] all = tt
 all_indexes P Q more (i ∷ is) all = (more i.region all.0, all_indexes P Q more is all.1)
 
-index_regions : (is : List Index) → AllByRecursion (λ (i : Index). IsAmong i.region (map (λ (y : Index). y.region) is)) is
+index_regions : (is : List Index) → AllByRecursion (λ (i : Index). IsNumberAmong i.region (map (λ (y : Index). y.region) is)) is
 index_regions [] = tt
 index_regions (i ∷ is) = (
   ap (λ (c : Bool). c || list_any (λ k. k == i.region) (map (λ (y : Index). y.region) is)) (eq-eqb i.region i.region refl),
-  all_indexes (λ n. IsAmong n (map (λ (y : Index). y.region) is)) (λ n. IsAmong n (i.region ∷ map (λ (y : Index). y.region) is)) (λ n own. among_right n (i.region ∷ []) (map (λ (y : Index). y.region) is) own) is (index_regions is),
+  all_indexes (λ n. IsNumberAmong n (map (λ (y : Index). y.region) is)) (λ n. IsNumberAmong n (i.region ∷ map (λ (y : Index). y.region) is)) (λ n own. among_right n (i.region ∷ []) (map (λ (y : Index). y.region) is) own) is (index_regions is),
 )
 
 -- ---- the same definitions, and the same contents of the regions that are named
 
-module _ (s : Standing) (p q : ℕ → RegionData) (same : (n : ℕ) → IsKept s (suc n) → p (suc n) ≡ q (suc n)) (numbered : AreNumbered s) where
+module _ (s : Standing) (p q : ℕ → RegionData) (same : (n : ℕ) → IsKeptPart s (suc n) → p (suc n) ≡ q (suc n)) (numbered : AreNumbered s) where
   abbrev f : FolderData
   f = record { standing = s; regions = p }
 
   abbrev h : FolderData
   h = record { standing = s; regions = q }
 
-  same_at : (n : ℕ) → 1 ≤ n → IsAmong n (region_numbers s) → p n ≡ q n
+  same_at : (n : ℕ) → 1 ≤ n → IsNumberAmong n (region_numbers s) → p n ≡ q n
   same_at zero some named = absurd (omega arith)
   same_at (suc n) some named = same n named
 
   abbrev Same : ℕ → Type 0
   Same n = p n ≡ q n
 
-  both : (gs : List TableRegion) → AllNamed (λ n. 1 ≤ n) gs → AllNamed (λ n. IsAmong n (region_numbers s)) gs → AllNamed Same gs
+  both : (gs : List TableRegion) → AllNamed (λ n. 1 ≤ n) gs → AllNamed (λ n. IsNumberAmong n (region_numbers s)) gs → AllNamed Same gs
   both [] some named = tt
   both (g ∷ gs) some named = (same_at g.number some.0 named.0, both gs some.1 named.1)
 
   rows_same : (t : ℕ) (x : Table) → table_in s.tables t ≡ Some x → AllNamed Same x.regions
   rows_same t x found = both x.regions (all_found (λ y. AllByRecursion (λ g. 1 ≤ g.number) y.regions) s.tables t x numbered.some found)
-      (named_more (λ n. IsAmong n (flat_map regions_of s.tables)) (λ n. IsAmong n (region_numbers s)) (λ n own. among_left n (flat_map regions_of s.tables) (map (λ (i : Index). i.region) s.indexes) own) x.regions (table_regions s.tables t x found))
+      (named_more (λ n. IsNumberAmong n (flat_map regions_of s.tables)) (λ n. IsNumberAmong n (region_numbers s)) (λ n own. among_left n (flat_map regions_of s.tables) (map (λ (i : Index). i.region) s.indexes) own) x.regions (table_regions s.tables t x found))
 
-  both_indexes : (is : List Index) → AllByRecursion (λ (i : Index). 1 ≤ i.region) is → AllByRecursion (λ (i : Index). IsAmong i.region (region_numbers s)) is → AllByRecursion (λ (i : Index). Same i.region) is
+  both_indexes : (is : List Index) → AllByRecursion (λ (i : Index). 1 ≤ i.region) is → AllByRecursion (λ (i : Index). IsNumberAmong i.region (region_numbers s)) is → AllByRecursion (λ (i : Index). Same i.region) is
   both_indexes [] some named = tt
   both_indexes (i ∷ is) some named = (same_at i.region some.0 named.0, both_indexes is some.1 named.1)
 
   indexes_same : AllByRecursion (λ (i : Index). Same i.region) s.indexes
   indexes_same = both_indexes s.indexes numbered.some_index
-      (all_indexes (λ n. IsAmong n (map (λ (y : Index). y.region) s.indexes)) (λ n. IsAmong n (region_numbers s)) (λ n own. among_right n (flat_map regions_of s.tables) (map (λ (y : Index). y.region) s.indexes) own) s.indexes (index_regions s.indexes))
+      (all_indexes (λ n. IsNumberAmong n (map (λ (y : Index). y.region) s.indexes)) (λ n. IsNumberAmong n (region_numbers s)) (λ n own. among_right n (flat_map regions_of s.tables) (map (λ (y : Index). y.region) s.indexes) own) s.indexes (index_regions s.indexes))
 
   -- the files of a table
 
-  cells_same : (gs : List TableRegion) → AllNamed Same gs → cells_in p gs ≡ cells_in q gs
-  unfolding cells_in
+  cells_same : (gs : List TableRegion) → AllNamed Same gs → cells_of_regions p gs ≡ cells_of_regions q gs
+  unfolding cells_of_regions
   cells_same [] all = refl
   cells_same (g ∷ gs) all = λ i. (all.0 i).cells ++ cells_same gs all.1 i
 
@@ -138,11 +138,11 @@ module _ (s : Standing) (p q : ℕ → RegionData) (same : (n : ℕ) → IsKept 
 
   -- the base
 
-  told_same : {A : Type 0} (tells : Table → TableFiles → A) (none : A) (t : ℕ) (o : Option Table) → table_in s.tables t ≡ o → told_of (λ x. tells x (table_files f x)) none o ≡ told_of (λ x. tells x (table_files h x)) none o
+  told_same : {A : Type 0} (tells : Table → TableFiles → A) (none : A) (t : ℕ) (o : Option Table) → table_in s.tables t ≡ o → told_of_table (λ x. tells x (table_files f x)) none o ≡ told_of_table (λ x. tells x (table_files h x)) none o
   told_same tells none t None is = refl
   told_same tells none t (Some x) is = ap (tells x) (table_same t x is)
 
-  abbrev tells_at : {A : Type 0} (tells : Table → TableFiles → A) (none : A) (t : ℕ) → told_of (λ x. tells x (table_files f x)) none (table_in s.tables t) ≡ told_of (λ x. tells x (table_files h x)) none (table_in s.tables t)
+  abbrev tells_at : {A : Type 0} (tells : Table → TableFiles → A) (none : A) (t : ℕ) → told_of_table (λ x. tells x (table_files f x)) none (table_in s.tables t) ≡ told_of_table (λ x. tells x (table_files h x)) none (table_in s.tables t)
   tells_at tells none t = told_same tells none t (table_in s.tables t) refl
 
   pub base_same : base_of f ≡ base_of h
@@ -164,7 +164,7 @@ module _ (s : Standing) (p q : ℕ → RegionData) (same : (n : ℕ) → IsKept 
   part_same : (t : ℕ) (x : Table) → table_in s.tables t ≡ Some x → (u : GroupData) → IsSoundPart f x u → IsSoundPart h x u
   part_same t x found u part = record {
     opened = subst (λ (n : TableFiles). IsOpened n u) (table_same t x found) part.opened;
-    sound = subst (λ (b : Base). IsSoundTable (form_of b s.indexes x) u) base_same part.sound;
+    sound = subst (λ (b : Base). IsSoundTable (form_of_table b s.indexes x) u) base_same part.sound;
     placed = placed_same x x.regions (rows_same t x found) part.placed;
     once = part.once;
   }
@@ -181,8 +181,8 @@ module _ (image : Image) (f h : FolderData) (one : StandsFor image f) (two : Sta
   abbrev between : FolderData
   between = record { standing = f.standing; regions = h.regions }
 
-  regions_same : (n : ℕ) → IsKept f.standing (suc n) → f.regions (suc n) ≡ h.regions (suc n)
-  regions_same n kept = region.stands_once (suc n) image (f.regions (suc n)) (h.regions (suc n)) (one.parts (suc n) kept) (two.parts (suc n) (subst (λ (s : Standing). IsKept s (suc n)) standing_same kept))
+  regions_same : (n : ℕ) → IsKeptPart f.standing (suc n) → f.regions (suc n) ≡ h.regions (suc n)
+  regions_same n kept = region.stands_once (suc n) image (f.regions (suc n)) (h.regions (suc n)) (one.parts (suc n) kept) (two.parts (suc n) (subst (λ (s : Standing). IsKeptPart s (suc n)) standing_same kept))
 
   to_other : between ≡ h
   to_other = λ i. record { standing = standing_same i; regions = h.regions }

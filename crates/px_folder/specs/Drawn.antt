@@ -8,17 +8,17 @@ use Rattle.px_schema.specs.declared.standing.Standing.{Standing}
 use Rattle.px_recovery.specs.Folder.{region_numbers}
 
 -- a number of a region that was drawn before the next one
-pub record IsDrawn (next n : ℕ) : Type 0 where
+pub record IsRegionDrawn (next n : ℕ) : Type 0 where
   pub some : 1 ≤ n
   pub below : n < next
 
 pub record IsDrawnTable (next : ℕ) (t : Table) : Type 0 where
   pub id : t.id.0 < next
-  pub regions : All (λ g. IsDrawn next g.number) t.regions
+  pub regions : All (λ g. IsRegionDrawn next g.number) t.regions
 
 pub record IsDrawnIndex (next : ℕ) (i : Index) : Type 0 where
   pub id : i.id.0 < next
-  pub region : IsDrawn next i.region
+  pub region : IsRegionDrawn next i.region
 
 abbrev pub same_number : ℕ → ℕ
 same_number n = n

@@ -1,15 +1,15 @@
 -- A folder that was read.
 use Rattle.std.specs.Prelude.{◌≡◌, ◌==◌, if◌then◌else◌, ℕ, List, [], ◌∷◌}
 use Rattle.px_outside.specs.declared.disk.Disk.{Ghosts}
-use Rattle.px_region.specs.Region.{Holds, RegionData, Stands, data_of}
+use Rattle.px_region.specs.Region.{RegionData, RegionHolds, RegionStands, data_of}
 use Rattle.px_region.specs.declared.region.Region.{Region}
 use Rattle.px_schema.specs.declared.standing.Standing.{Standing}
 use Rattle.px_catalog.specs.Catalogue.{standing_of}
 use Rattle.px_recovery.specs.Folder.{FolderData, no_data}
 use Rattle.px_folder.specs.declared.folder.Folder.{Folder}
 
-abbrev pub number_of : Region → ℕ
-number_of r = r.number
+abbrev pub number_of_open_region : Region → ℕ
+number_of_open_region r = r.number
 
 -- what was read of the region of a number; nothing where none was read
 unfoldable pub data_at : List Region → ℕ → RegionData
@@ -26,5 +26,5 @@ folder_of w = folder_by (standing_of w.catalog) w.regions.items
 
 -- what was read of a region is what its files stood for, and the region goes on from there
 pub record IsReadOn {D : Type 0} (d : Ghosts D) (old new : D) (r : Region) : Type 0 where
-  pub stood : Stands r.number (d.seen old) (data_of r)
-  pub holds : Holds d r new (data_of r)
+  pub stood : RegionStands r.number (d.seen old) (data_of r)
+  pub holds : RegionHolds d r new (data_of r)

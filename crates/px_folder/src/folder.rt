@@ -3,10 +3,10 @@ ghost use Rattle.std.specs.Prelude.{◌≡◌, ◌≢◌, ◌≤◌, ◌+◌, �
 ghost use Rattle.std.specs.Ordering.{nat_cmp};
 ghost use Rattle.px_outside.specs.OnDisk.{LeavesOnly, Passes, Rose, Stays, TouchesOnly};
 ghost use Rattle.px_outside.specs.Parts.{AreDistinct};
-ghost use Rattle.px_catalog.specs.Catalogue.{CatalogueStands, HasCatalogue, catalogue_files, is_open as opened_catalogue, standing_of};
+ghost use Rattle.px_catalog.specs.Catalogue.{CatalogueStands, HasCatalogue, catalogue_files, is_catalogue_open, standing_of};
 ghost use Rattle.px_recovery.specs.Base.{IsSound, IsSoundFolder};
 ghost use Rattle.px_recovery.specs.Folder.{AreFresh, FolderData, IsEmptyFrom, StandsFor, StandsOn, region_numbers};
-ghost use Rattle.px_folder.specs.Read.{IsReadOn, folder_of, number_of};
+ghost use Rattle.px_folder.specs.Read.{IsReadOn, folder_of, number_of_open_region};
 ghost use Rattle.px_folder.specs.Calls.{AreOpenedBy};
 ghost use Rattle.px_folder.specs.Drawn.{AreDrawn};
 ghost use Rattle.px_folder.specs.Damage.{IsDamagedBelow, IsDamagedIn, IsFirstDamaged};
@@ -32,7 +32,7 @@ fn open_regions<D: Disk>(
     disk: &mut D,
     numbers: &[u32],
 ) -> Result<Vec<Region>, StartFault>
-    ensures numbers { IfOk result (λ rs. map number_of rs.items ≡ numbers.now) }
+    ensures numbers { IfOk result (λ rs. map number_of_open_region rs.items ≡ numbers.now) }
     ensures read { IsTrue D.tells → IfOk result (λ rs. All (IsReadOn ⟦<D as Disk>⟧ disk.old disk.new) rs.items) }
     ensures damaged { (file place : ℕ) → result ≡ Err (StartFault.Damaged file place) → IsTrue D.tells → IsDamagedIn numbers.now (D.seen disk.old) file place }
     ensures seen { D.seen disk.new ≡ D.seen disk.old }
@@ -66,9 +66,9 @@ fn read_regions<D: Disk>(
     standing: &Standing,
 ) -> Result<Vec<Region>, StartFault>
     ensures drawn { IfOk result (λ rs. AreDrawn standing.now) }
-    ensures once { IfOk result (λ rs. AreDistinct number_of rs.items) }
-    ensures numbers { IfOk result (λ rs. IsPermutation (region_numbers standing.now) (map number_of rs.items)) }
-    ensures sorted { IfOk result (λ rs. IsSorted nat_cmp (map number_of rs.items)) }
+    ensures once { IfOk result (λ rs. AreDistinct number_of_open_region rs.items) }
+    ensures numbers { IfOk result (λ rs. IsPermutation (region_numbers standing.now) (map number_of_open_region rs.items)) }
+    ensures sorted { IfOk result (λ rs. IsSorted nat_cmp (map number_of_open_region rs.items)) }
     ensures read { IsTrue D.tells → IfOk result (λ rs. All (IsReadOn ⟦<D as Disk>⟧ disk.old disk.new) rs.items) }
     ensures damaged { (file place : ℕ) → result ≡ Err (StartFault.Damaged file place) → IsTrue D.tells → IsDamagedBelow standing.now (D.seen disk.old) file place }
     ensures seen { D.seen disk.new ≡ D.seen disk.old }
@@ -92,10 +92,10 @@ impl Folder {
     /// It is Damaged at the first place that isn't of the format, and a ReadFault or WriteFault where a call of the disk failed.
     pub fn read<D: Disk>(alloc: Global, disk: &mut D) -> Result<Folder, StartFault>
         ensures drawn { IfOk result (λ w. AreDrawn (standing_of w.catalog)) }
-        ensures once { IfOk result (λ w. AreDistinct number_of w.regions.items) }
-        ensures numbers { IfOk result (λ w. IsPermutation (region_numbers (standing_of w.catalog)) (map number_of w.regions.items)) }
-        ensures sorted { IfOk result (λ w. IsSorted nat_cmp (map number_of w.regions.items)) }
-        ensures open { IfOk result (λ w. opened_catalogue w.catalog) }
+        ensures once { IfOk result (λ w. AreDistinct number_of_open_region w.regions.items) }
+        ensures numbers { IfOk result (λ w. IsPermutation (region_numbers (standing_of w.catalog)) (map number_of_open_region w.regions.items)) }
+        ensures sorted { IfOk result (λ w. IsSorted nat_cmp (map number_of_open_region w.regions.items)) }
+        ensures open { IfOk result (λ w. is_catalogue_open w.catalog) }
 
         ensures definitions { IsTrue D.tells → IfOk result (λ w. CatalogueStands (D.seen disk.old) (standing_of w.catalog)) }
 

@@ -3,7 +3,7 @@ ghost use Rattle.std.specs.Prelude.{◌≡◌, ◌↔◌, ◌++◌, IfOk, OnOk, 
 ghost use Rattle.std.specs.List.{flat_map};
 ghost use Rattle.px_outside.specs.Parts.{AreDistinct, HasNone};
 ghost use Rattle.px_recovery.specs.Folder.{region_numbers, regions_of};
-ghost use Rattle.px_folder.specs.Drawn.{AreDrawn, IsDrawn, IsDrawnIndex, IsDrawnTable, same_number};
+ghost use Rattle.px_folder.specs.Drawn.{AreDrawn, IsDrawnIndex, IsDrawnTable, IsRegionDrawn, same_number};
 
 use px_schema::Standing;
 use px_tables::{Index, Table, TableRegion};
@@ -51,7 +51,7 @@ pub(crate) fn numbers_of(alloc: Global, standing: &Standing) -> Result<Vec<u32>,
 
 /// Whether a number of a region was drawn.
 fn is_drawn(number: u32, next: u32) -> bool
-    ensures { IsTrue result ↔ IsDrawn next number }
+    ensures { IsTrue result ↔ IsRegionDrawn next number }
 {
     1 <= number && number < next
 }

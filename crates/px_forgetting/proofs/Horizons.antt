@@ -9,18 +9,18 @@ use Rattle.px_cells.proofs.Sights.{same_reads}
 use Rattle.px_cellbytes.specs.Reading.{IsBare, IsInRange, IsWritten}
 use Rattle.px_cellbytes.specs.Spelling.{IsShortEnough}
 use Rattle.std.specs.List.{AllByRecursion}
-use Rattle.px_merge.specs.Kept.{IsKept, IsWanted}
+use Rattle.px_merge.specs.Kept.{IsKeptList, IsWanted}
 use Rattle.px_merge.proofs.Sight.{sight_same}
 
 -- what is kept is one list
-pub kept_one : (cells a b : List CellData) (h : ℕ) → IsKept cells h a → IsKept cells h b → a ≡ b
+pub kept_one : (cells a b : List CellData) (h : ℕ) → IsKeptList cells h a → IsKeptList cells h b → a ≡ b
 kept_one cells a b h ka kb = same_reads a b ka.list.ascending kb.list.ascending (λ c. (λ r. (kb.exact c).1 ((ka.exact c).0 r), λ r. (ka.exact c).1 ((kb.exact c).0 r)))
 
 -- each of the kept cells is one of the cells
-pub kept_all : (P : CellData → Type 0) (cells kept : List CellData) (h : ℕ) → IsKept cells h kept → AllByRecursion P cells → AllByRecursion P kept
+pub kept_all : (P : CellData → Type 0) (cells kept : List CellData) (h : ℕ) → IsKeptList cells h kept → AllByRecursion P cells → AllByRecursion P kept
 kept_all P cells kept h k all = has_all P kept (λ c g. all_has P cells c all (has_from_reads cells c ((k.exact c).0 (reads_from_has kept c k.list.ascending g)).0))
 
-pub kept_written : (cells kept : List CellData) (h : ℕ) → IsWritten cells → IsKept cells h kept → IsWritten kept
+pub kept_written : (cells kept : List CellData) (h : ℕ) → IsWritten cells → IsKeptList cells h kept → IsWritten kept
 kept_written cells kept h w k = record {
   listed = k.list;
   bare = kept_all IsBare cells kept h k w.bare;
@@ -28,14 +28,14 @@ kept_written cells kept h w k = record {
   ranged = kept_all IsInRange cells kept h k w.ranged;
 }
 
-pub kept_puts : (cells kept : List CellData) (h : ℕ) (c : CellData) → IsKept cells h kept → Reads kept c → c.stamp ≤ h → c.kind ≡ Put
+pub kept_puts : (cells kept : List CellData) (h : ℕ) (c : CellData) → IsKeptList cells h kept → Reads kept c → c.stamp ≤ h → c.kind ≡ Put
 kept_puts cells kept h c k r le = by ((k.exact c).0 r).1
   where
     by : IsWanted cells h c → c.kind ≡ Put
     by (inl l) = absurd (omega arith)
     by (inr v) = v.live.put
 
-module _ (cells kept more : List CellData) (h k : ℕ) (first : IsKept cells h kept) (le : h ≤ k) where
+module _ (cells kept more : List CellData) (h k : ℕ) (first : IsKeptList cells h kept) (le : h ≤ k) where
   -- what the later one wants, the earlier one wants too
   wanted_first : (c : CellData) → IsWanted cells k c → Reads cells c → Reads kept c
   wanted_first c (inl l) r = (first.exact c).1 (r, inl (omega arith))
@@ -49,7 +49,7 @@ module _ (cells kept more : List CellData) (h k : ℕ) (first : IsKept cells h k
   wanted_of c (inl l) = inl l
   wanted_of c (inr v) = inr ((sight_same cells kept h k c first.exact le).1 v)
 
-  pub kept_twice : IsKept kept k more → IsKept cells k more
+  pub kept_twice : IsKeptList kept k more → IsKeptList cells k more
   kept_twice m = record {
     list = m.list;
     exact = λ c. (
@@ -58,7 +58,7 @@ module _ (cells kept more : List CellData) (h k : ℕ) (first : IsKept cells h k
     );
   }
 
-  pub kept_once : IsKept cells k more → IsKept kept k more
+  pub kept_once : IsKeptList cells k more → IsKeptList kept k more
   kept_once m = record {
     list = m.list;
     exact = λ c. (
@@ -68,11 +68,11 @@ module _ (cells kept more : List CellData) (h k : ℕ) (first : IsKept cells h k
   }
 
 -- what is kept is kept again
-pub kept_again : (cells kept : List CellData) (h : ℕ) → IsKept cells h kept → IsKept kept h kept
+pub kept_again : (cells kept : List CellData) (h : ℕ) → IsKeptList cells h kept → IsKeptList kept h kept
 kept_again cells kept h k = kept_once cells kept kept h h k (omega arith) k
 
 -- what isn't kept is at or below the horizon
-pub kept_stamps : (cells kept : List CellData) (h : ℕ) (c : CellData) → IsKept cells h kept → Reads cells c → Reads kept c ⊎ (c.stamp ≤ h)
+pub kept_stamps : (cells kept : List CellData) (h : ℕ) (c : CellData) → IsKeptList cells h kept → Reads cells c → Reads kept c ⊎ (c.stamp ≤ h)
 kept_stamps cells kept h c k r = elim (cases_lt h c.stamp) [
   | inl l ↦ inl ((k.exact c).1 (r, inl l))
   | inr l ↦ inr l

@@ -7,7 +7,7 @@ use Rattle.px_cells.specs.Order.{Below, Reads, GoesWith, IsAscending, SamePlace}
 use Rattle.px_cells.specs.Visible.{IsVisible}
 use Rattle.px_cells.proofs.Among.{all_has, has_all, has_append, has_left, has_right, has_from_reads, reads_from_has, ascending_join, ascending_left, ascending_right, reads_append, reads_left, reads_right}
 use Rattle.px_cells.proofs.Sights.{visible_like}
-use Rattle.px_merge.specs.Kept.{IsKept, IsWanted}
+use Rattle.px_merge.specs.Kept.{IsKeptList, IsWanted}
 use Rattle.px_forgetting.specs.Rows.{AreApart}
 
 -- each cell of the first part stands before those of the second
@@ -46,7 +46,7 @@ module _ (xs ys : List CellData) (h : ℕ) (sorted : IsAscending (xs ++ ys)) (ap
   wanted_by cells others c f (inl l) = inl l
   wanted_by cells others c f (inr v) = inr (f v)
 
-  module _ (a b : List CellData) (ka : IsKept xs h a) (kb : IsKept ys h b) where
+  module _ (a b : List CellData) (ka : IsKeptList xs h a) (kb : IsKeptList ys h b) where
     from_first : (c : CellData) → Has a c → Has xs c × IsWanted xs h c
     from_first c g = (let z = (ka.exact c).0 (reads_from_has a c ka.list.ascending g) in (has_from_reads xs c z.0, z.1))
 
@@ -69,7 +69,7 @@ module _ (xs ys : List CellData) (h : ℕ) (sorted : IsAscending (xs ++ ys)) (ap
     ]
 
     -- what is kept of both is what is kept of each
-    pub kept_parts : IsKept (xs ++ ys) h (a ++ b)
+    pub kept_parts : IsKeptList (xs ++ ys) h (a ++ b)
     kept_parts = record {
       list = record {
         ascending = joined_sorted;

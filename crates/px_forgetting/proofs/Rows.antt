@@ -11,7 +11,7 @@ use Rattle.px_cells.specs.Scan.{cell_at, no_cell}
 use Rattle.px_cells.specs.Visible.{IsView}
 use Rattle.px_cells.proofs.Among.{all_has, has_all, has_append, has_left, has_right, ascending_left, ascending_right}
 use Rattle.px_cells.proofs.Orders.{equal_key}
-use Rattle.px_merge.specs.Kept.{IsBehind, IsKept, IsKeptOf, IsNext, IsWanted}
+use Rattle.px_merge.specs.Kept.{IsBehind, IsKeptList, IsKeptOf, IsNextSeen, IsWanted}
 use Rattle.px_merge.proofs.Keeping.{behind_all, kept_none, kept_skip, kept_take, kept_whole, next_behind, next_seen, other_behind, other_unseen}
 use Rattle.px_forgetting.specs.Rows.{AreApart}
 use Rattle.px_forgetting.proofs.Parts.{kept_parts}
@@ -56,13 +56,13 @@ module _ (h : ℕ) (seen old : List CellData) (gap : ℕ) (list : IsCellList (dr
     further : i - gap + 1 ≡ i + 1 - gap
     further = (let s = k.since in omega arith)
 
-    next_at : IsNext seen next c → IsNext seen next (cell_at (drop gap old) (i - gap))
-    next_at m = subst (IsNext seen next) here m
+    next_at : IsNextSeen seen next c → IsNextSeen seen next (cell_at (drop gap old) (i - gap))
+    next_at m = subst (IsNextSeen seen next) here m
 
     -- a cell goes
-    pub keeping_skip : (IsNext seen next c → ⊥) → (h < c.stamp → ⊥) → IsKeeping h seen old part gap (i + 1) n next
+    pub keeping_skip : (IsNextSeen seen next c → ⊥) → (h < c.stamp → ⊥) → IsKeeping h seen old part gap (i + 1) n next
     keeping_skip other low =
-        let o : IsNext seen next (cell_at (drop gap old) (i - gap)) → ⊥ = λ m. other (subst (IsNext seen next) (sym here) m) in
+        let o : IsNextSeen seen next (cell_at (drop gap old) (i - gap)) → ⊥ = λ m. other (subst (IsNextSeen seen next) (sym here) m) in
         let unwanted : IsWanted (drop gap old) h (cell_at (drop gap old) (i - gap)) → ⊥ = λ w. elim w [
           | inl a ↦ low (subst (λ (x : CellData). h < x.stamp) (sym here) a)
           | inr v ↦ other_unseen (drop gap old) (i - gap) in_row h list seen next view.ascending k.behind o v
@@ -91,7 +91,7 @@ module _ (h : ℕ) (seen old : List CellData) (gap : ℕ) (list : IsCellList (dr
       kept_more : IsWanted (drop gap old) h (cell_at (drop gap old) (i - gap)) → IsKeptOf (drop gap old) h (take (i + 1 - gap) (drop gap old)) (take (n + 1) new)
       kept_more w = subst (λ (j : ℕ). IsKeptOf (drop gap old) h (take j (drop gap old)) (take (n + 1) new)) further (subst (IsKeptOf (drop gap old) h (take (i - gap + 1) (drop gap old))) (sym swapped_front) (kept_take (drop gap old) (i - gap) in_row h list (take n part) w k.kept))
 
-      pub keeping_seen : IsNext seen next c → IsKeeping h seen old new gap (i + 1) (n + 1) (next + 1)
+      pub keeping_seen : IsNextSeen seen next c → IsKeeping h seen old new gap (i + 1) (n + 1) (next + 1)
       keeping_seen m = record {
         since = (let s = k.since in omega arith);
         places = (let p = k.places in omega arith);
@@ -102,19 +102,19 @@ module _ (h : ℕ) (seen old : List CellData) (gap : ℕ) (list : IsCellList (dr
         kept = kept_more (inr (next_seen (drop gap old) (i - gap) in_row h list seen next view.ascending k.behind (next_at m)));
       }
 
-      pub keeping_above : (IsNext seen next c → ⊥) → h < c.stamp → IsKeeping h seen old new gap (i + 1) (n + 1) next
+      pub keeping_above : (IsNextSeen seen next c → ⊥) → h < c.stamp → IsKeeping h seen old new gap (i + 1) (n + 1) next
       keeping_above other above = record {
         since = (let s = k.since in omega arith);
         places = (let p = k.places in omega arith);
         within = k.within;
         len = long ∙ k.len;
         rest = rest_same;
-        behind = subst (λ (j : ℕ). IsBehind (drop gap old) h (drop next seen) (drop j (drop gap old))) further (other_behind (drop gap old) (i - gap) in_row h list seen next view.ascending k.behind (λ m. other (subst (IsNext seen next) (sym here) m)));
+        behind = subst (λ (j : ℕ). IsBehind (drop gap old) h (drop next seen) (drop j (drop gap old))) further (other_behind (drop gap old) (i - gap) in_row h list seen next view.ascending k.behind (λ m. other (subst (IsNextSeen seen next) (sym here) m)));
         kept = kept_more (inl (subst (λ (x : CellData). h < x.stamp) here above));
       }
 
   -- all of the row was looked at
-  pub keeping_done : (part : List CellData) (i n next : ℕ) → IsKeeping h seen old part gap i n next → length part ≤ i → IsKept (drop gap old) h (take n part)
+  pub keeping_done : (part : List CellData) (i n next : ℕ) → IsKeeping h seen old part gap i n next → length part ≤ i → IsKeptList (drop gap old) h (take n part)
   keeping_done part i n next k end = kept_whole (drop gap old) h (i - gap) (take n part) list (let l = length-drop gap old in let e = k.len in let s = k.since in omega arith) k.kept
 
 pub keeping_as : (h : ℕ) (seen old part part' : List CellData) (gap i n n' next next' : ℕ) → part' ≡ part → n' ≡ n → next' ≡ next → IsKeeping h seen old part gap i n next → IsKeeping h seen old part' gap i n' next'
@@ -129,7 +129,7 @@ pub record AreKeeping (h : ℕ) (old cells : List CellData) (at n : ℕ) : Type 
   pub within : at ≤ length cells
   pub len : length cells ≡ length old
   pub rest : drop at cells ≡ drop at old
-  pub kept : IsKept (take at old) h (take n cells)
+  pub kept : IsKeptList (take at old) h (take n cells)
   pub apart : AreApart (take at old) (drop at old)
 
 pub rows_none : (h : ℕ) (cells : List CellData) → AreKeeping h cells cells 0 0
@@ -179,7 +179,7 @@ module _ (h : ℕ) (old cells : List CellData) (at n : ℕ) (list : IsCellList o
   row_gap = (let b = k.behind in let l = length-drop n cells in let t = length-take-le (end - n) (drop n cells) (omega arith) in omega arith)
 
   module _ (next : AreApart (take (end - at) (drop at cells)) (drop end cells)) (part new : List CellData) (m : ℕ) (long : length part ≡ length (take (end - n) (drop n cells))) (few : m + (at - n) ≤ length part)
-      (row : IsKept (drop (at - n) (take (end - n) (drop n cells))) h (take m part)) (is : new ≡ take n cells ++ (part ++ drop (end - n) (drop n cells))) where
+      (row : IsKeptList (drop (at - n) (take (end - n) (drop n cells))) h (take m part)) (is : new ≡ take n cells ++ (part ++ drop (end - n) (drop n cells))) where
     part_long : length part ≡ end - n
     part_long = long ∙ length-take-le (end - n) (drop n cells) (let b = k.behind in let l = length-drop n cells in omega arith)
 
@@ -216,17 +216,17 @@ module _ (h : ℕ) (old cells : List CellData) (at n : ℕ) (list : IsCellList o
       within = (let l = put_long cells part new n (end - n) fits part_long is in omega arith);
       len = put_long cells part new n (end - n) fits part_long is ∙ k.len;
       rest = behind_same ∙ rest_old;
-      kept = subst (λ (l : List CellData). IsKept l h (take (n + m) new)) (sym split)
-          (subst (IsKept (take at old ++ take (end - at) (drop at old)) h) (sym put_at)
-          (kept_parts (take at old) (take (end - at) (drop at old)) h sorted (λ x y a b e. k.apart x y a (part_has at (end - at) old y b) e) (take n cells) (take m part) k.kept (subst (λ (l : List CellData). IsKept l h (take m part)) row_is row)));
+      kept = subst (λ (l : List CellData). IsKeptList l h (take (n + m) new)) (sym split)
+          (subst (IsKeptList (take at old ++ take (end - at) (drop at old)) h) (sym put_at)
+          (kept_parts (take at old) (take (end - at) (drop at old)) h sorted (λ x y a b e. k.apart x y a (part_has at (end - at) old y b) e) (take n cells) (take m part) k.kept (subst (λ (l : List CellData). IsKeptList l h (take m part)) row_is row)));
       apart = λ x y a b e. elim (has_append (take at old) (take (end - at) (drop at old)) x (subst (λ (l : List CellData). Has l x) split a)) [
         | inl l ↦ k.apart x y l (from_rest y b) e
         | inr r ↦ next x y (subst (λ (l : List CellData). Has (take (end - at) l) x) (sym k.rest) r) (subst (λ (l : List CellData). Has l y) (sym rest_old) b) e
       ];
     }
 
-pub rows_done : (h : ℕ) (old cells : List CellData) (at n : ℕ) → AreKeeping h old cells at n → length cells ≤ at → IsKept old h (take n cells)
-rows_done h old cells at n k end = subst (λ (l : List CellData). IsKept l h (take n cells)) (take_all at old (let e = k.len in omega arith)) k.kept
+pub rows_done : (h : ℕ) (old cells : List CellData) (at n : ℕ) → AreKeeping h old cells at n → length cells ≤ at → IsKeptList old h (take n cells)
+rows_done h old cells at n k end = subst (λ (l : List CellData). IsKeptList l h (take n cells)) (take_all at old (let e = k.len in omega arith)) k.kept
 
 -- what the slices say of the rest
 pub rest_apart : (at len end : ℕ) (cells rest : List CellData) → rest ≡ drop at cells → end ≡ at + len → AreApart (take len rest) (drop len rest) → AreApart (take (end - at) (drop at cells)) (drop end cells)

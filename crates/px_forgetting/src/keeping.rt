@@ -2,7 +2,7 @@
 ghost use Rattle.std.specs.Prelude.{◌≡◌, ◌≤◌, ◌<◌, ◌+◌, ◌-◌, IfOk, length, take, drop};
 ghost use Rattle.px_cells.specs.Order.{IsAscending, IsCellList};
 ghost use Rattle.px_cells.specs.Visible.{IsView};
-ghost use Rattle.px_merge.specs.Kept.{IsKept};
+ghost use Rattle.px_merge.specs.Kept.{IsKeptList};
 ghost use Rattle.px_forgetting.specs.Rows.{AreApart};
 
 use px_cells::{Cell, Cells, place_after, visible_in};
@@ -27,7 +27,7 @@ fn keep_seen(part: &mut [Cell], gap: usize, horizon: u64, seen: &[Cell]) -> usiz
     requires seen { IsView (drop gap part.old) horizon seen.now }
     ensures within { result + gap ≤ length part.new }
     ensures len { length part.new ≡ length part.old }
-    ensures kept { IsKept (drop gap part.old) horizon (take result part.new) }
+    ensures kept { IsKeptList (drop gap part.old) horizon (take result part.new) }
 {
     let mut kept = 0;
     let mut next = 0;
@@ -50,7 +50,7 @@ fn keep_row(alloc: Global, part: &mut [Cell], gap: usize, horizon: u64) -> Resul
     requires sorted { IsCellList (drop gap part.old) }
     ensures within { IfOk result (λ n. n + gap ≤ length part.new) }
     ensures len { length part.new ≡ length part.old }
-    ensures kept { IfOk result (λ n. IsKept (drop gap part.old) horizon (take n part.new)) }
+    ensures kept { IfOk result (λ n. IsKeptList (drop gap part.old) horizon (take n part.new)) }
 {
     let shared = &part[..];
     let seen = visible_in(alloc, &shared[gap..], horizon)?;
@@ -60,7 +60,7 @@ fn keep_row(alloc: Global, part: &mut [Cell], gap: usize, horizon: u64) -> Resul
 /// The same, of rows one behind the other.
 fn keep_rows(alloc: Global, cells: &mut [Cell], horizon: u64) -> Result<usize, AllocError>
     requires { IsCellList cells.old }
-    ensures { IfOk result (λ n. IsKept cells.old horizon (take n cells.new)) }
+    ensures { IfOk result (λ n. IsKeptList cells.old horizon (take n cells.new)) }
 {
     let mut kept = 0;
     let mut at = 0;
@@ -77,7 +77,7 @@ fn keep_rows(alloc: Global, cells: &mut [Cell], horizon: u64) -> Result<usize, A
 /// copied; what the horizon sees of a row is copied while the row is looked at.
 pub fn forget(alloc: Global, cells: Cells, horizon: u64) -> Result<Cells, AllocError>
     requires { IsCellList cells }
-    ensures { IfOk result (λ kept. IsKept cells horizon kept) }
+    ensures { IfOk result (λ kept. IsKeptList cells horizon kept) }
 {
     let mut items = cells.into_vec();
     match keep_rows(alloc, &mut items, horizon) {

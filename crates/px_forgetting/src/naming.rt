@@ -3,13 +3,13 @@ ghost use Rattle.std.specs.Prelude.{◌≡◌, ◌≤◌, ◌<◌, ◌+◌, ◌*
 ghost use Rattle.px_outside.specs.OnDisk.{LeavesOnly, Passes, Rose, TouchesOnly};
 ghost use Rattle.px_cells.specs.CellData.{CellData};
 ghost use Rattle.px_file.specs.declared.region_file.RegionFile.{RegionFile as OpenFile};
-ghost use Rattle.px_merge.specs.Kept.{IsKept};
-ghost use Rattle.px_wal.specs.Batches.{Batch as BatchData, cells_over};
-ghost use Rattle.px_wal.specs.Manifest.{HasSnapshot, is_open, manifest_files, names, room_of};
+ghost use Rattle.px_merge.specs.Kept.{IsKeptList};
+ghost use Rattle.px_wal.specs.Batches.{LogBatch, cells_over};
+ghost use Rattle.px_wal.specs.Manifest.{HasSnapshot, is_manifest_open, manifest_files, named_snapshot, room_of_manifest};
 ghost use Rattle.px_wal.specs.Snapshot.{IsSnapshot};
 ghost use Rattle.px_wal.specs.SnapshotOf.{file_data, files_of, snapshot_of};
 ghost use Rattle.px_wal.specs.declared.wal.Wal.{Wal as Logs};
-ghost use Rattle.px_naming.specs.Naming.{HasParts, RegionReads, one_more};
+ghost use Rattle.px_naming.specs.Naming.{HasParts, RegionReads, one_compaction_more};
 ghost use Rattle.px_forgetting.specs.Forgetting.{IsForgotten};
 
 use px_gatelog::{AppendFault, Frame};
@@ -26,7 +26,7 @@ pub fn forgotten_after(
     file: FileEntry,
 ) -> Result<Snapshot, AllocError>
     requires { 1 ≤ length named.now.files.items }
-    ensures { IfOk result (λ after. snapshot_of after ≡ record { flushed = named.now.flushed; horizon = horizon; stamp = named.now.stamp; compactions = one_more named.now.compactions; files = file_data file ∷ [] }) }
+    ensures { IfOk result (λ after. snapshot_of after ≡ record { flushed = named.now.flushed; horizon = horizon; stamp = named.now.stamp; compactions = one_compaction_more named.now.compactions; files = file_data file ∷ [] }) }
 {
     let mut after = merged_after(alloc, named, named.files.len(), file)?;
     after.horizon = horizon;
@@ -42,29 +42,29 @@ pub fn name_forgotten<D: Disk>(
     frame: &mut Frame,
     after: Snapshot,
 ) -> Result<(), AppendFault>
-    requires open { is_open manifest.old }
+    requires open { is_manifest_open manifest.old }
     requires still { manifest.old.rolling ≡ false }
     requires right { IsSnapshot (snapshot_of after) }
     requires room { 26 + 20 * length (files_of after) ≤ frame.old.room }
-    ensures done { (region : ℕ) (wal : Logs) (batches : List BatchData) (files : List OpenFile) (lists : List (List CellData)) (file : OpenFile) (list : List CellData)
-        → HasParts ⟦<D as Disk>⟧ region manifest.old wal disk.old batches files lists → IsForgotten ⟦<D as Disk>⟧ region disk.old (names manifest.old) (snapshot_of after) batches lists file list
+    ensures done { (region : ℕ) (wal : Logs) (batches : List LogBatch) (files : List OpenFile) (lists : List (List CellData)) (file : OpenFile) (list : List CellData)
+        → HasParts ⟦<D as Disk>⟧ region manifest.old wal disk.old batches files lists → IsForgotten ⟦<D as Disk>⟧ region disk.old (named_snapshot manifest.old) (snapshot_of after) batches lists file list
         → OnOk result (HasParts ⟦<D as Disk>⟧ region manifest.new wal disk.new batches (file ∷ []) (list ∷ [])) }
-    ensures kept_whole { (region : ℕ) (wal : Logs) (batches : List BatchData) (files : List OpenFile) (lists : List (List CellData)) (file : OpenFile) (list : List CellData)
-        → HasParts ⟦<D as Disk>⟧ region manifest.old wal disk.old batches files lists → IsForgotten ⟦<D as Disk>⟧ region disk.old (names manifest.old) (snapshot_of after) batches lists file list
-        → IsKept (cells_over (names manifest.old).flushed batches lists) (snapshot_of after).horizon (cells_over (snapshot_of after).flushed batches (list ∷ [])) }
+    ensures kept_whole { (region : ℕ) (wal : Logs) (batches : List LogBatch) (files : List OpenFile) (lists : List (List CellData)) (file : OpenFile) (list : List CellData)
+        → HasParts ⟦<D as Disk>⟧ region manifest.old wal disk.old batches files lists → IsForgotten ⟦<D as Disk>⟧ region disk.old (named_snapshot manifest.old) (snapshot_of after) batches lists file list
+        → IsKeptList (cells_over (named_snapshot manifest.old).flushed batches lists) (snapshot_of after).horizon (cells_over (snapshot_of after).flushed batches (list ∷ [])) }
 
     // At each moment of the call a stop leaves what is read now under the old snapshot, or what the horizon keeps of it under the new one.
-    ensures any_moment { (region : ℕ) (wal : Logs) (batches : List BatchData) (files : List OpenFile) (lists : List (List CellData)) (file : OpenFile) (list : List CellData)
-        → HasParts ⟦<D as Disk>⟧ region manifest.old wal disk.old batches files lists → IsForgotten ⟦<D as Disk>⟧ region disk.old (names manifest.old) (snapshot_of after) batches lists file list
-        → LeavesOnly ⟦<D as Disk>⟧ disk.old disk.new (λ moment image. RegionReads region image (names manifest.old) (cells_over (names manifest.old).flushed batches lists) ⊎ RegionReads region image (snapshot_of after) (cells_over (snapshot_of after).flushed batches (list ∷ []))) }
-    ensures named { OnOk result (names manifest.new ≡ snapshot_of after) }
-    ensures kept { IsErr result → names manifest.new ≡ names manifest.old }
-    ensures full { (result ≡ Err AppendFault.Full) ↔ (room_of manifest.old < 33 + 20 * length (files_of after)) }
+    ensures any_moment { (region : ℕ) (wal : Logs) (batches : List LogBatch) (files : List OpenFile) (lists : List (List CellData)) (file : OpenFile) (list : List CellData)
+        → HasParts ⟦<D as Disk>⟧ region manifest.old wal disk.old batches files lists → IsForgotten ⟦<D as Disk>⟧ region disk.old (named_snapshot manifest.old) (snapshot_of after) batches lists file list
+        → LeavesOnly ⟦<D as Disk>⟧ disk.old disk.new (λ moment image. RegionReads region image (named_snapshot manifest.old) (cells_over (named_snapshot manifest.old).flushed batches lists) ⊎ RegionReads region image (snapshot_of after) (cells_over (snapshot_of after).flushed batches (list ∷ []))) }
+    ensures named { OnOk result (named_snapshot manifest.new ≡ snapshot_of after) }
+    ensures kept { IsErr result → named_snapshot manifest.new ≡ named_snapshot manifest.old }
+    ensures full { (result ≡ Err AppendFault.Full) ↔ (room_of_manifest manifest.old < 33 + 20 * length (files_of after)) }
     ensures untouched { result ≡ Err AppendFault.Full → (disk.new ≡ disk.old) × (manifest.new ≡ manifest.old) }
     ensures failed { result ≡ Err AppendFault.WriteFault → Rose ⟦<D as Disk>⟧ disk.old disk.new }
     ensures touches { (region : ℕ) → HasSnapshot ⟦<D as Disk>⟧ region manifest.old disk.old → TouchesOnly ⟦<D as Disk>⟧ disk.old disk.new (manifest_files region) }
     ensures counts { Passes ⟦<D as Disk>⟧ disk.old disk.new 4 }
-    ensures open { is_open manifest.new }
+    ensures open { is_manifest_open manifest.new }
     ensures still { manifest.new.rolling ≡ false }
     ensures frame { frame.old.room ≤ frame.new.room }
 {

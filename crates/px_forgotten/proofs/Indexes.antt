@@ -12,7 +12,7 @@ use Rattle.px_world.specs.Events.{Forget}
 use Rattle.px_forms.specs.Indexes.{IndexForm}
 use Rattle.px_indexed.specs.Kept.{IsCompacted}
 use Rattle.px_indexrow.specs.Form.{index_form}
-use Rattle.px_merge.specs.Kept.{IsKept}
+use Rattle.px_merge.specs.Kept.{IsKeptList}
 use Rattle.px_tables.specs.declared.index.Index.{Index}
 use Rattle.px_trail.specs.Trail.{Base}
 use Rattle.px_trail.specs.declared.entry.Entry.{Entry}
@@ -39,7 +39,7 @@ use Rattle.px_batching.proofs.Tallied.{AreStill, tallied_on, tells_same}
 use Rattle.px_reading.specs.Doubts.{IsToldBy}
 use Rattle.px_recovery.specs.Folder.{FolderData, with_region}
 use Rattle.px_recovery.specs.Stands.{Explains}
-use Rattle.px_recovery.specs.Tables.{form_in, index_in, indexes_of, table_in}
+use Rattle.px_recovery.specs.Tables.{form_of_index, index_in, indexes_of, table_in}
 use Rattle.px_recovery.proofs.Explains.{by_none, index_forgot}
 use Rattle.px_forgotten.specs.Forgotten.{AreBuiltBy, ForgotIndex}
 use Rattle.px_forgotten.proofs.Kept.{high_is, keys_compacted, keys_kept, promised_on}
@@ -134,7 +134,7 @@ forgets_none true = tt
 forgets_none false = tt
 
 module _ (b : Base) (index : ℕ → IndexForm) (es : List Entry) (g : Group) (hs : List HeldBatch) (right : IsRightGroup g) (k : IsTallied b es g hs) (v : GroupData) (shown : IsShownBy b index es g v hs) (place : ℕ) (x : IndexRegion) (is : slice_get g.indexes.items place ≡ Some x) (kept : List CellData)
-    (keeps : IsKept (read_of x.region) g.horizon kept) where
+    (keeps : IsKeptList (read_of x.region) g.horizon kept) where
   abbrev f : TableForm
   f = form_of b index g
 
@@ -216,12 +216,12 @@ module _ (b : Base) (index : ℕ → IndexForm) (es : List Entry) (g : Group) (h
 
 -- ---- the folder
 
-pub index_folder : (b : Base) (es : List Entry) (f : FolderData) (v : ℕ → GroupData) → Explains b es f v → (g : Group) (hs : List HeldBatch) → IsRightGroup g → IsTallied b es g hs → IsShownBy b (λ n. form_in g.table (index_in f.standing.indexes n)) es g (v g.table.id.0) hs
-    → (place : ℕ) (x : IndexRegion) → slice_get g.indexes.items place ≡ Some x → (kept : List CellData) → IsKept (read_of x.region) g.horizon kept → (at : ℕ) (i : Index) → at < length (indexes_of g.table.id.0 f.standing.indexes) → get_or (indexes_of g.table.id.0 f.standing.indexes) at i ≡ i
+pub index_folder : (b : Base) (es : List Entry) (f : FolderData) (v : ℕ → GroupData) → Explains b es f v → (g : Group) (hs : List HeldBatch) → IsRightGroup g → IsTallied b es g hs → IsShownBy b (λ n. form_of_index g.table (index_in f.standing.indexes n)) es g (v g.table.id.0) hs
+    → (place : ℕ) (x : IndexRegion) → slice_get g.indexes.items place ≡ Some x → (kept : List CellData) → IsKeptList (read_of x.region) g.horizon kept → (at : ℕ) (i : Index) → at < length (indexes_of g.table.id.0 f.standing.indexes) → get_or (indexes_of g.table.id.0 f.standing.indexes) at i ≡ i
     → i.region ≡ x.region.number → i.id.0 ≡ x.index.id.0 → Explains b es (with_region x.region.number (record { cells = kept; horizon = g.horizon }) f) (with_part v g.table.id.0 (own_forgot_data place kept (v g.table.id.0)))
 index_folder b es f v told g hs right k shown place x is kept keeps at i there found-at region id =
     let t = g.table.id.0 in
-    let index = λ (n : ℕ). form_in g.table (index_in f.standing.indexes n) in
+    let index = λ (n : ℕ). form_of_index g.table (index_in f.standing.indexes n) in
     let high : (v t).high ≡ g.horizon = high_is b index es g hs k (v t) shown in
     let found : table_in f.standing.tables t ≡ Some g.table = told.catalogue.tables t ∙ k.standing.table in
     let steps = index_steps b index es g hs right k (v t) shown place x is kept keeps in

@@ -8,7 +8,7 @@ use Rattle.px_cellshapes.proofs.RowsRead.{rows_plain}
 use Rattle.px_cellshapes.proofs.Steps.{each_compacted}
 use Rattle.px_indexed.specs.Kept.{IsCompacted}
 use Rattle.px_indexed.proofs.Compacted.{compacted_from}
-use Rattle.px_merge.specs.Kept.{IsKept}
+use Rattle.px_merge.specs.Kept.{IsKeptList}
 use Rattle.px_forms.specs.Indexes.{IndexForm}
 use Rattle.px_groupworld.specs.Group.{GroupData}
 use Rattle.px_openbatches.specs.Pending.{HeldBatch}
@@ -22,14 +22,14 @@ use Rattle.px_group.specs.Group.{IsShownBy, IsTallied}
 use Rattle.px_group.specs.Room.{HasPromised}
 use Rattle.px_group.specs.declared.group.Group.{Group}
 
-module _ (t : Table) (cells : List CellData) (shape : AreRightRows t cells) (h : ℕ) (kept : List CellData) (is : IsKept cells h kept) where
+module _ (t : Table) (cells : List CellData) (shape : AreRightRows t cells) (h : ℕ) (kept : List CellData) (is : IsKeptList cells h kept) where
   pub rows_compacted : IsCompacted cells kept h
   rows_compacted = compacted_from cells kept h (rows_plain t cells shape) is.exact
 
   pub rows_kept : AreRightRows t kept
   rows_kept = record { each = each_compacted cells kept h rows_compacted (IsRightRowCell t) shape.each }
 
-module _ (t : Table) (i : Index) (cells : List CellData) (shape : AreRightKeys t i cells) (h : ℕ) (kept : List CellData) (is : IsKept cells h kept) where
+module _ (t : Table) (i : Index) (cells : List CellData) (shape : AreRightKeys t i cells) (h : ℕ) (kept : List CellData) (is : IsKeptList cells h kept) where
   pub keys_compacted : IsCompacted cells kept h
   keys_compacted = compacted_from cells kept h (keys_plain t i cells shape) is.exact
 

@@ -31,7 +31,7 @@ use Rattle.px_noting.proofs.Others.{held_still, phases_still}
 use Rattle.px_reading.specs.Doubts.{IsToldBy}
 use Rattle.px_recovery.specs.Folder.{FolderData}
 use Rattle.px_recovery.specs.Stands.{Explains}
-use Rattle.px_recovery.specs.Tables.{form_in, index_in, table_in}
+use Rattle.px_recovery.specs.Tables.{form_of_index, index_in, table_in}
 use Rattle.px_recovery.proofs.Explains.{by_entry, noted_kept}
 use Rattle.px_recovery.proofs.Numbered.{found_number}
 use Rattle.px_forgotten.specs.Forgotten.{AreBuiltBy, at_horizon}
@@ -141,11 +141,11 @@ module _ (g : Group) (h : ℕ) where
 elsewhere : (t : TableId) (h : ℕ) (act : Act) → act ≡ Raised t h → (other : TableId) → t.0 ≢ other.0 → IsElsewhere other act
 elsewhere t h act is other apart = subst (IsElsewhere other) (sym is) apart
 
-pub raised_folder : (b : Base) (es : List Entry) (f : FolderData) (v : ℕ → GroupData) → Explains b es f v → (g : Group) (hs : List HeldBatch) → IsTallied b es g hs → IsShownBy b (λ n. form_in g.table (index_in f.standing.indexes n)) es g (v g.table.id.0) hs
+pub raised_folder : (b : Base) (es : List Entry) (f : FolderData) (v : ℕ → GroupData) → Explains b es f v → (g : Group) (hs : List HeldBatch) → IsTallied b es g hs → IsShownBy b (λ n. form_of_index g.table (index_in f.standing.indexes n)) es g (v g.table.id.0) hs
     → (e : Entry) → MayCome b es e → (h : ℕ) → e.act ≡ Raised g.table.id h → Explains b (es ++ e ∷ []) f (with_part v g.table.id.0 (raised_data h (v g.table.id.0)))
 raised_folder b es f v told g hs k shown e may h is =
     let t = g.table.id.0 in
-    let index = λ (n : ℕ). form_in g.table (index_in f.standing.indexes n) in
+    let index = λ (n : ℕ). form_of_index g.table (index_in f.standing.indexes n) in
     let found : table_in f.standing.tables t ≡ Some g.table = told.catalogue.tables t ∙ k.standing.table in
     let steps = raised_steps g h es e is b index hs (v t) shown may in
     let up = rises b es e g.table.id h is may in

@@ -5,7 +5,7 @@ use Rattle.px_cells.specs.CellData.{CellData}
 use Rattle.px_world.specs.Events.{Forget}
 use Rattle.px_forms.specs.Indexes.{IndexForm}
 use Rattle.px_indexed.specs.Kept.{IsCompacted}
-use Rattle.px_merge.specs.Kept.{IsKept}
+use Rattle.px_merge.specs.Kept.{IsKeptList}
 use Rattle.px_trail.specs.Trail.{Base}
 use Rattle.px_trail.specs.declared.entry.Entry.{Entry}
 use Rattle.px_groupworld.specs.Group.{GroupData, TableForm}
@@ -24,7 +24,7 @@ use Rattle.px_batching.proofs.Right.{SameIndexes, right_moves}
 use Rattle.px_reading.specs.Doubts.{IsToldBy}
 use Rattle.px_recovery.specs.Folder.{FolderData, with_region}
 use Rattle.px_recovery.specs.Stands.{Explains}
-use Rattle.px_recovery.specs.Tables.{form_in, index_in, table_in}
+use Rattle.px_recovery.specs.Tables.{form_of_index, index_in, table_in}
 use Rattle.px_recovery.proofs.Explains.{by_none, rows_forgot}
 use Rattle.px_forgotten.specs.Forgotten.{AreBuiltBy, ForgotRows}
 use Rattle.px_forgotten.proofs.Kept.{high_is, promised_on, rows_compacted, rows_kept}
@@ -64,7 +64,7 @@ module _ (g g' : Group) (s : ForgotRows g g') where
 
 -- ---- its data, where the horizon keeps these of the cells
 
-module _ (b : Base) (index : ℕ → IndexForm) (es : List Entry) (g : Group) (hs : List HeldBatch) (right : IsRightGroup g) (k : IsTallied b es g hs) (v : GroupData) (shown : IsShownBy b index es g v hs) (kept : List CellData) (keeps : IsKept (read_of g.rows) g.horizon kept) where
+module _ (b : Base) (index : ℕ → IndexForm) (es : List Entry) (g : Group) (hs : List HeldBatch) (right : IsRightGroup g) (k : IsTallied b es g hs) (v : GroupData) (shown : IsShownBy b index es g v hs) (kept : List CellData) (keeps : IsKeptList (read_of g.rows) g.horizon kept) where
   abbrev f : TableForm
   f = form_of b index g
 
@@ -94,14 +94,14 @@ module _ (b : Base) (index : ℕ → IndexForm) (es : List Entry) (g : Group) (h
 
 -- ---- the folder
 
-pub rows_folder : (b : Base) (es : List Entry) (f : FolderData) (v : ℕ → GroupData) → Explains b es f v → (g : Group) (hs : List HeldBatch) → IsRightGroup g → IsTallied b es g hs → IsShownBy b (λ n. form_in g.table (index_in f.standing.indexes n)) es g (v g.table.id.0) hs
-    → (kept : List CellData) → IsKept (read_of g.rows) g.horizon kept → (f.regions g.rows.number).cells ≡ read_of g.rows
+pub rows_folder : (b : Base) (es : List Entry) (f : FolderData) (v : ℕ → GroupData) → Explains b es f v → (g : Group) (hs : List HeldBatch) → IsRightGroup g → IsTallied b es g hs → IsShownBy b (λ n. form_of_index g.table (index_in f.standing.indexes n)) es g (v g.table.id.0) hs
+    → (kept : List CellData) → IsKeptList (read_of g.rows) g.horizon kept → (f.regions g.rows.number).cells ≡ read_of g.rows
     → Explains b es (with_region g.rows.number (record { cells = kept; horizon = g.horizon }) f) (with_part v g.table.id.0 (forgot_data kept (v g.table.id.0)))
 rows_folder b es f v told g hs right k shown kept keeps cells =
     let t = g.table.id.0 in
-    let index = λ (n : ℕ). form_in g.table (index_in f.standing.indexes n) in
+    let index = λ (n : ℕ). form_of_index g.table (index_in f.standing.indexes n) in
     let high : (v t).high ≡ g.horizon = high_is b index es g hs k (v t) shown in
     let found : table_in f.standing.tables t ≡ Some g.table = told.catalogue.tables t ∙ k.standing.table in
     let steps = rows_steps b index es g hs right k (v t) shown kept keeps in
     rows_forgot b es es f v told t (by_none b es f v told t) g.table found (forgot_data kept (v t)) steps.kept.group (omega arith) (region_of g.rows) right.region g.horizon kept
-    (subst (λ (l : List CellData). IsKept l g.horizon kept) (sym cells) keeps) high (λ c. (λ r. r, λ r. r)) refl
+    (subst (λ (l : List CellData). IsKeptList l g.horizon kept) (sym cells) keeps) high (λ c. (λ r. r, λ r. r)) refl

@@ -3,11 +3,11 @@ use Rattle.std.specs.Prelude.{◌≡◌, ◌<◌, ◌⊎◌, ℕ, List, Some, le
 use Rattle.std.proofs.Math.ListN.{set}
 use Rattle.px_outside.specs.OnDisk.{LeavesOnly, Passes, TouchesOnly}
 use Rattle.px_outside.specs.declared.disk.Disk.{Ghosts}
-use Rattle.px_merge.specs.Kept.{IsKept}
+use Rattle.px_merge.specs.Kept.{IsKeptList}
 use Rattle.px_wal.specs.Files.{HasFile}
 use Rattle.px_region.specs.Forgetting.{StandsKept}
 use Rattle.px_region.specs.Promise.{IsSamePromise}
-use Rattle.px_region.specs.Region.{Holds, RegionData, Stands, data_of, read_of}
+use Rattle.px_region.specs.Region.{RegionData, RegionHolds, RegionStands, data_of, read_of}
 use Rattle.px_region.specs.declared.region.Region.{Region}
 use Rattle.px_built.specs.Built.{IsBuiltBy}
 use Rattle.px_trail.specs.declared.entry.Entry.{Entry}
@@ -20,7 +20,7 @@ use Rattle.px_group.specs.declared.group.IndexRegion.{IndexRegion}
 -- what is read of it is what the horizon keeps, and its manifest names the horizon; its number and the room in it stay
 pub record IsThinned (old new : Region) (h : ℕ) : Type 0 where
   pub number : new.number ≡ old.number
-  pub kept : IsKept (read_of old) h (read_of new)
+  pub kept : IsKeptList (read_of old) h (read_of new)
   pub horizon : new.horizon ≡ h
   pub promised : IsSamePromise old new
 
@@ -28,10 +28,10 @@ pub record IsThinned (old new : Region) (h : ℕ) : Type 0 where
 -- goes on from there.
 pub record ForgetsOn {D : Type 0} (d : Ghosts D) (old new : Region) (disk disk' : D) (h : ℕ) : Type 0 where
   pub forgotten : IsThinned old new h
-  pub leaves : (s : RegionData) → Holds d old disk s → LeavesOnly d disk disk' (λ moment image. Stands old.number image s ⊎ StandsKept old.number image h s)
-  pub touches : (s : RegionData) → Holds d old disk s → TouchesOnly d disk disk' (HasFile old.number)
+  pub leaves : (s : RegionData) → RegionHolds d old disk s → LeavesOnly d disk disk' (λ moment image. RegionStands old.number image s ⊎ StandsKept old.number image h s)
+  pub touches : (s : RegionData) → RegionHolds d old disk s → TouchesOnly d disk disk' (HasFile old.number)
   pub counts : Passes d disk disk' 4
-  pub holds : (s : RegionData) → Holds d old disk s → Holds d new disk' (data_of new)
+  pub holds : (s : RegionData) → RegionHolds d old disk s → RegionHolds d new disk' (data_of new)
 
 -- 2. A table
 

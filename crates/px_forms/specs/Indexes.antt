@@ -7,7 +7,7 @@ use Rattle.px_cells.specs.Contents.{Contents, value_at}
 use Rattle.px_values.specs.declared.row.Value.{Value}
 use Rattle.px_values.specs.declared.change.What.{What}
 use Rattle.px_values.specs.States.{RowState, Shape as RowShape, apply}
-use Rattle.px_world.specs.Shape.{Shape}
+use Rattle.px_world.specs.Shape.{WorldShape}
 use Rattle.px_world.specs.World.{Status, Absent, Unverified, Verified}
 use Rattle.px_world.specs.IndexCells.{IndexCells, no_cells}
 
@@ -34,7 +34,7 @@ pub record IsPlaced (f : IndexForm) : Type 0 where
   pub apart : (c d : ℕ) → c < f.columns → d < f.columns → f.place c ≡ f.place d → c ≡ d
 
 -- what the world of a row knows of the table and the index
-abbrev pub shape_at : RowShape → IndexForm → List Value → Shape (List ℕ) RowState (List ℕ) What
+abbrev pub shape_at : RowShape → IndexForm → List Value → WorldShape (List ℕ) RowState (List ℕ) What
 shape_at sh f r =
     record {
       same_key = pointwise nat_eq;

@@ -29,7 +29,7 @@ pub record IsSameTo (f : DataForm) (g g' : Contents) (r : List Value) (p : ℕ) 
   pub each : (q u : ℕ) (d : CellKind) → u ≤ p → g' (f.key_of r) q u d ≡ g (f.key_of r) q u d
 
 -- the cells of a change stand at the row's key over what stood there
-pub record IsWritten (f : DataForm) (g g' : Contents) (r : List Value) (s : ℕ) (w : What) : Type 0 where
+pub record IsChangeWritten (f : DataForm) (g g' : Contents) (r : List Value) (s : ℕ) (w : What) : Type 0 where
   pub each : (q u : ℕ) (d : CellKind) → g' (f.key_of r) q u d ≡ over_contents (f.cells_of r s w) g (f.key_of r) q u d
 
 -- at the key every cell above the horizon stays, and at or below it just the puts that are seen from there
@@ -48,8 +48,8 @@ pub record IsDataForm (f : DataForm) : Type 0 where
   -- a change's cells have its stamp
   pub stamped : (r : List Value) (s : ℕ) (w : What) (q u : ℕ) (d : CellKind) → (s ≡ u → ⊥) → f.cells_of r s w (f.key_of r) q u d ≡ None
   -- over older cells they spell the row after the change, at every point from the stamp on
-  pub changed : (low : ℕ) (g g' : Contents) (r : List Value) (s : ℕ) (w : What) (p : ℕ) → low < s → f.Fits r w → f.IsWhole low g r → IsClearFrom f g r s → IsWritten f g g' r s w → s ≤ p → f.spelled g' r p ≡ apply f.shape r (f.spelled g r p) w
-  pub whole : (low : ℕ) (g g' : Contents) (r : List Value) (s : ℕ) (w : What) → low < s → f.Fits r w → f.IsWhole low g r → IsClearFrom f g r s → IsWritten f g g' r s w → f.IsWhole low g' r
+  pub changed : (low : ℕ) (g g' : Contents) (r : List Value) (s : ℕ) (w : What) (p : ℕ) → low < s → f.Fits r w → f.IsWhole low g r → IsClearFrom f g r s → IsChangeWritten f g g' r s w → s ≤ p → f.spelled g' r p ≡ apply f.shape r (f.spelled g r p) w
+  pub whole : (low : ℕ) (g g' : Contents) (r : List Value) (s : ℕ) (w : What) → low < s → f.Fits r w → f.IsWhole low g r → IsClearFrom f g r s → IsChangeWritten f g g' r s w → f.IsWhole low g' r
   -- a compaction leaves what is spelled from its horizon on
   pub kept : (low : ℕ) (g g' : Contents) (r : List Value) (h p : ℕ) → f.IsWhole low g r → low ≤ h → IsCompactedAt g g' (f.key_of r) h → h ≤ p → f.spelled g' r p ≡ f.spelled g r p
   pub whole_kept : (low : ℕ) (g g' : Contents) (r : List Value) (h : ℕ) → IsCompactedAt g g' (f.key_of r) h → low ≤ h → f.IsWhole low g r → f.IsWhole h g' r

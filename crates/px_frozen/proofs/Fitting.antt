@@ -11,8 +11,8 @@ use Rattle.px_cellbytes.specs.Reading.{IsBare, IsInRange, IsWritten}
 use Rattle.px_cellbytes.specs.Spelling.{IsShortEnough}
 use Rattle.px_merge.specs.Settle.{settle}
 use Rattle.px_merge.proofs.Settling.{settle_is, settle_placed}
-use Rattle.px_wal.specs.Batches.{Batch, later_first}
-use Rattle.px_wal.specs.Form.{IsBatch}
+use Rattle.px_wal.specs.Batches.{LogBatch, later_first}
+use Rattle.px_wal.specs.Form.{IsLogBatch}
 use Rattle.px_wal.proofs.Cuts.{all_later}
 use Rattle.px_frozen.specs.inner.Fit.{IsFit, IsWhole}
 
@@ -56,12 +56,12 @@ filtered P keep (x ∷ xs) all = elim (cases_Bool (keep x)) [
   | inr e ↦ rw e (filtered P keep xs all.1)
 ]
 
-pub settled_written : (batches : List Batch) → AllByRecursion IsBatch batches → IsWritten (settle (later_first batches))
+pub settled_written : (batches : List LogBatch) → AllByRecursion IsLogBatch batches → IsWritten (settle (later_first batches))
 settled_written batches all =
-    let goes = all_later GoesWith batches (each_of IsBatch (λ b. AllByRecursion GoesWith b.cells) (λ b is. is.written.listed.placed) batches all) in
-    let bare = all_later IsBare batches (each_of IsBatch (λ b. AllByRecursion IsBare b.cells) (λ b is. is.written.bare) batches all) in
-    let short = all_later IsShortEnough batches (each_of IsBatch (λ b. AllByRecursion IsShortEnough b.cells) (λ b is. is.written.short) batches all) in
-    let ranged = all_later IsInRange batches (each_of IsBatch (λ b. AllByRecursion IsInRange b.cells) (λ b is. is.written.ranged) batches all) in
+    let goes = all_later GoesWith batches (each_of IsLogBatch (λ b. AllByRecursion GoesWith b.cells) (λ b is. is.written.listed.placed) batches all) in
+    let bare = all_later IsBare batches (each_of IsLogBatch (λ b. AllByRecursion IsBare b.cells) (λ b is. is.written.bare) batches all) in
+    let short = all_later IsShortEnough batches (each_of IsLogBatch (λ b. AllByRecursion IsShortEnough b.cells) (λ b is. is.written.short) batches all) in
+    let ranged = all_later IsInRange batches (each_of IsLogBatch (λ b. AllByRecursion IsInRange b.cells) (λ b is. is.written.ranged) batches all) in
     record {
       listed = settle_placed (later_first batches) goes;
       bare = settled_all IsBare (later_first batches) bare;

@@ -2,7 +2,7 @@
 ghost use Rattle.std.specs.Prelude.{◌≡◌, ◌≢◌, ◌<◌, ◌↔◌, ℕ, List, IsTrue, IfOk, Err, MatchOption};
 ghost use Rattle.px_outside.specs.OnDisk.{Passes, Rose, Stays};
 ghost use Rattle.px_cellbytes.specs.Reading.{IsBare, IsInRange, IsWritten};
-ghost use Rattle.px_wal.specs.Batches.{Batch as BatchData};
+ghost use Rattle.px_wal.specs.Batches.{LogBatch};
 ghost use Rattle.px_wal.specs.Wal.{HasBatches};
 ghost use Rattle.px_frozen.specs.Frozen.{IsFrozen};
 ghost use Rattle.px_frozen.specs.inner.Fit.{IsFit};
@@ -61,9 +61,9 @@ pub fn freeze<D: Disk>(
     wal: &Wal,
 ) -> Result<Frozen, StartFault>
     requires left { flushed < wal.now.older_to }
-    ensures frozen { (batches : List BatchData) → HasBatches ⟦<D as Disk>⟧ region flushed wal.now disk.old batches → IfOk result (λ frozen. IsFrozen flushed batches frozen) }
+    ensures frozen { (batches : List LogBatch) → HasBatches ⟦<D as Disk>⟧ region flushed wal.now disk.old batches → IfOk result (λ frozen. IsFrozen flushed batches frozen) }
     ensures upto { IfOk result (λ frozen. frozen.upto ≡ wal.now.older_to) }
-    ensures sound { (batches : List BatchData) → HasBatches ⟦<D as Disk>⟧ region flushed wal.now disk.old batches → (file place : ℕ) → result ≢ Err (StartFault.Damaged file place) }
+    ensures sound { (batches : List LogBatch) → HasBatches ⟦<D as Disk>⟧ region flushed wal.now disk.old batches → (file place : ℕ) → result ≢ Err (StartFault.Damaged file place) }
     ensures seen { D.seen disk.new ≡ D.seen disk.old }
     ensures quiet { Stays ⟦<D as Disk>⟧ disk.old disk.new }
     ensures read_failed { result ≡ Err StartFault.ReadFault → Rose ⟦<D as Disk>⟧ disk.old disk.new }

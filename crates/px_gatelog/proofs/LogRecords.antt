@@ -3,25 +3,25 @@ use Rattle.std.proofs.Common.{◌≡◌, ◌⊎◌, inl, inr, ℕ, ◌+◌, ◌<
 use Rattle.std.specs.Prelude.{if◌then◌else◌, not, IsSome, IsTrue}
 use Rattle.std.proofs.lemmas.Bool.{false≢true}
 use Rattle.std.proofs.lemmas.List.{append-nil}
-use Rattle.px_outside.specs.Disk.{Image, LeavesOnly, Only, TouchesOnly}
+use Rattle.px_outside.specs.Disk.{Image, LeavesOnlyBy, OnlyBy, TouchesOnlyBy}
 use Rattle.px_outside.specs.Standing.{StandsIn}
 use Rattle.px_outside.specs.declared.disk.Disk.{Ghosts}
 use Rattle.px_gatelog.specs.declared.gate_log.GateLog.{GateLog}
 use Rattle.px_gatelog.specs.declared.segment.Segment.{Segment}
-use Rattle.px_gatelog.specs.Format.{AllFit, LogForm, LogRecord, SegmentRead, IsNextRecord, can_end, header_of, listed, newest_of, older_of, records_of, segments_of, with_record}
-use Rattle.px_gatelog.specs.GateLog.{GoesOnBy, IsLaid, IsMade, IsOlder, IsSameLog, IsSettled, IsState, MayStep, OlderCounts, StandsAlone, StandsFor, after_by, after_step, before_of, bytes_at, file_at, has_file, is_open, may_by, newest_generation, next_shut, next_side, steps_by, steps_left}
+use Rattle.px_gatelog.specs.Format.{AllRecordsFit, LogForm, LogRecord, SegmentRead, IsNextRecord, can_end, header_of, segment_list, newest_of, older_of, records_of, segments_of, with_record}
+use Rattle.px_gatelog.specs.GateLog.{IsLaid, IsLogSettled, IsMade, IsOlder, IsSameLog, IsState, LogGoesOnBy, LogStandsFor, MayStep, OlderCounts, StandsAlone, after_by, after_step, before_of, file_at, has_file, is_log_open, may_by, newest_generation, next_shut, next_side, side_bytes, steps_by, steps_left}
 use Rattle.px_gatelog.specs.Start.{Started}
 use Rattle.px_gatelog.proofs.Older.{older_appended}
 use Rattle.px_gatelog.proofs.Standing.{on_stands, records_of-listed, segments_same, settled_kept, with_record-listed}
-use Rattle.px_gatelog.specs.Records.{HasLog, HasRecords, IsFresh, RecordsStand, has_files}
-use Rattle.px_gatelog.specs.Steps.{Commits, IsAppend, IsRollStep, Reaches}
+use Rattle.px_gatelog.specs.Records.{HasLog, HasRecords, IsNeverWritten, RecordsStand, has_files}
+use Rattle.px_gatelog.specs.Steps.{Commits, IsAppend, IsRollStep, LogReaches}
 
 file_side : (log : GateLog) (side : Bool) → has_file log (file_at log side)
 file_side log true = inr refl
 file_side log false = inl refl
 
 -- calls on other files leave a next segment as it was laid out
-pub laid_kept : {D : Type 0} (d : Ghosts D) (log : GateLog) (old new : D) (records : List LogRecord) (touched : ℕ → Type 0) → TouchesOnly d.calls d.left d.seen old new touched → ((file : ℕ) → has_file log file → touched file → ⊥)
+pub laid_kept : {D : Type 0} (d : Ghosts D) (log : GateLog) (old new : D) (records : List LogRecord) (touched : ℕ → Type 0) → TouchesOnlyBy d.calls d.left d.seen old new touched → ((file : ℕ) → has_file log file → touched file → ⊥)
     → IsLaid d log old records → IsLaid d log new records
 laid_kept d log old new records touched touches apart laid =
     let file = file_at log (next_side log.newest) in
@@ -66,7 +66,7 @@ module _ {D : Type 0} (d : Ghosts D) (form : LogForm) (first second : ℕ) where
   }
 
   -- calls on other files leave it so, segment by segment
-  pub segments_kept : {next : List LogRecord} (old new : D) (log : GateLog) (records : List LogRecord) (has : HasLog d form first second old log records next) (touched : ℕ → Type 0) → TouchesOnly d.calls d.left d.seen old new touched
+  pub segments_kept : {next : List LogRecord} (old new : D) (log : GateLog) (records : List LogRecord) (has : HasLog d form first second old log records next) (touched : ℕ → Type 0) → TouchesOnlyBy d.calls d.left d.seen old new touched
       → ((file : ℕ) → has_files first second file → touched file → ⊥) → (l : HasLog d form first second new log records next) × (l.segments ≡ has.segments)
   segments_kept {next} old new log records has touched touches apart = (
     record {
@@ -80,7 +80,7 @@ module _ {D : Type 0} (d : Ghosts D) (form : LogForm) (first second : ℕ) where
     refl,
   )
 
-  pub records_kept : {next : List LogRecord} (old new : D) (log : GateLog) (records : List LogRecord) → HasLog d form first second old log records next → (touched : ℕ → Type 0) → TouchesOnly d.calls d.left d.seen old new touched
+  pub records_kept : {next : List LogRecord} (old new : D) (log : GateLog) (records : List LogRecord) → HasLog d form first second old log records next → (touched : ℕ → Type 0) → TouchesOnlyBy d.calls d.left d.seen old new touched
       → ((file : ℕ) → has_files first second file → touched file → ⊥) → HasLog d form first second new log records next
   records_kept {next} old new log records has touched touches apart = (segments_kept {next = next} old new log records has touched touches apart).0
 
@@ -92,7 +92,7 @@ module _ {D : Type 0} (d : Ghosts D) (form : LogForm) (first second : ℕ) where
   )
 
   -- a fresh log has none
-  pub fresh_records : {next : List LogRecord} (disk : D) (log : GateLog) → IsFresh log first second → IsTrue d.tells → Only d.calls d.seen d.left disk first → Only d.calls d.seen d.left disk second → d.seen disk first ≡ [] → d.seen disk second ≡ []
+  pub fresh_records : {next : List LogRecord} (disk : D) (log : GateLog) → IsNeverWritten log first second → IsTrue d.tells → OnlyBy d.calls d.seen d.left disk first → OnlyBy d.calls d.seen d.left disk second → d.seen disk first ≡ [] → d.seen disk second ≡ []
       → HasLog d form first second disk log [] next
   fresh_records disk log fresh tells one two none nothing = record {
     segments = [];
@@ -100,8 +100,8 @@ module _ {D : Type 0} (d : Ghosts D) (form : LogForm) (first second : ℕ) where
     second_is = fresh.second_is;
     settled = record {
       told = tells;
-      first_durable = subst (Only d.calls d.seen d.left disk) (sym fresh.first_is) one;
-      second_durable = subst (Only d.calls d.seen d.left disk) (sym fresh.second_is) two;
+      first_durable = subst (OnlyBy d.calls d.seen d.left disk) (sym fresh.first_is) one;
+      second_durable = subst (OnlyBy d.calls d.seen d.left disk) (sym fresh.second_is) two;
       state =
           subst (λ (o : Option Segment). IsState form o log.first_shut log.second_shut log.laid (d.seen disk log.first) (d.seen disk log.second) []) (sym fresh.none_open)
           (subst (λ (b : Bool). IsState form None b log.second_shut log.laid (d.seen disk log.first) (d.seen disk log.second) []) (sym fresh.first_open)
@@ -131,33 +131,33 @@ module _ {D : Type 0} (d : Ghosts D) (form : LogForm) (first second : ℕ) where
 
   -- ---- an append
 
-  with_records : (log : GateLog) (disk : D) (segments : List SegmentRead) (r : LogRecord) → is_open log → IsSettled d form log disk segments → records_of (with_record segments r) ≡ records_of segments ++ r ∷ []
+  with_records : (log : GateLog) (disk : D) (segments : List SegmentRead) (r : LogRecord) → is_log_open log → IsLogSettled d form log disk segments → records_of (with_record segments r) ≡ records_of segments ++ r ∷ []
   with_records log disk segments r opened settled = by log.newest refl
     where
       by : (newest : Option Segment) → log.newest ≡ newest → records_of (with_record segments r) ≡ records_of segments ++ r ∷ []
       by None is = absurd (false≢true (subst (λ (o : Option Segment). IsSome o) is opened))
       by (Some s) is =
-          let on = subst (λ (o : Option Segment). GoesOnBy form o (d.seen disk log.first) (d.seen disk log.second) segments) is settled.state.goes_on in
+          let on = subst (λ (o : Option Segment). LogGoesOnBy form o (d.seen disk log.first) (d.seen disk log.second) segments) is settled.state.goes_on in
           let last : SegmentRead = record { generation = s.generation; records = on.records } in
           ap (λ (l : List SegmentRead). records_of (with_record l r)) on.lists ∙ (ap records_of (with_record-listed on.older last r)
           ∙ (records_of-listed on.older (record { generation = s.generation; records = on.records ++ r ∷ [] }) ∙ (sym (append_assoc (before_of on.older) on.records (r ∷ []))
           ∙ ap (λ (l : List LogRecord). l ++ r ∷ []) (sym (records_of-listed on.older last) ∙ ap records_of (sym on.lists)))))
 
   -- where a segment may not be empty, a log with an open one has a record
-  pub some_records : {next : List LogRecord} (disk : D) (log : GateLog) (records : List LogRecord) → form.empty ≡ false → is_open log → HasLog d form first second disk log records next → records ≡ [] → ⊥
+  pub some_records : {next : List LogRecord} (disk : D) (log : GateLog) (records : List LogRecord) → form.empty ≡ false → is_log_open log → HasLog d form first second disk log records next → records ≡ [] → ⊥
   some_records disk log records never opened has none = by log.newest refl
     where
       by : (newest : Option Segment) → log.newest ≡ newest → ⊥
       by None is = false≢true (subst (λ (o : Option Segment). IsSome o) is opened)
       by (Some s) is =
-          let on = subst (λ (o : Option Segment). GoesOnBy form o (d.seen disk log.first) (d.seen disk log.second) has.segments) is has.settled.state.goes_on in
+          let on = subst (λ (o : Option Segment). LogGoesOnBy form o (d.seen disk log.first) (d.seen disk log.second) has.segments) is has.settled.state.goes_on in
           let all : before_of on.older ++ on.records ≡ [] = sym (records_of-listed on.older (record { generation = s.generation; records = on.records })) ∙ ap records_of (sym on.lists) ∙ has.records_are ∙ none in
           false≢true (sym (ap (λ (b : Bool). can_end b []) never) ∙ ap (can_end form.empty) (sym all) ∙ on.at.fit.1)
 
-  module _ {next : List LogRecord} (old new : D) (log log' : GateLog) (records : List LogRecord) (r : LogRecord) (has : HasLog d form first second old log records next) (opened : is_open log) where
+  module _ {next : List LogRecord} (old new : D) (log log' : GateLog) (records : List LogRecord) (r : LogRecord) (has : HasLog d form first second old log records next) (opened : is_log_open log) where
     -- at each moment a stop leaves the records without the new one, or with it
     pub appended_leaves : IsNextRecord form has.segments r → Commits d log old new (IsAppend r)
-        → LeavesOnly d.calls d.left old new (λ moment image. RecordsStand form first second image records ⊎ RecordsStand form first second image (records ++ r ∷ []))
+        → LeavesOnlyBy d.calls d.left old new (λ moment image. RecordsStand form first second image records ⊎ RecordsStand form first second image (records ++ r ∷ []))
     appended_leaves right commits = record {
       each = λ moment image since is. elim ((commits form has.segments (with_record has.segments r) has.settled (right, refl)).each moment image since is) [
         | inl stands ↦ inl (has.segments, by_files image has.segments stands, has.records_are)
@@ -166,12 +166,12 @@ module _ {D : Type 0} (d : Ghosts D) (form : LogForm) (first second : ℕ) where
       ];
     }
       where
-        by_files : (image : Image) (segments : List SegmentRead) → StandsFor form log image segments → segments_of form (image first) (image second) ≡ Ok segments
+        by_files : (image : Image) (segments : List SegmentRead) → LogStandsFor form log image segments → segments_of form (image first) (image second) ≡ Ok segments
         by_files image segments stands =
             ap (λ (f : ℕ). segments_of form (image f) (image second)) (sym has.first_is) ∙ (ap (λ (f : ℕ). segments_of form (image log.first) (image f)) (sym has.second_is) ∙ stands)
 
     -- after it the log goes on with the new one
-    pub appended_segments : IsNextRecord form has.segments r → Reaches d log log' old new (IsAppend r) → IsSameLog log log' → (IsLaid d log old next → IsLaid d log' new next) → steps_left log' ≡ steps_left log
+    pub appended_segments : IsNextRecord form has.segments r → LogReaches d log log' old new (IsAppend r) → IsSameLog log log' → (IsLaid d log old next → IsLaid d log' new next) → steps_left log' ≡ steps_left log
         → (l : HasLog d form first second new log' (records ++ r ∷ []) next) × (older_of l.segments ≡ older_of has.segments)
     appended_segments right reaches same laid steps = (
       record {
@@ -185,7 +185,7 @@ module _ {D : Type 0} (d : Ghosts D) (form : LogForm) (first second : ℕ) where
       older_appended has.segments r,
     )
 
-    pub appended_records : IsNextRecord form has.segments r → Reaches d log log' old new (IsAppend r) → IsSameLog log log' → (IsLaid d log old next → IsLaid d log' new next) → steps_left log' ≡ steps_left log → HasLog d form first second new log' (records ++ r ∷ []) next
+    pub appended_records : IsNextRecord form has.segments r → LogReaches d log log' old new (IsAppend r) → IsSameLog log log' → (IsLaid d log old next → IsLaid d log' new next) → steps_left log' ≡ steps_left log → HasLog d form first second new log' (records ++ r ∷ []) next
     appended_records right reaches same laid steps = (appended_segments right reaches same laid steps).0
 
   -- ---- a step of the making of a segment, where the newest segment alone counts
@@ -196,14 +196,14 @@ module _ {D : Type 0} (d : Ghosts D) (form : LogForm) (first second : ℕ) where
     older_none generation bytes older (inr w) = subst (λ (b : Bool). OlderCounts b form w.0 bytes older) alone w.3
 
     -- there is no segment, or one that stands alone
-    one_now : (newest : Option Segment) (first second : List ℕ) (segments : List SegmentRead) → GoesOnBy form newest first second segments → (newest_of segments ≡ segments) × StandsAlone form (newest_of segments)
+    one_now : (newest : Option Segment) (first second : List ℕ) (segments : List SegmentRead) → LogGoesOnBy form newest first second segments → (newest_of segments ≡ segments) × StandsAlone form (newest_of segments)
     one_now None first second segments on = subst (λ (l : List SegmentRead). (newest_of l ≡ l) × StandsAlone form (newest_of l)) (sym on.2) (refl, tt)
     one_now (Some s) first second segments on =
-        let none = older_none s.generation (bytes_at (not s.in_second) first second) on.older on.behind in
+        let none = older_none s.generation (side_bytes (not s.in_second) first second) on.older on.behind in
         let r : SegmentRead = record { generation = s.generation; records = on.records } in
-        let one : segments ≡ r ∷ [] = on.lists ∙ ap (λ (o : Option SegmentRead). listed o ++ r ∷ []) none in
-        let fit : AllFit form [] on.records = subst (λ (o : Option SegmentRead). AllFit form (before_of o) on.records) none on.at.fit in
-        subst (λ (l : List SegmentRead). (newest_of l ≡ l) × StandsAlone form (newest_of l)) (sym one) (refl, subst (AllFit form []) (sym (append-nil on.records)) fit)
+        let one : segments ≡ r ∷ [] = on.lists ∙ ap (λ (o : Option SegmentRead). segment_list o ++ r ∷ []) none in
+        let fit : AllRecordsFit form [] on.records = subst (λ (o : Option SegmentRead). AllRecordsFit form (before_of o) on.records) none on.at.fit in
+        subst (λ (l : List SegmentRead). (newest_of l ≡ l) × StandsAlone form (newest_of l)) (sym one) (refl, subst (AllRecordsFit form []) (sym (append-nil on.records)) fit)
 
     -- what counts after a step: the same records, or behind the last step those of the new segment
     after_alone : (laid : Option ℕ) (shut : Bool) (log : GateLog) (segments : List SegmentRead) (next : List LogRecord) → newest_of segments ≡ segments
@@ -213,12 +213,12 @@ module _ {D : Type 0} (d : Ghosts D) (form : LogForm) (first second : ℕ) where
     after_alone None true log segments next one = inl refl
     after_alone None false log segments next one = inl (ap records_of one)
 
-    may_alone : (laid : Option ℕ) (shut : Bool) (segments : List SegmentRead) (next : List LogRecord) → StandsAlone form (newest_of segments) → AllFit form [] next → may_by laid shut form segments next
-    may_alone (Some end) shut segments next stands fit = subst (λ (b : Bool). AllFit form (cond b (records_of segments) []) next) (sym alone) fit
+    may_alone : (laid : Option ℕ) (shut : Bool) (segments : List SegmentRead) (next : List LogRecord) → StandsAlone form (newest_of segments) → AllRecordsFit form [] next → may_by laid shut form segments next
+    may_alone (Some end) shut segments next stands fit = subst (λ (b : Bool). AllRecordsFit form (cond b (records_of segments) []) next) (sym alone) fit
     may_alone None true segments next stands fit = tt
     may_alone None false segments next stands fit = stands
 
-    module _ (old new : D) (log log' : GateLog) (records next : List LogRecord) (has : HasLog d form first second old log records next) (fit : AllFit form [] next) where
+    module _ (old new : D) (log log' : GateLog) (records next : List LogRecord) (has : HasLog d form first second old log records next) (fit : AllRecordsFit form [] next) where
       one_has : (newest_of has.segments ≡ has.segments) × StandsAlone form (newest_of has.segments)
       one_has = one_now log.newest (d.seen old log.first) (d.seen old log.second) has.segments has.settled.state.goes_on
 
@@ -230,7 +230,7 @@ module _ {D : Type 0} (d : Ghosts D) (form : LogForm) (first second : ℕ) where
 
       -- at each moment a stop leaves the same records, or those of the new segment alone
       pub next_leaves : Commits d log old new (IsRollStep d log old)
-          → LeavesOnly d.calls d.left old new (λ moment image. RecordsStand form first second image records ⊎ RecordsStand form first second image next)
+          → LeavesOnlyBy d.calls d.left old new (λ moment image. RecordsStand form first second image records ⊎ RecordsStand form first second image next)
       next_leaves commits = record {
         each = λ moment image since is. elim ((commits form has.segments (after_step form log has.segments next) has.settled (next, may_next, has.laid, refl)).each moment image since is) [
           | inl stands ↦ inl (has.segments, in_files image has.segments stands, has.records_are)
@@ -241,12 +241,12 @@ module _ {D : Type 0} (d : Ghosts D) (form : LogForm) (first second : ℕ) where
         ];
       }
         where
-          in_files : (image : Image) (segments : List SegmentRead) → StandsFor form log image segments → segments_of form (image first) (image second) ≡ Ok segments
+          in_files : (image : Image) (segments : List SegmentRead) → LogStandsFor form log image segments → segments_of form (image first) (image second) ≡ Ok segments
           in_files image segments stands =
               ap (λ (f : ℕ). segments_of form (image f) (image second)) (sym has.first_is) ∙ (ap (λ (f : ℕ). segments_of form (image log.first) (image f)) (sym has.second_is) ∙ stands)
 
       -- and the log goes on from the same records, or from those of the new segment
-      pub next_records : Reaches d log log' old new (IsRollStep d log old) → IsSameLog log log' → (steps_left log' ≡ 1 → IsLaid d log' new next)
+      pub next_records : LogReaches d log log' old new (IsRollStep d log old) → IsSameLog log log' → (steps_left log' ≡ 1 → IsLaid d log' new next)
           → HasLog d form first second new log' records next ⊎ HasLog d form first second new log' next next
       next_records reaches same laid = elim after_is [
         | inl kept ↦ inl (by records (kept ∙ has.records_are))
@@ -277,13 +277,13 @@ module _ {D : Type 0} (d : Ghosts D) (form : LogForm) (first second : ℕ) where
   -- a log without an open segment has no record
   pub closed_records : {next : List LogRecord} (disk : D) (log : GateLog) (records : List LogRecord) (has : HasLog d form first second disk log records next) → log.newest ≡ None → records ≡ []
   closed_records disk log records has closed =
-      sym has.records_are ∙ ap records_of (subst (λ (o : Option Segment). GoesOnBy form o (d.seen disk log.first) (d.seen disk log.second) has.segments) closed has.settled.state.goes_on).2
+      sym has.records_are ∙ ap records_of (subst (λ (o : Option Segment). LogGoesOnBy form o (d.seen disk log.first) (d.seen disk log.second) has.segments) closed has.settled.state.goes_on).2
 
   -- ---- the making of the first segment, without a record
 
   module _ (old new : D) (log log' : GateLog) (records : List LogRecord) (has : HasRecords d form first second old log records) (closed : log.newest ≡ None) (empty : form.empty ≡ true) where
     none_yet : has.segments ≡ []
-    none_yet = (subst (λ (o : Option Segment). GoesOnBy form o (d.seen old log.first) (d.seen old log.second) has.segments) closed has.settled.state.goes_on).2
+    none_yet = (subst (λ (o : Option Segment). LogGoesOnBy form o (d.seen old log.first) (d.seen old log.second) has.segments) closed has.settled.state.goes_on).2
 
     after_none : (laid : Option ℕ) (shut : Bool) → records_of (after_by laid shut form log [] []) ≡ []
     after_none (Some end) shut = elim form.both as (λ (b : Bool). records_of ((if b then [] else []) ++ record { generation = newest_generation log + 1; records = [] } ∷ []) ≡ []) [ true ↦ refl | false ↦ refl ]
@@ -303,7 +303,7 @@ module _ {D : Type 0} (d : Ghosts D) (form : LogForm) (first second : ℕ) where
 
     -- at each moment a stop leaves the same records
     pub rolled_leaves : Commits d log old new (IsRollStep d log old)
-        → LeavesOnly d.calls d.left old new (λ moment image. RecordsStand form first second image records)
+        → LeavesOnlyBy d.calls d.left old new (λ moment image. RecordsStand form first second image records)
     rolled_leaves commits = record {
       each = λ moment image since is. elim ((commits form has.segments (after_step form log has.segments []) has.settled ([], may_step, has.laid, refl)).each moment image since is) [
         | inl stands ↦ (has.segments, in_files image has.segments stands, has.records_are)
@@ -311,12 +311,12 @@ module _ {D : Type 0} (d : Ghosts D) (form : LogForm) (first second : ℕ) where
       ];
     }
       where
-        in_files : (image : Image) (segments : List SegmentRead) → StandsFor form log image segments → segments_of form (image first) (image second) ≡ Ok segments
+        in_files : (image : Image) (segments : List SegmentRead) → LogStandsFor form log image segments → segments_of form (image first) (image second) ≡ Ok segments
         in_files image segments stands =
             ap (λ (f : ℕ). segments_of form (image f) (image second)) (sym has.first_is) ∙ (ap (λ (f : ℕ). segments_of form (image log.first) (image f)) (sym has.second_is) ∙ stands)
 
     -- and the log goes on from them
-    pub rolled_records : Reaches d log log' old new (IsRollStep d log old) → IsSameLog log log' → (steps_left log' ≡ 1 → IsLaid d log' new []) → HasRecords d form first second new log' records
+    pub rolled_records : LogReaches d log log' old new (IsRollStep d log old) → IsSameLog log log' → (steps_left log' ≡ 1 → IsLaid d log' new []) → HasRecords d form first second new log' records
     rolled_records reaches same laid = record {
       segments = after_step form log has.segments [];
       first_is = same.first ∙ has.first_is;

@@ -5,8 +5,8 @@ use Rattle.std.proofs.lemmas.List.{append-nil, length-take}
 use Rattle.px_outside.specs.declared.disk.Disk.{Ghosts}
 use Rattle.px_gatelog.specs.declared.gate_log.GateLog.{GateLog}
 use Rattle.px_gatelog.specs.declared.segment.Segment.{Segment}
-use Rattle.px_gatelog.specs.Format.{AllFit, LogForm, LogRecord, SegmentRead, can_end, header_of, listed, newest_of, older_of, opened, records_at, records_of, with_record}
-use Rattle.px_gatelog.specs.GateLog.{GoesOn, GoesOnBy, IsOlder, IsSettled, OlderCounts, StandsAlone, before_of, bytes_at, file_at, room_in, room_of}
+use Rattle.px_gatelog.specs.Format.{AllRecordsFit, LogForm, LogRecord, SegmentRead, can_end, header_of, newest_of, older_of, open_segment_bytes, records_at, records_of, segment_list, with_record}
+use Rattle.px_gatelog.specs.GateLog.{GoesOn, IsLogSettled, IsOlder, LogGoesOnBy, OlderCounts, StandsAlone, before_of, file_at, room_in, room_of_log, side_bytes}
 use Rattle.px_gatelog.specs.Segment.{IsAt}
 use Rattle.px_gatelog.specs.inner.Replay.{IsRead}
 use Rattle.px_gatelog.proofs.Spelled.{records_read}
@@ -47,23 +47,23 @@ records_behind (s ∷ segments) generation = ap (λ (l : List LogRecord). s.reco
 
 -- ---- the records of the newest segment
 
-fits_listed : (form : LogForm) (older : Option SegmentRead) (r : SegmentRead) → AllFit form (before_of older) r.records
-    → AllFit form (records_of (older_of (listed older ++ r ∷ []))) (records_of (newest_of (listed older ++ r ∷ [])))
-fits_listed form None r fit = subst (AllFit form []) (sym (append-nil r.records)) fit
+fits_listed : (form : LogForm) (older : Option SegmentRead) (r : SegmentRead) → AllRecordsFit form (before_of older) r.records
+    → AllRecordsFit form (records_of (older_of (segment_list older ++ r ∷ []))) (records_of (newest_of (segment_list older ++ r ∷ [])))
+fits_listed form None r fit = subst (AllRecordsFit form []) (sym (append-nil r.records)) fit
 fits_listed form (Some o) r fit =
-    subst (λ (l : List LogRecord). AllFit form l (r.records ++ [])) (sym (append-nil o.records)) (subst (AllFit form o.records) (sym (append-nil r.records)) fit)
+    subst (λ (l : List LogRecord). AllRecordsFit form l (r.records ++ [])) (sym (append-nil o.records)) (subst (AllRecordsFit form o.records) (sym (append-nil r.records)) fit)
 
 -- the records of the newest segment fit behind those of the older one
-pub newest_fits : (form : LogForm) → form.empty ≡ true → (newest : Option Segment) (first second : List ℕ) (segments : List SegmentRead) → GoesOnBy form newest first second segments
-    → AllFit form (records_of (older_of segments)) (records_of (newest_of segments))
+pub newest_fits : (form : LogForm) → form.empty ≡ true → (newest : Option Segment) (first second : List ℕ) (segments : List SegmentRead) → LogGoesOnBy form newest first second segments
+    → AllRecordsFit form (records_of (older_of segments)) (records_of (newest_of segments))
 newest_fits form empty None first second segments on =
-    subst (λ (l : List SegmentRead). AllFit form (records_of (older_of l)) (records_of (newest_of l))) (sym on.2) (tt, ap (λ (b : Bool). can_end b []) empty)
+    subst (λ (l : List SegmentRead). AllRecordsFit form (records_of (older_of l)) (records_of (newest_of l))) (sym on.2) (tt, ap (λ (b : Bool). can_end b []) empty)
 newest_fits form empty (Some s) first second segments on =
-    subst (λ (l : List SegmentRead). AllFit form (records_of (older_of l)) (records_of (newest_of l))) (sym on.lists)
+    subst (λ (l : List SegmentRead). AllRecordsFit form (records_of (older_of l)) (records_of (newest_of l))) (sym on.lists)
     (fits_listed form on.older (record { generation = s.generation; records = on.records }) on.at.fit)
 
 -- what fits behind no record may stand alone
-pub alone_by : (form : LogForm) (segments : List SegmentRead) → AllFit form [] (records_of segments) → StandsAlone form segments
+pub alone_by : (form : LogForm) (segments : List SegmentRead) → AllRecordsFit form [] (records_of segments) → StandsAlone form segments
 alone_by form [] fit = tt
 alone_by form (s ∷ segments) fit = fit
 
@@ -109,33 +109,33 @@ module _ (form : LogForm) (generation : ℕ) (bytes : List ℕ) (older : Option 
 
 -- the header of an open segment stands before its end
 end_least : (form : LogForm) (before : List LogRecord) (generation end : ℕ) (records : List LogRecord) (bytes : List ℕ) → IsAt form before generation end records bytes → 16 ≤ end
-unfolding opened
+unfolding open_segment_bytes
 end_least form before generation end records bytes at = omega (arith, ap length at.front, length-take end bytes, at.long)
 
-room_by : (form : LogForm) (newest : Option Segment) (first second : List ℕ) (segments : List SegmentRead) → GoesOnBy form newest first second segments → room_in newest ≤ 67108848
+room_by : (form : LogForm) (newest : Option Segment) (first second : List ℕ) (segments : List SegmentRead) → LogGoesOnBy form newest first second segments → room_in newest ≤ 67108848
 room_by form None first second segments on = omega arith
 room_by form (Some s) first second segments on =
-    (let e = end_least form (before_of on.older) s.generation s.end on.records (bytes_at s.in_second first second) on.at in omega arith)
+    (let e = end_least form (before_of on.older) s.generation s.end on.records (side_bytes s.in_second first second) on.at in omega arith)
 
 -- an empty segment has the most room
-pub room_most : {D : Type 0} (d : Ghosts D) (form : LogForm) (log : GateLog) (disk : D) (segments : List SegmentRead) → IsSettled d form log disk segments → room_of log ≤ 67108848
+pub room_most : {D : Type 0} (d : Ghosts D) (form : LogForm) (log : GateLog) (disk : D) (segments : List SegmentRead) → IsLogSettled d form log disk segments → room_of_log log ≤ 67108848
 room_most d form log disk segments settled = room_by form log.newest (d.seen disk log.first) (d.seen disk log.second) segments settled.state.goes_on
 
 -- without an open segment there is no record
-pub none_before : (form : LogForm) (newest : Option Segment) (first second : List ℕ) (segments : List SegmentRead) → newest ≡ None → GoesOnBy form newest first second segments → records_of (older_of segments) ≡ []
+pub none_before : (form : LogForm) (newest : Option Segment) (first second : List ℕ) (segments : List SegmentRead) → newest ≡ None → LogGoesOnBy form newest first second segments → records_of (older_of segments) ≡ []
 none_before form None first second segments none on = ap (λ (l : List SegmentRead). records_of (older_of l)) on.2
 none_before form (Some s) first second segments none on = absurd cc
 
-before_listed : (older : Option SegmentRead) (r : SegmentRead) → records_of (older_of (listed older ++ r ∷ [])) ≡ before_of older
+before_listed : (older : Option SegmentRead) (r : SegmentRead) → records_of (older_of (segment_list older ++ r ∷ [])) ≡ before_of older
 before_listed None r = refl
 before_listed (Some o) r = append-nil o.records
 
 -- the records before those of the newest segment are the older's, which is in the other file
-pub older_in : {D : Type 0} (d : Ghosts D) (form : LogForm) (log : GateLog) (disk : D) (segments : List SegmentRead) (s : Segment) → log.newest ≡ Some s → IsSettled d form log disk segments
+pub older_in : {D : Type 0} (d : Ghosts D) (form : LogForm) (log : GateLog) (disk : D) (segments : List SegmentRead) (s : Segment) → log.newest ≡ Some s → IsLogSettled d form log disk segments
     → (older : Option SegmentRead) × (IsOlder form s.generation (d.seen disk (file_at log (not s.in_second))) older × (before_of older ≡ records_of (older_of segments)))
 older_in d form log disk segments s is settled =
-    let on : GoesOn form s (bytes_at s.in_second (d.seen disk log.first) (d.seen disk log.second)) (bytes_at (not s.in_second) (d.seen disk log.first) (d.seen disk log.second)) segments =
-    subst (λ (n : Option Segment). GoesOnBy form n (d.seen disk log.first) (d.seen disk log.second) segments) is settled.state.goes_on in
+    let on : GoesOn form s (side_bytes s.in_second (d.seen disk log.first) (d.seen disk log.second)) (side_bytes (not s.in_second) (d.seen disk log.first) (d.seen disk log.second)) segments =
+    subst (λ (n : Option Segment). LogGoesOnBy form n (d.seen disk log.first) (d.seen disk log.second) segments) is settled.state.goes_on in
     let r : SegmentRead = record { generation = s.generation; records = on.records } in (
       on.older,
       (
@@ -149,7 +149,7 @@ counts_alone form generation bytes older alone (inl w) = ap before_of w.1
 counts_alone form generation bytes older alone (inr w) = ap before_of (subst (λ (b : Bool). OlderCounts b form w.0 bytes older) alone w.3)
 
 -- where the newest alone counts, none come before it
-pub alone_before : {D : Type 0} (d : Ghosts D) (form : LogForm) (log : GateLog) (disk : D) (segments : List SegmentRead) (s : Segment) → log.newest ≡ Some s → form.both ≡ false → IsSettled d form log disk segments → records_of (older_of segments) ≡ []
+pub alone_before : {D : Type 0} (d : Ghosts D) (form : LogForm) (log : GateLog) (disk : D) (segments : List SegmentRead) (s : Segment) → log.newest ≡ Some s → form.both ≡ false → IsLogSettled d form log disk segments → records_of (older_of segments) ≡ []
 alone_before d form log disk segments s is alone settled =
     let o = older_in d form log disk segments s is settled in
     sym o.1.1 ∙ counts_alone form s.generation (d.seen disk (file_at log (not s.in_second))) o.0 alone o.1.0

@@ -5,7 +5,7 @@ use Rattle.std.specs.Int.{w32, to_be_bytes, from_be_bytes}
 use Rattle.std.proofs.lemmas.Bool.{cases_eq, cases_lt}
 use Rattle.std.proofs.lemmas.List.{append-nil, length-append, length-take-le, length-drop, take-append-drop, drop-drop}
 use Rattle.std.proofs.lemmas.Nat.{be_bytes_4}
-use Rattle.px_gatelog.specs.Format.{AreRight, LogForm, LogRecord, body_len, can_end, record_bytes, record_in, records_at, spelled, with_first}
+use Rattle.px_gatelog.specs.Format.{AreRightRecords, LogForm, LogRecord, body_len, can_end, record_bytes, record_in, records_at, records_bytes, with_first}
 use Rattle.px_gatelog.specs.Reading.{IsRecordReading, IsWrongGate}
 use Rattle.px_gatelog.proofs.Spelled.{records_closed, records_first, records_missed, records_short, records_spelled, records_wrong}
 
@@ -19,17 +19,17 @@ with_front-err [] place = refl
 with_front-err (r ∷ records) place = ap (with_first r) (with_front-err records place)
 
 -- right records, and what is read behind them
-read_front : (form : LogForm) (before : List LogRecord) (at : ℕ) (records : List LogRecord) (gate : ℕ) (rest : List ℕ) → AreRight form before records
-    → records_at form before at 0 (spelled records ++ gate ∷ rest) ≡ with_front records (records_at form (before ++ records) (at + length (spelled records)) 0 (gate ∷ rest))
+read_front : (form : LogForm) (before : List LogRecord) (at : ℕ) (records : List LogRecord) (gate : ℕ) (rest : List ℕ) → AreRightRecords form before records
+    → records_at form before at 0 (records_bytes records ++ gate ∷ rest) ≡ with_front records (records_at form (before ++ records) (at + length (records_bytes records)) 0 (gate ∷ rest))
 read_front form before at [] gate rest right =
     ap (λ (l : List LogRecord). records_at form l at 0 (gate ∷ rest)) (sym (append-nil before)) ∙ ap (λ (k : ℕ). records_at form (before ++ []) k 0 (gate ∷ rest)) (omega arith)
 read_front form before at (r ∷ records) gate rest right =
-    let tail = spelled records ++ gate ∷ rest in
-    ap (λ (l : List ℕ). records_at form before at 0 (1 ∷ l)) (append_assoc (record_bytes r) (spelled records) (gate ∷ rest))
-    ∙ records_first form before at r tail right.0 right.1 (omega (arith, length-append (spelled records) (gate ∷ rest)))
+    let tail = records_bytes records ++ gate ∷ rest in
+    ap (λ (l : List ℕ). records_at form before at 0 (1 ∷ l)) (append_assoc (record_bytes r) (records_bytes records) (gate ∷ rest))
+    ∙ records_first form before at r tail right.0 right.1 (omega (arith, length-append (records_bytes records) (gate ∷ rest)))
     ∙ ap (with_first r) (read_front form (before ++ r ∷ []) (at + 6 + length r.body) records gate rest right.2
-    ∙ ap (λ (l : List LogRecord). with_front records (records_at form l (at + 6 + length r.body + length (spelled records)) 0 (gate ∷ rest))) (append_assoc before (r ∷ []) records)
-    ∙ ap (λ (k : ℕ). with_front records (records_at form (before ++ r ∷ records) k 0 (gate ∷ rest))) (omega (arith, length-append r.body (spelled records))))
+    ∙ ap (λ (l : List LogRecord). with_front records (records_at form l (at + 6 + length r.body + length (records_bytes records)) 0 (gate ∷ rest))) (append_assoc before (r ∷ []) records)
+    ∙ ap (λ (k : ℕ). with_front records (records_at form (before ++ r ∷ records) k 0 (gate ∷ rest))) (omega (arith, length-append r.body (records_bytes records))))
 
 wrong_gate : (form : LogForm) (before : List LogRecord) (at gate : ℕ) (rest : List ℕ) (place : ℕ) → IsWrongGate form before at gate rest place → records_at form before at 0 (gate ∷ rest) ≡ Err place
 wrong_gate form before at gate rest place (inl missed) = records_missed form before at gate rest missed.0 missed.1 ∙ ap (λ (p : ℕ). Err p) (sym missed.2)
@@ -48,7 +48,7 @@ reading_is form before at bytes (Ok records) are = ap (records_at form before at
 reading_is form before at bytes (Err place) (inl none) = ap (records_at form before at 0) none.0 ∙ nothing_read form before at ∙ ap (λ (p : ℕ). Err p) (sym none.1)
 reading_is form before at bytes (Err place) (inr w) =
     ap (records_at form before at 0) w.spells ∙ read_front form before at w.records w.gate w.rest w.right
-    ∙ ap (with_front w.records) (wrong_gate form (before ++ w.records) (at + length (spelled w.records)) w.gate w.rest place w.wrong) ∙ with_front-err w.records place
+    ∙ ap (with_front w.records) (wrong_gate form (before ++ w.records) (at + length (records_bytes w.records)) w.gate w.rest place w.wrong) ∙ with_front-err w.records place
 
 pub one_reading : (form : LogForm) (before : List LogRecord) (at : ℕ) (bytes : List ℕ) (a b : Result (List LogRecord) ℕ) → IsRecordReading form before at bytes a → IsRecordReading form before at bytes b → a ≡ b
 one_reading form before at bytes a b one two = sym (reading_is form before at bytes a one) ∙ reading_is form before at bytes b two
@@ -62,7 +62,7 @@ behind_first form before at r tail (Ok records) right short some are = record {
   gate = are.gate;
   rest = are.rest;
   closed = are.closed;
-  spells = ap (λ (l : List ℕ). 1 ∷ record_bytes r ++ l) are.spells ∙ ap (λ (l : List ℕ). 1 ∷ l) (sym (append_assoc (record_bytes r) (spelled records) (are.gate ∷ are.rest)));
+  spells = ap (λ (l : List ℕ). 1 ∷ record_bytes r ++ l) are.spells ∙ ap (λ (l : List ℕ). 1 ∷ l) (sym (append_assoc (record_bytes r) (records_bytes records) (are.gate ∷ are.rest)));
   fit = ((right, short, are.fit.0), ap (can_end form.empty) (sym (append_assoc before (r ∷ []) records)) ∙ are.fit.1);
 }
 behind_first form before at r tail (Err place) right short some (inl none) = absurd (omega (arith, some, ap length none.0))
@@ -70,11 +70,11 @@ behind_first form before at r tail (Err place) right short some (inr w) = inr (r
   records = r ∷ w.records;
   gate = w.gate;
   rest = w.rest;
-  spells = ap (λ (l : List ℕ). 1 ∷ record_bytes r ++ l) w.spells ∙ ap (λ (l : List ℕ). 1 ∷ l) (sym (append_assoc (record_bytes r) (spelled w.records) (w.gate ∷ w.rest)));
+  spells = ap (λ (l : List ℕ). 1 ∷ record_bytes r ++ l) w.spells ∙ ap (λ (l : List ℕ). 1 ∷ l) (sym (append_assoc (record_bytes r) (records_bytes w.records) (w.gate ∷ w.rest)));
   right = (right, short, w.right);
   wrong =
-      subst (λ (l : List LogRecord). IsWrongGate form l (at + length (spelled (r ∷ w.records))) w.gate w.rest place) (append_assoc before (r ∷ []) w.records)
-      (subst (λ (k : ℕ). IsWrongGate form ((before ++ r ∷ []) ++ w.records) k w.gate w.rest place) (omega (arith, length-append r.body (spelled w.records))) w.wrong);
+      subst (λ (l : List LogRecord). IsWrongGate form l (at + length (records_bytes (r ∷ w.records))) w.gate w.rest place) (append_assoc before (r ∷ []) w.records)
+      (subst (λ (k : ℕ). IsWrongGate form ((before ++ r ∷ []) ++ w.records) k w.gate w.rest place) (omega (arith, length-append r.body (records_bytes w.records))) w.wrong);
 })
 
 all_small : (bytes : List ℕ) → AllByRecursion (λ (b : ℕ). b < 256) bytes → (i : ℕ) → get_or bytes i 0 < 256

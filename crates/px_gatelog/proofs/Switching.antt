@@ -1,12 +1,12 @@
 -- The records of a log while its next segment is made without a record, where those of both segments count.
 use Rattle.std.proofs.Common.{◌≡◌, ◌⊎◌, inl, inr, ℕ, ◌+◌, Bool, true, false, cond, arith, List, [], ◌∷◌, ◌++◌, Option, Some, None, Ok, refl, sym, ap, ◌∙◌}
-use Rattle.px_outside.specs.Disk.{Image, LeavesOnly}
+use Rattle.px_outside.specs.Disk.{Image, LeavesOnlyBy}
 use Rattle.px_outside.specs.declared.disk.Disk.{Ghosts}
 use Rattle.px_gatelog.specs.declared.gate_log.GateLog.{GateLog}
-use Rattle.px_gatelog.specs.Format.{AllFit, LogForm, LogRecord, SegmentRead, can_end, newest_of, older_of, records_of, segments_of}
-use Rattle.px_gatelog.specs.GateLog.{IsLaid, IsSameLog, MayStep, StandsFor, after_by, after_step, before_next, may_by, newest_generation, next_shut, steps_by, steps_left}
+use Rattle.px_gatelog.specs.Format.{AllRecordsFit, LogForm, LogRecord, SegmentRead, can_end, newest_of, older_of, records_of, segments_of}
+use Rattle.px_gatelog.specs.GateLog.{IsLaid, IsSameLog, LogStandsFor, MayStep, after_by, after_step, before_next, may_by, newest_generation, next_shut, steps_by, steps_left}
 use Rattle.px_gatelog.specs.Records.{HasRecords, RecordsStand}
-use Rattle.px_gatelog.specs.Steps.{Commits, IsRollStep, Reaches}
+use Rattle.px_gatelog.specs.Steps.{Commits, IsRollStep, LogReaches}
 use Rattle.px_gatelog.proofs.Older.{alone_by, newest_fits, older_behind, older_none, records_behind, records_cut}
 
 none_first : (a b : List LogRecord) → a ++ b ≡ [] → a ≡ []
@@ -19,14 +19,14 @@ older_empty segments none = none_first (records_of (older_of segments)) (records
 
 module _ {D : Type 0} (d : Ghosts D) (form : LogForm) (first second : ℕ) (old : D) (log : GateLog) (records : List LogRecord) (has : HasRecords d form first second old log records) (empty : form.empty ≡ true) where
   -- the records of the newest segment fit behind those of the older one
-  pub newest_fit : AllFit form (records_of (older_of has.segments)) (records_of (newest_of has.segments))
+  pub newest_fit : AllRecordsFit form (records_of (older_of has.segments)) (records_of (newest_of has.segments))
   newest_fit = newest_fits form empty log.newest (d.seen old log.first) (d.seen old log.second) has.segments has.settled.state.goes_on
 
   -- and are all that stand behind those
   pub newest_are : records ≡ records_of (older_of has.segments) ++ records_of (newest_of has.segments)
   newest_are = sym has.records_are ∙ records_cut has.segments
 
-  module _ (both : form.both ≡ true) (fit : AllFit form [] (records_of (newest_of has.segments))) where
+  module _ (both : form.both ≡ true) (fit : AllRecordsFit form [] (records_of (newest_of has.segments))) where
     may_be : (laid : Option ℕ) (shut : Bool) → may_by laid shut form has.segments []
     may_be (Some end) shut = (tt, ap (λ (b : Bool). can_end b (before_next form has.segments ++ [])) empty)
     may_be None true = tt
@@ -53,13 +53,13 @@ module _ {D : Type 0} (d : Ghosts D) (form : LogForm) (first second : ℕ) (old 
       | inr w ↦ elim w.1 [ inl kept ↦ inl (ap records_of kept ∙ has.records_are) | inr alone ↦ inr (ap records_of alone) ]
     ]
 
-    in_files : (image : Image) (segments : List SegmentRead) → StandsFor form log image segments → segments_of form (image first) (image second) ≡ Ok segments
+    in_files : (image : Image) (segments : List SegmentRead) → LogStandsFor form log image segments → segments_of form (image first) (image second) ≡ Ok segments
     in_files image segments stands =
         ap (λ (f : ℕ). segments_of form (image f) (image second)) (sym has.first_is) ∙ (ap (λ (f : ℕ). segments_of form (image log.first) (image f)) (sym has.second_is) ∙ stands)
 
     -- at each moment a stop leaves the same records, or those of the newest segment alone
     pub switched_leaves : (new : D) → Commits d log old new (IsRollStep d log old)
-        → LeavesOnly d.calls d.left old new (λ moment image. RecordsStand form first second image records ⊎ RecordsStand form first second image (records_of (newest_of has.segments)))
+        → LeavesOnlyBy d.calls d.left old new (λ moment image. RecordsStand form first second image records ⊎ RecordsStand form first second image (records_of (newest_of has.segments)))
     switched_leaves new commits = record {
       each = λ moment image since is. elim ((commits form has.segments (after_step form log has.segments []) has.settled ([], may, has.laid, refl)).each moment image since is) [
         | inl stands ↦ inl (has.segments, in_files image has.segments stands, has.records_are)
@@ -70,7 +70,7 @@ module _ {D : Type 0} (d : Ghosts D) (form : LogForm) (first second : ℕ) (old 
       ];
     }
 
-    module _ (new : D) (log' : GateLog) (reaches : Reaches d log log' old new (IsRollStep d log old)) (same : IsSameLog log log') (laid : steps_left log' ≡ 1 → IsLaid d log' new []) where
+    module _ (new : D) (log' : GateLog) (reaches : LogReaches d log log' old new (IsRollStep d log old)) (same : IsSameLog log log') (laid : steps_left log' ≡ 1 → IsLaid d log' new []) where
       by : (segments : List SegmentRead) (rs : List LogRecord) → after_step form log has.segments [] ≡ segments → records_of segments ≡ rs → (l : HasRecords d form first second new log' rs) × (l.segments ≡ segments)
       by segments rs is are = (
         record {

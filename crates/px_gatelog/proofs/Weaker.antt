@@ -5,9 +5,9 @@ use Rattle.std.proofs.lemmas.Bool.{false≢true}
 use Rattle.px_outside.specs.declared.disk.Disk.{Ghosts}
 use Rattle.px_gatelog.specs.declared.segment.Segment.{Segment}
 use Rattle.px_gatelog.specs.declared.gate_log.GateLog.{GateLog}
-use Rattle.px_gatelog.specs.Format.{AllFit, AreRight, LogForm, LogRecord, SegmentRead, body_len, can_end, no_more, or_wrong, record_in, records_at, with_first}
+use Rattle.px_gatelog.specs.Format.{AllRecordsFit, AreRightRecords, LogForm, LogRecord, SegmentRead, body_len, can_end, no_more, or_wrong, record_in, records_at, with_first}
 use Rattle.px_gatelog.specs.Segment.{IsAt}
-use Rattle.px_gatelog.specs.GateLog.{GoesOnBy, IsOlder, IsSettled, OlderCounts, before_of}
+use Rattle.px_gatelog.specs.GateLog.{IsLogSettled, IsOlder, LogGoesOnBy, OlderCounts, before_of}
 use Rattle.px_gatelog.specs.Weaker.{IsWeaker}
 
 with_first_ok : (r : LogRecord) (more : Result (List LogRecord) ℕ) (records : List LogRecord) → with_first r more ≡ Ok records → (rest : List LogRecord) × ((more ≡ Ok rest) × (records ≡ r ∷ rest))
@@ -47,11 +47,11 @@ module _ (form less : LogForm) (weaker : IsWeaker form less) where
       (weaker.wrong before (record_in rest)) (λ more ok. records_weaker (before ++ record_in rest ∷ []) (at + 6 + body_len rest) (5 + body_len rest) rest more ok)
       (ends form.empty less.empty weaker.empty before) is
 
-  right_weaker : (before records : List LogRecord) → AreRight form before records → AreRight less before records
+  right_weaker : (before records : List LogRecord) → AreRightRecords form before records → AreRightRecords less before records
   right_weaker before [] right = tt
   right_weaker before (r ∷ records) right = (weaker.wrong before r right.0, right.1, right_weaker (before ++ r ∷ []) records right.2)
 
-  pub fit_weaker : (before records : List LogRecord) → AllFit form before records → AllFit less before records
+  pub fit_weaker : (before records : List LogRecord) → AllRecordsFit form before records → AllRecordsFit less before records
   fit_weaker before records fit = (right_weaker before records fit.0, ends form.empty less.empty weaker.empty (before ++ records) fit.1)
 
   at_weaker : (before : List LogRecord) (generation end : ℕ) (records : List LogRecord) (bytes : List ℕ) → IsAt form before generation end records bytes → IsAt less before generation end records bytes
@@ -65,7 +65,7 @@ module _ (form less : LogForm) (weaker : IsWeaker form less) where
   older_weaker generation bytes older (inl alone) = inl alone
   older_weaker generation bytes older (inr w) = inr (w.0, w.1, w.2, subst (λ (b : Bool). OlderCounts b less w.0 bytes older) weaker.both (counts_weaker form.both w.0 bytes older w.3))
 
-  goes_weaker : (newest : Option Segment) (first second : List ℕ) (segments : List SegmentRead) → GoesOnBy form newest first second segments → GoesOnBy less newest first second segments
+  goes_weaker : (newest : Option Segment) (first second : List ℕ) (segments : List SegmentRead) → LogGoesOnBy form newest first second segments → LogGoesOnBy less newest first second segments
   goes_weaker None first second segments on = on
   goes_weaker (Some s) first second segments on = record {
     older = on.older;
@@ -75,7 +75,7 @@ module _ (form less : LogForm) (weaker : IsWeaker form less) where
     behind = older_weaker s.generation _ on.older on.behind;
   }
 
-  pub settled_weaker : {D : Type 0} (d : Ghosts D) (log : GateLog) (disk : D) (segments : List SegmentRead) → IsSettled d form log disk segments → IsSettled d less log disk segments
+  pub settled_weaker : {D : Type 0} (d : Ghosts D) (log : GateLog) (disk : D) (segments : List SegmentRead) → IsLogSettled d form log disk segments → IsLogSettled d less log disk segments
   settled_weaker {D} d log disk segments settled = record {
     told = settled.told;
     first_durable = settled.first_durable;

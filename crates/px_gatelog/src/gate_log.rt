@@ -27,31 +27,31 @@ pub struct GateLog {
 
 impl GateLog {
     ghost use Rattle.px_gatelog.specs.Framed.{record_of};
-    ghost use Rattle.px_gatelog.specs.GateLog.{IsLaid, IsSameLog, file_at, is_newest_file, is_open, room_of, steps_left};
-    ghost use Rattle.px_gatelog.specs.Records.{IsFresh};
+    ghost use Rattle.px_gatelog.specs.GateLog.{IsLaid, IsSameLog, file_at, is_log_open, is_newest_file, room_of_log, steps_left};
+    ghost use Rattle.px_gatelog.specs.Records.{IsNeverWritten};
     ghost use Rattle.px_gatelog.specs.Start.{IsStart};
-    ghost use Rattle.px_gatelog.specs.Steps.{Commits, IsAppend, Reaches};
+    ghost use Rattle.px_gatelog.specs.Steps.{Commits, IsAppend, LogReaches};
 
     /// Adds a record to the newest segment. After `Ok` it is there. A stop in the call leaves it whole or not at all.
     /// It takes no memory.
     pub fn append<D: Disk>(&mut self, disk: &mut D, frame: &Frame) -> Result<(), AppendFault>
-        requires open { is_open self.old }
+        requires open { is_log_open self.old }
 
-        ensures done { OnOk result (Reaches ⟦<D as Disk>⟧ self.old self.new disk.old disk.new (IsAppend (record_of frame.now))) }
+        ensures done { OnOk result (LogReaches ⟦<D as Disk>⟧ self.old self.new disk.old disk.new (IsAppend (record_of frame.now))) }
 
         // At each moment of the call a stop leaves the log without the record, or with it.
         ensures any_moment { Commits ⟦<D as Disk>⟧ self.old disk.old disk.new (IsAppend (record_of frame.now)) }
 
         // The record passes the segment's size, and then no call is made.
-        ensures full { (result ≡ Err AppendFault.Full) ↔ (room_of self.old < 7 + length frame.now.body) }
+        ensures full { (result ≡ Err AppendFault.Full) ↔ (room_of_log self.old < 7 + length frame.now.body) }
         ensures untouched { result ≡ Err AppendFault.Full → (disk.new ≡ disk.old) × (self.new ≡ self.old) }
-        ensures room { OnOk result (room_of self.new + (6 + length frame.now.body) ≡ room_of self.old) }
+        ensures room { OnOk result (room_of_log self.new + (6 + length frame.now.body) ≡ room_of_log self.old) }
         ensures failed { result ≡ Err AppendFault.WriteFault → Rose ⟦<D as Disk>⟧ disk.old disk.new }
         ensures unfailed { OnOk result (D.faults disk.new ≡ D.faults disk.old) }
         ensures touches { TouchesOnly ⟦<D as Disk>⟧ disk.old disk.new (is_newest_file self.old) }
         ensures counts { Passes ⟦<D as Disk>⟧ disk.old disk.new 4 }
         ensures same { IsSameLog self.old self.new }
-        ensures open { is_open self.new }
+        ensures open { is_log_open self.new }
 
         // A next segment that is laid out stays so.
         ensures laid { (records : List LogRecord) → IsLaid ⟦<D as Disk>⟧ self.old disk.old records → IsLaid ⟦<D as Disk>⟧ self.new disk.new records }
@@ -86,7 +86,7 @@ impl GateLog {
     /// The log in two files that were never written. It makes no call.
     pub fn fresh(first: u64, second: u64) -> GateLog
         requires distinct { first ≢ second }
-        ensures fresh { IsFresh result first second }
+        ensures fresh { IsNeverWritten result first second }
     {
         GateLog {
             first,
@@ -100,7 +100,7 @@ impl GateLog {
 
     /// Whether the log has an open segment.
     pub fn is_open(&self) -> bool
-        ensures { IsTrue result ↔ is_open self.now }
+        ensures { IsTrue result ↔ is_log_open self.now }
     {
         self.newest.is_some()
     }
@@ -109,7 +109,7 @@ impl GateLog {
     /// none.
     pub fn has_room(&self, body: u64) -> bool
         requires short { body < 2 ^ 32 }
-        ensures { IsTrue result ↔ (7 + body ≤ room_of self.now) }
+        ensures { IsTrue result ↔ (7 + body ≤ room_of_log self.now) }
     {
         match self.newest {
             None => false,

@@ -41,7 +41,7 @@ fn take_open<R: LogReader>(
 }
 
 impl GateLog {
-    ghost use Rattle.px_gatelog.specs.GateLog.{IsSettled};
+    ghost use Rattle.px_gatelog.specs.GateLog.{IsLogSettled};
 
     /// Takes again the records that come before those of the newest segment. The log is on the disk, so nothing is brought
     /// to it: one file is read, by two calls. It isn't Damaged while the disk tells that the log is as it was written.
@@ -51,8 +51,8 @@ impl GateLog {
         disk: &mut D,
         reader: &mut R,
     ) -> Result<(), StartFault>
-        ensures taken { (segments : List SegmentRead) → R.has_read reader.old [] → IsSettled ⟦<D as Disk>⟧ (R.form reader.old) self.now disk.old segments → OnOk result (R.has_read reader.new (records_of (older_of segments))) }
-        ensures sound { (segments : List SegmentRead) → R.has_read reader.old [] → IsSettled ⟦<D as Disk>⟧ (R.form reader.old) self.now disk.old segments → (file place : ℕ) → result ≢ Err (StartFault.Damaged file place) }
+        ensures taken { (segments : List SegmentRead) → R.has_read reader.old [] → IsLogSettled ⟦<D as Disk>⟧ (R.form reader.old) self.now disk.old segments → OnOk result (R.has_read reader.new (records_of (older_of segments))) }
+        ensures sound { (segments : List SegmentRead) → R.has_read reader.old [] → IsLogSettled ⟦<D as Disk>⟧ (R.form reader.old) self.now disk.old segments → (file place : ℕ) → result ≢ Err (StartFault.Damaged file place) }
 
         // A stop in the call leaves nothing new.
         ensures quiet { Stays ⟦<D as Disk>⟧ disk.old disk.new }

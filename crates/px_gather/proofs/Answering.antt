@@ -8,7 +8,7 @@ use Rattle.px_values.specs.declared.row.Value.{Value}
 use Rattle.px_values.specs.declared.row.Value.TheVariants.{Text}
 use Rattle.px_tables.specs.declared.found.Found.{Found}
 use Rattle.px_trail.specs.declared.entry.Entry.{Entry}
-use Rattle.px_trail.specs.Answers.{AreInOrder, Given, IsCut, IsGiven, IsWithin}
+use Rattle.px_trail.specs.Answers.{AreInOrder, Given, IsCutByLimit, IsRowGiven, IsWithinLimit}
 use Rattle.px_trail.specs.Batches.{IsDecided}
 use Rattle.px_trail.specs.Legal.{IsLegal}
 use Rattle.px_trail.specs.States.{key_in, state_now, state_of}
@@ -20,8 +20,8 @@ use Rattle.px_calls.specs.declared.query.Point.{Point}
 use Rattle.px_calls.specs.Causes.{stamp_at}
 use Rattle.px_calls.specs.Looks.{IsRowAt, key_less}
 use Rattle.px_calls.proofs.Keys.{asymmetric, irreflexive}
-use Rattle.px_gather.specs.Answers.{IsAnswerBy, IsCurrentOf, IsExactOf, IsPointOf}
-use Rattle.px_gather.specs.Gathered.{AreRisingRows, Ended, Frame, Stood, is_within, opened_at, row_key}
+use Rattle.px_gather.specs.Answers.{IsAnswerBy, IsCurrentOf, IsExactOf, IsPointOfQuery}
+use Rattle.px_gather.specs.Gathered.{AreRisingRows, Ended, Frame, Stood, frame_key, is_within, opened_at}
 use Rattle.px_gather.specs.Query.{Query, asked}
 use Rattle.px_gather.proofs.Gathering.{same_length}
 use Rattle.px_gather.proofs.Shapes.{shape-of-table}
@@ -35,27 +35,27 @@ differ a b h same = let i = irreflexive a in let j : key_less a a ≡ true = sub
 in_order : (f : Frame) (xs : List Given) → AreRisingRows f xs → AreInOrder (asked f.query f.point.found f.path.by) xs
 unfolding AreRisingRows AreInOrder
 in_order f [] h = tt
-in_order f (x ∷ xs) h = ((λ y among. (asymmetric (row_key f x.row) (row_key f y.row) (h.0 y among), differ (row_key f x.row) (row_key f y.row) (h.0 y among))), in_order f xs h.1)
+in_order f (x ∷ xs) h = ((λ y among. (asymmetric (frame_key f x.row) (frame_key f y.row) (h.0 y among), differ (frame_key f x.row) (frame_key f y.row) (h.0 y among))), in_order f xs h.1)
 
-within_is : (limit : Option ℕ) (n : ℕ) → is_within limit n ≡ true → IsWithin limit n
+within_is : (limit : Option ℕ) (n : ℕ) → is_within limit n ≡ true → IsWithinLimit limit n
 within_is None n h = tt
 within_is (Some l) n h = grind (arith, nat_tests)
 
-limited : (f : Frame) (es : List Entry) (rows : List Given) → (h : Ended f es rows) → IsWithin f.query.limit (length h.gathered.given)
+limited : (f : Frame) (es : List Entry) (rows : List Given) → (h : Ended f es rows) → IsWithinLimit f.query.limit (length h.gathered.given)
 limited f es rows h =
     let e = same_length f.query rows h.gathered.given h.gathered.same in
     within_is f.query.limit (length h.gathered.given) (ap (is_within f.query.limit) (sym e) ∙ h.gathered.within)
 
 -- a row that stood and meets the condition is given, or comes after LIMIT rows
 ended_whole : (f : Frame) (es : List Entry) (rows : List Given) → (h : Ended f es rows) → (row : List Value) → Stood f es row → f.query.meets row ≡ true
-    → IsGiven (asked f.query f.point.found f.path.by) h.gathered.given row ⊎ IsCut (asked f.query f.point.found f.path.by) h.gathered.given row
-ended_whole f es rows h row stood met = elim (h.complete (row_key f row)) [
-  | inl done ↦ (let r = h.gathered.collected.whole row stood met done in inl (record { given = r.given; among = r.among; same = ap (λ (k : List ℕ). Text k ∷ f.query.named r.given.row) r.key ∙ ap (λ (l : List Value). Text (row_key f row) ∷ l) r.same }))
+    → IsRowGiven (asked f.query f.point.found f.path.by) h.gathered.given row ⊎ IsCutByLimit (asked f.query f.point.found f.path.by) h.gathered.given row
+ended_whole f es rows h row stood met = elim (h.complete (frame_key f row)) [
+  | inl done ↦ (let r = h.gathered.collected.whole row stood met done in inl (record { given = r.given; among = r.among; same = ap (λ (k : List ℕ). Text k ∷ f.query.named r.given.row) r.key ∙ ap (λ (l : List Value). Text (frame_key f row) ∷ l) r.same }))
   | inr cut ↦ inr (record {
     limit = length h.gathered.given;
     is = cut.full;
     full = omega arith;
-    behind = λ x among. asymmetric (row_key f x.row) (row_key f row) (cut.before x among);
+    behind = λ x among. asymmetric (frame_key f x.row) (frame_key f row) (cut.before x among);
   })
 ]
 
@@ -160,7 +160,7 @@ exact f es rows is table shape fixed h = record {
 }
 
 -- what the point's own words make of the trail
-pub point-fixed : (b : Base) (es : List Entry) (q : Query) (scn : Option ℕ) (p : Point) → IsPointOf b es q scn p → IsLegal b es → p.scn ≡ true → IsFixed b es q.table p.stamp p.found.at
+pub point-fixed : (b : Base) (es : List Entry) (q : Query) (scn : Option ℕ) (p : Point) → IsPointOfQuery b es q scn p → IsLegal b es → p.scn ≡ true → IsFixed b es q.table p.stamp p.found.at
 point-fixed b es q scn p h legal is =
     let cut : take p.found.at es ++ drop p.found.at es ≡ es = take-append-drop p.found.at es in
     let number : p.found.table.id.0 ≡ q.table = ap (λ t. t.0) h.found_table ∙ h.table in
@@ -176,7 +176,7 @@ point-fixed b es q scn p h legal is =
     }
 
 -- and the table's shape
-pub point-shape : (b : Base) (es : List Entry) (q : Query) (scn : Option ℕ) (p : Point) → IsPointOf b es q scn p → IsLegal b es → shape_of b es q.table ≡ table_shape p.found.table
+pub point-shape : (b : Base) (es : List Entry) (q : Query) (scn : Option ℕ) (p : Point) → IsPointOfQuery b es q scn p → IsLegal b es → shape_of b es q.table ≡ table_shape p.found.table
 point-shape b es q scn p h legal =
     let cut : take p.found.at es ++ drop p.found.at es ≡ es = take-append-drop p.found.at es in
     let number : p.found.table.id.0 ≡ q.table = ap (λ t. t.0) h.found_table ∙ h.table in
@@ -190,7 +190,7 @@ point-shape b es q scn p h legal =
 -- 4. Whole answers
 
 -- what was gathered at its end is the answer
-pub answer-is : (f : Frame) (es : List Entry) (scn : Option ℕ) (first last : ℕ) (rows : List Given) → IsPointOf f.base es f.query scn f.point → IsLegal f.base es → Ended f es rows → first ≡ opened_at f → last ≡ length es → IsAnswerBy f.base es f.query scn f.point.found f.path.by first last rows
+pub answer-is : (f : Frame) (es : List Entry) (scn : Option ℕ) (first last : ℕ) (rows : List Given) → IsPointOfQuery f.base es f.query scn f.point → IsLegal f.base es → Ended f es rows → first ≡ opened_at f → last ≡ length es → IsAnswerBy f.base es f.query scn f.point.found f.path.by first last rows
 answer-is f es None first last rows h legal c begin end = subst (λ (n : ℕ). IsCurrentOf f.base es f.query f.point.found f.path.by n last rows) (sym begin) (current f es last rows h.is_scn h.table end c)
 answer-is f es (Some scn) first last rows h legal c begin end =
     let at : f.point.stamp ≡ stamp_at (Some scn) f.query.table f.base (take first es) = h.stamp ∙ ap (λ (n : ℕ). stamp_at (Some scn) f.query.table f.base (take n es)) (sym begin) in

@@ -20,11 +20,11 @@ use Rattle.px_calls.specs.declared.query.Point.{Point}
 use Rattle.px_tables.specs.declared.found.Found.{Found}
 use Rattle.px_calls.specs.Known.{Known}
 use Rattle.px_calls.specs.Calls.{Consulted}
-use Rattle.px_calls.specs.Looks.{IsRisingFrom, IsRowAt, IsShown, Shows, ShowsRows, found_by, is_covered, is_past, key_by, key_found, key_less, shown_by}
+use Rattle.px_calls.specs.Looks.{IsRisingFrom, IsRowAt, IsRowShown, Shows, ShowsRows, found_by, is_covered, is_past, key_by, key_found, key_less, shown_by}
 use Rattle.px_calls.specs.Requires.{FitsRow}
 use Rattle.px_calls.proofs.Keys.{asymmetric, irreflexive, not_past, transitive, up_to as chain_up_to}
 use Rattle.px_gather.specs.Query.{IsPathFor, Query}
-use Rattle.px_gather.specs.Gathered.{AreRisingRows, Collected, Ended, Frame, Gathered, HasRow, IsHeldAt, IsRightKey, IsRowAfter, Left, Pending, Stood, is_full, is_within, kept, kept_held, named_of, opened_at, row_key, up_to}
+use Rattle.px_gather.specs.Gathered.{AreRisingRows, Collected, Ended, Frame, Gathered, HasRow, IsHeldAt, IsRightKey, IsRowAfter, Left, Pending, Stood, frame_key, is_full, is_within, kept, kept_held, named_of, opened_at, up_to}
 
 -- 1. The trail grows
 
@@ -141,11 +141,11 @@ pub no : {A : Type 0} (y : A) → IsAmong y [] → ⊥
 unfolding IsAmong
 no y h = h
 
-rising-one : (f : Frame) (xs : List Given) (z : Given) → AreRisingRows f xs → ((x : Given) → IsAmong x xs → key_less (row_key f x.row) (row_key f z.row) ≡ true) → AreRisingRows f (xs ++ z ∷ [])
+rising-one : (f : Frame) (xs : List Given) (z : Given) → AreRisingRows f xs → ((x : Given) → IsAmong x xs → key_less (frame_key f x.row) (frame_key f z.row) ≡ true) → AreRisingRows f (xs ++ z ∷ [])
 unfolding AreRisingRows
 rising-one f [] z h below = ((λ y among. absurd (no y among)), tt)
 rising-one f (x ∷ xs) z h below = (
-  (λ y among. elim (among-app y xs (z ∷ []) among) [ inl l ↦ h.0 y l | inr r ↦ subst (λ (w : Given). key_less (row_key f x.row) (row_key f w.row) ≡ true) (among_one y z r) (below x (here x xs)) ]),
+  (λ y among. elim (among-app y xs (z ∷ []) among) [ inl l ↦ h.0 y l | inr r ↦ subst (λ (w : Given). key_less (frame_key f x.row) (frame_key f w.row) ≡ true) (among_one y z r) (below x (here x xs)) ]),
   rising-one f xs z h.1 (λ y among. below y (there y x xs among)),
 )
 
@@ -161,18 +161,18 @@ rising_past c (x ∷ fs) h g (inl same) = subst (λ (w : FoundKey). key_less c (
 rising_past c (x ∷ fs) h g (inr among) = transitive c (key_found x) (key_found g) h.0 (rising_past (key_found x) fs h.1 g among)
 
 -- one of the keys that show a row is its key
-shown_key : (fs : List FoundKey) (d : Found) (w : By) (row : List Value) → IsShown fs d w row → (g : FoundKey) × IsAmong g fs × (key_found g ≡ key_by d w row)
+shown_key : (fs : List FoundKey) (d : Found) (w : By) (row : List Value) → IsRowShown fs d w row → (g : FoundKey) × IsAmong g fs × (key_found g ≡ key_by d w row)
 shown_key fs d w row (inl a) = (Sure (found_by d w row), a, refl)
 shown_key fs d w row (inr z) = (InDoubt z.0, z.2, z.1)
 
-shown_split : (g : FoundKey) (fs : List FoundKey) (d : Found) (w : By) (row : List Value) → IsShown (g ∷ fs) d w row → IsShown (g ∷ []) d w row ⊎ IsShown fs d w row
+shown_split : (g : FoundKey) (fs : List FoundKey) (d : Found) (w : By) (row : List Value) → IsRowShown (g ∷ fs) d w row → IsRowShown (g ∷ []) d w row ⊎ IsRowShown fs d w row
 unfolding IsAmong
 shown_split g fs d w row (inl (inl same)) = inl (inl (inl same))
 shown_split g fs d w row (inl (inr a)) = inr (inl a)
 shown_split g fs d w row (inr (z, key, inl same)) = inl (inr (z, key, inl same))
 shown_split g fs d w row (inr (z, key, inr a)) = inr (inr (z, key, a))
 
-nothing_shown : (d : Found) (w : By) (row : List Value) → IsShown [] d w row → ⊥
+nothing_shown : (d : Found) (w : By) (row : List Value) → IsRowShown [] d w row → ⊥
 unfolding IsAmong
 nothing_shown d w row (inl h) = h
 nothing_shown d w row (inr z) = z.2
@@ -183,8 +183,8 @@ nothing_shown d w row (inr z) = z.2
 pub record TakenIs (f : Frame) (es : List Entry) (g : FoundKey) (taken : List Given) : Type 0 where
   pub one : (taken ≡ []) ⊎ ((x : Given) × (taken ≡ x ∷ []))
   pub held : (x : Given) → IsAmong x taken → IsHeldAt f es x
-  pub key : (x : Given) → IsAmong x taken → row_key f x.row ≡ key_found g
-  pub whole : (row : List Value) → Stood f es row → f.query.meets row ≡ true → IsShown (g ∷ []) f.point.found f.path.by row → HasRow f taken row
+  pub key : (x : Given) → IsAmong x taken → frame_key f x.row ≡ key_found g
+  pub whole : (row : List Value) → Stood f es row → f.query.meets row ≡ true → IsRowShown (g ∷ []) f.point.found f.path.by row → HasRow f taken row
 
 left_step : (f : Frame) (es : List Entry) (n : ℕ) (c : Option (List ℕ)) (g : FoundKey) (fs : List FoundKey) (next : Option (List ℕ)) → Left f es n c (g ∷ fs) next → Left f es n (Some (key_found g)) fs next
 left_step f es n c g fs next h =
@@ -198,8 +198,8 @@ left_step f es n c g fs next h =
       right = λ x among. h.right x (there x g fs among);
       fits = h.fits;
       whole = λ row at met past covered.
-          elim (shown_split g fs f.point.found f.path.by row (h.whole row at met (past_on c (key_found g) (row_key f row) head.0 past) covered)) [
-            | inl one ↦ (let z = shown_key (g ∷ []) f.point.found f.path.by row one in absurd (less_self (key_found g) (row_key f row) past (ap key_found (among_one z.0 g z.1) ∙ z.2)))
+          elim (shown_split g fs f.point.found f.path.by row (h.whole row at met (past_on c (key_found g) (frame_key f row) head.0 past) covered)) [
+            | inl one ↦ (let z = shown_key (g ∷ []) f.point.found f.path.by row one in absurd (less_self (key_found g) (frame_key f row) past (ap key_found (among_one z.0 g z.1) ∙ z.2)))
             | inr rest ↦ rest
           ];
     }
@@ -218,23 +218,23 @@ collected_step f es n c g fs next xs taken h j t =
     record {
       held = λ x among. elim (among-app x xs taken among) [ inl l ↦ j.held x l | inr r ↦ t.held x r ];
       passed = λ x among. elim (among-app x xs taken among) [
-        | inl l ↦ less_done (row_key f x.row) kf (done_before c (row_key f x.row) kf (j.passed x l) head.0)
+        | inl l ↦ less_done (frame_key f x.row) kf (done_before c (frame_key f x.row) kf (j.passed x l) head.0)
         | inr r ↦ subst (λ (k : List ℕ). up_to (Some kf) k ≡ true) (sym (t.key x r)) (same_done kf)
       ];
       rising = elim t.one [
         | inl none ↦ subst (λ (l : List Given). AreRisingRows f (xs ++ l)) (sym none) (subst (AreRisingRows f) (sym (append-nil xs)) j.rising)
         | inr one ↦ subst (λ (l : List Given). AreRisingRows f (xs ++ l)) (sym one.1)
             (rising-one f xs one.0 j.rising (λ x among.
-            let at : row_key f one.0.row ≡ kf = t.key one.0 (subst (λ (l : List Given). IsAmong one.0 l) (sym one.1) (here one.0 [])) in
-            subst (λ (k : List ℕ). key_less (row_key f x.row) k ≡ true) (sym at) (done_before c (row_key f x.row) kf (j.passed x among) head.0)))
+            let at : frame_key f one.0.row ≡ kf = t.key one.0 (subst (λ (l : List Given). IsAmong one.0 l) (sym one.1) (here one.0 [])) in
+            subst (λ (k : List ℕ). key_less (frame_key f x.row) k ≡ true) (sym at) (done_before c (frame_key f x.row) kf (j.passed x among) head.0)))
       ];
       whole = λ row stood met done.
-          elim (done_or_past c (row_key f row)) [
+          elim (done_or_past c (frame_key f row)) [
             | inl old ↦ has-left f xs taken row (j.whole row stood met old)
-            | inr past ↦ elim (shown_split g fs f.point.found f.path.by row (h.whole row (stood.all n h.from h.to) met past (covered_on next kf (row_key f row) (h.covered g (here g fs)) done))) [
+            | inr past ↦ elim (shown_split g fs f.point.found f.path.by row (h.whole row (stood.all n h.from h.to) met past (covered_on next kf (frame_key f row) (h.covered g (here g fs)) done))) [
               | inl one ↦ has-right f xs taken row (t.whole row stood met one)
               | inr rest ↦ (let z = shown_key fs f.point.found f.path.by row rest in
-                  absurd (no_less kf (row_key f row) done (subst (λ (k : List ℕ). key_less kf k ≡ true) z.2 (rising_past kf fs head.1 z.0 z.1))))
+                  absurd (no_less kf (frame_key f row) done (subst (λ (k : List ℕ). key_less kf k ≡ true) z.2 (rising_past kf fs head.1 z.0 z.1))))
             ]
           ];
       fits = λ k done row stood. h.fits row (stood.all n h.from h.to);
@@ -278,10 +278,10 @@ left_start f es after fs next from path h rows =
 collected_end : (f : Frame) (es : List Entry) (n : ℕ) (c : Option (List ℕ)) (next : Option (List ℕ)) (xs : List Given) → Left f es n c [] next → Collected f es (up_to c) xs → Collected f es (is_covered next) xs
 collected_end f es n c next xs h j = record {
   held = j.held;
-  passed = λ x among. h.before (row_key f x.row) (j.passed x among);
+  passed = λ x among. h.before (frame_key f x.row) (j.passed x among);
   rising = j.rising;
   whole = λ row stood met covered.
-      elim (done_or_past c (row_key f row)) [
+      elim (done_or_past c (frame_key f row)) [
         | inl old ↦ j.whole row stood met old
         | inr past ↦ absurd (nothing_shown f.point.found f.path.by row (h.whole row (stood.all n h.from h.to) met past covered))
       ];
@@ -290,18 +290,18 @@ collected_end f es n c next xs h j = record {
 
 -- 6. What one key gives
 
-sure_of : (x : FoundRow) (d : Found) (w : By) (row : List Value) → IsShown (Sure x ∷ []) d w row → x ≡ found_by d w row
+sure_of : (x : FoundRow) (d : Found) (w : By) (row : List Value) → IsRowShown (Sure x ∷ []) d w row → x ≡ found_by d w row
 sure_of x d w row (inl a) = let e : Sure x ≡ Sure (found_by d w row) = among_one (Sure (found_by d w row)) (Sure x) a in cc
 sure_of x d w row (inr (z, key, a)) = let e : Sure x ≡ InDoubt z = among_one (InDoubt z) (Sure x) a in cc
 
-doubt_of : (d : Doubt) (s : Found) (w : By) (row : List Value) → IsShown (InDoubt d ∷ []) s w row → d.key ≡ key_by s w row
+doubt_of : (d : Doubt) (s : Found) (w : By) (row : List Value) → IsRowShown (InDoubt d ∷ []) s w row → d.key ≡ key_by s w row
 doubt_of d s w row (inl a) = let e : InDoubt d ≡ Sure (found_by s w row) = among_one (Sure (found_by s w row)) (InDoubt d) a in cc
 doubt_of d s w row (inr (z, key, a)) = let e : InDoubt d ≡ InDoubt z = among_one (InDoubt z) (InDoubt d) a in let same : d ≡ z = cc in ap (λ (y : Doubt). y.key) same ∙ key
 
 one_row : (x y : Given) (P : Given → Type 0) → P x → IsAmong y (x ∷ []) → P y
 one_row x y P p among = subst P (among_one y x among) p
 
-taken_none : (f : Frame) (es : List Entry) (g : FoundKey) → ((row : List Value) → Stood f es row → f.query.meets row ≡ true → IsShown (g ∷ []) f.point.found f.path.by row → ⊥) → TakenIs f es g []
+taken_none : (f : Frame) (es : List Entry) (g : FoundKey) → ((row : List Value) → Stood f es row → f.query.meets row ≡ true → IsRowShown (g ∷ []) f.point.found f.path.by row → ⊥) → TakenIs f es g []
 taken_none f es g never = record {
   one = inl refl;
   held = λ x among. absurd (no x among);
@@ -309,12 +309,12 @@ taken_none f es g never = record {
   whole = λ row stood met shown. absurd (never row stood met shown);
 }
 
-taken_one : (f : Frame) (es : List Entry) (g : FoundKey) (x : Given) → IsHeldAt f es x → row_key f x.row ≡ key_found g
-    → ((row : List Value) → Stood f es row → f.query.meets row ≡ true → IsShown (g ∷ []) f.point.found f.path.by row → f.query.named x.row ≡ f.query.named row) → TakenIs f es g (x ∷ [])
+taken_one : (f : Frame) (es : List Entry) (g : FoundKey) (x : Given) → IsHeldAt f es x → frame_key f x.row ≡ key_found g
+    → ((row : List Value) → Stood f es row → f.query.meets row ≡ true → IsRowShown (g ∷ []) f.point.found f.path.by row → f.query.named x.row ≡ f.query.named row) → TakenIs f es g (x ∷ [])
 taken_one f es g x held key whole = record {
   one = inr (x, refl);
   held = λ y among. one_row x y (λ (z : Given). IsHeldAt f es z) held among;
-  key = λ y among. one_row x y (λ (z : Given). row_key f z.row ≡ key_found g) key among;
+  key = λ y among. one_row x y (λ (z : Given). frame_key f z.row ≡ key_found g) key among;
   whole = λ row stood met shown.
       let z = shown_key (g ∷ []) f.point.found f.path.by row shown in
       record { given = x; among = here x []; key = key ∙ (ap key_found (among_one z.0 g z.1) ∙ z.2); same = whole row stood met shown };
@@ -361,7 +361,7 @@ after_now : (f : Frame) (k : Known) (row : List Value) → f.base ≡ k.base →
 after_now f k row base h = subst (λ (l : List Entry). IsRowAt k.base l f.point row) (take-length k.seen) (subst (λ (b : Base). IsRowAt b (take (length k.seen) k.seen) f.point row) base h)
 
 -- a row that stood is at the point when the doubt is consulted, under its key
-stood_now : (f : Frame) (k : Known) (n : ℕ) (d : Doubt) (row : List Value) → f.base ≡ k.base → f.path.by ≡ by.Index d.index → opened_at f ≤ length k.seen → Stood f k.seen row → IsShown (InDoubt d ∷ []) f.point.found f.path.by row
+stood_now : (f : Frame) (k : Known) (n : ℕ) (d : Doubt) (row : List Value) → f.base ≡ k.base → f.path.by ≡ by.Index d.index → opened_at f ≤ length k.seen → Stood f k.seen row → IsRowShown (InDoubt d ∷ []) f.point.found f.path.by row
     → IsRowAt k.base k.seen f.point row × (key_by f.point.found (by.Index d.index) row ≡ d.key)
 stood_now f k n d row base w from stood shown = (
   after_now f k row base (stood.all (length k.seen) from (omega arith)),
@@ -383,7 +383,7 @@ took_doubt f k n c d fs next None base h seen =
 took_doubt f k n c d fs next (Some x) base h seen =
     let w : f.path.by ≡ by.Index d.index = (h.right (InDoubt d) (here (InDoubt d) fs)).0 in
     let from : opened_at f ≤ length k.seen = (let a = h.from in let b = h.to in omega arith) in
-    let only : (row : List Value) → Stood f k.seen row → IsShown (InDoubt d ∷ []) f.point.found f.path.by row → row ≡ x.row = λ row stood shown.
+    let only : (row : List Value) → Stood f k.seen row → IsRowShown (InDoubt d ∷ []) f.point.found f.path.by row → row ≡ x.row = λ row stood shown.
     (let z = stood_now f k n d row base w from stood shown in seen.only row z.0 z.1) in
     elim (f.query.meets x.row) as (λ t. f.query.meets x.row ≡ t → Took f k.seen (InDoubt d) (if t then record { row = x.row; at = x.at } ∷ [] else [])) [
       | true ↦ λ is. record {
@@ -477,7 +477,7 @@ ended-full f es c rows h full fits = record {
     | inl old ↦ inl old
     | inr past ↦ inr (record {
       full = full_is f.query.limit (length rows) full h.within ∙ ap Some (same_length f.query rows h.given h.same);
-      before = λ x among. done_before c (row_key f x.row) k (h.collected.passed x among) past;
+      before = λ x among. done_before c (frame_key f x.row) k (h.collected.passed x among) past;
     })
   ];
 }

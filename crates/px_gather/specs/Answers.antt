@@ -17,7 +17,7 @@ use Rattle.px_gather.specs.Gathered.{named_of}
 use Rattle.px_gather.specs.Query.{Query, asked}
 
 -- The query's point, opened as the last of the first `at` entries. It speaks of them alone
-pub record IsPointOf (b : Base) (es : List Entry) (q : Query) (scn : Option ℕ) (p : Point) : Type 0 where
+pub record IsPointOfQuery (b : Base) (es : List Entry) (q : Query) (scn : Option ℕ) (p : Point) : Type 0 where
   pub table : p.table.0 ≡ q.table
   pub is_scn : p.scn ≡ is_some scn
   pub within : p.found.at ≤ length es

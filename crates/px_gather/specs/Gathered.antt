@@ -10,7 +10,7 @@ use Rattle.px_calls.specs.declared.query.FoundKey.TheVariants.{Sure, InDoubt}
 use Rattle.px_calls.specs.declared.query.Held.{Held}
 use Rattle.px_calls.specs.declared.query.Path.{Path}
 use Rattle.px_calls.specs.declared.query.Point.{Point}
-use Rattle.px_calls.specs.Looks.{IsDoubtOf, IsRightRow, IsRisingFrom, IsRowAt, IsShown, is_covered, is_past, key_by, key_found, key_less}
+use Rattle.px_calls.specs.Looks.{IsDoubtOf, IsRightRow, IsRisingFrom, IsRowAt, IsRowShown, is_covered, is_past, key_by, key_found, key_less}
 use Rattle.px_calls.specs.Requires.{FitsRow}
 use Rattle.px_gather.specs.Query.{Query}
 
@@ -22,8 +22,8 @@ pub record Frame : Type 0 where
   pub path : Path
 
 -- the key of a row on the path
-abbrev pub row_key : Frame → List Value → List ℕ
-row_key f row = key_by f.point.found f.path.by row
+abbrev pub frame_key : Frame → List Value → List ℕ
+frame_key f row = key_by f.point.found f.path.by row
 
 -- after how many entries the point was opened
 abbrev pub opened_at : Frame → ℕ
@@ -51,13 +51,13 @@ pub record IsHeldAt (f : Frame) (es : List Entry) (x : Given) : Type 0 where
 -- the keys rise, so none comes twice
 unfoldable pub AreRisingRows : Frame → List Given → Type 0
 AreRisingRows f [] = Unit {0}
-AreRisingRows f (x ∷ xs) = ((y : Given) → IsAmong y xs → key_less (row_key f x.row) (row_key f y.row) ≡ true) × AreRisingRows f xs
+AreRisingRows f (x ∷ xs) = ((y : Given) → IsAmong y xs → key_less (frame_key f x.row) (frame_key f y.row) ≡ true) × AreRisingRows f xs
 
 -- a row with this key and these named values is given
 pub record HasRow (f : Frame) (xs : List Given) (row : List Value) : Type 0 where
   pub given : Given
   pub among : IsAmong given xs
-  pub key : row_key f given.row ≡ row_key f row
+  pub key : frame_key f given.row ≡ frame_key f row
   pub same : f.query.named given.row ≡ f.query.named row
 
 -- the keys up to one
@@ -69,9 +69,9 @@ up_to (Some last) k = not (key_less last k)
 -- row that stood and meets it is given. Where a key is done with, each row that stood is one that the table may have
 pub record Collected (f : Frame) (es : List Entry) (done : List ℕ → Bool) (xs : List Given) : Type 0 where
   pub held : (x : Given) → IsAmong x xs → IsHeldAt f es x
-  pub passed : (x : Given) → IsAmong x xs → done (row_key f x.row) ≡ true
+  pub passed : (x : Given) → IsAmong x xs → done (frame_key f x.row) ≡ true
   pub rising : AreRisingRows f xs
-  pub whole : (row : List Value) → Stood f es row → f.query.meets row ≡ true → done (row_key f row) ≡ true → HasRow f xs row
+  pub whole : (row : List Value) → Stood f es row → f.query.meets row ≡ true → done (frame_key f row) ≡ true → HasRow f xs row
   pub fits : (k : List ℕ) → done k ≡ true → (row : List Value) → Stood f es row → FitsRow f.point.found.table row
 
 -- with this LIMIT so many rows are enough
@@ -86,7 +86,7 @@ is_within (Some limit) n = nat_le n limit
 -- LIMIT rows are given, and they all come before the key
 pub record IsCutAt (f : Frame) (xs : List Given) (k : List ℕ) : Type 0 where
   pub full : f.query.limit ≡ Some (length xs)
-  pub before : (x : Given) → IsAmong x xs → key_less (row_key f x.row) k ≡ true
+  pub before : (x : Given) → IsAmong x xs → key_less (frame_key f x.row) k ≡ true
 
 -- 3. Rows as they are kept
 
@@ -124,8 +124,8 @@ pub record Left (f : Frame) (es : List Entry) (n : ℕ) (cursor : Option (List �
   pub covered : (g : FoundKey) → IsAmong g fs → is_covered next (key_found g) ≡ true
   pub right : (g : FoundKey) → IsAmong g fs → IsRightKey f.base (take n es) f.point f.path.by g
   pub fits : (row : List Value) → IsRowAfter f es n row → FitsRow f.point.found.table row
-  pub whole : (row : List Value) → IsRowAfter f es n row → f.query.meets row ≡ true → is_past cursor (row_key f row) ≡ true → is_covered next (row_key f row) ≡ true
-      → IsShown fs f.point.found f.path.by row
+  pub whole : (row : List Value) → IsRowAfter f es n row → f.query.meets row ≡ true → is_past cursor (frame_key f row) ≡ true → is_covered next (frame_key f row) ≡ true
+      → IsRowShown fs f.point.found f.path.by row
 
 -- what a look gave and is still to be gone through, and what was gathered before it
 pub record Pending (f : Frame) (es : List Entry) (n : ℕ) (fs : List FoundKey) (next : Option (List ℕ)) (rows : List Given) : Type 0 where

@@ -15,7 +15,7 @@ ghost use Rattle.px_calls.specs.declared.query.Held.{Held as Helds};
 ghost use Rattle.px_calls.specs.Known.{Known};
 ghost use Rattle.px_calls.specs.Calls.{Consulted};
 ghost use Rattle.px_calls.specs.Looks.{Shows, ShowsRows, is_covered};
-ghost use Rattle.px_gather.specs.Answers.{IsAnswerBy, IsExactOf, IsPointOf};
+ghost use Rattle.px_gather.specs.Answers.{IsAnswerBy, IsExactOf, IsPointOfQuery};
 ghost use Rattle.px_gather.specs.Gathered.{Ended, Frame, Gathered, Pending, is_full, kept, kept_held, opened_at, up_to};
 ghost use Rattle.px_gather.specs.Query.{IsPathFor, Query};
 
@@ -35,6 +35,6 @@ pub fn law_gathers()
 /// What is gathered to its end is the answer: a current one, or under an SCN exactly the rows at the point, which it stays in whatever legal trail
 /// comes.
 pub fn law_answers()
-    ensures ended { (f : Frame) → (es : List Entries) → (scn : Option ℕ) → (first : ℕ) → (last : ℕ) → (rows : List Given) → IsPointOf f.base es f.query scn f.point → IsLegal f.base es → Ended f es rows → first ≡ opened_at f → last ≡ length es → IsAnswerBy f.base es f.query scn f.point.found f.path.by first last rows }
+    ensures ended { (f : Frame) → (es : List Entries) → (scn : Option ℕ) → (first : ℕ) → (last : ℕ) → (rows : List Given) → IsPointOfQuery f.base es f.query scn f.point → IsLegal f.base es → Ended f es rows → first ≡ opened_at f → last ≡ length es → IsAnswerBy f.base es f.query scn f.point.found f.path.by first last rows }
     ensures stays { (b : Base) → (es : List Entries) → (more : List Entries) → (q : Query) → (found : FoundTable) → (by : Bys) → (p : ℕ) → (rows : List Given) → IsLegal b (es ++ more) → p ≤ last_of b q.table es → q.table < (catalogue_of b es).next → IsExactOf b es q found by p rows → IsExactOf b (es ++ more) q found by p rows }
 {}

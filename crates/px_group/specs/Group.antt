@@ -18,7 +18,7 @@ use Rattle.px_rows.specs.Keys.{IsRightTable}
 use Rattle.px_rows.specs.Spelled.{row_form}
 use Rattle.px_indexrow.specs.Form.{IsRightIndex, index_form}
 use Rattle.px_groupworld.specs.Group.{GroupData, IndexPart, TableForm, no_part, table_form}
-use Rattle.px_openbatches.specs.Pending.{HeldBatch, HeldKept, IsHeld, flagged}
+use Rattle.px_openbatches.specs.Pending.{HeldBatch, HeldKept, IsHeldBatch, flagged}
 use Rattle.px_values.specs.declared.row.Value.{Value}
 use Rattle.px_phases.specs.Batch.{AllFit, AreHeldAs, BatchData}
 use Rattle.px_tablesteps.specs.Kept.{TableKept}
@@ -43,11 +43,11 @@ pub record IsRightPart (t : Table) (x : IndexRegion) : Type 0 where
   pub keys : AreRightKeys t x.index (read_of x.region)
 
 -- what a batch keeps in each phase: it marks all indexes, then writes its rows, then closes the marks
-abbrev pub IsStage : Phase → ℕ → BatchData → Type 0
-IsStage Marking count b = (is_some b.puts ≡ true) × (length b.closes ≡ count)
-IsStage Writing count b = (is_some b.puts ≡ true) × (length b.closes ≡ count) × (b.marks ≡ [])
-IsStage Verifying count b = (b.puts ≡ None) × (b.marks ≡ [])
-IsStage Closing count b = (b.puts ≡ None) × (b.marks ≡ []) × (b.closes ≡ [])
+abbrev pub FitsPhase : Phase → ℕ → BatchData → Type 0
+FitsPhase Marking count b = (is_some b.puts ≡ true) × (length b.closes ≡ count)
+FitsPhase Writing count b = (is_some b.puts ≡ true) × (length b.closes ≡ count) × (b.marks ≡ [])
+FitsPhase Verifying count b = (b.puts ≡ None) × (b.marks ≡ [])
+FitsPhase Closing count b = (b.puts ≡ None) × (b.marks ≡ []) × (b.closes ≡ [])
 
 -- the rows of each part are of the index's shape
 abbrev pub AreRightParts : Table → Index → List (List CellData) → Type 0
@@ -72,7 +72,7 @@ pub record IsRightBatch (g : Group) (m : Begun) : Type 0 where
   pub distinct : is_distinct (rows_of m.batch.changes) ≡ true
   pub some : m.batch.changes ≢ []
   pub few : length m.batch.changes ≤ most_rows
-  pub stage : IsStage m.phase m.count m.batch
+  pub stage : FitsPhase m.phase m.count m.batch
   pub rows : is_some m.batch.puts ≡ true → m.rows ≡ Some (rows_of m.batch.changes)
   pub receipt : m.receipt ≡ rows_of m.batch.changes
   pub shaped : IsShaped g m
@@ -140,7 +140,7 @@ pub record IsTallied (b : Base) (es : List Entry) (g : Group) (hs : List HeldBat
 -- which of them it met.
 pub record IsTraced (es : List Entry) (t : ℕ) (m : Begun) : Type 0 where
   pub held : HeldBatch
-  pub is : IsHeld es t held
+  pub is : IsHeldBatch es t held
   pub stamp : held.stamp ≡ m.batch.stamp
   pub changes : held.changes ≡ m.batch.changes
   pub distinct : is_distinct (rows_of m.batch.changes) ≡ true
@@ -150,13 +150,13 @@ pub record IsTraced (es : List Entry) (t : ℕ) (m : Begun) : Type 0 where
   pub few : length m.batch.changes ≤ most_rows
 
 -- each batch has a stamp of its own
-abbrev pub AreOnce : List Begun → Type 0
-AreOnce [] = Unit {0}
-AreOnce (m ∷ ms) = AllByRecursion (λ x. m.batch.stamp ≢ x.batch.stamp) ms × AreOnce ms
+abbrev pub HaveOwnStamps : List Begun → Type 0
+HaveOwnStamps [] = Unit {0}
+HaveOwnStamps (m ∷ ms) = AllByRecursion (λ x. m.batch.stamp ≢ x.batch.stamp) ms × HaveOwnStamps ms
 
 pub record AreTraced (es : List Entry) (g : Group) : Type 0 where
   pub each : AllByRecursion (IsTraced es g.table.id.0) g.batches.items
-  pub once : AreOnce g.batches.items
+  pub once : HaveOwnStamps g.batches.items
 
 -- 3. What it shows, where what was opened is sound
 

@@ -14,12 +14,12 @@ use Rattle.px_trail.proofs.Growth.{batch_of-snoc}
 use Rattle.px_world.specs.Facts.{Kept}
 use Rattle.px_world.specs.Events.{Birth, happens}
 use Rattle.px_forms.specs.Indexes.{IsIndexForm, shape_at}
-use Rattle.px_indexed.specs.Worlds.{Indexed, history_at, marked_by, world_at, world_of}
+use Rattle.px_indexed.specs.Worlds.{Indexed, history_at, marked_by, world_at, world_of_history}
 use Rattle.px_indexed.specs.Kept.{IndexKept, RowsKept}
 use Rattle.px_indexed.proofs.OtherSteps.{born_kept}
 use Rattle.px_indexed.proofs.Idle.{IsIdle, world_idle}
 use Rattle.px_forms.proofs.Views.{view_empty}
-use Rattle.px_groupworld.specs.Group.{TableForm, IndexPart, GroupData, GroupKept, IsOpen, no_part, waits_in, as_index, index_in, world_in}
+use Rattle.px_groupworld.specs.Group.{TableForm, IndexPart, GroupData, GroupKept, IsOpen, no_part, waits_in, as_index, indexed_at, world_in}
 use Rattle.px_groupworld.specs.Steps.{Bears, born_data}
 use Rattle.px_groupworld.proofs.Opens.{all_more}
 use Rattle.px_groupworld.proofs.Entries.{group_idle, rows_of_group}
@@ -54,14 +54,14 @@ module _ (f : TableForm) (es : List Entry) (v : GroupData) (k : GroupKept f es v
   still = (group_idle f es v k e may idle).kept
 
   -- the indexes that stood
-  old_is : (i : ℕ) → i < length v.indexes → index_in f next i ≡ index_in f v i
+  old_is : (i : ℕ) → i < length v.indexes → indexed_at f next i ≡ indexed_at f v i
   old_is i l = ap (as_index f v.low v.opens i) (get_or-append v.indexes (part ∷ []) no_part i l)
 
   -- the new one
   part_is : get_or next.indexes (length v.indexes) no_part ≡ part
   part_is = get_or-append_seam v.indexes part [] no_part
 
-  young_is : index_in f next (length v.indexes) ≡ young
+  young_is : indexed_at f next (length v.indexes) ≡ young
   young_is =
       let low = k.low in let high = rows.low in
       let p : max (max s 0) v.low ≡ s = omega arith in
@@ -91,13 +91,13 @@ module _ (f : TableForm) (es : List Entry) (v : GroupData) (k : GroupKept f es v
   count_is : count ≡ length v.indexes + 1
   count_is = length-append v.indexes (part ∷ [])
 
-  each_index : (i : ℕ) → i < count → IndexKept sh b es' tid.0 v.high (index_in f next i)
+  each_index : (i : ℕ) → i < count → IndexKept sh b es' tid.0 v.high (indexed_at f next i)
   each_index i l = elim (cases_lt i (length v.indexes)) [
     | inl m ↦ subst (IndexKept sh b es' tid.0 v.high) (sym (old_is i m)) (still.indexes i m)
     | inr m ↦
         (let n = count_is in
         let at : length v.indexes ≡ i = omega arith in
-        subst (λ (z : ℕ). IndexKept sh b es' tid.0 v.high (index_in f next z)) at (subst (IndexKept sh b es' tid.0 v.high) (sym young_is) young_kept))
+        subst (λ (z : ℕ). IndexKept sh b es' tid.0 v.high (indexed_at f next z)) at (subst (IndexKept sh b es' tid.0 v.high) (sym young_is) young_kept))
   ]
 
   each_own : (i : ℕ) → i < count → (get_or next.indexes i no_part).horizon ≤ v.high
@@ -123,8 +123,8 @@ module _ (f : TableForm) (es : List Entry) (v : GroupData) (k : GroupKept f es v
       begun = all_more (IsOpen (length v.indexes) (last_of b tid.0 es')) (IsOpen count (last_of b tid.0 es')) v.opens (λ o z. (z.0, ((let n = count_is in let i = z.1.0 in omega arith), z.1.1))) still.begun;
       apart = still.apart;
     };
-    others = λ i l r. ap (λ (x : Indexed). world_at sh b es' tid.0 v.high x r) (old_is i l) ∙ world_idle sh b es tid v.high e idle.still (index_in f v i) r;
+    others = λ i l r. ap (λ (x : Indexed). world_at sh b es' tid.0 v.high x r) (old_is i l) ∙ world_idle sh b es tid v.high e idle.still (indexed_at f v i) r;
     born = λ r cells x at.
-        subst (λ (y : IndexPart). happens (shape_at sh (f.index y.id) r) (world_of (history_at sh b es' tid.0 r) (marked_by (history_at sh b es' tid.0 r) (waits_in v.opens (length v.indexes))) cells x) (Birth s) ≡ world_in f es' next (length v.indexes) r) (sym part_is)
-        ((λ j. world_of (history_at sh b es' tid.0 r) (marked_by (history_at sh b es' tid.0 r) (waits_in v.opens (length v.indexes))) (sym (view_empty (f.index id) r) j) (record { birth = s; raised = at j; kept = s; floor = s; is_built = false })) ∙ ap (λ (y : Indexed). world_at sh b es' tid.0 v.high y r) (sym young_is));
+        subst (λ (y : IndexPart). happens (shape_at sh (f.index y.id) r) (world_of_history (history_at sh b es' tid.0 r) (marked_by (history_at sh b es' tid.0 r) (waits_in v.opens (length v.indexes))) cells x) (Birth s) ≡ world_in f es' next (length v.indexes) r) (sym part_is)
+        ((λ j. world_of_history (history_at sh b es' tid.0 r) (marked_by (history_at sh b es' tid.0 r) (waits_in v.opens (length v.indexes))) (sym (view_empty (f.index id) r) j) (record { birth = s; raised = at j; kept = s; floor = s; is_built = false })) ∙ ap (λ (y : Indexed). world_at sh b es' tid.0 v.high y r) (sym young_is));
   }

@@ -21,7 +21,7 @@ use Rattle.px_indexed.specs.Kept.{RowsKept, IndexKept}
 use Rattle.px_indexed.proofs.Rows.{is_whole_of}
 use Rattle.px_indexed.proofs.CellSteps.{marked_moves, index_marked, verified_moves, index_verified, repaired_moves, index_repaired}
 use Rattle.px_indexed.proofs.OtherSteps.{based_moves, index_based, ready_moves, index_ready}
-use Rattle.px_groupworld.specs.Group.{TableForm, IndexPart, OpenBatch, GroupData, GroupKept, IsOpen, no_part, no_open, waits_in, as_index, index_in, shape_in, world_in}
+use Rattle.px_groupworld.specs.Group.{TableForm, IndexPart, OpenBatch, GroupData, GroupKept, IsOpen, no_part, no_open, waits_in, as_index, indexed_at, shape_in, world_in}
 use Rattle.px_groupworld.specs.Steps.{Steps, at_index, cells_data, marked_data, gone_on, ready_data, with_cells}
 use Rattle.px_groupworld.specs.Asks.{CanMark, CanVerify, CanFix, CanBase}
 use Rattle.px_groupworld.proofs.Opens.{all_at, all_set, apart_set, waits_marked, waits_others, waits_true, is_next}
@@ -41,7 +41,7 @@ module _ (f : TableForm) (es : List Entry) (v : GroupData) (k : GroupKept f es v
   xs = v.indexes
 
   abbrev at : ℕ → Indexed
-  at i = index_in f v i
+  at i = indexed_at f v i
 
   rows : RowsKept sh b es tid.0 v.high
   rows = rows_of_group f es v k
@@ -55,15 +55,15 @@ module _ (f : TableForm) (es : List Entry) (v : GroupData) (k : GroupKept f es v
     abbrev next : GroupData
     next = record v { indexes = set xs j x; opens = os }
 
-    here : index_in f next j ≡ as_index f v.low os j x
+    here : indexed_at f next j ≡ as_index f v.low os j x
     here = ap (as_index f v.low os j) (get_or-set_same xs j x no_part lj)
 
-    there : (i : ℕ) → (j ≡ i → ⊥) → index_in f next i ≡ at i
+    there : (i : ℕ) → (j ≡ i → ⊥) → indexed_at f next i ≡ at i
     there i n = ap (as_index f v.low os i) (get_or-set_other xs j i x no_part (λ q. n (sym q))) ∙ (λ a. record (at i) { waits = λ u. others i n u a })
 
-    one_kept : (i : ℕ) → i < length xs → IndexKept sh b es tid.0 v.high (index_in f next i)
+    one_kept : (i : ℕ) → i < length xs → IndexKept sh b es tid.0 v.high (indexed_at f next i)
     one_kept i l = elim (cases_eq j i) [
-      | inl q ↦ subst (λ (z : ℕ). IndexKept sh b es tid.0 v.high (index_in f next z)) q (subst (IndexKept sh b es tid.0 v.high) (sym here) mine_kept)
+      | inl q ↦ subst (λ (z : ℕ). IndexKept sh b es tid.0 v.high (indexed_at f next z)) q (subst (IndexKept sh b es tid.0 v.high) (sym here) mine_kept)
       | inr q ↦ subst (IndexKept sh b es tid.0 v.high) (sym (there i q)) (k.indexes i l)
     ]
 

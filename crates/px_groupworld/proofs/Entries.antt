@@ -14,7 +14,7 @@ use Rattle.px_values.specs.States.{RowState, Shape as RowShape}
 use Rattle.px_trail.specs.declared.entry.Act.{Act}
 use Rattle.px_trail.specs.declared.entry.Act.TheVariants.{Begun, Wrote, Ended, Phase, Raised}
 use Rattle.px_trail.specs.declared.entry.Entry.{Entry}
-use Rattle.px_trail.specs.Batches.{Batch, IsIn, Verifying, batch_of, change_of, has}
+use Rattle.px_trail.specs.Batches.{Batch, IsBatchIn, Verifying, batch_of, change_of, has}
 use Rattle.px_trail.specs.Legal.{Follows, IsEndable, IsPhased, IsWritable, MayCome, MayRaise}
 use Rattle.px_trail.specs.States.{begun, begun_by}
 use Rattle.px_trail.specs.Trail.{Base, horizon_of, horizon_step, last_of, shape_of, shape_step}
@@ -33,8 +33,8 @@ use Rattle.px_indexed.proofs.EntrySteps.{last_begun, begun_moves, index_begun, l
 use Rattle.px_indexed.proofs.OtherSteps.{raised_moves, index_raised}
 use Rattle.px_indexed.proofs.DataSteps.{data_wrote}
 use Rattle.px_indexed.proofs.Idle.{IsIdle, IsStill, raised_still, index_idle, world_idle, history_idle, last_grows, begins_idle}
-use Rattle.px_groupworld.specs.Group.{TableForm, OpenBatch, GroupData, GroupKept, IsOpen, AreApart, no_open, index_in, shape_in, world_in}
-use Rattle.px_groupworld.specs.Steps.{Steps, nothing, begun_data, wrote_data, ended_data, raised_data}
+use Rattle.px_groupworld.specs.Group.{TableForm, OpenBatch, GroupData, GroupKept, IsOpen, AreApart, no_open, indexed_at, shape_in, world_in}
+use Rattle.px_groupworld.specs.Steps.{Steps, no_events, begun_data, wrote_data, ended_data, raised_data}
 use Rattle.px_groupworld.specs.Asks.{FitAll, HasMarked}
 use Rattle.px_groupworld.proofs.Opens.{all_more, all_filter, all_end, apart_end, apart_filter, waits_begun, waits_none, waits_gone}
 
@@ -91,7 +91,7 @@ module _ (f : TableForm) (es : List Entry) (v : GroupData) (k : GroupKept f es v
     rows' = subst (RowsKept sh b es' tid.0) same_high (rows_kept sh b tid k.base.rows k.base.low es' legal')
 
     -- a step that changes the open batches alone
-    opens_step : (os : List OpenBatch) → ((i : ℕ) → i < length v.indexes → IndexKept sh b es' tid.0 v.high (index_in f (record v { opens = os }) i)) → DataKept b es' tid.0 f.rows v.low v.cells → AllByRecursion (IsOpen (length v.indexes) (last_of b tid.0 es')) os → AreApart os → GroupKept f es' (record v { opens = os })
+    opens_step : (os : List OpenBatch) → ((i : ℕ) → i < length v.indexes → IndexKept sh b es' tid.0 v.high (indexed_at f (record v { opens = os }) i)) → DataKept b es' tid.0 f.rows v.low v.cells → AllByRecursion (IsOpen (length v.indexes) (last_of b tid.0 es')) os → AreApart os → GroupKept f es' (record v { opens = os })
     opens_step os indexes told begun apart = record {
       legal = legal';
       base = k.base;
@@ -126,8 +126,8 @@ module _ (f : TableForm) (es : List Entry) (v : GroupData) (k : GroupKept f es v
     abbrev fresh : OpenBatch
     fresh = record { stamp = s; done = 0; count = length v.indexes }
 
-    at_begun : (i : ℕ) → i < length v.indexes → index_in f (begun_data s v) i ≡ record (index_in f v i) { waits = set_stamp s true (index_in f v i).waits }
-    at_begun i l = λ j. record (index_in f v i) { waits = λ u. waits_begun v.opens s (length v.indexes) i l u j }
+    at_begun : (i : ℕ) → i < length v.indexes → indexed_at f (begun_data s v) i ≡ record (indexed_at f v i) { waits = set_stamp s true (indexed_at f v i).waits }
+    at_begun i l = λ j. record (indexed_at f v i) { waits = λ u. waits_begun v.opens s (length v.indexes) i l u j }
 
     begun_high : (h : ℕ) → horizon_step tid.0 h e.act ≡ h
     begun_high h = ap (horizon_step tid.0 h) is
@@ -139,13 +139,13 @@ module _ (f : TableForm) (es : List Entry) (v : GroupData) (k : GroupKept f es v
     pub group_begun : Steps f (λ i r. begin_event s (change_of cs r)) es v es' (begun_data s v)
     group_begun = record {
       kept = opens_step begun_high begun_shape (v.opens ++ fresh ∷ [])
-          (λ i l. subst (IndexKept sh b es' tid.0 v.high) (sym (at_begun i l)) (index_begun sh b es tid v.high rows e s cs is new (index_in f v i) (k.indexes i l)))
+          (λ i l. subst (IndexKept sh b es' tid.0 v.high) (sym (at_begun i l)) (index_begun sh b es tid v.high rows e s cs is new (indexed_at f v i) (k.indexes i l)))
           (data_same f v.low es es' v.cells k.told rows.tied (rows' begun_high begun_shape).tied (λ r u. begun_fates r (change_of cs r) refl u) (λ r q. begun_states r (change_of cs r) refl q) (λ r. begun_all sh b tid r (k.base.rows r) es (hist es r) (rows.tied r) e s cs is new (λ d. f.rows.Fits r d.what) (k.told.fits r) (λ w q. fits r w q)))
           (let n = last_begun sh b es tid v.high rows e s cs is new in let above = new in all_end (IsOpen (length v.indexes) (last_of b tid.0 es')) v.opens fresh (opens_on (length v.indexes) (last_of b tid.0 es) (last_of b tid.0 es') v.opens (omega arith) k.begun) (omega arith, (omega arith, omega arith)))
           (apart_end v.opens fresh k.apart (all_more (IsOpen (length v.indexes) (last_of b tid.0 es)) (λ o. o.stamp ≢ s) v.opens (λ o z q. (let i = z.1.1 in let above = new in omega arith)) k.begun));
       does = record {
         count = refl;
-        each = λ i l r. subst (λ (x : Indexed). Moves (shape_in f v i r) (begin_event s (change_of cs r)) (world_in f es v i r) (world_at sh b es' tid.0 v.high x r)) (sym (at_begun i l)) (begun_moves sh b es tid v.high rows e s cs is new (index_in f v i) (k.indexes i l) r);
+        each = λ i l r. subst (λ (x : Indexed). Moves (shape_in f v i r) (begin_event s (change_of cs r)) (world_in f es v i r) (world_at sh b es' tid.0 v.high x r)) (sym (at_begun i l)) (begun_moves sh b es tid v.high rows e s cs is new (indexed_at f v i) (k.indexes i l) r);
       };
     }
 
@@ -174,14 +174,14 @@ module _ (f : TableForm) (es : List Entry) (v : GroupData) (k : GroupKept f es v
             base = k.base;
             shape = same_shape wrote_high wrote_shape;
             high = same_high wrote_high wrote_shape;
-            indexes = λ i l. index_wrote sh b es tid v.high rows e s rs is w (index_in f v i) (k.indexes i l);
+            indexes = λ i l. index_wrote sh b es tid v.high rows e s rs is w (indexed_at f v i) (k.indexes i l);
             told = data_wrote f.rows b es tid v.high rows v.low k.low v.cells k.told e s rs is w batch now put reads';
             low = k.low;
             own = k.own;
             begun = (let n = last_wrote sh b es tid v.high rows e s rs is w in opens_on (length v.indexes) (last_of b tid.0 es) (last_of b tid.0 es') v.opens (omega arith) k.begun);
             apart = k.apart;
           };
-          does = record { count = refl; each = λ i l r. wrote_moves sh b es tid v.high rows e s rs is w (index_in f v i) (k.indexes i l) r };
+          does = record { count = refl; each = λ i l r. wrote_moves sh b es tid v.high rows e s rs is w (indexed_at f v i) (k.indexes i l) r };
         }
 
   -- ---- entries that leave the history of each row
@@ -213,24 +213,24 @@ module _ (f : TableForm) (es : List Entry) (v : GroupData) (k : GroupKept f es v
     unfolding begun_by
     phase_begins r = begun-snoc tid.0 r es e ∙ (ap (λ (a : Act). begun tid.0 r es ++ begun_by tid.0 r a) is ∙ append-nil (begun tid.0 r es))
 
-    group_phase : ((i : ℕ) → i < length v.indexes → (index_in f v i).birth < s → (index_in f v i).waits s ≡ false) → Steps f nothing es v es' v
+    group_phase : ((i : ℕ) → i < length v.indexes → (indexed_at f v i).birth < s → (indexed_at f v i).waits s ≡ false) → Steps f no_events es v es' v
     group_phase done = record {
       kept = opens_step phase_high phase_shape v.opens
-          (λ i l. index_phase sh b es tid v.high rows e s n is phase_is (index_in f v i) (k.indexes i l) (done i l))
+          (λ i l. index_phase sh b es tid v.high rows e s n is phase_is (indexed_at f v i) (k.indexes i l) (done i l))
           (same_told phase_history phase_begins (rows' phase_high phase_shape))
           (let m = last_phase sh b es tid v.high rows e s n is phase_is in opens_on (length v.indexes) (last_of b tid.0 es) (last_of b tid.0 es') v.opens (omega arith) k.begun)
           k.apart;
-      does = record { count = refl; each = λ i l r. phased_moves sh b es tid v.high rows e s n is phase_is (index_in f v i) (k.indexes i l) (done i l) r };
+      does = record { count = refl; each = λ i l r. phased_moves sh b es tid v.high rows e s n is phase_is (indexed_at f v i) (k.indexes i l) (done i l) r };
     }
 
   -- the batch has marked all its indexes
-  pub group_marked : (m : ℕ) → HasMarked v m → e.act ≡ Phase tid (get_or v.opens m no_open).stamp 1 → Steps f nothing es v es' v
+  pub group_marked : (m : ℕ) → HasMarked v m → e.act ≡ Phase tid (get_or v.opens m no_open).stamp 1 → Steps f no_events es v es' v
   group_marked m g is = group_phase (get_or v.opens m no_open).stamp 1 is (λ i l z. waits_none v.opens m k.apart g.among g.all i)
 
   -- it has verified what it could
-  pub group_verified_all : (s : ℕ) → e.act ≡ Phase tid s 3 → Steps f nothing es v es' v
+  pub group_verified_all : (s : ℕ) → e.act ≡ Phase tid s 3 → Steps f no_events es v es' v
   group_verified_all s is = group_phase s 3 is (λ i l z.
-      (let i0 : IsIn es e.seat tid.0 s Verifying = elim (phased s 3 is) [ inl a ↦ absurd (let c = a.0 in omega arith) | inr a ↦ a.1 ] in
+      (let i0 : IsBatchIn es e.seat tid.0 s Verifying = elim (phased s 3 is) [ inl a ↦ absurd (let c = a.0 in omega arith) | inr a ↦ a.1 ] in
       (k.indexes i l).marked s i0.batch i0.is (λ q. (let c = (Rattle.px_trail.proofs.Batches.in_verifying i0.batch i0.phase).1 in omega arith)) z))
 
   -- ---- a batch ends
@@ -253,8 +253,8 @@ module _ (f : TableForm) (es : List Entry) (v : GroupData) (k : GroupKept f es v
     unfolding shape_step
     end_shape s = ap (shape_step tid.0 s) is
 
-    at_left : (i : ℕ) → index_in f (ended_data ends v) i ≡ index_in f v i
-    at_left i = λ z. record (index_in f v i) { waits = λ u. waits_gone v.opens m k.apart g.among g.all i u z }
+    at_left : (i : ℕ) → indexed_at f (ended_data ends v) i ≡ indexed_at f v i
+    at_left i = λ z. record (indexed_at f v i) { waits = λ u. waits_gone v.opens m k.apart g.among g.all i u z }
 
     history_ended : (r : List Value) → hist es' r ≡ (if is_begun ((hist es r).fate ends) then end_change ends (hist es r) else hist es r)
     history_ended r = from-snoc sh b es e tid.0 r ∙ ended_step_is sh b tid r (k.base.rows r) es (hist es r) (rows.tied r) e ends is (can_end es e.seat tid.0 ends can)
@@ -271,26 +271,26 @@ module _ (f : TableForm) (es : List Entry) (v : GroupData) (k : GroupKept f es v
         let n = last_ended sh b es tid v.high rows e ends is can in
         subst (λ (z : Batch). Steps f (λ i r. change_event (End ends) (change_of z.changes r)) es v es' (ended_data ends v)) same (record {
           kept = opens_step end_high end_shape (filter (λ o. not (nat_eq o.stamp ends)) v.opens)
-              (λ i l. subst (IndexKept sh b es' tid.0 v.high) (sym (at_left i)) (index_ended sh b es tid v.high rows e ends is can (index_in f v i) (k.indexes i l)))
+              (λ i l. subst (IndexKept sh b es' tid.0 v.high) (sym (at_left i)) (index_ended sh b es tid v.high rows e ends is can (indexed_at f v i) (k.indexes i l)))
               (data_same f v.low es es' v.cells k.told rows.tied (rows' end_high end_shape).tied ended_fates ended_states (λ r. subst (AllByRecursion (λ d. f.rows.Fits r d.what)) (sym (begins_ended sh b tid r (k.base.rows r) es (hist es r) (rows.tied r) e ends is (can_end es e.seat tid.0 ends can))) (k.told.fits r)))
               (all_filter (IsOpen (length v.indexes) (last_of b tid.0 es')) (λ o. not (nat_eq o.stamp ends)) v.opens (opens_on (length v.indexes) (last_of b tid.0 es) (last_of b tid.0 es') v.opens (omega arith) k.begun))
               (apart_filter (λ o. not (nat_eq o.stamp ends)) v.opens k.apart);
           does = record {
             count = refl;
-            each = λ i l r. subst (λ (x : Indexed). Moves (shape_in f v i r) (change_event (End ends) (change_of can.batch.changes r)) (world_in f es v i r) (world_at sh b es' tid.0 v.high x r)) (sym (at_left i)) (ended_moves sh b es tid v.high rows e ends is can (index_in f v i) (k.indexes i l) r);
+            each = λ i l r. subst (λ (x : Indexed). Moves (shape_in f v i r) (change_event (End ends) (change_of can.batch.changes r)) (world_in f es v i r) (world_at sh b es' tid.0 v.high x r)) (sym (at_left i)) (ended_moves sh b es tid v.high rows e ends is can (indexed_at f v i) (k.indexes i l) r);
           };
         })
 
   -- ---- an entry that tells nothing of the table
 
-  pub group_idle : IsIdle tid e → Steps f nothing es v es' v
+  pub group_idle : IsIdle tid e → Steps f no_events es v es' v
   group_idle idle = record {
     kept = opens_step idle.horizon idle.still.shape v.opens
-        (λ i l. index_idle sh b es tid v.high e idle.still (index_in f v i) (k.indexes i l))
+        (λ i l. index_idle sh b es tid v.high e idle.still (indexed_at f v i) (k.indexes i l))
         (same_told (history_idle sh b es tid v.high e idle.still) (begins_idle sh b es tid v.high e idle.still) (rows' idle.horizon idle.still.shape))
         (let m = last_grows sh b es tid v.high e idle.still in opens_on (length v.indexes) (last_of b tid.0 es) (last_of b tid.0 es') v.opens (omega arith) k.begun)
         k.apart;
-    does = record { count = refl; each = λ i l r. world_idle sh b es tid v.high e idle.still (index_in f v i) r };
+    does = record { count = refl; each = λ i l r. world_idle sh b es tid v.high e idle.still (indexed_at f v i) r };
   }
 
   -- ---- the table's horizon rises
@@ -324,7 +324,7 @@ module _ (f : TableForm) (es : List Entry) (v : GroupData) (k : GroupKept f es v
             base = k.base;
             shape = shape-snoc b es e tid.0 ∙ (still.shape (shape_of b es tid.0) ∙ k.shape);
             high = raised_high;
-            indexes = λ i l. index_idle sh b es tid h e still (index_in f v i) (index_raised sh b es tid v.high rows h u raise.last all_ended (index_in f v i) (k.indexes i l));
+            indexes = λ i l. index_idle sh b es tid h e still (indexed_at f v i) (index_raised sh b es tid v.high rows h u raise.last all_ended (indexed_at f v i) (k.indexes i l));
             told = same_told (history_idle sh b es tid v.high e still) (begins_idle sh b es tid v.high e still) (record { base = rows_now.base; tied = rows_now.tied; low = (let a = rows_now.low in omega arith); later = rows_now.later; ended = λ s y q l. rows_now.ended s y q (omega arith); done = rows_now.done; quiet = rows_now.quiet });
             low = (let a = k.low in omega arith);
             own = λ i l. (let a = k.own i l in omega arith);
@@ -333,6 +333,6 @@ module _ (f : TableForm) (es : List Entry) (v : GroupData) (k : GroupKept f es v
           };
           does = record {
             count = refl;
-            each = λ i l r. subst (λ (w : World (List ℕ) RowState (List ℕ)). Moves (shape_in f v i r) (Some (Raise h)) (world_in f es v i r) w) (sym (world_idle sh b es tid h e still (index_in f v i) r)) (raised_moves sh b es tid v.high rows h u raise.last all_ended (index_in f v i) (k.indexes i l) r);
+            each = λ i l r. subst (λ (w : World (List ℕ) RowState (List ℕ)). Moves (shape_in f v i r) (Some (Raise h)) (world_in f es v i r) w) (sym (world_idle sh b es tid h e still (indexed_at f v i) r)) (raised_moves sh b es tid v.high rows h u raise.last all_ended (indexed_at f v i) (k.indexes i l) r);
           };
         }

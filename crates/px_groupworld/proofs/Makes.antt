@@ -13,7 +13,7 @@ use Rattle.px_trail.specs.declared.entry.Act.TheVariants.{Made, IndexMade, Index
 use Rattle.px_trail.specs.declared.entry.Entry.{Entry}
 use Rattle.px_trail.specs.Batches.{batch_from, batch_of, batch_step}
 use Rattle.px_trail.specs.Legal.{Follows, IsLegal, MayCome}
-use Rattle.px_trail.specs.States.{Dated, applied, begun, begun_by, is_written}
+use Rattle.px_trail.specs.States.{Dated, applied, begun, begun_by, is_row_written}
 use Rattle.px_trail.specs.Trail.{Base, Catalogue, IsCatalogue, IsRightBase, base_catalogue, catalogue_from, catalogue_of, catalogue_step, horizon_from, horizon_of, horizon_step, new_shape, shape_of, shape_step, table_of}
 use Rattle.px_trail.proofs.Growth.{batch_of-snoc, begun-snoc, catalogue-snoc, horizon-snoc, legal-induct, legal-snoc, shape-snoc}
 use Rattle.px_trail.proofs.Standing.{catalogue-stands}
@@ -140,9 +140,9 @@ module _ (f : TableForm) (right : IsRightBase f.base) (es : List Entry) (legal :
       by None q = refl
       by (Some x) q = absurd (let m = (right.catalogue.tables t x q).1 in let g = new_before.grows in let n = number in omega arith)
 
-  state_none : (r : List Value) (p : ℕ) → applied f.rows.shape r p (b.state t r p) (filter (λ d. is_written es' t r d.stamp) (begun t r es')) ≡ None
+  state_none : (r : List Value) (p : ℕ) → applied f.rows.shape r p (b.state t r p) (filter (λ d. is_row_written es' t r d.stamp) (begun t r es')) ≡ None
   unfolding applied
-  state_none r p = ap (λ (ds : List Dated). applied f.rows.shape r p (b.state t r p) (filter (λ d. is_written es' t r d.stamp) ds)) (new_now.begins r) ∙ right.state t r p no_base
+  state_none r p = ap (λ (ds : List Dated). applied f.rows.shape r p (b.state t r p) (filter (λ d. is_row_written es' t r d.stamp) ds)) (new_now.begins r) ∙ right.state t r p no_base
 
   pub group_made : GroupKept f es' made_data
   unfolding shape_step value_at

@@ -11,7 +11,7 @@ use Rattle.px_trail.specs.declared.entry.Entry.{Entry}
 use Rattle.px_trail.specs.Trail.{Base, IsBase, horizon_of, last_of, shape_of}
 use Rattle.px_trail.specs.Legal.{IsLegal}
 use Rattle.px_trail.specs.States.{state_of}
-use Rattle.px_world.specs.Shape.{Shape, has_key, IsShown}
+use Rattle.px_world.specs.Shape.{WorldShape, has_key, IsShown}
 use Rattle.px_world.specs.World.{World, Verified, horizon, top, vis}
 use Rattle.px_forms.specs.Indexes.{IndexForm, shape_at}
 use Rattle.px_forms.specs.Rows.{DataForm}
@@ -68,14 +68,14 @@ no_open = record { stamp = 0; done = 0; count = 0 }
 abbrev pub as_index : TableForm → ℕ → List OpenBatch → ℕ → IndexPart → Indexed
 as_index f low opens i x = record { form = f.index x.id; cells = x.cells; waits = waits_in opens i; birth = x.birth; kept = max (max x.birth x.horizon) low; floor = max x.birth x.horizon; is_built = x.is_built }
 
-abbrev pub index_in : TableForm → GroupData → ℕ → Indexed
-index_in f v i = as_index f v.low v.opens i (get_or v.indexes i no_part)
+abbrev pub indexed_at : TableForm → GroupData → ℕ → Indexed
+indexed_at f v i = as_index f v.low v.opens i (get_or v.indexes i no_part)
 
 -- the world of a row and of the index at a place
 abbrev pub world_in : TableForm → List Entry → GroupData → ℕ → List Value → World (List ℕ) RowState (List ℕ)
-world_in f es v i r = world_at f.rows.shape f.base es f.id.0 v.high (index_in f v i) r
+world_in f es v i r = world_at f.rows.shape f.base es f.id.0 v.high (indexed_at f v i) r
 
-abbrev pub shape_in : TableForm → GroupData → ℕ → List Value → Shape (List ℕ) RowState (List ℕ) What
+abbrev pub shape_in : TableForm → GroupData → ℕ → List Value → WorldShape (List ℕ) RowState (List ℕ) What
 shape_in f v i r = shape_at f.rows.shape (f.index (get_or v.indexes i no_part).id) r
 
 -- 3. What stays true of a table
@@ -99,7 +99,7 @@ pub record GroupKept (f : TableForm) (es : List Entry) (v : GroupData) : Type 0 
   pub shape : shape_of f.base es f.id.0 ≡ f.rows.shape
   pub high : horizon_of f.base f.id.0 es ≡ v.high
   -- the worlds of all rows at each index keep the facts
-  pub indexes : (i : ℕ) → i < length v.indexes → IndexKept f.rows.shape f.base es f.id.0 v.high (index_in f v i)
+  pub indexes : (i : ℕ) → i < length v.indexes → IndexKept f.rows.shape f.base es f.id.0 v.high (indexed_at f v i)
   -- the cells of the rows are those of the trail's written changes
   pub told : DataKept f.base es f.id.0 f.rows v.low v.cells
   -- no manifest has a horizon above the table's

@@ -4,19 +4,19 @@ use Rattle.px_cells.specs.declared.kind.CellKind.{CellKind}
 use Rattle.px_cells.specs.Contents.{value_at}
 use Rattle.px_values.specs.declared.row.Value.{Value}
 use Rattle.px_trail.specs.Trail.{shape_of}
-use Rattle.px_world.specs.Facts.{IsSound}
+use Rattle.px_world.specs.Facts.{IsSoundWorld}
 use Rattle.px_forms.specs.Indexes.{IsIndexForm}
 use Rattle.px_forms.specs.Rows.{IsDataForm}
 use Rattle.px_indexed.specs.Kept.{AreIndexCells, AreRowCells}
-use Rattle.px_groupworld.specs.Group.{TableForm, GroupData, IsTableBase, no_part, index_in, shape_in, world_in}
+use Rattle.px_groupworld.specs.Group.{TableForm, GroupData, IsTableBase, no_part, indexed_at, shape_in, world_in}
 
 -- an index of the folder, with a sound world of every row
 pub record IsSoundIndex (f : TableForm) (v : GroupData) (i : ℕ) : Type 0 where
-  pub form : IsIndexForm (index_in f v i).form
-  pub birth : (index_in f v i).birth ≤ f.base.last f.id.0
+  pub form : IsIndexForm (indexed_at f v i).form
+  pub birth : (indexed_at f v i).birth ≤ f.base.last f.id.0
   pub own : (get_or v.indexes i no_part).horizon ≤ v.high
-  pub cells : AreIndexCells (index_in f v i).form (f.base.last f.id.0) (index_in f v i).cells
-  pub worlds : (r : List Value) → IsSound (shape_in f v i r) (world_in f [] v i r)
+  pub cells : AreIndexCells (indexed_at f v i).form (f.base.last f.id.0) (indexed_at f v i).cells
+  pub worlds : (r : List Value) → IsSoundWorld (shape_in f v i r) (world_in f [] v i r)
 
 -- the base's states of each row are what its cells spell, and each index is sound
 pub record IsSoundTable (f : TableForm) (v : GroupData) : Type 0 where

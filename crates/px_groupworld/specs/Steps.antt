@@ -8,7 +8,7 @@ use Rattle.px_trail.specs.declared.entry.Entry.{Entry}
 use Rattle.px_trail.specs.Batches.{Batch, change_of}
 use Rattle.px_world.specs.Events.{Event, Birth, happens}
 use Rattle.px_world.specs.IndexCells.{IndexCells, Moves}
-use Rattle.px_indexed.specs.Worlds.{Times, history_at, marked_by, world_of}
+use Rattle.px_indexed.specs.Worlds.{Times, history_at, marked_by, world_of_history}
 use Rattle.px_groupworld.specs.Group.{TableForm, IndexPart, OpenBatch, GroupData, GroupKept, no_part, no_open, shape_in, waits_in, world_in}
 
 -- 1. Events
@@ -26,8 +26,8 @@ pub record Steps (f : TableForm) (e : Events) (es : List Entry) (v : GroupData) 
   pub kept : GroupKept f es' v'
   pub does : Does f e es v es' v'
 
-abbrev pub nothing : Events
-nothing i r = None
+abbrev pub no_events : Events
+no_events i r = None
 
 -- the event at one index, and none at the others
 abbrev pub at_index : ℕ → ℕ → Option (Event (List ℕ) What) → Option (Event (List ℕ) What)
@@ -93,4 +93,4 @@ born_data id s v = record v { indexes = v.indexes ++ record { id = id; cells = [
 pub record Bears (f : TableForm) (id s : ℕ) (es : List Entry) (v : GroupData) (es' : List Entry) : Type 0 where
   pub kept : GroupKept f es' (born_data id s v)
   pub others : (i : ℕ) → i < length v.indexes → (r : List Value) → world_in f es' (born_data id s v) i r ≡ world_in f es v i r
-  pub born : (r : List Value) (cells : IndexCells (List ℕ) (List ℕ)) (x : Times) → x.raised ≡ v.high → happens (shape_in f (born_data id s v) (length v.indexes) r) (world_of (history_at f.rows.shape f.base es' f.id.0 r) (marked_by (history_at f.rows.shape f.base es' f.id.0 r) (waits_in v.opens (length v.indexes))) cells x) (Birth s) ≡ world_in f es' (born_data id s v) (length v.indexes) r
+  pub born : (r : List Value) (cells : IndexCells (List ℕ) (List ℕ)) (x : Times) → x.raised ≡ v.high → happens (shape_in f (born_data id s v) (length v.indexes) r) (world_of_history (history_at f.rows.shape f.base es' f.id.0 r) (marked_by (history_at f.rows.shape f.base es' f.id.0 r) (waits_in v.opens (length v.indexes))) cells x) (Birth s) ≡ world_in f es' (born_data id s v) (length v.indexes) r

@@ -24,7 +24,7 @@ ghost use Rattle.px_indexed.specs.Worlds.{begin_event, change_event, row_event};
 ghost use Rattle.px_indexed.specs.Kept.{IsCompacted, ReadsWrites};
 ghost use Rattle.px_indexed.specs.Idle.{IsElsewhere};
 ghost use Rattle.px_groupworld.specs.Group.{GroupData, GroupKept, AllAnswer, table_form, no_part, no_open, shape_in, world_in};
-ghost use Rattle.px_groupworld.specs.Steps.{Steps, Bears, nothing, at_index, begun_data, marked_data, cells_data, wrote_data, ended_data, raised_data, forgot_data, own_forgot_data, ready_data};
+ghost use Rattle.px_groupworld.specs.Steps.{Steps, Bears, no_events, at_index, begun_data, marked_data, cells_data, wrote_data, ended_data, raised_data, forgot_data, own_forgot_data, ready_data};
 ghost use Rattle.px_groupworld.specs.Asks.{FitAll, CanMark, HasMarked, CanVerify, CanFix, CanBase};
 ghost use Rattle.px_groupworld.specs.Sound.{IsSoundTable, made_data};
 
@@ -54,10 +54,10 @@ pub fn law_answers<F: Formed>()
 pub fn law_batches<F: Formed>()
     ensures begins { (b : Base) → (id : TableNumber) → (index : ℕ → IndexForm) → (es : List Entries) → (v : GroupData) → GroupKept (table_form b id index F.rows) es v → (e : Entries) → MayCome b es e → (s : ℕ) → (cs : List RowChange) → e.act ≡ Begun id s cs → FitAll (table_form b id index F.rows) cs → Steps (table_form b id index F.rows) (λ i r. begin_event s (change_of cs r)) es v (es ++ e ∷ []) (begun_data s v) }
     ensures marks { (b : Base) → (id : TableNumber) → (index : ℕ → IndexForm) → (es : List Entries) → (v : GroupData) → GroupKept (table_form b id index F.rows) es v → (m : ℕ) → (batch : List CellData) → (cells : List CellData) → (can : CanMark (table_form b id index F.rows) es v m batch) → ReadsSame cells (batch ++ (get_or v.indexes (get_or v.opens m no_open).done no_part).cells) → Steps (table_form b id index F.rows) (λ i r. at_index (get_or v.opens m no_open).done i (change_event (Mark (get_or v.opens m no_open).stamp) (change_of can.batch.changes r))) es v es (marked_data m cells v) }
-    ensures marked { (b : Base) → (id : TableNumber) → (index : ℕ → IndexForm) → (es : List Entries) → (v : GroupData) → GroupKept (table_form b id index F.rows) es v → (e : Entries) → MayCome b es e → (m : ℕ) → HasMarked v m → e.act ≡ Phase id (get_or v.opens m no_open).stamp 1 → Steps (table_form b id index F.rows) nothing es v (es ++ e ∷ []) v }
+    ensures marked { (b : Base) → (id : TableNumber) → (index : ℕ → IndexForm) → (es : List Entries) → (v : GroupData) → GroupKept (table_form b id index F.rows) es v → (e : Entries) → MayCome b es e → (m : ℕ) → HasMarked v m → e.act ≡ Phase id (get_or v.opens m no_open).stamp 1 → Steps (table_form b id index F.rows) no_events es v (es ++ e ∷ []) v }
     ensures writes { (b : Base) → (id : TableNumber) → (index : ℕ → IndexForm) → (es : List Entries) → (v : GroupData) → GroupKept (table_form b id index F.rows) es v → (e : Entries) → MayCome b es e → (s : ℕ) → (rows : List (List ColumnValue)) → e.act ≡ Wrote id s rows → (y : Batch) → batch_of id.0 s es ≡ Some y → (batch : List CellData) → (cells : List CellData) → ReadsWrites F.rows y s rows batch → ReadsSame cells (batch ++ v.cells) → Steps (table_form b id index F.rows) (λ i r. row_event (Write s) (has rows r)) es v (es ++ e ∷ []) (wrote_data cells v) }
     ensures verifies { (b : Base) → (id : TableNumber) → (index : ℕ → IndexForm) → (es : List Entries) → (v : GroupData) → GroupKept (table_form b id index F.rows) es v → (at : ℕ) → (batch : List CellData) → (cells : List CellData) → ReadsSame cells (batch ++ (get_or v.indexes at no_part).cells) → (s : ℕ) → (rows : List (List ColumnValue)) → CanVerify (table_form b id index F.rows) es v at s rows batch → Steps (table_form b id index F.rows) (λ i r. at_index at i (row_event (Verify s) (has rows r))) es v es (cells_data at cells v) }
-    ensures verified { (b : Base) → (id : TableNumber) → (index : ℕ → IndexForm) → (es : List Entries) → (v : GroupData) → GroupKept (table_form b id index F.rows) es v → (e : Entries) → MayCome b es e → (s : ℕ) → e.act ≡ Phase id s 3 → Steps (table_form b id index F.rows) nothing es v (es ++ e ∷ []) v }
+    ensures verified { (b : Base) → (id : TableNumber) → (index : ℕ → IndexForm) → (es : List Entries) → (v : GroupData) → GroupKept (table_form b id index F.rows) es v → (e : Entries) → MayCome b es e → (s : ℕ) → e.act ≡ Phase id s 3 → Steps (table_form b id index F.rows) no_events es v (es ++ e ∷ []) v }
     ensures ends { (b : Base) → (id : TableNumber) → (index : ℕ → IndexForm) → (es : List Entries) → (v : GroupData) → GroupKept (table_form b id index F.rows) es v → (e : Entries) → MayCome b es e → (m : ℕ) → HasMarked v m → e.act ≡ Ended id (get_or v.opens m no_open).stamp → (y : Batch) → batch_of id.0 (get_or v.opens m no_open).stamp es ≡ Some y → Steps (table_form b id index F.rows) (λ i r. change_event (End (get_or v.opens m no_open).stamp) (change_of y.changes r)) es v (es ++ e ∷ []) (ended_data (get_or v.opens m no_open).stamp v) }
 {}
 
@@ -74,5 +74,5 @@ pub fn law_upkeep<F: Formed>()
 
 /// An entry of another table, or of points, repairs, indexes and device calls, is no event of the table's worlds.
 pub fn law_idle<F: Formed>()
-    ensures { (b : Base) → (id : TableNumber) → (index : ℕ → IndexForm) → (es : List Entries) → (v : GroupData) → GroupKept (table_form b id index F.rows) es v → (e : Entries) → MayCome b es e → IsElsewhere id e.act → Steps (table_form b id index F.rows) nothing es v (es ++ e ∷ []) v }
+    ensures { (b : Base) → (id : TableNumber) → (index : ℕ → IndexForm) → (es : List Entries) → (v : GroupData) → GroupKept (table_form b id index F.rows) es v → (e : Entries) → MayCome b es e → IsElsewhere id e.act → Steps (table_form b id index F.rows) no_events es v (es ++ e ∷ []) v }
 {}

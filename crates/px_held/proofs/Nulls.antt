@@ -5,9 +5,9 @@ use Rattle.std.specs.List.{range_with_len}
 use Rattle.std.proofs.lemmas.List.{map-append}
 use Rattle.std.proofs.lemmas.List.Elements.{filter-append}
 use Rattle.px_tables.specs.declared.table.KeyPlace.{KeyPlace}
-use Rattle.px_held.specs.Merged.{has_place, is_of_key, null, null_outside}
+use Rattle.px_held.specs.Merged.{is_in_key, is_of_key, null, null_outside}
 
-same-key : (key : List KeyPlace) (c : ℕ) → has_place key c ≡ is_of_key (map (λ p. p.column) key) c
+same-key : (key : List KeyPlace) (c : ℕ) → is_in_key key c ≡ is_of_key (map (λ p. p.column) key) c
 same-key [] c = refl
 same-key (p ∷ key) c = ap (λ b. (p.column == c) || b) (same-key key c)
 
@@ -15,7 +15,7 @@ range-more : (a n j : ℕ) → a + n ≡ j → range_with_len a (suc n) ≡ rang
 range-more a zero j e = let q : a ≡ j = omega (arith, e) in ap (λ i. i ∷ []) q
 range-more a (suc n) j e = ap (λ l. a ∷ l) (range-more (a + 1) n j (omega (arith, e)))
 
-one : (key : List KeyPlace) (c : ℕ) (b : Bool) → has_place key c ≡ b → map null (filter (λ i. not (is_of_key (map (λ p. p.column) key) i)) (c ∷ [])) ≡ null_outside key c
+one : (key : List KeyPlace) (c : ℕ) (b : Bool) → is_in_key key c ≡ b → map null (filter (λ i. not (is_of_key (map (λ p. p.column) key) i)) (c ∷ [])) ≡ null_outside key c
 one key c true e = let q : is_of_key (map (λ p. p.column) key) c ≡ true = sym (same-key key c) ∙ e in rw (q, e) refl
 one key c false e = let q : is_of_key (map (λ p. p.column) key) c ≡ false = sym (same-key key c) ∙ e in rw (q, e) refl
 
@@ -27,4 +27,4 @@ nulls-more key n =
     ∙ (ap (λ l. map null (filter p l)) (range-more 0 n n (omega arith))
     ∙ (ap (map null) (filter-append p (range_with_len 0 n) (n ∷ []))
     ∙ (map-append null (filter p (range_with_len 0 n)) (filter p (n ∷ []))
-    ∙ ap (λ l. map null (filter p (range_with_len 0 n)) ++ l) (one key n (has_place key n) refl))))
+    ∙ ap (λ l. map null (filter p (range_with_len 0 n)) ++ l) (one key n (is_in_key key n) refl))))

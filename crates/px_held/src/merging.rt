@@ -9,7 +9,7 @@ use std::alloc::{AllocError, Global};
 
 /// Whether one of the assignments is of this column.
 fn names(assignments: &[Assignment], column: u8) -> bool
-    ensures { result ≡ spec.names assignments.now column }
+    ensures { result ≡ spec.assigns_column assignments.now column }
 {
     assignments.iter().any(|a| a.column == column)
 }
@@ -50,7 +50,7 @@ fn joined(
     earlier: &[Assignment],
     later: Assignments,
 ) -> Result<Assignments, AllocError>
-    ensures { IfOk result (λ all. all ≡ spec.joined earlier.now later) }
+    ensures { IfOk result (λ all. all ≡ spec.joined_assignments earlier.now later) }
 {
     let mut list = Vec::new(alloc);
     add_unnamed(alloc, earlier, later.as_slice(), &mut list)?;
@@ -60,7 +60,7 @@ fn joined(
 
 /// Whether the column is one of the key.
 fn is_of_key(key: &[KeyPlace], column: u8) -> bool
-    ensures { result ≡ spec.has_place key.now column }
+    ensures { result ≡ spec.is_in_key key.now column }
 {
     key.iter().any(|place| place.column == column)
 }
@@ -93,7 +93,7 @@ fn nulls(alloc: Global, table: &Table) -> Result<Assignments, AllocError>
 /// The values of a row that is set, where it was removed before: each column outside the key that isn't named is NULL.
 fn set_anew(alloc: Global, table: &Table, later: Assignments) -> Result<What, AllocError>
     requires { length table.now.columns ≤ 255 }
-    ensures { IfOk result (λ what. what ≡ What.Set (spec.joined (spec.nulls (table_shape table.now)) later)) }
+    ensures { IfOk result (λ what. what ≡ What.Set (spec.joined_assignments (spec.nulls (table_shape table.now)) later)) }
 {
     match nulls(alloc, table) {
         Ok(nulls) => Ok(What::Set(joined(alloc, nulls.as_slice(), later)?)),

@@ -16,7 +16,7 @@ use Rattle.px_trail.specs.declared.entry.Entry.{Entry}
 use Rattle.px_trail.specs.Batches.{Batch, IsPending, batch_from, batch_of, batch_step, begun_batch, change_of, has, rows_of, unwritten}
 use Rattle.px_trail.specs.Trail.{Base, IsBase, last_of}
 use Rattle.px_trail.specs.Legal.{IsWritable}
-use Rattle.px_trail.specs.States.{Dated, IsRising, applied, begun, begun_by, dated, is_written, is_written_in, written}
+use Rattle.px_trail.specs.States.{Dated, IsRising, applied, begun, begun_by, dated, is_row_written, is_written_in, written}
 use Rattle.px_trail.proofs.Growth.{batch_of-snoc, begun-snoc}
 use Rattle.px_trail.proofs.Batches.{batch-none, last_from-le}
 use Rattle.px_trail.proofs.States.{applied-append}
@@ -84,13 +84,13 @@ module _ (sh : Shape) (b : Base) (tid : TableId) (r : List Value) (sound : IsBas
 
   module _ (es : List Entry) (h : History RowState) (tie : Tied sh b es t r h) where
     -- an entry that tells nothing new of the row
-    pub tied_same : (es' : List Entry) → ((s : ℕ) → row_in (batch_of t s es') r ≡ row_in (batch_of t s es) r) → ((s : ℕ) → is_written es' t r s ≡ is_written es t r s) → begun t r es' ≡ begun t r es → Tied sh b es' t r h
+    pub tied_same : (es' : List Entry) → ((s : ℕ) → row_in (batch_of t s es') r ≡ row_in (batch_of t s es) r) → ((s : ℕ) → is_row_written es' t r s ≡ is_row_written es t r s) → begun t r es' ≡ begun t r es → Tied sh b es' t r h
     tied_same es' rows writes begins = record {
       fates = λ s. tie.fates s ∙ ap (λ o. cond (b.changed t r s) Written (fate_by o)) (sym (rows s));
       fresh = λ s x q. tie.fresh s x (sym (rows s) ∙ q);
       writes = λ s. writes s ∙ (tie.writes s ∙ ap (λ o. counts (fate_by o)) (sym (rows s)));
       ends = λ s. tie.ends s ∙ ap (λ o. cond (b.changed t r s) true (ended_by o)) (sym (rows s));
-      states = λ p. tie.states p ∙ ap (λ l. applied sh r p (b.state t r p) l) (sym ((λ i. filter (λ d. writes d.stamp i) (begun t r es')) ∙ ap (λ l. filter (λ d. is_written es t r d.stamp) l) begins));
+      states = λ p. tie.states p ∙ ap (λ l. applied sh r p (b.state t r p) l) (sym ((λ i. filter (λ d. writes d.stamp i) (begun t r es')) ∙ ap (λ l. filter (λ d. is_row_written es t r d.stamp) l) begins));
       chained = tie.chained;
       news = λ s x q. tie.news s x (sym (rows s) ∙ q);
       rising = subst IsRising (sym begins) tie.rising;
@@ -137,10 +137,10 @@ module _ (sh : Shape) (b : Base) (tid : TableId) (r : List Value) (sound : IsBas
       unfolding begun_by
       begins_with = begun-snoc t r es e ∙ ap (λ l. begun t r es ++ l) (ap (λ (a : Act). begun_by t r a) is ∙ ap (λ (v : Bool). if v then dated s (change_of cs r) else []) (number_same t))
 
-      writes_same : (u : ℕ) → is_written after t r u ≡ is_written es t r u
+      writes_same : (u : ℕ) → is_row_written after t r u ≡ is_row_written es t r u
       unfolding has
       writes_same u = elim (cases_eq s u) [
-        | inl q ↦ subst (λ (v : ℕ). is_written after t r v ≡ is_written es t r v) q (ap (λ (o : Option Batch). is_written_in o r) batch_here ∙ sym (ap (λ (o : Option Batch). is_written_in o r) none_here))
+        | inl q ↦ subst (λ (v : ℕ). is_row_written after t r v ≡ is_row_written es t r v) q (ap (λ (o : Option Batch). is_written_in o r) batch_here ∙ sym (ap (λ (o : Option Batch). is_written_in o r) none_here))
         | inr q ↦ ap (λ (o : Option Batch). is_written_in o r) (batch_there u q)
       ]
 
@@ -202,9 +202,9 @@ module _ (sh : Shape) (b : Base) (tid : TableId) (r : List Value) (sound : IsBas
         expected_next : (p : ℕ) → p < s → expected_state next p ≡ expected_state h p
         expected_next p l = state_at-alike h.base (λ u. is_expected (h.fate u)) (λ u. is_expected (next.fate u)) h.new next.new p (λ u m. ap is_expected (set_stamp-below s Undecided h.fate u (omega arith))) (λ u m c. set_stamp-below s (apply sh r (expected_state h (s - 1)) w) h.new u (omega arith))
 
-        written_none : (u : ℕ) → s ≡ u → is_written after t r u ≡ false
+        written_none : (u : ℕ) → s ≡ u → is_row_written after t r u ≡ false
         unfolding has
-        written_none u q = subst (λ (v : ℕ). is_written after t r v ≡ false) q (ap (λ (o : Option Batch). is_written_in o r) batch_here)
+        written_none u q = subst (λ (v : ℕ). is_row_written after t r v ≡ false) q (ap (λ (o : Option Batch). is_written_in o r) batch_here)
 
         abbrev this : Dated
         this = record { stamp = s; what = w }
@@ -218,9 +218,9 @@ module _ (sh : Shape) (b : Base) (tid : TableId) (r : List Value) (sound : IsBas
         trail_states : (p : ℕ) → state_by sh b after t r p ≡ state_by sh b es t r p
         trail_states p = ap (λ l. applied sh r p (b.state t r p) l)
             ((λ i. filter (λ d. writes_same d.stamp i) (begun t r after))
-            ∙ (ap (λ l. filter (λ d. is_written es t r d.stamp) l) (begins_with ∙ ap (λ o. begun t r es ++ dated s o) has_change)
-            ∙ (filter-append (λ d. is_written es t r d.stamp) (begun t r es) (record { stamp = s; what = w } ∷ [])
-            ∙ (ap (λ (v : Bool). filter (λ d. is_written es t r d.stamp) (begun t r es) ++ (if v then record { stamp = s; what = w } ∷ [] else [])) (sym (writes_same s) ∙ written_none s refl)
+            ∙ (ap (λ l. filter (λ d. is_row_written es t r d.stamp) l) (begins_with ∙ ap (λ o. begun t r es ++ dated s o) has_change)
+            ∙ (filter-append (λ d. is_row_written es t r d.stamp) (begun t r es) (record { stamp = s; what = w } ∷ [])
+            ∙ (ap (λ (v : Bool). filter (λ d. is_row_written es t r d.stamp) (begun t r es) ++ (if v then record { stamp = s; what = w } ∷ [] else [])) (sym (writes_same s) ∙ written_none s refl)
             ∙ append-nil (written es t r)))))
 
         begun_next : begun t r after ≡ begun t r es ++ record { stamp = s; what = w } ∷ []
@@ -234,7 +234,7 @@ module _ (sh : Shape) (b : Base) (tid : TableId) (r : List Value) (sound : IsBas
             | inr k ↦ tie.fresh u x (sym (ap (λ (o : Option Batch). row_in o r) (batch_there u k)) ∙ q)
           ];
           writes = λ u. elim (cases_eq s u) [
-            | inl k ↦ subst (λ (v : ℕ). is_written after t r v ≡ counts (fate_by (row_in (batch_of t v after) r))) k (written_none s refl ∙ sym (ap (λ o. counts (fate_by o)) (row_here ∙ ap (λ o. row_as o false false) has_change)))
+            | inl k ↦ subst (λ (v : ℕ). is_row_written after t r v ≡ counts (fate_by (row_in (batch_of t v after) r))) k (written_none s refl ∙ sym (ap (λ o. counts (fate_by o)) (row_here ∙ ap (λ o. row_as o false false) has_change)))
             | inr k ↦ writes_same u ∙ (tie.writes u ∙ ap (λ (o : Option Batch). counts (fate_by (row_in o r))) (sym (batch_there u k)))
           ];
           ends = ended_next;
@@ -320,13 +320,13 @@ module _ (sh : Shape) (b : Base) (tid : TableId) (r : List Value) (sound : IsBas
       row_was : row_in (batch_of t s es) r ≡ row_as (change_of batch.changes r) (has batch.written r) batch.ended
       row_was = ap (λ (o : Option Batch). row_in o r) f.is
 
-      writes_wrote : is_written afterwards t r s ≡ (has batch.written r || has rows r)
+      writes_wrote : is_row_written afterwards t r s ≡ (has batch.written r || has rows r)
       writes_wrote = ap (λ (o : Option Batch). is_written_in o r) batch_wrote ∙ has-append batch.written rows r
 
-      writes_was : is_written es t r s ≡ has batch.written r
+      writes_was : is_row_written es t r s ≡ has batch.written r
       writes_was = ap (λ (o : Option Batch). is_written_in o r) f.is
 
-      pub writes_else : (u : ℕ) → (s ≡ u → ⊥) → is_written afterwards t r u ≡ is_written es t r u
+      pub writes_else : (u : ℕ) → (s ≡ u → ⊥) → is_row_written afterwards t r u ≡ is_row_written es t r u
       writes_else u n = ap (λ (o : Option Batch). is_written_in o r) (batch_else u n)
 
       or_false : (v : Bool) → (v || false) ≡ v
@@ -345,7 +345,7 @@ module _ (sh : Shape) (b : Base) (tid : TableId) (r : List Value) (sound : IsBas
             | inr q ↦ ap (λ (o : Option Batch). row_in o r) (batch_else u q)
           ])
           (λ u. elim (cases_eq s u) [
-            | inl q ↦ subst (λ (v : ℕ). is_written afterwards t r v ≡ is_written es t r v) q (writes_wrote ∙ ((ap (λ v. has batch.written r || v) n ∙ or_false (has batch.written r)) ∙ sym writes_was))
+            | inl q ↦ subst (λ (v : ℕ). is_row_written afterwards t r v ≡ is_row_written es t r v) q (writes_wrote ∙ ((ap (λ v. has batch.written r || v) n ∙ or_false (has batch.written r)) ∙ sym writes_was))
             | inr q ↦ writes_else u q
           ])
           begins_none
@@ -434,7 +434,7 @@ module _ (sh : Shape) (b : Base) (tid : TableId) (r : List Value) (sound : IsBas
 
         -- the trail's written changes have one more at their end
         written_more : written afterwards t r ≡ written es t r ++ record { stamp = s; what = w } ∷ []
-        written_more = ap (λ l. filter (λ d. is_written afterwards t r d.stamp) l) begins_none ∙ filter_more (is_written es t r) (is_written afterwards t r) (record { stamp = s; what = w })
+        written_more = ap (λ l. filter (λ d. is_row_written afterwards t r d.stamp) l) begins_none ∙ filter_more (is_row_written es t r) (is_row_written afterwards t r) (record { stamp = s; what = w })
             (λ u n. writes_else u n)
             (writes_wrote ∙ (ap (λ v. v || has rows r) not_written ∙ of))
             (writes_was ∙ not_written)
@@ -490,7 +490,7 @@ module _ (sh : Shape) (b : Base) (tid : TableId) (r : List Value) (sound : IsBas
             | inr k ↦ tie.fresh u x (sym (ap (λ (o : Option Batch). row_in o r) (batch_else u k)) ∙ q)
           ];
           writes = λ u. elim (cases_eq s u) [
-            | inl k ↦ subst (λ (v : ℕ). is_written afterwards t r v ≡ counts (fate_by (row_in (batch_of t v afterwards) r))) k (writes_wrote ∙ (ap (λ v. v || has rows r) not_written ∙ of) ∙ sym (ap (λ o. counts (fate_by o)) row_after))
+            | inl k ↦ subst (λ (v : ℕ). is_row_written afterwards t r v ≡ counts (fate_by (row_in (batch_of t v afterwards) r))) k (writes_wrote ∙ (ap (λ v. v || has rows r) not_written ∙ of) ∙ sym (ap (λ o. counts (fate_by o)) row_after))
             | inr k ↦ writes_else u k ∙ (tie.writes u ∙ ap (λ (o : Option Batch). counts (fate_by (row_in o r))) (sym (batch_else u k)))
           ];
           ends = λ u. elim (cases_eq s u) [
@@ -593,9 +593,9 @@ module _ (sh : Shape) (b : Base) (tid : TableId) (r : List Value) (sound : IsBas
       row_unended : row_in (batch_of t s es) r ≡ row_as (change_of f.batch.changes r) (has f.batch.written r) f.batch.ended
       row_unended = ap (λ (o : Option Batch). row_in o r) f.is
 
-      writes_ended : (u : ℕ) → is_written ended_es t r u ≡ is_written es t r u
+      writes_ended : (u : ℕ) → is_row_written ended_es t r u ≡ is_row_written es t r u
       writes_ended u = elim (cases_eq s u) [
-        | inl q ↦ subst (λ (v : ℕ). is_written ended_es t r v ≡ is_written es t r v) q (ap (λ (o : Option Batch). is_written_in o r) batch_ended ∙ sym (ap (λ (o : Option Batch). is_written_in o r) f.is))
+        | inl q ↦ subst (λ (v : ℕ). is_row_written ended_es t r v ≡ is_row_written es t r v) q (ap (λ (o : Option Batch). is_written_in o r) batch_ended ∙ sym (ap (λ (o : Option Batch). is_written_in o r) f.is))
         | inr q ↦ ap (λ (o : Option Batch). is_written_in o r) (batch_other u q)
       ]
 
@@ -663,7 +663,7 @@ module _ (sh : Shape) (b : Base) (tid : TableId) (r : List Value) (sound : IsBas
             | inl k ↦ subst (λ (v : ℕ). done.is_ended v ≡ cond (b.changed t r v) true (ended_by (row_in (batch_of t v ended_es) r))) k (set_stamp-same s true h.is_ended ∙ sym (cond-false _ _ _ (tie.fresh s _ row_open).1 ∙ ap ended_by row_done))
             | inr k ↦ set_stamp-other s true h.is_ended u k ∙ (tie.ends u ∙ ap (λ (o : Option Batch). cond (b.changed t r u) true (ended_by (row_in o r))) (sym (batch_other u k)))
           ];
-          states = λ p. tie.states p ∙ ap (λ l. applied sh r p (b.state t r p) l) (sym ((λ i. filter (λ d. writes_ended d.stamp i) (begun t r ended_es)) ∙ ap (λ l. filter (λ d. is_written es t r d.stamp) l) begins_ended));
+          states = λ p. tie.states p ∙ ap (λ l. applied sh r p (b.state t r p) l) (sym ((λ i. filter (λ d. writes_ended d.stamp i) (begun t r ended_es)) ∙ ap (λ l. filter (λ d. is_row_written es t r d.stamp) l) begins_ended));
           chained = tie.chained;
           news = λ u x q. (let z = same_what u x q in tie.news u z.0 z.1.0 ∙ ap (λ y. apply sh r (h.old u) y) z.1.1);
           rising = subst IsRising (sym begins_ended) tie.rising;

@@ -9,7 +9,7 @@ use Rattle.px_trail.specs.declared.entry.Act.TheVariants.{Begun, Wrote, Ended}
 use Rattle.px_trail.specs.declared.entry.Entry.{Entry}
 use Rattle.px_trail.specs.Batches.{Batch, batch_of, change_of, has}
 use Rattle.px_trail.specs.Trail.{Base, shape_of}
-use Rattle.px_trail.specs.States.{Dated, IsRising, applied, begun, is_written, written}
+use Rattle.px_trail.specs.States.{Dated, IsRising, applied, begun, is_row_written, written}
 use Rattle.px_world.specs.World.{Fate, Unbegun, Undecided, Written, is_begun, is_undecided, is_written as is_written_fate}
 use Rattle.px_history.specs.History.{History, begin_change, write_change, end_change, written_state, expected_state}
 
@@ -84,7 +84,7 @@ pub record Tied (sh : Shape) (b : Base) (es : List Entry) (t : ℕ) (r : List Va
   -- a batch's change is none of the base's
   pub fresh : (s : ℕ) (x : RowBatch) → row_in (batch_of t s es) r ≡ Some x → (0 < s) × (b.changed t r s ≡ false)
   -- just rows that the batch changes are written
-  pub writes : (s : ℕ) → is_written es t r s ≡ is_written_fate (fate_by (row_in (batch_of t s es) r))
+  pub writes : (s : ℕ) → is_row_written es t r s ≡ is_written_fate (fate_by (row_in (batch_of t s es) r))
   pub ends : (s : ℕ) → h.is_ended s ≡ cond (b.changed t r s) true (ended_by (row_in (batch_of t s es) r))
   -- the states by the written changes are those of the trail
   pub states : (p : ℕ) → written_state h p ≡ state_by sh b es t r p

@@ -15,7 +15,7 @@ use Rattle.px_world.specs.World.{Absent, World, top, source}
 use Rattle.px_world.specs.Events.{Forget, is_at, happens}
 use Rattle.px_cells.specs.Contents.{value_at, cell_of}
 use Rattle.px_cells.specs.Sight.{seen_at, IsPlainRegion}
-use Rattle.px_world.specs.IndexCells.{IndexCells, index_of, with_index, Moves}
+use Rattle.px_world.specs.IndexCells.{IndexCells, world_index, with_index, Moves}
 use Rattle.px_forms.specs.Indexes.{status_in, shape_at, view_at}
 use Rattle.px_indexed.specs.Worlds.{world_at, Indexed}
 use Rattle.px_indexed.specs.Kept.{IndexKept}
@@ -130,7 +130,7 @@ module _ (sh : RowShape) (b : Base) (es : List Entry) (tid : TableId) (raised : 
     compacted_moves = (
       (refl, tt),
       ap (λ (v : IndexCells (List ℕ) (List ℕ)). with_index (record w { kept = max x.birth raised; floor = max x.birth raised }) v)
-          (same_cells (view_at x.form r new) (index_of (happens (shape_at sh x.form r) w (Forget true)))
+          (same_cells (view_at x.form r new) (world_index (happens (shape_at sh x.form r) w (Forget true)))
           (λ k s. put_left status_in Absent refl k 1 s (x.form.owns r k) (top w k raised) (λ o. top_seen sh b es t raised x r k o (bare k) raised))
           (λ k s c. put_left (λ o. o) None refl k (x.form.place c) s (x.form.owns r k && nat_lt c x.form.columns) (source w k c raised) (λ o. (let p = and_parts (x.form.owns r k) (nat_lt c x.form.columns) o in source_seen sh b es t raised x r k p.0 c (ltb-true c x.form.columns p.1) raised)))
           (λ k s c. marker_left k (x.form.place c) s DeleteColumn (x.form.owns r k && nat_lt c x.form.columns) (λ e. cc))

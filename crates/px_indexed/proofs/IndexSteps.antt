@@ -15,7 +15,7 @@ use Rattle.px_values.specs.States.{RowState, Shape as RowShape, apply}
 use Rattle.px_trail.specs.Trail.{Base, IsBase, last_of}
 use Rattle.px_trail.specs.Batches.{Batch, batch_of, change_of, has}
 use Rattle.px_trail.specs.Legal.{IsWritable}
-use Rattle.px_world.specs.Shape.{Shape}
+use Rattle.px_world.specs.Shape.{WorldShape}
 use Rattle.px_world.specs.World.{Fate, Unbegun, Undecided, Written, Absent, World, is_begun, is_undecided, st, horizon}
 use Rattle.px_world.specs.Events.{Mark, Write, Verify, End, Fix, IsBlank, set_stamp, due, stands}
 use Rattle.px_world.proofs.Steps.{set_stamp-same, set_stamp-other}
@@ -23,7 +23,7 @@ use Rattle.px_cells.specs.Contents.{value_at}
 use Rattle.px_world.specs.IndexCells.{IndexCells, over, mark_cells, close_cells, fix_cells, Moves}
 use Rattle.px_forms.specs.Indexes.{status_in, IsIndexForm, shape_at, view_at, cells_if}
 use Rattle.px_history.specs.History.{History, begin_change, write_change, end_change}
-use Rattle.px_indexed.specs.Worlds.{Times, world_of, marked_by, times_of, world_at, begin_event, change_event, row_event, history_at, Indexed}
+use Rattle.px_indexed.specs.Worlds.{Times, world_of_history, marked_by, times_of, world_at, begin_event, change_event, row_event, history_at, Indexed}
 use Rattle.px_history.specs.Rows.{row_as, row_in, fate_by, ended_by, begun_as, Tied}
 use Rattle.px_indexed.specs.Kept.{AreIndexCells}
 use Rattle.px_forms.proofs.Views.{lawful_at, view_put}
@@ -33,14 +33,14 @@ use Rattle.px_history.proofs.Changes.{from-snoc}
 use Rattle.px_indexed.proofs.Rows.{IsEnding, can_end}
 use Rattle.px_indexed.proofs.Regions.{none_above}
 
-pub world_cong : {K S X : Type 0} {h h' : History S} {m m' : ℕ → Bool} {v v' : IndexCells K X} (x : Times) → h ≡ h' → m ≡ m' → v ≡ v' → world_of h m v x ≡ world_of h' m' v' x
-world_cong x p q e = λ i. world_of (p i) (q i) (e i) x
+pub world_cong : {K S X : Type 0} {h h' : History S} {m m' : ℕ → Bool} {v v' : IndexCells K X} (x : Times) → h ≡ h' → m ≡ m' → v ≡ v' → world_of_history h m v x ≡ world_of_history h' m' v' x
+world_cong x p q e = λ i. world_of_history (p i) (q i) (e i) x
 
 module _ (sh : RowShape) (b : Base) (es : List Entry) (tid : TableId) (raised : ℕ) (x : Indexed) (r : List Value) (sound : IsBase b tid.0 r) where
   abbrev t : ℕ
   t = tid.0
 
-  abbrev n : Shape (List ℕ) RowState (List ℕ) What
+  abbrev n : WorldShape (List ℕ) RowState (List ℕ) What
   n = shape_at sh x.form r
 
   abbrev h : History RowState

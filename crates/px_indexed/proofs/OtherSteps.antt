@@ -14,7 +14,7 @@ use Rattle.px_world.specs.Events.{Raise, Forget, Birth, Base as BaseVersion, Rea
 use Rattle.px_world.specs.Facts.{Kept, ChangesKept}
 use Rattle.px_world.proofs.Beginnings.{born}
 use Rattle.px_world.specs.IndexCells.{IndexCells, over, base_cells, Moves}
-use Rattle.px_indexed.specs.Worlds.{world_of, marked_by, times_of, world_at, row_event, history_at, Indexed}
+use Rattle.px_indexed.specs.Worlds.{world_of_history, marked_by, times_of, world_at, row_event, history_at, Indexed}
 use Rattle.px_history.specs.Rows.{row_as, row_in, fate_by, ended_by}
 use Rattle.px_forms.specs.Indexes.{IndexForm, IsIndexForm, shape_at, view_at, cells_if}
 use Rattle.px_indexed.specs.Kept.{AreIndexCells, IndexKept, RowsKept}
@@ -156,7 +156,7 @@ module _ (sh : RowShape) (b : Base) (es : List Entry) (tid : TableId) (raised : 
       chained = λ p e. (k.tied r).chained p (expected_begun ((history_at sh b es t r).fate (suc p)) e);
     }
 
-    pub born_is : (r : List Value) (v : IndexCells (List ℕ) (List ℕ)) (x : Indexed) → x.waits ≡ waits → happens (shape_at sh form r) (world_of (history_at sh b es t r) (marked_by (history_at sh b es t r) x.waits) v (times_of x raised)) (Birth birth) ≡ world_at sh b es t raised young r
+    pub born_is : (r : List Value) (v : IndexCells (List ℕ) (List ℕ)) (x : Indexed) → x.waits ≡ waits → happens (shape_at sh form r) (world_of_history (history_at sh b es t r) (marked_by (history_at sh b es t r) x.waits) v (times_of x raised)) (Birth birth) ≡ world_at sh b es t raised young r
     born_is r v x q = world_cong (times_of young raised) refl (ap (marked_by (history_at sh b es t r)) q) (sym (view_empty form r))
 
     above_all : (r : List Value) (s : ℕ) → birth ≤ s → (history_at sh b es t r).fate s ≡ Unbegun

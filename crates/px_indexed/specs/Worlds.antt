@@ -26,8 +26,8 @@ pub record Times : Type 0 where
   pub is_built : Bool
 
 -- a history, which of its changes have marked the index, the index's cells as the row sees them, and the numbers
-abbrev pub world_of : {K S X : Type 0} → History S → (ℕ → Bool) → IndexCells K X → Times → World K S X
-world_of h marked v x =
+abbrev pub world_of_history : {K S X : Type 0} → History S → (ℕ → Bool) → IndexCells K X → Times → World K S X
+world_of_history h marked v x =
     record {
       base = h.base;
       fate = h.fate;
@@ -68,7 +68,7 @@ times_of x raised = record { birth = x.birth; raised = raised; kept = x.kept; fl
 
 -- the world of a row and an index, after these entries, where the table's horizon is `raised`
 abbrev pub world_at : RowShape → Base → List Entry → ℕ → ℕ → Indexed → List Value → World (List ℕ) RowState (List ℕ)
-world_at sh b es t raised x r = world_of (history_at sh b es t r) (marked_by (history_at sh b es t r) x.waits) (view_at x.form r x.cells) (times_of x raised)
+world_at sh b es t raised x r = world_of_history (history_at sh b es t r) (marked_by (history_at sh b es t r) x.waits) (view_at x.form r x.cells) (times_of x raised)
 
 -- a batch with this change of the row begins, if it has one
 abbrev pub begin_event : ℕ → Option What → Option (Event (List ℕ) What)

@@ -13,7 +13,7 @@ use Rattle.px_cells.proofs.Contents.{same_values}
 use Rattle.px_values.specs.declared.row.Value.{Value}
 use Rattle.px_values.specs.States.{RowState, Shape}
 use Rattle.px_trail.specs.Batches.{has, is_distinct}
-use Rattle.px_world.specs.Shape.{has_key, key_in}
+use Rattle.px_world.specs.Shape.{has_key, is_key_there}
 use Rattle.px_world.specs.World.{Status, Absent, Unverified, Verified}
 use Rattle.px_world.specs.IndexCells.{IndexCells, no_cells, over, status_over, close_cells}
 use Rattle.px_world.proofs.IndexCells.{same_cells}
@@ -141,10 +141,10 @@ module _ (sh : Shape) (f : IndexForm) (g : IsIndexForm f) (placed : IsPlaced f) 
     where
       now : Option (List ℕ) → Option (List ℕ) → IndexCells (List ℕ) (List ℕ)
       now n o = record {
-        status = λ k u. cond (nat_eq s u && key_in (pointwise nat_eq) k n) Verified Absent;
+        status = λ k u. cond (nat_eq s u && is_key_there (pointwise nat_eq) k n) Verified Absent;
         put = λ k u c. None;
         del = λ k u c. false;
-        fam = λ k u. nat_eq s u && (key_in (pointwise nat_eq) k o && not (key_in (pointwise nat_eq) k n));
+        fam = λ k u. nat_eq s u && (is_key_there (pointwise nat_eq) k o && not (is_key_there (pointwise nat_eq) k n));
         ver = λ k u. false;
       }
 

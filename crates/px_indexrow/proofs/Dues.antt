@@ -7,7 +7,7 @@ use Rattle.std.proofs.lemmas.Bool.{cases_eq, cases_lt, cond-true, cond-false, lt
 use Rattle.px_values.specs.States.{RowState, Shape}
 use Rattle.px_values.specs.declared.row.Value.{Value}
 use Rattle.px_world.specs.Events.{Verdict, Leave, ToVerify, ToRetire, ToErase, due}
-use Rattle.px_world.specs.Shape.{all_below, has_key, key_in, same_cell, shows}
+use Rattle.px_world.specs.Shape.{all_below, has_key, is_key_there, same_cell, shows}
 use Rattle.px_world.specs.World.{Fate, Unbegun, Undecided, Written, Lost, World, horizon, is_undecided, is_written, st, vis}
 use Rattle.px_forms.specs.Indexes.{IndexForm, shape_at}
 use Rattle.px_indexrow.specs.Verdicts.{Tells, due_below, due_told, fate_of, is_open}
@@ -53,7 +53,7 @@ module _ (sh : Shape) (f : IndexForm) (r : List Value) (w : World (List ℕ) Row
   same = pointwise nat_eq
 
   abbrev low : ℕ → ℕ → Verdict
-  low h floor = cond (not (key_in same v.key.now (f.key_of r (st w h)))) ToRetire (cond (all_below f.columns (λ c. same_cell same (vis w v.key.now h c) (f.col (st w h) c))) ToVerify (cond (nat_lt floor v.stamp) ToErase ToVerify))
+  low h floor = cond (not (is_key_there same v.key.now (f.key_of r (st w h)))) ToRetire (cond (all_below f.columns (λ c. same_cell same (vis w v.key.now h c) (f.col (st w h) c))) ToVerify (cond (nat_lt floor v.stamp) ToErase ToVerify))
 
   values_same : v.stamp ≤ x.horizon → all_below f.columns (λ c. same_cell same (vis w v.key.now x.horizon c) (f.col (st w x.horizon) c)) ≡ all_below (length v.values.now) (λ c. same_cell same (get_or v.values.now c None) (get_or x.horizon_values.now c None))
   values_same m = below_same f.columns _ _ (λ c l. (λ i. same_cell same (sym (tells.values m c l) i) (sym (tells.horizon_values m c l) i))) ∙ ap (λ (n : ℕ). all_below n (λ c. same_cell same (get_or v.values.now c None) (get_or x.horizon_values.now c None))) (sym (tells.count m))
@@ -62,7 +62,7 @@ module _ (sh : Shape) (f : IndexForm) (r : List Value) (w : World (List ℕ) Row
   low_is m = (λ i. low (tells.horizon i) (tells.floor i)) ∙ (λ i. cond (not (tells.horizon_key m i)) ToRetire (cond (values_same m i) ToVerify (cond (nat_lt x.floor v.stamp) ToErase ToVerify)))
 
   abbrev by_fate : Fate → Verdict
-  by_fate φ = cond (is_undecided φ) Leave (cond (nat_lt (horizon w) v.stamp) (cond (is_written φ) (cond (key_in same v.key.now (f.key_of r (w.new v.stamp))) ToVerify ToRetire) ToErase) (low (horizon w) w.floor))
+  by_fate φ = cond (is_undecided φ) Leave (cond (nat_lt (horizon w) v.stamp) (cond (is_written φ) (cond (is_key_there same v.key.now (f.key_of r (w.new v.stamp))) ToVerify ToRetire) ToErase) (low (horizon w) w.floor))
 
   due_by_fate : due (shape_at sh f r) w v.key.now v.stamp ≡ by_fate (w.fate v.stamp)
   unfolding due has_key shows
@@ -76,12 +76,12 @@ module _ (sh : Shape) (f : IndexForm) (r : List Value) (w : World (List ℕ) Row
   by l Unbegun e = above_is l ToErase
   by l Lost e = above_is l ToErase
   by l Undecided e = refl
-  by l Written e = above_is l (cond (key_in same v.key.now (f.key_of r (w.new v.stamp))) ToVerify ToRetire) ∙ (λ i. cond (nat_lt x.horizon v.stamp) (cond (tells.new_key l e i) ToVerify ToRetire) (due_below v x))
+  by l Written e = above_is l (cond (is_key_there same v.key.now (f.key_of r (w.new v.stamp))) ToVerify ToRetire) ∙ (λ i. cond (nat_lt x.horizon v.stamp) (cond (tells.new_key l e i) ToVerify ToRetire) (due_below v x))
 
   -- at or below it what the horizon sees
   below_is : v.stamp ≤ x.horizon → (φ : Fate) → by_fate φ ≡ cond (is_undecided φ) Leave (due_below v x)
-  below_is l φ = (λ i. cond (is_undecided φ) Leave (cond (nat_lt (tells.horizon i) v.stamp) (cond (is_written φ) (cond (key_in same v.key.now (f.key_of r (w.new v.stamp))) ToVerify ToRetire) ToErase) (low_is l i)))
-      ∙ ap (λ (b : Bool). cond (is_undecided φ) Leave (cond b (cond (is_written φ) (cond (key_in same v.key.now (f.key_of r (w.new v.stamp))) ToVerify ToRetire) ToErase) (due_below v x))) (le-ltb x.horizon v.stamp l)
+  below_is l φ = (λ i. cond (is_undecided φ) Leave (cond (nat_lt (tells.horizon i) v.stamp) (cond (is_written φ) (cond (is_key_there same v.key.now (f.key_of r (w.new v.stamp))) ToVerify ToRetire) ToErase) (low_is l i)))
+      ∙ ap (λ (b : Bool). cond (is_undecided φ) Leave (cond b (cond (is_written φ) (cond (is_key_there same v.key.now (f.key_of r (w.new v.stamp))) ToVerify ToRetire) ToErase) (due_below v x))) (le-ltb x.horizon v.stamp l)
 
   told_below : v.stamp ≤ x.horizon → (φ : ChangeFate) → cond (is_open φ) Leave (due_below v x) ≡ due_told φ v x
   told_below l fates.Undecided = refl
@@ -99,7 +99,7 @@ module _ (sh : Shape) (f : IndexForm) (r : List Value) (w : World (List ℕ) Row
 pub told_as : (v : Version) (x : Told) (φ : ChangeFate) → x.fate ≡ φ → due_told φ v x ≡ due_told x.fate v x
 told_as v x φ e = ap (λ (ψ : ChangeFate). due_told ψ v x) (sym e)
 
-pub written_above : (v : Version) (x : Told) (b : Bool) → x.horizon < v.stamp → b ≡ key_in (pointwise nat_eq) v.key.now (option_copied x.new_key) → cond b ToVerify ToRetire ≡ due_told fates.Written v x
+pub written_above : (v : Version) (x : Told) (b : Bool) → x.horizon < v.stamp → b ≡ is_key_there (pointwise nat_eq) v.key.now (option_copied x.new_key) → cond b ToVerify ToRetire ≡ due_told fates.Written v x
 written_above v x b l e = ap (λ (c : Bool). cond c ToVerify ToRetire) e ∙ sym (cond-true _ _ _ (lt-ltb x.horizon v.stamp l))
 
 pub written_below : (v : Version) (x : Told) → v.stamp ≤ x.horizon → due_below v x ≡ due_told fates.Written v x

@@ -5,13 +5,13 @@ use Rattle.std.specs.Cmp.Lexicographic.{pointwise}
 use Rattle.px_values.specs.declared.row.Value.{Value}
 use Rattle.px_values.specs.States.{RowState, Shape}
 use Rattle.px_world.specs.Events.{Verdict, Leave, ToVerify, ToRetire, ToErase}
-use Rattle.px_world.specs.Shape.{has_key, key_in}
+use Rattle.px_world.specs.Shape.{has_key, is_key_there}
 use Rattle.px_world.specs.World.{Status, Absent, Unverified, Verified}
 use Rattle.px_world.specs.IndexCells.{IndexCells, no_cells, over, status_over, base_cells, fix_cells}
 use Rattle.px_world.proofs.IndexCells.{same_cells}
 use Rattle.px_forms.specs.Indexes.{IndexForm, IsIndexForm, IsPlaced, view_at, shape_at}
 use Rattle.px_forms.proofs.Views.{view_append, view_empty}
-use Rattle.px_indexrow.specs.Lists.{status_cell, column_cells, version_cells, version_if, base_of, fix_of}
+use Rattle.px_indexrow.specs.Lists.{status_cell, column_cells, version_cells, version_if, base_version, fix_of}
 use Rattle.px_indexrow.proofs.MarksSeen.{view_columns}
 use Rattle.px_forms.proofs.RowViews.{bytes_swap}
 use Rattle.px_indexrow.proofs.ClosesSeen.{view_verified, view_family, view_erased}
@@ -37,15 +37,15 @@ module _ (f : IndexForm) (g : IsIndexForm f) (placed : IsPlaced f) (r : List Val
 -- ---- base versions
 
 module _ (sh : Shape) (f : IndexForm) (g : IsIndexForm f) (placed : IsPlaced f) (r : List Value) (s : ℕ) (state : RowState) where
-  pub base_view : view_at f r (base_of f r s state) ≡ base_cells (shape_at sh f r) s state
+  pub base_view : view_at f r (base_version f r s state) ≡ base_cells (shape_at sh f r) s state
   unfolding has_key
   base_view = by (f.key_of r state) refl
     where
       now : Option (List ℕ) → IndexCells (List ℕ) (List ℕ)
       now n = record {
-        status = λ k u. cond (nat_eq s u && key_in (pointwise nat_eq) k n) Verified Absent;
-        put = λ k u c. cond ((nat_eq s u && key_in (pointwise nat_eq) k n) && nat_lt c f.columns) (f.col state c) None;
-        del = λ k u c. (nat_eq s u && key_in (pointwise nat_eq) k n) && (nat_lt c f.columns && is_none (f.col state c));
+        status = λ k u. cond (nat_eq s u && is_key_there (pointwise nat_eq) k n) Verified Absent;
+        put = λ k u c. cond ((nat_eq s u && is_key_there (pointwise nat_eq) k n) && nat_lt c f.columns) (f.col state c) None;
+        del = λ k u c. (nat_eq s u && is_key_there (pointwise nat_eq) k n) && (nat_lt c f.columns && is_none (f.col state c));
         fam = λ k u. false;
         ver = λ k u. false;
       }

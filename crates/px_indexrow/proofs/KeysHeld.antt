@@ -19,7 +19,7 @@ use Rattle.px_tables.specs.declared.table.TableColumn.{TableColumn}
 use Rattle.px_forms.specs.Indexes.{IsIndexForm, IsPlaced}
 use Rattle.px_rows.specs.Keys.{IsRightTable, are_distinct, column_in, is_part, key_admits_null, key_column, read_parts, row_columns}
 use Rattle.px_rows.proofs.KeysBack.{parts_back}
-use Rattle.px_indexrow.specs.Form.{FitsState, IsRightIndex, index_column, index_columns, index_form, index_places, index_values, key_of_state, owns, rest_of, row_of_index, value_among, value_in}
+use Rattle.px_indexrow.specs.Form.{FitsRowState, IsRightIndex, index_column, index_columns, index_form, index_places, index_values, key_of_state, owns, rest_of, row_of_index, value_among, value_of_column}
 
 -- ---- the form's laws
 
@@ -97,52 +97,52 @@ same_map : (f g : KeyPlace → Value) (all key : List KeyPlace) → ((p : KeyPla
 same_map f g all [] h = refl
 same_map f g all (p ∷ key) h = (λ i. h p (self_part p key) i ∷ same_map f g all key (λ q e. h q (or_right (nat_eq p.column q.column) (is_part key q.column) e)) i)
 
-key_values : (key : List KeyPlace) (r row : List Value) → are_distinct key ≡ true → length r ≡ length key → map (λ p. value_in key r row p.column) key ≡ r
-unfolding value_in are_distinct
+key_values : (key : List KeyPlace) (r row : List Value) → are_distinct key ≡ true → length r ≡ length key → map (λ p. value_of_column key r row p.column) key ≡ r
+unfolding value_of_column are_distinct
 key_values [] [] row d l = refl
 key_values [] (v ∷ r) row d l = absurd (omega arith)
 key_values (p ∷ key) [] row d l = absurd (omega arith)
 key_values (p ∷ key) (v ∷ r) row d l =
     let parts = and_parts (not (is_part key p.column)) (are_distinct key) d in
     let out : is_part key p.column ≡ false = not-true (is_part key p.column) parts.0 in
-    let head : cond (nat_eq p.column p.column) v (value_in key r row p.column) ≡ v = cond-true _ _ _ (eq-eqb p.column p.column refl) in
-    let rest : map (λ q. cond (nat_eq p.column q.column) v (value_in key r row q.column)) key ≡ map (λ q. value_in key r row q.column) key =
-    same_map (λ q. cond (nat_eq p.column q.column) v (value_in key r row q.column)) (λ q. value_in key r row q.column) key key
+    let head : cond (nat_eq p.column p.column) v (value_of_column key r row p.column) ≡ v = cond-true _ _ _ (eq-eqb p.column p.column refl) in
+    let rest : map (λ q. cond (nat_eq p.column q.column) v (value_of_column key r row q.column)) key ≡ map (λ q. value_of_column key r row q.column) key =
+    same_map (λ q. cond (nat_eq p.column q.column) v (value_of_column key r row q.column)) (λ q. value_of_column key r row q.column) key key
     (λ q e. cond-false _ _ _ (ne_eqb p.column q.column (λ z. both_ways _ out (ap (is_part key) z ∙ e)))) in
     let later = key_values key r row parts.1 (omega arith) in
     (λ i. head i ∷ (rest ∙ later) i)
 
 -- ---- the values of an index key fit
 
-in_key : (columns : List TableColumn) (key : List KeyPlace) (r row : List Value) (c : ℕ) → Fits (map (key_column columns) key) r → is_part key c ≡ true → HasType (column_in columns c).column_type (value_in key r row c) × (value_in key r row c ≡ Null → key_admits_null (column_in columns c).column_type (column_in columns c).not_null ≡ true)
-unfolding value_in
+in_key : (columns : List TableColumn) (key : List KeyPlace) (r row : List Value) (c : ℕ) → Fits (map (key_column columns) key) r → is_part key c ≡ true → HasType (column_in columns c).column_type (value_of_column key r row c) × (value_of_column key r row c ≡ Null → key_admits_null (column_in columns c).column_type (column_in columns c).not_null ≡ true)
+unfolding value_of_column
 in_key columns [] r row c f h = absurd (true≢false (sym h))
 in_key columns (p ∷ key) [] row c f h = absurd f
 in_key columns (p ∷ key) (v ∷ r) row c f h = elim (cases_Bool (nat_eq p.column c)) [
   | inl e ↦
       (let q = eqb-true p.column c e in
-      let here : value_in (p ∷ key) (v ∷ r) row c ≡ v = cond-true _ _ _ e in
-      subst (λ (d : ℕ). HasType (column_in columns d).column_type (value_in (p ∷ key) (v ∷ r) row c) × (value_in (p ∷ key) (v ∷ r) row c ≡ Null → key_admits_null (column_in columns d).column_type (column_in columns d).not_null ≡ true)) q
+      let here : value_of_column (p ∷ key) (v ∷ r) row c ≡ v = cond-true _ _ _ e in
+      subst (λ (d : ℕ). HasType (column_in columns d).column_type (value_of_column (p ∷ key) (v ∷ r) row c) × (value_of_column (p ∷ key) (v ∷ r) row c ≡ Null → key_admits_null (column_in columns d).column_type (column_in columns d).not_null ≡ true)) q
       (subst (HasType (column_in columns p.column).column_type) (sym here) f.0.0, λ z. f.0.1 (sym here ∙ z)))
   | inr e ↦
       (let rest = in_key columns key r row c f.1 (sym (ap (λ (b : Bool). b || is_part key c) e) ∙ h) in
-      let here : value_in (p ∷ key) (v ∷ r) row c ≡ value_in key r row c = cond-false _ _ _ e in
+      let here : value_of_column (p ∷ key) (v ∷ r) row c ≡ value_of_column key r row c = cond-false _ _ _ e in
       (subst (HasType (column_in columns c).column_type) (sym here) rest.0, λ z. rest.1 (sym here ∙ z)))
 ]
 
-beside_key : (key : List KeyPlace) (r row : List Value) (c : ℕ) → is_part key c ≡ false → value_in key r row c ≡ get_or row c Null
-unfolding value_in
+beside_key : (key : List KeyPlace) (r row : List Value) (c : ℕ) → is_part key c ≡ false → value_of_column key r row c ≡ get_or row c Null
+unfolding value_of_column
 beside_key [] r row c h = refl
 beside_key (p ∷ key) [] row c h = refl
 beside_key (p ∷ key) (v ∷ r) row c h = (let parts = or_parts (nat_eq p.column c) (is_part key c) h in cond-false _ _ _ parts.0 ∙ beside_key key r row c parts.1)
 
-place_fits : (t : Table) (r row : List Value) (p : KeyPlace) → Fits (row_columns t) r → FitsState t (Some row) → p.column < length t.columns → FitsColumn (index_column t p) (value_in t.key r row p.column)
+place_fits : (t : Table) (r row : List Value) (p : KeyPlace) → Fits (row_columns t) r → FitsRowState t (Some row) → p.column < length t.columns → FitsColumn (index_column t p) (value_of_column t.key r row p.column)
 place_fits t r row p f s l = elim (cases_Bool (is_part t.key p.column)) [
   | inl e ↦ (let h = in_key t.columns t.key r row p.column f e in (h.0, λ z. cond-true _ _ _ e ∙ h.1 z))
   | inr e ↦ (subst (HasType (column_in t.columns p.column).column_type) (sym (beside_key t.key r row p.column e)) (s.1 p.column l), λ z. cond-false _ _ _ e)
 ]
 
-places_fit : (t : Table) (r row : List Value) (places : List KeyPlace) → Fits (row_columns t) r → FitsState t (Some row) → All (λ p. p.column < length t.columns) places → Fits (map (index_column t) places) (map (λ p. value_in t.key r row p.column) places)
+places_fit : (t : Table) (r row : List Value) (places : List KeyPlace) → Fits (row_columns t) r → FitsRowState t (Some row) → All (λ p. p.column < length t.columns) places → Fits (map (index_column t) places) (map (λ p. value_of_column t.key r row p.column) places)
 places_fit t r row [] f s a = tt
 places_fit t r row (p ∷ places) f s a = (place_fits t r row p f s (All-head (λ p. p.column < length t.columns) p places a), places_fit t r row places f s (All-tail (λ p. p.column < length t.columns) p places a))
 
@@ -155,7 +155,7 @@ unfolding rest_of
 rest_within n parts [] a = a
 rest_within n parts (p ∷ key) a = within_if n p (rest_of parts key) (is_part parts p.column) (All-head (λ p. p.column < n) p key a) (rest_within n parts key (All-tail (λ p. p.column < n) p key a))
 
-pub values_fit : (t : Table) (i : Index) (r row : List Value) → IsRightTable t → IsRightIndex t i → Fits (row_columns t) r → FitsState t (Some row) → Fits (index_columns t i) (index_values t i r row)
+pub values_fit : (t : Table) (i : Index) (r row : List Value) → IsRightTable t → IsRightIndex t i → Fits (row_columns t) r → FitsRowState t (Some row) → Fits (index_columns t i) (index_values t i r row)
 values_fit t i r row right index f s = places_fit t r row (index_places t i) f s (All-append (λ p. p.column < length t.columns) i.parts (rest_of i.parts t.key) index.parts (rest_within (length t.columns) i.parts t.key right.within))
 
 fits_length : (columns : List KeyColumn) (values : List Value) → Fits columns values → length values ≡ length columns
@@ -165,33 +165,33 @@ fits_length (c ∷ columns) [] h = absurd h
 fits_length (c ∷ columns) (v ∷ values) h = ap suc (fits_length columns values h.1)
 
 -- the key of a state that fits holds its row
-pub key_owned : (t : Table) (i : Index) (r row : List Value) → IsRightTable t → IsRightIndex t i → Fits (row_columns t) r → FitsState t (Some row) → owns t i r (spelled (index_columns t i) (index_values t i r row)) ≡ true
+pub key_owned : (t : Table) (i : Index) (r row : List Value) → IsRightTable t → IsRightIndex t i → Fits (row_columns t) r → FitsRowState t (Some row) → owns t i r (spelled (index_columns t i) (index_values t i r row)) ≡ true
 unfolding owns
 key_owned t i r row right index f s =
     let k = spelled (index_columns t i) (index_values t i r row) in
     let back : read_parts (index_columns t i) k ≡ index_values t i r row = ap (read_parts (index_columns t i)) (sym (append-nil k)) ∙ parts_back (index_columns t i) (index_values t i r row) [] (values_fit t i r row right index f s) in
-    let each : row_of_index t i k ≡ map (λ p. value_in t.key r row p.column) t.key =
+    let each : row_of_index t i k ≡ map (λ p. value_of_column t.key r row p.column) t.key =
     ap (λ (vs : List Value). map (λ p. value_among (index_places t i) vs p.column) t.key) back
-    ∙ same_map (λ p. value_among (index_places t i) (index_values t i r row) p.column) (λ p. value_in t.key r row p.column) t.key t.key (λ p e. among_is (value_in t.key r row) (index_places t i) p.column (places_have t i p.column e)) in
+    ∙ same_map (λ p. value_among (index_places t i) (index_values t i r row) p.column) (λ p. value_of_column t.key r row p.column) t.key t.key (λ p e. among_is (value_of_column t.key r row) (index_places t i) p.column (places_have t i p.column e)) in
     let count : length r ≡ length t.key = fits_length (row_columns t) r f ∙ length-map t.key (key_column t.columns) in
     (row_order-Decides (row_of_index t i k) r).1 (each ∙ key_values t.key r row right.distinct count)
 
-pub key_is : (t : Table) (i : Index) (r row : List Value) → IsRightTable t → IsRightIndex t i → Fits (row_columns t) r → FitsState t (Some row) → key_of_state t i r (Some row) ≡ Some (spelled (index_columns t i) (index_values t i r row))
+pub key_is : (t : Table) (i : Index) (r row : List Value) → IsRightTable t → IsRightIndex t i → Fits (row_columns t) r → FitsRowState t (Some row) → key_of_state t i r (Some row) ≡ Some (spelled (index_columns t i) (index_values t i r row))
 key_is t i r row right index f s = cond-true _ _ _ (key_owned t i r row right index f s)
 
 -- ---- how they are found
 
 -- the first place that has the column tells its value
-pub found_value : (key : List KeyPlace) (r row : List Value) (c i : ℕ) (d : KeyPlace) (v : Value) → length r ≡ length key → i < length key → ((j : ℕ) → j < i → (get_or key j d).column ≢ c) → (get_or key i d).column ≡ c → get_or r i v ≡ value_in key r row c
-unfolding value_in
+pub found_value : (key : List KeyPlace) (r row : List Value) (c i : ℕ) (d : KeyPlace) (v : Value) → length r ≡ length key → i < length key → ((j : ℕ) → j < i → (get_or key j d).column ≢ c) → (get_or key i d).column ≡ c → get_or r i v ≡ value_of_column key r row c
+unfolding value_of_column
 found_value [] r row c i d v l m n e = absurd (omega arith)
 found_value (p ∷ key) [] row c i d v l m n e = absurd (omega arith)
 found_value (p ∷ key) (w ∷ r) row c zero d v l m n e = sym (cond-true _ _ _ (eq-eqb p.column c e))
 found_value (p ∷ key) (w ∷ r) row c (suc i) d v l m n e =
     found_value key r row c i d v (omega arith) (omega arith) (λ j h. n (suc j) (omega arith)) e ∙ sym (cond-false _ _ _ (ne_eqb p.column c (n 0 (omega arith))))
 
-pub found_none : (key : List KeyPlace) (r row : List Value) (c : ℕ) (d : KeyPlace) → ((j : ℕ) → j < length key → (get_or key j d).column ≢ c) → get_or row c Null ≡ value_in key r row c
-unfolding value_in
+pub found_none : (key : List KeyPlace) (r row : List Value) (c : ℕ) (d : KeyPlace) → ((j : ℕ) → j < length key → (get_or key j d).column ≢ c) → get_or row c Null ≡ value_of_column key r row c
+unfolding value_of_column
 found_none [] r row c d n = refl
 found_none (p ∷ key) [] row c d n = refl
 found_none (p ∷ key) (w ∷ r) row c d n = found_none key r row c d (λ j h. n (suc j) (omega arith)) ∙ sym (cond-false _ _ _ (ne_eqb p.column c (n 0 (omega arith))))

@@ -17,13 +17,13 @@ use Rattle.px_trail.specs.Batches.{has, is_distinct}
 use Rattle.px_world.specs.World.{Status, Absent, Unverified, Verified}
 use Rattle.px_world.specs.Events.{put_over}
 use Rattle.px_world.specs.IndexCells.{IndexCells, no_cells, over, status_over, mark_cells}
-use Rattle.px_world.specs.Shape.{has_key, key_in}
+use Rattle.px_world.specs.Shape.{has_key, is_key_there}
 use Rattle.px_world.proofs.IndexCells.{same_cells}
 use Rattle.px_forms.specs.Indexes.{IndexForm, IsIndexForm, IsPlaced, view_of, view_at, status_in, cells_if, shape_at}
 use Rattle.px_forms.proofs.Views.{view_append, view_empty}
 use Rattle.px_forms.specs.Several.{AreOwned, cells_for}
 use Rattle.px_forms.proofs.RowViews.{bytes_swap, over_none, rows_view}
-use Rattle.px_indexrow.specs.Lists.{status_cell, column_cell, column_cells, version_cells, version_if, left_key, status_if, family_if, marks_of, closes_of, base_of}
+use Rattle.px_indexrow.specs.Lists.{status_cell, column_cell, column_cells, version_cells, version_if, left_key, status_if, family_if, marks_of, closes_of, base_version}
 
 -- ---- the marks of one row
 
@@ -248,9 +248,9 @@ module _ (sh : Shape) (f : IndexForm) (g : IsIndexForm f) (placed : IsPlaced f) 
     where
       now : Option (List ℕ) → Option (List ℕ) → IndexCells (List ℕ) (List ℕ)
       now n o = record {
-        status = λ k u. cond (nat_eq s u && (key_in (pointwise nat_eq) k n || key_in (pointwise nat_eq) k o)) Unverified Absent;
-        put = λ k u c. cond ((nat_eq s u && key_in (pointwise nat_eq) k n) && nat_lt c f.columns) (f.col new c) None;
-        del = λ k u c. (nat_eq s u && key_in (pointwise nat_eq) k n) && (nat_lt c f.columns && is_none (f.col new c));
+        status = λ k u. cond (nat_eq s u && (is_key_there (pointwise nat_eq) k n || is_key_there (pointwise nat_eq) k o)) Unverified Absent;
+        put = λ k u c. cond ((nat_eq s u && is_key_there (pointwise nat_eq) k n) && nat_lt c f.columns) (f.col new c) None;
+        del = λ k u c. (nat_eq s u && is_key_there (pointwise nat_eq) k n) && (nat_lt c f.columns && is_none (f.col new c));
         fam = λ k u. false;
         ver = λ k u. false;
       }
@@ -354,7 +354,7 @@ closes_owned f g r s old new = owned_append f r (status_if s 1 (f.key_of r new))
     (owned_status f r s 1 (f.key_of r new) (g.owned r new))
     (owned_family f r s (left_key (f.key_of r old) (f.key_of r new)) (λ k e. g.owned r old k (left_is (f.key_of r old) (f.key_of r new) k e)))
 
-pub base_owned : (f : IndexForm) → IsIndexForm f → (r : List Value) (s : ℕ) (state : RowState) → AreOwned f r (base_of f r s state)
+pub base_owned : (f : IndexForm) → IsIndexForm f → (r : List Value) (s : ℕ) (state : RowState) → AreOwned f r (base_version f r s state)
 base_owned f g r s state = owned_version f r s 1 state (f.key_of r state) (g.owned r state)
 
 -- a sorted list that is read as the marks of rows, one after another, is what each row is marked with

@@ -18,10 +18,10 @@ use Rattle.px_values.specs.declared.row.Value.{Value}
 use Rattle.px_values.specs.declared.row.Value.TheVariants.{Null}
 use Rattle.px_rows.specs.Keys.{IsRightTable, column_in, key_column}
 use Rattle.px_rows.specs.Spelled.{FitsColumnOf, FitsTable}
-use Rattle.px_indexrow.specs.Form.{FitsState}
+use Rattle.px_indexrow.specs.Form.{FitsRowState}
 
 -- one column of a row that fits is set
-set_fits : (t : Table) (row : List Value) (c : ℕ) (v : Value) → FitsState t (Some row) → c < length t.columns → HasType (column_in t.columns c).column_type v → FitsState t (Some (slice_set row c v))
+set_fits : (t : Table) (row : List Value) (c : ℕ) (v : Value) → FitsRowState t (Some row) → c < length t.columns → HasType (column_in t.columns c).column_type v → FitsRowState t (Some (slice_set row c v))
 set_fits t row c v s l h = (
   length-set row c v ∙ s.0,
   λ d m. elim (cases_eq d c) [
@@ -30,20 +30,20 @@ set_fits t row c v s l h = (
   ],
 )
 
-assigned_keeps : (t : Table) (row : List Value) (as' : List Assignment) → AllByRecursion (FitsColumnOf t) as' → FitsState t (Some row) → FitsState t (Some (assigned row as'))
+assigned_keeps : (t : Table) (row : List Value) (as' : List Assignment) → AllByRecursion (FitsColumnOf t) as' → FitsRowState t (Some row) → FitsRowState t (Some (assigned row as'))
 assigned_keeps t row [] h s = s
 assigned_keeps t row (a ∷ as') h s = assigned_keeps t (slice_set row a.column a.value) as' h.1 (set_fits t row a.column a.value s h.0.within h.0.has_type)
 
-keys_keep : (t : Table) (key : List KeyPlace) (r row : List Value) → All (λ p. p.column < length t.columns) key → Fits (map (key_column t.columns) key) r → FitsState t (Some row) → FitsState t (Some (with_values (map (λ p. p.column) key) r row))
+keys_keep : (t : Table) (key : List KeyPlace) (r row : List Value) → All (λ p. p.column < length t.columns) key → Fits (map (key_column t.columns) key) r → FitsRowState t (Some row) → FitsRowState t (Some (with_values (map (λ p. p.column) key) r row))
 keys_keep t [] r row a f s = s
 keys_keep t (p ∷ key) [] row a f s = s
 keys_keep t (p ∷ key) (v ∷ r) row a f s = keys_keep t key r (slice_set row p.column v) (All-tail (λ p. p.column < length t.columns) p key a) f.1 (set_fits t row p.column v s (All-head (λ p. p.column < length t.columns) p key a) f.0.0)
 
-nulls_fit : (t : Table) → FitsState t (Some (replicate (length t.columns) Null))
+nulls_fit : (t : Table) → FitsRowState t (Some (replicate (length t.columns) Null))
 nulls_fit t = (length-replicate (length t.columns) Null, λ d m. subst (HasType (column_in t.columns d).column_type) (sym (get_or-replicate (length t.columns) d Null Null m)) tt)
 
 -- a change that fits leaves a state that fits
-pub apply_fits : (t : Table) (r : List Value) (o : RowState) (w : What) → IsRightTable t → FitsTable t r w → FitsState t o → FitsState t (apply (table_shape t) r o w)
+pub apply_fits : (t : Table) (r : List Value) (o : RowState) (w : What) → IsRightTable t → FitsTable t r w → FitsRowState t o → FitsRowState t (apply (table_shape t) r o w)
 apply_fits t r None (Set as') right h s = assigned_keeps t (with_values (map (λ p. p.column) t.key) r (replicate (length t.columns) Null)) as' h.1 (keys_keep t t.key r (replicate (length t.columns) Null) right.within h.0 (nulls_fit t))
 apply_fits t r (Some row) (Set as') right h s = assigned_keeps t row as' h.1 s
 apply_fits t r None Gone right h s = tt

@@ -43,13 +43,13 @@ index_columns t i = map (index_column t) (index_places t i)
 -- 2. Keys
 
 -- the value of a column: of one in the primary key its value there, of another that of the row
-unfoldable pub value_in : List KeyPlace → List Value → List Value → ℕ → Value
-value_in [] r row c = get_or row c Null
-value_in (p ∷ key) [] row c = get_or row c Null
-value_in (p ∷ key) (v ∷ r) row c = cond (nat_eq p.column c) v (value_in key r row c)
+unfoldable pub value_of_column : List KeyPlace → List Value → List Value → ℕ → Value
+value_of_column [] r row c = get_or row c Null
+value_of_column (p ∷ key) [] row c = get_or row c Null
+value_of_column (p ∷ key) (v ∷ r) row c = cond (nat_eq p.column c) v (value_of_column key r row c)
 
 abbrev pub index_values : Table → Index → List Value → List Value → List Value
-index_values t i r row = map (λ p. value_in t.key r row p.column) (index_places t i)
+index_values t i r row = map (λ p. value_of_column t.key r row p.column) (index_places t i)
 
 -- the value that stands at a column's place among these
 unfoldable pub value_among : List KeyPlace → List Value → ℕ → Value
@@ -83,9 +83,9 @@ bytes_if bytes (Text b) = Some bytes
 abbrev pub included_at : Index → ℕ → ℕ
 included_at i c = get_or i.included c 0
 
-abbrev pub column_bytes : Table → Index → RowState → ℕ → Option (List ℕ)
-column_bytes t i None c = None
-column_bytes t i (Some row) c = bytes_if (stored (column_in t.columns (included_at i c)).column_type (get_or row (included_at i c) Null)) (get_or row (included_at i c) Null)
+abbrev pub included_bytes : Table → Index → RowState → ℕ → Option (List ℕ)
+included_bytes t i None c = None
+included_bytes t i (Some row) c = bytes_if (stored (column_in t.columns (included_at i c)).column_type (get_or row (included_at i c) Null)) (get_or row (included_at i c) Null)
 
 -- 4. The form
 
@@ -95,7 +95,7 @@ index_form t i =
       columns = length i.included;
       place = λ c. suc (suc (included_at i c));
       key_of = key_of_state t i;
-      col = column_bytes t i;
+      col = included_bytes t i;
       owns = owns t i;
     }
 
@@ -106,11 +106,11 @@ pub record IsRightIndex (t : Table) (i : Index) : Type 0 where
   pub once : (c d : ℕ) → c < length i.included → d < length i.included → included_at i c ≡ included_at i d → c ≡ d
 
 -- the state is nothing, or has a value of its type for each column
-abbrev pub FitsState : Table → RowState → Type 0
-FitsState t None = Unit {0}
-FitsState t (Some row) = (length row ≡ length t.columns) × ((c : ℕ) → c < length t.columns → HasType (column_in t.columns c).column_type (get_or row c Null))
+abbrev pub FitsRowState : Table → RowState → Type 0
+FitsRowState t None = Unit {0}
+FitsRowState t (Some row) = (length row ≡ length t.columns) × ((c : ℕ) → c < length t.columns → HasType (column_in t.columns c).column_type (get_or row c Null))
 
 -- the key of the state would have more than 1,024 bytes
-abbrev pub IsLong : Table → Index → List Value → RowState → Type 0
-IsLong t i r None = ⊥
-IsLong t i r (Some row) = most_key < length (spelled (index_columns t i) (index_values t i r row))
+abbrev pub IsLongInIndex : Table → Index → List Value → RowState → Type 0
+IsLongInIndex t i r None = ⊥
+IsLongInIndex t i r (Some row) = most_key < length (spelled (index_columns t i) (index_values t i r row))

@@ -67,8 +67,8 @@ closes_of f r s old new = status_if s 1 (f.key_of r new) ++ family_if s (left_ke
 -- 4. Builds and repairs
 
 -- the base version of a row
-abbrev pub base_of : IndexForm → List Value → ℕ → RowState → List CellData
-base_of f r s state = version_if f s 1 state (f.key_of r state)
+abbrev pub base_version : IndexForm → List Value → ℕ → RowState → List CellData
+base_version f r s state = version_if f s 1 state (f.key_of r state)
 
 -- what a repair of a version writes; h is the horizon, and the state is the row's there
 abbrev pub fix_of : IndexForm → ℕ → RowState → List ℕ → ℕ → Verdict → List CellData

@@ -2,7 +2,7 @@
 use Rattle.std.specs.Prelude.{◌≡◌, ℕ, ◌<◌, ◌≤◌, Bool, true, false, cond, not, nat_eq, nat_lt, List, Option, None, length, get_or}
 use Rattle.std.specs.Cmp.Lexicographic.{pointwise}
 use Rattle.std.specs.Option.{option_copied}
-use Rattle.px_world.specs.Shape.{all_below, key_in, same_cell}
+use Rattle.px_world.specs.Shape.{all_below, is_key_there, same_cell}
 use Rattle.px_values.specs.States.{RowState}
 use Rattle.px_values.specs.declared.row.Value.{Value}
 use Rattle.px_world.specs.Events.{Verdict, Leave, ToVerify, ToRetire, ToErase}
@@ -37,7 +37,7 @@ is_open fates.Lost = false
 
 -- the version's key is this one
 abbrev pub is_key : Version → Option (List ℕ) → Bool
-is_key v k = key_in (pointwise nat_eq) v.key.now k
+is_key v k = is_key_there (pointwise nat_eq) v.key.now k
 
 -- This is told of the version and its row in the world of the row and the index. At or below the horizon only whether the
 -- change is undecided has to be known of it, and above it nothing that the horizon sees.

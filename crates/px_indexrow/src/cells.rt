@@ -4,8 +4,8 @@ ghost use Rattle.std.specs.Option.{option_copied};
 ghost use Rattle.px_keys.specs.Spelling.{Fits};
 ghost use Rattle.px_indexrow.specs.Verdicts.{verdict_of};
 ghost use Rattle.px_rows.specs.Keys.{IsRightTable, row_columns};
-ghost use Rattle.px_indexrow.specs.Form.{FitsState, IsLong, IsRightIndex, index_form};
-ghost use Rattle.px_indexrow.specs.Lists.{base_of, closes_of, column_cell as included_cell, fix_of, left_key, marks_of, status_cell, version_cells, version_if as version_cells_of};
+ghost use Rattle.px_indexrow.specs.Form.{FitsRowState, IsLongInIndex, IsRightIndex, index_form};
+ghost use Rattle.px_indexrow.specs.Lists.{base_version, closes_of, column_cell as included_cell, fix_of, left_key, marks_of, status_cell, version_cells, version_if as version_cells_of};
 ghost use Rattle.px_indexrow.specs.Form.{bytes_if};
 ghost use Rattle.px_rows.specs.Keys.{column_in};
 ghost use Rattle.px_rows.specs.Stored.{stored};
@@ -39,11 +39,11 @@ pub fn marks(
     requires table { IsRightTable table.now }
     requires index { IsRightIndex table.now index.now }
     requires fits { Fits (row_columns table.now) row.now }
-    requires old { FitsState table.now old.now }
-    requires new { FitsState table.now new.now }
+    requires old { FitsRowState table.now old.now }
+    requires new { FitsRowState table.now new.now }
     ensures cells { IfOk result (λ cells. cells ≡ marks_of (index_form table.now index.now) row.now stamp old.now new.now) }
-    ensures short { IsOk result → (IsLong table.now index.now row.now new.now → ⊥) × (IsLong table.now index.now row.now old.now → ⊥) }
-    ensures too_long { result ≡ Err RowFault.KeyTooLong → IsLong table.now index.now row.now new.now ⊎ IsLong table.now index.now row.now old.now }
+    ensures short { IsOk result → (IsLongInIndex table.now index.now row.now new.now → ⊥) × (IsLongInIndex table.now index.now row.now old.now → ⊥) }
+    ensures too_long { result ≡ Err RowFault.KeyTooLong → IsLongInIndex table.now index.now row.now new.now ⊎ IsLongInIndex table.now index.now row.now old.now }
     ensures not_a_row { (place : ℕ) → result ≢ Err (RowFault.NotARow place) }
 {
     let new_key = state_key(alloc, table, index, row, new)?;
@@ -69,11 +69,11 @@ pub fn closes(
     requires table { IsRightTable table.now }
     requires index { IsRightIndex table.now index.now }
     requires fits { Fits (row_columns table.now) row.now }
-    requires old { FitsState table.now old.now }
-    requires new { FitsState table.now new.now }
+    requires old { FitsRowState table.now old.now }
+    requires new { FitsRowState table.now new.now }
     ensures cells { IfOk result (λ cells. cells ≡ closes_of (index_form table.now index.now) row.now stamp old.now new.now) }
-    ensures short { IsOk result → (IsLong table.now index.now row.now new.now → ⊥) × (IsLong table.now index.now row.now old.now → ⊥) }
-    ensures too_long { result ≡ Err RowFault.KeyTooLong → IsLong table.now index.now row.now new.now ⊎ IsLong table.now index.now row.now old.now }
+    ensures short { IsOk result → (IsLongInIndex table.now index.now row.now new.now → ⊥) × (IsLongInIndex table.now index.now row.now old.now → ⊥) }
+    ensures too_long { result ≡ Err RowFault.KeyTooLong → IsLongInIndex table.now index.now row.now new.now ⊎ IsLongInIndex table.now index.now row.now old.now }
     ensures not_a_row { (place : ℕ) → result ≢ Err (RowFault.NotARow place) }
 {
     let new_key = state_key(alloc, table, index, row, new)?;
@@ -100,9 +100,9 @@ pub fn base(
     requires table { IsRightTable table.now }
     requires index { IsRightIndex table.now index.now }
     requires fits { Fits (row_columns table.now) row.now }
-    requires state { FitsState table.now state.now }
-    ensures cells { IfOk result (λ cells. cells ≡ base_of (index_form table.now index.now) row.now stamp state.now) }
-    ensures too_long { result ≡ Err RowFault.KeyTooLong → IsLong table.now index.now row.now state.now }
+    requires state { FitsRowState table.now state.now }
+    ensures cells { IfOk result (λ cells. cells ≡ base_version (index_form table.now index.now) row.now stamp state.now) }
+    ensures too_long { result ≡ Err RowFault.KeyTooLong → IsLongInIndex table.now index.now row.now state.now }
     ensures not_a_row { (place : ℕ) → result ≢ Err (RowFault.NotARow place) }
 {
     let key = state_key(alloc, table, index, row, state)?;
@@ -126,7 +126,7 @@ pub fn fix(
 ) -> Result<Cells, AllocError>
     requires table { IsRightTable table.now }
     requires index { IsRightIndex table.now index.now }
-    requires state { FitsState table.now state.now }
+    requires state { FitsRowState table.now state.now }
     requires stands { repair ≡ Repair.Verify → stamp ≤ horizon → state.now ≢ None }
     ensures { IfOk result (λ cells. cells ≡ fix_of (index_form table.now index.now) horizon state.now key.now stamp (verdict_of repair)) }
 {
@@ -194,7 +194,7 @@ fn version_if(
 ) -> Result<Cells, AllocError>
     requires index { IsRightIndex table.now index.now }
     requires most { length table.now.columns ≤ 254 }
-    requires state { FitsState table.now state.now }
+    requires state { FitsRowState table.now state.now }
     requires key { state.now ≡ None → key.now ≡ None }
     ensures { IfOk result (λ cells. cells ≡ version_cells_of (index_form table.now index.now) stamp byte state.now key.now) }
 {
@@ -224,7 +224,7 @@ pub fn version_at(
 ) -> Result<Cells, AllocError>
     requires index { IsRightIndex table.now index.now }
     requires most { length table.now.columns ≤ 254 }
-    requires state { FitsState table.now (Some state.now) }
+    requires state { FitsRowState table.now (Some state.now) }
     ensures { IfOk result (λ cells. cells ≡ version_cells (index_form table.now index.now) key.now stamp byte (Some state.now)) }
 {
     let mut cells = Cells::new(alloc);
@@ -249,7 +249,7 @@ fn column(
 ) -> Result<Cell, AllocError>
     requires within { place < length table.now.columns }
     requires most { length table.now.columns ≤ 254 }
-    requires state { FitsState table.now (Some state.now) }
+    requires state { FitsRowState table.now (Some state.now) }
     ensures { IfOk result (λ cell. cell ≡ included_cell key.now stamp (suc (suc place)) (bytes_if (stored (column_in table.now.columns place).column_type (get_or state.now place NullValue)) (get_or state.now place NullValue))) }
 {
     let value = &state[place as usize];

@@ -7,7 +7,7 @@ ghost use Rattle.px_forms.specs.Indexes.{IndexForm, shape_at};
 ghost use Rattle.px_values.specs.States.{RowState, Shape};
 ghost use Rattle.px_values.specs.declared.row.Value.{Value as ColumnValue};
 ghost use Rattle.px_world.specs.Events.{due};
-ghost use Rattle.px_world.specs.Shape.{all_below, key_in, same_cell};
+ghost use Rattle.px_world.specs.Shape.{all_below, is_key_there, same_cell};
 ghost use Rattle.px_world.specs.World.{World};
 ghost use Rattle.px_indexrow.specs.Verdicts.{Tells, due_below, due_told, verdict_of};
 
@@ -91,7 +91,7 @@ fn at_horizon(version: &Version<'_>, told: &Told<'_>) -> Repair
 }
 
 fn is_key(key: &[u8], other: Option<&[u8]>) -> bool
-    ensures { result ≡ key_in (pointwise nat_eq) key.now (option_copied other.entry) }
+    ensures { result ≡ is_key_there (pointwise nat_eq) key.now (option_copied other.entry) }
 {
     match other {
         Some(other) => key == other,

@@ -4,7 +4,7 @@ ghost use Rattle.std.specs.List.{All};
 ghost use Rattle.px_values.specs.Limits.{most_key};
 ghost use Rattle.px_keys.specs.Spelling.{Fits, columns_of, spelled, values_of};
 ghost use Rattle.px_rows.specs.Keys.{IsRightTable, is_part as part_test, row_columns};
-ghost use Rattle.px_indexrow.specs.Form.{FitsState, IsLong, IsRightIndex, index_column, index_columns, index_places, index_values, key_of_state, value_in as value_of_column};
+ghost use Rattle.px_indexrow.specs.Form.{FitsRowState, IsLongInIndex, IsRightIndex, index_column, index_columns, index_places, index_values, key_of_state, value_of_column};
 
 use px_keys::{KeyColumn, KeyFault, Part, encode_key};
 use px_rows::RowFault;
@@ -23,7 +23,7 @@ pub fn index_key(
     requires table { IsRightTable table.now }
     requires index { IsRightIndex table.now index.now }
     requires fits { Fits (row_columns table.now) row.now }
-    requires state { FitsState table.now (Some state.now) }
+    requires state { FitsRowState table.now (Some state.now) }
     ensures ok { IfOk result (λ key. (Some key ≡ key_of_state table.now index.now row.now (Some state.now)) × (length key ≤ most_key)) }
     ensures too_long { result ≡ Err RowFault.KeyTooLong → most_key < length (spelled (index_columns table.now index.now) (index_values table.now index.now row.now state.now)) }
     ensures not_a_row { (place : ℕ) → result ≢ Err (RowFault.NotARow place) }
@@ -48,10 +48,10 @@ pub(crate) fn state_key(
     requires table { IsRightTable table.now }
     requires index { IsRightIndex table.now index.now }
     requires fits { Fits (row_columns table.now) row.now }
-    requires state { FitsState table.now state.now }
+    requires state { FitsRowState table.now state.now }
     ensures ok { IfOk result (λ key. key ≡ key_of_state table.now index.now row.now state.now) }
-    ensures short { IsOk result → IsLong table.now index.now row.now state.now → ⊥ }
-    ensures too_long { result ≡ Err RowFault.KeyTooLong → IsLong table.now index.now row.now state.now }
+    ensures short { IsOk result → IsLongInIndex table.now index.now row.now state.now → ⊥ }
+    ensures too_long { result ≡ Err RowFault.KeyTooLong → IsLongInIndex table.now index.now row.now state.now }
     ensures not_a_row { (place : ℕ) → result ≢ Err (RowFault.NotARow place) }
 {
     match state {

@@ -43,7 +43,7 @@ module _ (a : Answered) (st' : Settings) (once_more : a.after ≡ next_is.Again 
   not_at_once st p (right.is_command_not_built c read built says) = not_so st says.3
   not_at_once st p (right.is_lacking says) = not_so st says.3
 
-  made_way : (again : Bool) (st : Settings) (h : HeldData) → st.held ≡ Some h → (n : ℕ) × (a.reply ≡ Rattle.px_reply.specs.declared.reply.Reply.TheVariants.Count n Rattle.px_values.specs.declared.print.CountWord.TheVariants.Affected) → a.after ≡ right.onward again (emptied st) → MadeWay st st' a.reply
+  made_way : (again : Bool) (st : Settings) (h : HeldData) → st.held ≡ Some h → (n : ℕ) × (a.reply ≡ Rattle.px_reply.specs.declared.reply.Reply.TheVariants.Count n Rattle.px_values.specs.declared.print.CountWord.TheVariants.Affected) → a.after ≡ right.after_commit again (emptied st) → MadeWay st st' a.reply
   made_way true st h held reply after = record { held = some_is st.held h held; none = ap (λ (s : Settings). s.held) (sym (same (emptied st) st' (sym after ∙ once_more))); reply = reply }
   made_way false st h held reply after = absurd (not_so (emptied st) after)
 

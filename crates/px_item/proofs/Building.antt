@@ -11,7 +11,7 @@ use Rattle.px_ast.specs.declared.statement.Statement.{Statement}
 use Rattle.px_ast.specs.declared.statement.Statement.TheVariants as s
 use Rattle.px_values.specs.declared.name.IndexId.{IndexId}
 use Rattle.px_values.specs.declared.name.TableId.{TableId}
-use Rattle.px_create.specs.Indexes.{index_of as named_of, new_index}
+use Rattle.px_create.specs.Indexes.{index_id_named, new_index}
 use Rattle.px_tables.specs.Definitions.{index_definition_of}
 use Rattle.px_tables.specs.declared.found.Found.{Found}
 use Rattle.px_tables.specs.declared.index.Index.{Index}
@@ -30,7 +30,7 @@ use Rattle.px_trail.proofs.Standing.{set_number-other, set_number-same}
 use Rattle.px_calls.specs.declared.definition.Definition.{Definition}
 use Rattle.px_calls.specs.declared.definition.Definition.TheVariants as d
 use Rattle.px_calls.specs.declared.definition.Made.{Made as Answered}
-use Rattle.px_calls.specs.Calls.{IsFound, IsMade, act_of, made_index}
+use Rattle.px_calls.specs.Calls.{IsDefinitionMade, IsFound, act_of, index_id_made}
 use Rattle.px_calls.specs.Known.{Adds, Extends, Known}
 use Rattle.px_calls.specs.Requires.{IsDrawn}
 use Rattle.px_calls.proofs.Runs.{may-come}
@@ -93,12 +93,12 @@ number_stays : (b : Base) (what : NewIndex) (i : ℕ) (es more : List Entry) →
 number_stays b what i es more legal h = legal-induct b (λ l. IsNumberOf b l what i) (λ l e legal may a. number_grows b what i l e legal may a) es more legal h
 
 -- the index that is made stands under its number
-module _ (k k' : Known) (what : NewIndex) (m : Answered) (e : Extends k k' (IndexMade what.table (made_index m) m.stamp what)) where
+module _ (k k' : Known) (what : NewIndex) (m : Answered) (e : Extends k k' (IndexMade what.table (index_id_made m) m.stamp what)) where
   abbrev entry : Entry
-  entry = record { seat = k.seat; calls = e.calls; act = IndexMade what.table (made_index m) m.stamp what }
+  entry = record { seat = k.seat; calls = e.calls; act = IndexMade what.table (index_id_made m) m.stamp what }
 
   abbrev new_one : Index
-  new_one = trail.made_index (catalogue_of k.base k.seen).next (made_index m) m.stamp what
+  new_one = trail.made_index (catalogue_of k.base k.seen).next (index_id_made m) m.stamp what
 
   grows : catalogue_of k'.base k'.seen ≡ catalogue_step (catalogue_of k.base k.seen) entry.act
   grows = ap (λ (b : Base). catalogue_of b k'.seen) e.base ∙ (ap (catalogue_of k.base) e.seen ∙ catalogue-snoc k.base k.seen entry)
@@ -113,7 +113,7 @@ module _ (k k' : Known) (what : NewIndex) (m : Answered) (e : Extends k k' (Inde
 
   numbered : m.number ≡ (catalogue_of k.base k.seen).next + 1
   unfolding Follows
-  numbered = (may-come k k' (IndexMade what.table (made_index m) m.stamp what) e).follows.0
+  numbered = (may-come k k' (IndexMade what.table (index_id_made m) m.stamp what) e).follows.0
 
   is_number : IsNumberOf k'.base k'.seen what m.number
   is_number = ((let n = next_is in let i = numbered in omega arith), λ x is. sym (ap index_definition_of (some_index (sym stands ∙ is))))
@@ -139,10 +139,10 @@ name_in true x rest n h = inl (let q : Some x.id ≡ Some n = h in cc)
 name_in false x rest n h = inr h
 
 -- the index of a name is one of them
-named_among : (xs : List Index) (name : List ℕ) (n : IndexId) → named_of xs name ≡ Some n → (x : Index) × IsAmong x xs × (x.id ≡ n)
+named_among : (xs : List Index) (name : List ℕ) (n : IndexId) → index_id_named xs name ≡ Some n → (x : Index) × IsAmong x xs × (x.id ≡ n)
 unfolding IsAmong
 named_among [] name n h = cc
-named_among (x ∷ xs) name n h = elim (name_in (bytes_eq x.name name) x (named_of xs name) n h) [
+named_among (x ∷ xs) name n h = elim (name_in (bytes_eq x.name name) x (index_id_named xs name) n h) [
   | inl is ↦ (x, inl refl, is)
   | inr later ↦ (let y = named_among xs name n later in (y.0, inr y.1, y.2))
 ]
@@ -154,10 +154,10 @@ module _ (b : Base) (es : List Entry) (f : Found) (found : IsFound b es f) (t : 
   of_this : f.table.id ≡ t → t.0 < (catalogue_of b es).next
   of_this is = subst (λ (u : TableId). u.0 < (catalogue_of b es).next) is found.drawn
 
-  number_drawn : (name : List ℕ) (n : IndexId) → named_of f.indexes name ≡ Some n → n.0 < (catalogue_of b es).next
+  number_drawn : (name : List ℕ) (n : IndexId) → index_id_named f.indexes name ≡ Some n → n.0 < (catalogue_of b es).next
   number_drawn name n h = (let x = named_among f.indexes name n h in subst (λ (i : IndexId). i.0 < (catalogue_of b es).next) x.2 (found.indexes_drawn x.0 x.1))
 
-  altered_drawn : (name : List ℕ) (a : IndexAction) (o : Option IndexId) → named_of f.indexes name ≡ o → (e : Definition) → option_map (λ n. altered f.table.id a n) o ≡ Some e → Drawn e
+  altered_drawn : (name : List ℕ) (a : IndexAction) (o : Option IndexId) → index_id_named f.indexes name ≡ o → (e : Definition) → option_map (λ n. altered f.table.id a n) o ≡ Some e → Drawn e
   altered_drawn name a None is e h = cc
   altered_drawn name Disable (Some n) is e h = subst Drawn (some_definition (d.Disabled f.table.id n) e h) (λ q. none_table t q)
   altered_drawn name Rebuild (Some n) is e h = subst Drawn (some_definition (d.Rebuilding f.table.id n) e h) (λ q. (of_this (same_table f.table.id t q), number_drawn name n is))
@@ -169,8 +169,8 @@ module _ (b : Base) (es : List Entry) (f : Found) (found : IsFound b es f) (t : 
   asked_drawn : (x : Statement) (e : Definition) → definition_of f x ≡ Some e → Drawn e
   asked_drawn (s.DropTable y) e h = subst Drawn (some_definition (d.DropTable f.table.id) e h) (λ q. none_table t q)
   asked_drawn (s.CreateIndex y) e h = subst Drawn (some_definition (d.Index (new_index f.table y)) e h) (λ q. (of_this (same_table f.table.id t q), tt))
-  asked_drawn (s.DropIndex y) e h = dropped_drawn (named_of f.indexes y.name) e h
-  asked_drawn (s.AlterIndex y) e h = altered_drawn y.name y.action (named_of f.indexes y.name) refl e h
+  asked_drawn (s.DropIndex y) e h = dropped_drawn (index_id_named f.indexes y.name) e h
+  asked_drawn (s.AlterIndex y) e h = altered_drawn y.name y.action (index_id_named f.indexes y.name) refl e h
   asked_drawn x e h = cc
 
 drawn_grows : (b : Base) (es more : List Entry) → IsLegal b (es ++ more) → (e : Definition) → IsDrawnFor b es e → IsDrawnFor b (es ++ more) e
@@ -193,7 +193,7 @@ bound_drawn k first f x e t bound legal asks builds =
     )
 
 -- so has the index that is to be built, and it stands as it was asked for
-pub made_numbers : (e : Definition) (m : Answered) (k k' : Known) (t : TableId) → Adds k k' (act_of e m) → IsMade e m → m.at ≡ length k'.seen → to_build e ≡ Some t → IsDrawnFor k'.base k'.seen e → IsDrawn k' m.number × StandsAs e m k'
+pub made_numbers : (e : Definition) (m : Answered) (k k' : Known) (t : TableId) → Adds k k' (act_of e m) → IsDefinitionMade e m → m.at ≡ length k'.seen → to_build e ≡ Some t → IsDrawnFor k'.base k'.seen e → IsDrawn k' m.number × StandsAs e m k'
 made_numbers (d.Index what) m k k' t adds made at builds drawn =
     let n = is_number adds.between k' what m adds.extends in
     let all : k'.seen ≡ take m.at k'.seen = sym (take-length k'.seen) ∙ ap (λ (z : ℕ). take z k'.seen) (sym at) in

@@ -1,7 +1,7 @@
 -- An order is told to be done only where one was asked for.
 use Rattle.std.proofs.Common.{ℕ, ◌≡◌, ◌⊎◌, if◌then◌else◌, Bool, true, false, List, ◌∷◌, Ok, Err, Result, refl, sym, ◌∙◌, ap, subst, inl, inr, ⊎_elim}
 use Rattle.std.proofs.lemmas.Bool.{false≢true}
-use Rattle.px_lex.specs.Lexemes.{IsReading, Lexeme, before_fault, fault_from, tokens_from}
+use Rattle.px_lex.specs.Lexemes.{IsTextReading, Lexeme, before_fault, fault_from, tokens_from}
 use Rattle.px_lex.specs.Script.{SeenPiece, seen_piece}
 use Rattle.px_lex.proofs.Readings.{same_reading}
 use Rattle.px_ast.specs.declared.statement.Statement.{Statement}
@@ -34,7 +34,7 @@ use Rattle.px_item.specs.declared.item.ItemTurn.{ItemTurn}
 use Rattle.px_item.specs.declared.item.ItemTurn.TheVariants as turn
 use Rattle.px_item.specs.Right as right
 use Rattle.px_item.specs.Right.{AsksToCommit, IsAtOnce, IsCommandRead, IsRead, IsRight, SaysOf, command_of, IsOrdered, index_absent, name_taken, not_built, order_reply, table_absent, undefined}
-use Rattle.px_item.specs.Turns.{Fits, FitsState, TellsDone, Turns}
+use Rattle.px_item.specs.Turns.{FitsItem, FitsState, ItemTurns, TellsDone}
 
 -- 1. Replies
 
@@ -110,7 +110,7 @@ module _ (a : Answered) (tells : is_order a.reply ≡ true) where
   not_at_once st p (right.is_command_not_built c read built says) = not_it _ says.0 refl
   not_at_once st p (right.is_lacking says) = not_it _ says.0 refl
 
-  not_stopped : (name : List ℕ) (f : _) → right.StopsAt a.reply name f → ⊥
+  not_stopped : (name : List ℕ) (f : _) → right.StopsDelete a.reply name f → ⊥
   not_stopped name f (inl is) = not_it _ is refl
   not_stopped name f (inr is) = not_it _ is.0 refl
 
@@ -154,16 +154,16 @@ rest_same x t u e = cc
 ok_same : (c d : Command) (r : Result Command CommandFault) → r ≡ Ok c → r ≡ Ok d → c ≡ d
 ok_same c d r e f = (let g = sym e ∙ f in cc)
 
-answer_is : (c : Command) (text : List ℕ) (xs : List Lexeme) → said.Answers text xs (Ok c) → said.answer (fault_from 0 xs) (tokens_from 0 (before_fault xs)) (said.end_of text (fault_from 0 xs)) ≡ Ok c
+answer_is : (c : Command) (text : List ℕ) (xs : List Lexeme) → said.AnswersCommand text xs (Ok c) → said.answer (fault_from 0 xs) (tokens_from 0 (before_fault xs)) (said.end_of text (fault_from 0 xs)) ≡ Ok c
 answer_is c text xs (inl e) = sym e
 answer_is c text xs (inr e) = cc
 
 one_command : (p : SeenPiece) (c d : Command) → IsCommandRead p (Ok c) → IsCommandRead p (Ok d) → c ≡ d
 one_command p c d r q =
     let text : r.1.0 ≡ q.1.0 = rest_same 33 r.1.0 q.1.0 (sym r.1.1 ∙ q.1.1) in
-    let reading = subst (λ (t : List ℕ). IsReading t r.1.2.0) text r.1.2.1 in
+    let reading = subst (λ (t : List ℕ). IsTextReading t r.1.2.0) text r.1.2.1 in
     let same : r.1.2.0 ≡ q.1.2.0 = same_reading q.1.0 r.1.2.0 q.1.2.0 reading q.1.2.1 in
-    let F : List ℕ × List Lexeme → Type 0 = λ z. said.Answers z.0 z.1 (Ok c) in
+    let F : List ℕ × List Lexeme → Type 0 = λ z. said.AnswersCommand z.0 z.1 (Ok c) in
     let mine = subst F (λ i. (text i, same i)) r.1.2.2 in
     ok_same c d _ (answer_is c q.1.0 q.1.2.0 mine) (answer_is d q.1.0 q.1.2.0 q.1.2.2)
 
@@ -207,7 +207,7 @@ module _ (sound : Type 0) (before : ℕ) (asked : Asked) (own : List Act) where
   no_order (state.Counting name run) k other f job q = other_command (seen_piece asked.piece) (commands.Status name) job f.read q (no_status job name)
   no_order (state.Ordering run) k other f job q = other
 
-  pub not_told : (st : ItemState) (k k' : Known) (t : ItemTurn) → IsOther st → Fits sound before asked own st k → Turns sound before asked own k k' t → TellsDone t → ⊥
+  pub not_told : (st : ItemState) (k k' : Known) (t : ItemTurn) → IsOther st → FitsItem sound before asked own st k → ItemTurns sound before asked own k k' t → TellsDone t → ⊥
   not_told st k k' (turn.Stepped r) other f turns tells = tells
   not_told st k k' (turn.Waiting r) other f turns tells = tells
   not_told st k k' (turn.Over a) other f turns tells =
@@ -216,7 +216,7 @@ module _ (sound : Type 0) (before : ℕ) (asked : Asked) (own : List Act) where
 
 -- 5. An order on its way is told so where it is done
 
-pub done_then : (asked : Asked) (job : Ordered) (ordered done : Type 0) (r : OrderRun) (came : Result (Unit {0}) OrderFault) (a : Answered) → orders.Leads ordered done r (ot.Over came) → IsOrdered asked job came a → TellsDone (turn.Over a) → done
+pub done_then : (asked : Asked) (job : Ordered) (ordered done : Type 0) (r : OrderRun) (came : Result (Unit {0}) OrderFault) (a : Answered) → orders.OrderLeads ordered done r (ot.Over came) → IsOrdered asked job came a → TellsDone (turn.Over a) → done
 done_then asked job ordered done (run.Ordering x) (Ok u) a leads is tells = absurd leads
 done_then asked job ordered done (run.Working x) (Ok u) a leads is tells = leads
 done_then asked job ordered done r (Err f) a leads is tells = absurd (not_it a (ap is_order tells.1 ∙ order_is tells.0) _ is.1.0 refl)

@@ -9,15 +9,15 @@ use Rattle.px_values.specs.declared.change.Change.{Change}
 use Rattle.px_values.specs.declared.name.IndexId.{IndexId}
 use Rattle.px_values.specs.declared.name.TableId.{TableId}
 use Rattle.std.specs.Option.{option_map}
-use Rattle.px_resolve.specs.Answers.{IsFirst}
+use Rattle.px_resolve.specs.Answers.{IsFirstBindFault}
 use Rattle.px_resolve.specs.declared.fault.BindFault.{BindFault}
-use Rattle.px_create.specs.Indexes.{index_of, new_index}
+use Rattle.px_create.specs.Indexes.{index_id_named, new_index}
 use Rattle.px_ast.specs.declared.statement.Delete.{Delete}
 use Rattle.px_ast.specs.declared.statement.Select.{Select}
 use Rattle.px_bind.specs.Queries.{IsQuery, delete_faults, select_faults}
 use Rattle.px_bind.specs.Requests.{faults_in}
 use Rattle.px_bind.specs.declared.request.Query.{Query as Asks}
-use Rattle.px_bind.specs.Upserts.{change_of}
+use Rattle.px_bind.specs.Upserts.{upsert_change}
 use Rattle.px_tables.specs.declared.found.Found.{Found}
 use Rattle.px_tables.specs.declared.index.NewIndex.{NewIndex}
 use Rattle.px_tables.specs.declared.table.Table.{Table}
@@ -33,7 +33,7 @@ use Rattle.px_calls.specs.declared.fault.StepFault.TheVariants as step
 use Rattle.px_calls.specs.Known.{Known, Ran, Sees}
 use Rattle.px_calls.specs.Causes.{NamesNoTable, Refuses, find_cause}
 use Rattle.px_calls.specs.Calls.{DidFind, IsFound}
-use Rattle.px_calls.specs.Requires.{AreFitting, CanDefine, FitsTable, IsIndexFit, IsNewIndex, IsScn}
+use Rattle.px_calls.specs.Requires.{AreFitting, CanDefine, IsChangeOf, IsIndexFit, IsNewIndex, IsScn}
 use Rattle.px_calls.proofs.Runs.{ran-sees}
 use Rattle.px_batch.specs.Turns as batch
 use Rattle.px_batch.specs.declared.batch.BatchState.{BatchState}
@@ -55,9 +55,9 @@ use Rattle.px_ast.specs.declared.definition.IndexAction.{IndexAction}
 use Rattle.px_ast.specs.declared.definition.IndexAction.TheVariants.{Disable, Rebuild}
 use Rattle.px_item.specs.Builds.{altered}
 use Rattle.px_item.specs.Right as right
-use Rattle.px_item.specs.Right.{AsksToCommit, MayHold, Follows, FollowsTo, GoesToCommit, MakesWay, holds, IsBoundTo, IsRead, IsRight, IsTold, MayRun, Says, changes, deletion_query, definition_of, plain, table_named, unfound}
+use Rattle.px_item.specs.Right.{AsksToCommit, MayHold, FollowsFound, FollowsTo, GoesToCommit, MakesWay, holds, IsBoundTo, IsRead, IsRight, IsTold, MayRun, Says, changes, deletion_query, definition_of, plain, table_named, unfound}
 use Rattle.px_item.specs.Seeking.{SearchesIn, Seeks}
-use Rattle.px_item.specs.Turns.{Fits, IsAsking, IsDefining, Turns}
+use Rattle.px_item.specs.Turns.{FitsItem, IsAsking, IsDefining, ItemTurns}
 use Rattle.px_planned.specs.Queries.{query_of}
 use Rattle.px_planned.specs.declared.planned.Planned.{Planned}
 use Rattle.px_scan.specs.Turns as scan
@@ -68,8 +68,8 @@ pub some_same : (x y : Table) → Some x ≡ Some y → x ≡ y
 some_same x y h = cc
 
 -- what an UPSERT asks for fits its table, and so may be begun
-fitting : (k : Known) (f : Found) (c : Change) → IsFound k.base k.seen f → FitsTable f.table c → AreFitting k f.table.id.0 (c ∷ [])
-fitting k f c found fits = record { drawn = found.drawn; each = λ y is. (subst (λ (z : Table). FitsTable z c) (some_same f.table y (sym found.table ∙ is)) fits, tt) }
+fitting : (k : Known) (f : Found) (c : Change) → IsFound k.base k.seen f → IsChangeOf f.table c → AreFitting k f.table.id.0 (c ∷ [])
+fitting k f c found fits = record { drawn = found.drawn; each = λ y is. (subst (λ (z : Table). IsChangeOf z c) (some_same f.table y (sym found.table ∙ is)) fits, tt) }
 
 -- what a CREATE INDEX asks for fits its table
 index_fits : (k : Known) (f : Found) (what : NewIndex) → IsFound k.base k.seen f → what.table ≡ f.table.id → IsNewIndex f.table what → IsIndexFit k what
@@ -105,12 +105,12 @@ module _ (sound : Type 0) (before : ℕ) (asked : Asked) (mine : List Act) where
   may_define k f (s.CreateIndex i) y found fit h =
       let F : Definition → Type 0 = λ z. right.IsFitFor f.table z → CanDefine sound k z in
       subst F (some_definition (d.Index (new_index f.table i)) y h) (λ fits. index_fits k f (new_index f.table i) found fits.0 fits.1) fit
-  may_define k f (s.DropIndex i) y found fit h = of_some k (λ n. d.DropIndex f.table.id n) (λ n. tt) (index_of f.indexes i.name) y h
-  may_define k f (s.AlterIndex i) y found fit h = of_some k (λ n. altered f.table.id i.action n) (may_alter k f.table.id i.action) (index_of f.indexes i.name) y h
+  may_define k f (s.DropIndex i) y found fit h = of_some k (λ n. d.DropIndex f.table.id n) (λ n. tt) (index_id_named f.indexes i.name) y h
+  may_define k f (s.AlterIndex i) y found fit h = of_some k (λ n. altered f.table.id i.action n) (may_alter k f.table.id i.action) (index_id_named f.indexes i.name) y h
   may_define k f x y found fit h = cc
 
   plain_told : (x : Statement) (f : Found) (k : Known) (own : List Act) (r : Reply) (a : Answered) → IsRead (seen_piece asked.piece) (Ok x) → MayRun asked.settings x → IsBoundTo k.base k.seen a.first f (table_named x)
-      → (r ≡ reply.Refused refusal.Memory) ⊎ ((fault : BindFault) × IsFirst (faults_in f x) fault × (r ≡ reply.Refused (right.bind_refusal fault))) → Says a r asked.settings → own ≡ [] → IsRight sound (plain k) before own asked.settings (seen_piece asked.piece) a
+      → (r ≡ reply.Refused refusal.Memory) ⊎ ((fault : BindFault) × IsFirstBindFault (faults_in f x) fault × (r ≡ reply.Refused (right.bind_refusal fault))) → Says a r asked.settings → own ≡ [] → IsRight sound (plain k) before own asked.settings (seen_piece asked.piece) a
   plain_told x f k own r a read free bound (inl e) says quiet = right.is_at_once (right.is_lacking (says.0 ∙ e, says.1, says.2, says.3)) quiet
   plain_told x f k own r a read free bound (inr e) says quiet = right.is_wrong x f e.0 read free bound e.1 (says.0 ∙ e.2, says.1, says.2, says.3) quiet
 
@@ -136,7 +136,7 @@ module _ (sound : Type 0) (before : ℕ) (asked : Asked) (mine : List Act) where
   told_without (s.Explain q) f k own r a read free bound (inr (inl e)) says quiet = right.is_wrong (s.Explain q) f e.0 read free bound e.1 (says.0 ∙ e.2, says.1, says.2, says.3) quiet
   told_without (s.Explain q) f k own r a read free bound (inr (inr e)) says quiet = explained_so q f e.1.0 k own r a read bound e.0 e.1.1 e.1.2 says quiet
 
-  goes_from : (x : Statement) (f : Found) (k : Known) (st : ItemState) → Fits sound before asked mine (state.Finding x) k → IsLegal k.base k.seen → IsFound k.base k.seen f → f.table.name ≡ table_named x → holds asked.settings x ≡ false → right.holds_rows asked.settings x ≡ false → FollowsTo asked.settings.scn x f st → Fits sound before asked mine st k
+  goes_from : (x : Statement) (f : Found) (k : Known) (st : ItemState) → FitsItem sound before asked mine (state.Finding x) k → IsLegal k.base k.seen → IsFound k.base k.seen f → f.table.name ≡ table_named x → holds asked.settings x ≡ false → right.holds_rows asked.settings x ≡ false → FollowsTo asked.settings.scn x f st → FitsItem sound before asked mine st k
   goes_from x f k (state.Finding y) fits legal found named off apart to = absurd to
   goes_from x f k (state.Seeking y run) fits legal found named off apart to = absurd to
   goes_from x f k (state.Committing again run) fits legal found named off apart to = absurd to
@@ -147,9 +147,9 @@ module _ (sound : Type 0) (before : ℕ) (asked : Asked) (mine : List Act) where
       let low = fits.begins in
       let within = fits.within in
       let b = bound_here asked k (table_named x) f fits.within found named in
-      let F : BatchState → Type 0 = λ z. batch.Fits run.table run.changes z k × batch.IsGoing z × batch.IsSince before z k × ([] ≡ batch.begun run.table run.changes z) in
+      let F : BatchState → Type 0 = λ z. batch.FitsBatch run.table run.changes z k × batch.IsBatchGoing z × batch.IsBatchSince before z k × ([] ≡ batch.begun_by_batch run.table run.changes z) in
       let G : TableId × List Change → Type 0 = λ q. AreFitting k q.0.0 q.1 in
-      let begins = subst F (sym n.5) (subst G (λ i. (sym n.3 i, sym n.4 i)) (fitting k f (change_of f.table n.0) found n.6), tt, omega arith, refl) in
+      let begins = subst F (sym n.5) (subst G (λ i. (sym n.3 i, sym n.4 i)) (fitting k f (upsert_change f.table n.0) found n.6), tt, omega arith, refl) in
       record {
         begins = fits.begins;
         within = fits.within;
@@ -174,7 +174,7 @@ module _ (sound : Type 0) (before : ℕ) (asked : Asked) (mine : List Act) where
       }
   goes_from x f k (state.Defining y run) fits legal found named off apart (same, n) =
       let b = bound_here asked k (table_named x) f fits.within found named in
-      let F : DefineState → Type 0 = λ z. define.Fits sound run.definition z k × define.IsGoing z in
+      let F : DefineState → Type 0 = λ z. define.FitsDefinition sound run.definition z k × define.IsDefinitionGoing z in
       let begins = subst F (sym n.2) (may_define k f x run.definition found n.3 n.1, tt) in
       let defining : IsDefining sound asked x run k = record { found = f; bound = b; right = n.0; definition = n.1; fits = begins.0; going = begins.1 } in
       record {
@@ -238,14 +238,14 @@ module _ (sound : Type 0) (before : ℕ) (asked : Asked) (mine : List Act) where
         done = tt;
       }
 
-  fits_later : (x : Statement) (k k' : Known) → Later k k' → Fits sound before asked mine (state.Finding x) k → Fits sound before asked mine (state.Finding x) k'
+  fits_later : (x : Statement) (k k' : Known) → Later k k' → FitsItem sound before asked mine (state.Finding x) k → FitsItem sound before asked mine (state.Finding x) k'
   fits_later x k k' h f = record { begins = f.begins; within = longer k k' asked.first h f.within; state = f.state; done = f.done }
 
-  pub found_one : (x : Statement) (f : Found) (k k' : Known) (t : ItemTurn) → Fits sound before asked mine (state.Finding x) k → holds asked.settings x ≡ false → right.holds_rows asked.settings x ≡ false → DidFind k k' (table_named x) f → Follows asked x f t → Turns sound before asked mine k k' t
+  pub found_one : (x : Statement) (f : Found) (k k' : Known) (t : ItemTurn) → FitsItem sound before asked mine (state.Finding x) k → holds asked.settings x ≡ false → right.holds_rows asked.settings x ≡ false → DidFind k k' (table_named x) f → FollowsFound asked x f t → ItemTurns sound before asked mine k k' t
   found_one x f k k' (turn.Stepped r) fits off apart did to =
       let ran = ran-sees k k' did.finds.sees in
       let went = goes_from x f k' r.state (fits_later x k k' (of_ran k k' [] ran) fits) did.finds.sees.passes.legal did.found did.name_is off apart to.1 in
-      record { acts = []; ran = ran; told = (to.0, subst (λ (l : List Act). Fits sound before asked l r.state k') (sym (append-nil mine)) went) }
+      record { acts = []; ran = ran; told = (to.0, subst (λ (l : List Act). FitsItem sound before asked l r.state k') (sym (append-nil mine)) went) }
   found_one x f k k' (turn.Waiting r) fits off apart did to = absurd to
   found_one x f k k' (turn.Over a) fits off apart did to =
       let ran = ran-sees k k' did.finds.sees in
@@ -254,11 +254,11 @@ module _ (sound : Type 0) (before : ℕ) (asked : Asked) (mine : List Act) where
       record { acts = []; ran = ran; told = (first_low asked a to.0, first_within asked k' a later.within to.0, told_without x f k' (mine ++ []) to.1.0 a fits.state.read fits.state.free b to.1.1 to.1.2 (nothing_more mine fits.done)) }
 
   -- its row is held, or what was held is committed first
-  module _ (x : Statement) (f : Found) (k k' : Known) (fits : Fits sound before asked mine (state.Finding x) k) (did : DidFind k k' (table_named x) f) where
+  module _ (x : Statement) (f : Found) (k k' : Known) (fits : FitsItem sound before asked mine (state.Finding x) k) (did : DidFind k k' (table_named x) f) where
     found_ran : Ran k k' []
     found_ran = ran-sees k k' did.finds.sees
 
-    found_fits : Fits sound before asked mine (state.Finding x) k'
+    found_fits : FitsItem sound before asked mine (state.Finding x) k'
     found_fits = fits_later x k k' (of_ran k k' [] found_ran) fits
 
     found_bound : IsBoundTo k'.base k'.seen asked.first f (table_named x)
@@ -267,10 +267,10 @@ module _ (sound : Type 0) (before : ℕ) (asked : Asked) (mine : List Act) where
     bound_by : (a : Answered) → a.first ≡ asked.first → IsBoundTo (plain k').base (plain k').seen a.first f (table_named x)
     bound_by a first = subst (λ (n : ℕ). IsBoundTo k'.base k'.seen n f (table_named x)) (sym first) found_bound
 
-    held_over : (a : Answered) → a.first ≡ asked.first → IsRight sound (plain k') before (mine ++ []) asked.settings (seen_piece asked.piece) a → Turns sound before asked mine k k' (turn.Over a)
+    held_over : (a : Answered) → a.first ≡ asked.first → IsRight sound (plain k') before (mine ++ []) asked.settings (seen_piece asked.piece) a → ItemTurns sound before asked mine k k' (turn.Over a)
     held_over a first right = record { acts = []; ran = found_ran; told = (first_low asked a first, first_within asked k' a found_fits.within first, right) }
 
-    to_commit : (st : ItemState) → MayHold asked.settings x → changes x ≡ true → faults_in f x ≡ [] → GoesToCommit asked f.table.id st → Fits sound before asked mine st k'
+    to_commit : (st : ItemState) → MayHold asked.settings x → changes x ≡ true → faults_in f x ≡ [] → GoesToCommit asked f.table.id st → FitsItem sound before asked mine st k'
     to_commit (state.Finding y) may change none g = absurd g
     to_commit (state.Changing y run room) may change none g = absurd g
     to_commit (state.Defining y run) may change none g = absurd g
@@ -286,7 +286,7 @@ module _ (sound : Type 0) (before : ℕ) (asked : Asked) (mine : List Act) where
         let within = found_fits.within in
         let way : MakesWay k' asked.first asked.settings (seen_piece asked.piece) h =
         record { statement = x; found = f; read = found_fits.state.read; free = found_fits.state.free change; holds = may; bound = found_bound; right = none; other = g.2.2 } in
-        let F : CommitRun → Type 0 = λ r. commits.Fits h r k' × commits.IsSince before r k' × ([] ≡ commits.begun r) in
+        let F : CommitRun → Type 0 = λ r. commits.FitsCommit h r k' × commits.IsCommitSince before r k' × ([] ≡ commits.begun_by_commit r) in
         let new = subst F (sym g.1) (tt, omega arith, refl) in
         record {
           begins = found_fits.begins;
@@ -296,7 +296,7 @@ module _ (sound : Type 0) (before : ℕ) (asked : Asked) (mine : List Act) where
         }
 
     -- what is wrong with it is told, or that memory lacks
-    wrong_one : (a : Answered) → a.first ≡ asked.first → right.Refuses a refusal.Memory asked.settings ⊎ ((fault : BindFault) × IsFirst (faults_in f x) fault × right.Refuses a (right.bind_refusal fault) asked.settings) → Turns sound before asked mine k k' (turn.Over a)
+    wrong_one : (a : Answered) → a.first ≡ asked.first → right.SaysRefused a refusal.Memory asked.settings ⊎ ((fault : BindFault) × IsFirstBindFault (faults_in f x) fault × right.SaysRefused a (right.bind_refusal fault) asked.settings) → ItemTurns sound before asked mine k k' (turn.Over a)
     wrong_one a first why =
         let quiet = nothing_more mine fits.done in
         held_over a first (⊎_elim
@@ -304,11 +304,11 @@ module _ (sound : Type 0) (before : ℕ) (asked : Asked) (mine : List Act) where
         (λ e. right.is_wrong x f e.0 found_fits.state.read found_fits.state.free (bound_by a first) e.1 e.2 quiet) why)
 
     -- it goes on in this state
-    goes_on : (r : ItemRun) → r.asked ≡ asked → Fits sound before asked mine r.state k' → Turns sound before asked mine k k' (turn.Stepped r)
-    goes_on r same went = record { acts = []; ran = found_ran; told = (same, subst (λ (l : List Act). Fits sound before asked l r.state k') (sym (append-nil mine)) went) }
+    goes_on : (r : ItemRun) → r.asked ≡ asked → FitsItem sound before asked mine r.state k' → ItemTurns sound before asked mine k k' (turn.Stepped r)
+    goes_on r same went = record { acts = []; ran = found_ran; told = (same, subst (λ (l : List Act). FitsItem sound before asked l r.state k') (sym (append-nil mine)) went) }
 
-    pub held_one : (t : ItemTurn) → holds asked.settings x ≡ true → right.Holds asked x f t → Turns sound before asked mine k k' t
-    held_one t on (inl h) = subst (λ (y : ItemTurn). Turns sound before asked mine k k' y) (sym h.1) (wrong_one h.0 h.2 h.3)
+    pub held_one : (t : ItemTurn) → holds asked.settings x ≡ true → right.Holds asked x f t → ItemTurns sound before asked mine k k' t
+    held_one t on (inl h) = subst (λ (y : ItemTurn). ItemTurns sound before asked mine k k' y) (sym h.1) (wrong_one h.0 h.2 h.3)
     held_one (turn.Stepped r) on (inr h) =
         let none = subst (λ (y : Statement). faults_in f y ≡ []) (sym h.1) h.2 in
         goes_on r h.3.0 (to_commit r.state (inl on) (ap changes h.1) none h.3.1)
@@ -330,7 +330,7 @@ module _ (sound : Type 0) (before : ℕ) (asked : Asked) (mine : List Act) where
         (λ full. right.is_full u f read free off b none full.0 full.1 quiet) more) h.3.1)
 
     -- the rows of a DELETE are to be found, or what was held is committed first
-    seeks : (y : Delete) (st : ItemState) → right.holds_rows asked.settings x ≡ true → x ≡ s.Delete y → length f.table.columns ≤ 255 → delete_faults f.table.columns y ≡ [] → SearchesIn asked x f.table.id (deletion_query f y) st → Fits sound before asked mine st k'
+    seeks : (y : Delete) (st : ItemState) → right.holds_rows asked.settings x ≡ true → x ≡ s.Delete y → length f.table.columns ≤ 255 → delete_faults f.table.columns y ≡ [] → SearchesIn asked x f.table.id (deletion_query f y) st → FitsItem sound before asked mine st k'
     seeks y (state.Finding z) on is places none g = absurd g
     seeks y (state.Changing z run room) on is places none g = absurd g
     seeks y (state.Defining z run) on is places none g = absurd g
@@ -369,8 +369,8 @@ module _ (sound : Type 0) (before : ℕ) (asked : Asked) (mine : List Act) where
           done = found_fits.done ∙ n.2;
         }
 
-    pub sought_one : (t : ItemTurn) → right.holds_rows asked.settings x ≡ true → Seeks asked x f t → Turns sound before asked mine k k' t
-    sought_one t on (inl h) = subst (λ (y : ItemTurn). Turns sound before asked mine k k' y) (sym h.1) (wrong_one h.0 h.2 h.3)
+    pub sought_one : (t : ItemTurn) → right.holds_rows asked.settings x ≡ true → Seeks asked x f t → ItemTurns sound before asked mine k k' t
+    sought_one t on (inl h) = subst (λ (y : ItemTurn). ItemTurns sound before asked mine k k' y) (sym h.1) (wrong_one h.0 h.2 h.3)
     sought_one (turn.Stepped r) on (inr h) = goes_on r h.1.3.0 (seeks h.1.0 r.state on h.1.1 h.0 h.1.2 h.1.3.1)
     sought_one (turn.Waiting r) on (inr h) = absurd h.1.3
     sought_one (turn.Over a) on (inr h) = absurd h.1.3
@@ -389,7 +389,7 @@ module _ (sound : Type 0) (before : ℕ) (asked : Asked) (mine : List Act) where
   lacking_plain : (k : Known) (n : ℕ) (name : List ℕ) → right.IsLacking k n name → right.IsLacking (plain k) n name
   lacking_plain k n name h = record { place = h.place; from = h.from; within = h.within; none = h.none }
 
-  unfound_so : (x : Statement) (f : StepFault) (k k' : Known) (r : Reply) (a : Answered) (own : List Act) → Fits sound before asked mine (state.Finding x) k' → find_cause (table_named x) f k' → a.first ≡ asked.first → (r ≡ unfound x f) ⊎ (r ≡ reply.Refused refusal.Memory)
+  unfound_so : (x : Statement) (f : StepFault) (k k' : Known) (r : Reply) (a : Answered) (own : List Act) → FitsItem sound before asked mine (state.Finding x) k' → find_cause (table_named x) f k' → a.first ≡ asked.first → (r ≡ unfound x f) ⊎ (r ≡ reply.Refused refusal.Memory)
       → Says a r asked.settings → own ≡ [] → IsRight sound (plain k') before own asked.settings (seen_piece asked.piece) a
   unfound_so x f k k' r a own fits cause first (inr e) says quiet = right.is_at_once (right.is_lacking (says.0 ∙ e, says.1, says.2, says.3)) quiet
   unfound_so x step.NoTable k k' r a own fits cause first (inl e) says quiet =
@@ -414,8 +414,8 @@ module _ (sound : Type 0) (before : ℕ) (asked : Asked) (mine : List Act) where
   quiet_find x (step.Damaged file place) k k' h = absurd h.0
   quiet_find x step.Memory k k' h = (h.0, h.1)
 
-  pub found_none : (x : Statement) (f : StepFault) (k k' : Known) (r : Reply) (a : Answered) → Fits sound before asked mine (state.Finding x) k → Refuses (find_cause (table_named x)) k k' f → a.first ≡ asked.first
-      → (r ≡ unfound x f) ⊎ (r ≡ reply.Refused refusal.Memory) → Says a r asked.settings → Turns sound before asked mine k k' (turn.Over a)
+  pub found_none : (x : Statement) (f : StepFault) (k k' : Known) (r : Reply) (a : Answered) → FitsItem sound before asked mine (state.Finding x) k → Refuses (find_cause (table_named x)) k k' f → a.first ≡ asked.first
+      → (r ≡ unfound x f) ⊎ (r ≡ reply.Refused refusal.Memory) → Says a r asked.settings → ItemTurns sound before asked mine k k' (turn.Over a)
   found_none x f k k' r a fits h first told says =
       let q = quiet_find x f k k' h in
       let ran = ran-sees k k' q.1 in

@@ -35,8 +35,8 @@ use Rattle.px_item.specs.declared.item.ItemState.TheVariants as state
 use Rattle.px_item.specs.declared.item.ItemTurn.TheVariants as turn
 use Rattle.px_item.specs.Builds.{to_build}
 use Rattle.px_item.specs.Right as right
-use Rattle.px_item.specs.Right.{IsBoundTo, IsChanged, IsDefined, IsDeletion, IsRead, IsRight, Says, after, changes, deletion_query, definition_of, one_change, plain, table_named}
-use Rattle.px_item.specs.Turns.{Fits, IsAsking, IsCreating, IsDefining, Turns}
+use Rattle.px_item.specs.Right.{IsBoundTo, IsChanged, IsDefined, IsDeletion, IsRead, IsRight, Says, known_after, changes, deletion_query, definition_of, one_change, plain, table_named}
+use Rattle.px_item.specs.Turns.{FitsItem, IsAsking, IsCreating, IsDefining, ItemTurns}
 use Rattle.px_item.proofs.Plain.{batch_plain, batch_since_plain, define_plain, define_since_plain, defined_plain, ended_plain, outcome_plain, query_since_plain, removed_plain, stopped_plain}
 use Rattle.px_planned.specs.Queries.{query_of}
 use Rattle.px_planned.specs.declared.planned.Planned.{Planned}
@@ -68,24 +68,24 @@ module _ (sound : Type 0) (before : ℕ) (asked : Asked) (mine : List Act) where
   no_stop own k f cs (inr e) = absurd e.0
 
   not_changed : (x : Statement) (u : _) (f : Found) (e : BatchFault) (k : Known) (own : List Act) (a : Answered) → x ≡ s.Upsert u → IsRead (seen_piece asked.piece) (Ok x) → asked.settings.scn ≡ None → asked.settings.autocommit ≡ true → IsBoundTo k.base k.seen a.first f u.table
-      → upsert_faults f.table u ≡ [] → batch.FaultIs sound f.table.id (one_change f u) e k × batch.HasLeft f.table.id (one_change f u) e own k → batch.MadeSince before e k
-      → right.Refuses a (right.batch_refusal (table_named x) e) asked.settings ⊎ (right.Refuses a refusal.Memory asked.settings × (e ≡ unmade.NoTable)) → IsRight sound (plain k) before own asked.settings (seen_piece asked.piece) a
+      → upsert_faults f.table u ≡ [] → batch.BatchFaultIs sound f.table.id (one_change f u) e k × batch.HasLeft f.table.id (one_change f u) e own k → batch.BatchFaultSince before e k
+      → right.SaysRefused a (right.batch_refusal (table_named x) e) asked.settings ⊎ (right.SaysRefused a refusal.Memory asked.settings × (e ≡ unmade.NoTable)) → IsRight sound (plain k) before own asked.settings (seen_piece asked.piece) a
   not_changed x u f e k own a is read free alone bound none left since (inl says) =
       right.is_not_changed u f e (subst (λ (y : Statement). IsRead (seen_piece asked.piece) (Ok y)) is read) free alone bound none (batch_plain sound f.table.id (one_change f u) e k left.0) (batch_since_plain before e k since) left.1
-      (subst (λ (y : Statement). right.Refuses a (right.batch_refusal (table_named y) e) asked.settings) is says)
+      (subst (λ (y : Statement). right.SaysRefused a (right.batch_refusal (table_named y) e) asked.settings) is says)
   not_changed x u f e k own a is read free alone bound none left since (inr says) =
       right.is_at_once (right.is_lacking says.0) (no_stop own k f (one_change f u) (subst (λ (g : BatchFault). batch.HasLeft f.table.id (one_change f u) g own k) says.1 left.1))
 
   -- 3. A batch goes on, and is over
 
-  pub change_goes_on : (x : Statement) (old new : BatchRun) (room : _) (k k' : Known) (acts : List Act) → Fits sound before asked mine (state.Changing x old room) k → new.table ≡ old.table → new.changes ≡ old.changes → Ran k k' acts
-      → batch.Fits old.table old.changes new.state k' → batch.IsGoing new.state → batch.begun old.table old.changes old.state ++ outline acts ≡ batch.begun old.table old.changes new.state → batch.IsSince before new.state k'
-      → Fits sound before asked (mine ++ outline acts) (state.Changing x new room) k'
+  pub change_goes_on : (x : Statement) (old new : BatchRun) (room : _) (k k' : Known) (acts : List Act) → FitsItem sound before asked mine (state.Changing x old room) k → new.table ≡ old.table → new.changes ≡ old.changes → Ran k k' acts
+      → batch.FitsBatch old.table old.changes new.state k' → batch.IsBatchGoing new.state → batch.begun_by_batch old.table old.changes old.state ++ outline acts ≡ batch.begun_by_batch old.table old.changes new.state → batch.IsBatchSince before new.state k'
+      → FitsItem sound before asked (mine ++ outline acts) (state.Changing x new room) k'
   change_goes_on x old new room k k' acts f table changes ran fits going sum since =
       let later = of_ran k k' acts ran in
       let j = f.state.1 in
-      let F : TableId × List Change → Type 0 = λ q. batch.Fits q.0 q.1 new.state k' in
-      let G : TableId × List Change → Type 0 = λ q. batch.begun old.table old.changes old.state ++ outline acts ≡ batch.begun q.0 q.1 new.state in
+      let F : TableId × List Change → Type 0 = λ q. batch.FitsBatch q.0 q.1 new.state k' in
+      let G : TableId × List Change → Type 0 = λ q. batch.begun_by_batch old.table old.changes old.state ++ outline acts ≡ batch.begun_by_batch q.0 q.1 new.state in
       record {
         begins = f.begins;
         within = longer k k' asked.first later f.within;
@@ -106,16 +106,16 @@ module _ (sound : Type 0) (before : ℕ) (asked : Asked) (mine : List Act) where
           },
           f.state.2,
         );
-        done = and_then mine (batch.begun old.table old.changes old.state) acts f.done ∙ subst G (λ i. (sym table i, sym changes i)) sum;
+        done = and_then mine (batch.begun_by_batch old.table old.changes old.state) acts f.done ∙ subst G (λ i. (sym table i, sym changes i)) sum;
       }
 
-  pub change_is_over : (x : Statement) (old new : BatchRun) (room : _) (k k' : Known) (r : Result Receipt BatchFault) (a : Answered) → Fits sound before asked mine (state.Changing x old room) k → batch.Turns sound old.table old.changes old.state k new.state k' (bt.Over r)
-      → IsChanged asked x r a → Turns sound before asked mine k k' (turn.Over a)
+  pub change_is_over : (x : Statement) (old new : BatchRun) (room : _) (k k' : Known) (r : Result Receipt BatchFault) (a : Answered) → FitsItem sound before asked mine (state.Changing x old room) k → batch.BatchTurns sound old.table old.changes old.state k new.state k' (bt.Over r)
+      → IsChanged asked x r a → ItemTurns sound before asked mine k k' (turn.Over a)
   change_is_over x old new room k k' (Ok r) a f t c =
       let later = of_ran k k' t.acts t.ran in
       let j = f.state.1 in
       let own = mine ++ outline t.acts in
-      let F : TableId × List Change × List Act → Type 0 = λ q. batch.HasEnded q.0 q.1 q.2 k' r in
+      let F : TableId × List Change × List Act → Type 0 = λ q. batch.HasEndedBatch q.0 q.1 q.2 k' r in
       let ended = subst F (λ i. (j.table i, j.changes i, sym (and_then mine _ t.acts f.done) i)) t.told.1 in
       let bound = subst (λ (n : ℕ). IsBoundTo k'.base k'.seen n j.found j.upsert.table) (sym c.0) (bound_later k k' asked.first j.found j.upsert.table later j.bound) in
       record {
@@ -131,27 +131,27 @@ module _ (sound : Type 0) (before : ℕ) (asked : Asked) (mine : List Act) where
       let later = of_ran k k' t.acts t.ran in
       let j = f.state.1 in
       let own = mine ++ outline t.acts in
-      let F : TableId × List Change × List Act → Type 0 = λ q. batch.FaultIs sound q.0 q.1 e k' × batch.HasLeft q.0 q.1 e q.2 k' in
+      let F : TableId × List Change × List Act → Type 0 = λ q. batch.BatchFaultIs sound q.0 q.1 e k' × batch.HasLeft q.0 q.1 e q.2 k' in
       let left = subst F (λ i. (j.table i, j.changes i, sym (and_then mine _ t.acts f.done) i)) t.told.1 in
       let bound = subst (λ (n : ℕ). IsBoundTo k'.base k'.seen n j.found j.upsert.table) (sym c.0) (bound_later k k' asked.first j.found j.upsert.table later j.bound) in
       record { acts = t.acts; ran = t.ran; told = (first_low asked a c.0, first_within asked k' a (longer k k' asked.first later f.within) c.0, not_changed x j.upsert j.found e k' own a j.is f.state.0.read (f.state.0.free (ap changes j.is)) j.alone bound j.right left (t.since before j.since) c.1) }
 
   -- 4. A definition goes on, and is over
 
-  pub define_goes_on : (x : Statement) (old new : DefineRun) (k k' : Known) (acts : List Act) → Fits sound before asked mine (state.Defining x old) k → new.definition ≡ old.definition → Ran k k' acts → define.Fits sound old.definition new.state k'
-      → define.IsGoing new.state → outline acts ≡ [] → Fits sound before asked (mine ++ outline acts) (state.Defining x new) k'
+  pub define_goes_on : (x : Statement) (old new : DefineRun) (k k' : Known) (acts : List Act) → FitsItem sound before asked mine (state.Defining x old) k → new.definition ≡ old.definition → Ran k k' acts → define.FitsDefinition sound old.definition new.state k'
+      → define.IsDefinitionGoing new.state → outline acts ≡ [] → FitsItem sound before asked (mine ++ outline acts) (state.Defining x new) k'
   define_goes_on x old new k k' acts f definition ran fits going quiet =
       let later = of_ran k k' acts ran in
       record { begins = f.begins; within = longer k k' asked.first later f.within; state = (f.state.0, define_later sound asked x old new k k' later f.state.1 definition (λ was. fits) (λ was. going)); done = and_then mine [] acts f.done ∙ quiet }
 
   not_defined : (x : Statement) (f : Found) (e : DefineFault) (y : Definition) (k : Known) (own : List Act) (a : Answered) → IsRead (seen_piece asked.piece) (Ok x) → asked.settings.scn ≡ None → IsBoundTo k.base k.seen a.first f (table_named x)
-      → faults_in f x ≡ [] → definition_of f x ≡ Some y → define.FaultIs y e k → define.MadeSince before e k → own ≡ [] → Says a (right.undefined x e) asked.settings ⊎ right.Refuses a refusal.Memory asked.settings
+      → faults_in f x ≡ [] → definition_of f x ≡ Some y → define.DefinitionFaultIs y e k → define.DefinitionFaultSince before e k → own ≡ [] → Says a (right.undefined x e) asked.settings ⊎ right.SaysRefused a refusal.Memory asked.settings
       → IsRight sound (plain k) before own asked.settings (seen_piece asked.piece) a
   not_defined x f e y k own a read free bound none is told since quiet (inl says) = right.is_not_defined x f e y read free bound none is (define_plain y e k told) (define_since_plain before e k since) quiet says
   not_defined x f e y k own a read free bound none is told since quiet (inr says) = right.is_at_once (right.is_lacking says) quiet
 
-  asked_told : (x : Statement) (old : DefineRun) (k k' : Known) (own : List Act) (r : Result Made DefineFault) (a : Answered) → Later k k' → IsAsking asked x → IsDefining sound asked x old k → define.IsOutcome old.definition own k' r
-      → define.IsSinceThen before k' (dt.Over r) → IsAlone old.definition r → IsDefined asked x r a → IsRight sound (plain k') before own asked.settings (seen_piece asked.piece) a
+  asked_told : (x : Statement) (old : DefineRun) (k k' : Known) (own : List Act) (r : Result Made DefineFault) (a : Answered) → Later k k' → IsAsking asked x → IsDefining sound asked x old k → define.IsDefinitionOutcome old.definition own k' r
+      → define.IsDefinitionSinceThen before k' (dt.Over r) → IsAlone old.definition r → IsDefined asked x r a → IsRight sound (plain k') before own asked.settings (seen_piece asked.piece) a
   asked_told x old k k' own (Ok m) a later asking j out since alone c =
       let bound = subst (λ (n : ℕ). IsBoundTo k'.base k'.seen n j.found (table_named x)) (sym c.0) (bound_later k k' asked.first j.found (table_named x) later j.bound) in
       right.is_defined x j.found m old.definition asking.read (asking.free (asks_change j.found x old.definition j.definition)) bound j.right j.definition alone (defined_plain old.definition own k' m out) c.1
@@ -160,26 +160,26 @@ module _ (sound : Type 0) (before : ℕ) (asked : Asked) (mine : List Act) where
       not_defined x j.found e old.definition k' own a asking.read (asking.free (asks_change j.found x old.definition j.definition)) bound j.right j.definition out.0 since out.1 c.1
 
   not_created : (t : CreateTable) (e : DefineFault) (k : Known) (own : List Act) (a : Answered) → IsRead (seen_piece asked.piece) (Ok (s.CreateTable t)) → right.is_none_of t.splits ≡ true → asked.settings.scn ≡ None → table_faults t ≡ []
-      → define.FaultIs (d.Table (new_table t)) e k → define.MadeSince before e k → own ≡ [] → Says a (right.undefined (s.CreateTable t) e) asked.settings ⊎ right.Refuses a refusal.Memory asked.settings
+      → define.DefinitionFaultIs (d.Table (new_table t)) e k → define.DefinitionFaultSince before e k → own ≡ [] → Says a (right.undefined (s.CreateTable t) e) asked.settings ⊎ right.SaysRefused a refusal.Memory asked.settings
       → IsRight sound (plain k) before own asked.settings (seen_piece asked.piece) a
   not_created t e k own a read whole free none told since quiet (inl says) = right.is_not_created t e read whole free none (define_plain (d.Table (new_table t)) e k told) (define_since_plain before e k since) quiet says
   not_created t e k own a read whole free none told since quiet (inr says) = right.is_at_once (right.is_lacking says) quiet
 
-  create_told : (x : Statement) (old : DefineRun) (k k' : Known) (own : List Act) (r : Result Made DefineFault) (a : Answered) → IsAsking asked x → IsCreating sound x old k → define.IsOutcome old.definition own k' r
-      → define.IsSinceThen before k' (dt.Over r) → IsDefined asked x r a → IsRight sound (plain k') before own asked.settings (seen_piece asked.piece) a
+  create_told : (x : Statement) (old : DefineRun) (k k' : Known) (own : List Act) (r : Result Made DefineFault) (a : Answered) → IsAsking asked x → IsCreating sound x old k → define.IsDefinitionOutcome old.definition own k' r
+      → define.IsDefinitionSinceThen before k' (dt.Over r) → IsDefined asked x r a → IsRight sound (plain k') before own asked.settings (seen_piece asked.piece) a
   create_told x old k k' own (Ok m) a asking j out since c =
       let read = subst (λ (y : Statement). IsRead (seen_piece asked.piece) (Ok y)) j.is asking.read in
       let made = subst (λ (y : Definition). define.HasDefined y own k' m) j.definition out in
-      let says = subst (λ (y : Statement). Says a (reply.Defined (right.word_of y)) asked.settings) j.is c.1 in
+      let says = subst (λ (y : Statement). Says a (reply.Defined (right.definition_word y)) asked.settings) j.is c.1 in
       right.is_created j.create m read j.whole (asking.free (ap changes j.is)) j.right (defined_plain (d.Table (new_table j.create)) own k' m made) says
   create_told x old k k' own (Err e) a asking j out since c =
       let read = subst (λ (y : Statement). IsRead (seen_piece asked.piece) (Ok y)) j.is asking.read in
-      let fault = subst (λ (y : Definition). define.FaultIs y e k') j.definition out.0 in
-      let F : Statement → Type 0 = λ y. Says a (right.undefined y e) asked.settings ⊎ right.Refuses a refusal.Memory asked.settings in
+      let fault = subst (λ (y : Definition). define.DefinitionFaultIs y e k') j.definition out.0 in
+      let F : Statement → Type 0 = λ y. Says a (right.undefined y e) asked.settings ⊎ right.SaysRefused a refusal.Memory asked.settings in
       not_created j.create e k' own a read j.whole (asking.free (ap changes j.is)) j.right fault since out.1 (subst F j.is c.1)
 
   define_told : (x : Statement) (old : DefineRun) (k k' : Known) (own : List Act) (r : Result Made DefineFault) (a : Answered) → Later k k' → IsAsking asked x → IsDefining sound asked x old k ⊎ IsCreating sound x old k
-      → define.IsOutcome old.definition own k' r → define.IsSinceThen before k' (dt.Over r) → IsAlone old.definition r → IsDefined asked x r a → IsRight sound (plain k') before own asked.settings (seen_piece asked.piece) a
+      → define.IsDefinitionOutcome old.definition own k' r → define.IsDefinitionSinceThen before k' (dt.Over r) → IsAlone old.definition r → IsDefined asked x r a → IsRight sound (plain k') before own asked.settings (seen_piece asked.piece) a
   define_told x old k k' own r a later asking (inl j) out since alone c = asked_told x old k k' own r a later asking j out since alone c
   define_told x old k k' own r a later asking (inr j) out since alone c = create_told x old k k' own r a asking j out since c
 
@@ -187,14 +187,14 @@ module _ (sound : Type 0) (before : ℕ) (asked : Asked) (mine : List Act) where
   defined_first x (Ok m) a c = c.0
   defined_first x (Err e) a c = c.0
 
-  pub define_is_over : (x : Statement) (old new : DefineRun) (k k' : Known) (r : Result Made DefineFault) (a : Answered) → Fits sound before asked mine (state.Defining x old) k → define.Turns sound old.definition old.state k new.state k' (dt.Over r)
-      → IsAlone old.definition r → IsDefined asked x r a → Turns sound before asked mine k k' (turn.Over a)
+  pub define_is_over : (x : Statement) (old new : DefineRun) (k k' : Known) (r : Result Made DefineFault) (a : Answered) → FitsItem sound before asked mine (state.Defining x old) k → define.DefinitionTurns sound old.definition old.state k new.state k' (dt.Over r)
+      → IsAlone old.definition r → IsDefined asked x r a → ItemTurns sound before asked mine k k' (turn.Over a)
   define_is_over x old new k k' r a f t alone c =
       let later = of_ran k k' t.acts t.ran in
       let first = defined_first x r a c in
       let low = f.begins in
       let within = f.within in
-      let since : define.IsSinceThen before k' (dt.Over r) = t.since before (omega arith) in
+      let since : define.IsDefinitionSinceThen before k' (dt.Over r) = t.since before (omega arith) in
       record {
         acts = t.acts;
         ran = t.ran;
@@ -207,13 +207,13 @@ module _ (sound : Type 0) (before : ℕ) (asked : Asked) (mine : List Act) where
 
   -- a SELECT goes on, and is over
 
-  pub select_goes_on : (x : Statement) (old new : SelectRun) (k k' : Known) (acts : List Act) → Fits sound before asked mine (state.Selecting x old) k → new.scan.query ≡ old.scan.query → new.scan.scn ≡ old.scan.scn → Ran k k' acts
-      → scan.Fits sound (query_of old.scan.query) old.scan.scn new.scan.state k' → scan.IsGoing new.scan.state → scan.IsSince before new.scan.state k' → scan.IsSince asked.first new.scan.state k' → scan.opened old.scan.state ++ outline acts ≡ scan.opened new.scan.state
-      → Fits sound before asked (mine ++ outline acts) (state.Selecting x new) k'
+  pub select_goes_on : (x : Statement) (old new : SelectRun) (k k' : Known) (acts : List Act) → FitsItem sound before asked mine (state.Selecting x old) k → new.scan.query ≡ old.scan.query → new.scan.scn ≡ old.scan.scn → Ran k k' acts
+      → scan.FitsScan sound (query_of old.scan.query) old.scan.scn new.scan.state k' → scan.IsQueryGoing new.scan.state → scan.IsQuerySince before new.scan.state k' → scan.IsQuerySince asked.first new.scan.state k' → scan.opened_by_query old.scan.state ++ outline acts ≡ scan.opened_by_query new.scan.state
+      → FitsItem sound before asked (mine ++ outline acts) (state.Selecting x new) k'
   select_goes_on x old new k k' acts f query scn ran fits going since first sum =
       let later = of_ran k k' acts ran in
       let j = f.state.1 in
-      let F : Planned × Option ℕ → Type 0 = λ q. scan.Fits sound (query_of q.0) q.1 new.scan.state k' in
+      let F : Planned × Option ℕ → Type 0 = λ q. scan.FitsScan sound (query_of q.0) q.1 new.scan.state k' in
       record {
         begins = f.begins;
         within = longer k k' asked.first later f.within;
@@ -232,17 +232,17 @@ module _ (sound : Type 0) (before : ℕ) (asked : Asked) (mine : List Act) where
             first = first;
           },
         );
-        done = and_then mine (scan.opened old.scan.state) acts f.done ∙ sum;
+        done = and_then mine (scan.opened_by_query old.scan.state) acts f.done ∙ sum;
       }
 
-  pub select_is_over : (x : Statement) (old new : SelectRun) (k k' : Known) (r : Result Selected QueryFault) (a : Answered) → Fits sound before asked mine (state.Selecting x old) k
-      → SelectTurns sound old.scan.query old.scan.scn old.scan.state k new.scan.state k' (ended.Over r) → right.IsSelection asked x r a → Turns sound before asked mine k k' (turn.Over a)
+  pub select_is_over : (x : Statement) (old new : SelectRun) (k k' : Known) (r : Result Selected QueryFault) (a : Answered) → FitsItem sound before asked mine (state.Selecting x old) k
+      → SelectTurns sound old.scan.query old.scan.scn old.scan.state k new.scan.state k' (ended.Over r) → right.IsSelection asked x r a → ItemTurns sound before asked mine k k' (turn.Over a)
   select_is_over x old new k k' (Ok r) a f t c =
       let later = of_ran k k' t.acts t.ran in
       let j = f.state.1 in
       let own = mine ++ outline t.acts in
       let bound = bound_later k k' before j.found j.select.table later j.bound in
-      let out = outcome_plain sound old.scan.query asked.settings.scn own k' (Ok r) (subst (λ (z : Option ℕ × List Act). selecting.IsOutcome sound old.scan.query z.0 z.1 k' (Ok r)) (λ i. (j.scn i, sym (and_then mine (scan.opened old.scan.state) t.acts f.done) i)) t.told.1) in
+      let out = outcome_plain sound old.scan.query asked.settings.scn own k' (Ok r) (subst (λ (z : Option ℕ × List Act). selecting.IsSelectOutcome sound old.scan.query z.0 z.1 k' (Ok r)) (λ i. (j.scn i, sym (and_then mine (scan.opened_by_query old.scan.state) t.acts f.done) i)) t.told.1) in
       let first = c.first in
       let since = t.since asked.first j.first in
       let ends = t.told.1.2 in
@@ -257,8 +257,8 @@ module _ (sound : Type 0) (before : ℕ) (asked : Asked) (mine : List Act) where
       let j = f.state.1 in
       let own = mine ++ outline t.acts in
       let bound = bound_later k k' before j.found j.select.table later j.bound in
-      let out = outcome_plain sound old.scan.query asked.settings.scn own k' (Err e) (subst (λ (z : Option ℕ × List Act). selecting.IsOutcome sound old.scan.query z.0 z.1 k' (Err e)) (λ i. (j.scn i, sym (and_then mine (scan.opened old.scan.state) t.acts f.done) i)) t.told.1) in
-      let F : Statement → Type 0 = λ y. right.Refuses a (right.query_refusal (table_named y) e) asked.settings ⊎ right.Refuses a refusal.Memory asked.settings in
+      let out = outcome_plain sound old.scan.query asked.settings.scn own k' (Err e) (subst (λ (z : Option ℕ × List Act). selecting.IsSelectOutcome sound old.scan.query z.0 z.1 k' (Err e)) (λ i. (j.scn i, sym (and_then mine (scan.opened_by_query old.scan.state) t.acts f.done) i)) t.told.1) in
+      let F : Statement → Type 0 = λ y. right.SaysRefused a (right.query_refusal (table_named y) e) asked.settings ⊎ right.SaysRefused a refusal.Memory asked.settings in
       record {
         acts = t.acts;
         ran = t.ran;
@@ -271,8 +271,8 @@ module _ (sound : Type 0) (before : ℕ) (asked : Asked) (mine : List Act) where
 
   -- a DELETE goes on, and is over
 
-  delete_stays : (x : Statement) (old new : DeleteRun) (k k' : Known) (acts : List Act) → (f : Fits sound before asked mine (state.Deleting x old) k) → Ran k k' acts → deleting.Fits sound (deletion_query f.state.1.found f.state.1.delete) new.state k' → deleting.IsGoing new.state
-      → deleting.HasDone sound (deletion_query f.state.1.found f.state.1.delete) (mine ++ outline acts) new.state k' → deleting.IsSince asked.first new.state k' → Fits sound before asked (mine ++ outline acts) (state.Deleting x new) k'
+  delete_stays : (x : Statement) (old new : DeleteRun) (k k' : Known) (acts : List Act) → (f : FitsItem sound before asked mine (state.Deleting x old) k) → Ran k k' acts → deleting.FitsDelete sound (deletion_query f.state.1.found f.state.1.delete) new.state k' → deleting.IsDeleteGoing new.state
+      → deleting.HasDone sound (deletion_query f.state.1.found f.state.1.delete) (mine ++ outline acts) new.state k' → deleting.IsDeleteSince asked.first new.state k' → FitsItem sound before asked (mine ++ outline acts) (state.Deleting x new) k'
   delete_stays x old new k k' acts f ran fits going done since =
       let later = of_ran k k' acts ran in
       let j = f.state.1 in
@@ -297,16 +297,16 @@ module _ (sound : Type 0) (before : ℕ) (asked : Asked) (mine : List Act) where
         done = tt;
       }
 
-  pub delete_goes_on : (x : Statement) (old new : DeleteRun) (k k' : Known) → Fits sound before asked mine (state.Deleting x old) k → ((p : Planned) → deleting.Fits sound p old.state k → deleting.DeleteTurns sound p old.state k new.state k' removed.Stepped)
-      → Turns sound before asked mine k k' (turn.Stepped (record { asked = asked; state = state.Deleting x new }))
+  pub delete_goes_on : (x : Statement) (old new : DeleteRun) (k k' : Known) → FitsItem sound before asked mine (state.Deleting x old) k → ((p : Planned) → deleting.FitsDelete sound p old.state k → deleting.DeleteTurns sound p old.state k new.state k' removed.Stepped)
+      → ItemTurns sound before asked mine k k' (turn.Stepped (record { asked = asked; state = state.Deleting x new }))
   delete_goes_on x old new k k' f turns =
       let j = f.state.1 in
       let t = turns (deletion_query j.found j.delete) j.fits in
       let told = t.told mine j.done in
       record { acts = t.acts; ran = t.ran; told = (refl, delete_stays x old new k k' t.acts f t.ran t.fits told.0 told.1 (t.since asked.first j.since)) }
 
-  pub delete_waits : (x : Statement) (old new : DeleteRun) (k k' : Known) (stamp : ℕ) → Fits sound before asked mine (state.Deleting x old) k
-      → ((p : Planned) → deleting.Fits sound p old.state k → deleting.DeleteTurns sound p old.state k new.state k' (removed.Waiting stamp)) → Turns sound before asked mine k k' (turn.Waiting (record { asked = asked; state = state.Deleting x new }))
+  pub delete_waits : (x : Statement) (old new : DeleteRun) (k k' : Known) (stamp : ℕ) → FitsItem sound before asked mine (state.Deleting x old) k
+      → ((p : Planned) → deleting.FitsDelete sound p old.state k → deleting.DeleteTurns sound p old.state k new.state k' (removed.Waiting stamp)) → ItemTurns sound before asked mine k k' (turn.Waiting (record { asked = asked; state = state.Deleting x new }))
   delete_waits x old new k k' stamp f turns =
       let j = f.state.1 in
       let t = turns (deletion_query j.found j.delete) j.fits in
@@ -314,7 +314,7 @@ module _ (sound : Type 0) (before : ℕ) (asked : Asked) (mine : List Act) where
       record { acts = t.acts; ran = t.ran; told = (refl, delete_stays x old new k k' t.acts f t.ran t.fits told.0 told.1 (t.since asked.first j.since)) }
 
   deletion_told : (x : Statement) (y : Delete) (f : Found) (k : Known) (own : List Act) (rs : List Receipt) (e : Result Removed DeleteFault) (a : Answered) → x ≡ s.Delete y → IsAsking asked x → asked.settings.autocommit ≡ true → IsBoundTo k.base k.seen a.first f y.table → delete_faults f.table.columns y ≡ []
-      → deleting.IsEnd sound (deletion_query f y) own k rs e → deleting.IsEndSince a.first e k → right.TellsEnd x e a.reply → a.receipts ≡ rs → a.places ≡ [] → a.after ≡ Rattle.px_item.specs.declared.answered.After.TheVariants.Next asked.settings → IsRight sound (plain k) before own asked.settings (seen_piece asked.piece) a
+      → deleting.IsDeleteEnd sound (deletion_query f y) own k rs e → deleting.IsEndSince a.first e k → right.TellsEnd x e a.reply → a.receipts ≡ rs → a.places ≡ [] → a.after ≡ Rattle.px_item.specs.declared.answered.After.TheVariants.Next asked.settings → IsRight sound (plain k) before own asked.settings (seen_piece asked.piece) a
   deletion_told x y f k own rs (Ok m) a is asking on bound none end since tells receipts places after =
       let read = subst (λ (z : Statement). IsRead (seen_piece asked.piece) (Ok z)) is asking.read in
       let h = removed_plain sound (deletion_query f y) own k rs m end in
@@ -329,10 +329,10 @@ module _ (sound : Type 0) (before : ℕ) (asked : Asked) (mine : List Act) where
       let read = subst (λ (z : Statement). IsRead (seen_piece asked.piece) (Ok z)) is asking.read in
       let h = stopped_plain sound (deletion_query f y) own k rs e end in
       right.is_not_deleted y f e read (asking.free (ap changes is)) on bound none (subst (λ (l : List Receipt). deleting.HasStopped sound (deletion_query f y) own (plain k) l e) (sym receipts) h) (batch_since_plain a.first e k since)
-      (subst (λ (z : Statement). right.StopsAt a.reply (table_named z) e) is tells) (places, after)
+      (subst (λ (z : Statement). right.StopsDelete a.reply (table_named z) e) is tells) (places, after)
 
-  pub delete_is_over : (x : Statement) (old new : DeleteRun) (k k' : Known) (d : Deleted) (a : Answered) → Fits sound before asked mine (state.Deleting x old) k
-      → ((p : Planned) → deleting.Fits sound p old.state k → deleting.DeleteTurns sound p old.state k new.state k' (removed.Over d)) → IsDeletion asked x d a → Turns sound before asked mine k k' (turn.Over a)
+  pub delete_is_over : (x : Statement) (old new : DeleteRun) (k k' : Known) (d : Deleted) (a : Answered) → FitsItem sound before asked mine (state.Deleting x old) k
+      → ((p : Planned) → deleting.FitsDelete sound p old.state k → deleting.DeleteTurns sound p old.state k new.state k' (removed.Over d)) → IsDeletion asked x d a → ItemTurns sound before asked mine k k' (turn.Over a)
   delete_is_over x old new k k' d a f turns c =
       let j = f.state.1 in
       let t = turns (deletion_query j.found j.delete) j.fits in

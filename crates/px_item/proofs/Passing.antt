@@ -12,8 +12,8 @@ use Rattle.px_trail.specs.Trail.{Base, acts_by}
 use Rattle.px_calls.specs.declared.definition.Definition.{Definition}
 use Rattle.px_calls.specs.declared.definition.Definition.TheVariants as d
 use Rattle.px_calls.specs.declared.definition.Made.{Made}
-use Rattle.px_calls.specs.Known.{Known, Passes, Ran, outline}
-use Rattle.px_calls.specs.Calls.{IsFound, made_index}
+use Rattle.px_calls.specs.Known.{Known, Ran, TimePasses, outline}
+use Rattle.px_calls.specs.Calls.{IsFound, index_id_made}
 use Rattle.px_calls.specs.Requires.{IsScn}
 use Rattle.px_calls.proofs.Runs.{acts_by-append, among-front}
 use Rattle.px_batch.specs.Turns as batch
@@ -36,7 +36,7 @@ use Rattle.px_item.specs.declared.answered.Settings.{Settings}
 use Rattle.px_item.specs.declared.item.ItemState.{ItemState}
 use Rattle.px_item.specs.declared.item.ItemState.TheVariants as state
 use Rattle.px_item.specs.Right.{AsksToCommit, IsBoundTo, changes, deletion_query, definition_of, table_named}
-use Rattle.px_item.specs.Turns.{Fits, FitsState, IsCreating, IsDefining}
+use Rattle.px_item.specs.Turns.{FitsItem, FitsState, IsCreating, IsDefining}
 use Rattle.px_upkeep.proofs.Whole as upkeep
 use Rattle.px_item.specs.Builds.{IsBuiltBehind, IsNumberOf, StandsAs}
 use Rattle.px_gather.specs.Query.{Query}
@@ -61,7 +61,7 @@ pub record Later (k k' : Known) : Type 0 where
 pub of_ran : (k k' : Known) (acts : List Act) → Ran k k' acts → Later k k'
 of_ran k k' acts h = record { more = h.added; seen = h.seen; base = h.base }
 
-pub of_passes : (k k' : Known) → Passes k k' → Later k k'
+pub of_passes : (k k' : Known) → TimePasses k k' → Later k k'
 of_passes k k' h = record { more = h.others; seen = h.seen; base = h.base }
 
 pub longer : (k k' : Known) (n : ℕ) → Later k k' → n ≤ length k.seen → n ≤ length k'.seen
@@ -75,19 +75,19 @@ bound_later k k' first f name h b =
 
 -- 2. A batch under others' entries
 
-since_more : (k k' : Known) (act : Act) (n : ℕ) → Passes k k' → n ≤ length k.seen → IsAmong act (acts_by k.seat (drop n k.seen)) → IsAmong act (acts_by k'.seat (drop n k'.seen))
+since_more : (k k' : Known) (act : Act) (n : ℕ) → TimePasses k k' → n ≤ length k.seen → IsAmong act (acts_by k.seat (drop n k.seen)) → IsAmong act (acts_by k'.seat (drop n k'.seen))
 since_more k k' act n h low i =
     let e : acts_by k'.seat (drop n k'.seen) ≡ acts_by k.seat (drop n k.seen) ++ acts_by k.seat h.others =
     ap (λ (m : ℕ). acts_by m (drop n k'.seen)) h.seat
     ∙ (ap (λ (l : List Entry). acts_by k.seat (drop n l)) h.seen ∙ (ap (acts_by k.seat) (drop-append-le n k.seen h.others low) ∙ acts_by-append k.seat (drop n k.seen) h.others)) in
     subst (λ (l : List Act). IsAmong act l) (sym e) (among-front act (acts_by k.seat (drop n k.seen)) (acts_by k.seat h.others) i)
 
-made_more : (k k' : Known) (f : BatchFault) (n : ℕ) → Passes k k' → n ≤ length k.seen → batch.MadeSince n f k → batch.MadeSince n f k'
+made_more : (k k' : Known) (f : BatchFault) (n : ℕ) → TimePasses k k' → n ≤ length k.seen → batch.BatchFaultSince n f k → batch.BatchFaultSince n f k'
 made_more k k' unmade.ReadFault n h low m = (m.0, since_more k k' _ n h low m.1)
 made_more k k' unmade.WriteFault n h low m = (m.0, since_more k k' _ n h low m.1)
 made_more k k' f n h low m = tt
 
-pub since_passes : (k k' : Known) (st : BatchState) (n : ℕ) → Passes k k' → batch.IsSince n st k → batch.IsSince n st k'
+pub since_passes : (k k' : Known) (st : BatchState) (n : ℕ) → TimePasses k k' → batch.IsBatchSince n st k → batch.IsBatchSince n st k'
 since_passes k k' batches.Beginning n h i = longer k k' n (of_passes k k' h) i
 since_passes k k' batches.Settling n h i = longer k k' n (of_passes k k' h) i
 since_passes k k' (batches.Marking t) n h i = longer k k' n (of_passes k k' h) i
@@ -98,7 +98,7 @@ since_passes k k' (batches.Leaving t f) n h i = (longer k k' n (of_passes k k' h
 since_passes k k' batches.Over n h i = longer k k' n (of_passes k k' h) i
 
 -- a commit under others' entries
-commit_since : (n : ℕ) (r : CommitRun) (k k' : Known) → Passes k k' → commits.IsSince n r k → commits.IsSince n r k'
+commit_since : (n : ℕ) (r : CommitRun) (k k' : Known) → TimePasses k k' → commits.IsCommitSince n r k → commits.IsCommitSince n r k'
 commit_since n Rattle.px_commanding.specs.declared.commit.CommitRun.TheVariants.Finding k k' h i = longer k k' n (of_passes k k' h) i
 commit_since n (Rattle.px_commanding.specs.declared.commit.CommitRun.TheVariants.Changing run room) k k' h i = since_passes k k' run.state n h i
 
@@ -130,7 +130,7 @@ stands_later (d.DropTable t) m k k' h low b = tt
 stands_later (d.DropIndex t i) m k k' h low b = tt
 
 -- a SELECT under others' entries
-pub select_since : (n : ℕ) (st : QueryState) (k k' : Known) → Passes k k' → scan.IsSince n st k → scan.IsSince n st k'
+pub select_since : (n : ℕ) (st : QueryState) (k k' : Known) → TimePasses k k' → scan.IsQuerySince n st k → scan.IsQuerySince n st k'
 select_since n (reading.Opening rows) k k' h i = longer k k' n (of_passes k k' h) i
 select_since n (reading.Looking x a) k k' h i = i
 select_since n (reading.Consulting x r e) k k' h i = i
@@ -140,7 +140,7 @@ select_since n (reading.Closing p e) k k' h i = i
 select_since n reading.Over k k' h i = tt
 
 -- a SELECT that has made no step
-pub new_select : (sound : Type 0) (q : Query) (scn : Option ℕ) (st : QueryState) (k : Known) → scan.IsNew st → scan.IsBound k q → IsScn scn → scan.Fits sound q scn st k × scan.IsGoing st × ([] ≡ scan.opened st) × ((n : ℕ) → n ≤ length k.seen → scan.IsSince n st k)
+pub new_select : (sound : Type 0) (q : Query) (scn : Option ℕ) (st : QueryState) (k : Known) → scan.IsQueryNew st → scan.IsBound k q → IsScn scn → scan.FitsScan sound q scn st k × scan.IsQueryGoing st × ([] ≡ scan.opened_by_query st) × ((n : ℕ) → n ≤ length k.seen → scan.IsQuerySince n st k)
 new_select sound q scn (reading.Opening rows) k new bound ok = ((new, bound, ok), tt, refl, λ n low. low)
 new_select sound q scn (reading.Looking x a) k new bound ok = absurd new
 new_select sound q scn (reading.Consulting x r e) k new bound ok = absurd new
@@ -150,13 +150,13 @@ new_select sound q scn (reading.Closing p e) k new bound ok = absurd new
 new_select sound q scn reading.Over k new bound ok = absurd new
 
 -- a DELETE under others' entries
-delete_since : (n : ℕ) (st : DeleteState) (k k' : Known) → Passes k k' → deleting.IsSince n st k → deleting.IsSince n st k'
+delete_since : (n : ℕ) (st : DeleteState) (k k' : Known) → TimePasses k k' → deleting.IsDeleteSince n st k → deleting.IsDeleteSince n st k'
 delete_since n (deletes.Finding run) k k' h i = select_since n run.scan.state k k' h i
 delete_since n (deletes.Removing run left) k k' h i = (i.0, since_passes k k' run.state n h i.1)
 delete_since n deletes.Over k k' h i = tt
 
 -- a DELETE that has made no step
-pub new_delete : (sound : Type 0) (p : Planned) (st : DeleteState) (k : Known) → deleting.IsNew p st → deleting.CanBegin k p → deleting.Fits sound p st k × deleting.IsGoing st × deleting.HasDone sound p [] st k × ((n : ℕ) → n ≤ length k.seen → deleting.IsSince n st k)
+pub new_delete : (sound : Type 0) (p : Planned) (st : DeleteState) (k : Known) → deleting.IsDeleteNew p st → deleting.CanBegin k p → deleting.FitsDelete sound p st k × deleting.IsDeleteGoing st × deleting.HasDone sound p [] st k × ((n : ℕ) → n ≤ length k.seen → deleting.IsDeleteSince n st k)
 new_delete sound p (deletes.Finding run) k new can =
     let bound = subst (λ (z : Planned). scan.IsBound k (query_of z)) (sym new.0) can.bound in
     let valid : IsScn run.scan.scn = subst IsScn (sym new.1) tt in
@@ -191,15 +191,15 @@ pub first_within : (asked : Asked) (k : Known) (a : Answered) → asked.first �
 first_within asked k a low e = omega arith
 
 -- a definition under way
-pub define_later : (sound : Type 0) (asked : Asked) (x : Statement) (old new : DefineRun) (k k' : Known) → Later k k' → IsDefining sound asked x old k ⊎ IsCreating sound x old k → new.definition ≡ old.definition → (define.Fits sound old.definition old.state k → define.Fits sound old.definition new.state k')
-    → (define.IsGoing old.state → define.IsGoing new.state) → IsDefining sound asked x new k' ⊎ IsCreating sound x new k'
+pub define_later : (sound : Type 0) (asked : Asked) (x : Statement) (old new : DefineRun) (k k' : Known) → Later k k' → IsDefining sound asked x old k ⊎ IsCreating sound x old k → new.definition ≡ old.definition → (define.FitsDefinition sound old.definition old.state k → define.FitsDefinition sound old.definition new.state k')
+    → (define.IsDefinitionGoing old.state → define.IsDefinitionGoing new.state) → IsDefining sound asked x new k' ⊎ IsCreating sound x new k'
 define_later sound asked x old new k k' later (inl j) definition fits going =
     inl record {
       found = j.found;
       bound = bound_later k k' asked.first j.found (table_named x) later j.bound;
       right = j.right;
       definition = j.definition ∙ ap Some (sym definition);
-      fits = subst (λ (y : Definition). define.Fits sound y new.state k') (sym definition) (fits j.fits);
+      fits = subst (λ (y : Definition). define.FitsDefinition sound y new.state k') (sym definition) (fits j.fits);
       going = going j.going;
     }
 define_later sound asked x old new k k' later (inr j) definition fits going =
@@ -209,7 +209,7 @@ define_later sound asked x old new k k' later (inr j) definition fits going =
       whole = j.whole;
       right = j.right;
       definition = definition ∙ j.definition;
-      fits = subst (λ (y : Definition). define.Fits sound y new.state k') (sym definition) (fits j.fits);
+      fits = subst (λ (y : Definition). define.FitsDefinition sound y new.state k') (sym definition) (fits j.fits);
       going = going j.going;
     }
 
@@ -223,7 +223,7 @@ nothing_more mine same = append-nil mine ∙ same
 
 -- `mine` is what was done for the item so far
 module _ (sound : Type 0) (before : ℕ) (asked : Asked) (mine : List Act) where
-  state_passes : (st : ItemState) (k k' : Known) → Passes k k' → FitsState sound before asked mine st k → FitsState sound before asked mine st k'
+  state_passes : (st : ItemState) (k k' : Known) → TimePasses k k' → FitsState sound before asked mine st k → FitsState sound before asked mine st k'
   state_passes (state.Finding x) k k' h f = f
   state_passes (state.Changing x run room) k k' h f =
       let j = f.1 in (
@@ -261,7 +261,7 @@ module _ (sound : Type 0) (before : ℕ) (asked : Asked) (mine : List Act) where
           behind = record { one = j.behind.one; made = j.behind.made; from = j.behind.from; within = longer k k' j.made.at later j.behind.within };
           stands = stands_later j.definition j.made k k' later j.behind.within j.stands;
           legal = h.legal;
-          fits = upkeep.fits-kept sound j.made.at j.table (made_index j.made) j.rest run k k' h j.fits;
+          fits = upkeep.fits-kept sound j.made.at j.table (index_id_made j.made) j.rest run k k' h j.fits;
         },
       )
   state_passes (state.Selecting x run) k k' h f =
@@ -326,5 +326,5 @@ module _ (sound : Type 0) (before : ℕ) (asked : Asked) (mine : List Act) where
   state_passes (state.Counting name run) k k' h f = record { read = f.read; fits = numbering.fits-kept asked.first name run k k' h f.fits }
   state_passes (state.Ordering run) k k' h f = f
 
-  pub fits_passes : (st : ItemState) (k k' : Known) → Passes k k' → Fits sound before asked mine st k → Fits sound before asked mine st k'
+  pub fits_passes : (st : ItemState) (k k' : Known) → TimePasses k k' → FitsItem sound before asked mine st k → FitsItem sound before asked mine st k'
   fits_passes st k k' h f = record { begins = f.begins; within = longer k k' asked.first (of_passes k k' h) f.within; state = state_passes st k k' h f.state; done = f.done }

@@ -33,10 +33,10 @@ use Rattle.px_upkeep.specs.declared.build.BuildFault.{BuildFault}
 use Rattle.px_gather.specs.Query.{Query}
 use Rattle.px_planned.specs.Queries.{query_of}
 use Rattle.px_planned.specs.declared.planned.Planned.{Planned}
-use Rattle.px_scan.specs.Faults.{IsJoined, MadeSince, QueryFaultIs}
+use Rattle.px_scan.specs.Faults.{IsJoined, QueryFaultIs, QueryFaultSince}
 use Rattle.px_scan.specs.declared.answer.QueryFault.{QueryFault}
 use Rattle.px_scan.specs.declared.answer.QueryFault.TheVariants as unread
-use Rattle.px_select.specs.Selecting.{IsOutcome}
+use Rattle.px_select.specs.Selecting.{IsSelectOutcome}
 use Rattle.px_select.specs.declared.run.Selected.{Selected}
 use Rattle.px_deleting.specs.Deleting as deleting
 use Rattle.px_deleting.specs.declared.deleted.Removed.{Removed}
@@ -63,7 +63,7 @@ limit_plain sound t cs bound.Log k h = h
 limit_plain sound t cs bound.Region k h = h
 limit_plain sound t cs which k h = h
 
-pub batch_plain : (sound : Type 0) (t : TableId) (cs : List Change) (f : BatchFault) (k : Known) → batch.FaultIs sound t cs f k → batch.FaultIs sound t cs f (plain k)
+pub batch_plain : (sound : Type 0) (t : TableId) (cs : List Change) (f : BatchFault) (k : Known) → batch.BatchFaultIs sound t cs f k → batch.BatchFaultIs sound t cs f (plain k)
 batch_plain sound t cs unmade.NoTable k h = h
 batch_plain sound t cs (unmade.Limit which count) k h = (h.0, h.1, limit_plain sound t.0 cs which k h.2)
 batch_plain sound t cs unmade.ReadFault k h = h
@@ -72,7 +72,7 @@ batch_plain sound t cs (unmade.Damaged file place) k h = h
 batch_plain sound t cs (unmade.Closed call) k h = h
 batch_plain sound t cs unmade.Memory k h = h
 
-pub batch_since_plain : (n : ℕ) (f : BatchFault) (k : Known) → batch.MadeSince n f k → batch.MadeSince n f (plain k)
+pub batch_since_plain : (n : ℕ) (f : BatchFault) (k : Known) → batch.BatchFaultSince n f k → batch.BatchFaultSince n f (plain k)
 batch_since_plain n unmade.ReadFault k h = h
 batch_since_plain n unmade.WriteFault k h = h
 batch_since_plain n f k h = h
@@ -81,7 +81,7 @@ finished_plain : (u : Option ℕ) (b : Batch) (k : Known) → IsFinished u b k �
 finished_plain None b k h = h
 finished_plain (Some call) b k h = h
 
-pub ended_plain : (t : TableId) (cs : List Change) (own : List Act) (k : Known) (r : Receipt) → batch.HasEnded t cs own k r → batch.HasEnded t cs own (plain k) r
+pub ended_plain : (t : TableId) (cs : List Change) (own : List Act) (k : Known) (r : Receipt) → batch.HasEndedBatch t cs own k r → batch.HasEndedBatch t cs own (plain k) r
 ended_plain t cs own k r h =
     let i = h.receipt in
     record {
@@ -140,7 +140,7 @@ cause_plain (d.DropIndex t i) (step.InUse count) k h = h
 cause_plain (d.DropIndex t i) (step.NotReady region) k h = h
 cause_plain (d.DropIndex t i) f k h = h
 
-pub define_plain : (x : Definition) (f : DefineFault) (k : Known) → define.FaultIs x f k → define.FaultIs x f (plain k)
+pub define_plain : (x : Definition) (f : DefineFault) (k : Known) → define.DefinitionFaultIs x f k → define.DefinitionFaultIs x f (plain k)
 define_plain x undone.NameExists k h = cause_plain x step.NameExists k h
 define_plain x undone.NoTable k h = cause_plain x step.NoTable k h
 define_plain x undone.NoIndex k h = cause_plain x step.NoIndex k h
@@ -151,7 +151,7 @@ define_plain x (undone.Damaged file place) k h = h
 define_plain x (undone.Closed call) k h = h
 define_plain x undone.Memory k h = h
 
-pub define_since_plain : (n : ℕ) (f : DefineFault) (k : Known) → define.MadeSince n f k → define.MadeSince n f (plain k)
+pub define_since_plain : (n : ℕ) (f : DefineFault) (k : Known) → define.DefinitionFaultSince n f k → define.DefinitionFaultSince n f (plain k)
 define_since_plain n undone.ReadFault k h = h
 define_since_plain n undone.WriteFault k h = h
 define_since_plain n f k h = h
@@ -162,12 +162,12 @@ defined_plain x own k m h = record { one = h.one; made = h.made; at = h.at }
 pub past_plain : (was k : Known) → building.IsPast was k → building.IsPast was (plain k)
 past_plain was k h = record { more = h.more; seen = h.seen; seat = h.seat; base = h.base; damaged = h.damaged }
 
-abbrev pub built_plain : (sound : Type 0) (n : ℕ) (t : TableId) (i : IndexId) (own : List Act) (k : Known) (m : Made) → building.IsOutcome sound n t i own k (Ok m) → building.IsOutcome sound n t i own (plain k) (Ok m)
+abbrev pub built_plain : (sound : Type 0) (n : ℕ) (t : TableId) (i : IndexId) (own : List Act) (k : Known) (m : Made) → building.IsBuildOutcome sound n t i own k (Ok m) → building.IsBuildOutcome sound n t i own (plain k) (Ok m)
 built_plain sound n t i own k m h =
     let w = h.0 in
     (record { was = w.was; past = past_plain w.was k w.past; from = w.from; index = w.index; is = w.is; owner = w.owner; state = w.state; birth = w.birth; number = w.number; at = w.at }, h.1)
 
-pub unbuilt_plain : (sound : Type 0) (n : ℕ) (t : TableId) (i : IndexId) (own : List Act) (k : Known) (f : BuildFault) → building.IsOutcome sound n t i own k (Err f) → building.IsOutcome sound n t i own (plain k) (Err f)
+pub unbuilt_plain : (sound : Type 0) (n : ℕ) (t : TableId) (i : IndexId) (own : List Act) (k : Known) (f : BuildFault) → building.IsBuildOutcome sound n t i own k (Err f) → building.IsBuildOutcome sound n t i own (plain k) (Err f)
 unbuilt_plain sound n t i own k f h = (record { was = h.0.was; past = past_plain h.0.was k h.0.past; from = h.0.from; cause = h.0.cause; since = h.0.since }, h.1)
 
 pub behind_plain : (n : ℕ) (e : Definition) (m : Made) (own rest : List Act) (k : Known) → IsBuiltBehind n e m own rest k → IsBuiltBehind n e m own rest (plain k)
@@ -194,19 +194,19 @@ query_plain q (Some n) (unread.Closed call) k h = h
 query_plain q None unread.Memory k h = h
 query_plain q (Some n) unread.Memory k h = h
 
-pub query_since_plain : (n : ℕ) (f : QueryFault) (k : Known) → MadeSince n f k → MadeSince n f (plain k)
+pub query_since_plain : (n : ℕ) (f : QueryFault) (k : Known) → QueryFaultSince n f k → QueryFaultSince n f (plain k)
 query_since_plain n unread.ReadFault k h = h
 query_since_plain n unread.WriteFault k h = h
 query_since_plain n f k h = h
 
-pub outcome_plain : (sound : Type 0) (p : Planned) (scn : Option ℕ) (own : List Act) (k : Known) (r : Result Selected QueryFault) → IsOutcome sound p scn own k r → IsOutcome sound p scn own (plain k) r
+pub outcome_plain : (sound : Type 0) (p : Planned) (scn : Option ℕ) (own : List Act) (k : Known) (r : Result Selected QueryFault) → IsSelectOutcome sound p scn own k r → IsSelectOutcome sound p scn own (plain k) r
 outcome_plain sound p scn own k (Ok a) h = (record { point = h.0.point; is_point = h.0.is_point; at = h.0.at; path = h.0.path; chosen = h.0.chosen; answer = h.0.answer }, h.1, h.2, h.3)
 outcome_plain sound p scn own k (Err f) h = (query_plain (query_of p) scn f k h.0, h.1)
 
 later_plain : (k : Known) → Later k (plain k)
 later_plain k = record { more = []; seen = sym (append-nil k.seen); base = refl; seat = refl }
 
-pub found_plain : (sound : Type 0) (p : Planned) (k : Known) (first : ℕ) (acts : List Act) (cs : List Change) → deleting.HasFound sound p k first acts cs → deleting.HasFound sound p (plain k) first acts cs
+pub found_plain : (sound : Type 0) (p : Planned) (k : Known) (first : ℕ) (acts : List Act) (cs : List Change) → deleting.HasFoundRows sound p k first acts cs → deleting.HasFoundRows sound p (plain k) first acts cs
 found_plain sound p k first acts cs h = found-later sound p k (plain k) first acts cs (later_plain k) h
 
 pub removed_plain : (sound : Type 0) (p : Planned) (own : List Act) (k : Known) (rs : List Receipt) (m : Removed) → deleting.HasRemoved sound p own k rs m → deleting.HasRemoved sound p own (plain k) rs m
@@ -243,7 +243,7 @@ stopped_plain sound p own k rs f h =
       own_is = h.own_is;
     }
 
-commit_plain : (sound : Type 0) (h : HeldData) (f : BatchFault) (k : Known) → commits.FaultIs sound h f k → commits.FaultIs sound h f (plain k)
+commit_plain : (sound : Type 0) (h : HeldData) (f : BatchFault) (k : Known) → commits.CommitFaultIs sound h f k → commits.CommitFaultIs sound h f (plain k)
 commit_plain sound h unmade.NoTable k i = i
 commit_plain sound h (unmade.Limit which count) k i = (i.0, i.1, limit_plain sound h.table.0 h.changes which k i.2)
 commit_plain sound h unmade.ReadFault k i = i
@@ -252,7 +252,7 @@ commit_plain sound h (unmade.Damaged file place) k i = i
 commit_plain sound h (unmade.Closed call) k i = i
 commit_plain sound h unmade.Memory k i = i
 
-pub committed_plain : (sound : Type 0) (h : HeldData) (own : List Act) (k : Known) (r : Result (Vec Receipt Global) BatchFault) → commits.IsOutcome sound h own k r → commits.IsOutcome sound h own (plain k) r
+pub committed_plain : (sound : Type 0) (h : HeldData) (own : List Act) (k : Known) (r : Result (Vec Receipt Global) BatchFault) → commits.IsCommitOutcome sound h own k r → commits.IsCommitOutcome sound h own (plain k) r
 committed_plain sound h own k (Ok rs) o = (o.0, o.1, ended_plain h.table h.changes own k o.0 o.2)
 committed_plain sound h own k (Err f) o = (commit_plain sound h f k o.0, o.1)
 
@@ -261,10 +261,10 @@ asks_plain k first st p h true (inl a) = inl a
 asks_plain k first st p h true (inr m) = inr (record { statement = m.statement; found = m.found; read = m.read; free = m.free; holds = m.holds; bound = m.bound; right = m.right; other = m.other })
 asks_plain k first st p h false a = a
 
-was_found_plain : (n : ℕ) (name : List ℕ) (t : TableId) (k : Known) → counts.WasFound n name t k → counts.WasFound n name t (plain k)
+was_found_plain : (n : ℕ) (name : List ℕ) (t : TableId) (k : Known) → counts.WasTableFound n name t k → counts.WasTableFound n name t (plain k)
 was_found_plain n name t k w = record { place = w.place; from = w.from; within = w.within; found = w.found; is = w.is; named = w.named; number = w.number }
 
-uncounted_plain : (n : ℕ) (name : List ℕ) (f : CountFault) (k : Known) → counts.FaultIs n name f k → counts.FaultIs n name f (plain k)
+uncounted_plain : (n : ℕ) (name : List ℕ) (f : CountFault) (k : Known) → counts.CountFaultIs n name f k → counts.CountFaultIs n name f (plain k)
 uncounted_plain n name uncounted.NoTable k (inl i) = inl i
 uncounted_plain n name uncounted.NoTable k (inr i) = inr (i.0, was_found_plain n name i.0 k i.1, i.2)
 uncounted_plain n name uncounted.ReadFault k i = i
@@ -272,22 +272,22 @@ uncounted_plain n name (uncounted.Damaged file place) k i = i
 uncounted_plain n name (uncounted.Closed call) k i = i
 uncounted_plain n name uncounted.Memory k i = i
 
-pub counted_plain : (n : ℕ) (name : List ℕ) (k : Known) (r : Result Status CountFault) → counts.IsOutcome n name k r → counts.IsOutcome n name (plain k) r
+pub counted_plain : (n : ℕ) (name : List ℕ) (k : Known) (r : Result Status CountFault) → counts.IsCountOutcome n name k r → counts.IsCountOutcome n name (plain k) r
 counted_plain n name k (Ok x) o = (o.0, was_found_plain n name o.0 k o.1, record { last = o.2.last; horizon = o.2.horizon; each = o.2.each; rising = o.2.rising; all = o.2.all })
 counted_plain n name k (Err f) o = uncounted_plain n name f k o
 
-pub count_since_plain : (n : ℕ) (f : CountFault) (k : Known) → counts.MadeSince n f k → counts.MadeSince n f (plain k)
+pub count_since_plain : (n : ℕ) (f : CountFault) (k : Known) → counts.CountFaultSince n f k → counts.CountFaultSince n f (plain k)
 count_since_plain n uncounted.ReadFault k h = h
 count_since_plain n f k h = h
 
-pub undone_plain : (f : OrderFault) (k : Known) → orders.FaultIs f k → orders.FaultIs f (plain k)
+pub undone_plain : (f : OrderFault) (k : Known) → orders.OrderFaultIs f k → orders.OrderFaultIs f (plain k)
 undone_plain undone_by.ReadFault k h = h
 undone_plain undone_by.WriteFault k h = h
 undone_plain (undone_by.Damaged file place) k h = h
 undone_plain (undone_by.Closed call) k h = h
 undone_plain undone_by.Memory k h = h
 
-pub order_since_plain : (n : ℕ) (f : OrderFault) (k : Known) → orders.MadeSince n f k → orders.MadeSince n f (plain k)
+pub order_since_plain : (n : ℕ) (f : OrderFault) (k : Known) → orders.OrderFaultSince n f k → orders.OrderFaultSince n f (plain k)
 order_since_plain n undone_by.ReadFault k h = h
 order_since_plain n undone_by.WriteFault k h = h
 order_since_plain n f k h = h

@@ -29,7 +29,7 @@ use Rattle.px_item.specs.declared.item.ItemTurn.TheVariants as turn
 use Rattle.px_item.specs.Right as right
 use Rattle.px_item.specs.Right.{IsBoundTo, IsOfNoOther, IsRead, IsRight, changes, deletion_query, plain, table_named}
 use Rattle.px_item.specs.Seeking.{IsSought, KeepsFound, KeepsRows}
-use Rattle.px_item.specs.Turns.{Fits, IsSeeking, Turns}
+use Rattle.px_item.specs.Turns.{FitsItem, IsSeeking, ItemTurns}
 use Rattle.px_item.proofs.Passing.{Later, and_then, bound_later, first_low, first_within, longer, of_ran}
 use Rattle.px_item.proofs.Plain.{found_plain, outcome_plain, query_since_plain}
 
@@ -45,13 +45,13 @@ no_other sound asked x run k t j of = subst (λ (y : Table). IsOfNoOther asked.s
 
 -- `mine` is what was done for the item so far
 module _ (sound : Type 0) (before : ℕ) (asked : Asked) (mine : List Act) where
-  pub seek_goes_on : (x : Statement) (old new : SelectRun) (k k' : Known) (acts : List Act) → Fits sound before asked mine (state.Seeking x old) k → new.scan.query ≡ old.scan.query → new.scan.scn ≡ old.scan.scn → Ran k k' acts
-      → scan.Fits sound (query_of old.scan.query) old.scan.scn new.scan.state k' → scan.IsGoing new.scan.state → scan.IsSince asked.first new.scan.state k' → scan.opened old.scan.state ++ outline acts ≡ scan.opened new.scan.state
-      → Fits sound before asked (mine ++ outline acts) (state.Seeking x new) k'
+  pub seek_goes_on : (x : Statement) (old new : SelectRun) (k k' : Known) (acts : List Act) → FitsItem sound before asked mine (state.Seeking x old) k → new.scan.query ≡ old.scan.query → new.scan.scn ≡ old.scan.scn → Ran k k' acts
+      → scan.FitsScan sound (query_of old.scan.query) old.scan.scn new.scan.state k' → scan.IsQueryGoing new.scan.state → scan.IsQuerySince asked.first new.scan.state k' → scan.opened_by_query old.scan.state ++ outline acts ≡ scan.opened_by_query new.scan.state
+      → FitsItem sound before asked (mine ++ outline acts) (state.Seeking x new) k'
   seek_goes_on x old new k k' acts f query scn ran fits going since sum =
       let later = of_ran k k' acts ran in
       let j = f.state.1 in
-      let F : Planned × Option ℕ → Type 0 = λ q. scan.Fits sound (query_of q.0) q.1 new.scan.state k' in
+      let F : Planned × Option ℕ → Type 0 = λ q. scan.FitsScan sound (query_of q.0) q.1 new.scan.state k' in
       record {
         begins = f.begins;
         within = longer k k' asked.first later f.within;
@@ -73,7 +73,7 @@ module _ (sound : Type 0) (before : ℕ) (asked : Asked) (mine : List Act) where
             since = since;
           },
         );
-        done = and_then mine (scan.opened old.scan.state) acts f.done ∙ sum;
+        done = and_then mine (scan.opened_by_query old.scan.state) acts f.done ∙ sum;
       }
 
   -- what the search of a DELETE came to
@@ -84,17 +84,17 @@ module _ (sound : Type 0) (before : ℕ) (asked : Asked) (mine : List Act) where
     bound : IsBoundTo k'.base k'.seen a.first j.found j.delete.table
     bound = subst (λ (n : ℕ). IsBoundTo k'.base k'.seen n j.found j.delete.table) (sym first) (bound_later k k' asked.first j.found j.delete.table later j.bound)
 
-    unread_told : (e : QueryFault) → selecting.IsOutcome sound (deletion_query j.found j.delete) None own k' (Err e) → Rattle.px_scan.specs.Faults.MadeSince asked.first e k' → right.Refuses a (right.query_refusal j.delete.table e) asked.settings ⊎ right.Refuses a refusal.Memory asked.settings
+    unread_told : (e : QueryFault) → selecting.IsSelectOutcome sound (deletion_query j.found j.delete) None own k' (Err e) → Rattle.px_scan.specs.Faults.QueryFaultSince asked.first e k' → right.SaysRefused a (right.query_refusal j.delete.table e) asked.settings ⊎ right.SaysRefused a refusal.Memory asked.settings
         → IsRight sound (plain k') before own asked.settings (seen_piece asked.piece) a
     unread_told e out since says =
-        right.is_not_found j.delete j.found e is_read free bound j.right (outcome_plain sound (deletion_query j.found j.delete) None own k' (Err e) out) (subst (λ (n : ℕ). Rattle.px_scan.specs.Faults.MadeSince n e (plain k')) (sym first) (query_since_plain asked.first e k' since)) says
+        right.is_not_found j.delete j.found e is_read free bound j.right (outcome_plain sound (deletion_query j.found j.delete) None own k' (Err e) out) (subst (λ (n : ℕ). Rattle.px_scan.specs.Faults.QueryFaultSince n e (plain k')) (sym first) (query_since_plain asked.first e k' since)) says
 
-    lacks_told : (r : Selected) → selecting.IsOutcome sound (deletion_query j.found j.delete) None own k' (Ok r) → right.Refuses a refusal.Memory asked.settings → IsRight sound (plain k') before own asked.settings (seen_piece asked.piece) a
+    lacks_told : (r : Selected) → selecting.IsSelectOutcome sound (deletion_query j.found j.delete) None own k' (Ok r) → right.SaysRefused a refusal.Memory asked.settings → IsRight sound (plain k') before own asked.settings (seen_piece asked.piece) a
     lacks_told r out says = unread_told unread.Memory (tt, inr (_, _, out.1)) tt (inr says)
 
-    keeps_told : (r : Selected) (cs : List Change) → selecting.IsOutcome sound (deletion_query j.found j.delete) None own k' (Ok r) → asked.first ≤ r.first → AreRemovals r.shown.rows cs → KeepsRows asked j.found.table cs a → IsRight sound (plain k') before own asked.settings (seen_piece asked.piece) a
+    keeps_told : (r : Selected) (cs : List Change) → selecting.IsSelectOutcome sound (deletion_query j.found j.delete) None own k' (Ok r) → asked.first ≤ r.first → AreRemovals r.shown.rows cs → KeepsRows asked j.found.table cs a → IsRight sound (plain k') before own asked.settings (seen_piece asked.piece) a
     keeps_told r cs out since rows keeps =
-        let here : deleting.HasFound sound (deletion_query j.found j.delete) k' r.first own cs = record { past = k'; was = was-now k'; answer = r; opened = refl; outcome = out; removals = rows } in
+        let here : deleting.HasFoundRows sound (deletion_query j.found j.delete) k' r.first own cs = record { past = k'; was = was-now k'; answer = r; opened = refl; outcome = out; removals = rows } in
         let found = found_plain sound (deletion_query j.found j.delete) k' r.first own cs here in
         let e = first in let from : a.first ≤ r.first = omega arith in
         ⊎_elim
@@ -103,16 +103,16 @@ module _ (sound : Type 0) (before : ℕ) (asked : Asked) (mine : List Act) where
         (λ held. right.are_held j.delete j.found r.first cs held.0 is_read free j.off bound j.right found from held.1 held.2)
         (λ full. right.are_too_many j.delete j.found r.first cs is_read free j.off bound j.right found from full.0 full.1) more) keeps.1
 
-    found_told : (r : Selected) → selecting.IsOutcome sound (deletion_query j.found j.delete) None own k' (Ok r) → asked.first ≤ r.first → KeepsFound asked j.found.table r a → IsRight sound (plain k') before own asked.settings (seen_piece asked.piece) a
+    found_told : (r : Selected) → selecting.IsSelectOutcome sound (deletion_query j.found j.delete) None own k' (Ok r) → asked.first ≤ r.first → KeepsFound asked j.found.table r a → IsRight sound (plain k') before own asked.settings (seen_piece asked.piece) a
     found_told r out since (inl lacks) = lacks_told r out lacks.1
     found_told r out since (inr keeps) = keeps_told r keeps.0 out since keeps.1 keeps.2
 
   -- what the search came to, as the query of the DELETE
-  came_to : (x : Statement) (run : SelectRun) (k k' : Known) (acts : List Act) (r : Result Selected QueryFault) → (j : IsSeeking sound asked x run k) → mine ≡ scan.opened run.scan.state
-      → selecting.IsOutcome sound run.scan.query run.scan.scn (scan.opened run.scan.state ++ outline acts) k' r → selecting.IsOutcome sound (deletion_query j.found j.delete) None (mine ++ outline acts) k' r
+  came_to : (x : Statement) (run : SelectRun) (k k' : Known) (acts : List Act) (r : Result Selected QueryFault) → (j : IsSeeking sound asked x run k) → mine ≡ scan.opened_by_query run.scan.state
+      → selecting.IsSelectOutcome sound run.scan.query run.scan.scn (scan.opened_by_query run.scan.state ++ outline acts) k' r → selecting.IsSelectOutcome sound (deletion_query j.found j.delete) None (mine ++ outline acts) k' r
   came_to x run k k' acts r j done out =
-      let F : Planned × Option ℕ × List Act → Type 0 = λ q. selecting.IsOutcome sound q.0 q.1 q.2 k' r in
-      subst F (λ i. (j.planned i, j.scn i, sym (and_then mine (scan.opened run.scan.state) acts done) i)) out
+      let F : Planned × Option ℕ × List Act → Type 0 = λ q. selecting.IsSelectOutcome sound q.0 q.1 q.2 k' r in
+      subst F (λ i. (j.planned i, j.scn i, sym (and_then mine (scan.opened_by_query run.scan.state) acts done) i)) out
 
   sought_first : (x : Statement) (t : Table) (r : Result Selected QueryFault) (a : Answered) → IsSought asked x t r a → a.first ≡ asked.first
   sought_first x t (Ok r) a (inl c) = c.0
@@ -120,16 +120,16 @@ module _ (sound : Type 0) (before : ℕ) (asked : Asked) (mine : List Act) where
   sought_first x t (Err e) a c = c.0
 
   sought_told : (x : Statement) (run : SelectRun) (k k' : Known) (t : Table) (own : List Act) (r : Result Selected QueryFault) (new : QueryState) (a : Answered) → (j : IsSeeking sound asked x run k) → Later k k' → IsRead (seen_piece asked.piece) (Ok x) → asked.settings.scn ≡ None
-      → selecting.IsOutcome sound (deletion_query j.found j.delete) None own k' r → selecting.IsSinceThen asked.first new k' (ended.Over r) → t ≡ run.scan.query.table → (c : IsSought asked x t r a) → IsRight sound (plain k') before own asked.settings (seen_piece asked.piece) a
+      → selecting.IsSelectOutcome sound (deletion_query j.found j.delete) None own k' r → selecting.IsSelectSinceThen asked.first new k' (ended.Over r) → t ≡ run.scan.query.table → (c : IsSought asked x t r a) → IsRight sound (plain k') before own asked.settings (seen_piece asked.piece) a
   sought_told x run k k' t own (Ok r) new a j later read free out since of c =
       let same = table_is sound asked x run k t j of in
       found_told x run k k' j later read free own a (sought_first x t (Ok r) a c) r out since (subst (λ (y : Table). KeepsFound asked y r a) (sym same) c)
   sought_told x run k k' t own (Err e) new a j later read free out since of c =
-      let F : Statement → Type 0 = λ y. right.Refuses a (right.query_refusal (table_named y) e) asked.settings ⊎ right.Refuses a refusal.Memory asked.settings in
+      let F : Statement → Type 0 = λ y. right.SaysRefused a (right.query_refusal (table_named y) e) asked.settings ⊎ right.SaysRefused a refusal.Memory asked.settings in
       unread_told x run k k' j later read free own a c.0 e out since (subst F j.is c.1)
 
-  pub seek_is_over : (x : Statement) (old new : SelectRun) (k k' : Known) (t : Table) (r : Result Selected QueryFault) (a : Answered) → Fits sound before asked mine (state.Seeking x old) k
-      → SelectTurns sound old.scan.query old.scan.scn old.scan.state k new.scan.state k' (ended.Over r) → t ≡ old.scan.query.table → IsSought asked x t r a → Turns sound before asked mine k k' (turn.Over a)
+  pub seek_is_over : (x : Statement) (old new : SelectRun) (k k' : Known) (t : Table) (r : Result Selected QueryFault) (a : Answered) → FitsItem sound before asked mine (state.Seeking x old) k
+      → SelectTurns sound old.scan.query old.scan.scn old.scan.state k new.scan.state k' (ended.Over r) → t ≡ old.scan.query.table → IsSought asked x t r a → ItemTurns sound before asked mine k k' (turn.Over a)
   seek_is_over x old new k k' t r a f turns of c =
       let j = f.state.1 in
       let later = of_ran k k' turns.acts turns.ran in

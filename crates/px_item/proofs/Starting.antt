@@ -22,10 +22,10 @@ use Rattle.px_item.specs.declared.item.ItemRun.{ItemRun}
 use Rattle.px_item.specs.declared.item.ItemState.{ItemState}
 use Rattle.px_item.specs.declared.item.ItemState.TheVariants as state
 use Rattle.px_item.specs.Right as right
-use Rattle.px_item.specs.Right.{AsksCommit, AsksToCommit, IsAtOnce, IsCreationIf, IsRead, MayRun, Refuses, is_built}
-use Rattle.px_item.specs.Turns.{Fits, FitsState, HasBegun, IsBegun, IsStart}
+use Rattle.px_item.specs.Right.{AsksCommit, AsksToCommit, IsAtOnce, IsCreationIf, IsRead, MayRun, SaysRefused, is_answer_built}
+use Rattle.px_item.specs.Turns.{FitsItem, FitsState, HasBegun, IsItemBegun, IsStart}
 
-pub refused_so : (st : Settings) (p : SeenPiece) (x : Statement) (r : Refusal) (a : Answered) → IsRead p (Ok x) → MayRun st x → is_built x ≡ true → IsCreationIf x (Some (Err r)) → Refuses a r st → IsAtOnce st p a
+pub refused_so : (st : Settings) (p : SeenPiece) (x : Statement) (r : Refusal) (a : Answered) → IsRead p (Ok x) → MayRun st x → is_answer_built x ≡ true → IsCreationIf x (Some (Err r)) → SaysRefused a r st → IsAtOnce st p a
 refused_so st p (s.CreateTable t) r a read free built (inl e) says = right.is_lacking (says.0 ∙ ap reply.Refused e, says.1, says.2, says.3)
 refused_so st p (s.CreateTable t) r a read free built (inr e) says = right.is_wrong_table t e.0 read built (free refl) e.1 (says.0 ∙ ap reply.Refused e.2, says.1, says.2, says.3)
 refused_so st p x r a read free built h says = absurd h
@@ -38,7 +38,7 @@ none_is (Some h) e = cc
 pub commanded_so : (st : Settings) (p : SeenPiece) (c d : Command) (a : Answered) (first : ℕ) → right.IsCommandRead p (Ok c) → c ≡ d → right.SaysOf st d a → a.first ≡ first → IsAtOnce st p a × (a.first ≡ first)
 commanded_so st p c d a first read is says here = (right.is_command c read (subst (λ (y : Command). right.SaysOf st y a) (sym is) says), here)
 
-pub uncommanded_so : (st : Settings) (p : SeenPiece) (c d : Command) (a : Answered) (first : ℕ) → right.IsCommandRead p (Ok c) → c ≡ d → right.is_command_built d ≡ false → Refuses a Rattle.px_reply.specs.declared.refusal.Refusal.TheVariants.Form st → a.first ≡ first → IsAtOnce st p a × (a.first ≡ first)
+pub uncommanded_so : (st : Settings) (p : SeenPiece) (c d : Command) (a : Answered) (first : ℕ) → right.IsCommandRead p (Ok c) → c ≡ d → right.is_command_built d ≡ false → SaysRefused a Rattle.px_reply.specs.declared.refusal.Refusal.TheVariants.Form st → a.first ≡ first → IsAtOnce st p a × (a.first ≡ first)
 uncommanded_so st p c d a first read is built says here = (right.is_command_not_built c read (ap right.is_command_built is ∙ built) says, here)
 
 -- why a command commits what is held
@@ -55,7 +55,7 @@ start_state sound before asked (state.Finding y) k low within i = (i.0, refl)
 start_state sound before asked (state.Changing y run room) k low within i = absurd i
 start_state sound before asked (state.Defining y run) k low within i =
     let c = i.1.3 in
-    let F : Definition × DefineState → Type 0 = λ q. define.Fits sound q.0 q.1 k × define.IsGoing q.1 in
+    let F : Definition × DefineState → Type 0 = λ q. define.FitsDefinition sound q.0 q.1 k × define.IsDefinitionGoing q.1 in
     let fits = subst F (λ j. (sym c.1 j, sym c.2 j)) (c.3, tt) in (
       (i.0, inr record { create = i.1.0; is = i.1.1; whole = i.1.2; right = c.0; definition = c.1; fits = fits.0; going = fits.1 }),
       refl,
@@ -66,15 +66,15 @@ start_state sound before asked (state.Deleting y run) k low within i = absurd i
 start_state sound before asked (state.Seeking y run) k low within i = absurd i
 start_state sound before asked (state.Committing again run) k low within i =
     let h = some_held asked.settings.held i.1 in
-    let F : CommitRun → Type 0 = λ r. commits.Fits h.0 r k × commits.IsSince before r k × ([] ≡ commits.begun r) in
+    let F : CommitRun → Type 0 = λ r. commits.FitsCommit h.0 r k × commits.IsCommitSince before r k × ([] ≡ commits.begun_by_commit r) in
     let new = subst F (sym i.2) (tt, omega arith, refl) in
     (record { held = h.0; is = h.1; asks = asks_itself k asked.first asked.settings (seen_piece asked.piece) h.0 again i.0; fits = new.0; since = new.1 }, new.2)
 start_state sound before asked (state.Counting name run) k low within i =
-    let F : CountRun → Type 0 = λ r. counts.Fits asked.first name r k in
+    let F : CountRun → Type 0 = λ r. counts.FitsCount asked.first name r k in
     (record { read = i.0; fits = subst F (sym i.1) within }, refl)
 start_state sound before asked (state.Ordering run) k low within i = (i.0, refl)
 
 -- an item that was begun is as the trail tells, and has begun nothing of its own
-pub starts_fitting : (sound : Type 0) (before : ℕ) (st : Settings) (p : SeenPiece) (r : ItemRun) (k : Known) → before ≤ r.asked.first → r.asked.first ≤ length k.seen → IsBegun st p r → Fits sound before r.asked [] r.state k
+pub starts_fitting : (sound : Type 0) (before : ℕ) (st : Settings) (p : SeenPiece) (r : ItemRun) (k : Known) → before ≤ r.asked.first → r.asked.first ≤ length k.seen → IsItemBegun st p r → FitsItem sound before r.asked [] r.state k
 starts_fitting sound before st p r k low within b =
     let s = start_state sound before r.asked r.state k low within b.state in record { begins = low; within = within; state = s.0; done = s.1 }

@@ -13,7 +13,7 @@ use Rattle.px_trail.specs.Trail.{Base, catalogue_of, index_of}
 use Rattle.px_calls.specs.declared.definition.Definition.{Definition}
 use Rattle.px_calls.specs.declared.definition.Definition.TheVariants as d
 use Rattle.px_calls.specs.declared.definition.Made.{Made}
-use Rattle.px_calls.specs.Calls.{IsMade, act_of}
+use Rattle.px_calls.specs.Calls.{IsDefinitionMade, act_of}
 use Rattle.px_calls.specs.Known.{Known}
 
 -- what an ALTER INDEX asks for
@@ -35,7 +35,7 @@ IsAskedFor e x = Unit {0}
 -- what was done for a build: first the entry of this definition, after the first n, and then what the build did
 pub record IsBuiltBehind (n : ℕ) (e : Definition) (m : Made) (own rest : List Act) (k : Known) : Type 0 where
   pub one : own ≡ act_of e m ∷ rest
-  pub made : IsMade e m
+  pub made : IsDefinitionMade e m
   pub from : n ≤ m.at
   pub within : m.at ≤ length k.seen
 

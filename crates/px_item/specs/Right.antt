@@ -7,7 +7,7 @@ use Rattle.px_values.specs.declared.change.Change.{Change}
 use Rattle.px_values.specs.declared.limit.Limit.TheVariants as bound
 use Rattle.px_values.specs.declared.name.TableId.{TableId}
 use Rattle.px_values.specs.declared.print.CountWord.TheVariants.{Affected, Held}
-use Rattle.px_lex.specs.Lexemes.{IsReading, Lexeme}
+use Rattle.px_lex.specs.Lexemes.{IsTextReading, Lexeme}
 use Rattle.px_lex.specs.Script.{SeenPiece, seen_piece}
 use Rattle.px_lex.specs.declared.script.PieceKind.TheVariants as kinds
 use Rattle.px_ast.specs.declared.statement.Statement.{Statement}
@@ -40,10 +40,10 @@ use Rattle.px_held.specs.declared.holding.HoldFault.{HoldFault}
 use Rattle.px_held.specs.declared.holding.HoldFault.TheVariants as unheld
 use Rattle.px_tables.specs.declared.found.Found.{Found}
 use Rattle.px_tables.specs.declared.table.Table.{Table}
-use Rattle.px_resolve.specs.Answers.{IsFirst}
+use Rattle.px_resolve.specs.Answers.{IsFirstBindFault}
 use Rattle.px_resolve.specs.declared.fault.BindFault.{BindFault}
 use Rattle.px_resolve.specs.declared.fault.BindFault.TheVariants as bind
-use Rattle.px_create.specs.Indexes.{index_of, new_index}
+use Rattle.px_create.specs.Indexes.{index_id_named, new_index}
 use Rattle.px_create.specs.Tables.{new_table, table_faults}
 use Rattle.px_ast.specs.declared.statement.Select.{Select}
 use Rattle.px_bind.specs.Queries.{IsQuery, delete_faults, filter_of, select_faults}
@@ -70,7 +70,7 @@ use Rattle.px_deleting.specs.declared.deleted.Deleted.{Deleted}
 use Rattle.px_deleting.specs.declared.deleted.Removed.{Removed}
 use Rattle.px_calls.specs.Requires.{IsScn}
 use Rattle.px_bind.specs.Requests.{faults_in}
-use Rattle.px_bind.specs.Upserts.{change_of, upsert_faults}
+use Rattle.px_bind.specs.Upserts.{upsert_change, upsert_faults}
 use Rattle.px_trail.specs.declared.entry.Act.{Act}
 use Rattle.px_trail.specs.declared.entry.Entry.{Entry}
 use Rattle.px_trail.specs.Trail.{Base, table_shape}
@@ -84,10 +84,10 @@ use Rattle.px_calls.specs.declared.status.Ordered.{Ordered}
 use Rattle.px_calls.specs.declared.status.Ordered.TheVariants as jobs
 use Rattle.px_calls.specs.declared.status.Status.{Status}
 use Rattle.px_calls.specs.declared.ticket.Receipt.{Receipt}
-use Rattle.px_calls.specs.Calls.{IsFound, made_index}
+use Rattle.px_calls.specs.Calls.{IsFound, index_id_made}
 use Rattle.px_calls.specs.Causes.{ClosedBy, NamesNoTable}
 use Rattle.px_calls.specs.Known.{IsRunning, Known}
-use Rattle.px_calls.specs.Requires.{FitsTable, IsNewIndex, IsNewTable}
+use Rattle.px_calls.specs.Requires.{IsChangeOf, IsNewIndex, IsNewTable}
 use Rattle.px_batch.specs.Turns as batch
 use Rattle.px_batch.specs.declared.batch.BatchFault.{BatchFault}
 use Rattle.px_batch.specs.declared.batch.BatchFault.TheVariants as unmade
@@ -129,8 +129,8 @@ abbrev pub plain : Known → Known
 plain k = record { seat = k.seat; base = k.base; damaged = k.damaged; alone = false; seen = k.seen }
 
 -- what it knew after the first n entries
-abbrev pub after : ℕ → Known → Known
-after n k = record { seat = k.seat; base = k.base; damaged = k.damaged; alone = false; seen = take n k.seen }
+abbrev pub known_after : ℕ → Known → Known
+known_after n k = record { seat = k.seat; base = k.base; damaged = k.damaged; alone = false; seen = take n k.seen }
 
 -- ---- how refusals of lower layers are told
 
@@ -195,9 +195,9 @@ abbrev pub emptied : Settings → Settings
 emptied st = record { scn = st.scn; autocommit = st.autocommit; held = None }
 
 -- after a commit: the piece is asked once more, or the next one is
-abbrev pub onward : Bool → Settings → After
-onward true st = next_is.Again st
-onward false st = next_is.Next st
+abbrev pub after_commit : Bool → Settings → After
+after_commit true st = next_is.Again st
+after_commit false st = next_is.Next st
 
 -- ---- statements
 
@@ -246,16 +246,16 @@ is_none_of [] = true
 is_none_of (x ∷ xs) = false
 
 -- the statements whose answers are built: a new table has one region
-abbrev pub is_built : Statement → Bool
-is_built (s.CreateTable t) = is_none_of t.splits
-is_built (s.Upsert u) = true
-is_built (s.Delete x) = true
-is_built (s.DropTable t) = true
-is_built (s.CreateIndex i) = true
-is_built (s.DropIndex i) = true
-is_built (s.AlterIndex i) = true
-is_built (s.Select q) = true
-is_built (s.Explain q) = true
+abbrev pub is_answer_built : Statement → Bool
+is_answer_built (s.CreateTable t) = is_none_of t.splits
+is_answer_built (s.Upsert u) = true
+is_answer_built (s.Delete x) = true
+is_answer_built (s.DropTable t) = true
+is_answer_built (s.CreateIndex i) = true
+is_answer_built (s.DropIndex i) = true
+is_answer_built (s.AlterIndex i) = true
+is_answer_built (s.Select q) = true
+is_answer_built (s.Explain q) = true
 
 -- the statements that change something, which none may under an SCN
 abbrev pub changes : Statement → Bool
@@ -332,30 +332,30 @@ altered_word Disable = defined.IndexDisabled
 altered_word Rebuild = defined.IndexRebuilt
 
 -- the word of what was made, altered or dropped
-abbrev pub word_of : Statement → Defined
-word_of (s.CreateTable t) = defined.TableCreated
-word_of (s.CreateIndex i) = defined.IndexCreated
-word_of (s.DropIndex i) = defined.IndexDropped
-word_of (s.AlterIndex i) = altered_word i.action
-word_of x = defined.TableDropped
+abbrev pub definition_word : Statement → Defined
+definition_word (s.CreateTable t) = defined.TableCreated
+definition_word (s.CreateIndex i) = defined.IndexCreated
+definition_word (s.DropIndex i) = defined.IndexDropped
+definition_word (s.AlterIndex i) = altered_word i.action
+definition_word x = defined.TableDropped
 
 -- the definition that a statement asks for, with the table that it was bound to
 abbrev pub definition_of : Found → Statement → Option Definition
 definition_of f (s.DropTable t) = Some (d.DropTable f.table.id)
 definition_of f (s.CreateIndex i) = Some (d.Index (new_index f.table i))
-definition_of f (s.DropIndex i) = option_map (λ n. d.DropIndex f.table.id n) (index_of f.indexes i.name)
-definition_of f (s.AlterIndex i) = option_map (λ n. altered f.table.id i.action n) (index_of f.indexes i.name)
+definition_of f (s.DropIndex i) = option_map (λ n. d.DropIndex f.table.id n) (index_id_named f.indexes i.name)
+definition_of f (s.AlterIndex i) = option_map (λ n. altered f.table.id i.action n) (index_id_named f.indexes i.name)
 definition_of f x = None
 
 -- ---- pieces
 
 -- the statement that a piece is, or why it is none
 abbrev pub IsRead : SeenPiece → Result Statement SyntaxFault → Type 0
-IsRead p r = (p.kind ≡ kinds.Statement) × ((xs : List Lexeme) × IsReading p.text xs × texts.Answers p.text xs r)
+IsRead p r = (p.kind ≡ kinds.Statement) × ((xs : List Lexeme) × IsTextReading p.text xs × texts.AnswersStatement p.text xs r)
 
 -- the session command that a piece is behind its `!`, or why it is none
 abbrev pub IsCommandRead : SeenPiece → Result Command CommandFault → Type 0
-IsCommandRead p r = (p.kind ≡ kinds.Command) × ((text : List ℕ) × (p.text ≡ 33 ∷ text) × ((xs : List Lexeme) × IsReading text xs × said.Answers text xs r))
+IsCommandRead p r = (p.kind ≡ kinds.Command) × ((text : List ℕ) × (p.text ≡ 33 ∷ text) × ((xs : List Lexeme) × IsTextReading text xs × said.AnswersCommand text xs r))
 
 -- the commands whose answers are built
 abbrev pub is_command_built : Command → Bool
@@ -372,8 +372,8 @@ is_command_built c = false
 abbrev pub Says : Answered → Reply → Settings → Type 0
 Says a r st = (a.reply ≡ r) × (a.receipts ≡ []) × (a.places ≡ []) × (a.after ≡ next_is.Next st)
 
-abbrev pub Refuses : Answered → Refusal → Settings → Type 0
-Refuses a r st = Says a (reply.Refused r) st
+abbrev pub SaysRefused : Answered → Refusal → Settings → Type 0
+SaysRefused a r st = Says a (reply.Refused r) st
 
 -- what a command is answered that makes no call: a commit makes none where nothing is held
 abbrev pub SaysOf : Settings → Command → Answered → Type 0
@@ -397,16 +397,16 @@ order_reply jobs.FlushAll = reply.Flushed
 
 -- what is answered without a call
 pub data IsAtOnce (st : Settings) (p : SeenPiece) (a : Answered) : Type 0 where
-  is_long : p.kind ≡ kinds.Statement → most_of bound.Statement < length p.text → Refuses a (refusal.Limit bound.Statement) st → IsAtOnce st p a
-  is_not_read : (e : SyntaxFault) → IsRead p (Err e) → Refuses a (syntax_refusal e) st → IsAtOnce st p a
-  is_not_built : (x : Statement) → IsRead p (Ok x) → is_built x ≡ false → Refuses a refusal.Form st → IsAtOnce st p a
-  is_under_scn : (x : Statement) → IsRead p (Ok x) → changes x ≡ true → is_some st.scn ≡ true → Refuses a refusal.UnderScn st → IsAtOnce st p a
+  is_long : p.kind ≡ kinds.Statement → most_of bound.Statement < length p.text → SaysRefused a (refusal.Limit bound.Statement) st → IsAtOnce st p a
+  is_not_read : (e : SyntaxFault) → IsRead p (Err e) → SaysRefused a (syntax_refusal e) st → IsAtOnce st p a
+  is_not_built : (x : Statement) → IsRead p (Ok x) → is_answer_built x ≡ false → SaysRefused a refusal.Form st → IsAtOnce st p a
+  is_under_scn : (x : Statement) → IsRead p (Ok x) → changes x ≡ true → is_some st.scn ≡ true → SaysRefused a refusal.UnderScn st → IsAtOnce st p a
   -- a CREATE TABLE asks for no table that stands, and so what is wrong with it is told at once
-  is_wrong_table : (t : CreateTable) (fault : BindFault) → IsRead p (Ok (s.CreateTable t)) → is_none_of t.splits ≡ true → st.scn ≡ None → IsFirst (table_faults t) fault → Refuses a (bind_refusal fault) st → IsAtOnce st p a
-  is_no_command : (e : CommandFault) → IsCommandRead p (Err e) → Refuses a (command_refusal e) st → IsAtOnce st p a
+  is_wrong_table : (t : CreateTable) (fault : BindFault) → IsRead p (Ok (s.CreateTable t)) → is_none_of t.splits ≡ true → st.scn ≡ None → IsFirstBindFault (table_faults t) fault → SaysRefused a (bind_refusal fault) st → IsAtOnce st p a
+  is_no_command : (e : CommandFault) → IsCommandRead p (Err e) → SaysRefused a (command_refusal e) st → IsAtOnce st p a
   is_command : (c : Command) → IsCommandRead p (Ok c) → SaysOf st c a → IsAtOnce st p a
-  is_command_not_built : (c : Command) → IsCommandRead p (Ok c) → is_command_built c ≡ false → Refuses a refusal.Form st → IsAtOnce st p a
-  is_lacking : Refuses a refusal.Memory st → IsAtOnce st p a
+  is_command_not_built : (c : Command) → IsCommandRead p (Ok c) → is_command_built c ≡ false → SaysRefused a refusal.Form st → IsAtOnce st p a
+  is_lacking : SaysRefused a refusal.Memory st → IsAtOnce st p a
 
 -- a table of this name stood after some entry from `first` on, with its indexes
 pub record IsBoundTo (b : Base) (es : List Entry) (first : ℕ) (f : Found) (name : List ℕ) : Type 0 where
@@ -421,11 +421,11 @@ pub record IsLacking (k : Known) (first : ℕ) (name : List ℕ) : Type 0 where
   pub place : ℕ
   pub from : first ≤ place
   pub within : place ≤ length k.seen
-  pub none : NamesNoTable (after place k) name
+  pub none : NamesNoTable (known_after place k) name
 
 -- the table's batch of this one change
 abbrev pub one_change : Found → Upsert → List Change
-one_change f u = change_of f.table u ∷ []
+one_change f u = upsert_change f.table u ∷ []
 
 -- ---- changes that are held
 
@@ -496,7 +496,7 @@ query_refusal name (unread.Closed call) = refusal.Closed call
 query_refusal name unread.Memory = refusal.Memory
 
 -- the rows that are shown, each with its place, and the place of the point's opening
-pub record ShowsRows (a : Answered) (r : Selected) (st : Settings) : Type 0 where
+pub record SaysRows (a : Answered) (r : Selected) (st : Settings) : Type 0 where
   pub rows : a.reply ≡ reply.Rows r.shown.rows
   pub receipts : a.receipts ≡ []
   pub places : a.places ≡ r.shown.places
@@ -514,81 +514,81 @@ point_of (Some scn) = Some (scn - 1)
 
 -- the plan of a query of an EXPLAIN, in which nothing is wrong, with the definitions that it was bound to; or why it has none
 abbrev pub IsPlanned : Found → Option ℕ → Select → Result Plan PlanFault → Type 0
-IsPlanned f scn q r = (select_faults f.table.columns q ≡ []) × ((x : Query) × IsQuery f.table q x × plans.Answers f (point_of scn) x r)
+IsPlanned f scn q r = (select_faults f.table.columns q ≡ []) × ((x : Query) × IsQuery f.table q x × plans.AnswersPlan f (point_of scn) x r)
 
 -- a batch of a DELETE wasn't made. Memory may lack for the name of a table that doesn't stand
-abbrev pub StopsAt : Reply → List ℕ → BatchFault → Type 0
-StopsAt r name f = (r ≡ reply.Refused (batch_refusal name f)) ⊎ ((r ≡ reply.Refused refusal.Memory) × (f ≡ unmade.NoTable))
+abbrev pub StopsDelete : Reply → List ℕ → BatchFault → Type 0
+StopsDelete r name f = (r ≡ reply.Refused (batch_refusal name f)) ⊎ ((r ≡ reply.Refused refusal.Memory) × (f ≡ unmade.NoTable))
 
 -- what is right, where `own` is what the seat began, ended, opened, closed and defined for it since it had seen the first `before` entries
 pub data IsRight (sound : Type 0) (k : Known) (before : ℕ) (own : List Act) (st : Settings) (p : SeenPiece) (a : Answered) : Type 0 where
   is_at_once : IsAtOnce st p a → own ≡ [] → IsRight sound k before own st p a
   is_unfound : (x : Statement) → IsRead p (Ok x) → MayRun st x → IsLacking k a.first (table_named x) → Says a (table_absent x) st → own ≡ [] → IsRight sound k before own st p a
-  is_closed : (x : Statement) (call : ℕ) → IsRead p (Ok x) → ClosedBy call k → Refuses a (refusal.Closed call) st → own ≡ [] → IsRight sound k before own st p a
-  is_wrong : (x : Statement) (f : Found) (fault : BindFault) → IsRead p (Ok x) → MayRun st x → IsBoundTo k.base k.seen a.first f (table_named x) → IsFirst (faults_in f x) fault → Refuses a (bind_refusal fault) st → own ≡ []
+  is_closed : (x : Statement) (call : ℕ) → IsRead p (Ok x) → ClosedBy call k → SaysRefused a (refusal.Closed call) st → own ≡ [] → IsRight sound k before own st p a
+  is_wrong : (x : Statement) (f : Found) (fault : BindFault) → IsRead p (Ok x) → MayRun st x → IsBoundTo k.base k.seen a.first f (table_named x) → IsFirstBindFault (faults_in f x) fault → SaysRefused a (bind_refusal fault) st → own ≡ []
       → IsRight sound k before own st p a
   -- an UPSERT is one batch of one row, and its receipt is told
-  is_changed : (u : Upsert) (f : Found) (r : Receipt) → IsRead p (Ok (s.Upsert u)) → st.scn ≡ None → st.autocommit ≡ true → IsBoundTo k.base k.seen a.first f u.table → upsert_faults f.table u ≡ [] → batch.HasEnded f.table.id (one_change f u) own k r
+  is_changed : (u : Upsert) (f : Found) (r : Receipt) → IsRead p (Ok (s.Upsert u)) → st.scn ≡ None → st.autocommit ≡ true → IsBoundTo k.base k.seen a.first f u.table → upsert_faults f.table u ≡ [] → batch.HasEndedBatch f.table.id (one_change f u) own k r
       → (a.reply ≡ reply.Count 1 Affected) × (a.receipts ≡ r ∷ []) × (a.places ≡ []) × (a.after ≡ next_is.Next st) → IsRight sound k before own st p a
-  is_not_changed : (u : Upsert) (f : Found) (fault : BatchFault) → IsRead p (Ok (s.Upsert u)) → st.scn ≡ None → st.autocommit ≡ true → IsBoundTo k.base k.seen a.first f u.table → upsert_faults f.table u ≡ [] → batch.FaultIs sound f.table.id (one_change f u) fault k
-      → batch.MadeSince before fault k → batch.HasLeft f.table.id (one_change f u) fault own k → Refuses a (batch_refusal u.table fault) st → IsRight sound k before own st p a
+  is_not_changed : (u : Upsert) (f : Found) (fault : BatchFault) → IsRead p (Ok (s.Upsert u)) → st.scn ≡ None → st.autocommit ≡ true → IsBoundTo k.base k.seen a.first f u.table → upsert_faults f.table u ≡ [] → batch.BatchFaultIs sound f.table.id (one_change f u) fault k
+      → batch.BatchFaultSince before fault k → batch.HasLeft f.table.id (one_change f u) fault own k → SaysRefused a (batch_refusal u.table fault) st → IsRight sound k before own st p a
   -- without autocommit an UPSERT is held, and nothing is done for it; or it isn't, where too many rows would be
-  is_held : (u : Upsert) (f : Found) (st' : Settings) → IsRead p (Ok (s.Upsert u)) → st.scn ≡ None → st.autocommit ≡ false → IsBoundTo k.base k.seen a.first f u.table → upsert_faults f.table u ≡ [] → IsHolding f.table (change_of f.table u) st st'
+  is_held : (u : Upsert) (f : Found) (st' : Settings) → IsRead p (Ok (s.Upsert u)) → st.scn ≡ None → st.autocommit ≡ false → IsBoundTo k.base k.seen a.first f u.table → upsert_faults f.table u ≡ [] → IsHolding f.table (upsert_change f.table u) st st'
       → Says a (reply.Count 1 Held) st' → own ≡ [] → IsRight sound k before own st p a
-  is_full : (u : Upsert) (f : Found) → IsRead p (Ok (s.Upsert u)) → st.scn ≡ None → st.autocommit ≡ false → IsBoundTo k.base k.seen a.first f u.table → upsert_faults f.table u ≡ [] → IsFullOf f.table (change_of f.table u) st.held
-      → Refuses a (refusal.Limit bound.Rows) st → own ≡ [] → IsRight sound k before own st p a
+  is_full : (u : Upsert) (f : Found) → IsRead p (Ok (s.Upsert u)) → st.scn ≡ None → st.autocommit ≡ false → IsBoundTo k.base k.seen a.first f u.table → upsert_faults f.table u ≡ [] → IsFullOf f.table (upsert_change f.table u) st.held
+      → SaysRefused a (refusal.Limit bound.Rows) st → own ≡ [] → IsRight sound k before own st p a
   -- a commit is one batch of exactly what is held, and its receipt is told; whatever came of it, nothing is held then
-  is_committed : (again : Bool) (h : HeldData) (rs : Vec Receipt Global) → st.held ≡ Some h → AsksToCommit k a.first st p h again → commits.IsOutcome sound h own k (Ok rs)
-      → (a.reply ≡ reply.Count (length h.changes) Affected) × (a.receipts ≡ rs.items) × (a.places ≡ []) × (a.after ≡ onward again (emptied st)) → IsRight sound k before own st p a
+  is_committed : (again : Bool) (h : HeldData) (rs : Vec Receipt Global) → st.held ≡ Some h → AsksToCommit k a.first st p h again → commits.IsCommitOutcome sound h own k (Ok rs)
+      → (a.reply ≡ reply.Count (length h.changes) Affected) × (a.receipts ≡ rs.items) × (a.places ≡ []) × (a.after ≡ after_commit again (emptied st)) → IsRight sound k before own st p a
   -- where it is refused, what asked for it isn't asked once more
-  is_not_committed : (again : Bool) (h : HeldData) (fault : BatchFault) → st.held ≡ Some h → AsksToCommit k a.first st p h again → commits.IsOutcome sound h own k (Err fault) → batch.MadeSince before fault k
-      → StopsAt a.reply h.name fault → (a.receipts ≡ []) × (a.places ≡ []) × (a.after ≡ next_is.Next (emptied st)) → IsRight sound k before own st p a
+  is_not_committed : (again : Bool) (h : HeldData) (fault : BatchFault) → st.held ≡ Some h → AsksToCommit k a.first st p h again → commits.IsCommitOutcome sound h own k (Err fault) → batch.BatchFaultSince before fault k
+      → StopsDelete a.reply h.name fault → (a.receipts ≡ []) × (a.places ≡ []) × (a.after ≡ next_is.Next (emptied st)) → IsRight sound k before own st p a
   -- a status tells of the table that was found
-  is_counted : (name : List ℕ) (s : Status) → IsCommandRead p (Ok (commands.Status name)) → counts.IsOutcome a.first name k (Ok s) → Says a (reply.Status s) st → own ≡ [] → IsRight sound k before own st p a
-  is_not_counted : (name : List ℕ) (fault : CountFault) → IsCommandRead p (Ok (commands.Status name)) → counts.IsOutcome a.first name k (Err fault) → counts.MadeSince before fault k
-      → Refuses a (count_refusal name fault) st ⊎ Refuses a refusal.Memory st → own ≡ [] → IsRight sound k before own st p a
+  is_counted : (name : List ℕ) (s : Status) → IsCommandRead p (Ok (commands.Status name)) → counts.IsCountOutcome a.first name k (Ok s) → Says a (reply.Status s) st → own ≡ [] → IsRight sound k before own st p a
+  is_not_counted : (name : List ℕ) (fault : CountFault) → IsCommandRead p (Ok (commands.Status name)) → counts.IsCountOutcome a.first name k (Err fault) → counts.CountFaultSince before fault k
+      → SaysRefused a (count_refusal name fault) st ⊎ SaysRefused a refusal.Memory st → own ≡ [] → IsRight sound k before own st p a
   -- an order is done, where upkeep had nothing left to do on a server that isn't closed
   is_ordered : (job : Ordered) → IsCommandRead p (Ok (command_of job)) → IsRunning k → Says a (order_reply job) st → own ≡ [] → IsRight sound k before own st p a
-  is_not_ordered : (job : Ordered) (fault : OrderFault) → IsCommandRead p (Ok (command_of job)) → orders.FaultIs fault k → orders.MadeSince before fault k → Refuses a (order_refusal fault) st → own ≡ [] → IsRight sound k before own st p a
+  is_not_ordered : (job : Ordered) (fault : OrderFault) → IsCommandRead p (Ok (command_of job)) → orders.OrderFaultIs fault k → orders.OrderFaultSince before fault k → SaysRefused a (order_refusal fault) st → own ≡ [] → IsRight sound k before own st p a
   -- a DROP, and an ALTER INDEX that disables one, is one entry
   is_defined : (x : Statement) (f : Found) (m : Made) (e : Definition) → IsRead p (Ok x) → st.scn ≡ None → IsBoundTo k.base k.seen a.first f (table_named x) → faults_in f x ≡ [] → definition_of f x ≡ Some e → to_build e ≡ None → define.HasDefined e own k m
-      → Says a (reply.Defined (word_of x)) st → IsRight sound k before own st p a
-  is_not_defined : (x : Statement) (f : Found) (fault : DefineFault) (e : Definition) → IsRead p (Ok x) → st.scn ≡ None → IsBoundTo k.base k.seen a.first f (table_named x) → faults_in f x ≡ [] → definition_of f x ≡ Some e → define.FaultIs e fault k
-      → define.MadeSince before fault k → own ≡ [] → Says a (undefined x fault) st → IsRight sound k before own st p a
+      → Says a (reply.Defined (definition_word x)) st → IsRight sound k before own st p a
+  is_not_defined : (x : Statement) (f : Found) (fault : DefineFault) (e : Definition) → IsRead p (Ok x) → st.scn ≡ None → IsBoundTo k.base k.seen a.first f (table_named x) → faults_in f x ≡ [] → definition_of f x ≡ Some e → define.DefinitionFaultIs e fault k
+      → define.DefinitionFaultSince before fault k → own ≡ [] → Says a (undefined x fault) st → IsRight sound k before own st p a
   -- a CREATE INDEX, and an ALTER INDEX that builds one again, is one entry and then a build, at whose end the index stood active as it was asked for; or the build is refused, and leaves the index as is told there
   is_index_built : (x : Statement) (f : Found) (e : Definition) (t : TableId) (m c : Made) (rest : List Act) → IsRead p (Ok x) → st.scn ≡ None → IsBoundTo k.base k.seen a.first f (table_named x) → faults_in f x ≡ [] → definition_of f x ≡ Some e → to_build e ≡ Some t
-      → IsBuiltBehind a.first e m own rest k → (built : building.IsOutcome sound m.at t (made_index m) rest k (Ok c)) → IsAskedFor e built.0.index → Says a (reply.Defined (word_of x)) st → IsRight sound k before own st p a
+      → IsBuiltBehind a.first e m own rest k → (built : building.IsBuildOutcome sound m.at t (index_id_made m) rest k (Ok c)) → IsAskedFor e built.0.index → Says a (reply.Defined (definition_word x)) st → IsRight sound k before own st p a
   is_index_not_built : (x : Statement) (f : Found) (e : Definition) (t : TableId) (m : Made) (rest : List Act) (fault : BuildFault) → IsRead p (Ok x) → st.scn ≡ None → IsBoundTo k.base k.seen a.first f (table_named x) → faults_in f x ≡ [] → definition_of f x ≡ Some e → to_build e ≡ Some t
-      → IsBuiltBehind a.first e m own rest k → building.IsOutcome sound m.at t (made_index m) rest k (Err fault) → Says a (not_built x fault) st ⊎ Refuses a refusal.Memory st → IsRight sound k before own st p a
+      → IsBuiltBehind a.first e m own rest k → building.IsBuildOutcome sound m.at t (index_id_made m) rest k (Err fault) → Says a (not_built x fault) st ⊎ SaysRefused a refusal.Memory st → IsRight sound k before own st p a
   -- a CREATE TABLE is one entry
   is_created : (t : CreateTable) (m : Made) → IsRead p (Ok (s.CreateTable t)) → is_none_of t.splits ≡ true → st.scn ≡ None → table_faults t ≡ [] → define.HasDefined (d.Table (new_table t)) own k m → Says a (reply.Defined defined.TableCreated) st
       → IsRight sound k before own st p a
-  is_not_created : (t : CreateTable) (fault : DefineFault) → IsRead p (Ok (s.CreateTable t)) → is_none_of t.splits ≡ true → st.scn ≡ None → table_faults t ≡ [] → define.FaultIs (d.Table (new_table t)) fault k → define.MadeSince before fault k → own ≡ []
+  is_not_created : (t : CreateTable) (fault : DefineFault) → IsRead p (Ok (s.CreateTable t)) → is_none_of t.splits ≡ true → st.scn ≡ None → table_faults t ≡ [] → define.DefinitionFaultIs (d.Table (new_table t)) fault k → define.DefinitionFaultSince before fault k → own ≡ []
       → Says a (undefined (s.CreateTable t) fault) st → IsRight sound k before own st p a
-  is_index_absent : (i : DropIndex) (f : Found) → IsRead p (Ok (s.DropIndex i)) → st.scn ≡ None → IsBoundTo k.base k.seen a.first f i.table → i.if_exists ≡ true → index_of f.indexes i.name ≡ None → Says a (reply.Defined defined.IndexAbsent) st → own ≡ []
+  is_index_absent : (i : DropIndex) (f : Found) → IsRead p (Ok (s.DropIndex i)) → st.scn ≡ None → IsBoundTo k.base k.seen a.first f i.table → i.if_exists ≡ true → index_id_named f.indexes i.name ≡ None → Says a (reply.Defined defined.IndexAbsent) st → own ≡ []
       → IsRight sound k before own st p a
   -- a SELECT is answered at a point, by a path that is chosen there: exactly, under an SCN; and else as it is current
-  is_selected : (q : Select) (f : Found) (x : Planned) (r : Selected) → IsRead p (Ok (s.Select q)) → IsBoundTo k.base k.seen before f q.table → IsAskedOf f q x → selecting.IsOutcome sound x st.scn own k (Ok r) → ShowsRows a r st
+  is_selected : (q : Select) (f : Found) (x : Planned) (r : Selected) → IsRead p (Ok (s.Select q)) → IsBoundTo k.base k.seen before f q.table → IsAskedOf f q x → selecting.IsSelectOutcome sound x st.scn own k (Ok r) → SaysRows a r st
       → IsRight sound k before own st p a
-  is_not_selected : (q : Select) (f : Found) (x : Planned) (fault : QueryFault) → IsRead p (Ok (s.Select q)) → IsBoundTo k.base k.seen before f q.table → IsAskedOf f q x → selecting.IsOutcome sound x st.scn own k (Err fault) → scan.MadeSince before fault k
-      → Refuses a (query_refusal q.table fault) st ⊎ Refuses a refusal.Memory st → IsRight sound k before own st p a
+  is_not_selected : (q : Select) (f : Found) (x : Planned) (fault : QueryFault) → IsRead p (Ok (s.Select q)) → IsBoundTo k.base k.seen before f q.table → IsAskedOf f q x → selecting.IsSelectOutcome sound x st.scn own k (Err fault) → scan.QueryFaultSince before fault k
+      → SaysRefused a (query_refusal q.table fault) st ⊎ SaysRefused a refusal.Memory st → IsRight sound k before own st p a
   -- a DELETE removes the rows that a current query found, in batches, and their receipts are told with the number of rows
   is_deleted : (x : Delete) (f : Found) (m : Removed) → IsRead p (Ok (s.Delete x)) → st.scn ≡ None → st.autocommit ≡ true → IsBoundTo k.base k.seen a.first f x.table → delete_faults f.table.columns x ≡ [] → deleting.HasRemoved sound (deletion_query f x) own k a.receipts m
       → a.first ≤ m.first → (a.reply ≡ reply.Count m.rows Affected) × (a.places ≡ []) × (a.after ≡ next_is.Next st) → IsRight sound k before own st p a
   -- one of its batches isn't made, and none behind it; the receipts of those before it are told
   is_not_deleted : (x : Delete) (f : Found) (fault : BatchFault) → IsRead p (Ok (s.Delete x)) → st.scn ≡ None → st.autocommit ≡ true → IsBoundTo k.base k.seen a.first f x.table → delete_faults f.table.columns x ≡ [] → deleting.HasStopped sound (deletion_query f x) own k a.receipts fault
-      → batch.MadeSince a.first fault k → StopsAt a.reply x.table fault → (a.places ≡ []) × (a.after ≡ next_is.Next st) → IsRight sound k before own st p a
+      → batch.BatchFaultSince a.first fault k → StopsDelete a.reply x.table fault → (a.places ≡ []) × (a.after ≡ next_is.Next st) → IsRight sound k before own st p a
   -- its rows weren't found, and none is removed, and no removal held
-  is_not_found : (x : Delete) (f : Found) (fault : QueryFault) → IsRead p (Ok (s.Delete x)) → st.scn ≡ None → IsBoundTo k.base k.seen a.first f x.table → delete_faults f.table.columns x ≡ [] → selecting.IsOutcome sound (deletion_query f x) None own k (Err fault)
-      → scan.MadeSince a.first fault k → Refuses a (query_refusal x.table fault) st ⊎ Refuses a refusal.Memory st → IsRight sound k before own st p a
+  is_not_found : (x : Delete) (f : Found) (fault : QueryFault) → IsRead p (Ok (s.Delete x)) → st.scn ≡ None → IsBoundTo k.base k.seen a.first f x.table → delete_faults f.table.columns x ≡ [] → selecting.IsSelectOutcome sound (deletion_query f x) None own k (Err fault)
+      → scan.QueryFaultSince a.first fault k → SaysRefused a (query_refusal x.table fault) st ⊎ SaysRefused a refusal.Memory st → IsRight sound k before own st p a
   -- without autocommit the removals of the rows that a current query found are held with what was held; or none of them is, where too many rows would be
   are_held : (x : Delete) (f : Found) (first : ℕ) (cs : List Change) (st' : Settings) → IsRead p (Ok (s.Delete x)) → st.scn ≡ None → st.autocommit ≡ false → IsBoundTo k.base k.seen a.first f x.table → delete_faults f.table.columns x ≡ []
-      → deleting.HasFound sound (deletion_query f x) k first own cs → a.first ≤ first → IsHoldingAll f.table cs st st' → Says a (reply.Count (length cs) Held) st' → IsRight sound k before own st p a
+      → deleting.HasFoundRows sound (deletion_query f x) k first own cs → a.first ≤ first → IsHoldingAll f.table cs st st' → Says a (reply.Count (length cs) Held) st' → IsRight sound k before own st p a
   are_too_many : (x : Delete) (f : Found) (first : ℕ) (cs : List Change) → IsRead p (Ok (s.Delete x)) → st.scn ≡ None → st.autocommit ≡ false → IsBoundTo k.base k.seen a.first f x.table → delete_faults f.table.columns x ≡ []
-      → deleting.HasFound sound (deletion_query f x) k first own cs → a.first ≤ first → AreTooManyOf f.table cs st → Refuses a (refusal.Limit bound.Rows) st → IsRight sound k before own st p a
+      → deleting.HasFoundRows sound (deletion_query f x) k first own cs → a.first ≤ first → AreTooManyOf f.table cs st → SaysRefused a (refusal.Limit bound.Rows) st → IsRight sound k before own st p a
   -- an EXPLAIN tells the path by the definitions alone
   is_explained : (q : Select) (f : Found) (x : Plan) → IsRead p (Ok (s.Explain q)) → IsBoundTo k.base k.seen a.first f q.table → IsPlanned f st.scn q (Ok x) → Says a (reply.Explained (explained x)) st → own ≡ [] → IsRight sound k before own st p a
-  is_not_explained : (q : Select) (f : Found) → IsRead p (Ok (s.Explain q)) → IsBoundTo k.base k.seen a.first f q.table → IsPlanned f st.scn q (Err IndexJoin) → Refuses a refusal.IndexJoin st → own ≡ [] → IsRight sound k before own st p a
+  is_not_explained : (q : Select) (f : Found) → IsRead p (Ok (s.Explain q)) → IsBoundTo k.base k.seen a.first f q.table → IsPlanned f st.scn q (Err IndexJoin) → SaysRefused a refusal.IndexJoin st → own ≡ [] → IsRight sound k before own st p a
 
 -- a piece is asked once more: what was held was committed, and is held no more
 pub record MadeWay (st st' : Settings) (r : Reply) : Type 0 where
@@ -600,7 +600,7 @@ pub record MadeWay (st st' : Settings) (r : Reply) : Type 0 where
 
 abbrev pub ReadsAs : Settings → SeenPiece → ℕ → Read → Type 0
 ReadsAs st p first (read.Told a) = IsAtOnce st p a × (a.first ≡ first)
-ReadsAs st p first (read.Asks asked x) = (seen_piece asked.piece ≡ p) × (asked.settings ≡ st) × (asked.first ≡ first) × IsRead p (Ok x) × MayRun st x × (is_built x ≡ true)
+ReadsAs st p first (read.Asks asked x) = (seen_piece asked.piece ≡ p) × (asked.settings ≡ st) × (asked.first ≡ first) × IsRead p (Ok x) × MayRun st x × (is_answer_built x ≡ true)
 ReadsAs st p first (read.Commits asked again) = (seen_piece asked.piece ≡ p) × (asked.settings ≡ st) × (asked.first ≡ first) × AsksCommit p again × (st.held ≢ None)
 ReadsAs st p first (read.Counts asked name) = (seen_piece asked.piece ≡ p) × (asked.settings ≡ st) × (asked.first ≡ first) × IsCommandRead p (Ok (commands.Status name))
 ReadsAs st p first (read.Orders asked job) = (seen_piece asked.piece ≡ p) × (asked.settings ≡ st) × (asked.first ≡ first) × IsCommandRead p (Ok (command_of job))
@@ -608,7 +608,7 @@ ReadsAs st p first (read.Orders asked job) = (seen_piece asked.piece ≡ p) × (
 -- what a CREATE TABLE asks for, or the first of all that is wrong with it
 abbrev pub IsCreation : CreateTable → Result DefineRun Refusal → Type 0
 IsCreation t (Ok run) = (table_faults t ≡ []) × (run.definition ≡ d.Table (new_table t)) × (run.state ≡ defines.Defining) × IsNewTable (new_table t)
-IsCreation t (Err r) = (r ≡ refusal.Memory) ⊎ ((fault : BindFault) × IsFirst (table_faults t) fault × (r ≡ bind_refusal fault))
+IsCreation t (Err r) = (r ≡ refusal.Memory) ⊎ ((fault : BindFault) × IsFirstBindFault (table_faults t) fault × (r ≡ bind_refusal fault))
 
 -- only a CREATE TABLE is bound before its first call
 abbrev pub IsCreationIf : Statement → Option (Result DefineRun Refusal) → Type 0
@@ -621,23 +621,23 @@ abbrev pub HasRoomForOne : Vec Receipt Global → Type 0
 HasRoomForOne v = (v.items ≡ []) × (0 < vec_capacity v)
 
 -- what comes of a batch of one change of this table
-abbrev pub IsBatchOf : Table → TableId → Change → Next → Type 0
-IsBatchOf x t c (next.Change run room) = (run.table ≡ t) × (run.changes ≡ c ∷ []) × (run.state ≡ batches.Beginning) × FitsTable x c × HasRoomForOne room
-IsBatchOf x t c (next.Define run) = ⊥
-IsBatchOf x t c (next.Select run) = ⊥
-IsBatchOf x t c (next.Delete run) = ⊥
-IsBatchOf x t c (next.Tell r) = r ≡ reply.Refused refusal.Memory
+abbrev pub IsBatchOfOne : Table → TableId → Change → Next → Type 0
+IsBatchOfOne x t c (next.Change run room) = (run.table ≡ t) × (run.changes ≡ c ∷ []) × (run.state ≡ batches.Beginning) × IsChangeOf x c × HasRoomForOne room
+IsBatchOfOne x t c (next.Define run) = ⊥
+IsBatchOfOne x t c (next.Select run) = ⊥
+IsBatchOfOne x t c (next.Delete run) = ⊥
+IsBatchOfOne x t c (next.Tell r) = r ≡ reply.Refused refusal.Memory
 
 -- the change of an UPSERT of a row of this table, or the first of all that is wrong with it
-abbrev pub IsRowOf : Found → Statement → Result Change Refusal → Type 0
-IsRowOf f x (Ok c) = (length f.table.columns ≤ 255) × ((u : Upsert) × (x ≡ s.Upsert u) × (upsert_faults f.table u ≡ []) × (c ≡ change_of f.table u))
-IsRowOf f x (Err r) = (r ≡ refusal.Memory) ⊎ ((fault : BindFault) × IsFirst (faults_in f x) fault × (r ≡ bind_refusal fault))
+abbrev pub IsUpsertChange : Found → Statement → Result Change Refusal → Type 0
+IsUpsertChange f x (Ok c) = (length f.table.columns ≤ 255) × ((u : Upsert) × (x ≡ s.Upsert u) × (upsert_faults f.table u ≡ []) × (c ≡ upsert_change f.table u))
+IsUpsertChange f x (Err r) = (r ≡ refusal.Memory) ⊎ ((fault : BindFault) × IsFirstBindFault (faults_in f x) fault × (r ≡ bind_refusal fault))
 
 -- what is held after one change more, or why it is the same
-abbrev pub Adds : Table → Option HeldData → Change → Option HeldData → Result (Unit {0}) HoldFault → Type 0
-Adds t o c o' (Ok u) = HoldsNow t c o o'
-Adds t o c o' (Err unheld.Rows) = (o' ≡ o) × IsFullOf t c o
-Adds t o c o' (Err unheld.Memory) = o' ≡ o
+abbrev pub AddsChange : Table → Option HeldData → Change → Option HeldData → Result (Unit {0}) HoldFault → Type 0
+AddsChange t o c o' (Ok u) = HoldsNow t c o o'
+AddsChange t o c o' (Err unheld.Rows) = (o' ≡ o) × IsFullOf t c o
+AddsChange t o c o' (Err unheld.Memory) = o' ≡ o
 
 -- what is told of so many rows that are held, or aren't
 abbrev pub held_reply : ℕ → Result (Unit {0}) HoldFault → Reply
@@ -647,24 +647,24 @@ held_reply rows (Err unheld.Memory) = reply.Refused refusal.Memory
 
 -- what is told of the plan of a query
 abbrev pub IsExplanation : Found → Option ℕ → Query → Reply → Type 0
-IsExplanation f point x r = (r ≡ reply.Refused refusal.Memory) ⊎ (((p : Plan) × plans.Answers f point x (Ok p) × (r ≡ reply.Explained (explained p))) ⊎ (plans.Answers f point x (Err IndexJoin) × (r ≡ reply.Refused refusal.IndexJoin)))
+IsExplanation f point x r = (r ≡ reply.Refused refusal.Memory) ⊎ (((p : Plan) × plans.AnswersPlan f point x (Ok p) × (r ≡ reply.Explained (explained p))) ⊎ (plans.AnswersPlan f point x (Err IndexJoin) × (r ≡ reply.Refused refusal.IndexJoin)))
 
 abbrev pub IsTold : Option ℕ → Found → Statement → Reply → Type 0
-IsTold scn f (s.DropIndex i) r = (r ≡ reply.Refused refusal.Memory) ⊎ (((fault : BindFault) × IsFirst (faults_in f (s.DropIndex i)) fault × (r ≡ reply.Refused (bind_refusal fault)))
-    ⊎ ((i.if_exists ≡ true) × (index_of f.indexes i.name ≡ None) × (r ≡ reply.Defined defined.IndexAbsent)))
-IsTold scn f (s.Explain q) r = (r ≡ reply.Refused refusal.Memory) ⊎ (((fault : BindFault) × IsFirst (faults_in f (s.Explain q)) fault × (r ≡ reply.Refused (bind_refusal fault)))
+IsTold scn f (s.DropIndex i) r = (r ≡ reply.Refused refusal.Memory) ⊎ (((fault : BindFault) × IsFirstBindFault (faults_in f (s.DropIndex i)) fault × (r ≡ reply.Refused (bind_refusal fault)))
+    ⊎ ((i.if_exists ≡ true) × (index_id_named f.indexes i.name ≡ None) × (r ≡ reply.Defined defined.IndexAbsent)))
+IsTold scn f (s.Explain q) r = (r ≡ reply.Refused refusal.Memory) ⊎ (((fault : BindFault) × IsFirstBindFault (faults_in f (s.Explain q)) fault × (r ≡ reply.Refused (bind_refusal fault)))
     ⊎ ((select_faults f.table.columns q ≡ []) × ((x : Query) × IsQuery f.table q x × IsExplanation f (point_of scn) x r)))
-IsTold scn f x r = (r ≡ reply.Refused refusal.Memory) ⊎ ((fault : BindFault) × IsFirst (faults_in f x) fault × (r ≡ reply.Refused (bind_refusal fault)))
+IsTold scn f x r = (r ≡ reply.Refused refusal.Memory) ⊎ ((fault : BindFault) × IsFirstBindFault (faults_in f x) fault × (r ≡ reply.Refused (bind_refusal fault)))
 
 -- what comes of a query on this table
 abbrev pub IsPlannedOf : Table → Option ℕ → Query → Next → Type 0
-IsPlannedOf t scn q (next.Select run) = (run.scan.query ≡ record { table = t; asked = asked_of q }) × (run.scan.scn ≡ scn) × scanning.IsNew run.scan.state
+IsPlannedOf t scn q (next.Select run) = (run.scan.query ≡ record { table = t; asked = asked_of q }) × (run.scan.scn ≡ scn) × scanning.IsQueryNew run.scan.state
 IsPlannedOf t scn q (next.Tell r) = r ≡ reply.Refused refusal.Memory
 IsPlannedOf t scn q n = ⊥
 
 -- what comes of the condition of a DELETE of rows of this table
 abbrev pub IsDeletionOf : Table → Option Bound → Next → Type 0
-IsDeletionOf t filter (next.Delete run) = deleting.IsNew (planned_for t filter) run.state
+IsDeletionOf t filter (next.Delete run) = deleting.IsDeleteNew (planned_for t filter) run.state
 IsDeletionOf t filter (next.Tell r) = r ≡ reply.Refused refusal.Memory
 IsDeletionOf t filter n = ⊥
 
@@ -675,10 +675,10 @@ IsFitFor t e = Unit {0}
 
 -- what comes of a statement whose table was found
 abbrev pub IsNext : Option ℕ → Found → Statement → Next → Type 0
-IsNext scn f x (next.Change run room) = (u : Upsert) × (x ≡ s.Upsert u) × (upsert_faults f.table u ≡ []) × (run.table ≡ f.table.id) × (run.changes ≡ one_change f u) × (run.state ≡ batches.Beginning) × FitsTable f.table (change_of f.table u) × HasRoomForOne room
+IsNext scn f x (next.Change run room) = (u : Upsert) × (x ≡ s.Upsert u) × (upsert_faults f.table u ≡ []) × (run.table ≡ f.table.id) × (run.changes ≡ one_change f u) × (run.state ≡ batches.Beginning) × IsChangeOf f.table (upsert_change f.table u) × HasRoomForOne room
 IsNext scn f x (next.Define run) = (faults_in f x ≡ []) × (definition_of f x ≡ Some run.definition) × (run.state ≡ defines.Defining) × IsFitFor f.table run.definition
-IsNext scn f x (next.Select run) = (q : Select) × (x ≡ s.Select q) × IsAskedOf f q run.scan.query × (run.scan.scn ≡ scn) × scanning.IsNew run.scan.state × IsScn scn
-IsNext scn f x (next.Delete run) = (y : Delete) × (x ≡ s.Delete y) × (delete_faults f.table.columns y ≡ []) × deleting.IsNew (deletion_query f y) run.state
+IsNext scn f x (next.Select run) = (q : Select) × (x ≡ s.Select q) × IsAskedOf f q run.scan.query × (run.scan.scn ≡ scn) × scanning.IsQueryNew run.scan.state × IsScn scn
+IsNext scn f x (next.Delete run) = (y : Delete) × (x ≡ s.Delete y) × (delete_faults f.table.columns y ≡ []) × deleting.IsDeleteNew (deletion_query f y) run.state
 IsNext scn f x (next.Tell r) = IsTold scn f x r
 
 -- the state in which a statement goes on whose table was found
@@ -694,10 +694,10 @@ FollowsTo scn x f (state.Committing again run) = ⊥
 FollowsTo scn x f (state.Counting name run) = ⊥
 FollowsTo scn x f (state.Ordering run) = ⊥
 
-abbrev pub Follows : Asked → Statement → Found → ItemTurn → Type 0
-Follows asked x f (turn.Stepped r) = (r.asked ≡ asked) × FollowsTo asked.settings.scn x f r.state
-Follows asked x f (turn.Waiting r) = ⊥
-Follows asked x f (turn.Over a) = (a.first ≡ asked.first) × ((r : Reply) × IsTold asked.settings.scn f x r × Says a r asked.settings)
+abbrev pub FollowsFound : Asked → Statement → Found → ItemTurn → Type 0
+FollowsFound asked x f (turn.Stepped r) = (r.asked ≡ asked) × FollowsTo asked.settings.scn x f r.state
+FollowsFound asked x f (turn.Waiting r) = ⊥
+FollowsFound asked x f (turn.Over a) = (a.first ≡ asked.first) × ((r : Reply) × IsTold asked.settings.scn f x r × Says a r asked.settings)
 
 -- what was held is to be committed before
 abbrev pub GoesToCommit : Asked → TableId → ItemState → Type 0
@@ -708,32 +708,32 @@ GoesToCommit asked t st = ⊥
 abbrev pub Keeps : Asked → Table → Change → ItemTurn → Type 0
 Keeps asked t c (turn.Stepped r) = (r.asked ≡ asked) × GoesToCommit asked t.id r.state
 Keeps asked t c (turn.Waiting r) = ⊥
-Keeps asked t c (turn.Over a) = (a.first ≡ asked.first) × (Refuses a refusal.Memory asked.settings ⊎ (((st' : Settings) × IsHolding t c asked.settings st' × Says a (reply.Count 1 Held) st') ⊎ (IsFullOf t c asked.settings.held × Refuses a (refusal.Limit bound.Rows) asked.settings)))
+Keeps asked t c (turn.Over a) = (a.first ≡ asked.first) × (SaysRefused a refusal.Memory asked.settings ⊎ (((st' : Settings) × IsHolding t c asked.settings st' × Says a (reply.Count 1 Held) st') ⊎ (IsFullOf t c asked.settings.held × SaysRefused a (refusal.Limit bound.Rows) asked.settings)))
 
 -- what comes of an UPSERT whose table was found, where its row is held
 abbrev pub Holds : Asked → Statement → Found → ItemTurn → Type 0
-Holds asked x f t = ((a : Answered) × (t ≡ turn.Over a) × (a.first ≡ asked.first) × (Refuses a refusal.Memory asked.settings ⊎ ((fault : BindFault) × IsFirst (faults_in f x) fault × Refuses a (bind_refusal fault) asked.settings)))
-    ⊎ ((u : Upsert) × (x ≡ s.Upsert u) × (upsert_faults f.table u ≡ []) × Keeps asked f.table (change_of f.table u) t)
+Holds asked x f t = ((a : Answered) × (t ≡ turn.Over a) × (a.first ≡ asked.first) × (SaysRefused a refusal.Memory asked.settings ⊎ ((fault : BindFault) × IsFirstBindFault (faults_in f x) fault × SaysRefused a (bind_refusal fault) asked.settings)))
+    ⊎ ((u : Upsert) × (x ≡ s.Upsert u) × (upsert_faults f.table u ≡ []) × Keeps asked f.table (upsert_change f.table u) t)
 
 abbrev pub IsOneRow : Asked → Receipt → Answered → Type 0
 IsOneRow asked r a = (a.first ≡ asked.first) × ((a.reply ≡ reply.Count 1 Affected) × (a.receipts ≡ r ∷ []) × (a.places ≡ []) × (a.after ≡ next_is.Next asked.settings))
 
 abbrev pub IsChanged : Asked → Statement → Result Receipt BatchFault → Answered → Type 0
 IsChanged asked x (Ok r) a = IsOneRow asked r a
-IsChanged asked x (Err f) a = (a.first ≡ asked.first) × (Refuses a (batch_refusal (table_named x) f) asked.settings ⊎ (Refuses a refusal.Memory asked.settings × (f ≡ unmade.NoTable)))
+IsChanged asked x (Err f) a = (a.first ≡ asked.first) × (SaysRefused a (batch_refusal (table_named x) f) asked.settings ⊎ (SaysRefused a refusal.Memory asked.settings × (f ≡ unmade.NoTable)))
 
 abbrev pub IsDefined : Asked → Statement → Result Made DefineFault → Answered → Type 0
-IsDefined asked x (Ok m) a = (a.first ≡ asked.first) × Says a (reply.Defined (word_of x)) asked.settings
-IsDefined asked x (Err f) a = (a.first ≡ asked.first) × (Says a (undefined x f) asked.settings ⊎ Refuses a refusal.Memory asked.settings)
+IsDefined asked x (Ok m) a = (a.first ≡ asked.first) × Says a (reply.Defined (definition_word x)) asked.settings
+IsDefined asked x (Err f) a = (a.first ≡ asked.first) × (Says a (undefined x f) asked.settings ⊎ SaysRefused a refusal.Memory asked.settings)
 
 abbrev pub IsBuilt : Asked → Statement → Result Made BuildFault → Answered → Type 0
-IsBuilt asked x (Ok m) a = (a.first ≡ asked.first) × Says a (reply.Defined (word_of x)) asked.settings
-IsBuilt asked x (Err why) a = (a.first ≡ asked.first) × (Says a (not_built x why) asked.settings ⊎ Refuses a refusal.Memory asked.settings)
+IsBuilt asked x (Ok m) a = (a.first ≡ asked.first) × Says a (reply.Defined (definition_word x)) asked.settings
+IsBuilt asked x (Err why) a = (a.first ≡ asked.first) × (Says a (not_built x why) asked.settings ⊎ SaysRefused a refusal.Memory asked.settings)
 
 -- the build that follows a definition that was made
 abbrev pub IsBuildOf : Definition → Made → Option BuildRun → Type 0
 IsBuildOf e m None = to_build e ≡ None
-IsBuildOf e m (Some run) = (t : TableId) × (to_build e ≡ Some t) × building.IsNew t (made_index m) run
+IsBuildOf e m (Some run) = (t : TableId) × (to_build e ≡ Some t) × building.IsBuildNew t (index_id_made m) run
 
 abbrev pub IsBuildBehind : Statement → Definition → Made → ItemState → Type 0
 IsBuildBehind x e m (state.Building y run) = (y ≡ x) × IsBuildOf e m (Some run)
@@ -746,22 +746,22 @@ GoesOnBehind asked x e m (turn.Waiting r) = ⊥
 GoesOnBehind asked x e m (turn.Over a) = (to_build e ≡ None) × IsDefined asked x (Ok m) a
 
 abbrev pub IsSelection : Asked → Statement → Result Selected QueryFault → Answered → Type 0
-IsSelection asked x (Ok r) a = ShowsRows a r asked.settings
-IsSelection asked x (Err f) a = (a.first ≡ asked.first) × (Refuses a (query_refusal (table_named x) f) asked.settings ⊎ Refuses a refusal.Memory asked.settings)
+IsSelection asked x (Ok r) a = SaysRows a r asked.settings
+IsSelection asked x (Err f) a = (a.first ≡ asked.first) × (SaysRefused a (query_refusal (table_named x) f) asked.settings ⊎ SaysRefused a refusal.Memory asked.settings)
 
 -- what is told of the end of a DELETE
 abbrev pub TellsEnd : Statement → Result Removed DeleteFault → Reply → Type 0
 TellsEnd x (Ok m) r = r ≡ reply.Count m.rows Affected
 TellsEnd x (Err (undeleted.Unread f)) r = (r ≡ reply.Refused (query_refusal (table_named x) f)) ⊎ (r ≡ reply.Refused refusal.Memory)
-TellsEnd x (Err (undeleted.Unmade f)) r = StopsAt r (table_named x) f
+TellsEnd x (Err (undeleted.Unmade f)) r = StopsDelete r (table_named x) f
 
 abbrev pub IsDeletion : Asked → Statement → Deleted → Answered → Type 0
 IsDeletion asked x d a = (a.first ≡ asked.first) × TellsEnd x d.end a.reply × (a.receipts ≡ d.receipts.items) × (a.places ≡ []) × (a.after ≡ next_is.Next asked.settings)
 
 -- what is told of the end of a commit
 abbrev pub CommitTold : Asked → HeldData → (again : Bool) → Result (Vec Receipt Global) BatchFault → Answered → Type 0
-CommitTold asked h again (Ok rs) a = (a.reply ≡ reply.Count (length h.changes) Affected) × (a.receipts ≡ rs.items) × (a.places ≡ []) × (a.after ≡ onward again (emptied asked.settings))
-CommitTold asked h again (Err fault) a = StopsAt a.reply h.name fault × (a.receipts ≡ []) × (a.places ≡ []) × (a.after ≡ next_is.Next (emptied asked.settings))
+CommitTold asked h again (Ok rs) a = (a.reply ≡ reply.Count (length h.changes) Affected) × (a.receipts ≡ rs.items) × (a.places ≡ []) × (a.after ≡ after_commit again (emptied asked.settings))
+CommitTold asked h again (Err fault) a = StopsDelete a.reply h.name fault × (a.receipts ≡ []) × (a.places ≡ []) × (a.after ≡ next_is.Next (emptied asked.settings))
 
 abbrev pub IsCommitted : Asked → (again : Bool) → Result (Vec Receipt Global) BatchFault → Answered → Type 0
 IsCommitted asked again r a = (a.first ≡ asked.first) × ((h : HeldData) × (asked.settings.held ≡ Some h) × CommitTold asked h again r a)
@@ -769,9 +769,9 @@ IsCommitted asked again r a = (a.first ≡ asked.first) × ((h : HeldData) × (a
 -- what is told of the end of a status
 abbrev pub IsCounted : Asked → List ℕ → Result Status CountFault → Answered → Type 0
 IsCounted asked name (Ok x) a = (a.first ≡ asked.first) × Says a (reply.Status x) asked.settings
-IsCounted asked name (Err f) a = (a.first ≡ asked.first) × (Refuses a (count_refusal name f) asked.settings ⊎ Refuses a refusal.Memory asked.settings)
+IsCounted asked name (Err f) a = (a.first ≡ asked.first) × (SaysRefused a (count_refusal name f) asked.settings ⊎ SaysRefused a refusal.Memory asked.settings)
 
 -- what is told of the end of an order
 abbrev pub IsOrdered : Asked → Ordered → Result (Unit {0}) OrderFault → Answered → Type 0
 IsOrdered asked job (Ok u) a = (a.first ≡ asked.first) × Says a (order_reply job) asked.settings
-IsOrdered asked job (Err f) a = (a.first ≡ asked.first) × Refuses a (order_refusal f) asked.settings
+IsOrdered asked job (Err f) a = (a.first ≡ asked.first) × SaysRefused a (order_refusal f) asked.settings

@@ -10,7 +10,7 @@ use Rattle.px_ast.specs.declared.statement.Delete.{Delete}
 use Rattle.px_tables.specs.declared.found.Found.{Found}
 use Rattle.px_tables.specs.declared.table.Table.{Table}
 use Rattle.px_trail.specs.Trail.{table_shape}
-use Rattle.px_resolve.specs.Answers.{IsFirst}
+use Rattle.px_resolve.specs.Answers.{IsFirstBindFault}
 use Rattle.px_resolve.specs.declared.fault.BindFault.{BindFault}
 use Rattle.px_bind.specs.Queries.{delete_faults}
 use Rattle.px_bind.specs.Requests.{faults_in}
@@ -34,16 +34,16 @@ use Rattle.px_item.specs.declared.item.ItemState.{ItemState}
 use Rattle.px_item.specs.declared.item.ItemState.TheVariants as state
 use Rattle.px_item.specs.declared.item.ItemTurn.{ItemTurn}
 use Rattle.px_item.specs.declared.item.ItemTurn.TheVariants as turn
-use Rattle.px_item.specs.Right.{AreTooManyOf, GoesToCommit, IsHoldingAll, IsOfNoOther, Refuses, Says, bind_refusal, deletion_query, query_refusal, table_named}
+use Rattle.px_item.specs.Right.{AreTooManyOf, GoesToCommit, IsHoldingAll, IsOfNoOther, Says, SaysRefused, bind_refusal, deletion_query, query_refusal, table_named}
 
 -- the query by which a DELETE finds the rows of this table, or the first of all that is wrong with it
 abbrev pub IsSearchOf : Found → Statement → Result Planned Refusal → Type 0
 IsSearchOf f x (Ok p) = (length f.table.columns ≤ 255) × ((y : Delete) × (x ≡ s.Delete y) × (delete_faults f.table.columns y ≡ []) × (p ≡ deletion_query f y))
-IsSearchOf f x (Err r) = (r ≡ refusal.Memory) ⊎ ((fault : BindFault) × IsFirst (faults_in f x) fault × (r ≡ bind_refusal fault))
+IsSearchOf f x (Err r) = (r ≡ refusal.Memory) ⊎ ((fault : BindFault) × IsFirstBindFault (faults_in f x) fault × (r ≡ bind_refusal fault))
 
 -- the rows are to be found by this query, or what was held of another table is to be committed before
 abbrev pub SearchesIn : Asked → Statement → TableId → Planned → ItemState → Type 0
-SearchesIn asked x t p (state.Seeking y run) = (y ≡ x) × IsOfNoOther asked.settings.held t × (run.scan.query ≡ p) × (run.scan.scn ≡ None) × scan.IsNew run.scan.state
+SearchesIn asked x t p (state.Seeking y run) = (y ≡ x) × IsOfNoOther asked.settings.held t × (run.scan.query ≡ p) × (run.scan.scn ≡ None) × scan.IsQueryNew run.scan.state
 SearchesIn asked x t p (state.Committing again run) = GoesToCommit asked t (state.Committing again run)
 SearchesIn asked x t p st = ⊥
 
@@ -54,7 +54,7 @@ Searches asked x t p (turn.Over a) = ⊥
 
 -- what comes of a DELETE whose table was found, where its removals are held
 abbrev pub Seeks : Asked → Statement → Found → ItemTurn → Type 0
-Seeks asked x f t = ((a : Answered) × (t ≡ turn.Over a) × (a.first ≡ asked.first) × (Refuses a refusal.Memory asked.settings ⊎ ((fault : BindFault) × IsFirst (faults_in f x) fault × Refuses a (bind_refusal fault) asked.settings)))
+Seeks asked x f t = ((a : Answered) × (t ≡ turn.Over a) × (a.first ≡ asked.first) × (SaysRefused a refusal.Memory asked.settings ⊎ ((fault : BindFault) × IsFirstBindFault (faults_in f x) fault × SaysRefused a (bind_refusal fault) asked.settings)))
     ⊎ ((length f.table.columns ≤ 255) × ((y : Delete) × (x ≡ s.Delete y) × (delete_faults f.table.columns y ≡ []) × Searches asked x f.table.id (deletion_query f y) t))
 
 -- what is held with these changes, or why it is the same
@@ -65,13 +65,13 @@ AddsRows t o cs o' (Err unheld.Memory) = o' ≡ o
 
 -- what is told of these removals of rows of the table
 abbrev pub KeepsRows : Asked → Table → List Change → Answered → Type 0
-KeepsRows asked t cs a = (a.first ≡ asked.first) × (Refuses a refusal.Memory asked.settings ⊎ (((st' : Settings) × IsHoldingAll t cs asked.settings st' × Says a (reply.Count (length cs) Held) st') ⊎ (AreTooManyOf t cs asked.settings × Refuses a (refusal.Limit bound.Rows) asked.settings)))
+KeepsRows asked t cs a = (a.first ≡ asked.first) × (SaysRefused a refusal.Memory asked.settings ⊎ (((st' : Settings) × IsHoldingAll t cs asked.settings st' × Says a (reply.Count (length cs) Held) st') ⊎ (AreTooManyOf t cs asked.settings × SaysRefused a (refusal.Limit bound.Rows) asked.settings)))
 
 -- what is told of the rows that were found
 abbrev pub KeepsFound : Asked → Table → Selected → Answered → Type 0
-KeepsFound asked t r a = ((a.first ≡ asked.first) × Refuses a refusal.Memory asked.settings) ⊎ ((cs : List Change) × AreRemovals r.shown.rows cs × KeepsRows asked t cs a)
+KeepsFound asked t r a = ((a.first ≡ asked.first) × SaysRefused a refusal.Memory asked.settings) ⊎ ((cs : List Change) × AreRemovals r.shown.rows cs × KeepsRows asked t cs a)
 
 -- what is told of the end of the search
 abbrev pub IsSought : Asked → Statement → Table → Result Selected QueryFault → Answered → Type 0
 IsSought asked x t (Ok r) a = KeepsFound asked t r a
-IsSought asked x t (Err f) a = (a.first ≡ asked.first) × (Refuses a (query_refusal (table_named x) f) asked.settings ⊎ Refuses a refusal.Memory asked.settings)
+IsSought asked x t (Err f) a = (a.first ≡ asked.first) × (SaysRefused a (query_refusal (table_named x) f) asked.settings ⊎ SaysRefused a refusal.Memory asked.settings)

@@ -23,7 +23,7 @@ use Rattle.px_trail.specs.Legal.{IsLegal}
 use Rattle.px_calls.specs.declared.definition.Definition.{Definition}
 use Rattle.px_calls.specs.declared.definition.Definition.TheVariants as d
 use Rattle.px_calls.specs.declared.definition.Made.{Made}
-use Rattle.px_calls.specs.Calls.{made_index}
+use Rattle.px_calls.specs.Calls.{index_id_made}
 use Rattle.px_calls.specs.declared.status.Ordered.{Ordered}
 use Rattle.px_calls.specs.Known.{Known, Ran, outline}
 use Rattle.px_held.specs.HeldData.{HeldData}
@@ -70,9 +70,9 @@ pub record IsChanging (before : ℕ) (asked : Asked) (x : Statement) (run : Batc
   pub right : upsert_faults found.table upsert ≡ []
   pub table : run.table ≡ found.table.id
   pub changes : run.changes ≡ one_change found upsert
-  pub fits : batch.Fits run.table run.changes run.state k
-  pub going : batch.IsGoing run.state
-  pub since : batch.IsSince before run.state k
+  pub fits : batch.FitsBatch run.table run.changes run.state k
+  pub going : batch.IsBatchGoing run.state
+  pub since : batch.IsBatchSince before run.state k
 
 -- what an index or a DROP asks for is being defined
 pub record IsDefining (sound : Type 0) (asked : Asked) (x : Statement) (run : DefineRun) (k : Known) : Type 0 where
@@ -80,8 +80,8 @@ pub record IsDefining (sound : Type 0) (asked : Asked) (x : Statement) (run : De
   pub bound : IsBoundTo k.base k.seen asked.first found (table_named x)
   pub right : faults_in found x ≡ []
   pub definition : definition_of found x ≡ Some run.definition
-  pub fits : define.Fits sound run.definition run.state k
-  pub going : define.IsGoing run.state
+  pub fits : define.FitsDefinition sound run.definition run.state k
+  pub going : define.IsDefinitionGoing run.state
 
 -- a CREATE TABLE is under way
 pub record IsCreating (sound : Type 0) (x : Statement) (run : DefineRun) (k : Known) : Type 0 where
@@ -90,8 +90,8 @@ pub record IsCreating (sound : Type 0) (x : Statement) (run : DefineRun) (k : Kn
   pub whole : is_none_of create.splits ≡ true
   pub right : table_faults create ≡ []
   pub definition : run.definition ≡ d.Table (new_table create)
-  pub fits : define.Fits sound run.definition run.state k
-  pub going : define.IsGoing run.state
+  pub fits : define.FitsDefinition sound run.definition run.state k
+  pub going : define.IsDefinitionGoing run.state
 
 -- the definition was made, and its index is being built; this was done for it
 pub record IsBuilding (sound : Type 0) (asked : Asked) (own : List Act) (x : Statement) (run : BuildRun) (k : Known) : Type 0 where
@@ -107,7 +107,7 @@ pub record IsBuilding (sound : Type 0) (asked : Asked) (own : List Act) (x : Sta
   pub behind : IsBuiltBehind asked.first definition made own rest k
   pub stands : StandsAs definition made k
   pub legal : IsLegal k.base k.seen
-  pub fits : building.Fits sound made.at table (made_index made) rest run k
+  pub fits : building.FitsBuild sound made.at table (index_id_made made) rest run k
 
 -- a SELECT is under way
 pub record IsSelecting (sound : Type 0) (before : ℕ) (asked : Asked) (x : Statement) (run : SelectRun) (k : Known) : Type 0 where
@@ -117,10 +117,10 @@ pub record IsSelecting (sound : Type 0) (before : ℕ) (asked : Asked) (x : Stat
   pub bound : IsBoundTo k.base k.seen before found select.table
   pub planned : IsAskedOf found select run.scan.query
   pub scn : run.scan.scn ≡ asked.settings.scn
-  pub fits : scan.Fits sound (query_of run.scan.query) run.scan.scn run.scan.state k
-  pub going : scan.IsGoing run.scan.state
-  pub since : scan.IsSince before run.scan.state k
-  pub first : scan.IsSince asked.first run.scan.state k
+  pub fits : scan.FitsScan sound (query_of run.scan.query) run.scan.scn run.scan.state k
+  pub going : scan.IsQueryGoing run.scan.state
+  pub since : scan.IsQuerySince before run.scan.state k
+  pub first : scan.IsQuerySince asked.first run.scan.state k
 
 -- a DELETE is under way, and this was done for it: the changes of its finished batches stand in the trail alone
 pub record IsDeleting (sound : Type 0) (asked : Asked) (own : List Act) (x : Statement) (run : DeleteRun) (k : Known) : Type 0 where
@@ -130,10 +130,10 @@ pub record IsDeleting (sound : Type 0) (asked : Asked) (own : List Act) (x : Sta
   pub found : Found
   pub bound : IsBoundTo k.base k.seen asked.first found delete.table
   pub right : delete_faults found.table.columns delete ≡ []
-  pub fits : deleting.Fits sound (deletion_query found delete) run.state k
-  pub going : deleting.IsGoing run.state
+  pub fits : deleting.FitsDelete sound (deletion_query found delete) run.state k
+  pub going : deleting.IsDeleteGoing run.state
   pub done : deleting.HasDone sound (deletion_query found delete) own run.state k
-  pub since : deleting.IsSince asked.first run.state k
+  pub since : deleting.IsDeleteSince asked.first run.state k
 
 -- the rows of a DELETE are being found, whose removals are held then
 pub record IsSeeking (sound : Type 0) (asked : Asked) (x : Statement) (run : SelectRun) (k : Known) : Type 0 where
@@ -147,22 +147,22 @@ pub record IsSeeking (sound : Type 0) (asked : Asked) (x : Statement) (run : Sel
   pub other : IsOfNoOther asked.settings.held found.table.id
   pub planned : run.scan.query ≡ deletion_query found delete
   pub scn : run.scan.scn ≡ None
-  pub fits : scan.Fits sound (query_of run.scan.query) run.scan.scn run.scan.state k
-  pub going : scan.IsGoing run.scan.state
-  pub since : scan.IsSince asked.first run.scan.state k
+  pub fits : scan.FitsScan sound (query_of run.scan.query) run.scan.scn run.scan.state k
+  pub going : scan.IsQueryGoing run.scan.state
+  pub since : scan.IsQuerySince asked.first run.scan.state k
 
 -- what is held is being committed
 pub record IsCommitting (before : ℕ) (asked : Asked) (again : Bool) (run : CommitRun) (k : Known) : Type 0 where
   pub held : HeldData
   pub is : asked.settings.held ≡ Some held
   pub asks : AsksToCommit k asked.first asked.settings (seen_piece asked.piece) held again
-  pub fits : commits.Fits held run k
-  pub since : commits.IsSince before run k
+  pub fits : commits.FitsCommit held run k
+  pub since : commits.IsCommitSince before run k
 
 -- a table is being counted
 pub record IsCounting (asked : Asked) (name : List ℕ) (run : CountRun) (k : Known) : Type 0 where
   pub read : IsCommandRead (seen_piece asked.piece) (Ok (commands.Status name))
-  pub fits : counts.Fits asked.first name run k
+  pub fits : counts.FitsCount asked.first name run k
 
 -- an order is given, and being done
 abbrev pub IsOrdering : Asked → OrderRun → Type 0
@@ -183,18 +183,18 @@ FitsState sound before asked own (state.Ordering run) k = IsOrdering asked run
 -- what the item has begun and not ended. What a build has done is in IsBuilding, and what a DELETE has in IsDeleting
 abbrev pub HasBegun : List Act → ItemState → Type 0
 HasBegun own (state.Finding x) = own ≡ []
-HasBegun own (state.Changing x run room) = own ≡ batch.begun run.table run.changes run.state
+HasBegun own (state.Changing x run room) = own ≡ batch.begun_by_batch run.table run.changes run.state
 HasBegun own (state.Defining x run) = own ≡ []
 HasBegun own (state.Building x run) = Unit {0}
-HasBegun own (state.Selecting x run) = own ≡ scan.opened run.scan.state
+HasBegun own (state.Selecting x run) = own ≡ scan.opened_by_query run.scan.state
 HasBegun own (state.Deleting x run) = Unit {0}
-HasBegun own (state.Seeking x run) = own ≡ scan.opened run.scan.state
-HasBegun own (state.Committing again run) = own ≡ commits.begun run
+HasBegun own (state.Seeking x run) = own ≡ scan.opened_by_query run.scan.state
+HasBegun own (state.Committing again run) = own ≡ commits.begun_by_commit run
 HasBegun own (state.Counting name run) = own ≡ []
 HasBegun own (state.Ordering run) = own ≡ []
 
 -- The state is as the trail tells, where `own` is what the seat began, ended, opened, closed and defined for the item so far. Others' entries keep this
-pub record Fits (sound : Type 0) (before : ℕ) (asked : Asked) (own : List Act) (st : ItemState) (k : Known) : Type 0 where
+pub record FitsItem (sound : Type 0) (before : ℕ) (asked : Asked) (own : List Act) (st : ItemState) (k : Known) : Type 0 where
   pub begins : before ≤ asked.first
   pub within : asked.first ≤ length k.seen
   pub state : FitsState sound before asked own st k
@@ -202,12 +202,12 @@ pub record Fits (sound : Type 0) (before : ℕ) (asked : Asked) (own : List Act)
 
 -- it goes on, or is over and rightly answered, where `own` is what the seat began, ended, opened, closed and defined for it so far
 abbrev pub Told : Type 0 → ℕ → Asked → List Act → Known → ItemTurn → Type 0
-Told sound before asked own k (turn.Stepped r) = (r.asked ≡ asked) × Fits sound before asked own r.state k
-Told sound before asked own k (turn.Waiting r) = (r.asked ≡ asked) × Fits sound before asked own r.state k
+Told sound before asked own k (turn.Stepped r) = (r.asked ≡ asked) × FitsItem sound before asked own r.state k
+Told sound before asked own k (turn.Waiting r) = (r.asked ≡ asked) × FitsItem sound before asked own r.state k
 Told sound before asked own k (turn.Over a) = (asked.first ≤ a.first) × (a.first ≤ length k.seen) × IsRight sound (plain k) before own asked.settings (seen_piece asked.piece) a
 
 -- one step of an item, for which this was done before it
-pub record Turns (sound : Type 0) (before : ℕ) (asked : Asked) (own : List Act) (k k' : Known) (t : ItemTurn) : Type 0 where
+pub record ItemTurns (sound : Type 0) (before : ℕ) (asked : Asked) (own : List Act) (k k' : Known) (t : ItemTurn) : Type 0 where
   pub acts : List Act
   pub ran : Ran k k' acts
   pub told : Told sound before asked (own ++ outline acts) k' t
@@ -231,11 +231,11 @@ IsStart asked (state.Counting name run) = IsCommandRead (seen_piece asked.piece)
 IsStart asked (state.Ordering run) = IsOrdering asked run × (run ≡ ordering.Ordering (orders.job_of run))
 
 -- an item that has made no step
-pub record IsBegun (st : Settings) (p : SeenPiece) (r : ItemRun) : Type 0 where
+pub record IsItemBegun (st : Settings) (p : SeenPiece) (r : ItemRun) : Type 0 where
   pub piece : seen_piece r.asked.piece ≡ p
   pub settings : r.asked.settings ≡ st
   pub state : IsStart r.asked r.state
 
 abbrev pub Begins : Settings → SeenPiece → ℕ → Begun → Type 0
 Begins st p first (begins.Told a) = IsAtOnce st p a × (a.first ≡ first)
-Begins st p first (begins.Under r) = IsBegun st p r × (r.asked.first ≡ first)
+Begins st p first (begins.Under r) = IsItemBegun st p r × (r.asked.first ≡ first)

@@ -62,7 +62,7 @@ pub(crate) fn creation_of(
     alloc: Global,
     statement: &Statement,
 ) -> Option<Result<DefineRun, Refusal>>
-    requires { spec.is_built statement.now ≡ true }
+    requires { spec.is_answer_built statement.now ≡ true }
     ensures { spec.IsCreationIf statement.now result }
 {
     match statement {
@@ -88,7 +88,7 @@ fn one(alloc: Global, change: Change) -> Result<Changes, AllocError>
 
 /// A batch of one change, where it fits.
 fn batch_of(alloc: Global, of: &Table, table: TableId, change: Change) -> Next
-    ensures { spec.IsBatchOf of.now table change result }
+    ensures { spec.IsBatchOfOne of.now table change result }
 {
     if !fits(of, &change) {
         drop(change);
@@ -112,7 +112,7 @@ fn batch_of(alloc: Global, of: &Table, table: TableId, change: Change) -> Next
 /// The change of an UPSERT whose table was found.
 pub(crate) fn row_of(alloc: Global, statement: &Statement, found: &Found) -> Result<Change, Refusal>
     requires { spec.is_upsert statement.now ≡ true }
-    ensures { spec.IsRowOf found.now statement.now result }
+    ensures { spec.IsUpsertChange found.now statement.now result }
 {
     if found.table.columns.as_slice().len() > MOST_PLACES {
         return Err(Refusal::Memory);

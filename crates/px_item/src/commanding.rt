@@ -2,7 +2,7 @@
 ghost use Rattle.std.specs.Prelude.{◌≡◌, ◌≢◌, ℕ, List, None};
 ghost use Rattle.px_trail.specs.declared.entry.Act.{Act};
 ghost use Rattle.px_item.specs.Right as spec;
-ghost use Rattle.px_item.specs.Turns.{Fits, TellsDone, Turns};
+ghost use Rattle.px_item.specs.Turns.{FitsItem, ItemTurns, TellsDone};
 
 use crate::answered::{After, Answered, Asked, Settings, told};
 use crate::item::{ItemRun, ItemState, ItemTurn, over};
@@ -18,7 +18,7 @@ use std::alloc::Global;
 
 /// What is asked for after a commit.
 fn onward(again: bool, settings: Settings) -> After
-    ensures { result ≡ spec.onward again settings }
+    ensures { result ≡ spec.after_commit again settings }
 {
     if again {
         After::Again(settings)
@@ -84,8 +84,8 @@ pub(crate) fn commit<'a, S: Steps>(
     again: bool,
     run: CommitRun,
 ) -> ItemTurn<'a>
-    requires { (before : ℕ) × (own : List Act) × Fits S.sound before asked own (ItemState.Committing again run) (S.known s.old) }
-    ensures turns { (before : ℕ) → (own : List Act) → Fits S.sound before asked.entry own (ItemState.Committing again run) (S.known s.old) → Turns S.sound before asked.entry own (S.known s.old) (S.known s.new) result }
+    requires { (before : ℕ) × (own : List Act) × FitsItem S.sound before asked own (ItemState.Committing again run) (S.known s.old) }
+    ensures turns { (before : ℕ) → (own : List Act) → FitsItem S.sound before asked.entry own (ItemState.Committing again run) (S.known s.old) → ItemTurns S.sound before asked.entry own (S.known s.old) (S.known s.new) result }
     ensures one_call { S.one_call s.old s.new }
 {
     let turn = match &asked.settings.held {
@@ -130,7 +130,7 @@ pub(crate) fn count<'a, S: Steps>(
     name: Name,
     run: CountRun,
 ) -> ItemTurn<'a>
-    ensures turns { (before : ℕ) → (own : List Act) → Fits S.sound before asked.entry own (ItemState.Counting name run) (S.known s.old) → Turns S.sound before asked.entry own (S.known s.old) (S.known s.new) result }
+    ensures turns { (before : ℕ) → (own : List Act) → FitsItem S.sound before asked.entry own (ItemState.Counting name run) (S.known s.old) → ItemTurns S.sound before asked.entry own (S.known s.old) (S.known s.new) result }
     ensures one_call { S.one_call s.old s.new }
 {
     match run.step(s, &name) {
@@ -169,7 +169,7 @@ pub(crate) fn order<'a, S: Steps>(
     asked: Asked<'a>,
     run: OrderRun,
 ) -> ItemTurn<'a>
-    ensures turns { (before : ℕ) → (own : List Act) → Fits S.sound before asked.entry own (ItemState.Ordering run) (S.known s.old) → Turns S.sound before asked.entry own (S.known s.old) (S.known s.new) result }
+    ensures turns { (before : ℕ) → (own : List Act) → FitsItem S.sound before asked.entry own (ItemState.Ordering run) (S.known s.old) → ItemTurns S.sound before asked.entry own (S.known s.old) (S.known s.new) result }
     ensures done { TellsDone result → S.done s.new }
     ensures one_call { S.one_call s.old s.new }
 {

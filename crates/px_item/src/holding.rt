@@ -40,7 +40,7 @@ fn added(
 ) -> (Option<HeldChanges>, Result<(), HoldFault>)
     requires places { length table.now.columns ≤ 255 }
     requires other { spec.IsOfNoOther held table.now.id }
-    ensures { spec.Adds table.now held change result.0 result.1 }
+    ensures { spec.AddsChange table.now held change result.0 result.1 }
 {
     match held {
         Some(mut held) => {

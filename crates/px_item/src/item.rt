@@ -3,7 +3,7 @@ ghost use Rattle.std.specs.Prelude.{◌≡◌, ℕ, true, false, List, Ok};
 ghost use Rattle.px_lex.specs.Script.{seen_piece};
 ghost use Rattle.px_trail.specs.declared.entry.Act.{Act};
 ghost use Rattle.px_item.specs.Right as spec;
-ghost use Rattle.px_item.specs.Turns.{Begins, Fits, TellsDone, Turns};
+ghost use Rattle.px_item.specs.Turns.{Begins, FitsItem, ItemTurns, TellsDone};
 
 use crate::answered::{After, Answered, Asked, Settings, told};
 use crate::binding::{self, Next};
@@ -99,7 +99,7 @@ pub fn begin<'a>(alloc: Global, piece: Piece<'a>, settings: Settings, first: u64
 fn start<'a>(alloc: Global, asked: Asked<'a>, statement: Statement) -> Begun<'a>
     requires read { spec.IsRead (seen_piece asked.piece) (Ok statement) }
     requires free { spec.MayRun asked.settings statement }
-    requires built { spec.is_built statement ≡ true }
+    requires built { spec.is_answer_built statement ≡ true }
     ensures { Begins asked.entry.settings (seen_piece asked.entry.piece) asked.entry.first result }
 {
     match binding::creation_of(alloc, &statement) {
@@ -133,7 +133,7 @@ pub(crate) fn over(alloc: Global, asked: Asked<'_>, reply: Reply) -> Answered
 
 /// Goes on with a statement whose table was found. It makes no call.
 fn follow<'a>(alloc: Global, asked: Asked<'a>, statement: Statement, found: Found) -> ItemTurn<'a>
-    ensures { spec.Follows asked.entry statement found result }
+    ensures { spec.FollowsFound asked.entry statement found result }
 {
     let next = binding::next_of(alloc, &statement, &found, asked.settings.scn);
     drop(found);
@@ -168,7 +168,7 @@ fn find<'a, S: Steps>(
     asked: Asked<'a>,
     statement: Statement,
 ) -> ItemTurn<'a>
-    ensures turns { (before : ℕ) → (own : List Act) → Fits S.sound before asked.entry own (ItemState.Finding statement) (S.known s.old) → Turns S.sound before asked.entry own (S.known s.old) (S.known s.new) result }
+    ensures turns { (before : ℕ) → (own : List Act) → FitsItem S.sound before asked.entry own (ItemState.Finding statement) (S.known s.old) → ItemTurns S.sound before asked.entry own (S.known s.old) (S.known s.new) result }
     ensures one_call { S.one_call s.old s.new }
 {
     match s.find(table_named(&statement)) {
@@ -251,8 +251,8 @@ fn change<'a, S: Steps>(
     mut run: BatchRun,
     receipts: Vec<Receipt>,
 ) -> ItemTurn<'a>
-    requires { (before : ℕ) × (own : List Act) × Fits S.sound before asked own (ItemState.Changing statement run receipts) (S.known s.old) }
-    ensures turns { (before : ℕ) → (own : List Act) → Fits S.sound before asked.entry own (ItemState.Changing statement run receipts) (S.known s.old) → Turns S.sound before asked.entry own (S.known s.old) (S.known s.new) result }
+    requires { (before : ℕ) × (own : List Act) × FitsItem S.sound before asked own (ItemState.Changing statement run receipts) (S.known s.old) }
+    ensures turns { (before : ℕ) → (own : List Act) → FitsItem S.sound before asked.entry own (ItemState.Changing statement run receipts) (S.known s.old) → ItemTurns S.sound before asked.entry own (S.known s.old) (S.known s.new) result }
     ensures one_call { S.one_call s.old s.new }
 {
     match run.step(s) {
@@ -283,7 +283,7 @@ fn altered_word(action: IndexAction) -> Defined
 
 /// The word of what was made, altered or dropped.
 fn word_of(statement: &Statement) -> Defined
-    ensures { result ≡ spec.word_of statement.now }
+    ensures { result ≡ spec.definition_word statement.now }
 {
     match statement {
         Statement::CreateTable(_) => Defined::TableCreated,
@@ -360,8 +360,8 @@ fn define<'a, S: Steps>(
     statement: Statement,
     mut run: DefineRun,
 ) -> ItemTurn<'a>
-    requires { (before : ℕ) × (own : List Act) × Fits S.sound before asked own (ItemState.Defining statement run) (S.known s.old) }
-    ensures turns { (before : ℕ) → (own : List Act) → Fits S.sound before asked.entry own (ItemState.Defining statement run) (S.known s.old) → Turns S.sound before asked.entry own (S.known s.old) (S.known s.new) result }
+    requires { (before : ℕ) × (own : List Act) × FitsItem S.sound before asked own (ItemState.Defining statement run) (S.known s.old) }
+    ensures turns { (before : ℕ) → (own : List Act) → FitsItem S.sound before asked.entry own (ItemState.Defining statement run) (S.known s.old) → ItemTurns S.sound before asked.entry own (S.known s.old) (S.known s.new) result }
     ensures one_call { S.one_call s.old s.new }
 {
     match run.step(s) {
@@ -407,8 +407,8 @@ fn build<'a, R: Threads + Sync, S: Steps>(
     statement: Statement,
     run: BuildRun,
 ) -> ItemTurn<'a>
-    requires { (before : ℕ) × (own : List Act) × Fits S.sound before asked own (ItemState.Building statement run) (S.known s.old) }
-    ensures turns { (before : ℕ) → (own : List Act) → Fits S.sound before asked.entry own (ItemState.Building statement run) (S.known s.old) → Turns S.sound before asked.entry own (S.known s.old) (S.known s.new) result }
+    requires { (before : ℕ) × (own : List Act) × FitsItem S.sound before asked own (ItemState.Building statement run) (S.known s.old) }
+    ensures turns { (before : ℕ) → (own : List Act) → FitsItem S.sound before asked.entry own (ItemState.Building statement run) (S.known s.old) → ItemTurns S.sound before asked.entry own (S.known s.old) (S.known s.new) result }
     ensures one_call { S.one_call s.old s.new }
 {
     match run.step(rt, s) {
@@ -426,7 +426,7 @@ fn build<'a, R: Threads + Sync, S: Steps>(
 
 /// The rows of a SELECT.
 fn rows_of(alloc: Global, asked: Asked<'_>, selected: Selected) -> Answered
-    ensures { spec.ShowsRows result selected asked.entry.settings }
+    ensures { spec.SaysRows result selected asked.entry.settings }
 {
     let Asked {
         piece: _piece,
@@ -478,8 +478,8 @@ fn select<'a, S: Steps>(
     statement: Statement,
     mut run: SelectRun,
 ) -> ItemTurn<'a>
-    requires { (before : ℕ) × (own : List Act) × Fits S.sound before asked own (ItemState.Selecting statement run) (S.known s.old) }
-    ensures turns { (before : ℕ) → (own : List Act) → Fits S.sound before asked.entry own (ItemState.Selecting statement run) (S.known s.old) → Turns S.sound before asked.entry own (S.known s.old) (S.known s.new) result }
+    requires { (before : ℕ) × (own : List Act) × FitsItem S.sound before asked own (ItemState.Selecting statement run) (S.known s.old) }
+    ensures turns { (before : ℕ) → (own : List Act) → FitsItem S.sound before asked.entry own (ItemState.Selecting statement run) (S.known s.old) → ItemTurns S.sound before asked.entry own (S.known s.old) (S.known s.new) result }
     ensures one_call { S.one_call s.old s.new }
 {
     match run.step(s) {
@@ -534,8 +534,8 @@ fn delete<'a, S: Steps>(
     statement: Statement,
     mut run: DeleteRun,
 ) -> ItemTurn<'a>
-    requires { (before : ℕ) × (own : List Act) × Fits S.sound before asked own (ItemState.Deleting statement run) (S.known s.old) }
-    ensures turns { (before : ℕ) → (own : List Act) → Fits S.sound before asked.entry own (ItemState.Deleting statement run) (S.known s.old) → Turns S.sound before asked.entry own (S.known s.old) (S.known s.new) result }
+    requires { (before : ℕ) × (own : List Act) × FitsItem S.sound before asked own (ItemState.Deleting statement run) (S.known s.old) }
+    ensures turns { (before : ℕ) → (own : List Act) → FitsItem S.sound before asked.entry own (ItemState.Deleting statement run) (S.known s.old) → ItemTurns S.sound before asked.entry own (S.known s.old) (S.known s.new) result }
     ensures one_call { S.one_call s.old s.new }
 {
     match run.step(s) {
@@ -557,11 +557,11 @@ fn delete<'a, S: Steps>(
 impl<'a> ItemRun<'a> {
     /// Makes one call.
     pub fn step<R: Threads + Sync, S: Steps>(self, rt: &R, alloc: Global, s: &mut S) -> ItemTurn<'a>
-        requires { (before : ℕ) × (own : List Act) × Fits S.sound before self.asked own self.state (S.known s.old) }
-        ensures turns { (before : ℕ) → (own : List Act) → Fits S.sound before self.entry.asked own self.entry.state (S.known s.old) → Turns S.sound before self.entry.asked own (S.known s.old) (S.known s.new) result }
+        requires { (before : ℕ) × (own : List Act) × FitsItem S.sound before self.asked own self.state (S.known s.old) }
+        ensures turns { (before : ℕ) → (own : List Act) → FitsItem S.sound before self.entry.asked own self.entry.state (S.known s.old) → ItemTurns S.sound before self.entry.asked own (S.known s.old) (S.known s.new) result }
 
         // That an order is done is told only where it is.
-        ensures done { (before : ℕ) → (own : List Act) → Fits S.sound before self.entry.asked own self.entry.state (S.known s.old) → TellsDone result → S.done s.new }
+        ensures done { (before : ℕ) → (own : List Act) → FitsItem S.sound before self.entry.asked own self.entry.state (S.known s.old) → TellsDone result → S.done s.new }
         ensures one_call { S.one_call s.old s.new }
     {
         let ItemRun { asked, state } = self;

@@ -32,7 +32,7 @@ pub(crate) enum Read<'a> {
 
 /// Whether the statement's form is built.
 fn is_built(statement: &Statement) -> bool
-    ensures { result ≡ spec.is_built statement.now }
+    ensures { result ≡ spec.is_answer_built statement.now }
 {
     match statement {
         Statement::CreateTable(create) => create.splits.as_slice().is_empty(),

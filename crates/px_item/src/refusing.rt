@@ -189,7 +189,7 @@ pub(crate) fn unchanged(alloc: Global, statement: &Statement, fault: BatchFault)
 
 /// What is told of a commit that wasn't made.
 pub(crate) fn uncommitted(alloc: Global, name: &Name, fault: BatchFault) -> Reply
-    ensures { spec.StopsAt result name.now fault }
+    ensures { spec.StopsDelete result name.now fault }
 {
     match fault {
         BatchFault::NoTable => no_table(alloc, name),

@@ -3,7 +3,7 @@ ghost use Rattle.std.specs.Prelude.{◌≡◌, ◌≤◌, ℕ, List, length, tru
 ghost use Rattle.px_trail.specs.declared.entry.Act.{Act};
 ghost use Rattle.px_item.specs.Right as right;
 ghost use Rattle.px_item.specs.Seeking as spec;
-ghost use Rattle.px_item.specs.Turns.{Fits, Turns};
+ghost use Rattle.px_item.specs.Turns.{FitsItem, ItemTurns};
 
 use crate::answered::{Answered, Asked, Settings, told};
 use crate::binding::search_of;
@@ -176,8 +176,8 @@ pub(crate) fn gather<'a, S: Steps>(
     statement: Statement,
     mut run: SelectRun,
 ) -> ItemTurn<'a>
-    requires { (before : ℕ) × (own : List Act) × Fits S.sound before asked own (ItemState.Seeking statement run) (S.known s.old) }
-    ensures turns { (before : ℕ) → (own : List Act) → Fits S.sound before asked.entry own (ItemState.Seeking statement run) (S.known s.old) → Turns S.sound before asked.entry own (S.known s.old) (S.known s.new) result }
+    requires { (before : ℕ) × (own : List Act) × FitsItem S.sound before asked own (ItemState.Seeking statement run) (S.known s.old) }
+    ensures turns { (before : ℕ) → (own : List Act) → FitsItem S.sound before asked.entry own (ItemState.Seeking statement run) (S.known s.old) → ItemTurns S.sound before asked.entry own (S.known s.old) (S.known s.new) result }
     ensures one_call { S.one_call s.old s.new }
 {
     match run.step(s) {

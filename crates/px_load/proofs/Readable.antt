@@ -9,8 +9,8 @@ use Rattle.std.proofs.lemmas.Str.{IsUtf8-append, IsUtf8-from_ascii, IsUtf8-nil}
 use Rattle.px_load.specs.declared.rows.LoadRow.{LoadRow}
 use Rattle.px_load.specs.declared.script.Load.{Load}
 use Rattle.px_load.specs.Rows.{behind_rows, draw_at, row_behind}
-use Rattle.px_load.specs.Script.{before, behind, commit, is_committed, load_text, put, puts, upsert}
-use Rattle.px_script.specs.Scripts.{IsReadable}
+use Rattle.px_load.specs.Script.{before, behind, commit, is_committed, load_text, put, puts, upsert_line}
+use Rattle.px_script.specs.Scripts.{IsReadableScript}
 
 abbrev all_ascii : List ℕ → Bool
 all_ascii [] = true
@@ -46,8 +46,8 @@ number n low =
     let wide : n < 2 ^ 64 = omega arith in
     record { short = length-decimal-le 5 n (lit< tt) low wide; utf8 = IsUtf8-from_ascii (decimal n) (IsAscii-decimal n wide) }
 
-one : (row : LoadRow) → row.id < 100000 → row.group < 100000 → row.amount < 100000 → IsPart 50 (upsert row)
-unfolding upsert
+one : (row : LoadRow) → row.id < 100000 → row.group < 100000 → row.amount < 100000 → IsPart 50 (upsert_line row)
+unfolding upsert_line
 one row i g a =
     let first : IsPart 25 (codes "UPSERT INTO LOAD VALUES (") = words 25 (codes "UPSERT INTO LOAD VALUES (") (lit≤ tt) refl in
     let second : IsPart 4 (codes ", 'G") = words 4 (codes ", 'G") (lit≤ tt) refl in
@@ -78,7 +78,7 @@ all_puts (suc count) rows n within few =
     wider (58 * count + 58) (58 * suc count) _ (omega arith) (both (58 * count) 58 _ _ front last)
 
 -- it isn't too long, and of characters
-pub readable : (load : Load) → load.rows ≤ 100000 → IsReadable (load_text load)
+pub readable : (load : Load) → load.rows ≤ 100000 → IsReadableScript (load_text load)
 unfolding load_text
 readable load few =
     let front : IsPart 200 before = words 200 before (lit≤ tt) refl in

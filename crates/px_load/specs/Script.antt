@@ -6,8 +6,8 @@ use Rattle.px_load.specs.declared.script.Load.{Load}
 use Rattle.px_load.specs.Rows.{behind_rows, row_behind}
 
 -- `UPSERT INTO LOAD VALUES (0, 'G24', 937);`
-unfoldable pub upsert : LoadRow → List ℕ
-upsert row = with_number (codes "UPSERT INTO LOAD VALUES (") row.id ++ with_number (codes ", 'G") row.group ++ with_number (codes "', ") row.amount ++ codes ");\n"
+unfoldable pub upsert_line : LoadRow → List ℕ
+upsert_line row = with_number (codes "UPSERT INTO LOAD VALUES (") row.id ++ with_number (codes ", 'G") row.group ++ with_number (codes "', ") row.amount ++ codes ");\n"
 
 -- a commit stands behind every hundredth row, and behind the last
 abbrev pub is_committed : (place rows : ℕ) → Bool
@@ -18,7 +18,7 @@ commit is_there = if is_there then codes "!commit\n" else []
 
 -- the row of a place, by the draws behind a number
 abbrev pub put : (place rows number : ℕ) → List ℕ
-put place rows number = upsert (row_behind rows number) ++ commit (is_committed place rows)
+put place rows number = upsert_line (row_behind rows number) ++ commit (is_committed place rows)
 
 -- the first so many rows of a load, each by the three draws behind those of the rows before it
 abbrev pub puts : (count rows number : ℕ) → List ℕ

@@ -89,5 +89,5 @@ told_of load (Some refusal) came = refusal_line refusal
 told_of load None came = lines load came
 
 -- what is told of a load: the first refusal alone, or the counts
-unfoldable pub told : Load → List Transcript → List ℕ
-told load transcripts = told_of load (first_refusal (items_of transcripts)) (came_of (answers_in (items_of transcripts)))
+unfoldable pub told_of_load : Load → List Transcript → List ℕ
+told_of_load load transcripts = told_of load (first_refusal (items_of transcripts)) (came_of (answers_in (items_of transcripts)))

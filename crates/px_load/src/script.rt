@@ -46,7 +46,7 @@ fn add_number(text: &mut String, before: &str, number: u64) -> Result<(), AllocE
 
 /// Adds the UPSERT of a row.
 fn add_upsert(text: &mut String, row: LoadRow) -> Result<(), AllocError>
-    ensures { OnOk result (string_bytes text.new ≡ string_bytes text.old ++ spec.upsert row) }
+    ensures { OnOk result (string_bytes text.new ≡ string_bytes text.old ++ spec.upsert_line row) }
 {
     add_number(text, "UPSERT INTO LOAD VALUES (", row.id)?;
     add_number(text, ", 'G", row.group)?;

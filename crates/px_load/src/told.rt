@@ -126,7 +126,7 @@ fn items_of(transcripts: &[Transcript]) -> &[Item]
 /// Adds what is told of a load: the first refusal, or else how many rows there are by the table and by the index, and what their amounts come
 /// to. Where no memory is found the line has a part of it.
 pub fn print_load(load: Load, transcripts: &Transcripts, to: &mut Line) -> Result<(), AllocError>
-    ensures { OnOk result (to.new ≡ to.old ++ spec.told load transcripts.now) }
+    ensures { OnOk result (to.new ≡ to.old ++ spec.told_of_load load transcripts.now) }
 {
     let items = items_of(transcripts.as_slice());
     if add_first_refusal(items, to)? {

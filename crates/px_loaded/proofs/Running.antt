@@ -14,11 +14,11 @@ use Rattle.px_script.specs.Scripts.{script_of}
 use Rattle.px_script.specs.declared.script.SessionText.{SessionText}
 use Rattle.px_load.specs.declared.script.Load.{Load}
 use Rattle.px_load.specs.Script.{load_text}
-use Rattle.px_load.specs.Told.{told}
+use Rattle.px_load.specs.Told.{told_of_load}
 use Rattle.px_loaded.specs.Loads.{RanLoad}
 use Rattle.px_rounds.specs.Rounds.{RanScript}
 use Rattle.px_rounds.specs.Turns.{IsSingle}
-use Rattle.px_rounds.specs.Written.{IsWritten, WritesRound}
+use Rattle.px_rounds.specs.Written.{IsTextWritten, WritesRound}
 use Rattle.px_rounds.proofs.Waying.{nothing_written}
 
 -- steps with which nothing was done
@@ -51,16 +51,16 @@ pub unrun : (sound : Type 0) (k : Known) (load : Load) (ts : List Transcript) (m
 unrun sound k load ts memory nothing none lacked = inr (record { still = ap length nothing; none = none; lacked = lacked })
 
 -- nothing is told of no replies
-pub none_told : {O : Type 0} (K : Ghosts O) (out : O) (load : Load) (ts : List Transcript) (memory : Bool) → ts ≡ [] → IsWritten K out out (told load ts) false memory
-unfolding told
-none_told K out load ts memory none = subst (λ (l : List Transcript). IsWritten K out out (told load l) false memory) (sym none) (nothing_written K out memory)
+pub none_told : {O : Type 0} (K : Ghosts O) (out : O) (load : Load) (ts : List Transcript) (memory : Bool) → ts ≡ [] → IsTextWritten K out out (told_of_load load ts) false memory
+unfolding told_of_load
+none_told K out load ts memory none = subst (λ (l : List Transcript). IsTextWritten K out out (told_of_load load l) false memory) (sym none) (nothing_written K out memory)
 
 pub or_lacked : (a b : Bool) → a ≡ true → (a || b) ≡ true
 or_lacked true b h = refl
 or_lacked false b h = cc
 
 -- what is written at once, where memory may have been lacked before
-pub once : {O : Type 0} (K : Ghosts O) (out out' : O) (text : List ℕ) (sink print lacked : Bool) → WritesRound K out out' text sink print → IsWritten K out out' text sink (lacked || print)
+pub once : {O : Type 0} (K : Ghosts O) (out out' : O) (text : List ℕ) (sink print lacked : Bool) → WritesRound K out out' text sink print → IsTextWritten K out out' text sink (lacked || print)
 once {O} K out out' text true print lacked w = record {
   bytes = λ tells.
       let got = w.1 tells in

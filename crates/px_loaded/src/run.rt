@@ -1,10 +1,10 @@
 // The run of a load.
 ghost use Rattle.std.specs.Prelude.{◌≡◌, ◌≤◌, [], true, IfOk};
 ghost use Rattle.px_load.specs.Script.{load_text as text_of};
-ghost use Rattle.px_load.specs.Told.{told};
+ghost use Rattle.px_load.specs.Told.{told_of_load};
 ghost use Rattle.px_loaded.specs.Loads.{RanLoad};
-ghost use Rattle.px_rounds.specs.Turns.{GoesOn};
-ghost use Rattle.px_rounds.specs.Written.{IsWritten};
+ghost use Rattle.px_rounds.specs.Turns.{TrailGoesOn};
+ghost use Rattle.px_rounds.specs.Written.{IsTextWritten};
 ghost use Rattle.px_script.specs.Scripts.{script_of};
 
 use crate::writing::{Unread, write_told};
@@ -44,9 +44,9 @@ pub fn run_load<R: Threads + Wait + Sync, S: Single + Send, O: Sink>(
     requires rows { load.rows ≤ 100000 }
     requires alone { (S.known server).alone ≡ true }
     requires nothing { (S.known server).seen ≡ [] }
-    ensures goes { GoesOn (S.known server) (S.known result.server) }
+    ensures goes { TrailGoesOn (S.known server) (S.known result.server) }
     ensures ran { RanLoad S.sound (S.known result.server) 0 load result.transcripts result.memory }
-    ensures written { IsWritten ⟦<O as Sink>⟧ out.old out.new (told load result.transcripts) result.sink_failed result.memory }
+    ensures written { IsTextWritten ⟦<O as Sink>⟧ out.old out.new (told_of_load load result.transcripts) result.sink_failed result.memory }
 {
     let Ok(script) = script_of_load(alloc, load) else {
         return Rounds {

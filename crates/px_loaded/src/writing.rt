@@ -1,6 +1,6 @@
 // What is told of a load is written.
 ghost use Rattle.std.specs.Prelude.{◌≡◌, false};
-ghost use Rattle.px_load.specs.Told.{told};
+ghost use Rattle.px_load.specs.Told.{told_of_load};
 ghost use Rattle.px_rounds.specs.Written.{WritesRound};
 
 use px_load::{Load, print_load};
@@ -34,7 +34,7 @@ pub fn write_told<O: Sink>(
     transcripts: &Transcripts,
     out: &mut O,
 ) -> (bool, bool)
-    ensures { WritesRound ⟦<O as Sink>⟧ out.old out.new (told load transcripts.now) result.0 result.1 }
+    ensures { WritesRound ⟦<O as Sink>⟧ out.old out.new (told_of_load load transcripts.now) result.0 result.1 }
 {
     let mut line = Line::new(alloc);
     let Ok(()) = print_load(load, transcripts, &mut line) else {

@@ -19,7 +19,7 @@ use Rattle.px_merge.specs.Merged.{joined}
 use Rattle.px_merge.specs.Settle.{settle}
 use Rattle.px_merge.proofs.Settling.{settle_back, settle_sorted}
 use Rattle.px_wal.specs.Snapshot.{FileData}
-use Rattle.px_files.specs.Files.{HasFile, HaveFiles}
+use Rattle.px_files.specs.Files.{HasFileCells, HaveFiles}
 
 -- ---- blocks
 
@@ -80,7 +80,7 @@ module _ {D : Type 0} (d : Ghosts D) (region : ℕ) where
     pub list : List CellData
     pub others : List FileData
     pub behind : List (List CellData)
-    pub has : HasFile d region disk file o list
+    pub has : HasFileCells d region disk file o list
     pub have : HaveFiles d region disk others (take (length files - 1) (drop 1 files)) behind
     pub cut : lists ≡ list ∷ behind
 
@@ -93,7 +93,7 @@ module _ {D : Type 0} (d : Ghosts D) (region : ℕ) where
     list = l;
     others = named;
     behind = lists;
-    has = subst (λ (y : RegionFile). HasFile d region disk f y l) (sym is) have.0;
+    has = subst (λ (y : RegionFile). HasFileCells d region disk f y l) (sym is) have.0;
     have = subst (λ (l : List RegionFile). HaveFiles d region disk named l lists) (sym (take_rest (x ∷ files) 1)) have.1;
     cut = refl;
   }

@@ -20,7 +20,7 @@ use Rattle.px_trail.specs.Answers.{IsAmong}
 use Rattle.px_calls.specs.Looks.{key_found}
 use Rattle.px_calls.specs.declared.query.FoundKey.{FoundKey}
 use Rattle.px_looks.specs.Found.{AreFoundIn, RowContents, at_key}
-use Rattle.px_looks.specs.Keys.{IsWithin}
+use Rattle.px_looks.specs.Keys.{IsBetweenKeys}
 use Rattle.px_looks.specs.inner.Among.{FoundAmong, IsKeyAmong}
 use Rattle.px_looks.proofs.Cut.{below_key, key_in_rows, no_cell}
 use Rattle.px_looks.proofs.KeyOrder.{equal, higher, keys_by, lower}
@@ -147,12 +147,12 @@ module _ (shows : List ℕ → RowContents → FoundKey → Type 0) (cells : Lis
 
   module _ (all : List CellData) (low : List ℕ) (high : Option (List ℕ)) (are : AreRows all low high cells) where
     -- within the range the cells have what the whole has
-    pub same_within : (k : List ℕ) → IsWithin low high k → at_key (value_at cells) k ≡ at_key (value_at all) k
+    pub same_within : (k : List ℕ) → IsBetweenKeys low high k → at_key (value_at cells) k ≡ at_key (value_at all) k
     same_within k in_range = λ i q s d. option_same (value_at cells k q s d) (value_at all k q s d)
         (λ v e. value_from_reads all k q s d v ((are.exact (cell_of k q s d v)).0 (reads_from_value cells k q s d v e)).0)
         (λ v e. value_from_reads cells k q s d v ((are.exact (cell_of k q s d v)).1 (reads_from_value all k q s d v e, in_range))) i
 
-    pub key_within : (i : ℕ) → i < length cells → IsWithin low high (key_at cells i)
+    pub key_within : (i : ℕ) → i < length cells → IsBetweenKeys low high (key_at cells i)
     key_within i lt = key_in_rows all low high cells are i lt
 
     -- all of a range
@@ -161,7 +161,7 @@ module _ (shows : List ℕ → RowContents → FoundKey → Type 0) (cells : Lis
     found_in fs some h = record {
       rising = h.rising;
       right = λ f a. (let o = h.own f a in
-          let in_range : IsWithin low high (key_found f) = subst (IsWithin low high) o.is (key_within o.place o.within) in
+          let in_range : IsBetweenKeys low high (key_found f) = subst (IsBetweenKeys low high) o.is (key_within o.place o.within) in
           (in_range, subst (λ (g : RowContents). shows (key_found f) g f) (same_within (key_found f) in_range) (h.right f a)));
       whole = λ k f in_range sh. (let s = some k (at_key (value_at all) k) f sh in
           let cell = cell_of k s.0 s.1 s.2 s.3 in

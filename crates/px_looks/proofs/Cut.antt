@@ -16,7 +16,7 @@ use Rattle.px_cells.proofs.Orders.{below_from_order, not_below_itself, below_tra
 use Rattle.px_cells.proofs.Orders.Order.{by_key}
 use Rattle.px_region.specs.Giving.{begins_row, key_at, rows_before}
 use Rattle.px_region.proofs.Given.{begins_first, begins_next, row_none, row_step}
-use Rattle.px_looks.specs.Keys.{IsWithin, next_key}
+use Rattle.px_looks.specs.Keys.{IsBetweenKeys, next_key}
 use Rattle.px_looks.specs.inner.Lent.{AreFirst}
 use Rattle.px_looks.proofs.KeyOrder.{before_up, equal, higher, key_itself, keys_by, less_next, lower, next_less}
 
@@ -156,7 +156,7 @@ has_at [] i d lt = absurd (omega arith)
 has_at (c ∷ cells) zero d lt = inl refl
 has_at (c ∷ cells) (suc i) d lt = inr (has_at cells i d (omega arith))
 
-pub key_in_rows : (all : List CellData) (low : List ℕ) (high : Option (List ℕ)) (rows : List CellData) → AreRows all low high rows → (i : ℕ) → i < length rows → IsWithin low high (key_at rows i)
+pub key_in_rows : (all : List CellData) (low : List ℕ) (high : Option (List ℕ)) (rows : List CellData) → AreRows all low high rows → (i : ℕ) → i < length rows → IsBetweenKeys low high (key_at rows i)
 key_in_rows all low high rows are i lt = ((are.exact (get_or rows i no_cell)).0 (reads_from_has rows (get_or rows i no_cell) are.ascending (has_at rows i no_cell lt))).1
 
 -- what is lent where so many rows are wanted
@@ -165,7 +165,7 @@ pub record IsTaken (cells : List CellData) (low : List ℕ) (high : Option (List
   pub few : rows_before got (length got) ≤ most
   pub all : rows < most → AreRows cells low high got
   pub part : 0 < length got → AreRows cells low (Some (next_key (key_at got (length got - 1)))) got
-  pub within : 0 < length got → IsWithin low high (key_at got (length got - 1))
+  pub within : 0 < length got → IsBetweenKeys low high (key_at got (length got - 1))
 
 module _ (cells : List CellData) (low : List ℕ) (high : Option (List ℕ)) (most rows : ℕ) (all got : List CellData) (fits : rows ≤ 18446744073709551615) (are : AreRows cells low high all) (first : AreFirst all most rows got) where
   len : length (take first.count all) ≡ first.count
@@ -200,5 +200,5 @@ module _ (cells : List CellData) (low : List ℕ) (high : Option (List ℕ)) (mo
         few = (let r = rows_of in let f = first.few in omega arith);
         all = whole;
         part = λ some. subst (λ (k : List ℕ). AreRows cells low (Some (next_key k)) (take first.count all)) (sym (last_key some)) (first_to cells low high all first.count are first.within begins (from some));
-        within = λ some. subst (IsWithin low high) (sym (last_key some)) (key_in_rows cells low high all are (first.count - 1) (let f = from some in let w = first.within in omega arith));
+        within = λ some. subst (IsBetweenKeys low high) (sym (last_key some)) (key_in_rows cells low high all are (first.count - 1) (let f = from some in let w = first.within in omega arith));
       })

@@ -12,7 +12,7 @@ use Rattle.px_tables.specs.declared.table.Table.{Table}
 use Rattle.px_keys.specs.Spelling.{IsKeyOf}
 use Rattle.px_keys.proofs.KeyOrders.{spelled_same}
 use Rattle.px_values.specs.declared.row.Value.TheVariants.{Null}
-use Rattle.px_paths.specs.Paths.{columns_on, index_path, value_among}
+use Rattle.px_paths.specs.Paths.{columns_on, index_path, value_on_path}
 use Rattle.px_paths.specs.declared.path.PathColumn.{PathColumn}
 use Rattle.px_calls.specs.Looks.{key_found}
 use Rattle.px_calls.specs.declared.query.FoundKey.{FoundKey}
@@ -32,19 +32,19 @@ unfolding columns_shown
 columns_none t x values stored = refl
 
 -- the value of a column among those of a key
-pub among_no_part : (path : List PathColumn) (values : List Value) (c : ℕ) → length path < 1 → Null ≡ value_among path values c
-unfolding value_among
+pub among_no_part : (path : List PathColumn) (values : List Value) (c : ℕ) → length path < 1 → Null ≡ value_on_path path values c
+unfolding value_on_path
 among_no_part [] values c l = refl
 among_no_part (p ∷ path) values c l = absurd (omega arith)
 
-pub among_no_value : (path : List PathColumn) (values : List Value) (c : ℕ) → length values < 1 → Null ≡ value_among path values c
-unfolding value_among
+pub among_no_value : (path : List PathColumn) (values : List Value) (c : ℕ) → length values < 1 → Null ≡ value_on_path path values c
+unfolding value_on_path
 among_no_value [] values c l = refl
 among_no_value (p ∷ path) [] c l = refl
 among_no_value (p ∷ path) (v ∷ values) c l = absurd (omega arith)
 
-pub among_first : (path : List PathColumn) (values : List Value) (c : ℕ) (d : PathColumn) (v : Value) → 1 ≤ length path → 1 ≤ length values → v ≡ get_or values 0 v → (get_or path 0 d).place ≡ c → v ≡ value_among path values c
-unfolding value_among
+pub among_first : (path : List PathColumn) (values : List Value) (c : ℕ) (d : PathColumn) (v : Value) → 1 ≤ length path → 1 ≤ length values → v ≡ get_or values 0 v → (get_or path 0 d).place ≡ c → v ≡ value_on_path path values c
+unfolding value_on_path
 among_first [] values c d v l m is e = absurd (omega arith)
 among_first (p ∷ path) [] c d v l m is e = absurd (omega arith)
 among_first (p ∷ path) (w ∷ values) c d v l m is e = is ∙ sym (cond-true _ _ _ (eq-eqb _ _ e))
@@ -53,8 +53,8 @@ pub rest_is : {X : Type 0} (xs : List X) → take (length xs - 1) (drop 1 xs) �
 rest_is [] = refl
 rest_is (x ∷ xs) = take_all (length (x ∷ xs) - 1) xs (omega arith)
 
-pub among_other : (path : List PathColumn) (values : List Value) (c : ℕ) (d : PathColumn) → 1 ≤ length path → 1 ≤ length values → ((get_or path 0 d).place ≡ c → ⊥) → value_among (drop 1 path) (drop 1 values) c ≡ value_among path values c
-unfolding value_among
+pub among_other : (path : List PathColumn) (values : List Value) (c : ℕ) (d : PathColumn) → 1 ≤ length path → 1 ≤ length values → ((get_or path 0 d).place ≡ c → ⊥) → value_on_path (drop 1 path) (drop 1 values) c ≡ value_on_path path values c
+unfolding value_on_path
 among_other [] values c d l m n = absurd (omega arith)
 among_other (p ∷ path) [] c d l m n = absurd (omega arith)
 among_other (p ∷ path) (w ∷ values) c d l m n = sym (cond-false _ _ _ (ne_eqb _ _ n))

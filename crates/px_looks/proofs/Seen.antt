@@ -18,7 +18,7 @@ use Rattle.px_rows.specs.inner.Found.{AreOf}
 use Rattle.px_world.specs.World.{read_at}
 use Rattle.px_looks.specs.declared.version.KeyVersion.{KeyVersion}
 use Rattle.px_looks.specs.Found.{RowContents, at_key}
-use Rattle.px_looks.specs.Versions.{HasNoDelete, is_verified, stamp_seen, value_seen, version_at, version_of}
+use Rattle.px_looks.specs.Versions.{HasNoDelete, is_verified, stamp_seen, value_seen, version_at, version_of_stamp}
 use Rattle.px_looks.specs.inner.Seen.{AreSeen, cell_in, value_if, value_in}
 
 -- ---- the first that passes
@@ -105,10 +105,10 @@ module _ (h : RowContents) (p : ℕ) (seen : List CellData) (are : AreSeen h p s
 
   module _ (columns : List ℕ) where
     pub version_none : cell_in seen 1 ≡ None → None ≡ version_at h columns p
-    version_none e = sym (ap (version_of h columns p) (unseen 1 e))
+    version_none e = sym (ap (version_of_stamp h columns p) (unseen 1 e))
 
     pub version_some : (c : CellData) → cell_in seen 1 ≡ Some c → (v : KeyVersion) → v.stamp ≡ c.stamp → v.verified ≡ is_verified (Some c.value) → v.values ≡ map (λ x. value_in seen (suc (suc x))) columns → Some v ≡ version_at h columns p
-    version_some c e v stamp verified values = sym (ap (version_of h columns p) (stamp_there 1 c e) ∙ (λ i. Some (record {
+    version_some c e v stamp verified values = sym (ap (version_of_stamp h columns p) (stamp_there 1 c e) ∙ (λ i. Some (record {
       stamp = sym stamp i;
       verified = (ap is_verified (put_there 1 c e) ∙ sym verified) i;
       values = (ap (λ (f : ℕ → Option (List ℕ)). map f columns) (λ j x. sym (value_is (suc (suc x))) j) ∙ sym values) i;

@@ -14,7 +14,7 @@ use Rattle.px_tables.specs.declared.table.Table.{Table}
 use Rattle.px_keys.specs.Spelling.{Fits, IsKeyOf}
 use Rattle.px_keys.specs.declared.parts.KeyColumn.{KeyColumn}
 use Rattle.px_rows.specs.Keys.{row_columns, row_key}
-use Rattle.px_rows.specs.Spelled.{IsPlainAt, column_at, overlay, row_form, state_if, table_form}
+use Rattle.px_rows.specs.Spelled.{IsPlainAt, column_at, overlay, row_form, row_spelling, state_if}
 use Rattle.px_rows.specs.inner.Found.{AreOf}
 use Rattle.px_rows.proofs.KeysBack.{row_key-apart, row_key-fits}
 use Rattle.px_rows.proofs.Spelled.{table_laws}
@@ -56,7 +56,7 @@ seen_stands g k q p s e = some_from (g k q s Put) (and_parts _ _ (newest-is (sto
 
 -- a row that stands has its empty column
 pub row_stands : (t : Table) (g : Contents) (r row : List Value) (p : ℕ) → (row_form t).spelled g r p ≡ Some row → (s : ℕ) × (v : List ℕ) × (g (row_key t r) 1 s Put ≡ Some v)
-row_stands t g r row p e = by (seen_at g (row_key t r) 1 p) refl (overlay (column_at (table_form t) g r p) 0 (fresh_row (table_form t).shape r)) e
+row_stands t g r row p e = by (seen_at g (row_key t r) 1 p) refl (overlay (column_at (row_spelling t) g r p) 0 (fresh_row (row_spelling t).shape r)) e
   where
     by : (o : Option ℕ) → seen_at g (row_key t r) 1 p ≡ o → (values : List Value) → state_if o values ≡ Some row → (s : ℕ) × (v : List ℕ) × (g (row_key t r) 1 s Put ≡ Some v)
     by None is values h = absurd (let z : None ≡ Some row = h in cc)

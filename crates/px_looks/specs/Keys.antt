@@ -9,5 +9,5 @@ abbrev pub next_key : List ℕ → List ℕ
 next_key k = k ++ 0 ∷ []
 
 -- the key is one from `low` on and, if it is given, below `high`
-abbrev pub IsWithin : List ℕ → Option (List ℕ) → List ℕ → Type 0
-IsWithin low high k = (key_cmp k low ≢ Less) × IsBeforeEnd k high
+abbrev pub IsBetweenKeys : List ℕ → Option (List ℕ) → List ℕ → Type 0
+IsBetweenKeys low high k = (key_cmp k low ≢ Less) × IsBeforeEnd k high

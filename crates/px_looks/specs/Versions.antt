@@ -27,10 +27,10 @@ is_verified None = false
 is_verified (Some v) = pointwise nat_eq v (verified_byte ∷ [])
 
 -- the version of a stamp, with what a point sees of these columns of the table
-abbrev pub version_of : RowContents → List ℕ → ℕ → Option ℕ → Option KeyVersion
-version_of h columns p None = None
-version_of h columns p (Some s) = Some (record { stamp = s; verified = is_verified (h 1 s Put); values = map (λ c. value_seen h (suc (suc c)) p) columns })
+abbrev pub version_of_stamp : RowContents → List ℕ → ℕ → Option ℕ → Option KeyVersion
+version_of_stamp h columns p None = None
+version_of_stamp h columns p (Some s) = Some (record { stamp = s; verified = is_verified (h 1 s Put); values = map (λ c. value_seen h (suc (suc c)) p) columns })
 
 -- the version that a point sees: that of the newest put of the status
 abbrev pub version_at : RowContents → List ℕ → ℕ → Option KeyVersion
-version_at h columns p = version_of h columns p (stamp_seen h 1 p)
+version_at h columns p = version_of_stamp h columns p (stamp_seen h 1 p)

@@ -6,12 +6,12 @@ ghost use Rattle.px_cells.specs.Order.{IsCellList};
 ghost use Rattle.px_cells.specs.Sight.{IsPlainRegion};
 ghost use Rattle.px_region.specs.Promise.{IsAlike, IsSamePromise};
 ghost use Rattle.px_region.specs.Region.{read_of};
-ghost use Rattle.px_paths.specs.Paths.{columns_on, index_path as path_of, value_among as value_in_key};
+ghost use Rattle.px_paths.specs.Paths.{columns_on, index_path as path_of, value_on_path};
 ghost use Rattle.px_rows.specs.Keys.{IsRightTable, column_in};
 ghost use Rattle.px_rows.specs.inner.Found.{AreOf};
 ghost use Rattle.px_looks.specs.Counted.{HasCounted};
 ghost use Rattle.px_looks.specs.Found.{AreNext, at_key};
-ghost use Rattle.px_looks.specs.IndexKeys.{ShowsKey, column_shown, columns_shown, found_at, found_with, is_included as includes, row_shown, value_from};
+ghost use Rattle.px_looks.specs.IndexKeys.{ShowsKey, column_shown, columns_shown, found_at, found_with, is_included as includes, shown_of_key, value_or_null};
 ghost use Rattle.px_looks.specs.Versions.{HasNoDelete, is_verified as verified_by};
 ghost use Rattle.px_looks.specs.inner.Seen.{value_in};
 
@@ -36,7 +36,7 @@ pub fn value_among(
     values: &[Value],
     place: usize,
 ) -> Result<Value, AllocError>
-    ensures { IfOk result (λ value. value ≡ value_in_key path.now values.now place) }
+    ensures { IfOk result (λ value. value ≡ value_on_path path.now values.now place) }
 {
     match path {
         [] => Ok(Value::Null),
@@ -67,7 +67,7 @@ fn is_included(index: &Index, place: usize) -> bool
 fn stored_in(alloc: Global, table: &Table, puts: &[Cell], place: usize) -> Result<Value, AllocError>
     requires table { IsRightTable table.now }
     requires within { place < length table.now.columns }
-    ensures { IfOk result (λ value. value ≡ value_from (column_in table.now.columns place).column_type (value_in puts.now (suc (suc place)))) }
+    ensures { IfOk result (λ value. value ≡ value_or_null (column_in table.now.columns place).column_type (value_in puts.now (suc (suc place)))) }
 {
     match put_of(puts, FIRST + place as u64) {
         Some(cell) => {
@@ -110,7 +110,7 @@ fn row_of(
 ) -> Result<Row, AllocError>
     requires table { IsRightTable table.now }
     requires path { path.now ≡ path_of table.now index.now }
-    ensures { IfOk result (λ row. row ≡ row_shown table.now index.now values.now (value_in puts.now)) }
+    ensures { IfOk result (λ row. row ≡ shown_of_key table.now index.now values.now (value_in puts.now)) }
 {
     let count = table.columns.as_slice().len();
     let mut row = Vec::with_capacity(alloc, count)?;

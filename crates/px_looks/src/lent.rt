@@ -5,7 +5,7 @@ ghost use Rattle.px_cells.specs.Order.{IsAscending};
 ghost use Rattle.px_cells.specs.Rows.{AreRows};
 ghost use Rattle.px_region.specs.Giving.{begins_row, key_at, rows_before};
 ghost use Rattle.px_region.specs.Region.{read_of};
-ghost use Rattle.px_looks.specs.Keys.{IsWithin, next_key};
+ghost use Rattle.px_looks.specs.Keys.{IsBetweenKeys, next_key};
 ghost use Rattle.px_looks.specs.inner.Lent.{AreFirst, IsRowEnd};
 
 use px_cells::{Cell, place_after};
@@ -93,7 +93,7 @@ pub(crate) fn lend<'a>(region: &'a Region, low: &[u8], high: Option<&[u8]>, most
     ensures few { rows_before result.cells.now (length result.cells.now) ≤ result.most }
     ensures all { result.rows < result.most → AreRows (read_of region.now) low.now (option_copied high.entry) result.cells.now }
     ensures part { 0 < length result.cells.now → AreRows (read_of region.now) low.now (Some (next_key (key_at result.cells.now (length result.cells.now - 1)))) result.cells.now }
-    ensures within { 0 < length result.cells.now → IsWithin low.now (option_copied high.entry) (key_at result.cells.now (length result.cells.now - 1)) }
+    ensures within { 0 < length result.cells.now → IsBetweenKeys low.now (option_copied high.entry) (key_at result.cells.now (length result.cells.now - 1)) }
     ensures most { result.most ≤ most }
     ensures some { 0 < most → 0 < result.most }
 {

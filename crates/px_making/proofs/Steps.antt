@@ -9,7 +9,7 @@ use Rattle.px_cells.proofs.Among.{ascending_right}
 use Rattle.px_cellbytes.specs.Spelling.{IsShortEnough}
 use Rattle.px_cellbytes.specs.Reading.{IsBare, IsInRange, IsWritten}
 use Rattle.px_block.specs.Reading.{ComesAfter}
-use Rattle.px_file.specs.Files.{HasWritten}
+use Rattle.px_file.specs.Files.{HasWrittenBlocks}
 use Rattle.px_file.specs.Format.{cells_in}
 use Rattle.px_file.specs.declared.writer.FileWriter.{FileWriter}
 use Rattle.px_file.proofs.Blocks.{cells_push}
@@ -51,7 +51,7 @@ take_more_of (suc n) m [] = take_none (suc n + m) ∙ sym (take_none m)
 take_more_of (suc n) m (c ∷ cells) = (let e : suc n + m ≡ suc (n + m) = omega arith in ap (λ (k : ℕ). take k (c ∷ cells)) e ∙ ap (λ (l : List CellData). c ∷ l) (take_more_of n m cells))
 
 module _ {D : Type 0} (d : Ghosts D) where
-  pub made_more : (old new : Making) (disk disk' : D) (cells : List CellData) (making : IsMaking d old disk cells) (n : ℕ) → HasWritten d new.writer disk' (making.blocks ++ take n (take (length cells - old.done) (drop old.done cells)) ∷ [])
+  pub made_more : (old new : Making) (disk disk' : D) (cells : List CellData) (making : IsMaking d old disk cells) (n : ℕ) → HasWrittenBlocks d new.writer disk' (making.blocks ++ take n (take (length cells - old.done) (drop old.done cells)) ∷ [])
       → n ≤ length (take (length cells - old.done) (drop old.done cells)) → (n < length (take (length cells - old.done) (drop old.done cells)) → new.writer.full ≡ true) → new.done ≡ old.done + n → IsMaking d new disk' cells
   made_more old new disk disk' cells making n written le full done =
       let rest = take_rest cells old.done in

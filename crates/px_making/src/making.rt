@@ -26,12 +26,12 @@ pub struct Making {
 }
 
 impl Making {
-    ghost use Rattle.px_making.specs.Making.{HasCells, IsMade, IsMaking, file_of};
+    ghost use Rattle.px_making.specs.Making.{HasCells, IsFileMade, IsMaking, file_made};
 
     /// Begins a file, whatever its cells will be: it is cut to nothing, and its first bytes are written.
     pub fn begin<D: Disk>(alloc: Global, disk: &mut D, file: u64) -> Result<Making, MakeFault>
         ensures begun { (cells : List CellData) → IfOk result (λ making. IsMaking ⟦<D as Disk>⟧ making disk.new cells) }
-        ensures file { IfOk result (λ making. file_of making ≡ file) }
+        ensures file { IfOk result (λ making. file_made making ≡ file) }
         ensures failed { result ≡ Err MakeFault.WriteFault → Rose ⟦<D as Disk>⟧ disk.old disk.new }
         ensures never { result ≢ Err MakeFault.Full }
         ensures touches { TouchesOnly ⟦<D as Disk>⟧ disk.old disk.new (λ touched. touched ≡ file) }
@@ -51,10 +51,10 @@ impl Making {
         requires { IsWritten cells.now }
         ensures done { IsMaking ⟦<D as Disk>⟧ self.old disk.old cells.now → OnOk result (IsMaking ⟦<D as Disk>⟧ self.new disk.new cells.now) }
         ensures all { IsMaking ⟦<D as Disk>⟧ self.old disk.old cells.now → result ≡ Ok MakeStep.Done → HasCells ⟦<D as Disk>⟧ self.new disk.new cells.now }
-        ensures file { file_of self.new ≡ file_of self.old }
+        ensures file { file_made self.new ≡ file_made self.old }
         ensures failed { result ≡ Err MakeFault.WriteFault → Rose ⟦<D as Disk>⟧ disk.old disk.new }
         ensures unwritten { IsErr result → result ≢ Err MakeFault.WriteFault → disk.new ≡ disk.old }
-        ensures touches { TouchesOnly ⟦<D as Disk>⟧ disk.old disk.new (λ touched. touched ≡ file_of self.old) }
+        ensures touches { TouchesOnly ⟦<D as Disk>⟧ disk.old disk.new (λ touched. touched ≡ file_made self.old) }
         ensures counts { Passes ⟦<D as Disk>⟧ disk.old disk.new 1 }
     {
         if self.done >= cells.len() {
@@ -70,11 +70,11 @@ impl Making {
 
     /// Writes index and footer, and brings the file to the disk.
     pub fn finish<D: Disk>(self, alloc: Global, disk: &mut D) -> Result<RegionFile, MakeFault>
-        ensures done { (cells : List CellData) → HasCells ⟦<D as Disk>⟧ self disk.old cells → IfOk result (λ file. IsMade ⟦<D as Disk>⟧ file disk.new cells) }
-        ensures file { IfOk result (λ file. file.file ≡ file_of self) }
+        ensures done { (cells : List CellData) → HasCells ⟦<D as Disk>⟧ self disk.old cells → IfOk result (λ file. IsFileMade ⟦<D as Disk>⟧ file disk.new cells) }
+        ensures file { IfOk result (λ file. file.file ≡ file_made self) }
         ensures failed { result ≡ Err MakeFault.WriteFault → Rose ⟦<D as Disk>⟧ disk.old disk.new }
         ensures never { result ≢ Err MakeFault.Full }
-        ensures touches { TouchesOnly ⟦<D as Disk>⟧ disk.old disk.new (λ touched. touched ≡ file_of self) }
+        ensures touches { TouchesOnly ⟦<D as Disk>⟧ disk.old disk.new (λ touched. touched ≡ file_made self) }
         ensures counts { Passes ⟦<D as Disk>⟧ disk.old disk.new 2 }
     {
         let Making { writer, done: _ } = self;

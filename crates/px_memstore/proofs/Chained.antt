@@ -9,7 +9,7 @@ use Rattle.px_cells.specs.Among.{Has}
 use Rattle.px_cells.specs.Order.{IsAscending, IsSettled, Reads, SamePlace, key_cmp}
 use Rattle.px_cells.proofs.Among.{HasNone, ascending_join, ascending_left, ascending_right, has_all, has_append, has_from_reads, has_left, has_right, reads_append, reads_from_has, reads_left, reads_right}
 use Rattle.px_cells.proofs.Orders.{below_from_order, by_key, equal_key}
-use Rattle.px_memstore.specs.Pieces.{AreApart, KeysApart, chained}
+use Rattle.px_memstore.specs.Pieces.{ArePiecesApart, KeysApart, chained}
 use Rattle.px_memstore.specs.inner.Pieces.{IsFilled, cut_at}
 
 -- ---- lists of pieces
@@ -45,22 +45,22 @@ has_next (p ∷ ps) (suc at) c l h = elim (has_append p (chained (take (at + 1) 
 
 -- ---- pieces that are apart
 
-pub apart_left : (xs ys : List (List CellData)) → AreApart (xs ++ ys) → AreApart xs
+pub apart_left : (xs ys : List (List CellData)) → ArePiecesApart (xs ++ ys) → ArePiecesApart xs
 apart_left [] ys a = tt
 apart_left (x ∷ xs) ys a = (a.0, (λ m n h g. a.1 m n h (subst (λ (l : List CellData). Has l n) (sym (chained_append xs ys)) (has_left (chained xs) (chained ys) n g))), apart_left xs ys a.2)
 
-pub apart_right : (xs ys : List (List CellData)) → AreApart (xs ++ ys) → AreApart ys
+pub apart_right : (xs ys : List (List CellData)) → ArePiecesApart (xs ++ ys) → ArePiecesApart ys
 apart_right [] ys a = a
 apart_right (x ∷ xs) ys a = apart_right xs ys a.2
 
-pub apart_across : (xs ys : List (List CellData)) → AreApart (xs ++ ys) → KeysApart (chained xs) (chained ys)
+pub apart_across : (xs ys : List (List CellData)) → ArePiecesApart (xs ++ ys) → KeysApart (chained xs) (chained ys)
 apart_across [] ys a m n h g = absurd h
 apart_across (x ∷ xs) ys a m n h g = elim (has_append x (chained xs) m h) [
   | inl l ↦ a.1 m n l (subst (λ (l : List CellData). Has l n) (sym (chained_append xs ys)) (has_right (chained xs) (chained ys) n g))
   | inr r ↦ apart_across xs ys a.2 m n r g
 ]
 
-pub apart_join : (xs ys : List (List CellData)) → AreApart xs → AreApart ys → KeysApart (chained xs) (chained ys) → AreApart (xs ++ ys)
+pub apart_join : (xs ys : List (List CellData)) → ArePiecesApart xs → ArePiecesApart ys → KeysApart (chained xs) (chained ys) → ArePiecesApart (xs ++ ys)
 apart_join [] ys a b f = b
 apart_join (x ∷ xs) ys a b f = (
   a.0,
@@ -68,7 +68,7 @@ apart_join (x ∷ xs) ys a b f = (
   apart_join xs ys a.2 b (λ m n h g. f m n (has_right x (chained xs) m h) g),
 )
 
-pub chained_ascending : (ps : List (List CellData)) → AreApart ps → IsAscending (chained ps)
+pub chained_ascending : (ps : List (List CellData)) → ArePiecesApart ps → IsAscending (chained ps)
 chained_ascending [] a = tt
 chained_ascending (p ∷ ps) a = ascending_join p (chained ps) a.0 (chained_ascending ps a.2) (λ m n h g. below_from_order m n (by_key (a.1 m n h g)))
 
@@ -81,7 +81,7 @@ apart_none xs c f = has_all (λ x. SamePlace x c → ⊥) xs (λ x h s. f x h s.
 
 -- ---- all pieces but one stay
 
-module _ (ps : List (List CellData)) (at : ℕ) (l : at < length ps) (a : AreApart ps) where
+module _ (ps : List (List CellData)) (at : ℕ) (l : at < length ps) (a : ArePiecesApart ps) where
   abbrev front : List (List CellData)
   front = take at ps
 
@@ -91,8 +91,8 @@ module _ (ps : List (List CellData)) (at : ℕ) (l : at < length ps) (a : AreApa
   abbrev back : List (List CellData)
   back = drop (at + 1) ps
 
-  whole : AreApart (front ++ (piece ∷ back))
-  whole = subst AreApart (parts_at ps at l) a
+  whole : ArePiecesApart (front ++ (piece ∷ back))
+  whole = subst ArePiecesApart (parts_at ps at l) a
 
   pub piece_ascending : IsAscending piece
   piece_ascending = (apart_right front (piece ∷ back) whole).0
@@ -106,7 +106,7 @@ module _ (ps : List (List CellData)) (at : ℕ) (l : at < length ps) (a : AreApa
   pub front_back : KeysApart (chained front) (chained back)
   front_back m n h g = apart_across front (piece ∷ back) whole m n h (has_right piece (chained back) n g)
 
-  pub back_apart : AreApart back
+  pub back_apart : ArePiecesApart back
   back_apart = (apart_right front (piece ∷ back) whole).2
 
   -- the cells of the three parts are those of all
@@ -126,7 +126,7 @@ module _ (ps : List (List CellData)) (at : ℕ) (l : at < length ps) (a : AreApa
   ]
 
   -- other pieces in the place of one, with keys between those of the rest
-  pub apart_with : (qs : List (List CellData)) → AreApart qs → KeysApart (chained front) (chained qs) → KeysApart (chained qs) (chained back) → AreApart (front ++ (qs ++ back))
+  pub apart_with : (qs : List (List CellData)) → ArePiecesApart qs → KeysApart (chained front) (chained qs) → KeysApart (chained qs) (chained back) → ArePiecesApart (front ++ (qs ++ back))
   apart_with qs q under over = apart_join front (qs ++ back) (apart_left front (piece ∷ back) whole) (apart_join qs back q back_apart over)
       (λ m n h g. elim (has_append (chained qs) (chained back) n (subst (λ (l : List CellData). Has l n) (chained_append qs back) g)) [ inl x ↦ under m n h x | inr y ↦ front_back m n h y ])
 
@@ -141,7 +141,7 @@ module _ (ps : List (List CellData)) (at : ℕ) (l : at < length ps) (a : AreApa
     new_below : KeysApart new (chained back)
     new_below m n h g = elim (came m h) [ inl x ↦ over m n x g | inr y ↦ back_above m n y g ]
 
-    pub put_apart : AreApart (front ++ (new ∷ back))
+    pub put_apart : ArePiecesApart (front ++ (new ∷ back))
     put_apart = apart_with (new ∷ []) (put.ascending, (λ m n h g. absurd g), tt)
         (λ m n h g. new_above m n h (subst (λ (l : List CellData). Has l n) (append-nil new) g))
         (λ m n h g. new_below m n (subst (λ (l : List CellData). Has l m) (append-nil new) h) g)
@@ -248,7 +248,7 @@ module _ (ps : List (List CellData)) (at : ℕ) (l : at < length ps) (a : AreApa
     halves : IsAscending low × IsAscending high
     halves = (let s = subst IsAscending (sym both) piece_ascending in (ascending_left low high s, ascending_right low high s))
 
-    pub cut_apart : AreApart (cut_at ps at place)
+    pub cut_apart : ArePiecesApart (cut_at ps at place)
     cut_apart = apart_with (low ∷ (high ∷ []))
         (halves.0, (λ m n h g. rows m n h (subst (λ (l : List CellData). Has l n) (append-nil high) g)), (halves.1, (λ m n h g. absurd g), tt))
         (λ m n h g. front_below m n h (two n g))

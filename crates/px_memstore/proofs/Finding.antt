@@ -14,7 +14,7 @@ use Rattle.px_cells.specs.Order.{Below, IsAscending, Reads, key_cmp}
 use Rattle.px_cells.specs.Rows.{AllAbove, AllBelow, AreRows, IsBeforeEnd, IsRow}
 use Rattle.px_cells.proofs.Among.{all_has, ascending_join, has_all, has_append, has_from_reads, has_left, has_right, reads_from_has}
 use Rattle.px_cells.proofs.Orders.{Order, below_from_order, by_key, by_kind, by_qualifier, by_stamp, equal_key, key_equal, order_from_below}
-use Rattle.px_memstore.specs.Pieces.{AreApart, AreFirstRows, KeysApart, chained}
+use Rattle.px_memstore.specs.Pieces.{AreFirstRows, ArePiecesApart, KeysApart, chained}
 use Rattle.px_memstore.specs.inner.Pieces.{ArePieces, HasMore, IsFilled, IsPlace, begins_by, cut_at}
 use Rattle.px_memstore.proofs.Chained.{apart_right, back_above, chained_ascending, filled_at, front_below, has_back, has_next, has_parts, has_piece, less_not, piece_ascending, set_parts}
 
@@ -101,7 +101,7 @@ filled_of (p ∷ ps) zero d l f = f.0
 filled_of (p ∷ ps) (suc i) d l f = filled_of ps i d (omega arith) f.1
 
 -- where one begins at or below a key, so do those before it
-falls : (ps : List (List CellData)) (i j : ℕ) (d : List CellData) (key : List ℕ) → AreApart ps → AllByRecursion IsFilled ps → i ≤ j → j < length ps → begins_by (get_or ps j d) key ≡ true → begins_by (get_or ps i d) key ≡ true
+falls : (ps : List (List CellData)) (i j : ℕ) (d : List CellData) (key : List ℕ) → ArePiecesApart ps → AllByRecursion IsFilled ps → i ≤ j → j < length ps → begins_by (get_or ps j d) key ≡ true → begins_by (get_or ps i d) key ≡ true
 falls [] i j d key a f l h t = absurd (omega arith)
 falls (p ∷ ps) zero zero d key a f l h t = t
 falls (p ∷ ps) (suc i) zero d key a f l h t = absurd (omega arith)
@@ -113,12 +113,12 @@ falls ((c ∷ r) ∷ ps) zero (suc j) d key a f l h t = by (get_or ps j d) refl 
     by [] e g b = absurd (omega (arith, g))
     by (n ∷ s) e g b = ap is_le (less_to c.key n.key key (a.1 c n (inl refl) (has_first ps j d n s (omega arith) e)) b)
 
-pub parted_by : {X : Type 0} (f : X → List CellData) (xs : List X) (key : List ℕ) → AreApart (map f xs) → AllByRecursion IsFilled (map f xs) → IsPartitionedBy (λ x. begins_by (f x) key) xs
+pub parted_by : {X : Type 0} (f : X → List CellData) (xs : List X) (key : List ℕ) → ArePiecesApart (map f xs) → AllByRecursion IsFilled (map f xs) → IsPartitionedBy (λ x. begins_by (f x) key) xs
 parted_by f xs key a g i j d l h p =
     subst (λ (q : List CellData). begins_by q key ≡ true) (get_or-map f xs i d (f d) (omega arith))
     (falls (map f xs) i j (f d) key a g l (let n = length-map xs f in omega (arith, n, h)) (subst (λ (q : List CellData). begins_by q key ≡ true) (sym (get_or-map f xs j d (f d) h)) p))
 
-pub first_above : (p : List CellData) (rest : List (List CellData)) (key : List ℕ) → AreApart (p ∷ rest) → IsFilled p → begins_by p key ≡ false → AllAbove key (chained (p ∷ rest))
+pub first_above : (p : List CellData) (rest : List (List CellData)) (key : List ℕ) → ArePiecesApart (p ∷ rest) → IsFilled p → begins_by p key ≡ false → AllAbove key (chained (p ∷ rest))
 first_above [] rest key a g f = absurd (omega (arith, g))
 first_above (c ∷ r) rest key a g f = has_all (λ m. key_cmp m.key key ≡ Greater) ((c ∷ r) ++ chained rest) each
   where
@@ -135,11 +135,11 @@ first_above (c ∷ r) rest key a g f = has_all (λ m. key_cmp m.key key ≡ Grea
       | inr b ↦ greater_of key m.key (nat_list_cmp_total.trans key c.key m.key up (a.1 c m (inl refl) b))
     ]
 
-apart_from : (ps : List (List CellData)) (i : ℕ) → AreApart ps → AreApart (drop i ps)
-apart_from ps i a = apart_right (take i ps) (drop i ps) (subst AreApart (sym (take-append-drop i ps)) a)
+apart_from : (ps : List (List CellData)) (i : ℕ) → ArePiecesApart ps → ArePiecesApart (drop i ps)
+apart_from ps i a = apart_right (take i ps) (drop i ps) (subst ArePiecesApart (sym (take-append-drop i ps)) a)
 
 -- no row from a piece on is at or below a key, where that piece begins above it
-above_from : (ps : List (List CellData)) (i : ℕ) (key : List ℕ) → AreApart ps → AllByRecursion IsFilled ps → (i < length ps → begins_by (get_or ps i []) key ≡ false) → AllAbove key (chained (drop i ps))
+above_from : (ps : List (List CellData)) (i : ℕ) (key : List ℕ) → ArePiecesApart ps → AllByRecursion IsFilled ps → (i < length ps → begins_by (get_or ps i []) key ≡ false) → AllAbove key (chained (drop i ps))
 above_from [] i key a f h = subst (λ (l : List (List CellData)). AllAbove key (chained l)) (sym (drop_none [] i (omega arith))) tt
 above_from (p ∷ ps) zero key a f h = first_above p ps key a f.0 (h (omega arith))
 above_from (p ∷ ps) (suc i) key a f h = above_from ps i key a.2 f.1 (λ l. h (omega (arith, l)))
@@ -186,7 +186,7 @@ place_from {X} f first xs key i a l w v = place_is first (map f xs) key i a (let
 
 -- ---- a row
 
-pub row_at : (ps : List (List CellData)) (key : List ℕ) (at : ℕ) (row : List CellData) → AreApart ps → IsPlace ps key at → IsRow (get_or ps at []) key row → IsRow (chained ps) key row
+pub row_at : (ps : List (List CellData)) (key : List ℕ) (at : ℕ) (row : List CellData) → ArePiecesApart ps → IsPlace ps key at → IsRow (get_or ps at []) key row → IsRow (chained ps) key row
 row_at ps key at row a p r = record {
   ascending = r.ascending;
   exact = λ c. (
@@ -244,7 +244,7 @@ none_of : (xs : List CellData) → ((c : CellData) → Has xs c → ⊥) → xs 
 none_of [] f = refl
 none_of (x ∷ xs) f = absurd (f x (inl refl))
 
-module _ (ps : List (List CellData)) (j : ℕ) (low : List ℕ) (high : Option (List ℕ)) (first : List CellData) (all : Bool) (l : j < length ps) (a : AreApart ps)
+module _ (ps : List (List CellData)) (j : ℕ) (low : List ℕ) (high : Option (List ℕ)) (first : List CellData) (all : Bool) (l : j < length ps) (a : ArePiecesApart ps)
     (before : (c : CellData) → Has (chained (take j ps)) c → key_cmp c.key low ≢ Less → IsBeforeEnd c.key high → ⊥)
     (r : AreRows (get_or ps j []) low high first)
     (behind : (c : CellData) → Has (chained (drop (j + 1) ps)) c → key_cmp c.key low ≢ Less) where

@@ -9,7 +9,7 @@ use Rattle.px_cells.specs.Order.{IsAscending, IsSettled, Reads, ReadsSame, key_c
 use Rattle.px_cells.specs.Rows.{AllAbove, AllBelow, AllFrom, AllUpTo}
 use Rattle.px_cells.proofs.Among.{all_has, ascending_left, ascending_right, before_is_below, has_append, has_from_reads, has_right, reads_behind}
 use Rattle.px_cells.proofs.Orders.{equal_key}
-use Rattle.px_memstore.specs.Pieces.{AreApart, KeysApart, chained}
+use Rattle.px_memstore.specs.Pieces.{ArePiecesApart, KeysApart, chained}
 use Rattle.px_memstore.specs.inner.Pieces.{ArePieces, HasBegin, IsFilled, IsLast, IsPlace, IsPut, IsSame, begins_by, cut_at, lists}
 use Rattle.px_memstore.specs.declared.pieces.Pieces.{Pieces}
 use Rattle.px_memstore.proofs.Chained.{chained_ascending, cut_apart, cut_chained, filled_at, filled_with, front_below, put_apart, put_count, put_len, put_settled}
@@ -143,7 +143,7 @@ module _ (old new : Pieces) (batch : List CellData) (at from : ℕ) (q : List Ce
 
 -- ---- all pieces in one
 
-pub gathered : (ps : List (List CellData)) → AreApart ps → ArePieces (chained ps ∷ [])
+pub gathered : (ps : List (List CellData)) → ArePiecesApart ps → ArePieces (chained ps ∷ [])
 gathered ps a = record { apart = (chained_ascending ps a, (λ m n h g. absurd g), tt); filled = tt }
 
 pub last_gathered : (p batch : List CellData) → 0 < length batch → IsLast (p ∷ []) batch 0 0

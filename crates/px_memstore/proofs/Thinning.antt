@@ -11,7 +11,7 @@ use Rattle.px_cells.specs.Order.{Below, IsAscending, SamePlace, cell_cmp}
 use Rattle.px_cells.proofs.Among.{all_has, has_all}
 use Rattle.px_cells.proofs.Sights.{equal_from_place, place_from_equal}
 use Rattle.px_memstore.specs.Left.{has_place}
-use Rattle.px_memstore.specs.Pieces.{AreApart, KeysApart, chained}
+use Rattle.px_memstore.specs.Pieces.{ArePiecesApart, KeysApart, chained}
 use Rattle.px_memstore.specs.inner.Pieces.{ArePieces, IsFilled, is_filled}
 use Rattle.px_memstore.proofs.Placed.{eq_equal}
 
@@ -63,7 +63,7 @@ module _ (test : CellData → Bool) where
   chained_filter [] = refl
   chained_filter (p ∷ ps) = ap (λ (l : List CellData). filter test p ++ l) (chained_filter ps) ∙ sym (filter-append test p (chained ps))
 
-  filter_apart : (ps : List (List CellData)) → AreApart ps → AreApart (map (filter test) ps)
+  filter_apart : (ps : List (List CellData)) → ArePiecesApart ps → ArePiecesApart (map (filter test) ps)
   filter_apart [] a = tt
   filter_apart (p ∷ ps) a = (
     filter_ascending p a.0,
@@ -76,7 +76,7 @@ chained_filled [] = refl
 chained_filled ([] ∷ ps) = chained_filled ps
 chained_filled ((c ∷ p) ∷ ps) = ap (λ (l : List CellData). (c ∷ p) ++ l) (chained_filled ps)
 
-filled_apart : (ps : List (List CellData)) → AreApart ps → AreApart (filter is_filled ps)
+filled_apart : (ps : List (List CellData)) → ArePiecesApart ps → ArePiecesApart (filter is_filled ps)
 filled_apart [] a = tt
 filled_apart ([] ∷ ps) a = filled_apart ps a.2
 filled_apart ((c ∷ p) ∷ ps) a = (a.0, subst (KeysApart (c ∷ p)) (sym (chained_filled ps)) a.1, filled_apart ps a.2)

@@ -11,9 +11,9 @@ has_place [] c = false
 has_place (k ∷ kept) c = is_eq (cell_cmp k c) || has_place kept c
 
 -- whether a cell stays: it is above a horizon, or one of those that are kept has its place
-abbrev pub stays : List CellData → ℕ → CellData → Bool
-stays kept horizon c = nat_lt horizon c.stamp || has_place kept c
+abbrev pub cell_stays : List CellData → ℕ → CellData → Bool
+cell_stays kept horizon c = nat_lt horizon c.stamp || has_place kept c
 
 -- what is left of cells: those that stay, in their order
 abbrev pub left : List CellData → ℕ → List CellData → List CellData
-left kept horizon cells = filter (stays kept horizon) cells
+left kept horizon cells = filter (cell_stays kept horizon) cells

@@ -16,9 +16,9 @@ abbrev pub KeysApart : List CellData → List CellData → Type 0
 KeysApart xs ys = (m n : CellData) → Has xs m → Has ys n → key_cmp m.key n.key ≡ Less
 
 -- each piece is sorted, and its keys are below those of all that follow: no row is in two of them
-abbrev pub AreApart : List (List CellData) → Type 0
-AreApart [] = Unit {0}
-AreApart (p ∷ ps) = IsAscending p × KeysApart p (chained ps) × AreApart ps
+abbrev pub ArePiecesApart : List (List CellData) → Type 0
+ArePiecesApart [] = Unit {0}
+ArePiecesApart (p ∷ ps) = IsAscending p × KeysApart p (chained ps) × ArePiecesApart ps
 
 -- the first rows of a range, and whether they are all; where they aren't there is one
 pub record AreFirstRows (cells : List CellData) (low : List ℕ) (high : Option (List ℕ)) (first : List CellData) (is_all : Bool) : Type 0 where

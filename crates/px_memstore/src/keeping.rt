@@ -2,7 +2,7 @@
 ghost use Rattle.std.specs.Prelude.{◌≡◌, ◌≤◌, length, map, min, vec_capacity};
 ghost use Rattle.std.specs.List.{filter};
 ghost use Rattle.px_cells.specs.Order.{IsAscending};
-ghost use Rattle.px_memstore.specs.Left.{left, stays};
+ghost use Rattle.px_memstore.specs.Left.{cell_stays, left};
 ghost use Rattle.px_memstore.specs.Pieces.{chained};
 ghost use Rattle.px_memstore.specs.inner.Pieces.{ArePieces, is_filled as is_some, lists};
 
@@ -13,7 +13,7 @@ use px_cells::Cell;
 /// Whether a cell stays: it is above the horizon, or one of those that are kept has its place.
 fn is_left(kept: &[Cell], cell: &Cell, horizon: u64) -> bool
     requires { IsAscending kept.now }
-    ensures { result ≡ stays kept.now horizon cell.now }
+    ensures { result ≡ cell_stays kept.now horizon cell.now }
 {
     if horizon < cell.stamp() {
         return true;
@@ -31,7 +31,7 @@ fn keep_part(cells: &mut Vec<Cell>, kept: &[Cell], horizon: u64)
     cells.retain(
         |cell: &Cell| -> bool
             requires { IsAscending kept.now }
-            ensures { result ≡ stays kept.entry.now horizon cell.now }
+            ensures { result ≡ cell_stays kept.entry.now horizon cell.now }
         { is_left(kept, cell, horizon) },
     );
 }

@@ -6,7 +6,7 @@ use Rattle.px_cells.specs.CellData.{CellData}
 use Rattle.px_cells.specs.Order.{GoesWith, IsAscending, IsCellList, IsSettled, ReadsSame}
 use Rattle.px_cells.proofs.Among.{all_has, has_all, has_from_reads, reads_behind, reads_from_has}
 use Rattle.px_cells.proofs.Sights.{one_settled, visible_same}
-use Rattle.px_merge.specs.Kept.{IsWanted, Keeps}
+use Rattle.px_merge.specs.Kept.{IsWanted, KeepsWanted}
 use Rattle.px_merge.proofs.Merges.{merge_settled}
 use Rattle.px_merge.proofs.Reading.{reads_before, reads_to_same, reads_trans}
 use Rattle.px_merge.specs.Settle.{settle}
@@ -42,7 +42,7 @@ pub settle_front : (part back : List CellData) → settle (settle part ++ back) 
 settle_front part back = settle_same (settle part ++ back) (part ++ back) (reads_before (settle part) part back (settle_is part).same)
 
 -- what is kept depends on what is read alone
-pub keeps_same : (xs ys ks ls : List CellData) (h : ℕ) → ReadsSame xs ys → ReadsSame ks ls → Keeps xs h ks → Keeps ys h ls
+pub keeps_same : (xs ys ks ls : List CellData) (h : ℕ) → ReadsSame xs ys → ReadsSame ks ls → KeepsWanted xs h ks → KeepsWanted ys h ls
 keeps_same xs ys ks ls h same kept_same keeps c = (
   λ r. (let z = (keeps c).0 ((kept_same c).1 r) in ((same c).0 z.0, wanted xs ys same z.1)),
   λ z. (kept_same c).0 ((keeps c).1 ((same c).1 z.0, wanted ys xs (reads_back xs ys same) z.1)),

@@ -3,8 +3,8 @@ use Rattle.std.proofs.Common.{◌≡◌, ℕ, ◌≤◌, List, [], ◌∷◌, re
 use Rattle.px_outside.specs.declared.disk.Disk.{Ghosts}
 use Rattle.px_gatelog.specs.Weaker.{IsWeaker}
 use Rattle.px_gatelog.proofs.Weaker.{settled_weaker}
-use Rattle.px_wal.specs.Batches.{Batch}
-use Rattle.px_wal.specs.Form.{IsFirst, IsUpTo, last_of, wal_form}
+use Rattle.px_wal.specs.Batches.{LogBatch}
+use Rattle.px_wal.specs.Form.{IsFirstAfter, IsUpTo, last_batch_number, wal_form}
 use Rattle.px_wal.specs.Wal.{HasBatches}
 use Rattle.px_wal.specs.declared.wal.Wal.{Wal}
 use Rattle.px_wal.proofs.Numbers.{wrong_weaker}
@@ -12,20 +12,20 @@ use Rattle.px_wal.proofs.Numbers.{wrong_weaker}
 weaker : (m n : ℕ) → m ≤ n → IsWeaker (wal_form m) (wal_form n)
 weaker m n le = record { both = refl; empty = λ e. e; wrong = λ before r. wrong_weaker m n le before r }
 
-first_weaker : (m n : ℕ) (batches : List Batch) → m ≤ n → IsFirst m batches → IsFirst n batches
+first_weaker : (m n : ℕ) (batches : List LogBatch) → m ≤ n → IsFirstAfter m batches → IsFirstAfter n batches
 first_weaker m n [] le first = tt
 first_weaker m n (b ∷ batches) le first = omega arith
 
-last_same : (m n : ℕ) (batches more : List Batch) (b : Batch) → batches ≡ b ∷ more → last_of m batches ≡ last_of n batches
+last_same : (m n : ℕ) (batches more : List LogBatch) (b : LogBatch) → batches ≡ b ∷ more → last_batch_number m batches ≡ last_batch_number n batches
 last_same m n [] more b is = cc
 last_same m n (x ∷ batches) more b is = refl
 
-upto_raised : (m n to : ℕ) (batches : List Batch) → m ≤ n → IsUpTo m batches to → IsUpTo n batches to
+upto_raised : (m n to : ℕ) (batches : List LogBatch) → m ≤ n → IsUpTo m batches to → IsUpTo n batches to
 upto_raised m n to [] le is = omega (arith, le, is)
 upto_raised m n to (b ∷ batches) le is = is
 
 -- where it has batches, it has them whatever number it is flushed up to from then on
-pub log_raised : {D : Type 0} (d : Ghosts D) (region m n : ℕ) (wal : Wal) (disk : D) (batches more : List Batch) (b : Batch) → m ≤ n → batches ≡ b ∷ more → HasBatches d region m wal disk batches → HasBatches d region n wal disk batches
+pub log_raised : {D : Type 0} (d : Ghosts D) (region m n : ℕ) (wal : Wal) (disk : D) (batches more : List LogBatch) (b : LogBatch) → m ≤ n → batches ≡ b ∷ more → HasBatches d region m wal disk batches → HasBatches d region n wal disk batches
 log_raised d region m n wal disk batches more b le is has = record {
   log = record {
     segments = has.log.segments;

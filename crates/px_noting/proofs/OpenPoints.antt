@@ -12,11 +12,11 @@ use Rattle.px_indexed.proofs.Idle.{IsIdle, act_idle}
 use Rattle.px_openbatches.specs.Pending.{HeldBatch}
 use Rattle.px_group.specs.declared.group.Group.{Group}
 use Rattle.px_group.specs.Group.{AreStanding, IsTallied, points_in}
-use Rattle.px_noting.specs.Points.{HasOpened, HasReleased, IsSameBeside}
+use Rattle.px_noting.specs.Points.{HasOpened, HasReleased, IsSameBesidePoints}
 use Rattle.px_noting.proofs.Others.{held_still, phases_still}
 
 -- the group with other points
-pub same_group : (g g' : Group) → IsSameBeside g g' → g' ≡ record g { points = g'.points }
+pub same_group : (g g' : Group) → IsSameBesidePoints g g' → g' ≡ record g { points = g'.points }
 same_group g g' same = λ i. record { table = same.table i; rows = same.rows i; indexes = same.indexes i; batches = same.batches i; points = g'.points; last = same.last i; horizon = same.horizon i }
 
 -- what stands, where the catalogue stays
@@ -29,7 +29,7 @@ standing_still b es es' g g' same k = record {
 
 -- an entry of the table's own points: the points of the trail are those of the group after it
 tallied_beside : (b : Base) (es : List Entry) (g : Group) (hs : List HeldBatch) → IsTallied b es g hs → (e : Entry) → IsElsewhere g.table.id e.act → catalogue_step (catalogue_of b es) e.act ≡ catalogue_of b es → last_step g.table.id.0 (last_of b g.table.id.0 es) e.act ≡ last_of b g.table.id.0 es
-    → (g' : Group) → IsSameBeside g g' → ((seat u : ℕ) → open_points seat g.table.id.0 u (es ++ e ∷ []) ≡ points_in seat u g'.points.items) → IsTallied b (es ++ e ∷ []) g' hs
+    → (g' : Group) → IsSameBesidePoints g g' → ((seat u : ℕ) → open_points seat g.table.id.0 u (es ++ e ∷ []) ≡ points_in seat u g'.points.items) → IsTallied b (es ++ e ∷ []) g' hs
 tallied_beside b es g hs k e elsewhere catalogue last g' same points = (let
     idle : IsIdle g.table.id e = act_idle g.table.id e elsewhere
     in let

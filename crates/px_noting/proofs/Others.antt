@@ -11,15 +11,15 @@ use Rattle.px_trail.specs.Trail.{Base, last_step, points_step}
 use Rattle.px_trail.proofs.Growth.{batch_of-snoc, horizon-snoc, last-snoc, points-snoc}
 use Rattle.px_indexed.specs.Idle.{IsElsewhere}
 use Rattle.px_indexed.proofs.Idle.{IsIdle, IsStill, act_idle}
-use Rattle.px_openbatches.specs.Pending.{HeldBatch, HeldKept, IsHeld}
+use Rattle.px_openbatches.specs.Pending.{HeldBatch, HeldKept, IsHeldBatch}
 use Rattle.px_openbatches.proofs.Helds.{all_more, held_on}
 use Rattle.px_group.specs.declared.group.Begun.{Begun as OpenBatch}
 use Rattle.px_group.specs.declared.group.Group.{Group}
 use Rattle.px_group.specs.Group.{AreInPhase, AreStanding, IsTallied, IsTraced}
-use Rattle.px_noting.specs.Apart.{IsApart}
+use Rattle.px_noting.specs.Apart.{IsApartFrom}
 
 -- what is of another table is elsewhere
-pub apart_elsewhere : (tid : TableId) (act : Act) → IsApart tid act → IsElsewhere tid act
+pub apart_elsewhere : (tid : TableId) (act : Act) → IsApartFrom tid act → IsElsewhere tid act
 apart_elsewhere tid (Made t what) n = n
 apart_elsewhere tid (IndexMade t i s what) n = tt
 apart_elsewhere tid (IndexState t i state s) n = tt
@@ -49,7 +49,7 @@ and_none true v c h = and_no v c h
 and_none false v c h = refl
 
 -- it draws no stamp of this one
-pub apart_last : (tid : TableId) (l : ℕ) (act : Act) → IsApart tid act → last_step tid.0 l act ≡ l
+pub apart_last : (tid : TableId) (l : ℕ) (act : Act) → IsApartFrom tid act → last_step tid.0 l act ≡ l
 apart_last tid l (Begun t s cs) n = if_not _ _ _ (ne_eqb t.0 tid.0 n)
 apart_last tid l (IndexMade t i s what) n = if_not _ _ _ (ne_eqb t.0 tid.0 n)
 apart_last tid l (IndexState t i state s) n = if_not _ _ _ (and_no _ _ (ne_eqb t.0 tid.0 n))
@@ -67,7 +67,7 @@ apart_last tid l (Missed call) n = refl
 apart_last tid l (Shut call) n = refl
 
 -- and opens and closes no point
-pub apart_points : (tid : TableId) (k s n seat : ℕ) (act : Act) → IsApart tid act → points_step k tid.0 s n seat act ≡ n
+pub apart_points : (tid : TableId) (k s n seat : ℕ) (act : Act) → IsApartFrom tid act → points_step k tid.0 s n seat act ≡ n
 unfolding points_step
 apart_points tid k s n seat (Opened t u scn) p = if_not _ _ _ (and_none (seat == k) _ _ (ne_eqb t.0 tid.0 p))
 apart_points tid k s n seat (Released t u) p = if_not _ _ _ (and_none (seat == k) _ _ (ne_eqb t.0 tid.0 p))
@@ -96,11 +96,11 @@ module _ (b : Base) (es : List Entry) (tid : TableId) (e : Entry) (idle : IsStil
   pub held_still : (hs : List HeldBatch) → HeldKept b es t hs → HeldKept b (es ++ e ∷ []) t hs
   held_still hs held = record {
     rising = held.rising;
-    each = all_more (IsHeld es t) (IsHeld (es ++ e ∷ []) t) (λ h q. held_on es t h q e (λ u r p. record { batch = p.batch; is = sym (still_batch u) ∙ p.is; what = p.what; left = p.left }) h.written (λ l. l) q.batch (still_batch h.stamp ∙ q.is) q.changes q.written q.running) hs held.each;
+    each = all_more (IsHeldBatch es t) (IsHeldBatch (es ++ e ∷ []) t) (λ h q. held_on es t h q e (λ u r p. record { batch = p.batch; is = sym (still_batch u) ∙ p.is; what = p.what; left = p.left }) h.written (λ l. l) q.batch (still_batch h.stamp ∙ q.is) q.changes q.written q.running) hs held.each;
     all = λ u y q n. held.all u y (sym (still_batch u) ∙ q) n;
   }
 
-  held_one : (h : HeldBatch) → IsHeld es t h → IsHeld (es ++ e ∷ []) t h
+  held_one : (h : HeldBatch) → IsHeldBatch es t h → IsHeldBatch (es ++ e ∷ []) t h
   held_one h q = held_on es t h q e (λ u r p. record { batch = p.batch; is = sym (still_batch u) ∙ p.is; what = p.what; left = p.left }) h.written (λ l. l) q.batch (still_batch h.stamp ∙ q.is) q.changes q.written q.running
 
   -- and what their end needs of them
@@ -127,7 +127,7 @@ module _ (b : Base) (es : List Entry) (tid : TableId) (e : Entry) (idle : IsStil
   phases_still (m ∷ ms) (h ∷ hs) p = (record { batch = p.0.batch; is = still_batch h.stamp ∙ p.0.is; phase = p.0.phase; count = p.0.count }, phases_still ms hs p.1)
 
 -- where the entry is no event of the group, and opens and closes none of its points
-pub tallied_apart : (b : Base) (es : List Entry) (g : Group) (hs : List HeldBatch) → IsTallied b es g hs → (e : Entry) → IsApart g.table.id e.act → AreStanding b (es ++ e ∷ []) g → IsTallied b (es ++ e ∷ []) g hs
+pub tallied_apart : (b : Base) (es : List Entry) (g : Group) (hs : List HeldBatch) → IsTallied b es g hs → (e : Entry) → IsApartFrom g.table.id e.act → AreStanding b (es ++ e ∷ []) g → IsTallied b (es ++ e ∷ []) g hs
 tallied_apart b es g hs k e apart standing = (let
     idle : IsIdle g.table.id e = act_idle g.table.id e (apart_elsewhere g.table.id e.act apart)
     in record {

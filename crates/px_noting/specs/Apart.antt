@@ -5,16 +5,16 @@ use Rattle.px_trail.specs.declared.entry.Act.{Act}
 use Rattle.px_trail.specs.declared.entry.Act.TheVariants.{Made, IndexMade, IndexState, Dropped, Begun, Phase, Wrote, Ended, Opened, Released, Raised}
 
 -- the act is of another table, or a repair, or of base versions or device calls
-abbrev pub IsApart : TableId → Act → Type 0
-IsApart tid (Made t what) = t.0 ≢ tid.0
-IsApart tid (IndexMade t i s what) = t.0 ≢ tid.0
-IsApart tid (IndexState t i state s) = t.0 ≢ tid.0
-IsApart tid (Dropped t i) = t.0 ≢ tid.0
-IsApart tid (Begun t s cs) = t.0 ≢ tid.0
-IsApart tid (Phase t s p) = t.0 ≢ tid.0
-IsApart tid (Wrote t s rows) = t.0 ≢ tid.0
-IsApart tid (Ended t s) = t.0 ≢ tid.0
-IsApart tid (Opened t s scn) = t.0 ≢ tid.0
-IsApart tid (Released t s) = t.0 ≢ tid.0
-IsApart tid (Raised t h) = t.0 ≢ tid.0
-IsApart tid act = Unit {0}
+abbrev pub IsApartFrom : TableId → Act → Type 0
+IsApartFrom tid (Made t what) = t.0 ≢ tid.0
+IsApartFrom tid (IndexMade t i s what) = t.0 ≢ tid.0
+IsApartFrom tid (IndexState t i state s) = t.0 ≢ tid.0
+IsApartFrom tid (Dropped t i) = t.0 ≢ tid.0
+IsApartFrom tid (Begun t s cs) = t.0 ≢ tid.0
+IsApartFrom tid (Phase t s p) = t.0 ≢ tid.0
+IsApartFrom tid (Wrote t s rows) = t.0 ≢ tid.0
+IsApartFrom tid (Ended t s) = t.0 ≢ tid.0
+IsApartFrom tid (Opened t s scn) = t.0 ≢ tid.0
+IsApartFrom tid (Released t s) = t.0 ≢ tid.0
+IsApartFrom tid (Raised t h) = t.0 ≢ tid.0
+IsApartFrom tid act = Unit {0}

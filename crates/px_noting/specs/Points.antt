@@ -8,7 +8,7 @@ abbrev pub no_point : OpenPoint
 no_point = record { seat = 0; stamp = 0 }
 
 -- all but the points is as it was
-pub record IsSameBeside (g g' : Group) : Type 0 where
+pub record IsSameBesidePoints (g g' : Group) : Type 0 where
   pub table : g'.table ≡ g.table
   pub rows : g'.rows ≡ g.rows
   pub indexes : g'.indexes ≡ g.indexes
@@ -18,10 +18,10 @@ pub record IsSameBeside (g g' : Group) : Type 0 where
 
 -- one point more is open, of this seat at this stamp
 pub record HasOpened (g g' : Group) (seat s : ℕ) : Type 0 where
-  pub same : IsSameBeside g g'
+  pub same : IsSameBesidePoints g g'
   pub points : (k u : ℕ) → points_in k u g'.points.items ≡ (if (seat == k) && (s == u) then points_in k u g.points.items + 1 else points_in k u g.points.items)
 
 -- one point less
 pub record HasReleased (g g' : Group) (seat s : ℕ) : Type 0 where
-  pub same : IsSameBeside g g'
+  pub same : IsSameBesidePoints g g'
   pub points : (k u : ℕ) → points_in k u g'.points.items ≡ (if (seat == k) && (s == u) then points_in k u g.points.items - 1 else points_in k u g.points.items)

@@ -13,15 +13,15 @@ ghost use Rattle.px_trail.specs.Legal.{MayCome};
 ghost use Rattle.px_trail.specs.Trail.{Base, open_points};
 ghost use Rattle.px_values.specs.declared.name.TableId.{TableId as TableNumber};
 ghost use Rattle.std.specs.List.{AllByRecursion};
-ghost use Rattle.px_noting.specs.Apart.{IsApart};
+ghost use Rattle.px_noting.specs.Apart.{IsApartFrom};
 ghost use Rattle.px_noting.specs.Points.{HasOpened, HasReleased};
 
 /// An entry of another table leaves what the trail tells of a group; it and an entry of points, repairs and indexes leave what it shows.
 pub fn law_others()
-    ensures tallied { (b : Base) → (es : List Entry) → (g : Group) → (hs : List HeldBatch) → IsTallied b es g hs → (e : Entry) → IsApart g.table.id e.act → AreStanding b (es ++ e ∷ []) g → IsTallied b (es ++ e ∷ []) g hs }
+    ensures tallied { (b : Base) → (es : List Entry) → (g : Group) → (hs : List HeldBatch) → IsTallied b es g hs → (e : Entry) → IsApartFrom g.table.id e.act → AreStanding b (es ++ e ∷ []) g → IsTallied b (es ++ e ∷ []) g hs }
     ensures shown { (b : Base) → (index : ℕ → IndexForm) → (es : List Entry) → (g : Group) → (v : GroupData) → (hs : List HeldBatch) → IsShownBy b index es g v hs → (e : Entry) → MayCome b es e → IsElsewhere g.table.id e.act → IsShownBy b index (es ++ e ∷ []) g v hs }
     ensures traced { (b : Base) → (es : List Entry) → (t : TableNumber) → (e : Entry) → IsElsewhere t e.act → (ms : List OpenBatch) → AllByRecursion (IsTraced es t.0) ms → AllByRecursion (IsTraced (es ++ e ∷ []) t.0) ms }
-    ensures points { (es : List Entry) → (t : TableNumber) → (e : Entry) → IsApart t e.act → (seat : ℕ) → (s : ℕ) → open_points seat t.0 s (es ++ e ∷ []) ≡ open_points seat t.0 s es }
+    ensures points { (es : List Entry) → (t : TableNumber) → (e : Entry) → IsApartFrom t e.act → (seat : ℕ) → (s : ℕ) → open_points seat t.0 s (es ++ e ∷ []) ≡ open_points seat t.0 s es }
 {}
 
 /// The open points of a group stay those of the trail where one is opened or closed.

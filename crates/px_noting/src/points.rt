@@ -1,14 +1,14 @@
 // The points that are open.
 ghost use Rattle.std.specs.Prelude.{◌≡◌, ◌<◌, ◌+◌, get_or, length, vec_len, vec_capacity, OnOk};
 ghost use Rattle.px_group.specs.Group.{points_in};
-ghost use Rattle.px_noting.specs.Points.{HasOpened, HasReleased, IsSameBeside, no_point};
+ghost use Rattle.px_noting.specs.Points.{HasOpened, HasReleased, IsSameBesidePoints, no_point};
 
 use px_group::{Group, OpenPoint};
 use std::alloc::AllocError;
 
 /// Takes a place for one point more.
 pub fn reserve_point(group: &mut Group) -> Result<(), AllocError>
-    ensures same { IsSameBeside group.old group.new }
+    ensures same { IsSameBesidePoints group.old group.new }
     ensures points { group.new.points.items ≡ group.old.points.items }
     ensures room { OnOk result (vec_len group.new.points < vec_capacity group.new.points) }
 {

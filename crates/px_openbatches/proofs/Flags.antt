@@ -9,7 +9,7 @@ use Rattle.px_trail.specs.declared.entry.Entry.{Entry}
 use Rattle.px_values.proofs.Equal.{row_order-Decides}
 use Rattle.px_values.specs.Order.{row_order}
 use Rattle.px_trail.specs.Batches.{change_of, has, rows_of}
-use Rattle.px_openbatches.specs.Pending.{IsHeld, is_left, meets, flagged, meet_flags, HeldBatch}
+use Rattle.px_openbatches.specs.Pending.{IsHeldBatch, is_left, with_met, flagged, meet_flags, HeldBatch}
 use Rattle.px_trail.proofs.Orders.{has-append, has-change, has-filter, filter-has}
 use Rattle.px_values.specs.declared.change.What.{What}
 use Rattle.px_history.proofs.Changes.{change-has}
@@ -57,7 +57,7 @@ flags_meet others (v ∷ vs) (x ∷ rows) n r =
     other false false e rest = rw e rest
 
 -- what is read of a batch's flags is what its met rows are after another's begin
-pub flags_are : (cs : List Change) (h : HeldBatch) (vs : List Bool) → length vs ≡ length (rows_of h.changes) → ((r : List Value) → has (flagged vs (rows_of h.changes)) r ≡ has h.met r) → is_left h ≡ true → (r : List Value) → has (flagged (meet_flags (rows_of cs) vs (rows_of h.changes)) (rows_of h.changes)) r ≡ has (meets cs h).met r
+pub flags_are : (cs : List Change) (h : HeldBatch) (vs : List Bool) → length vs ≡ length (rows_of h.changes) → ((r : List Value) → has (flagged vs (rows_of h.changes)) r ≡ has h.met r) → is_left h ≡ true → (r : List Value) → has (flagged (meet_flags (rows_of cs) vs (rows_of h.changes)) (rows_of h.changes)) r ≡ has (with_met cs h).met r
 flags_are cs h vs n same l r =
     flags_meet (rows_of cs) vs (rows_of h.changes) n r
     ∙ ((λ i. same r i || (has (rows_of cs) r && has_is_some h.changes r i))
@@ -76,7 +76,7 @@ flags_are cs h vs n same l r =
         off false c n = refl
 
 -- any set of rows with the same members serves as the met ones
-pub held_same : (es : List Entry) (t : ℕ) (h : HeldBatch) (met : List (List Value)) → ((r : List Value) → has met r ≡ has h.met r) → IsHeld es t h → IsHeld es t (record h { met = met })
+pub held_same : (es : List Entry) (t : ℕ) (h : HeldBatch) (met : List (List Value)) → ((r : List Value) → has met r ≡ has h.met r) → IsHeldBatch es t h → IsHeldBatch es t (record h { met = met })
 held_same es t h met same k = record {
   batch = k.batch;
   is = k.is;

@@ -12,11 +12,11 @@ use Rattle.px_trail.proofs.Batches.{batch-none}
 use Rattle.px_world.specs.IndexCells.{mark_cells}
 use Rattle.px_forms.specs.Indexes.{IsIndexForm, view_at, shape_at, cells_if}
 use Rattle.px_forms.specs.Several.{cells_for}
-use Rattle.px_openbatches.specs.Made.{cells_at}
+use Rattle.px_openbatches.specs.Made.{picked_cells}
 use Rattle.px_groupworld.specs.Group.{TableForm, GroupData, no_open}
 use Rattle.px_groupworld.specs.Asks.{CanMark, CanVerify}
-use Rattle.px_openbatches.specs.Pending.{IsHeld, to_verify, HeldBatch, IsMet}
-use Rattle.px_openbatches.specs.Opens.{IsReady, form_in}
+use Rattle.px_openbatches.specs.Pending.{IsHeldBatch, to_verify, HeldBatch, IsMet}
+use Rattle.px_openbatches.specs.Opens.{IsBatchReady, form_in}
 use Rattle.px_history.proofs.Changes.{change-has}
 use Rattle.px_trail.proofs.Orders.{has-filter, filter-has}
 use Rattle.px_openbatches.proofs.Flags.{has_is_some}
@@ -46,7 +46,7 @@ filter_distinct p (x ∷ xs) d =
       | inr e ↦ rw e rest
     ]
 
-module _ (f : TableForm) (es : List Entry) (v : GroupData) (kept : GroupKept f es v) (h : HeldBatch) (is : IsHeld es f.id.0 h) (ready : IsReady f es v.indexes h) where
+module _ (f : TableForm) (es : List Entry) (v : GroupData) (kept : GroupKept f es v) (h : HeldBatch) (is : IsHeldBatch es f.id.0 h) (ready : IsBatchReady f es v.indexes h) where
   abbrev t : ℕ
   t = f.id.0
 
@@ -61,7 +61,7 @@ module _ (f : TableForm) (es : List Entry) (v : GroupData) (kept : GroupKept f e
 
   -- Phase 1, where the next index is done
   pub can_mark : (m done : ℕ) → m < length v.opens → record { stamp = h.stamp; done = done; count = h.count } ≡ get_or v.opens m no_open → done < h.count → is.batch.phase ≡ 0
-      → (batch : List CellData) → ReadsSame batch (cells_for (cells_at (λ x. get_or x.marks done []) h.cells) (rows_of h.changes)) → CanMark f es v m batch
+      → (batch : List CellData) → ReadsSame batch (cells_for (picked_cells (λ x. get_or x.marks done []) h.cells) (rows_of h.changes)) → CanMark f es v m batch
   can_mark m done among at next first batch same = record {
     among = among;
     next = subst (λ (o : OpenBatch). o.done < o.count) at next;
@@ -76,7 +76,7 @@ module _ (f : TableForm) (es : List Entry) (v : GroupData) (kept : GroupKept f e
   }
 
   -- Phase 2, for rows that may be written
-  pub can_write : (seat : ℕ) (rows : List (List Value)) (may : IsWritable es seat t h.stamp rows) (batch : List CellData) → ReadsSame batch (cells_for (cells_at (λ x. x.puts) h.cells) rows) → ReadsWrites f.rows may.batch h.stamp rows batch
+  pub can_write : (seat : ℕ) (rows : List (List Value)) (may : IsWritable es seat t h.stamp rows) (batch : List CellData) → ReadsSame batch (cells_for (picked_cells (λ x. x.puts) h.cells) rows) → ReadsWrites f.rows may.batch h.stamp rows batch
   can_write seat rows may batch same = reads_writes f es (form_in f v.indexes) h.count h.stamp h.changes h.cells ready.made kept.told.form.apart may.batch changes rows may.distinct inside batch same
     where
       batches : may.batch ≡ is.batch
@@ -89,7 +89,7 @@ module _ (f : TableForm) (es : List Entry) (v : GroupData) (kept : GroupKept f e
       inside r x = ap (λ l. has (rows_of l) r) (sym changes) ∙ (has-filter (λ z. not (has may.batch.written z)) (rows_of may.batch.changes) r (may.left r x)).0
 
   -- Phase 3, for the rows on which no other batch was pending
-  pub can_verify : (i : ℕ) → i < h.count → unwritten is.batch ≡ [] → (batch : List CellData) → ReadsSame batch (cells_for (cells_at (λ x. get_or x.closes i []) h.cells) (to_verify h)) → CanVerify f es v i h.stamp (to_verify h) batch
+  pub can_verify : (i : ℕ) → i < h.count → unwritten is.batch ≡ [] → (batch : List CellData) → ReadsSame batch (cells_for (picked_cells (λ x. get_or x.closes i []) h.cells) (to_verify h)) → CanVerify f es v i h.stamp (to_verify h) batch
   can_verify i l whole batch same = record {
     there = (let z = ready.inside in omega arith);
     batch = is.batch;

@@ -17,7 +17,7 @@ use Rattle.px_trail.proofs.Batches.{batch-none, last_from-le}
 use Rattle.px_trail.proofs.Growth.{batch_of-snoc, last_from-append}
 use Rattle.px_indexed.specs.Kept.{RowsKept}
 use Rattle.px_openbatches.specs.Made.{RowCells}
-use Rattle.px_openbatches.specs.Pending.{left_as, left_of, is_left, is_in, IsPendingOn, IsWithin, IsRisingFrom, IsHeld, HeldKept, meets, is_pending_in, fresh_held, held_begun, writes_rows, held_wrote, held_ended, HeldBatch, IsMet}
+use Rattle.px_openbatches.specs.Pending.{left_as, change_left, is_left, is_in, IsPendingOn, IsWithin, AreStampsRisingFrom, IsHeldBatch, HeldKept, with_met, is_pending_in, fresh_held, held_begun, writes_rows, held_wrote, held_ended, HeldBatch, IsMet}
 use Rattle.px_history.proofs.Ties.{batch_here, batch_there}
 use Rattle.px_history.proofs.Changes.{change-has}
 use Rattle.px_trail.proofs.Orders.{has-append, has-filter, filter-has, has-change}
@@ -125,7 +125,7 @@ left_more (c ∷ cs) ws more h = elim (cases_Bool (has ws c.row)) [
   | inr e ↦ rw e refl
 ]
 
-module _ (es : List Entry) (t : ℕ) (h : HeldBatch) (k : IsHeld es t h) where
+module _ (es : List Entry) (t : ℕ) (h : HeldBatch) (k : IsHeldBatch es t h) where
   -- an open batch is one that began before
   pub left_within : (e : Entry) → IsWithin es e t h.stamp → is_left h ≡ true
   left_within e w = elim w.which [
@@ -142,14 +142,14 @@ module _ (es : List Entry) (t : ℕ) (h : HeldBatch) (k : IsHeld es t h) where
     which = inr (k.batch, (k.is, λ q. left_not_none h.changes h.written l ((λ i. filter (λ r. not (sym (k.written r) i)) (rows_of (sym k.changes i))) ∙ q)));
   }
 
-  pub left_pending : (r : List Value) → is_some (left_of h r) ≡ true → IsPendingOn es t h.stamp r
-  left_pending r l = by (left_of h r) refl l
+  pub left_pending : (r : List Value) → is_some (change_left h r) ≡ true → IsPendingOn es t h.stamp r
+  left_pending r l = by (change_left h r) refl l
     where
-      by : (o : Option What) → left_of h r ≡ o → is_some o ≡ true → IsPendingOn es t h.stamp r
+      by : (o : Option What) → change_left h r ≡ o → is_some o ≡ true → IsPendingOn es t h.stamp r
       by None q l = absurd (false≢true l)
       by (Some w) q l = record { batch = k.batch; is = k.is; what = w; left = (λ i. left_as (change_of (k.changes i) r) (k.written r i)) ∙ q }
 
-  pub pending_left : (r : List Value) → IsPendingOn es t h.stamp r → is_some (left_of h r) ≡ true
+  pub pending_left : (r : List Value) → IsPendingOn es t h.stamp r → is_some (change_left h r) ≡ true
   pending_left r p =
       let same : k.batch ≡ p.batch = same_batch (sym k.is ∙ p.is) in
       ap is_some ((λ i. left_as (change_of (sym k.changes i) r) (sym (k.written r) i)) ∙ ((λ i. left_as (change_of (same i).changes r) (has (same i).written r)) ∙ p.left))
@@ -157,7 +157,7 @@ module _ (es : List Entry) (t : ℕ) (h : HeldBatch) (k : IsHeld es t h) where
   -- an entry with which no batch comes to be pending
   module _ (e : Entry) (none : (u : ℕ) (r : List Value) → IsPendingOn (es ++ e ∷ []) t u r → IsPendingOn es t u r) (written : List (List Value)) (fewer : list_any (λ c. not (has written c.row)) h.changes ≡ true → is_left h ≡ true)
       (y : Batch) (is : batch_of t h.stamp (es ++ e ∷ []) ≡ Some y) (changes : y.changes ≡ h.changes) (writes : (r : List Value) → has y.written r ≡ has written r) (running : y.ended ≡ false) where
-    pub held_on : IsHeld (es ++ e ∷ []) t (record h { written = written })
+    pub held_on : IsHeldBatch (es ++ e ∷ []) t (record h { written = written })
     held_on = record {
       batch = y;
       is = is;
@@ -191,33 +191,33 @@ or_right true c h = refl
 or_right false c h = h
 
 -- a batch of these is pending on the row
-any_pending : (es : List Entry) (t : ℕ) (r : List Value) (hs : List HeldBatch) → AllByRecursion (IsHeld es t) hs → is_pending_in hs r ≡ true → (u : ℕ) × IsPendingOn es t u r
+any_pending : (es : List Entry) (t : ℕ) (r : List Value) (hs : List HeldBatch) → AllByRecursion (IsHeldBatch es t) hs → is_pending_in hs r ≡ true → (u : ℕ) × IsPendingOn es t u r
 any_pending es t r [] a q = absurd (false≢true q)
-any_pending es t r (h ∷ hs) a q = elim (or_cases (is_some (left_of h r)) (is_pending_in hs r) q) [
+any_pending es t r (h ∷ hs) a q = elim (or_cases (is_some (change_left h r)) (is_pending_in hs r) q) [
   | inl z ↦ (h.stamp, left_pending es t h a.0 r z)
   | inr z ↦ any_pending es t r hs a.1 z
 ]
 
-pending_any : (es : List Entry) (t u : ℕ) (r : List Value) (hs : List HeldBatch) → AllByRecursion (IsHeld es t) hs → is_in u hs ≡ true → IsPendingOn es t u r → is_pending_in hs r ≡ true
+pending_any : (es : List Entry) (t u : ℕ) (r : List Value) (hs : List HeldBatch) → AllByRecursion (IsHeldBatch es t) hs → is_in u hs ≡ true → IsPendingOn es t u r → is_pending_in hs r ≡ true
 pending_any es t u r [] a i p = absurd (false≢true i)
 pending_any es t u r (h ∷ hs) a i p = elim (cases_eq h.stamp u) [
-  | inl z ↦ or_left (is_some (left_of h r)) (is_pending_in hs r) (pending_left es t h a.0 r (subst (λ (v : ℕ). IsPendingOn es t v r) (sym z) p))
-  | inr z ↦ or_right (is_some (left_of h r)) (is_pending_in hs r) (pending_any es t u r hs a.1 (sym (ap (λ v. v || is_in u hs) (ne_eqb h.stamp u z)) ∙ i) p)
+  | inl z ↦ or_left (is_some (change_left h r)) (is_pending_in hs r) (pending_left es t h a.0 r (subst (λ (v : ℕ). IsPendingOn es t v r) (sym z) p))
+  | inr z ↦ or_right (is_some (change_left h r)) (is_pending_in hs r) (pending_any es t u r hs a.1 (sym (ap (λ v. v || is_in u hs) (ne_eqb h.stamp u z)) ∙ i) p)
 ]
 
-rising_end : (q : ℕ) (hs : List HeldBatch) (n : HeldBatch) → q < n.stamp → AllByRecursion (λ h. h.stamp < n.stamp) hs → IsRisingFrom q hs → IsRisingFrom q (hs ++ n ∷ [])
+rising_end : (q : ℕ) (hs : List HeldBatch) (n : HeldBatch) → q < n.stamp → AllByRecursion (λ h. h.stamp < n.stamp) hs → AreStampsRisingFrom q hs → AreStampsRisingFrom q (hs ++ n ∷ [])
 rising_end q [] n l a r = (l, tt)
 rising_end q (h ∷ hs) n l a r = (r.0, rising_end h.stamp hs n a.0 a.1 r.1)
 
-rising_map : (f : HeldBatch → HeldBatch) → ((h : HeldBatch) → (f h).stamp ≡ h.stamp) → (q q' : ℕ) → q' ≡ q → (hs : List HeldBatch) → IsRisingFrom q hs → IsRisingFrom q' (map f hs)
+rising_map : (f : HeldBatch → HeldBatch) → ((h : HeldBatch) → (f h).stamp ≡ h.stamp) → (q q' : ℕ) → q' ≡ q → (hs : List HeldBatch) → AreStampsRisingFrom q hs → AreStampsRisingFrom q' (map f hs)
 rising_map f e q q' z [] r = tt
 rising_map f e q q' z (h ∷ hs) r = ((let m = r.0 in let n = e h in omega arith), rising_map f e h.stamp (f h).stamp (e h) hs r.1)
 
-rising_less : (q q' : ℕ) → q' ≤ q → (hs : List HeldBatch) → IsRisingFrom q hs → IsRisingFrom q' hs
+rising_less : (q q' : ℕ) → q' ≤ q → (hs : List HeldBatch) → AreStampsRisingFrom q hs → AreStampsRisingFrom q' hs
 rising_less q q' l [] r = tt
 rising_less q q' l (h ∷ hs) r = ((let m = r.0 in omega arith), r.1)
 
-rising_filter : (p : HeldBatch → Bool) (q : ℕ) (hs : List HeldBatch) → IsRisingFrom q hs → IsRisingFrom q (filter p hs)
+rising_filter : (p : HeldBatch → Bool) (q : ℕ) (hs : List HeldBatch) → AreStampsRisingFrom q hs → AreStampsRisingFrom q (filter p hs)
 rising_filter p q [] r = tt
 rising_filter p q (h ∷ hs) r = elim (cases_Bool (p h)) [
   | inl e ↦ (let z = rising_filter p h.stamp hs r.1 in rw e (r.0, z))
@@ -240,7 +240,7 @@ module _ (sh : RowShape) (b : Base) (es : List Entry) (tid : TableId) (raised : 
   abbrev t : ℕ
   t = tid.0
 
-  below : (h : HeldBatch) → IsHeld es t h → h.stamp ≤ last_of b t es
+  below : (h : HeldBatch) → IsHeldBatch es t h → h.stamp ≤ last_of b t es
   below h q = elim (cases_lt (last_of b t es) h.stamp) [ inl l ↦ absurd (some_none (sym (batch-none b t h.stamp es l) ∙ q.is)) | inr l ↦ omega arith ]
 
   pending_in : (u : ℕ) (r : List Value) → IsPendingOn es t u r → is_in u hs ≡ true
@@ -267,7 +267,7 @@ module _ (sh : RowShape) (b : Base) (es : List Entry) (tid : TableId) (raised : 
     there : (u : ℕ) → (s ≡ u → ⊥) → batch_of t u after ≡ batch_of t u es
     there u z = batch_there sh b tid [] (k.base []) es (history_at sh b es t []) (k.tied []) e s cs is new u z
 
-    apart : (h : HeldBatch) → IsHeld es t h → s ≡ h.stamp → ⊥
+    apart : (h : HeldBatch) → IsHeldBatch es t h → s ≡ h.stamp → ⊥
     apart h q z = (let m = below h q in omega arith)
 
     -- the new batch is pending on its rows
@@ -299,7 +299,7 @@ module _ (sh : RowShape) (b : Base) (es : List Entry) (tid : TableId) (raised : 
         by (Some w) q h = (w, q)
 
     -- an open batch when another begins
-    module _ (h : HeldBatch) (q : IsHeld es t h) where
+    module _ (h : HeldBatch) (q : IsHeldBatch es t h) where
       abbrev both : List (List Value)
       both = filter (λ r. is_some (change_of h.changes r)) (rows_of cs)
 
@@ -310,7 +310,7 @@ module _ (sh : RowShape) (b : Base) (es : List Entry) (tid : TableId) (raised : 
       met_old r true m = has-append h.met both r ∙ or_left (has h.met r) (has both r) m
       met_old r false m = m
 
-      held_meets : IsHeld after t (meets cs h)
+      held_meets : IsHeldBatch after t (with_met cs h)
       held_meets = record {
         batch = q.batch;
         is = now_is;
@@ -358,7 +358,7 @@ module _ (sh : RowShape) (b : Base) (es : List Entry) (tid : TableId) (raised : 
         let e3 = last_from-le t (last_of b t upto) c.after in
         some_none (sym (batch-none b t s upto (omega arith)) ∙ c.within.is)
 
-    held_fresh : IsHeld after t (fresh_held s cs count cells hs)
+    held_fresh : IsHeldBatch after t (fresh_held s cs count cells hs)
     held_fresh = record {
       batch = begun_batch e.seat cs;
       is = here;
@@ -385,7 +385,7 @@ module _ (sh : RowShape) (b : Base) (es : List Entry) (tid : TableId) (raised : 
         differs u r p z = some_none (sym (batch-none b t s es new) ∙ (ap (λ (v : ℕ). batch_of t v es) z ∙ p.is))
 
     is_in_begun : (u : ℕ) → is_in u (held_begun s cs count cells hs) ≡ (is_in u hs || nat_eq s u)
-    is_in_begun u = list_any-append (λ h. nat_eq h.stamp u) (map (meets cs) hs) (fresh_held s cs count cells hs ∷ []) ∙ ((λ i. list_any_map (λ (h : HeldBatch). nat_eq h.stamp u) (meets cs) hs i || (or_none (nat_eq s u) i)))
+    is_in_begun u = list_any-append (λ h. nat_eq h.stamp u) (map (with_met cs) hs) (fresh_held s cs count cells hs ∷ []) ∙ ((λ i. list_any_map (λ (h : HeldBatch). nat_eq h.stamp u) (with_met cs) hs i || (or_none (nat_eq s u) i)))
       where
         or_none : (v : Bool) → (v || false) ≡ v
         or_none true = refl
@@ -393,10 +393,10 @@ module _ (sh : RowShape) (b : Base) (es : List Entry) (tid : TableId) (raised : 
 
     pub held_after_begun : HeldKept b after t (held_begun s cs count cells hs)
     held_after_begun = record {
-      rising = rising_end (b.last t) (map (meets cs) hs) (fresh_held s cs count cells hs) (let m = last_from-le t (b.last t) es in omega arith)
-          (all_map (IsHeld es t) (λ h. h.stamp < s) (meets cs) (λ h q. (let m = below h q in omega arith)) hs held.each)
-          (rising_map (meets cs) (λ h. refl) (b.last t) (b.last t) refl hs held.rising);
-      each = all_end (IsHeld after t) (map (meets cs) hs) (fresh_held s cs count cells hs) (all_map (IsHeld es t) (IsHeld after t) (meets cs) held_meets hs held.each) held_fresh;
+      rising = rising_end (b.last t) (map (with_met cs) hs) (fresh_held s cs count cells hs) (let m = last_from-le t (b.last t) es in omega arith)
+          (all_map (IsHeldBatch es t) (λ h. h.stamp < s) (with_met cs) (λ h q. (let m = below h q in omega arith)) hs held.each)
+          (rising_map (with_met cs) (λ h. refl) (b.last t) (b.last t) refl hs held.rising);
+      each = all_end (IsHeldBatch after t) (map (with_met cs) hs) (fresh_held s cs count cells hs) (all_map (IsHeldBatch es t) (IsHeldBatch after t) (with_met cs) held_meets hs held.each) held_fresh;
       all = λ u y q n. is_in_begun u ∙ elim (cases_eq s u) [
         | inl z ↦ or_right (is_in u hs) (nat_eq s u) (eq-eqb s u z)
         | inr z ↦ or_left (is_in u hs) (nat_eq s u) (held.all u y (sym (there u z) ∙ q) n)
@@ -428,10 +428,10 @@ module _ (sh : RowShape) (b : Base) (es : List Entry) (tid : TableId) (raised : 
       | inr z ↦ record { batch = p.batch; is = sym (there_wrote sh b es tid raised k e s rows is f u z) ∙ p.is; what = p.what; left = p.left }
     ]
 
-    held_writes : (h : HeldBatch) → IsHeld es t h → IsHeld (es ++ e ∷ []) t (writes_rows s rows h)
+    held_writes : (h : HeldBatch) → IsHeldBatch es t h → IsHeldBatch (es ++ e ∷ []) t (writes_rows s rows h)
     held_writes h q = by (nat_eq h.stamp s) refl
       where
-        by : (v : Bool) → nat_eq h.stamp s ≡ v → IsHeld (es ++ e ∷ []) t (record h { written = cond v (h.written ++ rows) h.written })
+        by : (v : Bool) → nat_eq h.stamp s ≡ v → IsHeldBatch (es ++ e ∷ []) t (record h { written = cond v (h.written ++ rows) h.written })
         by true z =
             let at : h.stamp ≡ s = eqb-true h.stamp s z in
             let same : f.batch ≡ q.batch = same_batch (sym f.is ∙ (ap (λ (v : ℕ). batch_of t v es) (sym at) ∙ q.is)) in
@@ -448,7 +448,7 @@ module _ (sh : RowShape) (b : Base) (es : List Entry) (tid : TableId) (raised : 
     pub held_after_wrote : HeldKept b (es ++ e ∷ []) t (held_wrote s rows hs)
     held_after_wrote = record {
       rising = rising_map (writes_rows s rows) (λ h. refl) (b.last t) (b.last t) refl hs held.rising;
-      each = all_map (IsHeld es t) (IsHeld (es ++ e ∷ []) t) (writes_rows s rows) held_writes hs held.each;
+      each = all_map (IsHeldBatch es t) (IsHeldBatch (es ++ e ∷ []) t) (writes_rows s rows) held_writes hs held.each;
       all = λ u y q n. list_any_map (λ (h : HeldBatch). nat_eq h.stamp u) (writes_rows s rows) hs ∙ elim (cases_eq s u) [
         | inl z ↦ held.all u f.batch (subst (λ (v : ℕ). batch_of t v es ≡ Some f.batch) z f.is) (in_writing f.batch f.phase).0
         | inr z ↦ held.all u y (sym (there_wrote sh b es tid raised k e s rows is f u z) ∙ q) n
@@ -466,10 +466,10 @@ module _ (sh : RowShape) (b : Base) (es : List Entry) (tid : TableId) (raised : 
       | inr z ↦ record { batch = p.batch; is = sym (there_ended sh b es tid raised k e s is f u z) ∙ p.is; what = p.what; left = p.left }
     ]
 
-    others_on : (h : HeldBatch) → (s ≡ h.stamp → ⊥) → IsHeld es t h → IsHeld (es ++ e ∷ []) t h
+    others_on : (h : HeldBatch) → (s ≡ h.stamp → ⊥) → IsHeldBatch es t h → IsHeldBatch (es ++ e ∷ []) t h
     others_on h n q = held_on es t h q e pending_ended h.written (λ l. l) q.batch (there_ended sh b es tid raised k e s is f h.stamp n ∙ q.is) q.changes q.written q.running
 
-    others_filter : (xs : List HeldBatch) → AllByRecursion (IsHeld es t) xs → AllByRecursion (IsHeld (es ++ e ∷ []) t) (held_ended s xs)
+    others_filter : (xs : List HeldBatch) → AllByRecursion (IsHeldBatch es t) xs → AllByRecursion (IsHeldBatch (es ++ e ∷ []) t) (held_ended s xs)
     others_filter [] a = tt
     others_filter (x ∷ xs) a = (let z = others_filter xs a.1 in elim (cases_eq x.stamp s) [
       | inl u ↦ (let v : not (nat_eq x.stamp s) ≡ false = ap not (eq-eqb x.stamp s u) in rw v z)
@@ -494,7 +494,7 @@ module _ (sh : RowShape) (b : Base) (es : List Entry) (tid : TableId) (raised : 
     }
 
     -- what the receipt tells: the rows that the batch met are exactly its concurrent ones
-    pub receipt : (h : HeldBatch) → IsHeld es t h → (r : List Value) → (has h.met r ≡ true → (is_some (change_of h.changes r) ≡ true) × IsMet (es ++ e ∷ []) t h.stamp r) × (is_some (change_of h.changes r) ≡ true → IsMet (es ++ e ∷ []) t h.stamp r → has h.met r ≡ true)
+    pub receipt : (h : HeldBatch) → IsHeldBatch es t h → (r : List Value) → (has h.met r ≡ true → (is_some (change_of h.changes r) ≡ true) × IsMet (es ++ e ∷ []) t h.stamp r) × (is_some (change_of h.changes r) ≡ true → IsMet (es ++ e ∷ []) t h.stamp r → has h.met r ≡ true)
     receipt h q r = (
       λ m. (let z = q.met_from r m in (z.0, concurrent_more es e t h.stamp r z.1)),
       λ c conc. elim (concurrent_last es e t h.stamp r conc) [
@@ -514,7 +514,7 @@ module _ (sh : RowShape) (b : Base) (es : List Entry) (tid : TableId) (raised : 
       | inr z ↦ record { batch = p.batch; is = sym (there_phase sh b es tid raised k e s phase is f u z) ∙ p.is; what = p.what; left = p.left }
     ]
 
-    held_phased : (h : HeldBatch) → IsHeld es t h → IsHeld (es ++ e ∷ []) t h
+    held_phased : (h : HeldBatch) → IsHeldBatch es t h → IsHeldBatch (es ++ e ∷ []) t h
     held_phased h q = elim (cases_eq s h.stamp) [
       | inl z ↦
           (let same : f.batch ≡ q.batch = same_batch (sym f.is ∙ (ap (λ (v : ℕ). batch_of t v es) z ∙ q.is)) in
@@ -525,7 +525,7 @@ module _ (sh : RowShape) (b : Base) (es : List Entry) (tid : TableId) (raised : 
     pub held_after_phase : HeldKept b (es ++ e ∷ []) t hs
     held_after_phase = record {
       rising = held.rising;
-      each = all_more (IsHeld es t) (IsHeld (es ++ e ∷ []) t) held_phased hs held.each;
+      each = all_more (IsHeldBatch es t) (IsHeldBatch (es ++ e ∷ []) t) held_phased hs held.each;
       all = λ u y q n. elim (cases_eq s u) [
         | inl z ↦ held.all u f.batch (subst (λ (v : ℕ). batch_of t v es ≡ Some f.batch) z f.is) f.running
         | inr z ↦ held.all u y (sym (there_phase sh b es tid raised k e s phase is f u z) ∙ q) n
@@ -541,7 +541,7 @@ module _ (sh : RowShape) (b : Base) (es : List Entry) (tid : TableId) (raised : 
     pub held_after_idle : HeldKept b (es ++ e ∷ []) t hs
     held_after_idle = record {
       rising = held.rising;
-      each = all_more (IsHeld es t) (IsHeld (es ++ e ∷ []) t) (λ h q. held_on es t h q e (λ u r p. record { batch = p.batch; is = sym (still_idle u) ∙ p.is; what = p.what; left = p.left }) h.written (λ l. l) q.batch (still_idle h.stamp ∙ q.is) q.changes q.written q.running) hs held.each;
+      each = all_more (IsHeldBatch es t) (IsHeldBatch (es ++ e ∷ []) t) (λ h q. held_on es t h q e (λ u r p. record { batch = p.batch; is = sym (still_idle u) ∙ p.is; what = p.what; left = p.left }) h.written (λ l. l) q.batch (still_idle h.stamp ∙ q.is) q.changes q.written q.running) hs held.each;
       all = λ u y q n. held.all u y (sym (still_idle u) ∙ q) n;
     }
 

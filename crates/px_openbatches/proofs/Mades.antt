@@ -22,7 +22,7 @@ use Rattle.px_forms.specs.Indexes.{view_of, IndexForm, IsIndexForm, view_at, sha
 use Rattle.px_forms.specs.Rows.{DataForm}
 use Rattle.px_indexed.specs.Kept.{ReadsWrites, RowsKept, DataKept, AreIndexCells, AreRowCells}
 use Rattle.px_forms.specs.Several.{AreOwned, cells_for}
-use Rattle.px_openbatches.specs.Made.{RowCells, IsIndexRow, IsRowMade, IsMade, IsComputed, cells_at, IsCellOfRow, IsPutOfRow}
+use Rattle.px_openbatches.specs.Made.{RowCells, IsIndexRow, IsRowMade, IsMade, IsComputed, picked_cells, IsCellOfRow, IsPutOfRow}
 use Rattle.px_groupworld.specs.Group.{TableForm}
 use Rattle.px_openbatches.specs.Pending.{HeldKept, after_pending, HeldBatch}
 use Rattle.px_trail.specs.Trail.{last_of}
@@ -36,8 +36,8 @@ use Rattle.px_indexed.proofs.Idle.{history_stays}
 -- ---- one row's cells
 
 -- a fact of each row's cells is one of the cells that are found
-pub found_at : (P : List Value → List CellData → Type 0) (pick : RowCells → List CellData) (xs : List RowCells) (r : List Value) → AllByRecursion (λ x. P x.row (pick x)) xs → has (map (λ (x : RowCells). x.row) xs) r ≡ true → P r (cells_at pick xs r)
-unfolding has cells_at
+pub found_at : (P : List Value → List CellData → Type 0) (pick : RowCells → List CellData) (xs : List RowCells) (r : List Value) → AllByRecursion (λ x. P x.row (pick x)) xs → has (map (λ (x : RowCells). x.row) xs) r ≡ true → P r (picked_cells pick xs r)
+unfolding has picked_cells
 found_at P pick [] r a h = absurd (false≢true h)
 found_at P pick (x ∷ xs) r a h = elim (cases_Bool (is_eq (row_order x.row r))) [
   | inl e ↦ rw e (subst (λ (z : List Value). P z (pick x)) ((row_order-Decides x.row r).0 e) a.0)
@@ -45,8 +45,8 @@ found_at P pick (x ∷ xs) r a h = elim (cases_Bool (is_eq (row_order x.row r)))
 ]
 
 -- and where none is found there are none
-pub found_or : (P : List Value → List CellData → Type 0) (pick : RowCells → List CellData) → ((r : List Value) → P r []) → (xs : List RowCells) (r : List Value) → AllByRecursion (λ x. P x.row (pick x)) xs → P r (cells_at pick xs r)
-unfolding cells_at
+pub found_or : (P : List Value → List CellData → Type 0) (pick : RowCells → List CellData) → ((r : List Value) → P r []) → (xs : List RowCells) (r : List Value) → AllByRecursion (λ x. P x.row (pick x)) xs → P r (picked_cells pick xs r)
+unfolding picked_cells
 found_or P pick n [] r a = n r
 found_or P pick n (x ∷ xs) r a = elim (cases_Bool (is_eq (row_order x.row r))) [
   | inl e ↦ rw e (subst (λ (z : List Value). P z (pick x)) ((row_order-Decides x.row r).0 e) a.0)
@@ -101,21 +101,21 @@ batch_rows f m a rows batch same = record {
 
 module _ (f : IndexForm) (g : IsIndexForm f) (s : ℕ) (seen : List Value → IndexCells (List ℕ) (List ℕ)) (pick : RowCells → List CellData) (xs : List RowCells) (made : AllByRecursion (λ x. IsIndexRow f x.row s (seen x.row) (pick x)) xs)
     (rows : List (List Value)) (distinct : is_distinct rows ≡ true) (inside : (r : List Value) → has rows r ≡ true → has (map (λ (x : RowCells). x.row) xs) r ≡ true)
-    (batch : List CellData) (same : ReadsSame batch (cells_for (cells_at pick xs) rows)) where
+    (batch : List CellData) (same : ReadsSame batch (cells_for (picked_cells pick xs) rows)) where
   pub handed : (r : List Value) → view_at f r batch ≡ cells_if (has rows r) (seen r)
   handed r =
-      ap (view_of (f.owns r) f.columns f.place) (same_values batch (cells_for (cells_at pick xs) rows) same)
-      ∙ (rows_view f g (cells_at pick xs) (λ r. view_at f r (cells_at pick xs r))
+      ap (view_of (f.owns r) f.columns f.place) (same_values batch (cells_for (picked_cells pick xs) rows) same)
+      ∙ (rows_view f g (picked_cells pick xs) (λ r. view_at f r (picked_cells pick xs r))
       (λ r. found_or (λ r cells. AreOwned f r cells) pick (λ r. tt) xs r (all_rows (λ x. IsIndexRow f x.row s (seen x.row) (pick x)) (λ x. AreOwned f x.row (pick x)) (λ x k. all_here (IsCellOfRow f x.row s) (λ c. f.owns x.row c.key ≡ true) (λ c z. z.owned) (pick x) k.each) xs made))
       (λ r. refl) rows distinct r
       ∙ by (has rows r) refl)
     where
-      by : (v : Bool) → has rows r ≡ v → cells_if v (view_at f r (cells_at pick xs r)) ≡ cells_if v (seen r)
+      by : (v : Bool) → has rows r ≡ v → cells_if v (view_at f r (picked_cells pick xs r)) ≡ cells_if v (seen r)
       by false e = refl
       by true e = found_at (λ r cells. view_at f r cells ≡ seen r) pick xs r (all_rows (λ x. IsIndexRow f x.row s (seen x.row) (pick x)) (λ x. view_at f x.row (pick x) ≡ seen x.row) (λ x k. k.sees) xs made) (inside r e)
 
   pub handed_cells : (last : ℕ) → s ≤ last → AreIndexCells f last batch
-  handed_cells last l = batch_cells f s last l (cells_at pick xs) (λ r. found_or (λ r cells. AllByRecursion (IsCellOfRow f r s) cells) pick (λ r. tt) xs r (all_rows (λ x. IsIndexRow f x.row s (seen x.row) (pick x)) (λ x. AllByRecursion (IsCellOfRow f x.row s) (pick x)) (λ x k. k.each) xs made)) rows batch same
+  handed_cells last l = batch_cells f s last l (picked_cells pick xs) (λ r. found_or (λ r cells. AllByRecursion (IsCellOfRow f r s) cells) pick (λ r. tt) xs r (all_rows (λ x. IsIndexRow f x.row s (seen x.row) (pick x)) (λ x. AllByRecursion (IsCellOfRow f x.row s) (pick x)) (λ x k. k.each) xs made)) rows batch same
 
 -- ---- what is handed to the data region
 
@@ -167,20 +167,20 @@ module _ (f : TableForm) (es : List Entry) (form : ℕ → IndexForm) (count s :
 
   module _ (i : ℕ) (there : i < count) (g : IsIndexForm (form i)) (rows : List (List Value)) (distinct : is_distinct rows ≡ true) (inside : (r : List Value) → has rows r ≡ true → has (rows_of cs) r ≡ true) (batch : List CellData) where
     -- Phase 1, with all rows of the batch; and Phase 3, with those that aren't concurrent
-    pub reads_marks : ReadsSame batch (cells_for (cells_at (λ x. get_or x.marks i []) xs) rows) → (r : List Value) → view_at (form i) r batch ≡ cells_if (has rows r) (mark_of i r)
+    pub reads_marks : ReadsSame batch (cells_for (picked_cells (λ x. get_or x.marks i []) xs) rows) → (r : List Value) → view_at (form i) r batch ≡ cells_if (has rows r) (mark_of i r)
     reads_marks same = handed (form i) g s (mark_of i) (λ x. get_or x.marks i []) xs (marks_made i there) rows distinct (λ r h. in_rows r (inside r h)) batch same
 
-    pub reads_closes : ReadsSame batch (cells_for (cells_at (λ x. get_or x.closes i []) xs) rows) → (r : List Value) → view_at (form i) r batch ≡ cells_if (has rows r) (close_of i r)
+    pub reads_closes : ReadsSame batch (cells_for (picked_cells (λ x. get_or x.closes i []) xs) rows) → (r : List Value) → view_at (form i) r batch ≡ cells_if (has rows r) (close_of i r)
     reads_closes same = handed (form i) g s (close_of i) (λ x. get_or x.closes i []) xs (closes_made i there) rows distinct (λ r h. in_rows r (inside r h)) batch same
 
-    pub marks_below : ReadsSame batch (cells_for (cells_at (λ x. get_or x.marks i []) xs) rows) → (last : ℕ) → s ≤ last → AreIndexCells (form i) last batch
+    pub marks_below : ReadsSame batch (cells_for (picked_cells (λ x. get_or x.marks i []) xs) rows) → (last : ℕ) → s ≤ last → AreIndexCells (form i) last batch
     marks_below same = handed_cells (form i) g s (mark_of i) (λ x. get_or x.marks i []) xs (marks_made i there) rows distinct (λ r h. in_rows r (inside r h)) batch same
 
-    pub closes_below : ReadsSame batch (cells_for (cells_at (λ x. get_or x.closes i []) xs) rows) → (last : ℕ) → s ≤ last → AreIndexCells (form i) last batch
+    pub closes_below : ReadsSame batch (cells_for (picked_cells (λ x. get_or x.closes i []) xs) rows) → (last : ℕ) → s ≤ last → AreIndexCells (form i) last batch
     closes_below same = handed_cells (form i) g s (close_of i) (λ x. get_or x.closes i []) xs (closes_made i there) rows distinct (λ r h. in_rows r (inside r h)) batch same
 
   -- Phase 2, with any rows of the batch
-  pub reads_writes : ((r r' : List Value) → f.rows.key_of r ≡ f.rows.key_of r' → r ≡ r') → (y : Batch) → y.changes ≡ cs → (rows : List (List Value)) → is_distinct rows ≡ true → ((r : List Value) → has rows r ≡ true → has (rows_of cs) r ≡ true) → (batch : List CellData) → ReadsSame batch (cells_for (cells_at (λ x. x.puts) xs) rows) → ReadsWrites f.rows y s rows batch
+  pub reads_writes : ((r r' : List Value) → f.rows.key_of r ≡ f.rows.key_of r' → r ≡ r') → (y : Batch) → y.changes ≡ cs → (rows : List (List Value)) → is_distinct rows ≡ true → ((r : List Value) → has rows r ≡ true → has (rows_of cs) r ≡ true) → (batch : List CellData) → ReadsSame batch (cells_for (picked_cells (λ x. x.puts) xs) rows) → ReadsWrites f.rows y s rows batch
   reads_writes apart y changes rows distinct inside batch same = record {
     cells = batch_rows f m puts_of rows batch same;
     each = λ r w h c q u d. at r q u d ∙ (ap (λ v. cond v (value_at (m r) (f.rows.key_of r) q u d) None) h ∙ written r w (in_rows r (inside r h)) (ap (λ l. change_of l r) (sym changes) ∙ c) q u d);
@@ -188,7 +188,7 @@ module _ (f : TableForm) (es : List Entry) (form : ℕ → IndexForm) (count s :
   }
     where
       m : List Value → List CellData
-      m = cells_at (λ x. x.puts) xs
+      m = picked_cells (λ x. x.puts) xs
 
       puts_of : (r : List Value) → AllByRecursion (IsPutOfRow f r) (m r)
       puts_of r = found_or (λ r cells. AllByRecursion (IsPutOfRow f r) cells) (λ x. x.puts) (λ r. tt) xs r (all_rows (IsRowMade f es form count s cs) (λ x. AllByRecursion (IsPutOfRow f x.row) x.puts) (λ x k. k.keys) xs made.each)

@@ -23,7 +23,7 @@ use Rattle.px_history.specs.Rows.{begun_as, RowBatch, row_as, row_in, fate_by, T
 use Rattle.px_indexed.specs.Kept.{RowsKept, DataKept}
 use Rattle.px_cells.specs.Contents.{value_at}
 use Rattle.px_forms.specs.Rows.{DataForm}
-use Rattle.px_openbatches.specs.Pending.{left_as, left_of, applied_if, after_pending, is_in, IsRisingFrom, IsHeld, HeldKept, HeldBatch}
+use Rattle.px_openbatches.specs.Pending.{left_as, change_left, applied_if, after_pending, is_in, AreStampsRisingFrom, IsHeldBatch, HeldKept, HeldBatch}
 use Rattle.px_history.proofs.Changes.{state_at-down, expected_written, written-down, from-snoc}
 use Rattle.px_trail.proofs.Orders.{filter-has, has-change}
 use Rattle.px_history.proofs.Ties.{above, step_is}
@@ -43,7 +43,7 @@ either Written a c = absurd (false≢true (sym c))
 either Lost a c = refl
 
 -- a stamp among those that come later is later
-pub in_later : (s q : ℕ) (hs : List HeldBatch) → IsRisingFrom q hs → s ≤ q → is_in s hs ≡ true → ⊥
+pub in_later : (s q : ℕ) (hs : List HeldBatch) → AreStampsRisingFrom q hs → s ≤ q → is_in s hs ≡ true → ⊥
 in_later s q [] r l h = false≢true h
 in_later s q (h ∷ hs) r l i = by (nat_eq h.stamp s) (ne_eqb h.stamp s (λ e. absurd (let k = r.0 in omega arith))) (in_later s h.stamp hs r.1 (let k = r.0 in omega arith)) i
   where
@@ -55,11 +55,11 @@ pub in_rest : (s : ℕ) (h : HeldBatch) (hs : List HeldBatch) → (h.stamp ≡ s
 in_rest s h hs n i = sym (ap (λ v. v || is_in s hs) (ne_eqb h.stamp s n)) ∙ i
 
 module _ (sh : RowShape) (b : Base) (es : List Entry) (t : ℕ) (r : List Value) (g : History RowState) (tie : Tied sh b es t r g) where
-  row_of : (h : HeldBatch) (k : IsHeld es t h) → row_in (batch_of t h.stamp es) r ≡ row_as (change_of h.changes r) (has h.written r) false
+  row_of : (h : HeldBatch) (k : IsHeldBatch es t h) → row_in (batch_of t h.stamp es) r ≡ row_as (change_of h.changes r) (has h.written r) false
   row_of h k = ap (λ (o : Option Batch). row_in o r) k.is ∙ (λ i. row_as (change_of (k.changes i) r) (k.written r i) (k.running i))
 
   -- nothing of it is left
-  pub not_left : (h : HeldBatch) → IsHeld es t h → left_of h r ≡ None → is_undecided (g.fate h.stamp) ≡ false
+  pub not_left : (h : HeldBatch) → IsHeldBatch es t h → change_left h r ≡ None → is_undecided (g.fate h.stamp) ≡ false
   not_left h k n = ap is_undecided (tie.fates h.stamp ∙ ap (λ o. cond (b.changed t r h.stamp) Written (fate_by o)) (row_of h k)) ∙ by (b.changed t r h.stamp) (change_of h.changes r) (has h.written r) n
     where
       by : (c : Bool) (o : Option What) (v : Bool) → left_as o v ≡ None → is_undecided (cond c Written (fate_by (row_as o v false))) ≡ false
@@ -68,7 +68,7 @@ module _ (sh : RowShape) (b : Base) (es : List Entry) (t : ℕ) (r : List Value)
       by false (Some w) true n = refl
       by false (Some w) false n = absurd (some_none (sym n))
 
-  left_row : (h : HeldBatch) → IsHeld es t h → (w : What) → left_of h r ≡ Some w → row_in (batch_of t h.stamp es) r ≡ Some (record { what = w; written = false; ended = false })
+  left_row : (h : HeldBatch) → IsHeldBatch es t h → (w : What) → change_left h r ≡ Some w → row_in (batch_of t h.stamp es) r ≡ Some (record { what = w; written = false; ended = false })
   left_row h k w n = row_of h k ∙ by (change_of h.changes r) (has h.written r) n
     where
       same : (x : What) → Some x ≡ Some w → x ≡ w
@@ -79,11 +79,11 @@ module _ (sh : RowShape) (b : Base) (es : List Entry) (t : ℕ) (r : List Value)
       by (Some x) true n = absurd (some_none n)
       by (Some x) false n = ap (λ y. Some (record { what = y; written = false; ended = false })) (same x n)
 
-  pub left_undecided : (h : HeldBatch) → IsHeld es t h → (w : What) → left_of h r ≡ Some w → g.fate h.stamp ≡ Undecided
+  pub left_undecided : (h : HeldBatch) → IsHeldBatch es t h → (w : What) → change_left h r ≡ Some w → g.fate h.stamp ≡ Undecided
   left_undecided h k w n = (let q = left_row h k w n in tie.fates h.stamp ∙ (cond-false _ _ _ (tie.fresh h.stamp _ q).1 ∙ ap fate_by q))
 
   -- the state after a pending change
-  left_state : (h : HeldBatch) → IsHeld es t h → (w : What) → left_of h r ≡ Some w → expected_state g h.stamp ≡ apply sh r (expected_state g (h.stamp - 1)) w
+  left_state : (h : HeldBatch) → IsHeldBatch es t h → (w : What) → change_left h r ≡ Some w → expected_state g h.stamp ≡ apply sh r (expected_state g (h.stamp - 1)) w
   left_state h k w n =
       let q = left_row h k w n in
       let u = left_undecided h k w n in
@@ -107,45 +107,45 @@ module _ (sh : RowShape) (b : Base) (es : List Entry) (t : ℕ) (r : List Value)
   AreUnder p hs = AllByRecursion (λ h. h.stamp ≤ p) hs
 
   -- none is undecided between q and the next
-  between : (q : ℕ) (h : HeldBatch) (hs : List HeldBatch) → IsRisingFrom q (h ∷ hs) → AreIn q (h ∷ hs) → (s : ℕ) → q < s → s < h.stamp → is_undecided (g.fate s) ≡ false
+  between : (q : ℕ) (h : HeldBatch) (hs : List HeldBatch) → AreStampsRisingFrom q (h ∷ hs) → AreIn q (h ∷ hs) → (s : ℕ) → q < s → s < h.stamp → is_undecided (g.fate s) ≡ false
   between q h hs up all s l m = elim (cases_Bool (is_undecided (g.fate s))) [
     | inl u ↦ absurd (in_later s h.stamp hs up.1 (omega arith) (in_rest s h hs (λ e. absurd (omega arith)) (all s l u)))
     | inr u ↦ u
   ]
 
-  above_in : (q : ℕ) (h : HeldBatch) (hs : List HeldBatch) → IsRisingFrom q (h ∷ hs) → AreIn q (h ∷ hs) → AreIn h.stamp hs
+  above_in : (q : ℕ) (h : HeldBatch) (hs : List HeldBatch) → AreStampsRisingFrom q (h ∷ hs) → AreIn q (h ∷ hs) → AreIn h.stamp hs
   above_in q h hs up all s l u = in_rest s h hs (λ e. absurd (omega arith)) (all s (let k = up.0 in omega arith) u)
 
   -- where nothing is written above q
   abbrev NoneWritten : ℕ → Type 0
   NoneWritten q = (s : ℕ) → q < s → counts (g.fate s) ≡ false
 
-  pendings : (p q : ℕ) (hs : List HeldBatch) → q ≤ p → AreUnder p hs → IsRisingFrom q hs → AllByRecursion (IsHeld es t) hs → AreIn q hs → NoneWritten q → expected_state g p ≡ after_pending sh r (expected_state g q) hs
+  pendings : (p q : ℕ) (hs : List HeldBatch) → q ≤ p → AreUnder p hs → AreStampsRisingFrom q hs → AllByRecursion (IsHeldBatch es t) hs → AreIn q hs → NoneWritten q → expected_state g p ≡ after_pending sh r (expected_state g q) hs
   unfolding after_pending
   pendings p q [] l under up is all none = expected-down p q l (λ s a c. either (g.fate s) (elim (cases_Bool (is_undecided (g.fate s))) [ inl u ↦ absurd (false≢true (all s a u)) | inr u ↦ u ]) (none s a))
-  pendings p q (h ∷ hs) l under up is all none = by (pendings p h.stamp hs under.0 under.1 up.1 is.1 (above_in q h hs up all) (λ s a. none s (let k = up.0 in omega arith))) (left_of h r) refl
+  pendings p q (h ∷ hs) l under up is all none = by (pendings p h.stamp hs under.0 under.1 up.1 is.1 (above_in q h hs up all) (λ s a. none s (let k = up.0 in omega arith))) (change_left h r) refl
     where
       down : (v : ℕ) → q ≤ v → v < h.stamp → expected_state g v ≡ expected_state g q
       down v a m = expected-down v q a (λ s c d. either (g.fate s) (between q h hs up all s c (omega arith)) (none s c))
 
-      by : expected_state g p ≡ after_pending sh r (expected_state g h.stamp) hs → (o : Option What) → left_of h r ≡ o → expected_state g p ≡ after_pending sh r (applied_if sh r (expected_state g q) o) hs
+      by : expected_state g p ≡ after_pending sh r (expected_state g h.stamp) hs → (o : Option What) → change_left h r ≡ o → expected_state g p ≡ after_pending sh r (applied_if sh r (expected_state g q) o) hs
       by rest None e = rest ∙ ap (λ o. after_pending sh r o hs) (expected-down h.stamp q (let k = up.0 in omega arith) (λ s c d. either (g.fate s) (elim (cases_eq s h.stamp) [ inl z ↦ subst (λ (v : ℕ). is_undecided (g.fate v) ≡ false) (sym z) (not_left h is.0 e) | inr z ↦ between q h hs up all s c (omega arith) ]) (none s c)))
       by rest (Some w) e = rest ∙ ap (λ o. after_pending sh r o hs) (left_state h is.0 w e ∙ ap (λ o. apply sh r o w) (down (h.stamp - 1) (let k = up.0 in omega arith) (let k = up.0 in omega arith)))
 
   -- where nothing is undecided up to q
-  pub expected_pending : (p q : ℕ) (hs : List HeldBatch) → q ≤ p → AreUnder p hs → IsRisingFrom q hs → AllByRecursion (IsHeld es t) hs → AreIn q hs → ((s : ℕ) → s ≤ q → is_undecided (g.fate s) ≡ false) → expected_state g p ≡ after_pending sh r (written_state g p) hs
+  pub expected_pending : (p q : ℕ) (hs : List HeldBatch) → q ≤ p → AreUnder p hs → AreStampsRisingFrom q hs → AllByRecursion (IsHeldBatch es t) hs → AreIn q hs → ((s : ℕ) → s ≤ q → is_undecided (g.fate s) ≡ false) → expected_state g p ≡ after_pending sh r (written_state g p) hs
   unfolding after_pending
   expected_pending p q [] l under up is all decided = expected_written g p (λ s m. elim (cases_Bool (is_undecided (g.fate s))) [
     | inl u ↦ elim (cases_lt q s) [ inl a ↦ absurd (false≢true (all s a u)) | inr a ↦ decided s (omega arith) ]
     | inr u ↦ u
   ])
-  expected_pending p q (h ∷ hs) l under up is all decided = by (λ d. expected_pending p h.stamp hs under.0 under.1 up.1 is.1 (above_in q h hs up all) d) (left_of h r) refl
+  expected_pending p q (h ∷ hs) l under up is all decided = by (λ d. expected_pending p h.stamp hs under.0 under.1 up.1 is.1 (above_in q h hs up all) d) (change_left h r) refl
     where
       early : (s : ℕ) → s < h.stamp → is_undecided (g.fate s) ≡ false
       early s m = elim (cases_lt q s) [ inl a ↦ between q h hs up all s a m | inr a ↦ decided s (omega arith) ]
 
       -- nothing is written above a pending change
-      none : (w : What) → left_of h r ≡ Some w → (s : ℕ) → h.stamp ≤ s → counts (g.fate s) ≡ false
+      none : (w : What) → change_left h r ≡ Some w → (s : ℕ) → h.stamp ≤ s → counts (g.fate s) ≡ false
       none w e s m = elim (cases_eq h.stamp s) [
         | inl z ↦ subst (λ (v : ℕ). counts (g.fate v) ≡ false) z (ap counts (left_undecided h is.0 w e))
         | inr z ↦ elim (cases_Bool (counts (g.fate s))) [
@@ -154,7 +154,7 @@ module _ (sh : RowShape) (b : Base) (es : List Entry) (t : ℕ) (r : List Value)
         ]
       ]
 
-      by : (((s : ℕ) → s ≤ h.stamp → is_undecided (g.fate s) ≡ false) → expected_state g p ≡ after_pending sh r (written_state g p) hs) → (o : Option What) → left_of h r ≡ o → expected_state g p ≡ after_pending sh r (applied_if sh r (written_state g p) o) hs
+      by : (((s : ℕ) → s ≤ h.stamp → is_undecided (g.fate s) ≡ false) → expected_state g p ≡ after_pending sh r (written_state g p) hs) → (o : Option What) → change_left h r ≡ o → expected_state g p ≡ after_pending sh r (applied_if sh r (written_state g p) o) hs
       by rest None e = rest (λ s m. elim (cases_eq s h.stamp) [ inl z ↦ subst (λ (v : ℕ). is_undecided (g.fate v) ≡ false) (sym z) (not_left h is.0 e) | inr z ↦ early s (omega arith) ])
       by rest (Some w) e =
           let k = up.0 in let m = under.0 in
@@ -199,10 +199,10 @@ module _ (f : DataForm) (b : Base) (es : List Entry) (tid : TableId) (raised : �
   abbrev hist : List Value → History RowState
   hist r = history_at sh b es t r
 
-  held_below : (h : HeldBatch) → IsHeld es t h → h.stamp ≤ last_of b t es
+  held_below : (h : HeldBatch) → IsHeldBatch es t h → h.stamp ≤ last_of b t es
   held_below h q = elim (cases_lt (last_of b t es) h.stamp) [ inl l ↦ absurd (some_none (sym (batch-none b t h.stamp es l) ∙ q.is)) | inr l ↦ omega arith ]
 
-  all_below : (p : ℕ) (xs : List HeldBatch) → last_of b t es ≤ p → AllByRecursion (IsHeld es t) xs → AllByRecursion (λ h. h.stamp ≤ p) xs
+  all_below : (p : ℕ) (xs : List HeldBatch) → last_of b t es ≤ p → AllByRecursion (IsHeldBatch es t) xs → AllByRecursion (λ h. h.stamp ≤ p) xs
   all_below p [] l a = tt
   all_below p (x ∷ xs) l a = ((let m = held_below x a.0 in omega arith), all_below p xs l a.1)
 

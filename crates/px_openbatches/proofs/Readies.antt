@@ -18,8 +18,8 @@ use Rattle.px_values.specs.States.{RowState}
 use Rattle.px_history.specs.History.{History}
 use Rattle.px_groupworld.specs.Group.{TableForm}
 use Rattle.px_openbatches.specs.Made.{RowCells, IsComputed}
-use Rattle.px_openbatches.specs.Pending.{IsHeld, meets, fresh_held, held_begun, writes_rows, held_wrote, held_ended, HeldBatch}
-use Rattle.px_openbatches.specs.Opens.{IsReady, OpensKept, form_in}
+use Rattle.px_openbatches.specs.Pending.{IsHeldBatch, with_met, fresh_held, held_begun, writes_rows, held_wrote, held_ended, HeldBatch}
+use Rattle.px_openbatches.specs.Opens.{IsBatchReady, OpensKept, form_in}
 use Rattle.px_openbatches.proofs.Pendings.{some_none}
 use Rattle.px_history.specs.Rows.{IsLater}
 use Rattle.px_indexed.proofs.Idle.{IsStill, history_idle}
@@ -37,7 +37,7 @@ both P Q [] a c = tt
 both P Q (h ∷ hs) a c = ((a.0, c.0), both P Q hs a.1 c.1)
 
 module _ (f : TableForm) (es : List Entry) (xs : List IndexPart) (raised : ℕ) (k : RowsKept f.rows.shape f.base es f.id.0 raised) (hs : List HeldBatch) (opens : OpensKept f es xs hs) where
-  ready_on : (e : Entry) (h : HeldBatch) → IsLater h.stamp e.act → IsReady f es xs h → IsReady f (es ++ e ∷ []) xs h
+  ready_on : (e : Entry) (h : HeldBatch) → IsLater h.stamp e.act → IsBatchReady f es xs h → IsBatchReady f (es ++ e ∷ []) xs h
   ready_on e h later q = record { inside = q.inside; distinct = q.distinct; made = made_stays f es (form_in f xs) h.count h.stamp h.changes h.cells q.made e later; born = q.born }
 
   -- a batch begins: its cells are made from the states that it reads
@@ -47,40 +47,40 @@ module _ (f : TableForm) (es : List Entry) (xs : List IndexPart) (raised : ℕ) 
       → OpensKept f (es ++ e ∷ []) xs (held_begun s cs (length xs) made hs)
   opens_begun low cells told e s cs is new apart p newest within older made rows computed = record {
     held = held_after_begun f.rows.shape f.base es f.id raised k hs opens.held e s cs is new (length xs) made;
-    ready = all_end (IsReady f (es ++ e ∷ []) xs) (map (meets cs) hs) (fresh_held s cs (length xs) made hs)
-        (all_map (λ h. IsReady f es xs h × IsHeld es f.id.0 h) (IsReady f (es ++ e ∷ []) xs) (meets cs) (λ h q. on h q.0 q.1) hs (both (IsReady f es xs) (IsHeld es f.id.0) hs opens.ready opens.held.each))
+    ready = all_end (IsBatchReady f (es ++ e ∷ []) xs) (map (with_met cs) hs) (fresh_held s cs (length xs) made hs)
+        (all_map (λ h. IsBatchReady f es xs h × IsHeldBatch es f.id.0 h) (IsBatchReady f (es ++ e ∷ []) xs) (with_met cs) (λ h q. on h q.0 q.1) hs (both (IsBatchReady f es xs) (IsHeldBatch es f.id.0) hs opens.ready opens.held.each))
         (record { inside = omega arith; distinct = apart; made = made_begun f es raised low k hs opens.held cells told e s cs is new p newest within (form_in f xs) (length xs) made rows computed; born = λ i l. (let z = older i l in omega arith) });
   }
     where
-      later : (h : HeldBatch) → IsHeld es f.id.0 h → (a : Act) → a ≡ Begun f.id s cs → IsLater h.stamp a
+      later : (h : HeldBatch) → IsHeldBatch es f.id.0 h → (a : Act) → a ≡ Begun f.id s cs → IsLater h.stamp a
       later h q a z = subst (IsLater h.stamp) (sym z) (λ m. some_none (sym (batch-none f.base f.id.0 s es new) ∙ (ap (λ (v : ℕ). batch_of f.id.0 v es) m ∙ q.is)))
 
-      on : (h : HeldBatch) → IsReady f es xs h → IsHeld es f.id.0 h → IsReady f (es ++ e ∷ []) xs (meets cs h)
+      on : (h : HeldBatch) → IsBatchReady f es xs h → IsHeldBatch es f.id.0 h → IsBatchReady f (es ++ e ∷ []) xs (with_met cs h)
       on h q z = (let y = ready_on e h (later h z e.act is) q in record { inside = y.inside; distinct = y.distinct; made = y.made; born = y.born })
 
   pub opens_wrote : (e : Entry) (s : ℕ) (rows : List (List Value)) → e.act ≡ Wrote f.id s rows → IsWritable es e.seat f.id.0 s rows → OpensKept f (es ++ e ∷ []) xs (held_wrote s rows hs)
   opens_wrote e s rows is w = record {
     held = held_after_wrote f.rows.shape f.base es f.id raised k hs opens.held e s rows is w;
-    ready = all_map (IsReady f es xs) (IsReady f (es ++ e ∷ []) xs) (writes_rows s rows) (λ h q. (let y = ready_on e h (subst (IsLater h.stamp) (sym is) tt) q in record { inside = y.inside; distinct = y.distinct; made = y.made; born = y.born })) hs opens.ready;
+    ready = all_map (IsBatchReady f es xs) (IsBatchReady f (es ++ e ∷ []) xs) (writes_rows s rows) (λ h q. (let y = ready_on e h (subst (IsLater h.stamp) (sym is) tt) q in record { inside = y.inside; distinct = y.distinct; made = y.made; born = y.born })) hs opens.ready;
   }
 
   pub opens_ended : (e : Entry) (s : ℕ) → e.act ≡ Ended f.id s → IsEnding es e.seat f.id.0 s → OpensKept f (es ++ e ∷ []) xs (held_ended s hs)
   opens_ended e s is w = record {
     held = held_after_ended f.rows.shape f.base es f.id raised k hs opens.held e s is w;
-    ready = all_filter (IsReady f (es ++ e ∷ []) xs) (λ h. not (nat_eq h.stamp s)) hs (all_more (IsReady f es xs) (IsReady f (es ++ e ∷ []) xs) (λ h q. ready_on e h (subst (IsLater h.stamp) (sym is) tt) q) hs opens.ready);
+    ready = all_filter (IsBatchReady f (es ++ e ∷ []) xs) (λ h. not (nat_eq h.stamp s)) hs (all_more (IsBatchReady f es xs) (IsBatchReady f (es ++ e ∷ []) xs) (λ h q. ready_on e h (subst (IsLater h.stamp) (sym is) tt) q) hs opens.ready);
   }
 
   pub opens_phase : (e : Entry) (s phase : ℕ) → e.act ≡ Phase f.id s phase → IsPhase es f.id.0 s phase → OpensKept f (es ++ e ∷ []) xs hs
   opens_phase e s phase is w = record {
     held = held_after_phase f.rows.shape f.base es f.id raised k hs opens.held e s phase is w;
-    ready = all_more (IsReady f es xs) (IsReady f (es ++ e ∷ []) xs) (λ h q. ready_on e h (subst (IsLater h.stamp) (sym is) tt) q) hs opens.ready;
+    ready = all_more (IsBatchReady f es xs) (IsBatchReady f (es ++ e ∷ []) xs) (λ h q. ready_on e h (subst (IsLater h.stamp) (sym is) tt) q) hs opens.ready;
   }
 
   -- an entry of another table, or a repair
   pub opens_idle : (e : Entry) → IsStill f.id e → OpensKept f (es ++ e ∷ []) xs hs
   opens_idle e idle = record {
     held = held_after_idle f.rows.shape f.base es f.id raised k hs opens.held e idle;
-    ready = all_more (IsReady f es xs) (IsReady f (es ++ e ∷ []) xs) (λ h q. record {
+    ready = all_more (IsBatchReady f es xs) (IsBatchReady f (es ++ e ∷ []) xs) (λ h q. record {
       inside = q.inside;
       distinct = q.distinct;
       made = made_same f es (form_in f xs) h.count h.stamp h.changes h.cells q.made (es ++ e ∷ []) (λ r. (let p = history_idle f.rows.shape f.base es f.id raised e idle r in record { old = ap (λ (g : History RowState). g.old h.stamp) p; new = ap (λ (g : History RowState). g.new h.stamp) p }));
@@ -92,7 +92,7 @@ module _ (f : TableForm) (es : List Entry) (xs : List IndexPart) (raised : ℕ) 
   pub opens_regions : (xs' : List IndexPart) → length xs ≤ length xs' → ((i : ℕ) → i < length xs → (get_or xs' i no_part).id ≡ (get_or xs i no_part).id) → ((i : ℕ) → i < length xs → (get_or xs' i no_part).birth ≡ (get_or xs i no_part).birth) → OpensKept f es xs' hs
   opens_regions xs' more same births = record {
     held = opens.held;
-    ready = all_more (IsReady f es xs) (IsReady f es xs') (λ h q. record {
+    ready = all_more (IsBatchReady f es xs) (IsBatchReady f es xs') (λ h q. record {
       inside = (let z = q.inside in omega arith);
       distinct = q.distinct;
       made = made_form f es (form_in f xs) h.count h.stamp h.changes h.cells q.made (form_in f xs') (λ i l. ap f.index ((same i (let z = q.inside in omega arith))));

@@ -58,9 +58,9 @@ pub record IsMade (f : TableForm) (es : List Entry) (form : ℕ → IndexForm) (
   pub each : AllByRecursion (IsRowMade f es form count s cs) xs
 
 -- one kind of cells of a row
-unfoldable pub cells_at : (RowCells → List CellData) → List RowCells → List Value → List CellData
-cells_at pick [] r = []
-cells_at pick (x ∷ xs) r = cond (is_eq (row_order x.row r)) (pick x) (cells_at pick xs r)
+unfoldable pub picked_cells : (RowCells → List CellData) → List RowCells → List Value → List CellData
+picked_cells pick [] r = []
+picked_cells pick (x ∷ xs) r = cond (is_eq (row_order x.row r)) (pick x) (picked_cells pick xs r)
 
 -- what begin computes of a row, from the state that it reads
 pub record IsComputed (f : TableForm) (form : ℕ → IndexForm) (count s : ℕ) (cs : List Change) (old : List Value → RowState) (x : RowCells) : Type 0 where

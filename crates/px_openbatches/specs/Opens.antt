@@ -15,7 +15,7 @@ abbrev pub form_in : TableForm → List IndexPart → ℕ → IndexForm
 form_in f xs i = f.index (get_or xs i no_part).id
 
 -- its cells are those that its phases ask for, now and until it ends
-pub record IsReady (f : TableForm) (es : List Entry) (xs : List IndexPart) (h : HeldBatch) : Type 0 where
+pub record IsBatchReady (f : TableForm) (es : List Entry) (xs : List IndexPart) (h : HeldBatch) : Type 0 where
   pub inside : h.count ≤ length xs
   pub distinct : is_distinct (rows_of h.changes) ≡ true
   pub made : IsMade f es (form_in f xs) h.count h.stamp h.changes h.cells
@@ -24,7 +24,7 @@ pub record IsReady (f : TableForm) (es : List Entry) (xs : List IndexPart) (h : 
 
 pub record OpensKept (f : TableForm) (es : List Entry) (xs : List IndexPart) (hs : List HeldBatch) : Type 0 where
   pub held : HeldKept f.base es f.id.0 hs
-  pub ready : AllByRecursion (IsReady f es xs) hs
+  pub ready : AllByRecursion (IsBatchReady f es xs) hs
 
 -- at the first n indexes, the marks of each row that isn't concurrent are closed
 pub record AreClosed (f : TableForm) (es : List Entry) (v : GroupData) (h : HeldBatch) (n : ℕ) : Type 0 where

@@ -30,8 +30,8 @@ abbrev pub left_as : Option What → Bool → Option What
 left_as None v = None
 left_as (Some w) v = cond v None (Some w)
 
-abbrev pub left_of : HeldBatch → List Value → Option What
-left_of h r = left_as (change_of h.changes r) (has h.written r)
+abbrev pub change_left : HeldBatch → List Value → Option What
+change_left h r = left_as (change_of h.changes r) (has h.written r)
 
 abbrev pub applied_if : Shape → List Value → RowState → Option What → RowState
 applied_if sh r o None = o
@@ -40,7 +40,7 @@ applied_if sh r o (Some w) = apply sh r o w
 -- the state, then the pending changes of the row, one batch after another
 unfoldable pub after_pending : Shape → List Value → RowState → List HeldBatch → RowState
 after_pending sh r o [] = o
-after_pending sh r o (h ∷ hs) = after_pending sh r (applied_if sh r o (left_of h r)) hs
+after_pending sh r o (h ∷ hs) = after_pending sh r (applied_if sh r o (change_left h r)) hs
 
 -- 2. Pending rows, in the trail's words
 
@@ -76,11 +76,11 @@ is_left h = list_any (λ c. not (has h.written c.row)) h.changes
 abbrev pub is_in : ℕ → List HeldBatch → Bool
 is_in s hs = list_any (λ h. nat_eq h.stamp s) hs
 
-abbrev pub IsRisingFrom : ℕ → List HeldBatch → Type 0
-IsRisingFrom q [] = Unit {0}
-IsRisingFrom q (h ∷ hs) = (q < h.stamp) × IsRisingFrom h.stamp hs
+abbrev pub AreStampsRisingFrom : ℕ → List HeldBatch → Type 0
+AreStampsRisingFrom q [] = Unit {0}
+AreStampsRisingFrom q (h ∷ hs) = (q < h.stamp) × AreStampsRisingFrom h.stamp hs
 
-pub record IsHeld (es : List Entry) (t : ℕ) (h : HeldBatch) : Type 0 where
+pub record IsHeldBatch (es : List Entry) (t : ℕ) (h : HeldBatch) : Type 0 where
   pub batch : Batch
   pub is : batch_of t h.stamp es ≡ Some batch
   pub changes : batch.changes ≡ h.changes
@@ -93,24 +93,24 @@ pub record IsHeld (es : List Entry) (t : ℕ) (h : HeldBatch) : Type 0 where
   pub counted : (r : List Value) (u : ℕ) → is_left h ≡ true → (u ≡ h.stamp → ⊥) → IsPendingOn es t u r → IsMet es t h.stamp r
 
 pub record HeldKept (b : Base) (es : List Entry) (t : ℕ) (hs : List HeldBatch) : Type 0 where
-  pub rising : IsRisingFrom (b.last t) hs
-  pub each : AllByRecursion (IsHeld es t) hs
+  pub rising : AreStampsRisingFrom (b.last t) hs
+  pub each : AllByRecursion (IsHeldBatch es t) hs
   pub all : (s : ℕ) (y : Batch) → batch_of t s es ≡ Some y → y.ended ≡ false → is_in s hs ≡ true
 
 -- 4. What the steps do to the open batches
 
 -- rows that both have, where the open batch is still to write some
-abbrev pub meets : List Change → HeldBatch → HeldBatch
-meets cs h = record h { met = cond (is_left h) (h.met ++ filter (λ r. is_some (change_of h.changes r)) (rows_of cs)) h.met }
+abbrev pub with_met : List Change → HeldBatch → HeldBatch
+with_met cs h = record h { met = cond (is_left h) (h.met ++ filter (λ r. is_some (change_of h.changes r)) (rows_of cs)) h.met }
 
 abbrev pub is_pending_in : List HeldBatch → List Value → Bool
-is_pending_in hs r = list_any (λ h. is_some (left_of h r)) hs
+is_pending_in hs r = list_any (λ h. is_some (change_left h r)) hs
 
 abbrev pub fresh_held : ℕ → List Change → ℕ → List RowCells → List HeldBatch → HeldBatch
 fresh_held s cs count cells hs = record { stamp = s; changes = cs; written = []; met = filter (is_pending_in hs) (rows_of cs); done = 0; verified = 0; count = count; cells = cells }
 
 abbrev pub held_begun : ℕ → List Change → ℕ → List RowCells → List HeldBatch → List HeldBatch
-held_begun s cs count cells hs = map (meets cs) hs ++ fresh_held s cs count cells hs ∷ []
+held_begun s cs count cells hs = map (with_met cs) hs ++ fresh_held s cs count cells hs ∷ []
 
 abbrev pub writes_rows : ℕ → List (List Value) → HeldBatch → HeldBatch
 writes_rows s rows h = record h { written = cond (nat_eq h.stamp s) (h.written ++ rows) h.written }

@@ -27,9 +27,9 @@ ghost use Rattle.px_indexed.specs.Worlds.{history_at};
 ghost use Rattle.px_groupworld.specs.Group.{GroupData, GroupKept, no_open, no_part, table_form};
 ghost use Rattle.px_groupworld.specs.Asks.{CanMark, CanVerify};
 ghost use Rattle.px_forms.specs.Several.{cells_for};
-ghost use Rattle.px_openbatches.specs.Made.{IsComputed, RowCells, cells_at};
-ghost use Rattle.px_openbatches.specs.Pending.{HeldBatch, HeldKept, IsHeld, after_pending, held_begun, held_ended, held_wrote, to_verify};
-ghost use Rattle.px_openbatches.specs.Opens.{IsReady, OpensKept, form_in};
+ghost use Rattle.px_openbatches.specs.Made.{IsComputed, RowCells, picked_cells};
+ghost use Rattle.px_openbatches.specs.Pending.{HeldBatch, HeldKept, IsHeldBatch, after_pending, held_begun, held_ended, held_wrote, to_verify};
+ghost use Rattle.px_openbatches.specs.Opens.{IsBatchReady, OpensKept, form_in};
 
 use px_groupworld::Formed;
 
@@ -43,8 +43,8 @@ pub fn law_states<F: Formed>()
 /// The rows that an open batch met are exactly those of its rows that are concurrent, at every time, and those that it doesn't
 /// hand to the third phase.
 pub fn law_met()
-    ensures met { (es : List Entries) → (t : ℕ) → (h : HeldBatch) → IsHeld es t h → (r : List ColumnValue) → has h.met r ≡ true → (is_some (change_of h.changes r) ≡ true) × IsConcurrent es t h.stamp r }
-    ensures concurrent { (es : List Entries) → (t : ℕ) → (h : HeldBatch) → IsHeld es t h → (r : List ColumnValue) → is_some (change_of h.changes r) ≡ true → IsConcurrent es t h.stamp r → has h.met r ≡ true }
+    ensures met { (es : List Entries) → (t : ℕ) → (h : HeldBatch) → IsHeldBatch es t h → (r : List ColumnValue) → has h.met r ≡ true → (is_some (change_of h.changes r) ≡ true) × IsConcurrent es t h.stamp r }
+    ensures concurrent { (es : List Entries) → (t : ℕ) → (h : HeldBatch) → IsHeldBatch es t h → (r : List ColumnValue) → is_some (change_of h.changes r) ≡ true → IsConcurrent es t h.stamp r → has h.met r ≡ true }
 {}
 
 /// Each entry keeps the open batches.
@@ -58,7 +58,7 @@ pub fn law_open<F: Formed>()
 
 /// What an open batch hands to the regions, one row after another, is what its phases ask for.
 pub fn law_hands<F: Formed>()
-    ensures marks { (b : Base) → (id : TableNumber) → (index : ℕ → IndexForm) → (es : List Entries) → (v : GroupData) → GroupKept (table_form b id index F.rows) es v → (h : HeldBatch) → (is : IsHeld es id.0 h) → IsReady (table_form b id index F.rows) es v.indexes h → (m : ℕ) → (done : ℕ) → m < length v.opens → record { stamp = h.stamp; done = done; count = h.count } ≡ get_or v.opens m no_open → done < h.count → is.batch.phase ≡ 0 → (batch : List CellData) → ReadsSame batch (cells_for (cells_at (λ x. get_or x.marks done []) h.cells) (rows_of h.changes)) → CanMark (table_form b id index F.rows) es v m batch }
-    ensures writes { (b : Base) → (id : TableNumber) → (index : ℕ → IndexForm) → (es : List Entries) → (v : GroupData) → GroupKept (table_form b id index F.rows) es v → (h : HeldBatch) → IsHeld es id.0 h → IsReady (table_form b id index F.rows) es v.indexes h → (seat : ℕ) → (rows : List (List ColumnValue)) → (may : IsWritable es seat id.0 h.stamp rows) → (batch : List CellData) → ReadsSame batch (cells_for (cells_at (λ x. x.puts) h.cells) rows) → ReadsWrites F.rows may.batch h.stamp rows batch }
-    ensures closes { (b : Base) → (id : TableNumber) → (index : ℕ → IndexForm) → (es : List Entries) → (v : GroupData) → GroupKept (table_form b id index F.rows) es v → (h : HeldBatch) → (is : IsHeld es id.0 h) → IsReady (table_form b id index F.rows) es v.indexes h → (i : ℕ) → i < h.count → unwritten is.batch ≡ [] → (batch : List CellData) → ReadsSame batch (cells_for (cells_at (λ x. get_or x.closes i []) h.cells) (to_verify h)) → CanVerify (table_form b id index F.rows) es v i h.stamp (to_verify h) batch }
+    ensures marks { (b : Base) → (id : TableNumber) → (index : ℕ → IndexForm) → (es : List Entries) → (v : GroupData) → GroupKept (table_form b id index F.rows) es v → (h : HeldBatch) → (is : IsHeldBatch es id.0 h) → IsBatchReady (table_form b id index F.rows) es v.indexes h → (m : ℕ) → (done : ℕ) → m < length v.opens → record { stamp = h.stamp; done = done; count = h.count } ≡ get_or v.opens m no_open → done < h.count → is.batch.phase ≡ 0 → (batch : List CellData) → ReadsSame batch (cells_for (picked_cells (λ x. get_or x.marks done []) h.cells) (rows_of h.changes)) → CanMark (table_form b id index F.rows) es v m batch }
+    ensures writes { (b : Base) → (id : TableNumber) → (index : ℕ → IndexForm) → (es : List Entries) → (v : GroupData) → GroupKept (table_form b id index F.rows) es v → (h : HeldBatch) → IsHeldBatch es id.0 h → IsBatchReady (table_form b id index F.rows) es v.indexes h → (seat : ℕ) → (rows : List (List ColumnValue)) → (may : IsWritable es seat id.0 h.stamp rows) → (batch : List CellData) → ReadsSame batch (cells_for (picked_cells (λ x. x.puts) h.cells) rows) → ReadsWrites F.rows may.batch h.stamp rows batch }
+    ensures closes { (b : Base) → (id : TableNumber) → (index : ℕ → IndexForm) → (es : List Entries) → (v : GroupData) → GroupKept (table_form b id index F.rows) es v → (h : HeldBatch) → (is : IsHeldBatch es id.0 h) → IsBatchReady (table_form b id index F.rows) es v.indexes h → (i : ℕ) → i < h.count → unwritten is.batch ≡ [] → (batch : List CellData) → ReadsSame batch (cells_for (picked_cells (λ x. get_or x.closes i []) h.cells) (to_verify h)) → CanVerify (table_form b id index F.rows) es v i h.stamp (to_verify h) batch }
 {}

@@ -26,19 +26,19 @@ use Rattle.px_group.specs.declared.group.Begun.{Begun}
 use Rattle.px_group.specs.declared.group.Group.{Group}
 use Rattle.px_group.specs.declared.group.IndexRegion.{IndexRegion}
 use Rattle.px_group.specs.declared.group.OpenPoint.{OpenPoint}
-use Rattle.px_recovery.specs.Base.{IsSoundFolder, IsSoundPart, base_of, told_of}
+use Rattle.px_recovery.specs.Base.{IsSoundFolder, IsSoundPart, base_of, told_of_table}
 use Rattle.px_recovery.specs.Folder.{FolderData}
 use Rattle.px_recovery.specs.Stands.{Explains, opened_index}
-use Rattle.px_recovery.specs.Tables.{cells_in, form_in, form_of, index_files, indexes_of, is_active, number_of_index, table_files, table_in}
+use Rattle.px_recovery.specs.Tables.{cells_of_regions, form_of_index, form_of_table, index_files, indexes_of, is_active, number_of_index, table_files, table_in}
 use Rattle.px_recovery.specs.Tables as recovery
 use Rattle.px_recovery.proofs.Numbered.{all_found, distinct_filter, found_number}
 use Rattle.px_recovery.proofs.Opened.{is_opened, opened_data, opened_part, parts_once}
 use Rattle.px_recovery.proofs.Round.{is_base, sound_explains}
 use Rattle.px_rows.specs.Spelled.{row_form}
 use Rattle.px_indexrow.specs.Form.{IsRightIndex}
-use Rattle.px_folder.specs.Drawn.{IsDrawn, IsDrawnIndex, IsDrawnTable}
+use Rattle.px_folder.specs.Drawn.{IsDrawnIndex, IsDrawnTable, IsRegionDrawn}
 use Rattle.px_opening.specs.Definitions.{AreRight, IsOneRegion, IsRightDefinition, IsRightOf, first_number}
-use Rattle.px_opening.specs.Opened.{IsGroupOf, IsOpenedAs, IsOpenedRight, IsPartRight, folder_in, index_in, is_standing, table_in_group}
+use Rattle.px_opening.specs.Opened.{IsGroupOf, IsOpenedAs, IsOpenedRight, IsPartRight, folder_in, index_of_region, is_standing, table_in_group}
 use Rattle.px_opening.specs.declared.opened.Opened.{Opened}
 use Rattle.px_schema.specs.Stands.{index_draws, table_draws}
 use Rattle.px_standing.specs.Agrees.{Agrees, IsInOrder, as_opened, number_of_table, opened_standing}
@@ -51,7 +51,7 @@ abbrev no_data : GroupData
 no_data = record { high = 0; low = 0; cells = []; indexes = []; opens = [] }
 
 abbrev pub shown_of : FolderData → ℕ → GroupData
-shown_of f t = told_of (λ x. opened_data (table_files f x)) no_data (table_in f.standing.tables t)
+shown_of f t = told_of_table (λ x. opened_data (table_files f x)) no_data (table_in f.standing.tables t)
 
 none_files : (regions : ℕ → RegionData) (n : ℕ) (l : List Index) → HasNone number_of_index n l → HasNone (λ (y : IndexFiles). y.id) n (map (index_files regions) l)
 none_files regions n [] none = tt
@@ -70,7 +70,7 @@ module _ (f : FolderData) (sound : IsSoundFolder f) where
       let told = (sound_explains f sound).tables t x found in
       record {
         opened = is_opened (table_files f x);
-        sound = folder_sound (form_of (base_of f) f.standing.indexes x) [] (sound.opens t) told.kept (table_files f x) told.files (base_of f) (is_base f x (own_found t x found)) (opened_data (table_files f x)) (is_opened (table_files f x));
+        sound = folder_sound (form_of_table (base_of f) f.standing.indexes x) [] (sound.opens t) told.kept (table_files f x) told.files (base_of f) (is_base f x (own_found t x found)) (opened_data (table_files f x)) (is_opened (table_files f x));
         placed = (sound.tables t x found).placed;
         once = parts_once (table_files f x).indexes (once_files f.regions (indexes_of x.id.0 f.standing.indexes) (distinct_filter number_of_index (λ (i : Index). i.table.0 == x.id.0) f.standing.indexes sound.numbered.ids));
       }
@@ -79,7 +79,7 @@ module _ (f : FolderData) (sound : IsSoundFolder f) where
   shown_sound = record {
     numbered = sound.numbered;
     opens = shown_of f;
-    tables = λ t x found. subst (λ (u : GroupData). IsSoundPart f x u) (sym (ap (told_of (λ y. opened_data (table_files f y)) no_data) found)) (shown_part t x found);
+    tables = λ t x found. subst (λ (u : GroupData). IsSoundPart f x u) (sym (ap (told_of_table (λ y. opened_data (table_files f y)) no_data) found)) (shown_part t x found);
   }
 
   pub shown_explains : Explains (base_of f) [] f (shown_of f)
@@ -120,7 +120,7 @@ module _ (f : FolderData) (g : Group) (own : IsGroupOf f.regions f.standing.inde
       subst (λ (x : Table). IsRightIndex x i) same r.right
 
   found_parts : AllByRecursion (λ (x : IndexRegion). IsFound indexes t x.index) g.indexes.items
-  found_parts = all_mapped (IsFound indexes t) index_in g.indexes.items (subst (λ (l : List Index). AllByRecursion (IsFound indexes t) l) (sym own.indexes_are) (each_index indexes t (rising_once number_of_index indexes right.indexes_rise)))
+  found_parts = all_mapped (IsFound indexes t) index_of_region g.indexes.items (subst (λ (l : List Index). AllByRecursion (IsFound indexes t) l) (sym own.indexes_are) (each_index indexes t (rising_once number_of_index indexes right.indexes_rise)))
 
   known : AllByRecursion (IsKnownPart f.regions indexes g.table) g.indexes.items
   known = all_both (λ x. IsFound indexes t x.index) (IsPartRight f.regions g.table) (IsKnownPart f.regions indexes g.table)
@@ -176,7 +176,7 @@ module _ (f : FolderData) (g : Group) (own : IsGroupOf f.regions f.standing.inde
       let z = opened_some (recovery.index_in indexes y.id.0) y is runs in
       let l = indexes_of t indexes in
       let there : IsIn y l = in_filter (λ (i : Index). i.table.0 == t) y indexes (found_in indexes y.id.0 y z.0) (eq-eqb y.table.0 t mine) in
-      in_mapped index_in y g.indexes.items (subst (λ (m : List Index). IsIn y m) (sym own.indexes_are) (in_filter is_standing y l there z.1))
+      in_mapped index_of_region y g.indexes.items (subst (λ (m : List Index). IsIn y m) (sym own.indexes_are) (in_filter is_standing y l there z.1))
 
   standing_now : AreStanding b [] g
   unfolding catalogue_from
@@ -190,8 +190,8 @@ module _ (f : FolderData) (g : Group) (own : IsGroupOf f.regions f.standing.inde
   unfolding last_from horizon_from points_from
   tallied_group = record {
     standing = standing_now;
-    last = ap (told_of (λ x. folder_last (table_files f x)) 0) found ∙ sym own.last;
-    horizon = ap (told_of (λ x. folder_high (table_files f x)) 0) found ∙ sym own.horizon;
+    last = ap (told_of_table (λ x. folder_last (table_files f x)) 0) found ∙ sym own.last;
+    horizon = ap (told_of_table (λ x. folder_high (table_files f x)) 0) found ∙ sym own.horizon;
     held = held_none;
     batches = subst (λ (l : List Begun). AreHeldAs (map batch_in l) []) (sym own.batches) tt;
     phases = subst (λ (l : List Begun). AreInPhase [] t l []) (sym own.batches) tt;
@@ -207,8 +207,8 @@ module _ (f : FolderData) (g : Group) (own : IsGroupOf f.regions f.standing.inde
   shown = opened_data files
 
   rows_are : shown.cells ≡ read_of g.rows
-  unfolding cells_in
-  rows_are = ap (λ (l : List TableRegion). cells_in f.regions l) regions_are ∙ (append-nil (f.regions g.rows.number).cells ∙ ap (λ (s : RegionData). s.cells) (sym own.told))
+  unfolding cells_of_regions
+  rows_are = ap (λ (l : List TableRegion). cells_of_regions f.regions l) regions_are ∙ (append-nil (f.regions g.rows.number).cells ∙ ap (λ (s : RegionData). s.cells) (sym own.told))
 
   filter_files : (is : List Index) → filter (λ (y : IndexFiles). y.is_active) (map (index_files f.regions) is) ≡ map (index_files f.regions) (filter is_standing is)
   filter_files [] = refl
@@ -229,7 +229,7 @@ module _ (f : FolderData) (g : Group) (own : IsGroupOf f.regions f.standing.inde
       let e : f.regions x.index.region ≡ data_of x.region = ap f.regions p.read.number ∙ sym p.told in
       λ i. record { id = x.index.id.0; cells = (e i).cells; birth = x.index.birth; horizon = (e i).horizon; is_built = is_active x.index.state }
 
-  parts_by : (xs : List IndexRegion) → AllByRecursion (IsPartRight f.regions g.table) xs → map opened_part (map (index_files f.regions) (map index_in xs)) ≡ map part_of xs
+  parts_by : (xs : List IndexRegion) → AllByRecursion (IsPartRight f.regions g.table) xs → map opened_part (map (index_files f.regions) (map index_of_region xs)) ≡ map part_of xs
   parts_by [] all = refl
   parts_by (x ∷ xs) all = λ i. part_is x all.0 i ∷ parts_by xs all.1 i
 
@@ -249,7 +249,7 @@ module _ (f : FolderData) (g : Group) (own : IsGroupOf f.regions f.standing.inde
   built_is Disabled = refl
 
   abbrev form : TableForm
-  form = form_of b indexes g.table
+  form = form_of_table b indexes g.table
 
   pub opened_group : IsOpenedAs f g shown
   opened_group = record {
@@ -262,7 +262,7 @@ module _ (f : FolderData) (g : Group) (own : IsGroupOf f.regions f.standing.inde
     kept : GroupKept form [] shown
     kept = sound_group form shown (shown_part f sound t g.table found).sound
 
-    pub shown_group : IsShownBy b (λ n. form_in g.table (recovery.index_in indexes n)) [] g shown []
+    pub shown_group : IsShownBy b (λ n. form_of_index g.table (recovery.index_in indexes n)) [] g shown []
     shown_group = record {
       kept = record { group = kept; opens = record { held = held_none; ready = tt }; same = refl; shut = tt };
       rows = rows_are;
@@ -270,7 +270,7 @@ module _ (f : FolderData) (g : Group) (own : IsGroupOf f.regions f.standing.inde
       parts = λ i x is.
           let e : get_or shown.indexes i no_part ≡ part_of x = ap (λ (l : List IndexPart). get_or l i no_part) parts_are ∙ at_part g.indexes.items i x is in
           record { id = ap (λ (p : IndexPart). p.id) e; cells = ap (λ (p : IndexPart). p.cells) e; birth = ap (λ (p : IndexPart). p.birth) e; built = ap (λ (p : IndexPart). p.is_built) e ∙ built_is x.index.state };
-      forms = λ i x is. ap (form_in g.table) (all_slice (λ (y : IndexRegion). IsFound indexes t y.index) g.indexes.items i x found_parts is).is;
+      forms = λ i x is. ap (form_of_index g.table) (all_slice (λ (y : IndexRegion). IsFound indexes t y.index) g.indexes.items i x found_parts is).is;
     }
 
 -- ---- all groups
@@ -305,14 +305,14 @@ module _ (o : Opened) (r : IsOpenedRight o) where
   pub all_tallied : All (λ g. IsTallied (base_of f) [] g []) groups
   all_tallied = each_group (λ g. IsTallied (base_of f) [] g []) (λ g k. tallied_group f g k.own r.right k.found k.defined)
 
-  pub all_shown : IsSoundFolder f → All (λ g. IsShownBy (base_of f) (λ n. form_in g.table (recovery.index_in f.standing.indexes n)) [] g (shown_of f g.table.id.0) []) groups
-  all_shown sound = each_group (λ g. IsShownBy (base_of f) (λ n. form_in g.table (recovery.index_in f.standing.indexes n)) [] g (shown_of f g.table.id.0) [])
-      (λ g k. subst (λ (v : GroupData). IsShownBy (base_of f) (λ n. form_in g.table (recovery.index_in f.standing.indexes n)) [] g v []) (sym (ap (told_of (λ x. opened_data (table_files f x)) no_data) k.found))
+  pub all_shown : IsSoundFolder f → All (λ g. IsShownBy (base_of f) (λ n. form_of_index g.table (recovery.index_in f.standing.indexes n)) [] g (shown_of f g.table.id.0) []) groups
+  all_shown sound = each_group (λ g. IsShownBy (base_of f) (λ n. form_of_index g.table (recovery.index_in f.standing.indexes n)) [] g (shown_of f g.table.id.0) [])
+      (λ g k. subst (λ (v : GroupData). IsShownBy (base_of f) (λ n. form_of_index g.table (recovery.index_in f.standing.indexes n)) [] g v []) (sym (ap (told_of_table (λ x. opened_data (table_files f x)) no_data) k.found))
       (shown_group f g k.own r.right k.found k.defined sound))
 
   pub all_opened : All (λ g. IsOpenedAs f g (shown_of f g.table.id.0)) groups
   all_opened = each_group (λ g. IsOpenedAs f g (shown_of f g.table.id.0))
-      (λ g k. subst (λ (v : GroupData). IsOpenedAs f g v) (sym (ap (told_of (λ x. opened_data (table_files f x)) no_data) k.found)) (opened_group f g k.own r.right k.found k.defined))
+      (λ g k. subst (λ (v : GroupData). IsOpenedAs f g v) (sym (ap (told_of_table (λ x. opened_data (table_files f x)) no_data) k.found)) (opened_group f g k.own r.right k.found k.defined))
 
   -- the base
 
@@ -332,8 +332,8 @@ module _ (o : Opened) (r : IsOpenedRight o) where
       let right = all_in (IsRightOf f.standing.tables) f.standing.indexes i (recursion_from_All (IsRightOf f.standing.tables) f.standing.indexes r.right.indexes) there in
       (sym z.1.1.0 ∙ number, ((omega arith), (right.table, ap (λ (k : ℕ). table_in f.standing.tables k) (sym z.1.1.1) ∙ right.stands)))
 
-  none_told : {A : Type 0} (tells : Table → A) (none : A) (t : ℕ) → table_in f.standing.tables t ≡ None → told_of tells none (table_in f.standing.tables t) ≡ none
-  none_told tells none t is = ap (told_of tells none) is
+  none_told : {A : Type 0} (tells : Table → A) (none : A) (t : ℕ) → table_in f.standing.tables t ≡ None → told_of_table tells none (table_in f.standing.tables t) ≡ none
+  none_told tells none t is = ap (told_of_table tells none) is
 
   pub right_base : IsRightBase (base_of f)
   right_base = record {
@@ -353,7 +353,7 @@ module _ (o : Opened) (r : IsOpenedRight o) where
   below_tables : (n : ℕ) (ts : List Table) → AllByRecursion (IsDrawnTable n) ts → AllByRecursion (λ (t : Table). AllByRecursion (λ (k : ℕ). k < n) (table_draws t)) ts
   below_tables n [] all = tt
   below_tables n (t ∷ ts) all = (
-    drawn_numbers (λ (k : ℕ). k < n) (λ (x : TableRegion). x.number) t.regions t.id.0 (all_weaker (λ (x : TableRegion). IsDrawn n x.number) (λ (x : TableRegion). x.number < n) (λ x d. d.below) t.regions (recursion_from_All (λ (x : TableRegion). IsDrawn n x.number) t.regions all.0.regions)) all.0.id,
+    drawn_numbers (λ (k : ℕ). k < n) (λ (x : TableRegion). x.number) t.regions t.id.0 (all_weaker (λ (x : TableRegion). IsRegionDrawn n x.number) (λ (x : TableRegion). x.number < n) (λ x d. d.below) t.regions (recursion_from_All (λ (x : TableRegion). IsRegionDrawn n x.number) t.regions all.0.regions)) all.0.id,
     below_tables n ts all.1,
   )
 

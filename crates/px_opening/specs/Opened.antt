@@ -18,12 +18,12 @@ use Rattle.px_recovery.specs.Base.{base_of}
 use Rattle.px_recovery.specs.Folder.{FolderData, region_numbers}
 use Rattle.px_recovery.specs.Tables.{indexes_of, is_active, table_files}
 use Rattle.px_folder.specs.Drawn.{AreDrawn}
-use Rattle.px_folder.specs.Read.{folder_by, number_of}
+use Rattle.px_folder.specs.Read.{folder_by, number_of_open_region}
 use Rattle.px_opening.specs.Definitions.{AreRight, first_number}
 use Rattle.px_opening.specs.declared.opened.Opened.{Opened}
 
-abbrev pub index_in : IndexRegion → Index
-index_in x = x.index
+abbrev pub index_of_region : IndexRegion → Index
+index_of_region x = x.index
 
 abbrev pub region_in : IndexRegion → Region
 region_in x = x.region
@@ -32,11 +32,11 @@ abbrev pub table_in_group : Group → Table
 table_in_group g = g.table
 
 -- the regions of a group, and all that were read
-abbrev pub regions_of : Group → List Region
-regions_of g = g.rows ∷ map region_in g.indexes.items
+abbrev pub regions_of_group : Group → List Region
+regions_of_group g = g.rows ∷ map region_in g.indexes.items
 
 abbrev pub regions_in : List Group → List Region → List Region
-regions_in groups others = flat_map regions_of groups ++ others
+regions_in groups others = flat_map regions_of_group groups ++ others
 
 abbrev pub all_regions : Opened → List Region
 all_regions o = regions_in o.groups.items o.others.items
@@ -71,7 +71,7 @@ pub record IsGroupOf (f : ℕ → RegionData) (indexes : List Index) (g : Group)
   pub number : g.rows.number ≡ first_number g.table.regions
   pub told : IsDataOf f g.rows
   pub rows : AreRightRows g.table (read_of g.rows)
-  pub indexes_are : map index_in g.indexes.items ≡ filter is_standing (indexes_of g.table.id.0 indexes)
+  pub indexes_are : map index_of_region g.indexes.items ≡ filter is_standing (indexes_of g.table.id.0 indexes)
   pub parts : All (IsPartRight f g.table) g.indexes.items
   pub last : g.last ≡ folder_last (files_by f indexes g.table)
   pub horizon : g.horizon ≡ folder_high (files_by f indexes g.table)
@@ -90,5 +90,5 @@ pub record IsOpenedRight (o : Opened) : Type 0 where
   pub right : AreRight (standing_of o.catalog)
   pub tables : map table_in_group o.groups.items ≡ (standing_of o.catalog).tables
   pub groups : All (IsGroupOf (folder_in o).regions (standing_of o.catalog).indexes) o.groups.items
-  pub numbers : IsPermutation (region_numbers (standing_of o.catalog)) (map number_of (all_regions o))
-  pub once : AreDistinct number_of (all_regions o)
+  pub numbers : IsPermutation (region_numbers (standing_of o.catalog)) (map number_of_open_region (all_regions o))
+  pub once : AreDistinct number_of_open_region (all_regions o)

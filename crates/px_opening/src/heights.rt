@@ -1,7 +1,7 @@
 // The greatest numbers of a table's regions.
 ghost use Rattle.std.specs.Prelude.{◌≡◌, ℕ, All, IfSome, IfOk, map};
 ghost use Rattle.px_region.specs.Region.{RegionData, read_of};
-ghost use Rattle.px_tablefolder.specs.Folder.{folder_high, folder_last, greatest_horizon, greatest_number, last_cell as greatest_stamp};
+ghost use Rattle.px_tablefolder.specs.Folder.{folder_high, folder_last, greatest_horizon, greatest_in_indexes, last_cell as greatest_stamp};
 ghost use Rattle.px_recovery.specs.Tables.{index_files, indexes_of};
 ghost use Rattle.px_opening.specs.Definitions.{IsOneRegion, first_number};
 ghost use Rattle.px_opening.specs.Opened.{IsDataOf, files_by};
@@ -55,7 +55,7 @@ fn find_region(regions: &[Region], number: u32) -> Option<&Region>
 /// The greatest numbers of the indexes of a table, whatever their states are; none where the region of one isn't among these.
 fn index_heights(number: u32, indexes: &[Index], regions: &[Region]) -> Option<Heights>
     ensures { (f : ℕ → RegionData) → All (IsDataOf f) regions.now
-        → IfSome result (λ h. (h.last ≡ greatest_number (map (index_files f) (indexes_of number indexes.now))) × (h.horizon ≡ greatest_horizon (map (index_files f) (indexes_of number indexes.now)))) }
+        → IfSome result (λ h. (h.last ≡ greatest_in_indexes (map (index_files f) (indexes_of number indexes.now))) × (h.horizon ≡ greatest_horizon (map (index_files f) (indexes_of number indexes.now)))) }
 {
     let mut heights = Heights {
         last: 0,

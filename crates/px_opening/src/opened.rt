@@ -3,13 +3,13 @@ ghost use Rattle.std.specs.Prelude.{◌≡◌, ◌≢◌, ◌≤◌, ◌+◌, �
 ghost use Rattle.px_outside.specs.OnDisk.{LeavesOnly, Passes, Rose, TouchesOnly};
 ghost use Rattle.px_outside.specs.Parts.{AreDistinct};
 ghost use Rattle.px_region.specs.Region.{RegionData};
-ghost use Rattle.px_catalog.specs.Catalogue.{HasCatalogue, catalogue_files, is_open as opened_catalogue, standing_of};
+ghost use Rattle.px_catalog.specs.Catalogue.{HasCatalogue, catalogue_files, is_catalogue_open, standing_of};
 ghost use Rattle.px_recovery.specs.Base.{IsSound, IsSoundFolder};
 ghost use Rattle.px_recovery.specs.Folder.{AreFresh, FolderData, IsEmptyFrom, StandsFor, StandsOn, region_numbers};
 ghost use Rattle.px_folder.specs.Calls.{AreOpenedBy};
 ghost use Rattle.px_folder.specs.Damage.{IsFirstDamaged};
 ghost use Rattle.px_folder.specs.Drawn.{AreDrawn};
-ghost use Rattle.px_folder.specs.Read.{IsReadOn, folder_by, number_of};
+ghost use Rattle.px_folder.specs.Read.{IsReadOn, folder_by, number_of_open_region};
 ghost use Rattle.px_opening.specs.Definitions.{AreRight};
 ghost use Rattle.px_opening.specs.Opened.{IsDataOf, IsGroupOf, IsOpenedRight, all_regions, folder_in, regions_in, table_in_group};
 
@@ -68,8 +68,8 @@ fn make_groups(
 /// The groups of what was read.
 fn assembled(alloc: Global, catalog: Catalog, regions: Vec<Region>) -> Result<Opened, OpenFault>
     requires drawn { AreDrawn (standing_of catalog) }
-    requires numbers { IsPermutation (region_numbers (standing_of catalog)) (map number_of regions.items) }
-    requires once { AreDistinct number_of regions.items }
+    requires numbers { IsPermutation (region_numbers (standing_of catalog)) (map number_of_open_region regions.items) }
+    requires once { AreDistinct number_of_open_region regions.items }
     ensures opened { IfOk result IsOpenedRight }
     ensures catalogue { IfOk result (λ o. o.catalog ≡ catalog) }
     ensures folder { IfOk result (λ o. folder_in o ≡ folder_by (standing_of catalog) regions.items) }
@@ -105,7 +105,7 @@ fn assembled(alloc: Global, catalog: Catalog, regions: Vec<Region>) -> Result<Op
 /// ReadFault or WriteFault where a call of the disk failed.
 pub fn open<D: Disk>(alloc: Global, disk: &mut D) -> Result<Opened, OpenFault>
     ensures opened { IfOk result IsOpenedRight }
-    ensures open { IfOk result (λ o. opened_catalogue o.catalog) }
+    ensures open { IfOk result (λ o. is_catalogue_open o.catalog) }
 
     // The files stood for what was read, where no file of a region that is still to be made has a byte; and this was sound where they were.
     ensures stood { IsTrue D.tells → IfOk result (λ o. IsEmptyFrom (standing_of o.catalog).next (D.seen disk.old) → StandsFor (D.seen disk.old) (folder_in o)) }

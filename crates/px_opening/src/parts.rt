@@ -7,7 +7,7 @@ ghost use Rattle.px_region.specs.Region.{RegionData, read_of};
 ghost use Rattle.px_region.specs.declared.region.Region.{Region as Regions};
 ghost use Rattle.px_recovery.specs.Tables.{indexes_of};
 ghost use Rattle.px_opening.specs.Definitions.{IsRightDefinition, first_number};
-ghost use Rattle.px_opening.specs.Opened.{IsDataOf, IsGroupOf, IsPartRead, index_in, is_standing, region_in, regions_of};
+ghost use Rattle.px_opening.specs.Opened.{IsDataOf, IsGroupOf, IsPartRead, index_of_region, is_standing, region_in, regions_of_group};
 
 use crate::OpenFault;
 use crate::heights::heights_of;
@@ -153,7 +153,7 @@ fn take_indexes(
     regions: &mut Vec<Region>,
 ) -> Result<Vec<IndexRegion>, OpenFault>
     requires { All (λ i. i.table.0 ≡ table.now.id.0 → IsRightIndex table.now i) indexes.now }
-    ensures indexes { IfOk result (λ ps. map index_in ps.items ≡ filter is_standing (indexes_of table.now.id.0 indexes.now)) }
+    ensures indexes { IfOk result (λ ps. map index_of_region ps.items ≡ filter is_standing (indexes_of table.now.id.0 indexes.now)) }
     ensures moved { IfOk result (λ ps. IsPermutation regions.old.items (map region_in ps.items ++ regions.new.items)) }
     ensures parts { IfOk result (λ ps. All (IsPartRead table.now) ps.items) }
     ensures damaged { (file place : ℕ) → result ≡ Err (OpenFault.Damaged file place) → place ≡ 0 }
@@ -201,7 +201,7 @@ pub(crate) fn make_group(
     requires definition { IsRightDefinition table.now }
     requires right { All (λ i. i.table.0 ≡ table.now.id.0 → IsRightIndex table.now i) indexes.now }
     ensures table { IfOk result (λ g. g.table ≡ table.now) }
-    ensures moved { IfOk result (λ g. IsPermutation regions.old.items (regions_of g ++ regions.new.items)) }
+    ensures moved { IfOk result (λ g. IsPermutation regions.old.items (regions_of_group g ++ regions.new.items)) }
     ensures group { (f : ℕ → RegionData) → All (IsDataOf f) regions.old.items → IfOk result (IsGroupOf f indexes.now) }
     ensures damaged { (file place : ℕ) → result ≡ Err (OpenFault.Damaged file place) → place ≡ 0 }
     ensures read { result ≢ Err OpenFault.ReadFault }

@@ -3,7 +3,7 @@ use Rattle.std.proofs.Common.{◌≡◌, ◌≢◌, ◌<◌, ◌≤◌, ◌⊎�
 use Rattle.std.specs.Prelude.{length}
 use Rattle.std.specs.List.{AllByRecursion}
 use Rattle.std.proofs.lemmas.Bool.{cases_eq, ne_eqb, eq-eqb}
-use Rattle.px_outside.specs.Disk.{Image, IsLeft, LeavesOnly, TouchesOnly}
+use Rattle.px_outside.specs.Disk.{Image, IsLeftBy, LeavesOnlyBy, TouchesOnlyBy}
 use Rattle.px_outside.specs.Standing.{StandsIn}
 use Rattle.px_outside.specs.Parts.{AllSettled, AllSettledIn, AllStand, AllStandIn, AreApart, AreDistinct, HasNone, with_part}
 use Rattle.px_outside.specs.declared.disk.Disk.{Ghosts}
@@ -19,9 +19,9 @@ with_part-other contents r c q apart = rw (ne_eqb q r apart) refl
 
 module _ {D C : Type 0} (d : Ghosts D) (owns : ℕ → ℕ → Type 0) (Stands : ℕ → Image → C → Type 0) where
   module _ (apart : (q r file : ℕ) → q ≢ r → owns q file → owns r file → ⊥) (kept : ℕ → Type 0) (contents : ℕ → C) (old new : D) (standing : AllStandIn d owns Stands kept contents old) (r : ℕ) (touched : ℕ → Type 0)
-      (touches : TouchesOnly d.calls d.left d.seen old new touched) (own : (file : ℕ) → touched file → owns r file) where
+      (touches : TouchesOnlyBy d.calls d.left d.seen old new touched) (own : (file : ℕ) → touched file → owns r file) where
     -- calls on the files of one part: at each moment each other part stands for what it did,
-    pub others_stand : (moment : ℕ) (image : Image) → d.calls old ≤ moment → IsLeft d.left new moment image → (q : ℕ) → kept q → q ≢ r → Stands q image (contents q)
+    pub others_stand : (moment : ℕ) (image : Image) → d.calls old ≤ moment → IsLeftBy d.left new moment image → (q : ℕ) → kept q → q ≢ r → Stands q image (contents q)
     others_stand moment image since is q keeps other =
         stands_left d old new (owns q) (λ i. Stands q i (contents q)) (standing q keeps) touched touches (λ file mine was. apart q r file other mine (own file was)) moment image since is
 
@@ -30,7 +30,7 @@ module _ {D C : Type 0} (d : Ghosts D) (owns : ℕ → ℕ → Type 0) (Stands :
     others_kept q keeps other = stands_kept d old new (owns q) (λ i. Stands q i (contents q)) (standing q keeps) touched touches (λ file mine was. apart q r file other mine (own file was))
 
     -- calls that leave what the part stands for: all stand for what they did
-    pub one_stays : LeavesOnly d.calls d.left old new (λ moment image. Stands r image (contents r)) → LeavesOnly d.calls d.left old new (λ moment image. AllStand Stands kept contents image)
+    pub one_stays : LeavesOnlyBy d.calls d.left old new (λ moment image. Stands r image (contents r)) → LeavesOnlyBy d.calls d.left old new (λ moment image. AllStand Stands kept contents image)
     one_stays leaves = record {
       each = λ moment image since is q keeps. elim (cases_eq q r) [
         | inl same ↦ subst (λ (k : ℕ). Stands k image (contents k)) (sym same) (leaves.each moment image since is)
@@ -46,22 +46,22 @@ module _ {D C : Type 0} (d : Ghosts D) (owns : ℕ → ℕ → Type 0) (Stands :
 
     module _ (c : C) where
       -- the parts with that one as it was
-      stand_without : (moment : ℕ) (image : Image) → d.calls old ≤ moment → IsLeft d.left new moment image → Stands r image (contents r) → AllStand Stands kept contents image
+      stand_without : (moment : ℕ) (image : Image) → d.calls old ≤ moment → IsLeftBy d.left new moment image → Stands r image (contents r) → AllStand Stands kept contents image
       stand_without moment image since is here q keeps = elim (cases_eq q r) [
         | inl same ↦ subst (λ (k : ℕ). Stands k image (contents k)) (sym same) here
         | inr other ↦ others_stand moment image since is q keeps other
       ]
 
       -- and with it as it becomes
-      pub stand_with : (moment : ℕ) (image : Image) → d.calls old ≤ moment → IsLeft d.left new moment image → Stands r image c → AllStand Stands kept (with_part contents r c) image
+      pub stand_with : (moment : ℕ) (image : Image) → d.calls old ≤ moment → IsLeftBy d.left new moment image → Stands r image c → AllStand Stands kept (with_part contents r c) image
       stand_with moment image since is here q keeps = elim (cases_eq q r) [
         | inl same ↦ subst (λ (k : ℕ). Stands k image (with_part contents r c k)) (sym same) (subst (λ (x : C). Stands r image x) (sym (with_part-here contents r c)) here)
         | inr other ↦ subst (λ (x : C). Stands q image x) (sym (with_part-other contents r c q other)) (others_stand moment image since is q keeps other)
       ]
 
       -- The law of a step: the part on whose files it makes its calls is as before or as after, and so are all of them.
-      pub one_moves : LeavesOnly d.calls d.left old new (λ moment image. Stands r image (contents r) ⊎ Stands r image c)
-          → LeavesOnly d.calls d.left old new (λ moment image. AllStand Stands kept contents image ⊎ AllStand Stands kept (with_part contents r c) image)
+      pub one_moves : LeavesOnlyBy d.calls d.left old new (λ moment image. Stands r image (contents r) ⊎ Stands r image c)
+          → LeavesOnlyBy d.calls d.left old new (λ moment image. AllStand Stands kept contents image ⊎ AllStand Stands kept (with_part contents r c) image)
       one_moves leaves = record {
         each = λ moment image since is.
             elim (leaves.each moment image since is) [ inl here ↦ inl (stand_without moment image since is here) | inr here ↦ inr (stand_with moment image since is here) ];
@@ -76,7 +76,7 @@ module _ {D C : Type 0} (d : Ghosts D) (owns : ℕ → ℕ → Type 0) (Stands :
 
   -- what the disk stands for each image of now stands for
   pub all_now : ((x : D) (moment file : ℕ) (bytes : List ℕ) → d.left x moment file bytes → moment ≤ d.calls x) → (kept : ℕ → Type 0) (contents : ℕ → C) (disk : D) → AllStandIn d owns Stands kept contents disk
-      → (moment : ℕ) (image : Image) → d.calls disk ≤ moment → IsLeft d.left disk moment image → AllStand Stands kept contents image
+      → (moment : ℕ) (image : Image) → d.calls disk ≤ moment → IsLeftBy d.left disk moment image → AllStand Stands kept contents image
   all_now up_to_now kept contents disk standing moment image since is r keeps = stands_now d disk (owns r) (λ i. Stands r i (contents r)) up_to_now (standing r keeps) moment image since is
 
 -- ---- the parts that a program goes on from

@@ -4,8 +4,8 @@ use Rattle.std.specs.Prelude.{nat_lt, if◌then◌else◌}
 use Rattle.std.specs.List.{AllByRecursion}
 use Rattle.std.proofs.lemmas.Bool.{cases_lt, le-leb, lt-leb, lt-ltb, le-ltb}
 use Rattle.std.proofs.lemmas.List.Elements.{filter-append}
-use Rattle.px_outside.specs.Disk.{Image, IsLeft, Stays}
-use Rattle.px_outside.specs.Recovery.{Lasts, Recovers, entries_after, entries_by, late_list, next_lasting}
+use Rattle.px_outside.specs.Disk.{Image, IsLeftBy, StaysBy}
+use Rattle.px_outside.specs.Recovery.{LastsBy, RecoversBy, entries_after, entries_by, late_list, next_lasting}
 use Rattle.px_outside.specs.declared.disk.Disk.{Ghosts}
 
 pub all_within : {E : Type 0} (calls : E → ℕ) (a b : ℕ) (es : List E) → a ≤ b → AllByRecursion (λ (e : E). calls e ≤ a) es → AllByRecursion (λ (e : E). calls e ≤ b) es
@@ -82,7 +82,7 @@ module _ {E : Type 0} (calls : E → ℕ) where
   module _ (lasting : E → Bool) (Stands : List E → Image → Type 0) where
     -- entries that came after the moment
     recovers_more : (es more : List E) (late : Option E) (moment : ℕ) (image : Image) → AllByRecursion (λ (e : E). moment < calls e) more
-        → Recovers calls lasting Stands es None moment image → Recovers calls lasting Stands (es ++ more) late moment image
+        → RecoversBy calls lasting Stands es None moment image → RecoversBy calls lasting Stands (es ++ more) late moment image
     recovers_more es more late moment image all (inl stands) = inl (subst (λ (l : List E). Stands l image) (sym (by_more moment es more all)) stands)
     recovers_more es more late moment image all (inr n) =
         let same : entries_by calls moment (es ++ more) ≡ entries_by calls moment es = by_more moment es more all in
@@ -94,7 +94,7 @@ module _ {E : Type 0} (calls : E → ℕ) where
         inr (n.0, record { is = is; soon = n.1.soon }, subst (λ (l : List E). Stands (l ++ n.0 ∷ []) image) (sym same) n.2)
 
     -- where no entry is late, an image of now stands for all of them
-    pub stands_for_all : (es : List E) (moment : ℕ) (image : Image) → AllByRecursion (λ (e : E). calls e ≤ moment) es → Recovers calls lasting Stands es None moment image → Stands es image
+    pub stands_for_all : (es : List E) (moment : ℕ) (image : Image) → AllByRecursion (λ (e : E). calls e ≤ moment) es → RecoversBy calls lasting Stands es None moment image → Stands es image
     stands_for_all es moment image all (inl stands) = subst (λ (l : List E). Stands l image) (by_all moment es all) stands
     stands_for_all es moment image all (inr n) =
         let none : next_lasting lasting [] ≡ Some n.0 = ap (λ (l : List E). next_lasting lasting (l ++ [])) (sym (after_none moment es all)) ∙ n.1.is in
@@ -103,18 +103,18 @@ module _ {E : Type 0} (calls : E → ℕ) where
     -- A step: any calls, and then entries, or a late one. From its first call on an image stands for what was there, or for
     -- this and the next entry that lasts, at most four calls before it; behind its last call for all of it, or for all and
     -- the late entry.
-    module _ {D : Type 0} (d : Ghosts D) (es more : List E) (late : Option E) (old new : D) (lasts : Lasts calls lasting Stands d es None old)
+    module _ {D : Type 0} (d : Ghosts D) (es more : List E) (late : Option E) (old new : D) (lasts : LastsBy calls lasting Stands d es None old)
         (early : AllByRecursion (λ (e : E). calls e ≤ d.calls old) es)
-        (past : (moment : ℕ) (image : Image) → moment < d.calls old → IsLeft d.left new moment image → IsLeft d.left old moment image)
+        (past : (moment : ℕ) (image : Image) → moment < d.calls old → IsLeftBy d.left new moment image → IsLeftBy d.left old moment image)
         (later : d.calls old ≤ d.calls new) (now : AllByRecursion (λ (e : E). calls e ≡ d.calls new) (more ++ late_list late))
-        (under : (moment : ℕ) (image : Image) → d.calls old ≤ moment → moment < d.calls new → IsLeft d.left new moment image
+        (under : (moment : ℕ) (image : Image) → d.calls old ≤ moment → moment < d.calls new → IsLeftBy d.left new moment image
         → Stands es image ⊎ ((e : E) × (next_lasting lasting (more ++ late_list late) ≡ Some e) × (calls e ≤ moment + 4) × Stands (es ++ e ∷ []) image))
-        (behind : (moment : ℕ) (image : Image) → d.calls new ≤ moment → IsLeft d.left new moment image
+        (behind : (moment : ℕ) (image : Image) → d.calls new ≤ moment → IsLeftBy d.left new moment image
         → Stands (es ++ more) image ⊎ ((e : E) × (late ≡ Some e) × (lasting e ≡ true) × Stands ((es ++ more) ++ e ∷ []) image)) where
       more_now : AllByRecursion (λ (e : E). calls e ≡ d.calls new) more
       more_now = all_front (λ (e : E). calls e ≡ d.calls new) more (late_list late) now
 
-      pub step_lasts : Lasts calls lasting Stands d (es ++ more) late new
+      pub step_lasts : LastsBy calls lasting Stands d (es ++ more) late new
       step_lasts moment image is = elim (cases_lt moment (d.calls old)) [
         | inl before ↦
             recovers_more es more late moment image (all_map (λ (e : E). calls e ≡ d.calls new) (λ (e : E). moment < calls e) more (λ e at. omega arith) more_now) (lasts moment image (past moment image before is))
@@ -155,12 +155,12 @@ module _ {E : Type 0} (calls : E → ℕ) where
       ]
 
     -- An entry that doesn't last, and no call. It may come behind a late one's step.
-    module _ {D : Type 0} (d : Ghosts D) (es : List E) (e : E) (late : Option E) (disk : D) (lasts : Lasts calls lasting Stands d es late disk)
+    module _ {D : Type 0} (d : Ghosts D) (es : List E) (e : E) (late : Option E) (disk : D) (lasts : LastsBy calls lasting Stands d es late disk)
         (up_to_now : (x : D) (moment file : ℕ) (bytes : List ℕ) → d.left x moment file bytes → moment ≤ d.calls x)
         (early : AllByRecursion (λ (x : E). calls x ≤ d.calls disk) es) (at : calls e ≡ d.calls disk) (passes : lasting e ≡ false)
         (adds : (image : Image) → Stands es image → Stands (es ++ e ∷ []) image)
         (adds_late : (u : E) (image : Image) → late ≡ Some u → Stands (es ++ u ∷ []) image → Stands ((es ++ e ∷ []) ++ u ∷ []) image) where
-      before_it : (moment : ℕ) (image : Image) → moment < d.calls disk → Recovers calls lasting Stands es late moment image → Recovers calls lasting Stands (es ++ e ∷ []) late moment image
+      before_it : (moment : ℕ) (image : Image) → moment < d.calls disk → RecoversBy calls lasting Stands es late moment image → RecoversBy calls lasting Stands (es ++ e ∷ []) late moment image
       before_it moment image before (inl stands) = inl (subst (λ (l : List E). Stands l image) (sym (by_more moment es (e ∷ []) (omega arith, tt))) stands)
       before_it moment image before (inr n) =
           let after = entries_after calls moment es in
@@ -170,7 +170,7 @@ module _ {E : Type 0} (calls : E → ℕ) where
           ∙ (ap (next_lasting lasting) (append_assoc after (e ∷ []) (late_list late)) ∙ (next_without lasting after (late_list late) e passes ∙ n.1.is)) in
           inr (n.0, record { is = is; soon = n.1.soon }, subst (λ (l : List E). Stands (l ++ n.0 ∷ []) image) (sym same) n.2)
 
-      with_it : (moment : ℕ) (image : Image) → d.calls disk ≤ moment → Recovers calls lasting Stands es late moment image → Recovers calls lasting Stands (es ++ e ∷ []) late moment image
+      with_it : (moment : ℕ) (image : Image) → d.calls disk ≤ moment → RecoversBy calls lasting Stands es late moment image → RecoversBy calls lasting Stands (es ++ e ∷ []) late moment image
       with_it moment image since r =
           let all = all_within calls (d.calls disk) moment es since early in
           let every : AllByRecursion (λ (x : E). calls x ≤ moment) (es ++ e ∷ []) = all_join (λ (x : E). calls x ≤ moment) es (e ∷ []) all (omega arith, tt) in
@@ -188,15 +188,15 @@ module _ {E : Type 0} (calls : E → ℕ) where
                 )
           ]
 
-      pub note_lasts : Lasts calls lasting Stands d (es ++ e ∷ []) late disk
+      pub note_lasts : LastsBy calls lasting Stands d (es ++ e ∷ []) late disk
       note_lasts moment image is = elim (cases_lt moment (d.calls disk)) [
         | inl before ↦ before_it moment image before (lasts moment image is)
         | inr since ↦ with_it moment image since (lasts moment image is)
       ]
 
     -- Quiet calls, as reads are: they add nothing, and what comes then goes on from here
-    pub stays_lasts : {D : Type 0} (d : Ghosts D) (es : List E) (late : Option E) (old new : D) → Lasts calls lasting Stands d es late old → Stays d.calls d.left old new → AllByRecursion (λ (e : E). calls e ≤ d.calls old) es
-        → Lasts calls lasting Stands d es late new
+    pub stays_lasts : {D : Type 0} (d : Ghosts D) (es : List E) (late : Option E) (old new : D) → LastsBy calls lasting Stands d es late old → StaysBy d.calls d.left old new → AllByRecursion (λ (e : E). calls e ≤ d.calls old) es
+        → LastsBy calls lasting Stands d es late new
     stays_lasts d es late old new lasts quiet early moment image is = elim (cases_lt moment (d.calls old)) [
       | inl before ↦ lasts moment image (λ file. quiet.past moment file (image file) before (is file))
       | inr since ↦
@@ -216,5 +216,5 @@ module _ {E : Type 0} (calls : E → ℕ) where
     ]
 
     -- Opening: nothing was done yet, and calls that leave nothing new. The first image stood for nothing but the base.
-    pub opened_lasts : {D : Type 0} (d : Ghosts D) (old new : D) → d.calls old ≡ 0 → Stays d.calls d.left old new → ((image : Image) → IsLeft d.left old (d.calls old) image → Stands [] image) → Lasts calls lasting Stands d [] None new
+    pub opened_lasts : {D : Type 0} (d : Ghosts D) (old new : D) → d.calls old ≡ 0 → StaysBy d.calls d.left old new → ((image : Image) → IsLeftBy d.left old (d.calls old) image → Stands [] image) → LastsBy calls lasting Stands d [] None new
     opened_lasts d old new fresh quiet stood moment image is = inl (stood image (λ file. quiet.now moment file (image file) (omega arith) (is file)))

@@ -8,10 +8,10 @@ use Rattle.px_lex.specs.declared.token.LexFault.{LexFault}
 use Rattle.px_lex.specs.declared.token.Token.{Token}
 use Rattle.px_lex.specs.Lexemes.{Seen, seen}
 use Rattle.px_ast.specs.declared.statement.Statement.{Statement}
-use Rattle.px_ast.specs.Statements.{ReadsWithin, Reads, depth_limit}
+use Rattle.px_ast.specs.Statements.{ReadsWithin, ReadsStatement, depth_limit}
 use Rattle.px_parse.specs.declared.syntax.SyntaxFault.{SyntaxFault}
 use Rattle.px_parse.specs.declared.syntax.SyntaxFault.TheVariants as faults
-use Rattle.px_statements.specs.Parsed.{BeginsOne, NoneGoesOn, IsFirstFault}
+use Rattle.px_statements.specs.Parsed.{BeginsOne, NoneGoesOn, IsFirstUnexpected}
 use Rattle.px_parse.specs.Texts.{NoneContinues, StopsAt, begins_with, IsUpsert, Decides, true_token, IsOperandName, IsFunction, IsRefusedText, IsTextParse, IsAnswered}
 use Rattle.px_parse.specs.inner.Telling.{Tests, TellsFirst, IsRefusedAt, IsAllowed}
 use Rattle.px_parse.specs.Nullness.{forbids_null_outside_key}
@@ -22,13 +22,13 @@ weaker : (fault : LexFault) (front rest : List Seen) → NoneGoesOn front rest �
 weaker fault front [] h = tt
 weaker fault front (t ∷ rest) h = h
 
-pub stops_whole : (tokens : List Seen) (at : ℕ) → IsFirstFault tokens at → StopsAt None tokens at
+pub stops_whole : (tokens : List Seen) (at : ℕ) → IsFirstUnexpected tokens at → StopsAt None tokens at
 stops_whole tokens at h = record { within = h.within; before = h.before; none = h.none }
 
-pub stops_short : (fault : LexFault) (tokens : List Seen) (at : ℕ) → IsFirstFault tokens at → StopsAt (Some fault) tokens at
+pub stops_short : (fault : LexFault) (tokens : List Seen) (at : ℕ) → IsFirstUnexpected tokens at → StopsAt (Some fault) tokens at
 stops_short fault tokens at h = record { within = h.within; before = h.before; none = weaker fault (take at tokens) (drop at tokens) h.none }
 
-pub reads_begin : (tokens : List Seen) (s : Statement) → Reads tokens s → BeginsOne tokens
+pub reads_begin : (tokens : List Seen) (s : Statement) → ReadsStatement tokens s → BeginsOne tokens
 reads_begin tokens s h = ([], s, (h.0, subst (λ (x : List Seen). ReadsWithin h.0 x s) (sym (append-nil tokens)) h.1))
 
 take_whole : (tokens : List Seen) → take (length tokens) tokens ≡ tokens
@@ -65,7 +65,7 @@ refused_text fault tokens end at (faults.Unexpected place) stops h = (h.1.0, rec
 
 -- ---- what may stand behind tokens
 
-none_behind : (tokens more : List Seen) (s : Statement) (front rest : List Seen) → tokens ≡ front ++ rest → 0 < length rest → NoneGoesOn front rest → Reads (tokens ++ more) s → ⊥
+none_behind : (tokens more : List Seen) (s : Statement) (front rest : List Seen) → tokens ≡ front ++ rest → 0 < length rest → NoneGoesOn front rest → ReadsStatement (tokens ++ more) s → ⊥
 none_behind tokens more s front [] whole some none h = absurd (omega arith)
 none_behind tokens more s front (t ∷ rest) whole some none h =
     let same : tokens ++ more ≡ (front ++ t ∷ []) ++ (rest ++ more) =
@@ -73,14 +73,14 @@ none_behind tokens more s front (t ∷ rest) whole some none h =
     none (rest ++ more, s, (h.0, subst (λ (x : List Seen). ReadsWithin h.0 x s) same h.1))
 
 -- where a fault stands before the end, no statement begins with them all
-pub fault_begins_none : (tokens : List Seen) (at : ℕ) → IsFirstFault tokens at → at < length tokens → BeginsOne tokens → ⊥
+pub fault_begins_none : (tokens : List Seen) (at : ℕ) → IsFirstUnexpected tokens at → at < length tokens → BeginsOne tokens → ⊥
 fault_begins_none tokens at h inside begun =
     let whole : tokens ≡ take at tokens ++ drop at tokens = sym (take-append-drop at tokens) in
     let some : 0 < length (drop at tokens) = omega (arith, length-drop at tokens) in
     none_behind tokens begun.0 begun.1 (take at tokens) (drop at tokens) whole some h.none begun.2
 
 -- where it stands at the end, one does
-pub fault_begins_one : (tokens : List Seen) (at : ℕ) → IsFirstFault tokens at → at ≡ length tokens → BeginsOne tokens
+pub fault_begins_one : (tokens : List Seen) (at : ℕ) → IsFirstUnexpected tokens at → at ≡ length tokens → BeginsOne tokens
 fault_begins_one tokens at h e = subst BeginsOne (ap (λ (n : ℕ). take n tokens) e ∙ take_whole tokens) h.before
 
 -- ---- functions

@@ -11,7 +11,7 @@ use Rattle.px_lex.specs.declared.form.Form.TheVariants as forms
 use Rattle.px_lex.specs.Kinds.{same_kind}
 use Rattle.px_lex.specs.Bytes.{starts, spells_word, is_letter, is_word, pairs}
 use Rattle.px_lex.specs.Keywords.{keywords, keyword, lookup}
-use Rattle.px_lex.specs.Lexemes.{Seen, Lexeme, IsToken, IsLexeme, AreLexemes, joined, token_of, tokens_from, is_fault, before_fault}
+use Rattle.px_lex.specs.Lexemes.{Seen, Lexeme, IsToken, IsLexeme, AreLexemes, joined_text, token_of, tokens_from, is_fault, before_fault}
 use Rattle.px_ast.specs.Grammar.{unquoted}
 use Rattle.px_words.specs.Tokens.{IsEnclosed, IsWell, AreWell}
 use Rattle.px_parse.specs.Texts.{true_token}
@@ -86,7 +86,7 @@ lexeme_well form place text after h = tt
 
 pub well_before : (place : ℕ) (xs : List Lexeme) (after : List ℕ) → AreLexemes xs after → AreWell (tokens_from place (before_fault xs))
 well_before place [] after h = tt
-well_before place (x ∷ xs) after h = by_test (is_fault x.form) (AreWell-append _ _ (lexeme_well x.form place x.text (joined xs ++ after) h.0) (well_before (place + length x.text) xs after h.1))
+well_before place (x ∷ xs) after h = by_test (is_fault x.form) (AreWell-append _ _ (lexeme_well x.form place x.text (joined_text xs ++ after) h.0) (well_before (place + length x.text) xs after h.1))
   where
     by_test : (b : Bool) → AreWell (tokens_from place (x ∷ before_fault xs)) → AreWell (tokens_from place (cond b [] (x ∷ before_fault xs)))
     by_test true i = tt

@@ -60,9 +60,9 @@ left_out =
     []
 
 -- the name beside this kind
-abbrev pub lookup : List (Kind × List ℕ) → Kind → Option (List ℕ)
-lookup [] kind = None
-lookup (x ∷ xs) kind = if same_kind kind x.0 then Some x.1 else lookup xs kind
+abbrev pub name_beside : List (Kind × List ℕ) → Kind → Option (List ℕ)
+name_beside [] kind = None
+name_beside (x ∷ xs) kind = if same_kind kind x.0 then Some x.1 else name_beside xs kind
 
 -- the borrowed name is this one
 abbrev pub Names : Option (Bor (List ℕ)) → Option (List ℕ) → Type 0

@@ -8,7 +8,7 @@ use Rattle.px_ast.specs.declared.definition.KeyConstraint.{KeyConstraint}
 use Rattle.px_ast.specs.declared.definition.CreateTable.{CreateTable}
 use Rattle.px_ast.specs.declared.statement.Statement.{Statement}
 use Rattle.px_ast.specs.declared.statement.Statement.TheVariants as statements
-use Rattle.px_ast.specs.Rule.{is_written}
+use Rattle.px_ast.specs.Rule.{is_present}
 
 -- a column of this name is among these parts of a key
 abbrev pub names_column : List KeyPart → List ℕ → Bool
@@ -20,11 +20,11 @@ in_constraint (Some c) name = names_column c.parts name
 
 -- PRIMARY KEY stands at the column, or the constraint names it.
 abbrev pub is_key : Option KeyConstraint → Column → Bool
-is_key constraint column = is_written column.key || in_constraint constraint column.name
+is_key constraint column = is_present column.key || in_constraint constraint column.name
 
 -- NOT NULL stands at a column without PRIMARY KEY.
 abbrev pub is_in_doubt : Column → Bool
-is_in_doubt column = column.not_null && not (is_written column.key)
+is_in_doubt column = column.not_null && not (is_present column.key)
 
 -- NOT NULL stands at a column outside the key.
 abbrev pub forbids_null : CreateTable → Bool

@@ -9,10 +9,10 @@ use Rattle.px_lex.specs.Lexemes.{Seen, Lexeme, tokens_from, fault_from, before_f
 use Rattle.px_ast.specs.declared.statement.Upsert.{Upsert}
 use Rattle.px_ast.specs.declared.statement.Statement.{Statement}
 use Rattle.px_ast.specs.declared.statement.Statement.TheVariants as statements
-use Rattle.px_ast.specs.Statements.{ReadsWithin, Reads, depth_limit}
+use Rattle.px_ast.specs.Statements.{ReadsWithin, ReadsStatement, depth_limit}
 use Rattle.px_parse.specs.declared.syntax.SyntaxFault.{SyntaxFault}
 use Rattle.px_parse.specs.declared.syntax.SyntaxFault.TheVariants as faults
-use Rattle.px_parse.specs.LeftOut.{left_out, lookup}
+use Rattle.px_parse.specs.LeftOut.{left_out, name_beside}
 use Rattle.px_parse.specs.Nullness.{forbids_null_outside_key}
 use Rattle.px_statements.specs.Parsed.{BeginsOne, NoneGoesOn}
 
@@ -74,10 +74,10 @@ place_or (t ∷ rest) end = t.place
 -- the name of the first token, where it is left out
 abbrev pub name_left_out : List Seen → Option (List ℕ)
 name_left_out [] = None
-name_left_out (t ∷ rest) = lookup left_out t.kind
+name_left_out (t ∷ rest) = name_beside left_out t.kind
 
 -- At the first place where no statement continues stands no function, and this token decides.
-pub record IsDecided (fault : Option LexFault) (tokens : List Seen) (j : ℕ) : Type 0 where
+pub record IsDecidedBy (fault : Option LexFault) (tokens : List Seen) (j : ℕ) : Type 0 where
   pub at : ℕ
   pub stops : StopsAt fault tokens at
   pub plain : IsFunction tokens at → ⊥
@@ -85,7 +85,7 @@ pub record IsDecided (fault : Option LexFault) (tokens : List Seen) (j : ℕ) : 
 
 abbrev pub IsLeftOut : Option LexFault → List Seen → List ℕ → Type 0
 IsLeftOut fault tokens name =
-    ((j : ℕ) × IsDecided fault tokens j × (name_left_out (drop j tokens) ≡ Some name))
+    ((j : ℕ) × IsDecidedBy fault tokens j × (name_left_out (drop j tokens) ≡ Some name))
     ⊎ (((at : ℕ) × StopsAt fault tokens at × IsFunction tokens at × (name ≡ codes "FUNCTION"))
     ⊎ ((s : Statement) × (fault ≡ None) × ReadsWithin depth_limit tokens s × (forbids_null_outside_key s ≡ true) × (name ≡ codes "NOT NULL")))
 
@@ -93,9 +93,9 @@ IsLeftOut fault tokens name =
 abbrev pub IsRefusedText : Option LexFault → List Seen → ℕ → SyntaxFault → Type 0
 IsRefusedText fault tokens end faults.Memory = Unit {0}
 IsRefusedText fault tokens end (faults.Unexpected place) =
-    (j : ℕ) × IsDecided fault tokens j × (name_left_out (drop j tokens) ≡ None) × (place ≡ place_or (drop j tokens) end)
+    (j : ℕ) × IsDecidedBy fault tokens j × (name_left_out (drop j tokens) ≡ None) × (place ≡ place_or (drop j tokens) end)
 IsRefusedText fault tokens end (faults.LeftOut name) = IsLeftOut fault tokens name.now
-IsRefusedText fault tokens end faults.TooDeep = (fault ≡ None) × ((s : Statement) × Reads tokens s) × ((s : Statement) → ReadsWithin depth_limit tokens s → ⊥)
+IsRefusedText fault tokens end faults.TooDeep = (fault ≡ None) × ((s : Statement) × ReadsStatement tokens s) × ((s : Statement) → ReadsWithin depth_limit tokens s → ⊥)
 
 -- what a parser may answer to a text that has these tokens, up to this fault of the lexer or up to its end
 abbrev pub IsTextParse : Option LexFault → List Seen → ℕ → Result Statement SyntaxFault → Type 0
@@ -117,8 +117,8 @@ end_of text None = length text
 end_of text (Some fault) = fault_place fault
 
 -- What a parser may answer to a text of this reading.
-abbrev pub Answers : List ℕ → List Lexeme → Result Statement SyntaxFault → Type 0
-Answers text xs result = IsTextParse (fault_from 0 xs) (tokens_from 0 (before_fault xs)) (end_of text (fault_from 0 xs)) result
+abbrev pub AnswersStatement : List ℕ → List Lexeme → Result Statement SyntaxFault → Type 0
+AnswersStatement text xs result = IsTextParse (fault_from 0 xs) (tokens_from 0 (before_fault xs)) (end_of text (fault_from 0 xs)) result
 
 -- it answers this statement, unless memory runs out
 abbrev pub IsAnswered : Statement → Result Statement SyntaxFault → Type 0

@@ -58,7 +58,7 @@ const LEFT_OUT: [(Kind, &str); 49] = [
 ];
 
 fn lookup(mut table: &'static [(Kind, &'static str)], kind: Kind) -> Option<&'static str>
-    ensures { spec.Names result (spec.lookup (map (λ x. (x.0, x.1.now)) table.entry.now) kind) }
+    ensures { spec.Names result (spec.name_beside (map (λ x. (x.0, x.1.now)) table.entry.now) kind) }
 {
     while let [entry, rest @ ..] = table {
         if same_kind(kind, entry.0) {
@@ -71,7 +71,7 @@ fn lookup(mut table: &'static [(Kind, &'static str)], kind: Kind) -> Option<&'st
 
 /// The name of a token that is left out, by its kind.
 pub fn left_out(kind: Kind) -> Option<&'static str>
-    ensures { spec.Names result (spec.lookup spec.left_out kind) }
+    ensures { spec.Names result (spec.name_beside spec.left_out kind) }
 {
     lookup(&LEFT_OUT, kind)
 }

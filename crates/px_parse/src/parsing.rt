@@ -1,7 +1,7 @@
 // From a text to its statement.
 ghost use Rattle.std.specs.Prelude.{◌≡◌, ◌≢◌, ◌≤◌, ◌<◌, ◌++◌, ◌∷◌, [], ℕ, List, length, map, take, drop, Some, None, true, false, IfOk, IfErr, OnOk, OnErr, MatchOption};
 ghost use Rattle.px_lex.specs.declared.token.LexFault.TheVariants as lexical;
-ghost use Rattle.px_lex.specs.Lexemes.{seen, Lexeme, IsReading, fault_from, tokens_from};
+ghost use Rattle.px_lex.specs.Lexemes.{seen, Lexeme, IsTextReading, fault_from, tokens_from};
 ghost use Rattle.px_ast.specs.declared.statement.Statement.{Statement};
 ghost use Rattle.px_ast.specs.Statements.{ReadsWithin, depth_limit};
 ghost use Rattle.px_parse.specs.declared.syntax.SyntaxFault.TheVariants as faults;
@@ -87,7 +87,7 @@ fn with_true<'a>(alloc: Global, tokens: &[Token<'a>]) -> Result<Vec<Token<'a>>, 
 /// Why tokens are no statement.
 fn why_not(alloc: Global, tokens: &[Token<'_>]) -> Option<TokenFault>
     requires { AreWell (map seen tokens.now) }
-    ensures { telling.Explains (map seen tokens.now) result }
+    ensures { telling.ExplainsTokens (map seen tokens.now) result }
 {
     read_tokens(alloc, tokens).err()
 }
@@ -249,8 +249,8 @@ fn place_of(fault: LexFault) -> usize
 /// to a statement with NOT NULL at a column outside the key. `TooDeep` comes to a statement in which more than 64 parentheses
 /// and NOTs are open at once. `Memory` may come to any text.
 pub fn parse(alloc: Global, text: &str) -> Result<Statement, SyntaxFault>
-    ensures answer { (xs : List Lexeme) × IsReading text.now xs × spec.Answers text.now xs result }
-    ensures only { (xs : List Lexeme) (s : Statement) → IsReading text.now xs → fault_from 0 xs ≡ None → ReadsWithin depth_limit (tokens_from 0 xs) s
+    ensures answer { (xs : List Lexeme) × IsTextReading text.now xs × spec.AnswersStatement text.now xs result }
+    ensures only { (xs : List Lexeme) (s : Statement) → IsTextReading text.now xs → fault_from 0 xs ≡ None → ReadsWithin depth_limit (tokens_from 0 xs) s
         → nullness.forbids_null_outside_key s ≡ false → spec.IsAnswered s result }
 {
     let Lexed { tokens, fault } = lex(alloc, text)?;

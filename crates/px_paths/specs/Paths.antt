@@ -64,14 +64,14 @@ abbrev pub key_on : List PathColumn → List Value → List ℕ
 key_on path row = spelled (columns_on path) (values_on path row)
 
 -- the value of a column among those of a key
-unfoldable pub value_among : List PathColumn → List Value → ℕ → Value
-value_among [] values place = Null
-value_among (p ∷ path) [] place = Null
-value_among (p ∷ path) (v ∷ values) place = if nat_eq p.place place then v else value_among path values place
+unfoldable pub value_on_path : List PathColumn → List Value → ℕ → Value
+value_on_path [] values place = Null
+value_on_path (p ∷ path) [] place = Null
+value_on_path (p ∷ path) (v ∷ values) place = if nat_eq p.place place then v else value_on_path path values place
 
 -- the primary key values among those of an index's row key
 abbrev pub owner_of : Table → List PathColumn → List Value → List Value
-owner_of t path values = map (λ p. value_among path values p.column) t.key
+owner_of t path values = map (λ p. value_on_path path values p.column) t.key
 
 -- 3. What an index shows
 

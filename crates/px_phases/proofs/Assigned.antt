@@ -5,7 +5,7 @@ use Rattle.std.specs.List.{AllByRecursion}
 use Rattle.std.proofs.lemmas.List.{take_more}
 use Rattle.px_rows.specs.Spelled.{FitsColumnOf}
 use Rattle.px_tables.specs.declared.table.Table.{Table}
-use Rattle.px_indexrow.specs.Form.{FitsState}
+use Rattle.px_indexrow.specs.Form.{FitsRowState}
 use Rattle.px_trail.specs.Trail.{table_shape}
 use Rattle.std.proofs.lemmas.List.{length-replicate}
 use Rattle.std.specs.Option.{unwrap_or}
@@ -37,6 +37,6 @@ with_count (c ∷ columns) [] row = refl
 with_count (c ∷ columns) (v ∷ values) row = with_count columns values (slice_set row c v) ∙ length-set row c v
 
 -- the values of a row, or those of one of which only the key is known
-pub values_count : (t : Table) (r : List Value) (state : RowState) → FitsState t state → length (unwrap_or state (fresh_row (table_shape t) r)) ≡ length t.columns
+pub values_count : (t : Table) (r : List Value) (state : RowState) → FitsRowState t state → length (unwrap_or state (fresh_row (table_shape t) r)) ≡ length t.columns
 values_count t r None f = with_count (map (λ p. p.column) t.key) r (replicate (length t.columns) Null) ∙ length-replicate (length t.columns) Null
 values_count t r (Some row) f = f.0

@@ -18,7 +18,7 @@ use Rattle.px_indexrow.specs.Lists.{closes_of, marks_of}
 use Rattle.px_openbatches.specs.Made.{IsComputed, IsIndexRow, IsPutOfRow}
 use Rattle.px_openbatches.specs.Pending.{HeldBatch, flagged, fresh_held, is_pending_in}
 use Rattle.px_rows.specs.Keys.{row_key}
-use Rattle.px_rows.specs.Spelled.{cells_at, change_cells, row_form, table_form as row_table}
+use Rattle.px_rows.specs.Spelled.{change_cells, change_contents, row_form, row_spelling}
 use Rattle.px_tables.specs.declared.table.Table.{Table}
 use Rattle.px_trail.specs.Batches.{change_of, has, is_distinct, rows_of}
 use Rattle.px_trail.specs.Trail.{Base, table_shape}
@@ -32,7 +32,7 @@ use Rattle.px_values.specs.declared.name.TableId.{TableId}
 use Rattle.px_values.specs.declared.row.Value.{Value}
 use Rattle.px_phases.specs.declared.transition.Transition.{Transition}
 use Rattle.px_phases.specs.Batch.{IsHeldAs}
-use Rattle.px_phases.specs.Begun.{AreFrom, begun_batch, made_rows, no_form}
+use Rattle.px_phases.specs.Begun.{AreFrom, made_rows, no_form, prepared_batch}
 use Rattle.px_phases.specs.Phases.{ArePuts, AreTransitions, IsPut, IsTransition, close_parts, mark_parts}
 use Rattle.px_phases.proofs.Held.{first_new, or_right}
 
@@ -77,7 +77,7 @@ puts_are fs s t (c ∷ cs) (x ∷ xs) (q ∷ parts) a p = ap (λ (l : List (List
 
 -- 2. A put is of its row
 
-not_delete : (t : Table) (w : What) (q : ℕ) (v : List ℕ) (d : CellKind) → change_cells (row_table t) w q d ≡ Some v → d ≡ Delete → ⊥
+not_delete : (t : Table) (w : What) (q : ℕ) (v : List ℕ) (d : CellKind) → change_cells (row_spelling t) w q d ≡ Some v → d ≡ Delete → ⊥
 not_delete t (Set as') q v Delete e z = cc
 not_delete t Gone q v Delete e z = cc
 not_delete t w q v Put e z = cc
@@ -90,11 +90,11 @@ puts_of b id index t s c cells p = has_all (IsPutOfRow (table_form b id index (r
   key = all_has (λ x. x.key ≡ row_key t c.row) cells x p.own h;
   placed = all_has GoesWith cells x p.list.placed h;
   kind = λ e.
-      (let stands : cells_at (row_table t) c.row s c.what x.key x.qualifier x.stamp x.kind ≡ Some x.value = (λ i. sym p.values i x.key x.qualifier x.stamp x.kind) ∙ value_from_reads cells x.key x.qualifier x.stamp x.kind x.value (reads_from_has cells x p.list.ascending h) in
+      (let stands : change_contents (row_spelling t) c.row s c.what x.key x.qualifier x.stamp x.kind ≡ Some x.value = (λ i. sym p.values i x.key x.qualifier x.stamp x.kind) ∙ value_from_reads cells x.key x.qualifier x.stamp x.kind x.value (reads_from_has cells x p.list.ascending h) in
       at (Rattle.std.specs.Cmp.Lexicographic.pointwise Rattle.std.specs.Prelude.nat_eq x.key (row_key t c.row) && Rattle.std.specs.Prelude.nat_eq s x.stamp) x stands e);
 })
   where
-    at : (v : Bool) (x : CellData) → cond v (change_cells (row_table t) c.what x.qualifier x.kind) None ≡ Some x.value → x.kind ≡ Delete → ⊥
+    at : (v : Bool) (x : CellData) → cond v (change_cells (row_spelling t) c.what x.qualifier x.kind) None ≡ Some x.value → x.kind ≡ Delete → ⊥
     at true x z e = not_delete t c.what x.qualifier x.value x.kind z e
     at false x z e = cc
 
@@ -171,7 +171,7 @@ pending_flags p [] = refl
 pending_flags p (r ∷ rows) = ap (λ (l : List (List Value)). cond (p r) (r ∷ l) l) (pending_flags p rows)
 
 pub begun_held : (t : Table) (fs : List IndexForm) (s : ℕ) (cs : List Change) (xs : List Transition) (parts : List (List CellData)) (flags : List Bool) (hs : List HeldBatch) → is_distinct (rows_of cs) ≡ true → AreTransitions t cs xs → ArePuts t s cs parts → flags ≡ map (is_pending_in hs) (rows_of cs)
-    → IsHeldAs (begun_batch fs s cs xs parts flags) (fresh_held s cs (length fs) (made_rows fs s cs xs parts) hs)
+    → IsHeldAs (prepared_batch fs s cs xs parts flags) (fresh_held s cs (length fs) (made_rows fs s cs xs parts) hs)
 begun_held t fs s cs xs parts flags hs d a p e = record {
   stamp = refl;
   changes = refl;

@@ -6,7 +6,7 @@ use Rattle.px_cells.specs.Order.{IsApart}
 use Rattle.px_forms.specs.Indexes.{IndexForm, IsIndexForm, IsPlaced}
 use Rattle.px_batchcells.proofs.RowsMade.{closes_made, marks_made}
 use Rattle.px_indexrow.proofs.StatesFit.{apply_fits}
-use Rattle.px_indexrow.specs.Form.{FitsState, IsLong, IsRightIndex, index_form}
+use Rattle.px_indexrow.specs.Form.{FitsRowState, IsLongInIndex, IsRightIndex, index_form}
 use Rattle.px_indexrow.specs.Lists.{closes_of, marks_of}
 use Rattle.px_keptcells.specs.Kept.{HaveOtherKeys, IsFitting, laid}
 use Rattle.px_openbatches.specs.Made.{IsCellOfRow}
@@ -35,8 +35,8 @@ transition_at t (y ∷ cs) [] a n c x l e q = absurd a
 transition_at t (y ∷ cs) (z ∷ xs) a zero c x l e q = subst (λ (w : Change). IsTransition t w x) (sym e) (subst (IsTransition t y) (sym q) a.0)
 transition_at t (y ∷ cs) (z ∷ xs) a (suc n) c x l e q = transition_at t cs xs a.1 n c x (omega arith) e q
 
-pub new_fits : (t : Table) (c : Change) (x : Transition) → IsRightTable t → IsTransition t c x → FitsState t x.new
-new_fits t c x right w = subst (FitsState t) (sym w.new) (apply_fits t c.row x.old c.what right w.fits w.old)
+pub new_fits : (t : Table) (c : Change) (x : Transition) → IsRightTable t → IsTransition t c x → FitsRowState t x.new
+new_fits t c x right w = subst (FitsRowState t) (sym w.new) (apply_fits t c.row x.old c.what right w.fits w.old)
 
 module _ (f : IndexForm) (s : ℕ) where
   pub marks_next : (cs : List Change) (xs : List Transition) (n : ℕ) (c : Change) (x : Transition) → n < length cs → n < length xs → c ≡ get_or cs n c → x ≡ get_or xs n x → mark_parts f s (take (n + 1) cs) (take (n + 1) xs) ≡ mark_parts f s (take n cs) (take n xs) ++ marks_of f c.row s x.old x.new ∷ []
@@ -75,7 +75,7 @@ pub record IsGood (f : IndexForm) (r : List Value) (cells : List CellData) : Typ
   pub own : AllByRecursion (λ c. Owns f r c.key) cells
 
 module _ (t : Table) (i : Index) (s : ℕ) (table : IsRightTable t) (index : IsRightIndex t i) (form : IsIndexForm (index_form t i)) (placed : IsPlaced (index_form t i)) (low : s < 18446744073709551616) (c : Change) (x : Transition) (w : IsTransition t c x)
-    (new : IsLong t i c.row x.new → ⊥) (old : IsLong t i c.row x.old → ⊥) where
+    (new : IsLongInIndex t i c.row x.new → ⊥) (old : IsLongInIndex t i c.row x.old → ⊥) where
   pub marks_good : IsGood (index_form t i) c.row (marks_of (index_form t i) c.row s x.old x.new)
   marks_good =
       (let m = marks_made (table_shape t) (index_form t i) form placed c.row s x.old x.new in
@@ -117,25 +117,25 @@ module _ (f : IndexForm) (s : ℕ) (g : IsIndexForm f) (p : IsPlaced f) (t : Tab
   closes_elsewhere = other_keys (Owns f) g.apart (rows_of (take n cs)) (close_parts f s (take n cs) (take n xs)) (closes_own f s g p t cs xs a n) c.row (new_at cs n c d l e) cells own
 
 -- keys that are too long
-pub long_at : (t : Table) (i : Index) (cs : List Change) (xs : List Transition) (n : ℕ) (c : Change) (x : Transition) → n < length cs → n < length xs → c ≡ get_or cs n c → x ≡ get_or xs n x → IsLong t i c.row x.new ⊎ IsLong t i c.row x.old → HasLongIndexed t i cs xs
+pub long_at : (t : Table) (i : Index) (cs : List Change) (xs : List Transition) (n : ℕ) (c : Change) (x : Transition) → n < length cs → n < length xs → c ≡ get_or cs n c → x ≡ get_or xs n x → IsLongInIndex t i c.row x.new ⊎ IsLongInIndex t i c.row x.old → HasLongIndexed t i cs xs
 long_at t i [] xs n c x l m e q h = absurd (omega arith)
 long_at t i (y ∷ cs) [] n c x l m e q h = absurd (omega arith)
-long_at t i (y ∷ cs) (z ∷ xs) zero c x l m e q h = inl (subst (λ (w : Change). IsLong t i w.row z.new ⊎ IsLong t i w.row z.old) e (subst (λ (w : Transition). IsLong t i c.row w.new ⊎ IsLong t i c.row w.old) q h))
+long_at t i (y ∷ cs) (z ∷ xs) zero c x l m e q h = inl (subst (λ (w : Change). IsLongInIndex t i w.row z.new ⊎ IsLongInIndex t i w.row z.old) e (subst (λ (w : Transition). IsLongInIndex t i c.row w.new ⊎ IsLongInIndex t i c.row w.old) q h))
 long_at t i (y ∷ cs) (z ∷ xs) (suc n) c x l m e q h = inr (long_at t i cs xs n c x (omega arith) (omega arith) e q h)
 
-pub long_next : (t : Table) (i : Index) (cs : List Change) (xs : List Transition) (n : ℕ) (c : Change) (x : Transition) → n < length cs → n < length xs → c ≡ get_or cs n c → x ≡ get_or xs n x → HasLongIndexed t i (take (n + 1) cs) (take (n + 1) xs) → (HasLongIndexed t i (take n cs) (take n xs) → ⊥) → IsLong t i c.row x.new ⊎ IsLong t i c.row x.old
+pub long_next : (t : Table) (i : Index) (cs : List Change) (xs : List Transition) (n : ℕ) (c : Change) (x : Transition) → n < length cs → n < length xs → c ≡ get_or cs n c → x ≡ get_or xs n x → HasLongIndexed t i (take (n + 1) cs) (take (n + 1) xs) → (HasLongIndexed t i (take n cs) (take n xs) → ⊥) → IsLongInIndex t i c.row x.new ⊎ IsLongInIndex t i c.row x.old
 long_next t i [] xs n c x l m e q h none = absurd (omega arith)
 long_next t i (y ∷ cs) [] n c x l m e q h none = absurd (omega arith)
 long_next t i (y ∷ cs) (z ∷ xs) zero c x l m e q h none = by h
   where
-    by : HasLongIndexed t i (take (0 + 1) (y ∷ cs)) (take (0 + 1) (z ∷ xs)) → IsLong t i c.row x.new ⊎ IsLong t i c.row x.old
-    by (inl k) = subst (λ (w : Change). IsLong t i w.row x.new ⊎ IsLong t i w.row x.old) (sym e) (subst (λ (w : Transition). IsLong t i y.row w.new ⊎ IsLong t i y.row w.old) (sym q) k)
+    by : HasLongIndexed t i (take (0 + 1) (y ∷ cs)) (take (0 + 1) (z ∷ xs)) → IsLongInIndex t i c.row x.new ⊎ IsLongInIndex t i c.row x.old
+    by (inl k) = subst (λ (w : Change). IsLongInIndex t i w.row x.new ⊎ IsLongInIndex t i w.row x.old) (sym e) (subst (λ (w : Transition). IsLongInIndex t i y.row w.new ⊎ IsLongInIndex t i y.row w.old) (sym q) k)
     by (inr k) = absurd k
 long_next t i (y ∷ cs) (z ∷ xs) (suc n) c x l m e q h none = by (subst (λ (k : ℕ). HasLongIndexed t i (take k (y ∷ cs)) (take k (z ∷ xs))) (next n) h) (λ k. long_next t i cs xs n c x (omega arith) (omega arith) e q k (λ w. none (inr w))) (λ k. none (inl k))
   where
     next : (n : ℕ) → suc n + 1 ≡ suc (n + 1)
     next n = omega arith
 
-    by : (IsLong t i y.row z.new ⊎ IsLong t i y.row z.old) ⊎ HasLongIndexed t i (take (n + 1) cs) (take (n + 1) xs) → (HasLongIndexed t i (take (n + 1) cs) (take (n + 1) xs) → IsLong t i c.row x.new ⊎ IsLong t i c.row x.old) → (IsLong t i y.row z.new ⊎ IsLong t i y.row z.old → ⊥) → IsLong t i c.row x.new ⊎ IsLong t i c.row x.old
+    by : (IsLongInIndex t i y.row z.new ⊎ IsLongInIndex t i y.row z.old) ⊎ HasLongIndexed t i (take (n + 1) cs) (take (n + 1) xs) → (HasLongIndexed t i (take (n + 1) cs) (take (n + 1) xs) → IsLongInIndex t i c.row x.new ⊎ IsLongInIndex t i c.row x.old) → (IsLongInIndex t i y.row z.new ⊎ IsLongInIndex t i y.row z.old → ⊥) → IsLongInIndex t i c.row x.new ⊎ IsLongInIndex t i c.row x.old
     by (inl k) f g = absurd (g k)
     by (inr k) f g = f k

@@ -8,8 +8,8 @@ use Rattle.px_cells.specs.CellData.{CellData}
 use Rattle.px_cells.specs.Order.{ReadsSame}
 use Rattle.px_keptcells.specs.Kept.{but, laid}
 use Rattle.px_forms.specs.Several.{cells_for}
-use Rattle.px_openbatches.specs.Made.{RowCells, cells_at}
-use Rattle.px_openbatches.specs.Pending.{HeldBatch, flagged, is_left, meet_flags, meets, to_verify, writes_rows}
+use Rattle.px_openbatches.specs.Made.{RowCells, picked_cells}
+use Rattle.px_openbatches.specs.Pending.{HeldBatch, flagged, is_left, meet_flags, to_verify, with_met, writes_rows}
 use Rattle.px_openbatches.proofs.Flags.{flags_are}
 use Rattle.px_trail.specs.Batches.{change_of, has, is_distinct, rows_of}
 use Rattle.px_trail.proofs.Orders.{has-append}
@@ -76,30 +76,30 @@ spared_has (false ∷ vs) (r ∷ rows) q h = elim (cases_Bool (is_eq (row_order 
 abbrev row_list : List RowCells → List (List Value)
 row_list xs = map (λ x. x.row) xs
 
-here : (pick : RowCells → List CellData) (x : RowCells) (xs : List RowCells) (r : List Value) → is_eq (row_order x.row r) ≡ true → cells_at pick (x ∷ xs) r ≡ pick x
-unfolding cells_at
-here pick x xs r e = ap (λ (b : Bool). cond b (pick x) (cells_at pick xs r)) e
+here : (pick : RowCells → List CellData) (x : RowCells) (xs : List RowCells) (r : List Value) → is_eq (row_order x.row r) ≡ true → picked_cells pick (x ∷ xs) r ≡ pick x
+unfolding picked_cells
+here pick x xs r e = ap (λ (b : Bool). cond b (pick x) (picked_cells pick xs r)) e
 
-there : (pick : RowCells → List CellData) (x : RowCells) (xs : List RowCells) (r : List Value) → is_eq (row_order x.row r) ≡ false → cells_at pick (x ∷ xs) r ≡ cells_at pick xs r
-unfolding cells_at
-there pick x xs r e = ap (λ (b : Bool). cond b (pick x) (cells_at pick xs r)) e
+there : (pick : RowCells → List CellData) (x : RowCells) (xs : List RowCells) (r : List Value) → is_eq (row_order x.row r) ≡ false → picked_cells pick (x ∷ xs) r ≡ picked_cells pick xs r
+unfolding picked_cells
+there pick x xs r e = ap (λ (b : Bool). cond b (pick x) (picked_cells pick xs r)) e
 
 -- the parts of the rows that are left are those rows' cells, one row after another
-parts_are : (pick : RowCells → List CellData) (xs : List RowCells) (vs : List Bool) → is_distinct (row_list xs) ≡ true → laid (but vs (map pick xs)) ≡ cells_for (cells_at pick xs) (spared vs (row_list xs))
+parts_are : (pick : RowCells → List CellData) (xs : List RowCells) (vs : List Bool) → is_distinct (row_list xs) ≡ true → laid (but vs (map pick xs)) ≡ cells_for (picked_cells pick xs) (spared vs (row_list xs))
 unfolding cells_for
 parts_are pick [] [] d = refl
 parts_are pick [] (v ∷ vs) d = refl
 parts_are pick (x ∷ xs) [] d =
     (let n = first_new x.row (row_list xs) d in
     (λ i. sym (here pick x xs x.row ((row_order-Decides x.row x.row).1 refl)) i ++ parts_are pick xs [] n.1 i)
-    ∙ ap (λ (l : List CellData). cells_at pick (x ∷ xs) x.row ++ l) (cells_alike (cells_at pick xs) (cells_at pick (x ∷ xs)) (row_list xs) (λ q h. sym (there pick x xs q (others_differ x.row q (row_list xs) n.0 h)))))
+    ∙ ap (λ (l : List CellData). picked_cells pick (x ∷ xs) x.row ++ l) (cells_alike (picked_cells pick xs) (picked_cells pick (x ∷ xs)) (row_list xs) (λ q h. sym (there pick x xs q (others_differ x.row q (row_list xs) n.0 h)))))
 parts_are pick (x ∷ xs) (true ∷ vs) d =
     (let n = first_new x.row (row_list xs) d in
-    parts_are pick xs vs n.1 ∙ cells_alike (cells_at pick xs) (cells_at pick (x ∷ xs)) (spared vs (row_list xs)) (λ q h. sym (there pick x xs q (others_differ x.row q (row_list xs) n.0 (spared_has vs (row_list xs) q h)))))
+    parts_are pick xs vs n.1 ∙ cells_alike (picked_cells pick xs) (picked_cells pick (x ∷ xs)) (spared vs (row_list xs)) (λ q h. sym (there pick x xs q (others_differ x.row q (row_list xs) n.0 (spared_has vs (row_list xs) q h)))))
 parts_are pick (x ∷ xs) (false ∷ vs) d =
     (let n = first_new x.row (row_list xs) d in
     (ap (λ (l : List CellData). l ++ laid (but vs (map pick xs))) (sym (here pick x xs x.row ((row_order-Decides x.row x.row).1 refl)))
-    ∙ ap (λ (l : List CellData). cells_at pick (x ∷ xs) x.row ++ l) (parts_are pick xs vs n.1 ∙ cells_alike (cells_at pick xs) (cells_at pick (x ∷ xs)) (spared vs (row_list xs)) (λ q h. sym (there pick x xs q (others_differ x.row q (row_list xs) n.0 (spared_has vs (row_list xs) q h)))))))
+    ∙ ap (λ (l : List CellData). picked_cells pick (x ∷ xs) x.row ++ l) (parts_are pick xs vs n.1 ∙ cells_alike (picked_cells pick xs) (picked_cells pick (x ∷ xs)) (spared vs (row_list xs)) (λ q h. sym (there pick x xs q (others_differ x.row q (row_list xs) n.0 (spared_has vs (row_list xs) q h)))))))
 
 -- 2. Rows on which another batch was pending
 
@@ -150,8 +150,8 @@ module _ (b : BatchData) (h : HeldBatch) (is : IsHeldAs b h) where
   all_rows : row_list h.cells ≡ rows_of h.changes
   all_rows = is.rows ∙ ap rows_of (sym is.changes)
 
-  whole : (pick : RowCells → List CellData) (parts : List (List CellData)) → parts ≡ map pick h.cells → laid parts ≡ cells_for (cells_at pick h.cells) (rows_of h.changes)
-  whole pick parts e = ap laid e ∙ (parts_are pick h.cells [] distinct_cells ∙ ap (cells_for (cells_at pick h.cells)) all_rows)
+  whole : (pick : RowCells → List CellData) (parts : List (List CellData)) → parts ≡ map pick h.cells → laid parts ≡ cells_for (picked_cells pick h.cells) (rows_of h.changes)
+  whole pick parts e = ap laid e ∙ (parts_are pick h.cells [] distinct_cells ∙ ap (cells_for (picked_cells pick h.cells)) all_rows)
 
   unmet_rows : spared b.met (row_list h.cells) ≡ to_verify h
   unmet_rows =
@@ -159,18 +159,18 @@ module _ (b : BatchData) (h : HeldBatch) (is : IsHeldAs b h) where
       ∙ (sym (unmet (rows_of b.changes) b.met is.flags is.distinct)
       ∙ ((λ i. filter (λ r. not (sym (is.met r) i)) (rows_of (sym is.changes i)))))
 
-  part : (pick : RowCells → List CellData) (parts : List (List CellData)) → parts ≡ map pick h.cells → laid (but b.met parts) ≡ cells_for (cells_at pick h.cells) (to_verify h)
-  part pick parts e = ap (λ (p : List (List CellData)). laid (but b.met p)) e ∙ (parts_are pick h.cells b.met distinct_cells ∙ ap (cells_for (cells_at pick h.cells)) unmet_rows)
+  part : (pick : RowCells → List CellData) (parts : List (List CellData)) → parts ≡ map pick h.cells → laid (but b.met parts) ≡ cells_for (picked_cells pick h.cells) (to_verify h)
+  part pick parts e = ap (λ (p : List (List CellData)). laid (but b.met p)) e ∙ (parts_are pick h.cells b.met distinct_cells ∙ ap (cells_for (picked_cells pick h.cells)) unmet_rows)
 
-  pub marks_handed : (parts : List (List CellData)) (rest : List (List (List CellData))) → b.marks ≡ parts ∷ rest → (cells : List CellData) → IsHanded cells (laid parts) → ReadsSame cells (cells_for (cells_at (λ x. get_or x.marks h.done []) h.cells) (rows_of h.changes))
+  pub marks_handed : (parts : List (List CellData)) (rest : List (List (List CellData))) → b.marks ≡ parts ∷ rest → (cells : List CellData) → IsHanded cells (laid parts) → ReadsSame cells (cells_for (picked_cells (λ x. get_or x.marks h.done []) h.cells) (rows_of h.changes))
   marks_handed parts rest e cells w =
       (let m : parts ≡ map (λ x. get_or x.marks h.done []) h.cells = ap (λ (l : List (List (List CellData))). get_or l 0 []) (sym e) ∙ (is.marks 0 (let n = ap length e in omega arith) ∙ ap (λ (n : ℕ). map (λ x. get_or x.marks n []) h.cells) (let z : h.done + 0 ≡ h.done = omega arith in z)) in
       same_cells cells (laid parts) _ (whole (λ x. get_or x.marks h.done []) parts m) w.reads)
 
-  pub puts_handed : (parts : List (List CellData)) → b.puts ≡ Some parts → (cells : List CellData) → IsHanded cells (laid parts) → ReadsSame cells (cells_for (cells_at (λ x. x.puts) h.cells) (rows_of h.changes))
+  pub puts_handed : (parts : List (List CellData)) → b.puts ≡ Some parts → (cells : List CellData) → IsHanded cells (laid parts) → ReadsSame cells (cells_for (picked_cells (λ x. x.puts) h.cells) (rows_of h.changes))
   puts_handed parts e cells w = same_cells cells (laid parts) _ (whole (λ x. x.puts) parts (is.puts parts e)) w.reads
 
-  pub closes_handed : (parts : List (List CellData)) (rest : List (List (List CellData))) → b.closes ≡ parts ∷ rest → (cells : List CellData) → IsHanded cells (laid (but b.met parts)) → ReadsSame cells (cells_for (cells_at (λ x. get_or x.closes h.verified []) h.cells) (to_verify h))
+  pub closes_handed : (parts : List (List CellData)) (rest : List (List (List CellData))) → b.closes ≡ parts ∷ rest → (cells : List CellData) → IsHanded cells (laid (but b.met parts)) → ReadsSame cells (cells_for (picked_cells (λ x. get_or x.closes h.verified []) h.cells) (to_verify h))
   closes_handed parts rest e cells w =
       (let m : parts ≡ map (λ x. get_or x.closes h.verified []) h.cells = ap (λ (l : List (List (List CellData))). get_or l 0 []) (sym e) ∙ (is.closes 0 (let n = ap length e in omega arith) ∙ ap (λ (n : ℕ). map (λ x. get_or x.closes n []) h.cells) (let z : h.verified + 0 ≡ h.verified = omega arith in z)) in
       same_cells cells (laid (but b.met parts)) _ (part (λ x. get_or x.closes h.verified []) parts m) w.reads)
@@ -285,7 +285,7 @@ module _ (b : BatchData) (h : HeldBatch) (is : IsHeldAs b h) where
     abbrev met_of : Option (List (List CellData)) → List Bool
     met_of o = if is_some o then meet_flags (rows_of others) b.met (rows_of b.changes) else b.met
 
-    met_is : (o : Option (List (List CellData))) → b.puts ≡ o → (v : Bool) → is_left h ≡ v → (r : List Value) → has (meets others h).met r ≡ has (flagged (met_of o) (rows_of b.changes)) r
+    met_is : (o : Option (List (List CellData))) → b.puts ≡ o → (v : Bool) → is_left h ≡ v → (r : List Value) → has (with_met others h).met r ≡ has (flagged (met_of o) (rows_of b.changes)) r
     met_is None e true q r = absurd (false≢true (sym (gone e) ∙ q))
     met_is None e false q r = ap (λ (v : Bool). has (cond v (h.met ++ filter (λ r. is_some (change_of h.changes r)) (rows_of others)) h.met) r) q ∙ is.met r
     met_is (Some parts) e true q r =
@@ -300,7 +300,7 @@ module _ (b : BatchData) (h : HeldBatch) (is : IsHeldAs b h) where
     flags_stay None = is.flags
     flags_stay (Some parts) = meet_length (rows_of others) b.met (rows_of b.changes) ∙ is.flags
 
-    pub met_held : IsHeldAs (record b { met = if is_some b.puts then meet_flags (rows_of others) b.met (rows_of b.changes) else b.met }) (meets others h)
+    pub met_held : IsHeldAs (record b { met = if is_some b.puts then meet_flags (rows_of others) b.met (rows_of b.changes) else b.met }) (with_met others h)
     met_held = record {
       stamp = is.stamp;
       changes = is.changes;

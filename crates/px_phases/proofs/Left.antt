@@ -6,10 +6,10 @@ use Rattle.std.proofs.lemmas.List.{drop_more, take_more}
 use Rattle.std.proofs.Math.ListN.{drop_of_length-le}
 use Rattle.std.specs.Ordering.{is_eq}
 use Rattle.px_cells.specs.CellData.{CellData}
-use Rattle.px_openbatches.specs.Pending.{HeldBatch, after_pending, applied_if, is_pending_in, left_as, left_of}
+use Rattle.px_openbatches.specs.Pending.{HeldBatch, after_pending, applied_if, change_left, is_pending_in, left_as}
 use Rattle.px_openbatches.proofs.Flags.{has_is_some}
 use Rattle.px_indexrow.proofs.StatesFit.{apply_fits}
-use Rattle.px_indexrow.specs.Form.{FitsState}
+use Rattle.px_indexrow.specs.Form.{FitsRowState}
 use Rattle.px_rows.specs.Keys.{IsRightTable}
 use Rattle.px_rows.specs.Spelled.{FitsTable}
 use Rattle.px_tables.specs.declared.table.Table.{Table}
@@ -23,7 +23,7 @@ use Rattle.px_values.specs.declared.change.What.{What}
 use Rattle.px_values.specs.declared.row.Value.{Value}
 use Rattle.px_phases.specs.Batch.{AllFit, AreHeldAs, BatchData, IsHeldAs, is_left_in, left_in, pending_state}
 
-pub left_same : (b : BatchData) (h : HeldBatch) → IsHeldAs b h → (r : List Value) → left_in b r ≡ left_of h r
+pub left_same : (b : BatchData) (h : HeldBatch) → IsHeldAs b h → (r : List Value) → left_in b r ≡ change_left h r
 left_same b h is r = by b.puts refl (change_of b.changes r) refl
   where
     written : (o : Option (List (List CellData))) → b.puts ≡ o → has h.written r ≡ (not (is_some o) && is_some (change_of b.changes r))
@@ -46,7 +46,7 @@ unfolding after_pending
 states_same sh r o [] [] a = refl
 states_same sh r o [] (h ∷ hs) a = absurd a
 states_same sh r o (b ∷ bs) [] a = absurd a
-states_same sh r o (b ∷ bs) (h ∷ hs) a = ap (λ (w : Option What). pending_state sh r (applied_if sh r o w) bs) (left_same b h a.0 r) ∙ states_same sh r (applied_if sh r o (left_of h r)) bs hs a.1
+states_same sh r o (b ∷ bs) (h ∷ hs) a = ap (λ (w : Option What). pending_state sh r (applied_if sh r o w) bs) (left_same b h a.0 r) ∙ states_same sh r (applied_if sh r o (change_left h r)) bs hs a.1
 
 pub rows_same : (r : List Value) (bs : List BatchData) (hs : List HeldBatch) → AreHeldAs bs hs → is_left_in bs r ≡ is_pending_in hs r
 rows_same r [] [] a = refl
@@ -104,9 +104,9 @@ left_fits t b r w a e = by (is_some b.puts) e
     by true e = change_fits t b.changes r w a e
     by false e = cc
 
-pub applied_fits : (t : Table) (r : List Value) (o : RowState) (b : BatchData) → IsRightTable t → AllFit t b.changes → FitsState t o → FitsState t (applied_if (table_shape t) r o (left_in b r))
+pub applied_fits : (t : Table) (r : List Value) (o : RowState) (b : BatchData) → IsRightTable t → AllFit t b.changes → FitsRowState t o → FitsRowState t (applied_if (table_shape t) r o (left_in b r))
 applied_fits t r o b right a s = by (left_in b r) refl
   where
-    by : (w : Option What) → left_in b r ≡ w → FitsState t (applied_if (table_shape t) r o w)
+    by : (w : Option What) → left_in b r ≡ w → FitsRowState t (applied_if (table_shape t) r o w)
     by None e = s
     by (Some w) e = apply_fits t r o w right (left_fits t b r w a e) s

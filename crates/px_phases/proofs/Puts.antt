@@ -14,7 +14,7 @@ use Rattle.px_cells.proofs.Contents.{value_from_reads}
 use Rattle.px_cells.proofs.Orders as order
 use Rattle.px_keptcells.specs.Kept.{HaveOtherKeys, IsFitting, laid}
 use Rattle.px_rows.specs.Keys.{IsRightTable, column_in, row_key}
-use Rattle.px_rows.specs.Spelled.{FitsColumnOf, FitsTable, FitsWhat, assigned_to, cells_at, change_cells, null_value, put_value, table_form}
+use Rattle.px_rows.specs.Spelled.{FitsColumnOf, FitsTable, FitsWhat, assigned_to, change_cells, change_contents, null_value, put_value, row_spelling}
 use Rattle.px_tables.specs.declared.table.Table.{Table}
 use Rattle.px_trail.specs.Batches.{is_distinct, rows_of}
 use Rattle.px_values.specs.Types.{HasType}
@@ -55,12 +55,12 @@ pub record IsSlight (q : ℕ) (d : CellKind) (v : List ℕ) : Type 0 where
   pub qualifier : q ≤ 255
 
 module _ (t : Table) (right : IsRightTable t) where
-  put_slight : (as' : List Assignment) → AllByRecursion (FitsColumnOf t) as' → (c : ℕ) (v : List ℕ) (o : Option Value) → assigned_to as' c ≡ o → put_value (table_form t) c o ≡ Some v → IsSlight (suc (suc c)) Put v
+  put_slight : (as' : List Assignment) → AllByRecursion (FitsColumnOf t) as' → (c : ℕ) (v : List ℕ) (o : Option Value) → assigned_to as' c ≡ o → put_value (row_spelling t) c o ≡ Some v → IsSlight (suc (suc c)) Put v
   put_slight as' f c v None e z = cc
   put_slight as' f c v (Some Null) e z = cc
-  put_slight as' f c v (Some (Number n)) e z = (let w = assigned_fits t as' f c (Number n) e in let l = w.0 in let m = right.columns in record { bare = λ k. absurd (k refl); value = subst (λ (x : List ℕ). length x ≤ 65535) (let y : (table_form t).encode c (Number n) ≡ v = cc in y) (stored_short (column_in t.columns c).column_type (Number n) w.1); qualifier = omega arith })
-  put_slight as' f c v (Some (Truth n)) e z = (let w = assigned_fits t as' f c (Truth n) e in let l = w.0 in let m = right.columns in record { bare = λ k. absurd (k refl); value = subst (λ (x : List ℕ). length x ≤ 65535) (let y : (table_form t).encode c (Truth n) ≡ v = cc in y) (stored_short (column_in t.columns c).column_type (Truth n) w.1); qualifier = omega arith })
-  put_slight as' f c v (Some (Text n)) e z = (let w = assigned_fits t as' f c (Text n) e in let l = w.0 in let m = right.columns in record { bare = λ k. absurd (k refl); value = subst (λ (x : List ℕ). length x ≤ 65535) (let y : (table_form t).encode c (Text n) ≡ v = cc in y) (stored_short (column_in t.columns c).column_type (Text n) w.1); qualifier = omega arith })
+  put_slight as' f c v (Some (Number n)) e z = (let w = assigned_fits t as' f c (Number n) e in let l = w.0 in let m = right.columns in record { bare = λ k. absurd (k refl); value = subst (λ (x : List ℕ). length x ≤ 65535) (let y : (row_spelling t).encode c (Number n) ≡ v = cc in y) (stored_short (column_in t.columns c).column_type (Number n) w.1); qualifier = omega arith })
+  put_slight as' f c v (Some (Truth n)) e z = (let w = assigned_fits t as' f c (Truth n) e in let l = w.0 in let m = right.columns in record { bare = λ k. absurd (k refl); value = subst (λ (x : List ℕ). length x ≤ 65535) (let y : (row_spelling t).encode c (Truth n) ≡ v = cc in y) (stored_short (column_in t.columns c).column_type (Truth n) w.1); qualifier = omega arith })
+  put_slight as' f c v (Some (Text n)) e z = (let w = assigned_fits t as' f c (Text n) e in let l = w.0 in let m = right.columns in record { bare = λ k. absurd (k refl); value = subst (λ (x : List ℕ). length x ≤ 65535) (let y : (row_spelling t).encode c (Text n) ≡ v = cc in y) (stored_short (column_in t.columns c).column_type (Text n) w.1); qualifier = omega arith })
 
   null_slight : (as' : List Assignment) → AllByRecursion (FitsColumnOf t) as' → (c : ℕ) (v : List ℕ) (o : Option Value) → assigned_to as' c ≡ o → null_value o ≡ Some v → IsSlight (suc (suc c)) DeleteColumn v
   null_slight as' f c v None e z = cc
@@ -69,7 +69,7 @@ module _ (t : Table) (right : IsRightTable t) where
   null_slight as' f c v (Some (Truth n)) e z = cc
   null_slight as' f c v (Some (Text n)) e z = cc
 
-  change_slight : (w : What) → FitsWhat t w → (q : ℕ) (d : CellKind) (v : List ℕ) → change_cells (table_form t) w q d ≡ Some v → IsSlight q d v
+  change_slight : (w : What) → FitsWhat t w → (q : ℕ) (d : CellKind) (v : List ℕ) → change_cells (row_spelling t) w q d ≡ Some v → IsSlight q d v
   change_slight (Set as') f zero Put v e = cc
   change_slight (Set as') f (suc zero) Put v e = (let y : [] ≡ v = cc in let k = ap length y in record { bare = λ n. absurd (n refl); value = omega arith; qualifier = omega arith })
   change_slight (Set as') f (suc (suc c)) Put v e = put_slight as' f c v (assigned_to as' c) refl e
@@ -89,10 +89,10 @@ module _ (t : Table) (right : IsRightTable t) where
   pub put_fits : (s : ℕ) (c : Change) (cells : List CellData) → s < 18446744073709551616 → FitsTable t c.row c.what → length (row_key t c.row) ≤ 1024 → IsPut t s c cells → AllByRecursion IsFitting cells
   put_fits s c cells low fits short p = has_all IsFitting cells (λ x h.
       (let key : x.key ≡ row_key t c.row = all_has (λ x. x.key ≡ row_key t c.row) cells x p.own h in
-      let stands : cells_at (table_form t) c.row s c.what x.key x.qualifier x.stamp x.kind ≡ Some x.value = (λ i. sym p.values i x.key x.qualifier x.stamp x.kind) ∙ value_from_reads cells x.key x.qualifier x.stamp x.kind x.value (reads_from_has cells x p.list.ascending h) in
+      let stands : change_contents (row_spelling t) c.row s c.what x.key x.qualifier x.stamp x.kind ≡ Some x.value = (λ i. sym p.values i x.key x.qualifier x.stamp x.kind) ∙ value_from_reads cells x.key x.qualifier x.stamp x.kind x.value (reads_from_has cells x p.list.ascending h) in
       here x key (all_has GoesWith cells x p.list.placed h) (pointwise nat_eq x.key (row_key t c.row)) (nat_eq s x.stamp) refl stands))
     where
-      here : (x : CellData) → x.key ≡ row_key t c.row → GoesWith x → (a b : Bool) → nat_eq s x.stamp ≡ b → cond (a && b) (change_cells (table_form t) c.what x.qualifier x.kind) None ≡ Some x.value → IsFitting x
+      here : (x : CellData) → x.key ≡ row_key t c.row → GoesWith x → (a b : Bool) → nat_eq s x.stamp ≡ b → cond (a && b) (change_cells (row_spelling t) c.what x.qualifier x.kind) None ≡ Some x.value → IsFitting x
       here x key g true true q z =
           (let w = change_slight c.what fits.1 x.qualifier x.kind x.value z in
           let same : s ≡ x.stamp = eqb-true s x.stamp q in

@@ -7,7 +7,7 @@ use Rattle.px_cells.specs.CellData.{CellData}
 use Rattle.px_cells.specs.Order.{GoesWith}
 use Rattle.px_cellbytes.specs.Reading.{IsBare}
 use Rattle.px_forms.specs.Indexes.{IndexForm}
-use Rattle.px_indexrow.specs.Form.{FitsState, IsLong, IsRightIndex, bytes_if, column_bytes, included_at, index_columns, index_form, index_values, key_of_state, owns}
+use Rattle.px_indexrow.specs.Form.{FitsRowState, IsLongInIndex, IsRightIndex, bytes_if, included_at, included_bytes, index_columns, index_form, index_values, key_of_state, owns}
 use Rattle.px_indexrow.specs.Lists.{closes_of, column_cell, column_cells, family_cell, family_if, left_key, marks_of, status_cell, status_if, version_if}
 use Rattle.px_keptcells.specs.Kept.{IsFitting}
 use Rattle.px_keys.specs.Spelling.{rank, spelled}
@@ -117,20 +117,20 @@ bytes_are bytes (Number n) w e = cc
 bytes_are bytes (Truth t) w e = cc
 bytes_are bytes (Text b) w e = cc
 
-pub index_small : (t : Table) (i : Index) (state : RowState) → length t.columns ≤ 254 → IsRightIndex t i → FitsState t state → HasSmall (index_form t i) state
+pub index_small : (t : Table) (i : Index) (state : RowState) → length t.columns ≤ 254 → IsRightIndex t i → FitsRowState t state → HasSmall (index_form t i) state
 index_small t i state m right fits = record {
   place = λ c l. (let w = right.within c l in omega arith);
   value = λ c v l e. by state fits c v l e;
 }
   where
-    by : (state : RowState) → FitsState t state → (c : ℕ) (v : List ℕ) → c < length i.included → column_bytes t i state c ≡ Some v → length v ≤ 65535
+    by : (state : RowState) → FitsRowState t state → (c : ℕ) (v : List ℕ) → c < length i.included → included_bytes t i state c ≡ Some v → length v ≤ 65535
     by None f c v l e = cc
     by (Some row) f c v l e =
         (let ty = (column_in t.columns (included_at i c)).column_type in
         let x = get_or row (included_at i c) Null in
         subst (λ (b : List ℕ). length b ≤ 65535) (bytes_are (stored ty x) x v e) (stored_short ty x (f.1 (included_at i c) (right.within c l))))
 
-pub key_short : (t : Table) (i : Index) (r : List Value) (state : RowState) → (IsLong t i r state → ⊥) → IsShortKey (key_of_state t i r state)
+pub key_short : (t : Table) (i : Index) (r : List Value) (state : RowState) → (IsLongInIndex t i r state → ⊥) → IsShortKey (key_of_state t i r state)
 key_short t i r None n = tt
 key_short t i r (Some row) n = by (owns t i r (spelled (index_columns t i) (index_values t i r row)))
   where

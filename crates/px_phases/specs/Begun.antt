@@ -30,5 +30,5 @@ AreFrom old (c ∷ cs) [] = Unit {0}
 AreFrom old (c ∷ cs) (x ∷ xs) = (old c.row ≡ x.old) × AreFrom old cs xs
 
 -- the batch with all that it has to hand out
-abbrev pub begun_batch : List IndexForm → ℕ → List Change → List Transition → List (List CellData) → List Bool → BatchData
-begun_batch fs s cs xs parts flags = record { stamp = s; changes = cs; met = flags; marks = map (λ f. mark_parts f s cs xs) fs; puts = Some parts; closes = map (λ f. close_parts f s cs xs) fs }
+abbrev pub prepared_batch : List IndexForm → ℕ → List Change → List Transition → List (List CellData) → List Bool → BatchData
+prepared_batch fs s cs xs parts flags = record { stamp = s; changes = cs; met = flags; marks = map (λ f. mark_parts f s cs xs) fs; puts = Some parts; closes = map (λ f. close_parts f s cs xs) fs }

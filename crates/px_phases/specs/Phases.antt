@@ -5,10 +5,10 @@ use Rattle.px_cells.specs.CellData.{CellData}
 use Rattle.px_cells.specs.Contents.{value_at}
 use Rattle.px_cells.specs.Order.{IsCellList}
 use Rattle.px_forms.specs.Indexes.{IndexForm}
-use Rattle.px_indexrow.specs.Form.{FitsState, IsLong}
+use Rattle.px_indexrow.specs.Form.{FitsRowState, IsLongInIndex}
 use Rattle.px_indexrow.specs.Lists.{closes_of, marks_of}
 use Rattle.px_rows.specs.Keys.{row_key}
-use Rattle.px_rows.specs.Spelled.{FitsTable, cells_at, table_form}
+use Rattle.px_rows.specs.Spelled.{FitsTable, change_contents, row_spelling}
 use Rattle.px_tables.specs.declared.index.Index.{Index}
 use Rattle.px_tables.specs.declared.table.Table.{Table}
 use Rattle.px_trail.specs.Trail.{table_shape}
@@ -21,7 +21,7 @@ use Rattle.px_phases.specs.declared.transition.Transition.{Transition}
 -- the table lets the change in, and it takes the row from one state to the other
 pub record IsTransition (t : Table) (c : Change) (x : Transition) : Type 0 where
   pub fits : FitsTable t c.row c.what
-  pub old : FitsState t x.old
+  pub old : FitsRowState t x.old
   pub new : x.new ≡ apply (table_shape t) c.row x.old c.what
 
 abbrev pub AreTransitions : Table → List Change → List Transition → Type 0
@@ -48,7 +48,7 @@ close_parts f s (c ∷ cs) (x ∷ xs) = closes_of f c.row s x.old x.new ∷ clos
 pub record IsPut (t : Table) (s : ℕ) (c : Change) (cells : List CellData) : Type 0 where
   pub own : AllByRecursion (λ x. x.key ≡ row_key t c.row) cells
   pub list : IsCellList cells
-  pub values : value_at cells ≡ cells_at (table_form t) c.row s c.what
+  pub values : value_at cells ≡ change_contents (row_spelling t) c.row s c.what
 
 abbrev pub ArePuts : Table → ℕ → List Change → List (List CellData) → Type 0
 ArePuts t s [] [] = Unit {0}
@@ -62,4 +62,4 @@ ArePuts t s (c ∷ cs) (p ∷ parts) = IsPut t s c p × ArePuts t s cs parts
 abbrev pub HasLongIndexed : Table → Index → List Change → List Transition → Type 0
 HasLongIndexed t i [] xs = ⊥
 HasLongIndexed t i (c ∷ cs) [] = ⊥
-HasLongIndexed t i (c ∷ cs) (x ∷ xs) = (IsLong t i c.row x.new ⊎ IsLong t i c.row x.old) ⊎ HasLongIndexed t i cs xs
+HasLongIndexed t i (c ∷ cs) (x ∷ xs) = (IsLongInIndex t i c.row x.new ⊎ IsLongInIndex t i c.row x.old) ⊎ HasLongIndexed t i cs xs

@@ -31,11 +31,11 @@ pub struct OpenBatch {
 
 impl Model for OpenBatch {
     ghost use Rattle.px_phases.specs.Batch.{BatchData};
-    ghost use Rattle.px_phases.specs.inner.Fields.{data_of, IsBatch};
+    ghost use Rattle.px_phases.specs.inner.Fields.{batch_data, IsBatch};
 
     ghost Value = { BatchData };
 
-    ghost view = { data_of };
+    ghost view = { batch_data };
 
     ghost invariant = { IsBatch };
 }

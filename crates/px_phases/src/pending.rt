@@ -2,7 +2,7 @@
 ghost use Rattle.std.specs.Prelude.{◌≡◌, IfOk, List, map};
 ghost use Rattle.std.specs.Option.{option_copied};
 ghost use Rattle.std.specs.List.{AllByRecursion};
-ghost use Rattle.px_indexrow.specs.Form.{FitsState};
+ghost use Rattle.px_indexrow.specs.Form.{FitsRowState};
 ghost use Rattle.px_openbatches.specs.Pending.{applied_if};
 ghost use Rattle.px_rows.specs.Keys.{IsRightTable};
 ghost use Rattle.px_trail.specs.Batches.{change_of, rows_of};
@@ -50,7 +50,7 @@ pub fn expected(
     batches: &[OpenBatch],
 ) -> Result<Option<Row>, AllocError>
     requires table { IsRightTable table.now }
-    requires state { FitsState table.now state }
+    requires state { FitsRowState table.now state }
     requires fit { AllByRecursion (λ b. AllFit table.now b.changes) batches.now }
     ensures { IfOk result (λ new. new ≡ pending_state (table_shape table.now) row.now state batches.now) }
 {
@@ -70,7 +70,7 @@ fn after(
     batch: &OpenBatch,
 ) -> Result<Option<Row>, AllocError>
     requires table { IsRightTable table.now }
-    requires state { FitsState table.now state }
+    requires state { FitsRowState table.now state }
     requires fit { AllFit table.now batch.now.changes }
     ensures { IfOk result (λ new. new ≡ applied_if (table_shape table.now) row.now state (left_in batch.now row.now)) }
 {

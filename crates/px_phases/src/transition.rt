@@ -2,7 +2,7 @@
 ghost use Rattle.std.specs.Prelude.{◌≡◌, ◌<◌, ◌≤◌, ℕ, List, IfOk, length};
 ghost use Rattle.std.specs.List.{AllByRecursion};
 ghost use Rattle.std.specs.Option.{unwrap_or};
-ghost use Rattle.px_indexrow.specs.Form.{FitsState};
+ghost use Rattle.px_indexrow.specs.Form.{FitsRowState};
 ghost use Rattle.px_rows.specs.Keys.{IsRightTable};
 ghost use Rattle.px_rows.specs.Spelled.{FitsColumnOf, FitsTable};
 ghost use Rattle.px_trail.specs.Trail.{table_shape};
@@ -30,7 +30,7 @@ pub fn changed(
 ) -> Result<Option<Row>, AllocError>
     requires table { IsRightTable table.now }
     requires fits { FitsTable table.now row.now what.now }
-    requires old { FitsState table.now old.now }
+    requires old { FitsRowState table.now old.now }
     ensures { IfOk result (λ new. new ≡ apply (table_shape table.now) row.now old.now what.now) }
 {
     match what {

@@ -6,18 +6,18 @@ use Rattle.px_pieces.specs.Pieces.{Piece, byte, byte_full}
 use Rattle.px_pieces.specs.Chains.{repeat, repeat_full, repeat_long}
 
 -- the byte is at least this, and below that
-abbrev pub within : ℕ → ℕ → ℕ → Bool
-within least end b = nat_le least b && nat_lt b end
+abbrev pub is_byte_within : ℕ → ℕ → ℕ → Bool
+is_byte_within least end b = nat_le least b && nat_lt b end
 
-pub within_true : (least end b : ℕ) → least ≤ b → b < end → within least end b ≡ true
+pub within_true : (least end b : ℕ) → least ≤ b → b < end → is_byte_within least end b ≡ true
 within_true least end b low high = ap (λ (t : Bool). t && nat_lt b end) (le-leb least b low) ∙ lt-ltb b end high
 
 unfoldable pub one_byte : (least end : ℕ) → Piece ℕ
-one_byte least end = byte (within least end)
+one_byte least end = byte (is_byte_within least end)
 
 pub one_byte_full : (least end : ℕ) → least < end → (one_byte least end).full
 unfolding one_byte
-one_byte_full least end lt = byte_full (within least end) least (within_true least end least (omega arith) lt)
+one_byte_full least end lt = byte_full (is_byte_within least end) least (within_true least end least (omega arith) lt)
 
 -- so many bytes
 unfoldable pub bytes : ℕ → Piece (List ℕ)

@@ -18,12 +18,12 @@ number_on v (b ∷ bytes) = number_on (256 * v + b) bytes
 abbrev pub digit_ok : (ℕ → ℕ → Bool) → ℕ → ℕ → ℕ → Bool
 digit_ok may left v b = nat_lt b 256 && may left (256 * v + b)
 
-abbrev pub one_more : ℕ → ℕ → ℕ
-one_more v b = 256 * v + b
+abbrev pub one_byte_more : ℕ → ℕ → ℕ
+one_byte_more v b = 256 * v + b
 
 -- bytes of a number that begins so
 unfoldable pub digits : (ℕ → ℕ → Bool) → ℕ → ℕ → Piece (List ℕ)
-digits may size v = chain 0 (λ left v. byte (digit_ok may left v)) one_more size v
+digits may size v = chain 0 (λ left v. byte (digit_ok may left v)) one_byte_more size v
 
 and_true : (a b : Bool) → (a && b) ≡ true → (a ≡ true) × (b ≡ true)
 and_true true b is = (refl, is)
@@ -89,70 +89,70 @@ module _ (may : ℕ → ℕ → Bool) where
   pub digits_small : (k v : ℕ) (bytes : List ℕ) → (digits may k v).right bytes → AllByRecursion (λ b. b < 256) bytes
   unfolding digits byte
   digits_small k v [] right = tt
-  digits_small zero v (b ∷ bytes) right = absurd (let long = chain_long 0 (λ left v. byte (digit_ok may left v)) one_more zero v (b ∷ bytes) right in omega (arith, long))
+  digits_small zero v (b ∷ bytes) right = absurd (let long = chain_long 0 (λ left v. byte (digit_ok may left v)) one_byte_more zero v (b ∷ bytes) right in omega (arith, long))
   digits_small (suc k) v (b ∷ bytes) right =
-      let first = chain_first 0 (λ left v. byte (digit_ok may left v)) one_more k v (b ∷ bytes) right in
-      let others = chain_others 0 (λ left v. byte (digit_ok may left v)) one_more k v (b ∷ bytes) right in
+      let first = chain_first 0 (λ left v. byte (digit_ok may left v)) one_byte_more k v (b ∷ bytes) right in
+      let others = chain_others 0 (λ left v. byte (digit_ok may left v)) one_byte_more k v (b ∷ bytes) right in
       (ltb-true b 256 (and_true (nat_lt b 256) (may k (256 * v + b)) first).0, digits_small k (256 * v + b) bytes others)
 
   pub digits_back : (size : ℕ) (bytes : List ℕ) → (digits may size 0).right bytes → bytes_high_first size (number_on 0 bytes) ≡ bytes
   unfolding digits
-  digits_back size bytes right = bytes_back size 0 bytes (chain_long 0 (λ left v. byte (digit_ok may left v)) one_more size 0 bytes right) (digits_small size 0 bytes right)
+  digits_back size bytes right = bytes_back size 0 bytes (chain_long 0 (λ left v. byte (digit_ok may left v)) one_byte_more size 0 bytes right) (digits_small size 0 bytes right)
 
   -- a number of so many bytes, of those that are allowed
-  unfoldable pub number_of : ℕ → Piece ℕ
-  number_of size = as_value (number_on 0) (bytes_high_first size) (digits may size 0) (digits_back size)
+  unfoldable pub allowed_number_piece : ℕ → Piece ℕ
+  allowed_number_piece size = as_value (number_on 0) (bytes_high_first size) (digits may size 0) (digits_back size)
 
   pub digits_right : (k v n : ℕ) → n / 256 ^ k ≡ v → ((left : ℕ) → left < k → may left (n / 256 ^ left) ≡ true) → (digits may k v).right (bytes_high_first k n)
   unfolding digits byte
-  digits_right zero v n is all = chain_nil 0 (λ left v. byte (digit_ok may left v)) one_more v
+  digits_right zero v n is all = chain_nil 0 (λ left v. byte (digit_ok may left v)) one_byte_more v
   digits_right (suc k) v n is all =
       let next : 256 * v + byte_at k n ≡ n / 256 ^ k = ap (λ (m : ℕ). 256 * m + byte_at k n) (sym is) ∙ next_digit k n in
       let small : byte_at k n < 256 = (let e = byte_is k n in omega (arith, e)) in
-      chain_cons 0 (λ left v. byte (digit_ok may left v)) one_more k v (byte_at k n) (bytes_high_first k n)
+      chain_cons 0 (λ left v. byte (digit_ok may left v)) one_byte_more k v (byte_at k n) (bytes_high_first k n)
       (both_true (nat_lt (byte_at k n) 256) (may k (256 * v + byte_at k n)) (lt-ltb (byte_at k n) 256 small) (ap (may k) next ∙ all k (omega arith)))
       (digits_right k (256 * v + byte_at k n) n (sym next) (λ left lt. all left (omega arith)))
 
   -- a number fits where it is short enough and allowed at each place
-  pub number_right : (size n : ℕ) → n < 256 ^ size → ((left : ℕ) → left < size → may left (n / 256 ^ left) ≡ true) → (number_of size).right n
-  unfolding number_of as_value
+  pub number_right : (size n : ℕ) → n < 256 ^ size → ((left : ℕ) → left < size → may left (n / 256 ^ left) ≡ true) → (allowed_number_piece size).right n
+  unfolding allowed_number_piece as_value
   number_right size n lt all = let none : n / 256 ^ size ≡ 0 = div_between 0 (256 ^ size) n (omega arith) (omega arith) in (digits_right size 0 n none all, number_on_back size 0 n none)
 
-  pub number_full : (P : ℕ → ℕ → Type 0) → ((left v : ℕ) → P (suc left) v → (b : ℕ) × (digit_ok may left v b ≡ true)) → ((left v : ℕ) → may left v ≡ true → P left v) → (size : ℕ) → P size 0 → (number_of size).full
-  unfolding number_of digits byte
+  pub number_full : (P : ℕ → ℕ → Type 0) → ((left v : ℕ) → P (suc left) v → (b : ℕ) × (digit_ok may left v b ≡ true)) → ((left v : ℕ) → may left v ≡ true → P left v) → (size : ℕ) → P size 0 → (allowed_number_piece size).full
+  unfolding allowed_number_piece digits byte
   number_full P some kept size start =
       as_full (number_on 0) (bytes_high_first size) (digits may size 0) (digits_back size)
-      (chain_full 0 (λ left v. byte (digit_ok may left v)) one_more P (λ n v p. let b = some n v p in byte_full (digit_ok may n v) b.0 b.1)
+      (chain_full 0 (λ left v. byte (digit_ok may left v)) one_byte_more P (λ n v p. let b = some n v p in byte_full (digit_ok may n v) b.0 b.1)
       (λ n v x p right. kept n (256 * v + x) (and_true (nat_lt x 256) (may n (256 * v + x)) right).1) size 0 start)
 
 module _ (may : ℕ → ℕ → Bool) where
   digits_last : (k v : ℕ) (bytes : List ℕ) → (digits may (suc k) v).right bytes → may 0 (number_on v bytes) ≡ true
   unfolding digits byte
-  digits_last k v [] right = absurd (let long = chain_long 0 (λ left v. byte (digit_ok may left v)) one_more (suc k) v [] right in omega (arith, long))
-  digits_last zero v (b ∷ []) right = (and_true (nat_lt b 256) (may 0 (256 * v + b)) (chain_first 0 (λ left v. byte (digit_ok may left v)) one_more zero v (b ∷ []) right)).1
-  digits_last zero v (b ∷ c ∷ bytes) right = absurd (let long = chain_long 0 (λ left v. byte (digit_ok may left v)) one_more (suc zero) v (b ∷ c ∷ bytes) right in omega (arith, long))
-  digits_last (suc k) v (b ∷ bytes) right = digits_last k (256 * v + b) bytes (chain_others 0 (λ left v. byte (digit_ok may left v)) one_more (suc k) v (b ∷ bytes) right)
+  digits_last k v [] right = absurd (let long = chain_long 0 (λ left v. byte (digit_ok may left v)) one_byte_more (suc k) v [] right in omega (arith, long))
+  digits_last zero v (b ∷ []) right = (and_true (nat_lt b 256) (may 0 (256 * v + b)) (chain_first 0 (λ left v. byte (digit_ok may left v)) one_byte_more zero v (b ∷ []) right)).1
+  digits_last zero v (b ∷ c ∷ bytes) right = absurd (let long = chain_long 0 (λ left v. byte (digit_ok may left v)) one_byte_more (suc zero) v (b ∷ c ∷ bytes) right in omega (arith, long))
+  digits_last (suc k) v (b ∷ bytes) right = digits_last k (256 * v + b) bytes (chain_others 0 (λ left v. byte (digit_ok may left v)) one_byte_more (suc k) v (b ∷ bytes) right)
 
   -- a right number is allowed
-  pub number_may : (size n : ℕ) → (number_of may (suc size)).right n → may 0 n ≡ true
-  unfolding number_of as_value
+  pub number_may : (size n : ℕ) → (allowed_number_piece may (suc size)).right n → may 0 n ≡ true
+  unfolding allowed_number_piece as_value
   number_may size n right = ap (may 0) (sym right.1) ∙ digits_last size 0 (bytes_high_first (suc size) n) right.0
 
   -- and has so many bytes
-  pub number_short : (size n : ℕ) → (number_of may size).right n → n < 256 ^ size
-  unfolding number_of as_value digits
+  pub number_short : (size n : ℕ) → (allowed_number_piece may size).right n → n < 256 ^ size
+  unfolding allowed_number_piece as_value digits
   number_short size n right =
       let bytes = bytes_high_first size n in
       let between = number_between 0 bytes (digits_small may size 0 bytes right.0) in
-      let long : length bytes ≡ size = chain_long 0 (λ left v. byte (digit_ok may left v)) one_more size 0 bytes right.0 in
+      let long : length bytes ≡ size = chain_long 0 (λ left v. byte (digit_ok may left v)) one_byte_more size 0 bytes right.0 in
       let one : (0 + 1) * 256 ^ length bytes ≡ 256 ^ size = ap (λ (k : ℕ). 1 * 256 ^ k) long ∙ omega arith in
       omega (arith, between.1, right.1, one)
 
 -- ---- numbers up to a greatest one
 
 -- the number so far may go on to one that isn't above the greatest
-abbrev pub up_to : ℕ → ℕ → ℕ → Bool
-up_to most left v = nat_le v (most / 256 ^ left)
+abbrev pub stays_up_to : ℕ → ℕ → ℕ → Bool
+stays_up_to most left v = nat_le v (most / 256 ^ left)
 
 pow_some : (k : ℕ) → 0 < 256 ^ k
 pow_some zero = omega arith
@@ -161,21 +161,21 @@ pow_some (suc k) = let more = pow_some k in let e = pow-suc 256 k in omega (arit
 div_less : (n m w : ℕ) → 0 < w → n ≤ m → n / w ≤ m / w
 div_less n m w some le = let low = div-mul-le_self n w in le-div (n / w) m w some (omega (arith, low, le))
 
-unfoldable pub number : (size most : ℕ) → Piece ℕ
-number size most = number_of (up_to most) size
+unfoldable pub number_piece : (size most : ℕ) → Piece ℕ
+number_piece size most = allowed_number_piece (stays_up_to most) size
 
-pub fits_number : (size most n : ℕ) → n < 256 ^ size → n ≤ most → (number size most).right n
-unfolding number
-fits_number size most n lt le = number_right (up_to most) size n lt (λ left l. le-leb (n / 256 ^ left) (most / 256 ^ left) (div_less n most (256 ^ left) (pow_some left) le))
+pub fits_number : (size most n : ℕ) → n < 256 ^ size → n ≤ most → (number_piece size most).right n
+unfolding number_piece
+fits_number size most n lt le = number_right (stays_up_to most) size n lt (λ left l. le-leb (n / 256 ^ left) (most / 256 ^ left) (div_less n most (256 ^ left) (pow_some left) le))
 
-pub number_most : (size most n : ℕ) → (number (suc size) most).right n → n ≤ most
-unfolding number
-number_most size most n right = let le : n ≤ most / 1 = leb-true n (most / 1) (number_may (up_to most) size n right) in omega (arith, le, div-one most)
+pub number_most : (size most n : ℕ) → (number_piece (suc size) most).right n → n ≤ most
+unfolding number_piece
+number_most size most n right = let le : n ≤ most / 1 = leb-true n (most / 1) (number_may (stays_up_to most) size n right) in omega (arith, le, div-one most)
 
-pub full_number : (size most : ℕ) → (number size most).full
-unfolding number
+pub full_number : (size most : ℕ) → (number_piece size most).full
+unfolding number_piece
 full_number size most =
-    number_full (up_to most) (λ left v. v ≤ most / 256 ^ left)
+    number_full (stays_up_to most) (λ left v. v ≤ most / 256 ^ left)
     (λ left v p. (
       0,
       both_true (nat_lt 0 256) (nat_le (256 * v + 0) (most / 256 ^ left)) refl (le-leb (256 * v + 0) (most / 256 ^ left)
@@ -189,16 +189,16 @@ full_number size most =
 abbrev pub begins_one : List ℕ → ℕ → ℕ → Bool
 begins_one ns left v = list_any (λ n. n / 256 ^ left == v) ns
 
-unfoldable pub one_of : (size : ℕ) → List ℕ → Piece ℕ
-one_of size ns = number_of (begins_one ns) size
+unfoldable pub one_of_piece : (size : ℕ) → List ℕ → Piece ℕ
+one_of_piece size ns = allowed_number_piece (begins_one ns) size
 
 any_true : (t u : Bool) → u ≡ true → (t || u) ≡ true
 any_true true u is = refl
 any_true false u is = is
 
 -- a right one is one of them, and each of them is right
-pub one_of_member : (size : ℕ) (ns : List ℕ) (n : ℕ) → (one_of (suc size) ns).right n → list_any (λ m. m == n) ns ≡ true
-unfolding one_of
+pub one_of_member : (size : ℕ) (ns : List ℕ) (n : ℕ) → (one_of_piece (suc size) ns).right n → list_any (λ m. m == n) ns ≡ true
+unfolding one_of_piece
 one_of_member size ns n right = whole ns n (number_may (begins_one ns) size n right)
   where
     whole : (ns : List ℕ) (n : ℕ) → list_any (λ m. m / 1 == n) ns ≡ true → list_any (λ m. m == n) ns ≡ true
@@ -209,8 +209,8 @@ one_of_member size ns n right = whole ns n (number_may (begins_one ns) size n ri
         by true u same is more = ap (λ (t : Bool). t || list_any (λ m. m == n) ns) (sym same)
         by false u same is more = any_true (m == n) (list_any (λ m. m == n) ns) (more is)
 
-pub one_of_right : (size : ℕ) (ns : List ℕ) (n : ℕ) → n < 256 ^ size → list_any (λ m. m == n) ns ≡ true → (one_of size ns).right n
-unfolding one_of
+pub one_of_right : (size : ℕ) (ns : List ℕ) (n : ℕ) → n < 256 ^ size → list_any (λ m. m == n) ns ≡ true → (one_of_piece size ns).right n
+unfolding one_of_piece
 one_of_right size ns n lt is = number_right (begins_one ns) size n lt (λ left l. begun ns left is)
   where
     begun : (ns : List ℕ) (left : ℕ) → list_any (λ m. m == n) ns ≡ true → list_any (λ m. m / 256 ^ left == (n / 256 ^ left)) ns ≡ true
@@ -237,8 +237,8 @@ begins_more (n ∷ ns) left v is = by (n / 256 ^ suc left == v) refl is (begins_
         let parts = and_true (nat_lt more.0 256) (begins_one ns left (256 * v + more.0)) more.1 in
         (more.0, both_true (nat_lt more.0 256) (begins_one (n ∷ ns) left (256 * v + more.0)) parts.0 (any_true (n / 256 ^ left == (256 * v + more.0)) (begins_one ns left (256 * v + more.0)) parts.1))
 
-pub one_full : (size n : ℕ) (ns : List ℕ) → n < 256 ^ size → (one_of size (n ∷ ns)).full
-unfolding one_of
+pub one_full : (size n : ℕ) (ns : List ℕ) → n < 256 ^ size → (one_of_piece size (n ∷ ns)).full
+unfolding one_of_piece
 one_full size n ns lt =
     number_full (begins_one (n ∷ ns)) (λ left v. begins_one (n ∷ ns) left v ≡ true) (begins_more (n ∷ ns)) (λ left v is. is) size
     (ap (λ (t : Bool). t || begins_one ns size 0) (eq-eqb (n / 256 ^ size) 0 (div_between 0 (256 ^ size) n (omega arith) (omega arith))))

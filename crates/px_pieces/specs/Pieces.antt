@@ -46,8 +46,8 @@ ok_err (Err z) x e a b = absurd cc
 
 -- ---- no byte
 
-unfoldable pub nothing : Piece (Unit {0})
-nothing = record {
+unfoldable pub empty_piece : Piece (Unit {0})
+empty_piece = record {
   spelled = λ x. [];
   right = λ x. Unit {0};
   read = λ bytes. Ok (tt, bytes);

@@ -16,7 +16,7 @@ reading_of v bytes = no_rest (length bytes) (v.read bytes)
 
 -- The place is the first where no such value goes on: no value's bytes begin with the bytes up to it and with it, and those
 -- before it can be ended.
-pub record IsFirstWrong {T : Type 0} (v : Piece T) (bytes : List ℕ) (p : ℕ) : Type 0 where
+pub record IsFirstWrongOf {T : Type 0} (v : Piece T) (bytes : List ℕ) (p : ℕ) : Type 0 where
   pub inside : p ≤ length bytes
   pub none : (x : T) → v.right x → v.spelled x ≡ bytes → ⊥
   pub stops : p < length bytes → (x : T) (tail : List ℕ) → v.right x → v.spelled x ≡ take (suc p) bytes ++ tail → ⊥
@@ -43,10 +43,10 @@ module _ {T : Type 0} (v : Piece T) where
       by (Err p) a e = absurd cc
 
   -- and all other bytes have one first wrong place
-  pub reading_wrong : (bytes : List ℕ) (p : ℕ) → reading_of v bytes ≡ Err p → IsFirstWrong v bytes p
+  pub reading_wrong : (bytes : List ℕ) (p : ℕ) → reading_of v bytes ≡ Err p → IsFirstWrongOf v bytes p
   reading_wrong bytes p is = by (v.read bytes) refl is
     where
-      by : (r : Result (T × List ℕ) ℕ) → v.read bytes ≡ r → no_rest (length bytes) r ≡ Err p → IsFirstWrong v bytes p
+      by : (r : Result (T × List ℕ) ℕ) → v.read bytes ≡ r → no_rest (length bytes) r ≡ Err p → IsFirstWrongOf v bytes p
       by (Ok (y, [])) a e = absurd cc
       by (Ok (y, b ∷ rest)) a e =
           let t = v.taken bytes y (b ∷ rest) a in

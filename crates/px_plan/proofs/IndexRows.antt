@@ -9,7 +9,7 @@ use Rattle.px_values.specs.declared.row.Value.TheVariants.{Null}
 use Rattle.px_keys.specs.KeyOrder.{parts_order}
 use Rattle.px_ast.specs.declared.condition.Comparison.TheVariants as c
 use Rattle.px_expr.specs.Truth.{negated_if, opposite, some_of, ◌and◌, ◌or◌}
-use Rattle.px_expr.specs.Holds.{all_of, any_of, compared, null_test, test_of, truth_of, value_in}
+use Rattle.px_expr.specs.Holds.{all_of, any_of, compared_values, null_test, term_value, test_of, truth_of}
 use Rattle.px_expr.specs.declared.bound.Bound.{Bound, Or', And', Not', Row_of-Bound, end_of-Bound, more_of-Bound}
 use Rattle.px_expr.specs.declared.bound.Bound.TheVariants as bounds
 use Rattle.px_expr.specs.declared.bound.Term.{Term}
@@ -23,7 +23,7 @@ use Rattle.px_tables.specs.declared.table.Table.{Table}
 use Rattle.px_bind.specs.declared.request.Query.{Query}
 use Rattle.px_paths.specs.Paths.{FitsRow, columns_on, index_path, is_held, shown_on, values_on}
 use Rattle.px_paths.proofs.Keys.{held_shown, index_key_fits, shown_key}
-use Rattle.px_plan.specs.Answers.{AreKeyed, Ascends, IsAnswer, by_order, by_path, comes_before, cut_off, shown}
+use Rattle.px_plan.specs.Answers.{AreKeyed, Ascends, IsAnswer, by_order, by_path, comes_before, cut_off, row_answered}
 use Rattle.px_plan.specs.Naming.{columns_in, columns_in_all, filter_columns, holds_all, named, term_columns, test_columns}
 use Rattle.px_plan.specs.PathColumns.{path_of}
 use Rattle.px_plan.specs.Plans.{HasKey, IsSelected}
@@ -48,24 +48,24 @@ all_right p (x ∷ xs) ys h = all_right p xs ys (and_right (p x) (list_all p (xs
 
 -- two rows with the same values in the columns that an index holds
 module _ (t : Table) (x : Index) (a b : List values.Value) (same : (k : ℕ) → is_held t x k ≡ true → get_or a k Null ≡ get_or b k Null) where
-  same_term : (term : Term) → holds_all t x (term_columns term) ≡ true → value_in a term ≡ value_in b term
+  same_term : (term : Term) → holds_all t x (term_columns term) ≡ true → term_value a term ≡ term_value b term
   same_term (Column place) h = same place (and_left (is_held t x place) true h)
   same_term (Given v) h = refl
 
   same_test : (test : Test) → holds_all t x (test_columns test) ≡ true → test_of a test ≡ test_of b test
   same_test (Compare how left right) h =
-      ap (λ (v : values.Value). compared how v (value_in a right)) (same_term left (all_left (is_held t x) (term_columns left) (term_columns right) h))
-      ∙ ap (λ (v : values.Value). compared how (value_in b left) v) (same_term right (all_right (is_held t x) (term_columns left) (term_columns right) h))
+      ap (λ (v : values.Value). compared_values how v (term_value a right)) (same_term left (all_left (is_held t x) (term_columns left) (term_columns right) h))
+      ∙ ap (λ (v : values.Value). compared_values how (term_value b left) v) (same_term right (all_right (is_held t x) (term_columns left) (term_columns right) h))
   same_test (IsNull term negated) h = ap (λ (v : values.Value). negated_if negated (null_test v)) (same_term term h)
-  same_test (In term negated vs) h = ap (λ (v : values.Value). negated_if negated (some_of (map (compared c.Equal v) vs))) (same_term term h)
+  same_test (In term negated vs) h = ap (λ (v : values.Value). negated_if negated (some_of (map (compared_values c.Equal v) vs))) (same_term term h)
   same_test (Between term negated low high) h =
       let rest = all_right (is_held t x) (term_columns term) (term_columns low ++ term_columns high) h in
       let one = same_term term (all_left (is_held t x) (term_columns term) (term_columns low ++ term_columns high) h) in
       let two = same_term low (all_left (is_held t x) (term_columns low) (term_columns high) rest) in
       let three = same_term high (all_right (is_held t x) (term_columns low) (term_columns high) rest) in
-      ap (λ (v : values.Value). negated_if negated (compared c.GreaterEqual v (value_in a low) and compared c.LessEqual v (value_in a high))) one
-      ∙ ap (λ (v : values.Value). negated_if negated (compared c.GreaterEqual (value_in b term) v and compared c.LessEqual (value_in b term) (value_in a high))) two
-      ∙ ap (λ (v : values.Value). negated_if negated (compared c.GreaterEqual (value_in b term) (value_in b low) and compared c.LessEqual (value_in b term) v)) three
+      ap (λ (v : values.Value). negated_if negated (compared_values c.GreaterEqual v (term_value a low) and compared_values c.LessEqual v (term_value a high))) one
+      ∙ ap (λ (v : values.Value). negated_if negated (compared_values c.GreaterEqual (term_value b term) v and compared_values c.LessEqual (term_value b term) (term_value a high))) two
+      ∙ ap (λ (v : values.Value). negated_if negated (compared_values c.GreaterEqual (term_value b term) (term_value b low) and compared_values c.LessEqual (term_value b term) v)) three
 
   mutual
     pub same_truth : (d : Bound) → holds_all t x (columns_in d) ≡ true → truth_of a d ≡ truth_of b d
@@ -142,11 +142,11 @@ cut_off_shown : (f : List values.Value → List values.Value) (limit : Option �
 cut_off_shown f None rows = refl
 cut_off_shown f (Some n) rows = cut_shown f n rows
 
-given_shown : (t : Table) (x : Index) (q : Query) (rows : List (List values.Value)) → holds_all t x q.shown ≡ true → map (shown q) rows ≡ map (shown q) (map (shown_on t x) rows)
+given_shown : (t : Table) (x : Index) (q : Query) (rows : List (List values.Value)) → holds_all t x q.shown ≡ true → map (row_answered q) rows ≡ map (row_answered q) (map (shown_on t x) rows)
 given_shown t x q [] h = refl
 given_shown t x q (r ∷ rows) h =
-    ap (λ (s : List values.Value). s ∷ map (shown q) rows) (sym (same_shown t x (shown_on t x r) r (λ k e. held_shown t x r k e) q.shown h))
-    ∙ ap (λ (ss : List (List values.Value)). shown q (shown_on t x r) ∷ ss) (given_shown t x q rows h)
+    ap (λ (s : List values.Value). s ∷ map (row_answered q) rows) (sym (same_shown t x (shown_on t x r) r (λ k e. held_shown t x r k e) q.shown h))
+    ∙ ap (λ (ss : List (List values.Value)). row_answered q (shown_on t x r) ∷ ss) (given_shown t x q rows h)
 
 -- an answer over rows is one over what an index shows of them
 shown_answer : (t : Table) (x : Index) (q : Query) (rows answer : List (List values.Value)) → holds_all t x (named q) ≡ true → IsAnswer rows q (index_path t x) answer → IsAnswer (map (shown_on t x) rows) q (index_path t x) answer
@@ -169,7 +169,7 @@ shown_answer t x q rows answer h s =
             let selected = same_selected t x (f r.0) r.0 (λ k e. held_shown t x r.0 k e) q.filter filter_held (subst (λ (v : List values.Value). IsSelected q.filter v) (sym r.2) c.1) in
             subst (λ (v : List values.Value). Contains (map f s.sorted) v) r.2 (shown_in f s.sorted r.0 ((s.selected r.0).1 (r.1, selected)))),
       );
-      given = s.given ∙ given_shown t x q (cut_off q.limit s.sorted) shown_held ∙ ap (λ (rs : List (List values.Value)). map (shown q) rs) (sym (cut_off_shown f q.limit s.sorted));
+      given = s.given ∙ given_shown t x q (cut_off q.limit s.sorted) shown_held ∙ ap (λ (rs : List (List values.Value)). map (row_answered q) rs) (sym (cut_off_shown f q.limit s.sorted));
     }
 
 pub index_answer : (t : Table) (x : Index) (q : Query) (rows answer : List (List values.Value)) → AreKeyed t rows → holds_all t x (named q) ≡ true → IsAnswer rows q (index_path t x) answer ↔ IsAnswer (map (shown_on t x) rows) q (index_path t x) answer

@@ -15,7 +15,7 @@ use Rattle.px_values.proofs.ValueOrder.{value_order_total, total_along}
 use Rattle.px_tables.specs.declared.table.KeyPlace.{KeyPlace}
 use Rattle.px_bind.specs.declared.request.Query.{Query}
 use Rattle.px_paths.specs.declared.path.PathColumn.{PathColumn}
-use Rattle.px_plan.specs.Answers.{by_order, by_path, comes_before, Ascends, shown, cut_off, IsAnswer}
+use Rattle.px_plan.specs.Answers.{by_order, by_path, comes_before, Ascends, row_answered, cut_off, IsAnswer}
 
 -- ---- the order is total
 
@@ -100,4 +100,4 @@ same_rows R t (x ∷ xs) (y ∷ ys) a b h =
 pub one_answer : (rows : List (List Value)) (q : Query) (path : List PathColumn) (one other : List (List Value)) → IsAnswer rows q path one → IsAnswer rows q path other → one ≡ other
 one_answer rows q path one other a b =
     let same = same_rows (comes_before q path) (before_total q path) a.sorted b.sorted a.ascends b.ascends (λ z. (λ c. (b.selected z).1 ((a.selected z).0 c), λ c. (a.selected z).1 ((b.selected z).0 c))) in
-    a.given ∙ ap (λ (rs : List (List Value)). map (shown q) (cut_off q.limit rs)) same ∙ sym b.given
+    a.given ∙ ap (λ (rs : List (List Value)). map (row_answered q) (cut_off q.limit rs)) same ∙ sym b.given

@@ -22,7 +22,7 @@ use Rattle.px_bind.specs.declared.request.Query.{Query}
 use Rattle.px_paths.specs.Paths.{values_on}
 use Rattle.px_paths.specs.declared.path.PathColumn.{PathColumn}
 use Rattle.px_paths.proofs.Keys.{same_owner}
-use Rattle.px_plan.specs.Answers.{AreKeyed, Ascends, IsAnswer, by_order, by_path, comes_before, cut_off, shown}
+use Rattle.px_plan.specs.Answers.{AreKeyed, Ascends, IsAnswer, by_order, by_path, comes_before, cut_off, row_answered}
 use Rattle.px_plan.specs.PathColumns.{path_of}
 use Rattle.px_plan.specs.Plans.{IsSelected}
 use Rattle.px_plan.proofs.OneAnswer.{before_total, here, nothing_in, split, there}
@@ -155,4 +155,4 @@ some_answer t by q rows keyed =
     let path = path_of t by in
     let once : (a b : List Value) → Contains rows a → Contains rows b → comes_before q path a b ≡ Equal → a ≡ b = λ a b c d e. keyed a b c d (same_primary t by a b (same_key path a b (then_equal (by_order q.order a b) (by_path path a b) e).1)) in
     let s = sorted_rows (comes_before q path) (before_total q path) (IsSelected q.filter) (selected_or_not q.filter) rows once in
-    (map (shown q) (cut_off q.limit s.0), record { sorted = s.0; ascends = s.1; selected = s.2; given = refl })
+    (map (row_answered q) (cut_off q.limit s.0), record { sorted = s.0; ascends = s.1; selected = s.2; given = refl })

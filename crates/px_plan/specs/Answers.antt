@@ -34,8 +34,8 @@ Ascends order [] = Unit {0}
 Ascends order (a ∷ []) = Unit {0}
 Ascends order (a ∷ b ∷ rows) = (order a b ≡ Less) × Ascends order (b ∷ rows)
 
-abbrev pub shown : Query → List Value → List Value
-shown q row = map (λ place. get_or row place Null) q.shown
+abbrev pub row_answered : Query → List Value → List Value
+row_answered q row = map (λ place. get_or row place Null) q.shown
 
 abbrev pub cut_off : {A : Type 0} → Option ℕ → List A → List A
 cut_off None rows = rows
@@ -46,7 +46,7 @@ pub record IsAnswer (rows : List (List Value)) (q : Query) (path : List PathColu
   pub sorted : List (List Value)
   pub ascends : Ascends (comes_before q path) sorted
   pub selected : (row : List Value) → Contains sorted row ↔ (Contains rows row × IsSelected q.filter row)
-  pub given : answer ≡ map (shown q) (cut_off q.limit sorted)
+  pub given : answer ≡ map (row_answered q) (cut_off q.limit sorted)
 
 -- no primary key stands twice among the rows
 abbrev pub AreKeyed : Table → List (List Value) → Type 0

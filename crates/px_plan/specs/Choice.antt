@@ -92,18 +92,18 @@ if_usable point None = None
 if_usable point (Some i) = if is_usable point i then Some (Some i) else None
 
 -- where a hint leads, if it can be followed
-abbrev pub followed : List Index → Option ℕ → Hint → Option (Option Index)
-followed indexes point hints.NoIndex = Some None
-followed indexes point (hints.Index name) = if_usable point (index_named indexes name)
+abbrev pub followed_hint : List Index → Option ℕ → Hint → Option (Option Index)
+followed_hint indexes point hints.NoIndex = Some None
+followed_hint indexes point (hints.Index name) = if_usable point (index_named indexes name)
 
-abbrev pub or_else : Option (Option Index) → Option (Option Index) → Option (Option Index)
-or_else (Some by) other = Some by
-or_else None other = other
+abbrev pub path_or_else : Option (Option Index) → Option (Option Index) → Option (Option Index)
+path_or_else (Some by) other = Some by
+path_or_else None other = other
 
 -- of several the first that can be followed
 abbrev pub hinted : List Index → Option ℕ → List Hint → Option (Option Index)
 hinted indexes point [] = None
-hinted indexes point (h ∷ hs) = or_else (followed indexes point h) (hinted indexes point hs)
+hinted indexes point (h ∷ hs) = path_or_else (followed_hint indexes point h) (hinted indexes point hs)
 
 -- ---- the choice
 
@@ -113,9 +113,9 @@ HoldsAll t columns None = Unit {0}
 HoldsAll t columns (Some i) = holds_all t i columns ≡ true
 
 -- the hinted path, where one can be followed, and else the best candidate
-abbrev pub Takes : (hint : Option (Option Index)) → Table → List ℕ → (best : Option Index → Type 0) → Option Index → Type 0
-Takes None t columns best by = best by
-Takes (Some hinted) t columns best by = (by ≡ hinted) × HoldsAll t columns by
+abbrev pub TakesPath : (hint : Option (Option Index)) → Table → List ℕ → (best : Option Index → Type 0) → Option Index → Type 0
+TakesPath None t columns best by = best by
+TakesPath (Some hinted) t columns best by = (by ≡ hinted) × HoldsAll t columns by
 
 -- the hinted index lacks a column
 abbrev pub Lacks : (hint : Option (Option Index)) → Table → List ℕ → Type 0

@@ -12,11 +12,11 @@ use Rattle.px_tables.specs.declared.table.Table.{Table}
 use Rattle.px_bind.specs.declared.request.Query.{Query}
 use Rattle.px_ranges.specs.Led.{IsLed}
 use Rattle.px_conjuncts.specs.Conjuncts.{all_true, conjuncts_of_filter}
-use Rattle.px_conjuncts.specs.Paths.{rest_of}
+use Rattle.px_conjuncts.specs.Paths.{conjuncts_left}
 use Rattle.px_paths.specs.declared.path.PathColumn.{PathColumn}
 use Rattle.px_plan.specs.PathColumns.{path_of}
 use Rattle.px_plan.specs.Naming.{named}
-use Rattle.px_plan.specs.Choice.{IsBest, Lacks, Takes, candidates, hinted, leading_by, rank_of}
+use Rattle.px_plan.specs.Choice.{IsBest, Lacks, TakesPath, candidates, hinted, leading_by, rank_of}
 use Rattle.px_plan.specs.declared.plan.By.{By}
 use Rattle.px_plan.specs.declared.plan.By.TheVariants as bys
 use Rattle.px_plan.specs.declared.plan.Plan.{Plan}
@@ -35,12 +35,12 @@ IsSelected (Some b) row = Selects b row
 -- the path is chosen by the hints, or as the best candidate
 abbrev pub IsChosen : Found → Option ℕ → Query → Option Index → Type 0
 IsChosen found point q by =
-    Takes (hinted found.indexes point q.hints) found.table (named q)
+    TakesPath (hinted found.indexes point q.hints) found.table (named q)
     (IsBest (rank_of found.table (conjuncts q) q.order) (candidates found.table point (named q) found.indexes)) by
 
 -- the key of a row on a path, and a row whose key has values of its columns
-abbrev pub row_key : List PathColumn → List Value → List ℕ
-row_key path row = spelled (columns_on path) (values_on path row)
+abbrev pub row_key_on : List PathColumn → List Value → List ℕ
+row_key_on path row = spelled (columns_on path) (values_on path row)
 
 abbrev pub HasKey : List PathColumn → List Value → Type 0
 HasKey path row = Fits (columns_on path) (values_on path row)
@@ -59,18 +59,18 @@ pub record IsPlan (t : Table) (q : Query) (by : Option Index) (p : Plan) : Type 
   pub bounded : p.bounded ≡ (rank_of t (conjuncts q) q.order by).bounded
   pub sort : p.sort ≡ not (rank_of t (conjuncts q) q.order by).ordered
   -- the conjuncts that the keys don't tell
-  pub rest : p.rest ≡ rest_of (path_of t by) (conjuncts q)
+  pub rest : p.rest ≡ conjuncts_left (path_of t by) (conjuncts q)
   -- the keys that are read are just those of the rows that begin as the conjuncts say
-  pub keys : (row : List Value) → HasKey (path_of t by) row → (IsBetween p.bounds.low p.bounds.high (row_key (path_of t by) row) ↔ IsLed (leading_by t (conjuncts q) by) (values_on (path_of t by) row))
+  pub keys : (row : List Value) → HasKey (path_of t by) row → (IsBetween p.bounds.low p.bounds.high (row_key_on (path_of t by) row) ↔ IsLed (leading_by t (conjuncts q) by) (values_on (path_of t by) row))
   -- so the rows of the query are those whose key is read and of which the rest is true
-  pub rows : (row : List Value) → HasKey (path_of t by) row → (IsSelected q.filter row ↔ (IsBetween p.bounds.low p.bounds.high (row_key (path_of t by) row) × all_true row p.rest))
+  pub rows : (row : List Value) → HasKey (path_of t by) row → (IsSelected q.filter row ↔ (IsBetween p.bounds.low p.bounds.high (row_key_on (path_of t by) row) × all_true row p.rest))
   -- what is shown, in what order, and how many rows
   pub shown : p.shown ≡ q.shown
   pub order : p.order ≡ q.order
   pub limit : p.limit ≡ q.limit
 
 -- the plan by the path that is chosen; or the hinted index lacks a column; memory may be wanting at any time
-abbrev pub Answers : Found → Option ℕ → Query → Result Plan PlanFault → Type 0
-Answers found point q (Ok p) = (by : Option Index) × IsChosen found point q by × IsPlan found.table q by p
-Answers found point q (Err IndexJoin) = Lacks (hinted found.indexes point q.hints) found.table (named q)
-Answers found point q (Err Memory) = Unit {0}
+abbrev pub AnswersPlan : Found → Option ℕ → Query → Result Plan PlanFault → Type 0
+AnswersPlan found point q (Ok p) = (by : Option Index) × IsChosen found point q by × IsPlan found.table q by p
+AnswersPlan found point q (Err IndexJoin) = Lacks (hinted found.indexes point q.hints) found.table (named q)
+AnswersPlan found point q (Err Memory) = Unit {0}

@@ -2,7 +2,7 @@
 ghost use Rattle.std.specs.Prelude.{◌≡◌, IfErr, IfOk, length, not};
 ghost use Rattle.std.specs.Option.{option_copied, option_map};
 ghost use Rattle.px_conjuncts.specs.Paths.{unmarked as unmarked_of};
-ghost use Rattle.px_plan.specs.Plans.{Answers, key_name};
+ghost use Rattle.px_plan.specs.Plans.{AnswersPlan, key_name};
 ghost use Rattle.px_plan.specs.Asked.{AnswersBy, FaultFor, IsPlanOf, TakesFor, asked_of};
 
 use crate::best::best;
@@ -27,7 +27,7 @@ pub fn choose(
     found: &Found,
     point: Option<u64>,
 ) -> Result<Plan, PlanFault>
-    ensures { Answers found.now point query result }
+    ensures { AnswersPlan found.now point query result }
 {
     let columns = match named_columns(alloc, &query) {
         Ok(columns) => columns,

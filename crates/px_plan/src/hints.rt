@@ -1,7 +1,7 @@
 // Where hints lead.
 ghost use Rattle.std.specs.Prelude.{◌≡◌};
 ghost use Rattle.std.specs.Option.{option_copied, option_map};
-ghost use Rattle.px_plan.specs.Choice.{followed as followed_of, hinted as hinted_of, index_named as index_named_of, is_usable as is_usable_of};
+ghost use Rattle.px_plan.specs.Choice.{followed_hint, hinted as hinted_of, index_named as index_named_of, is_usable as is_usable_of};
 
 use px_bind::Hint;
 use px_tables::{Index, IndexState};
@@ -36,7 +36,7 @@ fn index_named<'a>(indexes: &'a [Index], name: &Name) -> Option<&'a Index>
 
 /// Where a hint leads, if it can be followed.
 fn followed<'a>(indexes: &'a [Index], point: Option<u64>, hint: &Hint) -> Option<Option<&'a Index>>
-    ensures { option_map option_copied result ≡ followed_of indexes.now point hint.now }
+    ensures { option_map option_copied result ≡ followed_hint indexes.now point hint.now }
 {
     match hint {
         Hint::NoIndex => Some(None),

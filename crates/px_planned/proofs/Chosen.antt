@@ -27,8 +27,8 @@ use Rattle.px_calls.specs.declared.query.By.{By}
 use Rattle.px_calls.specs.declared.query.Path.{Path}
 use Rattle.px_calls.specs.declared.query.Point.{Point}
 use Rattle.px_calls.specs.Calls.{AreRising}
-use Rattle.px_calls.specs.Looks.{index_columns, is_below, is_on, key_by, key_less, shown_by, shown_in}
-use Rattle.px_calls.specs.Requires.{CanReadBy, IsReadable, index_among, index_in}
+use Rattle.px_calls.specs.Looks.{index_path_in, is_below, is_on, key_by, key_less, shown_by, shown_in}
+use Rattle.px_calls.specs.Requires.{CanReadBy, IsReadable, index_among, index_of_found}
 use Rattle.px_paths.specs.Paths.{FitsRow, is_held, shown_on}
 use Rattle.px_paths.proofs.Keys.{held_shown}
 use Rattle.px_conjuncts.specs.Conjuncts.{all_true}
@@ -36,10 +36,10 @@ use Rattle.px_conjuncts.proofs.Rests.{conjuncts_are}
 use Rattle.px_gather.specs.Query.{IsPathFor}
 use Rattle.px_scan.specs.declared.asks.PathFault.{PathFault}
 use Rattle.px_plan.specs.Asked.{FaultFor, TakesFor, columns_asked}
-use Rattle.px_plan.specs.Choice.{IsBest, Lacks, Takes, HoldsAll, candidates, followed, hinted, if_usable, index_named, is_active, is_born, is_usable, or_else, rank_of}
+use Rattle.px_plan.specs.Choice.{IsBest, Lacks, TakesPath, HoldsAll, candidates, followed_hint, hinted, if_usable, index_named, is_active, is_born, is_usable, path_or_else, rank_of}
 use Rattle.px_plan.specs.Naming.{columns_in, holds_all}
 use Rattle.px_plan.specs.PathColumns.{path_of}
-use Rattle.px_plan.specs.Plans.{row_key}
+use Rattle.px_plan.specs.Plans.{row_key_on}
 use Rattle.px_plan.specs.declared.plan.Asked.{Asked}
 use Rattle.px_plan.specs.declared.plan.PlanFault.TheVariants.{IndexJoin}
 use Rattle.px_plan.proofs.IndexRows.{all_left, all_right, and_left, and_right, row_has_key, same_shown, same_truth}
@@ -125,18 +125,18 @@ usable_is point (Some x) i h = by_test (is_usable point x) refl
         let same : x ≡ i = somes_are x i (sym (ap (λ (b : Bool). if b then Some (Some x) else None) e) ∙ h) in (ap Some same, ap (is_usable point) (sym same) ∙ e)
     by_test false e = absurd (let z : ◌≡◌ {A = Option (Option Index)} None (Some (Some i)) = sym (ap (λ (b : Bool). if b then Some (Some x) else None) e) ∙ h in cc)
 
-followed_stands : (indexes : List Index) (point : Option ℕ) (hint : Hint) (i : Index) → followed indexes point hint ≡ Some (Some i) → Usable indexes point i
+followed_stands : (indexes : List Index) (point : Option ℕ) (hint : Hint) (i : Index) → followed_hint indexes point hint ≡ Some (Some i) → Usable indexes point i
 followed_stands indexes point hints.NoIndex i h = absurd (let z : ◌≡◌ {A = Option (Option Index)} (Some None) (Some (Some i)) = h in cc)
 followed_stands indexes point (hints.Index name) i h =
     let u = usable_is point (index_named indexes name) i h in record { among = named_among indexes name i u.0; usable = u.1 }
 
 hinted_stands : (indexes : List Index) (point : Option ℕ) (hs : List Hint) (i : Index) → hinted indexes point hs ≡ Some (Some i) → Usable indexes point i
 hinted_stands indexes point [] i h = absurd (let z : ◌≡◌ {A = Option (Option Index)} None (Some (Some i)) = h in cc)
-hinted_stands indexes point (hint ∷ hs) i h = by_first (hinted_stands indexes point hs i) (followed indexes point hint) refl
+hinted_stands indexes point (hint ∷ hs) i h = by_first (hinted_stands indexes point hs i) (followed_hint indexes point hint) refl
   where
-    by_first : (hinted indexes point hs ≡ Some (Some i) → Usable indexes point i) → (o : Option (Option Index)) → followed indexes point hint ≡ o → Usable indexes point i
-    by_first more None e = more (sym (ap (λ (o : Option (Option Index)). or_else o (hinted indexes point hs)) e) ∙ h)
-    by_first more (Some by) e = followed_stands indexes point hint i (e ∙ (sym (ap (λ (o : Option (Option Index)). or_else o (hinted indexes point hs)) e) ∙ h))
+    by_first : (hinted indexes point hs ≡ Some (Some i) → Usable indexes point i) → (o : Option (Option Index)) → followed_hint indexes point hint ≡ o → Usable indexes point i
+    by_first more None e = more (sym (ap (λ (o : Option (Option Index)). path_or_else o (hinted indexes point hs)) e) ∙ h)
+    by_first more (Some by) e = followed_stands indexes point hint i (e ∙ (sym (ap (λ (o : Option (Option Index)). path_or_else o (hinted indexes point hs)) e) ∙ h))
 
 -- a candidate that is an index
 candidate : (indexes : List Index) (test : Index → Bool) (before behind : List (Option Index)) (i : Index) → map Some (filter test indexes) ≡ before ++ Some i ∷ behind → IsAmong i indexes × (test i ≡ true)
@@ -176,9 +176,9 @@ taken_stands found point a columns i h = by_hint (hinted found.indexes point a.h
     by_hint : (hint : Option (Option Index)) → hinted found.indexes point a.hints ≡ hint → Stands found.indexes point found.table columns i
     by_hint None e =
         best_stands found.indexes point found.table columns (rank_of found.table a.conjuncts a.order) i
-        (subst (λ (o : Option (Option Index)). Takes o found.table columns (IsBest (rank_of found.table a.conjuncts a.order) (candidates found.table point columns found.indexes)) (Some i)) e h)
+        (subst (λ (o : Option (Option Index)). TakesPath o found.table columns (IsBest (rank_of found.table a.conjuncts a.order) (candidates found.table point columns found.indexes)) (Some i)) e h)
     by_hint (Some by) e =
-        let k : Takes (Some by) found.table columns (IsBest (rank_of found.table a.conjuncts a.order) (candidates found.table point columns found.indexes)) (Some i) = subst (λ (o : Option (Option Index)). Takes o found.table columns (IsBest (rank_of found.table a.conjuncts a.order) (candidates found.table point columns found.indexes)) (Some i)) e h in
+        let k : TakesPath (Some by) found.table columns (IsBest (rank_of found.table a.conjuncts a.order) (candidates found.table point columns found.indexes)) (Some i) = subst (λ (o : Option (Option Index)). TakesPath o found.table columns (IsBest (rank_of found.table a.conjuncts a.order) (candidates found.table point columns found.indexes)) (Some i)) e h in
         let u = hinted_stands found.indexes point a.hints i (e ∙ ap Some (sym k.0)) in
         record { among = u.among; usable = u.usable; holds = k.1 }
 
@@ -216,8 +216,8 @@ readable p i h =
 
 -- ---- the path of the table, and of an index
 
-keys_led : (t : Table) (a : Asked) (by : Option Index) (path : Path) (row : List Value) → IsPathBy t a by path → FitsRow t row → meets_all a.conjuncts row ≡ true → is_on path (row_key (path_of t by) row) ≡ true
-keys_led t a by path row h fits m = between_on path (row_key (path_of t by) row) ((h.keys row (row_has_key t by row fits)).1 ((conjuncts_are (path_of t by) a.conjuncts row).0 (met a.conjuncts row m)).0)
+keys_led : (t : Table) (a : Asked) (by : Option Index) (path : Path) (row : List Value) → IsPathBy t a by path → FitsRow t row → meets_all a.conjuncts row ≡ true → is_on path (row_key_on (path_of t by) row) ≡ true
+keys_led t a by path row h fits m = between_on path (row_key_on (path_of t by) row) ((h.keys row (row_has_key t by row fits)).1 ((conjuncts_are (path_of t by) a.conjuncts row).0 (met a.conjuncts row m)).0)
 
 pub table_path_is : (q : Planned) (p : Point) (path : Path) → p.found.table ≡ q.table → IsPathBy p.found.table q.asked None path → IsPathFor (query_of q) p path
 table_path_is q p path bound h =
@@ -232,14 +232,14 @@ pub index_path_is : (q : Planned) (p : Point) (path : Path) (i : Index) → AreR
 index_path_is q p path i rising s h =
     let t = p.found.table in
     let a = q.asked in
-    let is : index_in p.found i.id.0 ≡ Some i = among_found p.found.indexes i rising s.among in
+    let is : index_of_found p.found i.id.0 ≡ Some i = among_found p.found.indexes i rising s.among in
     let places = map (λ c. c.column) a.order in
     let rest = all_right (is_held t i) a.shown (flat_map columns_in a.conjuncts ++ places) s.holds in
     let condition = all_left (is_held t i) (flat_map columns_in a.conjuncts) places rest in
     record {
       can = subst (λ (b : By). CanReadBy p b) (sym h.by_is) (subst (λ (o : Option Index). IsReadable p o) (sym is) (readable p i s.usable));
       has_all = λ row fits m. subst (λ (b : By). is_on path (key_by p.found b row) ≡ true) (sym h.by_is)
-          (subst (λ (o : Option Index). is_on path (row_key (index_columns p.found o) row) ≡ true) (sym is) (keys_led t a (Some i) path row h fits m));
+          (subst (λ (o : Option Index). is_on path (row_key_on (index_path_in p.found o) row) ≡ true) (sym is) (keys_led t a (Some i) path row h fits m));
       meets = λ row. subst (λ (b : By). meets_all a.conjuncts (shown_by p.found b row) ≡ meets_all a.conjuncts row) (sym h.by_is)
           (subst (λ (o : Option Index). meets_all a.conjuncts (shown_in p.found o row) ≡ meets_all a.conjuncts row) (sym is) (same_meets t i row a.conjuncts condition));
       named = λ row. subst (λ (b : By). values_at (columns_asked a) (shown_by p.found b row) ≡ values_at (columns_asked a) row) (sym h.by_is)
@@ -263,7 +263,7 @@ taken_alone found stamp a columns by c h = by_hint (hinted found.indexes (Some s
     by_hint : (hint : Option (Option Index)) → hinted found.indexes (Some stamp) a.hints ≡ hint → joins_at a found stamp ≡ false
     by_hint None e = ap (λ (o : Option (Option Index)). lacks o found.table (columns_asked a)) e
     by_hint (Some i) e =
-        let k : Takes (Some i) found.table columns (IsBest (rank_of found.table a.conjuncts a.order) (candidates found.table (Some stamp) columns found.indexes)) by = subst (λ (o : Option (Option Index)). Takes o found.table columns (IsBest (rank_of found.table a.conjuncts a.order) (candidates found.table (Some stamp) columns found.indexes)) by) e h in
+        let k : TakesPath (Some i) found.table columns (IsBest (rank_of found.table a.conjuncts a.order) (candidates found.table (Some stamp) columns found.indexes)) by = subst (λ (o : Option (Option Index)). TakesPath o found.table columns (IsBest (rank_of found.table a.conjuncts a.order) (candidates found.table (Some stamp) columns found.indexes)) by) e h in
         ap (λ (o : Option (Option Index)). lacks o found.table (columns_asked a)) e ∙ ap (λ (cs : List ℕ). lacks (Some i) found.table cs) (sym c) ∙ by_index_of i by k.0 k.1
 
 -- and one that lacks a column would have to be joined

@@ -3,7 +3,7 @@ use Rattle.std.proofs.Common.{◌≡◌, ℕ, zero, suc, ◌-◌, ◌<◌, ◌�
 use Rattle.std.specs.Prelude.{◌↔◌, ◌==◌, get_or, if◌then◌else◌, slice_get}
 use Rattle.std.proofs.lemmas.Bool.{cases_Bool}
 use Rattle.std.proofs.lemmas.Bool.Decides.{nat_tests}
-use Rattle.px_calls.specs.Requires.{CanConsult, CanLook, CanReadBy, IsReadable, index_among, index_in}
+use Rattle.px_calls.specs.Requires.{CanConsult, CanLook, CanReadBy, IsReadable, index_among, index_of_found}
 use Rattle.px_calls.specs.declared.query.By.{By}
 use Rattle.px_calls.specs.declared.query.By.TheVariants.{Index as ByIndex, Table as ByTable}
 use Rattle.px_calls.specs.declared.query.Doubt.{Doubt}
@@ -131,8 +131,8 @@ module _ (g : Group) (p : Point) (read : IsReadAt g p) (i : IndexId) (x : IndexR
 
   pub active_at : (path : Path) → path.by ≡ ByIndex i → CanLook p path → x.index.state ≡ Active
   active_at path by can =
-      (let readable : IsReadable p (index_in p.found i.0) = subst (CanReadBy p) by can in
-      let here : index_in p.found i.0 ≡ Some x.index = ap (λ (j : IndexId). index_among j.0 p.found.indexes) (sym part.id) ∙ part.at in
+      (let readable : IsReadable p (index_of_found p.found i.0) = subst (CanReadBy p) by can in
+      let here : index_of_found p.found i.0 ≡ Some x.index = ap (λ (j : IndexId). index_among j.0 p.found.indexes) (sym part.id) ∙ part.at in
       (subst (IsReadable p) here readable).0)
 
   module _ (b : Base) (es : List Entry) (hs : List HeldBatch) (tallied : IsTallied b es g hs) (point : ℕ) (point_is : point ≡ reach_of p) where

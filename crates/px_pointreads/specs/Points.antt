@@ -3,7 +3,7 @@ use Rattle.std.specs.Prelude.{◌≡◌, ◌≢◌, ◌≤◌, ℕ, List, slice_
 use Rattle.std.specs.List.{AllByRecursion}
 use Rattle.px_calls.specs.declared.query.FoundKey.{FoundKey}
 use Rattle.px_calls.specs.declared.query.Point.{Point}
-use Rattle.px_shown.specs.Told.{IsIndexAt, IsPointOf, reach_of}
+use Rattle.px_shown.specs.Told.{IsIndexAt, IsPointOfTable, reach_of}
 use Rattle.px_values.specs.declared.name.IndexId.{IndexId}
 use Rattle.px_group.specs.declared.group.Group.{Group}
 use Rattle.px_group.specs.declared.group.IndexRegion.{IndexRegion}
@@ -11,7 +11,7 @@ use Rattle.px_reading.specs.Versions.{AreOfVersions}
 
 -- the table stands as it was when the point was opened, and isn't forgotten there
 pub record IsReadAt (g : Group) (p : Point) : Type 0 where
-  pub of : IsPointOf g.table p
+  pub of : IsPointOfTable g.table p
   pub above : g.horizon ≤ reach_of p
 
 -- so does the index, which was born at or below what the point sees
@@ -29,5 +29,5 @@ pub record AreOfIndex (g : Group) (p : Point) (i : IndexId) (fs : List FoundKey)
   pub versions : AreOfVersions index (reach_of p) fs
 
 -- the group has no index of this number
-abbrev pub LacksIndex : IndexId → Group → Type 0
-LacksIndex i g = AllByRecursion (λ x. x.index.id ≢ i) g.indexes.items
+abbrev pub GroupLacksIndex : IndexId → Group → Type 0
+GroupLacksIndex i g = AllByRecursion (λ x. x.index.id ≢ i) g.indexes.items

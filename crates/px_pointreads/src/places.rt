@@ -6,7 +6,7 @@ ghost use Rattle.px_calls.specs.Requires.{index_among};
 ghost use Rattle.px_shown.specs.Told.{reach_of};
 ghost use Rattle.px_group.specs.declared.group.Group.{Group as Groups};
 ghost use Rattle.px_group.specs.declared.group.IndexRegion.{IndexRegion as Part};
-ghost use Rattle.px_pointreads.specs.Points.{IsPartAt, IsReadAt, LacksIndex};
+ghost use Rattle.px_pointreads.specs.Points.{GroupLacksIndex, IsPartAt, IsReadAt};
 
 use crate::same::{is_same_index, is_same_table};
 use px_calls::Point;
@@ -107,7 +107,7 @@ fn number_place(parts: &[IndexRegion], index: IndexId) -> Option<usize>
 pub fn doubt_place(groups: &[Group], index: IndexId) -> Option<DoubtPlace>
     ensures within { IfSome result (λ at. at.group < length groups.now) }
     ensures numbered { IfSome result (λ at. (g : Groups) → slice_get groups.now at.group ≡ Some g → (at.index < length g.indexes.items) × ((x : Part) → slice_get g.indexes.items at.index ≡ Some x → x.index.id ≡ index)) }
-    ensures none { IfNone result (AllByRecursion (LacksIndex index) groups.now) }
+    ensures none { IfNone result (AllByRecursion (GroupLacksIndex index) groups.now) }
 {
     for group in 0..groups.len() {
         if let Some(index) = number_place(&groups[group].indexes, index) {

@@ -23,19 +23,19 @@ use Rattle.px_reply.specs.declared.refusal.Refusal.TheVariants as refusal
 use Rattle.px_reply.specs.declared.reply.Reply.{Reply}
 use Rattle.px_reply.specs.declared.transcript.Item.{Item}
 use Rattle.px_reply.specs.declared.transcript.Transcript.{Transcript}
-use Rattle.px_session.specs.Replies.{has_fatal, is_closing, is_fatal, own_since, stops}
+use Rattle.px_session.specs.Replies.{has_fatal, is_closing, is_fatal, own_since, stops_session}
 use Rattle.px_load.specs.declared.script.Load.{Load as Loads}
 use Rattle.px_load.specs.Script.{load_text}
 use Rattle.px_loaded.specs.Loads.{RanLoad}
-use Rattle.px_rounds.specs.Rounds.{RanScript, fresh}
+use Rattle.px_rounds.specs.Rounds.{RanScript, fresh_sessions}
 use Rattle.px_rounds.specs.Turns.{as_seat}
-use Rattle.px_rounds.specs.Written.{IsWritten}
+use Rattle.px_rounds.specs.Written.{IsTextWritten}
 use Rattle.px_server.specs.Kept.{HasFailed, has_told}
 use Rattle.px_program.specs.Answers.{AnswersJob, AnswersScript, AnswersVerification, IsVerified, one_item, stopped_by}
 use Rattle.px_program.specs.Complete.{AreWholeRounds, HasEnded, IsComplete, IsOneReply, IsToldWhy, IsWholeJob, IsWholeScript, is_any}
 use Rattle.px_program.specs.Ended.{AllEnded}
 use Rattle.px_program.specs.Run.{undamaged}
-use Rattle.px_program.specs.Status.{IsQuietStatus, causes_of, comes_from, damage_of, first_damage, is_memory, is_of_disk, is_statement, items_of, or_else, place_in, place_of, quiet_status, refused_by, some_refused_by, status_of, whole_status}
+use Rattle.px_program.specs.Status.{IsQuietStatus, causes_of, comes_from, damage_of, first_damage, is_memory, is_of_disk, is_statement, items_of, place_in, place_of, place_or_else, quiet_status, refused_by, some_refused_by, status_of, whole_status}
 use Rattle.px_program.specs.declared.causes.Causes.{Causes}
 use Rattle.px_program.specs.declared.causes.Place.{Place}
 use Rattle.px_program.specs.declared.job.Job.{Job}
@@ -62,7 +62,7 @@ closing_tells refusal.WriteFault h = absurd (false≢true (sym h))
 closing_tells (refusal.Closed call) h = absurd (false≢true (sym h))
 closing_tells r h = refl
 
-stop_tells : (o : Option Refusal) → comes_from is_of_disk o ≡ false → stops o ≡ false
+stop_tells : (o : Option Refusal) → comes_from is_of_disk o ≡ false → stops_session o ≡ false
 stop_tells (Some r) h = closing_tells r h
 stop_tells None h = refl
 
@@ -87,7 +87,7 @@ none_damaged : (items : List Item) → some_refused_by is_of_disk items ≡ fals
 none_damaged [] h = refl
 none_damaged (i ∷ items) h =
     let both = or_none (refused_by is_of_disk i.reply) (some_refused_by is_of_disk items) h in
-    ap (λ (o : Option Place). or_else o (first_damage items)) (damage_tells i.reply both.0) ∙ none_damaged items both.1
+    ap (λ (o : Option Place). place_or_else o (first_damage items)) (damage_tells i.reply both.0) ∙ none_damaged items both.1
 
 no_cause : (c : Cause) → is_of_disk c ≡ false → is_memory c ≡ false → is_statement c ≡ false → true ≡ false
 no_cause cause.Statement a b c = c
@@ -160,7 +160,7 @@ module _ (sound : Type 0) (k : Known) (script : List ℕ) (ts : List Transcript)
   ran_told : k.damaged ≡ undamaged → RanScript sound k 0 (script_of script) ts sink_failed memory → some_refused_by is_of_disk (items_of ts) ≡ true → has_told k.seen ≡ true
   ran_told whole a tell =
       let r = a.ran in
-      rounds_told sound k whole 0 1 (fresh a.sessions) r.passed r.done (length k.seen) a.states memory r.answered (sym (ap (λ (l : List Transcript). some_refused_by is_of_disk (items_of l)) r.flat) ∙ tell)
+      rounds_told sound k whole 0 1 (fresh_sessions a.sessions) r.passed r.done (length k.seen) a.states memory r.answered (sym (ap (λ (l : List Transcript). some_refused_by is_of_disk (items_of l)) r.flat) ∙ tell)
 
   script_told : k.damaged ≡ undamaged → AnswersScript sound k 0 script ts sink_failed memory → some_refused_by is_of_disk (items_of ts) ≡ true → has_told k.seen ≡ true
   script_told whole (inl a) tell = ran_told whole a.ran tell
@@ -174,7 +174,7 @@ module _ (sound : Type 0) (k : Known) (script : List ℕ) (ts : List Transcript)
   ran_balanced : k.damaged ≡ undamaged → RanScript sound k 0 (script_of script) ts sink_failed memory → has_fatal (items_of ts) ≡ false → (seat : ℕ) → IsBalanced (outline (acts_by seat k.seen))
   ran_balanced whole a go seat =
       let r = a.ran in
-      let own = rounds_balanced sound k whole 0 1 (fresh a.sessions) r.passed r.done (length k.seen) a.states memory r.answered (sym (ap (λ (l : List Transcript). has_fatal (items_of l)) r.flat) ∙ go) seat in
+      let own = rounds_balanced sound k whole 0 1 (fresh_sessions a.sessions) r.passed r.done (length k.seen) a.states memory r.answered (sym (ap (λ (l : List Transcript). has_fatal (items_of l)) r.flat) ∙ go) seat in
       subst IsBalanced (all_own seat) own
 
   seats_balanced : k.damaged ≡ undamaged → AnswersScript sound k 0 script ts sink_failed memory → has_fatal (items_of ts) ≡ false → (seat : ℕ) → IsBalanced (outline (acts_by seat k.seen))
@@ -194,7 +194,7 @@ module _ (sound : Type 0) (k : Known) (script : List ℕ) (ts : List Transcript)
         rounds = r.done;
         flat = r.flat;
         whole = subst (λ (rounds : List (List SessionText)). AreWholeRounds n rounds r.done) all
-            (whole_rounds sound k n 0 1 (fresh n) r.passed r.done (length k.seen) a.states memory enough (length-replicate n _) (fresh_going n) (sym (ap (λ (l : List Transcript). has_fatal (items_of l)) r.flat) ∙ go) r.answered);
+            (whole_rounds sound k n 0 1 (fresh_sessions n) r.passed r.done (length k.seen) a.states memory enough (length-replicate n _) (fresh_going n) (sym (ap (λ (l : List Transcript). has_fatal (items_of l)) r.flat) ∙ go) r.answered);
       }
 
   script_whole : AnswersScript sound k 0 script ts sink_failed memory → has_fatal (items_of ts) ≡ false → sink_failed ≡ false → memory ≡ false → IsWholeScript script ts ⊎ IsToldWhy script ts
@@ -287,7 +287,7 @@ module _ (sound : Type 0) (k : Known) (job : Job) (ts : List Transcript) (sink_f
 
   -- ---- 7. The run
 
-  module _ {D O : Type 0} (d : DiskGhosts D) (s : SinkGhosts O) (disk : D) (out out' : O) (text : List ℕ) (status : Status) (whole : k.damaged ≡ undamaged) (answers : AnswersJob sound k 0 job ts sink_failed memory) (written : IsWritten s out out' text sink_failed memory)
+  module _ {D O : Type 0} (d : DiskGhosts D) (s : SinkGhosts O) (disk : D) (out out' : O) (text : List ℕ) (status : Status) (whole : k.damaged ≡ undamaged) (answers : AnswersJob sound k 0 job ts sink_failed memory) (written : IsTextWritten s out out' text sink_failed memory)
       (is : status ≡ status_of sink_failed (d.first_fault disk) memory (causes_of (items_of ts))) (blamed : has_told k.seen ≡ true → HasFailed d disk) (first : 0 < d.faults disk → 0 < d.first_fault disk) (some : 0 < d.first_fault disk → 0 < d.faults disk) where
     untold : (HasFailed d disk → ⊥) → some_refused_by is_of_disk (items_of ts) ≡ false
     untold fine = ⊎_elim (λ tell. absurd (fine (blamed (job_told sound k ts sink_failed memory job whole answers tell)))) (λ none. none) (cases_Bool (some_refused_by is_of_disk (items_of ts)))

@@ -32,7 +32,7 @@ use Rattle.px_trail.specs.declared.entry.Act.{Act}
 use Rattle.px_trail.specs.declared.entry.Act.TheVariants.{Missed, Shut}
 use Rattle.px_trail.specs.declared.entry.Entry.{Entry}
 use Rattle.px_calls.specs.Causes.{IsDamagedAt}
-use Rattle.px_calls.specs.Calls.{act_of, made_index}
+use Rattle.px_calls.specs.Calls.{act_of, index_id_made}
 use Rattle.px_calls.specs.Known.{Known}
 use Rattle.px_calls.specs.declared.definition.Made.{Made}
 use Rattle.px_calls.specs.declared.status.Ordered.{Ordered}
@@ -56,7 +56,7 @@ use Rattle.px_calls.specs.declared.ticket.Receipt.{Receipt}
 use Rattle.px_deleting.specs.Deleting as deleting
 use Rattle.px_planned.specs.declared.planned.Planned.{Planned}
 use Rattle.px_scan.specs.Faults.{QueryFaultIs}
-use Rattle.px_scan.specs.Turns.{OpensAndCloses, table_number}
+use Rattle.px_scan.specs.Turns.{OpensAndCloses, queried_table}
 use Rattle.px_scan.specs.declared.answer.QueryFault.{QueryFault}
 use Rattle.px_scan.specs.declared.answer.QueryFault.TheVariants as unread
 use Rattle.px_planned.specs.Queries.{query_of}
@@ -66,7 +66,7 @@ use Rattle.px_reply.specs.declared.reply.Reply.{Reply}
 use Rattle.px_reply.specs.declared.reply.Reply.TheVariants as reply
 use Rattle.px_item.specs.Builds.{IsBuiltBehind}
 use Rattle.px_item.specs.Right as right
-use Rattle.px_item.specs.Right.{IsAtOnce, IsRight, SaysOf, batch_refusal, bind_refusal, command_refusal, index_absent, name_taken, not_built, one_change, query_refusal, syntax_refusal, table_absent, undefined, word_of}
+use Rattle.px_item.specs.Right.{IsAtOnce, IsRight, SaysOf, batch_refusal, bind_refusal, command_refusal, definition_word, index_absent, name_taken, not_built, one_change, query_refusal, syntax_refusal, table_absent, undefined}
 use Rattle.px_item.specs.declared.answered.Answered.{Answered}
 use Rattle.px_item.specs.declared.answered.Settings.{Settings}
 use Rattle.px_session.specs.Replies.{is_fatal}
@@ -184,7 +184,7 @@ at_once_quiet st p a (right.is_lacking says) = ap (refused_by is_of_disk) says.0
 
 -- ---- 3. What a DELETE did
 
-found_balanced : (sound : Type 0) (p : Planned) (k : Known) (first : ℕ) (acts : List Act) (cs : List Change) → deleting.HasFound sound p k first acts cs → IsBalanced acts
+found_balanced : (sound : Type 0) (p : Planned) (k : Known) (first : ℕ) (acts : List Act) (cs : List Change) → deleting.HasFoundRows sound p k first acts cs → IsBalanced acts
 found_balanced sound p k first acts cs h = subst IsBalanced (sym h.outcome.1) (balanced-point _ _ _)
 
 -- each batch that was made is ended
@@ -207,7 +207,7 @@ pub undamaged_at : (k : Known) → k.damaged ≡ undamaged → (file place : ℕ
 undamaged_at k whole file place h = false≢true (sym (ap (λ (f : ℕ → ℕ → Bool). f file place) whole) ∙ h)
 
 -- a definition that was refused for the disk's sake has an entry that tells it
-defining_told : (k : Known) → k.damaged ≡ undamaged → (x : Definition) (y : Statement) (f : DefineFault) → define.FaultIs x f k → refused_by is_of_disk (undefined y f) ≡ true → has_told k.seen ≡ true
+defining_told : (k : Known) → k.damaged ≡ undamaged → (x : Definition) (y : Statement) (f : DefineFault) → define.DefinitionFaultIs x f k → refused_by is_of_disk (undefined y f) ≡ true → has_told k.seen ≡ true
 defining_told k whole x y undone.ReadFault is tell = told_by k.seat (Missed is.0) k.seen refl is.1
 defining_told k whole x y undone.WriteFault is tell = told_by k.seat (Shut is.0) k.seen refl is.1
 defining_told k whole x y (undone.Damaged file place) is tell = absurd (undamaged_at k whole file place is)
@@ -218,7 +218,7 @@ defining_told k whole x y undone.NoIndex is tell = absurd (false≢true (sym (in
 defining_told k whole x y f is tell = absurd (false≢true tell)
 
 -- so has a build
-building_told : (sound : Type 0) (k : Known) → k.damaged ≡ undamaged → (t i : ℕ) (y : Statement) (f : BuildFault) → building.FaultIs sound t i f k → refused_by is_of_disk (not_built y f) ≡ true → has_told k.seen ≡ true
+building_told : (sound : Type 0) (k : Known) → k.damaged ≡ undamaged → (t i : ℕ) (y : Statement) (f : BuildFault) → building.BuildFaultIs sound t i f k → refused_by is_of_disk (not_built y f) ≡ true → has_told k.seen ≡ true
 building_told sound k whole t i y unbuilt.ReadFault is tell = told_by k.seat (Missed is.0) k.seen refl is.1
 building_told sound k whole t i y unbuilt.WriteFault is tell = told_by k.seat (Shut is.0) k.seen refl is.1
 building_told sound k whole t i y (unbuilt.Damaged file place) is tell = absurd (undamaged_at k whole file place is)
@@ -257,7 +257,7 @@ module _ (sound : Type 0) (k : Known) (whole : k.damaged ≡ undamaged) where
   unfolding Told
   not_told r quiet tell = absurd (false≢true (sym quiet ∙ tell))
 
-  batch_told : (name : List ℕ) (t : TableId) (cs : List Change) (f : BatchFault) → batch.FaultIs sound t cs f k → Told (reply.Refused (batch_refusal name f))
+  batch_told : (name : List ℕ) (t : TableId) (cs : List Change) (f : BatchFault) → batch.BatchFaultIs sound t cs f k → Told (reply.Refused (batch_refusal name f))
   unfolding Told
   batch_told name t cs unmade.ReadFault is tell = told_by k.seat (Missed is.0) k.seen refl is.1
   batch_told name t cs unmade.WriteFault is tell = told_by k.seat (Shut is.0) k.seen refl is.1
@@ -265,7 +265,7 @@ module _ (sound : Type 0) (k : Known) (whole : k.damaged ≡ undamaged) where
   batch_told name t cs (unmade.Closed call) is tell = closed_by call k.seen is
   batch_told name t cs f is tell = absurd (false≢true tell)
 
-  define_told : (x : Definition) (y : Statement) (f : DefineFault) → define.FaultIs x f k → Told (undefined y f)
+  define_told : (x : Definition) (y : Statement) (f : DefineFault) → define.DefinitionFaultIs x f k → Told (undefined y f)
   unfolding Told
   define_told = defining_told k whole
 
@@ -289,7 +289,7 @@ module _ (sound : Type 0) (k : Known) (whole : k.damaged ≡ undamaged) where
 
   query_balanced : (q : Query) (own : List Act) → ((own ≡ []) ⊎ OpensAndCloses q own) → IsBalanced own
   query_balanced q own (inl none) = subst IsBalanced (sym none) balanced-none
-  query_balanced q own (inr both) = subst IsBalanced (sym both.2) (balanced-point (table_number q) both.0 both.1)
+  query_balanced q own (inr both) = subst IsBalanced (sym both.2) (balanced-point (queried_table q) both.0 both.1)
 
   -- nothing was done for it
   idle : (own : List Act) (a r : Reply) → own ≡ [] → a ≡ r → Told r → IsFair k own a
@@ -317,7 +317,7 @@ module _ (sound : Type 0) (k : Known) (whole : k.damaged ≡ undamaged) where
       let stopped = batch_balanced name p.table.id (take 1000 h.rest) f h.stopping h.outcome.1 go in
       subst IsBalanced (sym h.own_is) (balanced-append h.finding (h.making ++ h.stopping) found (balanced-append h.making h.stopping made stopped))
 
-  not_deleted : (name : List ℕ) (p : Planned) (own : List Act) (rs : List Receipt) (f : BatchFault) (a : Reply) → deleting.HasStopped sound p own k rs f → right.StopsAt a name f → IsFair k own a
+  not_deleted : (name : List ℕ) (p : Planned) (own : List Act) (rs : List Receipt) (f : BatchFault) (a : Reply) → deleting.HasStopped sound p own k rs f → right.StopsDelete a name f → IsFair k own a
   unfolding Told
   not_deleted name p own rs f a h (inl says) = record {
     told = λ tell. batch_told name p.table.id (take 1000 h.rest) f h.outcome.0 (sym (ap (refused_by is_of_disk) says) ∙ tell);
@@ -329,13 +329,13 @@ module _ (sound : Type 0) (k : Known) (whole : k.damaged ≡ undamaged) where
   }
 
   -- an index that wasn't built
-  not_active : (x : Statement) (n : ℕ) (t : TableId) (i : IndexId) (own rest : List Act) (f : BuildFault) (a : Reply) → IsBalanced own → building.IsOutcome sound n t i rest k (Err f) → (a ≡ not_built x f) ⊎ (a ≡ reply.Refused refusal.Memory) → IsFair k own a
+  not_active : (x : Statement) (n : ℕ) (t : TableId) (i : IndexId) (own rest : List Act) (f : BuildFault) (a : Reply) → IsBalanced own → building.IsBuildOutcome sound n t i rest k (Err f) → (a ≡ not_built x f) ⊎ (a ≡ reply.Refused refusal.Memory) → IsFair k own a
   unfolding Told
   not_active x n t i own rest f a balanced o (inl says) = record { told = λ tell. refused_told sound k whole n t.0 i.0 x f o.0 (sym (ap (refused_by is_of_disk) says) ∙ tell); balanced = λ go. balanced }
   not_active x n t i own rest f a balanced o (inr says) = record { told = λ tell. absurd (false≢true (sym (ap (refused_by is_of_disk) says) ∙ tell)); balanced = λ go. balanced }
 
   -- a commit that was refused
-  commit_told : (name : List ℕ) (h : HeldData) (f : BatchFault) → commits.FaultIs sound h f k → Told (reply.Refused (batch_refusal name f))
+  commit_told : (name : List ℕ) (h : HeldData) (f : BatchFault) → commits.CommitFaultIs sound h f k → Told (reply.Refused (batch_refusal name f))
   unfolding Told
   commit_told name h unmade.NoTable is tell = absurd (false≢true tell)
   commit_told name h (unmade.Limit which count) is tell = absurd (false≢true tell)
@@ -345,7 +345,7 @@ module _ (sound : Type 0) (k : Known) (whole : k.damaged ≡ undamaged) where
   commit_told name h (unmade.Closed call) is tell = closed_by call k.seen is
   commit_told name h unmade.Memory is tell = absurd (false≢true tell)
 
-  not_committed : (h : HeldData) (f : BatchFault) (own : List Act) (a : Reply) → commits.IsOutcome sound h own k (Err f) → right.StopsAt a h.name f → IsFair k own a
+  not_committed : (h : HeldData) (f : BatchFault) (own : List Act) (a : Reply) → commits.IsCommitOutcome sound h own k (Err f) → right.StopsDelete a h.name f → IsFair k own a
   unfolding Told
   not_committed h f own a o (inl says) = record {
     told = λ tell. commit_told h.name h f o.0 (sym (ap (refused_by is_of_disk) says) ∙ tell);
@@ -357,7 +357,7 @@ module _ (sound : Type 0) (k : Known) (whole : k.damaged ≡ undamaged) where
   }
 
   -- a table that wasn't counted
-  count_told : (n : ℕ) (name : List ℕ) (f : CountFault) → counts.FaultIs n name f k → Told (reply.Refused (right.count_refusal name f))
+  count_told : (n : ℕ) (name : List ℕ) (f : CountFault) → counts.CountFaultIs n name f k → Told (reply.Refused (right.count_refusal name f))
   unfolding Told
   count_told n name uncounted.NoTable is tell = absurd (false≢true tell)
   count_told n name uncounted.ReadFault is tell = told_by k.seat (Missed is.0) k.seen refl is.1
@@ -365,13 +365,13 @@ module _ (sound : Type 0) (k : Known) (whole : k.damaged ≡ undamaged) where
   count_told n name (uncounted.Closed call) is tell = closed_by call k.seen is
   count_told n name uncounted.Memory is tell = absurd (false≢true tell)
 
-  not_counted : (n : ℕ) (name : List ℕ) (f : CountFault) (own : List Act) (a : Reply) → counts.FaultIs n name f k → own ≡ [] → (a ≡ reply.Refused (right.count_refusal name f)) ⊎ (a ≡ reply.Refused refusal.Memory) → IsFair k own a
+  not_counted : (n : ℕ) (name : List ℕ) (f : CountFault) (own : List Act) (a : Reply) → counts.CountFaultIs n name f k → own ≡ [] → (a ≡ reply.Refused (right.count_refusal name f)) ⊎ (a ≡ reply.Refused refusal.Memory) → IsFair k own a
   unfolding Told
   not_counted n name f own a is none (inl says) = idle own a (reply.Refused (right.count_refusal name f)) none says (count_told n name f is)
   not_counted n name f own a is none (inr says) = still own a (reply.Refused refusal.Memory) none says refl
 
   -- an order that isn't done
-  order_told : (f : OrderFault) → orders.FaultIs f k → Told (reply.Refused (right.order_refusal f))
+  order_told : (f : OrderFault) → orders.OrderFaultIs f k → Told (reply.Refused (right.order_refusal f))
   unfolding Told
   order_told undone_by.ReadFault is tell = told_by k.seat (Missed is.0) k.seen refl is.1
   order_told undone_by.WriteFault is tell = told_by k.seat (Shut is.0) k.seen refl is.1
@@ -399,15 +399,15 @@ module _ (sound : Type 0) (k : Known) (whole : k.damaged ≡ undamaged) where
     told = λ tell. batch_told u.table f.table.id (one_change f u) fault is (sym (ap (refused_by is_of_disk) says.0) ∙ tell);
     balanced = λ go. batch_balanced u.table f.table.id (one_change f u) fault own left (sym (ap is_fatal says.0) ∙ go);
   }
-  fair before own st p a (right.is_defined x f m e read scn bound fits is none made says) = did own _ a.reply (reply.Defined (word_of x)) made.one (balanced-definition e m) says.0 refl
+  fair before own st p a (right.is_defined x f m e read scn bound fits is none made says) = did own _ a.reply (reply.Defined (definition_word x)) made.one (balanced-definition e m) says.0 refl
   fair before own st p a (right.is_not_defined x f fault e read scn bound fits is why since none says) = idle own a.reply (undefined x fault) none says.0 (define_told e x fault why)
   fair before own st p a (right.is_created t m read one scn fits made says) = did own _ a.reply (reply.Defined defined.TableCreated) made.one (balanced-definition (d.Table (new_table t)) m) says.0 refl
   fair before own st p a (right.is_not_created t fault read one scn fits why since none says) = idle own a.reply (undefined (s.CreateTable t) fault) none says.0 (define_told (d.Table (new_table t)) (s.CreateTable t) fault why)
   fair before own st p a (right.is_index_built x f e t m c rest read scn bound fits is builds behind built asked says) =
-      did own own a.reply (reply.Defined (word_of x)) refl
-      (behind_balanced a.first e m own rest k behind (tries_balanced t (made_index m) _ rest built.1 (balanced-within t c.stamp true _ (balanced-state t (made_index m) Active c.stamp)))) says.0 refl
+      did own own a.reply (reply.Defined (definition_word x)) refl
+      (behind_balanced a.first e m own rest k behind (tries_balanced t (index_id_made m) _ rest built.1 (balanced-within t c.stamp true _ (balanced-state t (index_id_made m) Active c.stamp)))) says.0 refl
   fair before own st p a (right.is_index_not_built x f e t m rest fault read scn bound fits is builds behind built says) =
-      not_active x m.at t (made_index m) own rest fault a.reply (behind_balanced a.first e m own rest k behind (tried_balanced t (made_index m) rest built.1)) built (⊎_elim (λ is. inl is.0) (λ is. inr is.0) says)
+      not_active x m.at t (index_id_made m) own rest fault a.reply (behind_balanced a.first e m own rest k behind (tried_balanced t (index_id_made m) rest built.1)) built (⊎_elim (λ is. inl is.0) (λ is. inr is.0) says)
   fair before own st p a (right.is_index_absent i f read scn bound exists absent says none) = still own a.reply (reply.Defined defined.IndexAbsent) none says.0 refl
   fair before own st p a (right.is_selected q f x r read bound asked outcome shows) = did own _ a.reply (reply.Rows r.shown.rows) outcome.1 (balanced-point _ _ _) shows.rows refl
   fair before own st p a (right.is_not_selected q f x fault read bound asked outcome since says) =

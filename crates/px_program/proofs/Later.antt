@@ -2,24 +2,24 @@
 use Rattle.std.proofs.Common.{◌≡◌, ℕ, List, [], ◌∷◌, take, Option, None, Some}
 use Rattle.px_outside.specs.declared.disk.Disk.{Ghosts as DiskGhosts}
 use Rattle.px_cells.specs.CellData.{CellData}
-use Rattle.px_file.specs.Files.{HasBlocks, HasWritten}
+use Rattle.px_file.specs.Files.{HasBlocks, HasWrittenBlocks}
 use Rattle.px_file.specs.declared.region_file.RegionFile.{RegionFile}
 use Rattle.px_file.specs.declared.writer.FileWriter.{FileWriter}
 use Rattle.px_gatelog.specs.Format.{LogForm, LogRecord}
 use Rattle.px_gatelog.specs.Records.{HasLog}
 use Rattle.px_gatelog.specs.declared.gate_log.GateLog.{GateLog}
-use Rattle.px_making.specs.Making.{IsMade}
-use Rattle.px_wal.specs.Batches.{Batch}
+use Rattle.px_making.specs.Making.{IsFileMade}
+use Rattle.px_wal.specs.Batches.{LogBatch}
 use Rattle.px_wal.specs.Snapshot.{FileData, SnapshotData}
 use Rattle.px_files.specs.Files.{HaveFiles}
 use Rattle.px_loading.specs.Gathering.{HaveBlocks}
-use Rattle.px_flushing.specs.Flushing.{IsUnderWay}
+use Rattle.px_flushing.specs.Flushing.{IsJobUnderWay}
 use Rattle.px_flushing.specs.Stage.{IsStage}
 use Rattle.px_flushing.specs.declared.job.Job.{Job}
 use Rattle.px_flushing.specs.declared.job.Job.TheVariants as job
 use Rattle.px_flushing.specs.declared.stage.Stage.{Stage}
 use Rattle.px_flushing.specs.declared.stage.Stage.TheVariants as stage
-use Rattle.px_region.specs.Region.{Holds, RegionData}
+use Rattle.px_region.specs.Region.{RegionData, RegionHolds}
 use Rattle.px_region.specs.declared.region.Region.{Region}
 
 -- the disk of which stops are told at these moments
@@ -47,7 +47,7 @@ module _ {D : Type 0} (d : DiskGhosts D) (tell : ℕ → Type 0) (disk : D) wher
   blocks_later : (file : RegionFile) (blocks : List (List CellData)) → HasBlocks d file disk blocks → HasBlocks (later d tell) file disk blocks
   blocks_later file blocks k = record { right = k.right; index = k.index; seen = k.seen; only = λ bytes left. k.only bytes left.1 }
 
-  written_later : (writer : FileWriter) (blocks : List (List CellData)) → HasWritten d writer disk blocks → HasWritten (later d tell) writer disk blocks
+  written_later : (writer : FileWriter) (blocks : List (List CellData)) → HasWrittenBlocks d writer disk blocks → HasWrittenBlocks (later d tell) writer disk blocks
   written_later writer blocks k = record { right = k.right; full = k.full; index = k.index; seen = k.seen }
 
   have_later : (region : ℕ) (named : List FileData) (files : List RegionFile) (lists : List (List CellData)) → HaveFiles d region disk named files lists → HaveFiles (later d tell) region disk named files lists
@@ -60,7 +60,7 @@ module _ {D : Type 0} (d : DiskGhosts D) (tell : ℕ → Type 0) (disk : D) wher
 
   -- ---- the flush or the compaction that may be under way
 
-  made_later : (file : RegionFile) (cells : List CellData) → IsMade d file disk cells → IsMade (later d tell) file disk cells
+  made_later : (file : RegionFile) (cells : List CellData) → IsFileMade d file disk cells → IsFileMade (later d tell) file disk cells
   made_later file cells k = record { blocks = k.blocks; has = blocks_later file k.blocks k.has; all = k.all }
 
   stage_later : (file : ℕ) (cells : List CellData) (s : Stage) → IsStage d file disk cells s → IsStage (later d tell) file disk cells s
@@ -76,7 +76,7 @@ module _ {D : Type 0} (d : DiskGhosts D) (tell : ℕ → Type 0) (disk : D) wher
   all_later (o ∷ files) [] k = absurd k
   all_later (o ∷ files) (b ∷ blocks) k = (blocks_later o b k.0, all_later files blocks k.1)
 
-  under_later : (region : ℕ) (named : SnapshotData) (batches : List Batch) (files : List RegionFile) (lists : List (List CellData)) (under : Option Job) → IsUnderWay d region named batches files lists disk under → IsUnderWay (later d tell) region named batches files lists disk under
+  under_later : (region : ℕ) (named : SnapshotData) (batches : List LogBatch) (files : List RegionFile) (lists : List (List CellData)) (under : Option Job) → IsJobUnderWay d region named batches files lists disk under → IsJobUnderWay (later d tell) region named batches files lists disk under
   under_later region named batches files lists None k = tt
   under_later region named batches files lists (Some (job.Flush flush)) k = record { frozen = k.frozen; later = k.later; free = k.free; stage = stage_later _ flush.frozen.cells flush.stage k.stage }
   under_later region named batches files lists (Some (job.Gather gather)) k = record {
@@ -89,7 +89,7 @@ module _ {D : Type 0} (d : DiskGhosts D) (tell : ℕ → Type 0) (disk : D) wher
 
   -- ---- the region
 
-  pub holds_later : (r : Region) (s : RegionData) → Holds d r disk s → Holds (later d tell) r disk s
+  pub holds_later : (r : Region) (s : RegionData) → RegionHolds d r disk s → RegionHolds (later d tell) r disk s
   unfolding log_later
   holds_later r s k =
       let parts = k.has.parts in

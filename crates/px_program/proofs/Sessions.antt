@@ -19,15 +19,15 @@ use Rattle.px_calls.specs.Known.{Known, is_turn, outline}
 use Rattle.px_calls.proofs.Runs.{acts_by-append}
 use Rattle.px_reply.specs.declared.transcript.Item.{Item}
 use Rattle.px_reply.specs.declared.transcript.Transcript.{Transcript}
-use Rattle.px_item.specs.Right.{after}
+use Rattle.px_item.specs.Right.{known_after}
 use Rattle.px_item.specs.declared.answered.After.{After}
 use Rattle.px_item.specs.declared.answered.After.TheVariants as next_is
 use Rattle.px_item.specs.declared.answered.Settings.{Settings}
-use Rattle.px_session.specs.Replies.{AreReplied, EndsAs, IsAnswered, IsReplied, Standing, answer_of, onward, at_first, has_fatal, is_fatal, is_stopped, own_since, place_from}
+use Rattle.px_session.specs.Replies.{AreReplied, EndsAs, IsSessionAnswered, IsReplied, Standing, answer_with, onward, at_first, has_fatal, is_fatal, is_stopped, own_since, place_from}
 use Rattle.px_session.specs.declared.state.Ending.{Ending}
 use Rattle.px_session.specs.declared.state.Ending.TheVariants.{Fatal, Memory, Whole}
 use Rattle.px_session.specs.declared.state.SessionState.{SessionState}
-use Rattle.px_rounds.specs.Rounds.{AreRounds, HasRound, IsToldIn, first_state, in_order, text_in}
+use Rattle.px_rounds.specs.Rounds.{AreRounds, HasRound, IsToldIn, all_transcripts, first_state, text_in}
 use Rattle.px_rounds.specs.Turns.{as_seat}
 use Rattle.px_rounds.proofs.Lists.{get_lt, get_some, some_same}
 use Rattle.px_server.specs.Kept.{has_told}
@@ -110,7 +110,7 @@ module _ (sound : Type 0) where
   items_fair k whole n at [] m to h = record { told = λ tell. absurd (false≢true tell); balanced = λ go. subst IsBalanced (sym (own_none k.seat n m k.seen h.0)) balanced-none }
   items_fair k whole n at (i ∷ is) m to h =
       let last = i.evidence.last in
-      let one = fair sound (after last k) whole n (own_since k.seat n (take last k.seen)) at.settings h.0 (answer_of i h.2) h.4.right in
+      let one = fair sound (known_after last k) whole n (own_since k.seat n (take last k.seen)) at.settings h.0 (answer_with i h.2) h.4.right in
       let others = items_fair k whole last (onward h.2 h.0 h.1) is m to h.5 in
       let low : n ≤ last = (let a = h.4.begins in let b = h.4.ends in omega arith) in
       let high : last ≤ m = forward k last (onward h.2 h.0 h.1) is m to h.5 in
@@ -119,7 +119,7 @@ module _ (sound : Type 0) where
         balanced = λ go. (let none = or_none (is_fatal i.reply) (has_fatal is) go in balanced_then k.seat n last m k.seen low high (one.balanced none.0) (others.balanced none.1));
       }
 
-  session_fair : (k : Known) (from to : ℕ) (st : SessionState) (ps : List SeenPiece) (t : Transcript) (st' : SessionState) (e : Ending) → k.damaged ≡ undamaged → IsAnswered sound k from to st ps t st' e → AreFair k from to t.items
+  session_fair : (k : Known) (from to : ℕ) (st : SessionState) (ps : List SeenPiece) (t : Transcript) (st' : SessionState) (e : Ending) → k.damaged ≡ undamaged → IsSessionAnswered sound k from to st ps t st' e → AreFair k from to t.items
   session_fair k from to st ps t st' e whole h =
       let items = items_fair k whole from (at_first st ps) t.items h.last h.standing h.replied in
       record {
@@ -156,16 +156,16 @@ module _ (sound : Type 0) where
         (λ (past : length states ≤ i). subst IsBalanced (sym (ap outline (h.others (suc i) (inr (omega arith))))) balanced-none)
         (cases_lt i (length states))
 
-    items_next : (ts : List Transcript) (tss : List (List Transcript)) → items_of (in_order (ts ∷ tss)) ≡ items_of ts ++ items_of (in_order tss)
-    items_next ts tss = flat_map-append (λ (t : Transcript). t.items) ts (in_order tss)
+    items_next : (ts : List Transcript) (tss : List (List Transcript)) → items_of (all_transcripts (ts ∷ tss)) ≡ items_of ts ++ items_of (all_transcripts tss)
+    items_next ts tss = flat_map-append (λ (t : Transcript). t.items) ts (all_transcripts tss)
 
-    any_next : (p : Item → Bool) (ts : List Transcript) (tss : List (List Transcript)) → list_any p (items_of (in_order (ts ∷ tss))) ≡ (list_any p (items_of ts) || list_any p (items_of (in_order tss)))
-    any_next p ts tss = ap (list_any p) (items_next ts tss) ∙ list_any-append p (items_of ts) (items_of (in_order tss))
+    any_next : (p : Item → Bool) (ts : List Transcript) (tss : List (List Transcript)) → list_any p (items_of (all_transcripts (ts ∷ tss))) ≡ (list_any p (items_of ts) || list_any p (items_of (all_transcripts tss)))
+    any_next p ts tss = ap (list_any p) (items_next ts tss) ∙ list_any-append p (items_of ts) (items_of (all_transcripts tss))
 
     pub rounds_told : (from number : ℕ) (states : List SessionState) (rounds : List (List SessionText)) (tss : List (List Transcript)) (to : ℕ) (states' : List SessionState) (memory : Bool) → AreRounds sound k from number states rounds tss to states' memory
-        → some_refused_by is_of_disk (items_of (in_order tss)) ≡ true → has_told k.seen ≡ true
+        → some_refused_by is_of_disk (items_of (all_transcripts tss)) ≡ true → has_told k.seen ≡ true
     rounds_told from number states [] [] to states' memory h tell = absurd (false≢true tell)
-    rounds_told from number states (r ∷ rs) (ts ∷ tss) to states' memory h tell = or_elim (some_refused_by is_of_disk (items_of ts)) (some_refused_by is_of_disk (items_of (in_order tss)))
+    rounds_told from number states (r ∷ rs) (ts ∷ tss) to states' memory h tell = or_elim (some_refused_by is_of_disk (items_of ts)) (some_refused_by is_of_disk (items_of (all_transcripts tss)))
         (λ here. round_told from h.0 number states r ts h.1 memory h.2 here)
         (λ more. rounds_told h.0 (number + 1) h.1 rs tss to states' memory h.3 more)
         (sym (any_next (λ (i : Item). refused_by is_of_disk i.reply) ts tss) ∙ tell)
@@ -179,10 +179,10 @@ module _ (sound : Type 0) where
     rounds_forward from number states (r ∷ rs) [] to states' memory h = absurd h
 
     pub rounds_balanced : (from number : ℕ) (states : List SessionState) (rounds : List (List SessionText)) (tss : List (List Transcript)) (to : ℕ) (states' : List SessionState) (memory : Bool) → AreRounds sound k from number states rounds tss to states' memory
-        → has_fatal (items_of (in_order tss)) ≡ false → (seat : ℕ) → IsBalanced (own_since seat from (take to k.seen))
+        → has_fatal (items_of (all_transcripts tss)) ≡ false → (seat : ℕ) → IsBalanced (own_since seat from (take to k.seen))
     rounds_balanced from number states [] [] to states' memory h go seat = subst IsBalanced (sym (own_none seat from to k.seen h.0)) balanced-none
     rounds_balanced from number states (r ∷ rs) (ts ∷ tss) to states' memory h go seat =
-        let none = or_none (has_fatal (items_of ts)) (has_fatal (items_of (in_order tss))) (sym (any_next (λ (i : Item). is_fatal i.reply) ts tss) ∙ go) in
+        let none = or_none (has_fatal (items_of ts)) (has_fatal (items_of (all_transcripts tss))) (sym (any_next (λ (i : Item). is_fatal i.reply) ts tss) ∙ go) in
         balanced_then seat from h.0 to k.seen h.2.forward (rounds_forward h.0 (number + 1) h.1 rs tss to states' memory h.3)
         (round_balanced from h.0 number states r ts h.1 memory h.2 none.0 seat)
         (rounds_balanced h.0 (number + 1) h.1 rs tss to states' memory h.3 none.1 seat)
@@ -233,7 +233,7 @@ module _ (sound : Type 0) where
   unfolding AreSpans
   one_span k n st i is p rest (next_is.Next st') r more = ((r.statement, inl more.0), λ none. (r.statement, more.0))
   one_span k n st i is p rest (next_is.Again st') r more =
-      let way = again_only (answer_of i (next_is.Again st')) st' refl sound (after i.evidence.last k) n (own_since k.seat n (take i.evidence.last k.seen)) st p r.right in
+      let way = again_only (answer_with i (next_is.Again st')) st' refl sound (known_after i.evidence.last k) n (own_since k.seat n (take i.evidence.last k.seen)) st p r.right in
       let next = behind_commit (span_of p) (map span_of rest) is (more.1 way.none) in
       ((r.statement, inr (next.0, next.1, way.reply, next.2, next.3, next.4)), λ none. absurd (way.held none))
 
@@ -275,13 +275,13 @@ module _ (sound : Type 0) where
       at : (i : ℕ) (st : SessionState) (t : Transcript) (st' : SessionState) → slice_get states i ≡ Some st → slice_get ts i ≡ Some t → slice_get states' i ≡ Some st' → IsWhole (text_in round (i + 1)) t × (st'.stopped ≡ false)
       at i st t st' e f g = whole_session (as_seat (i + 1) k) from to number st (text_in round (i + 1)) t st' memory enough (goes i st e) (none_at (λ (t : Transcript). has_fatal t.items) ts i t (any_of (λ (j : Item). is_fatal j.reply) ts ∙ go) f) (h.each i st t st' e f g)
 
-  pub whole_rounds : (k : Known) (n from number : ℕ) (states : List SessionState) (rounds : List (List SessionText)) (tss : List (List Transcript)) (to : ℕ) (states' : List SessionState) (memory : Bool) → memory ≡ false → length states ≡ n → AreGoing states → has_fatal (items_of (in_order tss)) ≡ false
+  pub whole_rounds : (k : Known) (n from number : ℕ) (states : List SessionState) (rounds : List (List SessionText)) (tss : List (List Transcript)) (to : ℕ) (states' : List SessionState) (memory : Bool) → memory ≡ false → length states ≡ n → AreGoing states → has_fatal (items_of (all_transcripts tss)) ≡ false
       → AreRounds sound k from number states rounds tss to states' memory → AreWholeRounds n rounds tss
   whole_rounds k n from number states [] [] to states' memory enough count goes go h = tt
   whole_rounds k n from number states (r ∷ rs) (ts ∷ tss) to states' memory enough count goes go h =
-      let both : has_fatal (items_of (in_order (ts ∷ tss))) ≡ (has_fatal (items_of ts) || has_fatal (items_of (in_order tss))) =
-      ap has_fatal (flat_map-append (λ (t : Transcript). t.items) ts (in_order tss)) ∙ list_any-append (λ (i : Item). is_fatal i.reply) (items_of ts) (items_of (in_order tss)) in
-      let none = or_none (has_fatal (items_of ts)) (has_fatal (items_of (in_order tss))) (sym both ∙ go) in
+      let both : has_fatal (items_of (all_transcripts (ts ∷ tss))) ≡ (has_fatal (items_of ts) || has_fatal (items_of (all_transcripts tss))) =
+      ap has_fatal (flat_map-append (λ (t : Transcript). t.items) ts (all_transcripts tss)) ∙ list_any-append (λ (i : Item). is_fatal i.reply) (items_of ts) (items_of (all_transcripts tss)) in
+      let none = or_none (has_fatal (items_of ts)) (has_fatal (items_of (all_transcripts tss))) (sym both ∙ go) in
       let one = whole_round k from h.0 number states r ts h.1 memory enough goes none.0 h.2 in
       (subst (λ (m : ℕ). IsWholeRound m r ts) count one.0, whole_rounds k n h.0 (number + 1) h.1 rs tss to states' memory enough (h.2.count' ∙ count) one.1 none.1 h.3)
   whole_rounds k n from number states [] (ts ∷ tss) to states' memory enough count goes go h = absurd h

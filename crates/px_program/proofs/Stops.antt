@@ -13,7 +13,7 @@ use Rattle.px_region.specs.Region.{data_of}
 use Rattle.px_catalog.specs.Catalogue.{HasCatalogue, standing_of}
 use Rattle.px_catalog.specs.declared.catalog.Catalog.{Catalog}
 use Rattle.px_recovery.specs.Base.{IsSound, IsSoundFolder, base_of}
-use Rattle.px_recovery.specs.Folder.{AreFresh, FolderData, IsKept, PartStands, StandsFor, StandsOn, from, owns, part_of}
+use Rattle.px_recovery.specs.Folder.{AreFresh, FolderData, IsFileOfPart, IsKeptPart, PartStands, StandsFor, StandsOn, from, part_of}
 use Rattle.px_folder.specs.Read.{IsReadOn}
 use Rattle.px_folder.proofs.Same.{one_base}
 use Rattle.px_opening.specs.Opened.{all_regions, folder_in}
@@ -81,7 +81,7 @@ module _ {D : Type 0} (d : DiskGhosts D) (tell : ℕ → Type 0) (disk : D) wher
 stands_left : {D : Type 0} (d : DiskGhosts D) → ((x : D) (moment file : ℕ) (bytes : List ℕ) → d.left x moment file bytes → moment ≤ d.calls x) → (disk : D) (f : FolderData) → StandsOn d disk f
     → (moment : ℕ) (image : Image) → d.calls disk ≤ moment → IsLeft d disk moment image → StandsFor image f
 stands_left d up_to_now disk f k moment image since left = record {
-  parts = all_now d owns PartStands up_to_now (IsKept f.standing) (part_of f) disk k.parts moment image since left;
+  parts = all_now d IsFileOfPart PartStands up_to_now (IsKeptPart f.standing) (part_of f) disk k.parts moment image since left;
   fresh = λ file own.
       let up = up_to_now disk moment file (image file) (left file) in
       let same : moment ≡ d.calls disk = omega arith in

@@ -25,7 +25,7 @@ use Rattle.px_verify.specs.declared.answer.ReportFault.{ReportFault}
 use Rattle.px_verify.specs.declared.answer.ReportFault.TheVariants as unread
 use Rattle.px_verify.specs.declared.answer.Reported.{Reported}
 use Rattle.px_verifying.specs.Faults.{build_fault, definition_fault, report_fault}
-use Rattle.px_verifying.specs.Turns.{BuildRefused, DefinitionRefused, HasBegun, HasRebuilt, HasReported, HaveDone, IsOutcome, IsUnfinished, MayHaveRebuilt, MayHaveReported, ReportRefused, WasRefused, to_rebuild, to_report_again}
+use Rattle.px_verifying.specs.Turns.{BuildRefused, DefinitionRefused, HasBegunRebuilding, HasRebuilt, HasReported, HaveDone, IsUnfinished, IsVerificationOutcome, MayHaveRebuilt, MayHaveReported, ReportRefused, WasPartRefused, to_rebuild, to_report_again}
 use Rattle.px_verifying.specs.declared.answer.Reports.{Reports}
 use Rattle.px_verifying.specs.declared.answer.Unfinished.{Unfinished}
 use Rattle.px_verifying.specs.declared.answer.VerifyFault.{VerifyFault}
@@ -34,11 +34,11 @@ use Rattle.px_reply.specs.Refusals.{cause_of}
 use Rattle.px_reply.specs.declared.reply.Reply.{Reply}
 use Rattle.px_reply.specs.declared.transcript.Transcript.{Transcript}
 use Rattle.px_session.specs.Replies.{is_fatal, own_since}
-use Rattle.px_rounds.specs.Turns.{GoesOn, as_seat}
+use Rattle.px_rounds.specs.Turns.{TrailGoesOn, as_seat}
 use Rattle.px_server.specs.Kept.{has_told}
 use Rattle.px_verified.specs.declared.asked.Verification.{Verification}
 use Rattle.px_verified.specs.Verified as verified
-use Rattle.px_verified.specs.Verified.{HasVerified, IsRight, refusal_of, told}
+use Rattle.px_verified.specs.Verified.{HasVerified, IsRightVerification, refusal_of, told_of_verification}
 use Rattle.px_program.specs.Answers.{AnswersVerification, one_item}
 use Rattle.px_program.specs.Run.{undamaged}
 use Rattle.px_program.specs.Status.{is_of_disk, refused_by}
@@ -52,7 +52,7 @@ module _ (sound : Type 0) (t : TableId) (i : IndexId) (k : Known) where
   report_balanced n own None none = subst IsBalanced (sym none) balanced-none
   report_balanced n own (Some a) h = subst IsBalanced (sym h.outcome.1) (balanced-point t _ true)
 
-  begun_balanced : (n : ℕ) (own : List Act) (m : Made) → HasBegun n t i own k m → IsBalanced own
+  begun_balanced : (n : ℕ) (own : List Act) (m : Made) → HasBegunRebuilding n t i own k m → IsBalanced own
   begun_balanced n own m h = subst IsBalanced (sym h.outcome.one) (balanced-definition (d.Rebuilding t i) m)
 
   rebuilt_balanced : (n : ℕ) (own : List Act) (o : Option Made) → MayHaveRebuilt sound n t i own k o → IsBalanced own
@@ -77,12 +77,12 @@ module _ (sound : Type 0) (t : TableId) (i : IndexId) (k : Known) where
   unbuilt_balanced : (n : ℕ) (own : List Act) (f : VerifyFault) → BuildRefused sound n t i own k f → IsBalanced own
   unbuilt_balanced n own f h = subst IsBalanced (sym h.own_is) (balanced-append h.first h.rest (begun_balanced n h.first h.again h.begun) (tried_balanced t i h.rest h.outcome.1))
 
-  refused_balanced : (n : ℕ) (v : VerifyKind) (own : List Act) (x : Reports) (f : VerifyFault) → WasRefused sound n t i v own k x f → IsBalanced own
+  refused_balanced : (n : ℕ) (v : VerifyKind) (own : List Act) (x : Reports) (f : VerifyFault) → WasPartRefused sound n t i v own k x f → IsBalanced own
   refused_balanced n v own x f (inl h) = unreported_balanced n own f h.1
   refused_balanced n v own x f (inr (inl h)) = ⊎_elim (λ r. undefined_balanced (to_rebuild n x) own f r) (λ r. unbuilt_balanced (to_rebuild n x) own f r) h.1
   refused_balanced n v own x f (inr (inr h)) = unreported_balanced (to_report_again n x) own f h.1
 
-  pub outcome_balanced : (n : ℕ) (v : VerifyKind) (own : List Act) (r : Result Reports Unfinished) → IsOutcome sound n t i v own k r → IsBalanced own
+  pub outcome_balanced : (n : ℕ) (v : VerifyKind) (own : List Act) (r : Result Reports Unfinished) → IsVerificationOutcome sound n t i v own k r → IsBalanced own
   outcome_balanced n v own (Ok x) h = done_balanced n own x h.1
   outcome_balanced n v own (Err u) h = subst IsBalanced (sym h.own_is) (balanced-append h.finished h.last (done_balanced n h.finished u.done h.done) (refused_balanced n v h.last u.done u.fault h.refused))
 
@@ -99,7 +99,7 @@ module _ (sound : Type 0) (k : Known) (whole : k.damaged ≡ undamaged) (v : Ver
   report_tells t i (unread.Closed call) is tell = closed_by call k.seen is
   report_tells t i f is tell = absurd (false≢true tell)
 
-  define_tells : (t : TableId) (i : IndexId) (f : DefineFault) → define.FaultIs (d.Rebuilding t i) f k → Tells (definition_fault f)
+  define_tells : (t : TableId) (i : IndexId) (f : DefineFault) → define.DefinitionFaultIs (d.Rebuilding t i) f k → Tells (definition_fault f)
   unfolding Tells
   define_tells t i undone.ReadFault is tell = told_by k.seat (Missed is.0) k.seen refl is.1
   define_tells t i undone.WriteFault is tell = told_by k.seat (Shut is.0) k.seen refl is.1
@@ -107,7 +107,7 @@ module _ (sound : Type 0) (k : Known) (whole : k.damaged ≡ undamaged) (v : Ver
   define_tells t i (undone.Closed call) is tell = closed_by call k.seen is
   define_tells t i f is tell = absurd (false≢true tell)
 
-  build_here : (was : Known) → was.damaged ≡ undamaged → (t i : ℕ) (f : BuildFault) → building.FaultIs sound t i f was → is_of_disk (cause_of (refusal_of v (build_fault f))) ≡ true → has_told was.seen ≡ true
+  build_here : (was : Known) → was.damaged ≡ undamaged → (t i : ℕ) (f : BuildFault) → building.BuildFaultIs sound t i f was → is_of_disk (cause_of (refusal_of v (build_fault f))) ≡ true → has_told was.seen ≡ true
   build_here was fine t i unbuilt.ReadFault is tell = told_by was.seat (Missed is.0) was.seen refl is.1
   build_here was fine t i unbuilt.WriteFault is tell = told_by was.seat (Shut is.0) was.seen refl is.1
   build_here was fine t i (unbuilt.Damaged file place) is tell = absurd (undamaged_at was fine file place is)
@@ -118,14 +118,14 @@ module _ (sound : Type 0) (k : Known) (whole : k.damaged ≡ undamaged) (v : Ver
   unfolding Tells
   build_tells n t i f w tell = subst (λ (es : List Entry). has_told es ≡ true) (sym w.past.seen) (told_more w.was.seen w.past.more (build_here w.was (sym w.past.damaged ∙ whole) t i f w.cause tell))
 
-  refused_tells : (t : TableId) (i : IndexId) (n : ℕ) (kind : VerifyKind) (own : List Act) (x : Reports) (f : VerifyFault) → WasRefused sound n t i kind own k x f → Tells f
+  refused_tells : (t : TableId) (i : IndexId) (n : ℕ) (kind : VerifyKind) (own : List Act) (x : Reports) (f : VerifyFault) → WasPartRefused sound n t i kind own k x f → Tells f
   refused_tells t i n kind own x f (inl h) = subst Tells (sym h.1.fault) (report_tells t i h.1.why h.1.outcome.0)
   refused_tells t i n kind own x f (inr (inl h)) = ⊎_elim
       (λ r. subst Tells (sym r.fault) (define_tells t i r.why r.outcome.0))
       (λ r. subst Tells (sym r.fault) (build_tells r.again.at t.0 i.0 r.why r.outcome.0)) h.1
   refused_tells t i n kind own x f (inr (inr h)) = subst Tells (sym h.1.fault) (report_tells t i h.1.why h.1.outcome.0)
 
-  outcome_tells : (t : TableId) (i : IndexId) (n : ℕ) (kind : VerifyKind) (own : List Act) (r : Result Reports Unfinished) → IsOutcome sound n t i kind own k r → refused_by is_of_disk (told v r) ≡ true → has_told k.seen ≡ true
+  outcome_tells : (t : TableId) (i : IndexId) (n : ℕ) (kind : VerifyKind) (own : List Act) (r : Result Reports Unfinished) → IsVerificationOutcome sound n t i kind own k r → refused_by is_of_disk (told_of_verification v r) ≡ true → has_told k.seen ≡ true
   unfolding Tells
   outcome_tells t i n kind own (Ok x) h tell = absurd (false≢true tell)
   outcome_tells t i n kind own (Err u) h tell = refused_tells t i n kind h.last u.done u.fault h.refused tell
@@ -134,7 +134,7 @@ module _ (sound : Type 0) (k : Known) (whole : k.damaged ≡ undamaged) (v : Ver
   still : (own : List Act) (r x : Reply) → r ≡ x → own ≡ [] → (refused_by is_of_disk x ≡ true → has_told k.seen ≡ true) → IsFair k own r
   still own r x is none tells = record { told = λ tell. tells (sym (ap (refused_by is_of_disk) is) ∙ tell); balanced = λ go. subst IsBalanced (sym none) balanced-none }
 
-  pub fair : (from : ℕ) (own : List Act) (r : Reply) → IsRight sound k from own v r → IsFair k own r
+  pub fair : (from : ℕ) (own : List Act) (r : Reply) → IsRightVerification sound k from own v r → IsFair k own r
   fair from own r (verified.is_closed call closed says none) = still own r _ says none (λ tell. closed_by call k.seen closed)
   fair from own r (verified.is_unfound n since within lacks says none) = still own r _ says none (λ tell. absurd (false≢true tell))
   fair from own r (verified.is_not_indexed n f since stood lacks says none) = still own r _ says none (λ tell. absurd (false≢true tell))
@@ -150,7 +150,7 @@ module _ (sound : Type 0) (k k' : Known) (alone : k.alone ≡ true) (nothing : k
   all_new : k'.seen ≡ h.ran.added
   all_new = h.ran.seen ∙ ap (λ (es : List Entry). es ++ h.ran.added) nothing
 
-  pub goes : GoesOn k k'
+  pub goes : TrailGoesOn k k'
   goes = record {
     more = h.ran.added;
     seen = h.ran.seen;
@@ -165,10 +165,10 @@ module _ (sound : Type 0) (k k' : Known) (alone : k.alone ≡ true) (nothing : k
   seat_is : as_seat 1 k' ≡ k'
   seat_is = ap (λ (n : ℕ). record k' { seat = n }) (sym h.ran.seat)
 
-  right : IsRight sound (as_seat 1 k') 0 (own_since 1 0 k'.seen) v r
+  right : IsRightVerification sound (as_seat 1 k') 0 (own_since 1 0 k'.seen) v r
   right =
-      let here : IsRight sound k' 0 (outline h.acts) v r = subst (λ (n : ℕ). IsRight sound k' n (outline h.acts) v r) (ap length nothing) h.right in
-      subst (λ (x : Known). IsRight sound x 0 (own_since 1 0 k'.seen) v r) (sym seat_is) (subst (λ (q : List Act). IsRight sound k' 0 q v r) own here)
+      let here : IsRightVerification sound k' 0 (outline h.acts) v r = subst (λ (n : ℕ). IsRightVerification sound k' n (outline h.acts) v r) (ap length nothing) h.right in
+      subst (λ (x : Known). IsRightVerification sound x 0 (own_since 1 0 k'.seen) v r) (sym seat_is) (subst (λ (q : List Act). IsRightVerification sound k' 0 q v r) own here)
 
   pub answers : (ts : List Transcript) (memory : Bool) (first last : ℕ) → first ≡ length k.seen → last ≡ length k'.seen → ts ≡ one_item 0 r first last → AnswersVerification sound k' 0 v ts memory
   answers ts memory first last from to is = inl (record {

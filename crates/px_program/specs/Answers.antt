@@ -3,7 +3,7 @@ use Rattle.std.specs.Prelude.{ℕ, ◌≡◌, ◌≢◌, ◌<◌, ◌≤◌, ◌
 use Rattle.px_values.specs.declared.limit.Limit.TheVariants as bound
 use Rattle.px_script.specs.declared.script.ScriptFault.{ScriptFault}
 use Rattle.px_script.specs.declared.script.ScriptFault.TheVariants.{TooLong, NotUtf8, Memory}
-use Rattle.px_script.specs.Scripts.{IsReadable, StopsScript, script_of}
+use Rattle.px_script.specs.Scripts.{IsReadableScript, StopsScript, script_of}
 use Rattle.px_trail.specs.Trail.{acts_by}
 use Rattle.px_calls.specs.Known.{Known}
 use Rattle.px_reply.specs.Printed.{printed}
@@ -17,18 +17,18 @@ use Rattle.px_rounds.specs.Rounds.{RanScript}
 use Rattle.px_rounds.specs.Turns.{as_seat}
 use Rattle.px_session.specs.Replies.{own_since}
 use Rattle.px_verified.specs.declared.asked.Verification.{Verification}
-use Rattle.px_verified.specs.Verified.{IsRight}
-use Rattle.px_load.specs.Told.{told}
+use Rattle.px_verified.specs.Verified.{IsRightVerification}
+use Rattle.px_load.specs.Told.{told_of_load}
 use Rattle.px_loaded.specs.Loads.{RanLoad}
 use Rattle.px_program.specs.declared.job.Job.{Job}
 use Rattle.px_program.specs.declared.job.Job.TheVariants.{Script, Verify, Load}
 use Rattle.px_program.specs.declared.replies.Room.{Room}
 
 -- how it is told that nothing of a script is run
-abbrev pub refusal_of : ScriptFault → Refusal
-refusal_of TooLong = refusal.Limit bound.Script
-refusal_of (NotUtf8 place) = refusal.Syntax place
-refusal_of Memory = refusal.Memory
+abbrev pub refusal_of_script : ScriptFault → Refusal
+refusal_of_script TooLong = refusal.Limit bound.Script
+refusal_of_script (NotUtf8 place) = refusal.Syntax place
+refusal_of_script Memory = refusal.Memory
 
 -- an item that rests on no receipt, over a whole text of so many bytes
 abbrev pub item_over : (end : ℕ) → Reply → (first last : ℕ) → Item
@@ -40,7 +40,7 @@ one_item end reply first last = record { session = 1; round = 1; items = item_ov
 
 -- session 1 is told why nothing of the script is run
 abbrev pub stopped_by : ScriptFault → ℕ → List Transcript
-stopped_by fault n = one_item n (Refused (refusal_of fault)) 0 0
+stopped_by fault n = one_item n (Refused (refusal_of_script fault)) 0 0
 
 abbrev pub HasRoomForOne : Room → Type 0
 HasRoomForOne room = (room.transcripts.items ≡ []) × (0 < vec_capacity room.transcripts) × (room.items.items ≡ []) × (0 < vec_capacity room.items)
@@ -54,7 +54,7 @@ pub record IsStopped (k : Known) (from : ℕ) (script : List ℕ) (ts : List Tra
 
 -- the sessions of the script are answered, round by round, by the trail from the place `from` on
 pub record IsAnswered (sound : Type 0) (k : Known) (from : ℕ) (script : List ℕ) (ts : List Transcript) (sink_failed memory : Bool) : Type 0 where
-  pub readable : IsReadable script
+  pub readable : IsReadableScript script
   pub ran : RanScript sound k from (script_of script) ts sink_failed memory
 
 -- the answers to a script
@@ -64,7 +64,7 @@ AnswersScript sound k from script ts sink_failed memory = IsAnswered sound k fro
 -- The index is verified by the seat of session 1, and nobody else acts. Its reply is the one item, right by the trail from the place `from` on
 pub record IsVerified (sound : Type 0) (k : Known) (from : ℕ) (v : Verification) (ts : List Transcript) : Type 0 where
   pub reply : Reply
-  pub right : IsRight sound (as_seat 1 k) from (own_since 1 from k.seen) v reply
+  pub right : IsRightVerification sound (as_seat 1 k) from (own_since 1 from k.seen) v reply
   pub others : (seat : ℕ) → seat ≢ 1 → acts_by seat (drop from k.seen) ≡ []
   pub told : ts ≡ one_item 0 reply from (length k.seen)
 
@@ -87,7 +87,7 @@ AnswersJob sound k from (Load l) ts sink_failed memory = RanLoad sound k from l 
 abbrev pub printed_for : Job → List Transcript → List ℕ
 printed_for (Script script) ts = printed ts
 printed_for (Verify v) ts = printed ts
-printed_for (Load l) ts = told l ts
+printed_for (Load l) ts = told_of_load l ts
 
 -- a load has at most 100,000 rows
 abbrev pub IsWithin : Job → Type 0

@@ -16,7 +16,7 @@ use Rattle.px_reply.specs.declared.reply.Reply.{Reply}
 use Rattle.px_reply.specs.declared.reply.Reply.TheVariants.{Count}
 use Rattle.px_reply.specs.declared.transcript.Item.{Item}
 use Rattle.px_reply.specs.declared.transcript.Transcript.{Transcript}
-use Rattle.px_rounds.specs.Rounds.{AreWithin, in_order, text_in}
+use Rattle.px_rounds.specs.Rounds.{AreWithin, all_transcripts, text_in}
 use Rattle.px_server.specs.Kept.{HasFailed}
 use Rattle.px_session.specs.Replies.{has_fatal}
 use Rattle.px_load.specs.Script.{load_text}
@@ -64,7 +64,7 @@ pub record IsWholeScript (script : List ℕ) (ts : List Transcript) : Type 0 whe
   pub sessions : ℕ
   pub within : AreWithin sessions (script_of script)
   pub rounds : List (List Transcript)
-  pub flat : ts ≡ in_order rounds
+  pub flat : ts ≡ all_transcripts rounds
   pub whole : AreWholeRounds sessions (script_of script) rounds
 
 -- nothing of the script is run, and session 1 is told why

@@ -19,7 +19,7 @@ use Rattle.px_recovery.specs.Kept.{IsLate}
 use Rattle.px_recovery.specs.Stands.{Recovers}
 use Rattle.px_folder.specs.Calls.{AreOpenedBy}
 use Rattle.px_folder.specs.Damage.{IsFirstDamaged}
-use Rattle.px_rounds.specs.Written.{IsWritten}
+use Rattle.px_rounds.specs.Written.{IsTextWritten}
 use Rattle.px_server.specs.Kept.{HasFailed, has_told}
 use Rattle.px_server.specs.Others.{part_files}
 use Rattle.px_server.specs.Started.{StartsSound, StandsBy}
@@ -176,7 +176,7 @@ pub record IsRun {D C I O : Type 0} (d : DiskGhosts D) (c : ClockGhosts C) (s : 
   pub seat : ℕ
   pub sink_failed : Bool
   pub items_are_replied : AnswersJob (IsSoundFolder folder) (known_over (base_of folder) seat left.outcome.trail.entries) 0 job left.outcome.transcripts sink_failed left.outcome.memory
-  pub bytes_are_printed : IsWritten k given.out left.out (printed_for job left.outcome.transcripts) sink_failed left.outcome.memory
+  pub bytes_are_printed : IsTextWritten k given.out left.out (printed_for job left.outcome.transcripts) sink_failed left.outcome.memory
   -- each image that a stop may leave at a moment of the run stands for what was there then, or for this and the one entry under way
   pub stops_recover : StartsSound d given.disk → (moment : ℕ) (image : Image) → IsLeft d left.outcome.disk moment image → Recovers (base_of folder) left.outcome.trail.entries left.outcome.late moment image
   -- and so does each at a moment from the opening's end on, where a stop may lose what reads gave at first; before it a stop leaves the files as at first, but for the catalogue's

@@ -55,13 +55,13 @@ place_in None = None
 abbrev pub damage_of : Reply → Option Place
 damage_of reply = place_in (refusal_in reply)
 
-abbrev pub or_else : Option Place → Option Place → Option Place
-or_else None other = other
-or_else (Some p) other = Some p
+abbrev pub place_or_else : Option Place → Option Place → Option Place
+place_or_else None other = other
+place_or_else (Some p) other = Some p
 
 abbrev pub first_damage : List Item → Option Place
 first_damage [] = None
-first_damage (i ∷ items) = or_else (damage_of i.reply) (first_damage items)
+first_damage (i ∷ items) = place_or_else (damage_of i.reply) (first_damage items)
 
 -- the items of all transcripts, in order
 abbrev pub items_of : List Transcript → List Item

@@ -12,7 +12,7 @@ use std::alloc::{AllocError, Global};
 
 /// How it is told that nothing of a script is run.
 fn refusal_of(fault: ScriptFault) -> Refusal
-    ensures { result ≡ spec.refusal_of fault }
+    ensures { result ≡ spec.refusal_of_script fault }
 {
     match fault {
         ScriptFault::TooLong => Refusal::Limit(Limit::Script),

@@ -7,8 +7,8 @@ ghost use Rattle.px_opening.specs.Opened.{IsOpenedRight, folder_in};
 ghost use Rattle.px_opening.specs.declared.fault.OpenFault.TheVariants as fault;
 ghost use Rattle.px_recovery.specs.Base.{IsSoundFolder, base_of};
 ghost use Rattle.px_recovery.specs.Stands.{Recovers};
-ghost use Rattle.px_rounds.specs.Turns.{GoesOn};
-ghost use Rattle.px_rounds.specs.Written.{IsWritten};
+ghost use Rattle.px_rounds.specs.Turns.{TrailGoesOn};
+ghost use Rattle.px_rounds.specs.Written.{IsTextWritten};
 ghost use Rattle.px_server.specs.Others.{BeginsAt, beginning_at};
 ghost use Rattle.px_server.specs.Shown.{known_by};
 ghost use Rattle.px_server.specs.Started.{IsOpenedOn, StartsSound};
@@ -71,9 +71,9 @@ fn serve<
 >(rt: &R, alloc: Global, server: Server<D, C, B>, job: Job, out: &mut O) -> Rounds<Server<D, C, B>>
     requires nothing { server.entries ≡ [] }
     requires within { IsWithin job }
-    ensures goes { GoesOn (known_by B.base B.damaged server) (known_by B.base B.damaged result.server) }
+    ensures goes { TrailGoesOn (known_by B.base B.damaged server) (known_by B.base B.damaged result.server) }
     ensures answered { AnswersJob B.sound (known_by B.base B.damaged result.server) 0 job result.transcripts result.sink_failed result.memory }
-    ensures written { IsWritten ⟦<O as Sink>⟧ out.old out.new (printed_for job result.transcripts) result.sink_failed result.memory }
+    ensures written { IsTextWritten ⟦<O as Sink>⟧ out.old out.new (printed_for job result.transcripts) result.sink_failed result.memory }
 {
     match job {
         Job::Script(script) => {

@@ -2,8 +2,8 @@
 ghost use Rattle.std.specs.Prelude.{◌≡◌, ◌⊎◌, [], true, false};
 ghost use Rattle.px_program.specs.Answers.{AnswersScript, AnswersVerification, stopped_by};
 ghost use Rattle.px_reply.specs.Printed.{printed};
-ghost use Rattle.px_rounds.specs.Turns.{GoesOn};
-ghost use Rattle.px_rounds.specs.Written.{IsWritten};
+ghost use Rattle.px_rounds.specs.Turns.{TrailGoesOn};
+ghost use Rattle.px_rounds.specs.Written.{IsTextWritten};
 
 use crate::replies::{answered, room_for_one, stopped, write_replies};
 use px_outside::Sink;
@@ -41,7 +41,7 @@ fn told<S: Single + Send, O: Sink>(
 ) -> Rounds<S>
     ensures server { result.server ≡ server }
     ensures transcripts { result.transcripts ≡ transcripts }
-    ensures written { IsWritten ⟦<O as Sink>⟧ out.old out.new (printed transcripts) result.sink_failed result.memory }
+    ensures written { IsTextWritten ⟦<O as Sink>⟧ out.old out.new (printed transcripts) result.sink_failed result.memory }
 {
     let (sink_failed, memory) = write_replies(alloc, &transcripts, out);
     Rounds {
@@ -62,7 +62,7 @@ fn refuse<S: Single + Send, O: Sink>(
 ) -> Rounds<S>
     ensures server { result.server ≡ server }
     ensures transcripts { (result.transcripts ≡ stopped_by fault len) ⊎ ((result.transcripts ≡ []) × (result.memory ≡ true)) }
-    ensures written { IsWritten ⟦<O as Sink>⟧ out.old out.new (printed result.transcripts) result.sink_failed result.memory }
+    ensures written { IsTextWritten ⟦<O as Sink>⟧ out.old out.new (printed result.transcripts) result.sink_failed result.memory }
 {
     match stopped(alloc, fault, len) {
         Err(_) => untold(alloc, server),
@@ -81,9 +81,9 @@ pub fn run_script<R: Threads + Wait + Sync, S: Single + Send, O: Sink>(
 ) -> Rounds<S>
     requires alone { (S.known server).alone ≡ true }
     requires nothing { (S.known server).seen ≡ [] }
-    ensures goes { GoesOn (S.known server) (S.known result.server) }
+    ensures goes { TrailGoesOn (S.known server) (S.known result.server) }
     ensures answered { AnswersScript S.sound (S.known result.server) 0 script.now result.transcripts result.sink_failed result.memory }
-    ensures written { IsWritten ⟦<O as Sink>⟧ out.old out.new (printed result.transcripts) result.sink_failed result.memory }
+    ensures written { IsTextWritten ⟦<O as Sink>⟧ out.old out.new (printed result.transcripts) result.sink_failed result.memory }
 {
     match read_script(alloc, script) {
         Ok(rounds) => run_rounds(rt, alloc, &NoGate, server, &rounds, None, out),
@@ -102,9 +102,9 @@ pub fn run_verified<R: Threads + Wait + Sync, S: Single + Send, O: Sink>(
 ) -> Rounds<S>
     requires alone { (S.known server).alone ≡ true }
     requires nothing { (S.known server).seen ≡ [] }
-    ensures goes { GoesOn (S.known server) (S.known result.server) }
+    ensures goes { TrailGoesOn (S.known server) (S.known result.server) }
     ensures answered { AnswersVerification S.sound (S.known result.server) 0 asked result.transcripts result.memory }
-    ensures written { IsWritten ⟦<O as Sink>⟧ out.old out.new (printed result.transcripts) result.sink_failed result.memory }
+    ensures written { IsTextWritten ⟦<O as Sink>⟧ out.old out.new (printed result.transcripts) result.sink_failed result.memory }
 {
     match room_for_one(alloc) {
         Err(_) => {

@@ -2,7 +2,7 @@
 ghost use Rattle.std.specs.Prelude.{◌≡◌, map, option_map, IfOk, IfSome};
 ghost use Rattle.std.specs.String.{string_bytes};
 ghost use Rattle.px_outside.specs.FolderDisk.{folder_calls, folder_faults, folder_first_fault, folder_name};
-ghost use Rattle.px_program.specs.Words.{folder_in};
+ghost use Rattle.px_program.specs.Words.{folder_in_words};
 
 use px_arguments::command_in;
 use px_outside::FolderDisk;
@@ -14,7 +14,7 @@ use std::rt::Files;
 
 /// The folder that the words name, exactly where they are a command.
 fn folder_word(words: &[String]) -> Option<&str>
-    ensures { option_map (λ folder. folder.now) result ≡ folder_in (map string_bytes words.now) }
+    ensures { option_map (λ folder. folder.now) result ≡ folder_in_words (map string_bytes words.now) }
 {
     match command_in(words) {
         Some(command) => Some(command.folder()),
@@ -47,7 +47,7 @@ pub fn folder_disk<R: Files<File = File> + Drop>(
     alloc: Global,
     words: &[String],
 ) -> Result<Option<FolderDisk<R>>, AllocError>
-    ensures named { IfOk result (λ disk. option_map folder_name disk ≡ folder_in (map string_bytes words.now)) }
+    ensures named { IfOk result (λ disk. option_map folder_name disk ≡ folder_in_words (map string_bytes words.now)) }
     ensures fresh { IfOk result (λ disk. IfSome disk (λ d. (folder_calls d ≡ 0) × (folder_faults d ≡ 0) × (folder_first_fault d ≡ 0))) }
 {
     let Some(folder) = folder_word(words) else {

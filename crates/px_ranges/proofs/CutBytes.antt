@@ -7,7 +7,7 @@ use Rattle.std.specs.declared.cmp.Ordering.{Ordering}
 use Rattle.std.specs.declared.cmp.Ordering.TheVariants.{Less, Equal, Greater}
 use Rattle.std.proofs.lemmas.Cmp.{nat_list_cmp_total}
 use Rattle.px_values.specs.declared.row.Value.{Value}
-use Rattle.px_keys.specs.Range.{Begins, IsBetween}
+use Rattle.px_keys.specs.Range.{IsBetween, IsPrefix}
 use Rattle.px_keys.specs.Spelling.{spelled}
 use Rattle.px_keys.specs.declared.parts.KeyColumn.{KeyColumn}
 use Rattle.px_ranges.specs.inner.Cuts.{IsBelow, StandsBefore}
@@ -25,7 +25,7 @@ front_same front g =
     let t = nat_list_cmp_total.antisymm front front in
     let z : ◌≡◌ {A = Ordering} Greater Less = sym g ∙ t ∙ ap ordering_reverse g in cc
 
-begins_itself : (front : List ℕ) → Begins front front
+begins_itself : (front : List ℕ) → IsPrefix front front
 begins_itself front = ([], sym (append-nil front))
 
 from_between : (front : List ℕ) (high : Option (List ℕ)) (key : List ℕ) → IsBetween front high key → IsBelow key high
@@ -41,7 +41,7 @@ below_front : (front : List ℕ) (high : Option (List ℕ)) (key : List ℕ) →
 below_front front None key h l = tt
 below_front front (Some high) key h l = nat_list_cmp_total.trans key front high l h
 
-pub cut_behind : (columns : List KeyColumn) (vs : List Value) (high : Option (List ℕ)) → All (λ b. b < 256) (spelled columns vs) → ((bytes : List ℕ) → All (λ b. b < 256) bytes → IsBetween (spelled columns vs) high bytes ↔ Begins (spelled columns vs) bytes) → (key : List ℕ) → All (λ b. b < 256) key → IsBelow key high ↔ StandsBefore columns key (record { values = vs; behind = true })
+pub cut_behind : (columns : List KeyColumn) (vs : List Value) (high : Option (List ℕ)) → All (λ b. b < 256) (spelled columns vs) → ((bytes : List ℕ) → All (λ b. b < 256) bytes → IsBetween (spelled columns vs) high bytes ↔ IsPrefix (spelled columns vs) bytes) → (key : List ℕ) → All (λ b. b < 256) key → IsBelow key high ↔ StandsBefore columns key (record { values = vs; behind = true })
 cut_behind columns vs high small range key bytes =
     let front = spelled columns vs in (
       λ h. by_order h (slice_cmp nat_cmp key front) refl,
@@ -62,7 +62,7 @@ bytes_before columns vs behind key front e b =
     subst (λ (t : Bool). IsBelow key (Some front) ↔ StandsBefore columns key (record { values = vs; behind = t })) (sym b)
     (subst (λ (bytes : List ℕ). IsBelow key (Some bytes) ↔ StandsBefore columns key (record { values = vs; behind = false })) (sym e) (cut_before columns vs key))
 
-pub bytes_behind : (columns : List KeyColumn) (vs : List Value) (behind : Bool) (front : List ℕ) (high : Option (List ℕ)) → front ≡ spelled columns vs → behind ≡ true → All (λ b. b < 256) front → ((bytes : List ℕ) → All (λ b. b < 256) bytes → IsBetween front high bytes ↔ Begins front bytes) → (key : List ℕ) → All (λ b. b < 256) key → IsBelow key high ↔ StandsBefore columns key (record { values = vs; behind = behind })
+pub bytes_behind : (columns : List KeyColumn) (vs : List Value) (behind : Bool) (front : List ℕ) (high : Option (List ℕ)) → front ≡ spelled columns vs → behind ≡ true → All (λ b. b < 256) front → ((bytes : List ℕ) → All (λ b. b < 256) bytes → IsBetween front high bytes ↔ IsPrefix front bytes) → (key : List ℕ) → All (λ b. b < 256) key → IsBelow key high ↔ StandsBefore columns key (record { values = vs; behind = behind })
 bytes_behind columns vs behind front high e b small range key bytes =
     subst (λ (t : Bool). IsBelow key high ↔ StandsBefore columns key (record { values = vs; behind = t })) (sym b)
-    (cut_behind columns vs high (subst (λ (x : List ℕ). All (λ b. b < 256) x) e small) (subst (λ (x : List ℕ). (bytes : List ℕ) → All (λ b. b < 256) bytes → IsBetween x high bytes ↔ Begins x bytes) e range) key bytes)
+    (cut_behind columns vs high (subst (λ (x : List ℕ). All (λ b. b < 256) x) e small) (subst (λ (x : List ℕ). (bytes : List ℕ) → All (λ b. b < 256) bytes → IsBetween x high bytes ↔ IsPrefix x bytes) e range) key bytes)

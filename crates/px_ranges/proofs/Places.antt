@@ -13,7 +13,7 @@ use Rattle.px_values.specs.declared.row.Value.{Value}
 use Rattle.px_values.specs.declared.row.Value.TheVariants.{Null, Text}
 use Rattle.px_values.specs.declared.order.Direction.{Direction}
 use Rattle.px_values.specs.declared.order.Direction.TheVariants.{Ascending, Descending}
-use Rattle.px_keys.specs.Range.{Begins, IsBetween}
+use Rattle.px_keys.specs.Range.{IsBetween, IsPrefix}
 use Rattle.px_keys.specs.Spelling.{Fits, FitsColumn, IsNullFixed, PartFits, columns_of, directed, part_bytes, plain_bytes, spelled, values_of}
 use Rattle.px_keys.specs.declared.parts.KeyColumn.{KeyColumn}
 use Rattle.px_keys.specs.declared.parts.Part.{Part}
@@ -23,7 +23,7 @@ use Rattle.px_ranges.specs.declared.leading.Span.{Span}
 use Rattle.px_ranges.specs.declared.leading.Leading.{Leading}
 use Rattle.px_ranges.specs.Led.{FirstIsIn, IsFor, IsLed, EdgeIsFor, can_bound}
 use Rattle.std.specs.Bool.{IsTrue}
-use Rattle.px_ranges.specs.inner.Cuts.{Cut, FitsFirst, FitsLeading, FitsSpan, IsBelow, IsInRange, StandsBefore, all_begin, all_end, behind_values, end_of, high_of, is_beyond, low_of, lower_within, span_within, start_of, upper_within}
+use Rattle.px_ranges.specs.inner.Cuts.{Cut, FitsFirst, FitsLeading, FitsSpan, IsBelow, IsKeyInRange, StandsBefore, all_begin, all_end, behind_values, cut_end, high_of, is_beyond, low_of, lower_within, span_within, start_of, upper_within}
 use Rattle.px_ranges.proofs.Ranges.{range_is, low_fits, high_fits}
 use Rattle.px_ranges.proofs.Spans.{bounds_class, first_within, never_first, text_bounds, within_fits}
 
@@ -66,9 +66,9 @@ low_is (d ∷ columns) [] c span l e = ap (λ (x : KeyColumn). start_of x.direct
 low_is (d ∷ columns) (v ∷ vs) c span l e =
     let rest = low_is columns vs c span (omega arith) e in ap (λ (x : Cut). record { values = v ∷ x.values; behind = x.behind }) rest
 
-pub high_is : (columns : List KeyColumn) (vs : List Value) (c : KeyColumn) (span : Span) → length vs < length columns → c ≡ get_or columns (length vs) c → high_of columns vs (Some span) ≡ behind_values vs (end_of c.direction c.may_be_null span.lower span.upper)
+pub high_is : (columns : List KeyColumn) (vs : List Value) (c : KeyColumn) (span : Span) → length vs < length columns → c ≡ get_or columns (length vs) c → high_of columns vs (Some span) ≡ behind_values vs (cut_end c.direction c.may_be_null span.lower span.upper)
 high_is [] vs c span l e = absurd (omega arith)
-high_is (d ∷ columns) [] c span l e = ap (λ (x : KeyColumn). end_of x.direction x.may_be_null span.lower span.upper) (sym e)
+high_is (d ∷ columns) [] c span l e = ap (λ (x : KeyColumn). cut_end x.direction x.may_be_null span.lower span.upper) (sym e)
 high_is (d ∷ columns) (v ∷ vs) c span l e =
     let rest = high_is columns vs c span (omega arith) e in ap (λ (x : Cut). record { values = v ∷ x.values; behind = x.behind }) rest
 
@@ -184,13 +184,13 @@ led_equal columns vs row f g =
     subst (λ (x : Cut). ((StandsBefore columns (spelled columns row) x → ⊥) × StandsBefore columns (spelled columns row) (behind_values vs all_end)) ↔ IsLed (record { equal = vs; span = None }) row) (low_of_equal columns vs f)
     (subst (λ (x : Cut). ((StandsBefore columns (spelled columns row) (low_of columns vs None) → ⊥) × StandsBefore columns (spelled columns row) x) ↔ IsLed (record { equal = vs; span = None }) row) (high_of_equal columns vs f) r)
 
-pub led_span : (columns : List KeyColumn) (vs row : List Value) (c : KeyColumn) (span : Span) → FitsFirst columns vs → IsFor columns vs (Some span) → c ≡ get_or columns (length vs) c → is_beyond c span ≡ false → Fits columns row → (let w = span_within c span in ((StandsBefore columns (spelled columns row) (behind_values vs (start_of c.direction c.may_be_null w.lower w.upper)) → ⊥) × StandsBefore columns (spelled columns row) (behind_values vs (end_of c.direction c.may_be_null w.lower w.upper)))) ↔ IsLed (record { equal = vs; span = Some span }) row
+pub led_span : (columns : List KeyColumn) (vs row : List Value) (c : KeyColumn) (span : Span) → FitsFirst columns vs → IsFor columns vs (Some span) → c ≡ get_or columns (length vs) c → is_beyond c span ≡ false → Fits columns row → (let w = span_within c span in ((StandsBefore columns (spelled columns row) (behind_values vs (start_of c.direction c.may_be_null w.lower w.upper)) → ⊥) × StandsBefore columns (spelled columns row) (behind_values vs (cut_end c.direction c.may_be_null w.lower w.upper)))) ↔ IsLed (record { equal = vs; span = Some span }) row
 led_span columns vs row c span f o e b g =
     let w = span_within c span in
     let l = span_column columns vs span o in
     let is = span_is_for columns vs c span o e in
     let r = range_is columns (record { equal = vs; span = Some w }) row g (leading_fits columns vs c w l e f (within_fits c span is b)) in
-    let q = subst (λ (x : Cut). ((StandsBefore columns (spelled columns row) x → ⊥) × StandsBefore columns (spelled columns row) (behind_values vs (end_of c.direction c.may_be_null w.lower w.upper))) ↔ IsLed (record { equal = vs; span = Some w }) row) (low_is columns vs c w l e)
+    let q = subst (λ (x : Cut). ((StandsBefore columns (spelled columns row) x → ⊥) × StandsBefore columns (spelled columns row) (behind_values vs (cut_end c.direction c.may_be_null w.lower w.upper))) ↔ IsLed (record { equal = vs; span = Some w }) row) (low_is columns vs c w l e)
     (subst (λ (x : Cut). ((StandsBefore columns (spelled columns row) (low_of columns vs (Some w)) → ⊥) × StandsBefore columns (spelled columns row) x) ↔ IsLed (record { equal = vs; span = Some w }) row) (high_is columns vs c w l e) r) in
     let same = first_within (length vs) columns c span row g l e is in (
       λ h. (let k = q.0 h in (k.0, same.1 k.1)),
@@ -209,7 +209,7 @@ start_fits_first columns vs c span f o e b =
     let g = leading_fits columns vs c w l e f (within_fits c span (span_is_for columns vs c span o e) b) in
     subst (λ (x : Cut). FitsFirst columns x.values) (low_is columns vs c w l e) (low_fits columns vs (Some w) g)
 
-pub end_fits_first : (columns : List KeyColumn) (vs : List Value) (c : KeyColumn) (span : Span) → FitsFirst columns vs → IsFor columns vs (Some span) → c ≡ get_or columns (length vs) c → is_beyond c span ≡ false → (let w = span_within c span in FitsFirst columns (vs ++ (end_of c.direction c.may_be_null w.lower w.upper).values))
+pub end_fits_first : (columns : List KeyColumn) (vs : List Value) (c : KeyColumn) (span : Span) → FitsFirst columns vs → IsFor columns vs (Some span) → c ≡ get_or columns (length vs) c → is_beyond c span ≡ false → (let w = span_within c span in FitsFirst columns (vs ++ (cut_end c.direction c.may_be_null w.lower w.upper).values))
 end_fits_first columns vs c span f o e b =
     let w = span_within c span in
     let l = span_column columns vs span o in
@@ -278,14 +278,14 @@ stands_as c bytes false h = by_test (can_bound c.ty (Text bytes)) refl
 pub start_within : (x : Cut) (c : KeyColumn) (span : Span) (l u : Option Edge) → x ≡ start_of c.direction c.may_be_null l u → l ≡ lower_within c span.lower → u ≡ upper_within c span.upper → x ≡ start_of c.direction c.may_be_null (lower_within c span.lower) (upper_within c span.upper)
 start_within x c span l u e f g = e ∙ ap (λ (y : Option Edge). start_of c.direction c.may_be_null y u) f ∙ ap (λ (y : Option Edge). start_of c.direction c.may_be_null (lower_within c span.lower) y) g
 
-pub end_within : (x : Cut) (c : KeyColumn) (span : Span) (l u : Option Edge) → x ≡ end_of c.direction c.may_be_null l u → l ≡ lower_within c span.lower → u ≡ upper_within c span.upper → x ≡ end_of c.direction c.may_be_null (lower_within c span.lower) (upper_within c span.upper)
-end_within x c span l u e f g = e ∙ ap (λ (y : Option Edge). end_of c.direction c.may_be_null y u) f ∙ ap (λ (y : Option Edge). end_of c.direction c.may_be_null (lower_within c span.lower) y) g
+pub end_within : (x : Cut) (c : KeyColumn) (span : Span) (l u : Option Edge) → x ≡ cut_end c.direction c.may_be_null l u → l ≡ lower_within c span.lower → u ≡ upper_within c span.upper → x ≡ cut_end c.direction c.may_be_null (lower_within c span.lower) (upper_within c span.upper)
+end_within x c span l u e f g = e ∙ ap (λ (y : Option Edge). cut_end c.direction c.may_be_null y u) f ∙ ap (λ (y : Option Edge). cut_end c.direction c.may_be_null (lower_within c span.lower) y) g
 
 -- the rows between two such places
-pub between_span : (columns : List KeyColumn) (vs row : List Value) (c : KeyColumn) (span : Span) (low high : Cut) (between : Type 0) → FitsFirst columns vs → IsFor columns vs (Some span) → c ≡ get_or columns (length vs) c → is_beyond c span ≡ false → low ≡ start_of c.direction c.may_be_null (lower_within c span.lower) (upper_within c span.upper) → high ≡ end_of c.direction c.may_be_null (lower_within c span.lower) (upper_within c span.upper) → Fits columns row → (between ↔ ((StandsBefore columns (spelled columns row) (behind_values vs low) → ⊥) × StandsBefore columns (spelled columns row) (behind_values vs high))) → between ↔ IsLed (record { equal = vs; span = Some span }) row
+pub between_span : (columns : List KeyColumn) (vs row : List Value) (c : KeyColumn) (span : Span) (low high : Cut) (between : Type 0) → FitsFirst columns vs → IsFor columns vs (Some span) → c ≡ get_or columns (length vs) c → is_beyond c span ≡ false → low ≡ start_of c.direction c.may_be_null (lower_within c span.lower) (upper_within c span.upper) → high ≡ cut_end c.direction c.may_be_null (lower_within c span.lower) (upper_within c span.upper) → Fits columns row → (between ↔ ((StandsBefore columns (spelled columns row) (behind_values vs low) → ⊥) × StandsBefore columns (spelled columns row) (behind_values vs high))) → between ↔ IsLed (record { equal = vs; span = Some span }) row
 between_span columns vs row c span low high between f o e b l h g is =
     let s = led_span columns vs row c span f o e b g in
-    let t = subst (λ (x : Cut). ((StandsBefore columns (spelled columns row) (behind_values vs x) → ⊥) × StandsBefore columns (spelled columns row) (behind_values vs (end_of c.direction c.may_be_null (lower_within c span.lower) (upper_within c span.upper)))) ↔ IsLed (record { equal = vs; span = Some span }) row) (sym l) s in
+    let t = subst (λ (x : Cut). ((StandsBefore columns (spelled columns row) (behind_values vs x) → ⊥) × StandsBefore columns (spelled columns row) (behind_values vs (cut_end c.direction c.may_be_null (lower_within c span.lower) (upper_within c span.upper)))) ↔ IsLed (record { equal = vs; span = Some span }) row) (sym l) s in
     let u = subst (λ (x : Cut). ((StandsBefore columns (spelled columns row) (behind_values vs low) → ⊥) × StandsBefore columns (spelled columns row) (behind_values vs x)) ↔ IsLed (record { equal = vs; span = Some span }) row) (sym h) t in (
       λ x. u.0 (is.0 x),
       λ x. is.1 (u.1 x),

@@ -13,7 +13,7 @@ use Rattle.px_values.specs.declared.order.Direction.{Direction}
 use Rattle.px_values.specs.declared.row.Value.{Value}
 use Rattle.px_values.specs.declared.row.Value.TheVariants.{Null, Number, Truth, Text}
 use Rattle.px_keys.specs.KeyOrder.{parts_order}
-use Rattle.px_keys.specs.Range.{Begins}
+use Rattle.px_keys.specs.Range.{IsPrefix}
 use Rattle.px_keys.specs.Spelling.{Fits, FitsColumn, part_bytes, spelled}
 use Rattle.px_keys.specs.declared.parts.KeyColumn.{KeyColumn}
 use Rattle.px_keys.proofs.KeyOrders.{spelled_order, part_same}
@@ -21,7 +21,7 @@ use Rattle.px_ranges.specs.declared.leading.Edge.{Edge}
 use Rattle.px_ranges.specs.declared.leading.Span.{Span}
 use Rattle.px_ranges.specs.declared.leading.Leading.{Leading}
 use Rattle.px_ranges.specs.Led.{Inside, IsOver, IsUnder, FirstIsIn, IsLed}
-use Rattle.px_ranges.specs.inner.Cuts.{Cut, FitsFirst, StandsBefore, beside, all_begin, start_of, end_of, within, low_of, high_of, IsInRange, FitsEdge, FitsLeading}
+use Rattle.px_ranges.specs.inner.Cuts.{Cut, FitsFirst, StandsBefore, beside, all_begin, start_of, cut_end, within, low_of, high_of, IsKeyInRange, FitsEdge, FitsLeading}
 
 then_same : (o : Ordering) → ordering_then o Equal ≡ o
 then_same Less = refl
@@ -92,11 +92,11 @@ then_both Less b e = cc
 then_both Equal b e = (refl, e)
 then_both Greater b e = cc
 
-begins_all : (bytes : List ℕ) → Begins [] bytes
+begins_all : (bytes : List ℕ) → IsPrefix [] bytes
 begins_all bytes = (bytes, refl)
 
 -- the key of a row begins with leading values exactly where the row does
-pub begins_front : (columns : List KeyColumn) (row vs : List Value) → Fits columns row → FitsFirst columns vs → Begins (spelled columns vs) (spelled columns row) ↔ (parts_order columns row vs ≡ Equal)
+pub begins_front : (columns : List KeyColumn) (row vs : List Value) → Fits columns row → FitsFirst columns vs → IsPrefix (spelled columns vs) (spelled columns row) ↔ (parts_order columns row vs ≡ Equal)
 begins_front [] [] [] f g = (λ b. refl, λ e. begins_all [])
 begins_front [] (w ∷ row) vs f g = absurd f
 begins_front [] [] (v ∷ vs) f g = absurd g
@@ -203,7 +203,7 @@ up_start w ord f true None upper c s =
     )
 up_start w ord f false None upper c s = (λ n. (λ z. let g = c z in cc, tt), λ i x. not_begun ord f.none x)
 
-up_end : (w : Value) (ord : List Value → Ordering) → IsFirst Ascending w ord → (nullable : Bool) (lower upper : Option Edge) → Earlier ord (end_of Ascending nullable lower upper) ↔ IsUnder upper w
+up_end : (w : Value) (ord : List Value → Ordering) → IsFirst Ascending w ord → (nullable : Bool) (lower upper : Option Edge) → Earlier ord (cut_end Ascending nullable lower upper) ↔ IsUnder upper w
 up_end w ord f nullable lower (Some edge) =
     let e = f.one edge.value in (λ x. subst (λ o. Inside Less edge.included o) e x, λ x. subst (λ o. Inside Less edge.included o) (sym e) x)
 up_end w ord f nullable lower None = (λ x. tt, λ x. inr (refl, f.none))
@@ -219,7 +219,7 @@ down_start w ord f nullable lower (Some edge) =
     )
 down_start w ord f nullable lower None = (λ x. tt, λ i x. not_begun ord f.none x)
 
-down_end : (w : Value) (ord : List Value → Ordering) → IsFirst Descending w ord → (nullable : Bool) (lower upper : Option Edge) → (w ≡ Null → nullable ≡ true) → EdgeSet lower → Earlier ord (end_of Descending nullable lower upper) ↔ ((w ≢ Null) × IsOver lower w)
+down_end : (w : Value) (ord : List Value → Ordering) → IsFirst Descending w ord → (nullable : Bool) (lower upper : Option Edge) → (w ≡ Null → nullable ≡ true) → EdgeSet lower → Earlier ord (cut_end Descending nullable lower upper) ↔ ((w ≢ Null) × IsOver lower w)
 down_end w ord f nullable (Some edge) upper c s =
     let r = reversed_less edge.included (value_order w edge.value) in
     let e = f.one edge.value in (
@@ -241,7 +241,7 @@ down_end w ord f true None upper c s =
     turned Greater e = refl
 down_end w ord f false None upper c s = (λ x. (λ z. let g = c z in cc, tt), λ i. inr (refl, f.none))
 
-in_span : (d : Direction) (w : Value) (ord : List Value → Ordering) → IsFirst d w ord → (nullable : Bool) (lower upper : Option Edge) → (w ≡ Null → nullable ≡ true) → EdgeSet lower → ((Earlier ord (start_of d nullable lower upper) → ⊥) × Earlier ord (end_of d nullable lower upper)) ↔ ((w ≢ Null) × IsOver lower w × IsUnder upper w)
+in_span : (d : Direction) (w : Value) (ord : List Value → Ordering) → IsFirst d w ord → (nullable : Bool) (lower upper : Option Edge) → (w ≡ Null → nullable ≡ true) → EdgeSet lower → ((Earlier ord (start_of d nullable lower upper) → ⊥) × Earlier ord (cut_end d nullable lower upper)) ↔ ((w ≢ Null) × IsOver lower w × IsUnder upper w)
 in_span Ascending w ord f nullable lower upper c s =
     let a = up_start w ord f nullable lower upper c s in
     let b = up_end w ord f nullable lower upper in (λ h. (let x = a.0 h.0 in (x.0, x.1, b.0 h.1)), λ h. (a.1 (h.0, h.1), b.1 h.2))
@@ -353,7 +353,7 @@ start_fits c columns Ascending false None upper e f g = tt
 start_fits c columns Descending n lower (Some edge) e f g = edge_fits c columns edge (not edge.included) g
 start_fits c columns Descending n lower None e f g = tt
 
-end_fits : (c : KeyColumn) (columns : List KeyColumn) (d : Direction) (n : Bool) (lower upper : Option Edge) → c.may_be_null ≡ n → FitsEdge c lower → FitsEdge c upper → FitsFirst (c ∷ columns) (end_of d n lower upper).values
+end_fits : (c : KeyColumn) (columns : List KeyColumn) (d : Direction) (n : Bool) (lower upper : Option Edge) → c.may_be_null ≡ n → FitsEdge c lower → FitsEdge c upper → FitsFirst (c ∷ columns) (cut_end d n lower upper).values
 end_fits c columns Ascending n lower (Some edge) e f g = edge_fits c columns edge edge.included g
 end_fits c columns Ascending n lower None e f g = tt
 end_fits c columns Descending n (Some edge) upper e f g = edge_fits c columns edge edge.included f
@@ -377,7 +377,7 @@ high_fits (c ∷ columns) [] (Some span) g = end_fits c columns c.direction c.ma
 high_fits (c ∷ columns) (v ∷ vs) span g = (g.0, high_fits columns vs span g.1)
 
 -- the range has exactly the keys of the rows that begin so
-pub range_is : (columns : List KeyColumn) (l : Leading) (row : List Value) → Fits columns row → FitsLeading columns l.equal l.span → IsInRange columns l (spelled columns row) ↔ IsLed l row
+pub range_is : (columns : List KeyColumn) (l : Leading) (row : List Value) → Fits columns row → FitsLeading columns l.equal l.span → IsKeyInRange columns l (spelled columns row) ↔ IsLed l row
 range_is columns l row f g =
     let low = before_cut columns row (low_of columns l.equal l.span) f (low_fits columns l.equal l.span g) in
     let high = before_cut columns row (high_of columns l.equal l.span) f (high_fits columns l.equal l.span g) in

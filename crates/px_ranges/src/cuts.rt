@@ -1,7 +1,7 @@
 // Where the keys of a span begin and end.
 ghost use Rattle.std.specs.Prelude.{◌≡◌};
 ghost use Rattle.std.specs.Option.{option_copied};
-ghost use Rattle.px_ranges.specs.inner.Cuts.{cut_of, end_of, start_of};
+ghost use Rattle.px_ranges.specs.inner.Cuts.{cut_end, cut_of, start_of};
 ghost use Rattle.px_values.specs.declared.row.Value.TheVariants.{Null};
 
 use crate::Edge;
@@ -50,7 +50,7 @@ pub(crate) fn end<'a>(
     null: &'a Value,
 ) -> Beside<'a>
     requires { null.now ≡ Null }
-    ensures { cut_of result ≡ end_of column.direction column.may_be_null (option_copied lower.entry) (option_copied upper.entry) }
+    ensures { cut_of result ≡ cut_end column.direction column.may_be_null (option_copied lower.entry) (option_copied upper.entry) }
 {
     match (column.direction, lower, upper) {
         (Direction::Ascending, _, Some(edge)) | (Direction::Descending, Some(edge), _) => Beside {

@@ -24,7 +24,7 @@ use Rattle.px_paths.specs.Paths.{columns_on, index_path, owner_of}
 use Rattle.px_region.specs.Region.{read_of}
 use Rattle.px_rows.specs.Keys.{row_columns, row_key}
 use Rattle.px_rows.specs.Spelled.{row_form}
-use Rattle.px_shown.specs.Told.{IsHolder, IsIndexAt, IsPointOf, keyed_if, reach_of}
+use Rattle.px_shown.specs.Told.{IsHolder, IsIndexAt, IsPointOfTable, keyed_if, reach_of}
 use Rattle.px_shown.proofs.OwnKeys.{spells_rows}
 use Rattle.px_shown.proofs.Owners.{owner_fits, owner_read}
 use Rattle.px_shown.proofs.Points.{row_held}
@@ -125,7 +125,7 @@ module _ (g : Group) (right : IsRightGroup g) (place : ℕ) (x : IndexRegion) (a
   own = row_of_index g.table x.index k
 
   pub holder_is : (cells : List CellData) → IsRow (read_of g.rows) (row_key g.table own) cells → (point : ℕ) (row : RowState) → row ≡ keyed_if g.table x.index own k ((row_form g.table).spelled (value_at cells) own point)
-      → (b : Base) (index : ℕ → IndexForm) (es : List Entry) (v : GroupData) (hs : List HeldBatch) → IsShownBy b index es g v hs → (p : Point) → IsPointOf g.table p → IsIndexAt p x.index → reach_of p ≡ point → horizon_of b g.table.id.0 es ≤ point → IsHolder b es p x.index.id k row
+      → (b : Base) (index : ℕ → IndexForm) (es : List Entry) (v : GroupData) (hs : List HeldBatch) → IsShownBy b index es g v hs → (p : Point) → IsPointOfTable g.table p → IsIndexAt p x.index → reach_of p ≡ point → horizon_of b g.table.id.0 es ≤ point → IsHolder b es p x.index.id k row
   holder_is cells is point row e b index es v hs shown p of index_at reach above =
       let kept = shown.kept.group in
       let spells = spells_rows g.table v.cells right.table (subst (λ (l : List CellData). AreRightRows g.table l) (sym shown.rows) right.rows) in
@@ -140,7 +140,7 @@ module _ (g : Group) (right : IsRightGroup g) (place : ℕ) (x : IndexRegion) (a
 -- the same of the group before, by a row that is the key's
 module _ (g h : Group) (looked : HasLooked g h) (right : IsRightGroup g) (place : ℕ) (x : IndexRegion) (at : slice_get g.indexes.items place ≡ Some x) (k : List ℕ) (key : IsKeyIn g x k) (r : List Value) (r_is : r ≡ row_of_index g.table x.index k) (cells : List CellData) (is : IsRow (read_of g.rows) (row_key g.table r) cells) (point : ℕ) (row : RowState) where
   pub looked_holder : ((y : IndexRegion) → slice_get h.indexes.items place ≡ Some y → row ≡ keyed_if h.table y.index r k ((row_form h.table).spelled (value_at cells) r point))
-      → (b : Base) (index : ℕ → IndexForm) (es : List Entry) (v : GroupData) (hs : List HeldBatch) → IsShownBy b index es g v hs → (p : Point) → IsPointOf g.table p → IsIndexAt p x.index → reach_of p ≡ point → horizon_of b g.table.id.0 es ≤ point → IsHolder b es p x.index.id k row
+      → (b : Base) (index : ℕ → IndexForm) (es : List Entry) (v : GroupData) (hs : List HeldBatch) → IsShownBy b index es g v hs → (p : Point) → IsPointOfTable g.table p → IsIndexAt p x.index → reach_of p ≡ point → horizon_of b g.table.id.0 es ≤ point → IsHolder b es p x.index.id k row
   looked_holder f =
       let y = looked_on g.indexes.items h.indexes.items looked.indexes place x at in
       let e : row ≡ keyed_if g.table x.index r k ((row_form g.table).spelled (value_at cells) r point) = f y.0 y.1.0 ∙ (λ i. keyed_if (looked.table i) (y.1.1.index i) r k ((row_form (looked.table i)).spelled (value_at cells) r point)) in

@@ -13,7 +13,7 @@ use Rattle.px_indexrow.specs.declared.doubt.Repair.{Repair}
 use Rattle.px_keys.specs.Spelling.{Fits}
 use Rattle.px_looks.specs.Found.{at_key}
 use Rattle.px_looks.specs.Stamps.{has_stamp}
-use Rattle.px_looks.specs.Versions.{stamp_seen, value_seen, version_of}
+use Rattle.px_looks.specs.Versions.{stamp_seen, value_seen, version_of_stamp}
 use Rattle.px_looks.specs.declared.version.KeyVersion.{KeyVersion}
 use Rattle.px_openbatches.specs.Pending.{HeldBatch}
 use Rattle.px_region.specs.Region.{read_of}
@@ -94,7 +94,7 @@ module _ (g : Group) (place : ℕ) (d part : IndexRegion) (is : part ≡ get_or 
       mapped h [] = refl
       mapped h (x ∷ xs) = ap suc (mapped h xs)
 
-      count : (x : IndexRegion) (o : Option ℕ) → IfSome (version_of (at_key (value_at (read_of x.region)) k) x.index.included (max s (horizon_at g x)) o) (λ version. length version.values ≡ length x.index.included)
+      count : (x : IndexRegion) (o : Option ℕ) → IfSome (version_of_stamp (at_key (value_at (read_of x.region)) k) x.index.included (max s (horizon_at g x)) o) (λ version. length version.values ≡ length x.index.included)
       count x None = tt
       count x (Some u) = mapped (λ c. value_seen (at_key (value_at (read_of x.region)) k) (suc (suc c)) (max s (horizon_at g x))) x.index.included
 

@@ -4,9 +4,9 @@ use Rattle.std.specs.Prelude.{is_some, nat_eq}
 use Rattle.std.specs.List.{AllByRecursion, slice_get}
 use Rattle.std.proofs.lemmas.Bool.{and_parts, cases_Bool, eqb-true}
 use Rattle.px_indexrow.specs.Form.{row_of_index}
-use Rattle.px_openbatches.specs.Pending.{HeldBatch, IsHeld, is_in, left_as, left_of}
+use Rattle.px_openbatches.specs.Pending.{HeldBatch, IsHeldBatch, change_left, is_in, left_as}
 use Rattle.px_openbatches.proofs.Flags.{has_is_some}
-use Rattle.px_tablereads.specs.Pending.{is_left_in}
+use Rattle.px_tablereads.specs.Pending.{is_left_among}
 use Rattle.px_tables.specs.declared.index.Index.{Index}
 use Rattle.px_trail.specs.Batches.{Batch, batch_of, change_of, has, rows_of, unwritten}
 use Rattle.px_trail.specs.Trail.{Base, index_of, table_of}
@@ -40,14 +40,14 @@ there_left None v h n = h
 there_left (Some w) true h n = n
 there_left (Some w) false h n = refl
 
-module _ (es : List Entry) (t : ℕ) (h : HeldBatch) (is : IsHeld es t h) (r : List Value) where
+module _ (es : List Entry) (t : ℕ) (h : HeldBatch) (is : IsHeldBatch es t h) (r : List Value) where
   rows_same : has (rows_of is.batch.changes) r ≡ is_some (change_of h.changes r)
   rows_same = has_is_some is.batch.changes r ∙ ap (λ (cs : List Change). is_some (change_of cs r)) is.changes
 
-  pub left_unwritten : is_some (left_of h r) ≡ true → has (unwritten is.batch) r ≡ true
+  pub left_unwritten : is_some (change_left h r) ≡ true → has (unwritten is.batch) r ≡ true
   left_unwritten e = (let z = left_there (change_of h.changes r) (has h.written r) e in filter-has (λ r. not (has is.batch.written r)) (rows_of is.batch.changes) r (rows_same ∙ z.0) (ap not (is.written r) ∙ z.1))
 
-  pub unwritten_left : has (unwritten is.batch) r ≡ true → is_some (left_of h r) ≡ true
+  pub unwritten_left : has (unwritten is.batch) r ≡ true → is_some (change_left h r) ≡ true
   unwritten_left e = (let z = has-filter (λ r. not (has is.batch.written r)) (rows_of is.batch.changes) r e in there_left (change_of h.changes r) (has h.written r) (sym rows_same ∙ z.0) (ap not (sym (is.written r)) ∙ z.1))
 
 -- ---- all of them
@@ -67,20 +67,20 @@ both_true : (a b : Bool) → a ≡ true → b ≡ true → (a && b) ≡ true
 both_true true b h g = g
 both_true false b h g = h
 
-flight_to : (es : List Entry) (t : ℕ) (hs : List HeldBatch) → AllByRecursion (IsHeld es t) hs → (s : ℕ) (r : List Value) → is_left_in hs s r ≡ true → (batch : Batch) × ((batch_of t s es ≡ Some batch) × (has (unwritten batch) r ≡ true))
+flight_to : (es : List Entry) (t : ℕ) (hs : List HeldBatch) → AllByRecursion (IsHeldBatch es t) hs → (s : ℕ) (r : List Value) → is_left_among hs s r ≡ true → (batch : Batch) × ((batch_of t s es ≡ Some batch) × (has (unwritten batch) r ≡ true))
 flight_to es t [] a s r h = absurd (let z : ◌≡◌ {A = Bool} false true = h in cc)
-flight_to es t (x ∷ hs) a s r h = elim (or_cases (nat_eq x.stamp s && is_some (left_of x r)) (is_left_in hs s r) h) [
+flight_to es t (x ∷ hs) a s r h = elim (or_cases (nat_eq x.stamp s && is_some (change_left x r)) (is_left_among hs s r) h) [
   | inl e ↦ (let parts = and_parts _ _ e in (a.0.batch, (subst (λ (u : ℕ). batch_of t u es ≡ Some a.0.batch) (eqb-true x.stamp s parts.0) a.0.is, left_unwritten es t x a.0 r parts.1)))
   | inr e ↦ flight_to es t hs a.1 s r e
 ]
 
-flight_from : (es : List Entry) (t : ℕ) (hs : List HeldBatch) → AllByRecursion (IsHeld es t) hs → (s : ℕ) (r : List Value) → is_in s hs ≡ true → (batch : Batch) → batch_of t s es ≡ Some batch → has (unwritten batch) r ≡ true → is_left_in hs s r ≡ true
+flight_from : (es : List Entry) (t : ℕ) (hs : List HeldBatch) → AllByRecursion (IsHeldBatch es t) hs → (s : ℕ) (r : List Value) → is_in s hs ≡ true → (batch : Batch) → batch_of t s es ≡ Some batch → has (unwritten batch) r ≡ true → is_left_among hs s r ≡ true
 flight_from es t [] a s r i batch is left = i
 flight_from es t (x ∷ hs) a s r i batch is left = elim (or_cases (nat_eq x.stamp s) (is_in s hs) i) [
   | inl e ↦
       (let same : a.0.batch ≡ batch = some_same a.0.batch batch (sym a.0.is ∙ ap (λ (u : ℕ). batch_of t u es) (eqb-true x.stamp s e) ∙ is) in
-      or_here (nat_eq x.stamp s && is_some (left_of x r)) (is_left_in hs s r) (both_true (nat_eq x.stamp s) (is_some (left_of x r)) e (unwritten_left es t x a.0 r (subst (λ (y : Batch). has (unwritten y) r ≡ true) (sym same) left))))
-  | inr e ↦ or_there (nat_eq x.stamp s && is_some (left_of x r)) (is_left_in hs s r) (flight_from es t hs a.1 s r e batch is left)
+      or_here (nat_eq x.stamp s && is_some (change_left x r)) (is_left_among hs s r) (both_true (nat_eq x.stamp s) (is_some (change_left x r)) e (unwritten_left es t x a.0 r (subst (λ (y : Batch). has (unwritten y) r ≡ true) (sym same) left))))
+  | inr e ↦ or_there (nat_eq x.stamp s && is_some (change_left x r)) (is_left_among hs s r) (flight_from es t hs a.1 s r e batch is left)
 ]
 
 -- ---- the doubt's change

@@ -28,7 +28,7 @@ use Rattle.px_values.specs.Limits.{most_key}
 use Rattle.px_group.specs.Group.{IsRightGroup, IsRightPart, IsShownBy, is_built}
 use Rattle.px_group.specs.declared.group.Group.{Group}
 use Rattle.px_group.specs.declared.group.IndexRegion.{IndexRegion}
-use Rattle.px_shown.specs.Told.{IsIndexAt, IsPointOf, reach_of}
+use Rattle.px_shown.specs.Told.{IsIndexAt, IsPointOfTable, reach_of}
 use Rattle.px_shown.proofs.KeyLooks.{keys_shown}
 use Rattle.px_shown.proofs.OwnKeys.{spells_rows}
 use Rattle.px_shown.proofs.Points.{look_keys, look_rows}
@@ -42,7 +42,7 @@ pub part_plain : (g : Group) → IsRightGroup g → (place : ℕ) → place < le
 part_plain g right place there d part is = keys_plain g.table part.index (read_of part.region) (subst (IsRightPart g.table) (sym is) (all_at (IsRightPart g.table) g.indexes.items right.parts place there d)).keys
 
 module _ (g : Group) (right : IsRightGroup g) (low : List ℕ) (high after : Option (List ℕ)) (point : ℕ) (fs : List FoundKey) (next : Option (List ℕ)) where
-  pub rows_found : AreNext (ShowsRow g.table point) (value_at (read_of g.rows)) low high after fs next → (b : Base) (index : ℕ → IndexForm) (es : List Entry) (v : GroupData) (hs : List HeldBatch) → IsShownBy b index es g v hs → (p : Point) → IsPointOf g.table p → reach_of p ≡ point → horizon_of b g.table.id.0 es ≤ point
+  pub rows_found : AreNext (ShowsRow g.table point) (value_at (read_of g.rows)) low high after fs next → (b : Base) (index : ℕ → IndexForm) (es : List Entry) (v : GroupData) (hs : List HeldBatch) → IsShownBy b index es g v hs → (p : Point) → IsPointOfTable g.table p → reach_of p ≡ point → horizon_of b g.table.id.0 es ≤ point
       → (path : Path) → path.by ≡ ByTable → path.low ≡ low → path.high ≡ high → ShowsRows b es p path after fs next
   rows_found n b index es v hs shown p of reach above path by from to =
       let kept = shown.kept.group in
@@ -68,7 +68,7 @@ module _ (g : Group) (right : IsRightGroup g) (low : List ℕ) (high after : Opt
       pub keys_found : (p : Point) → p.found.table ≡ g.table → IsIndexAt p x.index → (path : Path) → path.by ≡ ByIndex x.index.id → path.low ≡ low → path.high ≡ high → Shows p path after fs next
       keys_found p table index path by from to = keys_shown g.table x.index p table index (value_at (read_of x.region)) point path by after fs next (next_at path from to)
 
-      pub index_found : (b : Base) (index : ℕ → IndexForm) (es : List Entry) (v : GroupData) (hs : List HeldBatch) → IsShownBy b index es g v hs → x.index.state ≡ Active → (p : Point) → IsPointOf g.table p → IsIndexAt p x.index → reach_of p ≡ point → max x.index.birth (horizon_of b g.table.id.0 es) ≤ point
+      pub index_found : (b : Base) (index : ℕ → IndexForm) (es : List Entry) (v : GroupData) (hs : List HeldBatch) → IsShownBy b index es g v hs → x.index.state ≡ Active → (p : Point) → IsPointOfTable g.table p → IsIndexAt p x.index → reach_of p ≡ point → max x.index.birth (horizon_of b g.table.id.0 es) ≤ point
           → (path : Path) → path.by ≡ ByIndex x.index.id → path.low ≡ low → path.high ≡ high → ShowsRows b es p path after fs next
       index_found b index es v hs shown active p of index_at reach above path by from to =
           let kept = shown.kept.group in

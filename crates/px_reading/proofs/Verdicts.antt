@@ -8,7 +8,7 @@ use Rattle.px_cells.specs.Rows.{IsRow}
 use Rattle.px_cellshapes.specs.Rows.{AreRightRows}
 use Rattle.px_cellshapes.proofs.RowsRead.{rows_plain, rows_plain_at}
 use Rattle.px_forms.specs.Indexes.{IndexForm, shape_at}
-use Rattle.px_indexrow.specs.Form.{FitsState, column_bytes, included_at, index_form, key_of_state}
+use Rattle.px_indexrow.specs.Form.{FitsRowState, included_at, included_bytes, index_form, key_of_state}
 use Rattle.px_keys.specs.Spelling.{Fits}
 use Rattle.px_looks.proofs.RowCells.{row_is_list, row_is_own, row_is_plain, row_spelled}
 use Rattle.px_rows.specs.Keys.{IsRightTable, row_columns, row_key}
@@ -40,7 +40,7 @@ get_mapped f [] i l = absurd (omega arith)
 get_mapped f (x ∷ xs) zero l = refl
 get_mapped f (x ∷ xs) (suc i) l = get_mapped f xs i (omega arith)
 
-column_state : (t : Table) (x : Index) (o : RowState) (c : ℕ) → state_bytes t o (included_at x c) ≡ column_bytes t x o c
+column_state : (t : Table) (x : Index) (o : RowState) (c : ℕ) → state_bytes t o (included_at x c) ≡ included_bytes t x o c
 column_state t x None c = refl
 column_state t x (Some row) c = refl
 
@@ -56,7 +56,7 @@ module _ (t : Table) (x : Index) (r : List Value) (cells : List CellData) (k : L
         keyed = ap (λ (o : RowState). is_key_in k (key_of_state t x r o)) state_is ∙ sym (own_is k short);
         count = ap length same ∙ count;
         seen_are = λ c l. ap (λ (vs : List (Option (List ℕ))). get_or vs c None) same ∙ b.values_are c l;
-        values_are = λ c l. ap (λ (vs : List (Option (List ℕ))). get_or vs c None) values_is ∙ get_mapped (state_bytes t state) x.included c l ∙ column_state t x state c ∙ ap (λ (o : RowState). column_bytes t x o c) (sym state_is);
+        values_are = λ c l. ap (λ (vs : List (Option (List ℕ))). get_or vs c None) values_is ∙ get_mapped (state_bytes t state) x.included c l ∙ column_state t x state c ∙ ap (λ (o : RowState). included_bytes t x o c) (sym state_is);
       }
 
 -- ---- the row of a key, with its cells
@@ -67,5 +67,5 @@ row_is_of t r cells all table right fits is = record {
   list = row_is_list all cells (row_key t r) is (rows_plain t all right);
   own = row_is_own all cells (row_key t r) is;
   plain = row_is_plain all cells (row_key t r) is (rows_plain_at t all right (row_key t r));
-  typed = λ p. subst (FitsState t) (sym (row_spelled all cells (row_key t r) is t r p refl)) ((spells_rows t all table right).typed r p);
+  typed = λ p. subst (FitsRowState t) (sym (row_spelled all cells (row_key t r) is t r p refl)) ((spells_rows t all table right).typed r p);
 }

@@ -6,7 +6,7 @@ use Rattle.px_cells.specs.Contents.{value_at}
 use Rattle.px_cells.specs.declared.kind.CellKind.TheVariants.{Put}
 use Rattle.px_looks.specs.Found.{AreNext, RowContents, at_key}
 use Rattle.px_looks.specs.IndexKeys.{ShowsKey, found_at, found_of, found_with}
-use Rattle.px_looks.specs.Versions.{is_verified, stamp_seen, value_seen, version_at, version_of}
+use Rattle.px_looks.specs.Versions.{is_verified, stamp_seen, value_seen, version_at, version_of_stamp}
 use Rattle.px_region.specs.Region.{read_of}
 use Rattle.px_tables.specs.declared.index.Index.{Index}
 use Rattle.px_tables.specs.declared.table.Table.{Table}
@@ -22,9 +22,9 @@ module _ (t : Table) (x : Index) (k : List ℕ) (values : List Value) (h : RowCo
   by_status stored s true vs = refl
   by_status stored s false vs = (refl, refl)
 
-  by_stamp : (o : Option ℕ) (f : FoundKey) → found_of t x k values h p o ≡ Some f → IsOfVersion (version_of h x.included p o) f
+  by_stamp : (o : Option ℕ) (f : FoundKey) → found_of t x k values h p o ≡ Some f → IsOfVersion (version_of_stamp h x.included p o) f
   by_stamp None f e = absurd (let z : ◌≡◌ {A = Option FoundKey} None (Some f) = e in cc)
-  by_stamp (Some s) f e = subst (IsOfVersion (version_of h x.included p (Some s))) (found_is (found_with t x k values (λ q. value_seen h q p) s (is_verified (h 1 s Put))) f e) (by_status (λ q. value_seen h q p) s (is_verified (h 1 s Put)) (map (λ c. value_seen h (suc (suc c)) p) x.included))
+  by_stamp (Some s) f e = subst (IsOfVersion (version_of_stamp h x.included p (Some s))) (found_is (found_with t x k values (λ q. value_seen h q p) s (is_verified (h 1 s Put))) f e) (by_status (λ q. value_seen h q p) s (is_verified (h 1 s Put)) (map (λ c. value_seen h (suc (suc c)) p) x.included))
 
   -- what is shown of a key is of the version that the point sees of it
   of_version : (f : FoundKey) → found_at t x k values h p ≡ Some f → IsOfVersion (version_at h x.included p) f

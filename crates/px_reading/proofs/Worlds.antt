@@ -8,7 +8,7 @@ use Rattle.px_cells.specs.CellData.{CellData}
 use Rattle.px_cells.specs.Contents.{value_at}
 use Rattle.px_cells.specs.Rows.{IsRow}
 use Rattle.px_forms.specs.Indexes.{IndexForm, shape_at}
-use Rattle.px_groupworld.specs.Group.{GroupData, GroupKept, index_in, no_part, shape_in, world_in}
+use Rattle.px_groupworld.specs.Group.{GroupData, GroupKept, indexed_at, no_part, shape_in, world_in}
 use Rattle.px_indexed.proofs.Looks.{vis_is}
 use Rattle.px_indexrow.specs.Form.{included_at, index_form, key_of_state, owns}
 use Rattle.px_openbatches.specs.Pending.{HeldBatch}
@@ -17,7 +17,7 @@ use Rattle.px_phases.proofs.Left.{left_same}
 use Rattle.px_region.specs.Region.{read_of}
 use Rattle.px_rows.specs.Keys.{row_key}
 use Rattle.px_rows.specs.Spelled.{row_form}
-use Rattle.px_tablereads.specs.Pending.{is_left_in}
+use Rattle.px_tablereads.specs.Pending.{is_left_among}
 use Rattle.px_tablereads.proofs.Fates.{new_seen, state_seen, undecided_is}
 use Rattle.px_tablereads.proofs.Tells.{written_seen}
 use Rattle.px_trail.specs.Trail.{Base}
@@ -28,7 +28,7 @@ use Rattle.px_world.specs.Events.{Leave, ToVerify, ToRetire, ToErase, due}
 use Rattle.px_world.specs.Shape.{all_below, has_key, same_cell, shows}
 use Rattle.px_world.specs.World.{Fate, Unbegun, Undecided, Written, Lost, World, horizon, is_undecided, is_written, st, vis}
 use Rattle.px_looks.specs.Found.{at_key}
-use Rattle.px_looks.specs.Versions.{stamp_seen, value_seen, version_at, version_of}
+use Rattle.px_looks.specs.Versions.{stamp_seen, value_seen, version_at, version_of_stamp}
 use Rattle.px_looks.specs.declared.version.KeyVersion.{KeyVersion}
 use Rattle.px_looks.specs.Stamps.{has_stamp}
 use Rattle.px_looks.proofs.RowCells.{row_spelled}
@@ -42,7 +42,7 @@ use Rattle.px_reading.specs.Doubts.{IsBelow, IsToldBy, above_verdict, horizon_at
 
 -- ---- open batches
 
-pub pending_same : (s : ℕ) (r : List Value) (ms : List Begun) (hs : List HeldBatch) → AreHeldAs (map batch_in ms) hs → list_any (is_left_of s r) ms ≡ is_left_in hs s r
+pub pending_same : (s : ℕ) (r : List Value) (ms : List Begun) (hs : List HeldBatch) → AreHeldAs (map batch_in ms) hs → list_any (is_left_of s r) ms ≡ is_left_among hs s r
 pending_same s r [] [] a = refl
 pending_same s r [] (h ∷ hs) a = absurd a
 pending_same s r (m ∷ ms) [] a = absurd a
@@ -135,14 +135,14 @@ module _ (b : Base) (index : ℕ → IndexForm) (es : List Entry) (g : Group) (v
         let p : max s (horizon_at g x) ≡ horizon_at g x = omega arith in
         by (stamp_seen (at_key (value_at (read_of x.region)) key) 1 (horizon_at g x)) (ap (λ (n : ℕ). version_at (at_key (value_at (read_of x.region)) key) x.index.included n) (sym p) ∙ e)
       where
-        by : (o : Option ℕ) → version_of (at_key (value_at (read_of x.region)) key) x.index.included (horizon_at g x) o ≡ Some version → version.values ≡ map (λ c. value_seen (at_key (value_at (read_of x.region)) key) (suc (suc c)) (horizon_at g x)) x.index.included
+        by : (o : Option ℕ) → version_of_stamp (at_key (value_at (read_of x.region)) key) x.index.included (horizon_at g x) o ≡ Some version → version.values ≡ map (λ c. value_seen (at_key (value_at (read_of x.region)) key) (suc (suc c)) (horizon_at g x)) x.index.included
         by None e = absurd (let z : ◌≡◌ {A = Option KeyVersion} None (Some version) = e in cc)
         by (Some u) e = ap (λ (z : KeyVersion). z.values) (sym (same_version _ version e))
 
     module _ (mine : owns g.table x.index r key ≡ true) (there : place < length v.indexes) where
       vis_at : (c : ℕ) → c < length x.index.included → vis w key (horizon_at g x) c ≡ value_seen (at_key (value_at (read_of x.region)) key) (suc (suc (included_at x.index c))) (horizon_at g x)
       vis_at c l =
-          vis_is (row_form g.table).shape b es g.table.id.0 v.high (index_in (form_of b index g) v place) r key (ap (λ (z : IndexForm). z.owns r key) form ∙ mine) c (subst (λ (z : IndexForm). c < z.columns) (sym form) l) (horizon_at g x)
+          vis_is (row_form g.table).shape b es g.table.id.0 v.high (indexed_at (form_of b index g) v place) r key (ap (λ (z : IndexForm). z.owns r key) form ∙ mine) c (subst (λ (z : IndexForm). c < z.columns) (sym form) l) (horizon_at g x)
           ∙ (λ i. value_seen (at_key (value_at ((shown.parts place x at).cells i)) key) ((form i).place c) (horizon_at g x))
 
       pub below : (version : KeyVersion) → version_seen g x key s ≡ Some version → is_pending g s r ≡ false → s ≤ horizon_at g x → IsBelow g.table x.index r cells key s (horizon_at g x) (max x.index.birth x.region.horizon) version.values w

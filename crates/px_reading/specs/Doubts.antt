@@ -6,7 +6,7 @@ use Rattle.px_cells.specs.Contents.{value_at}
 use Rattle.px_cells.specs.Order.{IsCellList}
 use Rattle.px_forms.specs.Indexes.{IndexForm}
 use Rattle.px_groupworld.specs.Group.{GroupData, no_part}
-use Rattle.px_indexrow.specs.Form.{FitsState, bytes_if}
+use Rattle.px_indexrow.specs.Form.{FitsRowState, bytes_if}
 use Rattle.px_keys.specs.Reading.{IsKey}
 use Rattle.px_keys.specs.Spelling.{Fits}
 use Rattle.px_looks.specs.Found.{at_key}
@@ -67,7 +67,7 @@ pub record IsRowOf (t : Table) (r : List Value) (cells : List CellData) : Type 0
   pub list : IsCellList cells
   pub own : AreOf (row_key t r) cells
   pub plain : IsPlainAt (value_at cells) (row_key t r)
-  pub typed : (p : ℕ) → FitsState t ((row_form t).spelled (value_at cells) r p)
+  pub typed : (p : ℕ) → FitsRowState t ((row_form t).spelled (value_at cells) r p)
 
 -- the bytes of a column's value, none of NULL
 abbrev pub state_bytes : Table → RowState → ℕ → Option (List ℕ)

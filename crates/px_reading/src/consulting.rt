@@ -11,7 +11,7 @@ ghost use Rattle.px_cells.specs.Rows.{IsRow};
 ghost use Rattle.px_region.specs.Region.{read_of};
 ghost use Rattle.px_rows.specs.Keys.{IsRightTable, row_key};
 ghost use Rattle.px_rows.specs.Spelled.{row_form};
-ghost use Rattle.px_shown.specs.Told.{IsHolder, IsIndexAt, IsPointOf, keyed_if, reach_of};
+ghost use Rattle.px_shown.specs.Told.{IsHolder, IsIndexAt, IsPointOfTable, keyed_if, reach_of};
 ghost use Rattle.px_calls.specs.declared.query.Point.{Point as PointData};
 ghost use Rattle.px_trail.specs.Trail.{Base, horizon_of};
 ghost use Rattle.px_trail.specs.declared.entry.Entry.{Entry as Entries};
@@ -137,7 +137,7 @@ pub fn consult<D: Disk>(
     requires there { place < length group.old.indexes.items }
     requires key { (x : Part) → slice_get group.old.indexes.items place ≡ Some x → IsKeyIn group.old x key.now }
     ensures leave { IfOk result (λ c. (x : Part) → slice_get group.old.indexes.items place ≡ Some x → (c.verdict ≡ Leave) ↔ (is_pending group.old stamp (row_of_index group.old.table x.index key.now) ≡ true)) }
-    ensures row { IfOk result (λ c. (x : Part) → slice_get group.old.indexes.items place ≡ Some x → (b : Base) (index : ℕ → IndexForm) (es : List Entries) (v : GroupData) (hs : List HeldBatch) → IsShownBy b index es group.old v hs → (p : PointData) → IsPointOf group.old.table p → IsIndexAt p x.index → reach_of p ≡ point → horizon_of b group.old.table.id.0 es ≤ point → IsHolder b es p x.index.id key.now c.row) }
+    ensures row { IfOk result (λ c. (x : Part) → slice_get group.old.indexes.items place ≡ Some x → (b : Base) (index : ℕ → IndexForm) (es : List Entries) (v : GroupData) (hs : List HeldBatch) → IsShownBy b index es group.old v hs → (p : PointData) → IsPointOfTable group.old.table p → IsIndexAt p x.index → reach_of p ≡ point → horizon_of b group.old.table.id.0 es ≤ point → IsHolder b es p x.index.id key.now c.row) }
     ensures due { IfOk result (λ c. (x : Part) → slice_get group.old.indexes.items place ≡ Some x → (b : Base) (index : ℕ → IndexForm) (es : List Entries) (v : GroupData) (hs : List HeldBatch) → IsTallied b es group.old hs → IsShownBy b index es group.old v hs → IsToldBy b index es group.old v → (stamp ≤ horizon_at group.old x → version_seen group.old x key.now stamp ≢ None) → verdict_of c.verdict ≡ due (shape_in (form_of b index group.old) v place (row_of_index group.old.table x.index key.now)) (world_in (form_of b index group.old) es v place (row_of_index group.old.table x.index key.now)) key.now stamp) }
     ensures looked { HasLooked group.old group.new }
     ensures counted { group.new.rows.looked ≤ group.old.rows.looked + 1 }

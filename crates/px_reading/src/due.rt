@@ -6,7 +6,7 @@ ghost use Rattle.px_cells.specs.Contents.{value_at};
 ghost use Rattle.px_cells.specs.Rows.{IsRow};
 ghost use Rattle.px_forms.specs.Indexes.{IndexForm, shape_at};
 ghost use Rattle.px_groupworld.specs.Group.{GroupData, shape_in, world_in};
-ghost use Rattle.px_indexrow.specs.Form.{FitsState, IsRightIndex, index_form, key_of_state, row_of_index};
+ghost use Rattle.px_indexrow.specs.Form.{FitsRowState, IsRightIndex, index_form, key_of_state, row_of_index};
 ghost use Rattle.px_indexrow.specs.Verdicts.{verdict_of};
 ghost use Rattle.px_indexrow.specs.declared.doubt.Repair.TheVariants.{Leave};
 ghost use Rattle.px_keys.specs.Spelling.{Fits};
@@ -64,7 +64,7 @@ fn key_if(
     requires table { IsRightTable table.now }
     requires index { IsRightIndex table.now index.now }
     requires fits { Fits (row_columns table.now) row.now }
-    requires state { FitsState table.now state.now }
+    requires state { FitsRowState table.now state.now }
     ensures { IfOk result (λ key. (k : List ℕ) → length k ≤ most_key → is_key_in k key ≡ is_key_in k (key_of_state table.now index.now row.now state.now)) }
 {
     let Some(values) = state else {
@@ -85,7 +85,7 @@ fn bytes_of(
     place: u8,
 ) -> Result<Option<Items<u8>>, AllocError>
     requires within { place < length table.now.columns }
-    requires state { FitsState table.now state.now }
+    requires state { FitsRowState table.now state.now }
     ensures { IfOk result (λ bytes. bytes ≡ state_bytes table.now state.now place) }
 {
     let Some(row) = state else {
@@ -108,7 +108,7 @@ fn values_of(
     state: &Option<Row>,
 ) -> Result<Vec<Option<Items<u8>>>, AllocError>
     requires within { (c : ℕ) → c < length included.now → get_or included.now c 0 < length table.now.columns }
-    requires state { FitsState table.now state.now }
+    requires state { FitsRowState table.now state.now }
     ensures { IfOk result (λ values. values.items ≡ map (λ c. state_bytes table.now state.now c) included.now) }
 {
     let mut values = Vec::with_capacity(alloc, included.len())?;
@@ -131,7 +131,7 @@ pub(crate) fn has_key(
     requires table { IsRightTable table.now }
     requires index { IsRightIndex table.now index.now }
     requires fits { Fits (row_columns table.now) row.now }
-    requires state { FitsState table.now state.now }
+    requires state { FitsRowState table.now state.now }
     requires short { length key.now ≤ most_key }
     ensures { IfOk result (λ has. has ≡ is_key_in key.now (key_of_state table.now index.now row.now state.now)) }
 {

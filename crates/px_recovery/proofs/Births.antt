@@ -29,13 +29,13 @@ use Rattle.px_groupworld.proofs.Births.{group_born}
 use Rattle.px_groupworld.proofs.Entries.{group_idle}
 use Rattle.px_tablefolder.specs.Folder.{IndexFiles, IsFilesOf, last_cell, no_files}
 use Rattle.px_region.specs.Region.{RegionData}
-use Rattle.px_schema.specs.Stands.{IsBelowNext, above, after}
+use Rattle.px_schema.specs.Stands.{IsBelowNext, above, stands_after}
 use Rattle.px_schema.specs.declared.item.CatalogItem.TheVariants.{IndexIs}
 use Rattle.px_schema.specs.declared.standing.Standing.{Standing}
 use Rattle.px_schema.proofs.Numbers.{below_next}
 use Rattle.px_recovery.specs.Folder.{AreUnmade, FolderData, no_data, with_standing}
 use Rattle.px_recovery.specs.Stands.{AreNumbered, Explains, TellsCatalogue, opened_index}
-use Rattle.px_recovery.specs.Tables.{HasIndex, TellsTable, form_in, form_of, index_files, index_in, indexes_of, number_of, number_of_index, region_of_index, table_in}
+use Rattle.px_recovery.specs.Tables.{HasTableIndex, TellsTable, form_of_index, form_of_table, index_files, index_in, indexes_of, number_of_index, number_of_part, region_of_index, table_in}
 use Rattle.px_recovery.proofs.Ends.{distinct_end, get_end_new, get_end_old, index_below, index_end_here, index_end_other, indexes_end_other, indexes_end_own, none_end, none_under, put_end}
 use Rattle.px_recovery.proofs.Forms.{other_forms, same_table}
 use Rattle.px_recovery.proofs.Notes.{last_step_up}
@@ -86,7 +86,7 @@ module _ (b : Base) (es : List Entry) (f : FolderData) (unmade : AreUnmade f) (v
   abbrev grown : Standing
   grown = record { next = above s.next (s.next ∷ i.0 ∷ []); tables = s.tables; indexes = s.indexes ++ y ∷ [] }
 
-  grown_is : after s (IndexIs y) ≡ grown
+  grown_is : stands_after s (IndexIs y) ≡ grown
   grown_is = λ k. record { next = above s.next (s.next ∷ i.0 ∷ []); tables = s.tables; indexes = put_end s.indexes y none_id k }
 
   next_is : grown.next ≡ s.next + 2
@@ -138,7 +138,7 @@ module _ (b : Base) (es : List Entry) (f : FolderData) (unmade : AreUnmade f) (v
       let here = told.tables q z at in
       let num = found_number s.tables q z at in
       same_table b es es' f grown z (v q) here
-      (group_idle (form_of b s.indexes z) es (v q) here.kept e may (act_idle z.id e (subst (λ (a : Act). IsElsewhere z.id a) (sym is) tt))).kept
+      (group_idle (form_of_table b s.indexes z) es (v q) here.kept e may (act_idle z.id e (subst (λ (a : Act). IsElsewhere z.id a) (sym is) tt))).kept
       (last_up z.id.0) (λ n w stood its. stays n w stood)
       (indexes_end_other z.id.0 s.indexes y (λ same. apart (sym num ∙ (sym same ∙ ap (λ (k : TableId). k.0) of_table))))
 
@@ -151,7 +151,7 @@ module _ (b : Base) (es : List Entry) (f : FolderData) (unmade : AreUnmade f) (v
   here = told.tables t.0 x found
 
   abbrev form : TableForm
-  form = form_of b grown.indexes x
+  form = form_of_table b grown.indexes x
 
   abbrev born : GroupData
   born = born_data i.0 stamp w
@@ -160,11 +160,11 @@ module _ (b : Base) (es : List Entry) (f : FolderData) (unmade : AreUnmade f) (v
   part = record { id = i.0; cells = []; birth = stamp; horizon = 0; is_built = false }
 
   kept_before : GroupKept form es w
-  kept_before = other_forms (form_of b s.indexes x) (λ n. form_in x (index_in grown.indexes n)) es w
-      (λ j l. (let h = here.stand j l in ap (form_in x) (stays (get_or w.indexes j no_part).id h.0 h.1.0 ∙ sym h.1.0))) here.kept
+  kept_before = other_forms (form_of_table b s.indexes x) (λ n. form_of_index x (index_in grown.indexes n)) es w
+      (λ j l. (let h = here.stand j l in ap (form_of_index x) (stays (get_or w.indexes j no_part).id h.0 h.1.0 ∙ sym h.1.0))) here.kept
 
-  form_is : form_in x (index_in grown.indexes i.0) ≡ index_form x y
-  form_is = ap (form_in x) (index_end_here s.indexes y i.0 refl none_id)
+  form_is : form_of_index x (index_in grown.indexes i.0) ≡ index_form x y
+  form_is = ap (form_of_index x) (index_end_here s.indexes y i.0 refl none_id)
 
   drawn_now : stamp ≤ last_of b x.id.0 es'
   drawn_now =
@@ -266,19 +266,19 @@ module _ (b : Base) (es : List Entry) (f : FolderData) (unmade : AreUnmade f) (v
         subst (λ (z : IndexFiles). (z.birth ≤ most) × (last_cell z.cells ≤ most)) (sym (file_new q at)) (drawn_now, no_cell)
   ]
 
-  none_twice : (xs : List IndexPart) → ((j : ℕ) → j < length xs → (get_or xs j no_part).id ≢ i.0) → HasNone number_of i.0 xs
+  none_twice : (xs : List IndexPart) → ((j : ℕ) → j < length xs → (get_or xs j no_part).id ≢ i.0) → HasNone number_of_part i.0 xs
   none_twice [] each = tt
   none_twice (p ∷ xs) each = (each 0 (omega arith), none_twice xs (λ j l. each (suc j) (omega arith)))
 
-  stand_now : (j : ℕ) → j < length born.indexes → HasIndex grown.indexes x.id.0 (get_or born.indexes j no_part).id
+  stand_now : (j : ℕ) → j < length born.indexes → HasTableIndex grown.indexes x.id.0 (get_or born.indexes j no_part).id
   stand_now j l = elim (cases_lt j (length w.indexes)) [
     | inl m ↦
         let h = here.stand j m in
-        subst (λ (p : IndexPart). HasIndex grown.indexes x.id.0 p.id) (sym (get_end_old w.indexes part no_part j m)) (h.0, (stays (get_or w.indexes j no_part).id h.0 h.1.0, h.1.1))
+        subst (λ (p : IndexPart). HasTableIndex grown.indexes x.id.0 p.id) (sym (get_end_old w.indexes part no_part j m)) (h.0, (stays (get_or w.indexes j no_part).id h.0 h.1.0, h.1.1))
     | inr m ↦
         let n = born_long in
         let at : j ≡ length w.indexes = omega arith in
-        subst (λ (p : IndexPart). HasIndex grown.indexes x.id.0 p.id) (sym (get_end_new w.indexes part no_part j at)) (y, (index_end_here s.indexes y i.0 refl none_id, table_is))
+        subst (λ (p : IndexPart). HasTableIndex grown.indexes x.id.0 p.id) (sym (get_end_new w.indexes part no_part j at)) (y, (index_end_here s.indexes y i.0 refl none_id, table_is))
   ]
 
   tells_own : TellsTable b es' (with_standing grown f) x born
@@ -292,7 +292,7 @@ module _ (b : Base) (es : List Entry) (f : FolderData) (unmade : AreUnmade f) (v
       others = subst (λ (l : List IndexFiles). (q : ℕ) → q < length l → (get_or l q no_files).is_active ≡ false → ((get_or l q no_files).birth ≤ most) × (last_cell (get_or l q no_files).cells ≤ most)) (sym (ap files stood_is)) others_now;
     };
     placed = here.placed;
-    once = distinct_end number_of w.indexes part here.once (none_twice w.indexes (λ j l same. (let h = here.stand j l in stood_other (get_or w.indexes j no_part).id h.0 h.1.0 (sym same))));
+    once = distinct_end number_of_part w.indexes part here.once (none_twice w.indexes (λ j l same. (let h = here.stand j l in stood_other (get_or w.indexes j no_part).id h.0 h.1.0 (sym same))));
     stand = stand_now;
   }
 
@@ -305,7 +305,7 @@ module _ (b : Base) (es : List Entry) (f : FolderData) (unmade : AreUnmade f) (v
     | inr other ↦ subst (λ (d : GroupData). TellsTable b es' (with_standing grown f) z d) (sym (with_part-other v t.0 born q other)) (tells_other q z other at)
   ]
 
-  pub index_made : Explains b es' (with_standing (after s (IndexIs y)) f) (with_part v t.0 born)
+  pub index_made : Explains b es' (with_standing (stands_after s (IndexIs y)) f) (with_part v t.0 born)
   index_made = subst (λ (k : Standing). Explains b es' (with_standing k f) (with_part v t.0 born)) (sym grown_is) (record {
     legal = legal-snoc b es e told.legal may;
     catalogue = subst (λ (k : Catalogue). TellsCatalogue grown k) (sym (catalogue-snoc b es e ∙ ap (catalogue_step c) is)) catalogue_grown;

@@ -19,7 +19,7 @@ use Rattle.px_tables.specs.declared.index.Index.{Index}
 use Rattle.px_tables.specs.declared.table.TableRegion.{TableRegion}
 use Rattle.px_tablefolder.specs.Folder.{IndexFiles}
 use Rattle.px_region.specs.Region.{RegionData, with_batch}
-use Rattle.px_recovery.specs.Tables.{IsOneOf, cells_in, horizon_in, index_files, is_active, number_of_region, region_of_index}
+use Rattle.px_recovery.specs.Tables.{IsRegionAmong, cells_of_regions, horizon_in, index_files, is_active, number_of_region, region_of_index}
 
 -- ---- what is settled
 
@@ -75,7 +75,7 @@ over_assoc f g h = λ i k q s d. or_assoc (f k q s d) (g k q s d) (h k q s d) i
 
 -- ---- a batch in one region of a table
 
-pub not_one : (n : ℕ) (gs : List TableRegion) → HasNone number_of_region n gs → IsOneOf n gs → ⊥
+pub not_one : (n : ℕ) (gs : List TableRegion) → HasNone number_of_region n gs → IsRegionAmong n gs → ⊥
 not_one n [] none one = one
 not_one n (g ∷ gs) none (inl is) = none.0 is
 not_one n (g ∷ gs) none (inr one) = not_one n gs none.1 one
@@ -88,10 +88,10 @@ module _ (regions : ℕ → RegionData) (n : ℕ) (s : RegionData) where
   now_here m is = subst (λ (k : ℕ). now k ≡ s) (sym is) (with_part-here regions n s)
 
   -- the regions of others stay
-  pub cells_else : (gs : List TableRegion) → HasNone number_of_region n gs → cells_in now gs ≡ cells_in regions gs
-  unfolding cells_in
+  pub cells_else : (gs : List TableRegion) → HasNone number_of_region n gs → cells_of_regions now gs ≡ cells_of_regions regions gs
+  unfolding cells_of_regions
   cells_else [] none = refl
-  cells_else (g ∷ gs) none = ap (λ (x : RegionData). x.cells ++ cells_in now gs) (with_part-other regions n s g.number none.0) ∙ ap (λ (l : List CellData). (regions g.number).cells ++ l) (cells_else gs none.1)
+  cells_else (g ∷ gs) none = ap (λ (x : RegionData). x.cells ++ cells_of_regions now gs) (with_part-other regions n s g.number none.0) ∙ ap (λ (l : List CellData). (regions g.number).cells ++ l) (cells_else gs none.1)
 
   pub horizon_else : (gs : List TableRegion) → HasNone number_of_region n gs → horizon_in now gs ≡ horizon_in regions gs
   unfolding horizon_in
@@ -119,23 +119,23 @@ module _ (regions : ℕ → RegionData) (n : ℕ) (s : RegionData) where
 
   -- the cells are those of the batch over what there was
   module _ (reg : List ℕ → ℕ) (batch : List CellData) (reads : value_at s.cells ≡ over_contents (value_at batch) (value_at (regions n).cells)) (mine : AllByRecursion (λ c. reg c.key ≡ n) batch) where
-    pub cells_written : (gs : List TableRegion) → IsOneOf n gs → AreDistinct number_of_region gs → AllByRecursion (λ g. AllByRecursion (λ c. reg c.key ≡ g.number) (regions g.number).cells) gs
-        → value_at (cells_in now gs) ≡ over_contents (value_at batch) (value_at (cells_in regions gs))
-    unfolding cells_in
+    pub cells_written : (gs : List TableRegion) → IsRegionAmong n gs → AreDistinct number_of_region gs → AllByRecursion (λ g. AllByRecursion (λ c. reg c.key ≡ g.number) (regions g.number).cells) gs
+        → value_at (cells_of_regions now gs) ≡ over_contents (value_at batch) (value_at (cells_of_regions regions gs))
+    unfolding cells_of_regions
     cells_written [] one distinct placed = absurd one
     cells_written (g ∷ gs) (inl is) distinct placed =
-        let rest : cells_in now gs ≡ cells_in regions gs = cells_else gs (subst (λ (k : ℕ). HasNone number_of_region k gs) is distinct.0) in
+        let rest : cells_of_regions now gs ≡ cells_of_regions regions gs = cells_else gs (subst (λ (k : ℕ). HasNone number_of_region k gs) is distinct.0) in
         let first : value_at (now g.number).cells ≡ over_contents (value_at batch) (value_at (regions g.number).cells) =
         ap (λ (x : RegionData). value_at x.cells) (now_here g.number is) ∙ (reads ∙ ap (λ (k : ℕ). over_contents (value_at batch) (value_at (regions k).cells)) (sym is)) in
-        values_append (now g.number).cells (cells_in now gs)
-        ∙ (ap (λ (c : Contents). over_contents c (value_at (cells_in now gs))) first
+        values_append (now g.number).cells (cells_of_regions now gs)
+        ∙ (ap (λ (c : Contents). over_contents c (value_at (cells_of_regions now gs))) first
         ∙ (ap (λ (l : List CellData). over_contents (over_contents (value_at batch) (value_at (regions g.number).cells)) (value_at l)) rest
-        ∙ (over_assoc (value_at batch) (value_at (regions g.number).cells) (value_at (cells_in regions gs))
-        ∙ ap (λ (c : Contents). over_contents (value_at batch) c) (sym (values_append (regions g.number).cells (cells_in regions gs))))))
+        ∙ (over_assoc (value_at batch) (value_at (regions g.number).cells) (value_at (cells_of_regions regions gs))
+        ∙ ap (λ (c : Contents). over_contents (value_at batch) c) (sym (values_append (regions g.number).cells (cells_of_regions regions gs))))))
     cells_written (g ∷ gs) (inr one) distinct placed =
         let other : g.number ≢ n = (λ is. not_one n gs (subst (λ (k : ℕ). HasNone number_of_region k gs) is distinct.0) one) in
-        values_append (now g.number).cells (cells_in now gs)
-        ∙ (ap (λ (x : RegionData). over_contents (value_at x.cells) (value_at (cells_in now gs))) (with_part-other regions n s g.number other)
+        values_append (now g.number).cells (cells_of_regions now gs)
+        ∙ (ap (λ (x : RegionData). over_contents (value_at x.cells) (value_at (cells_of_regions now gs))) (with_part-other regions n s g.number other)
         ∙ (ap (λ (c : Contents). over_contents (value_at (regions g.number).cells) c) (cells_written gs one distinct.1 placed.1)
-        ∙ (over_swap reg g.number n (regions g.number).cells batch (value_at (cells_in regions gs)) other placed.0 mine
-        ∙ ap (λ (c : Contents). over_contents (value_at batch) c) (sym (values_append (regions g.number).cells (cells_in regions gs))))))
+        ∙ (over_swap reg g.number n (regions g.number).cells batch (value_at (cells_of_regions regions gs)) other placed.0 mine
+        ∙ ap (λ (c : Contents). over_contents (value_at batch) c) (sym (values_append (regions g.number).cells (cells_of_regions regions gs))))))

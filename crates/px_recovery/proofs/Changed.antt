@@ -13,12 +13,12 @@ use Rattle.px_tables.specs.declared.table.TableRegion.{TableRegion}
 use Rattle.px_trail.specs.declared.entry.Entry.{Entry}
 use Rattle.px_trail.specs.Trail.{Base, last_of}
 use Rattle.px_indexed.proofs.Regions.{none_above}
-use Rattle.px_groupworld.specs.Group.{GroupData, GroupKept, IndexPart, TableForm, index_in as index_at, no_part}
+use Rattle.px_groupworld.specs.Group.{GroupData, GroupKept, IndexPart, TableForm, indexed_at, no_part}
 use Rattle.px_tablefolder.specs.Folder.{IndexFiles, IsFilesOf, last_cell, no_files}
 use Rattle.px_tablefolder.proofs.Stamped.{cells_within}
 use Rattle.px_region.specs.Region.{RegionData}
 use Rattle.px_recovery.specs.Folder.{FolderData, with_region}
-use Rattle.px_recovery.specs.Tables.{AreInRegion, TellsTable, cells_in, form_of, horizon_in, index_files, indexes_of, is_active, number_of, number_of_region, region_of_index, table_files}
+use Rattle.px_recovery.specs.Tables.{AreInRegion, TellsTable, cells_of_regions, form_of_table, horizon_in, index_files, indexes_of, is_active, number_of_part, number_of_region, region_of_index, table_files}
 use Rattle.px_recovery.proofs.Cells.{cells_else, horizon_else, indexes_else}
 use Rattle.px_recovery.proofs.Tables.{AllStanding, at_map, distinct_set, folder_next, one_place, placed_else, standing_set}
 
@@ -30,10 +30,10 @@ pub record IsChanged (old new : IndexPart) (before s : RegionData) : Type 0 wher
   pub horizon : old.horizon ≡ before.horizon → new.horizon ≡ s.horizon
   pub reads : value_at new.cells ≡ value_at s.cells
 
-module _ (b : Base) (es es' : List Entry) (f : FolderData) (x : Table) (v v' : GroupData) (tells : TellsTable b es f x v) (kept : GroupKept (form_of b f.standing.indexes x) es' v') (last : last_of b x.id.0 es ≤ last_of b x.id.0 es')
+module _ (b : Base) (es es' : List Entry) (f : FolderData) (x : Table) (v v' : GroupData) (tells : TellsTable b es f x v) (kept : GroupKept (form_of_table b f.standing.indexes x) es' v') (last : last_of b x.id.0 es ≤ last_of b x.id.0 es')
     (high : v.high ≤ v'.high) (n : ℕ) (s : RegionData) where
   abbrev form : TableForm
-  form = form_of b f.standing.indexes x
+  form = form_of_table b f.standing.indexes x
 
   abbrev f' : FolderData
   f' = with_region n s f
@@ -48,9 +48,9 @@ module _ (b : Base) (es es' : List Entry) (f : FolderData) (x : Table) (v v' : G
     unfolding horizon_in
     horizon_here = ap (horizon_in f'.regions) only ∙ (ap (λ (r : RegionData). max r.horizon 0) region_here ∙ omega arith)
 
-    cells_here : cells_in f'.regions x.regions ≡ s.cells
-    unfolding cells_in
-    cells_here = ap (cells_in f'.regions) only ∙ (ap (λ (r : RegionData). r.cells ++ []) region_here ∙ append-nil s.cells)
+    cells_here : cells_of_regions f'.regions x.regions ≡ s.cells
+    unfolding cells_of_regions
+    cells_here = ap (cells_of_regions f'.regions) only ∙ (ap (λ (r : RegionData). r.cells ++ []) region_here ∙ append-nil s.cells)
 
     placed_here : AllByRecursion (λ g. AreInRegion x g.number (f'.regions g.number).cells) x.regions
     placed_here = subst (λ (gs : List TableRegion). AllByRecursion (λ g. AreInRegion x g.number (f'.regions g.number).cells) gs) (sym only)
@@ -61,7 +61,7 @@ module _ (b : Base) (es es' : List Entry) (f : FolderData) (x : Table) (v v' : G
       kept = kept;
       files = folder_next form es es' v v' (table_files f x) (table_files f' x) tells.files (horizon_here ∙ sym low) (ap value_at cells_here ∙ sym reads) (indexes_else f.regions n s (indexes_of x.id.0 f.standing.indexes) apart) indexes high last;
       placed = placed_here;
-      once = subst (λ (l : List IndexPart). AreDistinct number_of l) (sym indexes) tells.once;
+      once = subst (λ (l : List IndexPart). AreDistinct number_of_part l) (sym indexes) tells.once;
       stand = subst (λ (l : List IndexPart). AllStanding f.standing.indexes x.id.0 l) (sym indexes) tells.stand;
     }
 
@@ -98,7 +98,7 @@ module _ (b : Base) (es es' : List Entry) (f : FolderData) (x : Table) (v v' : G
         let e : get_or (table_files f x).indexes place no_files ≡ index_files f.regions i = old_at place there ∙ ap (index_files f.regions) at in
         let o = tells.files.active place (old_inside place there) (ap (λ (y : IndexFiles). y.is_active) e ∙ a) in
         let m : IsFilesOf (get_or v.indexes o.0 no_part) (index_files f.regions i) = subst (λ (y : IndexFiles). IsFilesOf (get_or v.indexes o.0 no_part) y) e o.1.1 in
-        let k : o.0 ≡ j = one_place number_of v.indexes o.0 j no_part tells.once o.1.0 lt (m.id ∙ sym id) in
+        let k : o.0 ≡ j = one_place number_of_part v.indexes o.0 j no_part tells.once o.1.0 lt (m.id ∙ sym id) in
         subst (λ (k : ℕ). IsFilesOf (get_or v.indexes k no_part) (index_files f.regions i)) k m
 
     here_new : is_active i.state ≡ true → IsFilesOf new (index_files f'.regions i)
@@ -172,7 +172,7 @@ module _ (b : Base) (es es' : List Entry) (f : FolderData) (x : Table) (v v' : G
         let k = kept.indexes j inside_now in
         cells_within s.cells most (λ key q u d above.
         ap (λ (c : Contents). c key q u d) (sym changed.reads ∙ ap (λ (y : IndexPart). value_at y.cells) (sym part_now))
-        ∙ none_above (index_at form v' j).form most (get_or v'.indexes j no_part).cells k.cells key q u d above)
+        ∙ none_above (indexed_at form v' j).form most (get_or v'.indexes j no_part).cells k.cells key q u d above)
 
     others_at : (q : ℕ) → q < length stood → is_active (get_or stood q i).state ≡ false → ((get_or stood q i).birth ≤ most) × (last_cell (f'.regions (get_or stood q i).region).cells ≤ most)
     others_at q l a =
@@ -200,5 +200,5 @@ module _ (b : Base) (es es' : List Entry) (f : FolderData) (x : Table) (v v' : G
       };
       placed = placed_else f x n s x.regions rows tells.placed;
       stand = subst (λ (l : List IndexPart). AllStanding f.standing.indexes x.id.0 l) (sym indexes) (standing_set f.standing.indexes x.id.0 v.indexes j new changed.id tells.stand);
-      once = subst (λ (l : List IndexPart). AreDistinct number_of l) (sym indexes) (distinct_set v.indexes j new no_part lt changed.id tells.once);
+      once = subst (λ (l : List IndexPart). AreDistinct number_of_part l) (sym indexes) (distinct_set v.indexes j new no_part lt changed.id tells.once);
     }

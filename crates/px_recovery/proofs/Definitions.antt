@@ -1,6 +1,6 @@
 -- Calls on the files of the catalogue.
 use Rattle.std.proofs.Common.{◌≡◌, ◌<◌, ◌≤◌, ◌⊎◌, inl, inr, ℕ, zero, suc, [], refl, sym, subst, ◌∙◌, arith}
-use Rattle.px_outside.specs.Disk.{Image, IsLeft, LeavesOnly, TouchesOnly}
+use Rattle.px_outside.specs.Disk.{Image, IsLeftBy, LeavesOnlyBy, TouchesOnlyBy}
 use Rattle.px_outside.specs.Parts.{AllStand, AllStandIn}
 use Rattle.px_outside.specs.Standing.{StandsIn}
 use Rattle.px_outside.specs.declared.disk.Disk.{Ghosts}
@@ -12,15 +12,15 @@ use Rattle.px_wal.specs.Files.{file_of}
 use Rattle.px_wal.specs.Form.{wal_form}
 use Rattle.px_wal.specs.Snapshot.{manifest_form, nothing_named}
 use Rattle.px_wal.specs.Snapshot.IsLast.{none as none_recorded}
-use Rattle.px_region.specs.Region.{RegionData, Stands}
+use Rattle.px_region.specs.Region.{RegionData, RegionStands}
 use Rattle.px_schema.specs.declared.standing.Standing.{Standing}
 use Rattle.px_catalog.specs.Catalogue.{CatalogueStands, catalogue_files}
-use Rattle.px_recovery.specs.Folder.{AreFresh, FolderData, IsEmptyFrom, IsKept, PartStands, StandsFor, StandsOn, from, no_data, owns, part_of, with_standing}
+use Rattle.px_recovery.specs.Folder.{AreFresh, FolderData, IsEmptyFrom, IsFileOfPart, IsKeptPart, PartStands, StandsFor, StandsOn, from, no_data, part_of, with_standing}
 use Rattle.px_recovery.proofs.Regions.{parts_apart}
 
 -- ---- a region without a byte
 
-pub empty_stands : (n : ℕ) (image : Image) → ((local : ℕ) → local < 4 → image (file_of n local) ≡ []) → Stands n image no_data
+pub empty_stands : (n : ℕ) (image : Image) → ((local : ℕ) → local < 4 → image (file_of n local) ≡ []) → RegionStands n image no_data
 empty_stands n image none = record {
   named = nothing_named;
   reads = record {
@@ -41,12 +41,12 @@ empty_stands n image none = record {
 
 -- ---- calls on the catalogue's files
 
-module _ {D : Type 0} (d : Ghosts D) (old new : D) (f : FolderData) (on : StandsOn d old f) (some : 1 ≤ f.standing.next) (touches : TouchesOnly d.calls d.left d.seen old new catalogue_files) where
+module _ {D : Type 0} (d : Ghosts D) (old new : D) (f : FolderData) (on : StandsOn d old f) (some : 1 ≤ f.standing.next) (touches : TouchesOnlyBy d.calls d.left d.seen old new catalogue_files) where
   not_fresh : (file : ℕ) → from f.standing.next file → catalogue_files file → ⊥
   not_fresh file own (inl is) = omega (arith, some, own, is)
   not_fresh file own (inr is) = omega (arith, some, own, is)
 
-  fresh_now : (moment : ℕ) (image : Image) → d.calls old ≤ moment → IsLeft d.left new moment image → IsEmptyFrom f.standing.next image
+  fresh_now : (moment : ℕ) (image : Image) → d.calls old ≤ moment → IsLeftBy d.left new moment image → IsEmptyFrom f.standing.next image
   fresh_now moment image since is file own = on.fresh.on_disk file own (image file) (touches.others moment file (image file) since (not_fresh file own) (is file)) ∙ on.fresh.empty file own
 
   fresh_after : AreFresh d new f.standing.next
@@ -55,29 +55,29 @@ module _ {D : Type 0} (d : Ghosts D) (old new : D) (f : FolderData) (on : Stands
     empty = λ file own. touches.sees file (not_fresh file own) ∙ on.fresh.empty file own;
   }
 
-  region_then : (moment : ℕ) (image : Image) → d.calls old ≤ moment → IsLeft d.left new moment image → (m : ℕ) → IsKept f.standing (suc m) → Stands (suc m) image (f.regions (suc m))
-  region_then moment image since is m keeps = others_stand d owns PartStands parts_apart (IsKept f.standing) (part_of f) old new on.parts zero catalogue_files touches (λ file own. own) moment image since is (suc m) keeps (omega arith)
+  region_then : (moment : ℕ) (image : Image) → d.calls old ≤ moment → IsLeftBy d.left new moment image → (m : ℕ) → IsKeptPart f.standing (suc m) → RegionStands (suc m) image (f.regions (suc m))
+  region_then moment image since is m keeps = others_stand d IsFileOfPart PartStands parts_apart (IsKeptPart f.standing) (part_of f) old new on.parts zero catalogue_files touches (λ file own. own) moment image since is (suc m) keeps (omega arith)
 
   -- that leave what stands, as those of a fresh catalogue
-  pub catalogue_stays : LeavesOnly d.calls d.left old new (λ moment image. CatalogueStands image f.standing) → LeavesOnly d.calls d.left old new (λ moment image. StandsFor image f)
+  pub catalogue_stays : LeavesOnlyBy d.calls d.left old new (λ moment image. CatalogueStands image f.standing) → LeavesOnlyBy d.calls d.left old new (λ moment image. StandsFor image f)
   catalogue_stays leaves = record {
     each = λ moment image since is. record {
-      parts = (one_stays d owns PartStands parts_apart (IsKept f.standing) (part_of f) old new on.parts zero catalogue_files touches (λ file own. own) leaves).each moment image since is;
+      parts = (one_stays d IsFileOfPart PartStands parts_apart (IsKeptPart f.standing) (part_of f) old new on.parts zero catalogue_files touches (λ file own. own) leaves).each moment image since is;
       fresh = fresh_now moment image since is;
       unmade = on.unmade;
     };
   }
 
   pub catalogue_kept : StandsIn d new catalogue_files (λ image. CatalogueStands image f.standing) → StandsOn d new f
-  catalogue_kept here = record { parts = all_kept d owns PartStands parts_apart (IsKept f.standing) (part_of f) old new on.parts zero catalogue_files touches (λ file own. own) here; fresh = fresh_after; unmade = on.unmade }
+  catalogue_kept here = record { parts = all_kept d IsFileOfPart PartStands parts_apart (IsKeptPart f.standing) (part_of f) old new on.parts zero catalogue_files touches (λ file own. own) here; fresh = fresh_after; unmade = on.unmade }
 
   -- or leave others standing: what they name was named, or is drawn now
-  module _ (s : Standing) (up : f.standing.next ≤ s.next) (drawn : (m : ℕ) → IsKept s (suc m) → IsKept f.standing (suc m) ⊎ (f.standing.next ≤ suc m)) where
-    nothing_yet : (m : ℕ) → f.standing.next ≤ suc m → (image : Image) → Stands (suc m) image no_data → Stands (suc m) image (f.regions (suc m))
-    nothing_yet m new_one image stands = subst (λ (r : RegionData). Stands (suc m) image r) (sym (on.unmade (suc m) new_one)) stands
+  module _ (s : Standing) (up : f.standing.next ≤ s.next) (drawn : (m : ℕ) → IsKeptPart s (suc m) → IsKeptPart f.standing (suc m) ⊎ (f.standing.next ≤ suc m)) where
+    nothing_yet : (m : ℕ) → f.standing.next ≤ suc m → (image : Image) → RegionStands (suc m) image no_data → RegionStands (suc m) image (f.regions (suc m))
+    nothing_yet m new_one image stands = subst (λ (r : RegionData). RegionStands (suc m) image r) (sym (on.unmade (suc m) new_one)) stands
 
-    pub catalogue_moves : LeavesOnly d.calls d.left old new (λ moment image. CatalogueStands image f.standing ⊎ CatalogueStands image s)
-        → LeavesOnly d.calls d.left old new (λ moment image. StandsFor image f ⊎ StandsFor image (with_standing s f))
+    pub catalogue_moves : LeavesOnlyBy d.calls d.left old new (λ moment image. CatalogueStands image f.standing ⊎ CatalogueStands image s)
+        → LeavesOnlyBy d.calls d.left old new (λ moment image. StandsFor image f ⊎ StandsFor image (with_standing s f))
     catalogue_moves leaves = record {
       each = λ moment image since is.
           let empty = fresh_now moment image since is in
@@ -91,11 +91,11 @@ module _ {D : Type 0} (d : Ghosts D) (old new : D) (f : FolderData) (on : Stands
           ];
     }
       where
-        as_before : (moment : ℕ) (image : Image) → d.calls old ≤ moment → IsLeft d.left new moment image → CatalogueStands image f.standing → AllStand PartStands (IsKept f.standing) (part_of f) image
+        as_before : (moment : ℕ) (image : Image) → d.calls old ≤ moment → IsLeftBy d.left new moment image → CatalogueStands image f.standing → AllStand PartStands (IsKeptPart f.standing) (part_of f) image
         as_before moment image since is a zero keeps = a
         as_before moment image since is a (suc m) keeps = region_then moment image since is m keeps
 
-        as_after : (moment : ℕ) (image : Image) → d.calls old ≤ moment → IsLeft d.left new moment image → IsEmptyFrom f.standing.next image → CatalogueStands image s → AllStand PartStands (IsKept s) (part_of (with_standing s f)) image
+        as_after : (moment : ℕ) (image : Image) → d.calls old ≤ moment → IsLeftBy d.left new moment image → IsEmptyFrom f.standing.next image → CatalogueStands image s → AllStand PartStands (IsKeptPart s) (part_of (with_standing s f)) image
         as_after moment image since is empty z zero keeps = z
         as_after moment image since is empty z (suc m) keeps = elim (drawn m keeps) [
           | inl k ↦ region_then moment image since is m k
@@ -109,10 +109,10 @@ module _ {D : Type 0} (d : Ghosts D) (old new : D) (f : FolderData) (on : Stands
       unmade = λ n own. on.unmade n (omega (arith, own, up));
     }
       where
-        each_part : AllStandIn d owns PartStands (IsKept s) (part_of (with_standing s f)) new
+        each_part : AllStandIn d IsFileOfPart PartStands (IsKeptPart s) (part_of (with_standing s f)) new
         each_part zero keeps = here
         each_part (suc m) keeps = elim (drawn m keeps) [
-          | inl k ↦ others_kept d owns PartStands parts_apart (IsKept f.standing) (part_of f) old new on.parts zero catalogue_files touches (λ file own. own) (suc m) k (omega arith)
+          | inl k ↦ others_kept d IsFileOfPart PartStands parts_apart (IsKeptPart f.standing) (part_of f) old new on.parts zero catalogue_files touches (λ file own. own) (suc m) k (omega arith)
           | inr new_one ↦ record {
             each = λ image left. nothing_yet m new_one image (empty_stands (suc m) image (λ local few.
                 let file = file_of (suc m) local in

@@ -17,13 +17,13 @@ use Rattle.px_indexed.specs.Idle.{IsElsewhere}
 use Rattle.px_indexed.proofs.Idle.{act_idle}
 use Rattle.px_groupworld.specs.Group.{GroupData}
 use Rattle.px_groupworld.proofs.Entries.{group_idle}
-use Rattle.px_schema.specs.Stands.{after, other_tables}
+use Rattle.px_schema.specs.Stands.{other_tables, stands_after}
 use Rattle.px_schema.specs.declared.item.CatalogItem.TheVariants.{TableGone}
 use Rattle.px_schema.specs.declared.standing.Standing.{Standing}
 use Rattle.px_schema.proofs.Numbers.{below_next, filter_all}
 use Rattle.px_recovery.specs.Folder.{FolderData, with_standing}
 use Rattle.px_recovery.specs.Stands.{AreNumbered, Explains, TellsCatalogue, opened_index}
-use Rattle.px_recovery.specs.Tables.{form_of, index_in, number_of_index, region_of_index, table_in}
+use Rattle.px_recovery.specs.Tables.{form_of_table, index_in, number_of_index, region_of_index, table_in}
 use Rattle.px_recovery.proofs.Forms.{same_table}
 use Rattle.px_recovery.proofs.Lookups.{index_of_others, indexes_kept, table_dropped, table_kept}
 use Rattle.px_recovery.proofs.Notes.{last_step_up}
@@ -51,7 +51,7 @@ others_stay t x other = ap (λ (c : Bool). if c then None else Some x) (ne_eqb x
 
 module _ (s : Standing) (c : Catalogue) (told : TellsCatalogue s c) (numbered : AreNumbered s) (t : TableId) where
   abbrev gone : Standing
-  gone = after s (TableGone t)
+  gone = stands_after s (TableGone t)
 
   tables_gone : (q : ℕ) → table_in (other_tables t.0 s.tables) q ≡ set_number t.0 None c.tables q
   tables_gone q = elim (cases_eq t.0 q) [
@@ -84,18 +84,18 @@ module _ (s : Standing) (c : Catalogue) (told : TellsCatalogue s c) (numbered : 
 
 -- ---- the folder then
 
-pub table_gone : (b : Base) (es : List Entry) (f : FolderData) (v : ℕ → GroupData) → Explains b es f v → (e : Entry) → MayCome b es e → (t : TableId) → e.act ≡ Dropped t None → Explains b (es ++ e ∷ []) (with_standing (after f.standing (TableGone t)) f) v
+pub table_gone : (b : Base) (es : List Entry) (f : FolderData) (v : ℕ → GroupData) → Explains b es f v → (e : Entry) → MayCome b es e → (t : TableId) → e.act ≡ Dropped t None → Explains b (es ++ e ∷ []) (with_standing (stands_after f.standing (TableGone t)) f) v
 table_gone b es f v told e may t is = record {
   legal = legal-snoc b es e told.legal may;
-  catalogue = subst (λ (c : Catalogue). TellsCatalogue (after f.standing (TableGone t)) c) (sym (catalogue-snoc b es e ∙ ap (catalogue_step (catalogue_of b es)) is)) (catalogue_gone f.standing (catalogue_of b es) told.catalogue told.numbered t);
+  catalogue = subst (λ (c : Catalogue). TellsCatalogue (stands_after f.standing (TableGone t)) c) (sym (catalogue-snoc b es e ∙ ap (catalogue_step (catalogue_of b es)) is)) (catalogue_gone f.standing (catalogue_of b es) told.catalogue told.numbered t);
   numbered = numbered_gone f.standing (catalogue_of b es) told.catalogue told.numbered t;
   tables = λ q x found.
       let was = stood_before f.standing.tables t.0 q x found in
       let here = told.tables q x was.1 in
       let number = found_number f.standing.tables q x was.1 in
       let other : t.0 ≢ x.id.0 = (λ same. was.0 (same ∙ number)) in
-      same_table b es (es ++ e ∷ []) f (after f.standing (TableGone t)) x (v q) here
-      (group_idle (form_of b f.standing.indexes x) es (v q) here.kept e may (act_idle x.id e (subst (λ (a : Act). IsElsewhere x.id a) (sym is) tt))).kept
+      same_table b es (es ++ e ∷ []) f (stands_after f.standing (TableGone t)) x (v q) here
+      (group_idle (form_of_table b f.standing.indexes x) es (v q) here.kept e may (act_idle x.id e (subst (λ (a : Act). IsElsewhere x.id a) (sym is) tt))).kept
       (let up = last_step_up x.id.0 (last_of b x.id.0 es) e.act in let l = last-snoc b x.id.0 es e in omega arith)
       (λ n i stood its. index_of_others t.0 f.standing.indexes n told.numbered.ids ∙ (ap (of_others t.0) stood ∙ others_stay t.0 i (λ same. other (sym same ∙ its))))
       (indexes_kept t.0 x.id.0 f.standing.indexes other);

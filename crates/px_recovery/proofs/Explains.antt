@@ -11,7 +11,7 @@ use Rattle.px_cells.specs.Contents.{Contents, over_contents, value_at}
 use Rattle.px_cells.specs.Order.{ReadsSame}
 use Rattle.px_cells.proofs.Among.{all_has, has_all, has_from_reads, reads_from_has}
 use Rattle.px_cells.proofs.Contents.{same_values, values_put}
-use Rattle.px_merge.specs.Kept.{IsKept}
+use Rattle.px_merge.specs.Kept.{IsKeptList}
 use Rattle.px_tables.specs.declared.index.Index.{Index}
 use Rattle.px_tables.specs.declared.table.Table.{Table}
 use Rattle.px_tables.specs.declared.table.TableRegion.{TableRegion}
@@ -27,7 +27,7 @@ use Rattle.px_groupworld.proofs.Entries.{group_idle}
 use Rattle.px_region.specs.Region.{RegionData, with_batch}
 use Rattle.px_recovery.specs.Folder.{FolderData, with_region}
 use Rattle.px_recovery.specs.Stands.{Explains, GoesOnBy, TellsCatalogue}
-use Rattle.px_recovery.specs.Tables.{AreInRegion, IsOneOf, TellsTable, form_of, indexes_of, region_at, table_in}
+use Rattle.px_recovery.specs.Tables.{AreInRegion, IsRegionAmong, TellsTable, form_of_table, indexes_of, region_at, table_in}
 use Rattle.px_recovery.proofs.Cells.{values_batch}
 use Rattle.px_recovery.proofs.Notes.{last_step_up}
 use Rattle.px_recovery.proofs.Numbered.{index_foreign, no_rows, one_found, only_index, rows_apart, rows_foreign}
@@ -47,7 +47,7 @@ module _ (b : Base) (es : List Entry) (f : FolderData) (v : ℕ → GroupData) (
     legal = legal-snoc b es e told.legal may;
     catalogue = same;
     last = λ q. (let up = last_step_up q (last_of b q es) e.act in let is = last-snoc b q es e in omega arith);
-    others = λ q y other is. (group_idle (form_of b f.standing.indexes y) es (v q) (told.tables q y is).kept e may (act_idle y.id e (elsewhere q y other is))).kept;
+    others = λ q y other is. (group_idle (form_of_table b f.standing.indexes y) es (v q) (told.tables q y is).kept e may (act_idle y.id e (elsewhere q y other is))).kept;
   }
 
 -- ---- a table goes on
@@ -85,14 +85,14 @@ module _ (b : Base) (es es' : List Entry) (f : FolderData) (v : ℕ → GroupDat
     tables = λ q y is. one_now (with_region n s f) q y is own (λ other. other_table f y n s b es es' (v q) (told.tables q y is) (foreign q y other is) (by.others q y other is) (by.last y.id.0));
   }
 
-  module _ (kept : GroupKept (form_of b f.standing.indexes x) es' v') (high : (v t).high ≤ v'.high) (low : v'.low ≡ (v t).low) where
+  module _ (kept : GroupKept (form_of_table b f.standing.indexes x) es' v') (high : (v t).high ≤ v'.high) (low : v'.low ≡ (v t).low) where
     -- its open batches and its horizon alone
     pub noted_kept : v'.cells ≡ (v t).cells → v'.indexes ≡ (v t).indexes → Explains b es' f after
     noted_kept cells indexes = noted (noted_table b es es' f x (v t) v' (told.tables t x found) kept (by.last x.id.0) high low cells indexes)
 
     module _ (n : ℕ) (batch : List CellData) where
       -- a batch in a region of its rows
-      pub rows_batch : IsOneOf n x.regions → AreInRegion x n batch → ReadsSame v'.cells (batch ++ (v t).cells) → v'.indexes ≡ (v t).indexes → Explains b es' (with_region n (with_batch (f.regions n) batch) f) after
+      pub rows_batch : IsRegionAmong n x.regions → AreInRegion x n batch → ReadsSame v'.cells (batch ++ (v t).cells) → v'.indexes ≡ (v t).indexes → Explains b es' (with_region n (with_batch (f.regions n) batch) f) after
       rows_batch one mine reads indexes =
           moved n (with_batch (f.regions n) batch)
           (table_wrote b es es' f x (v t) v' (told.tables t x found) kept (by.last x.id.0) high low n batch one (told.numbered.each t x found) (rows_apart f told.numbered t x found n one) mine reads indexes)
@@ -123,19 +123,19 @@ abbrev forgot_part : IndexPart → ℕ → List CellData → IndexPart
 forgot_part part h cells = record part { cells = cells; horizon = h }
 
 -- what is true of all cells is true of those that a horizon keeps
-all_kept : (P : CellData → Type 0) (cells kept : List CellData) (h : ℕ) → IsKept cells h kept → AllByRecursion P cells → AllByRecursion P kept
+all_kept : (P : CellData → Type 0) (cells kept : List CellData) (h : ℕ) → IsKeptList cells h kept → AllByRecursion P cells → AllByRecursion P kept
 all_kept P cells kept h is all = has_all P kept (λ c there. all_has P cells c all (has_from_reads cells c ((is.exact c).0 (reads_from_has kept c is.list.ascending there)).0))
 
-module _ (b : Base) (es es' : List Entry) (f : FolderData) (v : ℕ → GroupData) (told : Explains b es f v) (t : ℕ) (by : GoesOnBy b es es' f v t) (x : Table) (found : table_in f.standing.tables t ≡ Some x) (w : GroupData) (kept : GroupKept (form_of b f.standing.indexes x) es' w)
+module _ (b : Base) (es es' : List Entry) (f : FolderData) (v : ℕ → GroupData) (told : Explains b es f v) (t : ℕ) (by : GoesOnBy b es es' f v t) (x : Table) (found : table_in f.standing.tables t ≡ Some x) (w : GroupData) (kept : GroupKept (form_of_table b f.standing.indexes x) es' w)
     (high : (v t).high ≤ w.high) where
   abbrev forgot : ℕ → List CellData → RegionData
   forgot h cells = record { cells = cells; horizon = h }
 
   -- the only region of its rows
-  pub rows_forgot : (g : TableRegion) → x.regions ≡ g ∷ [] → (h : ℕ) (cells : List CellData) → IsKept (f.regions g.number).cells h cells → w.low ≡ h → ReadsSame w.cells cells → w.indexes ≡ (v t).indexes
+  pub rows_forgot : (g : TableRegion) → x.regions ≡ g ∷ [] → (h : ℕ) (cells : List CellData) → IsKeptList (f.regions g.number).cells h cells → w.low ≡ h → ReadsSame w.cells cells → w.indexes ≡ (v t).indexes
       → Explains b es' (with_region g.number (forgot h cells) f) (with_part v t w)
   rows_forgot g only h cells keeps low reads indexes =
-      let one : IsOneOf g.number x.regions = subst (λ (gs : List TableRegion). IsOneOf g.number gs) (sym only) (inl refl) in
+      let one : IsRegionAmong g.number x.regions = subst (λ (gs : List TableRegion). IsRegionAmong g.number gs) (sym only) (inl refl) in
       let placed : AreInRegion x g.number (f.regions g.number).cells = (subst (λ (gs : List TableRegion). AllByRecursion (λ g. AreInRegion x g.number (f.regions g.number).cells) gs) only (told.tables t x found).placed).0 in
       moved b es es' f v told t by x found w g.number (forgot h cells)
       (rows_now b es es' f x (v t) w (told.tables t x found) kept (by.last x.id.0) high g.number (forgot h cells) g only refl (rows_apart f told.numbered t x found g.number one)

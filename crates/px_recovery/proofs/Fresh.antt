@@ -11,14 +11,14 @@ use Rattle.px_trail.specs.Trail.{IsBase}
 use Rattle.px_rows.proofs.Spelled.{nothing_spelled, nothing_whole, table_laws}
 use Rattle.px_groupworld.specs.Group.{GroupData, TableForm}
 use Rattle.px_groupworld.specs.Sound.{IsSoundTable}
-use Rattle.px_tablefolder.specs.Folder.{greatest_horizon, greatest_number, has_stamp, last_cell}
-use Rattle.px_schema.specs.Fresh.{fresh, kv}
+use Rattle.px_tablefolder.specs.Folder.{greatest_horizon, greatest_in_indexes, key_has_stamp, last_cell}
+use Rattle.px_schema.specs.Fresh.{fresh_standing, kv}
 use Rattle.px_catalog.proofs.Opening.{empty_stands as empty_catalogue}
 use Rattle.px_wal.specs.Files.{file_of}
 use Rattle.px_recovery.specs.Base.{IsSound, IsSoundFolder, IsSoundPart, base_of}
-use Rattle.px_recovery.specs.Folder.{FolderData, IsKept, PartStands, StandsFor, no_data, part_of}
+use Rattle.px_recovery.specs.Folder.{FolderData, IsKeptPart, PartStands, StandsFor, no_data, part_of}
 use Rattle.px_recovery.specs.Stands.{AreNumbered}
-use Rattle.px_recovery.specs.Tables.{cells_in, form_of, horizon_in, number_of_region, table_files, table_in}
+use Rattle.px_recovery.specs.Tables.{cells_of_regions, form_of_table, horizon_in, number_of_region, table_files, table_in}
 use Rattle.px_recovery.proofs.Definitions.{empty_stands}
 use Rattle.px_recovery.proofs.Numbered.{found_by, found_number}
 use Rattle.px_recovery.proofs.Opened.{is_opened, opened_data}
@@ -26,7 +26,7 @@ use Rattle.px_recovery.proofs.Round.{is_base}
 
 -- the fresh definitions, and regions without a cell
 abbrev pub fresh_folder : FolderData
-fresh_folder = record { standing = fresh; regions = λ n. no_data }
+fresh_folder = record { standing = fresh_standing; regions = λ n. no_data }
 
 fresh_is : (t : ℕ) (x : Table) → table_in (kv ∷ []) t ≡ Some x → kv ≡ x
 unfolding table_in
@@ -38,7 +38,7 @@ one_table t u x y one two = sym (numbered_as t x one) ∙ (ap (λ (z : Table). z
     numbered_as : (q : ℕ) (z : Table) → table_in (kv ∷ []) q ≡ Some z → z.id.0 ≡ q
     numbered_as q z is = found_number (kv ∷ []) q z is
 
-fresh_numbered : AreNumbered fresh
+fresh_numbered : AreNumbered fresh_standing
 fresh_numbered = record {
   tables = λ t u n x y one two a z. one_table t u x y one two;
   each = λ t x is. subst (λ (z : Table). AreDistinct number_of_region z.regions) (fresh_is t x is) (tt, tt);
@@ -54,7 +54,7 @@ fresh_numbered = record {
 -- ---- its one table
 
 abbrev form : TableForm
-form = form_of (base_of fresh_folder) [] kv
+form = form_of_table (base_of fresh_folder) [] kv
 
 kv_found : table_in (kv ∷ []) 2 ≡ Some kv
 unfolding table_in
@@ -65,11 +65,11 @@ none_changed true is = false≢true is
 none_changed false is = false≢true is
 
 kv_changed : (r : List Value) (s : ℕ) → (base_of fresh_folder).changed 2 r s ≡ (nat_lt 0 s && false)
-unfolding table_in cells_in horizon_in has_stamp
+unfolding table_in cells_of_regions horizon_in key_has_stamp
 kv_changed r s = refl
 
 kv_state : (r : List Value) (p : ℕ) → (base_of fresh_folder).state 2 r p ≡ None
-unfolding table_in cells_in horizon_in value_at
+unfolding table_in cells_of_regions horizon_in value_at
 kv_state r p = nothing_spelled kv r (max 0 p)
 
 kv_base : (r : List Value) → IsBase (base_of fresh_folder) 2 r
@@ -83,7 +83,7 @@ abbrev opened : GroupData
 opened = opened_data (table_files fresh_folder kv)
 
 kv_sound : IsSoundTable form opened
-unfolding table_in cells_in horizon_in value_at greatest_horizon greatest_number last_cell
+unfolding table_in cells_of_regions horizon_in value_at greatest_horizon greatest_in_indexes last_cell
 kv_sound = record {
   base = record { rows = kv_base; low = omega arith };
   shape = (is_base fresh_folder kv kv_found).shape;
@@ -111,7 +111,7 @@ fresh_sound = record {
 fresh_stands : (image : Image) → ((file : ℕ) → image file ≡ []) → StandsFor image fresh_folder
 fresh_stands image none = record { parts = each; fresh = λ file own. none file; unmade = λ n own. refl }
   where
-    each : (r : ℕ) → IsKept fresh r → PartStands r image (part_of fresh_folder r)
+    each : (r : ℕ) → IsKeptPart fresh_standing r → PartStands r image (part_of fresh_folder r)
     each zero keeps = empty_catalogue image (none 0) (none 1)
     each (suc m) keeps = empty_stands (suc m) image (λ local few. none (file_of (suc m) local))
 

@@ -21,13 +21,13 @@ use Rattle.px_indexed.proofs.Idle.{act_idle}
 use Rattle.px_groupworld.specs.Group.{GroupData, GroupKept, IndexPart, no_part}
 use Rattle.px_groupworld.proofs.Entries.{group_idle}
 use Rattle.px_tablefolder.specs.Folder.{IndexFiles, IsFilesOf, last_cell, no_files}
-use Rattle.px_schema.specs.Stands.{after}
+use Rattle.px_schema.specs.Stands.{stands_after}
 use Rattle.px_schema.specs.declared.item.CatalogItem.TheVariants.{IndexGone}
 use Rattle.px_schema.specs.declared.standing.Standing.{Standing}
 use Rattle.px_schema.proofs.Numbers.{below_next, filter_all}
 use Rattle.px_recovery.specs.Folder.{FolderData, with_standing}
 use Rattle.px_recovery.specs.Stands.{AreNumbered, Explains, TellsCatalogue, opened_index}
-use Rattle.px_recovery.specs.Tables.{HasIndex, TellsTable, form_in, form_of, index_files, index_in, indexes_of, number_of, number_of_index, region_of_index, table_in, without_index}
+use Rattle.px_recovery.specs.Tables.{HasTableIndex, TellsTable, form_of_index, form_of_table, index_files, index_in, indexes_of, number_of_index, number_of_part, region_of_index, table_in, without_index}
 use Rattle.px_recovery.proofs.Fewer.{filter_swap, from_filter, index_gone_here, index_gone_other, indexes_gone_other, kept_fewer, one_is, to_filter}
 use Rattle.px_recovery.proofs.Forms.{other_forms, same_table}
 use Rattle.px_recovery.proofs.Notes.{last_step_up}
@@ -36,19 +36,19 @@ use Rattle.px_recovery.proofs.Tables.{at_map}
 
 -- ---- a table's indexes without one
 
-none_fewer : (n : ℕ) (keep : IndexPart → Bool) (xs : List IndexPart) → HasNone number_of n xs → HasNone number_of n (filter keep xs)
+none_fewer : (n : ℕ) (keep : IndexPart → Bool) (xs : List IndexPart) → HasNone number_of_part n xs → HasNone number_of_part n (filter keep xs)
 none_fewer n keep [] none = tt
 none_fewer n keep (p ∷ xs) none = none_if (keep p) (none_fewer n keep xs none.1)
   where
-    none_if : (c : Bool) → HasNone number_of n (filter keep xs) → HasNone number_of n (if c then p ∷ filter keep xs else filter keep xs)
+    none_if : (c : Bool) → HasNone number_of_part n (filter keep xs) → HasNone number_of_part n (if c then p ∷ filter keep xs else filter keep xs)
     none_if true rest = (none.0, rest)
     none_if false rest = rest
 
-pub once_fewer : (keep : IndexPart → Bool) (xs : List IndexPart) → AreDistinct number_of xs → AreDistinct number_of (filter keep xs)
+pub once_fewer : (keep : IndexPart → Bool) (xs : List IndexPart) → AreDistinct number_of_part xs → AreDistinct number_of_part (filter keep xs)
 once_fewer keep [] once = tt
-once_fewer keep (p ∷ xs) once = once_if (keep p) (none_fewer (number_of p) keep xs once.0) (once_fewer keep xs once.1)
+once_fewer keep (p ∷ xs) once = once_if (keep p) (none_fewer (number_of_part p) keep xs once.0) (once_fewer keep xs once.1)
   where
-    once_if : (c : Bool) → HasNone number_of (number_of p) (filter keep xs) → AreDistinct number_of (filter keep xs) → AreDistinct number_of (if c then p ∷ filter keep xs else filter keep xs)
+    once_if : (c : Bool) → HasNone number_of_part (number_of_part p) (filter keep xs) → AreDistinct number_of_part (filter keep xs) → AreDistinct number_of_part (if c then p ∷ filter keep xs else filter keep xs)
     once_if true none rest = (none, rest)
     once_if false none rest = rest
 
@@ -70,7 +70,7 @@ module _ (b : Base) (es : List Entry) (f : FolderData) (v : ℕ → GroupData) (
   es' = es ++ e ∷ []
 
   abbrev now : Standing
-  now = after s (IndexGone i)
+  now = stands_after s (IndexGone i)
 
   abbrev keep : Index → Bool
   keep k = not (k.id.0 == i.0)
@@ -112,7 +112,7 @@ module _ (b : Base) (es : List Entry) (f : FolderData) (v : ℕ → GroupData) (
   tells_other q k apart at =
       let here = told.tables q k at in
       let num = found_number s.tables q k at in
-      same_table b es es' f now k (v q) here (group_idle (form_of b s.indexes k) es (v q) here.kept e may (act_idle k.id e (idle k))).kept (last_up k.id.0)
+      same_table b es es' f now k (v q) here (group_idle (form_of_table b s.indexes k) es (v q) here.kept e may (act_idle k.id e (idle k))).kept (last_up k.id.0)
       (λ n m there its. index_gone_other s.indexes i.0 n (λ same.
       let one : Some z ≡ Some m = sym stood ∙ (ap (index_in s.indexes) same ∙ there) in
       let one_is : z ≡ m = cc in
@@ -133,24 +133,24 @@ module _ (b : Base) (es : List Entry) (f : FolderData) (v : ℕ → GroupData) (
   here : TellsTable b es f x w
   here = told.tables t.0 x found
 
-  kept_now : GroupKept (form_of b s.indexes x) es' w'
-  kept_now = kept_fewer (form_of b s.indexes x) es' w keeps (group_idle (form_of b s.indexes x) es w here.kept e may (act_idle x.id e (idle x))).kept closed
+  kept_now : GroupKept (form_of_table b s.indexes x) es' w'
+  kept_now = kept_fewer (form_of_table b s.indexes x) es' w keeps (group_idle (form_of_table b s.indexes x) es w here.kept e may (act_idle x.id e (idle x))).kept closed
 
   stays : (n : ℕ) (k : Index) → n ≢ i.0 → index_in s.indexes n ≡ Some k → index_in now.indexes n ≡ Some k
   stays n k other at = index_gone_other s.indexes i.0 n (λ same. other (sym same)) ∙ at
 
-  stand_now : (k : ℕ) → k < length w'.indexes → HasIndex now.indexes x.id.0 (get_or w'.indexes k no_part).id
+  stand_now : (k : ℕ) → k < length w'.indexes → HasTableIndex now.indexes x.id.0 (get_or w'.indexes k no_part).id
   stand_now k l =
       let m = from_filter keeps w.indexes no_part k l in
       let h = here.stand m.0 m.1.0 in
-      subst (λ (p : IndexPart). HasIndex now.indexes x.id.0 p.id) (sym m.1.1.0) (h.0, (stays (get_or w.indexes m.0 no_part).id h.0 (not_same (get_or w.indexes m.0 no_part).id i.0 m.1.1.1) h.1.0, h.1.1))
+      subst (λ (p : IndexPart). HasTableIndex now.indexes x.id.0 p.id) (sym m.1.1.0) (h.0, (stays (get_or w.indexes m.0 no_part).id h.0 (not_same (get_or w.indexes m.0 no_part).id i.0 m.1.1.1) h.1.0, h.1.1))
 
-  form_now : (k : ℕ) → k < length w'.indexes → form_in x (index_in now.indexes (get_or w'.indexes k no_part).id) ≡ form_in x (index_in s.indexes (get_or w'.indexes k no_part).id)
+  form_now : (k : ℕ) → k < length w'.indexes → form_of_index x (index_in now.indexes (get_or w'.indexes k no_part).id) ≡ form_of_index x (index_in s.indexes (get_or w'.indexes k no_part).id)
   form_now k l =
       let m = from_filter keeps w.indexes no_part k l in
       let h = here.stand m.0 m.1.0 in
-      subst (λ (p : IndexPart). form_in x (index_in now.indexes p.id) ≡ form_in x (index_in s.indexes p.id)) (sym m.1.1.0)
-      (ap (form_in x) (stays (get_or w.indexes m.0 no_part).id h.0 (not_same (get_or w.indexes m.0 no_part).id i.0 m.1.1.1) h.1.0 ∙ sym h.1.0))
+      subst (λ (p : IndexPart). form_of_index x (index_in now.indexes p.id) ≡ form_of_index x (index_in s.indexes p.id)) (sym m.1.1.0)
+      (ap (form_of_index x) (stays (get_or w.indexes m.0 no_part).id h.0 (not_same (get_or w.indexes m.0 no_part).id i.0 m.1.1.1) h.1.0 ∙ sym h.1.0))
 
   -- the files, place by place
   abbrev old : List Index
@@ -203,7 +203,7 @@ module _ (b : Base) (es : List Entry) (f : FolderData) (v : ℕ → GroupData) (
 
   tells_own : TellsTable b es' (with_standing now f) x w'
   tells_own = record {
-    kept = other_forms (form_of b s.indexes x) (λ n. form_in x (index_in now.indexes n)) es' w' form_now kept_now;
+    kept = other_forms (form_of_table b s.indexes x) (λ n. form_of_index x (index_in now.indexes n)) es' w' form_now kept_now;
     files = record {
       horizon = here.files.horizon;
       cells = here.files.cells;

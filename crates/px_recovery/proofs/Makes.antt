@@ -15,7 +15,7 @@ use Rattle.px_trail.specs.declared.entry.Act.{Act}
 use Rattle.px_trail.specs.declared.entry.Act.TheVariants.{Made}
 use Rattle.px_trail.specs.declared.entry.Entry.{Entry}
 use Rattle.px_trail.specs.Legal.{Follows, MayCome}
-use Rattle.px_trail.specs.Trail.{Base, Catalogue, IsRightBase, catalogue_of, catalogue_step, last_of, made_table, numbered, of_others, set_number}
+use Rattle.px_trail.specs.Trail.{Base, Catalogue, IsRightBase, catalogue_of, catalogue_step, last_of, made_table, numbered_regions, of_others, set_number}
 use Rattle.px_trail.proofs.Growth.{catalogue-snoc, last-snoc, legal-snoc}
 use Rattle.px_trail.proofs.Standing.{catalogue-stands, set_number-other, set_number-same}
 use Rattle.px_rows.proofs.Spelled.{nothing_spelled, nothing_whole, table_laws}
@@ -26,13 +26,13 @@ use Rattle.px_groupworld.specs.Sound.{made_data}
 use Rattle.px_groupworld.proofs.Entries.{group_idle}
 use Rattle.px_groupworld.proofs.Makes.{group_made}
 use Rattle.px_region.specs.Region.{RegionData}
-use Rattle.px_schema.specs.Stands.{above, after, of_other_tables, put_table}
+use Rattle.px_schema.specs.Stands.{above, of_other_tables, put_table, stands_after}
 use Rattle.px_schema.specs.declared.item.CatalogItem.TheVariants.{TableIs}
 use Rattle.px_schema.specs.declared.standing.Standing.{Standing}
 use Rattle.px_schema.proofs.Numbers.{below_next, filter_all, next_up, put_all_tables}
 use Rattle.px_recovery.specs.Folder.{AreUnmade, FolderData, with_standing}
 use Rattle.px_recovery.specs.Stands.{AreNumbered, Explains, TellsCatalogue, opened_index, opened_state}
-use Rattle.px_recovery.specs.Tables.{AreInRegion, IsOneOf, TellsTable, cells_in, form_of, horizon_in, index_files, index_in, indexes_of, number_of_index, number_of_region, region_of_index, table_files, table_in}
+use Rattle.px_recovery.specs.Tables.{AreInRegion, IsRegionAmong, TellsTable, cells_of_regions, form_of_table, horizon_in, index_files, index_in, indexes_of, number_of_index, number_of_region, region_of_index, table_files, table_in}
 use Rattle.px_recovery.proofs.Drops.{others_opened, others_stay}
 use Rattle.px_recovery.proofs.Forms.{same_table}
 use Rattle.px_recovery.proofs.Lookups.{index_of_others, indexes_kept, others_if, table_put_here, table_put_other}
@@ -41,24 +41,24 @@ use Rattle.px_recovery.proofs.Numbered.{distinct_filter, found_number, none_filt
 
 -- ---- the numbers that are drawn
 
-above_drawn : (n m k : ℕ) (keys : List (List ℕ)) → m ≤ n → k ≡ n + length keys → above m (map (λ (r : TableRegion). r.number) (numbered n keys) ++ k ∷ []) ≡ n + length keys + 1
-unfolding numbered
+above_drawn : (n m k : ℕ) (keys : List (List ℕ)) → m ≤ n → k ≡ n + length keys → above m (map (λ (r : TableRegion). r.number) (numbered_regions n keys) ++ k ∷ []) ≡ n + length keys + 1
+unfolding numbered_regions
 above_drawn n m k [] le is = omega arith
 above_drawn n m k (x ∷ keys) le is = above_drawn (n + 1) (max m (n + 1)) k keys (omega arith) (omega arith) ∙ (let e : (n + 1) + length keys + 1 ≡ n + length (x ∷ keys) + 1 = omega arith in e)
 
-one_from : (n k : ℕ) (keys : List (List ℕ)) → IsOneOf k (numbered n keys) → n ≤ k
-unfolding numbered
+one_from : (n k : ℕ) (keys : List (List ℕ)) → IsRegionAmong k (numbered_regions n keys) → n ≤ k
+unfolding numbered_regions
 one_from n k [] one = absurd one
 one_from n k (x ∷ keys) (inl is) = omega (arith, is)
 one_from n k (x ∷ keys) (inr one) = let up = one_from (n + 1) k keys one in omega arith
 
-all_from : (P : ℕ → Type 0) (n : ℕ) (keys : List (List ℕ)) → ((k : ℕ) → n ≤ k → P k) → AllByRecursion (λ (g : TableRegion). P g.number) (numbered n keys)
-unfolding numbered
+all_from : (P : ℕ → Type 0) (n : ℕ) (keys : List (List ℕ)) → ((k : ℕ) → n ≤ k → P k) → AllByRecursion (λ (g : TableRegion). P g.number) (numbered_regions n keys)
+unfolding numbered_regions
 all_from P n [] each = tt
 all_from P n (x ∷ keys) each = (each n (omega arith), all_from P (n + 1) keys (λ k le. each k (omega arith)))
 
-drawn_once : (n : ℕ) (keys : List (List ℕ)) → AreDistinct number_of_region (numbered n keys)
-unfolding numbered
+drawn_once : (n : ℕ) (keys : List (List ℕ)) → AreDistinct number_of_region (numbered_regions n keys)
+unfolding numbered_regions
 drawn_once n [] = tt
 drawn_once n (x ∷ keys) = (all_from (λ k. k ≢ n) (n + 1) keys (λ k le is. omega (arith, le, is)), drawn_once (n + 1) keys)
 
@@ -69,17 +69,17 @@ none_below next n (i ∷ is) le all = ((λ same. (let a = all.0.0 in omega (arit
 -- ---- regions that have nothing yet
 
 module _ (f : FolderData) (unmade : AreUnmade f) where
-  nothing_in : (n : ℕ) (keys : List (List ℕ)) → f.standing.next ≤ n → cells_in f.regions (numbered n keys) ≡ []
-  unfolding numbered cells_in
+  nothing_in : (n : ℕ) (keys : List (List ℕ)) → f.standing.next ≤ n → cells_of_regions f.regions (numbered_regions n keys) ≡ []
+  unfolding numbered_regions cells_of_regions
   nothing_in n [] le = refl
-  nothing_in n (x ∷ keys) le = ap (λ (r : RegionData). r.cells ++ cells_in f.regions (numbered (n + 1) keys)) (unmade n le) ∙ nothing_in (n + 1) keys (omega arith)
+  nothing_in n (x ∷ keys) le = ap (λ (r : RegionData). r.cells ++ cells_of_regions f.regions (numbered_regions (n + 1) keys)) (unmade n le) ∙ nothing_in (n + 1) keys (omega arith)
 
-  no_horizon : (n : ℕ) (keys : List (List ℕ)) → f.standing.next ≤ n → horizon_in f.regions (numbered n keys) ≡ 0
-  unfolding numbered horizon_in
+  no_horizon : (n : ℕ) (keys : List (List ℕ)) → f.standing.next ≤ n → horizon_in f.regions (numbered_regions n keys) ≡ 0
+  unfolding numbered_regions horizon_in
   no_horizon n [] le = refl
-  no_horizon n (x ∷ keys) le = (let e = no_horizon (n + 1) keys (omega arith) in ap (λ (r : RegionData). max r.horizon (horizon_in f.regions (numbered (n + 1) keys))) (unmade n le) ∙ omega (arith, e))
+  no_horizon n (x ∷ keys) le = (let e = no_horizon (n + 1) keys (omega arith) in ap (λ (r : RegionData). max r.horizon (horizon_in f.regions (numbered_regions (n + 1) keys))) (unmade n le) ∙ omega (arith, e))
 
-  placed_none : (x : Table) (n : ℕ) (keys : List (List ℕ)) → f.standing.next ≤ n → AllByRecursion (λ g. AreInRegion x g.number (f.regions g.number).cells) (numbered n keys)
+  placed_none : (x : Table) (n : ℕ) (keys : List (List ℕ)) → f.standing.next ≤ n → AllByRecursion (λ g. AreInRegion x g.number (f.regions g.number).cells) (numbered_regions n keys)
   placed_none x n keys le = all_from (λ k. AreInRegion x k (f.regions k).cells) n keys (λ k from_n. subst (λ (r : RegionData). AreInRegion x k r.cells) (sym (unmade k (omega arith))) tt)
 
 none_left : (t : ℕ) (is : List Index) → indexes_of t (of_other_tables t is) ≡ []
@@ -102,7 +102,7 @@ module _ (b : Base) (right : IsRightBase b) (es : List Entry) (f : FolderData) (
   y = made_table s.next t what
 
   abbrev s' : Standing
-  s' = after s (TableIs y)
+  s' = stands_after s (TableIs y)
 
   number : t.0 ≡ s.next + length what.least_keys
   unfolding Follows
@@ -140,7 +140,7 @@ module _ (b : Base) (right : IsRightBase b) (es : List Entry) (f : FolderData) (
   }
 
   -- a region of the table was never drawn
-  new_old : (q n : ℕ) (x : Table) → table_in s.tables q ≡ Some x → IsOneOf n x.regions → IsOneOf n y.regions → ⊥
+  new_old : (q n : ℕ) (x : Table) → table_in s.tables q ≡ Some x → IsRegionAmong n x.regions → IsRegionAmong n y.regions → ⊥
   new_old q n x found one mine = let low = (rows_number s told.numbered q n x found one).1 in let high = one_from s.next n what.least_keys mine in omega arith
 
   numbered_made : AreNumbered s'
@@ -148,10 +148,10 @@ module _ (b : Base) (right : IsRightBase b) (es : List Entry) (f : FolderData) (
     tables = λ q u n x z one two a d. elim (found_made q x one) [
       | inl i ↦ elim (found_made u z two) [
         | inl j ↦ sym i.0 ∙ j.0
-        | inr j ↦ absurd (new_old u n z j.1 d (subst (λ (w : Table). IsOneOf n w.regions) (sym i.1) a))
+        | inr j ↦ absurd (new_old u n z j.1 d (subst (λ (w : Table). IsRegionAmong n w.regions) (sym i.1) a))
       ]
       | inr i ↦ elim (found_made u z two) [
-        | inl j ↦ absurd (new_old q n x i.1 a (subst (λ (w : Table). IsOneOf n w.regions) (sym j.1) d))
+        | inl j ↦ absurd (new_old q n x i.1 a (subst (λ (w : Table). IsRegionAmong n w.regions) (sym j.1) d))
         | inr j ↦ told.numbered.tables q u n x z i.1 j.1 a d
       ]
     ];
@@ -160,7 +160,7 @@ module _ (b : Base) (right : IsRightBase b) (es : List Entry) (f : FolderData) (
       | inr i ↦ told.numbered.each q x i.1
     ];
     apart = λ q n x found one. none_filter region_of_index n (λ (i : Index). not (i.table.0 == t.0)) s.indexes (elim (found_made q x found) [
-      | inl i ↦ none_below s.next n s.indexes (one_from s.next n what.least_keys (subst (λ (w : Table). IsOneOf n w.regions) (sym i.1) one)) told.numbered.below.indexes
+      | inl i ↦ none_below s.next n s.indexes (one_from s.next n what.least_keys (subst (λ (w : Table). IsRegionAmong n w.regions) (sym i.1) one)) told.numbered.below.indexes
       | inr i ↦ told.numbered.apart q n x i.1 one
     ]);
     indexes = distinct_filter region_of_index (λ (i : Index). not (i.table.0 == t.0)) s.indexes told.numbered.indexes;
@@ -177,7 +177,7 @@ module _ (b : Base) (right : IsRightBase b) (es : List Entry) (f : FolderData) (
 
   tells_new : TellsTable b (es ++ e ∷ []) (with_standing s' f) y made_data
   tells_new = record {
-    kept = group_made (form_of b s'.indexes y) right es told.legal e may what is refl (table_laws y) (λ r p. nothing_spelled y r p) (λ r. nothing_whole y 0 r);
+    kept = group_made (form_of_table b s'.indexes y) right es told.legal e may what is refl (table_laws y) (λ r p. nothing_spelled y r p) (λ r. nothing_whole y 0 r);
     files = record {
       horizon = no_horizon f unmade s.next what.least_keys (omega arith);
       cells = ap value_at (nothing_in f unmade s.next what.least_keys (omega arith));
@@ -196,7 +196,7 @@ module _ (b : Base) (right : IsRightBase b) (es : List Entry) (f : FolderData) (
       let own = found_number s.tables q x found in
       let other : t.0 ≢ x.id.0 = (λ same. apart (same ∙ own)) in
       same_table b es (es ++ e ∷ []) f s' x (v q) here
-      (group_idle (form_of b s.indexes x) es (v q) here.kept e may (act_idle x.id e (subst (λ (a : Act). IsElsewhere x.id a) (sym is) other))).kept
+      (group_idle (form_of_table b s.indexes x) es (v q) here.kept e may (act_idle x.id e (subst (λ (a : Act). IsElsewhere x.id a) (sym is) other))).kept
       (let up = last_step_up x.id.0 (last_of b x.id.0 es) e.act in let l = last-snoc b x.id.0 es e in omega arith)
       (λ n i stood its. index_of_others t.0 s.indexes n told.numbered.ids ∙ (ap (of_others t.0) stood ∙ others_stay t.0 i (λ same. other (sym same ∙ its))))
       (indexes_kept t.0 x.id.0 s.indexes other)

@@ -11,7 +11,7 @@ use Rattle.px_trail.specs.declared.entry.Entry.{Entry}
 use Rattle.px_trail.specs.Batches.{Batch, batch_of, batch_step, has}
 use Rattle.px_trail.specs.Lasting.{TellSame, lasting}
 use Rattle.px_trail.specs.Legal.{Follows, MayCome, is_after_shut}
-use Rattle.px_trail.specs.States.{Dated, applied, begun, begun_by, is_written, is_written_in, state_of, written}
+use Rattle.px_trail.specs.States.{Dated, applied, begun, begun_by, is_row_written, is_written_in, state_of, written}
 use Rattle.px_trail.specs.Trail.{Base, Catalogue, catalogue_of, catalogue_step, draws, horizon_of, horizon_step, last_of, last_step, shape_of, shape_step}
 use Rattle.px_trail.proofs.Growth.{batch_of-snoc, begun-snoc, catalogue-snoc, horizon-snoc, last-snoc, shape-snoc}
 use Rattle.px_trail.proofs.Lasting.{quiet-same}
@@ -104,7 +104,7 @@ module _ (b : Base) (es : List Entry) (e u : Entry) (idle : IsIdle e.act) where
       let y = idle.some t s e.seat x in
       ap (λ (o : Option Batch). is_written_in (batch_step t s o u.seat u.act) r) y.1.0 ∙ same_written t s u.seat y.0 x r u.act y.1.1
 
-  late_written : (t s : ℕ) (r : List Value) → is_written now t r s ≡ is_written soon t r s
+  late_written : (t s : ℕ) (r : List Value) → is_row_written now t r s ≡ is_row_written soon t r s
   late_written t s r =
       ap (λ (o : Option Batch). is_written_in o r) (batch_of-snoc t s (es ++ e ∷ []) u ∙ ap (λ (o : Option Batch). batch_step t s o u.seat u.act) (batch_of-snoc t s es e))
       ∙ (same_batch t s r (batch_of t s es) refl ∙ ap (λ (o : Option Batch). is_written_in o r) (sym (batch_of-snoc t s es u)))
@@ -123,7 +123,7 @@ module _ (b : Base) (es : List Entry) (e u : Entry) (idle : IsIdle e.act) where
       let v = b.state t r p in
       ap (λ (s : Shape). applied s r p v (written now t r)) (late_shape t)
       ∙ ap (λ (l : List Dated). applied (shape_of b soon t) r p v l)
-      ((λ i. filter (λ d. late_written t d.stamp r i) (begun t r now)) ∙ ap (λ (l : List Dated). filter (λ d. is_written soon t r d.stamp) l) (late_begun t r))
+      ((λ i. filter (λ d. late_written t d.stamp r i) (begun t r now)) ∙ ap (λ (l : List Dated). filter (λ d. is_row_written soon t r d.stamp) l) (late_begun t r))
 
   pub late_same : TellSame b soon now
   late_same = record {

@@ -11,7 +11,7 @@ use Rattle.px_schema.specs.Stands.{index_draws, table_draws}
 use Rattle.px_schema.specs.declared.standing.Standing.{Standing}
 use Rattle.px_recovery.specs.Folder.{FolderData}
 use Rattle.px_recovery.specs.Stands.{AreNumbered}
-use Rattle.px_recovery.specs.Tables.{IsOneOf, index_in, indexes_of, number_of_index, number_of_region, region_of_index, table_in}
+use Rattle.px_recovery.specs.Tables.{IsRegionAmong, index_in, indexes_of, number_of_index, number_of_region, region_of_index, table_in}
 use Rattle.px_recovery.proofs.Lookups.{index_first, index_later}
 use Rattle.px_recovery.proofs.Tables.{IsForeign, none_place, one_place}
 
@@ -45,12 +45,12 @@ all_found P (y ∷ ts) t x all is = elim (found_by y x (table_in ts t) (y.id.0 =
 
 -- ---- regions
 
-one_drawn : (P : ℕ → Type 0) (n : ℕ) (gs : List TableRegion) (rest : List ℕ) → IsOneOf n gs → AllByRecursion P (map (λ (g : TableRegion). g.number) gs ++ rest) → P n
+one_drawn : (P : ℕ → Type 0) (n : ℕ) (gs : List TableRegion) (rest : List ℕ) → IsRegionAmong n gs → AllByRecursion P (map (λ (g : TableRegion). g.number) gs ++ rest) → P n
 one_drawn P n [] rest one all = absurd one
 one_drawn P n (g ∷ gs) rest (inl is) all = subst P is all.0
 one_drawn P n (g ∷ gs) rest (inr one) all = one_drawn P n gs rest one all.1
 
-one_some : (P : ℕ → Type 0) (n : ℕ) (gs : List TableRegion) → IsOneOf n gs → AllByRecursion (λ (g : TableRegion). P g.number) gs → P n
+one_some : (P : ℕ → Type 0) (n : ℕ) (gs : List TableRegion) → IsRegionAmong n gs → AllByRecursion (λ (g : TableRegion). P g.number) gs → P n
 one_some P n [] one all = absurd one
 one_some P n (g ∷ gs) (inl is) all = subst P is all.0
 one_some P n (g ∷ gs) (inr one) all = one_some P n gs one all.1
@@ -69,7 +69,7 @@ all_place P (i ∷ is) zero none lt all = all.0
 all_place P (i ∷ is) (suc k) none lt all = all_place P is k none (omega arith) all.1
 
 -- the region of a table's rows, and of an index that stands, has a number that was drawn
-pub rows_number : (s : Standing) → AreNumbered s → (t n : ℕ) (x : Table) → table_in s.tables t ≡ Some x → IsOneOf n x.regions → (1 ≤ n) × (n < s.next)
+pub rows_number : (s : Standing) → AreNumbered s → (t n : ℕ) (x : Table) → table_in s.tables t ≡ Some x → IsRegionAmong n x.regions → (1 ≤ n) × (n < s.next)
 rows_number s numbered t n x found one = (
   one_some (λ k. 1 ≤ k) n x.regions one (all_found (λ y. AllByRecursion (λ g. 1 ≤ g.number) y.regions) s.tables t x numbered.some found),
   one_drawn (λ k. k < s.next) n x.regions (x.id.0 ∷ []) one (all_found (λ y. AllByRecursion (λ k. k < s.next) (table_draws y)) s.tables t x numbered.below.tables found),
@@ -81,7 +81,7 @@ index_number s numbered t place i there at = (
   subst (λ (y : Index). y.region < s.next) at (all_place (λ y. AllByRecursion (λ k. k < s.next) (index_draws y)) (indexes_of t s.indexes) place i there (all_filter (λ y. AllByRecursion (λ k. k < s.next) (index_draws y)) (λ (y : Index). y.table.0 == t) s.indexes numbered.below.indexes)).0,
 )
 
-pub none_of : (n : ℕ) (gs : List TableRegion) → (IsOneOf n gs → ⊥) → HasNone number_of_region n gs
+pub none_of : (n : ℕ) (gs : List TableRegion) → (IsRegionAmong n gs → ⊥) → HasNone number_of_region n gs
 none_of n [] not = tt
 none_of n (g ∷ gs) not = ((λ is. not (inl is)), none_of n gs (λ one. not (inr one)))
 
@@ -138,7 +138,7 @@ index_placed (i ∷ is) t k d once l = placed_by i is t d once.0 (λ m less. ind
 
 module _ (f : FolderData) (numbered : AreNumbered f.standing) (t : ℕ) (x : Table) (found : table_in f.standing.tables t ≡ Some x) where
   -- a region of the table's rows
-  module _ (n : ℕ) (one : IsOneOf n x.regions) where
+  module _ (n : ℕ) (one : IsRegionAmong n x.regions) where
     pub rows_foreign : (q : ℕ) (y : Table) → q ≢ t → table_in f.standing.tables q ≡ Some y → IsForeign f y n
     rows_foreign q y other is = record {
       rows = none_of n y.regions (λ theirs. other (sym (numbered.tables t q n x y found is one theirs)));

@@ -5,7 +5,7 @@ use Rattle.std.proofs.lemmas.Bool.{false≢true}
 use Rattle.px_outside.specs.Parts.{AreDistinct, HasNone}
 use Rattle.px_groupworld.specs.Group.{GroupData, IndexPart, no_part}
 use Rattle.px_tablefolder.specs.Folder.{IndexFiles, IsFilesOf, IsOpened, TableFiles, folder_high, no_files}
-use Rattle.px_recovery.specs.Tables.{number_of}
+use Rattle.px_recovery.specs.Tables.{number_of_part}
 
 abbrev active : IndexFiles → Bool
 active y = y.is_active
@@ -63,18 +63,18 @@ is_opened n = record { high = refl; low = refl; opens = refl; cells = refl; each
 abbrev id_of : IndexFiles → ℕ
 id_of y = y.id
 
-none_if : (k : ℕ) (y : IndexFiles) (ys : List IndexFiles) (c : Bool) → (y.id ≡ k → ⊥) → HasNone number_of k (parts ys) → HasNone number_of k (part_if c y ys)
+none_if : (k : ℕ) (y : IndexFiles) (ys : List IndexFiles) (c : Bool) → (y.id ≡ k → ⊥) → HasNone number_of_part k (parts ys) → HasNone number_of_part k (part_if c y ys)
 none_if k y ys true not rest = (not, rest)
 none_if k y ys false not rest = rest
 
-none_opened : (k : ℕ) (ys : List IndexFiles) → HasNone id_of k ys → HasNone number_of k (parts ys)
+none_opened : (k : ℕ) (ys : List IndexFiles) → HasNone id_of k ys → HasNone number_of_part k (parts ys)
 none_opened k [] none = tt
 none_opened k (y ∷ ys) none = none_if k y ys (active y) none.0 (none_opened k ys none.1)
 
-once_if : (y : IndexFiles) (ys : List IndexFiles) (c : Bool) → HasNone number_of y.id (parts ys) → AreDistinct number_of (parts ys) → AreDistinct number_of (part_if c y ys)
+once_if : (y : IndexFiles) (ys : List IndexFiles) (c : Bool) → HasNone number_of_part y.id (parts ys) → AreDistinct number_of_part (parts ys) → AreDistinct number_of_part (part_if c y ys)
 once_if y ys true none rest = (none, rest)
 once_if y ys false none rest = rest
 
-pub parts_once : (ys : List IndexFiles) → AreDistinct id_of ys → AreDistinct number_of (map opened_part (filter active ys))
+pub parts_once : (ys : List IndexFiles) → AreDistinct id_of ys → AreDistinct number_of_part (map opened_part (filter active ys))
 parts_once [] once = tt
 parts_once (y ∷ ys) once = once_if y ys (active y) (none_opened y.id ys once.0) (parts_once ys once.1)

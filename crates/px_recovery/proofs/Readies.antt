@@ -25,13 +25,13 @@ use Rattle.px_groupworld.specs.Group.{GroupData, GroupKept, IndexPart, no_part}
 use Rattle.px_groupworld.specs.Steps.{ready_data}
 use Rattle.px_groupworld.proofs.Entries.{group_idle}
 use Rattle.px_tablefolder.specs.Folder.{IndexFiles, IsFilesOf, last_cell, no_files}
-use Rattle.px_schema.specs.Stands.{after, put_index}
+use Rattle.px_schema.specs.Stands.{put_index, stands_after}
 use Rattle.px_schema.specs.declared.item.CatalogItem.TheVariants.{IndexIs}
 use Rattle.px_schema.specs.declared.standing.Standing.{Standing}
 use Rattle.px_schema.proofs.Numbers.{below_next, next_up, put_all_indexes}
 use Rattle.px_recovery.specs.Folder.{FolderData, with_standing}
 use Rattle.px_recovery.specs.Stands.{AreNumbered, Explains, TellsCatalogue, opened_index}
-use Rattle.px_recovery.specs.Tables.{HasIndex, TellsTable, form_in, form_of, index_files, index_in, indexes_of, is_active, number_of_index, region_of_index, table_in}
+use Rattle.px_recovery.specs.Tables.{HasTableIndex, TellsTable, form_of_index, form_of_table, index_files, index_in, indexes_of, is_active, number_of_index, region_of_index, table_in}
 use Rattle.px_recovery.proofs.Forms.{other_forms, same_table}
 use Rattle.px_recovery.proofs.Lookups.{index_first, index_later}
 use Rattle.px_recovery.proofs.Notes.{last_step_up}
@@ -95,7 +95,7 @@ module _ (b : Base) (es : List Entry) (f : FolderData) (v : ℕ → GroupData) (
   y = ready z
 
   abbrev now : Standing
-  now = after s (IndexIs y)
+  now = stands_after s (IndexIs y)
 
   number : z.id.0 ≡ i.0
   number = index_number_is s.indexes i.0 z stood
@@ -153,7 +153,7 @@ module _ (b : Base) (es : List Entry) (f : FolderData) (v : ℕ → GroupData) (
       let here = told.tables q w at in
       let num = found_number s.tables q w at in
       same_table b es es' f now w (v q) here
-      (group_idle (form_of b s.indexes w) es (v q) here.kept e may (act_idle w.id e (subst (λ (a : Act). IsElsewhere w.id a) (sym is) tt))).kept
+      (group_idle (form_of_table b s.indexes w) es (v q) here.kept e may (act_idle w.id e (subst (λ (a : Act). IsElsewhere w.id a) (sym is) tt))).kept
       (last_up w.id.0)
       (λ n k there its. put_other z y refl refl s.indexes n (λ same.
       let one : Some z ≡ Some k = sym stood ∙ (ap (index_in s.indexes) (sym number ∙ same) ∙ there) in
@@ -164,7 +164,7 @@ module _ (b : Base) (es : List Entry) (f : FolderData) (v : ℕ → GroupData) (
   -- ---- its own table, where the files tell of the index
 
   module _ (j : ℕ) (lt : j < length (v t.0).indexes) (id : (get_or (v t.0).indexes j no_part).id ≡ i.0) (built : IsFilesOf (record (get_or (v t.0).indexes j no_part) { is_built = true }) (index_files f.regions y))
-      (kept : GroupKept (form_of b s.indexes x) es' (ready_data j (v t.0))) where
+      (kept : GroupKept (form_of_table b s.indexes x) es' (ready_data j (v t.0))) where
     abbrev w : GroupData
     w = v t.0
 
@@ -177,7 +177,7 @@ module _ (b : Base) (es : List Entry) (f : FolderData) (v : ℕ → GroupData) (
     here : TellsTable b es f x w
     here = told.tables t.0 x found
 
-    stand_before : (k : ℕ) → k < length parts → HasIndex s.indexes x.id.0 (get_or parts k no_part).id
+    stand_before : (k : ℕ) → k < length parts → HasTableIndex s.indexes x.id.0 (get_or parts k no_part).id
     stand_before = standing_set s.indexes x.id.0 w.indexes j part refl here.stand
 
     -- an index that stood stands, as it did or as ready
@@ -187,13 +187,13 @@ module _ (b : Base) (es : List Entry) (f : FolderData) (v : ℕ → GroupData) (
       | inr other ↦ inl (put_other z y refl refl s.indexes n other ∙ at)
     ]
 
-    form_now : (n : ℕ) (k : Index) → index_in s.indexes n ≡ Some k → form_in x (index_in now.indexes n) ≡ form_in x (index_in s.indexes n)
+    form_now : (n : ℕ) (k : Index) → index_in s.indexes n ≡ Some k → form_of_index x (index_in now.indexes n) ≡ form_of_index x (index_in s.indexes n)
     form_now n k at = elim (found_now n k at) [
-      | inl a ↦ ap (form_in x) (a ∙ sym at)
-      | inr a ↦ ap (form_in x) a.1 ∙ (same_form x z ∙ (ap (λ (l : Index). index_form x l) (sym a.0) ∙ ap (form_in x) (sym at)))
+      | inl a ↦ ap (form_of_index x) (a ∙ sym at)
+      | inr a ↦ ap (form_of_index x) a.1 ∙ (same_form x z ∙ (ap (λ (l : Index). index_form x l) (sym a.0) ∙ ap (form_of_index x) (sym at)))
     ]
 
-    stand_now : (k : ℕ) → k < length parts → HasIndex now.indexes x.id.0 (get_or parts k no_part).id
+    stand_now : (k : ℕ) → k < length parts → HasTableIndex now.indexes x.id.0 (get_or parts k no_part).id
     stand_now k l =
         let h = stand_before k l in
         elim (found_now (get_or parts k no_part).id h.0 h.1.0) [
@@ -279,7 +279,7 @@ module _ (b : Base) (es : List Entry) (f : FolderData) (v : ℕ → GroupData) (
 
     tells_own : TellsTable b es' (with_standing now f) x (ready_data j w)
     tells_own = record {
-      kept = other_forms (form_of b s.indexes x) (λ n. form_in x (index_in now.indexes n)) es' (ready_data j w) (λ k l. (let h = stand_before k l in form_now (get_or parts k no_part).id h.0 h.1.0)) kept;
+      kept = other_forms (form_of_table b s.indexes x) (λ n. form_of_index x (index_in now.indexes n)) es' (ready_data j w) (λ k l. (let h = stand_before k l in form_now (get_or parts k no_part).id h.0 h.1.0)) kept;
       files = record {
         horizon = here.files.horizon;
         cells = here.files.cells;

@@ -18,14 +18,14 @@ use Rattle.px_groupworld.specs.Group.{GroupData, TableForm, no_part}
 use Rattle.px_groupworld.specs.Sound.{IsSoundTable}
 use Rattle.px_groupworld.proofs.Fresh.{sound_group}
 use Rattle.px_tablefolder.specs.Folder.{IndexFiles, IsFolderBase, IsOpened, folder_changed, folder_high, folder_last, folder_state, no_files}
-use Rattle.px_tablefolder.specs.Stop.{Recovers}
+use Rattle.px_tablefolder.specs.Stop.{TableRecovers}
 use Rattle.px_tablefolder.proofs.Stamped.{horizon_within, numbers_within}
 use Rattle.px_tablefolder.proofs.TableStops.{folder_recovers, folder_sound}
 use Rattle.px_region.specs.Region.{RegionData}
-use Rattle.px_recovery.specs.Base.{IsSound, IsSoundFolder, IsSoundPart, base_of, told_of}
+use Rattle.px_recovery.specs.Base.{IsSound, IsSoundFolder, IsSoundPart, base_of, told_of_table}
 use Rattle.px_recovery.specs.Folder.{FolderData, StandsFor}
 use Rattle.px_recovery.specs.Stands.{AreNumbered, Explains, StandsAfter, TellsCatalogue, opened_index, opened_state}
-use Rattle.px_recovery.specs.Tables.{HasIndex, TellsTable, form_of, index_files, index_in, indexes_of, number_of_index, table_files, table_in}
+use Rattle.px_recovery.specs.Tables.{HasTableIndex, TellsTable, form_of_table, index_files, index_in, indexes_of, number_of_index, table_files, table_in}
 use Rattle.px_recovery.proofs.Notes.{tells_itself}
 use Rattle.px_recovery.proofs.Numbered.{distinct_filter, found_number, index_placed}
 use Rattle.px_recovery.proofs.Tables.{at_map}
@@ -38,10 +38,10 @@ pub is_base : (f : FolderData) (x : Table) → table_in f.standing.tables x.id.0
 unfolding shape_from
 is_base f x found = record {
   shape = ap base_shape found;
-  last = ap (told_of (λ y. folder_last (table_files f y)) 0) found;
-  horizon = ap (told_of (λ y. folder_high (table_files f y)) 0) found;
-  changed = λ i r s. told_of (λ y. folder_changed (row_form y) (table_files f y) r s) false (found i);
-  state = λ i r p. told_of (λ y. folder_state (row_form y) (table_files f y) r p) None (found i);
+  last = ap (told_of_table (λ y. folder_last (table_files f y)) 0) found;
+  horizon = ap (told_of_table (λ y. folder_high (table_files f y)) 0) found;
+  changed = λ i r s. told_of_table (λ y. folder_changed (row_form y) (table_files f y) r s) false (found i);
+  state = λ i r p. told_of_table (λ y. folder_state (row_form y) (table_files f y) r p) None (found i);
 }
 
 own_found : (f : FolderData) (t : ℕ) (x : Table) → table_in f.standing.tables t ≡ Some x → table_in f.standing.tables x.id.0 ≡ Some x
@@ -59,16 +59,16 @@ once_files regions (i ∷ is) once = (none_files is once.0, once_files regions i
 
 -- the table of each number that is opened
 abbrev opened_of : FolderData → ℕ → GroupData
-opened_of f t = told_of (λ x. opened_data (table_files f x)) (record { high = 0; low = 0; cells = []; indexes = []; opens = [] }) (table_in f.standing.tables t)
+opened_of f t = told_of_table (λ x. opened_data (table_files f x)) (record { high = 0; low = 0; cells = []; indexes = []; opens = [] }) (table_in f.standing.tables t)
 
 module _ (b : Base) (es : List Entry) (f : FolderData) (v : ℕ → GroupData) (told : Explains b es f v) (t : ℕ) (x : Table) (found : table_in f.standing.tables t ≡ Some x) where
   abbrev form : TableForm
-  form = form_of b f.standing.indexes x
+  form = form_of_table b f.standing.indexes x
 
   tells : TellsTable b es f x (v t)
   tells = told.tables t x found
 
-  sound_here : (u : GroupData) → IsOpened (table_files f x) u → IsSoundTable (form_of (base_of f) f.standing.indexes x) u
+  sound_here : (u : GroupData) → IsOpened (table_files f x) u → IsSoundTable (form_of_table (base_of f) f.standing.indexes x) u
   sound_here u opened = folder_sound form es (v t) tells.kept (table_files f x) tells.files (base_of f) (is_base f x (own_found f t x found)) u opened
 
   sound_part : IsSoundPart f x (opened_data (table_files f x))
@@ -83,7 +83,7 @@ pub explains_sound : (b : Base) (es : List Entry) (f : FolderData) (v : ℕ → 
 explains_sound b es f v told = record {
   numbered = told.numbered;
   opens = opened_of f;
-  tables = λ t x found. subst (λ (u : GroupData). IsSoundPart f x u) (sym (ap (told_of (λ y. opened_data (table_files f y)) (record { high = 0; low = 0; cells = []; indexes = []; opens = [] })) found)) (sound_part b es f v told t x found);
+  tables = λ t x found. subst (λ (u : GroupData). IsSoundPart f x u) (sym (ap (told_of_table (λ y. opened_data (table_files f y)) (record { high = 0; low = 0; cells = []; indexes = []; opens = [] })) found)) (sound_part b es f v told t x found);
 }
 
 pub stands_sound : (b : Base) (es : List Entry) (image : Image) → StandsAfter b es image → IsSound image
@@ -104,12 +104,12 @@ no_index : Index
 no_index = record { id = record { 0 = 0 }; table = record { 0 = 0 }; name = []; state = Disabled; birth = 0; region = 0; parts = []; included = [] }
 
 -- an index that is opened stands
-opened_stands : (f : FolderData) (x : Table) → AreNumbered f.standing → (u : GroupData) (j i : ℕ) → i < length (indexes_of x.id.0 f.standing.indexes) → (get_or u.indexes j no_part).id ≡ (get_or (table_files f x).indexes i no_files).id → HasIndex f.standing.indexes x.id.0 (get_or u.indexes j no_part).id
+opened_stands : (f : FolderData) (x : Table) → AreNumbered f.standing → (u : GroupData) (j i : ℕ) → i < length (indexes_of x.id.0 f.standing.indexes) → (get_or u.indexes j no_part).id ≡ (get_or (table_files f x).indexes i no_files).id → HasTableIndex f.standing.indexes x.id.0 (get_or u.indexes j no_part).id
 opened_stands f x numbered u j i l same =
     let stood = indexes_of x.id.0 f.standing.indexes in
     let e : (get_or u.indexes j no_part).id ≡ (get_or stood i no_index).id.0 = same ∙ ap (λ (y : IndexFiles). y.id) (at_map (index_files f.regions) stood i no_files no_index l) in
     let p = index_placed f.standing.indexes x.id.0 i no_index numbered.ids l in
-    subst (λ (n : ℕ). HasIndex f.standing.indexes x.id.0 n) (sym e) (get_or stood i no_index, (p.0, p.1))
+    subst (λ (n : ℕ). HasTableIndex f.standing.indexes x.id.0 n) (sym e) (get_or stood i no_index, (p.0, p.1))
 
 pub sound_explains : (f : FolderData) → (s : IsSoundFolder f) → Explains (base_of f) [] f s.opens
 unfolding catalogue_from last_from
@@ -123,7 +123,7 @@ sound_explains f s = record {
       let fb = is_base f x (own_found f t x found) in
       let n = table_files f x in
       record {
-        kept = sound_group (form_of (base_of f) f.standing.indexes x) (s.opens t) p.sound;
+        kept = sound_group (form_of_table (base_of f) f.standing.indexes x) (s.opens t) p.sound;
         files = record {
           horizon = sym o.low;
           cells = sym o.cells;
@@ -150,10 +150,10 @@ module _ (b : Base) (es : List Entry) (image : Image) (s : StandsAfter b es imag
   stood_catalogue = subst (λ (c : Catalogue). TellsCatalogue s.folder.standing c) (sym s.as_told.same.catalogue) s.explains.catalogue
 
   module _ (x : Table) (found : table_in s.folder.standing.tables x.id.0 ≡ Some x) where
-    stood : Recovers (form_of b s.folder.standing.indexes x) (base_of s.folder) s.told (s.groups x.id.0).high (table_files s.folder x)
+    stood : TableRecovers (form_of_table b s.folder.standing.indexes x) (base_of s.folder) s.told (s.groups x.id.0).high (table_files s.folder x)
     stood =
         let k = s.explains.tables x.id.0 x found in
-        folder_recovers (form_of b s.folder.standing.indexes x) s.told (s.groups x.id.0) k.kept (table_files s.folder x) k.files (base_of s.folder) (is_base s.folder x found)
+        folder_recovers (form_of_table b s.folder.standing.indexes x) s.told (s.groups x.id.0) k.kept (table_files s.folder x) k.files (base_of s.folder) (is_base s.folder x found)
 
     pub stood_states : (r : List Value) (p : ℕ) → (table_files s.folder x).horizon ≤ p → state_of (base_of s.folder) [] x.id.0 r p ≡ state_of b es x.id.0 r p
     stood_states r p l = stood.states r p l ∙ sym (s.as_told.same.states x.id.0 r p)

@@ -19,7 +19,7 @@ use Rattle.px_groupworld.specs.Group.{GroupData, GroupKept, IndexPart, TableForm
 use Rattle.px_tablefolder.specs.Folder.{IndexFiles, IsFilesOf, IsFolderOf, TableFiles, last_cell, no_files}
 use Rattle.px_region.specs.Region.{RegionData, with_batch}
 use Rattle.px_recovery.specs.Folder.{FolderData, with_region}
-use Rattle.px_recovery.specs.Tables.{AreInRegion, HasIndex, IsOneOf, TellsTable, form_of, indexes_of, number_of, number_of_region, region_at, region_of_index, table_files}
+use Rattle.px_recovery.specs.Tables.{AreInRegion, HasTableIndex, IsRegionAmong, TellsTable, form_of_table, indexes_of, number_of_part, number_of_region, region_at, region_of_index, table_files}
 use Rattle.px_recovery.proofs.Cells.{all_batch, cells_else, cells_written, horizon_else, horizon_same, indexes_else, values_batch}
 
 -- ---- places of lists
@@ -41,25 +41,25 @@ one_place num (y ∷ xs) zero (suc j) none once lk lj same = absurd (none_place 
 one_place num (y ∷ xs) (suc k) zero none once lk lj same = absurd (none_place num xs k (num y) none once.0 (omega arith) same)
 one_place num (y ∷ xs) (suc k) (suc j) none once lk lj same = ap suc (one_place num xs k j none once.1 (omega arith) (omega arith) same)
 
-none_set : (xs : List IndexPart) (j m : ℕ) (y none : IndexPart) → j < length xs → number_of y ≡ number_of (get_or xs j none) → HasNone number_of m xs → HasNone number_of m (set xs j y)
+none_set : (xs : List IndexPart) (j m : ℕ) (y none : IndexPart) → j < length xs → number_of_part y ≡ number_of_part (get_or xs j none) → HasNone number_of_part m xs → HasNone number_of_part m (set xs j y)
 none_set [] j m y none lt same all = absurd (omega arith)
 none_set (z ∷ xs) zero m y none lt same all = ((λ is. all.0 (sym same ∙ is)), all.1)
 none_set (z ∷ xs) (suc j) m y none lt same all = (all.0, none_set xs j m y none (omega arith) same all.1)
 
-pub distinct_set : (xs : List IndexPart) (j : ℕ) (y none : IndexPart) → j < length xs → number_of y ≡ number_of (get_or xs j none) → AreDistinct number_of xs → AreDistinct number_of (set xs j y)
+pub distinct_set : (xs : List IndexPart) (j : ℕ) (y none : IndexPart) → j < length xs → number_of_part y ≡ number_of_part (get_or xs j none) → AreDistinct number_of_part xs → AreDistinct number_of_part (set xs j y)
 distinct_set [] j y none lt same once = absurd (omega arith)
-distinct_set (z ∷ xs) zero y none lt same once = (subst (λ (m : ℕ). HasNone number_of m xs) (sym same) once.0, once.1)
-distinct_set (z ∷ xs) (suc j) y none lt same once = (none_set xs j (number_of z) y none (omega arith) same once.0, distinct_set xs j y none (omega arith) same once.1)
+distinct_set (z ∷ xs) zero y none lt same once = (subst (λ (m : ℕ). HasNone number_of_part m xs) (sym same) once.0, once.1)
+distinct_set (z ∷ xs) (suc j) y none lt same once = (none_set xs j (number_of_part z) y none (omega arith) same once.0, distinct_set xs j y none (omega arith) same once.1)
 
 -- each index of these stands, and is of the table
 abbrev pub AllStanding : List Index → ℕ → List IndexPart → Type 0
-AllStanding indexes t xs = (j : ℕ) → j < length xs → HasIndex indexes t (get_or xs j no_part).id
+AllStanding indexes t xs = (j : ℕ) → j < length xs → HasTableIndex indexes t (get_or xs j no_part).id
 
 pub standing_set : (indexes : List Index) (t : ℕ) (xs : List IndexPart) (k : ℕ) (y : IndexPart) → y.id ≡ (get_or xs k no_part).id → AllStanding indexes t xs → AllStanding indexes t (set xs k y)
 standing_set indexes t xs k y same all j l =
     let e = length-set xs k y in
     let m : j < length xs = omega arith in
-    subst (λ (n : ℕ). HasIndex indexes t n) (sym (elim (cases_eq j k) [
+    subst (λ (n : ℕ). HasTableIndex indexes t n) (sym (elim (cases_eq j k) [
       | inl q ↦ ap (λ (z : ℕ). (get_or (set xs k y) z no_part).id) q ∙ (ap (λ (z : IndexPart). z.id) (get_or-set_same xs k y no_part (subst (λ (z : ℕ). z < length xs) q m)) ∙ (same ∙ ap (λ (z : ℕ). (get_or xs z no_part).id) (sym q)))
       | inr q ↦ ap (λ (z : IndexPart). z.id) (get_or-set_other xs k j y no_part q)
     ])) (all j m)
@@ -98,9 +98,9 @@ module _ (f : FolderData) (x : Table) (n : ℕ) (s : RegionData) where
   files_else foreign = λ i. record { cells = cells_else f.regions n s x.regions foreign.rows i; horizon = horizon_else f.regions n s x.regions foreign.rows i; indexes = indexes_else f.regions n s (indexes_of x.id.0 f.standing.indexes) foreign.indexes i }
 
   -- the table goes on as it was
-  pub other_table : (b : Base) (es es' : List Entry) (v : GroupData) → TellsTable b es f x v → IsForeign f x n → GroupKept (form_of b f.standing.indexes x) es' v → last_of b x.id.0 es ≤ last_of b x.id.0 es' → TellsTable b es' (with_region n s f) x v
+  pub other_table : (b : Base) (es es' : List Entry) (v : GroupData) → TellsTable b es f x v → IsForeign f x n → GroupKept (form_of_table b f.standing.indexes x) es' v → last_of b x.id.0 es ≤ last_of b x.id.0 es' → TellsTable b es' (with_region n s f) x v
   other_table b es es' v tells foreign kept last =
-      let form = form_of b f.standing.indexes x in
+      let form = form_of_table b f.standing.indexes x in
       record {
         kept = kept;
         files = subst (λ (m : TableFiles). IsFolderOf form es' v m) (sym (files_else foreign))
@@ -111,24 +111,24 @@ module _ (f : FolderData) (x : Table) (n : ℕ) (s : RegionData) where
       }
 
 -- the table goes on where no region changes: its horizon may have risen, and its open batches be others
-pub noted_table : (b : Base) (es es' : List Entry) (f : FolderData) (x : Table) (v v' : GroupData) → TellsTable b es f x v → GroupKept (form_of b f.standing.indexes x) es' v' → last_of b x.id.0 es ≤ last_of b x.id.0 es' → v.high ≤ v'.high → v'.low ≡ v.low
+pub noted_table : (b : Base) (es es' : List Entry) (f : FolderData) (x : Table) (v v' : GroupData) → TellsTable b es f x v → GroupKept (form_of_table b f.standing.indexes x) es' v' → last_of b x.id.0 es ≤ last_of b x.id.0 es' → v.high ≤ v'.high → v'.low ≡ v.low
     → v'.cells ≡ v.cells → v'.indexes ≡ v.indexes → TellsTable b es' f x v'
 noted_table b es es' f x v v' tells kept last high low cells indexes =
-    let form = form_of b f.standing.indexes x in
+    let form = form_of_table b f.standing.indexes x in
     record {
       kept = kept;
       files = folder_next form es es' v v' (table_files f x) (table_files f x) tells.files (tells.files.horizon ∙ sym low) (tells.files.cells ∙ ap value_at (sym cells)) refl indexes high last;
       placed = tells.placed;
-      once = subst (λ (l : List IndexPart). AreDistinct number_of l) (sym indexes) tells.once;
+      once = subst (λ (l : List IndexPart). AreDistinct number_of_part l) (sym indexes) tells.once;
       stand = subst (λ (l : List IndexPart). AllStanding f.standing.indexes x.id.0 l) (sym indexes) tells.stand;
     }
 
 -- ---- a batch in a region of the table's rows
 
-module _ (b : Base) (es es' : List Entry) (f : FolderData) (x : Table) (v v' : GroupData) (tells : TellsTable b es f x v) (kept : GroupKept (form_of b f.standing.indexes x) es' v') (last : last_of b x.id.0 es ≤ last_of b x.id.0 es')
+module _ (b : Base) (es es' : List Entry) (f : FolderData) (x : Table) (v v' : GroupData) (tells : TellsTable b es f x v) (kept : GroupKept (form_of_table b f.standing.indexes x) es' v') (last : last_of b x.id.0 es ≤ last_of b x.id.0 es')
     (high : v.high ≤ v'.high) (low : v'.low ≡ v.low) (n : ℕ) (batch : List CellData) where
   abbrev form : TableForm
-  form = form_of b f.standing.indexes x
+  form = form_of_table b f.standing.indexes x
 
   abbrev s : RegionData
   s = with_batch (f.regions n) batch
@@ -137,7 +137,7 @@ module _ (b : Base) (es es' : List Entry) (f : FolderData) (x : Table) (v v' : G
   f' = with_region n s f
 
   -- in a region of the table's rows
-  module _ (one : IsOneOf n x.regions) (distinct : AreDistinct number_of_region x.regions) (apart : HasNone region_of_index n (indexes_of x.id.0 f.standing.indexes)) (mine : AreInRegion x n batch)
+  module _ (one : IsRegionAmong n x.regions) (distinct : AreDistinct number_of_region x.regions) (apart : HasNone region_of_index n (indexes_of x.id.0 f.standing.indexes)) (mine : AreInRegion x n batch)
       (reads : ReadsSame v'.cells (batch ++ v.cells)) (indexes : v'.indexes ≡ v.indexes) where
     placed_more : (gs : List TableRegion) → AllByRecursion (λ g. AreInRegion x g.number (f.regions g.number).cells) gs → AllByRecursion (λ g. AreInRegion x g.number (f'.regions g.number).cells) gs
     placed_more [] all = tt
@@ -159,6 +159,6 @@ module _ (b : Base) (es es' : List Entry) (f : FolderData) (x : Table) (v v' : G
           ∙ (ap (λ (c : Contents). over_contents (value_at batch) c) tells.files.cells ∙ sym (values_put batch v.cells v'.cells reads)))
           (indexes_else f.regions n s (indexes_of x.id.0 f.standing.indexes) apart) indexes high last;
       placed = placed_more x.regions tells.placed;
-      once = subst (λ (l : List IndexPart). AreDistinct number_of l) (sym indexes) tells.once;
+      once = subst (λ (l : List IndexPart). AreDistinct number_of_part l) (sym indexes) tells.once;
       stand = subst (λ (l : List IndexPart). AllStanding f.standing.indexes x.id.0 l) (sym indexes) tells.stand;
     }

@@ -11,12 +11,12 @@ use Rattle.px_groupworld.specs.Sound.{IsSoundTable}
 use Rattle.px_tablefolder.specs.Folder.{IsOpened, folder_changed, folder_high, folder_last, folder_state}
 use Rattle.px_recovery.specs.Folder.{FolderData, StandsFor}
 use Rattle.px_recovery.specs.Stands.{AreNumbered, opened_index}
-use Rattle.px_recovery.specs.Tables.{AreInRegion, form_of, index_in, number_of, table_files, table_in}
+use Rattle.px_recovery.specs.Tables.{AreInRegion, form_of_table, index_in, number_of_part, table_files, table_in}
 
 -- what is told of a table, and what of one that doesn't stand
-abbrev pub told_of : {A : Type 0} → (Table → A) → A → Option Table → A
-told_of tells none None = none
-told_of tells none (Some x) = tells x
+abbrev pub told_of_table : {A : Type 0} → (Table → A) → A → Option Table → A
+told_of_table tells none None = none
+told_of_table tells none (Some x) = tells x
 
 -- What a run begins with that opens the folder: an index that was building is disabled, and the numbers of a table are the
 -- greatest of its regions, of those of its indexes, whatever their states are, and of their births.
@@ -26,20 +26,20 @@ base_of f =
       tables = λ t. table_in f.standing.tables t;
       indexes = λ i. opened_index (index_in f.standing.indexes i);
       next = f.standing.next;
-      last = λ t. told_of (λ x. folder_last (table_files f x)) 0 (table_in f.standing.tables t);
-      horizon = λ t. told_of (λ x. folder_high (table_files f x)) 0 (table_in f.standing.tables t);
-      data_horizon = λ t. told_of (λ x. (table_files f x).horizon) 0 (table_in f.standing.tables t);
-      state = λ t r p. told_of (λ x. folder_state (row_form x) (table_files f x) r p) None (table_in f.standing.tables t);
-      changed = λ t r s. told_of (λ x. folder_changed (row_form x) (table_files f x) r s) false (table_in f.standing.tables t);
+      last = λ t. told_of_table (λ x. folder_last (table_files f x)) 0 (table_in f.standing.tables t);
+      horizon = λ t. told_of_table (λ x. folder_high (table_files f x)) 0 (table_in f.standing.tables t);
+      data_horizon = λ t. told_of_table (λ x. (table_files f x).horizon) 0 (table_in f.standing.tables t);
+      state = λ t r p. told_of_table (λ x. folder_state (row_form x) (table_files f x) r p) None (table_in f.standing.tables t);
+      changed = λ t r s. told_of_table (λ x. folder_changed (row_form x) (table_files f x) r s) false (table_in f.standing.tables t);
     }
 
 -- The table that is opened from its files is sound over the folder's base, has no index twice, and each cell of its rows is in the
 -- region of its key.
 pub record IsSoundPart (f : FolderData) (x : Table) (u : GroupData) : Type 0 where
   pub opened : IsOpened (table_files f x) u
-  pub sound : IsSoundTable (form_of (base_of f) f.standing.indexes x) u
+  pub sound : IsSoundTable (form_of_table (base_of f) f.standing.indexes x) u
   pub placed : AllByRecursion (λ g. AreInRegion x g.number (f.regions g.number).cells) x.regions
-  pub once : AreDistinct number_of u.indexes
+  pub once : AreDistinct number_of_part u.indexes
 
 -- numbers are drawn once, and each table that stands is sound
 pub record IsSoundFolder (f : FolderData) : Type 0 where

@@ -7,7 +7,7 @@ use Rattle.px_outside.specs.Parts.{AllStand, AllStandIn, with_part}
 use Rattle.px_outside.specs.declared.disk.Disk.{Ghosts}
 use Rattle.px_tables.specs.declared.table.Table.{Table}
 use Rattle.px_wal.specs.Files.{HasFile}
-use Rattle.px_region.specs.Region.{RegionData, Stands}
+use Rattle.px_region.specs.Region.{RegionData, RegionStands}
 use Rattle.px_schema.specs.declared.standing.Standing.{Standing}
 use Rattle.px_catalog.specs.Catalogue.{CatalogueStands, catalogue_files}
 
@@ -29,16 +29,16 @@ part_of f zero = Definitions f.standing
 part_of f (suc n) = Cells (f.regions (suc n))
 
 -- the files of a part
-abbrev pub owns : ℕ → ℕ → Type 0
-owns zero file = catalogue_files file
-owns (suc n) file = HasFile (suc n) file
+abbrev pub IsFileOfPart : ℕ → ℕ → Type 0
+IsFileOfPart zero file = catalogue_files file
+IsFileOfPart (suc n) file = HasFile (suc n) file
 
 -- what the image's files of a part stand for
 abbrev pub PartStands : ℕ → Image → PartData → Type 0
 PartStands zero image (Definitions s) = CatalogueStands image s
 PartStands zero image (Cells s) = ⊥
 PartStands (suc n) image (Definitions s) = ⊥
-PartStands (suc n) image (Cells s) = Stands (suc n) image s
+PartStands (suc n) image (Cells s) = RegionStands (suc n) image s
 
 -- one region with other contents, and other definitions
 abbrev pub with_region : ℕ → RegionData → FolderData → FolderData
@@ -56,13 +56,13 @@ regions_of t = map (λ r. r.number) t.regions
 abbrev pub region_numbers : Standing → List ℕ
 region_numbers s = flat_map regions_of s.tables ++ map (λ i. i.region) s.indexes
 
-abbrev pub IsAmong : ℕ → List ℕ → Type 0
-IsAmong n ns = list_any (λ m. nat_eq m n) ns ≡ true
+abbrev pub IsNumberAmong : ℕ → List ℕ → Type 0
+IsNumberAmong n ns = list_any (λ m. nat_eq m n) ns ≡ true
 
 -- the catalogue counts, and the regions that it names
-abbrev pub IsKept : Standing → ℕ → Type 0
-IsKept s zero = Unit {0}
-IsKept s (suc n) = IsAmong (suc n) (region_numbers s)
+abbrev pub IsKeptPart : Standing → ℕ → Type 0
+IsKeptPart s zero = Unit {0}
+IsKeptPart s (suc n) = IsNumberAmong (suc n) (region_numbers s)
 
 -- 3. The folder
 
@@ -83,7 +83,7 @@ AreUnmade f = (n : ℕ) → f.standing.next ≤ n → f.regions n ≡ no_data
 
 -- The image's files stand for this, and no file of a region whose number is still to be drawn has a byte.
 pub record StandsFor (image : Image) (f : FolderData) : Type 0 where
-  pub parts : AllStand PartStands (IsKept f.standing) (part_of f) image
+  pub parts : AllStand PartStands (IsKeptPart f.standing) (part_of f) image
   pub fresh : IsEmptyFrom f.standing.next image
   pub unmade : AreUnmade f
 
@@ -94,6 +94,6 @@ pub record AreFresh {D : Type 0} (d : Ghosts D) (disk : D) (n : ℕ) : Type 0 wh
 
 -- the disk stands for this, whatever a stop leaves
 pub record StandsOn {D : Type 0} (d : Ghosts D) (disk : D) (f : FolderData) : Type 0 where
-  pub parts : AllStandIn d owns PartStands (IsKept f.standing) (part_of f) disk
+  pub parts : AllStandIn d IsFileOfPart PartStands (IsKeptPart f.standing) (part_of f) disk
   pub fresh : AreFresh d disk f.standing.next
   pub unmade : AreUnmade f

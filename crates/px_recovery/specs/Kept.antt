@@ -15,7 +15,7 @@ abbrev pub Parts : Type 0 → Type 1
 Parts D = D → List Entry → FolderData → (ℕ → GroupData) → Type 0
 
 -- The disk stands for a folder that base and entries tell, and the server's parts go on from there.
-pub record GoesOn {D : Type 0} (d : Ghosts D) (b : Base) (Has : Parts D) (disk : D) (es : List Entry) : Type 0 where
+pub record FolderGoesOn {D : Type 0} (d : Ghosts D) (b : Base) (Has : Parts D) (disk : D) (es : List Entry) : Type 0 where
   pub folder : FolderData
   pub groups : ℕ → GroupData
   pub stands : StandsOn d disk folder
@@ -49,7 +49,7 @@ pub record IsServer {D : Type 0} (d : Ghosts D) (b : Base) (premise : Type 0) (H
   pub early : AllByRecursion (λ e. e.calls ≤ d.calls disk) es
   pub lasts : premise → Lasts d b es late disk
   pub legal : premise → IsTrue d.tells → IsLegal b es
-  pub goes_on : closed ≡ None → premise → IsTrue d.tells → GoesOn d b Has disk es
+  pub goes_on : closed ≡ None → premise → IsTrue d.tells → FolderGoesOn d b Has disk es
   pub unlate : closed ≡ None → late ≡ None
   pub closing : closing_call es ≡ closed
   pub late_is : (u : Entry) → late ≡ Some u → premise → IsTrue d.tells → IsLate b es u

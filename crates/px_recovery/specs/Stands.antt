@@ -17,7 +17,7 @@ use Rattle.px_groupworld.specs.Group.{GroupData, GroupKept}
 use Rattle.px_schema.specs.Stands.{IsBelowNext}
 use Rattle.px_schema.specs.declared.standing.Standing.{Standing}
 use Rattle.px_recovery.specs.Folder.{FolderData, StandsFor}
-use Rattle.px_recovery.specs.Tables.{IsOneOf, TellsTable, form_of, index_in, number_of_index, number_of_region, region_of_index, table_in}
+use Rattle.px_recovery.specs.Tables.{IsRegionAmong, TellsTable, form_of_table, index_in, number_of_index, number_of_region, region_of_index, table_in}
 
 -- 1. The catalogue
 
@@ -40,9 +40,9 @@ pub record TellsCatalogue (s : Standing) (c : Catalogue) : Type 0 where
 -- Numbers are drawn once. No region is of two tables, or twice of one, or of a table and of an index, or of two indexes, and no
 -- two indexes have one number. They are at least 1, and below the next one.
 pub record AreNumbered (s : Standing) : Type 0 where
-  pub tables : (t u n : ℕ) (x y : Table) → table_in s.tables t ≡ Some x → table_in s.tables u ≡ Some y → IsOneOf n x.regions → IsOneOf n y.regions → t ≡ u
+  pub tables : (t u n : ℕ) (x y : Table) → table_in s.tables t ≡ Some x → table_in s.tables u ≡ Some y → IsRegionAmong n x.regions → IsRegionAmong n y.regions → t ≡ u
   pub each : (t : ℕ) (x : Table) → table_in s.tables t ≡ Some x → AreDistinct number_of_region x.regions
-  pub apart : (t n : ℕ) (x : Table) → table_in s.tables t ≡ Some x → IsOneOf n x.regions → HasNone region_of_index n s.indexes
+  pub apart : (t n : ℕ) (x : Table) → table_in s.tables t ≡ Some x → IsRegionAmong n x.regions → HasNone region_of_index n s.indexes
   pub indexes : AreDistinct region_of_index s.indexes
   pub ids : AreDistinct number_of_index s.indexes
   pub some : AllByRecursion (λ t. AllByRecursion (λ g. 1 ≤ g.number) t.regions) s.tables
@@ -64,7 +64,7 @@ pub record GoesOnBy (b : Base) (es es' : List Entry) (f : FolderData) (v : ℕ �
   pub legal : IsLegal b es'
   pub catalogue : catalogue_of b es' ≡ catalogue_of b es
   pub last : (q : ℕ) → last_of b q es ≤ last_of b q es'
-  pub others : (q : ℕ) (y : Table) → q ≢ t → table_in f.standing.tables q ≡ Some y → GroupKept (form_of b f.standing.indexes y) es' (v q)
+  pub others : (q : ℕ) (y : Table) → q ≢ t → table_in f.standing.tables q ≡ Some y → GroupKept (form_of_table b f.standing.indexes y) es' (v q)
 
 -- The trail `told` tells the same tables, indexes and states as the trail, and no higher horizon or last stamp.
 pub record TellsAs (b : Base) (told es : List Entry) : Type 0 where
@@ -84,13 +84,13 @@ pub record StandsAfter (b : Base) (es : List Entry) (image : Image) : Type 0 whe
 
 -- 3. Each stop
 
-abbrev pub calls_of : Entry → ℕ
-calls_of e = e.calls
+abbrev pub entry_calls : Entry → ℕ
+entry_calls e = e.calls
 
 -- the image stands for what was there at the moment, or for this and one entry more
 abbrev pub Recovers : Base → List Entry → Option Entry → ℕ → Image → Type 0
-Recovers b = recovery.Recovers calls_of lasting (StandsAfter b)
+Recovers b = recovery.RecoversBy entry_calls lasting (StandsAfter b)
 
 -- each image that a stop may leave does
 abbrev pub Lasts : {D : Type 0} → Ghosts D → Base → List Entry → Option Entry → D → Type 0
-Lasts d b = recovery.Lasts calls_of lasting (StandsAfter b) d
+Lasts d b = recovery.LastsBy entry_calls lasting (StandsAfter b) d

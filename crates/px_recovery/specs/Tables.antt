@@ -23,9 +23,9 @@ use Rattle.px_recovery.specs.Folder.{FolderData}
 -- 1. The table's files
 
 -- the cells of its regions, one region after another, and the greatest horizon of their manifests
-unfoldable pub cells_in : (ℕ → RegionData) → List TableRegion → List CellData
-cells_in regions [] = []
-cells_in regions (g ∷ gs) = (regions g.number).cells ++ cells_in regions gs
+unfoldable pub cells_of_regions : (ℕ → RegionData) → List TableRegion → List CellData
+cells_of_regions regions [] = []
+cells_of_regions regions (g ∷ gs) = (regions g.number).cells ++ cells_of_regions regions gs
 
 unfoldable pub horizon_in : (ℕ → RegionData) → List TableRegion → ℕ
 horizon_in regions [] = 0
@@ -46,15 +46,15 @@ index_files regions i = record { id = i.id.0; cells = (regions i.region).cells; 
 abbrev pub table_files : FolderData → Table → TableFiles
 table_files f x =
     record {
-      cells = cells_in f.regions x.regions;
+      cells = cells_of_regions f.regions x.regions;
       horizon = horizon_in f.regions x.regions;
       indexes = map (index_files f.regions) (indexes_of x.id.0 f.standing.indexes);
     }
 
 -- the region of this number is one of these
-abbrev pub IsOneOf : ℕ → List TableRegion → Type 0
-IsOneOf n [] = ⊥
-IsOneOf n (g ∷ gs) = (g.number ≡ n) ⊎ IsOneOf n gs
+abbrev pub IsRegionAmong : ℕ → List TableRegion → Type 0
+IsRegionAmong n [] = ⊥
+IsRegionAmong n (g ∷ gs) = (g.number ≡ n) ⊎ IsRegionAmong n gs
 
 abbrev pub number_of_region : TableRegion → ℕ
 number_of_region g = g.number
@@ -80,13 +80,13 @@ index_in (x ∷ xs) n = if x.id.0 == n then Some x else index_in xs n
 abbrev pub no_form : IndexForm
 no_form = record { columns = 0; place = λ c. 0; key_of = λ r s. None; col = λ s c. None; owns = λ r k. false }
 
-abbrev pub form_in : Table → Option Index → IndexForm
-form_in x None = no_form
-form_in x (Some i) = index_form x i
+abbrev pub form_of_index : Table → Option Index → IndexForm
+form_of_index x None = no_form
+form_of_index x (Some i) = index_form x i
 
 -- how the table's rows and index rows are spelled, where these indexes stand
-abbrev pub form_of : Base → List Index → Table → TableForm
-form_of b indexes x = table_form b x.id (λ i. form_in x (index_in indexes i)) (row_form x)
+abbrev pub form_of_table : Base → List Index → Table → TableForm
+form_of_table b indexes x = table_form b x.id (λ i. form_of_index x (index_in indexes i)) (row_form x)
 
 -- 3. Which region has a key
 
@@ -104,21 +104,21 @@ AreInRegion x n cells = AllByRecursion (λ c. region_at x c.key ≡ n) cells
 
 -- 4. The table
 
-abbrev pub number_of : IndexPart → ℕ
-number_of i = i.id
+abbrev pub number_of_part : IndexPart → ℕ
+number_of_part i = i.id
 
 -- the index of this number stands, and is of this table
-abbrev pub HasIndex : List Index → ℕ → ℕ → Type 0
-HasIndex indexes t n = (i : Index) × ((index_in indexes n ≡ Some i) × (i.table.0 ≡ t))
+abbrev pub HasTableIndex : List Index → ℕ → ℕ → Type 0
+HasTableIndex indexes t n = (i : Index) × ((index_in indexes n ≡ Some i) × (i.table.0 ≡ t))
 
 -- The folder's files of a table are those of the table v after these entries. Each of its cells is in the region of its key, and the
 -- table has no index twice, and none that doesn't stand.
 pub record TellsTable (b : Base) (es : List Entry) (f : FolderData) (x : Table) (v : GroupData) : Type 0 where
-  pub kept : GroupKept (form_of b f.standing.indexes x) es v
-  pub files : IsFolderOf (form_of b f.standing.indexes x) es v (table_files f x)
+  pub kept : GroupKept (form_of_table b f.standing.indexes x) es v
+  pub files : IsFolderOf (form_of_table b f.standing.indexes x) es v (table_files f x)
   pub placed : AllByRecursion (λ g. AreInRegion x g.number (f.regions g.number).cells) x.regions
-  pub once : AreDistinct number_of v.indexes
-  pub stand : (j : ℕ) → j < length v.indexes → HasIndex f.standing.indexes x.id.0 (get_or v.indexes j no_part).id
+  pub once : AreDistinct number_of_part v.indexes
+  pub stand : (j : ℕ) → j < length v.indexes → HasTableIndex f.standing.indexes x.id.0 (get_or v.indexes j no_part).id
 
 -- the table without the index of a number, and without an open batch
 abbrev pub without_index : ℕ → GroupData → GroupData

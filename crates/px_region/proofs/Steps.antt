@@ -11,7 +11,7 @@ use Rattle.px_flushing.specs.declared.fault.FlushFault.{FlushFault}
 use Rattle.px_flushing.specs.declared.fault.FlushFault.TheVariants as flush
 use Rattle.px_region.specs.Faults.{job_fault}
 use Rattle.px_region.specs.Forgetting.{Forgets, ForgetsBy, MayGoOn, StandsFrom, StandsKept}
-use Rattle.px_region.specs.Region.{RegionData, Stands}
+use Rattle.px_region.specs.Region.{RegionData, RegionStands}
 use Rattle.px_region.specs.Stamps.{Allows}
 use Rattle.px_region.specs.declared.fault.JobFault.TheVariants.{Memory}
 use Rattle.px_region.specs.declared.stamps.LeastStamps.{LeastStamps}
@@ -52,15 +52,15 @@ some_not o h some none = (let e : None ≡ Some h = sym none ∙ some in cc)
 pub some_one : (o : Option ℕ) (h k : ℕ) → o ≡ Some h → o ≡ Some k → h ≡ k
 some_one o h k some other = (let e : Some h ≡ Some k = sym some ∙ other in cc)
 
-pub none_stands : {D : Type 0} (d : Ghosts D) (o : Option ℕ) (old new : D) (number : ℕ) (s : RegionData) → o ≡ None → LeavesOnly d old new (λ moment image. StandsFrom o number image s) → LeavesOnly d old new (λ moment image. Stands number image s)
+pub none_stands : {D : Type 0} (d : Ghosts D) (o : Option ℕ) (old new : D) (number : ℕ) (s : RegionData) → o ≡ None → LeavesOnly d old new (λ moment image. StandsFrom o number image s) → LeavesOnly d old new (λ moment image. RegionStands number image s)
 none_stands d o old new number s none leaves = subst (λ (x : Option ℕ). LeavesOnly d old new (λ moment image. StandsFrom x number image s)) none leaves
 
 pub some_stands : {D : Type 0} (d : Ghosts D) (o : Option ℕ) (h : ℕ) (old new : D) (number : ℕ) (s : RegionData) → o ≡ Some h → LeavesOnly d old new (λ moment image. StandsFrom o number image s)
-    → LeavesOnly d old new (λ moment image. Stands number image s ⊎ StandsKept number image h s)
+    → LeavesOnly d old new (λ moment image. RegionStands number image s ⊎ StandsKept number image h s)
 some_stands d o h old new number s some leaves = subst (λ (x : Option ℕ). LeavesOnly d old new (λ moment image. StandsFrom x number image s)) some leaves
 
 -- what stays is what is left of a compaction with a horizon too
-pub plain_stands : {D : Type 0} (d : Ghosts D) (h : ℕ) (old new : D) (number : ℕ) (s : RegionData) → LeavesOnly d old new (λ moment image. Stands number image s) → LeavesOnly d old new (λ moment image. Stands number image s ⊎ StandsKept number image h s)
+pub plain_stands : {D : Type 0} (d : Ghosts D) (h : ℕ) (old new : D) (number : ℕ) (s : RegionData) → LeavesOnly d old new (λ moment image. RegionStands number image s) → LeavesOnly d old new (λ moment image. RegionStands number image s ⊎ StandsKept number image h s)
 plain_stands d h old new number s leaves = record { each = λ moment image since left. inl (leaves.each moment image since left) }
 
 pub none_forgets : (o : Option ℕ) (s t : RegionData) → o ≡ None → ForgetsBy o s t → ⊥

@@ -24,7 +24,7 @@ pub record IsFreshRegion (number : ℕ) (region : Region) : Type 0 where
   pub horizon : region.horizon ≡ 0
 
 -- the disk tells that no file of the region has a byte, and a stop leaves none there
-pub record IsBlank {D : Type 0} (d : Ghosts D) (number : ℕ) (disk : D) : Type 0 where
+pub record IsRegionBlank {D : Type 0} (d : Ghosts D) (number : ℕ) (disk : D) : Type 0 where
   pub tells : IsTrue d.tells
   pub only : (file : ℕ) → HasFile number file → Only d disk file
   pub none : (file : ℕ) → HasFile number file → d.seen disk file ≡ []

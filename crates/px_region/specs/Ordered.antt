@@ -1,15 +1,15 @@
 -- What is ordered to be flushed.
 use Rattle.std.specs.Prelude.{◌≡◌, ◌≤◌, ℕ}
-use Rattle.px_wal.specs.Manifest.{names}
+use Rattle.px_wal.specs.Manifest.{named_snapshot}
 use Rattle.px_region.specs.declared.region.Region.{Region}
 
 -- the number up to which its manifest says that its log is flushed
 abbrev pub flushed_of : Region → ℕ
-flushed_of region = (names region.manifest).flushed
+flushed_of region = (named_snapshot region.manifest).flushed
 
 -- all that stands in its log is ordered to be flushed
-abbrev pub IsOrdered : Region → Type 0
-IsOrdered region = region.wal.last ≤ region.ordered
+abbrev pub IsFlushOrdered : Region → Type 0
+IsFlushOrdered region = region.wal.last ≤ region.ordered
 
 -- all that is ordered is flushed
 abbrev pub HasFlushed : Region → Type 0

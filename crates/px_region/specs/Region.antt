@@ -1,6 +1,6 @@
 -- A region, and what its files stand for.
 --
--- The layers above cite what an image stands for (`Stands`), what a region has and goes on from (`Holds`), and the laws
+-- The layers above cite what an image stands for (`RegionStands`), what a region has and goes on from (`RegionHolds`), and the laws
 -- between the two in proofs/Holding. `cells` is the sorted list of what is read, not a history: a batch is written before
 -- it, and what moves cells from the log to files leaves it as it is.
 use Rattle.std.specs.Prelude.{◌≡◌, ◌++◌, ℕ, List}
@@ -8,10 +8,10 @@ use Rattle.px_outside.specs.Disk.{Image}
 use Rattle.px_outside.specs.declared.disk.Disk.{Ghosts}
 use Rattle.px_cells.specs.CellData.{CellData}
 use Rattle.px_merge.specs.Settle.{settle}
-use Rattle.px_wal.specs.Batches.{Batch, above, cells_over}
-use Rattle.px_wal.specs.Form.{byte_count, cell_count}
-use Rattle.px_wal.specs.Manifest.{names}
-use Rattle.px_flushing.specs.Flushing.{HasFlushing, IsRead}
+use Rattle.px_wal.specs.Batches.{LogBatch, batches_above, cells_over}
+use Rattle.px_wal.specs.Form.{batch_byte_count, cell_count}
+use Rattle.px_wal.specs.Manifest.{named_snapshot}
+use Rattle.px_flushing.specs.Flushing.{HasFlushing, IsRegionRead}
 use Rattle.px_region.specs.Stamps.{HaveLeast}
 use Rattle.px_region.specs.declared.region.Region.{Region}
 
@@ -28,7 +28,7 @@ read_of region = region.store.cells
 abbrev pub pieces_of : Region → List (List CellData)
 pieces_of region = region.store.pieces
 
--- How many cells stand in its log above the flushed number, each as often as it was written: the disk tells so (`counted` of `Holds`).
+-- How many cells stand in its log above the flushed number, each as often as it was written: the disk tells so (`counted` of `RegionHolds`).
 abbrev pub logged_of : Region → ℕ
 logged_of region = region.cells
 
@@ -42,19 +42,19 @@ with_batch s cells = record { cells = settle (cells ++ s.cells); horizon = s.hor
 
 -- What the image's files of a region stand for: what is read of its log above the number up to which its manifest says
 -- that it was flushed, and of the files that the manifest names.
-abbrev pub Stands : (number : ℕ) → Image → RegionData → Type 0
-Stands number image s = IsRead number image s.horizon s.cells
+abbrev pub RegionStands : (number : ℕ) → Image → RegionData → Type 0
+RegionStands number image s = IsRegionRead number image s.horizon s.cells
 
 -- The disk tells that this is what the region has, all of it on the disk, and the region goes on from there, with the flush that may be under way.
-pub record Holds {D : Type 0} (d : Ghosts D) (region : Region) (disk : D) (s : RegionData) : Type 0 where
-  pub batches : List Batch
+pub record RegionHolds {D : Type 0} (d : Ghosts D) (region : Region) (disk : D) (s : RegionData) : Type 0 where
+  pub batches : List LogBatch
   pub lists : List (List CellData)
   pub has : HasFlushing d region.manifest region.wal region.flushing disk batches lists
   pub number : region.flushing.number ≡ region.number
-  pub store : region.store.cells ≡ cells_over (names region.manifest).flushed batches lists
-  pub named : region.horizon ≡ (names region.manifest).horizon
+  pub store : region.store.cells ≡ cells_over (named_snapshot region.manifest).flushed batches lists
+  pub named : region.horizon ≡ (named_snapshot region.manifest).horizon
   pub cells : s.cells ≡ region.store.cells
   pub horizon : s.horizon ≡ region.horizon
-  pub counted : region.cells ≡ cell_count (above (names region.manifest).flushed batches)
-  pub weighed : region.bytes ≡ byte_count (above (names region.manifest).flushed batches)
-  pub least : HaveLeast region.stamps (above (names region.manifest).flushed batches)
+  pub counted : region.cells ≡ cell_count (batches_above (named_snapshot region.manifest).flushed batches)
+  pub weighed : region.bytes ≡ batch_byte_count (batches_above (named_snapshot region.manifest).flushed batches)
+  pub least : HaveLeast region.stamps (batches_above (named_snapshot region.manifest).flushed batches)

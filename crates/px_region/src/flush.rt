@@ -53,9 +53,9 @@ pub(crate) fn of_flush(fault: FlushFault) -> JobFault
 }
 
 impl Region {
-    ghost use Rattle.px_region.specs.Region.{Holds, RegionData, Stands, data_of, read_of};
-    ghost use Rattle.px_region.specs.Ordered.{HasFlushed, IsOrdered, IsSameOrder, flushed_of};
-    ghost use Rattle.px_flushing.specs.Flushing.{horizon_of};
+    ghost use Rattle.px_region.specs.Region.{RegionData, RegionHolds, RegionStands, data_of, read_of};
+    ghost use Rattle.px_region.specs.Ordered.{HasFlushed, IsFlushOrdered, IsSameOrder, flushed_of};
+    ghost use Rattle.px_flushing.specs.Flushing.{forgetting_horizon};
     ghost use Rattle.px_region.specs.Forgetting.{StaysWanted};
     ghost use Rattle.px_region.specs.Promise.{IsAlike, IsSamePromise};
     ghost use Rattle.px_region.specs.declared.fault.JobFault.TheVariants.{Memory, WriteFault};
@@ -118,7 +118,7 @@ impl Region {
 
     /// Orders that all that stands in the log be flushed: upkeep is due until it is. What comes behind isn't ordered.
     pub fn order_flush(&mut self)
-        ensures ordered { IsOrdered self.new }
+        ensures ordered { IsFlushOrdered self.new }
         ensures only { self.new.ordered ≡ self.new.wal.last }
         ensures alike { IsAlike self.old self.new }
         ensures promised { IsSamePromise self.old self.new }
@@ -148,13 +148,13 @@ impl Region {
         requires may { MaySwitch (flushed_of self.old) self.old.wal }
         requires none { (self.old.promised ≡ 0) × (self.old.promised_bytes ≡ 0) }
         requires idle { self.old.flushing.flush ≡ None }
-        ensures done { (s : RegionData) → Holds ⟦<D as Disk>⟧ self.old disk.old s → OnOk result (Holds ⟦<D as Disk>⟧ self.new disk.new s) }
+        ensures done { (s : RegionData) → RegionHolds ⟦<D as Disk>⟧ self.old disk.old s → OnOk result (RegionHolds ⟦<D as Disk>⟧ self.new disk.new s) }
 
         // At each moment of the call a stop leaves the region as it is.
-        ensures any_moment { (s : RegionData) → Holds ⟦<D as Disk>⟧ self.old disk.old s → LeavesOnly ⟦<D as Disk>⟧ disk.old disk.new (λ moment image. Stands self.old.number image s) }
+        ensures any_moment { (s : RegionData) → RegionHolds ⟦<D as Disk>⟧ self.old disk.old s → LeavesOnly ⟦<D as Disk>⟧ disk.old disk.new (λ moment image. RegionStands self.old.number image s) }
         ensures failed { result ≡ Err WriteFault → Rose ⟦<D as Disk>⟧ disk.old disk.new }
-        ensures refused { (s : RegionData) → Holds ⟦<D as Disk>⟧ self.old disk.old s → result ≡ Err Memory → Holds ⟦<D as Disk>⟧ self.new disk.new s }
-        ensures touches { (s : RegionData) → Holds ⟦<D as Disk>⟧ self.old disk.old s → TouchesOnly ⟦<D as Disk>⟧ disk.old disk.new (HasFile self.old.number) }
+        ensures refused { (s : RegionData) → RegionHolds ⟦<D as Disk>⟧ self.old disk.old s → result ≡ Err Memory → RegionHolds ⟦<D as Disk>⟧ self.new disk.new s }
+        ensures touches { (s : RegionData) → RegionHolds ⟦<D as Disk>⟧ self.old disk.old s → TouchesOnly ⟦<D as Disk>⟧ disk.old disk.new (HasFile self.old.number) }
         ensures counts { Passes ⟦<D as Disk>⟧ disk.old disk.new 4 }
         ensures promised { IsSamePromise self.old self.new }
         ensures read { read_of self.new ≡ read_of self.old }
@@ -181,13 +181,13 @@ impl Region {
 
     /// Makes one step of the manifest's next segment, which begins with what is named. Where none can be made, a flush is ordered no more.
     fn renew_step<D: Disk>(&mut self, disk: &mut D) -> Result<JobStep, JobFault>
-        ensures done { (s : RegionData) → Holds ⟦<D as Disk>⟧ self.old disk.old s → OnOk result (Holds ⟦<D as Disk>⟧ self.new disk.new s) }
+        ensures done { (s : RegionData) → RegionHolds ⟦<D as Disk>⟧ self.old disk.old s → OnOk result (RegionHolds ⟦<D as Disk>⟧ self.new disk.new s) }
 
         // At each moment of the call a stop leaves the region as it is.
-        ensures any_moment { (s : RegionData) → Holds ⟦<D as Disk>⟧ self.old disk.old s → LeavesOnly ⟦<D as Disk>⟧ disk.old disk.new (λ moment image. Stands self.old.number image s) }
+        ensures any_moment { (s : RegionData) → RegionHolds ⟦<D as Disk>⟧ self.old disk.old s → LeavesOnly ⟦<D as Disk>⟧ disk.old disk.new (λ moment image. RegionStands self.old.number image s) }
         ensures failed { result ≡ Err WriteFault → Rose ⟦<D as Disk>⟧ disk.old disk.new }
-        ensures refused { (s : RegionData) → Holds ⟦<D as Disk>⟧ self.old disk.old s → result ≡ Err Memory → Holds ⟦<D as Disk>⟧ self.new disk.new s }
-        ensures touches { (s : RegionData) → Holds ⟦<D as Disk>⟧ self.old disk.old s → TouchesOnly ⟦<D as Disk>⟧ disk.old disk.new (HasFile self.old.number) }
+        ensures refused { (s : RegionData) → RegionHolds ⟦<D as Disk>⟧ self.old disk.old s → result ≡ Err Memory → RegionHolds ⟦<D as Disk>⟧ self.new disk.new s }
+        ensures touches { (s : RegionData) → RegionHolds ⟦<D as Disk>⟧ self.old disk.old s → TouchesOnly ⟦<D as Disk>⟧ disk.old disk.new (HasFile self.old.number) }
         ensures counts { Passes ⟦<D as Disk>⟧ disk.old disk.new 4 }
         ensures promised { IsSamePromise self.old self.new }
         ensures read { read_of self.new ≡ read_of self.old }
@@ -217,7 +217,7 @@ impl Region {
     /// Begins a compaction of so many of the newest files. It makes no call.
     fn begin_compaction<D: Disk>(&mut self, count: usize)
         requires { self.old.flushing.flush ≡ None }
-        ensures done { (s : RegionData) (disk : D) → Holds ⟦<D as Disk>⟧ self.old disk s → Holds ⟦<D as Disk>⟧ self.new disk s }
+        ensures done { (s : RegionData) (disk : D) → RegionHolds ⟦<D as Disk>⟧ self.old disk s → RegionHolds ⟦<D as Disk>⟧ self.new disk s }
         ensures promised { IsSamePromise self.old self.new }
         ensures read { read_of self.new ≡ read_of self.old }
         ensures number { self.new.number ≡ self.old.number }
@@ -232,14 +232,14 @@ impl Region {
     /// Makes one step of the flush of what stands in the log's older segment, or of the compaction that is under way, which forgets nothing. Where none
     /// can be made, a flush is ordered no more.
     fn plain_step<D: Disk>(&mut self, disk: &mut D) -> Result<JobStep, JobFault>
-        requires { horizon_of self.old.flushing.flush ≡ None }
-        ensures done { (s : RegionData) → Holds ⟦<D as Disk>⟧ self.old disk.old s → OnOk result (Holds ⟦<D as Disk>⟧ self.new disk.new s) }
+        requires { forgetting_horizon self.old.flushing.flush ≡ None }
+        ensures done { (s : RegionData) → RegionHolds ⟦<D as Disk>⟧ self.old disk.old s → OnOk result (RegionHolds ⟦<D as Disk>⟧ self.new disk.new s) }
 
         // At each moment of the call a stop leaves the region as it is.
-        ensures any_moment { (s : RegionData) → Holds ⟦<D as Disk>⟧ self.old disk.old s → LeavesOnly ⟦<D as Disk>⟧ disk.old disk.new (λ moment image. Stands self.old.number image s) }
+        ensures any_moment { (s : RegionData) → RegionHolds ⟦<D as Disk>⟧ self.old disk.old s → LeavesOnly ⟦<D as Disk>⟧ disk.old disk.new (λ moment image. RegionStands self.old.number image s) }
         ensures failed { result ≡ Err WriteFault → Rose ⟦<D as Disk>⟧ disk.old disk.new }
-        ensures refused { (s : RegionData) → Holds ⟦<D as Disk>⟧ self.old disk.old s → result ≡ Err Memory → Holds ⟦<D as Disk>⟧ self.new disk.new s }
-        ensures touches { (s : RegionData) → Holds ⟦<D as Disk>⟧ self.old disk.old s → TouchesOnly ⟦<D as Disk>⟧ disk.old disk.new (HasFile self.old.number) }
+        ensures refused { (s : RegionData) → RegionHolds ⟦<D as Disk>⟧ self.old disk.old s → result ≡ Err Memory → RegionHolds ⟦<D as Disk>⟧ self.new disk.new s }
+        ensures touches { (s : RegionData) → RegionHolds ⟦<D as Disk>⟧ self.old disk.old s → TouchesOnly ⟦<D as Disk>⟧ disk.old disk.new (HasFile self.old.number) }
         ensures counts { Passes ⟦<D as Disk>⟧ disk.old disk.new 4 }
         ensures promised { IsSamePromise self.old self.new }
         ensures read { read_of self.new ≡ read_of self.old }
@@ -260,13 +260,13 @@ impl Region {
     /// Makes one step of the flush of what stands in the log's older segment, or of the compaction that is under way. Where none can be made, a flush
     /// is ordered no more. A compaction that forgets is given up, since it goes on with its horizon alone, by `forget_step`.
     fn flush_step<D: Disk>(&mut self, disk: &mut D) -> Result<JobStep, JobFault>
-        ensures done { (s : RegionData) → Holds ⟦<D as Disk>⟧ self.old disk.old s → OnOk result (Holds ⟦<D as Disk>⟧ self.new disk.new s) }
+        ensures done { (s : RegionData) → RegionHolds ⟦<D as Disk>⟧ self.old disk.old s → OnOk result (RegionHolds ⟦<D as Disk>⟧ self.new disk.new s) }
 
         // At each moment of the call a stop leaves the region as it is.
-        ensures any_moment { (s : RegionData) → Holds ⟦<D as Disk>⟧ self.old disk.old s → LeavesOnly ⟦<D as Disk>⟧ disk.old disk.new (λ moment image. Stands self.old.number image s) }
+        ensures any_moment { (s : RegionData) → RegionHolds ⟦<D as Disk>⟧ self.old disk.old s → LeavesOnly ⟦<D as Disk>⟧ disk.old disk.new (λ moment image. RegionStands self.old.number image s) }
         ensures failed { result ≡ Err WriteFault → Rose ⟦<D as Disk>⟧ disk.old disk.new }
-        ensures refused { (s : RegionData) → Holds ⟦<D as Disk>⟧ self.old disk.old s → result ≡ Err Memory → Holds ⟦<D as Disk>⟧ self.new disk.new s }
-        ensures touches { (s : RegionData) → Holds ⟦<D as Disk>⟧ self.old disk.old s → TouchesOnly ⟦<D as Disk>⟧ disk.old disk.new (HasFile self.old.number) }
+        ensures refused { (s : RegionData) → RegionHolds ⟦<D as Disk>⟧ self.old disk.old s → result ≡ Err Memory → RegionHolds ⟦<D as Disk>⟧ self.new disk.new s }
+        ensures touches { (s : RegionData) → RegionHolds ⟦<D as Disk>⟧ self.old disk.old s → TouchesOnly ⟦<D as Disk>⟧ disk.old disk.new (HasFile self.old.number) }
         ensures counts { Passes ⟦<D as Disk>⟧ disk.old disk.new 4 }
         ensures promised { IsSamePromise self.old self.new }
         ensures read { read_of self.new ≡ read_of self.old }
@@ -292,13 +292,13 @@ impl Region {
     /// A WriteFault comes where a call of the disk failed, and then no call may follow. Where no memory is found the step may be made again; and a
     /// flush that was ordered isn't any more, so that an order which can't be met is told once.
     pub fn upkeep_step<D: Disk>(&mut self, disk: &mut D) -> Result<JobStep, JobFault>
-        ensures done { (s : RegionData) → Holds ⟦<D as Disk>⟧ self.old disk.old s → OnOk result (Holds ⟦<D as Disk>⟧ self.new disk.new s) }
+        ensures done { (s : RegionData) → RegionHolds ⟦<D as Disk>⟧ self.old disk.old s → OnOk result (RegionHolds ⟦<D as Disk>⟧ self.new disk.new s) }
 
         // At each moment of the call a stop leaves the region as it is.
-        ensures any_moment { (s : RegionData) → Holds ⟦<D as Disk>⟧ self.old disk.old s → LeavesOnly ⟦<D as Disk>⟧ disk.old disk.new (λ moment image. Stands self.old.number image s) }
+        ensures any_moment { (s : RegionData) → RegionHolds ⟦<D as Disk>⟧ self.old disk.old s → LeavesOnly ⟦<D as Disk>⟧ disk.old disk.new (λ moment image. RegionStands self.old.number image s) }
         ensures failed { result ≡ Err WriteFault → Rose ⟦<D as Disk>⟧ disk.old disk.new }
-        ensures refused { (s : RegionData) → Holds ⟦<D as Disk>⟧ self.old disk.old s → result ≡ Err Memory → Holds ⟦<D as Disk>⟧ self.new disk.new s }
-        ensures touches { (s : RegionData) → Holds ⟦<D as Disk>⟧ self.old disk.old s → TouchesOnly ⟦<D as Disk>⟧ disk.old disk.new (HasFile self.old.number) }
+        ensures refused { (s : RegionData) → RegionHolds ⟦<D as Disk>⟧ self.old disk.old s → result ≡ Err Memory → RegionHolds ⟦<D as Disk>⟧ self.new disk.new s }
+        ensures touches { (s : RegionData) → RegionHolds ⟦<D as Disk>⟧ self.old disk.old s → TouchesOnly ⟦<D as Disk>⟧ disk.old disk.new (HasFile self.old.number) }
         ensures counts { Passes ⟦<D as Disk>⟧ disk.old disk.new 4 }
         ensures promised { IsSamePromise self.old self.new }
         ensures read { read_of self.new ≡ read_of self.old }

@@ -4,13 +4,13 @@ ghost use Rattle.px_outside.specs.OnDisk.{LeavesOnly, Passes, Rose, TouchesOnly}
 ghost use Rattle.px_cells.specs.CellData.{CellData};
 ghost use Rattle.px_cells.specs.Order.{IsAscending};
 ghost use Rattle.px_memstore.specs.Left.{left};
-ghost use Rattle.px_merge.specs.Kept.{IsKept};
-ghost use Rattle.px_wal.specs.Batches.{Batch as BatchData};
+ghost use Rattle.px_merge.specs.Kept.{IsKeptList};
+ghost use Rattle.px_wal.specs.Batches.{LogBatch};
 ghost use Rattle.px_wal.specs.Files.{HasFile};
 ghost use Rattle.px_wal.specs.declared.manifest.Manifest.{Manifest as Manifests};
 ghost use Rattle.px_wal.specs.declared.wal.Wal.{Wal as Logs};
 ghost use Rattle.px_frozen.specs.FrozenData.{FrozenData};
-ghost use Rattle.px_flushing.specs.Flushing.{HasFlushing, horizon_of, naming_of};
+ghost use Rattle.px_flushing.specs.Flushing.{HasFlushing, forgetting_horizon, naming_of};
 ghost use Rattle.px_region.specs.Stamps.{Allows};
 
 use crate::flush::of_flush;
@@ -36,7 +36,7 @@ fn thin<D: Disk>(store: &mut MemStore, flushing: &mut Flushing, horizon: u64)
     ensures left { (kept : FrozenData) → flushing.old.kept ≡ Some kept → store.new.cells ≡ left kept.cells horizon store.old.cells }
     ensures sorted { (kept : FrozenData) → flushing.old.kept ≡ Some kept → IsAscending kept.cells }
     ensures room { store.old.room ≤ store.new.room }
-    ensures held { (manifest : Manifests) (wal : Logs) (disk : D) (batches : List BatchData) (lists : List (List CellData)) → HasFlushing ⟦<D as Disk>⟧ manifest wal flushing.old disk batches lists → HasFlushing ⟦<D as Disk>⟧ manifest wal flushing.new disk batches lists }
+    ensures held { (manifest : Manifests) (wal : Logs) (disk : D) (batches : List LogBatch) (lists : List (List CellData)) → HasFlushing ⟦<D as Disk>⟧ manifest wal flushing.old disk batches lists → HasFlushing ⟦<D as Disk>⟧ manifest wal flushing.new disk batches lists }
     ensures number { flushing.new.number ≡ flushing.old.number }
 {
     match flushing.take_kept::<D>() {
@@ -49,16 +49,16 @@ fn thin<D: Disk>(store: &mut MemStore, flushing: &mut Flushing, horizon: u64)
 }
 
 impl Region {
-    ghost use Rattle.px_region.specs.Region.{Holds, RegionData, Stands, data_of, read_of};
+    ghost use Rattle.px_region.specs.Region.{RegionData, RegionHolds, RegionStands, data_of, read_of};
     ghost use Rattle.px_region.specs.Forgetting.{Forgets, ForgetsBy, HasForgotten, IsForgetting, IsKeptRight, MayGoOn, MayName, StandsFrom, StandsKept, StaysWanted};
-    ghost use Rattle.px_region.specs.Ordered.{IsOrdered, IsSameOrder};
+    ghost use Rattle.px_region.specs.Ordered.{IsFlushOrdered, IsSameOrder};
     ghost use Rattle.px_region.specs.Promise.{IsAlike, IsSamePromise};
     ghost use Rattle.px_region.specs.declared.fault.JobFault.TheVariants.{Memory, WriteFault};
 
     /// Orders a compaction that forgets, and that all which stands in the log be flushed before.
     pub fn order_compact(&mut self)
         ensures wanted { self.new.wanted ≡ true }
-        ensures ordered { IsOrdered self.new }
+        ensures ordered { IsFlushOrdered self.new }
         ensures only { self.new.ordered ≡ self.new.wal.last }
         ensures alike { IsAlike self.old self.new }
         ensures promised { IsSamePromise self.old self.new }
@@ -108,8 +108,8 @@ impl Region {
     /// Begins the compaction that forgets at this horizon, where it can begin now. Where the region has no cell, or forgot at a later horizon, none is wanted
     /// any more; else what stands in the log is ordered to be flushed first. It makes no call.
     pub fn begin_forgetting<D: Disk>(&mut self, horizon: u64)
-        ensures done { (s : RegionData) (disk : D) → Holds ⟦<D as Disk>⟧ self.old disk s → Holds ⟦<D as Disk>⟧ self.new disk s }
-        ensures begun { IsForgetting self.new horizon ⊎ (IsOrdered self.new ⊎ HasForgotten self.new) }
+        ensures done { (s : RegionData) (disk : D) → RegionHolds ⟦<D as Disk>⟧ self.old disk s → RegionHolds ⟦<D as Disk>⟧ self.new disk s }
+        ensures begun { IsForgetting self.new horizon ⊎ (IsFlushOrdered self.new ⊎ HasForgotten self.new) }
         ensures wanted { self.new.wanted ≢ self.old.wanted → (read_of self.old ≡ []) ⊎ (horizon < (data_of self.old).horizon) }
         ensures promised { IsSamePromise self.old self.new }
         ensures read { read_of self.new ≡ read_of self.old }
@@ -129,19 +129,19 @@ impl Region {
     /// Makes one step of the flush of what stands in the log's older segment, or of the compaction that is under way. Where none can be made, a flush
     /// is ordered no more.
     pub(crate) fn files_step<D: Disk>(&mut self, disk: &mut D) -> Result<ForgetStep, JobFault>
-        requires above { MayGoOn (horizon_of self.old.flushing.flush) self.old.stamps }
-        requires right { MayName (horizon_of self.old.flushing.flush) (naming_of self.old.flushing.flush) (read_of self.old) }
-        ensures done { (s : RegionData) → Holds ⟦<D as Disk>⟧ self.old disk.old s → OnOk result (result ≢ Ok ForgetStep.Forgot → Holds ⟦<D as Disk>⟧ self.new disk.new s) }
-        ensures forgot { (s : RegionData) → Holds ⟦<D as Disk>⟧ self.old disk.old s → result ≡ Ok ForgetStep.Forgot → Holds ⟦<D as Disk>⟧ self.new disk.new (data_of self.new) × ForgetsBy (horizon_of self.old.flushing.flush) s (data_of self.new) }
-        ensures only { result ≡ Ok ForgetStep.Forgot → horizon_of self.old.flushing.flush ≢ None }
-        ensures forgot_at { (h : ℕ) → horizon_of self.old.flushing.flush ≡ Some h → result ≡ Ok ForgetStep.Forgot → (data_of self.new).horizon ≡ h }
-        ensures forgot_read { (h : ℕ) → horizon_of self.old.flushing.flush ≡ Some h → result ≡ Ok ForgetStep.Forgot → IsKept (read_of self.old) h (read_of self.new) }
+        requires above { MayGoOn (forgetting_horizon self.old.flushing.flush) self.old.stamps }
+        requires right { MayName (forgetting_horizon self.old.flushing.flush) (naming_of self.old.flushing.flush) (read_of self.old) }
+        ensures done { (s : RegionData) → RegionHolds ⟦<D as Disk>⟧ self.old disk.old s → OnOk result (result ≢ Ok ForgetStep.Forgot → RegionHolds ⟦<D as Disk>⟧ self.new disk.new s) }
+        ensures forgot { (s : RegionData) → RegionHolds ⟦<D as Disk>⟧ self.old disk.old s → result ≡ Ok ForgetStep.Forgot → RegionHolds ⟦<D as Disk>⟧ self.new disk.new (data_of self.new) × ForgetsBy (forgetting_horizon self.old.flushing.flush) s (data_of self.new) }
+        ensures only { result ≡ Ok ForgetStep.Forgot → forgetting_horizon self.old.flushing.flush ≢ None }
+        ensures forgot_at { (h : ℕ) → forgetting_horizon self.old.flushing.flush ≡ Some h → result ≡ Ok ForgetStep.Forgot → (data_of self.new).horizon ≡ h }
+        ensures forgot_read { (h : ℕ) → forgetting_horizon self.old.flushing.flush ≡ Some h → result ≡ Ok ForgetStep.Forgot → IsKeptList (read_of self.old) h (read_of self.new) }
 
         // At each moment of the call a stop leaves the region as it is, or as what the horizon of its compaction keeps.
-        ensures any_moment { (s : RegionData) → Holds ⟦<D as Disk>⟧ self.old disk.old s → LeavesOnly ⟦<D as Disk>⟧ disk.old disk.new (λ moment image. StandsFrom (horizon_of self.old.flushing.flush) self.old.number image s) }
+        ensures any_moment { (s : RegionData) → RegionHolds ⟦<D as Disk>⟧ self.old disk.old s → LeavesOnly ⟦<D as Disk>⟧ disk.old disk.new (λ moment image. StandsFrom (forgetting_horizon self.old.flushing.flush) self.old.number image s) }
         ensures failed { result ≡ Err WriteFault → Rose ⟦<D as Disk>⟧ disk.old disk.new }
-        ensures refused { (s : RegionData) → Holds ⟦<D as Disk>⟧ self.old disk.old s → result ≡ Err Memory → Holds ⟦<D as Disk>⟧ self.new disk.new s }
-        ensures touches { (s : RegionData) → Holds ⟦<D as Disk>⟧ self.old disk.old s → TouchesOnly ⟦<D as Disk>⟧ disk.old disk.new (HasFile self.old.number) }
+        ensures refused { (s : RegionData) → RegionHolds ⟦<D as Disk>⟧ self.old disk.old s → result ≡ Err Memory → RegionHolds ⟦<D as Disk>⟧ self.new disk.new s }
+        ensures touches { (s : RegionData) → RegionHolds ⟦<D as Disk>⟧ self.old disk.old s → TouchesOnly ⟦<D as Disk>⟧ disk.old disk.new (HasFile self.old.number) }
         ensures counts { Passes ⟦<D as Disk>⟧ disk.old disk.new 4 }
         ensures promised { IsSamePromise self.old self.new }
         ensures read { result ≢ Ok ForgetStep.Forgot → read_of self.new ≡ read_of self.old }
@@ -199,7 +199,7 @@ impl Region {
 
     /// Gives up what is under way. No compaction that forgets is wanted any more, and nothing is ordered.
     fn give_up<D: Disk>(&mut self)
-        ensures done { (s : RegionData) (disk : D) → Holds ⟦<D as Disk>⟧ self.old disk s → Holds ⟦<D as Disk>⟧ self.new disk s }
+        ensures done { (s : RegionData) (disk : D) → RegionHolds ⟦<D as Disk>⟧ self.old disk s → RegionHolds ⟦<D as Disk>⟧ self.new disk s }
         ensures promised { IsSamePromise self.old self.new }
         ensures read { read_of self.new ≡ read_of self.old }
         ensures number { self.new.number ≡ self.old.number }
@@ -216,16 +216,16 @@ impl Region {
     fn kept_step<D: Disk>(&mut self, disk: &mut D, horizon: u64) -> Result<ForgetStep, JobFault>
         requires under { IsForgetting self.old horizon }
         requires above { Allows self.old.stamps horizon }
-        ensures done { (s : RegionData) → Holds ⟦<D as Disk>⟧ self.old disk.old s → OnOk result (result ≢ Ok ForgetStep.Forgot → Holds ⟦<D as Disk>⟧ self.new disk.new s) }
-        ensures forgot { (s : RegionData) → Holds ⟦<D as Disk>⟧ self.old disk.old s → result ≡ Ok ForgetStep.Forgot → Holds ⟦<D as Disk>⟧ self.new disk.new (data_of self.new) × Forgets horizon s (data_of self.new) × (s.horizon ≤ horizon) }
+        ensures done { (s : RegionData) → RegionHolds ⟦<D as Disk>⟧ self.old disk.old s → OnOk result (result ≢ Ok ForgetStep.Forgot → RegionHolds ⟦<D as Disk>⟧ self.new disk.new s) }
+        ensures forgot { (s : RegionData) → RegionHolds ⟦<D as Disk>⟧ self.old disk.old s → result ≡ Ok ForgetStep.Forgot → RegionHolds ⟦<D as Disk>⟧ self.new disk.new (data_of self.new) × Forgets horizon s (data_of self.new) × (s.horizon ≤ horizon) }
         ensures forgot_at { result ≡ Ok ForgetStep.Forgot → (data_of self.new).horizon ≡ horizon }
-        ensures forgot_read { result ≡ Ok ForgetStep.Forgot → IsKept (read_of self.old) horizon (read_of self.new) }
+        ensures forgot_read { result ≡ Ok ForgetStep.Forgot → IsKeptList (read_of self.old) horizon (read_of self.new) }
 
         // At each moment of the call a stop leaves the region as it is, or as what the horizon keeps.
-        ensures any_moment { (s : RegionData) → Holds ⟦<D as Disk>⟧ self.old disk.old s → LeavesOnly ⟦<D as Disk>⟧ disk.old disk.new (λ moment image. Stands self.old.number image s ⊎ StandsKept self.old.number image horizon s) }
+        ensures any_moment { (s : RegionData) → RegionHolds ⟦<D as Disk>⟧ self.old disk.old s → LeavesOnly ⟦<D as Disk>⟧ disk.old disk.new (λ moment image. RegionStands self.old.number image s ⊎ StandsKept self.old.number image horizon s) }
         ensures failed { result ≡ Err WriteFault → Rose ⟦<D as Disk>⟧ disk.old disk.new }
-        ensures refused { (s : RegionData) → Holds ⟦<D as Disk>⟧ self.old disk.old s → result ≡ Err Memory → Holds ⟦<D as Disk>⟧ self.new disk.new s }
-        ensures touches { (s : RegionData) → Holds ⟦<D as Disk>⟧ self.old disk.old s → TouchesOnly ⟦<D as Disk>⟧ disk.old disk.new (HasFile self.old.number) }
+        ensures refused { (s : RegionData) → RegionHolds ⟦<D as Disk>⟧ self.old disk.old s → result ≡ Err Memory → RegionHolds ⟦<D as Disk>⟧ self.new disk.new s }
+        ensures touches { (s : RegionData) → RegionHolds ⟦<D as Disk>⟧ self.old disk.old s → TouchesOnly ⟦<D as Disk>⟧ disk.old disk.new (HasFile self.old.number) }
         ensures counts { Passes ⟦<D as Disk>⟧ disk.old disk.new 4 }
         ensures promised { IsSamePromise self.old self.new }
         ensures read { result ≢ Ok ForgetStep.Forgot → read_of self.new ≡ read_of self.old }
@@ -276,16 +276,16 @@ impl Region {
         disk: &mut D,
         horizon: u64,
     ) -> Result<ForgetStep, JobFault>
-        ensures done { (s : RegionData) → Holds ⟦<D as Disk>⟧ self.old disk.old s → OnOk result (result ≢ Ok ForgetStep.Forgot → Holds ⟦<D as Disk>⟧ self.new disk.new s) }
-        ensures forgot { (s : RegionData) → Holds ⟦<D as Disk>⟧ self.old disk.old s → result ≡ Ok ForgetStep.Forgot → Holds ⟦<D as Disk>⟧ self.new disk.new (data_of self.new) × Forgets horizon s (data_of self.new) × (s.horizon ≤ horizon) }
+        ensures done { (s : RegionData) → RegionHolds ⟦<D as Disk>⟧ self.old disk.old s → OnOk result (result ≢ Ok ForgetStep.Forgot → RegionHolds ⟦<D as Disk>⟧ self.new disk.new s) }
+        ensures forgot { (s : RegionData) → RegionHolds ⟦<D as Disk>⟧ self.old disk.old s → result ≡ Ok ForgetStep.Forgot → RegionHolds ⟦<D as Disk>⟧ self.new disk.new (data_of self.new) × Forgets horizon s (data_of self.new) × (s.horizon ≤ horizon) }
         ensures forgot_at { result ≡ Ok ForgetStep.Forgot → (data_of self.new).horizon ≡ horizon }
-        ensures forgot_read { result ≡ Ok ForgetStep.Forgot → IsKept (read_of self.old) horizon (read_of self.new) }
+        ensures forgot_read { result ≡ Ok ForgetStep.Forgot → IsKeptList (read_of self.old) horizon (read_of self.new) }
 
         // At each moment of the call a stop leaves the region as it is, or as what the horizon keeps.
-        ensures any_moment { (s : RegionData) → Holds ⟦<D as Disk>⟧ self.old disk.old s → LeavesOnly ⟦<D as Disk>⟧ disk.old disk.new (λ moment image. Stands self.old.number image s ⊎ StandsKept self.old.number image horizon s) }
+        ensures any_moment { (s : RegionData) → RegionHolds ⟦<D as Disk>⟧ self.old disk.old s → LeavesOnly ⟦<D as Disk>⟧ disk.old disk.new (λ moment image. RegionStands self.old.number image s ⊎ StandsKept self.old.number image horizon s) }
         ensures failed { result ≡ Err WriteFault → Rose ⟦<D as Disk>⟧ disk.old disk.new }
-        ensures refused { (s : RegionData) → Holds ⟦<D as Disk>⟧ self.old disk.old s → result ≡ Err Memory → Holds ⟦<D as Disk>⟧ self.new disk.new s }
-        ensures touches { (s : RegionData) → Holds ⟦<D as Disk>⟧ self.old disk.old s → TouchesOnly ⟦<D as Disk>⟧ disk.old disk.new (HasFile self.old.number) }
+        ensures refused { (s : RegionData) → RegionHolds ⟦<D as Disk>⟧ self.old disk.old s → result ≡ Err Memory → RegionHolds ⟦<D as Disk>⟧ self.new disk.new s }
+        ensures touches { (s : RegionData) → RegionHolds ⟦<D as Disk>⟧ self.old disk.old s → TouchesOnly ⟦<D as Disk>⟧ disk.old disk.new (HasFile self.old.number) }
         ensures counts { Passes ⟦<D as Disk>⟧ disk.old disk.new 4 }
         ensures promised { IsSamePromise self.old self.new }
         ensures read { result ≢ Ok ForgetStep.Forgot → read_of self.new ≡ read_of self.old }

@@ -2,8 +2,8 @@
 ghost use Rattle.std.specs.Prelude.{◌≡◌, IsTrue, Ok, true};
 ghost use Rattle.std.specs.Ordering.{is_lt};
 ghost use Rattle.px_cells.specs.Order.{IsAscending, cell_cmp};
-ghost use Rattle.px_memstore.specs.Left.{has_place, left, stays};
-ghost use Rattle.px_merge.specs.Kept.{IsKept};
+ghost use Rattle.px_memstore.specs.Left.{cell_stays, has_place, left};
+ghost use Rattle.px_merge.specs.Kept.{IsKeptList};
 
 use px_cells::{Cell, cell_order, is_cell_list, visible_in};
 use px_memstore::MemStore;
@@ -26,7 +26,7 @@ fn has_cell(cells: &[Cell], cell: &Cell) -> bool
 fn is_right(cell: &Cell, kept: &[Cell], seen: &[Cell], horizon: u64) -> bool
     requires kept { IsAscending kept.now }
     requires seen { IsAscending seen.now }
-    ensures { IsTrue result → stays kept.now horizon cell.now ≡ stays seen.now horizon cell.now }
+    ensures { IsTrue result → cell_stays kept.now horizon cell.now ≡ cell_stays seen.now horizon cell.now }
 {
     cell.stamp() > horizon || has_cell(kept, cell) == has_cell(seen, cell)
 }
@@ -53,7 +53,7 @@ fn keeps_piece(
     horizon: u64,
 ) -> Result<bool, AllocError>
     requires { IsAscending kept.now }
-    ensures { result ≡ Ok true → IsKept piece.now horizon (left kept.now horizon piece.now) }
+    ensures { result ≡ Ok true → IsKeptList piece.now horizon (left kept.now horizon piece.now) }
 {
     if !is_cell_list(piece) {
         return Ok(false);
@@ -70,7 +70,7 @@ pub(crate) fn keeps_right(
     horizon: u64,
 ) -> Result<bool, AllocError>
     requires { IsAscending kept.now }
-    ensures { result ≡ Ok true → IsKept store.now.cells horizon (left kept.now horizon store.now.cells) }
+    ensures { result ≡ Ok true → IsKeptList store.now.cells horizon (left kept.now horizon store.now.cells) }
 {
     for at in 0..store.piece_count() {
         if !keeps_piece(alloc, store.piece(at), kept, horizon)? {

@@ -16,7 +16,7 @@ pub enum JobStep {
 }
 
 impl Region {
-    ghost use Rattle.px_region.specs.Region.{Holds, RegionData, Stands, data_of, read_of};
+    ghost use Rattle.px_region.specs.Region.{RegionData, RegionHolds, RegionStands, data_of, read_of};
     ghost use Rattle.px_region.specs.Forgetting.{StaysWanted};
     ghost use Rattle.px_region.specs.Ordered.{IsSameOrder};
     ghost use Rattle.px_region.specs.Promise.{IsPrepared, IsSamePromise};
@@ -26,14 +26,14 @@ impl Region {
     /// for stays at each moment. After `Done` both are open; where both were, no call is made. Where no memory is found, nothing
     /// was done.
     pub fn prepare_step<D: Disk>(&mut self, disk: &mut D) -> Result<JobStep, JobFault>
-        ensures done { (s : RegionData) → Holds ⟦<D as Disk>⟧ self.old disk.old s → OnOk result (Holds ⟦<D as Disk>⟧ self.new disk.new s) }
+        ensures done { (s : RegionData) → RegionHolds ⟦<D as Disk>⟧ self.old disk.old s → OnOk result (RegionHolds ⟦<D as Disk>⟧ self.new disk.new s) }
 
         // At each moment of the call a stop leaves the region as it is.
-        ensures any_moment { (s : RegionData) → Holds ⟦<D as Disk>⟧ self.old disk.old s → LeavesOnly ⟦<D as Disk>⟧ disk.old disk.new (λ moment image. Stands self.old.number image s) }
+        ensures any_moment { (s : RegionData) → RegionHolds ⟦<D as Disk>⟧ self.old disk.old s → LeavesOnly ⟦<D as Disk>⟧ disk.old disk.new (λ moment image. RegionStands self.old.number image s) }
         ensures prepared { result ≡ Ok JobStep.Done → IsPrepared self.new }
         ensures failed { result ≡ Err WriteFault → Rose ⟦<D as Disk>⟧ disk.old disk.new }
         ensures refused { result ≡ Err Memory → (self.new ≡ self.old) × (disk.new ≡ disk.old) }
-        ensures touches { (s : RegionData) → Holds ⟦<D as Disk>⟧ self.old disk.old s → TouchesOnly ⟦<D as Disk>⟧ disk.old disk.new (HasFile self.old.number) }
+        ensures touches { (s : RegionData) → RegionHolds ⟦<D as Disk>⟧ self.old disk.old s → TouchesOnly ⟦<D as Disk>⟧ disk.old disk.new (HasFile self.old.number) }
         ensures counts { Passes ⟦<D as Disk>⟧ disk.old disk.new 4 }
         ensures promised { IsSamePromise self.old self.new }
         ensures read { read_of self.new ≡ read_of self.old }

@@ -1,7 +1,7 @@
 // What is read of a region.
 ghost use Rattle.std.specs.Prelude.{◌≡◌, ◌≤◌, ◌<◌, ◌+◌, ◌++◌, [], List, length, get_or, min, OnOk};
 ghost use Rattle.px_cells.specs.CellData.{CellData};
-ghost use Rattle.px_memstore.specs.Pieces.{AreApart, AreFirstRows, chained};
+ghost use Rattle.px_memstore.specs.Pieces.{AreFirstRows, ArePiecesApart, chained};
 
 use crate::{CellTaker, LookFault, Region};
 use px_cells::Cell;
@@ -21,7 +21,7 @@ fn give_all<T: CellTaker>(cells: &[Cell], taker: &mut T) -> Result<(), AllocErro
 
 impl Region {
     ghost use Rattle.px_cells.specs.Order.{IsAscending};
-    ghost use Rattle.px_region.specs.Region.{Holds, RegionData, data_of, logged_of, pieces_of, read_of};
+    ghost use Rattle.px_region.specs.Region.{RegionData, RegionHolds, data_of, logged_of, pieces_of, read_of};
     ghost use Rattle.px_region.specs.Promise.{IsAlike, IsSamePromise};
     ghost use Rattle.px_outside.specs.OnDisk.{Stays};
     ghost use Rattle.px_cells.specs.Rows.{IsRow};
@@ -32,7 +32,7 @@ impl Region {
     pub fn piece_count(&self) -> usize
         ensures count { result ≡ length (pieces_of self.now) }
         ensures cells { read_of self.now ≡ chained (pieces_of self.now) }
-        ensures apart { AreApart (pieces_of self.now) }
+        ensures apart { ArePiecesApart (pieces_of self.now) }
         ensures sorted { IsAscending (read_of self.now) }
     {
         self.store.piece_count()
@@ -99,7 +99,7 @@ impl Region {
         key: &[u8],
         taker: &mut T,
     ) -> Result<(), LookFault>
-        ensures given { (s : RegionData) (before : List CellData) → Holds ⟦<D as Disk>⟧ self.old disk.old s → T.has_taken taker.old before
+        ensures given { (s : RegionData) (before : List CellData) → RegionHolds ⟦<D as Disk>⟧ self.old disk.old s → T.has_taken taker.old before
             → OnOk result ((row : List CellData) × IsRow s.cells key.now row × T.has_taken taker.new (before ++ row)) }
         ensures read { (before : List CellData) → T.has_taken taker.old before → OnOk result ((row : List CellData) × IsRow (read_of self.old) key.now row × T.has_taken taker.new (before ++ row)) }
         ensures looked { self.new.looked ≡ min (self.old.looked + 1) 18446744073709551615 }

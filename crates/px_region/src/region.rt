@@ -2,7 +2,7 @@
 ghost use Rattle.std.specs.Prelude.{◌≡◌, ◌≢◌, ◌≤◌, ◌<◌, ◌+◌, ◌*◌, ◌^◌, ◌⊎◌, ◌++◌, ◌↔◌, [], ℕ, List, length, IsTrue, IfOk, IsErr, OnOk, OnErr, Ok, Err, false};
 ghost use Rattle.std.specs.List.{AllByRecursion};
 ghost use Rattle.px_cellbytes.specs.Spelling.{IsShortEnough, all_bytes};
-ghost use Rattle.px_wal.specs.Wal.{is_open as opened_wal, room_of as wal_room};
+ghost use Rattle.px_wal.specs.Wal.{is_wal_open, room_of_wal};
 
 use crate::PromiseFault;
 use crate::stamps::LeastStamps;
@@ -49,14 +49,14 @@ pub struct Region {
     pub(crate) wanted: bool,
     /// The least stamps of the batches above the flushed number.
     pub(crate) stamps: LeastStamps,
-    ghost roomy: { 19 * promised + promised_bytes ≤ wal_room wal },
+    ghost roomy: { 19 * promised + promised_bytes ≤ room_of_wal wal },
     ghost stored: { promised ≤ store.room },
     ghost few: { promised ≤ 16384 },
     ghost light: { promised_bytes ≤ 16777216 },
     ghost counted: { cells + promised ≤ 18446744073709551615 },
     ghost weighed: { bytes + promised_bytes ≤ 18446744073709551615 },
     ghost numbered: { 1 ≤ promised → wal.last + promised ≤ 18446744073709551615 },
-    ghost opened: { 1 ≤ promised → opened_wal wal },
+    ghost opened: { 1 ≤ promised → is_wal_open wal },
     ghost later: { 1 ≤ promised → manifest.snapshot.flushed ≤ wal.last },
 }
 
@@ -74,9 +74,9 @@ fn byte_len(cells: &[Cell]) -> u64
 }
 
 impl Region {
-    ghost use Rattle.px_region.specs.Region.{Holds, RegionData, Stands, data_of, read_of, with_batch};
+    ghost use Rattle.px_region.specs.Region.{RegionData, RegionHolds, RegionStands, data_of, read_of, with_batch};
     ghost use Rattle.px_merge.specs.Settle.{settle};
-    ghost use Rattle.px_region.specs.Promise.{HasOpenLog, HasRoom, IsAlike, IsReady, PassesLimit};
+    ghost use Rattle.px_region.specs.Promise.{HasLogRoom, HasOpenLog, IsAlike, IsLogReady, PassesLimit};
     ghost use Rattle.px_region.specs.Fresh.{IsFreshRegion};
     ghost use Rattle.px_region.specs.Ordered.{flushed_of};
     ghost use Rattle.px_outside.specs.OnDisk.{LeavesOnly, Passes, Rose, TouchesOnly};
@@ -133,7 +133,7 @@ impl Region {
     /// Whether its log is open, and a batch appended to it counts. The last batch of a folder that no program left may lie
     /// below the flushed number, and then the next would be passed over.
     pub fn is_ready(&self) -> bool
-        ensures { IsTrue result ↔ IsReady self.now }
+        ensures { IsTrue result ↔ IsLogReady self.now }
     {
         self.wal.is_open() && self.flushed() <= self.wal.last()
     }
@@ -150,7 +150,7 @@ impl Region {
     /// Whether the log has room for so many cells and bytes more, each cell in a batch of its own.
     fn has_room(&self, cells: u64, bytes: u64) -> bool
         requires { PassesLimit self.now cells bytes → ⊥ }
-        ensures { IsTrue result ↔ HasRoom self.now cells bytes }
+        ensures { IsTrue result ↔ HasLogRoom self.now cells bytes }
     {
         let all = self.promised + cells;
         self.wal.last() <= u64::MAX - all
@@ -167,8 +167,8 @@ impl Region {
     pub fn promise(&mut self, cells: u64, bytes: u64) -> Result<(), PromiseFault>
         ensures promised { OnOk result ((self.new.promised ≡ self.old.promised + cells) × (self.new.promised_bytes ≡ self.old.promised_bytes + bytes)) }
         ensures refused { OnErr result ((self.new.promised ≡ self.old.promised) × (self.new.promised_bytes ≡ self.old.promised_bytes)) }
-        ensures busy { (a b : ℕ) → (result ≡ Err (Busy a b)) ↔ (IsReady self.old × PassesLimit self.old cells bytes × (a ≡ self.old.cells + self.old.promised) × (b ≡ self.old.bytes + self.old.promised_bytes)) }
-        ensures not_ready { (result ≡ Err NotReady) ↔ ((IsReady self.old → ⊥) ⊎ ((PassesLimit self.old cells bytes → ⊥) × (HasRoom self.old cells bytes → ⊥))) }
+        ensures busy { (a b : ℕ) → (result ≡ Err (Busy a b)) ↔ (IsLogReady self.old × PassesLimit self.old cells bytes × (a ≡ self.old.cells + self.old.promised) × (b ≡ self.old.bytes + self.old.promised_bytes)) }
+        ensures not_ready { (result ≡ Err NotReady) ↔ ((IsLogReady self.old → ⊥) ⊎ ((PassesLimit self.old cells bytes → ⊥) × (HasLogRoom self.old cells bytes → ⊥))) }
         ensures alike { IsAlike self.old self.new }
         ensures read { read_of self.new ≡ read_of self.old }
         ensures looked { self.new.looked ≡ self.old.looked }
@@ -220,17 +220,17 @@ impl Region {
         requires promised { length cells ≤ self.old.promised }
         requires promised_bytes { length (all_bytes cells) ≤ self.old.promised_bytes }
         requires room { 12 + length (all_bytes cells) ≤ frame.old.room }
-        ensures done { (s : RegionData) → Holds ⟦<D as Disk>⟧ self.old disk.old s → OnOk result (Holds ⟦<D as Disk>⟧ self.new disk.new (with_batch s cells)) }
+        ensures done { (s : RegionData) → RegionHolds ⟦<D as Disk>⟧ self.old disk.old s → OnOk result (RegionHolds ⟦<D as Disk>⟧ self.new disk.new (with_batch s cells)) }
         ensures read { OnOk result (read_of self.new ≡ settle (cells ++ read_of self.old)) }
         ensures unread { OnErr result (read_of self.new ≡ read_of self.old) }
 
         // At each moment of the call a stop leaves the region without the batch, or with it.
-        ensures any_moment { (s : RegionData) → Holds ⟦<D as Disk>⟧ self.old disk.old s
-            → LeavesOnly ⟦<D as Disk>⟧ disk.old disk.new (λ moment image. Stands self.old.number image s ⊎ Stands self.old.number image (with_batch s cells)) }
+        ensures any_moment { (s : RegionData) → RegionHolds ⟦<D as Disk>⟧ self.old disk.old s
+            → LeavesOnly ⟦<D as Disk>⟧ disk.old disk.new (λ moment image. RegionStands self.old.number image s ⊎ RegionStands self.old.number image (with_batch s cells)) }
         ensures failed { IsErr result → Rose ⟦<D as Disk>⟧ disk.old disk.new }
         ensures promised { OnOk result ((self.new.promised + length cells ≡ self.old.promised) × (self.new.promised_bytes + length (all_bytes cells) ≡ self.old.promised_bytes)) }
         ensures counted { OnOk result ((self.new.cells ≡ self.old.cells + length cells) × (self.new.bytes ≡ self.old.bytes + length (all_bytes cells))) }
-        ensures touches { (s : RegionData) → Holds ⟦<D as Disk>⟧ self.old disk.old s → TouchesOnly ⟦<D as Disk>⟧ disk.old disk.new (HasFile self.old.number) }
+        ensures touches { (s : RegionData) → RegionHolds ⟦<D as Disk>⟧ self.old disk.old s → TouchesOnly ⟦<D as Disk>⟧ disk.old disk.new (HasFile self.old.number) }
         ensures counts { Passes ⟦<D as Disk>⟧ disk.old disk.new 4 }
         ensures number { self.new.number ≡ self.old.number }
         ensures looked { self.new.looked ≡ self.old.looked }

@@ -12,15 +12,15 @@ use px_wal::{Manifest, Replayed, Wal};
 use std::alloc::Global;
 
 impl Region {
-    ghost use Rattle.px_region.specs.Region.{Holds, RegionData, Stands};
-    ghost use Rattle.px_region.specs.Opened.{IsAssembled, IsFirstDamaged};
+    ghost use Rattle.px_region.specs.Region.{RegionData, RegionHolds, RegionStands};
+    ghost use Rattle.px_region.specs.Opened.{IsAssembled, IsFirstDamagedInRegion};
     ghost use Rattle.px_files.specs.Calls.{opening_calls};
     ghost use Rattle.px_files.specs.Files.{IsFirstBad};
     ghost use Rattle.px_loading.specs.Calls.{loading_calls};
     ghost use Rattle.px_region.specs.Calls.{IsOpenedBy};
-    ghost use Rattle.px_wal.specs.Batches.{Batch as BatchData};
-    ghost use Rattle.px_wal.specs.Manifest.{HasSnapshot, names};
-    ghost use Rattle.px_wal.specs.Wal.{HasBatches, Stored};
+    ghost use Rattle.px_wal.specs.Batches.{LogBatch};
+    ghost use Rattle.px_wal.specs.Manifest.{HasSnapshot, named_snapshot};
+    ghost use Rattle.px_wal.specs.Wal.{HasBatches, IsStoredAbove};
 
     /// The region of what was read of its manifest and its log, once its files are opened.
     fn assembled<D: Disk>(
@@ -30,10 +30,10 @@ impl Region {
         manifest: Manifest,
         replayed: Replayed,
     ) -> Result<Region, StartFault>
-        ensures opened { (batches : List BatchData) → IsTrue D.tells → HasSnapshot ⟦<D as Disk>⟧ number manifest disk.old → HasBatches ⟦<D as Disk>⟧ number (names manifest).flushed replayed.wal disk.old batches → Stored (names manifest).flushed batches replayed
-            → IfOk result (λ region. IsAssembled ⟦<D as Disk>⟧ number (D.seen disk.old) (names manifest) batches region disk.new) }
-        ensures damaged { (batches : List BatchData) (file place : ℕ) → IsTrue D.tells → HasSnapshot ⟦<D as Disk>⟧ number manifest disk.old → HasBatches ⟦<D as Disk>⟧ number (names manifest).flushed replayed.wal disk.old batches
-            → result ≡ Err (StartFault.Damaged file place) → IsFirstBad number (D.seen disk.old) (names manifest).files file place }
+        ensures opened { (batches : List LogBatch) → IsTrue D.tells → HasSnapshot ⟦<D as Disk>⟧ number manifest disk.old → HasBatches ⟦<D as Disk>⟧ number (named_snapshot manifest).flushed replayed.wal disk.old batches → IsStoredAbove (named_snapshot manifest).flushed batches replayed
+            → IfOk result (λ region. IsAssembled ⟦<D as Disk>⟧ number (D.seen disk.old) (named_snapshot manifest) batches region disk.new) }
+        ensures damaged { (batches : List LogBatch) (file place : ℕ) → IsTrue D.tells → HasSnapshot ⟦<D as Disk>⟧ number manifest disk.old → HasBatches ⟦<D as Disk>⟧ number (named_snapshot manifest).flushed replayed.wal disk.old batches
+            → result ≡ Err (StartFault.Damaged file place) → IsFirstBad number (D.seen disk.old) (named_snapshot manifest).files file place }
         ensures fresh { IfOk result (λ region. (region.number ≡ number) × (region.promised ≡ 0) × (region.promised_bytes ≡ 0) × (region.looked ≡ 0)) }
         ensures seen { D.seen disk.new ≡ D.seen disk.old }
         ensures quiet { Stays ⟦<D as Disk>⟧ disk.old disk.new }
@@ -94,8 +94,8 @@ impl Region {
     /// It is Damaged at exactly the first place that isn't of the format, and a ReadFault or WriteFault where a call of the
     /// disk failed.
     pub fn reopen<D: Disk>(alloc: Global, disk: &mut D, number: u32) -> Result<Region, StartFault>
-        ensures opened { IsTrue D.tells → IfOk result (λ region. (s : RegionData) × Stands number (D.seen disk.old) s × Holds ⟦<D as Disk>⟧ region disk.new s) }
-        ensures damaged { (file place : ℕ) → result ≡ Err (StartFault.Damaged file place) → IsTrue D.tells → IsFirstDamaged number (D.seen disk.old) file place }
+        ensures opened { IsTrue D.tells → IfOk result (λ region. (s : RegionData) × RegionStands number (D.seen disk.old) s × RegionHolds ⟦<D as Disk>⟧ region disk.new s) }
+        ensures damaged { (file place : ℕ) → result ≡ Err (StartFault.Damaged file place) → IsTrue D.tells → IsFirstDamagedInRegion number (D.seen disk.old) file place }
         ensures fresh { IfOk result (λ region. (region.number ≡ number) × (region.promised ≡ 0) × (region.promised_bytes ≡ 0) × (region.looked ≡ 0)) }
         ensures seen { D.seen disk.new ≡ D.seen disk.old }
         ensures quiet { Stays ⟦<D as Disk>⟧ disk.old disk.new }

@@ -2,8 +2,8 @@
 ghost use Rattle.std.specs.Prelude.{◌≡◌, ◌≤◌, ◌++◌, ◌∷◌, ◌↔◌, [], ℕ, List, IsTrue};
 ghost use Rattle.std.specs.List.{AllByRecursion};
 ghost use Rattle.px_merge.specs.Settle.{settle};
-ghost use Rattle.px_wal.specs.Batches.{Batch as BatchData, above, later_first};
-ghost use Rattle.px_region.specs.Stamps.{Allows, AreFrom, HaveLeast};
+ghost use Rattle.px_wal.specs.Batches.{LogBatch, batches_above, later_first};
+ghost use Rattle.px_region.specs.Stamps.{Allows, AreStampsFrom, HaveLeast};
 
 use px_cells::Cell;
 use px_memstore::MemStore;
@@ -20,7 +20,7 @@ pub struct LeastStamps {
 /// The least stamp of cells, or a number where that is less.
 fn least_of(cells: &[Cell], most: u64) -> u64
     ensures within { result ≤ most }
-    ensures from { AreFrom result cells.now }
+    ensures from { AreStampsFrom result cells.now }
 {
     let mut least = most;
     for cell in cells {
@@ -31,7 +31,7 @@ fn least_of(cells: &[Cell], most: u64) -> u64
 
 /// The least stamp of all cells of a store.
 fn least_in(store: &MemStore) -> u64
-    ensures { AreFrom result store.now.cells }
+    ensures { AreStampsFrom result store.now.cells }
 {
     let mut least = u64::MAX;
     for at in 0..store.piece_count() {
@@ -54,7 +54,7 @@ impl LeastStamps {
 
     /// Those of the batches of which a store has what is read.
     pub(crate) fn of_store(store: &MemStore) -> LeastStamps
-        ensures { (batches : List BatchData) → store.now.cells ≡ settle (later_first batches) → HaveLeast result batches }
+        ensures { (batches : List LogBatch) → store.now.cells ≡ settle (later_first batches) → HaveLeast result batches }
     {
         let least = least_in(store);
         LeastStamps {
@@ -66,7 +66,7 @@ impl LeastStamps {
 
     /// A batch came.
     pub(crate) fn add(&mut self, number: u64, cells: &[Cell])
-        ensures { (batches : List BatchData) → HaveLeast self.old batches → HaveLeast self.new (batches ++ (record { number = number; cells = cells.now }) ∷ []) }
+        ensures { (batches : List LogBatch) → HaveLeast self.old batches → HaveLeast self.new (batches ++ (record { number = number; cells = cells.now }) ∷ []) }
     {
         if number > self.upto {
             self.behind = least_of(cells, self.behind);
@@ -77,7 +77,7 @@ impl LeastStamps {
 
     /// From now on all batches, which go up to a number, are the older ones.
     pub(crate) fn age(&mut self, upto: u64)
-        ensures { (batches : List BatchData) → AllByRecursion (λ b. b.number ≤ upto) batches → HaveLeast self.old batches → HaveLeast self.new batches }
+        ensures { (batches : List LogBatch) → AllByRecursion (λ b. b.number ≤ upto) batches → HaveLeast self.old batches → HaveLeast self.new batches }
     {
         self.upto = upto;
         self.before = self.before.min(self.behind);
@@ -86,7 +86,7 @@ impl LeastStamps {
 
     /// The batches up to a number are flushed.
     pub(crate) fn flush(&mut self, flushed: u64)
-        ensures { (old : ℕ) (batches : List BatchData) → old ≤ flushed → HaveLeast self.old (above old batches) → HaveLeast self.new (above flushed batches) }
+        ensures { (old : ℕ) (batches : List LogBatch) → old ≤ flushed → HaveLeast self.old (batches_above old batches) → HaveLeast self.new (batches_above flushed batches) }
     {
         if self.upto <= flushed {
             self.before = u64::MAX;

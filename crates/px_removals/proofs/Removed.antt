@@ -13,14 +13,14 @@ use Rattle.px_trail.specs.Answers.{IsAmong}
 use Rattle.px_trail.specs.Batches.{rows_of}
 use Rattle.px_values.proofs.Equal.{row_order-Decides}
 use Rattle.px_values.proofs.ValueOrder.{row_order_total}
-use Rattle.px_calls.specs.Requires.{FitsTable}
+use Rattle.px_calls.specs.Requires.{IsChangeOf}
 use Rattle.px_removals.specs.Removals.{AreRemovals}
 use Rattle.px_removals.specs.inner.Put.{IsPut, place_in, removal}
 
 -- these changes remove the rows, and fit the table
 pub record AreOf (t : Table) (rows : List (List Value)) (cs : List Change) : Type 0 where
   pub removals : AreRemovals rows cs
-  pub fits : AllByRecursion (FitsTable t) cs
+  pub fits : AllByRecursion (IsChangeOf t) cs
 
 pub none-yet : (t : Table) → AreOf t [] []
 unfolding IsStrictlySortedBy IsAmong

@@ -12,7 +12,7 @@ use Rattle.px_values.specs.declared.row.Value.{Value}
 use Rattle.px_trail.specs.Batches.{has, is_distinct, rows_of}
 use Rattle.px_values.proofs.ValueOrder.{row_order_total}
 use Rattle.px_calls.specs.Known.{Known}
-use Rattle.px_calls.specs.Requires.{AreFitting, FitsTable}
+use Rattle.px_calls.specs.Requires.{AreFitting, IsChangeOf}
 use Rattle.px_removals.specs.Removals.{IsSplit}
 
 -- 1. Of a list what holds of each holds of each of its beginning, and of each of the rest
@@ -87,10 +87,10 @@ pub short-front : (cs : List Change) → length (take 1000 cs) ≤ 1000
 short-front cs = simp length-take (omega arith)
 
 pub fitting-front : (k : Known) (t : ℕ) (n : ℕ) (cs : List Change) → AreFitting k t cs → AreFitting k t (take n cs)
-fitting-front k t n cs h = record { drawn = h.drawn; each = λ x now. all-take (FitsTable x) n cs (h.each x now) }
+fitting-front k t n cs h = record { drawn = h.drawn; each = λ x now. all-take (IsChangeOf x) n cs (h.each x now) }
 
 pub fitting-rest : (k : Known) (t : ℕ) (n : ℕ) (cs : List Change) → AreFitting k t cs → AreFitting k t (drop n cs)
-fitting-rest k t n cs h = record { drawn = h.drawn; each = λ x now. all-drop (FitsTable x) n cs (h.each x now) }
+fitting-rest k t n cs h = record { drawn = h.drawn; each = λ x now. all-drop (IsChangeOf x) n cs (h.each x now) }
 
 pub split-more : (cs : List Change) (parts : List (List Change)) (left : List Change) → IsSplit cs parts left → left ≢ [] → IsSplit cs (parts ++ take 1000 left ∷ []) (drop 1000 left)
 split-more cs [] left h some = (subst (λ (l : List Change). l ≢ []) h some, ap (λ (l : List Change). take 1000 l) h, ap (λ (l : List Change). drop 1000 l) h)

@@ -2,7 +2,7 @@
 ghost use Rattle.std.specs.Prelude.{◌≡◌, IfOk, OnOk};
 ghost use Rattle.std.specs.List.{AllByRecursion};
 ghost use Rattle.px_values.specs.Order.{row_order};
-ghost use Rattle.px_calls.specs.Requires.{FitsTable};
+ghost use Rattle.px_calls.specs.Requires.{IsChangeOf};
 ghost use Rattle.px_removals.specs.Removals.{AreRemovals};
 ghost use Rattle.px_removals.specs.inner.Put.{IsPut, place_in};
 
@@ -81,7 +81,7 @@ fn put(table: &Table, removals: &mut VecDeque<Change>, row: Row) -> Result<(), A
 /// The changes that remove these rows, which come in the order of their values.
 pub fn removals(alloc: Global, table: &Table, rows: Rows) -> Result<VecDeque<Change>, AllocError>
     ensures removals { IfOk result (λ cs. AreRemovals rows cs.items) }
-    ensures fits { IfOk result (λ cs. AllByRecursion (FitsTable table.now) cs.items) }
+    ensures fits { IfOk result (λ cs. AllByRecursion (IsChangeOf table.now) cs.items) }
 {
     let mut rows = rows.into_vec();
     let mut removals = VecDeque::with_capacity(alloc, rows.len())?;

@@ -16,7 +16,7 @@ use Rattle.px_forms.specs.Indexes.{IndexForm, IsIndexForm, cells_if, shape_at, s
 use Rattle.px_forms.specs.Several.{AreOwned}
 use Rattle.px_forms.proofs.RowViews.{others_view}
 use Rattle.px_groupworld.specs.Asks.{CanFix}
-use Rattle.px_groupworld.specs.Group.{GroupData, GroupKept, index_in, no_part, shape_in, world_in}
+use Rattle.px_groupworld.specs.Group.{GroupData, GroupKept, indexed_at, no_part, shape_in, world_in}
 use Rattle.px_indexed.specs.Kept.{AreIndexCells}
 use Rattle.px_indexed.proofs.Looks.{top_seen}
 use Rattle.px_indexed.proofs.Regions.{bare_at}
@@ -28,7 +28,7 @@ use Rattle.px_indexrow.specs.declared.doubt.Repair.TheVariants as repairs
 use Rattle.px_indexrow.proofs.FixesSeen.{fix_view}
 use Rattle.px_indexrow.proofs.KeysHeld.{form_laws, form_placed}
 use Rattle.px_looks.specs.Found.{RowContents, at_key}
-use Rattle.px_looks.specs.Versions.{is_verified, stamp_seen, version_of}
+use Rattle.px_looks.specs.Versions.{is_verified, stamp_seen, version_of_stamp}
 use Rattle.px_looks.proofs.Spelling.{seen_stands}
 use Rattle.px_openbatches.specs.Pending.{HeldBatch}
 use Rattle.px_region.specs.Region.{read_of}
@@ -102,7 +102,7 @@ from_not : (b : Bool) → not b ≡ true → b ≡ false
 from_not true e = absurd (false≢true e)
 from_not false e = refl
 
-pub seen_parts : (h : RowContents) (columns : List ℕ) (p s : ℕ) (o : Option ℕ) → is_doubt s (version_of h columns p o) ≡ true → (o ≡ Some s) × (is_verified (h 1 s Put) ≡ false)
+pub seen_parts : (h : RowContents) (columns : List ℕ) (p s : ℕ) (o : Option ℕ) → is_doubt s (version_of_stamp h columns p o) ≡ true → (o ≡ Some s) × (is_verified (h 1 s Put) ≡ false)
 seen_parts h columns p s None e = absurd (false≢true e)
 seen_parts h columns p s (Some u) e =
     (let parts = and_parts (nat_eq u s) (not (is_verified (h 1 u Put))) e in
@@ -169,7 +169,7 @@ module _ (b : Base) (index : ℕ → IndexForm) (es : List Entry) (g : Group) (v
     stands_is : stands w k s
     stands_is =
         let seen : stamp_seen (at_key (value_at (get_or v.indexes place no_part).cells) k) 1 m ≡ Some s = ap (λ (l : List CellData). stamp_seen (at_key (value_at l) k) 1 m) part_cells ∙ parts.0 in
-        let top_at : top w k m ≡ Some s = top_seen sh b es g.table.id.0 v.high (index_in (form_of b index g) v place) r k own (λ u. bare_at f last (get_or v.indexes place no_part).cells are k u) m ∙ seen in (
+        let top_at : top w k m ≡ Some s = top_seen sh b es g.table.id.0 v.high (indexed_at (form_of b index g) v place) r k own (λ u. bare_at f last (get_or v.indexes place no_part).cells are k u) m ∙ seen in (
           ap (λ (n : ℕ). top w k (max s n)) horizon_same ∙ top_at,
           ap (λ (z : Bool). cond z (status_in (value_at (get_or v.indexes place no_part).cells k 1 s Put)) Absent) own ∙ ap (λ (l : List CellData). status_in (value_at l k 1 s Put)) part_cells
               ∙ unverified (value_at (read_of x.region) k 1 s Put) value.0 value.1 parts.1,

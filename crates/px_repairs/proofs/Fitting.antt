@@ -5,7 +5,7 @@ use Rattle.std.specs.List.{AllByRecursion}
 use Rattle.px_cells.specs.CellData.{CellData}
 use Rattle.px_cells.specs.Order.{IsApart, SamePlace}
 use Rattle.px_forms.specs.Indexes.{IndexForm, IsPlaced}
-use Rattle.px_indexrow.specs.Form.{FitsState, IsRightIndex, index_form}
+use Rattle.px_indexrow.specs.Form.{FitsRowState, IsRightIndex, index_form}
 use Rattle.px_indexrow.specs.Lists.{column_cell, column_cells, erase_cell, family_cell, fix_of, status_cell}
 use Rattle.px_indexrow.proofs.KeysHeld.{form_placed}
 use Rattle.px_keptcells.specs.Kept.{IsFitting}
@@ -66,7 +66,7 @@ columns_apart f placed k s state (suc n) m = (
 
 -- ---- a repair
 
-module _ (t : Table) (x : Index) (most : length t.columns ≤ 254) (right : IsRightIndex t x) (h : ℕ) (state : RowState) (fits : FitsState t state) (k : List ℕ) (short : length k ≤ 1024) (s : ℕ) (stamp : s < 18446744073709551616) where
+module _ (t : Table) (x : Index) (most : length t.columns ≤ 254) (right : IsRightIndex t x) (h : ℕ) (state : RowState) (fits : FitsRowState t state) (k : List ℕ) (short : length k ≤ 1024) (s : ℕ) (stamp : s < 18446744073709551616) where
   abbrev f : IndexForm
   f = index_form t x
 

@@ -8,7 +8,7 @@ use Rattle.px_keptcells.specs.Kept.{laid}
 use Rattle.px_merge.specs.Settle.{settle}
 use Rattle.px_wal.specs.Files.{HasFile}
 use Rattle.px_region.specs.Promise.{IsAlike}
-use Rattle.px_region.specs.Region.{Holds, RegionData, Stands, data_of, read_of, with_batch}
+use Rattle.px_region.specs.Region.{RegionData, RegionHolds, RegionStands, data_of, read_of, with_batch}
 use Rattle.px_region.specs.declared.region.Region.{Region}
 use Rattle.px_region.proofs.Holding.{holds_alike}
 use Rattle.px_batching.proofs.Handed.{reads_settled}
@@ -32,17 +32,17 @@ min_whole n m e l = omega arith
 -- ---- cells
 
 module _ {D : Type 0} (d : Ghosts D) (old taken new : Region) (disk disk' : D) (cells : List CellData) (alike : IsAlike old taken) where
-  pub writes_taken : new.number ≡ taken.number → (data_of new).horizon ≡ (data_of taken).horizon → ((s : RegionData) → Holds d taken disk s → LeavesOnly d disk disk' (λ moment image. Stands taken.number image s ⊎ Stands taken.number image (with_batch s cells)))
-      → ((s : RegionData) → Holds d taken disk s → TouchesOnly d disk disk' (HasFile taken.number)) → Passes d disk disk' 4 → WritesTo d old new disk disk' cells
+  pub writes_taken : new.number ≡ taken.number → (data_of new).horizon ≡ (data_of taken).horizon → ((s : RegionData) → RegionHolds d taken disk s → LeavesOnly d disk disk' (λ moment image. RegionStands taken.number image s ⊎ RegionStands taken.number image (with_batch s cells)))
+      → ((s : RegionData) → RegionHolds d taken disk s → TouchesOnly d disk disk' (HasFile taken.number)) → Passes d disk disk' 4 → WritesTo d old new disk disk' cells
   writes_taken number horizon leaves touches counts = record {
     number = number ∙ alike.number;
     horizon = horizon ∙ alike.horizon;
-    leaves = λ s holds. subst (λ (n : ℕ). LeavesOnly d disk disk' (λ moment image. Stands n image s ⊎ Stands n image (with_batch s cells))) alike.number (leaves s (holds_alike d old disk s holds taken alike));
+    leaves = λ s holds. subst (λ (n : ℕ). LeavesOnly d disk disk' (λ moment image. RegionStands n image s ⊎ RegionStands n image (with_batch s cells))) alike.number (leaves s (holds_alike d old disk s holds taken alike));
     touches = λ s holds. subst (λ (n : ℕ). TouchesOnly d disk disk' (HasFile n)) alike.number (touches s (holds_alike d old disk s holds taken alike));
     counts = counts;
   }
 
-  pub written_taken : ((s : RegionData) → Holds d taken disk s → Holds d new disk' (with_batch s cells)) → read_of new ≡ settle (cells ++ read_of taken) → HasWritten d old new disk disk' cells
+  pub written_taken : ((s : RegionData) → RegionHolds d taken disk s → RegionHolds d new disk' (with_batch s cells)) → read_of new ≡ settle (cells ++ read_of taken) → HasWritten d old new disk disk' cells
   written_taken holds reads = record {
     holds = λ s has. holds s (holds_alike d old disk s has taken alike);
     reads = reads_settled cells (read_of old) (read_of new) (reads ∙ ap (λ (l : List CellData). settle (cells ++ l)) alike.store);

@@ -3,11 +3,11 @@ use Rattle.std.proofs.Common.{◌≡◌, ◌≤◌, ℕ, Result, Err, Some, List
 use Rattle.std.specs.Prelude.{min}
 use Rattle.px_cells.specs.CellData.{CellData}
 use Rattle.px_cellbytes.specs.Spelling.{all_bytes}
-use Rattle.px_wal.specs.Manifest.{names}
-use Rattle.px_wal.specs.Wal.{is_open, room_of}
+use Rattle.px_wal.specs.Manifest.{named_snapshot}
+use Rattle.px_wal.specs.Wal.{is_wal_open, room_of_wal}
 use Rattle.px_wal.specs.declared.manifest.Manifest.{Manifest}
 use Rattle.px_wal.specs.declared.wal.Wal.{Wal}
-use Rattle.px_region.specs.Promise.{HasRoom, IsReady, PassesLimit}
+use Rattle.px_region.specs.Promise.{HasLogRoom, IsLogReady, PassesLimit}
 use Rattle.px_region.specs.declared.region.Region.{Region}
 use Rattle.px_group.specs.declared.group.Group.{Group}
 use Rattle.px_group.specs.declared.group.IndexRegion.{IndexRegion}
@@ -28,7 +28,7 @@ more_passes : (region : Region) (c n c' n' : ℕ) → c ≤ c' → n ≤ n' → 
 more_passes region c n c' n' l m (inl p) = inl (omega (arith, l, p))
 more_passes region c n c' n' l m (inr p) = inr (omega (arith, m, p))
 
-more_room : (region : Region) (c n c' n' : ℕ) → c ≤ c' → n ≤ n' → HasRoom region c' n' → HasRoom region c n
+more_room : (region : Region) (c n c' n' : ℕ) → c ≤ c' → n ≤ n' → HasLogRoom region c' n' → HasLogRoom region c n
 more_room region c n c' n' l m r = ((let a = r.0 in omega (arith, l, a)), (let b = r.1 in omega (arith, l, m, b)))
 
 refused_more : (region : Region) (c n c' n' : ℕ) → c ≤ c' → n ≤ n' → (fault : RepairFault) → RefusesRoom region c n fault → RefusesRoom region c' n' fault
@@ -47,18 +47,18 @@ refused_for region cells c n a b fault r = refused_more region c n (length cells
 -- ---- a region that was looked at refuses what it refused before
 
 module _ (old new : Region) (l : IsLookedAt old new) where
-  ready_back : IsReady new → IsReady old
-  ready_back r = (subst is_open l.alike.wal r.0, subst (λ (w : Wal). (names old.manifest).flushed ≤ w.last) l.alike.wal (subst (λ (m : Manifest). (names m).flushed ≤ new.wal.last) l.alike.manifest r.1))
+  ready_back : IsLogReady new → IsLogReady old
+  ready_back r = (subst is_wal_open l.alike.wal r.0, subst (λ (w : Wal). (named_snapshot old.manifest).flushed ≤ w.last) l.alike.wal (subst (λ (m : Manifest). (named_snapshot m).flushed ≤ new.wal.last) l.alike.manifest r.1))
 
-  ready_on : IsReady old → IsReady new
-  ready_on r = (subst is_open (sym l.alike.wal) r.0, subst (λ (w : Wal). (names new.manifest).flushed ≤ w.last) (sym l.alike.wal) (subst (λ (m : Manifest). (names m).flushed ≤ old.wal.last) (sym l.alike.manifest) r.1))
+  ready_on : IsLogReady old → IsLogReady new
+  ready_on r = (subst is_wal_open (sym l.alike.wal) r.0, subst (λ (w : Wal). (named_snapshot new.manifest).flushed ≤ w.last) (sym l.alike.wal) (subst (λ (m : Manifest). (named_snapshot m).flushed ≤ old.wal.last) (sym l.alike.manifest) r.1))
 
   passes_back : (c n : ℕ) → PassesLimit new c n → PassesLimit old c n
   passes_back c n (inl p) = inl (let a = l.alike.cells in let b = l.promised.cells in omega (arith, a, b, p))
   passes_back c n (inr p) = inr (let a = l.alike.bytes in let b = l.promised.bytes in omega (arith, a, b, p))
 
-  room_on : (c n : ℕ) → HasRoom old c n → HasRoom new c n
-  room_on c n r = (let a = ap (λ (w : Wal). w.last) l.alike.wal in let b = ap room_of l.alike.wal in let d = l.promised.cells in let e = l.promised.bytes in let p = r.0 in let q = r.1 in (omega (arith, a, d, p), omega (arith, b, d, e, q)))
+  room_on : (c n : ℕ) → HasLogRoom old c n → HasLogRoom new c n
+  room_on c n r = (let a = ap (λ (w : Wal). w.last) l.alike.wal in let b = ap room_of_wal l.alike.wal in let d = l.promised.cells in let e = l.promised.bytes in let p = r.0 in let q = r.1 in (omega (arith, a, d, p), omega (arith, b, d, e, q)))
 
   refused_back : (c n : ℕ) (fault : RepairFault) → RefusesRoom new c n fault → RefusesRoom old c n fault
   refused_back c n NotReady (inl r) = inl (λ h. r (ready_on h))

@@ -42,7 +42,7 @@ use Rattle.px_group.specs.declared.group.IndexRegion.{IndexRegion}
 use Rattle.px_batching.proofs.Places.{all_at}
 use Rattle.px_reading.specs.Doubts.{IsKeyIn, IsRowOf, IsToldBy, horizon_at, is_pending, version_seen}
 use Rattle.px_reading.proofs.Dues.{part_is, row_there}
-use Rattle.px_repairs.specs.Repairs.{IsRepair, IsUnderWay, is_doubt, repair_of, stands_in}
+use Rattle.px_repairs.specs.Repairs.{IsChangeUnderWay, IsRepair, is_doubt, repair_of, stands_in}
 use Rattle.px_repairs.proofs.Dues.{can_fix, seen_parts}
 use Rattle.px_repairs.proofs.Fitting.{fix_some}
 
@@ -96,7 +96,7 @@ module _ (g : Group) (right : IsRightGroup g) (place : ℕ) (there : place < len
   stands : stands_in g x k s ≡ true
   stands = ap (is_doubt s) (sym (seen_is x at)) ∙ doubt
 
-  pub under_way : repair ≡ repairs.Leave → IsUnderWay g place k s
+  pub under_way : repair ≡ repairs.Leave → IsChangeUnderWay g place k s
   under_way e = record { index = x; at = at; key = key x at; stands = stands; left = ap (is_pending g s) (sym (row x at)) ∙ leave.0 e }
 
   some : (o : Option KeyVersion) → is_doubt s o ≡ true → o ≢ None

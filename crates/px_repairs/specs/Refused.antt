@@ -4,7 +4,7 @@ use Rattle.px_cells.specs.CellData.{CellData}
 use Rattle.px_group.specs.Room.{byte_count}
 use Rattle.px_group.specs.declared.group.Group.{Group}
 use Rattle.px_group.specs.declared.group.IndexRegion.{IndexRegion}
-use Rattle.px_region.specs.Promise.{HasRoom, IsReady, PassesLimit}
+use Rattle.px_region.specs.Promise.{HasLogRoom, IsLogReady, PassesLimit}
 use Rattle.px_region.specs.declared.region.Region.{Region}
 use Rattle.px_reading.specs.Looked.{HasLooked}
 use Rattle.px_repairs.specs.Repairs.{IsRepair}
@@ -14,8 +14,8 @@ use Rattle.px_repairs.specs.declared.repairing.RepairFault.TheVariants.{Busy, No
 -- The region refuses room for so many cells and bytes: its log isn't open or has no room for them, or it would have too many, which are told
 -- without these.
 abbrev pub RefusesRoom : Region → (cells bytes : ℕ) → RepairFault → Type 0
-RefusesRoom region cells bytes NotReady = (IsReady region → ⊥) ⊎ (HasRoom region cells bytes → ⊥)
-RefusesRoom region cells bytes (Busy had had_bytes) = IsReady region × PassesLimit region cells bytes × (had ≡ region.cells + region.promised) × (had_bytes ≡ region.bytes + region.promised_bytes)
+RefusesRoom region cells bytes NotReady = (IsLogReady region → ⊥) ⊎ (HasLogRoom region cells bytes → ⊥)
+RefusesRoom region cells bytes (Busy had had_bytes) = IsLogReady region × PassesLimit region cells bytes × (had ≡ region.cells + region.promised) × (had_bytes ≡ region.bytes + region.promised_bytes)
 RefusesRoom region cells bytes WriteFault = Unit {0}
 RefusesRoom region cells bytes Memory = Unit {0}
 

@@ -60,7 +60,7 @@ pub record IsRepair (g : Group) (place : ℕ) (k : List ℕ) (s : ℕ) (cells : 
   pub can : (b : Base) (form : ℕ → IndexForm) (es : List Entry) (v : GroupData) (hs : List HeldBatch) → IsTallied b es g hs → IsShownBy b form es g v hs → IsToldBy b form es g v → CanFix (form_of b form g) es v place k s cells
 
 -- its change is under way: an open batch of its stamp is still to write the row
-pub record IsUnderWay (g : Group) (place : ℕ) (k : List ℕ) (s : ℕ) : Type 0 where
+pub record IsChangeUnderWay (g : Group) (place : ℕ) (k : List ℕ) (s : ℕ) : Type 0 where
   pub index : IndexRegion
   pub at : slice_get g.indexes.items place ≡ Some index
   pub key : IsKeyIn g index k
@@ -70,7 +70,7 @@ pub record IsUnderWay (g : Group) (place : ℕ) (k : List ℕ) (s : ℕ) : Type 
 -- what is to be done with it
 abbrev pub IsJudged : Group → ℕ → List ℕ → ℕ → Judged → Type 0
 IsJudged g place k s Gone = (x : IndexRegion) → slice_get g.indexes.items place ≡ Some x → stands_in g x k s ≡ false
-IsJudged g place k s InFlight = IsUnderWay g place k s
+IsJudged g place k s InFlight = IsChangeUnderWay g place k s
 IsJudged g place k s (Due kept) = IsRepair g place k s (laid kept) × (1 ≤ length (laid kept))
 
 -- 2. What it does
@@ -144,7 +144,7 @@ pub record HasFixed {D : Type 0} (d : Ghosts D) (g g' : Group) (disk disk' : D) 
   pub wrote : WroteRepair d looked g' disk disk' place kept
 
 -- or it was handed over, and the disk failed
-pub record HasFailed {D : Type 0} (d : Ghosts D) (g g' : Group) (disk disk' : D) (place : ℕ) (k : List ℕ) (s : ℕ) : Type 0 where
+pub record HasFailedRepair {D : Type 0} (d : Ghosts D) (g g' : Group) (disk disk' : D) (place : ℕ) (k : List ℕ) (s : ℕ) : Type 0 where
   pub looked : Group
   pub has : HasLooked g looked
   pub kept : List CellData
@@ -156,7 +156,7 @@ abbrev pub Fixes : {D : Type 0} → Ghosts D → Group → Group → D → D →
 Fixes d g g' disk disk' place k s (Ok fixing.Fixed) = HasFixed d g g' disk disk' place k s
 Fixes d g g' disk disk' place k s (Ok fixing.Gone) = HasStayed g g' disk disk' × IsJudged g' place k s Gone
 Fixes d g g' disk disk' place k s (Ok fixing.InFlight) = HasStayed g g' disk disk' × IsJudged g' place k s InFlight
-Fixes d g g' disk disk' place k s (Err WriteFault) = HasFailed d g g' disk disk' place k s
+Fixes d g g' disk disk' place k s (Err WriteFault) = HasFailedRepair d g g' disk disk' place k s
 Fixes d g g' disk disk' place k s (Err (Busy cells bytes)) = HasStayed g g' disk disk'
 Fixes d g g' disk disk' place k s (Err NotReady) = HasStayed g g' disk disk'
 Fixes d g g' disk disk' place k s (Err Memory) = HasStayed g g' disk disk'

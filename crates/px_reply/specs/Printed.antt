@@ -5,7 +5,7 @@ use Rattle.px_values.specs.declared.limit.Limit.{Limit as Bound}
 use Rattle.px_values.specs.declared.print.CountWord.{CountWord}
 use Rattle.px_values.specs.declared.print.CountWord.TheVariants.{Selected}
 use Rattle.px_values.specs.declared.row.Value.{Value}
-use Rattle.px_values.specs.Limits.{most_of, word_of}
+use Rattle.px_values.specs.Limits.{limit_word, most_of}
 use Rattle.px_values.specs.Print.{printed_count, printed_rows}
 use Rattle.px_tables.specs.declared.index.IndexState.{IndexState}
 use Rattle.px_tables.specs.declared.index.IndexState.TheVariants.{Building, Active, Disabled}
@@ -38,7 +38,7 @@ numbered text n = line (with_number text n)
 -- ---- refusals
 
 abbrev pub limit_text : Bound → List ℕ
-limit_text limit = codes "E11 limit: " ++ word_of limit ++ codes " " ++ decimal (most_of limit)
+limit_text limit = codes "E11 limit: " ++ limit_word limit ++ codes " " ++ decimal (most_of limit)
 
 abbrev pub damaged_text : (file place : ℕ) → List ℕ
 damaged_text file place = codes "F4 damaged file " ++ decimal file ++ codes " at " ++ decimal place

@@ -14,7 +14,7 @@ use Rattle.px_values.specs.declared.column.ColType.{ColType}
 use Rattle.px_values.specs.declared.column.ColType.TheVariants as types
 use Rattle.px_values.specs.declared.row.Value.{Value}
 use Rattle.px_values.specs.declared.row.Value.TheVariants.{Null, Number, Truth, Text}
-use Rattle.px_resolve.specs.Literals.{HasText, differ, is_bad_text, is_outside, literal_faults, mismatch_if, range_if, value_of}
+use Rattle.px_resolve.specs.Literals.{HasText, differ, is_bad_text, is_outside, literal_faults, mismatch_if, range_if, value_of_literal}
 use Rattle.px_resolve.proofs.Walks.{no_front, no_rest}
 
 at_least : (a b : ℤ) → int_lt a b ≡ false → b ≤ℤ a
@@ -87,16 +87,16 @@ has_type ty (Text (b ∷ bytes)) class range bad utf8 some = (
     text types.UnsignedInt e = absurd cc
     text types.UnsignedLong e = absurd cc
 
-never_empty : (c : Constant) → value_of c ≢ Text []
+never_empty : (c : Constant) → value_of_literal c ≢ Text []
 never_empty (constants.Number n) e = cc
 never_empty (constants.Text []) e = cc
 never_empty (constants.Text (b ∷ bytes)) e = cc
 never_empty (constants.Truth t) e = cc
 never_empty constants.Null e = cc
 
-pub literal_has_type : (ty : ColType) (l : Literal) → literal_faults ty l ≡ [] → HasText (value_of l.constant) → HasType ty (value_of l.constant)
+pub literal_has_type : (ty : ColType) (l : Literal) → literal_faults ty l ≡ [] → HasText (value_of_literal l.constant) → HasType ty (value_of_literal l.constant)
 literal_has_type ty l none utf8 =
-    let v : Value = value_of l.constant in
+    let v : Value = value_of_literal l.constant in
     let class : differ (type_class ty) (class_of v) ≡ false = no_mismatch _ l.place (no_front (mismatch_if (differ (type_class ty) (class_of v)) l.place) _ none) in
     let range : (is_outside ty v || is_bad_text v) ≡ false = no_range _ l.place (no_rest (mismatch_if (differ (type_class ty) (class_of v)) l.place) _ none) in
     has_type ty v class (or_first (is_outside ty v) _ range) (or_second (is_outside ty v) _ range) utf8 (never_empty l.constant)

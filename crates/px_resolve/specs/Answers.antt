@@ -8,11 +8,11 @@ first_of [] = None
 first_of (fault ∷ faults) = Some fault
 
 -- it is the first of all that is wrong; want of memory may come at any time
-abbrev pub IsFirst : List BindFault → BindFault → Type 0
-IsFirst faults Memory = Unit {0}
-IsFirst faults fault = first_of faults ≡ Some fault
+abbrev pub IsFirstBindFault : List BindFault → BindFault → Type 0
+IsFirstBindFault faults Memory = Unit {0}
+IsFirstBindFault faults fault = first_of faults ≡ Some fault
 
 -- nothing is wrong, or the first of all that is wrong is answered
-abbrev pub Finds : {T : Type 0} → List BindFault → Result T BindFault → Type 0
-Finds faults (Ok x) = faults ≡ []
-Finds faults (Err fault) = IsFirst faults fault
+abbrev pub AnswersFirst : {T : Type 0} → List BindFault → Result T BindFault → Type 0
+AnswersFirst faults (Ok x) = faults ≡ []
+AnswersFirst faults (Err fault) = IsFirstBindFault faults fault

@@ -18,8 +18,8 @@ use Rattle.px_expr.specs.declared.bound.Test.TheVariants as tests
 use Rattle.px_expr.specs.declared.bound.Bound.{Bound}
 use Rattle.px_expr.specs.declared.bound.Bound.TheVariants as bounds
 use Rattle.px_tables.specs.declared.table.TableColumn.{TableColumn}
-use Rattle.px_resolve.specs.Names.{names_of, place_of, column_of, name_faults}
-use Rattle.px_resolve.specs.Literals.{value_of, differ, is_bad_text, mismatch_if, range_if}
+use Rattle.px_resolve.specs.Names.{names_of, place_of_name, column_of, name_faults}
+use Rattle.px_resolve.specs.Literals.{value_of_literal, differ, is_bad_text, mismatch_if, range_if}
 use Rattle.px_resolve.specs.declared.conditions.Check.{Check}
 use Rattle.px_resolve.specs.declared.conditions.Check.TheVariants.{Names, Operands}
 use Rattle.px_resolve.specs.declared.fault.BindFault.{BindFault}
@@ -43,14 +43,14 @@ predicate_name_faults columns (predicates.Between operand negated low high) =
 -- the class of an operand: that of its column's type, or of its literal
 abbrev pub class_in : List TableColumn → Operand → ℕ
 class_in columns (operands.Column place name) = option_map_or (λ c. type_class c.column_type) (column_of columns name) 0
-class_in columns (operands.Literal literal) = class_of (value_of literal.constant)
+class_in columns (operands.Literal literal) = class_of (value_of_literal literal.constant)
 
 abbrev pub place_in : Operand → ℕ
 place_in (operands.Column place name) = place
 place_in (operands.Literal literal) = literal.place
 
 abbrev pub bad_text : Literal → List BindFault
-bad_text literal = range_if (is_bad_text (value_of literal.constant)) literal.place
+bad_text literal = range_if (is_bad_text (value_of_literal literal.constant)) literal.place
 
 -- an operand whose class matters not
 abbrev pub alone : Operand → List BindFault
@@ -59,7 +59,7 @@ alone (operands.Literal literal) = bad_text literal
 
 -- a literal that is compared with an operand of this class
 abbrev pub literal_against : ℕ → Literal → List BindFault
-literal_against class literal = mismatch_if (differ class (class_of (value_of literal.constant))) literal.place ++ bad_text literal
+literal_against class literal = mismatch_if (differ class (class_of (value_of_literal literal.constant))) literal.place ++ bad_text literal
 
 -- an operand that is compared with one of this class
 abbrev pub against : List TableColumn → ℕ → Operand → List BindFault
@@ -94,13 +94,13 @@ abbrev mutual
 -- ---- the same condition over places and values
 
 abbrev pub term_of : List TableColumn → Operand → Term
-term_of columns (operands.Column place name) = terms.Column (place_of (names_of columns) name)
-term_of columns (operands.Literal literal) = terms.Value (value_of literal.constant)
+term_of columns (operands.Column place name) = terms.Column (place_of_name (names_of columns) name)
+term_of columns (operands.Literal literal) = terms.Value (value_of_literal literal.constant)
 
 abbrev pub test_over : List TableColumn → Predicate → Test
 test_over columns (predicates.Compare how left right) = tests.Compare how (term_of columns left) (term_of columns right)
 test_over columns (predicates.IsNull operand negated) = tests.IsNull (term_of columns operand) negated
-test_over columns (predicates.In operand negated literals) = tests.In (term_of columns operand) negated (map (λ l. value_of l.constant) literals)
+test_over columns (predicates.In operand negated literals) = tests.In (term_of columns operand) negated (map (λ l. value_of_literal l.constant) literals)
 test_over columns (predicates.Between operand negated low high) = tests.Between (term_of columns operand) negated (term_of columns low) (term_of columns high)
 
 -- the one part of a NOT

@@ -16,8 +16,8 @@ use Rattle.px_resolve.specs.declared.fault.BindFault.{BindFault}
 use Rattle.px_resolve.specs.declared.fault.BindFault.TheVariants.{Mismatch, OutOfRange}
 
 -- what digits write, up to the greatest number of 127 bits: 38 digits write a smaller one
-abbrev pub number_of : List ℕ → ℕ
-number_of digits = min (digits_value 10 digits) (2 ^ 127 - 1)
+abbrev pub number_of_digits : List ℕ → ℕ
+number_of_digits digits = min (digits_value 10 digits) (2 ^ 127 - 1)
 
 abbrev pub signed : Bool → ℕ → ℤ
 signed true n = neg_ℤ (pos n)
@@ -29,11 +29,11 @@ text_of [] = Null
 text_of (b ∷ bytes) = Text (b ∷ bytes)
 
 -- the value that a literal is
-abbrev pub value_of : Constant → Value
-value_of (constants.Number number) = Number (signed number.negative (number_of number.digits))
-value_of (constants.Text bytes) = text_of bytes
-value_of (constants.Truth t) = Truth t
-value_of constants.Null = Null
+abbrev pub value_of_literal : Constant → Value
+value_of_literal (constants.Number number) = Number (signed number.negative (number_of_digits number.digits))
+value_of_literal (constants.Text bytes) = text_of bytes
+value_of_literal (constants.Truth t) = Truth t
+value_of_literal constants.Null = Null
 
 -- two classes that can't be compared; NULL, of class 0, can be with each
 abbrev pub differ : ℕ → ℕ → Bool
@@ -64,8 +64,8 @@ range_if wrong place = if wrong then OutOfRange place ∷ [] else []
 -- the faults of a literal that is to be a value of a column of this type
 abbrev pub literal_faults : ColType → Literal → List BindFault
 literal_faults ty literal =
-    mismatch_if (differ (type_class ty) (class_of (value_of literal.constant))) literal.place
-    ++ range_if (is_outside ty (value_of literal.constant) || is_bad_text (value_of literal.constant)) literal.place
+    mismatch_if (differ (type_class ty) (class_of (value_of_literal literal.constant))) literal.place
+    ++ range_if (is_outside ty (value_of_literal literal.constant) || is_bad_text (value_of_literal literal.constant)) literal.place
 
 -- the text in a value is UTF-8
 abbrev pub HasText : Value → Type 0

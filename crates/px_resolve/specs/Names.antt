@@ -17,13 +17,13 @@ abbrev pub part_names : List KeyPart → List (List ℕ)
 part_names parts = map (λ p. p.column) parts
 
 -- the place of a name among these; behind all where it is none of them
-abbrev pub place_of : List (List ℕ) → List ℕ → ℕ
-place_of [] name = 0
-place_of (n ∷ names) name = if bytes_eq n name then 0 else place_of names name + 1
+abbrev pub place_of_name : List (List ℕ) → List ℕ → ℕ
+place_of_name [] name = 0
+place_of_name (n ∷ names) name = if bytes_eq n name then 0 else place_of_name names name + 1
 
 -- the column of this name
 abbrev pub column_of : List TableColumn → List ℕ → Option TableColumn
-column_of columns name = slice_get columns (place_of (names_of columns) name)
+column_of columns name = slice_get columns (place_of_name (names_of columns) name)
 
 -- one of the places is this one
 abbrev pub is_among : List ℕ → ℕ → Bool
@@ -32,7 +32,7 @@ is_among places place = list_any (λ p. nat_eq p place) places
 -- a name that is none of these; or one whose place was named before
 abbrev pub name_faults : List (List ℕ) → List ℕ → List ℕ → List BindFault
 name_faults names seen name =
-    if nat_lt (place_of names name) (length names) then (if is_among seen (place_of names name) then Twice name ∷ [] else []) else NoColumn name ∷ []
+    if nat_lt (place_of_name names name) (length names) then (if is_among seen (place_of_name names name) then Twice name ∷ [] else []) else NoColumn name ∷ []
 
 -- names that may be repeated
 abbrev pub known : List (List ℕ) → List (List ℕ) → List BindFault
@@ -41,11 +41,11 @@ known names given = flat_map (name_faults names []) given
 -- names that stand once, and whose places are none of those named before
 abbrev pub once : List (List ℕ) → List ℕ → List (List ℕ) → List BindFault
 once names seen [] = []
-once names seen (n ∷ given) = name_faults names seen n ++ once names (seen ++ place_of names n ∷ []) given
+once names seen (n ∷ given) = name_faults names seen n ++ once names (seen ++ place_of_name names n ∷ []) given
 
 -- a part of a key by its column's place
 abbrev pub key_place : List (List ℕ) → KeyPart → KeyPlace
-key_place names p = record { column = place_of names p.column; direction = p.direction }
+key_place names p = record { column = place_of_name names p.column; direction = p.direction }
 
 -- the places of all columns, where the first has this one
 abbrev pub places_from : {X : Type 0} → ℕ → List X → List ℕ

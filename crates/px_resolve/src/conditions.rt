@@ -2,9 +2,9 @@
 ghost use Rattle.std.specs.Prelude.{◌≡◌, ◌≤◌, ◌++◌, IfOk, length, map};
 ghost use Rattle.std.specs.List.{flat_map};
 ghost use Rattle.std.specs.Option.{option_copied};
-ghost use Rattle.px_resolve.specs.Answers.{Finds};
+ghost use Rattle.px_resolve.specs.Answers.{AnswersFirst};
 ghost use Rattle.px_resolve.specs.Conditions.{against, alone, bound_over, class_in, condition_faults, literal_against, operand_name_faults, place_in, predicate_faults, predicate_name_faults, predicate_operand_faults, term_of, test_over};
-ghost use Rattle.px_resolve.specs.Literals.{value_of};
+ghost use Rattle.px_resolve.specs.Literals.{value_of_literal};
 ghost use Rattle.px_resolve.specs.Names.{column_of};
 
 use crate::fault::BindFault;
@@ -34,7 +34,7 @@ pub fn check_condition(
     columns: &[TableColumn],
     condition: &Condition,
 ) -> Result<(), BindFault>
-    ensures { Finds (condition_faults check columns.now condition.now) result }
+    ensures { AnswersFirst (condition_faults check columns.now condition.now) result }
 {
     match condition {
         Condition::Or(parts) => check_parts(alloc, check, columns, parts.as_slice()),
@@ -51,7 +51,7 @@ fn check_parts(
     columns: &[TableColumn],
     parts: &[Condition],
 ) -> Result<(), BindFault>
-    ensures { Finds (flat_map (condition_faults check columns.now) parts.now) result }
+    ensures { AnswersFirst (flat_map (condition_faults check columns.now) parts.now) result }
 {
     for part in parts {
         check_condition(alloc, check, columns, part)?;
@@ -65,7 +65,7 @@ fn check_predicate(
     columns: &[TableColumn],
     predicate: &Predicate,
 ) -> Result<(), BindFault>
-    ensures { Finds (predicate_faults check columns.now predicate.now) result }
+    ensures { AnswersFirst (predicate_faults check columns.now predicate.now) result }
 {
     match check {
         Check::Names => check_predicate_names(alloc, columns, predicate),
@@ -80,7 +80,7 @@ fn check_operand_name(
     columns: &[TableColumn],
     operand: &Operand,
 ) -> Result<(), BindFault>
-    ensures { Finds (operand_name_faults columns.now operand.now) result }
+    ensures { AnswersFirst (operand_name_faults columns.now operand.now) result }
 {
     match operand {
         Operand::Column { place: _, name } => check_known(alloc, columns, name),
@@ -94,7 +94,7 @@ fn check_two_names(
     first: &Operand,
     second: &Operand,
 ) -> Result<(), BindFault>
-    ensures { Finds (operand_name_faults columns.now first.now ++ operand_name_faults columns.now second.now) result }
+    ensures { AnswersFirst (operand_name_faults columns.now first.now ++ operand_name_faults columns.now second.now) result }
 {
     check_operand_name(alloc, columns, first)?;
     check_operand_name(alloc, columns, second)
@@ -105,7 +105,7 @@ fn check_predicate_names(
     columns: &[TableColumn],
     predicate: &Predicate,
 ) -> Result<(), BindFault>
-    ensures { Finds (predicate_name_faults columns.now predicate.now) result }
+    ensures { AnswersFirst (predicate_name_faults columns.now predicate.now) result }
 {
     match predicate {
         Predicate::Compare {
@@ -167,7 +167,7 @@ fn place_of_operand(operand: &Operand) -> usize
 
 /// Refuses a literal that no column can have.
 fn check_alone(operand: &Operand) -> Result<(), BindFault>
-    ensures { Finds (alone operand.now) result }
+    ensures { AnswersFirst (alone operand.now) result }
 {
     match operand {
         Operand::Column { place: _, name: _ } => Ok(()),
@@ -177,7 +177,7 @@ fn check_alone(operand: &Operand) -> Result<(), BindFault>
 
 /// Refuses an operand that can't be compared with one of this class.
 fn check_against(columns: &[TableColumn], class: u8, operand: &Operand) -> Result<(), BindFault>
-    ensures { Finds (against columns.now class operand.now) result }
+    ensures { AnswersFirst (against columns.now class operand.now) result }
 {
     check_classes(
         class,
@@ -188,7 +188,7 @@ fn check_against(columns: &[TableColumn], class: u8, operand: &Operand) -> Resul
 }
 
 fn check_all_compared(class: u8, literals: &[Literal]) -> Result<(), BindFault>
-    ensures { Finds (flat_map (literal_against class) literals.now) result }
+    ensures { AnswersFirst (flat_map (literal_against class) literals.now) result }
 {
     for literal in literals {
         check_compared(class, literal)?;
@@ -197,7 +197,7 @@ fn check_all_compared(class: u8, literals: &[Literal]) -> Result<(), BindFault>
 }
 
 fn check_predicate_operands(columns: &[TableColumn], predicate: &Predicate) -> Result<(), BindFault>
-    ensures { Finds (predicate_operand_faults columns.now predicate.now) result }
+    ensures { AnswersFirst (predicate_operand_faults columns.now predicate.now) result }
 {
     match predicate {
         Predicate::Compare {
@@ -235,7 +235,7 @@ fn check_between(
     low: &Operand,
     high: &Operand,
 ) -> Result<(), BindFault>
-    ensures { Finds (alone operand.now ++ (against columns.now (class_in columns.now operand.now) low.now ++ against columns.now (class_in columns.now operand.now) high.now)) result }
+    ensures { AnswersFirst (alone operand.now ++ (against columns.now (class_in columns.now operand.now) low.now ++ against columns.now (class_in columns.now operand.now) high.now)) result }
 {
     check_alone(operand)?;
     let class = class_of_operand(columns, operand);
@@ -386,7 +386,7 @@ fn test_in(
     literals: &[Literal],
 ) -> Result<Test, AllocError>
     requires { length columns.now ≤ 255 }
-    ensures { IfOk result (λ t. t ≡ Test.In (term_of columns.now operand.now) negated (map (λ l. value_of l.constant) literals.now)) }
+    ensures { IfOk result (λ t. t ≡ Test.In (term_of columns.now operand.now) negated (map (λ l. value_of_literal l.constant) literals.now)) }
 {
     let values = values(alloc, literals)?;
     match term(alloc, columns, operand) {

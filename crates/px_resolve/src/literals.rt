@@ -1,9 +1,9 @@
 // Literals as values, and what is wrong with one.
 ghost use Rattle.std.specs.Prelude.{◌≡◌, ◌^◌, ◌-◌, IfOk, List, ℕ, min, map};
 ghost use Rattle.std.specs.Char.{digit_value};
-ghost use Rattle.px_resolve.specs.Answers.{Finds};
+ghost use Rattle.px_resolve.specs.Answers.{AnswersFirst};
 ghost use Rattle.px_resolve.specs.Conditions.{bad_text, literal_against};
-ghost use Rattle.px_resolve.specs.Literals.{differ, is_bad_text, is_null, is_outside, literal_faults, mismatch_if, number_of, range_if, signed, text_of, value_of};
+ghost use Rattle.px_resolve.specs.Literals.{differ, is_bad_text, is_null, is_outside, literal_faults, mismatch_if, number_of_digits, range_if, signed, text_of, value_of_literal};
 ghost use Rattle.px_values.specs.Order.{class_of};
 ghost use Rattle.px_values.specs.Types.{type_class};
 ghost use Rattle.std.specs.Str.Parse.{digits_value};
@@ -22,7 +22,7 @@ fn digit(byte: u8) -> u32
 
 /// What digits write, up to the greatest number of 127 bits.
 pub fn number(digits: &str) -> u128
-    ensures { result ≡ number_of digits.now }
+    ensures { result ≡ number_of_digits digits.now }
 {
     let mut number = 0u128;
     for byte in digits.as_bytes() {
@@ -34,7 +34,7 @@ pub fn number(digits: &str) -> u128
 }
 
 fn signed_number(number: &Number) -> i128
-    ensures { result ≡ signed number.now.negative (number_of number.now.digits) }
+    ensures { result ≡ signed number.now.negative (number_of_digits number.now.digits) }
 {
     let size = self::number(number.digits.as_str()) as i128;
     if number.negative { -size } else { size }
@@ -51,7 +51,7 @@ fn text(alloc: Global, text: &Text) -> Result<Value, AllocError>
 
 /// The value that a literal is.
 pub fn value(alloc: Global, constant: &Constant) -> Result<Value, AllocError>
-    ensures { IfOk result (λ v. v ≡ value_of constant.now) }
+    ensures { IfOk result (λ v. v ≡ value_of_literal constant.now) }
 {
     match constant {
         Constant::Number(number) => Ok(Value::Number(signed_number(number))),
@@ -63,7 +63,7 @@ pub fn value(alloc: Global, constant: &Constant) -> Result<Value, AllocError>
 
 /// The values that literals are.
 pub fn values(alloc: Global, literals: &[Literal]) -> Result<Items<Value>, AllocError>
-    ensures { IfOk result (λ vs. vs ≡ map (λ l. value_of l.constant) literals.now) }
+    ensures { IfOk result (λ vs. vs ≡ map (λ l. value_of_literal l.constant) literals.now) }
 {
     let mut values = Vec::with_capacity(alloc, literals.len())?;
     for literal in literals {
@@ -74,7 +74,7 @@ pub fn values(alloc: Global, literals: &[Literal]) -> Result<Items<Value>, Alloc
 
 /// Whether a literal is NULL.
 pub fn is_null_literal(literal: &Literal) -> bool
-    ensures { result ≡ is_null (value_of literal.now.constant) }
+    ensures { result ≡ is_null (value_of_literal literal.now.constant) }
 {
     match &literal.constant {
         Constant::Null => true,
@@ -85,7 +85,7 @@ pub fn is_null_literal(literal: &Literal) -> bool
 
 /// The class of a literal's value: 0 is NULL, 1 number, 2 truth value, 3 text.
 pub fn class(constant: &Constant) -> u8
-    ensures { result ≡ class_of (value_of constant.now) }
+    ensures { result ≡ class_of (value_of_literal constant.now) }
 {
     match constant {
         Constant::Null => 0,
@@ -115,7 +115,7 @@ fn classes_differ(a: u8, b: u8) -> bool
 
 /// Whether no column can have this literal, as a text.
 pub fn has_bad_text(constant: &Constant) -> bool
-    ensures { result ≡ is_bad_text (value_of constant.now) }
+    ensures { result ≡ is_bad_text (value_of_literal constant.now) }
 {
     match constant {
         Constant::Text(text) => {
@@ -128,7 +128,7 @@ pub fn has_bad_text(constant: &Constant) -> bool
 
 /// Whether a literal is a number that a column of this type can't have.
 fn is_out(column_type: ColType, constant: &Constant) -> bool
-    ensures { result ≡ is_outside column_type (value_of constant.now) }
+    ensures { result ≡ is_outside column_type (value_of_literal constant.now) }
 {
     match constant {
         Constant::Number(number) => {
@@ -141,7 +141,7 @@ fn is_out(column_type: ColType, constant: &Constant) -> bool
 
 /// Refuses two classes that can't be compared, at the place of the second.
 pub fn check_classes(a: u8, b: u8, place: usize) -> Result<(), BindFault>
-    ensures { Finds (mismatch_if (differ a b) place) result }
+    ensures { AnswersFirst (mismatch_if (differ a b) place) result }
 {
     if classes_differ(a, b) {
         return Err(BindFault::Mismatch { place });
@@ -151,7 +151,7 @@ pub fn check_classes(a: u8, b: u8, place: usize) -> Result<(), BindFault>
 
 /// Refuses what is out of range, at its place.
 pub fn check_range(out: bool, place: usize) -> Result<(), BindFault>
-    ensures { Finds (range_if out place) result }
+    ensures { AnswersFirst (range_if out place) result }
 {
     if out {
         return Err(BindFault::OutOfRange { place });
@@ -161,14 +161,14 @@ pub fn check_range(out: bool, place: usize) -> Result<(), BindFault>
 
 /// Refuses a literal that no column can have.
 pub fn check_text(literal: &Literal) -> Result<(), BindFault>
-    ensures { Finds (bad_text literal.now) result }
+    ensures { AnswersFirst (bad_text literal.now) result }
 {
     check_range(has_bad_text(&literal.constant), literal.place)
 }
 
 /// Refuses a literal that can't be compared with an operand of this class, or that no column can have.
 pub fn check_compared(class: u8, literal: &Literal) -> Result<(), BindFault>
-    ensures { Finds (literal_against class literal.now) result }
+    ensures { AnswersFirst (literal_against class literal.now) result }
 {
     check_classes(class, self::class(&literal.constant), literal.place)?;
     check_text(literal)
@@ -176,7 +176,7 @@ pub fn check_compared(class: u8, literal: &Literal) -> Result<(), BindFault>
 
 /// Refuses a literal that can't be the value of a column of this type.
 pub fn check_value(column_type: ColType, literal: &Literal) -> Result<(), BindFault>
-    ensures { Finds (literal_faults column_type literal.now) result }
+    ensures { AnswersFirst (literal_faults column_type literal.now) result }
 {
     check_classes(
         class_of_type(column_type),

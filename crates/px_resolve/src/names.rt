@@ -1,7 +1,7 @@
 // The names of columns in statements.
 ghost use Rattle.std.specs.Prelude.{◌≡◌, ◌≤◌, ◌++◌, ◌∷◌, [], All, IfOk, length, map, nat_lt, if◌then◌else◌};
-ghost use Rattle.px_resolve.specs.Answers.{Finds};
-ghost use Rattle.px_resolve.specs.Names.{is_among, key_may_be_null, known, once, place_of, places_from};
+ghost use Rattle.px_resolve.specs.Answers.{AnswersFirst};
+ghost use Rattle.px_resolve.specs.Names.{is_among, key_may_be_null, known, once, place_of_name, places_from};
 ghost use Rattle.px_resolve.specs.declared.fault.BindFault.TheVariants.{NoColumn, Twice};
 
 use crate::fault::BindFault;
@@ -11,7 +11,7 @@ use std::alloc::{AllocError, Global};
 
 /// The place of a column by its name, or the number of columns where none has it.
 pub fn find_place<C: Named>(columns: &[C], name: &Name) -> usize
-    ensures place { result ≡ place_of (map C.name_in columns.now) name.now }
+    ensures place { result ≡ place_of_name (map C.name_in columns.now) name.now }
     ensures bound { result ≤ length columns.now }
 {
     for (place, column) in columns.iter().enumerate() {
@@ -37,7 +37,7 @@ fn check_place(
     columns: usize,
     before: bool,
 ) -> Result<(), BindFault>
-    ensures { Finds (if nat_lt place columns then (if before then Twice name.now ∷ [] else []) else NoColumn name.now ∷ []) result }
+    ensures { AnswersFirst (if nat_lt place columns then (if before then Twice name.now ∷ [] else []) else NoColumn name.now ∷ []) result }
 {
     if place >= columns {
         return Err(BindFault::NoColumn(copied(alloc, name)?));
@@ -50,7 +50,7 @@ fn check_place(
 
 /// Refuses a name that no column has.
 pub fn check_known<C: Named>(alloc: Global, columns: &[C], name: &Name) -> Result<(), BindFault>
-    ensures { Finds (known (map C.name_in columns.now) (name.now ∷ [])) result }
+    ensures { AnswersFirst (known (map C.name_in columns.now) (name.now ∷ [])) result }
 {
     let place = find_place(columns, name);
     check_place(alloc, name, place, columns.len(), false)
@@ -62,7 +62,7 @@ pub fn check_all_known<C: Named, N: Named>(
     columns: &[C],
     names: &[N],
 ) -> Result<(), BindFault>
-    ensures { Finds (known (map C.name_in columns.now) (map N.name_in names.now)) result }
+    ensures { AnswersFirst (known (map C.name_in columns.now) (map N.name_in names.now)) result }
 {
     for item in names {
         check_known(alloc, columns, item.name())?;
@@ -84,8 +84,8 @@ pub fn bind_once<C: Named, N: Named>(
     before: &[usize],
     names: &[N],
 ) -> Result<Vec<usize>, BindFault>
-    ensures faults { Finds (once (map C.name_in columns.now) before.now (map N.name_in names.now)) result }
-    ensures places { IfOk result (λ places. places.items ≡ map (place_of (map C.name_in columns.now)) (map N.name_in names.now)) }
+    ensures faults { AnswersFirst (once (map C.name_in columns.now) before.now (map N.name_in names.now)) result }
+    ensures places { IfOk result (λ places. places.items ≡ map (place_of_name (map C.name_in columns.now)) (map N.name_in names.now)) }
     ensures bound { IfOk result (λ places. All (λ p. p ≤ length columns.now) places.items) }
 {
     let mut places = Vec::with_capacity(alloc, names.len())?;

@@ -1,6 +1,6 @@
 // Names of columns as their places.
 ghost use Rattle.std.specs.Prelude.{◌≡◌, ◌≤◌, IfOk, length, map};
-ghost use Rattle.px_resolve.specs.Names.{key_place, place_of, places_from};
+ghost use Rattle.px_resolve.specs.Names.{key_place, place_of_name, places_from};
 
 use crate::named::Named;
 use crate::names::find_place;
@@ -16,7 +16,7 @@ pub fn column_places<C: Named, N: Named>(
     names: &[N],
 ) -> Result<Items<u8>, AllocError>
     requires { length columns.now ≤ 255 }
-    ensures { IfOk result (λ places. places ≡ map (place_of (map C.name_in columns.now)) (map N.name_in names.now)) }
+    ensures { IfOk result (λ places. places ≡ map (place_of_name (map C.name_in columns.now)) (map N.name_in names.now)) }
 {
     let mut places = Vec::with_capacity(alloc, names.len())?;
     for item in names {

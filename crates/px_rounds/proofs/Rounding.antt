@@ -13,14 +13,14 @@ use Rattle.px_reply.specs.declared.transcript.Transcript.{Transcript}
 use Rattle.px_session.specs.declared.run.SessionRun.{SessionRun}
 use Rattle.px_session.specs.declared.state.SessionState.{SessionState}
 use Rattle.px_session.specs.Live.{seen_of}
-use Rattle.px_session.specs.Replies.{IsAnswered}
+use Rattle.px_session.specs.Replies.{IsSessionAnswered}
 use Rattle.px_session.proofs.Lives.{begins, stays as stays_answered}
 use Rattle.px_rounds.specs.Rounds.{HasRound, IsToldIn, text_in}
-use Rattle.px_rounds.specs.Turns.{as_seat, AreLive, GoesOn, IsNoSession, IsSingle, Turned}
-use Rattle.px_rounds.specs.inner.Desks.{AreCut, AreFirst, AreTold, IsCut, IsTold}
+use Rattle.px_rounds.specs.Turns.{as_seat, AreLive, TrailGoesOn, IsNoSession, IsSingle, Turned}
+use Rattle.px_rounds.specs.inner.Desks.{AreCut, AreFirst, AreSessionsTold, IsCut, IsTold}
 use Rattle.px_rounds.proofs.Lists.{get_lt, get_some}
 
-pub stays : (k : Known) → IsSingle k → GoesOn k k
+pub stays : (k : Known) → IsSingle k → TrailGoesOn k k
 stays k one = record { more = []; seen = sym (append-nil k.seen); base = refl; damaged = refl; single = one }
 
 -- what lies between two places of a trail that has grown
@@ -42,14 +42,14 @@ module _ (sound : Type 0) where
         begins sound st from run (as_seat (i + 1) k) here (h.each i st pieces.0 run s pieces.1 e).starts;
   }
 
-  pub turned_goes : (k k' : Known) (runs runs' : List SessionRun) → Turned sound k runs k' runs' → GoesOn k k'
+  pub turned_goes : (k k' : Known) (runs runs' : List SessionRun) → Turned sound k runs k' runs' → TrailGoesOn k k'
   turned_goes k k' runs runs' h = record { more = h.more; seen = h.seen; base = h.base; damaged = h.damaged; single = h.single }
 
   pub told_in : (k k' : Known) (number from n : ℕ) (st : SessionState) (text : List ℕ) (pieces : List Piece) (run run' : SessionRun) (t : Transcript) (st' : SessionState) (lacked : Bool) → k'.seat ≡ n → from ≡ length k.seen → run.pieces.items ≡ pieces → run'.pieces ≡ run.pieces → run.session ≡ n → run'.session ≡ run.session → run.round ≡ number
       → run'.round ≡ run.round → run.from ≡ from → run'.from ≡ run.from → IsCut text pieces → IsTold sound k' st run' t st' lacked → IsToldIn sound k' (length k.seen) (length k'.seen) number st text t st' lacked
   told_in k k' number from n st text pieces run run' t st' lacked seat here are pieces' session session' round round' from_is from' cut told =
       let same : seen_of run' ≡ pieces_from 0 cut.sections = ap (λ v. map seen_piece v.items) pieces' ∙ (ap (map seen_piece) are ∙ cut.cut) in
-      let F : ℕ × List SeenPiece → Type 0 = λ q. IsAnswered sound k' q.0 (length k'.seen) st q.1 t st' told.ending in
+      let F : ℕ × List SeenPiece → Type 0 = λ q. IsSessionAnswered sound k' q.0 (length k'.seen) st q.1 t st' told.ending in
       record {
         session = told.session ∙ (session' ∙ (session ∙ sym seat));
         round = told.round ∙ (round' ∙ round);
@@ -61,7 +61,7 @@ module _ (sound : Type 0) where
       }
 
   pub turned_round : (k k' : Known) (number from : ℕ) (states : List SessionState) (round : List SessionText) (all : List (Vec Piece Global)) (runs runs' : List SessionRun) (ts : List Transcript) (states' : List SessionState) (lacked : Bool) → from ≡ length k.seen → AreCut round (length states) all
-      → AreFirst number from states all runs → Turned sound k runs k' runs' → AreTold sound k' states runs' ts states' lacked → HasRound sound k' (length k.seen) (length k'.seen) number states round ts states' lacked
+      → AreFirst number from states all runs → Turned sound k runs k' runs' → AreSessionsTold sound k' states runs' ts states' lacked → HasRound sound k' (length k.seen) (length k'.seen) number states round ts states' lacked
   turned_round k k' number from states round all runs runs' ts states' lacked here cut first turned told = record {
     forward = forward k k' turned.more turned.seen;
     within = omega arith;
@@ -85,10 +85,10 @@ module _ (sound : Type 0) where
 
   -- 2. In a longer trail
 
-  front_is : (k k' : Known) (to : ℕ) → GoesOn k k' → to ≤ length k.seen → take to k'.seen ≡ take to k.seen
+  front_is : (k k' : Known) (to : ℕ) → TrailGoesOn k k' → to ≤ length k.seen → take to k'.seen ≡ take to k.seen
   front_is k k' to h le = ap (take to) h.seen ∙ take-append-le to k.seen h.more le
 
-  told_on_in : (n : ℕ) (k k' : Known) (from to number : ℕ) (st : SessionState) (text : List ℕ) (t : Transcript) (st' : SessionState) (memory memory' : Bool) → GoesOn k k' → (memory' ≡ false → memory ≡ false) → IsToldIn sound (as_seat n k) from to number st text t st' memory
+  told_on_in : (n : ℕ) (k k' : Known) (from to number : ℕ) (st : SessionState) (text : List ℕ) (t : Transcript) (st' : SessionState) (memory memory' : Bool) → TrailGoesOn k k' → (memory' ≡ false → memory ≡ false) → IsToldIn sound (as_seat n k) from to number st text t st' memory
       → IsToldIn sound (as_seat n k') from to number st text t st' memory'
   told_on_in n k k' from to number st text t st' memory memory' goes less h = record {
     session = h.session;
@@ -100,7 +100,7 @@ module _ (sound : Type 0) where
     whole = λ no. h.whole (less no);
   }
 
-  pub round_on : (k k' : Known) (from to number : ℕ) (states : List SessionState) (round : List SessionText) (ts : List Transcript) (states' : List SessionState) (memory memory' : Bool) → GoesOn k k' → (memory' ≡ false → memory ≡ false) → HasRound sound k from to number states round ts states' memory
+  pub round_on : (k k' : Known) (from to number : ℕ) (states : List SessionState) (round : List SessionText) (ts : List Transcript) (states' : List SessionState) (memory memory' : Bool) → TrailGoesOn k k' → (memory' ≡ false → memory ≡ false) → HasRound sound k from to number states round ts states' memory
       → HasRound sound k' from to number states round ts states' memory'
   round_on k k' from to number states round ts states' memory memory' goes less h = record {
     forward = h.forward;

@@ -9,15 +9,15 @@ use Rattle.px_lex.specs.declared.script.Piece.{Piece}
 use Rattle.px_script.specs.declared.script.SessionText.{SessionText}
 use Rattle.px_trail.specs.declared.entry.Entry.{Entry}
 use Rattle.px_trail.specs.Trail.{Base, acts_by}
-use Rattle.px_calls.specs.Known.{Known, Passes}
+use Rattle.px_calls.specs.Known.{Known, TimePasses}
 use Rattle.px_reply.specs.declared.transcript.Transcript.{Transcript}
 use Rattle.px_session.specs.declared.state.SessionState.{SessionState}
 use Rattle.px_session.specs.Live.{ArePlaced, seen_of}
-use Rattle.px_session.specs.Replies.{IsAnswered}
+use Rattle.px_session.specs.Replies.{IsSessionAnswered}
 use Rattle.px_session.proofs.Lives.{begins, live_passes}
 use Rattle.px_turn.specs.declared.lock.TurnSeat.{TurnSeat}
 use Rattle.px_turn.specs.Lists.{GrownBelow, GrownByOthers}
-use Rattle.px_turn.specs.Seats.{AllSeats, Name, number, seen as list_seen}
+use Rattle.px_turn.specs.Seats.{AllSeats, Name, seat_number, seen_by_seat}
 use Rattle.px_seat.specs.Grown.{IsOwned, mine}
 use Rattle.px_seat.proofs.Lists.{others-apart, seat_of}
 use Rattle.px_rounds.specs.Rounds.{HasRound, IsToldIn, text_in}
@@ -56,8 +56,8 @@ idle_none n start more fin is grown =
     ap (acts_by n) (sym same) ∙ others-apart n start fin grown
 
 -- where each seat has seen no more than at first, nothing was added
-pub none_added : {T : Type 0} (start fin : List Entry) (name : Name) (seats : List (TurnSeat T Entry)) → AllSeats name seats → ((n : ℕ) (seat : TurnSeat T Entry) → slice_get seats n ≡ Some seat → list_seen seat ≡ start) → GrownBelow seat_of (length seats) start fin
-    → ((n : ℕ) (seat : TurnSeat T Entry) → slice_get seats n ≡ Some seat → GrownByOthers seat_of (number seat) (list_seen seat) fin) → fin ≡ start
+pub none_added : {T : Type 0} (start fin : List Entry) (name : Name) (seats : List (TurnSeat T Entry)) → AllSeats name seats → ((n : ℕ) (seat : TurnSeat T Entry) → slice_get seats n ≡ Some seat → seen_by_seat seat ≡ start) → GrownBelow seat_of (length seats) start fin
+    → ((n : ℕ) (seat : TurnSeat T Entry) → slice_get seats n ≡ Some seat → GrownByOthers seat_of (seat_number seat) (seen_by_seat seat) fin) → fin ≡ start
 none_added {T} start fin name seats all same below others = none below.0 below.1 below.2
   where
     none : (more : List Entry) → fin ≡ start ++ more → All (λ (e : Entry). seat_of e < length seats) more → fin ≡ start
@@ -69,7 +69,7 @@ none_added {T} start fin name seats all same below others = none below.0 below.1
         absurd (acts_some e es (idle_none e.seat start (e ∷ es) fin is grown))
 
 -- what a seat knows, and what the trail is once the lock was closed
-at_last : (n : ℕ) (b : Base) (d : ℕ → ℕ → Bool) (seen : List Entry) (k' : Known) → IsOwned b d k' → GrownByOthers seat_of n seen k'.seen → Passes (mine n b d seen) (as_seat n k')
+at_last : (n : ℕ) (b : Base) (d : ℕ → ℕ → Bool) (seen : List Entry) (k' : Known) → IsOwned b d k' → GrownByOthers seat_of n seen k'.seen → TimePasses (mine n b d seen) (as_seat n k')
 at_last n b d seen k' owned grown = record {
   others = grown.0.0;
   seen = grown.0.1;
@@ -110,7 +110,7 @@ module _ (sound : Type 0) where
       let F : ℕ × Known × SessionState × Vec Piece Global → Type 0 = λ q. IsFirst q.0 (length q.1.seen) q.1.seat q.2 q.3.items h.first in
       let G : Known × Known → Type 0 = λ q. RanJob sound q.0 h.first q.1 h.last in
       let told : IsCame sound h.last taken.came = subst (λ (c : Came). IsCame sound h.last c) came h.told in
-      let H : Transcript × SessionState → Known → Type 0 = λ q x. IsAnswered sound x h.last.from (length x.seen) st (seen_of h.last) q.0 q.1 taken.came.ending in
+      let H : Transcript × SessionState → Known → Type 0 = λ q x. IsSessionAnswered sound x h.last.from (length x.seen) st (seen_of h.last) q.0 q.1 taken.came.ending in
       record {
         first = h.first;
         last = h.last;
@@ -139,10 +139,10 @@ module _ (sound : Type 0) where
   -- the sessions of the round, from what came back of the threads
   pub seats_round : {T : Type 0} (b : Base) (d : ℕ → ℕ → Bool) (k k' : Known) (name : Name) (number_is : ℕ) (states : List SessionState) (round : List SessionText) (all : List (Vec Piece Global)) (seats : List (TurnSeat T Entry)) (ts : List Transcript) (states' : List SessionState) (lacked : Bool)
       → AreCut round (length states) all → SeatsTold sound b d k.seen number_is states all seats ts states' lacked → AllSeats name seats → IsOwned b d k' → GrownBelow seat_of (length seats) k.seen k'.seen
-      → ((n : ℕ) (seat : TurnSeat T Entry) → slice_get seats n ≡ Some seat → GrownByOthers seat_of (number seat) (list_seen seat) k'.seen) → HasRound sound k' (length k.seen) (length k'.seen) number_is states round ts states' lacked
+      → ((n : ℕ) (seat : TurnSeat T Entry) → slice_get seats n ≡ Some seat → GrownByOthers seat_of (seat_number seat) (seen_by_seat seat) k'.seen) → HasRound sound k' (length k.seen) (length k'.seen) number_is states round ts states' lacked
   seats_round {T} b d k k' name number_is states round all seats ts states' lacked cut h all_seats owned below others =
-      let grown : (n : ℕ) (seat : TurnSeat T Entry) → slice_get seats n ≡ Some seat → GrownByOthers seat_of n (list_seen seat) k'.seen =
-      λ n seat e. subst (λ (m : ℕ). GrownByOthers seat_of m (list_seen seat) k'.seen) (all_seats.1 n seat e).1 (others n seat e) in
+      let grown : (n : ℕ) (seat : TurnSeat T Entry) → slice_get seats n ≡ Some seat → GrownByOthers seat_of n (seen_by_seat seat) k'.seen =
+      λ n seat e. subst (λ (m : ℕ). GrownByOthers seat_of m (seen_by_seat seat) k'.seen) (all_seats.1 n seat e).1 (others n seat e) in
       record {
         forward = rounding.forward k k' below.0 below.1;
         within = omega arith;
@@ -152,11 +152,11 @@ module _ (sound : Type 0) where
             let low : i < length states = get_lt states st i e in
             let pieces = get_some all i (let c = cut.count_is in omega arith) in
             let seat = get_some seats (i + 1) (let c = h.count in omega arith) in
-            told_at_last b d (list_seen seat.0) k k' number_is (i + 1) st (text_in round (i + 1)) pieces.0 t st' lacked owned (grown (i + 1) seat.0 seat.1) (cut.each i pieces.0 pieces.1) (h.each i st pieces.0 seat.0 t st' e pieces.1 seat.1 f g);
+            told_at_last b d (seen_by_seat seat.0) k k' number_is (i + 1) st (text_in round (i + 1)) pieces.0 t st' lacked owned (grown (i + 1) seat.0 seat.1) (cut.each i pieces.0 pieces.1) (h.each i st pieces.0 seat.0 t st' e pieces.1 seat.1 f g);
         others = λ n none. ap (acts_by n) (rounding.between k k' below.0 below.1) ∙ apart n none grown;
       }
     where
-      apart : (n : ℕ) → IsNoSession (length states) n → ((n : ℕ) (seat : TurnSeat T Entry) → slice_get seats n ≡ Some seat → GrownByOthers seat_of n (list_seen seat) k'.seen) → acts_by n below.0 ≡ []
+      apart : (n : ℕ) → IsNoSession (length states) n → ((n : ℕ) (seat : TurnSeat T Entry) → slice_get seats n ≡ Some seat → GrownByOthers seat_of n (seen_by_seat seat) k'.seen) → acts_by n below.0 ≡ []
       apart n (inl zero_is) grown =
           let seat = get_some seats 0 (let c = h.count in omega arith) in
           let still = subst (λ (l : List Entry). GrownByOthers seat_of 0 l k'.seen) (h.idle seat.0 seat.1) (grown 0 seat.0 seat.1) in

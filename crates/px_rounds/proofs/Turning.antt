@@ -6,18 +6,18 @@ use Rattle.std.proofs.Math.ListN.{set, length-set}
 use Rattle.px_trail.specs.declared.entry.Act.{Act}
 use Rattle.px_trail.specs.declared.entry.Entry.{Entry}
 use Rattle.px_trail.specs.Trail.{acts_by}
-use Rattle.px_calls.specs.Known.{Known, Passes, Ran}
+use Rattle.px_calls.specs.Known.{Known, Ran, TimePasses}
 use Rattle.px_calls.proofs.Runs.{acts_by-append}
 use Rattle.px_session.specs.declared.run.SessionRun.{SessionRun}
 use Rattle.px_session.specs.declared.state.SessionState.{SessionState}
-use Rattle.px_session.specs.Live.{IsLive, IsSame, StepsOn}
+use Rattle.px_session.specs.Live.{IsSameSession, IsSessionLive, StepsOn}
 use Rattle.px_session.proofs.Lives.{live_passes}
 use Rattle.px_rounds.specs.Turns.{as_seat, AreLive, AreSame, IsNoSession, IsSingle, Turned}
 use Rattle.px_rounds.proofs.Lists.{get_lt, get_set_other, get_set_same, get_some, same_or_not, some_same}
 
 -- 1. What one seat did is others' entries to another
 
-others : (m n : ℕ) (k k' : Known) (acts : List Act) → IsSingle k → m ≢ n → Ran (as_seat n k) k' acts → Passes (as_seat m k) (as_seat m k')
+others : (m n : ℕ) (k k' : Known) (acts : List Act) → IsSingle k → m ≢ n → Ran (as_seat n k) k' acts → TimePasses (as_seat m k) (as_seat m k')
 others m n k k' acts h apart r = record {
   others = r.added;
   seen = r.seen;
@@ -34,7 +34,7 @@ single n k k' acts h r = record { alone = r.as_alone ∙ h.alone; legal = r.lega
 as_own : (n : ℕ) (k : Known) → k.seat ≡ n → k ≡ as_seat n k
 as_own n k e = λ i. record { seat = e i; base = k.base; damaged = k.damaged; alone = k.alone; seen = k.seen }
 
-same_run : (run : SessionRun) → IsSame run run
+same_run : (run : SessionRun) → IsSameSession run run
 same_run run = record { pieces = refl; from = refl; session = refl; round = refl }
 
 no_other : (n count seat : ℕ) → n < count → IsNoSession count seat → seat ≢ n + 1
@@ -44,16 +44,16 @@ no_other n count seat low (inr e) same = omega arith
 module _ (sound : Type 0) where
   -- the one that has gone on, and the others
   live_on : (n : ℕ) (k k1 k' : Known) (acts : List Act) (began : List SessionState) (runs : List SessionRun) (run run' : SessionRun) → IsSingle k → k1 ≡ as_seat (n + 1) k → Ran (as_seat (n + 1) k) k' acts → slice_get runs n ≡ Some run
-      → ((st : SessionState) → IsLive sound k1 st run → StepsOn sound st k1 run k' run') → AreLive sound k began runs → AreLive sound k' began (set runs n run')
+      → ((st : SessionState) → IsSessionLive sound k1 st run → StepsOn sound st k1 run k' run') → AreLive sound k began runs → AreLive sound k' began (set runs n run')
   live_on n k k1 k' acts began runs run run' one is ran at steps h = record {
     count = h.count ∙ sym (length-set runs n run');
     each = λ m st x s e. ⊎_elim
         (λ (same : m ≡ n).
         let here : x ≡ run' = get_set_same runs n run' x (ap (λ (j : ℕ). slice_get (set runs n run') j) (sym same) ∙ e) in
-        let before : IsLive sound (as_seat (n + 1) k) st run = h.each n st run (ap (slice_get began) (sym same) ∙ s) at in
-        let after = (steps st (subst (λ (x : Known). IsLive sound x st run) (sym is) before)).live in
+        let before : IsSessionLive sound (as_seat (n + 1) k) st run = h.each n st run (ap (slice_get began) (sym same) ∙ s) at in
+        let after = (steps st (subst (λ (x : Known). IsSessionLive sound x st run) (sym is) before)).live in
         let there : k' ≡ as_seat (m + 1) k' = as_own (m + 1) k' (ran.seat ∙ ap (λ (j : ℕ). j + 1) (sym same)) in
-        let F : Known × SessionRun → Type 0 = λ q. IsLive sound q.0 st q.1 in
+        let F : Known × SessionRun → Type 0 = λ q. IsSessionLive sound q.0 st q.1 in
         subst F (λ i. (there i, sym here i)) after)
         (λ (other : m ≢ n).
         let was : slice_get runs m ≡ Some x = sym (get_set_other runs n m run' other) ∙ e in
@@ -62,27 +62,27 @@ module _ (sound : Type 0) where
         (same_or_not m n);
   }
 
-  same_on : (n : ℕ) (runs : List SessionRun) (run run' : SessionRun) → slice_get runs n ≡ Some run → IsSame run run' → AreSame runs (set runs n run')
+  same_on : (n : ℕ) (runs : List SessionRun) (run run' : SessionRun) → slice_get runs n ≡ Some run → IsSameSession run run' → AreSame runs (set runs n run')
   same_on n runs run run' at one = record {
     count = length-set runs n run';
     each = λ m x y e f. ⊎_elim
         (λ (same : m ≡ n).
         let old : x ≡ run = some_same x run (sym e ∙ (ap (slice_get runs) same ∙ at)) in
         let new : y ≡ run' = get_set_same runs n run' y (ap (λ (j : ℕ). slice_get (set runs n run') j) (sym same) ∙ f) in
-        let F : SessionRun × SessionRun → Type 0 = λ q. IsSame q.0 q.1 in
+        let F : SessionRun × SessionRun → Type 0 = λ q. IsSameSession q.0 q.1 in
         subst F (λ i. (sym old i, sym new i)) one)
         (λ (other : m ≢ n).
         let was : slice_get runs m ≡ Some y = sym (get_set_other runs n m run' other) ∙ f in
-        subst (λ (z : SessionRun). IsSame x z) (some_same x y (sym e ∙ was)) (same_run x))
+        subst (λ (z : SessionRun). IsSameSession x z) (some_same x y (sym e ∙ was)) (same_run x))
         (same_or_not m n);
   }
 
   -- one session has gone on: it is on its way, and so are the others
   pub turns : (n : ℕ) (k k1 k' : Known) (runs : List SessionRun) (run run' : SessionRun) → IsSingle k → (began : List SessionState) × AreLive sound k began runs → k1 ≡ as_seat (n + 1) k → n < length runs → slice_get runs n ≡ Some run
-      → ((st : SessionState) → IsLive sound k1 st run → StepsOn sound st k1 run k' run') → Turned sound k runs k' (set runs n run')
+      → ((st : SessionState) → IsSessionLive sound k1 st run → StepsOn sound st k1 run k' run') → Turned sound k runs k' (set runs n run')
   turns n k k1 k' runs run run' one live is low at steps =
       let st = get_some live.0 n (let c = live.1.count in omega arith) in
-      let step = steps st.0 (subst (λ (x : Known). IsLive sound x st.0 run) (sym is) (live.1.each n st.0 run st.1 at)) in
+      let step = steps st.0 (subst (λ (x : Known). IsSessionLive sound x st.0 run) (sym is) (live.1.each n st.0 run st.1 at)) in
       let ran : Ran (as_seat (n + 1) k) k' step.acts = subst (λ (x : Known). Ran x k' step.acts) is step.ran in
       record {
         more = ran.added;
@@ -105,7 +105,7 @@ module _ (sound : Type 0) where
     damaged = refl;
     single = one;
     live = λ began h. h;
-    same = record { count = refl; each = λ n x y e f. subst (λ (z : SessionRun). IsSame x z) (some_same x y (sym e ∙ f)) (same_run x) };
+    same = record { count = refl; each = λ n x y e f. subst (λ (z : SessionRun). IsSameSession x z) (some_same x y (sym e ∙ f)) (same_run x) };
   }
 
   same_then : (a b c : List SessionRun) → AreSame a b → AreSame b c → AreSame a c

@@ -12,9 +12,9 @@ use Rattle.px_reply.specs.declared.transcript.Transcript.{Transcript}
 use Rattle.px_reply.specs.Printed.{printed, printed_transcript}
 use Rattle.px_script.specs.declared.script.SessionText.{SessionText}
 use Rattle.px_session.specs.declared.state.SessionState.{SessionState}
-use Rattle.px_rounds.specs.Rounds.{AreRounds, AreWithin, HasRound, RanRounds, RanScript, fresh, in_order}
-use Rattle.px_rounds.specs.Turns.{GoesOn}
-use Rattle.px_rounds.specs.Written.{IsWritten, WritesRound}
+use Rattle.px_rounds.specs.Rounds.{AreRounds, AreWithin, HasRound, RanRounds, RanScript, all_transcripts, fresh_sessions}
+use Rattle.px_rounds.specs.Turns.{TrailGoesOn}
+use Rattle.px_rounds.specs.Written.{IsTextWritten, WritesRound}
 use Rattle.px_rounds.specs.inner.Ways.{RanOne, Stayed, WentOn}
 use Rattle.px_rounds.proofs.Rounding.{round_on}
 
@@ -31,13 +31,13 @@ was_not : (m m' : Bool) → (m ≡ true → m' ≡ true) → m' ≡ false → m 
 was_not true m' h off = let on = h refl in cc
 was_not false m' h off = refl
 
-pub goes_then : (k k' k'' : Known) → GoesOn k k' → GoesOn k' k'' → GoesOn k k''
+pub goes_then : (k k' k'' : Known) → TrailGoesOn k k' → TrailGoesOn k' k'' → TrailGoesOn k k''
 goes_then k k' k'' h j = record { more = h.more ++ j.more; seen = j.seen ∙ (ap (λ (l : List Entry). l ++ j.more) h.seen ∙ append_assoc k.seen h.more j.more); base = j.base ∙ h.base; damaged = j.damaged ∙ h.damaged; single = j.single }
 
 -- 1. Rounds
 
 module _ (sound : Type 0) where
-  rounds_on : (k k' : Known) (from number : ℕ) (states : List SessionState) (rs : List (List SessionText)) (tss : List (List Transcript)) (to : ℕ) (states' : List SessionState) (memory memory' : Bool) → GoesOn k k' → (memory' ≡ false → memory ≡ false) → AreRounds sound k from number states rs tss to states' memory
+  rounds_on : (k k' : Known) (from number : ℕ) (states : List SessionState) (rs : List (List SessionText)) (tss : List (List Transcript)) (to : ℕ) (states' : List SessionState) (memory memory' : Bool) → TrailGoesOn k k' → (memory' ≡ false → memory ≡ false) → AreRounds sound k from number states rs tss to states' memory
       → AreRounds sound k' from number states rs tss to states' memory'
   rounds_on k k' from number states [] [] to states' memory memory' goes less h = h
   rounds_on k k' from number states [] (ts ∷ tss) to states' memory memory' goes less h = absurd h
@@ -60,8 +60,8 @@ module _ (sound : Type 0) where
       let there = subst (λ (n : ℕ). HasRound sound k mid to n mids r ts states' memory) (next_number number rs q) one in
       (h.0, h.1, h.2, rounds_snoc k h.0 (number + 1) h.1 rs tss mid mids r ts to states' memory h.3 there)
 
-  flat_snoc : (tss : List (List Transcript)) (ts : List Transcript) → in_order (tss ++ ts ∷ []) ≡ in_order tss ++ ts
-  flat_snoc tss ts = flat_map-append (λ (l : List Transcript). l) tss (ts ∷ []) ∙ ap (λ (l : List Transcript). in_order tss ++ l) (append-nil ts)
+  flat_snoc : (tss : List (List Transcript)) (ts : List Transcript) → all_transcripts (tss ++ ts ∷ []) ≡ all_transcripts tss ++ ts
+  flat_snoc tss ts = flat_map-append (λ (l : List Transcript). l) tss (ts ∷ []) ∙ ap (λ (l : List Transcript). all_transcripts tss ++ l) (append-nil ts)
 
   pub none_ran : (k : Known) (first : List SessionState) → RanRounds sound k (length k.seen) first [] [] first false false
   none_ran k first = record { passed = []; rest = []; all = refl; done = []; flat = refl; answered = (refl, refl); whole = λ sink memory. refl }
@@ -70,7 +70,7 @@ module _ (sound : Type 0) where
   no_memory k first rounds = record { passed = []; rest = rounds; all = refl; done = []; flat = refl; answered = (refl, refl); whole = λ sink memory. cc }
 
   stayed_on : {O : Type 0} (from : ℕ) (first : List SessionState) (rounds : List (List SessionText)) (round : List SessionText) (k k' : Known) (states : List SessionState) (ts ts' : List Transcript) (states' : List SessionState) (out out' : O) (sink memory sink' memory' : Bool)
-      → RanRounds sound k from first rounds ts states sink memory → Stayed k k' states ts ts' states' out out' sink memory sink' memory' → GoesOn k k' → RanRounds sound k' from first (rounds ++ round ∷ []) ts' states' sink' memory'
+      → RanRounds sound k from first rounds ts states sink memory → Stayed k k' states ts ts' states' out out' sink memory sink' memory' → TrailGoesOn k k' → RanRounds sound k' from first (rounds ++ round ∷ []) ts' states' sink' memory'
   stayed_on {O} from first rounds round k k' states ts ts' states' out out' sink memory sink' memory' h s goes =
       let here : length k.seen ≡ length k'.seen = ap (λ (l : List Entry). length l) (sym s.same) in
       let on = rounds_on k k' from 1 first h.passed h.done (length k.seen) states memory memory' goes (was_not memory memory' s.memory_is) h.answered in
@@ -86,7 +86,7 @@ module _ (sound : Type 0) where
       }
 
   ran_one_on : {O : Type 0} (K : Ghosts O) (from : ℕ) (first : List SessionState) (rounds : List (List SessionText)) (number : ℕ) (round : List SessionText) (k k' : Known) (states : List SessionState) (ts ts' : List Transcript) (states' : List SessionState) (out out' : O) (sink memory sink' memory' : Bool)
-      → number ≡ 1 + length rounds → RanRounds sound k from first rounds ts states sink memory → RanOne sound K number round k k' states ts ts' states' out out' sink memory sink' memory' → GoesOn k k' → RanRounds sound k' from first (rounds ++ round ∷ []) ts' states' sink' memory'
+      → number ≡ 1 + length rounds → RanRounds sound k from first rounds ts states sink memory → RanOne sound K number round k k' states ts ts' states' out out' sink memory sink' memory' → TrailGoesOn k k' → RanRounds sound k' from first (rounds ++ round ∷ []) ts' states' sink' memory'
   ran_one_on {O} K from first rounds number round k k' states ts ts' states' out out' sink memory sink' memory' count h r goes =
       let going = neither sink memory r.going in
       let none : h.rest ≡ [] = h.whole going.0 going.1 in
@@ -106,7 +106,7 @@ module _ (sound : Type 0) where
       }
 
   pub ran_on : {O : Type 0} (K : Ghosts O) (from : ℕ) (first : List SessionState) (rounds : List (List SessionText)) (number : ℕ) (round : List SessionText) (k k' : Known) (states : List SessionState) (ts ts' : List Transcript) (states' : List SessionState) (out out' : O) (sink memory sink' memory' : Bool)
-      → number ≡ 1 + length rounds → RanRounds sound k from first rounds ts states sink memory → WentOn sound K number round k k' states ts ts' states' out out' sink memory sink' memory' → GoesOn k k' → RanRounds sound k' from first (rounds ++ round ∷ []) ts' states' sink' memory'
+      → number ≡ 1 + length rounds → RanRounds sound k from first rounds ts states sink memory → WentOn sound K number round k k' states ts ts' states' out out' sink memory sink' memory' → TrailGoesOn k k' → RanRounds sound k' from first (rounds ++ round ∷ []) ts' states' sink' memory'
   ran_on {O} K from first rounds number round k k' states ts ts' states' out out' sink memory sink' memory' count h (inl s) goes = stayed_on from first rounds round k k' states ts ts' states' out out' sink memory sink' memory' h s goes
   ran_on {O} K from first rounds number round k k' states ts ts' states' out out' sink memory sink' memory' count h (inr r) goes = ran_one_on K from first rounds number round k k' states ts ts' states' out out' sink memory sink' memory' count h r goes
 
@@ -121,13 +121,13 @@ module _ (sound : Type 0) where
   script_lacking k n script ts within none = record {
     sessions = n;
     within = within;
-    states = fresh n;
-    ran = subst (λ (l : List Transcript). RanRounds sound k (length k.seen) (fresh n) script l (fresh n) false true) (sym none) (no_memory k (fresh n) script);
+    states = fresh_sessions n;
+    ran = subst (λ (l : List Transcript). RanRounds sound k (length k.seen) (fresh_sessions n) script l (fresh_sessions n) false true) (sym none) (no_memory k (fresh_sessions n) script);
   }
 
-  pub script_ran : (k : Known) (from n : ℕ) (script taken : List (List SessionText)) (ts done : List Transcript) (states : List SessionState) (sink memory : Bool) → AreWithin n script → taken ≡ script → ts ≡ done → RanRounds sound k from (fresh n) taken done states sink memory → RanScript sound k from script ts sink memory
+  pub script_ran : (k : Known) (from n : ℕ) (script taken : List (List SessionText)) (ts done : List Transcript) (states : List SessionState) (sink memory : Bool) → AreWithin n script → taken ≡ script → ts ≡ done → RanRounds sound k from (fresh_sessions n) taken done states sink memory → RanScript sound k from script ts sink memory
   script_ran k from n script taken ts done states sink memory within whole same h =
-      let F : List (List SessionText) × List Transcript → Type 0 = λ q. RanRounds sound k from (fresh n) q.0 q.1 states sink memory in
+      let F : List (List SessionText) × List Transcript → Type 0 = λ q. RanRounds sound k from (fresh_sessions n) q.0 q.1 states sink memory in
       record { sessions = n; within = within; states = states; ran = subst F (λ i. (whole i, sym same i)) h }
 
 -- 3. What is written
@@ -136,7 +136,7 @@ all_snoc : (ts more : List Transcript) → printed (ts ++ more) ≡ printed ts +
 all_snoc ts more = flat_map-append printed_transcript ts more
 
 round_written : {O : Type 0} (K : Ghosts O) (out0 out out' : O) (text more : List ℕ) (sink' print' lacked : Bool) → (IsTrue K.tells → K.held out ≡ K.held out0 ++ text) → K.faults out ≡ K.faults out0 → WritesRound K out out' more sink' print'
-    → IsWritten K out0 out' (text ++ more) sink' (lacked || print')
+    → IsTextWritten K out0 out' (text ++ more) sink' (lacked || print')
 round_written {O} K out0 out out' text more true print' lacked held quiet w = record {
   bytes = λ tells.
       let n = (w.1 tells).0 in
@@ -182,10 +182,10 @@ round_written {O} K out0 out out' text more false false lacked held quiet w = re
 }
 
 pub written_on : {O : Type 0} (sound : Type 0) (K : Ghosts O) (number : ℕ) (round : List SessionText) (k k' : Known) (states : List SessionState) (ts ts' : List Transcript) (states' : List SessionState) (out0 out out' : O) (sink memory sink' memory' : Bool)
-    → IsWritten K out0 out (printed ts) sink memory → WentOn sound K number round k k' states ts ts' states' out out' sink memory sink' memory' → IsWritten K out0 out' (printed ts') sink' memory'
+    → IsTextWritten K out0 out (printed ts) sink memory → WentOn sound K number round k k' states ts ts' states' out out' sink memory sink' memory' → IsTextWritten K out0 out' (printed ts') sink' memory'
 written_on {O} sound K number round k k' states ts ts' states' out0 out out' sink memory sink' memory' h (inl s) =
-    let F : List Transcript × O × Bool → Type 0 = λ q. IsWritten K out0 q.1 (printed q.0) q.2 memory' in
-    let here : IsWritten K out0 out (printed ts) sink memory' = record {
+    let F : List Transcript × O × Bool → Type 0 = λ q. IsTextWritten K out0 q.1 (printed q.0) q.2 memory' in
+    let here : IsTextWritten K out0 out (printed ts) sink memory' = record {
       bytes = λ tells. (let p = h.bytes tells in record { n = p.n; within = p.within; held = p.held; all = λ no none. absurd (not_both sink memory' (ap (λ (x : Bool). x || memory') (sym s.sink) ∙ s.stopped) no none); part = p.part });
       failed = h.failed;
       quiet = h.quiet;
@@ -196,12 +196,12 @@ written_on {O} sound K number round k k' states ts ts' states' out0 out out' sin
     let text = printed ts in
     let held : IsTrue K.tells → K.held out ≡ K.held out0 ++ text = λ tells. (let p = h.bytes tells in p.held ∙ (ap (λ (n : ℕ). K.held out0 ++ take n text) (p.all going.0 going.1) ∙ ap (λ (l : List ℕ). K.held out0 ++ l) (take-length text))) in
     let one = round_written K out0 out out' text (printed r.answers) sink' r.print_failed r.lacked held (h.quiet going.0) r.written in
-    let F : List ℕ × Bool → Type 0 = λ q. IsWritten K out0 out' q.0 sink' q.1 in
+    let F : List ℕ × Bool → Type 0 = λ q. IsTextWritten K out0 out' q.0 sink' q.1 in
     subst F (λ i. ((sym (all_snoc ts r.answers) ∙ ap printed (sym r.ts_are)) i, sym r.memory_is i)) one
 
 -- 4. Before the first round, and where nothing is run
 
-pub nothing_written : {O : Type 0} (K : Ghosts O) (out : O) (memory : Bool) → IsWritten K out out [] false memory
+pub nothing_written : {O : Type 0} (K : Ghosts O) (out : O) (memory : Bool) → IsTextWritten K out out [] false memory
 nothing_written {O} K out memory = record {
   bytes = λ tells. record { n = 0; within = omega arith; held = sym (append-nil (K.held out)); all = λ no none. refl; part = λ yes. cc };
   failed = λ yes. cc;

@@ -9,7 +9,7 @@ use Rattle.px_reply.specs.declared.transcript.Transcript.{Transcript}
 use Rattle.px_session.specs.declared.state.Ending.{Ending}
 use Rattle.px_session.specs.declared.state.Ending.TheVariants.{Memory}
 use Rattle.px_session.specs.declared.state.SessionState.{SessionState}
-use Rattle.px_session.specs.Replies.{IsAnswered}
+use Rattle.px_session.specs.Replies.{IsSessionAnswered}
 use Rattle.px_rounds.specs.Turns.{IsNoSession, as_seat}
 
 -- the text of a session in a round; where it has none there, an empty one
@@ -24,7 +24,7 @@ pub record IsToldIn (sound : Type 0) (k : Known) (from to number : ℕ) (st : Se
   pub sections : List Section
   pub cut : IsScript text sections
   pub ending : Ending
-  pub answered : IsAnswered sound k from to st (pieces_from 0 sections) t st' ending
+  pub answered : IsSessionAnswered sound k from to st (pieces_from 0 sections) t st' ending
   pub whole : memory ≡ false → ending ≢ Memory
 
 -- A round between two places of the trail: each session from 1 on is answered there, on the seat of its number, and no other seat has entries
@@ -45,16 +45,16 @@ AreRounds sound k from number states (r ∷ rs) (ts ∷ tss) to states' memory =
 AreRounds sound k from number states rs tss to states' memory = ⊥
 
 -- the transcripts of all rounds
-abbrev pub in_order : List (List Transcript) → List Transcript
-in_order tss = flat_map (λ ts. ts) tss
+abbrev pub all_transcripts : List (List Transcript) → List Transcript
+all_transcripts tss = flat_map (λ ts. ts) tss
 
 -- a session's first state
 abbrev pub first_state : SessionState
 first_state = record { settings = record { scn = None; autocommit = true; held = None }; stopped = false }
 
 -- the states of so many sessions before the first round
-abbrev pub fresh : ℕ → List SessionState
-fresh n = replicate n first_state
+abbrev pub fresh_sessions : ℕ → List SessionState
+fresh_sessions n = replicate n first_state
 
 -- Rounds from a trail of `from` entries on: the first ones are answered, and all of them, unless they were stopped
 pub record RanRounds (sound : Type 0) (k : Known) (from : ℕ) (states : List SessionState) (rounds : List (List SessionText)) (ts : List Transcript) (states' : List SessionState) (sink_failed memory : Bool) : Type 0 where
@@ -62,7 +62,7 @@ pub record RanRounds (sound : Type 0) (k : Known) (from : ℕ) (states : List Se
   pub rest : List (List SessionText)
   pub all : passed ++ rest ≡ rounds
   pub done : List (List Transcript)
-  pub flat : ts ≡ in_order done
+  pub flat : ts ≡ all_transcripts done
   pub answered : AreRounds sound k from 1 states passed done (length k.seen) states' memory
   pub whole : sink_failed ≡ false → memory ≡ false → rest ≡ []
 
@@ -75,4 +75,4 @@ pub record RanScript (sound : Type 0) (k : Known) (from : ℕ) (script : List (L
   pub sessions : ℕ
   pub within : AreWithin sessions script
   pub states : List SessionState
-  pub ran : RanRounds sound k from (fresh sessions) script ts states sink_failed memory
+  pub ran : RanRounds sound k from (fresh_sessions sessions) script ts states sink_failed memory

@@ -18,7 +18,7 @@ pub record IsPart {O : Type 0} (k : Ghosts O) (out out' : O) (text : List ℕ) (
   pub part : sink_failed ≡ true → n < length text
 
 -- what was written, where the sink tells; and whether it failed
-pub record IsWritten {O : Type 0} (k : Ghosts O) (out out' : O) (text : List ℕ) (sink_failed memory : Bool) : Type 0 where
+pub record IsTextWritten {O : Type 0} (k : Ghosts O) (out out' : O) (text : List ℕ) (sink_failed memory : Bool) : Type 0 where
   pub bytes : IsTrue k.tells → IsPart k out out' text sink_failed memory
   pub failed : sink_failed ≡ true → FaultsRose (k.faults out) (k.faults out')
   pub quiet : sink_failed ≡ false → k.faults out' ≡ k.faults out

@@ -1,6 +1,6 @@
 // What a thread carries out: a session, seen by its facts alone.
 ghost use Rattle.std.specs.Prelude.{◌≢◌, None};
-ghost use Rattle.px_session.specs.Live.{IsLive};
+ghost use Rattle.px_session.specs.Live.{IsSessionLive};
 ghost use Rattle.px_rounds.specs.inner.Jobs.{told_of};
 
 use crate::gate::Gate;
@@ -47,7 +47,7 @@ pub(crate) trait Course {
 }
 
 impl<'a> Course for SessionRun<'a> {
-    ghost on_way = { λ sound began k run. IsLive sound k began run };
+    ghost on_way = { λ sound began k run. IsSessionLive sound k began run };
 
     ghost stays = { λ run. told_of run };
 

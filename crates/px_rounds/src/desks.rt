@@ -6,7 +6,7 @@ ghost use Rattle.px_session.specs.declared.state.Ending.TheVariants.{Memory as L
 ghost use Rattle.px_session.specs.declared.state.SessionState.{SessionState as States};
 ghost use Rattle.px_rounds.specs.Rounds as spec;
 ghost use Rattle.px_rounds.specs.Turns.{AreLive, AreOver};
-ghost use Rattle.px_rounds.specs.inner.Desks.{AreCut, AreFirst, AreTold};
+ghost use Rattle.px_rounds.specs.inner.Desks.{AreCut, AreFirst, AreSessionsTold};
 
 use px_lex::script::Piece;
 use px_reply::Transcript;
@@ -96,7 +96,7 @@ pub(crate) fn taken_back<S: Single>(
     requires over { AreOver runs.items }
     requires live { (k : Known) × (began : List States) × AreLive S.sound k began runs.items }
     requires room { (transcripts.items ≡ []) × (states.items ≡ []) × (length runs.items ≤ vec_capacity transcripts) × (length runs.items ≤ vec_capacity states) }
-    ensures told { (k : Known) → (began : List States) → AreLive S.sound k began runs.entry.items → AreTold S.sound k began runs.entry.items result.transcripts.items result.states.items result.lacked }
+    ensures told { (k : Known) → (began : List States) → AreLive S.sound k began runs.entry.items → AreSessionsTold S.sound k began runs.entry.items result.transcripts.items result.states.items result.lacked }
 {
     let mut lacked = false;
     while !runs.is_empty() {

@@ -1,7 +1,7 @@
 // The job of a thread: a session on its seat.
 ghost use Rattle.std.specs.Prelude.{◌≡◌, ℕ, Some, length, slice_get};
 ghost use Rattle.px_session.specs.declared.state.SessionState.{SessionState as States};
-ghost use Rattle.px_turn.specs.Seats.{seen as list_seen};
+ghost use Rattle.px_turn.specs.Seats.{seen_by_seat};
 ghost use Rattle.px_seat.specs.Grown.{mine};
 ghost use Rattle.px_rounds.specs.inner.Jobs.{CanRun, RanOut, RanStage};
 
@@ -96,14 +96,14 @@ pub(crate) fn run_all<
     N: LockNamed + Send + Sync,
     B: Based + Send + Sync,
 >(rt: &R, alloc: Global, gate: &G, jobs: &mut Vec<Job<'a, R, S, N, B>>)
-    requires ready { (i : ℕ) (job : _) → slice_get jobs.old.items i ≡ Some job → CanRun (mine job.at.id B.base B.damaged (list_seen job.at.seat)) job.session job.stage }
+    requires ready { (i : ℕ) (job : _) → slice_get jobs.old.items i ≡ Some job → CanRun (mine job.at.id B.base B.damaged (seen_by_seat job.at.seat)) job.session job.stage }
     ensures len { length jobs.new.items ≡ length jobs.old.items }
-    ensures each { (i : ℕ) (a : _) (b : _) → slice_get jobs.old.items i ≡ Some a → slice_get jobs.new.items i ≡ Some b → RanStage S.sound a.number (mine a.at.id B.base B.damaged (list_seen a.at.seat)) a.stage (mine b.at.id B.base B.damaged (list_seen b.at.seat)) b.stage }
+    ensures each { (i : ℕ) (a : _) (b : _) → slice_get jobs.old.items i ≡ Some a → slice_get jobs.new.items i ≡ Some b → RanStage S.sound a.number (mine a.at.id B.base B.damaged (seen_by_seat a.at.seat)) a.stage (mine b.at.id B.base B.damaged (seen_by_seat b.at.seat)) b.stage }
 {
     let threads = jobs.len().max(1);
     let run = |_: usize, job: &mut Job<R, S, N, B>|
-        requires ready { CanRun (mine job.old.at.id B.base B.damaged (list_seen job.old.at.seat)) job.old.session job.old.stage }
-        ensures ran { RanStage S.sound job.old.number (mine job.old.at.id B.base B.damaged (list_seen job.old.at.seat)) job.old.stage (mine job.new.at.id B.base B.damaged (list_seen job.new.at.seat)) job.new.stage }
+        requires ready { CanRun (mine job.old.at.id B.base B.damaged (seen_by_seat job.old.at.seat)) job.old.session job.old.stage }
+        ensures ran { RanStage S.sound job.old.number (mine job.old.at.id B.base B.damaged (seen_by_seat job.old.at.seat)) job.old.stage (mine job.new.at.id B.base B.damaged (seen_by_seat job.new.at.seat)) job.new.stage }
     { job.run(rt, alloc, gate) };
     thread::for_each_mut(rt, jobs.as_mut_slice(), threads, &run);
 }

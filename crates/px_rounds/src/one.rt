@@ -1,7 +1,7 @@
 // A round on one thread.
 ghost use Rattle.std.specs.Prelude.{◌≡◌, ◌<◌, ◌≤◌, ◌^◌, ℕ, [], length, slice_get, Some, IfOk, IfErr, vec_capacity};
 ghost use Rattle.px_rounds.specs.Rounds.{HasRound};
-ghost use Rattle.px_rounds.specs.Turns.{GoesOn, IsSingle};
+ghost use Rattle.px_rounds.specs.Turns.{IsSingle, TrailGoesOn};
 ghost use Rattle.px_rounds.specs.inner.Desks.{AreCut};
 
 use crate::desks::{Told, cut_all, opened, taken_back};
@@ -56,7 +56,7 @@ pub fn in_turns<R: Threads + Wait + Sync, S: Single>(
 ) -> Result<Told, Vec<SessionState>>
     requires single { IsSingle (S.known s.old) }
     requires count { length states.items < 2 ^ 32 }
-    ensures goes { GoesOn (S.known s.old) (S.known s.new) }
+    ensures goes { TrailGoesOn (S.known s.old) (S.known s.new) }
     ensures round { IfOk result (λ told. HasRound S.sound (S.known s.new) (length (S.known s.old).seen) (length (S.known s.new).seen) number states.items round.now told.transcripts.items told.states.items told.lacked) }
     ensures none { IfErr result (λ back. (back.items ≡ states.items) × (S.known s.new ≡ S.known s.old)) }
 {

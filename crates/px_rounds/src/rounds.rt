@@ -1,10 +1,10 @@
 // All rounds of a script, and their replies.
 ghost use Rattle.std.specs.Prelude.{◌≡◌, ◌<◌, ◌≤◌, ◌+◌, ◌^◌, ◌++◌, ◌||◌, length, IfOk, vec_capacity};
 ghost use Rattle.px_reply.specs.Printed.{printed};
-ghost use Rattle.px_rounds.specs.Rounds.{RanScript, fresh};
+ghost use Rattle.px_rounds.specs.Rounds.{RanScript, fresh_sessions};
 ghost use Rattle.px_rounds.specs.Rounds as spec;
-ghost use Rattle.px_rounds.specs.Turns.{GoesOn, IsSingle};
-ghost use Rattle.px_rounds.specs.Written.{IsWritten, WritesRound};
+ghost use Rattle.px_rounds.specs.Turns.{IsSingle, TrailGoesOn};
+ghost use Rattle.px_rounds.specs.Written.{IsTextWritten, WritesRound};
 ghost use Rattle.px_rounds.specs.inner.Ways.{WentOn};
 
 use crate::count::sessions_in;
@@ -79,7 +79,7 @@ fn first_state() -> SessionState
 }
 
 fn fresh_states(alloc: Global, count: usize) -> Result<Vec<SessionState>, AllocError>
-    ensures { IfOk result (λ states. states.items ≡ fresh count) }
+    ensures { IfOk result (λ states. states.items ≡ fresh_sessions count) }
 {
     let mut states = Vec::with_capacity(alloc, count)?;
     for _ in 0..count {
@@ -101,7 +101,7 @@ fn go<R: Threads + Wait + Sync, S: Single + Send, G: Gate + Sync, O: Sink>(
 ) -> Way<S>
     requires single { IsSingle (S.known way.server) }
     requires count { length way.states.items < 2 ^ 32 }
-    ensures goes { GoesOn (S.known way.server) (S.known result.server) }
+    ensures goes { TrailGoesOn (S.known way.server) (S.known result.server) }
     ensures went { WentOn S.sound ⟦<O as Sink>⟧ number round.now (S.known way.server) (S.known result.server) way.states.items way.done.items result.done.items result.states.items out.old out.new way.sink_failed way.memory result.sink_failed result.memory }
 {
     if either(way.sink_failed, way.memory) {
@@ -164,9 +164,9 @@ pub fn run_rounds<R: Threads + Wait + Sync, S: Single + Send, G: Gate + Sync, O:
     out: &mut O,
 ) -> Rounds<S>
     requires single { IsSingle (S.known server) }
-    ensures goes { GoesOn (S.known server) (S.known result.server) }
+    ensures goes { TrailGoesOn (S.known server) (S.known result.server) }
     ensures ran { RanScript S.sound (S.known result.server) (length (S.known server).seen) script.now result.transcripts result.sink_failed result.memory }
-    ensures written { IsWritten ⟦<O as Sink>⟧ out.old out.new (printed result.transcripts) result.sink_failed result.memory }
+    ensures written { IsTextWritten ⟦<O as Sink>⟧ out.old out.new (printed result.transcripts) result.sink_failed result.memory }
 {
     let rounds = script.as_slice();
     let count = sessions_in(rounds) as usize;

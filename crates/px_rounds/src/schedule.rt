@@ -1,7 +1,7 @@
 // A round by a schedule, or in threads.
 ghost use Rattle.std.specs.Prelude.{◌≡◌, ◌<◌, ◌^◌, length, IfOk, IfErr};
 ghost use Rattle.px_rounds.specs.Rounds.{HasRound};
-ghost use Rattle.px_rounds.specs.Turns.{GoesOn, IsSingle};
+ghost use Rattle.px_rounds.specs.Turns.{IsSingle, TrailGoesOn};
 
 use crate::desks::Told;
 use crate::gate::Gate;
@@ -32,7 +32,7 @@ pub(crate) fn run_round<R: Threads + Wait + Sync, S: Single + Send, G: Gate + Sy
 ) -> (S, Result<Told, Vec<SessionState>>)
     requires single { IsSingle (S.known server) }
     requires count { length states.items < 2 ^ 32 }
-    ensures goes { GoesOn (S.known server) (S.known result.0) }
+    ensures goes { TrailGoesOn (S.known server) (S.known result.0) }
     ensures round { IfOk result.1 (λ told. HasRound S.sound (S.known result.0) (length (S.known server).seen) (length (S.known result.0).seen) number states.items round.now told.transcripts.items told.states.items told.lacked) }
     ensures none { IfErr result.1 (λ back. (back.items ≡ states.items) × ((S.known result.0).seen ≡ (S.known server).seen)) }
 {

@@ -1,6 +1,6 @@
 // The seats of a round's sessions.
 ghost use Rattle.std.specs.Prelude.{◌≡◌, ◌+◌, ◌<◌, ◌≤◌, ◌^◌, ℕ, [], Some, length, slice_get, vec_capacity};
-ghost use Rattle.px_turn.specs.Seats.{AllSeats, IsSeat, name_of, number as number_of, seen as list_seen};
+ghost use Rattle.px_turn.specs.Seats.{AllSeats, IsSeat, name_of, seat_number, seen_by_seat};
 ghost use Rattle.px_seat.specs.Grown.{mine};
 ghost use Rattle.px_rounds.specs.declared.job.Came.{Came as HasCome};
 ghost use Rattle.px_rounds.specs.declared.job.Stage.TheVariants.{Over as IsOver};
@@ -29,15 +29,15 @@ pub(crate) fn seated<'a, R: Wait, S: Single, N: LockNamed, B: Based>(
     mut jobs: Vec<Job<'a, R, S, N, B>>,
 ) -> Vec<Job<'a, R, S, N, B>>
     requires named { name_of lock.now ≡ N.name }
-    requires seats { (i : ℕ) (seat : _) → slice_get given.items i ≡ Some seat → IsSeat N.name seat × (number_of seat ≡ i + 1) }
+    requires seats { (i : ℕ) (seat : _) → slice_get given.items i ≡ Some seat → IsSeat N.name seat × (seat_number seat ≡ i + 1) }
     requires few { length given.items + 1 < 2 ^ 32 }
-    requires seen { (i : ℕ) (seat : _) → slice_get given.items i ≡ Some seat → list_seen seat ≡ (S.known first.now.value).seen }
+    requires seen { (i : ℕ) (seat : _) → slice_get given.items i ≡ Some seat → seen_by_seat seat ≡ (S.known first.now.value).seen }
     requires count { seen ≡ length (S.known first.now.value).seen }
     requires sessions { (length all.items ≡ length given.items) × (length states.items ≡ length given.items) }
     requires room { (jobs.items ≡ []) × (length given.items ≤ vec_capacity jobs) }
     ensures len { length result.items ≡ length given.items }
     ensures each { (i : ℕ) (job : _) (st : _) (pieces : _) → slice_get result.items i ≡ Some job → slice_get states.items i ≡ Some st → slice_get all.entry.items i ≡ Some pieces
-        → IsSet B.base B.damaged (S.known first.now.value).seen number (i + 1) st pieces (mine job.at.id B.base B.damaged (list_seen job.at.seat)) job.session job.number job.stage }
+        → IsSet B.base B.damaged (S.known first.now.value).seen number (i + 1) st pieces (mine job.at.id B.base B.damaged (seen_by_seat job.at.seat)) job.session job.number job.stage }
 {
     let _first = first;
     let mut session = 0;
@@ -74,7 +74,7 @@ pub(crate) fn unseated<'a, R: Wait, S: Single, N: LockNamed, B: Based>(
     mut transcripts: Vec<Transcript>,
     mut states: Vec<SessionState>,
 ) -> (Seats<Owned<S, B>>, Told)
-    requires idle { IsSeat N.name idle × (number_of idle ≡ 0) }
+    requires idle { IsSeat N.name idle × (seat_number idle ≡ 0) }
     requires jobs { (length jobs.items + 1 ≡ N.name.seats) × ((i : ℕ) (job : _) → slice_get jobs.items i ≡ Some job → job.at.id ≡ i + 1) }
     requires over { (i : ℕ) (job : _) → slice_get jobs.items i ≡ Some job → (came : HasCome) × (job.stage ≡ IsOver came) }
     requires room { (seats.items ≡ []) × (length jobs.items + 1 ≤ vec_capacity seats) × (transcripts.items ≡ []) × (length jobs.items ≤ vec_capacity transcripts) × (states.items ≡ []) × (length jobs.items ≤ vec_capacity states) }
@@ -82,7 +82,7 @@ pub(crate) fn unseated<'a, R: Wait, S: Single, N: LockNamed, B: Based>(
     ensures count { (length result.1.transcripts.items + 1 ≡ length result.0.items) × (length result.1.states.items ≡ length result.1.transcripts.items) }
     ensures idle { slice_get result.0.items 0 ≡ Some idle }
     ensures each { (i : ℕ) (job : _) (seat : _) (t : _) (st : _) → slice_get jobs.entry.items i ≡ Some job → slice_get result.0.items (i + 1) ≡ Some seat → slice_get result.1.transcripts.items i ≡ Some t → slice_get result.1.states.items i ≡ Some st
-        → (list_seen seat ≡ list_seen job.at.seat) × IsTaken job.stage t st result.1.lacked }
+        → (seen_by_seat seat ≡ seen_by_seat job.at.seat) × IsTaken job.stage t st result.1.lacked }
 {
     seats.push_reserved(idle);
     let mut lacked = false;

@@ -1,9 +1,9 @@
 // A round in threads.
 ghost use Rattle.std.specs.Prelude.{◌≡◌, ◌+◌, ◌<◌, ◌≤◌, ◌^◌, ℕ, [], length, slice_get, Some, IfOk, IfErr, vec_capacity};
-ghost use Rattle.px_turn.specs.Seats.{AllSeats, name_of, seen as list_seen};
+ghost use Rattle.px_turn.specs.Seats.{AllSeats, name_of, seen_by_seat};
 ghost use Rattle.px_rounds.specs.Rounds.{HasRound};
-ghost use Rattle.px_rounds.specs.Turns.{GoesOn, IsSingle};
-ghost use Rattle.px_rounds.specs.inner.Jobs.{IsLaid, SeatsTold};
+ghost use Rattle.px_rounds.specs.Turns.{IsSingle, TrailGoesOn};
+ghost use Rattle.px_rounds.specs.inner.Jobs.{IsRoundLaid, SeatsTold};
 
 use crate::desks::Told;
 use crate::gate::Gate;
@@ -61,12 +61,12 @@ fn run_seats<
 ) -> (Seats<Owned<S, B>>, Result<Told, Vec<SessionState>>)
     requires named { name_of lock.now ≡ N.name }
     requires seats { AllSeats N.name given.items × (length given.items ≡ length states.items + 1) × (length given.items < 2 ^ 32) }
-    requires seen { (i : ℕ) (seat : _) → slice_get given.items i ≡ Some seat → list_seen seat ≡ (S.known first.now.value).seen }
+    requires seen { (i : ℕ) (seat : _) → slice_get given.items i ≡ Some seat → seen_by_seat seat ≡ (S.known first.now.value).seen }
     requires count { seen ≡ length (S.known first.now.value).seen }
-    requires lists { IsLaid (length states.items) lists }
+    requires lists { IsRoundLaid (length states.items) lists }
     ensures seats { AllSeats N.name result.0.items }
     ensures told { IfOk result.1 (λ told. SeatsTold S.sound B.base B.damaged (S.known first.now.value).seen number states.items lists.entry.pieces.items result.0.items told.transcripts.items told.states.items told.lacked) }
-    ensures none { IfErr result.1 (λ back. (back.items ≡ states.items) × ((i : ℕ) (seat : _) → slice_get result.0.items i ≡ Some seat → list_seen seat ≡ (S.known first.now.value).seen)) }
+    ensures none { IfErr result.1 (λ back. (back.items ≡ states.items) × ((i : ℕ) (seat : _) → slice_get result.0.items i ≡ Some seat → seen_by_seat seat ≡ (S.known first.now.value).seen)) }
 {
     let Lists {
         pieces,
@@ -98,7 +98,7 @@ fn round_at<R: Threads + Wait + Sync, S: Single + Send, G: Gate + Sync, B: Based
     requires damaged { (S.known server).damaged ≡ B.damaged }
     requires single { IsSingle (S.known server) }
     requires count { length states.items + 1 < 2 ^ 32 }
-    ensures goes { GoesOn (S.known server) (S.known result.0) }
+    ensures goes { TrailGoesOn (S.known server) (S.known result.0) }
     ensures round { IfOk result.1 (λ told. HasRound S.sound (S.known result.0) (length (S.known server).seen) (length (S.known result.0).seen) number states.items round.now told.transcripts.items told.states.items told.lacked) }
     ensures none { IfErr result.1 (λ back. (back.items ≡ states.items) × ((S.known result.0).seen ≡ (S.known server).seen)) }
 {
@@ -131,7 +131,7 @@ pub fn in_threads<R: Threads + Wait + Sync, S: Single + Send, G: Gate + Sync>(
 ) -> (S, Result<Told, Vec<SessionState>>)
     requires single { IsSingle (S.known server) }
     requires count { length states.items + 1 < 2 ^ 32 }
-    ensures goes { GoesOn (S.known server) (S.known result.0) }
+    ensures goes { TrailGoesOn (S.known server) (S.known result.0) }
     ensures round { IfOk result.1 (λ told. HasRound S.sound (S.known result.0) (length (S.known server).seen) (length (S.known result.0).seen) number states.items round.now told.transcripts.items told.states.items told.lacked) }
     ensures none { IfErr result.1 (λ back. (back.items ≡ states.items) × ((S.known result.0).seen ≡ (S.known server).seen)) }
 {

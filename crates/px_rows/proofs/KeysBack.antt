@@ -22,15 +22,15 @@ use Rattle.px_keys.specs.declared.parts.KeyColumn.{KeyColumn}
 use Rattle.px_keys.proofs.Breaking.{directed_twice, directed-append, directed-length}
 use Rattle.px_keys.proofs.Compared.{mod-pow, length-bytes_high_first}
 use Rattle.px_keys.proofs.KeyOrders.{rank_fits, plain_are_bytes}
-use Rattle.px_rows.specs.Stored.{stored, number_of, ranked, value_of}
+use Rattle.px_rows.specs.Stored.{stored, number_of_bytes, ranked, value_of_bytes}
 use Rattle.px_tables.specs.declared.table.Table.{Table}
-use Rattle.px_rows.specs.Keys.{text_size, text_value, fixed_value, fixed_size, plain_value, plain_size, read_parts, all_bytes, is_key, row_columns, row_key, row_code, value_code, no_key}
+use Rattle.px_rows.specs.Keys.{text_size, text_value, fixed_value, fixed_size, plain_value, plain_size, read_parts, are_all_bytes, is_read_back, row_columns, row_key, row_code, value_code, no_key}
 
 -- ---- numbers
 
 -- the bytes of a number behind another
-number_behind : (k m n : ℕ) → number_of m (bytes_high_first k n) ≡ m * 256 ^ k + n % 256 ^ k
-unfolding number_of
+number_behind : (k m n : ℕ) → number_of_bytes m (bytes_high_first k n) ≡ m * 256 ^ k + n % 256 ^ k
+unfolding number_of_bytes
 number_behind zero m n = omega arith
 number_behind (suc k) m n =
     let rest = number_behind k (m * 256 + byte_at k n) n in
@@ -39,7 +39,7 @@ number_behind (suc k) m n =
     let split : (m * 256 + byte_at k n) * 256 ^ k ≡ m * (256 * 256 ^ k) + byte_at k n * 256 ^ k = omega arith in
     rest ∙ (let e : m * 256 ^ suc k ≡ m * (256 * 256 ^ k) = ap (λ (x : ℕ). m * x) power in omega arith)
 
-pub number_back : (k n : ℕ) → n < 256 ^ k → number_of 0 (bytes_high_first k n) ≡ n
+pub number_back : (k n : ℕ) → n < 256 ^ k → number_of_bytes 0 (bytes_high_first k n) ≡ n
 number_back k n h = number_behind k 0 n ∙ (let e : n % 256 ^ k ≡ n = mod-eq_of_lt h in omega arith)
 
 -- a value is told by its distance from the least of its type
@@ -77,21 +77,21 @@ behind [] ys = refl
 behind (x ∷ xs) ys = behind xs ys
 
 -- the number of a value of fixed width that begins bytes
-pub digits_back : (ty : ColType) (v : Value) (rest : List ℕ) → HasType ty v → v ≢ Null → ty ≢ Varchar → ranked ty (number_of 0 (take (byte_width ty) (bytes_high_first (byte_width ty) (rank ty v) ++ rest))) ≡ v
+pub digits_back : (ty : ColType) (v : Value) (rest : List ℕ) → HasType ty v → v ≢ Null → ty ≢ Varchar → ranked ty (number_of_bytes 0 (take (byte_width ty) (bytes_high_first (byte_width ty) (rank ty v) ++ rest))) ≡ v
 digits_back ty v rest h e f =
-    ap (λ (l : List ℕ). ranked ty (number_of 0 l)) (front (bytes_high_first (byte_width ty) (rank ty v)) rest (byte_width ty) (length-bytes_high_first (byte_width ty) (rank ty v)))
+    ap (λ (l : List ℕ). ranked ty (number_of_bytes 0 l)) (front (bytes_high_first (byte_width ty) (rank ty v)) rest (byte_width ty) (length-bytes_high_first (byte_width ty) (rank ty v)))
     ∙ ap (ranked ty) (number_back (byte_width ty) (rank ty v) (rank_fits ty v h))
     ∙ ranked_back ty v h e f
 
 -- ---- cells
 
-fixed_back : (ty : ColType) (v : Value) → HasType ty v → v ≢ Null → ty ≢ Varchar → ranked ty (number_of 0 (take (byte_width ty) (bytes_high_first (byte_width ty) (rank ty v)))) ≡ v
+fixed_back : (ty : ColType) (v : Value) → HasType ty v → v ≢ Null → ty ≢ Varchar → ranked ty (number_of_bytes 0 (take (byte_width ty) (bytes_high_first (byte_width ty) (rank ty v)))) ≡ v
 fixed_back ty v h e f =
-    ap (λ (l : List ℕ). ranked ty (number_of 0 (take (byte_width ty) l))) (sym (append-nil (bytes_high_first (byte_width ty) (rank ty v))))
+    ap (λ (l : List ℕ). ranked ty (number_of_bytes 0 (take (byte_width ty) l))) (sym (append-nil (bytes_high_first (byte_width ty) (rank ty v))))
     ∙ digits_back ty v [] h e f
 
 -- what is stored is read again
-pub value_back : (ty : ColType) (v : Value) → HasType ty v → v ≢ Null → value_of ty (stored ty v) ≡ v
+pub value_back : (ty : ColType) (v : Value) → HasType ty v → v ≢ Null → value_of_bytes ty (stored ty v) ≡ v
 value_back Varchar Null h e = absurd (e refl)
 value_back Varchar (Number n) h e = absurd (let z = h.0 in omega arith)
 value_back Varchar (Truth b) h e = absurd (omega arith)
@@ -177,10 +177,10 @@ parts_back (c ∷ columns) (v ∷ values) rest h =
 
 -- ---- keys
 
-all_bytes-from : (bytes : List ℕ) → All (λ b. b < 256) bytes → all_bytes bytes ≡ true
-unfolding all_bytes
+all_bytes-from : (bytes : List ℕ) → All (λ b. b < 256) bytes → are_all_bytes bytes ≡ true
+unfolding are_all_bytes
 all_bytes-from [] h = refl
-all_bytes-from (b ∷ bytes) h = (λ i. lt-ltb b 256 (All-head (λ b. b < 256) b bytes h) i && all_bytes bytes) ∙ all_bytes-from bytes (All-tail (λ b. b < 256) b bytes h)
+all_bytes-from (b ∷ bytes) h = (λ i. lt-ltb b 256 (All-head (λ b. b < 256) b bytes h) i && are_all_bytes bytes) ∙ all_bytes-from bytes (All-tail (λ b. b < 256) b bytes h)
 
 directed_are_bytes : (d : Direction) (bytes : List ℕ) → All (λ b. b < 256) bytes → All (λ b. b < 256) (directed d bytes)
 directed_are_bytes Ascending bytes h = h
@@ -195,8 +195,8 @@ spelled_are_bytes (c ∷ columns) (v ∷ values) h =
     All-append (λ b. b < 256) (part_bytes c v) (spelled columns values) (directed_are_bytes c.direction (plain_bytes c.ty c.may_be_null v) (plain_are_bytes c.ty c.may_be_null v h.0.0)) (spelled_are_bytes columns values h.1)
 
 -- values that fit are a key
-pub is_key-fits : (columns : List KeyColumn) (values : List Value) → Fits columns values → is_key columns values ≡ true
-unfolding is_key
+pub is_key-fits : (columns : List KeyColumn) (values : List Value) → Fits columns values → is_read_back columns values ≡ true
+unfolding is_read_back
 is_key-fits columns values h =
     let back : read_parts columns (spelled columns values) ≡ values = ap (read_parts columns) (sym (append-nil (spelled columns values))) ∙ parts_back columns values [] h in
     (λ i. (row_order-Decides (read_parts columns (spelled columns values)) values).1 back i && all_bytes-from (spelled columns values) (spelled_are_bytes columns values h) i)
@@ -243,21 +243,21 @@ no_key-apart r r' e =
     let code : row_code r ≡ row_code r' = ap (drop 1) rest in
     sym (codes_back r) ∙ ((λ i. read_codes (size i) (code i)) ∙ codes_back r')
 
-no_bytes : (bytes : List ℕ) (r : List Value) → all_bytes bytes ≡ true → bytes ≡ no_key r → ⊥
-unfolding all_bytes
-no_bytes bytes r h e = (let z : all_bytes (no_key r) ≡ true = ap all_bytes (sym e) ∙ h in cc)
+no_bytes : (bytes : List ℕ) (r : List Value) → are_all_bytes bytes ≡ true → bytes ≡ no_key r → ⊥
+unfolding are_all_bytes
+no_bytes bytes r h e = (let z : are_all_bytes (no_key r) ≡ true = ap are_all_bytes (sym e) ∙ h in cc)
 
 -- no two rows have one key
 pub row_key-apart : (t : Table) (r r' : List Value) → row_key t r ≡ row_key t r' → r ≡ r'
-unfolding row_key is_key
-row_key-apart t r r' e = elim (cases_Bool (is_key (row_columns t) r)) [
-  | inl a ↦ elim (cases_Bool (is_key (row_columns t) r')) [
+unfolding row_key is_read_back
+row_key-apart t r r' e = elim (cases_Bool (is_read_back (row_columns t) r)) [
+  | inl a ↦ elim (cases_Bool (is_read_back (row_columns t) r')) [
     | inl b ↦
         (let bytes : spelled (row_columns t) r ≡ spelled (row_columns t) r' = sym (cond-true _ _ _ a) ∙ (e ∙ cond-true _ _ _ b) in
         sym ((row_order-Decides _ r).0 (and_parts _ _ a).0) ∙ (ap (read_parts (row_columns t)) bytes ∙ (row_order-Decides _ r').0 (and_parts _ _ b).0))
     | inr b ↦ absurd (no_bytes (spelled (row_columns t) r) r' (and_parts _ _ a).1 (sym (cond-true _ _ _ a) ∙ (e ∙ cond-false _ _ _ b)))
   ]
-  | inr a ↦ elim (cases_Bool (is_key (row_columns t) r')) [
+  | inr a ↦ elim (cases_Bool (is_read_back (row_columns t) r')) [
     | inl b ↦ absurd (no_bytes (spelled (row_columns t) r') r (and_parts _ _ b).1 (sym (cond-true _ _ _ b) ∙ (sym e ∙ cond-false _ _ _ a)))
     | inr b ↦ no_key-apart r r' (sym (cond-false _ _ _ a) ∙ (e ∙ cond-false _ _ _ b))
   ]

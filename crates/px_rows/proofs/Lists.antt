@@ -22,10 +22,10 @@ use Rattle.px_values.specs.declared.change.What.{What}
 use Rattle.px_values.specs.declared.change.What.TheVariants.{Set, Gone}
 use Rattle.px_forms.proofs.RowViews.{bytes_swap}
 use Rattle.px_rows.specs.Keys.{column_in}
-use Rattle.px_rows.specs.Spelled.{RowForm, FitsColumnOf, FitsWhat, assigned_to, put_value, null_value, change_cells, cells_at, table_form}
+use Rattle.px_rows.specs.Spelled.{RowForm, FitsColumnOf, FitsWhat, assigned_to, put_value, null_value, change_cells, change_contents, row_spelling}
 use Rattle.px_rows.specs.Stored.{stored}
 use Rattle.px_rows.specs.inner.Found.{AreOf}
-use Rattle.px_rows.specs.Cells.{put_cell, null_cell, column_cell}
+use Rattle.px_rows.specs.Cells.{put_cell, null_cell, value_cell}
 use Rattle.px_rows.specs.inner.Lists.{gone_cell, column_if, set_cells, change_list}
 use Rattle.px_rows.proofs.Spelled.{assigned_fits}
 
@@ -84,7 +84,7 @@ module _ (k : List ℕ) (s : ℕ) where
 
   module _ (t : Table) (as' : List Assignment) where
     abbrev f : RowForm
-    f = table_form t
+    f = row_spelling t
 
     -- the values of the cell of a column
     abbrev of_column : ℕ → Option Value → ℕ → CellKind → Option (List ℕ)
@@ -239,10 +239,10 @@ module _ (k : List ℕ) (s : ℕ) where
     pub set_list_values : AllByRecursion (FitsColumnOf t) as' → (k' : List ℕ) (q u : ℕ) (d : CellKind) → value_at (set_cells t.columns k s as' (length t.columns)) k' q u d ≡ cond (here k' u) (change_cells f (Set as') q d) None
     set_list_values h k' q u d = set_values (length t.columns) k' q u d ∙ ap (λ (o : Option (List ℕ)). cond (here k' u) o None) (all_up_to h q d)
 
-  gone_values : (t : Table) (k' : List ℕ) (q u : ℕ) (d : CellKind) → value_at (gone_cell k s ∷ []) k' q u d ≡ cond (here k' u) (change_cells (table_form t) Gone q d) None
+  gone_values : (t : Table) (k' : List ℕ) (q u : ℕ) (d : CellKind) → value_at (gone_cell k s ∷ []) k' q u d ≡ cond (here k' u) (change_cells (row_spelling t) Gone q d) None
   gone_values t k' q u d = one_cell 0 DeleteFamily [] k' q u d ∙ ap (λ (o : Option (List ℕ)). cond (here k' u) o None) (by q d)
     where
-      by : (q : ℕ) (d : CellKind) → alone 0 DeleteFamily [] q d ≡ change_cells (table_form t) Gone q d
+      by : (q : ℕ) (d : CellKind) → alone 0 DeleteFamily [] q d ≡ change_cells (row_spelling t) Gone q d
       by zero Put = refl
       by zero Delete = refl
       by zero DeleteFamilyVersion = refl
@@ -255,9 +255,9 @@ module _ (k : List ℕ) (s : ℕ) where
       by (suc q) DeleteFamily = ap (λ (b : Bool). cond (b && true) (Some []) None) (ne_eqb 0 (suc q) (λ e. absurd (omega arith)))
 
 -- the list of a change is read as its cells
-pub change_values : (t : Table) (r : List Value) (s : ℕ) (w : What) → FitsWhat t w → value_at (change_list t.columns ((table_form t).key_of r) s w) ≡ cells_at (table_form t) r s w
-change_values t r s (Set as') h = λ i k' q u d. set_list_values ((table_form t).key_of r) s t as' h k' q u d i
-change_values t r s Gone h = λ i k' q u d. gone_values ((table_form t).key_of r) s t k' q u d i
+pub change_values : (t : Table) (r : List Value) (s : ℕ) (w : What) → FitsWhat t w → value_at (change_list t.columns ((row_spelling t).key_of r) s w) ≡ change_contents (row_spelling t) r s w
+change_values t r s (Set as') h = λ i k' q u d. set_list_values ((row_spelling t).key_of r) s t as' h k' q u d i
+change_values t r s Gone h = λ i k' q u d. gone_values ((row_spelling t).key_of r) s t k' q u d i
 
 -- ---- the list is sorted
 
@@ -284,7 +284,7 @@ put_placed k q s v l = (λ h. cc, λ h. absurd (omega arith))
 null_placed : (k : List ℕ) (q s : ℕ) → 1 ≤ q → GoesWith (null_cell k q s)
 null_placed k q s l = (λ h. cc, λ h. absurd (omega arith))
 
-column_placed : (columns : List TableColumn) (k : List ℕ) (s c : ℕ) (v : Value) → IsRowCell k (suc c + 2) (column_cell columns k s c v) × ((column_cell columns k s c v).qualifier ≡ suc (suc c))
+column_placed : (columns : List TableColumn) (k : List ℕ) (s c : ℕ) (v : Value) → IsRowCell k (suc c + 2) (value_cell columns k s c v) × ((value_cell columns k s c v).qualifier ≡ suc (suc c))
 column_placed columns k s c Null = (record { key = refl; below = omega arith; placed = null_placed k (suc (suc c)) s (omega arith) }, refl)
 column_placed columns k s c (Number n) = (record { key = refl; below = omega arith; placed = put_placed k (suc (suc c)) s (stored (column_in columns c).column_type (Number n)) (omega arith) }, refl)
 column_placed columns k s c (Truth b) = (record { key = refl; below = omega arith; placed = put_placed k (suc (suc c)) s (stored (column_in columns c).column_type (Truth b)) (omega arith) }, refl)
@@ -301,8 +301,8 @@ column_list columns k s c None xs h = (
 )
 column_list columns k s c (Some v) xs h =
     let p = column_placed columns k s c v in (
-      ascending_snoc xs (column_cell columns k s c v) h.0 (all_weaker _ _ (λ x b. below_from_order x (column_cell columns k s c v) (by_qualifier (b.key ∙ sym p.0.key) (let z = b.below in let y = p.1 in omega arith))) xs h.1),
-      all_append _ xs (column_cell columns k s c v ∷ []) (all_weaker _ _ (λ x p. record { key = p.key; below = (let z = p.below in omega arith); placed = p.placed }) xs h.1) (p.0, tt),
+      ascending_snoc xs (value_cell columns k s c v) h.0 (all_weaker _ _ (λ x b. below_from_order x (value_cell columns k s c v) (by_qualifier (b.key ∙ sym p.0.key) (let z = b.below in let y = p.1 in omega arith))) xs h.1),
+      all_append _ xs (value_cell columns k s c v ∷ []) (all_weaker _ _ (λ x p. record { key = p.key; below = (let z = p.below in omega arith); placed = p.placed }) xs h.1) (p.0, tt),
     )
 
 set_list : (columns : List TableColumn) (k : List ℕ) (s : ℕ) (as' : List Assignment) (n : ℕ) → IsAscending (set_cells columns k s as' n) × AllByRecursion (IsRowCell k (n + 2)) (set_cells columns k s as' n)
@@ -331,7 +331,7 @@ one_more columns k s as' n o e =
     let z : suc n ≡ n + 1 = omega arith in
     ap (λ (o : Option Value). set_cells columns k s as' n ++ column_if columns k s n o) (sym e) ∙ ap (set_cells columns k s as') z
 
-pub set_more : (columns : List TableColumn) (k : List ℕ) (s : ℕ) (as' : List Assignment) (n : ℕ) (xs ys : List CellData) (c : CellData) (v : Value) → xs ≡ set_cells columns k s as' n → assigned_to as' n ≡ Some v → c ≡ column_cell columns k s n v → ys ≡ xs ++ c ∷ [] → ys ≡ set_cells columns k s as' (n + 1)
+pub set_more : (columns : List TableColumn) (k : List ℕ) (s : ℕ) (as' : List Assignment) (n : ℕ) (xs ys : List CellData) (c : CellData) (v : Value) → xs ≡ set_cells columns k s as' n → assigned_to as' n ≡ Some v → c ≡ value_cell columns k s n v → ys ≡ xs ++ c ∷ [] → ys ≡ set_cells columns k s as' (n + 1)
 set_more columns k s as' n xs ys c v e a q p = p ∙ ((λ i. e i ++ q i ∷ []) ∙ one_more columns k s as' n (Some v) a)
 
 pub set_same : (columns : List TableColumn) (k : List ℕ) (s : ℕ) (as' : List Assignment) (n : ℕ) (xs ys : List CellData) → xs ≡ set_cells columns k s as' n → assigned_to as' n ≡ None → ys ≡ xs → ys ≡ set_cells columns k s as' (n + 1)

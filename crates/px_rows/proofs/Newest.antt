@@ -19,7 +19,7 @@ use Rattle.px_cells.proofs.Newest.{newest-at, newest-is, newest-nothing}
 use Rattle.px_cells.proofs.Orders.{Order, order_from_below, by_key, by_qualifier, by_stamp, by_kind, equal_key}
 use Rattle.px_cells.proofs.RowLemmas.{below_at}
 use Rattle.px_rows.specs.Spelled.{IsPlainAt}
-use Rattle.px_rows.specs.inner.Found.{AreOf, HasNone, IsFamily, IsNewestCell, IsSeen, hidden_by, is_before}
+use Rattle.px_rows.specs.inner.Found.{AreOf, HasNoCell, IsFamily, IsNewestCell, IsSeen, hidden_by, is_before}
 
 -- ---- which cells stand before
 
@@ -99,7 +99,7 @@ module _ (cells : List CellData) (k : List ℕ) (q p i : ℕ) (asc : IsAscending
   no_value None f = refl
   no_value (Some v) f = absurd (f v refl)
 
-  pub none_behind : length cells ≤ i → HasNone (value_at cells) k q p
+  pub none_behind : length cells ≤ i → HasNoCell (value_at cells) k q p
   none_behind l = record { each = λ u d m. no_value (value_at cells k q u d) (λ v e. (let at = there u d v (cell_of k q u d v) e m in let a = at.1 in let b = at.3 in omega arith)) }
 
   module _ (c : CellData) (l : i < length cells) (is : c ≡ get_or cells i c) where
@@ -132,7 +132,7 @@ module _ (cells : List CellData) (k : List ℕ) (q p i : ℕ) (asc : IsAscending
         by (by_stamp _ e m) = (e, inl m)
         by (by_kind _ e m n) = (e, inr (sym m, omega arith))
 
-    pub none_of_other : c.qualifier ≢ q → HasNone (value_at cells) k q p
+    pub none_of_other : c.qualifier ≢ q → HasNoCell (value_at cells) k q p
     none_of_other n = record { each = λ u d m. no_value (value_at cells k q u d) (λ v e. n (placed_by u d v (same_or_below u d v e m)).0) }
 
     pub newest_here : c.qualifier ≡ q → IsNewestCell (value_at cells) k q p c
@@ -161,7 +161,7 @@ module _ (cells : List CellData) (list : IsCellList cells) (k : List ℕ) (p : �
   placed_at : (q s : ℕ) (d : CellKind) (v : List ℕ) → g k q s d ≡ Some v → (is_family d ≡ true → q ≡ 0) × (q ≡ 0 → is_family d ≡ true)
   placed_at q s d v e = (let h : GoesWith (cell_of k q s d v) = all_has GoesWith cells (cell_of k q s d v) list.placed (has_from_reads cells (cell_of k q s d v) (reads_from_value cells k q s d v e)) in (h.0, h.1))
 
-  pub family_none : HasNone g k 0 p → IsFamily g k p None
+  pub family_none : HasNoCell g k 0 p → IsFamily g k p None
   family_none h = λ u l. h.each u DeleteFamily l
 
   pub family_some : (c : CellData) → IsNewestCell g k 0 p c → IsFamily g k p (Some c.stamp)
@@ -184,7 +184,7 @@ module _ (cells : List CellData) (list : IsCellList cells) (k : List ℕ) (p : �
     put_off : (u : ℕ) → g k q u Put ≡ None → puts_at g k q u ≡ false
     put_off u e = ap (λ (o : Option (List ℕ)). is_some o && not (is_some (g k 0 u DeleteFamilyVersion))) e
 
-    pub seen_none : HasNone g k q p → seen_at g k q p ≡ None
+    pub seen_none : HasNoCell g k q p → seen_at g k q p ≡ None
     seen_none h = newest-nothing (stops_at g k q) (puts_at g k q) p (λ u l. put_off u (h.each u Put l))
 
     -- a put above which a stop stands at or below the point isn't seen

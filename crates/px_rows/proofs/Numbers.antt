@@ -2,16 +2,16 @@
 use Rattle.std.proofs.Common.{◌≡◌, ℕ, suc, zero, ◌<◌, ◌≤◌, ◌+◌, ◌*◌, List, [], ◌∷◌, ◌++◌, length, take, get_or, take_all, min, inl, inr, refl, ap, sym, ◌∙◌, arith}
 use Rattle.std.proofs.lemmas.List.{take_more, get_or-take}
 use Rattle.std.proofs.lemmas.Bool.{cases_lt}
-use Rattle.px_rows.specs.Stored.{number_of}
+use Rattle.px_rows.specs.Stored.{number_of_bytes}
 
-number_append : (n b : ℕ) (xs : List ℕ) → number_of n (xs ++ b ∷ []) ≡ number_of n xs * 256 + b
-unfolding number_of
+number_append : (n b : ℕ) (xs : List ℕ) → number_of_bytes n (xs ++ b ∷ []) ≡ number_of_bytes n xs * 256 + b
+unfolding number_of_bytes
 number_append n b [] = refl
 number_append n b (x ∷ xs) = number_append (n * 256 + x) b xs
 
 -- one byte more
-pub number_more : (xs : List ℕ) (i n : ℕ) → i < length xs → n ≡ number_of 0 (take i xs) → n * 256 + get_or xs i 0 ≡ number_of 0 (take (i + 1) xs)
-number_more xs i n l e = sym (ap (number_of 0) (take_more xs i 0 l) ∙ number_append 0 (get_or xs i 0) (take i xs) ∙ ap (λ (m : ℕ). m * 256 + get_or xs i 0) (sym e))
+pub number_more : (xs : List ℕ) (i n : ℕ) → i < length xs → n ≡ number_of_bytes 0 (take i xs) → n * 256 + get_or xs i 0 ≡ number_of_bytes 0 (take (i + 1) xs)
+number_more xs i n l e = sym (ap (number_of_bytes 0) (take_more xs i 0 l) ∙ number_append 0 (get_or xs i 0) (take i xs) ∙ ap (λ (m : ℕ). m * 256 + get_or xs i 0) (sym e))
 
 -- a byte of the first ones
 pub byte_in : (xs : List ℕ) (m i b : ℕ) → get_or xs i 0 < 256 → i < length (take m xs) → b ≡ get_or (take m xs) i 0 → b < 256

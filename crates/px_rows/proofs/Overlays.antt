@@ -11,11 +11,11 @@ use Rattle.px_tables.specs.declared.table.KeyPlace.{KeyPlace}
 use Rattle.px_tables.specs.declared.table.Table.{Table}
 use Rattle.px_tables.specs.declared.table.TableColumn.{TableColumn}
 use Rattle.px_rows.specs.Keys.{column_in, no_column}
-use Rattle.px_rows.specs.Stored.{value_of}
+use Rattle.px_rows.specs.Stored.{value_of_bytes}
 use Rattle.px_values.specs.States.{with_values}
 use Rattle.px_values.specs.declared.row.Value.{Value}
 use Rattle.px_world.specs.World.{read_at}
-use Rattle.px_rows.specs.Spelled.{RowForm, pick, overlay, decoded, column_at, table_form}
+use Rattle.px_rows.specs.Spelled.{RowForm, pick, overlay, decoded, column_at, row_spelling}
 use Rattle.px_rows.specs.inner.Found.{IsSeen, first_of}
 use Rattle.px_rows.proofs.Spelled.{set_overlay}
 
@@ -108,6 +108,6 @@ get_or_any [] i d e l = absurd (omega arith)
 get_or_any (x ∷ xs) zero d e l = refl
 get_or_any (x ∷ xs) (suc i) d e l = get_or_any xs i d e (omega arith)
 
-pub column_is : (t : Table) (columns : List TableColumn) (n : ℕ) (d : TableColumn) (v : Value) (bytes other : List ℕ) → columns ≡ t.columns → n < length columns → v ≡ value_of (get_or columns n d).column_type bytes → bytes ≡ other → v ≡ (table_form t).decode n other
+pub column_is : (t : Table) (columns : List TableColumn) (n : ℕ) (d : TableColumn) (v : Value) (bytes other : List ℕ) → columns ≡ t.columns → n < length columns → v ≡ value_of_bytes (get_or columns n d).column_type bytes → bytes ≡ other → v ≡ (row_spelling t).decode n other
 column_is t columns n d v bytes other e l q z =
-    q ∙ ((λ i. value_of (get_or_any columns n d no_column l i).column_type (z i)) ∙ ap (λ (x : List TableColumn). value_of (column_in x n).column_type other) e)
+    q ∙ ((λ i. value_of_bytes (get_or_any columns n d no_column l i).column_type (z i)) ∙ ap (λ (x : List TableColumn). value_of_bytes (column_in x n).column_type other) e)

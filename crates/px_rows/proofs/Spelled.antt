@@ -28,7 +28,7 @@ use Rattle.px_values.specs.Types.{HasType}
 use Rattle.px_rows.specs.Keys.{column_in, is_part}
 use Rattle.px_rows.proofs.KeysBack.{value_back, row_key-apart}
 use Rattle.px_forms.specs.Rows.{IsCompactedAt, IsDataForm}
-use Rattle.px_rows.specs.Spelled.{RowForm, pick, overlay, decoded, column_at, state_if, spelled_at, assigned_to, put_value, null_value, change_cells, cells_at, IsWholeRow, FitsColumnOf, FitsTable, table_form, row_form}
+use Rattle.px_rows.specs.Spelled.{RowForm, pick, overlay, decoded, column_at, state_if, spelled_at, assigned_to, put_value, null_value, change_cells, change_contents, IsWholeRow, FitsColumnOf, FitsTable, row_spelling, row_form}
 
 -- a change sets no column to NULL that the key gives a value, and its values are read again as they are
 abbrev pub FitsRow : RowForm → List Value → What → Type 0
@@ -141,7 +141,7 @@ module _ (f : RowForm) (low : ℕ) (r : List Value) where
       ∙ read_same (λ s. g key (suc (suc c)) s Put) (λ s. g' key (suc (suc c)) s Put) (seen_at g key (suc (suc c)) p) p (λ s q. e (suc (suc c)) s Put (within_point g (suc (suc c)) p s q))) in
       (λ i. state_if (first i) (overlay (λ c. columns c i) 0 fresh))
 
-  module _ (g g' : Contents) (s : ℕ) (w : What) (p : ℕ) (high : low < s) (fits : FitsRow f r w) (whole : IsWholeRow f low g r) (clear : (q u : ℕ) (d : CellKind) → s ≤ u → g key q u d ≡ None) (put : (q u : ℕ) (d : CellKind) → g' key q u d ≡ over_contents (cells_at f r s w) g key q u d) where
+  module _ (g g' : Contents) (s : ℕ) (w : What) (p : ℕ) (high : low < s) (fits : FitsRow f r w) (whole : IsWholeRow f low g r) (clear : (q u : ℕ) (d : CellKind) → s ≤ u → g key q u d ≡ None) (put : (q u : ℕ) (d : CellKind) → g' key q u d ≡ over_contents (change_contents f r s w) g key q u d) where
     here : (q : ℕ) (d : CellKind) → g' key q s d ≡ change_cells f w q d
     here q d = put q s d ∙ (ap (λ v. or_else (cond v (change_cells f w q d) None) (g key q s d)) (λ i. (bytes_eq-Decides key key).1 refl i && eq-eqb s s refl i) ∙ (ap (or_else (change_cells f w q d)) (clear q s d (omega arith)) ∙ or_nothing (change_cells f w q d)))
 
@@ -175,7 +175,7 @@ module _ (f : RowForm) (low : ℕ) (r : List Value) where
 
   -- ---- the change is a Set
 
-  module _ (g g' : Contents) (s : ℕ) (as' : List Assignment) (p : ℕ) (high : low < s) (fits : FitsRow f r (Set as')) (whole : IsWholeRow f low g r) (clear : (q u : ℕ) (d : CellKind) → s ≤ u → g key q u d ≡ None) (put : (q u : ℕ) (d : CellKind) → g' key q u d ≡ over_contents (cells_at f r s (Set as')) g key q u d) (within : s ≤ p) where
+  module _ (g g' : Contents) (s : ℕ) (as' : List Assignment) (p : ℕ) (high : low < s) (fits : FitsRow f r (Set as')) (whole : IsWholeRow f low g r) (clear : (q u : ℕ) (d : CellKind) → s ≤ u → g key q u d ≡ None) (put : (q u : ℕ) (d : CellKind) → g' key q u d ≡ over_contents (change_contents f r s (Set as')) g key q u d) (within : s ≤ p) where
     set_first : seen_at g' key 1 p ≡ Some s
     set_first = there g g' s (Set as') p high fits whole clear put within 1 [] refl refl refl refl
 
@@ -245,14 +245,14 @@ module _ (f : RowForm) (low : ℕ) (r : List Value) where
   gone_state None = refl
   gone_state (Some row) = refl
 
-  pub change_spelled : (g g' : Contents) (s : ℕ) (w : What) (p : ℕ) → low < s → FitsRow f r w → IsWholeRow f low g r → ((q u : ℕ) (d : CellKind) → s ≤ u → g key q u d ≡ None) → ((q u : ℕ) (d : CellKind) → g' key q u d ≡ over_contents (cells_at f r s w) g key q u d) → s ≤ p → spelled_at f g' r p ≡ apply f.shape r (spelled_at f g r p) w
+  pub change_spelled : (g g' : Contents) (s : ℕ) (w : What) (p : ℕ) → low < s → FitsRow f r w → IsWholeRow f low g r → ((q u : ℕ) (d : CellKind) → s ≤ u → g key q u d ≡ None) → ((q u : ℕ) (d : CellKind) → g' key q u d ≡ over_contents (change_contents f r s w) g key q u d) → s ≤ p → spelled_at f g' r p ≡ apply f.shape r (spelled_at f g r p) w
   change_spelled g g' s (Set as') p high fits whole clear put within = set_spelled g g' s as' p high fits whole clear put within
   change_spelled g g' s Gone p high fits whole clear put within = ap (λ o. state_if o (overlay (column_at f g' r p) 0 fresh)) (gone g g' s Gone p high fits whole clear put within 1 [] refl) ∙ gone_state (spelled_at f g r p)
 
   none_some : {A : Type 0} {u : ℕ} → Some u ≡ None → A
   none_some e = cc
 
-  columns_after : (g g' : Contents) (s : ℕ) (w : What) → low < s → FitsRow f r w → IsWholeRow f low g r → ((q u : ℕ) (d : CellKind) → s ≤ u → g key q u d ≡ None) → ((q u : ℕ) (d : CellKind) → g' key q u d ≡ over_contents (cells_at f r s w) g key q u d) → (p c : ℕ) → s ≤ p → seen_at g' key 1 p ≡ None → seen_at g' key (suc (suc c)) p ≡ None
+  columns_after : (g g' : Contents) (s : ℕ) (w : What) → low < s → FitsRow f r w → IsWholeRow f low g r → ((q u : ℕ) (d : CellKind) → s ≤ u → g key q u d ≡ None) → ((q u : ℕ) (d : CellKind) → g' key q u d ≡ over_contents (change_contents f r s w) g key q u d) → (p c : ℕ) → s ≤ p → seen_at g' key 1 p ≡ None → seen_at g' key (suc (suc c)) p ≡ None
   columns_after g g' s (Set as') high fits whole clear put p c within e = none_some (sym (set_first g g' s as' p high fits whole clear put within) ∙ e)
   columns_after g g' s Gone high fits whole clear put p c within e = gone g g' s Gone p high fits whole clear put within (suc (suc c)) [] refl
 
@@ -264,7 +264,7 @@ module _ (f : RowForm) (low : ℕ) (r : List Value) where
   no_delete_cell (Set as') q = refl
   no_delete_cell Gone q = refl
 
-  pub change_whole : (g g' : Contents) (s : ℕ) (w : What) → low < s → FitsRow f r w → IsWholeRow f low g r → ((q u : ℕ) (d : CellKind) → s ≤ u → g key q u d ≡ None) → ((q u : ℕ) (d : CellKind) → g' key q u d ≡ over_contents (cells_at f r s w) g key q u d) → IsWholeRow f low g' r
+  pub change_whole : (g g' : Contents) (s : ℕ) (w : What) → low < s → FitsRow f r w → IsWholeRow f low g r → ((q u : ℕ) (d : CellKind) → s ≤ u → g key q u d ≡ None) → ((q u : ℕ) (d : CellKind) → g' key q u d ≡ over_contents (change_contents f r s w) g key q u d) → IsWholeRow f low g' r
   change_whole g g' s w high fits whole clear put = record {
     columns = λ p c l e. elim (cases_lt p s) [
       | inl m ↦
@@ -403,7 +403,7 @@ pub assigned_fits : (t : Table) (as' : List Assignment) → AllByRecursion (Fits
 assigned_fits t [] h c v e = cc
 assigned_fits t (a ∷ as') h c v e = given_by t a c v h.0 (assigned_to as' c) (assigned_fits t as' h.1 c v) (nat_eq a.column c) refl e
 
-table_fits : (t : Table) (r : List Value) (w : What) → FitsTable t r w → FitsRow (table_form t) r w
+table_fits : (t : Table) (r : List Value) (w : What) → FitsTable t r w → FitsRow (row_spelling t) r w
 table_fits t r (Set as') h = (
   λ c e. fresh_none t r c (assigned_fits t as' h.1 c Null e).beside,
   λ c v e n. value_back (column_in t.columns c).column_type v (assigned_fits t as' h.1 c v e).has_type n,
@@ -422,7 +422,7 @@ off_here false c h = refl
 
 module _ (t : Table) where
   abbrev f : RowForm
-  f = table_form t
+  f = row_spelling t
 
   -- the cells of a table's rows keep what a data region asks
   pub table_laws : IsDataForm (row_form t)

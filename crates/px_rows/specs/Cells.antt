@@ -15,8 +15,8 @@ abbrev pub null_cell : List ℕ → ℕ → ℕ → CellData
 null_cell k q s = record { key = k; qualifier = q; stamp = s; kind = DeleteColumn; value = [] }
 
 -- the cell of a column and a value: a put, and a DeleteColumn for NULL
-abbrev pub column_cell : List TableColumn → List ℕ → ℕ → ℕ → Value → CellData
-column_cell columns k s c Null = null_cell k (suc (suc c)) s
-column_cell columns k s c (Number n) = put_cell k (suc (suc c)) s (stored (column_in columns c).column_type (Number n))
-column_cell columns k s c (Truth t) = put_cell k (suc (suc c)) s (stored (column_in columns c).column_type (Truth t))
-column_cell columns k s c (Text b) = put_cell k (suc (suc c)) s (stored (column_in columns c).column_type (Text b))
+abbrev pub value_cell : List TableColumn → List ℕ → ℕ → ℕ → Value → CellData
+value_cell columns k s c Null = null_cell k (suc (suc c)) s
+value_cell columns k s c (Number n) = put_cell k (suc (suc c)) s (stored (column_in columns c).column_type (Number n))
+value_cell columns k s c (Truth t) = put_cell k (suc (suc c)) s (stored (column_in columns c).column_type (Truth t))
+value_cell columns k s c (Text b) = put_cell k (suc (suc c)) s (stored (column_in columns c).column_type (Text b))

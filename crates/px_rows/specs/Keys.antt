@@ -12,7 +12,7 @@ use Rattle.px_keys.specs.declared.parts.KeyColumn.{KeyColumn}
 use Rattle.px_tables.specs.declared.table.KeyPlace.{KeyPlace}
 use Rattle.px_tables.specs.declared.table.Table.{Table}
 use Rattle.px_tables.specs.declared.table.TableColumn.{TableColumn}
-use Rattle.px_rows.specs.Stored.{number_of, ranked}
+use Rattle.px_rows.specs.Stored.{number_of_bytes, ranked}
 
 -- 1. Columns
 
@@ -66,9 +66,9 @@ text_value (b ∷ bytes) = Text (b ∷ bytes)
 
 -- the value of a fixed width that begins the bytes, behind a presence byte where it may be NULL
 abbrev pub fixed_value : ColType → Bool → List ℕ → Value
-fixed_value ty false bytes = ranked ty (number_of 0 (take (byte_width ty) bytes))
+fixed_value ty false bytes = ranked ty (number_of_bytes 0 (take (byte_width ty) bytes))
 fixed_value ty true [] = Null
-fixed_value ty true (b ∷ bytes) = cond (nat_eq b 0) Null (ranked ty (number_of 0 (take (byte_width ty) bytes)))
+fixed_value ty true (b ∷ bytes) = cond (nat_eq b 0) Null (ranked ty (number_of_bytes 0 (take (byte_width ty) bytes)))
 
 abbrev pub fixed_size : ColType → Bool → List ℕ → ℕ
 fixed_size ty false bytes = byte_width ty
@@ -92,13 +92,13 @@ read_parts (c ∷ columns) bytes =
 
 -- 3. The key of a row
 
-unfoldable pub all_bytes : List ℕ → Bool
-all_bytes [] = true
-all_bytes (b ∷ bytes) = nat_lt b 256 && all_bytes bytes
+unfoldable pub are_all_bytes : List ℕ → Bool
+are_all_bytes [] = true
+are_all_bytes (b ∷ bytes) = nat_lt b 256 && are_all_bytes bytes
 
 -- the values are read back from their bytes
-unfoldable pub is_key : List KeyColumn → List Value → Bool
-is_key columns r = is_eq (row_order (read_parts columns (spelled columns r)) r) && all_bytes (spelled columns r)
+unfoldable pub is_read_back : List KeyColumn → List Value → Bool
+is_read_back columns r = is_eq (row_order (read_parts columns (spelled columns r)) r) && are_all_bytes (spelled columns r)
 
 -- numbers that stand for a value
 abbrev pub value_code : Value → List ℕ
@@ -119,4 +119,4 @@ no_key r = 256 ∷ length r ∷ row_code r
 
 -- the key of the row with these primary key values
 unfoldable pub row_key : Table → List Value → List ℕ
-row_key t r = cond (is_key (row_columns t) r) (spelled (row_columns t) r) (no_key r)
+row_key t r = cond (is_read_back (row_columns t) r) (spelled (row_columns t) r) (no_key r)

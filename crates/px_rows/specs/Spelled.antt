@@ -19,7 +19,7 @@ use Rattle.px_tables.specs.declared.table.Table.{Table}
 use Rattle.px_trail.specs.Trail.{table_shape}
 use Rattle.px_world.specs.World.{read_at}
 use Rattle.px_rows.specs.Keys.{column_in, is_part, row_columns, row_key}
-use Rattle.px_rows.specs.Stored.{stored, value_of}
+use Rattle.px_rows.specs.Stored.{stored, value_of_bytes}
 
 -- 1. What is read
 
@@ -107,8 +107,8 @@ change_cells f Gone q DeleteColumn = None
 change_cells f Gone q DeleteFamily = family_of q
 
 -- the cells of a change: at the row's key, of its stamp
-abbrev pub cells_at : RowForm → List Value → ℕ → What → Contents
-cells_at f r s w k q u d = cond (pointwise nat_eq k (f.key_of r) && nat_eq s u) (change_cells f w q d) None
+abbrev pub change_contents : RowForm → List Value → ℕ → What → Contents
+change_contents f r s w k q u d = cond (pointwise nat_eq k (f.key_of r) && nat_eq s u) (change_cells f w q d) None
 
 -- 3. Which rows and changes fit
 
@@ -139,15 +139,15 @@ FitsTable t r w = Fits (row_columns t) r × FitsWhat t w
 -- 4. A table's rows
 
 -- column c has the bytes of its type
-abbrev pub table_form : Table → RowForm
-table_form t =
+abbrev pub row_spelling : Table → RowForm
+row_spelling t =
     record {
       shape = table_shape t;
       key_of = row_key t;
       encode = λ c v. stored (column_in t.columns c).column_type v;
-      decode = λ c bytes. value_of (column_in t.columns c).column_type bytes;
+      decode = λ c bytes. value_of_bytes (column_in t.columns c).column_type bytes;
     }
 
 -- the cells of a table's rows
 abbrev pub row_form : Table → DataForm
-row_form t = record { shape = table_shape t; key_of = row_key t; spelled = spelled_at (table_form t); cells_of = cells_at (table_form t); IsWhole = IsWholeRow (table_form t); Fits = FitsTable t }
+row_form t = record { shape = table_shape t; key_of = row_key t; spelled = spelled_at (row_spelling t); cells_of = change_contents (row_spelling t); IsWhole = IsWholeRow (row_spelling t); Fits = FitsTable t }

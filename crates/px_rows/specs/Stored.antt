@@ -15,9 +15,9 @@ stored Varchar v = text_bytes v
 stored ty v = bytes_high_first (byte_width ty) (rank ty v)
 
 -- the number of bytes that follow n, the highest first
-unfoldable pub number_of : ℕ → List ℕ → ℕ
-number_of n [] = n
-number_of n (b ∷ bytes) = number_of (n * 256 + b) bytes
+unfoldable pub number_of_bytes : ℕ → List ℕ → ℕ
+number_of_bytes n [] = n
+number_of_bytes n (b ∷ bytes) = number_of_bytes (n * 256 + b) bytes
 
 -- the value that lies this far above the least of its type
 abbrev pub ranked : ColType → ℕ → Value
@@ -25,6 +25,6 @@ ranked Boolean n = Truth (nat_eq n 1)
 ranked ty n = Number (pos n +ℤ least_of ty)
 
 -- the value that a cell's bytes are read as; no text is stored that isn't UTF-8
-abbrev pub value_of : ColType → List ℕ → Value
-value_of Varchar bytes = cond (is_utf8 bytes) (Text bytes) Null
-value_of ty bytes = ranked ty (number_of 0 (take (byte_width ty) bytes))
+abbrev pub value_of_bytes : ColType → List ℕ → Value
+value_of_bytes Varchar bytes = cond (is_utf8 bytes) (Text bytes) Null
+value_of_bytes ty bytes = ranked ty (number_of_bytes 0 (take (byte_width ty) bytes))

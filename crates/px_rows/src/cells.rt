@@ -6,9 +6,9 @@ ghost use Rattle.px_cells.specs.Order.{IsCellList};
 ghost use Rattle.px_values.specs.Limits.{most_key};
 ghost use Rattle.px_values.specs.Types.{HasType};
 ghost use Rattle.px_rows.specs.Keys.{IsRightTable, column_in, row_key};
-ghost use Rattle.px_rows.specs.Spelled.{FitsColumnOf, FitsTable, FitsWhat, assigned_to, cells_at, table_form};
+ghost use Rattle.px_rows.specs.Spelled.{FitsColumnOf, FitsTable, FitsWhat, assigned_to, change_contents, row_spelling};
 ghost use Rattle.px_rows.specs.inner.Found.{AreOf};
-ghost use Rattle.px_rows.specs.Cells.{column_cell};
+ghost use Rattle.px_rows.specs.Cells.{value_cell};
 ghost use Rattle.px_rows.specs.inner.Lists.{change_list, set_cells};
 ghost use Rattle.std.specs.Option.{option_copied};
 
@@ -33,7 +33,7 @@ pub fn cells_of(
 ) -> Result<Cells, RowFault>
     requires table { IsRightTable table.now }
     requires fits { FitsTable table.now change.now.row change.now.what }
-    ensures cells { IfOk result (λ cells. value_at cells ≡ cells_at (table_form table.now) change.now.row stamp change.now.what) }
+    ensures cells { IfOk result (λ cells. value_at cells ≡ change_contents (row_spelling table.now) change.now.row stamp change.now.what) }
     ensures list { IfOk result (λ cells. IsCellList cells) }
     ensures own { IfOk result (λ cells. AreOf (row_key table.now change.now.row) cells) }
     ensures too_long { result ≡ Err RowFault.KeyTooLong → most_key < length (row_key table.now change.now.row) }
@@ -115,7 +115,7 @@ pub fn column_cell(
     requires within { place < length columns.now }
     requires most { length columns.now ≤ 254 }
     requires has_type { HasType (column_in columns.now place).column_type value.now }
-    ensures { IfOk result (λ cell. cell ≡ column_cell columns.now key.now stamp place value.now) }
+    ensures { IfOk result (λ cell. cell ≡ value_cell columns.now key.now stamp place value.now) }
 {
     let qualifier = FIRST_COLUMN + place as u8;
     if let Value::Null = value {

@@ -7,7 +7,7 @@ ghost use Rattle.px_values.specs.States.{fresh_row};
 ghost use Rattle.px_values.specs.declared.row.Value.{Value as ValueData};
 ghost use Rattle.px_values.specs.declared.row.Value.TheVariants.{Null as NullValue};
 ghost use Rattle.px_rows.specs.Keys.{IsRightTable, row_key};
-ghost use Rattle.px_rows.specs.Spelled.{IsPlainAt, column_at, overlay, spelled_at, table_form};
+ghost use Rattle.px_rows.specs.Spelled.{IsPlainAt, column_at, overlay, row_spelling, spelled_at};
 ghost use Rattle.px_rows.specs.inner.Found.{AreOf, FindsNewest, FindsSeen, IsFamily, hidden_by, is_before as before_test};
 
 use crate::{EMPTY_COLUMN, FIRST_COLUMN, read_value};
@@ -30,7 +30,7 @@ pub fn row_at(
     requires list { IsCellList cells.now }
     requires own { AreOf (row_key table.now row.now) cells.now }
     requires plain { IsPlainAt (value_at cells.now) (row_key table.now row.now) }
-    ensures { IfOk result (λ state. state ≡ spelled_at (table_form table.now) (value_at cells.now) row.now point) }
+    ensures { IfOk result (λ state. state ≡ spelled_at (row_spelling table.now) (value_at cells.now) row.now point) }
 {
     let family = family_in(cells, point);
     if seen_in(cells, EMPTY_COLUMN, point, family).is_none() {
@@ -140,7 +140,7 @@ fn seen_over(
     requires most { length values.items ≤ 254 }
     requires same { length values.items ≡ length table.now.columns }
     requires list { IsCellList cells.now }
-    ensures { IfOk result (λ seen. (r : List ValueData) → AreOf (row_key table.now r) cells.now → IsPlainAt (value_at cells.now) (row_key table.now r) → IsFamily (value_at cells.now) (row_key table.now r) point family → seen.items ≡ overlay (column_at (table_form table.now) (value_at cells.now) r point) 0 values.items) }
+    ensures { IfOk result (λ seen. (r : List ValueData) → AreOf (row_key table.now r) cells.now → IsPlainAt (value_at cells.now) (row_key table.now r) → IsFamily (value_at cells.now) (row_key table.now r) point family → seen.items ≡ overlay (column_at (row_spelling table.now) (value_at cells.now) r point) 0 values.items) }
 {
     let columns = table.columns.as_slice();
     for place in 0..columns.len() {

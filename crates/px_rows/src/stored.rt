@@ -3,7 +3,7 @@ ghost use Rattle.std.specs.Prelude.{◌≡◌, ◌≢◌, ◌≤◌, ◌<◌, �
 ghost use Rattle.px_values.specs.Types.{HasType};
 ghost use Rattle.px_values.specs.declared.row.Value.TheVariants.{Null as NullValue};
 ghost use Rattle.px_keys.specs.Spelling.{byte_width};
-ghost use Rattle.px_rows.specs.Stored.{number_of, ranked, stored, value_of};
+ghost use Rattle.px_rows.specs.Stored.{number_of_bytes, ranked, stored, value_of_bytes};
 
 use px_keys::{KeyColumn, Part, spell_front};
 use px_values::{ColType, Direction, Text, Value};
@@ -28,7 +28,7 @@ pub fn stored_value(alloc: Global, ty: ColType, value: &Value) -> Result<Vec<u8>
 
 /// The value that the bytes of a cell of this type are read as.
 pub fn read_value(alloc: Global, ty: ColType, bytes: &[u8]) -> Result<Value, AllocError>
-    ensures { IfOk result (λ v. v ≡ value_of ty bytes.now) }
+    ensures { IfOk result (λ v. v ≡ value_of_bytes ty bytes.now) }
 {
     match ty.width() {
         Some(width) => Ok(value_above(ty, number(bytes, width))),
@@ -37,7 +37,7 @@ pub fn read_value(alloc: Global, ty: ColType, bytes: &[u8]) -> Result<Value, All
 }
 
 fn read_text(alloc: Global, bytes: &[u8]) -> Result<Value, AllocError>
-    ensures { IfOk result (λ v. v ≡ value_of ColType.Varchar bytes.now) }
+    ensures { IfOk result (λ v. v ≡ value_of_bytes ColType.Varchar bytes.now) }
 {
     match str::from_utf8(bytes) {
         Ok(text) => {
@@ -51,7 +51,7 @@ fn read_text(alloc: Global, bytes: &[u8]) -> Result<Value, AllocError>
 /// The number of the first bytes, the highest first.
 fn number(bytes: &[u8], width: usize) -> u64
     requires { width ≤ 8 }
-    ensures { result ≡ number_of 0 (take width bytes.now) }
+    ensures { result ≡ number_of_bytes 0 (take width bytes.now) }
 {
     let first = &bytes[..width.min(bytes.len())];
     let mut number: u64 = 0;

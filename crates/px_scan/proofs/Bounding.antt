@@ -19,7 +19,7 @@ use Rattle.px_scan.specs.declared.machine.Rest.{Rest}
 use Rattle.px_scan.specs.declared.machine.Scan.{Scan}
 use Rattle.px_scan.specs.Bounds.{AreSpending, HasFound, HaveFound, Spends, counted, counted_in, left_of, through}
 use Rattle.px_scan.specs.Chains.{Step, state_after}
-use Rattle.px_scan.specs.Turns.{IsNew}
+use Rattle.px_scan.specs.Turns.{IsQueryNew}
 
 through_some : (keys : List FoundKey) (next : Option (List ℕ)) → 1 ≤ through keys next
 through_some keys None = omega arith
@@ -126,7 +126,7 @@ bounded sound s (o ∷ os) h =
     let others = rest.2 in
     (h.0.keys + rest.0, (h.0.keys, rest.0, h.0.found, rest.1, refl), omega arith)
 
-pub at_most : (sound : Type 0) (s : QueryState) (os : List Step) → IsNew s → AreSpending sound s os
+pub at_most : (sound : Type 0) (s : QueryState) (os : List Step) → IsQueryNew s → AreSpending sound s os
     → (n : ℕ) × HaveFound sound s os n × (counted_in s os ≤ 3 + 3 * n)
 at_most sound (state.Opening rows) os new h =
     let most = bounded sound (state.Opening rows) os h in

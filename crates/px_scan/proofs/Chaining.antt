@@ -11,7 +11,7 @@ use Rattle.px_scan.specs.declared.machine.QueryState.TheVariants as state
 use Rattle.px_scan.specs.declared.machine.Rest.{Rest}
 use Rattle.px_scan.specs.declared.machine.Scan.{Scan}
 use Rattle.px_scan.specs.Turns.{AfterConsult, AfterFix, AfterWork}
-use Rattle.px_scan.specs.Chains.{Step, AreSteps, state_after, IsUnfaulted, AreUnfaulted, HasFix, IsSettled}
+use Rattle.px_scan.specs.Chains.{Step, AreSteps, state_after, IsUnfaulted, AreUnfaulted, HasFix, IsDoubtSettled}
 
 first : (d : Doubt) (o : Step) (os : List Step) (w : Fixing) → DidFix o.before o.after d w → HasFix d (o ∷ os)
 unfolding IsAmong
@@ -64,7 +64,7 @@ fixed_at_last sound q scn d (state.Fixing x r z) k (o ∷ os) t h u e =
 fixed_at_last sound q scn d (state.Settling x r z) k (o ∷ os) t h u e =
     later d z o os t (fixed_at_last sound q scn z o.state o.after os (works z o.state h.1.edge u.0) h.2 u.1 e)
 
-settles : (sound : Type 0) (q : Query) (scn : Option ℕ) (x : Scan) (d : Doubt) (o : Step) (os : List Step) (s : QueryState) → AfterConsult sound x d o.before s o.after → IsUnfaulted s → AreSteps sound q scn s o.after os → AreUnfaulted os → state_after s os ≡ state.Over → IsSettled sound x.point d (o ∷ os)
+settles : (sound : Type 0) (q : Query) (scn : Option ℕ) (x : Scan) (d : Doubt) (o : Step) (os : List Step) (s : QueryState) → AfterConsult sound x d o.before s o.after → IsUnfaulted s → AreSteps sound q scn s o.after os → AreUnfaulted os → state_after s os ≡ state.Over → IsDoubtSettled sound x.point d (o ∷ os)
 unfolding IsAmong
 settles sound q scn x d o os (state.Opening rows) h u rest v e = absurd h
 settles sound q scn x d o os (state.Looking y a) h u rest v e = absurd h
@@ -82,6 +82,6 @@ settles sound q scn x d o os (state.Closing y (Ok w)) h u rest v e = absurd h
 settles sound q scn x d o os (state.Closing y (Err f)) h u rest v e = absurd u
 settles sound q scn x d o os state.Over h u rest v e = absurd h
 
-pub settled : (sound : Type 0) (q : Query) (scn : Option ℕ) (x : Scan) (r : Rest) (d : Doubt) (k : Known) (os : List Step) → AreSteps sound q scn (state.Consulting x r d) k os → AreUnfaulted os → state_after (state.Consulting x r d) os ≡ state.Over → IsSettled sound x.point d os
+pub settled : (sound : Type 0) (q : Query) (scn : Option ℕ) (x : Scan) (r : Rest) (d : Doubt) (k : Known) (os : List Step) → AreSteps sound q scn (state.Consulting x r d) k os → AreUnfaulted os → state_after (state.Consulting x r d) os ≡ state.Over → IsDoubtSettled sound x.point d os
 settled sound q scn x r d k [] h u e = cc
 settled sound q scn x r d k (o ∷ os) h u e = settles sound q scn x d o os o.state h.1.edge u.0 h.2 u.1 e

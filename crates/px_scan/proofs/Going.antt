@@ -26,7 +26,7 @@ use Rattle.px_scan.specs.declared.machine.QueryState.TheVariants as state
 use Rattle.px_scan.specs.declared.machine.Rest.{Rest}
 use Rattle.px_scan.specs.declared.machine.Scan.{Scan}
 use Rattle.px_scan.specs.Faults.{IsJoined}
-use Rattle.px_scan.specs.Turns.{GoesOn, IsNext, IsReading, IsScanning, frame, frame_of, given_of}
+use Rattle.px_scan.specs.Turns.{GoesOn, IsNext, IsReadingAt, IsScanning, frame, frame_of, given_of}
 use Rattle.px_scan.proofs.Turning.{fewer-doubts, goes-ended, goes-failed, goes-looking}
 
 -- what was told of the rows as they are read is told of them
@@ -49,25 +49,25 @@ doubt-on f es at next keys rest key d rows h items is = subst (λ (k : FoundKey)
 pub none-on : (f : Frame) (es : List Entry) (at : ℕ) (next : Option (List ℕ)) (keys : List FoundKey) (rows : List Given) → Pending f es at keys next rows → keys ≡ [] → Pending f es at [] next rows
 none-on f es at next keys rows h items = subst (λ (l : List FoundKey). Pending f es at l next rows) items h
 
-pub ended-on : (sound : Type 0) (k : Known) (q : Query) (scn : Option ℕ) (p : Point) (path : Path) (rows : Vec Placed Global) (new : QueryState) → new ≡ state.Closing p (Ok rows) → IsReading k q scn p → IsPathFor q p path → (sound → Ended (frame_of q k p path) k.seen (given_of rows.items)) → GoesOn sound k q scn p new
+pub ended-on : (sound : Type 0) (k : Known) (q : Query) (scn : Option ℕ) (p : Point) (path : Path) (rows : Vec Placed Global) (new : QueryState) → new ≡ state.Closing p (Ok rows) → IsReadingAt k q scn p → IsPathFor q p path → (sound → Ended (frame_of q k p path) k.seen (given_of rows.items)) → GoesOn sound k q scn p new
 ended-on sound k q scn p path rows new is h c e = subst (λ (n : QueryState). GoesOn sound k q scn p n) (sym is) (goes-ended sound k q scn p path rows h c e)
 
 -- the path ended
-pub all-on : (sound : Type 0) (k : Known) (q : Query) (scn : Option ℕ) (x : Scan) (at : ℕ) (next : Option (List ℕ)) (new : QueryState) → new ≡ state.Closing x.point (Ok x.rows) → next ≡ None → IsReading k q scn x.point → IsPathFor q x.point x.path → (sound → Pending (frame q k x) k.seen at [] next (given_of x.rows.items)) → GoesOn sound k q scn x.point new
+pub all-on : (sound : Type 0) (k : Known) (q : Query) (scn : Option ℕ) (x : Scan) (at : ℕ) (next : Option (List ℕ)) (new : QueryState) → new ≡ state.Closing x.point (Ok x.rows) → next ≡ None → IsReadingAt k q scn x.point → IsPathFor q x.point x.path → (sound → Pending (frame q k x) k.seen at [] next (given_of x.rows.items)) → GoesOn sound k q scn x.point new
 all-on sound k q scn x at next new is none h path p =
     ended-on sound k q scn x.point x.path x.rows new is h path
     (λ is_sound. gathering.ended-all (frame q k x) k.seen (given_of x.rows.items)
     (subst (λ (n : Option (List ℕ)). Gathered (frame q k x) k.seen (is_covered n) (given_of x.rows.items)) none (gathering.pending-end (frame q k x) k.seen at next (given_of x.rows.items) (p is_sound))))
 
-pub full-on : (sound : Type 0) (k : Known) (q : Query) (scn : Option ℕ) (x : Scan) (at : ℕ) (next : Option (List ℕ)) (new : QueryState) → new ≡ state.Closing x.point (Ok x.rows) → is_full q.limit (length (given_of x.rows.items)) ≡ true → IsReading k q scn x.point → IsPathFor q x.point x.path → (sound → Pending (frame q k x) k.seen at [] next (given_of x.rows.items)) → GoesOn sound k q scn x.point new
+pub full-on : (sound : Type 0) (k : Known) (q : Query) (scn : Option ℕ) (x : Scan) (at : ℕ) (next : Option (List ℕ)) (new : QueryState) → new ≡ state.Closing x.point (Ok x.rows) → is_full q.limit (length (given_of x.rows.items)) ≡ true → IsReadingAt k q scn x.point → IsPathFor q x.point x.path → (sound → Pending (frame q k x) k.seen at [] next (given_of x.rows.items)) → GoesOn sound k q scn x.point new
 full-on sound k q scn x at next new is full h path p = ended-on sound k q scn x.point x.path x.rows new is h path (λ is_sound. gathering.pending-full (frame q k x) k.seen at [] next (given_of x.rows.items) (p is_sound) full)
 
-pub more-on : (sound : Type 0) (k : Known) (q : Query) (scn : Option ℕ) (x : Scan) (at : ℕ) (next : Option (List ℕ)) (last : List ℕ) → next ≡ Some last → IsReading k q scn x.point → IsPathFor q x.point x.path → (sound → Pending (frame q k x) k.seen at [] next (given_of x.rows.items)) → GoesOn sound k q scn x.point (state.Looking x (Some last))
+pub more-on : (sound : Type 0) (k : Known) (q : Query) (scn : Option ℕ) (x : Scan) (at : ℕ) (next : Option (List ℕ)) (last : List ℕ) → next ≡ Some last → IsReadingAt k q scn x.point → IsPathFor q x.point x.path → (sound → Pending (frame q k x) k.seen at [] next (given_of x.rows.items)) → GoesOn sound k q scn x.point (state.Looking x (Some last))
 more-on sound k q scn x at next last is h path p =
     goes-looking sound k q scn x (Some last) h path
     (λ is_sound. subst (λ (n : Option (List ℕ)). Gathered (frame q k x) k.seen (is_covered n) (given_of x.rows.items)) is (gathering.pending-end (frame q k x) k.seen at next (given_of x.rows.items) (p is_sound)))
 
-pub no-memory-on : (sound : Type 0) (k : Known) (q : Query) (scn : Option ℕ) (p : Point) (new : QueryState) → new ≡ state.Closing p (Err fault.Memory) → IsReading k q scn p → GoesOn sound k q scn p new
+pub no-memory-on : (sound : Type 0) (k : Known) (q : Query) (scn : Option ℕ) (p : Point) (new : QueryState) → new ≡ state.Closing p (Err fault.Memory) → IsReadingAt k q scn p → GoesOn sound k q scn p new
 no-memory-on sound k q scn p new is h = subst (λ (n : QueryState). GoesOn sound k q scn p n) (sym is) (goes-failed sound k q scn p fault.Memory h tt tt)
 
 pub next-ok : (p : Point) (rows : Vec Placed Global) (new : QueryState) → new ≡ state.Closing p (Ok rows) → IsNext new
@@ -77,12 +77,12 @@ pub next-err : (p : Point) (f : QueryFault) (new : QueryState) → new ≡ state
 next-err p f new is = subst IsNext (sym is) tt
 
 -- the path of a point that was just opened
-pub follows : (sound : Type 0) (k : Known) (q : Query) (scn : Option ℕ) (p : Point) (path : Path) (rows : Vec Placed Global) → rows.items ≡ [] → IsReading k q scn p → IsPathFor q p path → GoesOn sound k q scn p (state.Looking (record { point = p; path = path; rows = rows }) None)
+pub follows : (sound : Type 0) (k : Known) (q : Query) (scn : Option ℕ) (p : Point) (path : Path) (rows : Vec Placed Global) → rows.items ≡ [] → IsReadingAt k q scn p → IsPathFor q p path → GoesOn sound k q scn p (state.Looking (record { point = p; path = path; rows = rows }) None)
 follows sound k q scn p path rows none h c =
     goes-looking sound k q scn (record { point = p; path = path; rows = rows }) None h c
     (λ is_sound. subst (λ (l : List Placed). Gathered (frame_of q k p path) k.seen (up_to None) (given_of l)) (sym none) (gathering.gathered-none (frame_of q k p path) k.seen))
 
-pub joined-on : (sound : Type 0) (k : Known) (q : Query) (scn : Option ℕ) (p : Point) → IsReading k q scn p → q.joins p.found p.stamp ≡ true → GoesOn sound k q scn p (state.Closing p (Err fault.IndexJoin))
+pub joined-on : (sound : Type 0) (k : Known) (q : Query) (scn : Option ℕ) (p : Point) → IsReadingAt k q scn p → q.joins p.found p.stamp ≡ true → GoesOn sound k q scn p (state.Closing p (Err fault.IndexJoin))
 joined-on sound k q scn p h j =
     let is : IsJoined q k = record {
       found = p.found;

@@ -17,7 +17,7 @@ use Rattle.px_scan.specs.declared.machine.Rest.{Rest}
 use Rattle.px_scan.specs.declared.machine.Scan.{Scan}
 use Rattle.px_scan.specs.Chains.{Step, state_after}
 use Rattle.px_scan.specs.Looking.{AreLooking, HasFoundDoubts, HaveFoundDoubts, Looks, asked_by, doubts_in, looked_after, refused_in, to_look}
-use Rattle.px_scan.specs.Turns.{IsNew}
+use Rattle.px_scan.specs.Turns.{IsQueryNew}
 
 -- 1. Doubts that are left of a chunk
 
@@ -69,7 +69,7 @@ bounded sound m s (o ∷ os) h =
     let others = rest.2 in
     (h.0.doubts + rest.0, (h.0.doubts, rest.0, h.0.found, rest.1, refl), omega arith)
 
-pub at_most : (sound : Type 0) (m : ℕ) (s : QueryState) (os : List Step) → IsNew s → AreLooking sound m s os
+pub at_most : (sound : Type 0) (m : ℕ) (s : QueryState) (os : List Step) → IsQueryNew s → AreLooking sound m s os
     → (d : ℕ) × HaveFoundDoubts sound s os d × (looked_after m os ≤ m + 2 * d + refused_in s os)
 at_most sound m (state.Opening rows) os new h =
     let most = bounded sound m (state.Opening rows) os h in

@@ -26,7 +26,7 @@ use Rattle.px_calls.specs.Causes.{Refuses, fix_cause}
 use Rattle.px_calls.specs.Doubtful.{AreDoubtful, AreOthersDoubtful, AreStillDoubtful, IndexVersion, IsForRoom, version_of}
 use Rattle.px_calls.specs.Known.{Adds, Extends, Known, Sees}
 use Rattle.px_calls.specs.Looks.{IsRisingFrom, key_found, key_less}
-use Rattle.px_calls.specs.Requires.{IsOpen}
+use Rattle.px_calls.specs.Requires.{HasOpen}
 use Rattle.px_calls.proofs.Keys.{irreflexive, transitive}
 use Rattle.px_gather.specs.Query.{Query}
 use Rattle.px_scan.specs.declared.answer.Placed.{Placed}
@@ -38,7 +38,7 @@ use Rattle.px_scan.specs.declared.machine.Scan.{Scan}
 use Rattle.px_scan.specs.Chains.{AreSteps, AreUnfaulted, IsUnfaulted, Step, state_after}
 use Rattle.px_scan.specs.Faults.{is_busy}
 use Rattle.px_scan.specs.Fixes.{AreFixed, AreKeepingDoubts, AreRisingDoubts, HasDoubts, HasFixedEntry, IsDoubtful, IsDue, IsFixedBy, IsFixedLater, KeepsDoubts}
-use Rattle.px_scan.specs.Turns.{AfterFix, IsNew}
+use Rattle.px_scan.specs.Turns.{AfterFix, IsQueryNew}
 use Rattle.px_scan.proofs.Chaining.{IsToFix, works}
 
 -- 1. The doubts of a chunk
@@ -72,11 +72,11 @@ apart low keys h d among same =
     cc
 
 -- what is in doubt stays so
-pub still_doubtful : (k : Known) (f f' : Point → IndexVersion → Bool) (p : Point) (d : Doubt) (keys : List FoundKey) → AreStillDoubtful k f f' → IsOpen k p → IsDoubtful f p d keys → IsDoubtful f' p d keys
+pub still_doubtful : (k : Known) (f f' : Point → IndexVersion → Bool) (p : Point) (d : Doubt) (keys : List FoundKey) → AreStillDoubtful k f f' → HasOpen k p → IsDoubtful f p d keys → IsDoubtful f' p d keys
 still_doubtful k f f' p d keys stays is_open h = (stays p (version_of d) is_open h.0, (h.1.0, λ e among. stays p (version_of e) is_open (h.1.1 e among)))
 
 -- and at the keys behind a doubt that was fixed
-pub others_doubtful : (k : Known) (f f' : Point → IndexVersion → Bool) (p : Point) (d : Doubt) (keys : List FoundKey) → AreOthersDoubtful k d.key f f' → IsOpen k p → IsDoubtful f p d keys → AreRisingDoubts f' p (Some d.key) keys
+pub others_doubtful : (k : Known) (f f' : Point → IndexVersion → Bool) (p : Point) (d : Doubt) (keys : List FoundKey) → AreOthersDoubtful k d.key f f' → HasOpen k p → IsDoubtful f p d keys → AreRisingDoubts f' p (Some d.key) keys
 others_doubtful k f f' p d keys stays is_open h = (h.1.0, λ e among. stays p (version_of e) is_open (apart d.key keys h.1.0 e among) (h.1.1 e among))
 
 -- 2. What is in flight
@@ -178,8 +178,8 @@ fixed_by x rest d k (state.Closing p (Err f)) k' h = tt
 fixed_by x rest d k state.Over k' h = h
 
 -- a step that repaired a doubt, behind which the keys are gone through
-pub fixes_doubt : (k k' : Known) (f f' : Point → IndexVersion → Bool) (x : Scan) (rest : Rest) (d : Doubt) (w : Fixing) (new : QueryState) → k.alone ≡ true → IsOpen k x.point → DidFix k k' d w
-    → ((p : Point) → IsOpen k p → f p (version_of d) ≡ true → w ≢ fixing.Gone) → AreOthersDoubtful k d.key f f' → (AreRisingDoubts f' x.point (Some d.key) rest.keys.items → HasDoubts f' k' new) → KeepsDoubts (state.Fixing x rest d) k f new k' f'
+pub fixes_doubt : (k k' : Known) (f f' : Point → IndexVersion → Bool) (x : Scan) (rest : Rest) (d : Doubt) (w : Fixing) (new : QueryState) → k.alone ≡ true → HasOpen k x.point → DidFix k k' d w
+    → ((p : Point) → HasOpen k p → f p (version_of d) ≡ true → w ≢ fixing.Gone) → AreOthersDoubtful k d.key f f' → (AreRisingDoubts f' x.point (Some d.key) rest.keys.items → HasDoubts f' k' new) → KeepsDoubts (state.Fixing x rest d) k f new k' f'
 fixes_doubt k k' f f' x rest d w new alone is_open did there others goes = record {
   kept = λ h. goes (others_doubtful k f f' x.point d rest.keys.items others is_open h.0);
   fixed = λ h. fixed_by x rest d k new k' (fix_adds k k' d w alone did (there x.point is_open h.0.0) h.1);
@@ -218,7 +218,7 @@ room_sees k k' (step.Damaged file place) room h = absurd room
 room_sees k k' (step.Closed call) room h = absurd room
 room_sees k k' step.Memory room h = absurd room
 
-pub refused_doubt : (k k' : Known) (f f' : Point → IndexVersion → Bool) (x : Scan) (rest : Rest) (d : Doubt) (fault : StepFault) → k.alone ≡ true → IsOpen k x.point → is_busy fault ≡ true → Refuses fix_cause k k' fault
+pub refused_doubt : (k k' : Known) (f f' : Point → IndexVersion → Bool) (x : Scan) (rest : Rest) (d : Doubt) (fault : StepFault) → k.alone ≡ true → HasOpen k x.point → is_busy fault ≡ true → Refuses fix_cause k k' fault
     → (IsForRoom fault → AreStillDoubtful k f f') → KeepsDoubts (state.Fixing x rest d) k f (state.Settling x rest d) k' f'
 refused_doubt k k' f f' x rest d fault alone is_open busy refused stays =
     let room = busy_room fault busy in
@@ -228,7 +228,7 @@ refused_doubt k k' f f' x rest d fault alone is_open busy refused stays =
     }
 
 -- upkeep, after which the doubt is fixed or upkeep goes on
-pub settles_doubt : (k k' : Known) (f f' : Point → IndexVersion → Bool) (x : Scan) (rest : Rest) (d : Doubt) (w : Work) → k.alone ≡ true → IsOpen k x.point → DidWork k k' w → AreStillDoubtful k f f'
+pub settles_doubt : (k k' : Known) (f f' : Point → IndexVersion → Bool) (x : Scan) (rest : Rest) (d : Doubt) (w : Work) → k.alone ≡ true → HasOpen k x.point → DidWork k k' w → AreStillDoubtful k f f'
     → HasDoubts f k (state.Settling x rest d) → IsDoubtful f' x.point d rest.keys.items × IsDue k' d
 settles_doubt k k' f f' x rest d w alone is_open did stays h = (still_doubtful k f f' x.point d rest.keys.items stays is_open h.0, works_due k k' d w alone did h.1)
 
@@ -321,7 +321,7 @@ all_fixed sound q scn f s k (o ∷ os) w h a u e =
     let then = a.1.kept (moved f k o.before s a.0 w) in
     (one_later sound q scn o.doubtful s o.state o.after os then h.2 a.2 u.1 e, all_fixed sound q scn o.doubtful o.state o.after os then h.2 a.2 u.1 e)
 
-pub fixed_from_new : (sound : Type 0) (q : Query) (scn : Option ℕ) (f : Point → IndexVersion → Bool) (s : QueryState) (k : Known) (os : List Step) → IsNew s → AreSteps sound q scn s k os → AreKeepingDoubts k f s os → AreUnfaulted os → state_after s os ≡ state.Over → AreFixed s os
+pub fixed_from_new : (sound : Type 0) (q : Query) (scn : Option ℕ) (f : Point → IndexVersion → Bool) (s : QueryState) (k : Known) (os : List Step) → IsQueryNew s → AreSteps sound q scn s k os → AreKeepingDoubts k f s os → AreUnfaulted os → state_after s os ≡ state.Over → AreFixed s os
 fixed_from_new sound q scn f (state.Opening rows) k os new h a u e = all_fixed sound q scn f (state.Opening rows) k os tt h a u e
 fixed_from_new sound q scn f (state.Looking x c) k os new h a u e = absurd new
 fixed_from_new sound q scn f (state.Consulting x r d) k os new h a u e = absurd new

@@ -13,7 +13,7 @@ use Rattle.px_calls.specs.declared.query.Fixing.{Fixing}
 use Rattle.px_calls.specs.declared.query.Fixing.TheVariants as fixing
 use Rattle.px_calls.specs.declared.status.Work.{Work}
 use Rattle.px_calls.specs.declared.status.Work.TheVariants as work
-use Rattle.px_calls.specs.Known.{Adds, HasMade, Known, Passes, Ran, Sees, outline}
+use Rattle.px_calls.specs.Known.{Adds, HasMade, Known, Ran, Sees, TimePasses, outline}
 use Rattle.px_calls.specs.Causes.{Refuses, fix_cause, read_cause, upkeep_cause}
 use Rattle.px_calls.specs.Calls.{DidFix, DidWork, IsFound}
 use Rattle.px_calls.proofs.Runs.{acts_by-append, among-append, among-front, closing-grows, ran-adds, ran-made, ran-sees}
@@ -21,7 +21,7 @@ use Rattle.px_calls.proofs.Stays.{ran-since}
 use Rattle.px_gather.specs.Query.{Query}
 use Rattle.px_scan.specs.declared.answer.QueryFault.{QueryFault}
 use Rattle.px_scan.specs.declared.answer.QueryFault.TheVariants as fault
-use Rattle.px_scan.specs.Faults.{FaultIs, IsJoined, IsScanFault, MadeSince, QueryFaultIs, fault_of, is_busy}
+use Rattle.px_scan.specs.Faults.{FaultIs, IsJoined, IsScanFault, QueryFaultIs, QueryFaultSince, fault_of, is_busy}
 use Rattle.px_scan.specs.Turns.{Grown, Quiet}
 
 -- 1. Quiet calls
@@ -67,7 +67,7 @@ pub record Ends (q : Query) (k k' : Known) (f : StepFault) : Type 0 where
   pub ends : IsScanFault f
   pub quiet : Quiet k k'
   pub told : FaultIs q (fault_of f) k'
-  pub made : (m : ℕ) → m ≤ length k.seen → MadeSince m (fault_of f) k'
+  pub made : (m : ℕ) → m ≤ length k.seen → QueryFaultSince m (fault_of f) k'
 
 ends_missed : (q : Query) (k k' : Known) → ((call : ℕ) × Adds k k' (act.Missed call)) → Ends q k k' step.ReadFault
 ends_missed q k k' h = let m = missed k k' h.0 h.1 in record { ends = tt; quiet = m.quiet; told = (h.0, m.has); made = λ n le. (h.0, m.since n le) }
@@ -108,7 +108,7 @@ fix_busy k k' f h n = cc
 
 -- 3. What time leaves
 
-pub grown-passes : (k k' : Known) → Passes k k' → Grown k k'
+pub grown-passes : (k k' : Known) → TimePasses k k' → Grown k k'
 grown-passes k k' h = record { more = h.others; seen = h.seen; quiet = ap outline h.apart; seat = h.seat; base = h.base; damaged = h.damaged }
 
 pub grown-quiet : (k k' : Known) → Quiet k k' → Grown k k'
@@ -174,12 +174,12 @@ made_from n m a k le h =
     let e : acts_by k.seat (drop n k.seen) ≡ acts_by k.seat (take (m - n) (drop n k.seen)) ++ acts_by k.seat (drop m k.seen) = ap (acts_by k.seat) (sym cut) ∙ acts_by-append k.seat (take (m - n) (drop n k.seen)) (drop m k.seen) in
     subst (λ (l : List Act). IsAmong a l) (sym e) (among-append a (acts_by k.seat (take (m - n) (drop n k.seen))) (acts_by k.seat (drop m k.seen)) h)
 
-pub made-later : (m : ℕ) (f : QueryFault) (k k' : Known) → m ≤ length k.seen → Later k k' → MadeSince m f k → MadeSince m f k'
+pub made-later : (m : ℕ) (f : QueryFault) (k k' : Known) → m ≤ length k.seen → Later k k' → QueryFaultSince m f k → QueryFaultSince m f k'
 made-later m fault.ReadFault k k' le g j = (j.0, made_on m (act.Missed j.0) k k' le g j.1)
 made-later m fault.WriteFault k k' le g j = (j.0, made_on m (act.Shut j.0) k k' le g j.1)
 made-later m f k k' le g j = tt
 
-pub made-earlier : (n m : ℕ) (f : QueryFault) (k : Known) → n ≤ m → MadeSince m f k → MadeSince n f k
+pub made-earlier : (n m : ℕ) (f : QueryFault) (k : Known) → n ≤ m → QueryFaultSince m f k → QueryFaultSince n f k
 made-earlier n m fault.ReadFault k le j = (j.0, made_from n m (act.Missed j.0) k le j.1)
 made-earlier n m fault.WriteFault k le j = (j.0, made_from n m (act.Shut j.0) k le j.1)
 made-earlier n m f k le j = tt

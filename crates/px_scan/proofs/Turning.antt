@@ -27,18 +27,18 @@ use Rattle.px_calls.specs.declared.query.FoundKey.TheVariants.{InDoubt}
 use Rattle.px_calls.specs.declared.query.Held.{Held}
 use Rattle.px_calls.specs.declared.query.Path.{Path}
 use Rattle.px_calls.specs.declared.query.Point.{Point}
-use Rattle.px_calls.specs.Known.{Adds, Known, Passes, Sees, outline}
+use Rattle.px_calls.specs.Known.{Adds, Known, Sees, TimePasses, outline}
 use Rattle.px_calls.specs.Causes.{Refuses, open_cause, stamp_at}
 use Rattle.px_calls.specs.Calls.{DidConsult, DidFix, DidLook, DidOpen, IsFound}
 use Rattle.px_values.specs.Limits.{most_key}
 use Rattle.px_keys.specs.Reading.{IsKey}
 use Rattle.px_paths.specs.Paths.{columns_on}
-use Rattle.px_calls.specs.Looks.{AreDoubtsOf, IsDoubtOf, columns_by, index_columns}
-use Rattle.px_calls.specs.Requires.{CanConsult, CanReadBy, IsReadable, IsScn, index_in}
+use Rattle.px_calls.specs.Looks.{AreDoubtsOf, IsDoubtOf, columns_by, index_path_in}
+use Rattle.px_calls.specs.Requires.{CanConsult, CanReadBy, IsReadable, IsScn, index_of_found}
 use Rattle.px_calls.proofs.Points.{adds-opened, quiet-open}
 use Rattle.px_calls.proofs.Runs.{may-come, outline-append, ran-adds, ran-none, ran-sees, ran-then}
 use Rattle.px_calls.proofs.Stays.{drawn-stays, table-was}
-use Rattle.px_gather.specs.Answers.{IsPointOf}
+use Rattle.px_gather.specs.Answers.{IsPointOfQuery}
 use Rattle.px_gather.specs.Gathered.{Ended, Frame, Gathered, Pending, is_full, kept_held, up_to}
 use Rattle.px_gather.specs.Query.{IsPathFor, Query}
 use Rattle.px_gather.proofs.Answering.{answer-is}
@@ -52,8 +52,8 @@ use Rattle.px_scan.specs.declared.machine.QueryState.{QueryState}
 use Rattle.px_scan.specs.declared.machine.QueryState.TheVariants as state
 use Rattle.px_scan.specs.declared.machine.Rest.{Rest}
 use Rattle.px_scan.specs.declared.machine.Scan.{Scan}
-use Rattle.px_scan.specs.Faults.{FaultIs, MadeSince, QueryFaultIs}
-use Rattle.px_scan.specs.Turns.{AfterFix, AfterLook, Edge, Fits, GoesOn, Grown, IsBound, IsNew, IsNext, IsOutcome, IsReading, IsScanning, IsSince, QueryTurns, Quiet, RanQuery, SoFar, frame, frame_of, given_of, opened, opening, point_acts, table_number}
+use Rattle.px_scan.specs.Faults.{FaultIs, QueryFaultIs, QueryFaultSince}
+use Rattle.px_scan.specs.Turns.{AfterFix, AfterLook, FitsScan, GoesOn, Grown, IsBound, IsNext, IsQueryNew, IsQueryOutcome, IsQuerySince, IsReadingAt, IsScanning, QueryEdge, QuerySoFar, QueryTurns, Quiet, RanQuery, frame, frame_of, given_of, opened_by_query, opening, point_acts, queried_table}
 use Rattle.px_scan.proofs.Quieting.{Later, fault_in, grown-passes, grown-quiet, later-fault, later-grown, later-ran, longer, made-earlier, made-later, quiet-sees}
 
 -- 1. What time leaves
@@ -73,7 +73,7 @@ later-pending q p path k k' n keys next rows g h = moved (λ f es. Pending f es 
 pub later-ended : (q : Query) (p : Point) (path : Path) (k k' : Known) (rows : List Given) → Later k k' → Ended (frame_of q k p path) k.seen rows → Ended (frame_of q k' p path) k'.seen rows
 later-ended q p path k k' rows g h = moved (λ f es. Ended f es rows) q p path k k' (λ es more. gathering.ended-grows (frame_of q k p path) es more rows) g h
 
-point-grows : (b : Base) (es more : List Entry) (q : Query) (scn : Option ℕ) (p : Point) → IsPointOf b es q scn p → IsPointOf b (es ++ more) q scn p
+point-grows : (b : Base) (es more : List Entry) (q : Query) (scn : Option ℕ) (p : Point) → IsPointOfQuery b es q scn p → IsPointOfQuery b (es ++ more) q scn p
 point-grows b es more q scn p h =
     let at : ℕ = p.found.at in
     let same : take at es ≡ take at (es ++ more) = sym (take-append-le at es more h.within) in
@@ -89,11 +89,11 @@ point-grows b es more q scn p h =
       found_table = h.found_table;
     }
 
-pub later-point : (k k' : Known) (q : Query) (scn : Option ℕ) (p : Point) → Later k k' → IsPointOf k.base k.seen q scn p → IsPointOf k'.base k'.seen q scn p
+pub later-point : (k k' : Known) (q : Query) (scn : Option ℕ) (p : Point) → Later k k' → IsPointOfQuery k.base k.seen q scn p → IsPointOfQuery k'.base k'.seen q scn p
 later-point k k' q scn p g h =
-    subst (λ (c : Base). IsPointOf c k'.seen q scn p) (sym g.base) (subst (λ (l : List Entry). IsPointOf k.base l q scn p) (sym g.seen) (point-grows k.base k.seen g.more q scn p h))
+    subst (λ (c : Base). IsPointOfQuery c k'.seen q scn p) (sym g.base) (subst (λ (l : List Entry). IsPointOfQuery k.base l q scn p) (sym g.seen) (point-grows k.base k.seen g.more q scn p h))
 
-pub grown-reading : (k k' : Known) (q : Query) (scn : Option ℕ) (p : Point) → Grown k k' → IsReading k q scn p → IsReading k' q scn p
+pub grown-reading : (k k' : Known) (q : Query) (scn : Option ℕ) (p : Point) → Grown k k' → IsReadingAt k q scn p → IsReadingAt k' q scn p
 grown-reading k k' q scn p g h = record { is_open = quiet-open k k' g.more p g.seen g.quiet g.seat h.is_open; point = later-point k k' q scn p (later-grown k k' g) h.point }
 
 pub grown-scanning : (sound : Type 0) (k k' : Known) (q : Query) (scn : Option ℕ) (x : Scan) (keys : List FoundKey) (next : Option (List ℕ)) (at : ℕ) → Grown k k' → IsScanning sound k q scn x keys next at → IsScanning sound k' q scn x keys next at
@@ -110,7 +110,7 @@ bound-stays k k' q g legal h =
       is = λ x now. h.is x (table-was k.base q.table k.seen g.more x l h.drawn (sym tables ∙ now));
     }
 
-pub fits-kept : (sound : Type 0) (q : Query) (scn : Option ℕ) (s : QueryState) (k k' : Known) → Passes k k' → Fits sound q scn s k → Fits sound q scn s k'
+pub fits-kept : (sound : Type 0) (q : Query) (scn : Option ℕ) (s : QueryState) (k k' : Known) → TimePasses k k' → FitsScan sound q scn s k → FitsScan sound q scn s k'
 fits-kept sound q scn (state.Opening rows) k k' h f = (f.0, bound-stays k k' q (later-grown k k' (grown-passes k k' h)) h.legal f.1, f.2)
 fits-kept sound q scn (state.Looking x a) k k' h f = let g = grown-passes k k' h in (grown-reading k k' q scn x.point g f.0, f.1, λ is_sound. later-gathered q x.point x.path k k' (up_to a) (given_of x.rows.items) (later-grown k k' g) (f.2 is_sound))
 fits-kept sound q scn (state.Consulting x r d) k k' h f = (grown-scanning sound k k' q scn x (InDoubt d ∷ r.keys.items) r.next r.at (grown-passes k k' h) f.0, f.1)
@@ -125,7 +125,7 @@ fits-kept sound q scn state.Over k k' h f = tt
 
 -- 2. States that go on from a point
 
-pub goes-looking : (sound : Type 0) (k : Known) (q : Query) (scn : Option ℕ) (x : Scan) (a : Option (List ℕ)) → IsReading k q scn x.point → IsPathFor q x.point x.path → (sound → Gathered (frame q k x) k.seen (up_to a) (given_of x.rows.items)) → GoesOn sound k q scn x.point (state.Looking x a)
+pub goes-looking : (sound : Type 0) (k : Known) (q : Query) (scn : Option ℕ) (x : Scan) (a : Option (List ℕ)) → IsReadingAt k q scn x.point → IsPathFor q x.point x.path → (sound → Gathered (frame q k x) k.seen (up_to a) (given_of x.rows.items)) → GoesOn sound k q scn x.point (state.Looking x a)
 goes-looking sound k q scn x a h path c = record { fits = (h, path, c); going = tt; opened_is = refl; since = λ n le. le }
 
 pub goes-consulting : (sound : Type 0) (k : Known) (q : Query) (scn : Option ℕ) (x : Scan) (r : Rest) (d : Doubt) → IsScanning sound k q scn x (InDoubt d ∷ r.keys.items) r.next r.at → (sound → is_full q.limit (length (given_of x.rows.items)) ≡ false) → GoesOn sound k q scn x.point (state.Consulting x r d)
@@ -137,14 +137,14 @@ goes-fixing sound k q scn x r d h v = record { fits = (h, v); going = tt; opened
 pub goes-settling : (sound : Type 0) (k : Known) (q : Query) (scn : Option ℕ) (x : Scan) (r : Rest) (d : Doubt) → IsScanning sound k q scn x r.keys.items r.next r.at → IsSome d.verdict → GoesOn sound k q scn x.point (state.Settling x r d)
 goes-settling sound k q scn x r d h v = record { fits = (h, v); going = tt; opened_is = refl; since = λ n le. le }
 
-pub goes-ended : (sound : Type 0) (k : Known) (q : Query) (scn : Option ℕ) (p : Point) (path : Path) (rows : Vec Placed Global) → IsReading k q scn p → IsPathFor q p path → (sound → Ended (frame_of q k p path) k.seen (given_of rows.items)) → GoesOn sound k q scn p (state.Closing p (Ok rows))
+pub goes-ended : (sound : Type 0) (k : Known) (q : Query) (scn : Option ℕ) (p : Point) (path : Path) (rows : Vec Placed Global) → IsReadingAt k q scn p → IsPathFor q p path → (sound → Ended (frame_of q k p path) k.seen (given_of rows.items)) → GoesOn sound k q scn p (state.Closing p (Ok rows))
 goes-ended sound k q scn p path rows h c e = record { fits = (h, (path, c, e)); going = tt; opened_is = refl; since = λ n le. le }
 
-pub goes-failed : (sound : Type 0) (k : Known) (q : Query) (scn : Option ℕ) (p : Point) (f : QueryFault) → IsReading k q scn p → FaultIs q f k → MadeSince p.found.at f k → GoesOn sound k q scn p (state.Closing p (Err f))
+pub goes-failed : (sound : Type 0) (k : Known) (q : Query) (scn : Option ℕ) (p : Point) (f : QueryFault) → IsReadingAt k q scn p → FaultIs q f k → QueryFaultSince p.found.at f k → GoesOn sound k q scn p (state.Closing p (Err f))
 goes-failed sound k q scn p f h told made = record { fits = (h, (told, made)); going = tt; opened_is = refl; since = λ n le. le }
 
 -- a step that went on from a point
-pub steps : (sound : Type 0) (k k' : Known) (q : Query) (scn : Option ℕ) (p : Point) (old new : QueryState) → Quiet k k' → opened old ≡ opening p → ((n : ℕ) → IsSince n old k → n ≤ p.found.at) → GoesOn sound k' q scn p new → Edge sound old k new k' → QueryTurns sound q scn old k new k' turn.Stepped
+pub steps : (sound : Type 0) (k k' : Known) (q : Query) (scn : Option ℕ) (p : Point) (old new : QueryState) → Quiet k k' → opened_by_query old ≡ opening p → ((n : ℕ) → IsQuerySince n old k → n ≤ p.found.at) → GoesOn sound k' q scn p new → QueryEdge sound old k new k' → QueryTurns sound q scn old k new k' turn.Stepped
 steps sound k k' q scn p old new h was since g edge = record {
   acts = h.acts;
   ran = h.ran;
@@ -155,14 +155,14 @@ steps sound k k' q scn p old new h was since g edge = record {
 }
 
 -- a step that ended the scan with a fault
-pub fails : (sound : Type 0) (k k' : Known) (q : Query) (scn : Option ℕ) (p : Point) (old new : QueryState) (f : QueryFault) → new ≡ state.Closing p (Err f) → IsReading k q scn p → opened old ≡ opening p → ((n : ℕ) → IsSince n old k → n ≤ p.found.at) → Quiet k k' → FaultIs q f k' → MadeSince p.found.at f k' → Edge sound old k (state.Closing p (Err f)) k' → QueryTurns sound q scn old k new k' turn.Stepped
+pub fails : (sound : Type 0) (k k' : Known) (q : Query) (scn : Option ℕ) (p : Point) (old new : QueryState) (f : QueryFault) → new ≡ state.Closing p (Err f) → IsReadingAt k q scn p → opened_by_query old ≡ opening p → ((n : ℕ) → IsQuerySince n old k → n ≤ p.found.at) → Quiet k k' → FaultIs q f k' → QueryFaultSince p.found.at f k' → QueryEdge sound old k (state.Closing p (Err f)) k' → QueryTurns sound q scn old k new k' turn.Stepped
 fails sound k k' q scn p old new f is h was since quiet told made edge =
     subst (λ (n : QueryState). QueryTurns sound q scn old k n k' turn.Stepped) (sym is)
     (steps sound k k' q scn p old (state.Closing p (Err f)) quiet was since (goes-failed sound k' q scn p f (grown-reading k k' q scn p (grown-quiet k k' quiet) h) told made) edge)
 
 -- 3. Looks and doubts
 
-pub looked : (sound : Type 0) (k k' : Known) (q : Query) (scn : Option ℕ) (x : Scan) (a : Option (List ℕ)) (c : Chunk) → Fits sound q scn (state.Looking x a) k → DidLook sound k k' x.point x.path a c → IsScanning sound k' q scn x c.found c.next c.at
+pub looked : (sound : Type 0) (k k' : Known) (q : Query) (scn : Option ℕ) (x : Scan) (a : Option (List ℕ)) (c : Chunk) → FitsScan sound q scn (state.Looking x a) k → DidLook sound k k' x.point x.path a c → IsScanning sound k' q scn x c.found c.next c.at
 looked sound k k' q scn x a c h l =
     let p = l.finds.sees.passes in
     let rows : List Given = given_of x.rows.items in
@@ -183,12 +183,12 @@ pub can-consult : (sound : Type 0) (k : Known) (q : Query) (scn : Option ℕ) (x
 can-consult sound k q scn x keys next at d h =
     let right : IsDoubtOf x.point.found x.path.by d = h.doubts d (gathering.here (InDoubt d) keys) in
     let can : CanReadBy x.point (by.Index d.index) = subst (CanReadBy x.point) right.0 h.path.can in
-    let i = readable x.point d (index_in x.point.found d.index.0) can in
+    let i = readable x.point d (index_of_found x.point.found d.index.0) can in
     record {
       index = i.0;
       is = i.1;
       key =
-          subst (λ (o : Option Index). IsKey most_key (columns_on (index_columns x.point.found o)) d.key) i.1
+          subst (λ (o : Option Index). IsKey most_key (columns_on (index_path_in x.point.found o)) d.key) i.1
           (subst (λ (b : By). IsKey most_key (columns_on (columns_by x.point.found b)) d.key) right.0 right.1);
     }
 
@@ -198,13 +198,13 @@ unfolding IsAmong
 fewer-doubts f w key keys h d among = h d (inr among)
 
 -- the doubt's row is taken, where it was held
-pub consulted : (sound : Type 0) (k k' : Known) (q : Query) (scn : Option ℕ) (x y : Scan) (r : Rest) (d d' : Doubt) (ho : Option Held) → y.point ≡ x.point → y.path ≡ x.path → Fits sound q scn (state.Consulting x r d) k → DidConsult sound k k' x.point d d' ho → given_of y.rows.items ≡ given_of x.rows.items ++ kept_held q ho → IsScanning sound k' q scn y r.keys.items r.next r.at
+pub consulted : (sound : Type 0) (k k' : Known) (q : Query) (scn : Option ℕ) (x y : Scan) (r : Rest) (d d' : Doubt) (ho : Option Held) → y.point ≡ x.point → y.path ≡ x.path → FitsScan sound q scn (state.Consulting x r d) k → DidConsult sound k k' x.point d d' ho → given_of y.rows.items ≡ given_of x.rows.items ++ kept_held q ho → IsScanning sound k' q scn y r.keys.items r.next r.at
 consulted sound k k' q scn x y r d d' ho point path h l rows =
     let s = grown-scanning sound k k' q scn x (InDoubt d ∷ r.keys.items) r.next r.at (grown-passes k k' l.finds.sees.passes) h.0 in
     let one : sound → Pending (frame q k' x) k'.seen r.at r.keys.items r.next (given_of x.rows.items ++ kept_held q ho) = λ is_sound. gathering.pending-doubt (frame q k' x) k' r.at d r.keys.items r.next (given_of x.rows.items) ho refl (h.1 is_sound) (s.pending is_sound) (l.held is_sound) in
     let two : sound → Pending (frame q k' x) k'.seen r.at r.keys.items r.next (given_of y.rows.items) = λ is_sound. subst (λ (g : List Given). Pending (frame q k' x) k'.seen r.at r.keys.items r.next g) (sym rows) (one is_sound) in
     record {
-      reading = subst (IsReading k' q scn) (sym point) s.reading;
+      reading = subst (IsReadingAt k' q scn) (sym point) s.reading;
       path = subst (λ (p : Point). IsPathFor q p y.path) (sym point) (subst (IsPathFor q x.point) (sym path) s.path);
       doubts = subst (λ (p : Point). AreDoubtsOf p.found y.path.by r.keys.items) (sym point) (subst (λ (w : Path). AreDoubtsOf x.point.found w.by r.keys.items) (sym path) (fewer-doubts x.point.found x.path.by (InDoubt d) r.keys.items s.doubts));
       pending = λ is_sound.
@@ -212,7 +212,7 @@ consulted sound k k' q scn x y r d d' ho point path h l rows =
           (subst (λ (w : Path). Pending (frame_of q k' x.point w) k'.seen r.at r.keys.items r.next (given_of y.rows.items)) (sym path) (two is_sound));
     }
 
-pub consults : (sound : Type 0) (k k' : Known) (q : Query) (scn : Option ℕ) (x y : Scan) (r : Rest) (d d' : Doubt) (ho : Option Held) → y.point ≡ x.point → y.path ≡ x.path → Fits sound q scn (state.Consulting x r d) k → DidConsult sound k k' x.point d d' ho → given_of y.rows.items ≡ given_of x.rows.items ++ kept_held q ho
+pub consults : (sound : Type 0) (k k' : Known) (q : Query) (scn : Option ℕ) (x y : Scan) (r : Rest) (d d' : Doubt) (ho : Option Held) → y.point ≡ x.point → y.path ≡ x.path → FitsScan sound q scn (state.Consulting x r d) k → DidConsult sound k k' x.point d d' ho → given_of y.rows.items ≡ given_of x.rows.items ++ kept_held q ho
     → QueryTurns sound q scn (state.Consulting x r d) k (state.Fixing y r d') k' turn.Stepped
 consults sound k k' q scn x y r d d' ho point path h l rows =
     steps sound k k' q scn y.point (state.Consulting x r d) (state.Fixing y r d') (quiet-sees k k' l.finds.sees) (ap opening (sym point)) (λ n le. subst (λ (p : Point). n ≤ p.found.at) (sym point) le)
@@ -242,8 +242,8 @@ after-fix d k k' w state.Over n h = absurd n
 pub no-memory : (q : Query) (f : QueryFault) (k : Known) → f ≡ fault.Memory → FaultIs q f k
 no-memory q f k is = subst (λ (g : QueryFault). FaultIs q g k) (sym is) tt
 
-pub no-memory-made : (m : ℕ) (f : QueryFault) (k : Known) → f ≡ fault.Memory → MadeSince m f k
-no-memory-made m f k is = subst (λ (g : QueryFault). MadeSince m g k) (sym is) tt
+pub no-memory-made : (m : ℕ) (f : QueryFault) (k : Known) → f ≡ fault.Memory → QueryFaultSince m f k
+no-memory-made m f k is = subst (λ (g : QueryFault). QueryFaultSince m g k) (sym is) tt
 
 -- 4. The opening
 
@@ -253,7 +253,7 @@ same_last t l s t' scn = refl
 same_horizon : (t h s : ℕ) (t' : TableId) (scn : Bool) → horizon_step t h (act.Opened t' s scn) ≡ h
 same_horizon t h s t' scn = refl
 
-pub opened-point : (k k' : Known) (q : Query) (t : TableId) (scn : Option ℕ) (p : Point) → t.0 ≡ q.table → DidOpen k k' t scn p → IsPointOf k'.base k'.seen q scn p
+pub opened-point : (k k' : Known) (q : Query) (t : TableId) (scn : Option ℕ) (p : Point) → t.0 ≡ q.table → DidOpen k k' t scn p → IsPointOfQuery k'.base k'.seen q scn p
 unfolding Follows
 opened-point k k' q t scn p number d =
     let at : p.found.at ≡ length k'.seen = d.found.at in
@@ -282,7 +282,7 @@ opened-point k k' q t scn p number d =
       found_table = d.found_table ∙ sym d.table;
     }
 
-pub opened-reading : (k k' : Known) (q : Query) (t : TableId) (scn : Option ℕ) (p : Point) → t.0 ≡ q.table → DidOpen k k' t scn p → IsReading k' q scn p
+pub opened-reading : (k k' : Known) (q : Query) (t : TableId) (scn : Option ℕ) (p : Point) → t.0 ≡ q.table → DidOpen k k' t scn p → IsReadingAt k' q scn p
 opened-reading k k' q t scn p number d = record {
   is_open = adds-opened k k' p p.scn (subst (λ (u : TableId). Adds k k' (act.Opened u p.stamp p.scn)) (sym d.table) d.adds);
   point = opened-point k k' q t scn p number d;
@@ -306,7 +306,7 @@ opens sound k k' q scn t rows p new number d g =
       edge = tt;
     }
 
-pub unopened : (sound : Type 0) (k k' : Known) (q : Query) (scn : Option ℕ) (rows : Vec Placed Global) (f : QueryFault) → QueryFaultIs q scn f k' → Sees k k' → ((n : ℕ) → MadeSince n f k') → QueryTurns sound q scn (state.Opening rows) k state.Over k' (turn.Over (Err f))
+pub unopened : (sound : Type 0) (k k' : Known) (q : Query) (scn : Option ℕ) (rows : Vec Placed Global) (f : QueryFault) → QueryFaultIs q scn f k' → Sees k k' → ((n : ℕ) → QueryFaultSince n f k') → QueryTurns sound q scn (state.Opening rows) k state.Over k' (turn.Over (Err f))
 unopened sound k k' q scn rows f told h made = record {
   acts = [];
   ran = ran-sees k k' h;
@@ -316,7 +316,7 @@ unopened sound k k' q scn rows f told h made = record {
   edge = tt;
 }
 
-pub awaits : (sound : Type 0) (k k' : Known) (q : Query) (scn : Option ℕ) (t : TableId) (rows : Vec Placed Global) (stamp : ℕ) → t.0 ≡ q.table → Fits sound q scn (state.Opening rows) k → Refuses (open_cause t.0 scn) k k' (step.NotYet stamp) → QueryTurns sound q scn (state.Opening rows) k (state.Opening rows) k' (turn.Waiting stamp)
+pub awaits : (sound : Type 0) (k k' : Known) (q : Query) (scn : Option ℕ) (t : TableId) (rows : Vec Placed Global) (stamp : ℕ) → t.0 ≡ q.table → FitsScan sound q scn (state.Opening rows) k → Refuses (open_cause t.0 scn) k k' (step.NotYet stamp) → QueryTurns sound q scn (state.Opening rows) k (state.Opening rows) k' (turn.Waiting stamp)
 awaits sound k k' q None t rows stamp number f h = absurd h.0
 awaits sound k k' q (Some scn) t rows stamp number f h =
     let s = h.1 in
@@ -348,19 +348,19 @@ open-memory k k' q t (Some scn) j = (tt, j.1)
 
 -- 5. The closing
 
-acts_are : (b : Base) (es : List Entry) (q : Query) (scn : Option ℕ) (p : Point) → IsPointOf b es q scn p → act.Opened p.table p.stamp p.scn ∷ act.Released p.table p.stamp ∷ [] ≡ point_acts b es q scn p.found.at
+acts_are : (b : Base) (es : List Entry) (q : Query) (scn : Option ℕ) (p : Point) → IsPointOfQuery b es q scn p → act.Opened p.table p.stamp p.scn ∷ act.Released p.table p.stamp ∷ [] ≡ point_acts b es q scn p.found.at
 acts_are b es q scn p h =
-    let number : p.table ≡ table_number q = ap (λ (n : ℕ). record { 0 = n }) h.table in
+    let number : p.table ≡ queried_table q = ap (λ (n : ℕ). record { 0 = n }) h.table in
     ap (λ (t : TableId). act.Opened t p.stamp p.scn ∷ act.Released t p.stamp ∷ []) number
-    ∙ (ap (λ (f : Bool). act.Opened (table_number q) p.stamp f ∷ act.Released (table_number q) p.stamp ∷ []) h.is_scn
-    ∙ ap (λ (s : ℕ). act.Opened (table_number q) s (is_some scn) ∷ act.Released (table_number q) s ∷ []) h.stamp)
+    ∙ (ap (λ (f : Bool). act.Opened (queried_table q) p.stamp f ∷ act.Released (queried_table q) p.stamp ∷ []) h.is_scn
+    ∙ ap (λ (s : ℕ). act.Opened (queried_table q) s (is_some scn) ∷ act.Released (queried_table q) s ∷ []) h.stamp)
 
-pub closes-ok : (sound : Type 0) (k k' : Known) (q : Query) (scn : Option ℕ) (p : Point) (rows : Vec Placed Global) (a : Answer) → Fits sound q scn (state.Closing p (Ok rows)) k → Adds k k' (act.Released p.table p.stamp)
+pub closes-ok : (sound : Type 0) (k k' : Known) (q : Query) (scn : Option ℕ) (p : Point) (rows : Vec Placed Global) (a : Answer) → FitsScan sound q scn (state.Closing p (Ok rows)) k → Adds k k' (act.Released p.table p.stamp)
     → a.rows ≡ rows → a.first ≡ p.found.at → a.last ≡ length k'.seen → QueryTurns sound q scn (state.Closing p (Ok rows)) k state.Over k' (turn.Over (Ok a))
 closes-ok sound k k' q scn p rows a h adds same first last =
     let ran = ran-adds k k' (act.Released p.table p.stamp) adds in
     let l = later-ran k k' _ ran in
-    let point : IsPointOf k'.base k'.seen q scn p = later-point k k' q scn p l h.0.point in
+    let point : IsPointOfQuery k'.base k'.seen q scn p = later-point k k' q scn p l h.0.point in
     let path : Path = h.1.0 in
     let ended : sound → Ended (frame_of q k' p path) k'.seen (given_of rows.items) = λ is_sound. later-ended q p path k k' (given_of rows.items) l (h.1.2 is_sound) in
     let mine : sound → Ended (frame_of q k' p path) k'.seen (given_of a.rows.items) = λ is_sound. subst (λ (v : Vec Placed Global). Ended (frame_of q k' p path) k'.seen (given_of v.items)) (sym same) (ended is_sound) in
@@ -389,11 +389,11 @@ closes-ok sound k k' q scn p rows a h adds same first last =
       edge = tt;
     }
 
-pub closes-err : (sound : Type 0) (k k' : Known) (q : Query) (scn : Option ℕ) (p : Point) (f : QueryFault) → Fits sound q scn (state.Closing p (Err f)) k → Adds k k' (act.Released p.table p.stamp) → QueryTurns sound q scn (state.Closing p (Err f)) k state.Over k' (turn.Over (Err f))
+pub closes-err : (sound : Type 0) (k k' : Known) (q : Query) (scn : Option ℕ) (p : Point) (f : QueryFault) → FitsScan sound q scn (state.Closing p (Err f)) k → Adds k k' (act.Released p.table p.stamp) → QueryTurns sound q scn (state.Closing p (Err f)) k state.Over k' (turn.Over (Err f))
 closes-err sound k k' q scn p f h adds =
     let ran = ran-adds k k' (act.Released p.table p.stamp) adds in
     let l = later-ran k k' _ ran in
-    let number : p.table ≡ table_number q = ap (λ (n : ℕ). record { 0 = n }) h.0.point.table in
+    let number : p.table ≡ queried_table q = ap (λ (n : ℕ). record { 0 = n }) h.0.point.table in
     record {
       acts = act.Released p.table p.stamp ∷ [];
       ran = ran;
@@ -408,7 +408,7 @@ closes-err sound k k' q scn p f h adds =
 
 -- 6. A whole query
 
-pub starts : (sound : Type 0) (q : Query) (scn : Option ℕ) (s : QueryState) (k : Known) → IsNew s → IsBound k q → IsScn scn → SoFar sound q scn k k s
+pub starts : (sound : Type 0) (q : Query) (scn : Option ℕ) (s : QueryState) (k : Known) → IsQueryNew s → IsBound k q → IsScn scn → QuerySoFar sound q scn k k s
 starts sound q scn (state.Opening rows) k h b c = record { acts = []; ran = ran-none k; so_far = refl; fits = (h, b, c); going = tt; since = omega arith }
 starts sound q scn (state.Looking x a) k h b c = absurd h
 starts sound q scn (state.Consulting x r d) k h b c = absurd h
@@ -417,10 +417,10 @@ starts sound q scn (state.Settling x r d) k h b c = absurd h
 starts sound q scn (state.Closing p end) k h b c = absurd h
 starts sound q scn state.Over k h b c = absurd h
 
-joined : (old : QueryState) (xs ys : List Act) → outline xs ≡ opened old → outline (xs ++ ys) ≡ opened old ++ outline ys
+joined : (old : QueryState) (xs ys : List Act) → outline xs ≡ opened_by_query old → outline (xs ++ ys) ≡ opened_by_query old ++ outline ys
 joined old xs ys h = outline-append xs ys ∙ ap (λ (l : List Act). l ++ outline ys) h
 
-pub steps_on : (sound : Type 0) (q : Query) (scn : Option ℕ) (k0 k k' : Known) (old new : QueryState) → SoFar sound q scn k0 k old → QueryTurns sound q scn old k new k' turn.Stepped → SoFar sound q scn k0 k' new
+pub steps_on : (sound : Type 0) (q : Query) (scn : Option ℕ) (k0 k k' : Known) (old new : QueryState) → QuerySoFar sound q scn k0 k old → QueryTurns sound q scn old k new k' turn.Stepped → QuerySoFar sound q scn k0 k' new
 steps_on sound q scn k0 k k' old new h t = record {
   acts = h.acts ++ t.acts;
   ran = ran-then k0 k k' h.acts t.acts h.ran t.ran;
@@ -430,7 +430,7 @@ steps_on sound q scn k0 k k' old new h t = record {
   since = t.since (length k0.seen) h.since;
 }
 
-pub waits_on : (sound : Type 0) (q : Query) (scn : Option ℕ) (k0 k k' : Known) (old new : QueryState) (stamp : ℕ) → SoFar sound q scn k0 k old → QueryTurns sound q scn old k new k' (turn.Waiting stamp) → SoFar sound q scn k0 k' new
+pub waits_on : (sound : Type 0) (q : Query) (scn : Option ℕ) (k0 k k' : Known) (old new : QueryState) (stamp : ℕ) → QuerySoFar sound q scn k0 k old → QueryTurns sound q scn old k new k' (turn.Waiting stamp) → QuerySoFar sound q scn k0 k' new
 waits_on sound q scn k0 k k' old new stamp h t = record {
   acts = h.acts ++ t.acts;
   ran = ran-then k0 k k' h.acts t.acts h.ran t.ran;
@@ -440,16 +440,16 @@ waits_on sound q scn k0 k k' old new stamp h t = record {
   since = t.since (length k0.seen) h.since;
 }
 
-pub ends_as : (sound : Type 0) (q : Query) (scn : Option ℕ) (k0 k k' : Known) (old new : QueryState) (r : Result Answer QueryFault) → SoFar sound q scn k0 k old → QueryTurns sound q scn old k new k' (turn.Over r) → RanQuery sound q scn k0 k' r
+pub ends_as : (sound : Type 0) (q : Query) (scn : Option ℕ) (k0 k k' : Known) (old new : QueryState) (r : Result Answer QueryFault) → QuerySoFar sound q scn k0 k old → QueryTurns sound q scn old k new k' (turn.Over r) → RanQuery sound q scn k0 k' r
 ends_as sound q scn k0 k k' old new (Ok a) h t = record {
   acts = h.acts ++ t.acts;
   ran = ran-then k0 k k' h.acts t.acts h.ran t.ran;
-  outcome = subst (λ (l : List Act). IsOutcome sound q scn l k' (Ok a)) (sym (joined old h.acts t.acts h.so_far)) t.told.1;
+  outcome = subst (λ (l : List Act). IsQueryOutcome sound q scn l k' (Ok a)) (sym (joined old h.acts t.acts h.so_far)) t.told.1;
   since = t.since (length k0.seen) h.since;
 }
 ends_as sound q scn k0 k k' old new (Err f) h t = record {
   acts = h.acts ++ t.acts;
   ran = ran-then k0 k k' h.acts t.acts h.ran t.ran;
-  outcome = subst (λ (l : List Act). IsOutcome sound q scn l k' (Err f)) (sym (joined old h.acts t.acts h.so_far)) t.told.1;
+  outcome = subst (λ (l : List Act). IsQueryOutcome sound q scn l k' (Err f)) (sym (joined old h.acts t.acts h.so_far)) t.told.1;
   since = t.since (length k0.seen) h.since;
 }

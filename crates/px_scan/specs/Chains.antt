@@ -7,7 +7,7 @@ use Rattle.px_calls.specs.declared.query.Held.{Held}
 use Rattle.px_calls.specs.declared.query.Point.{Point}
 use Rattle.px_calls.specs.Calls.{DidConsult, DidFix}
 use Rattle.px_calls.specs.Doubtful.{IndexVersion}
-use Rattle.px_calls.specs.Known.{Known, Passes}
+use Rattle.px_calls.specs.Known.{Known, TimePasses}
 use Rattle.px_gather.specs.Query.{Query}
 use Rattle.px_scan.specs.declared.answer.QueryTurn.{QueryTurn}
 use Rattle.px_scan.specs.declared.machine.QueryState.{QueryState}
@@ -27,7 +27,7 @@ pub record Step : Type 0 where
 -- steps from a state on, with others' entries before each
 abbrev pub AreSteps : Type 0 → Query → Option ℕ → QueryState → Known → List Step → Type 0
 AreSteps sound q scn s k [] = Unit {0}
-AreSteps sound q scn s k (o ∷ os) = Passes k o.before × QueryTurns sound q scn s o.before o.state o.after o.turn × AreSteps sound q scn o.state o.after os
+AreSteps sound q scn s k (o ∷ os) = TimePasses k o.before × QueryTurns sound q scn s o.before o.state o.after o.turn × AreSteps sound q scn o.state o.after os
 
 abbrev pub state_after : QueryState → List Step → QueryState
 state_after s [] = s
@@ -50,7 +50,7 @@ pub record HasFix (d : Doubt) (os : List Step) : Type 0 where
   pub fixed : DidFix step.before step.after d answer
 
 -- one of the steps consulted the doubt, and one fixed it as that left it
-pub record IsSettled (sound : Type 0) (p : Point) (d : Doubt) (os : List Step) : Type 0 where
+pub record IsDoubtSettled (sound : Type 0) (p : Point) (d : Doubt) (os : List Step) : Type 0 where
   pub step : Step
   pub among : IsAmong step os
   pub left : Doubt

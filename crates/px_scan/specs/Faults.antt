@@ -7,7 +7,7 @@ use Rattle.px_trail.specs.Trail.{acts_by, horizon_of}
 use Rattle.px_calls.specs.declared.fault.StepFault.{StepFault}
 use Rattle.px_calls.specs.declared.fault.StepFault.TheVariants as step
 use Rattle.px_calls.specs.Calls.{IsFound}
-use Rattle.px_calls.specs.Causes.{ClosedBy, IsDamagedAt, LacksTable, Stands}
+use Rattle.px_calls.specs.Causes.{ClosedBy, IsDamagedAt, LacksTable, TableStands}
 use Rattle.px_calls.specs.Known.{HasMade, Known}
 use Rattle.px_gather.specs.Query.{Query}
 use Rattle.px_scan.specs.declared.answer.QueryFault.{QueryFault}
@@ -56,11 +56,11 @@ FaultIs q fault.Memory k = Unit {0}
 -- and of a query, whose point may be refused
 abbrev pub QueryFaultIs : Query → Option ℕ → QueryFault → Known → Type 0
 QueryFaultIs q scn fault.NoTable k = LacksTable k q.table
-QueryFaultIs q (Some scn) (fault.BelowHorizon h) k = Stands k q.table × (horizon_of k.base q.table k.seen ≡ h) × (scn - 1 < h)
+QueryFaultIs q (Some scn) (fault.BelowHorizon h) k = TableStands k q.table × (horizon_of k.base q.table k.seen ≡ h) × (scn - 1 < h)
 QueryFaultIs q scn f k = FaultIs q f k
 
 -- the entry that tells a failed device call is one of the seat's own after the first n
-abbrev pub MadeSince : ℕ → QueryFault → Known → Type 0
-MadeSince n fault.ReadFault k = (call : ℕ) × IsAmong (act.Missed call) (acts_by k.seat (drop n k.seen))
-MadeSince n fault.WriteFault k = (call : ℕ) × IsAmong (act.Shut call) (acts_by k.seat (drop n k.seen))
-MadeSince n f k = Unit {0}
+abbrev pub QueryFaultSince : ℕ → QueryFault → Known → Type 0
+QueryFaultSince n fault.ReadFault k = (call : ℕ) × IsAmong (act.Missed call) (acts_by k.seat (drop n k.seen))
+QueryFaultSince n fault.WriteFault k = (call : ℕ) × IsAmong (act.Shut call) (acts_by k.seat (drop n k.seen))
+QueryFaultSince n f k = Unit {0}

@@ -8,7 +8,7 @@ ghost use Rattle.px_scan.specs.Bounds.{Spends, left_of, through};
 ghost use Rattle.px_scan.specs.Looking.{IsByIndex, Looks, doubts_in, to_look};
 ghost use Rattle.px_scan.specs.Fixes.{AreRisingDoubts, HasDoubts, KeepsDoubts};
 ghost use Rattle.px_scan.specs.Faults.{IsScanFault, fault_of as fault_is, is_busy as is_busy_of};
-ghost use Rattle.px_scan.specs.Turns.{Fits, GoesOn, IsGoing, IsNext, IsReading, IsScanning, QueryTurns};
+ghost use Rattle.px_scan.specs.Turns.{FitsScan, GoesOn, IsNext, IsQueryGoing, IsReadingAt, IsScanning, QueryTurns};
 
 use crate::answer::{Answer, Placed, QueryFault, QueryTurn};
 use crate::asks::{Asks, PathFault};
@@ -126,7 +126,7 @@ fn follow<Q: Asks, S: Steps>(
     requires bound { point.found.table ≡ (Q.asked query.now).bound }
     requires rising { AreRising point.found.indexes }
     requires rows { rows.items ≡ [] }
-    ensures goes { (scn : Option ℕ) → (k : Known) → IsReading k (Q.asked query.now) scn point → GoesOn S.sound k (Q.asked query.now) scn point result }
+    ensures goes { (scn : Option ℕ) → (k : Known) → IsReadingAt k (Q.asked query.now) scn point → GoesOn S.sound k (Q.asked query.now) scn point result }
     ensures left { left_of result ≤ 2 }
     ensures to_look { to_look result ≡ 0 }
     ensures doubts { (f : Points → IndexVersion → Bool) → (k : Known) → HasDoubts f k result }
@@ -146,7 +146,7 @@ fn open<Q: Asks, S: Steps>(
     scn: Option<u64>,
     rows: Vec<Placed>,
 ) -> (QueryState, QueryTurn)
-    requires { Fits S.sound (Q.asked query.now) scn (QueryState.Opening rows) (S.known s.old) }
+    requires { FitsScan S.sound (Q.asked query.now) scn (QueryState.Opening rows) (S.known s.old) }
     ensures turns { QueryTurns S.sound (Q.asked query.now) scn (QueryState.Opening rows) (S.known s.old) result.0 (S.known s.new) result.1 }
     ensures spends { Spends S.sound (QueryState.Opening rows) (S.known s.old) result.0 (S.known s.new) result.1 }
     ensures looks { (S.known s.old).alone ≡ true → Looks S.sound (QueryState.Opening rows) (S.known s.old) (S.looked s.old) result.0 (S.known s.new) (S.looked s.new) }
@@ -197,7 +197,7 @@ fn look<Q: Asks, S: Steps>(
     x: Scan,
     after: Option<Key>,
 ) -> (QueryState, QueryTurn)
-    requires { Fits S.sound (Q.asked query.now) scn (QueryState.Looking x after) (S.known s.old) }
+    requires { FitsScan S.sound (Q.asked query.now) scn (QueryState.Looking x after) (S.known s.old) }
     ensures turns { QueryTurns S.sound (Q.asked query.now) scn (QueryState.Looking x after) (S.known s.old) result.0 (S.known s.new) result.1 }
     ensures spends { Spends S.sound (QueryState.Looking x after) (S.known s.old) result.0 (S.known s.new) result.1 }
     ensures looks { (S.known s.old).alone ≡ true → IsByIndex (QueryState.Looking x after) → Looks S.sound (QueryState.Looking x after) (S.known s.old) (S.looked s.old) result.0 (S.known s.new) (S.looked s.new) }
@@ -219,7 +219,7 @@ fn consult<Q: Asks, S: Steps>(
     rest: Rest,
     mut doubt: Doubt,
 ) -> (QueryState, QueryTurn)
-    requires { Fits S.sound (Q.asked query.now) scn (QueryState.Consulting x rest doubt) (S.known s.old) }
+    requires { FitsScan S.sound (Q.asked query.now) scn (QueryState.Consulting x rest doubt) (S.known s.old) }
     ensures turns { QueryTurns S.sound (Q.asked query.now) scn (QueryState.Consulting x rest doubt) (S.known s.old) result.0 (S.known s.new) result.1 }
     ensures spends { Spends S.sound (QueryState.Consulting x rest doubt) (S.known s.old) result.0 (S.known s.new) result.1 }
     ensures looks { (S.known s.old).alone ≡ true → Looks S.sound (QueryState.Consulting x rest doubt) (S.known s.old) (S.looked s.old) result.0 (S.known s.new) (S.looked s.new) }
@@ -244,7 +244,7 @@ fn fix<Q: Asks, S: Steps>(
     rest: Rest,
     doubt: Doubt,
 ) -> (QueryState, QueryTurn)
-    requires { Fits S.sound (Q.asked query.now) scn (QueryState.Fixing x rest doubt) (S.known s.old) }
+    requires { FitsScan S.sound (Q.asked query.now) scn (QueryState.Fixing x rest doubt) (S.known s.old) }
     ensures turns { QueryTurns S.sound (Q.asked query.now) scn (QueryState.Fixing x rest doubt) (S.known s.old) result.0 (S.known s.new) result.1 }
     ensures spends { Spends S.sound (QueryState.Fixing x rest doubt) (S.known s.old) result.0 (S.known s.new) result.1 }
     ensures looks { (S.known s.old).alone ≡ true → Looks S.sound (QueryState.Fixing x rest doubt) (S.known s.old) (S.looked s.old) result.0 (S.known s.new) (S.looked s.new) }
@@ -271,7 +271,7 @@ fn settle<Q: Asks, S: Steps>(
     rest: Rest,
     doubt: Doubt,
 ) -> (QueryState, QueryTurn)
-    requires { Fits S.sound (Q.asked query.now) scn (QueryState.Settling x rest doubt) (S.known s.old) }
+    requires { FitsScan S.sound (Q.asked query.now) scn (QueryState.Settling x rest doubt) (S.known s.old) }
     ensures turns { QueryTurns S.sound (Q.asked query.now) scn (QueryState.Settling x rest doubt) (S.known s.old) result.0 (S.known s.new) result.1 }
     ensures spends { Spends S.sound (QueryState.Settling x rest doubt) (S.known s.old) result.0 (S.known s.new) result.1 }
     ensures looks { (S.known s.old).alone ≡ true → Looks S.sound (QueryState.Settling x rest doubt) (S.known s.old) (S.looked s.old) result.0 (S.known s.new) (S.looked s.new) }
@@ -293,7 +293,7 @@ fn close<Q: Asks, S: Steps>(
     point: Point,
     end: Result<Vec<Placed>, QueryFault>,
 ) -> (QueryState, QueryTurn)
-    requires { Fits S.sound (Q.asked query.now) scn (QueryState.Closing point end) (S.known s.old) }
+    requires { FitsScan S.sound (Q.asked query.now) scn (QueryState.Closing point end) (S.known s.old) }
     ensures turns { QueryTurns S.sound (Q.asked query.now) scn (QueryState.Closing point end) (S.known s.old) result.0 (S.known s.new) result.1 }
     ensures spends { Spends S.sound (QueryState.Closing point end) (S.known s.old) result.0 (S.known s.new) result.1 }
     ensures looks { (S.known s.old).alone ≡ true → Looks S.sound (QueryState.Closing point end) (S.known s.old) (S.looked s.old) result.0 (S.known s.new) (S.looked s.new) }
@@ -320,8 +320,8 @@ pub(crate) fn advance<Q: Asks, S: Steps>(
     scn: Option<u64>,
     state: QueryState,
 ) -> (QueryState, QueryTurn)
-    requires fits { Fits S.sound (Q.asked query.now) scn state (S.known s.old) }
-    requires going { IsGoing state }
+    requires fits { FitsScan S.sound (Q.asked query.now) scn state (S.known s.old) }
+    requires going { IsQueryGoing state }
     ensures turns { QueryTurns S.sound (Q.asked query.now) scn state (S.known s.old) result.0 (S.known s.new) result.1 }
     ensures spends { Spends S.sound state (S.known s.old) result.0 (S.known s.new) result.1 }
     ensures looks { (S.known s.old).alone ≡ true → IsByIndex state → Looks S.sound state (S.known s.old) (S.looked s.old) result.0 (S.known s.new) (S.looked s.new) }

@@ -4,7 +4,7 @@ ghost use Rattle.px_calls.specs.Requires.{IsScn};
 ghost use Rattle.px_scan.specs.Bounds.{Spends};
 ghost use Rattle.px_scan.specs.Fixes.{KeepsDoubts};
 ghost use Rattle.px_scan.specs.Looking.{IsByIndex, Looks};
-ghost use Rattle.px_scan.specs.Turns.{Fits, IsBound, IsGoing, IsNew, QueryTurns, RanQuery};
+ghost use Rattle.px_scan.specs.Turns.{FitsScan, IsBound, IsQueryGoing, IsQueryNew, QueryTurns, RanQuery};
 
 use crate::answer::{Answer, QueryFault, QueryTurn};
 use crate::asks::Asks;
@@ -27,7 +27,7 @@ impl<Q: Asks> QueryRun<Q> {
     pub fn new(alloc: Global, query: Q, scn: Option<u64>) -> QueryRun<Q>
         ensures query { result.query ≡ query }
         ensures scn { result.scn ≡ scn }
-        ensures state { IsNew result.state }
+        ensures state { IsQueryNew result.state }
     {
         QueryRun {
             query,
@@ -39,8 +39,8 @@ impl<Q: Asks> QueryRun<Q> {
 
     /// Makes one call.
     pub fn step<S: Steps>(&mut self, s: &mut S) -> QueryTurn
-        requires fits { Fits S.sound (Q.asked self.old.query) self.old.scn self.old.state (S.known s.old) }
-        requires going { IsGoing self.old.state }
+        requires fits { FitsScan S.sound (Q.asked self.old.query) self.old.scn self.old.state (S.known s.old) }
+        requires going { IsQueryGoing self.old.state }
         ensures query { self.new.query ≡ self.old.query }
         ensures scn { self.new.scn ≡ self.old.scn }
         ensures turns { QueryTurns S.sound (Q.asked self.old.query) self.old.scn self.old.state (S.known s.old) self.new.state (S.known s.new) result }

@@ -8,7 +8,7 @@ use Rattle.std.proofs.Math.Utf8.{scalar, scalars}
 use Rattle.std.proofs.lemmas.Bool.{cases_lt, le-leb, lt-ltb, leb-true, ltb-true}
 use Rattle.std.proofs.lemmas.Bool.Decides.{nat_tests}
 use Rattle.std.proofs.lemmas.Str.{IsUtf8-nil, IsUtf8-append, IsUtf8-encode, encode_ascii}
-use Rattle.px_keys.specs.inner.PartReading.{GoesOn, char_size}
+use Rattle.px_keys.specs.inner.PartReading.{IsContinuation, char_size}
 use Rattle.px_keys.proofs.Characters.{and-true, forms, one, two, three, four}
 use Rattle.px_keys.proofs.CharReading.{Shaped, low-scalar, second_bounds, shaped, size-four, size-one, size-three, size-two, spelt-two, spelt-three, spelt-four}
 use Rattle.px_pieces.specs.Pieces.{byte}
@@ -48,7 +48,7 @@ char_right c s rest more a b = elim (forms c s) [
       let x = 192 + c / 64 in
       let y = 128 + c % 64 in
       let w : Shaped (x ∷ y ∷ []) = subst Shaped e (shaped c s (omega arith)) in
-      let second : GoesOn x 1 y = w.follows 1 (omega arith) (omega arith) in
+      let second : IsContinuation x 1 y = w.follows 1 (omega arith) (omega arith) in
       subst (λ (w : List ℕ). Right (length (w ++ rest)) (between 0 a b) (w ++ rest)) (sym e)
       (first_right (suc (length rest)) 1 x (y ∷ rest) a b w.sized (omega arith) (later_right (length rest) 0 (second_byte_min x) (second_byte_max x) y rest second.0 second.1 (more 128 191)))
   | three p q gap e ↦
@@ -56,8 +56,8 @@ char_right c s rest more a b = elim (forms c s) [
       let y = 128 + c / 64 % 64 in
       let z = 128 + c % 64 in
       let w : Shaped (x ∷ y ∷ z ∷ []) = subst Shaped e (shaped c s (omega arith)) in
-      let second : GoesOn x 1 y = w.follows 1 (omega arith) (omega arith) in
-      let third : GoesOn x 2 z = w.follows 2 (omega arith) (omega arith) in
+      let second : IsContinuation x 1 y = w.follows 1 (omega arith) (omega arith) in
+      let third : IsContinuation x 2 z = w.follows 2 (omega arith) (omega arith) in
       subst (λ (w : List ℕ). Right (length (w ++ rest)) (between 0 a b) (w ++ rest)) (sym e)
       (first_right (suc (suc (length rest))) 2 x (y ∷ z ∷ rest) a b w.sized (omega arith) (later_right (suc (length rest)) 1 (second_byte_min x) (second_byte_max x) y (z ∷ rest) second.0 second.1
       (later_right (length rest) 0 128 191 z rest third.0 third.1 (more 128 191))))
@@ -67,9 +67,9 @@ char_right c s rest more a b = elim (forms c s) [
       let z = 128 + c / 64 % 64 in
       let u = 128 + c % 64 in
       let w : Shaped (x ∷ y ∷ z ∷ u ∷ []) = subst Shaped e (shaped c s (omega arith)) in
-      let second : GoesOn x 1 y = w.follows 1 (omega arith) (omega arith) in
-      let third : GoesOn x 2 z = w.follows 2 (omega arith) (omega arith) in
-      let fourth : GoesOn x 3 u = w.follows 3 (omega arith) (omega arith) in
+      let second : IsContinuation x 1 y = w.follows 1 (omega arith) (omega arith) in
+      let third : IsContinuation x 2 z = w.follows 2 (omega arith) (omega arith) in
+      let fourth : IsContinuation x 3 u = w.follows 3 (omega arith) (omega arith) in
       subst (λ (w : List ℕ). Right (length (w ++ rest)) (between 0 a b) (w ++ rest)) (sym e)
       (first_right (suc (suc (suc (length rest)))) 3 x (y ∷ z ∷ u ∷ rest) a b w.sized (omega arith) (later_right (suc (suc (length rest))) 2 (second_byte_min x) (second_byte_max x) y (z ∷ u ∷ rest) second.0 second.1
       (later_right (suc (length rest)) 1 128 191 z (u ∷ rest) third.0 third.1 (later_right (length rest) 0 128 191 u rest fourth.0 fourth.1 (more 128 191)))))

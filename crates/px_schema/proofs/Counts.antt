@@ -9,9 +9,9 @@ use Rattle.px_schema.specs.declared.item.CatalogItem.TheVariants.{IndexGone, Ind
 use Rattle.px_schema.specs.declared.standing.Standing.{Standing}
 use Rattle.px_schema.specs.Counts.{HasRoom, HasTable, IsWithinCounts, indexes_of, table_of_index}
 use Rattle.px_schema.specs.Format.{number_of_table}
-use Rattle.px_schema.specs.Fresh.{fresh}
+use Rattle.px_schema.specs.Fresh.{fresh_standing}
 use Rattle.px_schema.specs.Places.{first_at}
-use Rattle.px_schema.specs.Stands.{IsDrawn, after, draws, of_other_tables, put_index, put_table}
+use Rattle.px_schema.specs.Stands.{AreConsecutive, newly_drawn, of_other_tables, put_index, put_table, stands_after}
 use Rattle.px_schema.proofs.Numbers.{next_drawn}
 
 -- ---- lists
@@ -89,10 +89,10 @@ put_anew n (x ∷ xs) i is-of = by (eqb x.id.0 i.id.0) is-of (put_anew n xs i)
 
 -- ---- what stands
 
-pub fresh_within : IsWithinCounts fresh
+pub fresh_within : IsWithinCounts fresh_standing
 fresh_within = record { tables = omega arith; indexes = λ n. omega arith; ids = omega arith }
 
-pub after_within : (s : Standing) (d : CatalogItem) → IsWithinCounts s → HasRoom s d → IsDrawn s.next (draws s d) → IsWithinCounts (after s d)
+pub after_within : (s : Standing) (d : CatalogItem) → IsWithinCounts s → HasRoom s d → AreConsecutive s.next (newly_drawn s d) → IsWithinCounts (stands_after s d)
 after_within s (TableIs t) is room drawn = record {
   tables = elim room.0 [ inl has ↦ (let le = put_same s.tables t has in let most = is.tables in omega (arith, le, most)) | inr one ↦ (let le = put_one s.tables t in omega (arith, le, one)) ];
   indexes = λ n. let le = kept_of (λ (i : Index). eqb i.table.0 n) (λ (i : Index). not (eqb i.table.0 t.id.0)) s.indexes in let most = is.indexes n in omega (arith, le, most);

@@ -8,7 +8,7 @@ use Rattle.px_tables.specs.declared.table.Table.{Table}
 use Rattle.px_schema.specs.declared.item.CatalogItem.{CatalogItem}
 use Rattle.px_schema.specs.declared.item.CatalogItem.TheVariants.{IndexGone, IndexIs, TableGone, TableIs}
 use Rattle.px_schema.specs.declared.standing.Standing.{Standing}
-use Rattle.px_schema.specs.Stands.{DrawInOrder, IsBelowNext, IsDrawn, above, after, after_all, drawn_by, draws, draws_all, index_draws, put_index, put_table, table_draws}
+use Rattle.px_schema.specs.Stands.{AreConsecutive, DrawInOrder, IsBelowNext, above, after_all, drawn_by, draws_all, index_draws, newly_drawn, put_index, put_table, stands_after, table_draws}
 
 pub above_up : (n : ℕ) (ks : List ℕ) → n ≤ above n ks
 above_up n [] = omega arith
@@ -43,7 +43,7 @@ filter_all P keep [] all = tt
 filter_all P keep (x ∷ xs) all = elim (keep x) as (λ (b : Bool). AllByRecursion P (cond b (x ∷ filter keep xs) (filter keep xs))) [ true ↦ (all.0, filter_all P keep xs all.1) | false ↦ filter_all P keep xs all.1 ]
 
 -- the next number doesn't fall
-pub next_up : (s : Standing) (d : CatalogItem) → s.next ≤ (after s d).next
+pub next_up : (s : Standing) (d : CatalogItem) → s.next ≤ (stands_after s d).next
 next_up s (TableIs t) = above_up s.next (table_draws t)
 next_up s (IndexIs i) = above_up s.next (index_draws i)
 next_up s (TableGone n) = omega arith
@@ -51,10 +51,10 @@ next_up s (IndexGone n) = omega arith
 
 pub next_up_all : (s : Standing) (ds : List CatalogItem) → s.next ≤ (after_all s ds).next
 next_up_all s [] = omega arith
-next_up_all s (d ∷ ds) = let one = next_up s d in let more = next_up_all (after s d) ds in omega arith
+next_up_all s (d ∷ ds) = let one = next_up s d in let more = next_up_all (stands_after s d) ds in omega arith
 
 -- and stays above all
-pub below_next : (s : Standing) (d : CatalogItem) → IsBelowNext s → IsBelowNext (after s d)
+pub below_next : (s : Standing) (d : CatalogItem) → IsBelowNext s → IsBelowNext (stands_after s d)
 below_next s (TableIs t) is = record {
   tables = put_all_tables (λ t'. AllByRecursion (λ k. k < above s.next (table_draws t)) (table_draws t')) s.tables t
       (tables_more s.next (above s.next (table_draws t)) (above_up s.next (table_draws t)) s.tables is.tables) (above_all s.next (table_draws t));
@@ -90,31 +90,31 @@ above_filter n m le (k ∷ ks) = go (nat_le n k) refl (above_filter n (max m (k 
     go true is kept past = kept
     go false is kept past = past ∙ ap (λ (j : ℕ). above j ks) (sym (leb_max n m k le is))
 
-drawn_above : (n : ℕ) (ks : List ℕ) → IsDrawn n ks → above n ks ≡ n + length ks
+drawn_above : (n : ℕ) (ks : List ℕ) → AreConsecutive n ks → above n ks ≡ n + length ks
 drawn_above n [] is = omega arith
 drawn_above n (k ∷ ks) is =
     let here : max n (k + 1) ≡ n + 1 = omega (arith, is.0) in
     ap (λ (j : ℕ). above j ks) here ∙ drawn_above (n + 1) ks is.1 ∙ omega arith
 
-drawn_then : (n : ℕ) (ks ms : List ℕ) → IsDrawn n ks → IsDrawn (n + length ks) ms → IsDrawn n (ks ++ ms)
-drawn_then n [] ms is more = subst (λ (j : ℕ). IsDrawn j ms) (let e : n + 0 ≡ n = omega arith in e) more
-drawn_then n (k ∷ ks) ms is more = (is.0, drawn_then (n + 1) ks ms is.1 (subst (λ (j : ℕ). IsDrawn j ms) (let e : n + length (k ∷ ks) ≡ n + 1 + length ks = omega arith in e) more))
+drawn_then : (n : ℕ) (ks ms : List ℕ) → AreConsecutive n ks → AreConsecutive (n + length ks) ms → AreConsecutive n (ks ++ ms)
+drawn_then n [] ms is more = subst (λ (j : ℕ). AreConsecutive j ms) (let e : n + 0 ≡ n = omega arith in e) more
+drawn_then n (k ∷ ks) ms is more = (is.0, drawn_then (n + 1) ks ms is.1 (subst (λ (j : ℕ). AreConsecutive j ms) (let e : n + length (k ∷ ks) ≡ n + 1 + length ks = omega arith in e) more))
 
-next_is : (s : Standing) (d : CatalogItem) → (after s d).next ≡ above s.next (drawn_by d)
+next_is : (s : Standing) (d : CatalogItem) → (stands_after s d).next ≡ above s.next (drawn_by d)
 next_is s (TableIs t) = refl
 next_is s (IndexIs i) = refl
 next_is s (TableGone n) = refl
 next_is s (IndexGone n) = refl
 
-pub next_drawn : (s : Standing) (d : CatalogItem) → IsDrawn s.next (draws s d) → (after s d).next ≡ s.next + length (draws s d)
-next_drawn s d is = next_is s d ∙ sym (above_filter s.next s.next (omega arith) (drawn_by d)) ∙ drawn_above s.next (draws s d) is
+pub next_drawn : (s : Standing) (d : CatalogItem) → AreConsecutive s.next (newly_drawn s d) → (stands_after s d).next ≡ s.next + length (newly_drawn s d)
+next_drawn s d is = next_is s d ∙ sym (above_filter s.next s.next (omega arith) (drawn_by d)) ∙ drawn_above s.next (newly_drawn s d) is
 
-pub drawn_in_order : (s : Standing) (ds : List CatalogItem) → DrawInOrder s ds → IsDrawn s.next (draws_all s ds)
+pub drawn_in_order : (s : Standing) (ds : List CatalogItem) → DrawInOrder s ds → AreConsecutive s.next (draws_all s ds)
 drawn_in_order s [] all = tt
 drawn_in_order s (d ∷ ds) all =
-    drawn_then s.next (draws s d) (draws_all (after s d) ds) all.0 (subst (λ (j : ℕ). IsDrawn j (draws_all (after s d) ds)) (next_drawn s d all.0) (drawn_in_order (after s d) ds all.1))
+    drawn_then s.next (newly_drawn s d) (draws_all (stands_after s d) ds) all.0 (subst (λ (j : ℕ). AreConsecutive j (draws_all (stands_after s d) ds)) (next_drawn s d all.0) (drawn_in_order (stands_after s d) ds all.1))
 
 -- so each is drawn once
-pub drawn_later : (n : ℕ) (ks : List ℕ) → IsDrawn n ks → (m : ℕ) → m < n → AllByRecursion (λ k. m < k) ks
+pub drawn_later : (n : ℕ) (ks : List ℕ) → AreConsecutive n ks → (m : ℕ) → m < n → AllByRecursion (λ k. m < k) ks
 drawn_later n [] is m lt = tt
 drawn_later n (k ∷ ks) is m lt = (omega (arith, is.0), drawn_later (n + 1) ks is.1 m (omega arith))

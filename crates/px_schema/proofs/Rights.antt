@@ -13,12 +13,12 @@ use Rattle.px_schema.specs.declared.standing.Standing.{Standing}
 use Rattle.px_pieces.specs.Pieces.{as_value, byte, followed_by}
 use Rattle.px_pieces.specs.Bytes.{bytes, bytes_long, one_byte}
 use Rattle.px_pieces.specs.Chains.{chain_all, listed_parts, measured_parts}
-use Rattle.px_pieces.specs.Numbers.{number, number_most, number_short, up_to}
+use Rattle.px_pieces.specs.Numbers.{number_most, number_piece, number_short, stays_up_to}
 use Rattle.px_schema.specs.Texts.{text, text_long}
-use Rattle.px_schema.specs.Parts.{column, columns, greatest_id, id, least_key, name, no_column, no_part, no_region, part, parts, place, places, region, regions, regions_from, regions_long, some_count}
-use Rattle.px_schema.specs.Format.{greatest_count, index, most_indexes, no_index, no_table, standing, table}
-use Rattle.px_schema.specs.Records.{IsRight}
-use Rattle.px_schema.specs.Spelled.{Fits, FitsIndex, FitsSnapshot, FitsTable}
+use Rattle.px_schema.specs.Parts.{blank_column, blank_part, column_piece, columns_piece, greatest_id, id, least_key_piece, name_piece, no_region, part_piece, parts, place, places, region, regions, regions_from, regions_long, some_count}
+use Rattle.px_schema.specs.Format.{greatest_count, index, most_indexes, no_index, no_table, standing_piece, table}
+use Rattle.px_schema.specs.Records.{IsRightCatalogItem}
+use Rattle.px_schema.specs.Spelled.{FitsCatalogItem, FitsIndex, FitsSnapshot, FitsTableFields}
 use Rattle.px_schema.specs.Stands.{index_draws, table_draws}
 
 all_more : {T : Type 0} (P Q : T → Type 0) → ((x : T) → P x → Q x) → (l : List T) → AllByRecursion P l → AllByRecursion Q l
@@ -41,25 +41,25 @@ byte_short n is = ltb-true n 256 (second (nat_le 0 n) (nat_lt n 256) is)
     second true b is = is
     second false b is = absurd cc
 
-name_short : (l : List ℕ) → name.right l → length l < 256
-unfolding name
+name_short : (l : List ℕ) → name_piece.right l → length l < 256
+unfolding name_piece
 name_short l right = some_short (length l) (measured_parts text text_long some_count l right).0
 
-column_name : (c : TableColumn) → column.right c → length c.name < 256
-unfolding column as_value followed_by
+column_name : (c : TableColumn) → column_piece.right c → length c.name < 256
+unfolding column_piece as_value followed_by
 column_name c right = name_short c.name right.0.0
 
 parts_few : (n : ℕ) (l : List _) → (parts n).right l → length l < 256
 unfolding parts
-parts_few n l right = some_short (length l) (listed_parts no_part (part n) some_count l right).0
+parts_few n l right = some_short (length l) (listed_parts blank_part (part_piece n) some_count l right).0
 
 places_few : (n : ℕ) (l : List ℕ) → (places n).right l → length l < 256
 unfolding places
 places_few n l right = byte_short (length l) (listed_parts 0 (place n) (one_byte 0 256) l right).0
 
 region_key : (most : ℕ) (r : TableRegion) → (region most).right r → length r.least_key < 65536
-unfolding region least_key number as_value followed_by
-region_key most r right = number_short (up_to most) 2 (length r.least_key) (measured_parts bytes bytes_long (number 2 most) r.least_key right.0.1).0
+unfolding region least_key_piece number_piece as_value followed_by
+region_key most r right = number_short (stays_up_to most) 2 (length r.least_key) (measured_parts bytes bytes_long (number_piece 2 most) r.least_key right.0.1).0
 
 region_number : (most : ℕ) (r : TableRegion) → (region most).right r → r.number ≤ greatest_id
 unfolding region id as_value followed_by
@@ -74,15 +74,15 @@ regions_parts l right =
       chain_all no_region (λ left most. region most) (λ most r. 65535) (λ r. r.number ≤ greatest_id) (λ n most r is. region_number most r is) (length l) 0 l p.1,
     )
 
-pub table_fits : (t : Table) → table.right t → FitsTable t
-unfolding table columns as_value followed_by
+pub table_fits : (t : Table) → table.right t → FitsTableFields t
+unfolding table columns_piece as_value followed_by
 table_fits t right =
-    let cs = listed_parts no_column column some_count t.columns right.0.1.1.0 in
+    let cs = listed_parts blank_column column_piece some_count t.columns right.0.1.1.0 in
     let rs = regions_parts t.regions right.0.1.1.1.1 in
     record {
       name = name_short t.name right.0.1.0;
       columns = some_short (length t.columns) cs.0;
-      names = all_more column.right (λ c. length c.name < 256) column_name t.columns cs.1;
+      names = all_more column_piece.right (λ c. length c.name < 256) column_name t.columns cs.1;
       key = parts_few (length t.columns) t.key right.0.1.1.1.0;
       regions = rs.0;
       keys = rs.1;
@@ -115,37 +115,37 @@ index_numbers ts i right =
     let region = number_most 3 greatest_id i.region right.0.1.1.1.1.1.0 in
     (omega (arith, region), (omega (arith, own), tt))
 
-pub standing_tables : (s : Standing) → standing.right s → (length s.tables ≤ greatest_count) × AllByRecursion table.right s.tables
-unfolding standing as_value followed_by
-standing_tables s right = let p = listed_parts no_table table (number 2 greatest_count) s.tables right.0.1.0 in (number_most 1 greatest_count (length s.tables) p.0, p.1)
+pub standing_tables : (s : Standing) → standing_piece.right s → (length s.tables ≤ greatest_count) × AllByRecursion table.right s.tables
+unfolding standing_piece as_value followed_by
+standing_tables s right = let p = listed_parts no_table table (number_piece 2 greatest_count) s.tables right.0.1.0 in (number_most 1 greatest_count (length s.tables) p.0, p.1)
 
 most_most : (ts : List Table) → most_indexes ts ≤ greatest_count
 most_most [] = omega arith
 most_most (t ∷ ts) = omega arith
 
-pub standing_indexes : (s : Standing) → standing.right s → (length s.indexes ≤ greatest_count) × AllByRecursion (index s.tables).right s.indexes
-unfolding standing as_value followed_by
+pub standing_indexes : (s : Standing) → standing_piece.right s → (length s.indexes ≤ greatest_count) × AllByRecursion (index s.tables).right s.indexes
+unfolding standing_piece as_value followed_by
 standing_indexes s right =
-    let p = listed_parts no_index (index s.tables) (number 2 (most_indexes s.tables)) s.indexes right.0.1.1 in
+    let p = listed_parts no_index (index s.tables) (number_piece 2 (most_indexes s.tables)) s.indexes right.0.1.1 in
     let le = number_most 1 (most_indexes s.tables) (length s.indexes) p.0 in
     let most = most_most s.tables in (omega (arith, le, most), p.1)
 
-pub standing_next : (s : Standing) → standing.right s → s.next ≤ 4294967295
-unfolding standing as_value followed_by
+pub standing_next : (s : Standing) → standing_piece.right s → s.next ≤ 4294967295
+unfolding standing_piece as_value followed_by
 standing_next s right = number_most 3 4294967295 s.next right.0.0
 
-pub snapshot_fits : (s : Standing) → standing.right s → FitsSnapshot s
+pub snapshot_fits : (s : Standing) → standing_piece.right s → FitsSnapshot s
 snapshot_fits s right =
     let ts = standing_tables s right in
     let is = standing_indexes s right in
     record {
       tables = omega (arith, ts.0);
-      each_table = all_more table.right FitsTable table_fits s.tables ts.1;
+      each_table = all_more table.right FitsTableFields table_fits s.tables ts.1;
       indexes = omega (arith, is.0);
       each_index = all_more (index s.tables).right FitsIndex (index_fits s.tables) s.indexes is.1;
     }
 
-pub item_fits : (s : Standing) (d : CatalogItem) → IsRight s d → Fits d
+pub item_fits : (s : Standing) (d : CatalogItem) → IsRightCatalogItem s d → FitsCatalogItem d
 item_fits s (TableIs t) right = table_fits t right.0
 item_fits s (IndexIs i) right = index_fits s.tables i right.0
 item_fits s (TableGone n) right = tt

@@ -10,10 +10,10 @@ use Rattle.px_schema.specs.declared.item.CatalogItem.TheVariants.{IndexGone, Ind
 use Rattle.px_schema.specs.declared.standing.Standing.{Standing}
 use Rattle.px_pieces.specs.Pieces.{as_value, followed_by}
 use Rattle.px_pieces.specs.Chains.{listed_right}
-use Rattle.px_pieces.specs.Numbers.{begins_one, fits_number, number, number_short, one_of, one_of_member, one_of_right}
-use Rattle.px_schema.specs.Format.{called, greatest_count, index, most_indexes, no_index, no_table, number_of_table, standing, table, width_of}
-use Rattle.px_schema.specs.Records.{IsRight}
-use Rattle.px_schema.specs.Stands.{above, after, index_draws, of_other_tables, other_tables, put_index, put_table, table_draws}
+use Rattle.px_pieces.specs.Numbers.{begins_one, fits_number, number_piece, number_short, one_of_member, one_of_piece, one_of_right}
+use Rattle.px_schema.specs.Format.{called, column_count, greatest_count, index, most_indexes, no_index, no_table, number_of_table, standing_piece, table}
+use Rattle.px_schema.specs.Records.{IsRightCatalogItem}
+use Rattle.px_schema.specs.Stands.{above, index_draws, of_other_tables, other_tables, put_index, put_table, stands_after, table_draws}
 use Rattle.px_schema.proofs.Numbers.{filter_all, put_all_indexes, put_all_tables}
 use Rattle.px_schema.proofs.Rights.{index_numbers, standing_indexes, standing_next, standing_tables, table_numbers}
 
@@ -28,14 +28,14 @@ indexes_few [] [] all few = omega arith
 indexes_few [] (i ∷ l) all few = absurd (no_index_right i all.0)
 indexes_few (t ∷ ts) l all few = few
 
-standing_right : (s : Standing) → s.next ≤ 4294967295 → length s.tables ≤ greatest_count → AllByRecursion table.right s.tables → length s.indexes ≤ greatest_count → AllByRecursion (index s.tables).right s.indexes → standing.right s
-unfolding standing as_value followed_by
+standing_right : (s : Standing) → s.next ≤ 4294967295 → length s.tables ≤ greatest_count → AllByRecursion table.right s.tables → length s.indexes ≤ greatest_count → AllByRecursion (index s.tables).right s.indexes → standing_piece.right s
+unfolding standing_piece as_value followed_by
 standing_right s next few_tables tables few_indexes indexes = (
   (
     fits_number 4 4294967295 s.next (omega arith) next,
     (
-      listed_right no_table table (number 2 greatest_count) s.tables (fits_number 2 greatest_count (length s.tables) (omega arith) few_tables) tables,
-      listed_right no_index (index s.tables) (number 2 (most_indexes s.tables)) s.indexes (fits_number 2 (most_indexes s.tables) (length s.indexes) (omega arith) (indexes_few s.tables s.indexes indexes few_indexes)) indexes,
+      listed_right no_table table (number_piece 2 greatest_count) s.tables (fits_number 2 greatest_count (length s.tables) (omega arith) few_tables) tables,
+      listed_right no_index (index s.tables) (number_piece 2 (most_indexes s.tables)) s.indexes (fits_number 2 (most_indexes s.tables) (length s.indexes) (omega arith) (indexes_few s.tables s.indexes indexes few_indexes)) indexes,
     ),
   ),
   refl,
@@ -70,8 +70,8 @@ filter_moves {A} P Q keep f (x ∷ l) all = by (keep x) refl (filter_moves P Q k
 Has : ℕ → List Table → Type 0
 Has n ts = list_any (λ m. m == n) (map number_of_table ts) ≡ true
 
-index_moves : (ts ts' : List Table) (i : Index) → (index ts).right i → (Has i.table.0 ts → Has i.table.0 ts') → width_of ts' i.table.0 ≡ width_of ts i.table.0 → (index ts').right i
-unfolding index as_value followed_by Has one_of
+index_moves : (ts ts' : List Table) (i : Index) → (index ts).right i → (Has i.table.0 ts → Has i.table.0 ts') → column_count ts' i.table.0 ≡ column_count ts i.table.0 → (index ts').right i
+unfolding index as_value followed_by Has one_of_piece
 index_moves ts ts' i right has wide = (
   (
     right.0.0,
@@ -106,14 +106,14 @@ put_has (x ∷ xs) t n is = by (x.id.0 == t.id.0) refl is (put_has xs t n)
     by true e is more = same (x.id.0 == n) refl (eqb-true x.id.0 t.id.0 e) is
     by false e is more = kept (x.id.0 == n) is more
 
-put_width : (ts : List Table) (t : Table) (n : ℕ) → (n ≡ t.id.0 → ⊥) → width_of (put_table ts t) n ≡ width_of ts n
+put_width : (ts : List Table) (t : Table) (n : ℕ) → (n ≡ t.id.0 → ⊥) → column_count (put_table ts t) n ≡ column_count ts n
 put_width [] t n other = ap (λ (b : Bool). if b then length t.columns else 0) (ne_eqb t.id.0 n (λ e. other (sym e)))
 put_width (x ∷ xs) t n other = by (x.id.0 == t.id.0) refl (put_width xs t n other)
   where
-    by : (b : Bool) → (x.id.0 == t.id.0) ≡ b → width_of (put_table xs t) n ≡ width_of xs n → width_of (if b then t ∷ xs else x ∷ put_table xs t) n ≡ (if x.id.0 == n then length x.columns else width_of xs n)
+    by : (b : Bool) → (x.id.0 == t.id.0) ≡ b → column_count (put_table xs t) n ≡ column_count xs n → column_count (if b then t ∷ xs else x ∷ put_table xs t) n ≡ (if x.id.0 == n then length x.columns else column_count xs n)
     by true e more =
-        ap (λ (b : Bool). if b then length t.columns else width_of xs n) (ne_eqb t.id.0 n (λ e. other (sym e)))
-        ∙ sym (ap (λ (b : Bool). if b then length x.columns else width_of xs n) (ne_eqb x.id.0 n (λ is. other (sym is ∙ eqb-true x.id.0 t.id.0 e))))
+        ap (λ (b : Bool). if b then length t.columns else column_count xs n) (ne_eqb t.id.0 n (λ e. other (sym e)))
+        ∙ sym (ap (λ (b : Bool). if b then length x.columns else column_count xs n) (ne_eqb x.id.0 n (λ is. other (sym is ∙ eqb-true x.id.0 t.id.0 e))))
     by false e more = ap (λ (w : ℕ). if x.id.0 == n then length x.columns else w) more
 
 others_has : (ts : List Table) (m n : ℕ) → (n ≡ m → ⊥) → Has n ts → Has n (other_tables m ts)
@@ -131,46 +131,46 @@ others_has (x ∷ xs) m n other is = by (x.id.0 == m) refl is (others_has xs m n
     by true e is more = more (let not-here : (x.id.0 == n) ≡ false = ne_eqb x.id.0 n (λ here. other (sym here ∙ eqb-true x.id.0 m e)) in ap (λ (b : Bool). b || list_any (λ m. m == n) (map number_of_table xs)) (sym not-here) ∙ is)
     by false e is more = at (x.id.0 == n) is more
 
-others_width : (ts : List Table) (m n : ℕ) → (n ≡ m → ⊥) → width_of (other_tables m ts) n ≡ width_of ts n
+others_width : (ts : List Table) (m n : ℕ) → (n ≡ m → ⊥) → column_count (other_tables m ts) n ≡ column_count ts n
 others_width [] m n other = refl
 others_width (x ∷ xs) m n other = by (x.id.0 == m) refl (others_width xs m n other)
   where
-    by : (b : Bool) → (x.id.0 == m) ≡ b → width_of (other_tables m xs) n ≡ width_of xs n → width_of (cond (not b) (x ∷ other_tables m xs) (other_tables m xs)) n ≡ (if x.id.0 == n then length x.columns else width_of xs n)
-    by true e more = more ∙ sym (ap (λ (b : Bool). if b then length x.columns else width_of xs n) (ne_eqb x.id.0 n (λ is. other (sym is ∙ eqb-true x.id.0 m e))))
+    by : (b : Bool) → (x.id.0 == m) ≡ b → column_count (other_tables m xs) n ≡ column_count xs n → column_count (cond (not b) (x ∷ other_tables m xs) (other_tables m xs)) n ≡ (if x.id.0 == n then length x.columns else column_count xs n)
+    by true e more = more ∙ sym (ap (λ (b : Bool). if b then length x.columns else column_count xs n) (ne_eqb x.id.0 n (λ is. other (sym is ∙ eqb-true x.id.0 m e))))
     by false e more = ap (λ (w : ℕ). if x.id.0 == n then length x.columns else w) more
 
 not_true : (b : Bool) → not b ≡ true → b ≡ false
 not_true true is = absurd cc
 not_true false is = refl
 
-of_others : (ts ts' : List Table) (m : ℕ) (l : List Index) → ((n : ℕ) → (n ≡ m → ⊥) → Has n ts → Has n ts') → ((n : ℕ) → (n ≡ m → ⊥) → width_of ts' n ≡ width_of ts n) → AllByRecursion (index ts).right l → AllByRecursion (index ts').right (of_other_tables m l)
+of_others : (ts ts' : List Table) (m : ℕ) (l : List Index) → ((n : ℕ) → (n ≡ m → ⊥) → Has n ts → Has n ts') → ((n : ℕ) → (n ≡ m → ⊥) → column_count ts' n ≡ column_count ts n) → AllByRecursion (index ts).right l → AllByRecursion (index ts').right (of_other_tables m l)
 of_others ts ts' m l has wide all = filter_moves (index ts).right (index ts').right (λ i. not (i.table.0 == m))
     (λ i keep right. let other : i.table.0 ≡ m → ⊥ = eqb-false i.table.0 m (not_true (i.table.0 == m) keep) in index_moves ts ts' i right (has i.table.0 other) (wide i.table.0 other)) l all
 
 -- ---- so what stands after a right definition is right
 
-pub after_right : (s : Standing) (d : CatalogItem) → standing.right s → IsRight s d → standing.right (after s d)
+pub after_right : (s : Standing) (d : CatalogItem) → standing_piece.right s → IsRightCatalogItem s d → standing_piece.right (stands_after s d)
 after_right s (TableIs t) right is =
     let ts = standing_tables s right in
     let xs = standing_indexes s right in
     let long = put_table_long s.tables t in
     let few = filter_long (λ (i : Index). not (i.table.0 == t.id.0)) s.indexes in
-    standing_right (after s (TableIs t)) (above_most s.next 4294967295 (table_draws t) (standing_next s right) (table_numbers t is.0)) (omega (arith, long, is.1)) (put_all_tables table.right s.tables t ts.1 is.0)
+    standing_right (stands_after s (TableIs t)) (above_most s.next 4294967295 (table_draws t) (standing_next s right) (table_numbers t is.0)) (omega (arith, long, is.1)) (put_all_tables table.right s.tables t ts.1 is.0)
     (omega (arith, few, xs.0)) (of_others s.tables (put_table s.tables t) t.id.0 s.indexes (λ n other has. put_has s.tables t n has) (λ n other. put_width s.tables t n other) xs.1)
 after_right s (IndexIs i) right is =
     let ts = standing_tables s right in
     let xs = standing_indexes s right in
     let long = put_index_long s.indexes i in
-    standing_right (after s (IndexIs i)) (above_most s.next 4294967295 (index_draws i) (standing_next s right) (index_numbers s.tables i is.0)) ts.0 ts.1 (omega (arith, long, is.1)) (put_all_indexes (index s.tables).right s.indexes i xs.1 is.0)
+    standing_right (stands_after s (IndexIs i)) (above_most s.next 4294967295 (index_draws i) (standing_next s right) (index_numbers s.tables i is.0)) ts.0 ts.1 (omega (arith, long, is.1)) (put_all_indexes (index s.tables).right s.indexes i xs.1 is.0)
 after_right s (TableGone n) right is =
     let ts = standing_tables s right in
     let xs = standing_indexes s right in
     let fewer = filter_long (λ (t : Table). not (t.id.0 == n.0)) s.tables in
     let few = filter_long (λ (i : Index). not (i.table.0 == n.0)) s.indexes in
-    standing_right (after s (TableGone n)) (standing_next s right) (omega (arith, fewer, ts.0)) (filter_all table.right (λ t. not (t.id.0 == n.0)) s.tables ts.1) (omega (arith, few, xs.0))
+    standing_right (stands_after s (TableGone n)) (standing_next s right) (omega (arith, fewer, ts.0)) (filter_all table.right (λ t. not (t.id.0 == n.0)) s.tables ts.1) (omega (arith, few, xs.0))
     (of_others s.tables (other_tables n.0 s.tables) n.0 s.indexes (λ m other has. others_has s.tables n.0 m other has) (λ m other. others_width s.tables n.0 m other) xs.1)
 after_right s (IndexGone n) right is =
     let ts = standing_tables s right in
     let xs = standing_indexes s right in
     let few = filter_long (λ (i : Index). not (i.id.0 == n.0)) s.indexes in
-    standing_right (after s (IndexGone n)) (standing_next s right) ts.0 ts.1 (omega (arith, few, xs.0)) (filter_all (index s.tables).right (λ i. not (i.id.0 == n.0)) s.indexes xs.1)
+    standing_right (stands_after s (IndexGone n)) (standing_next s right) ts.0 ts.1 (omega (arith, few, xs.0)) (filter_all (index s.tables).right (λ i. not (i.id.0 == n.0)) s.indexes xs.1)

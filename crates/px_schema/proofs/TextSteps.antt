@@ -3,7 +3,7 @@ use Rattle.std.proofs.Common.{◌≡◌, ◌<◌, ◌≤◌, ◌+◌, ◌++◌, 
 use Rattle.std.specs.Prelude.{◌-◌}
 use Rattle.std.proofs.lemmas.List.{get_or-drop, take_more}
 use Rattle.px_pieces.specs.Pieces.{byte}
-use Rattle.px_pieces.specs.Taking.{IsPartWay, IsStopped, IsTaken}
+use Rattle.px_pieces.specs.Taking.{IsPartWay, IsStoppedAt, IsTakenAt}
 use Rattle.px_pieces.proofs.Takes.{part_done, part_more, part_none, part_stopped, stopped_byte, stopped_end, taken_byte}
 use Rattle.px_schema.specs.Texts.{CharState, char_next, char_ok, no_char, text}
 
@@ -33,17 +33,17 @@ module _ (size : ℕ) (bytes : List ℕ) (at : ℕ) where
         (subst (λ (n : ℕ). IsPartWay 0 (λ left s. byte (char_ok left s)) char_next size no_char bytes at (take taken (drop at bytes) ++ b ∷ []) n (char_next s b) (at + (taken + 1))) left
         (subst (λ (p : ℕ). IsPartWay 0 (λ left s. byte (char_ok left s)) char_next size no_char bytes at (take taken (drop at bytes) ++ b ∷ []) (size - 1 - taken) (char_next s b) p) place way))
 
-    pub text_wrong : at + taken < length bytes → char_ok (size - 1 - taken) s (get_or bytes (at + taken) 0) ≡ false → IsStopped (text size) bytes at (at + taken)
+    pub text_wrong : at + taken < length bytes → char_ok (size - 1 - taken) s (get_or bytes (at + taken) 0) ≡ false → IsStoppedAt (text size) bytes at (at + taken)
     unfolding text
     text_wrong lt not =
         part_stopped 0 (λ left s. byte (char_ok left s)) char_next bytes size no_char at (take taken (drop at bytes)) (size - taken) (size - 1 - taken) s (at + taken) (at + taken) left_is part (stopped_byte bytes (at + taken) (char_ok (size - 1 - taken) s) lt not)
 
-    pub text_cut : length bytes ≤ at + taken → IsStopped (text size) bytes at (at + taken)
+    pub text_cut : length bytes ≤ at + taken → IsStoppedAt (text size) bytes at (at + taken)
     unfolding text
     text_cut le =
         part_stopped 0 (λ left s. byte (char_ok left s)) char_next bytes size no_char at (take taken (drop at bytes)) (size - taken) (size - 1 - taken) s (at + taken) (at + taken) left_is part (stopped_end bytes (at + taken) (char_ok (size - 1 - taken) s) le)
 
-  pub text_done : (taken : ℕ) (s : CharState) → taken ≡ size → IsTextPart size bytes at taken s → IsTaken (text size) bytes at (take size (drop at bytes)) (at + size)
+  pub text_done : (taken : ℕ) (s : CharState) → taken ≡ size → IsTextPart size bytes at taken s → IsTakenAt (text size) bytes at (take size (drop at bytes)) (at + size)
   unfolding text
-  text_done taken s is part = subst (λ (n : ℕ). IsTaken (text size) bytes at (take n (drop at bytes)) (at + n)) is
+  text_done taken s is part = subst (λ (n : ℕ). IsTakenAt (text size) bytes at (take n (drop at bytes)) (at + n)) is
       (part_done 0 (λ left s. byte (char_ok left s)) char_next bytes size no_char at (take taken (drop at bytes)) (size - taken) s (at + taken) (omega arith) part)

@@ -9,7 +9,7 @@ use Rattle.px_schema.specs.declared.item.CatalogItem.TheVariants.{IndexGone, Ind
 use Rattle.px_schema.specs.declared.standing.Standing.{Standing}
 use Rattle.px_schema.specs.Format.{number_of_table}
 use Rattle.px_schema.specs.Places.{first_at}
-use Rattle.px_schema.specs.Stands.{draws}
+use Rattle.px_schema.specs.Stands.{newly_drawn}
 
 -- 1. Room
 
@@ -48,7 +48,7 @@ table_of_index (x ∷ xs) n = if x.id.0 == n then Some x.table.0 else table_of_i
 
 -- There is room for a definition: it is one more, or takes the place of one that stands, and so many numbers are left as it draws.
 abbrev pub HasRoom : Standing → CatalogItem → Type 0
-HasRoom s (TableIs t) = (HasTable s.tables t.id.0 ⊎ HasRoomForTable s) × HasNumbers s (length (draws s (TableIs t)))
-HasRoom s (IndexIs i) = ((table_of_index s.indexes i.id.0 ≡ Some i.table.0) ⊎ HasRoomForIndex s i.table.0) × HasNumbers s (length (draws s (IndexIs i)))
+HasRoom s (TableIs t) = (HasTable s.tables t.id.0 ⊎ HasRoomForTable s) × HasNumbers s (length (newly_drawn s (TableIs t)))
+HasRoom s (IndexIs i) = ((table_of_index s.indexes i.id.0 ≡ Some i.table.0) ⊎ HasRoomForIndex s i.table.0) × HasNumbers s (length (newly_drawn s (IndexIs i)))
 HasRoom s (TableGone n) = Unit {0}
 HasRoom s (IndexGone n) = Unit {0}

@@ -20,8 +20,8 @@ name_bytes name = length name ∷ name
 abbrev pub column_bytes : TableColumn → List ℕ
 column_bytes c = name_bytes c.name ++ type_code c.column_type ∷ bit_of c.not_null ∷ []
 
-abbrev pub part_bytes : KeyPlace → List ℕ
-part_bytes p = p.column ∷ direction_code p.direction ∷ []
+abbrev pub key_part_bytes : KeyPlace → List ℕ
+key_part_bytes p = p.column ∷ direction_code p.direction ∷ []
 
 abbrev pub region_bytes : TableRegion → List ℕ
 region_bytes r = bytes_high_first 4 r.number ++ (bytes_high_first 2 (length r.least_key) ++ r.least_key)
@@ -32,11 +32,11 @@ list_bytes spelled l = length l ∷ flat_map spelled l
 
 -- number, name, columns, primary key, regions
 abbrev pub table_bytes : Table → List ℕ
-table_bytes t = bytes_high_first 4 t.id.0 ++ (name_bytes t.name ++ (list_bytes column_bytes t.columns ++ (list_bytes part_bytes t.key ++ list_bytes region_bytes t.regions)))
+table_bytes t = bytes_high_first 4 t.id.0 ++ (name_bytes t.name ++ (list_bytes column_bytes t.columns ++ (list_bytes key_part_bytes t.key ++ list_bytes region_bytes t.regions)))
 
 -- state, birth, region, indexed columns, included columns
 abbrev pub built_bytes : Index → List ℕ
-built_bytes i = state_code i.state ∷ (bytes_high_first 8 i.birth ++ (bytes_high_first 4 i.region ++ (list_bytes part_bytes i.parts ++ name_bytes i.included)))
+built_bytes i = state_code i.state ∷ (bytes_high_first 8 i.birth ++ (bytes_high_first 4 i.region ++ (list_bytes key_part_bytes i.parts ++ name_bytes i.included)))
 
 -- number, number of the table, name, and the above
 abbrev pub index_bytes : Index → List ℕ
@@ -60,7 +60,7 @@ kind_of (TableGone n) = 4
 kind_of (IndexGone n) = 5
 
 -- every length fits its field
-pub record FitsTable (t : Table) : Type 0 where
+pub record FitsTableFields (t : Table) : Type 0 where
   pub name : length t.name < 256
   pub columns : length t.columns < 256
   pub names : AllByRecursion (λ c. length c.name < 256) t.columns
@@ -73,14 +73,14 @@ pub record FitsIndex (i : Index) : Type 0 where
   pub parts : length i.parts < 256
   pub included : length i.included < 256
 
-abbrev pub Fits : CatalogItem → Type 0
-Fits (TableIs t) = FitsTable t
-Fits (IndexIs i) = FitsIndex i
-Fits (TableGone n) = Unit {0}
-Fits (IndexGone n) = Unit {0}
+abbrev pub FitsCatalogItem : CatalogItem → Type 0
+FitsCatalogItem (TableIs t) = FitsTableFields t
+FitsCatalogItem (IndexIs i) = FitsIndex i
+FitsCatalogItem (TableGone n) = Unit {0}
+FitsCatalogItem (IndexGone n) = Unit {0}
 
 pub record FitsSnapshot (s : Standing) : Type 0 where
   pub tables : length s.tables < 65536
-  pub each_table : AllByRecursion FitsTable s.tables
+  pub each_table : AllByRecursion FitsTableFields s.tables
   pub indexes : length s.indexes < 65536
   pub each_index : AllByRecursion FitsIndex s.indexes

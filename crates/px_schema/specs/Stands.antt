@@ -46,15 +46,15 @@ abbrev pub other_indexes : ℕ → List Index → List Index
 other_indexes n indexes = filter (λ i. not (i.id.0 == n)) indexes
 
 -- What stands after a definition. A table that is defined or dropped has no index.
-abbrev pub after : Standing → CatalogItem → Standing
-after s (TableIs t) = record { next = above s.next (table_draws t); tables = put_table s.tables t; indexes = of_other_tables t.id.0 s.indexes }
-after s (IndexIs i) = record { next = above s.next (index_draws i); tables = s.tables; indexes = put_index s.indexes i }
-after s (TableGone n) = record { next = s.next; tables = other_tables n.0 s.tables; indexes = of_other_tables n.0 s.indexes }
-after s (IndexGone n) = record { next = s.next; tables = s.tables; indexes = other_indexes n.0 s.indexes }
+abbrev pub stands_after : Standing → CatalogItem → Standing
+stands_after s (TableIs t) = record { next = above s.next (table_draws t); tables = put_table s.tables t; indexes = of_other_tables t.id.0 s.indexes }
+stands_after s (IndexIs i) = record { next = above s.next (index_draws i); tables = s.tables; indexes = put_index s.indexes i }
+stands_after s (TableGone n) = record { next = s.next; tables = other_tables n.0 s.tables; indexes = of_other_tables n.0 s.indexes }
+stands_after s (IndexGone n) = record { next = s.next; tables = s.tables; indexes = other_indexes n.0 s.indexes }
 
 abbrev pub after_all : Standing → List CatalogItem → Standing
 after_all s [] = s
-after_all s (d ∷ ds) = after_all (after s d) ds
+after_all s (d ∷ ds) = after_all (stands_after s d) ds
 
 -- every number of what stands is below the next one
 pub record IsBelowNext (s : Standing) : Type 0 where
@@ -62,19 +62,19 @@ pub record IsBelowNext (s : Standing) : Type 0 where
   pub indexes : AllByRecursion (λ i. AllByRecursion (λ k. k < s.next) (index_draws i)) s.indexes
 
 -- the numbers that a definition draws: those that no earlier one had
-abbrev pub draws : Standing → CatalogItem → List ℕ
-draws s d = filter (λ k. nat_le s.next k) (drawn_by d)
+abbrev pub newly_drawn : Standing → CatalogItem → List ℕ
+newly_drawn s d = filter (λ k. nat_le s.next k) (drawn_by d)
 
 abbrev pub draws_all : Standing → List CatalogItem → List ℕ
 draws_all s [] = []
-draws_all s (d ∷ ds) = draws s d ++ draws_all (after s d) ds
+draws_all s (d ∷ ds) = newly_drawn s d ++ draws_all (stands_after s d) ds
 
 -- the numbers from this one on, without a gap
-abbrev pub IsDrawn : ℕ → List ℕ → Type 0
-IsDrawn n [] = Unit {0}
-IsDrawn n (k ∷ ks) = (k ≡ n) × IsDrawn (n + 1) ks
+abbrev pub AreConsecutive : ℕ → List ℕ → Type 0
+AreConsecutive n [] = Unit {0}
+AreConsecutive n (k ∷ ks) = (k ≡ n) × AreConsecutive (n + 1) ks
 
 -- each definition draws the next numbers
 abbrev pub DrawInOrder : Standing → List CatalogItem → Type 0
 DrawInOrder s [] = Unit {0}
-DrawInOrder s (d ∷ ds) = IsDrawn s.next (draws s d) × DrawInOrder (after s d) ds
+DrawInOrder s (d ∷ ds) = AreConsecutive s.next (newly_drawn s d) × DrawInOrder (stands_after s d) ds

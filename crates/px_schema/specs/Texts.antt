@@ -49,7 +49,7 @@ both_true : (a b : Bool) → a ≡ true → b ≡ true → (a && b) ≡ true
 both_true a b x y = ap (λ (t : Bool). t && b) x ∙ y
 
 -- a character under way can be ended
-record CanEnd (left : ℕ) (s : CharState) : Type 0 where
+record CanEndCharacter (left : ℕ) (s : CharState) : Type 0 where
   need : s.need ≤ left
   some : s.least ≤ s.most
 
@@ -57,7 +57,7 @@ one_more : (need least most left : ℕ) → need ≤ suc left → least ≤ most
 one_more zero least most left le some = (65, both_true (nat_lt 0 (char_size 65)) (nat_le (char_size 65) (left + 1)) refl (le-leb 1 (left + 1) (omega arith)))
 one_more (suc need) least most left le some = (least, both_true (nat_le least least) (nat_le least most) (le-leb least least (omega arith)) (le-leb least most some))
 
-still : (need least most left b : ℕ) → need ≤ suc left → char_ok_by need least most left b ≡ true → CanEnd left (char_next_by need b)
+still : (need least most left b : ℕ) → need ≤ suc left → char_ok_by need least most left b ≡ true → CanEndCharacter left (char_next_by need b)
 still zero least most left b le ok =
     let parts = and_true (nat_lt 0 (char_size b)) (nat_le (char_size b) (left + 1)) ok in
     let size : char_size b ≤ left + 1 = leb-true (char_size b) (left + 1) parts.1 in
@@ -67,5 +67,5 @@ still (suc need) least most left b le ok = record { need = omega arith; some = o
 pub text_full : (n : ℕ) → (text n).full
 unfolding text byte
 text_full n =
-    chain_full 0 (λ left s. byte (char_ok left s)) char_next CanEnd (λ left s p. let b = one_more s.need s.least s.most left p.need p.some in byte_full (char_ok left s) b.0 b.1)
+    chain_full 0 (λ left s. byte (char_ok left s)) char_next CanEndCharacter (λ left s p. let b = one_more s.need s.least s.most left p.need p.some in byte_full (char_ok left s) b.0 b.1)
     (λ left s b p right. still s.need s.least s.most left b p.need right) n no_char (record { need = omega arith; some = omega arith })

@@ -1,9 +1,9 @@
 // What stands in the beginning, and after a definition.
 ghost use Rattle.std.specs.Prelude.{◌≡◌, ◌<◌, IfOk, map};
 ghost use Rattle.std.specs.List.{AllByRecursion};
-ghost use Rattle.px_schema.specs.Fresh.{fresh as fresh_standing};
+ghost use Rattle.px_schema.specs.Fresh.{fresh_standing};
 ghost use Rattle.px_schema.specs.Places.{first_at};
-ghost use Rattle.px_schema.specs.Stands.{above, after as stands_after, drawn_by, of_other_tables as indexes_of_others, other_indexes as indexes_but, other_tables as tables_but, put_index, put_table, table_draws};
+ghost use Rattle.px_schema.specs.Stands.{above, drawn_by, of_other_tables as indexes_of_others, other_indexes as indexes_but, other_tables as tables_but, put_index, put_table, stands_after, table_draws};
 
 use crate::numbered::Numbered;
 use crate::{CatalogItem, Standing, read_snapshot};

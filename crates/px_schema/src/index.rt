@@ -1,9 +1,9 @@
 // Reading indexes.
 ghost use Rattle.std.specs.Prelude.{◌≡◌, ◌≤◌, ◌+◌, length, IfOk, IfErr};
 ghost use Rattle.px_pieces.specs.Chains.{repeat};
-ghost use Rattle.px_pieces.specs.Taking.{IsStopped, IsTaken};
-ghost use Rattle.px_schema.specs.Format.{built, called, covered, index, indexes_in as indexes_piece, most_indexes as most_of_indexes, no_index, width_of};
-ghost use Rattle.px_schema.specs.Outcomes.{Reads};
+ghost use Rattle.px_pieces.specs.Taking.{IsStoppedAt, IsTakenAt};
+ghost use Rattle.px_schema.specs.Format.{built, called, column_count, covered, index, indexes_in as indexes_piece, most_indexes as most_of_indexes, no_index};
+ghost use Rattle.px_schema.specs.Outcomes.{ReadsPiece};
 ghost use Rattle.px_schema.specs.Parts.{state};
 
 use crate::list::{parts_in, places_in};
@@ -24,7 +24,7 @@ type Called = (Name, Built);
 
 /// The columns of the table of this number, 0 where none stands.
 fn columns_of(tables: &[Table], number: u32) -> usize
-    ensures { result ≡ width_of tables.now number }
+    ensures { result ≡ column_count tables.now number }
 {
     for table in tables {
         if table.id.0 == number {
@@ -37,8 +37,8 @@ fn columns_of(tables: &[Table], number: u32) -> usize
 /// The state at a place.
 fn state_in(bytes: &[u8], at: usize) -> Result<IndexState, WrongPlace>
     requires begins { at ≤ length bytes.now }
-    ensures taken { IfOk result (λ s. IsTaken state bytes.now at s (at + 1)) }
-    ensures stopped { IfErr result (λ wrong. IsStopped state bytes.now at wrong.place) }
+    ensures taken { IfOk result (λ s. IsTakenAt state bytes.now at s (at + 1)) }
+    ensures stopped { IfErr result (λ wrong. IsStoppedAt state bytes.now at wrong.place) }
 {
     let code = byte_in(bytes, at, 0, 3)?;
     if code == 0 {
@@ -58,7 +58,7 @@ fn covered_in(
     columns: usize,
 ) -> Result<(Covered, usize), DefFault>
     requires begins { at ≤ length bytes.now }
-    ensures { Reads (covered columns) bytes.now at result }
+    ensures { ReadsPiece (covered columns) bytes.now at result }
 {
     let (parts, behind) = parts_in(alloc, bytes, at, columns)?;
     with_first(parts, places_in(alloc, bytes, behind, columns))
@@ -72,7 +72,7 @@ fn built_in(
     columns: usize,
 ) -> Result<(Built, usize), DefFault>
     requires begins { at ≤ length bytes.now }
-    ensures { Reads (built columns) bytes.now at result }
+    ensures { ReadsPiece (built columns) bytes.now at result }
 {
     let state = state_in(bytes, at)?;
     let birth = number_in(bytes, at + 1, 8, GREATEST_STAMP)?;
@@ -89,7 +89,7 @@ fn called_in(
     columns: usize,
 ) -> Result<(Called, usize), DefFault>
     requires begins { at ≤ length bytes.now }
-    ensures { Reads (called columns) bytes.now at result }
+    ensures { ReadsPiece (called columns) bytes.now at result }
 {
     let (name, behind) = name_in(alloc, bytes, at)?;
     with_first(name, built_in(alloc, bytes, behind, columns))
@@ -103,7 +103,7 @@ pub(crate) fn index_in(
     tables: &[Table],
 ) -> Result<(Index, usize), DefFault>
     requires begins { at ≤ length bytes.now }
-    ensures { Reads (index tables.now) bytes.now at result }
+    ensures { ReadsPiece (index tables.now) bytes.now at result }
 {
     let number = number_in(bytes, at, 4, GREATEST_ID)?;
     let table = one_of_in(bytes, at + 4, tables)?;
@@ -142,7 +142,7 @@ pub(crate) fn indexes_in(
     tables: &[Table],
 ) -> Result<(Items<Index>, usize), DefFault>
     requires begins { at ≤ length bytes.now }
-    ensures { Reads (indexes_piece tables.now) bytes.now at result }
+    ensures { ReadsPiece (indexes_piece tables.now) bytes.now at result }
 {
     let count = number_in(bytes, at, 2, most_indexes(tables))?;
     indexes_from(alloc, bytes, at + 2, tables, count)
@@ -157,7 +157,7 @@ fn indexes_from(
     count: u64,
 ) -> Result<(Items<Index>, usize), DefFault>
     requires begins { at ≤ length bytes.now }
-    ensures { Reads (repeat no_index (index tables.now) count) bytes.now at result }
+    ensures { ReadsPiece (repeat no_index (index tables.now) count) bytes.now at result }
 {
     let mut list = Vec::new(alloc);
     let mut end = at;

@@ -1,8 +1,8 @@
 // Reading lists of columns, of key parts, of included columns and of regions.
 ghost use Rattle.std.specs.Prelude.{◌≤◌, length};
 ghost use Rattle.px_pieces.specs.Chains.{repeat};
-ghost use Rattle.px_schema.specs.Outcomes.{Reads};
-ghost use Rattle.px_schema.specs.Parts.{column, columns, no_column, no_part, part, parts, place, places, region, regions, regions_from};
+ghost use Rattle.px_schema.specs.Outcomes.{ReadsPiece};
+ghost use Rattle.px_schema.specs.Parts.{blank_column, blank_part, column_piece, columns_piece, part_piece, parts, place, places, region, regions, regions_from};
 
 use crate::part::{column_in, part_in, place_in};
 use crate::{DefFault, GREATEST_ID, GREATEST_KEY};
@@ -18,7 +18,7 @@ pub(crate) fn columns_in(
     at: usize,
 ) -> Result<(Items<TableColumn>, usize), DefFault>
     requires begins { at ≤ length bytes.now }
-    ensures { Reads columns bytes.now at result }
+    ensures { ReadsPiece columns_piece bytes.now at result }
 {
     let count = byte_in(bytes, at, 1, 256)?;
     columns_from(alloc, bytes, at + 1, count)
@@ -32,7 +32,7 @@ fn columns_from(
     count: u8,
 ) -> Result<(Items<TableColumn>, usize), DefFault>
     requires begins { at ≤ length bytes.now }
-    ensures { Reads (repeat no_column column count) bytes.now at result }
+    ensures { ReadsPiece (repeat blank_column column_piece count) bytes.now at result }
 {
     let mut list = Vec::new(alloc);
     let mut end = at;
@@ -62,7 +62,7 @@ pub(crate) fn parts_in(
     columns: usize,
 ) -> Result<(Items<KeyPlace>, usize), DefFault>
     requires begins { at ≤ length bytes.now }
-    ensures { Reads (parts columns) bytes.now at result }
+    ensures { ReadsPiece (parts columns) bytes.now at result }
 {
     let count = byte_in(bytes, at, 1, 256)?;
     parts_from(alloc, bytes, at + 1, count, columns)
@@ -77,7 +77,7 @@ fn parts_from(
     columns: usize,
 ) -> Result<(Items<KeyPlace>, usize), DefFault>
     requires begins { at ≤ length bytes.now }
-    ensures { Reads (repeat no_part (part columns) count) bytes.now at result }
+    ensures { ReadsPiece (repeat blank_part (part_piece columns) count) bytes.now at result }
 {
     let mut list = Vec::new(alloc);
     let mut end = at;
@@ -99,7 +99,7 @@ pub(crate) fn places_in(
     columns: usize,
 ) -> Result<(Items<u8>, usize), DefFault>
     requires begins { at ≤ length bytes.now }
-    ensures { Reads (places columns) bytes.now at result }
+    ensures { ReadsPiece (places columns) bytes.now at result }
 {
     let count = byte_in(bytes, at, 0, 256)?;
     places_from(alloc, bytes, at + 1, count, columns)
@@ -114,7 +114,7 @@ fn places_from(
     columns: usize,
 ) -> Result<(Items<u8>, usize), DefFault>
     requires begins { at ≤ length bytes.now }
-    ensures { Reads (repeat 0 (place columns) count) bytes.now at result }
+    ensures { ReadsPiece (repeat 0 (place columns) count) bytes.now at result }
 {
     let mut list = Vec::new(alloc);
     let mut end = at;
@@ -135,7 +135,7 @@ pub(crate) fn regions_in(
     at: usize,
 ) -> Result<(Items<TableRegion>, usize), DefFault>
     requires begins { at ≤ length bytes.now }
-    ensures { Reads regions bytes.now at result }
+    ensures { ReadsPiece regions bytes.now at result }
 {
     let count = byte_in(bytes, at, 1, 256)?;
     regions_from_place(alloc, bytes, at + 1, count)
@@ -149,7 +149,7 @@ fn regions_from_place(
     count: u8,
 ) -> Result<(Items<TableRegion>, usize), DefFault>
     requires begins { at ≤ length bytes.now }
-    ensures { Reads (regions_from 0 count) bytes.now at result }
+    ensures { ReadsPiece (regions_from 0 count) bytes.now at result }
 {
     let mut list = Vec::new(alloc);
     let mut end = at;
@@ -181,7 +181,7 @@ fn region_in(
     most: u64,
 ) -> Result<(TableRegion, usize), DefFault>
     requires begins { at ≤ length bytes.now }
-    ensures { Reads (region most) bytes.now at result }
+    ensures { ReadsPiece (region most) bytes.now at result }
 {
     let number = number_in(bytes, at, 4, GREATEST_ID)? as u32;
     let size = number_in(bytes, at + 4, 2, most)? as usize;

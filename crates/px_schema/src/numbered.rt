@@ -1,7 +1,7 @@
 // Numbers of what stands.
 ghost use Rattle.std.specs.Prelude.{◌≡◌, ◌≤◌, ◌+◌, ℕ, length, map, IfOk, IfErr};
-ghost use Rattle.px_pieces.specs.Numbers.{begins_one, one_of};
-ghost use Rattle.px_pieces.specs.Taking.{IsStopped, IsTaken};
+ghost use Rattle.px_pieces.specs.Numbers.{begins_one, one_of_piece};
+ghost use Rattle.px_pieces.specs.Taking.{IsStoppedAt, IsTakenAt};
 
 use px_pieces::{WrongPlace, scale};
 use px_tables::{Index, Table};
@@ -37,8 +37,8 @@ pub(crate) fn one_of_in<T: Numbered>(
     standing: &[T],
 ) -> Result<u32, WrongPlace>
     requires begins { at ≤ length bytes.now }
-    ensures taken { IfOk result (λ n. IsTaken (one_of 4 (map T.number_of standing.now)) bytes.now at n (at + 4)) }
-    ensures stopped { IfErr result (λ wrong. IsStopped (one_of 4 (map T.number_of standing.now)) bytes.now at wrong.place) }
+    ensures taken { IfOk result (λ n. IsTakenAt (one_of_piece 4 (map T.number_of standing.now)) bytes.now at n (at + 4)) }
+    ensures stopped { IfErr result (λ wrong. IsStoppedAt (one_of_piece 4 (map T.number_of standing.now)) bytes.now at wrong.place) }
 {
     let mut value = 0;
     for taken in 0..4 {

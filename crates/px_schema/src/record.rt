@@ -1,10 +1,10 @@
 // Reading the records of a catalogue.
 ghost use Rattle.std.specs.Prelude.{◌≡◌, ◌<◌, ◌^◌, length, map, nat_lt};
-ghost use Rattle.px_pieces.specs.Numbers.{one_of};
+ghost use Rattle.px_pieces.specs.Numbers.{one_of_piece};
 ghost use Rattle.px_pieces.specs.Reading.{reading_of};
-ghost use Rattle.px_schema.specs.Format.{greatest_count, index as index_piece, standing as standing_piece, table as table_piece};
-ghost use Rattle.px_schema.specs.Outcomes.{Answers, IsWithin, Reads, in_record_of, whole_of};
-ghost use Rattle.px_schema.specs.Records.{definition_of, in_body, snapshot_of};
+ghost use Rattle.px_schema.specs.Format.{greatest_count, index as index_piece, standing_piece, table as table_piece};
+ghost use Rattle.px_schema.specs.Outcomes.{AnswersRecord, IsWithin, ReadsPiece, in_record_of, whole_of};
+ghost use Rattle.px_schema.specs.Records.{definition_in_body, in_body, snapshot_in_body};
 
 use crate::index::{index_in, indexes_in};
 use crate::numbered::{Numbered, one_of_in};
@@ -17,7 +17,7 @@ use std::alloc::Global;
 
 /// What stands by the snapshot that begins the bytes, and the place behind it.
 fn standing_in(alloc: Global, bytes: &[u8]) -> Result<(Standing, usize), DefFault>
-    ensures { Reads standing_piece bytes.now 0 result }
+    ensures { ReadsPiece standing_piece bytes.now 0 result }
 {
     let next = number_in(bytes, 0, 4, GREATEST_NUMBER)?;
     let (tables, behind) = tables_in(alloc, bytes, 4)?;
@@ -70,7 +70,7 @@ fn in_record<T>(read: Result<T, DefFault>) -> Result<T, DefFault>
 /// The table of a body.
 fn table_of(alloc: Global, body: &[u8]) -> Result<Table, DefFault>
     requires short { length body.now < 2 ^ 32 }
-    ensures { Answers (in_body (λ t. t) (reading_of table_piece body.now)) result }
+    ensures { AnswersRecord (in_body (λ t. t) (reading_of table_piece body.now)) result }
 {
     in_record(whole(body.len(), table_in(alloc, body, 0)))
 }
@@ -78,7 +78,7 @@ fn table_of(alloc: Global, body: &[u8]) -> Result<Table, DefFault>
 /// The index of a body, where these tables stand.
 fn index_of(alloc: Global, body: &[u8], tables: &[Table]) -> Result<Index, DefFault>
     requires short { length body.now < 2 ^ 32 }
-    ensures { Answers (in_body (λ i. i) (reading_of (index_piece tables.now) body.now)) result }
+    ensures { AnswersRecord (in_body (λ i. i) (reading_of (index_piece tables.now) body.now)) result }
 {
     in_record(whole(body.len(), index_in(alloc, body, 0, tables)))
 }
@@ -86,14 +86,14 @@ fn index_of(alloc: Global, body: &[u8], tables: &[Table]) -> Result<Index, DefFa
 /// The number of a body, which is that of one of these.
 fn number_of<T: Numbered>(body: &[u8], standing: &[T]) -> Result<u32, DefFault>
     requires short { length body.now < 2 ^ 32 }
-    ensures { Answers (in_body (λ n. n) (reading_of (one_of 4 (map T.number_of standing.now)) body.now)) result }
+    ensures { AnswersRecord (in_body (λ n. n) (reading_of (one_of_piece 4 (map T.number_of standing.now)) body.now)) result }
 {
     in_record(whole(body.len(), number_there(body, standing)))
 }
 
 /// The number that begins the body, and the place behind it.
 fn number_there<T: Numbered>(body: &[u8], standing: &[T]) -> Result<(u32, usize), DefFault>
-    ensures { Reads (one_of 4 (map T.number_of standing.now)) body.now 0 result }
+    ensures { ReadsPiece (one_of_piece 4 (map T.number_of standing.now)) body.now 0 result }
 {
     Ok((one_of_in(body, 0, standing)?, 4))
 }
@@ -101,7 +101,7 @@ fn number_there<T: Numbered>(body: &[u8], standing: &[T]) -> Result<(u32, usize)
 /// What stands by a snapshot. A record of another kind is wrong at its kind, place 0; the body begins at place 5.
 pub fn read_snapshot(alloc: Global, kind: u8, body: &[u8]) -> Result<Standing, DefFault>
     requires short { length body.now < 2 ^ 32 }
-    ensures { Answers (snapshot_of kind body.now) result }
+    ensures { AnswersRecord (snapshot_in_body kind body.now) result }
 {
     if kind != 1 {
         return Err(DefFault::NotADefinition { place: 0 });
@@ -118,7 +118,7 @@ pub fn read_definition(
     standing: &Standing,
 ) -> Result<CatalogItem, DefFault>
     requires short { length body.now < 2 ^ 32 }
-    ensures { Answers (definition_of standing.now kind body.now) result }
+    ensures { AnswersRecord (definition_in_body standing.now kind body.now) result }
 {
     let tables = standing.tables.as_slice();
     let indexes = standing.indexes.as_slice();

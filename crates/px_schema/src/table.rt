@@ -2,7 +2,7 @@
 ghost use Rattle.std.specs.Prelude.{◌≡◌, ◌≤◌, length};
 ghost use Rattle.px_pieces.specs.Chains.{repeat};
 ghost use Rattle.px_schema.specs.Format.{defined, keyed, named, no_table, table, tables_in as tables_piece};
-ghost use Rattle.px_schema.specs.Outcomes.{Reads, paired};
+ghost use Rattle.px_schema.specs.Outcomes.{ReadsPiece, paired};
 
 use crate::list::{columns_in, parts_in, regions_in};
 use crate::part::name_in;
@@ -42,7 +42,7 @@ fn keyed_in(
     columns: usize,
 ) -> Result<(Keyed, usize), DefFault>
     requires begins { at ≤ length bytes.now }
-    ensures { Reads (keyed columns) bytes.now at result }
+    ensures { ReadsPiece (keyed columns) bytes.now at result }
 {
     let (key, behind) = parts_in(alloc, bytes, at, columns)?;
     with_first(key, regions_in(alloc, bytes, behind))
@@ -51,7 +51,7 @@ fn keyed_in(
 /// The columns of a table and what comes behind them.
 fn defined_in(alloc: Global, bytes: &[u8], at: usize) -> Result<(Defined, usize), DefFault>
     requires begins { at ≤ length bytes.now }
-    ensures { Reads defined bytes.now at result }
+    ensures { ReadsPiece defined bytes.now at result }
 {
     let (columns, behind) = columns_in(alloc, bytes, at)?;
     let rest = keyed_in(alloc, bytes, behind, columns.as_slice().len());
@@ -61,7 +61,7 @@ fn defined_in(alloc: Global, bytes: &[u8], at: usize) -> Result<(Defined, usize)
 /// The name of a table and what comes behind it.
 fn named_in(alloc: Global, bytes: &[u8], at: usize) -> Result<(Named, usize), DefFault>
     requires begins { at ≤ length bytes.now }
-    ensures { Reads named bytes.now at result }
+    ensures { ReadsPiece named bytes.now at result }
 {
     let (name, behind) = name_in(alloc, bytes, at)?;
     with_first(name, defined_in(alloc, bytes, behind))
@@ -70,7 +70,7 @@ fn named_in(alloc: Global, bytes: &[u8], at: usize) -> Result<(Named, usize), De
 /// The table at a place, and the place behind it.
 pub(crate) fn table_in(alloc: Global, bytes: &[u8], at: usize) -> Result<(Table, usize), DefFault>
     requires begins { at ≤ length bytes.now }
-    ensures { Reads table bytes.now at result }
+    ensures { ReadsPiece table bytes.now at result }
 {
     let number = number_in(bytes, at, 4, GREATEST_ID)?;
     let ((name, (columns, (key, regions))), end) = named_in(alloc, bytes, at + 4)?;
@@ -91,7 +91,7 @@ pub(crate) fn tables_in(
     at: usize,
 ) -> Result<(Items<Table>, usize), DefFault>
     requires begins { at ≤ length bytes.now }
-    ensures { Reads tables_piece bytes.now at result }
+    ensures { ReadsPiece tables_piece bytes.now at result }
 {
     let count = number_in(bytes, at, 2, GREATEST_COUNT)?;
     tables_from(alloc, bytes, at + 2, count)
@@ -105,7 +105,7 @@ fn tables_from(
     count: u64,
 ) -> Result<(Items<Table>, usize), DefFault>
     requires begins { at ≤ length bytes.now }
-    ensures { Reads (repeat no_table table count) bytes.now at result }
+    ensures { ReadsPiece (repeat no_table table count) bytes.now at result }
 {
     let mut list = Vec::new(alloc);
     let mut end = at;

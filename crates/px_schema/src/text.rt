@@ -2,7 +2,7 @@
 ghost use Rattle.std.specs.Prelude.{◌≡◌, ◌≤◌, ◌<◌, ◌+◌, length, IfOk, IfErr};
 ghost use Rattle.std.specs.Str.Lossy.{second_byte_max, second_byte_min};
 ghost use Rattle.px_keys.specs.inner.PartReading.{char_size};
-ghost use Rattle.px_pieces.specs.Taking.{IsStopped, IsTaken};
+ghost use Rattle.px_pieces.specs.Taking.{IsStoppedAt, IsTakenAt};
 ghost use Rattle.px_schema.specs.Texts.{char_next_by, char_ok_by, text};
 ghost use Rattle.px_schema.specs.Underway.{IsState};
 
@@ -12,8 +12,8 @@ use std::str;
 /// The text of so many bytes at a place, or the first place at which none goes on.
 pub(crate) fn text_in(bytes: &[u8], at: usize, size: usize) -> Result<&str, WrongPlace>
     requires begins { at ≤ length bytes.now }
-    ensures taken { IfOk result (λ part. IsTaken (text size) bytes.now at part.now (at + size)) }
-    ensures stopped { IfErr result (λ wrong. IsStopped (text size) bytes.now at wrong.place) }
+    ensures taken { IfOk result (λ part. IsTakenAt (text size) bytes.now at part.now (at + size)) }
+    ensures stopped { IfErr result (λ wrong. IsStoppedAt (text size) bytes.now at wrong.place) }
 {
     let mut under_way = Character {
         need: 0,

@@ -3,7 +3,7 @@ ghost use Rattle.std.specs.Prelude.{◌≡◌, ◌<◌, ◌++◌, IfOk, OnOk, le
 ghost use Rattle.std.specs.Int.{bytes_high_first};
 ghost use Rattle.std.specs.List.{AllByRecursion, flat_map};
 ghost use Rattle.px_schema.specs.Parts.{state_code};
-ghost use Rattle.px_schema.specs.Spelled.{Fits, FitsIndex, FitsSnapshot, FitsTable, body_of, built_bytes, column_bytes, index_bytes, kind_of as kind_code, list_bytes, name_bytes, part_bytes, region_bytes, standing_bytes, table_bytes};
+ghost use Rattle.px_schema.specs.Spelled.{FitsCatalogItem, FitsIndex, FitsSnapshot, FitsTableFields, body_of, built_bytes, column_bytes, index_bytes, key_part_bytes, kind_of as kind_code, list_bytes, name_bytes, region_bytes, standing_bytes, table_bytes};
 
 use crate::{CatalogItem, Standing};
 use px_tables::{Index, IndexState, KeyPlace, Table, TableColumn, TableRegion};
@@ -63,7 +63,7 @@ fn put_columns(columns: &[TableColumn], to: &mut Vec<u8>) -> Result<(), AllocErr
 }
 
 fn put_part(part: KeyPlace, to: &mut Vec<u8>) -> Result<(), AllocError>
-    ensures { OnOk result (to.new.items ≡ to.old.items ++ part_bytes part) }
+    ensures { OnOk result (to.new.items ≡ to.old.items ++ key_part_bytes part) }
 {
     let direction = match part.direction {
         Direction::Ascending => 0,
@@ -74,7 +74,7 @@ fn put_part(part: KeyPlace, to: &mut Vec<u8>) -> Result<(), AllocError>
 
 fn put_parts(parts: &[KeyPlace], to: &mut Vec<u8>) -> Result<(), AllocError>
     requires few { length parts.now < 256 }
-    ensures { OnOk result (to.new.items ≡ to.old.items ++ list_bytes part_bytes parts.now) }
+    ensures { OnOk result (to.new.items ≡ to.old.items ++ list_bytes key_part_bytes parts.now) }
 {
     to.extend_from_slice(&[parts.len() as u8])?;
     for part in parts {
@@ -106,7 +106,7 @@ fn put_regions(regions: &[TableRegion], to: &mut Vec<u8>) -> Result<(), AllocErr
 }
 
 fn put_table(table: &Table, to: &mut Vec<u8>) -> Result<(), AllocError>
-    requires fits { FitsTable table.now }
+    requires fits { FitsTableFields table.now }
     ensures { OnOk result (to.new.items ≡ to.old.items ++ table_bytes table.now) }
 {
     put_number(table.id.0, to)?;
@@ -147,7 +147,7 @@ fn put_stamp(stamp: u64, to: &mut Vec<u8>) -> Result<(), AllocError>
 /// Adds the columns of an index.
 fn put_covered(index: &Index, to: &mut Vec<u8>) -> Result<(), AllocError>
     requires fits { FitsIndex index.now }
-    ensures { OnOk result (to.new.items ≡ to.old.items ++ (list_bytes part_bytes index.now.parts ++ name_bytes index.now.included)) }
+    ensures { OnOk result (to.new.items ≡ to.old.items ++ (list_bytes key_part_bytes index.now.parts ++ name_bytes index.now.included)) }
 {
     put_parts(index.parts.as_slice(), to)?;
     put_bytes(index.included.as_slice(), to)
@@ -164,7 +164,7 @@ fn code_of(state: IndexState) -> u8
 }
 
 fn put_tables(tables: &[Table], to: &mut Vec<u8>) -> Result<(), AllocError>
-    requires fits { AllByRecursion FitsTable tables.now }
+    requires fits { AllByRecursion FitsTableFields tables.now }
     ensures { OnOk result (to.new.items ≡ to.old.items ++ flat_map table_bytes tables.now) }
 {
     for table in tables {
@@ -197,7 +197,7 @@ pub fn kind_of(item: &CatalogItem) -> u8
 
 /// The body of a definition's record.
 pub fn write_definition(alloc: Global, item: &CatalogItem) -> Result<Vec<u8>, AllocError>
-    requires fits { Fits item.now }
+    requires fits { FitsCatalogItem item.now }
     ensures { IfOk result (λ body. body.items ≡ body_of item.now) }
 {
     let mut body = Vec::new(alloc);

@@ -7,10 +7,10 @@ use Rattle.std.proofs.lemmas.List.Elements.{filter-append}
 use Rattle.std.proofs.lemmas.List.FromFn.{get_or-map-range_with_len, length-map-range_with_len}
 use Rattle.std.specs.List.{filter, flat_map, range_with_len}
 use Rattle.std.specs.Prelude.{OnOk}
-use Rattle.px_script.specs.Scripts.{Lines, SeenOwned, all_texts, joined, owned, text_of}
+use Rattle.px_script.specs.Scripts.{Lines, SeenOwned, all_texts, joined_lines, owned, text_of}
 use Rattle.px_script.specs.inner.Dividing.{with_line}
 
-joined-more : (lines : Lines) (line : List ℕ) → joined (lines ++ line ∷ []) ≡ Some (with_line (joined lines) line)
+joined-more : (lines : Lines) (line : List ℕ) → joined_lines (lines ++ line ∷ []) ≡ Some (with_line (joined_lines lines) line)
 joined-more [] line = ap Some (append-nil line)
 joined-more (first ∷ lines) line =
     let more : flat_map (λ l. 10 ∷ l) (lines ++ line ∷ []) ≡ flat_map (λ l. 10 ∷ l) lines ++ (10 ∷ line) = flat_map-append (λ l. 10 ∷ l) lines (line ∷ []) ∙ ap (λ l. flat_map (λ l. 10 ∷ l) lines ++ (10 ∷ l)) (append-nil line) in
@@ -30,17 +30,17 @@ one-other session o e = rw e refl
 
 text-own : (session : ℕ) (lines : Lines) (line : List ℕ) → ((owned line).session == session) ≡ true → text_of session (lines ++ line ∷ []) ≡ Some (with_line (text_of session lines) (owned line).text)
 text-own session lines line e =
-    ap (λ os. joined (own session os)) (map-append owned lines (line ∷ []))
-    ∙ (ap joined (own-append session (map owned lines) (owned line ∷ []))
-    ∙ (ap (λ l. joined (own session (map owned lines) ++ l)) (one-own session (owned line) e)
+    ap (λ os. joined_lines (own session os)) (map-append owned lines (line ∷ []))
+    ∙ (ap joined_lines (own-append session (map owned lines) (owned line ∷ []))
+    ∙ (ap (λ l. joined_lines (own session (map owned lines) ++ l)) (one-own session (owned line) e)
     ∙ joined-more (own session (map owned lines)) (owned line).text))
 
 text-other : (session : ℕ) (lines : Lines) (line : List ℕ) → ((owned line).session == session) ≡ false → text_of session (lines ++ line ∷ []) ≡ text_of session lines
 text-other session lines line e =
-    ap (λ os. joined (own session os)) (map-append owned lines (line ∷ []))
-    ∙ (ap joined (own-append session (map owned lines) (owned line ∷ []))
-    ∙ (ap (λ l. joined (own session (map owned lines) ++ l)) (one-other session (owned line) e)
-    ∙ ap joined (append-nil (own session (map owned lines)))))
+    ap (λ os. joined_lines (own session os)) (map-append owned lines (line ∷ []))
+    ∙ (ap joined_lines (own-append session (map owned lines) (owned line ∷ []))
+    ∙ (ap (λ l. joined_lines (own session (map owned lines) ++ l)) (one-other session (owned line) e)
+    ∙ ap joined_lines (append-nil (own session (map owned lines)))))
 
 -- two functions are one but at a place
 same-map : {A : Type 0} (f g : ℕ → A) (first count : ℕ) → ((n : ℕ) → first ≤ n → g n ≡ f n) → map g (range_with_len first count) ≡ map f (range_with_len first count)

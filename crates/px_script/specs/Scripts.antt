@@ -81,13 +81,13 @@ owned line = given_to (named (before_first is_space line)) (after_first is_space
 -- ---- the texts of a round
 
 -- lines joined by line feeds; none where there is no line
-abbrev pub joined : Lines → Option (List ℕ)
-joined [] = None
-joined (line ∷ lines) = Some (line ++ flat_map (λ l. 10 ∷ l) lines)
+abbrev pub joined_lines : Lines → Option (List ℕ)
+joined_lines [] = None
+joined_lines (line ∷ lines) = Some (line ++ flat_map (λ l. 10 ∷ l) lines)
 
 -- a session's text of a round
 abbrev pub text_of : (session : ℕ) → Lines → Option (List ℕ)
-text_of session lines = joined (map (λ o. o.text) (filter (λ o. o.session == session) (map owned lines)))
+text_of session lines = joined_lines (map (λ o. o.text) (filter (λ o. o.session == session) (map owned lines)))
 
 -- of each session its text of a round
 unfoldable pub all_texts : Lines → List (Option (List ℕ))
@@ -114,7 +114,7 @@ abbrev pub most_script : ℕ
 most_script = 67108864
 
 -- The script is run: it isn't too long, and it is UTF-8.
-pub record IsReadable (script : List ℕ) : Type 0 where
+pub record IsReadableScript (script : List ℕ) : Type 0 where
   pub short : length script ≤ most_script
   pub utf8 : IsUtf8 script
 

@@ -1,6 +1,6 @@
 // Scripts, and how they are read.
 ghost use Rattle.std.specs.Prelude.{◌≡◌, MatchResult};
-ghost use Rattle.px_script.specs.Scripts.{IsReadable, StopsScript, script_of};
+ghost use Rattle.px_script.specs.Scripts.{IsReadableScript, StopsScript, script_of};
 
 use crate::dividing::divided;
 use px_values::{Items, Text};
@@ -48,7 +48,7 @@ const MOST: usize = 67_108_864;
 /// The rounds of a script, each with the texts of its sessions; or why nothing of the script is run: it is too long, or it
 /// isn't UTF-8 from a byte on, or no memory was found.
 pub fn read_script(alloc: Global, script: &[u8]) -> Result<Script, ScriptFault>
-    ensures { MatchResult result (λ rounds. (rounds ≡ script_of script.now) × IsReadable script.now) (λ fault. StopsScript script.now fault) }
+    ensures { MatchResult result (λ rounds. (rounds ≡ script_of script.now) × IsReadableScript script.now) (λ fault. StopsScript script.now fault) }
 {
     if script.len() > MOST {
         return Err(ScriptFault::TooLong);

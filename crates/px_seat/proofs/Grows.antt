@@ -8,7 +8,7 @@ use Rattle.px_trail.specs.declared.entry.Entry.{Entry}
 use Rattle.px_trail.specs.Trail.{Base, acts_by}
 use Rattle.px_calls.specs.declared.fault.StepFault.{StepFault}
 use Rattle.px_calls.specs.declared.fault.StepFault.TheVariants.{ReadFault, WriteFault, Closed}
-use Rattle.px_calls.specs.Known.{Known, Passes, Sees, Adds}
+use Rattle.px_calls.specs.Known.{Known, TimePasses, Sees, Adds}
 use Rattle.px_calls.specs.Calls.{Finds}
 use Rattle.px_calls.specs.Causes.{Refuses}
 use Rattle.px_calls.proofs.Runs.{acts_by-append}
@@ -65,7 +65,7 @@ grew-owned b m k k' h g = record { alone = g.as_alone ∙ h.alone; base = g.base
 
 -- 2. A step at the lock: others' entries pass, the server has them, and the step follows
 
-passes-then : (k a c : Known) → Passes k a → Passes a c → Passes k c
+passes-then : (k a c : Known) → TimePasses k a → TimePasses a c → TimePasses k c
 passes-then k a c h j = record {
   others = h.others ++ j.others;
   seen = j.seen ∙ (ap (λ (l : List Entry). l ++ j.others) h.seen ∙ append_assoc k.seen h.others j.others);
@@ -76,23 +76,23 @@ passes-then k a c h j = record {
   legal = j.legal;
 }
 
-passes-shared : (k c : Known) → Passes k c → Passes k (shared c)
+passes-shared : (k c : Known) → TimePasses k c → TimePasses k (shared c)
 passes-shared k c h = record { others = h.others; seen = h.seen; apart = h.apart; seat = h.seat; base = h.base; damaged = h.damaged; legal = h.legal }
 
 no_one_alone : (b : Bool) → b ≡ false → b ≡ true → ⊥
 no_one_alone b f t = cc
 
-pub sees-shared : (k a c : Known) → k.alone ≡ false → Passes k a → Sees a c → Sees k (shared c)
+pub sees-shared : (k a c : Known) → k.alone ≡ false → TimePasses k a → Sees a c → Sees k (shared c)
 sees-shared k a c apart h j = record {
   passes = passes-shared k c (passes-then k a c h j.passes);
   alone = λ alone. absurd (no_one_alone k.alone apart alone);
   as_alone = sym apart;
 }
 
-pub finds-shared : (k a c : Known) → k.alone ≡ false → Passes k a → Finds a c → Finds k (shared c)
+pub finds-shared : (k a c : Known) → k.alone ≡ false → TimePasses k a → Finds a c → Finds k (shared c)
 finds-shared k a c apart h j = record { sees = sees-shared k a c apart h j.sees; running = j.running }
 
-abbrev pub adds-shared : (k a c : Known) (act : Act) → k.alone ≡ false → Passes k a → Adds a c act → Adds k (shared c) act
+abbrev pub adds-shared : (k a c : Known) (act : Act) → k.alone ≡ false → TimePasses k a → Adds a c act → Adds k (shared c) act
 adds-shared k a c act apart h j =
     let e = j.extends in
     record {
@@ -105,7 +105,7 @@ adds-shared k a c act apart h j =
 abbrev pub IsShared : (StepFault → Known → Type 0) → Type 0
 IsShared Cause = (f : StepFault) (k : Known) → Cause f k → Cause f (shared k)
 
-pub refuses-shared : (Cause : StepFault → Known → Type 0) (k a c : Known) (f : StepFault) → IsShared Cause → k.alone ≡ false → Passes k a → Refuses Cause a c f → Refuses Cause k (shared c) f
+pub refuses-shared : (Cause : StepFault → Known → Type 0) (k a c : Known) (f : StepFault) → IsShared Cause → k.alone ≡ false → TimePasses k a → Refuses Cause a c f → Refuses Cause k (shared c) f
 refuses-shared Cause k a c ReadFault s apart h j = (s ReadFault c j.0, (j.1.0, adds-shared k a c (Missed j.1.0) apart h j.1.1))
 refuses-shared Cause k a c WriteFault s apart h j = (s WriteFault c j.0, (j.1.0, adds-shared k a c (Shut j.1.0) apart h j.1.1))
 refuses-shared Cause k a c (Closed call) s apart h j = (s (Closed call) c j.0, sees-shared k a c apart h j.1)
@@ -113,7 +113,7 @@ refuses-shared Cause k a c f s apart h j = (s f c j.0, sees-shared k a c apart h
 
 -- what the seat knows once it has entered and the server acts as it
 pub record Entered {S : Type 0} (known : S → Known) (b : Base) (d : ℕ → ℕ → Bool) (n : ℕ) (xs : List Entry) (v : S) : Type 0 where
-  pub passes : Passes (mine n b d xs) (known v)
+  pub passes : TimePasses (mine n b d xs) (known v)
   pub owned : IsOwned b d (known v)
 
 pub enters : {S : Type 0} (known : S → Known) (b : Base) (d : ℕ → ℕ → Bool) (n m : ℕ) (old now : List Entry) (u v : S)

@@ -33,7 +33,7 @@ use Rattle.px_calls.specs.declared.ticket.Verifies.{Verifies}
 use Rattle.px_calls.specs.declared.ticket.Verifies.TheVariants as verifies
 use Rattle.px_calls.specs.declared.ticket.Writes.{Writes}
 use Rattle.px_calls.specs.declared.ticket.Writes.TheVariants as writes
-use Rattle.px_calls.specs.Known.{Known, Passes}
+use Rattle.px_calls.specs.Known.{Known, TimePasses}
 use Rattle.px_calls.specs.Requires.{CanAbandon, CanEnd, base_owners}
 use Rattle.px_calls.specs.Causes.{base_cause, batch_limit, begin_cause, define_cause, find_cause, fix_cause, new_index_cause, new_table_cause, open_cause, order_cause, read_cause, rebuilding_cause, rows_cause, status_cause, upkeep_cause, write_cause}
 use Rattle.px_calls.specs.Calls.{Consulted, DidBase, DidBegin, DidConsult, DidCount, DidDefine, DidFind, DidFix, DidLook, DidMark, DidOpen, DidVerify, DidWork, DidWrite, IsFinished, IsReceipt, WroteRows, act_of}
@@ -43,11 +43,11 @@ use Rattle.px_seat.proofs.Grows.{adds-grew, finds-grew, adds-shared, finds-share
 
 -- 1. What was so before others' entries is so after them
 
-pub passes-can_end : (k a : Known) (t : Ticket) → Passes k a → CanEnd k t → CanEnd a t
+pub passes-can_end : (k a : Known) (t : Ticket) → TimePasses k a → CanEnd k t → CanEnd a t
 passes-can_end k a t h (inl i) = inl (passes-ticket k a t Closing h i)
 passes-can_end k a t h (inr i) = inr (passes-shut k a h i.0, passes-ticket k a t Verifying h i.1)
 
-pub passes-can_abandon : (k a : Known) (t : Ticket) → Passes k a → CanAbandon k t → CanAbandon a t
+pub passes-can_abandon : (k a : Known) (t : Ticket) → TimePasses k a → CanAbandon k t → CanAbandon a t
 passes-can_abandon k a t h (s, inl i) = (passes-shut k a h s, inl (passes-ticket k a t Marking h i))
 passes-can_abandon k a t h (s, inr i) = (passes-shut k a h s, inr (passes-ticket k a t Writing h i))
 
@@ -136,13 +136,13 @@ status_shared t f k h = h
 
 -- 3. Answers
 
-pub find-shared : (k a c : Known) (name : List ℕ) (f : Found) → k.alone ≡ false → Passes k a → DidFind a c name f → DidFind k (shared c) name f
+pub find-shared : (k a c : Known) (name : List ℕ) (f : Found) → k.alone ≡ false → TimePasses k a → DidFind a c name f → DidFind k (shared c) name f
 find-shared k a c name f apart h j = record { finds = finds-shared k a c apart h j.finds; name_is = j.name_is; found = j.found }
 
-pub define-shared : (k a c : Known) (x : Definition) (m : Made) → k.alone ≡ false → Passes k a → DidDefine a c x m → DidDefine k (shared c) x m
+pub define-shared : (k a c : Known) (x : Definition) (m : Made) → k.alone ≡ false → TimePasses k a → DidDefine a c x m → DidDefine k (shared c) x m
 define-shared k a c x m apart h j = record { adds = adds-shared k a c (act_of x m) apart h j.adds; made = j.made; at = j.at }
 
-pub begin-shared : (sound : Type 0) (k a c : Known) (t : TableId) (cs : List Change) (x : Ticket) → k.alone ≡ false → Passes k a → DidBegin sound a c t cs x → DidBegin sound k (shared c) t cs x
+pub begin-shared : (sound : Type 0) (k a c : Known) (t : TableId) (cs : List Change) (x : Ticket) → k.alone ≡ false → TimePasses k a → DidBegin sound a c t cs x → DidBegin sound k (shared c) t cs x
 begin-shared sound k a c t cs x apart h j = record {
   table = j.table;
   adds = adds-shared k a c (Begun t x.stamp cs) apart h j.adds;
@@ -155,7 +155,7 @@ pub mark-grew : (k k' : Known) (t : Ticket) (m : Marks) → k.alone ≡ true →
 mark-grew k k' t marks.More alone h = finds-grew k k' alone h
 mark-grew k k' t marks.AllMarked alone h = adds-grew k k' (Phase t.table t.stamp 1) alone h
 
-pub mark-shared : (k a c : Known) (t : Ticket) (m : Marks) → k.alone ≡ false → Passes k a → DidMark a c t m → DidMark k (shared c) t m
+pub mark-shared : (k a c : Known) (t : Ticket) (m : Marks) → k.alone ≡ false → TimePasses k a → DidMark a c t m → DidMark k (shared c) t m
 mark-shared k a c t marks.More apart h j = finds-shared k a c apart h j
 mark-shared k a c t marks.AllMarked apart h j = adds-shared k a c (Phase t.table t.stamp 1) apart h j
 
@@ -163,10 +163,10 @@ pub write-grew : (k k' : Known) (t : Ticket) (w : Writes) → k.alone ≡ true �
 write-grew k k' t writes.More alone h = adds-grew k k' (Wrote t.table t.stamp h.rows) alone h.adds
 write-grew k k' t writes.AllWritten alone h = adds-grew k k' (Wrote t.table t.stamp h.rows) alone h.adds
 
-wrote-shared : (k a c : Known) (t : Ticket) (p : BatchPhase) → k.alone ≡ false → Passes k a → WroteRows a c t p → WroteRows k (shared c) t p
+wrote-shared : (k a c : Known) (t : Ticket) (p : BatchPhase) → k.alone ≡ false → TimePasses k a → WroteRows a c t p → WroteRows k (shared c) t p
 wrote-shared k a c t p apart h j = record { rows = j.rows; adds = adds-shared k a c (Wrote t.table t.stamp j.rows) apart h j.adds; next = j.next }
 
-pub write-shared : (k a c : Known) (t : Ticket) (w : Writes) → k.alone ≡ false → Passes k a → DidWrite a c t w → DidWrite k (shared c) t w
+pub write-shared : (k a c : Known) (t : Ticket) (w : Writes) → k.alone ≡ false → TimePasses k a → DidWrite a c t w → DidWrite k (shared c) t w
 write-shared k a c t writes.More apart h j = wrote-shared k a c t Writing apart h j
 write-shared k a c t writes.AllWritten apart h j = wrote-shared k a c t Verifying apart h j
 
@@ -174,7 +174,7 @@ pub verify-grew : (k k' : Known) (t : Ticket) (v : Verifies) → k.alone ≡ tru
 verify-grew k k' t verifies.More alone h = finds-grew k k' alone h
 verify-grew k k' t verifies.Done alone h = adds-grew k k' (Phase t.table t.stamp 3) alone h
 
-pub verify-shared : (k a c : Known) (t : Ticket) (v : Verifies) → k.alone ≡ false → Passes k a → DidVerify a c t v → DidVerify k (shared c) t v
+pub verify-shared : (k a c : Known) (t : Ticket) (v : Verifies) → k.alone ≡ false → TimePasses k a → DidVerify a c t v → DidVerify k (shared c) t v
 verify-shared k a c t verifies.More apart h j = finds-shared k a c apart h j
 verify-shared k a c t verifies.Done apart h j = adds-shared k a c (Phase t.table t.stamp 3) apart h j
 
@@ -195,7 +195,7 @@ receipt-shared k t r h = record {
   finished = finished-shared r.unfinished h.batch k h.finished;
 }
 
-pub open-shared : (k a c : Known) (t : TableId) (scn : Option ℕ) (p : Point) → k.alone ≡ false → Passes k a → DidOpen a c t scn p → DidOpen k (shared c) t scn p
+pub open-shared : (k a c : Known) (t : TableId) (scn : Option ℕ) (p : Point) → k.alone ≡ false → TimePasses k a → DidOpen a c t scn p → DidOpen k (shared c) t scn p
 open-shared k a c t scn p apart h j = record {
   table = j.table;
   is_scn = j.is_scn;
@@ -205,14 +205,14 @@ open-shared k a c t scn p apart h j = record {
   found_table = j.found_table;
 }
 
-pub look-shared : (sound : Type 0) (k a c : Known) (p : Point) (path : Path) (after : Option (List ℕ)) (x : Chunk) → k.alone ≡ false → Passes k a → DidLook sound a c p path after x → DidLook sound k (shared c) p path after x
+pub look-shared : (sound : Type 0) (k a c : Known) (p : Point) (path : Path) (after : Option (List ℕ)) (x : Chunk) → k.alone ≡ false → TimePasses k a → DidLook sound a c p path after x → DidLook sound k (shared c) p path after x
 look-shared sound k a c p path after x apart h j = record { finds = finds-shared k a c apart h j.finds; shows = j.shows; rows = j.rows; at = j.at }
 
 held-shared : (k : Known) (p : Point) (d : Doubt) (o : Option Held) → Consulted k p d o → Consulted (shared k) p d o
 held-shared k p d None h = h
 held-shared k p d (Some x) h = record { row = h.row; key = h.key; only = h.only; at = h.at }
 
-pub consult-shared : (sound : Type 0) (k a c : Known) (p : Point) (d d' : Doubt) (o : Option Held) → k.alone ≡ false → Passes k a → DidConsult sound a c p d d' o → DidConsult sound k (shared c) p d d' o
+pub consult-shared : (sound : Type 0) (k a c : Known) (p : Point) (d d' : Doubt) (o : Option Held) → k.alone ≡ false → TimePasses k a → DidConsult sound a c p d d' o → DidConsult sound k (shared c) p d d' o
 consult-shared sound k a c p d d' o apart h j = record {
   finds = finds-shared k a c apart h j.finds;
   index = j.index;
@@ -228,12 +228,12 @@ fix-grew k k' d fixing.Fixed alone h = adds-grew k k' (Fixed d.index d.key) alon
 fix-grew k k' d fixing.Gone alone h = finds-grew k k' alone h
 fix-grew k k' d fixing.InFlight alone h = finds-grew k k' alone h.0
 
-pub fix-shared : (k a c : Known) (d : Doubt) (x : Fixing) → k.alone ≡ false → Passes k a → DidFix a c d x → DidFix k (shared c) d x
+pub fix-shared : (k a c : Known) (d : Doubt) (x : Fixing) → k.alone ≡ false → TimePasses k a → DidFix a c d x → DidFix k (shared c) d x
 fix-shared k a c d fixing.Fixed apart h j = (adds-shared k a c (Fixed d.index d.key) apart h j.0, j.1)
 fix-shared k a c d fixing.Gone apart h j = finds-shared k a c apart h j
 fix-shared k a c d fixing.InFlight apart h j = (finds-shared k a c apart h j.0, j.1)
 
-pub base-shared : (k a c : Known) (p : Point) (i : IndexId) (xs : List BaseRow) (at : ℕ) → k.alone ≡ false → Passes k a → DidBase a c p i xs at → DidBase k (shared c) p i xs at
+pub base-shared : (k a c : Known) (p : Point) (i : IndexId) (xs : List BaseRow) (at : ℕ) → k.alone ≡ false → TimePasses k a → DidBase a c p i xs at → DidBase k (shared c) p i xs at
 base-shared k a c p i xs at apart h j = record { table = j.table; table_is = j.table_is; adds = adds-shared k a c (Based i (base_owners j.table xs)) apart h j.adds; at_is = j.at_is }
 
 pub work-grew : (k k' : Known) (w : Work) → k.alone ≡ true → DidWork k k' w → Grew k k'
@@ -241,10 +241,10 @@ work-grew k k' work.Did alone (inl h) = finds-grew k k' alone h
 work-grew k k' work.Did alone (inr h) = adds-grew k k' (Raised h.0 h.1) alone h.2
 work-grew k k' work.Idle alone h = finds-grew k k' alone h
 
-pub work-shared : (k a c : Known) (w : Work) → k.alone ≡ false → Passes k a → DidWork a c w → DidWork k (shared c) w
+pub work-shared : (k a c : Known) (w : Work) → k.alone ≡ false → TimePasses k a → DidWork a c w → DidWork k (shared c) w
 work-shared k a c work.Did apart h (inl j) = inl (finds-shared k a c apart h j)
 work-shared k a c work.Did apart h (inr j) = inr (j.0, j.1, adds-shared k a c (Raised j.0 j.1) apart h j.2)
 work-shared k a c work.Idle apart h j = finds-shared k a c apart h j
 
-pub count-shared : (k a c : Known) (t : TableId) (s : Status) → k.alone ≡ false → Passes k a → DidCount a c t s → DidCount k (shared c) t s
+pub count-shared : (k a c : Known) (t : TableId) (s : Status) → k.alone ≡ false → TimePasses k a → DidCount a c t s → DidCount k (shared c) t s
 count-shared k a c t s apart h j = record { finds = finds-shared k a c apart h j.finds; last = j.last; horizon = j.horizon; each = j.each; rising = j.rising; all = j.all }

@@ -4,9 +4,9 @@ ghost use Rattle.px_trail.specs.Batches.{Marking, Writing, Verifying, is_distinc
 ghost use Rattle.px_trail.specs.Legal.{IsLegal};
 ghost use Rattle.px_trail.specs.declared.entry.Act.TheVariants.{Ended, Released};
 ghost use Rattle.px_calls.specs.Known.{Known, Sees, Adds};
-ghost use Rattle.px_calls.specs.Requires.{AreFitting, CanAbandon, CanConsult, CanDefine, CanEnd, CanLook, IsOpen, IsScn, MayBase, TicketIn};
+ghost use Rattle.px_calls.specs.Requires.{AreFitting, CanAbandon, CanConsult, CanDefine, CanEnd, CanLook, HasOpen, IsScn, MayBase, TicketIn};
 ghost use Rattle.px_calls.specs.Causes.{Refuses, base_cause, begin_cause, define_cause, find_cause, fix_cause, open_cause, order_cause, read_cause, rows_cause, status_cause, upkeep_cause, write_cause};
-ghost use Rattle.px_calls.specs.Calls.{DidBase, DidBegin, DidConsult, DidCount, DidDefine, DidFind, DidFix, DidLook, DidMark, DidOpen, DidOrder, DidVerify, DidWork, DidWrite, IsIdle, IsReceipt};
+ghost use Rattle.px_calls.specs.Calls.{DidBase, DidBegin, DidConsult, DidCount, DidDefine, DidFind, DidFix, DidLook, DidMark, DidOpen, DidOrder, DidVerify, DidWork, DidWrite, IsIdleWork, IsReceipt};
 ghost use Rattle.px_seat.specs.Grown.{Grew, IsOwned};
 
 use px_calls::{
@@ -225,7 +225,7 @@ impl<S: Single, B: Based> Owned<S, B> {
         path: &Path,
         after: &Option<Key>,
     ) -> Result<Chunk, StepFault>
-        requires open { IsOpen (S.known self.old) p.now }
+        requires open { HasOpen (S.known self.old) p.now }
         requires path { CanLook p.now path.now }
         ensures grew { Grew (S.known self.old) (S.known self.new) }
         ensures owned { IsOwned B.base B.damaged (S.known self.new) }
@@ -237,7 +237,7 @@ impl<S: Single, B: Based> Owned<S, B> {
 
     /// The row of a doubt at the point. Leaves a verdict in the doubt.
     pub(crate) fn consult(&mut self, p: &Point, d: &mut Doubt) -> Result<Option<Held>, StepFault>
-        requires open { IsOpen (S.known self.old) p.now }
+        requires open { HasOpen (S.known self.old) p.now }
         requires doubt { CanConsult p.now d.old }
         ensures grew { Grew (S.known self.old) (S.known self.new) }
         ensures owned { IsOwned B.base B.damaged (S.known self.new) }
@@ -266,7 +266,7 @@ impl<S: Single, B: Based> Owned<S, B> {
         index: IndexId,
         rows: &BaseRows,
     ) -> Result<u64, StepFault>
-        requires open { IsOpen (S.known self.old) p.now }
+        requires open { HasOpen (S.known self.old) p.now }
         requires some { rows.now ≢ [] }
         requires few { length rows.now ≤ 64 }
         requires rows { MayBase S.sound (S.known self.old) p.now index.0 rows.now }
@@ -280,7 +280,7 @@ impl<S: Single, B: Based> Owned<S, B> {
 
     /// Closes the point.
     pub(crate) fn close_point(&mut self, p: Point)
-        requires { IsOpen (S.known self.old) p }
+        requires { HasOpen (S.known self.old) p }
         ensures grew { Grew (S.known self.old) (S.known self.new) }
         ensures owned { IsOwned B.base B.damaged (S.known self.new) }
         ensures adds { Adds (S.known self.old) (S.known self.new) (Released p.table p.stamp) }
@@ -304,7 +304,7 @@ impl<S: Single, B: Based> Owned<S, B> {
         ensures grew { Grew (S.known self.old) (S.known self.new) }
         ensures owned { IsOwned B.base B.damaged (S.known self.new) }
         ensures ok { IfOk result (DidWork (S.known self.old) (S.known self.new)) }
-        ensures done { IfOk result (λ work. IsIdle work → S.done self.new) }
+        ensures done { IfOk result (λ work. IsIdleWork work → S.done self.new) }
         ensures refused { IfErr result (Refuses upkeep_cause (S.known self.old) (S.known self.new)) }
     {
         self.core.upkeep()

@@ -1,6 +1,6 @@
 // A seat at the lock, as steps.
 ghost use Rattle.std.specs.Prelude.{◌≡◌, length};
-ghost use Rattle.px_turn.specs.Seats.{IsSeat, name_of, number, seen as list_seen};
+ghost use Rattle.px_turn.specs.Seats.{IsSeat, name_of, seat_number, seen_by_seat};
 ghost use Rattle.px_seat.specs.Grown.{WasSo, mine};
 
 use crate::owned::{Based, Owned, Single};
@@ -56,8 +56,8 @@ pub struct SeatAt<'a, R: Wait, S: Single, N: LockNamed, B: Based> {
     counts: Counts,
     of: PhantomData<(N, B)>,
     ghost named: { name_of lock.now ≡ N.name },
-    ghost is_seat: { IsSeat N.name seat × (number seat ≡ id) },
-    ghost counted: { counts.seen ≡ length (list_seen seat) },
+    ghost is_seat: { IsSeat N.name seat × (seat_number seat ≡ id) },
+    ghost counted: { counts.seen ≡ length (seen_by_seat seat) },
 }
 
 impl<'a, R: Wait, S: Single, N: LockNamed, B: Based> SeatAt<'a, R, S, N, B> {
@@ -70,8 +70,8 @@ impl<'a, R: Wait, S: Single, N: LockNamed, B: Based> SeatAt<'a, R, S, N, B> {
         seen: u64,
     ) -> SeatAt<'a, R, S, N, B>
         requires named { name_of lock.now ≡ N.name }
-        requires is_seat { IsSeat N.name seat × (number seat ≡ id) }
-        requires counted { seen ≡ length (list_seen seat) }
+        requires is_seat { IsSeat N.name seat × (seat_number seat ≡ id) }
+        requires counted { seen ≡ length (seen_by_seat seat) }
         ensures { (result.seat ≡ seat) × (result.id ≡ id) }
     {
         SeatAt {
@@ -87,7 +87,7 @@ impl<'a, R: Wait, S: Single, N: LockNamed, B: Based> SeatAt<'a, R, S, N, B> {
     /// The seat again, to close the lock with.
     pub fn seat(self) -> TurnSeat<Owned<S, B>>
         ensures same { result ≡ self.entry.seat }
-        ensures is_seat { IsSeat N.name result × (number result ≡ self.entry.id) }
+        ensures is_seat { IsSeat N.name result × (seat_number result ≡ self.entry.id) }
     {
         let SeatAt {
             rt: _,
@@ -105,7 +105,7 @@ impl<'a, R: Wait, S: Single, N: LockNamed, B: Based> Steps for SeatAt<'a, R, S, 
     ghost use Rattle.std.specs.Prelude.{false};
     ghost use Rattle.px_calls.specs.Counts.{count_after};
 
-    ghost known = { λ s. mine s.id B.base B.damaged (list_seen s.seat) };
+    ghost known = { λ s. mine s.id B.base B.damaged (seen_by_seat s.seat) };
 
     ghost one_call = { λ a b. b.counts.calls ≡ count_after a.counts.calls };
 
@@ -118,9 +118,9 @@ impl<'a, R: Wait, S: Single, N: LockNamed, B: Based> Steps for SeatAt<'a, R, S, 
 
     ghost sound = { S.sound };
 
-    ghost ordered = { λ s. WasSo S S.known S.ordered (list_seen s.seat) };
+    ghost ordered = { λ s. WasSo S S.known S.ordered (seen_by_seat s.seat) };
 
-    ghost done = { λ s. WasSo S S.known S.done (list_seen s.seat) };
+    ghost done = { λ s. WasSo S S.known S.done (seen_by_seat s.seat) };
 
     fn find(&mut self, name: &Name) -> Result<Found, StepFault> {
         let mut guard = self.lock.enter(self.rt, &mut self.seat);

@@ -3,7 +3,7 @@ ghost use Rattle.std.specs.Prelude.{◌≡◌};
 ghost use Rattle.px_calls.specs.Requires.{IsScn};
 ghost use Rattle.px_planned.specs.Queries.{query_of};
 ghost use Rattle.px_scan.specs.declared.machine.QueryState.TheVariants as query_state;
-ghost use Rattle.px_scan.specs.Turns.{Fits, IsBound, IsGoing, IsNew};
+ghost use Rattle.px_scan.specs.Turns.{FitsScan, IsBound, IsQueryGoing, IsQueryNew};
 ghost use Rattle.px_select.specs.Selecting.{IsEnd, RanSelect, SelectTurns};
 
 use px_calls::Steps;
@@ -64,7 +64,7 @@ impl SelectRun {
     pub fn new(alloc: Global, planned: Planned, scn: Option<u64>) -> SelectRun
         ensures planned { result.scan.query ≡ planned }
         ensures scn { result.scan.scn ≡ scn }
-        ensures state { IsNew result.scan.state }
+        ensures state { IsQueryNew result.scan.state }
     {
         SelectRun {
             scan: QueryRun::new(alloc, planned, scn),
@@ -74,8 +74,8 @@ impl SelectRun {
 
     /// Makes one call. With the last one the rows are sorted, cut and shown.
     pub fn step<S: Steps>(&mut self, s: &mut S) -> SelectTurn
-        requires fits { Fits S.sound (query_of self.old.scan.query) self.old.scan.scn self.old.scan.state (S.known s.old) }
-        requires going { IsGoing self.old.scan.state }
+        requires fits { FitsScan S.sound (query_of self.old.scan.query) self.old.scan.scn self.old.scan.state (S.known s.old) }
+        requires going { IsQueryGoing self.old.scan.state }
         ensures planned { self.new.scan.query ≡ self.old.scan.query }
         ensures scn { self.new.scan.scn ≡ self.old.scan.scn }
         ensures turns { SelectTurns S.sound self.old.scan.query self.old.scan.scn self.old.scan.state (S.known s.old) self.new.scan.state (S.known s.new) result }

@@ -22,20 +22,20 @@ use Rattle.px_catalog.specs.Catalogue.{standing_of}
 use Rattle.px_catalog.specs.declared.catalog.Catalog.{Catalog}
 use Rattle.px_group.specs.Group.{AreTraced, IsRightGroup, IsShownBy, IsTallied, form_of as group_form, points_in}
 use Rattle.px_group.specs.declared.group.Group.{Group}
-use Rattle.px_noting.specs.Apart.{IsApart}
-use Rattle.px_noting.specs.Points.{IsSameBeside}
+use Rattle.px_noting.specs.Apart.{IsApartFrom}
+use Rattle.px_noting.specs.Points.{IsSameBesidePoints}
 use Rattle.px_noting.proofs.OpenPoints.{same_group}
 use Rattle.px_noting.proofs.Others.{apart_elsewhere}
 use Rattle.px_reading.specs.Doubts.{IsToldBy}
 use Rattle.px_recovery.specs.Folder.{FolderData}
-use Rattle.px_recovery.specs.Kept.{GoesOn, IsServer}
+use Rattle.px_recovery.specs.Kept.{FolderGoesOn, IsServer}
 use Rattle.px_recovery.specs.Stands.{Explains, GoesOnBy}
-use Rattle.px_recovery.specs.Tables.{form_of}
+use Rattle.px_recovery.specs.Tables.{form_of_table}
 use Rattle.px_recovery.proofs.Explains.{by_entry, by_none, noted_kept}
 use Rattle.px_recovery.proofs.Numbered.{found_number}
 use Rattle.px_rows.specs.Spelled.{row_form}
 use Rattle.px_standing.specs.Agrees.{Agrees}
-use Rattle.px_server.specs.Kept.{AreBuilt, AreGroups, AreShown, HasBegun, HasFailed, HasParts, HasPoints, HasShown, HasTallied, IsKept, IsOnDisk, IsTold, forms_in, has_told, number_in, owed, table_in_group, tells_fault}
+use Rattle.px_server.specs.Kept.{AreBuilt, AreGroups, AreShown, HasBegun, HasFailed, HasPoints, HasServerParts, HasShown, HasTallied, IsKept, IsOnDisk, IsTold, forms_in, has_told, number_in, owed, table_in_group, tells_fault}
 use Rattle.px_server.specs.Others.{Beginning, OthersStay}
 use Rattle.px_server.proofs.Beside.{GoOthers, begun_then, disk_then, once_then, others_noted, others_still, own_shown, points_then, right_then, shown_then, tallied_then, traced_then}
 use Rattle.px_server.proofs.Blamed.{blamed_quiet}
@@ -74,7 +74,7 @@ pub record IsActed {D : Type 0} (d : Ghosts D) (disk : D) (b : Base) (es es' : L
   pub on_disk : closed ≡ None → (f : FolderData) → IsOnDisk d disk f g → IsOnDisk d disk f g'
 
 -- the same group with the same points in other places
-pub same_acted : {D : Type 0} (d : Ghosts D) (disk : D) (b : Base) (es : List Entry) (closed : Option ℕ) (g g' : Group) → IsSameBeside g g' → g'.points.items ≡ g.points.items → HasPoints es g → IsRightGroup g → HasTallied b es g → HasOnce g → closed ≡ None → IsActed d disk b es es closed g g'
+pub same_acted : {D : Type 0} (d : Ghosts D) (disk : D) (b : Base) (es : List Entry) (closed : Option ℕ) (g g' : Group) → IsSameBesidePoints g g' → g'.points.items ≡ g.points.items → HasPoints es g → IsRightGroup g → HasTallied b es g → HasOnce g → closed ≡ None → IsActed d disk b es es closed g g'
 same_acted d disk b es closed g g' beside points open_ right told once running = record {
   table = beside.table;
   points = λ seat s. ap (λ (t : Table). open_points seat t.id.0 s es) beside.table ∙ (open_ seat s ∙ ap (points_in seat s) (sym points));
@@ -176,7 +176,7 @@ module _ {D : Type 0} (d : Ghosts D) (b : Base) (sound premise : Type 0) (began 
       })
 
       -- the folder is told, and the groups go on from it
-      pub goes_then : ((f : FolderData) (v : ℕ → GroupData) → Explains b es f v → GoesOnBy b es es' f v (number_in g)) → GoesOn d b (HasParts d b sound catalog groups) disk es → GoesOn d b (HasParts d b sound catalog then) disk es'
+      pub goes_then : ((f : FolderData) (v : ℕ → GroupData) → Explains b es f v → GoesOnBy b es es' f v (number_in g)) → FolderGoesOn d b (HasServerParts d b sound catalog groups) disk es → FolderGoesOn d b (HasServerParts d b sound catalog then) disk es'
       goes_then by goes = (let
           f = goes.folder
           in let
@@ -186,7 +186,7 @@ module _ {D : Type 0} (d : Ghosts D) (b : Base) (sound premise : Type 0) (began 
           in let
           m = moved_by f.standing.indexes v own
           in let
-          kept : GroupKept (form_of b f.standing.indexes g.table) es' m.after =
+          kept : GroupKept (form_of_table b f.standing.indexes g.table) es' m.after =
           subst (λ (x : Table). GroupKept (table_form b x.id (forms_in f.standing.indexes g.table) (row_form x)) es' m.after) a.table m.shown.kept.group
           in record {
             folder = f;
@@ -211,7 +211,7 @@ module _ {D : Type 0} (d : Ghosts D) (b : Base) (sound premise : Type 0) (began 
         told = k.told;
         each = groups_then g' es o a;
         shown = λ given running. shown_now g' es o a running (k.shown given running);
-        server = with_parts d b premise (HasParts d b sound catalog groups) (HasParts d b sound catalog (slice_set groups place g')) disk es late closed k.server
+        server = with_parts d b premise (HasServerParts d b sound catalog groups) (HasServerParts d b sound catalog (slice_set groups place g')) disk es late closed k.server
             (λ running given tells. goes_then g' es o a running (λ f v told. by_none b es f v told (number_in g)) (k.server.goes_on running given tells));
         room = room_set groups place g g' l is closed trail trail k.room (omega (arith, less));
         blamed = k.blamed;
@@ -222,7 +222,7 @@ module _ {D : Type 0} (d : Ghosts D) (b : Base) (sound premise : Type 0) (began 
   -- ---- with an entry of its table
 
   module _ (tells_left : (x : D) (moment file : ℕ) (bytes : List ℕ) → d.left x moment file bytes → IsTrue d.tells) (up_to_now : (x : D) (moment file : ℕ) (bytes : List ℕ) → d.left x moment file bytes → moment ≤ d.calls x)
-      (e : Entry) (at : e.calls ≡ d.calls disk) (quiet : lasting e ≡ false) (calm : tells_fault e.act ≡ false) (may : MayCome b es e) (unshut : closing_step closed e.act ≡ closed) (still : catalogue_of b (es ++ e ∷ []) ≡ catalogue_of b es) (apart : (t : TableId) → t.0 ≢ number_in g → IsApart t e.act) (own : IsOfOwn b es (number_in g) e.act)
+      (e : Entry) (at : e.calls ≡ d.calls disk) (quiet : lasting e ≡ false) (calm : tells_fault e.act ≡ false) (may : MayCome b es e) (unshut : closing_step closed e.act ≡ closed) (still : catalogue_of b (es ++ e ∷ []) ≡ catalogue_of b es) (apart : (t : TableId) → t.0 ≢ number_in g → IsApartFrom t e.act) (own : IsOfOwn b es (number_in g) e.act)
       (g' : Group) (a : IsActed d disk b es (es ++ e ∷ []) closed g g') (trail' : Recorded) (entries : trail'.entries ≡ es ++ e ∷ []) (less : owed g' + trail.room ≤ owed g + trail'.room) where
     abbrev es' : List Entry
     es' = es ++ e ∷ []
@@ -250,8 +250,8 @@ module _ {D : Type 0} (d : Ghosts D) (b : Base) (sound premise : Type 0) (began 
           told = subst (λ (ys : List Entry). IsTold b ys closed (standing_of catalog) standing) (sym entries) told_then;
           each = subst (λ (ys : List Entry). AreGroups b ys closed standing.tables then) (sym entries) (groups_then g' es' o a);
           shown = λ given running. subst (λ (ys : List Entry). AreShown b ys standing.indexes then) (sym entries) (shown_now g' es' o a running (k.shown given running));
-          server = subst (λ (ys : List Entry). IsServer d b premise (HasParts d b sound catalog then) disk ys late closed) (sym entries)
-              (server_goes d tells_left up_to_now b premise (HasParts d b sound catalog groups) (HasParts d b sound catalog then) disk es late closed k.server e at quiet may unshut (λ running goes. goes_then g' es' o a running by goes));
+          server = subst (λ (ys : List Entry). IsServer d b premise (HasServerParts d b sound catalog then) disk ys late closed) (sym entries)
+              (server_goes d tells_left up_to_now b premise (HasServerParts d b sound catalog groups) (HasServerParts d b sound catalog then) disk es late closed k.server e at quiet may unshut (λ running goes. goes_then g' es' o a running by goes));
           room = room_set groups place g g' l is closed trail trail' k.room less;
           blamed = subst (λ (ys : List Entry). has_told ys ≡ true → HasFailed d disk) (sym entries) (blamed_quiet d disk es e calm k.blamed);
           last_call = k.last_call;

@@ -16,7 +16,7 @@ use Rattle.px_calls.specs.Known.{Known}
 use Rattle.px_calls.specs.declared.definition.Definition.TheVariants as definition
 use Rattle.px_calls.specs.declared.fault.StepFault.{StepFault}
 use Rattle.px_calls.specs.declared.fault.StepFault.TheVariants.{NotReady, WriteFault as Failed, Memory as MemoryFault}
-use Rattle.px_schema.specs.Stands.{after}
+use Rattle.px_schema.specs.Stands.{stands_after}
 use Rattle.px_schema.specs.declared.item.CatalogItem.TheVariants.{IndexIs}
 use Rattle.px_schema.specs.declared.standing.Standing.{Standing}
 use Rattle.px_catalog.specs.Catalogue.{CatalogueStands, HasCatalogue, catalogue_files, standing_of}
@@ -35,7 +35,7 @@ use Rattle.px_tables.specs.declared.index.IndexState.TheVariants.{Active}
 use Rattle.px_group.specs.Group.{IsRightGroup}
 use Rattle.px_group.specs.declared.group.IndexRegion.{IndexRegion}
 use Rattle.px_calls.specs.Requires.{MayActivate}
-use Rattle.px_schema.specs.Records.{IsRight}
+use Rattle.px_schema.specs.Records.{IsRightCatalogItem}
 use Rattle.px_server.specs.declared.defining.prepared.IndexToPut.{IndexToPut}
 use Rattle.px_server.proofs.IndexActivating.{activate_did, activate_failed, activate_kept, part}
 use Rattle.px_server.proofs.IndexFits.{fits_index}
@@ -59,7 +59,7 @@ module _ {D : Type 0} (d : Ghosts D) (tells_left : (x : D) (moment file : ℕ) (
   right = all_at IsRightGroup groups place g l g_is (k.each.right running)
 
   -- its record may be written
-  pub fits_active : x.index.table.0 < 256 ^ 4 → IsRight (standing_of catalog) (IndexIs p.item)
+  pub fits_active : x.index.table.0 < 256 ^ 4 → IsRightCatalogItem (standing_of catalog) (IndexIs p.item)
   fits_active short = (let
       here = part d tells_left up_to_now b damaged sound premise began disk catalog standing groups trail late closed k running place g l g_is seat t mine i may m x x_is id
       in
@@ -68,7 +68,7 @@ module _ {D : Type 0} (d : Ghosts D) (tells_left : (x : D) (moment file : ℕ) (
       (ap (λ (z : Index). z.table) made.item_is ∙ here.table) (subst (λ (z : Index). z.table.0 < 256 ^ 4) (sym made.item_is) short) made.can)
 
   module _ (mid : Recorded) (mid_same : mid.entries ≡ trail.entries) (mid_room : mid.room ≡ trail.room + 1) (disk' : D) (catalog' : Catalog) (passes : Passes d disk disk' 4) (touches : HasCatalogue d catalog disk → TouchesOnly d disk disk' catalogue_files)
-      (leaves : HasCatalogue d catalog disk → LeavesOnly d disk disk' (λ moment image. CatalogueStands image (standing_of catalog) ⊎ CatalogueStands image (after (standing_of catalog) (IndexIs p.item)))) where
+      (leaves : HasCatalogue d catalog disk → LeavesOnly d disk disk' (λ moment image. CatalogueStands image (standing_of catalog) ⊎ CatalogueStands image (stands_after (standing_of catalog) (IndexIs p.item)))) where
     k1 : IsKept d b sound premise began disk catalog standing groups mid late closed
     k1 = roomy d b sound premise began disk catalog standing groups trail late closed k mid mid_same (omega (arith, mid_room))
 
@@ -78,7 +78,7 @@ module _ {D : Type 0} (d : Ghosts D) (tells_left : (x : D) (moment file : ℕ) (
     enough : 2 + sum_by owed groups ≤ mid.room
     enough = (let before = subst (λ (z : Option ℕ). HasTrailRoom z groups trail) running k.room in omega (arith, before, mid_room))
 
-    module _ (stored : HasCatalogue d catalog disk → HasCatalogue d catalog' disk') (defined : standing_of catalog' ≡ after (standing_of catalog) (IndexIs p.item)) (h : Group) (h_is : h ≡ g) (g2 : Group) (active : HasActive h g2 m)
+    module _ (stored : HasCatalogue d catalog disk → HasCatalogue d catalog' disk') (defined : standing_of catalog' ≡ stands_after (standing_of catalog) (IndexIs p.item)) (h : Group) (h_is : h ≡ g) (g2 : Group) (active : HasActive h g2 m)
         (now : Standing) (now_is : now ≡ p.standing) (trail' : Recorded) (calls : ℕ) (at : calls ≡ d.calls disk') (entries : trail'.entries ≡ mid.entries ++ record { seat = seat; calls = calls; act = IndexState t i Active x.index.birth } ∷ []) (room : trail'.room + 1 ≡ mid.room) where
       active1 : HasActive g g2 m
       active1 = subst (λ (z : Group). HasActive z g2 m) h_is active

@@ -24,7 +24,7 @@ use Rattle.px_calls.specs.declared.definition.Definition.TheVariants as definiti
 use Rattle.px_calls.specs.declared.fault.StepFault.{StepFault}
 use Rattle.px_calls.specs.declared.fault.StepFault.TheVariants.{NotReady, WriteFault as Failed, Memory as MemoryFault}
 use Rattle.px_indexrow.specs.Form.{IsRightIndex}
-use Rattle.px_schema.specs.Stands.{after}
+use Rattle.px_schema.specs.Stands.{stands_after}
 use Rattle.px_schema.specs.declared.item.CatalogItem.TheVariants.{IndexIs}
 use Rattle.px_schema.specs.declared.standing.Standing.{Standing}
 use Rattle.px_catalog.specs.Catalogue.{CatalogueStands, HasCatalogue, catalogue_files, standing_of}
@@ -33,7 +33,7 @@ use Rattle.px_catalog.specs.declared.fault.CatalogFault.{CatalogFault}
 use Rattle.px_catalog.specs.declared.fault.CatalogFault.TheVariants.{Full, Memory, WriteFault}
 use Rattle.px_group.specs.declared.group.Group.{Group}
 use Rattle.px_recovery.specs.Tables.{index_in}
-use Rattle.px_defined.specs.Defined.{HasIndexAnew, IsSame}
+use Rattle.px_defined.specs.Defined.{HasIndexAnew, IsSameTable}
 use Rattle.px_disabled.specs.Disabled.{rebuilt}
 use Rattle.px_server.specs.Kept.{HasTrailRoom, IsKept, owed}
 use Rattle.px_server.specs.Others.{Beginning}
@@ -50,9 +50,9 @@ module _ {D : Type 0} (d : Ghosts D) (tells_left : (x : D) (moment file : ℕ) (
     (up_to_now : (x : D) (moment file : ℕ) (bytes : List ℕ) → d.left x moment file bytes → moment ≤ d.calls x) (b : Base) (damaged : ℕ → ℕ → Bool) (sound premise : Type 0) (began : Beginning)
     (disk : D) (catalog : Catalog) (standing : Standing) (groups : List Group) (trail : Recorded) (late : Option Entry) (closed : Option ℕ) (k : IsKept d b sound premise began disk catalog standing groups trail late closed) (seat : ℕ) (t : TableId) (i : IndexId)
     (p : IndexPlace) (at : IsQuietPlace standing groups closed t i p) (x : Index) (x_is : get_or standing.indexes p.index x ≡ x) (g : Group) (g_is : get_or groups p.table g ≡ g)
-    (s : ℕ) (above : g.last < s) (most : s ≤ most_of Stamps) (q : IndexToPut) (put : IsIndexToPut g.table standing (rebuilt s standing.next x) q) (g1 : Group) (same : IsSame g g1) (mid : Recorded) (mid_same : mid.entries ≡ trail.entries) (mid_room : mid.room ≡ trail.room + 1)
+    (s : ℕ) (above : g.last < s) (most : s ≤ most_of Stamps) (q : IndexToPut) (put : IsIndexToPut g.table standing (rebuilt s standing.next x) q) (g1 : Group) (same : IsSameTable g g1) (mid : Recorded) (mid_same : mid.entries ≡ trail.entries) (mid_room : mid.room ≡ trail.room + 1)
     (disk' : D) (catalog' : Catalog) (passes : Passes d disk disk' 4) (touches : HasCatalogue d catalog disk → TouchesOnly d disk disk' catalogue_files)
-    (leaves : HasCatalogue d catalog disk → LeavesOnly d disk disk' (λ moment image. CatalogueStands image (standing_of catalog) ⊎ CatalogueStands image (after (standing_of catalog) (IndexIs q.item)))) where
+    (leaves : HasCatalogue d catalog disk → LeavesOnly d disk disk' (λ moment image. CatalogueStands image (standing_of catalog) ⊎ CatalogueStands image (stands_after (standing_of catalog) (IndexIs q.item)))) where
   abbrev known : List Entry → Known
   known es = record { seat = seat; base = b; damaged = damaged; alone = true; seen = es }
 
@@ -89,8 +89,8 @@ module _ {D : Type 0} (d : Ghosts D) (tells_left : (x : D) (moment file : ℕ) (
   may : (calls : ℕ) → calls ≡ d.calls disk' → MayCome b trail.entries (entry calls)
   may calls here = subst (λ (n : ℕ). MayCome b trail.entries (entry n)) (sym here) (may_rebuild d tells_left up_to_now b damaged sound premise began disk catalog standing groups trail late closed k seat t i p at x x_is g g_is disk' passes.later s above)
 
-  leaves_y : HasCatalogue d catalog disk → LeavesOnly d disk disk' (λ moment image. CatalogueStands image (standing_of catalog) ⊎ CatalogueStands image (after (standing_of catalog) (IndexIs y)))
-  leaves_y = subst (λ (w : Index). HasCatalogue d catalog disk → LeavesOnly d disk disk' (λ moment image. CatalogueStands image (standing_of catalog) ⊎ CatalogueStands image (after (standing_of catalog) (IndexIs w)))) put.item leaves
+  leaves_y : HasCatalogue d catalog disk → LeavesOnly d disk disk' (λ moment image. CatalogueStands image (standing_of catalog) ⊎ CatalogueStands image (stands_after (standing_of catalog) (IndexIs y)))
+  leaves_y = subst (λ (w : Index). HasCatalogue d catalog disk → LeavesOnly d disk disk' (λ moment image. CatalogueStands image (standing_of catalog) ⊎ CatalogueStands image (stands_after (standing_of catalog) (IndexIs w)))) put.item leaves
 
   k1 : IsKept d b sound premise began disk catalog standing groups1 mid late closed
   k1 = reserved d b sound premise began disk catalog standing groups trail late closed k p.table g g1 l g_is same mid mid_same (omega (arith, mid_room))
@@ -113,7 +113,7 @@ module _ {D : Type 0} (d : Ghosts D) (tells_left : (x : D) (moment file : ℕ) (
   right1 : IsRightIndex g1.table y
   right1 = subst (λ (u : Table). IsRightIndex u y) (sym same.beside.table) put.right
 
-  module _ (stored : HasCatalogue d catalog disk → HasCatalogue d catalog' disk') (defined : standing_of catalog' ≡ after (standing_of catalog) (IndexIs q.item)) (h : Group) (h_is : h ≡ get_or groups1 p.table h) (g2 : Group) (anew : HasIndexAnew h g2 q.index)
+  module _ (stored : HasCatalogue d catalog disk → HasCatalogue d catalog' disk') (defined : standing_of catalog' ≡ stands_after (standing_of catalog) (IndexIs q.item)) (h : Group) (h_is : h ≡ get_or groups1 p.table h) (g2 : Group) (anew : HasIndexAnew h g2 q.index)
       (now : Standing) (now_is : now ≡ q.standing) (trail' : Recorded) (calls : ℕ) (calls_is : calls ≡ d.calls disk') (entries : trail'.entries ≡ mid.entries ++ entry calls ∷ []) (room : trail'.room + 1 ≡ mid.room) where
     anew' : HasIndexAnew g1 g2 y
     anew' = subst (λ (w : Index). HasIndexAnew g1 g2 w) put.index (subst (λ (w : Group). HasIndexAnew w g2 q.index) (h_is ∙ there h) anew)
@@ -122,7 +122,7 @@ module _ {D : Type 0} (d : Ghosts D) (tells_left : (x : D) (moment file : ℕ) (
     rebuilding_kept = subst (λ (st : Standing). IsKept d b sound premise began disk' catalog' st (slice_set groups1 p.table g2) trail' late closed) (sym (now_is ∙ put.standing))
         (anew_kept d tells_left up_to_now b sound premise began disk catalog standing groups1 mid late closed k1 at.running x p.table g1 l1 (there g1) s (entry calls) act_is
         (subst (λ (es : List Entry). MayCome b es (entry calls)) (sym mid_same) (may calls calls_is)) found' own1 none1 disk' calls_is passes touches leaves_y
-        g2 anew' right1 catalog' stored (defined ∙ ap (λ (w : Index). after (standing_of catalog) (IndexIs w)) put.item) trail' entries room enough)
+        g2 anew' right1 catalog' stored (defined ∙ ap (λ (w : Index). stands_after (standing_of catalog) (IndexIs w)) put.item) trail' entries room enough)
 
     pub rebuilding_did : (n : ℕ) → n ≡ length trail'.entries → DidDefine (known trail.entries) (known trail'.entries) (definition.Rebuilding t i) (record { number = i.0; stamp = s; at = n })
     rebuilding_did n long = record {

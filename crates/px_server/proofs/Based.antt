@@ -48,7 +48,7 @@ use Rattle.px_rows.specs.Keys.{IsRightTable}
 use Rattle.px_indexrow.specs.Form.{IsRightIndex}
 use Rattle.px_repairs.specs.Repairs.{HasStayed}
 use Rattle.px_baserows.specs.Rows.{IsBaseRow, StoodAt, owner_in, owners_in}
-use Rattle.px_basing.specs.Basing.{AreGiven, Bases, HandsBases, StoodAtBirth, WroteBases, cells_at}
+use Rattle.px_basing.specs.Basing.{AreGiven, Bases, HandsBases, StoodAtBirth, WroteBases, base_cells_of}
 use Rattle.px_basing.specs.declared.fault.BaseFault.{BaseFault}
 use Rattle.px_basing.specs.declared.fault.BaseFault.TheVariants.{Busy, NotReady, WriteFault, Memory}
 use Rattle.px_basing.proofs.Given.{given_owners, given_row, owner_is}
@@ -161,7 +161,7 @@ module _ {D : Type 0} (d : Ghosts D) (tells_left : (x : D) (moment file : ℕ) (
     })
 
     -- whatever is read of the region then, as long as it reads as the cells before all that there were
-    goes : sound → (x : IndexRegion) → slice_get g.indexes.items at ≡ Some x → (put : List CellData) → ReadsSame put (cells_at g x xs) → IndexGoes b es es g at x put
+    goes : sound → (x : IndexRegion) → slice_get g.indexes.items at ≡ Some x → (put : List CellData) → ReadsSame put (base_cells_of g x xs) → IndexGoes b es es g at x put
     goes sounds x there put same index v hs t shown told new reads = record {
       table_data = cells_data at new v;
       kept = (bases_step g at xs right given b es (stood sounds) index v hs shown x there put same new reads).kept.group;

@@ -19,10 +19,10 @@ use Rattle.px_groupworld.specs.Group.{GroupData, GroupKept, IsTableBase, table_f
 use Rattle.px_groupworld.specs.Steps.{begun_data}
 use Rattle.px_openbatches.specs.Pending.{HeldBatch}
 use Rattle.px_forms.specs.Indexes.{IndexForm}
-use Rattle.px_region.specs.Region.{Holds}
+use Rattle.px_region.specs.Region.{RegionHolds}
 use Rattle.px_rows.specs.Spelled.{row_form}
 use Rattle.px_phases.specs.Batch.{AllFit, BatchData}
-use Rattle.px_turns.specs.Turns.{drawn, drawn_at}
+use Rattle.px_turns.specs.Turns.{drawn_at, drawn_stamp}
 use Rattle.px_defined.specs.Defined.{AreOnceIn, HasOnce}
 use Rattle.px_group.specs.Group.{IsRightGroup, IsShownBy, IsTallied, form_of}
 use Rattle.px_group.specs.declared.group.Begun.{Begun}
@@ -33,7 +33,7 @@ use Rattle.px_tablereads.specs.Told.{AreTold}
 use Rattle.px_tablereads.proofs.Tells.{quiet_written, told_same}
 use Rattle.px_recovery.specs.Folder.{FolderData}
 use Rattle.px_beginning.specs.Admits.{Admits, met_by}
-use Rattle.px_beginning.specs.Begins.{IsBatchOf, held_with}
+use Rattle.px_beginning.specs.Begins.{IsBatchOf, held_with_begun}
 use Rattle.px_beginning.specs.Leaves.{LeavesGroup}
 use Rattle.px_beginning.specs.Rooms.{fresh_batch}
 use Rattle.px_beginning.proofs.Begun.{shows, steps, tallied}
@@ -80,10 +80,10 @@ module _ (g taken g' : Group) (l : LeavesGroup g taken) (s : ℕ) (cs : List Cha
   begun_once : HasOnce g → HasOnce g'
   begun_once k = subst (λ (xs : Vec IndexRegion). AreOnceIn xs.items) (sym a.indexes) (left_once g taken l k)
 
-  begun_tallied : IsLegal b es → (hs : List HeldBatch) → IsTallied b es g hs → IsTallied b es' g' (held_with taken s cs bd p hs)
+  begun_tallied : IsLegal b es → (hs : List HeldBatch) → IsTallied b es g hs → IsTallied b es' g' (held_with_begun taken s cs bd p hs)
   begun_tallied legal hs t = tallied b es taken hs e s cs may is bd p g' a base legal (tallied_after g taken l b es hs t)
 
-  begun_shown : (index : ℕ → IndexForm) (v : GroupData) (hs : List HeldBatch) → IsTallied b es g hs → IsShownBy b index es g v hs → IsShownBy b index es' g' (begun_data s v) (held_with taken s cs bd p hs)
+  begun_shown : (index : ℕ → IndexForm) (v : GroupData) (hs : List HeldBatch) → IsTallied b es g hs → IsShownBy b index es g v hs → IsShownBy b index es' g' (begun_data s v) (held_with_begun taken s cs bd p hs)
   begun_shown index v hs t shown = shows b es taken hs e s cs may is bd p g' a index v before fit early (tallied_after g taken l b es hs t) (shown_after g taken l b es hs index v shown)
 
   quiet : WritesNone e.act
@@ -114,7 +114,7 @@ module _ (g taken g' : Group) (l : LeavesGroup g taken) (s : ℕ) (cs : List Cha
   begun_disk d disk f k = (let
       on = left_disk g taken l d disk f k
       in record {
-        rows = subst (λ r. Holds d r disk (f.regions r.number)) (sym a.rows) on.rows;
+        rows = subst (λ r. RegionHolds d r disk (f.regions r.number)) (sym a.rows) on.rows;
         indexes = λ i x at. on.indexes i x (ap (λ (xs : Vec IndexRegion). slice_get xs.items i) (sym a.indexes) ∙ at);
       })
 
@@ -125,13 +125,13 @@ module _ (g taken g' : Group) (l : LeavesGroup g taken) (s : ℕ) (cs : List Cha
         table = a.table ∙ l.table;
         points = now.points;
         right = λ run. after;
-        tallied = λ run. record { held = held_with taken s cs bd p t.held; tallied = now };
+        tallied = λ run. record { held = held_with_begun taken s cs bd p t.held; tallied = now };
         once = λ run. begun_once once;
         traced = λ call shut. absurd (open_shut closed running call shut);
         begun = λ call shut. absurd (open_shut closed running call shut);
         shown = λ run index v hs tallied shown told built. record {
           after = begun_data s v;
-          held = held_with taken s cs bd p hs;
+          held = held_with_begun taken s cs bd p hs;
           tallied = begun_tallied legal hs tallied;
           shown = begun_shown index v hs tallied shown;
           told = begun_told index v hs tallied shown told;
@@ -150,5 +150,5 @@ drawn_some : (n s : ℕ) (v : Bool) → nat_le n 9223372036854775807 ≡ v → d
 drawn_some n s true le is = (let z : Some n ≡ Some s = ap (λ (v : Bool). if v then Some n else None) (sym le) ∙ is in cc, leb-true n 9223372036854775807 le)
 drawn_some n s false le is = absurd (let z : None ≡ Some s = ap (λ (v : Bool). if v then Some n else None) (sym le) ∙ is in cc)
 
-pub drawn_above : (last clock s : ℕ) → drawn last clock ≡ Some s → (last < s) × (s ≤ 9223372036854775807)
+pub drawn_above : (last clock s : ℕ) → drawn_stamp last clock ≡ Some s → (last < s) × (s ≤ 9223372036854775807)
 drawn_above last clock s is = (let w = drawn_some (max (last + 1) (min clock 4611686018427387904)) s (nat_le (max (last + 1) (min clock 4611686018427387904)) 9223372036854775807) refl is in (omega (arith, w.0), omega (arith, w.0, w.1)))

@@ -17,7 +17,7 @@ use Rattle.px_forms.specs.Indexes.{IndexForm}
 use Rattle.px_defined.specs.Defined.{HasOnce}
 use Rattle.px_group.specs.Group.{AreStanding, AreTraced, IsRightGroup, IsShownBy, IsTallied, form_of}
 use Rattle.px_group.specs.declared.group.Group.{Group}
-use Rattle.px_noting.specs.Apart.{IsApart}
+use Rattle.px_noting.specs.Apart.{IsApartFrom}
 use Rattle.px_noting.proofs.Others.{apart_elsewhere, apart_points, tallied_apart, traced_elsewhere}
 use Rattle.px_noting.proofs.Shown.{shown_elsewhere}
 use Rattle.px_reading.specs.Doubts.{IsToldBy}
@@ -51,7 +51,7 @@ others_still b es n = record {
 }
 
 -- where one came of this table, which defines nothing
-module _ (b : Base) (es : List Entry) (e : Entry) (may : MayCome b es e) (still : catalogue_of b (es ++ e ∷ []) ≡ catalogue_of b es) (n : ℕ) (apart : (t : TableId) → t.0 ≢ n → IsApart t e.act) (own : IsOfOwn b es n e.act) where
+module _ (b : Base) (es : List Entry) (e : Entry) (may : MayCome b es e) (still : catalogue_of b (es ++ e ∷ []) ≡ catalogue_of b es) (n : ℕ) (apart : (t : TableId) → t.0 ≢ n → IsApartFrom t e.act) (own : IsOfOwn b es n e.act) where
   pub standing_on : (h : Group) → AreStanding b es h → AreStanding b (es ++ e ∷ []) h
   standing_on h k = record {
     table = ap (λ c. c.tables h.table.id.0) still ∙ k.table;

@@ -25,7 +25,7 @@ use Rattle.px_rows.specs.Spelled.{row_form}
 use Rattle.px_indexed.specs.Idle.{IsElsewhere}
 use Rattle.px_indexed.specs.Worlds.{begin_event, change_event, row_event, world_at}
 use Rattle.px_indexed.proofs.Idle.{act_idle}
-use Rattle.px_groupworld.specs.Group.{GroupData, GroupKept, IndexPart, TableForm, index_in, no_part, table_form}
+use Rattle.px_groupworld.specs.Group.{GroupData, GroupKept, IndexPart, TableForm, indexed_at, no_part, table_form}
 use Rattle.px_groupworld.specs.Steps.{Bears, Does, Events, born_data}
 use Rattle.px_groupworld.proofs.Entries.{group_idle}
 use Rattle.px_openbatches.specs.Pending.{HeldBatch}
@@ -217,7 +217,7 @@ pub built_forms : (f : TableForm) (index : ℕ → IndexForm) (es : List Entry) 
 built_forms f index es v same built = record {
   each = λ i l. record {
     each = λ r h.
-        subst (λ (form : IndexForm). HasBase (shape_at f.rows.shape form r) (world_at f.rows.shape f.base es f.id.0 v.high (record (index_in f v i) { form = form }) r)) (sym (same i l)) ((built.each i l).each r h);
+        subst (λ (form : IndexForm). HasBase (shape_at f.rows.shape form r) (world_at f.rows.shape f.base es f.id.0 v.high (record (indexed_at f v i) { form = form }) r)) (sym (same i l)) ((built.each i l).each r h);
   };
 }
 

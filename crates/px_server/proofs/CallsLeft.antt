@@ -14,7 +14,7 @@ use Rattle.px_tables.specs.declared.table.Table.{Table}
 use Rattle.px_trail.specs.declared.entry.Entry.{Entry}
 use Rattle.px_trail.specs.Recorded.{Recorded}
 use Rattle.px_trail.specs.Trail.{Base, catalogue_of, index_of}
-use Rattle.px_calls.specs.Causes.{counted, of_table}
+use Rattle.px_calls.specs.Causes.{count_below, of_table}
 use Rattle.px_calls.specs.declared.ticket.Marks.{Marks}
 use Rattle.px_calls.specs.declared.ticket.Marks.TheVariants as marks
 use Rattle.px_calls.specs.declared.ticket.Ticket.{Ticket}
@@ -27,7 +27,7 @@ use Rattle.px_recovery.specs.Tables.{index_in, number_of_index}
 use Rattle.px_standing.specs.Agrees.{Agrees, number_of_table}
 use Rattle.px_standing.proofs.Finder.{counted_one, found_all}
 use Rattle.px_standing.proofs.Looked.{index_finder, indexes_below}
-use Rattle.px_group.specs.Group.{AreOnce, IsRightBatch, IsRightGroup, IsRightPart}
+use Rattle.px_group.specs.Group.{HaveOwnStamps, IsRightBatch, IsRightGroup, IsRightPart}
 use Rattle.px_group.specs.declared.group.Begun.{Begun}
 use Rattle.px_group.specs.declared.group.Group.{Group}
 use Rattle.px_group.specs.declared.group.IndexRegion.{IndexRegion}
@@ -37,7 +37,7 @@ use Rattle.px_defined.specs.Defined.{AreOnceIn, HasOnce}
 use Rattle.px_batching.specs.Steps.{ClosesAll, FinishesCloses, FinishesMarks, IsBatchStep, Marked, MarksAll, Verified, WroteCloses, WroteMarks, WrotePuts}
 use Rattle.px_batching.proofs.Places.{same_at, set_here}
 use Rattle.px_batching.proofs.Traced.{traced_of}
-use Rattle.px_server.specs.CallsLeft.{calls_left, left_at, left_by, left_in}
+use Rattle.px_server.specs.CallsLeft.{calls_left, calls_left_in, left_at, left_by}
 use Rattle.px_server.specs.Kept.{HasTallied, IsKept, number_in, table_in_group}
 use Rattle.px_server.specs.Others.{Beginning}
 use Rattle.px_server.proofs.Lists.{all_both, all_weaker, distinct_map, rising_distinct}
@@ -83,10 +83,10 @@ all_found : {A X : Type 0} (num : X → ℕ) (f : ℕ → Option A) (n a : ℕ) 
 all_found num f n a [] none all = tt
 all_found num f n a (x ∷ xs) none all = ((all.0.0, ap is_some (sym (without_other f a (num x) (λ e. none.0 (sym e)))) ∙ all.0.1), all_found num f n a xs none.1 all.1)
 
-pub as_many : {A X : Type 0} (num : X → ℕ) (f : ℕ → Option A) (n : ℕ) (xs : List X) → AreDistinct num xs → AllByRecursion (λ x. (num x < n) × (is_some (f (num x)) ≡ true)) xs → length xs ≤ counted f n
+pub as_many : {A X : Type 0} (num : X → ℕ) (f : ℕ → Option A) (n : ℕ) (xs : List X) → AreDistinct num xs → AllByRecursion (λ x. (num x < n) × (is_some (f (num x)) ≡ true)) xs → length xs ≤ count_below f n
 as_many num f n [] once all = omega arith
 as_many num f n (x ∷ xs) once all =
-    let one : counted f n ≡ suc (counted (without f (num x)) n) = (counted_one f (without f (num x)) (num x) all.0.1 (without_own f (num x)) (λ m other. without_other f (num x) m other) n).0 all.0.0 in
+    let one : count_below f n ≡ suc (count_below (without f (num x)) n) = (counted_one f (without f (num x)) (num x) all.0.1 (without_own f (num x)) (λ m other. without_other f (num x) m other) n).0 all.0.0 in
     let rest = as_many num (without f (num x)) n xs once.1 (all_found num f n (num x) xs once.0 all.1) in
     omega (arith, one, rest)
 
@@ -95,13 +95,13 @@ as_many num f n (x ∷ xs) once all =
 abbrev pub HasStamp : Group → ℕ → ℕ → Type 0
 HasStamp g m s = (x : Begun) → slice_get g.batches.items m ≡ Some x → x.batch.stamp ≡ s
 
-step_less : (g g' : Group) (m t s : ℕ) (x x' : Begun) → IsBatchStep g g' m x x' → HasStamp g m s → x'.batch.stamp ≡ x.batch.stamp → g.table.id.0 ≡ t → left_in x'.phase x'.batch < left_in x.phase x.batch → left_by t s g' < left_by t s g
+step_less : (g g' : Group) (m t s : ℕ) (x x' : Begun) → IsBatchStep g g' m x x' → HasStamp g m s → x'.batch.stamp ≡ x.batch.stamp → g.table.id.0 ≡ t → calls_left_in x'.phase x'.batch < calls_left_in x.phase x.batch → left_by t s g' < left_by t s g
 step_less g g' m t s x x' h stamp same own less =
     let at = get_at g.batches.items m x h.batch in
     let old = stamp x h.batch in
     let sum = sum_by-set (left_at s) g.batches.items m x' x at.0 in
-    let was : left_at s (get_or g.batches.items m x) ≡ left_in x.phase x.batch = ap (left_at s) at.1 ∙ if_same x.batch.stamp s (left_in x.phase x.batch) old in
-    let now : left_at s x' ≡ left_in x'.phase x'.batch = if_same x'.batch.stamp s (left_in x'.phase x'.batch) (same ∙ old) in
+    let was : left_at s (get_or g.batches.items m x) ≡ calls_left_in x.phase x.batch = ap (left_at s) at.1 ∙ if_same x.batch.stamp s (calls_left_in x.phase x.batch) old in
+    let now : left_at s x' ≡ calls_left_in x'.phase x'.batch = if_same x'.batch.stamp s (calls_left_in x'.phase x'.batch) (same ∙ old) in
     let next : sum_by (left_at s) g'.batches.items ≡ sum_by (left_at s) (set g.batches.items m x') = ap (λ (ms : List Begun). sum_by (left_at s) ms) h.batches in
     let mine : left_by t s g ≡ sum_by (left_at s) g.batches.items = if_same g.table.id.0 t (sum_by (left_at s) g.batches.items) own in
     let mine' : left_by t s g' ≡ sum_by (left_at s) g'.batches.items = if_same g'.table.id.0 t (sum_by (left_at s) g'.batches.items) (ap (λ (z : Table). z.id.0) h.table ∙ own) in
@@ -118,8 +118,8 @@ module _ {D : Type 0} (d : Ghosts D) (m t s : ℕ) where
   marks_less g g' disk disk' w stamp own =
       let o = w.hands in
       let x = o.batch in
-      let p : left_in x.phase x.batch ≡ 3 + length x.batch.marks + length x.batch.closes = ap (λ (q : Phase). left_in q x.batch) o.marking in
-      let p' : left_in x.phase (record x.batch { marks = o.rest }) ≡ 3 + length o.rest + length x.batch.closes = ap (λ (q : Phase). left_in q (record x.batch { marks = o.rest })) o.marking in
+      let p : calls_left_in x.phase x.batch ≡ 3 + length x.batch.marks + length x.batch.closes = ap (λ (q : Phase). calls_left_in q x.batch) o.marking in
+      let p' : calls_left_in x.phase (record x.batch { marks = o.rest }) ≡ 3 + length o.rest + length x.batch.closes = ap (λ (q : Phase). calls_left_in q (record x.batch { marks = o.rest })) o.marking in
       let one : length x.batch.marks ≡ suc (length o.rest) = ap (λ (l : List (List (List CellData))). length l) o.kept in
       step_less g g' m t s x (record x { batch = record x.batch { marks = o.rest } }) o.step.step stamp refl own (omega (arith, p, p', one))
 
@@ -129,7 +129,7 @@ module _ {D : Type 0} (d : Ghosts D) (m t s : ℕ) where
   marked_less : (g g' : Group) → FinishesMarks g g' m → HasStamp g m s → g.table.id.0 ≡ t → left_by t s g' < left_by t s g
   marked_less g g' f stamp own =
       let x = f.batch in
-      let p : left_in x.phase x.batch ≡ 3 + length x.batch.marks + length x.batch.closes = ap (λ (q : Phase). left_in q x.batch) f.marking in
+      let p : calls_left_in x.phase x.batch ≡ 3 + length x.batch.marks + length x.batch.closes = ap (λ (q : Phase). calls_left_in q x.batch) f.marking in
       step_less g g' m t s x (record x { phase = Writing }) f.step.step stamp refl own (omega (arith, p))
 
   all_marked_less : (g g' : Group) (disk disk' : D) → MarksAll d g g' disk disk' m → HasStamp g m s → g.table.id.0 ≡ t → left_by t s g' < left_by t s g
@@ -152,15 +152,15 @@ module _ {D : Type 0} (d : Ghosts D) (m t s : ℕ) where
   write_less g g' disk disk' w stamp own =
       let o = w.hands in
       let x = o.batch in
-      let p : left_in x.phase x.batch ≡ 2 + length x.batch.closes = ap (λ (q : Phase). left_in q x.batch) o.writing in
+      let p : calls_left_in x.phase x.batch ≡ 2 + length x.batch.closes = ap (λ (q : Phase). calls_left_in q x.batch) o.writing in
       step_less g g' m t s x (record x { phase = Verifying; batch = record x.batch { puts = None }; rows = None }) o.step.step stamp refl own (omega (arith, p))
 
   closes_less : (g g' : Group) (disk disk' : D) → WroteCloses d g g' disk disk' m → HasStamp g m s → g.table.id.0 ≡ t → left_by t s g' < left_by t s g
   closes_less g g' disk disk' w stamp own =
       let o = w.hands in
       let x = o.batch in
-      let p : left_in x.phase x.batch ≡ 1 + length x.batch.closes = ap (λ (q : Phase). left_in q x.batch) o.verifying in
-      let p' : left_in x.phase (record x.batch { closes = o.rest }) ≡ 1 + length o.rest = ap (λ (q : Phase). left_in q (record x.batch { closes = o.rest })) o.verifying in
+      let p : calls_left_in x.phase x.batch ≡ 1 + length x.batch.closes = ap (λ (q : Phase). calls_left_in q x.batch) o.verifying in
+      let p' : calls_left_in x.phase (record x.batch { closes = o.rest }) ≡ 1 + length o.rest = ap (λ (q : Phase). calls_left_in q (record x.batch { closes = o.rest })) o.verifying in
       let one : length x.batch.closes ≡ suc (length o.rest) = ap (λ (l : List (List (List CellData))). length l) o.kept in
       step_less g g' m t s x (record x { batch = record x.batch { closes = o.rest } }) o.step.step stamp refl own (omega (arith, p, p', one))
 
@@ -170,7 +170,7 @@ module _ {D : Type 0} (d : Ghosts D) (m t s : ℕ) where
   verified_less : (g g' : Group) → FinishesCloses g g' m → HasStamp g m s → g.table.id.0 ≡ t → left_by t s g' < left_by t s g
   verified_less g g' f stamp own =
       let x = f.batch in
-      let p : left_in x.phase x.batch ≡ 1 + length x.batch.closes = ap (λ (q : Phase). left_in q x.batch) f.verifying in
+      let p : calls_left_in x.phase x.batch ≡ 1 + length x.batch.closes = ap (λ (q : Phase). calls_left_in q x.batch) f.verifying in
       step_less g g' m t s x (record x { phase = Closing }) f.step.step stamp refl own (omega (arith, p))
 
   all_verified_less : (g g' : Group) (disk disk' : D) → ClosesAll d g g' disk disk' m → HasStamp g m s → g.table.id.0 ≡ t → left_by t s g' < left_by t s g
@@ -197,7 +197,7 @@ fewer groups place g g' l is t less =
 
 -- ---- one that begins has few
 
-most_in : (p : Phase) (b : BatchData) (n : ℕ) → length b.marks ≤ n → length b.closes ≤ n → left_in p b ≤ 3 + 2 * n
+most_in : (p : Phase) (b : BatchData) (n : ℕ) → length b.marks ≤ n → length b.closes ≤ n → calls_left_in p b ≤ 3 + 2 * n
 most_in Marking b n marks closes = omega (arith, marks, closes)
 most_in Writing b n marks closes = omega (arith, marks, closes)
 most_in Verifying b n marks closes = omega (arith, marks, closes)
@@ -208,9 +208,9 @@ most_at g s m r =
     let a = r.count in
     let b = r.marks in
     let c = r.closes in
-    if_few (m.batch.stamp == s) (left_in m.phase m.batch) (3 + 2 * length g.indexes.items) (most_in m.phase m.batch (length g.indexes.items) (omega (arith, a, b)) (omega (arith, a, c)))
+    if_few (m.batch.stamp == s) (calls_left_in m.phase m.batch) (3 + 2 * length g.indexes.items) (most_in m.phase m.batch (length g.indexes.items) (omega (arith, a, b)) (omega (arith, a, c)))
 
-distinct_batches : (ms : List Begun) → AreOnce ms → AreDistinct stamp_in ms
+distinct_batches : (ms : List Begun) → HaveOwnStamps ms → AreDistinct stamp_in ms
 distinct_batches [] once = tt
 distinct_batches (m ∷ ms) once = (all_weaker (λ x. m.batch.stamp ≢ x.batch.stamp) (λ x. x.batch.stamp ≢ m.batch.stamp) (λ x other e. other (sym e)) ms once.0, distinct_batches ms once.1)
 
@@ -226,7 +226,7 @@ each_place P [] f = tt
 each_place P (x ∷ xs) f = (f zero x refl, each_place P xs (λ i y at. f (suc i) y at))
 
 abbrev pub count_of : Base → List Entry → ℕ → ℕ
-count_of b es t = counted (λ i. of_table t (index_of b es i)) (catalogue_of b es).next
+count_of b es t = count_below (λ i. of_table t (index_of b es i)) (catalogue_of b es).next
 
 module _ (b : Base) (es : List Entry) (standing : Standing) (agrees : Agrees standing (catalogue_of b es)) where
   found_index : (t : ℕ) (x : Index) → index_of b es x.id.0 ≡ Some x → x.table.0 ≡ t → (x.id.0 < (catalogue_of b es).next) × (is_some (of_table t (index_of b es x.id.0)) ≡ true)
@@ -247,7 +247,7 @@ module _ (b : Base) (es : List Entry) (standing : Standing) (agrees : Agrees sta
   group_few t s g right tallied once = elim (cases_eq g.table.id.0 t) [
     | inl own ↦ (
         let mine : left_by t s g ≡ sum_by (left_at s) g.batches.items = if_same g.table.id.0 t (sum_by (left_at s) g.batches.items) own in
-        let few = sum_one stamp_in (left_at s) s (3 + 2 * length g.indexes.items) (λ m other. if_other m.batch.stamp s (left_in m.phase m.batch) other) g.batches.items
+        let few = sum_one stamp_in (left_at s) s (3 + 2 * length g.indexes.items) (λ m other. if_other m.batch.stamp s (calls_left_in m.phase m.batch) other) g.batches.items
         (distinct_batches g.batches.items (traced_of b es g tallied.held right tallied.tallied).once) (all_weaker (IsRightBatch g) (λ m. left_at s m ≤ 3 + 2 * length g.indexes.items) (most_at g s) g.batches.items right.batches) in
         let indexes : length g.indexes.items ≤ count_of b es t = subst (λ (n : ℕ). length g.indexes.items ≤ count_of b es n) own (indexes_few g right tallied once) in
         omega (arith, mine, few, indexes))

@@ -3,7 +3,7 @@
 use Rattle.std.proofs.Common.{◌≡◌, ◌≢◌, ◌<◌, ◌≤◌, ◌⊎◌, inl, inr, ℕ, suc, Bool, true, false, Option, Some, None, List, [], ◌∷◌, ◌++◌, map, slice_get, get_or, refl, sym, ap, subst, ◌∙◌, arith}
 use Rattle.std.specs.Prelude.{IsTrue, if◌then◌else◌, ◌==◌}
 use Rattle.std.specs.List.{AllByRecursion}
-use Rattle.px_outside.specs.Disk.{Image, IsLeft}
+use Rattle.px_outside.specs.Disk.{Image, IsLeftBy}
 use Rattle.px_outside.specs.OnDisk.{LeavesOnly, Passes, TouchesOnly}
 use Rattle.px_outside.specs.Standing.{StandsIn}
 use Rattle.px_outside.specs.declared.disk.Disk.{Ghosts}
@@ -18,7 +18,7 @@ use Rattle.px_trail.specs.Trail.{Base, Catalogue, IsRightBase, catalogue_of, clo
 use Rattle.px_trail.proofs.Growth.{closing-snoc, legal-snoc, points-snoc}
 use Rattle.px_wal.specs.Files.{HasFile}
 use Rattle.px_region.proofs.Holding.{holds_kept}
-use Rattle.px_schema.specs.Stands.{after}
+use Rattle.px_schema.specs.Stands.{stands_after}
 use Rattle.px_schema.specs.declared.item.CatalogItem.{CatalogItem}
 use Rattle.px_schema.specs.declared.standing.Standing.{Standing}
 use Rattle.px_schema.proofs.Numbers.{next_up}
@@ -37,14 +37,14 @@ use Rattle.px_noting.proofs.Shown.{shown_elsewhere}
 use Rattle.px_reading.specs.Doubts.{IsToldBy}
 use Rattle.px_defined.specs.Defined.{HasOnce}
 use Rattle.px_defined.proofs.Lists.{all_at}
-use Rattle.px_recovery.specs.Folder.{AreFresh, AreUnmade, FolderData, IsAmong, from, region_numbers, with_standing}
-use Rattle.px_recovery.specs.Kept.{GoesOn, IsServer, LeavesFolder, MovesFolder}
+use Rattle.px_recovery.specs.Folder.{AreFresh, AreUnmade, FolderData, IsNumberAmong, from, region_numbers, with_standing}
+use Rattle.px_recovery.specs.Kept.{FolderGoesOn, IsServer, LeavesFolder, MovesFolder}
 use Rattle.px_recovery.specs.Stands.{Explains, TellsCatalogue, opened_index, opened_state}
-use Rattle.px_recovery.specs.Tables.{IsOneOf, form_in, index_in}
+use Rattle.px_recovery.specs.Tables.{IsRegionAmong, form_of_index, index_in}
 use Rattle.px_recovery.proofs.Definitions.{catalogue_moved, catalogue_moves}
 use Rattle.px_recovery.proofs.Numbered.{rows_number}
 use Rattle.px_standing.specs.Agrees.{Agrees, opened_standing}
-use Rattle.px_server.specs.Kept.{AreBuilt, AreGroups, AreShown, HasFailed, HasParts, HasPoints, HasShown, HasTallied, HasTrailRoom, IsKept, IsOnDisk, IsShutAt, IsTold, forms_in, has_told, number_in, table_in_group}
+use Rattle.px_server.specs.Kept.{AreBuilt, AreGroups, AreShown, HasFailed, HasPoints, HasServerParts, HasShown, HasTallied, HasTrailRoom, IsKept, IsOnDisk, IsShutAt, IsTold, forms_in, has_told, number_in, table_in_group}
 use Rattle.px_server.specs.Others.{Beginning, OthersStay}
 use Rattle.px_server.proofs.Built.{built_as, built_elsewhere}
 use Rattle.px_server.proofs.Changed.{lasting_server, late_entry}
@@ -61,20 +61,20 @@ all_pairs P Q (x ∷ xs) p q = ((p.0, q.0), all_pairs P Q xs p.1 q.1)
 
 -- ---- how index rows are spelled, whatever the states of the indexes are
 
-opened_form : (x : Table) (o : Option Index) → form_in x (opened_index o) ≡ form_in x o
+opened_form : (x : Table) (o : Option Index) → form_of_index x (opened_index o) ≡ form_of_index x o
 unfolding owns
 opened_form x None = refl
 opened_form x (Some i) = refl
 
 -- the list of indexes spells as the catalogue's
 abbrev pub AreForms : List Index → Catalogue → Type 0
-AreForms xs c = (x : Table) (n : ℕ) → form_in x (index_in xs n) ≡ form_in x (c.indexes n)
+AreForms xs c = (x : Table) (n : ℕ) → form_of_index x (index_in xs n) ≡ form_of_index x (c.indexes n)
 
 pub agreed_forms : (s : Standing) (c : Catalogue) → Agrees s c → AreForms s.indexes c
-agreed_forms s c k x n = ap (form_in x) (k.indexes n)
+agreed_forms s c k x n = ap (form_of_index x) (k.indexes n)
 
 pub told_catalogue : (s : Standing) (c : Catalogue) → TellsCatalogue s c → AreForms s.indexes c
-told_catalogue s c k x n = sym (opened_form x (index_in s.indexes n)) ∙ (ap (form_in x) (k.indexes n) ∙ opened_form x (c.indexes n))
+told_catalogue s c k x n = sym (opened_form x (index_in s.indexes n)) ∙ (ap (form_of_index x) (k.indexes n) ∙ opened_form x (c.indexes n))
 
 -- ---- the groups of other tables
 
@@ -105,7 +105,7 @@ module _ (b : Base) (right : IsRightBase b) (es : List Entry) (legal : IsLegal b
     module _ (xs xs' : List Index) (forms : AreForms xs (catalogue_of b es)) (forms' : AreForms xs' (catalogue_of b es')) where
       same_forms : (k : AreStanding b es h) (i : ℕ) (x : IndexRegion) → slice_get h.indexes.items i ≡ Some x → forms_in xs' h.table x.index.id.0 ≡ forms_in xs h.table x.index.id.0
       same_forms k i x at =
-          forms' h.table x.index.id.0 ∙ (ap (form_in h.table) (index_on b right es legal t e own may x.index.id.0 x.index (not_own i x at) (k.index i x at) ∙ sym (k.index i x at)) ∙ sym (forms h.table x.index.id.0))
+          forms' h.table x.index.id.0 ∙ (ap (form_of_index h.table) (index_on b right es legal t e own may x.index.id.0 x.index (not_own i x at) (k.index i x at) ∙ sym (k.index i x at)) ∙ sym (forms h.table x.index.id.0))
 
       pub other_shown : (v v' : ℕ → GroupData) → v' h.table.id.0 ≡ v h.table.id.0 → HasShown b es xs v h → HasShown b es' xs' v' h
       other_shown v v' same p = (let
@@ -157,7 +157,7 @@ module _ {D : Type 0} (d : Ghosts D) (disk disk' : D) (touches : TouchesOnly d d
 
   module _ (h : Group) (r : IsRightGroup h) (k : AreStanding b es h) where
     rows_some : 1 ≤ h.rows.number
-    rows_some = (rows_number f.standing told.numbered h.table.id.0 h.rows.number h.table (told.catalogue.tables h.table.id.0 ∙ k.table) (subst (IsOneOf h.rows.number) (sym r.region) (inl refl))).0
+    rows_some = (rows_number f.standing told.numbered h.table.id.0 h.rows.number h.table (told.catalogue.tables h.table.id.0 ∙ k.table) (subst (IsRegionAmong h.rows.number) (sym r.region) (inl refl))).0
 
     index_some : (i : ℕ) (x : IndexRegion) → slice_get h.indexes.items i ≡ Some x → 1 ≤ x.region.number
     index_some i x at = (let
@@ -195,15 +195,15 @@ module _ {D : Type 0} (d : Ghosts D) (tells_left : (x : D) (moment file : ℕ) (
     (disk : D) (catalog : Catalog) (standing : Standing) (groups : List Group) (trail : Recorded) (late : Option Entry) (closed : Option ℕ) (k : IsKept d b sound premise began disk catalog standing groups trail late closed) (running : closed ≡ None)
     -- the record, as `Catalog::append` has it
     (disk' : D) (item : CatalogItem) (passes : Passes d disk disk' 4) (touches : HasCatalogue d catalog disk → TouchesOnly d disk disk' catalogue_files)
-    (leaves : HasCatalogue d catalog disk → LeavesOnly d disk disk' (λ moment image. CatalogueStands image (standing_of catalog) ⊎ CatalogueStands image (after (standing_of catalog) item)))
+    (leaves : HasCatalogue d catalog disk → LeavesOnly d disk disk' (λ moment image. CatalogueStands image (standing_of catalog) ⊎ CatalogueStands image (stands_after (standing_of catalog) item)))
     -- its regions are drawn now, or stood
-    (regions : (n : ℕ) → IsAmong n (regions_in item) → IsAmong n (region_numbers (standing_of catalog)) ⊎ ((standing_of catalog).next ≤ n))
+    (regions : (n : ℕ) → IsNumberAmong n (regions_in item) → IsNumberAmong n (region_numbers (standing_of catalog)) ⊎ ((standing_of catalog).next ≤ n))
     -- its entry
     (t : TableId) (e : Entry) (own : Defines t e.act) (may : MayCome b trail.entries e) (at : e.calls ≡ d.calls disk')
     -- what the tables have then, and that the folder is told (px_recovery's `law_catalogue`)
     (moved : (ℕ → GroupData) → ℕ → GroupData)
     (explains : sound → (f : FolderData) (v : ℕ → GroupData) → f.standing ≡ standing_of catalog → AreUnmade f → AllByRecursion (HasShown b trail.entries f.standing.indexes v) groups → AllByRecursion (IsOnDisk d disk f) groups → Explains b trail.entries f v
-    → Explains b (trail.entries ++ e ∷ []) (with_standing (after f.standing item) f) (moved v)) where
+    → Explains b (trail.entries ++ e ∷ []) (with_standing (stands_after f.standing item) f) (moved v)) where
   abbrev es : List Entry
   es = trail.entries
 
@@ -211,38 +211,38 @@ module _ {D : Type 0} (d : Ghosts D) (tells_left : (x : D) (moment file : ℕ) (
   now = es ++ e ∷ []
 
   abbrev Has : D → List Entry → FolderData → (ℕ → GroupData) → Type 0
-  Has = HasParts d b sound catalog groups
+  Has = HasServerParts d b sound catalog groups
 
-  past : premise → IsTrue d.tells → (moment : ℕ) (image : Image) → moment < d.calls disk → IsLeft d.left disk' moment image → IsLeft d.left disk moment image
+  past : premise → IsTrue d.tells → (moment : ℕ) (image : Image) → moment < d.calls disk → IsLeftBy d.left disk' moment image → IsLeftBy d.left disk moment image
   past given tells moment image before is file = (touches (k.server.goes_on running given tells).has.stored).past moment file (image file) before (is file)
 
   others_on_disk : premise → IsTrue d.tells → OthersStay d b began disk' es
   others_on_disk given tells = others_on d b began es disk disk' catalogue_files (λ file own. inl own) (touches (k.server.goes_on running given tells).has.stored) (k.others given tells)
 
-  drawn : (s : Standing) → s ≡ standing_of catalog → (m : ℕ) → IsAmong (suc m) (region_numbers (after s item)) → IsAmong (suc m) (region_numbers s) ⊎ (s.next ≤ suc m)
+  drawn : (s : Standing) → s ≡ standing_of catalog → (m : ℕ) → IsNumberAmong (suc m) (region_numbers (stands_after s item)) → IsNumberAmong (suc m) (region_numbers s) ⊎ (s.next ≤ suc m)
   drawn s is m among = elim (named_after (suc m) s item among) [
     | inl old ↦ inl old
-    | inr new ↦ subst (λ (x : Standing). IsAmong (suc m) (region_numbers x) ⊎ (x.next ≤ suc m)) (sym is) (regions (suc m) new)
+    | inr new ↦ subst (λ (x : Standing). IsNumberAmong (suc m) (region_numbers x) ⊎ (x.next ≤ suc m)) (sym is) (regions (suc m) new)
   ]
 
-  module _ (goes : GoesOn d b Has disk es) where
+  module _ (goes : FolderGoesOn d b Has disk es) where
     abbrev f : FolderData
     f = goes.folder
 
     abbrev f' : FolderData
-    f' = with_standing (after f.standing item) f
+    f' = with_standing (stands_after f.standing item) f
 
     touched : TouchesOnly d disk disk' catalogue_files
     touched = touches goes.has.stored
 
-    leaves_here : LeavesOnly d disk disk' (λ moment image. CatalogueStands image f.standing ⊎ CatalogueStands image (after f.standing item))
-    leaves_here = subst (λ (s : Standing). LeavesOnly d disk disk' (λ moment image. CatalogueStands image s ⊎ CatalogueStands image (after s item))) (sym goes.has.standing) (leaves goes.has.stored)
+    leaves_here : LeavesOnly d disk disk' (λ moment image. CatalogueStands image f.standing ⊎ CatalogueStands image (stands_after f.standing item))
+    leaves_here = subst (λ (s : Standing). LeavesOnly d disk disk' (λ moment image. CatalogueStands image s ⊎ CatalogueStands image (stands_after s item))) (sym goes.has.standing) (leaves goes.has.stored)
 
     leaves_folder : LeavesFolder d b disk disk' now f
     leaves_folder = record {
       folder = f';
       groups = moved goes.groups;
-      leaves = catalogue_moves d disk disk' f goes.stands goes.explains.numbered.least touched (after f.standing item) (next_up f.standing item) (drawn f.standing goes.has.standing) leaves_here;
+      leaves = catalogue_moves d disk disk' f goes.stands goes.explains.numbered.least touched (stands_after f.standing item) (next_up f.standing item) (drawn f.standing goes.has.standing) leaves_here;
       explains = explains goes.has.given f goes.groups goes.has.standing goes.stands.unmade goes.has.shown goes.has.regions goes.explains;
     }
 
@@ -251,11 +251,11 @@ module _ {D : Type 0} (d : Ghosts D) (tells_left : (x : D) (moment file : ℕ) (
       → IsKept d b sound premise began disk' catalog' standing groups trail' (Some e) (Some call)
   define_failed shut call shut-is shut_at failed catalog' trail' entries room =
       stopped_same d b sound premise began disk catalog standing groups trail late closed k running disk' passes.later shut call shut-is shut_at catalog' (Some e)
-      (late_entry d tells_left up_to_now b premise Has (HasParts d b sound catalog' groups) disk es late closed k.server running disk' passes.later past shut call (ap (λ (u : Entry). u.act) shut-is) (ap (λ (u : Entry). u.calls) shut-is ∙ shut_at) passes.at_most e (defines_lasts t e.act own) at may leaves_folder)
+      (late_entry d tells_left up_to_now b premise Has (HasServerParts d b sound catalog' groups) disk es late closed k.server running disk' passes.later past shut call (ap (λ (u : Entry). u.act) shut-is) (ap (λ (u : Entry). u.calls) shut-is ∙ shut_at) passes.at_most e (defines_lasts t e.act own) at may leaves_folder)
       failed others_on_disk trail' entries room
 
   -- the record is there
-  module _ (catalog' : Catalog) (stored : HasCatalogue d catalog disk → HasCatalogue d catalog' disk') (defined : standing_of catalog' ≡ after (standing_of catalog) item)
+  module _ (catalog' : Catalog) (stored : HasCatalogue d catalog disk → HasCatalogue d catalog' disk') (defined : standing_of catalog' ≡ stands_after (standing_of catalog) item)
       (standing' : Standing) (agrees : Agrees standing' (catalogue_of b (trail.entries ++ e ∷ []))) (same : opened_standing (standing_of catalog') ≡ opened_standing standing')
       -- the groups then: those of other tables are as they were, and of the table's own group it has to be known what it was
       (groups' : List Group) (stand : map table_in_group groups' ≡ standing'.tables) (Own : (Group → Type 0) → (Group → Type 0) → Type 0)
@@ -265,7 +265,7 @@ module _ {D : Type 0} (d : Ghosts D) (tells_left : (x : D) (moment file : ℕ) (
       (own_tallied : Own (λ h. IsRightGroup h × HasTallied b trail.entries h) (HasTallied b (trail.entries ++ e ∷ [])))
       (own_shown : sound → (xs xs' : List Index) → AreForms xs (catalogue_of b trail.entries) → AreForms xs' (catalogue_of b (trail.entries ++ e ∷ [])) → (v : ℕ → GroupData)
       → Own (λ h. IsRightGroup h × HasShown b trail.entries xs v h) (HasShown b (trail.entries ++ e ∷ []) xs' (moved v)))
-      (own_disk : IsTrue d.tells → (f : FolderData) → f.standing ≡ standing_of catalog → AreFresh d disk' f.standing.next → AreUnmade f → Own (IsOnDisk d disk' f) (IsOnDisk d disk' (with_standing (after f.standing item) f)))
+      (own_disk : IsTrue d.tells → (f : FolderData) → f.standing ≡ standing_of catalog → AreFresh d disk' f.standing.next → AreUnmade f → Own (IsOnDisk d disk' f) (IsOnDisk d disk' (with_standing (stands_after f.standing item) f)))
       (trail' : Recorded) (entries : trail'.entries ≡ trail.entries ++ e ∷ []) (room : HasTrailRoom closed groups' trail') where
     right : AllByRecursion IsRightGroup groups
     right = k.each.right running
@@ -296,10 +296,10 @@ module _ {D : Type 0} (d : Ghosts D) (tells_left : (x : D) (moment file : ℕ) (
     shown_now given xs xs' forms forms' v all = carries (λ h. IsRightGroup h × HasShown b es xs v h) (HasShown b now xs' (moved v))
         (λ h other p. other_shown b k.told.base es k.told.legal t e own may h p.0 other xs xs' forms forms' v (moved v) (others v h.table.id.0 other) p.1) (own_shown given xs xs' forms forms' v) (all_pairs IsRightGroup (HasShown b es xs v) groups right all)
 
-    other_disk : (f : FolderData) (h : Group) → IsOnDisk d disk' f h → IsOnDisk d disk' (with_standing (after f.standing item) f) h
+    other_disk : (f : FolderData) (h : Group) → IsOnDisk d disk' f h → IsOnDisk d disk' (with_standing (stands_after f.standing item) f) h
     other_disk f h on = record { rows = on.rows; indexes = on.indexes }
 
-    moves : (goes : GoesOn d b Has disk es) → MovesFolder d b (HasParts d b sound catalog' groups') disk disk' now goes.folder
+    moves : (goes : FolderGoesOn d b Has disk es) → MovesFolder d b (HasServerParts d b sound catalog' groups') disk disk' now goes.folder
     unfolding leaves_folder
     moves goes = (let
         fol = goes.folder
@@ -308,11 +308,11 @@ module _ {D : Type 0} (d : Ghosts D) (tells_left : (x : D) (moment file : ℕ) (
         in let
         there : HasCatalogue d catalog' disk' = stored goes.has.stored
         in let
-        stands_now : standing_of catalog' ≡ after fol.standing item = defined ∙ ap (λ (s : Standing). after s item) (sym goes.has.standing)
+        stands_now : standing_of catalog' ≡ stands_after fol.standing item = defined ∙ ap (λ (s : Standing). stands_after s item) (sym goes.has.standing)
         in let
         left = leaves_folder goes
         in let
-        on = catalogue_moved d disk disk' fol goes.stands goes.explains.numbered.least touched' (after fol.standing item) (next_up fol.standing item) (drawn fol.standing goes.has.standing)
+        on = catalogue_moved d disk disk' fol goes.stands goes.explains.numbered.least touched' (stands_after fol.standing item) (next_up fol.standing item) (drawn fol.standing goes.has.standing)
         (subst (λ (s : Standing). StandsIn d disk' catalogue_files (λ image. CatalogueStands image s)) stands_now (catalogue_stands d catalog' disk' there))
         in let
         fresh : AreFresh d disk' fol.standing.next = fresh_on d disk disk' touched' b es fol goes.groups goes.explains fol.standing.next goes.explains.numbered.least goes.stands.fresh
@@ -325,7 +325,7 @@ module _ {D : Type 0} (d : Ghosts D) (tells_left : (x : D) (moment file : ℕ) (
             standing = sym stands_now;
             regions = carries (IsOnDisk d disk' fol) (IsOnDisk d disk' left.folder) (λ h other p. other_disk fol h p) (own_disk goes.has.stored.log.settled.told fol goes.has.standing fresh goes.stands.unmade)
                 (all_on_disk d disk disk' touched' b es fol goes.groups goes.explains groups right (k.each.tallied running) goes.has.regions);
-            shown = shown_now goes.has.given fol.standing.indexes (after fol.standing item).indexes (told_catalogue fol.standing (catalogue_of b es) goes.explains.catalogue) (told_catalogue (after fol.standing item) (catalogue_of b now) left.explains.catalogue) goes.groups goes.has.shown;
+            shown = shown_now goes.has.given fol.standing.indexes (stands_after fol.standing item).indexes (told_catalogue fol.standing (catalogue_of b es) goes.explains.catalogue) (told_catalogue (stands_after fol.standing item) (catalogue_of b now) left.explains.catalogue) goes.groups goes.has.shown;
           };
         })
 
@@ -337,8 +337,8 @@ module _ {D : Type 0} (d : Ghosts D) (tells_left : (x : D) (moment file : ℕ) (
           s = k.shown given open_
           in subst (λ (ys : List Entry). AreShown b ys standing'.indexes groups') (sym entries)
           (record { told = moved s.told; each = shown_now given standing.indexes standing'.indexes (agreed_forms standing (catalogue_of b es) k.told.agrees) (agreed_forms standing' (catalogue_of b now) agrees) s.told s.each }));
-      server = subst (λ (ys : List Entry). IsServer d b premise (HasParts d b sound catalog' groups') disk' ys late closed) (sym entries)
-          (lasting_server d tells_left up_to_now b premise Has (HasParts d b sound catalog' groups') disk es late closed k.server running disk' passes.later past passes.at_most e (defines_lasts t e.act own) at may (defines_unshut t e.act own) moves);
+      server = subst (λ (ys : List Entry). IsServer d b premise (HasServerParts d b sound catalog' groups') disk' ys late closed) (sym entries)
+          (lasting_server d tells_left up_to_now b premise Has (HasServerParts d b sound catalog' groups') disk es late closed k.server running disk' passes.later past passes.at_most e (defines_lasts t e.act own) at may (defines_unshut t e.act own) moves);
       room = room;
       blamed = subst (λ (ys : List Entry). has_told ys ≡ true → HasFailed d disk') (sym entries) (blamed_quiet d disk' es e (defines_quiet t e.act own) (blamed_on d disk disk' es passes.later passes.faults_later k.blamed));
       last_call = λ c same. absurd (none_some c (sym running ∙ same));

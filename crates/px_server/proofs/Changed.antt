@@ -1,7 +1,7 @@
 -- Calls that leave the folder or another one that is told: a server goes on from there, with other parts of its own.
 use Rattle.std.proofs.Common.{◌≡◌, ◌<◌, ◌≤◌, ◌⊎◌, ◌+◌, inl, inr, ℕ, true, Option, Some, None, List, [], ◌∷◌, ◌++◌, false}
 use Rattle.std.specs.Prelude.{IsTrue}
-use Rattle.px_outside.specs.Disk.{Image, IsLeft}
+use Rattle.px_outside.specs.Disk.{Image, IsLeftBy}
 use Rattle.px_outside.specs.declared.disk.Disk.{Ghosts}
 use Rattle.px_trail.specs.declared.entry.Act.TheVariants.{Shut}
 use Rattle.px_trail.specs.declared.entry.Entry.{Entry}
@@ -9,7 +9,7 @@ use Rattle.px_trail.specs.Lasting.{lasting}
 use Rattle.px_trail.specs.Legal.{MayCome}
 use Rattle.px_trail.specs.Trail.{Base, closing_step}
 use Rattle.px_recovery.specs.Folder.{StandsOn}
-use Rattle.px_recovery.specs.Kept.{GoesOn, IsServer, LeavesFolder, MovesFolder, Parts}
+use Rattle.px_recovery.specs.Kept.{FolderGoesOn, IsServer, LeavesFolder, MovesFolder, Parts}
 use Rattle.px_recovery.specs.Stands.{StandsAfter}
 use Rattle.px_recovery.proofs.Server.{kept_server, late_server, step_server, stopped_server}
 use Rattle.px_recovery.proofs.Steps.{left_stands}
@@ -22,7 +22,7 @@ one_of (inr a) = a
 module _ {D : Type 0} (d : Ghosts D) (tells_left : (x : D) (moment file : ℕ) (bytes : List ℕ) → d.left x moment file bytes → IsTrue d.tells)
     (up_to_now : (x : D) (moment file : ℕ) (bytes : List ℕ) → d.left x moment file bytes → moment ≤ d.calls x) (b : Base) (premise : Type 0) (Has Then : Parts D)
     (old : D) (es : List Entry) (late : Option Entry) (closed : Option ℕ) (k : IsServer d b premise Has old es late closed) (running : closed ≡ None) (new : D) (later : d.calls old ≤ d.calls new)
-    (past : premise → IsTrue d.tells → (moment : ℕ) (image : Image) → moment < d.calls old → IsLeft d.left new moment image → IsLeft d.left old moment image) where
+    (past : premise → IsTrue d.tells → (moment : ℕ) (image : Image) → moment < d.calls old → IsLeftBy d.left new moment image → IsLeftBy d.left old moment image) where
   abbrev Given : Parts D
   Given = λ disk ys f v. premise
 
@@ -34,28 +34,28 @@ module _ {D : Type 0} (d : Ghosts D) (tells_left : (x : D) (moment file : ℕ) (
       let goes = k.goes_on running given tells in
       record { folder = goes.folder; groups = goes.groups; stands = goes.stands; explains = goes.explains; has = given })
 
-  goes_now : premise → IsTrue d.tells → GoesOn d b Has old es
+  goes_now : premise → IsTrue d.tells → FolderGoesOn d b Has old es
   goes_now given tells = k.goes_on running given tells
 
   module _ (es' : List Entry) where
-    left_then : ((goes : GoesOn d b Has old es) → LeavesFolder d b old new es' goes.folder) → GoesOn d b Given old es → (moment : ℕ) (image : Image) → d.calls old ≤ moment → IsLeft d.left new moment image
+    left_then : ((goes : FolderGoesOn d b Has old es) → LeavesFolder d b old new es' goes.folder) → FolderGoesOn d b Given old es → (moment : ℕ) (image : Image) → d.calls old ≤ moment → IsLeftBy d.left new moment image
         → StandsAfter b es image ⊎ StandsAfter b es' image
     left_then leaves given moment image since is = (let
         goes = goes_now given.has (tells_left new moment 0 (image 0) (is 0))
         in left_stands d b old new es es' goes.folder goes.groups goes.explains (leaves goes) moment image since is)
 
-    given_then : ((goes : GoesOn d b Has old es) → MovesFolder d b Then old new es' goes.folder) → premise → IsTrue d.tells → GoesOn d b Given old es → GoesOn d b Given new es'
+    given_then : ((goes : FolderGoesOn d b Has old es) → MovesFolder d b Then old new es' goes.folder) → premise → IsTrue d.tells → FolderGoesOn d b Given old es → FolderGoesOn d b Given new es'
     given_then moves given tells before = (let
         m = moves (goes_now given tells)
         in record { folder = m.left.folder; groups = m.left.groups; stands = m.on; explains = m.left.explains; has = given })
 
-    goes_then : ((goes : GoesOn d b Has old es) → MovesFolder d b Then old new es' goes.folder) → premise → IsTrue d.tells → GoesOn d b Then new es'
+    goes_then : ((goes : FolderGoesOn d b Has old es) → MovesFolder d b Then old new es' goes.folder) → premise → IsTrue d.tells → FolderGoesOn d b Then new es'
     goes_then moves given tells = (let
         m = moves (goes_now given tells)
         in record { folder = m.left.folder; groups = m.left.groups; stands = m.on; explains = m.left.explains; has = m.has })
 
   -- no entry
-  pub changed_server : ((goes : GoesOn d b Has old es) → MovesFolder d b Then old new es goes.folder) → IsServer d b premise Then new es late closed
+  pub changed_server : ((goes : FolderGoesOn d b Has old es) → MovesFolder d b Then old new es goes.folder) → IsServer d b premise Then new es late closed
   changed_server moves =
       with_parts d b premise Given Then new es late closed
       (kept_server d tells_left up_to_now b premise Given old es late closed given_server running new later past
@@ -64,7 +64,7 @@ module _ {D : Type 0} (d : Ghosts D) (tells_left : (x : D) (moment file : ℕ) (
 
   -- an entry that lasts
   pub lasting_server : d.calls new ≤ d.calls old + 4 → (e : Entry) → lasting e ≡ true → e.calls ≡ d.calls new → MayCome b es e → closing_step None e.act ≡ None
-      → ((goes : GoesOn d b Has old es) → MovesFolder d b Then old new (es ++ e ∷ []) goes.folder) → IsServer d b premise Then new (es ++ e ∷ []) late closed
+      → ((goes : FolderGoesOn d b Has old es) → MovesFolder d b Then old new (es ++ e ∷ []) goes.folder) → IsServer d b premise Then new (es ++ e ∷ []) late closed
   lasting_server four e lasts at may unshut moves =
       with_parts d b premise Given Then new (es ++ e ∷ []) late closed
       (step_server d tells_left up_to_now b premise Given old es late closed given_server running new later past four e lasts at (λ given tells. may) unshut
@@ -72,8 +72,8 @@ module _ {D : Type 0} (d : Ghosts D) (tells_left : (x : D) (moment file : ℕ) (
       (λ open_ given tells. goes_then (es ++ e ∷ []) moves given tells)
 
   -- an entry that doesn't last, behind calls that leave the folder as it is told without it
-  pub noted_step : (e : Entry) → lasting e ≡ false → e.calls ≡ d.calls new → MayCome b es e → closing_step closed e.act ≡ closed → (left : (goes : GoesOn d b Has old es) → LeavesFolder d b old new es goes.folder)
-      → ((goes : GoesOn d b Has old es) → StandsOn d new (left goes).folder) → ((goes : GoesOn d b Has old es) → MovesFolder d b Then old new (es ++ e ∷ []) goes.folder) → IsServer d b premise Then new (es ++ e ∷ []) late closed
+  pub noted_step : (e : Entry) → lasting e ≡ false → e.calls ≡ d.calls new → MayCome b es e → closing_step closed e.act ≡ closed → (left : (goes : FolderGoesOn d b Has old es) → LeavesFolder d b old new es goes.folder)
+      → ((goes : FolderGoesOn d b Has old es) → StandsOn d new (left goes).folder) → ((goes : FolderGoesOn d b Has old es) → MovesFolder d b Then old new (es ++ e ∷ []) goes.folder) → IsServer d b premise Then new (es ++ e ∷ []) late closed
   noted_step e quiet at may unshut left on moves = (let
       mid : IsServer d b premise Told new es late closed =
       with_parts d b premise Given Told new es late closed
@@ -91,14 +91,14 @@ module _ {D : Type 0} (d : Ghosts D) (tells_left : (x : D) (moment file : ℕ) (
     closed_parts o s = with_parts d b premise Given Then new (es ++ shut ∷ []) o (Some call) s (λ none. absurd cc)
 
     -- a failed call, with nothing under way
-    pub shut_server : ((goes : GoesOn d b Has old es) → LeavesFolder d b old new es goes.folder) → IsServer d b premise Then new (es ++ shut ∷ []) None (Some call)
+    pub shut_server : ((goes : FolderGoesOn d b Has old es) → LeavesFolder d b old new es goes.folder) → IsServer d b premise Then new (es ++ shut ∷ []) None (Some call)
     shut_server leaves =
         closed_parts None (stopped_server d tells_left up_to_now b premise Given old es late closed given_server running new later past shut call shut-is shut_at
         (λ goes moment image since is. one_of (left_then es leaves goes moment image since is)))
 
     -- or with the entry u
     pub late_entry : d.calls new ≤ d.calls old + 4 → (u : Entry) → lasting u ≡ true → u.calls ≡ d.calls new → MayCome b es u
-        → ((goes : GoesOn d b Has old es) → LeavesFolder d b old new (es ++ u ∷ []) goes.folder) → IsServer d b premise Then new (es ++ shut ∷ []) (Some u) (Some call)
+        → ((goes : FolderGoesOn d b Has old es) → LeavesFolder d b old new (es ++ u ∷ []) goes.folder) → IsServer d b premise Then new (es ++ shut ∷ []) (Some u) (Some call)
     late_entry four u lasts at may leaves =
         closed_parts (Some u) (late_server d tells_left up_to_now b premise Given old es late closed given_server running new later past shut call shut-is shut_at four u lasts at (λ given tells. may)
         (left_then (es ++ u ∷ []) leaves))

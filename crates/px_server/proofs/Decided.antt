@@ -12,7 +12,7 @@ use Rattle.px_trail.specs.Legal.{IsLegal}
 use Rattle.px_trail.specs.Trail.{Base}
 use Rattle.px_trail.proofs.Batches.{batch-sound}
 use Rattle.px_trail.proofs.Orders.{or_true}
-use Rattle.px_openbatches.specs.Pending.{HeldBatch, IsHeld, is_in, is_left}
+use Rattle.px_openbatches.specs.Pending.{HeldBatch, IsHeldBatch, is_in, is_left}
 use Rattle.px_phases.specs.Batch.{AreHeldAs, BatchData, IsHeldAs}
 use Rattle.px_tablesteps.proofs.Shuts.{whole_is}
 use Rattle.px_group.specs.Group.{IsTallied, batch_in}
@@ -31,7 +31,7 @@ none_left : (b : BatchData) (h : HeldBatch) → IsHeldAs b h → is_some b.puts 
 none_left b h alike none = written_all h.changes h.written (λ r there. alike.written r ∙ (ap (λ v. not v && has (rows_of b.changes) r) none ∙ (ap (λ (cs : List Change). has (rows_of cs) r) (sym alike.changes) ∙ there)))
 
 module _ (es : List Entry) (t : ℕ) (P : Begun → Type 0) where
-  held_in : (ms : List Begun) (hs : List HeldBatch) → AreHeldAs (map batch_in ms) hs → AllByRecursion (IsHeld es t) hs → AllByRecursion P ms → (s : ℕ) → is_in s hs ≡ true → (h : HeldBatch) × ((h.stamp ≡ s) × (IsHeld es t h × ((m : Begun) × (IsHeldAs m.batch h × P m))))
+  held_in : (ms : List Begun) (hs : List HeldBatch) → AreHeldAs (map batch_in ms) hs → AllByRecursion (IsHeldBatch es t) hs → AllByRecursion P ms → (s : ℕ) → is_in s hs ≡ true → (h : HeldBatch) × ((h.stamp ≡ s) × (IsHeldBatch es t h × ((m : Begun) × (IsHeldAs m.batch h × P m))))
   held_in [] [] alike each all s is = absurd (false≢true is)
   held_in [] (h ∷ hs) alike each all s is = absurd alike
   held_in (m ∷ ms) [] alike each all s is = absurd alike

@@ -15,7 +15,7 @@ use Rattle.px_trail.specs.declared.entry.Entry.{Entry}
 use Rattle.px_trail.proofs.Growth.{catalogue-snoc}
 use Rattle.px_trail.proofs.Orders.{WritesNone}
 use Rattle.px_trail.proofs.Standing.{catalogue-stands, set_number-other, set_number-same}
-use Rattle.px_noting.specs.Apart.{IsApart}
+use Rattle.px_noting.specs.Apart.{IsApartFrom}
 use Rattle.px_recovery.proofs.Drops.{others_stay}
 use Rattle.px_server.specs.Kept.{tells_fault}
 use Rattle.px_server.proofs.Built.{IsUnbased}
@@ -90,7 +90,7 @@ differs : (t u : TableId) (q : ℕ) → u ≡ t → q ≢ t.0 → u.0 ≢ q
 differs t u q own other same = other (sym same ∙ ap (λ (x : TableId). x.0) own)
 
 -- it is of no other table
-pub defines_apart : (t : TableId) (act : Act) → Defines t act → (q : TableId) → q.0 ≢ t.0 → IsApart q act
+pub defines_apart : (t : TableId) (act : Act) → Defines t act → (q : TableId) → q.0 ≢ t.0 → IsApartFrom q act
 defines_apart t (Made u what) own q other = differs t u q.0 own other
 defines_apart t (IndexMade u i s what) own q other = differs t u q.0 own other
 defines_apart t (IndexState u i state s) own q other = differs t u q.0 own other

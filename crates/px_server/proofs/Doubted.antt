@@ -21,7 +21,7 @@ use Rattle.px_groupworld.specs.Group.{GroupData, TableForm, no_part, shape_in, w
 use Rattle.px_indexed.specs.Kept.{AreIndexCells}
 use Rattle.px_indexrow.specs.Form.{index_form, row_of_index}
 use Rattle.px_looks.specs.Found.{RowContents, at_key}
-use Rattle.px_looks.specs.Versions.{is_verified, stamp_seen, version_at, version_of}
+use Rattle.px_looks.specs.Versions.{is_verified, stamp_seen, version_at, version_of_stamp}
 use Rattle.px_openbatches.specs.Pending.{HeldBatch}
 use Rattle.px_region.specs.Region.{read_of}
 use Rattle.px_region.specs.declared.region.Region.{Region}
@@ -34,7 +34,7 @@ use Rattle.px_values.specs.States.{RowState}
 use Rattle.px_values.specs.declared.row.Value.{Value}
 use Rattle.px_world.specs.Events.{Leave, ToErase, ToRetire, ToVerify, Verdict, due as due_of}
 use Rattle.px_world.specs.IndexCells.{IndexCells, fix_cells, no_cells}
-use Rattle.px_world.specs.Shape.{Shape}
+use Rattle.px_world.specs.Shape.{WorldShape}
 use Rattle.px_world.specs.World.{Absent, Status, Unverified, Verified, World, horizon, st}
 use Rattle.px_group.specs.Group.{IsShownBy, IsTallied, form_of}
 use Rattle.px_group.specs.declared.group.Group.{Group}
@@ -96,7 +96,7 @@ pub record HasSameStatus (h h' : RowContents) : Type 0 where
   pub family : (s : ℕ) → h' 0 s DeleteFamily ≡ h 0 s DeleteFamily
   pub version : (s : ℕ) → h' 0 s DeleteFamilyVersion ≡ h 0 s DeleteFamilyVersion
 
-doubt_of : (u p : ℕ) (columns : List ℕ) (h h' : RowContents) → ((s : ℕ) → h' 1 s Put ≡ h 1 s Put) → (o : Option ℕ) → is_doubt u (version_of h' columns p o) ≡ is_doubt u (version_of h columns p o)
+doubt_of : (u p : ℕ) (columns : List ℕ) (h h' : RowContents) → ((s : ℕ) → h' 1 s Put ≡ h 1 s Put) → (o : Option ℕ) → is_doubt u (version_of_stamp h' columns p o) ≡ is_doubt u (version_of_stamp h columns p o)
 doubt_of u p columns h h' e None = refl
 doubt_of u p columns h h' e (Some s) = ap (λ (x : Option (List ℕ)). nat_eq s u && not (is_verified x)) (e s)
 
@@ -110,13 +110,13 @@ pub same_doubt : (u p : ℕ) (columns : List ℕ) (h h' : RowContents) → HasSa
 same_doubt u p columns h h' same = (let
     stamp : stamp_seen h' 1 p ≡ stamp_seen h 1 p =
     newest-equal (stops h) (puts h) (stops h') (puts h') p (λ s le i. is_some (same.family s i) || (is_some (same.column s i) && not (is_some (same.version s i)))) (λ s le i. is_some (same.put s i) && not (is_some (same.version s i)))
-    in ap (λ (o : Option ℕ). is_doubt u (version_of h' columns p o)) stamp ∙ doubt_of u p columns h h' same.put (stamp_seen h 1 p))
+    in ap (λ (o : Option ℕ). is_doubt u (version_of_stamp h' columns p o)) stamp ∙ doubt_of u p columns h h' same.put (stamp_seen h 1 p))
 
 -- A version that a point sees is the one that is seen from its stamp on up to there
 pub seen_below : (h : RowContents) (columns : List ℕ) (u p q : ℕ) → u ≤ q → q ≤ p → is_doubt u (version_at h columns p) ≡ true → is_doubt u (version_at h columns q) ≡ true
 seen_below h columns u p q low le is = by (stamp_seen h 1 p) refl is
   where
-    by : (o : Option ℕ) → stamp_seen h 1 p ≡ o → is_doubt u (version_of h columns p o) ≡ true → is_doubt u (version_at h columns q) ≡ true
+    by : (o : Option ℕ) → stamp_seen h 1 p ≡ o → is_doubt u (version_of_stamp h columns p o) ≡ true → is_doubt u (version_at h columns q) ≡ true
     by None e never = absurd cc
     by (Some t) e doubt = (let
         stamp : t ≡ u = number_is t u (and_left (nat_eq t u) (not (is_verified (h 1 t Put))) doubt)
@@ -124,12 +124,12 @@ seen_below h columns u p q low le is = by (stamp_seen h 1 p) refl is
         n : IsNewest (stops h) (puts h) p t = newest-is (stops h) (puts h) p t e
         in let
         here : stamp_seen h 1 q ≡ Some t = newest-at (stops h) (puts h) q t (record { within = omega (arith, low, stamp); hits = n.hits; none = λ s l m. n.none s l (omega (arith, le, m)); clear = λ s l m. n.clear s l (omega (arith, le, m)) })
-        in ap (λ (o : Option ℕ). is_doubt u (version_of h columns q o)) here ∙ doubt)
+        in ap (λ (o : Option ℕ). is_doubt u (version_of_stamp h columns q o)) here ∙ doubt)
 
 pub doubt_within : (h : RowContents) (columns : List ℕ) (u p : ℕ) → is_doubt u (version_at h columns p) ≡ true → u ≤ p
 doubt_within h columns u p is = by (stamp_seen h 1 p) refl is
   where
-    by : (o : Option ℕ) → stamp_seen h 1 p ≡ o → is_doubt u (version_of h columns p o) ≡ true → u ≤ p
+    by : (o : Option ℕ) → stamp_seen h 1 p ≡ o → is_doubt u (version_of_stamp h columns p o) ≡ true → u ≤ p
     by None e never = absurd cc
     by (Some t) e doubt = (let
         stamp : t ≡ u = number_is t u (and_left (nat_eq t u) (not (is_verified (h 1 t Put))) doubt)
@@ -141,19 +141,19 @@ doubt_within h columns u p is = by (stamp_seen h 1 p) refl is
 
 -- ---- a repair of another key
 
-no_status : {K S X A : Type 0} (n : Shape K S X A) (h : ℕ) (state : S) (k k' : K) (t u : ℕ) (w : Verdict) → n.same_key k k' ≡ false → (fix_cells n h state k t w).status k' u ≡ Absent
+no_status : {K S X A : Type 0} (n : WorldShape K S X A) (h : ℕ) (state : S) (k k' : K) (t u : ℕ) (w : Verdict) → n.same_key k k' ≡ false → (fix_cells n h state k t w).status k' u ≡ Absent
 no_status n h state k k' t u Leave other = refl
 no_status n h state k k' t u ToVerify other = ap (λ (v : Bool). cond (v && nat_eq t u) Verified Absent) other
 no_status n h state k k' t u ToRetire other = refl
 no_status n h state k k' t u ToErase other = refl
 
-no_family : {K S X A : Type 0} (n : Shape K S X A) (h : ℕ) (state : S) (k k' : K) (t u : ℕ) (w : Verdict) → n.same_key k k' ≡ false → (fix_cells n h state k t w).fam k' u ≡ false
+no_family : {K S X A : Type 0} (n : WorldShape K S X A) (h : ℕ) (state : S) (k k' : K) (t u : ℕ) (w : Verdict) → n.same_key k k' ≡ false → (fix_cells n h state k t w).fam k' u ≡ false
 no_family n h state k k' t u Leave other = refl
 no_family n h state k k' t u ToVerify other = refl
 no_family n h state k k' t u ToRetire other = ap (λ (v : Bool). v && nat_eq t u) other
 no_family n h state k k' t u ToErase other = refl
 
-no_version : {K S X A : Type 0} (n : Shape K S X A) (h : ℕ) (state : S) (k k' : K) (t u : ℕ) (w : Verdict) → n.same_key k k' ≡ false → (fix_cells n h state k t w).ver k' u ≡ false
+no_version : {K S X A : Type 0} (n : WorldShape K S X A) (h : ℕ) (state : S) (k k' : K) (t u : ℕ) (w : Verdict) → n.same_key k k' ≡ false → (fix_cells n h state k t w).ver k' u ≡ false
 no_version n h state k k' t u Leave other = refl
 no_version n h state k k' t u ToVerify other = refl
 no_version n h state k k' t u ToRetire other = refl
@@ -207,7 +207,7 @@ module _ (g : Group) (place : ℕ) (k : List ℕ) (s : ℕ) (cells : List CellDa
   abbrev row : List Value
   row = row_of_index g.table x.index other
 
-  abbrev shape : Shape (List ℕ) RowState (List ℕ) What
+  abbrev shape : WorldShape (List ℕ) RowState (List ℕ) What
   shape = shape_in (form_of b index g) v place row
 
   abbrev world : World (List ℕ) RowState (List ℕ)

@@ -16,9 +16,9 @@ use Rattle.px_trail.specs.Legal.{MayCome}
 use Rattle.px_trail.specs.Recorded.{Recorded}
 use Rattle.px_trail.specs.Trail.{Base, Catalogue, catalogue_of, catalogue_step, index_of}
 use Rattle.px_trail.proofs.Growth.{catalogue-snoc}
-use Rattle.px_region.specs.Region.{Holds}
+use Rattle.px_region.specs.Region.{RegionHolds}
 use Rattle.px_region.specs.declared.region.Region.{Region}
-use Rattle.px_schema.specs.Stands.{after}
+use Rattle.px_schema.specs.Stands.{stands_after}
 use Rattle.px_schema.specs.declared.item.CatalogItem.TheVariants.{IndexIs}
 use Rattle.px_schema.specs.declared.standing.Standing.{Standing}
 use Rattle.px_catalog.specs.Catalogue.{CatalogueStands, HasCatalogue, catalogue_files, standing_of}
@@ -36,7 +36,7 @@ use Rattle.px_defined.proofs.Right.{right_less}
 use Rattle.px_disabled.specs.Disabled.{disabled}
 use Rattle.px_disabled.proofs.Agreeing.{agrees_disabled}
 use Rattle.px_disabled.proofs.FolderLess.{index_disabled as folder_disabled}
-use Rattle.px_recovery.specs.Folder.{AreFresh, AreUnmade, FolderData, IsAmong, region_numbers, regions_of, with_standing}
+use Rattle.px_recovery.specs.Folder.{AreFresh, AreUnmade, FolderData, IsNumberAmong, region_numbers, regions_of, with_standing}
 use Rattle.px_recovery.specs.Stands.{Explains, opened_index, opened_state}
 use Rattle.px_recovery.specs.Tables.{index_in}
 use Rattle.px_standing.specs.Agrees.{Agrees}
@@ -66,7 +66,7 @@ module _ {D : Type 0} (d : Ghosts D) (tells_left : (x : D) (moment file : ℕ) (
     (x : Index) (place : ℕ) (g : Group) (l : place < length groups) (g_is : get_or groups place g ≡ g) (s : ℕ) (e : Entry) (is : e.act ≡ IndexState g.table.id x.id Disabled s) (may : MayCome b trail.entries e)
     (found : index_in standing.indexes x.id.0 ≡ Some x) (of_table : x.table ≡ g.table.id) (none : g.batches.items ≡ [])
     (disk' : D) (at : e.calls ≡ d.calls disk') (passes : Passes d disk disk' 4) (touches : HasCatalogue d catalog disk → TouchesOnly d disk disk' catalogue_files)
-    (leaves : HasCatalogue d catalog disk → LeavesOnly d disk disk' (λ moment image. CatalogueStands image (standing_of catalog) ⊎ CatalogueStands image (after (standing_of catalog) (IndexIs (disabled x))))) where
+    (leaves : HasCatalogue d catalog disk → LeavesOnly d disk disk' (λ moment image. CatalogueStands image (standing_of catalog) ⊎ CatalogueStands image (stands_after (standing_of catalog) (IndexIs (disabled x))))) where
   abbrev es : List Entry
   es = trail.entries
 
@@ -94,16 +94,16 @@ module _ {D : Type 0} (d : Ghosts D) (tells_left : (x : D) (moment file : ℕ) (
   stands : index_of b es i.0 ≡ Some x
   stands = sym (k.told.agrees.indexes i.0) ∙ found
 
-  regions : (n : ℕ) → IsAmong n (regions_in (IndexIs y)) → IsAmong n (region_numbers (standing_of catalog)) ⊎ ((standing_of catalog).next ≤ n)
+  regions : (n : ℕ) → IsNumberAmong n (regions_in (IndexIs y)) → IsNumberAmong n (region_numbers (standing_of catalog)) ⊎ ((standing_of catalog).next ≤ n)
   regions n among = inl (let one : x.region ≡ n = eqb-true x.region n (or_none (nat_eq x.region n) among) in
-      subst (λ (r : ℕ). IsAmong r (region_numbers (standing_of catalog))) one (among_right x.region (flat_map regions_of (standing_of catalog).tables) (map (λ (w : Index). w.region) (standing_of catalog).indexes)
-      (subst (λ (rs : List ℕ). IsAmong x.region rs) (sym (same_regions (standing_of catalog) standing (k.told.same running))) (region_found standing.indexes i.0 x found))))
+      subst (λ (r : ℕ). IsNumberAmong r (region_numbers (standing_of catalog))) one (among_right x.region (flat_map regions_of (standing_of catalog).tables) (map (λ (w : Index). w.region) (standing_of catalog).indexes)
+      (subst (λ (rs : List ℕ). IsNumberAmong x.region rs) (sym (same_regions (standing_of catalog) standing (k.told.same running))) (region_found standing.indexes i.0 x found))))
 
   explains : sound → (f : FolderData) (v : ℕ → GroupData) → f.standing ≡ standing_of catalog → AreUnmade f → AllByRecursion (HasShown b es f.standing.indexes v) groups → AllByRecursion (IsOnDisk d disk f) groups → Explains b es f v
-      → Explains b es' (with_standing (after f.standing (IndexIs y)) f) (with_part v t.0 (dropped_data i.0 (v t.0)))
+      → Explains b es' (with_standing (stands_after f.standing (IndexIs y)) f) (with_part v t.0 (dropped_data i.0 (v t.0)))
   explains given f v fs unmade shown on told = (let
       z = same_opened disabled (λ w. refl) (index_in f.standing.indexes i.0) x (told.catalogue.indexes i.0 ∙ ap opened_index stands)
-      in subst (λ (w : Index). Explains b es' (with_standing (after f.standing (IndexIs w)) f) (with_part v t.0 (dropped_data i.0 (v t.0)))) z.1.1.0
+      in subst (λ (w : Index). Explains b es' (with_standing (stands_after f.standing (IndexIs w)) f) (with_part v t.0 (dropped_data i.0 (v t.0)))) z.1.1.0
       (folder_disabled b es f v told e may t i s is g.table (told.catalogue.tables t.0 ∙ tallied.tallied.standing.table) z.0 z.1.0 (ap (λ (u : TableId). u.0) (z.1.1.1 ∙ of_table))
       (shut_data b es f.standing.indexes v g (all_at (HasShown b es f.standing.indexes v) groups place g l g_is shown) none)))
 
@@ -113,22 +113,22 @@ module _ {D : Type 0} (d : Ghosts D) (tells_left : (x : D) (moment file : ℕ) (
   down_failed shut call shut-is shut_at failed catalog' trail' entries room =
       define_failed d tells_left up_to_now b sound premise began disk catalog standing groups trail late closed k running disk' (IndexIs y) passes touches leaves regions t e own may at (λ v. with_part v t.0 (dropped_data i.0 (v t.0))) explains shut call shut-is shut_at failed catalog' trail' entries room
 
-  agrees : Agrees (after standing (IndexIs y)) (catalogue_of b es')
-  agrees = subst (λ (w : Catalogue). Agrees (after standing (IndexIs y)) w) (sym (catalogue-snoc b es e ∙ ap (catalogue_step c) is)) (agrees_disabled standing c k.told.agrees t i s x found)
+  agrees : Agrees (stands_after standing (IndexIs y)) (catalogue_of b es')
+  agrees = subst (λ (w : Catalogue). Agrees (stands_after standing (IndexIs y)) w) (sym (catalogue-snoc b es e ∙ ap (catalogue_step c) is)) (agrees_disabled standing c k.told.agrees t i s x found)
 
   module _ (g' : Group) (less : HasIndexLess g g' i.0) where
     tallied' : HasTallied b es' g'
     tallied' = has_tallied_down b es e may t i s is g g' refl less tallied
 
-    own_disk : IsTrue d.tells → (f : FolderData) → f.standing ≡ standing_of catalog → AreFresh d disk' f.standing.next → AreUnmade f → IsOnDisk d disk' f g → IsOnDisk d disk' (with_standing (after f.standing (IndexIs y)) f) g'
+    own_disk : IsTrue d.tells → (f : FolderData) → f.standing ≡ standing_of catalog → AreFresh d disk' f.standing.next → AreUnmade f → IsOnDisk d disk' f g → IsOnDisk d disk' (with_standing (stands_after f.standing (IndexIs y)) f) g'
     own_disk tells f fs fresh unmade on = record {
-      rows = subst (λ (w : Region). Holds d w disk' (f.regions w.number)) (sym less.beside.rows) on.rows;
+      rows = subst (λ (w : Region). RegionHolds d w disk' (f.regions w.number)) (sym less.beside.rows) on.rows;
       indexes = λ j z there.
           (let from = from_filter (λ (w : IndexRegion). not (w.index.id.0 == i.0)) g.indexes.items j z (sym (ap (λ (zs : List IndexRegion). slice_get zs j) less.indexes) ∙ there) in on.indexes from.0 z from.1.0);
     }
 
-    pub down_kept : (catalog' : Catalog) → (HasCatalogue d catalog disk → HasCatalogue d catalog' disk') → standing_of catalog' ≡ after (standing_of catalog) (IndexIs y) → (trail' : Recorded) → trail'.entries ≡ es ++ e ∷ [] → trail'.room + 1 ≡ trail.room → 2 + sum_by owed groups ≤ trail.room
-        → IsKept d b sound premise began disk' catalog' (after standing (IndexIs y)) (slice_set groups place g') trail' late closed
+    pub down_kept : (catalog' : Catalog) → (HasCatalogue d catalog disk → HasCatalogue d catalog' disk') → standing_of catalog' ≡ stands_after (standing_of catalog) (IndexIs y) → (trail' : Recorded) → trail'.entries ≡ es ++ e ∷ [] → trail'.room + 1 ≡ trail.room → 2 + sum_by owed groups ≤ trail.room
+        → IsKept d b sound premise began disk' catalog' (stands_after standing (IndexIs y)) (slice_set groups place g') trail' late closed
     down_kept catalog' stored defined trail' entries room enough =
         index_kept d tells_left up_to_now b sound premise began disk catalog standing groups trail late closed k running disk' (IndexIs y) passes touches leaves regions t e own may at (dropped_data i.0) explains catalog' stored defined agrees refl
         place g g' l g_is refl less.beside.table (same_owed g g' less.beside)

@@ -20,7 +20,7 @@ use Rattle.px_calls.specs.Known.{Known}
 use Rattle.px_calls.specs.declared.definition.Definition.TheVariants as definition
 use Rattle.px_calls.specs.declared.fault.StepFault.{StepFault}
 use Rattle.px_calls.specs.declared.fault.StepFault.TheVariants.{NotReady, WriteFault as Failed, Memory as MemoryFault}
-use Rattle.px_schema.specs.Stands.{after}
+use Rattle.px_schema.specs.Stands.{stands_after}
 use Rattle.px_schema.specs.declared.item.CatalogItem.TheVariants.{IndexIs}
 use Rattle.px_schema.specs.declared.standing.Standing.{Standing}
 use Rattle.px_catalog.specs.Catalogue.{CatalogueStands, HasCatalogue, catalogue_files, standing_of}
@@ -48,7 +48,7 @@ module _ {D : Type 0} (d : Ghosts D) (tells_left : (x : D) (moment file : ℕ) (
     (p : IndexPlace) (at : IsQuietPlace standing groups closed t i p) (x : Index) (x_is : get_or standing.indexes p.index x ≡ x) (g : Group) (g_is : get_or groups p.table g ≡ g)
     (q : IndexToPut) (put : IsIndexToPut g.table standing (disabled x) q) (mid : Recorded) (mid_same : mid.entries ≡ trail.entries) (mid_room : mid.room ≡ trail.room + 1)
     (disk' : D) (catalog' : Catalog) (passes : Passes d disk disk' 4) (touches : HasCatalogue d catalog disk → TouchesOnly d disk disk' catalogue_files)
-    (leaves : HasCatalogue d catalog disk → LeavesOnly d disk disk' (λ moment image. CatalogueStands image (standing_of catalog) ⊎ CatalogueStands image (after (standing_of catalog) (IndexIs q.item)))) where
+    (leaves : HasCatalogue d catalog disk → LeavesOnly d disk disk' (λ moment image. CatalogueStands image (standing_of catalog) ⊎ CatalogueStands image (stands_after (standing_of catalog) (IndexIs q.item)))) where
   abbrev known : List Entry → Known
   known es = record { seat = seat; base = b; damaged = damaged; alone = true; seen = es }
 
@@ -73,8 +73,8 @@ module _ {D : Type 0} (d : Ghosts D) (tells_left : (x : D) (moment file : ℕ) (
   may : (calls : ℕ) → calls ≡ d.calls disk' → MayCome b trail.entries (entry calls)
   may calls same = subst (λ (n : ℕ). MayCome b trail.entries (entry n)) (sym same) (may_disable d tells_left up_to_now b damaged sound premise began disk catalog standing groups trail late closed k seat t i p at x x_is g g_is disk' passes.later)
 
-  leaves_y : HasCatalogue d catalog disk → LeavesOnly d disk disk' (λ moment image. CatalogueStands image (standing_of catalog) ⊎ CatalogueStands image (after (standing_of catalog) (IndexIs (disabled x))))
-  leaves_y = subst (λ (y : Index). HasCatalogue d catalog disk → LeavesOnly d disk disk' (λ moment image. CatalogueStands image (standing_of catalog) ⊎ CatalogueStands image (after (standing_of catalog) (IndexIs y)))) put.item leaves
+  leaves_y : HasCatalogue d catalog disk → LeavesOnly d disk disk' (λ moment image. CatalogueStands image (standing_of catalog) ⊎ CatalogueStands image (stands_after (standing_of catalog) (IndexIs (disabled x))))
+  leaves_y = subst (λ (y : Index). HasCatalogue d catalog disk → LeavesOnly d disk disk' (λ moment image. CatalogueStands image (standing_of catalog) ⊎ CatalogueStands image (stands_after (standing_of catalog) (IndexIs y)))) put.item leaves
 
   km : IsKept d b sound premise began disk catalog standing groups mid late closed
   km = roomy d b sound premise began disk catalog standing groups trail late closed k mid mid_same (omega (arith, mid_room))
@@ -91,7 +91,7 @@ module _ {D : Type 0} (d : Ghosts D) (tells_left : (x : D) (moment file : ℕ) (
   none' : g.batches.items ≡ []
   none' = none d tells_left up_to_now b damaged sound premise began disk catalog standing groups trail late closed k seat t i p at x x_is g g_is
 
-  module _ (stored : HasCatalogue d catalog disk → HasCatalogue d catalog' disk') (defined : standing_of catalog' ≡ after (standing_of catalog) (IndexIs q.item)) (h : Group) (h_is : h ≡ g) (g2 : Group) (less : HasIndexLess h g2 i.0)
+  module _ (stored : HasCatalogue d catalog disk → HasCatalogue d catalog' disk') (defined : standing_of catalog' ≡ stands_after (standing_of catalog) (IndexIs q.item)) (h : Group) (h_is : h ≡ g) (g2 : Group) (less : HasIndexLess h g2 i.0)
       (now : Standing) (now_is : now ≡ q.standing) (trail' : Recorded) (calls : ℕ) (calls_is : calls ≡ d.calls disk') (entries : trail'.entries ≡ mid.entries ++ entry calls ∷ []) (room : trail'.room + 1 ≡ mid.room) where
     less' : HasIndexLess g g2 x.id.0
     less' = subst (λ (n : IndexId). HasIndexLess g g2 n.0) (sym id') (subst (λ (w : Group). HasIndexLess w g2 i.0) h_is less)
@@ -100,7 +100,7 @@ module _ {D : Type 0} (d : Ghosts D) (tells_left : (x : D) (moment file : ℕ) (
     disabling_kept = subst (λ (st : Standing). IsKept d b sound premise began disk' catalog' st (slice_set groups p.table g2) trail' late closed) (sym (now_is ∙ put.standing))
         (down_kept d tells_left up_to_now b sound premise began disk catalog standing groups mid late closed km at.running x p.table g l g_is x.birth (entry calls) act_is
         (subst (λ (es : List Entry). MayCome b es (entry calls)) (sym mid_same) (may calls calls_is)) found' own' none' disk' calls_is passes touches leaves_y
-        g2 less' catalog' stored (defined ∙ ap (λ (y : Index). after (standing_of catalog) (IndexIs y)) put.item) trail' entries room enough)
+        g2 less' catalog' stored (defined ∙ ap (λ (y : Index). stands_after (standing_of catalog) (IndexIs y)) put.item) trail' entries room enough)
 
     pub disabling_did : (n : ℕ) → n ≡ length trail'.entries → DidDefine (known trail.entries) (known trail'.entries) (definition.Disabled t i) (record { number = i.0; stamp = x.birth; at = n })
     disabling_did n long = record {

@@ -6,7 +6,7 @@ use Rattle.px_trail.specs.Legal.{IsLegal, MayCome}
 use Rattle.px_trail.specs.Trail.{Base, Catalogue, catalogue_of, catalogue_step, closing_call, closing_step}
 use Rattle.px_trail.proofs.Growth.{catalogue-snoc, closing-snoc, legal-snoc}
 use Rattle.px_groupworld.specs.Group.{GroupData}
-use Rattle.px_noting.specs.Apart.{IsApart}
+use Rattle.px_noting.specs.Apart.{IsApartFrom}
 use Rattle.px_noting.proofs.Others.{apart_elsewhere}
 use Rattle.px_recovery.specs.Folder.{FolderData}
 use Rattle.px_recovery.specs.Stands.{Explains, GoesOnBy}
@@ -19,7 +19,7 @@ use Rattle.px_server.proofs.Built.{IsOfOwn}
 pub record IsOfTable (b : Base) (es : List Entry) (t : ℕ) (e : Entry) : Type 0 where
   pub may : MayCome b es e
   pub still : (c : Catalogue) → catalogue_step c e.act ≡ c
-  pub apart : (id : TableId) → id.0 ≢ t → IsApart id e.act
+  pub apart : (id : TableId) → id.0 ≢ t → IsApartFrom id e.act
   pub unshut : closing_step None e.act ≡ None
   pub own : IsOfOwn b es t e.act
 

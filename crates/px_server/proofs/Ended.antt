@@ -10,7 +10,7 @@ use Rattle.px_tables.specs.declared.table.Table.{Table}
 use Rattle.px_trail.specs.declared.entry.Act.{Act}
 use Rattle.px_trail.specs.declared.entry.Act.TheVariants.{Ended}
 use Rattle.px_trail.specs.declared.entry.Entry.{Entry}
-use Rattle.px_trail.specs.Batches.{Batch, IsIn, IsSoundBatch, IsSoundOption, batch_of, batch_step, change_of, has, phase_of, rows_of, unwritten}
+use Rattle.px_trail.specs.Batches.{Batch, IsBatchIn, IsSoundBatch, IsSoundOption, batch_of, batch_step, change_of, has, phase_of, rows_of, unwritten}
 use Rattle.px_trail.specs.Batches as trail
 use Rattle.px_trail.specs.Legal.{IsEndable, IsLegal, MayCome}
 use Rattle.px_trail.specs.Trail.{Base, open_points, points_step}
@@ -24,10 +24,10 @@ use Rattle.px_groupworld.specs.Group.{GroupData}
 use Rattle.px_groupworld.specs.Steps.{ended_data}
 use Rattle.px_openbatches.specs.Pending.{HeldBatch, held_ended}
 use Rattle.px_phases.specs.Batch.{BatchData}
-use Rattle.px_region.specs.Region.{Holds}
+use Rattle.px_region.specs.Region.{RegionHolds}
 use Rattle.px_region.specs.declared.region.Region.{Region}
 use Rattle.px_tablesteps.specs.Kept.{no_held}
-use Rattle.px_group.specs.Group.{AreTraced, IsRightBatch, IsRightGroup, IsShownBy, IsStage, IsTallied, as_phase, form_of, points_in}
+use Rattle.px_group.specs.Group.{AreTraced, FitsPhase, IsRightBatch, IsRightGroup, IsShownBy, IsTallied, as_phase, form_of, points_in}
 use Rattle.px_group.specs.declared.group.Begun.{Begun}
 use Rattle.px_group.specs.declared.group.Group.{Group}
 use Rattle.px_group.specs.declared.group.Phase.{Phase}
@@ -76,7 +76,7 @@ unfolding has
 none_written [] h = absurd (h refl)
 none_written (c ∷ cs) h = λ n. cc
 
-pub left_batch : (b : Base) (es : List Entry) → IsLegal b es → (seat t s : ℕ) → IsIn es seat t s trail.Marking ⊎ IsIn es seat t s trail.Writing → IsLeftBatch es t s
+pub left_batch : (b : Base) (es : List Entry) → IsLegal b es → (seat t s : ℕ) → IsBatchIn es seat t s trail.Marking ⊎ IsBatchIn es seat t s trail.Writing → IsLeftBatch es t s
 left_batch b es legal seat t s (inl i) =
     let m = in_marking i.batch i.phase in
     let sound : IsSoundBatch i.batch = subst IsSoundOption i.is (batch-sound b t s es legal) in
@@ -137,7 +137,7 @@ module _ {D : Type 0} (d : Ghosts D) (disk : D) (g g' : Group) (m : ℕ) (x : Be
 
   disk_left : (f : FolderData) → IsOnDisk d disk f g → IsOnDisk d disk f g'
   disk_left f on = record {
-    rows = subst (λ (r : Region). Holds d r disk (f.regions r.number)) (sym goes.rows) on.rows;
+    rows = subst (λ (r : Region). RegionHolds d r disk (f.regions r.number)) (sym goes.rows) on.rows;
     indexes = λ i y at. on.indexes i y (ap (λ v. slice_get v.items i) (sym goes.indexes) ∙ at);
   }
 
@@ -234,7 +234,7 @@ module _ {D : Type 0} (d : Ghosts D) (disk : D) (g g' : Group) (m : ℕ) (x : Be
 
 -- ---- where it is in its last phase, no mark is left
 
-pub none_marked : (p : Phase) → as_phase p ≡ trail.Closing → (count : ℕ) (bd : BatchData) → IsStage p count bd → bd.marks ≡ []
+pub none_marked : (p : Phase) → as_phase p ≡ trail.Closing → (count : ℕ) (bd : BatchData) → FitsPhase p count bd → bd.marks ≡ []
 none_marked Marking is count bd stage = absurd cc
 none_marked Writing is count bd stage = absurd cc
 none_marked Verifying is count bd stage = absurd cc

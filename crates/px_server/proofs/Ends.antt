@@ -8,7 +8,7 @@ use Rattle.px_values.specs.declared.name.TableId.{TableId}
 use Rattle.px_tables.specs.declared.table.Table.{Table}
 use Rattle.px_trail.specs.declared.entry.Act.TheVariants.{Ended}
 use Rattle.px_trail.specs.declared.entry.Entry.{Entry}
-use Rattle.px_trail.specs.Batches.{Batch, IsIn, batch_of}
+use Rattle.px_trail.specs.Batches.{Batch, IsBatchIn, batch_of}
 use Rattle.px_trail.specs.Batches as phases
 use Rattle.px_trail.specs.Legal.{Follows, IsEndable, MayCome}
 use Rattle.px_trail.specs.Recorded.{Recorded}
@@ -26,7 +26,7 @@ use Rattle.px_batching.specs.declared.ending.Told.{Told}
 use Rattle.px_batching.proofs.Traced.{receipt_ends, traced_of}
 use Rattle.px_recovery.proofs.Server.{newest_early}
 use Rattle.px_calls.specs.Calls.{IsFinished, IsReceipt}
-use Rattle.px_server.specs.Ending.{HasVerified}
+use Rattle.px_server.specs.Ending.{HasVerifiedEntry}
 use Rattle.px_server.specs.Kept.{HasBegun, IsKept, owed_by}
 use Rattle.px_server.specs.Others.{Beginning}
 use Rattle.px_server.proofs.Acted.{acted, acted_still, begun_at, once_at, points_at, right_at, tallied_at, traced_at}
@@ -54,16 +54,16 @@ none_any s (z ∷ ms) none any = none_any s ms (λ m. none (suc m)) (sym (ap (λ
 
 -- ---- the phase that the receipt tells of
 
-closing_phase : (es : List Entry) (t s : ℕ) (w : Batch) → batch_of t s es ≡ Some w → (seat : ℕ) → IsIn es seat t s phases.Closing → 2 ≤ w.phase
+closing_phase : (es : List Entry) (t s : ℕ) (w : Batch) → batch_of t s es ≡ Some w → (seat : ℕ) → IsBatchIn es seat t s phases.Closing → 2 ≤ w.phase
 closing_phase es t s w is seat i = (let own : i.batch ≡ w = same_some i.batch w (sym i.is ∙ is) in subst (λ (x : Batch). 2 ≤ x.phase) own (in_closing i.batch i.phase).1)
 
 -- in a server that isn't closed it has come to its last phase
-pub running_end : (es : List Entry) (closed : Option ℕ) → closing_call es ≡ closed → closed ≡ None → (seat t s : ℕ) → IsEndable es seat t s → IsIn es seat t s phases.Closing
+pub running_end : (es : List Entry) (closed : Option ℕ) → closing_call es ≡ closed → closed ≡ None → (seat t s : ℕ) → IsEndable es seat t s → IsBatchIn es seat t s phases.Closing
 running_end es closed closing running seat t s (inl i) = i
 running_end es closed closing running seat t s (inr i) = absurd (i.0 (closing ∙ running))
 
 -- where it is given up it hasn't ended, and the server is closed
-pub left_running : (es : List Entry) (seat t s : ℕ) → IsIn es seat t s phases.Marking ⊎ IsIn es seat t s phases.Writing → (x : Batch) × ((batch_of t s es ≡ Some x) × (x.ended ≡ false))
+pub left_running : (es : List Entry) (seat t s : ℕ) → IsBatchIn es seat t s phases.Marking ⊎ IsBatchIn es seat t s phases.Writing → (x : Batch) × ((batch_of t s es ≡ Some x) × (x.ended ≡ false))
 left_running es seat t s (inl i) = (i.batch, (i.is, (in_marking i.batch i.phase).0))
 left_running es seat t s (inr i) = (i.batch, (i.is, (in_writing i.batch i.phase).0))
 
@@ -165,7 +165,7 @@ module _ {D : Type 0} (d : Ghosts D) (b : Base) (sound premise : Type 0) (began 
             in omega (arith, fewer, batches, points, room))
 
         -- its receipt
-        pub receipt : (damaged : ℕ → ℕ → Bool) (g' : Group) (told : Told) (x' : Ends g g' m told) → x'.batch ≡ x → (trail' : Recorded) → trail'.entries ≡ es ++ e ∷ [] → closing_call trail'.entries ≡ closed → (u : Option ℕ) → (u ≡ None → (closed ≡ None) ⊎ HasVerified es t.0 s) → ((call : ℕ) → u ≡ Some call → closed ≡ Some call)
+        pub receipt : (damaged : ℕ → ℕ → Bool) (g' : Group) (told : Told) (x' : Ends g g' m told) → x'.batch ≡ x → (trail' : Recorded) → trail'.entries ≡ es ++ e ∷ [] → closing_call trail'.entries ≡ closed → (u : Option ℕ) → (u ≡ None → (closed ≡ None) ⊎ HasVerifiedEntry es t.0 s) → ((call : ℕ) → u ≡ Some call → closed ≡ Some call)
             → IsReceipt (record { seat = seat; base = b; damaged = damaged; alone = true; seen = trail'.entries }) (record { table = t; stamp = s }) (record { table = t; stamp = s; rows = told.rows; concurrent = told.concurrent; unfinished = u; at = length trail'.entries })
         receipt damaged g' told x' same trail' entries closing u none some = record {
           table = refl;
@@ -191,7 +191,7 @@ module _ {D : Type 0} (d : Ghosts D) (b : Base) (sound premise : Type 0) (began 
             phase_is : here.batch.phase ≡ written.batch.phase
             phase_is = ap (λ (y : Batch). y.phase) (same_some here.batch (record written.batch { ended = true }) (sym here.is ∙ after))
 
-            done : (closed ≡ None) ⊎ HasVerified es t.0 s → 2 ≤ written.batch.phase
+            done : (closed ≡ None) ⊎ HasVerifiedEntry es t.0 s → 2 ≤ written.batch.phase
             done (inl running) = closing_phase es t.0 s written.batch written.is seat (running_end es closed k.told.closing running seat t.0 s can)
             done (inr v) = (let y = verified_done b es k.told.legal t.0 s v in subst (λ (z : Batch). 2 ≤ z.phase) (same_some y.batch written.batch (sym y.is ∙ written.is)) y.phase)
 
@@ -201,7 +201,7 @@ module _ {D : Type 0} (d : Ghosts D) (b : Base) (sound premise : Type 0) (began 
 
   -- ---- it is given up
 
-  module _ (call : ℕ) (shut : closed ≡ Some call) (seat : ℕ) (can : IsIn es seat t.0 s phases.Marking ⊎ IsIn es seat t.0 s phases.Writing) where
+  module _ (call : ℕ) (shut : closed ≡ Some call) (seat : ℕ) (can : IsBatchIn es seat t.0 s phases.Marking ⊎ IsBatchIn es seat t.0 s phases.Writing) where
     pub goes_away : (m : ℕ) (x : Begun) → x.batch.stamp ≡ s → slice_get g.batches.items m ≡ Some x → (g' : Group) → LetsGo g g' m x → IsKept d b sound premise began disk catalog standing (slice_set groups place g') trail late closed
     goes_away m x stamp at g' goes = (let
         left : IsLeftBatch es g.table.id.0 x.batch.stamp =

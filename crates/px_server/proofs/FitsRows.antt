@@ -14,7 +14,7 @@ use Rattle.px_keys.specs.declared.parts.KeyColumn.{KeyColumn}
 use Rattle.px_tables.specs.declared.table.Table.{Table}
 use Rattle.px_tables.specs.declared.table.TableColumn.{TableColumn}
 use Rattle.px_paths.specs.Paths.{type_in}
-use Rattle.px_calls.specs.Requires.{AssignsTo, FitsTable, FitsWhat}
+use Rattle.px_calls.specs.Requires.{AssignsOnce, AssignsTo, IsChangeOf}
 use Rattle.px_rows.specs.Keys.{column_in}
 use Rattle.px_rows.specs.Spelled.{FitsColumnOf}
 use Rattle.px_rows.specs.Spelled as rows
@@ -41,10 +41,10 @@ assigns t (a ∷ as') all = (
   assigns t as' all.1,
 )
 
-what_fits : (t : Table) (w : What) → FitsWhat t w → rows.FitsWhat t w
+what_fits : (t : Table) (w : What) → AssignsOnce t w → rows.FitsWhat t w
 what_fits t (Set as') fits = assigns t as' fits.0
 what_fits t Gone fits = tt
 
-pub all_fit : (t : Table) (cs : List Change) → AllByRecursion (FitsTable t) cs → AllFit t cs
+pub all_fit : (t : Table) (cs : List Change) → AllByRecursion (IsChangeOf t) cs → AllFit t cs
 all_fit t [] all = tt
 all_fit t (c ∷ cs) all = ((subst (λ (columns : List KeyColumn). Fits columns c.row) (table_columns t) all.0.row, what_fits t c.what all.0.what), all_fit t cs all.1)

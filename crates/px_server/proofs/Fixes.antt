@@ -39,11 +39,11 @@ use Rattle.px_calls.specs.declared.query.Doubt.{Doubt}
 use Rattle.px_calls.specs.declared.query.Fixing.{Fixing}
 use Rattle.px_calls.specs.declared.query.Fixing.TheVariants as fixing
 use Rattle.px_repairs.specs.Refused.{RefusesRepair}
-use Rattle.px_repairs.specs.Repairs.{Fixes, HandsRepair, HasFailed, HasFixed, HasStayed, IsRepair, IsUnderWay, WroteRepair, stands_in}
+use Rattle.px_repairs.specs.Repairs.{Fixes, HandsRepair, HasFailedRepair, HasFixed, HasStayed, IsChangeUnderWay, IsRepair, WroteRepair, stands_in}
 use Rattle.px_repairs.specs.declared.repairing.RepairFault.{RepairFault}
 use Rattle.px_repairs.specs.declared.repairing.RepairFault.TheVariants.{Busy, NotReady, WriteFault, Memory}
 use Rattle.px_repairs.proofs.Handing.{got_some}
-use Rattle.px_server.specs.Repairs.{Answers, IsMended, Mends, RefusesFix, StandsNoMore, Stays}
+use Rattle.px_server.specs.Repairs.{Answers, IsMended, Mends, RefusesFix, StandsNoMore, WritesNothing}
 use Rattle.px_pointreads.proofs.Asked.{there_is}
 use Rattle.px_repairs.proofs.Right.{right_repaired, tallied_repaired, traced_repaired}
 use Rattle.px_repairs.proofs.Shown.{repair_steps, repaired_shown, repaired_steps}
@@ -226,7 +226,7 @@ module _ {D : Type 0} (d : Ghosts D) (tells_left : (x : D) (moment file : ℕ) (
 -- ---- what became of the version
 
 module _ {D : Type 0} (d : Ghosts D) (g g' : Group) (disk disk' : D) (at : ℕ) (k : List ℕ) (s : ℕ) where
-  pub stayed : (result : Result Fixing RepairFault) → Stays result → Fixes d g g' disk disk' at k s result → HasStayed g g' disk disk'
+  pub stayed : (result : Result Fixing RepairFault) → WritesNothing result → Fixes d g g' disk disk' at k s result → HasStayed g g' disk disk'
   stayed (Ok fixing.Fixed) never f = absurd never
   stayed (Ok fixing.Gone) here f = f.0
   stayed (Ok fixing.InFlight) here f = f.0
@@ -235,13 +235,13 @@ module _ {D : Type 0} (d : Ghosts D) (g g' : Group) (disk disk' : D) (at : ℕ) 
   stayed (Err WriteFault) never f = absurd never
   stayed (Err Memory) here f = f
 
-  pub fixed_of : (result : Result Fixing RepairFault) (x : Fixing) → (Stays result → ⊥) → result ≡ Ok x → Fixes d g g' disk disk' at k s result → HasFixed d g g' disk disk' at k s × (x ≡ fixing.Fixed)
+  pub fixed_of : (result : Result Fixing RepairFault) (x : Fixing) → (WritesNothing result → ⊥) → result ≡ Ok x → Fixes d g g' disk disk' at k s result → HasFixed d g g' disk disk' at k s × (x ≡ fixing.Fixed)
   fixed_of (Ok fixing.Fixed) x never same f = (f, (let z : ◌≡◌ {A = Result Fixing RepairFault} (Ok x) (Ok fixing.Fixed) = sym same in cc))
   fixed_of (Ok fixing.Gone) x never same f = absurd (never tt)
   fixed_of (Ok fixing.InFlight) x never same f = absurd (never tt)
   fixed_of (Err fault) x never same f = absurd (let z : ◌≡◌ {A = Result Fixing RepairFault} (Err fault) (Ok x) = same in cc)
 
-  pub failed_of : (result : Result Fixing RepairFault) (fault : RepairFault) → (Stays result → ⊥) → result ≡ Err fault → Fixes d g g' disk disk' at k s result → HasFailed d g g' disk disk' at k s × (result ≡ Err WriteFault)
+  pub failed_of : (result : Result Fixing RepairFault) (fault : RepairFault) → (WritesNothing result → ⊥) → result ≡ Err fault → Fixes d g g' disk disk' at k s result → HasFailedRepair d g g' disk disk' at k s × (result ≡ Err WriteFault)
   failed_of (Ok x) fault never same f = absurd (let z : ◌≡◌ {A = Result Fixing RepairFault} (Ok x) (Err fault) = same in cc)
   failed_of (Err WriteFault) fault never same f = (f, refl)
   failed_of (Err (Busy cells bytes)) fault never same f = absurd (never tt)
@@ -257,7 +257,7 @@ doubt_at groups xs place at i g dflt same l found is = found g (ap (λ (ys : Lis
 -- ---- what is in flight
 
 module _ (b : Base) (es : List Entry) (legal : IsLegal b es) (g : Group) (right : IsRightGroup g) (tallied : HasTallied b es g) (at : ℕ) (d : Doubt) (named : (x : IndexRegion) → slice_get g.indexes.items at ≡ Some x → x.index.id ≡ d.index) where
-  pub in_flight_at : IsUnderWay g at d.key d.stamp → IsInFlight b es d
+  pub in_flight_at : IsChangeUnderWay g at d.key d.stamp → IsInFlight b es d
   in_flight_at w = in_flight b es g tallied.held tallied.tallied at w.index w.at (part_at (IsRightPart g.table) g.indexes.items right.parts at w.index w.at).table d (sym (named w.index w.at)) w.key w.left
 
   pub not_in_flight : (kept : List CellData) → IsRepair g at d.key d.stamp kept → IsInFlight b es d → ⊥
@@ -299,7 +299,7 @@ module _ {D : Type 0} (d : Ghosts D) (tells_left : (x : D) (moment file : ℕ) (
   is2 : get_or then2 place g' ≡ g'
   is2 = got_set groups place g' g' l
 
-  pub stayed_flight : HasStayed g g' disk disk' → (at : ℕ) (q : Doubt) → ((x : IndexRegion) → slice_get g.indexes.items at ≡ Some x → x.index.id ≡ q.index) → IsUnderWay g' at q.key q.stamp → IsInFlight b es2 q
+  pub stayed_flight : HasStayed g g' disk disk' → (at : ℕ) (q : Doubt) → ((x : IndexRegion) → slice_get g.indexes.items at ≡ Some x → x.index.id ≡ q.index) → IsChangeUnderWay g' at q.key q.stamp → IsInFlight b es2 q
   stayed_flight h at q named = (let k' = fix_stayed d tells_left up_to_now b sound premise began disk catalog standing groups trail late closed k running place g g' l is disk' h
       in in_flight_at b es2 k.told.legal g' (all_at IsRightGroup then2 place g' inside2 is2 (k'.each.right running)) (all_at (HasTallied b es2) then2 place g' inside2 is2 (k'.each.tallied running)) at q (named_looked g g' h.looked at q.index named))
 
@@ -347,7 +347,7 @@ module _ {D : Type 0} (d : Ghosts D) (groups : List Group) (place : ℕ) (g g' :
         gone = judged y.0 y.1.0;
       })
 
-  pub stayed_mends : (n : ℕ) (result : Result Fixing RepairFault) → Stays result → Fixes d g g' disk disk' at q.key q.stamp result → (answer : Result Fixing StepFault) → Answers n result answer → IfOk answer (Mends groups then3 q)
+  pub stayed_mends : (n : ℕ) (result : Result Fixing RepairFault) → WritesNothing result → Fixes d g g' disk disk' at q.key q.stamp result → (answer : Result Fixing StepFault) → Answers n result answer → IfOk answer (Mends groups then3 q)
   stayed_mends n (Ok fixing.Fixed) never f answer is = absurd never
   stayed_mends n (Ok fixing.Gone) here f answer is = subst (λ r. IfOk r (Mends groups then3 q)) (sym is) (inr (stands_no_more f.0 f.1))
   stayed_mends n (Ok fixing.InFlight) here f answer is = subst (λ r. IfOk r (Mends groups then3 q)) (sym is) tt
@@ -379,8 +379,8 @@ module _ {D : Type 0} (d : Ghosts D) (groups : List Group) (place : ℕ) (g g' :
 
 -- ---- what is answered
 
-module _ {D : Type 0} (d : Ghosts D) (g g' : Group) (disk disk' : D) (at n : ℕ) (k k' : Known) (q : Doubt) (found : Finds k k') (flight : IsUnderWay g' at q.key q.stamp → IsInFlight k'.base k'.seen q) where
-  pub answers_ok : (result : Result Fixing RepairFault) → Stays result → Fixes d g g' disk disk' at q.key q.stamp result → (answer : Result Fixing StepFault) → Answers n result answer → IfOk answer (DidFix k k' q)
+module _ {D : Type 0} (d : Ghosts D) (g g' : Group) (disk disk' : D) (at n : ℕ) (k k' : Known) (q : Doubt) (found : Finds k k') (flight : IsChangeUnderWay g' at q.key q.stamp → IsInFlight k'.base k'.seen q) where
+  pub answers_ok : (result : Result Fixing RepairFault) → WritesNothing result → Fixes d g g' disk disk' at q.key q.stamp result → (answer : Result Fixing StepFault) → Answers n result answer → IfOk answer (DidFix k k' q)
   answers_ok (Ok fixing.Fixed) never f answer is = absurd never
   answers_ok (Ok fixing.Gone) here f answer is = subst (λ r. IfOk r (DidFix k k' q)) (sym is) found
   answers_ok (Ok fixing.InFlight) here f answer is = subst (λ r. IfOk r (DidFix k k' q)) (sym is) (found, flight f.1)
@@ -389,7 +389,7 @@ module _ {D : Type 0} (d : Ghosts D) (g g' : Group) (disk disk' : D) (at n : ℕ
   answers_ok (Err WriteFault) never f answer is = absurd never
   answers_ok (Err Memory) here f answer is = subst (λ r. IfOk r (DidFix k k' q)) (sym is) tt
 
-  pub answers_refused : (result : Result Fixing RepairFault) → Stays result → (answer : Result Fixing StepFault) → Answers n result answer → IfErr answer (Refuses fix_cause k k')
+  pub answers_refused : (result : Result Fixing RepairFault) → WritesNothing result → (answer : Result Fixing StepFault) → Answers n result answer → IfErr answer (Refuses fix_cause k k')
   answers_refused (Ok fixing.Fixed) never answer is = absurd never
   answers_refused (Ok fixing.Gone) here answer is = subst (λ r. IfErr r (Refuses fix_cause k k')) (sym is) tt
   answers_refused (Ok fixing.InFlight) here answer is = subst (λ r. IfErr r (Refuses fix_cause k k')) (sym is) tt

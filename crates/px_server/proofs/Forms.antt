@@ -6,12 +6,12 @@ use Rattle.px_trail.specs.Trail.{Base}
 use Rattle.px_world.specs.Closed.{Closed}
 use Rattle.px_forms.specs.Indexes.{IndexForm, shape_at}
 use Rattle.px_indexed.specs.Worlds.{world_at}
-use Rattle.px_groupworld.specs.Group.{GroupData, TableForm, index_in, no_part}
+use Rattle.px_groupworld.specs.Group.{GroupData, TableForm, indexed_at, no_part}
 use Rattle.px_openbatches.specs.Made.{IsPutOfRow, IsRowMade, RowCells}
-use Rattle.px_openbatches.specs.Opens.{AreClosed, IsReady, form_in}
+use Rattle.px_openbatches.specs.Opens.{AreClosed, IsBatchReady, form_in}
 use Rattle.px_openbatches.specs.Pending.{HeldBatch}
 use Rattle.px_openbatches.proofs.Mades.{made_form}
-use Rattle.px_tablesteps.specs.Kept.{IsShut, TableKept}
+use Rattle.px_tablesteps.specs.Kept.{AreMarksClosed, TableKept}
 use Rattle.px_group.specs.Group.{IsShownBy, form_of}
 use Rattle.px_group.specs.declared.group.Group.{Group}
 use Rattle.px_group.specs.declared.group.IndexRegion.{IndexRegion}
@@ -36,7 +36,7 @@ module _ (f : TableForm) (index : ℕ → IndexForm) (es : List Entry) (v : Grou
     puts = m.puts;
   }) xs all
 
-  ready_forms : (h : HeldBatch) → IsReady f es v.indexes h → IsReady f' es v.indexes h
+  ready_forms : (h : HeldBatch) → IsBatchReady f es v.indexes h → IsBatchReady f' es v.indexes h
   ready_forms h r = (let
       made = made_form f es (form_in f v.indexes) h.count h.stamp h.changes h.cells r.made (form_in f' v.indexes) (λ i l. same i (let n = r.inside in omega (arith, n, l)))
       in record {
@@ -49,21 +49,21 @@ module _ (f : TableForm) (index : ℕ → IndexForm) (es : List Entry) (v : Grou
   closed_forms : (h : HeldBatch) (n : ℕ) → n ≤ length v.indexes → AreClosed f es v h n → AreClosed f' es v h n
   closed_forms h n within c = record {
     each = λ i l r own.
-        subst (λ (form : IndexForm). Closed (shape_at f.rows.shape form r) (world_at f.rows.shape f.base es f.id.0 v.high (record (index_in f v i) { form = form }) r) h.stamp)
+        subst (λ (form : IndexForm). Closed (shape_at f.rows.shape form r) (world_at f.rows.shape f.base es f.id.0 v.high (record (indexed_at f v i) { form = form }) r) h.stamp)
         (sym (same i (omega (arith, l, within)))) (c.each i l r own);
   }
 
-  shut_forms : (h : HeldBatch) → IsReady f es v.indexes h → IsShut f es v h → IsShut f' es v h
+  shut_forms : (h : HeldBatch) → IsBatchReady f es v.indexes h → AreMarksClosed f es v h → AreMarksClosed f' es v h
   shut_forms h r s = record { whole = s.whole; inside = s.inside; closed = closed_forms h h.verified (let m = s.inside in let n = r.inside in omega (arith, m, n)) s.closed }
 
-  all_shut : (hs : List HeldBatch) → AllByRecursion (IsReady f es v.indexes) hs → AllByRecursion (IsShut f es v) hs → AllByRecursion (IsShut f' es v) hs
+  all_shut : (hs : List HeldBatch) → AllByRecursion (IsBatchReady f es v.indexes) hs → AllByRecursion (AreMarksClosed f es v) hs → AllByRecursion (AreMarksClosed f' es v) hs
   all_shut [] ready shut = tt
   all_shut (h ∷ hs) ready shut = (shut_forms h ready.0 shut.0, all_shut hs ready.1 shut.1)
 
   pub kept_forms : (hs : List HeldBatch) → TableKept f es v hs → TableKept f' es v hs
   kept_forms hs k = record {
     group = other_forms f index es v same k.group;
-    opens = record { held = k.opens.held; ready = all_weaker (IsReady f es v.indexes) (IsReady f' es v.indexes) ready_forms hs k.opens.ready };
+    opens = record { held = k.opens.held; ready = all_weaker (IsBatchReady f es v.indexes) (IsBatchReady f' es v.indexes) ready_forms hs k.opens.ready };
     same = k.same;
     shut = all_shut hs k.opens.ready k.shut;
   }

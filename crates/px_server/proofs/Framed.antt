@@ -7,7 +7,7 @@ use Rattle.px_outside.proofs.Parts.{with_part-here, with_part-other}
 use Rattle.px_cells.specs.CellData.{CellData}
 use Rattle.px_tables.specs.declared.table.TableRegion.{TableRegion}
 use Rattle.px_wal.specs.Files.{HasFile}
-use Rattle.px_region.specs.Region.{Holds, RegionData}
+use Rattle.px_region.specs.Region.{RegionData, RegionHolds}
 use Rattle.px_region.specs.declared.region.Region.{Region}
 use Rattle.px_region.proofs.Holding.{files_apart, holds_kept}
 use Rattle.px_catalog.specs.Catalogue.{HasCatalogue, catalogue_files}
@@ -30,16 +30,16 @@ module _ {D : Type 0} (d : Ghosts D) (disk disk' : D) (n : ℕ) (touches : Touch
   catalogue_framed c some has = catalogue_kept d c disk has disk' (HasFile n) touches (λ file own touched. not_catalogue n file some own touched)
 
   module _ (f : FolderData) (s : RegionData) where
-    pub region_framed : (r : Region) → r.number ≢ n → Holds d r disk (f.regions r.number) → Holds d r disk' ((with_region n s f).regions r.number)
+    pub region_framed : (r : Region) → r.number ≢ n → RegionHolds d r disk (f.regions r.number) → RegionHolds d r disk' ((with_region n s f).regions r.number)
     region_framed r other holds =
-        subst (λ (c : RegionData). Holds d r disk' c) (sym (with_part-other f.regions n s r.number other)) (holds_kept d r disk (f.regions r.number) holds disk' (HasFile n) touches (λ file own touched. files_apart r.number n file other own touched))
+        subst (λ (c : RegionData). RegionHolds d r disk' c) (sym (with_part-other f.regions n s r.number other)) (holds_kept d r disk (f.regions r.number) holds disk' (HasFile n) touches (λ file own touched. files_apart r.number n file other own touched))
 
     pub group_framed : (h : Group) → LacksNumber n h → IsOnDisk d disk f h → IsOnDisk d disk' (with_region n s f) h
     group_framed h lacks k = record { rows = region_framed h.rows lacks.rows k.rows; indexes = λ i x at. region_framed x.region (lacks.indexes i x at) (k.indexes i x at) }
 
 -- the region that was written has the cells
-pub region_here : {D : Type 0} (d : Ghosts D) (disk' : D) (f : FolderData) (n : ℕ) (s : RegionData) (r : Region) → r.number ≡ n → Holds d r disk' s → Holds d r disk' ((with_region n s f).regions r.number)
-region_here d disk' f n s r own holds = subst (λ (c : RegionData). Holds d r disk' c) (sym (ap (with_part f.regions n s) own ∙ with_part-here f.regions n s)) holds
+pub region_here : {D : Type 0} (d : Ghosts D) (disk' : D) (f : FolderData) (n : ℕ) (s : RegionData) (r : Region) → r.number ≡ n → RegionHolds d r disk' s → RegionHolds d r disk' ((with_region n s f).regions r.number)
+region_here d disk' f n s r own holds = subst (λ (c : RegionData). RegionHolds d r disk' c) (sym (ap (with_part f.regions n s) own ∙ with_part-here f.regions n s)) holds
 
 -- ---- the one region of a table's rows has each key
 

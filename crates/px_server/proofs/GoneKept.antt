@@ -14,9 +14,9 @@ use Rattle.px_trail.specs.Legal.{MayCome}
 use Rattle.px_trail.specs.Recorded.{Recorded}
 use Rattle.px_trail.specs.Trail.{Base, Catalogue, catalogue_of, catalogue_step, index_of}
 use Rattle.px_trail.proofs.Growth.{catalogue-snoc}
-use Rattle.px_region.specs.Region.{Holds}
+use Rattle.px_region.specs.Region.{RegionHolds}
 use Rattle.px_region.specs.declared.region.Region.{Region}
-use Rattle.px_schema.specs.Stands.{after}
+use Rattle.px_schema.specs.Stands.{stands_after}
 use Rattle.px_schema.specs.declared.item.CatalogItem.TheVariants.{IndexGone}
 use Rattle.px_schema.specs.declared.standing.Standing.{Standing}
 use Rattle.px_catalog.specs.Catalogue.{CatalogueStands, HasCatalogue, catalogue_files, standing_of}
@@ -31,7 +31,7 @@ use Rattle.px_defined.proofs.Going.{none_open}
 use Rattle.px_defined.proofs.Lists.{from_filter}
 use Rattle.px_defined.proofs.Once.{once_less}
 use Rattle.px_defined.proofs.Right.{right_less}
-use Rattle.px_recovery.specs.Folder.{AreFresh, AreUnmade, FolderData, IsAmong, region_numbers, with_standing}
+use Rattle.px_recovery.specs.Folder.{AreFresh, AreUnmade, FolderData, IsNumberAmong, region_numbers, with_standing}
 use Rattle.px_recovery.specs.Stands.{Explains, opened_index, opened_state}
 use Rattle.px_recovery.specs.Tables.{index_in}
 use Rattle.px_recovery.proofs.IndexDrops.{index_gone as folder_gone}
@@ -58,7 +58,7 @@ module _ {D : Type 0} (d : Ghosts D) (tells_left : (x : D) (moment file : ℕ) (
     (i : IndexId) (place : ℕ) (g : Group) (l : place < length groups) (g_is : get_or groups place g ≡ g) (e : Entry) (is : e.act ≡ Dropped g.table.id (Some i)) (may : MayCome b trail.entries e)
     (x : Index) (stands : index_of b trail.entries i.0 ≡ Some x) (of_table : x.table.0 ≡ g.table.id.0) (none : g.batches.items ≡ [])
     (disk' : D) (at : e.calls ≡ d.calls disk') (passes : Passes d disk disk' 4) (touches : HasCatalogue d catalog disk → TouchesOnly d disk disk' catalogue_files)
-    (leaves : HasCatalogue d catalog disk → LeavesOnly d disk disk' (λ moment image. CatalogueStands image (standing_of catalog) ⊎ CatalogueStands image (after (standing_of catalog) (IndexGone i)))) where
+    (leaves : HasCatalogue d catalog disk → LeavesOnly d disk disk' (λ moment image. CatalogueStands image (standing_of catalog) ⊎ CatalogueStands image (stands_after (standing_of catalog) (IndexGone i)))) where
   abbrev es : List Entry
   es = trail.entries
 
@@ -77,11 +77,11 @@ module _ {D : Type 0} (d : Ghosts D) (tells_left : (x : D) (moment file : ℕ) (
   tallied : HasTallied b es g
   tallied = all_at (HasTallied b es) groups place g l g_is (k.each.tallied running)
 
-  regions : (n : ℕ) → IsAmong n (regions_in (IndexGone i)) → IsAmong n (region_numbers (standing_of catalog)) ⊎ ((standing_of catalog).next ≤ n)
+  regions : (n : ℕ) → IsNumberAmong n (regions_in (IndexGone i)) → IsNumberAmong n (region_numbers (standing_of catalog)) ⊎ ((standing_of catalog).next ≤ n)
   regions n among = absurd cc
 
   explains : sound → (f : FolderData) (v : ℕ → GroupData) → f.standing ≡ standing_of catalog → AreUnmade f → AllByRecursion (HasShown b es f.standing.indexes v) groups → AllByRecursion (IsOnDisk d disk f) groups → Explains b es f v
-      → Explains b es' (with_standing (after f.standing (IndexGone i)) f) (with_part v t.0 (dropped_data i.0 (v t.0)))
+      → Explains b es' (with_standing (stands_after f.standing (IndexGone i)) f) (with_part v t.0 (dropped_data i.0 (v t.0)))
   explains given f v fs unmade shown on told = (let
       here : HasShown b es f.standing.indexes v g = all_at (HasShown b es f.standing.indexes v) groups place g l g_is shown
       in let
@@ -98,22 +98,22 @@ module _ {D : Type 0} (d : Ghosts D) (tells_left : (x : D) (moment file : ℕ) (
   gone_failed shut call shut-is shut_at failed catalog' trail' entries room =
       define_failed d tells_left up_to_now b sound premise began disk catalog standing groups trail late closed k running disk' (IndexGone i) passes touches leaves regions t e own may at (λ v. with_part v t.0 (dropped_data i.0 (v t.0))) explains shut call shut-is shut_at failed catalog' trail' entries room
 
-  agrees : Agrees (after standing (IndexGone i)) (catalogue_of b es')
-  agrees = subst (λ (w : Catalogue). Agrees (after standing (IndexGone i)) w) (sym (catalogue-snoc b es e ∙ ap (catalogue_step c) is)) (agrees_gone standing c k.told.agrees t i)
+  agrees : Agrees (stands_after standing (IndexGone i)) (catalogue_of b es')
+  agrees = subst (λ (w : Catalogue). Agrees (stands_after standing (IndexGone i)) w) (sym (catalogue-snoc b es e ∙ ap (catalogue_step c) is)) (agrees_gone standing c k.told.agrees t i)
 
   module _ (g' : Group) (less : HasIndexLess g g' i.0) where
     tallied' : HasTallied b es' g'
     tallied' = has_tallied_gone b es e may t i is g g' refl less tallied
 
-    own_disk : IsTrue d.tells → (f : FolderData) → f.standing ≡ standing_of catalog → AreFresh d disk' f.standing.next → AreUnmade f → IsOnDisk d disk' f g → IsOnDisk d disk' (with_standing (after f.standing (IndexGone i)) f) g'
+    own_disk : IsTrue d.tells → (f : FolderData) → f.standing ≡ standing_of catalog → AreFresh d disk' f.standing.next → AreUnmade f → IsOnDisk d disk' f g → IsOnDisk d disk' (with_standing (stands_after f.standing (IndexGone i)) f) g'
     own_disk tells f fs fresh unmade on = record {
-      rows = subst (λ (w : Region). Holds d w disk' (f.regions w.number)) (sym less.beside.rows) on.rows;
+      rows = subst (λ (w : Region). RegionHolds d w disk' (f.regions w.number)) (sym less.beside.rows) on.rows;
       indexes = λ j z there.
           (let from = from_filter (λ (w : IndexRegion). not (w.index.id.0 == i.0)) g.indexes.items j z (sym (ap (λ (zs : List IndexRegion). slice_get zs j) less.indexes) ∙ there) in on.indexes from.0 z from.1.0);
     }
 
-    pub gone_kept : (catalog' : Catalog) → (HasCatalogue d catalog disk → HasCatalogue d catalog' disk') → standing_of catalog' ≡ after (standing_of catalog) (IndexGone i) → (trail' : Recorded) → trail'.entries ≡ es ++ e ∷ [] → trail'.room + 1 ≡ trail.room → 2 + sum_by owed groups ≤ trail.room
-        → IsKept d b sound premise began disk' catalog' (after standing (IndexGone i)) (slice_set groups place g') trail' late closed
+    pub gone_kept : (catalog' : Catalog) → (HasCatalogue d catalog disk → HasCatalogue d catalog' disk') → standing_of catalog' ≡ stands_after (standing_of catalog) (IndexGone i) → (trail' : Recorded) → trail'.entries ≡ es ++ e ∷ [] → trail'.room + 1 ≡ trail.room → 2 + sum_by owed groups ≤ trail.room
+        → IsKept d b sound premise began disk' catalog' (stands_after standing (IndexGone i)) (slice_set groups place g') trail' late closed
     gone_kept catalog' stored defined trail' entries room enough =
         index_kept d tells_left up_to_now b sound premise began disk catalog standing groups trail late closed k running disk' (IndexGone i) passes touches leaves regions t e own may at (dropped_data i.0) explains catalog' stored defined agrees refl
         place g g' l g_is refl less.beside.table (same_owed g g' less.beside)

@@ -23,7 +23,7 @@ use Rattle.px_trail.specs.declared.entry.Entry.{Entry}
 use Rattle.px_trail.specs.Lasting.{lasting}
 use Rattle.px_trail.specs.Recorded.{Recorded}
 use Rattle.px_trail.specs.Trail.{Base, catalogue_of}
-use Rattle.px_region.specs.Region.{Holds, read_of, with_batch}
+use Rattle.px_region.specs.Region.{RegionHolds, read_of, with_batch}
 use Rattle.px_region.specs.declared.region.Region.{Region}
 use Rattle.px_region.proofs.Holding.{store_is_all}
 use Rattle.px_forms.specs.Indexes.{IndexForm}
@@ -173,7 +173,7 @@ module _ {D : Type 0} (d : Ghosts D) (tells_left : (x : D) (moment file : ℕ) (
     rows_drawn : (s : Standing) → TellsCatalogue s (catalogue_of b es) → AreNumbered s → (1 ≤ g.rows.number) × (g.rows.number < s.next)
     rows_drawn s tells numbered = rows_number s numbered t g.rows.number g.table (found s tells) (rows_one g right_here)
 
-    rows_holds : (f : FolderData) → IsOnDisk d disk f g → Holds d g.rows disk (f.regions g.rows.number)
+    rows_holds : (f : FolderData) → IsOnDisk d disk f g → RegionHolds d g.rows disk (f.regions g.rows.number)
     rows_holds f on = on.rows
 
     rows_stand : IsRegion (catalogue_of b es) g.rows.number
@@ -186,7 +186,7 @@ module _ {D : Type 0} (d : Ghosts D) (tells_left : (x : D) (moment file : ℕ) (
     rows_on_disk written f tells numbered on = (let
         s = with_batch (f.regions g.rows.number) cells
         in record {
-          rows = subst (λ (r : Region). Holds d r disk' ((rows_changed f).regions r.number)) (sym to.rows) (region_here d disk' f g.rows.number s new writes.number (written.holds (f.regions g.rows.number) on.rows));
+          rows = subst (λ (r : Region). RegionHolds d r disk' ((rows_changed f).regions r.number)) (sym to.rows) (region_here d disk' f g.rows.number s new writes.number (written.holds (f.regions g.rows.number) on.rows));
           indexes = λ i x at. (let
               there : slice_get g.indexes.items i ≡ Some x = ap (λ (xs : List IndexRegion). slice_get xs i) (sym to.indexes) ∙ at
               in region_framed d disk disk' g.rows.number (writes.touches (f.regions g.rows.number) on.rows) f s x.region (rows_lack b es f.standing tells numbered g right_here standing_here i x there) (on.indexes i x there));
@@ -281,7 +281,7 @@ module _ {D : Type 0} (d : Ghosts D) (tells_left : (x : D) (moment file : ℕ) (
         p = placed s tells
         in subst (λ (m : ℕ). (1 ≤ m) × (m < s.next)) (region-is s tells) (index_number s numbered g.table.id.0 p.place (stored s tells).index p.inside p.is))
 
-    index_holds : (f : FolderData) → IsOnDisk d disk f g → Holds d x.region disk (f.regions n)
+    index_holds : (f : FolderData) → IsOnDisk d disk f g → RegionHolds d x.region disk (f.regions n)
     index_holds f on = on.indexes i x to.index
 
     index_stands : IsRegion (catalogue_of b es) n
@@ -296,9 +296,9 @@ module _ {D : Type 0} (d : Ghosts D) (tells_left : (x : D) (moment file : ℕ) (
         in let
         touches = writes.touches (f.regions n) (index_holds f on)
         in record {
-          rows = subst (λ (r : Region). Holds d r disk' ((index_changed f).regions r.number)) (sym to.rows) (region_framed d disk disk' n touches f s g.rows (λ same. rows_lack b es f.standing tells numbered g right_here standing_here i x to.index (sym same)) on.rows);
+          rows = subst (λ (r : Region). RegionHolds d r disk' ((index_changed f).regions r.number)) (sym to.rows) (region_framed d disk disk' n touches f s g.rows (λ same. rows_lack b es f.standing tells numbered g right_here standing_here i x to.index (sym same)) on.rows);
           indexes = λ j z at. elim (set_cases g.indexes.items i j (record x { region = new }) z (ap (λ (xs : List IndexRegion). slice_get xs j) (sym to.indexes) ∙ at)) [
-            | inl q ↦ subst (λ (w : IndexRegion). Holds d w.region disk' ((index_changed f).regions w.region.number)) (sym q.1) (region_here d disk' f n s new writes.number (written.holds (f.regions n) (index_holds f on)))
+            | inl q ↦ subst (λ (w : IndexRegion). RegionHolds d w.region disk' ((index_changed f).regions w.region.number)) (sym q.1) (region_here d disk' f n s new writes.number (written.holds (f.regions n) (index_holds f on)))
             | inr q ↦ region_framed d disk disk' n touches f s z.region (index_lack b es f.standing tells numbered g right_here standing_here once_here i x to.index j z q.1 q.0) (on.indexes j z q.1)
           ];
         })

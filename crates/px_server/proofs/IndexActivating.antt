@@ -22,7 +22,7 @@ use Rattle.px_calls.specs.Causes.{LacksIndex}
 use Rattle.px_calls.specs.Known.{Known}
 use Rattle.px_calls.specs.Requires.{CanActivate, MayActivate, is_based}
 use Rattle.px_calls.specs.declared.definition.Definition.TheVariants as definition
-use Rattle.px_schema.specs.Stands.{after}
+use Rattle.px_schema.specs.Stands.{stands_after}
 use Rattle.px_schema.specs.declared.item.CatalogItem.TheVariants.{IndexIs}
 use Rattle.px_schema.specs.declared.standing.Standing.{Standing}
 use Rattle.px_catalog.specs.Catalogue.{CatalogueStands, HasCatalogue, catalogue_files, standing_of}
@@ -99,7 +99,7 @@ module _ {D : Type 0} (d : Ghosts D) (tells_left : (x : D) (moment file : ℕ) (
 
     module _ (p : IndexToPut) (made : IsIndexToActivate standing x.index p)
         (disk' : D) (passes : Passes d disk disk' 4) (touches : HasCatalogue d catalog disk → TouchesOnly d disk disk' catalogue_files)
-        (leaves : HasCatalogue d catalog disk → LeavesOnly d disk disk' (λ moment image. CatalogueStands image (standing_of catalog) ⊎ CatalogueStands image (after (standing_of catalog) (IndexIs p.item)))) (calls : ℕ) (at : calls ≡ d.calls disk') where
+        (leaves : HasCatalogue d catalog disk → LeavesOnly d disk disk' (λ moment image. CatalogueStands image (standing_of catalog) ⊎ CatalogueStands image (stands_after (standing_of catalog) (IndexIs p.item)))) (calls : ℕ) (at : calls ≡ d.calls disk') where
       abbrev y : Index
       y = record x.index { state = Active }
 
@@ -113,19 +113,19 @@ module _ {D : Type 0} (d : Ghosts D) (tells_left : (x : D) (moment file : ℕ) (
       may_come = subst (λ (n : ℕ). MayCome b es (record { seat = seat; calls = n; act = IndexState t i Active x.index.birth })) (sym at)
           (may_ready d b sound premise began disk catalog standing groups trail late closed k running disk' passes.later seat t i x.index index_is owner)
 
-      leaves_y : HasCatalogue d catalog disk → LeavesOnly d disk disk' (λ moment image. CatalogueStands image (standing_of catalog) ⊎ CatalogueStands image (after (standing_of catalog) (IndexIs y)))
-      leaves_y = subst (λ (z : Index). HasCatalogue d catalog disk → LeavesOnly d disk disk' (λ moment image. CatalogueStands image (standing_of catalog) ⊎ CatalogueStands image (after (standing_of catalog) (IndexIs z)))) made.item_is leaves
+      leaves_y : HasCatalogue d catalog disk → LeavesOnly d disk disk' (λ moment image. CatalogueStands image (standing_of catalog) ⊎ CatalogueStands image (stands_after (standing_of catalog) (IndexIs y)))
+      leaves_y = subst (λ (z : Index). HasCatalogue d catalog disk → LeavesOnly d disk disk' (λ moment image. CatalogueStands image (standing_of catalog) ⊎ CatalogueStands image (stands_after (standing_of catalog) (IndexIs z)))) made.item_is leaves
 
       pub activate_failed : (shut : Entry) (call : ℕ) → IsShutAt shut call → call ≡ d.calls disk' → HasFailed d disk' → (catalog' : Catalog) (trail' : Recorded) → trail'.entries ≡ es ++ shut ∷ [] → HasTrailRoom (Some call) groups trail'
           → IsKept d b sound premise began disk' catalog' standing groups trail' (Some e) (Some call)
       activate_failed = ready_failed d tells_left up_to_now b sound premise began disk catalog standing groups trail late closed k running i x.index.birth place g l g_is e act_is may_come m x x_is id low decided all disk' at passes touches leaves_y
 
-      module _ (g' : Group) (active : HasActive g g' m) (catalog' : Catalog) (stored : HasCatalogue d catalog disk → HasCatalogue d catalog' disk') (defined : standing_of catalog' ≡ after (standing_of catalog) (IndexIs p.item))
+      module _ (g' : Group) (active : HasActive g g' m) (catalog' : Catalog) (stored : HasCatalogue d catalog disk → HasCatalogue d catalog' disk') (defined : standing_of catalog' ≡ stands_after (standing_of catalog) (IndexIs p.item))
           (trail' : Recorded) (entries : trail'.entries ≡ es ++ e ∷ []) (room : trail'.room + 1 ≡ trail.room) (enough : 2 + sum_by owed groups ≤ trail.room) where
         pub activate_kept : IsKept d b sound premise began disk' catalog' p.standing (slice_set groups place g') trail' late closed
-        activate_kept = subst (λ (st : Standing). IsKept d b sound premise began disk' catalog' st (slice_set groups place g') trail' late closed) (sym (made.standing ∙ ap (λ (z : Index). after standing (IndexIs z)) made.item_is))
+        activate_kept = subst (λ (st : Standing). IsKept d b sound premise began disk' catalog' st (slice_set groups place g') trail' late closed) (sym (made.standing ∙ ap (λ (z : Index). stands_after standing (IndexIs z)) made.item_is))
             (ready_kept d tells_left up_to_now b sound premise began disk catalog standing groups trail late closed k running i x.index.birth place g l g_is e act_is may_come m x x_is id low decided all disk' at passes touches leaves_y
-            g' active catalog' stored (defined ∙ ap (λ (z : Index). after (standing_of catalog) (IndexIs z)) made.item_is) trail' entries room enough)
+            g' active catalog' stored (defined ∙ ap (λ (z : Index). stands_after (standing_of catalog) (IndexIs z)) made.item_is) trail' entries room enough)
 
         pub activate_did : (n : ℕ) → n ≡ length trail'.entries → DidDefine before (record { seat = seat; base = b; damaged = damaged; alone = true; seen = trail'.entries }) (definition.Active t i) (record { number = i.0; stamp = x.index.birth; at = n })
         activate_did n long = did_activate before k.told.legal t i x.index.birth calls trail'.entries entries activate_kept.told.legal n long

@@ -29,7 +29,7 @@ use Rattle.px_disabled.specs.Disabled.{rebuilt}
 use Rattle.px_disabled.proofs.More.{tallied_rebuilt}
 use Rattle.px_disabled.proofs.MoreShown.{bears_anew, shown_anew}
 use Rattle.px_reading.specs.Doubts.{IsToldBy}
-use Rattle.px_recovery.specs.Tables.{form_in}
+use Rattle.px_recovery.specs.Tables.{form_of_index}
 use Rattle.px_server.specs.Kept.{HasShown, HasTallied, forms_in}
 use Rattle.px_server.proofs.Built.{are_born, are_less, built_as, built_table}
 use Rattle.px_server.proofs.Catalogued.{AreForms}
@@ -107,15 +107,15 @@ module _ (b : Base) (es : List Entry) (e : Entry) (may : MayCome b es e) (t : Ta
     has_shown_anew xs xs' forms forms' v k =
         let index = forms_in xs g.table in
         let index' = forms_in xs' g.table in
-        let form : index n ≡ index_form g.table x = forms g.table n ∙ ap (form_in g.table) stood in
+        let form : index n ≡ index_form g.table x = forms g.table n ∙ ap (form_of_index g.table) stood in
         let tallied = tallied_rebuilt b es e may g h g' x k.held k.tallied stood less s more act_is in
         let number : g.table.id.0 ≡ t.0 = ap (λ (u : TableId). u.0) own in
         let number' : g'.table.id.0 ≡ t.0 = ap (λ (u : Table). u.id.0) beside.table ∙ number in
         let w = v g.table.id.0 in
-        let same : HasSameForms g' index index' = λ j z at. forms' g.table z.index.id.0 ∙ (ap (form_in g.table) (tallied.standing.index j z at) ∙ elim (end_cases h.indexes.items more.new j z (sym (ap (λ (l : List IndexRegion). slice_get l j) more.indexes) ∙ at)) [
+        let same : HasSameForms g' index index' = λ j z at. forms' g.table z.index.id.0 ∙ (ap (form_of_index g.table) (tallied.standing.index j z at) ∙ elim (end_cases h.indexes.items more.new j z (sym (ap (λ (l : List IndexRegion). slice_get l j) more.indexes) ∙ at)) [
           | inl old ↦
               (let from = from_filter hold g.indexes.items j z (sym (ap (λ (l : List IndexRegion). slice_get l j) less.indexes) ∙ old) in
-              ap (form_in g.table) (sym (k.tallied.standing.index from.0 z from.1.0)) ∙ sym (forms g.table z.index.id.0))
+              ap (form_of_index g.table) (sym (k.tallied.standing.index from.0 z from.1.0)) ∙ sym (forms g.table z.index.id.0))
           | inr new ↦
               (let q : z.index ≡ made = ap (λ (y : IndexRegion). y.index) new.1 ∙ more.index in
               subst (λ (y : Index). index_form g.table y ≡ index y.id.0) (sym q) (same_form g.table s (catalogue_of b es).next x ∙ sym form))

@@ -29,7 +29,7 @@ use Rattle.px_defined.proofs.Lists.{end_cases, end_here, end_other, get_end, wit
 use Rattle.px_defined.proofs.ShownMore.{bears, shown_more}
 use Rattle.px_defined.proofs.TalliedMore.{tallied_more}
 use Rattle.px_reading.specs.Doubts.{IsToldBy}
-use Rattle.px_recovery.specs.Tables.{form_in}
+use Rattle.px_recovery.specs.Tables.{form_of_index}
 use Rattle.px_server.specs.Kept.{HasShown, HasTallied, forms_in}
 use Rattle.px_server.proofs.Built.{are_born, built_as, built_table}
 use Rattle.px_server.proofs.Catalogued.{AreForms}
@@ -82,10 +82,10 @@ module _ (b : Base) (right : IsRightBase b) (es : List Entry) (legal : IsLegal b
         let index = forms_in xs' g.table in
         let tallied = tallied_born k.held k.tallied in
         let old : (j : ℕ) (x : IndexRegion) → slice_get g.indexes.items j ≡ Some x → slice_get g'.indexes.items j ≡ Some x = λ j x at. ap (λ (l : List IndexRegion). slice_get l j) more.indexes ∙ end_other g.indexes.items more.new j x at in
-        let same : HasSameForms g (forms_in xs g.table) index = λ j x at. forms' g.table x.index.id.0 ∙ (ap (form_in g.table) (tallied.standing.index j x (old j x at) ∙ sym (k.tallied.standing.index j x at)) ∙ sym (forms g.table x.index.id.0)) in
+        let same : HasSameForms g (forms_in xs g.table) index = λ j x at. forms' g.table x.index.id.0 ∙ (ap (form_of_index g.table) (tallied.standing.index j x (old j x at) ∙ sym (k.tallied.standing.index j x at)) ∙ sym (forms g.table x.index.id.0)) in
         let last : slice_get g'.indexes.items (length g.indexes.items) ≡ Some more.new = ap (λ (l : List IndexRegion). slice_get l (length g.indexes.items)) more.indexes ∙ end_here g.indexes.items more.new in
         let stands : index_of b es' i.0 ≡ Some y = subst (λ (x : Index). index_of b es' x.id.0 ≡ Some x) more.index (tallied.standing.index (length g.indexes.items) more.new last) in
-        let form : index i.0 ≡ index_form g.table y = forms' g.table i.0 ∙ ap (form_in g.table) stands in
+        let form : index i.0 ≡ index_form g.table y = forms' g.table i.0 ∙ ap (form_of_index g.table) stands in
         let number : g.table.id.0 ≡ t.0 = ap (λ (u : TableId). u.0) own in
         let number' : g'.table.id.0 ≡ t.0 = ap (λ (u : Table). u.id.0) more.beside.table ∙ number in
         let w = v g.table.id.0 in

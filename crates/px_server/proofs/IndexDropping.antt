@@ -18,7 +18,7 @@ use Rattle.px_calls.specs.Causes.{IsInUse, LacksIndex, uses_of}
 use Rattle.px_calls.specs.Known.{Known}
 use Rattle.px_calls.specs.declared.definition.Definition.TheVariants as definition
 use Rattle.px_standing.proofs.Looked.{stands_at}
-use Rattle.px_schema.specs.Stands.{after}
+use Rattle.px_schema.specs.Stands.{stands_after}
 use Rattle.px_schema.specs.declared.item.CatalogItem.TheVariants.{IndexGone}
 use Rattle.px_schema.specs.declared.standing.Standing.{Standing}
 use Rattle.px_catalog.specs.Catalogue.{CatalogueStands, HasCatalogue, catalogue_files, standing_of}
@@ -56,7 +56,7 @@ module _ {D : Type 0} (d : Ghosts D) (tells_left : (x : D) (moment file : ℕ) (
   in_use count is some = ((let n = uses_are b es g tallied.held tallied.tallied k.told.legal in subst (λ (u : TableId). uses_of u.0 es ≡ length g.points.items + length g.batches.items) mine n ∙ sym is), some)
 
   module _ (has : HasIndexOf standing.indexes t i) (unused : length g.points.items + length g.batches.items ≡ 0) (disk' : D) (passes : Passes d disk disk' 4) (touches : HasCatalogue d catalog disk → TouchesOnly d disk disk' catalogue_files)
-      (leaves : HasCatalogue d catalog disk → LeavesOnly d disk disk' (λ moment image. CatalogueStands image (standing_of catalog) ⊎ CatalogueStands image (after (standing_of catalog) (IndexGone i)))) (calls : ℕ) (at : calls ≡ d.calls disk') where
+      (leaves : HasCatalogue d catalog disk → LeavesOnly d disk disk' (λ moment image. CatalogueStands image (standing_of catalog) ⊎ CatalogueStands image (stands_after (standing_of catalog) (IndexGone i)))) (calls : ℕ) (at : calls ≡ d.calls disk') where
     abbrev e : Entry
     e = record { seat = seat; calls = calls; act = Dropped t (Some i) }
 
@@ -83,8 +83,8 @@ module _ {D : Type 0} (d : Ghosts D) (tells_left : (x : D) (moment file : ℕ) (
         → IsKept d b sound premise began disk' catalog' standing groups trail' (Some e) (Some call)
     drop_failed = gone_failed d tells_left up_to_now b sound premise began disk catalog standing groups trail late closed k running i place g l g_is e act_is may_come found.0 found.1.0 own none disk' at passes touches leaves
 
-    module _ (g' : Group) (less : HasIndexLess g g' i.0) (catalog' : Catalog) (stored : HasCatalogue d catalog disk → HasCatalogue d catalog' disk') (defined : standing_of catalog' ≡ after (standing_of catalog) (IndexGone i))
-        (standing' : Standing) (standing_is : standing' ≡ after standing (IndexGone i)) (trail' : Recorded) (entries : trail'.entries ≡ es ++ e ∷ []) (room : trail'.room + 1 ≡ trail.room) (enough : 2 + sum_by owed groups ≤ trail.room) where
+    module _ (g' : Group) (less : HasIndexLess g g' i.0) (catalog' : Catalog) (stored : HasCatalogue d catalog disk → HasCatalogue d catalog' disk') (defined : standing_of catalog' ≡ stands_after (standing_of catalog) (IndexGone i))
+        (standing' : Standing) (standing_is : standing' ≡ stands_after standing (IndexGone i)) (trail' : Recorded) (entries : trail'.entries ≡ es ++ e ∷ []) (room : trail'.room + 1 ≡ trail.room) (enough : 2 + sum_by owed groups ≤ trail.room) where
       pub drop_kept : IsKept d b sound premise began disk' catalog' standing' (slice_set groups place g') trail' late closed
       drop_kept = subst (λ (st : Standing). IsKept d b sound premise began disk' catalog' st (slice_set groups place g') trail' late closed) (sym standing_is)
           (gone_kept d tells_left up_to_now b sound premise began disk catalog standing groups trail late closed k running i place g l g_is e act_is may_come found.0 found.1.0 own none disk' at passes touches leaves

@@ -16,7 +16,7 @@ use Rattle.px_calls.specs.Requires.{IsNewIndex}
 use Rattle.px_defined.proofs.News.{new_index_right}
 use Rattle.px_indexrow.specs.Form.{IsRightIndex}
 use Rattle.px_pieces.specs.Numbers.{one_of_right}
-use Rattle.px_schema.specs.Records.{IsRight}
+use Rattle.px_schema.specs.Records.{IsRightCatalogItem}
 use Rattle.px_schema.specs.declared.item.CatalogItem.TheVariants.{IndexGone, IndexIs}
 use Rattle.px_schema.specs.declared.standing.Standing.{Standing}
 use Rattle.px_catalog.specs.Catalogue.{standing_of}
@@ -45,7 +45,7 @@ among_numbers (x ∷ xs) t i (inr later) = ap (λ v. (x.id.0 == i.0) || v) (amon
 
 module _ {D : Type 0} (d : Ghosts D) (b : Base) (sound premise : Type 0) (began : Beginning) (disk : D) (catalog : Catalog) (standing : Standing) (groups : List Group) (trail : Recorded) (late : Option Entry) (closed : Option ℕ) (k : IsKept d b sound premise began disk catalog standing groups trail late closed) (running : closed ≡ None) where
   -- the definition of an index
-  pub fits_index : (place : ℕ) (g : Group) → place < length groups → get_or groups place g ≡ g → (i : Index) → IsRightIndex g.table i → i.table ≡ g.table.id → i.table.0 < 256 ^ 4 → CanRecord standing i → IsRight (standing_of catalog) (IndexIs i)
+  pub fits_index : (place : ℕ) (g : Group) → place < length groups → get_or groups place g ≡ g → (i : Index) → IsRightIndex g.table i → i.table ≡ g.table.id → i.table.0 < 256 ^ 4 → CanRecord standing i → IsRightCatalogItem (standing_of catalog) (IndexIs i)
   fits_index place g l g_is i right own short can = (let
       tallied = all_at (HasTallied b trail.entries) groups place g l g_is (k.each.tallied running)
       in let
@@ -63,13 +63,13 @@ module _ {D : Type 0} (d : Ghosts D) (b : Base) (sound premise : Type 0) (began 
       ))
 
   -- the end of one
-  pub fits_end : (t : TableId) (i : IndexId) → HasIndexOf standing.indexes t i → i.0 < 256 ^ 4 → IsRight (standing_of catalog) (IndexGone i)
+  pub fits_end : (t : TableId) (i : IndexId) → HasIndexOf standing.indexes t i → i.0 < 256 ^ 4 → IsRightCatalogItem (standing_of catalog) (IndexGone i)
   fits_end t i has short =
       one_of_right 4 (map (λ (x : Index). x.id.0) (standing_of catalog).indexes) i.0 short (subst (λ (ns : List ℕ). list_any (λ m. m == i.0) ns ≡ true) (sym (same_numbers (standing_of catalog) standing (k.told.same running))) (among_numbers standing.indexes t i has))
 
   -- the definition of a new one
-  pub fits_made : (place : ℕ) (g : Group) → place < length groups → get_or groups place g ≡ g → (what : NewIndex) → g.table.id ≡ what.table → IsNewIndex g.table what → what.table.0 < 256 ^ 4 → (s : ℕ) (p : IndexToMake) → IsIndexToMake standing s what p → IsRight (standing_of catalog) (IndexIs p.item)
+  pub fits_made : (place : ℕ) (g : Group) → place < length groups → get_or groups place g ≡ g → (what : NewIndex) → g.table.id ≡ what.table → IsNewIndex g.table what → what.table.0 < 256 ^ 4 → (s : ℕ) (p : IndexToMake) → IsIndexToMake standing s what p → IsRightCatalogItem (standing_of catalog) (IndexIs p.item)
   fits_made place g l g_is what mine fits short s p made =
-      subst (λ (i : Index). IsRight (standing_of catalog) (IndexIs i)) (sym (made.item_is ∙ made.index))
+      subst (λ (i : Index). IsRightCatalogItem (standing_of catalog) (IndexIs i)) (sym (made.item_is ∙ made.index))
       (fits_index place g l g_is (made_index standing.next (record { 0 = standing.next + 1 }) s what) (new_index_right g.table standing.next (record { 0 = standing.next + 1 }) s what fits) (sym mine) short
       (subst (λ (i : Index). CanRecord standing i) made.index made.can))

@@ -30,7 +30,7 @@ use Rattle.px_defined.proofs.Lists.{from_filter, paired_at, paired_filter, to_pa
 use Rattle.px_defined.proofs.ShownLess.{shown_less}
 use Rattle.px_defined.proofs.TalliedLess.{tallied_less}
 use Rattle.px_reading.specs.Doubts.{IsToldBy}
-use Rattle.px_recovery.specs.Tables.{form_in}
+use Rattle.px_recovery.specs.Tables.{form_of_index}
 use Rattle.px_server.specs.Kept.{HasShown, HasTallied, forms_in}
 use Rattle.px_server.proofs.Built.{IsUnbased, are_less, built_as, built_elsewhere, built_table}
 use Rattle.px_server.proofs.Catalogued.{AreForms}
@@ -93,7 +93,7 @@ module _ (b : Base) (es : List Entry) (e : Entry) (may : MayCome b es e) (t : Ta
         let w = v g.table.id.0 in
         let same : HasSameForms g' index index' = λ j x at.
         (let from = from_filter hold g.indexes.items j x (sym (ap (λ (l : List IndexRegion). slice_get l j) less.indexes) ∙ at) in
-        forms' g.table x.index.id.0 ∙ (ap (form_in g.table) (tallied.standing.index j x at ∙ sym (k.tallied.standing.index from.0 x from.1.0)) ∙ sym (forms g.table x.index.id.0))) in
+        forms' g.table x.index.id.0 ∙ (ap (form_of_index g.table) (tallied.standing.index j x at ∙ sym (k.tallied.standing.index from.0 x from.1.0)) ∙ sym (forms g.table x.index.id.0))) in
         shown_at b es' xs' (with_part v t.0 (dropped_data i.0 (v t.0))) g' g.table (dropped_data i.0 w) [] less.beside.table
         (ap (with_part v t.0 (dropped_data i.0 (v t.0))) number' ∙ (with_part-here v t.0 (dropped_data i.0 (v t.0)) ∙ ap (λ (n : ℕ). dropped_data i.0 (v n)) (sym number)))
         (subst (λ (l : List HeldBatch). IsTallied b es' g' l) (none_open b es g k.held k.tallied none) tallied)

@@ -19,7 +19,7 @@ use Rattle.px_trail.specs.Trail.{Base, last_of, made_index, table_of}
 use Rattle.px_calls.specs.Calls.{DidDefine}
 use Rattle.px_calls.specs.Requires.{IsIndexFit, IsNewIndex}
 use Rattle.px_calls.specs.declared.definition.Definition.TheVariants as definition
-use Rattle.px_schema.specs.Stands.{after}
+use Rattle.px_schema.specs.Stands.{stands_after}
 use Rattle.px_schema.specs.declared.item.CatalogItem.TheVariants.{IndexIs}
 use Rattle.px_schema.specs.declared.standing.Standing.{Standing}
 use Rattle.px_catalog.specs.Catalogue.{CatalogueStands, HasCatalogue, catalogue_files, standing_of}
@@ -43,7 +43,7 @@ module _ {D : Type 0} (d : Ghosts D) (tells_left : (x : D) (moment file : ℕ) (
     (may : MayMakeIndex (record { seat = seat; base = b; damaged = damaged; alone = true; seen = trail.entries }) what) (fit : IsIndexFit (record { seat = seat; base = b; damaged = damaged; alone = true; seen = trail.entries }) what)
     (s : ℕ) (above : g.last < s) (most : s ≤ most_of Stamps) (p : IndexToMake) (made : IsIndexToMake standing s what p)
     (disk' : D) (passes : Passes d disk disk' 4) (touches : HasCatalogue d catalog disk → TouchesOnly d disk disk' catalogue_files)
-    (leaves : HasCatalogue d catalog disk → LeavesOnly d disk disk' (λ moment image. CatalogueStands image (standing_of catalog) ⊎ CatalogueStands image (after (standing_of catalog) (IndexIs p.item))))
+    (leaves : HasCatalogue d catalog disk → LeavesOnly d disk disk' (λ moment image. CatalogueStands image (standing_of catalog) ⊎ CatalogueStands image (stands_after (standing_of catalog) (IndexIs p.item))))
     (calls : ℕ) (at : calls ≡ d.calls disk') where
   abbrev es : List Entry
   es = trail.entries
@@ -80,19 +80,19 @@ module _ {D : Type 0} (d : Ghosts D) (tells_left : (x : D) (moment file : ℕ) (
       (subst (λ (act : Act). MayCome b es (record { seat = seat; calls = d.calls disk'; act = act })) (sym act_is)
       (may_make d b sound premise began disk catalog standing groups trail late closed k running disk' passes.later seat what.table i s what refl may.free may.stands refl (let n = last_is in omega (arith, n, above))))
 
-  leaves_y : HasCatalogue d catalog disk → LeavesOnly d disk disk' (λ moment image. CatalogueStands image (standing_of catalog) ⊎ CatalogueStands image (after (standing_of catalog) (IndexIs y)))
-  leaves_y = subst (λ (x : Index). HasCatalogue d catalog disk → LeavesOnly d disk disk' (λ moment image. CatalogueStands image (standing_of catalog) ⊎ CatalogueStands image (after (standing_of catalog) (IndexIs x)))) item_is leaves
+  leaves_y : HasCatalogue d catalog disk → LeavesOnly d disk disk' (λ moment image. CatalogueStands image (standing_of catalog) ⊎ CatalogueStands image (stands_after (standing_of catalog) (IndexIs y)))
+  leaves_y = subst (λ (x : Index). HasCatalogue d catalog disk → LeavesOnly d disk disk' (λ moment image. CatalogueStands image (standing_of catalog) ⊎ CatalogueStands image (stands_after (standing_of catalog) (IndexIs x)))) item_is leaves
 
   pub make_failed : (shut : Entry) (call : ℕ) → IsShutAt shut call → call ≡ d.calls disk' → HasFailed d disk' → (catalog' : Catalog) (trail' : Recorded) → trail'.entries ≡ es ++ shut ∷ [] → HasTrailRoom (Some call) groups trail'
       → IsKept d b sound premise began disk' catalog' standing groups trail' (Some e) (Some call)
   make_failed = born_failed d tells_left up_to_now b sound premise began disk catalog standing groups trail late closed k running what.table i s what e act_is may_come disk' at passes touches leaves_y place g l g_is mine fits
 
-  module _ (g' : Group) (more : HasIndexMore g g' p.index) (catalog' : Catalog) (stored : HasCatalogue d catalog disk → HasCatalogue d catalog' disk') (defined : standing_of catalog' ≡ after (standing_of catalog) (IndexIs p.item))
+  module _ (g' : Group) (more : HasIndexMore g g' p.index) (catalog' : Catalog) (stored : HasCatalogue d catalog disk → HasCatalogue d catalog' disk') (defined : standing_of catalog' ≡ stands_after (standing_of catalog) (IndexIs p.item))
       (trail' : Recorded) (entries : trail'.entries ≡ es ++ e ∷ []) (room : trail'.room + 1 ≡ trail.room) (enough : 2 + sum_by owed groups ≤ trail.room) where
     pub make_kept : IsKept d b sound premise began disk' catalog' p.standing (slice_set groups place g') trail' late closed
-    make_kept = subst (λ (st : Standing). IsKept d b sound premise began disk' catalog' st (slice_set groups place g') trail' late closed) (sym (made.standing ∙ ap (λ (x : Index). after standing (IndexIs x)) made.index))
+    make_kept = subst (λ (st : Standing). IsKept d b sound premise began disk' catalog' st (slice_set groups place g') trail' late closed) (sym (made.standing ∙ ap (λ (x : Index). stands_after standing (IndexIs x)) made.index))
         (born_kept d tells_left up_to_now b sound premise began disk catalog standing groups trail late closed k running what.table i s what e act_is may_come disk' at passes touches leaves_y place g l g_is mine fits
-        g' (subst (λ (x : Index). HasIndexMore g g' x) made.index more) catalog' stored (defined ∙ ap (λ (x : Index). after (standing_of catalog) (IndexIs x)) item_is) trail' entries room enough)
+        g' (subst (λ (x : Index). HasIndexMore g g' x) made.index more) catalog' stored (defined ∙ ap (λ (x : Index). stands_after (standing_of catalog) (IndexIs x)) item_is) trail' entries room enough)
 
     pub make_did : (n : ℕ) → n ≡ length trail'.entries
         → DidDefine (record { seat = seat; base = b; damaged = damaged; alone = true; seen = es }) (record { seat = seat; base = b; damaged = damaged; alone = true; seen = trail'.entries }) (definition.Index what) (record { number = p.index.id.0; stamp = s; at = n })

@@ -12,7 +12,7 @@ use Rattle.px_trail.specs.declared.entry.Act.TheVariants.{Dropped, IndexMade, In
 use Rattle.px_trail.specs.declared.entry.Entry.{Entry}
 use Rattle.px_trail.specs.Legal.{Follows, IsQuiet, MayCome, MayState}
 use Rattle.px_trail.specs.Recorded.{Recorded}
-use Rattle.px_trail.specs.Trail.{Base, IsFree, catalogue_of, index_of, last_of, table_of}
+use Rattle.px_trail.specs.Trail.{Base, IsFreeName, catalogue_of, index_of, last_of, table_of}
 use Rattle.px_schema.specs.declared.standing.Standing.{Standing}
 use Rattle.px_catalog.specs.declared.catalog.Catalog.{Catalog}
 use Rattle.px_group.specs.declared.group.Group.{Group}
@@ -35,7 +35,7 @@ module _ {D : Type 0} (d : Ghosts D) (b : Base) (sound premise : Type 0) (began 
     calls = (let n = newest_early (d.calls disk) 0 es (omega arith) k.server.early in omega (arith, n, later));
   }
 
-  pub may_make : (s : ℕ) (what : NewIndex) → i.0 ≡ standing.next + 1 → IsFree (catalogue_of b es) what.name → IsSome (table_of b es t.0) → what.table ≡ t → last_of b t.0 es < s → MayCome b es (entry (IndexMade t i s what))
+  pub may_make : (s : ℕ) (what : NewIndex) → i.0 ≡ standing.next + 1 → IsFreeName (catalogue_of b es) what.name → IsSome (table_of b es t.0) → what.table ≡ t → last_of b t.0 es < s → MayCome b es (entry (IndexMade t i s what))
   unfolding Follows
   may_make s what number free stands own above = may_follow (IndexMade t i s what) ((let n = k.told.agrees.next in omega (arith, number, n)), free, stands, own, above)
 

@@ -33,7 +33,7 @@ use Rattle.px_groupworld.proofs.Entries.{group_idle}
 use Rattle.px_indexed.specs.Idle.{IsElsewhere}
 use Rattle.px_indexed.proofs.Idle.{act_idle}
 use Rattle.px_openbatches.specs.Pending.{HeldBatch}
-use Rattle.px_region.specs.Region.{Holds}
+use Rattle.px_region.specs.Region.{RegionHolds}
 use Rattle.px_region.proofs.Holding.{store_is_all}
 use Rattle.px_tablefolder.specs.Folder.{IsFilesOf}
 use Rattle.px_tablereads.specs.Told.{AreTold}
@@ -48,7 +48,7 @@ use Rattle.px_defined.proofs.ShownActive.{active_steps, shown_active}
 use Rattle.px_defined.proofs.TalliedActive.{tallied_active}
 use Rattle.px_reading.specs.Doubts.{IsToldBy}
 use Rattle.px_recovery.specs.Folder.{FolderData}
-use Rattle.px_recovery.specs.Tables.{form_in, index_files}
+use Rattle.px_recovery.specs.Tables.{form_of_index, index_files}
 use Rattle.px_server.specs.Kept.{AreBuilt, HasShown, HasTallied, forms_in}
 use Rattle.px_built.specs.Built.{IsOfRun}
 use Rattle.px_built.proofs.Tables.{built_ready}
@@ -91,7 +91,7 @@ module _ (b : Base) (es : List Entry) (e : Entry) (may : MayCome b es e) (g : Gr
       in (group_idle (form_of b index g) es (ready_data place v) ready.kept e may (act_idle g.table.id e elsewhere)).kept)
 
   -- its files are those of an active index
-  pub files_ready : IsToldBy b index es g v → {D : Type 0} (d : Ghosts D) (disk : D) (f : FolderData) → x.index.region ≡ x.region.number → Holds d x.region disk (f.regions x.region.number)
+  pub files_ready : IsToldBy b index es g v → {D : Type 0} (d : Ghosts D) (disk : D) (f : FolderData) → x.index.region ≡ x.region.number → RegionHolds d x.region disk (f.regions x.region.number)
       → IsFilesOf (record (get_or v.indexes place no_part) { is_built = true }) (index_files f.regions (record x.index { state = Active }))
   files_ready told d disk f number holds =
       let part = shown.parts place x x_is in
@@ -162,14 +162,14 @@ module _ (b : Base) (es : List Entry) (e : Entry) (may : MayCome b es e) (t : Ta
     has_shown_ready xs xs' forms forms' once v k =
         let index = forms_in xs' g.table in
         let tallied = tallied_ready once k.held k.tallied in
-        let stays : (j : ℕ) (x : IndexRegion) → slice_get g.indexes.items j ≡ Some x → form_in g.table (index_of b es' x.index.id.0) ≡ form_in g.table (Some x.index) = λ j x at. elim (cases_eq j place) [
+        let stays : (j : ℕ) (x : IndexRegion) → slice_get g.indexes.items j ≡ Some x → form_of_index g.table (index_of b es' x.index.id.0) ≡ form_of_index g.table (Some x.index) = λ j x at. elim (cases_eq j place) [
           | inl e ↦
               (let one : x ≡ a.index = same_at g.indexes.items place x a.index (ap (λ m. slice_get g.indexes.items m) (sym e) ∙ at) a.is in
               let now : slice_get g'.indexes.items place ≡ Some (active a.index) = ap (λ (l : List IndexRegion). slice_get l place) a.indexes ∙ set_here g.indexes.items place a.index (active a.index) a.is in
-              subst (λ (z : IndexRegion). form_in g.table (index_of b es' z.index.id.0) ≡ form_in g.table (Some z.index)) (sym one) (ap (form_in g.table) (tallied.standing.index place (active a.index) now) ∙ active_form g.table a.index.index))
-          | inr e ↦ ap (form_in g.table) (tallied.standing.index j x (ap (λ (l : List IndexRegion). slice_get l j) a.indexes ∙ (set_other g.indexes.items place j (active a.index) e ∙ at)))
+              subst (λ (z : IndexRegion). form_of_index g.table (index_of b es' z.index.id.0) ≡ form_of_index g.table (Some z.index)) (sym one) (ap (form_of_index g.table) (tallied.standing.index place (active a.index) now) ∙ active_form g.table a.index.index))
+          | inr e ↦ ap (form_of_index g.table) (tallied.standing.index j x (ap (λ (l : List IndexRegion). slice_get l j) a.indexes ∙ (set_other g.indexes.items place j (active a.index) e ∙ at)))
         ] in
-        let same : HasSameForms g (forms_in xs g.table) index = λ j x at. forms' g.table x.index.id.0 ∙ (stays j x at ∙ (ap (form_in g.table) (sym (k.tallied.standing.index j x at)) ∙ sym (forms g.table x.index.id.0))) in
+        let same : HasSameForms g (forms_in xs g.table) index = λ j x at. forms' g.table x.index.id.0 ∙ (stays j x at ∙ (ap (form_of_index g.table) (sym (k.tallied.standing.index j x at)) ∙ sym (forms g.table x.index.id.0))) in
         let number : g.table.id.0 ≡ t.0 = ap (λ (u : TableId). u.0) own in
         let number' : g'.table.id.0 ≡ t.0 = ap (λ (u : Table). u.id.0) a.beside.table ∙ number in
         let w = v g.table.id.0 in

@@ -6,7 +6,7 @@ use Rattle.std.proofs.lemmas.Bool.{cases_eq, eq-eqb, ne_eqb}
 use Rattle.px_tables.specs.declared.index.Index.{Index}
 use Rattle.px_trail.proofs.Orders.{or_true}
 use Rattle.px_schema.specs.declared.standing.Standing.{Standing}
-use Rattle.px_recovery.specs.Folder.{IsAmong}
+use Rattle.px_recovery.specs.Folder.{IsNumberAmong}
 use Rattle.px_recovery.specs.Tables.{index_in}
 use Rattle.px_standing.specs.Agrees.{as_opened, opened_standing}
 
@@ -28,7 +28,7 @@ if_other : {A : Type 0} (v : Bool) (a c : A) → v ≡ false → (if v then a el
 if_other true a c h = absurd cc
 if_other false a c h = refl
 
-pub region_found : (xs : List Index) (n : ℕ) (z : Index) → index_in xs n ≡ Some z → IsAmong z.region (map (λ (x : Index). x.region) xs)
+pub region_found : (xs : List Index) (n : ℕ) (z : Index) → index_in xs n ≡ Some z → IsNumberAmong z.region (map (λ (x : Index). x.region) xs)
 unfolding index_in
 region_found [] n z found = absurd cc
 region_found (x ∷ xs) n z found = elim (cases_eq x.id.0 n) [

@@ -21,7 +21,7 @@ use Rattle.px_calls.specs.Requires.{IsIndexFit}
 use Rattle.px_calls.specs.declared.definition.Definition.TheVariants as definition
 use Rattle.px_calls.specs.declared.fault.StepFault.{StepFault}
 use Rattle.px_calls.specs.declared.fault.StepFault.TheVariants.{NotReady, WriteFault as Failed, Memory as MemoryFault}
-use Rattle.px_schema.specs.Stands.{after}
+use Rattle.px_schema.specs.Stands.{stands_after}
 use Rattle.px_schema.specs.declared.item.CatalogItem.TheVariants.{IndexGone, IndexIs}
 use Rattle.px_schema.specs.declared.standing.Standing.{Standing}
 use Rattle.px_catalog.specs.Catalogue.{CatalogueStands, HasCatalogue, catalogue_files, standing_of}
@@ -29,7 +29,7 @@ use Rattle.px_catalog.specs.declared.catalog.Catalog.{Catalog}
 use Rattle.px_catalog.specs.declared.fault.CatalogFault.{CatalogFault}
 use Rattle.px_catalog.specs.declared.fault.CatalogFault.TheVariants.{Full, Memory, WriteFault}
 use Rattle.px_group.specs.declared.group.Group.{Group}
-use Rattle.px_defined.specs.Defined.{HasIndexLess, HasIndexMore, IsSame}
+use Rattle.px_defined.specs.Defined.{HasIndexLess, HasIndexMore, IsSameTable}
 use Rattle.px_server.specs.Kept.{HasTrailRoom, IsKept, owed}
 use Rattle.px_server.specs.Others.{Beginning}
 use Rattle.px_server.specs.declared.defining.prepared.IndexToMake.{IndexToMake}
@@ -52,8 +52,8 @@ module _ {D : Type 0} (d : Ghosts D) (tells_left : (x : D) (moment file : ℕ) (
   -- ---- an index is made
 
   module _ (what : NewIndex) (mine : g.table.id ≡ what.table) (may : MayMakeIndex (known trail.entries) what) (fit : IsIndexFit (known trail.entries) what) (s : ℕ) (above : g.last < s) (most : s ≤ most_of Stamps)
-      (p : IndexToMake) (made : IsIndexToMake standing s what p) (g1 : Group) (same : IsSame g g1)
-      (leaves : HasCatalogue d catalog disk → LeavesOnly d disk disk' (λ moment image. CatalogueStands image (standing_of catalog) ⊎ CatalogueStands image (after (standing_of catalog) (IndexIs p.item)))) where
+      (p : IndexToMake) (made : IsIndexToMake standing s what p) (g1 : Group) (same : IsSameTable g g1)
+      (leaves : HasCatalogue d catalog disk → LeavesOnly d disk disk' (λ moment image. CatalogueStands image (standing_of catalog) ⊎ CatalogueStands image (stands_after (standing_of catalog) (IndexIs p.item)))) where
     abbrev groups1 : List Group
     groups1 = slice_set groups place g1
 
@@ -84,7 +84,7 @@ module _ {D : Type 0} (d : Ghosts D) (tells_left : (x : D) (moment file : ℕ) (
     enough : 2 + sum_by owed groups1 ≤ mid.room
     enough = (let before = subst (λ (x : Option ℕ). HasTrailRoom x groups1 trail) running k0.room in omega (arith, before, mid_room))
 
-    module _ (stored : HasCatalogue d catalog disk → HasCatalogue d catalog' disk') (defined : standing_of catalog' ≡ after (standing_of catalog) (IndexIs p.item)) (h : Group) (h_is : h ≡ get_or groups1 place h) (g2 : Group) (more : HasIndexMore h g2 p.index)
+    module _ (stored : HasCatalogue d catalog disk → HasCatalogue d catalog' disk') (defined : standing_of catalog' ≡ stands_after (standing_of catalog) (IndexIs p.item)) (h : Group) (h_is : h ≡ get_or groups1 place h) (g2 : Group) (more : HasIndexMore h g2 p.index)
         (now : Standing) (now_is : now ≡ p.standing) (trail' : Recorded) (calls : ℕ) (at : calls ≡ d.calls disk') (entries : trail'.entries ≡ mid.entries ++ record { seat = seat; calls = calls; act = IndexMade what.table p.index.id s p.what } ∷ []) (room : trail'.room + 1 ≡ mid.room) where
       more1 : HasIndexMore g1 g2 p.index
       more1 = subst (λ (x : Group). HasIndexMore x g2 p.index) (h_is ∙ there h) more
@@ -120,15 +120,15 @@ module _ {D : Type 0} (d : Ghosts D) (tells_left : (x : D) (moment file : ℕ) (
   -- ---- an index is dropped
 
   module _ (t : TableId) (mine : g.table.id ≡ t) (i : IndexId) (has : HasIndexOf standing.indexes t i) (unused : length g.points.items + length g.batches.items ≡ 0)
-      (leaves : HasCatalogue d catalog disk → LeavesOnly d disk disk' (λ moment image. CatalogueStands image (standing_of catalog) ⊎ CatalogueStands image (after (standing_of catalog) (IndexGone i)))) where
+      (leaves : HasCatalogue d catalog disk → LeavesOnly d disk disk' (λ moment image. CatalogueStands image (standing_of catalog) ⊎ CatalogueStands image (stands_after (standing_of catalog) (IndexGone i)))) where
     km : IsKept d b sound premise began disk catalog standing groups mid late closed
     km = roomy d b sound premise began disk catalog standing groups trail late closed k mid mid_same (omega (arith, mid_room))
 
     spare_enough : 2 + sum_by owed groups ≤ mid.room
     spare_enough = (let before = subst (λ (x : Option ℕ). HasTrailRoom x groups trail) running k.room in omega (arith, before, mid_room))
 
-    module _ (stored : HasCatalogue d catalog disk → HasCatalogue d catalog' disk') (defined : standing_of catalog' ≡ after (standing_of catalog) (IndexGone i)) (h : Group) (h_is : h ≡ g) (g2 : Group) (less : HasIndexLess h g2 i.0)
-        (now : Standing) (now_is : now ≡ after standing (IndexGone i)) (trail' : Recorded) (calls : ℕ) (at : calls ≡ d.calls disk') (entries : trail'.entries ≡ mid.entries ++ record { seat = seat; calls = calls; act = Dropped t (Some i) } ∷ []) (room : trail'.room + 1 ≡ mid.room) where
+    module _ (stored : HasCatalogue d catalog disk → HasCatalogue d catalog' disk') (defined : standing_of catalog' ≡ stands_after (standing_of catalog) (IndexGone i)) (h : Group) (h_is : h ≡ g) (g2 : Group) (less : HasIndexLess h g2 i.0)
+        (now : Standing) (now_is : now ≡ stands_after standing (IndexGone i)) (trail' : Recorded) (calls : ℕ) (at : calls ≡ d.calls disk') (entries : trail'.entries ≡ mid.entries ++ record { seat = seat; calls = calls; act = Dropped t (Some i) } ∷ []) (room : trail'.room + 1 ≡ mid.room) where
       less1 : HasIndexLess g g2 i.0
       less1 = subst (λ (x : Group). HasIndexLess x g2 i.0) h_is less
 

@@ -9,7 +9,7 @@ use Rattle.px_cells.specs.Visible.{IsView, IsVisible}
 use Rattle.px_cells.proofs.Among.{HasNone, ascending_join, has_all, has_from_reads, reads_append, reads_from_has, reads_left, reads_right}
 use Rattle.px_cells.proofs.Orders.{below_from_order, by_key}
 use Rattle.px_cells.proofs.Sights.{visible_like}
-use Rattle.px_memstore.specs.Pieces.{AreApart, KeysApart, chained}
+use Rattle.px_memstore.specs.Pieces.{ArePiecesApart, KeysApart, chained}
 use Rattle.px_memstore.proofs.Chained.{chained_ascending, chained_next, front_below, has_piece, less_not, piece_ascending}
 
 -- no cell of the list has the key of this one
@@ -85,7 +85,7 @@ module _ (xs ys : List CellData) (apart : KeysApart xs ys) where
 pub view_none : (x : ℕ) → IsView [] x []
 view_none x = record { ascending = tt; exact = λ p. (λ r. absurd r, λ v. absurd v.live.among) }
 
-module _ (ps : List (List CellData)) (at : ℕ) (lt : at < length ps) (apart : AreApart ps) where
+module _ (ps : List (List CellData)) (at : ℕ) (lt : at < length ps) (apart : ArePiecesApart ps) where
   pub view_next : (x : ℕ) (a b : List CellData) → IsView (chained (take at ps)) x a → IsView (get_or ps at []) x b → IsView (chained (take (at + 1) ps)) x (a ++ b)
   view_next x a b before here =
       subst (λ (cells : List CellData). IsView cells x (a ++ b)) (sym (chained_next ps at lt)) (view_join (chained (take at ps)) (get_or ps at []) (front_below ps at lt apart) x a b before here)

@@ -13,7 +13,7 @@ use Rattle.px_group.specs.declared.group.Group.{Group}
 use Rattle.px_beginning.specs.Admits.{Admits, HasRoomsWith}
 use Rattle.px_beginning.specs.Begins.{IsBatchOf}
 use Rattle.px_beginning.specs.Leaves.{KeepsRooms, LeavesGroup, TakesRooms}
-use Rattle.px_beginning.specs.Reads.{form_at, forms_in}
+use Rattle.px_beginning.specs.Reads.{form_at, index_forms}
 use Rattle.px_beginning.specs.Rooms.{AreRoomsOf, fresh_batch}
 use Rattle.px_beginning.proofs.Leaves.{alike_count, batch_after, right_after}
 use Rattle.px_beginning.proofs.Promised.{rooms_kept, rooms_taken}
@@ -36,14 +36,14 @@ module _ (g read taken g' : Group) (right : IsRightGroup g) (cs : List Change) (
   count : length read.indexes.items ≡ length g.indexes.items
   count = alike_count g.indexes.items read.indexes.items first.indexes
 
-  forms : length (forms_in g.table g.indexes.items) ≡ length read.indexes.items
+  forms : length (index_forms g.table g.indexes.items) ≡ length read.indexes.items
   forms = length-map g.indexes.items (form_at g.table) ∙ sym count
 
   marks : length r.prepared.batch.marks ≡ length read.indexes.items
-  marks = ap (λ (x : BatchData). length x.marks) ready.batch.made.is ∙ (length-map (forms_in g.table g.indexes.items) (λ (f : IndexForm). mark_parts f r.started.stamp cs ready.batch.transitions) ∙ forms)
+  marks = ap (λ (x : BatchData). length x.marks) ready.batch.made.is ∙ (length-map (index_forms g.table g.indexes.items) (λ (f : IndexForm). mark_parts f r.started.stamp cs ready.batch.transitions) ∙ forms)
 
   closes : length r.prepared.batch.closes ≡ length read.indexes.items
-  closes = ap (λ (x : BatchData). length x.closes) ready.batch.made.is ∙ (length-map (forms_in g.table g.indexes.items) (λ (f : IndexForm). close_parts f r.started.stamp cs ready.batch.transitions) ∙ forms)
+  closes = ap (λ (x : BatchData). length x.closes) ready.batch.made.is ∙ (length-map (index_forms g.table g.indexes.items) (λ (f : IndexForm). close_parts f r.started.stamp cs ready.batch.transitions) ∙ forms)
 
   rooms : HasRooms taken × HasRoomsWith taken (fresh_batch (length taken.indexes.items) r.prepared.batch)
   rooms = rooms_taken read taken then r.prepared takes (rooms_kept g read first keeps right.rooms) (subst (λ (n : ℕ). AreRoomsOf n r.prepared) (sym count) ready.rooms) marks closes

@@ -16,7 +16,7 @@ use Rattle.px_trail.specs.declared.entry.Act.TheVariants.{Begun as BegunAct}
 use Rattle.px_trail.specs.declared.entry.Entry.{Entry}
 use Rattle.px_trail.proofs.Growth.{catalogue-snoc}
 use Rattle.px_calls.specs.Causes.{HasLongKey, expected_now}
-use Rattle.px_calls.specs.Requires.{FitsTable}
+use Rattle.px_calls.specs.Requires.{IsChangeOf}
 use Rattle.px_groupworld.specs.Group.{IsTableBase}
 use Rattle.px_phases.specs.Batch.{AllFit, BatchData}
 use Rattle.px_schema.specs.declared.standing.Standing.{Standing}
@@ -73,7 +73,7 @@ module _ {D : Type 0} (d : Ghosts D) (b : Base) (sound premise : Type 0) (began 
   pub last_here : last_of b t.0 es ≡ g.last
   last_here = ap (λ (u : TableId). last_of b u.0 es) (sym own) ∙ tallied_here.tallied.last
 
-  pub fit_here : (cs : List Change) → ((x : Table) → table_of b es t.0 ≡ Some x → AllByRecursion (FitsTable x) cs) → AllFit g.table cs
+  pub fit_here : (cs : List Change) → ((x : Table) → table_of b es t.0 ≡ Some x → AllByRecursion (IsChangeOf x) cs) → AllFit g.table cs
   fit_here cs each = all_fit g.table cs (each g.table stands_as)
 
   -- ---- refused

@@ -17,7 +17,7 @@ use Rattle.px_calls.specs.Causes.{HasLongKey, IsLongIn, IsLongIndexed, expected_
 use Rattle.px_calls.specs.Causes as calls
 use Rattle.px_rows.specs.Keys.{row_key}
 use Rattle.px_rows.proofs.KeysBack.{row_key-fits}
-use Rattle.px_indexrow.specs.Form.{IsLong, index_columns, index_values}
+use Rattle.px_indexrow.specs.Form.{IsLongInIndex, index_columns, index_values}
 use Rattle.px_cellshapes.proofs.Paths.{index_columns_same, table_columns}
 use Rattle.px_phases.specs.Batch.{AllFit, BatchData}
 use Rattle.px_phases.specs.Begun.{AreFrom}
@@ -36,11 +36,11 @@ use Rattle.px_server.proofs.OwnRows.{HasKey, apply_key, old_key}
 long_same : (t : Table) (x : Index) (r row : List Value) → HasKey t r (Some row) → spelled (columns_on (index_path t x)) (values_on (index_path t x) row) ≡ spelled (index_columns t x) (index_values t x r row)
 long_same t x r row own = (λ i. spelled (index_columns_same t x i) (values_are t x r row own i))
 
-long_there : (t : Table) (x : Index) (r : List Value) (o : RowState) → HasKey t r o → IsLong t x r o → IsLongIn t x o
+long_there : (t : Table) (x : Index) (r : List Value) (o : RowState) → HasKey t r o → IsLongInIndex t x r o → IsLongIn t x o
 long_there t x r None own long = long
 long_there t x r (Some row) own long = subst (λ (k : List ℕ). most_key < length k) (sym (long_same t x r row own)) long
 
-long_here : (t : Table) (x : Index) (r : List Value) (o : RowState) → HasKey t r o → IsLongIn t x o → IsLong t x r o
+long_here : (t : Table) (x : Index) (r : List Value) (o : RowState) → HasKey t r o → IsLongIn t x o → IsLongInIndex t x r o
 long_here t x r None own long = long
 long_here t x r (Some row) own long = subst (λ (k : List ℕ). most_key < length k) (long_same t x r row own) long
 
@@ -86,9 +86,9 @@ module _ (t : Table) (x : Index) (old : List Value → RowState) (own : (r : Lis
     change = c;
     among = inl refl;
     long = inr (long_there t x c.row (apply (table_shape t) c.row (old c.row) c.what) (after c (are.0.fits, tt))
-        (subst (IsLong t x c.row) (are.0.new ∙ ap (λ (o : RowState). apply (table_shape t) c.row o c.what) (sym from.0)) new));
+        (subst (IsLongInIndex t x c.row) (are.0.new ∙ ap (λ (o : RowState). apply (table_shape t) c.row o c.what) (sym from.0)) new));
   }
-  indexed_there (c ∷ cs) (y ∷ ys) are from (inl (inr before)) = record { change = c; among = inl refl; long = inl (long_there t x c.row (old c.row) (own c.row) (subst (IsLong t x c.row) (sym from.0) before)) }
+  indexed_there (c ∷ cs) (y ∷ ys) are from (inl (inr before)) = record { change = c; among = inl refl; long = inl (long_there t x c.row (old c.row) (own c.row) (subst (IsLongInIndex t x c.row) (sym from.0) before)) }
   indexed_there (c ∷ cs) (y ∷ ys) are from (inr more) = (let w = indexed_there cs ys are.1 from.1 more in record { change = w.change; among = inr w.among; long = w.long })
 
   indexed_here : (cs : List Change) (ys : List Transition) → AreTransitions t cs ys → AreFrom old cs ys → (c : Change) → IsAmong c cs → IsLongIn t x (old c.row) ⊎ IsLongIn t x (apply (table_shape t) c.row (old c.row) c.what) → HasLongIndexed t x cs ys
@@ -97,10 +97,10 @@ module _ (t : Table) (x : Index) (old : List Value → RowState) (own : (r : Lis
   indexed_here (d ∷ cs) [] are from c among long = absurd are
   indexed_here (d ∷ cs) (y ∷ ys) are from c (inl here) (inl before) = (let
       at : IsLongIn t x (old d.row) = subst (λ (z : Change). IsLongIn t x (old z.row)) (sym here) before
-      in inl (inr (subst (IsLong t x d.row) from.0 (long_here t x d.row (old d.row) (own d.row) at))))
+      in inl (inr (subst (IsLongInIndex t x d.row) from.0 (long_here t x d.row (old d.row) (own d.row) at))))
   indexed_here (d ∷ cs) (y ∷ ys) are from c (inl here) (inr new) = (let
       at : IsLongIn t x (apply (table_shape t) d.row (old d.row) d.what) = subst (λ (z : Change). IsLongIn t x (apply (table_shape t) z.row (old z.row) z.what)) (sym here) new
-      in inl (inl (subst (IsLong t x d.row) (sym (are.0.new ∙ ap (λ (o : RowState). apply (table_shape t) d.row o d.what) (sym from.0))) (long_here t x d.row (apply (table_shape t) d.row (old d.row) d.what) (after d (are.0.fits, tt)) at))))
+      in inl (inl (subst (IsLongInIndex t x d.row) (sym (are.0.new ∙ ap (λ (o : RowState). apply (table_shape t) d.row o d.what) (sym from.0))) (long_here t x d.row (apply (table_shape t) d.row (old d.row) d.what) (after d (are.0.fits, tt)) at))))
   indexed_here (d ∷ cs) (y ∷ ys) are from c (inr more) long = inr (indexed_here cs ys are.1 from.1 c more long)
 
 -- ---- all indexes

@@ -11,7 +11,7 @@ use Rattle.px_trail.specs.declared.entry.Entry.{Entry}
 use Rattle.px_trail.specs.Recorded.{Recorded}
 use Rattle.px_trail.specs.Trail.{Base, catalogue_of}
 use Rattle.px_groupworld.specs.Group.{GroupData}
-use Rattle.px_region.specs.Region.{Holds}
+use Rattle.px_region.specs.Region.{RegionHolds}
 use Rattle.px_region.specs.declared.region.Region.{Region}
 use Rattle.px_region.proofs.Holding.{holds_alike}
 use Rattle.px_schema.specs.declared.standing.Standing.{Standing}
@@ -24,7 +24,7 @@ use Rattle.px_reading.specs.Looked.{AreLookedAt, HasLooked, IsLookedAt}
 use Rattle.px_reading.proofs.Asked.{looked_told}
 use Rattle.px_reading.proofs.Looked.{looked_back, still_right, still_shown, still_tallied}
 use Rattle.px_recovery.specs.Folder.{FolderData}
-use Rattle.px_server.specs.Kept.{HasBegun, HasParts, HasPoints, HasShown, HasTallied, HasTrailRoom, IsKept, IsOnDisk, forms_in, number_in, owed, table_in_group}
+use Rattle.px_server.specs.Kept.{HasBegun, HasPoints, HasServerParts, HasShown, HasTallied, HasTrailRoom, IsKept, IsOnDisk, forms_in, number_in, owed, table_in_group}
 use Rattle.px_server.specs.Others.{Beginning}
 use Rattle.px_server.specs.Shown.{logged_at, logged_in}
 use Rattle.px_server.proofs.Lists.{all_at, all_set, map_set}
@@ -45,8 +45,8 @@ once_on [] (y ∷ ys) l all = absurd l
 once_on (x ∷ xs) [] l all = absurd l
 once_on (x ∷ xs) (y ∷ ys) l all = (subst (λ (n : ℕ). AllByRecursion (λ z. n ≢ z.index.id.0) ys) (ap (λ (i : Index). i.id.0) (sym l.0.0)) (once_apart x.index.id.0 xs ys l.1 all.0), once_on xs ys l.1 all.1)
 
-holds_on : {D : Type 0} (d : Ghosts D) (disk : D) (f : FolderData) (old new : Region) → IsLookedAt old new → Holds d old disk (f.regions old.number) → Holds d new disk (f.regions new.number)
-holds_on d disk f old new l k = subst (λ (n : ℕ). Holds d new disk (f.regions n)) (sym l.alike.number) (holds_alike d old disk (f.regions old.number) k new l.alike)
+holds_on : {D : Type 0} (d : Ghosts D) (disk : D) (f : FolderData) (old new : Region) → IsLookedAt old new → RegionHolds d old disk (f.regions old.number) → RegionHolds d new disk (f.regions new.number)
+holds_on d disk f old new l k = subst (λ (n : ℕ). RegionHolds d new disk (f.regions n)) (sym l.alike.number) (holds_alike d old disk (f.regions old.number) k new l.alike)
 
 -- ---- the cells in the logs
 
@@ -139,7 +139,7 @@ module _ {D : Type 0} (d : Ghosts D) (b : Base) (sound premise : Type 0) (began 
   on_all : (P : Group → Type 0) → (P g → P g') → AllByRecursion P groups → AllByRecursion P then
   on_all P on all = all_set number_in P P groups place g g' l is once (λ h other p. p) (on (all_at P groups place g l is all)) all
 
-  parts_then : (f : FolderData) (v : ℕ → GroupData) → HasParts d b sound catalog groups disk es f v → HasParts d b sound catalog then disk es f v
+  parts_then : (f : FolderData) (v : ℕ → GroupData) → HasServerParts d b sound catalog groups disk es f v → HasServerParts d b sound catalog then disk es f v
   parts_then f v p = record {
     given = p.given;
     stored = p.stored;
@@ -174,7 +174,7 @@ module _ {D : Type 0} (d : Ghosts D) (b : Base) (sound premise : Type 0) (began 
     shown = λ given running. (let
         s = k.shown given running
         in record { told = s.told; each = on_all (HasShown b es standing.indexes s.told) (looked_shown g g' looked b es standing.indexes s.told) s.each });
-    server = with_parts d b premise (HasParts d b sound catalog groups) (HasParts d b sound catalog then) disk es late closed k.server (λ running given tells. (let
+    server = with_parts d b premise (HasServerParts d b sound catalog groups) (HasServerParts d b sound catalog then) disk es late closed k.server (λ running given tells. (let
         goes = k.server.goes_on running given tells
         in record { folder = goes.folder; groups = goes.groups; stands = goes.stands; explains = goes.explains; has = parts_then goes.folder goes.groups goes.has }));
     room = room_then;

@@ -2,29 +2,29 @@
 use Rattle.std.proofs.Common.{◌≡◌, ◌≤◌, ℕ, Bool, true, false, ◌==◌, if◌then◌else◌, Option, Some, None, List, [], ◌∷◌, ◌++◌, refl, subst, arith}
 use Rattle.std.proofs.lemmas.Bool.{eqb-true}
 use Rattle.px_tables.specs.declared.table.Table.{Table}
-use Rattle.px_tablefolder.specs.Folder.{IndexFiles, folder_high, folder_last, greatest_horizon, greatest_number}
+use Rattle.px_tablefolder.specs.Folder.{IndexFiles, folder_high, folder_last, greatest_horizon, greatest_in_indexes}
 use Rattle.px_trail.specs.declared.entry.Act.{Act}
 use Rattle.px_trail.specs.declared.entry.Act.TheVariants.{Raised}
 use Rattle.px_trail.specs.declared.entry.Entry.{Entry}
 use Rattle.px_trail.specs.Legal.{Follows, IsLegal, MayCome}
 use Rattle.px_trail.specs.Trail.{Base, horizon_from, horizon_of, horizon_step, last_from, last_of, last_step}
 use Rattle.px_trail.proofs.Growth.{horizon-snoc, last-snoc, legal-induct}
-use Rattle.px_recovery.specs.Base.{base_of, told_of}
+use Rattle.px_recovery.specs.Base.{base_of, told_of_table}
 use Rattle.px_recovery.specs.Folder.{FolderData}
 use Rattle.px_recovery.specs.Tables.{table_files, table_in}
 use Rattle.px_recovery.proofs.Notes.{last_step_up}
 
 -- ---- what a run begins with
 
-high_last : (xs : List IndexFiles) → greatest_horizon xs ≤ greatest_number xs
-unfolding greatest_horizon greatest_number
+high_last : (xs : List IndexFiles) → greatest_horizon xs ≤ greatest_in_indexes xs
+unfolding greatest_horizon greatest_in_indexes
 high_last [] = omega arith
 high_last (x ∷ xs) = let n = high_last xs in omega (arith, n)
 
 pub low_base : (f : FolderData) (t : ℕ) → (base_of f).horizon t ≤ (base_of f).last t
 low_base f t = by (table_in f.standing.tables t)
   where
-    by : (o : Option Table) → told_of (λ x. folder_high (table_files f x)) 0 o ≤ told_of (λ x. folder_last (table_files f x)) 0 o
+    by : (o : Option Table) → told_of_table (λ x. folder_high (table_files f x)) 0 o ≤ told_of_table (λ x. folder_last (table_files f x)) 0 o
     by None = omega arith
     by (Some x) = let n = high_last (table_files f x).indexes in omega (arith, n)
 

@@ -15,7 +15,7 @@ use Rattle.px_tables.specs.declared.table.Table.{Table}
 use Rattle.px_trail.specs.declared.entry.Act.{Act}
 use Rattle.px_trail.specs.declared.entry.Act.TheVariants.{Phase as PhaseDone}
 use Rattle.px_trail.specs.declared.entry.Entry.{Entry}
-use Rattle.px_trail.specs.Batches.{IsIn}
+use Rattle.px_trail.specs.Batches.{IsBatchIn}
 use Rattle.px_trail.specs.Batches as batches
 use Rattle.px_trail.specs.Lasting.{lasts_by}
 use Rattle.px_trail.specs.Legal.{Follows, IsPhased, MayCome}
@@ -35,7 +35,7 @@ use Rattle.px_batching.proofs.Places.{same_at}
 use Rattle.px_batching.proofs.Right.{right_closes, right_marks}
 use Rattle.px_batching.proofs.Tallied.{tallied_closes, tallied_marks}
 use Rattle.px_batching.proofs.Traced.{traced_closes, traced_marks}
-use Rattle.px_noting.specs.Apart.{IsApart}
+use Rattle.px_noting.specs.Apart.{IsApartFrom}
 use Rattle.px_recovery.proofs.Server.{newest_early}
 use Rattle.px_server.specs.Kept.{HasTallied, IsKept, IsShutAt, number_in, owed, steps_of, tells_fault}
 use Rattle.px_server.specs.Others.{Beginning}
@@ -61,8 +61,8 @@ phase_unshut : (o : Option ℕ) (t : TableId) (s p : ℕ) → closing_step o (Ph
 phase_unshut None t s p = refl
 phase_unshut (Some call) t s p = refl
 
-phase_apart : (a : Act) (t : TableId) (s p n : ℕ) → a ≡ PhaseDone t s p → t.0 ≡ n → (id : TableId) → id.0 ≢ n → IsApart id a
-phase_apart a t s p n is own id other = subst (λ (b : Act). IsApart id b) (sym is) (λ same. other (sym same ∙ own))
+phase_apart : (a : Act) (t : TableId) (s p n : ℕ) → a ≡ PhaseDone t s p → t.0 ≡ n → (id : TableId) → id.0 ≢ n → IsApartFrom id a
+phase_apart a t s p n is own id other = subst (λ (b : Act). IsApartFrom id b) (sym is) (λ same. other (sym same ∙ own))
 
 phase_may : (b : Base) (es : List Entry) (e : Entry) (t : TableId) (s p : ℕ) → e.act ≡ PhaseDone t s p → IsPhased es e.seat t.0 s p → closing_call es ≡ None → calls_of es ≤ e.calls → MayCome b es e
 unfolding Follows
@@ -95,12 +95,12 @@ module _ {D : Type 0} (d : Ghosts D) (tells_left : (x : D) (moment file : ℕ) (
         in acted d b sound premise began disk catalog standing groups trail late closed k place g l is tells_left up_to_now e at (ap lasts_by act) (ap tells_fault act) may (ap (closing_step closed) act ∙ phase_unshut closed g.table.id s p)
         (catalogue-snoc b es e ∙ (ap (catalogue_step (catalogue_of b es)) act ∙ phase_still g.table.id s p (catalogue_of b es))) (phase_apart e.act g.table.id s p (number_in g) act refl) (subst (IsOfOwn b es (number_in g)) (sym act) tt) g' (a may) trail' entries (omega (arith, less, room)))
 
-    marked_kept : (f : FinishesMarks g g' m) → e.act ≡ PhaseDone g.table.id f.batch.batch.stamp 1 → IsIn es e.seat g.table.id.0 f.batch.batch.stamp batches.Marking → IsKept d b sound premise began disk catalog standing (slice_set groups place g') trail' late closed
+    marked_kept : (f : FinishesMarks g g' m) → e.act ≡ PhaseDone g.table.id f.batch.batch.stamp 1 → IsBatchIn es e.seat g.table.id.0 f.batch.batch.stamp batches.Marking → IsKept d b sound premise began disk catalog standing (slice_set groups place g') trail' late closed
     marked_kept f act phase =
         phase_told f.batch.batch.stamp 1 act (inl (refl, phase)) (λ may. marked_acts d disk b es closed running g g' right (once_at d b sound premise began disk catalog standing groups trail late closed k place g l is running) tallied m e may f act)
         (let o = owed_step g g' m f.batch (record f.batch { phase = Writing }) f.step.step in let p : steps_of f.batch.phase ≡ 4 = ap steps_of f.marking in omega (arith, o, p))
 
-    verified_kept : (f : FinishesCloses g g' m) → e.act ≡ PhaseDone g.table.id f.batch.batch.stamp 3 → IsIn es e.seat g.table.id.0 f.batch.batch.stamp batches.Verifying → IsKept d b sound premise began disk catalog standing (slice_set groups place g') trail' late closed
+    verified_kept : (f : FinishesCloses g g' m) → e.act ≡ PhaseDone g.table.id f.batch.batch.stamp 3 → IsBatchIn es e.seat g.table.id.0 f.batch.batch.stamp batches.Verifying → IsKept d b sound premise began disk catalog standing (slice_set groups place g') trail' late closed
     verified_kept f act phase =
         phase_told f.batch.batch.stamp 3 act (inr (refl, phase)) (λ may. verified_acts d disk b es closed running g g' right (once_at d b sound premise began disk catalog standing groups trail late closed k place g l is running) tallied m e may f act)
         (let o = owed_step g g' m f.batch (record f.batch { phase = Closing }) f.step.step in let p : steps_of f.batch.phase ≡ 2 = ap steps_of f.verifying in omega (arith, o, p))
@@ -165,19 +165,19 @@ module _ {D : Type 0} (d : Ghosts D) (tells_left : (x : D) (moment file : ℕ) (
 
   -- the phase of the group in the middle
   module _ (middle : Group) (same : middle.table ≡ g.table) (k' : IsKept d b sound premise began disk' catalog standing (slice_set groups place middle) trail late closed) where
-    marked_after : (f : FinishesMarks middle g' m) → f.batch.batch.stamp ≡ s → e.act ≡ PhaseDone g.table.id s 1 → IsIn seen e.seat g.table.id.0 s batches.Marking → IsKept d b sound premise began disk' catalog standing (slice_set groups place g') trail' late closed
+    marked_after : (f : FinishesMarks middle g' m) → f.batch.batch.stamp ≡ s → e.act ≡ PhaseDone g.table.id s 1 → IsBatchIn seen e.seat g.table.id.0 s batches.Marking → IsKept d b sound premise began disk' catalog standing (slice_set groups place g') trail' late closed
     marked_after f stamp act phase =
         subst (λ (gs : List Group). IsKept d b sound premise began disk' catalog standing gs trail' late closed) (twice middle)
         (marked_kept d tells_left up_to_now b sound premise began disk' catalog standing (slice_set groups place middle) trail late closed k' running place middle g' (then_at middle) (then_is middle) m e at trail' entries room f
         (subst (λ (t : Table). e.act ≡ PhaseDone t.id f.batch.batch.stamp 1) (sym same) (subst (λ (n : ℕ). e.act ≡ PhaseDone g.table.id n 1) (sym stamp) act))
-        (subst (λ (t : Table). IsIn seen e.seat t.id.0 f.batch.batch.stamp batches.Marking) (sym same) (subst (λ (n : ℕ). IsIn seen e.seat g.table.id.0 n batches.Marking) (sym stamp) phase)))
+        (subst (λ (t : Table). IsBatchIn seen e.seat t.id.0 f.batch.batch.stamp batches.Marking) (sym same) (subst (λ (n : ℕ). IsBatchIn seen e.seat g.table.id.0 n batches.Marking) (sym stamp) phase)))
 
-    verified_after : (f : FinishesCloses middle g' m) → f.batch.batch.stamp ≡ s → e.act ≡ PhaseDone g.table.id s 3 → IsIn seen e.seat g.table.id.0 s batches.Verifying → IsKept d b sound premise began disk' catalog standing (slice_set groups place g') trail' late closed
+    verified_after : (f : FinishesCloses middle g' m) → f.batch.batch.stamp ≡ s → e.act ≡ PhaseDone g.table.id s 3 → IsBatchIn seen e.seat g.table.id.0 s batches.Verifying → IsKept d b sound premise began disk' catalog standing (slice_set groups place g') trail' late closed
     verified_after f stamp act phase =
         subst (λ (gs : List Group). IsKept d b sound premise began disk' catalog standing gs trail' late closed) (twice middle)
         (verified_kept d tells_left up_to_now b sound premise began disk' catalog standing (slice_set groups place middle) trail late closed k' running place middle g' (then_at middle) (then_is middle) m e at trail' entries room f
         (subst (λ (t : Table). e.act ≡ PhaseDone t.id f.batch.batch.stamp 3) (sym same) (subst (λ (n : ℕ). e.act ≡ PhaseDone g.table.id n 3) (sym stamp) act))
-        (subst (λ (t : Table). IsIn seen e.seat t.id.0 f.batch.batch.stamp batches.Verifying) (sym same) (subst (λ (n : ℕ). IsIn seen e.seat g.table.id.0 n batches.Verifying) (sym stamp) phase)))
+        (subst (λ (t : Table). IsBatchIn seen e.seat t.id.0 f.batch.batch.stamp batches.Verifying) (sym same) (subst (λ (n : ℕ). IsBatchIn seen e.seat g.table.id.0 n batches.Verifying) (sym stamp) phase)))
 
   -- where no call is made, the group in the middle is the one before
   unmoved : (middle : Group) → middle ≡ g → disk' ≡ disk → IsKept d b sound premise began disk' catalog standing (slice_set groups place middle) trail late closed
@@ -185,7 +185,7 @@ module _ {D : Type 0} (d : Ghosts D) (tells_left : (x : D) (moment file : ℕ) (
       subst (λ (x : D). IsKept d b sound premise began x catalog standing (slice_set groups place middle) trail late closed) (sym still)
       (subst (λ (gs : List Group). IsKept d b sound premise began disk catalog standing gs trail late closed) (sym (ap (slice_set groups place) (same ∙ sym is) ∙ set-get_or groups place g)) k)
 
-  pub marks_all : (a : MarksAll d g g' disk disk' m) → ((w : WroteMarks d g a.middle disk disk' m) → IsSameHorizon w.hands.index.region w.hands.region) → e.act ≡ PhaseDone g.table.id s 1 → IsIn seen e.seat g.table.id.0 s batches.Marking → IsKept d b sound premise began disk' catalog standing (slice_set groups place g') trail' late closed
+  pub marks_all : (a : MarksAll d g g' disk disk' m) → ((w : WroteMarks d g a.middle disk disk' m) → IsSameHorizon w.hands.index.region w.hands.region) → e.act ≡ PhaseDone g.table.id s 1 → IsBatchIn seen e.seat g.table.id.0 s batches.Marking → IsKept d b sound premise began disk' catalog standing (slice_set groups place g') trail' late closed
   marks_all a horizons act phase = elim a.before [
     | inl q ↦ marked_after a.middle (ap (λ (h : Group). h.table) q.0) (unmoved a.middle q.0 q.1) a.last (stamps a.last.batch (ap (λ (h : Group). slice_get h.batches.items m) (sym q.0) ∙ a.last.step.step.batch)) act phase
     | inr w ↦ (let
@@ -198,7 +198,7 @@ module _ {D : Type 0} (d : Ghosts D) (tells_left : (x : D) (moment file : ℕ) (
         (ap (λ (x : Begun). x.batch.stamp) same ∙ stamps o.batch o.step.step.batch) act phase)
   ]
 
-  pub closes_all : (a : ClosesAll d g g' disk disk' m) → ((w : WroteCloses d g a.middle disk disk' m) → IsSameHorizon w.hands.index.region w.hands.region) → e.act ≡ PhaseDone g.table.id s 3 → IsIn seen e.seat g.table.id.0 s batches.Verifying → IsKept d b sound premise began disk' catalog standing (slice_set groups place g') trail' late closed
+  pub closes_all : (a : ClosesAll d g g' disk disk' m) → ((w : WroteCloses d g a.middle disk disk' m) → IsSameHorizon w.hands.index.region w.hands.region) → e.act ≡ PhaseDone g.table.id s 3 → IsBatchIn seen e.seat g.table.id.0 s batches.Verifying → IsKept d b sound premise began disk' catalog standing (slice_set groups place g') trail' late closed
   closes_all a horizons act phase = elim a.before [
     | inl q ↦ verified_after a.middle (ap (λ (h : Group). h.table) q.0) (unmoved a.middle q.0 q.1) a.last (stamps a.last.batch (ap (λ (h : Group). slice_get h.batches.items m) (sym q.0) ∙ a.last.step.step.batch)) act phase
     | inr w ↦ (let

@@ -6,7 +6,7 @@ use Rattle.px_outside.specs.declared.disk.Disk.{Ghosts}
 use Rattle.px_cells.specs.CellData.{CellData}
 use Rattle.px_cells.specs.Order.{ReadsSame}
 use Rattle.px_trail.specs.declared.entry.Entry.{Entry}
-use Rattle.px_trail.specs.Batches.{IsIn, change_of, has}
+use Rattle.px_trail.specs.Batches.{IsBatchIn, change_of, has}
 use Rattle.px_trail.specs.Batches as trail
 use Rattle.px_trail.specs.Trail.{Base}
 use Rattle.px_region.specs.Region.{read_of}
@@ -52,7 +52,7 @@ module _ {D : Type 0} (d : Ghosts D) (b : Base) (es : List Entry) (g g' : Group)
     place : h.done ≡ o.place
     place = marks_at b es g hs k m d g' old new o
 
-    in_phase : IsIn es tie.1.1.batch.seat g.table.id.0 h.stamp trail.Marking
+    in_phase : IsBatchIn es tie.1.1.batch.seat g.table.id.0 h.stamp trail.Marking
     in_phase = (let phase = tie.1.1 in record { batch = phase.batch; is = phase.is; mine = refl; phase = phase.phase ∙ ap as_phase o.marking })
 
     next : h.done < h.count
@@ -106,7 +106,7 @@ module _ {D : Type 0} (d : Ghosts D) (b : Base) (es : List Entry) (g g' : Group)
     its_place : own.verified ≡ o.place
     its_place = closes_at b es g hs k m d g' old new o
 
-    its_phase : IsIn es its_tie.1.1.batch.seat g.table.id.0 own.stamp trail.Verifying
+    its_phase : IsBatchIn es its_tie.1.1.batch.seat g.table.id.0 own.stamp trail.Verifying
     its_phase = (let phase = its_tie.1.1 in record { batch = phase.batch; is = phase.is; mine = refl; phase = phase.phase ∙ ap as_phase o.verifying })
 
     its_next : own.verified < own.count

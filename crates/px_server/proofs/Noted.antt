@@ -6,12 +6,12 @@ use Rattle.px_trail.specs.declared.entry.Entry.{Entry}
 use Rattle.px_trail.specs.Lasting.{lasting}
 use Rattle.px_trail.specs.Legal.{MayCome}
 use Rattle.px_trail.specs.Trail.{Base, closing_step}
-use Rattle.px_recovery.specs.Kept.{GoesOn, IsServer, Parts}
+use Rattle.px_recovery.specs.Kept.{FolderGoesOn, IsServer, Parts}
 use Rattle.px_recovery.proofs.Server.{noted_server}
 
 -- other parts go on from the same disk
 pub with_parts : {D : Type 0} (d : Ghosts D) (b : Base) (premise : Type 0) (Has Then : Parts D) (disk : D) (es : List Entry) (late : Option Entry) (closed : Option ℕ) → IsServer d b premise Has disk es late closed
-    → (closed ≡ None → premise → IsTrue d.tells → GoesOn d b Then disk es) → IsServer d b premise Then disk es late closed
+    → (closed ≡ None → premise → IsTrue d.tells → FolderGoesOn d b Then disk es) → IsServer d b premise Then disk es late closed
 with_parts d b premise Has Then disk es late closed k goes = record {
   early = k.early;
   lasts = k.lasts;
@@ -29,14 +29,14 @@ NoParts D = λ disk es f v. Unit {0}
 module _ {D : Type 0} (d : Ghosts D) (tells_left : (x : D) (moment file : ℕ) (bytes : List ℕ) → d.left x moment file bytes → IsTrue d.tells)
     (up_to_now : (x : D) (moment file : ℕ) (bytes : List ℕ) → d.left x moment file bytes → moment ≤ d.calls x) (b : Base) (premise : Type 0) (Has Then : Parts D)
     (disk : D) (es : List Entry) (late : Option Entry) (closed : Option ℕ) (k : IsServer d b premise Has disk es late closed) (e : Entry) (at : e.calls ≡ d.calls disk) (quiet : lasting e ≡ false) (may : MayCome b es e)
-    (unshut : closing_step closed e.act ≡ closed) (goes : closed ≡ None → GoesOn d b Has disk es → GoesOn d b Then disk (es ++ e ∷ [])) where
-  bare : {l : List Entry} {H : Parts D} → GoesOn d b H disk l → GoesOn d b (NoParts D) disk l
+    (unshut : closing_step closed e.act ≡ closed) (goes : closed ≡ None → FolderGoesOn d b Has disk es → FolderGoesOn d b Then disk (es ++ e ∷ [])) where
+  bare : {l : List Entry} {H : Parts D} → FolderGoesOn d b H disk l → FolderGoesOn d b (NoParts D) disk l
   bare g = record { folder = g.folder; groups = g.groups; stands = g.stands; explains = g.explains; has = tt }
 
   plain : IsServer d b premise (NoParts D) disk es late closed
   plain = with_parts d b premise Has (NoParts D) disk es late closed k (λ running given tells. bare (k.goes_on running given tells))
 
-  then_on : closed ≡ None → premise → IsTrue d.tells → GoesOn d b Then disk (es ++ e ∷ [])
+  then_on : closed ≡ None → premise → IsTrue d.tells → FolderGoesOn d b Then disk (es ++ e ∷ [])
   then_on running given tells = goes running (k.goes_on running given tells)
 
   pub server_goes : IsServer d b premise Then disk (es ++ e ∷ []) late closed

@@ -11,7 +11,7 @@ use Rattle.px_trail.specs.declared.entry.Entry.{Entry}
 use Rattle.px_trail.specs.Trail.{Base, catalogue_of}
 use Rattle.px_schema.specs.declared.standing.Standing.{Standing}
 use Rattle.px_recovery.specs.Stands.{AreNumbered, TellsCatalogue, opened_index}
-use Rattle.px_recovery.specs.Tables.{IsOneOf, index_in, indexes_of, region_of_index, table_in}
+use Rattle.px_recovery.specs.Tables.{IsRegionAmong, index_in, indexes_of, region_of_index, table_in}
 use Rattle.px_recovery.proofs.Lookups.{index_first, index_later}
 use Rattle.px_region.specs.declared.region.Region.{Region}
 use Rattle.px_group.specs.Group.{AreStanding, IsRightGroup, IsRightPart}
@@ -148,8 +148,8 @@ module _ (b : Base) (es : List Entry) (s : Standing) (tells : TellsCatalogue s (
   pub stored_table : (g : Group) → AreStanding b es g → table_in s.tables (number_in g) ≡ Some g.table
   stored_table g k = tells.tables (number_in g) ∙ k.table
 
-pub rows_one : (g : Group) → IsRightGroup g → IsOneOf g.rows.number g.table.regions
-rows_one g r = subst (λ (l : List TableRegion). IsOneOf g.rows.number l) (sym r.region) (inl refl)
+pub rows_one : (g : Group) → IsRightGroup g → IsRegionAmong g.rows.number g.table.regions
+rows_one g r = subst (λ (l : List TableRegion). IsRegionAmong g.rows.number l) (sym r.region) (inl refl)
 
 pub part_at : (g : Group) → IsRightGroup g → (i : ℕ) (x : IndexRegion) → slice_get g.indexes.items i ≡ Some x → IsRightPart g.table x
 part_at g r i x at = all_at (IsRightPart g.table) g.indexes.items i x at r.parts
@@ -182,7 +182,7 @@ module _ (b : Base) (es : List Entry) (s : Standing) (tells : TellsCatalogue s (
   -- those of another group
   module _ (h : Group) (r : IsRightGroup h) (k : AreStanding b es h) (other : number_in h ≢ number_in g) where
     rows_apart_rows : h.rows.number ≢ g.rows.number
-    rows_apart_rows same = other (numbered.tables (number_in h) (number_in g) g.rows.number h.table g.table (stored_table b es s tells h k) own (subst (λ (n : ℕ). IsOneOf n h.table.regions) same (rows_one h r)) (rows_one g right))
+    rows_apart_rows same = other (numbered.tables (number_in h) (number_in g) g.rows.number h.table g.table (stored_table b es s tells h k) own (subst (λ (n : ℕ). IsRegionAmong n h.table.regions) same (rows_one h r)) (rows_one g right))
 
     rows_apart_index : (j : ℕ) (z : IndexRegion) → slice_get h.indexes.items j ≡ Some z → z.region.number ≢ g.rows.number
     rows_apart_index j z there same = (let

@@ -10,9 +10,9 @@ use Rattle.px_trail.specs.Legal.{IsLegal}
 use Rattle.px_trail.specs.Recorded.{Recorded}
 use Rattle.px_trail.specs.Trail.{Base, closing_call}
 use Rattle.px_wal.specs.Files.{HasFile}
-use Rattle.px_region.specs.Ordered.{IsOrdered, IsSameOrder}
+use Rattle.px_region.specs.Ordered.{IsFlushOrdered, IsSameOrder}
 use Rattle.px_region.specs.Promise.{IsAlike, IsSamePromise}
-use Rattle.px_region.specs.Region.{Holds, read_of}
+use Rattle.px_region.specs.Region.{RegionHolds, read_of}
 use Rattle.px_region.specs.declared.region.Region.{Region}
 use Rattle.px_region.proofs.Holding.{holds_alike, stands_now}
 use Rattle.px_region.proofs.Logged.{nothing_logged}
@@ -28,14 +28,14 @@ use Rattle.px_server.specs.Kept.{IsKept, IsOnDisk}
 use Rattle.px_server.specs.Others.{Beginning}
 use Rattle.px_server.specs.Shown.{logged_at, logged_by}
 use Rattle.px_server.specs.Upkeep as upkeep
-use Rattle.px_server.specs.Upkeep.{AllSettle, AreOrdered, HasFlushedIndex, HaveFlushed, IsOrderedIndex, Settles, StepsOn}
+use Rattle.px_server.specs.Upkeep.{AllSettle, AreOrdered, HasFlushedIndex, HaveFlushed, IsOrderedIndex, Settles, StepsFiles}
 use Rattle.px_server.proofs.Prepared.{steps_write, steps_written}
 use Rattle.px_server.proofs.Seen.{stays}
 use Rattle.px_server.proofs.Stepped.{put_back, stepped}
 
 -- 1. A region
 
-pub order_steps : {D : Type 0} (d : Ghosts D) (up_to_now : (x : D) (moment file : ℕ) (bytes : List ℕ) → d.left x moment file bytes → moment ≤ d.calls x) (disk : D) (old new : Region) → IsAlike old new → IsSamePromise old new → read_of new ≡ read_of old → StepsOn d old new disk disk
+pub order_steps : {D : Type 0} (d : Ghosts D) (up_to_now : (x : D) (moment file : ℕ) (bytes : List ℕ) → d.left x moment file bytes → moment ≤ d.calls x) (disk : D) (old new : Region) → IsAlike old new → IsSamePromise old new → read_of new ≡ read_of old → StepsFiles d old new disk disk
 order_steps d up_to_now disk old new alike promised read = record {
   writes =
       steps_write d old new disk disk alike.number alike.horizon (λ s holds. stands_now d old disk s holds up_to_now) (λ s holds. touches_none d.calls d.left d.seen up_to_now disk (HasFile old.number))
@@ -48,7 +48,7 @@ pub order_written : {D : Type 0} (d : Ghosts D) (disk : D) (old new : Region) �
 order_written d disk old new alike read = steps_written d old new disk disk (λ s holds. holds_alike d old disk s holds new alike) read
 
 -- a step keeps that all is ordered
-pub ordered_on : (old new : Region) → IsSameOrder old new → IsOrdered old → IsOrdered new
+pub ordered_on : (old new : Region) → IsSameOrder old new → IsFlushOrdered old → IsFlushOrdered new
 ordered_on old new same ordered = (let o = same.ordered in let l = same.last in omega (arith, ordered, o, l))
 
 -- 2. Lists
@@ -123,7 +123,7 @@ did_order k legal open_ = record { sees = stays k legal; running = open_ }
 
 -- 5. What is left in the logs
 
-no_index : {D : Type 0} (d : Ghosts D) (disk : D) (f : FolderData) (xs : List IndexRegion) → ((i : ℕ) (x : IndexRegion) → slice_get xs i ≡ Some x → Holds d x.region disk (f.regions x.region.number))
+no_index : {D : Type 0} (d : Ghosts D) (disk : D) (f : FolderData) (xs : List IndexRegion) → ((i : ℕ) (x : IndexRegion) → slice_get xs i ≡ Some x → RegionHolds d x.region disk (f.regions x.region.number))
     → AllByRecursion IsOrderedIndex xs → AllByRecursion HasFlushedIndex xs → sum_by logged_at xs ≡ 0
 no_index d disk f [] on ordered flushed = refl
 no_index d disk f (x ∷ xs) on ordered flushed = (let

@@ -13,12 +13,12 @@ use Rattle.px_trail.specs.declared.entry.Entry.{Entry}
 use Rattle.px_trail.specs.Legal.{MayCome}
 use Rattle.px_trail.specs.Trail.{Base}
 use Rattle.px_trail.proofs.Orders.{WritesNone}
-use Rattle.px_region.specs.Region.{Holds}
+use Rattle.px_region.specs.Region.{RegionHolds}
 use Rattle.px_region.specs.declared.region.Region.{Region}
 use Rattle.px_rows.specs.Spelled.{row_form}
 use Rattle.px_forms.specs.Indexes.{IndexForm}
 use Rattle.px_groupworld.specs.Group.{GroupData, GroupKept, table_form}
-use Rattle.px_groupworld.specs.Steps.{nothing}
+use Rattle.px_groupworld.specs.Steps.{no_events}
 use Rattle.px_openbatches.specs.Pending.{HeldBatch}
 use Rattle.px_tablereads.specs.Told.{AreTold}
 use Rattle.px_tablereads.proofs.Tells.{quiet_written, told_same}
@@ -59,7 +59,7 @@ owed_step g g' m x x' s = (let
 module _ {D : Type 0} (d : Ghosts D) (disk : D) (g g' : Group) (m : ℕ) (x x' : Begun) (q : IsQuietStep g g' m x x') where
   pub quiet_on_disk : (f : FolderData) → IsOnDisk d disk f g → IsOnDisk d disk f g'
   quiet_on_disk f on = record {
-    rows = subst (λ (r : Region). Holds d r disk (f.regions r.number)) (sym q.rows) on.rows;
+    rows = subst (λ (r : Region). RegionHolds d r disk (f.regions r.number)) (sym q.rows) on.rows;
     indexes = λ i y at. on.indexes i y (ap (λ xs. slice_get xs.items i) (sym q.indexes) ∙ at);
   }
 
@@ -101,7 +101,7 @@ module _ {D : Type 0} (d : Ghosts D) (disk : D) (b : Base) (es : List Entry) (cl
               shown = then;
               told = quiet_told d disk g g' m f.batch (record f.batch { phase = Writing }) f.step b es e (none_written e.act g.table.id f.batch.batch.stamp 1 act) index v hs shown then told;
               built = built_table b index (es ++ e ∷ []) v g.table g'.table (sym f.step.step.table)
-                  (built_told (form_of b index g) es v shown.kept.group nothing e v (marked_steps b index es g g' v hs right k shown m f e may (own_act hs k)).does (λ i r. tt) (λ i l. refl) (λ n. subst (IsUnbased n) (sym act) tt) built);
+                  (built_told (form_of b index g) es v shown.kept.group no_events e v (marked_steps b index es g g' v hs right k shown m f e may (own_act hs k)).does (λ i r. tt) (λ i l. refl) (λ n. subst (IsUnbased n) (sym act) tt) built);
               high = omega arith;
               low = refl;
               cells = refl;
@@ -132,7 +132,7 @@ module _ {D : Type 0} (d : Ghosts D) (disk : D) (b : Base) (es : List Entry) (cl
               shown = then;
               told = quiet_told d disk g g' m f.batch (record f.batch { phase = Closing }) f.step b es e (none_written e.act g.table.id f.batch.batch.stamp 3 act) index v hs shown then told;
               built = built_table b index (es ++ e ∷ []) v g.table g'.table (sym f.step.step.table)
-                  (built_told (form_of b index g) es v shown.kept.group nothing e v (verified_steps b index es g g' v hs right k shown m e may (own_act hs k)).does (λ i r. tt) (λ i l. refl) (λ n. subst (IsUnbased n) (sym act) tt) built);
+                  (built_told (form_of b index g) es v shown.kept.group no_events e v (verified_steps b index es g g' v hs right k shown m e may (own_act hs k)).does (λ i r. tt) (λ i l. refl) (λ n. subst (IsUnbased n) (sym act) tt) built);
               high = omega arith;
               low = refl;
               cells = refl;

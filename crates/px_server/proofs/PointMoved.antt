@@ -17,8 +17,8 @@ use Rattle.px_schema.specs.declared.standing.Standing.{Standing}
 use Rattle.px_catalog.specs.declared.catalog.Catalog.{Catalog}
 use Rattle.px_group.specs.Group.{IsTallied, form_of}
 use Rattle.px_group.specs.declared.group.Group.{Group}
-use Rattle.px_noting.specs.Apart.{IsApart}
-use Rattle.px_noting.specs.Points.{IsSameBeside}
+use Rattle.px_noting.specs.Apart.{IsApartFrom}
+use Rattle.px_noting.specs.Points.{IsSameBesidePoints}
 use Rattle.px_noting.proofs.Shown.{shown_elsewhere}
 use Rattle.px_server.specs.Kept.{HasPoints, IsKept, number_in, owed, tells_fault}
 use Rattle.px_server.specs.Others.{Beginning}
@@ -31,7 +31,7 @@ module _ {D : Type 0} (d : Ghosts D) (tells_left : (x : D) (moment file : ℕ) (
     (up_to_now : (x : D) (moment file : ℕ) (bytes : List ℕ) → d.left x moment file bytes → moment ≤ d.calls x) (b : Base) (sound premise : Type 0) (began : Beginning)
     (disk : D) (catalog : Catalog) (standing : Standing) (groups : List Group) (trail : Recorded) (late : Option Entry) (closed : Option ℕ) (k : IsKept d b sound premise began disk catalog standing groups trail late closed)
     (e : Entry) (at : e.calls ≡ d.calls disk) (quiet : lasting e ≡ false) (calm : tells_fault e.act ≡ false) (may : MayCome b trail.entries e) (unshut : closing_step closed e.act ≡ closed) (still : (c : Catalogue) → catalogue_step c e.act ≡ c)
-    (elsewhere : (t : TableId) → IsElsewhere t e.act) (place : ℕ) (g g' : Group) (l : place < length groups) (is : get_or groups place g ≡ g) (beside : IsSameBeside g g') (apart : (t : TableId) → t.0 ≢ number_in g → IsApart t e.act) (none : (n : ℕ) → IsUnbased n e.act) (named : IsOfOwn b trail.entries (number_in g) e.act)
+    (elsewhere : (t : TableId) → IsElsewhere t e.act) (place : ℕ) (g g' : Group) (l : place < length groups) (is : get_or groups place g ≡ g) (beside : IsSameBesidePoints g g') (apart : (t : TableId) → t.0 ≢ number_in g → IsApartFrom t e.act) (none : (n : ℕ) → IsUnbased n e.act) (named : IsOfOwn b trail.entries (number_in g) e.act)
     (points : HasPoints (trail.entries ++ e ∷ []) g') (here : (hs : List HeldBatch) → IsTallied b trail.entries g hs → IsTallied b (trail.entries ++ e ∷ []) g' hs)
     (trail' : Recorded) (entries : trail'.entries ≡ trail.entries ++ e ∷ []) (less : owed g' + trail.room ≤ owed g + trail'.room) where
   abbrev es : List Entry

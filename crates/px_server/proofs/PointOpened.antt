@@ -10,7 +10,7 @@ use Rattle.px_tables.specs.declared.found.Found.{Found}
 use Rattle.px_tables.specs.declared.table.Table.{Table}
 use Rattle.px_trail.specs.declared.entry.Act.TheVariants.{Opened}
 use Rattle.px_trail.specs.declared.entry.Entry.{Entry}
-use Rattle.px_trail.specs.Batches.{Batch, IsDecided, IsIn, batch_of, phase_of}
+use Rattle.px_trail.specs.Batches.{Batch, IsBatchIn, IsDecided, batch_of, phase_of}
 use Rattle.px_trail.specs.Batches as trail
 use Rattle.px_trail.specs.Legal.{Follows, IsLegal, MayCome}
 use Rattle.px_trail.specs.Recorded.{Recorded}
@@ -21,25 +21,25 @@ use Rattle.px_phases.specs.Batch.{BatchData}
 use Rattle.px_schema.specs.declared.standing.Standing.{Standing}
 use Rattle.px_catalog.specs.Catalogue.{standing_of}
 use Rattle.px_catalog.specs.declared.catalog.Catalog.{Catalog}
-use Rattle.px_group.specs.Group.{IsRightBatch, IsRightGroup, IsStage, IsTallied, as_phase}
+use Rattle.px_group.specs.Group.{FitsPhase, IsRightBatch, IsRightGroup, IsTallied, as_phase}
 use Rattle.px_group.specs.declared.group.Begun.{Begun}
 use Rattle.px_group.specs.declared.group.Group.{Group}
 use Rattle.px_group.specs.declared.group.Phase.{Phase}
 use Rattle.px_group.specs.declared.group.Phase.TheVariants.{Closing, Marking, Verifying, Writing}
 use Rattle.px_batching.proofs.Places.{all_at as at_place}
-use Rattle.px_noting.specs.Points.{HasOpened, IsSameBeside}
+use Rattle.px_noting.specs.Points.{HasOpened, IsSameBesidePoints}
 use Rattle.px_noting.proofs.OpenPoints.{points_opened, tallied_opened}
 use Rattle.px_recovery.specs.Tables.{indexes_of}
 use Rattle.px_recovery.proofs.Server.{newest_early}
 use Rattle.px_standing.proofs.Looked.{found_at}
 use Rattle.px_calls.specs.Calls.{DidOpen}
-use Rattle.px_calls.specs.Causes.{IsUndecided, Refuses, Stands, open_cause, stamp_at}
+use Rattle.px_calls.specs.Causes.{IsUndecided, Refuses, TableStands, open_cause, stamp_at}
 use Rattle.px_calls.specs.Known.{Known}
 use Rattle.px_calls.specs.declared.fault.StepFault.{StepFault}
 use Rattle.px_calls.specs.declared.fault.StepFault.TheVariants.{BelowHorizon, Memory, NoTable, NotYet}
 use Rattle.px_server.specs.Kept.{HasTallied, IsKept, IsTold, owed_by}
 use Rattle.px_server.specs.Others.{Beginning}
-use Rattle.px_server.specs.Points.{HasLeft, HasNoneLeft, IsNoPointOf, IsPointOf, point_under}
+use Rattle.px_server.specs.Points.{HasBatchLeft, HasNoneLeft, IsNoPointOf, IsPointOf, point_under}
 use Rattle.px_server.proofs.Acted.{acted_still, once_at, points_at, right_at, same_acted, tallied_at}
 use Rattle.px_server.proofs.Decided.{decided}
 use Rattle.px_server.proofs.Ended.{IsLeftBatch, left_batch}
@@ -74,7 +74,7 @@ all_written : (g : Group) (p : ℕ) → HasNoneLeft g p → AllByRecursion (λ (
 all_written g p none = each_at (λ (m : Begun). m.batch.stamp ≤ p → is_some m.batch.puts ≡ false) g.batches.items (λ n x at l. written_by (nat_le x.batch.stamp p) (is_some x.batch.puts) (none n x at) (le_true x.batch.stamp p l))
 
 -- what is to write is in its first phase, or in its second
-to_write : (p : Phase) (count : ℕ) (bd : BatchData) → IsStage p count bd → is_some bd.puts ≡ true → (as_phase p ≡ trail.Marking) ⊎ (as_phase p ≡ trail.Writing)
+to_write : (p : Phase) (count : ℕ) (bd : BatchData) → FitsPhase p count bd → is_some bd.puts ≡ true → (as_phase p ≡ trail.Marking) ⊎ (as_phase p ≡ trail.Writing)
 to_write Marking count bd stage some = inl refl
 to_write Writing count bd stage some = inr refl
 to_write Verifying count bd stage some = absurd (false≢true (sym (ap is_some stage.0) ∙ some))
@@ -83,11 +83,11 @@ to_write Closing count bd stage some = absurd (false≢true (sym (ap is_some sta
 true_le : (a b : ℕ) → nat_le a b ≡ true → a ≤ b
 true_le a b h = grind (arith, nat_tests)
 
-module _ (k : Known) (legal : IsLegal k.base k.seen) (g : Group) (hs : List HeldBatch) (right : IsRightGroup g) (tallied : IsTallied k.base k.seen g hs) (p s : ℕ) (left : HasLeft g p s) where
+module _ (k : Known) (legal : IsLegal k.base k.seen) (g : Group) (hs : List HeldBatch) (right : IsRightGroup g) (tallied : IsTallied k.base k.seen g hs) (p s : ℕ) (left : HasBatchLeft g p s) where
   told_phase : (y : Batch) × ((batch_of g.table.id.0 left.batch.batch.stamp k.seen ≡ Some y) × (phase_of y ≡ as_phase left.batch.phase))
   told_phase = phase_told k.base k.seen g hs tallied left.place left.batch left.is
 
-  is_in : (q : trail.BatchPhase) → as_phase left.batch.phase ≡ q → IsIn k.seen told_phase.0.seat g.table.id.0 left.batch.batch.stamp q
+  is_in : (q : trail.BatchPhase) → as_phase left.batch.phase ≡ q → IsBatchIn k.seen told_phase.0.seat g.table.id.0 left.batch.batch.stamp q
   is_in q same = record { batch = told_phase.0; is = told_phase.1.0; mine = refl; phase = told_phase.1.1 ∙ same }
 
   tests : (nat_le left.batch.batch.stamp p ≡ true) × (is_some left.batch.batch.puts ≡ true)
@@ -114,8 +114,8 @@ some_table : (o : Option Table) (x : Table) → o ≡ Some x → IsSome o
 some_table o x is = subst (λ (v : Option Table). IsSome v) (sym is) refl
 
 module _ (k : Known) (legal : IsLegal k.base k.seen) (closed : Option ℕ) (closing : closing_call k.seen ≡ closed) (running : closed ≡ None) (g : Group) (right : IsRightGroup g) (told : HasTallied k.base k.seen g) (t : TableId) (own : g.table.id ≡ t) where
-  stands_here : Stands k t.0
-  stands_here = subst (λ (x : TableId). Stands k x.0) own (some_table (table_of k.base k.seen g.table.id.0) g.table told.tallied.standing.table)
+  stands_here : TableStands k t.0
+  stands_here = subst (λ (x : TableId). TableStands k x.0) own (some_table (table_of k.base k.seen g.table.id.0) g.table told.tallied.standing.table)
 
   horizon_here : horizon_of k.base t.0 k.seen ≡ g.horizon
   horizon_here = ap (λ (x : TableId). horizon_of k.base x.0 k.seen) (sym own) ∙ told.tallied.horizon
@@ -166,7 +166,7 @@ module _ {D : Type 0} (d : Ghosts D) (b : Base) (sound premise : Type 0) (began 
   low = (let n = horizon_low b k.told.low es k.told.legal g.table.id.0 in let h = told_here.tallied.horizon in let m = told_here.tallied.last in omega (arith, n, h, m))
 
   -- the groups as they are where no room was found
-  pub opens_none : (g' : Group) → IsSameBeside g g' → g'.points.items ≡ g.points.items → (trail' : Recorded) → trail' ≡ trail → IsKept d b sound premise began disk catalog standing (slice_set groups place g') trail' late closed
+  pub opens_none : (g' : Group) → IsSameBesidePoints g g' → g'.points.items ≡ g.points.items → (trail' : Recorded) → trail' ≡ trail → IsKept d b sound premise began disk catalog standing (slice_set groups place g') trail' late closed
   opens_none g' beside points trail' same = subst (λ (r : Recorded). IsKept d b sound premise began disk catalog standing (slice_set groups place g') r late closed) (sym same)
       (acted_still d b sound premise began disk catalog standing groups trail late closed k place g inside is g' (same_acted d disk b es closed g g' beside points (points_at d b sound premise began disk catalog standing groups trail late closed k place g inside is) right_here told_here (once_at d b sound premise began disk catalog standing groups trail late closed k place g inside is running) running)
       (let

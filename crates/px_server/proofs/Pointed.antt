@@ -15,7 +15,7 @@ use Rattle.px_group.specs.Group.{AreTraced, IsRightBatch, IsRightGroup, IsShownB
 use Rattle.px_group.specs.declared.group.Begun.{Begun}
 use Rattle.px_defined.specs.Defined.{HasOnce}
 use Rattle.px_group.specs.declared.group.Group.{Group}
-use Rattle.px_noting.specs.Points.{IsSameBeside}
+use Rattle.px_noting.specs.Points.{IsSameBesidePoints}
 use Rattle.px_noting.proofs.OpenPoints.{same_group}
 use Rattle.px_noting.proofs.Others.{traced_elsewhere}
 use Rattle.px_reading.specs.Doubts.{IsToldBy}
@@ -42,7 +42,7 @@ right_batches g g' ms all = all_weaker (IsRightBatch g) (IsRightBatch (record g 
   shaped = record { puts = r.shaped.puts; marks = r.shaped.marks; closes = r.shaped.closes };
 }) ms all
 
-module _ (g g' : Group) (beside : IsSameBeside g g') where
+module _ (g g' : Group) (beside : IsSameBesidePoints g g') where
   abbrev moved : Group
   moved = record g { points = g'.points }
 

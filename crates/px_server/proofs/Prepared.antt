@@ -12,7 +12,7 @@ use Rattle.px_cells.specs.CellData.{CellData}
 use Rattle.px_cells.specs.Order.{ReadsSame}
 use Rattle.px_wal.specs.Files.{HasFile}
 use Rattle.px_region.specs.Promise.{IsSamePromise}
-use Rattle.px_region.specs.Region.{Holds, RegionData, Stands, data_of, read_of}
+use Rattle.px_region.specs.Region.{RegionData, RegionHolds, RegionStands, data_of, read_of}
 use Rattle.px_region.specs.declared.region.Region.{Region}
 use Rattle.px_cellshapes.specs.Keys.{AreRightKeys}
 use Rattle.px_cellshapes.specs.Rows.{AreRightRows}
@@ -41,7 +41,7 @@ use Rattle.px_server.proofs.Handed.{IndexShows, RowsShow, ToIndex, ToRows}
 -- ---- a region
 
 module _ {D : Type 0} (d : Ghosts D) (old new : Region) (disk disk' : D) where
-  pub steps_write : new.number ≡ old.number → (data_of new).horizon ≡ (data_of old).horizon → ((s : RegionData) → Holds d old disk s → LeavesOnly d disk disk' (λ moment image. Stands old.number image s)) → ((s : RegionData) → Holds d old disk s → TouchesOnly d disk disk' (HasFile old.number)) → Passes d disk disk' 4
+  pub steps_write : new.number ≡ old.number → (data_of new).horizon ≡ (data_of old).horizon → ((s : RegionData) → RegionHolds d old disk s → LeavesOnly d disk disk' (λ moment image. RegionStands old.number image s)) → ((s : RegionData) → RegionHolds d old disk s → TouchesOnly d disk disk' (HasFile old.number)) → Passes d disk disk' 4
       → WritesTo d old new disk disk' []
   steps_write number horizon leaves touches counts = record {
     number = number;
@@ -51,13 +51,13 @@ module _ {D : Type 0} (d : Ghosts D) (old new : Region) (disk disk' : D) where
     counts = counts;
   }
 
-  pub steps_written : ((s : RegionData) → Holds d old disk s → Holds d new disk' s) → read_of new ≡ read_of old → HasWritten d old new disk disk' []
+  pub steps_written : ((s : RegionData) → RegionHolds d old disk s → RegionHolds d new disk' s) → read_of new ≡ read_of old → HasWritten d old new disk disk' []
   steps_written done read = record {
-    holds = λ s holds. subst (λ (w : RegionData). Holds d new disk' w) (sym (same_data d old disk s holds)) (done s holds);
+    holds = λ s holds. subst (λ (w : RegionData). RegionHolds d new disk' w) (sym (same_data d old disk s holds)) (done s holds);
     reads = subst (λ (l : List CellData). ReadsSame l (read_of old)) (sym read) (λ c. (λ r. r, λ r. r));
   }
 
-  pub steps_done : {T E : Type 0} (result : Result T E) → ((s : RegionData) → Holds d old disk s → OnOk result (Holds d new disk' s)) → read_of new ≡ read_of old → OnOk result (HasWritten d old new disk disk' [])
+  pub steps_done : {T E : Type 0} (result : Result T E) → ((s : RegionData) → RegionHolds d old disk s → OnOk result (RegionHolds d new disk' s)) → read_of new ≡ read_of old → OnOk result (HasWritten d old new disk disk' [])
   steps_done (Ok x) done read = steps_written done read
   steps_done (Err e) done read = tt
 

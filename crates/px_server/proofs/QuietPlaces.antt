@@ -22,7 +22,7 @@ use Rattle.px_calls.specs.declared.fault.StepFault.{StepFault}
 use Rattle.px_calls.specs.declared.fault.StepFault.TheVariants as fault
 use Rattle.px_indexrow.specs.Form.{IsRightIndex}
 use Rattle.px_schema.specs.Counts.{HasNumbers}
-use Rattle.px_schema.specs.Records.{IsRight}
+use Rattle.px_schema.specs.Records.{IsRightCatalogItem}
 use Rattle.px_schema.specs.declared.item.CatalogItem.TheVariants.{IndexIs}
 use Rattle.px_schema.specs.declared.standing.Standing.{Standing}
 use Rattle.px_catalog.specs.Catalogue.{standing_of}
@@ -152,7 +152,7 @@ module _ {D : Type 0} (d : Ghosts D) (tells_left : (x : D) (moment file : ℕ) (
         (is_of, ((let n = last_is in omega (arith, n, above)), quiet))
 
     -- its new record is one that the catalogue may have
-    pub fits_put : (y : Index) → y.table ≡ x.table → IsRightIndex g.table y → CanRecord standing y → x.table.0 < 256 ^ 4 → IsRight (standing_of catalog) (IndexIs y)
+    pub fits_put : (y : Index) → y.table ≡ x.table → IsRightIndex g.table y → CanRecord standing y → x.table.0 < 256 ^ 4 → IsRightCatalogItem (standing_of catalog) (IndexIs y)
     fits_put y same right can short =
         fits_index d b sound premise began disk catalog standing groups trail late closed k at.running p.table g low g_is y right (same ∙ own_group) (subst (λ (u : TableId). u.0 < 256 ^ 4) (sym same) short) can
 

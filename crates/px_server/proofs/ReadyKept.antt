@@ -22,9 +22,9 @@ use Rattle.px_trail.specs.Trail.{Base, Catalogue, catalogue_of, catalogue_step, 
 use Rattle.px_trail.proofs.Growth.{catalogue-snoc}
 use Rattle.px_calls.specs.Requires.{is_based}
 use Rattle.px_indexed.specs.Idle.{IsElsewhere}
-use Rattle.px_region.specs.Region.{Holds}
+use Rattle.px_region.specs.Region.{RegionHolds}
 use Rattle.px_region.specs.declared.region.Region.{Region}
-use Rattle.px_schema.specs.Stands.{after}
+use Rattle.px_schema.specs.Stands.{stands_after}
 use Rattle.px_schema.specs.declared.item.CatalogItem.TheVariants.{IndexIs}
 use Rattle.px_schema.specs.declared.standing.Standing.{Standing}
 use Rattle.px_catalog.specs.Catalogue.{CatalogueStands, HasCatalogue, catalogue_files, standing_of}
@@ -40,7 +40,7 @@ use Rattle.px_defined.proofs.Lists.{same_at, set_cases, within}
 use Rattle.px_defined.proofs.Lists as placed
 use Rattle.px_defined.proofs.Once.{once_active}
 use Rattle.px_defined.proofs.Right.{right_active}
-use Rattle.px_recovery.specs.Folder.{AreFresh, AreUnmade, FolderData, IsAmong, region_numbers, regions_of, with_standing}
+use Rattle.px_recovery.specs.Folder.{AreFresh, AreUnmade, FolderData, IsNumberAmong, region_numbers, regions_of, with_standing}
 use Rattle.px_recovery.specs.Stands.{Explains, opened_index, opened_state}
 use Rattle.px_recovery.specs.Tables.{index_files, index_in}
 use Rattle.px_recovery.proofs.Readies.{index_ready as folder_ready}
@@ -73,7 +73,7 @@ module _ {D : Type 0} (d : Ghosts D) (tells_left : (x : D) (moment file : ℕ) (
     (low : horizon_of b g.table.id.0 trail.entries ≤ x.index.birth) (decided : IsDecided trail.entries g.table.id.0 x.index.birth)
     (all : sound → (r : List Value) → state_of b trail.entries g.table.id.0 r x.index.birth ≢ None → is_based trail.entries x.index.id.0 r ≡ true)
     (disk' : D) (at : e.calls ≡ d.calls disk') (passes : Passes d disk disk' 4) (touches : HasCatalogue d catalog disk → TouchesOnly d disk disk' catalogue_files)
-    (leaves : HasCatalogue d catalog disk → LeavesOnly d disk disk' (λ moment image. CatalogueStands image (standing_of catalog) ⊎ CatalogueStands image (after (standing_of catalog) (IndexIs (activated x.index))))) where
+    (leaves : HasCatalogue d catalog disk → LeavesOnly d disk disk' (λ moment image. CatalogueStands image (standing_of catalog) ⊎ CatalogueStands image (stands_after (standing_of catalog) (IndexIs (activated x.index))))) where
   abbrev es : List Entry
   es = trail.entries
 
@@ -110,13 +110,13 @@ module _ {D : Type 0} (d : Ghosts D) (tells_left : (x : D) (moment file : ℕ) (
   in_standing : index_in standing.indexes i.0 ≡ Some x.index
   in_standing = k.told.agrees.indexes i.0 ∙ stands
 
-  regions : (n : ℕ) → IsAmong n (regions_in (IndexIs y)) → IsAmong n (region_numbers (standing_of catalog)) ⊎ ((standing_of catalog).next ≤ n)
+  regions : (n : ℕ) → IsNumberAmong n (regions_in (IndexIs y)) → IsNumberAmong n (region_numbers (standing_of catalog)) ⊎ ((standing_of catalog).next ≤ n)
   regions n among = inl (let one : x.index.region ≡ n = eqb-true x.index.region n (or_none (nat_eq x.index.region n) among) in
-      subst (λ (r : ℕ). IsAmong r (region_numbers (standing_of catalog))) one (among_right x.index.region (flat_map regions_of (standing_of catalog).tables) (map (λ (w : Index). w.region) (standing_of catalog).indexes)
-      (subst (λ (rs : List ℕ). IsAmong x.index.region rs) (sym (same_regions (standing_of catalog) standing (k.told.same running))) (region_found standing.indexes i.0 x.index in_standing))))
+      subst (λ (r : ℕ). IsNumberAmong r (region_numbers (standing_of catalog))) one (among_right x.index.region (flat_map regions_of (standing_of catalog).tables) (map (λ (w : Index). w.region) (standing_of catalog).indexes)
+      (subst (λ (rs : List ℕ). IsNumberAmong x.index.region rs) (sym (same_regions (standing_of catalog) standing (k.told.same running))) (region_found standing.indexes i.0 x.index in_standing))))
 
   explains : sound → (f : FolderData) (v : ℕ → GroupData) → f.standing ≡ standing_of catalog → AreUnmade f → AllByRecursion (HasShown b es f.standing.indexes v) groups → AllByRecursion (IsOnDisk d disk f) groups → Explains b es f v
-      → Explains b es' (with_standing (after f.standing (IndexIs y)) f) (with_part v t.0 (ready_data m (v t.0)))
+      → Explains b es' (with_standing (stands_after f.standing (IndexIs y)) f) (with_part v t.0 (ready_data m (v t.0)))
   explains given f v fs unmade shown on told = (let
       here : HasShown b es f.standing.indexes v g = all_at (HasShown b es f.standing.indexes v) groups place g l g_is shown
       in let
@@ -135,7 +135,7 @@ module _ {D : Type 0} (d : Ghosts D) (tells_left : (x : D) (moment file : ℕ) (
       files = files_ready b es e may g elsewhere m x x_is index (v t.0) here.held here.shown comes here.told d disk f part.number (held.indexes m x x_is)
       in let
       kept = kept_ready b es e may g elsewhere m x x_is index (v t.0) here.held here.shown comes
-      in subst (λ (w : Index). Explains b es' (with_standing (after f.standing (IndexIs w)) f) (with_part v t.0 (ready_data m (v t.0)))) z.1.1
+      in subst (λ (w : Index). Explains b es' (with_standing (stands_after f.standing (IndexIs w)) f) (with_part v t.0 (ready_data m (v t.0)))) z.1.1
       (folder_ready b es f v told e may t i s is g.table found z.0 z.1.0 (ap (λ (w : Index). w.table.0) z.1.1 ∙ ap (λ (u : TableId). u.0) part.table) m inside ((here.shown.parts m x x_is).id ∙ ap (λ (n : IndexId). n.0) id)
       (subst (λ (w : Index). IsFilesOf (record (get_or (v t.0).indexes m no_part) { is_built = true }) (index_files f.regions w)) (sym z.1.1) files) kept))
 
@@ -145,8 +145,8 @@ module _ {D : Type 0} (d : Ghosts D) (tells_left : (x : D) (moment file : ℕ) (
   ready_failed shut call shut-is shut_at failed catalog' trail' entries room =
       define_failed d tells_left up_to_now b sound premise began disk catalog standing groups trail late closed k running disk' (IndexIs y) passes touches leaves regions t e own may at (λ v. with_part v t.0 (ready_data m (v t.0))) explains shut call shut-is shut_at failed catalog' trail' entries room
 
-  agrees : Agrees (after standing (IndexIs y)) (catalogue_of b es')
-  agrees = subst (λ (w : Catalogue). Agrees (after standing (IndexIs y)) w) (sym (catalogue-snoc b es e ∙ ap (catalogue_step c) is)) (agrees_ready standing c k.told.agrees t i s x.index in_standing)
+  agrees : Agrees (stands_after standing (IndexIs y)) (catalogue_of b es')
+  agrees = subst (λ (w : Catalogue). Agrees (stands_after standing (IndexIs y)) w) (sym (catalogue-snoc b es e ∙ ap (catalogue_step c) is)) (agrees_ready standing c k.told.agrees t i s x.index in_standing)
 
   module _ (g' : Group) (a : HasActive g g' m) where
     same : x ≡ a.index
@@ -170,17 +170,17 @@ module _ {D : Type 0} (d : Ghosts D) (tells_left : (x : D) (moment file : ℕ) (
     tallied' : HasTallied b es' g'
     tallied' = has_tallied_ready b es e may t i s is g g' refl m a id' once tallied
 
-    own_disk : IsTrue d.tells → (f : FolderData) → f.standing ≡ standing_of catalog → AreFresh d disk' f.standing.next → AreUnmade f → IsOnDisk d disk' f g → IsOnDisk d disk' (with_standing (after f.standing (IndexIs y)) f) g'
+    own_disk : IsTrue d.tells → (f : FolderData) → f.standing ≡ standing_of catalog → AreFresh d disk' f.standing.next → AreUnmade f → IsOnDisk d disk' f g → IsOnDisk d disk' (with_standing (stands_after f.standing (IndexIs y)) f) g'
     own_disk tells f fs fresh unmade on = record {
-      rows = subst (λ (w : Region). Holds d w disk' (f.regions w.number)) (sym a.beside.rows) on.rows;
+      rows = subst (λ (w : Region). RegionHolds d w disk' (f.regions w.number)) (sym a.beside.rows) on.rows;
       indexes = λ j z there. elim (set_cases g.indexes.items m j (active a.index) z (sym (ap (λ (zs : List IndexRegion). slice_get zs j) a.indexes) ∙ there)) [
-        | inl here ↦ subst (λ (w : IndexRegion). Holds d w.region disk' (f.regions w.region.number)) (sym here.1) (on.indexes m a.index a.is)
+        | inl here ↦ subst (λ (w : IndexRegion). RegionHolds d w.region disk' (f.regions w.region.number)) (sym here.1) (on.indexes m a.index a.is)
         | inr other ↦ on.indexes j z other.1
       ];
     }
 
-    pub ready_kept : (catalog' : Catalog) → (HasCatalogue d catalog disk → HasCatalogue d catalog' disk') → standing_of catalog' ≡ after (standing_of catalog) (IndexIs y) → (trail' : Recorded) → trail'.entries ≡ es ++ e ∷ [] → trail'.room + 1 ≡ trail.room → 2 + sum_by owed groups ≤ trail.room
-        → IsKept d b sound premise began disk' catalog' (after standing (IndexIs y)) (slice_set groups place g') trail' late closed
+    pub ready_kept : (catalog' : Catalog) → (HasCatalogue d catalog disk → HasCatalogue d catalog' disk') → standing_of catalog' ≡ stands_after (standing_of catalog) (IndexIs y) → (trail' : Recorded) → trail'.entries ≡ es ++ e ∷ [] → trail'.room + 1 ≡ trail.room → 2 + sum_by owed groups ≤ trail.room
+        → IsKept d b sound premise began disk' catalog' (stands_after standing (IndexIs y)) (slice_set groups place g') trail' late closed
     ready_kept catalog' stored defined trail' entries room enough =
         index_kept d tells_left up_to_now b sound premise began disk catalog standing groups trail late closed k running disk' (IndexIs y) passes touches leaves regions t e own may at (ready_data m) explains catalog' stored defined agrees refl
         place g g' l g_is refl a.beside.table (same_owed g g' a.beside)

@@ -12,7 +12,7 @@ use Rattle.px_trail.specs.Trail.{closing_call, last_of}
 use Rattle.px_trail.specs.declared.entry.Act.TheVariants.{Begun}
 use Rattle.px_trail.specs.declared.entry.Entry.{Entry}
 use Rattle.px_calls.specs.Calls.{DidBegin}
-use Rattle.px_calls.specs.Causes.{HasLongKey, LacksTable, Refuses, Stands, begin_cause}
+use Rattle.px_calls.specs.Causes.{HasLongKey, LacksTable, Refuses, TableStands, begin_cause}
 use Rattle.px_calls.specs.Known.{Known}
 use Rattle.px_calls.specs.declared.fault.StepFault.{StepFault}
 use Rattle.px_calls.specs.declared.fault.StepFault.TheVariants.{Busy, Limit, Memory, NoTable, NotReady}
@@ -33,7 +33,7 @@ module _ (k : Known) (legal : IsLegal k.base k.seen) (running : closing_call k.s
   pub begun_no_table : LacksTable k t → Refuses (begin_cause sound t cs) k k NoTable
   begun_no_table lacks = (lacks, stays k legal, running)
 
-  module _ (stands : Stands k t) (g : Group) (last : last_of k.base t k.seen ≡ g.last) (long : g.last ≤ most_of bound.Stamps → NeedsLongKey g cs → sound → HasLongKey k.base k.seen t cs) where
+  module _ (stands : TableStands k t) (g : Group) (last : last_of k.base t k.seen ≡ g.last) (long : g.last ≤ most_of bound.Stamps → NeedsLongKey g cs → sound → HasLongKey k.base k.seen t cs) where
     unready : (f : StepFault) → unready_cause g cs f → Refuses (begin_cause sound t cs) k k f
     unready (Limit bound.Key count) c = ((stands, c.0, long c.2 c.1), stays k legal, running)
     unready (Limit bound.Cells count) c = ((stands, c.0, tt), stays k legal, running)

@@ -1,7 +1,7 @@
 -- A step of the catalogue's renewal: the same stands after it, and what is true of a server stays so.
 use Rattle.std.proofs.Common.{◌≡◌, ◌<◌, ◌≤◌, ◌+◌, inl, ℕ, Option, Some, None, List, [], ◌∷◌, ◌++◌, refl, sym, ap, subst, ◌∙◌, arith}
 use Rattle.std.specs.Prelude.{IsTrue}
-use Rattle.px_outside.specs.Disk.{Image, IsLeft}
+use Rattle.px_outside.specs.Disk.{Image, IsLeftBy}
 use Rattle.px_outside.specs.OnDisk.{LeavesOnly, Rose}
 use Rattle.px_outside.specs.Standing.{StandsIn}
 use Rattle.px_outside.specs.declared.disk.Disk.{Ghosts}
@@ -16,9 +16,9 @@ use Rattle.px_catalog.proofs.Holding.{catalogue_stands}
 use Rattle.px_groupworld.specs.Group.{GroupData}
 use Rattle.px_group.specs.declared.group.Group.{Group}
 use Rattle.px_recovery.specs.Folder.{FolderData}
-use Rattle.px_recovery.specs.Kept.{GoesOn, LeavesFolder, MovesFolder}
+use Rattle.px_recovery.specs.Kept.{FolderGoesOn, LeavesFolder, MovesFolder}
 use Rattle.px_recovery.proofs.Definitions.{catalogue_kept, catalogue_stays}
-use Rattle.px_server.specs.Kept.{HasParts, IsKept, IsTold, spare}
+use Rattle.px_server.specs.Kept.{HasServerParts, IsKept, IsTold, spare}
 use Rattle.px_server.specs.Others.{Beginning, OthersStay}
 use Rattle.px_server.specs.inner.Renewing.{HasRenewed, Renews}
 use Rattle.px_server.proofs.Blamed.{blamed_on, failed_rose}
@@ -35,18 +35,18 @@ module _ {D : Type 0} (d : Ghosts D) (tells_left : (x : D) (moment file : ℕ) (
   es = trail.entries
 
   abbrev Has : D → List Entry → FolderData → (ℕ → GroupData) → Type 0
-  Has = HasParts d b sound catalog groups
+  Has = HasServerParts d b sound catalog groups
 
   abbrev Then : D → List Entry → FolderData → (ℕ → GroupData) → Type 0
-  Then = HasParts d b sound catalog' groups
+  Then = HasServerParts d b sound catalog' groups
 
-  past : premise → IsTrue d.tells → (moment : ℕ) (image : Image) → moment < d.calls disk → IsLeft d.left disk' moment image → IsLeft d.left disk moment image
+  past : premise → IsTrue d.tells → (moment : ℕ) (image : Image) → moment < d.calls disk → IsLeftBy d.left disk' moment image → IsLeftBy d.left disk moment image
   past given tells moment image before is file = (r.touches (k.server.goes_on running given tells).has.stored).past moment file (image file) before (is file)
 
   others_on_disk : premise → IsTrue d.tells → OthersStay d b began disk' es
   others_on_disk given tells = others_on d b began es disk disk' catalogue_files (λ file own. inl own) (r.touches (k.server.goes_on running given tells).has.stored) (k.others given tells)
 
-  left_now : (goes : GoesOn d b Has disk es) → LeavesFolder d b disk disk' es goes.folder
+  left_now : (goes : FolderGoesOn d b Has disk es) → LeavesFolder d b disk disk' es goes.folder
   left_now goes = (let
       f = goes.folder
       in let
@@ -76,7 +76,7 @@ module _ {D : Type 0} (d : Ghosts D) (tells_left : (x : D) (moment file : ℕ) (
 
   -- the catalogue goes on
   module _ (stored : HasRenewed d catalog catalog' disk disk') where
-    moves : (goes : GoesOn d b Has disk es) → MovesFolder d b Then disk disk' es goes.folder
+    moves : (goes : FolderGoesOn d b Has disk es) → MovesFolder d b Then disk disk' es goes.folder
     unfolding left_now
     moves goes = (let
         f = goes.folder

@@ -11,11 +11,11 @@ use Rattle.px_catalog.specs.declared.catalog.Catalog.{Catalog}
 use Rattle.px_region.specs.declared.region.Region.{Region}
 use Rattle.px_group.specs.declared.group.Group.{Group}
 use Rattle.px_group.specs.declared.group.IndexRegion.{IndexRegion}
-use Rattle.px_defined.specs.Defined.{IsSame}
+use Rattle.px_defined.specs.Defined.{IsSameTable}
 use Rattle.px_reading.specs.Looked.{AreLookedAt, HasLooked, IsLookedAt}
 use Rattle.px_reading.proofs.Looked.{no_look, no_looks}
 use Rattle.px_recovery.specs.Kept.{IsServer}
-use Rattle.px_server.specs.Kept.{AreGroups, AreShown, HasFailed, HasParts, IsKept, IsTold, has_told}
+use Rattle.px_server.specs.Kept.{AreGroups, AreShown, HasFailed, HasServerParts, IsKept, IsTold, has_told}
 use Rattle.px_server.specs.Others.{Beginning, OthersStay}
 
 -- of the trail
@@ -25,7 +25,7 @@ roomy d b sound premise began disk catalog standing groups trail late closed k t
   told = subst (λ (es : List Entry). IsTold b es closed (standing_of catalog) standing) (sym same) k.told;
   each = subst (λ (es : List Entry). AreGroups b es closed standing.tables groups) (sym same) k.each;
   shown = λ given running. subst (λ (es : List Entry). AreShown b es standing.indexes groups) (sym same) (k.shown given running);
-  server = subst (λ (es : List Entry). IsServer d b premise (HasParts d b sound catalog groups) disk es late closed) (sym same) k.server;
+  server = subst (λ (es : List Entry). IsServer d b premise (HasServerParts d b sound catalog groups) disk es late closed) (sym same) k.server;
   room = (let room = k.room in omega (arith, room, more));
   blamed = subst (λ (es : List Entry). has_told es ≡ true → HasFailed d disk) (sym same) k.blamed;
   last_call = k.last_call;
@@ -33,7 +33,7 @@ roomy d b sound premise began disk catalog standing groups trail late closed k t
 }
 
 -- of a group
-pub same_looked : (g g' : Group) → IsSame g g' → HasLooked g g'
+pub same_looked : (g g' : Group) → IsSameTable g g' → HasLooked g g'
 same_looked g g' s = record {
   table = s.beside.table;
   rows = subst (λ (r : Region). IsLookedAt g.rows r) (sym s.beside.rows) (no_look g.rows);

@@ -10,7 +10,7 @@ use Rattle.px_values.specs.declared.row.Value.{Value}
 use Rattle.px_tables.specs.declared.table.Table.{Table}
 use Rattle.px_trail.specs.declared.entry.Act.TheVariants.{Shut, Wrote}
 use Rattle.px_trail.specs.declared.entry.Entry.{Entry}
-use Rattle.px_trail.specs.Batches.{Batch, IsIn, Verifying as InVerifying, Writing as InWriting, batch_of, batch_step, rows_of}
+use Rattle.px_trail.specs.Batches.{Batch, IsBatchIn, Verifying as InVerifying, Writing as InWriting, batch_of, batch_step, rows_of}
 use Rattle.px_trail.specs.Legal.{Follows, IsLegal, IsWritable, MayCome}
 use Rattle.px_trail.specs.Recorded.{Recorded}
 use Rattle.px_trail.specs.Trail.{Base, catalogue_step, closing_call, open_points, points_step}
@@ -26,13 +26,13 @@ use Rattle.px_group.specs.declared.group.Group.{Group}
 use Rattle.px_group.specs.declared.group.Phase.{Phase}
 use Rattle.px_group.specs.declared.group.Phase.TheVariants.{Verifying, Writing}
 use Rattle.px_batching.specs.Known.{own_of}
-use Rattle.px_batching.specs.Steps.{HandsPuts, IsAt, IsBatchStep, IsBlocked, IsFree, IsSeat, TakesRows, WaitsFor, WrotePuts}
+use Rattle.px_batching.specs.Steps.{HandsPuts, IsBatchStep, IsBlocked, IsOfSeat, IsUnblocked, StandsInPhase, TakesRows, WaitsFor, WrotePuts}
 use Rattle.px_batching.proofs.May.{in_phase, stamp_is, waits, writable}
 use Rattle.px_batching.proofs.Places.{same_at, set_here, within}
 use Rattle.px_batching.proofs.Right.{right_puts}
 use Rattle.px_batching.proofs.Tallied.{tallied_wrote}
 use Rattle.px_batching.proofs.Traced.{traced_puts}
-use Rattle.px_noting.specs.Apart.{IsApart}
+use Rattle.px_noting.specs.Apart.{IsApartFrom}
 use Rattle.px_reading.proofs.Looked.{got}
 use Rattle.px_recovery.proofs.Server.{newest_early}
 use Rattle.px_calls.specs.Calls.{DidWrite}
@@ -64,7 +64,7 @@ owed_on g g' m x x' s = (let
     in omega (arith, one, was, now, points))
 
 -- the batch of the trail is this seat's
-pub seat_of_batch : (es : List Entry) (t s seat : ℕ) (x : Batch) → batch_of t s es ≡ Some x → x.seat ≡ seat → IsSeat es t s seat
+pub seat_of_batch : (es : List Entry) (t s seat : ℕ) (x : Batch) → batch_of t s es ≡ Some x → x.seat ≡ seat → IsOfSeat es t s seat
 seat_of_batch es t s seat x is mine y there = ap (λ (z : Batch). z.seat) (same_batch (sym there ∙ is)) ∙ mine
 
 -- a batch stays its seat's
@@ -72,7 +72,7 @@ step_seat : (v : Bool) (x z y : Batch) → z.seat ≡ x.seat → (if v then Some
 step_seat true x z y same is = (let e : z ≡ y = cc in ap (λ (q : Batch). q.seat) (sym e) ∙ same)
 step_seat false x z y same is = (let e : x ≡ y = cc in ap (λ (q : Batch). q.seat) (sym e))
 
-seat_then : (es : List Entry) (t : TableId) (s seat calls : ℕ) (rows : List (List Value)) → IsIn es seat t.0 s InWriting → IsSeat (es ++ record { seat = seat; calls = calls; act = Wrote t s rows } ∷ []) t.0 s seat
+seat_then : (es : List Entry) (t : TableId) (s seat calls : ℕ) (rows : List (List Value)) → IsBatchIn es seat t.0 s InWriting → IsOfSeat (es ++ record { seat = seat; calls = calls; act = Wrote t s rows } ∷ []) t.0 s seat
 unfolding batch_step
 seat_then es t s seat calls rows mine y there =
     step_seat ((t.0 == t.0) && (s == s)) mine.batch (record mine.batch { written = mine.batch.written ++ rows }) y refl
@@ -82,8 +82,8 @@ seat_then es t s seat calls rows mine y there =
 module _ {D : Type 0} (d : Ghosts D) (tells_left : (x : D) (moment file : ℕ) (bytes : List ℕ) → d.left x moment file bytes → IsTrue d.tells)
     (up_to_now : (x : D) (moment file : ℕ) (bytes : List ℕ) → d.left x moment file bytes → moment ≤ d.calls x) (b : Base) (sound premise : Type 0) (began : Beginning)
     (disk : D) (catalog : Catalog) (standing : Standing) (groups : List Group) (trail : Recorded) (late : Option Entry) (closed : Option ℕ) (k : IsKept d b sound premise began disk catalog standing groups trail late closed)
-    (running : closed ≡ None) (place : ℕ) (g g' : Group) (l : place < length groups) (is : get_or groups place g ≡ g) (disk' : D) (m : ℕ) (phase : Phase) (o : HandsPuts d g g' disk disk' m phase) (free : IsFree g m)
-    (t : TableId) (s seat calls : ℕ) (own : g.table.id ≡ t) (stamp : o.batch.batch.stamp ≡ s) (mine : IsIn trail.entries seat t.0 s InWriting) (rows : List (List Value)) (rows_are : rows ≡ rows_of o.batch.batch.changes) (at : calls ≡ d.calls disk') where
+    (running : closed ≡ None) (place : ℕ) (g g' : Group) (l : place < length groups) (is : get_or groups place g ≡ g) (disk' : D) (m : ℕ) (phase : Phase) (o : HandsPuts d g g' disk disk' m phase) (free : IsUnblocked g m)
+    (t : TableId) (s seat calls : ℕ) (own : g.table.id ≡ t) (stamp : o.batch.batch.stamp ≡ s) (mine : IsBatchIn trail.entries seat t.0 s InWriting) (rows : List (List Value)) (rows_are : rows ≡ rows_of o.batch.batch.changes) (at : calls ≡ d.calls disk') where
   abbrev es : List Entry
   es = trail.entries
 
@@ -99,8 +99,8 @@ module _ {D : Type 0} (d : Ghosts D) (tells_left : (x : D) (moment file : ℕ) (
   abbrev x : Begun
   x = o.batch
 
-  own_seat : IsSeat es g.table.id.0 x.batch.stamp seat
-  own_seat = subst (λ (u : TableId). IsSeat es u.0 x.batch.stamp seat) (sym own) (subst (λ (n : ℕ). IsSeat es t.0 n seat) (sym stamp) (seat_of_batch es t.0 s seat mine.batch mine.is mine.mine))
+  own_seat : IsOfSeat es g.table.id.0 x.batch.stamp seat
+  own_seat = subst (λ (u : TableId). IsOfSeat es u.0 x.batch.stamp seat) (sym own) (subst (λ (n : ℕ). IsOfSeat es t.0 n seat) (sym stamp) (seat_of_batch es t.0 s seat mine.batch mine.is mine.mine))
 
   -- the rows may be written
   pub may_write : IsWritable es seat t.0 s rows
@@ -121,7 +121,7 @@ module _ {D : Type 0} (d : Ghosts D) (tells_left : (x : D) (moment file : ℕ) (
   act : e.act ≡ Wrote g.table.id x.batch.stamp (rows_of x.batch.changes)
   act = λ i. Wrote (sym own i) (sym stamp i) (rows_are i)
 
-  apart : (id : TableId) → id.0 ≢ number_in g → IsApart id e.act
+  apart : (id : TableId) → id.0 ≢ number_in g → IsApartFrom id e.act
   apart id other same = other (sym same ∙ ap (λ (u : TableId). u.0) (sym own))
 
   of : IsOfTable b es (number_in g) e
@@ -153,8 +153,8 @@ module _ {D : Type 0} (d : Ghosts D) (tells_left : (x : D) (moment file : ℕ) (
 module _ {D : Type 0} (d : Ghosts D) (tells_left : (x : D) (moment file : ℕ) (bytes : List ℕ) → d.left x moment file bytes → IsTrue d.tells)
     (up_to_now : (x : D) (moment file : ℕ) (bytes : List ℕ) → d.left x moment file bytes → moment ≤ d.calls x) (b : Base) (sound premise : Type 0) (began : Beginning)
     (disk : D) (catalog : Catalog) (standing : Standing) (groups : List Group) (trail : Recorded) (late : Option Entry) (closed : Option ℕ) (k : IsKept d b sound premise began disk catalog standing groups trail late closed)
-    (running : closed ≡ None) (place : ℕ) (g g' : Group) (l : place < length groups) (is : get_or groups place g ≡ g) (disk' : D) (m : ℕ) (w : WrotePuts d g g' disk disk' m) (free : IsFree g m)
-    (t : TableId) (s seat calls : ℕ) (own : g.table.id ≡ t) (stamp : w.hands.batch.batch.stamp ≡ s) (mine : IsIn trail.entries seat t.0 s InWriting) (rows : List (List Value)) (rows_are : rows ≡ rows_of w.hands.batch.batch.changes) (at : calls ≡ d.calls disk') where
+    (running : closed ≡ None) (place : ℕ) (g g' : Group) (l : place < length groups) (is : get_or groups place g ≡ g) (disk' : D) (m : ℕ) (w : WrotePuts d g g' disk disk' m) (free : IsUnblocked g m)
+    (t : TableId) (s seat calls : ℕ) (own : g.table.id ≡ t) (stamp : w.hands.batch.batch.stamp ≡ s) (mine : IsBatchIn trail.entries seat t.0 s InWriting) (rows : List (List Value)) (rows_are : rows ≡ rows_of w.hands.batch.batch.changes) (at : calls ≡ d.calls disk') where
   abbrev es2 : List Entry
   es2 = trail.entries
 
@@ -188,7 +188,7 @@ module _ {D : Type 0} (d : Ghosts D) (tells_left : (x : D) (moment file : ℕ) (
       in omega (arith, one, was, room))
 
   -- the batch is to verify then
-  pub verifies_then : IsIn (es2 ++ e2 ∷ []) seat t.0 s InVerifying
+  pub verifies_then : IsBatchIn (es2 ++ e2 ∷ []) seat t.0 s InVerifying
   verifies_then = (let
       a = all_at (HasTallied b es2) groups place g l is (k.each.tallied running)
       in let
@@ -199,13 +199,13 @@ module _ {D : Type 0} (d : Ghosts D) (tells_left : (x : D) (moment file : ℕ) (
       there : slice_get g'.batches.items m ≡ Some x' = ap (λ (ms : List Begun). slice_get ms m) w.hands.step.step.batches ∙ set_here g.batches.items m w.hands.batch x' w.hands.step.step.batch
       in let
       is_in = in_phase b (es2 ++ e2 ∷ []) g' (held_wrote (own_of m a.held).stamp (rows_of w.hands.batch.batch.changes) a.held) after m Verifying (record { batch = x'; is = there; phase_is = refl }) seat
-      (subst (λ (u : TableId). IsSeat (es2 ++ e2 ∷ []) u.0 w.hands.batch.batch.stamp seat) (sym (ap (λ (y : Table). y.id) w.hands.step.step.table ∙ own)) (subst (λ (n : ℕ). IsSeat (es2 ++ e2 ∷ []) t.0 n seat) (sym stamp) (seat_then es2 t s seat calls rows mine)))
-      in subst (λ (u : TableId). IsIn (es2 ++ e2 ∷ []) seat u.0 s InVerifying) (ap (λ (y : Table). y.id) w.hands.step.step.table ∙ own) (subst (λ (n : ℕ). IsIn (es2 ++ e2 ∷ []) seat g'.table.id.0 n InVerifying) stamp is_in))
+      (subst (λ (u : TableId). IsOfSeat (es2 ++ e2 ∷ []) u.0 w.hands.batch.batch.stamp seat) (sym (ap (λ (y : Table). y.id) w.hands.step.step.table ∙ own)) (subst (λ (n : ℕ). IsOfSeat (es2 ++ e2 ∷ []) t.0 n seat) (sym stamp) (seat_then es2 t s seat calls rows mine)))
+      in subst (λ (u : TableId). IsBatchIn (es2 ++ e2 ∷ []) seat u.0 s InVerifying) (ap (λ (y : Table). y.id) w.hands.step.step.table ∙ own) (subst (λ (n : ℕ). IsBatchIn (es2 ++ e2 ∷ []) seat g'.table.id.0 n InVerifying) stamp is_in))
 
 -- ---- what the call answers
 
 module _ (k : Known) (legal : IsLegal k.base k.seen) (t : Ticket) where
-  pub did_write : (es' : List Entry) (calls : ℕ) (rows : List (List Value)) → es' ≡ k.seen ++ record { seat = k.seat; calls = calls; act = Wrote t.table t.stamp rows } ∷ [] → IsLegal k.base es' → IsIn es' k.seat t.table.0 t.stamp InVerifying → DidWrite k (record k { seen = es' }) t AllWritten
+  pub did_write : (es' : List Entry) (calls : ℕ) (rows : List (List Value)) → es' ≡ k.seen ++ record { seat = k.seat; calls = calls; act = Wrote t.table t.stamp rows } ∷ [] → IsLegal k.base es' → IsBatchIn es' k.seat t.table.0 t.stamp InVerifying → DidWrite k (record k { seen = es' }) t AllWritten
   did_write es' calls rows after legal' next = record { rows = rows; adds = one_more k es' calls (Wrote t.table t.stamp rows) legal after legal'; next = next }
 
   pub not_yet : closing_call k.seen ≡ None → (earlier : ℕ) → WaitsFor k.seen t.table.0 t.stamp earlier → Refuses (rows_cause t.table.0 t.stamp) k k (NotYet earlier)
@@ -222,12 +222,12 @@ module _ (k : Known) (legal : IsLegal k.base k.seen) (t : Ticket) where
 
 module _ {D : Type 0} (d : Ghosts D) (tells_left : (x : D) (moment file : ℕ) (bytes : List ℕ) → d.left x moment file bytes → IsTrue d.tells)
     (up_to_now : (x : D) (moment file : ℕ) (bytes : List ℕ) → d.left x moment file bytes → moment ≤ d.calls x) (b : Base) (sound premise : Type 0) (began : Beginning) (disk : D) (catalog : Catalog) (standing : Standing) (groups : List Group) (trail : Recorded) (late : Option Entry) (closed : Option ℕ)
-    (k : IsKept d b sound premise began disk catalog standing groups trail late closed) (t : Ticket) (seat : ℕ) (mine : IsIn trail.entries seat t.table.0 t.stamp InWriting) (running : closed ≡ None) (place : ℕ) (found : place < length standing.tables)
+    (k : IsKept d b sound premise began disk catalog standing groups trail late closed) (t : Ticket) (seat : ℕ) (mine : IsBatchIn trail.entries seat t.table.0 t.stamp InWriting) (running : closed ≡ None) (place : ℕ) (found : place < length standing.tables)
     (numbered : (none : Table) → (get_or standing.tables place none).id ≡ t.table) (g : Group) (read : g ≡ get_or groups place g) (m : ℕ) (l : m < length g.batches.items) (stamp : (x : Begun) → slice_get g.batches.items m ≡ Some x → x.batch.stamp ≡ t.stamp) where
   open_ : mine.batch.ended ≡ false
   open_ = (in_writing mine.batch mine.phase).0
 
-  pub writing_there : IsAt g m Writing
+  pub writing_there : StandsInPhase g m Writing
   writing_there = batch_is d b sound premise began disk catalog standing groups trail late closed k t seat Writing mine open_ running place found numbered g read m l stamp
 
   -- where it is blocked it waits for the other
@@ -251,14 +251,14 @@ module _ {D : Type 0} (d : Ghosts D) (tells_left : (x : D) (moment file : ℕ) (
   abbrev entry : ℕ → List (List Value) → Entry
   entry calls rows = record { seat = seat; calls = calls; act = Wrote t.table t.stamp rows }
 
-  module _ (g' : Group) (disk' : D) (free : IsFree g m) (rows : List (List Value)) (takes : TakesRows g m rows) (calls : ℕ) (at : calls ≡ d.calls disk') where
+  module _ (g' : Group) (disk' : D) (free : IsUnblocked g m) (rows : List (List Value)) (takes : TakesRows g m rows) (calls : ℕ) (at : calls ≡ d.calls disk') where
     -- its rows are written
     pub wrote_kept : WrotePuts d g g' disk disk' m → (trail' : Recorded) → trail'.entries ≡ trail.entries ++ entry calls rows ∷ [] → trail'.room + 1 ≡ trail.room → IsKept d b sound premise began disk' catalog standing (slice_set groups place g') trail' late closed
     wrote_kept w trail' entries room =
         write_told d tells_left up_to_now b sound premise began disk catalog standing groups trail late closed k running place g g' inside (sym read) disk' m w free t.table t.stamp seat calls own_is (stamp w.hands.batch w.hands.step.step.batch) mine
         rows (rows_same rows takes w.hands.batch w.hands.step.step.batch) at trail' entries room
 
-    pub wrote_in : WrotePuts d g g' disk disk' m → IsIn (trail.entries ++ entry calls rows ∷ []) seat t.table.0 t.stamp InVerifying
+    pub wrote_in : WrotePuts d g g' disk disk' m → IsBatchIn (trail.entries ++ entry calls rows ∷ []) seat t.table.0 t.stamp InVerifying
     wrote_in w =
         verifies_then d tells_left up_to_now b sound premise began disk catalog standing groups trail late closed k running place g g' inside (sym read) disk' m w free t.table t.stamp seat calls own_is (stamp w.hands.batch w.hands.step.step.batch) mine
         rows (rows_same rows takes w.hands.batch w.hands.step.step.batch) at

@@ -6,7 +6,7 @@ use Rattle.px_values.specs.declared.name.TableId.{TableId}
 use Rattle.px_trail.specs.declared.entry.Act.{Act}
 use Rattle.px_trail.specs.declared.entry.Act.TheVariants.{Made, IndexMade, IndexState, Dropped, Begun, Phase, Wrote, Ended, Opened, Released, Raised, Fixed, Based, Missed, Shut}
 use Rattle.px_trail.specs.declared.entry.Entry.{Entry}
-use Rattle.px_trail.specs.Batches.{Batch, IsIn, batch_from, batch_of, batch_step, phase_of}
+use Rattle.px_trail.specs.Batches.{Batch, IsBatchIn, batch_from, batch_of, batch_step, phase_of}
 use Rattle.px_trail.specs.Legal.{Follows, IsLegal, MayCome}
 use Rattle.px_trail.specs.Trail.{Base, catalogue_of, catalogue_step, made_table, set_number, table_of}
 use Rattle.px_trail.proofs.Growth.{batch_of-snoc, catalogue-snoc, legal-induct}
@@ -20,7 +20,7 @@ use Rattle.px_group.specs.declared.group.Begun.{Begun as OpenBatch}
 use Rattle.px_group.specs.declared.group.Group.{Group}
 use Rattle.px_group.specs.declared.group.Phase.{Phase as GroupPhase}
 use Rattle.px_group.specs.declared.group.Phase.TheVariants.{Marking, Writing, Verifying, Closing}
-use Rattle.px_batching.specs.Steps.{IsAt}
+use Rattle.px_batching.specs.Steps.{StandsInPhase}
 use Rattle.px_batching.proofs.Pairs.{tied_at, to_tied}
 
 -- ---- its table stands
@@ -181,7 +181,7 @@ some_at (x ∷ xs) zero l = (x, refl)
 some_at (x ∷ xs) (suc i) l = some_at xs i (omega (arith, l))
 
 -- the batch at the place of its stamp
-pub is_at : (b : Base) (es : List Entry) (g : Group) (hs : List HeldBatch) → IsTallied b es g hs → (m s : ℕ) → m < length g.batches.items → ((x : OpenBatch) → slice_get g.batches.items m ≡ Some x → x.batch.stamp ≡ s) → (p : GroupPhase) (seat : ℕ) → IsIn es seat g.table.id.0 s (as_phase p) → IsAt g m p
+pub is_at : (b : Base) (es : List Entry) (g : Group) (hs : List HeldBatch) → IsTallied b es g hs → (m s : ℕ) → m < length g.batches.items → ((x : OpenBatch) → slice_get g.batches.items m ≡ Some x → x.batch.stamp ≡ s) → (p : GroupPhase) (seat : ℕ) → IsBatchIn es seat g.table.id.0 s (as_phase p) → StandsInPhase g m p
 is_at b es g hs k m s l stamp p seat mine = (let
     f = some_at g.batches.items m l
     in let

@@ -3,7 +3,7 @@ use Rattle.std.proofs.Common.{◌≡◌, Bool, true, false, List, [], ◌∷◌,
 use Rattle.std.specs.Prelude.{filter, if◌then◌else◌, not, ◌==◌}
 use Rattle.std.proofs.lemmas.List.{length-map}
 use Rattle.px_tables.specs.declared.index.Index.{Index}
-use Rattle.px_schema.specs.Stands.{above, after, index_draws, other_tables, put_index, put_table, table_draws}
+use Rattle.px_schema.specs.Stands.{above, index_draws, other_tables, put_index, put_table, stands_after, table_draws}
 use Rattle.px_schema.specs.declared.item.CatalogItem.{CatalogItem}
 use Rattle.px_schema.specs.declared.item.CatalogItem.TheVariants.{IndexGone, IndexIs, TableGone, TableIs}
 use Rattle.px_schema.specs.declared.standing.Standing.{Standing}
@@ -32,14 +32,14 @@ opened_item (IndexIs i) = IndexIs (as_opened i)
 opened_item (TableGone n) = TableGone n
 opened_item (IndexGone n) = IndexGone n
 
-after_opened : (s : Standing) (d : CatalogItem) → opened_standing (after s d) ≡ after (opened_standing s) (opened_item d)
+after_opened : (s : Standing) (d : CatalogItem) → opened_standing (stands_after s d) ≡ stands_after (opened_standing s) (opened_item d)
 after_opened s (TableIs t) = λ i. record { next = above s.next (table_draws t); tables = put_table s.tables t; indexes = kept_opened (λ (x : Index). not (x.table.0 == t.id.0)) (λ x. refl) s.indexes i }
 after_opened s (IndexIs y) = λ i. record { next = above s.next (index_draws y); tables = s.tables; indexes = put_opened s.indexes y i }
 after_opened s (TableGone n) = λ i. record { next = s.next; tables = other_tables n.0 s.tables; indexes = kept_opened (λ (x : Index). not (x.table.0 == n.0)) (λ x. refl) s.indexes i }
 after_opened s (IndexGone n) = λ i. record { next = s.next; tables = s.tables; indexes = kept_opened (λ (x : Index). not (x.id.0 == n.0)) (λ x. refl) s.indexes i }
 
-pub same_after : (stored standing : Standing) (d : CatalogItem) → opened_standing stored ≡ opened_standing standing → opened_standing (after stored d) ≡ opened_standing (after standing d)
-same_after stored standing d same = after_opened stored d ∙ (ap (λ (s : Standing). after s (opened_item d)) same ∙ sym (after_opened standing d))
+pub same_after : (stored standing : Standing) (d : CatalogItem) → opened_standing stored ≡ opened_standing standing → opened_standing (stands_after stored d) ≡ opened_standing (stands_after standing d)
+same_after stored standing d same = after_opened stored d ∙ (ap (λ (s : Standing). stands_after s (opened_item d)) same ∙ sym (after_opened standing d))
 
 -- as many indexes, of the same numbers
 pub same_count : (stored standing : Standing) → opened_standing stored ≡ opened_standing standing → length stored.indexes ≡ length standing.indexes

@@ -43,7 +43,7 @@ use Rattle.px_reading.specs.Doubts.{version_seen}
 use Rattle.px_reading.specs.Looked.{AreLookedAt, HasLooked, IsLookedAt}
 use Rattle.px_reading.specs.Versions.{IsOfVersion, version_to}
 use Rattle.px_reading.proofs.Looked.{looked_on, part_at}
-use Rattle.px_pointreads.specs.Points.{AreOfIndex, IsReadAt, LacksIndex}
+use Rattle.px_pointreads.specs.Points.{AreOfIndex, GroupLacksIndex, IsReadAt}
 use Rattle.px_pointreads.proofs.Asked.{there_is}
 use Rattle.px_recovery.proofs.Tables.{one_place}
 use Rattle.px_repairs.specs.Repairs.{Fixes, HasFixed, HasStayed, IsJudged, IsRegionStep, IsRepair, is_doubt, stands_in}
@@ -53,7 +53,7 @@ use Rattle.px_repairs.specs.declared.repairing.RepairFault.TheVariants.{Busy, No
 use Rattle.px_repairs.proofs.Handing.{got_some}
 use Rattle.px_server.specs.Kept.{AreShown, HasShown, HasTallied, IsKept, forms_in, number_in}
 use Rattle.px_server.specs.Others.{Beginning}
-use Rattle.px_server.specs.Repairs.{Answers, Stays}
+use Rattle.px_server.specs.Repairs.{Answers, WritesNothing}
 use Rattle.px_server.specs.Sights.{has_doubt, have_doubt, is_seen_in, table_has_doubt}
 use Rattle.px_server.specs.Upkeep.{StepsIndex, SteppedIndex, SteppedRows, SteppedTable}
 use Rattle.px_server.proofs.Doubted.{HasSameStatus, and_left, and_right, any_at, any_put, any_set, at_any, both, doubt_within, repaired_beside, same_doubt, seen_below, some_same}
@@ -273,7 +273,7 @@ module _ {D : Type 0} (d : Ghosts D) (b : Base) (sound premise : Type 0) (began 
 
   -- ---- what is answered of a repair
 
-  pub answers_there : (disk' : D) (at : ℕ) (q : Doubt) → at < length g.indexes.items → ((x : IndexRegion) → slice_get g.indexes.items at ≡ Some x → x.index.id ≡ q.index) → (n : ℕ) (result : Result Fixing RepairFault) → Stays result
+  pub answers_there : (disk' : D) (at : ℕ) (q : Doubt) → at < length g.indexes.items → ((x : IndexRegion) → slice_get g.indexes.items at ≡ Some x → x.index.id ≡ q.index) → (n : ℕ) (result : Result Fixing RepairFault) → WritesNothing result
       → Fixes d g g' disk disk' at q.key q.stamp result → (answer : Result Fixing StepFault) → Answers n result answer → IfOk answer (λ f. (p : Point) → have_doubt groups p (version_of q) ≡ true → f ≢ fixing.Gone)
   answers_there disk' at q there named n (Ok fixing.Fixed) never f answer told = absurd never
   answers_there disk' at q there named n (Ok fixing.Gone) here f answer told = subst (λ r. IfOk r (λ w. (p : Point) → have_doubt groups p (version_of q) ≡ true → w ≢ fixing.Gone)) (sym told)
@@ -323,10 +323,10 @@ module _ {D : Type 0} (d : Ghosts D) (b : Base) (sound premise : Type 0) (began 
 lacks_index : (xs : List IndexRegion) (i : IndexId) → AllByRecursion (λ x. x.index.id ≢ i) xs → (j : ℕ) (x : IndexRegion) → slice_get xs j ≡ Some x → x.index.id.0 ≡ i.0 → ⊥
 lacks_index xs i all j x at same = (let none = part_at (λ (z : IndexRegion). z.index.id ≢ i) xs all j x at in none (λ k. record { 0 = same k }))
 
-pub none_there : (groups : List Group) (q : Doubt) → AllByRecursion (LacksIndex q.index) groups → (p : Point) → have_doubt groups p (version_of q) ≡ true → ⊥
+pub none_there : (groups : List Group) (q : Doubt) → AllByRecursion (GroupLacksIndex q.index) groups → (p : Point) → have_doubt groups p (version_of q) ≡ true → ⊥
 none_there groups q all p had = (let
     has = places_of groups p (version_of q) had
-    in lacks_index has.group.indexes.items q.index (part_at (LacksIndex q.index) groups all has.place has.group has.at) has.part has.index has.of has.id)
+    in lacks_index has.group.indexes.items q.index (part_at (GroupLacksIndex q.index) groups all has.place has.group has.at) has.part has.index has.of has.id)
 
 -- ---- refusals for want of room
 

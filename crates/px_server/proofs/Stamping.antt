@@ -8,7 +8,7 @@ use Rattle.px_trail.specs.Trail.{Base, last_of}
 use Rattle.px_trail.specs.declared.entry.Entry.{Entry}
 use Rattle.px_trail.specs.declared.entry.Act.TheVariants.{Shut}
 use Rattle.px_calls.specs.declared.fault.StepFault.{StepFault}
-use Rattle.px_turns.specs.Turns.{drawn}
+use Rattle.px_turns.specs.Turns.{drawn_stamp}
 use Rattle.px_server.specs.inner.Entering.{IsUnwritten}
 use Rattle.px_server.specs.Stamps.{AreStamped, Draw, IsByClock, IsStamped, draw_of}
 
@@ -49,7 +49,7 @@ module _ (times : ℕ → ℕ) (base : Base) where
   unfolding AreStamped
   one_still before from to e none le = subst (λ (d : Option Draw). IsStamped times (λ t. last_of base t before) from to d (λ n. n ≤ to)) (sym none) le
 
-  one_drawn : (before : List Entry) (from to : ℕ) (e : Entry) (d : Draw) → draw_of e.act ≡ Some d → from ≤ to → drawn (last_of base d.table before) (times to) ≡ Some d.stamp → AreStamped times base before from (to + 1) (e ∷ [])
+  one_drawn : (before : List Entry) (from to : ℕ) (e : Entry) (d : Draw) → draw_of e.act ≡ Some d → from ≤ to → drawn_stamp (last_of base d.table before) (times to) ≡ Some d.stamp → AreStamped times base before from (to + 1) (e ∷ [])
   unfolding AreStamped
   one_drawn before from to e d some le is =
       subst (λ (x : Option Draw). IsStamped times (λ t. last_of base t before) from (to + 1) x (λ n. n ≤ to + 1)) (sym some) (to, le, omega arith, is, omega arith)
@@ -59,7 +59,7 @@ module _ (times : ℕ → ℕ) (base : Base) where
   stamped_more to es e none is = stamped_join [] 0 to to es (e ∷ []) is (omega arith) (λ n le. one_still es n to e none le)
 
   -- one that draws a stamp by the number at that place
-  pub stamped_drawn : (to : ℕ) (es : List Entry) (e : Entry) (d : Draw) → draw_of e.act ≡ Some d → drawn (last_of base d.table es) (times to) ≡ Some d.stamp → AreStamped times base [] 0 to es → AreStamped times base [] 0 (to + 1) (es ++ e ∷ [])
+  pub stamped_drawn : (to : ℕ) (es : List Entry) (e : Entry) (d : Draw) → draw_of e.act ≡ Some d → drawn_stamp (last_of base d.table es) (times to) ≡ Some d.stamp → AreStamped times base [] 0 to es → AreStamped times base [] 0 (to + 1) (es ++ e ∷ [])
   stamped_drawn to es e d some by is = stamped_join [] 0 to (to + 1) es (e ∷ []) is (omega arith) (λ n le. one_drawn es n to e d some le by)
 
 -- ---- of a server
@@ -101,11 +101,11 @@ module _ {C : Type 0} (c : Ghosts C) (times : ℕ → ℕ) (base : Base) where
       }
 
       -- and by that a stamp was drawn
-      pub drawn_by_clock : (es' : List Entry) (e : Entry) (d : Draw) → es' ≡ es ++ e ∷ [] → draw_of e.act ≡ Some d → (IsTrue c.tells → drawn (last_of base d.table es) (c.times clock 0) ≡ Some d.stamp) → IsByClock c times base clock' es'
+      pub drawn_by_clock : (es' : List Entry) (e : Entry) (d : Draw) → es' ≡ es ++ e ∷ [] → draw_of e.act ≡ Some d → (IsTrue c.tells → drawn_stamp (last_of base d.table es) (c.times clock 0) ≡ Some d.stamp) → IsByClock c times base clock' es'
       drawn_by_clock es' e d entries some by = record {
         stamped = λ tells.
             let s = is.stamped tells in
-            let at : drawn (last_of base d.table es) (times s.0) ≡ Some d.stamp = ap (λ (n : ℕ). drawn (last_of base d.table es) n) (sym (s.2 0 ∙ ap times (omega arith))) ∙ by tells in (
+            let at : drawn_stamp (last_of base d.table es) (times s.0) ≡ Some d.stamp = ap (λ (n : ℕ). drawn_stamp (last_of base d.table es) n) (sym (s.2 0 ∙ ap times (omega arith))) ∙ by tells in (
               s.0 + 1,
               subst (λ (l : List Entry). AreStamped times base [] 0 (s.0 + 1) l) (sym entries) (stamped_drawn times base s.0 es e d some at s.1),
               λ m. rest tells m ∙ (s.2 (m + 1) ∙ ap times (omega arith)),

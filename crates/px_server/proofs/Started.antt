@@ -20,7 +20,7 @@ use Rattle.px_rows.specs.Spelled.{row_form}
 use Rattle.px_indexrow.specs.Form.{owns}
 use Rattle.px_groupworld.specs.Group.{GroupData, table_form}
 use Rattle.px_tablereads.proofs.Openings.{told_opened}
-use Rattle.px_region.specs.Region.{Holds, RegionData}
+use Rattle.px_region.specs.Region.{RegionData, RegionHolds}
 use Rattle.px_region.specs.declared.region.Region.{Region}
 use Rattle.px_schema.specs.declared.standing.Standing.{Standing}
 use Rattle.px_catalog.specs.Catalogue.{standing_of}
@@ -35,15 +35,15 @@ use Rattle.px_recovery.specs.Base.{IsSoundFolder, base_of}
 use Rattle.px_recovery.specs.Folder.{FolderData}
 use Rattle.px_recovery.specs.Kept.{IsServer}
 use Rattle.px_recovery.specs.Stands.{opened_index, opened_state}
-use Rattle.px_recovery.specs.Tables.{form_in, index_in, indexes_of, number_of_index, table_files}
+use Rattle.px_recovery.specs.Tables.{form_of_index, index_in, indexes_of, number_of_index, table_files}
 use Rattle.px_recovery.proofs.Numbered.{distinct_filter}
 use Rattle.px_recovery.proofs.Round.{sound_stands}
 use Rattle.px_standing.specs.Agrees.{as_opened, opened_standing}
-use Rattle.px_opening.specs.Opened.{IsGroupOf, IsOpenedAs, IsOpenedRight, IsPartRight, all_regions, folder_in, index_in as index_of_part, is_standing, region_in, regions_of}
+use Rattle.px_opening.specs.Opened.{IsGroupOf, IsOpenedAs, IsOpenedRight, IsPartRight, all_regions, folder_in, index_of_region, is_standing, region_in, regions_of_group}
 use Rattle.px_opening.specs.declared.opened.Opened.{Opened}
 use Rattle.px_opening.proofs.Groups.{all_opened, all_right, all_shown, all_tallied, opened_agrees, right_base, shown_explains, shown_of}
 use Rattle.px_opening.proofs.Lists.{all_both, all_mapped, all_slice, index_opened, rising_once}
-use Rattle.px_server.specs.Kept.{AreBuilt, AreGroups, HasParts, HasPoints, HasShown, HasTallied, IsKept, IsOnDisk, IsTold, forms_in, owed, owed_by}
+use Rattle.px_server.specs.Kept.{AreBuilt, AreGroups, HasPoints, HasServerParts, HasShown, HasTallied, IsKept, IsOnDisk, IsTold, forms_in, owed, owed_by}
 use Rattle.px_server.specs.Others.{Beginning, OthersStay}
 use Rattle.px_server.specs.Started.{HoldsOwn, IsOpenedOn}
 use Rattle.px_server.proofs.Built.{are_opened}
@@ -63,17 +63,17 @@ once_in (x ∷ xs) once = (turned x.index.id.0 xs once.0, once_in xs once.1)
 group_once : (f : ℕ → RegionData) (indexes : List Index) (g : Group) → AreDistinct number_of_index indexes → IsGroupOf f indexes g → HasOnce g
 group_once f indexes g once own = (let
     each = distinct_filter number_of_index is_standing (indexes_of g.table.id.0 indexes) (distinct_filter number_of_index (λ (i : Index). i.table.0 == g.table.id.0) indexes once)
-    in once_in g.indexes.items (distinct_map index_of_part number_of_index g.indexes.items (subst (λ (is : List Index). AreDistinct number_of_index is) (sym own.indexes_are) each)))
+    in once_in g.indexes.items (distinct_map index_of_region number_of_index g.indexes.items (subst (λ (is : List Index). AreDistinct number_of_index is) (sym own.indexes_are) each)))
 
 -- ---- their forms, where what was building is disabled
 
-form_opened : (x : Table) (o : Option Index) → form_in x (opened_index o) ≡ form_in x o
+form_opened : (x : Table) (o : Option Index) → form_of_index x (opened_index o) ≡ form_of_index x o
 unfolding owns
 form_opened x None = refl
 form_opened x (Some i) = refl
 
 forms_opened : (indexes : List Index) (x : Table) → forms_in (map as_opened indexes) x ≡ forms_in indexes x
-forms_opened indexes x = λ j n. (ap (form_in x) (index_opened indexes n) ∙ form_opened x (index_in indexes n)) j
+forms_opened indexes x = λ j n. (ap (form_of_index x) (index_opened indexes n) ∙ form_opened x (index_in indexes n)) j
 
 shown_opened : (b : Base) (es : List Entry) (indexes : List Index) (v : ℕ → GroupData) (g : Group) → HasShown b es indexes v g → HasShown b es (map as_opened indexes) v g
 shown_opened b es indexes v g s = record {
@@ -96,7 +96,7 @@ opened_again (i ∷ is) = λ j. record i { state = state_twice i.state j } ∷ o
 
 -- ---- what a group shows, and what it has on the disk
 
-shown_group : (f : FolderData) (v : ℕ → GroupData) (g : Group) → IsTallied (base_of f) [] g [] → IsShownBy (base_of f) (λ n. form_in g.table (index_in f.standing.indexes n)) [] g (v g.table.id.0) [] → IsOpenedAs f g (v g.table.id.0)
+shown_group : (f : FolderData) (v : ℕ → GroupData) (g : Group) → IsTallied (base_of f) [] g [] → IsShownBy (base_of f) (λ n. form_of_index g.table (index_in f.standing.indexes n)) [] g (v g.table.id.0) [] → IsOpenedAs f g (v g.table.id.0)
     → HasShown (base_of f) [] f.standing.indexes v g
 shown_group f v g tallied shown own = record {
   held = [];
@@ -117,18 +117,18 @@ back : (P : Region → Type 0) (a b : List Region) → AllByRecursion P (a ++ b)
 back P [] b all = all
 back P (r ∷ a) b all = back P a b all.1
 
-each_of : (P : Region → Type 0) (gs : List Group) → AllByRecursion P (flat_map regions_of gs) → AllByRecursion (λ (g : Group). AllByRecursion P (regions_of g)) gs
+each_of : (P : Region → Type 0) (gs : List Group) → AllByRecursion P (flat_map regions_of_group gs) → AllByRecursion (λ (g : Group). AllByRecursion P (regions_of_group g)) gs
 each_of P [] all = tt
-each_of P (g ∷ gs) all = (front P (regions_of g) (flat_map regions_of gs) all, each_of P gs (back P (regions_of g) (flat_map regions_of gs) all))
+each_of P (g ∷ gs) all = (front P (regions_of_group g) (flat_map regions_of_group gs) all, each_of P gs (back P (regions_of_group g) (flat_map regions_of_group gs) all))
 
 at_region : (P : Region → Type 0) (xs : List IndexRegion) (i : ℕ) (x : IndexRegion) → AllByRecursion P (map region_in xs) → slice_get xs i ≡ Some x → P x.region
 at_region P xs i x all is = all_slice (λ (y : IndexRegion). P y.region) xs i x (all_mapped P region_in xs all) is
 
-on_disk : {D : Type 0} (d : Ghosts D) (disk : D) (f : FolderData) (g : Group) → IsGroupOf f.regions f.standing.indexes g → AllByRecursion (HoldsOwn d disk) (regions_of g) → IsOnDisk d disk f g
+on_disk : {D : Type 0} (d : Ghosts D) (disk : D) (f : FolderData) (g : Group) → IsGroupOf f.regions f.standing.indexes g → AllByRecursion (HoldsOwn d disk) (regions_of_group g) → IsOnDisk d disk f g
 on_disk d disk f g own all = record {
-  rows = subst (λ (s : RegionData). Holds d g.rows disk s) own.told all.0;
+  rows = subst (λ (s : RegionData). RegionHolds d g.rows disk s) own.told all.0;
   indexes = λ i x is.
-      subst (λ (s : RegionData). Holds d x.region disk s) (all_slice (IsPartRight f.regions g.table) g.indexes.items i x (recursion_from_All (IsPartRight f.regions g.table) g.indexes.items own.parts) is).told
+      subst (λ (s : RegionData). RegionHolds d x.region disk s) (all_slice (IsPartRight f.regions g.table) g.indexes.items i x (recursion_from_All (IsPartRight f.regions g.table) g.indexes.items own.parts) is).told
       (at_region (HoldsOwn d disk) g.indexes.items i x all.1 is);
 }
 
@@ -191,7 +191,7 @@ module _ (o : Opened) (r : IsOpenedRight o) where
 
   shown_first : IsSoundFolder f → AllByRecursion (HasShown b [] stored.indexes (shown_of f)) groups
   shown_first sound = (let
-      Shows : Group → Type 0 = λ g. IsShownBy b (λ n. form_in g.table (index_in f.standing.indexes n)) [] g (shown_of f g.table.id.0) []
+      Shows : Group → Type 0 = λ g. IsShownBy b (λ n. form_of_index g.table (index_in f.standing.indexes n)) [] g (shown_of f g.table.id.0) []
       in let
       Opens : Group → Type 0 = λ g. IsOpenedAs f g (shown_of f g.table.id.0)
       in all_both (λ g. IsTallied b [] g [] × Shows g) Opens (HasShown b [] stored.indexes (shown_of f)) (λ g p own. shown_group f (shown_of f) g p.0 p.1 own) groups
@@ -199,17 +199,17 @@ module _ (o : Opened) (r : IsOpenedRight o) where
       (recursion_from_All Opens groups (all_opened o r)))
 
   module _ {D : Type 0} (d : Ghosts D) (tells_left : (x : D) (moment file : ℕ) (bytes : List ℕ) → d.left x moment file bytes → IsTrue d.tells) (disk : D) where
-    parts_first : (sound : Type 0) → sound → IsOpenedOn d disk o → HasParts d b sound o.catalog groups disk [] f (shown_of f)
+    parts_first : (sound : Type 0) → sound → IsOpenedOn d disk o → HasServerParts d b sound o.catalog groups disk [] f (shown_of f)
     parts_first sound given on = record {
       given = given;
       stored = on.catalogue;
       standing = refl;
-      regions = all_both (IsGroupOf f.regions f.standing.indexes) (λ g. AllByRecursion (HoldsOwn d disk) (regions_of g)) (IsOnDisk d disk f) (λ g k all. on_disk d disk f g k all) groups own
-          (each_of (HoldsOwn d disk) groups (front (HoldsOwn d disk) (flat_map regions_of groups) o.others.items (recursion_from_All (HoldsOwn d disk) (all_regions o) on.regions)));
+      regions = all_both (IsGroupOf f.regions f.standing.indexes) (λ g. AllByRecursion (HoldsOwn d disk) (regions_of_group g)) (IsOnDisk d disk f) (λ g k all. on_disk d disk f g k all) groups own
+          (each_of (HoldsOwn d disk) groups (front (HoldsOwn d disk) (flat_map regions_of_group groups) o.others.items (recursion_from_All (HoldsOwn d disk) (all_regions o) on.regions)));
       shown = shown_first on.sound;
     }
 
-    server_first : (sound premise : Type 0) → (premise → IsTrue d.tells → IsOpenedOn d disk o) → (premise → IsTrue d.tells → sound) → IsServer d b premise (HasParts d b sound o.catalog groups) disk [] None None
+    server_first : (sound premise : Type 0) → (premise → IsTrue d.tells → IsOpenedOn d disk o) → (premise → IsTrue d.tells → sound) → IsServer d b premise (HasServerParts d b sound o.catalog groups) disk [] None None
     unfolding closing_from
     server_first sound premise on told = record {
       early = tt;

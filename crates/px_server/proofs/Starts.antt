@@ -11,7 +11,7 @@ use Rattle.px_schema.specs.declared.standing.Standing.{Standing}
 use Rattle.px_catalog.specs.Catalogue.{CatalogueStands, HasCatalogue, standing_of}
 use Rattle.px_catalog.specs.Reading.{catalogue_form}
 use Rattle.px_recovery.specs.Base.{IsSound, IsSoundFolder, base_of}
-use Rattle.px_recovery.specs.Folder.{AreFresh, FolderData, PartStands, StandsFor, StandsOn, owns, part_of}
+use Rattle.px_recovery.specs.Folder.{AreFresh, FolderData, IsFileOfPart, PartStands, StandsFor, StandsOn, part_of}
 use Rattle.px_recovery.specs.Stands.{Recovers}
 use Rattle.px_recovery.proofs.Round.{sound_stands}
 use Rattle.px_folder.specs.Read.{IsReadOn}
@@ -40,7 +40,7 @@ catalogue_local old new s first second k = record {
       in (omega (arith, one, low), omega (arith, two, high)));
 }
 
-part_local : (old new : Image) (f : FolderData) (n : ℕ) → ((file : ℕ) → owns n file → new file ≡ old file) → PartStands n old (part_of f n) → PartStands n new (part_of f n)
+part_local : (old new : Image) (f : FolderData) (n : ℕ) → ((file : ℕ) → IsFileOfPart n file → new file ≡ old file) → PartStands n old (part_of f n) → PartStands n new (part_of f n)
 part_local old new f zero same k = catalogue_local old new f.standing (same 0 (inl refl)) (same 1 (inr refl)) k
 part_local old new f (suc n) same k = stands_local (suc n) old new (λ file own. sym (same file own)) (f.regions (suc n)) k
 

@@ -9,7 +9,7 @@ use Rattle.px_trail.specs.declared.entry.Act.TheVariants.{Shut}
 use Rattle.px_trail.specs.declared.entry.Entry.{Entry}
 use Rattle.px_trail.specs.Recorded.{Recorded}
 use Rattle.px_trail.specs.Trail.{Base, catalogue_of, closing_call}
-use Rattle.px_region.specs.Region.{Holds, with_batch}
+use Rattle.px_region.specs.Region.{RegionHolds, with_batch}
 use Rattle.px_region.specs.declared.region.Region.{Region}
 use Rattle.px_groupworld.specs.Group.{GroupData}
 use Rattle.px_schema.specs.declared.standing.Standing.{Standing}
@@ -64,7 +64,7 @@ module _ {D : Type 0} (d : Ghosts D) (tells_left : (x : D) (moment file : ℕ) (
   standing_here = (all_at (HasTallied b es) groups place g l is (k.each.tallied running)).tallied.standing
 
   -- the folder is told as it was
-  unchanged : (old new : Region) → ((f : FolderData) → IsOnDisk d disk f g → Holds d old disk (f.regions old.number)) → (f : FolderData) (v : ℕ → GroupData) → Explains b es f v → IsOnDisk d disk f g → TellsThen b es (with_region old.number (with_batch (f.regions old.number) []) f) v t
+  unchanged : (old new : Region) → ((f : FolderData) → IsOnDisk d disk f g → RegionHolds d old disk (f.regions old.number)) → (f : FolderData) (v : ℕ → GroupData) → Explains b es f v → IsOnDisk d disk f g → TellsThen b es (with_region old.number (with_batch (f.regions old.number) []) f) v t
   unchanged old new holds f v told on = record {
     table_data = v t;
     explains = subst (λ (x : FolderData). Explains b es x (with_part v t (v t))) (sym (same_folder f old.number (with_batch (f.regions old.number) []) (same_data d old disk (f.regions old.number) (holds f on))))

@@ -16,12 +16,12 @@ use Rattle.px_schema.specs.declared.standing.Standing.{Standing}
 use Rattle.px_catalog.specs.declared.catalog.Catalog.{Catalog}
 use Rattle.px_group.specs.Group.{AreTraced, IsRightGroup}
 use Rattle.px_group.specs.declared.group.Group.{Group}
-use Rattle.px_noting.specs.Apart.{IsApart}
+use Rattle.px_noting.specs.Apart.{IsApartFrom}
 use Rattle.px_noting.proofs.Others.{apart_points}
 use Rattle.px_recovery.specs.Kept.{IsServer}
 use Rattle.px_recovery.proofs.Server.{newest_early}
 use Rattle.px_standing.specs.Agrees.{Agrees}
-use Rattle.px_server.specs.Kept.{AreGroups, HasBegun, HasFailed, HasParts, HasPoints, HasTallied, HasTrailRoom, IsKept, IsShutAt, IsTold, table_in_group}
+use Rattle.px_server.specs.Kept.{AreGroups, HasBegun, HasFailed, HasPoints, HasServerParts, HasTallied, HasTrailRoom, IsKept, IsShutAt, IsTold, table_in_group}
 use Rattle.px_server.specs.Others.{Beginning, OthersStay}
 use Rattle.px_server.proofs.Lists.{all_weaker}
 use Rattle.px_server.proofs.OpenBatches.{all_begun, begun_elsewhere}
@@ -76,7 +76,7 @@ module _ {D : Type 0} (d : Ghosts D) (b : Base) (sound premise : Type 0) (began 
 
   points_on : (g : Group) → HasPoints es g → HasPoints es' g
   points_on g same seat s =
-      points-snoc seat g.table.id.0 s es shut ∙ (apart_points g.table.id seat s (open_points seat g.table.id.0 s es) shut.seat shut.act (subst (IsApart g.table.id) (sym shut-is) tt) ∙ same seat s)
+      points-snoc seat g.table.id.0 s es shut ∙ (apart_points g.table.id seat s (open_points seat g.table.id.0 s es) shut.seat shut.act (subst (IsApartFrom g.table.id) (sym shut-is) tt) ∙ same seat s)
 
   traced_on : (g : Group) → AreTraced es g → AreTraced es' g
   traced_on g t = traced_idle es shut g (subst (IsElsewhere g.table.id) (sym shut-is) tt) t
@@ -97,13 +97,13 @@ module _ {D : Type 0} (d : Ghosts D) (b : Base) (sound premise : Type 0) (began 
       begun = λ c is. all_weaker (HasBegun es) (HasBegun es') begun_on groups' begun;
     }
 
-    pub stopped : (catalog' : Catalog) (late' : Option Entry) → IsServer d b premise (HasParts d b sound catalog' groups') disk' (es ++ shut ∷ []) late' (Some call) → HasFailed d disk' → (premise → IsTrue d.tells → OthersStay d b began disk' es)
+    pub stopped : (catalog' : Catalog) (late' : Option Entry) → IsServer d b premise (HasServerParts d b sound catalog' groups') disk' (es ++ shut ∷ []) late' (Some call) → HasFailed d disk' → (premise → IsTrue d.tells → OthersStay d b began disk' es)
         → (trail' : Recorded) → trail'.entries ≡ es ++ shut ∷ [] → HasTrailRoom (Some call) groups' trail' → IsKept d b sound premise began disk' catalog' standing groups' trail' late' (Some call)
     stopped catalog' late' server failed others trail' entries room = record {
       told = subst (λ (ys : List Entry). IsTold b ys (Some call) (catalog'.standing) standing) (sym entries) (told catalog'.standing);
       each = subst (λ (ys : List Entry). AreGroups b ys (Some call) standing.tables groups') (sym entries) each;
       shown = λ given none. absurd cc;
-      server = subst (λ (ys : List Entry). IsServer d b premise (HasParts d b sound catalog' groups') disk' ys late' (Some call)) (sym entries) server;
+      server = subst (λ (ys : List Entry). IsServer d b premise (HasServerParts d b sound catalog' groups') disk' ys late' (Some call)) (sym entries) server;
       room = room;
       blamed = λ is. failed;
       last_call = λ c same. call_is c call same ∙ called;
@@ -111,6 +111,6 @@ module _ {D : Type 0} (d : Ghosts D) (b : Base) (sound premise : Type 0) (began 
     }
 
   -- and where no group has changed
-  pub stopped_same : (catalog' : Catalog) (late' : Option Entry) → IsServer d b premise (HasParts d b sound catalog' groups) disk' (es ++ shut ∷ []) late' (Some call) → HasFailed d disk' → (premise → IsTrue d.tells → OthersStay d b began disk' es)
+  pub stopped_same : (catalog' : Catalog) (late' : Option Entry) → IsServer d b premise (HasServerParts d b sound catalog' groups) disk' (es ++ shut ∷ []) late' (Some call) → HasFailed d disk' → (premise → IsTrue d.tells → OthersStay d b began disk' es)
       → (trail' : Recorded) → trail'.entries ≡ es ++ shut ∷ [] → HasTrailRoom (Some call) groups trail' → IsKept d b sound premise began disk' catalog' standing groups trail' late' (Some call)
   stopped_same = stopped groups k.each.stand k.each.points (all_traced b es groups (k.each.right running) (k.each.tallied running)) (all_begun b es groups (k.each.tallied running))

@@ -18,7 +18,7 @@ use Rattle.px_calls.specs.Requires.{IsNewTable}
 use Rattle.px_calls.specs.declared.definition.Definition.{Definition}
 use Rattle.px_calls.specs.declared.fault.StepFault.{StepFault}
 use Rattle.px_calls.specs.declared.fault.StepFault.TheVariants.{NotReady, WriteFault as Failed, Memory as MemoryFault}
-use Rattle.px_schema.specs.Stands.{after}
+use Rattle.px_schema.specs.Stands.{stands_after}
 use Rattle.px_schema.specs.declared.item.CatalogItem.TheVariants.{TableGone, TableIs}
 use Rattle.px_schema.specs.declared.standing.Standing.{Standing}
 use Rattle.px_catalog.specs.Catalogue.{CatalogueStands, HasCatalogue, catalogue_files, standing_of}
@@ -93,9 +93,9 @@ module _ {D : Type 0} (d : Ghosts D) (tells_left : (x : D) (moment file : ℕ) (
     (disk' : D) (catalog' : Catalog) (passes : Passes d disk disk' 4) (touches : HasCatalogue d catalog disk → TouchesOnly d disk disk' catalogue_files) (seat : ℕ)
     (mid : Recorded) (mid_same : mid.entries ≡ trail.entries) (mid_room : mid.room ≡ trail.room + 1) (groups' : List Group) (same : groups' ≡ groups) where
   module _ (what : NewTable) (new : IsNewTable what) (may : MayMake standing closed what) (item : Table) (group : Group) (now : Standing) (copy : NewTable) (parts : AreParts standing what item group now copy)
-      (leaves : HasCatalogue d catalog disk → LeavesOnly d disk disk' (λ moment image. CatalogueStands image (standing_of catalog) ⊎ CatalogueStands image (after (standing_of catalog) (TableIs item)))) where
-    leaves_made : HasCatalogue d catalog disk → LeavesOnly d disk disk' (λ moment image. CatalogueStands image (standing_of catalog) ⊎ CatalogueStands image (after (standing_of catalog) (TableIs (table_made standing what))))
-    leaves_made = subst (λ (i : Table). HasCatalogue d catalog disk → LeavesOnly d disk disk' (λ moment image. CatalogueStands image (standing_of catalog) ⊎ CatalogueStands image (after (standing_of catalog) (TableIs i)))) parts.item_is leaves
+      (leaves : HasCatalogue d catalog disk → LeavesOnly d disk disk' (λ moment image. CatalogueStands image (standing_of catalog) ⊎ CatalogueStands image (stands_after (standing_of catalog) (TableIs item)))) where
+    leaves_made : HasCatalogue d catalog disk → LeavesOnly d disk disk' (λ moment image. CatalogueStands image (standing_of catalog) ⊎ CatalogueStands image (stands_after (standing_of catalog) (TableIs (table_made standing what))))
+    leaves_made = subst (λ (i : Table). HasCatalogue d catalog disk → LeavesOnly d disk disk' (λ moment image. CatalogueStands image (standing_of catalog) ⊎ CatalogueStands image (stands_after (standing_of catalog) (TableIs i)))) parts.item_is leaves
 
     abbrev entry : Entry
     entry = record { seat = seat; calls = d.calls disk'; act = MadeAct (table_made standing what).id what }
@@ -103,14 +103,14 @@ module _ {D : Type 0} (d : Ghosts D) (tells_left : (x : D) (moment file : ℕ) (
     entry_is : record { seat = seat; calls = d.calls disk'; act = MadeAct group.table.id copy } ≡ entry
     entry_is = λ i. record { seat = seat; calls = d.calls disk'; act = MadeAct ((parts.group_is.table i).id) (parts.copy_is i) }
 
-    pub making_kept : (stored : HasCatalogue d catalog disk → HasCatalogue d catalog' disk') → standing_of catalog' ≡ after (standing_of catalog) (TableIs item) → (then_ : Standing) → then_ ≡ now → (gs : List Group) → gs ≡ groups' ++ group ∷ []
+    pub making_kept : (stored : HasCatalogue d catalog disk → HasCatalogue d catalog' disk') → standing_of catalog' ≡ stands_after (standing_of catalog) (TableIs item) → (then_ : Standing) → then_ ≡ now → (gs : List Group) → gs ≡ groups' ++ group ∷ []
         → (trail' : Recorded) (calls : ℕ) → calls ≡ d.calls disk' → trail'.entries ≡ mid.entries ++ record { seat = seat; calls = calls; act = MadeAct group.table.id copy } ∷ [] → trail'.room + 1 ≡ mid.room
         → IsKept d b sound premise began disk' catalog' then_ gs trail' late closed
     making_kept stored defined then_ is_now gs gs_are trail' calls at entries room =
         subst (λ (s : Standing). IsKept d b sound premise began disk' catalog' s gs trail' late closed) (sym (is_now ∙ parts.standing_is))
-        (subst (λ (xs : List Group). IsKept d b sound premise began disk' catalog' (after standing (TableIs (table_made standing what))) xs trail' late closed) (sym (gs_are ∙ ap (λ (xs : List Group). xs ++ group ∷ []) same))
+        (subst (λ (xs : List Group). IsKept d b sound premise began disk' catalog' (stands_after standing (TableIs (table_made standing what))) xs trail' late closed) (sym (gs_are ∙ ap (λ (xs : List Group). xs ++ group ∷ []) same))
         (table_kept d tells_left up_to_now b sound premise began disk catalog standing groups trail late closed k may.running disk' passes touches seat what new may.free leaves_made group parts.group_is
-        catalog' stored (defined ∙ ap (λ (i : Table). after (standing_of catalog) (TableIs i)) parts.item_is) trail'
+        catalog' stored (defined ∙ ap (λ (i : Table). stands_after (standing_of catalog) (TableIs i)) parts.item_is) trail'
         (entries ∙ (ap (λ (es : List Entry). es ++ record { seat = seat; calls = calls; act = MadeAct group.table.id copy } ∷ []) mid_same
         ∙ (ap (λ (n : ℕ). trail.entries ++ record { seat = seat; calls = n; act = MadeAct group.table.id copy } ∷ []) at ∙ ap (λ (e : Entry). trail.entries ++ e ∷ []) entry_is)))
         (let before = k.room in let n = owed_end groups group (owed_new (table_made standing what) group parts.group_is) in omega (arith, before, n, room, mid_room))))
@@ -138,16 +138,16 @@ module _ {D : Type 0} (d : Ghosts D) (tells_left : (x : D) (moment file : ℕ) (
     quiet = (let own = all_at (HasTallied b trail.entries) groups place g (place_in groups standing.tables k.each.stand place inside) is (k.each.tallied running) in
         subst (λ (n : ℕ). IsQuiet trail.entries n) (ap (λ (y : TableId). y.0) its) (is_quiet b trail.entries g own.held own.tallied unused))
 
-    module _ (leaves : HasCatalogue d catalog disk → LeavesOnly d disk disk' (λ moment image. CatalogueStands image (standing_of catalog) ⊎ CatalogueStands image (after (standing_of catalog) (TableGone t)))) where
+    module _ (leaves : HasCatalogue d catalog disk → LeavesOnly d disk disk' (λ moment image. CatalogueStands image (standing_of catalog) ⊎ CatalogueStands image (stands_after (standing_of catalog) (TableGone t)))) where
       abbrev gone : Entry
       gone = record { seat = seat; calls = d.calls disk'; act = Dropped t None }
 
-      pub dropping_kept : (stored : HasCatalogue d catalog disk → HasCatalogue d catalog' disk') → standing_of catalog' ≡ after (standing_of catalog) (TableGone t) → (then_ : Standing) → then_ ≡ after standing (TableGone t) → (gs : List Group) → gs ≡ filter (keeps t.0) groups'
+      pub dropping_kept : (stored : HasCatalogue d catalog disk → HasCatalogue d catalog' disk') → standing_of catalog' ≡ stands_after (standing_of catalog) (TableGone t) → (then_ : Standing) → then_ ≡ stands_after standing (TableGone t) → (gs : List Group) → gs ≡ filter (keeps t.0) groups'
           → (trail' : Recorded) (calls : ℕ) → calls ≡ d.calls disk' → trail'.entries ≡ mid.entries ++ record { seat = seat; calls = calls; act = Dropped t None } ∷ [] → trail'.room + 1 ≡ mid.room
           → IsKept d b sound premise began disk' catalog' then_ gs trail' late closed
       dropping_kept stored defined then_ is_now gs gs_are trail' calls at entries room =
           subst (λ (s : Standing). IsKept d b sound premise began disk' catalog' s gs trail' late closed) (sym is_now)
-          (subst (λ (xs : List Group). IsKept d b sound premise began disk' catalog' (after standing (TableGone t)) xs trail' late closed) (sym (gs_are ∙ ap (λ (xs : List Group). filter (keeps t.0) xs) same))
+          (subst (λ (xs : List Group). IsKept d b sound premise began disk' catalog' (stands_after standing (TableGone t)) xs trail' late closed) (sym (gs_are ∙ ap (λ (xs : List Group). filter (keeps t.0) xs) same))
           (gone_kept d tells_left up_to_now b sound premise began disk catalog standing groups trail late closed k running disk' passes touches seat t stands quiet leaves
           catalog' stored defined trail'
           (entries ∙ (ap (λ (es : List Entry). es ++ record { seat = seat; calls = calls; act = Dropped t None } ∷ []) mid_same ∙ ap (λ (n : ℕ). trail.entries ++ record { seat = seat; calls = n; act = Dropped t None } ∷ []) at))

@@ -29,10 +29,10 @@ use Rattle.px_groupworld.specs.Group.{GroupData, GroupKept, TableForm}
 use Rattle.px_groupworld.specs.Sound.{made_data}
 use Rattle.px_groupworld.proofs.Entries.{rows_of_group}
 use Rattle.px_tablereads.specs.Told.{AreTold}
-use Rattle.px_region.specs.Fresh.{IsBlank}
-use Rattle.px_region.specs.Region.{Holds, RegionData}
+use Rattle.px_region.specs.Fresh.{IsRegionBlank}
+use Rattle.px_region.specs.Region.{RegionData, RegionHolds}
 use Rattle.px_region.proofs.Fresh.{fresh_holds}
-use Rattle.px_schema.specs.Stands.{after, other_tables, put_table}
+use Rattle.px_schema.specs.Stands.{other_tables, put_table, stands_after}
 use Rattle.px_schema.specs.declared.item.CatalogItem.TheVariants.{TableGone, TableIs}
 use Rattle.px_schema.specs.declared.standing.Standing.{Standing}
 use Rattle.px_catalog.specs.Catalogue.{CatalogueStands, HasCatalogue, catalogue_files, standing_of}
@@ -50,7 +50,7 @@ use Rattle.px_defined.proofs.Once.{once_new}
 use Rattle.px_defined.proofs.Right.{right_new}
 use Rattle.px_defined.proofs.ShownTable.{shown_new}
 use Rattle.px_defined.proofs.TalliedTable.{tallied_new, unknown}
-use Rattle.px_recovery.specs.Folder.{AreFresh, AreUnmade, FolderData, IsAmong, region_numbers, regions_of, with_standing}
+use Rattle.px_recovery.specs.Folder.{AreFresh, AreUnmade, FolderData, IsNumberAmong, region_numbers, regions_of, with_standing}
 use Rattle.px_recovery.specs.Stands.{Explains}
 use Rattle.px_recovery.proofs.Drops.{table_gone as explains_gone}
 use Rattle.px_recovery.proofs.Makes.{table_made as explains_made}
@@ -69,7 +69,7 @@ use Rattle.px_server.proofs.SameStanding.{same_after}
 
 -- ---- lists
 
-among_one : (m n : ℕ) → IsAmong n (m ∷ []) → n ≡ m
+among_one : (m n : ℕ) → IsNumberAmong n (m ∷ []) → n ≡ m
 among_one m n is = elim (cases_Bool (nat_eq m n)) [
   | inl e ↦ sym (eqb-true m n e)
   | inr e ↦ absurd (false≢true (sym (ap (λ (v : Bool). v || false) e) ∙ is))
@@ -178,7 +178,7 @@ module _ {D : Type 0} (d : Ghosts D) (tells_left : (x : D) (moment file : ℕ) (
 
   module _ (disk' : D) (passes : Passes d disk disk' 4) (touches : HasCatalogue d catalog disk → TouchesOnly d disk disk' catalogue_files) (seat : ℕ) where
     module _ (what : NewTable) (new : IsNewTable what) (free : IsUnused standing what.name)
-        (leaves : HasCatalogue d catalog disk → LeavesOnly d disk disk' (λ moment image. CatalogueStands image (standing_of catalog) ⊎ CatalogueStands image (after (standing_of catalog) (TableIs (table_made standing what))))) where
+        (leaves : HasCatalogue d catalog disk → LeavesOnly d disk disk' (λ moment image. CatalogueStands image (standing_of catalog) ⊎ CatalogueStands image (stands_after (standing_of catalog) (TableIs (table_made standing what))))) where
       abbrev made : Table
       made = table_made standing what
 
@@ -198,18 +198,18 @@ module _ {D : Type 0} (d : Ghosts D) (tells_left : (x : D) (moment file : ℕ) (
       one : made.regions ≡ record { number = standing.next; least_key = [] } ∷ []
       one = one_region standing.next t what new.one
 
-      is_next : (n : ℕ) → IsAmong n (regions_of made) → n ≡ standing.next
-      is_next n among = among_one standing.next n (subst (λ (rs : List TableRegion). IsAmong n (map (λ (r : TableRegion). r.number) rs)) one among)
+      is_next : (n : ℕ) → IsNumberAmong n (regions_of made) → n ≡ standing.next
+      is_next n among = among_one standing.next n (subst (λ (rs : List TableRegion). IsNumberAmong n (map (λ (r : TableRegion). r.number) rs)) one among)
 
-      regions : (n : ℕ) → IsAmong n (regions_in (TableIs made)) → IsAmong n (region_numbers (standing_of catalog)) ⊎ ((standing_of catalog).next ≤ n)
+      regions : (n : ℕ) → IsNumberAmong n (regions_in (TableIs made)) → IsNumberAmong n (region_numbers (standing_of catalog)) ⊎ ((standing_of catalog).next ≤ n)
       regions n among = inr (let z = is_next n among in let s = same_next in omega (arith, z, s))
 
       abbrev moved : (ℕ → GroupData) → ℕ → GroupData
       moved v = with_part v t.0 made_data
 
-      explains : sound → (f : FolderData) (v : ℕ → GroupData) → f.standing ≡ standing_of catalog → AreUnmade f → AllByRecursion (HasShown b es f.standing.indexes v) groups → AllByRecursion (IsOnDisk d disk f) groups → Explains b es f v → Explains b (es ++ e ∷ []) (with_standing (after f.standing (TableIs made)) f) (moved v)
+      explains : sound → (f : FolderData) (v : ℕ → GroupData) → f.standing ≡ standing_of catalog → AreUnmade f → AllByRecursion (HasShown b es f.standing.indexes v) groups → AllByRecursion (IsOnDisk d disk f) groups → Explains b es f v → Explains b (es ++ e ∷ []) (with_standing (stands_after f.standing (TableIs made)) f) (moved v)
       explains given f v stands unmade shown on told =
-          subst (λ (n : ℕ). Explains b (es ++ e ∷ []) (with_standing (after f.standing (TableIs (made_table n t what))) f) (moved v)) (ap (λ (s : Standing). s.next) stands ∙ same_next)
+          subst (λ (n : ℕ). Explains b (es ++ e ∷ []) (with_standing (stands_after f.standing (TableIs (made_table n t what))) f) (moved v)) (ap (λ (s : Standing). s.next) stands ∙ same_next)
           (explains_made b k.told.base es f unmade v told e made_may t what refl)
 
       pub table_failed : (shut : Entry) (call : ℕ) → IsShutAt shut call → call ≡ d.calls disk' → HasFailed d disk' → (catalog' : Catalog) (trail' : Recorded) → trail'.entries ≡ es ++ shut ∷ [] → HasTrailRoom (Some call) groups trail'
@@ -262,29 +262,29 @@ module _ {D : Type 0} (d : Ghosts D) (tells_left : (x : D) (moment file : ℕ) (
         its_region : g.rows.number ≡ standing.next
         its_region = region_is (region_of g.rows) (record { number = standing.next; least_key = [] }) (sym fresh.region ∙ one)
 
-        on_disk : IsTrue d.tells → (f : FolderData) → f.standing ≡ standing_of catalog → AreFresh d disk' f.standing.next → AreUnmade f → IsOnDisk d disk' (with_standing (after f.standing (TableIs made)) f) g
+        on_disk : IsTrue d.tells → (f : FolderData) → f.standing ≡ standing_of catalog → AreFresh d disk' f.standing.next → AreUnmade f → IsOnDisk d disk' (with_standing (stands_after f.standing (TableIs made)) f) g
         on_disk tells f stands blank unmade = (let
             up : f.standing.next ≤ g.rows.number = (let n : f.standing.next ≡ standing.next = ap (λ (s : Standing). s.next) stands ∙ same_next in let m = its_region in omega (arith, n, m))
             in let
-            is_blank : IsBlank d g.rows.number disk' = record {
+            is_blank : IsRegionBlank d g.rows.number disk' = record {
               tells = tells;
               only = λ file mine. blank.on_disk file (let at = mine.is in omega (arith, up, at));
               none = λ file mine. blank.empty file (let at = mine.is in omega (arith, up, at));
             }
             in record {
-              rows = subst (λ (s : RegionData). Holds d g.rows disk' s) (sym (unmade g.rows.number up)) (fresh_holds d g.rows.number g.rows disk' fresh.fresh is_blank);
+              rows = subst (λ (s : RegionData). RegionHolds d g.rows disk' s) (sym (unmade g.rows.number up)) (fresh_holds d g.rows.number g.rows disk' fresh.fresh is_blank);
               indexes = λ i x at. absurd (let none : None ≡ Some x = ap (λ (l : List IndexRegion). slice_get l i) (sym fresh.indexes) ∙ at in cc);
             })
 
         standing_then : Standing
-        standing_then = after standing (TableIs made)
+        standing_then = stands_after standing (TableIs made)
 
-        pub table_kept : (catalog' : Catalog) → (HasCatalogue d catalog disk → HasCatalogue d catalog' disk') → standing_of catalog' ≡ after (standing_of catalog) (TableIs made) → (trail' : Recorded) → trail'.entries ≡ es ++ e ∷ [] → HasTrailRoom closed (groups ++ g ∷ []) trail'
-            → IsKept d b sound premise began disk' catalog' (after standing (TableIs made)) (groups ++ g ∷ []) trail' late closed
+        pub table_kept : (catalog' : Catalog) → (HasCatalogue d catalog disk → HasCatalogue d catalog' disk') → standing_of catalog' ≡ stands_after (standing_of catalog) (TableIs made) → (trail' : Recorded) → trail'.entries ≡ es ++ e ∷ [] → HasTrailRoom closed (groups ++ g ∷ []) trail'
+            → IsKept d b sound premise began disk' catalog' (stands_after standing (TableIs made)) (groups ++ g ∷ []) trail' late closed
         table_kept catalog' stored defined trail' entries room =
             define_kept d tells_left up_to_now b sound premise began disk catalog standing groups trail late closed k running disk' (TableIs made) passes touches leaves regions t e refl made_may refl moved explains
-            catalog' stored defined (after standing (TableIs made))
-            (subst (λ (c : Catalogue). Agrees (after standing (TableIs made)) c) (sym (catalogue-snoc b es e)) (agrees_made standing (catalogue_of b es) k.told.agrees (catalogue-stands b es k.told.base.catalogue k.told.legal) t what refl))
+            catalog' stored defined (stands_after standing (TableIs made))
+            (subst (λ (c : Catalogue). Agrees (stands_after standing (TableIs made)) c) (sym (catalogue-snoc b es e)) (agrees_made standing (catalogue_of b es) k.told.agrees (catalogue-stands b es k.told.base.catalogue k.told.legal) t what refl))
             (ap opened_standing defined ∙ same_after (standing_of catalog) standing (TableIs made) (k.told.same running))
             (groups ++ g ∷ [])
             (map-append table_in_group groups (g ∷ []) ∙ (ap (λ (ts : List Table). ts ++ g.table ∷ []) k.each.stand ∙ (ap (λ (x : Table). standing.tables ++ x ∷ []) fresh.table ∙ sym (put_last t.0 standing.tables made refl tables_away))))
@@ -294,7 +294,7 @@ module _ {D : Type 0} (d : Ghosts D) (tells_left : (x : D) (moment file : ℕ) (
     -- ---- a table is dropped
 
     module _ (t : TableId) (stands : IsSome (table_of b trail.entries t.0)) (quiet : IsQuiet trail.entries t.0)
-        (leaves : HasCatalogue d catalog disk → LeavesOnly d disk disk' (λ moment image. CatalogueStands image (standing_of catalog) ⊎ CatalogueStands image (after (standing_of catalog) (TableGone t)))) where
+        (leaves : HasCatalogue d catalog disk → LeavesOnly d disk disk' (λ moment image. CatalogueStands image (standing_of catalog) ⊎ CatalogueStands image (stands_after (standing_of catalog) (TableGone t)))) where
       abbrev gone : Entry
       gone = record { seat = seat; calls = d.calls disk'; act = Dropped t None }
 
@@ -302,22 +302,22 @@ module _ {D : Type 0} (d : Ghosts D) (tells_left : (x : D) (moment file : ℕ) (
       unfolding Follows
       gone_may = record { follows = (stands, quiet); shut = λ past. running_now; calls = calls_within disk' passes.later }
 
-      no_region : (n : ℕ) → IsAmong n (regions_in (TableGone t)) → IsAmong n (region_numbers (standing_of catalog)) ⊎ ((standing_of catalog).next ≤ n)
+      no_region : (n : ℕ) → IsNumberAmong n (regions_in (TableGone t)) → IsNumberAmong n (region_numbers (standing_of catalog)) ⊎ ((standing_of catalog).next ≤ n)
       no_region n among = absurd (false≢true among)
 
-      explains_less : sound → (f : FolderData) (v : ℕ → GroupData) → f.standing ≡ standing_of catalog → AreUnmade f → AllByRecursion (HasShown b es f.standing.indexes v) groups → AllByRecursion (IsOnDisk d disk f) groups → Explains b es f v → Explains b (es ++ gone ∷ []) (with_standing (after f.standing (TableGone t)) f) v
+      explains_less : sound → (f : FolderData) (v : ℕ → GroupData) → f.standing ≡ standing_of catalog → AreUnmade f → AllByRecursion (HasShown b es f.standing.indexes v) groups → AllByRecursion (IsOnDisk d disk f) groups → Explains b es f v → Explains b (es ++ gone ∷ []) (with_standing (stands_after f.standing (TableGone t)) f) v
       explains_less given f v is unmade shown on told = explains_gone b es f v told gone gone_may t refl
 
       pub gone_failed : (shut : Entry) (call : ℕ) → IsShutAt shut call → call ≡ d.calls disk' → HasFailed d disk' → (catalog' : Catalog) (trail' : Recorded) → trail'.entries ≡ es ++ shut ∷ [] → HasTrailRoom (Some call) groups trail'
           → IsKept d b sound premise began disk' catalog' standing groups trail' (Some gone) (Some call)
       gone_failed = define_failed d tells_left up_to_now b sound premise began disk catalog standing groups trail late closed k running disk' (TableGone t) passes touches leaves no_region t gone refl gone_may refl (λ v. v) explains_less
 
-      pub gone_kept : (catalog' : Catalog) → (HasCatalogue d catalog disk → HasCatalogue d catalog' disk') → standing_of catalog' ≡ after (standing_of catalog) (TableGone t) → (trail' : Recorded) → trail'.entries ≡ es ++ gone ∷ [] → HasTrailRoom closed (filter (keeps t.0) groups) trail'
-          → IsKept d b sound premise began disk' catalog' (after standing (TableGone t)) (filter (keeps t.0) groups) trail' late closed
+      pub gone_kept : (catalog' : Catalog) → (HasCatalogue d catalog disk → HasCatalogue d catalog' disk') → standing_of catalog' ≡ stands_after (standing_of catalog) (TableGone t) → (trail' : Recorded) → trail'.entries ≡ es ++ gone ∷ [] → HasTrailRoom closed (filter (keeps t.0) groups) trail'
+          → IsKept d b sound premise began disk' catalog' (stands_after standing (TableGone t)) (filter (keeps t.0) groups) trail' late closed
       gone_kept catalog' stored defined trail' entries room =
           define_kept d tells_left up_to_now b sound premise began disk catalog standing groups trail late closed k running disk' (TableGone t) passes touches leaves no_region t gone refl gone_may refl (λ v. v) explains_less
-          catalog' stored defined (after standing (TableGone t))
-          (subst (λ (c : Catalogue). Agrees (after standing (TableGone t)) c) (sym (catalogue-snoc b es gone)) (agrees_gone standing (catalogue_of b es) k.told.agrees t))
+          catalog' stored defined (stands_after standing (TableGone t))
+          (subst (λ (c : Catalogue). Agrees (stands_after standing (TableGone t)) c) (sym (catalogue-snoc b es gone)) (agrees_gone standing (catalogue_of b es) k.told.agrees t))
           (ap opened_standing defined ∙ same_after (standing_of catalog) standing (TableGone t) (k.told.same running))
           (filter (keeps t.0) groups) (map_less t.0 groups ∙ ap (other_tables t.0) k.each.stand)
           (λ P Q. Unit {0}) (carries_less t.0 groups) (λ v q other. refl)

@@ -5,7 +5,7 @@ use Rattle.px_outside.specs.declared.disk.Disk.{Ghosts}
 use Rattle.px_values.specs.declared.name.TableId.{TableId}
 use Rattle.px_tables.specs.declared.table.Table.{Table}
 use Rattle.px_trail.specs.declared.entry.Entry.{Entry}
-use Rattle.px_trail.specs.Batches.{BatchPhase, IsIn, batch_of}
+use Rattle.px_trail.specs.Batches.{BatchPhase, IsBatchIn, batch_of}
 use Rattle.px_trail.specs.Recorded.{Recorded}
 use Rattle.px_trail.specs.Trail.{Base}
 use Rattle.px_calls.specs.Requires.{TicketIn}
@@ -17,7 +17,7 @@ use Rattle.px_group.specs.Group.{IsRightGroup, as_phase}
 use Rattle.px_group.specs.declared.group.Begun.{Begun}
 use Rattle.px_group.specs.declared.group.Group.{Group}
 use Rattle.px_group.specs.declared.group.Phase.{Phase}
-use Rattle.px_batching.specs.Steps.{IsAt}
+use Rattle.px_batching.specs.Steps.{StandsInPhase}
 use Rattle.px_server.specs.Kept.{HasTallied, IsKept}
 use Rattle.px_server.specs.Others.{Beginning}
 use Rattle.px_server.specs.Shown.{Shown, known_by}
@@ -32,11 +32,11 @@ same_read (z ∷ xs) zero x y l a c = a ∙ sym c
 same_read (z ∷ xs) (suc i) x y l a c = same_read xs i x y (omega (arith, l)) a c
 
 -- the ticket's phase in the words of the server's fields
-pub ticket_in : (b : Base) (damaged : ℕ → ℕ → Bool) (t : Ticket) (phase : BatchPhase) (v w : Shown) → v ≡ w → TicketIn (known_by b damaged w) t phase → IsIn v.entries v.seat t.table.0 t.stamp phase
+pub ticket_in : (b : Base) (damaged : ℕ → ℕ → Bool) (t : Ticket) (phase : BatchPhase) (v w : Shown) → v ≡ w → TicketIn (known_by b damaged w) t phase → IsBatchIn v.entries v.seat t.table.0 t.stamp phase
 ticket_in b damaged t phase v w same mine = subst (λ (u : Shown). TicketIn (known_by b damaged u) t phase) (sym same) mine
 
 module _ {D : Type 0} (d : Ghosts D) (b : Base) (sound premise : Type 0) (began : Beginning) (disk : D) (catalog : Catalog) (standing : Standing) (groups : List Group) (trail : Recorded) (late : Option Entry) (closed : Option ℕ)
-    (k : IsKept d b sound premise began disk catalog standing groups trail late closed) (t : Ticket) (seat : ℕ) (p : Phase) (mine : IsIn trail.entries seat t.table.0 t.stamp (as_phase p)) (open_ : mine.batch.ended ≡ false) where
+    (k : IsKept d b sound premise began disk catalog standing groups trail late closed) (t : Ticket) (seat : ℕ) (p : Phase) (mine : IsBatchIn trail.entries seat t.table.0 t.stamp (as_phase p)) (open_ : mine.batch.ended ≡ false) where
   -- its table stands
   pub stands_somewhere : AllByRecursion (λ (x : Table). x.id.0 ≢ t.table.0) standing.tables → ⊥
   stands_somewhere none = none_running b trail.entries k.told.legal t.table.0 t.stamp mine.batch mine.is open_ (lacks b trail.entries standing k.told.agrees t.table.0 none)
@@ -54,8 +54,8 @@ module _ {D : Type 0} (d : Ghosts D) (b : Base) (sound premise : Type 0) (began 
     pub right_there : IsRightGroup g
     right_there = all_at IsRightGroup groups place g there (sym read) (k.each.right running)
 
-    mine_there : IsIn trail.entries seat g.table.id.0 t.stamp (as_phase p)
-    mine_there = subst (λ (u : TableId). IsIn trail.entries seat u.0 t.stamp (as_phase p)) (sym own_table) mine
+    mine_there : IsBatchIn trail.entries seat g.table.id.0 t.stamp (as_phase p)
+    mine_there = subst (λ (u : TableId). IsBatchIn trail.entries seat u.0 t.stamp (as_phase p)) (sym own_table) mine
 
     -- its group has it
     pub batch_somewhere : ((m : ℕ) (x : Begun) → slice_get g.batches.items m ≡ Some x → x.batch.stamp ≡ t.stamp → ⊥) → ⊥
@@ -66,5 +66,5 @@ module _ {D : Type 0} (d : Ghosts D) (b : Base) (sound premise : Type 0) (began 
         in none f.place f.batch f.is f.stamp)
 
     -- in its phase
-    pub batch_is : (m : ℕ) → m < length g.batches.items → ((x : Begun) → slice_get g.batches.items m ≡ Some x → x.batch.stamp ≡ t.stamp) → IsAt g m p
+    pub batch_is : (m : ℕ) → m < length g.batches.items → ((x : Begun) → slice_get g.batches.items m ≡ Some x → x.batch.stamp ≡ t.stamp) → StandsInPhase g m p
     batch_is m l stamp = is_at b trail.entries g tallied_there.held tallied_there.tallied m t.stamp l stamp p seat mine_there

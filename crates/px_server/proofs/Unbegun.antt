@@ -11,7 +11,7 @@ use Rattle.px_forms.specs.Indexes.{IndexForm}
 use Rattle.px_groupworld.specs.Group.{GroupData, table_form}
 use Rattle.px_rows.specs.Spelled.{row_form}
 use Rattle.px_region.specs.Promise.{IsAlike}
-use Rattle.px_region.specs.Region.{Holds}
+use Rattle.px_region.specs.Region.{RegionHolds}
 use Rattle.px_region.specs.declared.region.Region.{Region}
 use Rattle.px_region.proofs.Holding.{holds_alike}
 use Rattle.px_defined.specs.Defined.{AreOnceIn, HasOnce}
@@ -42,8 +42,8 @@ alike_once [] (y ∷ ys) l all = absurd l
 alike_once (x ∷ xs) [] l all = absurd l
 alike_once (x ∷ xs) (y ∷ ys) l all = (subst (λ (n : ℕ). AllByRecursion (λ z. n ≢ z.index.id.0) ys) (ap (λ (i : Index). i.id.0) (sym l.0.0)) (alike_apart x.index.id.0 xs ys l.1 all.0), alike_once xs ys l.1 all.1)
 
-alike_holds : {D : Type 0} (d : Ghosts D) (disk : D) (f : FolderData) (old new : Region) → IsAlike old new → Holds d old disk (f.regions old.number) → Holds d new disk (f.regions new.number)
-alike_holds d disk f old new l k = subst (λ (n : ℕ). Holds d new disk (f.regions n)) (sym l.number) (holds_alike d old disk (f.regions old.number) k new l)
+alike_holds : {D : Type 0} (d : Ghosts D) (disk : D) (f : FolderData) (old new : Region) → IsAlike old new → RegionHolds d old disk (f.regions old.number) → RegionHolds d new disk (f.regions new.number)
+alike_holds d disk f old new l k = subst (λ (n : ℕ). RegionHolds d new disk (f.regions n)) (sym l.number) (holds_alike d old disk (f.regions old.number) k new l)
 
 -- ---- the group
 

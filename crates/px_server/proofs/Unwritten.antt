@@ -18,7 +18,7 @@ use Rattle.px_catalog.specs.declared.catalog.Catalog.{Catalog}
 use Rattle.px_catalog.specs.declared.fault.CatalogFault.{CatalogFault}
 use Rattle.px_catalog.specs.declared.fault.CatalogFault.TheVariants.{Full, Memory, WriteFault}
 use Rattle.px_group.specs.declared.group.Group.{Group}
-use Rattle.px_defined.specs.Defined.{IsSame}
+use Rattle.px_defined.specs.Defined.{IsSameTable}
 use Rattle.px_server.specs.Kept.{HasFailed, HasTrailRoom, IsKept, IsShutAt}
 use Rattle.px_server.specs.Others.{Beginning}
 use Rattle.px_server.proofs.Blamed.{failed_rose}
@@ -28,7 +28,7 @@ use Rattle.px_server.proofs.Seen.{one_more, stays}
 
 module _ {D : Type 0} (d : Ghosts D) (b : Base) (sound premise : Type 0) (began : Beginning) (disk : D) (catalog : Catalog) (standing : Standing) (groups : List Group) (trail : Recorded) (late : Option Entry) (closed : Option ℕ) (k : IsKept d b sound premise began disk catalog standing groups trail late closed) where
   -- room is taken in a group and in the trail
-  pub reserved : (place : ℕ) (g g' : Group) → place < length groups → get_or groups place g ≡ g → IsSame g g' → (trail' : Recorded) → trail'.entries ≡ trail.entries → trail.room ≤ trail'.room → IsKept d b sound premise began disk catalog standing (slice_set groups place g') trail' late closed
+  pub reserved : (place : ℕ) (g g' : Group) → place < length groups → get_or groups place g ≡ g → IsSameTable g g' → (trail' : Recorded) → trail'.entries ≡ trail.entries → trail.room ≤ trail'.room → IsKept d b sound premise began disk catalog standing (slice_set groups place g') trail' late closed
   reserved place g g' l g_is same trail' entries room =
       roomy d b sound premise began disk catalog standing (slice_set groups place g') trail late closed (looked_kept d b sound premise began disk catalog standing groups trail late closed k place g g' l g_is (same_looked g g' same)) trail' entries room
 

@@ -15,7 +15,7 @@ use Rattle.px_trail.specs.declared.entry.Entry.{Entry}
 use Rattle.px_trail.proofs.Batches.{batch-none, in_closing, in_verifying}
 use Rattle.px_trail.proofs.Growth.{batch_of-snoc, legal-induct, points-snoc}
 use Rattle.px_calls.specs.Causes.{uses_from, uses_of, uses_step}
-use Rattle.px_openbatches.specs.Pending.{HeldBatch, IsHeld, IsRisingFrom, is_in}
+use Rattle.px_openbatches.specs.Pending.{AreStampsRisingFrom, HeldBatch, IsHeldBatch, is_in}
 use Rattle.px_phases.specs.Batch.{AreHeldAs}
 use Rattle.px_group.specs.Group.{IsTallied, batch_in, one_if, points_in}
 use Rattle.px_group.specs.declared.group.Begun.{Begun as OpenBatch}
@@ -381,7 +381,7 @@ stamp_of h = h.stamp
 abbrev stamps_of : List HeldBatch → List ℕ
 stamps_of hs = map stamp_of hs
 
-none_above : (u q : ℕ) (hs : List HeldBatch) → u ≤ q → IsRisingFrom q hs → stamps_in u (stamps_of hs) ≡ 0
+none_above : (u q : ℕ) (hs : List HeldBatch) → u ≤ q → AreStampsRisingFrom q hs → stamps_in u (stamps_of hs) ≡ 0
 none_above u q [] le up = refl
 none_above u q (h ∷ hs) le up = (let
     m : stamps_in u (stamps_of (h ∷ hs)) ≡ one_if (h.stamp == u) + stamps_in u (stamps_of hs) = sum_by-cons (λ x. one_if (x == u)) h.stamp (stamps_of hs)
@@ -394,7 +394,7 @@ none_above u q (h ∷ hs) le up = (let
     in omega (arith, m, own, more))
 
 -- stamps rise, so each comes once
-once_rising : (u q : ℕ) (hs : List HeldBatch) → IsRisingFrom q hs → stamps_in u (stamps_of hs) ≡ one_if (is_in u hs)
+once_rising : (u q : ℕ) (hs : List HeldBatch) → AreStampsRisingFrom q hs → stamps_in u (stamps_of hs) ≡ one_if (is_in u hs)
 once_rising u q [] up = refl
 once_rising u q (h ∷ hs) up = elim (cases_eq h.stamp u) [
   | inl e ↦ (let
@@ -417,7 +417,7 @@ once_rising u q (h ∷ hs) up = elim (cases_eq h.stamp u) [
       in omega (arith, m, own, more, there))
 ]
 
-held_open : (es : List Entry) (t u : ℕ) (hs : List HeldBatch) → AllByRecursion (IsHeld es t) hs → is_in u hs ≡ true → open_in (batch_of t u es) ≡ 1
+held_open : (es : List Entry) (t u : ℕ) (hs : List HeldBatch) → AllByRecursion (IsHeldBatch es t) hs → is_in u hs ≡ true → open_in (batch_of t u es) ≡ 1
 held_open es t u [] each is = absurd (false≢true is)
 held_open es t u (h ∷ hs) each is = elim (cases_eq h.stamp u) [
   | inl e ↦ ap (λ (n : ℕ). open_in (batch_of t n es)) (sym e) ∙ (ap open_in each.0.is ∙ ap (λ (d : Bool). one_if (not d)) each.0.running)

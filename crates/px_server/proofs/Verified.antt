@@ -6,13 +6,13 @@ use Rattle.px_values.specs.declared.name.TableId.{TableId}
 use Rattle.px_trail.specs.declared.entry.Act.{Act}
 use Rattle.px_trail.specs.declared.entry.Act.TheVariants.{Phase, Wrote, Ended}
 use Rattle.px_trail.specs.declared.entry.Entry.{Entry}
-use Rattle.px_trail.specs.Batches.{Batch, IsIn, batch_of, batch_step}
+use Rattle.px_trail.specs.Batches.{Batch, IsBatchIn, batch_of, batch_step}
 use Rattle.px_trail.specs.Batches as phases
 use Rattle.px_trail.specs.Legal.{Follows, IsLegal, IsPhased, MayCome}
 use Rattle.px_trail.specs.Trail.{Base}
 use Rattle.px_trail.proofs.Batches.{in_marking}
 use Rattle.px_trail.proofs.Growth.{batch_of-snoc, legal-induct}
-use Rattle.px_server.specs.Ending.{HasVerified, tells_verified}
+use Rattle.px_server.specs.Ending.{HasVerifiedEntry, tells_verified}
 
 same_some : {A : Type 0} (x y : A) → Some x ≡ Some y → x ≡ y
 same_some x y e = cc
@@ -39,11 +39,11 @@ told_step t s u r p seat y one two = ap (λ v. if v && (r == s) then Some (recor
 
 module _ (b : Base) (es : List Entry) (t s : ℕ) where
   -- the first phase isn't told again
-  not_first : (y : Batch) → batch_of t s es ≡ Some y → 2 ≤ y.phase → (seat : ℕ) → IsIn es seat t s phases.Marking → ⊥
+  not_first : (y : Batch) → batch_of t s es ≡ Some y → 2 ≤ y.phase → (seat : ℕ) → IsBatchIn es seat t s phases.Marking → ⊥
   not_first y is done seat i = (let own : i.batch ≡ y = same_some i.batch y (sym i.is ∙ is) in let first : i.batch.phase ≡ 0 = (in_marking i.batch i.phase).1 in let same : i.batch.phase ≡ y.phase = ap (λ (z : Batch). z.phase) own in omega (arith, done, first, same))
 
   phase_kept : (y : Batch) → batch_of t s es ≡ Some y → 2 ≤ y.phase → (seat : ℕ) (u : TableId) (r p : ℕ) → IsPhased es seat u.0 r p → (v : Bool) → ((u.0 == t) && (r == s)) ≡ v → IsDone (if v then Some (record y { phase = p }) else Some y)
-  phase_kept y is done seat u r p (inl f) true at = (let parts = and_parts (u.0 == t) (r == s) at in absurd (not_first y is done seat (subst (λ (n : ℕ). IsIn es seat n s phases.Marking) (eqb-true u.0 t parts.0) (subst (λ (n : ℕ). IsIn es seat u.0 n phases.Marking) (eqb-true r s parts.1) f.1))))
+  phase_kept y is done seat u r p (inl f) true at = (let parts = and_parts (u.0 == t) (r == s) at in absurd (not_first y is done seat (subst (λ (n : ℕ). IsBatchIn es seat n s phases.Marking) (eqb-true u.0 t parts.0) (subst (λ (n : ℕ). IsBatchIn es seat u.0 n phases.Marking) (eqb-true r s parts.1) f.1))))
   phase_kept y is done seat u r p (inr f) true at = record { batch = record y { phase = p }; is = refl; phase = (let three = f.0 in omega (arith, three)) }
   phase_kept y is done seat u r p f false at = record { batch = y; is = refl; phase = done }
 
@@ -91,5 +91,5 @@ next_done b t s es e legal may before k x is tells = subst IsDone (sym (batch_of
   | inr new ↦ now_done b es t s e.seat e.calls e.act may.follows (ap (λ (z : Entry). tells_verified t s z.act) new ∙ tells)
 ])
 
-pub verified_done : (b : Base) (es : List Entry) → IsLegal b es → (t s : ℕ) → HasVerified es t s → IsDone (batch_of t s es)
+pub verified_done : (b : Base) (es : List Entry) → IsLegal b es → (t s : ℕ) → HasVerifiedEntry es t s → IsDone (batch_of t s es)
 verified_done b es legal t s v = legal-induct b (HasDone t s) (next_done b t s) [] es legal (λ k e is tells. absurd (none_get k e is)) v.place v.entry v.is v.tells

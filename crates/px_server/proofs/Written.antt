@@ -3,7 +3,7 @@ use Rattle.std.proofs.Common.{◌≡◌, ◌≢◌, ◌<◌, ◌≤◌, ◌+◌,
 use Rattle.std.specs.Prelude.{IsTrue}
 use Rattle.std.specs.List.{AllByRecursion, slice_set}
 use Rattle.std.proofs.lemmas.List.Sums.{sum_by-set}
-use Rattle.px_outside.specs.Disk.{Image, IsLeft}
+use Rattle.px_outside.specs.Disk.{Image, IsLeftBy}
 use Rattle.px_outside.specs.OnDisk.{Rose}
 use Rattle.px_outside.specs.Parts.{AreDistinct, with_part}
 use Rattle.px_outside.specs.Standing.{StandsIn}
@@ -21,7 +21,7 @@ use Rattle.px_trail.specs.Recorded.{Recorded}
 use Rattle.px_trail.specs.Trail.{Base, Catalogue, catalogue_of, catalogue_step, closing_step, open_points, points_step}
 use Rattle.px_trail.proofs.Growth.{catalogue-snoc, legal-snoc, points-snoc}
 use Rattle.px_wal.specs.Files.{HasFile}
-use Rattle.px_region.specs.Region.{Holds, Stands, with_batch}
+use Rattle.px_region.specs.Region.{RegionHolds, RegionStands, with_batch}
 use Rattle.px_region.specs.declared.region.Region.{Region}
 use Rattle.px_region.proofs.Holding.{holds_stands}
 use Rattle.px_indexed.specs.Idle.{IsElsewhere}
@@ -37,12 +37,12 @@ use Rattle.px_batching.proofs.Traced.{traced_idle, traced_of}
 use Rattle.px_defined.specs.Defined.{HasOnce}
 use Rattle.px_noting.proofs.Others.{apart_points}
 use Rattle.px_recovery.specs.Folder.{FolderData, with_region}
-use Rattle.px_recovery.specs.Kept.{GoesOn, IsServer, LeavesFolder, MovesFolder}
+use Rattle.px_recovery.specs.Kept.{FolderGoesOn, IsServer, LeavesFolder, MovesFolder}
 use Rattle.px_recovery.specs.Stands.{AreNumbered, Explains, TellsCatalogue}
 use Rattle.px_recovery.proofs.Regions.{moved_at, moves_at}
 use Rattle.px_recovery.proofs.Server.{newest_early}
 use Rattle.px_standing.specs.Agrees.{Agrees}
-use Rattle.px_server.specs.Kept.{AreGroups, AreShown, HasBegun, HasFailed, HasParts, HasPoints, HasShown, HasTallied, HasTrailRoom, IsKept, IsOnDisk, IsShutAt, IsTold, has_told, number_in, owed, spare, table_in_group, tells_fault}
+use Rattle.px_server.specs.Kept.{AreGroups, AreShown, HasBegun, HasFailed, HasPoints, HasServerParts, HasShown, HasTallied, HasTrailRoom, IsKept, IsOnDisk, IsShutAt, IsTold, has_told, number_in, owed, spare, table_in_group, tells_fault}
 use Rattle.px_server.specs.Others.{Beginning, IsRegion, OthersStay}
 use Rattle.px_server.proofs.Beside.{once_then, points_then, right_then, shown_then, tallied_then}
 use Rattle.px_server.proofs.Blamed.{blamed_on, blamed_quiet, failed_rose}
@@ -84,7 +84,7 @@ module _ {D : Type 0} (d : Ghosts D) (tells_left : (x : D) (moment file : ℕ) (
     (disk' : D) (old new : Region) (cells : List CellData) (writes : WritesTo d old new disk disk' cells)
     (lacks : (s : Standing) → TellsCatalogue s (catalogue_of b trail.entries) → AreNumbered s → (h : Group) → IsRightGroup h → AreStanding b trail.entries h → number_in h ≢ number_in g → LacksNumber old.number h)
     (drawn : (s : Standing) → TellsCatalogue s (catalogue_of b trail.entries) → AreNumbered s → (1 ≤ old.number) × (old.number < s.next))
-    (holds : (f : FolderData) → IsOnDisk d disk f g → Holds d old disk (f.regions old.number)) (stands : IsRegion (catalogue_of b trail.entries) old.number) where
+    (holds : (f : FolderData) → IsOnDisk d disk f g → RegionHolds d old disk (f.regions old.number)) (stands : IsRegion (catalogue_of b trail.entries) old.number) where
   abbrev es : List Entry
   es = trail.entries
 
@@ -108,13 +108,13 @@ module _ {D : Type 0} (d : Ghosts D) (tells_left : (x : D) (moment file : ℕ) (
 
   -- ---- the disk
 
-  holds_now : (goes : GoesOn d b (HasParts d b sound catalog groups) disk es) → Holds d old disk (goes.folder.regions old.number)
+  holds_now : (goes : FolderGoesOn d b (HasServerParts d b sound catalog groups) disk es) → RegionHolds d old disk (goes.folder.regions old.number)
   holds_now goes = holds goes.folder (own (IsOnDisk d disk goes.folder) goes.has.regions)
 
-  drawn_now : (goes : GoesOn d b (HasParts d b sound catalog groups) disk es) → (1 ≤ old.number) × (old.number < goes.folder.standing.next)
+  drawn_now : (goes : FolderGoesOn d b (HasServerParts d b sound catalog groups) disk es) → (1 ≤ old.number) × (old.number < goes.folder.standing.next)
   drawn_now goes = drawn goes.folder.standing goes.explains.catalogue goes.explains.numbered
 
-  past : premise → IsTrue d.tells → (moment : ℕ) (image : Image) → moment < d.calls disk → IsLeft d.left disk' moment image → IsLeft d.left disk moment image
+  past : premise → IsTrue d.tells → (moment : ℕ) (image : Image) → moment < d.calls disk → IsLeftBy d.left disk' moment image → IsLeftBy d.left disk moment image
   past given tells moment image before left file = (let
       goes = k.server.goes_on running given tells
       in (writes.touches (goes.folder.regions old.number) (holds_now goes)).past moment file (image file) before (left file))
@@ -124,7 +124,7 @@ module _ {D : Type 0} (d : Ghosts D) (tells_left : (x : D) (moment file : ℕ) (
       goes = k.server.goes_on running given tells
       in others_on d b began es disk disk' (HasFile old.number) (own_file b es old.number stands) (writes.touches (goes.folder.regions old.number) (holds_now goes)) (k.others given tells))
 
-  left_now : (es' : List Entry) (goes : GoesOn d b (HasParts d b sound catalog groups) disk es) → TellsThen b es' (changed goes.folder) goes.groups t → LeavesFolder d b disk disk' es' goes.folder
+  left_now : (es' : List Entry) (goes : FolderGoesOn d b (HasServerParts d b sound catalog groups) disk es) → TellsThen b es' (changed goes.folder) goes.groups t → LeavesFolder d b disk disk' es' goes.folder
   left_now es' goes tells = (let
       s = goes.folder.regions old.number
       in record {
@@ -182,7 +182,7 @@ module _ {D : Type 0} (d : Ghosts D) (tells_left : (x : D) (moment file : ℕ) (
         w = shows given standing.indexes s.told (own (HasShown b es standing.indexes s.told) s.each)
         in record { told = with_part s.told t w.table_data; each = shown_set standing.indexes s.told w.table_data w.has s.each })
 
-    regions_then : (goes : GoesOn d b (HasParts d b sound catalog groups) disk es) → AllByRecursion (IsOnDisk d disk' (changed goes.folder)) then
+    regions_then : (goes : FolderGoesOn d b (HasServerParts d b sound catalog groups) disk es) → AllByRecursion (IsOnDisk d disk' (changed goes.folder)) then
     regions_then goes = (let
         f = goes.folder
         in let
@@ -197,7 +197,7 @@ module _ {D : Type 0} (d : Ghosts D) (tells_left : (x : D) (moment file : ℕ) (
         (λ h other a. group_framed d disk disk' old.number touches f (with_batch s cells) h (lacks f.standing goes.explains.catalogue goes.explains.numbered h a.1.0 a.1.1.tallied.standing other) a.0)
         (on_disk f goes.explains.catalogue goes.explains.numbered (own (IsOnDisk d disk f) goes.has.regions)) all)
 
-    moves_then : (goes : GoesOn d b (HasParts d b sound catalog groups) disk es) → MovesFolder d b (HasParts d b sound catalog then) disk disk' es' goes.folder
+    moves_then : (goes : FolderGoesOn d b (HasServerParts d b sound catalog groups) disk es) → MovesFolder d b (HasServerParts d b sound catalog then) disk disk' es' goes.folder
     unfolding left_now
     moves_then goes = (let
         f = goes.folder
@@ -210,7 +210,7 @@ module _ {D : Type 0} (d : Ghosts D) (tells_left : (x : D) (moment file : ℕ) (
         in let
         m = moves goes.has.given f v goes.explains (own (IsOnDisk d disk f) goes.has.regions) (own (HasShown b es f.standing.indexes v) goes.has.shown)
         in let
-        stands = subst (λ (n : ℕ). StandsIn d disk' (HasFile n) (λ image. Stands n image (with_batch s cells))) writes.number (holds_stands d new disk' (with_batch s cells) (written.holds s (holds_now goes)))
+        stands = subst (λ (n : ℕ). StandsIn d disk' (HasFile n) (λ image. RegionStands n image (with_batch s cells))) writes.number (holds_stands d new disk' (with_batch s cells) (written.holds s (holds_now goes)))
         in record {
           left = left_now es' goes (record { table_data = m.table_data; explains = m.explains });
           on = moved_at d disk disk' f goes.stands old.number (drawn_now goes).0 (drawn_now goes).1 (with_batch s cells) touches stands;
@@ -224,12 +224,12 @@ module _ {D : Type 0} (d : Ghosts D) (tells_left : (x : D) (moment file : ℕ) (
         })
 
     -- the rest, once the server's promise on stops is told
-    finish : IsServer d b premise (HasParts d b sound catalog then) disk' es' late closed → (has_told es' ≡ true → HasFailed d disk') → (premise → IsTrue d.tells → OthersStay d b began disk' es') → (trail' : Recorded) → trail'.entries ≡ es' → owed g' + trail.room ≤ owed g + trail'.room → IsKept d b sound premise began disk' catalog standing then trail' late closed
+    finish : IsServer d b premise (HasServerParts d b sound catalog then) disk' es' late closed → (has_told es' ≡ true → HasFailed d disk') → (premise → IsTrue d.tells → OthersStay d b began disk' es') → (trail' : Recorded) → trail'.entries ≡ es' → owed g' + trail.room ≤ owed g + trail'.room → IsKept d b sound premise began disk' catalog standing then trail' late closed
     finish server blamed others trail' entries room = record {
       told = subst (λ (ys : List Entry). IsTold b ys closed (standing_of catalog) standing) (sym entries) told_then;
       each = subst (λ (ys : List Entry). AreGroups b ys closed standing.tables then) (sym entries) groups_then;
       shown = λ given open_. subst (λ (ys : List Entry). AreShown b ys standing.indexes then) (sym entries) (shown_now given open_);
-      server = subst (λ (ys : List Entry). IsServer d b premise (HasParts d b sound catalog then) disk' ys late closed) (sym entries) server;
+      server = subst (λ (ys : List Entry). IsServer d b premise (HasServerParts d b sound catalog then) disk' ys late closed) (sym entries) server;
       room = room_then closed trail' (omega (arith, room));
       blamed = subst (λ (ys : List Entry). has_told ys ≡ true → HasFailed d disk') (sym entries) blamed;
       last_call = λ c same. absurd (none_some c (sym running ∙ same));
@@ -247,7 +247,7 @@ module _ {D : Type 0} (d : Ghosts D) (tells_left : (x : D) (moment file : ℕ) (
         in let
         points' : HasPoints es g' = λ seat s. (let mine = own (HasPoints es) k.each.points in ap (λ (x : Table). open_points seat x.id.0 s es) table ∙ (mine seat s ∙ ap (λ p. points_in seat s p.items) (sym points)))
         in finish es by right next tallied only points' written on_disk shows moves
-        (changed_server d tells_left up_to_now b premise (HasParts d b sound catalog groups) (HasParts d b sound catalog then) disk es late closed k.server running disk' writes.counts.later past
+        (changed_server d tells_left up_to_now b premise (HasServerParts d b sound catalog groups) (HasServerParts d b sound catalog then) disk es late closed k.server running disk' writes.counts.later past
         (moves_then es by right next tallied only points' written on_disk shows moves))
         (blamed_on d disk disk' es writes.counts.later writes.counts.faults_later k.blamed) others_on_disk trail refl (omega (arith, room)))
 
@@ -262,7 +262,7 @@ module _ {D : Type 0} (d : Ghosts D) (tells_left : (x : D) (moment file : ℕ) (
       handed_told tallied points' shows moves trail' entries room = (let
           by = one_entry b es k.told.legal t e of
           in finish es' by right next tallied only points' written on_disk shows moves
-          (lasting_server d tells_left up_to_now b premise (HasParts d b sound catalog groups) (HasParts d b sound catalog then) disk es late closed k.server running disk' writes.counts.later past writes.counts.at_most e lasts at of.may of.unshut
+          (lasting_server d tells_left up_to_now b premise (HasServerParts d b sound catalog groups) (HasServerParts d b sound catalog then) disk es late closed k.server running disk' writes.counts.later past writes.counts.at_most e lasts at of.may of.unshut
           (moves_then es' by right next tallied only points' written on_disk shows moves))
           (blamed_quiet d disk' es e quiet (blamed_on d disk disk' es writes.counts.later writes.counts.faults_later k.blamed))
           (λ given tells. others_more d b began es (e ∷ []) disk' (others_on_disk given tells)) trail' entries room)
@@ -280,7 +280,7 @@ module _ {D : Type 0} (d : Ghosts D) (tells_left : (x : D) (moment file : ℕ) (
       handed_noted tallied points' shows tells moves trail' entries room = (let
           by = one_entry b es k.told.legal t e of
           in finish noted by right next tallied only points' written on_disk shows moves
-          (noted_step d tells_left up_to_now b premise (HasParts d b sound catalog groups) (HasParts d b sound catalog then) disk es late closed k.server running disk' writes.counts.later past e quiet at of.may (ap (λ (o : Option ℕ). closing_step o e.act) running ∙ (of.unshut ∙ sym running))
+          (noted_step d tells_left up_to_now b premise (HasServerParts d b sound catalog groups) (HasServerParts d b sound catalog then) disk es late closed k.server running disk' writes.counts.later past e quiet at of.may (ap (λ (o : Option ℕ). closing_step o e.act) running ∙ (of.unshut ∙ sym running))
           (λ goes. left_now es goes (tells goes.has.given goes.folder goes.groups goes.explains (own (IsOnDisk d disk goes.folder) goes.has.regions) (own (HasShown b es goes.folder.standing.indexes goes.groups) goes.has.shown)))
           (λ goes. (moves_then noted by right next tallied only points' written on_disk shows moves goes).on)
           (moves_then noted by right next tallied only points' written on_disk shows moves))
@@ -328,7 +328,7 @@ module _ {D : Type 0} (d : Ghosts D) (tells_left : (x : D) (moment file : ℕ) (
         in same ∙ (subst (λ (a : Act). points_step seat h.table.id.0 s (open_points seat h.table.id.0 s es) shut.seat a ≡ open_points seat h.table.id.0 s es) (sym shut-is)
         (apart_points h.table.id seat s (open_points seat h.table.id.0 s es) shut.seat (Shut call) tt) ∙ p seat s))
 
-    closed_then : (o : Option Entry) → IsServer d b premise (HasParts d b sound catalog then) disk' ended o (Some call) → IsKept d b sound premise began disk' catalog standing then trail' o (Some call)
+    closed_then : (o : Option Entry) → IsServer d b premise (HasServerParts d b sound catalog then) disk' ended o (Some call) → IsKept d b sound premise began disk' catalog standing then trail' o (Some call)
     closed_then o server = (let
         mine : HasPoints es g' = λ seat s. (let was = own (HasPoints es) k.each.points in ap (λ (x : Table). open_points seat x.id.0 s es) table ∙ (was seat s ∙ ap (λ p. points_in seat s p.items) (sym points)))
         in let
@@ -354,7 +354,7 @@ module _ {D : Type 0} (d : Ghosts D) (tells_left : (x : D) (moment file : ℕ) (
           told = subst (λ (ys : List Entry). IsTold b ys (Some call) (standing_of catalog) standing) (sym entries) told;
           each = subst (λ (ys : List Entry). AreGroups b ys (Some call) standing.tables then) (sym entries) each;
           shown = λ given none. absurd cc;
-          server = subst (λ (ys : List Entry). IsServer d b premise (HasParts d b sound catalog then) disk' ys o (Some call)) (sym entries) server;
+          server = subst (λ (ys : List Entry). IsServer d b premise (HasServerParts d b sound catalog then) disk' ys o (Some call)) (sym entries) server;
           room = room_then (Some call) trail' (let s : spare closed ≡ 1 = ap spare running in omega (arith, room, s));
           blamed = λ told_of. failed_rose d disk disk' rose;
           last_call = λ c same. call_is c call same ∙ called;
@@ -364,12 +364,12 @@ module _ {D : Type 0} (d : Ghosts D) (tells_left : (x : D) (moment file : ℕ) (
     -- with nothing under way
     pub handed_shut : (sound → (f : FolderData) (v : ℕ → GroupData) → Explains b es f v → IsOnDisk d disk f g → HasShown b es f.standing.indexes v g → TellsThen b es (changed f) v t) → IsKept d b sound premise began disk' catalog standing then trail' None (Some call)
     handed_shut tells =
-        closed_then None (shut_server d tells_left up_to_now b premise (HasParts d b sound catalog groups) (HasParts d b sound catalog then) disk es late closed k.server running disk' writes.counts.later past shut call shut-is shut_at
+        closed_then None (shut_server d tells_left up_to_now b premise (HasServerParts d b sound catalog groups) (HasServerParts d b sound catalog then) disk es late closed k.server running disk' writes.counts.later past shut call shut-is shut_at
         (λ goes. left_now es goes (tells goes.has.given goes.folder goes.groups goes.explains (own (IsOnDisk d disk goes.folder) goes.has.regions) (own (HasShown b es goes.folder.standing.indexes goes.groups) goes.has.shown))))
 
     -- with an entry that is late
     pub handed_late : (u : Entry) → lasting u ≡ true → u.calls ≡ d.calls disk' → MayCome b es u
         → ((f : FolderData) (v : ℕ → GroupData) → Explains b es f v → IsOnDisk d disk f g → HasShown b es f.standing.indexes v g → TellsThen b (es ++ u ∷ []) (changed f) v t) → IsKept d b sound premise began disk' catalog standing then trail' (Some u) (Some call)
     handed_late u lasts at may tells =
-        closed_then (Some u) (late_entry d tells_left up_to_now b premise (HasParts d b sound catalog groups) (HasParts d b sound catalog then) disk es late closed k.server running disk' writes.counts.later past shut call shut-is shut_at writes.counts.at_most u lasts at may
+        closed_then (Some u) (late_entry d tells_left up_to_now b premise (HasServerParts d b sound catalog groups) (HasServerParts d b sound catalog then) disk es late closed k.server running disk' writes.counts.later past shut call shut-is shut_at writes.counts.at_most u lasts at may
         (λ goes. left_now (es ++ u ∷ []) goes (tells goes.folder goes.groups goes.explains (own (IsOnDisk d disk goes.folder) goes.has.regions) (own (HasShown b es goes.folder.standing.indexes goes.groups) goes.has.shown))))

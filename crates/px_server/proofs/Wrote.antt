@@ -18,9 +18,9 @@ use Rattle.px_forms.specs.Several.{cells_for}
 use Rattle.px_batchcells.proofs.RowsPut.{writes_some}
 use Rattle.px_groupworld.specs.Group.{GroupData, TableForm}
 use Rattle.px_groupworld.specs.Steps.{wrote_data}
-use Rattle.px_openbatches.specs.Made.{RowCells, cells_at}
-use Rattle.px_openbatches.specs.Opens.{IsReady}
-use Rattle.px_openbatches.specs.Pending.{HeldBatch, IsHeld, held_wrote}
+use Rattle.px_openbatches.specs.Made.{RowCells, picked_cells}
+use Rattle.px_openbatches.specs.Opens.{IsBatchReady}
+use Rattle.px_openbatches.specs.Pending.{HeldBatch, IsHeldBatch, held_wrote}
 use Rattle.px_openbatches.proofs.Hands.{can_write}
 use Rattle.px_phases.specs.Batch.{IsHeldAs}
 use Rattle.px_phases.proofs.Held.{puts_handed}
@@ -61,8 +61,8 @@ module _ {D : Type 0} (d : Ghosts D) (b : Base) (es : List Entry) (g g' : Group)
     own_act : e.act ≡ Wrote g.table.id h.stamp rows
     own_act = act ∙ ap (λ (n : ℕ). Wrote g.table.id n rows) (sym (stamp_is b es g hs k m o.batch o.step.step.batch))
 
-    puts : ReadsSame o.cells (cells_for (cells_at (λ (q : RowCells). q.puts) h.cells) rows)
-    puts = subst (λ (cs : List Change). ReadsSame o.cells (cells_for (cells_at (λ (q : RowCells). q.puts) h.cells) (rows_of cs))) tie.1.0.changes (puts_handed o.batch.batch h tie.1.0 o.parts o.kept o.cells o.handed)
+    puts : ReadsSame o.cells (cells_for (picked_cells (λ (q : RowCells). q.puts) h.cells) rows)
+    puts = subst (λ (cs : List Change). ReadsSame o.cells (cells_for (picked_cells (λ (q : RowCells). q.puts) h.cells) (rows_of cs))) tie.1.0.changes (puts_handed o.batch.batch h tie.1.0 o.parts o.kept o.cells o.handed)
 
     before : ReadsSame cells (o.cells ++ v.cells)
     before = subst (λ (q : List CellData). ReadsSame cells (o.cells ++ q)) (sym shown.rows) put
@@ -78,11 +78,11 @@ module _ {D : Type 0} (d : Ghosts D) (b : Base) (es : List Entry) (g g' : Group)
       indexes = refl;
     }
 
-    held : IsHeld es g.table.id.0 h
-    held = held_at (IsHeld es g.table.id.0) hs m shown.kept.opens.held.each tie.0
+    held : IsHeldBatch es g.table.id.0 h
+    held = held_at (IsHeldBatch es g.table.id.0) hs m shown.kept.opens.held.each tie.0
 
-    ready : IsReady form es v.indexes h
-    ready = held_at (IsReady form es v.indexes) hs m shown.kept.opens.ready tie.0
+    ready : IsBatchReady form es v.indexes h
+    ready = held_at (IsBatchReady form es v.indexes) hs m shown.kept.opens.ready tie.0
 
     writable : IsWritable es e.seat g.table.id.0 h.stamp rows
     unfolding Follows

@@ -2,7 +2,7 @@
 use Rattle.std.specs.Prelude.{◌≡◌, List}
 use Rattle.px_values.specs.declared.name.IndexId.{IndexId}
 use Rattle.px_group.specs.declared.group.Group.{Group}
-use Rattle.px_basing.specs.Basing.{cells_at}
+use Rattle.px_basing.specs.Basing.{base_cells_of}
 use Rattle.px_basing.specs.Refused.{IsRefusedFor}
 use Rattle.px_basing.specs.declared.fault.BaseFault.{BaseFault}
 use Rattle.px_basing.specs.declared.fault.BaseFault.TheVariants.{Busy, NotReady, WriteFault, Memory}
@@ -21,7 +21,7 @@ AnswersBase Memory answer = answer ≡ steps.Memory
 
 -- the region of the point's table's index of this number refuses room for the base versions of these rows
 abbrev pub IsRefusedBase : List Group → Point → IndexId → List BaseRow → BaseFault → Type 0
-IsRefusedBase groups p i xs f = IsRefusedIn groups i (λ group part index. (group.table.id ≡ p.table) × IsRefusedFor index.region (cells_at group index xs) f)
+IsRefusedBase groups p i xs f = IsRefusedIn groups i (λ group part index. (group.table.id ≡ p.table) × IsRefusedFor index.region (base_cells_of group index xs) f)
 
 -- A region that is busy or isn't ready is told only so.
 abbrev pub RefusesBases : List Group → Point → IndexId → List BaseRow → StepFault → Type 0

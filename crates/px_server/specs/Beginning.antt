@@ -8,7 +8,7 @@ use Rattle.px_trail.specs.Batches.{rows_of}
 use Rattle.px_trail.specs.Count.{counted_bytes, counted_change}
 use Rattle.px_trail.specs.Recorded.{Recorded}
 use Rattle.px_trail.specs.declared.entry.Entry.{Entry}
-use Rattle.px_turns.specs.Turns.{drawn}
+use Rattle.px_turns.specs.Turns.{drawn_stamp}
 use Rattle.px_calls.specs.declared.fault.StepFault.{StepFault}
 use Rattle.px_calls.specs.declared.fault.StepFault.TheVariants.{Busy, Limit, NotReady, Memory}
 use Rattle.px_phases.specs.Batch.{BatchData}
@@ -28,7 +28,7 @@ use Rattle.px_server.specs.declared.readying.Started.{Started}
 
 -- the batch with its room, behind the last stamp while the clock shows this, and its changes for its entry
 pub record IsReady (g : Group) (cs : List Change) (clock : ℕ) (r : Ready) : Type 0 where
-  pub stamp : drawn g.last clock ≡ Some r.started.stamp
+  pub stamp : drawn_stamp g.last clock ≡ Some r.started.stamp
   pub batch : IsBatchOf g r.started.stamp cs r.prepared.batch
   pub written : (r.prepared.written ≡ rows_of cs) × (r.prepared.receipt ≡ rows_of cs)
   pub rooms : AreRoomsOf (length g.indexes.items) r.prepared
@@ -95,7 +95,7 @@ RefusesBatch groups t es cs f = Unit {0}
 
 -- The batch of these changes is the last of the group, which is right before and after. Until then nothing is read otherwise of the group.
 pub record LetsIn (g g' : Group) (cs : List Change) (clock : ℕ) (s : Started) : Type 0 where
-  pub stamp : drawn g.last clock ≡ Some s.stamp
+  pub stamp : drawn_stamp g.last clock ≡ Some s.stamp
   pub taken : Group
   pub leaves : LeavesGroup g taken
   pub batch : BatchData

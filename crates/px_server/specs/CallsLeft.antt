@@ -8,15 +8,15 @@ use Rattle.px_group.specs.declared.group.Phase.{Phase}
 use Rattle.px_group.specs.declared.group.Phase.TheVariants.{Marking, Writing, Verifying, Closing}
 
 -- before it may end, at most: one for each index that is still to be marked, one for each whose marks are still to be closed, and one for each phase
-abbrev pub left_in : Phase → BatchData → ℕ
-left_in Marking b = 3 + length b.marks + length b.closes
-left_in Writing b = 2 + length b.closes
-left_in Verifying b = 1 + length b.closes
-left_in Closing b = 0
+abbrev pub calls_left_in : Phase → BatchData → ℕ
+calls_left_in Marking b = 3 + length b.marks + length b.closes
+calls_left_in Writing b = 2 + length b.closes
+calls_left_in Verifying b = 1 + length b.closes
+calls_left_in Closing b = 0
 
 -- to a batch of this stamp
 abbrev pub left_at : ℕ → Begun → ℕ
-left_at s m = if m.batch.stamp == s then left_in m.phase m.batch else 0
+left_at s m = if m.batch.stamp == s then calls_left_in m.phase m.batch else 0
 
 -- of this table
 abbrev pub left_by : ℕ → ℕ → Group → ℕ

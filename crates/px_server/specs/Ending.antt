@@ -10,7 +10,7 @@ tells_verified t s (Phase u r phase) = (u.0 == t) && ((r == s) && (phase == 3))
 tells_verified t s act = false
 
 -- an entry does
-pub record HasVerified (es : List Entry) (t s : ℕ) : Type 0 where
+pub record HasVerifiedEntry (es : List Entry) (t s : ℕ) : Type 0 where
   pub place : ℕ
   pub entry : Entry
   pub is : slice_get es place ≡ Some entry

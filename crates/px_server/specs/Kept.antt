@@ -16,7 +16,7 @@ use Rattle.px_forms.specs.Indexes.{IndexForm}
 use Rattle.px_built.specs.Built.{IsBuiltBy}
 use Rattle.px_groupworld.specs.Group.{GroupData, TableForm}
 use Rattle.px_openbatches.specs.Pending.{HeldBatch}
-use Rattle.px_region.specs.Region.{Holds}
+use Rattle.px_region.specs.Region.{RegionHolds}
 use Rattle.px_schema.specs.declared.standing.Standing.{Standing}
 use Rattle.px_catalog.specs.Catalogue.{HasCatalogue, standing_of}
 use Rattle.px_catalog.specs.declared.catalog.Catalog.{Catalog}
@@ -30,7 +30,7 @@ use Rattle.px_defined.specs.Defined.{HasOnce}
 use Rattle.px_reading.specs.Doubts.{IsToldBy}
 use Rattle.px_recovery.specs.Folder.{FolderData}
 use Rattle.px_recovery.specs.Kept.{IsServer}
-use Rattle.px_recovery.specs.Tables.{form_in, index_in}
+use Rattle.px_recovery.specs.Tables.{form_of_index, index_in}
 use Rattle.px_standing.specs.Agrees.{Agrees, opened_standing}
 use Rattle.px_server.specs.Others.{Beginning, OthersStay}
 
@@ -79,7 +79,7 @@ pub record AreGroups (b : Base) (es : List Entry) (closed : Option ℕ) (tables 
 -- 3. Contents
 
 abbrev pub forms_in : List Index → Table → ℕ → IndexForm
-forms_in indexes x = λ n. form_in x (index_in indexes n)
+forms_in indexes x = λ n. form_of_index x (index_in indexes n)
 
 -- what stays true of each index of the table while it is built
 pub record AreBuilt (f : TableForm) (es : List Entry) (v : GroupData) : Type 0 where
@@ -101,11 +101,11 @@ pub record AreShown (b : Base) (es : List Entry) (indexes : List Index) (groups 
 
 -- each region of the group goes on from what the folder has in it
 pub record IsOnDisk {D : Type 0} (d : Ghosts D) (disk : D) (f : FolderData) (g : Group) : Type 0 where
-  pub rows : Holds d g.rows disk (f.regions g.rows.number)
-  pub indexes : (i : ℕ) (x : IndexRegion) → slice_get g.indexes.items i ≡ Some x → Holds d x.region disk (f.regions x.region.number)
+  pub rows : RegionHolds d g.rows disk (f.regions g.rows.number)
+  pub indexes : (i : ℕ) (x : IndexRegion) → slice_get g.indexes.items i ≡ Some x → RegionHolds d x.region disk (f.regions x.region.number)
 
 -- what the server's own parts have where they go on from a folder with these tables: what was opened is sound then
-pub record HasParts {D : Type 0} (d : Ghosts D) (b : Base) (sound : Type 0) (catalog : Catalog) (groups : List Group) (disk : D) (es : List Entry) (f : FolderData) (v : ℕ → GroupData) : Type 0 where
+pub record HasServerParts {D : Type 0} (d : Ghosts D) (b : Base) (sound : Type 0) (catalog : Catalog) (groups : List Group) (disk : D) (es : List Entry) (f : FolderData) (v : ℕ → GroupData) : Type 0 where
   pub given : sound
   pub stored : HasCatalogue d catalog disk
   pub standing : f.standing ≡ standing_of catalog
@@ -162,7 +162,7 @@ pub record IsKept {D : Type 0} (d : Ghosts D) (b : Base) (sound premise : Type 0
   pub told : IsTold b trail.entries closed (standing_of catalog) standing
   pub each : AreGroups b trail.entries closed standing.tables groups
   pub shown : sound → closed ≡ None → AreShown b trail.entries standing.indexes groups
-  pub server : IsServer d b premise (HasParts d b sound catalog groups) disk trail.entries late closed
+  pub server : IsServer d b premise (HasServerParts d b sound catalog groups) disk trail.entries late closed
   pub room : HasTrailRoom closed groups trail
   pub blamed : has_told trail.entries ≡ true → HasFailed d disk
   pub last_call : (call : ℕ) → closed ≡ Some call → call ≡ d.calls disk

@@ -7,7 +7,7 @@ use Rattle.px_trail.specs.Trail.{Base, Catalogue, catalogue_of}
 use Rattle.px_trail.specs.declared.entry.Entry.{Entry}
 use Rattle.px_wal.specs.Files.{HasFile}
 use Rattle.px_catalog.specs.Catalogue.{catalogue_files}
-use Rattle.px_recovery.specs.Tables.{IsOneOf}
+use Rattle.px_recovery.specs.Tables.{IsRegionAmong}
 
 -- 1. The files of the parts
 
@@ -16,7 +16,7 @@ pub record IsRegionOfTable (c : Catalogue) (n : ℕ) : Type 0 where
   pub number : ℕ
   pub table : Table
   pub stands : c.tables number ≡ Some table
-  pub own : IsOneOf n table.regions
+  pub own : IsRegionAmong n table.regions
 
 pub record IsRegionOfIndex (c : Catalogue) (n : ℕ) : Type 0 where
   pub number : ℕ

@@ -11,7 +11,7 @@ abbrev pub is_left_at : ℕ → BatchData → Bool
 is_left_at p b = nat_le b.stamp p && is_some b.puts
 
 -- an open batch of this stamp is
-pub record HasLeft (g : Group) (p s : ℕ) : Type 0 where
+pub record HasBatchLeft (g : Group) (p s : ℕ) : Type 0 where
   pub place : ℕ
   pub batch : Begun
   pub is : slice_get g.batches.items place ≡ Some batch
@@ -34,5 +34,5 @@ IsPointOf g (Some scn) s = (s ≡ point_under g scn) × (g.horizon ≤ scn - 1) 
 -- why there is none under the SCN
 abbrev pub IsNoPointOf : Group → Option ℕ → StepFault → Type 0
 IsNoPointOf g (Some scn) (BelowHorizon h) = (h ≡ g.horizon) × (scn - 1 < g.horizon)
-IsNoPointOf g (Some scn) (NotYet s) = (g.horizon ≤ scn - 1) × HasLeft g (point_under g scn) s
+IsNoPointOf g (Some scn) (NotYet s) = (g.horizon ≤ scn - 1) × HasBatchLeft g (point_under g scn) s
 IsNoPointOf g scn f = ⊥

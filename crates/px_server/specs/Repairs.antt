@@ -13,7 +13,7 @@ use Rattle.px_calls.specs.declared.query.Fixing.TheVariants as fixing
 use Rattle.px_phases.specs.Batch.{IsHanded}
 use Rattle.px_group.specs.declared.group.Group.{Group}
 use Rattle.px_group.specs.declared.group.IndexRegion.{IndexRegion}
-use Rattle.px_pointreads.specs.Points.{LacksIndex}
+use Rattle.px_pointreads.specs.Points.{GroupLacksIndex}
 use Rattle.px_reading.specs.Looked.{HasLooked}
 use Rattle.px_repairs.specs.Refused.{RefusesDue}
 use Rattle.px_repairs.specs.Repairs.{IsRegionStep, IsRepair, stands_in}
@@ -30,14 +30,14 @@ Answers n (Err WriteFault) answer = answer ≡ Err steps.WriteFault
 Answers n (Err Memory) answer = answer ≡ Err steps.Memory
 
 -- nothing was written
-abbrev pub Stays : Result Fixing RepairFault → Type 0
-Stays (Ok fixing.Fixed) = ⊥
-Stays (Ok fixing.Gone) = Unit {0}
-Stays (Ok fixing.InFlight) = Unit {0}
-Stays (Err (Busy cells bytes)) = Unit {0}
-Stays (Err NotReady) = Unit {0}
-Stays (Err WriteFault) = ⊥
-Stays (Err Memory) = Unit {0}
+abbrev pub WritesNothing : Result Fixing RepairFault → Type 0
+WritesNothing (Ok fixing.Fixed) = ⊥
+WritesNothing (Ok fixing.Gone) = Unit {0}
+WritesNothing (Ok fixing.InFlight) = Unit {0}
+WritesNothing (Err (Busy cells bytes)) = Unit {0}
+WritesNothing (Err NotReady) = Unit {0}
+WritesNothing (Err WriteFault) = ⊥
+WritesNothing (Err Memory) = Unit {0}
 
 -- the index of the doubt shows no unverified version of its stamp at its key
 pub record StandsNoMore (groups : List Group) (d : Doubt) : Type 0 where
@@ -75,7 +75,7 @@ pub record IsMended (groups groups' : List Group) (d : Doubt) : Type 0 where
 -- flight the trail tells (`DidFix`).
 abbrev pub Mends : List Group → List Group → Doubt → Fixing → Type 0
 Mends groups groups' d fixing.Fixed = IsMended groups groups' d
-Mends groups groups' d fixing.Gone = AllByRecursion (LacksIndex d.index) groups ⊎ StandsNoMore groups' d
+Mends groups groups' d fixing.Gone = AllByRecursion (GroupLacksIndex d.index) groups ⊎ StandsNoMore groups' d
 Mends groups groups' d fixing.InFlight = Unit {0}
 
 -- the region of the doubt's index, which has this number, refuses room for the repair that is due

@@ -5,7 +5,7 @@ use Rattle.px_trail.specs.Trail.{Base, draws, last_of}
 use Rattle.px_trail.specs.declared.entry.Act.{Act}
 use Rattle.px_trail.specs.declared.entry.Act.TheVariants.{Begun, IndexMade, IndexState}
 use Rattle.px_trail.specs.declared.entry.Entry.{Entry}
-use Rattle.px_turns.specs.Turns.{drawn}
+use Rattle.px_turns.specs.Turns.{drawn_stamp}
 
 -- a stamp that is drawn of a table
 pub record Draw : Type 0 where
@@ -25,7 +25,7 @@ draw_of act = None
 -- A stamp that is drawn is the one behind its table's last by a number that the clock told, and the rest holds from the number behind it on.
 abbrev pub IsStamped : (times : ℕ → ℕ) → (last : ℕ → ℕ) → (from to : ℕ) → Option Draw → (rest : ℕ → Type 0) → Type 0
 IsStamped times last from to None rest = rest from
-IsStamped times last from to (Some d) rest = (i : ℕ) × (from ≤ i) × (i < to) × (drawn (last d.table) (times i) ≡ Some d.stamp) × rest (i + 1)
+IsStamped times last from to (Some d) rest = (i : ℕ) × (from ≤ i) × (i < to) × (drawn_stamp (last d.table) (times i) ≡ Some d.stamp) × rest (i + 1)
 
 -- Each stamp that these entries draw, behind those before, is the one behind its table's last by a number that the clock told: each by a later one, of those at the places from
 -- one up to below another. A batch that is refused may have used up a number, so some are skipped.

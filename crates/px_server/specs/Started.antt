@@ -11,7 +11,7 @@ use Rattle.px_recovery.specs.Stands.{Explains}
 use Rattle.px_groupworld.specs.Group.{GroupData}
 use Rattle.px_trail.specs.Trail.{Base}
 use Rattle.px_trail.specs.declared.entry.Entry.{Entry}
-use Rattle.px_region.specs.Region.{Holds, data_of}
+use Rattle.px_region.specs.Region.{RegionHolds, data_of}
 use Rattle.px_region.specs.declared.region.Region.{Region}
 use Rattle.px_opening.specs.Opened.{all_regions, folder_in}
 use Rattle.px_opening.specs.declared.opened.Opened.{Opened}
@@ -28,7 +28,7 @@ KeepsFolder d old new = (f : FolderData) → StandsFor (d.seen old) f → Stands
 
 -- the region goes on from what was read of it
 abbrev pub HoldsOwn : {D : Type 0} → Ghosts D → D → Region → Type 0
-HoldsOwn d disk r = Holds d r disk (data_of r)
+HoldsOwn d disk r = RegionHolds d r disk (data_of r)
 
 -- What was opened is sound, each image that a stop may leave of any moment so far stands for it, and so does the disk, from which catalogue
 -- and regions go on.

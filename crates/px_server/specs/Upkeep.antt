@@ -3,7 +3,7 @@ use Rattle.std.specs.Prelude.{◌≡◌, ◌⊎◌, ◌<◌, [], ℕ, List, Some
 use Rattle.std.specs.List.{AllByRecursion, slice_set}
 use Rattle.std.proofs.Math.ListN.{set}
 use Rattle.px_outside.specs.declared.disk.Disk.{Ghosts}
-use Rattle.px_region.specs.Ordered.{HasFlushed, IsOrdered}
+use Rattle.px_region.specs.Ordered.{HasFlushed, IsFlushOrdered}
 use Rattle.px_region.specs.Promise.{IsSamePromise}
 use Rattle.px_region.specs.Region.{read_of}
 use Rattle.px_region.specs.declared.region.Region.{Region}
@@ -14,7 +14,7 @@ use Rattle.px_server.specs.declared.upkeep.Due.{Due}
 use Rattle.px_server.specs.declared.upkeep.Due.TheVariants as due
 
 -- A step of a region's files, to which no cell is handed: what is read of it and its room stay.
-pub record StepsOn {D : Type 0} (d : Ghosts D) (old new : Region) (disk disk' : D) : Type 0 where
+pub record StepsFiles {D : Type 0} (d : Ghosts D) (old new : Region) (disk disk' : D) : Type 0 where
   pub writes : WritesTo d old new disk disk' []
   pub read : read_of new ≡ read_of old
   pub promised : IsSamePromise old new
@@ -22,7 +22,7 @@ pub record StepsOn {D : Type 0} (d : Ghosts D) (old new : Region) (disk disk' : 
 -- one of the region of the table's rows
 pub record StepsRows {D : Type 0} (d : Ghosts D) (g g' : Group) (disk disk' : D) : Type 0 where
   pub same : g' ≡ record g { rows = g'.rows }
-  pub steps : StepsOn d g.rows g'.rows disk disk'
+  pub steps : StepsFiles d g.rows g'.rows disk disk'
 
 -- or of the region of one of its indexes
 pub record StepsIndex {D : Type 0} (d : Ghosts D) (g g' : Group) (disk disk' : D) : Type 0 where
@@ -32,7 +32,7 @@ pub record StepsIndex {D : Type 0} (d : Ghosts D) (g g' : Group) (disk disk' : D
   pub region : Region
   pub same : g' ≡ record g { indexes = g'.indexes }
   pub indexes : g'.indexes.items ≡ set g.indexes.items place (record index { region = region })
-  pub steps : StepsOn d index.region region disk disk'
+  pub steps : StepsFiles d index.region region disk disk'
 
 -- Where the disk doesn't fail, the region goes on from there.
 pub record SteppedRows {D : Type 0} (d : Ghosts D) (g g' : Group) (disk disk' : D) : Type 0 where
@@ -59,14 +59,14 @@ IsDueIn g (due.Index place) = place < length g.indexes.items
 -- Orders
 
 abbrev pub IsOrderedIndex : IndexRegion → Type 0
-IsOrderedIndex x = IsOrdered x.region
+IsOrderedIndex x = IsFlushOrdered x.region
 
 abbrev pub HasFlushedIndex : IndexRegion → Type 0
 HasFlushedIndex x = HasFlushed x.region
 
 -- all that stands in the logs of the table and its indexes is ordered to be flushed
 pub record IsOrderedTable (g : Group) : Type 0 where
-  pub rows : IsOrdered g.rows
+  pub rows : IsFlushOrdered g.rows
   pub indexes : AllByRecursion IsOrderedIndex g.indexes.items
 
 -- all that was ordered of them is flushed

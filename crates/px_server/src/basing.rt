@@ -3,7 +3,7 @@ ghost use Rattle.std.specs.Prelude.{◌≡◌, ◌≢◌, ◌≤◌, [], IfErr, 
 ghost use Rattle.px_basing.specs.declared.fault.BaseFault.{BaseFault as Fault};
 ghost use Rattle.px_calls.specs.Calls.{DidBase};
 ghost use Rattle.px_calls.specs.Causes.{Refuses, base_cause};
-ghost use Rattle.px_calls.specs.Requires.{IsOpen, MayBase};
+ghost use Rattle.px_calls.specs.Requires.{HasOpen, MayBase};
 ghost use Rattle.px_server.specs.Bases.{AnswersBase, RefusesBases};
 ghost use Rattle.px_server.specs.Shown.{known_by};
 
@@ -41,7 +41,7 @@ fn unbased(fault: BaseFault) -> StepFault
 impl<D: CountsCalls, C: Clock, B: Based + Founded> Server<D, C, B> {
     /// Gives rows of a point their base versions in an index that was born there.
     pub fn base(&mut self, p: &Point, index: IndexId, rows: &BaseRows) -> Result<u64, StepFault>
-        requires open { IsOpen (known_by B.base B.damaged self.old) p.now }
+        requires open { HasOpen (known_by B.base B.damaged self.old) p.now }
         requires some { rows.now ≢ [] }
         requires few { length rows.now ≤ 64 }
         requires rows { MayBase B.sound (known_by B.base B.damaged self.old) p.now index.0 rows.now }

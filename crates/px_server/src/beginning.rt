@@ -1,7 +1,7 @@
 // Batches begin.
 ghost use Rattle.std.specs.Prelude.{◌≡◌, ◌≢◌, ◌≤◌, ◌+◌, ◌*◌, [], IfErr, IfOk, OnErr, OnOk, length, true};
 ghost use Rattle.px_calls.specs.Calls.{DidBegin};
-ghost use Rattle.px_calls.specs.Causes.{Refuses, begin_cause, indexes_of};
+ghost use Rattle.px_calls.specs.Causes.{Refuses, begin_cause, index_count};
 ghost use Rattle.px_calls.specs.Requires.{AreFitting};
 ghost use Rattle.px_group.specs.Group.{IsRightGroup};
 ghost use Rattle.px_phases.specs.Batch.{AllFit};
@@ -68,7 +68,7 @@ impl<D: CountsCalls, C: Clock, B: Based + Founded> Server<D, C, B> {
         requires rows { length changes.now ≤ 1000 }
         requires distinct { is_distinct (rows_of changes.now) ≡ true }
         requires fits { AreFitting (known_by B.base B.damaged self.old) table.0 changes.now }
-        ensures few { IfOk result (λ ticket. calls_left self.new.groups ticket ≤ 3 + 2 * indexes_of (known_by B.base B.damaged self.new) table.0) }
+        ensures few { IfOk result (λ ticket. calls_left self.new.groups ticket ≤ 3 + 2 * index_count (known_by B.base B.damaged self.new) table.0) }
         ensures ok { IfOk result (DidBegin B.sound (known_by B.base B.damaged self.old) (known_by B.base B.damaged self.new) table changes.now) }
         ensures refused { IfErr result (Refuses (begin_cause B.sound table.0 changes.now) (known_by B.base B.damaged self.old) (known_by B.base B.damaged self.new)) }
         ensures caused { IfErr result (RefusesBatch self.old.groups table self.old.entries changes.now) }

@@ -1,6 +1,6 @@
 // The end of batches.
 ghost use Rattle.std.specs.Prelude.{◌≡◌, ◌⊎◌, true, false, None, Some, IfNone, IfSome};
-ghost use Rattle.px_server.specs.Ending.{HasVerified, tells_verified};
+ghost use Rattle.px_server.specs.Ending.{HasVerifiedEntry, tells_verified};
 ghost use Rattle.px_trail.specs.declared.entry.Act.TheVariants.{Ended as EndedAct};
 ghost use Rattle.px_calls.specs.Calls.{IsReceipt};
 ghost use Rattle.px_calls.specs.Known.{Adds, Sees};
@@ -32,8 +32,8 @@ fn tells_verified(entry: &Entry, table: TableId, stamp: u64) -> bool
 
 /// Whether the trail tells so.
 fn is_verified(trail: &Trail, table: TableId, stamp: u64) -> bool
-    ensures told { result ≡ true → HasVerified trail.now.entries table.0 stamp }
-    ensures untold { result ≡ false → HasVerified trail.now.entries table.0 stamp → ⊥ }
+    ensures told { result ≡ true → HasVerifiedEntry trail.now.entries table.0 stamp }
+    ensures untold { result ≡ false → HasVerifiedEntry trail.now.entries table.0 stamp → ⊥ }
 {
     for place in 0..trail.len() {
         if tells_verified(trail.entry(place), table, stamp) {
@@ -45,8 +45,8 @@ fn is_verified(trail: &Trail, table: TableId, stamp: u64) -> bool
 
 /// The device call that closed a server before the batch's marks were closed.
 fn unfinished_by(closed: Option<u64>, trail: &Trail, t: &Ticket) -> Option<u64>
-    ensures none { IfNone result ((closed ≡ None) ⊎ HasVerified trail.now.entries t.now.table.0 t.now.stamp) }
-    ensures some { IfSome result (λ call. (closed ≡ Some call) × (HasVerified trail.now.entries t.now.table.0 t.now.stamp → ⊥)) }
+    ensures none { IfNone result ((closed ≡ None) ⊎ HasVerifiedEntry trail.now.entries t.now.table.0 t.now.stamp) }
+    ensures some { IfSome result (λ call. (closed ≡ Some call) × (HasVerifiedEntry trail.now.entries t.now.table.0 t.now.stamp → ⊥)) }
 {
     let call = closed?;
     if is_verified(trail, t.table, t.stamp) {

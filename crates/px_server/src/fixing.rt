@@ -7,7 +7,7 @@ ghost use Rattle.px_calls.specs.declared.query.Point.{Point as Points};
 ghost use Rattle.px_server.specs.Looks.{rows_looked};
 ghost use Rattle.px_server.specs.Shown.{known_by};
 ghost use Rattle.px_server.specs.Sights.{have_doubt};
-ghost use Rattle.px_server.specs.Repairs.{Answers, Mends, RefusesFix, Stays};
+ghost use Rattle.px_server.specs.Repairs.{Answers, Mends, RefusesFix, WritesNothing};
 
 use crate::shutting::shut;
 use crate::{Founded, Server};
@@ -30,7 +30,7 @@ fn copied(alloc: Global, key: &Key) -> Result<Key, AllocError>
 
 /// Whether nothing was written.
 fn has_stayed(fixed: &Result<Fixing, RepairFault>) -> bool
-    ensures { IsTrue result ↔ Stays fixed.now }
+    ensures { IsTrue result ↔ WritesNothing fixed.now }
 {
     match fixed {
         Ok(Fixing::Fixed) => false,

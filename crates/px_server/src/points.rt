@@ -2,15 +2,15 @@
 ghost use Rattle.std.specs.Prelude.{◌≡◌, ◌++◌, ◌∷◌, [], ◌+◌, length, IfErr, IfNone, IfOk, IfSome, IsErr, OnOk};
 ghost use Rattle.px_trail.specs.Count.{counted_act};
 ghost use Rattle.px_phases.specs.Batch.{BatchData};
-ghost use Rattle.px_noting.specs.Points.{HasOpened, IsSameBeside};
+ghost use Rattle.px_noting.specs.Points.{HasOpened, IsSameBesidePoints};
 ghost use Rattle.px_calls.specs.Calls.{DidOpen};
 ghost use Rattle.px_calls.specs.Causes.{Refuses, open_cause};
 ghost use Rattle.px_calls.specs.Known.{Adds};
-ghost use Rattle.px_calls.specs.Requires.{IsOpen, IsScn};
+ghost use Rattle.px_calls.specs.Requires.{HasOpen, IsScn};
 ghost use Rattle.px_trail.specs.declared.entry.Act.TheVariants.{Released as ReleasedAct};
 ghost use Rattle.px_calls.specs.declared.fault.StepFault.TheVariants.{Memory};
 ghost use Rattle.px_server.specs.Looks.{rows_looked};
-ghost use Rattle.px_server.specs.Points.{HasLeft, HasNoneLeft, IsNoPointOf, IsPointOf, is_left_at};
+ghost use Rattle.px_server.specs.Points.{HasBatchLeft, HasNoneLeft, IsNoPointOf, IsPointOf, is_left_at};
 ghost use Rattle.px_server.specs.Shown.{known_by};
 
 use crate::{Founded, Server};
@@ -33,7 +33,7 @@ fn is_left_at(batch: &OpenBatch, point: u64) -> bool
 
 /// The stamp of the first batch at or below the point that is still to write its rows.
 fn left_at(group: &Group, point: u64) -> Option<u64>
-    ensures left { IfSome result (HasLeft group.now point) }
+    ensures left { IfSome result (HasBatchLeft group.now point) }
     ensures none { IfNone result (HasNoneLeft group.now point) }
 {
     let place = group
@@ -72,7 +72,7 @@ fn note_point(
     entry: Entry,
 ) -> Result<(), StepFault>
     requires { counted_act entry.act ≡ 0 }
-    ensures same { IsSameBeside group.old group.new }
+    ensures same { IsSameBesidePoints group.old group.new }
     ensures opened { OnOk result (HasOpened group.old group.new entry.seat stamp) }
     ensures count { OnOk result (length group.new.points.items ≡ length group.old.points.items + 1) }
     ensures entries { OnOk result (trail.new.entries ≡ trail.old.entries ++ entry ∷ []) }
@@ -129,7 +129,7 @@ impl<D: CountsCalls, C: Clock, B: Based + Founded> Server<D, C, B> {
 
     /// Closes the point. It takes no memory.
     pub fn close_point(&mut self, p: Point)
-        requires { IsOpen (known_by B.base B.damaged self.old) p }
+        requires { HasOpen (known_by B.base B.damaged self.old) p }
         ensures unlooked { rows_looked self.new.groups ≡ rows_looked self.old.groups }
         ensures adds { Adds (known_by B.base B.damaged self.old) (known_by B.base B.damaged self.new) (ReleasedAct p.table p.stamp) }
     {

@@ -4,7 +4,7 @@ ghost use Rattle.px_calls.specs.Calls.{DidConsult, DidLook};
 ghost use Rattle.px_calls.specs.Causes.{Refuses, read_cause};
 ghost use Rattle.px_calls.specs.Counts.{HasRisenBy};
 ghost use Rattle.px_calls.specs.Doubtful.{AreDoubtful, IndexVersion};
-ghost use Rattle.px_calls.specs.Requires.{CanConsult, CanLook, IsOpen};
+ghost use Rattle.px_calls.specs.Requires.{CanConsult, CanLook, HasOpen};
 ghost use Rattle.px_values.specs.declared.row.Value.{Value as ColumnValue};
 ghost use Rattle.px_calls.specs.declared.query.By.TheVariants.{Index as ByIndex, Table as ByTable};
 ghost use Rattle.px_calls.specs.declared.query.Point.{Point as Points};
@@ -56,7 +56,7 @@ fn verdict_of(repair: Repair) -> Verdict
 impl<D: CountsCalls, C: Clock, B: Based + Founded> Server<D, C, B> {
     /// The next keys of the path past `after`. By an index, a key is sure exactly where its version is verified, and no row of a table is looked at.
     pub fn look(&mut self, p: &Point, path: &Path, after: &Option<Key>) -> Result<Chunk, StepFault>
-        requires open { IsOpen (known_by B.base B.damaged self.old) p.now }
+        requires open { HasOpen (known_by B.base B.damaged self.old) p.now }
         requires path { CanLook p.now path.now }
         ensures ok { IfOk result (DidLook B.sound (known_by B.base B.damaged self.old) (known_by B.base B.damaged self.new) p.now path.now after.now) }
         ensures versions { IfOk result (λ c. (i : Number) → path.now.by ≡ ByIndex i → AreOfIndexAt self.old.groups p.now i c.found) }
@@ -81,7 +81,7 @@ impl<D: CountsCalls, C: Clock, B: Based + Founded> Server<D, C, B> {
 
     /// The row of a doubt at the point, where its key is the doubt's. Leaves a verdict in the doubt.
     pub fn consult(&mut self, p: &Point, d: &mut Doubt) -> Result<Option<Held>, StepFault>
-        requires open { IsOpen (known_by B.base B.damaged self.old) p.now }
+        requires open { HasOpen (known_by B.base B.damaged self.old) p.now }
         requires doubt { CanConsult p.now d.old }
         ensures ok { IfOk result (DidConsult B.sound (known_by B.base B.damaged self.old) (known_by B.base B.damaged self.new) p.now d.old d.new) }
         ensures same { IfErr result (λ f. d.new ≡ d.old) }

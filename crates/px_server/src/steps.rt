@@ -2,10 +2,10 @@
 ghost use Rattle.std.specs.Prelude.{◌≡◌, ◌≢◌, ◌≤◌, ◌+◌, ◌*◌, [], IfErr, IfOk, IsSome, length, map, true};
 ghost use Rattle.px_trail.specs.Batches.{is_distinct, rows_of};
 ghost use Rattle.px_calls.specs.Calls.{DidBegin, DidConsult, DidFix, DidLook};
-ghost use Rattle.px_calls.specs.Causes.{Refuses, begin_cause, fix_cause, indexes_of, read_cause};
+ghost use Rattle.px_calls.specs.Causes.{Refuses, begin_cause, fix_cause, index_count, read_cause};
 ghost use Rattle.px_calls.specs.Counts.{HasRisenBy};
 ghost use Rattle.px_calls.specs.Doubtful.{AreDoubtful, AreOthersDoubtful, AreStillDoubtful, IsForRoom, version_of};
-ghost use Rattle.px_calls.specs.Requires.{AreFitting, CanConsult, CanLook, IsOpen};
+ghost use Rattle.px_calls.specs.Requires.{AreFitting, CanConsult, CanLook, HasOpen};
 ghost use Rattle.px_calls.specs.declared.query.By.TheVariants.{Index as ByIndex, Table as ByTable};
 ghost use Rattle.px_calls.specs.declared.query.Point.{Point as Points};
 ghost use Rattle.px_values.specs.declared.name.IndexId.{IndexId as Number};
@@ -68,7 +68,7 @@ impl<D: CountsCalls, C: Clock, B: Based + Founded> Steps for Server<D, C, B> {
         requires rows { length changes.now ≤ 1000 }
         requires distinct { is_distinct (rows_of changes.now) ≡ true }
         requires fits { AreFitting (known_by B.base B.damaged self.old) table.0 changes.now }
-        ensures few { IfOk result (λ t. (known_by B.base B.damaged self.old).alone ≡ true → calls_left self.new.groups t ≤ 3 + 2 * indexes_of (known_by B.base B.damaged self.new) table.0) }
+        ensures few { IfOk result (λ t. (known_by B.base B.damaged self.old).alone ≡ true → calls_left self.new.groups t ≤ 3 + 2 * index_count (known_by B.base B.damaged self.new) table.0) }
         ensures ok { IfOk result (DidBegin B.sound (known_by B.base B.damaged self.old) (known_by B.base B.damaged self.new) table changes.now) }
         ensures refused { IfErr result (Refuses (begin_cause B.sound table.0 changes.now) (known_by B.base B.damaged self.old) (known_by B.base B.damaged self.new)) }
         ensures caused { IfErr result (RefusesBatch self.old.groups table self.old.entries changes.now) }
@@ -101,7 +101,7 @@ impl<D: CountsCalls, C: Clock, B: Based + Founded> Steps for Server<D, C, B> {
     }
 
     fn look(&mut self, p: &Point, path: &Path, after: &Option<Key>) -> Result<Chunk, StepFault>
-        requires open { IsOpen (known_by B.base B.damaged self.old) p.now }
+        requires open { HasOpen (known_by B.base B.damaged self.old) p.now }
         requires path { CanLook p.now path.now }
         ensures unlooked { (known_by B.base B.damaged self.old).alone ≡ true → (i : Number) → path.now.by ≡ ByIndex i → rows_looked self.new.groups ≡ rows_looked self.old.groups }
         ensures looked_each { IfOk result (λ c. (known_by B.base B.damaged self.old).alone ≡ true → path.now.by ≡ ByTable → HasRisenBy (length c.found) (rows_looked self.old.groups) (rows_looked self.new.groups)) }
@@ -116,7 +116,7 @@ impl<D: CountsCalls, C: Clock, B: Based + Founded> Steps for Server<D, C, B> {
     }
 
     fn consult(&mut self, p: &Point, d: &mut Doubt) -> Result<Option<Held>, StepFault>
-        requires open { IsOpen (known_by B.base B.damaged self.old) p.now }
+        requires open { HasOpen (known_by B.base B.damaged self.old) p.now }
         requires doubt { CanConsult p.now d.old }
         ensures looked_once { (known_by B.base B.damaged self.old).alone ≡ true → rows_looked self.new.groups ≤ rows_looked self.old.groups + 1 }
         ensures still { (known_by B.base B.damaged self.old).alone ≡ true → AreStillDoubtful (known_by B.base B.damaged self.old) (have_doubt self.old.groups) (have_doubt self.new.groups) }
@@ -131,7 +131,7 @@ impl<D: CountsCalls, C: Clock, B: Based + Founded> Steps for Server<D, C, B> {
     fn fix(&mut self, d: &Doubt) -> Result<Fixing, StepFault>
         requires { IsSome d.now.verdict }
         ensures looked_once { (known_by B.base B.damaged self.old).alone ≡ true → rows_looked self.new.groups ≤ rows_looked self.old.groups + 1 }
-        ensures there { IfOk result (λ fixing. (known_by B.base B.damaged self.old).alone ≡ true → B.sound → (p : Points) → IsOpen (known_by B.base B.damaged self.old) p → have_doubt self.old.groups p (version_of d.now) ≡ true → fixing ≢ Fixing.Gone) }
+        ensures there { IfOk result (λ fixing. (known_by B.base B.damaged self.old).alone ≡ true → B.sound → (p : Points) → HasOpen (known_by B.base B.damaged self.old) p → have_doubt self.old.groups p (version_of d.now) ≡ true → fixing ≢ Fixing.Gone) }
         ensures others { IfOk result (λ _. (known_by B.base B.damaged self.old).alone ≡ true → B.sound → AreOthersDoubtful (known_by B.base B.damaged self.old) d.now.key (have_doubt self.old.groups) (have_doubt self.new.groups)) }
         ensures still { IfErr result (λ f. (known_by B.base B.damaged self.old).alone ≡ true → IsForRoom f → AreStillDoubtful (known_by B.base B.damaged self.old) (have_doubt self.old.groups) (have_doubt self.new.groups)) }
         ensures ok { IfOk result (DidFix (known_by B.base B.damaged self.old) (known_by B.base B.damaged self.new) d.now) }

@@ -1,7 +1,7 @@
 // Upkeep: the logs of regions are made, and flushed; a full catalogue is renewed.
 ghost use Rattle.std.specs.Prelude.{◌≡◌, ◌<◌, [], Err, None, IfErr, IfNone, IfOk, IfSome, OnOk, get_or, length};
 ghost use Rattle.std.specs.List.{AllByRecursion};
-ghost use Rattle.px_calls.specs.Calls.{DidOrder, DidWork, IsIdle};
+ghost use Rattle.px_calls.specs.Calls.{DidOrder, DidWork, IsIdleWork};
 ghost use Rattle.px_calls.specs.Causes.{Refuses, order_cause, upkeep_cause};
 ghost use Rattle.px_calls.specs.Doubtful.{IndexVersion};
 ghost use Rattle.px_calls.specs.declared.query.Point.{Point as Points};
@@ -13,7 +13,7 @@ ghost use Rattle.px_region.specs.declared.fault.JobFault.TheVariants.{Memory, Wr
 ghost use Rattle.px_server.specs.Looks.{rows_looked};
 ghost use Rattle.px_server.specs.Shown.{known_by};
 ghost use Rattle.px_server.specs.Sights.{have_doubt};
-ghost use Rattle.px_server.specs.Upkeep.{AllSettle, AreOrdered, HasFlushedIndex, HasFlushedTable, HaveFlushed, IsDueIn, IsOrderedTable, Settles, SteppedTable, StepsOn, StepsTable};
+ghost use Rattle.px_server.specs.Upkeep.{AllSettle, AreOrdered, HasFlushedIndex, HasFlushedTable, HaveFlushed, IsDueIn, IsOrderedTable, Settles, SteppedTable, StepsFiles, StepsTable};
 
 use crate::shutting::shut;
 use crate::{Founded, Server};
@@ -34,7 +34,7 @@ pub(crate) enum Due {
 
 /// Makes a step of the region's upkeep. What the region has stays.
 fn step_region<D: Disk>(region: &mut Region, disk: &mut D) -> Result<JobStep, JobFault>
-    ensures steps { StepsOn ⟦<D as Disk>⟧ region.old region.new disk.old disk.new }
+    ensures steps { StepsFiles ⟦<D as Disk>⟧ region.old region.new disk.old disk.new }
     ensures ok { OnOk result (HasWritten ⟦<D as Disk>⟧ region.old region.new disk.old disk.new []) }
     ensures ordered { OnOk result (IsSameOrder region.old region.new) }
     ensures looked { region.new.looked ≡ region.old.looked }
@@ -127,7 +127,7 @@ impl<D: CountsCalls, C: Clock, B: Based + Founded> Server<D, C, B> {
         ensures ok { IfOk result (DidWork (known_by B.base B.damaged self.old) (known_by B.base B.damaged self.new)) }
         ensures unlooked { rows_looked self.new.groups ≡ rows_looked self.old.groups }
         ensures doubts { IfOk result (λ _. (p : Points) → (v : IndexVersion) → have_doubt self.new.groups p v ≡ have_doubt self.old.groups p v) }
-        ensures done { IfOk result (λ work. IsIdle work → HaveFlushed self.new.groups) }
+        ensures done { IfOk result (λ work. IsIdleWork work → HaveFlushed self.new.groups) }
         ensures ordered { IfOk result (λ work. AreOrdered self.old.groups → AreOrdered self.new.groups) }
         ensures refused { IfErr result (Refuses upkeep_cause (known_by B.base B.damaged self.old) (known_by B.base B.damaged self.new)) }
     {
@@ -155,7 +155,7 @@ impl<D: CountsCalls, C: Clock, B: Based + Founded> Server<D, C, B> {
         ensures ok { IfOk result (DidWork (known_by B.base B.damaged self.old) (known_by B.base B.damaged self.new)) }
         ensures unlooked { rows_looked self.new.groups ≡ rows_looked self.old.groups }
         ensures doubts { IfOk result (λ _. (p : Points) → (v : IndexVersion) → have_doubt self.new.groups p v ≡ have_doubt self.old.groups p v) }
-        ensures done { IfOk result (λ work. IsIdle work → HaveFlushed self.new.groups) }
+        ensures done { IfOk result (λ work. IsIdleWork work → HaveFlushed self.new.groups) }
         ensures ordered { IfOk result (λ work. AreOrdered self.old.groups → AreOrdered self.new.groups) }
         ensures refused { IfErr result (Refuses upkeep_cause (known_by B.base B.damaged self.old) (known_by B.base B.damaged self.new)) }
     {

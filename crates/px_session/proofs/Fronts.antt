@@ -6,13 +6,13 @@ use Rattle.px_lex.specs.Script.{SeenPiece}
 use Rattle.px_trail.specs.declared.entry.Act.{Act}
 use Rattle.px_trail.specs.declared.entry.Entry.{Entry}
 use Rattle.px_trail.specs.Trail.{Base, acts_by}
-use Rattle.px_calls.specs.Known.{Known, Passes, Ran, outline}
+use Rattle.px_calls.specs.Known.{Known, Ran, TimePasses, outline}
 use Rattle.px_calls.proofs.Runs.{acts_by-append, outline-append}
 use Rattle.px_reply.specs.declared.transcript.Item.{Item}
 use Rattle.px_item.specs.declared.answered.After.{After}
 use Rattle.px_item.specs.declared.answered.Settings.{Settings}
 use Rattle.px_item.specs.Right.{IsRight}
-use Rattle.px_session.specs.Replies.{AreReplied, IsReplied, Standing, answer_of, onward, own_since}
+use Rattle.px_session.specs.Replies.{AreReplied, IsReplied, Standing, answer_with, onward, own_since}
 
 -- 1. What a seat did since a place
 
@@ -38,7 +38,7 @@ pub record Onward (k k' : Known) (acts : List Act) : Type 0 where
 pub of_ran : (k k' : Known) (acts : List Act) → Ran k k' acts → Onward k k' acts
 of_ran k k' acts h = record { more = h.added; seen = h.seen; own = h.own; seat = h.seat; base = h.base; damaged = h.damaged }
 
-pub of_passes : (k k' : Known) → Passes k k' → Onward k k' []
+pub of_passes : (k k' : Known) → TimePasses k k' → Onward k k' []
 of_passes k k' h = record { more = h.others; seen = h.seen; own = h.apart; seat = h.seat; base = h.base; damaged = h.damaged }
 
 pub same_known : (k : Known) → Onward k k []
@@ -63,7 +63,7 @@ module _ (sound : Type 0) where
   replied_on k k' acts n st p i st' o h =
       let last = i.evidence.last in
       let same : take last k.seen ≡ take last k'.seen = sym (take-append-le last k.seen o.more h.within) ∙ ap (take last) (sym o.seen) in
-      let F : ℕ × Base × (ℕ → ℕ → Bool) × List Entry → Type 0 = λ q. IsRight sound (record { seat = q.0; base = q.1; damaged = q.2; alone = false; seen = q.3 }) n (own_since q.0 n q.3) st p (answer_of i st') in
+      let F : ℕ × Base × (ℕ → ℕ → Bool) × List Entry → Type 0 = λ q. IsRight sound (record { seat = q.0; base = q.1; damaged = q.2; alone = false; seen = q.3 }) n (own_since q.0 n q.3) st p (answer_with i st') in
       record {
         statement = h.statement;
         begins = h.begins;

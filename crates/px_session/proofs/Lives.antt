@@ -13,7 +13,7 @@ use Rattle.px_trail.specs.declared.entry.Act.{Act}
 use Rattle.px_trail.specs.declared.entry.Entry.{Entry}
 use Rattle.px_trail.specs.Trail.{acts_by}
 use Rattle.std.proofs.lemmas.List.{take-append-le}
-use Rattle.px_calls.specs.Known.{Known, Passes, Ran, outline}
+use Rattle.px_calls.specs.Known.{Known, Ran, TimePasses, outline}
 use Rattle.px_calls.proofs.Runs.{ran-none, ran-then}
 use Rattle.px_reply.specs.declared.transcript.Item.{Item}
 use Rattle.px_reply.specs.declared.transcript.Transcript.{Transcript}
@@ -24,9 +24,9 @@ use Rattle.px_item.specs.declared.answered.Asked.{Asked}
 use Rattle.px_item.specs.declared.answered.Settings.{Settings}
 use Rattle.px_item.specs.declared.item.ItemRun.{ItemRun}
 use Rattle.px_item.specs.declared.item.ItemTurn.TheVariants as turn
-use Rattle.px_item.specs.Right.{IsAtOnce, IsRight, after, plain}
+use Rattle.px_item.specs.Right.{IsAtOnce, IsRight, known_after, plain}
 use Rattle.px_item.specs.Right as right
-use Rattle.px_item.specs.Turns.{Fits, IsBegun, Turns}
+use Rattle.px_item.specs.Turns.{FitsItem, IsItemBegun, ItemTurns}
 use Rattle.px_item.proofs.Starting.{starts_fitting}
 use Rattle.px_item.proofs.Passing.{fits_passes}
 use Rattle.px_session.specs.declared.run.Doing.{Doing}
@@ -35,8 +35,8 @@ use Rattle.px_session.specs.declared.run.SessionRun.{SessionRun}
 use Rattle.px_session.specs.declared.state.Ending.{Ending}
 use Rattle.px_session.specs.declared.state.Ending.TheVariants.{Whole, Memory}
 use Rattle.px_session.specs.declared.state.SessionState.{SessionState}
-use Rattle.px_session.specs.Replies.{AreReplied, EndsAs, IsAnswered, IsReplied, Standing, at_first, goes_on as goes_to_next, onward, settled, has_fatal, is_fatal, own_since, place_from, state_after}
-use Rattle.px_session.specs.Live.{EndsSoFar, HasRoom, IdleAtEnd, IsDoing, IsIdle, IsLive, IsPushed, IsSame, IsStarted, IsUnder, StartsFrom, StepsOn, UnderWay, fatal_ending, item_of, seen_of, settings_of, standing, with_doing}
+use Rattle.px_session.specs.Replies.{AreReplied, EndsAs, IsSessionAnswered, IsReplied, Standing, at_first, goes_on as goes_to_next, onward, settled, has_fatal, is_fatal, own_since, place_from, state_after}
+use Rattle.px_session.specs.Live.{EndsSoFar, HasRoom, IdleAtEnd, IsDoing, IsIdle, IsPieceBegun, IsPushed, IsSameSession, IsSessionLive, IsUnder, StartsFrom, StepsOn, UnderWay, fatal_ending, item_of, seen_of, settings_of, standing, with_doing}
 use Rattle.px_session.proofs.Fronts.{Onward, longer, of_passes, of_ran, own_at_end, own_on, own_passes, same_known, told_on, told_snoc}
 
 -- 1. Lists
@@ -77,7 +77,7 @@ none_left x rest e = cc
 pub no_none : (ps : List Piece) (n : ℕ) (x : SeenPiece) (rest : List SeenPiece) → drop n (map seen_piece ps) ≡ x ∷ rest → slice_get ps n ≢ None
 no_none ps n x rest e none = none_left x rest (sym (drop_past n ps none) ∙ e)
 
-pub started_same : (run run' : SessionRun) (st : Settings) (p : Piece) (first : ℕ) (v : Vec Item Global) → UnderWay (record run { items = v }) st p first run' → IsSame (with_doing run (Idle st)) run'
+pub started_same : (run run' : SessionRun) (st : Settings) (p : Piece) (first : ℕ) (v : Vec Item Global) → UnderWay (record run { items = v }) st p first run' → IsSameSession (with_doing run (Idle st)) run'
 started_same run run' st p first v (inl w) = let s = w.3.same in record { pieces = s.pieces; from = s.from; session = s.session; round = s.round }
 started_same run run' st p first v (inr w) =
     let e = w.1.is in
@@ -114,15 +114,15 @@ not_at_end e d none = subst (λ (x : Option Ending). IdleAtEnd x d) (sym none) t
 module _ (sound : Type 0) (began : SessionState) where
   -- 3. Others' entries
 
-  doing_passes : (k k' : Known) (n : ℕ) (left : List SeenPiece) (d : Doing) → Passes k k' → n ≤ length k.seen → IsDoing sound k n left d → IsDoing sound k' n left d
+  doing_passes : (k k' : Known) (n : ℕ) (left : List SeenPiece) (d : Doing) → TimePasses k k' → n ≤ length k.seen → IsDoing sound k n left d → IsDoing sound k' n left d
   doing_passes k k' n left (Idle st) p le h = own_passes k k' n (of_passes k k' p) le ∙ h
   doing_passes k k' n left (Under r span) p le h =
       let own = own_passes k k' n (of_passes k k' p) le in
       let fits = fits_passes sound n r.asked (own_since k.seat n k.seen) r.state k k' p h.fits in
-      record { rest = h.rest; next = h.next; span_is = h.span_is; fits = subst (λ (l : List Act). Fits sound n r.asked l r.state k') (sym own) fits }
+      record { rest = h.rest; next = h.next; span_is = h.span_is; fits = subst (λ (l : List Act). FitsItem sound n r.asked l r.state k') (sym own) fits }
   doing_passes k k' n left Taken p le h = absurd h
 
-  pub live_passes : (run : SessionRun) (k k' : Known) → Passes k k' → IsLive sound k began run → IsLive sound k' began run
+  pub live_passes : (run : SessionRun) (k k' : Known) → TimePasses k k' → IsSessionLive sound k began run → IsSessionLive sound k' began run
   live_passes run k k' p h =
       let o = of_passes k k' p in
       record {
@@ -147,7 +147,7 @@ module _ (sound : Type 0) (began : SessionState) where
   room_idle : (d : Doing) (st : Settings) (m c : ℕ) → d ≡ Idle st → HasRoom d m c
   room_idle d st m c e = subst (λ (x : Doing). HasRoom x m c) (sym e) tt
 
-  pub begins : (from : ℕ) (run : SessionRun) (k : Known) → from ≡ length k.seen → StartsFrom began from run → IsLive sound k began run
+  pub begins : (from : ℕ) (run : SessionRun) (k : Known) → from ≡ length k.seen → StartsFrom began from run → IsSessionLive sound k began run
   begins from run k here h =
       let none : own_since k.seat run.before k.seen ≡ [] = ap (λ (x : ℕ). own_since k.seat x k.seen) (h.before ∙ here) ∙ own_at_end k.seat k.seen in
       let count : length (seen_of run) ≡ length run.pieces.items = length-map run.pieces.items seen_piece in
@@ -176,8 +176,8 @@ module _ (sound : Type 0) (began : SessionState) where
       let F : List Entry → Type 0 = λ l. IsRight sound (record { seat = k.seat; base = k.base; damaged = k.damaged; alone = false; seen = l }) n (own_since k.seat n l) st p a in
       record { statement = span_is; begins = begins; ends = ends; within = omega arith; right = subst F (sym same) r }
 
-  item_done : (k k' : Known) (acts : List Act) (run run' : SessionRun) (d : Doing) (p : SeenPiece) (rest : List SeenPiece) (span : Span) (a : Answered) (last : ℕ) → Onward k k' acts → IsLive sound k began (with_doing run d) → run.ending ≡ None
-      → drop run.next (seen_of run) ≡ p ∷ rest → IsReplied sound k' run.before (settings_of d) p (item_of span a last) a.after → last ≡ length k'.seen → IsPushed run span a last run' → IsLive sound k' began run'
+  item_done : (k k' : Known) (acts : List Act) (run run' : SessionRun) (d : Doing) (p : SeenPiece) (rest : List SeenPiece) (span : Span) (a : Answered) (last : ℕ) → Onward k k' acts → IsSessionLive sound k began (with_doing run d) → run.ending ≡ None
+      → drop run.next (seen_of run) ≡ p ∷ rest → IsReplied sound k' run.before (settings_of d) p (item_of span a last) a.after → last ≡ length k'.seen → IsPushed run span a last run' → IsSessionLive sound k' began run'
   item_done k k' acts run run' d p rest span a last o live going next r here push =
       let i = item_of span a last in
       let at : Standing = record { settings = settings_of d; left = drop run.next (seen_of run) } in
@@ -205,10 +205,10 @@ module _ (sound : Type 0) (began : SessionState) where
 
   -- 6. Steps
 
-  pub same_run : (run : SessionRun) → IsSame run run
+  pub same_run : (run : SessionRun) → IsSameSession run run
   same_run run = record { pieces = refl; from = refl; session = refl; round = refl }
 
-  pub no_call : (k : Known) (run run' : SessionRun) → IsLive sound k began run' → IsSame run run' → StepsOn sound began k run k run'
+  pub no_call : (k : Known) (run run' : SessionRun) → IsSessionLive sound k began run' → IsSameSession run run' → StepsOn sound began k run k run'
   no_call k run run' live same = record { acts = []; ran = ran-none k; live = live; same = same }
 
   pub steps_then : (k k' k'' : Known) (a b c : SessionRun) → StepsOn sound began k a k' b → StepsOn sound began k' b k'' c → StepsOn sound began k a k'' c
@@ -220,15 +220,15 @@ module _ (sound : Type 0) (began : SessionState) where
   }
 
   -- the item goes on
-  pub goes_on : (k k' : Known) (run run' : SessionRun) (old new : ItemRun) (span : Span) (acts : List Act) → IsLive sound k began (with_doing run (Under old span)) → run.ending ≡ None → Ran k k' acts → new.asked ≡ old.asked
-      → Fits sound run.before old.asked (own_since k.seat run.before k.seen ++ outline acts) new.state k' → run' ≡ with_doing run (Under new span) → StepsOn sound began k (with_doing run (Under old span)) k' run'
+  pub goes_on : (k k' : Known) (run run' : SessionRun) (old new : ItemRun) (span : Span) (acts : List Act) → IsSessionLive sound k began (with_doing run (Under old span)) → run.ending ≡ None → Ran k k' acts → new.asked ≡ old.asked
+      → FitsItem sound run.before old.asked (own_since k.seat run.before k.seen ++ outline acts) new.state k' → run' ≡ with_doing run (Under new span) → StepsOn sound began k (with_doing run (Under old span)) k' run'
   goes_on k k' run run' old new span acts live going ran asked fits is =
       let o = of_ran k k' acts ran in
       let d = live.doing in
       let own : own_since k'.seat run.before k'.seen ≡ own_since k.seat run.before k.seen ++ outline acts = own_on k k' acts run.before o live.within in
-      let F : Asked × List Act → Type 0 = λ q. Fits sound run.before q.0 q.1 new.state k' in
+      let F : Asked × List Act → Type 0 = λ q. FitsItem sound run.before q.0 q.1 new.state k' in
       let at = told_on sound k k' acts run.from _ run.items.items run.before _ o live.replied in
-      let now : IsLive sound k' began (with_doing run (Under new span)) = record {
+      let now : IsSessionLive sound k' began (with_doing run (Under new span)) = record {
         replied = subst (λ (q : _). AreReplied sound k' run.from (at_first began (seen_of run)) run.items.items run.before (record { settings = q.settings; left = drop run.next (seen_of run) })) (sym asked) at;
         within = longer k k' acts run.before o live.within;
         doing = record {
@@ -246,12 +246,12 @@ module _ (sound : Type 0) (began : SessionState) where
       record {
         acts = acts;
         ran = ran;
-        live = subst (λ (x : SessionRun). IsLive sound k' began x) (sym is) now;
-        same = subst (λ (x : SessionRun). IsSame (with_doing run (Under old span)) x) (sym is) (record { pieces = refl; from = refl; session = refl; round = refl });
+        live = subst (λ (x : SessionRun). IsSessionLive sound k' began x) (sym is) now;
+        same = subst (λ (x : SessionRun). IsSameSession (with_doing run (Under old span)) x) (sym is) (record { pieces = refl; from = refl; session = refl; round = refl });
       }
 
   -- the item is over
-  pub is_over : (k k' : Known) (run run' : SessionRun) (old : ItemRun) (span : Span) (a : Answered) (last : ℕ) → IsLive sound k began (with_doing run (Under old span)) → run.ending ≡ None → Turns sound run.before old.asked (own_since k.seat run.before k.seen) k k' (turn.Over a)
+  pub is_over : (k k' : Known) (run run' : SessionRun) (old : ItemRun) (span : Span) (a : Answered) (last : ℕ) → IsSessionLive sound k began (with_doing run (Under old span)) → run.ending ≡ None → ItemTurns sound run.before old.asked (own_since k.seat run.before k.seen) k k' (turn.Over a)
       → last ≡ length k'.seen → IsPushed run span a last run' → StepsOn sound began k (with_doing run (Under old span)) k' run'
   is_over k k' run run' old span a last live going t here push =
       let o = of_ran k k' t.acts t.ran in
@@ -272,11 +272,11 @@ module _ (sound : Type 0) (began : SessionState) where
 
   -- 7. The next piece
 
-  fits_first : (k : Known) (before : ℕ) (st : Settings) (p : Piece) (r : ItemRun) → before ≤ r.asked.first → r.asked.first ≤ length k.seen → IsBegun st (seen_piece p) r → Fits sound before r.asked [] r.state k
+  fits_first : (k : Known) (before : ℕ) (st : Settings) (p : Piece) (r : ItemRun) → before ≤ r.asked.first → r.asked.first ≤ length k.seen → IsItemBegun st (seen_piece p) r → FitsItem sound before r.asked [] r.state k
   fits_first k before st p r low within b = starts_fitting sound before st (seen_piece p) r k low within b
 
-  pub starts : (k : Known) (run run' : SessionRun) (st : Settings) (p : Piece) (first : ℕ) → first ≡ length k.seen → IsLive sound k began (with_doing run (Idle st)) → run.ending ≡ None → length run.items.items < vec_capacity run.items
-      → slice_get run.pieces.items run.next ≡ Some p → UnderWay run st p first run' → IsLive sound k began run'
+  pub starts : (k : Known) (run run' : SessionRun) (st : Settings) (p : Piece) (first : ℕ) → first ≡ length k.seen → IsSessionLive sound k began (with_doing run (Idle st)) → run.ending ≡ None → length run.items.items < vec_capacity run.items
+      → slice_get run.pieces.items run.next ≡ Some p → UnderWay run st p first run' → IsSessionLive sound k began run'
   starts k run run' st p first here live going room at (inl w) =
       let a = w.0 in
       let next = drop_here run.next run.pieces.items p at in
@@ -291,14 +291,14 @@ module _ (sound : Type 0) (began : SessionState) where
       let e = j.first_is in
       let next = drop_here run.next run.pieces.items p at in
       let fits = fits_first k run.before st p r (omega arith) (omega arith) j.begun in
-      let now : IsLive sound k began (with_doing run (Under r (span_of (seen_piece p)))) = record {
+      let now : IsSessionLive sound k began (with_doing run (Under r (span_of (seen_piece p)))) = record {
         replied = subst (λ (q : Settings). AreReplied sound k run.from (at_first began (seen_of run)) run.items.items run.before (record { settings = q; left = drop run.next (seen_of run) })) (sym j.begun.settings) live.replied;
         within = low;
         doing = record {
           rest = _;
           next = next ∙ ap (λ (q : SeenPiece). q ∷ drop (suc run.next) (seen_of run)) (sym j.begun.piece);
           span_is = ap span_of (sym j.begun.piece);
-          fits = subst (λ (l : List Act). Fits sound run.before r.asked l r.state k) (sym live.doing) fits;
+          fits = subst (λ (l : List Act). FitsItem sound run.before r.asked l r.state k) (sym live.doing) fits;
         };
         ends = live.ends;
         idle = not_at_end run.ending _ going;
@@ -306,23 +306,23 @@ module _ (sound : Type 0) (began : SessionState) where
         stopped = live.stopped;
         placed = live.placed;
       } in
-      subst (λ (x : SessionRun). IsLive sound k began x) (sym j.is) now
+      subst (λ (x : SessionRun). IsSessionLive sound k began x) (sym j.is) now
 
   -- the round ends
-  pub finishes : (k : Known) (run : SessionRun) (st : Settings) (e : Ending) → IsLive sound k began (with_doing run (Idle st)) → run.ending ≡ None → EndsAs e (drop run.next (seen_of run)) run.items.items → IsLive sound k began (record (with_doing run (Idle st)) { ending = Some e })
+  pub finishes : (k : Known) (run : SessionRun) (st : Settings) (e : Ending) → IsSessionLive sound k began (with_doing run (Idle st)) → run.ending ≡ None → EndsAs e (drop run.next (seen_of run)) run.items.items → IsSessionLive sound k began (record (with_doing run (Idle st)) { ending = Some e })
   finishes k run st e live going ends = record { replied = live.replied; within = live.within; doing = live.doing; ends = ends; idle = tt; room = tt; stopped = live.stopped; placed = live.placed }
 
-  quiet_now : (k : Known) (run : SessionRun) (st : Settings) → IsLive sound k began (with_doing run (Idle st)) → run.ending ≡ None → has_fatal run.items.items ≡ false
+  quiet_now : (k : Known) (run : SessionRun) (st : Settings) → IsSessionLive sound k began (with_doing run (Idle st)) → run.ending ≡ None → has_fatal run.items.items ≡ false
   quiet_now k run st live going = quiet_so_far run.ending _ run.items.items going live.ends
 
-  pub finishes_whole : (k : Known) (run : SessionRun) (st : Settings) → IsLive sound k began (with_doing run (Idle st)) → run.ending ≡ None → slice_get run.pieces.items run.next ≡ None → IsLive sound k began (record (with_doing run (Idle st)) { ending = Some Whole })
+  pub finishes_whole : (k : Known) (run : SessionRun) (st : Settings) → IsSessionLive sound k began (with_doing run (Idle st)) → run.ending ≡ None → slice_get run.pieces.items run.next ≡ None → IsSessionLive sound k began (record (with_doing run (Idle st)) { ending = Some Whole })
   finishes_whole k run st live going none = finishes k run st Whole live going (drop_past run.next run.pieces.items none, quiet_now k run st live going)
 
-  pub finishes_lacking : (k : Known) (run : SessionRun) (st : Settings) → IsLive sound k began (with_doing run (Idle st)) → run.ending ≡ None → IsLive sound k began (record (with_doing run (Idle st)) { ending = Some Memory })
+  pub finishes_lacking : (k : Known) (run : SessionRun) (st : Settings) → IsSessionLive sound k began (with_doing run (Idle st)) → run.ending ≡ None → IsSessionLive sound k began (record (with_doing run (Idle st)) { ending = Some Memory })
   finishes_lacking k run st live going = finishes k run st Memory live going (quiet_now k run st live going)
 
   -- room was taken for an item
-  pub reserved : (k : Known) (run : SessionRun) (st : Settings) (v : Vec Item Global) → v.items ≡ run.items.items → IsLive sound k began (with_doing run (Idle st)) → IsLive sound k began (with_doing (record run { items = v }) (Idle st))
+  pub reserved : (k : Known) (run : SessionRun) (st : Settings) (v : Vec Item Global) → v.items ≡ run.items.items → IsSessionLive sound k began (with_doing run (Idle st)) → IsSessionLive sound k began (with_doing (record run { items = v }) (Idle st))
   reserved k run st v e live =
       let F : List Item → Type 0 = λ l. AreReplied sound k run.from (at_first began (seen_of run)) l run.before (record { settings = st; left = drop run.next (seen_of run) }) in
       let G : List Item → Type 0 = λ l. EndsSoFar run.ending (drop run.next (seen_of run)) l in
@@ -330,8 +330,8 @@ module _ (sound : Type 0) (began : SessionState) where
 
   -- 8. The end
 
-  pub is_answered : (k : Known) (run : SessionRun) (e : Ending) (st : Settings) (t : Transcript) (st' : SessionState) → run.ending ≡ Some e → run.doing ≡ Idle st → t.items ≡ run.items.items → st' ≡ state_after run.stopped e st → IsLive sound k began run
-      → IsAnswered sound k run.from (length k.seen) began (seen_of run) t st' e
+  pub is_answered : (k : Known) (run : SessionRun) (e : Ending) (st : Settings) (t : Transcript) (st' : SessionState) → run.ending ≡ Some e → run.doing ≡ Idle st → t.items ≡ run.items.items → st' ≡ state_after run.stopped e st → IsSessionLive sound k began run
+      → IsSessionAnswered sound k run.from (length k.seen) began (seen_of run) t st' e
   is_answered k run e st t st' ended idle items state live =
       let ends : EndsAs e (standing run).left run.items.items = subst (λ (x : Option Ending). EndsSoFar x (standing run).left run.items.items) ended live.ends in
       let none : own_since k.seat run.before k.seen ≡ [] = subst (λ (x : Doing). IsDoing sound k run.before (standing run).left x) idle live.doing in
@@ -352,7 +352,7 @@ later : (k k' : Known) (more : List Entry) → k'.seat ≡ k.seat → k'.base �
 later k k' more seat base damaged seen = record { more = more; seen = seen; own = refl; seat = seat; base = base; damaged = damaged }
 
 pub stays : (sound : Type 0) (k k' : Known) (more : List Entry) (from to : ℕ) (st : SessionState) (ps : List SeenPiece) (t : Transcript) (st' : SessionState) (e : Ending) → k'.seat ≡ k.seat → k'.base ≡ k.base → k'.damaged ≡ k.damaged → k'.seen ≡ k.seen ++ more
-    → IsAnswered sound k from to st ps t st' e → IsAnswered sound k' from to st ps t st' e
+    → IsSessionAnswered sound k from to st ps t st' e → IsSessionAnswered sound k' from to st ps t st' e
 stays sound k k' more from to st ps t st' e seat base damaged seen h =
     let o = later k k' more seat base damaged seen in
     let same : take to k'.seen ≡ take to k.seen = ap (take to) seen ∙ take-append-le to k.seen more h.within in
@@ -369,7 +369,7 @@ stays sound k k' more from to st ps t st' e seat base damaged seen h =
 
 -- others' entries, up to the end of the round
 pub grows : (sound : Type 0) (k k' : Known) (more : List Entry) (from : ℕ) (st : SessionState) (ps : List SeenPiece) (t : Transcript) (st' : SessionState) (e : Ending) → k'.seat ≡ k.seat → k'.base ≡ k.base → k'.damaged ≡ k.damaged → k'.seen ≡ k.seen ++ more
-    → outline (acts_by k.seat more) ≡ [] → IsAnswered sound k from (length k.seen) st ps t st' e → IsAnswered sound k' from (length k'.seen) st ps t st' e
+    → outline (acts_by k.seat more) ≡ [] → IsSessionAnswered sound k from (length k.seen) st ps t st' e → IsSessionAnswered sound k' from (length k'.seen) st ps t st' e
 grows sound k k' more from st ps t st' e seat base damaged seen quiet h =
     let o = later k k' more seat base damaged seen in
     let low : h.last ≤ length k.seen = h.in_round in

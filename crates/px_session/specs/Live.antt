@@ -13,7 +13,7 @@ use Rattle.px_item.specs.declared.answered.Answered.{Answered}
 use Rattle.px_item.specs.declared.answered.Settings.{Settings}
 use Rattle.px_item.specs.declared.item.ItemRun.{ItemRun}
 use Rattle.px_item.specs.Right.{IsAtOnce}
-use Rattle.px_item.specs.Turns.{Fits, IsBegun}
+use Rattle.px_item.specs.Turns.{FitsItem, IsItemBegun}
 use Rattle.px_session.specs.declared.run.Doing.{Doing}
 use Rattle.px_session.specs.declared.run.Doing.TheVariants.{Idle, Under, Taken}
 use Rattle.px_session.specs.declared.run.SessionRun.{SessionRun}
@@ -54,7 +54,7 @@ pub record IsUnder (sound : Type 0) (k : Known) (before : ℕ) (left : List Seen
   pub rest : List SeenPiece
   pub next : left ≡ seen_piece r.asked.piece ∷ rest
   pub span_is : span ≡ span_of (seen_piece r.asked.piece)
-  pub fits : Fits sound before r.asked (own_since k.seat before k.seen) r.state k
+  pub fits : FitsItem sound before r.asked (own_since k.seat before k.seen) r.state k
 
 -- What the session does, as the trail tells it: nothing since its last item, or the item of the next piece
 abbrev pub IsDoing : Type 0 → Known → ℕ → List SeenPiece → Doing → Type 0
@@ -84,7 +84,7 @@ abbrev pub ArePlaced : List Piece → Type 0
 ArePlaced ps = All (λ p. p.place + length p.text.now < 2 ^ 64) ps
 
 -- A session on its way: its items so far are answered, and what is under way is as the trail tells. Others' entries keep this
-pub record IsLive (sound : Type 0) (k : Known) (began : SessionState) (run : SessionRun) : Type 0 where
+pub record IsSessionLive (sound : Type 0) (k : Known) (began : SessionState) (run : SessionRun) : Type 0 where
   pub replied : AreReplied sound k run.from (at_first began (seen_of run)) run.items.items run.before (standing run)
   pub within : run.before ≤ length k.seen
   pub doing : IsDoing sound k run.before (standing run).left run.doing
@@ -95,7 +95,7 @@ pub record IsLive (sound : Type 0) (k : Known) (began : SessionState) (run : Ses
   pub placed : ArePlaced run.pieces.items
 
 -- the same session of the same round
-pub record IsSame (run run' : SessionRun) : Type 0 where
+pub record IsSameSession (run run' : SessionRun) : Type 0 where
   pub pieces : run'.pieces ≡ run.pieces
   pub from : run'.from ≡ run.from
   pub session : run'.session ≡ run.session
@@ -116,8 +116,8 @@ pub record StartsFrom (began : SessionState) (from : ℕ) (run : SessionRun) : T
 pub record StepsOn (sound : Type 0) (began : SessionState) (k : Known) (run : SessionRun) (k' : Known) (run' : SessionRun) : Type 0 where
   pub acts : List Act
   pub ran : Ran k k' acts
-  pub live : IsLive sound k' began run'
-  pub same : IsSame run run'
+  pub live : IsSessionLive sound k' began run'
+  pub same : IsSameSession run run'
 
 abbrev pub IsOverAt : SessionTurn → Option Ending → Type 0
 IsOverAt turn.Finished e = e ≢ None
@@ -138,15 +138,15 @@ pub record IsPushed (run : SessionRun) (span : Span) (a : Answered) (last : ℕ)
   pub doing : run'.doing ≡ Idle (settled a.after)
   pub ending : run'.ending ≡ fatal_ending (is_fatal a.reply)
   pub stopped : run'.stopped ≡ run.stopped
-  pub same : IsSame run run'
+  pub same : IsSameSession run run'
 
 -- the next piece was begun: it is answered, or under way
-pub record IsStarted (run : SessionRun) (st : Settings) (p : Piece) (first : ℕ) (r : ItemRun) (run' : SessionRun) : Type 0 where
-  pub begun : IsBegun st (seen_piece p) r
+pub record IsPieceBegun (run : SessionRun) (st : Settings) (p : Piece) (first : ℕ) (r : ItemRun) (run' : SessionRun) : Type 0 where
+  pub begun : IsItemBegun st (seen_piece p) r
   pub first_is : r.asked.first ≡ first
   pub is : run' ≡ with_doing run (Under r (span_of (seen_piece p)))
 
 abbrev pub UnderWay : SessionRun → Settings → Piece → ℕ → SessionRun → Type 0
 UnderWay run st p first run' =
     ((a : Answered) × IsAtOnce st (seen_piece p) a × (a.first ≡ first) × IsPushed run (span_of (seen_piece p)) a first run')
-    ⊎ ((r : ItemRun) × IsStarted run st p first r run')
+    ⊎ ((r : ItemRun) × IsPieceBegun run st p first r run')

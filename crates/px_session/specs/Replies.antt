@@ -17,7 +17,7 @@ use Rattle.px_item.specs.declared.answered.After.{After}
 use Rattle.px_item.specs.declared.answered.After.TheVariants as next_is
 use Rattle.px_item.specs.declared.answered.Answered.{Answered}
 use Rattle.px_item.specs.declared.answered.Settings.{Settings}
-use Rattle.px_item.specs.Right.{IsRight, after}
+use Rattle.px_item.specs.Right.{IsRight, known_after}
 use Rattle.px_session.specs.declared.state.Ending.{Ending}
 use Rattle.px_session.specs.declared.state.Ending.TheVariants.{Whole, Fatal, Memory}
 use Rattle.px_session.specs.declared.state.SessionState.{SessionState}
@@ -29,13 +29,13 @@ is_closing refusal.WriteFault = true
 is_closing (refusal.Closed call) = true
 is_closing r = false
 
-abbrev pub stops : Option Refusal → Bool
-stops (Some r) = is_closing r
-stops None = false
+abbrev pub stops_session : Option Refusal → Bool
+stops_session (Some r) = is_closing r
+stops_session None = false
 
 -- the session is stopped by it
 abbrev pub is_fatal : Reply → Bool
-is_fatal r = stops (refusal_in r)
+is_fatal r = stops_session (refusal_in r)
 
 -- what the seat itself began, ended, opened, closed and defined after the first n entries
 abbrev pub own_since : ℕ → ℕ → List Entry → List Act
@@ -52,8 +52,8 @@ goes_on (next_is.Next st) = true
 goes_on (next_is.Again st) = false
 
 -- what an item says, with what is after it
-abbrev pub answer_of : Item → After → Answered
-answer_of i after = record { reply = i.reply; receipts = i.evidence.receipts; places = i.evidence.places; first = i.evidence.first; after = after }
+abbrev pub answer_with : Item → After → Answered
+answer_with i after = record { reply = i.reply; receipts = i.evidence.receipts; places = i.evidence.places; first = i.evidence.first; after = after }
 
 -- The item answers the piece under these settings, by the entries up to its last, and this is after it. Its own are those of its seat since the item
 -- before, which ended after n
@@ -62,7 +62,7 @@ pub record IsReplied (sound : Type 0) (k : Known) (n : ℕ) (st : Settings) (p :
   pub begins : n ≤ i.evidence.first
   pub ends : i.evidence.first ≤ i.evidence.last
   pub within : i.evidence.last ≤ length k.seen
-  pub right : IsRight sound (after i.evidence.last k) n (own_since k.seat n (take i.evidence.last k.seen)) st p (answer_of i next)
+  pub right : IsRight sound (known_after i.evidence.last k) n (own_since k.seat n (take i.evidence.last k.seen)) st p (answer_with i next)
 
 -- ---- the items of a session, one after another
 
@@ -119,7 +119,7 @@ state_after stopped e st = record { settings = st; stopped = stopped || is_stopp
 
 -- Of the entries from the place `from` up to the place `to` those of this seat that begin, end, open, close and define are those of
 -- the items, in order, and no others; each item is answered by the trail at its end
-pub record IsAnswered (sound : Type 0) (k : Known) (from to : ℕ) (st : SessionState) (ps : List SeenPiece) (t : Transcript) (st' : SessionState) (e : Ending) : Type 0 where
+pub record IsSessionAnswered (sound : Type 0) (k : Known) (from to : ℕ) (st : SessionState) (ps : List SeenPiece) (t : Transcript) (st' : SessionState) (e : Ending) : Type 0 where
   pub last : ℕ
   pub standing : Standing
   pub replied : AreReplied sound k from (at_first st ps) t.items last standing

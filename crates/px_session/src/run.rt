@@ -6,7 +6,7 @@ ghost use Rattle.px_script.specs.Pieces.{span_of};
 ghost use Rattle.px_calls.specs.Known.{Known};
 ghost use Rattle.px_session.specs.declared.state.SessionState.{SessionState as States};
 ghost use Rattle.px_session.specs.Replies as replies;
-ghost use Rattle.px_session.specs.Live.{ArePlaced, IsLive, IsOverAt, IsPushed, IsSame, StartsFrom, StepsOn, UnderWay, makes_call, with_doing};
+ghost use Rattle.px_session.specs.Live.{ArePlaced, IsOverAt, IsPushed, IsSameSession, IsSessionLive, StartsFrom, StepsOn, UnderWay, makes_call, with_doing};
 
 use crate::state::{Ending, SessionState, is_fatal, state_after};
 use px_calls::Steps;
@@ -196,9 +196,9 @@ impl<'a> SessionRun<'a> {
     /// Goes on to the next piece, where there is one. It makes no call.
     fn start<S: Steps>(&mut self, alloc: Global, s: &S, settings: Settings) -> SessionTurn
         requires taken { self.old.doing ≡ Doing.Taken }
-        requires live { (began : States) × IsLive S.sound (S.known s.now) began (with_doing self.old (Doing.Idle settings)) }
+        requires live { (began : States) × IsSessionLive S.sound (S.known s.now) began (with_doing self.old (Doing.Idle settings)) }
         requires going { self.old.ending ≡ None }
-        ensures steps { (began : States) → IsLive S.sound (S.known s.now) began (with_doing self.old (Doing.Idle settings)) → StepsOn S.sound began (S.known s.now) (with_doing self.old (Doing.Idle settings)) (S.known s.now) self.new }
+        ensures steps { (began : States) → IsSessionLive S.sound (S.known s.now) began (with_doing self.old (Doing.Idle settings)) → StepsOn S.sound began (S.known s.now) (with_doing self.old (Doing.Idle settings)) (S.known s.now) self.new }
         ensures over { IsOverAt result self.new.ending }
         ensures no_call { makes_call result ≡ false }
     {
@@ -222,9 +222,9 @@ impl<'a> SessionRun<'a> {
         span: Span,
     ) -> SessionTurn
         requires taken { self.old.doing ≡ Doing.Taken }
-        requires live { (began : States) × IsLive S.sound (S.known s.old) began (with_doing self.old (Doing.Under run span)) }
+        requires live { (began : States) × IsSessionLive S.sound (S.known s.old) began (with_doing self.old (Doing.Under run span)) }
         requires going { self.old.ending ≡ None }
-        ensures steps { (began : States) → IsLive S.sound (S.known s.old) began (with_doing self.old (Doing.Under run.entry span)) → StepsOn S.sound began (S.known s.old) (with_doing self.old (Doing.Under run.entry span)) (S.known s.new) self.new }
+        ensures steps { (began : States) → IsSessionLive S.sound (S.known s.old) began (with_doing self.old (Doing.Under run.entry span)) → StepsOn S.sound began (S.known s.old) (with_doing self.old (Doing.Under run.entry span)) (S.known s.new) self.new }
         ensures over { IsOverAt result self.new.ending }
         ensures calls { makes_call result ≡ true }
         ensures one_call { S.one_call s.old s.new }
@@ -252,8 +252,8 @@ impl<'a> SessionRun<'a> {
         alloc: Global,
         s: &mut S,
     ) -> SessionTurn
-        requires live { (began : States) × IsLive S.sound (S.known s.old) began self.old }
-        ensures steps { (began : States) → IsLive S.sound (S.known s.old) began self.old → StepsOn S.sound began (S.known s.old) self.old (S.known s.new) self.new }
+        requires live { (began : States) × IsSessionLive S.sound (S.known s.old) began self.old }
+        ensures steps { (began : States) → IsSessionLive S.sound (S.known s.old) began self.old → StepsOn S.sound began (S.known s.old) self.old (S.known s.new) self.new }
         ensures over { IsOverAt result self.new.ending }
         ensures one_call { makes_call result ≡ true → S.one_call s.old s.new }
         ensures no_call { makes_call result ≡ false → s.new ≡ s.old }
@@ -278,8 +278,8 @@ impl<'a> SessionRun<'a> {
     /// What the session came to, once it is over, and how it ended.
     pub fn transcript<S: Steps>(self) -> (Transcript, SessionState, Ending)
         requires over { self.ending ≢ None }
-        requires live { (k : Known) × (began : States) × IsLive S.sound k began self }
-        ensures answered { (k : Known) → (began : States) → IsLive S.sound k began self.entry → replies.IsAnswered S.sound k self.entry.from (length k.seen) began (map seen_piece self.entry.pieces.items) result.0 result.1 result.2 }
+        requires live { (k : Known) × (began : States) × IsSessionLive S.sound k began self }
+        ensures answered { (k : Known) → (began : States) → IsSessionLive S.sound k began self.entry → replies.IsSessionAnswered S.sound k self.entry.from (length k.seen) began (map seen_piece self.entry.pieces.items) result.0 result.1 result.2 }
         ensures session { (result.0.session ≡ self.entry.session) × (result.0.round ≡ self.entry.round) }
     {
         let SessionRun {
@@ -315,8 +315,8 @@ pub fn run_to_end<R: Threads + Wait + Sync, S: Steps>(
     s: &mut S,
     run: &mut SessionRun<'_>,
 )
-    requires live { (began : States) × IsLive S.sound (S.known s.old) began run.old }
-    ensures steps { (began : States) → IsLive S.sound (S.known s.old) began run.old → StepsOn S.sound began (S.known s.old) run.old (S.known s.new) run.new }
+    requires live { (began : States) × IsSessionLive S.sound (S.known s.old) began run.old }
+    ensures steps { (began : States) → IsSessionLive S.sound (S.known s.old) began run.old → StepsOn S.sound began (S.known s.old) run.old (S.known s.new) run.new }
     ensures over { run.new.ending ≢ None }
 {
     'steps: for _ in rt.forever() {

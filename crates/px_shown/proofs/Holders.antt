@@ -12,11 +12,11 @@ use Rattle.px_tables.specs.declared.table.Table.{Table}
 use Rattle.px_trail.specs.States.{key_in}
 use Rattle.px_trail.specs.Trail.{Base, shape_of, table_shape}
 use Rattle.px_trail.specs.declared.entry.Entry.{Entry}
-use Rattle.px_paths.specs.Paths.{columns_on, index_path, is_keyed, key_on, owner_of, value_among, values_on}
+use Rattle.px_paths.specs.Paths.{columns_on, index_path, is_keyed, key_on, owner_of, value_on_path, values_on}
 use Rattle.px_rows.specs.Keys.{IsRightTable}
 use Rattle.px_indexrow.specs.Form.{IsRightIndex, key_of_state}
 use Rattle.px_calls.specs.Looks.{IsRowAt, key_by, row_at}
-use Rattle.px_calls.specs.Requires.{index_in}
+use Rattle.px_calls.specs.Requires.{index_of_found}
 use Rattle.px_calls.specs.declared.query.By.TheVariants.{Index as Indexed}
 use Rattle.px_calls.specs.declared.query.Point.{Point}
 use Rattle.px_shown.specs.Told.{AreStates, IsHolder, is_key_in, keyed_if}
@@ -28,7 +28,7 @@ use Rattle.px_shown.proofs.ShownRows.{among_row, placed_path}
 -- the primary key values of a row are among those of its index key
 pub owner_is : (t : Table) (x : Index) (row : List Value) → owner_of t (index_path t x) (values_on (index_path t x) row) ≡ key_in (table_shape t) row
 owner_is t x row =
-    map_same (λ p. value_among (index_path t x) (values_on (index_path t x) row) p.column) (λ p. get_or row p.column Null) t.key
+    map_same (λ p. value_on_path (index_path t x) (values_on (index_path t x) row) p.column) (λ p. get_or row p.column Null) t.key
     (λ p h. among_row (index_path t x) row p.column ∙ cond-true _ _ _ (placed_path t x p.column ∙ or_there (is_keyed x.parts p.column) (is_keyed t.key p.column) h))
     ∙ sym (columns_of row t.key)
   where
@@ -44,7 +44,7 @@ key_found : (k : List ℕ) (o : Option (List ℕ)) → o ≡ Some k → is_key_i
 key_found k o h = ap (is_key_in k) h ∙ (bytes_eq-Decides k k).1 refl
 
 module _ (t : Table) (x : Index) (right : IsRightTable t) (index : IsRightIndex t x) (state : List Value → RowState) (states : AreStates t state)
-    (b : Base) (es : List Entry) (p : Point) (at : (r : List Value) → row_at b es p r ≡ state r) (shape : shape_of b es p.table.0 ≡ table_shape t) (table : p.found.table ≡ t) (is : index_in p.found x.id.0 ≡ Some x)
+    (b : Base) (es : List Entry) (p : Point) (at : (r : List Value) → row_at b es p r ≡ state r) (shape : shape_of b es p.table.0 ≡ table_shape t) (table : p.found.table ≡ t) (is : index_of_found p.found x.id.0 ≡ Some x)
     (k : List ℕ) (values : List Value) (key : IsKeyOf (columns_on (index_path t x)) values k) where
   abbrev r : List Value
   r = owner_of t (index_path t x) values

@@ -18,7 +18,7 @@ use Rattle.px_trail.specs.States.{key_in}
 use Rattle.px_trail.specs.Trail.{table_shape}
 use Rattle.px_world.specs.World.{read_at}
 use Rattle.px_rows.specs.Keys.{IsRightTable, are_distinct, is_part, row_key}
-use Rattle.px_rows.specs.Spelled.{column_at, decoded, overlay, pick, row_form, state_if, table_form}
+use Rattle.px_rows.specs.Spelled.{column_at, decoded, overlay, pick, row_form, row_spelling, state_if}
 use Rattle.px_indexrow.proofs.KeysHeld.{row_count}
 use Rattle.px_cellshapes.specs.Rows.{AreRightRows}
 use Rattle.px_cellshapes.proofs.Each.{none_if}
@@ -92,11 +92,11 @@ part_within n (p ∷ ps) a c h = elim (cases_eq p.column c) [
 
 pub own_key : (t : Table) (g : Contents) → IsRightTable t → SpellsRows t g → (r row : List Value) (p : ℕ) → (row_form t).spelled g r p ≡ Some row → key_in (table_shape t) row ≡ r
 own_key t g right rows r row p e =
-    let o = column_at (table_form t) g r p in
+    let o = column_at (row_spelling t) g r p in
     let fresh = fresh_row (table_shape t) r in
     let is : overlay o 0 fresh ≡ row = state_is (seen_at g (row_key t r) 1 p) row (overlay o 0 fresh) e in
     let count : length fresh ≡ length t.columns = with_length t.key r (replicate (length t.columns) Null) ∙ length-replicate (length t.columns) Null in
-    let none : (c : ℕ) → is_part t.key c ≡ true → o c ≡ None = λ c h. ap (decoded (table_form t) c) (none_seen g (row_key t r) (suc (suc c)) p (λ s. rows.bare r c s h) (seen_at g (row_key t r) (suc (suc c)) p) refl) in
+    let none : (c : ℕ) → is_part t.key c ≡ true → o c ≡ None = λ c h. ap (decoded (row_spelling t) c) (none_seen g (row_key t r) (suc (suc c)) p (λ s. rows.bare r c s h) (seen_at g (row_key t r) (suc (suc c)) p) refl) in
     ap (λ (l : List Value). key_in (table_shape t) l) (sym is)
     ∙ columns_of (overlay o 0 fresh) t.key
     ∙ map_same (λ q. get_or (overlay o 0 fresh) q.column Null) (λ q. get_or fresh q.column Null) t.key

@@ -28,14 +28,14 @@ use Rattle.px_shown.proofs.ShownRows.{keyed_rest}
 
 -- ---- values by places
 
-among_key : (cs : List TableColumn) (qs : List KeyPlace) (vs : List Value) (c : ℕ) → paths.value_among (map (key_part cs) qs) vs c ≡ value_among qs vs c
-unfolding paths.value_among value_among
+among_key : (cs : List TableColumn) (qs : List KeyPlace) (vs : List Value) (c : ℕ) → paths.value_on_path (map (key_part cs) qs) vs c ≡ value_among qs vs c
+unfolding paths.value_on_path value_among
 among_key cs [] vs c = refl
 among_key cs (q ∷ qs) [] c = refl
 among_key cs (q ∷ qs) (v ∷ vs) c = ap (λ (w : Value). cond (nat_eq q.column c) v w) (among_key cs qs vs c)
 
-among_parts : (t : Table) (ps qs : List KeyPlace) (vs : List Value) (c : ℕ) → paths.value_among (map (index_part t) ps ++ map (key_part t.columns) qs) vs c ≡ value_among (ps ++ qs) vs c
-unfolding paths.value_among value_among
+among_parts : (t : Table) (ps qs : List KeyPlace) (vs : List Value) (c : ℕ) → paths.value_on_path (map (index_part t) ps ++ map (key_part t.columns) qs) vs c ≡ value_among (ps ++ qs) vs c
+unfolding paths.value_on_path value_among
 among_parts t [] qs vs c = among_key t.columns qs vs c
 among_parts t (p ∷ ps) qs [] c = refl
 among_parts t (p ∷ ps) qs (v ∷ vs) c = ap (λ (w : Value). cond (nat_eq p.column c) v w) (among_parts t ps qs vs c)
@@ -46,8 +46,8 @@ owner_read t x k values key =
     let fits : Fits (index_columns t x) values = subst (λ (cs : List KeyColumn). Fits cs values) (index_columns_same t x) key.fits in
     let spells : spelled (index_columns t x) values ≡ k = ap (λ (cs : List KeyColumn). spelled cs values) (sym (index_columns_same t x)) ∙ key.spells in
     let read : read_parts (index_columns t x) k ≡ values = ap (read_parts (index_columns t x)) (sym (append-nil k) ∙ ap (λ (l : List ℕ). l ++ []) (sym spells)) ∙ parts_back (index_columns t x) values [] fits in
-    map_same (λ p. paths.value_among (index_path t x) values p.column) (λ p. value_among (index_places t x) (read_parts (index_columns t x) k) p.column) t.key
-    (λ p h. ap (λ (l : List PathColumn). paths.value_among l values p.column) (path_is t x) ∙ among_parts t x.parts (rest_of x.parts t.key) values p.column ∙ ap (λ (vs : List Value). value_among (index_places t x) vs p.column) (sym read))
+    map_same (λ p. paths.value_on_path (index_path t x) values p.column) (λ p. value_among (index_places t x) (read_parts (index_columns t x) k) p.column) t.key
+    (λ p h. ap (λ (l : List PathColumn). paths.value_on_path l values p.column) (path_is t x) ∙ among_parts t x.parts (rest_of x.parts t.key) values p.column ∙ ap (λ (vs : List Value). value_among (index_places t x) vs p.column) (sym read))
 
 -- ---- they fit the primary key
 

@@ -11,7 +11,7 @@ use Rattle.px_tables.specs.declared.table.TableColumn.{TableColumn}
 use Rattle.px_trail.specs.States.{key_in}
 use Rattle.px_trail.specs.Trail.{table_shape}
 use Rattle.px_paths.specs.Paths.{index_part, index_path, is_keyed, key_part, table_path, values_on}
-use Rattle.px_indexrow.specs.Form.{index_places, index_values, rest_of, value_in}
+use Rattle.px_indexrow.specs.Form.{index_places, index_values, rest_of, value_of_column}
 
 -- the parts of the primary key that aren't indexed
 abbrev pub others : List KeyPlace → List KeyPlace → List KeyPlace
@@ -59,8 +59,8 @@ key_in_is row (p ∷ ps) = ap (λ (l : List Value). get_or row p.column Null ∷
 pub own_values : (t : Table) (row : List Value) → values_on (table_path t) row ≡ key_in (table_shape t) row
 own_values t row = key_values_at t.columns row t.key ∙ sym (key_in_is row t.key)
 
-own_value : (key : List KeyPlace) (row : List Value) (c : ℕ) → value_in key (map (λ p. get_or row p.column Null) key) row c ≡ get_or row c Null
-unfolding value_in
+own_value : (key : List KeyPlace) (row : List Value) (c : ℕ) → value_of_column key (map (λ p. get_or row p.column Null) key) row c ≡ get_or row c Null
+unfolding value_of_column
 own_value [] row c = refl
 own_value (p ∷ key) row c = elim (cases_Bool (nat_eq p.column c)) [
   | inl e ↦ cond-true _ _ _ e ∙ ap (λ (i : ℕ). get_or row i Null) (eqb-true p.column c e)

@@ -27,7 +27,7 @@ use Rattle.px_calls.specs.declared.query.Point.{Point}
 use Rattle.px_looks.specs.Found.{AreNext}
 use Rattle.px_looks.specs.IndexKeys.{ShowsKey}
 use Rattle.px_looks.specs.Rows.{ShowsRow}
-use Rattle.px_shown.specs.Told.{AreStates, IsHolder, IsIndexAt, IsPointOf, SpellsRows, keyed_if, reach_of}
+use Rattle.px_shown.specs.Told.{AreStates, IsHolder, IsIndexAt, IsPointOfTable, SpellsRows, keyed_if, reach_of}
 use Rattle.px_shown.proofs.Holders.{holder}
 use Rattle.px_shown.proofs.KeyLooks.{keys_rows}
 use Rattle.px_shown.proofs.RowLooks.{rows_rows}
@@ -41,7 +41,7 @@ at_reach b es p id same r = by p.scn ∙ ap (λ (t : TableId). state_of b es t.0
     by true = refl
     by false = refl
 
-module _ (t : Table) (right : IsRightTable t) (b : Base) (index : ℕ → IndexForm) (es : List Entry) (v : GroupData) (kept : GroupKept (table_form b t.id index (row_form t)) es v) (rows : SpellsRows t (value_at v.cells)) (p : Point) (of : IsPointOf t p) where
+module _ (t : Table) (right : IsRightTable t) (b : Base) (index : ℕ → IndexForm) (es : List Entry) (v : GroupData) (kept : GroupKept (table_form b t.id index (row_form t)) es v) (rows : SpellsRows t (value_at v.cells)) (p : Point) (of : IsPointOfTable t p) where
   abbrev state : List Value → RowState
   state r = state_of b es t.id.0 r (reach_of p)
 

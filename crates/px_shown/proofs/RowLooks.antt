@@ -14,7 +14,7 @@ use Rattle.px_paths.specs.Paths.{FitsRow, key_on, table_path}
 use Rattle.px_rows.specs.Keys.{row_columns, row_key}
 use Rattle.px_rows.specs.Spelled.{row_form}
 use Rattle.px_rows.proofs.KeysBack.{row_key-fits}
-use Rattle.px_calls.specs.Looks.{IsRightRow, IsRowAt, IsShown, Shows, ShowsRows, is_covered, is_on, is_past, key_by, key_found, row_at}
+use Rattle.px_calls.specs.Looks.{IsRightRow, IsRowAt, IsRowShown, Shows, ShowsRows, is_covered, is_on, is_past, key_by, key_found, row_at}
 use Rattle.px_calls.specs.declared.query.By.{By}
 use Rattle.px_calls.specs.declared.query.By.TheVariants.{Table as ByTable}
 use Rattle.px_calls.specs.declared.query.Doubt.{Doubt}
@@ -59,7 +59,7 @@ module _ (t : Table) (state : List Value → RowState) (states : AreStates t sta
       (a.row, state_row t state states b es p at shape a.values a.row stands, sure_same f (record { key = k; row = a.row }) a.is ∙ (λ i. record { key = (sym a.key.spells ∙ sym (table_key t state states a.values a.row stands) ∙ sym (key_is a.row)) i; row = a.row }))
 
   module _ (path : Path) (by : path.by ≡ ByTable) (after : Option (List ℕ)) (fs : List FoundKey) (next : Option (List ℕ)) (n : AreNext (ShowsRow t q) g path.low path.high after fs next) where
-    row_whole : (row : List Value) → IsRowAt b es p row → is_on path (key_on (table_path t) row) ≡ true → is_past after (key_on (table_path t) row) ≡ true → is_covered next (key_on (table_path t) row) ≡ true → IsShown fs p.found ByTable row
+    row_whole : (row : List Value) → IsRowAt b es p row → is_on path (key_on (table_path t) row) ≡ true → is_past after (key_on (table_path t) row) ≡ true → is_covered next (key_on (table_path t) row) ≡ true → IsRowShown fs p.found ByTable row
     row_whole row h on past covered =
         let r = key_in (table_shape t) row in
         let k = key_on (table_path t) row in
@@ -76,6 +76,6 @@ module _ (t : Table) (state : List Value → RowState) (states : AreStates t sta
       right = λ f a. subst (λ (z : By). IsRightRow b es p z f) (sym by) (row_right f.key f (n.right (Sure f) a).1);
       fits = λ row h. subst (λ (z : Table). FitsRow z row) (sym table) (row_fits t state states (key_in (table_shape t) row) row (row_state t state states b es p at shape row h));
       own = λ r row h. ap (λ (sh : Shape). key_in sh row) shape ∙ states.own r row (sym (at r) ∙ h);
-      whole = λ row h. subst (λ (z : By). is_on path (key_by p.found z row) ≡ true → is_past after (key_by p.found z row) ≡ true → is_covered next (key_by p.found z row) ≡ true → IsShown fs p.found z row) (sym by)
-          (subst (λ (k : List ℕ). is_on path k ≡ true → is_past after k ≡ true → is_covered next k ≡ true → IsShown fs p.found ByTable row) (sym (key_is row)) (row_whole row h));
+      whole = λ row h. subst (λ (z : By). is_on path (key_by p.found z row) ≡ true → is_past after (key_by p.found z row) ≡ true → is_covered next (key_by p.found z row) ≡ true → IsRowShown fs p.found z row) (sym by)
+          (subst (λ (k : List ℕ). is_on path k ≡ true → is_past after k ≡ true → is_covered next k ≡ true → IsRowShown fs p.found ByTable row) (sym (key_is row)) (row_whole row h));
     }

@@ -19,12 +19,12 @@ use Rattle.px_trail.specs.Trail.{Base, shape_of, table_shape}
 use Rattle.px_trail.specs.declared.entry.Entry.{Entry}
 use Rattle.px_paths.specs.Paths.{AreOfTypes, FitsRow, columns_on, index_path, key_on, table_path, values_on}
 use Rattle.px_rows.specs.Keys.{IsRightTable, column_in, row_columns}
-use Rattle.px_indexrow.specs.Form.{FitsState, IsRightIndex, index_columns, key_of_state}
+use Rattle.px_indexrow.specs.Form.{FitsRowState, IsRightIndex, index_columns, key_of_state}
 use Rattle.px_indexrow.proofs.KeysHeld.{key_is, values_fit}
 use Rattle.px_calls.specs.Looks.{IsRowAt, is_below, is_on, row_at}
 use Rattle.px_calls.specs.declared.query.Path.{Path}
 use Rattle.px_calls.specs.declared.query.Point.{Point}
-use Rattle.px_looks.specs.Keys.{IsWithin}
+use Rattle.px_looks.specs.Keys.{IsBetweenKeys}
 use Rattle.px_shown.specs.Told.{AreStates}
 use Rattle.px_cellshapes.proofs.Paths.{index_columns_same, table_columns}
 use Rattle.px_shown.proofs.Paths.{own_values, values_are}
@@ -54,10 +54,10 @@ end_below : (high : Option (List ℕ)) (k : List ℕ) → is_below high k ≡ tr
 end_below None k h = tt
 end_below (Some high) k h = less_from (key_cmp k high) h
 
-pub within_on : (path : Path) (k : List ℕ) → IsWithin path.low path.high k → is_on path k ≡ true
+pub within_on : (path : Path) (k : List ℕ) → IsBetweenKeys path.low path.high k → is_on path k ≡ true
 within_on path k h = (λ i. not_less (key_cmp k path.low) h.0 i && below_end path.high k h.1 i)
 
-pub on_within : (path : Path) (k : List ℕ) → is_on path k ≡ true → IsWithin path.low path.high k
+pub on_within : (path : Path) (k : List ℕ) → is_on path k ≡ true → IsBetweenKeys path.low path.high k
 on_within path k h = (let parts = and_parts _ _ h in (less_not (key_cmp k path.low) parts.0, end_below path.high k parts.1))
 
 -- ---- rows that fit
@@ -78,8 +78,8 @@ module _ (t : Table) (state : List Value → RowState) (states : AreStates t sta
   pub fits_key : (r row : List Value) → state r ≡ Some row → Fits (row_columns t) r
   fits_key r row e = (states.keyed r row e).fits
 
-  pub fits_state : (r row : List Value) → state r ≡ Some row → FitsState t (Some row)
-  fits_state r row e = subst (FitsState t) e (states.typed r)
+  pub fits_state : (r row : List Value) → state r ≡ Some row → FitsRowState t (Some row)
+  fits_state r row e = subst (FitsRowState t) e (states.typed r)
 
   pub row_fits : (r row : List Value) → state r ≡ Some row → FitsRow t row
   row_fits r row e =

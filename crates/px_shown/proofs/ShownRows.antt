@@ -12,13 +12,13 @@ use Rattle.px_tables.specs.declared.index.Index.{Index}
 use Rattle.px_tables.specs.declared.table.KeyPlace.{KeyPlace}
 use Rattle.px_tables.specs.declared.table.Table.{Table}
 use Rattle.px_tables.specs.declared.table.TableColumn.{TableColumn}
-use Rattle.px_paths.specs.Paths.{index_part, index_path, is_held, is_keyed, key_part, shown_from, shown_on, value_among, values_on}
+use Rattle.px_paths.specs.Paths.{index_part, index_path, is_held, is_keyed, key_part, shown_from, shown_on, value_on_path, values_on}
 use Rattle.px_paths.specs.declared.path.PathColumn.{PathColumn}
 use Rattle.px_rows.specs.Keys.{column_in}
 use Rattle.px_rows.specs.Stored.{stored}
 use Rattle.px_rows.proofs.KeysBack.{value_back}
-use Rattle.px_indexrow.specs.Form.{FitsState, bytes_if, column_bytes, included_at, rest_of}
-use Rattle.px_looks.specs.IndexKeys.{column_shown, columns_shown, is_included, row_shown, value_from}
+use Rattle.px_indexrow.specs.Form.{FitsRowState, bytes_if, included_at, included_bytes, rest_of}
+use Rattle.px_looks.specs.IndexKeys.{column_shown, columns_shown, is_included, shown_of_key, value_or_null}
 use Rattle.px_shown.proofs.Paths.{path_is}
 
 -- ---- values of the columns of a path
@@ -27,8 +27,8 @@ use Rattle.px_shown.proofs.Paths.{path_is}
 abbrev pub placed : List PathColumn → ℕ → Bool
 placed path c = list_any (λ p. nat_eq p.place c) path
 
-pub among_row : (path : List PathColumn) (row : List Value) (c : ℕ) → value_among path (values_on path row) c ≡ cond (placed path c) (get_or row c Null) Null
-unfolding value_among
+pub among_row : (path : List PathColumn) (row : List Value) (c : ℕ) → value_on_path path (values_on path row) c ≡ cond (placed path c) (get_or row c Null) Null
+unfolding value_on_path
 among_row [] row c = refl
 among_row (p ∷ path) row c = elim (cases_Bool (nat_eq p.place c)) [
   | inl e ↦ cond-true _ _ _ e ∙ ap (λ (i : ℕ). get_or row i Null) (eqb-true p.place c e) ∙ sym (ap (λ (b : Bool). cond (b || placed path c) (get_or row c Null) Null) e)
@@ -80,7 +80,7 @@ placed_path t x c =
 -- ---- an included column
 
 -- what is stored of a value is read again
-back : (ty : ColType) (v : Value) → HasType ty v → value_from ty (bytes_if (stored ty v) v) ≡ v
+back : (ty : ColType) (v : Value) → HasType ty v → value_or_null ty (bytes_if (stored ty v) v) ≡ v
 back ty Null h = refl
 back ty (Number n) h = value_back ty (Number n) h (λ e. cc)
 back ty (Truth b) h = value_back ty (Truth b) h (λ e. cc)
@@ -117,13 +117,13 @@ at_from t x n [] c d l = absurd (omega arith)
 at_from t x n (v ∷ vs) zero d l = (let e : n ≡ n + 0 = omega arith in ap (λ (i : ℕ). cond (is_held t x i) v Null) e)
 at_from t x n (v ∷ vs) (suc c) d l = (let e : (n + 1) + c ≡ n + suc c = omega arith in at_from t x (n + 1) vs c d (omega arith) ∙ ap (λ (i : ℕ). cond (is_held t x i) (get_or vs c Null) Null) e)
 
-module _ (t : Table) (x : Index) (row : List Value) (typed : FitsState t (Some row)) (seen : ℕ → Option (List ℕ)) (is : (c : ℕ) → c < length x.included → seen (suc (suc (included_at x c))) ≡ column_bytes t x (Some row) c) where
+module _ (t : Table) (x : Index) (row : List Value) (typed : FitsRowState t (Some row)) (seen : ℕ → Option (List ℕ)) (is : (c : ℕ) → c < length x.included → seen (suc (suc (included_at x c))) ≡ included_bytes t x (Some row) c) where
   column_is : (c : ℕ) → c < length t.columns → column_shown t x (values_on (index_path t x) row) seen c ≡ cond (is_held t x c) (get_or row c Null) Null
   column_is c l = elim (cases_Bool (is_included x c)) [
     | inl e ↦
         (let z = included_place x.included c e in
         let stored_is : seen (suc (suc c)) ≡ bytes_if (stored (column_in t.columns c).column_type (get_or row c Null)) (get_or row c Null) = subst (λ (d : ℕ). seen (suc (suc d)) ≡ bytes_if (stored (column_in t.columns d).column_type (get_or row d Null)) (get_or row d Null)) z.2 (is z.0 z.1) in
-        cond-true _ _ _ e ∙ ap (value_from (column_in t.columns c).column_type) stored_is ∙ back (column_in t.columns c).column_type (get_or row c Null) (typed.1 c l)
+        cond-true _ _ _ e ∙ ap (value_or_null (column_in t.columns c).column_type) stored_is ∙ back (column_in t.columns c).column_type (get_or row c Null) (typed.1 c l)
         ∙ sym (cond-true _ _ _ (ap (λ (b : Bool). is_keyed x.parts c || (is_keyed t.key c || b)) e ∙ or_any (is_keyed x.parts c) (is_keyed t.key c))))
     | inr e ↦
         cond-false _ _ _ e ∙ among_row (index_path t x) row c
@@ -149,7 +149,7 @@ module _ (t : Table) (x : Index) (row : List Value) (typed : FitsState t (Some r
       ]
 
   -- the row that is shown is the row, with NULL in the columns that the index doesn't hold
-  pub shown_is : row_shown t x (values_on (index_path t x) row) seen ≡ shown_on t x row
+  pub shown_is : shown_of_key t x (values_on (index_path t x) row) seen ≡ shown_on t x row
   shown_is = same_lists (columns_shown t x (values_on (index_path t x) row) seen (length t.columns)) (shown_on t x row) (count_shown (length t.columns) ∙ sym typed.0 ∙ sym (length_from t x 0 row))
       (λ c d l. (let inside : c < length t.columns = (let z = count_shown (length t.columns) in omega arith) in
       let here : c < length row = (let z = typed.0 in omega arith) in

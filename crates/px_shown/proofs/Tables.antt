@@ -10,18 +10,18 @@ use Rattle.px_tables.specs.declared.table.Table.{Table}
 use Rattle.px_trail.specs.States.{state_of}
 use Rattle.px_trail.specs.Trail.{Base, last_of}
 use Rattle.px_trail.specs.declared.entry.Entry.{Entry}
-use Rattle.px_world.specs.Shape.{Shape, has_key, key_in as holds_key}
+use Rattle.px_world.specs.Shape.{WorldShape, has_key, is_key_there}
 use Rattle.px_world.specs.World.{Absent, Unverified, Verified, top}
 use Rattle.px_forms.specs.Indexes.{IndexForm, shape_at, status_in}
 use Rattle.px_forms.proofs.Views.{lawful_at}
 use Rattle.px_rows.specs.Keys.{IsRightTable}
 use Rattle.px_rows.specs.Spelled.{row_form}
-use Rattle.px_indexrow.specs.Form.{FitsState, index_form}
+use Rattle.px_indexrow.specs.Form.{FitsRowState, index_form}
 use Rattle.px_indexed.specs.Kept.{AreIndexCells}
 use Rattle.px_indexed.specs.Worlds.{Indexed}
 use Rattle.px_indexed.proofs.Looks.{top_seen, vis_is}
 use Rattle.px_indexed.proofs.Regions.{bare_at}
-use Rattle.px_groupworld.specs.Group.{GroupData, GroupKept, index_in, no_part, table_form, world_in}
+use Rattle.px_groupworld.specs.Group.{GroupData, GroupKept, indexed_at, no_part, table_form, world_in}
 use Rattle.px_groupworld.proofs.Queries.{group_answers}
 use Rattle.px_looks.specs.Found.{at_key}
 use Rattle.px_looks.specs.Versions.{is_verified, stamp_seen, value_seen}
@@ -37,18 +37,18 @@ status_is : (o : Option (List ℕ)) → is_verified o ≡ true → status_in o �
 status_is None h = absurd (let z : ◌≡◌ {A = Bool} false true = h in cc)
 status_is (Some v) h = ap (λ (b : Bool). cond b Verified Unverified) h
 
-module _ (n : Shape (List ℕ) RowState (List ℕ) (Rattle.px_values.specs.declared.change.What.What)) (same : (a b : List ℕ) → n.same_key a b ≡ true → a ≡ b) (self : (a : List ℕ) → n.same_key a a ≡ true) where
+module _ (n : WorldShape (List ℕ) RowState (List ℕ) (Rattle.px_values.specs.declared.change.What.What)) (same : (a b : List ℕ) → n.same_key a b ≡ true → a ≡ b) (self : (a : List ℕ) → n.same_key a a ≡ true) where
   key_from : (k : List ℕ) (s : RowState) → has_key n k s ≡ true → n.key_of s ≡ Some k
   unfolding has_key
   key_from k s h = by (n.key_of s) h
     where
-      by : (o : Option (List ℕ)) → holds_key n.same_key k o ≡ true → o ≡ Some k
+      by : (o : Option (List ℕ)) → is_key_there n.same_key k o ≡ true → o ≡ Some k
       by None h = absurd (let z : ◌≡◌ {A = Bool} false true = h in cc)
       by (Some a) h = ap (λ (z : List ℕ). Some z) (sym (same k a h))
 
   key_to : (k : List ℕ) (s : RowState) → n.key_of s ≡ Some k → has_key n k s ≡ true
   unfolding has_key
-  key_to k s h = ap (holds_key n.same_key k) h ∙ self k
+  key_to k s h = ap (is_key_there n.same_key k) h ∙ self k
 
 module _ (t : Table) (b : Base) (id : TableId) (index : ℕ → IndexForm) (es : List Entry) (v : GroupData) (kept : GroupKept (table_form b id index (row_form t)) es v) where
   -- the states of the rows from the data horizon on
@@ -56,7 +56,7 @@ module _ (t : Table) (b : Base) (id : TableId) (index : ℕ → IndexForm) (es :
   states_are right rows q low =
       let is = (group_answers (table_form b id index (row_form t)) es v kept).rows in
       record {
-        typed = λ r. subst (FitsState t) (is r q low) (rows.typed r q);
+        typed = λ r. subst (FitsRowState t) (is r q low) (rows.typed r q);
         keyed = λ r row e. rows.short r row q (is r q low ∙ e);
         own = λ r row e. own_key t (value_at v.cells) right rows r row q (is r q low ∙ e);
       }
@@ -66,7 +66,7 @@ module _ (t : Table) (b : Base) (id : TableId) (index : ℕ → IndexForm) (es :
     f = index (get_or v.indexes i no_part).id
 
     abbrev x : Indexed
-    x = index_in (table_form b id index (row_form t)) v i
+    x = indexed_at (table_form b id index (row_form t)) v i
 
     abbrev g : Contents
     g = value_at (get_or v.indexes i no_part).cells
@@ -77,7 +77,7 @@ module _ (t : Table) (b : Base) (id : TableId) (index : ℕ → IndexForm) (es :
     are : AreIndexCells f (last_of b id.0 es) (get_or v.indexes i no_part).cells
     are = (kept.indexes i there).cells
 
-    n : (r : List Value) → Shape (List ℕ) RowState (List ℕ) (Rattle.px_values.specs.declared.change.What.What)
+    n : (r : List Value) → WorldShape (List ℕ) RowState (List ℕ) (Rattle.px_values.specs.declared.change.What.What)
     n r = shape_at (row_form t).shape f r
 
     top_at : (r : List Value) (k : List ℕ) → f.owns r k ≡ true → top (world_in (table_form b id index (row_form t)) es v i r) k q ≡ stamp_seen (at_key g k) 1 q

@@ -11,12 +11,12 @@ use Rattle.px_values.proofs.ValueOrder.{total_along}
 use Rattle.px_tables.specs.declared.table.KeyPlace.{KeyPlace}
 use Rattle.px_bind.specs.declared.request.Query.{Query}
 use Rattle.px_paths.specs.declared.path.PathColumn.{PathColumn}
-use Rattle.px_plan.specs.Answers.{Ascends, IsAnswer, by_order, by_path, comes_before, cut_off, shown}
+use Rattle.px_plan.specs.Answers.{Ascends, IsAnswer, by_order, by_path, comes_before, cut_off, row_answered}
 use Rattle.px_plan.specs.Asked.{asked_of}
 use Rattle.px_plan.specs.Plans.{IsSelected}
 use Rattle.px_plan.proofs.OneAnswer.{before_total}
 use Rattle.px_scan.specs.declared.answer.Placed.{Placed}
-use Rattle.px_sorted.specs.Sorting.{answer_of, is_before, put_in, row_shown, sorted_by, stably_sorted}
+use Rattle.px_sorted.specs.Sorting.{answer_of, is_ordered_before, put_in, row_shown, sorted_by, stably_sorted}
 use Rattle.px_sorted.proofs.Stable.{sorted_same}
 
 -- ---- the order of an ORDER BY, and that of a path
@@ -35,7 +35,7 @@ order_total order = total_along (λ a b. then_equal (by_order order a b)) (befor
 path_total : (path : List PathColumn) → IsTotalOrder (by_path path)
 path_total path = total_along (λ a b. refl) (before_total (plain []) path)
 
-pub rank : (order : List KeyPlace) → IsStrictWeakOrder (is_before order)
+pub rank : (order : List KeyPlace) → IsStrictWeakOrder (is_ordered_before order)
 rank order = ranks_by (order_total order) (λ (p : Placed). p.row)
 
 -- ---- rows without their places
@@ -46,13 +46,13 @@ row_before order a b = is_lt (by_order order a b)
 abbrev rows_of : List Placed → List (List Value)
 rows_of ps = map (λ p. p.row) ps
 
-put_at : (order : List KeyPlace) (p q : Placed) (qs : List Placed) → rows_of (put_in (is_before order) p qs) ≡ put_in (row_before order) p.row (rows_of qs) → (b : Bool) → is_before order q p ≡ b → rows_of (put_in (is_before order) p (q ∷ qs)) ≡ put_in (row_before order) p.row (rows_of (q ∷ qs))
+put_at : (order : List KeyPlace) (p q : Placed) (qs : List Placed) → rows_of (put_in (is_ordered_before order) p qs) ≡ put_in (row_before order) p.row (rows_of qs) → (b : Bool) → is_ordered_before order q p ≡ b → rows_of (put_in (is_ordered_before order) p (q ∷ qs)) ≡ put_in (row_before order) p.row (rows_of (q ∷ qs))
 put_at order p q qs more true e = rw e (ap (λ rest. q.row ∷ rest) more)
 put_at order p q qs more false e = rw e refl
 
-rows_put : (order : List KeyPlace) (p : Placed) (qs : List Placed) → rows_of (put_in (is_before order) p qs) ≡ put_in (row_before order) p.row (rows_of qs)
+rows_put : (order : List KeyPlace) (p : Placed) (qs : List Placed) → rows_of (put_in (is_ordered_before order) p qs) ≡ put_in (row_before order) p.row (rows_of qs)
 rows_put order p [] = refl
-rows_put order p (q ∷ qs) = put_at order p q qs (rows_put order p qs) (is_before order q p) refl
+rows_put order p (q ∷ qs) = put_at order p q qs (rows_put order p qs) (is_ordered_before order q p) refl
 
 rows_sorted : (order : List KeyPlace) (ps : List Placed) → rows_of (sorted_by order ps) ≡ stably_sorted (row_before order) (rows_of ps)
 rows_sorted order [] = refl
@@ -146,13 +146,13 @@ cut_rows : {A B : Type 0} (f : A → B) (limit : Option ℕ) (xs : List A) → m
 cut_rows f None xs = refl
 cut_rows f (Some n) xs = taken f n xs
 
-shown_rows : (q : Query) (ps : List Placed) → map (λ p. row_shown q.shown p.row) ps ≡ map (shown q) (rows_of ps)
+shown_rows : (q : Query) (ps : List Placed) → map (λ p. row_shown q.shown p.row) ps ≡ map (row_answered q) (rows_of ps)
 shown_rows q [] = refl
 shown_rows q (p ∷ ps) = ap (λ rest. row_shown q.shown p.row ∷ rest) (shown_rows q ps)
 
 pub is_answer : (rows : List (List Value)) (q : Query) (path : List PathColumn) (found : List Placed) → Ascends (by_path path) (rows_of found) → ((row : List Value) → Contains (rows_of found) row ↔ (Contains rows row × IsSelected q.filter row)) → IsAnswer rows q path (answer_of (asked_of q) found).rows
 is_answer rows q path found a has =
-    let less = is_before q.order in
+    let less = is_ordered_before q.order in
     let placed = sorted_by q.order found in
     let moved = IsPermutation-map (λ (p : Placed). p.row) found placed (sorted_same less (rank q.order) found) in
     record {
@@ -162,5 +162,5 @@ is_answer rows q path found a has =
         λ c. (has row).0 (Contains-permutation (rows_of placed) (rows_of found) row (IsPermutation-sym (rows_of found) (rows_of placed) moved) c),
         λ c. Contains-permutation (rows_of found) (rows_of placed) row moved ((has row).1 c),
       );
-      given = shown_rows q (cut_off q.limit placed) ∙ ap (map (shown q)) (cut_rows (λ (p : Placed). p.row) q.limit placed);
+      given = shown_rows q (cut_off q.limit placed) ∙ ap (map (row_answered q)) (cut_rows (λ (p : Placed). p.row) q.limit placed);
     }

@@ -20,11 +20,11 @@ stably_sorted less [] = []
 stably_sorted less (x ∷ xs) = put_in less x (stably_sorted less xs)
 
 -- a row comes before another by the ORDER BY
-abbrev pub is_before : List KeyPlace → Placed → Placed → Bool
-is_before order a b = is_lt (by_order order a.row b.row)
+abbrev pub is_ordered_before : List KeyPlace → Placed → Placed → Bool
+is_ordered_before order a b = is_lt (by_order order a.row b.row)
 
 abbrev pub sorted_by : List KeyPlace → List Placed → List Placed
-sorted_by order rows = stably_sorted (is_before order) rows
+sorted_by order rows = stably_sorted (is_ordered_before order) rows
 
 -- the columns of a row that are shown
 abbrev pub row_shown : List ℕ → List Value → List Value

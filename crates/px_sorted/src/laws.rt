@@ -8,7 +8,7 @@ ghost use Rattle.px_plan.specs.Answers.{Ascends, IsAnswer, by_path};
 ghost use Rattle.px_plan.specs.Asked.{asked_of};
 ghost use Rattle.px_plan.specs.Plans.{IsSelected};
 ghost use Rattle.px_scan.specs.declared.answer.Placed.{Placed as PlacedRow};
-ghost use Rattle.px_sorted.specs.Sorting.{answer_of, is_before, sorted_by};
+ghost use Rattle.px_sorted.specs.Sorting.{answer_of, is_ordered_before, sorted_by};
 ghost use Rattle.px_tables.specs.declared.table.KeyPlace.{KeyPlace as Places};
 ghost use Rattle.px_values.specs.declared.row.Value.{Value};
 
@@ -16,9 +16,9 @@ ghost use Rattle.px_values.specs.declared.row.Value.{Value};
 /// are in their order, and there is one such list.
 pub fn law_sorted()
     ensures same { (order : List Places) (rows : List PlacedRow) → IsPermutation rows (sorted_by order rows) }
-    ensures sorted { (order : List Places) (rows : List PlacedRow) → IsSortedBy (is_before order) (sorted_by order rows) }
-    ensures stable { (order : List Places) (rows : List PlacedRow) → IsStableBy (is_before order) rows (sorted_by order rows) }
-    ensures one { (order : List Places) (rows other : List PlacedRow) → IsSortedBy (is_before order) other → IsStableBy (is_before order) rows other → other ≡ sorted_by order rows }
+    ensures sorted { (order : List Places) (rows : List PlacedRow) → IsSortedBy (is_ordered_before order) (sorted_by order rows) }
+    ensures stable { (order : List Places) (rows : List PlacedRow) → IsStableBy (is_ordered_before order) rows (sorted_by order rows) }
+    ensures one { (order : List Places) (rows other : List PlacedRow) → IsSortedBy (is_ordered_before order) other → IsStableBy (is_ordered_before order) rows other → other ≡ sorted_by order rows }
 {}
 
 /// Where a scan found the selected rows in the order of its path, what is made of them is the answer of the query by this path.

@@ -9,7 +9,7 @@ use Rattle.px_cells.specs.CellData.{CellData}
 use Rattle.px_cells.specs.Order.{IsAscending, SamePlace}
 use Rattle.px_merge.specs.Merged.{AreSorted}
 use Rattle.px_merge.specs.Taking.{IsHead}
-use Rattle.px_cursor.specs.Cursor.{shown}
+use Rattle.px_cursor.specs.Cursor.{cells_in_memory}
 use Rattle.px_cursor.specs.declared.cursor.Cursor.{Cursor}
 use Rattle.px_cursor.proofs.Cursors as cursor
 use Rattle.px_sources.specs.Passed.{behind}
@@ -23,13 +23,13 @@ begins_itself [] = refl
 begins_itself (c ∷ cells) = (cells, refl)
 
 module _ {D : Type 0} (d : Ghosts D) where
-  begins_cursor : (c : Cursor) (disk : D) (left cells : List CellData) → cells ≡ shown c → Gives d (File c) disk left → BeginsAs cells left
+  begins_cursor : (c : Cursor) (disk : D) (left cells : List CellData) → cells ≡ cells_in_memory c → Gives d (File c) disk left → BeginsAs cells left
   begins_cursor c disk left [] is gives = cursor.begins_none d c disk left gives (sym is)
   begins_cursor c disk left (x ∷ cells) is gives = cursor.begins_some d c disk left x cells gives (sym is)
 
   pub source_begins : (s : Source) (disk : D) (left : List CellData) → Gives d s disk left → BeginsAs (shown_of s) left
   source_begins (Slice cells) disk left gives = subst (BeginsAs cells.now) (sym gives) (begins_itself cells.now)
-  source_begins (File c) disk left gives = begins_cursor c disk left (shown c) refl gives
+  source_begins (File c) disk left gives = begins_cursor c disk left (cells_in_memory c) refl gives
 
   pub source_quiet : (s : Source) (old new : D) (left : List CellData) → Gives d s old left → Stays d old new → d.seen new ≡ d.seen old → Gives d s new left
   source_quiet (Slice cells) old new left gives stays same = gives

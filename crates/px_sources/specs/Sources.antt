@@ -10,12 +10,12 @@ use Rattle.px_sources.specs.declared.source.Source.TheVariants.{Slice, File}
 -- the cells of a source that are in memory
 abbrev pub shown_of : Source → List CellData
 shown_of (Slice cells) = cells.now
-shown_of (File c) = cursor.shown c
+shown_of (File c) = cursor.cells_in_memory c
 
 -- it gives these cells
 abbrev pub Gives : {D : Type 0} → Ghosts D → Source → D → List CellData → Type 0
 Gives d (Slice cells) disk left = left ≡ cells.now
-Gives d (File c) disk left = cursor.Gives d c disk left
+Gives d (File c) disk left = cursor.CursorGives d c disk left
 
 -- each source gives its list, and the lists are sorted
 abbrev pub AllGive : {D : Type 0} → Ghosts D → List Source → D → List (List CellData) → Type 0

@@ -7,7 +7,7 @@ use Rattle.px_schema.specs.Counts.{HasNumbers}
 use Rattle.px_schema.specs.declared.standing.Standing.{Standing}
 use Rattle.px_schema.proofs.Numbers.{filter_all}
 use Rattle.px_calls.specs.Causes as causes
-use Rattle.px_calls.specs.Causes.{RunsOut, counted, tables_of}
+use Rattle.px_calls.specs.Causes.{RunsOut, count_below, tables_of}
 use Rattle.px_calls.specs.Known.{Known}
 use Rattle.px_recovery.specs.Tables.{index_in, indexes_of, number_of_index, table_in}
 use Rattle.px_standing.specs.Agrees.{Agrees, number_of_table}
@@ -28,7 +28,7 @@ module _ (k : Known) (s : Standing) (agrees : Agrees s (catalogue_of k.base k.se
     own None = refl
     own (Some x) = refl
 
-    pub indexes_counted : causes.indexes_of k t ≡ length (indexes_of t s.indexes)
+    pub indexes_counted : causes.index_count k t ≡ length (indexes_of t s.indexes)
     indexes_counted =
         counted_same (λ i. causes.of_table t ((catalogue_of k.base k.seen).indexes i)) (index_in (indexes_of t s.indexes))
         (λ m. ap (causes.of_table t) (sym (agrees.indexes m)) ∙ (own (index_in s.indexes m) ∙ sym (found_kept number_of_index index_in index_finder mine s.indexes m agrees.order.indexes)))

@@ -14,7 +14,7 @@ use Rattle.px_tables.specs.declared.table.Table.{Table}
 use Rattle.px_trail.specs.declared.entry.Act.TheVariants.{Made, IndexMade, IndexState, Dropped}
 use Rattle.px_trail.specs.Trail.{Catalogue, IsCatalogue, catalogue_step, made_index, made_table, of_others, set_number, with_state}
 use Rattle.px_trail.proofs.Standing.{set_number-other, set_number-same}
-use Rattle.px_schema.specs.Stands.{after, put_index, put_table}
+use Rattle.px_schema.specs.Stands.{put_index, put_table, stands_after}
 use Rattle.px_schema.specs.declared.item.CatalogItem.TheVariants.{IndexGone, IndexIs, TableGone, TableIs}
 use Rattle.px_schema.specs.declared.standing.Standing.{Standing}
 use Rattle.px_schema.proofs.Numbers.{below_next, put_all_indexes, put_all_tables}
@@ -74,7 +74,7 @@ set_at n v f q same = subst (λ (m : ℕ). set_number n v f m ≡ v) same (set_n
 
 module _ (s : Standing) (c : Catalogue) (k : Agrees s c) where
   -- a table is dropped
-  pub table_gone : (t : TableId) → Agrees (after s (TableGone t)) (catalogue_step c (Dropped t None))
+  pub table_gone : (t : TableId) → Agrees (stands_after s (TableGone t)) (catalogue_step c (Dropped t None))
   unfolding catalogue_step
   table_gone t = record {
     order = record {
@@ -91,7 +91,7 @@ module _ (s : Standing) (c : Catalogue) (k : Agrees s c) where
   }
 
   -- an index is dropped
-  pub index_gone : (t : TableId) (i : IndexId) → Agrees (after s (IndexGone i)) (catalogue_step c (Dropped t (Some i)))
+  pub index_gone : (t : TableId) (i : IndexId) → Agrees (stands_after s (IndexGone i)) (catalogue_step c (Dropped t (Some i)))
   unfolding catalogue_step
   index_gone t i = record {
     order = record {
@@ -124,7 +124,7 @@ module _ (s : Standing) (c : Catalogue) (k : Agrees s c) where
     below_it : AllByRecursion (λ x. number_of_table x < number_of_table y) s.tables
     below_it = all_weaker (λ x. number_of_table x < s.next) (λ x. number_of_table x < number_of_table y) (λ x l. omega (arith, l, number)) s.tables (tables_below s.next s.next s.tables refl k.order.below.tables)
 
-    pub table_made : Agrees (after s (TableIs y)) (catalogue_step c (Made t what))
+    pub table_made : Agrees (stands_after s (TableIs y)) (catalogue_step c (Made t what))
     unfolding catalogue_step
     table_made = record {
       order = record {
@@ -145,7 +145,7 @@ module _ (s : Standing) (c : Catalogue) (k : Agrees s c) where
     abbrev x : Index
     x = made_index s.next i stamp what
 
-    pub index_made : Agrees (after s (IndexIs x)) (catalogue_step c (IndexMade t i stamp what))
+    pub index_made : Agrees (stands_after s (IndexIs x)) (catalogue_step c (IndexMade t i stamp what))
     unfolding catalogue_step
     index_made = record {
       order = record {
@@ -172,10 +172,10 @@ module _ (s : Standing) (c : Catalogue) (k : Agrees s c) where
     low : AllByRecursion (λ (n : ℕ). n < s.next) (x.region ∷ x.id.0 ∷ [])
     low = found_all number_of_index index_in index_finder (λ (w : Index). AllByRecursion (λ (n : ℕ). n < s.next) (w.region ∷ w.id.0 ∷ [])) s.indexes i.0 x k.order.below.indexes found
 
-    stays : (after s (IndexIs ready)).next ≡ s.next
+    stays : (stands_after s (IndexIs ready)).next ≡ s.next
     stays = let a = low.0 in let d = low.1.0 in omega (arith, a, d)
 
-    pub index_ready : Agrees (after s (IndexIs ready)) (catalogue_step c (IndexState t i Active stamp))
+    pub index_ready : Agrees (stands_after s (IndexIs ready)) (catalogue_step c (IndexState t i Active stamp))
     unfolding catalogue_step
     index_ready = record {
       order = record {

@@ -6,7 +6,7 @@ use Rattle.std.specs.Option.{is_some}
 use Rattle.std.proofs.lemmas.Bool.{cases_eq, false≢true}
 use Rattle.px_trail.specs.Answers.{IsAmong}
 use Rattle.px_schema.proofs.Numbers.{filter_all}
-use Rattle.px_calls.specs.Causes.{counted}
+use Rattle.px_calls.specs.Causes.{count_below}
 use Rattle.px_standing.specs.Agrees.{AreRisingBy}
 
 -- the function finds the first element of a number
@@ -130,30 +130,30 @@ module _ {A : Type 0} (num : A → ℕ) (find : List A → ℕ → Option A) (f 
 
 -- ---- how many are found
 
-pub counted_same : {A : Type 0} (g h : ℕ → Option A) → ((m : ℕ) → g m ≡ h m) → (n : ℕ) → counted g n ≡ counted h n
-counted_same g h same n = λ i. counted (λ m. same m i) n
+pub counted_same : {A : Type 0} (g h : ℕ → Option A) → ((m : ℕ) → g m ≡ h m) → (n : ℕ) → count_below g n ≡ count_below h n
+counted_same g h same n = λ i. count_below (λ m. same m i) n
 
 module _ {A : Type 0} where
-  counts : (g : ℕ → Option A) (n : ℕ) (v : Bool) → is_some (g n) ≡ v → counted g (suc n) ≡ (if v then suc (counted g n) else counted g n)
-  unfolding counted
-  counts g n v is = ap (λ (w : Bool). if w then suc (counted g n) else counted g n) is
+  counts : (g : ℕ → Option A) (n : ℕ) (v : Bool) → is_some (g n) ≡ v → count_below g (suc n) ≡ (if v then suc (count_below g n) else count_below g n)
+  unfolding count_below
+  counts g n v is = ap (λ (w : Bool). if w then suc (count_below g n) else count_below g n) is
 
-  counted_none : (g : ℕ → Option A) → ((m : ℕ) → g m ≡ None) → (n : ℕ) → counted g n ≡ 0
-  unfolding counted
+  counted_none : (g : ℕ → Option A) → ((m : ℕ) → g m ≡ None) → (n : ℕ) → count_below g n ≡ 0
+  unfolding count_below
   counted_none g none zero = refl
   counted_none g none (suc n) = counts g n false (ap is_some (none n)) ∙ counted_none g none n
 
   -- one more of them at the number a
-  more_by : (g h : ℕ → Option A) (n : ℕ) (v : Bool) → is_some (h n) ≡ v → g n ≡ h n → counted g n ≡ suc (counted h n) → counted g (suc n) ≡ suc (counted h (suc n))
+  more_by : (g h : ℕ → Option A) (n : ℕ) (v : Bool) → is_some (h n) ≡ v → g n ≡ h n → count_below g n ≡ suc (count_below h n) → count_below g (suc n) ≡ suc (count_below h (suc n))
   more_by g h n true is same k = counts g n true (ap is_some same ∙ is) ∙ (ap (λ (m : ℕ). suc m) k ∙ ap (λ (m : ℕ). suc m) (sym (counts h n true is)))
   more_by g h n false is same k = counts g n false (ap is_some same ∙ is) ∙ (k ∙ ap (λ (m : ℕ). suc m) (sym (counts h n false is)))
 
-  same_by : (g h : ℕ → Option A) (n : ℕ) (v : Bool) → is_some (h n) ≡ v → g n ≡ h n → counted g n ≡ counted h n → counted g (suc n) ≡ counted h (suc n)
+  same_by : (g h : ℕ → Option A) (n : ℕ) (v : Bool) → is_some (h n) ≡ v → g n ≡ h n → count_below g n ≡ count_below h n → count_below g (suc n) ≡ count_below h (suc n)
   same_by g h n true is same k = counts g n true (ap is_some same ∙ is) ∙ (ap (λ (m : ℕ). suc m) k ∙ sym (counts h n true is))
   same_by g h n false is same k = counts g n false (ap is_some same ∙ is) ∙ (k ∙ sym (counts h n false is))
 
-  pub counted_one : (g h : ℕ → Option A) (a : ℕ) → is_some (g a) ≡ true → is_some (h a) ≡ false → ((m : ℕ) → a ≢ m → g m ≡ h m) → (n : ℕ) → (a < n → counted g n ≡ suc (counted h n)) × (n ≤ a → counted g n ≡ counted h n)
-  unfolding counted
+  pub counted_one : (g h : ℕ → Option A) (a : ℕ) → is_some (g a) ≡ true → is_some (h a) ≡ false → ((m : ℕ) → a ≢ m → g m ≡ h m) → (n : ℕ) → (a < n → count_below g n ≡ suc (count_below h n)) × (n ≤ a → count_below g n ≡ count_below h n)
+  unfolding count_below
   counted_one g h a some none same zero = ((λ l. absurd (omega (arith, l))), (λ l. refl))
   counted_one g h a some none same (suc n) =
       let k = counted_one g h a some none same n in
@@ -168,9 +168,9 @@ module _ {A : Type 0} where
         )
       ]
 
-pub counted_found : {A : Type 0} (num : A → ℕ) (find : List A → ℕ → Option A) (f : IsFinder num find) (xs : List A) → AreRisingBy num xs → (n : ℕ) → AllByRecursion (λ x. num x < n) xs → counted (find xs) n ≡ length xs
+pub counted_found : {A : Type 0} (num : A → ℕ) (find : List A → ℕ → Option A) (f : IsFinder num find) (xs : List A) → AreRisingBy num xs → (n : ℕ) → AllByRecursion (λ x. num x < n) xs → count_below (find xs) n ≡ length xs
 counted_found num find f [] up n all = counted_none (find []) f.none n
 counted_found num find f (x ∷ xs) up n all =
-    let one : counted (find (x ∷ xs)) n ≡ suc (counted (find xs) n) = (counted_one (find (x ∷ xs)) (find xs) (num x) (ap is_some (f.first x xs (num x) refl)) (ap is_some (found_none num find f xs (num x) (none_above num find f x xs up.0))) (λ m other. f.later x xs m other) n).0 all.0 in
+    let one : count_below (find (x ∷ xs)) n ≡ suc (count_below (find xs) n) = (counted_one (find (x ∷ xs)) (find xs) (num x) (ap is_some (f.first x xs (num x) refl)) (ap is_some (found_none num find f xs (num x) (none_above num find f x xs up.0))) (λ m other. f.later x xs m other) n).0 all.0 in
     let rest = counted_found num find f xs up.1 n all.1 in
     omega (arith, one, rest)

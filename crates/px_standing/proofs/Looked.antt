@@ -7,7 +7,7 @@ use Rattle.px_tables.specs.declared.index.Index.{Index}
 use Rattle.px_tables.specs.declared.table.Table.{Table}
 use Rattle.px_trail.specs.Answers.{IsAmong}
 use Rattle.px_trail.specs.declared.entry.Entry.{Entry}
-use Rattle.px_trail.specs.Trail.{Base, Catalogue, IsFree, catalogue_of, index_of, table_of}
+use Rattle.px_trail.specs.Trail.{Base, Catalogue, IsFreeName, catalogue_of, index_of, table_of}
 use Rattle.px_schema.specs.Stands.{index_draws, table_draws}
 use Rattle.px_schema.specs.declared.standing.Standing.{Standing}
 use Rattle.px_calls.specs.Calls.{AreRising, IsFound}
@@ -60,19 +60,19 @@ indexes_below n m xs same all = all_weaker (λ i. AllByRecursion (λ k. k < n) (
 -- ---- names
 
 module _ (s : Standing) (c : Catalogue) (k : Agrees s c) (name : List ℕ) where
-  unused_free : IsUnused s name → IsFree c name
+  unused_free : IsUnused s name → IsFreeName c name
   unused_free u = record {
     tables = λ t x is. found_all number_of_table table_in table_finder (λ y. y.name ≢ name) s.tables t x u.tables (k.tables t ∙ is);
     indexes = λ i x is. found_all number_of_index index_in index_finder (λ y. y.name ≢ name) s.indexes i x u.indexes (k.indexes i ∙ is);
   }
 
-  free_unused : IsFree c name → IsUnused s name
+  free_unused : IsFreeName c name → IsUnused s name
   free_unused free = record {
     tables = each_among (λ y. y.name ≢ name) s.tables (λ x i. free.tables x.id.0 x (sym (k.tables x.id.0) ∙ among_found number_of_table table_in table_finder s.tables x k.order.tables i));
     indexes = each_among (λ y. y.name ≢ name) s.indexes (λ x i. free.indexes x.id.0 x (sym (k.indexes x.id.0) ∙ among_found number_of_index index_in index_finder s.indexes x k.order.indexes i));
   }
 
-  pub free : IsUnused s name ↔ IsFree c name
+  pub free : IsUnused s name ↔ IsFreeName c name
   free = (unused_free, free_unused)
 
   pub taken : (IsUnused s name → ⊥) → HasName c name

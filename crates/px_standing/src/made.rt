@@ -1,6 +1,6 @@
 // New definitions with the numbers that they draw.
 ghost use Rattle.std.specs.Prelude.{◌≡◌, ◌<◌, ◌≤◌, ◌+◌, ◌^◌, length, IfOk};
-ghost use Rattle.px_trail.specs.Trail.{made_index, made_table, numbered};
+ghost use Rattle.px_trail.specs.Trail.{made_index, made_table, numbered_regions};
 
 use px_tables::{Index, IndexState, NewIndex, NewTable, Table, TableRegion};
 use px_values::{IndexId, Items, Key, TableId};
@@ -13,7 +13,7 @@ fn regions_of(
     least_keys: &[Key],
 ) -> Result<Items<TableRegion>, AllocError>
     requires { next + length least_keys.now < 2 ^ 32 }
-    ensures { IfOk result (λ rs. rs ≡ numbered next least_keys.now) }
+    ensures { IfOk result (λ rs. rs ≡ numbered_regions next least_keys.now) }
 {
     let mut regions = Vec::with_capacity(alloc, least_keys.len())?;
     for place in 0..least_keys.len() {

@@ -5,7 +5,7 @@ use Rattle.px_lex.specs.declared.kind.Kind.{Kind}
 use Rattle.px_lex.specs.declared.kind.Kind.TheVariants as k
 use Rattle.px_ast.specs.declared.statement.Statement.TheVariants as statements
 use Rattle.px_ast.specs.Rule.{sees, Outcome, Got, Stuck, Deep, and_then, Rule, made, ◌then◌, maybe, ◌or◌, word, second, ◌▹◌, separated, optional, token}
-use Rattle.px_ast.specs.Grammar.{text_of, name, keypart, condition, filter, create_table, create_index, drop_table, drop_index, alter_index, upsert, delete, shown, row_limit, select, statement}
+use Rattle.px_ast.specs.Grammar.{text_of_token, name, keypart, condition, filter, create_table, create_index, drop_table, drop_index, alter_index, upsert, delete, shown_names, row_limit, select, statement}
 use Rattle.px_statements.specs.inner.Skim.{skim, ended, skimmed, passed, skimmed_filter, skimmed_delete, skimmed_select, skimmed_statement}
 use Rattle.px_statements.proofs.Laws.{Lawful, token_lawful, made_lawful, maybe_lawful}
 use Rattle.px_statements.proofs.Words.{word_lawful}
@@ -119,8 +119,8 @@ unfolding select skimmed_select
 select_alike limit =
     let behind = then_alike limit (filter_lawful limit) refl (filter_alike limit) (itself (optional (k.Order ▹ k.By ▹ separated k.Comma keypart) then maybe row_limit) limit) in
     made_alike _ passed limit (intro_alike k.Select limit
-    (then_alike limit (maybe_lawful (made_lawful _ (token_lawful k.Hint)) refl) refl (itself (maybe (made text_of (token k.Hint))) limit)
-    (then_alike limit shown_lawful refl (itself shown limit) (intro_alike k.From limit (then_alike limit name_lawful refl (itself name limit) behind)))))
+    (then_alike limit (maybe_lawful (made_lawful _ (token_lawful k.Hint)) refl) refl (itself (maybe (made text_of_token (token k.Hint))) limit)
+    (then_alike limit shown_lawful refl (itself shown_names limit) (intro_alike k.From limit (then_alike limit name_lawful refl (itself name limit) behind)))))
 
 -- without the value on the left, or on the right
 left_alike : {A B C : Type 0} {p : Rule A} {q : Rule B} (f : A → C) (limit : ℕ) → Alike p q limit → Alike (made f p) q limit

@@ -4,8 +4,8 @@ use Rattle.px_lex.specs.Lexemes.{Seen}
 use Rattle.px_lex.specs.declared.kind.Kind.{Kind}
 use Rattle.px_lex.specs.declared.kind.Kind.TheVariants as k
 use Rattle.px_lex.specs.Kinds.{same_kind}
-use Rattle.px_ast.specs.Rule.{sees, Outcome, Got, Stuck, Deep, and_then, Rule, token_at, token, made, ◌then◌, maybe, many_at, many, ◌or◌, word, second, ◌▹◌, ◌◃◌, first_of_two, cons, separated, means, is_written, written, listed, optional, listing_at, listing, ended, one_more}
-use Rattle.px_ast.specs.Grammar.{name, names, sign, number, literal, literals, operand, comparison, compared, is_null, among, between, in_or_between, ranged, predicate_end, predicate, direction, directed, keypart, keyparts, column_type, nullness, inline_key, column, constraint, columns, if_not_exists, if_exists, create_table, drop_table, create_index, drop_index, index_action, alter_index, upsert, shown, row_limit}
+use Rattle.px_ast.specs.Rule.{sees, Outcome, Got, Stuck, Deep, and_then, Rule, token_at, token, made, ◌then◌, maybe, many_at, many, ◌or◌, word, second, ◌▹◌, ◌◃◌, first_of_two, cons, separated, means, is_present, presence_of, optional_list, optional, listing_at, listing, ended_list, one_item_more}
+use Rattle.px_ast.specs.Grammar.{name, names, sign, number, literal, literals, operand, comparison, compared, null_predicate, among, between, in_or_between, ranged, predicate_end, predicate, direction, optional_direction, keypart, keyparts, column_type, nullness, inline_key, column, constraint, columns, if_not_exists, if_exists, create_table, drop_table, create_index, drop_index, index_action, alter_index, upsert, shown_names, row_limit}
 use Rattle.px_statements.specs.inner.Skim.{closes, goes_on, skim_from, skim, skimmed, skimmed_filter, skimmed_delete, skimmed_select, skimmed_statement}
 
 pub record IsCalm {A : Type 0} (r : Rule A) : Type 0 where
@@ -74,17 +74,17 @@ outro_calm x h = made_calm first_of_two (then_calm h (word_calm x))
 separated_calm : {A : Type 0} {r : Rule A} (x : Kind) → IsCalm r → IsCalm (separated x r)
 separated_calm x h = made_calm cons (then_calm h (many_calm (intro_calm x h)))
 
-written_calm : {A : Type 0} {r : Rule A} → IsCalm r → IsCalm (written r)
-written_calm h = made_calm is_written (maybe_calm h)
+written_calm : {A : Type 0} {r : Rule A} → IsCalm r → IsCalm (presence_of r)
+written_calm h = made_calm is_present (maybe_calm h)
 
 optional_calm : {A : Type 0} {r : Rule (List A)} → IsCalm r → IsCalm (optional r)
-optional_calm h = made_calm listed (maybe_calm h)
+optional_calm h = made_calm optional_list (maybe_calm h)
 
 abbrev last_one : {A B : Type 0} → Rule B → List Seen → Outcome (List A × Option B)
-last_one r ts = and_then (r.at ts) ended
+last_one r ts = and_then (r.at ts) ended_list
 
 last_never : {A B : Type 0} (r : Rule B) → IsCalm r → (ts : List Seen) → last_one {A = A} r ts ≡ Deep → ⊥
-last_never r h ts = calm_then (r.at ts) ended (h.never ts) (λ b rest. calm_got ([], Some b) rest)
+last_never r h ts = calm_then (r.at ts) ended_list (h.never ts) (λ b rest. calm_got ([], Some b) rest)
 
 listing_never : {A B : Type 0} (x : Kind) (q : Rule A) (r : Rule B) → IsCalm q → IsCalm r → (n : ℕ) (ts : List Seen) → listing_at x q r n ts ≡ Deep → ⊥
 listing_never x q r h i zero ts = calm_got ([], None) ts
@@ -92,7 +92,7 @@ listing_never {A} {B} x q r h i (suc n) ts =
     calm_if (sees (x ∷ []) ts) _ _
     (calm_then ((word x).at ts) _ ((word_calm x).never ts) (λ u rest.
     calm_if (sees r.begins rest) (last_one r rest) _ (last_never r i rest)
-    (calm_then (q.at rest) _ (h.never rest) (λ a others. calm_then (listing_at x q r n others) (one_more a) (listing_never x q r h i n others) (λ y end. calm_got (a ∷ y.0, y.1) end)))))
+    (calm_then (q.at rest) _ (h.never rest) (λ a others. calm_then (listing_at x q r n others) (one_item_more a) (listing_never x q r h i n others) (λ y end. calm_got (a ∷ y.0, y.1) end)))))
     (calm_if (sees r.begins ts) (last_one r ts) _ (last_never r i ts) (calm_got ([], None) ts))
 
 listing_calm : {A B : Type 0} {q : Rule A} {r : Rule B} (x : Kind) → IsCalm q → IsCalm r → IsCalm (listing x q r)
@@ -129,7 +129,7 @@ comparison_calm =
     or_calm (means_calm k.Equal _) (or_calm (means_calm k.NotEqual _) (or_calm (means_calm k.Less _) (or_calm (means_calm k.LessEqual _) (or_calm (means_calm k.Greater _) (means_calm k.GreaterEqual _)))))
 
 predicate_calm : IsCalm (predicate 1)
-unfolding predicate predicate_end compared is_null ranged in_or_between among between
+unfolding predicate predicate_end compared null_predicate ranged in_or_between among between
 predicate_calm =
     made_calm _ (then_calm operand_calm
     (or_calm (made_calm _ (then_calm comparison_calm operand_calm))
@@ -156,8 +156,8 @@ skimmed_calm : IsCalm skimmed
 unfolding skim
 skimmed_calm = record { never = λ ts. skim_never (length ts) 0 ts }
 
-directed_calm : IsCalm directed
-unfolding directed direction
+directed_calm : IsCalm optional_direction
+unfolding optional_direction direction
 directed_calm = made_calm _ (maybe_calm (or_calm (means_calm k.Asc _) (means_calm k.Desc _)))
 
 keypart_calm : IsCalm keypart
@@ -226,8 +226,8 @@ unfolding upsert
 upsert_calm =
     made_calm _ (intro_calm k.Upsert (intro_calm k.Into (then_calm name_calm (then_calm (maybe_calm names_calm) (then_calm (made_calm _ (token_calm k.Values)) literals_calm)))))
 
-shown_calm : IsCalm shown
-unfolding shown
+shown_calm : IsCalm shown_names
+unfolding shown_names
 shown_calm = or_calm (means_calm k.Star _) (made_calm _ (separated_calm k.Comma name_calm))
 
 filter_calm : IsCalm skimmed_filter

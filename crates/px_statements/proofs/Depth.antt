@@ -7,9 +7,9 @@ use Rattle.px_ast.specs.declared.condition.Condition.{Condition}
 use Rattle.px_ast.specs.declared.condition.Condition.TheVariants as conditions
 use Rattle.px_ast.specs.declared.statement.Statement.TheVariants as statements
 use Rattle.px_lex.specs.Kinds.{same_kind}
-use Rattle.px_ast.specs.Rule.{sees, Outcome, Got, Stuck, Deep, and_then, Rule, made, ◌then◌, maybe, many_at, many, ◌or◌, word, second, ◌▹◌, ◌◃◌, first_of_two, cons, separated, written, optional, token}
+use Rattle.px_ast.specs.Rule.{sees, Outcome, Got, Stuck, Deep, and_then, Rule, made, ◌then◌, maybe, many_at, many, ◌or◌, word, second, ◌▹◌, ◌◃◌, first_of_two, cons, separated, presence_of, optional, token}
 use Rattle.px_statements.proofs.GrammarLaws.{part_solid}
-use Rattle.px_ast.specs.Grammar.{text_of, name, operand, compared, is_null, among, between, in_or_between, ranged, predicate_end, predicate, conjunction, disjunction, part, filter, keypart, create_table, create_index, drop_table, drop_index, alter_index, upsert, delete, shown, row_limit, select, statement}
+use Rattle.px_ast.specs.Grammar.{text_of_token, name, operand, compared, null_predicate, among, between, in_or_between, ranged, predicate_end, predicate, conjunction, disjunction, part, filter, keypart, create_table, create_index, drop_table, drop_index, alter_index, upsert, delete, shown_names, row_limit, select, statement}
 
 pub record Extends {A : Type 0} (p q : Rule A) : Type 0 where
   pub begins : p.begins ≡ q.begins
@@ -116,7 +116,7 @@ predicate_extends : (depth : ℕ) → Extends (predicate depth) (predicate (suc 
 unfolding predicate predicate_end ranged
 predicate_extends depth =
     made_extends _ (then_extends (itself operand)
-    (or_extends (itself compared) (or_extends (itself is_null) (made_extends _ (then_extends (itself (written (word k.Not))) (in_or_between_extends depth) refl)))) refl)
+    (or_extends (itself compared) (or_extends (itself null_predicate) (made_extends _ (then_extends (itself (presence_of (word k.Not))) (in_or_between_extends depth) refl)))) refl)
 
 -- where nothing nests, the two readings are the same
 bounded_below : {A : Type 0} (x y z z' : Outcome A) (a b : Bool) → (z ≡ Deep) ⊎ (z ≡ z') → (cond (cond a true (cond b true false)) Deep z ≡ Deep) ⊎ (cond (cond a true (cond b true false)) Deep z ≡ cond a x (cond b y z'))
@@ -161,7 +161,7 @@ select_extends : (depth : ℕ) → Extends (select depth) (select (suc depth))
 unfolding select
 select_extends depth =
     let behind = then_extends (filter_extends depth) (itself (optional (k.Order ▹ k.By ▹ separated k.Comma keypart) then maybe row_limit)) refl in
-    made_extends _ (intro_extends k.Select (then_extends (itself (maybe (made text_of (token k.Hint)))) (then_extends (itself shown) (intro_extends k.From (then_extends (itself name) behind refl)) refl) refl))
+    made_extends _ (intro_extends k.Select (then_extends (itself (maybe (made text_of_token (token k.Hint)))) (then_extends (itself shown_names) (intro_extends k.From (then_extends (itself name) behind refl)) refl) refl))
 
 pub statement_extends : (depth : ℕ) → Extends (statement depth) (statement (suc depth))
 unfolding statement

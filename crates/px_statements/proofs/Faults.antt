@@ -7,7 +7,7 @@ use Rattle.px_ast.specs.declared.statement.Statement.{Statement}
 use Rattle.px_ast.specs.Rule.{sees, Outcome, Got, Stuck, Deep}
 use Rattle.px_ast.specs.Grammar.{statement}
 use Rattle.px_ast.specs.Statements.{ReadsWithin}
-use Rattle.px_statements.specs.Parsed.{BeginsOne, NoneGoesOn, IsFirstFault}
+use Rattle.px_statements.specs.Parsed.{BeginsOne, NoneGoesOn, IsFirstUnexpected}
 use Rattle.px_statements.proofs.GrammarLaws.{statement_lawful}
 use Rattle.px_statements.proofs.Depth.{statement_grows}
 
@@ -67,7 +67,7 @@ none_after_whole depth front t rest s e b =
     let x : Got s (t ∷ b.0) ≡ Got b.1 [] = agree depth b.2.0 whole (Got s (t ∷ b.0)) b.1 [] got again (λ d. cc) in
     cc
 
-fault_at : (front rest : List Seen) → BeginsOne front → NoneGoesOn front rest → IsFirstFault (front ++ rest) (length (front ++ rest) - length rest)
+fault_at : (front rest : List Seen) → BeginsOne front → NoneGoesOn front rest → IsFirstUnexpected (front ++ rest) (length (front ++ rest) - length rest)
 fault_at front rest begun none =
     let n : length (front ++ rest) - length rest ≡ length front = omega (arith, length-append front rest) in
     rw n (record {
@@ -76,19 +76,19 @@ fault_at front rest begun none =
       none = rw (take_at front rest (length front) refl, drop_at front rest (length front) refl) none;
     })
 
-pub stuck_is_fault : (depth : ℕ) (tokens rest : List Seen) → (statement depth).at tokens ≡ Stuck rest → IsFirstFault tokens (length tokens - length rest)
+pub stuck_is_fault : (depth : ℕ) (tokens rest : List Seen) → (statement depth).at tokens ≡ Stuck rest → IsFirstUnexpected tokens (length tokens - length rest)
 stuck_is_fault depth tokens rest e =
     let s = (statement_lawful depth).stuck tokens rest e in
     let begun : BeginsOne s.0 = (s.2.0, s.2.1, (depth, s.2.2)) in
     let here : (statement depth).at (s.0 ++ rest) ≡ Stuck rest = ap (statement depth).at (sym s.1) ∙ e in
-    subst (λ (x : List Seen). IsFirstFault x (length x - length rest)) (sym s.1) (fault_at s.0 rest begun (none_after_stuck depth s.0 rest here))
+    subst (λ (x : List Seen). IsFirstUnexpected x (length x - length rest)) (sym s.1) (fault_at s.0 rest begun (none_after_stuck depth s.0 rest here))
 
-pub rest_is_fault : (depth : ℕ) (tokens : List Seen) (t : Seen) (rest : List Seen) (s : Statement) → (statement depth).at tokens ≡ Got s (t ∷ rest) → IsFirstFault tokens (length tokens - length (t ∷ rest))
+pub rest_is_fault : (depth : ℕ) (tokens : List Seen) (t : Seen) (rest : List Seen) (s : Statement) → (statement depth).at tokens ≡ Got s (t ∷ rest) → IsFirstUnexpected tokens (length tokens - length (t ∷ rest))
 rest_is_fault depth tokens t rest s e =
     let g = (statement_lawful depth).got tokens (t ∷ rest) s e in
     let begun : BeginsOne g.0 = ([], s, (depth, subst (λ (x : List Seen). ReadsWithin depth x s) (sym (append-nil g.0)) g.2)) in
     let here : (statement depth).at (g.0 ++ t ∷ rest) ≡ Got s (t ∷ rest) = ap (statement depth).at (sym g.1) ∙ e in
-    subst (λ (x : List Seen). IsFirstFault x (length x - length (t ∷ rest))) (sym g.1) (fault_at g.0 (t ∷ rest) begun (none_after_whole depth g.0 t rest s here))
+    subst (λ (x : List Seen). IsFirstUnexpected x (length x - length (t ∷ rest))) (sym g.1) (fault_at g.0 (t ∷ rest) begun (none_after_whole depth g.0 t rest s here))
 
 pub deep_reads_none : (depth : ℕ) (tokens : List Seen) (s : Statement) → (statement depth).at tokens ≡ Deep → ReadsWithin depth tokens s → ⊥
 deep_reads_none depth tokens s e r = let x = sym e ∙ reads_again depth tokens s r in cc

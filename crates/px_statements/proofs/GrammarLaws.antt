@@ -5,7 +5,7 @@ use Rattle.px_lex.specs.declared.kind.Kind.TheVariants as k
 use Rattle.px_lex.specs.Kinds.{same_kind}
 use Rattle.px_ast.specs.declared.condition.Condition.{Condition}
 use Rattle.px_ast.specs.Rule.{Rule, ◌◃◌}
-use Rattle.px_ast.specs.Grammar.{name, names, sign, number, literal, literals, operand, comparison, compared, is_null, among, between, in_or_between, ranged, predicate_end, predicate, conjunction, disjunction, part, filter, direction, directed, keypart, keyparts, column_type, nullness, inline_key, column, constraint, columns, if_not_exists, if_exists, create_table, drop_table, create_index, drop_index, index_action, alter_index, upsert, delete, shown, row_limit, select, statement}
+use Rattle.px_ast.specs.Grammar.{name, names, sign, number, literal, literals, operand, comparison, compared, null_predicate, among, between, in_or_between, ranged, predicate_end, predicate, conjunction, disjunction, part, filter, direction, optional_direction, keypart, keyparts, column_type, nullness, inline_key, column, constraint, columns, if_not_exists, if_exists, create_table, drop_table, create_index, drop_index, index_action, alter_index, upsert, delete, shown_names, row_limit, select, statement}
 use Rattle.px_statements.proofs.Laws.{Lawful, token_lawful, made_lawful, then_lawful, maybe_lawful, or_lawful, bounded_lawful}
 use Rattle.px_statements.proofs.Words.{word_lawful, means_lawful, intro_lawful, outro_lawful, separated_lawful, written_lawful, optional_lawful}
 use Rattle.px_statements.proofs.Listing.{listing_lawful}
@@ -59,8 +59,8 @@ compared_lawful : Lawful compared
 unfolding compared comparison operand name literal number sign same_kind
 compared_lawful = made_lawful _ (then_lawful comparison_lawful operand_lawful refl)
 
-is_null_lawful : Lawful is_null
-unfolding is_null same_kind
+is_null_lawful : Lawful null_predicate
+unfolding null_predicate same_kind
 is_null_lawful = intro_lawful k.Is (made_lawful _ (outro_lawful k.Null (written_lawful (word_lawful k.Not) refl) refl))
 
 among_lawful : Lawful among
@@ -82,12 +82,12 @@ ranged_lawful zero = made_lawful _ (then_lawful (written_lawful (word_lawful k.N
 ranged_lawful (suc depth) = made_lawful _ (then_lawful (written_lawful (word_lawful k.Not) refl) (in_or_between_lawful (suc depth)) refl)
 
 predicate_end_lawful : (depth : ℕ) → Lawful (predicate_end depth)
-unfolding predicate_end compared comparison is_null ranged in_or_between among between literals operand name literal number sign same_kind
+unfolding predicate_end compared comparison null_predicate ranged in_or_between among between literals operand name literal number sign same_kind
 predicate_end_lawful zero = or_lawful compared_lawful (or_lawful is_null_lawful (ranged_lawful zero) refl refl refl) refl refl refl
 predicate_end_lawful (suc depth) = or_lawful compared_lawful (or_lawful is_null_lawful (ranged_lawful (suc depth)) refl refl refl) refl refl refl
 
 pub predicate_lawful : (depth : ℕ) → Lawful (predicate depth)
-unfolding predicate predicate_end compared comparison is_null ranged in_or_between among between literals operand name literal number sign same_kind
+unfolding predicate predicate_end compared comparison null_predicate ranged in_or_between among between literals operand name literal number sign same_kind
 predicate_lawful zero = made_lawful _ (then_lawful operand_lawful (predicate_end_lawful zero) refl)
 predicate_lawful (suc depth) = made_lawful _ (then_lawful operand_lawful (predicate_end_lawful (suc depth)) refl)
 
@@ -137,12 +137,12 @@ both_nil true = refl
 both_nil false = refl
 
 part_on : (depth : ℕ) → (part depth).on ≡ []
-unfolding part predicate predicate_end compared comparison is_null ranged in_or_between among between literals operand name literal number sign
+unfolding part predicate predicate_end compared comparison null_predicate ranged in_or_between among between literals operand name literal number sign
 part_on zero = refl
 part_on (suc depth) = rw (part_solid depth, part_on depth) (rw both_nil refl)
 
 part_lawful : (depth : ℕ) → Lawful (part depth)
-unfolding part predicate predicate_end compared comparison is_null ranged in_or_between among between literals operand name literal number sign same_kind
+unfolding part predicate predicate_end compared comparison null_predicate ranged in_or_between among between literals operand name literal number sign same_kind
 part_lawful zero = bounded_lawful (k.Not ∷ k.OpenParen ∷ []) (made_lawful _ (predicate_lawful zero)) refl refl
 part_lawful (suc depth) =
     let inner : IsPart (part depth) = record { lawful = part_lawful depth; solid = part_solid depth; on = part_on depth } in
@@ -158,16 +158,16 @@ filter_lawful depth = maybe_lawful (intro_lawful k.Where (disjunction_lawful (pa
 
 -- ---- definitions
 
-directed_lawful : Lawful directed
-unfolding directed direction same_kind
+directed_lawful : Lawful optional_direction
+unfolding optional_direction direction same_kind
 directed_lawful = made_lawful _ (maybe_lawful (or_lawful (means_lawful k.Asc _) (means_lawful k.Desc _) refl refl refl) refl)
 
 keypart_lawful : Lawful keypart
-unfolding keypart name directed direction same_kind
+unfolding keypart name optional_direction direction same_kind
 keypart_lawful = made_lawful _ (then_lawful name_lawful directed_lawful refl)
 
 keyparts_lawful : Lawful keyparts
-unfolding keyparts keypart name directed direction same_kind
+unfolding keyparts keypart name optional_direction direction same_kind
 keyparts_lawful = intro_lawful k.OpenParen (outro_lawful k.CloseParen (separated_lawful k.Comma keypart_lawful refl refl) refl)
 
 column_type_lawful : Lawful column_type
@@ -186,11 +186,11 @@ unfolding nullness same_kind
 nullness_lawful = made_lawful _ (maybe_lawful (or_lawful (intro_lawful k.Not (means_lawful k.Null _)) (means_lawful k.Null _) refl refl refl) refl)
 
 inline_key_lawful : Lawful inline_key
-unfolding inline_key directed direction same_kind
+unfolding inline_key optional_direction direction same_kind
 inline_key_lawful = maybe_lawful (intro_lawful k.Primary (intro_lawful k.Key directed_lawful)) refl
 
 column_lawful : Lawful column
-unfolding column name column_type nullness inline_key directed direction same_kind
+unfolding column name column_type nullness inline_key optional_direction direction same_kind
 column_lawful = made_lawful _ (then_lawful name_lawful (then_lawful column_type_lawful (then_lawful nullness_lawful inline_key_lawful refl) refl) refl)
 
 constraint_lawful : Lawful constraint
@@ -198,7 +198,7 @@ unfolding constraint name same_kind
 constraint_lawful = made_lawful _ (intro_lawful k.Constraint (then_lawful name_lawful (intro_lawful k.Primary (intro_lawful k.Key keyparts_lawful)) refl))
 
 columns_lawful : Lawful columns
-unfolding columns column name column_type nullness inline_key directed direction constraint keyparts keypart same_kind
+unfolding columns column name column_type nullness inline_key optional_direction direction constraint keyparts keypart same_kind
 columns_lawful = made_lawful _ (then_lawful column_lawful (listing_lawful k.Comma column constraint column_lawful constraint_lawful refl refl refl refl refl) refl)
 
 if_not_exists_lawful : Lawful if_not_exists
@@ -210,7 +210,7 @@ unfolding if_exists same_kind
 if_exists_lawful = written_lawful (intro_lawful k.If (word_lawful k.Exists)) refl
 
 create_table_lawful : Lawful create_table
-unfolding create_table if_not_exists name columns column column_type nullness inline_key directed direction constraint keyparts keypart literals literal number sign same_kind
+unfolding create_table if_not_exists name columns column column_type nullness inline_key optional_direction direction constraint keyparts keypart literals literal number sign same_kind
 create_table_lawful =
     made_lawful _ (intro_lawful k.Table (then_lawful if_not_exists_lawful (then_lawful name_lawful
     (then_lawful (intro_lawful k.OpenParen (outro_lawful k.CloseParen columns_lawful refl)) (optional_lawful (intro_lawful k.Split (intro_lawful k.On literals_lawful)) refl) refl) refl) refl))
@@ -220,7 +220,7 @@ unfolding drop_table if_exists name same_kind
 drop_table_lawful = made_lawful _ (intro_lawful k.Table (then_lawful if_exists_lawful name_lawful refl))
 
 create_index_lawful : Lawful create_index
-unfolding create_index if_not_exists name keyparts keypart directed direction names same_kind
+unfolding create_index if_not_exists name keyparts keypart optional_direction direction names same_kind
 create_index_lawful =
     made_lawful _ (intro_lawful k.Index (then_lawful if_not_exists_lawful (then_lawful name_lawful
     (intro_lawful k.On (then_lawful name_lawful (then_lawful keyparts_lawful (optional_lawful (intro_lawful k.Include names_lawful) refl) refl) refl)) refl) refl))
@@ -250,8 +250,8 @@ pub delete_lawful : (depth : ℕ) → Lawful (delete depth)
 unfolding delete name same_kind
 delete_lawful depth = made_lawful _ (intro_lawful k.Delete (intro_lawful k.From (then_lawful name_lawful (filter_lawful depth) refl)))
 
-pub shown_lawful : Lawful shown
-unfolding shown name same_kind
+pub shown_lawful : Lawful shown_names
+unfolding shown_names name same_kind
 shown_lawful = or_lawful (means_lawful k.Star _) (made_lawful _ (separated_lawful k.Comma name_lawful refl refl)) refl refl refl
 
 row_limit_lawful : Lawful row_limit
@@ -259,7 +259,7 @@ unfolding row_limit
 row_limit_lawful = intro_lawful k.Limit (made_lawful _ (token_lawful k.Number))
 
 pub select_lawful : (depth : ℕ) → Lawful (select depth)
-unfolding select shown name keypart directed direction row_limit same_kind
+unfolding select shown_names name keypart optional_direction direction row_limit same_kind
 select_lawful depth =
     let h = is_part depth in
     let order = optional_lawful (intro_lawful k.Order (intro_lawful k.By (separated_lawful k.Comma keypart_lawful refl refl))) refl in

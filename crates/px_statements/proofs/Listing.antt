@@ -4,7 +4,7 @@ use Rattle.std.proofs.lemmas.List.{append-nil, append_cancel_right, length-appen
 use Rattle.px_lex.specs.declared.kind.Kind.{Kind}
 use Rattle.px_lex.specs.Lexemes.{Seen}
 use Rattle.px_lex.specs.Kinds.{same_kind}
-use Rattle.px_ast.specs.Rule.{one_of, sees, Outcome, Got, Stuck, and_then, Rule, made, ◌then◌, maybe, many, word, second, ◌▹◌, ended, one_more, listing_at, listing}
+use Rattle.px_ast.specs.Rule.{one_of, sees, Outcome, Got, Stuck, and_then, Rule, made, ◌then◌, maybe, many, word, second, ◌▹◌, ended_list, one_item_more, listing_at, listing}
 use Rattle.px_statements.proofs.Laws.{Lawful, Apart, apart_test, apart_all, got_then, stuck_then, got_is, chosen, sees-left, sees-right, sees-same, then_first, made_lawful, then_lawful, maybe_lawful, many_lawful, room, no_room, longer}
 use Rattle.px_statements.proofs.Words.{word_lawful, intro_lawful}
 
@@ -17,13 +17,13 @@ module _ {A B : Type 0} (k : Kind) (q : Rule A) (r : Rule B) where
   IsList ts x = (many (k ▹ q) then maybe last_item).reads ts x
 
   abbrev further : ℕ → A → List Seen → Outcome (List A × Option B)
-  further n a rest = and_then (listing_at k q r n rest) (one_more a)
+  further n a rest = and_then (listing_at k q r n rest) (one_item_more a)
 
   abbrev behind : ℕ → Unit {0} → List Seen → Outcome (List A × Option B)
-  behind n u rest = cond (sees r.begins rest) (and_then (r.at rest) ended) (and_then (q.at rest) (further n))
+  behind n u rest = cond (sees r.begins rest) (and_then (r.at rest) ended_list) (and_then (q.at rest) (further n))
 
   abbrev bare : List Seen → Outcome (List A × Option B)
-  bare ts = cond (sees r.begins ts) (and_then (r.at ts) ended) (Got ([], None) ts)
+  bare ts = cond (sees r.begins ts) (and_then (r.at ts) ended_list) (Got ([], None) ts)
 
   abbrev front_of : ℕ → List Seen → Outcome (List A × Option B)
   front_of n ts = and_then ((word k).at ts) (behind n)
@@ -50,15 +50,15 @@ module _ {A B : Type 0} (k : Kind) (q : Rule A) (r : Rule B) where
     behind_got : (n : ℕ) (ts rest : List Seen) (x : List A × Option B) → ((us vs : List Seen) (y : List A × Option B) → listing_at k q r n us ≡ Got y vs → (front : List Seen) × (us ≡ front ++ vs) × IsList front y)
         → (u : Unit {0}) (pre : List Seen) → (word k).reads pre u → behind n u ts ≡ Got x rest → (front : List Seen) × (ts ≡ front ++ rest) × IsList (pre ++ front) x
     behind_got n ts rest x again u pre w e =
-        elim (chosen (sees r.begins ts) (and_then (r.at ts) ended) (and_then (q.at ts) (further n)) (Got x rest) e) [
+        elim (chosen (sees r.begins ts) (and_then (r.at ts) ended_list) (and_then (q.at ts) (further n)) (Got x rest) e) [
           | inl v ↦
-              let i = got_then (r.at ts) ended x rest v.1 in
+              let i = got_then (r.at ts) ended_list x rest v.1 in
               let p = got_is ([], Some i.0) x rest i.1 i.3 in
               let g = lr.got ts rest i.0 (i.2 ∙ ap (λ (z : List Seen). Got i.0 z) p.1) in
               (g.0, g.1, subst (λ (z : List A × Option B). IsList (pre ++ g.0) z) p.0 (a_last pre g.0 u i.0 w g.2))
           | inr v ↦
               let i = got_then (q.at ts) (further n) x rest v.1 in
-              let j = got_then (listing_at k q r n i.1) (one_more i.0) x rest i.3 in
+              let j = got_then (listing_at k q r n i.1) (one_item_more i.0) x rest i.3 in
               let p = got_is (i.0 ∷ j.0.0, j.0.1) x rest j.1 j.3 in
               let g = lq.got ts i.1 i.0 i.2 in
               let h = again i.1 rest j.0 (j.2 ∙ ap (λ (z : List Seen). Got j.0 z) p.1) in (
@@ -70,9 +70,9 @@ module _ {A B : Type 0} (k : Kind) (q : Rule A) (r : Rule B) where
 
     bare_got : (ts rest : List Seen) (x : List A × Option B) → bare ts ≡ Got x rest → (front : List Seen) × (ts ≡ front ++ rest) × IsList front x
     bare_got ts rest x e =
-        elim (chosen (sees r.begins ts) (and_then (r.at ts) ended) (Got ([], None) ts) (Got x rest) e) [
+        elim (chosen (sees r.begins ts) (and_then (r.at ts) ended_list) (Got ([], None) ts) (Got x rest) e) [
           | inl v ↦
-              let i = got_then (r.at ts) ended x rest v.1 in
+              let i = got_then (r.at ts) ended_list x rest v.1 in
               let p = got_is ([], Some i.0) x rest i.1 i.3 in
               let g = lr.got ts rest i.0 (i.2 ∙ ap (λ (z : List Seen). Got i.0 z) p.1) in
               (g.0, g.1, subst (λ (z : List A × Option B). IsList g.0 z) p.0 (the_last g.0 i.0 g.2))
@@ -102,8 +102,8 @@ module _ {A B : Type 0} (k : Kind) (q : Rule A) (r : Rule B) where
     behind_stuck : (n : ℕ) (ts rest : List Seen) → ((us vs : List Seen) → listing_at k q r n us ≡ Stuck vs → (front : List Seen) × (us ≡ front ++ vs) × BeginsList front)
         → (u : Unit {0}) (pre : List Seen) → (word k).reads pre u → behind n u ts ≡ Stuck rest → (front : List Seen) × (ts ≡ front ++ rest) × BeginsList (pre ++ front)
     behind_stuck n ts rest again u pre w e =
-        elim (chosen (sees r.begins ts) (and_then (r.at ts) ended) (and_then (q.at ts) (further n)) (Stuck rest) e) [
-          | inl v ↦ elim (stuck_then (r.at ts) ended rest v.1) [
+        elim (chosen (sees r.begins ts) (and_then (r.at ts) ended_list) (and_then (q.at ts) (further n)) (Stuck rest) e) [
+          | inl v ↦ elim (stuck_then (r.at ts) ended_list rest v.1) [
             | inl y ↦
                 let s = lr.stuck ts rest y in
                 let whole : IsList ((pre ++ s.0) ++ s.2.0) ([], Some s.2.1) = subst (λ (z : List Seen). IsList z ([], Some s.2.1)) (sym (append_assoc pre s.0 s.2.0)) (a_last pre (s.0 ++ s.2.0) u s.2.1 w s.2.2) in
@@ -116,7 +116,7 @@ module _ {A B : Type 0} (k : Kind) (q : Rule A) (r : Rule B) where
                 let same : pre ++ ((s.0 ++ s.2.0) ++ []) ≡ (pre ++ s.0) ++ s.2.0 = ap (λ (z : List Seen). pre ++ z) (append-nil (s.0 ++ s.2.0)) ∙ sym (append_assoc pre s.0 s.2.0) in
                 let whole : IsList ((pre ++ s.0) ++ s.2.0) (s.2.1 ∷ [], None) = subst (λ (z : List Seen). IsList z (s.2.1 ∷ [], None)) same (one_item pre (s.0 ++ s.2.0) [] u s.2.1 ([], None) w s.2.2 no_more) in
                 (s.0, s.1, (s.2.0, (s.2.1 ∷ [], None), whole))
-            | inr y ↦ elim (stuck_then (listing_at k q r n y.1) (one_more y.0) rest y.3) [
+            | inr y ↦ elim (stuck_then (listing_at k q r n y.1) (one_item_more y.0) rest y.3) [
               | inl z ↦
                   let g = lq.got ts y.1 y.0 y.2 in
                   let s = again y.1 rest z in
@@ -130,8 +130,8 @@ module _ {A B : Type 0} (k : Kind) (q : Rule A) (r : Rule B) where
 
     bare_stuck : (ts rest : List Seen) → bare ts ≡ Stuck rest → (front : List Seen) × (ts ≡ front ++ rest) × BeginsList front
     bare_stuck ts rest e =
-        elim (chosen (sees r.begins ts) (and_then (r.at ts) ended) (Got ([], None) ts) (Stuck rest) e) [
-          | inl v ↦ elim (stuck_then (r.at ts) ended rest v.1) [
+        elim (chosen (sees r.begins ts) (and_then (r.at ts) ended_list) (Got ([], None) ts) (Stuck rest) e) [
+          | inl v ↦ elim (stuck_then (r.at ts) ended_list rest v.1) [
             | inl y ↦ let s = lr.stuck ts rest y in (s.0, s.1, (s.2.0, ([], Some s.2.1), the_last (s.0 ++ s.2.0) s.2.1 s.2.2))
             | inr y ↦ absurd (let h = y.3 in cc)
           ]
@@ -277,16 +277,16 @@ module _ {A B : Type 0} (k : Kind) (q : Rule A) (r : Rule B) where
         → behind n u (front ++ t ∷ rest) ≡ Got x (back ++ t ∷ rest) → behind m u (front ++ t ∷ other) ≡ Got x (back ++ t ∷ other)
     behind_same_got n m front back t rest other x u again e =
         let sight = sees-same r.begins front t rest other in
-        elim (chosen (sees r.begins (front ++ t ∷ rest)) (and_then (r.at (front ++ t ∷ rest)) ended) (and_then (q.at (front ++ t ∷ rest)) (further n)) (Got x (back ++ t ∷ rest)) e) [
+        elim (chosen (sees r.begins (front ++ t ∷ rest)) (and_then (r.at (front ++ t ∷ rest)) ended_list) (and_then (q.at (front ++ t ∷ rest)) (further n)) (Got x (back ++ t ∷ rest)) e) [
           | inl v ↦
-              let i = got_then (r.at (front ++ t ∷ rest)) ended x (back ++ t ∷ rest) v.1 in
+              let i = got_then (r.at (front ++ t ∷ rest)) ended_list x (back ++ t ∷ rest) v.1 in
               let p = got_is ([], Some i.0) x (back ++ t ∷ rest) i.1 i.3 in
               let g = lr.same_got front back t rest other i.0 (i.2 ∙ ap (λ (z : List Seen). Got i.0 z) p.1) in
               let seen : sees r.begins (front ++ t ∷ other) ≡ true = sym sight ∙ v.0 in
               rw (seen, g) (ap (λ (z : List A × Option B). Got z (back ++ t ∷ other)) p.0)
           | inr v ↦
               let i = got_then (q.at (front ++ t ∷ rest)) (further n) x (back ++ t ∷ rest) v.1 in
-              let j = got_then (listing_at k q r n i.1) (one_more i.0) x (back ++ t ∷ rest) i.3 in
+              let j = got_then (listing_at k q r n i.1) (one_item_more i.0) x (back ++ t ∷ rest) i.3 in
               let p = got_is (i.0 ∷ j.0.0, j.0.1) x (back ++ t ∷ rest) j.1 j.3 in
               let read = j.2 ∙ ap (λ (z : List Seen). Got j.0 z) p.1 in
               let h = listing_got n i.1 (back ++ t ∷ rest) j.0 read in
@@ -302,9 +302,9 @@ module _ {A B : Type 0} (k : Kind) (q : Rule A) (r : Rule B) where
     bare_same_got : (front back : List Seen) (t : Seen) (rest other : List Seen) (x : List A × Option B) → bare (front ++ t ∷ rest) ≡ Got x (back ++ t ∷ rest) → bare (front ++ t ∷ other) ≡ Got x (back ++ t ∷ other)
     bare_same_got front back t rest other x e =
         let sight = sees-same r.begins front t rest other in
-        elim (chosen (sees r.begins (front ++ t ∷ rest)) (and_then (r.at (front ++ t ∷ rest)) ended) (Got ([], None) (front ++ t ∷ rest)) (Got x (back ++ t ∷ rest)) e) [
+        elim (chosen (sees r.begins (front ++ t ∷ rest)) (and_then (r.at (front ++ t ∷ rest)) ended_list) (Got ([], None) (front ++ t ∷ rest)) (Got x (back ++ t ∷ rest)) e) [
           | inl v ↦
-              let i = got_then (r.at (front ++ t ∷ rest)) ended x (back ++ t ∷ rest) v.1 in
+              let i = got_then (r.at (front ++ t ∷ rest)) ended_list x (back ++ t ∷ rest) v.1 in
               let p = got_is ([], Some i.0) x (back ++ t ∷ rest) i.1 i.3 in
               let g = lr.same_got front back t rest other i.0 (i.2 ∙ ap (λ (z : List Seen). Got i.0 z) p.1) in
               let seen : sees r.begins (front ++ t ∷ other) ≡ true = sym sight ∙ v.0 in
@@ -344,10 +344,10 @@ module _ {A B : Type 0} (k : Kind) (q : Rule A) (r : Rule B) where
         → behind n u (front ++ t ∷ rest) ≡ Stuck (back ++ t ∷ rest) → behind m u (front ++ t ∷ other) ≡ Stuck (back ++ t ∷ other)
     behind_same_stuck n m front back t rest other u again e =
         let sight = sees-same r.begins front t rest other in
-        elim (chosen (sees r.begins (front ++ t ∷ rest)) (and_then (r.at (front ++ t ∷ rest)) ended) (and_then (q.at (front ++ t ∷ rest)) (further n)) (Stuck (back ++ t ∷ rest)) e) [
+        elim (chosen (sees r.begins (front ++ t ∷ rest)) (and_then (r.at (front ++ t ∷ rest)) ended_list) (and_then (q.at (front ++ t ∷ rest)) (further n)) (Stuck (back ++ t ∷ rest)) e) [
           | inl v ↦
               let seen : sees r.begins (front ++ t ∷ other) ≡ true = sym sight ∙ v.0 in
-              elim (stuck_then (r.at (front ++ t ∷ rest)) ended (back ++ t ∷ rest) v.1) [
+              elim (stuck_then (r.at (front ++ t ∷ rest)) ended_list (back ++ t ∷ rest) v.1) [
                 | inl y ↦ rw (seen, lr.same_stuck front back t rest other y) refl
                 | inr y ↦ absurd (let h = y.3 in cc)
               ]
@@ -355,7 +355,7 @@ module _ {A B : Type 0} (k : Kind) (q : Rule A) (r : Rule B) where
               let unseen : sees r.begins (front ++ t ∷ other) ≡ false = sym sight ∙ v.0 in
               elim (stuck_then (q.at (front ++ t ∷ rest)) (further n) (back ++ t ∷ rest) v.1) [
                 | inl y ↦ rw (unseen, lq.same_stuck front back t rest other y) refl
-                | inr y ↦ elim (stuck_then (listing_at k q r n y.1) (one_more y.0) (back ++ t ∷ rest) y.3) [
+                | inr y ↦ elim (stuck_then (listing_at k q r n y.1) (one_item_more y.0) (back ++ t ∷ rest) y.3) [
                   | inl z ↦
                       let h = listing_stuck n y.1 (back ++ t ∷ rest) z in
                       let mid : y.1 ≡ (h.0 ++ back) ++ t ∷ rest = h.1 ∙ sym (append_assoc h.0 back (t ∷ rest)) in
@@ -372,10 +372,10 @@ module _ {A B : Type 0} (k : Kind) (q : Rule A) (r : Rule B) where
     bare_same_stuck : (front back : List Seen) (t : Seen) (rest other : List Seen) → bare (front ++ t ∷ rest) ≡ Stuck (back ++ t ∷ rest) → bare (front ++ t ∷ other) ≡ Stuck (back ++ t ∷ other)
     bare_same_stuck front back t rest other e =
         let sight = sees-same r.begins front t rest other in
-        elim (chosen (sees r.begins (front ++ t ∷ rest)) (and_then (r.at (front ++ t ∷ rest)) ended) (Got ([], None) (front ++ t ∷ rest)) (Stuck (back ++ t ∷ rest)) e) [
+        elim (chosen (sees r.begins (front ++ t ∷ rest)) (and_then (r.at (front ++ t ∷ rest)) ended_list) (Got ([], None) (front ++ t ∷ rest)) (Stuck (back ++ t ∷ rest)) e) [
           | inl v ↦
               let seen : sees r.begins (front ++ t ∷ other) ≡ true = sym sight ∙ v.0 in
-              elim (stuck_then (r.at (front ++ t ∷ rest)) ended (back ++ t ∷ rest) v.1) [
+              elim (stuck_then (r.at (front ++ t ∷ rest)) ended_list (back ++ t ∷ rest) v.1) [
                 | inl y ↦ rw (seen, lr.same_stuck front back t rest other y) refl
                 | inr y ↦ absurd (let h = y.3 in cc)
               ]

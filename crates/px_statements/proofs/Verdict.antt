@@ -8,7 +8,7 @@ use Rattle.px_ast.specs.Rule.{Outcome, Got, Stuck, Deep}
 use Rattle.px_ast.specs.Grammar.{statement}
 use Rattle.px_statements.specs.inner.Skim.{ended, skimmed_statement}
 use Rattle.px_ast.specs.Statements.{ReadsWithin, depth_limit}
-use Rattle.px_statements.specs.Parsed.{IsFirstFault, IsRefused}
+use Rattle.px_statements.specs.Parsed.{IsFirstUnexpected, IsRefused}
 use Rattle.px_statements.proofs.GrammarLaws.{statement_lawful}
 use Rattle.px_statements.proofs.Alike.{statement_alike, ended_twice}
 use Rattle.px_statements.proofs.Calm.{skimmed_statement_calm}
@@ -45,7 +45,7 @@ is_deep tokens u deep e =
     ((g.0, (length tokens, reads_all (length tokens) tokens g.0 g.1)), λ s r. deep_reads_none depth_limit tokens s deep r)
 
 -- a place where something is left is a fault
-pub left_is_fault : (depth : ℕ) (tokens rest : List Seen) (s : Statement) → (length rest ≡ 0 → ⊥) → (statement depth).at tokens ≡ Got s rest → IsFirstFault tokens (length tokens - length rest)
+pub left_is_fault : (depth : ℕ) (tokens rest : List Seen) (s : Statement) → (length rest ≡ 0 → ⊥) → (statement depth).at tokens ≡ Got s rest → IsFirstUnexpected tokens (length tokens - length rest)
 left_is_fault depth tokens [] s some e = absurd (some refl)
 left_is_fault depth tokens (t ∷ rest) s some e = rest_is_fault depth tokens t rest s e
 
@@ -53,14 +53,14 @@ pub nothing_left : (depth : ℕ) (tokens rest : List Seen) (s : Statement) → l
 nothing_left depth tokens [] s none e = reads_all depth tokens s e
 nothing_left depth tokens (t ∷ rest) s none e = absurd (omega arith)
 
-pub skim_left_is_fault : (tokens rest : List Seen) (u : Unit {0}) → (length rest ≡ 0 → ⊥) → skimmed_statement.at tokens ≡ Got u rest → IsFirstFault tokens (length tokens - length rest)
+pub skim_left_is_fault : (tokens rest : List Seen) (u : Unit {0}) → (length rest ≡ 0 → ⊥) → skimmed_statement.at tokens ≡ Got u rest → IsFirstUnexpected tokens (length tokens - length rest)
 skim_left_is_fault tokens rest u some e = let g = skimmed_got tokens rest u e in left_is_fault (length tokens) tokens rest g.0 some g.1
 
 pub skim_nothing_left : (tokens rest : List Seen) (u : Unit {0}) → length rest ≡ 0 → (statement depth_limit).at tokens ≡ Deep → skimmed_statement.at tokens ≡ Got u rest → IsRefused tokens faults.TooDeep
 skim_nothing_left tokens [] u none deep e = is_deep tokens u deep e
 skim_nothing_left tokens (t ∷ rest) u none deep e = absurd (omega arith)
 
-pub skim_stuck_is_fault : (tokens rest : List Seen) → skimmed_statement.at tokens ≡ Stuck rest → IsFirstFault tokens (length tokens - length rest)
+pub skim_stuck_is_fault : (tokens rest : List Seen) → skimmed_statement.at tokens ≡ Stuck rest → IsFirstUnexpected tokens (length tokens - length rest)
 skim_stuck_is_fault tokens rest e = stuck_is_fault (length tokens) tokens rest (skimmed_stuck tokens rest e)
 
 pub skim_is_not_deep : (tokens : List Seen) → skimmed_statement.at tokens ≡ Deep → ⊥
@@ -83,14 +83,14 @@ got_fits depth tokens rest s n left e f read = omega (arith, e, f, got_left dept
 pub stuck_fits : (depth : ℕ) (tokens rest : List Seen) (n left : ℕ) → n ≡ length tokens → left ≡ length rest → (statement depth).at tokens ≡ Stuck rest → left ≤ n
 stuck_fits depth tokens rest n left e f read = omega (arith, e, f, stuck_left depth tokens rest read)
 
-pub got_fault : (depth : ℕ) (tokens rest : List Seen) (s : Statement) (n left : ℕ) → n ≡ length tokens → left ≡ length rest → (left ≡ 0 → ⊥) → (statement depth).at tokens ≡ Got s rest → IsFirstFault tokens (n - left)
-got_fault depth tokens rest s n left e f some read = subst (IsFirstFault tokens) (counted tokens rest n left e f) (left_is_fault depth tokens rest s (λ z. some (f ∙ z)) read)
+pub got_fault : (depth : ℕ) (tokens rest : List Seen) (s : Statement) (n left : ℕ) → n ≡ length tokens → left ≡ length rest → (left ≡ 0 → ⊥) → (statement depth).at tokens ≡ Got s rest → IsFirstUnexpected tokens (n - left)
+got_fault depth tokens rest s n left e f some read = subst (IsFirstUnexpected tokens) (counted tokens rest n left e f) (left_is_fault depth tokens rest s (λ z. some (f ∙ z)) read)
 
-pub stuck_fault : (depth : ℕ) (tokens rest : List Seen) (n left : ℕ) → n ≡ length tokens → left ≡ length rest → (statement depth).at tokens ≡ Stuck rest → IsFirstFault tokens (n - left)
-stuck_fault depth tokens rest n left e f read = subst (IsFirstFault tokens) (counted tokens rest n left e f) (stuck_is_fault depth tokens rest read)
+pub stuck_fault : (depth : ℕ) (tokens rest : List Seen) (n left : ℕ) → n ≡ length tokens → left ≡ length rest → (statement depth).at tokens ≡ Stuck rest → IsFirstUnexpected tokens (n - left)
+stuck_fault depth tokens rest n left e f read = subst (IsFirstUnexpected tokens) (counted tokens rest n left e f) (stuck_is_fault depth tokens rest read)
 
 pub skim_got_fits : (tokens rest : List Seen) (u : Unit {0}) (n left : ℕ) → n ≡ length tokens → left ≡ length rest → skimmed_statement.at tokens ≡ Got u rest → left ≤ n
 skim_got_fits tokens rest u n left e f read = let g = skimmed_got tokens rest u read in got_fits (length tokens) tokens rest g.0 n left e f g.1
 
-pub skim_got_fault : (tokens rest : List Seen) (u : Unit {0}) (n left : ℕ) → n ≡ length tokens → left ≡ length rest → (left ≡ 0 → ⊥) → skimmed_statement.at tokens ≡ Got u rest → IsFirstFault tokens (n - left)
+pub skim_got_fault : (tokens rest : List Seen) (u : Unit {0}) (n left : ℕ) → n ≡ length tokens → left ≡ length rest → (left ≡ 0 → ⊥) → skimmed_statement.at tokens ≡ Got u rest → IsFirstUnexpected tokens (n - left)
 skim_got_fault tokens rest u n left e f some read = let g = skimmed_got tokens rest u read in got_fault (length tokens) tokens rest g.0 n left e f some g.1

@@ -5,7 +5,7 @@ ghost use Rattle.px_ast.specs.Rule.{made, maybe, optional, separated, ◌or◌, 
 ghost use Rattle.px_ast.specs.Grammar as grammar;
 ghost use Rattle.px_ast.specs.declared.statement.Statement.TheVariants as statements;
 ghost use Rattle.px_lex.specs.declared.kind.Kind.TheVariants as k;
-ghost use Rattle.px_words.specs.Reading.{Gives};
+ghost use Rattle.px_words.specs.Reading.{GivesOutcome};
 ghost use Rattle.px_statements.specs.inner.Skim as spec;
 
 use crate::statements::{end, from_table, hint, shown, upsert};
@@ -17,7 +17,7 @@ use px_words::fault::ReadFault;
 use std::alloc::Global;
 
 fn pass_predicate(alloc: Global, tokens: &mut Cursor<'_>) -> Result<(), ReadFault>
-    ensures { Gives ((made spec.passed (grammar.predicate 1)).at tokens.old) result tokens.new }
+    ensures { GivesOutcome ((made spec.passed (grammar.predicate 1)).at tokens.old) result tokens.new }
 {
     drop(predicate(alloc, tokens, 1)?);
     Ok(())
@@ -25,7 +25,7 @@ fn pass_predicate(alloc: Global, tokens: &mut Cursor<'_>) -> Result<(), ReadFaul
 
 /// Behind a predicate: how many parentheses are still open where AND or OR goes on.
 fn closes(tokens: &mut Cursor<'_>, mut inside: usize) -> Result<Option<usize>, ReadFault>
-    ensures { Gives (spec.closes inside tokens.old) result tokens.new }
+    ensures { GivesOutcome (spec.closes inside tokens.old) result tokens.new }
 {
     loop {
         if tokens.sees(Kind::And) || tokens.sees(Kind::Or) {
@@ -41,7 +41,7 @@ fn closes(tokens: &mut Cursor<'_>, mut inside: usize) -> Result<Option<usize>, R
 }
 
 fn skim(alloc: Global, tokens: &mut Cursor<'_>) -> Result<(), ReadFault>
-    ensures { Gives (spec.skim 0 tokens.old) result tokens.new }
+    ensures { GivesOutcome (spec.skim 0 tokens.old) result tokens.new }
 {
     let mut inside: usize = 0;
     for _turn in 0..tokens.left() {
@@ -62,7 +62,7 @@ fn skim(alloc: Global, tokens: &mut Cursor<'_>) -> Result<(), ReadFault>
 }
 
 fn filter(alloc: Global, tokens: &mut Cursor<'_>) -> Result<Option<()>, ReadFault>
-    ensures { Gives (spec.skimmed_filter.at tokens.old) result tokens.new }
+    ensures { GivesOutcome (spec.skimmed_filter.at tokens.old) result tokens.new }
 {
     if !tokens.takes(Kind::Where) {
         return Ok(None);
@@ -72,7 +72,7 @@ fn filter(alloc: Global, tokens: &mut Cursor<'_>) -> Result<Option<()>, ReadFaul
 
 #[tactic(auto, unfolding(crate::specs::inner::Skim::skimmed_delete))]
 fn delete(alloc: Global, tokens: &mut Cursor<'_>) -> Result<(), ReadFault>
-    ensures { Gives (spec.skimmed_delete.at tokens.old) result tokens.new }
+    ensures { GivesOutcome (spec.skimmed_delete.at tokens.old) result tokens.new }
 {
     word(tokens, Kind::Delete)?;
     drop(from_table(alloc, tokens)?);
@@ -82,7 +82,7 @@ fn delete(alloc: Global, tokens: &mut Cursor<'_>) -> Result<(), ReadFault>
 
 /// `FROM name`, and what stands behind it.
 fn from(alloc: Global, tokens: &mut Cursor<'_>) -> Result<(), ReadFault>
-    ensures { Gives ((made spec.passed (k.From ▹ grammar.name then spec.skimmed_filter then optional (k.Order ▹ k.By ▹ separated k.Comma grammar.keypart) then maybe grammar.row_limit)).at tokens.old) result tokens.new }
+    ensures { GivesOutcome ((made spec.passed (k.From ▹ grammar.name then spec.skimmed_filter then optional (k.Order ▹ k.By ▹ separated k.Comma grammar.keypart) then maybe grammar.row_limit)).at tokens.old) result tokens.new }
 {
     drop(from_table(alloc, tokens)?);
     filter(alloc, tokens)?;
@@ -92,7 +92,7 @@ fn from(alloc: Global, tokens: &mut Cursor<'_>) -> Result<(), ReadFault>
 
 #[tactic(auto, unfolding(crate::specs::inner::Skim::skimmed_select))]
 fn select(alloc: Global, tokens: &mut Cursor<'_>) -> Result<(), ReadFault>
-    ensures { Gives (spec.skimmed_select.at tokens.old) result tokens.new }
+    ensures { GivesOutcome (spec.skimmed_select.at tokens.old) result tokens.new }
 {
     word(tokens, Kind::Select)?;
     drop(hint(alloc, tokens)?);
@@ -101,35 +101,35 @@ fn select(alloc: Global, tokens: &mut Cursor<'_>) -> Result<(), ReadFault>
 }
 
 fn pass_create(alloc: Global, tokens: &mut Cursor<'_>) -> Result<(), ReadFault>
-    ensures { Gives ((made spec.passed (k.Create ▹ (made statements.CreateTable grammar.create_table or made statements.CreateIndex grammar.create_index))).at tokens.old) result tokens.new }
+    ensures { GivesOutcome ((made spec.passed (k.Create ▹ (made statements.CreateTable grammar.create_table or made statements.CreateIndex grammar.create_index))).at tokens.old) result tokens.new }
 {
     drop(create(alloc, tokens)?);
     Ok(())
 }
 
 fn pass_drop(alloc: Global, tokens: &mut Cursor<'_>) -> Result<(), ReadFault>
-    ensures { Gives ((made spec.passed (k.Drop ▹ (made statements.DropTable grammar.drop_table or made statements.DropIndex grammar.drop_index))).at tokens.old) result tokens.new }
+    ensures { GivesOutcome ((made spec.passed (k.Drop ▹ (made statements.DropTable grammar.drop_table or made statements.DropIndex grammar.drop_index))).at tokens.old) result tokens.new }
 {
     drop(drop_defined(alloc, tokens)?);
     Ok(())
 }
 
 fn pass_alter(alloc: Global, tokens: &mut Cursor<'_>) -> Result<(), ReadFault>
-    ensures { Gives ((made spec.passed (k.Alter ▹ made statements.AlterIndex grammar.alter_index)).at tokens.old) result tokens.new }
+    ensures { GivesOutcome ((made spec.passed (k.Alter ▹ made statements.AlterIndex grammar.alter_index)).at tokens.old) result tokens.new }
 {
     drop(alter(alloc, tokens)?);
     Ok(())
 }
 
 fn pass_upsert(alloc: Global, tokens: &mut Cursor<'_>) -> Result<(), ReadFault>
-    ensures { Gives ((made spec.passed grammar.upsert).at tokens.old) result tokens.new }
+    ensures { GivesOutcome ((made spec.passed grammar.upsert).at tokens.old) result tokens.new }
 {
     drop(upsert(alloc, tokens)?);
     Ok(())
 }
 
 fn explain(alloc: Global, tokens: &mut Cursor<'_>) -> Result<(), ReadFault>
-    ensures { Gives ((k.Explain ▹ spec.skimmed_select).at tokens.old) result tokens.new }
+    ensures { GivesOutcome ((k.Explain ▹ spec.skimmed_select).at tokens.old) result tokens.new }
 {
     word(tokens, Kind::Explain)?;
     select(alloc, tokens)
@@ -138,7 +138,7 @@ fn explain(alloc: Global, tokens: &mut Cursor<'_>) -> Result<(), ReadFault>
 /// Reads a statement to its end, however many parentheses and NOTs are open.
 #[tactic(auto, unfolding(crate::specs::inner::Skim::skimmed_statement, crate::specs::inner::Skim::skimmed_delete, px_ast::specs::Grammar::upsert))]
 pub fn statement(alloc: Global, tokens: &mut Cursor<'_>) -> Result<(), ReadFault>
-    ensures { Gives (spec.skimmed_statement.at tokens.old) result tokens.new }
+    ensures { GivesOutcome (spec.skimmed_statement.at tokens.old) result tokens.new }
 {
     if tokens.sees(Kind::Create) {
         return pass_create(alloc, tokens);

@@ -4,7 +4,7 @@ ghost use Rattle.px_lex.specs.declared.kind.Kind.TheVariants as k;
 ghost use Rattle.px_ast.specs.Rule.{made, maybe, optional, separated, token, ◌or◌, ◌then◌, ◌▹◌};
 ghost use Rattle.px_ast.specs.Grammar as grammar;
 ghost use Rattle.px_ast.specs.declared.statement.Statement.TheVariants as statements;
-ghost use Rattle.px_words.specs.Reading.{Gives};
+ghost use Rattle.px_words.specs.Reading.{GivesOutcome};
 
 use px_ast::{Boxed, Condition, Delete, KeyPart, Literal, RowLimit, Select, Statement, Upsert};
 use px_conditions::disjunction;
@@ -20,7 +20,7 @@ use std::alloc::Global;
 /// `[( name { , name } )]`
 #[tactic(auto, unfolding(px_ast::specs::Grammar::names))]
 fn columns(alloc: Global, tokens: &mut Cursor<'_>) -> Result<Option<Items<Name>>, ReadFault>
-    ensures { Gives ((maybe grammar.names).at tokens.old) result tokens.new }
+    ensures { GivesOutcome ((maybe grammar.names).at tokens.old) result tokens.new }
 {
     if tokens.sees(Kind::OpenParen) {
         Ok(Some(names(alloc, tokens)?))
@@ -31,7 +31,7 @@ fn columns(alloc: Global, tokens: &mut Cursor<'_>) -> Result<Option<Items<Name>>
 
 /// `VALUES literals`, and the place of VALUES.
 fn values(alloc: Global, tokens: &mut Cursor<'_>) -> Result<(usize, Items<Literal>), ReadFault>
-    ensures { Gives ((made grammar.place_of (token k.Values) then grammar.literals).at tokens.old) result tokens.new }
+    ensures { GivesOutcome ((made grammar.place_of_token (token k.Values) then grammar.literals).at tokens.old) result tokens.new }
 {
     let place = tokens.take(Kind::Values)?.place;
     Ok((place, literals(alloc, tokens)?))
@@ -41,7 +41,7 @@ type Written = (Option<Items<Name>>, (usize, Items<Literal>));
 
 /// `[names] VALUES literals`
 fn columns_and_values(alloc: Global, tokens: &mut Cursor<'_>) -> Result<Written, ReadFault>
-    ensures { Gives ((maybe grammar.names then made grammar.place_of (token k.Values) then grammar.literals).at tokens.old) result tokens.new }
+    ensures { GivesOutcome ((maybe grammar.names then made grammar.place_of_token (token k.Values) then grammar.literals).at tokens.old) result tokens.new }
 {
     let columns = columns(alloc, tokens)?;
     match values(alloc, tokens) {
@@ -55,7 +55,7 @@ fn columns_and_values(alloc: Global, tokens: &mut Cursor<'_>) -> Result<Written,
 
 #[tactic(auto, unfolding(px_ast::specs::Grammar::upsert))]
 pub fn upsert(alloc: Global, tokens: &mut Cursor<'_>) -> Result<Upsert, ReadFault>
-    ensures { Gives (grammar.upsert.at tokens.old) result tokens.new }
+    ensures { GivesOutcome (grammar.upsert.at tokens.old) result tokens.new }
 {
     word(tokens, Kind::Upsert)?;
     word(tokens, Kind::Into)?;
@@ -76,7 +76,7 @@ pub fn upsert(alloc: Global, tokens: &mut Cursor<'_>) -> Result<Upsert, ReadFaul
 
 /// `FROM name`
 pub fn from_table(alloc: Global, tokens: &mut Cursor<'_>) -> Result<Name, ReadFault>
-    ensures { Gives ((k.From ▹ grammar.name).at tokens.old) result tokens.new }
+    ensures { GivesOutcome ((k.From ▹ grammar.name).at tokens.old) result tokens.new }
 {
     word(tokens, Kind::From)?;
     name(alloc, tokens)
@@ -88,7 +88,7 @@ fn filter(
     tokens: &mut Cursor<'_>,
     depth: usize,
 ) -> Result<Option<Boxed<Condition>>, ReadFault>
-    ensures { Gives ((grammar.filter depth).at tokens.old) result tokens.new }
+    ensures { GivesOutcome ((grammar.filter depth).at tokens.old) result tokens.new }
 {
     if !tokens.takes(Kind::Where) {
         return Ok(None);
@@ -99,7 +99,7 @@ fn filter(
 
 #[tactic(auto, unfolding(px_ast::specs::Grammar::delete))]
 fn delete(alloc: Global, tokens: &mut Cursor<'_>, depth: usize) -> Result<Delete, ReadFault>
-    ensures { Gives ((grammar.delete depth).at tokens.old) result tokens.new }
+    ensures { GivesOutcome ((grammar.delete depth).at tokens.old) result tokens.new }
 {
     word(tokens, Kind::Delete)?;
     let table = from_table(alloc, tokens)?;
@@ -114,7 +114,7 @@ fn delete(alloc: Global, tokens: &mut Cursor<'_>, depth: usize) -> Result<Delete
 
 /// `[hint]`
 pub fn hint(alloc: Global, tokens: &mut Cursor<'_>) -> Result<Option<Text>, ReadFault>
-    ensures { Gives ((maybe (made grammar.text_of (token k.Hint))).at tokens.old) result tokens.new }
+    ensures { GivesOutcome ((maybe (made grammar.text_of_token (token k.Hint))).at tokens.old) result tokens.new }
 {
     if !tokens.sees(Kind::Hint) {
         return Ok(None);
@@ -124,9 +124,9 @@ pub fn hint(alloc: Global, tokens: &mut Cursor<'_>) -> Result<Option<Text>, Read
 }
 
 /// `* | name { , name }`
-#[tactic(auto, unfolding(px_ast::specs::Grammar::shown))]
+#[tactic(auto, unfolding(px_ast::specs::Grammar::shown_names))]
 pub fn shown(alloc: Global, tokens: &mut Cursor<'_>) -> Result<Option<Items<Name>>, ReadFault>
-    ensures { Gives (grammar.shown.at tokens.old) result tokens.new }
+    ensures { GivesOutcome (grammar.shown_names.at tokens.old) result tokens.new }
 {
     if tokens.takes(Kind::Star) {
         return Ok(None);
@@ -136,7 +136,7 @@ pub fn shown(alloc: Global, tokens: &mut Cursor<'_>) -> Result<Option<Items<Name
 
 /// `[ORDER BY keypart { , keypart }]`
 fn order(alloc: Global, tokens: &mut Cursor<'_>) -> Result<Items<KeyPart>, ReadFault>
-    ensures { Gives ((optional (k.Order ▹ k.By ▹ separated k.Comma grammar.keypart)).at tokens.old) result tokens.new }
+    ensures { GivesOutcome ((optional (k.Order ▹ k.By ▹ separated k.Comma grammar.keypart)).at tokens.old) result tokens.new }
 {
     if !tokens.takes(Kind::Order) {
         return Ok(Items::of(Vec::new(alloc)));
@@ -148,7 +148,7 @@ fn order(alloc: Global, tokens: &mut Cursor<'_>) -> Result<Items<KeyPart>, ReadF
 /// `[LIMIT number]`
 #[tactic(auto, unfolding(px_ast::specs::Grammar::row_limit))]
 fn row_limit(alloc: Global, tokens: &mut Cursor<'_>) -> Result<Option<RowLimit>, ReadFault>
-    ensures { Gives ((maybe grammar.row_limit).at tokens.old) result tokens.new }
+    ensures { GivesOutcome ((maybe grammar.row_limit).at tokens.old) result tokens.new }
 {
     if !tokens.takes(Kind::Limit) {
         return Ok(None);
@@ -164,7 +164,7 @@ pub type End = (Items<KeyPart>, Option<RowLimit>);
 
 /// `[ORDER BY keyparts] [LIMIT number]`
 pub fn end(alloc: Global, tokens: &mut Cursor<'_>) -> Result<End, ReadFault>
-    ensures { Gives ((optional (k.Order ▹ k.By ▹ separated k.Comma grammar.keypart) then maybe grammar.row_limit).at tokens.old) result tokens.new }
+    ensures { GivesOutcome ((optional (k.Order ▹ k.By ▹ separated k.Comma grammar.keypart) then maybe grammar.row_limit).at tokens.old) result tokens.new }
 {
     let order = order(alloc, tokens)?;
     match row_limit(alloc, tokens) {
@@ -180,7 +180,7 @@ type Filtered = (Option<Boxed<Condition>>, End);
 
 /// `[WHERE condition]`, and what stands behind it.
 fn filtered(alloc: Global, tokens: &mut Cursor<'_>, depth: usize) -> Result<Filtered, ReadFault>
-    ensures { Gives ((grammar.filter depth then optional (k.Order ▹ k.By ▹ separated k.Comma grammar.keypart) then maybe grammar.row_limit).at tokens.old) result tokens.new }
+    ensures { GivesOutcome ((grammar.filter depth then optional (k.Order ▹ k.By ▹ separated k.Comma grammar.keypart) then maybe grammar.row_limit).at tokens.old) result tokens.new }
 {
     let filter = filter(alloc, tokens, depth)?;
     match end(alloc, tokens) {
@@ -196,7 +196,7 @@ type From = (Name, Filtered);
 
 /// `FROM name`, and what stands behind it.
 fn from(alloc: Global, tokens: &mut Cursor<'_>, depth: usize) -> Result<From, ReadFault>
-    ensures { Gives ((k.From ▹ grammar.name then grammar.filter depth then optional (k.Order ▹ k.By ▹ separated k.Comma grammar.keypart) then maybe grammar.row_limit).at tokens.old) result tokens.new }
+    ensures { GivesOutcome ((k.From ▹ grammar.name then grammar.filter depth then optional (k.Order ▹ k.By ▹ separated k.Comma grammar.keypart) then maybe grammar.row_limit).at tokens.old) result tokens.new }
 {
     let table = from_table(alloc, tokens)?;
     match filtered(alloc, tokens, depth) {
@@ -212,7 +212,7 @@ type Shown = (Option<Items<Name>>, From);
 
 /// The columns, and what stands behind them.
 fn shown_from(alloc: Global, tokens: &mut Cursor<'_>, depth: usize) -> Result<Shown, ReadFault>
-    ensures { Gives ((grammar.shown then k.From ▹ grammar.name then grammar.filter depth then optional (k.Order ▹ k.By ▹ separated k.Comma grammar.keypart) then maybe grammar.row_limit).at tokens.old) result tokens.new }
+    ensures { GivesOutcome ((grammar.shown_names then k.From ▹ grammar.name then grammar.filter depth then optional (k.Order ▹ k.By ▹ separated k.Comma grammar.keypart) then maybe grammar.row_limit).at tokens.old) result tokens.new }
 {
     let columns = shown(alloc, tokens)?;
     match from(alloc, tokens, depth) {
@@ -226,7 +226,7 @@ fn shown_from(alloc: Global, tokens: &mut Cursor<'_>, depth: usize) -> Result<Sh
 
 #[tactic(auto, unfolding(px_ast::specs::Grammar::select))]
 fn select(alloc: Global, tokens: &mut Cursor<'_>, depth: usize) -> Result<Select, ReadFault>
-    ensures { Gives ((grammar.select depth).at tokens.old) result tokens.new }
+    ensures { GivesOutcome ((grammar.select depth).at tokens.old) result tokens.new }
 {
     word(tokens, Kind::Select)?;
     let hint = hint(alloc, tokens)?;
@@ -247,14 +247,14 @@ fn select(alloc: Global, tokens: &mut Cursor<'_>, depth: usize) -> Result<Select
 }
 
 fn explain(alloc: Global, tokens: &mut Cursor<'_>, depth: usize) -> Result<Statement, ReadFault>
-    ensures { Gives ((made statements.Explain (k.Explain ▹ grammar.select depth)).at tokens.old) result tokens.new }
+    ensures { GivesOutcome ((made statements.Explain (k.Explain ▹ grammar.select depth)).at tokens.old) result tokens.new }
 {
     word(tokens, Kind::Explain)?;
     Ok(Statement::Explain(select(alloc, tokens, depth)?))
 }
 
 fn upsert_statement(alloc: Global, tokens: &mut Cursor<'_>) -> Result<Statement, ReadFault>
-    ensures { Gives ((made statements.Upsert grammar.upsert).at tokens.old) result tokens.new }
+    ensures { GivesOutcome ((made statements.Upsert grammar.upsert).at tokens.old) result tokens.new }
 {
     Ok(Statement::Upsert(upsert(alloc, tokens)?))
 }
@@ -264,7 +264,7 @@ fn delete_statement(
     tokens: &mut Cursor<'_>,
     depth: usize,
 ) -> Result<Statement, ReadFault>
-    ensures { Gives ((made statements.Delete (grammar.delete depth)).at tokens.old) result tokens.new }
+    ensures { GivesOutcome ((made statements.Delete (grammar.delete depth)).at tokens.old) result tokens.new }
 {
     Ok(Statement::Delete(delete(alloc, tokens, depth)?))
 }
@@ -274,7 +274,7 @@ fn select_statement(
     tokens: &mut Cursor<'_>,
     depth: usize,
 ) -> Result<Statement, ReadFault>
-    ensures { Gives ((made statements.Select (grammar.select depth)).at tokens.old) result tokens.new }
+    ensures { GivesOutcome ((made statements.Select (grammar.select depth)).at tokens.old) result tokens.new }
 {
     Ok(Statement::Select(select(alloc, tokens, depth)?))
 }
@@ -286,7 +286,7 @@ pub fn statement(
     tokens: &mut Cursor<'_>,
     depth: usize,
 ) -> Result<Statement, ReadFault>
-    ensures { Gives ((grammar.statement depth).at tokens.old) result tokens.new }
+    ensures { GivesOutcome ((grammar.statement depth).at tokens.old) result tokens.new }
 {
     if tokens.sees(Kind::Create) {
         return create(alloc, tokens);

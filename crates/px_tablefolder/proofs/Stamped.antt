@@ -8,7 +8,7 @@ use Rattle.px_cells.specs.declared.kind.CellKind.{CellKind}
 use Rattle.px_cells.specs.Kind.{code_of}
 use Rattle.px_cells.specs.CellData.{CellData}
 use Rattle.px_cells.specs.Contents.{stands_at, value_at}
-use Rattle.px_tablefolder.specs.Folder.{IndexFiles, last_cell, greatest_horizon, greatest_number, has_stamp, no_files}
+use Rattle.px_tablefolder.specs.Folder.{IndexFiles, last_cell, greatest_horizon, greatest_in_indexes, key_has_stamp, no_files}
 
 both_true : (a b : Bool) → a ≡ true → b ≡ true → (a && b) ≡ true
 both_true true b h g = g
@@ -34,12 +34,12 @@ pub record IsRead (cells : List CellData) (k : List ℕ) (s : ℕ) : Type 0 wher
   pub value : List ℕ
   pub is : value_at cells k qualifier s kind ≡ Some value
 
-pub stamp_read : (k : List ℕ) (s : ℕ) (cells : List CellData) → has_stamp k s cells ≡ true → IsRead cells k s
-unfolding has_stamp value_at
+pub stamp_read : (k : List ℕ) (s : ℕ) (cells : List CellData) → key_has_stamp k s cells ≡ true → IsRead cells k s
+unfolding key_has_stamp value_at
 stamp_read k s [] h = absurd (false≢true h)
 stamp_read k s (c ∷ cells) h = elim (cases_Bool (test k s c)) [
   | inl e ↦ record { qualifier = c.qualifier; kind = c.kind; value = c.value; is = cond-true _ _ _ (to_stands k s c e) }
-  | inr e ↦ later (stamp_read k s cells (sym (ap (λ (v : Bool). v || has_stamp k s cells) e) ∙ h))
+  | inr e ↦ later (stamp_read k s cells (sym (ap (λ (v : Bool). v || key_has_stamp k s cells) e) ∙ h))
 ]
   where
     later : IsRead cells k s → IsRead (c ∷ cells) k s
@@ -53,22 +53,22 @@ or_false true b h = absurd (false≢true (sym h))
 or_false false b h = (refl, h)
 
 -- nothing is read at a stamp that no cell has
-pub none_read : (k : List ℕ) (s : ℕ) (cells : List CellData) → has_stamp k s cells ≡ false → (q : ℕ) (d : CellKind) → value_at cells k q s d ≡ None
-unfolding has_stamp value_at
+pub none_read : (k : List ℕ) (s : ℕ) (cells : List CellData) → key_has_stamp k s cells ≡ false → (q : ℕ) (d : CellKind) → value_at cells k q s d ≡ None
+unfolding key_has_stamp value_at
 none_read k s [] h q d = refl
 none_read k s (c ∷ cells) h q d =
-    let z = or_false (test k s c) (has_stamp k s cells) h in
+    let z = or_false (test k s c) (key_has_stamp k s cells) h in
     elim (cases_Bool (stands_at k q s d c)) [
       | inl e ↦ absurd (both_ways _ z.0 (from_stands k q s d c e))
       | inr e ↦ cond-false _ _ _ e ∙ none_read k s cells z.1 q d
     ]
 
-pub stamp_within : (k : List ℕ) (s : ℕ) (cells : List CellData) → has_stamp k s cells ≡ true → s ≤ last_cell cells
-unfolding has_stamp last_cell
+pub stamp_within : (k : List ℕ) (s : ℕ) (cells : List CellData) → key_has_stamp k s cells ≡ true → s ≤ last_cell cells
+unfolding key_has_stamp last_cell
 stamp_within k s [] h = absurd (false≢true h)
 stamp_within k s (c ∷ cells) h = elim (cases_Bool (test k s c)) [
   | inl e ↦ (let q : c.stamp ≡ s = eqb-true c.stamp s (and_parts (pointwise nat_eq c.key k) (nat_eq c.stamp s) e).1 in omega arith)
-  | inr e ↦ (let z = stamp_within k s cells (sym (ap (λ (v : Bool). v || has_stamp k s cells) e) ∙ h) in omega arith)
+  | inr e ↦ (let z = stamp_within k s cells (sym (ap (λ (v : Bool). v || key_has_stamp k s cells) e) ∙ h) in omega arith)
 ]
 
 pub none_above : (cells : List CellData) (k : List ℕ) (q s : ℕ) (d : CellKind) → last_cell cells < s → value_at cells k q s d ≡ None
@@ -87,14 +87,14 @@ horizon_within [] i l = absurd (omega arith)
 horizon_within (x ∷ xs) zero l = omega arith
 horizon_within (x ∷ xs) (suc i) l = (let z = horizon_within xs i (omega arith) in omega arith)
 
-pub numbers_within : (xs : List IndexFiles) (i : ℕ) → i < length xs → ((get_or xs i no_files).birth ≤ greatest_number xs) × (((get_or xs i no_files).horizon ≤ greatest_number xs) × (last_cell (get_or xs i no_files).cells ≤ greatest_number xs))
-unfolding greatest_number
+pub numbers_within : (xs : List IndexFiles) (i : ℕ) → i < length xs → ((get_or xs i no_files).birth ≤ greatest_in_indexes xs) × (((get_or xs i no_files).horizon ≤ greatest_in_indexes xs) × (last_cell (get_or xs i no_files).cells ≤ greatest_in_indexes xs))
+unfolding greatest_in_indexes
 numbers_within [] i l = absurd (omega arith)
 numbers_within (x ∷ xs) zero l = (omega arith, (omega arith, omega arith))
 numbers_within (x ∷ xs) (suc i) l = (let z = numbers_within xs i (omega arith) in let a = z.0 in let b = z.1.0 in let c = z.1.1 in (omega arith, (omega arith, omega arith)))
 
-pub horizons_numbers : (xs : List IndexFiles) → greatest_horizon xs ≤ greatest_number xs
-unfolding greatest_horizon greatest_number
+pub horizons_numbers : (xs : List IndexFiles) → greatest_horizon xs ≤ greatest_in_indexes xs
+unfolding greatest_horizon greatest_in_indexes
 horizons_numbers [] = omega arith
 horizons_numbers (x ∷ xs) = (let z = horizons_numbers xs in omega arith)
 
@@ -124,7 +124,7 @@ cells_within (c ∷ cells) last a =
       | inr t ↦ sym (cond-false _ _ _ t) ∙ e
     ]
 
-pub numbers_below : (xs : List IndexFiles) (last : ℕ) → ((i : ℕ) → i < length xs → ((get_or xs i no_files).birth ≤ last) × (((get_or xs i no_files).horizon ≤ last) × (last_cell (get_or xs i no_files).cells ≤ last))) → greatest_number xs ≤ last
-unfolding greatest_number
+pub numbers_below : (xs : List IndexFiles) (last : ℕ) → ((i : ℕ) → i < length xs → ((get_or xs i no_files).birth ≤ last) × (((get_or xs i no_files).horizon ≤ last) × (last_cell (get_or xs i no_files).cells ≤ last))) → greatest_in_indexes xs ≤ last
+unfolding greatest_in_indexes
 numbers_below [] last a = omega arith
 numbers_below (x ∷ xs) last a = (let y = a 0 (omega arith) in let b = y.0 in let c = y.1.0 in let d = y.1.1 in let z = numbers_below xs last (λ i l. a (suc i) (omega arith)) in omega arith)

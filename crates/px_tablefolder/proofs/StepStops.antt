@@ -11,7 +11,7 @@ use Rattle.px_trail.specs.declared.entry.Act.TheVariants.{Wrote}
 use Rattle.px_trail.specs.declared.entry.Entry.{Entry}
 use Rattle.px_trail.specs.Batches.{Batch, batch_of, has}
 use Rattle.px_trail.specs.Legal.{MayCome}
-use Rattle.px_world.specs.Shape.{Shape}
+use Rattle.px_world.specs.Shape.{WorldShape}
 use Rattle.px_world.specs.World.{Fate, Written, Lost, World, is_undecided, is_begun}
 use Rattle.px_world.specs.Events.{Write, Stop, happens, Comes, fate_at_stop, is_at, set_stamp}
 use Rattle.px_world.specs.IndexCells.{Moves}
@@ -27,7 +27,7 @@ use Rattle.px_tablefolder.proofs.TableStops.{folder_recovers, folder_restart, fo
 
 -- ---- a write, and then a stop, is a stop that writes
 
-module _ {K S X A : Type 0} (n : Shape K S X A) (w : World K S X) (s h : ℕ) (m : Comes n w (Write s)) where
+module _ {K S X A : Type 0} (n : WorldShape K S X A) (w : World K S X) (s h : ℕ) (m : Comes n w (Write s)) where
   written_fate : (u : ℕ) → fate_at_stop None (set_stamp s Written w.fate) u ≡ fate_at_stop (Some s) w.fate u
   written_fate u = elim (cases_eq s u) [
     | inl e ↦ subst (λ (v : ℕ). fate_at_stop None (set_stamp s Written w.fate) v ≡ fate_at_stop (Some s) w.fate v) e
@@ -60,7 +60,7 @@ table_leaves f es v g = record {
   each = λ n u b m o fb. record { sound = folder_sound f es v g n m b fb u o; stands = folder_recovers f es v g n m b fb; worlds = folder_restart f es v g n m b fb u o };
 }
 
-one_stop : (s h : ℕ) (b : Bool) (q : Shape (List ℕ) RowState (List ℕ) What) (w w1 : World (List ℕ) RowState (List ℕ)) → Moves q (row_event (Write s) b) w w1 → (w' : World (List ℕ) RowState (List ℕ)) → IsStop q None h w1 w' → IsStop q (cond b (Some s) None) h w w'
+one_stop : (s h : ℕ) (b : Bool) (q : WorldShape (List ℕ) RowState (List ℕ) What) (w w1 : World (List ℕ) RowState (List ℕ)) → Moves q (row_event (Write s) b) w w1 → (w' : World (List ℕ) RowState (List ℕ)) → IsStop q None h w1 w' → IsStop q (cond b (Some s) None) h w w'
 one_stop s h true q w w1 move w' g = stop_written q w s h move.0.1 w' (subst (λ (u : World (List ℕ) RowState (List ℕ)). IsStop q None h u w') move.1 g)
 one_stop s h false q w w1 move w' g = subst (λ (u : World (List ℕ) RowState (List ℕ)). IsStop q None h u w') move g
 

@@ -11,21 +11,21 @@ use Rattle.px_trail.specs.Batches.{batch_from}
 use Rattle.px_trail.specs.States.{applied, begun}
 use Rattle.px_trail.specs.Trail.{Base, IsBase, last_from, last_of}
 use Rattle.px_world.specs.World.{Unbegun, Written, is_written}
-use Rattle.px_world.specs.Facts.{IsSound}
+use Rattle.px_world.specs.Facts.{IsSoundWorld}
 use Rattle.px_history.specs.Rows.{history_from}
 use Rattle.px_history.proofs.Ties.{above}
 use Rattle.px_forms.specs.Indexes.{IsIndexForm, shape_at, view_at}
 use Rattle.px_forms.specs.Rows.{DataForm}
-use Rattle.px_indexed.specs.Worlds.{Indexed, history_at, marked_by, times_of, world_at, world_of}
+use Rattle.px_indexed.specs.Worlds.{Indexed, history_at, marked_by, times_of, world_at, world_of_history}
 use Rattle.px_indexed.specs.Kept.{DataKept, IndexKept, RowsKept}
 use Rattle.px_indexed.proofs.Regions.{none_above as none_over}
-use Rattle.px_groupworld.specs.Group.{TableForm, GroupData, GroupKept, IndexPart, index_in, no_part, shape_in, waits_in, world_in}
+use Rattle.px_groupworld.specs.Group.{TableForm, GroupData, GroupKept, IndexPart, indexed_at, no_part, shape_in, waits_in, world_in}
 use Rattle.px_groupworld.specs.Sound.{IsSoundIndex, IsSoundTable}
 use Rattle.px_groupworld.proofs.Entries.{rows_of_group}
 use Rattle.px_groupworld.proofs.Fresh.{sound_group}
 use Rattle.px_groupworld.proofs.Queries.{state_is}
-use Rattle.px_tablefolder.specs.Folder.{IndexFiles, TableFiles, IsFilesOf, IsFolderBase, IsFolderOf, IsOpened, folder_changed, folder_high, folder_last, greatest_number, has_stamp, last_cell, no_files}
-use Rattle.px_tablefolder.specs.Stop.{IsRestart, IsStop, Recovers, over_base}
+use Rattle.px_tablefolder.specs.Folder.{IndexFiles, TableFiles, IsFilesOf, IsFolderBase, IsFolderOf, IsOpened, folder_changed, folder_high, folder_last, greatest_in_indexes, key_has_stamp, last_cell, no_files}
+use Rattle.px_tablefolder.specs.Stop.{IsRestart, IsStop, TableRecovers, over_base}
 use Rattle.px_tablefolder.proofs.Stamped.{cells_within, horizon_within, horizons_below, horizons_numbers, none_above, none_read, numbers_below, numbers_within}
 use Rattle.px_tablefolder.proofs.WorldStops.{folder_base, folder_is_base, folder_stop, folder_world, is_not_below, state_there}
 
@@ -85,7 +85,7 @@ module _ (f : TableForm) (es : List Entry) (v : GroupData) (g : GroupKept f es v
             (let c = m.active i l a in
             let k = g.indexes c.0 c.1.0 in
             let birth = k.birth in
-            ((let e = c.1.1.birth in omega arith), (omega arith, cells_within (get_or n.indexes i no_files).cells last (λ k' q s d h. ap (λ (u : Contents). u k' q s d) (sym c.1.1.cells) ∙ none_over (index_in f v c.0).form last (get_or v.indexes c.0 no_part).cells k.cells k' q s d h))))
+            ((let e = c.1.1.birth in omega arith), (omega arith, cells_within (get_or n.indexes i no_files).cells last (λ k' q s d h. ap (λ (u : Contents). u k' q s d) (sym c.1.1.cells) ∙ none_over (indexed_at f v c.0).form last (get_or v.indexes c.0 no_part).cells k.cells k' q s d h))))
         | inr a ↦ (let c = m.others i l a in (c.0, (omega arith, c.1)))
       ]
 
@@ -101,7 +101,7 @@ module _ (f : TableForm) (es : List Entry) (v : GroupData) (g : GroupKept f es v
     c = folder_base b f.rows n
 
     -- the folder stands for the trail
-    pub folder_recovers : Recovers f b es v.high n
+    pub folder_recovers : TableRecovers f b es v.high n
     unfolding begun applied batch_from
     folder_recovers = record {
       states = λ r p l. (λ i. fb.state i r p) ∙ (state_there b f.base es f.id v.high f.rows rows n told r p l ∙ state_is f es v g r p);
@@ -131,7 +131,7 @@ module _ (f : TableForm) (es : List Entry) (v : GroupData) (g : GroupKept f es v
 
     module _ (u : GroupData) (o : IsOpened n u) where
       world_is : (x : Indexed) (r : List Value) → world_at sh c [] t (folder_high n) x r ≡ world_at sh b [] t u.high x r
-      world_is x r = λ i. world_of (history_is r i) (marked_by (history_is r i) x.waits) (view_at x.form r x.cells) (times_of x (sym o.high i))
+      world_is x r = λ i. world_of_history (history_is r i) (marked_by (history_is r i) x.waits) (view_at x.form r x.cells) (times_of x (sym o.high i))
 
       -- ---- an index that is opened
 
@@ -160,7 +160,7 @@ module _ (f : TableForm) (es : List Entry) (v : GroupData) (g : GroupKept f es v
           x = get_or v.indexes j no_part
 
           abbrev here : Indexed
-          here = record (index_in f v j) { cells = y.cells; waits = waits_in [] i }
+          here = record (indexed_at f v j) { cells = y.cells; waits = waits_in [] i }
 
           same_cells : value_at y.cells ≡ value_at x.cells
           same_cells = now.cells ∙ sym was.cells
@@ -178,7 +178,7 @@ module _ (f : TableForm) (es : List Entry) (v : GroupData) (g : GroupKept f es v
           above_low = let w = m.horizon in omega arith
 
           -- the region that is opened is the running one's
-          here_is : here ≡ index_in f u i
+          here_is : here ≡ indexed_at f u i
           here_is =
               let birth : x.birth ≡ y.birth = was.birth ∙ sym now.birth in
               let horizon : x.horizon ≡ y.horizon = was.horizon ∙ sym now.horizon in
@@ -186,14 +186,14 @@ module _ (f : TableForm) (es : List Entry) (v : GroupData) (g : GroupKept f es v
               let low : v.low ≡ u.low = sym m.horizon ∙ sym o.low in
               (λ a. record { form = f.index (same_id a); cells = y.cells; waits = waits_in (sym o.opens a) i; birth = birth a; kept = max (max (birth a) (horizon a)) (low a); floor = max (birth a) (horizon a); is_built = built a })
 
-          k : IndexKept sh f.base es t v.high (index_in f v j)
+          k : IndexKept sh f.base es t v.high (indexed_at f v j)
           k = g.indexes j lj
 
-          sound_world : (r : List Value) → IsSound (shape_in (over_base f b) u i r) (world_in (over_base f b) [] u i r)
+          sound_world : (r : List Value) → IsSoundWorld (shape_in (over_base f b) u i r) (world_in (over_base f b) [] u i r)
           sound_world r =
-              subst (IsSound (shape_at sh (f.index y.id) r)) (world_is (index_in f u i) r)
-              (subst (λ (e : Indexed). IsSound (shape_at sh e.form r) (world_at sh c [] t (folder_high n) e r)) here_is
-              (folder_world b f.base es f.id v.high f.rows rows n told r (index_in f v j) (folder_high n) (k.kept r) up down above_low y.cells same_cells (waits_in [] i)))
+              subst (IsSoundWorld (shape_at sh (f.index y.id) r)) (world_is (indexed_at f u i) r)
+              (subst (λ (e : Indexed). IsSoundWorld (shape_at sh e.form r) (world_at sh c [] t (folder_high n) e r)) here_is
+              (folder_world b f.base es f.id v.high f.rows rows n told r (indexed_at f v j) (folder_high n) (k.kept r) up down above_low y.cells same_cells (waits_in [] i)))
 
           stamp_last : (c : CellData) → value_at y.cells c.key c.qualifier c.stamp c.kind ≡ Some c.value → c.stamp ≤ last_cell z.cells
           stamp_last c h = elim (cases_lt (last_cell z.cells) c.stamp) [
@@ -205,8 +205,8 @@ module _ (f : TableForm) (es : List Entry) (v : GroupData) (g : GroupKept f es v
           sound_index =
               let a = numbers_within n.indexes at l_at in
               let d = horizon_within n.indexes at l_at in
-              let number : z.birth ≤ greatest_number n.indexes = a.0 in
-              let stamps : last_cell z.cells ≤ greatest_number n.indexes = a.1.1 in
+              let number : z.birth ≤ greatest_in_indexes n.indexes = a.0 in
+              let stamps : last_cell z.cells ≤ greatest_in_indexes n.indexes = a.1.1 in
               let e = fb.last in
               record {
                 form = subst (λ (w : ℕ). IsIndexForm (f.index w)) same_id k.form;
@@ -222,9 +222,9 @@ module _ (f : TableForm) (es : List Entry) (v : GroupData) (g : GroupKept f es v
 
           stop_there : (r : List Value) → IsStop (shape_in f v j r) None (folder_high n) (world_in f es v j r) (world_in (over_base f b) [] u i r)
           stop_there r =
-              subst (IsStop (shape_in f v j r) None (folder_high n) (world_in f es v j r)) (world_is (index_in f u i) r)
+              subst (IsStop (shape_in f v j r) None (folder_high n) (world_in f es v j r)) (world_is (indexed_at f u i) r)
               (subst (λ (e : Indexed). IsStop (shape_in f v j r) None (folder_high n) (world_in f es v j r) (world_at sh c [] t (folder_high n) e r)) here_is
-              (folder_stop b f.base es f.id v.high f.rows rows n told r (index_in f v j) (folder_high n) (k.kept r) up down above_low y.cells same_cells (waits_in [] i)))
+              (folder_stop b f.base es f.id v.high f.rows rows n told r (indexed_at f v j) (folder_high n) (k.kept r) up down above_low y.cells same_cells (waits_in [] i)))
 
         sound_there : IsSoundIndex (over_base f b) u i
         sound_there = let w = was_at in sound_index w.0 w.1.0 w.1.1
@@ -232,7 +232,7 @@ module _ (f : TableForm) (es : List Entry) (v : GroupData) (g : GroupKept f es v
       -- ---- the table
 
       changed_there : (r : List Value) (q s : ℕ) (d : CellKind) (x : List ℕ) → value_at u.cells (f.rows.key_of r) q s d ≡ Some x → n.horizon < s → folder_changed f.rows n r s ≡ true
-      changed_there r q s d x e l = elim (cases_Bool (has_stamp (f.rows.key_of r) s n.cells)) [
+      changed_there r q s d x e l = elim (cases_Bool (key_has_stamp (f.rows.key_of r) s n.cells)) [
         | inl a ↦ (λ i. is_not_below n.horizon s l i && a i)
         | inr a ↦ (let w : None ≡ Some x = sym (ap (λ (w : Contents). w (f.rows.key_of r) q s d) o.cells ∙ none_read (f.rows.key_of r) s n.cells a q d) ∙ e in cc)
       ]

@@ -11,12 +11,12 @@ use Rattle.px_values.specs.declared.name.TableId.{TableId}
 use Rattle.px_values.specs.States.{RowState}
 use Rattle.px_trail.specs.declared.entry.Entry.{Entry}
 use Rattle.px_trail.specs.Trail.{Base, IsBase}
-use Rattle.px_world.specs.Shape.{Shape}
+use Rattle.px_world.specs.Shape.{WorldShape}
 use Rattle.px_world.specs.World.{World, Fate, Unbegun, Undecided, Written, Lost, is_written, is_begun, is_undecided, st}
 use Rattle.px_world.specs.Events.{Stop, happens, May, fate_at_stop, is_at}
-use Rattle.px_world.specs.Facts.{Kept, IsSound}
+use Rattle.px_world.specs.Facts.{Kept, IsSoundWorld}
 use Rattle.px_world.specs.Images.{image, IsImage}
-use Rattle.px_world.specs.IndexCells.{index_of}
+use Rattle.px_world.specs.IndexCells.{world_index}
 use Rattle.px_world.proofs.Told.{is_written-is}
 use Rattle.px_world.proofs.States.{state_at-same}
 use Rattle.px_world.proofs.Decisions.{stop_kept}
@@ -27,9 +27,9 @@ use Rattle.px_history.proofs.Changes.{expected_written, written-counted}
 use Rattle.px_history.proofs.Ties.{base_states, base_old}
 use Rattle.px_forms.specs.Indexes.{shape_at, view_of}
 use Rattle.px_forms.specs.Rows.{DataForm}
-use Rattle.px_indexed.specs.Worlds.{Indexed, history_at, marked_by, times_of, world_at, world_of}
+use Rattle.px_indexed.specs.Worlds.{Indexed, history_at, marked_by, times_of, world_at, world_of_history}
 use Rattle.px_indexed.specs.Kept.{DataKept, RowsKept}
-use Rattle.px_tablefolder.specs.Folder.{TableFiles, folder_changed, folder_high, folder_last, folder_state, has_stamp}
+use Rattle.px_tablefolder.specs.Folder.{TableFiles, folder_changed, folder_high, folder_last, folder_state, key_has_stamp}
 use Rattle.px_tablefolder.specs.Stop.{IsStop}
 use Rattle.px_tablefolder.proofs.Stamped.{stamp_read, none_read, stamp_within}
 
@@ -67,12 +67,12 @@ module _ (b0 b : Base) (es : List Entry) (tid : TableId) (raised : ℕ) (f : Dat
   -- a row's states by its cells are a base
   pub folder_is_base : (r : List Value) → IsBase base' t r
   folder_is_base r = record {
-    above = (let z : nat_lt n.horizon 0 ≡ false = grind (arith, nat_tests) in ap (λ v. v && has_stamp (f.key_of r) 0 n.cells) z);
-    within = λ s h. (let a = and_parts (nat_lt n.horizon s) (has_stamp (f.key_of r) s n.cells) h in let l = stamp_within (f.key_of r) s n.cells a.1 in omega arith);
+    above = (let z : nat_lt n.horizon 0 ≡ false = grind (arith, nat_tests) in ap (λ v. v && key_has_stamp (f.key_of r) 0 n.cells) z);
+    within = λ s h. (let a = and_parts (nat_lt n.horizon s) (key_has_stamp (f.key_of r) s n.cells) h in let l = stamp_within (f.key_of r) s n.cells a.1 in omega arith);
     same = λ p h. elim (cases_lt p n.horizon) [
       | inl l ↦ (let e : max n.horizon (suc p) ≡ max n.horizon p = omega arith in ap (f.spelled (value_at n.cells) r) e)
       | inr l ↦
-          (let none = none_read (f.key_of r) (suc p) n.cells (and_left (nat_lt n.horizon (suc p)) (has_stamp (f.key_of r) (suc p) n.cells) (is_not_below n.horizon (suc p) (omega arith)) h) in
+          (let none = none_read (f.key_of r) (suc p) n.cells (and_left (nat_lt n.horizon (suc p)) (key_has_stamp (f.key_of r) (suc p) n.cells) (is_not_below n.horizon (suc p) (omega arith)) h) in
           let e : max n.horizon (suc p) ≡ suc p = omega arith in
           let e' : max n.horizon p ≡ p = omega arith in
           ap (f.spelled (value_at n.cells) r) e ∙ (g.form.still (value_at n.cells) r p none ∙ sym (ap (f.spelled (value_at n.cells) r) e')))
@@ -96,7 +96,7 @@ module _ (b0 b : Base) (es : List Entry) (tid : TableId) (raised : ℕ) (f : Dat
     -- its changes are written changes above the data horizon
     folder_change : (s : ℕ) → h'.fate s ≡ Written → (n.horizon < s) × (h.fate s ≡ Written)
     folder_change s e =
-        let a = and_parts (nat_lt n.horizon s) (has_stamp (f.key_of r) s n.cells) (fate_true (base'.changed t r s) e) in
+        let a = and_parts (nat_lt n.horizon s) (key_has_stamp (f.key_of r) s n.cells) (fate_true (base'.changed t r s) e) in
         let l = is_below n.horizon s a.0 in
         let z = stamp_read (f.key_of r) s n.cells a.1 in (
           l,
@@ -140,7 +140,7 @@ module _ (b0 b : Base) (es : List Entry) (tid : TableId) (raised : ℕ) (f : Dat
       abbrev w : World (List ℕ) RowState (List ℕ)
       w = world_at f.shape b es t raised x r
 
-      abbrev shape : Shape (List ℕ) RowState (List ℕ) What
+      abbrev shape : WorldShape (List ℕ) RowState (List ℕ) What
       shape = shape_at f.shape x.form r
 
       -- the stop may come
@@ -171,18 +171,18 @@ module _ (b0 b : Base) (es : List Entry) (tid : TableId) (raised : ℕ) (f : Dat
         abbrev pub as_read : Indexed
         as_read = record x { cells = cells'; waits = waits }
 
-        pub folder_world : IsSound (shape_at f.shape x.form r) (world_at f.shape base' [] t high' as_read r)
+        pub folder_world : IsSoundWorld (shape_at f.shape x.form r) (world_at f.shape base' [] t high' as_read r)
         unfolding history_from
         folder_world =
-            let is : image stopped h'.base h'.fate (marked_by h' waits) h'.is_ended h'.old h'.new high' ≡ world_at f.shape base' [] t high' as_read r = (λ i. world_of h' (marked_by h' waits) (view_of (x.form.owns r) x.form.columns x.form.place (sym same i)) (times_of x high')) in
-            subst (IsSound shape) is (image_sound shape stopped stopped_kept h'.base h'.fate (marked_by h' waits) h'.is_ended h'.old h'.new high' (folder_image (marked_by h' waits)))
+            let is : image stopped h'.base h'.fate (marked_by h' waits) h'.is_ended h'.old h'.new high' ≡ world_at f.shape base' [] t high' as_read r = (λ i. world_of_history h' (marked_by h' waits) (view_of (x.form.owns r) x.form.columns x.form.place (sym same i)) (times_of x high')) in
+            subst (IsSoundWorld shape) is (image_sound shape stopped stopped_kept h'.base h'.fate (marked_by h' waits) h'.is_ended h'.old h'.new high' (folder_image (marked_by h' waits)))
 
         pub folder_stop : IsStop shape None high' w (world_at f.shape base' [] t high' as_read r)
         unfolding history_from
         folder_stop = record {
           may = stop_may;
           known = record {
-            cells = ap (λ (c : Contents). index_of (world_of h' (marked_by h' waits) (view_of (x.form.owns r) x.form.columns x.form.place c) (times_of x high'))) same;
+            cells = ap (λ (c : Contents). world_index (world_of_history h' (marked_by h' waits) (view_of (x.form.owns r) x.form.columns x.form.place c) (times_of x high'))) same;
             birth = refl;
             floor = refl;
             kept = refl;

@@ -42,9 +42,9 @@ greatest_horizon [] = 0
 greatest_horizon (x ∷ xs) = max x.horizon (greatest_horizon xs)
 
 -- the greatest of their births, horizons and stamps
-unfoldable pub greatest_number : List IndexFiles → ℕ
-greatest_number [] = 0
-greatest_number (x ∷ xs) = max (max x.birth (max x.horizon (last_cell x.cells))) (greatest_number xs)
+unfoldable pub greatest_in_indexes : List IndexFiles → ℕ
+greatest_in_indexes [] = 0
+greatest_in_indexes (x ∷ xs) = max (max x.birth (max x.horizon (last_cell x.cells))) (greatest_in_indexes xs)
 
 -- the table's horizon is the greatest of the manifests'
 abbrev pub folder_high : TableFiles → ℕ
@@ -52,18 +52,18 @@ folder_high n = max n.horizon (greatest_horizon n.indexes)
 
 -- its last stamp is the greatest of the cells', the manifests' and the births
 abbrev pub folder_last : TableFiles → ℕ
-folder_last n = max (max n.horizon (last_cell n.cells)) (greatest_number n.indexes)
+folder_last n = max (max n.horizon (last_cell n.cells)) (greatest_in_indexes n.indexes)
 
 -- 3. The base
 
 -- a cell at the key has the stamp
-unfoldable pub has_stamp : List ℕ → ℕ → List CellData → Bool
-has_stamp k s [] = false
-has_stamp k s (c ∷ cells) = (pointwise nat_eq c.key k && nat_eq c.stamp s) || has_stamp k s cells
+unfoldable pub key_has_stamp : List ℕ → ℕ → List CellData → Bool
+key_has_stamp k s [] = false
+key_has_stamp k s (c ∷ cells) = (pointwise nat_eq c.key k && nat_eq c.stamp s) || key_has_stamp k s cells
 
 -- a row changes at the stamps of its cells above the data horizon
 abbrev pub folder_changed : DataForm → TableFiles → List Value → ℕ → Bool
-folder_changed f n r s = nat_lt n.horizon s && has_stamp (f.key_of r) s n.cells
+folder_changed f n r s = nat_lt n.horizon s && key_has_stamp (f.key_of r) s n.cells
 
 -- its state is what the cells spell, from the data horizon on
 abbrev pub folder_state : DataForm → TableFiles → List Value → ℕ → RowState
@@ -111,5 +111,5 @@ pub record IsOpened (n : TableFiles) (u : GroupData) : Type 0 where
 abbrev pub files_at : IndexPart → IndexFiles
 files_at x = record { id = x.id; cells = x.cells; birth = x.birth; horizon = x.horizon; is_active = x.is_built }
 
-abbrev pub files_of : GroupData → TableFiles
-files_of v = record { cells = v.cells; horizon = v.low; indexes = map files_at v.indexes }
+abbrev pub files_of_group : GroupData → TableFiles
+files_of_group v = record { cells = v.cells; horizon = v.low; indexes = map files_at v.indexes }

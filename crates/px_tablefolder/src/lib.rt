@@ -19,7 +19,7 @@ ghost use Rattle.px_forms.specs.Indexes.{IndexForm};
 ghost use Rattle.px_indexed.specs.Kept.{ReadsWrites};
 ghost use Rattle.px_groupworld.specs.Group.{GroupData, GroupKept, table_form};
 ghost use Rattle.px_groupworld.specs.Steps.{wrote_data};
-ghost use Rattle.px_tablefolder.specs.Folder.{TableFiles, IsFolderBase, IsFolderOf, IsOpened, files_of};
+ghost use Rattle.px_tablefolder.specs.Folder.{TableFiles, IsFolderBase, IsFolderOf, IsOpened, files_of_group};
 ghost use Rattle.px_tablefolder.specs.Stop.{Leaves, over_base};
 
 use px_groupworld::Formed;
@@ -32,7 +32,7 @@ pub fn law_stops<F: Formed>()
 
 /// Every table that is kept has a folder.
 pub fn law_folder<F: Formed>()
-    ensures { (b : Base) → (id : TableNumber) → (index : ℕ → IndexForm) → (es : List Entries) → (v : GroupData) → GroupKept (table_form b id index F.rows) es v → IsFolderOf (table_form b id index F.rows) es v (files_of v) }
+    ensures { (b : Base) → (id : TableNumber) → (index : ℕ → IndexForm) → (es : List Entries) → (v : GroupData) → GroupKept (table_form b id index F.rows) es v → IsFolderOf (table_form b id index F.rows) es v (files_of_group v) }
 {}
 
 /// The table that was opened is kept over the next run's base, and the folder is its own.

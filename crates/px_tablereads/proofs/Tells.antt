@@ -13,7 +13,7 @@ use Rattle.px_trail.specs.declared.entry.Act.TheVariants.{Wrote}
 use Rattle.px_trail.specs.declared.entry.Entry.{Entry}
 use Rattle.px_trail.specs.Batches.{Batch, batch_of, batch_step, has}
 use Rattle.px_trail.specs.Legal.{Follows, IsWritable, MayCome}
-use Rattle.px_trail.specs.States.{begun, is_written, is_written_in}
+use Rattle.px_trail.specs.States.{begun, is_row_written, is_written_in}
 use Rattle.px_trail.proofs.Growth.{batch_of-snoc}
 use Rattle.px_trail.proofs.Orders.{WritesNone, written_kept}
 use Rattle.px_world.specs.World.{Unbegun, Written, is_written as is_written_fate}
@@ -46,7 +46,7 @@ module _ (f : TableForm) (es : List Entry) (v : GroupData) (k : GroupKept f es v
   abbrev hist : List Entry → List Value → History RowState
   hist l r = history_at f.rows.shape f.base l t r
 
-  written_is : (l : List Entry) (r : List Value) (s : ℕ) → Tied f.rows.shape f.base l t r (hist l r) → is_written_fate ((hist l r).fate s) ≡ cond (f.base.changed t r s) true (is_written l t r s)
+  written_is : (l : List Entry) (r : List Value) (s : ℕ) → Tied f.rows.shape f.base l t r (hist l r) → is_written_fate ((hist l r).fate s) ≡ cond (f.base.changed t r s) true (is_row_written l t r s)
   written_is l r s tie = ap is_written_fate (tie.fates s) ∙ (fate_written (f.base.changed t r s) (row_in (batch_of t s l) r) ∙ ap (λ z. cond (f.base.changed t r s) true z) (sym (tie.writes s)))
 
   -- a cell of that stamp is of a written change, and the other way round
@@ -57,14 +57,14 @@ module _ (f : TableForm) (es : List Entry) (v : GroupData) (k : GroupKept f es v
   )
 
   -- a step that leaves the cells of the rows, the data horizon, and what is written
-  pub told_same : (es' : List Entry) (v' : GroupData) → GroupKept f es' v' → AreTold f es v → v'.low ≡ v.low → v'.cells ≡ v.cells → ((r : List Value) (s : ℕ) → is_written es' t r s ≡ is_written es t r s) → AreTold f es' v'
+  pub told_same : (es' : List Entry) (v' : GroupData) → GroupKept f es' v' → AreTold f es v → v'.low ≡ v.low → v'.cells ≡ v.cells → ((r : List Value) (s : ℕ) → is_row_written es' t r s ≡ is_row_written es t r s) → AreTold f es' v'
   told_same es' v' k' told low cells same = record {
     each = λ r s l w. subst (λ (c : List CellData). StandsAt f.rows (value_at c) r s) (sym cells)
         (told.each r s (omega arith) (written_is es r s ((rows_of_group f es v k).tied r) ∙ (ap (λ z. cond (f.base.changed t r s) true z) (sym (same r s)) ∙ (sym (written_is es' r s ((rows_of_group f es' v' k').tied r)) ∙ w))));
   }
 
   -- an entry that writes nothing
-  pub quiet_written : (e : Entry) → WritesNone e.act → (r : List Value) (s : ℕ) → is_written (es ++ e ∷ []) t r s ≡ is_written es t r s
+  pub quiet_written : (e : Entry) → WritesNone e.act → (r : List Value) (s : ℕ) → is_row_written (es ++ e ∷ []) t r s ≡ is_row_written es t r s
   quiet_written e n r s = ap (λ (o : Option Batch). is_written_in o r) (batch_of-snoc t s es e) ∙ written_kept t s e.seat (batch_of t s es) e.act r n
 
   -- the data region is compacted

@@ -23,7 +23,7 @@ ghost use Rattle.px_indexed.specs.Worlds.{history_at};
 ghost use Rattle.px_groupworld.specs.Group.{GroupData, GroupKept, table_form, world_in};
 ghost use Rattle.px_groupworld.specs.Steps.{forgot_data, wrote_data};
 ghost use Rattle.px_openbatches.specs.Pending.{HeldBatch, HeldKept};
-ghost use Rattle.px_tablereads.specs.Pending.{is_left_in};
+ghost use Rattle.px_tablereads.specs.Pending.{is_left_among};
 ghost use Rattle.px_tablereads.specs.Told.{AreTold, StandsAt, WritesNoRow, WritesSome};
 ghost use Rattle.px_tablefolder.specs.Folder.{TableFiles, IsFolderBase, IsOpened};
 ghost use Rattle.px_tablefolder.specs.Stop.{over_base};
@@ -32,7 +32,7 @@ use px_groupworld::Formed;
 
 /// Whether a change is undecided, the states of a row, and the state after a written change.
 pub fn law_told<F: Formed>()
-    ensures undecided { (b : Base) → (id : TableNumber) → (index : ℕ → IndexForm) → (es : List Entries) → (v : GroupData) → GroupKept (table_form b id index F.rows) es v → (hs : List HeldBatch) → HeldKept b es id.0 hs → (i : ℕ) → (r : List ColumnValue) → (s : ℕ) → is_undecided ((world_in (table_form b id index F.rows) es v i r).fate s) ≡ is_left_in hs s r }
+    ensures undecided { (b : Base) → (id : TableNumber) → (index : ℕ → IndexForm) → (es : List Entries) → (v : GroupData) → GroupKept (table_form b id index F.rows) es v → (hs : List HeldBatch) → HeldKept b es id.0 hs → (i : ℕ) → (r : List ColumnValue) → (s : ℕ) → is_undecided ((world_in (table_form b id index F.rows) es v i r).fate s) ≡ is_left_among hs s r }
     ensures state { (b : Base) → (id : TableNumber) → (index : ℕ → IndexForm) → (es : List Entries) → (v : GroupData) → GroupKept (table_form b id index F.rows) es v → (i : ℕ) → (r : List ColumnValue) → (p : ℕ) → v.low ≤ p → st (world_in (table_form b id index F.rows) es v i r) p ≡ F.rows.spelled (value_at v.cells) r p }
     ensures new { (b : Base) → (id : TableNumber) → (index : ℕ → IndexForm) → (es : List Entries) → (v : GroupData) → GroupKept (table_form b id index F.rows) es v → (i : ℕ) → (r : List ColumnValue) → (s : ℕ) → v.low ≤ s → 0 < s → (world_in (table_form b id index F.rows) es v i r).fate s ≡ Written → (world_in (table_form b id index F.rows) es v i r).new s ≡ F.rows.spelled (value_at v.cells) r s }
 {}

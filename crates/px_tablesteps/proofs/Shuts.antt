@@ -14,14 +14,14 @@ use Rattle.px_indexed.specs.Worlds.{begin_event, change_event, row_event}
 use Rattle.px_world.specs.Closed.{IsNoBirth}
 use Rattle.px_groupworld.specs.Group.{TableForm, GroupData, GroupKept, no_part}
 use Rattle.px_groupworld.specs.Steps.{Events, Does, at_index}
-use Rattle.px_openbatches.specs.Pending.{HeldBatch, IsHeld, is_left, meets, writes_rows}
-use Rattle.px_openbatches.specs.Opens.{IsNoBirthOf, IsReady}
+use Rattle.px_openbatches.specs.Pending.{HeldBatch, IsHeldBatch, is_left, with_met, writes_rows}
+use Rattle.px_openbatches.specs.Opens.{IsBatchReady, IsNoBirthOf}
 use Rattle.px_openbatches.proofs.Shut.{closed_does, meets_done}
-use Rattle.px_tablesteps.specs.Kept.{IsShut}
+use Rattle.px_tablesteps.specs.Kept.{AreMarksClosed}
 use Rattle.px_tablesteps.proofs.Lists.{none_left}
 
 -- all its rows are written
-pub whole_is : (es : List Entry) (t : ℕ) (h : HeldBatch) (is : IsHeld es t h) → is_left h ≡ false → unwritten is.batch ≡ []
+pub whole_is : (es : List Entry) (t : ℕ) (h : HeldBatch) (is : IsHeldBatch es t h) → is_left h ≡ false → unwritten is.batch ≡ []
 whole_is es t h is e = (λ i. filter (λ r. not (is.written r i)) (rows_of (is.changes i))) ∙ none_left h.changes h.written e
 
 -- where more rows are written fewer are left
@@ -53,8 +53,8 @@ at_none j i o n = by (nat_eq j i)
 
 module _ (f : TableForm) (es es' : List Entry) (v v' : GroupData) (kept : GroupKept f es v) (e : Events) (none : (i : ℕ) (r : List Value) → IsNoBirthOf (e i r)) (d : Does f e es v es' v')
     (ids : (i : ℕ) → i < length v.indexes → (get_or v'.indexes i no_part).id ≡ (get_or v.indexes i no_part).id)
-    (h : HeldBatch) (is : IsHeld es f.id.0 h) (ready : IsReady f es v.indexes h) (q : IsShut f es v h) where
-  pub shut_same : IsShut f es' v' h
+    (h : HeldBatch) (is : IsHeldBatch es f.id.0 h) (ready : IsBatchReady f es v.indexes h) (q : AreMarksClosed f es v h) where
+  pub shut_same : AreMarksClosed f es' v' h
   shut_same = record {
     whole = q.whole;
     inside = q.inside;
@@ -67,7 +67,7 @@ module _ (f : TableForm) (es es' : List Entry) (v v' : GroupData) (kept : GroupK
   }
 
   -- where another batch begins
-  pub shut_meets : (cs : List Change) → IsShut f es' v' (meets cs h)
+  pub shut_meets : (cs : List Change) → AreMarksClosed f es' v' (with_met cs h)
   shut_meets cs = record {
     whole = q.whole;
     inside = q.inside;
@@ -77,7 +77,7 @@ module _ (f : TableForm) (es es' : List Entry) (v v' : GroupData) (kept : GroupK
   }
 
   -- where rows are written
-  pub shut_wrote : (s : ℕ) (rows : List (List Value)) → IsShut f es' v' (writes_rows s rows h)
+  pub shut_wrote : (s : ℕ) (rows : List (List Value)) → AreMarksClosed f es' v' (writes_rows s rows h)
   shut_wrote s rows = record {
     whole = λ n. fewer h.changes h.written (cond (nat_eq h.stamp s) (h.written ++ rows) h.written) (λ r m. more (nat_eq h.stamp s) r m) (q.whole n);
     inside = q.inside;

@@ -15,10 +15,10 @@ use Rattle.px_groupworld.specs.Group.{TableForm, GroupData, IndexPart, no_part, 
 use Rattle.px_groupworld.specs.Steps.{Bears, born_data, raised_data}
 use Rattle.px_groupworld.proofs.Births.{group_born}
 use Rattle.px_groupworld.proofs.Entries.{group_raised, rows_of_group}
-use Rattle.px_openbatches.specs.Opens.{IsReady, OpensKept}
-use Rattle.px_openbatches.specs.Pending.{HeldBatch, IsHeld}
+use Rattle.px_openbatches.specs.Opens.{IsBatchReady, OpensKept}
+use Rattle.px_openbatches.specs.Pending.{HeldBatch, IsHeldBatch}
 use Rattle.px_openbatches.proofs.Readies.{opens_idle, opens_regions}
-use Rattle.px_tablesteps.specs.Kept.{IsShut, TableBears, TableKept, TableSteps}
+use Rattle.px_tablesteps.specs.Kept.{AreMarksClosed, TableBears, TableKept, TableSteps}
 use Rattle.px_tablesteps.proofs.Lists.{held_three}
 use Rattle.px_tablesteps.proofs.Steps.{table_other}
 
@@ -40,7 +40,7 @@ module _ (f : TableForm) (es : List Entry) (v : GroupData) (hs : List HeldBatch)
     part_at : (i : ℕ) → i < length v.indexes → get_or next.indexes i no_part ≡ get_or v.indexes i no_part
     part_at i l = get_or-append v.indexes (part ∷ []) no_part i l
 
-    shut_born : (h : HeldBatch) → IsHeld es f.id.0 h → IsReady f es v.indexes h → IsShut f es v h → IsShut f (es ++ e ∷ []) next h
+    shut_born : (h : HeldBatch) → IsHeldBatch es f.id.0 h → IsBatchReady f es v.indexes h → AreMarksClosed f es v h → AreMarksClosed f (es ++ e ∷ []) next h
     shut_born h is ready q = record {
       whole = q.whole;
       inside = q.inside;
@@ -62,7 +62,7 @@ module _ (f : TableForm) (es : List Entry) (v : GroupData) (hs : List HeldBatch)
         group = bears.kept;
         opens = opens_regions f (es ++ e ∷ []) v.indexes v.high (rows_of_group f (es ++ e ∷ []) next bears.kept) hs opens_now next.indexes (let n = length-append v.indexes (part ∷ []) in omega arith) (λ i l. ap (λ (y : IndexPart). y.id) (part_at i l)) (λ i l. ap (λ (y : IndexPart). y.birth) (part_at i l));
         same = k.same;
-        shut = held_three (IsHeld es f.id.0) (IsReady f es v.indexes) (IsShut f es v) (IsShut f (es ++ e ∷ []) next) shut_born hs k.opens.held.each k.opens.ready k.shut;
+        shut = held_three (IsHeldBatch es f.id.0) (IsBatchReady f es v.indexes) (AreMarksClosed f es v) (AreMarksClosed f (es ++ e ∷ []) next) shut_born hs k.opens.held.each k.opens.ready k.shut;
       };
       bears = bears;
     }

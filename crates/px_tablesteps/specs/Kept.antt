@@ -17,7 +17,7 @@ no_held = record { stamp = 0; changes = []; written = []; met = []; done = 0; ve
 
 -- The marks of its rows that aren't concurrent are closed at the first indexes, as many as it has verified; and it verifies
 -- only once all its rows are written.
-pub record IsShut (f : TableForm) (es : List Entry) (v : GroupData) (h : HeldBatch) : Type 0 where
+pub record AreMarksClosed (f : TableForm) (es : List Entry) (v : GroupData) (h : HeldBatch) : Type 0 where
   pub whole : (h.verified ≡ 0 → ⊥) → is_left h ≡ false
   pub inside : h.verified ≤ h.count
   pub closed : AreClosed f es v h h.verified
@@ -27,7 +27,7 @@ pub record TableKept (f : TableForm) (es : List Entry) (v : GroupData) (hs : Lis
   pub group : GroupKept f es v
   pub opens : OpensKept f es v.indexes hs
   pub same : v.opens ≡ map open_of hs
-  pub shut : AllByRecursion (IsShut f es v) hs
+  pub shut : AllByRecursion (AreMarksClosed f es v) hs
 
 -- a step is its events, of every row at every index, and keeps the table and its open batches
 pub record TableSteps (f : TableForm) (e : Events) (es : List Entry) (v : GroupData) (es' : List Entry) (v' : GroupData) (hs' : List HeldBatch) : Type 0 where
@@ -35,7 +35,7 @@ pub record TableSteps (f : TableForm) (e : Events) (es : List Entry) (v : GroupD
   pub does : Does f e es v es' v'
 
 -- a step that makes no index, and leaves the open batches and the numbers and births of the indexes
-pub record IsQuietStep (e : Events) (v v' : GroupData) : Type 0 where
+pub record IsQuietGroupStep (e : Events) (v v' : GroupData) : Type 0 where
   pub births : (i : ℕ) (r : List Value) → IsNoBirthOf (e i r)
   pub opens : v'.opens ≡ v.opens
   pub numbers : (i : ℕ) → i < length v.indexes → (get_or v'.indexes i no_part).id ≡ (get_or v.indexes i no_part).id

@@ -1,7 +1,7 @@
 //! Any number of threads.
 ghost use Rattle.std.specs.Prelude.{◌≡◌, ℕ, ◌<◌, ◌≤◌, ◌++◌, [], true, length, vec_capacity, All, IfOk, Some, slice_get};
 ghost use Rattle.px_turn.specs.Lists.{own};
-ghost use Rattle.px_turn.specs.Seats.{name_of, number, seen, IsSeat, AllSeats};
+ghost use Rattle.px_turn.specs.Seats.{name_of, seat_number, seen_by_seat, IsSeat, AllSeats};
 ghost use Rattle.px_tally.specs.Marks.{marks, seat_of};
 
 use crate::tally::Tally;
@@ -22,8 +22,8 @@ struct Job<'a> {
 
 impl Job<'_> {
     fn run<R: Wait>(&mut self, rt: &R, times: u32)
-        ensures home { (self.new.lock ≡ self.old.lock) × (number self.new.seat ≡ number self.old.seat) }
-        ensures marked { self.new.whole ≡ true → own seat_of (number self.old.seat) (seen self.new.seat) ≡ own seat_of (number self.old.seat) (seen self.old.seat) ++ marks (number self.old.seat) times }
+        ensures home { (self.new.lock ≡ self.old.lock) × (seat_number self.new.seat ≡ seat_number self.old.seat) }
+        ensures marked { self.new.whole ≡ true → own seat_of (seat_number self.old.seat) (seen_by_seat self.new.seat) ≡ own seat_of (seat_number self.old.seat) (seen_by_seat self.old.seat) ++ marks (seat_number self.old.seat) times }
     {
         self.whole = mark_turns(rt, self.lock, &mut self.seat, times).is_ok();
     }
@@ -33,7 +33,7 @@ impl Job<'_> {
 fn run_all<R: Threads + Wait + Sync>(rt: &R, jobs: &mut Vec<Job<'_>>, times: u32)
     requires { 0 < length jobs.old.items }
     ensures len { length jobs.new.items ≡ length jobs.old.items }
-    ensures each { (k : ℕ) (a : _) (b : _) → slice_get jobs.old.items k ≡ Some a → slice_get jobs.new.items k ≡ Some b → (b.lock ≡ a.lock) × (number b.seat ≡ number a.seat) × (b.whole ≡ true → own seat_of (number a.seat) (seen b.seat) ≡ own seat_of (number a.seat) (seen a.seat) ++ marks (number a.seat) times) }
+    ensures each { (k : ℕ) (a : _) (b : _) → slice_get jobs.old.items k ≡ Some a → slice_get jobs.new.items k ≡ Some b → (b.lock ≡ a.lock) × (seat_number b.seat ≡ seat_number a.seat) × (b.whole ≡ true → own seat_of (seat_number a.seat) (seen_by_seat b.seat) ≡ own seat_of (seat_number a.seat) (seen_by_seat a.seat) ++ marks (seat_number a.seat) times) }
 {
     let threads = jobs.len();
     thread::for_each_mut(
@@ -51,10 +51,10 @@ fn opened<'a>(
     mut jobs: Vec<Job<'a>>,
 ) -> Vec<Job<'a>>
     requires seats { AllSeats (name_of lock.now) given.items }
-    requires empty { (k : ℕ) (seat : _) → slice_get given.items k ≡ Some seat → seen seat ≡ [] }
+    requires empty { (k : ℕ) (seat : _) → slice_get given.items k ≡ Some seat → seen_by_seat seat ≡ [] }
     requires room { (jobs.items ≡ []) × (length given.items ≤ vec_capacity jobs) }
     ensures len { length result.items ≡ length given.items }
-    ensures each { (k : ℕ) (job : _) → slice_get result.items k ≡ Some job → (job.lock.now ≡ lock.entry.now) × (number job.seat ≡ k) × (seen job.seat ≡ []) }
+    ensures each { (k : ℕ) (job : _) → slice_get result.items k ≡ Some job → (job.lock.now ≡ lock.entry.now) × (seat_number job.seat ≡ k) × (seen_by_seat job.seat ≡ []) }
 {
     for seat in given {
         jobs.push_reserved(Job {
@@ -73,10 +73,10 @@ fn taken_back(
     times: u32,
     mut seats: Seats<Tally>,
 ) -> (Seats<Tally>, bool)
-    requires jobs { (length jobs.items ≡ (name_of lock.now).seats) × ((k : ℕ) (job : _) → slice_get jobs.items k ≡ Some job → (job.lock.now ≡ lock.now) × (number job.seat ≡ k) × (job.whole ≡ true → own seat_of k (seen job.seat) ≡ marks k times)) }
+    requires jobs { (length jobs.items ≡ (name_of lock.now).seats) × ((k : ℕ) (job : _) → slice_get jobs.items k ≡ Some job → (job.lock.now ≡ lock.now) × (seat_number job.seat ≡ k) × (job.whole ≡ true → own seat_of k (seen_by_seat job.seat) ≡ marks k times)) }
     requires room { (seats.items ≡ []) × (length jobs.items ≤ vec_capacity seats) }
     ensures seats { AllSeats (name_of lock.now) result.0.items }
-    ensures whole { result.1 ≡ true → (k : ℕ) (seat : _) → slice_get result.0.items k ≡ Some seat → own seat_of k (seen seat) ≡ marks k times }
+    ensures whole { result.1 ≡ true → (k : ℕ) (seat : _) → slice_get result.0.items k ≡ Some seat → own seat_of k (seen_by_seat seat) ≡ marks k times }
 {
     let (_lock, _times) = (lock, times);
     let mut all_whole = true;

@@ -1,7 +1,7 @@
 //! What one thread does.
 ghost use Rattle.std.specs.Prelude.{◌≡◌, ◌++◌, ◌∷◌, [], OnOk};
 ghost use Rattle.px_turn.specs.Lists.{own};
-ghost use Rattle.px_turn.specs.Seats.{name_of, number, seen, IsSeat};
+ghost use Rattle.px_turn.specs.Seats.{name_of, seat_number, seen_by_seat, IsSeat};
 ghost use Rattle.px_tally.specs.Marks.{marks, seat_of};
 
 use crate::tally::{Mark, Tally};
@@ -16,9 +16,9 @@ fn mark_once<R: Wait>(
     seat: &mut TurnSeat<Tally>,
     mark: Mark,
 ) -> Result<(), AllocError>
-    requires { IsSeat (name_of lock.now) seat.old × (number seat.old ≡ mark.seat) }
-    ensures seat { IsSeat (name_of lock.now) seat.new × (number seat.new ≡ mark.seat) }
-    ensures marked { OnOk result (own seat_of mark.seat (seen seat.new) ≡ own seat_of mark.seat (seen seat.old) ++ mark ∷ []) }
+    requires { IsSeat (name_of lock.now) seat.old × (seat_number seat.old ≡ mark.seat) }
+    ensures seat { IsSeat (name_of lock.now) seat.new × (seat_number seat.new ≡ mark.seat) }
+    ensures marked { OnOk result (own seat_of mark.seat (seen_by_seat seat.new) ≡ own seat_of mark.seat (seen_by_seat seat.old) ++ mark ∷ []) }
 {
     let mut guard = lock.enter(rt, seat);
     let added = guard.value().add(mark);
@@ -34,8 +34,8 @@ pub fn mark_turns<R: Wait>(
     times: u32,
 ) -> Result<(), AllocError>
     requires { IsSeat (name_of lock.now) seat.old }
-    ensures seat { IsSeat (name_of lock.now) seat.new × (number seat.new ≡ number seat.old) }
-    ensures marked { OnOk result (own seat_of (number seat.old) (seen seat.new) ≡ own seat_of (number seat.old) (seen seat.old) ++ marks (number seat.old) times) }
+    ensures seat { IsSeat (name_of lock.now) seat.new × (seat_number seat.new ≡ seat_number seat.old) }
+    ensures marked { OnOk result (own seat_of (seat_number seat.old) (seen_by_seat seat.new) ≡ own seat_of (seat_number seat.old) (seen_by_seat seat.old) ++ marks (seat_number seat.old) times) }
 {
     let number = seat.number();
     for turn in 0..times {

@@ -1,7 +1,7 @@
 //! Two threads.
 ghost use Rattle.std.specs.Prelude.{◌≡◌, ◌<◌, ◌++◌, All, IfOk, OnOk};
 ghost use Rattle.px_turn.specs.Lists.{own};
-ghost use Rattle.px_turn.specs.Seats.{name_of, number, seen, IsSeat};
+ghost use Rattle.px_turn.specs.Seats.{name_of, seat_number, seen_by_seat, IsSeat};
 ghost use Rattle.px_tally.specs.Marks.{marks, seat_of};
 
 use crate::tally::Tally;
@@ -35,12 +35,12 @@ pub fn both<R: Threads + Wait + Sync>(
     let (a, b) = join(
         rt,
         move || -> Marked
-            requires { IsSeat (name_of shared.now) first × (number first ≡ 0) }
-            ensures { IsSeat (name_of shared.entry.now) result.0 × (number result.0 ≡ 0) × OnOk result.1 (own seat_of 0 (seen result.0) ≡ own seat_of 0 (seen first) ++ marks 0 times) }
+            requires { IsSeat (name_of shared.now) first × (seat_number first ≡ 0) }
+            ensures { IsSeat (name_of shared.entry.now) result.0 × (seat_number result.0 ≡ 0) × OnOk result.1 (own seat_of 0 (seen_by_seat result.0) ≡ own seat_of 0 (seen_by_seat first) ++ marks 0 times) }
         { marked(rt, shared, first, times) },
         move || -> Marked
-            requires { IsSeat (name_of shared.now) second × (number second ≡ 1) }
-            ensures { IsSeat (name_of shared.entry.now) result.0 × (number result.0 ≡ 1) × OnOk result.1 (own seat_of 1 (seen result.0) ≡ own seat_of 1 (seen second) ++ marks 1 times) }
+            requires { IsSeat (name_of shared.now) second × (seat_number second ≡ 1) }
+            ensures { IsSeat (name_of shared.entry.now) result.0 × (seat_number result.0 ≡ 1) × OnOk result.1 (own seat_of 1 (seen_by_seat result.0) ≡ own seat_of 1 (seen_by_seat second) ++ marks 1 times) }
         { marked(rt, shared, second, times) },
     );
     seats.push_reserved(a.0);
@@ -54,8 +54,8 @@ pub fn both<R: Threads + Wait + Sync>(
 // The turns of a thread that owns its seat.
 fn marked<R: Wait>(rt: &R, lock: &TurnLock<Tally>, mut seat: TurnSeat<Tally>, times: u32) -> Marked
     requires { IsSeat (name_of lock.now) seat }
-    ensures seat { IsSeat (name_of lock.now) result.0 × (number result.0 ≡ number seat) }
-    ensures marked { OnOk result.1 (own seat_of (number seat) (seen result.0) ≡ own seat_of (number seat) (seen seat) ++ marks (number seat) times) }
+    ensures seat { IsSeat (name_of lock.now) result.0 × (seat_number result.0 ≡ seat_number seat) }
+    ensures marked { OnOk result.1 (own seat_of (seat_number seat) (seen_by_seat result.0) ≡ own seat_of (seat_number seat) (seen_by_seat seat) ++ marks (seat_number seat) times) }
 {
     let outcome = mark_turns(rt, lock, &mut seat, times);
     (seat, outcome)

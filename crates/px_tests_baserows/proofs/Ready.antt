@@ -2,7 +2,7 @@
 use Rattle.std.proofs.Common.{◌≡◌, ◌<◌, List, [], ◌∷◌, length, true, refl, ap, subst, sym, ◌∙◌, arith}
 use Rattle.std.specs.List.{AllByRecursion}
 use Rattle.std.proofs.lemmas.List.Elements.{All-from_recursion}
-use Rattle.px_indexrow.specs.Form.{FitsState}
+use Rattle.px_indexrow.specs.Form.{FitsRowState}
 use Rattle.px_rows.specs.Keys.{IsRightTable, are_distinct}
 use Rattle.px_tables.specs.declared.table.KeyPlace.{KeyPlace}
 use Rattle.px_tables.specs.declared.table.Table.{Table}
@@ -19,7 +19,7 @@ worked_right = record { columns = omega arith; within = All-from_recursion (λ (
 pub table_right : (t : Table) → t ≡ worked_table → IsRightTable t
 table_right t is = subst IsRightTable (sym is) worked_right
 
-pub rows_fit : (xs : List BaseRow) → AllByRecursion (IsBaseRow worked_table worked_index) xs → AllByRecursion (λ x. FitsState worked_table (Rattle.std.proofs.Common.Some x.row)) xs
+pub rows_fit : (xs : List BaseRow) → AllByRecursion (IsBaseRow worked_table worked_index) xs → AllByRecursion (λ x. FitsRowState worked_table (Rattle.std.proofs.Common.Some x.row)) xs
 rows_fit [] a = tt
 rows_fit (x ∷ xs) a = (a.0.fits, rows_fit xs a.1)
 

@@ -11,7 +11,7 @@ use Rattle.px_values.specs.declared.column.ColType.TheVariants.{BigInt, Integer,
 use Rattle.px_values.specs.declared.row.Value.TheVariants.{Null, Number, Text}
 use Rattle.px_rows.specs.Keys.{IsRightTable, are_distinct, column_in, row_columns}
 use Rattle.px_rows.specs.Spelled.{FitsTable}
-use Rattle.px_indexrow.specs.Form.{FitsState, IsRightIndex, included_at}
+use Rattle.px_indexrow.specs.Form.{FitsRowState, IsRightIndex, included_at}
 use Rattle.px_tests_indexrow.specs.declared.worked.Case.{Case}
 use Rattle.px_tests_indexrow.specs.Worked.{worked, worked_change, worked_index, worked_new, worked_old, worked_table}
 
@@ -55,8 +55,8 @@ pub record IsReady (c : Case) : Type 0 where
   pub index : IsRightIndex c.table c.index
   pub row : Fits (row_columns c.table) c.change.row
   pub change : FitsTable c.table c.change.row c.change.what
-  pub old : FitsState c.table c.old
-  pub new : FitsState c.table c.new
+  pub old : FitsRowState c.table c.old
+  pub new : FitsRowState c.table c.new
 
 table_right : IsRightTable worked_table
 unfolding are_distinct
@@ -96,10 +96,10 @@ new_value (suc (suc zero)) lt = tt
 new_value (suc (suc (suc zero))) lt = x
 new_value (suc (suc (suc (suc c)))) lt = absurd (omega (arith, lt))
 
-old_fits : FitsState worked_table worked_old
+old_fits : FitsRowState worked_table worked_old
 old_fits = (refl, old_value)
 
-new_fits : FitsState worked_table worked_new
+new_fits : FitsRowState worked_table worked_new
 new_fits = (refl, new_value)
 
 change_fits : FitsTable worked_table worked_change.row worked_change.what

@@ -1,5 +1,5 @@
 // Runs that a stop ends, and folders whose bytes were changed.
-ghost use Rattle.px_outside.specs.MemDisk.{mem_calls as calls_of, mem_faults as faults_of, mem_first_fault as first_fault_of, made as made_of};
+ghost use Rattle.px_outside.specs.MemDisk.{mem_calls as calls_of, mem_faults as faults_of, mem_first_fault as first_fault_of, calls_made};
 ghost use Rattle.std.specs.Prelude.{◌≡◌, []};
 
 use crate::runs::{FIRST_SCRIPT, FIRST_SEGMENT, Run, disk_of, is_printed, run_again, run_words};
@@ -23,7 +23,7 @@ pub fn stopped<R: Threads + Wait + Sync>(
     script: &str,
 ) -> Result<Option<MemDisk>, AllocError>
     requires fresh { (calls_of disk ≡ 0) × (faults_of disk ≡ 0) × (first_fault_of disk ≡ 0) }
-    requires none_made { made_of disk ≡ [] }
+    requires none_made { calls_made disk ≡ [] }
 {
     let run = run_words(rt, alloc, "run folder", disk.stop_at(call, choice), script)?;
     if run.status != (Status::Device { call }) {

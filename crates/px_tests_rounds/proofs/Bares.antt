@@ -9,7 +9,7 @@ use Rattle.px_calls.specs.declared.ticket.Ticket.{Ticket}
 use Rattle.px_calls.specs.Known.{IsRunning, Sees}
 use Rattle.px_calls.specs.Calls.{Finds}
 use Rattle.px_calls.specs.Causes.{LacksTable, NamesNoTable}
-use Rattle.px_calls.specs.Requires.{CanAbandon, CanEnd, IsOpen, TicketIn}
+use Rattle.px_calls.specs.Requires.{CanAbandon, CanEnd, HasOpen, TicketIn}
 use Rattle.px_rounds.specs.Turns.{IsSingle}
 use Rattle.px_tests_rounds.specs.Bare.{bare, empty}
 
@@ -46,7 +46,7 @@ pub no_ticket : (n : ℕ) (t : Ticket) (p : BatchPhase) → TicketIn (bare n) t 
 unfolding batch_from
 no_ticket n t p i = let h = i.is in cc
 
-pub no_point : (n : ℕ) (p : Point) → IsOpen (bare n) p → ⊥
+pub no_point : (n : ℕ) (p : Point) → HasOpen (bare n) p → ⊥
 unfolding points_from
 no_point n p h = omega arith
 

@@ -10,7 +10,7 @@ use Rattle.px_calls.specs.declared.ticket.Ticket.{Ticket}
 use Rattle.px_calls.specs.Known.{IsRunning, Sees}
 use Rattle.px_calls.specs.Calls.{Finds}
 use Rattle.px_calls.specs.Causes.{LacksTable, NamesNoTable}
-use Rattle.px_calls.specs.Requires.{AreFitting, CanAbandon, CanEnd, IsDrawn, IsOpen, TicketIn}
+use Rattle.px_calls.specs.Requires.{AreFitting, CanAbandon, CanEnd, HasOpen, IsDrawn, TicketIn}
 use Rattle.px_planned.specs.Queries.{query_of}
 use Rattle.px_planned.specs.declared.planned.Planned.{Planned}
 use Rattle.px_scan.specs.Turns.{IsBound}
@@ -49,7 +49,7 @@ pub no_ticket : (t : Ticket) (p : BatchPhase) → TicketIn bare t p → ⊥
 unfolding batch_from
 no_ticket t p i = let h = i.is in cc
 
-pub no_point : (p : Point) → IsOpen bare p → ⊥
+pub no_point : (p : Point) → HasOpen bare p → ⊥
 unfolding points_from
 no_point p h = omega arith
 

@@ -1,6 +1,6 @@
 // A DELETE on a table that doesn't stand.
 ghost use Rattle.std.specs.Prelude.{◌≡◌, IfOk};
-ghost use Rattle.px_deleting.specs.Deleting.{IsNew};
+ghost use Rattle.px_deleting.specs.Deleting.{IsDeleteNew};
 ghost use Rattle.px_planned.specs.declared.planned.Planned.{Planned as Plans};
 
 use crate::bare::Bare;
@@ -12,7 +12,7 @@ use std::alloc::{AllocError, Global};
 
 /// A DELETE of all rows of table 3.
 fn all_rows(alloc: Global) -> Result<DeleteRun, AllocError>
-    ensures { IfOk result (λ run. (p : Plans) × (p.table.id.0 ≡ 3) × IsNew p run.state) }
+    ensures { IfOk result (λ run. (p : Plans) × (p.table.id.0 ≡ 3) × IsDeleteNew p run.state) }
 {
     let name = Name::from_str(alloc, "GONE")?;
     let table = Table {

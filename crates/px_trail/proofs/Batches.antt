@@ -9,7 +9,7 @@ use Rattle.px_tables.specs.declared.index.IndexState.{IndexState as BuildState}
 use Rattle.px_trail.specs.declared.entry.Act.{Act}
 use Rattle.px_trail.specs.declared.entry.Act.TheVariants.{IndexMade, IndexState, Begun, Phase, Wrote, Ended}
 use Rattle.px_trail.specs.declared.entry.Entry.{Entry}
-use Rattle.px_trail.specs.Batches.{Batch, BatchPhase, Marking, Writing, Verifying, Closing, Over, IsIn, IsSoundBatch, IsSoundOption, batch_step, batch_from, batch_of, begun_batch, has, phase_after, phase_of, rows_of, unwritten}
+use Rattle.px_trail.specs.Batches.{Batch, BatchPhase, Marking, Writing, Verifying, Closing, Over, IsBatchIn, IsSoundBatch, IsSoundOption, batch_step, batch_from, batch_of, begun_batch, has, phase_after, phase_of, rows_of, unwritten}
 use Rattle.px_trail.specs.Trail.{Base, acts_by, draws, last_from, last_of, last_step}
 use Rattle.px_trail.specs.Legal.{Follows, IsLegal, MayCome, IsEndable, IsPhased, IsWritable}
 use Rattle.px_trail.proofs.Growth.{acts_by-none, batch_of-snoc, last-snoc, legal-induct}
@@ -96,7 +96,7 @@ if_no true a c h = cc
 if_no false a c h = refl
 
 -- an act of a batch in a phase leaves the batches of other seats
-beside : (es : List Entry) (t s seat t' s' : ℕ) (p : BatchPhase) (x y : Batch) → batch_of t s es ≡ Some x → x.seat ≢ seat → IsIn es seat t' s' p → (if (t' == t) && (s' == s) then Some y else Some x) ≡ Some x
+beside : (es : List Entry) (t s seat t' s' : ℕ) (p : BatchPhase) (x y : Batch) → batch_of t s es ≡ Some x → x.seat ≢ seat → IsBatchIn es seat t' s' p → (if (t' == t) && (s' == s) then Some y else Some x) ≡ Some x
 beside es t s seat t' s' p x y hx apart i = if_no _ _ _ (foreign es t s t' s' x i.batch hx i.is (λ h. apart (h ∙ i.mine)))
 
 -- an act of another seat leaves the batch
@@ -122,7 +122,7 @@ batch-kept b es (e ∷ others) t s seat x legal apart hx mine =
     (batch-kept b (es ++ e ∷ []) others t s seat x (subst (λ (l : List Entry). IsLegal b l) split legal) none.1 step mine)
 
 -- so what is true of a seat's batch stays true
-pub in-kept : (b : Base) (es others : List Entry) (seat t s : ℕ) (p : BatchPhase) → IsLegal b (es ++ others) → acts_by seat others ≡ [] → IsIn es seat t s p → IsIn (es ++ others) seat t s p
+pub in-kept : (b : Base) (es others : List Entry) (seat t s : ℕ) (p : BatchPhase) → IsLegal b (es ++ others) → acts_by seat others ≡ [] → IsBatchIn es seat t s p → IsBatchIn (es ++ others) seat t s p
 in-kept b es others seat t s p legal apart i = record { batch = i.batch; is = batch-kept b es others t s seat i.batch legal apart i.is i.mine; mine = i.mine; phase = i.phase }
 
 -- 3. The phases
@@ -176,7 +176,7 @@ pub in_closing : (x : Batch) → phase_of x ≡ Closing → (x.ended ≡ false) 
 in_closing x h = closing_is x.ended x.phase (unwritten x) h
 
 -- the batch of an act in a phase, where the act is of this batch
-at_batch : (es : List Entry) (t s seat t' s' : ℕ) (p : BatchPhase) (x : Batch) → batch_of t s es ≡ Some x → IsIn es seat t' s' p → ((t' == t) && (s' == s)) ≡ true → phase_of x ≡ p
+at_batch : (es : List Entry) (t s seat t' s' : ℕ) (p : BatchPhase) (x : Batch) → batch_of t s es ≡ Some x → IsBatchIn es seat t' s' p → ((t' == t) && (s' == s)) ≡ true → phase_of x ≡ p
 at_batch es t s seat t' s' p x hx i v =
     let both = same_batch t s t' s' v in
     let ht : t' ≡ t = both.0 in
@@ -236,7 +236,7 @@ batch-sound b t s es legal =
 
 -- 4. How a batch goes on
 
-pub begun-in : (b : Base) (es : List Entry) (seat calls : ℕ) (t : TableId) (s : ℕ) (cs : List Change) → last_of b t.0 es < s → IsIn (es ++ record { seat = seat; calls = calls; act = Begun t s cs } ∷ []) seat t.0 s Marking
+pub begun-in : (b : Base) (es : List Entry) (seat calls : ℕ) (t : TableId) (s : ℕ) (cs : List Change) → last_of b t.0 es < s → IsBatchIn (es ++ record { seat = seat; calls = calls; act = Begun t s cs } ∷ []) seat t.0 s Marking
 unfolding batch_step
 begun-in b es seat calls t s cs h =
     record {
@@ -248,7 +248,7 @@ begun-in b es seat calls t s cs h =
       phase = refl;
     }
 
-pub marked-in : (b : Base) (es : List Entry) (seat calls : ℕ) (t : TableId) (s : ℕ) → IsLegal b es → IsIn es seat t.0 s Marking → IsIn (es ++ record { seat = seat; calls = calls; act = Phase t s 1 } ∷ []) seat t.0 s Writing
+pub marked-in : (b : Base) (es : List Entry) (seat calls : ℕ) (t : TableId) (s : ℕ) → IsLegal b es → IsBatchIn es seat t.0 s Marking → IsBatchIn (es ++ record { seat = seat; calls = calls; act = Phase t s 1 } ∷ []) seat t.0 s Writing
 unfolding batch_step
 marked-in b es seat calls t s legal i =
     let x = i.batch in
@@ -282,13 +282,13 @@ module _ (es : List Entry) (seat calls : ℕ) (t : TableId) (s : ℕ) (rows : Li
   wrote-phase : phase_of wrote_batch ≡ phase_after 1 (unwritten wrote_batch)
   wrote-phase = (let g = in_writing f.batch f.phase in ap (λ (v : Bool). if v then Over else phase_after f.batch.phase (unwritten wrote_batch)) g.0 ∙ ap (λ (n : ℕ). phase_after n (unwritten wrote_batch)) g.1)
 
-  pub wrote_some-in : unwritten wrote_batch ≢ [] → IsIn (es ++ record { seat = seat; calls = calls; act = Wrote t s rows } ∷ []) seat t.0 s Writing
+  pub wrote_some-in : unwritten wrote_batch ≢ [] → IsBatchIn (es ++ record { seat = seat; calls = calls; act = Wrote t s rows } ∷ []) seat t.0 s Writing
   wrote_some-in left = record { batch = wrote_batch; is = wrote-is; mine = f.mine; phase = wrote-phase ∙ after-writing (unwritten wrote_batch) left }
 
-  pub wrote_all-in : unwritten wrote_batch ≡ [] → IsIn (es ++ record { seat = seat; calls = calls; act = Wrote t s rows } ∷ []) seat t.0 s Verifying
+  pub wrote_all-in : unwritten wrote_batch ≡ [] → IsBatchIn (es ++ record { seat = seat; calls = calls; act = Wrote t s rows } ∷ []) seat t.0 s Verifying
   wrote_all-in none = record { batch = wrote_batch; is = wrote-is; mine = f.mine; phase = wrote-phase ∙ after-verifying (unwritten wrote_batch) none }
 
-pub verified-in : (es : List Entry) (seat calls : ℕ) (t : TableId) (s : ℕ) → IsIn es seat t.0 s Verifying → IsIn (es ++ record { seat = seat; calls = calls; act = Phase t s 3 } ∷ []) seat t.0 s Closing
+pub verified-in : (es : List Entry) (seat calls : ℕ) (t : TableId) (s : ℕ) → IsBatchIn es seat t.0 s Verifying → IsBatchIn (es ++ record { seat = seat; calls = calls; act = Phase t s 3 } ∷ []) seat t.0 s Closing
 unfolding batch_step
 verified-in es seat calls t s i =
     let x = i.batch in
@@ -302,7 +302,7 @@ verified-in es seat calls t s i =
       phase = ap (λ (v : Bool). if v then Over else phase_after 3 (unwritten x)) facts.0;
     }
 
-ended_in : (es : List Entry) (seat calls : ℕ) (t : TableId) (s : ℕ) (p : BatchPhase) → IsIn es seat t.0 s p → IsIn (es ++ record { seat = seat; calls = calls; act = Ended t s } ∷ []) seat t.0 s Over
+ended_in : (es : List Entry) (seat calls : ℕ) (t : TableId) (s : ℕ) (p : BatchPhase) → IsBatchIn es seat t.0 s p → IsBatchIn (es ++ record { seat = seat; calls = calls; act = Ended t s } ∷ []) seat t.0 s Over
 unfolding batch_step
 ended_in es seat calls t s p i =
     let x = i.batch in
@@ -315,6 +315,6 @@ ended_in es seat calls t s p i =
       phase = refl;
     }
 
-pub ended-in : (es : List Entry) (seat calls : ℕ) (t : TableId) (s : ℕ) → IsEndable es seat t.0 s → IsIn (es ++ record { seat = seat; calls = calls; act = Ended t s } ∷ []) seat t.0 s Over
+pub ended-in : (es : List Entry) (seat calls : ℕ) (t : TableId) (s : ℕ) → IsEndable es seat t.0 s → IsBatchIn (es ++ record { seat = seat; calls = calls; act = Ended t s } ∷ []) seat t.0 s Over
 ended-in es seat calls t s (inl i) = ended_in es seat calls t s Closing i
 ended-in es seat calls t s (inr i) = ended_in es seat calls t s Verifying i.1

@@ -15,7 +15,7 @@ use Rattle.px_trail.specs.declared.entry.Entry.{Entry}
 use Rattle.px_trail.specs.Batches.{Batch, batch_of, batch_step, change_of, has, rows_of, unwritten}
 use Rattle.px_trail.specs.Trail.{Base, Catalogue, catalogue_of, catalogue_step, last_of, shape_of, shape_step}
 use Rattle.px_trail.specs.Legal.{Follows, IsLegal, IsWritable, MayCome}
-use Rattle.px_trail.specs.States.{Dated, applied, begun, begun_by, dated, is_written, is_written_in, state_of, written}
+use Rattle.px_trail.specs.States.{Dated, applied, begun, begun_by, dated, is_row_written, is_written_in, state_of, written}
 use Rattle.px_trail.specs.Lasting.{TellSame, lasting, lasts_by}
 use Rattle.px_trail.proofs.Growth.{batch_of-snoc, begun-snoc, catalogue-snoc, shape-snoc}
 use Rattle.px_trail.proofs.Batches.{batch-none}
@@ -47,21 +47,21 @@ dated_unwritten : (q : Dated → Bool) (s : ℕ) (o : Option What) → ((w : Wha
 dated_unwritten q s None f = refl
 dated_unwritten q s (Some w) f = (let e = f w in rw e refl)
 
-begun_unwritten : (b : Base) (es : List Entry) (t : ℕ) (r : List Value) (seat calls : ℕ) (act : Act) → Follows b es seat calls act → filter (λ d. is_written es t r d.stamp) (begun_by t r act) ≡ []
+begun_unwritten : (b : Base) (es : List Entry) (t : ℕ) (r : List Value) (seat calls : ℕ) (act : Act) → Follows b es seat calls act → filter (λ d. is_row_written es t r d.stamp) (begun_by t r act) ≡ []
 unfolding begun_by Follows
 begun_unwritten b es t r seat calls (Begun tid s cs) f = elim (cases_eq tid.0 t) [
   | inl q ↦
       (let n : batch_of t s es ≡ None = batch-none b t s es (subst (λ (u : ℕ). last_of b u es < s) q f.0) in
-      ap (λ l. filter (λ d. is_written es t r d.stamp) l) (begins_by t s r tid cs q) ∙ dated_unwritten (λ d. is_written es t r d.stamp) s (change_of cs r) (λ w. ap (λ (o : Option Batch). is_written_in o r) n))
-  | inr q ↦ ap (λ l. filter (λ d. is_written es t r d.stamp) l) (begins_else t s r tid cs q)
+      ap (λ l. filter (λ d. is_row_written es t r d.stamp) l) (begins_by t s r tid cs q) ∙ dated_unwritten (λ d. is_row_written es t r d.stamp) s (change_of cs r) (λ w. ap (λ (o : Option Batch). is_written_in o r) n))
+  | inr q ↦ ap (λ l. filter (λ d. is_row_written es t r d.stamp) l) (begins_else t s r tid cs q)
 ]
 begun_unwritten b es t r seat calls act f = refl
 
 -- what is told of a row's states, where the written rows of batches stay
-same_states : (b : Base) (es : List Entry) (e : Entry) (t : ℕ) (r : List Value) (p : ℕ) → MayCome b es e → shape_step t (shape_of b es t) e.act ≡ shape_of b es t → ((s : ℕ) → is_written (es ++ e ∷ []) t r s ≡ is_written es t r s) → state_of b (es ++ e ∷ []) t r p ≡ state_of b es t r p
+same_states : (b : Base) (es : List Entry) (e : Entry) (t : ℕ) (r : List Value) (p : ℕ) → MayCome b es e → shape_step t (shape_of b es t) e.act ≡ shape_of b es t → ((s : ℕ) → is_row_written (es ++ e ∷ []) t r s ≡ is_row_written es t r s) → state_of b (es ++ e ∷ []) t r p ≡ state_of b es t r p
 same_states b es e t r p may shape same =
     let v = b.state t r p in
-    let q : Dated → Bool = λ d. is_written es t r d.stamp in
+    let q : Dated → Bool = λ d. is_row_written es t r d.stamp in
     ap (λ (x : Shape). applied x r p v (written (es ++ e ∷ []) t r)) (shape-snoc b es e t ∙ shape)
     ∙ ap (λ (l : List Dated). applied (shape_of b es t) r p v l)
     ((λ i. filter (λ d. same d.stamp i) (begun t r (es ++ e ∷ [])))
@@ -70,7 +70,7 @@ same_states b es e t r p may shape same =
     ∙ (ap (λ l. written es t r ++ l) (begun_unwritten b es t r e.seat e.calls e.act may.follows)
     ∙ append-nil (written es t r)))))
 
-written_quiet : (es : List Entry) (e : Entry) (t : ℕ) (r : List Value) → WritesNone e.act → (s : ℕ) → is_written (es ++ e ∷ []) t r s ≡ is_written es t r s
+written_quiet : (es : List Entry) (e : Entry) (t : ℕ) (r : List Value) → WritesNone e.act → (s : ℕ) → is_row_written (es ++ e ∷ []) t r s ≡ is_row_written es t r s
 written_quiet es e t r none s = ap (λ (o : Option Batch). is_written_in o r) (batch_of-snoc t s es e) ∙ written_kept t s e.seat (batch_of t s es) e.act r none
 
 -- an entry that doesn't last tells a folder nothing
@@ -93,7 +93,7 @@ module _ (b : Base) (es : List Entry) (e : Entry) (tid : TableId) (s : ℕ) (row
   -- a row that isn't named keeps its states
   pub wrote-else : has rows r ≡ false → state_of b (es ++ e ∷ []) t r p ≡ state_of b es t r p
   wrote-else off = same_states b es e t r p may shape_same (λ u. elim (cases_eq s u) [
-    | inl q ↦ subst (λ (v : ℕ). is_written (es ++ e ∷ []) t r v ≡ is_written es t r v) q (unnamed b es e t r (ordered b es t r legal) tid s rows is refl f off)
+    | inl q ↦ subst (λ (v : ℕ). is_row_written (es ++ e ∷ []) t r v ≡ is_row_written es t r v) q (unnamed b es e t r (ordered b es t r legal) tid s rows is refl f off)
     | inr q ↦ others b es e t r (ordered b es t r legal) tid s rows is refl f u q
   ])
 
@@ -105,10 +105,10 @@ module _ (b : Base) (es : List Entry) (e : Entry) (tid : TableId) (s : ℕ) (row
       let d : Dated = record { stamp = s; what = w } in
       let v = b.state t r p in
       let listed = (all-listed es t r).each s w (subst (λ (o : Option Batch). IsChange o r w) (sym f.is) change) in
-      let low = all_map (λ x. IsChange (batch_of t x.stamp es) r x.what) (λ x. x.stamp < s → is_written es t r x.stamp ≡ true) (begun t r es) (earlier b es e t r k tid s rows is refl f on) k.known in
+      let low = all_map (λ x. IsChange (batch_of t x.stamp es) r x.what) (λ x. x.stamp < s → is_row_written es t r x.stamp ≡ true) (begun t r es) (earlier b es e t r k tid s rows is refl f on) k.known in
       let more : written (es ++ e ∷ []) t r ≡ written es t r ++ d ∷ [] =
-      ap (λ l. filter (λ x. is_written (es ++ e ∷ []) t r x.stamp) l) (begun-snoc t r es e ∙ (ap (λ l. begun t r es ++ l) (none_begun b es e t r k tid s rows is) ∙ append-nil (begun t r es)))
-      ∙ filter_more (λ u. is_written es t r u) (λ u. is_written (es ++ e ∷ []) t r u) d (now b es e t r k tid s rows is refl f on) (before b es e t r k tid s rows is refl f on) (others b es e t r k tid s rows is refl f) (begun t r es) k.rising low k.front listed in
+      ap (λ l. filter (λ x. is_row_written (es ++ e ∷ []) t r x.stamp) l) (begun-snoc t r es e ∙ (ap (λ l. begun t r es ++ l) (none_begun b es e t r k tid s rows is) ∙ append-nil (begun t r es)))
+      ∙ filter_more (λ u. is_row_written es t r u) (λ u. is_row_written (es ++ e ∷ []) t r u) d (now b es e t r k tid s rows is refl f on) (before b es e t r k tid s rows is refl f on) (others b es e t r k tid s rows is refl f) (begun t r es) k.rising low k.front listed in
       ap (λ (x : Shape). applied x r p v (written (es ++ e ∷ []) t r)) (shape-snoc b es e t ∙ shape_same)
       ∙ (ap (λ (l : List Dated). applied (shape_of b es t) r p v l) more
       ∙ applied-append (shape_of b es t) r p v (written es t r) (d ∷ []))

@@ -14,7 +14,7 @@ use Rattle.px_trail.specs.declared.entry.Entry.{Entry}
 use Rattle.px_trail.specs.Batches.{Batch, batch_from, batch_of, batch_step, begun_batch, change_of, has, rows_of}
 use Rattle.px_trail.specs.Trail.{Base, last_of}
 use Rattle.px_trail.specs.Legal.{Follows, IsLegal, IsWritable, MayCome}
-use Rattle.px_trail.specs.States.{Dated, IsRising, begun, begun_by, dated, is_written, is_written_in, written}
+use Rattle.px_trail.specs.States.{Dated, IsRising, begun, begun_by, dated, is_row_written, is_written_in, written}
 use Rattle.px_trail.proofs.Growth.{batch_of-snoc, begun-snoc, legal-induct}
 use Rattle.px_trail.proofs.Batches.{same_batch}
 use Rattle.px_trail.proofs.Orders.{IsChange, IsFront, Ordered, all_map, filter_none, ordered, begins_by}

@@ -16,7 +16,7 @@ use Rattle.px_trail.specs.declared.entry.Entry.{Entry}
 use Rattle.px_trail.specs.Batches.{Batch, IsPending, batch_from, batch_of, batch_step, begun_batch, change_of, has, rows_of, unwritten}
 use Rattle.px_trail.specs.Trail.{Base, last_of, last_step}
 use Rattle.px_trail.specs.Legal.{Follows, IsLegal, IsWritable, MayCome}
-use Rattle.px_trail.specs.States.{Dated, IsRising, begun, begun_by, dated, is_written, is_written_in, written}
+use Rattle.px_trail.specs.States.{Dated, IsRising, begun, begun_by, dated, is_row_written, is_written_in, written}
 use Rattle.px_trail.proofs.Growth.{batch_of-snoc, begun-snoc, last-snoc, legal-induct}
 use Rattle.px_trail.proofs.Batches.{batch-none, last_step-le}
 
@@ -143,7 +143,7 @@ IsChange (Some x) r w = change_of x.changes r ≡ Some w
 pub record Ordered (b : Base) (es : List Entry) (t : ℕ) (r : List Value) : Type 0 where
   pub up : AllByRecursion (λ d. d.stamp ≤ last_of b t es) (begun t r es)
   pub rising : IsRising (begun t r es)
-  pub front : IsFront (λ s. is_written es t r s) (begun t r es)
+  pub front : IsFront (λ s. is_row_written es t r s) (begun t r es)
   pub known : AllByRecursion (λ d. IsChange (batch_of t d.stamp es) r d.what) (begun t r es)
 
 if_change : (v : Bool) (x y : Batch) (r : List Value) (w : What) → IsChange (Some x) r w → IsChange (Some y) r w → IsChange (if v then Some y else Some x) r w
@@ -192,18 +192,18 @@ module _ (b : Base) (es : List Entry) (e : Entry) (t : ℕ) (r : List Value) (k 
   up_next = (let q = last-snoc b t es e in let l = last_step-le t (last_of b t es) e.act in all_map (λ d. d.stamp ≤ last_of b t es) (λ d. d.stamp ≤ last_of b t next) (begun t r es) (λ d h. omega arith) k.up)
 
   -- nothing of the row is begun
-  still : begun_by t r e.act ≡ [] → IsFront (λ s. is_written next t r s) (begun t r es) → Ordered b next t r
+  still : begun_by t r e.act ≡ [] → IsFront (λ s. is_row_written next t r s) (begun t r es) → Ordered b next t r
   still none front =
       let q : begun t r next ≡ begun t r es = begun-snoc t r es e ∙ (ap (λ l. begun t r es ++ l) none ∙ append-nil (begun t r es)) in
       record {
         up = subst (AllByRecursion (λ d. d.stamp ≤ last_of b t next)) (sym q) up_next;
         rising = subst IsRising (sym q) k.rising;
-        front = subst (IsFront (λ s. is_written next t r s)) (sym q) front;
+        front = subst (IsFront (λ s. is_row_written next t r s)) (sym q) front;
         known = subst (AllByRecursion (λ d. IsChange (batch_of t d.stamp next) r d.what)) (sym q) known_next;
       }
 
   -- nothing is written
-  same_front : ((s : ℕ) → is_written_in (batch_step t s (batch_of t s es) e.seat e.act) r ≡ is_written es t r s) → IsFront (λ s. is_written next t r s) (begun t r es)
+  same_front : ((s : ℕ) → is_written_in (batch_step t s (batch_of t s es) e.seat e.act) r ≡ is_row_written es t r s) → IsFront (λ s. is_row_written next t r s) (begun t r es)
   same_front same = subst (λ (q : ℕ → Bool). IsFront q (begun t r es)) (λ i s. sym (ap (λ (o : Option Batch). is_written_in o r) (batch_of-snoc t s es e) ∙ same s) i) k.front
 
   quiet : begun_by t r e.act ≡ [] → WritesNone e.act → Ordered b next t r
@@ -250,7 +250,7 @@ module _ (b : Base) (es : List Entry) (e : Entry) (t : ℕ) (r : List Value) (k 
     batch_here : batch_of t s later ≡ Some (begun_batch e.seat cs)
     batch_here = batch_of-snoc t s es e ∙ (ap (λ (a : Act). batch_step t s (batch_of t s es) e.seat a) is ∙ (ap (λ (o : Option Batch). batch_step t s o e.seat (Begun tid s cs)) (batch-none b t s es new) ∙ batch_begins t s e.seat tid cs same))
 
-    written_here : is_written later t r s ≡ false
+    written_here : is_row_written later t r s ≡ false
     unfolding has
     written_here = ap (λ (o : Option Batch). is_written_in o r) batch_here
 
@@ -264,7 +264,7 @@ module _ (b : Base) (es : List Entry) (e : Entry) (t : ℕ) (r : List Value) (k 
         record {
           up = subst (AllByRecursion (λ d. d.stamp ≤ last_of b t later)) (sym q) (all_push (λ d. d.stamp ≤ last_of b t later) (begun t r es) this (up_next b es e t r k) low);
           rising = subst IsRising (sym q) (rising_push (begun t r es) this k.rising (below_last (last_of b t es) s (begun t r es) new k.up));
-          front = subst (IsFront (λ u. is_written later t r u)) (sym q) (front_push (λ u. is_written later t r u) (begun t r es) this front written_here);
+          front = subst (IsFront (λ u. is_row_written later t r u)) (sym q) (front_push (λ u. is_row_written later t r u) (begun t r es) this front written_here);
           known = subst (AllByRecursion (λ d. IsChange (batch_of t d.stamp later) r d.what)) (sym q) (all_push (λ d. IsChange (batch_of t d.stamp later) r d.what) (begun t r es) this (known_next b es e t r k) change);
         }
 
@@ -309,10 +309,10 @@ module _ (b : Base) (es : List Entry) (e : Entry) (t : ℕ) (r : List Value) (k 
   step_else u off None = refl
   step_else u off (Some x) = ap (λ (v : Bool). if v then Some (record x { written = x.written ++ rows }) else Some x) off
 
-  pub written_else : (u : ℕ) → ((tid.0 == t) && (s == u)) ≡ false → is_written wrote t r u ≡ is_written es t r u
+  pub written_else : (u : ℕ) → ((tid.0 == t) && (s == u)) ≡ false → is_row_written wrote t r u ≡ is_row_written es t r u
   written_else u off = ap (λ (o : Option Batch). is_written_in o r) (step_at u ∙ step_else u off (batch_of t u es))
 
-  front_by : ((u : ℕ) → is_written wrote t r u ≡ is_written es t r u) → IsFront (λ u. is_written wrote t r u) (begun t r es)
+  front_by : ((u : ℕ) → is_row_written wrote t r u ≡ is_row_written es t r u) → IsFront (λ u. is_row_written wrote t r u) (begun t r es)
   front_by same = subst (λ (q : ℕ → Bool). IsFront q (begun t r es)) (λ i u. sym (same u) i) k.front
 
   wrote_other : (tid.0 ≡ t → ⊥) → Ordered b wrote t r
@@ -323,36 +323,36 @@ module _ (b : Base) (es : List Entry) (e : Entry) (t : ℕ) (r : List Value) (k 
     unfolding batch_step
     wrote_is = step_at s ∙ (ap (λ (o : Option Batch). batch_step t s o e.seat (Wrote tid s rows)) f.is ∙ ap (λ (v : Bool). if v then Some (record f.batch { written = f.batch.written ++ rows }) else Some f.batch) (both_same t s tid same))
 
-    written_at : is_written wrote t r s ≡ (has f.batch.written r || has rows r)
+    written_at : is_row_written wrote t r s ≡ (has f.batch.written r || has rows r)
     written_at = ap (λ (o : Option Batch). is_written_in o r) wrote_is ∙ has-append f.batch.written rows r
 
-    written_was : is_written es t r s ≡ has f.batch.written r
+    written_was : is_row_written es t r s ≡ has f.batch.written r
     written_was = ap (λ (o : Option Batch). is_written_in o r) f.is
 
-    pub others : (u : ℕ) → (s ≡ u → ⊥) → is_written wrote t r u ≡ is_written es t r u
+    pub others : (u : ℕ) → (s ≡ u → ⊥) → is_row_written wrote t r u ≡ is_row_written es t r u
     others u apart = written_else u (and_false (tid.0 == t) (s == u) (ne_eqb s u apart))
 
-    pub unnamed : has rows r ≡ false → is_written wrote t r s ≡ is_written es t r s
+    pub unnamed : has rows r ≡ false → is_row_written wrote t r s ≡ is_row_written es t r s
     unnamed off = written_at ∙ (or_none (has f.batch.written r) (has rows r) off ∙ sym written_was)
 
     not_here : has rows r ≡ false → Ordered b wrote t r
     not_here off = still b es e t r k none_begun (front_by (λ u. elim (cases_eq s u) [
-      | inl q ↦ subst (λ (v : ℕ). is_written wrote t r v ≡ is_written es t r v) q (unnamed off)
+      | inl q ↦ subst (λ (v : ℕ). is_row_written wrote t r v ≡ is_row_written es t r v) q (unnamed off)
       | inr q ↦ others u q
     ]))
 
     module _ (here : has rows r ≡ true) where
-      pub before : is_written es t r s ≡ false
+      pub before : is_row_written es t r s ≡ false
       before = written_was ∙ not_true (has f.batch.written r) (has-filter (λ y. not (has f.batch.written y)) (rows_of f.batch.changes) r (f.left r here)).1
 
-      pub now : is_written wrote t r s ≡ true
+      pub now : is_row_written wrote t r s ≡ true
       now = written_at ∙ or_true (has f.batch.written r) (has rows r) here
 
       -- an earlier change that isn't written would be pending
-      pub earlier : (d : Dated) → IsChange (batch_of t d.stamp es) r d.what → d.stamp < s → is_written es t r d.stamp ≡ true
+      pub earlier : (d : Dated) → IsChange (batch_of t d.stamp es) r d.what → d.stamp < s → is_row_written es t r d.stamp ≡ true
       earlier d c l =
           let z = some_change (batch_of t d.stamp es) r d.what c in
-          elim (cases_Bool (is_written es t r d.stamp)) [
+          elim (cases_Bool (is_row_written es t r d.stamp)) [
             | inl h ↦ h
             | inr h ↦
                 (let off : has z.0.written r ≡ false = sym (ap (λ (o : Option Batch). is_written_in o r) z.1) ∙ h in
@@ -361,8 +361,8 @@ module _ (b : Base) (es : List Entry) (e : Entry) (t : ℕ) (r : List Value) (k 
 
       is_here : Ordered b wrote t r
       is_here = still b es e t r k none_begun
-          (front_more (λ u. is_written es t r u) (λ u. is_written wrote t r u) s now before others (begun t r es) k.rising
-          (all_map (λ d. IsChange (batch_of t d.stamp es) r d.what) (λ d. d.stamp < s → is_written es t r d.stamp ≡ true) (begun t r es) earlier k.known) k.front)
+          (front_more (λ u. is_row_written es t r u) (λ u. is_row_written wrote t r u) s now before others (begun t r es) k.rising
+          (all_map (λ d. IsChange (batch_of t d.stamp es) r d.what) (λ d. d.stamp < s → is_row_written es t r d.stamp ≡ true) (begun t r es) earlier k.known) k.front)
 
     wrote_next : Ordered b wrote t r
     wrote_next = elim (cases_Bool (has rows r)) [ inl h ↦ is_here h | inr h ↦ not_here h ]
@@ -392,4 +392,4 @@ begun-rising b es t r legal = (ordered b es t r legal).rising
 
 -- and the written ones are the first of them
 pub written-first : (b : Base) (es : List Entry) (t : ℕ) (r : List Value) → IsLegal b es → (rest : List Dated) × (begun t r es ≡ written es t r ++ rest)
-written-first b es t r legal = front-splits (λ s. is_written es t r s) (begun t r es) (ordered b es t r legal).front
+written-first b es t r legal = front-splits (λ s. is_row_written es t r s) (begun t r es) (ordered b es t r legal).front

@@ -15,7 +15,7 @@ use Rattle.px_trail.specs.declared.entry.Entry.{Entry}
 use Rattle.px_trail.specs.Batches.{Batch, IsDecided, Writing, batch_of, batch_step, begun_batch, change_of, has, phase_of, rows_of, unwritten}
 use Rattle.px_trail.specs.Trail.{Base, catalogue_of, last_of, last_step, shape_of}
 use Rattle.px_trail.specs.Legal.{Follows, IsLegal, MayCome}
-use Rattle.px_trail.specs.States.{Dated, applied, begun, begun_by, dated, is_written, is_written_in, state_of, written}
+use Rattle.px_trail.specs.States.{Dated, applied, begun, begun_by, dated, is_row_written, is_written_in, state_of, written}
 use Rattle.px_trail.proofs.Growth.{batch_of-snoc, begun-append, last-snoc, legal-induct}
 use Rattle.px_trail.proofs.Batches.{and_true, in_writing, last_step-le, same_batch}
 use Rattle.px_trail.proofs.Standing.{shape-stays}
@@ -101,7 +101,7 @@ as_written y (Some x) r h = ap (λ (l : List (List Value)). has l r) h.0
 -- 2. Changes up to a point
 
 -- at a decided point it stays told which rows were written
-pub written-agrees : (b : Base) (t p : ℕ) (r : List Value) (pre more : List Entry) → IsLegal b (pre ++ more) → IsDecided pre t p → p ≤ last_of b t pre → (s : ℕ) → s ≤ p → is_written (pre ++ more) t r s ≡ is_written pre t r s
+pub written-agrees : (b : Base) (t p : ℕ) (r : List Value) (pre more : List Entry) → IsLegal b (pre ++ more) → IsDecided pre t p → p ≤ last_of b t pre → (s : ℕ) → s ≤ p → is_row_written (pre ++ more) t r s ≡ is_row_written pre t r s
 written-agrees b t p r pre more legal decided low s le =
     elim (batch_of t s pre) as (λ o. batch_of t s pre ≡ o → is_written_in (batch_of t s (pre ++ more)) r ≡ is_written_in o r) [
       | None ↦ λ none. ap (λ (o : Option Batch). is_written_in o r) (gone-stays b t s pre more legal none (omega arith))
@@ -177,8 +177,8 @@ begun-above b t r pre (e ∷ more) legal =
 -- the states at a decided point stay, of a table whose number was drawn
 pub state-stays : (b : Base) (t : ℕ) (r : List Value) (p : ℕ) (pre more : List Entry) → IsLegal b (pre ++ more) → IsDecided pre t p → p ≤ last_of b t pre → t < (catalogue_of b pre).next → state_of b (pre ++ more) t r p ≡ state_of b pre t r p
 state-stays b t r p pre more legal decided low drawn =
-    let q : Dated → Bool = λ d. is_written pre t r d.stamp in
-    let q' : Dated → Bool = λ d. is_written (pre ++ more) t r d.stamp in
+    let q : Dated → Bool = λ d. is_row_written pre t r d.stamp in
+    let q' : Dated → Bool = λ d. is_row_written (pre ++ more) t r d.stamp in
     let v = b.state t r p in
     let shape = shape_of b pre t in
     ap (λ (x : Shape). applied x r p v (written (pre ++ more) t r)) (shape-stays b t pre more legal drawn)

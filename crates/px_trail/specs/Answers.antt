@@ -44,18 +44,18 @@ AreInOrder q [] = Unit {0}
 AreInOrder q (x ∷ xs) = ((y : Given) → IsAmong y xs → (q.before y.row x.row ≡ false) × (q.path_key y.row ≡ q.path_key x.row → ⊥)) × AreInOrder q xs
 
 -- LIMIT rows were given, and the row doesn't come before the last of them
-pub record IsCut (q : Asked) (xs : List Given) (row : List Value) : Type 0 where
+pub record IsCutByLimit (q : Asked) (xs : List Given) (row : List Value) : Type 0 where
   pub limit : ℕ
   pub is : q.limit ≡ Some limit
   pub full : limit ≤ length xs
   pub behind : (x : Given) → IsAmong x xs → q.before row x.row ≡ false
 
-abbrev pub IsWithin : Option ℕ → ℕ → Type 0
-IsWithin None n = Unit {0}
-IsWithin (Some limit) n = n ≤ limit
+abbrev pub IsWithinLimit : Option ℕ → ℕ → Type 0
+IsWithinLimit None n = Unit {0}
+IsWithinLimit (Some limit) n = n ≤ limit
 
 -- a row with these named values is given
-pub record IsGiven (q : Asked) (xs : List Given) (row : List Value) : Type 0 where
+pub record IsRowGiven (q : Asked) (xs : List Given) (row : List Value) : Type 0 where
   pub given : Given
   pub among : IsAmong given xs
   pub same : q.named given.row ≡ q.named row
@@ -65,12 +65,12 @@ pub record IsGiven (q : Asked) (xs : List Given) (row : List Value) : Type 0 whe
 pub record IsCurrent (b : Base) (es : List Entry) (q : Asked) (first last : ℕ) (xs : List Given) : Type 0 where
   pub held : (x : Given) → IsAmong x xs → (first ≤ x.at) × (x.at ≤ last) × HeldNow b es q.table x.row x.at × (q.meets x.row ≡ true)
   pub ordered : AreInOrder q xs
-  pub within : IsWithin q.limit (length xs)
-  pub whole : (row : List Value) → StoodNow b es q.table row first last → q.meets row ≡ true → IsGiven q xs row ⊎ IsCut q xs row
+  pub within : IsWithinLimit q.limit (length xs)
+  pub whole : (row : List Value) → StoodNow b es q.table row first last → q.meets row ≡ true → IsRowGiven q xs row ⊎ IsCutByLimit q xs row
 
 -- exactly the rows at a point that meet the condition, in order, up to LIMIT
 pub record IsExact (b : Base) (es : List Entry) (q : Asked) (p : ℕ) (xs : List Given) : Type 0 where
   pub held : (x : Given) → IsAmong x xs → (state_of b es q.table (key_in (shape_of b es q.table) x.row) p ≡ Some x.row) × (q.meets x.row ≡ true)
   pub ordered : AreInOrder q xs
-  pub within : IsWithin q.limit (length xs)
-  pub whole : (row : List Value) → state_of b es q.table (key_in (shape_of b es q.table) row) p ≡ Some row → q.meets row ≡ true → IsGiven q xs row ⊎ IsCut q xs row
+  pub within : IsWithinLimit q.limit (length xs)
+  pub whole : (row : List Value) → state_of b es q.table (key_in (shape_of b es q.table) row) p ≡ Some row → q.meets row ≡ true → IsRowGiven q xs row ⊎ IsCutByLimit q xs row

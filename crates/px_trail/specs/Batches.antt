@@ -87,7 +87,7 @@ abbrev pub phase_of : Batch → BatchPhase
 phase_of b = if b.ended then Over else phase_after b.phase (unwritten b)
 
 -- the trail has a batch of this seat, table and stamp, in this phase
-pub record IsIn (es : List Entry) (seat t s : ℕ) (p : BatchPhase) : Type 0 where
+pub record IsBatchIn (es : List Entry) (seat t s : ℕ) (p : BatchPhase) : Type 0 where
   pub batch : Batch
   pub is : batch_of t s es ≡ Some batch
   pub mine : batch.seat ≡ seat

@@ -7,8 +7,8 @@ use Rattle.px_tables.specs.declared.index.IndexState.TheVariants.{Building, Acti
 use Rattle.px_trail.specs.declared.entry.Act.{Act}
 use Rattle.px_trail.specs.declared.entry.Act.TheVariants.{Made, IndexMade, IndexState, Dropped, Begun, Phase, Wrote, Ended, Opened, Released, Raised, Fixed, Based, Missed, Shut}
 use Rattle.px_trail.specs.declared.entry.Entry.{Entry}
-use Rattle.px_trail.specs.Batches.{Batch, BatchPhase, Marking, Writing, Verifying, Closing, IsIn, IsPending, IsDecided, batch_of, has, is_distinct, phase_of, rows_of, unwritten}
-use Rattle.px_trail.specs.Trail.{Base, Catalogue, IsFree, calls_of, catalogue_of, closing_call, horizon_of, index_of, last_of, missed_call, open_points, table_of}
+use Rattle.px_trail.specs.Batches.{Batch, BatchPhase, Marking, Writing, Verifying, Closing, IsBatchIn, IsPending, IsDecided, batch_of, has, is_distinct, phase_of, rows_of, unwritten}
+use Rattle.px_trail.specs.Trail.{Base, Catalogue, IsFreeName, calls_of, catalogue_of, closing_call, horizon_of, index_of, last_of, missed_call, open_points, table_of}
 
 -- 1. What stands
 
@@ -41,11 +41,11 @@ pub record IsWritable (es : List Entry) (seat t s : ℕ) (rows : List (List Valu
 
 -- the first phase is done before all writes, the third after them
 abbrev pub IsPhased : List Entry → ℕ → ℕ → ℕ → ℕ → Type 0
-IsPhased es seat t s phase = ((phase ≡ 1) × IsIn es seat t s Marking) ⊎ ((phase ≡ 3) × IsIn es seat t s Verifying)
+IsPhased es seat t s phase = ((phase ≡ 1) × IsBatchIn es seat t s Marking) ⊎ ((phase ≡ 3) × IsBatchIn es seat t s Verifying)
 
 -- a batch ends behind its third phase, or where the server is closed once all its rows are written
 abbrev pub IsEndable : List Entry → ℕ → ℕ → ℕ → Type 0
-IsEndable es seat t s = IsIn es seat t s Closing ⊎ ((closing_call es ≢ None) × IsIn es seat t s Verifying)
+IsEndable es seat t s = IsBatchIn es seat t s Closing ⊎ ((closing_call es ≢ None) × IsBatchIn es seat t s Verifying)
 
 -- 3. Horizons
 
@@ -70,8 +70,8 @@ MayState b es t i Disabled s = ((x : Index) → index_of b es i ≡ Some x → s
 
 -- which act may come after these entries, of which seat and with how many device calls before it
 unfoldable pub Follows : Base → List Entry → ℕ → ℕ → Act → Type 0
-Follows b es seat calls (Made t what) = (t.0 ≡ (catalogue_of b es).next + length what.least_keys) × IsFree (catalogue_of b es) what.name
-Follows b es seat calls (IndexMade t i s what) = (i.0 ≡ (catalogue_of b es).next + 1) × IsFree (catalogue_of b es) what.name × IsSome (table_of b es t.0) × (what.table ≡ t) × (last_of b t.0 es < s)
+Follows b es seat calls (Made t what) = (t.0 ≡ (catalogue_of b es).next + length what.least_keys) × IsFreeName (catalogue_of b es) what.name
+Follows b es seat calls (IndexMade t i s what) = (i.0 ≡ (catalogue_of b es).next + 1) × IsFreeName (catalogue_of b es) what.name × IsSome (table_of b es t.0) × (what.table ≡ t) × (last_of b t.0 es < s)
 Follows b es seat calls (IndexState t i state s) = IsOf b es t.0 i.0 × MayState b es t.0 i.0 state s
 Follows b es seat calls (Dropped t None) = IsSome (table_of b es t.0) × IsQuiet es t.0
 Follows b es seat calls (Dropped t (Some i)) = IsOf b es t.0 i.0 × IsQuiet es t.0

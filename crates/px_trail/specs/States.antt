@@ -39,12 +39,12 @@ is_written_in None r = false
 is_written_in (Some b) r = has b.written r
 
 -- the row of that batch was written
-abbrev pub is_written : List Entry → ℕ → List Value → ℕ → Bool
-is_written es t r s = is_written_in (batch_of t s es) r
+abbrev pub is_row_written : List Entry → ℕ → List Value → ℕ → Bool
+is_row_written es t r s = is_written_in (batch_of t s es) r
 
 -- and those of them that were written
 abbrev pub written : List Entry → ℕ → List Value → List Dated
-written es t r = filter (λ d. is_written es t r d.stamp) (begun t r es)
+written es t r = filter (λ d. is_row_written es t r d.stamp) (begun t r es)
 
 -- the changes stand in the order of their stamps
 abbrev pub IsRising : List Dated → Type 0

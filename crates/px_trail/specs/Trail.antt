@@ -50,13 +50,13 @@ abbrev pub set_number : {A : Type 0} → ℕ → A → (ℕ → A) → ℕ → A
 set_number n v f = λ m. if n == m then v else f m
 
 -- regions with these least keys, numbered from n on
-unfoldable pub numbered : ℕ → List (List ℕ) → List TableRegion
-numbered n [] = []
-numbered n (k ∷ keys) = record { number = n; least_key = k } ∷ numbered (n + 1) keys
+unfoldable pub numbered_regions : ℕ → List (List ℕ) → List TableRegion
+numbered_regions n [] = []
+numbered_regions n (k ∷ keys) = record { number = n; least_key = k } ∷ numbered_regions (n + 1) keys
 
 -- a table takes a number for each of its regions, and then its own
 abbrev pub made_table : ℕ → TableId → NewTable → Table
-made_table n id what = record { id = id; name = what.name; columns = what.columns; key = what.key; regions = numbered n what.least_keys }
+made_table n id what = record { id = id; name = what.name; columns = what.columns; key = what.key; regions = numbered_regions n what.least_keys }
 
 -- an index takes a number for its region, and then its own
 abbrev pub made_index : ℕ → IndexId → ℕ → NewIndex → Index
@@ -111,7 +111,7 @@ abbrev pub index_of : Base → List Entry → ℕ → Option Index
 index_of b es i = (catalogue_of b es).indexes i
 
 -- no table and no index has the name
-pub record IsFree (c : Catalogue) (name : List ℕ) : Type 0 where
+pub record IsFreeName (c : Catalogue) (name : List ℕ) : Type 0 where
   pub tables : (t : ℕ) (x : Table) → c.tables t ≡ Some x → x.name ≢ name
   pub indexes : (i : ℕ) (x : Index) → c.indexes i ≡ Some x → x.name ≢ name
 

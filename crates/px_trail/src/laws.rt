@@ -7,7 +7,7 @@ ghost use Rattle.px_values.specs.declared.name.TableId.{TableId as TableNumber};
 ghost use Rattle.px_values.specs.States.{apply};
 ghost use Rattle.px_trail.specs.declared.entry.Entry.{Entry as Entries};
 ghost use Rattle.px_trail.specs.declared.entry.Act.TheVariants.{Begun, Phase, Wrote, Ended};
-ghost use Rattle.px_trail.specs.Batches.{Batch, BatchPhase, IsIn, IsDecided, IsSoundOption, Marking, Writing, Verifying, Closing, Over, acknowledged, acknowledged_by, batch_of, batch_step, change_of, has, unwritten};
+ghost use Rattle.px_trail.specs.Batches.{Batch, BatchPhase, IsBatchIn, IsDecided, IsSoundOption, Marking, Writing, Verifying, Closing, Over, acknowledged, acknowledged_by, batch_of, batch_step, change_of, has, unwritten};
 ghost use Rattle.px_trail.specs.Trail.{Base, IsCatalogue, acts_by, base_catalogue, calls_of, catalogue_of, catalogue_step, closing_call, closing_step, horizon_of, horizon_step, last_of, last_step, open_points, points_step, shape_of, shape_step};
 ghost use Rattle.px_trail.specs.Legal.{IsEndable, IsLegal, IsWritable, MayCome};
 ghost use Rattle.px_trail.specs.States.{Dated, IsRising, begun, begun_by, state_of, written};
@@ -45,17 +45,17 @@ pub fn law_stands()
 pub fn law_phases()
     ensures sound { (b : Base) → (t : ℕ) → (s : ℕ) → (es : List Entries) → IsLegal b es → IsSoundOption (batch_of t s es) }
     ensures fresh { (b : Base) → (t : ℕ) → (s : ℕ) → (es : List Entries) → last_of b t es < s → batch_of t s es ≡ None }
-    ensures begins { (b : Base) → (es : List Entries) → (seat : ℕ) → (calls : ℕ) → (t : TableNumber) → (s : ℕ) → (cs : List RowChange) → last_of b t.0 es < s → IsIn (es ++ record { seat = seat; calls = calls; act = Begun t s cs } ∷ []) seat t.0 s Marking }
-    ensures marks { (b : Base) → (es : List Entries) → (seat : ℕ) → (calls : ℕ) → (t : TableNumber) → (s : ℕ) → IsLegal b es → IsIn es seat t.0 s Marking → IsIn (es ++ record { seat = seat; calls = calls; act = Phase t s 1 } ∷ []) seat t.0 s Writing }
-    ensures writes_some { (es : List Entries) → (seat : ℕ) → (calls : ℕ) → (t : TableNumber) → (s : ℕ) → (rows : List (List ColumnValue)) → (f : IsWritable es seat t.0 s rows) → unwritten (record f.batch { written = f.batch.written ++ rows }) ≢ [] → IsIn (es ++ record { seat = seat; calls = calls; act = Wrote t s rows } ∷ []) seat t.0 s Writing }
-    ensures writes_all { (es : List Entries) → (seat : ℕ) → (calls : ℕ) → (t : TableNumber) → (s : ℕ) → (rows : List (List ColumnValue)) → (f : IsWritable es seat t.0 s rows) → unwritten (record f.batch { written = f.batch.written ++ rows }) ≡ [] → IsIn (es ++ record { seat = seat; calls = calls; act = Wrote t s rows } ∷ []) seat t.0 s Verifying }
-    ensures verifies { (es : List Entries) → (seat : ℕ) → (calls : ℕ) → (t : TableNumber) → (s : ℕ) → IsIn es seat t.0 s Verifying → IsIn (es ++ record { seat = seat; calls = calls; act = Phase t s 3 } ∷ []) seat t.0 s Closing }
-    ensures ends { (es : List Entries) → (seat : ℕ) → (calls : ℕ) → (t : TableNumber) → (s : ℕ) → IsEndable es seat t.0 s → IsIn (es ++ record { seat = seat; calls = calls; act = Ended t s } ∷ []) seat t.0 s Over }
+    ensures begins { (b : Base) → (es : List Entries) → (seat : ℕ) → (calls : ℕ) → (t : TableNumber) → (s : ℕ) → (cs : List RowChange) → last_of b t.0 es < s → IsBatchIn (es ++ record { seat = seat; calls = calls; act = Begun t s cs } ∷ []) seat t.0 s Marking }
+    ensures marks { (b : Base) → (es : List Entries) → (seat : ℕ) → (calls : ℕ) → (t : TableNumber) → (s : ℕ) → IsLegal b es → IsBatchIn es seat t.0 s Marking → IsBatchIn (es ++ record { seat = seat; calls = calls; act = Phase t s 1 } ∷ []) seat t.0 s Writing }
+    ensures writes_some { (es : List Entries) → (seat : ℕ) → (calls : ℕ) → (t : TableNumber) → (s : ℕ) → (rows : List (List ColumnValue)) → (f : IsWritable es seat t.0 s rows) → unwritten (record f.batch { written = f.batch.written ++ rows }) ≢ [] → IsBatchIn (es ++ record { seat = seat; calls = calls; act = Wrote t s rows } ∷ []) seat t.0 s Writing }
+    ensures writes_all { (es : List Entries) → (seat : ℕ) → (calls : ℕ) → (t : TableNumber) → (s : ℕ) → (rows : List (List ColumnValue)) → (f : IsWritable es seat t.0 s rows) → unwritten (record f.batch { written = f.batch.written ++ rows }) ≡ [] → IsBatchIn (es ++ record { seat = seat; calls = calls; act = Wrote t s rows } ∷ []) seat t.0 s Verifying }
+    ensures verifies { (es : List Entries) → (seat : ℕ) → (calls : ℕ) → (t : TableNumber) → (s : ℕ) → IsBatchIn es seat t.0 s Verifying → IsBatchIn (es ++ record { seat = seat; calls = calls; act = Phase t s 3 } ∷ []) seat t.0 s Closing }
+    ensures ends { (es : List Entries) → (seat : ℕ) → (calls : ℕ) → (t : TableNumber) → (s : ℕ) → IsEndable es seat t.0 s → IsBatchIn (es ++ record { seat = seat; calls = calls; act = Ended t s } ∷ []) seat t.0 s Over }
 {}
 
 /// What is true of a seat's batches and points stays true under legal entries of other seats.
 pub fn law_others()
-    ensures batches { (b : Base) → (es : List Entries) → (others : List Entries) → (seat : ℕ) → (t : ℕ) → (s : ℕ) → (p : BatchPhase) → IsLegal b (es ++ others) → acts_by seat others ≡ [] → IsIn es seat t s p → IsIn (es ++ others) seat t s p }
+    ensures batches { (b : Base) → (es : List Entries) → (others : List Entries) → (seat : ℕ) → (t : ℕ) → (s : ℕ) → (p : BatchPhase) → IsLegal b (es ++ others) → acts_by seat others ≡ [] → IsBatchIn es seat t s p → IsBatchIn (es ++ others) seat t s p }
     ensures points { (seat : ℕ) → (t : ℕ) → (s : ℕ) → (es : List Entries) → (others : List Entries) → acts_by seat others ≡ [] → open_points seat t s (es ++ others) ≡ open_points seat t s es }
 {}
 

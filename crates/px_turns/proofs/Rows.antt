@@ -4,7 +4,7 @@ use Rattle.std.specs.Prelude.{nat_eq, if◌then◌else◌, slice_index}
 use Rattle.std.proofs.Math.Seq.{take-append_seam, take-length}
 use Rattle.std.specs.Cmp.Lexicographic.{pointwise, bytes_decides}
 use Rattle.std.proofs.lemmas.Bool.{cases_Bool, cases_eq, ne_eqb, eq-eqb, cond-true, cond-false}
-use Rattle.px_turns.specs.Turns.{Ascends, IsKept, IsUpTo, at_stamp, first_dropped, last_dropped, rows_added, rows_dropped, stamp_added}
+use Rattle.px_turns.specs.Turns.{IsKept, IsMarkedUpTo, NeverFalls, at_stamp, first_dropped, last_dropped, rows_added, rows_dropped, stamp_added}
 
 -- 1. The first row, and the others
 
@@ -78,7 +78,7 @@ under_push n s xs le u i l = elim (cases_eq i (length xs)) [
       let q = at_push xs s i m in let r = u i m in omega arith)
 ]
 
-rises_push : (n s : ℕ) (xs : List ℕ) → n ≤ s → IsUnder n xs → Ascends xs → Ascends (xs ++ s ∷ [])
+rises_push : (n s : ℕ) (xs : List ℕ) → n ≤ s → IsUnder n xs → NeverFalls xs → NeverFalls (xs ++ s ∷ [])
 rises_push n s xs le u a i j l m = elim (cases_eq j (length xs)) [
   | inl e ↦
       (let q = ap (slice_index (xs ++ s ∷ [])) e in let r = at_end xs s in
@@ -98,13 +98,13 @@ under_drop : (n : ℕ) (xs : List ℕ) → IsUnder n xs → IsUnder n (drop 1 xs
 under_drop n [] u i l = absurd (omega arith)
 under_drop n (x ∷ xs) u i l = u (suc i) (omega arith)
 
-rises_drop : (xs : List ℕ) → Ascends xs → Ascends (drop 1 xs)
+rises_drop : (xs : List ℕ) → NeverFalls xs → NeverFalls (drop 1 xs)
 rises_drop [] a i j l m = absurd (omega arith)
 rises_drop (x ∷ xs) a i j l m = a (suc i) (suc j) (omega arith) (omega arith)
 
 -- the fact of one row
 abbrev Row : ℕ → List ℕ → Type 0
-Row n xs = Ascends xs × IsUnder n xs
+Row n xs = NeverFalls xs × IsUnder n xs
 
 if_row : (c : Bool) (n : ℕ) (xs ys : List ℕ) → Row n xs → Row n ys → Row n (if c then xs else ys)
 if_row true n xs ys a b = a
@@ -137,13 +137,13 @@ same_kept n f g same k r = subst (Row n) (sym (same r)) (k r)
 
 -- 4. Marks of stamps
 
-pub up_more : (n s : ℕ) (f : ℕ → Bool) → n ≤ s → IsUpTo n f → IsUpTo s f
+pub up_more : (n s : ℕ) (f : ℕ → Bool) → n ≤ s → IsMarkedUpTo n f → IsMarkedUpTo s f
 up_more n s f le u v l = u v (omega arith)
 
-pub up_added : (n s : ℕ) (f g : ℕ → Bool) → n < s → IsUpTo n f → ((u : ℕ) → g u ≡ at_stamp s true f u) → IsUpTo s g
+pub up_added : (n s : ℕ) (f g : ℕ → Bool) → n < s → IsMarkedUpTo n f → ((u : ℕ) → g u ≡ at_stamp s true f u) → IsMarkedUpTo s g
 up_added n s f g l u same v m = same v ∙ (cond-false (nat_eq s v) true (f v) (ne_eqb s v (λ e. absurd (omega arith))) ∙ u v (omega arith))
 
-pub up_back : (n s : ℕ) (f g h : ℕ → Bool) → n < s → IsUpTo n f → ((u : ℕ) → g u ≡ at_stamp s true f u) → ((u : ℕ) → h u ≡ at_stamp s false g u) → IsUpTo n h
+pub up_back : (n s : ℕ) (f g h : ℕ → Bool) → n < s → IsMarkedUpTo n f → ((u : ℕ) → g u ≡ at_stamp s true f u) → ((u : ℕ) → h u ≡ at_stamp s false g u) → IsMarkedUpTo n h
 up_back n s f g h l u same back v m = back v ∙ elim (cases_eq s v) [
   | inl e ↦ cond-true (nat_eq s v) false (g v) (eq-eqb s v e)
   | inr e ↦ cond-false (nat_eq s v) false (g v) (ne_eqb s v e) ∙ (same v ∙ (cond-false (nat_eq s v) true (f v) (ne_eqb s v e) ∙ u v m))

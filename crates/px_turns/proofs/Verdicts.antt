@@ -2,7 +2,7 @@
 use Rattle.std.proofs.Common.{◌≡◌, ℕ, zero, suc, ◌<◌, ◌≤◌, Option, None, Some, List, [], ◌∷◌, length, get_or, drop, refl, sym, ap, subst, arith, ◌⊎◌, inl, inr}
 use Rattle.std.specs.Prelude.{nat_lt, if◌then◌else◌, slice_index, slice_get}
 use Rattle.std.proofs.lemmas.Bool.{cases_lt, cond-true, cond-false, lt-ltb, le-ltb}
-use Rattle.px_turns.specs.Turns.{Ascends, IsBlocked, IsFree, IsIn, IsVerdict, earliest_of}
+use Rattle.px_turns.specs.Turns.{IsBlockedBy, IsFree, IsIn, IsVerdict, NeverFalls, earliest_of}
 
 in_index : (s : ℕ) (xs : List ℕ) → IsIn s xs → (i : ℕ) × ((i < length xs) × (slice_index xs i ≡ s))
 unfolding IsIn
@@ -11,7 +11,7 @@ in_index s (x ∷ xs) (inl e) = (0, (omega arith, e))
 in_index s (x ∷ xs) (inr h) = (let z = in_index s xs h in (suc z.0, ((let l = z.1.0 in omega arith), z.1.1)))
 
 -- the first is the least
-first_least : (a : ℕ) (xs : List ℕ) → Ascends (a ∷ xs) → (s : ℕ) → IsIn s (a ∷ xs) → a ≤ s
+first_least : (a : ℕ) (xs : List ℕ) → NeverFalls (a ∷ xs) → (s : ℕ) → IsIn s (a ∷ xs) → a ≤ s
 first_least a xs asc s h = by (in_index s (a ∷ xs) h)
   where
     by : (i : ℕ) × ((i < length (a ∷ xs)) × (slice_index (a ∷ xs) i ≡ s)) → a ≤ s
@@ -47,7 +47,7 @@ module _ (f : List ℕ → List ℕ) (stamp : ℕ) (x : List ℕ) (xs : List (Li
           (record { each = λ k h s i. (elim h [ inl q ↦ (let z = here_least k q s i in omega arith) | inr m ↦ v.each k m s i ]) })
     ]
 
-    some_some : (b : ℕ) → IsBlocked f stamp xs b → IsVerdict f stamp (x ∷ xs) (if nat_lt a b then Some a else Some b)
+    some_some : (b : ℕ) → IsBlockedBy f stamp xs b → IsVerdict f stamp (x ∷ xs) (if nat_lt a b then Some a else Some b)
     unfolding IsIn
     some_some b v = elim (cases_lt a b) [
       | inl l ↦ subst (λ (o : Option ℕ). IsVerdict f stamp (x ∷ xs) o) (sym (cond-true (nat_lt a b) (Some a) (Some b) (lt-ltb a b l)))
@@ -60,12 +60,12 @@ module _ (f : List ℕ → List ℕ) (stamp : ℕ) (x : List ℕ) (xs : List (Li
   some_here a i l None v = some_none a i l v
   some_here a i l (Some b) v = some_some a i l b v
 
-  verdict_more : (ys : List ℕ) → f x ≡ ys → Ascends ys → (o : Option ℕ) → IsVerdict f stamp xs o → IsVerdict f stamp (x ∷ xs) (earliest_of (slice_get ys 0) o stamp)
+  verdict_more : (ys : List ℕ) → f x ≡ ys → NeverFalls ys → (o : Option ℕ) → IsVerdict f stamp xs o → IsVerdict f stamp (x ∷ xs) (earliest_of (slice_get ys 0) o stamp)
   unfolding IsIn
   verdict_more [] e asc o v = none_here o e v
   verdict_more (a ∷ ys) e asc o v = some_here a (subst (λ (l : List ℕ). IsIn a l) (sym e) (inl refl)) (λ s i. first_least a ys asc s (subst (λ (l : List ℕ). IsIn s l) e i)) o v
 
-pub verdict_cons : (f : List ℕ → List ℕ) (stamp : ℕ) (keys : List (List ℕ)) (key : List ℕ) (o : Option ℕ) → 1 ≤ length keys → key ≡ get_or keys 0 key → Ascends (f key) → IsVerdict f stamp (drop 1 keys) o → IsVerdict f stamp keys (earliest_of (slice_get (f key) 0) o stamp)
+pub verdict_cons : (f : List ℕ → List ℕ) (stamp : ℕ) (keys : List (List ℕ)) (key : List ℕ) (o : Option ℕ) → 1 ≤ length keys → key ≡ get_or keys 0 key → NeverFalls (f key) → IsVerdict f stamp (drop 1 keys) o → IsVerdict f stamp keys (earliest_of (slice_get (f key) 0) o stamp)
 verdict_cons f stamp [] key o l e asc v = absurd (omega arith)
 verdict_cons f stamp (x ∷ xs) key o l e asc v = verdict_more f stamp x xs (f key) (ap f (sym e)) asc o v
 

@@ -38,8 +38,8 @@ greatest_stamp = 9223372036854775807
 abbrev pub drawn_at : ℕ → Option ℕ
 drawn_at n = if nat_le n greatest_stamp then Some n else None
 
-abbrev pub drawn : ℕ → ℕ → Option ℕ
-drawn last clock = drawn_at (max (last + 1) (min clock 4611686018427387904))
+abbrev pub drawn_stamp : ℕ → ℕ → Option ℕ
+drawn_stamp last clock = drawn_at (max (last + 1) (min clock 4611686018427387904))
 
 -- the greatest of the numbers, or 0
 abbrev pub greatest : List ℕ → ℕ
@@ -66,7 +66,7 @@ pub record IsFree (f : List ℕ → List ℕ) (stamp : ℕ) (keys : List (List �
   pub each : (k : List ℕ) → IsIn k keys → (s : ℕ) → IsIn s (f k) → stamp ≤ s
 
 -- the batch of the stamp b is the earliest of those with an earlier stamp that are to write one of the rows
-pub record IsBlocked (f : List ℕ → List ℕ) (stamp : ℕ) (keys : List (List ℕ)) (b : ℕ) : Type 0 where
+pub record IsBlockedBy (f : List ℕ → List ℕ) (stamp : ℕ) (keys : List (List ℕ)) (b : ℕ) : Type 0 where
   pub earlier : b < stamp
   pub key : List ℕ
   pub among : IsIn key keys
@@ -74,7 +74,7 @@ pub record IsBlocked (f : List ℕ → List ℕ) (stamp : ℕ) (keys : List (Lis
   pub least : (k : List ℕ) → IsIn k keys → (s : ℕ) → IsIn s (f k) → b ≤ s
 
 -- the horizon may be as high as h: not above what is looked back on, below each unclosed batch, at most at each open point
-pub record IsAllowed (t : Turning) (lookback h : ℕ) : Type 0 where
+pub record IsAllowedHorizon (t : Turning) (lookback h : ℕ) : Type 0 where
   pub back : h ≤ t.last - lookback
   pub unclosed : (s : ℕ) → t.unclosed s ≡ true → h < s
   pub points : (s : ℕ) → 0 < t.points s → h ≤ s
@@ -82,24 +82,24 @@ pub record IsAllowed (t : Turning) (lookback h : ℕ) : Type 0 where
 -- h is the greater of the horizon and the greatest number that is allowed
 pub record IsRaise (t : Turning) (lookback h : ℕ) : Type 0 where
   pub stays : t.horizon ≤ h
-  pub allowed : (h ≡ t.horizon) ⊎ IsAllowed t lookback h
-  pub greatest : (h' : ℕ) → IsAllowed t lookback h' → h' ≤ h
+  pub allowed : (h ≡ t.horizon) ⊎ IsAllowedHorizon t lookback h
+  pub greatest : (h' : ℕ) → IsAllowedHorizon t lookback h' → h' ≤ h
 
 -- none of the numbers is above a later one
-abbrev pub Ascends : List ℕ → Type 0
-Ascends xs = (i j : ℕ) → i < j → j < length xs → slice_index xs i ≤ slice_index xs j
+abbrev pub NeverFalls : List ℕ → Type 0
+NeverFalls xs = (i j : ℕ) → i < j → j < length xs → slice_index xs i ≤ slice_index xs j
 
 -- of each row the stamps rise, and are at most the last
 abbrev pub IsKept : ℕ → (List ℕ → List ℕ) → Type 0
-IsKept last f = (k : List ℕ) → Ascends (f k) × ((i : ℕ) → i < length (f k) → slice_index (f k) i ≤ last)
+IsKept last f = (k : List ℕ) → NeverFalls (f k) × ((i : ℕ) → i < length (f k) → slice_index (f k) i ≤ last)
 
 -- no stamp above the last is marked
-abbrev pub IsUpTo : ℕ → (ℕ → Bool) → Type 0
-IsUpTo last f = (s : ℕ) → last < s → f s ≡ false
+abbrev pub IsMarkedUpTo : ℕ → (ℕ → Bool) → Type 0
+IsMarkedUpTo last f = (s : ℕ) → last < s → f s ≡ false
 
 -- a batch begins, which is to write these rows
-abbrev pub begun : ℕ → List (List ℕ) → Turning → Turning
-begun stamp keys t = record t { last = stamp; pending = rows_added keys stamp t.pending; undecided = at_stamp stamp true t.undecided; unclosed = at_stamp stamp true t.unclosed }
+abbrev pub batch_began : ℕ → List (List ℕ) → Turning → Turning
+batch_began stamp keys t = record t { last = stamp; pending = rows_added keys stamp t.pending; undecided = at_stamp stamp true t.undecided; unclosed = at_stamp stamp true t.unclosed }
 
 -- the first of the batches that are to write these rows has done so
 abbrev pub wrote : List (List ℕ) → Turning → Turning
@@ -135,7 +135,7 @@ fresh last horizon = record { last = last; horizon = horizon; pending = λ k. []
 -- what the batch of the stamp, if there is one, says of whether rows may be written
 abbrev pub IsVerdict : (List ℕ → List ℕ) → ℕ → List (List ℕ) → Option ℕ → Type 0
 IsVerdict f stamp keys None = IsFree f stamp keys
-IsVerdict f stamp keys (Some b) = IsBlocked f stamp keys b
+IsVerdict f stamp keys (Some b) = IsBlockedBy f stamp keys b
 
 -- the lesser of a stamp below this one and another batch's
 abbrev pub earliest_of : Option ℕ → Option ℕ → ℕ → Option ℕ

@@ -3,7 +3,7 @@ ghost use Rattle.std.specs.Prelude.{◌≡◌, ℕ, Some};
 ghost use Rattle.std.specs.Ordering.{nat_cmp};
 ghost use Rattle.std.specs.BTreeMap.{get};
 ghost use Rattle.std.specs.BTreeSet.{contains};
-ghost use Rattle.px_turns.specs.Turns.{IsKept, IsUpTo};
+ghost use Rattle.px_turns.specs.Turns.{IsKept, IsMarkedUpTo};
 ghost use Rattle.px_turns.specs.inner.Found.{found};
 
 use std::alloc::Global;
@@ -40,6 +40,6 @@ pub struct Turns {
     pub(crate) batches: Batches,
     pub(crate) points: OpenPoints,
     pub ghost kept: { IsKept last (found pending.rows) },
-    pub ghost undecided_up: { IsUpTo last (contains nat_cmp batches.undecided) },
-    pub ghost unclosed_up: { IsUpTo last (contains nat_cmp batches.unclosed) },
+    pub ghost undecided_up: { IsMarkedUpTo last (contains nat_cmp batches.undecided) },
+    pub ghost unclosed_up: { IsMarkedUpTo last (contains nat_cmp batches.unclosed) },
 }

@@ -1,6 +1,6 @@
 //! Which stamp is drawn, and which was the last before.
 ghost use Rattle.std.specs.Prelude.{◌≡◌, max};
-ghost use Rattle.px_turns.specs.Turns.{drawn, greatest};
+ghost use Rattle.px_turns.specs.Turns.{drawn_stamp, greatest};
 
 /// The greatest stamp.
 const MOST: u64 = 9_223_372_036_854_775_807;
@@ -10,7 +10,7 @@ const LATEST: u64 = 4_611_686_018_427_387_904;
 
 /// The stamp that is drawn behind the last one while the clock shows this; None where no stamp is left.
 pub fn next_stamp(last: u64, clock: u64) -> Option<u64>
-    ensures { result ≡ drawn last clock }
+    ensures { result ≡ drawn_stamp last clock }
 {
     let shown = clock.min(LATEST);
     if shown > last {

@@ -1,6 +1,6 @@
 //! The turns of a table.
 ghost use Rattle.std.specs.Prelude.{◌≡◌, ◌<◌, ◌≤◌, ◌+◌, ◌-◌, ◌∷◌, ◌++◌, [], ℕ, List, true, false, OnOk, OnErr, IfOk, IfErr, IfSome, IfNone, Some};
-ghost use Rattle.px_turns.specs.Turns.{Turning, IsBlocked, IsFree, IsRaise, IsVerdict, begun, wrote, decided, ended, opened, released, fresh, rows_added, rows_dropped, last_dropped, Ascends, earliest_of, drew, raised, IsLeastTo, least_to, before, lowered};
+ghost use Rattle.px_turns.specs.Turns.{Turning, IsBlockedBy, IsFree, IsRaise, IsVerdict, batch_began, wrote, decided, ended, opened, released, fresh, rows_added, rows_dropped, last_dropped, NeverFalls, earliest_of, drew, raised, IsLeastTo, least_to, before, lowered};
 ghost use Rattle.px_turns.specs.inner.Pending.{turning_of, stamps_at};
 
 use crate::parts::{Batches, OpenPoints, PendingRows, Turns};
@@ -46,7 +46,7 @@ impl PendingRows {
 
     /// The earliest batch with a stamp below this one that is to write one of these rows.
     fn blocker(&self, stamp: u64, keys: &[Key]) -> Option<u64>
-        requires { (k : List ℕ) → Ascends (stamps_at self.now k) }
+        requires { (k : List ℕ) → NeverFalls (stamps_at self.now k) }
         ensures { IsVerdict (stamps_at self.now) stamp keys.now result }
     {
         let [key, rest @ ..] = keys else {
@@ -99,7 +99,7 @@ impl Turns {
     /// A batch begins, which is to write these rows. Want of memory leaves everything as it was.
     pub fn begin(&mut self, stamp: u64, keys: &[Key]) -> Result<(), AllocError>
         requires { (turning_of self.old).last < stamp }
-        ensures ok { OnOk result (turning_of self.new ≡ begun stamp keys.now (turning_of self.old)) }
+        ensures ok { OnOk result (turning_of self.new ≡ batch_began stamp keys.now (turning_of self.old)) }
         ensures err { OnErr result (turning_of self.new ≡ turning_of self.old) }
     {
         self.batches.open(stamp)?;
@@ -120,7 +120,7 @@ impl Turns {
     /// earliest that is.
     pub fn may_write(&self, stamp: u64, keys: &[Key]) -> Result<(), Blocker>
         ensures ok { OnOk result (IsFree (turning_of self.now).pending stamp keys.now) }
-        ensures err { IfErr result (λ b. IsBlocked (turning_of self.now).pending stamp keys.now b.stamp) }
+        ensures err { IfErr result (λ b. IsBlockedBy (turning_of self.now).pending stamp keys.now b.stamp) }
     {
         match self.pending.blocker(stamp, keys) {
             None => Ok(()),

@@ -29,8 +29,8 @@ use Rattle.px_calls.specs.Requires.{CanActivate, CanDefine, MayActivate, MayBase
 use Rattle.px_calls.proofs.Activates.{some_index}
 use Rattle.px_calls.proofs.Bases.{did_based}
 use Rattle.px_gather.proofs.Shapes.{shape-of-table}
-use Rattle.px_upkeep.specs.Rows.{AreBaseRows, ArePieces, HasLong, gathered_then}
-use Rattle.px_upkeep.specs.Turns.{AreBased, AreOwn, HasLongRow, IsBuilding, IsFoundAt, IsPiece, IsWhole, WasFound, chunk_owners, found_owners, is_read, key_at, owner_at, state_at}
+use Rattle.px_upkeep.specs.Rows.{AreBasesOf, ArePieces, HasLong, gathered_then}
+use Rattle.px_upkeep.specs.Turns.{AreBased, AreOwn, HadLongRow, IsBuilding, IsFoundAt, IsPiece, IsWhole, WasFound, chunk_owners, found_owners, is_read, key_at_point, owner_at, state_at_point}
 use Rattle.px_upkeep.proofs.Chunks.{found-among, has-behind, has-front, has-parts, owners-then, rows-all, rows-count, rows-distinct, rows-each}
 use Rattle.px_upkeep.proofs.Growing.{Grown, building-stays, core, rows-based-stay}
 
@@ -59,15 +59,15 @@ module _ (sound : Type 0) (k : Known) (t : TableId) (i : IndexId) (p : Point) (x
           guarded = h.held.is_open;
           low = (let b = c.birth in let u = c.low in omega (arith, b, u));
           decided = subst (λ (n : ℕ). IsDecided k.seen p.table.0 n) (sym c.birth) c.decided;
-          based = λ s r some. by_state s r (state_at k p r) refl (λ none. some (ap (state_of k.base k.seen p.table.0 r) c.birth ∙ none));
+          based = λ s r some. by_state s r (state_at_point k p r) refl (λ none. some (ap (state_of k.base k.seen p.table.0 r) c.birth ∙ none));
         });
       })
     where
-      by_state : sound → (r : List Value) (o : RowState) → state_at k p r ≡ o → (o ≡ None → ⊥) → is_based k.seen i.0 r ≡ true
+      by_state : sound → (r : List Value) (o : RowState) → state_at_point k p r ≡ o → (o ≡ None → ⊥) → is_based k.seen i.0 r ≡ true
       by_state s r None is some = absurd (some refl)
       by_state s r (Some row) is some =
           let e = own s r row is in
-          elim (based s row (ap (state_at k p) e ∙ is) refl) [
+          elim (based s row (ap (state_at_point k p) e ∙ is) refl) [
             | inl was ↦ subst (λ (q : List Value). is_based k.seen i.0 q ≡ true) e was
             | inr among ↦ none_among r (subst (λ (q : List Value). has [] q ≡ true) e among)
           ]
@@ -77,13 +77,13 @@ module _ (sound : Type 0) (k : Known) (t : TableId) (i : IndexId) (p : Point) (x
   shape_is : shape_of k.base k.seen p.table.0 ≡ table_shape p.found.table
   shape_is = shape-of-table k.base k.seen p.table.0 p.found.table h.table_is
 
-  at_scn : (r : List Value) → row_at k.base k.seen p r ≡ state_at k p r
+  at_scn : (r : List Value) → row_at k.base k.seen p r ≡ state_at_point k p r
   at_scn r = rw h.held.scn refl
 
-  row_is : (row : List Value) → IsRowAt k.base k.seen p row → state_at k p (owner_at p row) ≡ Some row
+  row_is : (row : List Value) → IsRowAt k.base k.seen p row → state_at_point k p (owner_at p row) ≡ Some row
   row_is row a = sym (at_scn (owner_at p row)) ∙ subst (λ (s : Shape). row_at k.base k.seen p (key_in s row) ≡ Some row) shape_is a
 
-  is_row : (row : List Value) → state_at k p (owner_at p row) ≡ Some row → IsRowAt k.base k.seen p row
+  is_row : (row : List Value) → state_at_point k p (owner_at p row) ≡ Some row → IsRowAt k.base k.seen p row
   is_row row a = subst (λ (s : Shape). row_at k.base k.seen p (key_in s row) ≡ Some row) (sym shape_is) (at_scn (owner_at p row) ∙ a)
 
   never_less : (key : List ℕ) → not (key_less key []) ≡ true
@@ -108,16 +108,16 @@ module _ (sound : Type 0) (k : Known) (t : TableId) (i : IndexId) (p : Point) (x
     rows_own : ShowsRows k.base k.seen p path after fs next → AreOwn k p
     rows_own s r row is = subst (λ (sh : Shape). key_in sh row ≡ r) shape_is (s.own r row (at_scn r ∙ is))
 
-    right_row : ShowsRows k.base k.seen p path after fs next → (f : FoundRow) → IsAmong (Sure f) fs → state_at k p (owner_at p f.row) ≡ Some f.row
+    right_row : ShowsRows k.base k.seen p path after fs next → (f : FoundRow) → IsAmong (Sure f) fs → state_at_point k p (owner_at p f.row) ≡ Some f.row
     right_row s f among =
         let r = s.right f among in
         let same : f.row ≡ r.0 = ap (λ (z : FoundRow). z.row) r.2 ∙ ap (λ (z : By). Rattle.px_calls.specs.Looks.shown_by p.found z r.0) whole.by in
-        subst (λ (row : List Value). state_at k p (owner_at p row) ≡ Some row) (sym same) (row_is r.0 r.1)
+        subst (λ (row : List Value). state_at_point k p (owner_at p row) ≡ Some row) (sym same) (row_is r.0 r.1)
 
-    shown_row : ShowsRows k.base k.seen p path after fs next → (row : List Value) → state_at k p (owner_at p row) ≡ Some row → is_past after (key_at p row) ≡ true → is_covered next (key_at p row) ≡ true
+    shown_row : ShowsRows k.base k.seen p path after fs next → (row : List Value) → state_at_point k p (owner_at p row) ≡ Some row → is_past after (key_at_point p row) ≡ true → is_covered next (key_at_point p row) ≡ true
         → has (found_owners p.found.table fs) (owner_at p row) ≡ true
     shown_row s row is past covered =
-        let key : key_by p.found path.by row ≡ key_at p row = ap (λ (z : By). key_by p.found z row) whole.by in
+        let key : key_by p.found path.by row ≡ key_at_point p row = ap (λ (z : By). key_by p.found z row) whole.by in
         let given = s.whole row (is_row row is) (on_whole path whole (key_by p.found path.by row)) (ap (is_past after) key ∙ past) (ap (is_covered next) key ∙ covered) in
         elim given [
           | inl among ↦ (let f = found_by p.found path.by row in
@@ -134,7 +134,7 @@ module _ (sound : Type 0) (k : Known) (t : TableId) (i : IndexId) (p : Point) (x
         let here = found_owners p.found.table fs in
         let all = sym (owners-then p.found.table cs fs) in
         let among : has (owners ++ here) (owner_at p row) ≡ true → has (chunk_owners p.found.table (gathered_then cs fs)) (owner_at p row) ≡ true = λ h. subst (λ (l : List (List Value)). has l (owner_at p row) ≡ true) all h in
-        elim (read_or_past after (key_at p row)) [
+        elim (read_or_past after (key_at_point p row)) [
           | inl read ↦ (elim (before s row is read) [
             | inl was ↦ inl was
             | inr found ↦ inr (among (has-front owners here (owner_at p row) found))
@@ -162,12 +162,12 @@ module _ (sound : Type 0) (k : Known) (t : TableId) (i : IndexId) (p : Point) (x
 
   module _ (fs : List FoundKey) (found : IsFoundAt sound k p fs) where
     -- its rows with their keys in the index
-    pub found-piece : (rs : List BaseRow) → AreBaseRows p.found.table.columns (table_path p.found.table) (index_path p.found.table x) fs rs → IsPiece sound k p x rs
+    pub found-piece : (rs : List BaseRow) → AreBasesOf p.found.table.columns (table_path p.found.table) (index_path p.found.table x) fs rs → IsPiece sound k p x rs
     found-piece rs are = record {
       rows = record {
         each = rows-each p.found.table x fs rs are;
         distinct = rows-distinct p.found.table x found.past fs rs found.rising are;
-        there = λ s. rows-all p.found.table x (λ row. state_at k p (owner_at p row) ≡ Some row) fs rs (found.there s) are;
+        there = λ s. rows-all p.found.table x (λ row. state_at_point k p (owner_at p row) ≡ Some row) fs rs (found.there s) are;
       };
       some = λ none. found.some (no_rows fs rs (rows-count p.found.table x fs rs are) none);
       few = (let n = rows-count p.found.table x fs rs are in let m = found.few in omega (arith, n, m));
@@ -178,7 +178,7 @@ module _ (sound : Type 0) (k : Known) (t : TableId) (i : IndexId) (p : Point) (x
         no_rows (g ∷ gs) ys n none = (let m = ap length none in absurd (omega (arith, n, m)))
 
     -- a row whose key in the index is too long
-    pub found-long : (n : ℕ) → (f : WasFound n k t i p x) → HasLong (index_path p.found.table x) fs → sound → HasLongRow f.was t.0 i.0
+    pub found-long : (n : ℕ) → (f : WasFound n k t i p x) → HasLong (index_path p.found.table x) fs → sound → HadLongRow f.was t.0 i.0
     found-long n f long s =
         let row = long.found.row in
         let there : state_of f.was.base f.was.seen p.table.0 (owner_at p row) p.stamp ≡ Some row = sym (f.same (owner_at p row)) ∙ found.there s long.found long.among in

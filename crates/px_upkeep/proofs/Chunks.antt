@@ -27,7 +27,7 @@ use Rattle.px_calls.specs.declared.query.FoundRow.{FoundRow}
 use Rattle.px_calls.specs.Looks.{IsRisingFrom, key_less}
 use Rattle.px_calls.specs.Requires.{IsBaseRowOf, base_owners}
 use Rattle.px_calls.proofs.Keys.{irreflexive, transitive}
-use Rattle.px_upkeep.specs.Rows.{AreBaseRows, ArePieces, gathered_then}
+use Rattle.px_upkeep.specs.Rows.{AreBasesOf, ArePieces, gathered_then}
 use Rattle.px_upkeep.specs.Turns.{chunk_owners, found_owners, piece_owners}
 
 -- the values of a row's key in its table are those of its primary key
@@ -48,7 +48,7 @@ sure_same a b e = cc
 
 module _ (t : Table) (x : Index) where
   abbrev Are : List FoundKey → List BaseRow → Type 0
-  Are fs rs = AreBaseRows t.columns (table_path t) (index_path t x) fs rs
+  Are fs rs = AreBasesOf t.columns (table_path t) (index_path t x) fs rs
 
   pub rows-each : (fs : List FoundKey) (rs : List BaseRow) → Are fs rs → AllByRecursion (IsBaseRowOf t x) rs
   rows-each [] [] h = tt

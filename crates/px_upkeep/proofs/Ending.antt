@@ -21,7 +21,7 @@ use Rattle.px_calls.specs.declared.fault.StepFault.TheVariants as step
 use Rattle.px_calls.specs.declared.query.Point.{Point}
 use Rattle.px_calls.specs.Calls.{act_of}
 use Rattle.px_calls.specs.Causes.{definition_cause, rebuilding_cause}
-use Rattle.px_calls.specs.Known.{Adds, Known, Passes, Ran, outline}
+use Rattle.px_calls.specs.Known.{Adds, Known, Ran, TimePasses, outline}
 use Rattle.px_calls.specs.Requires.{CanDefine, MayBase}
 use Rattle.px_calls.proofs.Runs.{may-come, ran-adds}
 use Rattle.px_defining.specs.declared.define.DefineFault.{DefineFault}
@@ -38,37 +38,37 @@ use Rattle.px_upkeep.specs.declared.build.BuildState.{BuildState as BuildMachine
 use Rattle.px_upkeep.specs.declared.build.BuildState.TheVariants as s
 use Rattle.px_upkeep.specs.declared.build.Came.TheVariants as came
 use Rattle.px_upkeep.specs.declared.build.Next.TheVariants as next
-use Rattle.px_upkeep.specs.Turns.{BecameActive, FaultIs, FitsState, Follows, IsAsked, IsDefining, IsDisabling, IsHeld, LacksIndexOf, Leads, Looked, Renewed, TriesThen, WasRefused, definition_fault, first_or, next_of, opening}
+use Rattle.px_upkeep.specs.Turns.{BecameActive, BuildFaultIs, FitsState, FollowsClosing, IsAsked, IsDefinitionUnderWay, IsDisabling, IsHeld, LacksIndexOf, Leads, Looked, Renewed, TriesThen, WasRefused, fault_of_definition, first_or, next_of, opening}
 use Rattle.px_upkeep.proofs.Growing.{Grown, base-stays, grown-passes, grown-ran, held-stays}
 use Rattle.px_upkeep.proofs.Later.{active-later, asked-later, next-told, past-ran, past-same, plain, refused-later, tried, tries-still, tries-then}
 use Rattle.px_upkeep.proofs.Opening.{disabling}
 
 -- 1. A definition under way
 
-goes_on : (sound : Type 0) (x : Definition) (old new : DefineRun) (k k' : Known) → IsDefining sound x old k → new.definition ≡ old.definition → define.Fits sound old.definition new.state k' → define.IsGoing new.state → IsDefining sound x new k'
-goes_on sound x old new k k' f same fits going = (same ∙ f.0, subst (λ (y : Definition). define.Fits sound y new.state k') f.0 fits, going)
+goes_on : (sound : Type 0) (x : Definition) (old new : DefineRun) (k k' : Known) → IsDefinitionUnderWay sound x old k → new.definition ≡ old.definition → define.FitsDefinition sound old.definition new.state k' → define.IsDefinitionGoing new.state → IsDefinitionUnderWay sound x new k'
+goes_on sound x old new k k' f same fits going = (same ∙ f.0, subst (λ (y : Definition). define.FitsDefinition sound y new.state k') f.0 fits, going)
 
-pub defining-stays : (sound : Type 0) (x : Definition) (r : DefineRun) (k k' : Known) → Passes k k' → IsDefining sound x r k → IsDefining sound x r k'
+pub defining-stays : (sound : Type 0) (x : Definition) (r : DefineRun) (k k' : Known) → TimePasses k k' → IsDefinitionUnderWay sound x r k → IsDefinitionUnderWay sound x r k'
 defining-stays sound x r k k' h f = (f.0, defining.fits-kept sound x r.state k k' h f.1, f.2)
 
-new_defining : (sound : Type 0) (x : Definition) (r : DefineRun) (k : Known) → r.definition ≡ x → r.state ≡ ds.Defining → CanDefine sound k x → IsDefining sound x r k
+new_defining : (sound : Type 0) (x : Definition) (r : DefineRun) (k : Known) → r.definition ≡ x → r.state ≡ ds.Defining → CanDefine sound k x → IsDefinitionUnderWay sound x r k
 new_defining sound x r k is new can =
-    let F : DefineState → Type 0 = λ z. define.Fits sound x z k × define.IsGoing z in
+    let F : DefineState → Type 0 = λ z. define.FitsDefinition sound x z k × define.IsDefinitionGoing z in
     let f = subst F (sym new) (can, tt) in
     (is, f.0, f.1)
 
 -- 2. Faults of definitions
 
-limits : (sound : Type 0) (t i : ℕ) (which : Bound) (count : ℕ) (k : Known) → rebuilding_cause t i (step.Limit which count) k → FaultIs sound t i (why.Limit which count) k
+limits : (sound : Type 0) (t i : ℕ) (which : Bound) (count : ℕ) (k : Known) → rebuilding_cause t i (step.Limit which count) k → BuildFaultIs sound t i (why.Limit which count) k
 limits sound t i bound.Key count k h = absurd h
 limits sound t i which count k h = h
 
 module _ (sound : Type 0) (n : ℕ) (t : TableId) (i : IndexId) (k k' : Known) (now : n ≤ length k'.seen) where
   -- what tells a fault of a definition tells that of a build
   told : (x : Definition) (f : DefineFault)
-      → (definition_cause x step.NoTable k' → FaultIs sound t.0 i.0 why.NoTable k') → (definition_cause x step.NoIndex k' → FaultIs sound t.0 i.0 why.NoIndex k')
-      → ((which : Bound) (count : ℕ) → definition_cause x (step.Limit which count) k' → FaultIs sound t.0 i.0 (why.Limit which count) k')
-      → define.FaultIs x f k' → define.MadeSince n f k' → WasRefused sound n t.0 i.0 (definition_fault f) k'
+      → (definition_cause x step.NoTable k' → BuildFaultIs sound t.0 i.0 why.NoTable k') → (definition_cause x step.NoIndex k' → BuildFaultIs sound t.0 i.0 why.NoIndex k')
+      → ((which : Bound) (count : ℕ) → definition_cause x (step.Limit which count) k' → BuildFaultIs sound t.0 i.0 (why.Limit which count) k')
+      → define.DefinitionFaultIs x f k' → define.DefinitionFaultSince n f k' → WasRefused sound n t.0 i.0 (fault_of_definition f) k'
   told x fault.NoTable table index limit h m = plain sound n t.0 i.0 why.NoTable k' now (table h) tt
   told x fault.NoIndex table index limit h m = plain sound n t.0 i.0 why.NoIndex k' now (index h) tt
   told x (fault.Limit which count) table index limit h m = plain sound n t.0 i.0 (why.Limit which count) k' now (limit which count h) tt
@@ -82,13 +82,13 @@ module _ (sound : Type 0) (n : ℕ) (t : TableId) (i : IndexId) (k k' : Known) (
   lacks : Rattle.px_calls.specs.Causes.LacksIndex k' t.0 i.0 → LacksIndexOf k' t.0 i.0
   lacks h = record { table = h.0; none = λ x is number. h.1 x is }
 
-  pub active-told : (f : DefineFault) → define.FaultIs (d.Active t i) f k' → define.MadeSince n f k' → WasRefused sound n t.0 i.0 (definition_fault f) k'
+  pub active-told : (f : DefineFault) → define.DefinitionFaultIs (d.Active t i) f k' → define.DefinitionFaultSince n f k' → WasRefused sound n t.0 i.0 (fault_of_definition f) k'
   active-told f h m = told (d.Active t i) f (λ z. z) lacks (λ which count z. absurd z) h m
 
-  pub renewed-told : (f : DefineFault) → define.FaultIs (d.Rebuilding t i) f k' → define.MadeSince n f k' → WasRefused sound n t.0 i.0 (definition_fault f) k'
+  pub renewed-told : (f : DefineFault) → define.DefinitionFaultIs (d.Rebuilding t i) f k' → define.DefinitionFaultSince n f k' → WasRefused sound n t.0 i.0 (fault_of_definition f) k'
   renewed-told f h m = told (d.Rebuilding t i) f (λ z. z) lacks (λ which count z. limits sound t.0 i.0 which count k' z) h m
 
-  pub disabled-told : (f : DefineFault) → define.FaultIs (d.Disabled t i) f k' → define.MadeSince n f k' → WasRefused sound n t.0 i.0 (definition_fault f) k'
+  pub disabled-told : (f : DefineFault) → define.DefinitionFaultIs (d.Disabled t i) f k' → define.DefinitionFaultSince n f k' → WasRefused sound n t.0 i.0 (fault_of_definition f) k'
   disabled-told f h m = told (d.Disabled t i) f (λ z. z) lacks (λ which count z. absurd z) h m
 
 -- 3. The index becomes active
@@ -160,7 +160,7 @@ module _ (sound : Type 0) (n : ℕ) (t : TableId) (i : IndexId) (p : Point) (m :
       record { table = held.table; scn = held.scn; is_open = (let z = held_here.is_open in omega (arith, z, same)); legal = e.legal }
 
 module _ (sound : Type 0) (n : ℕ) (t : TableId) (i : IndexId) (own : List Act) where
-  activating_on : (p : Point) (old new : DefineRun) (k k' : Known) (acts : List Act) → FitsState sound n t i own (s.Activating p old) k → new.definition ≡ old.definition → Ran k k' acts → outline acts ≡ [] → define.Fits sound old.definition new.state k' → define.IsGoing new.state
+  activating_on : (p : Point) (old new : DefineRun) (k k' : Known) (acts : List Act) → FitsState sound n t i own (s.Activating p old) k → new.definition ≡ old.definition → Ran k k' acts → outline acts ≡ [] → define.FitsDefinition sound old.definition new.state k' → define.IsDefinitionGoing new.state
       → FitsState sound n t i (own ++ outline acts) (s.Activating p new) k'
   activating_on p old new k k' acts fits same ran quiet now going =
       let a = fits.is.1 in
@@ -177,13 +177,13 @@ module _ (sound : Type 0) (n : ℕ) (t : TableId) (i : IndexId) (own : List Act)
         );
       }
 
-  pub active-goes-on : (p : Point) (old new : DefineRun) (k k' : Known) → FitsState sound n t i own (s.Activating p old) k → new.definition ≡ old.definition → define.Turns sound old.definition old.state k new.state k' dt.Stepped → Leads sound n t i own k k' (came.On (s.Activating p new))
+  pub active-goes-on : (p : Point) (old new : DefineRun) (k k' : Known) → FitsState sound n t i own (s.Activating p old) k → new.definition ≡ old.definition → define.DefinitionTurns sound old.definition old.state k new.state k' dt.Stepped → Leads sound n t i own k k' (came.On (s.Activating p new))
   active-goes-on p old new k k' fits same z = record { acts = z.acts; ran = z.ran; led = activating_on p old new k k' z.acts fits same z.ran z.told.1 z.fits z.told.0 }
 
-  pub active-waits : (p : Point) (old new : DefineRun) (count : ℕ) (k k' : Known) → FitsState sound n t i own (s.Activating p old) k → new.definition ≡ old.definition → define.Turns sound old.definition old.state k new.state k' (dt.Waiting count) → Leads sound n t i own k k' (came.Waits (s.Activating p new))
+  pub active-waits : (p : Point) (old new : DefineRun) (count : ℕ) (k k' : Known) → FitsState sound n t i own (s.Activating p old) k → new.definition ≡ old.definition → define.DefinitionTurns sound old.definition old.state k new.state k' (dt.Waiting count) → Leads sound n t i own k k' (came.Waits (s.Activating p new))
   active-waits p old new count k k' fits same z = record { acts = z.acts; ran = z.ran; led = activating_on p old new k k' z.acts fits same z.ran z.told.1 z.fits z.told.0 }
 
-  pub is-active : (p : Point) (old : DefineRun) (new : DefineState) (m : Made) (k k' : Known) → FitsState sound n t i own (s.Activating p old) k → define.Turns sound old.definition old.state k new k' (dt.Over (Ok m)) → Leads sound n t i own k k' (came.On (s.Closing p (next.Active m)))
+  pub is-active : (p : Point) (old : DefineRun) (new : DefineState) (m : Made) (k k' : Known) → FitsState sound n t i own (s.Activating p old) k → define.DefinitionTurns sound old.definition old.state k new k' (dt.Over (Ok m)) → Leads sound n t i own k k' (came.On (s.Closing p (next.Active m)))
   is-active p old new m k k' fits z =
       let a = fits.is.1 in
       let adds = subst (λ (y : Definition). Adds k k' (act_of y m)) a.defining.0 z.adds in
@@ -205,10 +205,10 @@ module _ (sound : Type 0) (n : ℕ) (t : TableId) (i : IndexId) (own : List Act)
         };
       }
 
-  pub not-active : (p : Point) (old : DefineRun) (new : DefineState) (f : DefineFault) (k k' : Known) → FitsState sound n t i own (s.Activating p old) k → define.Turns sound old.definition old.state k new k' (dt.Over (Err f)) → Leads sound n t i own k k' (came.On (s.Closing p (next_of (definition_fault f))))
+  pub not-active : (p : Point) (old : DefineRun) (new : DefineState) (f : DefineFault) (k k' : Known) → FitsState sound n t i own (s.Activating p old) k → define.DefinitionTurns sound old.definition old.state k new k' (dt.Over (Err f)) → Leads sound n t i own k k' (came.On (s.Closing p (next_of (fault_of_definition f))))
   not-active p old new f k k' fits z =
       let a = fits.is.1 in
-      let cause = subst (λ (y : Definition). define.FaultIs y f k') a.defining.0 z.told.1.0 in
+      let cause = subst (λ (y : Definition). define.DefinitionFaultIs y f k') a.defining.0 z.told.1.0 in
       let quiet = z.told.1.1 in
       let now = asked-later n t i k k' (past-ran k k' z.acts z.ran) fits.asked in
       let g = grown-ran k k' z.acts z.ran quiet a.held.legal in
@@ -218,7 +218,7 @@ module _ (sound : Type 0) (n : ℕ) (t : TableId) (i : IndexId) (own : List Act)
         ran = z.ran;
         led = record {
           asked = now;
-          is = (held-stays k k' t p g a.held, next-told sound n t i p (definition_fault f) k' (own ++ outline z.acts) why (tries-still t i (opening p ∷ []) (outline z.acts) own quiet fits.is.0));
+          is = (held-stays k k' t p g a.held, next-told sound n t i p (fault_of_definition f) k' (own ++ outline z.acts) why (tries-still t i (opening p ∷ []) (outline z.acts) own quiet fits.is.0));
         };
       }
 
@@ -247,7 +247,7 @@ module _ (sound : Type 0) (n : ℕ) (t : TableId) (i : IndexId) (own : List Act)
     pub renews : (r : DefineRun) → r.definition ≡ d.Rebuilding t i → r.state ≡ ds.Defining → TriesThen t i (opening p ∷ []) own → Leads sound n t i own k k' (came.On (s.Renewing r))
     renews r is new o = record { acts = act.Released p.table p.stamp ∷ []; ran = ran; led = record { asked = now; is = (looked o, new_defining sound (d.Rebuilding t i) r k' is new tt) } }
 
-    pub ends : (m : Made) → Follows sound n t i p (next.Active m) k own → Leads sound n t i own k k' (came.Over (Ok m))
+    pub ends : (m : Made) → FollowsClosing sound n t i p (next.Active m) k own → Leads sound n t i own k k' (came.Over (Ok m))
     ends m f =
         let all = released (opening p ∷ act.IndexState t i states.Active m.stamp ∷ []) f.2 in
         let same : ◌≡◌ {A = List Act} (act.Opened p.table p.stamp true ∷ act.IndexState t i states.Active m.stamp ∷ act.Released t p.stamp ∷ []) (act.Opened t m.stamp true ∷ act.IndexState t i states.Active m.stamp ∷ act.Released t m.stamp ∷ []) =
@@ -258,28 +258,28 @@ module _ (sound : Type 0) (n : ℕ) (t : TableId) (i : IndexId) (own : List Act)
           led = (active-later n t.0 i.0 m k k' (past-ran k k' _ ran) f.1, subst (λ (l : List Act). TriesThen t i l (own ++ outline (act.Released p.table p.stamp ∷ []))) same all);
         }
 
-    pub fails : (f : BuildFault) → Follows sound n t i p (next.Failed f) k own → Leads sound n t i own k k' (came.Over (Err f))
+    pub fails : (f : BuildFault) → FollowsClosing sound n t i p (next.Failed f) k own → Leads sound n t i own k k' (came.Over (Err f))
     fails f h = record { acts = act.Released p.table p.stamp ∷ []; ran = ran; led = (later f h.0, inl (looked h.1)) }
 
-    pub refuses : (f : BuildFault) (x : BuildMachine) → IsDisabling t i f x → Follows sound n t i p (next.Refused f) k own → Leads sound n t i own k k' (came.On x)
+    pub refuses : (f : BuildFault) (x : BuildMachine) → IsDisabling t i f x → FollowsClosing sound n t i p (next.Refused f) k own → Leads sound n t i own k k' (came.On x)
     refuses f x is h = record { acts = act.Released p.table p.stamp ∷ []; ran = ran; led = disabling sound n t i (own ++ outline (act.Released p.table p.stamp ∷ [])) f x k' now (looked h.1) (later f h.0) is }
 
   -- 5. The index is built again
 
-  renewing_on : (old new : DefineRun) (k k' : Known) (acts : List Act) → FitsState sound n t i own (s.Renewing old) k → new.definition ≡ old.definition → Ran k k' acts → outline acts ≡ [] → define.Fits sound old.definition new.state k' → define.IsGoing new.state
+  renewing_on : (old new : DefineRun) (k k' : Known) (acts : List Act) → FitsState sound n t i own (s.Renewing old) k → new.definition ≡ old.definition → Ran k k' acts → outline acts ≡ [] → define.FitsDefinition sound old.definition new.state k' → define.IsDefinitionGoing new.state
       → FitsState sound n t i (own ++ outline acts) (s.Renewing new) k'
   renewing_on old new k k' acts fits same ran quiet now going = record {
     asked = asked-later n t i k k' (past-ran k k' acts ran) fits.asked;
     is = (tries-still t i [] (outline acts) own quiet fits.is.0, goes_on sound (d.Rebuilding t i) old new k k' fits.is.1 same now going);
   }
 
-  pub renew-goes-on : (old new : DefineRun) (k k' : Known) → FitsState sound n t i own (s.Renewing old) k → new.definition ≡ old.definition → define.Turns sound old.definition old.state k new.state k' dt.Stepped → Leads sound n t i own k k' (came.On (s.Renewing new))
+  pub renew-goes-on : (old new : DefineRun) (k k' : Known) → FitsState sound n t i own (s.Renewing old) k → new.definition ≡ old.definition → define.DefinitionTurns sound old.definition old.state k new.state k' dt.Stepped → Leads sound n t i own k k' (came.On (s.Renewing new))
   renew-goes-on old new k k' fits same z = record { acts = z.acts; ran = z.ran; led = renewing_on old new k k' z.acts fits same z.ran z.told.1 z.fits z.told.0 }
 
-  pub renew-waits : (old new : DefineRun) (count : ℕ) (k k' : Known) → FitsState sound n t i own (s.Renewing old) k → new.definition ≡ old.definition → define.Turns sound old.definition old.state k new.state k' (dt.Waiting count) → Leads sound n t i own k k' (came.Waits (s.Renewing new))
+  pub renew-waits : (old new : DefineRun) (count : ℕ) (k k' : Known) → FitsState sound n t i own (s.Renewing old) k → new.definition ≡ old.definition → define.DefinitionTurns sound old.definition old.state k new.state k' (dt.Waiting count) → Leads sound n t i own k k' (came.Waits (s.Renewing new))
   renew-waits old new count k k' fits same z = record { acts = z.acts; ran = z.ran; led = renewing_on old new k k' z.acts fits same z.ran z.told.1 z.fits z.told.0 }
 
-  pub is-renewed : (old : DefineRun) (new : DefineState) (m : Made) (k k' : Known) → FitsState sound n t i own (s.Renewing old) k → define.Turns sound old.definition old.state k new k' (dt.Over (Ok m)) → Leads sound n t i own k k' (came.On (s.Opening m.stamp))
+  pub is-renewed : (old : DefineRun) (new : DefineState) (m : Made) (k k' : Known) → FitsState sound n t i own (s.Renewing old) k → define.DefinitionTurns sound old.definition old.state k new k' (dt.Over (Ok m)) → Leads sound n t i own k k' (came.On (s.Opening m.stamp))
   is-renewed old new m k k' fits z =
       let done = subst (λ (y : Definition). define.HasDefined y (outline z.acts) k' m) fits.is.1.0 z.told.1 in
       record {
@@ -291,9 +291,9 @@ module _ (sound : Type 0) (n : ℕ) (t : TableId) (i : IndexId) (own : List Act)
         };
       }
 
-  pub not-renewed : (old : DefineRun) (new : DefineState) (f : DefineFault) (k k' : Known) → FitsState sound n t i own (s.Renewing old) k → define.Turns sound old.definition old.state k new k' (dt.Over (Err f)) → Leads sound n t i own k k' (came.Over (Err (definition_fault f)))
+  pub not-renewed : (old : DefineRun) (new : DefineState) (f : DefineFault) (k k' : Known) → FitsState sound n t i own (s.Renewing old) k → define.DefinitionTurns sound old.definition old.state k new k' (dt.Over (Err f)) → Leads sound n t i own k k' (came.Over (Err (fault_of_definition f)))
   not-renewed old new f k k' fits z =
-      let cause = subst (λ (y : Definition). define.FaultIs y f k') fits.is.1.0 z.told.1.0 in
+      let cause = subst (λ (y : Definition). define.DefinitionFaultIs y f k') fits.is.1.0 z.told.1.0 in
       let now = asked-later n t i k k' (past-ran k k' z.acts z.ran) fits.asked in
       record {
         acts = z.acts;
@@ -303,7 +303,7 @@ module _ (sound : Type 0) (n : ℕ) (t : TableId) (i : IndexId) (own : List Act)
 
   -- 6. The index is disabled
 
-  disabling_on : (old new : DefineRun) (first : BuildFault) (k k' : Known) (acts : List Act) → FitsState sound n t i own (s.Disabling old first) k → new.definition ≡ old.definition → Ran k k' acts → outline acts ≡ [] → define.Fits sound old.definition new.state k' → define.IsGoing new.state
+  disabling_on : (old new : DefineRun) (first : BuildFault) (k k' : Known) (acts : List Act) → FitsState sound n t i own (s.Disabling old first) k → new.definition ≡ old.definition → Ran k k' acts → outline acts ≡ [] → define.FitsDefinition sound old.definition new.state k' → define.IsDefinitionGoing new.state
       → FitsState sound n t i (own ++ outline acts) (s.Disabling new first) k'
   disabling_on old new first k k' acts fits same ran quiet now going = record {
     asked = asked-later n t i k k' (past-ran k k' acts ran) fits.asked;
@@ -314,13 +314,13 @@ module _ (sound : Type 0) (n : ℕ) (t : TableId) (i : IndexId) (own : List Act)
     );
   }
 
-  pub disable-goes-on : (old new : DefineRun) (first : BuildFault) (k k' : Known) → FitsState sound n t i own (s.Disabling old first) k → new.definition ≡ old.definition → define.Turns sound old.definition old.state k new.state k' dt.Stepped → Leads sound n t i own k k' (came.On (s.Disabling new first))
+  pub disable-goes-on : (old new : DefineRun) (first : BuildFault) (k k' : Known) → FitsState sound n t i own (s.Disabling old first) k → new.definition ≡ old.definition → define.DefinitionTurns sound old.definition old.state k new.state k' dt.Stepped → Leads sound n t i own k k' (came.On (s.Disabling new first))
   disable-goes-on old new first k k' fits same z = record { acts = z.acts; ran = z.ran; led = disabling_on old new first k k' z.acts fits same z.ran z.told.1 z.fits z.told.0 }
 
-  pub disable-waits : (old new : DefineRun) (first : BuildFault) (count : ℕ) (k k' : Known) → FitsState sound n t i own (s.Disabling old first) k → new.definition ≡ old.definition → define.Turns sound old.definition old.state k new.state k' (dt.Waiting count) → Leads sound n t i own k k' (came.Waits (s.Disabling new first))
+  pub disable-waits : (old new : DefineRun) (first : BuildFault) (count : ℕ) (k k' : Known) → FitsState sound n t i own (s.Disabling old first) k → new.definition ≡ old.definition → define.DefinitionTurns sound old.definition old.state k new.state k' (dt.Waiting count) → Leads sound n t i own k k' (came.Waits (s.Disabling new first))
   disable-waits old new first count k k' fits same z = record { acts = z.acts; ran = z.ran; led = disabling_on old new first k k' z.acts fits same z.ran z.told.1 z.fits z.told.0 }
 
-  pub is-disabled : (old : DefineRun) (new : DefineState) (first : BuildFault) (m : Made) (k k' : Known) → FitsState sound n t i own (s.Disabling old first) k → define.Turns sound old.definition old.state k new k' (dt.Over (Ok m)) → Leads sound n t i own k k' (came.Over (Err first))
+  pub is-disabled : (old : DefineRun) (new : DefineState) (first : BuildFault) (m : Made) (k k' : Known) → FitsState sound n t i own (s.Disabling old first) k → define.DefinitionTurns sound old.definition old.state k new k' (dt.Over (Ok m)) → Leads sound n t i own k k' (came.Over (Err first))
   is-disabled old new first m k k' fits z =
       let done = subst (λ (y : Definition). define.HasDefined y (outline z.acts) k' m) fits.is.1.0 z.told.1 in
       record {
@@ -338,16 +338,16 @@ module _ (sound : Type 0) (n : ℕ) (t : TableId) (i : IndexId) (own : List Act)
   first_told first (why.Closed call) k h j = j
   first_told first f k h j = h
 
-  pub not-disabled : (old : DefineRun) (new : DefineState) (first : BuildFault) (f : DefineFault) (k k' : Known) → FitsState sound n t i own (s.Disabling old first) k → define.Turns sound old.definition old.state k new k' (dt.Over (Err f)) → Leads sound n t i own k k' (came.Over (Err (first_or first (definition_fault f))))
+  pub not-disabled : (old : DefineRun) (new : DefineState) (first : BuildFault) (f : DefineFault) (k k' : Known) → FitsState sound n t i own (s.Disabling old first) k → define.DefinitionTurns sound old.definition old.state k new k' (dt.Over (Err f)) → Leads sound n t i own k k' (came.Over (Err (first_or first (fault_of_definition f))))
   not-disabled old new first f k k' fits z =
-      let cause = subst (λ (y : Definition). define.FaultIs y f k') fits.is.1.0 z.told.1.0 in
+      let cause = subst (λ (y : Definition). define.DefinitionFaultIs y f k') fits.is.1.0 z.told.1.0 in
       let past = past-ran k k' z.acts z.ran in
       let now = asked-later n t i k k' past fits.asked in
       record {
         acts = z.acts;
         ran = z.ran;
         led = (
-          first_told first (definition_fault f) k' (refused-later sound n t.0 i.0 first k k' past fits.is.2) (disabled-told sound n t i k k' now.from f cause (z.since n fits.asked.from)),
+          first_told first (fault_of_definition f) k' (refused-later sound n t.0 i.0 first k k' past fits.is.2) (disabled-told sound n t i k k' now.from f cause (z.since n fits.asked.from)),
           inl (tries-still t i [] (outline z.acts) own z.told.1.1 fits.is.0),
         );
       }

@@ -22,13 +22,13 @@ use Rattle.px_trail.proofs.States.{decided-stays, state-stays}
 use Rattle.px_calls.specs.declared.query.BaseRow.{BaseRow}
 use Rattle.px_calls.specs.declared.query.FoundKey.{FoundKey}
 use Rattle.px_calls.specs.declared.query.Point.{Point}
-use Rattle.px_calls.specs.Known.{Known, Passes, Ran, is_turn, outline}
-use Rattle.px_calls.specs.Requires.{IsOpen, MayBase, base_step, is_based}
+use Rattle.px_calls.specs.Known.{Known, Ran, TimePasses, is_turn, outline}
+use Rattle.px_calls.specs.Requires.{HasOpen, MayBase, base_step, is_based}
 use Rattle.px_calls.proofs.Activates.{based-snoc, grown, low_step, one_apart, some_index}
 use Rattle.px_calls.proofs.Bases.{passes_base}
 use Rattle.px_calls.proofs.Points.{quiet-open}
 use Rattle.px_calls.proofs.Stays.{table-was}
-use Rattle.px_upkeep.specs.Turns.{AreBased, AreOwn, AreRowsFor, IsBuilding, IsFoundAt, IsHeld, IsPiece, owner_at, state_at}
+use Rattle.px_upkeep.specs.Turns.{AreBased, AreOwn, AreRowsFor, IsBuilding, IsFoundAt, IsHeld, IsPiece, owner_at, state_at_point}
 
 -- 1. Time
 
@@ -42,7 +42,7 @@ pub record Grown (k k' : Known) : Type 0 where
   pub damaged : k'.damaged ≡ k.damaged
   pub legal : IsLegal k'.base k'.seen
 
-pub grown-passes : (k k' : Known) → Passes k k' → Grown k k'
+pub grown-passes : (k k' : Known) → TimePasses k k' → Grown k k'
 grown-passes k k' h = record { more = h.others; seen = h.seen; quiet = ap outline h.apart; seat = h.seat; base = h.base; damaged = h.damaged; legal = h.legal }
 
 pub grown-ran : (k k' : Known) (acts : List Act) → Ran k k' acts → outline acts ≡ [] → IsLegal k.base k.seen → Grown k k'
@@ -90,7 +90,7 @@ still_based b es seat calls t i r (IndexState t' i' Disabled s) x f low loud is 
 still_based b es seat calls t i r (Based i' rows) x f low loud is of = if_more (i'.0 == i) (has rows r)
 still_based b es seat calls t i r act x f low loud is of = refl
 
-module _ (sound : Type 0) (k : Known) (e : Entry) (p : Point) (i : ℕ) (xs : List BaseRow) (legal : IsLegal k.base (k.seen ++ e ∷ [])) (is_open : IsOpen k p) (h : MayBase sound k p i xs) where
+module _ (sound : Type 0) (k : Known) (e : Entry) (p : Point) (i : ℕ) (xs : List BaseRow) (legal : IsLegal k.base (k.seen ++ e ∷ [])) (is_open : HasOpen k p) (h : MayBase sound k p i xs) where
   may : MayCome k.base k.seen e
   may = legal.each k.seen e [] refl
 
@@ -147,7 +147,7 @@ record Kept (sound : Type 0) (k : Known) (es : List Entry) (p : Point) (i : ℕ)
   may : MayBase sound (grown k es) p i xs
   based : (r : List Value) → is_based k.seen i r ≡ true → is_based (k.seen ++ es) i r ≡ true
 
-kept : (sound : Type 0) (k : Known) (es : List Entry) (p : Point) (i : ℕ) (xs : List BaseRow) → IsLegal k.base (k.seen ++ es) → outline (acts_by k.seat es) ≡ [] → IsOpen k p → MayBase sound k p i xs → Kept sound k es p i xs
+kept : (sound : Type 0) (k : Known) (es : List Entry) (p : Point) (i : ℕ) (xs : List BaseRow) → IsLegal k.base (k.seen ++ es) → outline (acts_by k.seat es) ≡ [] → HasOpen k p → MayBase sound k p i xs → Kept sound k es p i xs
 kept sound k [] p i xs legal quiet is_open h =
     record {
       may = subst (λ (l : List Entry). MayBase sound (record k { seen = l }) p i xs) (sym (append-nil k.seen)) h;
@@ -172,18 +172,18 @@ alone_no_matter sound v k p i xs h = record { table_drawn = h.table_drawn; index
 legal_here : (k k' : Known) → (g : Grown k k') → IsLegal k.base (k.seen ++ g.more)
 legal_here k k' g = subst (λ (b : Base). IsLegal b (k.seen ++ g.more)) g.base (subst (λ (s : List Entry). IsLegal k'.base s) g.seen g.legal)
 
-pub base-stays : (sound : Type 0) (k k' : Known) (p : Point) (i : ℕ) (xs : List BaseRow) → Grown k k' → IsOpen k p → MayBase sound k p i xs → MayBase sound k' p i xs
+pub base-stays : (sound : Type 0) (k k' : Known) (p : Point) (i : ℕ) (xs : List BaseRow) → Grown k k' → HasOpen k p → MayBase sound k p i xs → MayBase sound k' p i xs
 base-stays sound k k' p i xs g is_open h =
     let all = kept sound k g.more p i xs (legal_here k k' g) g.quiet is_open h in
     subst (λ (z : Known). MayBase sound z p i xs) (λ j. record { seat = sym g.seat j; base = sym g.base j; damaged = sym g.damaged j; alone = k'.alone; seen = sym g.seen j }) (alone_no_matter sound k'.alone (grown k g.more) p i xs all.may)
 
-pub based-stays : (sound : Type 0) (k k' : Known) (p : Point) (i : ℕ) (xs : List BaseRow) → Grown k k' → IsOpen k p → MayBase sound k p i xs → (r : List Value) → is_based k.seen i r ≡ true → is_based k'.seen i r ≡ true
+pub based-stays : (sound : Type 0) (k k' : Known) (p : Point) (i : ℕ) (xs : List BaseRow) → Grown k k' → HasOpen k p → MayBase sound k p i xs → (r : List Value) → is_based k.seen i r ≡ true → is_based k'.seen i r ≡ true
 based-stays sound k k' p i xs g is_open h r was =
     let all = kept sound k g.more p i xs (legal_here k k' g) g.quiet is_open h in
     ap (λ (l : List Entry). is_based l i r) g.seen ∙ all.based r was
 
 -- the states at the point stay
-pub state-same : (sound : Type 0) (k k' : Known) (p : Point) (i : ℕ) (xs : List BaseRow) → Grown k k' → MayBase sound k p i xs → (r : List Value) → state_at k' p r ≡ state_at k p r
+pub state-same : (sound : Type 0) (k k' : Known) (p : Point) (i : ℕ) (xs : List BaseRow) → Grown k k' → MayBase sound k p i xs → (r : List Value) → state_at_point k' p r ≡ state_at_point k p r
 state-same sound k k' p i xs g h r =
     ap (λ (b : Base). state_of b k'.seen p.table.0 r p.stamp) g.base
     ∙ (ap (λ (l : List Entry). state_of k.base l p.table.0 r p.stamp) g.seen

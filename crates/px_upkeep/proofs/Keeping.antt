@@ -10,7 +10,7 @@ use Rattle.px_calls.specs.declared.query.FoundKey.{FoundKey}
 use Rattle.px_calls.specs.declared.query.FoundKey.TheVariants.{Sure}
 use Rattle.px_calls.specs.declared.query.FoundRow.{FoundRow}
 use Rattle.px_calls.specs.Causes.{IsLong}
-use Rattle.px_upkeep.specs.Rows.{AreBaseRows, HasLong, KeepsRow}
+use Rattle.px_upkeep.specs.Rows.{AreBasesOf, HasLong, KeepsRow}
 
 pub no-length : (xs : List FoundKey) → length xs ≡ 0 → xs ≡ []
 no-length [] e = refl
@@ -18,7 +18,7 @@ no-length (x ∷ xs) e = absurd (omega (arith, e))
 
 -- these rows are those of the keys that were gone through, and the others are still to come
 pub record Keeps (t : List TableColumn) (keys columns : List PathColumn) (all fs : List FoundKey) (rows : List BaseRow) : Type 0 where
-  pub rest : (rs : List BaseRow) → AreBaseRows t keys columns fs rs → AreBaseRows t keys columns all (rows ++ rs)
+  pub rest : (rs : List BaseRow) → AreBasesOf t keys columns fs rs → AreBasesOf t keys columns all (rows ++ rs)
   pub among : (g : FoundRow) → IsAmong (Sure g) fs → IsAmong (Sure g) all
 
 module _ (t : List TableColumn) (keys columns : List PathColumn) (all : List FoundKey) where
@@ -31,13 +31,13 @@ module _ (t : List TableColumn) (keys columns : List PathColumn) (all : List Fou
       let all_is : fs ≡ Sure one.found ∷ rest = is ∙ ap (λ (x : FoundKey). x ∷ rest) one.sure in
       record {
         rest = λ rs a.
-            subst (λ (l : List BaseRow). AreBaseRows t keys columns all l) (sym (append_assoc old (one.row ∷ []) rs) ∙ ap (λ (l : List BaseRow). l ++ rs) (sym one.behind))
-            (k.rest (one.row ∷ rs) (subst (λ (l : List FoundKey). AreBaseRows t keys columns l (one.row ∷ rs)) (sym all_is) (one.base, a)));
+            subst (λ (l : List BaseRow). AreBasesOf t keys columns all l) (sym (append_assoc old (one.row ∷ []) rs) ∙ ap (λ (l : List BaseRow). l ++ rs) (sym one.behind))
+            (k.rest (one.row ∷ rs) (subst (λ (l : List FoundKey). AreBasesOf t keys columns l (one.row ∷ rs)) (sym all_is) (one.base, a)));
         among = λ g a. k.among g (subst (λ (l : List FoundKey). IsAmong (Sure g) l) (sym all_is) (inr a));
       }
 
-  pub keeps-all : (fs : List FoundKey) (rows : List BaseRow) → fs ≡ [] → Keeps t keys columns all fs rows → AreBaseRows t keys columns all rows
-  keeps-all fs rows is k = subst (λ (l : List BaseRow). AreBaseRows t keys columns all l) (append-nil rows) (k.rest [] (subst (λ (l : List FoundKey). AreBaseRows t keys columns l []) (sym is) tt))
+  pub keeps-all : (fs : List FoundKey) (rows : List BaseRow) → fs ≡ [] → Keeps t keys columns all fs rows → AreBasesOf t keys columns all rows
+  keeps-all fs rows is k = subst (λ (l : List BaseRow). AreBasesOf t keys columns all l) (append-nil rows) (k.rest [] (subst (λ (l : List FoundKey). AreBasesOf t keys columns l []) (sym is) tt))
 
   pub keeps-long : (fs rest : List FoundKey) (key : FoundKey) (rows : List BaseRow) → fs ≡ key ∷ rest → HasLong columns (key ∷ []) → Keeps t keys columns all fs rows → HasLong columns all
   unfolding IsAmong

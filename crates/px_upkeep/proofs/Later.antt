@@ -16,20 +16,20 @@ use Rattle.px_calls.specs.declared.fault.StepFault.{StepFault}
 use Rattle.px_calls.specs.declared.fault.StepFault.TheVariants as step
 use Rattle.px_calls.specs.declared.query.Point.{Point}
 use Rattle.px_calls.specs.Causes.{Refuses}
-use Rattle.px_calls.specs.Known.{Adds, HasMade, Known, Passes, Ran, outline}
+use Rattle.px_calls.specs.Known.{Adds, HasMade, Known, Ran, TimePasses, outline}
 use Rattle.px_calls.specs.Requires.{IsDrawn}
 use Rattle.px_calls.proofs.Runs.{ran-adds, ran-made, ran-sees}
 use Rattle.px_calls.proofs.Stays.{ran-since}
 use Rattle.px_upkeep.specs.declared.build.BuildFault.{BuildFault}
 use Rattle.px_upkeep.specs.declared.build.BuildFault.TheVariants as why
-use Rattle.px_upkeep.specs.Turns.{BecameActive, FaultIs, Follows, IsAsked, IsPast, MadeSince, Try, TriesThen, WasFound, WasRefused, acts_of_tries, acts_of_try, next_of, opening, state_at, step_fault}
+use Rattle.px_upkeep.specs.Turns.{BecameActive, BuildFaultIs, FollowsClosing, IsAsked, IsPast, BuildFaultSince, Try, TriesThen, WasFound, WasRefused, acts_of_tries, acts_of_try, next_of, opening, state_at_point, step_fault}
 
 -- 1. Earlier knowledge
 
 pub past-same : (k : Known) → IsPast k k
 past-same k = record { more = []; seen = sym (append-nil k.seen); seat = refl; base = refl; damaged = refl }
 
-pub past-passes : (k k' : Known) → Passes k k' → IsPast k k'
+pub past-passes : (k k' : Known) → TimePasses k k' → IsPast k k'
 past-passes k k' h = record { more = h.others; seen = h.seen; seat = h.seat; base = h.base; damaged = h.damaged }
 
 pub past-ran : (k k' : Known) (acts : List Act) → Ran k k' acts → IsPast k k'
@@ -79,7 +79,7 @@ refused-later sound n t i f k k' h r = record { was = r.was; past = past-then r.
 pub active-later : (n t i : ℕ) (m : Made) (k k' : Known) → IsPast k k' → BecameActive n t i m k → BecameActive n t i m k'
 active-later n t i m k k' h r = record { was = r.was; past = past-then r.was k k' r.past h; from = r.from; index = r.index; is = r.is; owner = r.owner; state = r.state; birth = r.birth; number = r.number; at = r.at }
 
-pub found-later : (n : ℕ) (t : TableId) (i : IndexId) (p : Point) (x : Index) (k k' : Known) → IsPast k k' → ((r : List Value) → state_at k' p r ≡ state_at k p r) → WasFound n k t i p x → WasFound n k' t i p x
+pub found-later : (n : ℕ) (t : TableId) (i : IndexId) (p : Point) (x : Index) (k k' : Known) → IsPast k k' → ((r : List Value) → state_at_point k' p r ≡ state_at_point k p r) → WasFound n k t i p x → WasFound n k' t i p x
 found-later n t i p x k k' h same f = record { was = f.was; past = past-then f.was k k' f.past h; from = f.from; table = f.table; index = f.index; owner = f.owner; birth = f.birth; same = λ r. same r ∙ f.same r }
 
 -- 2. What the seat did
@@ -135,7 +135,7 @@ refused-call Cause k k' f h = record { acts = []; ran = ran-sees k k' h.1; quiet
 
 module _ (sound : Type 0) (n t i : ℕ) where
   -- a fault that nothing but its cause tells
-  pub plain : (f : BuildFault) (k' : Known) → n ≤ length k'.seen → FaultIs sound t i f k' → MadeSince n f k' → WasRefused sound n t i f k'
+  pub plain : (f : BuildFault) (k' : Known) → n ≤ length k'.seen → BuildFaultIs sound t i f k' → BuildFaultSince n f k' → WasRefused sound n t i f k'
   plain f k' low cause since = record { was = k'; past = past-same k'; from = low; cause = cause; since = since }
 
   shuts : (k k' : Known) → n ≤ length k.seen → n ≤ length k'.seen → ((call : ℕ) × Adds k k' (act.Shut call)) → WasRefused sound n t i why.WriteFault k'
@@ -146,10 +146,10 @@ module _ (sound : Type 0) (n t i : ℕ) where
 
   -- the causes of a call tell the faults of a build
   pub record Tells (Cause : StepFault → Known → Type 0) (k' : Known) : Type 0 where
-    pub table : Cause step.NoTable k' → FaultIs sound t i why.NoTable k'
-    pub horizon : (h : ℕ) → Cause (step.BelowHorizon h) k' → FaultIs sound t i (why.BelowHorizon h) k'
-    pub damaged : (file place : ℕ) → Cause (step.Damaged file place) k' → FaultIs sound t i (why.Damaged file place) k'
-    pub closed : (call : ℕ) → Cause (step.Closed call) k' → FaultIs sound t i (why.Closed call) k'
+    pub table : Cause step.NoTable k' → BuildFaultIs sound t i why.NoTable k'
+    pub horizon : (h : ℕ) → Cause (step.BelowHorizon h) k' → BuildFaultIs sound t i (why.BelowHorizon h) k'
+    pub damaged : (file place : ℕ) → Cause (step.Damaged file place) k' → BuildFaultIs sound t i (why.Damaged file place) k'
+    pub closed : (call : ℕ) → Cause (step.Closed call) k' → BuildFaultIs sound t i (why.Closed call) k'
 
   pub refused-step : (Cause : StepFault → Known → Type 0) (k k' : Known) (f : StepFault) → Tells Cause k' → n ≤ length k.seen → n ≤ length k'.seen → Refuses Cause k k' f → WasRefused sound n t i (step_fault f) k'
   refused-step Cause k k' step.NoTable tells low now h = plain why.NoTable k' now (tells.table h.0) tt
@@ -168,7 +168,7 @@ module _ (sound : Type 0) (n t i : ℕ) where
   refused-step Cause k k' step.Memory tells low now h = plain why.Memory k' now tt tt
 
 -- what a fault leads to, once its point is closed
-pub next-told : (sound : Type 0) (n : ℕ) (t : TableId) (i : IndexId) (p : Point) (f : BuildFault) (k : Known) (own : List Act) → WasRefused sound n t.0 i.0 f k → TriesThen t i (opening p ∷ []) own → Follows sound n t i p (next_of f) k own
+pub next-told : (sound : Type 0) (n : ℕ) (t : TableId) (i : IndexId) (p : Point) (f : BuildFault) (k : Known) (own : List Act) → WasRefused sound n t.0 i.0 f k → TriesThen t i (opening p ∷ []) own → FollowsClosing sound n t i p (next_of f) k own
 next-told sound n t i p why.NoTable k own h o = (h, o)
 next-told sound n t i p why.NoIndex k own h o = (h, o)
 next-told sound n t i p why.WriteFault k own h o = (h, o)

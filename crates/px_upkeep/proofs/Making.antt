@@ -15,7 +15,7 @@ use Rattle.px_upkeep.specs.declared.build.Build.{Build}
 use Rattle.px_upkeep.specs.declared.build.BuildState.{BuildState}
 use Rattle.px_upkeep.specs.declared.build.BuildState.TheVariants as s
 use Rattle.px_upkeep.specs.declared.build.Next.{Next}
-use Rattle.px_upkeep.specs.Rows.{ArePieces, HasLongIn, IsMadeOf}
+use Rattle.px_upkeep.specs.Rows.{ArePieces, HasLongChunk, IsMadeOf}
 use Rattle.px_upkeep.specs.Turns.{AfterMaking, BasesOn, ReadsOn}
 
 module _ (t : List TableColumn) (keys columns : List PathColumn) where
@@ -29,7 +29,7 @@ module _ (t : List TableColumn) (keys columns : List PathColumn) where
   pub all-made : (cs : List (List FoundKey)) (rs : List (Result (List BaseRow) RowsFault)) (ps : List (List BaseRow)) → AllZip (IsMadeOf t keys columns) cs rs → rs ≡ map Ok ps → ArePieces t keys columns cs ps
   all-made cs rs ps z e = made_on cs ps (subst (λ (l : List (Result (List BaseRow) RowsFault)). AllZip (IsMadeOf t keys columns) cs l) e z)
 
-  long_at : (cs : List (List FoundKey)) (rs : List (Result (List BaseRow) RowsFault)) (k : ℕ) → AllZip (IsMadeOf t keys columns) cs rs → k < length rs → slice_index_or rs k (Err TooLong) ≡ Err TooLong → HasLongIn columns cs
+  long_at : (cs : List (List FoundKey)) (rs : List (Result (List BaseRow) RowsFault)) (k : ℕ) → AllZip (IsMadeOf t keys columns) cs rs → k < length rs → slice_index_or rs k (Err TooLong) ≡ Err TooLong → HasLongChunk columns cs
   unfolding IsAmong
   long_at [] [] k z low e = absurd (omega (arith, low))
   long_at [] (r ∷ rs) k z low e = absurd z
@@ -40,7 +40,7 @@ module _ (t : List TableColumn) (keys columns : List PathColumn) where
       record { chunk = rest.chunk; among = inr rest.among; long = rest.long }
 
   -- those of one weren't, since a key is too long
-  pub one-long : (cs : List (List FoundKey)) (rs : List (Result (List BaseRow) RowsFault)) (f : RowsFault) → AllZip (IsMadeOf t keys columns) cs rs → Contains rs (Err f) → f ≡ TooLong → HasLongIn columns cs
+  pub one-long : (cs : List (List FoundKey)) (rs : List (Result (List BaseRow) RowsFault)) (f : RowsFault) → AllZip (IsMadeOf t keys columns) cs rs → Contains rs (Err f) → f ≡ TooLong → HasLongChunk columns cs
   one-long cs rs f z among is =
       let at = subst (λ (g : RowsFault). Contains rs (Err g)) is among in
       long_at cs rs at.0 z at.1 at.2

@@ -23,9 +23,9 @@ use Rattle.px_calls.specs.declared.query.BaseRow.{BaseRow}
 use Rattle.px_calls.specs.declared.query.FoundKey.{FoundKey}
 use Rattle.px_calls.specs.declared.query.Point.{Point}
 use Rattle.px_calls.specs.Calls.{DidOpen}
-use Rattle.px_calls.specs.Causes.{Refuses, Stands, open_cause}
+use Rattle.px_calls.specs.Causes.{Refuses, TableStands, open_cause}
 use Rattle.px_calls.specs.Known.{Adds, Known, Ran, outline}
-use Rattle.px_calls.specs.Requires.{IsDrawn, MayBase, index_among, index_in}
+use Rattle.px_calls.specs.Requires.{IsDrawn, MayBase, index_among, index_of_found}
 use Rattle.px_calls.proofs.Points.{adds-opened}
 use Rattle.px_calls.proofs.Runs.{may-come, ran-adds}
 use Rattle.px_defining.specs.declared.define.DefineState.{DefineState}
@@ -39,7 +39,7 @@ use Rattle.px_upkeep.specs.declared.build.Came.{Came}
 use Rattle.px_upkeep.specs.declared.build.Came.TheVariants as came
 use Rattle.px_upkeep.specs.declared.build.Next.TheVariants as next
 use Rattle.px_upkeep.specs.declared.gathered.Gathered.{Gathered}
-use Rattle.px_upkeep.specs.Turns.{AreRowsFor, Begins, FitsState, HasPaths, IsAsked, IsBornAt, IsBuilding, IsDisabling, IsFoundAt, IsHeld, IsState, IsOutcome, IsUnopened, LacksIndexOf, Leads, Led, TriesThen, WasFound, WasRefused, opening, step_fault}
+use Rattle.px_upkeep.specs.Turns.{AreRowsFor, Begins, FitsState, HasPaths, IsAsked, IsBornAt, IsBuilding, IsDisabling, IsFoundAt, IsHeld, IsState, IsBuildOutcome, IsUnopened, LacksIndexOf, Leads, Led, TriesThen, WasFound, WasRefused, opening, step_fault}
 use Rattle.px_upkeep.proofs.Later.{Tells, asked-later, past-ran, past-same, plain, refused-call, refused-step, tries-still, tries-then}
 
 -- 1. The index among the point's definitions
@@ -107,10 +107,10 @@ module _ (sound : Type 0) (n : ℕ) (t : TableId) (i : IndexId) (own : List Act)
   table_is : table_of k'.base k'.seen t.0 ≡ Some p.found.table
   table_is = subst (λ (u : TableId). table_of k'.base k'.seen u.0 ≡ Some p.found.table) h.found_table h.found.table
 
-  stands : Stands k' t.0
+  stands : TableStands k' t.0
   stands = some_table (table_of k'.base k'.seen t.0) p.found.table table_is
 
-  lacks : index_in p.found i.0 ≡ None → LacksIndexOf k' t.0 i.0
+  lacks : index_of_found p.found i.0 ≡ None → LacksIndexOf k' t.0 i.0
   lacks none = record {
     table = stands;
     none = λ x is number of.
@@ -192,7 +192,7 @@ module _ (sound : Type 0) (n : ℕ) (t : TableId) (i : IndexId) (own : List Act)
       },
     )
 
-  closing : (q : Point) → q ≡ p → (x : _) → (TriesThen t i (opening p ∷ []) (own ++ outline (act.Opened t p.stamp p.scn ∷ [])) → Rattle.px_upkeep.specs.Turns.Follows sound n t i p x k' (own ++ outline (act.Opened t p.stamp p.scn ∷ [])))
+  closing : (q : Point) → q ≡ p → (x : _) → (TriesThen t i (opening p ∷ []) (own ++ outline (act.Opened t p.stamp p.scn ∷ [])) → Rattle.px_upkeep.specs.Turns.FollowsClosing sound n t i p x k' (own ++ outline (act.Opened t p.stamp p.scn ∷ [])))
       → IsState sound n t i (own ++ outline (act.Opened t p.stamp p.scn ∷ [])) (s.Closing q x) k'
   closing q at x follows = subst (λ (z : Point). IsState sound n t i (own ++ outline (act.Opened t p.stamp p.scn ∷ [])) (s.Closing z x) k') (sym at) (held, follows did)
 
@@ -218,7 +218,7 @@ module _ (sound : Type 0) (n : ℕ) (t : TableId) (i : IndexId) (own : List Act)
 -- the index is to be disabled
 pub disabling : (sound : Type 0) (n : ℕ) (t : TableId) (i : IndexId) (own : List Act) (f : BuildFault) (x : BuildState) (k : Known) → IsAsked n t i k → TriesThen t i [] own → WasRefused sound n t.0 i.0 f k → IsDisabling t i f x → FitsState sound n t i own x k
 disabling sound n t i own f (s.Disabling r g) k asked tries why h =
-    let F : DefineState → Type 0 = λ z. define.Fits sound (d.Disabled t i) z k × define.IsGoing z in
+    let F : DefineState → Type 0 = λ z. define.FitsDefinition sound (d.Disabled t i) z k × define.IsDefinitionGoing z in
     let going = subst F (sym h.1) (tt, tt) in
     record { asked = asked; is = (tries, (h.0, going.0, going.1), subst (λ (z : BuildFault). WasRefused sound n t.0 i.0 z k) (sym h.2) why) }
 disabling sound n t i own f (s.Opening birth) k asked tries why h = absurd h
@@ -234,7 +234,7 @@ open_tells sound n t i scn k' = record { table = λ h. h; horizon = λ z h. (h.0
 
 by_came : (sound : Type 0) (n : ℕ) (t : TableId) (i : IndexId) (own : List Act) (f : BuildFault) (k : Known) (c : Came) → IsUnopened t i f c → IsAsked n t i k → WasRefused sound n t.0 i.0 f k → TriesThen t i [] own → Led sound n t i own k c
 by_came sound n t i own f k (came.On x) is asked why tries = disabling sound n t i own f x k asked tries why is
-by_came sound n t i own f k (came.Over r) is asked why tries = subst (λ (z : Result Made BuildFault). IsOutcome sound n t i own k z) (sym is) (why, inl tries)
+by_came sound n t i own f k (came.Over r) is asked why tries = subst (λ (z : Result Made BuildFault). IsBuildOutcome sound n t i own k z) (sym is) (why, inl tries)
 by_came sound n t i own f k (came.Waits x) is asked why tries = absurd is
 
 module _ (sound : Type 0) (n : ℕ) (t : TableId) (i : IndexId) (own : List Act) where

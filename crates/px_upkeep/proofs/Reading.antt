@@ -35,7 +35,7 @@ use Rattle.px_upkeep.specs.declared.build.BuildState.TheVariants as s
 use Rattle.px_upkeep.specs.declared.build.Came.TheVariants as came
 use Rattle.px_upkeep.specs.declared.build.Next.TheVariants as next
 use Rattle.px_upkeep.specs.declared.gathered.Gathered.{Gathered}
-use Rattle.px_upkeep.specs.Rows.{ArePieces, HasLong, HasLongIn, gathered_then}
+use Rattle.px_upkeep.specs.Rows.{ArePieces, HasLong, HasLongChunk, gathered_then}
 use Rattle.px_upkeep.specs.Turns.{AfterLook, AfterMaking, AreBased, AreOwn, BasesOn, FitsState, Gathers, IsAsked, IsAtWork, IsBasing, IsFoundAt, IsHeld, IsMade, IsPiece, IsReading, IsState, Leads, ReadsOn, TriesThen, WasRefused, chunk_owners, is_read, next_of, opening, owner_at, piece_owners, step_fault}
 use Rattle.px_upkeep.proofs.Based.{activates, bases, found-long, found-pieces, looked, looked-found, looked-own}
 use Rattle.px_upkeep.proofs.Chunks.{all-parts, chunks-then, one-among, owners-last, pieces-owners}
@@ -84,7 +84,7 @@ module _ (sound : Type 0) (n : ℕ) (t : TableId) (i : IndexId) (own : List Act)
       → TriesThen t i (opening b.point ∷ []) own → IsState sound n t i own (s.Activating p r) k
   activating b k w is_own p r at is new tries =
       let can : CanDefine sound k (d.Active t i) = activates sound k t i b.point w.index w.building w.based is_own in
-      let F : DefineState → Type 0 = λ z. define.Fits sound (d.Active t i) z k × define.IsGoing z in
+      let F : DefineState → Type 0 = λ z. define.FitsDefinition sound (d.Active t i) z k × define.IsDefinitionGoing z in
       let going = subst F (sym new) (can, tt) in (
         subst (λ (q : Point). TriesThen t i (opening q ∷ []) own) (sym at) tries,
         record {
@@ -208,7 +208,7 @@ module _ (sound : Type 0) (n : ℕ) (t : TableId) (i : IndexId) (own : List Act)
   refused : (p : Point) (f : BuildFault) → p ≡ b.point → WasRefused sound n t.0 i.0 f k' → IsState sound n t i (own ++ []) (s.Closing p (next.Refused f)) k'
   refused p f at why = subst (λ (q : Point). IsState sound n t i (own ++ []) (s.Closing q (next.Refused f)) k') (sym at) (reading.work.building.held, (why, tries))
 
-  too_long : (count : ℕ) → count ≡ most_key → HasLongIn b.columns all → WasRefused sound n t.0 i.0 (why.Limit bound.Key count) k'
+  too_long : (count : ℕ) → count ≡ most_key → HasLongChunk b.columns all → WasRefused sound n t.0 i.0 (why.Limit bound.Key count) k'
   too_long count is long =
       let w = reading.work in
       let l : HasLong (index_path b.point.found.table w.index) long.chunk = subst (λ (cs : List PathColumn). HasLong cs long.chunk) w.paths.columns long.long in

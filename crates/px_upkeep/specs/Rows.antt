@@ -28,10 +28,10 @@ pub record IsBaseOf (table : List TableColumn) (keys columns : List PathColumn) 
   pub short : length r.key ≤ most_key
 
 -- each key that was found has its row, in order
-abbrev pub AreBaseRows : List TableColumn → List PathColumn → List PathColumn → List FoundKey → List BaseRow → Type 0
-AreBaseRows table keys columns [] [] = Unit {0}
-AreBaseRows table keys columns (Sure f ∷ fs) (r ∷ rs) = IsBaseOf table keys columns f r × AreBaseRows table keys columns fs rs
-AreBaseRows table keys columns fs rs = ⊥
+abbrev pub AreBasesOf : List TableColumn → List PathColumn → List PathColumn → List FoundKey → List BaseRow → Type 0
+AreBasesOf table keys columns [] [] = Unit {0}
+AreBasesOf table keys columns (Sure f ∷ fs) (r ∷ rs) = IsBaseOf table keys columns f r × AreBasesOf table keys columns fs rs
+AreBasesOf table keys columns fs rs = ⊥
 
 -- the row of a key that was found was put behind these rows
 pub record KeepsRow (table : List TableColumn) (keys columns : List PathColumn) (key : FoundKey) (old new : List BaseRow) : Type 0 where
@@ -56,15 +56,15 @@ gathered_then cs (f ∷ fs) = cs ++ (f ∷ fs) ∷ []
 
 -- what was made of a chunk: its rows, or none where a key is too long
 pub record IsMadeOf (table : List TableColumn) (keys columns : List PathColumn) (fs : List FoundKey) (r : Result (List BaseRow) RowsFault) : Type 0 where
-  pub ok : IfOk r (AreBaseRows table keys columns fs)
+  pub ok : IfOk r (AreBasesOf table keys columns fs)
   pub too_long : r ≡ Err TooLong → HasLong columns fs
 
 -- each chunk has its rows, in order
 abbrev pub ArePieces : List TableColumn → List PathColumn → List PathColumn → List (List FoundKey) → List (List BaseRow) → Type 0
-ArePieces table keys columns cs ps = AllZip (AreBaseRows table keys columns) cs ps
+ArePieces table keys columns cs ps = AllZip (AreBasesOf table keys columns) cs ps
 
 -- one of the chunks has a row whose key on these columns is too long
-pub record HasLongIn (columns : List PathColumn) (cs : List (List FoundKey)) : Type 0 where
+pub record HasLongChunk (columns : List PathColumn) (cs : List (List FoundKey)) : Type 0 where
   pub chunk : List FoundKey
   pub among : IsAmong chunk cs
   pub long : HasLong columns chunk

@@ -31,10 +31,10 @@ use Rattle.px_calls.specs.declared.query.FoundKey.TheVariants.{Sure, InDoubt}
 use Rattle.px_calls.specs.declared.query.FoundRow.{FoundRow}
 use Rattle.px_calls.specs.declared.query.Path.{Path}
 use Rattle.px_calls.specs.declared.query.Point.{Point}
-use Rattle.px_calls.specs.Causes.{ClosedBy, IsDamagedAt, IsLong, LacksTable, Stands, rebuilding_cause}
+use Rattle.px_calls.specs.Causes.{ClosedBy, IsDamagedAt, IsLong, LacksTable, TableStands, rebuilding_cause}
 use Rattle.px_calls.specs.Known.{HasMade, Known, Ran, outline}
 use Rattle.px_calls.specs.Looks.{IsRisingFrom, is_covered}
-use Rattle.px_calls.specs.Requires.{IsBaseRowOf, IsDrawn, IsOpen, MayBase, base_owners, index_in, is_based}
+use Rattle.px_calls.specs.Requires.{HasOpen, IsBaseRowOf, IsDrawn, MayBase, base_owners, index_of_found, is_based}
 use Rattle.px_defining.specs.declared.define.DefineFault.{DefineFault}
 use Rattle.px_defining.specs.declared.define.DefineFault.TheVariants as fault
 use Rattle.px_defining.specs.declared.define.DefineRun.{DefineRun}
@@ -54,7 +54,7 @@ use Rattle.px_upkeep.specs.declared.build.Next.{Next}
 use Rattle.px_upkeep.specs.declared.build.Next.TheVariants as next
 use Rattle.px_upkeep.specs.declared.rows.RowsFault.{RowsFault}
 use Rattle.px_upkeep.specs.declared.rows.RowsFault.TheVariants as rows
-use Rattle.px_upkeep.specs.Rows.{ArePieces, HasLongIn, gathered_then}
+use Rattle.px_upkeep.specs.Rows.{ArePieces, HasLongChunk, gathered_then}
 
 -- 1. Words of the code
 
@@ -67,15 +67,15 @@ step_fault (step.Damaged file place) = why.Damaged file place
 step_fault (step.Closed call) = why.Closed call
 step_fault f = why.Memory
 
-abbrev pub definition_fault : DefineFault → BuildFault
-definition_fault fault.NoTable = why.NoTable
-definition_fault fault.NoIndex = why.NoIndex
-definition_fault (fault.Limit which count) = why.Limit which count
-definition_fault fault.ReadFault = why.ReadFault
-definition_fault fault.WriteFault = why.WriteFault
-definition_fault (fault.Damaged file place) = why.Damaged file place
-definition_fault (fault.Closed call) = why.Closed call
-definition_fault f = why.Memory
+abbrev pub fault_of_definition : DefineFault → BuildFault
+fault_of_definition fault.NoTable = why.NoTable
+fault_of_definition fault.NoIndex = why.NoIndex
+fault_of_definition (fault.Limit which count) = why.Limit which count
+fault_of_definition fault.ReadFault = why.ReadFault
+fault_of_definition fault.WriteFault = why.WriteFault
+fault_of_definition (fault.Damaged file place) = why.Damaged file place
+fault_of_definition (fault.Closed call) = why.Closed call
+fault_of_definition f = why.Memory
 
 abbrev pub rows_fault : RowsFault → BuildFault
 rows_fault rows.TooLong = why.Limit bound.Key most_key
@@ -100,11 +100,11 @@ first_or first f = first
 
 -- the table has no index that has this number
 pub record LacksIndexOf (k : Known) (t i : ℕ) : Type 0 where
-  pub table : Stands k t
+  pub table : TableStands k t
   pub none : (x : Index) → index_of k.base k.seen i ≡ Some x → x.id.0 ≡ i → x.table.0 ≢ t
 
 -- the table had a row at the index's birth whose key in the index is too long
-pub record HasLongRow (k : Known) (t i : ℕ) : Type 0 where
+pub record HadLongRow (k : Known) (t i : ℕ) : Type 0 where
   pub table : Table
   pub table_is : table_of k.base k.seen t ≡ Some table
   pub index : Index
@@ -115,23 +115,23 @@ pub record HasLongRow (k : Known) (t i : ℕ) : Type 0 where
   pub long : IsLong (key_on (index_path table index) row)
 
 -- what tells the fault, in what the seat has then seen; what is told of rows, if what was opened is sound
-abbrev pub FaultIs : Type 0 → ℕ → ℕ → BuildFault → Known → Type 0
-FaultIs sound t i why.NoTable k = LacksTable k t
-FaultIs sound t i why.NoIndex k = LacksIndexOf k t i
-FaultIs sound t i (why.Limit bound.Key count) k = (count ≡ most_key) × (sound → HasLongRow k t i)
-FaultIs sound t i (why.Limit which count) k = rebuilding_cause t i (step.Limit which count) k
-FaultIs sound t i (why.BelowHorizon horizon) k = Stands k t × (horizon_of k.base t k.seen ≡ horizon)
-FaultIs sound t i why.ReadFault k = (call : ℕ) × HasMade k (act.Missed call)
-FaultIs sound t i why.WriteFault k = (call : ℕ) × HasMade k (act.Shut call)
-FaultIs sound t i (why.Damaged file place) k = IsDamagedAt k file place
-FaultIs sound t i (why.Closed call) k = ClosedBy call k
-FaultIs sound t i why.Memory k = Unit {0}
+abbrev pub BuildFaultIs : Type 0 → ℕ → ℕ → BuildFault → Known → Type 0
+BuildFaultIs sound t i why.NoTable k = LacksTable k t
+BuildFaultIs sound t i why.NoIndex k = LacksIndexOf k t i
+BuildFaultIs sound t i (why.Limit bound.Key count) k = (count ≡ most_key) × (sound → HadLongRow k t i)
+BuildFaultIs sound t i (why.Limit which count) k = rebuilding_cause t i (step.Limit which count) k
+BuildFaultIs sound t i (why.BelowHorizon horizon) k = TableStands k t × (horizon_of k.base t k.seen ≡ horizon)
+BuildFaultIs sound t i why.ReadFault k = (call : ℕ) × HasMade k (act.Missed call)
+BuildFaultIs sound t i why.WriteFault k = (call : ℕ) × HasMade k (act.Shut call)
+BuildFaultIs sound t i (why.Damaged file place) k = IsDamagedAt k file place
+BuildFaultIs sound t i (why.Closed call) k = ClosedBy call k
+BuildFaultIs sound t i why.Memory k = Unit {0}
 
 -- the entry that tells a failed device call is one of the seat's own after the first n
-abbrev pub MadeSince : ℕ → BuildFault → Known → Type 0
-MadeSince n why.ReadFault k = (call : ℕ) × IsAmong (act.Missed call) (acts_by k.seat (drop n k.seen))
-MadeSince n why.WriteFault k = (call : ℕ) × IsAmong (act.Shut call) (acts_by k.seat (drop n k.seen))
-MadeSince n f k = Unit {0}
+abbrev pub BuildFaultSince : ℕ → BuildFault → Known → Type 0
+BuildFaultSince n why.ReadFault k = (call : ℕ) × IsAmong (act.Missed call) (acts_by k.seat (drop n k.seen))
+BuildFaultSince n why.WriteFault k = (call : ℕ) × IsAmong (act.Shut call) (acts_by k.seat (drop n k.seen))
+BuildFaultSince n f k = Unit {0}
 
 -- what the seat knew earlier
 pub record IsPast (was k : Known) : Type 0 where
@@ -146,8 +146,8 @@ pub record WasRefused (sound : Type 0) (n t i : ℕ) (f : BuildFault) (k : Known
   pub was : Known
   pub past : IsPast was k
   pub from : n ≤ length was.seen
-  pub cause : FaultIs sound t i f was
-  pub since : MadeSince n f was
+  pub cause : BuildFaultIs sound t i f was
+  pub since : BuildFaultSince n f was
 
 -- an index of this number stood, active, of this table, once it had been made so after the first n entries
 pub record BecameActive (n t i : ℕ) (m : Made) (k : Known) : Type 0 where
@@ -194,25 +194,25 @@ opening p = act.Opened p.table p.stamp true
 pub record IsHeld (k : Known) (t : TableId) (p : Point) : Type 0 where
   pub table : p.table ≡ t
   pub scn : p.scn ≡ true
-  pub is_open : IsOpen k p
+  pub is_open : HasOpen k p
   pub legal : IsLegal k.base k.seen
 
 -- the state at the point of the row with this primary key
-abbrev pub state_at : Known → Point → List Value → Option (List Value)
-state_at k p r = state_of k.base k.seen p.table.0 r p.stamp
+abbrev pub state_at_point : Known → Point → List Value → Option (List Value)
+state_at_point k p r = state_of k.base k.seen p.table.0 r p.stamp
 
 -- the primary key of a row, and its key in the table
 abbrev pub owner_at : Point → List Value → List Value
 owner_at p row = key_in (table_shape p.found.table) row
 
-abbrev pub key_at : Point → List Value → List ℕ
-key_at p row = key_on (table_path p.found.table) row
+abbrev pub key_at_point : Point → List Value → List ℕ
+key_at_point p row = key_on (table_path p.found.table) row
 
 -- these are rows of the table at the point, with their keys in the index, no two with one primary key
 pub record AreRowsFor (sound : Type 0) (k : Known) (p : Point) (x : Index) (xs : List BaseRow) : Type 0 where
   pub each : AllByRecursion (IsBaseRowOf p.found.table x) xs
   pub distinct : is_distinct (base_owners p.found.table xs) ≡ true
-  pub there : sound → AllByRecursion (λ f. state_at k p (owner_at p f.row) ≡ Some f.row) xs
+  pub there : sound → AllByRecursion (λ f. state_at_point k p (owner_at p f.row) ≡ Some f.row) xs
 
 -- The point is open at the birth of the index. The table stands as the point found it, and whichever rows of it are at the point may be given their base
 -- versions in the index
@@ -254,12 +254,12 @@ piece_owners t ps = flat_map (base_owners t) ps
 
 -- each row at the point with one of these keys was given its base version, or is one of those with these primary keys, which are to be given theirs
 abbrev pub AreBased : Known → IndexId → Point → (List ℕ → Bool) → List (List Value) → Type 0
-AreBased k i p done owners = (row : List Value) → state_at k p (owner_at p row) ≡ Some row → done (key_at p row) ≡ true
+AreBased k i p done owners = (row : List Value) → state_at_point k p (owner_at p row) ≡ Some row → done (key_at_point p row) ≡ true
     → (is_based k.seen i.0 (owner_at p row) ≡ true) ⊎ (has owners (owner_at p row) ≡ true)
 
 -- each row at the point stands at its own primary key
 abbrev pub AreOwn : Known → Point → Type 0
-AreOwn k p = (r row : List Value) → state_at k p r ≡ Some row → owner_at p row ≡ r
+AreOwn k p = (r row : List Value) → state_at_point k p r ≡ Some row → owner_at p row ≡ r
 
 -- 5. States
 
@@ -270,8 +270,8 @@ pub record IsAsked (n : ℕ) (t : TableId) (i : IndexId) (k : Known) : Type 0 wh
   pub index : IsDrawn k i.0
 
 -- a definition under way
-abbrev pub IsDefining : Type 0 → Definition → DefineRun → Known → Type 0
-IsDefining sound x r k = (r.definition ≡ x) × define.Fits sound x r.state k × define.IsGoing r.state
+abbrev pub IsDefinitionUnderWay : Type 0 → Definition → DefineRun → Known → Type 0
+IsDefinitionUnderWay sound x r k = (r.definition ≡ x) × define.FitsDefinition sound x r.state k × define.IsDefinitionGoing r.state
 
 -- the table and the index stood so when the point was opened, after the first n entries; and a row has the state at the point that it had then
 pub record WasFound (n : ℕ) (k : Known) (t : TableId) (i : IndexId) (p : Point) (x : Index) : Type 0 where
@@ -282,7 +282,7 @@ pub record WasFound (n : ℕ) (k : Known) (t : TableId) (i : IndexId) (p : Point
   pub index : index_of was.base was.seen i.0 ≡ Some x
   pub owner : x.table.0 ≡ t.0
   pub birth : x.birth ≡ p.stamp
-  pub same : (r : List Value) → state_at k p r ≡ state_at was p r
+  pub same : (r : List Value) → state_at_point k p r ≡ state_at_point was p r
 
 -- a build at its point, where rows with these keys are done with, or have one of these primary keys and are still to be given their base versions
 pub record IsAtWork (sound : Type 0) (n : ℕ) (k : Known) (t : TableId) (i : IndexId) (b : Build) (done : List ℕ → Bool) (owners : List (List Value)) : Type 0 where
@@ -298,7 +298,7 @@ pub record IsFoundAt (sound : Type 0) (k : Known) (p : Point) (fs : List FoundKe
   pub rising : IsRisingFrom past fs
   pub some : fs ≢ []
   pub few : length fs ≤ 64
-  pub there : sound → (f : FoundRow) → IsAmong (Sure f) fs → state_at k p (owner_at p f.row) ≡ Some f.row
+  pub there : sound → (f : FoundRow) → IsAmong (Sure f) fs → state_at_point k p (owner_at p f.row) ≡ Some f.row
 
 -- a build that reads on past a key, with chunks that were found and have no base versions yet
 pub record IsReading (sound : Type 0) (n : ℕ) (k : Known) (t : TableId) (i : IndexId) (b : Build) (after : Option (List ℕ)) (cs : List (List FoundKey)) : Type 0 where
@@ -324,26 +324,26 @@ pub record IsBasing (sound : Type 0) (n : ℕ) (k : Known) (t : TableId) (i : In
 pub record IsActivating (sound : Type 0) (k : Known) (t : TableId) (i : IndexId) (p : Point) (r : DefineRun) : Type 0 where
   pub held : IsHeld k t p
   pub birth : MayBase sound k p i.0 []
-  pub defining : IsDefining sound (d.Active t i) r k
+  pub defining : IsDefinitionUnderWay sound (d.Active t i) r k
 
 -- what is known once the point is closed, and what the seat did while it was open
-abbrev pub Follows : Type 0 → ℕ → TableId → IndexId → Point → Next → Known → List Act → Type 0
-Follows sound n t i p (next.Again birth) k own = TriesThen t i (opening p ∷ []) own
-Follows sound n t i p next.Renew k own = TriesThen t i (opening p ∷ []) own
-Follows sound n t i p (next.Active m) k own = (p.stamp ≡ m.stamp) × BecameActive n t.0 i.0 m k × TriesThen t i (opening p ∷ act.IndexState t i states.Active m.stamp ∷ []) own
-Follows sound n t i p (next.Failed f) k own = WasRefused sound n t.0 i.0 f k × TriesThen t i (opening p ∷ []) own
-Follows sound n t i p (next.Refused f) k own = WasRefused sound n t.0 i.0 f k × TriesThen t i (opening p ∷ []) own
+abbrev pub FollowsClosing : Type 0 → ℕ → TableId → IndexId → Point → Next → Known → List Act → Type 0
+FollowsClosing sound n t i p (next.Again birth) k own = TriesThen t i (opening p ∷ []) own
+FollowsClosing sound n t i p next.Renew k own = TriesThen t i (opening p ∷ []) own
+FollowsClosing sound n t i p (next.Active m) k own = (p.stamp ≡ m.stamp) × BecameActive n t.0 i.0 m k × TriesThen t i (opening p ∷ act.IndexState t i states.Active m.stamp ∷ []) own
+FollowsClosing sound n t i p (next.Failed f) k own = WasRefused sound n t.0 i.0 f k × TriesThen t i (opening p ∷ []) own
+FollowsClosing sound n t i p (next.Refused f) k own = WasRefused sound n t.0 i.0 f k × TriesThen t i (opening p ∷ []) own
 
 -- a state is as the trail tells, where `own` is what the seat began, ended, opened, closed and defined for the build so far
 abbrev pub IsState : Type 0 → ℕ → TableId → IndexId → List Act → BuildState → Known → Type 0
 IsState sound n t i own (s.Opening birth) k = TriesThen t i [] own
-IsState sound n t i own (s.Renewing r) k = TriesThen t i [] own × IsDefining sound (d.Rebuilding t i) r k
+IsState sound n t i own (s.Renewing r) k = TriesThen t i [] own × IsDefinitionUnderWay sound (d.Rebuilding t i) r k
 IsState sound n t i own (s.Reading b after g) k = TriesThen t i (opening b.point ∷ []) own × IsReading sound n k t i b after g.chunks
 IsState sound n t i own (s.Basing b xs more last) k = TriesThen t i (opening b.point ∷ []) own × IsBasing sound n k t i b xs more last
 IsState sound n t i own (s.Settling b xs more last) k = TriesThen t i (opening b.point ∷ []) own × IsBasing sound n k t i b xs more last
 IsState sound n t i own (s.Activating p r) k = TriesThen t i (opening p ∷ []) own × IsActivating sound k t i p r
-IsState sound n t i own (s.Closing p after) k = IsHeld k t p × Follows sound n t i p after k own
-IsState sound n t i own (s.Disabling r f) k = TriesThen t i [] own × IsDefining sound (d.Disabled t i) r k × WasRefused sound n t.0 i.0 f k
+IsState sound n t i own (s.Closing p after) k = IsHeld k t p × FollowsClosing sound n t i p after k own
+IsState sound n t i own (s.Disabling r f) k = TriesThen t i [] own × IsDefinitionUnderWay sound (d.Disabled t i) r k × WasRefused sound n t.0 i.0 f k
 
 pub record FitsState (sound : Type 0) (n : ℕ) (t : TableId) (i : IndexId) (own : List Act) (x : BuildState) (k : Known) : Type 0 where
   pub asked : IsAsked n t i k
@@ -351,13 +351,13 @@ pub record FitsState (sound : Type 0) (n : ℕ) (t : TableId) (i : IndexId) (own
 
 -- A build of this index of this table is as the trail tells, where it was begun after the first n entries, and `own` is what the seat began, ended,
 -- opened, closed and defined for it so far. Others' entries keep this
-pub record Fits (sound : Type 0) (n : ℕ) (t : TableId) (i : IndexId) (own : List Act) (r : BuildRun) (k : Known) : Type 0 where
+pub record FitsBuild (sound : Type 0) (n : ℕ) (t : TableId) (i : IndexId) (own : List Act) (r : BuildRun) (k : Known) : Type 0 where
   pub table : r.table ≡ t
   pub index : r.index ≡ i
   pub state : FitsState sound n t i own r.state k
 
 -- a build that has made no step
-pub record IsNew (t : TableId) (i : IndexId) (r : BuildRun) : Type 0 where
+pub record IsBuildNew (t : TableId) (i : IndexId) (r : BuildRun) : Type 0 where
   pub table : r.table ≡ t
   pub index : r.index ≡ i
   pub birth : ℕ
@@ -367,15 +367,15 @@ pub record IsNew (t : TableId) (i : IndexId) (r : BuildRun) : Type 0 where
 
 -- What a build comes to, where `own` is what the seat began, ended, opened, closed and defined for it. Of an index that stood active: some tries, and
 -- then that it was made active while a point was open at its birth. Else why not, and no more than tries, behind which the index was disabled or not
-abbrev pub IsOutcome : Type 0 → ℕ → TableId → IndexId → List Act → Known → Result Made BuildFault → Type 0
-IsOutcome sound n t i own k (Ok m) = BecameActive n t.0 i.0 m k × TriesThen t i (act.Opened t m.stamp true ∷ act.IndexState t i states.Active m.stamp ∷ act.Released t m.stamp ∷ []) own
-IsOutcome sound n t i own k (Err f) = WasRefused sound n t.0 i.0 f k × HasTried t i own
+abbrev pub IsBuildOutcome : Type 0 → ℕ → TableId → IndexId → List Act → Known → Result Made BuildFault → Type 0
+IsBuildOutcome sound n t i own k (Ok m) = BecameActive n t.0 i.0 m k × TriesThen t i (act.Opened t m.stamp true ∷ act.IndexState t i states.Active m.stamp ∷ act.Released t m.stamp ∷ []) own
+IsBuildOutcome sound n t i own k (Err f) = WasRefused sound n t.0 i.0 f k × HasTried t i own
 
 -- what a step led to
 abbrev pub Led : Type 0 → ℕ → TableId → IndexId → List Act → Known → Came → Type 0
 Led sound n t i own k (came.On x) = FitsState sound n t i own x k
 Led sound n t i own k (came.Waits x) = FitsState sound n t i own x k
-Led sound n t i own k (came.Over r) = IsOutcome sound n t i own k r
+Led sound n t i own k (came.Over r) = IsBuildOutcome sound n t i own k r
 
 pub record Leads (sound : Type 0) (n : ℕ) (t : TableId) (i : IndexId) (own : List Act) (k k' : Known) (c : Came) : Type 0 where
   pub acts : List Act
@@ -384,12 +384,12 @@ pub record Leads (sound : Type 0) (n : ℕ) (t : TableId) (i : IndexId) (own : L
 
 -- it goes on, waits for others, or is over, where `own` is what the seat did for it so far
 abbrev pub Told : Type 0 → ℕ → TableId → IndexId → List Act → Known → BuildTurn → Type 0
-Told sound n t i own k (turn.Stepped r) = Fits sound n t i own r k
-Told sound n t i own k (turn.Waiting r) = Fits sound n t i own r k
-Told sound n t i own k (turn.Over r) = IsOutcome sound n t i own k r
+Told sound n t i own k (turn.Stepped r) = FitsBuild sound n t i own r k
+Told sound n t i own k (turn.Waiting r) = FitsBuild sound n t i own r k
+Told sound n t i own k (turn.Over r) = IsBuildOutcome sound n t i own k r
 
 -- one step of the build of an index
-pub record Turns (sound : Type 0) (n : ℕ) (t : TableId) (i : IndexId) (own : List Act) (k k' : Known) (x : BuildTurn) : Type 0 where
+pub record BuildTurns (sound : Type 0) (n : ℕ) (t : TableId) (i : IndexId) (own : List Act) (k k' : Known) (x : BuildTurn) : Type 0 where
   pub acts : List Act
   pub ran : Ran k k' acts
   pub told : Told sound n t i (own ++ outline acts) k' x
@@ -398,13 +398,13 @@ pub record Turns (sound : Type 0) (n : ℕ) (t : TableId) (i : IndexId) (own : L
 
 -- the index stands among the point's definitions, isn't disabled, and was born at the point
 pub record IsBornAt (p : Point) (i : IndexId) (x : Index) : Type 0 where
-  pub is : index_in p.found i.0 ≡ Some x
+  pub is : index_of_found p.found i.0 ≡ Some x
   pub enabled : x.state ≢ states.Disabled
   pub birth : x.birth ≡ p.stamp
 
 -- what comes at a point that was just opened
 abbrev pub Begins : Point → IndexId → BuildState → Type 0
-Begins p i (s.Closing q (next.Failed f)) = (q ≡ p) × (f ≡ why.NoIndex) × (index_in p.found i.0 ≡ None)
+Begins p i (s.Closing q (next.Failed f)) = (q ≡ p) × (f ≡ why.NoIndex) × (index_of_found p.found i.0 ≡ None)
 Begins p i (s.Closing q next.Renew) = q ≡ p
 Begins p i (s.Closing q (next.Again birth)) = q ≡ p
 Begins p i (s.Closing q (next.Refused f)) = (q ≡ p) × (f ≡ why.Memory)
@@ -439,7 +439,7 @@ IsMade b t i cs last x = (ps : List (List BaseRow)) × ArePieces b.point.found.t
 
 -- what comes of chunks whose base versions were to be made
 abbrev pub AfterMaking : Build → TableId → IndexId → List (List FoundKey) → Option (List ℕ) → BuildState → Type 0
-AfterMaking b t i cs last (s.Closing p (next.Refused (why.Limit bound.Key count))) = (p ≡ b.point) × (count ≡ most_key) × HasLongIn b.columns cs
+AfterMaking b t i cs last (s.Closing p (next.Refused (why.Limit bound.Key count))) = (p ≡ b.point) × (count ≡ most_key) × HasLongChunk b.columns cs
 AfterMaking b t i cs last (s.Closing p (next.Refused why.Memory)) = p ≡ b.point
 AfterMaking b t i cs last x = IsMade b t i cs last x
 

@@ -2,7 +2,7 @@
 ghost use Rattle.std.specs.Prelude.{◌≡◌, ◌≤◌, ℕ, List, IfOk};
 ghost use Rattle.px_paths.specs.Paths.{index_path as index_path_of, table_path as table_path_of};
 ghost use Rattle.px_trail.specs.declared.entry.Act.{Act as Acts};
-ghost use Rattle.px_upkeep.specs.Turns.{AfterLook, AfterMaking, BasesOn, Begins, Fits, FitsState, IsDisabling, IsUnopened, IsWhole, Leads, ReadsOn, Turns, definition_fault, first_or, next_of as next_is, rows_fault, step_fault};
+ghost use Rattle.px_upkeep.specs.Turns.{AfterLook, AfterMaking, BasesOn, Begins, BuildTurns, FitsBuild, FitsState, IsDisabling, IsUnopened, IsWhole, Leads, ReadsOn, fault_of_definition, first_or, next_of as next_is, rows_fault, step_fault};
 ghost use Rattle.px_values.specs.declared.name.IndexId.{IndexId as IndexNumber};
 ghost use Rattle.px_values.specs.declared.name.TableId.{TableId as TableNumber};
 
@@ -117,7 +117,7 @@ fn fault_of(f: StepFault) -> BuildFault
 }
 
 fn fault_after(f: DefineFault) -> BuildFault
-    ensures { result ≡ definition_fault f }
+    ensures { result ≡ fault_of_definition f }
 {
     match f {
         DefineFault::NoTable => BuildFault::NoTable,
@@ -601,8 +601,8 @@ impl BuildRun {
 
     /// Makes one call. The base versions of rows that were gathered are made outside of it.
     pub fn step<R: Threads + Sync, S: Steps>(self, rt: &R, s: &mut S) -> BuildTurn
-        requires { (n : ℕ) × (own : List Acts) × Fits S.sound n self.table self.index own self (S.known s.old) }
-        ensures turns { (n : ℕ) → (t : TableNumber) → (i : IndexNumber) → (own : List Acts) → Fits S.sound n t i own self (S.known s.old) → Turns S.sound n t i own (S.known s.old) (S.known s.new) result }
+        requires { (n : ℕ) × (own : List Acts) × FitsBuild S.sound n self.table self.index own self (S.known s.old) }
+        ensures turns { (n : ℕ) → (t : TableNumber) → (i : IndexNumber) → (own : List Acts) → FitsBuild S.sound n t i own self (S.known s.old) → BuildTurns S.sound n t i own (S.known s.old) (S.known s.new) result }
         ensures one_call { S.one_call s.old s.new }
     {
         let BuildRun {

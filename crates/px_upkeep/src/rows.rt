@@ -3,7 +3,7 @@ ghost use Rattle.std.specs.Prelude.{◌≡◌, ◌⊎◌, ◌≤◌, ◌∷◌, 
 ghost use Rattle.px_calls.specs.Causes.{IsLong};
 ghost use Rattle.px_keys.specs.Spelling.{Fits};
 ghost use Rattle.px_paths.specs.Paths.{AreOfTypes, columns_on, key_on as key_on_path, values_on};
-ghost use Rattle.px_upkeep.specs.Rows.{AreBaseRows, ArePieces, HasLong, HasLongIn, IsBaseOf, IsMadeOf, KeepsRow};
+ghost use Rattle.px_upkeep.specs.Rows.{AreBasesOf, ArePieces, HasLong, HasLongChunk, IsBaseOf, IsMadeOf, KeepsRow};
 ghost use Rattle.px_upkeep.specs.declared.rows.RowsFault.TheVariants.{Memory};
 ghost use Rattle.px_values.specs.Limits.{most_key};
 ghost use Rattle.px_values.specs.Types.{HasType};
@@ -179,7 +179,7 @@ pub(crate) fn base_rows(
     columns: &[PathColumn],
     found: Items<FoundKey>,
 ) -> Result<BaseRows, RowsFault>
-    ensures ok { IfOk result (λ rows. AreBaseRows table.now keys.now columns.now found rows) }
+    ensures ok { IfOk result (λ rows. AreBasesOf table.now keys.now columns.now found rows) }
     ensures too_long { result ≡ Err RowsFault.TooLong → HasLong columns.now found }
 {
     let mut rows = Vec::new(alloc);
@@ -200,7 +200,7 @@ pub fn base_pieces<R: Threads + Sync>(
     chunks: Items<Items<FoundKey>>,
 ) -> Result<Items<BaseRows>, RowsFault>
     ensures ok { IfOk result (λ pieces. ArePieces table.now keys.now columns.now chunks pieces) }
-    ensures too_long { result ≡ Err RowsFault.TooLong → HasLongIn columns.now chunks }
+    ensures too_long { result ≡ Err RowsFault.TooLong → HasLongChunk columns.now chunks }
 {
     let made: Result<Result<Vec<BaseRows>, RowsFault>, AllocError> = chunks
         .into_vec()

@@ -24,18 +24,18 @@ use Rattle.px_verifying.specs.declared.answer.Unfinished.{Unfinished}
 use Rattle.px_verifying.specs.Turns.{MayBegin, RanVerify}
 use Rattle.px_verified.specs.declared.asked.Verification.{Verification}
 use Rattle.px_verified.specs.Verified as spec
-use Rattle.px_verified.specs.Verified.{HasVerified, IsRight, StoodAt, back_to, index_named}
+use Rattle.px_verified.specs.Verified.{HasVerified, IsRightVerification, TableStoodAt, back_to, id_of_index_named}
 
 -- 1. The index of a name is one of them
 
 no_index : (i : IndexId) → None ≡ Some i → ⊥
 no_index i h = cc
 
-named_among : (xs : List Index) (name : List ℕ) (i : IndexId) → index_named xs name ≡ Some i → (x : Index) × IsAmong x xs × (x.id ≡ i)
+named_among : (xs : List Index) (name : List ℕ) (i : IndexId) → id_of_index_named xs name ≡ Some i → (x : Index) × IsAmong x xs × (x.id ≡ i)
 unfolding IsAmong
 named_among [] name i h = absurd (no_index i h)
 named_among (x ∷ xs) name i h =
-    elim (bytes_eq x.name name) as (λ v. (if v then Some x.id else index_named xs name) ≡ Some i → (y : Index) × IsAmong y (x ∷ xs) × (y.id ≡ i)) [
+    elim (bytes_eq x.name name) as (λ v. (if v then Some x.id else id_of_index_named xs name) ≡ Some i → (y : Index) × IsAmong y (x ∷ xs) × (y.id ≡ i)) [
       | true ↦ λ e. (let same : x.id ≡ i = cc in (x, inl refl, same))
       | false ↦ λ e. (let r = named_among xs name i e in (r.0, inr r.1, r.2))
     ] h
@@ -49,10 +49,10 @@ module _ (sound : Type 0) (v : Verification) where
   none_here : (k : Known) → NamesNoTable k v.table → NamesNoTable (back_to (length k.seen) k) v.table
   none_here k none = subst (λ (es : List Entry). NamesNoTable (record k { seen = es }) v.table) (sym (take-length k.seen)) none
 
-  stood_here : (k k' : Known) (f : Found) → DidFind k k' v.table f → StoodAt k' (length k'.seen) v.table f
+  stood_here : (k k' : Known) (f : Found) → DidFind k k' v.table f → TableStoodAt k' (length k'.seen) v.table f
   stood_here k k' f did = record { within = omega arith; is = subst (λ (es : List Entry). IsFound k'.base es f) (sym (take-length k'.seen)) did.found; named = did.name_is }
 
-  stood_later : (k k' : Known) (n : ℕ) (f : Found) (more : List Entry) → k'.seen ≡ k.seen ++ more → k'.base ≡ k.base → StoodAt k n v.table f → StoodAt k' n v.table f
+  stood_later : (k k' : Known) (n : ℕ) (f : Found) (more : List Entry) → k'.seen ≡ k.seen ++ more → k'.base ≡ k.base → TableStoodAt k n v.table f → TableStoodAt k' n v.table f
   stood_later k k' n f more seen base s =
       let same : take n k.seen ≡ take n k'.seen = sym (take-append-le n k.seen more s.within) ∙ ap (take n) (sym seen) in
       let F : Base × List Entry → Type 0 = λ q. IsFound q.0 q.1 f in
@@ -61,7 +61,7 @@ module _ (sound : Type 0) (v : Verification) where
 
   -- 3. Nothing is verified
 
-  quietly : (k k' : Known) (r : Reply) → Sees k k' → IsRight sound k' (length k.seen) [] v r → HasVerified sound k k' v r
+  quietly : (k k' : Known) (r : Reply) → Sees k k' → IsRightVerification sound k' (length k.seen) [] v r → HasVerified sound k k' v r
   quietly k k' r sees right = record { acts = []; ran = ran-sees k k' sees; right = right }
 
   pub not-found : (k k' : Known) (f : StepFault) → Refuses (find_cause v.table) k k' f → HasVerified sound k k' v (spec.unfound v f)
@@ -87,19 +87,19 @@ module _ (sound : Type 0) (v : Verification) where
     low : length k.seen ≤ length a.seen
     low = forward k a sees.passes.others sees.passes.seen
 
-    pub not-indexed : index_named f.indexes v.index ≡ None → HasVerified sound k a v (reply.Refused (refusal.NoIndex v.index))
+    pub not-indexed : id_of_index_named f.indexes v.index ≡ None → HasVerified sound k a v (reply.Refused (refusal.NoIndex v.index))
     not-indexed none = quietly k a (reply.Refused (refusal.NoIndex v.index)) sees (spec.is_not_indexed (length a.seen) f low (stood_here k a f did) none refl refl)
 
     -- 4. The index is verified
 
-    module _ (i : IndexId) (named : index_named f.indexes v.index ≡ Some i) where
+    module _ (i : IndexId) (named : id_of_index_named f.indexes v.index ≡ Some i) where
       drawn : IsDrawn a i.0
       drawn = let x = named_among f.indexes v.index i named in subst (λ (y : IndexId). IsDrawn a y.0) x.2 (did.found.indexes_drawn x.0 x.1)
 
       pub may-begin : MayBegin f.table.id i v.kind a
       may-begin = λ rebuilds. (did.found.drawn, drawn)
 
-      pub verified : (k' : Known) (came : Result Reports Unfinished) → RanVerify sound f.table.id i v.kind a k' came → HasVerified sound k k' v (spec.told v came)
+      pub verified : (k' : Known) (came : Result Reports Unfinished) → RanVerify sound f.table.id i v.kind a k' came → HasVerified sound k k' v (spec.told_of_verification v came)
       verified k' came r = record {
         acts = r.acts;
         ran = ran-then k a k' [] r.acts (ran-sees k a sees) r.ran;

@@ -23,7 +23,7 @@ use Rattle.px_verifying.specs.declared.answer.Reports.{Reports}
 use Rattle.px_verifying.specs.declared.answer.Unfinished.{Unfinished}
 use Rattle.px_verifying.specs.declared.answer.VerifyFault.{VerifyFault}
 use Rattle.px_verifying.specs.declared.answer.VerifyFault.TheVariants as fault
-use Rattle.px_verifying.specs.Turns.{IsOutcome}
+use Rattle.px_verifying.specs.Turns.{IsVerificationOutcome}
 use Rattle.px_verified.specs.declared.asked.Verification.{Verification}
 
 -- 1. How an outcome is told
@@ -53,9 +53,9 @@ shown reported = option_map (λ a. counts_of a.report) reported
 abbrev pub checked_of : Reports → Option Refusal → Checked
 checked_of x why = record { before = shown x.before; rebuilt = is_some x.rebuilt; after = shown x.after; refused = why }
 
-abbrev pub told : Verification → Result Reports Unfinished → Reply
-told v (Ok x) = reply.Verified (checked_of x None)
-told v (Err u) = reply.Verified (checked_of u.done (Some (refusal_of v u.fault)))
+abbrev pub told_of_verification : Verification → Result Reports Unfinished → Reply
+told_of_verification v (Ok x) = reply.Verified (checked_of x None)
+told_of_verification v (Err u) = reply.Verified (checked_of u.done (Some (refusal_of v u.fault)))
 
 -- no table was found
 abbrev pub unfound : Verification → StepFault → Reply
@@ -66,16 +66,16 @@ unfound v f = reply.Refused refusal.Memory
 -- 2. What was found
 
 -- the number of the index of this name
-abbrev pub index_named : List Index → List ℕ → Option IndexId
-index_named [] name = None
-index_named (x ∷ xs) name = if bytes_eq x.name name then Some x.id else index_named xs name
+abbrev pub id_of_index_named : List Index → List ℕ → Option IndexId
+id_of_index_named [] name = None
+id_of_index_named (x ∷ xs) name = if bytes_eq x.name name then Some x.id else id_of_index_named xs name
 
 -- what was seen after the first n entries
 abbrev pub back_to : ℕ → Known → Known
 back_to n k = record k { seen = take n k.seen }
 
 -- the table of this name stood after the first n entries, with its indexes
-pub record StoodAt (k : Known) (n : ℕ) (name : List ℕ) (f : Found) : Type 0 where
+pub record TableStoodAt (k : Known) (n : ℕ) (name : List ℕ) (f : Found) : Type 0 where
   pub within : n ≤ length k.seen
   pub is : IsFound k.base (take n k.seen) f
   pub named : f.table.name ≡ name
@@ -83,16 +83,16 @@ pub record StoodAt (k : Known) (n : ℕ) (name : List ℕ) (f : Found) : Type 0 
 -- 3. What is right
 
 -- The reply to a verification that was begun after the first `from` entries, where `own` is what the seat began, ended, opened, closed and defined for it
-pub data IsRight (sound : Type 0) (k : Known) (from : ℕ) (own : List Act) (v : Verification) (r : Reply) : Type 0 where
-  is_closed : (call : ℕ) → ClosedBy call k → r ≡ reply.Refused (refusal.Closed call) → own ≡ [] → IsRight sound k from own v r
-  is_unfound : (n : ℕ) → from ≤ n → n ≤ length k.seen → NamesNoTable (back_to n k) v.table → r ≡ reply.Refused (refusal.NoTable v.table) → own ≡ [] → IsRight sound k from own v r
-  is_not_indexed : (n : ℕ) (f : Found) → from ≤ n → StoodAt k n v.table f → index_named f.indexes v.index ≡ None → r ≡ reply.Refused (refusal.NoIndex v.index) → own ≡ [] → IsRight sound k from own v r
-  is_lacking : r ≡ reply.Refused refusal.Memory → own ≡ [] → IsRight sound k from own v r
+pub data IsRightVerification (sound : Type 0) (k : Known) (from : ℕ) (own : List Act) (v : Verification) (r : Reply) : Type 0 where
+  is_closed : (call : ℕ) → ClosedBy call k → r ≡ reply.Refused (refusal.Closed call) → own ≡ [] → IsRightVerification sound k from own v r
+  is_unfound : (n : ℕ) → from ≤ n → n ≤ length k.seen → NamesNoTable (back_to n k) v.table → r ≡ reply.Refused (refusal.NoTable v.table) → own ≡ [] → IsRightVerification sound k from own v r
+  is_not_indexed : (n : ℕ) (f : Found) → from ≤ n → TableStoodAt k n v.table f → id_of_index_named f.indexes v.index ≡ None → r ≡ reply.Refused (refusal.NoIndex v.index) → own ≡ [] → IsRightVerification sound k from own v r
+  is_lacking : r ≡ reply.Refused refusal.Memory → own ≡ [] → IsRightVerification sound k from own v r
   -- each part of the kind was finished, or those before one that was refused
-  is_over : (n : ℕ) (f : Found) (i : IndexId) (came : Result Reports Unfinished) → from ≤ n → StoodAt k n v.table f → index_named f.indexes v.index ≡ Some i → IsOutcome sound n f.table.id i v.kind own k came → r ≡ told v came → IsRight sound k from own v r
+  is_over : (n : ℕ) (f : Found) (i : IndexId) (came : Result Reports Unfinished) → from ≤ n → TableStoodAt k n v.table f → id_of_index_named f.indexes v.index ≡ Some i → IsVerificationOutcome sound n f.table.id i v.kind own k came → r ≡ told_of_verification v came → IsRightVerification sound k from own v r
 
 -- a whole verification, and of the seat's own acts those that it is made of
 pub record HasVerified (sound : Type 0) (k k' : Known) (v : Verification) (r : Reply) : Type 0 where
   pub acts : List Act
   pub ran : Ran k k' acts
-  pub right : IsRight sound k' (length k.seen) (outline acts) v r
+  pub right : IsRightVerification sound k' (length k.seen) (outline acts) v r

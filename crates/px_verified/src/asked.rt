@@ -1,6 +1,6 @@
 // What a verification is asked of.
 ghost use Rattle.std.specs.Prelude.{◌≡◌};
-ghost use Rattle.px_verified.specs.Verified.{index_named as index_named_is};
+ghost use Rattle.px_verified.specs.Verified.{id_of_index_named};
 
 use px_tables::Index;
 use px_values::{IndexId, Name};
@@ -16,7 +16,7 @@ pub struct Verification {
 
 /// The number of the index of this name.
 pub(crate) fn index_named(indexes: &[Index], name: &Name) -> Option<IndexId>
-    ensures { result ≡ index_named_is indexes.now name.now }
+    ensures { result ≡ id_of_index_named indexes.now name.now }
 {
     for index in indexes {
         if index.name.as_str() == name.as_str() {

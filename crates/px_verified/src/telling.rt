@@ -120,7 +120,7 @@ fn checked_of(done: Reports, refused: Option<Refusal>) -> Checked
 
 /// What is told of the end of a verification.
 pub(crate) fn told(asked: Verification, came: Result<Reports, Unfinished>) -> Reply
-    ensures { result ≡ spec.told asked came }
+    ensures { result ≡ spec.told_of_verification asked came }
 {
     match came {
         Ok(done) => {

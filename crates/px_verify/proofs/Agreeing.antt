@@ -28,16 +28,16 @@ use Rattle.px_calls.specs.declared.query.FoundKey.{FoundKey}
 use Rattle.px_calls.specs.declared.query.FoundKey.TheVariants.{Sure, InDoubt}
 use Rattle.px_calls.specs.declared.query.FoundRow.{FoundRow}
 use Rattle.px_calls.specs.declared.query.Point.{Point}
-use Rattle.px_calls.specs.Looks.{IsRightRow, IsRisingFrom, IsRowAt, found_by, index_columns, key_by, key_found, key_less, row_at, shown_by, shown_in}
-use Rattle.px_calls.specs.Requires.{index_in}
+use Rattle.px_calls.specs.Looks.{IsRightRow, IsRisingFrom, IsRowAt, found_by, index_path_in, key_by, key_found, key_less, row_at, shown_by, shown_in}
+use Rattle.px_calls.specs.Requires.{index_of_found}
 use Rattle.px_calls.proofs.Keys.{irreflexive}
 use Rattle.px_verify.specs.declared.report.IndexEntry.{IndexEntry}
 use Rattle.px_verify.specs.declared.report.Version.{Version}
 use Rattle.px_verify.specs.declared.report.Version.TheVariants.{Verified}
-use Rattle.px_verify.specs.Agreement.{Agrees}
-use Rattle.px_verify.specs.Lists.{HaveKeys, entries_of, entry_for, entry_on, values_in, version_of}
-use Rattle.px_verify.specs.Looking.{AreOnce, AreRowsAt}
-use Rattle.px_verify.specs.Reports.{is_at, is_verified, is_wrong, key_at, report_of, same_key, same_values}
+use Rattle.px_verify.specs.Agreement.{ReportAgrees}
+use Rattle.px_verify.specs.Lists.{HaveKeys, entries_of, entry_for, entry_on, values_in, version_found}
+use Rattle.px_verify.specs.Looking.{AreDistinctRows, AreRowsAtPoint}
+use Rattle.px_verify.specs.Reports.{is_at_entry, is_verified_version, is_wrong, key_of_version, report_of, same_key, same_values}
 use Rattle.px_verify.specs.Rising.{AreApart, AreRisingVersions}
 use Rattle.px_verify.proofs.Counts.{any-none, any-some, count-none, here, same-bytes, there}
 use Rattle.px_verify.proofs.Looked.{Part, past-all, rising-rest}
@@ -93,8 +93,8 @@ less-self : (a c : List ℕ) → key_less a c ≡ true → c ≡ a → ⊥
 less-self a c h same = let i = irreflexive a in let j : key_less a a ≡ true = subst (λ (w : List ℕ). key_less a w ≡ true) same h in let z : ◌≡◌ {A = Bool} true false = sym j ∙ i in cc
 
 -- rows whose keys rise come once
-once-each : (key : List Value → List ℕ) (c : Option (List ℕ)) (keys : List FoundKey) → IsRisingFrom c keys → ((f : FoundRow) → IsAmong (Sure f) keys → f.key ≡ key f.row) → AreOnce (rows_in keys)
-unfolding AreOnce rows_in
+once-each : (key : List Value → List ℕ) (c : Option (List ℕ)) (keys : List FoundKey) → IsRisingFrom c keys → ((f : FoundRow) → IsAmong (Sure f) keys → f.key ≡ key f.row) → AreDistinctRows (rows_in keys)
+unfolding AreDistinctRows rows_in
 once-each key c [] rising is = tt
 once-each key c (Sure f ∷ keys) rising is = (
   (λ among.
@@ -109,7 +109,7 @@ no_doubt : (d : Doubt) → by.Table ≡ by.Index d.index → ⊥
 no_doubt d h = cc
 
 -- what was found on the table's path are its rows at the point
-pub rows-found : (sound : Type 0) (b : Base) (es : List Entry) (p : Point) (keys : List FoundKey) → Part sound b es p by.Table None keys → sound → AreRowsAt b es p (rows_in keys)
+pub rows-found : (sound : Type 0) (b : Base) (es : List Entry) (p : Point) (keys : List FoundKey) → Part sound b es p by.Table None keys → sound → AreRowsAtPoint b es p (rows_in keys)
 rows-found sound b es p keys h is_sound = record {
   once = once-each (key_by p.found by.Table) None keys h.rising (λ f among. (table-key b es p f (h.right is_sound f among)).1);
   each = λ row. (
@@ -157,8 +157,8 @@ module _ (b : Base) (es : List Entry) (p : Point) (x : Index) (shape : shape_of 
           let key : same_key (key_on (index_path p.found.table x) row) (key_on (index_path p.found.table x) r.0) ≡ true = ap (λ (w : IndexEntry). same_key (key_on (index_path p.found.table x) row) w.key) r.2 ∙ e in
           absurd (new (subst (λ (w : List Value). IsAmong w rows) (sym (same-row row r.0 at (all r.0 r.1) key)) r.1))
 
-  apart-all : (rows : List (List Value)) → AreOnce rows → ((r : List Value) → IsAmong r rows → IsRowAt b es p r) → AreApart (map (entry_for t x) rows)
-  unfolding AreOnce AreApart
+  apart-all : (rows : List (List Value)) → AreDistinctRows rows → ((r : List Value) → IsAmong r rows → IsRowAt b es p r) → AreApart (map (entry_for t x) rows)
+  unfolding AreDistinctRows AreApart
   apart-all [] once all = tt
   apart-all (row ∷ rows) once all = (
     apart_from row rows once.0 (all row (here row rows)) (λ r among. all r (there r row rows among)),
@@ -166,7 +166,7 @@ module _ (b : Base) (es : List Entry) (p : Point) (x : Index) (shape : shape_of 
   )
 
   -- the entries that the rows at the point ask for have different keys
-  pub entries-apart : (rows : List (List Value)) → AreRowsAt b es p rows → AreApart (map (entry_for t x) rows)
+  pub entries-apart : (rows : List (List Value)) → AreRowsAtPoint b es p rows → AreApart (map (entry_for t x) rows)
   entries-apart rows h = apart-all rows h.once (λ r among. (h.each r).0 among)
 
 -- 3. What an index shows of a row
@@ -195,31 +195,31 @@ values-of t x row (c ∷ cs) held =
 values-shown : (t : Table) (x : Index) (row : List Value) → values_in x.included (shown_on t x row) ≡ values_in x.included row
 values-shown t x row = values-of t x row x.included (λ c among. included-held t x c among)
 
-key-of-version : (included : List ℕ) (g : FoundKey) → key_at (version_of included g) ≡ key_found g
+key-of-version : (included : List ℕ) (g : FoundKey) → key_of_version (version_found included g) ≡ key_found g
 key-of-version included (Sure f) = refl
 key-of-version included (InDoubt d) = refl
 
 -- 4. Rows and versions
 
-module _ (sound : Type 0) (b : Base) (es : List Entry) (p : Point) (i : IndexId) (x : Index) (is : index_in p.found i.0 ≡ Some x) (shape : shape_of b es p.table.0 ≡ table_shape p.found.table) (is_sound : sound) where
-  module _ (rows : List (List Value)) (are : AreRowsAt b es p rows) (keys : List FoundKey) (part : Part sound b es p (by.Index i) None keys) where
+module _ (sound : Type 0) (b : Base) (es : List Entry) (p : Point) (i : IndexId) (x : Index) (is : index_of_found p.found i.0 ≡ Some x) (shape : shape_of b es p.table.0 ≡ table_shape p.found.table) (is_sound : sound) where
+  module _ (rows : List (List Value)) (are : AreRowsAtPoint b es p rows) (keys : List FoundKey) (part : Part sound b es p (by.Index i) None keys) where
     key-is : (row : List Value) → key_by p.found (by.Index i) row ≡ key_on (index_path p.found.table x) row
-    key-is row = ap (λ (o : Option Index). key_on (index_columns p.found o) row) is
+    key-is row = ap (λ (o : Option Index). key_on (index_path_in p.found o) row) is
 
     shown-is : (row : List Value) → shown_by p.found (by.Index i) row ≡ shown_on p.found.table x row
     shown-is row = ap (λ (o : Option Index). shown_in p.found o row) is
 
     -- a version stands at the key of each row
-    row-there : (row : List Value) → IsRowAt b es p row → list_any (λ v. is_at v (entry_for p.found.table x row)) (map (version_of x.included) keys) ≡ true
+    row-there : (row : List Value) → IsRowAt b es p row → list_any (λ v. is_at_entry v (entry_for p.found.table x row)) (map (version_found x.included) keys) ≡ true
     row-there row at = elim (part.shown is_sound row at refl) [
-      | inl sure ↦ any-some (λ v. is_at v (entry_for p.found.table x row)) (version_of x.included (Sure (found_by p.found (by.Index i) row))) (map (version_of x.included) keys) (map-among (version_of x.included) (Sure (found_by p.found (by.Index i) row)) keys sure)
+      | inl sure ↦ any-some (λ v. is_at_entry v (entry_for p.found.table x row)) (version_found x.included (Sure (found_by p.found (by.Index i) row))) (map (version_found x.included) keys) (map-among (version_found x.included) (Sure (found_by p.found (by.Index i) row)) keys sure)
           (ap (λ (k : List ℕ). same_key k (key_on (index_path p.found.table x) row)) (key-is row) ∙ same-self (key_on (index_path p.found.table x) row))
-      | inr doubt ↦ any-some (λ v. is_at v (entry_for p.found.table x row)) (version_of x.included (InDoubt doubt.0)) (map (version_of x.included) keys) (map-among (version_of x.included) (InDoubt doubt.0) keys doubt.2)
+      | inr doubt ↦ any-some (λ v. is_at_entry v (entry_for p.found.table x row)) (version_found x.included (InDoubt doubt.0)) (map (version_found x.included) keys) (map-among (version_found x.included) (InDoubt doubt.0) keys doubt.2)
           (ap (λ (k : List ℕ). same_key k (key_on (index_path p.found.table x) row)) (doubt.1 ∙ key-is row) ∙ same-self (key_on (index_path p.found.table x) row))
     ]
 
     -- a verified version is what the index shows of a row
-    sure-entry : (f : FoundRow) → IsAmong (Sure f) keys → (row : List Value) × IsRowAt b es p row × (version_of x.included (Sure f) ≡ Verified (entry_for p.found.table x row))
+    sure-entry : (f : FoundRow) → IsAmong (Sure f) keys → (row : List Value) × IsRowAt b es p row × (version_found x.included (Sure f) ≡ Verified (entry_for p.found.table x row))
     sure-entry f among =
         let r = part.right is_sound f among in
         let key : f.key ≡ key_on (index_path p.found.table x) r.0 = ap (λ (w : FoundRow). w.key) r.2 ∙ key-is r.0 in
@@ -230,7 +230,7 @@ module _ (sound : Type 0) (b : Base) (es : List Entry) (p : Point) (i : IndexId)
     fits row at = part.fits is_sound row at
 
     -- no verified version has other values than its row
-    never-wrong : (row : List Value) → IsRowAt b es p row → (g : FoundKey) → IsAmong g keys → is_wrong (version_of x.included g) (entry_for p.found.table x row) ≡ false
+    never-wrong : (row : List Value) → IsRowAt b es p row → (g : FoundKey) → IsAmong g keys → is_wrong (version_found x.included g) (entry_for p.found.table x row) ≡ false
     never-wrong row at (InDoubt d) among = refl
     never-wrong row at (Sure f) among =
         let s = sure-entry f among in
@@ -244,39 +244,39 @@ module _ (sound : Type 0) (b : Base) (es : List Entry) (p : Point) (i : IndexId)
             ap (λ (w : Bool). w && not (same_values (values_in x.included r) (values_in x.included row))) e ∙ ap not values
 
     -- a verified version has its row
-    never-extra : (g : FoundKey) → IsAmong g keys → (is_verified (version_of x.included g) && not (list_any (λ row. is_at (version_of x.included g) row) (map (entry_for p.found.table x) rows))) ≡ false
+    never-extra : (g : FoundKey) → IsAmong g keys → (is_verified_version (version_found x.included g) && not (list_any (λ row. is_at_entry (version_found x.included g) row) (map (entry_for p.found.table x) rows))) ≡ false
     never-extra (InDoubt d) among = refl
     never-extra (Sure f) among =
         let s = sure-entry f among in
-        subst (λ (v : Version). (is_verified v && not (list_any (λ row. is_at v row) (map (entry_for p.found.table x) rows))) ≡ false) (sym s.2)
+        subst (λ (v : Version). (is_verified_version v && not (list_any (λ row. is_at_entry v row) (map (entry_for p.found.table x) rows))) ≡ false) (sym s.2)
         (ap not
-        (any-some (λ row. is_at (Verified (entry_for p.found.table x s.0)) row) (entry_for p.found.table x s.0) (map (entry_for p.found.table x) rows) (map-among (entry_for p.found.table x) s.0 rows ((are.each s.0).1 s.1))
+        (any-some (λ row. is_at_entry (Verified (entry_for p.found.table x s.0)) row) (entry_for p.found.table x s.0) (map (entry_for p.found.table x) rows) (map-among (entry_for p.found.table x) s.0 rows ((are.each s.0).1 s.1))
         (same-self (key_on (index_path p.found.table x) s.0))))
 
-    pub agrees : Agrees (report_of (map (entry_for p.found.table x) rows) (map (version_of x.included) keys))
+    pub agrees : ReportAgrees (report_of (map (entry_for p.found.table x) rows) (map (version_found x.included) keys))
     agrees = record {
-      missing = count-none (λ row. not (list_any (λ v. is_at v row) (map (version_of x.included) keys))) (map (entry_for p.found.table x) rows)
-          (λ e among. let r = among-map (entry_for p.found.table x) e rows among in subst (λ (w : IndexEntry). not (list_any (λ v. is_at v w) (map (version_of x.included) keys)) ≡ false) r.2 (ap not (row-there r.0 ((are.each r.0).0 r.1))));
-      extra = count-none (λ v. is_verified v && not (list_any (λ row. is_at v row) (map (entry_for p.found.table x) rows))) (map (version_of x.included) keys)
-          (λ v among. let g = among-map (version_of x.included) v keys among in subst (λ (w : Version). (is_verified w && not (list_any (λ row. is_at w row) (map (entry_for p.found.table x) rows))) ≡ false) g.2 (never-extra g.0 g.1));
-      wrong = count-none (λ row. list_any (λ v. is_wrong v row) (map (version_of x.included) keys)) (map (entry_for p.found.table x) rows)
+      missing = count-none (λ row. not (list_any (λ v. is_at_entry v row) (map (version_found x.included) keys))) (map (entry_for p.found.table x) rows)
+          (λ e among. let r = among-map (entry_for p.found.table x) e rows among in subst (λ (w : IndexEntry). not (list_any (λ v. is_at_entry v w) (map (version_found x.included) keys)) ≡ false) r.2 (ap not (row-there r.0 ((are.each r.0).0 r.1))));
+      extra = count-none (λ v. is_verified_version v && not (list_any (λ row. is_at_entry v row) (map (entry_for p.found.table x) rows))) (map (version_found x.included) keys)
+          (λ v among. let g = among-map (version_found x.included) v keys among in subst (λ (w : Version). (is_verified_version w && not (list_any (λ row. is_at_entry w row) (map (entry_for p.found.table x) rows))) ≡ false) g.2 (never-extra g.0 g.1));
+      wrong = count-none (λ row. list_any (λ v. is_wrong v row) (map (version_found x.included) keys)) (map (entry_for p.found.table x) rows)
           (λ e among.
           let r = among-map (entry_for p.found.table x) e rows among in
-          any-none (λ v. is_wrong v e) (map (version_of x.included) keys)
+          any-none (λ v. is_wrong v e) (map (version_found x.included) keys)
           (λ v v_among.
-          let g = among-map (version_of x.included) v keys v_among in
-          subst (λ (w : Version). is_wrong w e ≡ false) g.2 (subst (λ (w : IndexEntry). is_wrong (version_of x.included g.0) w ≡ false) r.2 (never-wrong r.0 ((are.each r.0).0 r.1) g.0 g.1))));
+          let g = among-map (version_found x.included) v keys v_among in
+          subst (λ (w : Version). is_wrong w e ≡ false) g.2 (subst (λ (w : IndexEntry). is_wrong (version_found x.included g.0) w ≡ false) r.2 (never-wrong r.0 ((are.each r.0).0 r.1) g.0 g.1))));
     }
 
 -- the versions' keys rise
-pub versions-rise : (included : List ℕ) (c : Option (List ℕ)) (keys : List FoundKey) → IsRisingFrom c keys → AreRisingVersions (map (version_of included) keys)
+pub versions-rise : (included : List ℕ) (c : Option (List ℕ)) (keys : List FoundKey) → IsRisingFrom c keys → AreRisingVersions (map (version_found included) keys)
 unfolding AreRisingVersions
 versions-rise included c [] h = tt
 versions-rise included c (g ∷ keys) h = (
   (λ other among.
-      let r = among-map (version_of included) other keys among in
-      subst (λ (v : Version). key_less (key_at (version_of included g)) (key_at v) ≡ true) r.2
-      (subst (λ (k : List ℕ). key_less k (key_at (version_of included r.0)) ≡ true) (sym (key-of-version included g))
+      let r = among-map (version_found included) other keys among in
+      subst (λ (v : Version). key_less (key_of_version (version_found included g)) (key_of_version v) ≡ true) r.2
+      (subst (λ (k : List ℕ). key_less k (key_of_version (version_found included r.0)) ≡ true) (sym (key-of-version included g))
       (subst (λ (k : List ℕ). key_less (key_found g) k ≡ true) (sym (key-of-version included r.0)) (past-all (Some (key_found g)) keys (rising-rest c g keys h) r.0 r.1)))),
   versions-rise included (Some (key_found g)) keys (rising-rest c g keys h),
 )

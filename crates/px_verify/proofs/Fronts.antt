@@ -16,7 +16,7 @@ use Rattle.px_verify.specs.declared.report.IndexEntry.{IndexEntry}
 use Rattle.px_verify.specs.declared.report.Report.{Report}
 use Rattle.px_verify.specs.declared.report.Version.{Version}
 use Rattle.px_verify.specs.declared.report.Version.TheVariants.{Verified, Unverified}
-use Rattle.px_verify.specs.Reports.{adds, count, is_at, is_match, is_verified, is_wrong, key_at, report_of, same_values}
+use Rattle.px_verify.specs.Reports.{adds, count, is_at_entry, is_match, is_verified_version, is_wrong, key_of_version, report_of, same_values}
 use Rattle.px_verify.specs.Rising.{AreRisingRows, AreRisingVersions}
 use Rattle.px_verify.specs.inner.Taking.{alone, first_taken, judged, lesser, rest}
 use Rattle.px_verify.proofs.Adding.{add-moved, add-none, plus}
@@ -24,11 +24,11 @@ use Rattle.px_verify.proofs.Counts.{any-none, count-no, count-same, count-yes, g
 
 -- 1. A version that isn't at a row's key says nothing of the row
 
-apart_match : (v : Version) (row : IndexEntry) → is_at v row ≡ false → is_match v row ≡ false
+apart_match : (v : Version) (row : IndexEntry) → is_at_entry v row ≡ false → is_match v row ≡ false
 apart_match (Verified e) row h = ap (λ (b : Bool). b && same_values e.values row.values) h
 apart_match (Unverified key) row h = refl
 
-apart_wrong : (v : Version) (row : IndexEntry) → is_at v row ≡ false → is_wrong v row ≡ false
+apart_wrong : (v : Version) (row : IndexEntry) → is_at_entry v row ≡ false → is_wrong v row ≡ false
 apart_wrong (Verified e) row h = ap (λ (b : Bool). b && not (same_values e.values row.values)) h
 apart_wrong (Unverified key) row h = refl
 
@@ -38,24 +38,24 @@ same_report r s a b c d e = (λ i. record { matching = a i; unverified = b i; mi
 
 -- none of these versions is at the row's key
 abbrev IsBefore : IndexEntry → List Version → Type 0
-IsBefore row versions = (v : Version) → IsAmong v versions → is_at v row ≡ false
+IsBefore row versions = (v : Version) → IsAmong v versions → is_at_entry v row ≡ false
 
 -- the version is at none of these rows' keys
 abbrev IsBeside : Version → List IndexEntry → Type 0
-IsBeside v rows = (row : IndexEntry) → IsAmong row rows → is_at v row ≡ false
+IsBeside v rows = (row : IndexEntry) → IsAmong row rows → is_at_entry v row ≡ false
 
 -- 2. A row alone
 
-extra_without : (row : IndexEntry) (rows : List IndexEntry) (v : Version) → is_at v row ≡ false → (is_verified v && not (list_any (λ r. is_at v r) (row ∷ rows))) ≡ (is_verified v && not (list_any (λ r. is_at v r) rows))
-extra_without row rows v h = ap (λ (b : Bool). is_verified v && not (b || list_any (λ r. is_at v r) rows)) h
+extra_without : (row : IndexEntry) (rows : List IndexEntry) (v : Version) → is_at_entry v row ≡ false → (is_verified_version v && not (list_any (λ r. is_at_entry v r) (row ∷ rows))) ≡ (is_verified_version v && not (list_any (λ r. is_at_entry v r) rows))
+extra_without row rows v h = ap (λ (b : Bool). is_verified_version v && not (b || list_any (λ r. is_at_entry v r) rows)) h
 
 row_alone : (row : IndexEntry) (rows : List IndexEntry) (versions : List Version) → IsBefore row versions → report_of (row ∷ rows) versions ≡ adds finding.Missing (report_of rows versions)
 row_alone row rows versions h =
     same_report (report_of (row ∷ rows) versions) (adds finding.Missing (report_of rows versions))
     (count-no (λ r. list_any (λ v. is_match v r) versions) row rows (any-none (λ v. is_match v row) versions (λ v among. apart_match v row (h v among))))
     refl
-    (count-yes (λ r. not (list_any (λ v. is_at v r) versions)) row rows (ap not (any-none (λ v. is_at v row) versions h)) ∙ (omega arith))
-    (count-same (λ v. is_verified v && not (list_any (λ r. is_at v r) (row ∷ rows))) (λ v. is_verified v && not (list_any (λ r. is_at v r) rows)) versions (λ v among. extra_without row rows v (h v among)))
+    (count-yes (λ r. not (list_any (λ v. is_at_entry v r) versions)) row rows (ap not (any-none (λ v. is_at_entry v row) versions h)) ∙ (omega arith))
+    (count-same (λ v. is_verified_version v && not (list_any (λ r. is_at_entry v r) (row ∷ rows))) (λ v. is_verified_version v && not (list_any (λ r. is_at_entry v r) rows)) versions (λ v among. extra_without row rows v (h v among)))
     (count-no (λ r. list_any (λ v. is_wrong v r) versions) row rows (any-none (λ v. is_wrong v row) versions (λ v among. apart_wrong v row (h v among))))
 
 -- 3. A version alone
@@ -64,8 +64,8 @@ row_alone row rows versions h =
 rows_without : (test : Version → IndexEntry → Bool) (v : Version) (versions : List Version) (rows : List IndexEntry) → ((row : IndexEntry) → IsAmong row rows → test v row ≡ false) → count (λ r. list_any (λ w. test w r) (v ∷ versions)) rows ≡ count (λ r. list_any (λ w. test w r) versions) rows
 rows_without test v versions rows h = count-same (λ r. list_any (λ w. test w r) (v ∷ versions)) (λ r. list_any (λ w. test w r) versions) rows (λ r among. ap (λ (b : Bool). b || list_any (λ w. test w r) versions) (h r among))
 
-missing_without : (v : Version) (versions : List Version) (rows : List IndexEntry) → IsBeside v rows → count (λ r. not (list_any (λ w. is_at w r) (v ∷ versions))) rows ≡ count (λ r. not (list_any (λ w. is_at w r) versions)) rows
-missing_without v versions rows h = count-same (λ r. not (list_any (λ w. is_at w r) (v ∷ versions))) (λ r. not (list_any (λ w. is_at w r) versions)) rows (λ r among. ap (λ (b : Bool). not (b || list_any (λ w. is_at w r) versions)) (h r among))
+missing_without : (v : Version) (versions : List Version) (rows : List IndexEntry) → IsBeside v rows → count (λ r. not (list_any (λ w. is_at_entry w r) (v ∷ versions))) rows ≡ count (λ r. not (list_any (λ w. is_at_entry w r) versions)) rows
+missing_without v versions rows h = count-same (λ r. not (list_any (λ w. is_at_entry w r) (v ∷ versions))) (λ r. not (list_any (λ w. is_at_entry w r) versions)) rows (λ r among. ap (λ (b : Bool). not (b || list_any (λ w. is_at_entry w r) versions)) (h r among))
 
 version_alone : (v : Version) (versions : List Version) (rows : List IndexEntry) → IsBeside v rows → report_of rows (v ∷ versions) ≡ adds (alone v) (report_of rows versions)
 version_alone (Verified e) versions rows h =
@@ -74,7 +74,7 @@ version_alone (Verified e) versions rows h =
     (rows_without is_match v versions rows (λ r among. apart_match v r (h r among)))
     refl
     (missing_without v versions rows h)
-    (count-yes (λ w. is_verified w && not (list_any (λ r. is_at w r) rows)) v versions (ap not (any-none (λ r. is_at v r) rows h)) ∙ (omega arith))
+    (count-yes (λ w. is_verified_version w && not (list_any (λ r. is_at_entry w r) rows)) v versions (ap not (any-none (λ r. is_at_entry v r) rows h)) ∙ (omega arith))
     (rows_without is_wrong v versions rows (λ r among. apart_wrong v r (h r among)))
 version_alone (Unverified key) versions rows h =
     let v : Version = Unverified key in
@@ -100,17 +100,17 @@ row_yes test v versions row rows first below =
     count-yes (λ r. list_any (λ w. test w r) (v ∷ versions)) row rows (ap (λ (b : Bool). b || list_any (λ w. test w row) versions) first)
     ∙ ap (λ (n : ℕ). suc n) (rows_without test v versions rows below)
 
-row_there : (v : Version) (versions : List Version) (row : IndexEntry) (rows : List IndexEntry) → is_at v row ≡ true → IsBeside v rows
-    → count (λ r. not (list_any (λ w. is_at w r) (v ∷ versions))) (row ∷ rows) ≡ count (λ r. not (list_any (λ w. is_at w r) versions)) rows
+row_there : (v : Version) (versions : List Version) (row : IndexEntry) (rows : List IndexEntry) → is_at_entry v row ≡ true → IsBeside v rows
+    → count (λ r. not (list_any (λ w. is_at_entry w r) (v ∷ versions))) (row ∷ rows) ≡ count (λ r. not (list_any (λ w. is_at_entry w r) versions)) rows
 row_there v versions row rows at below =
-    count-no (λ r. not (list_any (λ w. is_at w r) (v ∷ versions))) row rows (ap (λ (b : Bool). not (b || list_any (λ w. is_at w row) versions)) at)
+    count-no (λ r. not (list_any (λ w. is_at_entry w r) (v ∷ versions))) row rows (ap (λ (b : Bool). not (b || list_any (λ w. is_at_entry w row) versions)) at)
     ∙ missing_without v versions rows below
 
 extras_without : (row : IndexEntry) (rows : List IndexEntry) (versions : List Version) → IsBefore row versions
-    → count (λ v. is_verified v && not (list_any (λ r. is_at v r) (row ∷ rows))) versions ≡ count (λ v. is_verified v && not (list_any (λ r. is_at v r) rows)) versions
-extras_without row rows versions h = count-same (λ v. is_verified v && not (list_any (λ r. is_at v r) (row ∷ rows))) (λ v. is_verified v && not (list_any (λ r. is_at v r) rows)) versions (λ v among. extra_without row rows v (h v among))
+    → count (λ v. is_verified_version v && not (list_any (λ r. is_at_entry v r) (row ∷ rows))) versions ≡ count (λ v. is_verified_version v && not (list_any (λ r. is_at_entry v r) rows)) versions
+extras_without row rows versions h = count-same (λ v. is_verified_version v && not (list_any (λ r. is_at_entry v r) (row ∷ rows))) (λ v. is_verified_version v && not (list_any (λ r. is_at_entry v r) rows)) versions (λ v among. extra_without row rows v (h v among))
 
-both_at : (v : Version) (versions : List Version) (row : IndexEntry) (rows : List IndexEntry) → is_at v row ≡ true → IsBeside v rows → IsBefore row versions → report_of (row ∷ rows) (v ∷ versions) ≡ adds (judged row v) (report_of rows versions)
+both_at : (v : Version) (versions : List Version) (row : IndexEntry) (rows : List IndexEntry) → is_at_entry v row ≡ true → IsBeside v rows → IsBefore row versions → report_of (row ∷ rows) (v ∷ versions) ≡ adds (judged row v) (report_of rows versions)
 both_at (Unverified key) versions row rows at below after =
     let v : Version = Unverified key in
     same_report (report_of (row ∷ rows) (v ∷ versions)) (adds finding.Unverified (report_of rows versions))
@@ -121,9 +121,9 @@ both_at (Unverified key) versions row rows at below after =
     (row_no is_wrong v versions row rows refl (λ w among. apart_wrong w row (after w among)) (λ r among. refl))
 both_at (Verified e) versions row rows at below after = by_values (same_values e.values row.values) refl
   where
-    extra : count (λ w. is_verified w && not (list_any (λ r. is_at w r) (row ∷ rows))) (Verified e ∷ versions) ≡ count (λ w. is_verified w && not (list_any (λ r. is_at w r) rows)) versions
+    extra : count (λ w. is_verified_version w && not (list_any (λ r. is_at_entry w r) (row ∷ rows))) (Verified e ∷ versions) ≡ count (λ w. is_verified_version w && not (list_any (λ r. is_at_entry w r) rows)) versions
     extra =
-        count-no (λ w. is_verified w && not (list_any (λ r. is_at w r) (row ∷ rows))) (Verified e) versions (ap (λ (b : Bool). not (b || list_any (λ r. is_at (Verified e) r) rows)) at)
+        count-no (λ w. is_verified_version w && not (list_any (λ r. is_at_entry w r) (row ∷ rows))) (Verified e) versions (ap (λ (b : Bool). not (b || list_any (λ r. is_at_entry (Verified e) r) rows)) at)
         ∙ extras_without row rows versions after
 
     match_is : is_match (Verified e) row ≡ same_values e.values row.values
@@ -156,20 +156,20 @@ pub rising-row : (row : IndexEntry) (rows : List IndexEntry) → AreRisingRows (
 unfolding AreRisingRows
 rising-row row rows h = h
 
-pub rising-version : (v : Version) (versions : List Version) → AreRisingVersions (v ∷ versions) → ((other : Version) → IsAmong other versions → key_less (key_at v) (key_at other) ≡ true) × AreRisingVersions versions
+pub rising-version : (v : Version) (versions : List Version) → AreRisingVersions (v ∷ versions) → ((other : Version) → IsAmong other versions → key_less (key_of_version v) (key_of_version other) ≡ true) × AreRisingVersions versions
 unfolding AreRisingVersions
 rising-version v versions h = h
 
 -- all versions are behind a row that is before the first
-before_all : (row : IndexEntry) (v : Version) (versions : List Version) → key_less row.key (key_at v) ≡ true → AreRisingVersions (v ∷ versions) → IsBefore row (v ∷ versions)
+before_all : (row : IndexEntry) (v : Version) (versions : List Version) → key_less row.key (key_of_version v) ≡ true → AreRisingVersions (v ∷ versions) → IsBefore row (v ∷ versions)
 unfolding IsAmong
-before_all row v versions h rising w (inl same) = greater-differs (key_at w) row.key (subst (λ (u : Version). key_less row.key (key_at u) ≡ true) same h)
-before_all row v versions h rising w (inr among) = greater-differs (key_at w) row.key (transitive row.key (key_at v) (key_at w) h ((rising-version v versions rising).0 w among))
+before_all row v versions h rising w (inl same) = greater-differs (key_of_version w) row.key (subst (λ (u : Version). key_less row.key (key_of_version u) ≡ true) same h)
+before_all row v versions h rising w (inr among) = greater-differs (key_of_version w) row.key (transitive row.key (key_of_version v) (key_of_version w) h ((rising-version v versions rising).0 w among))
 
-beside_all : (v : Version) (row : IndexEntry) (rows : List IndexEntry) → key_less (key_at v) row.key ≡ true → AreRisingRows (row ∷ rows) → IsBeside v (row ∷ rows)
+beside_all : (v : Version) (row : IndexEntry) (rows : List IndexEntry) → key_less (key_of_version v) row.key ≡ true → AreRisingRows (row ∷ rows) → IsBeside v (row ∷ rows)
 unfolding IsAmong
-beside_all v row rows h rising r (inl same) = less-differs (key_at v) r.key (subst (λ (u : IndexEntry). key_less (key_at v) u.key ≡ true) same h)
-beside_all v row rows h rising r (inr among) = less-differs (key_at v) r.key (transitive (key_at v) row.key r.key h ((rising-row row rows rising).0 r among))
+beside_all v row rows h rising r (inl same) = less-differs (key_of_version v) r.key (subst (λ (u : IndexEntry). key_less (key_of_version v) u.key ≡ true) same h)
+beside_all v row rows h rising r (inr among) = less-differs (key_of_version v) r.key (transitive (key_of_version v) row.key r.key h ((rising-row row rows rising).0 r among))
 
 none_before : (row : IndexEntry) → IsBefore row []
 unfolding IsAmong
@@ -179,17 +179,17 @@ none_beside : (v : Version) → IsBeside v []
 unfolding IsAmong
 none_beside v row among = absurd among
 
-lesser-step : (o : Ordering) (row : IndexEntry) (rows : List IndexEntry) (v : Version) (versions : List Version) → slice_cmp nat_cmp row.key (key_at v) ≡ o → AreRisingRows (row ∷ rows) → AreRisingVersions (v ∷ versions)
+lesser-step : (o : Ordering) (row : IndexEntry) (rows : List IndexEntry) (v : Version) (versions : List Version) → slice_cmp nat_cmp row.key (key_of_version v) ≡ o → AreRisingRows (row ∷ rows) → AreRisingVersions (v ∷ versions)
     → report_of (row ∷ rows) (v ∷ versions) ≡ adds (lesser o row v).finding (report_of (rest (lesser o row v).row (row ∷ rows)) (rest (lesser o row v).version (v ∷ versions)))
 lesser-step Less row rows v versions is rs vs = row_alone row rows (v ∷ versions) (before_all row v versions (ap is_lt is) vs)
 lesser-step Greater row rows v versions is rs vs =
-    let turned : key_less (key_at v) row.key ≡ true = ap is_lt (nat_list_cmp_total.antisymm (key_at v) row.key ∙ ap ordering_reverse is) in
+    let turned : key_less (key_of_version v) row.key ≡ true = ap is_lt (nat_list_cmp_total.antisymm (key_of_version v) row.key ∙ ap ordering_reverse is) in
     version_alone v versions (row ∷ rows) (beside_all v row rows turned rs)
 lesser-step Equal row rows v versions is rs vs =
-    let at : is_at v row ≡ true = ap is_eq (nat_list_cmp_total.antisymm (key_at v) row.key ∙ ap ordering_reverse is) in
+    let at : is_at_entry v row ≡ true = ap is_eq (nat_list_cmp_total.antisymm (key_of_version v) row.key ∙ ap ordering_reverse is) in
     both_at v versions row rows at
-    (λ r among. less-differs (key_at v) r.key (sym (same-less row.key (key_at v) r.key is) ∙ (rising-row row rows rs).0 r among))
-    (λ w among. greater-differs (key_at w) row.key (same-less row.key (key_at v) (key_at w) is ∙ (rising-version v versions vs).0 w among))
+    (λ r among. less-differs (key_of_version v) r.key (sym (same-less row.key (key_of_version v) r.key is) ∙ (rising-row row rows rs).0 r among))
+    (λ w among. greater-differs (key_of_version w) row.key (same-less row.key (key_of_version v) (key_of_version w) is ∙ (rising-version v versions vs).0 w among))
 
 of_some : (a t : Taken) (P : Taken → Type 0) → ◌≡◌ {A = Option Taken} (Some a) (Some t) → P a → P t
 of_some a t P is h = let e : a ≡ t = cc in subst P e h
@@ -198,7 +198,7 @@ pub step : (rows : List IndexEntry) (versions : List Version) (t : Taken) → fi
 step [] [] t is rs vs = cc
 step (row ∷ rows) [] t is rs vs = of_some _ t (λ (u : Taken). report_of (row ∷ rows) [] ≡ adds u.finding (report_of (rest u.row (row ∷ rows)) (rest u.version []))) is (row_alone row rows [] (none_before row))
 step [] (v ∷ versions) t is rs vs = of_some _ t (λ (u : Taken). report_of [] (v ∷ versions) ≡ adds u.finding (report_of (rest u.row []) (rest u.version (v ∷ versions)))) is (version_alone v versions [] (none_beside v))
-step (row ∷ rows) (v ∷ versions) t is rs vs = of_some _ t (λ (u : Taken). report_of (row ∷ rows) (v ∷ versions) ≡ adds u.finding (report_of (rest u.row (row ∷ rows)) (rest u.version (v ∷ versions)))) is (lesser-step (slice_cmp nat_cmp row.key (key_at v)) row rows v versions refl rs vs)
+step (row ∷ rows) (v ∷ versions) t is rs vs = of_some _ t (λ (u : Taken). report_of (row ∷ rows) (v ∷ versions) ≡ adds u.finding (report_of (rest u.row (row ∷ rows)) (rest u.version (v ∷ versions)))) is (lesser-step (slice_cmp nat_cmp row.key (key_of_version v)) row rows v versions refl rs vs)
 
 pub rest-rows : (b : Bool) (rows : List IndexEntry) → AreRisingRows rows → AreRisingRows (rest b rows)
 unfolding AreRisingRows
@@ -258,7 +258,7 @@ pub sizes : (rows : List IndexEntry) (versions : List Version) (t : Taken) → f
 sizes [] [] t is = cc
 sizes (row ∷ rows) [] t is = of_some _ t (Sizes (row ∷ rows) []) is (record { rows = omega arith; versions = omega arith; less = omega arith })
 sizes [] (v ∷ versions) t is = of_some _ t (Sizes [] (v ∷ versions)) is (alone_sizes v [] versions)
-sizes (row ∷ rows) (v ∷ versions) t is = of_some _ t (Sizes (row ∷ rows) (v ∷ versions)) is (lesser_sizes (slice_cmp nat_cmp row.key (key_at v)) row rows v versions)
+sizes (row ∷ rows) (v ∷ versions) t is = of_some _ t (Sizes (row ∷ rows) (v ∷ versions)) is (lesser_sizes (slice_cmp nat_cmp row.key (key_of_version v)) row rows v versions)
 
 rows_added : (f : Finding) (r : Report) → (adds f r).matching + (adds f r).missing + (adds f r).wrong ≡ of_rows f + (r.matching + r.missing + r.wrong)
 rows_added finding.Matching r = omega arith

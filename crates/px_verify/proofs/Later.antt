@@ -13,7 +13,7 @@ use Rattle.px_calls.specs.declared.query.Chunk.{Chunk}
 use Rattle.px_calls.specs.declared.query.Point.{Point}
 use Rattle.px_calls.specs.Calls.{IsFound}
 use Rattle.px_calls.specs.Causes.{Refuses, read_cause}
-use Rattle.px_calls.specs.Known.{Known, Passes}
+use Rattle.px_calls.specs.Known.{Known, TimePasses}
 use Rattle.px_scan.specs.declared.answer.QueryFault.TheVariants as query
 use Rattle.px_scan.specs.Turns.{Grown, Quiet}
 use Rattle.px_scan.proofs.Quieting.{Later, grown-passes, later-fault as scan-later, later-grown, longer, made-earlier as scan-earlier, made-later as scan-made, read_ends}
@@ -25,15 +25,15 @@ use Rattle.px_verify.specs.declared.machine.ReportState.{ReportState}
 use Rattle.px_verify.specs.declared.machine.ReportState.TheVariants as state
 use Rattle.px_verify.specs.declared.report.IndexEntry.{IndexEntry}
 use Rattle.px_verify.specs.declared.report.Version.{Version}
-use Rattle.px_verify.specs.Faults.{FaultIs, HasNoIndex, IsLookFault, MadeSince, ReportFaultIs, fault_of}
-use Rattle.px_verify.specs.Looking.{AreLooks, HasLooked, IsLooked}
-use Rattle.px_verify.specs.Points.{every_row, newest}
-use Rattle.px_verify.specs.Turns.{AreEntries, AreVersions, Fits, IsUnderWay, RowsTo, VersionsTo}
+use Rattle.px_verify.specs.Faults.{FaultIs, HasNoIndex, IsLookFault, ReportFaultIs, ReportFaultSince, fault_of}
+use Rattle.px_verify.specs.Looking.{AreLooks, HasFoundChunk, IsLooked}
+use Rattle.px_verify.specs.Points.{every_row, greatest_scn}
+use Rattle.px_verify.specs.Turns.{AreEntries, AreVersions, FitsReport, IsUnderWay, RowsTo, VersionsTo}
 
 -- 1. Looks
 
 module _ (sound : Type 0) (k k' : Known) (p : Point) (g : Later k k') where
-  pub later-looked : (by : By) (after : Option (List ℕ)) (c : Chunk) → HasLooked sound k p by after c → HasLooked sound k' p by after c
+  pub later-looked : (by : By) (after : Option (List ℕ)) (c : Chunk) → HasFoundChunk sound k p by after c → HasFoundChunk sound k' p by after c
   later-looked by after c h = record {
     before = h.before;
     then = h.then;
@@ -95,11 +95,11 @@ later-fault p t i (fault.Damaged file place) k k' h j = scan-later (every_row p)
 later-fault p t i (fault.Closed call) k k' h j = scan-later (every_row p) (query.Closed call) k k' h j
 later-fault p t i fault.Memory k k' h j = tt
 
-pub made-later : (m : ℕ) (f : ReportFault) (k k' : Known) → m ≤ length k.seen → Later k k' → MadeSince m f k → MadeSince m f k'
+pub made-later : (m : ℕ) (f : ReportFault) (k k' : Known) → m ≤ length k.seen → Later k k' → ReportFaultSince m f k → ReportFaultSince m f k'
 made-later m fault.ReadFault k k' le g j = scan-made m query.ReadFault k k' le g j
 made-later m f k k' le g j = tt
 
-pub made-earlier : (n m : ℕ) (f : ReportFault) (k : Known) → n ≤ m → MadeSince m f k → MadeSince n f k
+pub made-earlier : (n m : ℕ) (f : ReportFault) (k : Known) → n ≤ m → ReportFaultSince m f k → ReportFaultSince n f k
 made-earlier n m fault.ReadFault k le j = scan-earlier n m query.ReadFault k le j
 made-earlier n m f k le j = tt
 
@@ -113,7 +113,7 @@ pub record Ends (t : TableId) (i : IndexId) (k k' : Known) (f : StepFault) : Typ
   pub ends : IsLookFault f
   pub quiet : Quiet k k'
   pub told : FaultIs t i (fault_of f) k'
-  pub made : (m : ℕ) → m ≤ length k.seen → MadeSince m (fault_of f) k'
+  pub made : (m : ℕ) → m ≤ length k.seen → ReportFaultSince m (fault_of f) k'
 
 pub look-ends : (p : Point) (t : TableId) (i : IndexId) (k k' : Known) (f : StepFault) → Refuses read_cause k k' f → Ends t i k k' f
 look-ends p t i k k' step.ReadFault h = let e = read_ends (every_row p) k k' step.ReadFault h in record { ends = tt; quiet = e.quiet; told = e.told; made = e.made }
@@ -126,19 +126,19 @@ look-ends p t i k k' f h = absurd h.0
 -- 3. States
 
 pub grown-way : (k k' : Known) (t : TableId) (i : IndexId) (x : Reading) → Grown k k' → IsUnderWay k t i x → IsUnderWay k' t i x
-grown-way k k' t i x g h = record { open_point = grown-reading k k' (every_row x.point) (Some newest) x.point g h.open_point; has = h.has; path = h.path }
+grown-way k k' t i x g h = record { open_point = grown-reading k k' (every_row x.point) (Some greatest_scn) x.point g h.open_point; has = h.has; path = h.path }
 
-pub fits-grown : (sound : Type 0) (t : TableId) (i : IndexId) (s : ReportState) (k k' : Known) → Grown k k' → Fits sound t i s k → Fits sound t i s k'
+pub fits-grown : (sound : Type 0) (t : TableId) (i : IndexId) (s : ReportState) (k k' : Known) → Grown k k' → FitsReport sound t i s k → FitsReport sound t i s k'
 fits-grown sound t i state.Opening k k' g f = tt
 fits-grown sound t i (state.Rows x after) k k' g f = (grown-way k k' t i x g f.0, later-rows sound k k' x after (later-grown k k' g) f.1, f.2)
 fits-grown sound t i (state.Versions x after) k k' g f = let l = later-grown k k' g in (grown-way k k' t i x g f.0, f.1, later-entries sound k k' x.point l x.index x.rows.items f.2, later-versions-to sound k k' i x after l f.3)
 fits-grown sound t i (state.Closing p (Ok lists)) k k' g f =
     let l = later-grown k k' g in
-    (grown-reading k k' (every_row p) (Some newest) p g f.0, (f.1.0, f.1.1, later-entries sound k k' p l f.1.0 lists.rows.items f.1.2, later-versions sound k k' p l i f.1.0 lists.versions.items f.1.3))
+    (grown-reading k k' (every_row p) (Some greatest_scn) p g f.0, (f.1.0, f.1.1, later-entries sound k k' p l f.1.0 lists.rows.items f.1.2, later-versions sound k k' p l i f.1.0 lists.versions.items f.1.3))
 fits-grown sound t i (state.Closing p (Err e)) k k' g f =
     let l = later-grown k k' g in
-    (grown-reading k k' (every_row p) (Some newest) p g f.0, (f.1.0, later-fault p t i e k k' l f.1.1, made-later p.found.at e k k' f.0.point.within l f.1.2))
+    (grown-reading k k' (every_row p) (Some greatest_scn) p g f.0, (f.1.0, later-fault p t i e k k' l f.1.1, made-later p.found.at e k k' f.0.point.within l f.1.2))
 fits-grown sound t i state.Over k k' g f = tt
 
-pub fits-kept : (sound : Type 0) (t : TableId) (i : IndexId) (s : ReportState) (k k' : Known) → Passes k k' → Fits sound t i s k → Fits sound t i s k'
+pub fits-kept : (sound : Type 0) (t : TableId) (i : IndexId) (s : ReportState) (k k' : Known) → TimePasses k k' → FitsReport sound t i s k → FitsReport sound t i s k'
 fits-kept sound t i s k k' h f = fits-grown sound t i s k k' (grown-passes k k' h) f

@@ -13,11 +13,11 @@ use Rattle.px_calls.specs.declared.query.FoundKey.TheVariants.{Sure, InDoubt}
 use Rattle.px_calls.specs.declared.query.FoundRow.{FoundRow}
 use Rattle.px_calls.specs.declared.query.Point.{Point}
 use Rattle.px_calls.specs.Known.{Known}
-use Rattle.px_calls.specs.Looks.{AreDoubtsOf, IsRightRow, IsRisingFrom, IsRowAt, IsShown, ShowsRows, found_by, is_covered, is_on, is_past, key_by, key_found, key_less}
+use Rattle.px_calls.specs.Looks.{AreDoubtsOf, IsRightRow, IsRisingFrom, IsRowAt, IsRowShown, ShowsRows, found_by, is_covered, is_on, is_past, key_by, key_found, key_less}
 use Rattle.px_calls.specs.Requires.{FitsRow}
 use Rattle.px_calls.proofs.Keys.{asymmetric, transitive, up_to}
 use Rattle.px_gather.proofs.Answering.{IsFixed, at_exact, exact_at}
-use Rattle.px_verify.specs.Looking.{AreLooks, HasLooked, IsLooked, found_in, whole}
+use Rattle.px_verify.specs.Looking.{AreLooks, HasFoundChunk, IsLooked, found_in, whole}
 use Rattle.px_verify.proofs.Counts.{here, there}
 
 -- 1. Lists
@@ -39,11 +39,11 @@ among-either x [] ys h = inr h
 among-either x (y ∷ xs) ys (inl h) = inl (inl h)
 among-either x (y ∷ xs) ys (inr h) = elim (among-either x xs ys h) [ inl l ↦ inl (inr l) | inr r ↦ inr r ]
 
-shown-left : (fs gs : List FoundKey) (f : Found) (by : By) (row : List Value) → IsShown fs f by row → IsShown (fs ++ gs) f by row
+shown-left : (fs gs : List FoundKey) (f : Found) (by : By) (row : List Value) → IsRowShown fs f by row → IsRowShown (fs ++ gs) f by row
 shown-left fs gs f by row (inl h) = inl (among-left (Sure (found_by f by row)) fs gs h)
 shown-left fs gs f by row (inr (d, key, h)) = inr (d, key, among-left (InDoubt d) fs gs h)
 
-shown-right : (fs gs : List FoundKey) (f : Found) (by : By) (row : List Value) → IsShown gs f by row → IsShown (fs ++ gs) f by row
+shown-right : (fs gs : List FoundKey) (f : Found) (by : By) (row : List Value) → IsRowShown gs f by row → IsRowShown (fs ++ gs) f by row
 shown-right fs gs f by row (inl h) = inl (among-right (Sure (found_by f by row)) fs gs h)
 shown-right fs gs f by row (inr (d, key, h)) = inr (d, key, among-right (InDoubt d) fs gs h)
 
@@ -119,7 +119,7 @@ pub record Part (sound : Type 0) (b : Base) (es : List Entry) (p : Point) (by : 
   pub doubts : AreDoubtsOf p.found by keys
   pub right : sound → (f : FoundRow) → IsAmong (Sure f) keys → IsRightRow b es p by f
   pub fits : sound → (row : List Value) → IsRowAt b es p row → FitsRow p.found.table row
-  pub shown : sound → (row : List Value) → IsRowAt b es p row → is_past from (key_by p.found by row) ≡ true → IsShown keys p.found by row
+  pub shown : sound → (row : List Value) → IsRowAt b es p row → is_past from (key_by p.found by row) ≡ true → IsRowShown keys p.found by row
 
 module _ (sound : Type 0) (k : Known) (p : Point) (t : ℕ) (fixed : IsFixed k.base k.seen t p.stamp p.found.at) (is : p.scn ≡ true) (table : p.table.0 ≡ t) (to : p.found.at ≤ length k.seen) where
   row-later : (n : ℕ) (row : List Value) → p.found.at ≤ n → IsRowAt k.base (take n k.seen) p row → IsRowAt k.base k.seen p row
@@ -133,19 +133,19 @@ module _ (sound : Type 0) (k : Known) (p : Point) (t : ℕ) (fixed : IsFixed k.b
       (exact_at k.base k.seen p t p.found.at fixed is table (length k.seen) row to (subst (λ (l : List Entry). IsRowAt k.base l p row) (sym (take-length k.seen)) h))
 
   -- what a look shows of rows, in the words of all entries
-  rows-of : (by : By) (after : Option (List ℕ)) (c : Chunk) → HasLooked sound k p by after c → sound → ShowsRows k.base (take c.at k.seen) p (whole by) after c.found c.next
+  rows-of : (by : By) (after : Option (List ℕ)) (c : Chunk) → HasFoundChunk sound k p by after c → sound → ShowsRows k.base (take c.at k.seen) p (whole by) after c.found c.next
   rows-of by after c h is_sound = subst (λ (b : Base). ShowsRows b (take c.at k.seen) p (whole by) after c.found c.next) h.base (subst (λ (l : List Entry). ShowsRows h.then.base l p (whole by) after c.found c.next) h.seen (h.did.rows is_sound))
 
-  right-of : (by : By) (after : Option (List ℕ)) (c : Chunk) → HasLooked sound k p by after c → sound → (f : FoundRow) → IsAmong (Sure f) c.found → IsRightRow k.base k.seen p by f
+  right-of : (by : By) (after : Option (List ℕ)) (c : Chunk) → HasFoundChunk sound k p by after c → sound → (f : FoundRow) → IsAmong (Sure f) c.found → IsRightRow k.base k.seen p by f
   right-of by after c h is_sound f among = let r = (rows-of by after c h is_sound).right f among in (r.0, row-later c.at r.0 h.since r.1, r.2)
 
-  fits-of : (by : By) (after : Option (List ℕ)) (c : Chunk) → HasLooked sound k p by after c → sound → (row : List Value) → IsRowAt k.base k.seen p row → FitsRow p.found.table row
+  fits-of : (by : By) (after : Option (List ℕ)) (c : Chunk) → HasFoundChunk sound k p by after c → sound → (row : List Value) → IsRowAt k.base k.seen p row → FitsRow p.found.table row
   fits-of by after c h is_sound row at = (rows-of by after c h is_sound).fits row (row-earlier c.at row h.since at)
 
-  shown-of : (by : By) (after : Option (List ℕ)) (c : Chunk) → HasLooked sound k p by after c → sound → (row : List Value) → IsRowAt k.base k.seen p row → is_past after (key_by p.found by row) ≡ true → is_covered c.next (key_by p.found by row) ≡ true → IsShown c.found p.found by row
+  shown-of : (by : By) (after : Option (List ℕ)) (c : Chunk) → HasFoundChunk sound k p by after c → sound → (row : List Value) → IsRowAt k.base k.seen p row → is_past after (key_by p.found by row) ≡ true → is_covered c.next (key_by p.found by row) ≡ true → IsRowShown c.found p.found by row
   shown-of by after c h is_sound row at past covered = (rows-of by after c h is_sound).whole row (row-earlier c.at row h.since at) (on-whole by (key_by p.found by row)) past covered
 
-  last-part : (by : By) (from : Option (List ℕ)) (c : Chunk) → HasLooked sound k p by from c → c.next ≡ None → Part sound k.base k.seen p by from c.found
+  last-part : (by : By) (from : Option (List ℕ)) (c : Chunk) → HasFoundChunk sound k p by from c → c.next ≡ None → Part sound k.base k.seen p by from c.found
   last-part by from c h end = record {
     rising = h.did.shows.rising;
     doubts = h.did.shows.doubts;
@@ -154,7 +154,7 @@ module _ (sound : Type 0) (k : Known) (p : Point) (t : ℕ) (fixed : IsFixed k.b
     shown = λ is_sound row at past. shown-of by from c h is_sound row at past (ap (λ (o : Option (List ℕ)). is_covered o (key_by p.found by row)) end);
   }
 
-  one-more : (by : By) (from : Option (List ℕ)) (c : Chunk) (last : List ℕ) (keys : List FoundKey) → HasLooked sound k p by from c → c.next ≡ Some last → Part sound k.base k.seen p by (Some last) keys → Part sound k.base k.seen p by from (c.found ++ keys)
+  one-more : (by : By) (from : Option (List ℕ)) (c : Chunk) (last : List ℕ) (keys : List FoundKey) → HasFoundChunk sound k p by from c → c.next ≡ Some last → Part sound k.base k.seen p by (Some last) keys → Part sound k.base k.seen p by from (c.found ++ keys)
   one-more by from c last keys h next more =
       let covered : (g : FoundKey) → IsAmong g c.found → is_covered (Some last) (key_found g) ≡ true = λ g among. sym (ap (λ (o : Option (List ℕ)). is_covered o (key_found g)) next) ∙ h.did.shows.covered g among in
       let there = h.did.shows.last last next in
@@ -170,8 +170,8 @@ module _ (sound : Type 0) (k : Known) (p : Point) (t : ℕ) (fixed : IsFixed k.b
         ];
       }
 
-  parts : (by : By) (from : Option (List ℕ)) (cs : List Chunk) (next : Option (List ℕ)) (last : Chunk) → AreLooks sound k p by from cs next → HasLooked sound k p by next last → last.next ≡ None → Part sound k.base k.seen p by from (found_in cs ++ last.found)
-  parts by from [] next last h looked end = last-part by from last (subst (λ (o : Option (List ℕ)). HasLooked sound k p by o last) (sym h) looked) end
+  parts : (by : By) (from : Option (List ℕ)) (cs : List Chunk) (next : Option (List ℕ)) (last : Chunk) → AreLooks sound k p by from cs next → HasFoundChunk sound k p by next last → last.next ≡ None → Part sound k.base k.seen p by from (found_in cs ++ last.found)
+  parts by from [] next last h looked end = last-part by from last (subst (λ (o : Option (List ℕ)). HasFoundChunk sound k p by o last) (sym h) looked) end
   parts by from (c ∷ cs) next last h looked end =
       subst (Part sound k.base k.seen p by from) (sym (append-through c.found (found_in cs) last.found)) (one-more by from c h.1.0 (found_in cs ++ last.found) h.0 h.1.1 (parts by (Some h.1.0) cs next last h.1.2 looked end))
 

@@ -15,8 +15,8 @@ use Rattle.px_trail.specs.Answers.{IsAmong}
 use Rattle.px_calls.specs.Looks.{key_less}
 use Rattle.px_verify.specs.declared.report.IndexEntry.{IndexEntry}
 use Rattle.px_verify.specs.declared.report.Version.{Version}
-use Rattle.px_verify.specs.Reports.{count, is_at, is_match, is_verified, is_wrong, report_of, same_key}
-use Rattle.px_verify.specs.Rising.{AreApart, AreRisingRows, is_below}
+use Rattle.px_verify.specs.Reports.{count, is_at_entry, is_match, is_verified_version, is_wrong, report_of, same_key}
+use Rattle.px_verify.specs.Rising.{AreApart, AreRisingRows, is_entry_below}
 use Rattle.px_verify.proofs.Counts.{count-no, count-same, count-yes, here, same-bytes, there}
 use Rattle.px_verify.proofs.Fronts.{same_report}
 
@@ -64,8 +64,8 @@ report-permuted xs ys versions h =
     same_report (report_of ys versions) (report_of xs versions)
     (count-permuted (λ row. list_any (λ v. is_match v row) versions) xs ys h)
     refl
-    (count-permuted (λ row. not (list_any (λ v. is_at v row) versions)) xs ys h)
-    (count-same (λ v. is_verified v && not (list_any (λ row. is_at v row) ys)) (λ v. is_verified v && not (list_any (λ row. is_at v row) xs)) versions (λ v among. ap (λ (b : Bool). is_verified v && not b) (any-permuted (λ row. is_at v row) xs ys h)))
+    (count-permuted (λ row. not (list_any (λ v. is_at_entry v row) versions)) xs ys h)
+    (count-same (λ v. is_verified_version v && not (list_any (λ row. is_at_entry v row) ys)) (λ v. is_verified_version v && not (list_any (λ row. is_at_entry v row) xs)) versions (λ v among. ap (λ (b : Bool). is_verified_version v && not b) (any-permuted (λ row. is_at_entry v row) xs ys h)))
     (count-permuted (λ row. list_any (λ v. is_wrong v row) versions) xs ys h)
 
 -- 2. Keys that stand once
@@ -117,18 +117,18 @@ number-some test x (y ∷ xs) (inr among) h = (let s = number-cons test y xs in 
 
 -- 3. Sorted
 
-pub rank : IsStrictWeakOrder is_below
+pub rank : IsStrictWeakOrder is_entry_below
 rank = ranks_by nat_list_cmp_total (λ (row : IndexEntry). row.key)
 
-sorted-tail : (row : IndexEntry) (rows : List IndexEntry) → IsSortedBy is_below (row ∷ rows) → IsSortedBy is_below rows
+sorted-tail : (row : IndexEntry) (rows : List IndexEntry) → IsSortedBy is_entry_below (row ∷ rows) → IsSortedBy is_entry_below rows
 sorted-tail row rows h k d low high =
     let next : suc k + 1 ≡ suc (k + 1) = omega arith in
-    subst (λ (n : ℕ). is_below (slice_index_or (row ∷ rows) n d) (slice_index_or rows k d) ≡ false) next (h (suc k) d (omega arith) (omega arith))
+    subst (λ (n : ℕ). is_entry_below (slice_index_or (row ∷ rows) n d) (slice_index_or rows k d) ≡ false) next (h (suc k) d (omega arith) (omega arith))
 
-none-less : (row : IndexEntry) (rows : List IndexEntry) → IsSortedBy is_below (row ∷ rows) → (other : IndexEntry) → IsAmong other rows → is_below other row ≡ false
+none-less : (row : IndexEntry) (rows : List IndexEntry) → IsSortedBy is_entry_below (row ∷ rows) → (other : IndexEntry) → IsAmong other rows → is_entry_below other row ≡ false
 unfolding IsAmong
 none-less row [] h other among = absurd among
-none-less row (next ∷ rows) h other (inl same) = subst (λ (r : IndexEntry). is_below r row ≡ false) same (h 0 row (omega arith) (omega arith))
+none-less row (next ∷ rows) h other (inl same) = subst (λ (r : IndexEntry). is_entry_below r row ≡ false) same (h 0 row (omega arith) (omega arith))
 none-less row (next ∷ rows) h other (inr among) = rank.chain other next row (none-less next rows (sorted-tail row (next ∷ rows) h) other among) (h 0 row (omega arith) (omega arith))
 
 -- neither below nor the same is above
@@ -137,7 +137,7 @@ above Less h k = refl
 above Equal h k = cc
 above Greater h k = cc
 
-rising : (rows : List IndexEntry) → ((key : List ℕ) → number (of_key key) rows ≤ 1) → IsSortedBy is_below rows → AreRisingRows rows
+rising : (rows : List IndexEntry) → ((key : List ℕ) → number (of_key key) rows ≤ 1) → IsSortedBy is_entry_below rows → AreRisingRows rows
 unfolding AreRisingRows
 rising [] one h = tt
 rising (row ∷ rows) one h = (
@@ -156,5 +156,5 @@ rising (row ∷ rows) one h = (
         let none : is_lt (slice_cmp nat_cmp other.key row.key) ≡ false = none-less row rows h other among in
         above (slice_cmp nat_cmp row.key other.key) (ap is_lt (sym (nat_list_cmp_total.antisymm other.key row.key)) ∙ none) e
 
-pub sorted-rises : (xs ys : List IndexEntry) → IsPermutation xs ys → IsSortedBy is_below ys → AreApart xs → AreRisingRows ys
+pub sorted-rises : (xs ys : List IndexEntry) → IsPermutation xs ys → IsSortedBy is_entry_below ys → AreApart xs → AreRisingRows ys
 sorted-rises xs ys h sorted apart = rising ys (λ key. (let n = once xs key apart in let s = sum_by-IsPermutation (λ row. one_if (of_key key row)) xs ys h in omega arith)) sorted

@@ -3,7 +3,7 @@ use Rattle.std.specs.Prelude.{◌≡◌}
 use Rattle.px_verify.specs.declared.report.Report.{Report}
 
 -- each row's entry stands, as it should be or in doubt, and none stands besides
-pub record Agrees (r : Report) : Type 0 where
+pub record ReportAgrees (r : Report) : Type 0 where
   pub missing : r.missing ≡ 0
   pub extra : r.extra ≡ 0
   pub wrong : r.wrong ≡ 0

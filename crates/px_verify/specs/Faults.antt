@@ -9,12 +9,12 @@ use Rattle.px_trail.specs.Trail.{acts_by, horizon_of}
 use Rattle.px_calls.specs.declared.fault.StepFault.{StepFault}
 use Rattle.px_calls.specs.declared.fault.StepFault.TheVariants as step
 use Rattle.px_calls.specs.Calls.{IsFound}
-use Rattle.px_calls.specs.Causes.{ClosedBy, IsDamagedAt, LacksTable, Stands}
+use Rattle.px_calls.specs.Causes.{ClosedBy, IsDamagedAt, LacksTable, TableStands}
 use Rattle.px_calls.specs.Known.{HasMade, Known}
-use Rattle.px_calls.specs.Requires.{index_in}
+use Rattle.px_calls.specs.Requires.{index_of_found}
 use Rattle.px_verify.specs.declared.answer.ReportFault.{ReportFault}
 use Rattle.px_verify.specs.declared.answer.ReportFault.TheVariants as fault
-use Rattle.px_verify.specs.Points.{newest}
+use Rattle.px_verify.specs.Points.{greatest_scn}
 
 abbrev pub IsLookFault : StepFault → Type 0
 IsLookFault step.ReadFault = Unit {0}
@@ -35,7 +35,7 @@ pub record HasNoIndex (t : TableId) (i : IndexId) (k : Known) : Type 0 where
   pub within : found.at ≤ length k.seen
   pub is : IsFound k.base (take found.at k.seen) found
   pub table : found.table.id ≡ t
-  pub none : index_in found i.0 ≡ None
+  pub none : index_of_found found i.0 ≡ None
 
 -- what tells a fault of a report whose point was opened, in what the seat has then seen
 abbrev pub FaultIs : TableId → IndexId → ReportFault → Known → Type 0
@@ -50,10 +50,10 @@ FaultIs t i fault.Memory k = Unit {0}
 -- and of a report, whose point may be refused
 abbrev pub ReportFaultIs : TableId → IndexId → ReportFault → Known → Type 0
 ReportFaultIs t i fault.NoTable k = LacksTable k t.0
-ReportFaultIs t i (fault.BelowHorizon h) k = Stands k t.0 × (horizon_of k.base t.0 k.seen ≡ h) × (newest - 1 < h)
+ReportFaultIs t i (fault.BelowHorizon h) k = TableStands k t.0 × (horizon_of k.base t.0 k.seen ≡ h) × (greatest_scn - 1 < h)
 ReportFaultIs t i f k = FaultIs t i f k
 
 -- the entry that tells a failed device call is one of the seat's own after the first n
-abbrev pub MadeSince : ℕ → ReportFault → Known → Type 0
-MadeSince n fault.ReadFault k = (call : ℕ) × IsAmong (act.Missed call) (acts_by k.seat (drop n k.seen))
-MadeSince n f k = Unit {0}
+abbrev pub ReportFaultSince : ℕ → ReportFault → Known → Type 0
+ReportFaultSince n fault.ReadFault k = (call : ℕ) × IsAmong (act.Missed call) (acts_by k.seat (drop n k.seen))
+ReportFaultSince n f k = Unit {0}

@@ -33,9 +33,9 @@ entries_of path included (Sure f ∷ keys) = entry_on path included f.row ∷ en
 entries_of path included (InDoubt d ∷ keys) = entries_of path included keys
 
 -- the version that was found at a key of an index's path
-abbrev pub version_of : List ℕ → FoundKey → Version
-version_of included (Sure f) = Verified (record { key = f.key; values = values_in included f.row })
-version_of included (InDoubt d) = Unverified d.key
+abbrev pub version_found : List ℕ → FoundKey → Version
+version_found included (Sure f) = Verified (record { key = f.key; values = values_in included f.row })
+version_found included (InDoubt d) = Unverified d.key
 
 -- each row that was found has a key on the path
 abbrev pub HaveKeys : List PathColumn → List FoundKey → Type 0

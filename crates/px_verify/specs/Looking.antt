@@ -18,7 +18,7 @@ abbrev pub whole : By → Path
 whole by = record { by = by; low = []; high = None }
 
 -- a look on the whole path past `after` found this chunk, when the first of these entries had been seen
-pub record HasLooked (sound : Type 0) (k : Known) (p : Point) (by : By) (after : Option (List ℕ)) (c : Chunk) : Type 0 where
+pub record HasFoundChunk (sound : Type 0) (k : Known) (p : Point) (by : By) (after : Option (List ℕ)) (c : Chunk) : Type 0 where
   pub before : Known
   pub then : Known
   pub did : DidLook sound before then p (whole by) after c
@@ -30,7 +30,7 @@ pub record HasLooked (sound : Type 0) (k : Known) (p : Point) (by : By) (after :
 -- looks from `from` on, each past the last key of the one before; the next of them is past `to`
 abbrev pub AreLooks : Type 0 → Known → Point → By → Option (List ℕ) → List Chunk → Option (List ℕ) → Type 0
 AreLooks sound k p by from [] to = from ≡ to
-AreLooks sound k p by from (c ∷ cs) to = HasLooked sound k p by from c × ((last : List ℕ) × (c.next ≡ Some last) × AreLooks sound k p by (Some last) cs to)
+AreLooks sound k p by from (c ∷ cs) to = HasFoundChunk sound k p by from c × ((last : List ℕ) × (c.next ≡ Some last) × AreLooks sound k p by (Some last) cs to)
 
 -- what they found
 abbrev pub found_in : List Chunk → List FoundKey
@@ -43,16 +43,16 @@ pub record IsLooked (sound : Type 0) (k : Known) (p : Point) (by : By) (keys : L
   pub from : Option (List ℕ)
   pub looks : AreLooks sound k p by None before from
   pub last : Chunk
-  pub looked : HasLooked sound k p by from last
+  pub looked : HasFoundChunk sound k p by from last
   pub end : last.next ≡ None
   pub keys_are : keys ≡ found_in before ++ last.found
 
 -- no row comes twice
-unfoldable pub AreOnce : List (List Value) → Type 0
-AreOnce [] = Unit {0}
-AreOnce (row ∷ rows) = (IsAmong row rows → ⊥) × AreOnce rows
+unfoldable pub AreDistinctRows : List (List Value) → Type 0
+AreDistinctRows [] = Unit {0}
+AreDistinctRows (row ∷ rows) = (IsAmong row rows → ⊥) × AreDistinctRows rows
 
 -- these are the rows of the table at the point, each once
-pub record AreRowsAt (b : Base) (es : List Entry) (p : Point) (rows : List (List Value)) : Type 0 where
-  pub once : AreOnce rows
+pub record AreRowsAtPoint (b : Base) (es : List Entry) (p : Point) (rows : List (List Value)) : Type 0 where
+  pub once : AreDistinctRows rows
   pub each : (row : List Value) → IsAmong row rows ↔ IsRowAt b es p row

@@ -25,15 +25,15 @@ same_values [] [] = true
 same_values (a ∷ more) (b ∷ rest) = same_value a b && same_values more rest
 same_values more rest = false
 
-abbrev pub key_at : Version → List ℕ
-key_at (Verified e) = e.key
-key_at (Unverified key) = key
+abbrev pub key_of_version : Version → List ℕ
+key_of_version (Verified e) = e.key
+key_of_version (Unverified key) = key
 
 -- 2. What a row and a version say of one another
 
 -- the version is at the row's key
-abbrev pub is_at : Version → IndexEntry → Bool
-is_at v row = same_key (key_at v) row.key
+abbrev pub is_at_entry : Version → IndexEntry → Bool
+is_at_entry v row = same_key (key_of_version v) row.key
 
 -- it is verified there, and has the row's values
 abbrev pub is_match : Version → IndexEntry → Bool
@@ -45,9 +45,9 @@ abbrev pub is_wrong : Version → IndexEntry → Bool
 is_wrong (Verified e) row = same_key e.key row.key && not (same_values e.values row.values)
 is_wrong (Unverified key) row = false
 
-abbrev pub is_verified : Version → Bool
-is_verified (Verified e) = true
-is_verified (Unverified key) = false
+abbrev pub is_verified_version : Version → Bool
+is_verified_version (Verified e) = true
+is_verified_version (Unverified key) = false
 
 -- 3. The report
 
@@ -58,9 +58,9 @@ count test xs = length (filter test xs)
 abbrev pub report_of : List IndexEntry → List Version → Report
 report_of rows versions = record {
   matching = count (λ row. list_any (λ v. is_match v row) versions) rows;
-  unverified = count (λ v. not (is_verified v)) versions;
-  missing = count (λ row. not (list_any (λ v. is_at v row) versions)) rows;
-  extra = count (λ v. is_verified v && not (list_any (λ row. is_at v row) rows)) versions;
+  unverified = count (λ v. not (is_verified_version v)) versions;
+  missing = count (λ row. not (list_any (λ v. is_at_entry v row) versions)) rows;
+  extra = count (λ v. is_verified_version v && not (list_any (λ row. is_at_entry v row) rows)) versions;
   wrong = count (λ row. list_any (λ v. is_wrong v row) versions) rows;
 }
 

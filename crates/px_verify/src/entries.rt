@@ -3,7 +3,7 @@ ghost use Rattle.std.specs.Prelude.{◌≡◌, ◌++◌, ◌∷◌, [], Some, If
 ghost use Rattle.px_keys.specs.Spelling.{Fits};
 ghost use Rattle.px_paths.specs.Paths.{columns_on, values_on};
 ghost use Rattle.px_values.specs.declared.row.Value.TheVariants.{Null};
-ghost use Rattle.px_verify.specs.Lists.{HaveKeys, entries_of, entry_on, values_in, version_of as version_is};
+ghost use Rattle.px_verify.specs.Lists.{HaveKeys, entries_of, entry_on, values_in, version_found};
 
 use crate::report::{IndexEntry, Version};
 use px_calls::FoundKey;
@@ -91,7 +91,7 @@ pub(crate) fn keep_rows(
 
 /// The version that was found at a key of an index's path.
 fn version_of(alloc: Global, included: &[u8], key: FoundKey) -> Result<Version, AllocError>
-    ensures { IfOk result (λ version. version ≡ version_is included.now key) }
+    ensures { IfOk result (λ version. version ≡ version_found included.now key) }
 {
     match key {
         FoundKey::InDoubt(doubt) => Ok(Version::Unverified(doubt.key)),
@@ -112,7 +112,7 @@ pub(crate) fn keep_versions(
     keys: Items<FoundKey>,
     versions: &mut Vec<Version>,
 ) -> Result<(), AllocError>
-    ensures { OnOk result (versions.new.items ≡ versions.old.items ++ map (version_is included.now) keys) }
+    ensures { OnOk result (versions.new.items ≡ versions.old.items ++ map (version_found included.now) keys) }
 {
     for key in keys.into_vec() {
         versions.push(version_of(alloc, included, key)?)?;

@@ -2,14 +2,14 @@
 ghost use Rattle.std.specs.Prelude.{◌≡◌, ◌↔◌, ◌⊎◌, ℕ, List, Option, None, Some, IfOk, IfErr, IsTrue};
 ghost use Rattle.px_calls.specs.declared.query.By.{By as Bys};
 ghost use Rattle.px_calls.specs.Known.{Known};
-ghost use Rattle.px_calls.specs.Requires.{IsReadable, index_in};
+ghost use Rattle.px_calls.specs.Requires.{IsReadable, index_of_found};
 ghost use Rattle.px_values.specs.declared.name.TableId.{TableId as TableIds};
 ghost use Rattle.px_verify.specs.Faults.{IsLookFault, fault_of as fault_is};
-ghost use Rattle.px_verify.specs.Looking.{HasLooked, whole};
+ghost use Rattle.px_verify.specs.Looking.{HasFoundChunk, whole};
 ghost use Rattle.px_verify.specs.Points.{IsOpenPoint};
 ghost use Rattle.px_verify.specs.Reports.{report_of};
 ghost use Rattle.px_verify.specs.Rising.{AreApart, AreRisingVersions};
-ghost use Rattle.px_verify.specs.Turns.{Fits, GoesOn, IsGoing, ReportTurns};
+ghost use Rattle.px_verify.specs.Turns.{FitsReport, GoesOn, IsReportGoing, ReportTurns};
 
 use crate::answer::{ReportFault, ReportTurn, Reported};
 use crate::entries::{keep_rows, keep_versions};
@@ -95,8 +95,8 @@ fn ended(x: Reading) -> ReportState
 
 /// The index as it is in the point.
 fn index_at(alloc: Global, point: &Point, index: IndexId) -> Result<Index, ReportFault>
-    ensures ok { IfOk result (λ x. index_in point.now.found index.0 ≡ Some x) }
-    ensures err { IfErr result (λ f. ((f ≡ ReportFault.NoIndex) × (index_in point.now.found index.0 ≡ None)) ⊎ (f ≡ ReportFault.Memory)) }
+    ensures ok { IfOk result (λ x. index_of_found point.now.found index.0 ≡ Some x) }
+    ensures err { IfErr result (λ f. ((f ≡ ReportFault.NoIndex) × (index_of_found point.now.found index.0 ≡ None)) ⊎ (f ≡ ReportFault.Memory)) }
 {
     match index_of(point.found.indexes.as_slice(), index) {
         None => Err(ReportFault::NoIndex),
@@ -149,7 +149,7 @@ fn begin<S: Steps>(alloc: Global, point: Point, index: IndexId) -> ReportState
 
 /// Keeps what a look on the table's path found, and says what comes next. It makes no call; `S` names what was opened.
 fn with_rows<S: Steps>(alloc: Global, index: IndexId, mut x: Reading, chunk: Chunk) -> ReportState
-    ensures { (t : TableIds) → (k : Known) → (after : Option (List ℕ)) → Fits S.sound t index (ReportState.Rows x after) k → HasLooked S.sound k x.point Bys.Table after chunk → GoesOn S.sound k t index x.point (ReportState.Rows x after) result }
+    ensures { (t : TableIds) → (k : Known) → (after : Option (List ℕ)) → FitsReport S.sound t index (ReportState.Rows x after) k → HasFoundChunk S.sound k x.point Bys.Table after chunk → GoesOn S.sound k t index x.point (ReportState.Rows x after) result }
 {
     let Chunk {
         found,
@@ -178,7 +178,7 @@ fn with_versions<S: Steps>(
     mut x: Reading,
     chunk: Chunk,
 ) -> ReportState
-    ensures { (t : TableIds) → (k : Known) → (after : Option (List ℕ)) → Fits S.sound t index (ReportState.Versions x after) k → HasLooked S.sound k x.point (Bys.Index index) after chunk → GoesOn S.sound k t index x.point (ReportState.Versions x after) result }
+    ensures { (t : TableIds) → (k : Known) → (after : Option (List ℕ)) → FitsReport S.sound t index (ReportState.Versions x after) k → HasFoundChunk S.sound k x.point (Bys.Index index) after chunk → GoesOn S.sound k t index x.point (ReportState.Versions x after) result }
 {
     let Chunk {
         found,
@@ -237,7 +237,7 @@ fn look_at_rows<S: Steps>(
     x: Reading,
     after: Option<Key>,
 ) -> (ReportState, ReportTurn)
-    requires { Fits S.sound table index (ReportState.Rows x after) (S.known s.old) }
+    requires { FitsReport S.sound table index (ReportState.Rows x after) (S.known s.old) }
     ensures turns { ReportTurns S.sound table index (ReportState.Rows x after) (S.known s.old) result.0 (S.known s.new) result.1 }
     ensures one_call { S.one_call s.old s.new }
 {
@@ -257,7 +257,7 @@ fn look_at_versions<S: Steps>(
     x: Reading,
     after: Option<Key>,
 ) -> (ReportState, ReportTurn)
-    requires { Fits S.sound table index (ReportState.Versions x after) (S.known s.old) }
+    requires { FitsReport S.sound table index (ReportState.Versions x after) (S.known s.old) }
     ensures turns { ReportTurns S.sound table index (ReportState.Versions x after) (S.known s.old) result.0 (S.known s.new) result.1 }
     ensures one_call { S.one_call s.old s.new }
 {
@@ -291,7 +291,7 @@ fn close<S: Steps>(
     point: Point,
     end: Result<Lists, ReportFault>,
 ) -> (ReportState, ReportTurn)
-    requires { Fits S.sound table index (ReportState.Closing point end) (S.known s.old) }
+    requires { FitsReport S.sound table index (ReportState.Closing point end) (S.known s.old) }
     ensures turns { ReportTurns S.sound table index (ReportState.Closing point end) (S.known s.old) result.0 (S.known s.new) result.1 }
     ensures one_call { S.one_call s.old s.new }
 {
@@ -322,8 +322,8 @@ pub(crate) fn advance<S: Steps>(
     index: IndexId,
     state: ReportState,
 ) -> (ReportState, ReportTurn)
-    requires fits { Fits S.sound table index state (S.known s.old) }
-    requires going { IsGoing state }
+    requires fits { FitsReport S.sound table index state (S.known s.old) }
+    requires going { IsReportGoing state }
     ensures turns { ReportTurns S.sound table index state (S.known s.old) result.0 (S.known s.new) result.1 }
     ensures one_call { S.one_call s.old s.new }
 {

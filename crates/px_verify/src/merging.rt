@@ -2,7 +2,7 @@
 ghost use Rattle.std.specs.Prelude.{◌≡◌, true, false, OnOk};
 ghost use Rattle.std.specs.List.Sorted.{IsPermutation, IsSortedBy};
 ghost use Rattle.px_verify.specs.Reports.{report_of, same_value as same_value_of, same_values as same_values_of};
-ghost use Rattle.px_verify.specs.Rising.{AreApart, AreRisingRows, AreRisingVersions, is_below};
+ghost use Rattle.px_verify.specs.Rising.{AreApart, AreRisingRows, AreRisingVersions, is_entry_below};
 ghost use Rattle.px_verify.specs.inner.Taking.{alone as alone_of, first_taken, judged as judged_of, rest};
 
 use crate::report::{Finding, IndexEntry, Report, Version};
@@ -117,7 +117,7 @@ fn left_of<T>(list: &[T], is_taken: bool) -> &[T]
 /// Sorts entries by their keys. Where memory is wanting, they stay in their order.
 pub fn sort(rows: &mut Vec<IndexEntry>) -> Result<(), AllocError>
     ensures same { OnOk result (IsPermutation rows.old.items rows.new.items) }
-    ensures sorted { OnOk result (IsSortedBy is_below rows.new.items) }
+    ensures sorted { OnOk result (IsSortedBy is_entry_below rows.new.items) }
     ensures rising { OnOk result (AreApart rows.old.items → AreRisingRows rows.new.items) }
 {
     rows.sort_by(|a, b| a.key.as_slice().cmp(b.key.as_slice()))

@@ -1,6 +1,6 @@
 // What a report on an index counts.
 ghost use Rattle.std.specs.Prelude.{◌≡◌, ◌<◌, ◌+◌, ◌^◌};
-ghost use Rattle.px_verify.specs.Reports.{adds, key_at};
+ghost use Rattle.px_verify.specs.Reports.{adds, key_of_version};
 
 use px_values::{Key, Row};
 
@@ -21,7 +21,7 @@ pub enum Version {
 impl Version {
     /// Its row key.
     pub fn key(&self) -> &Key
-        ensures { result.now ≡ key_at self.now }
+        ensures { result.now ≡ key_of_version self.now }
     {
         match self {
             Version::Verified(entry) => &entry.key,

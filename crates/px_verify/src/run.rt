@@ -1,6 +1,6 @@
 // A whole report.
 ghost use Rattle.std.specs.Prelude.{◌≡◌};
-ghost use Rattle.px_verify.specs.Turns.{Fits, IsGoing, IsNew, RanReport, ReportTurns};
+ghost use Rattle.px_verify.specs.Turns.{FitsReport, IsReportGoing, IsReportNew, RanReport, ReportTurns};
 
 use crate::answer::{ReportFault, ReportTurn, Reported};
 use crate::machine::{self, ReportState};
@@ -23,7 +23,7 @@ impl ReportRun {
     pub fn new(alloc: Global, table: TableId, index: IndexId) -> ReportRun
         ensures table { result.table ≡ table }
         ensures index { result.index ≡ index }
-        ensures state { IsNew result.state }
+        ensures state { IsReportNew result.state }
     {
         ReportRun {
             table,
@@ -36,8 +36,8 @@ impl ReportRun {
     /// Makes one call. It waits while a batch at or below the point isn't written: the same call is then tried again. A step that doesn't wait
     /// comes to a later key, or to what is next; a refused one drops what was kept, and the step behind it closes the point.
     pub fn step<S: Steps>(&mut self, s: &mut S) -> ReportTurn
-        requires fits { Fits S.sound self.old.table self.old.index self.old.state (S.known s.old) }
-        requires going { IsGoing self.old.state }
+        requires fits { FitsReport S.sound self.old.table self.old.index self.old.state (S.known s.old) }
+        requires going { IsReportGoing self.old.state }
         ensures table { self.new.table ≡ self.old.table }
         ensures index { self.new.index ≡ self.old.index }
         ensures turns { ReportTurns S.sound self.old.table self.old.index self.old.state (S.known s.old) self.new.state (S.known s.new) result }

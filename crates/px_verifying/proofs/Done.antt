@@ -13,7 +13,7 @@ use Rattle.px_verifying.specs.declared.answer.Reports.{Reports}
 use Rattle.px_verifying.specs.declared.answer.VerifyKind.{VerifyKind}
 use Rattle.px_verifying.specs.declared.answer.VerifyKind.TheVariants as kind
 use Rattle.px_verifying.specs.Kinds.{IsAtFirst, IsAtLast, IsAtRebuilding, rebuilds, reports_first, reports_last}
-use Rattle.px_verifying.specs.Turns.{HasBegun, HasRebuilt, HasReported, HaveDone, MayBegin, MayHaveRebuilt, MayHaveReported, none_done, to_rebuild, to_report_again}
+use Rattle.px_verifying.specs.Turns.{HasBegunRebuilding, HasRebuilt, HasReported, HaveDone, MayBegin, MayHaveRebuilt, MayHaveReported, none_done, to_rebuild, to_report_again}
 
 -- 1. Time
 
@@ -21,7 +21,7 @@ pub may-later : (t : TableId) (i : IndexId) (v : VerifyKind) (k k' : Known) → 
 may-later t i v k k' h m = λ is. (let a = asked-later 0 t i k k' h (record { from = omega arith; table = (m is).0; index = (m is).1 }) in (a.table, a.index))
 
 module _ (sound : Type 0) (t : TableId) (i : IndexId) (k k' : Known) (h : IsPast k k') where
-  pub begun-later : (n : ℕ) (own : List Act) (m : Made) → HasBegun n t i own k m → HasBegun n t i own k' m
+  pub begun-later : (n : ℕ) (own : List Act) (m : Made) → HasBegunRebuilding n t i own k m → HasBegunRebuilding n t i own k' m
   begun-later n own m r = record { was = r.was; past = past-then r.was k k' r.past h; outcome = r.outcome; from = r.from }
 
   reported_later : (n : ℕ) (own : List Act) (o : Option Reported) → MayHaveReported sound n t i own k o → MayHaveReported sound n t i own k' o

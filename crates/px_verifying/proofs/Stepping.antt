@@ -35,7 +35,7 @@ use Rattle.px_verifying.specs.declared.machine.VerifyState.{VerifyState}
 use Rattle.px_verifying.specs.declared.machine.VerifyState.TheVariants as state
 use Rattle.px_verifying.specs.Faults.{build_fault, definition_fault, report_fault}
 use Rattle.px_verifying.specs.Kinds.{rebuilds, reports_last}
-use Rattle.px_verifying.specs.Turns.{BuildRefused, DefinitionRefused, FitsState, HasBegun, HasRebuilt, HasReported, HaveDone, IsBuilding, IsDefining, IsNewRebuilding, IsNewReport, IsReporting, IsState, ReportRefused, Turns, WasRefused, to_rebuild, to_report_again}
+use Rattle.px_verifying.specs.Turns.{BuildRefused, DefinitionRefused, FitsState, HasBegunRebuilding, HasRebuilt, HasReported, HaveDone, IsBuilding, IsDefining, IsNewRebuilding, IsNewReport, IsReporting, IsState, ReportRefused, VerificationTurns, WasPartRefused, to_rebuild, to_report_again}
 use Rattle.px_verifying.proofs.Done.{begun-later, done-later, first-done, last-done, last-rebuilds, may-later, only-once, rebuilding-done}
 use Rattle.px_verifying.proofs.Whole.{new-defining, new-report}
 
@@ -71,7 +71,7 @@ module _ (sound : Type 0) (n : ℕ) (t : TableId) (i : IndexId) (own : List Act)
   report-ends new a z = record {
     was = k';
     past = past-same k';
-    outcome = subst (λ (l : List Act). report.IsOutcome sound t i (l ++ outline z.acts) k' (Ok a)) (sym f.own_is) z.told.1;
+    outcome = subst (λ (l : List Act). report.IsReportOutcome sound t i (l ++ outline z.acts) k' (Ok a)) (sym f.own_is) z.told.1;
     from = z.since n f.since;
   }
 
@@ -79,7 +79,7 @@ module _ (sound : Type 0) (n : ℕ) (t : TableId) (i : IndexId) (own : List Act)
   report-refused new e z = record {
     why = e;
     fault = refl;
-    outcome = subst (λ (l : List Act). report.IsOutcome sound t i (l ++ outline z.acts) k' (Err e)) (sym f.own_is) z.told.1;
+    outcome = subst (λ (l : List Act). report.IsReportOutcome sound t i (l ++ outline z.acts) k' (Err e)) (sym f.own_is) z.told.1;
     since = z.since n f.since;
   }
 
@@ -118,7 +118,7 @@ module _ (sound : Type 0) (n : ℕ) (t : TableId) (i : IndexId) (v : VerifyKind)
       subst (λ (l : List Act). HaveDone sound n t i l k' y) (sym same) done
 
   -- a part is refused
-  ends : (s : VerifyState) (acts : List Act) (e : VerifyFault) → (f : FitsState sound n t i v own x s k) → Ran k k' acts → WasRefused sound n t i v (f.current ++ outline acts) k' x e
+  ends : (s : VerifyState) (acts : List Act) (e : VerifyFault) → (f : FitsState sound n t i v own x s k) → Ran k k' acts → WasPartRefused sound n t i v (f.current ++ outline acts) k' x e
       → Rattle.px_verifying.specs.Turns.IsUnfinished sound n t i v (own ++ outline acts) k' (record { done = x; fault = e })
   ends s acts e f ran h = record {
     finished = f.finished;
@@ -134,23 +134,23 @@ module _ (sound : Type 0) (n : ℕ) (t : TableId) (i : IndexId) (v : VerifyKind)
   -- 3. The report that comes first
 
   module _ (old new : ReportRun) (f : FitsState sound n t i v own x (state.Before old) k) where
-    pub first-on : new.table ≡ old.table → new.index ≡ old.index → report.ReportTurns sound old.table old.index old.state k new.state k' rt.Stepped → Turns sound n t i v own (state.Before old) k k' x (state.Before new) turn.Stepped
+    pub first-on : new.table ≡ old.table → new.index ≡ old.index → report.ReportTurns sound old.table old.index old.state k new.state k' rt.Stepped → VerificationTurns sound n t i v own (state.Before old) k k' x (state.Before new) turn.Stepped
     first-on table index h =
         let z = of-this sound n t i f.current old k k' f.is.1 new rt.Stepped h in
         record { acts = z.acts; ran = z.ran; told = (goes (state.Before old) (state.Before new) z.acts f z.ran (f.is.0, report-on sound n t i f.current old k k' f.is.1 new table index z), z.told.2) }
 
-    pub first-waits : (stamp : ℕ) → new.table ≡ old.table → new.index ≡ old.index → report.ReportTurns sound old.table old.index old.state k new.state k' (rt.Waiting stamp) → Turns sound n t i v own (state.Before old) k k' x (state.Before new) turn.Waiting
+    pub first-waits : (stamp : ℕ) → new.table ≡ old.table → new.index ≡ old.index → report.ReportTurns sound old.table old.index old.state k new.state k' (rt.Waiting stamp) → VerificationTurns sound n t i v own (state.Before old) k k' x (state.Before new) turn.Waiting
     first-waits stamp table index h =
         let z = of-this sound n t i f.current old k k' f.is.1 new (rt.Waiting stamp) h in
         record { acts = z.acts; ran = z.ran; told = (goes (state.Before old) (state.Before new) z.acts f z.ran (f.is.0, report-waits sound n t i f.current old k k' f.is.1 new stamp table index z), (stamp, z.told.2)) }
 
-    pub first-refused : (e : ReportFault) → report.ReportTurns sound old.table old.index old.state k new.state k' (rt.Over (Err e)) → Turns sound n t i v own (state.Before old) k k' x state.Over (turn.Over (Err (record { done = x; fault = report_fault e })))
+    pub first-refused : (e : ReportFault) → report.ReportTurns sound old.table old.index old.state k new.state k' (rt.Over (Err e)) → VerificationTurns sound n t i v own (state.Before old) k k' x state.Over (turn.Over (Err (record { done = x; fault = report_fault e })))
     first-refused e h =
         let z = of-this sound n t i f.current old k k' f.is.1 new (rt.Over (Err e)) h in
         record { acts = z.acts; ran = z.ran; told = (refl, ends (state.Before old) z.acts (report_fault e) f z.ran (inl (f.is.0, report-refused sound n t i f.current old k k' f.is.1 new e z))) }
 
     pub first-then : (a : Reported) (run : DefineRun) → rebuilds v ≡ true → IsNewRebuilding t i run → report.ReportTurns sound old.table old.index old.state k new.state k' (rt.Over (Ok a))
-        → Turns sound n t i v own (state.Before old) k k' (record { before = Some a; rebuilt = None; after = None }) (state.Defining run) turn.Stepped
+        → VerificationTurns sound n t i v own (state.Before old) k k' (record { before = Some a; rebuilt = None; after = None }) (state.Defining run) turn.Stepped
     first-then a run has fresh h =
         let z = of-this sound n t i f.current old k k' f.is.1 new (rt.Over (Ok a)) h in
         let did = report-ends sound n t i f.current old k k' f.is.1 new a z in
@@ -167,7 +167,7 @@ module _ (sound : Type 0) (n : ℕ) (t : TableId) (i : IndexId) (v : VerifyKind)
         }
 
     pub first-whole : (a : Reported) → rebuilds v ≡ false → report.ReportTurns sound old.table old.index old.state k new.state k' (rt.Over (Ok a))
-        → Turns sound n t i v own (state.Before old) k k' (record { before = Some a; rebuilt = None; after = None }) state.Over (turn.Over (Ok (record { before = Some a; rebuilt = None; after = None })))
+        → VerificationTurns sound n t i v own (state.Before old) k k' (record { before = Some a; rebuilt = None; after = None }) state.Over (turn.Over (Ok (record { before = Some a; rebuilt = None; after = None })))
     first-whole a none h =
         let z = of-this sound n t i f.current old k k' f.is.1 new (rt.Over (Ok a)) h in
         let did = report-ends sound n t i f.current old k k' f.is.1 new a z in
@@ -181,19 +181,19 @@ module _ (sound : Type 0) (n : ℕ) (t : TableId) (i : IndexId) (v : VerifyKind)
   -- 4. The definition
 
   module _ (old new : DefineRun) (f : FitsState sound n t i v own x (state.Defining old) k) where
-    defining_on : (acts : List Act) → Ran k k' acts → outline acts ≡ [] → new.definition ≡ old.definition → define.Fits sound old.definition new.state k' → define.IsGoing new.state → IsDefining sound (to_rebuild n x) t i (f.current ++ outline acts) new k'
+    defining_on : (acts : List Act) → Ran k k' acts → outline acts ≡ [] → new.definition ≡ old.definition → define.FitsDefinition sound old.definition new.state k' → define.IsDefinitionGoing new.state → IsDefining sound (to_rebuild n x) t i (f.current ++ outline acts) new k'
     defining_on acts ran quiet same fits going =
         let j = f.is.1 in
         record {
-          defining = (same ∙ j.defining.0, subst (λ (y : Definition). define.Fits sound y new.state k') j.defining.0 fits, going);
+          defining = (same ∙ j.defining.0, subst (λ (y : Definition). define.FitsDefinition sound y new.state k') j.defining.0 fits, going);
           own_is = (λ q. j.own_is q ++ quiet q);
           from = longer k k' (to_rebuild n x) (past-ran k k' acts ran) j.from;
         }
 
-    pub define-on : new.definition ≡ old.definition → define.Turns sound old.definition old.state k new.state k' dt.Stepped → Turns sound n t i v own (state.Defining old) k k' x (state.Defining new) turn.Stepped
+    pub define-on : new.definition ≡ old.definition → define.DefinitionTurns sound old.definition old.state k new.state k' dt.Stepped → VerificationTurns sound n t i v own (state.Defining old) k k' x (state.Defining new) turn.Stepped
     define-on same z = record { acts = z.acts; ran = z.ran; told = (goes (state.Defining old) (state.Defining new) z.acts f z.ran (f.is.0, defining_on z.acts z.ran z.told.1 same z.fits z.told.0), tt) }
 
-    pub define-waits : (count : ℕ) → new.definition ≡ old.definition → define.Turns sound old.definition old.state k new.state k' (dt.Waiting count) → Turns sound n t i v own (state.Defining old) k k' x (state.Defining new) turn.Waiting
+    pub define-waits : (count : ℕ) → new.definition ≡ old.definition → define.DefinitionTurns sound old.definition old.state k new.state k' (dt.Waiting count) → VerificationTurns sound n t i v own (state.Defining old) k k' x (state.Defining new) turn.Waiting
     define-waits count same z = record {
       acts = z.acts;
       ran = z.ran;
@@ -207,17 +207,17 @@ module _ (sound : Type 0) (n : ℕ) (t : TableId) (i : IndexId) (v : VerifyKind)
     alone : (acts : List Act) → f.current ++ outline acts ≡ outline acts
     alone acts = ap (λ (l : List Act). l ++ outline acts) f.is.1.own_is
 
-    pub define-refused : (e : DefineFault) → define.Turns sound old.definition old.state k new.state k' (dt.Over (Err e)) → Turns sound n t i v own (state.Defining old) k k' x state.Over (turn.Over (Err (record { done = x; fault = definition_fault e })))
+    pub define-refused : (e : DefineFault) → define.DefinitionTurns sound old.definition old.state k new.state k' (dt.Over (Err e)) → VerificationTurns sound n t i v own (state.Defining old) k k' x state.Over (turn.Over (Err (record { done = x; fault = definition_fault e })))
     define-refused e z =
-        let told = subst (λ (y : Definition). define.IsOutcome y (outline z.acts) k' (Err e)) f.is.1.defining.0 z.told.1 in
+        let told = subst (λ (y : Definition). define.IsDefinitionOutcome y (outline z.acts) k' (Err e)) f.is.1.defining.0 z.told.1 in
         let why : DefinitionRefused (to_rebuild n x) t i (f.current ++ outline z.acts) k' (definition_fault e) =
-        record { why = e; fault = refl; outcome = subst (λ (l : List Act). define.IsOutcome (d.Rebuilding t i) l k' (Err e)) (sym (alone z.acts)) told; since = z.since (to_rebuild n x) f.is.1.from } in
+        record { why = e; fault = refl; outcome = subst (λ (l : List Act). define.IsDefinitionOutcome (d.Rebuilding t i) l k' (Err e)) (sym (alone z.acts)) told; since = z.since (to_rebuild n x) f.is.1.from } in
         record { acts = z.acts; ran = z.ran; told = (refl, ends (state.Defining old) z.acts (definition_fault e) f z.ran (inr (inl (f.is.0, inl why)))) }
 
-    pub define-then : (m : Made) (run : BuildRun) → build.IsNew t i run → define.Turns sound old.definition old.state k new.state k' (dt.Over (Ok m)) → Turns sound n t i v own (state.Defining old) k k' x (state.Building run) turn.Stepped
+    pub define-then : (m : Made) (run : BuildRun) → build.IsBuildNew t i run → define.DefinitionTurns sound old.definition old.state k new.state k' (dt.Over (Ok m)) → VerificationTurns sound n t i v own (state.Defining old) k k' x (state.Building run) turn.Stepped
     define-then m run fresh z =
-        let told = subst (λ (y : Definition). define.IsOutcome y (outline z.acts) k' (Ok m)) f.is.1.defining.0 z.told.1 in
-        let begun : HasBegun (to_rebuild n x) t i (outline z.acts) k' m = record { was = k'; past = past-same k'; outcome = told; from = z.since (to_rebuild n x) f.is.1.from } in
+        let told = subst (λ (y : Definition). define.IsDefinitionOutcome y (outline z.acts) k' (Ok m)) f.is.1.defining.0 z.told.1 in
+        let begun : HasBegunRebuilding (to_rebuild n x) t i (outline z.acts) k' m = record { was = k'; past = past-same k'; outcome = told; from = z.since (to_rebuild n x) f.is.1.from } in
         let drawn = may-later t i v k k' (past-ran k k' z.acts z.ran) f.drawn f.is.0.has in
         let low : m.at ≤ length k'.seen = (let e = told.at in omega (arith, e)) in
         record {
@@ -248,10 +248,10 @@ module _ (sound : Type 0) (n : ℕ) (t : TableId) (i : IndexId) (v : VerifyKind)
     behind : (acts : List Act) → f.current ++ outline acts ≡ j.first ++ (j.rest ++ outline acts)
     behind acts = ap (λ (l : List Act). l ++ outline acts) j.own_is ∙ append_assoc j.first j.rest (outline acts)
 
-    begun_on : (acts : List Act) → Ran k k' acts → HasBegun (to_rebuild n x) t i j.first k' j.again
+    begun_on : (acts : List Act) → Ran k k' acts → HasBegunRebuilding (to_rebuild n x) t i j.first k' j.again
     begun_on acts ran = begun-later sound t i k k' (past-ran k k' acts ran) (to_rebuild n x) j.first j.again j.begun
 
-    pub build-on : (new : BuildRun) → build.Turns sound j.again.at t i j.rest k k' (bt.Stepped new) → Turns sound n t i v own (state.Building old) k k' x (state.Building new) turn.Stepped
+    pub build-on : (new : BuildRun) → build.BuildTurns sound j.again.at t i j.rest k k' (bt.Stepped new) → VerificationTurns sound n t i v own (state.Building old) k k' x (state.Building new) turn.Stepped
     build-on new z = record {
       acts = z.acts;
       ran = z.ran;
@@ -262,7 +262,7 @@ module _ (sound : Type 0) (n : ℕ) (t : TableId) (i : IndexId) (v : VerifyKind)
       );
     }
 
-    pub build-waits : (new : BuildRun) → build.Turns sound j.again.at t i j.rest k k' (bt.Waiting new) → Turns sound n t i v own (state.Building old) k k' x (state.Building new) turn.Waiting
+    pub build-waits : (new : BuildRun) → build.BuildTurns sound j.again.at t i j.rest k k' (bt.Waiting new) → VerificationTurns sound n t i v own (state.Building old) k k' x (state.Building new) turn.Waiting
     build-waits new z = record {
       acts = z.acts;
       ran = z.ran;
@@ -273,20 +273,20 @@ module _ (sound : Type 0) (n : ℕ) (t : TableId) (i : IndexId) (v : VerifyKind)
       );
     }
 
-    pub build-refused : (e : BuildFault) → build.Turns sound j.again.at t i j.rest k k' (bt.Over (Err e)) → Turns sound n t i v own (state.Building old) k k' x state.Over (turn.Over (Err (record { done = x; fault = build_fault e })))
+    pub build-refused : (e : BuildFault) → build.BuildTurns sound j.again.at t i j.rest k k' (bt.Over (Err e)) → VerificationTurns sound n t i v own (state.Building old) k k' x state.Over (turn.Over (Err (record { done = x; fault = build_fault e })))
     build-refused e z =
         let why : BuildRefused sound (to_rebuild n x) t i (f.current ++ outline z.acts) k' (build_fault e) =
         record { why = e; fault = refl; again = j.again; first = j.first; rest = j.rest ++ outline z.acts; own_is = behind z.acts; begun = begun_on z.acts z.ran; outcome = z.told } in
         record { acts = z.acts; ran = z.ran; told = (refl, ends (state.Building old) z.acts (build_fault e) f z.ran (inr (inl (f.is.0, inr why)))) }
 
-    built : (m : Made) → (z : build.Turns sound j.again.at t i j.rest k k' (bt.Over (Ok m))) → HaveDone sound n t i (f.finished ++ (f.current ++ outline z.acts)) k' (record { before = x.before; rebuilt = Some m; after = None })
+    built : (m : Made) → (z : build.BuildTurns sound j.again.at t i j.rest k k' (bt.Over (Ok m))) → HaveDone sound n t i (f.finished ++ (f.current ++ outline z.acts)) k' (record { before = x.before; rebuilt = Some m; after = None })
     built m z =
         let did : HasRebuilt sound (to_rebuild n x) t i (f.current ++ outline z.acts) k' m =
         record { again = j.again; first = j.first; rest = j.rest ++ outline z.acts; own_is = behind z.acts; begun = begun_on z.acts z.ran; built = z.told } in
         rebuilding-done sound n t i k' v x f.finished (f.current ++ outline z.acts) m f.is.0 (later_done (state.Building old) z.acts f z.ran) did
 
-    pub build-then : (m : Made) (run : ReportRun) → reports_last v ≡ true → IsNewReport t i run → build.Turns sound j.again.at t i j.rest k k' (bt.Over (Ok m))
-        → Turns sound n t i v own (state.Building old) k k' (record { before = x.before; rebuilt = Some m; after = None }) (state.After run) turn.Stepped
+    pub build-then : (m : Made) (run : ReportRun) → reports_last v ≡ true → IsNewReport t i run → build.BuildTurns sound j.again.at t i j.rest k k' (bt.Over (Ok m))
+        → VerificationTurns sound n t i v own (state.Building old) k k' (record { before = x.before; rebuilt = Some m; after = None }) (state.After run) turn.Stepped
     build-then m run has fresh z =
         let low : m.at ≤ length k'.seen = (let b = z.told.0 in let e = b.at in longer b.was k' m.at b.past (omega (arith, e))) in
         record {
@@ -299,8 +299,8 @@ module _ (sound : Type 0) (n : ℕ) (t : TableId) (i : IndexId) (v : VerifyKind)
           );
         }
 
-    pub build-whole : (m : Made) → reports_last v ≡ false → build.Turns sound j.again.at t i j.rest k k' (bt.Over (Ok m))
-        → Turns sound n t i v own (state.Building old) k k' (record { before = x.before; rebuilt = Some m; after = None }) state.Over (turn.Over (Ok (record { before = x.before; rebuilt = Some m; after = None })))
+    pub build-whole : (m : Made) → reports_last v ≡ false → build.BuildTurns sound j.again.at t i j.rest k k' (bt.Over (Ok m))
+        → VerificationTurns sound n t i v own (state.Building old) k k' (record { before = x.before; rebuilt = Some m; after = None }) state.Over (turn.Over (Ok (record { before = x.before; rebuilt = Some m; after = None })))
     build-whole m none z = record {
       acts = z.acts;
       ran = z.ran;
@@ -310,23 +310,23 @@ module _ (sound : Type 0) (n : ℕ) (t : TableId) (i : IndexId) (v : VerifyKind)
   -- 6. The report behind it
 
   module _ (old new : ReportRun) (f : FitsState sound n t i v own x (state.After old) k) where
-    pub last-on : new.table ≡ old.table → new.index ≡ old.index → report.ReportTurns sound old.table old.index old.state k new.state k' rt.Stepped → Turns sound n t i v own (state.After old) k k' x (state.After new) turn.Stepped
+    pub last-on : new.table ≡ old.table → new.index ≡ old.index → report.ReportTurns sound old.table old.index old.state k new.state k' rt.Stepped → VerificationTurns sound n t i v own (state.After old) k k' x (state.After new) turn.Stepped
     last-on table index h =
         let z = of-this sound (to_report_again n x) t i f.current old k k' f.is.1 new rt.Stepped h in
         record { acts = z.acts; ran = z.ran; told = (goes (state.After old) (state.After new) z.acts f z.ran (f.is.0, report-on sound (to_report_again n x) t i f.current old k k' f.is.1 new table index z), z.told.2) }
 
-    pub last-waits : (stamp : ℕ) → new.table ≡ old.table → new.index ≡ old.index → report.ReportTurns sound old.table old.index old.state k new.state k' (rt.Waiting stamp) → Turns sound n t i v own (state.After old) k k' x (state.After new) turn.Waiting
+    pub last-waits : (stamp : ℕ) → new.table ≡ old.table → new.index ≡ old.index → report.ReportTurns sound old.table old.index old.state k new.state k' (rt.Waiting stamp) → VerificationTurns sound n t i v own (state.After old) k k' x (state.After new) turn.Waiting
     last-waits stamp table index h =
         let z = of-this sound (to_report_again n x) t i f.current old k k' f.is.1 new (rt.Waiting stamp) h in
         record { acts = z.acts; ran = z.ran; told = (goes (state.After old) (state.After new) z.acts f z.ran (f.is.0, report-waits sound (to_report_again n x) t i f.current old k k' f.is.1 new stamp table index z), (stamp, z.told.2)) }
 
-    pub last-refused : (e : ReportFault) → report.ReportTurns sound old.table old.index old.state k new.state k' (rt.Over (Err e)) → Turns sound n t i v own (state.After old) k k' x state.Over (turn.Over (Err (record { done = x; fault = report_fault e })))
+    pub last-refused : (e : ReportFault) → report.ReportTurns sound old.table old.index old.state k new.state k' (rt.Over (Err e)) → VerificationTurns sound n t i v own (state.After old) k k' x state.Over (turn.Over (Err (record { done = x; fault = report_fault e })))
     last-refused e h =
         let z = of-this sound (to_report_again n x) t i f.current old k k' f.is.1 new (rt.Over (Err e)) h in
         record { acts = z.acts; ran = z.ran; told = (refl, ends (state.After old) z.acts (report_fault e) f z.ran (inr (inr (f.is.0, report-refused sound (to_report_again n x) t i f.current old k k' f.is.1 new e z)))) }
 
     pub last-whole : (a : Reported) → report.ReportTurns sound old.table old.index old.state k new.state k' (rt.Over (Ok a))
-        → Turns sound n t i v own (state.After old) k k' (record { before = x.before; rebuilt = x.rebuilt; after = Some a }) state.Over (turn.Over (Ok (record { before = x.before; rebuilt = x.rebuilt; after = Some a })))
+        → VerificationTurns sound n t i v own (state.After old) k k' (record { before = x.before; rebuilt = x.rebuilt; after = Some a }) state.Over (turn.Over (Ok (record { before = x.before; rebuilt = x.rebuilt; after = Some a })))
     last-whole a h =
         let z = of-this sound (to_report_again n x) t i f.current old k k' f.is.1 new (rt.Over (Ok a)) h in
         let did = report-ends sound (to_report_again n x) t i f.current old k k' f.is.1 new a z in

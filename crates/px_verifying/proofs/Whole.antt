@@ -4,7 +4,7 @@ use Rattle.px_values.specs.declared.name.IndexId.{IndexId}
 use Rattle.px_values.specs.declared.name.TableId.{TableId}
 use Rattle.px_trail.specs.declared.entry.Act.{Act}
 use Rattle.px_calls.specs.declared.definition.Definition.TheVariants as d
-use Rattle.px_calls.specs.Known.{Known, Passes, outline}
+use Rattle.px_calls.specs.Known.{Known, TimePasses, outline}
 use Rattle.px_calls.proofs.Runs.{outline-append, ran-none, ran-then}
 use Rattle.px_defining.specs.declared.define.DefineRun.{DefineRun}
 use Rattle.px_defining.specs.declared.define.DefineState.{DefineState}
@@ -26,19 +26,19 @@ use Rattle.px_verifying.specs.declared.answer.VerifyTurn.{VerifyTurn}
 use Rattle.px_verifying.specs.declared.answer.VerifyTurn.TheVariants as turn
 use Rattle.px_verifying.specs.declared.machine.VerifyState.{VerifyState}
 use Rattle.px_verifying.specs.declared.machine.VerifyState.TheVariants as state
-use Rattle.px_verifying.specs.Turns.{Begins, FitsState, IsDefining, IsNewReport, IsOutcome, IsReporting, IsState, MayBegin, RanVerify, SoFar, Turns, none_done, to_rebuild, to_report_again}
+use Rattle.px_verifying.specs.Turns.{Begins, FitsState, IsDefining, IsNewReport, IsReporting, IsState, IsVerificationOutcome, MayBegin, RanVerify, SoFar, VerificationTurns, none_done, to_rebuild, to_report_again}
 use Rattle.px_verifying.proofs.Done.{begun-later, done-later, may-later, none-done}
 
 -- 1. No step
 
 -- what is true of a report's state that is new
 record IsNewState (sound : Type 0) (n : ℕ) (t : TableId) (i : IndexId) (s : ReportState) (k : Known) : Type 0 where
-  fits : report.Fits sound t i s k
-  going : report.IsGoing s
-  own_is : ◌≡◌ {A = List Act} [] (report.opened s)
-  since : report.IsSince n s k
+  fits : report.FitsReport sound t i s k
+  going : report.IsReportGoing s
+  own_is : ◌≡◌ {A = List Act} [] (report.opened_by_report s)
+  since : report.IsReportSince n s k
 
-new_state : (sound : Type 0) (n : ℕ) (t : TableId) (i : IndexId) (s : ReportState) (k : Known) → n ≤ length k.seen → report.IsNew s → IsNewState sound n t i s k
+new_state : (sound : Type 0) (n : ℕ) (t : TableId) (i : IndexId) (s : ReportState) (k : Known) → n ≤ length k.seen → report.IsReportNew s → IsNewState sound n t i s k
 new_state sound n t i rs.Opening k low h = record { fits = tt; going = tt; own_is = refl; since = low }
 new_state sound n t i s k low h = absurd h
 
@@ -49,7 +49,7 @@ new-report sound n t i r k low h =
 
 pub new-defining : (sound : Type 0) (n : ℕ) (t : TableId) (i : IndexId) (r : DefineRun) (k : Known) → n ≤ length k.seen → r.definition ≡ d.Rebuilding t i → r.state ≡ ds.Defining → IsDefining sound n t i [] r k
 new-defining sound n t i r k low is new =
-    let F : DefineState → Type 0 = λ z. define.Fits sound (d.Rebuilding t i) z k × define.IsGoing z in
+    let F : DefineState → Type 0 = λ z. define.FitsDefinition sound (d.Rebuilding t i) z k × define.IsDefinitionGoing z in
     let f = subst F (sym new) (tt, tt) in
     record { defining = (is, f.0, f.1); own_is = refl; from = low }
 
@@ -66,14 +66,14 @@ module _ (sound : Type 0) (n : ℕ) (t : TableId) (i : IndexId) (v : VerifyKind)
 
 -- 2. Others' entries
 
-since_later : (n : ℕ) (s : ReportState) (k k' : Known) → build.IsPast k k' → report.IsSince n s k → report.IsSince n s k'
+since_later : (n : ℕ) (s : ReportState) (k k' : Known) → build.IsPast k k' → report.IsReportSince n s k → report.IsReportSince n s k'
 since_later n rs.Opening k k' h low = longer k k' n h low
 since_later n (rs.Rows x after) k k' h low = low
 since_later n (rs.Versions x after) k k' h low = low
 since_later n (rs.Closing p end) k k' h low = low
 since_later n rs.Over k k' h low = tt
 
-module _ (sound : Type 0) (t : TableId) (i : IndexId) (k k' : Known) (h : Passes k k') where
+module _ (sound : Type 0) (t : TableId) (i : IndexId) (k k' : Known) (h : TimePasses k k') where
   past : build.IsPast k k'
   past = past-passes k k' h
 
@@ -125,29 +125,29 @@ module _ (sound : Type 0) (t : TableId) (i : IndexId) (v : VerifyKind) where
     joined acts = outline-append f.acts acts
 
     -- a step of a run on the same index
-    pub of-this : (t' : TableId) (i' : IndexId) (v' : VerifyKind) (r : VerifyTurn) → t' ≡ t → i' ≡ i → v' ≡ v → ((n : ℕ) → (own : List Act) → FitsState sound n t' i' v' own x old k → Turns sound n t' i' v' own old k k' y new r)
-        → Turns sound (length k0.seen) t i v (outline f.acts) old k k' y new r
+    pub of-this : (t' : TableId) (i' : IndexId) (v' : VerifyKind) (r : VerifyTurn) → t' ≡ t → i' ≡ i → v' ≡ v → ((n : ℕ) → (own : List Act) → FitsState sound n t' i' v' own x old k → VerificationTurns sound n t' i' v' own old k k' y new r)
+        → VerificationTurns sound (length k0.seen) t i v (outline f.acts) old k k' y new r
     of-this t' i' v' r table index kind z =
-        let F : TableId × IndexId × VerifyKind → Type 0 = λ q. (n : ℕ) → (own : List Act) → FitsState sound n q.0 q.1 q.2 own x old k → Turns sound n q.0 q.1 q.2 own old k k' y new r in
+        let F : TableId × IndexId × VerifyKind → Type 0 = λ q. (n : ℕ) → (own : List Act) → FitsState sound n q.0 q.1 q.2 own x old k → VerificationTurns sound n q.0 q.1 q.2 own old k k' y new r in
         subst F (λ j. (table j, index j, kind j)) z (length k0.seen) (outline f.acts) f.fits
 
-    pub steps-on : Turns sound (length k0.seen) t i v (outline f.acts) old k k' y new turn.Stepped → SoFar sound t i v k0 k' y new
+    pub steps-on : VerificationTurns sound (length k0.seen) t i v (outline f.acts) old k k' y new turn.Stepped → SoFar sound t i v k0 k' y new
     steps-on z = record {
       acts = f.acts ++ z.acts;
       ran = ran-then k0 k k' f.acts z.acts f.ran z.ran;
       fits = subst (λ (l : List Act). FitsState sound (length k0.seen) t i v l y new k') (sym (joined z.acts)) z.told.0;
     }
 
-    pub waits-on : Turns sound (length k0.seen) t i v (outline f.acts) old k k' y new turn.Waiting → SoFar sound t i v k0 k' y new
+    pub waits-on : VerificationTurns sound (length k0.seen) t i v (outline f.acts) old k k' y new turn.Waiting → SoFar sound t i v k0 k' y new
     waits-on z = record {
       acts = f.acts ++ z.acts;
       ran = ran-then k0 k k' f.acts z.acts f.ran z.ran;
       fits = subst (λ (l : List Act). FitsState sound (length k0.seen) t i v l y new k') (sym (joined z.acts)) z.told.0;
     }
 
-    pub ends-as : (r : Result Reports Unfinished) → Turns sound (length k0.seen) t i v (outline f.acts) old k k' y new (turn.Over r) → RanVerify sound t i v k0 k' r
+    pub ends-as : (r : Result Reports Unfinished) → VerificationTurns sound (length k0.seen) t i v (outline f.acts) old k k' y new (turn.Over r) → RanVerify sound t i v k0 k' r
     ends-as r z = record {
       acts = f.acts ++ z.acts;
       ran = ran-then k0 k k' f.acts z.acts f.ran z.ran;
-      outcome = subst (λ (l : List Act). IsOutcome sound (length k0.seen) t i v l k' r) (sym (joined z.acts)) z.told.1;
+      outcome = subst (λ (l : List Act). IsVerificationOutcome sound (length k0.seen) t i v l k' r) (sym (joined z.acts)) z.told.1;
     }

@@ -20,7 +20,7 @@ use Rattle.px_upkeep.specs.Turns.{IsPast}
 use Rattle.px_verify.specs.declared.answer.ReportFault.{ReportFault}
 use Rattle.px_verify.specs.declared.answer.Reported.{Reported}
 use Rattle.px_verify.specs.declared.run.ReportRun.{ReportRun}
-use Rattle.px_verify.specs.Faults.{MadeSince}
+use Rattle.px_verify.specs.Faults.{ReportFaultSince}
 use Rattle.px_verify.specs.Turns as report
 use Rattle.px_verifying.specs.declared.answer.Reports.{Reports}
 use Rattle.px_verifying.specs.declared.answer.Unfinished.{Unfinished}
@@ -39,14 +39,14 @@ use Rattle.px_verifying.specs.Kinds.{IsAtFirst, IsAtLast, IsAtRebuilding, IsWhol
 pub record HasReported (sound : Type 0) (n : ℕ) (t : TableId) (i : IndexId) (own : List Act) (k : Known) (a : Reported) : Type 0 where
   pub was : Known
   pub past : IsPast was k
-  pub outcome : report.IsOutcome sound t i own was (Ok a)
+  pub outcome : report.IsReportOutcome sound t i own was (Ok a)
   pub from : n ≤ a.first
 
 -- the definition that put the index back to building, in what the seat knew behind it
-pub record HasBegun (n : ℕ) (t : TableId) (i : IndexId) (own : List Act) (k : Known) (again : Made) : Type 0 where
+pub record HasBegunRebuilding (n : ℕ) (t : TableId) (i : IndexId) (own : List Act) (k : Known) (again : Made) : Type 0 where
   pub was : Known
   pub past : IsPast was k
-  pub outcome : define.IsOutcome (d.Rebuilding t i) own was (Ok again)
+  pub outcome : define.IsDefinitionOutcome (d.Rebuilding t i) own was (Ok again)
   pub from : n ≤ again.at
 
 -- that definition, and then a build of the index, which stood active
@@ -55,8 +55,8 @@ pub record HasRebuilt (sound : Type 0) (n : ℕ) (t : TableId) (i : IndexId) (ow
   pub first : List Act
   pub rest : List Act
   pub own_is : own ≡ first ++ rest
-  pub begun : HasBegun n t i first k again
-  pub built : build.IsOutcome sound again.at t i rest k (Ok m)
+  pub begun : HasBegunRebuilding n t i first k again
+  pub built : build.IsBuildOutcome sound again.at t i rest k (Ok m)
 
 abbrev pub MayHaveReported : Type 0 → ℕ → TableId → IndexId → List Act → Known → Option Reported → Type 0
 MayHaveReported sound n t i own k None = own ≡ []
@@ -99,14 +99,14 @@ none_done = record { before = None; rebuilt = None; after = None }
 pub record ReportRefused (sound : Type 0) (n : ℕ) (t : TableId) (i : IndexId) (own : List Act) (k : Known) (f : VerifyFault) : Type 0 where
   pub why : ReportFault
   pub fault : f ≡ report_fault why
-  pub outcome : report.IsOutcome sound t i own k (Err why)
-  pub since : MadeSince n why k
+  pub outcome : report.IsReportOutcome sound t i own k (Err why)
+  pub since : ReportFaultSince n why k
 
 pub record DefinitionRefused (n : ℕ) (t : TableId) (i : IndexId) (own : List Act) (k : Known) (f : VerifyFault) : Type 0 where
   pub why : DefineFault
   pub fault : f ≡ definition_fault why
-  pub outcome : define.IsOutcome (d.Rebuilding t i) own k (Err why)
-  pub since : define.MadeSince n why k
+  pub outcome : define.IsDefinitionOutcome (d.Rebuilding t i) own k (Err why)
+  pub since : define.DefinitionFaultSince n why k
 
 pub record BuildRefused (sound : Type 0) (n : ℕ) (t : TableId) (i : IndexId) (own : List Act) (k : Known) (f : VerifyFault) : Type 0 where
   pub why : BuildFault
@@ -115,12 +115,12 @@ pub record BuildRefused (sound : Type 0) (n : ℕ) (t : TableId) (i : IndexId) (
   pub first : List Act
   pub rest : List Act
   pub own_is : own ≡ first ++ rest
-  pub begun : HasBegun n t i first k again
-  pub outcome : build.IsOutcome sound again.at t i rest k (Err why)
+  pub begun : HasBegunRebuilding n t i first k again
+  pub outcome : build.IsBuildOutcome sound again.at t i rest k (Err why)
 
 -- the next part of the kind was refused, behind those that were finished
-abbrev pub WasRefused : Type 0 → ℕ → TableId → IndexId → VerifyKind → List Act → Known → Reports → VerifyFault → Type 0
-WasRefused sound n t i v own k x f =
+abbrev pub WasPartRefused : Type 0 → ℕ → TableId → IndexId → VerifyKind → List Act → Known → Reports → VerifyFault → Type 0
+WasPartRefused sound n t i v own k x f =
     (IsAtFirst v x × ReportRefused sound n t i own k f)
     ⊎ ((IsAtRebuilding v x × (DefinitionRefused (to_rebuild n x) t i own k f ⊎ BuildRefused sound (to_rebuild n x) t i own k f))
     ⊎ (IsAtLast v x × ReportRefused sound (to_report_again n x) t i own k f))
@@ -130,17 +130,17 @@ pub record IsUnfinished (sound : Type 0) (n : ℕ) (t : TableId) (i : IndexId) (
   pub last : List Act
   pub own_is : own ≡ finished ++ last
   pub done : HaveDone sound n t i finished k u.done
-  pub refused : WasRefused sound n t i v last k u.done u.fault
+  pub refused : WasPartRefused sound n t i v last k u.done u.fault
 
 -- What a verification comes to: each part of its kind, one behind the other; or those before a part that was refused, and why
-abbrev pub IsOutcome : Type 0 → ℕ → TableId → IndexId → VerifyKind → List Act → Known → Result Reports Unfinished → Type 0
-IsOutcome sound n t i v own k (Ok x) = IsWhole v x × HaveDone sound n t i own k x
-IsOutcome sound n t i v own k (Err u) = IsUnfinished sound n t i v own k u
+abbrev pub IsVerificationOutcome : Type 0 → ℕ → TableId → IndexId → VerifyKind → List Act → Known → Result Reports Unfinished → Type 0
+IsVerificationOutcome sound n t i v own k (Ok x) = IsWhole v x × HaveDone sound n t i own k x
+IsVerificationOutcome sound n t i v own k (Err u) = IsUnfinished sound n t i v own k u
 
 -- 3. States
 
 abbrev pub IsNewReport : TableId → IndexId → ReportRun → Type 0
-IsNewReport t i r = (r.table ≡ t) × (r.index ≡ i) × report.IsNew r.state
+IsNewReport t i r = (r.table ≡ t) × (r.index ≡ i) × report.IsReportNew r.state
 
 abbrev pub IsNewRebuilding : TableId → IndexId → DefineRun → Type 0
 IsNewRebuilding t i r = (r.definition ≡ d.Rebuilding t i) × (r.state ≡ ds.Defining)
@@ -155,14 +155,14 @@ Begins t i v x = ⊥
 pub record IsReporting (sound : Type 0) (n : ℕ) (t : TableId) (i : IndexId) (own : List Act) (r : ReportRun) (k : Known) : Type 0 where
   pub table : r.table ≡ t
   pub index : r.index ≡ i
-  pub fits : report.Fits sound t i r.state k
-  pub going : report.IsGoing r.state
-  pub own_is : own ≡ report.opened r.state
-  pub since : report.IsSince n r.state k
+  pub fits : report.FitsReport sound t i r.state k
+  pub going : report.IsReportGoing r.state
+  pub own_is : own ≡ report.opened_by_report r.state
+  pub since : report.IsReportSince n r.state k
 
 -- the index is to be put back to building
 pub record IsDefining (sound : Type 0) (n : ℕ) (t : TableId) (i : IndexId) (own : List Act) (r : DefineRun) (k : Known) : Type 0 where
-  pub defining : build.IsDefining sound (d.Rebuilding t i) r k
+  pub defining : build.IsDefinitionUnderWay sound (d.Rebuilding t i) r k
   pub own_is : own ≡ []
   pub from : n ≤ length k.seen
 
@@ -172,8 +172,8 @@ pub record IsBuilding (sound : Type 0) (n : ℕ) (t : TableId) (i : IndexId) (ow
   pub first : List Act
   pub rest : List Act
   pub own_is : own ≡ first ++ rest
-  pub begun : HasBegun n t i first k again
-  pub fits : build.Fits sound again.at t i rest r k
+  pub begun : HasBegunRebuilding n t i first k again
+  pub fits : build.FitsBuild sound again.at t i rest r k
 
 abbrev pub IsState : Type 0 → ℕ → TableId → IndexId → VerifyKind → List Act → Reports → VerifyState → Known → Type 0
 IsState sound n t i v own x (state.Before r) k = IsAtFirst v x × IsReporting sound n t i own r k
@@ -200,30 +200,30 @@ pub record FitsState (sound : Type 0) (n : ℕ) (t : TableId) (i : IndexId) (v :
 
 -- what a waiting step waits for
 abbrev pub IsAwaited : TableId → IndexId → VerifyState → Known → Type 0
-IsAwaited t i (state.Before r) k = (stamp : ℕ) × report.IsAwaited t r.state k stamp
+IsAwaited t i (state.Before r) k = (stamp : ℕ) × report.IsAwaitedByReport t r.state k stamp
 IsAwaited t i (state.Defining r) k = (count : ℕ) × rebuilding_cause t.0 i.0 (step.InUse count) k
 IsAwaited t i (state.Building r) k = Unit {0}
-IsAwaited t i (state.After r) k = (stamp : ℕ) × report.IsAwaited t r.state k stamp
+IsAwaited t i (state.After r) k = (stamp : ℕ) × report.IsAwaitedByReport t r.state k stamp
 IsAwaited t i state.Over k = ⊥
 
 -- a step that went on came on within its part, or to the next one
 abbrev pub MovesOn : VerifyState → VerifyState → Type 0
-MovesOn (state.Before r) (state.Before r') = report.MovesOn r.state r'.state
+MovesOn (state.Before r) (state.Before r') = report.ReportMovesOn r.state r'.state
 MovesOn (state.Before r) (state.Defining r') = Unit {0}
 MovesOn (state.Defining r) (state.Defining r') = Unit {0}
 MovesOn (state.Defining r) (state.Building r') = Unit {0}
 MovesOn (state.Building r) (state.Building r') = Unit {0}
 MovesOn (state.Building r) (state.After r') = Unit {0}
-MovesOn (state.After r) (state.After r') = report.MovesOn r.state r'.state
+MovesOn (state.After r) (state.After r') = report.ReportMovesOn r.state r'.state
 MovesOn old new = ⊥
 
 abbrev pub Told : Type 0 → ℕ → TableId → IndexId → VerifyKind → List Act → VerifyState → Known → Reports → VerifyState → VerifyTurn → Type 0
 Told sound n t i v own old k x new turn.Stepped = FitsState sound n t i v own x new k × MovesOn old new
 Told sound n t i v own old k x new turn.Waiting = FitsState sound n t i v own x new k × IsAwaited t i old k
-Told sound n t i v own old k x new (turn.Over r) = (new ≡ state.Over) × IsOutcome sound n t i v own k r
+Told sound n t i v own old k x new (turn.Over r) = (new ≡ state.Over) × IsVerificationOutcome sound n t i v own k r
 
 -- one step of a verification, where `own` is what the seat did for it before
-pub record Turns (sound : Type 0) (n : ℕ) (t : TableId) (i : IndexId) (v : VerifyKind) (own : List Act) (old : VerifyState) (k k' : Known) (x : Reports) (new : VerifyState) (r : VerifyTurn) : Type 0 where
+pub record VerificationTurns (sound : Type 0) (n : ℕ) (t : TableId) (i : IndexId) (v : VerifyKind) (own : List Act) (old : VerifyState) (k k' : Known) (x : Reports) (new : VerifyState) (r : VerifyTurn) : Type 0 where
   pub acts : List Act
   pub ran : Ran k k' acts
   pub told : Told sound n t i v (own ++ outline acts) old k' x new r
@@ -234,7 +234,7 @@ pub record Turns (sound : Type 0) (n : ℕ) (t : TableId) (i : IndexId) (v : Ver
 pub record RanVerify (sound : Type 0) (t : TableId) (i : IndexId) (v : VerifyKind) (k k' : Known) (r : Result Reports Unfinished) : Type 0 where
   pub acts : List Act
   pub ran : Ran k k' acts
-  pub outcome : IsOutcome sound (length k.seen) t i v (outline acts) k' r
+  pub outcome : IsVerificationOutcome sound (length k.seen) t i v (outline acts) k' r
 
 -- one on its way
 pub record SoFar (sound : Type 0) (t : TableId) (i : IndexId) (v : VerifyKind) (k k' : Known) (x : Reports) (s : VerifyState) : Type 0 where

@@ -1,7 +1,7 @@
 // A verification as a machine: each step is one of the part that is under way.
 ghost use Rattle.std.specs.Prelude.{◌≡◌, ℕ, List, Ok, Err};
 ghost use Rattle.px_trail.specs.declared.entry.Act.{Act as Acts};
-ghost use Rattle.px_verifying.specs.Turns.{Begins, FitsState, IsNewRebuilding, IsNewReport, Turns};
+ghost use Rattle.px_verifying.specs.Turns.{Begins, FitsState, IsNewRebuilding, IsNewReport, VerificationTurns};
 
 use crate::answer::{Reports, Unfinished, VerifyFault, VerifyKind, VerifyTurn};
 use crate::faults::{build_fault, definition_fault, report_fault};
@@ -115,7 +115,7 @@ fn refused(done: Reports, fault: VerifyFault) -> Came
 /// One step of the report that comes first.
 fn report_before<S: Steps>(s: &mut S, asked: Asked, done: Reports, mut run: ReportRun) -> Came
     requires { (n : ℕ) × (own : List Acts) × FitsState S.sound n asked.table asked.index asked.kind own done (VerifyState.Before run) (S.known s.old) }
-    ensures turns { (n : ℕ) → (own : List Acts) → FitsState S.sound n asked.table asked.index asked.kind own done (VerifyState.Before run) (S.known s.old) → Turns S.sound n asked.table asked.index asked.kind own (VerifyState.Before run) (S.known s.old) (S.known s.new) result.done result.state result.turn }
+    ensures turns { (n : ℕ) → (own : List Acts) → FitsState S.sound n asked.table asked.index asked.kind own done (VerifyState.Before run) (S.known s.old) → VerificationTurns S.sound n asked.table asked.index asked.kind own (VerifyState.Before run) (S.known s.old) (S.known s.new) result.done result.state result.turn }
     ensures one_call { S.one_call s.old s.new }
 {
     match run.step(s) {
@@ -144,7 +144,7 @@ fn report_before<S: Steps>(s: &mut S, asked: Asked, done: Reports, mut run: Repo
 /// One step of the definition that puts the index back to building.
 fn define<S: Steps>(s: &mut S, asked: Asked, done: Reports, mut run: DefineRun) -> Came
     requires { (n : ℕ) × (own : List Acts) × FitsState S.sound n asked.table asked.index asked.kind own done (VerifyState.Defining run) (S.known s.old) }
-    ensures turns { (n : ℕ) → (own : List Acts) → FitsState S.sound n asked.table asked.index asked.kind own done (VerifyState.Defining run) (S.known s.old) → Turns S.sound n asked.table asked.index asked.kind own (VerifyState.Defining run) (S.known s.old) (S.known s.new) result.done result.state result.turn }
+    ensures turns { (n : ℕ) → (own : List Acts) → FitsState S.sound n asked.table asked.index asked.kind own done (VerifyState.Defining run) (S.known s.old) → VerificationTurns S.sound n asked.table asked.index asked.kind own (VerifyState.Defining run) (S.known s.old) (S.known s.new) result.done result.state result.turn }
     ensures one_call { S.one_call s.old s.new }
 {
     match run.step(s) {
@@ -171,7 +171,7 @@ fn build<R: Threads + Sync, S: Steps>(
     run: BuildRun,
 ) -> Came
     requires { (n : ℕ) × (own : List Acts) × FitsState S.sound n asked.table asked.index asked.kind own done (VerifyState.Building run) (S.known s.old) }
-    ensures turns { (n : ℕ) → (own : List Acts) → FitsState S.sound n asked.table asked.index asked.kind own done (VerifyState.Building run) (S.known s.old) → Turns S.sound n asked.table asked.index asked.kind own (VerifyState.Building run) (S.known s.old) (S.known s.new) result.done result.state result.turn }
+    ensures turns { (n : ℕ) → (own : List Acts) → FitsState S.sound n asked.table asked.index asked.kind own done (VerifyState.Building run) (S.known s.old) → VerificationTurns S.sound n asked.table asked.index asked.kind own (VerifyState.Building run) (S.known s.old) (S.known s.new) result.done result.state result.turn }
     ensures one_call { S.one_call s.old s.new }
 {
     match run.step(rt, s) {
@@ -196,7 +196,7 @@ fn build<R: Threads + Sync, S: Steps>(
 /// One step of the report behind the rebuilding.
 fn report_after<S: Steps>(s: &mut S, asked: Asked, done: Reports, mut run: ReportRun) -> Came
     requires { (n : ℕ) × (own : List Acts) × FitsState S.sound n asked.table asked.index asked.kind own done (VerifyState.After run) (S.known s.old) }
-    ensures turns { (n : ℕ) → (own : List Acts) → FitsState S.sound n asked.table asked.index asked.kind own done (VerifyState.After run) (S.known s.old) → Turns S.sound n asked.table asked.index asked.kind own (VerifyState.After run) (S.known s.old) (S.known s.new) result.done result.state result.turn }
+    ensures turns { (n : ℕ) → (own : List Acts) → FitsState S.sound n asked.table asked.index asked.kind own done (VerifyState.After run) (S.known s.old) → VerificationTurns S.sound n asked.table asked.index asked.kind own (VerifyState.After run) (S.known s.old) (S.known s.new) result.done result.state result.turn }
     ensures one_call { S.one_call s.old s.new }
 {
     match run.step(s) {
@@ -226,7 +226,7 @@ pub(crate) fn advance<R: Threads + Sync, S: Steps>(
     state: VerifyState,
 ) -> Came
     requires { (n : ℕ) × (own : List Acts) × FitsState S.sound n asked.table asked.index asked.kind own done state (S.known s.old) }
-    ensures turns { (n : ℕ) → (own : List Acts) → FitsState S.sound n asked.table asked.index asked.kind own done state (S.known s.old) → Turns S.sound n asked.table asked.index asked.kind own state (S.known s.old) (S.known s.new) result.done result.state result.turn }
+    ensures turns { (n : ℕ) → (own : List Acts) → FitsState S.sound n asked.table asked.index asked.kind own done state (S.known s.old) → VerificationTurns S.sound n asked.table asked.index asked.kind own state (S.known s.old) (S.known s.new) result.done result.state result.turn }
     ensures one_call { S.one_call s.old s.new }
 {
     match state {

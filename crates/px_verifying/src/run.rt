@@ -2,7 +2,7 @@
 ghost use Rattle.std.specs.Prelude.{◌≡◌, ℕ, List, None};
 ghost use Rattle.px_calls.specs.Requires.{IsDrawn};
 ghost use Rattle.px_trail.specs.declared.entry.Act.{Act as Acts};
-ghost use Rattle.px_verifying.specs.Turns.{Begins, FitsState, MayBegin, RanVerify, Turns, none_done};
+ghost use Rattle.px_verifying.specs.Turns.{Begins, FitsState, MayBegin, RanVerify, VerificationTurns, none_done};
 
 use crate::answer::{Reports, Unfinished, VerifyKind, VerifyTurn};
 use crate::machine::{self, Asked, Came, VerifyState};
@@ -58,7 +58,7 @@ impl VerifyRun {
         ensures table { self.new.table ≡ self.old.table }
         ensures index { self.new.index ≡ self.old.index }
         ensures kind { self.new.kind ≡ self.old.kind }
-        ensures turns { (n : ℕ) → (own : List Acts) → FitsState S.sound n self.old.table self.old.index self.old.kind own self.old.done self.old.state (S.known s.old) → Turns S.sound n self.old.table self.old.index self.old.kind own self.old.state (S.known s.old) (S.known s.new) self.new.done self.new.state result }
+        ensures turns { (n : ℕ) → (own : List Acts) → FitsState S.sound n self.old.table self.old.index self.old.kind own self.old.done self.old.state (S.known s.old) → VerificationTurns S.sound n self.old.table self.old.index self.old.kind own self.old.state (S.known s.old) (S.known s.new) self.new.done self.new.state result }
         ensures one_call { S.one_call s.old s.new }
     {
         let asked = Asked {

@@ -10,9 +10,9 @@ use Rattle.px_outside.proofs.Standing.{stands_left}
 use Rattle.px_outside.proofs.Moments.{touches_more, touches_none}
 use Rattle.px_outside.specs.declared.disk.Disk.{Ghosts}
 use Rattle.px_gatelog.specs.Format.{IsNextRecord, LogRecord, SegmentRead, newest_of, older_of, records_of, segments_of}
-use Rattle.px_gatelog.specs.GateLog.{IsLaid, IsSameLog, file_at, generation_in, is_newest_file, is_next_file, newest_generation, newest_in, next_side, steps_left}
+use Rattle.px_gatelog.specs.GateLog.{IsLaid, IsNewestFile, IsSameLog, file_at, generation_in, is_newest_file, is_next_file, newest_generation, next_side, steps_left}
 use Rattle.px_gatelog.specs.Records.{HasRecords, RecordsStand, has_files}
-use Rattle.px_gatelog.specs.Steps.{Commits, IsAppend, IsRollStep, Reaches}
+use Rattle.px_gatelog.specs.Steps.{Commits, IsAppend, IsRollStep, LogReaches}
 use Rattle.px_gatelog.proofs.LogRecords.{appended_leaves, appended_segments, closed_records, records_by, records_stand, rolled_leaves, rolled_records, segments_kept, started_segments}
 use Rattle.px_gatelog.proofs.Older.{records_cut}
 use Rattle.px_gatelog.proofs.Switching.{older_empty}
@@ -26,11 +26,11 @@ use Rattle.px_gatelog.specs.declared.segment.Segment.{Segment}
 use Rattle.px_gatelog.specs.declared.gate_log.GateLog.{GateLog}
 use Rattle.px_memstore.specs.Stored.{Stored as MemData}
 use Rattle.px_merge.specs.Settle.{settle}
-use Rattle.px_wal.specs.Batches.{Batch, above, later_first}
+use Rattle.px_wal.specs.Batches.{LogBatch, batches_above, later_first}
 use Rattle.px_wal.specs.Files.{file_of}
-use Rattle.px_wal.specs.Form.{AreBatches, IsBatch, IsNextNumber, IsUpTo, batch_record, byte_count, cell_count, last_of, wal_form, wrong_batch}
+use Rattle.px_wal.specs.Form.{AreBatches, IsLogBatch, IsNextNumber, IsUpTo, batch_byte_count, batch_record, cell_count, last_batch_number, wal_form, wrong_batch}
 use Rattle.px_wal.specs.inner.Reader.{HoldsOlder, HoldsRecords}
-use Rattle.px_wal.specs.Wal.{HasBatches, IsCut, IsReplayed, LogStands, is_open, log_files}
+use Rattle.px_wal.specs.Wal.{HasBatches, IsCut, IsReplayed, LogStands, is_wal_open, log_files}
 use Rattle.px_wal.specs.declared.reader.BatchReader.{BatchReader}
 use Rattle.px_wal.specs.declared.wal.Wal.{Wal}
 use Rattle.px_wal.specs.declared.wal.Replayed.{Replayed}
@@ -41,7 +41,7 @@ use Rattle.px_wal.proofs.Parting.{batches_cut}
 
 -- ---- the files of a log
 
-side_of : (log : GateLog) (first second : ℕ) → log.first ≡ first → log.second ≡ second → (newest : Option Segment) (file : ℕ) → newest_in log newest file → has_files first second file
+side_of : (log : GateLog) (first second : ℕ) → log.first ≡ first → log.second ≡ second → (newest : Option Segment) (file : ℕ) → IsNewestFile log newest file → has_files first second file
 side_of log first second one two None file own = absurd own
 side_of log first second one two (Some s) file own = by s.in_second refl
   where
@@ -64,7 +64,7 @@ not_some None closed = refl
 not_some (Some s) closed = absurd (closed refl)
 
 -- a log without an open segment
-pub not_open : (wal : Wal) → (is_open wal → ⊥) → wal.log.newest ≡ None
+pub not_open : (wal : Wal) → (is_wal_open wal → ⊥) → wal.log.newest ≡ None
 not_open wal closed = not_some wal.log.newest closed
 
 generation_none : (newest : Option Segment) → newest ≡ None → generation_in newest ≡ 18446744073709551615 → ⊥
@@ -88,17 +88,17 @@ pub laid_next : {P : Type 0} (r : Rolled) (old new : ℕ) → (r ≡ step.More �
 laid_next step.More old new more rolled laid is = laid (let m = more refl in omega arith)
 laid_next step.Rolled old new more rolled laid is = absurd (let m = rolled refl in omega arith)
 
-none_of : (a b : List Batch) → map batch_record (a ++ b) ≡ [] → a ≡ []
+none_of : (a b : List LogBatch) → map batch_record (a ++ b) ≡ [] → a ≡ []
 none_of [] b is = refl
 none_of (x ∷ a) b is = cc
 
 -- ---- one batch more
 
-next_is_right : (flushed : ℕ) (batches : List Batch) (n : ℕ) → n ≡ last_of flushed batches + 1 → IsNextNumber flushed batches n
+next_is_right : (flushed : ℕ) (batches : List LogBatch) (n : ℕ) → n ≡ last_batch_number flushed batches + 1 → IsNextNumber flushed batches n
 next_is_right flushed [] n is = omega arith
 next_is_right flushed (b ∷ batches) n is = is
 
-module _ {D : Type 0} (d : Ghosts D) (region flushed : ℕ) (old : Wal) (disk : D) (batches : List Batch) (has : HasBatches d region flushed old disk batches) where
+module _ {D : Type 0} (d : Ghosts D) (region flushed : ℕ) (old : Wal) (disk : D) (batches : List LogBatch) (has : HasBatches d region flushed old disk batches) where
   pub touches_newest : (disk' : D) → TouchesOnly d disk disk' (is_newest_file old.log) → TouchesOnly d disk disk' (log_files region)
   touches_newest disk' touches =
       touches_more d.calls d.left d.seen disk disk' (is_newest_file old.log) (log_files region) (λ file own. newest_of_files old.log (file_of region 0) (file_of region 1) has.log.first_is has.log.second_is file own) touches
@@ -130,7 +130,7 @@ module _ {D : Type 0} (d : Ghosts D) (region flushed : ℕ) (old : Wal) (disk : 
       let none = touches_none d.calls d.left d.seen up_to_now disk (λ file. ⊥) in
       record { each = λ moment image since left. inl (stands_left d disk disk (log_files region) (λ i. LogStands region flushed i batches) log_stands (λ file. ⊥) none (λ file own touched. touched) moment image since left) }
 
-  module _ (b : Batch) (open_ : is_open old) (is : IsBatch b) (number : b.number ≡ old.last + 1) (r : LogRecord) (record-is : r ≡ batch_record b) where
+  module _ (b : LogBatch) (open_ : is_wal_open old) (is : IsLogBatch b) (number : b.number ≡ old.last + 1) (r : LogRecord) (record-is : r ≡ batch_record b) where
     follows : IsNextNumber flushed batches b.number
     follows = next_is_right flushed batches b.number (number ∙ ap (λ (n : ℕ). n + 1) has.last)
 
@@ -146,7 +146,7 @@ module _ {D : Type 0} (d : Ghosts D) (region flushed : ℕ) (old : Wal) (disk : 
     right = right_more flushed batches b has.right is follows
 
     pub append_done : (new : Wal) (disk' : D) → new.last ≡ b.number → new.older_to ≡ old.older_to → IsSameLog old.log new.log → (IsLaid d old.log disk [] → IsLaid d new.log disk' []) → steps_left new.log ≡ steps_left old.log
-        → Reaches d old.log new.log disk disk' (IsAppend r) → HasBatches d region flushed new disk' (batches ++ b ∷ [])
+        → LogReaches d old.log new.log disk disk' (IsAppend r) → HasBatches d region flushed new disk' (batches ++ b ∷ [])
     append_done new disk' last to same laid steps done =
         let l = appended_segments d (wal_form flushed) (file_of region 0) (file_of region 1) disk disk' old.log new.log (map batch_record batches) r has.log open_ may done same laid steps in
         let n = records_by d (wal_form flushed) (file_of region 0) (file_of region 1) disk' new.log (map batch_record batches ++ r ∷ []) (map batch_record (batches ++ b ∷ [])) records_are l.0 in
@@ -157,7 +157,7 @@ module _ {D : Type 0} (d : Ghosts D) (region flushed : ℕ) (old : Wal) (disk : 
           cut = record {
             older = has.cut.older;
             newer = has.cut.newer ++ b ∷ [];
-            all = ap (λ (l : List Batch). l ++ b ∷ []) has.cut.all ∙ append_assoc has.cut.older has.cut.newer (b ∷ []);
+            all = ap (λ (l : List LogBatch). l ++ b ∷ []) has.cut.all ∙ append_assoc has.cut.older has.cut.newer (b ∷ []);
             before = ap (λ (s : List SegmentRead). records_of (older_of s)) n.1 ∙ ap records_of l.1 ∙ has.cut.before;
             upto_is = subst (IsUpTo flushed has.cut.older) (sym to) has.cut.upto_is;
           };
@@ -187,7 +187,7 @@ module _ {D : Type 0} (d : Ghosts D) (region flushed : ℕ) (old : Wal) (disk : 
     older_none : has.cut.older ≡ []
     older_none = none_of has.cut.older has.cut.newer (ap (map batch_record) (sym has.cut.all) ∙ none_yet)
 
-    pub roll_done : (new : Wal) (disk' : D) → new.last ≡ old.last → new.older_to ≡ old.older_to → IsSameLog old.log new.log → (steps_left new.log ≡ 1 → IsLaid d new.log disk' []) → Reaches d old.log new.log disk disk' (IsRollStep d old.log disk) → HasBatches d region flushed new disk' batches
+    pub roll_done : (new : Wal) (disk' : D) → new.last ≡ old.last → new.older_to ≡ old.older_to → IsSameLog old.log new.log → (steps_left new.log ≡ 1 → IsLaid d new.log disk' []) → LogReaches d old.log new.log disk disk' (IsRollStep d old.log disk) → HasBatches d region flushed new disk' batches
     roll_done new disk' last to same laid done =
         let l = rolled_records d (wal_form flushed) (file_of region 0) (file_of region 1) disk disk' old.log new.log (map batch_record batches) has.log closed refl done same laid in
         record {
@@ -199,25 +199,25 @@ module _ {D : Type 0} (d : Ghosts D) (region flushed : ℕ) (old : Wal) (disk : 
             newer = batches;
             all = refl;
             before = older_empty l.segments (l.records_are ∙ none_yet);
-            upto_is = subst (IsUpTo flushed []) (sym to) (subst (λ (b : List Batch). IsUpTo flushed b old.older_to) older_none has.cut.upto_is);
+            upto_is = subst (IsUpTo flushed []) (sym to) (subst (λ (b : List LogBatch). IsUpTo flushed b old.older_to) older_none has.cut.upto_is);
           };
         }
 
 -- ---- opening
 
 -- what was told of the records before those of the newest segment
-cut_told : (flushed : ℕ) (reader : BatchReader) (batches : List Batch) (segments : List SegmentRead) (to : ℕ) → reader.flushed ≡ flushed → AllByRecursion IsBatch batches → records_of segments ≡ map batch_record batches
+cut_told : (flushed : ℕ) (reader : BatchReader) (batches : List LogBatch) (segments : List SegmentRead) (to : ℕ) → reader.flushed ≡ flushed → AllByRecursion IsLogBatch batches → records_of segments ≡ map batch_record batches
     → HoldsOlder reader (records_of (older_of segments)) → to ≡ reader.older_to → IsCut flushed to segments batches
 cut_told flushed reader batches segments to now each records told is =
     let c = batches_cut batches (records_of (older_of segments)) (records_of (newest_of segments)) (sym records ∙ records_cut segments) in
-    let a_each : AllByRecursion IsBatch c.0 = all_left IsBatch c.0 c.1 (subst (AllByRecursion IsBatch) c.2 each) in
+    let a_each : AllByRecursion IsLogBatch c.0 = all_left IsLogBatch c.0 c.1 (subst (AllByRecursion IsLogBatch) c.2 each) in
     let same : told.0 ≡ c.0 = batches_once told.0 c.0 told.2 a_each (sym told.1 ∙ sym c.3) in
     record {
       older = c.0;
       newer = c.1;
       all = c.2;
       before = sym c.3;
-      upto_is = subst (λ (n : ℕ). IsUpTo flushed c.0 n) (sym is) (subst (λ (n : ℕ). IsUpTo n c.0 reader.older_to) now (subst (λ (b : List Batch). IsUpTo reader.flushed b reader.older_to) same told.3));
+      upto_is = subst (λ (n : ℕ). IsUpTo flushed c.0 n) (sym is) (subst (λ (n : ℕ). IsUpTo n c.0 reader.older_to) now (subst (λ (b : List LogBatch). IsUpTo reader.flushed b reader.older_to) same told.3));
     }
 
 replayed_at : {D : Type 0} (d : Ghosts D) (region : ℕ) (old new : D) (before after : BatchReader) (r : Replayed) → after.flushed ≡ before.flushed
@@ -239,13 +239,13 @@ replayed_at {D} d region old new before after r now started told more last to st
       has = record {
         log = l.0;
         right = right;
-        last = last ∙ holds.last ∙ ap (λ (n : ℕ). last_of n batches) now;
+        last = last ∙ holds.last ∙ ap (λ (n : ℕ). last_batch_number n batches) now;
         cut = subst (λ (s : List SegmentRead). IsCut flushed r.wal.older_to s batches) (sym l.1) (cut_told flushed after batches started.segments r.wal.older_to now right.each started.taken.1 told to);
       };
       stored = record {
-        store = ap (λ (s : MemData). s.cells) store ∙ holds.store ∙ ap (λ (n : ℕ). settle (later_first (above n batches))) now;
-        cells = cells ∙ holds.cells ∙ ap (λ (n : ℕ). cell_count (above n batches)) now;
-        bytes = bytes ∙ holds.bytes ∙ ap (λ (n : ℕ). byte_count (above n batches)) now;
+        store = ap (λ (s : MemData). s.cells) store ∙ holds.store ∙ ap (λ (n : ℕ). settle (later_first (batches_above n batches))) now;
+        cells = cells ∙ holds.cells ∙ ap (λ (n : ℕ). cell_count (batches_above n batches)) now;
+        bytes = bytes ∙ holds.bytes ∙ ap (λ (n : ℕ). batch_byte_count (batches_above n batches)) now;
       };
     }
 

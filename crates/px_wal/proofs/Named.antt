@@ -4,10 +4,10 @@ use Rattle.px_outside.specs.OnDisk.{LeavesOnly, TouchesOnly}
 use Rattle.px_outside.specs.Standing.{StandsIn}
 use Rattle.px_outside.proofs.Moments.{touches_more}
 use Rattle.px_outside.specs.declared.disk.Disk.{Ghosts}
-use Rattle.px_gatelog.specs.Format.{AllFit, IsNextRecord, LogRecord, records_of, segments_of}
+use Rattle.px_gatelog.specs.Format.{AllRecordsFit, IsNextRecord, LogRecord, records_of, segments_of}
 use Rattle.px_gatelog.specs.GateLog.{IsLaid, IsSameLog, is_newest_file, is_next_file, steps_left}
 use Rattle.px_gatelog.specs.Records.{HasLog, RecordsStand}
-use Rattle.px_gatelog.specs.Steps.{Commits, IsAppend, IsRollStep, Reaches}
+use Rattle.px_gatelog.specs.Steps.{Commits, IsAppend, IsRollStep, LogReaches}
 use Rattle.px_gatelog.proofs.LogRecords.{appended_leaves, appended_records, next_leaves, next_records, records_kept, records_stand, started_records}
 use Rattle.px_gatelog.specs.Start.{Started}
 use Rattle.px_wal.specs.Files.{file_of}
@@ -15,7 +15,7 @@ use Rattle.px_wal.specs.Snapshot.{IsLast, IsSnapshot, SnapshotData, manifest_for
 use Rattle.px_wal.specs.Snapshot.IsLast.{last}
 use Rattle.px_wal.specs.SnapshotOf.{snapshot_of}
 use Rattle.px_wal.specs.inner.SnapshotReader.{HoldsLast}
-use Rattle.px_wal.specs.Manifest.{HasSnapshot, IsStarted, SnapshotStands, is_open, manifest_files, names}
+use Rattle.px_wal.specs.Manifest.{HasSnapshot, IsStarted, SnapshotStands, is_manifest_open, manifest_files, named_snapshot}
 use Rattle.px_wal.specs.declared.snapshot.Snapshot.{Snapshot}
 use Rattle.px_wal.specs.declared.snapshot_reader.SnapshotReader.{SnapshotReader}
 use Rattle.px_wal.specs.declared.manifest.Manifest.{Manifest}
@@ -23,7 +23,7 @@ use Rattle.px_wal.proofs.Appended.{newest_of_files, next_of_files}
 use Rattle.px_wal.proofs.Snapshots.{length-snapshot, snapshot_is_right}
 
 -- a snapshot may be the first record
-fits : (s : SnapshotData) → IsSnapshot s → AllFit manifest_form [] (snapshot_record s ∷ [])
+fits : (s : SnapshotData) → IsSnapshot s → AllRecordsFit manifest_form [] (snapshot_record s ∷ [])
 fits s is = ((snapshot_is_right [] s is, (let l = length-snapshot s in let f = is.few in omega arith), tt), refl)
 
 module _ {D : Type 0} (d : Ghosts D) (region : ℕ) (old : Manifest) (disk : D) (has : HasSnapshot d region old disk) where
@@ -36,7 +36,7 @@ module _ {D : Type 0} (d : Ghosts D) (region : ℕ) (old : Manifest) (disk : D) 
       touches_more d.calls d.left d.seen disk disk' (is_next_file old.log) (manifest_files region) (λ file own. next_of_files old.log (file_of region 2) (file_of region 3) has.log.first_is has.log.second_is file own) touches
 
   -- its files stand for what it names, whatever a stop leaves of the files
-  pub manifest_stands : StandsIn d disk (manifest_files region) (λ image. SnapshotStands region image (names old))
+  pub manifest_stands : StandsIn d disk (manifest_files region) (λ image. SnapshotStands region image (named_snapshot old))
   manifest_stands =
       let stand = records_stand d manifest_form (file_of region 2) (file_of region 3) disk old.log has.records has.log in
       record { each = λ image left. record { records = has.records; stands = stand.each image left; last = has.last; right = has.right } }
@@ -52,14 +52,14 @@ module _ {D : Type 0} (d : Ghosts D) (region : ℕ) (old : Manifest) (disk : D) 
 
   -- ---- an append
 
-  module _ (s : SnapshotData) (is : IsSnapshot s) (open_ : is_open old) (r : LogRecord) (record-is : r ≡ snapshot_record s) where
+  module _ (s : SnapshotData) (is : IsSnapshot s) (open_ : is_manifest_open old) (r : LogRecord) (record-is : r ≡ snapshot_record s) where
     may : IsNextRecord manifest_form has.log.segments r
     may = ap (wrong_snapshot (records_of has.log.segments)) record-is ∙ snapshot_is_right (records_of has.log.segments) s is
 
     last_is : IsLast (has.records ++ r ∷ []) s
     last_is = last has.records (ap (λ (x : LogRecord). has.records ++ x ∷ []) record-is)
 
-    pub append_at : (disk' : D) → Commits d old.log disk disk' (IsAppend r) → LeavesOnly d disk disk' (λ moment image. SnapshotStands region image (names old) ⊎ SnapshotStands region image s)
+    pub append_at : (disk' : D) → Commits d old.log disk disk' (IsAppend r) → LeavesOnly d disk disk' (λ moment image. SnapshotStands region image (named_snapshot old) ⊎ SnapshotStands region image s)
     append_at disk' leaves =
         let l = appended_leaves d manifest_form (file_of region 2) (file_of region 3) disk disk' old.log old.log has.records r has.log open_ may leaves in
         record {
@@ -69,8 +69,8 @@ module _ {D : Type 0} (d : Ghosts D) (region : ℕ) (old : Manifest) (disk : D) 
           ];
         }
 
-    pub append_done : (new : Manifest) (disk' : D) → names new ≡ s → (steps_left old.log ≡ 1 → ⊥) → IsSameLog old.log new.log
-        → (IsLaid d old.log disk (snapshot_record s ∷ []) → IsLaid d new.log disk' (snapshot_record s ∷ [])) → steps_left new.log ≡ steps_left old.log → Reaches d old.log new.log disk disk' (IsAppend r) → HasSnapshot d region new disk'
+    pub append_done : (new : Manifest) (disk' : D) → named_snapshot new ≡ s → (steps_left old.log ≡ 1 → ⊥) → IsSameLog old.log new.log
+        → (IsLaid d old.log disk (snapshot_record s ∷ []) → IsLaid d new.log disk' (snapshot_record s ∷ [])) → steps_left new.log ≡ steps_left old.log → LogReaches d old.log new.log disk disk' (IsAppend r) → HasSnapshot d region new disk'
     append_done new disk' named unlaid same laid steps done =
         let open_next : HasLog d manifest_form (file_of region 2) (file_of region 3) disk old.log has.records (snapshot_record s ∷ []) = record {
           segments = has.log.segments;
@@ -90,10 +90,10 @@ module _ {D : Type 0} (d : Ghosts D) (region : ℕ) (old : Manifest) (disk : D) 
 
   -- ---- a step of the making of a segment
 
-  pub roll_at : (disk' : D) → Commits d old.log disk disk' (IsRollStep d old.log disk) → LeavesOnly d disk disk' (λ moment image. SnapshotStands region image (names old))
+  pub roll_at : (disk' : D) → Commits d old.log disk disk' (IsRollStep d old.log disk) → LeavesOnly d disk disk' (λ moment image. SnapshotStands region image (named_snapshot old))
   roll_at disk' leaves =
-      let next = snapshot_record (names old) ∷ [] in
-      let l = next_leaves d manifest_form (file_of region 2) (file_of region 3) refl disk disk' old.log old.log has.records next has.log (fits (names old) has.right) leaves in
+      let next = snapshot_record (named_snapshot old) ∷ [] in
+      let l = next_leaves d manifest_form (file_of region 2) (file_of region 3) refl disk disk' old.log old.log has.records next has.log (fits (named_snapshot old) has.right) leaves in
       record {
         each = λ moment image since left. elim (l.each moment image since left) [
           | inl a ↦ record { records = has.records; stands = a; last = has.last; right = has.right }
@@ -101,16 +101,16 @@ module _ {D : Type 0} (d : Ghosts D) (region : ℕ) (old : Manifest) (disk : D) 
         ];
       }
 
-  pub roll_done : (new : Manifest) (disk' : D) → names new ≡ names old → IsSameLog old.log new.log → (steps_left new.log ≡ 1 → IsLaid d new.log disk' (snapshot_record (names old) ∷ []))
-      → Reaches d old.log new.log disk disk' (IsRollStep d old.log disk) → HasSnapshot d region new disk'
+  pub roll_done : (new : Manifest) (disk' : D) → named_snapshot new ≡ named_snapshot old → IsSameLog old.log new.log → (steps_left new.log ≡ 1 → IsLaid d new.log disk' (snapshot_record (named_snapshot old) ∷ []))
+      → LogReaches d old.log new.log disk disk' (IsRollStep d old.log disk) → HasSnapshot d region new disk'
   roll_done new disk' named same laid done =
-      let next = snapshot_record (names old) ∷ [] in
-      elim (next_records d manifest_form (file_of region 2) (file_of region 3) refl disk disk' old.log new.log has.records next has.log (fits (names old) has.right) done same laid) [
+      let next = snapshot_record (named_snapshot old) ∷ [] in
+      elim (next_records d manifest_form (file_of region 2) (file_of region 3) refl disk disk' old.log new.log has.records next has.log (fits (named_snapshot old) has.right) done same laid) [
         | inl log ↦ by has.records log has.last
         | inr log ↦ by next log (last [] refl)
       ]
     where
-      by : (records : List LogRecord) → HasLog d manifest_form (file_of region 2) (file_of region 3) disk' new.log records (snapshot_record (names old) ∷ []) → IsLast records (names old) → HasSnapshot d region new disk'
+      by : (records : List LogRecord) → HasLog d manifest_form (file_of region 2) (file_of region 3) disk' new.log records (snapshot_record (named_snapshot old) ∷ []) → IsLast records (named_snapshot old) → HasSnapshot d region new disk'
       by records log is = record {
         records = records;
         log = subst (λ (n : SnapshotData). HasLog d manifest_form (file_of region 2) (file_of region 3) disk' new.log records (snapshot_record n ∷ [])) (sym named) log;
@@ -123,8 +123,8 @@ module _ {D : Type 0} (d : Ghosts D) (region : ℕ) (old : Manifest) (disk : D) 
 pub started_by : {D : Type 0} (d : Ghosts D) (region : ℕ) (old new : D) (reader : SnapshotReader) (m : Manifest)
     → Started d manifest_form (λ records. HoldsLast reader records) (file_of region 2) (file_of region 3) old new m.log → 1 < steps_left m.log → m.snapshot ≡ reader.snapshot → IsStarted d region old new m
 started_by {D} d region old new reader m started more named =
-    let is : IsLast (records_of started.segments) (names m) = subst (λ (n : Snapshot). IsLast (records_of started.segments) (snapshot_of n)) (sym named) started.taken.last in
-    let right : IsSnapshot (names m) = subst (λ (n : Snapshot). IsSnapshot (snapshot_of n)) (sym named) started.taken.right in
+    let is : IsLast (records_of started.segments) (named_snapshot m) = subst (λ (n : Snapshot). IsLast (records_of started.segments) (snapshot_of n)) (sym named) started.taken.last in
+    let right : IsSnapshot (named_snapshot m) = subst (λ (n : Snapshot). IsSnapshot (snapshot_of n)) (sym named) started.taken.right in
     let read : segments_of manifest_form (d.seen old (file_of region 2)) (d.seen old (file_of region 3)) ≡ Ok started.segments =
     ap (λ (f : ℕ). segments_of manifest_form (d.seen old f) (d.seen old (file_of region 3))) (sym started.first_is) ∙ ap (λ (f : ℕ). segments_of manifest_form (d.seen old m.log.first) (d.seen old f)) (sym started.second_is) ∙ started.stood in
     let stands : RecordsStand manifest_form (file_of region 2) (file_of region 3) (d.seen old) (records_of started.segments) = (started.segments, read, refl) in

@@ -7,88 +7,88 @@ use Rattle.std.proofs.lemmas.List.{append-nil}
 use Rattle.px_cells.specs.CellData.{CellData}
 use Rattle.px_gatelog.specs.Format.{LogForm, LogRecord}
 use Rattle.px_cellbytes.specs.Spelling.{all_bytes}
-use Rattle.px_wal.specs.Batches.{AreRising, Batch, above, later_first}
-use Rattle.px_wal.specs.Form.{AreBatches, IsBatch, IsFirst, IsNextNumber, batch_body, batch_record, byte_count, count_in, fault_place, cell_count, is_next, is_right, is_some, last_number, last_of, number_in, number_place, right_number, wal_form, wrong_batch, wrong_by}
+use Rattle.px_wal.specs.Batches.{AreRisingBatches, LogBatch, batches_above, later_first}
+use Rattle.px_wal.specs.Form.{AreBatches, IsLogBatch, IsFirstAfter, IsNextNumber, batch_body, batch_record, batch_byte_count, cell_count_in, fault_place, cell_count, is_next, is_right, is_some, last_number, last_batch_number, number_in, number_place, right_number, wal_form, wrong_batch, wrong_by}
 use Rattle.px_wal.specs.inner.OneReading.{reading}
 use Rattle.px_wal.proofs.Readings.{cells_of_body, count_of_body, length_of_body, number_of_body, reading_ok, wrong_cells, wrong_number, wrong_some}
 use Rattle.px_wal.proofs.Cuts.{above_drop, above_take}
 
-pub all_more : (P : Batch → Type 0) (batches : List Batch) (b : Batch) → AllByRecursion P batches → P b → AllByRecursion P (batches ++ b ∷ [])
+pub all_more : (P : LogBatch → Type 0) (batches : List LogBatch) (b : LogBatch) → AllByRecursion P batches → P b → AllByRecursion P (batches ++ b ∷ [])
 all_more P [] b all is = (is, tt)
 all_more P (a ∷ batches) b all is = (all.0, all_more P batches b all.1 is)
 
-pub rising_more : (batches : List Batch) (b : Batch) → AreRising batches → AllByRecursion (λ c. c.number < b.number) batches → AreRising (batches ++ b ∷ [])
+pub rising_more : (batches : List LogBatch) (b : LogBatch) → AreRisingBatches batches → AllByRecursion (λ c. c.number < b.number) batches → AreRisingBatches (batches ++ b ∷ [])
 rising_more [] b rising below = (tt, tt)
 rising_more (a ∷ batches) b rising below = (all_more (λ c. a.number < c.number) batches b rising.0 below.0, rising_more batches b rising.1 below.1)
 
 -- the last number is the greatest
-pub last_top : (n : ℕ) (batches : List Batch) → AllByRecursion (λ c. n < c.number) batches → AreRising batches → (n ≤ last_of n batches) × AllByRecursion (λ c. c.number ≤ last_of n batches) batches
+pub last_top : (n : ℕ) (batches : List LogBatch) → AllByRecursion (λ c. n < c.number) batches → AreRisingBatches batches → (n ≤ last_batch_number n batches) × AllByRecursion (λ c. c.number ≤ last_batch_number n batches) batches
 last_top n [] over rising = (omega arith, tt)
 last_top n (b ∷ batches) over rising = (let top = last_top b.number batches rising.0 rising.1 in (omega (arith, over.0, top.0), (top.0, top.1)))
 
-all_less : (m n : ℕ) (batches : List Batch) → m < n → AllByRecursion (λ c. c.number ≤ m) batches → AllByRecursion (λ c. c.number < n) batches
+all_less : (m n : ℕ) (batches : List LogBatch) → m < n → AllByRecursion (λ c. c.number ≤ m) batches → AllByRecursion (λ c. c.number < n) batches
 all_less m n [] lt all = tt
 all_less m n (b ∷ batches) lt all = (omega (arith, all.0), all_less m n batches lt all.1)
 
-below_next : (flushed n : ℕ) (batches : List Batch) → AreRising batches → IsNextNumber flushed batches n → AllByRecursion (λ c. c.number < n) batches
+below_next : (flushed n : ℕ) (batches : List LogBatch) → AreRisingBatches batches → IsNextNumber flushed batches n → AllByRecursion (λ c. c.number < n) batches
 below_next flushed n [] rising next = tt
 below_next flushed n (b ∷ batches) rising next =
     let top = last_top b.number batches rising.0 rising.1 in
-    (omega (arith, top.0), all_less (last_of b.number batches) n batches (omega arith) top.1)
+    (omega (arith, top.0), all_less (last_batch_number b.number batches) n batches (omega arith) top.1)
 
-first_more : (flushed : ℕ) (batches : List Batch) (b : Batch) → IsFirst flushed batches → IsNextNumber flushed batches b.number → IsFirst flushed (batches ++ b ∷ [])
+first_more : (flushed : ℕ) (batches : List LogBatch) (b : LogBatch) → IsFirstAfter flushed batches → IsNextNumber flushed batches b.number → IsFirstAfter flushed (batches ++ b ∷ [])
 first_more flushed [] b first next = next
 first_more flushed (a ∷ batches) b first next = first
 
-pub right_more : (flushed : ℕ) (batches : List Batch) (b : Batch) → AreBatches flushed batches → IsBatch b → IsNextNumber flushed batches b.number → AreBatches flushed (batches ++ b ∷ [])
+pub right_more : (flushed : ℕ) (batches : List LogBatch) (b : LogBatch) → AreBatches flushed batches → IsLogBatch b → IsNextNumber flushed batches b.number → AreBatches flushed (batches ++ b ∷ [])
 right_more flushed batches b right is next = record {
-  each = all_more IsBatch batches b right.each is;
+  each = all_more IsLogBatch batches b right.each is;
   rising = rising_more batches b right.rising (below_next flushed b.number batches right.rising next);
   first = first_more flushed batches b right.first next;
 }
 
-pub last_more : (n : ℕ) (batches : List Batch) (b : Batch) → last_of n (batches ++ b ∷ []) ≡ b.number
+pub last_more : (n : ℕ) (batches : List LogBatch) (b : LogBatch) → last_batch_number n (batches ++ b ∷ []) ≡ b.number
 last_more n [] b = refl
 last_more n (a ∷ batches) b = last_more a.number batches b
 
-pub some_more : (batches : List Batch) (b : Batch) → is_some (batches ++ b ∷ []) ≡ true
+pub some_more : (batches : List LogBatch) (b : LogBatch) → is_some (batches ++ b ∷ []) ≡ true
 some_more [] b = refl
 some_more (a ∷ batches) b = refl
 
-pub above_more : (n : ℕ) (batches : List Batch) (b : Batch) → n < b.number → above n (batches ++ b ∷ []) ≡ above n batches ++ b ∷ []
+pub above_more : (n : ℕ) (batches : List LogBatch) (b : LogBatch) → n < b.number → batches_above n (batches ++ b ∷ []) ≡ batches_above n batches ++ b ∷ []
 above_more n [] b over = above_take n b [] over
 above_more n (a ∷ batches) b over = elim (cases_lt n a.number) [
-  | inl l ↦ above_take n a (batches ++ b ∷ []) l ∙ ap (λ (l : List Batch). a ∷ l) (above_more n batches b over) ∙ ap (λ (l : List Batch). l ++ b ∷ []) (sym (above_take n a batches l))
-  | inr l ↦ above_drop n a (batches ++ b ∷ []) l ∙ above_more n batches b over ∙ ap (λ (l : List Batch). l ++ b ∷ []) (sym (above_drop n a batches l))
+  | inl l ↦ above_take n a (batches ++ b ∷ []) l ∙ ap (λ (l : List LogBatch). a ∷ l) (above_more n batches b over) ∙ ap (λ (l : List LogBatch). l ++ b ∷ []) (sym (above_take n a batches l))
+  | inr l ↦ above_drop n a (batches ++ b ∷ []) l ∙ above_more n batches b over ∙ ap (λ (l : List LogBatch). l ++ b ∷ []) (sym (above_drop n a batches l))
 ]
 
-pub above_same : (n : ℕ) (batches : List Batch) (b : Batch) → b.number ≤ n → above n (batches ++ b ∷ []) ≡ above n batches
+pub above_same : (n : ℕ) (batches : List LogBatch) (b : LogBatch) → b.number ≤ n → batches_above n (batches ++ b ∷ []) ≡ batches_above n batches
 above_same n [] b low = above_drop n b [] low
 above_same n (a ∷ batches) b low = elim (cases_lt n a.number) [
-  | inl l ↦ above_take n a (batches ++ b ∷ []) l ∙ ap (λ (l : List Batch). a ∷ l) (above_same n batches b low) ∙ sym (above_take n a batches l)
+  | inl l ↦ above_take n a (batches ++ b ∷ []) l ∙ ap (λ (l : List LogBatch). a ∷ l) (above_same n batches b low) ∙ sym (above_take n a batches l)
   | inr l ↦ above_drop n a (batches ++ b ∷ []) l ∙ above_same n batches b low ∙ sym (above_drop n a batches l)
 ]
 
-pub later_more : (batches : List Batch) (b : Batch) → later_first (batches ++ b ∷ []) ≡ b.cells ++ later_first batches
+pub later_more : (batches : List LogBatch) (b : LogBatch) → later_first (batches ++ b ∷ []) ≡ b.cells ++ later_first batches
 later_more [] b = sym (append-nil b.cells)
 later_more (a ∷ batches) b = ap (λ (l : List CellData). l ++ a.cells) (later_more batches b) ∙ append_assoc b.cells (later_first batches) a.cells
 
-pub cells_more : (batches : List Batch) (b : Batch) → cell_count (batches ++ b ∷ []) ≡ cell_count batches + length b.cells
+pub cells_more : (batches : List LogBatch) (b : LogBatch) → cell_count (batches ++ b ∷ []) ≡ cell_count batches + length b.cells
 cells_more [] b = omega arith
 cells_more (a ∷ batches) b = ap (λ (n : ℕ). length a.cells + n) (cells_more batches b) ∙ sym (add_assoc (length a.cells) (cell_count batches) (length b.cells))
 
-pub bytes_more : (batches : List Batch) (b : Batch) → byte_count (batches ++ b ∷ []) ≡ byte_count batches + length (all_bytes b.cells)
+pub bytes_more : (batches : List LogBatch) (b : LogBatch) → batch_byte_count (batches ++ b ∷ []) ≡ batch_byte_count batches + length (all_bytes b.cells)
 bytes_more [] b = omega arith
-bytes_more (a ∷ batches) b = ap (λ (n : ℕ). length (all_bytes a.cells) + n) (bytes_more batches b) ∙ sym (add_assoc (length (all_bytes a.cells)) (byte_count batches) (length (all_bytes b.cells)))
+bytes_more (a ∷ batches) b = ap (λ (n : ℕ). length (all_bytes a.cells) + n) (bytes_more batches b) ∙ sym (add_assoc (length (all_bytes a.cells)) (batch_byte_count batches) (length (all_bytes b.cells)))
 
 -- ---- which number is right
 
-last_record : (n : ℕ) (batches : List Batch) → AllByRecursion IsBatch batches → last_number n (map batch_record batches) ≡ last_of n batches
+last_record : (n : ℕ) (batches : List LogBatch) → AllByRecursion IsLogBatch batches → last_number n (map batch_record batches) ≡ last_batch_number n batches
 last_record n [] each = refl
 last_record n (b ∷ batches) each = ap (λ (k : ℕ). last_number k (map batch_record batches)) (number_of_body b each.0.number) ∙ last_record b.number batches each.1
 
 -- the records of batches tell the same as their numbers
-pub right_is_next : (flushed n last : ℕ) (some : Bool) (batches : List Batch) → AllByRecursion IsBatch batches → last ≡ last_of flushed batches → some ≡ is_some batches
+pub right_is_next : (flushed n last : ℕ) (some : Bool) (batches : List LogBatch) → AllByRecursion IsLogBatch batches → last ≡ last_batch_number flushed batches → some ≡ is_some batches
     → is_right flushed (map batch_record batches) n ≡ is_next flushed some last n
 right_is_next flushed n last some [] each last-is some-is = ap (λ (s : Bool). is_next flushed s last n) (sym some-is)
 right_is_next flushed n last some (b ∷ batches) each last-is some-is =
@@ -96,23 +96,23 @@ right_is_next flushed n last some (b ∷ batches) each last-is some-is =
     ∙ ap (λ (s : Bool). is_next flushed s last n) (sym some-is)
 
 -- the number that the records ask for is the one behind the last batch
-pub right_is_last : (flushed last : ℕ) (batches : List Batch) → AllByRecursion IsBatch batches → last ≡ last_of flushed batches → right_number flushed (map batch_record batches) ≡ last + 1
+pub right_is_last : (flushed last : ℕ) (batches : List LogBatch) → AllByRecursion IsLogBatch batches → last ≡ last_batch_number flushed batches → right_number flushed (map batch_record batches) ≡ last + 1
 right_is_last flushed last [] each last-is = ap (λ (k : ℕ). k + 1) (sym last-is)
 right_is_last flushed last (b ∷ batches) each last-is =
     ap (λ (k : ℕ). k + 1) (ap (λ (k : ℕ). last_number k (map batch_record batches)) (number_of_body b each.0.number) ∙ last_record b.number batches each.1 ∙ sym last-is)
 
-pub next_number : (flushed n last : ℕ) (some : Bool) (batches : List Batch) → last ≡ last_of flushed batches → some ≡ is_some batches → is_next flushed some last n ≡ true → IsNextNumber flushed batches n
+pub next_number : (flushed n last : ℕ) (some : Bool) (batches : List LogBatch) → last ≡ last_batch_number flushed batches → some ≡ is_some batches → is_next flushed some last n ≡ true → IsNextNumber flushed batches n
 next_number flushed n last some [] last-is some-is next = leb-true n (flushed + 1) (ap (λ (s : Bool). is_next flushed s last n) (sym some-is) ∙ next)
 next_number flushed n last some (b ∷ batches) last-is some-is next =
     eqb-true n (last + 1) (ap (λ (s : Bool). is_next flushed s last n) (sym some-is) ∙ next) ∙ ap (λ (k : ℕ). k + 1) last-is
 
-is_right_true : (flushed n : ℕ) (batches : List Batch) → AllByRecursion IsBatch batches → IsNextNumber flushed batches n → is_right flushed (map batch_record batches) n ≡ true
+is_right_true : (flushed n : ℕ) (batches : List LogBatch) → AllByRecursion IsLogBatch batches → IsNextNumber flushed batches n → is_right flushed (map batch_record batches) n ≡ true
 is_right_true flushed n [] each next = le-leb n (flushed + 1) next
 is_right_true flushed n (b ∷ batches) each next =
     eq-eqb n _ (next ∙ sym (ap (λ (k : ℕ). k + 1) (ap (λ (k : ℕ). last_number k (map batch_record batches)) (number_of_body b each.0.number) ∙ last_record b.number batches each.1)))
 
 -- the record of the next batch is right
-pub batch_is_right : (flushed : ℕ) (batches : List Batch) (b : Batch) → AllByRecursion IsBatch batches → IsBatch b → IsNextNumber flushed batches b.number
+pub batch_is_right : (flushed : ℕ) (batches : List LogBatch) (b : LogBatch) → AllByRecursion IsLogBatch batches → IsLogBatch b → IsNextNumber flushed batches b.number
     → wrong_batch flushed (map batch_record batches) (batch_record b) ≡ None
 unfolding wrong_batch
 batch_is_right flushed batches b each is next =
@@ -121,20 +121,20 @@ batch_is_right flushed batches b each is next =
     let cells = reading_ok (all_bytes b.cells) (length b.cells) b.cells (record { spelled = refl; counted = refl; written = is.written }) in
     let at : ℕ = number_place (right_number flushed (map batch_record batches)) (number_in (batch_body b)) in
     let none : wrong_by true at (batch_body b) ≡ None =
-    wrong_cells at (batch_body b) None (omega (arith, length_of_body b)) (ap fault_place (ap (λ (l : List ℕ). reading l (count_in (batch_body b))) (cells_of_body b) ∙ ap (reading (all_bytes b.cells)) (count_of_body b is.counted)) ∙ cells) in
+    wrong_cells at (batch_body b) None (omega (arith, length_of_body b)) (ap fault_place (ap (λ (l : List ℕ). reading l (cell_count_in (batch_body b))) (cells_of_body b) ∙ ap (reading (all_bytes b.cells)) (count_of_body b is.counted)) ∙ cells) in
     rw (number, none) refl
 
 none_inside : (o : Option ℕ) → option_map (λ p. 5 + p) o ≡ None → o ≡ None
 none_inside None e = refl
 none_inside (Some p) e = cc
 
-next_of_right : (flushed n : ℕ) (batches : List Batch) → AllByRecursion IsBatch batches → is_right flushed (map batch_record batches) n ≡ true → IsNextNumber flushed batches n
+next_of_right : (flushed n : ℕ) (batches : List LogBatch) → AllByRecursion IsLogBatch batches → is_right flushed (map batch_record batches) n ≡ true → IsNextNumber flushed batches n
 next_of_right flushed n [] each right = leb-true n (flushed + 1) right
 next_of_right flushed n (b ∷ batches) each right =
     eqb-true n _ right ∙ ap (λ (k : ℕ). k + 1) (ap (λ (k : ℕ). last_number k (map batch_record batches)) (number_of_body b each.0.number) ∙ last_record b.number batches each.1)
 
 -- a batch whose record is right comes next
-pub right_next : (flushed : ℕ) (batches : List Batch) (b : Batch) → AllByRecursion IsBatch batches → IsBatch b → wrong_batch flushed (map batch_record batches) (batch_record b) ≡ None → IsNextNumber flushed batches b.number
+pub right_next : (flushed : ℕ) (batches : List LogBatch) (b : LogBatch) → AllByRecursion IsLogBatch batches → IsLogBatch b → wrong_batch flushed (map batch_record batches) (batch_record b) ≡ None → IsNextNumber flushed batches b.number
 unfolding wrong_batch
 right_next flushed batches b each is none =
     let at : ℕ = number_place (right_number flushed (map batch_record batches)) (number_in (batch_body b)) in
@@ -158,7 +158,7 @@ unfolding number_in probe_body
 probe_number n = omega arith
 
 probe_right : (flushed n : ℕ) → n ≤ flushed + 1 → wrong_batch flushed [] (probe n) ≡ None
-unfolding wrong_batch probe probe_body count_in
+unfolding wrong_batch probe probe_body cell_count_in
 probe_right flushed n le =
     let right : is_right flushed [] (number_in (probe_body n)) ≡ true = ap (λ (k : ℕ). nat_le k (flushed + 1)) (probe_number n) ∙ le-leb n (flushed + 1) le in
     let cells = reading_ok [] 0 [] (record { spelled = refl; counted = refl; written = record { listed = record { ascending = tt; placed = tt }; bare = tt; short = tt; ranged = tt } }) in

@@ -10,11 +10,11 @@ use Rattle.px_cellbytes.proofs.OneReading.{one_spelling}
 use Rattle.px_gatelog.specs.Format.{LogForm, LogRecord, records_of, segments_of}
 use Rattle.px_gatelog.specs.Records.{RecordsStand}
 use Rattle.px_gatelog.proofs.Standing.{segments_same}
-use Rattle.px_wal.specs.Batches.{Batch}
+use Rattle.px_wal.specs.Batches.{LogBatch}
 use Rattle.px_wal.specs.Files.{file_of}
-use Rattle.px_wal.specs.Form.{IsBatch, batch_body, batch_record, number_in, wal_form}
+use Rattle.px_wal.specs.Form.{IsLogBatch, batch_body, batch_record, number_in, wal_form}
 use Rattle.px_wal.specs.Manifest.{SnapshotStands}
-use Rattle.px_wal.specs.Snapshot.{FileData, IsEntry, IsLast, IsSnapshot, SnapshotData, file_bytes, files_bytes, half_word, manifest_form, snapshot_body, snapshot_record, word}
+use Rattle.px_wal.specs.Snapshot.{FileData, IsEntry, IsLast, IsSnapshot, SnapshotData, file_record_bytes, files_bytes, half_word_bytes, manifest_form, snapshot_body, snapshot_record, word_bytes}
 use Rattle.px_wal.specs.Snapshot.IsLast.{none, last}
 use Rattle.px_wal.specs.Wal.{LogStands}
 use Rattle.px_wal.proofs.Readings.{cells_of_body, number_of_body}
@@ -25,14 +25,14 @@ records_once form first second image a b one two = sym one.2 ∙ ap records_of (
 
 -- ---- batches
 
-batch_once : (a b : Batch) → IsBatch a → IsBatch b → batch_record a ≡ batch_record b → a ≡ b
+batch_once : (a b : LogBatch) → IsLogBatch a → IsLogBatch b → batch_record a ≡ batch_record b → a ≡ b
 batch_once a b one two same =
     let body : batch_body a ≡ batch_body b = ap (λ (r : LogRecord). r.body) same in
     let number : a.number ≡ b.number = sym (number_of_body a one.number) ∙ ap number_in body ∙ number_of_body b two.number in
     let cells : a.cells ≡ b.cells = one_spelling a.cells b.cells (record { short = one.written.short; ranged = one.written.ranged }) (record { short = two.written.short; ranged = two.written.ranged }) (sym (cells_of_body a) ∙ ap (drop 12) body ∙ cells_of_body b) in
     λ i. record { number = number i; cells = cells i }
 
-pub batches_once : (a b : List Batch) → AllByRecursion IsBatch a → AllByRecursion IsBatch b → map batch_record a ≡ map batch_record b → a ≡ b
+pub batches_once : (a b : List LogBatch) → AllByRecursion IsLogBatch a → AllByRecursion IsLogBatch b → map batch_record a ≡ map batch_record b → a ≡ b
 batches_once [] [] one two same = refl
 batches_once [] (y ∷ b) one two same = cc
 batches_once (x ∷ a) [] one two same = cc
@@ -43,32 +43,32 @@ batches_once (x ∷ a) (y ∷ b) one two same =
     let tail = batches_once a b one.1 two.1 rest in
     λ i. head i ∷ tail i
 
-pub log_once : (region flushed : ℕ) (image : Image) (a b : List Batch) → LogStands region flushed image a → LogStands region flushed image b → a ≡ b
+pub log_once : (region flushed : ℕ) (image : Image) (a b : List LogBatch) → LogStands region flushed image a → LogStands region flushed image b → a ≡ b
 log_once region flushed image a b one two =
     batches_once a b one.right.each two.right.each (records_once (wal_form flushed) (file_of region 0) (file_of region 1) image (map batch_record a) (map batch_record b) one.records two.records)
 
 -- ---- snapshots
 
-local_in : (f : FileData) (rest : List ℕ) → f.local < 2 ^ 32 → from_be_bytes w32 (take 4 (file_bytes f ++ rest)) ≡ f.local
-unfolding half_word
+local_in : (f : FileData) (rest : List ℕ) → f.local < 2 ^ 32 → from_be_bytes w32 (take 4 (file_record_bytes f ++ rest)) ≡ f.local
+unfolding half_word_bytes
 local_in f rest small = from_be_bytes-to_be_bytes_4 f.local small
 
-len_in : (f : FileData) (rest : List ℕ) → f.len < 2 ^ 64 → from_be_bytes w64 (take 8 (drop 4 (file_bytes f ++ rest))) ≡ f.len
-unfolding half_word word
+len_in : (f : FileData) (rest : List ℕ) → f.len < 2 ^ 64 → from_be_bytes w64 (take 8 (drop 4 (file_record_bytes f ++ rest))) ≡ f.len
+unfolding half_word_bytes word_bytes
 len_in f rest small = from_be_bytes-to_be_bytes_8 f.len small
 
-cells_in : (f : FileData) (rest : List ℕ) → f.cells < 2 ^ 64 → from_be_bytes w64 (take 8 (drop 12 (file_bytes f ++ rest))) ≡ f.cells
-unfolding half_word word
+cells_in : (f : FileData) (rest : List ℕ) → f.cells < 2 ^ 64 → from_be_bytes w64 (take 8 (drop 12 (file_record_bytes f ++ rest))) ≡ f.cells
+unfolding half_word_bytes word_bytes
 cells_in f rest small = from_be_bytes-to_be_bytes_8 f.cells small
 
-behind : (f : FileData) (rest : List ℕ) → drop 20 (file_bytes f ++ rest) ≡ rest
-unfolding half_word word
+behind : (f : FileData) (rest : List ℕ) → drop 20 (file_record_bytes f ++ rest) ≡ rest
+unfolding half_word_bytes word_bytes
 behind f rest = refl
 
 files_once : (a b : List FileData) → AllByRecursion IsEntry a → AllByRecursion IsEntry b → files_bytes a ≡ files_bytes b → a ≡ b
 files_once [] [] one two same = refl
-files_once [] (g ∷ b) one two same = absurd (let l = ap length same in let m = length-append (file_bytes g) (files_bytes b) in let n = length-file g in omega arith)
-files_once (f ∷ a) [] one two same = absurd (let l = ap length same in let m = length-append (file_bytes f) (files_bytes a) in let n = length-file f in omega arith)
+files_once [] (g ∷ b) one two same = absurd (let l = ap length same in let m = length-append (file_record_bytes g) (files_bytes b) in let n = length-file g in omega arith)
+files_once (f ∷ a) [] one two same = absurd (let l = ap length same in let m = length-append (file_record_bytes f) (files_bytes a) in let n = length-file f in omega arith)
 files_once (f ∷ a) (g ∷ b) one two same =
     let local : f.local ≡ g.local = sym (local_in f (files_bytes a) one.0.local) ∙ ap (λ (l : List ℕ). from_be_bytes w32 (take 4 l)) same ∙ local_in g (files_bytes b) two.0.local in
     let len : f.len ≡ g.len = sym (len_in f (files_bytes a) one.0.len) ∙ ap (λ (l : List ℕ). from_be_bytes w64 (take 8 (drop 4 l))) same ∙ len_in g (files_bytes b) two.0.len in
@@ -77,19 +77,19 @@ files_once (f ∷ a) (g ∷ b) one two same =
     λ i. record { local = local i; len = len i; cells = cells i } ∷ rest i
 
 flushed_in : (s : SnapshotData) → s.flushed < 2 ^ 64 → from_be_bytes w64 (take 8 (snapshot_body s)) ≡ s.flushed
-unfolding snapshot_body word
+unfolding snapshot_body word_bytes
 flushed_in s small = from_be_bytes-to_be_bytes_8 s.flushed small
 
 horizon_in : (s : SnapshotData) → s.horizon < 2 ^ 64 → from_be_bytes w64 (take 8 (drop 8 (snapshot_body s))) ≡ s.horizon
-unfolding snapshot_body word
+unfolding snapshot_body word_bytes
 horizon_in s small = from_be_bytes-to_be_bytes_8 s.horizon small
 
 stamp_in : (s : SnapshotData) → s.stamp < 2 ^ 64 → from_be_bytes w64 (take 8 (drop 16 (snapshot_body s))) ≡ s.stamp
-unfolding snapshot_body word
+unfolding snapshot_body word_bytes
 stamp_in s small = from_be_bytes-to_be_bytes_8 s.stamp small
 
 counts_in : (s : SnapshotData) → (get_or (snapshot_body s) 24 0 ≡ s.compactions) × (drop 26 (snapshot_body s) ≡ files_bytes s.files)
-unfolding snapshot_body word
+unfolding snapshot_body word_bytes
 counts_in s = (refl, refl)
 
 pub snapshot_once : (s t : SnapshotData) → IsSnapshot s → IsSnapshot t → snapshot_body s ≡ snapshot_body t → s ≡ t

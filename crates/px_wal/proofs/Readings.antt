@@ -10,16 +10,16 @@ use Rattle.px_cellbytes.specs.declared.fault.CellFault.{CellFault}
 use Rattle.px_cellbytes.specs.declared.fault.CellFault.TheVariants.{Short, BadKind, OutOfOrder, Memory}
 use Rattle.px_cellbytes.specs.Reading.IsFault.{short, bad_kind, out_of_order}
 use Rattle.px_cellbytes.specs.Reading.IsNextFault.{of_next, of_rest}
-use Rattle.px_cellbytes.specs.Reading.{AreCells, IsFault, IsFirstFault, IsNextFault, IsReading, moved, place_of}
+use Rattle.px_cellbytes.specs.Reading.{AreCells, IsCellReading, IsFault, IsFirstFault, IsNextFault, moved, place_of_fault}
 use Rattle.px_cellbytes.specs.Spelling.{all_bytes}
 use Rattle.px_cellbytes.proofs.EveryReading.{every_reading}
 use Rattle.px_cellbytes.proofs.OneReading.{one_reading}
 use Rattle.px_gatelog.specs.Framed.{Framed, record_of}
-use Rattle.px_wal.specs.Batches.{Batch}
+use Rattle.px_wal.specs.Batches.{LogBatch}
 use Rattle.px_wal.specs.inner.OneReading.{AreBytes, WithBytes, cases_bytes, reading, reading_by}
-use Rattle.px_wal.specs.Form.{batch_body, batch_record, count_in, differs_at, fault_place, number_in, number_place, wrong_by}
+use Rattle.px_wal.specs.Form.{batch_body, batch_record, cell_count_in, differs_at, fault_place, number_in, number_place, wrong_by}
 
-reading_by_is : (bytes : List ℕ) (count : ℕ) (w : WithBytes bytes) → AreBytes bytes → IsReading bytes count (reading_by bytes count w)
+reading_by_is : (bytes : List ℕ) (count : ℕ) (w : WithBytes bytes) → AreBytes bytes → IsCellReading bytes count (reading_by bytes count w)
 unfolding reading_by
 reading_by_is bytes count (inl small) all = (every_reading bytes count small).1
 reading_by_is bytes count (inr other) all = absurd (other all)
@@ -33,7 +33,7 @@ pub reading_ok : (bytes : List ℕ) (count : ℕ) (cells : List CellData) → Ar
 unfolding reading
 reading_ok bytes count cells are = reading_by_ok bytes count (cases_bytes bytes) cells are
 
-pub reading_fault : (bytes : List ℕ) (count : ℕ) (fault : CellFault) → AreBytes bytes → IsReading bytes count (Err fault) → fault_place (reading bytes count) ≡ Some (place_of fault)
+pub reading_fault : (bytes : List ℕ) (count : ℕ) (fault : CellFault) → AreBytes bytes → IsCellReading bytes count (Err fault) → fault_place (reading bytes count) ≡ Some (place_of_fault fault)
 unfolding reading
 reading_fault bytes count fault all is = ap fault_place (one_reading bytes count (reading bytes count) (Err fault) (reading_by_is bytes count (cases_bytes bytes) all) is)
 
@@ -43,19 +43,19 @@ are_bytes (b ∷ bytes) small = (small 0, are_bytes bytes (λ i. small (suc i)))
 
 -- ---- the body of a batch
 
-pub number_of_body : (b : Batch) → b.number < 2 ^ 64 → number_in (batch_body b) ≡ b.number
+pub number_of_body : (b : LogBatch) → b.number < 2 ^ 64 → number_in (batch_body b) ≡ b.number
 unfolding batch_body number_in
 number_of_body b small = from_be_bytes-to_be_bytes_8 b.number small
 
-pub count_of_body : (b : Batch) → length b.cells < 2 ^ 32 → count_in (batch_body b) ≡ length b.cells
-unfolding batch_body count_in
+pub count_of_body : (b : LogBatch) → length b.cells < 2 ^ 32 → cell_count_in (batch_body b) ≡ length b.cells
+unfolding batch_body cell_count_in
 count_of_body b small = from_be_bytes-to_be_bytes_4 (length b.cells) small
 
-pub cells_of_body : (b : Batch) → drop 12 (batch_body b) ≡ all_bytes b.cells
+pub cells_of_body : (b : LogBatch) → drop 12 (batch_body b) ≡ all_bytes b.cells
 unfolding batch_body
 cells_of_body b = refl
 
-pub length_of_body : (b : Batch) → length (batch_body b) ≡ 12 + length (all_bytes b.cells)
+pub length_of_body : (b : LogBatch) → length (batch_body b) ≡ 12 + length (all_bytes b.cells)
 unfolding batch_body
 length_of_body b = omega (arith, length-append (to_be_bytes w64 b.number) (to_be_bytes w32 (length b.cells) ++ all_bytes b.cells), length-append (to_be_bytes w32 (length b.cells)) (all_bytes b.cells))
 
@@ -82,7 +82,7 @@ wrong_head place body long few =
     let f : ltb (length body) 12 ≡ true = lt-ltb (length body) 12 few in
     rw (e, f) refl
 
-pub wrong_cells : (at : ℕ) (body : List ℕ) (place : Option ℕ) → 12 ≤ length body → fault_place (reading (drop 12 body) (count_in body)) ≡ place → wrong_by true at body ≡ option_map (λ p. 12 + p) place
+pub wrong_cells : (at : ℕ) (body : List ℕ) (place : Option ℕ) → 12 ≤ length body → fault_place (reading (drop 12 body) (cell_count_in body)) ≡ place → wrong_by true at body ≡ option_map (λ p. 12 + p) place
 unfolding wrong_by
 wrong_cells at body place long is =
     let e : ltb (length body) 8 ≡ false = le-ltb (length body) 8 (omega (arith, long)) in
@@ -91,30 +91,30 @@ wrong_cells at body place long is =
 
 -- ---- a fault stands within the bytes
 
-place_moved : (n : ℕ) (fault : CellFault) → place_of (moved n fault) ≤ n + place_of fault
+place_moved : (n : ℕ) (fault : CellFault) → place_of_fault (moved n fault) ≤ n + place_of_fault fault
 place_moved n (Short place) = omega arith
 place_moved n (BadKind place) = omega arith
 place_moved n (OutOfOrder place) = omega arith
 place_moved n Memory = omega arith
 
-fault_within : (before : List CellData) (rest : List ℕ) (fault : CellFault) → IsFault before rest fault → place_of fault ≤ length rest
-fault_within before rest fault (short place cut is) = (let e = ap place_of is in let l = cut.before in omega arith)
-fault_within before rest fault (bad_kind l wrong is) = (let e = ap place_of is in omega arith)
-fault_within before rest fault (out_of_order front last c behind b s r bytes up is) = (let e = ap place_of is in omega arith)
+fault_within : (before : List CellData) (rest : List ℕ) (fault : CellFault) → IsFault before rest fault → place_of_fault fault ≤ length rest
+fault_within before rest fault (short place cut is) = (let e = ap place_of_fault is in let l = cut.before in omega arith)
+fault_within before rest fault (bad_kind l wrong is) = (let e = ap place_of_fault is in omega arith)
+fault_within before rest fault (out_of_order front last c behind b s r bytes up is) = (let e = ap place_of_fault is in omega arith)
 
-pub first_within : (bytes : List ℕ) (count : ℕ) (fault : CellFault) → IsFirstFault bytes count fault → place_of fault ≤ length bytes
+pub first_within : (bytes : List ℕ) (count : ℕ) (fault : CellFault) → IsFirstFault bytes count fault → place_of_fault fault ≤ length bytes
 first_within bytes count fault first = by first.next
   where
     long : length bytes ≡ length (all_bytes first.before) + length first.rest
     long = ap length first.spelled ∙ length-append (all_bytes first.before) first.rest
 
-    by : IsNextFault first.before first.rest count fault → place_of fault ≤ length bytes
+    by : IsNextFault first.before first.rest count fault → place_of_fault fault ≤ length bytes
     by (of_next least few is moved-is) =
-        let a = ap place_of moved-is in
+        let a = ap place_of_fault moved-is in
         let b = place_moved (length (all_bytes first.before)) least in
         let c = fault_within first.before first.rest least is.there in
         omega (arith, long)
-    by (of_rest all some is) = (let a = ap place_of is in omega (arith, long))
+    by (of_rest all some is) = (let a = ap place_of_fault is in omega (arith, long))
 
 -- ---- a body is that of its batch
 
@@ -144,16 +144,16 @@ count_spelled bytes n small long is =
     be_bytes_4 (take 4 (drop 8 bytes)) n (length-take-le 4 (drop 8 bytes) (omega (arith, length-drop 8 bytes))) (small_take 4 (drop 8 bytes) (small_drop 8 bytes small)) is
 
 -- the first wrong place of a body whose cells are wrong
-pub cells_wrong : (at : ℕ) (body : List ℕ) (fault : CellFault) (place p : ℕ) → ((i : ℕ) → get_or body i 0 < 256) → 12 ≤ length body → IsFirstFault (drop 12 body) (count_in body) fault → p ≡ place_of fault → 12 + p ≡ place → wrong_by true at body ≡ Some place
+pub cells_wrong : (at : ℕ) (body : List ℕ) (fault : CellFault) (place p : ℕ) → ((i : ℕ) → get_or body i 0 < 256) → 12 ≤ length body → IsFirstFault (drop 12 body) (cell_count_in body) fault → p ≡ place_of_fault fault → 12 + p ≡ place → wrong_by true at body ≡ Some place
 cells_wrong at body fault place p small long first p-is is =
-    wrong_cells at body (Some (place_of fault)) long (reading_fault (drop 12 body) (count_in body) fault (are_bytes (drop 12 body) (small_drop 12 body small)) first)
+    wrong_cells at body (Some (place_of_fault fault)) long (reading_fault (drop 12 body) (cell_count_in body) fault (are_bytes (drop 12 body) (small_drop 12 body small)) first)
     ∙ ap Some (ap (λ (n : ℕ). 12 + n) (sym p-is) ∙ is)
 
-pub cells_within : (body : List ℕ) (fault : CellFault) (place p : ℕ) → 12 ≤ length body → IsFirstFault (drop 12 body) (count_in body) fault → p ≡ place_of fault → 12 + p ≡ place → place ≤ length body
-cells_within body fault place p long first p-is is = (let l = first_within (drop 12 body) (count_in body) fault first in omega (arith, length-drop 12 body))
+pub cells_within : (body : List ℕ) (fault : CellFault) (place p : ℕ) → 12 ≤ length body → IsFirstFault (drop 12 body) (cell_count_in body) fault → p ≡ place_of_fault fault → 12 + p ≡ place → place ≤ length body
+cells_within body fault place p long first p-is is = (let l = first_within (drop 12 body) (cell_count_in body) fault first in omega (arith, length-drop 12 body))
 
 -- a fault of what is behind the head
-pub told_fault : (body : List ℕ) (count : ℕ) (fault : CellFault) → count ≡ count_in body → IsFirstFault (take (length body - 12) (drop 12 body)) count fault → IsFirstFault (drop 12 body) (count_in body) fault
+pub told_fault : (body : List ℕ) (count : ℕ) (fault : CellFault) → count ≡ cell_count_in body → IsFirstFault (take (length body - 12) (drop 12 body)) count fault → IsFirstFault (drop 12 body) (cell_count_in body) fault
 told_fault body count fault is first =
     subst (λ (n : ℕ). IsFirstFault (drop 12 body) n fault) is (subst (λ (l : List ℕ). IsFirstFault l count fault) (take_all (length body - 12) (drop 12 body) (omega (arith, length-drop 12 body))) first)
 

@@ -10,7 +10,7 @@ use Rattle.std.proofs.lemmas.List.{append-nil, length-append, length-drop, lengt
 use Rattle.std.proofs.lemmas.List.Concat.{flat_map-append}
 use Rattle.px_gatelog.specs.Format.{LogRecord}
 use Rattle.px_gatelog.specs.Framed.{Framed, record_of}
-use Rattle.px_wal.specs.Snapshot.{FileData, IsEntry, IsLast, IsSnapshot, SnapshotData, file_bytes, files_bytes, half_word, head_bytes, place_or, snapshot_body, snapshot_record, word, wrong_body, wrong_file, wrong_files, wrong_head, wrong_snapshot}
+use Rattle.px_wal.specs.Snapshot.{FileData, IsEntry, IsLast, IsSnapshot, SnapshotData, file_record_bytes, files_bytes, half_word_bytes, head_bytes, place_or, snapshot_body, snapshot_record, word_bytes, wrong_body, wrong_file, wrong_files, wrong_head, wrong_snapshot}
 use Rattle.px_wal.specs.Snapshot.IsLast.{last}
 use Rattle.px_wal.specs.SnapshotOf.{file_data}
 use Rattle.px_wal.specs.declared.snapshot.FileEntry.{FileEntry}
@@ -18,32 +18,32 @@ use Rattle.px_wal.proofs.Readings.{small_drop, small_take}
 
 -- ---- numbers at a place
 
-pub word_at : (body : List ℕ) (at n k : ℕ) → ((i : ℕ) → get_or body i 0 < 256) → at + 8 ≤ length body → k ≡ 8 → n ≡ from_be_bytes w64 (take k (drop at body)) → take (at + 8) body ≡ take at body ++ word n
-unfolding word
+pub word_at : (body : List ℕ) (at n k : ℕ) → ((i : ℕ) → get_or body i 0 < 256) → at + 8 ≤ length body → k ≡ 8 → n ≡ from_be_bytes w64 (take k (drop at body)) → take (at + 8) body ≡ take at body ++ word_bytes n
+unfolding word_bytes
 word_at body at n k small long eight number =
     let is : n ≡ from_be_bytes w64 (take 8 (drop at body)) = number ∙ ap (λ (j : ℕ). from_be_bytes w64 (take j (drop at body))) eight in
     take-add at 8 body ∙ ap (λ (l : List ℕ). take at body ++ l) (sym (be_bytes_8 (take 8 (drop at body)) n (length-take-le 8 (drop at body) (omega (arith, length-drop at body))) (small_take 8 (drop at body) (small_drop at body small)) is))
 
-pub half_word_at : (body : List ℕ) (at n k : ℕ) → ((i : ℕ) → get_or body i 0 < 256) → at + 4 ≤ length body → k ≡ 4 → n ≡ from_be_bytes w32 (take k (drop at body)) → take (at + 4) body ≡ take at body ++ half_word n
-unfolding half_word
+pub half_word_at : (body : List ℕ) (at n k : ℕ) → ((i : ℕ) → get_or body i 0 < 256) → at + 4 ≤ length body → k ≡ 4 → n ≡ from_be_bytes w32 (take k (drop at body)) → take (at + 4) body ≡ take at body ++ half_word_bytes n
+unfolding half_word_bytes
 half_word_at body at n k small long four number =
     let is : n ≡ from_be_bytes w32 (take 4 (drop at body)) = number ∙ ap (λ (j : ℕ). from_be_bytes w32 (take j (drop at body))) four in
     take-add at 4 body ∙ ap (λ (l : List ℕ). take at body ++ l) (sym (be_bytes_4 (take 4 (drop at body)) n (length-take-le 4 (drop at body) (omega (arith, length-drop at body))) (small_take 4 (drop at body) (small_drop at body small)) is))
 
-pub length-word : (n : ℕ) → length (word n) ≡ 8
-unfolding word
+pub length-word : (n : ℕ) → length (word_bytes n) ≡ 8
+unfolding word_bytes
 length-word n = refl
 
-pub length-half_word : (n : ℕ) → length (half_word n) ≡ 4
-unfolding half_word
+pub length-half_word : (n : ℕ) → length (half_word_bytes n) ≡ 4
+unfolding half_word_bytes
 length-half_word n = refl
 
-pub length-file : (f : FileData) → length (file_bytes f) ≡ 20
-length-file f = omega (arith, length-append (half_word f.local ++ word f.len) (word f.cells), length-append (half_word f.local) (word f.len), length-half_word f.local, length-word f.len, length-word f.cells)
+pub length-file : (f : FileData) → length (file_record_bytes f) ≡ 20
+length-file f = omega (arith, length-append (half_word_bytes f.local ++ word_bytes f.len) (word_bytes f.cells), length-append (half_word_bytes f.local) (word_bytes f.len), length-half_word f.local, length-word f.len, length-word f.cells)
 
 pub length-files : (files : List FileData) → length (files_bytes files) ≡ 20 * length files
 length-files [] = refl
-length-files (f ∷ files) = omega (arith, length-append (file_bytes f) (files_bytes files), length-file f, length-files files)
+length-files (f ∷ files) = omega (arith, length-append (file_record_bytes f) (files_bytes files), length-file f, length-files files)
 
 -- ---- the first wrong place of a file
 
@@ -119,32 +119,32 @@ head_right body long few =
 
 -- ---- what is spelled is right
 
-local_of_file : (f : FileData) (rest : List ℕ) → f.local < 2 ^ 32 → from_be_bytes w32 (take 4 (file_bytes f ++ rest)) ≡ f.local
-unfolding half_word
+local_of_file : (f : FileData) (rest : List ℕ) → f.local < 2 ^ 32 → from_be_bytes w32 (take 4 (file_record_bytes f ++ rest)) ≡ f.local
+unfolding half_word_bytes
 local_of_file f rest small = from_be_bytes-to_be_bytes_4 f.local small
 
-behind_file : (f : FileData) (rest : List ℕ) → drop 20 (file_bytes f ++ rest) ≡ rest
-unfolding half_word word
+behind_file : (f : FileData) (rest : List ℕ) → drop 20 (file_record_bytes f ++ rest) ≡ rest
+unfolding half_word_bytes word_bytes
 behind_file f rest = refl
 
 files_are_right : (at : ℕ) (files : List FileData) → AllByRecursion IsEntry files → wrong_files (length files) at (files_bytes files) ≡ None
 files_are_right at [] all = files_ended 0 at [] refl refl
 files_are_right at (f ∷ files) all =
-    let one : wrong_file (file_bytes f ++ files_bytes files) ≡ None =
-    file_right (file_bytes f ++ files_bytes files) (omega (arith, length-append (file_bytes f) (files_bytes files), length-file f)) (omega (arith, local_of_file f (files_bytes files) all.0.local, all.0.own)) in
-    files_next (length (f ∷ files)) (length files) at (file_bytes f ++ files_bytes files) refl one ∙ ap (wrong_files (length files) (at + 20)) (behind_file f (files_bytes files)) ∙ files_are_right (at + 20) files all.1
+    let one : wrong_file (file_record_bytes f ++ files_bytes files) ≡ None =
+    file_right (file_record_bytes f ++ files_bytes files) (omega (arith, length-append (file_record_bytes f) (files_bytes files), length-file f)) (omega (arith, local_of_file f (files_bytes files) all.0.local, all.0.own)) in
+    files_next (length (f ∷ files)) (length files) at (file_record_bytes f ++ files_bytes files) refl one ∙ ap (wrong_files (length files) (at + 20)) (behind_file f (files_bytes files)) ∙ files_are_right (at + 20) files all.1
 
 counts_of : (s : SnapshotData) → (get_or (snapshot_body s) 24 0 ≡ s.compactions) × (get_or (snapshot_body s) 25 0 ≡ length s.files) × (drop 26 (snapshot_body s) ≡ files_bytes s.files)
-unfolding snapshot_body word
+unfolding snapshot_body word_bytes
 counts_of s = (refl, refl, refl)
 
 pub length-head : (s : SnapshotData) → length (head_bytes s) ≡ 26
 length-head s =
     omega (
       arith,
-      length-append ((word s.flushed ++ word s.horizon) ++ word s.stamp) (s.compactions ∷ length s.files ∷ []),
-      length-append (word s.flushed ++ word s.horizon) (word s.stamp),
-      length-append (word s.flushed) (word s.horizon),
+      length-append ((word_bytes s.flushed ++ word_bytes s.horizon) ++ word_bytes s.stamp) (s.compactions ∷ length s.files ∷ []),
+      length-append (word_bytes s.flushed ++ word_bytes s.horizon) (word_bytes s.stamp),
+      length-append (word_bytes s.flushed) (word_bytes s.horizon),
       length-word s.flushed,
       length-word s.horizon,
       length-word s.stamp,
@@ -167,22 +167,22 @@ snapshot_is_right before s is = (let r = body_is_right s is in rw r refl)
 -- ---- reading
 
 -- a file behind others
-pub file_more : (body head : List ℕ) (files : List FileEntry) (f : FileEntry) (at : ℕ) → take at body ≡ head ++ files_bytes (map file_data files) → take (at + 20) body ≡ take at body ++ file_bytes (file_data f)
+pub file_more : (body head : List ℕ) (files : List FileEntry) (f : FileEntry) (at : ℕ) → take at body ≡ head ++ files_bytes (map file_data files) → take (at + 20) body ≡ take at body ++ file_record_bytes (file_data f)
     → take (at + 20) body ≡ head ++ files_bytes (map file_data (files ++ f ∷ []))
 file_more body head files f at before one =
-    one ∙ ap (λ (l : List ℕ). l ++ file_bytes (file_data f)) before ∙ append_assoc head (files_bytes (map file_data files)) (file_bytes (file_data f))
-    ∙ ap (λ (l : List ℕ). head ++ l) (ap (λ (l : List ℕ). files_bytes (map file_data files) ++ l) (sym (append-nil (file_bytes (file_data f)))) ∙ sym (flat_map-append file_bytes (map file_data files) (file_data f ∷ [])) ∙ ap files_bytes (sym (map-append file_data files (f ∷ []))))
+    one ∙ ap (λ (l : List ℕ). l ++ file_record_bytes (file_data f)) before ∙ append_assoc head (files_bytes (map file_data files)) (file_record_bytes (file_data f))
+    ∙ ap (λ (l : List ℕ). head ++ l) (ap (λ (l : List ℕ). files_bytes (map file_data files) ++ l) (sym (append-nil (file_record_bytes (file_data f)))) ∙ sym (flat_map-append file_record_bytes (map file_data files) (file_data f ∷ [])) ∙ ap files_bytes (sym (map-append file_data files (f ∷ []))))
 
 pub entries_more : (files : List FileEntry) (f : FileEntry) → AllByRecursion IsEntry (map file_data files) → IsEntry (file_data f) → AllByRecursion IsEntry (map file_data (files ++ f ∷ []))
 entries_more [] f all is = (is, tt)
 entries_more (e ∷ files) f all is = (all.0, entries_more files f all.1 is)
 
 -- the head of a body, by its numbers
-pub head_is : (body : List ℕ) (a b c : ℕ) → 26 ≤ length body → take (0 + 8) body ≡ take 0 body ++ word a → take (8 + 8) body ≡ take 8 body ++ word b → take (16 + 8) body ≡ take 16 body ++ word c
-    → take 26 body ≡ ((word a ++ word b) ++ word c) ++ get_or body 24 0 ∷ get_or body 25 0 ∷ []
+pub head_is : (body : List ℕ) (a b c : ℕ) → 26 ≤ length body → take (0 + 8) body ≡ take 0 body ++ word_bytes a → take (8 + 8) body ≡ take 8 body ++ word_bytes b → take (16 + 8) body ≡ take 16 body ++ word_bytes c
+    → take 26 body ≡ ((word_bytes a ++ word_bytes b) ++ word_bytes c) ++ get_or body 24 0 ∷ get_or body 25 0 ∷ []
 head_is body a b c long one two three =
     take_more body 25 0 (omega (arith, long)) ∙ ap (λ (l : List ℕ). l ++ get_or body 25 0 ∷ []) (take_more body 24 0 (omega (arith, long)))
-    ∙ append_assoc (take 24 body) (get_or body 24 0 ∷ []) (get_or body 25 0 ∷ []) ∙ ap (λ (l : List ℕ). l ++ get_or body 24 0 ∷ get_or body 25 0 ∷ []) (three ∙ ap (λ (l : List ℕ). l ++ word c) (two ∙ ap (λ (l : List ℕ). l ++ word b) one))
+    ∙ append_assoc (take 24 body) (get_or body 24 0 ∷ []) (get_or body 25 0 ∷ []) ∙ ap (λ (l : List ℕ). l ++ get_or body 24 0 ∷ get_or body 25 0 ∷ []) (three ∙ ap (λ (l : List ℕ). l ++ word_bytes c) (two ∙ ap (λ (l : List ℕ). l ++ word_bytes b) one))
 
 pub body_is : (body files : List ℕ) (s : SnapshotData) → body ≡ take 26 body ++ files → take 26 body ≡ head_bytes s → files ≡ files_bytes s.files → body ≡ snapshot_body s
 unfolding snapshot_body

@@ -5,17 +5,17 @@ use Rattle.std.specs.List.{AllByRecursion}
 use Rattle.std.proofs.lemmas.List.{append-nil, map-append}
 use Rattle.px_outside.specs.OnDisk.{LeavesOnly}
 use Rattle.px_outside.specs.declared.disk.Disk.{Ghosts}
-use Rattle.px_gatelog.specs.Format.{AllFit, AreRight, LogRecord, SegmentRead, newest_of, older_of, records_of}
+use Rattle.px_gatelog.specs.Format.{AllRecordsFit, AreRightRecords, LogRecord, SegmentRead, newest_of, older_of, records_of}
 use Rattle.px_gatelog.specs.First.{segment_size}
 use Rattle.px_gatelog.specs.GateLog.{IsLaid, IsSameLog, next_shut, steps_by, steps_left}
 use Rattle.px_gatelog.specs.declared.gate_log.GateLog.{GateLog}
 use Rattle.px_gatelog.specs.Records.{RecordsStand}
-use Rattle.px_gatelog.specs.Steps.{Commits, IsRollStep, Reaches}
+use Rattle.px_gatelog.specs.Steps.{Commits, IsRollStep, LogReaches}
 use Rattle.px_gatelog.proofs.LogRecords.{records_by}
 use Rattle.px_gatelog.proofs.Switching.{newest_are, newest_fit, switched_last, switched_leaves, switched_more}
-use Rattle.px_wal.specs.Batches.{AreRising, Batch, IsRest}
+use Rattle.px_wal.specs.Batches.{AreRisingBatches, IsRest, LogBatch}
 use Rattle.px_wal.specs.Files.{file_of}
-use Rattle.px_wal.specs.Form.{AreBatches, IsBatch, IsFirst, IsUpTo, batch_record, last_number, last_of, number_in, number_place, wal_form, wrong_batch, wrong_by}
+use Rattle.px_wal.specs.Form.{AreBatches, IsFirstAfter, IsLogBatch, IsUpTo, batch_record, last_batch_number, last_number, number_in, number_place, wal_form, wrong_batch, wrong_by}
 use Rattle.px_wal.specs.Wal.{HasBatches, LogStands, MaySwitch}
 use Rattle.px_wal.specs.declared.wal.Wal.{Wal}
 use Rattle.px_wal.proofs.Cuts.{all_left, all_right}
@@ -62,42 +62,42 @@ wrong_behind flushed (y ∷ before) r more x =
     ap (λ (n : ℕ). if x.kind == 2 then option_map (λ place. 5 + place) (wrong_by (number_in x.body == n + 1) (number_place (n + 1) (number_in x.body)) x.body) else Some 0)
     (last_number_behind (number_in y.body) before r more)
 
-right_behind : (flushed : ℕ) (before : List LogRecord) (r : LogRecord) (more records : List LogRecord) → AreRight (wal_form flushed) (before ++ r ∷ more) records → AreRight (wal_form flushed) (r ∷ more) records
+right_behind : (flushed : ℕ) (before : List LogRecord) (r : LogRecord) (more records : List LogRecord) → AreRightRecords (wal_form flushed) (before ++ r ∷ more) records → AreRightRecords (wal_form flushed) (r ∷ more) records
 right_behind flushed before r more [] right = tt
 right_behind flushed before r more (x ∷ records) right = (
   sym (wrong_behind flushed before r more x) ∙ right.0,
   right.1,
-  right_behind flushed before r (more ++ x ∷ []) records (subst (λ (l : List LogRecord). AreRight (wal_form flushed) l records) (append_assoc before (r ∷ more) (x ∷ [])) right.2),
+  right_behind flushed before r (more ++ x ∷ []) records (subst (λ (l : List LogRecord). AreRightRecords (wal_form flushed) l records) (append_assoc before (r ∷ more) (x ∷ [])) right.2),
 )
 
 -- ---- the newest segment alone
 
 -- its first number is at most one above the flushed one
-first_newer : (flushed n : ℕ) (older newer : List Batch) → AllByRecursion IsBatch older → AllByRecursion IsBatch newer → IsUpTo flushed older n → n ≤ flushed → AreRight (wal_form flushed) (map batch_record older) (map batch_record newer) → IsFirst flushed newer
+first_newer : (flushed n : ℕ) (older newer : List LogBatch) → AllByRecursion IsLogBatch older → AllByRecursion IsLogBatch newer → IsUpTo flushed older n → n ≤ flushed → AreRightRecords (wal_form flushed) (map batch_record older) (map batch_record newer) → IsFirstAfter flushed newer
 first_newer flushed n older [] each is upto le right = tt
 first_newer flushed n [] (b ∷ newer) each is upto le right = right_next flushed [] b each is.0 right.0
 first_newer flushed n (a ∷ older) (b ∷ newer) each is upto le right = (let next = right_next flushed (a ∷ older) b each is.0 right.0 in omega (arith, next, upto, le))
 
 -- and its records may stand alone
-fit_newer : (flushed : ℕ) (older newer : List Batch) → AllByRecursion IsBatch newer → IsFirst flushed newer → AreRight (wal_form flushed) (map batch_record older) (map batch_record newer) → AllFit (wal_form flushed) [] (map batch_record newer)
+fit_newer : (flushed : ℕ) (older newer : List LogBatch) → AllByRecursion IsLogBatch newer → IsFirstAfter flushed newer → AreRightRecords (wal_form flushed) (map batch_record older) (map batch_record newer) → AllRecordsFit (wal_form flushed) [] (map batch_record newer)
 fit_newer flushed older [] each first right = (tt, refl)
 fit_newer flushed older (b ∷ newer) each first right = (
   (batch_is_right flushed [] b tt each.0 first, right.1, right_behind flushed (map batch_record older) (batch_record b) [] (map batch_record newer) right.2),
   refl,
 )
 
-module _ {D : Type 0} (d : Ghosts D) (region flushed : ℕ) (old : Wal) (disk : D) (batches : List Batch) (has : HasBatches d region flushed old disk batches) where
-  rising : AreRising (has.cut.older ++ has.cut.newer)
-  rising = subst AreRising has.cut.all has.right.rising
+module _ {D : Type 0} (d : Ghosts D) (region flushed : ℕ) (old : Wal) (disk : D) (batches : List LogBatch) (has : HasBatches d region flushed old disk batches) where
+  rising : AreRisingBatches (has.cut.older ++ has.cut.newer)
+  rising = subst AreRisingBatches has.cut.all has.right.rising
 
-  each : AllByRecursion IsBatch (has.cut.older ++ has.cut.newer)
-  each = subst (AllByRecursion IsBatch) has.cut.all has.right.each
+  each : AllByRecursion IsLogBatch (has.cut.older ++ has.cut.newer)
+  each = subst (AllByRecursion IsLogBatch) has.cut.all has.right.each
 
-  older_each : AllByRecursion IsBatch has.cut.older
-  older_each = all_left IsBatch has.cut.older has.cut.newer each
+  older_each : AllByRecursion IsLogBatch has.cut.older
+  older_each = all_left IsLogBatch has.cut.older has.cut.newer each
 
-  newer_each : AllByRecursion IsBatch has.cut.newer
-  newer_each = all_right IsBatch has.cut.older has.cut.newer each
+  newer_each : AllByRecursion IsLogBatch has.cut.newer
+  newer_each = all_right IsLogBatch has.cut.older has.cut.newer each
 
   -- the number tells whether the older batches were flushed
   pub number_tells : (most : ℕ) → old.older_to ≤ most → AllByRecursion (λ b. b.number ≤ most) has.cut.older
@@ -110,31 +110,31 @@ module _ {D : Type 0} (d : Ghosts D) (region flushed : ℕ) (old : Wal) (disk : 
       ∙ sym (newest_are d (wal_form flushed) (file_of region 0) (file_of region 1) disk old.log (map batch_record batches) has.log refl)
       ∙ ap (map batch_record) has.cut.all ∙ map-append batch_record has.cut.older has.cut.newer)
 
-  right_there : AreRight (wal_form flushed) (map batch_record has.cut.older) (map batch_record has.cut.newer)
+  right_there : AreRightRecords (wal_form flushed) (map batch_record has.cut.older) (map batch_record has.cut.newer)
   right_there =
       let fit = newest_fit d (wal_form flushed) (file_of region 0) (file_of region 1) disk old.log (map batch_record batches) has.log refl in
-      subst (λ (l : List LogRecord). AreRight (wal_form flushed) l (map batch_record has.cut.newer)) has.cut.before (subst (AreRight (wal_form flushed) (records_of (older_of has.log.segments))) newer_records fit.0)
+      subst (λ (l : List LogRecord). AreRightRecords (wal_form flushed) l (map batch_record has.cut.newer)) has.cut.before (subst (AreRightRecords (wal_form flushed) (records_of (older_of has.log.segments))) newer_records fit.0)
 
   -- nothing is gone
   all_there : IsRest flushed batches batches
   all_there = record { gone = []; all = refl; passed = tt }
 
   module _ (may : MaySwitch flushed old) where
-    first : IsFirst flushed has.cut.newer
+    first : IsFirstAfter flushed has.cut.newer
     first = first_newer flushed old.older_to has.cut.older has.cut.newer older_each newer_each has.cut.upto_is may.0 right_there
 
     right : AreBatches flushed has.cut.newer
     right = record { each = newer_each; rising = rising_right has.cut.older has.cut.newer rising; first = first }
 
-    fit : AllFit (wal_form flushed) [] (records_of (newest_of has.log.segments))
-    fit = subst (AllFit (wal_form flushed) []) (sym newer_records) (fit_newer flushed has.cut.older has.cut.newer newer_each first right_there)
+    fit : AllRecordsFit (wal_form flushed) [] (records_of (newest_of has.log.segments))
+    fit = subst (AllRecordsFit (wal_form flushed) []) (sym newer_records) (fit_newer flushed has.cut.older has.cut.newer newer_each first right_there)
 
     -- the older batches are
     newer_there : IsRest flushed batches has.cut.newer
     newer_there = record { gone = has.cut.older; all = has.cut.all; passed = number_tells flushed may.0 }
 
     pub switch_at : (disk' : D) → Commits d old.log disk disk' (IsRollStep d old.log disk)
-        → LeavesOnly d disk disk' (λ moment image. (rest : List Batch) × IsRest flushed batches rest × LogStands region flushed image rest)
+        → LeavesOnly d disk disk' (λ moment image. (rest : List LogBatch) × IsRest flushed batches rest × LogStands region flushed image rest)
     switch_at disk' leaves =
         let l = switched_leaves d (wal_form flushed) (file_of region 0) (file_of region 1) disk old.log (map batch_record batches) has.log refl refl fit disk' leaves in
         record {
@@ -144,9 +144,9 @@ module _ {D : Type 0} (d : Ghosts D) (region flushed : ℕ) (old : Wal) (disk : 
           ];
         }
 
-    module _ (new : Wal) (disk' : D) (last : new.last ≡ old.last) (reaches : Reaches d old.log new.log disk disk' (IsRollStep d old.log disk)) (same : IsSameLog old.log new.log) (laid : steps_left new.log ≡ 1 → IsLaid d new.log disk' []) where
+    module _ (new : Wal) (disk' : D) (last : new.last ≡ old.last) (reaches : LogReaches d old.log new.log disk disk' (IsRollStep d old.log disk)) (same : IsSameLog old.log new.log) (laid : steps_left new.log ≡ 1 → IsLaid d new.log disk' []) where
       -- with the last step all batches stand in the older segment
-      pub switch_done : steps_left old.log ≡ 1 → new.older_to ≡ old.last → (rest : List Batch) × IsRest flushed batches rest × HasBatches d region flushed new disk' rest
+      pub switch_done : steps_left old.log ≡ 1 → new.older_to ≡ old.last → (rest : List LogBatch) × IsRest flushed batches rest × HasBatches d region flushed new disk' rest
       switch_done done to =
           let l = switched_last d (wal_form flushed) (file_of region 0) (file_of region 1) disk old.log (map batch_record batches) has.log refl refl fit disk' new.log reaches same laid done in (
             batches,
@@ -159,7 +159,7 @@ module _ {D : Type 0} (d : Ghosts D) (region flushed : ℕ) (old : Wal) (disk : 
             },
           )
 
-      pub switch_more : (steps_left old.log ≡ 1 → ⊥) → new.older_to ≡ old.older_to → (rest : List Batch) × IsRest flushed batches rest × HasBatches d region flushed new disk' rest
+      pub switch_more : (steps_left old.log ≡ 1 → ⊥) → new.older_to ≡ old.older_to → (rest : List LogBatch) × IsRest flushed batches rest × HasBatches d region flushed new disk' rest
       switch_more more to = elim (switched_more d (wal_form flushed) (file_of region 0) (file_of region 1) disk old.log (map batch_record batches) has.log refl refl fit disk' new.log reaches same laid more) [
         | inl l ↦ (
           batches,
@@ -184,7 +184,7 @@ module _ {D : Type 0} (d : Ghosts D) (region flushed : ℕ) (old : Wal) (disk : 
               record {
                 log = b.0;
                 right = right;
-                last = last ∙ last_rest flushed old.last old.older_to has.cut.older has.cut.newer (has.last ∙ ap (last_of flushed) has.cut.all) has.cut.upto_is may.0 may.1;
+                last = last ∙ last_rest flushed old.last old.older_to has.cut.older has.cut.newer (has.last ∙ ap (last_batch_number flushed) has.cut.all) has.cut.upto_is may.0 may.1;
                 cut = record {
                   older = [];
                   newer = has.cut.newer;

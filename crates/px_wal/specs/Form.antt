@@ -5,18 +5,18 @@ use Rattle.std.specs.List.{AllByRecursion}
 use Rattle.std.specs.Int.{w32, w64, to_be_bytes, from_be_bytes}
 use Rattle.px_cells.specs.CellData.{CellData}
 use Rattle.px_cellbytes.specs.declared.fault.CellFault.{CellFault}
-use Rattle.px_cellbytes.specs.Reading.{IsWritten, place_of}
+use Rattle.px_cellbytes.specs.Reading.{IsWritten, place_of_fault}
 use Rattle.px_cellbytes.specs.Spelling.{all_bytes}
 use Rattle.px_gatelog.specs.Format.{LogForm, LogRecord}
-use Rattle.px_wal.specs.Batches.{AreRising, Batch}
+use Rattle.px_wal.specs.Batches.{AreRisingBatches, LogBatch}
 use Rattle.px_wal.specs.inner.OneReading.{reading}
 
 -- ---- spelling
 
-unfoldable pub batch_body : Batch → List ℕ
+unfoldable pub batch_body : LogBatch → List ℕ
 batch_body b = to_be_bytes w64 b.number ++ (to_be_bytes w32 (length b.cells) ++ all_bytes b.cells)
 
-abbrev pub batch_record : Batch → LogRecord
+abbrev pub batch_record : LogBatch → LogRecord
 batch_record b = record { kind = 2; body = batch_body b }
 
 -- ---- reading
@@ -24,8 +24,8 @@ batch_record b = record { kind = 2; body = batch_body b }
 unfoldable pub number_in : List ℕ → ℕ
 number_in body = from_be_bytes w64 (take 8 body)
 
-unfoldable pub count_in : List ℕ → ℕ
-count_in body = from_be_bytes w32 (take 4 (drop 8 body))
+unfoldable pub cell_count_in : List ℕ → ℕ
+cell_count_in body = from_be_bytes w32 (take 4 (drop 8 body))
 
 -- the number of the last record, or n where there is none
 abbrev pub last_number : ℕ → List LogRecord → ℕ
@@ -54,14 +54,14 @@ number_place right n = if nat_lt right (2 ^ 64) then differs_at 0 (to_be_bytes w
 
 abbrev pub fault_place : Result (List CellData) CellFault → Option ℕ
 fault_place (Ok cells) = None
-fault_place (Err fault) = Some (place_of fault)
+fault_place (Err fault) = Some (place_of_fault fault)
 
 -- the first wrong place of a body, where its number is right or is wrong at a place
 unfoldable pub wrong_by : Bool → ℕ → List ℕ → Option ℕ
 wrong_by right place body =
     if nat_lt (length body) 8 then Some 0 else
     (if right then
-    (if nat_lt (length body) 12 then Some 8 else option_map (λ p. 12 + p) (fault_place (reading (drop 12 body) (count_in body))))
+    (if nat_lt (length body) 12 then Some 8 else option_map (λ p. 12 + p) (fault_place (reading (drop 12 body) (cell_count_in body))))
     else Some place)
 
 -- the first wrong place of a body
@@ -79,49 +79,49 @@ wal_form flushed = record { both = true; empty = true; wrong = wrong_batch flush
 -- ---- batches
 
 -- the number of the last batch, or n where there is none
-abbrev pub last_of : ℕ → List Batch → ℕ
-last_of n [] = n
-last_of n (b ∷ batches) = last_of b.number batches
+abbrev pub last_batch_number : ℕ → List LogBatch → ℕ
+last_batch_number n [] = n
+last_batch_number n (b ∷ batches) = last_batch_number b.number batches
 
 -- the number up to which batches go; where there is none, any that was flushed
-abbrev pub IsUpTo : ℕ → List Batch → ℕ → Type 0
+abbrev pub IsUpTo : ℕ → List LogBatch → ℕ → Type 0
 IsUpTo flushed [] n = n ≤ flushed
-IsUpTo flushed (b ∷ batches) n = n ≡ last_of b.number batches
+IsUpTo flushed (b ∷ batches) n = n ≡ last_batch_number b.number batches
 
-abbrev pub IsFirst : ℕ → List Batch → Type 0
-IsFirst flushed [] = Unit {0}
-IsFirst flushed (b ∷ batches) = b.number ≤ flushed + 1
+abbrev pub IsFirstAfter : ℕ → List LogBatch → Type 0
+IsFirstAfter flushed [] = Unit {0}
+IsFirstAfter flushed (b ∷ batches) = b.number ≤ flushed + 1
 
 -- a batch that has a record
-pub record IsBatch (b : Batch) : Type 0 where
+pub record IsLogBatch (b : LogBatch) : Type 0 where
   pub written : IsWritten b.cells
   pub counted : length b.cells < 2 ^ 32
   pub number : b.number < 2 ^ 64
 
 -- batches that a log has
-pub record AreBatches (flushed : ℕ) (batches : List Batch) : Type 0 where
-  pub each : AllByRecursion IsBatch batches
-  pub rising : AreRising batches
-  pub first : IsFirst flushed batches
+pub record AreBatches (flushed : ℕ) (batches : List LogBatch) : Type 0 where
+  pub each : AllByRecursion IsLogBatch batches
+  pub rising : AreRisingBatches batches
+  pub first : IsFirstAfter flushed batches
 
 -- whether a number comes next, where the last one is known or there is none
 abbrev pub is_next : (flushed : ℕ) → (some : Bool) → (last : ℕ) → ℕ → Bool
 is_next flushed false last n = nat_le n (flushed + 1)
 is_next flushed true last n = n == last + 1
 
-abbrev pub is_some : List Batch → Bool
+abbrev pub is_some : List LogBatch → Bool
 is_some [] = false
 is_some (b ∷ batches) = true
 
-abbrev pub cell_count : List Batch → ℕ
+abbrev pub cell_count : List LogBatch → ℕ
 cell_count [] = 0
 cell_count (b ∷ batches) = length b.cells + cell_count batches
 
-abbrev pub byte_count : List Batch → ℕ
-byte_count [] = 0
-byte_count (b ∷ batches) = length (all_bytes b.cells) + byte_count batches
+abbrev pub batch_byte_count : List LogBatch → ℕ
+batch_byte_count [] = 0
+batch_byte_count (b ∷ batches) = length (all_bytes b.cells) + batch_byte_count batches
 
 -- the number may come behind batches
-abbrev pub IsNextNumber : ℕ → List Batch → ℕ → Type 0
+abbrev pub IsNextNumber : ℕ → List LogBatch → ℕ → Type 0
 IsNextNumber flushed [] n = n ≤ flushed + 1
-IsNextNumber flushed (b ∷ batches) n = n ≡ last_of b.number batches + 1
+IsNextNumber flushed (b ∷ batches) n = n ≡ last_batch_number b.number batches + 1

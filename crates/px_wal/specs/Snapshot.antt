@@ -44,22 +44,22 @@ pub record IsSnapshot (s : SnapshotData) : Type 0 where
 -- ---- spelling
 
 -- a number in eight bytes
-unfoldable pub word : ℕ → List ℕ
-word n = to_be_bytes w64 n
+unfoldable pub word_bytes : ℕ → List ℕ
+word_bytes n = to_be_bytes w64 n
 
 -- a number in four bytes
-unfoldable pub half_word : ℕ → List ℕ
-half_word n = to_be_bytes w32 n
+unfoldable pub half_word_bytes : ℕ → List ℕ
+half_word_bytes n = to_be_bytes w32 n
 
-abbrev pub file_bytes : FileData → List ℕ
-file_bytes f = (half_word f.local ++ word f.len) ++ word f.cells
+abbrev pub file_record_bytes : FileData → List ℕ
+file_record_bytes f = (half_word_bytes f.local ++ word_bytes f.len) ++ word_bytes f.cells
 
 abbrev pub files_bytes : List FileData → List ℕ
-files_bytes files = flat_map file_bytes files
+files_bytes files = flat_map file_record_bytes files
 
 -- what stands before the files
 abbrev pub head_bytes : SnapshotData → List ℕ
-head_bytes s = ((word s.flushed ++ word s.horizon) ++ word s.stamp) ++ s.compactions ∷ length s.files ∷ []
+head_bytes s = ((word_bytes s.flushed ++ word_bytes s.horizon) ++ word_bytes s.stamp) ++ s.compactions ∷ length s.files ∷ []
 
 unfoldable pub snapshot_body : SnapshotData → List ℕ
 snapshot_body s = head_bytes s ++ files_bytes s.files

@@ -1,9 +1,9 @@
 // A batch as the body of a record.
 ghost use Rattle.std.specs.Prelude.{◌≡◌, ◌≢◌, ◌≤◌, ◌<◌, ◌+◌, ◌^◌, ℕ, Some, None, true, false, length, drop, take, IfOk, IfErr, IfSome, OnOk, Err, MatchOption};
 ghost use Rattle.std.specs.Int.{w64, w32, from_be_bytes, to_be_bytes};
-ghost use Rattle.px_wal.specs.Batch.{batch_of};
-ghost use Rattle.px_wal.specs.Form.{IsBatch, batch_body, count_in, differs_at, is_next as next_test, number_in, number_place as first_place, wrong_by};
-ghost use Rattle.px_cellbytes.specs.Reading.{AreCells, place_of as place_of_fault};
+ghost use Rattle.px_wal.specs.Batch.{log_batch};
+ghost use Rattle.px_wal.specs.Form.{IsLogBatch, batch_body, cell_count_in, differs_at, is_next as next_test, number_in, number_place as first_place, wrong_by};
+ghost use Rattle.px_cellbytes.specs.Reading.{AreCells, place_of_fault};
 ghost use Rattle.px_wal.specs.declared.batch.BatchFault.{BatchFault};
 ghost use Rattle.px_wal.specs.declared.batch.BatchFault.TheVariants.{Wrong};
 ghost use Rattle.px_cellbytes.specs.declared.fault.CellFault.TheVariants.{Memory as NoMemory};
@@ -100,10 +100,10 @@ fn number_of(body: &[u8]) -> u64
 }
 
 /// The count behind the number.
-#[tactic(auto, unfolding(crate::specs::Form::count_in))]
+#[tactic(auto, unfolding(crate::specs::Form::cell_count_in))]
 fn count_of(body: &[u8]) -> u32
     requires { 12 ≤ length body.now }
-    ensures count { result ≡ count_in body.now }
+    ensures count { result ≡ cell_count_in body.now }
     ensures spelled { to_be_bytes w32 result ≡ take 4 (drop 8 body.now) }
 {
     BigEndian::read_u32(&body[8..HEAD])
@@ -113,7 +113,7 @@ fn count_of(body: &[u8]) -> u32
 fn cells_of(alloc: Global, body: &[u8]) -> Result<Cells, BatchFault>
     requires long { 12 ≤ length body.now }
     requires short { length body.now < 2 ^ 32 }
-    ensures cells { IfOk result (λ cells. AreCells (drop 12 body.now) (count_in body.now) cells) }
+    ensures cells { IfOk result (λ cells. AreCells (drop 12 body.now) (cell_count_in body.now) cells) }
     ensures spelled { IfOk result (λ cells. to_be_bytes w32 (length cells) ≡ take 4 (drop 8 body.now)) }
     ensures counted { IfOk result (λ cells. length cells < 2 ^ 32) }
     ensures wrong { (place right : ℕ) → result ≡ Err (Wrong place) → wrong_by true right body.now ≡ Some place }
@@ -138,8 +138,8 @@ pub(crate) fn read_batch(
     body: &[u8],
 ) -> Result<NumberedBatch, BatchFault>
     requires short { length body.now < 2 ^ 32 }
-    ensures body { IfOk result (λ b. body.now ≡ batch_body (batch_of b)) }
-    ensures batch { IfOk result (λ b. IsBatch (batch_of b)) }
+    ensures body { IfOk result (λ b. body.now ≡ batch_body (log_batch b)) }
+    ensures batch { IfOk result (λ b. IsLogBatch (log_batch b)) }
     ensures next { IfOk result (λ b. next_test flushed some last b.number ≡ true) }
     ensures right { OnOk result ((place : ℕ) → wrong_by (next_test flushed some last (number_in body.now)) place body.now ≡ None) }
     ensures wrong { (place : ℕ) → result ≡ Err (Wrong place) → wrong_by (next_test flushed some last (number_in body.now)) (first_place (last + 1) (number_in body.now)) body.now ≡ Some place }

@@ -27,7 +27,7 @@ impl Manifest {
     ghost use Rattle.px_wal.specs.Files.{file_of};
     ghost use Rattle.px_wal.specs.Snapshot.{IsSnapshot, manifest_form};
     ghost use Rattle.px_wal.specs.SnapshotOf.{files_of, snapshot_of};
-    ghost use Rattle.px_wal.specs.Manifest.{HasSnapshot, IsFreshManifest, IsStarted, SnapshotStands, is_open as opened_manifest, manifest_files, names, room_of};
+    ghost use Rattle.px_wal.specs.Manifest.{HasSnapshot, IsFreshManifest, IsStarted, SnapshotStands, is_manifest_open, manifest_files, named_snapshot, room_of_manifest};
 
     /// The manifest of a region of which no file was ever written. It names nothing, and makes no call.
     pub fn fresh(alloc: Global, region: u32) -> Manifest
@@ -69,7 +69,7 @@ impl Manifest {
 
     /// Whether it has an open segment.
     pub fn is_open(&self) -> bool
-        ensures { IsTrue result ↔ opened_manifest self.now }
+        ensures { IsTrue result ↔ is_manifest_open self.now }
     {
         self.log.is_open()
     }
@@ -84,7 +84,7 @@ impl Manifest {
     /// Whether it has an open segment with room for a snapshot of so many files.
     pub fn has_room(&self, files: u64) -> bool
         requires few { files < 256 }
-        ensures { IsTrue result ↔ (33 + 20 * files ≤ room_of self.now) }
+        ensures { IsTrue result ↔ (33 + 20 * files ≤ room_of_manifest self.now) }
     {
         self.log.has_room(26 + 20 * files)
     }
@@ -97,23 +97,23 @@ impl Manifest {
         snapshot: Snapshot,
         frame: &mut Frame,
     ) -> Result<(), AppendFault>
-        requires open { opened_manifest self.old }
+        requires open { is_manifest_open self.old }
         requires still { self.old.rolling ≡ false }
         requires right { IsSnapshot (snapshot_of snapshot) }
         requires room { 26 + 20 * length (files_of snapshot) ≤ frame.old.room }
         ensures done { (region : ℕ) → HasSnapshot ⟦<D as Disk>⟧ region self.old disk.old → OnOk result (HasSnapshot ⟦<D as Disk>⟧ region self.new disk.new) }
-        ensures named { OnOk result (names self.new ≡ snapshot_of snapshot) }
-        ensures kept { IsErr result → names self.new ≡ names self.old }
+        ensures named { OnOk result (named_snapshot self.new ≡ snapshot_of snapshot) }
+        ensures kept { IsErr result → named_snapshot self.new ≡ named_snapshot self.old }
 
         // At each moment of the call a stop leaves what was named, or what is named now.
         ensures any_moment { (region : ℕ) → HasSnapshot ⟦<D as Disk>⟧ region self.old disk.old
-            → LeavesOnly ⟦<D as Disk>⟧ disk.old disk.new (λ moment image. SnapshotStands region image (names self.old) ⊎ SnapshotStands region image (snapshot_of snapshot)) }
-        ensures full { (result ≡ Err AppendFault.Full) ↔ (room_of self.old < 33 + 20 * length (files_of snapshot)) }
+            → LeavesOnly ⟦<D as Disk>⟧ disk.old disk.new (λ moment image. SnapshotStands region image (named_snapshot self.old) ⊎ SnapshotStands region image (snapshot_of snapshot)) }
+        ensures full { (result ≡ Err AppendFault.Full) ↔ (room_of_manifest self.old < 33 + 20 * length (files_of snapshot)) }
         ensures untouched { result ≡ Err AppendFault.Full → (disk.new ≡ disk.old) × (self.new ≡ self.old) }
         ensures failed { result ≡ Err AppendFault.WriteFault → Rose ⟦<D as Disk>⟧ disk.old disk.new }
         ensures touches { (region : ℕ) → HasSnapshot ⟦<D as Disk>⟧ region self.old disk.old → TouchesOnly ⟦<D as Disk>⟧ disk.old disk.new (manifest_files region) }
         ensures counts { Passes ⟦<D as Disk>⟧ disk.old disk.new 4 }
-        ensures open { opened_manifest self.new }
+        ensures open { is_manifest_open self.new }
         ensures still { self.new.rolling ≡ false }
         ensures frame { frame.old.room ≤ frame.new.room }
     {
@@ -140,10 +140,10 @@ impl Manifest {
     ) -> Result<Rolled, AppendFault>
         requires { 26 + 20 * length (files_of self.old.snapshot) ≤ frame.old.room }
         ensures done { (region : ℕ) → HasSnapshot ⟦<D as Disk>⟧ region self.old disk.old → OnOk result (HasSnapshot ⟦<D as Disk>⟧ region self.new disk.new) }
-        ensures named { names self.new ≡ names self.old }
+        ensures named { named_snapshot self.new ≡ named_snapshot self.old }
 
         // At each moment of the call a stop leaves what is named.
-        ensures any_moment { (region : ℕ) → HasSnapshot ⟦<D as Disk>⟧ region self.old disk.old → LeavesOnly ⟦<D as Disk>⟧ disk.old disk.new (λ moment image. SnapshotStands region image (names self.old)) }
+        ensures any_moment { (region : ℕ) → HasSnapshot ⟦<D as Disk>⟧ region self.old disk.old → LeavesOnly ⟦<D as Disk>⟧ disk.old disk.new (λ moment image. SnapshotStands region image (named_snapshot self.old)) }
         ensures full { (result ≡ Err AppendFault.Full) ↔ (newest_generation self.old.log ≡ 18446744073709551615) }
         ensures untouched { result ≡ Err AppendFault.Full → (disk.new ≡ disk.old) × (self.new ≡ self.old) }
         ensures failed { result ≡ Err AppendFault.WriteFault → Rose ⟦<D as Disk>⟧ disk.old disk.new }
@@ -151,7 +151,7 @@ impl Manifest {
         ensures counts { Passes ⟦<D as Disk>⟧ disk.old disk.new 3 }
 
         // With the last step the new segment is open, and something else can be named.
-        ensures opened { result ≡ Ok Rolled.Rolled → opened_manifest self.new × (self.new.rolling ≡ false) }
+        ensures opened { result ≡ Ok Rolled.Rolled → is_manifest_open self.new × (self.new.rolling ≡ false) }
         ensures more { result ≡ Ok Rolled.More → steps_left self.new.log + 1 ≡ steps_left self.old.log }
         ensures frame { frame.old.room ≤ frame.new.room }
     {

@@ -64,9 +64,9 @@ impl LogReader for BatchReader {
 }
 
 impl BatchReader {
-    ghost use Rattle.px_wal.specs.Batches.{Batch as BatchData};
-    ghost use Rattle.px_wal.specs.Form.{IsBatch, is_next};
-    ghost use Rattle.px_wal.specs.Batch.{batch_of};
+    ghost use Rattle.px_wal.specs.Batches.{LogBatch};
+    ghost use Rattle.px_wal.specs.Form.{IsLogBatch, is_next};
+    ghost use Rattle.px_wal.specs.Batch.{log_batch};
     ghost use Rattle.px_wal.specs.inner.Reader.{HoldsBatches};
     ghost use Rattle.px_cellbytes.specs.Spelling.{all_bytes};
     ghost use Rattle.std.specs.Prelude.{◌+◌, length, true};
@@ -113,10 +113,10 @@ impl BatchReader {
 
     /// Takes a batch whose cells have so many bytes.
     fn keep(&mut self, batch: NumberedBatch, bytes: u64) -> Result<(), AllocError>
-        requires batch { IsBatch (batch_of batch) }
+        requires batch { IsLogBatch (log_batch batch) }
         requires next { is_next self.old.flushed self.old.some self.old.last batch.number ≡ true }
         requires bytes { bytes ≡ length (all_bytes batch.cells) }
-        ensures kept { (batches : List BatchData) → HoldsBatches self.old batches → OnOk result (HoldsBatches self.new (batches ++ batch_of batch ∷ [])) }
+        ensures kept { (batches : List LogBatch) → HoldsBatches self.old batches → OnOk result (HoldsBatches self.new (batches ++ log_batch batch ∷ [])) }
         ensures same { self.new.flushed ≡ self.old.flushed }
         ensures older { self.new.older_to ≡ self.old.older_to }
     {

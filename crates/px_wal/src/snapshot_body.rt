@@ -3,7 +3,7 @@ ghost use Rattle.std.specs.Prelude.{◌≡◌, ◌≢◌, ◌≤◌, ◌<◌, �
 ghost use Rattle.std.specs.Int.{from_be_bytes, w32};
 ghost use Rattle.std.specs.List.{AllByRecursion};
 ghost use Rattle.px_gatelog.specs.Framed.{record_of};
-ghost use Rattle.px_wal.specs.Snapshot.{IsEntry, IsSnapshot, file_bytes, files_bytes, half_word, head_bytes, snapshot_body, snapshot_record, word, wrong_body, wrong_file as first_wrong, wrong_files, wrong_head as head_wrong};
+ghost use Rattle.px_wal.specs.Snapshot.{IsEntry, IsSnapshot, file_record_bytes, files_bytes, half_word_bytes, head_bytes, snapshot_body, snapshot_record, word_bytes, wrong_body, wrong_file as first_wrong, wrong_files, wrong_head as head_wrong};
 ghost use Rattle.px_wal.specs.SnapshotOf.{file_data, files_of, snapshot_of};
 ghost use Rattle.px_wal.specs.declared.snapshot_body.SnapshotFault.TheVariants.{Wrong};
 
@@ -29,10 +29,10 @@ pub(crate) enum SnapshotFault {
 }
 
 /// The number in eight bytes at a place.
-#[tactic(auto, unfolding(crate::specs::Snapshot::word))]
+#[tactic(auto, unfolding(crate::specs::Snapshot::word_bytes))]
 fn word_at(body: &[u8], at: usize) -> u64
     requires { at + 8 ≤ length body.now }
-    ensures { take (at + 8) body.now ≡ take at body.now ++ word result }
+    ensures { take (at + 8) body.now ≡ take at body.now ++ word_bytes result }
 {
     BigEndian::read_u64(&body[at..at + 8])
 }
@@ -63,10 +63,10 @@ fn wrong_head(body: &[u8]) -> Option<u64>
 }
 
 /// The number in four bytes at a place.
-#[tactic(auto, unfolding(crate::specs::Snapshot::half_word))]
+#[tactic(auto, unfolding(crate::specs::Snapshot::half_word_bytes))]
 fn half_word_at(body: &[u8], at: usize) -> u32
     requires { at + 4 ≤ length body.now }
-    ensures spelled { take (at + 4) body.now ≡ take at body.now ++ half_word result }
+    ensures spelled { take (at + 4) body.now ≡ take at body.now ++ half_word_bytes result }
     ensures number { result ≡ from_be_bytes w32 (take 4 (drop at body.now)) }
 {
     BigEndian::read_u32(&body[at..at + 4])
@@ -75,7 +75,7 @@ fn half_word_at(body: &[u8], at: usize) -> u32
 /// The file at a place, or its first wrong place, counted from there.
 fn entry_at(body: &[u8], at: usize) -> Result<FileEntry, u64>
     requires { at ≤ length body.now }
-    ensures spelled { IfOk result (λ f. take (at + 20) body.now ≡ take at body.now ++ file_bytes (file_data f)) }
+    ensures spelled { IfOk result (λ f. take (at + 20) body.now ≡ take at body.now ++ file_record_bytes (file_data f)) }
     ensures entry { IfOk result (λ f. IsEntry (file_data f)) }
     ensures right { OnOk result (first_wrong (drop at body.now) ≡ None) }
     ensures long { OnOk result (at + 20 ≤ length body.now) }
@@ -180,11 +180,11 @@ pub(crate) fn fill_snapshot(frame: &mut Frame, snapshot: &Snapshot)
     push_files(frame, &snapshot.files);
 }
 
-#[tactic(auto, unfolding(crate::specs::Snapshot::word))]
+#[tactic(auto, unfolding(crate::specs::Snapshot::word_bytes))]
 fn push_word(frame: &mut Frame, n: u64)
     requires room { length frame.old.body + 8 ≤ frame.old.room }
     requires small { length frame.old.body + 8 < 2 ^ 32 }
-    ensures pushed { frame.new.body ≡ frame.old.body ++ word n }
+    ensures pushed { frame.new.body ≡ frame.old.body ++ word_bytes n }
     ensures kind { frame.new.kind ≡ frame.old.kind }
     ensures long { length frame.new.body ≡ length frame.old.body + 8 }
     ensures room { frame.old.room ≤ frame.new.room }
@@ -192,11 +192,11 @@ fn push_word(frame: &mut Frame, n: u64)
     frame.push(&n.to_be_bytes());
 }
 
-#[tactic(auto, unfolding(crate::specs::Snapshot::half_word))]
+#[tactic(auto, unfolding(crate::specs::Snapshot::half_word_bytes))]
 fn push_half_word(frame: &mut Frame, n: u32)
     requires room { length frame.old.body + 4 ≤ frame.old.room }
     requires small { length frame.old.body + 4 < 2 ^ 32 }
-    ensures pushed { frame.new.body ≡ frame.old.body ++ half_word n }
+    ensures pushed { frame.new.body ≡ frame.old.body ++ half_word_bytes n }
     ensures kind { frame.new.kind ≡ frame.old.kind }
     ensures long { length frame.new.body ≡ length frame.old.body + 4 }
     ensures room { frame.old.room ≤ frame.new.room }
@@ -218,7 +218,7 @@ fn push_counts(frame: &mut Frame, compactions: u8, files: u8)
 fn push_entry(frame: &mut Frame, file: FileEntry)
     requires room { length frame.old.body + 20 ≤ frame.old.room }
     requires small { length frame.old.body + 20 < 2 ^ 32 }
-    ensures pushed { frame.new.body ≡ frame.old.body ++ file_bytes (file_data file) }
+    ensures pushed { frame.new.body ≡ frame.old.body ++ file_record_bytes (file_data file) }
     ensures kind { frame.new.kind ≡ frame.old.kind }
     ensures long { length frame.new.body ≡ length frame.old.body + 20 }
     ensures room { frame.old.room ≤ frame.new.room }

@@ -3,7 +3,7 @@ ghost use Rattle.std.specs.Prelude.{◌≡◌, ◌≢◌, ◌≤◌, ◌<◌, �
 ghost use Rattle.px_outside.specs.OnDisk.{LeavesOnly, Passes, Rose, Stays, TouchesOnly};
 ghost use Rattle.px_cellbytes.specs.Reading.{IsWritten};
 ghost use Rattle.px_cellbytes.specs.Spelling.{all_bytes};
-ghost use Rattle.px_wal.specs.Batches.{Batch as BatchData};
+ghost use Rattle.px_wal.specs.Batches.{LogBatch};
 
 use crate::files::local_file;
 use crate::frames::fill_batch;
@@ -44,7 +44,7 @@ pub struct Reread {
 }
 
 impl Wal {
-    ghost use Rattle.px_wal.specs.Wal.{HasBatches, IsFreshLog, LogStands, is_open as opened_wal, log_files, next_batch, room_of as room_in};
+    ghost use Rattle.px_wal.specs.Wal.{HasBatches, IsFreshLog, LogStands, is_wal_open, log_files, next_batch, room_of_wal};
     ghost use Rattle.px_gatelog.specs.GateLog.{steps_left};
 
     /// The log of a region of which no file was ever written. It makes no call.
@@ -62,7 +62,7 @@ impl Wal {
 
     /// Whether the log has an open segment.
     pub fn is_open(&self) -> bool
-        ensures { IsTrue result ↔ opened_wal self.now }
+        ensures { IsTrue result ↔ is_wal_open self.now }
     {
         self.log.is_open()
     }
@@ -85,7 +85,7 @@ impl Wal {
     /// Whether the newest segment has room for a record with a body of so many bytes.
     pub fn has_room(&self, body: u64) -> bool
         requires short { body < 2 ^ 32 }
-        ensures { IsTrue result ↔ (7 + body ≤ room_in self.now) }
+        ensures { IsTrue result ↔ (7 + body ≤ room_of_wal self.now) }
     {
         self.log.has_room(body)
     }
@@ -99,26 +99,26 @@ impl Wal {
         cells: &Cells,
         frame: &mut Frame,
     ) -> Result<u64, AppendFault>
-        requires open { opened_wal self.old }
+        requires open { is_wal_open self.old }
         requires written { IsWritten cells.now }
         requires counted { length cells.now < 2 ^ 32 }
         requires room { 12 + length (all_bytes cells.now) ≤ frame.old.room }
         requires small { 12 + length (all_bytes cells.now) < 2 ^ 32 }
-        ensures done { (region flushed : ℕ) (batches : List BatchData) → HasBatches ⟦<D as Disk>⟧ region flushed self.old disk.old batches
+        ensures done { (region flushed : ℕ) (batches : List LogBatch) → HasBatches ⟦<D as Disk>⟧ region flushed self.old disk.old batches
             → OnOk result (HasBatches ⟦<D as Disk>⟧ region flushed self.new disk.new (batches ++ next_batch self.old cells.now ∷ [])) }
 
         // At each moment of the call a stop leaves the log without the batch, or with it.
-        ensures any_moment { (region flushed : ℕ) (batches : List BatchData) → HasBatches ⟦<D as Disk>⟧ region flushed self.old disk.old batches
+        ensures any_moment { (region flushed : ℕ) (batches : List LogBatch) → HasBatches ⟦<D as Disk>⟧ region flushed self.old disk.old batches
             → LeavesOnly ⟦<D as Disk>⟧ disk.old disk.new (λ moment image. LogStands region flushed image batches ⊎ LogStands region flushed image (batches ++ next_batch self.old cells.now ∷ [])) }
-        ensures full { (result ≡ Err AppendFault.Full) ↔ ((room_in self.old < 19 + length (all_bytes cells.now)) ⊎ (self.old.last ≡ 18446744073709551615)) }
+        ensures full { (result ≡ Err AppendFault.Full) ↔ ((room_of_wal self.old < 19 + length (all_bytes cells.now)) ⊎ (self.old.last ≡ 18446744073709551615)) }
         ensures untouched { result ≡ Err AppendFault.Full → (disk.new ≡ disk.old) × (self.new ≡ self.old) }
         ensures failed { result ≡ Err AppendFault.WriteFault → Rose ⟦<D as Disk>⟧ disk.old disk.new }
         ensures number { IfOk result (λ n. n ≡ self.old.last + 1) }
         ensures last { OnOk result (self.new.last ≡ self.old.last + 1) }
-        ensures touches { (region flushed : ℕ) (batches : List BatchData) → HasBatches ⟦<D as Disk>⟧ region flushed self.old disk.old batches → TouchesOnly ⟦<D as Disk>⟧ disk.old disk.new (log_files region) }
+        ensures touches { (region flushed : ℕ) (batches : List LogBatch) → HasBatches ⟦<D as Disk>⟧ region flushed self.old disk.old batches → TouchesOnly ⟦<D as Disk>⟧ disk.old disk.new (log_files region) }
         ensures counts { Passes ⟦<D as Disk>⟧ disk.old disk.new 4 }
-        ensures open { opened_wal self.new }
-        ensures room { OnOk result (room_in self.new + (18 + length (all_bytes cells.now)) ≡ room_in self.old) }
+        ensures open { is_wal_open self.new }
+        ensures room { OnOk result (room_of_wal self.new + (18 + length (all_bytes cells.now)) ≡ room_of_wal self.old) }
         ensures frame { frame.old.room ≤ frame.new.room }
     {
         let Some(number) = self.last.checked_add(1) else {
@@ -133,19 +133,19 @@ impl Wal {
     /// Makes one step of the log's first segment: closes the gate of its file where it may be open, or writes the segment
     /// behind the gate, or opens the gate. The log has the same batches at each moment. It takes no memory.
     pub fn roll_step<D: Disk>(&mut self, disk: &mut D) -> Result<Rolled, Failed>
-        requires closed { opened_wal self.old → ⊥ }
-        ensures done { (region flushed : ℕ) (batches : List BatchData) → HasBatches ⟦<D as Disk>⟧ region flushed self.old disk.old batches → OnOk result (HasBatches ⟦<D as Disk>⟧ region flushed self.new disk.new batches) }
+        requires closed { is_wal_open self.old → ⊥ }
+        ensures done { (region flushed : ℕ) (batches : List LogBatch) → HasBatches ⟦<D as Disk>⟧ region flushed self.old disk.old batches → OnOk result (HasBatches ⟦<D as Disk>⟧ region flushed self.new disk.new batches) }
 
         // At each moment of the call a stop leaves the log with the same batches.
-        ensures any_moment { (region flushed : ℕ) (batches : List BatchData) → HasBatches ⟦<D as Disk>⟧ region flushed self.old disk.old batches
+        ensures any_moment { (region flushed : ℕ) (batches : List LogBatch) → HasBatches ⟦<D as Disk>⟧ region flushed self.old disk.old batches
             → LeavesOnly ⟦<D as Disk>⟧ disk.old disk.new (λ moment image. LogStands region flushed image batches) }
         ensures failed { IsErr result → Rose ⟦<D as Disk>⟧ disk.old disk.new }
-        ensures touches { (region flushed : ℕ) (batches : List BatchData) → HasBatches ⟦<D as Disk>⟧ region flushed self.old disk.old batches → TouchesOnly ⟦<D as Disk>⟧ disk.old disk.new (log_files region) }
+        ensures touches { (region flushed : ℕ) (batches : List LogBatch) → HasBatches ⟦<D as Disk>⟧ region flushed self.old disk.old batches → TouchesOnly ⟦<D as Disk>⟧ disk.old disk.new (log_files region) }
         ensures counts { Passes ⟦<D as Disk>⟧ disk.old disk.new 3 }
 
         // With the last step the segment is open.
-        ensures opened { result ≡ Ok Rolled.Rolled → opened_wal self.new }
-        ensures more { result ≡ Ok Rolled.More → (opened_wal self.new → ⊥) × (steps_left self.new.log + 1 ≡ steps_left self.old.log) }
+        ensures opened { result ≡ Ok Rolled.Rolled → is_wal_open self.new }
+        ensures more { result ≡ Ok Rolled.More → (is_wal_open self.new → ⊥) × (steps_left self.new.log + 1 ≡ steps_left self.old.log) }
         ensures last { self.new.last ≡ self.old.last }
         ensures older { self.new.older_to ≡ self.old.older_to }
     {
@@ -159,7 +159,7 @@ impl Wal {
 impl Wal {
     ghost use Rattle.px_gatelog.specs.GateLog.{newest_generation, steps_left};
     ghost use Rattle.px_wal.specs.Batches.{IsRest};
-    ghost use Rattle.px_wal.specs.Wal.{HasBatches, IsReread, LogStands, MaySwitch, is_open as opened_wal, log_files, room_of as room_in};
+    ghost use Rattle.px_wal.specs.Wal.{HasBatches, IsReread, LogStands, MaySwitch, is_wal_open, log_files, room_of_wal};
 
     /// Whether another segment may take the appends, where the log was flushed up to a number. The older one goes with it, so it
     /// may have no batch above that number: a stop can leave such a one, and then its batches are to be flushed first.
@@ -174,24 +174,24 @@ impl Wal {
     /// the older one. No batch above the flushed number goes. It takes no memory. It is full where no generation is left, and
     /// then no call is made.
     pub fn switch_step<D: Disk>(&mut self, disk: &mut D) -> Result<Rolled, AppendFault>
-        ensures done { (region flushed : ℕ) (batches : List BatchData) → HasBatches ⟦<D as Disk>⟧ region flushed self.old disk.old batches → MaySwitch flushed self.old
-            → OnOk result ((rest : List BatchData) × IsRest flushed batches rest × HasBatches ⟦<D as Disk>⟧ region flushed self.new disk.new rest) }
+        ensures done { (region flushed : ℕ) (batches : List LogBatch) → HasBatches ⟦<D as Disk>⟧ region flushed self.old disk.old batches → MaySwitch flushed self.old
+            → OnOk result ((rest : List LogBatch) × IsRest flushed batches rest × HasBatches ⟦<D as Disk>⟧ region flushed self.new disk.new rest) }
 
         // At each moment of the call a stop leaves the log with the same batches above the flushed number.
-        ensures any_moment { (region flushed : ℕ) (batches : List BatchData) → HasBatches ⟦<D as Disk>⟧ region flushed self.old disk.old batches → MaySwitch flushed self.old
-            → LeavesOnly ⟦<D as Disk>⟧ disk.old disk.new (λ moment image. (rest : List BatchData) × IsRest flushed batches rest × LogStands region flushed image rest) }
+        ensures any_moment { (region flushed : ℕ) (batches : List LogBatch) → HasBatches ⟦<D as Disk>⟧ region flushed self.old disk.old batches → MaySwitch flushed self.old
+            → LeavesOnly ⟦<D as Disk>⟧ disk.old disk.new (λ moment image. (rest : List LogBatch) × IsRest flushed batches rest × LogStands region flushed image rest) }
         ensures full { (result ≡ Err AppendFault.Full) ↔ (newest_generation self.old.log ≡ 18446744073709551615) }
         ensures untouched { result ≡ Err AppendFault.Full → (disk.new ≡ disk.old) × (self.new ≡ self.old) }
         ensures failed { result ≡ Err AppendFault.WriteFault → Rose ⟦<D as Disk>⟧ disk.old disk.new }
-        ensures touches { (region flushed : ℕ) (batches : List BatchData) → HasBatches ⟦<D as Disk>⟧ region flushed self.old disk.old batches → TouchesOnly ⟦<D as Disk>⟧ disk.old disk.new (log_files region) }
+        ensures touches { (region flushed : ℕ) (batches : List LogBatch) → HasBatches ⟦<D as Disk>⟧ region flushed self.old disk.old batches → TouchesOnly ⟦<D as Disk>⟧ disk.old disk.new (log_files region) }
         ensures counts { Passes ⟦<D as Disk>⟧ disk.old disk.new 3 }
-        ensures open { opened_wal self.old → OnOk result (opened_wal self.new) }
-        ensures opened { result ≡ Ok Rolled.Rolled → opened_wal self.new }
+        ensures open { is_wal_open self.old → OnOk result (is_wal_open self.new) }
+        ensures opened { result ≡ Ok Rolled.Rolled → is_wal_open self.new }
         ensures more { result ≡ Ok Rolled.More → (steps_left self.new.log + 1 ≡ steps_left self.old.log) × (self.new.older_to ≡ self.old.older_to) }
 
         // With the last step all batches stand in the older segment.
         ensures left { result ≡ Ok Rolled.Rolled → self.new.older_to ≡ self.old.last }
-        ensures room { (region flushed : ℕ) (batches : List BatchData) → HasBatches ⟦<D as Disk>⟧ region flushed self.old disk.old batches → OnOk result (room_in self.old ≤ room_in self.new) }
+        ensures room { (region flushed : ℕ) (batches : List LogBatch) → HasBatches ⟦<D as Disk>⟧ region flushed self.old disk.old batches → OnOk result (room_of_wal self.old ≤ room_of_wal self.new) }
         ensures last { self.new.last ≡ self.old.last }
     {
         match self.log.roll_step(disk, None) {
@@ -212,8 +212,8 @@ impl Wal {
         disk: &mut D,
         flushed: u64,
     ) -> Result<Reread, StartFault>
-        ensures read { (region : ℕ) (batches : List BatchData) → HasBatches ⟦<D as Disk>⟧ region flushed self.now disk.old batches → IfOk result (λ r. IsReread flushed self.now.older_to batches r) }
-        ensures sound { (region : ℕ) (batches : List BatchData) → HasBatches ⟦<D as Disk>⟧ region flushed self.now disk.old batches → (file place : ℕ) → result ≢ Err (StartFault.Damaged file place) }
+        ensures read { (region : ℕ) (batches : List LogBatch) → HasBatches ⟦<D as Disk>⟧ region flushed self.now disk.old batches → IfOk result (λ r. IsReread flushed self.now.older_to batches r) }
+        ensures sound { (region : ℕ) (batches : List LogBatch) → HasBatches ⟦<D as Disk>⟧ region flushed self.now disk.old batches → (file place : ℕ) → result ≢ Err (StartFault.Damaged file place) }
         ensures quiet { Stays ⟦<D as Disk>⟧ disk.old disk.new }
         ensures seen { D.seen disk.new ≡ D.seen disk.old }
         ensures read_failed { result ≡ Err StartFault.ReadFault → Rose ⟦<D as Disk>⟧ disk.old disk.new }

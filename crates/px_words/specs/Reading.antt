@@ -12,9 +12,9 @@ Fails o faults.Memory new = Unit {0}
 Fails o faults.TooDeep new = o ≡ Deep
 Fails o faults.Stuck new = o ≡ Stuck new
 
-abbrev pub Gives : {A : Type 0} → Outcome A → Result A ReadFault → List Seen → Type 0
-Gives o (Ok a) new = o ≡ Got a new
-Gives o (Err e) new = Fails o e new
+abbrev pub GivesOutcome : {A : Type 0} → Outcome A → Result A ReadFault → List Seen → Type 0
+GivesOutcome o (Ok a) new = o ≡ Got a new
+GivesOutcome o (Err e) new = Fails o e new
 
 -- A function that reads a value and puts it behind those of a list gives the rule's outcome so.
 abbrev pub Puts : {A : Type 0} → Outcome A → List A → Result (Unit {0}) ReadFault → List A → List Seen → Type 0
@@ -31,8 +31,8 @@ Takes kind old true new = (sees (kind ∷ []) old ≡ true) × ((word kind).at o
 Takes kind old false new = (sees (kind ∷ []) old ≡ false) × (new ≡ old)
 
 -- what comes of a function that was read, at this argument
-abbrev pub applied : {A B : Type 0} → Outcome (A → B) → A → Outcome B
-applied o a = and_then o (λ f rest. Got (f a) rest)
+abbrev pub applied_to : {A B : Type 0} → Outcome (A → B) → A → Outcome B
+applied_to o a = and_then o (λ f rest. Got (f a) rest)
 
 -- what comes of a list with this token between, of which the first was read
 abbrev pub behind_first : {A : Type 0} → Kind → Rule A → A → List Seen → Outcome (List A)

@@ -3,7 +3,7 @@ ghost use Rattle.std.specs.Prelude.{◌≡◌, [], ◌∷◌, true, length, drop
 ghost use Rattle.px_lex.specs.Kinds as kinds;
 ghost use Rattle.px_lex.specs.Lexemes.{seen};
 ghost use Rattle.px_ast.specs.Rule as spec;
-ghost use Rattle.px_words.specs.Reading.{Gives, GivesToken, Takes};
+ghost use Rattle.px_words.specs.Reading.{GivesOutcome, GivesToken, Takes};
 ghost use Rattle.px_words.specs.Tokens.{AreWell, IsWell};
 
 use crate::fault::ReadFault;
@@ -95,7 +95,7 @@ impl<'a> Cursor<'a> {
 
 /// Takes a word, whose text says no more than its kind.
 pub fn word(tokens: &mut Cursor<'_>, kind: Kind) -> Result<(), ReadFault>
-    ensures { Gives ((spec.word kind).at tokens.old) result tokens.new }
+    ensures { GivesOutcome ((spec.word kind).at tokens.old) result tokens.new }
 {
     tokens.take(kind)?;
     Ok(())

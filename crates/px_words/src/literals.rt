@@ -4,7 +4,7 @@ ghost use Rattle.px_lex.specs.declared.kind.Kind.TheVariants as k;
 ghost use Rattle.px_ast.specs.Rule.{made, maybe, sees, separated, token, ◌▹◌};
 ghost use Rattle.px_ast.specs.declared.literal.Constant.TheVariants as constants;
 ghost use Rattle.px_ast.specs.Grammar as grammar;
-ghost use Rattle.px_words.specs.Reading.{Gives};
+ghost use Rattle.px_words.specs.Reading.{GivesOutcome};
 
 use crate::cursor::{Cursor, word};
 use crate::fault::ReadFault;
@@ -17,7 +17,7 @@ use std::alloc::Global;
 /// Whether a minus is written, and the place of the sign.
 #[tactic(auto, unfolding(px_ast::specs::Grammar::sign))]
 fn sign(tokens: &mut Cursor<'_>) -> Result<(bool, usize), ReadFault>
-    ensures { Gives (grammar.sign.at tokens.old) result tokens.new }
+    ensures { GivesOutcome (grammar.sign.at tokens.old) result tokens.new }
 {
     if tokens.sees(Kind::Plus) {
         let token = tokens.take(Kind::Plus)?;
@@ -29,7 +29,7 @@ fn sign(tokens: &mut Cursor<'_>) -> Result<(bool, usize), ReadFault>
 
 #[tactic(auto, unfolding(px_ast::specs::Grammar::sign))]
 fn maybe_sign(tokens: &mut Cursor<'_>) -> Result<Option<(bool, usize)>, ReadFault>
-    ensures { Gives ((maybe grammar.sign).at tokens.old) result tokens.new }
+    ensures { GivesOutcome ((maybe grammar.sign).at tokens.old) result tokens.new }
 {
     if tokens.sees(Kind::Plus) || tokens.sees(Kind::Minus) {
         Ok(Some(sign(tokens)?))
@@ -40,7 +40,7 @@ fn maybe_sign(tokens: &mut Cursor<'_>) -> Result<Option<(bool, usize)>, ReadFaul
 
 #[tactic(auto, unfolding(px_ast::specs::Grammar::number))]
 fn number(alloc: Global, tokens: &mut Cursor<'_>) -> Result<Literal, ReadFault>
-    ensures { Gives (grammar.number.at tokens.old) result tokens.new }
+    ensures { GivesOutcome (grammar.number.at tokens.old) result tokens.new }
 {
     let sign = maybe_sign(tokens)?;
     let token = tokens.take(Kind::Number)?;
@@ -62,7 +62,7 @@ fn begins_number(tokens: &Cursor<'_>) -> bool
 }
 
 fn text(alloc: Global, tokens: &mut Cursor<'_>) -> Result<Literal, ReadFault>
-    ensures { Gives ((made (grammar.placed (λ t. constants.Text (grammar.stored_text t))) (token k.Text)).at tokens.old) result tokens.new }
+    ensures { GivesOutcome ((made (grammar.placed_literal (λ t. constants.Text (grammar.stored_text t))) (token k.Text)).at tokens.old) result tokens.new }
 {
     let token = tokens.take(Kind::Text)?;
     Ok(Literal {
@@ -73,7 +73,7 @@ fn text(alloc: Global, tokens: &mut Cursor<'_>) -> Result<Literal, ReadFault>
 
 #[tactic(auto, unfolding(px_ast::specs::Grammar::literal, px_ast::specs::Grammar::number, px_ast::specs::Grammar::sign))]
 pub fn literal(alloc: Global, tokens: &mut Cursor<'_>) -> Result<Literal, ReadFault>
-    ensures { Gives (grammar.literal.at tokens.old) result tokens.new }
+    ensures { GivesOutcome (grammar.literal.at tokens.old) result tokens.new }
 {
     if begins_number(tokens) {
         return number(alloc, tokens);
@@ -103,14 +103,14 @@ pub fn literal(alloc: Global, tokens: &mut Cursor<'_>) -> Result<Literal, ReadFa
 }
 
 fn next_literal(alloc: Global, tokens: &mut Cursor<'_>) -> Result<Literal, ReadFault>
-    ensures { Gives ((k.Comma ▹ grammar.literal).at tokens.old) result tokens.new }
+    ensures { GivesOutcome ((k.Comma ▹ grammar.literal).at tokens.old) result tokens.new }
 {
     word(tokens, Kind::Comma)?;
     literal(alloc, tokens)
 }
 
 fn literal_list(alloc: Global, tokens: &mut Cursor<'_>) -> Result<Items<Literal>, ReadFault>
-    ensures { Gives ((separated k.Comma grammar.literal).at tokens.old) result tokens.new }
+    ensures { GivesOutcome ((separated k.Comma grammar.literal).at tokens.old) result tokens.new }
 {
     let first = literal(alloc, tokens)?;
     let mut found = Vec::new(alloc);
@@ -127,7 +127,7 @@ fn literal_list(alloc: Global, tokens: &mut Cursor<'_>) -> Result<Items<Literal>
 /// `( literal { , literal } )`
 #[tactic(auto, unfolding(px_ast::specs::Grammar::literals))]
 pub fn literals(alloc: Global, tokens: &mut Cursor<'_>) -> Result<Items<Literal>, ReadFault>
-    ensures { Gives (grammar.literals.at tokens.old) result tokens.new }
+    ensures { GivesOutcome (grammar.literals.at tokens.old) result tokens.new }
 {
     word(tokens, Kind::OpenParen)?;
     let found = literal_list(alloc, tokens)?;

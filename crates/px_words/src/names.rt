@@ -3,7 +3,7 @@ ghost use Rattle.std.specs.Prelude.{◌≡◌};
 ghost use Rattle.px_lex.specs.declared.kind.Kind.TheVariants as k;
 ghost use Rattle.px_ast.specs.Rule.{separated, ◌▹◌};
 ghost use Rattle.px_ast.specs.Grammar as grammar;
-ghost use Rattle.px_words.specs.Reading.{Gives};
+ghost use Rattle.px_words.specs.Reading.{GivesOutcome};
 
 use crate::cursor::{Cursor, word};
 use crate::fault::ReadFault;
@@ -14,14 +14,14 @@ use std::alloc::Global;
 
 #[tactic(auto, unfolding(px_ast::specs::Grammar::name))]
 pub fn name(alloc: Global, tokens: &mut Cursor<'_>) -> Result<Name, ReadFault>
-    ensures { Gives (grammar.name.at tokens.old) result tokens.new }
+    ensures { GivesOutcome (grammar.name.at tokens.old) result tokens.new }
 {
     let token = tokens.take(Kind::Name)?;
     Ok(stored_name(alloc, &token)?)
 }
 
 fn next_name(alloc: Global, tokens: &mut Cursor<'_>) -> Result<Name, ReadFault>
-    ensures { Gives ((k.Comma ▹ grammar.name).at tokens.old) result tokens.new }
+    ensures { GivesOutcome ((k.Comma ▹ grammar.name).at tokens.old) result tokens.new }
 {
     word(tokens, Kind::Comma)?;
     name(alloc, tokens)
@@ -29,7 +29,7 @@ fn next_name(alloc: Global, tokens: &mut Cursor<'_>) -> Result<Name, ReadFault>
 
 /// `name { , name }`
 pub fn name_list(alloc: Global, tokens: &mut Cursor<'_>) -> Result<Items<Name>, ReadFault>
-    ensures { Gives ((separated k.Comma grammar.name).at tokens.old) result tokens.new }
+    ensures { GivesOutcome ((separated k.Comma grammar.name).at tokens.old) result tokens.new }
 {
     let first = name(alloc, tokens)?;
     let mut found = Vec::new(alloc);
@@ -46,7 +46,7 @@ pub fn name_list(alloc: Global, tokens: &mut Cursor<'_>) -> Result<Items<Name>, 
 /// `( name { , name } )`
 #[tactic(auto, unfolding(px_ast::specs::Grammar::names))]
 pub fn names(alloc: Global, tokens: &mut Cursor<'_>) -> Result<Items<Name>, ReadFault>
-    ensures { Gives (grammar.names.at tokens.old) result tokens.new }
+    ensures { GivesOutcome (grammar.names.at tokens.old) result tokens.new }
 {
     word(tokens, Kind::OpenParen)?;
     let found = name_list(alloc, tokens)?;

@@ -2,7 +2,7 @@
 use Rattle.std.proofs.Common.{◌≡◌, ℕ, ◌<◌, ◌-◌, Bool, true, false, cond, not, ◌&&◌, sym, ◌∙◌, refl, ap, subst, inl, inr}
 use Rattle.std.specs.Prelude.{nat_eq, nat_lt}
 use Rattle.std.proofs.lemmas.Bool.{cases_lt, cond-true, cond-false, eq-eqb, ne_eqb, lt-ltb}
-use Rattle.px_world.specs.Shape.{Shape, has_key}
+use Rattle.px_world.specs.Shape.{WorldShape, has_key}
 use Rattle.px_world.specs.World.{Unbegun, Undecided, Written, Status, Verified, World, expected}
 use Rattle.px_world.specs.Events.{Event, Begin, Mark, Write, Verify, End, Raise, Forget, Fix, Birth, Base, Ready, Stop, Verdict, Leave, ToVerify, ToRetire, ToErase, happens, fixed, due, May}
 use Rattle.px_world.specs.Facts.{Kept}
@@ -25,7 +25,7 @@ off : (a c : Bool) → a ≡ false → (a && c) ≡ false
 off true c h = (let z : true ≡ false = h in cc)
 off false c h = refl
 
-module _ {K S X A : Type 0} (n : Shape K S X A) (w : World K S X) (t : ℕ) where
+module _ {K S X A : Type 0} (n : WorldShape K S X A) (w : World K S X) (t : ℕ) where
   pub verify_closes : Closed n (happens n w (Verify t)) t
   verify_closes = record {
     new_verified = λ k h. cond-true _ _ _ (both (nat_eq t t) (has_key n k (w.new t)) (eq-eqb t t refl) h);

@@ -1,7 +1,7 @@
 -- End, Raise, a Forget of a data region, and Ready keep the facts.
 use Rattle.std.proofs.Common.{◌≡◌, ℕ, true, false, Some, sym, ◌∙◌, refl, subst, inl, inr, arith}
 use Rattle.std.proofs.lemmas.Bool.{both_ways, cases_lt, cases_eq}
-use Rattle.px_world.specs.Shape.{Shape, IsLawful, has_key}
+use Rattle.px_world.specs.Shape.{WorldShape, IsLawful, has_key}
 use Rattle.px_world.specs.World.{World, horizon, st, settled, stays, live, passed, vis, stops, gives}
 use Rattle.px_world.specs.Events.{End, Raise, Forget, Ready, happens, Comes, set_stamp}
 use Rattle.px_world.specs.Facts.{Facts, Kept}
@@ -10,7 +10,7 @@ use Rattle.px_cells.proofs.Newest.{newest-at}
 use Rattle.px_world.proofs.Later.{later}
 use Rattle.px_world.proofs.Steps.{set_stamp-same, set_stamp-other, facts_again, blank_again, marked_again, kept_chain, bare_over, plain_alike}
 
-module _ {K S X A : Type 0} (n : Shape K S X A) (w : World K S X) (g : Kept n w) where
+module _ {K S X A : Type 0} (n : WorldShape K S X A) (w : World K S X) (g : Kept n w) where
   pub end_kept : (t : ℕ) → Kept n (happens n w (End t))
   end_kept t = record {
     birth_floor = g.birth_floor;

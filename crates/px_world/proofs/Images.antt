@@ -2,14 +2,14 @@
 use Rattle.std.proofs.Common.{◌≡◌, ℕ, ◌<◌, Bool, true, false, sym, ◌∙◌, refl, ap, subst, inl, inr, arith}
 use Rattle.std.specs.Prelude.{is_none}
 use Rattle.std.proofs.lemmas.Bool.{cases_Bool, true≢false}
-use Rattle.px_world.specs.Shape.{Shape, has_key}
+use Rattle.px_world.specs.Shape.{WorldShape, has_key}
 use Rattle.px_world.specs.World.{Fate, is_expected, World}
-use Rattle.px_world.specs.Facts.{Facts, Kept, IsSound, IsFull}
+use Rattle.px_world.specs.Facts.{Facts, Kept, IsSoundWorld, IsFull}
 use Rattle.px_world.specs.Images.{image, IsImage}
 use Rattle.px_world.proofs.Steps.{SameCells, low_alike, plain_alike, bare_over}
 use Rattle.px_world.proofs.Beginnings.{same_when_decided}
 
-module _ {K S X A : Type 0} (n : Shape K S X A) (w : World K S X) (g : Kept n w) (base : S) (fate : ℕ → Fate) (marked ended : ℕ → Bool) (old new : ℕ → S) (raised : ℕ) where
+module _ {K S X A : Type 0} (n : WorldShape K S X A) (w : World K S X) (g : Kept n w) (base : S) (fate : ℕ → Fate) (marked ended : ℕ → Bool) (old new : ℕ → S) (raised : ℕ) where
   abbrev shown : World K S X
   shown = image w base fate marked ended old new raised
 
@@ -34,7 +34,7 @@ module _ {K S X A : Type 0} (n : Shape K S X A) (w : World K S X) (g : Kept n w)
           row_has = low.row_has;
         }
 
-    pub image_sound : IsSound n shown
+    pub image_sound : IsSoundWorld n shown
     image_sound = record {
       birth_floor = g.birth_floor;
       floor_kept = g.floor_kept;

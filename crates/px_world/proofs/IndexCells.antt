@@ -2,11 +2,11 @@
 use Rattle.std.proofs.Common.{◌≡◌, ℕ, Bool, true, false, cond, not, ◌&&◌, ◌||◌, Option, Some, None, refl, ap, sym, ◌∙◌, subst}
 use Rattle.std.specs.Prelude.{nat_eq, nat_lt}
 use Rattle.std.proofs.lemmas.Bool.{and_parts, eqb-true}
-use Rattle.px_world.specs.Shape.{Shape, IsLawful, has_key}
+use Rattle.px_world.specs.Shape.{WorldShape, IsLawful, has_key}
 use Rattle.px_world.specs.World.{Status, Absent, Unverified, Verified, World, st, horizon}
 use Rattle.px_world.specs.Events.{Event, Mark, Verify, Fix, Base, Verdict, Leave, ToVerify, ToRetire, ToErase, happens, due, set_at, set_stamp, put_over, puts_of, dels_of, fixed}
 use Rattle.px_world.specs.Facts.{Kept}
-use Rattle.px_world.specs.IndexCells.{IndexCells, no_cells, over, index_of, with_index, put_of, del_of, mark_cells, close_cells, base_cells, fix_cells, status_over, Moves}
+use Rattle.px_world.specs.IndexCells.{IndexCells, no_cells, over, world_index, with_index, put_of, del_of, mark_cells, close_cells, base_cells, fix_cells, status_over, Moves}
 use Rattle.px_world.proofs.Runs.{step_kept}
 
 -- equal functions make equal cells
@@ -32,7 +32,7 @@ unverified_there e = cc
 verified_there : Verified ≡ Absent → ⊥
 verified_there e = cc
 
-module _ {K S X A : Type 0} (n : Shape K S X A) where
+module _ {K S X A : Type 0} (n : WorldShape K S X A) where
   -- the cells of a version over others
   put_version : (s : S) (b : Bool) (old : ℕ → Option X) (c : ℕ) → cond b (puts_of n s old) old c ≡ put_over (put_of n s b c) (old c)
   put_version s false old c = refl
@@ -46,8 +46,8 @@ module _ {K S X A : Type 0} (n : Shape K S X A) where
   del_version s false old c = refl
   del_version s true old c = refl
 
-  pub mark_is : (w : World K S X) (t : ℕ) → happens n w (Mark t) ≡ with_index (record w { is_marked = set_stamp t true w.is_marked }) (over (mark_cells n t (w.old t) (w.new t)) (index_of w))
-  mark_is w t = with_cells (record w { is_marked = set_stamp t true w.is_marked }) (index_of (happens n w (Mark t))) (over (mark_cells n t (w.old t) (w.new t)) (index_of w)) (same_cells _ _
+  pub mark_is : (w : World K S X) (t : ℕ) → happens n w (Mark t) ≡ with_index (record w { is_marked = set_stamp t true w.is_marked }) (over (mark_cells n t (w.old t) (w.new t)) (world_index w))
+  mark_is w t = with_cells (record w { is_marked = set_stamp t true w.is_marked }) (world_index (happens n w (Mark t))) (over (mark_cells n t (w.old t) (w.new t)) (world_index w)) (same_cells _ _
       (λ k s. status_if (nat_eq t s && (has_key n k (w.new t) || has_key n k (w.old t))) Unverified (w.status k s) unverified_there)
       (λ k s c. put_version (w.new t) (nat_eq t s && has_key n k (w.new t)) (w.put k s) c)
       (λ k s c. del_version (w.new t) (nat_eq t s && has_key n k (w.new t)) (w.del k s) c)
@@ -64,16 +64,16 @@ module _ {K S X A : Type 0} (n : Shape K S X A) where
   true_or true o = refl
   true_or false o = refl
 
-  pub verify_is : (w : World K S X) (t : ℕ) → happens n w (Verify t) ≡ with_index w (over (close_cells n t (w.old t) (w.new t)) (index_of w))
-  verify_is w t = with_cells w (index_of (happens n w (Verify t))) (over (close_cells n t (w.old t) (w.new t)) (index_of w)) (same_cells _ _
+  pub verify_is : (w : World K S X) (t : ℕ) → happens n w (Verify t) ≡ with_index w (over (close_cells n t (w.old t) (w.new t)) (world_index w))
+  verify_is w t = with_cells w (world_index (happens n w (Verify t))) (over (close_cells n t (w.old t) (w.new t)) (world_index w)) (same_cells _ _
       (λ k s. status_if (nat_eq t s && has_key n k (w.new t)) Verified (w.status k s) verified_there)
       (λ k s c. refl)
       (λ k s c. refl)
       (λ k s. true_or (nat_eq t s && (has_key n k (w.old t) && not (has_key n k (w.new t)))) (w.fam k s))
       (λ k s. refl))
 
-  pub base_is : (w : World K S X) → happens n w Base ≡ with_index w (over (base_cells n w.birth (st w w.birth)) (index_of w))
-  base_is w = with_cells w (index_of (happens n w Base)) (over (base_cells n w.birth (st w w.birth)) (index_of w)) (same_cells _ _
+  pub base_is : (w : World K S X) → happens n w Base ≡ with_index w (over (base_cells n w.birth (st w w.birth)) (world_index w))
+  base_is w = with_cells w (world_index (happens n w Base)) (over (base_cells n w.birth (st w w.birth)) (world_index w)) (same_cells _ _
       (λ k s. status_if (nat_eq w.birth s && has_key n k (st w w.birth)) Verified (w.status k s) verified_there)
       (λ k s c. put_version (st w w.birth) (nat_eq w.birth s && has_key n k (st w w.birth)) (w.put k s) c)
       (λ k s c. del_version (st w w.birth) (nat_eq w.birth s && has_key n k (st w w.birth)) (w.del k s) c)
@@ -98,18 +98,18 @@ module _ {K S X A : Type 0} (n : Shape K S X A) where
     verify_del s true k' u c = refl
     verify_del s false k' u c = cond_at (n.same_key k k' && nat_eq t u) (dels_of n s (w.del k t)) (w.del k' u) c ∙ (at_place k' u (n.same_key k k' && nat_eq t u) refl w.del (λ o. dels_of n s o c) (w.del k' u c) ∙ (sym (cond_at (n.same_key k k' && nat_eq t u) (dels_of n s (w.del k' u)) (w.del k' u) c) ∙ del_version s (n.same_key k k' && nat_eq t u) (w.del k' u) c))
 
-    pub fixed_is : (v : Verdict) → fixed n w k t v ≡ with_index w (over (fix_cells n (horizon w) (st w (horizon w)) k t v) (index_of w))
+    pub fixed_is : (v : Verdict) → fixed n w k t v ≡ with_index w (over (fix_cells n (horizon w) (st w (horizon w)) k t v) (world_index w))
     fixed_is Leave = refl
-    fixed_is ToVerify = with_cells w (index_of (fixed n w k t ToVerify)) (over (fix_cells n (horizon w) (st w (horizon w)) k t ToVerify) (index_of w)) (same_cells _ _
+    fixed_is ToVerify = with_cells w (world_index (fixed n w k t ToVerify)) (over (fix_cells n (horizon w) (st w (horizon w)) k t ToVerify) (world_index w)) (same_cells _ _
         (λ k' s. status_if (n.same_key k k' && nat_eq t s) Verified (w.status k' s) verified_there)
         (λ k' s c. verify_put (st w (horizon w)) (nat_lt (horizon w) t) k' s c)
         (λ k' s c. verify_del (st w (horizon w)) (nat_lt (horizon w) t) k' s c)
         (λ k' s. refl)
         (λ k' s. refl))
-    fixed_is ToRetire = with_cells w (index_of (fixed n w k t ToRetire)) (over (fix_cells n (horizon w) (st w (horizon w)) k t ToRetire) (index_of w)) (same_cells _ _ (λ k' s. refl) (λ k' s c. refl) (λ k' s c. refl) (λ k' s. true_or (n.same_key k k' && nat_eq t s) (w.fam k' s)) (λ k' s. refl))
-    fixed_is ToErase = with_cells w (index_of (fixed n w k t ToErase)) (over (fix_cells n (horizon w) (st w (horizon w)) k t ToErase) (index_of w)) (same_cells _ _ (λ k' s. refl) (λ k' s c. refl) (λ k' s c. refl) (λ k' s. refl) (λ k' s. true_or (n.same_key k k' && nat_eq t s) (w.ver k' s)))
+    fixed_is ToRetire = with_cells w (world_index (fixed n w k t ToRetire)) (over (fix_cells n (horizon w) (st w (horizon w)) k t ToRetire) (world_index w)) (same_cells _ _ (λ k' s. refl) (λ k' s c. refl) (λ k' s c. refl) (λ k' s. true_or (n.same_key k k' && nat_eq t s) (w.fam k' s)) (λ k' s. refl))
+    fixed_is ToErase = with_cells w (world_index (fixed n w k t ToErase)) (over (fix_cells n (horizon w) (st w (horizon w)) k t ToErase) (world_index w)) (same_cells _ _ (λ k' s. refl) (λ k' s c. refl) (λ k' s c. refl) (λ k' s. refl) (λ k' s. true_or (n.same_key k k' && nat_eq t s) (w.ver k' s)))
 
-    pub fix_is : happens n w (Fix k t) ≡ with_index w (over (fix_cells n (horizon w) (st w (horizon w)) k t (due n w k t)) (index_of w))
+    pub fix_is : happens n w (Fix k t) ≡ with_index w (over (fix_cells n (horizon w) (st w (horizon w)) k t (due n w k t)) (world_index w))
     fix_is = fixed_is (due n w k t)
 
   -- an event that may come keeps the facts, and none does so too

@@ -5,9 +5,9 @@ use Rattle.px_cells.specs.declared.cell.Body.{Body}
 use Rattle.px_cells.specs.declared.cell.Body.TheVariants.{Short, Long}
 
 -- the bytes of the key
-abbrev pub key_in : Body → List ℕ
-key_in (Short qualifier kind key_len len bytes) = take key_len bytes
-key_in (Long qualifier kind key_len bytes) = take key_len bytes.items
+abbrev pub body_key : Body → List ℕ
+body_key (Short qualifier kind key_len len bytes) = take key_len bytes
+body_key (Long qualifier kind key_len bytes) = take key_len bytes.items
 
 -- the bytes of the value
 abbrev pub value_in : Body → List ℕ
@@ -23,6 +23,6 @@ kind_in (Short qualifier kind key_len len bytes) = kind
 kind_in (Long qualifier kind key_len bytes) = kind
 
 -- the key ends within the bytes
-abbrev pub IsSound : Body → Type 0
-IsSound (Short qualifier kind key_len len bytes) = (key_len ≤ len) × (len ≤ 27)
-IsSound (Long qualifier kind key_len bytes) = key_len ≤ length bytes.items
+abbrev pub IsSoundBody : Body → Type 0
+IsSoundBody (Short qualifier kind key_len len bytes) = (key_len ≤ len) × (len ≤ 27)
+IsSoundBody (Long qualifier kind key_len bytes) = key_len ≤ length bytes.items

@@ -4,7 +4,7 @@ use Rattle.std.specs.List.{AllByRecursion}
 use Rattle.px_values.specs.declared.change.Change.{Change}
 use Rattle.px_values.specs.declared.name.TableId.{TableId}
 use Rattle.px_calls.specs.declared.ticket.Receipt.{Receipt}
-use Rattle.px_calls.specs.Requires.{FitsTable}
+use Rattle.px_calls.specs.Requires.{IsChangeOf}
 use Rattle.px_batch.specs.declared.batch.BatchFault.{BatchFault}
 use Rattle.px_batch.specs.declared.batch.BatchFault.TheVariants as unmade
 use Rattle.px_batch.specs.declared.batch.BatchState.TheVariants as batches
@@ -54,7 +54,7 @@ IsAfterFound t cs first new t' = ⊥
 -- and of the answer
 abbrev pub IsAfterAnswer : Planned → Selected → DeleteState → DeleteTurn → Type 0
 IsAfterAnswer p a new t =
-    ((cs : List Change) × AreRemovals a.shown.rows cs × AllByRecursion (FitsTable p.table) cs × IsAfterFound p.table.id cs a.first new t)
+    ((cs : List Change) × AreRemovals a.shown.rows cs × AllByRecursion (IsChangeOf p.table) cs × IsAfterFound p.table.id cs a.first new t)
     ⊎ ((new ≡ state.Over) × IsUnread unread.Memory t)
 
 -- and of a batch that has ended

@@ -3,7 +3,7 @@ use Rattle.std.specs.Prelude.{◌≡◌, ◌++◌, ℕ, true, false, List, drop,
 use Rattle.std.specs.List.{AllByRecursion}
 use Rattle.px_outside.specs.declared.disk.Disk.{Ghosts}
 use Rattle.px_cells.specs.CellData.{CellData}
-use Rattle.px_block.specs.Block.{IsFull}
+use Rattle.px_block.specs.Block.{IsBlockFull}
 use Rattle.px_file.specs.Format.{AreBlocks, blocks_bytes, letters}
 use Rattle.px_file.specs.IndexOf.{IsIndex}
 use Rattle.px_file.specs.Reading.{GoesOn, last_block}
@@ -15,7 +15,7 @@ pub record HasWalked {D : Type 0} (d : Ghosts D) (file : ℕ) (walk : Walk) (dis
   pub right : AreBlocks blocks
   pub index : IsIndex walk.index blocks
   pub before : walk.before ≡ last_block blocks
-  pub full : walk.more ≡ true → AllByRecursion IsFull blocks
+  pub full : walk.more ≡ true → AllByRecursion IsBlockFull blocks
   pub ends : walk.more ≡ false → IsTrue d.tells → GoesOn blocks (drop walk.index.end (d.seen disk file)) → ⊥
   pub seen : IsTrue d.tells → d.seen disk file ≡ letters ++ (blocks_bytes blocks ++ drop walk.index.end (d.seen disk file))
 

@@ -5,7 +5,7 @@ use Rattle.std.specs.Ordering.{is_le}
 use Rattle.px_cells.specs.CellData.{CellData}
 use Rattle.px_cells.specs.Order.{IsSettled, key_cmp}
 use Rattle.px_cells.specs.Rows.{AllAbove, AllBelow, AllFrom}
-use Rattle.px_memstore.specs.Pieces.{AreApart, KeysApart, chained}
+use Rattle.px_memstore.specs.Pieces.{ArePiecesApart, KeysApart, chained}
 use Rattle.px_memstore.specs.declared.pieces.Pieces.{Pieces}
 
 -- the lists of all pieces
@@ -22,7 +22,7 @@ IsFilled p = 0 < length p
 
 -- the pieces of a sorted list: whole rows, and only the first may be empty
 pub record ArePieces (ps : List (List CellData)) : Type 0 where
-  pub apart : AreApart ps
+  pub apart : ArePiecesApart ps
   pub filled : AllByRecursion IsFilled (drop 1 ps)
 
 -- whether a piece begins at or below a key

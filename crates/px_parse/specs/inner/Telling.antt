@@ -2,7 +2,7 @@
 use Rattle.std.specs.Prelude.{◌≡◌, ◌⊎◌, ℕ, Bool, true, false, List, codes, drop, Option, Some, None, Result, Ok, Err}
 use Rattle.px_lex.specs.Lexemes.{Seen}
 use Rattle.px_ast.specs.declared.statement.Statement.{Statement}
-use Rattle.px_ast.specs.Statements.{Reads}
+use Rattle.px_ast.specs.Statements.{ReadsStatement}
 use Rattle.px_statements.specs.declared.fault.TokenFault.{TokenFault}
 use Rattle.px_parse.specs.declared.syntax.SyntaxFault.{SyntaxFault}
 use Rattle.px_parse.specs.declared.syntax.SyntaxFault.TheVariants as faults
@@ -17,9 +17,9 @@ Tests P (Ok false) = P → ⊥
 Tests P (Err e) = e ≡ faults.Memory
 
 -- why tokens are no statement, where they are none
-abbrev pub Explains : List Seen → Option TokenFault → Type 0
-Explains tokens None = (s : Statement) × Reads tokens s
-Explains tokens (Some e) = IsRefused tokens e
+abbrev pub ExplainsTokens : List Seen → Option TokenFault → Type 0
+ExplainsTokens tokens None = (s : Statement) × ReadsStatement tokens s
+ExplainsTokens tokens (Some e) = IsRefused tokens e
 
 -- the refusal that the first token decides
 abbrev pub TellsFirst : List Seen → ℕ → SyntaxFault → Type 0

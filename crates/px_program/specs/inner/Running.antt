@@ -20,7 +20,7 @@ use Rattle.px_opening.specs.Opened.{all_regions, folder_in}
 use Rattle.px_opening.specs.declared.opened.Opened.{Opened}
 use Rattle.px_opening.specs.declared.fault.OpenFault.{OpenFault}
 use Rattle.px_opening.specs.declared.fault.OpenFault.TheVariants as fault
-use Rattle.px_rounds.specs.Written.{IsWritten}
+use Rattle.px_rounds.specs.Written.{IsTextWritten}
 use Rattle.px_server.specs.Kept.{HasFailed, has_told}
 use Rattle.px_server.specs.Others.{Beginning, OthersStay, beginning_at}
 use Rattle.px_server.specs.Stamps.{AreStamped}
@@ -63,7 +63,7 @@ pub record RanOver {D C O : Type 0} (d : DiskGhosts D) (c : ClockGhosts C) (k : 
   pub seat : ℕ
   pub sink_failed : Bool
   pub replied : AnswersJob sound (known_over base seat outcome.trail.entries) 0 job outcome.transcripts sink_failed outcome.memory
-  pub written : IsWritten k out out' (printed_for job outcome.transcripts) sink_failed outcome.memory
+  pub written : IsTextWritten k out out' (printed_for job outcome.transcripts) sink_failed outcome.memory
   pub recovers : premise → (moment : ℕ) (image : Image) → Left outcome.disk moment image → Recovers base outcome.trail.entries outcome.late moment image
   pub stands : closing_call outcome.trail.entries ≡ None → premise → IsTrue d.tells → StandsBy d base outcome.disk outcome.trail.entries
   pub unlate : closing_call outcome.trail.entries ≡ None → outcome.late ≡ None

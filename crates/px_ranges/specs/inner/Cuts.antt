@@ -9,7 +9,7 @@ use Rattle.px_values.specs.declared.order.Direction.TheVariants.{Ascending, Desc
 use Rattle.px_values.specs.declared.order.Direction.{Direction}
 use Rattle.px_values.specs.declared.row.Value.{Value}
 use Rattle.px_values.specs.declared.row.Value.TheVariants.{Null, Number}
-use Rattle.px_keys.specs.Range.{Begins}
+use Rattle.px_keys.specs.Range.{IsPrefix}
 use Rattle.px_keys.specs.Spelling.{FitsColumn, spelled}
 use Rattle.px_keys.specs.declared.parts.KeyColumn.{KeyColumn}
 use Rattle.px_ranges.specs.declared.cuts.Beside.{Beside}
@@ -28,7 +28,7 @@ pub record Cut : Type 0 where
 abbrev pub StandsBefore : List KeyColumn → List ℕ → Cut → Type 0
 StandsBefore columns key cut =
     let front = spelled columns cut.values in
-    (slice_cmp nat_cmp key front ≡ o.Less) ⊎ ((cut.behind ≡ true) × Begins front key)
+    (slice_cmp nat_cmp key front ≡ o.Less) ⊎ ((cut.behind ≡ true) × IsPrefix front key)
 
 -- bytes below these, where there are any
 abbrev pub IsBelow : List ℕ → Option (List ℕ) → Type 0
@@ -55,12 +55,12 @@ start_of Descending nullable lower (Some upper) = beside upper.value (not upper.
 start_of Descending nullable lower None = all_begin
 
 -- and where they end
-abbrev pub end_of : Direction → Bool → Option Edge → Option Edge → Cut
-end_of Ascending nullable lower (Some upper) = beside upper.value upper.included
-end_of Ascending nullable lower None = all_end
-end_of Descending nullable (Some lower) upper = beside lower.value lower.included
-end_of Descending true None upper = beside Null false
-end_of Descending false None upper = all_end
+abbrev pub cut_end : Direction → Bool → Option Edge → Option Edge → Cut
+cut_end Ascending nullable lower (Some upper) = beside upper.value upper.included
+cut_end Ascending nullable lower None = all_end
+cut_end Descending nullable (Some lower) upper = beside lower.value lower.included
+cut_end Descending true None upper = beside Null false
+cut_end Descending false None upper = all_end
 
 -- a cut among the keys whose first value is this
 abbrev pub within : Value → Cut → Cut
@@ -74,12 +74,12 @@ low_of columns vs span = all_begin
 
 abbrev pub high_of : List KeyColumn → List Value → Option Span → Cut
 high_of (column ∷ columns) (v ∷ vs) span = within v (high_of columns vs span)
-high_of (column ∷ columns) [] (Some span) = end_of column.direction column.may_be_null span.lower span.upper
+high_of (column ∷ columns) [] (Some span) = cut_end column.direction column.may_be_null span.lower span.upper
 high_of columns vs span = all_end
 
 -- the key is in the range
-abbrev pub IsInRange : List KeyColumn → Leading → List ℕ → Type 0
-IsInRange columns l key = (StandsBefore columns key (low_of columns l.equal l.span) → ⊥) × StandsBefore columns key (high_of columns l.equal l.span)
+abbrev pub IsKeyInRange : List KeyColumn → Leading → List ℕ → Type 0
+IsKeyInRange columns l key = (StandsBefore columns key (low_of columns l.equal l.span) → ⊥) × StandsBefore columns key (high_of columns l.equal l.span)
 
 -- ---- what a range asks of its values: they are values of the columns
 

@@ -7,7 +7,7 @@ use Rattle.px_values.specs.declared.change.Change.{Change}
 use Rattle.px_values.specs.declared.change.What.TheVariants.{Gone}
 use Rattle.px_values.specs.declared.row.Value.{Value}
 use Rattle.px_tables.specs.declared.table.Table.{Table}
-use Rattle.px_calls.specs.Requires.{FitsTable}
+use Rattle.px_calls.specs.Requires.{IsChangeOf}
 
 -- where a row stands to the first of them
 abbrev pub place_in : List Value → List Change → Ordering
@@ -19,4 +19,4 @@ removal row = record { row = row; what = Gone }
 
 -- the row's removal stands in front, or it was the first already
 abbrev pub IsPut : Table → List Change → List Value → List Change → Type 0
-IsPut t cs row cs' = ((place_in row cs ≡ Equal) × (cs' ≡ cs)) ⊎ ((place_in row cs ≡ Less) × FitsTable t (removal row) × (cs' ≡ removal row ∷ cs))
+IsPut t cs row cs' = ((place_in row cs ≡ Equal) × (cs' ≡ cs)) ⊎ ((place_in row cs ≡ Less) × IsChangeOf t (removal row) × (cs' ≡ removal row ∷ cs))

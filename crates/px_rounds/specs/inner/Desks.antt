@@ -11,7 +11,7 @@ use Rattle.px_session.specs.declared.state.Ending.{Ending}
 use Rattle.px_session.specs.declared.state.Ending.TheVariants.{Memory}
 use Rattle.px_session.specs.declared.state.SessionState.{SessionState}
 use Rattle.px_session.specs.Live.{ArePlaced, StartsFrom, seen_of}
-use Rattle.px_session.specs.Replies.{IsAnswered}
+use Rattle.px_session.specs.Replies.{IsSessionAnswered}
 use Rattle.px_rounds.specs.Rounds.{text_in}
 use Rattle.px_rounds.specs.Turns.{as_seat}
 
@@ -43,10 +43,10 @@ pub record IsTold (sound : Type 0) (k : Known) (st : SessionState) (run : Sessio
   pub session : t.session ≡ run.session
   pub round : t.round ≡ run.round
   pub ending : Ending
-  pub answered : IsAnswered sound k run.from (length k.seen) st (seen_of run) t st' ending
+  pub answered : IsSessionAnswered sound k run.from (length k.seen) st (seen_of run) t st' ending
   pub whole : lacked ≡ false → ending ≢ Memory
 
-pub record AreTold (sound : Type 0) (k : Known) (began : List SessionState) (runs : List SessionRun) (ts : List Transcript) (states : List SessionState) (lacked : Bool) : Type 0 where
+pub record AreSessionsTold (sound : Type 0) (k : Known) (began : List SessionState) (runs : List SessionRun) (ts : List Transcript) (states : List SessionState) (lacked : Bool) : Type 0 where
   pub count : length ts ≡ length runs
   pub count' : length states ≡ length runs
   pub each : (i : ℕ) (st : SessionState) (run : SessionRun) (t : Transcript) (st' : SessionState) → slice_get began i ≡ Some st → slice_get runs i ≡ Some run → slice_get ts i ≡ Some t → slice_get states i ≡ Some st'

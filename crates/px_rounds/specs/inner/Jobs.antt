@@ -10,10 +10,10 @@ use Rattle.px_reply.specs.declared.transcript.Transcript.{Transcript}
 use Rattle.px_session.specs.declared.run.SessionRun.{SessionRun}
 use Rattle.px_session.specs.declared.state.Ending.TheVariants.{Memory}
 use Rattle.px_session.specs.declared.state.SessionState.{SessionState}
-use Rattle.px_session.specs.Live.{ArePlaced, IsLive, seen_of}
-use Rattle.px_session.specs.Replies.{IsAnswered}
+use Rattle.px_session.specs.Live.{ArePlaced, IsSessionLive, seen_of}
+use Rattle.px_session.specs.Replies.{IsSessionAnswered}
 use Rattle.px_turn.specs.declared.lock.TurnSeat.{TurnSeat}
-use Rattle.px_turn.specs.Seats.{seen as list_seen}
+use Rattle.px_turn.specs.Seats.{seen_by_seat}
 use Rattle.px_seat.specs.Grown.{mine}
 use Rattle.px_rounds.specs.declared.job.Came.{Came}
 use Rattle.px_rounds.specs.declared.job.Stage.{Stage}
@@ -22,7 +22,7 @@ use Rattle.px_rounds.specs.declared.one.Lists.{Lists}
 use Rattle.px_rounds.specs.inner.Desks.{IsFirst, IsTold}
 
 -- the lists of a round of so many sessions, before these begin
-pub record IsLaid (count : ℕ) (l : Lists) : Type 0 where
+pub record IsRoundLaid (count : ℕ) (l : Lists) : Type 0 where
   pub pieces : length l.pieces.items ≡ count
   pub placed : (i : ℕ) (pieces : Vec Piece Global) → slice_get l.pieces.items i ≡ Some pieces → ArePlaced pieces.items
   pub transcripts : (l.transcripts.items ≡ []) × (count ≤ vec_capacity l.transcripts)
@@ -49,7 +49,7 @@ pub record RanOut {X : Type 0} (on_way : SessionState → Known → X → Type 0
 
 -- a session was run to its end
 abbrev pub RanJob : Type 0 → Known → SessionRun → Known → SessionRun → Type 0
-RanJob sound k run k' run' = RanOut (λ began k run. IsLive sound k began run) told_of (λ run. run.ending ≢ None) k run k' run'
+RanJob sound k run k' run' = RanOut (λ began k run. IsSessionLive sound k began run) told_of (λ run. run.ending ≢ None) k run k' run'
 
 -- the job may be run on this seat, from which the trail is seen so
 pub record CanRun (k : Known) (session : ℕ) (stage : Stage) : Type 0 where
@@ -63,7 +63,7 @@ pub record CanRun (k : Known) (session : ℕ) (stage : Stage) : Type 0 where
 pub record IsCame (sound : Type 0) (run : SessionRun) (c : Came) : Type 0 where
   pub session : c.transcript.session ≡ run.session
   pub round : c.transcript.round ≡ run.round
-  pub answered : (k : Known) (began : SessionState) → IsLive sound k began run → IsAnswered sound k run.from (length k.seen) began (seen_of run) c.transcript c.state c.ending
+  pub answered : (k : Known) (began : SessionState) → IsSessionLive sound k began run → IsSessionAnswered sound k run.from (length k.seen) began (seen_of run) c.transcript c.state c.ending
 
 -- the session of a job was run from its first step to its end
 pub record RanStage (sound : Type 0) (number : ℕ) (k : Known) (stage : Stage) (k' : Known) (stage' : Stage) : Type 0 where
@@ -99,13 +99,13 @@ pub record SeatTold (sound : Type 0) (b : Base) (d : ℕ → ℕ → Bool) (star
   pub last : SessionRun
   pub begins : IsFirst number (length start) n st pieces.items first
   pub ran : RanJob sound (mine n b d start) first (mine n b d seen) last
-  pub told : (k : Known) → IsLive sound k st last → IsTold sound k st last t st' lacked
+  pub told : (k : Known) → IsSessionLive sound k st last → IsTold sound k st last t st' lacked
 
 -- Each session of a round was run to its end, on the seat of its number; seat 0 has seen no more than at first
 pub record SeatsTold {T : Type 0} (sound : Type 0) (b : Base) (d : ℕ → ℕ → Bool) (start : List Entry) (number : ℕ) (states : List SessionState) (all : List (Vec Piece Global)) (seats : List (TurnSeat T Entry)) (ts : List Transcript) (states' : List SessionState) (lacked : Bool) : Type 0 where
   pub count : length seats ≡ length states + 1
   pub count' : length ts ≡ length states
   pub count'' : length states' ≡ length states
-  pub idle : (seat : TurnSeat T Entry) → slice_get seats 0 ≡ Some seat → list_seen seat ≡ start
+  pub idle : (seat : TurnSeat T Entry) → slice_get seats 0 ≡ Some seat → seen_by_seat seat ≡ start
   pub each : (i : ℕ) (st : SessionState) (pieces : Vec Piece Global) (seat : TurnSeat T Entry) (t : Transcript) (st' : SessionState) → slice_get states i ≡ Some st → slice_get all i ≡ Some pieces → slice_get seats (i + 1) ≡ Some seat → slice_get ts i ≡ Some t → slice_get states' i ≡ Some st'
-      → SeatTold sound b d start (list_seen seat) number (i + 1) st pieces t st' lacked
+      → SeatTold sound b d start (seen_by_seat seat) number (i + 1) st pieces t st' lacked

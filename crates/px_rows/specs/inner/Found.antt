@@ -22,7 +22,7 @@ pub record IsNewestCell (g : Contents) (k : List ℕ) (q p : ℕ) (c : CellData)
   pub first : (d : CellKind) → code_of c.kind < code_of d → g k q c.stamp d ≡ None
 
 -- the column has no cell at or below the point
-pub record HasNone (g : Contents) (k : List ℕ) (q p : ℕ) : Type 0 where
+pub record HasNoCell (g : Contents) (k : List ℕ) (q p : ℕ) : Type 0 where
   pub each : (u : ℕ) (d : CellKind) → u ≤ p → g k q u d ≡ None
 
 -- all cells have the key
@@ -31,7 +31,7 @@ AreOf k cells = AllByRecursion (λ c. c.key ≡ k) cells
 
 -- it is the newest cell of the column, if there is one
 abbrev pub FindsNewest : List CellData → List ℕ → ℕ → ℕ → Option (Bor CellData) → Type 0
-FindsNewest cells k q p found = MatchOption found (HasNone (value_at cells) k q p) (λ c. IsNewestCell (value_at cells) k q p c.now)
+FindsNewest cells k q p found = MatchOption found (HasNoCell (value_at cells) k q p) (λ c. IsNewestCell (value_at cells) k q p c.now)
 
 -- the stamp of the newest DeleteFamily at or below the point
 abbrev pub IsFamily : Contents → List ℕ → ℕ → Option ℕ → Type 0

@@ -7,7 +7,7 @@ use Rattle.px_values.specs.declared.change.Assignment.{Assignment}
 use Rattle.px_values.specs.declared.change.What.{What}
 use Rattle.px_values.specs.declared.change.What.TheVariants.{Set, Gone}
 use Rattle.px_values.specs.declared.row.Value.{Value}
-use Rattle.px_rows.specs.Cells.{column_cell, put_cell}
+use Rattle.px_rows.specs.Cells.{put_cell, value_cell}
 use Rattle.px_rows.specs.Spelled.{assigned_to}
 
 abbrev pub gone_cell : List ℕ → ℕ → CellData
@@ -15,7 +15,7 @@ gone_cell k s = record { key = k; qualifier = 0; stamp = s; kind = DeleteFamily;
 
 abbrev pub column_if : List TableColumn → List ℕ → ℕ → ℕ → Option Value → List CellData
 column_if columns k s c None = []
-column_if columns k s c (Some v) = column_cell columns k s c v ∷ []
+column_if columns k s c (Some v) = value_cell columns k s c v ∷ []
 
 -- the empty column, and the cells of the first columns that are assigned
 unfoldable pub set_cells : List TableColumn → List ℕ → ℕ → List Assignment → ℕ → List CellData

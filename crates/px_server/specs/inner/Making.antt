@@ -7,8 +7,8 @@ use Rattle.px_tables.specs.declared.table.NewTable.{NewTable}
 use Rattle.px_tables.specs.declared.table.Table.{Table}
 use Rattle.px_trail.specs.Trail.{made_table}
 use Rattle.px_schema.specs.Counts.{HasNumbers, HasRoomForTable}
-use Rattle.px_schema.specs.Parts.{name}
-use Rattle.px_schema.specs.Stands.{after}
+use Rattle.px_schema.specs.Parts.{name_piece}
+use Rattle.px_schema.specs.Stands.{stands_after}
 use Rattle.px_schema.specs.declared.item.CatalogItem.TheVariants.{TableIs}
 use Rattle.px_schema.specs.declared.standing.Standing.{Standing}
 use Rattle.px_group.specs.declared.group.Group.{Group}
@@ -23,8 +23,8 @@ pub record MayMake (s : Standing) (closed : Option ℕ) (what : NewTable) : Type
   pub free : IsUnused s what.name
   pub room : HasRoomForTable s
   pub numbers : HasNumbers s (length what.least_keys + 1)
-  pub called : name.right what.name
-  pub columns : AllByRecursion (λ c. name.right c.name) what.columns
+  pub called : name_piece.right what.name
+  pub columns : AllByRecursion (λ c. name_piece.right c.name) what.columns
   pub few : length what.key < 256
 
 -- why it isn't made
@@ -44,5 +44,5 @@ table_made s what = made_table s.next (record { 0 = s.next + length what.least_k
 pub record AreParts (s : Standing) (what : NewTable) (item : Table) (group : Group) (now : Standing) (copy : NewTable) : Type 0 where
   pub item_is : item ≡ table_made s what
   pub group_is : IsNewGroup (table_made s what) group
-  pub standing_is : now ≡ after s (TableIs (table_made s what))
+  pub standing_is : now ≡ stands_after s (TableIs (table_made s what))
   pub copy_is : copy ≡ what

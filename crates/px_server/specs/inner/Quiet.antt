@@ -6,7 +6,7 @@ use Rattle.px_values.specs.declared.name.TableId.{TableId}
 use Rattle.px_tables.specs.declared.index.Index.{Index}
 use Rattle.px_tables.specs.declared.table.Table.{Table}
 use Rattle.px_indexrow.specs.Form.{IsRightIndex}
-use Rattle.px_schema.specs.Stands.{after}
+use Rattle.px_schema.specs.Stands.{stands_after}
 use Rattle.px_schema.specs.declared.item.CatalogItem.TheVariants.{IndexIs}
 use Rattle.px_schema.specs.declared.standing.Standing.{Standing}
 use Rattle.px_group.specs.declared.group.Group.{Group}
@@ -62,4 +62,4 @@ pub record IsIndexToPut (t : Table) (s : Standing) (y : Index) (p : IndexToPut) 
   pub item : p.item ≡ y
   pub right : IsRightIndex t y
   pub can : CanRecord s y
-  pub standing : p.standing ≡ after s (IndexIs y)
+  pub standing : p.standing ≡ stands_after s (IndexIs y)

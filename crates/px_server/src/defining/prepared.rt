@@ -2,7 +2,7 @@
 ghost use Rattle.std.specs.Prelude.{◌≡◌, IfErr, IfOk, IsTrue};
 ghost use Rattle.px_calls.specs.declared.fault.StepFault.TheVariants.{Memory as NoMemory};
 ghost use Rattle.px_schema.specs.Counts.{HasNumbers};
-ghost use Rattle.px_schema.specs.Stands.{after as stands_after};
+ghost use Rattle.px_schema.specs.Stands.{stands_after};
 ghost use Rattle.px_schema.specs.declared.item.CatalogItem.TheVariants.{IndexIs};
 ghost use Rattle.px_server.specs.inner.Fitting.{CanRecord, IsIndexToActivate, IsIndexToMake};
 

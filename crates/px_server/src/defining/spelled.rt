@@ -1,7 +1,7 @@
 // Names that the catalogue has a spelling for.
 ghost use Rattle.std.specs.Prelude.{IsTrue};
 ghost use Rattle.std.specs.List.{AllByRecursion};
-ghost use Rattle.px_schema.specs.Parts.{name as name_piece};
+ghost use Rattle.px_schema.specs.Parts.{name_piece};
 
 use px_tables::TableColumn;
 use px_values::Name;

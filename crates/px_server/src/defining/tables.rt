@@ -10,7 +10,7 @@ ghost use Rattle.px_defined.specs.Defined.{IsNewGroup};
 ghost use Rattle.px_trail.specs.Trail.{made_table as table_of_definition};
 ghost use Rattle.px_values.specs.Limits.{most_of};
 ghost use Rattle.px_schema.specs.declared.item.CatalogItem.TheVariants.{TableIs};
-ghost use Rattle.px_schema.specs.Stands.{after as stands_after, drawn_by};
+ghost use Rattle.px_schema.specs.Stands.{drawn_by, stands_after};
 ghost use Rattle.px_server.specs.Shown.{known_by};
 ghost use Rattle.px_server.specs.inner.Making.{AreParts, IsUnmade, MayMake, table_made};
 

@@ -4,7 +4,7 @@ use Rattle.px_lex.specs.declared.kind.Kind.TheVariants as k
 use Rattle.px_lex.specs.Lexemes.{Seen}
 use Rattle.px_ast.specs.declared.statement.Statement.TheVariants as statements
 use Rattle.px_ast.specs.Rule.{sees, Outcome, Got, Stuck, and_then, Rule, token, made, ◌then◌, maybe, ◌or◌, word, ◌▹◌, separated, optional}
-use Rattle.px_ast.specs.Grammar.{name, text_of, predicate, keypart, shown, row_limit, create_table, create_index, drop_table, drop_index, alter_index, upsert}
+use Rattle.px_ast.specs.Grammar.{name, text_of_token, predicate, keypart, shown_names, row_limit, create_table, create_index, drop_table, drop_index, alter_index, upsert}
 
 -- behind a predicate: how many are still open where AND or OR goes on, or none of it where the condition ends
 abbrev pub closes : ℕ → List Seen → Outcome (Option ℕ)
@@ -46,7 +46,7 @@ skimmed_delete = made passed (k.Delete ▹ k.From ▹ name then skimmed_filter)
 
 unfoldable pub skimmed_select : Rule (Unit {0})
 skimmed_select = made passed
-    (k.Select ▹ maybe (made text_of (token k.Hint)) then shown then k.From ▹ name
+    (k.Select ▹ maybe (made text_of_token (token k.Hint)) then shown_names then k.From ▹ name
     then skimmed_filter
     then optional (k.Order ▹ k.By ▹ separated k.Comma keypart)
     then maybe row_limit)

@@ -10,7 +10,7 @@ use Rattle.px_verify.specs.declared.report.Finding.TheVariants as finding
 use Rattle.px_verify.specs.declared.report.IndexEntry.{IndexEntry}
 use Rattle.px_verify.specs.declared.report.Version.{Version}
 use Rattle.px_verify.specs.declared.report.Version.TheVariants.{Verified, Unverified}
-use Rattle.px_verify.specs.Reports.{key_at, same_values}
+use Rattle.px_verify.specs.Reports.{key_of_version, same_values}
 
 -- a version at the key of a row
 abbrev pub judged : IndexEntry → Version → Finding
@@ -38,7 +38,7 @@ abbrev pub first_taken : List IndexEntry → List Version → Option Taken
 first_taken [] [] = None
 first_taken (row ∷ rows) [] = Some missing
 first_taken [] (v ∷ versions) = Some (beside v)
-first_taken (row ∷ rows) (v ∷ versions) = Some (lesser (slice_cmp nat_cmp row.key (key_at v)) row v)
+first_taken (row ∷ rows) (v ∷ versions) = Some (lesser (slice_cmp nat_cmp row.key (key_of_version v)) row v)
 
 -- what is left of a list of which the first may be taken
 abbrev pub rest : {A : Type 0} → Bool → List A → List A

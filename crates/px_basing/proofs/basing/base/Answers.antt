@@ -7,7 +7,7 @@ use Rattle.px_values.specs.declared.row.Value.{Value}
 use Rattle.px_batching.proofs.Places.{same_at}
 use Rattle.px_reading.proofs.Looked.{looked_index, no_look}
 use Rattle.px_repairs.proofs.Handing.{got_some}
-use Rattle.px_basing.specs.Basing.{Written, cells_at}
+use Rattle.px_basing.specs.Basing.{Written, base_cells_of}
 use Rattle.px_basing.specs.Refused.{IsRefusedFor}
 use Rattle.px_basing.proofs.Handing.{bases_err, bases_none, bases_ok, err_same, same_cells, some_cells}
 use Rattle.px_basing.proofs.basing.base.Goals as goal
@@ -54,5 +54,5 @@ returns-in-Err-clause-cause g c fault y e at' =
     let x = c.index_mut.result.now in
     let at : slice_get now.indexes.items c.args.place ≡ Some x = got_some now.indexes.items c.args.place x x c.requires.there c.index_mut.ensures.value in
     let made : slice_get now.indexes.items c.args.place ≡ Some c.index-part.result.now = got_some now.indexes.items c.args.place c.index-part.result.now c.index-part.result.now c.requires.there c.index-part.ensures in
-    subst (λ (z : IndexRegion). IsRefusedFor z.region (cells_at now z c.args.rows.now) fault) (same_at now.indexes.items c.args.place x y at at')
+    subst (λ (z : IndexRegion). IsRefusedFor z.region (base_cells_of now z c.args.rows.now) fault) (same_at now.indexes.items c.args.place x y at at')
     (subst (λ (l : List CellData). IsRefusedFor x.region l fault) (same_cells now c.args.place c.args.rows.now c.index-part.result.now x made at c.in-Ok-base_versions.kept c.in-Ok-base_versions.ensures) (c.in-Err.ensures.cause fault (ap Err (err_same c.in-Err.fault fault e))))

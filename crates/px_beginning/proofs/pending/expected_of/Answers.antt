@@ -1,5 +1,5 @@
 use Rattle.std.proofs.Common.{◌∙◌, ap, sym, subst}
-use Rattle.px_indexrow.specs.Form.{FitsState}
+use Rattle.px_indexrow.specs.Form.{FitsRowState}
 use Rattle.px_openbatches.specs.Pending.{applied_if}
 use Rattle.px_phases.proofs.Assigned.{all_at}
 use Rattle.px_phases.proofs.Left.{applied_fits}
@@ -20,5 +20,5 @@ loop-begun-preserved c =
     let next = state_more (table_shape t) c.args.row.now c.args.state c.args.batches.now c.loop-begun.begun-index m c.loop-begun-test.true c.begun-item.is in
     record {
       state = one ∙ (ap (λ (o : RowState). applied_if (table_shape t) c.args.row.now o (left_in m.batch c.args.row.now)) c.loop-begun.invariant.state ∙ sym next);
-      fits = subst (FitsState t) (sym one) (applied_fits t c.args.row.now c.loop-begun.state m.batch c.requires.table fit c.loop-begun.invariant.fits);
+      fits = subst (FitsRowState t) (sym one) (applied_fits t c.args.row.now c.loop-begun.state m.batch c.requires.table fit c.loop-begun.invariant.fits);
     }

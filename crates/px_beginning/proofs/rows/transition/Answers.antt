@@ -1,6 +1,6 @@
 use Rattle.std.proofs.Common.{◌∙◌, ap, length, sym, subst, List}
 use Rattle.px_indexrow.proofs.KeysHeld.{row_count}
-use Rattle.px_indexrow.specs.Form.{FitsState}
+use Rattle.px_indexrow.specs.Form.{FitsRowState}
 use Rattle.px_region.specs.Region.{read_of}
 use Rattle.px_values.specs.declared.row.Value.{Value}
 use Rattle.px_beginning.proofs.rows.transition.Goals as goal
@@ -15,4 +15,4 @@ pub row_state-requires-clause-plain : goal.row_state-requires-clause-plain
 row_state-requires-clause-plain g c = c.law_rows_read.ensures.plain_at c.args.table.now (read_of c.args.rows.now) c.requires.shape c.args.key.now
 
 pub expected_of-requires-clause-state : goal.expected_of-requires-clause-state
-expected_of-requires-clause-state g c = subst (FitsState c.args.table.now) (sym c.in_ok-state.ensures.state) (c.law_rows_read.ensures.typed c.args.table.now (read_of c.args.rows.now) c.requires.table c.requires.shape c.as_slice-row.result.now 9223372036854775807)
+expected_of-requires-clause-state g c = subst (FitsRowState c.args.table.now) (sym c.in_ok-state.ensures.state) (c.law_rows_read.ensures.typed c.args.table.now (read_of c.args.rows.now) c.requires.table c.requires.shape c.as_slice-row.result.now 9223372036854775807)

@@ -1,6 +1,6 @@
 use Rattle.std.proofs.Common.{◌≡◌, drop}
-use Rattle.px_create.specs.Indexes.{index_of}
+use Rattle.px_create.specs.Indexes.{index_id_named}
 use Rattle.px_create.proofs.indexes.find_index.Given as goal
 
 abbrev pub invariant-loop-index : goal.invariant-loop-index
-invariant-loop-index l = index_of l.indexes l.name ≡ index_of (drop l.index-index l.indexes) l.name
+invariant-loop-index l = index_id_named l.indexes l.name ≡ index_id_named (drop l.index-index l.indexes) l.name

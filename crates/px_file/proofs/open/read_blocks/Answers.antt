@@ -2,7 +2,7 @@ use Rattle.std.proofs.Common.{◌≡◌, ◌-◌, length, refl, subst, ◌∙◌
 use Rattle.std.specs.Prelude.{IsTrue}
 use Rattle.px_outside.specs.Disk.{Image}
 use Rattle.px_outside.proofs.Moments.{stays_then}
-use Rattle.px_file.specs.Reading.{IsFirstWrong}
+use Rattle.px_file.specs.Reading.{IsFirstWrongInFile}
 use Rattle.px_file.proofs.Walking.{counts_all, counts_more, counts_none, grown_more, rose_from, stays_none, steps_fewer, walk_ended}
 use Rattle.px_file.proofs.open.read_blocks.Goals as goal
 
@@ -35,7 +35,7 @@ loop-alloc-preserved g c = record {
 pub returns-in-Err-clause-wrong : goal.returns-in-Err-clause-wrong
 returns-in-Err-clause-wrong g c = λ at place is e.
     let s = c.loop-alloc.invariant.walked is in
-    subst (λ (f : Image). (at ≡ c.args.file) × (IsTrue g.D.Disk.tells → IsFirstWrong (f c.args.file) place)) c.loop-alloc.invariant.seen (c.in-Err.ensures.wrong s.blocks at place s.walked e)
+    subst (λ (f : Image). (at ≡ c.args.file) × (IsTrue g.D.Disk.tells → IsFirstWrongInFile (f c.args.file) place)) c.loop-alloc.invariant.seen (c.in-Err.ensures.wrong s.blocks at place s.walked e)
 
 pub returns-in-Err-clause-quiet : goal.returns-in-Err-clause-quiet
 returns-in-Err-clause-quiet g c = stays_then g.D.Disk.calls g.D.Disk.left c.args.disk.now c.loop-alloc.disk c.step.new.disk c.loop-alloc.invariant.quiet c.step.ensures.quiet

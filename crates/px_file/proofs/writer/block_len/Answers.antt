@@ -1,6 +1,6 @@
 use Rattle.std.proofs.Common.{◌≡◌, length, take, ap, subst, sym, arith}
 use Rattle.std.proofs.lemmas.List.{take_all}
-use Rattle.px_block.specs.Block.{IsClosed}
+use Rattle.px_block.specs.Block.{IsClosedBlock}
 use Rattle.px_cellbytes.specs.Spelling.{all_bytes}
 use Rattle.px_file.proofs.Blocks.{cell_small, closed_all, short_at}
 use Rattle.px_file.proofs.writer.block_len.Goals as goal
@@ -19,4 +19,4 @@ returns-clause-closed c =
     let s = c.loop-i.invariant.size in
     let u = c.loop-i.invariant.under in
     let e = ap (λ l. length (all_bytes l)) all in
-    subst IsClosed (sym all) (closed_all c.args.cells.now c.requires.some (omega arith))
+    subst IsClosedBlock (sym all) (closed_all c.args.cells.now c.requires.some (omega arith))

@@ -1,6 +1,6 @@
 use Rattle.std.proofs.Common.{◌≡◌, Err, get_or, refl, sym, ap, subst, ◌∙◌, arith}
 use Rattle.px_outside.proofs.Moments.{stays_then}
-use Rattle.px_file.specs.Reading.{IsFirstWrong}
+use Rattle.px_file.specs.Reading.{IsFirstWrongInFile}
 use Rattle.px_gatelog.specs.declared.fault.StartFault.TheVariants.{Damaged}
 use Rattle.px_wal.specs.Files.{file_of}
 use Rattle.px_wal.specs.declared.snapshot.FileEntry.{FileEntry}
@@ -16,7 +16,7 @@ returns-in-Err-clause-damaged g c = λ file place tells e.
     let w = c.in-Err.ensures.damaged file place (ap Err same) in
     first_bad g.D.Disk c.args.region c.args.disk.now c.loop-entry.disk entries i one c.loop-entry.files.items file place tells c.loop-entry.invariant.open_ c.loop-entry-test.true (at_any entries i no_entry one c.loop-entry-test.true) c.loop-entry.invariant.seen
     (w.0 ∙ c.local_file.ensures ∙ ap (λ (x : FileEntry). file_of c.args.region x.local) (at_any entries i _ no_entry c.loop-entry-test.true))
-    (subst (λ n. IsFirstWrong (g.D.Disk.seen c.loop-entry.disk n) place) (sym w.0) (w.1 tells))
+    (subst (λ n. IsFirstWrongInFile (g.D.Disk.seen c.loop-entry.disk n) place) (sym w.0) (w.1 tells))
 
 pub loop-entry-preserved : goal.loop-entry-preserved
 loop-entry-preserved g c =

@@ -1,7 +1,7 @@
 use Rattle.std.proofs.Common.{◌≡◌, Err, ap, arith, subst}
 use Rattle.std.specs.Prelude.{IsTrue}
 use Rattle.px_outside.specs.Disk.{Image}
-use Rattle.px_file.specs.Reading.{IsFirstWrong}
+use Rattle.px_file.specs.Reading.{IsFirstWrongInFile}
 use Rattle.px_file.specs.declared.fault.FileFault.{FileFault}
 use Rattle.px_file.specs.declared.fault.FileFault.TheVariants as file
 use Rattle.px_gatelog.specs.declared.fault.StartFault.TheVariants.{Damaged}
@@ -24,4 +24,4 @@ returns-in-Err-clause-damaged g c = λ at place e.
     let told : c.fault_of.result ≡ Damaged at place = cc in
     let same : start_fault c.in-Err.fault ≡ Damaged at place = (let z = c.fault_of.ensures in cc) in
     let w = c.in-Err.ensures.damaged at place (ap Err (damaged_from c.in-Err.fault at place same)) in
-    (w.0, λ tells. subst (λ (s : Image). IsFirstWrong (s c.args.file) place) c.sync.ensures.seen (w.1 tells))
+    (w.0, λ tells. subst (λ (s : Image). IsFirstWrongInFile (s c.args.file) place) c.sync.ensures.seen (w.1 tells))

@@ -21,7 +21,7 @@ returns-in-Err-clause-damaged g c = λ file place is tells.
       after = drop (suc i) ns;
       is = parts_at ns i c.loop-number-test.true;
       whole = all_whole d c.args.disk.now c.loop-number.disk c.loop-number.regions.items (take i ns) c.loop-number.invariant.numbers (c.loop-number.invariant.read tells);
-      damaged = subst (λ (image : Image). region.IsFirstDamaged (get_or ns i 0) image file place) c.loop-number.invariant.seen (c.in-Err.ensures.damaged file place (search rules) tells);
+      damaged = subst (λ (image : Image). region.IsFirstDamagedInRegion (get_or ns i 0) image file place) c.loop-number.invariant.seen (c.in-Err.ensures.damaged file place (search rules) tells);
     }
 
 pub returns-then-is_err-clause-quiet : goal.returns-then-is_err-clause-quiet

@@ -6,7 +6,7 @@ use Rattle.px_recovery.specs.Folder.{region_numbers}
 use Rattle.px_folder.specs.Calls.{AreOpenedBy}
 use Rattle.px_folder.specs.Damage.{IsDamagedIn, in_region}
 use Rattle.px_folder.specs.Drawn.{AreDrawn, same_number}
-use Rattle.px_folder.specs.Read.{number_of}
+use Rattle.px_folder.specs.Read.{number_of_open_region}
 use Rattle.px_folder.proofs.Calls.{opened_permuted}
 use Rattle.px_folder.proofs.Found.{once_mapped}
 use Rattle.px_folder.proofs.Once.{once_permuted}
@@ -19,7 +19,7 @@ returns-clause-once g c =
     let sorted = c.sort.new.self.items in
     let moved : IsPermutation (region_numbers c.args.standing.now) sorted = subst (λ (l : List ℕ). IsPermutation l sorted) c.in_ok-numbers.ensures c.in_ok-sort.ensures.permutation in
     let once = once_permuted (region_numbers c.args.standing.now) sorted moved drawn.once in
-    ok_then (λ rs. map number_of rs.items ≡ c.deref-2.result.now) (λ rs. AreDistinct number_of rs.items) (λ rs are. once_mapped rs.items (subst (λ (l : List ℕ). AreDistinct same_number l) (sym (are ∙ c.deref-2.ensures.value)) once)) c.open_regions.result c.open_regions.ensures.numbers
+    ok_then (λ rs. map number_of_open_region rs.items ≡ c.deref-2.result.now) (λ rs. AreDistinct number_of_open_region rs.items) (λ rs are. once_mapped rs.items (subst (λ (l : List ℕ). AreDistinct same_number l) (sym (are ∙ c.deref-2.ensures.value)) once)) c.open_regions.result c.open_regions.ensures.numbers
 
 pub returns-clause-damaged : goal.returns-clause-damaged
 returns-clause-damaged g c = λ file place is tells.

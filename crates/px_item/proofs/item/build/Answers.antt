@@ -10,7 +10,7 @@ use Rattle.px_item.proofs.item.build.Goals as goal
 pub step-requires : goal.step-requires
 step-requires g c =
     let j = c.requires.2.state.1 in
-    let F : TableId × IndexId → Type 0 = λ q. building.Fits g.S.Steps.sound j.made.at q.0 q.1 j.rest c.args.run (g.S.Steps.known c.args.s.now) in
+    let F : TableId × IndexId → Type 0 = λ q. building.FitsBuild g.S.Steps.sound j.made.at q.0 q.1 j.rest c.args.run (g.S.Steps.known c.args.s.now) in
     (search (sendable, crosses) depth 40, (j.made.at, j.rest, subst F (λ i. (sym j.fits.table i, sym j.fits.index i)) j.fits))
 
 pub returns-in-Stepped-clause-turns : goal.returns-in-Stepped-clause-turns

@@ -2,12 +2,12 @@ use Rattle.std.proofs.lemmas.Result.{on_ok_weaker}
 use Rattle.std.specs.Prelude.{codes}
 use Rattle.std.specs.String.{string_bytes}
 use Rattle.px_reply.specs.Printed.{with_number}
-use Rattle.px_load.specs.Script.{upsert}
+use Rattle.px_load.specs.Script.{upsert_line}
 use Rattle.px_load.proofs.Adding.{four_parts, where_added}
 use Rattle.px_load.proofs.script.add_upsert.Goals as goal
 
 pub returns : goal.returns
-unfolding upsert
+unfolding upsert_line
 returns c =
     let row = c.args.row in
     on_ok_weaker c.push_str.result (λ last.

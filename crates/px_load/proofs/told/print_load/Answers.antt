@@ -1,11 +1,11 @@
 use Rattle.std.proofs.Common.{◌≡◌, ◌++◌, ◌∙◌, ap}
 use Rattle.std.proofs.lemmas.Result.{on_ok_weaker}
-use Rattle.px_load.specs.Told.{answers_in, came_of, first_refusal, items_of, told, told_of}
+use Rattle.px_load.specs.Told.{answers_in, came_of, first_refusal, items_of, told_of, told_of_load}
 use Rattle.px_load.proofs.Adding.{told_first, told_then}
 use Rattle.px_load.proofs.told.print_load.Goals as goal
 
 pub returns-then-branch : goal.returns-then-branch
-unfolding told
+unfolding told_of_load
 returns-then-branch c =
     let items = c.items_of-items.result.now in
     let same : items ≡ items_of c.args.transcripts.now = c.items_of-items.ensures ∙ ap items_of c.as_slice.ensures in
@@ -13,7 +13,7 @@ returns-then-branch c =
     ∙ (λ i. c.args.to.now ++ told_of c.args.load (first_refusal (same i)) (came_of (answers_in (same i))))
 
 pub returns : goal.returns
-unfolding told
+unfolding told_of_load
 returns c =
     let items = c.items_of-items.result.now in
     let same : items ≡ items_of c.args.transcripts.now = c.items_of-items.ensures ∙ ap items_of c.as_slice.ensures in

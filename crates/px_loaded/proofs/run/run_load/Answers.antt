@@ -1,8 +1,8 @@
 use Rattle.std.proofs.Common.{◌≡◌, Bool, ◌||◌, refl, sym, ap, subst, ◌∙◌}
 use Rattle.px_rounds.proofs.Rounding.{stays}
 use Rattle.px_loaded.proofs.Running.{is_single, loaded, none_told, once, or_lacked, unfailed, unrun}
-use Rattle.px_rounds.specs.Written.{IsWritten}
-use Rattle.px_load.specs.Told.{told}
+use Rattle.px_rounds.specs.Written.{IsTextWritten}
+use Rattle.px_load.specs.Told.{told_of_load}
 use Rattle.px_loaded.specs.Loads.{RanLoad}
 use Rattle.px_loaded.proofs.run.run_load.Given.{Over}
 use Rattle.px_loaded.proofs.run.run_load.Goals as goal
@@ -43,5 +43,5 @@ pub returns-clause-written : goal.returns-clause-written
 returns-clause-written g c =
     let r = c.run_rounds-server.result in
     let w = c.write_told-sink_failed.result in
-    subst (λ (v : Bool). IsWritten g.O.Sink c.args.out.now c.write_told-sink_failed.new.out (told c.args.load r.transcripts) w.0 v) (sym (lacked_is g c))
+    subst (λ (v : Bool). IsTextWritten g.O.Sink c.args.out.now c.write_told-sink_failed.new.out (told_of_load c.args.load r.transcripts) w.0 v) (sym (lacked_is g c))
     (once g.O.Sink c.args.out.now c.write_told-sink_failed.new.out _ w.0 w.1 r.memory c.write_told-sink_failed.ensures)

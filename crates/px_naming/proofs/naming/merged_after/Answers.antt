@@ -3,7 +3,7 @@ use Rattle.std.proofs.lemmas.List.{length-drop}
 use Rattle.px_wal.specs.Snapshot.{FileData}
 use Rattle.px_wal.specs.SnapshotOf.{file_data}
 use Rattle.px_wal.specs.declared.snapshot.FileEntry.{FileEntry}
-use Rattle.px_naming.specs.Naming.{one_more}
+use Rattle.px_naming.specs.Naming.{one_compaction_more}
 use Rattle.px_naming.proofs.Named.{kept_files, map_drop}
 use Rattle.px_naming.proofs.naming.merged_after.Goals as goal
 
@@ -18,4 +18,4 @@ returns c =
     let named = c.args.named.now in
     ap (λ (l : List FileEntry). record { flushed = named.flushed; horizon = named.horizon; stamp = named.stamp; compactions = c.count_one.result; files = map file_data l }) all
     ∙ ap (λ (n : _). record { flushed = named.flushed; horizon = named.horizon; stamp = named.stamp; compactions = n; files = file_data c.args.file ∷ map file_data (drop c.args.count named.files.items) }) c.count_one.ensures
-    ∙ ap (λ (l : List FileData). record { flushed = named.flushed; horizon = named.horizon; stamp = named.stamp; compactions = one_more named.compactions; files = file_data c.args.file ∷ l }) (map_drop c.args.count named.files.items)
+    ∙ ap (λ (l : List FileData). record { flushed = named.flushed; horizon = named.horizon; stamp = named.stamp; compactions = one_compaction_more named.compactions; files = file_data c.args.file ∷ l }) (map_drop c.args.count named.files.items)

@@ -3,7 +3,7 @@ use Rattle.std.specs.List.{AllByRecursion}
 use Rattle.std.proofs.lemmas.List.{take_all}
 use Rattle.px_cells.specs.CellData.{CellData}
 use Rattle.px_cells.specs.Order.{IsApart}
-use Rattle.px_indexrow.specs.Form.{IsLong, index_form}
+use Rattle.px_indexrow.specs.Form.{IsLongInIndex, index_form}
 use Rattle.px_indexrow.proofs.KeysHeld.{form_laws, form_placed}
 use Rattle.px_indexrow.specs.Lists.{closes_of}
 use Rattle.px_keptcells.specs.Kept.{HaveOtherKeys, IsFitting, laid}
@@ -38,14 +38,14 @@ returns-in_err-cells-clause-too_long c e =
     let m : c.closes.result ≡ Err RowFault.KeyTooLong = search rules in
     let below : c.loop-place.place < length c.args.transitions.now = (let n = same_count c.args.table.now c.args.changes.now c.args.transitions.now c.requires.transitions in let l = c.loop-place-test.true in omega arith) in
     long_at t c.args.index.now c.args.changes.now c.args.transitions.now c.loop-place.place c.index-changes-place.result x c.loop-place-test.true below c.index-changes-place.is c.index-transitions-place.is
-    (subst (λ (r : List Value). IsLong t c.args.index.now r x.new ⊎ IsLong t c.args.index.now r x.old) row (c.closes.ensures.too_long m))
+    (subst (λ (r : List Value). IsLongInIndex t c.args.index.now r x.new ⊎ IsLongInIndex t c.args.index.now r x.old) row (c.closes.ensures.too_long m))
 
 pub add-requires-clause-fitting : goal.add-requires-clause-fitting
 add-requires-clause-fitting c =
     let t = c.args.table.now in
     let x = c.index-transitions-place.result in
     let row : c.as_slice-row.result.now ≡ c.index-changes-place.result.row = c.as_slice-row.ensures ∙ ap (λ (y : Change). y.row) (sym c.index-changes-place.is) in
-    let short = subst (λ (r : List Value). (IsLong t c.args.index.now r x.new → ⊥) × (IsLong t c.args.index.now r x.old → ⊥)) row (c.in_ok-cells.ensures.short refl) in
+    let short = subst (λ (r : List Value). (IsLongInIndex t c.args.index.now r x.new → ⊥) × (IsLongInIndex t c.args.index.now r x.old → ⊥)) row (c.in_ok-cells.ensures.short refl) in
     let good = closes_good t c.args.index.now c.args.stamp c.requires.table c.requires.index (form_laws t c.args.index.now) (form_placed t c.args.index.now c.requires.index) c.ranges.stamp.fits c.index-changes-place.result x (transition_at c.args.table.now c.args.changes.now c.args.transitions.now c.requires.transitions c.loop-place.place c.index-changes-place.result c.index-transitions-place.result c.loop-place-test.true c.index-changes-place.is c.index-transitions-place.is) short.0 short.1 in
     let is : c.in_ok-cells.cells ≡ closes_of (index_form t c.args.index.now) c.index-changes-place.result.row c.args.stamp x.old x.new = c.in_ok-cells.ensures.cells ∙ ap (λ (r : List Value). closes_of (index_form t c.args.index.now) r c.args.stamp x.old x.new) row in
     subst (AllByRecursion IsFitting) (sym is) good.fits
@@ -55,7 +55,7 @@ add-requires-clause-apart c =
     let t = c.args.table.now in
     let x = c.index-transitions-place.result in
     let row : c.as_slice-row.result.now ≡ c.index-changes-place.result.row = c.as_slice-row.ensures ∙ ap (λ (y : Change). y.row) (sym c.index-changes-place.is) in
-    let short = subst (λ (r : List Value). (IsLong t c.args.index.now r x.new → ⊥) × (IsLong t c.args.index.now r x.old → ⊥)) row (c.in_ok-cells.ensures.short refl) in
+    let short = subst (λ (r : List Value). (IsLongInIndex t c.args.index.now r x.new → ⊥) × (IsLongInIndex t c.args.index.now r x.old → ⊥)) row (c.in_ok-cells.ensures.short refl) in
     let good = closes_good t c.args.index.now c.args.stamp c.requires.table c.requires.index (form_laws t c.args.index.now) (form_placed t c.args.index.now c.requires.index) c.ranges.stamp.fits c.index-changes-place.result x (transition_at c.args.table.now c.args.changes.now c.args.transitions.now c.requires.transitions c.loop-place.place c.index-changes-place.result c.index-transitions-place.result c.loop-place-test.true c.index-changes-place.is c.index-transitions-place.is) short.0 short.1 in
     let is : c.in_ok-cells.cells ≡ closes_of (index_form t c.args.index.now) c.index-changes-place.result.row c.args.stamp x.old x.new = c.in_ok-cells.ensures.cells ∙ ap (λ (r : List Value). closes_of (index_form t c.args.index.now) r c.args.stamp x.old x.new) row in
     subst IsApart (sym is) good.apart
@@ -65,7 +65,7 @@ add-requires-clause-other_keys c =
     let t = c.args.table.now in
     let x = c.index-transitions-place.result in
     let row : c.as_slice-row.result.now ≡ c.index-changes-place.result.row = c.as_slice-row.ensures ∙ ap (λ (y : Change). y.row) (sym c.index-changes-place.is) in
-    let short = subst (λ (r : List Value). (IsLong t c.args.index.now r x.new → ⊥) × (IsLong t c.args.index.now r x.old → ⊥)) row (c.in_ok-cells.ensures.short refl) in
+    let short = subst (λ (r : List Value). (IsLongInIndex t c.args.index.now r x.new → ⊥) × (IsLongInIndex t c.args.index.now r x.old → ⊥)) row (c.in_ok-cells.ensures.short refl) in
     let good = closes_good t c.args.index.now c.args.stamp c.requires.table c.requires.index (form_laws t c.args.index.now) (form_placed t c.args.index.now c.requires.index) c.ranges.stamp.fits c.index-changes-place.result x (transition_at c.args.table.now c.args.changes.now c.args.transitions.now c.requires.transitions c.loop-place.place c.index-changes-place.result c.index-transitions-place.result c.loop-place-test.true c.index-changes-place.is c.index-transitions-place.is) short.0 short.1 in
     let is : c.in_ok-cells.cells ≡ closes_of (index_form t c.args.index.now) c.index-changes-place.result.row c.args.stamp x.old x.new = c.in_ok-cells.ensures.cells ∙ ap (λ (r : List Value). closes_of (index_form t c.args.index.now) r c.args.stamp x.old x.new) row in
     subst (λ (p : List (List CellData)). HaveOtherKeys (laid p) c.in_ok-cells.cells) (sym c.loop-place.invariant.kept)
@@ -76,7 +76,7 @@ loop-place-preserved c =
     let t = c.args.table.now in
     let x = c.index-transitions-place.result in
     let row : c.as_slice-row.result.now ≡ c.index-changes-place.result.row = c.as_slice-row.ensures ∙ ap (λ (y : Change). y.row) (sym c.index-changes-place.is) in
-    let short = subst (λ (r : List Value). (IsLong t c.args.index.now r x.new → ⊥) × (IsLong t c.args.index.now r x.old → ⊥)) row (c.in_ok-cells.ensures.short refl) in
+    let short = subst (λ (r : List Value). (IsLongInIndex t c.args.index.now r x.new → ⊥) × (IsLongInIndex t c.args.index.now r x.old → ⊥)) row (c.in_ok-cells.ensures.short refl) in
     let good = closes_good t c.args.index.now c.args.stamp c.requires.table c.requires.index (form_laws t c.args.index.now) (form_placed t c.args.index.now c.requires.index) c.ranges.stamp.fits c.index-changes-place.result x (transition_at c.args.table.now c.args.changes.now c.args.transitions.now c.requires.transitions c.loop-place.place c.index-changes-place.result c.index-transitions-place.result c.loop-place-test.true c.index-changes-place.is c.index-transitions-place.is) short.0 short.1 in
     let is : c.in_ok-cells.cells ≡ closes_of (index_form t c.args.index.now) c.index-changes-place.result.row c.args.stamp x.old x.new = c.in_ok-cells.ensures.cells ∙ ap (λ (r : List Value). closes_of (index_form t c.args.index.now) r c.args.stamp x.old x.new) row in
     let below : c.loop-place.place < length c.args.transitions.now = (let n = same_count c.args.table.now c.args.changes.now c.args.transitions.now c.requires.transitions in let l = c.loop-place-test.true in omega arith) in

@@ -1,5 +1,5 @@
 use Rattle.std.proofs.Common.{◌∙◌, ap, sym, subst}
-use Rattle.px_indexrow.specs.Form.{FitsState}
+use Rattle.px_indexrow.specs.Form.{FitsRowState}
 use Rattle.px_openbatches.specs.Pending.{applied_if}
 use Rattle.px_trail.specs.Trail.{table_shape}
 use Rattle.px_values.specs.States.{RowState}
@@ -18,5 +18,5 @@ loop-batch-preserved c =
     let next = state_next (table_shape t) c.args.row.now c.args.state c.args.batches.now c.loop-batch.batch-index c.batch-item.result c.loop-batch-test.true c.batch-item.is in
     record {
       state = c.in_ok-state.ensures ∙ (ap (λ (o : RowState). applied_if (table_shape t) c.args.row.now o (left_in c.batch-item.result c.args.row.now)) c.loop-batch.invariant.state ∙ sym next);
-      fits = subst (FitsState t) (sym c.in_ok-state.ensures) (applied_fits t c.args.row.now c.loop-batch.state c.batch-item.result c.requires.table fit c.loop-batch.invariant.fits);
+      fits = subst (FitsRowState t) (sym c.in_ok-state.ensures) (applied_fits t c.args.row.now c.loop-batch.state c.batch-item.result c.requires.table fit c.loop-batch.invariant.fits);
     }

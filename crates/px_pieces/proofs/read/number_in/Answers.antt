@@ -1,10 +1,10 @@
 use Rattle.std.proofs.Common.{◌≡◌, ◌+◌, ◌*◌, ◌-◌, ◌/◌, ◌^◌, ◌≤◌, ap, arith}
-use Rattle.px_pieces.specs.Numbers.{up_to}
+use Rattle.px_pieces.specs.Numbers.{stays_up_to}
 use Rattle.px_pieces.proofs.Bytewise.{limited_cut, limited_done, limited_more, limited_wrong, next_low, next_room, number_start, scale_some}
 use Rattle.px_pieces.proofs.read.number_in.Goals as goal
 
 pub loop-taken-init : goal.loop-taken-init
-loop-taken-init c = record { part = number_start (up_to c.args.most) c.args.size c.args.bytes.now c.args.at c.requires.begins; low = omega arith }
+loop-taken-init c = record { part = number_start (stays_up_to c.args.most) c.args.size c.args.bytes.now c.args.at c.requires.begins; low = omega arith }
 
 pub returns-then-place-bytes-clause-stopped : goal.returns-then-place-bytes-clause-stopped
 returns-then-place-bytes-clause-stopped c =

@@ -2,7 +2,7 @@ use Rattle.std.proofs.Common.{◌≡◌, ◌++◌, ◌+◌, ◌<◌, ◌↔◌, 
 use Rattle.std.specs.List.{All}
 use Rattle.std.proofs.lemmas.Result.{IfOk-weaker}
 use Rattle.std.specs.Option.{option_copied, option_to_list}
-use Rattle.px_keys.specs.Range.{Begins, IsBetween, bound_bytes}
+use Rattle.px_keys.specs.Range.{IsBetween, IsPrefix, bound_bytes}
 use Rattle.px_keys.specs.Spelling.{IsNullFixed, PartFits, columns_of, spelled, values_of}
 use Rattle.px_keys.specs.declared.parts.Part.{Part}
 use Rattle.px_keys.specs.declared.parts.KeyColumn.{KeyColumn}
@@ -33,6 +33,6 @@ returns c =
     let vs = c.args.equal.now ++ next in
     let e = c.in_ok-front.ensures ∙ ap (λ (ps : List Part). spelled (columns_of ps) (values_of ps)) c.as_slice.ensures.value ∙ front_spelled c.in_ok-parts.parts.items c.args.columns.now c.args.equal.now next c.in_ok-parts.ensures.values c.in_ok-parts.ensures.columns in
     let small = subst (λ (x : List ℕ). All (λ b. b < 256) x) (sym e) (first_is_bytes c.args.columns.now vs c.requires) in
-    IfOk-weaker c.end_of_range-end.result (λ high. (bytes : List ℕ) → All (λ b. b < 256) bytes → (IsBetween c.as_slice-2.result.now (bound_bytes high) bytes ↔ Begins c.as_slice-2.result.now bytes)) (λ high. (key : List ℕ) → All (λ b. b < 256) key → (IsBelow key (bound_bytes high) ↔ StandsBefore c.args.columns.now key (behind_values c.args.equal.now (cut_of c.args.place))))
-    (λ high range. bytes_behind c.args.columns.now vs c.args.place.behind c.in_ok-front.front.items (bound_bytes high) e c.if-not-place.false small (subst (λ (x : List ℕ). (bytes : List ℕ) → All (λ b. b < 256) bytes → (IsBetween x (bound_bytes high) bytes ↔ Begins x bytes)) c.as_slice-2.ensures.value range))
+    IfOk-weaker c.end_of_range-end.result (λ high. (bytes : List ℕ) → All (λ b. b < 256) bytes → (IsBetween c.as_slice-2.result.now (bound_bytes high) bytes ↔ IsPrefix c.as_slice-2.result.now bytes)) (λ high. (key : List ℕ) → All (λ b. b < 256) key → (IsBelow key (bound_bytes high) ↔ StandsBefore c.args.columns.now key (behind_values c.args.equal.now (cut_of c.args.place))))
+    (λ high range. bytes_behind c.args.columns.now vs c.args.place.behind c.in_ok-front.front.items (bound_bytes high) e c.if-not-place.false small (subst (λ (x : List ℕ). (bytes : List ℕ) → All (λ b. b < 256) bytes → (IsBetween x (bound_bytes high) bytes ↔ IsPrefix x bytes)) c.as_slice-2.ensures.value range))
     c.end_of_range-end.ensures

@@ -3,7 +3,7 @@ use Rattle.std.specs.List.{AllByRecursion}
 use Rattle.px_cells.specs.CellData.{CellData}
 use Rattle.px_cells.specs.Contents.{value_at}
 use Rattle.px_cells.specs.Order.{IsApart}
-use Rattle.px_indexrow.specs.Form.{FitsState}
+use Rattle.px_indexrow.specs.Form.{FitsRowState}
 use Rattle.px_indexrow.specs.Verdicts.{verdict_of}
 use Rattle.px_indexrow.proofs.KeysHeld.{row_count}
 use Rattle.px_keptcells.specs.Kept.{IsFitting}
@@ -19,7 +19,7 @@ add-requires-clause-fitting c =
     (let t = c.args.table.now in
     let state = c.in_ok-state.state in
     let is : state ≡ (row_form t).spelled (value_at c.args.doubted.now.cells.items) c.args.doubted.now.row.items c.args.horizon = c.in_ok-state.ensures ∙ (λ i. (row_form t).spelled (value_at (c.deref-2.ensures.value i)) (c.deref.ensures.value i) c.args.horizon) in
-    let fits : FitsState t state = subst (FitsState t) (sym is) (c.requires.row.typed c.args.horizon) in
+    let fits : FitsRowState t state = subst (FitsRowState t) (sym is) (c.requires.row.typed c.args.horizon) in
     subst (λ (l : List CellData). AllByRecursion IsFitting l) (sym c.in_ok-cells.ensures) (fix_fits t c.args.index.now c.requires.table.columns c.requires.index c.args.horizon state fits c.args.key.now c.requires.short c.args.stamp (omega arith) (verdict_of c.for_state-repair.result)))
 
 pub add-requires-clause-apart : goal.add-requires-clause-apart
@@ -27,5 +27,5 @@ add-requires-clause-apart c =
     (let t = c.args.table.now in
     let state = c.in_ok-state.state in
     let is : state ≡ (row_form t).spelled (value_at c.args.doubted.now.cells.items) c.args.doubted.now.row.items c.args.horizon = c.in_ok-state.ensures ∙ (λ i. (row_form t).spelled (value_at (c.deref-2.ensures.value i)) (c.deref.ensures.value i) c.args.horizon) in
-    let fits : FitsState t state = subst (FitsState t) (sym is) (c.requires.row.typed c.args.horizon) in
+    let fits : FitsRowState t state = subst (FitsRowState t) (sym is) (c.requires.row.typed c.args.horizon) in
     subst (λ (l : List CellData). IsApart l) (sym c.in_ok-cells.ensures) (fix_apart t c.args.index.now c.requires.table.columns c.requires.index c.args.horizon state fits c.args.key.now c.requires.short c.args.stamp (omega arith) (verdict_of c.for_state-repair.result)))

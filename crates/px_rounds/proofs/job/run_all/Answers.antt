@@ -3,7 +3,7 @@ use Rattle.std.specs.Prelude.{slice_get}
 use Rattle.std.proofs.Crossing.{crosses}
 use Rattle.std.proofs.lemmas.Option.{slice_get_read}
 use denote.Param.Send.{sendable}
-use Rattle.px_turn.specs.Seats.{seen as list_seen}
+use Rattle.px_turn.specs.Seats.{seen_by_seat}
 use Rattle.px_seat.specs.Grown.{mine}
 use Rattle.px_rounds.specs.declared.job.Job.{Job}
 use Rattle.px_rounds.specs.inner.Jobs.{RanStage}
@@ -27,5 +27,5 @@ returns-clause-each g c = λ k a b ea eb.
     let back = ap (λ l. slice_get l k) (sym (restored c.for_each_mut.new.s c.args.jobs.now.items c.args.jobs.now.len count len)) ∙ eb in
     let new : h.after_call.now ≡ b = h.left ∙ get_or_is c.for_each_mut.new.s k a b back in
     let P : Job g.row.R.Denot g.row.S.Denot g.row.N.Denot g.row.B.Denot g.N.LockNamed × Job g.row.R.Denot g.row.S.Denot g.row.N.Denot g.row.B.Denot g.N.LockNamed → Type 0 = λ q.
-    RanStage g.S.Steps.sound q.0.number (mine q.0.at.id g.B.Based.base g.B.Based.damaged (list_seen q.0.at.seat)) q.0.stage (mine q.1.at.id g.B.Based.base g.B.Based.damaged (list_seen q.1.at.seat)) q.1.stage in
+    RanStage g.S.Steps.sound q.0.number (mine q.0.at.id g.B.Based.base g.B.Based.damaged (seen_by_seat q.0.at.seat)) q.0.stage (mine q.1.at.id g.B.Based.base g.B.Based.damaged (seen_by_seat q.1.at.seat)) q.1.stage in
     subst P (λ i. (old i, new i)) call

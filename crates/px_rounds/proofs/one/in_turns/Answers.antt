@@ -1,6 +1,6 @@
 use Rattle.std.proofs.Common.{rules, ◌≡◌, ◌∙◌, length, List, sym, ap, subst}
 use Rattle.px_session.specs.declared.run.SessionRun.{SessionRun}
-use Rattle.px_rounds.specs.inner.Desks.{AreFirst, AreTold}
+use Rattle.px_rounds.specs.inner.Desks.{AreFirst, AreSessionsTold}
 use Rattle.px_rounds.specs.Turns.{AreLive}
 use Rattle.px_rounds.proofs.Lists.{restored}
 use Rattle.px_rounds.proofs.Rounding as rounding
@@ -49,6 +49,6 @@ returns-clause-round g c =
     let live = rounding.first_live sound k c.args.number c.seen.result states round all old c.seen.ensures (search rules) c.opened-runs.ensures.first in
     let live' = turned.live states (subst (λ (l : List SessionRun). AreLive sound k states l) (sym c.as_mut_slice.ensures.value) live) in
     let told_all = c.taken_back.ensures.told k' states (subst (λ (l : List SessionRun). AreLive sound k' states l) (sym back) live') in
-    let told : AreTold sound k' states new here.transcripts.items here.states.items here.lacked = subst (λ (l : List SessionRun). AreTold sound k' states l here.transcripts.items here.states.items here.lacked) back told_all in
+    let told : AreSessionsTold sound k' states new here.transcripts.items here.states.items here.lacked = subst (λ (l : List SessionRun). AreSessionsTold sound k' states l here.transcripts.items here.states.items here.lacked) back told_all in
     let first : AreFirst c.args.number c.seen.result states all c.as_mut_slice.result.now = subst (λ (l : List SessionRun). AreFirst c.args.number c.seen.result states all l) (sym c.as_mut_slice.ensures.value) c.opened-runs.ensures.first in
     rounding.turned_round sound k k' c.args.number c.seen.result states round all c.as_mut_slice.result.now new here.transcripts.items here.states.items here.lacked c.seen.ensures (search rules) first turned told

@@ -4,8 +4,8 @@ use Rattle.px_reply.specs.declared.transcript.Transcript.{Transcript}
 use Rattle.px_reply.specs.Printed.{printed}
 use Rattle.px_script.specs.declared.script.SessionText.{SessionText}
 use Rattle.px_session.specs.declared.state.SessionState.{SessionState}
-use Rattle.px_rounds.specs.Rounds.{AreWithin, RanRounds, first_state, fresh}
-use Rattle.px_rounds.specs.Written.{IsWritten}
+use Rattle.px_rounds.specs.Rounds.{AreWithin, RanRounds, first_state, fresh_sessions}
+use Rattle.px_rounds.specs.Written.{IsTextWritten}
 use Rattle.px_rounds.proofs.Rounding.{stays}
 use Rattle.px_rounds.proofs.Waying as waying
 use Rattle.px_rounds.proofs.rounds.run_rounds.Goals as goal
@@ -14,13 +14,13 @@ pub loop-place-init : goal.loop-place-init
 loop-place-init g c =
     let k = g.S.Steps.known c.args.server in
     let sound = g.S.Steps.sound in
-    let first = fresh c.sessions_in-count.result in
+    let first = fresh_sessions c.sessions_in-count.result in
     let none : c.new-2.result.items ≡ [] = c.new-2.ensures.items in
     let F : List Transcript × List SessionState → Type 0 = λ q. RanRounds sound k (length k.seen) first [] q.0 q.1 false false in
     record {
       goes = stays k c.requires.single;
       ran = subst F (λ i. (sym none i, sym c.in-Ok.ensures i)) (waying.none_ran sound k first);
-      written = subst (λ (l : List Transcript). IsWritten g.O.Sink c.args.out.now c.args.out.now (printed l) false false) (sym none) (waying.nothing_written g.O.Sink c.args.out.now false);
+      written = subst (λ (l : List Transcript). IsTextWritten g.O.Sink c.args.out.now c.args.out.now (printed l) false false) (sym none) (waying.nothing_written g.O.Sink c.args.out.now false);
       count = ap length c.in-Ok.ensures ∙ length-replicate c.sessions_in-count.result first_state;
     }
 
@@ -41,7 +41,7 @@ loop-place-preserved g c =
     let more : take (at.place + 1) rounds ≡ take at.place rounds ++ round ∷ [] = take_more rounds at.place round low ∙ ap (λ r. take at.place rounds ++ r ∷ []) (sym c.index-rounds-place.is) in
     let taken : length (take at.place rounds) ≡ at.place = length-take-le at.place rounds (omega arith) in
     let number : at.place + 1 ≡ 1 + length (take at.place rounds) = omega arith in
-    let first = fresh c.sessions_in-count.result in
+    let first = fresh_sessions c.sessions_in-count.result in
     record {
       goes = waying.goes_then k0 k k' i.goes goes;
       ran = subst (λ (l : List (List SessionText)). RanRounds sound k' (length k0.seen) first l new.done.items new.states.items new.sink_failed new.memory) (sym more)

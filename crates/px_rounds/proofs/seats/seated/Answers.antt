@@ -1,7 +1,7 @@
 use Rattle.std.proofs.Common.{rules, ◌≡◌, ◌∙◌, ℕ, ◌+◌, ◌-◌, ◌<◌, [], ◌∷◌, ◌++◌, length, drop, sym, ap, subst, ⊎_elim, arith, refl, append_assoc, length-append, length-drop}
 use Rattle.std.specs.Prelude.{slice_get}
 use Rattle.std.specs.Vec.Iter.{into_iter_items}
-use Rattle.px_turn.specs.Seats.{seen as list_seen}
+use Rattle.px_turn.specs.Seats.{seen_by_seat}
 use Rattle.px_seat.specs.Grown.{mine}
 use Rattle.px_rounds.specs.declared.job.Job.{Job}
 use Rattle.px_rounds.specs.declared.job.Stage.TheVariants.{Ready}
@@ -59,7 +59,7 @@ loop-seat-preserved g c =
     let start = (g.S.Steps.known c.args.first.now.value).seen in
     let base = g.B.Based.base in
     let damaged = g.B.Based.damaged in
-    let seen_is : list_seen c.new.result.seat ≡ start = ap list_seen c.new.ensures.0 ∙ c.requires.seen (length at.yielded) x here in
+    let seen_is : seen_by_seat c.new.result.seat ≡ start = ap seen_by_seat c.new.ensures.0 ∙ c.requires.seen (length at.yielded) x here in
     record {
       given = append_assoc at.yielded (x ∷ []) _ ∙ ap (λ l. at.yielded ++ l) (sym steps) ∙ i.given;
       left = omega arith;
@@ -74,7 +74,7 @@ loop-seat-preserved g c =
           let session_is : at.session + 1 ≡ k + 1 = ap (λ (n : ℕ). n + 1) (i.session ∙ sym t.0) in
           let st_is : st ≡ s = some_same st s (sym state_is ∙ (ap (slice_get c.args.states.items) (sym t.0) ∙ f)) in
           let same : pieces ≡ p = some_same pieces p (sym pieces_are ∙ (ap (slice_get c.args.all.items) (sym t.0) ∙ h)) in
-          subst (λ (j : Job _ _ _ _ _). IsSet base damaged start c.args.number (k + 1) s p (mine j.at.id base damaged (list_seen j.at.seat)) j.session j.number j.stage) t.1
+          subst (λ (j : Job _ _ _ _ _). IsSet base damaged start c.args.number (k + 1) s p (mine j.at.id base damaged (seen_by_seat j.at.seat)) j.session j.number j.stage) t.1
           (record { known = λ z. mine ((c.new.ensures.1 ∙ session_is) z) base damaged (seen_is z); session_is = session_is; round_is = refl; stage_is = λ z. Ready (same z) (st_is z) }))
           (get_snoc at.jobs.items _ job k (ap (λ l. slice_get l k) (sym items) ∙ e));
     }

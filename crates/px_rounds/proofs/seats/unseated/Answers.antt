@@ -2,7 +2,7 @@ use Rattle.std.proofs.Common.{rules, ◌≡◌, ◌∙◌, ◌+◌, ◌<◌, fal
 use Rattle.std.specs.Prelude.{slice_get}
 use Rattle.px_reply.specs.declared.transcript.Transcript.{Transcript}
 use Rattle.px_session.specs.declared.state.SessionState.{SessionState}
-use Rattle.px_turn.specs.Seats.{IsSeat, number, seen as list_seen}
+use Rattle.px_turn.specs.Seats.{IsSeat, seat_number, seen_by_seat}
 use Rattle.px_rounds.specs.declared.job.Stage.{Stage}
 use Rattle.px_rounds.specs.declared.job.Stage.TheVariants.{Over}
 use Rattle.px_rounds.specs.inner.Jobs.{IsTaken}
@@ -26,7 +26,7 @@ loop-jobs-init g c =
       idle = ap (λ l. slice_get l 0) one;
       seats = λ k seat e. ⊎_elim
           (λ was. let low = get_lt [] seat k was in absurd (omega arith))
-          (λ t. subst (λ s. IsSeat g.N.LockNamed.name s × (number s ≡ k)) t.1 (c.requires.idle.0, c.requires.idle.1 ∙ sym t.0))
+          (λ t. subst (λ s. IsSeat g.N.LockNamed.name s × (seat_number s ≡ k)) t.1 (c.requires.idle.0, c.requires.idle.1 ∙ sym t.0))
           (get_snoc [] c.args.idle seat k (ap (λ l. slice_get l k) (sym one) ∙ e));
       seen = λ k job seat f e. let low : k + 1 < 1 = get_lt (c.args.idle ∷ []) seat (k + 1) (ap (λ l. slice_get l (k + 1)) (sym one) ∙ e) in absurd (omega arith);
       each = λ k job t st f e d. let low = get_lt [] t k (ap (λ l. slice_get l k) (sym none) ∙ e) in absurd (omega arith);
@@ -69,14 +69,14 @@ loop-jobs-preserved g c =
       idle = ap (λ l. slice_get l 0) items ∙ get_before at.seats.items (c.seat.result ∷ []) 0 _ i.idle;
       seats = λ k seat e. ⊎_elim
           (λ was. i.seats k seat was)
-          (λ t. subst (λ s. IsSeat g.N.LockNamed.name s × (number s ≡ k)) t.1 (c.seat.ensures.is_seat.0, c.seat.ensures.is_seat.1 ∙ (id_is ∙ (sym i.count ∙ sym t.0))))
+          (λ t. subst (λ s. IsSeat g.N.LockNamed.name s × (seat_number s ≡ k)) t.1 (c.seat.ensures.is_seat.0, c.seat.ensures.is_seat.1 ∙ (id_is ∙ (sym i.count ∙ sym t.0))))
           (get_snoc at.seats.items c.seat.result seat k (ap (λ l. slice_get l k) (sym items) ∙ e));
       seen = λ k j seat f e. ⊎_elim
           (λ was. i.seen k j seat f was)
           (λ (p : (k + 1 ≡ length at.seats.items) × (c.seat.result ≡ seat)).
           let place : n ≡ k = (let len = i.count in let same = p.0 in omega arith) in
           let job_is : job ≡ j = some_same job j (sym here ∙ (ap (slice_get c.args.jobs.items) place ∙ f)) in
-          ap list_seen (sym p.1 ∙ c.seat.ensures.same) ∙ ap (λ x. list_seen x.at.seat) job_is)
+          ap seen_by_seat (sym p.1 ∙ c.seat.ensures.same) ∙ ap (λ x. seen_by_seat x.at.seat) job_is)
           (get_snoc at.seats.items c.seat.result seat (k + 1) (ap (λ l. slice_get l (k + 1)) (sym items) ∙ e));
       each = λ k j t s f e d. ⊎_elim
           (λ was. ⊎_elim

@@ -2,7 +2,7 @@ use Rattle.std.proofs.Common.{rules, ◌≡◌, ◌≤◌, ◌∙◌, ◌++◌, 
 use Rattle.std.specs.Prelude.{vec_capacity}
 use Rattle.px_trail.specs.declared.entry.Entry.{Entry}
 use Rattle.px_turn.specs.Lists.{GrownBelow, GrownByOthers}
-use Rattle.px_turn.specs.Seats.{number, seen as list_seen}
+use Rattle.px_turn.specs.Seats.{seat_number, seen_by_seat}
 use Rattle.px_seat.proofs.Grows.{if_err, if_ok}
 use Rattle.px_seat.proofs.Lists.{seat_of}
 use Rattle.px_rounds.specs.inner.Desks.{AreCut}
@@ -53,7 +53,7 @@ returns-clause-round g c =
     seating.seats_round sound base damaged k k' _ c.args.number states round pieces seats told.transcripts.items told.states.items told.lacked (search rules)
     (subst (λ (l : List Entry). SeatsTold sound base damaged l c.args.number states pieces seats told.transcripts.items told.states.items told.lacked) first h)
     c.run_seats-seats.ensures.seats c.into_core-2.ensures.owned below
-    (λ n seat e. subst (λ (l : List Entry). GrownByOthers seat_of (number seat) (list_seen seat) l) at_close (c.close.ensures.seen n seat e)))
+    (λ n seat e. subst (λ (l : List Entry). GrownByOthers seat_of (seat_number seat) (seen_by_seat seat) l) at_close (c.close.ensures.seen n seat e)))
     c.run_seats-seats.ensures.told
 
 pub returns-clause-none : goal.returns-clause-none
@@ -70,6 +70,6 @@ returns-clause-none g c =
     if_err _ _ c.run_seats-seats.result.1
     (λ back h. (
       h.0,
-      seating.none_added k.seen k'.seen _ seats c.run_seats-seats.ensures.seats (λ n seat e. h.1 n seat e ∙ first) below (λ n seat e. subst (λ (l : List Entry). GrownByOthers seat_of (number seat) (list_seen seat) l) at_close (c.close.ensures.seen n seat e)),
+      seating.none_added k.seen k'.seen _ seats c.run_seats-seats.ensures.seats (λ n seat e. h.1 n seat e ∙ first) below (λ n seat e. subst (λ (l : List Entry). GrownByOthers seat_of (seat_number seat) (seen_by_seat seat) l) at_close (c.close.ensures.seen n seat e)),
     ))
     c.run_seats-seats.ensures.none

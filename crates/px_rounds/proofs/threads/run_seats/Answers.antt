@@ -1,6 +1,6 @@
 use Rattle.std.proofs.Common.{◌≡◌, ◌∙◌, ◌+◌, length, refl, sym, ap, arith, length-drop}
 use Rattle.std.specs.Prelude.{slice_get}
-use Rattle.px_turn.specs.Seats.{seen as list_seen}
+use Rattle.px_turn.specs.Seats.{seen_by_seat}
 use Rattle.px_seat.specs.Grown.{mine}
 use Rattle.px_rounds.proofs.Lists.{front_is, get_lt, get_some, some_same}
 use Rattle.px_rounds.proofs.Places.{get_rest}
@@ -34,7 +34,7 @@ run_all-requires-clause-ready g c = λ κs bounds i job e.
     let low = get_lt c.seated-jobs.result.items job i e in
     let st = get_some c.args.states.items i (omega arith) in
     let p = get_some c.args.lists.pieces.items i (omega arith) in
-    can_run base damaged start c.args.number (i + 1) st.0 p.0 (mine job.at.id base damaged (list_seen job.at.seat)) job.session job.number job.stage (c.requires.lists.placed i p.0 p.1) (c.seated-jobs.ensures.each i job st.0 p.0 e st.1 p.1)
+    can_run base damaged start c.args.number (i + 1) st.0 p.0 (mine job.at.id base damaged (seen_by_seat job.at.seat)) job.session job.number job.stage (c.requires.lists.placed i p.0 p.1) (c.seated-jobs.ensures.each i job st.0 p.0 e st.1 p.1)
 
 pub unseated-seats-requires-clause-idle : goal.unseated-seats-requires-clause-idle
 unseated-seats-requires-clause-idle g c =
@@ -58,8 +58,8 @@ unseated-seats-requires-clause-jobs g c =
           let old = get_some c.seated-jobs.result.items i (omega arith) in
           let st = get_some c.args.states.items i (omega arith) in
           let p = get_some c.args.lists.pieces.items i (omega arith) in
-          let k = mine old.0.at.id base damaged (list_seen old.0.at.seat) in
-          let k' = mine job.at.id base damaged (list_seen job.at.seat) in
+          let k = mine old.0.at.id base damaged (seen_by_seat old.0.at.seat) in
+          let k' = mine job.at.id base damaged (seen_by_seat job.at.seat) in
           keeps_seat g.S.Steps.sound base damaged start c.args.number (i + 1) st.0 p.0 k k' old.0.session old.0.number old.0.stage job.stage (c.seated-jobs.ensures.each i old.0 st.0 p.0 old.1 st.1 p.1) (c.run_all.ensures.each i old.0 job old.1 e),
     )
 
@@ -108,16 +108,16 @@ returns-clause-told g c =
       count = omega arith;
       count' = omega arith;
       count'' = omega arith;
-      idle = λ seat e. ap list_seen (some_same seat c.remove-idle.result (sym e ∙ back.idle)) ∙ c.requires.seen 0 c.remove-idle.result idle_is;
+      idle = λ seat e. ap seen_by_seat (some_same seat c.remove-idle.result (sym e ∙ back.idle)) ∙ c.requires.seen 0 c.remove-idle.result idle_is;
       each = λ i st p seat t st' est ep es et est'.
           let low = get_lt c.args.states.items st i est in
           let new = get_some c.run_all.new.jobs.items i (omega arith) in
           let old = get_some c.seated-jobs.result.items i (omega arith) in
-          let k = mine old.0.at.id base damaged (list_seen old.0.at.seat) in
-          let k' = mine new.0.at.id base damaged (list_seen new.0.at.seat) in
+          let k = mine old.0.at.id base damaged (seen_by_seat old.0.at.seat) in
+          let k' = mine new.0.at.id base damaged (seen_by_seat new.0.at.seat) in
           let set = c.seated-jobs.ensures.each i old.0 st p old.1 est ep in
           let one = c.run_all.ensures.each i old.0 new.0 old.1 new.1 in
           let id : new.0.at.id ≡ i + 1 = keeps_seat sound base damaged start c.args.number (i + 1) st p k k' old.0.session old.0.number old.0.stage new.0.stage set one in
           let last = back.each i new.0 seat t st' new.1 es et est' in
-          seat_told sound base damaged start (list_seen seat) c.args.number (i + 1) st p k k' old.0.session old.0.number old.0.stage new.0.stage t st' told.lacked set one (λ z. mine (id z) base damaged (sym last.0 z)) last.1;
+          seat_told sound base damaged start (seen_by_seat seat) c.args.number (i + 1) st p k k' old.0.session old.0.number old.0.stage new.0.stage t st' told.lacked set one (λ z. mine (id z) base damaged (sym last.0 z)) last.1;
     }

@@ -3,7 +3,7 @@ use Rattle.std.proofs.lemmas.Option.{slice_get-get_or}
 use Rattle.std.proofs.Crossing.{crosses}
 use denote.Param.Send.{sendable}
 use Rattle.px_calls.specs.Known.{Known}
-use Rattle.px_session.specs.Live.{IsLive}
+use Rattle.px_session.specs.Live.{IsSessionLive}
 use Rattle.px_rounds.proofs.Lists.{get_some}
 use Rattle.px_rounds.proofs.Turning as turning
 use Rattle.px_rounds.proofs.turns.turn.Goals as goal
@@ -14,7 +14,7 @@ step-requires g c =
     let at = slice_get-get_or c.args.runs.now c.args.place c.index-runs-place.result c.requires.place.0 in
     let live = c.requires.live in
     let st = get_some live.0 c.args.place (let n = live.1.count in let low = c.requires.place.0 in omega arith) in
-    (search (sendable, crosses) depth 40, (st.0, subst (λ (k : Known). IsLive g.S.Steps.sound k st.0 run) (sym c.act_as.ensures) (live.1.each c.args.place st.0 run st.1 at)))
+    (search (sendable, crosses) depth 40, (st.0, subst (λ (k : Known). IsSessionLive g.S.Steps.sound k st.0 run) (sym c.act_as.ensures) (live.1.each c.args.place st.0 run st.1 at)))
 
 pub returns : goal.returns
 returns g c =

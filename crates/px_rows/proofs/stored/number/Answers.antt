@@ -1,12 +1,12 @@
 use Rattle.std.proofs.Common.{◌≡◌, ◌<◌, ◌+◌, ◌*◌, ◌∙◌, length, take, take_all, ℕ, refl, ap, arith}
 use Rattle.std.proofs.lemmas.List.{length-take-le}
 use Rattle.px_keys.proofs.DigitReading.{small_more, no_overflow}
-use Rattle.px_rows.specs.Stored.{number_of}
+use Rattle.px_rows.specs.Stored.{number_of_bytes}
 use Rattle.px_rows.proofs.Numbers.{number_more, byte_in, taken}
 use Rattle.px_rows.proofs.stored.number.Goals as goal
 
 pub loop-byte-init : goal.loop-byte-init
-unfolding number_of
+unfolding number_of_bytes
 loop-byte-init c =
     let m = c.min.ensures in
     let l : length (take c.min.result c.args.bytes.now) ≡ c.min.result = length-take-le c.min.result c.args.bytes.now (omega arith) in
@@ -44,4 +44,4 @@ returns c =
     let i = c.loop-byte.invariant in
     let t = c.loop-byte-test.false in
     let m = c.min.ensures in
-    i.read ∙ ap (number_of 0) (take_all c.loop-byte.byte-index (take c.min.result c.args.bytes.now) t ∙ taken c.args.bytes.now c.args.width c.min.result m)
+    i.read ∙ ap (number_of_bytes 0) (take_all c.loop-byte.byte-index (take c.min.result c.args.bytes.now) t ∙ taken c.args.bytes.now c.args.width c.min.result m)

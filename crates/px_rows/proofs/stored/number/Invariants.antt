@@ -1,5 +1,5 @@
 use Rattle.std.proofs.Common.{◌≡◌, ◌≤◌, ◌<◌, ◌^◌, take, length}
-use Rattle.px_rows.specs.Stored.{number_of}
+use Rattle.px_rows.specs.Stored.{number_of_bytes}
 use Rattle.px_rows.proofs.stored.number.Given as goal
 
 abbrev pub invariant-loop-byte : goal.invariant-loop-byte
@@ -7,5 +7,5 @@ invariant-loop-byte l = record {
   within : l.byte-index ≤ length l.first;
   short : length l.first ≤ 8;
   small : l.number < 256 ^ l.byte-index;
-  read : l.number ≡ number_of 0 (take l.byte-index l.first);
+  read : l.number ≡ number_of_bytes 0 (take l.byte-index l.first);
 }

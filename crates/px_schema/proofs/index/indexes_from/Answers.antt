@@ -1,6 +1,6 @@
 use Rattle.std.proofs.Common.{◌+◌, ◌++◌, ◌∷◌, [], subst, sym, ◌∙◌}
 use Rattle.px_pieces.specs.Chains.{repeat}
-use Rattle.px_pieces.specs.Taking.{IsTaken}
+use Rattle.px_pieces.specs.Taking.{IsTakenAt}
 use Rattle.px_schema.specs.Format.{index, no_index}
 use Rattle.px_schema.proofs.ListSteps.{Way, pushed, so_many_done, so_many_fault, so_many_more, so_many_none}
 use Rattle.px_schema.proofs.index.indexes_from.Goals as goal
@@ -17,5 +17,5 @@ loop-taken-preserved c =
     (so_many_more no_index (index c.args.tables.now) c.args.bytes.now c.args.count c.args.at c.loop-taken.list.items c.loop-taken._taken c.loop-taken.end c.in-Ok.index c.in-Ok.behind c.loop-taken-test.true c.loop-taken.invariant c.in-Ok.ensures)
 
 pub returns : goal.returns
-returns c = subst (λ l. IsTaken (repeat no_index (index c.args.tables.now) c.args.count) c.args.bytes.now c.args.at l c.loop-taken.end) (sym c.of.ensures)
+returns c = subst (λ l. IsTakenAt (repeat no_index (index c.args.tables.now) c.args.count) c.args.bytes.now c.args.at l c.loop-taken.end) (sym c.of.ensures)
     (so_many_done no_index (index c.args.tables.now) c.args.bytes.now c.args.count c.args.at c.loop-taken.list.items c.loop-taken._taken c.loop-taken.end c.loop-taken-test.false c.loop-taken.invariant)

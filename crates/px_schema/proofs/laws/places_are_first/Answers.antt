@@ -1,5 +1,5 @@
 use Rattle.px_pieces.specs.Reading.{reading_wrong}
-use Rattle.px_schema.specs.Format.{index, index_full, standing, standing_full, table, table_full}
+use Rattle.px_schema.specs.Format.{index, index_full, standing_full, standing_piece, table, table_full}
 use Rattle.px_schema.proofs.laws.places_are_first.Goals as goal
 
 pub returns-clause-table : goal.returns-clause-table
@@ -15,7 +15,7 @@ pub returns-clause-index_full : goal.returns-clause-index_full
 returns-clause-index_full c = index_full
 
 pub returns-clause-snapshot : goal.returns-clause-snapshot
-returns-clause-snapshot c = reading_wrong standing
+returns-clause-snapshot c = reading_wrong standing_piece
 
 pub returns-clause-snapshot_full : goal.returns-clause-snapshot_full
 returns-clause-snapshot_full c = standing_full

@@ -1,16 +1,16 @@
 use Rattle.std.proofs.Common.{◌+◌}
 use Rattle.px_pieces.specs.Bytes.{one_byte}
-use Rattle.px_schema.specs.Parts.{column, columns, no_column, some_count}
+use Rattle.px_schema.specs.Parts.{blank_column, column_piece, columns_piece, some_count}
 use Rattle.px_schema.proofs.Joins.{exit_wrong}
 use Rattle.px_schema.proofs.ListSteps.{listed_reads, listed_stopped}
 use Rattle.px_schema.proofs.list.columns_in.Goals as goal
 
 pub returns-in_err-count : goal.returns-in_err-count
-unfolding columns some_count
+unfolding columns_piece some_count
 returns-in_err-count c =
-    exit_wrong (columns) c.args.bytes.now c.args.at c.from_residual.result c.in_err-count.field-0.0.place c.from_residual.ensures.1
-    (listed_stopped no_column (column) (one_byte 1 256) c.args.bytes.now c.args.at c.in_err-count.field-0.0.place c.in_err-count.ensures.stopped)
+    exit_wrong (columns_piece) c.args.bytes.now c.args.at c.from_residual.result c.in_err-count.field-0.0.place c.from_residual.ensures.1
+    (listed_stopped blank_column (column_piece) (one_byte 1 256) c.args.bytes.now c.args.at c.in_err-count.field-0.0.place c.in_err-count.ensures.stopped)
 
 pub returns : goal.returns
-unfolding columns some_count
-returns c = listed_reads no_column (column) (one_byte 1 256) c.args.bytes.now c.args.at c.in_ok-count.count (c.args.at + 1) c.columns_from.result c.in_ok-count.ensures.taken c.columns_from.ensures
+unfolding columns_piece some_count
+returns c = listed_reads blank_column (column_piece) (one_byte 1 256) c.args.bytes.now c.args.at c.in_ok-count.count (c.args.at + 1) c.columns_from.result c.in_ok-count.ensures.taken c.columns_from.ensures

@@ -1,6 +1,6 @@
 use Rattle.std.proofs.Common.{◌+◌, ◌++◌, ◌∷◌, [], subst, sym, ◌∙◌}
 use Rattle.px_pieces.specs.Chains.{repeat}
-use Rattle.px_pieces.specs.Taking.{IsTaken}
+use Rattle.px_pieces.specs.Taking.{IsTakenAt}
 use Rattle.px_schema.specs.declared.fault.DefFault.TheVariants.{NotADefinition}
 use Rattle.px_schema.specs.Parts.{place}
 use Rattle.px_schema.proofs.Joins.{exit_wrong}
@@ -21,5 +21,5 @@ loop-taken-preserved c =
     (so_many_more 0 (place c.args.columns) c.args.bytes.now c.args.count c.args.at c.loop-taken.list.items c.loop-taken._taken c.loop-taken.end c.in_ok-place.place (c.loop-taken.end + 1) c.loop-taken-test.true c.loop-taken.invariant c.in_ok-place.ensures.taken)
 
 pub returns : goal.returns
-returns c = subst (λ l. IsTaken (repeat 0 (place c.args.columns) c.args.count) c.args.bytes.now c.args.at l c.loop-taken.end) (sym c.of.ensures)
+returns c = subst (λ l. IsTakenAt (repeat 0 (place c.args.columns) c.args.count) c.args.bytes.now c.args.at l c.loop-taken.end) (sym c.of.ensures)
     (so_many_done 0 (place c.args.columns) c.args.bytes.now c.args.count c.args.at c.loop-taken.list.items c.loop-taken._taken c.loop-taken.end c.loop-taken-test.false c.loop-taken.invariant)

@@ -1,6 +1,6 @@
 use Rattle.std.proofs.Common.{◌-◌, ◌+◌, ◌++◌, ◌∷◌, [], ℕ, List, subst, sym, ◌∙◌, arith}
 use Rattle.px_tables.specs.declared.table.TableRegion.{TableRegion}
-use Rattle.px_pieces.specs.Taking.{IsPartWay, IsTaken}
+use Rattle.px_pieces.specs.Taking.{IsPartWay, IsTakenAt}
 use Rattle.px_schema.specs.Parts.{no_region, region, regions_from}
 use Rattle.px_schema.proofs.ListSteps.{pushed, way_done, way_fault, way_more, way_none}
 use Rattle.px_schema.proofs.list.regions_from_place.Goals as goal
@@ -28,5 +28,5 @@ loop-taken-preserved c = (
 
 pub returns : goal.returns
 unfolding regions_from
-returns c = subst (λ l. IsTaken (regions_from 0 c.args.count) c.args.bytes.now c.args.at l c.loop-taken.end) (sym c.of.ensures)
+returns c = subst (λ l. IsTakenAt (regions_from 0 c.args.count) c.args.bytes.now c.args.at l c.loop-taken.end) (sym c.of.ensures)
     (way_done no_region (λ (left most : ℕ). region most) (λ most r. 65535) c.args.bytes.now c.args.count 0 c.args.at c.loop-taken.list.items c.loop-taken._taken c.loop-taken.most c.loop-taken.end c.loop-taken-test.false c.loop-taken.invariant.0)

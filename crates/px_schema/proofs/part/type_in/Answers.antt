@@ -1,11 +1,11 @@
-use Rattle.px_schema.specs.Parts.{column_type, type_of, type_same}
+use Rattle.px_schema.specs.Parts.{column_type_piece, type_of, type_same}
 use Rattle.px_schema.proofs.Joins.{exit_stopped}
 use Rattle.px_schema.proofs.PartSteps.{type_stopped, type_taken}
 use Rattle.px_schema.proofs.part.type_in.Goals as goal
 
 pub returns-in_err-code-clause-stopped : goal.returns-in_err-code-clause-stopped
 returns-in_err-code-clause-stopped c =
-    exit_stopped column_type c.args.bytes.now c.args.at c.from_residual.result c.in_err-code.field-0.0 c.from_residual.ensures.1 (type_stopped c.args.bytes.now c.args.at c.in_err-code.field-0.0.place c.in_err-code.ensures.stopped)
+    exit_stopped column_type_piece c.args.bytes.now c.args.at c.from_residual.result c.in_err-code.field-0.0 c.from_residual.ensures.1 (type_stopped c.args.bytes.now c.args.at c.in_err-code.field-0.0.place c.in_err-code.ensures.stopped)
 
 pub unreachable-requires : goal.unreachable-requires
 unreachable-requires c =

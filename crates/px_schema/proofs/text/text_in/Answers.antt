@@ -1,6 +1,6 @@
 use Rattle.std.proofs.Common.{◌≡◌, ◌+◌, ◌-◌, ℕ, take, drop, subst, sym, ap, ◌∙◌, arith}
 use Rattle.std.specs.Str.{IsUtf8}
-use Rattle.px_pieces.specs.Taking.{IsTaken}
+use Rattle.px_pieces.specs.Taking.{IsTakenAt}
 use Rattle.px_schema.specs.Texts.{CharState, text}
 use Rattle.px_schema.specs.Underway.{state_in}
 use Rattle.px_schema.proofs.Characters.{text_utf8}
@@ -36,4 +36,4 @@ pub returns-clause-taken : goal.returns-clause-taken
 returns-clause-taken c =
     let done = text_done c.args.size c.args.bytes.now c.args.at c.loop-taken.taken (state_in c.loop-taken.under_way) (omega (arith, c.loop-taken-test.false, c.loop-taken.auto.taken-end)) c.loop-taken.invariant in
     let same : c.args.size ≡ c.args.at + c.args.size - c.args.at = omega arith in
-    subst (λ l. IsTaken (text c.args.size) c.args.bytes.now c.args.at l (c.args.at + c.args.size)) (ap (λ (n : ℕ). take n (drop c.args.at c.args.bytes.now)) same ∙ sym c.from_utf8_unchecked.ensures) done
+    subst (λ l. IsTakenAt (text c.args.size) c.args.bytes.now c.args.at l (c.args.at + c.args.size)) (ap (λ (n : ℕ). take n (drop c.args.at c.args.bytes.now)) same ∙ sym c.from_utf8_unchecked.ensures) done

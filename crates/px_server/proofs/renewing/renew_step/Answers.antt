@@ -2,7 +2,7 @@ use Rattle.std.proofs.Common.{rules, ◌≡◌, ◌<◌, ◌-◌, ◌+◌, ◌�
 use Rattle.std.specs.Prelude.{not}
 use Rattle.px_schema.specs.Spelled.{standing_bytes}
 use Rattle.px_schema.specs.declared.standing.Standing.{Standing}
-use Rattle.px_catalog.specs.Catalogue.{IsFull, generation_of, room_of, standing_of, steps_left}
+use Rattle.px_catalog.specs.Catalogue.{IsCatalogueFull, catalogue_steps_left, generation_of, room_of_catalogue, standing_of}
 use Rattle.px_catalog.specs.declared.catalog.Catalog.{Catalog}
 use Rattle.px_server.specs.inner.Renewing.{IsFilled}
 use Rattle.px_server.proofs.renewing.renew_step.Goals as goal
@@ -14,8 +14,8 @@ longer : (n : ℕ) → 67108841 < n → 67076074 < n
 longer n more = omega arith
 
 -- behind the last step it is full only by what stands
-filled : (old new : Catalog) → standing_of new ≡ standing_of old → 1 < steps_left new → room_of new ≡ 67108864 - (22 + length (standing_bytes (standing_of old))) → IsFull new → IsFilled new
-filled old new same more room (inl few) = inr (subst (λ (s : Standing). 67076074 < length (standing_bytes s)) (sym same) (long (room_of new) (length (standing_bytes (standing_of old))) room few))
+filled : (old new : Catalog) → standing_of new ≡ standing_of old → 1 < catalogue_steps_left new → room_of_catalogue new ≡ 67108864 - (22 + length (standing_bytes (standing_of old))) → IsCatalogueFull new → IsFilled new
+filled old new same more room (inl few) = inr (subst (λ (s : Standing). 67076074 < length (standing_bytes s)) (sym same) (long (room_of_catalogue new) (length (standing_bytes (standing_of old))) room few))
 filled old new same more room (inr laid) = absurd (omega (arith, more, laid))
 
 stays_filled : (c : Catalog) → (generation_of c ≡ 18446744073709551615) ⊎ (67108841 < length (standing_bytes (standing_of c))) → IsFilled c

@@ -1,6 +1,6 @@
 use Rattle.std.proofs.Common.{◌≡◌, ◌<◌, arith, length, ◌++◌, List, sym, ap, ◌∙◌, subst}
 use Rattle.px_turn.specs.Lists.{own}
-use Rattle.px_turn.specs.Seats.{number, seen}
+use Rattle.px_turn.specs.Seats.{seat_number, seen_by_seat}
 use Rattle.px_tally.specs.declared.tally.Mark.{Mark}
 use Rattle.px_tally.specs.Marks.{marks, seat_of}
 use Rattle.px_turn.proofs.Places.{get_lt, get_some}
@@ -16,7 +16,7 @@ taken_back-seats-requires-clause-jobs g c =
           let ran = c.run_all.ensures.each k old.0 job old.1 e in (
             ap (λ l. l.now) ran.0 ∙ made.0,
             ran.1 ∙ made.1,
-            λ whole. ap (λ x. own seat_of x (seen job.seat)) (sym made.1) ∙ ran.2 whole ∙ ap (λ (l : List Mark). own seat_of (number old.0.seat) l ++ marks (number old.0.seat) c.args.times) made.2 ∙ ap (λ x. marks x c.args.times) made.1,
+            λ whole. ap (λ x. own seat_of x (seen_by_seat job.seat)) (sym made.1) ∙ ran.2 whole ∙ ap (λ (l : List Mark). own seat_of (seat_number old.0.seat) l ++ marks (seat_number old.0.seat) c.args.times) made.2 ∙ ap (λ x. marks x c.args.times) made.1,
           ),
     )
 
@@ -28,4 +28,4 @@ returns-then-all_whole-clause-each g c =
     let seat = get_some c.taken_back-seats.result.0.items k (omega arith) in
     let end = (c.close-tally.ensures.seen k seat.0 seat.1).1 in
     let is = (back.seats.1 k seat.0 seat.1).1 in
-    ap (λ x. own seat_of x c.close-tally.result.marks.items) (sym is) ∙ end ∙ ap (λ x. own seat_of x (seen seat.0)) is ∙ back.whole c.if-all_whole.true k seat.0 seat.1
+    ap (λ x. own seat_of x c.close-tally.result.marks.items) (sym is) ∙ end ∙ ap (λ x. own seat_of x (seen_by_seat seat.0)) is ∙ back.whole c.if-all_whole.true k seat.0 seat.1

@@ -1,7 +1,7 @@
 use Rattle.std.proofs.Common.{rules, ◌≡◌, ℕ, ◌+◌, [], ◌∷◌, ◌++◌, length, sym, ap, ◌∙◌, ⊎_elim, arith, append_assoc, length-append}
 use Rattle.std.specs.Prelude.{slice_get}
 use Rattle.std.specs.Vec.Iter.{into_iter_items}
-use Rattle.px_turn.specs.Seats.{number, seen}
+use Rattle.px_turn.specs.Seats.{seat_number, seen_by_seat}
 use Rattle.px_tally.specs.declared.many.Job.{Job}
 use Rattle.px_turn.proofs.Places.{get_at, get_snoc}
 use Rattle.px_tally.proofs.many.opened.Goals as goal
@@ -37,6 +37,6 @@ loop-seat-preserved c =
       search rules,
       λ k job e. ⊎_elim
           (λ was. i.4 k job was)
-          (λ t. (ap (λ (j : Job). j.lock.now) (sym t.1), ap (λ (j : Job). number j.seat) (sym t.1) ∙ known.1 ∙ sym i.2 ∙ sym t.0, ap (λ (j : Job). seen j.seat) (sym t.1) ∙ empty))
+          (λ t. (ap (λ (j : Job). j.lock.now) (sym t.1), ap (λ (j : Job). seat_number j.seat) (sym t.1) ∙ known.1 ∙ sym i.2 ∙ sym t.0, ap (λ (j : Job). seen_by_seat j.seat) (sym t.1) ∙ empty))
           (get_snoc at.jobs.items _ job k (ap (λ l. slice_get l k) (sym items) ∙ e)),
     )

@@ -1,7 +1,7 @@
 use Rattle.std.proofs.Common.{rules, ◌≡◌, ℕ, ◌+◌, ◌<◌, [], ◌∷◌, length, drop, sym, ap, ◌∙◌, subst, ⊎_elim, arith, length-append}
 use Rattle.std.specs.Prelude.{slice_get}
 use Rattle.px_turn.specs.Lists.{own}
-use Rattle.px_turn.specs.Seats.{IsSeat, name_of, number, seen}
+use Rattle.px_turn.specs.Seats.{IsSeat, name_of, seat_number, seen_by_seat}
 use Rattle.px_tally.specs.Marks.{marks, seat_of}
 use Rattle.px_turn.proofs.Places.{get_snoc, drop_one, front_is}
 use Rattle.px_tally.proofs.Pairs.{and_both}
@@ -26,12 +26,12 @@ loop-jobs-preserved c =
       search rules,
       (λ k seat e. ⊎_elim
           (λ was. i.3 k seat was)
-          (λ t. subst (λ s. IsSeat (name_of c.args.lock.now) s × (number s ≡ k)) t.1 (new_seat, known.1 ∙ sym t.0))
+          (λ t. subst (λ s. IsSeat (name_of c.args.lock.now) s × (seat_number s ≡ k)) t.1 (new_seat, known.1 ∙ sym t.0))
           (get_snoc at.seats.items job.seat seat k (ap (λ l. slice_get l k) (sym items) ∙ e))),
       λ all k seat e.
           let both = and_both at.all_whole job.whole all in
           ⊎_elim
           (λ was. i.4 both.0 k seat was)
-          (λ (t : (k ≡ n) × (job.seat ≡ seat)). ap (λ s. own seat_of k (seen s)) (sym t.1) ∙ ap (λ (x : ℕ). own seat_of x (seen job.seat)) t.0 ∙ known.2 both.1 ∙ ap (λ (x : ℕ). marks x c.args.times) (sym t.0))
+          (λ (t : (k ≡ n) × (job.seat ≡ seat)). ap (λ s. own seat_of k (seen_by_seat s)) (sym t.1) ∙ ap (λ (x : ℕ). own seat_of x (seen_by_seat job.seat)) t.0 ∙ known.2 both.1 ∙ ap (λ (x : ℕ). marks x c.args.times) (sym t.0))
           (get_snoc at.seats.items job.seat seat k (ap (λ l. slice_get l k) (sym items) ∙ e)),
     )

@@ -3,7 +3,7 @@ use Rattle.rayon.specs.Lists.{vec_items}
 use Rattle.px_calls.specs.declared.query.BaseRow.{BaseRow}
 use Rattle.px_calls.specs.declared.query.FoundKey.{FoundKey}
 use Rattle.px_upkeep.specs.declared.rows.RowsFault.TheVariants.{TooLong}
-use Rattle.px_upkeep.specs.Rows.{ArePieces, HasLongIn}
+use Rattle.px_upkeep.specs.Rows.{ArePieces, HasLongChunk}
 use Rattle.px_upkeep.proofs.Making.{all-made, one-long}
 use Rattle.px_upkeep.proofs.rows.base_pieces.Goals as goal
 
@@ -23,5 +23,5 @@ returns-in-Ok-Err-clause-too_long g c =
     let from : chain.0 ≡ c.args.chunks = chain.1 ∙ (λ j. vec_items (c.with_min_len.ensures.base j)) ∙ c.into_par_iter.ensures ∙ c.into_vec.ensures in
     λ e.
     let is : c.in-Ok-Err.fault ≡ TooLong = cc in
-    let long : HasLongIn c.args.columns.now chain.0 = one-long c.args.table.now c.args.keys.now c.args.columns.now chain.0 h.0 c.in-Ok-Err.fault chain.2 h.2 is in
-    subst (λ (cs : List (List FoundKey)). HasLongIn c.args.columns.now cs) from long
+    let long : HasLongChunk c.args.columns.now chain.0 = one-long c.args.table.now c.args.keys.now c.args.columns.now chain.0 h.0 c.in-Ok-Err.fault chain.2 h.2 is in
+    subst (λ (cs : List (List FoundKey)). HasLongChunk c.args.columns.now cs) from long

@@ -1,7 +1,7 @@
 use Rattle.std.proofs.Common.{rules, arith, ◌≡◌, [], Err, List, length, sym, subst}
 use Rattle.std.specs.Vec.Iter.{into_iter_items}
 use Rattle.px_calls.specs.declared.query.BaseRow.{BaseRow}
-use Rattle.px_upkeep.specs.Rows.{AreBaseRows}
+use Rattle.px_upkeep.specs.Rows.{AreBasesOf}
 use Rattle.px_upkeep.specs.declared.rows.RowsFault.TheVariants.{TooLong}
 use Rattle.px_upkeep.proofs.Keeping.{keeps-all, keeps-long, keeps-one, no-length}
 use Rattle.px_upkeep.proofs.rows.base_rows.Goals as goal
@@ -18,4 +18,4 @@ pub returns-clause-ok : goal.returns-clause-ok
 returns-clause-ok c =
     let z : length (into_iter_items c.loop-key.key-iterator) ≡ 0 = (let e = c.in-None.ensures.steps.0 in omega (arith, e)) in
     let none : into_iter_items c.loop-key.key-iterator ≡ [] = no-length (into_iter_items c.loop-key.key-iterator) z in
-    subst (λ (l : List BaseRow). AreBaseRows c.args.table.now c.args.keys.now c.args.columns.now c.args.found l) (sym c.of.ensures) (keeps-all c.args.table.now c.args.keys.now c.args.columns.now c.args.found _ _ none c.loop-key.invariant)
+    subst (λ (l : List BaseRow). AreBasesOf c.args.table.now c.args.keys.now c.args.columns.now c.args.found l) (sym c.of.ensures) (keeps-all c.args.table.now c.args.keys.now c.args.columns.now c.args.found _ _ none c.loop-key.invariant)

@@ -5,7 +5,7 @@ use Rattle.px_verifying.proofs.Stepping.{define-on, define-refused, define-then,
 use Rattle.px_verifying.proofs.machine.define.Goals as goal
 
 pub step-requires-clause-fits : goal.step-requires-clause-fits
-step-requires-clause-fits g c = let j = c.requires.2.is.1.defining in subst (λ (y : Definition). define.Fits g.S.Steps.sound y c.args.run.state (g.S.Steps.known c.args.s.now)) (sym j.0) j.1
+step-requires-clause-fits g c = let j = c.requires.2.is.1.defining in subst (λ (y : Definition). define.FitsDefinition g.S.Steps.sound y c.args.run.state (g.S.Steps.known c.args.s.now)) (sym j.0) j.1
 
 pub step-requires-clause-going : goal.step-requires-clause-going
 step-requires-clause-going g c = c.requires.2.is.1.defining.2

@@ -8,7 +8,7 @@ use Rattle.px_verifying.proofs.machine.report_after.Goals as goal
 pub step-requires-clause-fits : goal.step-requires-clause-fits
 step-requires-clause-fits g c =
     let j = c.requires.2.is.1 in
-    let F : TableId × IndexId → Type 0 = λ q. report.Fits g.S.Steps.sound q.0 q.1 c.args.run.state (g.S.Steps.known c.args.s.now) in
+    let F : TableId × IndexId → Type 0 = λ q. report.FitsReport g.S.Steps.sound q.0 q.1 c.args.run.state (g.S.Steps.known c.args.s.now) in
     subst F (λ i. (sym j.table i, sym j.index i)) j.fits
 
 pub step-requires-clause-going : goal.step-requires-clause-going

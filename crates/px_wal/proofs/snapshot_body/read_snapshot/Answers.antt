@@ -1,7 +1,7 @@
 use Rattle.std.proofs.Common.{rules, ◌≡◌, ◌∷◌, ◌++◌, ◌∙◌, [], ap, sym, refl, ℕ, Some, get_or, length}
 use Rattle.std.specs.Prelude.{map}
 use Rattle.std.proofs.lemmas.List.{length-map}
-use Rattle.px_wal.specs.Snapshot.{SnapshotData, files_bytes, word}
+use Rattle.px_wal.specs.Snapshot.{SnapshotData, files_bytes, word_bytes}
 use Rattle.px_wal.specs.SnapshotOf.{file_data}
 use Rattle.px_wal.proofs.Snapshots.{body_files, body_head, body_is, head_is}
 use Rattle.px_wal.proofs.snapshot_body.read_snapshot.Goals as goal
@@ -20,7 +20,7 @@ returns-clause-body c =
     let counted : get_or c.args.body.now 25 0 ≡ length (map file_data c.in-Ok.files.items) = sym (length-map c.in-Ok.files.items file_data ∙ c.in-Ok.ensures.counted) in
     body_is c.args.body.now (files_bytes (map file_data c.in-Ok.files.items)) s c.in-Ok.ensures.spelled
     (head_is c.args.body.now c.word_at.result c.word_at-2.result c.word_at-3.result (c.in_default.ensures.long refl) c.word_at.ensures c.word_at-2.ensures c.word_at-3.ensures
-    ∙ ap (λ (n : ℕ). ((word c.word_at.result ++ word c.word_at-2.result) ++ word c.word_at-3.result) ++ get_or c.args.body.now 24 0 ∷ n ∷ []) counted)
+    ∙ ap (λ (n : ℕ). ((word_bytes c.word_at.result ++ word_bytes c.word_at-2.result) ++ word_bytes c.word_at-3.result) ++ get_or c.args.body.now 24 0 ∷ n ∷ []) counted)
     refl
 
 pub returns-clause-right : goal.returns-clause-right

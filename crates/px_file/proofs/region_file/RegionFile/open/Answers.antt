@@ -2,8 +2,8 @@ use Rattle.std.proofs.Common.{◌≡◌, Err, take, subst, ap, ◌∙◌}
 use Rattle.std.specs.Prelude.{IsTrue}
 use Rattle.px_outside.specs.Disk.{Image}
 use Rattle.px_outside.proofs.Moments.{only_stays}
-use Rattle.px_file.specs.Reading.{IsFirstWrong}
-use Rattle.px_file.specs.Reading.IsFirstWrong.{in_letters}
+use Rattle.px_file.specs.Reading.{IsFirstWrongInFile}
+use Rattle.px_file.specs.Reading.IsFirstWrongInFile.{in_letters}
 use Rattle.px_file.specs.declared.fault.FileFault.{FileFault}
 use Rattle.px_file.specs.declared.fault.FileFault.TheVariants.{Damaged}
 use Rattle.px_file.proofs.region_file.RegionFile.open.Goals as goal
@@ -22,11 +22,11 @@ returns-in-Ok-read_index-clause-opened g c = λ only.
 
 pub returns-in-Ok-read_index-clause-damaged : goal.returns-in-Ok-read_index-clause-damaged
 returns-in-Ok-read_index-clause-damaged g c = λ at place e.
-    subst (λ (s : Image). (at ≡ c.args.file) × (IsTrue g.D.Disk.tells → IsFirstWrong (s c.args.file) place)) (c.read_index.ensures.seen ∙ c.read_letters.ensures.seen)
+    subst (λ (s : Image). (at ≡ c.args.file) × (IsTrue g.D.Disk.tells → IsFirstWrongInFile (s c.args.file) place)) (c.read_index.ensures.seen ∙ c.read_letters.ensures.seen)
     (c.finish.ensures.damaged at place (c.in-Ok-read_index.ensures.read (λ tells. ap (λ (s : Image). take 8 (s c.args.file)) c.read_letters.ensures.seen ∙ c.in-Ok.ensures.right tells)) e)
 
 pub returns-in-Err-read_index-clause-damaged : goal.returns-in-Err-read_index-clause-damaged
 returns-in-Err-read_index-clause-damaged g c = λ at place e. (
     let same : c.in-Err-read_index.fault ≡ Damaged at place = cc in
-    subst (λ (s : Image). (at ≡ c.args.file) × (IsTrue g.D.Disk.tells → IsFirstWrong (s c.args.file) place)) c.read_letters.ensures.seen
+    subst (λ (s : Image). (at ≡ c.args.file) × (IsTrue g.D.Disk.tells → IsFirstWrongInFile (s c.args.file) place)) c.read_letters.ensures.seen
     (c.in-Err-read_index.ensures.wrong at place (λ tells. ap (λ (s : Image). take 8 (s c.args.file)) c.read_letters.ensures.seen ∙ c.in-Ok.ensures.right tells) (ap (λ (f : FileFault). Err f) same)))

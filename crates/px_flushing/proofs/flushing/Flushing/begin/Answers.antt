@@ -2,7 +2,7 @@ use Rattle.std.proofs.Common.{◌≡◌, ℕ, Err, None, Some, List, ap, refl, s
 use Rattle.std.proofs.lemmas.Bool.{both_ways}
 use Rattle.std.specs.Prelude.{map}
 use Rattle.px_outside.proofs.Moments.{stays_touches, touches_none}
-use Rattle.px_wal.specs.Manifest.{names}
+use Rattle.px_wal.specs.Manifest.{named_snapshot}
 use Rattle.px_wal.specs.SnapshotOf.{file_data}
 use Rattle.px_wal.specs.Wal.{HasBatches}
 use Rattle.px_wal.specs.declared.snapshot.FileEntry.{FileEntry}
@@ -29,9 +29,9 @@ returns-in-Err-clause-touches g c = stays_touches g.D.Disk.calls g.D.Disk.left g
 pub returns-in-Ok-clause-done : goal.returns-in-Ok-clause-done
 returns-in-Ok-clause-done g c = λ batches lists has.
     let manifest = c.args.manifest.now in
-    let flushed : c.snapshot-named.result.now.flushed ≡ (names manifest).flushed = ap (λ (s : Snapshot). s.flushed) c.snapshot-named.ensures in
+    let flushed : c.snapshot-named.result.now.flushed ≡ (named_snapshot manifest).flushed = ap (λ (s : Snapshot). s.flushed) c.snapshot-named.ensures in
     let entries : c.deref.result.now ≡ manifest.snapshot.files.items = c.deref.ensures.value ∙ ap (λ (s : Snapshot). s.files.items) c.snapshot-named.ensures in
-    let later = unflushed (names manifest).flushed c.args.wal.now.older_to (λ le. both_ways _ c.if-is_flushed.false (c.is_flushed.ensures.1 le)) in
+    let later = unflushed (named_snapshot manifest).flushed c.args.wal.now.older_to (λ le. both_ways _ c.if-is_flushed.false (c.is_flushed.ensures.1 le)) in
     let d = g.D.Disk in
     let self = c.args.self.now in
     by_fields d manifest c.args.wal.now self.number self.files.items (Some (job.Flush (record { frozen = c.in-Ok.frozen; local = c.in-Some.local; stage = stage.Frozen }))) c.freeze.new.disk batches lists c.keep.new.self
@@ -48,7 +48,7 @@ returns-in-Err-clause-done g c = λ batches lists has.
 
 pub returns-in-Err-clause-sound : goal.returns-in-Err-clause-sound
 returns-in-Err-clause-sound g c = λ batches lists has e.
-    let flushed : c.snapshot-named.result.now.flushed ≡ (names c.args.manifest.now).flushed = ap (λ (s : Snapshot). s.flushed) c.snapshot-named.ensures in
+    let flushed : c.snapshot-named.result.now.flushed ≡ (named_snapshot c.args.manifest.now).flushed = ap (λ (s : Snapshot). s.flushed) c.snapshot-named.ensures in
     let same : c.of_read.result ≡ Damaged = cc in
     let log = subst (λ (n : ℕ). HasBatches g.D.Disk c.args.self.now.number n c.args.wal.now c.args.disk.now batches) (sym flushed) has.parts.log in
     read_damaged c.in-Err.fault (sym c.of_read.ensures ∙ same) (λ file place is. c.in-Err.ensures.sound batches log file place (ap Err is))

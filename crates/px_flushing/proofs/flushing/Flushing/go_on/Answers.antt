@@ -1,7 +1,7 @@
 use Rattle.std.proofs.Common.{◌≡◌, ◌∷◌, refl}
 use Rattle.px_outside.proofs.Moments.{touches_more}
 use Rattle.px_wal.specs.Files.{HasFile, file_of}
-use Rattle.px_wal.specs.Manifest.{manifest_files, names}
+use Rattle.px_wal.specs.Manifest.{manifest_files, named_snapshot}
 use Rattle.px_flushing.specs.declared.flushing.FlushStep.TheVariants.{Done, Forgot, Merged, More, Named}
 use Rattle.px_flushing.specs.declared.stage.Stage.TheVariants as stage
 use Rattle.px_flushing.proofs.Going.{begun_at, free_own, manifest_own, more_only, named_goes, ok_then, ok_told, raised_as, same_by, wrote_leaves}
@@ -13,17 +13,17 @@ pub returns-in-Measured-clause-done : goal.returns-in-Measured-clause-done
 returns-in-Measured-clause-done g c = λ wal batches lists parts is other.
     let self = c.args.self.now in
     let f = c.args.flush in
-    let begun = begun_at g.D.Disk self.number (names c.args.manifest.now) batches c.args.disk.now f.frozen f.local f.stage (stage.Measured c.in-Measured.file c.in-Measured.len) is c.in-Measured.is in
+    let begun = begun_at g.D.Disk self.number (named_snapshot c.args.manifest.now) batches c.args.disk.now f.frozen f.local f.stage (stage.Measured c.in-Measured.file c.in-Measured.len) is c.in-Measured.is in
     named_goes g.D.Disk c.args.manifest.now c.name.new.manifest wal c.name.new.self c.name.new.disk batches lists (f.frozen.cells ∷ lists) c.name.result (c.name.ensures.done wal batches lists parts begun)
     (c.name.ensures.kept wal batches lists parts begun)
     (ok_then _ _ _ _ _ c.name.ensures.named
-    (λ is. same_by g.D.Disk self.number c.args.manifest.now c.args.disk.now batches f.frozen f.local c.in-Measured.len c.in-Measured.file begun (names c.name.new.manifest) is parts.log.right.rising lists))
+    (λ is. same_by g.D.Disk self.number c.args.manifest.now c.args.disk.now batches f.frozen f.local c.in-Measured.len c.in-Measured.file begun (named_snapshot c.name.new.manifest) is parts.log.right.rising lists))
     other
 
 pub returns-in-Measured-clause-any_moment : goal.returns-in-Measured-clause-any_moment
 returns-in-Measured-clause-any_moment g c = λ wal batches lists parts is.
     let f = c.args.flush in
-    let begun = begun_at g.D.Disk c.args.self.now.number (names c.args.manifest.now) batches c.args.disk.now f.frozen f.local f.stage (stage.Measured c.in-Measured.file c.in-Measured.len) is c.in-Measured.is in
+    let begun = begun_at g.D.Disk c.args.self.now.number (named_snapshot c.args.manifest.now) batches c.args.disk.now f.frozen f.local f.stage (stage.Measured c.in-Measured.file c.in-Measured.len) is c.in-Measured.is in
     c.name.ensures.any_moment wal batches lists parts begun
 
 pub returns-in-Measured-clause-only : goal.returns-in-Measured-clause-only
@@ -37,12 +37,12 @@ pub returns-in-Measured-clause-named : goal.returns-in-Measured-clause-named
 returns-in-Measured-clause-named g c = λ batches cells bytes is e.
     let self = c.args.self.now in
     let f = c.args.flush in
-    let begun = begun_at g.D.Disk self.number (names c.args.manifest.now) batches c.args.disk.now f.frozen f.local f.stage (stage.Measured c.in-Measured.file c.in-Measured.len) is c.in-Measured.is in
+    let begun = begun_at g.D.Disk self.number (named_snapshot c.args.manifest.now) batches c.args.disk.now f.frozen f.local f.stage (stage.Measured c.in-Measured.file c.in-Measured.len) is c.in-Measured.is in
     let w = ok_told _ _ (Named cells bytes) _ _ c.name.ensures.named e in
     let a : cells ≡ f.frozen.count = cc (w.0) in
     let b : bytes ≡ f.frozen.bytes = cc (w.0) in (
       w.1,
-      raised_as g.D.Disk self.number c.args.manifest.now c.args.disk.now batches f.frozen f.local c.in-Measured.len c.in-Measured.file begun (names c.name.new.manifest) w.2 cells bytes a b,
+      raised_as g.D.Disk self.number c.args.manifest.now c.args.disk.now batches f.frozen f.local c.in-Measured.len c.in-Measured.file begun (named_snapshot c.name.new.manifest) w.2 cells bytes a b,
     )
 
 pub returns-in-Measured-clause-touches : goal.returns-in-Measured-clause-touches
@@ -74,4 +74,4 @@ pub returns-in_default-clause-touches : goal.returns-in_default-clause-touches
 returns-in_default-clause-touches g c = λ wal batches lists parts begun.
     let self = c.args.self.now in
     touches_more g.D.Disk.calls g.D.Disk.left g.D.Disk.seen c.args.disk.now c.write.new.disk (λ touched. touched ≡ file_of self.number c.args.flush.local) (HasFile self.number)
-    (λ file is. free_own self.number c.args.flush.local file (names c.args.manifest.now).files begun.free is) (c.write.ensures.touches c.args.manifest.now batches begun)
+    (λ file is. free_own self.number c.args.flush.local file (named_snapshot c.args.manifest.now).files begun.free is) (c.write.ensures.touches c.args.manifest.now batches begun)

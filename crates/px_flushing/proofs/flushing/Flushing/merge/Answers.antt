@@ -3,7 +3,7 @@ use Rattle.std.specs.Prelude.{◌≢◌}
 use Rattle.px_outside.proofs.Moments.{touches_more}
 use Rattle.px_wal.specs.Batches.{cells_over}
 use Rattle.px_wal.specs.Files.{HasFile, file_of}
-use Rattle.px_wal.specs.Manifest.{manifest_files, names}
+use Rattle.px_wal.specs.Manifest.{manifest_files, named_snapshot}
 use Rattle.px_flushing.specs.declared.flushing.FlushStep.TheVariants.{Done, Forgot, Merged, More, Named}
 use Rattle.px_flushing.specs.declared.stage.Stage.TheVariants as stage
 use Rattle.px_flushing.proofs.Compacting.{forgot_none, goes_same, horizon_same, measured_then, merging_at, reads_from}
@@ -15,12 +15,12 @@ use Rattle.px_flushing.proofs.flushing.Flushing.merge.Goals as goal
 pub returns-in-Measured-clause-done : goal.returns-in-Measured-clause-done
 returns-in-Measured-clause-done g c = λ wal batches lists parts is may other.
     let m = c.args.merge in
-    c.name_measured.ensures.done wal batches lists parts (merging_at g.D.Disk c.args.self.now.number (names c.args.manifest.now) lists c.args.disk.now m.count m.horizon m.frozen m.local m.stage (stage.Measured c.in-Measured.file c.in-Measured.len) is c.in-Measured.is) may other
+    c.name_measured.ensures.done wal batches lists parts (merging_at g.D.Disk c.args.self.now.number (named_snapshot c.args.manifest.now) lists c.args.disk.now m.count m.horizon m.frozen m.local m.stage (stage.Measured c.in-Measured.file c.in-Measured.len) is c.in-Measured.is) may other
 
 pub returns-in-Measured-clause-any_moment : goal.returns-in-Measured-clause-any_moment
 returns-in-Measured-clause-any_moment g c = λ wal batches lists parts is may.
     let m = c.args.merge in
-    c.name_measured.ensures.any_moment wal batches lists parts (merging_at g.D.Disk c.args.self.now.number (names c.args.manifest.now) lists c.args.disk.now m.count m.horizon m.frozen m.local m.stage (stage.Measured c.in-Measured.file c.in-Measured.len) is c.in-Measured.is) may
+    c.name_measured.ensures.any_moment wal batches lists parts (merging_at g.D.Disk c.args.self.now.number (named_snapshot c.args.manifest.now) lists c.args.disk.now m.count m.horizon m.frozen m.local m.stage (stage.Measured c.in-Measured.file c.in-Measured.len) is c.in-Measured.is) may
 
 pub returns-in-Measured-clause-keeps : goal.returns-in-Measured-clause-keeps
 returns-in-Measured-clause-keeps g c = λ h e.
@@ -42,7 +42,7 @@ returns-in_default-clause-done g c = λ wal batches lists parts merging may othe
 pub returns-in_default-clause-any_moment : goal.returns-in_default-clause-any_moment
 returns-in_default-clause-any_moment g c = λ wal batches lists parts merging may.
     let self = c.args.self.now in
-    reads_from c.args.merge.horizon g.D.Disk self.number (names c.args.manifest.now).horizon c.args.disk.now c.write_merged.new.disk (cells_over (names c.args.manifest.now).flushed batches lists)
+    reads_from c.args.merge.horizon g.D.Disk self.number (named_snapshot c.args.manifest.now).horizon c.args.disk.now c.write_merged.new.disk (cells_over (named_snapshot c.args.manifest.now).flushed batches lists)
     (wrote_leaves g.D.Disk self.number c.args.manifest.now wal c.args.disk.now c.write_merged.new.disk batches self.files.items lists parts c.args.merge.local merging.free (c.write_merged.ensures.touches c.args.manifest.now lists merging))
 
 pub returns-in_default-clause-only : goal.returns-in_default-clause-only
@@ -67,4 +67,4 @@ pub returns-in_default-clause-touches : goal.returns-in_default-clause-touches
 returns-in_default-clause-touches g c = λ wal batches lists parts merging.
     let self = c.args.self.now in
     touches_more g.D.Disk.calls g.D.Disk.left g.D.Disk.seen c.args.disk.now c.write_merged.new.disk (λ touched. touched ≡ file_of self.number c.args.merge.local) (HasFile self.number)
-    (λ file is. free_own self.number c.args.merge.local file (names c.args.manifest.now).files merging.free is) (c.write_merged.ensures.touches c.args.manifest.now lists merging)
+    (λ file is. free_own self.number c.args.merge.local file (named_snapshot c.args.manifest.now).files merging.free is) (c.write_merged.ensures.touches c.args.manifest.now lists merging)

@@ -1,7 +1,7 @@
 use Rattle.std.proofs.Common.{◌≡◌, ℕ, List, ◌∷◌, Err, None, Some, ap, refl, sym, subst, ◌∙◌}
 use Rattle.px_file.specs.declared.region_file.RegionFile.{RegionFile}
 use Rattle.px_wal.specs.Batches.{cells_over}
-use Rattle.px_wal.specs.Manifest.{names}
+use Rattle.px_wal.specs.Manifest.{named_snapshot}
 use Rattle.px_wal.specs.Snapshot.{SnapshotData}
 use Rattle.px_wal.specs.SnapshotOf.{snapshot_of}
 use Rattle.px_wal.specs.declared.manifest.Manifest.{Manifest}
@@ -28,8 +28,8 @@ returns-in-Err-clause-any_moment g c = λ wal batches lists parts begun. parts_n
 pub returns-in-Ok-name_file-clause-done : goal.returns-in-Ok-name_file-clause-done
 returns-in-Ok-name_file-clause-done g c = λ wal batches lists parts begun.
     let self = c.args.self.now in
-    let after : snapshot_of c.in-Ok.naming.after ≡ named_next (names c.args.manifest.now) c.args.frozen.upto c.args.local c.args.len c.args.file =
-    c.in-Ok.ensures.after ∙ ap (λ (n : ℕ). named_next (names c.args.manifest.now) n c.args.local c.args.len c.args.file) c.upto.ensures in
+    let after : snapshot_of c.in-Ok.naming.after ≡ named_next (named_snapshot c.args.manifest.now) c.args.frozen.upto c.args.local c.args.len c.args.file =
+    c.in-Ok.ensures.after ∙ ap (λ (n : ℕ). named_next (named_snapshot c.args.manifest.now) n c.args.local c.args.len c.args.file) c.upto.ensures in
     let flushed = flushed_by g.D.Disk self.number c.args.manifest.now c.args.disk.now batches c.args.frozen c.args.local c.args.len c.args.file begun (snapshot_of c.in-Ok.naming.after) after in
     by_fields g.D.Disk c.name_file.new.manifest wal self.number (c.args.file ∷ self.files.items) None c.name_file.new.disk batches (c.args.frozen.cells ∷ lists) _
     (c.in-Ok-name_file.ensures.done self.number wal batches self.files.items lists c.args.file c.args.frozen.cells parts flushed) tt (sym c.ready.ensures.same.0)
@@ -38,10 +38,10 @@ returns-in-Ok-name_file-clause-done g c = λ wal batches lists parts begun.
 pub returns-in-Ok-name_file-clause-any_moment : goal.returns-in-Ok-name_file-clause-any_moment
 returns-in-Ok-name_file-clause-any_moment g c = λ wal batches lists parts begun.
     let self = c.args.self.now in
-    let after : snapshot_of c.in-Ok.naming.after ≡ named_next (names c.args.manifest.now) c.args.frozen.upto c.args.local c.args.len c.args.file =
-    c.in-Ok.ensures.after ∙ ap (λ (n : ℕ). named_next (names c.args.manifest.now) n c.args.local c.args.len c.args.file) c.upto.ensures in
+    let after : snapshot_of c.in-Ok.naming.after ≡ named_next (named_snapshot c.args.manifest.now) c.args.frozen.upto c.args.local c.args.len c.args.file =
+    c.in-Ok.ensures.after ∙ ap (λ (n : ℕ). named_next (named_snapshot c.args.manifest.now) n c.args.local c.args.len c.args.file) c.upto.ensures in
     let flushed = flushed_by g.D.Disk self.number c.args.manifest.now c.args.disk.now batches c.args.frozen c.args.local c.args.len c.args.file begun (snapshot_of c.in-Ok.naming.after) after in
-    named_leaves g.D.Disk self.number c.args.manifest.now c.args.disk.now c.name_file.new.disk (snapshot_of c.in-Ok.naming.after) (cells_over (names c.args.manifest.now).flushed batches lists) (ap (λ (n : SnapshotData). n.horizon) after)
+    named_leaves g.D.Disk self.number c.args.manifest.now c.args.disk.now c.name_file.new.disk (snapshot_of c.in-Ok.naming.after) (cells_over (named_snapshot c.args.manifest.now).flushed batches lists) (ap (λ (n : SnapshotData). n.horizon) after)
     (c.name_file.ensures.any_moment self.number wal batches self.files.items lists c.args.file c.args.frozen.cells parts flushed)
 
 pub returns-in-Ok-name_file-clause-touches : goal.returns-in-Ok-name_file-clause-touches
@@ -55,22 +55,22 @@ returns-clause-kept g c = λ wal batches lists parts begun other.
     let self = c.args.self.now in
     let full = append_full c.in-Err-name_file.fault (λ is. other (ap Err (c.of_append.ensures ∙ ap append_fault is))) in
     let still = c.in-Err-name_file.ensures.untouched (ap Err full) in
-    let begun-1 = subst (λ x. IsBegun g.D.Disk self.number (names c.args.manifest.now) batches x (record { frozen = c.args.frozen; local = c.args.local; stage = stage.Measured c.args.file c.args.len })) (sym still.0) begun in
+    let begun-1 = subst (λ x. IsBegun g.D.Disk self.number (named_snapshot c.args.manifest.now) batches x (record { frozen = c.args.frozen; local = c.args.local; stage = stage.Measured c.args.file c.args.len })) (sym still.0) begun in
     let parts-1 = subst (λ x. HasParts g.D.Disk self.number c.args.manifest.now wal x batches self.files.items lists) (sym still.0) parts in (
       still.1,
       by_fields g.D.Disk c.name_file.new.manifest wal self.number self.files.items (Some (job.Flush (record { frozen = c.args.frozen; local = c.args.local; stage = stage.Measured c.args.file c.args.len }))) c.name_file.new.disk batches lists c.keep-in-Err-name_file.new.self
           (subst (λ (m : Manifest). HasParts g.D.Disk self.number m wal c.name_file.new.disk batches self.files.items lists) (sym still.1) parts-1)
-          (subst (λ (m : Manifest). IsBegun g.D.Disk self.number (names m) batches c.name_file.new.disk (record { frozen = c.args.frozen; local = c.args.local; stage = stage.Measured c.args.file c.args.len })) (sym still.1) begun-1)
+          (subst (λ (m : Manifest). IsBegun g.D.Disk self.number (named_snapshot m) batches c.name_file.new.disk (record { frozen = c.args.frozen; local = c.args.local; stage = stage.Measured c.args.file c.args.len })) (sym still.1) begun-1)
           (sym (c.keep-in-Err-name_file.ensures.files.0 ∙ c.ready.ensures.same.0)) (sym (ap (λ v. v.items) c.keep-in-Err-name_file.ensures.files.1 ∙ c.ready.ensures.same.1)) (sym c.keep-in-Err-name_file.ensures.flush),
     )
 
 pub returns-clause-any_moment : goal.returns-clause-any_moment
 returns-clause-any_moment g c = λ wal batches lists parts begun.
     let self = c.args.self.now in
-    let after : snapshot_of c.in-Ok.naming.after ≡ named_next (names c.args.manifest.now) c.args.frozen.upto c.args.local c.args.len c.args.file =
-    c.in-Ok.ensures.after ∙ ap (λ (n : ℕ). named_next (names c.args.manifest.now) n c.args.local c.args.len c.args.file) c.upto.ensures in
+    let after : snapshot_of c.in-Ok.naming.after ≡ named_next (named_snapshot c.args.manifest.now) c.args.frozen.upto c.args.local c.args.len c.args.file =
+    c.in-Ok.ensures.after ∙ ap (λ (n : ℕ). named_next (named_snapshot c.args.manifest.now) n c.args.local c.args.len c.args.file) c.upto.ensures in
     let flushed = flushed_by g.D.Disk self.number c.args.manifest.now c.args.disk.now batches c.args.frozen c.args.local c.args.len c.args.file begun (snapshot_of c.in-Ok.naming.after) after in
-    named_leaves g.D.Disk self.number c.args.manifest.now c.args.disk.now c.name_file.new.disk (snapshot_of c.in-Ok.naming.after) (cells_over (names c.args.manifest.now).flushed batches lists) (ap (λ (n : SnapshotData). n.horizon) after)
+    named_leaves g.D.Disk self.number c.args.manifest.now c.args.disk.now c.name_file.new.disk (snapshot_of c.in-Ok.naming.after) (cells_over (named_snapshot c.args.manifest.now).flushed batches lists) (ap (λ (n : SnapshotData). n.horizon) after)
     (c.name_file.ensures.any_moment self.number wal batches self.files.items lists c.args.file c.args.frozen.cells parts flushed)
 
 pub returns-clause-touches : goal.returns-clause-touches

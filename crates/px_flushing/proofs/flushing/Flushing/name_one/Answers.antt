@@ -1,7 +1,7 @@
 use Rattle.std.proofs.Common.{List, ◌∷◌, Err, None, Some, drop, ap, refl, sym, subst, ◌∙◌}
 use Rattle.px_file.specs.declared.region_file.RegionFile.{RegionFile}
 use Rattle.px_wal.specs.Batches.{cells_over}
-use Rattle.px_wal.specs.Manifest.{names}
+use Rattle.px_wal.specs.Manifest.{named_snapshot}
 use Rattle.px_wal.specs.Snapshot.{SnapshotData}
 use Rattle.px_wal.specs.SnapshotOf.{snapshot_of}
 use Rattle.px_wal.specs.declared.manifest.Manifest.{Manifest}
@@ -39,7 +39,7 @@ pub returns-in-Ok-name_merged-clause-any_moment : goal.returns-in-Ok-name_merged
 returns-in-Ok-name_merged-clause-any_moment g c = λ wal batches lists parts merging.
     let self = c.args.self.now in
     let compacted = compacted_by g.D.Disk self.number c.args.manifest.now c.args.disk.now batches lists c.args.count c.args.frozen c.args.local c.args.len c.args.file merging (snapshot_of c.in-Ok.naming.after) c.in-Ok.ensures.after in
-    named_leaves g.D.Disk self.number c.args.manifest.now c.args.disk.now c.name_merged.new.disk (snapshot_of c.in-Ok.naming.after) (cells_over (names c.args.manifest.now).flushed batches lists) (ap (λ (n : SnapshotData). n.horizon) c.in-Ok.ensures.after)
+    named_leaves g.D.Disk self.number c.args.manifest.now c.args.disk.now c.name_merged.new.disk (snapshot_of c.in-Ok.naming.after) (cells_over (named_snapshot c.args.manifest.now).flushed batches lists) (ap (λ (n : SnapshotData). n.horizon) c.in-Ok.ensures.after)
     (c.name_merged.ensures.any_moment self.number wal batches self.files.items lists c.args.count c.args.file c.args.frozen.cells parts compacted)
 
 pub returns-in-Ok-name_merged-clause-touches : goal.returns-in-Ok-name_merged-clause-touches
@@ -57,12 +57,12 @@ returns-clause-kept g c = λ wal batches lists parts merging other.
     let full = append_full c.in-Err-name_merged.fault (λ is. other (ap Err (c.of_append.ensures ∙ ap append_fault is))) in
     let still = c.in-Err-name_merged.ensures.untouched (ap Err full) in
     let merge : Merge = record { count = c.args.count; horizon = None; frozen = c.args.frozen; local = c.args.local; stage = stage.Measured c.args.file c.args.len } in
-    let merging-1 = subst (λ x. IsMerging g.D.Disk self.number (names c.args.manifest.now) lists x merge) (sym still.0) merging in
+    let merging-1 = subst (λ x. IsMerging g.D.Disk self.number (named_snapshot c.args.manifest.now) lists x merge) (sym still.0) merging in
     let parts-1 = subst (λ x. HasParts g.D.Disk self.number c.args.manifest.now wal x batches self.files.items lists) (sym still.0) parts in (
       still.1,
       by_fields g.D.Disk c.name_merged.new.manifest wal self.number self.files.items (Some (job.Merge merge)) c.name_merged.new.disk batches lists c.keep-in-Err-name_merged.new.self
           (subst (λ (m : Manifest). HasParts g.D.Disk self.number m wal c.name_merged.new.disk batches self.files.items lists) (sym still.1) parts-1)
-          (subst (λ (m : Manifest). IsMerging g.D.Disk self.number (names m) lists c.name_merged.new.disk merge) (sym still.1) merging-1)
+          (subst (λ (m : Manifest). IsMerging g.D.Disk self.number (named_snapshot m) lists c.name_merged.new.disk merge) (sym still.1) merging-1)
           (sym (c.keep-in-Err-name_merged.ensures.files.0 ∙ c.ready_merged.ensures.same.0)) (sym (ap (λ v. v.items) c.keep-in-Err-name_merged.ensures.files.1 ∙ c.ready_merged.ensures.same.1)) (sym c.keep-in-Err-name_merged.ensures.flush),
     )
 
@@ -70,7 +70,7 @@ pub returns-clause-any_moment : goal.returns-clause-any_moment
 returns-clause-any_moment g c = λ wal batches lists parts merging.
     let self = c.args.self.now in
     let compacted = compacted_by g.D.Disk self.number c.args.manifest.now c.args.disk.now batches lists c.args.count c.args.frozen c.args.local c.args.len c.args.file merging (snapshot_of c.in-Ok.naming.after) c.in-Ok.ensures.after in
-    named_leaves g.D.Disk self.number c.args.manifest.now c.args.disk.now c.name_merged.new.disk (snapshot_of c.in-Ok.naming.after) (cells_over (names c.args.manifest.now).flushed batches lists) (ap (λ (n : SnapshotData). n.horizon) c.in-Ok.ensures.after)
+    named_leaves g.D.Disk self.number c.args.manifest.now c.args.disk.now c.name_merged.new.disk (snapshot_of c.in-Ok.naming.after) (cells_over (named_snapshot c.args.manifest.now).flushed batches lists) (ap (λ (n : SnapshotData). n.horizon) c.in-Ok.ensures.after)
     (c.name_merged.ensures.any_moment self.number wal batches self.files.items lists c.args.count c.args.file c.args.frozen.cells parts compacted)
 
 pub returns-clause-touches : goal.returns-clause-touches

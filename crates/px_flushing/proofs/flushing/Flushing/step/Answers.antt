@@ -2,10 +2,10 @@ use Rattle.std.specs.Prelude.{◌≢◌}
 use Rattle.std.proofs.Common.{◌≡◌, ℕ, Ok, Option, None, Some, ap, refl, subst, sym, ◌∙◌}
 use Rattle.px_outside.specs.OnDisk.{LeavesOnly}
 use Rattle.px_outside.proofs.Moments.{touches_more}
-use Rattle.px_wal.specs.Batches.{above, cells_over}
+use Rattle.px_wal.specs.Batches.{batches_above, cells_over}
 use Rattle.px_wal.specs.Files.{HasFile}
-use Rattle.px_wal.specs.Manifest.{names}
-use Rattle.px_flushing.specs.Flushing.{MayForget, ReadsFrom, horizon_of, naming_of}
+use Rattle.px_wal.specs.Manifest.{named_snapshot}
+use Rattle.px_flushing.specs.Flushing.{MayForget, ReadsFrom, forgetting_horizon, naming_of}
 use Rattle.px_flushing.specs.declared.flushing.FlushStep.TheVariants.{Forgot, More}
 use Rattle.px_flushing.specs.declared.job.Job.TheVariants as job
 use Rattle.px_flushing.proofs.Compacting.{forgot_none, goes_before, goes_same, horizon_same, reads_from}
@@ -25,7 +25,7 @@ returns-in-None-clause-done g c = λ batches lists has may other.
 pub returns-in-None-clause-any_moment : goal.returns-in-None-clause-any_moment
 returns-in-None-clause-any_moment g c = λ batches lists has may.
     let self = c.args.self.now in
-    reads_from (horizon_of self.flush) g.D.Disk self.number (names c.args.manifest.now).horizon c.args.disk.now c.begin.new.disk (cells_over (names c.args.manifest.now).flushed batches lists)
+    reads_from (forgetting_horizon self.flush) g.D.Disk self.number (named_snapshot c.args.manifest.now).horizon c.args.disk.now c.begin.new.disk (cells_over (named_snapshot c.args.manifest.now).flushed batches lists)
     (parts_leave g.D.Disk self.number c.args.manifest.now c.args.wal.now c.args.disk.now batches self.files.items lists has.parts c.begin.new.disk (λ file. ⊥) c.begin.ensures.touches (λ file own never. never))
 
 pub returns-in-None-clause-forgot : goal.returns-in-None-clause-forgot
@@ -68,7 +68,7 @@ returns-in-Some-Flush-clause-horizon g c = horizon_same c.go_on.result _ _ c.go_
 pub returns-in-Some-Flush-clause-any_moment : goal.returns-in-Some-Flush-clause-any_moment
 returns-in-Some-Flush-clause-any_moment g c = λ batches lists has may.
     let begun = under_is g.D.Disk c.args.manifest.now c.args.wal.now c.args.self.now c.args.disk.now batches lists (Some (job.Flush c.in-Some-Flush.flush)) has (sym c.take.ensures.value ∙ c.in-Some-Flush.is ∙ ap (λ j. Some j) c.in-Some-Flush.field-0-is) in
-    reads_from (horizon_of c.args.self.now.flush) g.D.Disk c.args.self.now.number (names c.args.manifest.now).horizon c.args.disk.now c.go_on.new.disk (cells_over (names c.args.manifest.now).flushed batches lists)
+    reads_from (forgetting_horizon c.args.self.now.flush) g.D.Disk c.args.self.now.number (named_snapshot c.args.manifest.now).horizon c.args.disk.now c.go_on.new.disk (cells_over (named_snapshot c.args.manifest.now).flushed batches lists)
     (c.go_on.ensures.any_moment c.args.wal.now batches lists has.parts begun)
 
 pub returns-in-Some-Flush-clause-named : goal.returns-in-Some-Flush-clause-named
@@ -92,7 +92,7 @@ returns-in-Some-Gather-clause-done g c = λ batches lists has may other.
 pub returns-in-Some-Gather-clause-any_moment : goal.returns-in-Some-Gather-clause-any_moment
 returns-in-Some-Gather-clause-any_moment g c = λ batches lists has may.
     let self = c.args.self.now in
-    reads_from (horizon_of self.flush) g.D.Disk self.number (names c.args.manifest.now).horizon c.args.disk.now c.gather.new.disk (cells_over (names c.args.manifest.now).flushed batches lists)
+    reads_from (forgetting_horizon self.flush) g.D.Disk self.number (named_snapshot c.args.manifest.now).horizon c.args.disk.now c.gather.new.disk (cells_over (named_snapshot c.args.manifest.now).flushed batches lists)
     (parts_leave g.D.Disk self.number c.args.manifest.now c.args.wal.now c.args.disk.now batches self.files.items lists has.parts c.gather.new.disk (λ file. ⊥) c.gather.ensures.touches (λ file own never. never))
 
 pub returns-in-Some-Gather-clause-forgot : goal.returns-in-Some-Gather-clause-forgot
@@ -108,12 +108,12 @@ pub returns-in-Some-Merge-clause-done : goal.returns-in-Some-Merge-clause-done
 returns-in-Some-Merge-clause-done g c = λ batches lists has may other.
     let is = sym c.take.ensures.value ∙ c.in-Some-Merge.is ∙ ap (λ j. Some j) c.in-Some-Merge.field-0-is in
     let merging = under_is g.D.Disk c.args.manifest.now c.args.wal.now c.args.self.now c.args.disk.now batches lists (Some (job.Merge c.in-Some-Merge.merge)) has is in
-    c.merge.ensures.done c.args.wal.now batches lists has.parts merging (subst (λ (o : Option ℕ). MayForget o (above (names c.args.manifest.now).flushed batches)) (ap horizon_of is) may) other
+    c.merge.ensures.done c.args.wal.now batches lists has.parts merging (subst (λ (o : Option ℕ). MayForget o (batches_above (named_snapshot c.args.manifest.now).flushed batches)) (ap forgetting_horizon is) may) other
 
 pub returns-in-Some-Merge-clause-forgot : goal.returns-in-Some-Merge-clause-forgot
 returns-in-Some-Merge-clause-forgot g c = λ h e.
     let w = c.merge.ensures.forgot h e in
-    (w.0, ap horizon_of (sym c.take.ensures.value ∙ c.in-Some-Merge.is ∙ ap (λ j. Some j) c.in-Some-Merge.field-0-is) ∙ w.1, w.2)
+    (w.0, ap forgetting_horizon (sym c.take.ensures.value ∙ c.in-Some-Merge.is ∙ ap (λ j. Some j) c.in-Some-Merge.field-0-is) ∙ w.1, w.2)
 
 pub returns-in-Some-Merge-clause-keeps : goal.returns-in-Some-Merge-clause-keeps
 returns-in-Some-Merge-clause-keeps g c = λ h e.
@@ -125,8 +125,8 @@ returns-in-Some-Merge-clause-any_moment g c = λ batches lists has may.
     let self = c.args.self.now in
     let is = sym c.take.ensures.value ∙ c.in-Some-Merge.is ∙ ap (λ j. Some j) c.in-Some-Merge.field-0-is in
     let merging = under_is g.D.Disk c.args.manifest.now c.args.wal.now self c.args.disk.now batches lists (Some (job.Merge c.in-Some-Merge.merge)) has is in
-    subst (λ (o : Option ℕ). LeavesOnly g.D.Disk c.args.disk.now c.merge.new.disk (λ moment image. ReadsFrom o self.number image (names c.args.manifest.now).horizon (cells_over (names c.args.manifest.now).flushed batches lists))) (sym (ap horizon_of is))
-    (c.merge.ensures.any_moment c.args.wal.now batches lists has.parts merging (subst (λ (o : Option ℕ). MayForget o (above (names c.args.manifest.now).flushed batches)) (ap horizon_of is) may))
+    subst (λ (o : Option ℕ). LeavesOnly g.D.Disk c.args.disk.now c.merge.new.disk (λ moment image. ReadsFrom o self.number image (named_snapshot c.args.manifest.now).horizon (cells_over (named_snapshot c.args.manifest.now).flushed batches lists))) (sym (ap forgetting_horizon is))
+    (c.merge.ensures.any_moment c.args.wal.now batches lists has.parts merging (subst (λ (o : Option ℕ). MayForget o (batches_above (named_snapshot c.args.manifest.now).flushed batches)) (ap forgetting_horizon is) may))
 
 pub returns-in-Some-Merge-clause-touches : goal.returns-in-Some-Merge-clause-touches
 returns-in-Some-Merge-clause-touches g c = λ batches lists has.

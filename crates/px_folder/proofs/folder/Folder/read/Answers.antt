@@ -11,7 +11,7 @@ use Rattle.px_folder.specs.Damage.{IsDamagedBelow, below}
 use Rattle.px_folder.specs.Calls.{AreOpenedBy}
 use Rattle.px_folder.specs.Drawn.{AreDrawn}
 use Rattle.px_folder.proofs.Calls.{opened_before}
-use Rattle.px_folder.specs.Read.{number_of}
+use Rattle.px_folder.specs.Read.{number_of_open_region}
 use Rattle.px_folder.proofs.Reading.{all_touches, below_before, all_drawn, catalogue_after, folder_read, folder_sound, folder_stands, folder_stood, leaves_folder}
 use Rattle.px_folder.proofs.folder.Folder.read.Goals as goal
 
@@ -30,7 +30,7 @@ returns-in-Ok-clause-stood g c = λ tells.
     let touches = c.start.ensures.touches tells in
     let rs = c.in-Ok.regions.items in
     let drawn = subst AreDrawn c.standing.ensures c.in-Ok.ensures.drawn in
-    let moved = subst (λ (x : Standing). IsPermutation (region_numbers x) (map number_of rs)) c.standing.ensures c.in-Ok.ensures.numbers in
+    let moved = subst (λ (x : Standing). IsPermutation (region_numbers x) (map number_of_open_region rs)) c.standing.ensures c.in-Ok.ensures.numbers in
     let read = c.in-Ok.ensures.read tells in
     let started = c.in_ok-catalog.ensures.started tells in
     folder_stood d old mid new touches quiet same c.in_ok-catalog.catalog rs drawn moved read started.0
@@ -46,7 +46,7 @@ returns-in-Ok-clause-sound g c = λ tells sound.
     let touches = c.start.ensures.touches tells in
     let rs = c.in-Ok.regions.items in
     let drawn = subst AreDrawn c.standing.ensures c.in-Ok.ensures.drawn in
-    let moved = subst (λ (x : Standing). IsPermutation (region_numbers x) (map number_of rs)) c.standing.ensures c.in-Ok.ensures.numbers in
+    let moved = subst (λ (x : Standing). IsPermutation (region_numbers x) (map number_of_open_region rs)) c.standing.ensures c.in-Ok.ensures.numbers in
     let read = c.in-Ok.ensures.read tells in
     let started = c.in_ok-catalog.ensures.started tells in
     folder_sound d old mid new touches quiet same c.in_ok-catalog.catalog rs drawn moved read started.0 sound
@@ -62,7 +62,7 @@ returns-in-Ok-clause-stands g c = λ tells.
     let touches = c.start.ensures.touches tells in
     let rs = c.in-Ok.regions.items in
     let drawn = subst AreDrawn c.standing.ensures c.in-Ok.ensures.drawn in
-    let moved = subst (λ (x : Standing). IsPermutation (region_numbers x) (map number_of rs)) c.standing.ensures c.in-Ok.ensures.numbers in
+    let moved = subst (λ (x : Standing). IsPermutation (region_numbers x) (map number_of_open_region rs)) c.standing.ensures c.in-Ok.ensures.numbers in
     let read = c.in-Ok.ensures.read tells in
     let started = c.in_ok-catalog.ensures.started tells in
     folder_stands d old mid new touches quiet same c.in_ok-catalog.catalog rs drawn moved read started.1
@@ -78,7 +78,7 @@ returns-in-Ok-clause-catalogue g c = λ tells.
     let touches = c.start.ensures.touches tells in
     let rs = c.in-Ok.regions.items in
     let drawn = subst AreDrawn c.standing.ensures c.in-Ok.ensures.drawn in
-    let moved = subst (λ (x : Standing). IsPermutation (region_numbers x) (map number_of rs)) c.standing.ensures c.in-Ok.ensures.numbers in
+    let moved = subst (λ (x : Standing). IsPermutation (region_numbers x) (map number_of_open_region rs)) c.standing.ensures c.in-Ok.ensures.numbers in
     let read = c.in-Ok.ensures.read tells in
     let started = c.in_ok-catalog.ensures.started tells in
     catalogue_after d old mid new touches quiet same c.in_ok-catalog.catalog started.1
@@ -94,7 +94,7 @@ returns-in-Ok-clause-read g c = λ tells.
     let touches = c.start.ensures.touches tells in
     let rs = c.in-Ok.regions.items in
     let drawn = subst AreDrawn c.standing.ensures c.in-Ok.ensures.drawn in
-    let moved = subst (λ (x : Standing). IsPermutation (region_numbers x) (map number_of rs)) c.standing.ensures c.in-Ok.ensures.numbers in
+    let moved = subst (λ (x : Standing). IsPermutation (region_numbers x) (map number_of_open_region rs)) c.standing.ensures c.in-Ok.ensures.numbers in
     let read = c.in-Ok.ensures.read tells in
     let started = c.in_ok-catalog.ensures.started tells in
     folder_read d old mid new touches quiet same c.in_ok-catalog.catalog rs drawn moved read

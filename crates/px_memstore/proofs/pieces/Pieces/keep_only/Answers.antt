@@ -2,7 +2,7 @@ use Rattle.std.proofs.Common.{◌≡◌, ◌∙◌, ◌∷◌, List, Vec, Global
 use Rattle.std.specs.List.{filter}
 use Rattle.px_cells.specs.CellData.{CellData}
 use Rattle.px_cells.specs.declared.cell.Cell.{Cell}
-use Rattle.px_memstore.specs.Left.{stays}
+use Rattle.px_memstore.specs.Left.{cell_stays}
 use Rattle.px_memstore.specs.Pieces.{chained}
 use Rattle.px_memstore.specs.inner.Pieces.{ArePieces, is_filled}
 use Rattle.px_memstore.proofs.Thinning.{chained_filled, filter_less, thinned, thinned_left, thinned_pieces}
@@ -13,7 +13,7 @@ of v = v.items
 
 pub returns-clause-left : goal.returns-clause-left
 returns-clause-left c =
-    let test = stays c.args.kept.now c.args.horizon in
+    let test = cell_stays c.args.kept.now c.args.horizon in
     let first = c.args.self.now.first.items in
     let others = map of c.args.self.now.others.items in
     let kept : map of c.keep_parts-count.new.pieces.items ≡ map (filter test) others = c.keep_parts-count.ensures.left in
@@ -23,7 +23,7 @@ returns-clause-left c =
 
 pub returns-clause-pieces : goal.returns-clause-pieces
 returns-clause-pieces c =
-    let test = stays c.args.kept.now c.args.horizon in
+    let test = cell_stays c.args.kept.now c.args.horizon in
     let first = c.args.self.now.first.items in
     let others = map of c.args.self.now.others.items in
     let kept : map of c.keep_parts-count.new.pieces.items ≡ map (filter test) others = c.keep_parts-count.ensures.left in
@@ -33,7 +33,7 @@ returns-clause-pieces c =
 
 pub returns-clause-count : goal.returns-clause-count
 returns-clause-count c =
-    let test = stays c.args.kept.now c.args.horizon in
+    let test = cell_stays c.args.kept.now c.args.horizon in
     let first = c.args.self.now.first.items in
     let others = map of c.args.self.now.others.items in
     let kept : map of c.keep_parts-count.new.pieces.items ≡ map (filter test) others = c.keep_parts-count.ensures.left in
@@ -55,7 +55,7 @@ returns-clause-count c =
 
 pub returns-clause-less : goal.returns-clause-less
 returns-clause-less c =
-    let test = stays c.args.kept.now c.args.horizon in
+    let test = cell_stays c.args.kept.now c.args.horizon in
     let first = c.args.self.now.first.items in
     let others = map of c.args.self.now.others.items in
     let kept : map of c.keep_parts-count.new.pieces.items ≡ map (filter test) others = c.keep_parts-count.ensures.left in

@@ -1,7 +1,7 @@
 use Rattle.std.proofs.Common.{◌+◌, ◌<◌, ◌∙◌, ap, arith, refl, length, ℕ, List, Err}
 use Rattle.px_cells.specs.CellData.{CellData}
 use Rattle.px_cellbytes.specs.Spelling.{all_bytes}
-use Rattle.px_wal.specs.Manifest.{names}
+use Rattle.px_wal.specs.Manifest.{named_snapshot}
 use Rattle.px_wal.specs.Wal.{next_batch}
 use Rattle.px_merge.proofs.Settling.{settled_is}
 use Rattle.px_wal.proofs.Appended.{written_or}
@@ -11,7 +11,7 @@ use Rattle.px_region.proofs.region.Region.apply.Goals as goal
 
 pub returns-in-Err-clause-any_moment : goal.returns-in-Err-clause-any_moment
 returns-in-Err-clause-any_moment g c = λ s holds.
-    let over : (names c.args.self.now.manifest).flushed < c.args.self.now.wal.last + 1 = (let l = c.args.self.now.later (omega arith) in omega arith) in
+    let over : (named_snapshot c.args.self.now.manifest).flushed < c.args.self.now.wal.last + 1 = (let l = c.args.self.now.later (omega arith) in omega arith) in
     log_leaves g.D.Disk c.args.self.now c.args.disk.now s holds c.append.new.disk (c.append.ensures.touches _ _ holds.batches holds.has.parts.log) (next_batch c.args.self.now.wal c.args.cells) over (c.append.ensures.any_moment _ _ holds.batches holds.has.parts.log)
 
 pub returns-in-Err-clause-failed : goal.returns-in-Err-clause-failed
@@ -25,7 +25,7 @@ returns-in-Err-clause-touches g c = λ s holds. touches_log g.D.Disk c.args.self
 
 pub returns-in-Ok-clause-done : goal.returns-in-Ok-clause-done
 returns-in-Ok-clause-done g c = λ s holds.
-    let over : (names c.args.self.now.manifest).flushed < c.args.self.now.wal.last + 1 = (let l = c.args.self.now.later (omega arith) in omega arith) in
+    let over : (named_snapshot c.args.self.now.manifest).flushed < c.args.self.now.wal.last + 1 = (let l = c.args.self.now.later (omega arith) in omega arith) in
     log_more g.D.Disk c.args.self.now c.args.disk.now s holds c.append.new.disk (c.append.ensures.touches _ _ holds.batches holds.has.parts.log) (next_batch c.args.self.now.wal c.args.cells) over _ _ _ _ _ _ (omega arith) (c.in-Ok.ensures.done _ _ holds.batches holds.has.parts.log)
     c.put.ensures.merged (ap (λ (n : ℕ). c.args.self.now.cells + n) c.len-count.ensures)
     (ap (λ (n : ℕ). c.args.self.now.bytes + n) (c.byte_len-bytes.ensures ∙ ap (λ (l : List CellData). length (all_bytes l)) c.as_slice.ensures))
@@ -33,7 +33,7 @@ returns-in-Ok-clause-done g c = λ s holds.
 
 pub returns-in-Ok-clause-any_moment : goal.returns-in-Ok-clause-any_moment
 returns-in-Ok-clause-any_moment g c = λ s holds.
-    let over : (names c.args.self.now.manifest).flushed < c.args.self.now.wal.last + 1 = (let l = c.args.self.now.later (omega arith) in omega arith) in
+    let over : (named_snapshot c.args.self.now.manifest).flushed < c.args.self.now.wal.last + 1 = (let l = c.args.self.now.later (omega arith) in omega arith) in
     log_leaves g.D.Disk c.args.self.now c.args.disk.now s holds c.append.new.disk (c.append.ensures.touches _ _ holds.batches holds.has.parts.log) (next_batch c.args.self.now.wal c.args.cells) over (c.append.ensures.any_moment _ _ holds.batches holds.has.parts.log)
 
 pub returns-in-Ok-clause-touches : goal.returns-in-Ok-clause-touches

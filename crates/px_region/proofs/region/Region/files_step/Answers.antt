@@ -1,8 +1,8 @@
 use Rattle.std.proofs.Common.{◌≡◌, ◌≤◌, ℕ, ap, refl, sym, subst, ◌∙◌, Ok, arith}
-use Rattle.px_merge.specs.Kept.{IsKept}
-use Rattle.px_wal.specs.Batches.{above}
-use Rattle.px_wal.specs.Form.{byte_count, cell_count}
-use Rattle.px_wal.specs.Manifest.{names}
+use Rattle.px_merge.specs.Kept.{IsKeptList}
+use Rattle.px_wal.specs.Batches.{batches_above}
+use Rattle.px_wal.specs.Form.{batch_byte_count, cell_count}
+use Rattle.px_wal.specs.Manifest.{named_snapshot}
 use Rattle.px_wal.specs.Snapshot.{SnapshotData}
 use Rattle.px_region.specs.Faults.{job_fault}
 use Rattle.px_region.specs.Stamps.{HaveLeast}
@@ -50,7 +50,7 @@ returns-in-Ok-Merged-clause-done g c = λ s holds other.
     let merged = c.in-Ok-Merged.ensures.merged (ap (λ r. Ok r) c.in-Ok-Merged.field-0-is) in
     let same = ap (λ (n : SnapshotData). n.flushed) merged.1.is in
     flush_went g.D.Disk c.args.self.now c.args.disk.now s holds c.step.new.disk c.step.new.manifest c.step.new.self went.0 _ _ _ _ went.1 (goes_merged _ _ _ (ap (λ r. Ok r) c.in-Ok-Merged.field-0-is) went.2) c.step.ensures.number (horizon_merged _ _ _ (ap (λ r. Ok r) c.in-Ok-Merged.field-0-is) c.in-Ok-Merged.ensures.horizon)
-    (holds.counted ∙ ap (λ (n : ℕ). cell_count (above n holds.batches)) (sym same)) (holds.weighed ∙ ap (λ (n : ℕ). byte_count (above n holds.batches)) (sym same)) (subst (λ (n : ℕ). HaveLeast c.args.self.now.stamps (above n holds.batches)) (sym same) holds.least)
+    (holds.counted ∙ ap (λ (n : ℕ). cell_count (batches_above n holds.batches)) (sym same)) (holds.weighed ∙ ap (λ (n : ℕ). batch_byte_count (batches_above n holds.batches)) (sym same)) (subst (λ (n : ℕ). HaveLeast c.args.self.now.stamps (batches_above n holds.batches)) (sym same) holds.least)
     refl refl refl refl refl refl refl refl refl
 
 pub returns-in-Ok-Merged-clause-any_moment : goal.returns-in-Ok-Merged-clause-any_moment
@@ -66,11 +66,11 @@ pub returns-in-Ok-Named-clause-done : goal.returns-in-Ok-Named-clause-done
 returns-in-Ok-Named-clause-done g c = λ s holds other.
     let went = c.in-Ok-Named.ensures.done holds.batches holds.lists holds.has (may_forget _ c.args.self.now.stamps _ c.requires.above holds.least) (λ e. cc) in
     let rose = c.in-Ok-Named.ensures.named holds.batches holds.lists c.in-Ok-Named.cells c.in-Ok-Named.bytes holds.has (ap (λ r. Ok r) c.in-Ok-Named.field-0-is) in
-    let to : c.flushed-flushed.result ≡ (names c.step.new.manifest).flushed = c.flushed-flushed.ensures in
-    let le : (names c.args.self.now.manifest).flushed ≤ c.flushed-flushed.result = (let l = rose.1.later in omega (arith, l, to)) in
-    let least = c.flush.ensures (names c.args.self.now.manifest).flushed holds.batches le holds.least in
+    let to : c.flushed-flushed.result ≡ (named_snapshot c.step.new.manifest).flushed = c.flushed-flushed.ensures in
+    let le : (named_snapshot c.args.self.now.manifest).flushed ≤ c.flushed-flushed.result = (let l = rose.1.later in omega (arith, l, to)) in
+    let least = c.flush.ensures (named_snapshot c.args.self.now.manifest).flushed holds.batches le holds.least in
     flush_went g.D.Disk c.args.self.now c.args.disk.now s holds c.step.new.disk c.step.new.manifest c.step.new.self went.0 _ _ _ _ went.1 (goes_named _ c.in-Ok-Named.cells c.in-Ok-Named.bytes _ _ (ap (λ r. Ok r) c.in-Ok-Named.field-0-is) went.2) c.step.ensures.number (horizon_named _ c.in-Ok-Named.cells c.in-Ok-Named.bytes _ _ (ap (λ r. Ok r) c.in-Ok-Named.field-0-is) c.in-Ok-Named.ensures.horizon)
-    (left_over _ _ _ _ c.saturating_sub-self.ensures _ holds.counted rose.1.counted) (left_over _ _ _ _ c.saturating_sub-self-in-Ok-Named.ensures _ holds.weighed rose.1.weighed) (subst (λ (n : ℕ). HaveLeast c.flush.new.self (above n holds.batches)) to least)
+    (left_over _ _ _ _ c.saturating_sub-self.ensures _ holds.counted rose.1.counted) (left_over _ _ _ _ c.saturating_sub-self-in-Ok-Named.ensures _ holds.weighed rose.1.weighed) (subst (λ (n : ℕ). HaveLeast c.flush.new.self (batches_above n holds.batches)) to least)
     refl refl refl refl refl refl refl refl refl
 
 pub returns-in-Ok-Named-clause-any_moment : goal.returns-in-Ok-Named-clause-any_moment
@@ -111,7 +111,7 @@ returns-in-Ok-Forgot-clause-forgot_read g c = λ h some e.
     let keeps = c.in-Ok-Forgot.ensures.keeps c.in-Ok-Forgot.horizon is in
     let same = some_one _ c.in-Ok-Forgot.horizon h told.1 some in
     let right = named_kept _ _ c.in-Ok-Forgot.horizon keeps.0 c.args.self.now.store.cells c.thin.new.store.cells told.1 keeps.1 (c.thin.ensures.left keeps.0 keeps.2) c.requires.right in
-    subst (λ (n : ℕ). IsKept c.args.self.now.store.cells n c.thin.new.store.cells) same right
+    subst (λ (n : ℕ). IsKeptList c.args.self.now.store.cells n c.thin.new.store.cells) same right
 
 pub returns-in-Ok-Forgot-clause-any_moment : goal.returns-in-Ok-Forgot-clause-any_moment
 returns-in-Ok-Forgot-clause-any_moment g c = λ s holds.

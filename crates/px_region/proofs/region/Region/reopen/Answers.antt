@@ -1,6 +1,6 @@
 use Rattle.std.proofs.Common.{◌≡◌, ap, Err}
 use Rattle.px_wal.specs.declared.snapshot.Snapshot.{Snapshot}
-use Rattle.px_wal.specs.Manifest.{names}
+use Rattle.px_wal.specs.Manifest.{named_snapshot}
 use Rattle.px_gatelog.specs.declared.fault.StartFault.TheVariants.{Damaged}
 use Rattle.px_region.proofs.Calls.{passes_then}
 use Rattle.px_region.proofs.Opening.{calls_by, file_damaged, if_both, if_ok, log_damaged, named_then, opened_by, replayed}
@@ -9,15 +9,15 @@ use Rattle.px_region.proofs.region.Region.reopen.Goals as goal
 pub returns-in-Err-clause-damaged : goal.returns-in-Err-clause-damaged
 returns-in-Err-clause-damaged g c = λ file place e tells.
     let manifest = c.in_ok-manifest.manifest in
-    let flushed : c.snapshot.result.now.flushed ≡ (names manifest).flushed = ap (λ (s : Snapshot). s.flushed) c.snapshot.ensures in
+    let flushed : c.snapshot.result.now.flushed ≡ (named_snapshot manifest).flushed = ap (λ (s : Snapshot). s.flushed) c.snapshot.ensures in
     let fault : c.in-Err.fault ≡ Damaged file place = cc in
-    log_damaged c.args.number (g.D.Disk.seen c.args.disk.now) (g.D.Disk.seen c.start.new.disk) (names manifest) c.snapshot.result.now.flushed file place c.start.ensures.seen flushed (c.in_ok-manifest.ensures.started tells).stood
+    log_damaged c.args.number (g.D.Disk.seen c.args.disk.now) (g.D.Disk.seen c.start.new.disk) (named_snapshot manifest) c.snapshot.result.now.flushed file place c.start.ensures.seen flushed (c.in_ok-manifest.ensures.started tells).stood
     (c.in-Err.ensures.damaged file place (ap Err fault) tells)
 
 pub returns-in-Ok-clause-opened : goal.returns-in-Ok-clause-opened
 returns-in-Ok-clause-opened g c = λ tells.
     let manifest = c.in_ok-manifest.manifest in
-    let flushed : c.snapshot.result.now.flushed ≡ (names manifest).flushed = ap (λ (s : Snapshot). s.flushed) c.snapshot.ensures in
+    let flushed : c.snapshot.result.now.flushed ≡ (named_snapshot manifest).flushed = ap (λ (s : Snapshot). s.flushed) c.snapshot.ensures in
     let started = c.in_ok-manifest.ensures.started tells in
     let read = replayed g.D.Disk c.args.number c.args.disk.now c.start.new.disk c.replay.new.disk c.assembled.new.disk manifest c.snapshot.result.now.flushed c.in-Ok.replayed started c.start.ensures.seen flushed (c.in-Ok.ensures.replayed tells) c.replay.ensures.quiet c.replay.ensures.seen in
     let named = named_then g.D.Disk c.args.number c.args.disk.now c.start.new.disk c.replay.new.disk c.assembled.new.disk manifest c.snapshot.result.now.flushed c.in-Ok.replayed started c.start.ensures.seen flushed (c.in-Ok.ensures.replayed tells) c.replay.ensures.quiet c.replay.ensures.seen in
@@ -28,7 +28,7 @@ returns-in-Ok-clause-opened g c = λ tells.
 pub returns-in-Ok-clause-damaged : goal.returns-in-Ok-clause-damaged
 returns-in-Ok-clause-damaged g c = λ file place e tells.
     let manifest = c.in_ok-manifest.manifest in
-    let flushed : c.snapshot.result.now.flushed ≡ (names manifest).flushed = ap (λ (s : Snapshot). s.flushed) c.snapshot.ensures in
+    let flushed : c.snapshot.result.now.flushed ≡ (named_snapshot manifest).flushed = ap (λ (s : Snapshot). s.flushed) c.snapshot.ensures in
     let started = c.in_ok-manifest.ensures.started tells in
     let read = replayed g.D.Disk c.args.number c.args.disk.now c.start.new.disk c.replay.new.disk c.assembled.new.disk manifest c.snapshot.result.now.flushed c.in-Ok.replayed started c.start.ensures.seen flushed (c.in-Ok.ensures.replayed tells) c.replay.ensures.quiet c.replay.ensures.seen in
     let named = named_then g.D.Disk c.args.number c.args.disk.now c.start.new.disk c.replay.new.disk c.assembled.new.disk manifest c.snapshot.result.now.flushed c.in-Ok.replayed started c.start.ensures.seen flushed (c.in-Ok.ensures.replayed tells) c.replay.ensures.quiet c.replay.ensures.seen in
@@ -38,7 +38,7 @@ returns-in-Ok-clause-damaged g c = λ file place e tells.
 pub returns-in-Ok-clause-opened_by : goal.returns-in-Ok-clause-opened_by
 returns-in-Ok-clause-opened_by g c = λ calls tells by.
     let manifest = c.in_ok-manifest.manifest in
-    let flushed : c.snapshot.result.now.flushed ≡ (names manifest).flushed = ap (λ (s : Snapshot). s.flushed) c.snapshot.ensures in
+    let flushed : c.snapshot.result.now.flushed ≡ (named_snapshot manifest).flushed = ap (λ (s : Snapshot). s.flushed) c.snapshot.ensures in
     let started = c.in_ok-manifest.ensures.started tells in
     let read = replayed g.D.Disk c.args.number c.args.disk.now c.start.new.disk c.replay.new.disk c.assembled.new.disk manifest c.snapshot.result.now.flushed c.in-Ok.replayed started c.start.ensures.seen flushed (c.in-Ok.ensures.replayed tells) c.replay.ensures.quiet c.replay.ensures.seen in
     let named = named_then g.D.Disk c.args.number c.args.disk.now c.start.new.disk c.replay.new.disk c.assembled.new.disk manifest c.snapshot.result.now.flushed c.in-Ok.replayed started c.start.ensures.seen flushed (c.in-Ok.ensures.replayed tells) c.replay.ensures.quiet c.replay.ensures.seen in

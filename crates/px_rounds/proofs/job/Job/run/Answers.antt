@@ -1,7 +1,7 @@
 use Rattle.std.proofs.Common.{rules, ◌≡◌, ◌∙◌, ℕ, refl, sym, ap, subst}
 use Rattle.std.proofs.Crossing.{crosses}
 use denote.Param.Send.{sendable}
-use Rattle.px_turn.specs.Seats.{seen as list_seen}
+use Rattle.px_turn.specs.Seats.{seen_by_seat}
 use Rattle.px_seat.specs.Grown.{mine}
 use Rattle.px_session.specs.Live.{StartsFrom}
 use Rattle.px_session.proofs.Lives.{begins}
@@ -10,13 +10,13 @@ use Rattle.px_rounds.proofs.job.Job.run.Goals as goal
 
 pub run_gated-requires : goal.run_gated-requires
 run_gated-requires g c =
-    let k = mine c.args.self.now.at.id g.B.Based.base g.B.Based.damaged (list_seen c.args.self.now.at.seat) in
+    let k = mine c.args.self.now.at.id g.B.Based.base g.B.Based.damaged (seen_by_seat c.args.self.now.at.seat) in
     λ κs. (search (sendable, crosses) depth 40, (c.in-Ready.state, begins g.S.Steps.sound c.in-Ready.state c.seen-from.result c.of-run.result k c.seen-from.ensures c.of-run.ensures.starts))
 
 pub transcript-transcript-requires-clause-live : goal.transcript-transcript-requires-clause-live
 transcript-transcript-requires-clause-live g c =
-    let k = mine c.args.self.now.at.id g.B.Based.base g.B.Based.damaged (list_seen c.args.self.now.at.seat) in
-    let k' = mine c.run_gated.new.s.id g.B.Based.base g.B.Based.damaged (list_seen c.run_gated.new.s.seat) in
+    let k = mine c.args.self.now.at.id g.B.Based.base g.B.Based.damaged (seen_by_seat c.args.self.now.at.seat) in
+    let k' = mine c.run_gated.new.s.id g.B.Based.base g.B.Based.damaged (seen_by_seat c.run_gated.new.s.seat) in
     let live = begins g.S.Steps.sound c.in-Ready.state c.seen-from.result c.of-run.result k c.seen-from.ensures c.of-run.ensures.starts in
     (k', c.in-Ready.state, (c.run_gated.ensures.ran.steps c.in-Ready.state live).live)
 

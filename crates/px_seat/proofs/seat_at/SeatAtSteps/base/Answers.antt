@@ -4,7 +4,7 @@ use Rattle.px_calls.specs.Causes.{Refuses, base_cause}
 use Rattle.px_calls.specs.Calls.{DidBase}
 use Rattle.px_calls.proofs.Bases.{passes_base}
 use Rattle.px_calls.proofs.Points.{passes-open}
-use Rattle.px_turn.specs.Seats.{IsSeat, entered, number, seen as list_seen}
+use Rattle.px_turn.specs.Seats.{IsSeat, entered, seat_number, seen_by_seat}
 use Rattle.px_seat.specs.Grown.{mine}
 use Rattle.px_seat.proofs.Grows as grows
 use Rattle.px_seat.proofs.Shares as shares
@@ -14,7 +14,7 @@ pub base-reply-requires-clause-open : goal.base-reply-requires-clause-open
 base-reply-requires-clause-open g c =
     let me = c.args.self.now in
     let now = c.enter-guard.ensures.entered ∙ ap (λ (v : g.row.S.Denot). (g.S.Steps.known v).seen) (sym c.value-server.ensures.value) in
-    let e = grows.enters g.S.Steps.known g.B.Based.base g.B.Based.damaged me.id (number me.seat) (list_seen me.seat) (entered c.enter-guard.result) c.value-server.result.now c.act_as.new.self
+    let e = grows.enters g.S.Steps.known g.B.Based.base g.B.Based.damaged me.id (seat_number me.seat) (seen_by_seat me.seat) (entered c.enter-guard.result) c.value-server.result.now c.act_as.new.self
     me.is_seat.1 c.enter-guard.ensures.seen now c.act_as.ensures.known c.act_as.ensures.owned in
     passes-open _ _ c.args.p.now e.passes c.requires.open
 
@@ -22,7 +22,7 @@ pub base-reply-requires-clause-rows : goal.base-reply-requires-clause-rows
 base-reply-requires-clause-rows g c =
     let me = c.args.self.now in
     let now = c.enter-guard.ensures.entered ∙ ap (λ (v : g.row.S.Denot). (g.S.Steps.known v).seen) (sym c.value-server.ensures.value) in
-    let e = grows.enters g.S.Steps.known g.B.Based.base g.B.Based.damaged me.id (number me.seat) (list_seen me.seat) (entered c.enter-guard.result) c.value-server.result.now c.act_as.new.self
+    let e = grows.enters g.S.Steps.known g.B.Based.base g.B.Based.damaged me.id (seat_number me.seat) (seen_by_seat me.seat) (entered c.enter-guard.result) c.value-server.result.now c.act_as.new.self
     me.is_seat.1 c.enter-guard.ensures.seen now c.act_as.ensures.known c.act_as.ensures.owned in
     passes_base g.S.Steps.sound _ _ c.args.p.now c.args.index.0 c.args.rows.now e.passes c.requires.open c.requires.rows
 
@@ -30,37 +30,37 @@ pub leave-requires-clause-grown : goal.leave-requires-clause-grown
 leave-requires-clause-grown g c =
     let me = c.args.self.now in
     let now = c.enter-guard.ensures.entered ∙ ap (λ (v : g.row.S.Denot). (g.S.Steps.known v).seen) (sym c.value-server.ensures.value) in
-    grows.leaves g.S.Steps.known me.id (number c.enter-guard.result.seat.now) (entered c.enter-guard.result) c.value-server.result.now c.act_as.new.self c.base-reply.new.self
+    grows.leaves g.S.Steps.known me.id (seat_number c.enter-guard.result.seat.now) (entered c.enter-guard.result) c.value-server.result.now c.act_as.new.self c.base-reply.new.self
     (c.enter-guard.ensures.turn.1 ∙ me.is_seat.1) now c.act_as.ensures.known c.base-reply.ensures.grew
 
 pub invariant_of-self : goal.invariant_of-self
 invariant_of-self g c =
     let me = c.args.self.now in
     let now = c.enter-guard.ensures.entered ∙ ap (λ (v : g.row.S.Denot). (g.S.Steps.known v).seen) (sym c.value-server.ensures.value) in
-    let e = grows.enters g.S.Steps.known g.B.Based.base g.B.Based.damaged me.id (number me.seat) (list_seen me.seat) (entered c.enter-guard.result) c.value-server.result.now c.act_as.new.self
+    let e = grows.enters g.S.Steps.known g.B.Based.base g.B.Based.damaged me.id (seat_number me.seat) (seen_by_seat me.seat) (entered c.enter-guard.result) c.value-server.result.now c.act_as.new.self
     me.is_seat.1 c.enter-guard.ensures.seen now c.act_as.ensures.known c.act_as.ensures.owned in
     record {
       named = me.named;
       is_seat = (subst (λ l. IsSeat l c.leave.new.self.1.0) (c.enter-guard.ensures.same_lock ∙ me.named) c.leave.ensures.seat.0, c.leave.ensures.seat.1 ∙ (c.enter-guard.ensures.turn.1 ∙ me.is_seat.1));
-      counted = c.count.ensures.seen ∙ (c.seen-seen.ensures ∙ sym (ap (λ (k : Known). length k.seen) (grows.knows g.S.Steps.known g.B.Based.base g.B.Based.damaged me.id (list_seen me.seat) c.act_as.new.self c.base-reply.new.self (list_seen c.leave.new.self.1.0) e c.base-reply.ensures.grew c.leave.ensures.seen)));
+      counted = c.count.ensures.seen ∙ (c.seen-seen.ensures ∙ sym (ap (λ (k : Known). length k.seen) (grows.knows g.S.Steps.known g.B.Based.base g.B.Based.damaged me.id (seen_by_seat me.seat) c.act_as.new.self c.base-reply.new.self (seen_by_seat c.leave.new.self.1.0) e c.base-reply.ensures.grew c.leave.ensures.seen)));
     }
 
 pub returns-clause-ok : goal.returns-clause-ok
 returns-clause-ok g c =
     let me = c.args.self.now in
     let now = c.enter-guard.ensures.entered ∙ ap (λ (v : g.row.S.Denot). (g.S.Steps.known v).seen) (sym c.value-server.ensures.value) in
-    let e = grows.enters g.S.Steps.known g.B.Based.base g.B.Based.damaged me.id (number me.seat) (list_seen me.seat) (entered c.enter-guard.result) c.value-server.result.now c.act_as.new.self
+    let e = grows.enters g.S.Steps.known g.B.Based.base g.B.Based.damaged me.id (seat_number me.seat) (seen_by_seat me.seat) (entered c.enter-guard.result) c.value-server.result.now c.act_as.new.self
     me.is_seat.1 c.enter-guard.ensures.seen now c.act_as.ensures.known c.act_as.ensures.owned in
-    let new = grows.knows g.S.Steps.known g.B.Based.base g.B.Based.damaged me.id (list_seen me.seat) c.act_as.new.self c.base-reply.new.self (list_seen c.leave.new.self.1.0) e c.base-reply.ensures.grew c.leave.ensures.seen in
-    let old = mine me.id g.B.Based.base g.B.Based.damaged (list_seen me.seat) in
+    let new = grows.knows g.S.Steps.known g.B.Based.base g.B.Based.damaged me.id (seen_by_seat me.seat) c.act_as.new.self c.base-reply.new.self (seen_by_seat c.leave.new.self.1.0) e c.base-reply.ensures.grew c.leave.ensures.seen in
+    let old = mine me.id g.B.Based.base g.B.Based.damaged (seen_by_seat me.seat) in
     subst (λ (k : Known). IfOk c.base-reply.result (DidBase old k c.args.p.now c.args.index c.args.rows.now)) (sym new) (grows.if_ok _ _ c.base-reply.result (λ x h. shares.base-shared _ _ _ c.args.p.now c.args.index c.args.rows.now x refl e.passes h) c.base-reply.ensures.ok)
 
 pub returns-clause-refused : goal.returns-clause-refused
 returns-clause-refused g c =
     let me = c.args.self.now in
     let now = c.enter-guard.ensures.entered ∙ ap (λ (v : g.row.S.Denot). (g.S.Steps.known v).seen) (sym c.value-server.ensures.value) in
-    let e = grows.enters g.S.Steps.known g.B.Based.base g.B.Based.damaged me.id (number me.seat) (list_seen me.seat) (entered c.enter-guard.result) c.value-server.result.now c.act_as.new.self
+    let e = grows.enters g.S.Steps.known g.B.Based.base g.B.Based.damaged me.id (seat_number me.seat) (seen_by_seat me.seat) (entered c.enter-guard.result) c.value-server.result.now c.act_as.new.self
     me.is_seat.1 c.enter-guard.ensures.seen now c.act_as.ensures.known c.act_as.ensures.owned in
-    let new = grows.knows g.S.Steps.known g.B.Based.base g.B.Based.damaged me.id (list_seen me.seat) c.act_as.new.self c.base-reply.new.self (list_seen c.leave.new.self.1.0) e c.base-reply.ensures.grew c.leave.ensures.seen in
-    let old = mine me.id g.B.Based.base g.B.Based.damaged (list_seen me.seat) in
+    let new = grows.knows g.S.Steps.known g.B.Based.base g.B.Based.damaged me.id (seen_by_seat me.seat) c.act_as.new.self c.base-reply.new.self (seen_by_seat c.leave.new.self.1.0) e c.base-reply.ensures.grew c.leave.ensures.seen in
+    let old = mine me.id g.B.Based.base g.B.Based.damaged (seen_by_seat me.seat) in
     subst (λ (k : Known). IfErr c.base-reply.result (Refuses (base_cause) old k)) (sym new) (grows.if_err _ _ c.base-reply.result (λ f h. grows.refuses-shared (base_cause) old (g.S.Steps.known c.act_as.new.self) (g.S.Steps.known c.base-reply.new.self) f (shares.base_shared) refl e.passes h) c.base-reply.ensures.refused)

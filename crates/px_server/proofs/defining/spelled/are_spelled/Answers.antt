@@ -1,5 +1,5 @@
 use Rattle.px_tables.specs.declared.table.TableColumn.{TableColumn}
-use Rattle.px_schema.specs.Parts.{name as name_piece}
+use Rattle.px_schema.specs.Parts.{name_piece}
 use Rattle.px_standing.proofs.SameNames.{all_next}
 use Rattle.px_server.proofs.defining.spelled.are_spelled.Goals as goal
 

@@ -1,6 +1,6 @@
 use Rattle.std.proofs.Common.{take}
 use Rattle.std.specs.List.{AllByRecursion}
-use Rattle.px_schema.specs.Parts.{name as name_piece}
+use Rattle.px_schema.specs.Parts.{name_piece}
 use Rattle.px_server.proofs.defining.spelled.are_spelled.Given as goal
 
 abbrev pub invariant-loop-column : goal.invariant-loop-column

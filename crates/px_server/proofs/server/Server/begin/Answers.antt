@@ -9,7 +9,7 @@ use Rattle.px_calls.specs.Calls.{DidBegin}
 use Rattle.px_calls.specs.Causes.{Refuses, begin_cause}
 use Rattle.px_calls.specs.Requires.{AreFitting}
 use Rattle.px_calls.specs.declared.fault.StepFault.TheVariants.{Closed, NoTable}
-use Rattle.px_turns.specs.Turns.{drawn}
+use Rattle.px_turns.specs.Turns.{drawn_stamp}
 use Rattle.px_standing.proofs.Looked.{lacks}
 use Rattle.px_repairs.proofs.Handing.{got_some}
 use Rattle.px_server.specs.Beginning.{RefusesBatch}
@@ -80,7 +80,7 @@ invariant_of-self g c =
       (
         c.self.invariant.1.0,
         drawn_by_clock g.C.Clock g.B.Founded.times g.B.Based.base s.clock s.trail.entries c.self.invariant.1.1 c.now-clock.new.self c.now-clock.ensures.rest c.push.new.self.entries e (draw c.args.table.0 c.in-Ok.started.stamp) entries refl
-            (λ tells. ap (λ (n : ℕ). drawn (last_of b c.args.table.0 s.trail.entries) n) (sym (c.now-clock.ensures.time tells)) ∙ (ap (λ (n : ℕ). drawn n c.now-clock.result) last ∙ m.stamp)),
+            (λ tells. ap (λ (n : ℕ). drawn_stamp (last_of b c.args.table.0 s.trail.entries) n) (sym (c.now-clock.ensures.time tells)) ∙ (ap (λ (n : ℕ). drawn_stamp n c.now-clock.result) last ∙ m.stamp)),
       ),
     )
 

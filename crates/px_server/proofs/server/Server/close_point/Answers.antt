@@ -1,7 +1,7 @@
 use Rattle.std.proofs.Common.{◌≡◌, ◌<◌, refl, sym, ap, subst, arith}
 use Rattle.std.specs.List.{slice_set}
 use Rattle.px_calls.specs.Known.{Adds}
-use Rattle.px_calls.specs.Requires.{IsOpen}
+use Rattle.px_calls.specs.Requires.{HasOpen}
 use Rattle.px_trail.specs.Trail.{open_points}
 use Rattle.px_trail.specs.declared.entry.Act.TheVariants.{Released as ReleasedAct}
 use Rattle.px_region.specs.declared.region.Region.{Region}
@@ -19,14 +19,14 @@ use Rattle.px_server.proofs.server.Server.close_point.Goals as goal
 pub close_point-requires : goal.close_point-requires
 close_point-requires g c =
     let s = c.self.inside in
-    let open_ : 0 < open_points s.seat c.args.p.table.0 c.args.p.stamp s.trail.entries = subst (λ (v : Shown). IsOpen (known_by g.B.Based.base g.B.Based.damaged v) c.args.p) (sym c.self.view_is) c.requires in
+    let open_ : 0 < open_points s.seat c.args.p.table.0 c.args.p.stamp s.trail.entries = subst (λ (v : Shown). HasOpen (known_by g.B.Based.base g.B.Based.damaged v) c.args.p) (sym c.self.view_is) c.requires in
     has_point g.D.Disk g.met.D.Disk.told g.met.D.Disk.up_to_now g.B.Based.base g.B.Founded.sound g.B.Founded.premise g.B.Founded.began s.disk s.catalog s.standing s.groups.items s.trail s.late s.closed c.self.invariant.0
     s.seat (g.D.Disk.calls s.disk) c.args.p.stamp c.args.p.table (λ i. g.D.Disk.calls s.disk) open_ c.in-Some.place c.index_mut.result.now c.in-Some.ensures.found c.in-Some.ensures.numbered (sym c.index_mut.ensures.value)
 
 pub invariant_of-self : goal.invariant_of-self
 invariant_of-self g c =
     let s = c.self.inside in
-    let open_ : 0 < open_points s.seat c.args.p.table.0 c.args.p.stamp s.trail.entries = subst (λ (v : Shown). IsOpen (known_by g.B.Based.base g.B.Based.damaged v) c.args.p) (sym c.self.view_is) c.requires in (
+    let open_ : 0 < open_points s.seat c.args.p.table.0 c.args.p.stamp s.trail.entries = subst (λ (v : Shown). HasOpen (known_by g.B.Based.base g.B.Based.damaged v) c.args.p) (sym c.self.view_is) c.requires in (
       closes g.D.Disk g.met.D.Disk.told g.met.D.Disk.up_to_now g.B.Based.base g.B.Founded.sound g.B.Founded.premise g.B.Founded.began s.disk s.catalog s.standing s.groups.items s.trail s.late s.closed c.self.invariant.0
           s.seat c.call_count.result c.args.p.stamp c.args.p.table c.call_count.ensures open_ c.in-Some.place c.index_mut.result.now c.in-Some.ensures.found c.in-Some.ensures.numbered (sym c.index_mut.ensures.value)
           c.close_point.new.group c.close_point.ensures.released c.close_point.ensures.count c.push.new.self c.push.ensures.entries c.push.ensures.room,
@@ -37,7 +37,7 @@ pub unreachable-requires : goal.unreachable-requires
 unreachable-requires g c =
     let s = c.self.inside in
     let told = c.self.invariant.0.told in
-    let open_ : 0 < open_points s.seat c.args.p.table.0 c.args.p.stamp s.trail.entries = subst (λ (v : Shown). IsOpen (known_by g.B.Based.base g.B.Based.damaged v) c.args.p) (sym c.self.view_is) c.requires in
+    let open_ : 0 < open_points s.seat c.args.p.table.0 c.args.p.stamp s.trail.entries = subst (λ (v : Shown). HasOpen (known_by g.B.Based.base g.B.Based.damaged v) c.args.p) (sym c.self.view_is) c.requires in
     let none : open_points s.seat c.args.p.table.0 c.args.p.stamp s.trail.entries ≡ 0 =
     none_open g.B.Based.base s.trail.entries told.legal c.args.p.table.0 (lacks g.B.Based.base s.trail.entries s.standing told.agrees c.args.p.table.0 c.in-None.ensures.none) s.seat c.args.p.stamp in
     omega (arith, none, open_)

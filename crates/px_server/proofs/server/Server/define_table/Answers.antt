@@ -8,7 +8,7 @@ use Rattle.px_calls.specs.Causes.{Refuses, define_cause}
 use Rattle.px_calls.specs.declared.definition.Definition.TheVariants.{Table as NewTableOf}
 use Rattle.px_calls.specs.declared.definition.Made.{Made as Answered}
 use Rattle.px_calls.specs.declared.fault.StepFault.TheVariants.{Memory}
-use Rattle.px_schema.specs.Records.{IsRight}
+use Rattle.px_schema.specs.Records.{IsRightCatalogItem}
 use Rattle.px_schema.specs.declared.item.CatalogItem.TheVariants.{TableIs}
 use Rattle.px_schema.specs.declared.standing.Standing.{Standing}
 use Rattle.px_catalog.specs.Catalogue.{standing_of}
@@ -56,7 +56,7 @@ append-requires g c =
     let s = c.self.inside in
     let may : MayMake s.standing s.closed c.args.what.now = on_ok c.check_table.result (MayMake s.standing s.closed c.args.what.now) c.check_table.ensures.ok (λ e is. search rules) in
     record {
-      right = subst (λ (i : Table). IsRight (standing_of s.catalog) (TableIs i)) (sym c.in-Ok.ensures.item_is)
+      right = subst (λ (i : Table). IsRightCatalogItem (standing_of s.catalog) (TableIs i)) (sym c.in-Ok.ensures.item_is)
           (made_right (standing_of s.catalog) s.standing s.closed c.args.what.now (ap (λ (st : Standing). st.tables) (c.self.invariant.0.told.same may.running)) c.requires may);
     }
 

@@ -11,7 +11,7 @@ use Rattle.px_calls.specs.declared.definition.Definition.TheVariants as definiti
 use Rattle.px_calls.specs.declared.definition.Made.{Made as Answered}
 use Rattle.px_calls.specs.declared.fault.StepFault.{StepFault}
 use Rattle.px_calls.specs.declared.fault.StepFault.TheVariants.{Memory}
-use Rattle.px_schema.specs.Records.{IsRight}
+use Rattle.px_schema.specs.Records.{IsRightCatalogItem}
 use Rattle.px_schema.specs.declared.item.CatalogItem.TheVariants.{IndexIs}
 use Rattle.px_catalog.specs.Catalogue.{standing_of}
 use Rattle.px_group.specs.declared.group.Group.{Group}
@@ -112,7 +112,7 @@ append-requires g c = (let
     in let
     short : x.table.0 < 256 ^ 4 = subst (λ (u : TableId). u.0 < 256 ^ 4) (sym (own g.D.Disk g.met.D.Disk.told g.met.D.Disk.up_to_now b g.B.Based.damaged g.B.Founded.sound g.B.Founded.premise g.B.Founded.began s.disk s.catalog s.standing s.groups.items s.trail s.late s.closed k s.seat c.args.table c.args.index p at x x_is h h_is)) small
     in
-    record { right = subst (λ (y : Index). IsRight (standing_of s.catalog) (IndexIs y)) (sym put.item) (fits_put g.D.Disk g.met.D.Disk.told g.met.D.Disk.up_to_now b g.B.Based.damaged g.B.Founded.sound g.B.Founded.premise g.B.Founded.began s.disk s.catalog s.standing s.groups.items s.trail s.late s.closed k s.seat c.args.table c.args.index p at x x_is h h_is (disabled x) refl put.right put.can short) })
+    record { right = subst (λ (y : Index). IsRightCatalogItem (standing_of s.catalog) (IndexIs y)) (sym put.item) (fits_put g.D.Disk g.met.D.Disk.told g.met.D.Disk.up_to_now b g.B.Based.damaged g.B.Founded.sound g.B.Founded.premise g.B.Founded.began s.disk s.catalog s.standing s.groups.items s.trail s.late s.closed k s.seat c.args.table c.args.index p at x x_is h h_is (disabled x) refl put.right put.can short) })
 
 pub invariant_of-self-in-Ok-entered : goal.invariant_of-self-in-Ok-entered
 invariant_of-self-in-Ok-entered g c = (let

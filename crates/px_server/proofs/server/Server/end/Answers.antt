@@ -4,7 +4,7 @@ use Rattle.px_calls.specs.Known.{Adds}
 use Rattle.px_calls.specs.Requires.{CanEnd}
 use Rattle.px_trail.specs.declared.entry.Act.TheVariants.{Ended as EndedAct}
 use Rattle.px_standing.proofs.Looked.{lacks}
-use Rattle.px_server.specs.Ending.{HasVerified}
+use Rattle.px_server.specs.Ending.{HasVerifiedEntry}
 use Rattle.px_server.specs.Shown.{Shown, known_by, shown_of}
 use Rattle.px_server.proofs.Ended.{written_batch}
 use Rattle.px_server.proofs.Ends.{end_stamp, ends, has_end, if_none, if_some, receipt}
@@ -70,4 +70,4 @@ returns-clause-receipt g c =
     subst (λ (n : _). IsReceipt (record { seat = s.seat; base = b; damaged = g.B.Based.damaged; alone = _; seen = c.push.new.self.entries }) c.args.t (record { table = c.args.t.table; stamp = c.args.t.stamp; rows = c.end-rows.result.rows; concurrent = c.end-rows.result.concurrent; unfinished = u.result; at = n })) (sym c.len.ensures)
     (receipt g.D.Disk b g.B.Founded.sound g.B.Founded.premise g.B.Founded.began s.disk s.catalog s.standing s.groups.items s.trail s.late s.closed kept c.args.t.table place.place c.index_mut.result.now place.ensures.found place.ensures.numbered (sym c.index_mut.ensures.value) c.args.t.stamp
     s.seat can c.in-Some-batch_place.batch x.batch x.goes.batch stamp c.call_count.result c.call_count.ensures g.B.Based.damaged c.end-rows.new.group c.end-rows.result x refl c.push.new.self c.push.ensures.entries (invariant_of-self g c).0.told.closing u.result
-    (if_none ((s.closed ≡ None) ⊎ HasVerified s.trail.entries c.args.t.table.0 c.args.t.stamp) u.result u.ensures.none) (λ call named. (if_some (λ (n : ℕ). (s.closed ≡ Some n) × (HasVerified s.trail.entries c.args.t.table.0 c.args.t.stamp → ⊥)) u.result u.ensures.some call named).0))
+    (if_none ((s.closed ≡ None) ⊎ HasVerifiedEntry s.trail.entries c.args.t.table.0 c.args.t.stamp) u.result u.ensures.none) (λ call named. (if_some (λ (n : ℕ). (s.closed ≡ Some n) × (HasVerifiedEntry s.trail.entries c.args.t.table.0 c.args.t.stamp → ⊥)) u.result u.ensures.some call named).0))

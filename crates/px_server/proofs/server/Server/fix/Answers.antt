@@ -8,13 +8,13 @@ use Rattle.px_calls.specs.declared.fault.StepFault.TheVariants.{Closed, Memory}
 use Rattle.px_trail.specs.declared.entry.Entry.{Entry}
 use Rattle.px_calls.specs.declared.query.Fixing.TheVariants.{Fixed as AsFixed, Gone}
 use Rattle.px_group.specs.declared.group.Group.{Group}
-use Rattle.px_pointreads.specs.Points.{LacksIndex}
+use Rattle.px_pointreads.specs.Points.{GroupLacksIndex}
 use Rattle.px_server.specs.Looks.{rows_looked}
 use Rattle.px_server.specs.Sights.{have_doubt}
 use Rattle.px_calls.specs.Doubtful.{IndexVersion, IsForRoom, version_of}
 use Rattle.px_calls.specs.declared.fault.StepFault.{StepFault}
 use Rattle.px_calls.specs.declared.query.Point.{Point}
-use Rattle.px_server.specs.Repairs.{Mends, RefusesFix, Stays}
+use Rattle.px_server.specs.Repairs.{Mends, RefusesFix, WritesNothing}
 use Rattle.px_server.specs.Kept.{IsKept}
 use Rattle.px_repairs.specs.Refused.{RefusesRepair}
 use Rattle.px_repairs.specs.Repairs.{Fixes}
@@ -54,7 +54,7 @@ returns-in_default-doubt_place-clause-ok g c =
     (finds (known_by g.B.Based.base g.B.Based.damaged v) told.legal s.closed told.closing running)
 
 pub returns-in_default-doubt_place-clause-fixes : goal.returns-in_default-doubt_place-clause-fixes
-returns-in_default-doubt_place-clause-fixes g c = subst (λ (w : Shown). Mends w.groups w.groups c.args.d.now Gone) c.self.view_is (inl (subst (AllByRecursion (LacksIndex c.args.d.now.index)) c.deref.ensures.value c.in_default-doubt_place.ensures.none))
+returns-in_default-doubt_place-clause-fixes g c = subst (λ (w : Shown). Mends w.groups w.groups c.args.d.now Gone) c.self.view_is (inl (subst (AllByRecursion (GroupLacksIndex c.args.d.now.index)) c.deref.ensures.value c.in_default-doubt_place.ensures.none))
 
 pub returns-in_default-copied-clause-refused : goal.returns-in_default-copied-clause-refused
 returns-in_default-copied-clause-refused g c =
@@ -93,7 +93,7 @@ invariant_of-self-then-has_stayed g c =
     let running : s.closed ≡ None = none_of s.closed (λ x is. search rules) in
     let l : c.in-Some-doubt_place.at.group < length s.groups.items = inside s.groups.items c.deref.result.now c.in-Some-doubt_place.at.group c.deref.ensures.value c.in-Some-doubt_place.ensures.within in
     let named = (doubt_at s.groups.items c.deref.result.now c.in-Some-doubt_place.at.group c.in-Some-doubt_place.at.index c.args.d.now.index c.index_mut-group.result.now _ c.deref.ensures.value c.in-Some-doubt_place.ensures.within c.in-Some-doubt_place.ensures.numbered c.index_mut-group.ensures.value).1 in
-    let here : Stays c.fix-fixed.result = search rules in
+    let here : WritesNothing c.fix-fixed.result = search rules in
     let h = stayed g.D.Disk c.index_mut-group.result.now c.fix-fixed.new.group s.disk c.fix-fixed.new.disk c.in-Some-doubt_place.at.index c.as_slice.result.now c.args.d.now.stamp c.fix-fixed.result here c.fix-fixed.ensures.fixes in (
       roomy g.D.Disk b g.B.Founded.sound g.B.Founded.premise g.B.Founded.began c.fix-fixed.new.disk s.catalog s.standing (slice_set s.groups.items c.in-Some-doubt_place.at.group c.fix-fixed.new.group) s.trail s.late s.closed
           (fix_stayed g.D.Disk g.met.D.Disk.told g.met.D.Disk.up_to_now b g.B.Founded.sound g.B.Founded.premise g.B.Founded.began s.disk s.catalog s.standing s.groups.items s.trail s.late s.closed k running c.in-Some-doubt_place.at.group c.index_mut-group.result.now c.fix-fixed.new.group l (sym c.index_mut-group.ensures.value) c.fix-fixed.new.disk h)
@@ -111,7 +111,7 @@ returns-then-has_stayed-clause-ok g c =
     let running : s.closed ≡ None = none_of s.closed (λ x is. search rules) in
     let l : c.in-Some-doubt_place.at.group < length s.groups.items = inside s.groups.items c.deref.result.now c.in-Some-doubt_place.at.group c.deref.ensures.value c.in-Some-doubt_place.ensures.within in
     let named = (doubt_at s.groups.items c.deref.result.now c.in-Some-doubt_place.at.group c.in-Some-doubt_place.at.index c.args.d.now.index c.index_mut-group.result.now _ c.deref.ensures.value c.in-Some-doubt_place.ensures.within c.in-Some-doubt_place.ensures.numbered c.index_mut-group.ensures.value).1 in
-    let here : Stays c.fix-fixed.result = search rules in
+    let here : WritesNothing c.fix-fixed.result = search rules in
     let h = stayed g.D.Disk c.index_mut-group.result.now c.fix-fixed.new.group s.disk c.fix-fixed.new.disk c.in-Some-doubt_place.at.index c.as_slice.result.now c.args.d.now.stamp c.fix-fixed.result here c.fix-fixed.ensures.fixes in
     let same : c.as_slice.result.now ≡ c.args.d.now.key = search rules in
     let fixes = subst (λ (kk : List ℕ). Fixes g.D.Disk c.index_mut-group.result.now c.fix-fixed.new.group s.disk c.fix-fixed.new.disk c.in-Some-doubt_place.at.index kk c.args.d.now.stamp c.fix-fixed.result) same c.fix-fixed.ensures.fixes in
@@ -127,7 +127,7 @@ returns-then-has_stayed-clause-fixes g c =
     let s = c.self.inside in
     let l : c.in-Some-doubt_place.at.group < length s.groups.items = inside s.groups.items c.deref.result.now c.in-Some-doubt_place.at.group c.deref.ensures.value c.in-Some-doubt_place.ensures.within in
     let named = doubt_at s.groups.items c.deref.result.now c.in-Some-doubt_place.at.group c.in-Some-doubt_place.at.index c.args.d.now.index c.index_mut-group.result.now _ c.deref.ensures.value c.in-Some-doubt_place.ensures.within c.in-Some-doubt_place.ensures.numbered c.index_mut-group.ensures.value in
-    let here : Stays c.fix-fixed.result = search rules in
+    let here : WritesNothing c.fix-fixed.result = search rules in
     let same : c.as_slice.result.now ≡ c.args.d.now.key = search rules in
     let fixes = subst (λ (kk : List ℕ). Fixes g.D.Disk c.index_mut-group.result.now c.fix-fixed.new.group s.disk c.fix-fixed.new.disk c.in-Some-doubt_place.at.index kk c.args.d.now.stamp c.fix-fixed.result) same c.fix-fixed.ensures.fixes in
     subst (λ (w : Shown). IfOk c.answered.result (Mends w.groups (slice_set s.groups.items c.in-Some-doubt_place.at.group c.fix-fixed.new.group) c.args.d.now)) c.self.view_is
@@ -143,7 +143,7 @@ returns-then-has_stayed-clause-refused g c =
     let running : s.closed ≡ None = none_of s.closed (λ x is. search rules) in
     let l : c.in-Some-doubt_place.at.group < length s.groups.items = inside s.groups.items c.deref.result.now c.in-Some-doubt_place.at.group c.deref.ensures.value c.in-Some-doubt_place.ensures.within in
     let named = (doubt_at s.groups.items c.deref.result.now c.in-Some-doubt_place.at.group c.in-Some-doubt_place.at.index c.args.d.now.index c.index_mut-group.result.now _ c.deref.ensures.value c.in-Some-doubt_place.ensures.within c.in-Some-doubt_place.ensures.numbered c.index_mut-group.ensures.value).1 in
-    let here : Stays c.fix-fixed.result = search rules in
+    let here : WritesNothing c.fix-fixed.result = search rules in
     let h = stayed g.D.Disk c.index_mut-group.result.now c.fix-fixed.new.group s.disk c.fix-fixed.new.disk c.in-Some-doubt_place.at.index c.as_slice.result.now c.args.d.now.stamp c.fix-fixed.result here c.fix-fixed.ensures.fixes in
     subst (λ (w : Shown). IfErr c.answered.result (Refuses fix_cause (known_by b g.B.Based.damaged w) (known_by b g.B.Based.damaged (record v { entries = c.give_back.new.self.entries })))) c.self.view_is
     (subst (λ (es : List Entry). IfErr c.answered.result (Refuses fix_cause (known_by b g.B.Based.damaged v) (known_by b g.B.Based.damaged (record v { entries = es })))) (sym (c.give_back.ensures.same ∙ c.reserve.ensures.same))
@@ -177,7 +177,7 @@ invariant_of-self-in-Ok-fixed g c =
     let running : s.closed ≡ None = none_of s.closed (λ x is. search rules) in
     let l : c.in-Some-doubt_place.at.group < length s.groups.items = inside s.groups.items c.deref.result.now c.in-Some-doubt_place.at.group c.deref.ensures.value c.in-Some-doubt_place.ensures.within in
     let named = (doubt_at s.groups.items c.deref.result.now c.in-Some-doubt_place.at.group c.in-Some-doubt_place.at.index c.args.d.now.index c.index_mut-group.result.now _ c.deref.ensures.value c.in-Some-doubt_place.ensures.within c.in-Some-doubt_place.ensures.numbered c.index_mut-group.ensures.value).1 in
-    let never : Stays c.fix-fixed.result → ⊥ = λ st. search rules in
+    let never : WritesNothing c.fix-fixed.result → ⊥ = λ st. search rules in
     let f = (fixed_of g.D.Disk c.index_mut-group.result.now c.fix-fixed.new.group s.disk c.fix-fixed.new.disk c.in-Some-doubt_place.at.index c.as_slice.result.now c.args.d.now.stamp c.fix-fixed.result c.in-Ok-fixed.fixing never c.in-Ok-fixed.is c.fix-fixed.ensures.fixes).0 in
     let o : c.reserve.new.self.room ≡ s.trail.room + 1 = search rules in
     let p = c.push.ensures.room in (
@@ -196,7 +196,7 @@ returns-in-Ok-fixed-clause-ok g c =
     let running : s.closed ≡ None = none_of s.closed (λ x is. search rules) in
     let l : c.in-Some-doubt_place.at.group < length s.groups.items = inside s.groups.items c.deref.result.now c.in-Some-doubt_place.at.group c.deref.ensures.value c.in-Some-doubt_place.ensures.within in
     let named = (doubt_at s.groups.items c.deref.result.now c.in-Some-doubt_place.at.group c.in-Some-doubt_place.at.index c.args.d.now.index c.index_mut-group.result.now _ c.deref.ensures.value c.in-Some-doubt_place.ensures.within c.in-Some-doubt_place.ensures.numbered c.index_mut-group.ensures.value).1 in
-    let never : Stays c.fix-fixed.result → ⊥ = λ st. search rules in
+    let never : WritesNothing c.fix-fixed.result → ⊥ = λ st. search rules in
     let same : c.as_slice.result.now ≡ c.args.d.now.key = search rules in
     let fixes = subst (λ (kk : List ℕ). Fixes g.D.Disk c.index_mut-group.result.now c.fix-fixed.new.group s.disk c.fix-fixed.new.disk c.in-Some-doubt_place.at.index kk c.args.d.now.stamp c.fix-fixed.result) same c.fix-fixed.ensures.fixes in
     let f = fixed_of g.D.Disk c.index_mut-group.result.now c.fix-fixed.new.group s.disk c.fix-fixed.new.disk c.in-Some-doubt_place.at.index c.args.d.now.key c.args.d.now.stamp c.fix-fixed.result c.in-Ok-fixed.fixing never c.in-Ok-fixed.is fixes in
@@ -217,7 +217,7 @@ returns-in-Ok-fixed-clause-fixes g c =
     let s = c.self.inside in
     let l : c.in-Some-doubt_place.at.group < length s.groups.items = inside s.groups.items c.deref.result.now c.in-Some-doubt_place.at.group c.deref.ensures.value c.in-Some-doubt_place.ensures.within in
     let named = doubt_at s.groups.items c.deref.result.now c.in-Some-doubt_place.at.group c.in-Some-doubt_place.at.index c.args.d.now.index c.index_mut-group.result.now _ c.deref.ensures.value c.in-Some-doubt_place.ensures.within c.in-Some-doubt_place.ensures.numbered c.index_mut-group.ensures.value in
-    let never : Stays c.fix-fixed.result → ⊥ = λ st. search rules in
+    let never : WritesNothing c.fix-fixed.result → ⊥ = λ st. search rules in
     let same : c.as_slice.result.now ≡ c.args.d.now.key = search rules in
     let fixes = subst (λ (kk : List ℕ). Fixes g.D.Disk c.index_mut-group.result.now c.fix-fixed.new.group s.disk c.fix-fixed.new.disk c.in-Some-doubt_place.at.index kk c.args.d.now.stamp c.fix-fixed.result) same c.fix-fixed.ensures.fixes in
     let f = fixed_of g.D.Disk c.index_mut-group.result.now c.fix-fixed.new.group s.disk c.fix-fixed.new.disk c.in-Some-doubt_place.at.index c.args.d.now.key c.args.d.now.stamp c.fix-fixed.result c.in-Ok-fixed.fixing never c.in-Ok-fixed.is fixes in
@@ -236,7 +236,7 @@ invariant_of-self-in-Err g c =
     let running : s.closed ≡ None = none_of s.closed (λ x is. search rules) in
     let l : c.in-Some-doubt_place.at.group < length s.groups.items = inside s.groups.items c.deref.result.now c.in-Some-doubt_place.at.group c.deref.ensures.value c.in-Some-doubt_place.ensures.within in
     let named = (doubt_at s.groups.items c.deref.result.now c.in-Some-doubt_place.at.group c.in-Some-doubt_place.at.index c.args.d.now.index c.index_mut-group.result.now _ c.deref.ensures.value c.in-Some-doubt_place.ensures.within c.in-Some-doubt_place.ensures.numbered c.index_mut-group.ensures.value).1 in
-    let never : Stays c.fix-fixed.result → ⊥ = λ st. search rules in
+    let never : WritesNothing c.fix-fixed.result → ⊥ = λ st. search rules in
     let f = (failed_of g.D.Disk c.index_mut-group.result.now c.fix-fixed.new.group s.disk c.fix-fixed.new.disk c.in-Some-doubt_place.at.index c.as_slice.result.now c.args.d.now.stamp c.fix-fixed.result c.in-Err.field-0 never c.in-Err.is c.fix-fixed.ensures.fixes) in
     let o : c.reserve.new.self.room ≡ s.trail.room + 1 = search rules in
     let p = c.shut.ensures.room in
@@ -313,7 +313,7 @@ pub returns-in_default-doubt_place-clause-there : goal.returns-in_default-doubt_
 returns-in_default-doubt_place-clause-there g c =
     let s = c.self.inside in
     subst (λ (w : Shown). (p : Point) → have_doubt w.groups p (version_of c.args.d.now) ≡ true → Gone ≢ Gone) c.self.view_is
-    (λ p had same. none_there s.groups.items c.args.d.now (subst (AllByRecursion (LacksIndex c.args.d.now.index)) c.deref.ensures.value c.in_default-doubt_place.ensures.none) p had)
+    (λ p had same. none_there s.groups.items c.args.d.now (subst (AllByRecursion (GroupLacksIndex c.args.d.now.index)) c.deref.ensures.value c.in_default-doubt_place.ensures.none) p had)
 
 pub returns-then-has_stayed-clause-there : goal.returns-then-has_stayed-clause-there
 returns-then-has_stayed-clause-there g c =
@@ -329,7 +329,7 @@ returns-then-has_stayed-clause-there g c =
     let named = doubt_at s.groups.items c.deref.result.now place at c.args.d.now.index h _ c.deref.ensures.value c.in-Some-doubt_place.ensures.within c.in-Some-doubt_place.ensures.numbered c.index_mut-group.ensures.value in
     let same : c.as_slice.result.now ≡ c.args.d.now.key = search rules in
     let fixes = subst (λ (kk : List ℕ). Fixes g.D.Disk h h' s.disk c.fix-fixed.new.disk at kk c.args.d.now.stamp c.fix-fixed.result) same c.fix-fixed.ensures.fixes in
-    let here : Stays c.fix-fixed.result = search rules in
+    let here : WritesNothing c.fix-fixed.result = search rules in
     subst (λ (w : Shown). IfOk c.answered.result (λ f. (p : Point) → have_doubt w.groups p (version_of c.args.d.now) ≡ true → f ≢ Gone)) c.self.view_is
     (answers_there g.D.Disk b g.B.Founded.sound g.B.Founded.premise g.B.Founded.began s.disk s.catalog s.standing s.groups.items s.trail s.late s.closed k running place h h' l (sym c.index_mut-group.ensures.value) c.fix-fixed.new.disk at c.args.d.now named.0 named.1 c.number-region.result c.fix-fixed.result here fixes c.answered.result c.answered.ensures)
 
@@ -344,7 +344,7 @@ returns-then-has_stayed-clause-others g c =
     let h' = c.fix-fixed.new.group in
     let running : s.closed ≡ None = none_of s.closed (λ x is. search rules) in
     let l : place < length s.groups.items = inside s.groups.items c.deref.result.now place c.deref.ensures.value c.in-Some-doubt_place.ensures.within in
-    let here : Stays c.fix-fixed.result = search rules in
+    let here : WritesNothing c.fix-fixed.result = search rules in
     let h-stayed = stayed g.D.Disk h h' s.disk c.fix-fixed.new.disk at c.as_slice.result.now c.args.d.now.stamp c.fix-fixed.result here c.fix-fixed.ensures.fixes in
     subst (λ (w : Shown). IfOk c.answered.result (λ f. g.B.Founded.sound → (p : Point) (v : IndexVersion) → v.key ≢ c.args.d.now.key → have_doubt (slice_set s.groups.items place h') p v ≡ have_doubt w.groups p v)) c.self.view_is
     (others_told (g.B.Founded.sound → (p : Point) (v : IndexVersion) → v.key ≢ c.args.d.now.key → have_doubt (slice_set s.groups.items place h') p v ≡ have_doubt s.groups.items p v)
@@ -361,7 +361,7 @@ returns-then-has_stayed-clause-still g c =
     let h' = c.fix-fixed.new.group in
     let running : s.closed ≡ None = none_of s.closed (λ x is. search rules) in
     let l : place < length s.groups.items = inside s.groups.items c.deref.result.now place c.deref.ensures.value c.in-Some-doubt_place.ensures.within in
-    let here : Stays c.fix-fixed.result = search rules in
+    let here : WritesNothing c.fix-fixed.result = search rules in
     let h-stayed = stayed g.D.Disk h h' s.disk c.fix-fixed.new.disk at c.as_slice.result.now c.args.d.now.stamp c.fix-fixed.result here c.fix-fixed.ensures.fixes in
     subst (λ (w : Shown). IfErr c.answered.result (λ f. IsForRoom f → (p : Point) (v : IndexVersion) → have_doubt (slice_set s.groups.items place h') p v ≡ have_doubt w.groups p v)) c.self.view_is
     (still_told ((p : Point) (v : IndexVersion) → have_doubt (slice_set s.groups.items place h') p v ≡ have_doubt s.groups.items p v)
@@ -373,7 +373,7 @@ not_gone x fixed gone = (let z : ◌≡◌ {A = Fixing} AsFixed Gone = sym fixed
 pub returns-in-Ok-fixed-clause-there : goal.returns-in-Ok-fixed-clause-there
 returns-in-Ok-fixed-clause-there g c = λ p had.
     let s = c.self.inside in
-    let never : Stays c.fix-fixed.result → ⊥ = λ st. search rules in
+    let never : WritesNothing c.fix-fixed.result → ⊥ = λ st. search rules in
     let f = fixed_of g.D.Disk c.index_mut-group.result.now c.fix-fixed.new.group s.disk c.fix-fixed.new.disk c.in-Some-doubt_place.at.index c.as_slice.result.now c.args.d.now.stamp c.fix-fixed.result c.in-Ok-fixed.fixing never c.in-Ok-fixed.is c.fix-fixed.ensures.fixes in
     not_gone c.in-Ok-fixed.fixing f.1
 
@@ -390,7 +390,7 @@ returns-in-Ok-fixed-clause-others g c =
     let l : place < length s.groups.items = inside s.groups.items c.deref.result.now place c.deref.ensures.value c.in-Some-doubt_place.ensures.within in
     let same : c.as_slice.result.now ≡ c.args.d.now.key = search rules in
     let fixes = subst (λ (kk : List ℕ). Fixes g.D.Disk h h' s.disk c.fix-fixed.new.disk at kk c.args.d.now.stamp c.fix-fixed.result) same c.fix-fixed.ensures.fixes in
-    let never : Stays c.fix-fixed.result → ⊥ = λ st. search rules in
+    let never : WritesNothing c.fix-fixed.result → ⊥ = λ st. search rules in
     let f = fixed_of g.D.Disk h h' s.disk c.fix-fixed.new.disk at c.args.d.now.key c.args.d.now.stamp c.fix-fixed.result c.in-Ok-fixed.fixing never c.in-Ok-fixed.is fixes in
     subst (λ (w : Shown). g.B.Founded.sound → (p : Point) (v : IndexVersion) → v.key ≢ c.args.d.now.key → have_doubt (slice_set s.groups.items place h') p v ≡ have_doubt w.groups p v) c.self.view_is
     (λ given p v apart. fixed_others g.D.Disk b g.B.Founded.sound g.B.Founded.premise g.B.Founded.began s.disk s.catalog s.standing s.groups.items s.trail s.late s.closed k running place h h' l (sym c.index_mut-group.ensures.value) given c.fix-fixed.new.disk at c.args.d.now.key c.args.d.now.stamp f.0 p v apart)

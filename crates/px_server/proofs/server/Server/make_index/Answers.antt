@@ -6,7 +6,7 @@ use Rattle.px_tables.specs.declared.table.Table.{Table}
 use Rattle.px_trail.specs.Trail.{last_of, table_of}
 use Rattle.px_trail.specs.declared.entry.Act.TheVariants as act
 use Rattle.px_trail.specs.declared.entry.Entry.{Entry}
-use Rattle.px_turns.specs.Turns.{drawn}
+use Rattle.px_turns.specs.Turns.{drawn_stamp}
 use Rattle.px_calls.specs.Calls.{DidDefine}
 use Rattle.px_calls.specs.Causes.{Refuses, define_cause}
 use Rattle.px_calls.specs.Requires.{IsIndexFit}
@@ -239,7 +239,7 @@ invariant_of-self-in-Ok-entered g c = (let
       (
         c.self.invariant.1.0,
         drawn_by_clock g.C.Clock g.B.Founded.times b s.clock s.trail.entries c.self.invariant.1.1 c.next_stamp-stamp.new.clock c.next_stamp-stamp.ensures.rest c.entered.new.trail.entries e (draw c.args.what.now.table.0 c.next_stamp-stamp.result) (c.in-Ok-entered.ensures.ok.1.entries ∙ ap (λ (es : List Entry). es ++ e ∷ []) c.take_entry.ensures.same) refl
-            (λ tells. ap (λ (n : ℕ). drawn n (g.C.Clock.times s.clock 0)) last_is ∙ c.next_stamp-stamp.ensures.drawn tells),
+            (λ tells. ap (λ (n : ℕ). drawn_stamp n (g.C.Clock.times s.clock 0)) last_is ∙ c.next_stamp-stamp.ensures.drawn tells),
       ),
     ))
 

@@ -1,7 +1,7 @@
 use Rattle.std.proofs.Common.{◌≡◌, ◌<◌, ◌∙◌, Some, [], ◌∷◌, ◌++◌, length, slice_get, refl, sym, ap, subst, arith}
 use Rattle.std.specs.List.{slice_set}
 use Rattle.px_values.specs.declared.name.TableId.{TableId}
-use Rattle.px_trail.specs.Batches.{IsIn, Marking as InMarking}
+use Rattle.px_trail.specs.Batches.{IsBatchIn, Marking as InMarking}
 use Rattle.px_trail.specs.declared.entry.Act.TheVariants.{Phase as PhaseAct, Shut}
 use Rattle.px_trail.specs.declared.entry.Entry.{Entry}
 use Rattle.px_trail.proofs.Batches.{in_marking}
@@ -36,20 +36,20 @@ returns-in-Some-clause-refused g c =
 pub unreachable-requires : goal.unreachable-requires
 unreachable-requires g c =
     let s = c.self.inside in
-    let mine : IsIn s.trail.entries s.seat c.args.t.now.table.0 c.args.t.now.stamp InMarking = subst (λ (v : Shown). TicketIn (known_by g.B.Based.base g.B.Based.damaged v) c.args.t.now InMarking) (sym c.self.view_is) c.requires in
+    let mine : IsBatchIn s.trail.entries s.seat c.args.t.now.table.0 c.args.t.now.stamp InMarking = subst (λ (v : Shown). TicketIn (known_by g.B.Based.base g.B.Based.damaged v) c.args.t.now InMarking) (sym c.self.view_is) c.requires in
     stands_somewhere g.D.Disk g.B.Based.base g.B.Founded.sound g.B.Founded.premise g.B.Founded.began s.disk s.catalog s.standing s.groups.items s.trail s.late s.closed c.self.invariant.0 c.args.t.now s.seat Marking mine (in_marking mine.batch mine.phase).0 c.in_default-numbered_place.ensures.none
 
 pub unreachable-requires-in_default-batch_place : goal.unreachable-requires-in_default-batch_place
 unreachable-requires-in_default-batch_place g c =
     let s = c.self.inside in
-    let mine : IsIn s.trail.entries s.seat c.args.t.now.table.0 c.args.t.now.stamp InMarking = subst (λ (v : Shown). TicketIn (known_by g.B.Based.base g.B.Based.damaged v) c.args.t.now InMarking) (sym c.self.view_is) c.requires in
+    let mine : IsBatchIn s.trail.entries s.seat c.args.t.now.table.0 c.args.t.now.stamp InMarking = subst (λ (v : Shown). TicketIn (known_by g.B.Based.base g.B.Based.damaged v) c.args.t.now InMarking) (sym c.self.view_is) c.requires in
     batch_somewhere g.D.Disk g.B.Based.base g.B.Founded.sound g.B.Founded.premise g.B.Founded.began s.disk s.catalog s.standing s.groups.items s.trail s.late s.closed c.self.invariant.0 c.args.t.now s.seat Marking mine (in_marking mine.batch mine.phase).0 c.in_default.is c.in-Some-numbered_place.place c.in-Some-numbered_place.ensures.found c.in-Some-numbered_place.ensures.numbered c.index.result.now c.index.ensures
     c.in_default-batch_place.ensures.none
 
 pub mark-outcome-requires-clause-marking : goal.mark-outcome-requires-clause-marking
 mark-outcome-requires-clause-marking g c =
     let s = c.self.inside in
-    let mine : IsIn s.trail.entries s.seat c.args.t.now.table.0 c.args.t.now.stamp InMarking = subst (λ (v : Shown). TicketIn (known_by g.B.Based.base g.B.Based.damaged v) c.args.t.now InMarking) (sym c.self.view_is) c.requires in
+    let mine : IsBatchIn s.trail.entries s.seat c.args.t.now.table.0 c.args.t.now.stamp InMarking = subst (λ (v : Shown). TicketIn (known_by g.B.Based.base g.B.Based.damaged v) c.args.t.now InMarking) (sym c.self.view_is) c.requires in
     let inside = there g.D.Disk g.B.Based.base g.B.Founded.sound g.B.Founded.premise g.B.Founded.began s.disk s.catalog s.standing s.groups.items s.trail s.late s.closed c.self.invariant.0 c.args.t.now s.seat Marking mine (in_marking mine.batch mine.phase).0 c.in_default.is c.in-Some-numbered_place.place c.in-Some-numbered_place.ensures.found c.in-Some-numbered_place.ensures.numbered c.index.result.now c.index.ensures in
     let same : c.index.result.now ≡ c.index_mut-group.result.now = same_read s.groups.items c.in-Some-numbered_place.place c.index.result.now c.index_mut-group.result.now inside c.index.ensures c.index_mut-group.ensures.value in
     batch_is g.D.Disk g.B.Based.base g.B.Founded.sound g.B.Founded.premise g.B.Founded.began s.disk s.catalog s.standing s.groups.items s.trail s.late s.closed c.self.invariant.0 c.args.t.now s.seat Marking mine (in_marking mine.batch mine.phase).0 c.in_default.is c.in-Some-numbered_place.place c.in-Some-numbered_place.ensures.found c.in-Some-numbered_place.ensures.numbered c.index_mut-group.result.now c.index_mut-group.ensures.value
@@ -61,7 +61,7 @@ invariant_of-self g c =
     let s = c.self.inside in
     let place = c.in-Some-numbered_place.place in
     let h = c.index_mut-group.result.now in
-    let mine : IsIn s.trail.entries s.seat c.args.t.now.table.0 c.args.t.now.stamp InMarking = subst (λ (v : Shown). TicketIn (known_by g.B.Based.base g.B.Based.damaged v) c.args.t.now InMarking) (sym c.self.view_is) c.requires in
+    let mine : IsBatchIn s.trail.entries s.seat c.args.t.now.table.0 c.args.t.now.stamp InMarking = subst (λ (v : Shown). TicketIn (known_by g.B.Based.base g.B.Based.damaged v) c.args.t.now InMarking) (sym c.self.view_is) c.requires in
     let inside = there g.D.Disk g.B.Based.base g.B.Founded.sound g.B.Founded.premise g.B.Founded.began s.disk s.catalog s.standing s.groups.items s.trail s.late s.closed c.self.invariant.0 c.args.t.now s.seat Marking mine (in_marking mine.batch mine.phase).0 c.in_default.is place c.in-Some-numbered_place.ensures.found c.in-Some-numbered_place.ensures.numbered h c.index_mut-group.ensures.value in
     let w = marked_more g.D.Disk h c.mark-outcome.new.group s.disk c.mark-outcome.new.disk c.in-Some-batch_place.batch c.mark-outcome.result c.in-Ok.marked c.in-Ok.is c.in-More.is c.mark-outcome.ensures.steps in (
       marks_kept g.D.Disk g.met.D.Disk.told g.met.D.Disk.up_to_now g.B.Based.base g.B.Founded.sound g.B.Founded.premise g.B.Founded.began s.disk s.catalog s.standing s.groups.items s.trail s.late s.closed c.self.invariant.0 c.in_default.is
@@ -74,10 +74,10 @@ invariant_of-self-in-AllMarked g c =
     let s = c.self.inside in
     let place = c.in-Some-numbered_place.place in
     let h = c.index_mut-group.result.now in
-    let mine : IsIn s.trail.entries s.seat c.args.t.now.table.0 c.args.t.now.stamp InMarking = subst (λ (v : Shown). TicketIn (known_by g.B.Based.base g.B.Based.damaged v) c.args.t.now InMarking) (sym c.self.view_is) c.requires in
+    let mine : IsBatchIn s.trail.entries s.seat c.args.t.now.table.0 c.args.t.now.stamp InMarking = subst (λ (v : Shown). TicketIn (known_by g.B.Based.base g.B.Based.damaged v) c.args.t.now InMarking) (sym c.self.view_is) c.requires in
     let inside = there g.D.Disk g.B.Based.base g.B.Founded.sound g.B.Founded.premise g.B.Founded.began s.disk s.catalog s.standing s.groups.items s.trail s.late s.closed c.self.invariant.0 c.args.t.now s.seat Marking mine (in_marking mine.batch mine.phase).0 c.in_default.is place c.in-Some-numbered_place.ensures.found c.in-Some-numbered_place.ensures.numbered h c.index_mut-group.ensures.value in
     let own : h.table.id ≡ c.args.t.now.table = own_table g.D.Disk g.B.Based.base g.B.Founded.sound g.B.Founded.premise g.B.Founded.began s.disk s.catalog s.standing s.groups.items s.trail s.late s.closed c.self.invariant.0 c.args.t.now s.seat Marking mine (in_marking mine.batch mine.phase).0 c.in_default.is place c.in-Some-numbered_place.ensures.found c.in-Some-numbered_place.ensures.numbered h c.index_mut-group.ensures.value in
-    let phase : IsIn s.trail.entries s.seat h.table.id.0 c.args.t.now.stamp InMarking = subst (λ (x : TableId). IsIn s.trail.entries s.seat x.0 c.args.t.now.stamp InMarking) (sym own) mine in
+    let phase : IsBatchIn s.trail.entries s.seat h.table.id.0 c.args.t.now.stamp InMarking = subst (λ (x : TableId). IsBatchIn s.trail.entries s.seat x.0 c.args.t.now.stamp InMarking) (sym own) mine in
     let same : c.index.result.now ≡ h = same_read s.groups.items place c.index.result.now h inside c.index.ensures c.index_mut-group.ensures.value in
     let e : Entry = record { seat = s.seat; calls = c.call_count-calls.result; act = PhaseAct c.args.t.now.table c.args.t.now.stamp 1 } in
     let all = marked_all g.D.Disk h c.mark-outcome.new.group s.disk c.mark-outcome.new.disk c.in-Some-batch_place.batch c.mark-outcome.result c.in-Ok.marked c.in-Ok.is c.in-AllMarked.is c.mark-outcome.ensures.steps in (
@@ -94,7 +94,7 @@ invariant_of-self-in-Err g c =
     let s = c.self.inside in
     let place = c.in-Some-numbered_place.place in
     let h = c.index_mut-group.result.now in
-    let mine : IsIn s.trail.entries s.seat c.args.t.now.table.0 c.args.t.now.stamp InMarking = subst (λ (v : Shown). TicketIn (known_by g.B.Based.base g.B.Based.damaged v) c.args.t.now InMarking) (sym c.self.view_is) c.requires in
+    let mine : IsBatchIn s.trail.entries s.seat c.args.t.now.table.0 c.args.t.now.stamp InMarking = subst (λ (v : Shown). TicketIn (known_by g.B.Based.base g.B.Based.damaged v) c.args.t.now InMarking) (sym c.self.view_is) c.requires in
     let inside = there g.D.Disk g.B.Based.base g.B.Founded.sound g.B.Founded.premise g.B.Founded.began s.disk s.catalog s.standing s.groups.items s.trail s.late s.closed c.self.invariant.0 c.args.t.now s.seat Marking mine (in_marking mine.batch mine.phase).0 c.in_default.is place c.in-Some-numbered_place.ensures.found c.in-Some-numbered_place.ensures.numbered h c.index_mut-group.ensures.value in
     let shut : Entry = record { seat = s.seat; calls = c.call_count-calls.result; act = Shut c.call_count-calls.result } in
     let kept = marks_shut g.D.Disk g.met.D.Disk.told g.met.D.Disk.up_to_now g.B.Based.base g.B.Founded.sound g.B.Founded.premise g.B.Founded.began s.disk s.catalog s.standing s.groups.items s.trail s.late s.closed c.self.invariant.0 c.in_default.is
@@ -145,7 +145,7 @@ returns-in-More-clause-fewer g c =
     let place = c.in-Some-numbered_place.place in
     let h = c.index_mut-group.result.now in
     let t = c.args.t.now in
-    let mine : IsIn s.trail.entries s.seat t.table.0 t.stamp InMarking = subst (λ (v : Shown). TicketIn (known_by g.B.Based.base g.B.Based.damaged v) t InMarking) (sym c.self.view_is) c.requires in
+    let mine : IsBatchIn s.trail.entries s.seat t.table.0 t.stamp InMarking = subst (λ (v : Shown). TicketIn (known_by g.B.Based.base g.B.Based.damaged v) t InMarking) (sym c.self.view_is) c.requires in
     let inside = there g.D.Disk g.B.Based.base g.B.Founded.sound g.B.Founded.premise g.B.Founded.began s.disk s.catalog s.standing s.groups.items s.trail s.late s.closed c.self.invariant.0 t s.seat Marking mine (in_marking mine.batch mine.phase).0 c.in_default.is place c.in-Some-numbered_place.ensures.found c.in-Some-numbered_place.ensures.numbered h c.index_mut-group.ensures.value in
     let own : h.table.id ≡ t.table = own_table g.D.Disk g.B.Based.base g.B.Founded.sound g.B.Founded.premise g.B.Founded.began s.disk s.catalog s.standing s.groups.items s.trail s.late s.closed c.self.invariant.0 t s.seat Marking mine (in_marking mine.batch mine.phase).0 c.in_default.is place c.in-Some-numbered_place.ensures.found c.in-Some-numbered_place.ensures.numbered h c.index_mut-group.ensures.value in
     let same : c.index.result.now ≡ h = same_read s.groups.items place c.index.result.now h inside c.index.ensures c.index_mut-group.ensures.value in
@@ -160,7 +160,7 @@ returns-in-AllMarked-clause-fewer g c =
     let place = c.in-Some-numbered_place.place in
     let h = c.index_mut-group.result.now in
     let t = c.args.t.now in
-    let mine : IsIn s.trail.entries s.seat t.table.0 t.stamp InMarking = subst (λ (v : Shown). TicketIn (known_by g.B.Based.base g.B.Based.damaged v) t InMarking) (sym c.self.view_is) c.requires in
+    let mine : IsBatchIn s.trail.entries s.seat t.table.0 t.stamp InMarking = subst (λ (v : Shown). TicketIn (known_by g.B.Based.base g.B.Based.damaged v) t InMarking) (sym c.self.view_is) c.requires in
     let inside = there g.D.Disk g.B.Based.base g.B.Founded.sound g.B.Founded.premise g.B.Founded.began s.disk s.catalog s.standing s.groups.items s.trail s.late s.closed c.self.invariant.0 t s.seat Marking mine (in_marking mine.batch mine.phase).0 c.in_default.is place c.in-Some-numbered_place.ensures.found c.in-Some-numbered_place.ensures.numbered h c.index_mut-group.ensures.value in
     let own : h.table.id ≡ t.table = own_table g.D.Disk g.B.Based.base g.B.Founded.sound g.B.Founded.premise g.B.Founded.began s.disk s.catalog s.standing s.groups.items s.trail s.late s.closed c.self.invariant.0 t s.seat Marking mine (in_marking mine.batch mine.phase).0 c.in_default.is place c.in-Some-numbered_place.ensures.found c.in-Some-numbered_place.ensures.numbered h c.index_mut-group.ensures.value in
     let same : c.index.result.now ≡ h = same_read s.groups.items place c.index.result.now h inside c.index.ensures c.index_mut-group.ensures.value in

@@ -9,7 +9,7 @@ use Rattle.px_tables.specs.declared.index.IndexState.TheVariants.{Building}
 use Rattle.px_trail.specs.Trail.{last_of}
 use Rattle.px_trail.specs.declared.entry.Act.TheVariants as act
 use Rattle.px_trail.specs.declared.entry.Entry.{Entry}
-use Rattle.px_turns.specs.Turns.{drawn}
+use Rattle.px_turns.specs.Turns.{drawn_stamp}
 use Rattle.px_calls.specs.Calls.{DidDefine}
 use Rattle.px_calls.specs.Causes.{Refuses, define_cause}
 use Rattle.px_calls.specs.declared.definition.Definition.TheVariants as definition
@@ -17,7 +17,7 @@ use Rattle.px_calls.specs.declared.definition.Made.{Made as Answered}
 use Rattle.px_calls.specs.declared.fault.StepFault.{StepFault}
 use Rattle.px_calls.specs.declared.fault.StepFault.TheVariants.{Limit, Memory}
 use Rattle.px_schema.specs.Counts.{HasNumbers}
-use Rattle.px_schema.specs.Records.{IsRight}
+use Rattle.px_schema.specs.Records.{IsRightCatalogItem}
 use Rattle.px_schema.specs.declared.item.CatalogItem.TheVariants.{IndexIs}
 use Rattle.px_catalog.specs.Catalogue.{standing_of}
 use Rattle.px_group.specs.declared.group.Group.{Group}
@@ -225,7 +225,7 @@ append-requires g c = (let
     in let
     own = own_table g.D.Disk g.met.D.Disk.told g.met.D.Disk.up_to_now b g.B.Based.damaged g.B.Founded.sound g.B.Founded.premise g.B.Founded.began s.disk s.catalog s.standing s.groups.items s.trail s.late s.closed k s.seat c.args.table c.args.index p at one.0 one.1 h h_is
     in
-    record { right = subst (λ (y : Index). IsRight (standing_of s.catalog) (IndexIs y)) (sym put.item) (fits_put g.D.Disk g.met.D.Disk.told g.met.D.Disk.up_to_now b g.B.Based.damaged g.B.Founded.sound g.B.Founded.premise g.B.Founded.began s.disk s.catalog s.standing s.groups.items s.trail s.late s.closed k s.seat c.args.table c.args.index p at one.0 one.1 h h_is (rebuilt c.next_stamp-stamp.result s.standing.next one.0) refl put.right put.can (subst (λ (t : TableId). t.0 < 256 ^ 4) (sym own) short)) })
+    record { right = subst (λ (y : Index). IsRightCatalogItem (standing_of s.catalog) (IndexIs y)) (sym put.item) (fits_put g.D.Disk g.met.D.Disk.told g.met.D.Disk.up_to_now b g.B.Based.damaged g.B.Founded.sound g.B.Founded.premise g.B.Founded.began s.disk s.catalog s.standing s.groups.items s.trail s.late s.closed k s.seat c.args.table c.args.index p at one.0 one.1 h h_is (rebuilt c.next_stamp-stamp.result s.standing.next one.0) refl put.right put.can (subst (λ (t : TableId). t.0 < 256 ^ 4) (sym own) short)) })
 
 pub invariant_of-self-in-Ok-entered : goal.invariant_of-self-in-Ok-entered
 invariant_of-self-in-Ok-entered g c = (let
@@ -260,7 +260,7 @@ invariant_of-self-in-Ok-entered g c = (let
       (
         c.self.invariant.1.0,
         drawn_by_clock g.C.Clock g.B.Founded.times b s.clock s.trail.entries c.self.invariant.1.1 c.next_stamp-stamp.new.clock c.next_stamp-stamp.ensures.rest c.entered.new.trail.entries e (draw c.args.table.0 c.next_stamp-stamp.result) (c.in-Ok-entered.ensures.ok.1.entries ∙ ap (λ (es : List Entry). es ++ e ∷ []) c.take_entry.ensures.same) refl
-            (λ tells. ap (λ (n : ℕ). drawn n (g.C.Clock.times s.clock 0)) last_is ∙ c.next_stamp-stamp.ensures.drawn tells),
+            (λ tells. ap (λ (n : ℕ). drawn_stamp n (g.C.Clock.times s.clock 0)) last_is ∙ c.next_stamp-stamp.ensures.drawn tells),
       ),
     ))
 

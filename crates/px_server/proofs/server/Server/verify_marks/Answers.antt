@@ -1,7 +1,7 @@
 use Rattle.std.proofs.Common.{◌≡◌, ◌<◌, ◌∙◌, Some, [], ◌∷◌, ◌++◌, length, slice_get, refl, sym, ap, subst, arith}
 use Rattle.std.specs.List.{slice_set}
 use Rattle.px_values.specs.declared.name.TableId.{TableId}
-use Rattle.px_trail.specs.Batches.{IsIn, Verifying as InVerifying}
+use Rattle.px_trail.specs.Batches.{IsBatchIn, Verifying as InVerifying}
 use Rattle.px_trail.specs.declared.entry.Act.TheVariants.{Phase as PhaseAct, Shut}
 use Rattle.px_trail.specs.declared.entry.Entry.{Entry}
 use Rattle.px_trail.proofs.Batches.{in_verifying}
@@ -36,20 +36,20 @@ returns-in-Some-clause-refused g c =
 pub unreachable-requires : goal.unreachable-requires
 unreachable-requires g c =
     let s = c.self.inside in
-    let mine : IsIn s.trail.entries s.seat c.args.t.now.table.0 c.args.t.now.stamp InVerifying = subst (λ (v : Shown). TicketIn (known_by g.B.Based.base g.B.Based.damaged v) c.args.t.now InVerifying) (sym c.self.view_is) c.requires in
+    let mine : IsBatchIn s.trail.entries s.seat c.args.t.now.table.0 c.args.t.now.stamp InVerifying = subst (λ (v : Shown). TicketIn (known_by g.B.Based.base g.B.Based.damaged v) c.args.t.now InVerifying) (sym c.self.view_is) c.requires in
     stands_somewhere g.D.Disk g.B.Based.base g.B.Founded.sound g.B.Founded.premise g.B.Founded.began s.disk s.catalog s.standing s.groups.items s.trail s.late s.closed c.self.invariant.0 c.args.t.now s.seat Verifying mine (in_verifying mine.batch mine.phase).0 c.in_default-numbered_place.ensures.none
 
 pub unreachable-requires-in_default-batch_place : goal.unreachable-requires-in_default-batch_place
 unreachable-requires-in_default-batch_place g c =
     let s = c.self.inside in
-    let mine : IsIn s.trail.entries s.seat c.args.t.now.table.0 c.args.t.now.stamp InVerifying = subst (λ (v : Shown). TicketIn (known_by g.B.Based.base g.B.Based.damaged v) c.args.t.now InVerifying) (sym c.self.view_is) c.requires in
+    let mine : IsBatchIn s.trail.entries s.seat c.args.t.now.table.0 c.args.t.now.stamp InVerifying = subst (λ (v : Shown). TicketIn (known_by g.B.Based.base g.B.Based.damaged v) c.args.t.now InVerifying) (sym c.self.view_is) c.requires in
     batch_somewhere g.D.Disk g.B.Based.base g.B.Founded.sound g.B.Founded.premise g.B.Founded.began s.disk s.catalog s.standing s.groups.items s.trail s.late s.closed c.self.invariant.0 c.args.t.now s.seat Verifying mine (in_verifying mine.batch mine.phase).0 c.in_default.is c.in-Some-numbered_place.place c.in-Some-numbered_place.ensures.found c.in-Some-numbered_place.ensures.numbered c.index.result.now c.index.ensures
     c.in_default-batch_place.ensures.none
 
 pub verify-outcome-requires-clause-verifying : goal.verify-outcome-requires-clause-verifying
 verify-outcome-requires-clause-verifying g c =
     let s = c.self.inside in
-    let mine : IsIn s.trail.entries s.seat c.args.t.now.table.0 c.args.t.now.stamp InVerifying = subst (λ (v : Shown). TicketIn (known_by g.B.Based.base g.B.Based.damaged v) c.args.t.now InVerifying) (sym c.self.view_is) c.requires in
+    let mine : IsBatchIn s.trail.entries s.seat c.args.t.now.table.0 c.args.t.now.stamp InVerifying = subst (λ (v : Shown). TicketIn (known_by g.B.Based.base g.B.Based.damaged v) c.args.t.now InVerifying) (sym c.self.view_is) c.requires in
     let inside = there g.D.Disk g.B.Based.base g.B.Founded.sound g.B.Founded.premise g.B.Founded.began s.disk s.catalog s.standing s.groups.items s.trail s.late s.closed c.self.invariant.0 c.args.t.now s.seat Verifying mine (in_verifying mine.batch mine.phase).0 c.in_default.is c.in-Some-numbered_place.place c.in-Some-numbered_place.ensures.found c.in-Some-numbered_place.ensures.numbered c.index.result.now c.index.ensures in
     let same : c.index.result.now ≡ c.index_mut-group.result.now = same_read s.groups.items c.in-Some-numbered_place.place c.index.result.now c.index_mut-group.result.now inside c.index.ensures c.index_mut-group.ensures.value in
     batch_is g.D.Disk g.B.Based.base g.B.Founded.sound g.B.Founded.premise g.B.Founded.began s.disk s.catalog s.standing s.groups.items s.trail s.late s.closed c.self.invariant.0 c.args.t.now s.seat Verifying mine (in_verifying mine.batch mine.phase).0 c.in_default.is c.in-Some-numbered_place.place c.in-Some-numbered_place.ensures.found c.in-Some-numbered_place.ensures.numbered c.index_mut-group.result.now c.index_mut-group.ensures.value
@@ -61,7 +61,7 @@ invariant_of-self g c =
     let s = c.self.inside in
     let place = c.in-Some-numbered_place.place in
     let h = c.index_mut-group.result.now in
-    let mine : IsIn s.trail.entries s.seat c.args.t.now.table.0 c.args.t.now.stamp InVerifying = subst (λ (v : Shown). TicketIn (known_by g.B.Based.base g.B.Based.damaged v) c.args.t.now InVerifying) (sym c.self.view_is) c.requires in
+    let mine : IsBatchIn s.trail.entries s.seat c.args.t.now.table.0 c.args.t.now.stamp InVerifying = subst (λ (v : Shown). TicketIn (known_by g.B.Based.base g.B.Based.damaged v) c.args.t.now InVerifying) (sym c.self.view_is) c.requires in
     let inside = there g.D.Disk g.B.Based.base g.B.Founded.sound g.B.Founded.premise g.B.Founded.began s.disk s.catalog s.standing s.groups.items s.trail s.late s.closed c.self.invariant.0 c.args.t.now s.seat Verifying mine (in_verifying mine.batch mine.phase).0 c.in_default.is place c.in-Some-numbered_place.ensures.found c.in-Some-numbered_place.ensures.numbered h c.index_mut-group.ensures.value in
     let w = verified_more g.D.Disk h c.verify-outcome.new.group s.disk c.verify-outcome.new.disk c.in-Some-batch_place.batch c.verify-outcome.result c.in-Ok.verified c.in-Ok.is c.in-More.is c.verify-outcome.ensures.steps in (
       closes_kept g.D.Disk g.met.D.Disk.told g.met.D.Disk.up_to_now g.B.Based.base g.B.Founded.sound g.B.Founded.premise g.B.Founded.began s.disk s.catalog s.standing s.groups.items s.trail s.late s.closed c.self.invariant.0 c.in_default.is
@@ -74,10 +74,10 @@ invariant_of-self-in-Done g c =
     let s = c.self.inside in
     let place = c.in-Some-numbered_place.place in
     let h = c.index_mut-group.result.now in
-    let mine : IsIn s.trail.entries s.seat c.args.t.now.table.0 c.args.t.now.stamp InVerifying = subst (λ (v : Shown). TicketIn (known_by g.B.Based.base g.B.Based.damaged v) c.args.t.now InVerifying) (sym c.self.view_is) c.requires in
+    let mine : IsBatchIn s.trail.entries s.seat c.args.t.now.table.0 c.args.t.now.stamp InVerifying = subst (λ (v : Shown). TicketIn (known_by g.B.Based.base g.B.Based.damaged v) c.args.t.now InVerifying) (sym c.self.view_is) c.requires in
     let inside = there g.D.Disk g.B.Based.base g.B.Founded.sound g.B.Founded.premise g.B.Founded.began s.disk s.catalog s.standing s.groups.items s.trail s.late s.closed c.self.invariant.0 c.args.t.now s.seat Verifying mine (in_verifying mine.batch mine.phase).0 c.in_default.is place c.in-Some-numbered_place.ensures.found c.in-Some-numbered_place.ensures.numbered h c.index_mut-group.ensures.value in
     let own : h.table.id ≡ c.args.t.now.table = own_table g.D.Disk g.B.Based.base g.B.Founded.sound g.B.Founded.premise g.B.Founded.began s.disk s.catalog s.standing s.groups.items s.trail s.late s.closed c.self.invariant.0 c.args.t.now s.seat Verifying mine (in_verifying mine.batch mine.phase).0 c.in_default.is place c.in-Some-numbered_place.ensures.found c.in-Some-numbered_place.ensures.numbered h c.index_mut-group.ensures.value in
-    let phase : IsIn s.trail.entries s.seat h.table.id.0 c.args.t.now.stamp InVerifying = subst (λ (x : TableId). IsIn s.trail.entries s.seat x.0 c.args.t.now.stamp InVerifying) (sym own) mine in
+    let phase : IsBatchIn s.trail.entries s.seat h.table.id.0 c.args.t.now.stamp InVerifying = subst (λ (x : TableId). IsBatchIn s.trail.entries s.seat x.0 c.args.t.now.stamp InVerifying) (sym own) mine in
     let same : c.index.result.now ≡ h = same_read s.groups.items place c.index.result.now h inside c.index.ensures c.index_mut-group.ensures.value in
     let e : Entry = record { seat = s.seat; calls = c.call_count-calls.result; act = PhaseAct c.args.t.now.table c.args.t.now.stamp 3 } in
     let all = verified_all g.D.Disk h c.verify-outcome.new.group s.disk c.verify-outcome.new.disk c.in-Some-batch_place.batch c.verify-outcome.result c.in-Ok.verified c.in-Ok.is c.in-Done.is c.verify-outcome.ensures.steps in (
@@ -94,7 +94,7 @@ invariant_of-self-in-Err g c =
     let s = c.self.inside in
     let place = c.in-Some-numbered_place.place in
     let h = c.index_mut-group.result.now in
-    let mine : IsIn s.trail.entries s.seat c.args.t.now.table.0 c.args.t.now.stamp InVerifying = subst (λ (v : Shown). TicketIn (known_by g.B.Based.base g.B.Based.damaged v) c.args.t.now InVerifying) (sym c.self.view_is) c.requires in
+    let mine : IsBatchIn s.trail.entries s.seat c.args.t.now.table.0 c.args.t.now.stamp InVerifying = subst (λ (v : Shown). TicketIn (known_by g.B.Based.base g.B.Based.damaged v) c.args.t.now InVerifying) (sym c.self.view_is) c.requires in
     let inside = there g.D.Disk g.B.Based.base g.B.Founded.sound g.B.Founded.premise g.B.Founded.began s.disk s.catalog s.standing s.groups.items s.trail s.late s.closed c.self.invariant.0 c.args.t.now s.seat Verifying mine (in_verifying mine.batch mine.phase).0 c.in_default.is place c.in-Some-numbered_place.ensures.found c.in-Some-numbered_place.ensures.numbered h c.index_mut-group.ensures.value in
     let shut : Entry = record { seat = s.seat; calls = c.call_count-calls.result; act = Shut c.call_count-calls.result } in
     let kept = closes_shut g.D.Disk g.met.D.Disk.told g.met.D.Disk.up_to_now g.B.Based.base g.B.Founded.sound g.B.Founded.premise g.B.Founded.began s.disk s.catalog s.standing s.groups.items s.trail s.late s.closed c.self.invariant.0 c.in_default.is
@@ -145,7 +145,7 @@ returns-in-More-clause-fewer g c =
     let place = c.in-Some-numbered_place.place in
     let h = c.index_mut-group.result.now in
     let t = c.args.t.now in
-    let mine : IsIn s.trail.entries s.seat t.table.0 t.stamp InVerifying = subst (λ (v : Shown). TicketIn (known_by g.B.Based.base g.B.Based.damaged v) t InVerifying) (sym c.self.view_is) c.requires in
+    let mine : IsBatchIn s.trail.entries s.seat t.table.0 t.stamp InVerifying = subst (λ (v : Shown). TicketIn (known_by g.B.Based.base g.B.Based.damaged v) t InVerifying) (sym c.self.view_is) c.requires in
     let inside = there g.D.Disk g.B.Based.base g.B.Founded.sound g.B.Founded.premise g.B.Founded.began s.disk s.catalog s.standing s.groups.items s.trail s.late s.closed c.self.invariant.0 t s.seat Verifying mine (in_verifying mine.batch mine.phase).0 c.in_default.is place c.in-Some-numbered_place.ensures.found c.in-Some-numbered_place.ensures.numbered h c.index_mut-group.ensures.value in
     let own : h.table.id ≡ t.table = own_table g.D.Disk g.B.Based.base g.B.Founded.sound g.B.Founded.premise g.B.Founded.began s.disk s.catalog s.standing s.groups.items s.trail s.late s.closed c.self.invariant.0 t s.seat Verifying mine (in_verifying mine.batch mine.phase).0 c.in_default.is place c.in-Some-numbered_place.ensures.found c.in-Some-numbered_place.ensures.numbered h c.index_mut-group.ensures.value in
     let same : c.index.result.now ≡ h = same_read s.groups.items place c.index.result.now h inside c.index.ensures c.index_mut-group.ensures.value in
@@ -160,7 +160,7 @@ returns-in-Done-clause-fewer g c =
     let place = c.in-Some-numbered_place.place in
     let h = c.index_mut-group.result.now in
     let t = c.args.t.now in
-    let mine : IsIn s.trail.entries s.seat t.table.0 t.stamp InVerifying = subst (λ (v : Shown). TicketIn (known_by g.B.Based.base g.B.Based.damaged v) t InVerifying) (sym c.self.view_is) c.requires in
+    let mine : IsBatchIn s.trail.entries s.seat t.table.0 t.stamp InVerifying = subst (λ (v : Shown). TicketIn (known_by g.B.Based.base g.B.Based.damaged v) t InVerifying) (sym c.self.view_is) c.requires in
     let inside = there g.D.Disk g.B.Based.base g.B.Founded.sound g.B.Founded.premise g.B.Founded.began s.disk s.catalog s.standing s.groups.items s.trail s.late s.closed c.self.invariant.0 t s.seat Verifying mine (in_verifying mine.batch mine.phase).0 c.in_default.is place c.in-Some-numbered_place.ensures.found c.in-Some-numbered_place.ensures.numbered h c.index_mut-group.ensures.value in
     let own : h.table.id ≡ t.table = own_table g.D.Disk g.B.Based.base g.B.Founded.sound g.B.Founded.premise g.B.Founded.began s.disk s.catalog s.standing s.groups.items s.trail s.late s.closed c.self.invariant.0 t s.seat Verifying mine (in_verifying mine.batch mine.phase).0 c.in_default.is place c.in-Some-numbered_place.ensures.found c.in-Some-numbered_place.ensures.numbered h c.index_mut-group.ensures.value in
     let same : c.index.result.now ≡ h = same_read s.groups.items place c.index.result.now h inside c.index.ensures c.index_mut-group.ensures.value in

@@ -3,7 +3,7 @@ use Rattle.std.specs.List.{slice_set}
 use Rattle.px_values.specs.declared.name.TableId.{TableId}
 use Rattle.px_trail.specs.declared.entry.Act.TheVariants.{Shut, Wrote}
 use Rattle.px_trail.specs.declared.entry.Entry.{Entry}
-use Rattle.px_trail.specs.Batches.{IsIn, Verifying as InVerifying, Writing as InWriting}
+use Rattle.px_trail.specs.Batches.{IsBatchIn, Verifying as InVerifying, Writing as InWriting}
 use Rattle.px_trail.specs.Count.{counted_act}
 use Rattle.px_trail.proofs.Batches.{in_writing}
 use Rattle.px_calls.specs.Calls.{DidWrite}
@@ -13,7 +13,7 @@ use Rattle.px_calls.specs.declared.ticket.Writes.TheVariants.{AllWritten}
 use Rattle.px_group.specs.declared.group.Group.{Group}
 use Rattle.px_group.specs.declared.group.Begun.{Begun}
 use Rattle.px_group.specs.declared.group.Phase.TheVariants.{Writing}
-use Rattle.px_batching.specs.Steps.{IsBlocked, IsFree}
+use Rattle.px_batching.specs.Steps.{IsBlocked, IsUnblocked}
 use Rattle.px_server.specs.CallsLeft.{calls_left}
 use Rattle.px_server.specs.Kept.{IsKept}
 use Rattle.px_server.specs.Shown.{Shown, known_by, shown_of}
@@ -40,7 +40,7 @@ unreachable-requires g c =
     let b = g.B.Based.base in
     let t = c.args.t.now in
     let v : Shown = shown_of s.seat s.trail.entries s.late s.closed s.groups.items in
-    let mine : IsIn s.trail.entries s.seat t.table.0 t.stamp InWriting = ticket_in b g.B.Based.damaged t InWriting v c.args.self.now c.self.view_is c.requires in
+    let mine : IsBatchIn s.trail.entries s.seat t.table.0 t.stamp InWriting = ticket_in b g.B.Based.damaged t InWriting v c.args.self.now c.self.view_is c.requires in
     stands_somewhere g.D.Disk b g.B.Founded.sound g.B.Founded.premise g.B.Founded.began s.disk s.catalog s.standing s.groups.items s.trail s.late s.closed c.self.invariant.0 t s.seat Writing mine (in_writing mine.batch mine.phase).0 c.in_default-numbered_place.ensures.none
 
 pub unreachable-requires-in_default-batch_place : goal.unreachable-requires-in_default-batch_place
@@ -49,7 +49,7 @@ unreachable-requires-in_default-batch_place g c =
     let b = g.B.Based.base in
     let t = c.args.t.now in
     let v : Shown = shown_of s.seat s.trail.entries s.late s.closed s.groups.items in
-    let mine : IsIn s.trail.entries s.seat t.table.0 t.stamp InWriting = ticket_in b g.B.Based.damaged t InWriting v c.args.self.now c.self.view_is c.requires in
+    let mine : IsBatchIn s.trail.entries s.seat t.table.0 t.stamp InWriting = ticket_in b g.B.Based.damaged t InWriting v c.args.self.now c.self.view_is c.requires in
     batch_somewhere g.D.Disk b g.B.Founded.sound g.B.Founded.premise g.B.Founded.began s.disk s.catalog s.standing s.groups.items s.trail s.late s.closed c.self.invariant.0 t s.seat Writing mine (in_writing mine.batch mine.phase).0
     c.in_default.is c.in-Some-numbered_place.place c.in-Some-numbered_place.ensures.found c.in-Some-numbered_place.ensures.numbered c.index.result.now c.index.ensures c.in_default-batch_place.ensures.none
 
@@ -60,7 +60,7 @@ returns-in-Some-blocker-clause-refused g c =
     let told = c.self.invariant.0.told in
     let t = c.args.t.now in
     let v : Shown = shown_of s.seat s.trail.entries s.late s.closed s.groups.items in
-    let mine : IsIn s.trail.entries s.seat t.table.0 t.stamp InWriting = ticket_in b g.B.Based.damaged t InWriting v c.args.self.now c.self.view_is c.requires in
+    let mine : IsBatchIn s.trail.entries s.seat t.table.0 t.stamp InWriting = ticket_in b g.B.Based.damaged t InWriting v c.args.self.now c.self.view_is c.requires in
     let place = c.in-Some-numbered_place.place in
     let m = c.in-Some-batch_place.batch in
     let h = c.index.result.now in
@@ -81,7 +81,7 @@ write-outcome-requires-clause-writing g c =
     let told = c.self.invariant.0.told in
     let t = c.args.t.now in
     let v : Shown = shown_of s.seat s.trail.entries s.late s.closed s.groups.items in
-    let mine : IsIn s.trail.entries s.seat t.table.0 t.stamp InWriting = ticket_in b g.B.Based.damaged t InWriting v c.args.self.now c.self.view_is c.requires in
+    let mine : IsBatchIn s.trail.entries s.seat t.table.0 t.stamp InWriting = ticket_in b g.B.Based.damaged t InWriting v c.args.self.now c.self.view_is c.requires in
     let place = c.in-Some-numbered_place.place in
     let m = c.in-Some-batch_place.batch in
     let h = c.index.result.now in
@@ -104,7 +104,7 @@ invariant_of-self g c =
     let told = c.self.invariant.0.told in
     let t = c.args.t.now in
     let v : Shown = shown_of s.seat s.trail.entries s.late s.closed s.groups.items in
-    let mine : IsIn s.trail.entries s.seat t.table.0 t.stamp InWriting = ticket_in b g.B.Based.damaged t InWriting v c.args.self.now c.self.view_is c.requires in
+    let mine : IsBatchIn s.trail.entries s.seat t.table.0 t.stamp InWriting = ticket_in b g.B.Based.damaged t InWriting v c.args.self.now c.self.view_is c.requires in
     let place = c.in-Some-numbered_place.place in
     let m = c.in-Some-batch_place.batch in
     let h = c.index.result.now in
@@ -113,7 +113,7 @@ invariant_of-self g c =
     let y = c.index_mut-group.result.now in
     let one : y ≡ h = same_read s.groups.items place y h inside c.index_mut-group.ensures.value c.index.ensures in
     let two : c.index-2.result.now ≡ h = same_read s.groups.items place c.index-2.result.now h inside c.index-2.ensures c.index.ensures in
-    let free : IsFree y m = subst (λ (x : Group). IsFree x m) (two ∙ sym one) c.in_default-blocker.ensures.free in
+    let free : IsUnblocked y m = subst (λ (x : Group). IsUnblocked x m) (two ∙ sym one) c.in_default-blocker.ensures.free in
     let l : m < length y.batches.items = subst (λ (x : Group). m < length x.batches.items) (sym one) c.in-Some-batch_place.ensures.found.0 in
     let stamp : (x : Begun) → slice_get y.batches.items m ≡ Some x → x.batch.stamp ≡ t.stamp = subst (λ (z : Group). (x : Begun) → slice_get z.batches.items m ≡ Some x → x.batch.stamp ≡ t.stamp) (sym one) c.in-Some-batch_place.ensures.found.1 in (
       wrote_kept g.D.Disk g.met.D.Disk.told g.met.D.Disk.up_to_now b g.B.Founded.sound g.B.Founded.premise g.B.Founded.began s.disk s.catalog s.standing s.groups.items s.trail s.late s.closed c.self.invariant.0 t s.seat mine
@@ -130,7 +130,7 @@ invariant_of-self-in-Err g c =
     let told = c.self.invariant.0.told in
     let t = c.args.t.now in
     let v : Shown = shown_of s.seat s.trail.entries s.late s.closed s.groups.items in
-    let mine : IsIn s.trail.entries s.seat t.table.0 t.stamp InWriting = ticket_in b g.B.Based.damaged t InWriting v c.args.self.now c.self.view_is c.requires in
+    let mine : IsBatchIn s.trail.entries s.seat t.table.0 t.stamp InWriting = ticket_in b g.B.Based.damaged t InWriting v c.args.self.now c.self.view_is c.requires in
     let place = c.in-Some-numbered_place.place in
     let m = c.in-Some-batch_place.batch in
     let h = c.index.result.now in
@@ -139,7 +139,7 @@ invariant_of-self-in-Err g c =
     let y = c.index_mut-group.result.now in
     let one : y ≡ h = same_read s.groups.items place y h inside c.index_mut-group.ensures.value c.index.ensures in
     let two : c.index-2.result.now ≡ h = same_read s.groups.items place c.index-2.result.now h inside c.index-2.ensures c.index.ensures in
-    let free : IsFree y m = subst (λ (x : Group). IsFree x m) (two ∙ sym one) c.in_default-blocker.ensures.free in
+    let free : IsUnblocked y m = subst (λ (x : Group). IsUnblocked x m) (two ∙ sym one) c.in_default-blocker.ensures.free in
     let l : m < length y.batches.items = subst (λ (x : Group). m < length x.batches.items) (sym one) c.in-Some-batch_place.ensures.found.0 in
     let stamp : (x : Begun) → slice_get y.batches.items m ≡ Some x → x.batch.stamp ≡ t.stamp = subst (λ (z : Group). (x : Begun) → slice_get z.batches.items m ≡ Some x → x.batch.stamp ≡ t.stamp) (sym one) c.in-Some-batch_place.ensures.found.1 in (
       subst (λ (o : Option Entry). IsKept g.D.Disk b g.B.Founded.sound g.B.Founded.premise g.B.Founded.began c.write-outcome.new.disk s.catalog s.standing (slice_set s.groups.items place c.write-outcome.new.group) c.shut.new.trail o (Some c.call_count-calls.result))
@@ -158,7 +158,7 @@ returns-in-Ok-clause-ok g c =
     let told = c.self.invariant.0.told in
     let t = c.args.t.now in
     let v : Shown = shown_of s.seat s.trail.entries s.late s.closed s.groups.items in
-    let mine : IsIn s.trail.entries s.seat t.table.0 t.stamp InWriting = ticket_in b g.B.Based.damaged t InWriting v c.args.self.now c.self.view_is c.requires in
+    let mine : IsBatchIn s.trail.entries s.seat t.table.0 t.stamp InWriting = ticket_in b g.B.Based.damaged t InWriting v c.args.self.now c.self.view_is c.requires in
     let place = c.in-Some-numbered_place.place in
     let m = c.in-Some-batch_place.batch in
     let h = c.index.result.now in
@@ -167,12 +167,12 @@ returns-in-Ok-clause-ok g c =
     let y = c.index_mut-group.result.now in
     let one : y ≡ h = same_read s.groups.items place y h inside c.index_mut-group.ensures.value c.index.ensures in
     let two : c.index-2.result.now ≡ h = same_read s.groups.items place c.index-2.result.now h inside c.index-2.ensures c.index.ensures in
-    let free : IsFree y m = subst (λ (x : Group). IsFree x m) (two ∙ sym one) c.in_default-blocker.ensures.free in
+    let free : IsUnblocked y m = subst (λ (x : Group). IsUnblocked x m) (two ∙ sym one) c.in_default-blocker.ensures.free in
     let l : m < length y.batches.items = subst (λ (x : Group). m < length x.batches.items) (sym one) c.in-Some-batch_place.ensures.found.0 in
     let stamp : (x : Begun) → slice_get y.batches.items m ≡ Some x → x.batch.stamp ≡ t.stamp = subst (λ (z : Group). (x : Begun) → slice_get z.batches.items m ≡ Some x → x.batch.stamp ≡ t.stamp) (sym one) c.in-Some-batch_place.ensures.found.1 in
     let after : c.push.new.self.entries ≡ s.trail.entries ++ record { seat = s.seat; calls = c.call_count-calls.result; act = Wrote t.table t.stamp c.in-Ok.rows } ∷ [] = c.push.ensures.entries ∙ ap (λ (e : Entry). s.trail.entries ++ e ∷ []) c.wrote.ensures in
     let v' : Shown = record v { entries = c.push.new.self.entries } in
-    let next : IsIn c.push.new.self.entries s.seat t.table.0 t.stamp InVerifying = subst (λ (es : List Entry). IsIn es s.seat t.table.0 t.stamp InVerifying) (sym after)
+    let next : IsBatchIn c.push.new.self.entries s.seat t.table.0 t.stamp InVerifying = subst (λ (es : List Entry). IsBatchIn es s.seat t.table.0 t.stamp InVerifying) (sym after)
     (wrote_in g.D.Disk g.met.D.Disk.told g.met.D.Disk.up_to_now b g.B.Founded.sound g.B.Founded.premise g.B.Founded.began s.disk s.catalog s.standing s.groups.items s.trail s.late s.closed c.self.invariant.0 t s.seat mine
     c.in_default.is place c.in-Some-numbered_place.ensures.found c.in-Some-numbered_place.ensures.numbered y c.index_mut-group.ensures.value m l stamp
     c.write-outcome.new.group c.write-outcome.new.disk free c.in-Ok.rows c.in-Ok.ensures.rows c.call_count-calls.result c.call_count-calls.ensures c.in-Ok.ensures.written) in
@@ -205,7 +205,7 @@ returns-in-Ok-clause-fewer g c =
     let b = g.B.Based.base in
     let t = c.args.t.now in
     let v : Shown = shown_of s.seat s.trail.entries s.late s.closed s.groups.items in
-    let mine : IsIn s.trail.entries s.seat t.table.0 t.stamp InWriting = ticket_in b g.B.Based.damaged t InWriting v c.args.self.now c.self.view_is c.requires in
+    let mine : IsBatchIn s.trail.entries s.seat t.table.0 t.stamp InWriting = ticket_in b g.B.Based.damaged t InWriting v c.args.self.now c.self.view_is c.requires in
     let place = c.in-Some-numbered_place.place in
     let m = c.in-Some-batch_place.batch in
     let h = c.index.result.now in
