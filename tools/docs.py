@@ -1,5 +1,6 @@
 #!/usr/bin/env python3
-"""Tests the crates' README.md against their sources, and makes docs/index/ and the reading list of docs/HEADLINE.md.
+"""Tests the crates' README.md against their sources, and makes docs/index/ and the reading list of docs/HEADLINE.md. It also tests
+that a definition of specs/ which another crate cites has a name of its own.
 
 usage: tools/docs.py [--check]    (tools/docs.sh calls it at the top of the repository)
 
@@ -18,6 +19,29 @@ LIST_BEGINS = "<!-- reading list: made by tools/docs.sh -->"
 LIST_ENDS = "<!-- end of the reading list -->"
 # A crate of tests or of a benchmark promises nothing, and its head comment tells what it is.
 WITHOUT_README = ("px_tests_", "px_bench_")
+NAME = r"[A-Za-z_][\w'-]*"
+DEFINES = re.compile(
+    r"\s*(?:(?:abbrev|unfoldable)\s+)*(?:pub\s+)?(?:(record|data)\s+)?(" + NAME + r")(?:\s+\{[^}]*\})?(\s+:\s|\s+:$|\s+\(|\s+\{[^}=]*:|$)"
+)
+CITES = re.compile(r"^\s*(?:pub )?(?:ghost )?use Rattle\.(px_\w+)\.specs\.([\w.]+?)(?:\.\{([^}]*)\})?(?: as (\w+))?;?$", re.M)
+# Each of these says the same in all of its crates, and isn't yet one definition.
+ALIKE = {
+    "begins_row": ["px_region", "px_sources"],
+    "end_of": ["px_commands", "px_parse"],
+    "greatest_stamp": ["px_schema", "px_trail", "px_turns"],
+    "half_word_bytes": ["px_file", "px_wal"],
+    "indexes_of": ["px_recovery", "px_schema"],
+    "is_active": ["px_plan", "px_recovery"],
+    "key_at": ["px_region", "px_sources"],
+    "most_rows": ["px_group", "px_held"],
+    "no_data": ["px_recovery", "px_region"],
+    "no_form": ["px_phases", "px_recovery"],
+    "number_of_index": ["px_recovery", "px_schema"],
+    "number_of_table": ["px_schema", "px_standing"],
+    "or_else": ["px_cells", "px_world"],
+    "rows_before": ["px_region", "px_sources"],
+    "word_bytes": ["px_file", "px_wal"],
+}
 
 faults = []
 
@@ -194,6 +218,70 @@ def with_reading_list(text):
     return front + LIST_BEGINS + "\n\n" + made.stdout + "\n" + LIST_ENDS + rest.split(LIST_ENDS, 1)[1]
 
 
+def definitions(path):
+    """The names that a file of specs/ defines, but for fields of records, constructors of data, and what a `where` helps with."""
+    found, inside = set(), None
+    for line in open(path, encoding="utf-8"):
+        text = line.strip()
+        indent = len(line) - len(line.lstrip())
+        if not text or text.startswith("--") or (inside is not None and indent > inside):
+            continue
+        inside = indent if text == "where" else None
+        if text.startswith(("use ", "pub use ", "mod ", "pub mod ", "module ", "unfolding ", "infix")):
+            continue
+        begins = DEFINES.match(line.rstrip("\n"))
+        if begins and (begins.group(1) or begins.group(3).strip() == ":"):
+            found.add(begins.group(2))
+            if begins.group(1):
+                inside = indent
+    return found
+
+
+def sources(crate, endings):
+    for base, folders, files in os.walk(f"crates/{crate}"):
+        folders[:] = [name for name in folders if name != "out"]
+        for name in files:
+            if name.endswith(endings):
+                yield os.path.join(base, name)
+
+
+def cited(names):
+    """The definitions (crate, module, name) that another crate cites."""
+    found = set()
+    for crate in names:
+        for path in sources(crate, (".antt", ".rt")):
+            text = open(path, encoding="utf-8").read()
+            for of, module, items, alias in CITES.findall(text):
+                if of == crate:
+                    continue
+                if items:
+                    found |= {(of, module, item.strip().split(" as ")[0]) for item in items.split(",")}
+                elif alias:
+                    found |= {(of, module, name) for name in re.findall(r"(?<![\w.'-])" + alias + r"\.(" + NAME + ")", text)}
+    return found
+
+
+def own_names(names):
+    """A definition of specs/ that another crate cites has a name of its own."""
+    bearers = {}
+    for crate in names:
+        for path in sources(crate, (".antt",)):
+            inside = path.split(os.sep)[2:]
+            if inside[0] == "specs" and inside[-1] != "Lib.antt":
+                module = ".".join(inside[1:])[: -len(".antt")]
+                for name in definitions(path):
+                    bearers.setdefault(name, []).append((crate, module, name))
+    outer = cited(names)
+    twice = {name: found for name, found in bearers.items() if len(found) > 1 and any(one in outer for one in found)}
+    for name, found in sorted(twice.items()):
+        if sorted(crate for crate, _, _ in found) != ALIKE.get(name):
+            where = ", ".join(f"{crate} specs/{module.replace('.', '/')}.antt" for crate, module, _ in sorted(found))
+            fault(f"{name} is defined more than once, and another crate cites it: {where}")
+    for name in sorted(ALIKE):
+        if name not in twice:
+            fault(f"tools/docs.py excuses {name}, which has a name of its own")
+
+
 def links():
     """Each link of a document, and each path that it names from the top of the repository, leads somewhere."""
     listed = subprocess.run(["git", "ls-files", "*.md"], capture_output=True, text=True, check=True).stdout.split()
@@ -226,6 +314,7 @@ def main():
             with open(path, "w", encoding="utf-8") as out:
                 out.write(text)
     links()
+    own_names(crates())
     sys.exit(1 if faults else 0)
 
 
