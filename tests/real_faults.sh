@@ -50,6 +50,7 @@ bad run ''
 bad run -d
 bad run d --
 bad run d --lookback -1
+bad run d --lookback 9223372036854775808
 bad run run d
 [ -e "$work/d" ] && { echo "WRONG: bad words made a folder"; wrong=1; }
 

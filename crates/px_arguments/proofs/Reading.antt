@@ -1,5 +1,5 @@
 -- Words are read as the command that they spell, and only as that.
-use Rattle.std.proofs.Common.{ℕ, zero, suc, min, ◌&&◌, ◌≡◌, ◌≢◌, ◌<◌, ◌≤◌, ◌↔◌, if◌then◌else◌, ◌==◌, ◌||◌, not, Bool, true, false, Option, None, Some, List, [], ◌∷◌, ◌++◌, codes, length, take, get_or, refl, sym, ◌∙◌, ap, subst, arith, length-take, append_assoc}
+use Rattle.std.proofs.Common.{ℕ, zero, suc, min, inl, inr, ◌&&◌, ◌≡◌, ◌≢◌, ◌<◌, ◌≤◌, ◌↔◌, if◌then◌else◌, ◌==◌, ◌||◌, not, Bool, true, false, Option, None, Some, List, [], ◌∷◌, ◌++◌, codes, length, take, get_or, refl, sym, ◌∙◌, ap, subst, arith, length-take, append_assoc}
 use Rattle.std.specs.Option.{is_some, option_and_then, option_map}
 use Rattle.std.specs.List.{AllByRecursion, before_first, after_first, position_or_len}
 use Rattle.std.specs.Prelude.{nat_le, nat_lt, ◌^◌}
@@ -14,9 +14,9 @@ use Rattle.px_verifying.specs.declared.answer.VerifyKind.{VerifyKind}
 use Rattle.px_verifying.specs.declared.answer.VerifyKind.TheVariants as kind
 use Rattle.px_arguments.specs.declared.said.Part.{Part}
 use Rattle.px_arguments.specs.declared.said.Part.TheVariants as part
-use Rattle.px_arguments.specs.Arguments.{SeenCommand, Run, Verify, Load, SeenSaid, begin, command_in, command_of, give, give_option, has_loaded, has_verified, is_equals, is_plain, kind_named, load, load_of, nothing, number_named, option_named, rows_named, run_of, said_from, some_rows, take_awaited, take_word, value_in, verify_of, with_value}
+use Rattle.px_arguments.specs.Arguments.{SeenCommand, Run, Verify, Load, SeenSaid, begin, command_in, command_of, give, give_option, has_loaded, has_run, has_verified, is_equals, is_plain, kind_named, load, load_of, lookback_in, lookback_named, nothing, number_named, option_named, rows_named, run_of, said_from, some_lookback, some_rows, take_awaited, take_word, usual_lookback, value_in, verify_of, with_value}
 use Rattle.px_arguments.proofs.Numbers.{named, numerals}
-use Rattle.px_arguments.specs.Spelled.{Asks, GivenPart, HasNoLoad, HasNoVerify, IsGiven, IsNumber, IsSpelled, is_apart, is_folder, is_joined, is_same, kind_word, option_word, values_given, words_of}
+use Rattle.px_arguments.specs.Spelled.{Asks, GivenPart, GivesRun, HasNoLoad, HasNoRun, HasNoVerify, IsGiven, IsNumber, IsSpelled, is_apart, is_folder, is_joined, is_same, kind_word, option_word, values_given, words_of}
 
 -- 1. Words
 
@@ -35,18 +35,19 @@ some_is x y h = cc
 named_as : (w : List ℕ) (p q : Part) (name : List ℕ) → option_word q ≡ Some name → w ≡ name → Some q ≡ Some p → option_word p ≡ Some w
 named_as w p q name word is same = subst (λ (x : Part). option_word x ≡ Some w) (some_is q p same) (word ∙ ap Some (sym is))
 
-named_by : (w : List ℕ) (p : Part) (a b c d e : Bool) → bytes_eq w (codes "--table") ≡ a → bytes_eq w (codes "--index") ≡ b → bytes_eq w (codes "--kind") ≡ c → bytes_eq w (codes "--number") ≡ d → bytes_eq w (codes "--rows") ≡ e
-    → (if a then Some part.Table else (if b then Some part.Index else (if c then Some part.Kind else (if d then Some part.Number else (if e then Some part.Rows else None))))) ≡ Some p → option_word p ≡ Some w
-named_by w p true b c d e ha hb hc hd he is = named_as w p part.Table (codes "--table") refl (from_bytes w (codes "--table") ha) is
-named_by w p false true c d e ha hb hc hd he is = named_as w p part.Index (codes "--index") refl (from_bytes w (codes "--index") hb) is
-named_by w p false false true d e ha hb hc hd he is = named_as w p part.Kind (codes "--kind") refl (from_bytes w (codes "--kind") hc) is
-named_by w p false false false true e ha hb hc hd he is = named_as w p part.Number (codes "--number") refl (from_bytes w (codes "--number") hd) is
-named_by w p false false false false true ha hb hc hd he is = named_as w p part.Rows (codes "--rows") refl (from_bytes w (codes "--rows") he) is
-named_by w p false false false false false ha hb hc hd he is = absurd (none_some p is)
+named_by : (w : List ℕ) (p : Part) (a b c d e f : Bool) → bytes_eq w (codes "--table") ≡ a → bytes_eq w (codes "--index") ≡ b → bytes_eq w (codes "--kind") ≡ c → bytes_eq w (codes "--number") ≡ d → bytes_eq w (codes "--rows") ≡ e → bytes_eq w (codes "--lookback") ≡ f
+    → (if a then Some part.Table else (if b then Some part.Index else (if c then Some part.Kind else (if d then Some part.Number else (if e then Some part.Rows else (if f then Some part.Lookback else None)))))) ≡ Some p → option_word p ≡ Some w
+named_by w p true b c d e f ha hb hc hd he hf is = named_as w p part.Table (codes "--table") refl (from_bytes w (codes "--table") ha) is
+named_by w p false true c d e f ha hb hc hd he hf is = named_as w p part.Index (codes "--index") refl (from_bytes w (codes "--index") hb) is
+named_by w p false false true d e f ha hb hc hd he hf is = named_as w p part.Kind (codes "--kind") refl (from_bytes w (codes "--kind") hc) is
+named_by w p false false false true e f ha hb hc hd he hf is = named_as w p part.Number (codes "--number") refl (from_bytes w (codes "--number") hd) is
+named_by w p false false false false true f ha hb hc hd he hf is = named_as w p part.Rows (codes "--rows") refl (from_bytes w (codes "--rows") he) is
+named_by w p false false false false false true ha hb hc hd he hf is = named_as w p part.Lookback (codes "--lookback") refl (from_bytes w (codes "--lookback") hf) is
+named_by w p false false false false false false ha hb hc hd he hf is = absurd (none_some p is)
 
 -- a word that names an option is its word
 word_is : (w : List ℕ) (p : Part) → option_named w ≡ Some p → option_word p ≡ Some w
-word_is w p h = named_by w p (bytes_eq w (codes "--table")) (bytes_eq w (codes "--index")) (bytes_eq w (codes "--kind")) (bytes_eq w (codes "--number")) (bytes_eq w (codes "--rows")) refl refl refl refl refl h
+word_is w p h = named_by w p (bytes_eq w (codes "--table")) (bytes_eq w (codes "--index")) (bytes_eq w (codes "--kind")) (bytes_eq w (codes "--number")) (bytes_eq w (codes "--rows")) (bytes_eq w (codes "--lookback")) refl refl refl refl refl refl h
 
 -- an option's word names it, alone and in front of `=`
 pub record IsOption (p : Part) (name : List ℕ) : Type 0 where
@@ -67,13 +68,14 @@ option_is part.Index name h = subst (IsOption part.Index) (some_is (codes "--ind
 option_is part.Kind name h = subst (IsOption part.Kind) (some_is (codes "--kind") name h) (record { alone = refl; alone_whole = refl; joined = λ value. refl; joined_part = λ value. unequal 6 (length (codes "--kind" ++ codes "=" ++ value)) _ refl (omega arith); joined_value = λ value. refl })
 option_is part.Number name h = subst (IsOption part.Number) (some_is (codes "--number") name h) (record { alone = refl; alone_whole = refl; joined = λ value. refl; joined_part = λ value. unequal 8 (length (codes "--number" ++ codes "=" ++ value)) _ refl (omega arith); joined_value = λ value. refl })
 option_is part.Rows name h = subst (IsOption part.Rows) (some_is (codes "--rows") name h) (record { alone = refl; alone_whole = refl; joined = λ value. refl; joined_part = λ value. unequal 6 (length (codes "--rows" ++ codes "=" ++ value)) _ refl (omega arith); joined_value = λ value. refl })
+option_is part.Lookback name h = subst (IsOption part.Lookback) (some_is (codes "--lookback") name h) (record { alone = refl; alone_whole = refl; joined = λ value. refl; joined_part = λ value. unequal 10 (length (codes "--lookback" ++ codes "=" ++ value)) _ refl (omega arith); joined_value = λ value. refl })
 
 untrue : (b : Bool) → not b ≡ true → b ≡ false
 untrue true h = absurd (false≢true h)
 untrue false h = refl
 
 other_named : (x : ℕ) (l : List ℕ) → (x == 45) ≡ false → option_named (x ∷ l) ≡ None
-other_named x l e = ap (λ b. if b && bytes_eq l (codes "-table") then Some part.Table else (if b && bytes_eq l (codes "-index") then Some part.Index else (if b && bytes_eq l (codes "-kind") then Some part.Kind else (if b && bytes_eq l (codes "-number") then Some part.Number else (if b && bytes_eq l (codes "-rows") then Some part.Rows else None))))) e
+other_named x l e = ap (λ b. if b && bytes_eq l (codes "-table") then Some part.Table else (if b && bytes_eq l (codes "-index") then Some part.Index else (if b && bytes_eq l (codes "-kind") then Some part.Kind else (if b && bytes_eq l (codes "-number") then Some part.Number else (if b && bytes_eq l (codes "-rows") then Some part.Rows else (if b && bytes_eq l (codes "-lookback") then Some part.Lookback else None)))))) e
 
 front_named : (n x : ℕ) (l : List ℕ) → (x == 45) ≡ false → option_named (take n (x ∷ l)) ≡ None
 front_named zero x l e = refl
@@ -127,6 +129,7 @@ keeps_waiting s x p v h = elim (value_in s p) as (λ o. (if is_some o then None 
     same part.Kind = refl
     same part.Number = refl
     same part.Rows = refl
+    same part.Lookback = refl
 
 -- a folder, an option with its value, and the two in one word, behind what was said before
 module _ (s : SeenSaid) (calm : s.awaits ≡ None) where
@@ -282,6 +285,8 @@ value_with s part.Number part.Number v = refl
 value_with s part.Number p v = refl
 value_with s part.Rows part.Rows v = refl
 value_with s part.Rows p v = refl
+value_with s part.Lookback part.Lookback v = refl
+value_with s part.Lookback p v = refl
 
 same_part : (q p : Part) → is_same q p ≡ true → q ≡ p
 same_part part.Folder part.Folder h = refl
@@ -290,6 +295,7 @@ same_part part.Index part.Index h = refl
 same_part part.Kind part.Kind h = refl
 same_part part.Number part.Number h = refl
 same_part part.Rows part.Rows h = refl
+same_part part.Lookback part.Lookback h = refl
 same_part q p h = absurd (false≢true h)
 
 same_itself : (p : Part) → is_same p p ≡ true
@@ -299,6 +305,7 @@ same_itself part.Index = refl
 same_itself part.Kind = refl
 same_itself part.Number = refl
 same_itself part.Rows = refl
+same_itself part.Lookback = refl
 
 given_once : (s x : SeenSaid) (p : Part) (v : List ℕ) → give s p v ≡ Some x → (value_in s p ≡ None) × (x ≡ with_value s p v)
 given_once s x p v h = elim (value_in s p) as (λ o. (if is_some o then None else Some (with_value s p v)) ≡ Some x → (o ≡ None) × (x ≡ with_value s p v)) [
@@ -353,8 +360,9 @@ all_given [] s t st =
     let c : s.kind ≡ t.kind = sym (unlisted t.kind s.kind (st.values part.Kind)) in
     let d : s.number ≡ t.number = sym (unlisted t.number s.number (st.values part.Number)) in
     let r : s.rows ≡ t.rows = sym (unlisted t.rows s.rows (st.values part.Rows)) in
+    let k : s.lookback ≡ t.lookback = sym (unlisted t.lookback s.lookback (st.values part.Lookback)) in
     let w : s.awaits ≡ t.awaits = sym st.awaits in
-    ap Some (λ i. record { folder = f i; table = a i; index = b i; kind = c i; number = d i; rows = r i; awaits = w i })
+    ap Some (λ i. record { folder = f i; table = a i; index = b i; kind = c i; number = d i; rows = r i; lookback = k i; awaits = w i })
 all_given (g ∷ gs) s t st =
     let v = g.value in
     let p = g.part in
@@ -429,23 +437,57 @@ rows_read text n h = option_and_then_some some_rows (number_named text) n h (λ 
     by_parts m named true false some few e = absurd (none_some n e)
     by_parts m named false b some few e = absurd (none_some n e)
 
+-- so long may versions be kept
+lookback_of : (text : List ℕ) (n : ℕ) → IsNumber text n → n ≤ 9223372036854775807 → lookback_named text ≡ Some n
+lookback_of text n h few =
+    let most : nat_le n 9223372036854775807 ≡ true = le-leb n 9223372036854775807 few in
+    ap (option_and_then some_lookback) (number_of text n h) ∙ ap (λ b. if b then Some n else None) most
+
+-- and it is read of its digits
+record HasLookback (text : List ℕ) (n : ℕ) : Type 0 where
+  is_number : IsNumber text n
+  few : n ≤ 9223372036854775807
+
+lookback_read : (text : List ℕ) (n : ℕ) → lookback_named text ≡ Some n → HasLookback text n
+lookback_read text n h = option_and_then_some some_lookback (number_named text) n h (λ m named e. by_parts m named (nat_le m 9223372036854775807) refl e)
+  where
+    by_parts : (m : ℕ) → number_named text ≡ Some m → (a : Bool) → nat_le m 9223372036854775807 ≡ a → (if a then Some m else None) ≡ Some n → HasLookback text n
+    by_parts m named true few e = subst (HasLookback text) (some_is m n e) (record { is_number = number_read text m named; few = leb-true m 9223372036854775807 few })
+    by_parts m named false few e = absurd (none_some n e)
+
+-- the text of a lookback, where it is given
+given_lookback : (lookback : ℕ) (gs : List GivenPart) → GivesRun lookback gs → Option (List ℕ)
+given_lookback lookback gs (inl none) = None
+given_lookback lookback gs (inr g) = Some g.text
+
+lookback_listed : (lookback : ℕ) (gs : List GivenPart) (a : GivesRun lookback gs) → listed (given_lookback lookback gs a) ≡ values_given part.Lookback gs
+unfolding given_lookback
+lookback_listed lookback gs (inl none) = sym none.0
+lookback_listed lookback gs (inr g) = sym g.given
+
+lookback_is : (lookback : ℕ) (gs : List GivenPart) (a : GivesRun lookback gs) → lookback_in (given_lookback lookback gs a) ≡ Some lookback
+unfolding given_lookback
+lookback_is lookback gs (inl none) = ap Some (sym none.1)
+lookback_is lookback gs (inr g) = lookback_of g.text lookback g.is_number g.few
+
 -- the parts that spell a command, and what they come to
 said_for : (c : SeenCommand) (word : List ℕ) (gs : List GivenPart) → Asks c word gs → SeenSaid
-said_for (Run folder) word gs a = record { folder = Some folder; table = None; index = None; kind = None; number = None; rows = None; awaits = None }
-said_for (Verify folder table index k) word gs a = record { folder = Some folder; table = Some table; index = Some index; kind = Some (kind_word k); number = None; rows = None; awaits = None }
-said_for (Load folder l) word gs a = record { folder = Some folder; table = None; index = None; kind = None; number = Some a.3.number; rows = Some a.3.rows; awaits = None }
+said_for (Run folder lookback) word gs a = record { folder = Some folder; table = None; index = None; kind = None; number = None; rows = None; lookback = given_lookback lookback gs a.4; awaits = None }
+said_for (Verify folder table index k) word gs a = record { folder = Some folder; table = Some table; index = Some index; kind = Some (kind_word k); number = None; rows = None; lookback = None; awaits = None }
+said_for (Load folder l) word gs a = record { folder = Some folder; table = None; index = None; kind = None; number = Some a.3.number; rows = Some a.3.rows; lookback = None; awaits = None }
 
 settles : (c : SeenCommand) (word : List ℕ) (gs : List GivenPart) (a : Asks c word gs) → Settled nothing gs (said_for c word gs a)
 unfolding said_for
-settles (Run folder) word gs a = record { values = by_part; awaits = refl }
+settles (Run folder lookback) word gs a = record { values = by_part; awaits = refl }
   where
-    by_part : (q : Part) → listed (value_in (said_for (Run folder) word gs a) q) ≡ listed (value_in nothing q) ++ values_given q gs
+    by_part : (q : Part) → listed (value_in (said_for (Run folder lookback) word gs a) q) ≡ listed (value_in nothing q) ++ values_given q gs
     by_part part.Folder = sym a.1
     by_part part.Table = sym a.2.0
     by_part part.Index = sym a.2.1
     by_part part.Kind = sym a.2.2
     by_part part.Number = sym a.3.0
     by_part part.Rows = sym a.3.1
+    by_part part.Lookback = lookback_listed lookback gs a.4
 settles (Verify folder table index k) word gs a = record { values = by_part; awaits = refl }
   where
     by_part : (q : Part) → listed (value_in (said_for (Verify folder table index k) word gs a) q) ≡ listed (value_in nothing q) ++ values_given q gs
@@ -455,6 +497,7 @@ settles (Verify folder table index k) word gs a = record { values = by_part; awa
     by_part part.Kind = sym a.2.2
     by_part part.Number = sym a.3.0
     by_part part.Rows = sym a.3.1
+    by_part part.Lookback = sym a.4
 settles (Load folder l) word gs a = record { values = by_part; awaits = refl }
   where
     by_part : (q : Part) → listed (value_in (said_for (Load folder l) word gs a) q) ≡ listed (value_in nothing q) ++ values_given q gs
@@ -464,10 +507,12 @@ settles (Load folder l) word gs a = record { values = by_part; awaits = refl }
     by_part part.Kind = sym a.2.2
     by_part part.Number = sym a.3.number_given
     by_part part.Rows = sym a.3.rows_given
+    by_part part.Lookback = sym a.4
 
 commands : (c : SeenCommand) (word : List ℕ) (gs : List GivenPart) (a : Asks c word gs) → command_of word (said_for c word gs a) ≡ Some c
 unfolding said_for
-commands (Run folder) word gs a = ap (λ (w : List ℕ). command_of w (said_for (Run folder) word gs a)) a.0
+commands (Run folder lookback) word gs a =
+    ap (λ (w : List ℕ). command_of w (said_for (Run folder lookback) word gs a)) a.0 ∙ ap (option_map (λ n. Run folder n)) (lookback_is lookback gs a.4)
 commands (Verify folder table index k) word gs a =
     ap (λ (w : List ℕ). command_of w (said_for (Verify folder table index k) word gs a)) a.0 ∙ ap (option_map (λ x. Verify folder table index x)) (kind_of_word k)
 commands (Load folder l) word gs a =
@@ -492,6 +537,7 @@ given_here gs t st q v is = sym (st.values q ∙ none_first q) ∙ ap listed is
     none_first part.Kind = refl
     none_first part.Number = refl
     none_first part.Rows = refl
+    none_first part.Lookback = refl
 
 not_given : (gs : List GivenPart) (t : SeenSaid) → Settled nothing gs t → (q : Part) → value_in t q ≡ None → values_given q gs ≡ []
 not_given gs t st q none = sym (st.values q ∙ none_first q) ∙ ap listed none
@@ -503,6 +549,7 @@ not_given gs t st q none = sym (st.values q ∙ none_first q) ∙ ap listed none
     none_first part.Kind = refl
     none_first part.Number = refl
     none_first part.Rows = refl
+    none_first part.Lookback = refl
 
 module _ (gs : List GivenPart) (t : SeenSaid) (st : Settled nothing gs t) (c : SeenCommand) where
   no_verify : t.table ≡ None → t.index ≡ None → t.kind ≡ None → HasNoVerify gs
@@ -510,6 +557,16 @@ module _ (gs : List GivenPart) (t : SeenSaid) (st : Settled nothing gs t) (c : S
 
   no_load : t.number ≡ None → t.rows ≡ None → HasNoLoad gs
   no_load tn tr = (not_given gs t st part.Number tn, not_given gs t st part.Rows tr)
+
+  no_run : t.lookback ≡ None → HasNoRun gs
+  no_run tl = not_given gs t st part.Lookback tl
+
+  without_run : {A : Type 0} → has_run t ≡ false → (t.lookback ≡ None → A) → A
+  without_run {A} h go = by_option t.lookback refl h
+    where
+      by_option : (o : Option (List ℕ)) → t.lookback ≡ o → is_some o ≡ false → A
+      by_option None tl e = go tl
+      by_option (Some x) tl e = absurd (false≢true (sym e))
 
   -- where no option of a command was given, it has none
   without_verify : {A : Type 0} → has_verified t ≡ false → (t.table ≡ None → t.index ≡ None → t.kind ≡ None → A) → A
@@ -529,49 +586,58 @@ module _ (gs : List GivenPart) (t : SeenSaid) (st : Settled nothing gs t) (c : S
       by_options (Some x) r tn tr e = absurd (false≢true (sym e))
       by_options None (Some x) tn tr e = absurd (false≢true (sym e))
 
+  gives_run : (o : Option (List ℕ)) → t.lookback ≡ o → (lookback : ℕ) → lookback_in o ≡ Some lookback → GivesRun lookback gs
+  gives_run None tl lookback e = inl (no_run tl, sym (some_is usual_lookback lookback e))
+  gives_run (Some text) tl lookback e = (let has = lookback_read text lookback e in inr (record { text = text; given = given_here gs t st part.Lookback text tl; is_number = has.is_number; few = has.few }))
+
   asks_run : (word : List ℕ) → word ≡ codes "run" → run_of t ≡ Some c → Asks c word gs
   asks_run word is h = by_options (has_verified t) (has_loaded t) refl refl h
     where
-      by_folder : HasNoVerify gs → HasNoLoad gs → (f : Option (List ℕ)) → t.folder ≡ f → option_map (λ folder. Run folder) f ≡ Some c → Asks c word gs
-      by_folder verify load (Some folder) tf e =
-          let which : Run folder ≡ c = some_is (Run folder) c e in
-          subst (λ (x : SeenCommand). Asks x word gs) which (is, given_here gs t st part.Folder folder tf, verify, load)
+      by_lookback : HasNoVerify gs → HasNoLoad gs → (folder : List ℕ) → t.folder ≡ Some folder → (o : Option ℕ) → lookback_in t.lookback ≡ o → option_map (λ lookback. Run folder lookback) o ≡ Some c → Asks c word gs
+      by_lookback verify load folder tf (Some lookback) tl e =
+          let which : Run folder lookback ≡ c = some_is (Run folder lookback) c e in
+          subst (λ (x : SeenCommand). Asks x word gs) which (is, given_here gs t st part.Folder folder tf, verify, load, gives_run t.lookback refl lookback tl)
+      by_lookback verify load folder tf None tl e = absurd (none_some c e)
+
+      by_folder : HasNoVerify gs → HasNoLoad gs → (f : Option (List ℕ)) → t.folder ≡ f → option_and_then (λ folder. option_map (λ lookback. Run folder lookback) (lookback_in t.lookback)) f ≡ Some c → Asks c word gs
+      by_folder verify load (Some folder) tf e = by_lookback verify load folder tf (lookback_in t.lookback) refl e
       by_folder verify load None tf e = absurd (none_some c e)
 
-      by_options : (v l : Bool) → has_verified t ≡ v → has_loaded t ≡ l → (if v || l then None else option_map (λ folder. Run folder) t.folder) ≡ Some c → Asks c word gs
+      by_options : (v l : Bool) → has_verified t ≡ v → has_loaded t ≡ l → (if v || l then None else option_and_then (λ folder. option_map (λ lookback. Run folder lookback) (lookback_in t.lookback)) t.folder) ≡ Some c → Asks c word gs
       by_options false false tv tl e = without_verify tv (λ ta tb tk. without_load tl (λ tn tr. by_folder (no_verify ta tb tk) (no_load tn tr) t.folder refl e))
       by_options true l tv tl e = absurd (none_some c e)
       by_options false true tv tl e = absurd (none_some c e)
 
   asks_verify : (word : List ℕ) → word ≡ codes "verify" → verify_of t ≡ Some c → Asks c word gs
-  asks_verify word is h = by_load (has_loaded t) refl h
+  asks_verify word is h = by_others (has_loaded t) (has_run t) refl refl h
     where
-      by_options : HasNoLoad gs → (f a b k : Option (List ℕ)) → t.folder ≡ f → t.table ≡ a → t.index ≡ b → t.kind ≡ k
+      by_options : HasNoLoad gs → HasNoRun gs → (f a b k : Option (List ℕ)) → t.folder ≡ f → t.table ≡ a → t.index ≡ b → t.kind ≡ k
           → option_and_then (λ folder. option_and_then (λ table. option_and_then (λ index. option_map (λ x. Verify folder table index x) (option_and_then kind_named k)) b) a) f ≡ Some c → Asks c word gs
-      by_options load (Some f) (Some a) (Some b) (Some w) tf ta tb tk e = by_kind (kind_named w) refl e
+      by_options load run (Some f) (Some a) (Some b) (Some w) tf ta tb tk e = by_kind (kind_named w) refl e
         where
           by_kind : (o : Option VerifyKind) → kind_named w ≡ o → option_map (λ x. Verify f a b x) o ≡ Some c → Asks c word gs
           by_kind None named j = absurd (none_some c j)
           by_kind (Some k) named j =
               let which : Verify f a b k ≡ c = some_is (Verify f a b k) c j in
               let of_kind : values_given part.Kind gs ≡ kind_word k ∷ [] = given_here gs t st part.Kind w tk ∙ ap (λ (l : List ℕ). l ∷ []) (word_of_kind w k named) in
-              subst (λ (x : SeenCommand). Asks x word gs) which (is, given_here gs t st part.Folder f tf, (given_here gs t st part.Table a ta, given_here gs t st part.Index b tb, of_kind), load)
-      by_options load None a b k tf ta tb tk e = absurd (none_some c e)
-      by_options load (Some f) None b k tf ta tb tk e = absurd (none_some c e)
-      by_options load (Some f) (Some a) None k tf ta tb tk e = absurd (none_some c e)
-      by_options load (Some f) (Some a) (Some b) None tf ta tb tk e = absurd (none_some c e)
+              subst (λ (x : SeenCommand). Asks x word gs) which (is, given_here gs t st part.Folder f tf, (given_here gs t st part.Table a ta, given_here gs t st part.Index b tb, of_kind), load, run)
+      by_options load run None a b k tf ta tb tk e = absurd (none_some c e)
+      by_options load run (Some f) None b k tf ta tb tk e = absurd (none_some c e)
+      by_options load run (Some f) (Some a) None k tf ta tb tk e = absurd (none_some c e)
+      by_options load run (Some f) (Some a) (Some b) None tf ta tb tk e = absurd (none_some c e)
 
-      by_load : (l : Bool) → has_loaded t ≡ l
-          → (if l then None else option_and_then (λ folder. option_and_then (λ table. option_and_then (λ index. option_map (λ x. Verify folder table index x) (option_and_then kind_named t.kind)) t.index) t.table) t.folder) ≡ Some c → Asks c word gs
-      by_load false tl e = without_load tl (λ tn tr. by_options (no_load tn tr) t.folder t.table t.index t.kind refl refl refl refl e)
-      by_load true tl e = absurd (none_some c e)
+      by_others : (l n : Bool) → has_loaded t ≡ l → has_run t ≡ n
+          → (if l || n then None else option_and_then (λ folder. option_and_then (λ table. option_and_then (λ index. option_map (λ x. Verify folder table index x) (option_and_then kind_named t.kind)) t.index) t.table) t.folder) ≡ Some c → Asks c word gs
+      by_others false false tl tn e = without_load tl (λ tm tr. without_run tn (λ tk. by_options (no_load tm tr) (no_run tk) t.folder t.table t.index t.kind refl refl refl refl e))
+      by_others true n tl tn e = absurd (none_some c e)
+      by_others false true tl tn e = absurd (none_some c e)
 
   asks_load : (word : List ℕ) → word ≡ codes "load" → load_of t ≡ Some c → Asks c word gs
-  asks_load word is h = by_verify (has_verified t) refl h
+  asks_load word is h = by_others (has_verified t) (has_run t) refl refl h
     where
-      by_options : HasNoVerify gs → (f n r : Option (List ℕ)) → t.folder ≡ f → t.number ≡ n → t.rows ≡ r
+      by_options : HasNoVerify gs → HasNoRun gs → (f n r : Option (List ℕ)) → t.folder ≡ f → t.number ≡ n → t.rows ≡ r
           → option_and_then (λ folder. option_and_then (λ number. option_map (λ rows. load folder number rows) (option_and_then rows_named r)) (option_and_then number_named n)) f ≡ Some c → Asks c word gs
-      by_options verify (Some f) (Some n) (Some r) tf tn tr e = by_numbers (number_named n) (rows_named r) refl refl e
+      by_options verify run (Some f) (Some n) (Some r) tf tn tr e = by_numbers (number_named n) (rows_named r) refl refl e
         where
           by_numbers : (a b : Option ℕ) → number_named n ≡ a → rows_named r ≡ b → option_and_then (λ number. option_map (λ rows. load f number rows) b) a ≡ Some c → Asks c word gs
           by_numbers (Some number) (Some rows) an ar j =
@@ -591,21 +657,23 @@ module _ (gs : List GivenPart) (t : SeenSaid) (st : Settled nothing gs t) (c : S
                   some = are.some;
                   few = are.few;
                 },
+                run,
               )
           by_numbers None b an ar j = absurd (none_some c j)
           by_numbers (Some number) None an ar j = absurd (none_some c j)
-      by_options verify None n r tf tn tr e = absurd (none_some c e)
-      by_options verify (Some f) None r tf tn tr e = absurd (none_some c e)
-      by_options verify (Some f) (Some n) None tf tn tr e = no_rows (number_named n) e
+      by_options verify run None n r tf tn tr e = absurd (none_some c e)
+      by_options verify run (Some f) None r tf tn tr e = absurd (none_some c e)
+      by_options verify run (Some f) (Some n) None tf tn tr e = no_rows (number_named n) e
         where
           no_rows : (o : Option ℕ) → option_and_then (λ number. option_map (λ rows. load f number rows) None) o ≡ Some c → Asks c word gs
           no_rows None j = absurd (none_some c j)
           no_rows (Some number) j = absurd (none_some c j)
 
-      by_verify : (v : Bool) → has_verified t ≡ v
-          → (if v then None else option_and_then (λ folder. option_and_then (λ number. option_map (λ rows. load folder number rows) (option_and_then rows_named t.rows)) (option_and_then number_named t.number)) t.folder) ≡ Some c → Asks c word gs
-      by_verify false tv e = without_verify tv (λ ta tb tk. by_options (no_verify ta tb tk) t.folder t.number t.rows refl refl refl e)
-      by_verify true tv e = absurd (none_some c e)
+      by_others : (v n : Bool) → has_verified t ≡ v → has_run t ≡ n
+          → (if v || n then None else option_and_then (λ folder. option_and_then (λ number. option_map (λ rows. load folder number rows) (option_and_then rows_named t.rows)) (option_and_then number_named t.number)) t.folder) ≡ Some c → Asks c word gs
+      by_others false false tv tn e = without_verify tv (λ ta tb tk. without_run tn (λ tl. by_options (no_verify ta tb tk) (no_run tl) t.folder t.number t.rows refl refl refl e))
+      by_others true n tv tn e = absurd (none_some c e)
+      by_others false true tv tn e = absurd (none_some c e)
 
   asks : (word : List ℕ) → command_of word t ≡ Some c → Asks c word gs
   asks word h = by_word (bytes_eq word (codes "run")) (bytes_eq word (codes "verify")) (bytes_eq word (codes "load")) refl refl refl h

@@ -29,7 +29,8 @@ option_named word = if bytes_eq word (codes "--table") then Some part.Table
     else (if bytes_eq word (codes "--kind") then Some part.Kind
     else (if bytes_eq word (codes "--number") then Some part.Number
     else (if bytes_eq word (codes "--rows") then Some part.Rows
-    else None))))
+    else (if bytes_eq word (codes "--lookback") then Some part.Lookback
+    else None)))))
 
 abbrev pub kind_named : List ℕ → Option VerifyKind
 kind_named word = if bytes_eq word (codes "NONE") then Some kind.None
@@ -50,6 +51,21 @@ some_rows n = if nat_le 1 n && nat_le n 100000 then Some n else None
 abbrev pub rows_named : List ℕ → Option ℕ
 rows_named word = option_and_then some_rows (number_named word)
 
+-- versions may be kept so long: up to the greatest stamp
+abbrev pub some_lookback : ℕ → Option ℕ
+some_lookback n = if nat_le n 9223372036854775807 then Some n else None
+
+abbrev pub lookback_named : List ℕ → Option ℕ
+lookback_named word = option_and_then some_lookback (number_named word)
+
+-- how long they are, by the option's value: where it isn't given, three days in milliseconds
+abbrev pub usual_lookback : ℕ
+usual_lookback = 259200000
+
+abbrev pub lookback_in : Option (List ℕ) → Option ℕ
+lookback_in None = Some usual_lookback
+lookback_in (Some word) = lookback_named word
+
 -- 2. What words say, one after another
 
 -- the folder, the values of the options, and the option whose value is the next word
@@ -60,13 +76,14 @@ pub record SeenSaid : Type 0 where
   pub kind : Option (List ℕ)
   pub number : Option (List ℕ)
   pub rows : Option (List ℕ)
+  pub lookback : Option (List ℕ)
   pub awaits : Option Part
 
 abbrev pub seen_said : Said → SeenSaid
-seen_said s = record { folder = option_copied s.folder; table = option_copied s.table; index = option_copied s.index; kind = option_copied s.kind; number = option_copied s.number; rows = option_copied s.rows; awaits = s.awaits }
+seen_said s = record { folder = option_copied s.folder; table = option_copied s.table; index = option_copied s.index; kind = option_copied s.kind; number = option_copied s.number; rows = option_copied s.rows; lookback = option_copied s.lookback; awaits = s.awaits }
 
 abbrev pub nothing : SeenSaid
-nothing = record { folder = None; table = None; index = None; kind = None; number = None; rows = None; awaits = None }
+nothing = record { folder = None; table = None; index = None; kind = None; number = None; rows = None; lookback = None; awaits = None }
 
 -- the value that was given to a part
 abbrev pub value_in : SeenSaid → Part → Option (List ℕ)
@@ -76,6 +93,7 @@ value_in s part.Index = s.index
 value_in s part.Kind = s.kind
 value_in s part.Number = s.number
 value_in s part.Rows = s.rows
+value_in s part.Lookback = s.lookback
 
 abbrev pub with_value : SeenSaid → Part → List ℕ → SeenSaid
 with_value s part.Folder value = record s { folder = Some value }
@@ -84,6 +102,7 @@ with_value s part.Index value = record s { index = Some value }
 with_value s part.Kind value = record s { kind = Some value }
 with_value s part.Number value = record s { number = Some value }
 with_value s part.Rows value = record s { rows = Some value }
+with_value s part.Lookback value = record s { lookback = Some value }
 
 -- each part is given once
 abbrev pub give : SeenSaid → Part → List ℕ → Option SeenSaid
@@ -114,17 +133,17 @@ said_from s (word ∷ words) = option_and_then (λ more. said_from more words) (
 -- 3. Commands
 
 pub data SeenCommand : Type 0 where
-  Run : (folder : List ℕ) → SeenCommand
+  Run : (folder : List ℕ) → (lookback : ℕ) → SeenCommand
   Verify : (folder table index : List ℕ) → VerifyKind → SeenCommand
   Load : (folder : List ℕ) → Loads → SeenCommand
 
 abbrev pub seen_command : Command → SeenCommand
-seen_command (command.Run folder) = Run folder.now
+seen_command (command.Run folder lookback) = Run folder.now lookback
 seen_command (command.Verify folder table index kind) = Verify folder.now table.now index.now kind
 seen_command (command.Load folder load) = Load folder.now load
 
 abbrev pub command_folder : SeenCommand → List ℕ
-command_folder (Run folder) = folder
+command_folder (Run folder lookback) = folder
 command_folder (Verify folder table index kind) = folder
 command_folder (Load folder load) = folder
 
@@ -136,13 +155,17 @@ has_verified s = is_some s.table || is_some s.index || is_some s.kind
 abbrev pub has_loaded : SeenSaid → Bool
 has_loaded s = is_some s.number || is_some s.rows
 
--- `run DIR`
+-- an option of `run` was
+abbrev pub has_run : SeenSaid → Bool
+has_run s = is_some s.lookback
+
+-- `run DIR`, or `run DIR --lookback N`
 abbrev pub run_of : SeenSaid → Option SeenCommand
-run_of s = if has_verified s || has_loaded s then None else option_map (λ folder. Run folder) s.folder
+run_of s = if has_verified s || has_loaded s then None else option_and_then (λ folder. option_map (λ lookback. Run folder lookback) (lookback_in s.lookback)) s.folder
 
 -- `verify DIR --table NAME --index NAME --kind KIND`
 abbrev pub verify_of : SeenSaid → Option SeenCommand
-verify_of s = if has_loaded s then None
+verify_of s = if has_loaded s || has_run s then None
     else option_and_then (λ folder. option_and_then (λ table. option_and_then (λ index. option_map (λ k. Verify folder table index k) (option_and_then kind_named s.kind)) s.index) s.table) s.folder
 
 abbrev pub load : (folder : List ℕ) → (number rows : ℕ) → SeenCommand
@@ -150,7 +173,7 @@ load folder number rows = Load folder (record { number = number; rows = rows })
 
 -- `load DIR --number S --rows N`
 abbrev pub load_of : SeenSaid → Option SeenCommand
-load_of s = if has_verified s then None
+load_of s = if has_verified s || has_run s then None
     else option_and_then (λ folder. option_and_then (λ number. option_map (λ rows. load folder number rows) (option_and_then rows_named s.rows)) (option_and_then number_named s.number)) s.folder
 
 abbrev pub command_of : (word : List ℕ) → SeenSaid → Option SeenCommand

@@ -1,5 +1,5 @@
 -- How a command is written in words.
-use Rattle.std.specs.Prelude.{ℕ, ◌≡◌, ◌≢◌, ◌<◌, ◌≤◌, ◌^◌, Bool, true, false, if◌then◌else◌, List, [], ◌∷◌, ◌++◌, codes, Option, None, Some}
+use Rattle.std.specs.Prelude.{ℕ, ◌≡◌, ◌≢◌, ◌<◌, ◌≤◌, ◌⊎◌, ◌^◌, Bool, true, false, if◌then◌else◌, List, [], ◌∷◌, ◌++◌, codes, Option, None, Some}
 use Rattle.std.specs.List.{AllByRecursion}
 use Rattle.std.specs.Str.Parse.{IsNumeral, digits_value}
 use Rattle.px_load.specs.declared.script.Load.{Load as Loads}
@@ -7,7 +7,7 @@ use Rattle.px_verifying.specs.declared.answer.VerifyKind.{VerifyKind}
 use Rattle.px_verifying.specs.declared.answer.VerifyKind.TheVariants as kind
 use Rattle.px_arguments.specs.declared.said.Part.{Part}
 use Rattle.px_arguments.specs.declared.said.Part.TheVariants as part
-use Rattle.px_arguments.specs.Arguments.{SeenCommand, Run, Verify, Load, is_plain}
+use Rattle.px_arguments.specs.Arguments.{SeenCommand, Run, Verify, Load, is_plain, usual_lookback}
 
 -- the word of an option
 abbrev pub option_word : Part → Option (List ℕ)
@@ -17,6 +17,7 @@ option_word part.Index = Some (codes "--index")
 option_word part.Kind = Some (codes "--kind")
 option_word part.Number = Some (codes "--number")
 option_word part.Rows = Some (codes "--rows")
+option_word part.Lookback = Some (codes "--lookback")
 
 abbrev pub kind_word : VerifyKind → List ℕ
 kind_word kind.None = codes "NONE"
@@ -56,6 +57,7 @@ is_same part.Index part.Index = true
 is_same part.Kind part.Kind = true
 is_same part.Number part.Number = true
 is_same part.Rows part.Rows = true
+is_same part.Lookback part.Lookback = true
 is_same p q = false
 
 -- the values that are given to a part, in order
@@ -72,6 +74,21 @@ HasNoVerify gs = (values_given part.Table gs ≡ []) × (values_given part.Index
 -- no option of `load` is
 abbrev pub HasNoLoad : List GivenPart → Type 0
 HasNoLoad gs = (values_given part.Number gs ≡ []) × (values_given part.Rows gs ≡ [])
+
+-- the option of `run` isn't
+abbrev pub HasNoRun : List GivenPart → Type 0
+HasNoRun gs = values_given part.Lookback gs ≡ []
+
+-- it is given once, by a number, which is the greatest stamp at most
+pub record GivesLookback (lookback : ℕ) (gs : List GivenPart) : Type 0 where
+  pub text : List ℕ
+  pub given : values_given part.Lookback gs ≡ text ∷ []
+  pub is_number : IsNumber text lookback
+  pub few : lookback ≤ 9223372036854775807
+
+-- so, or it isn't, and versions are kept as long as usual
+abbrev pub GivesRun : ℕ → List GivenPart → Type 0
+GivesRun lookback gs = (HasNoRun gs × (lookback ≡ usual_lookback)) ⊎ GivesLookback lookback gs
 
 -- each option of `verify` is given once
 abbrev pub GivesVerify : (table index : List ℕ) → VerifyKind → List GivenPart → Type 0
@@ -90,9 +107,9 @@ pub record GivesLoad (l : Loads) (gs : List GivenPart) : Type 0 where
 
 -- the command's own word, its folder once, and its own options
 abbrev pub Asks : SeenCommand → (word : List ℕ) → List GivenPart → Type 0
-Asks (Run folder) word gs = (word ≡ codes "run") × (values_given part.Folder gs ≡ folder ∷ []) × HasNoVerify gs × HasNoLoad gs
-Asks (Verify folder table index k) word gs = (word ≡ codes "verify") × (values_given part.Folder gs ≡ folder ∷ []) × GivesVerify table index k gs × HasNoLoad gs
-Asks (Load folder l) word gs = (word ≡ codes "load") × (values_given part.Folder gs ≡ folder ∷ []) × HasNoVerify gs × GivesLoad l gs
+Asks (Run folder lookback) word gs = (word ≡ codes "run") × (values_given part.Folder gs ≡ folder ∷ []) × HasNoVerify gs × HasNoLoad gs × GivesRun lookback gs
+Asks (Verify folder table index k) word gs = (word ≡ codes "verify") × (values_given part.Folder gs ≡ folder ∷ []) × GivesVerify table index k gs × HasNoLoad gs × HasNoRun gs
+Asks (Load folder l) word gs = (word ≡ codes "load") × (values_given part.Folder gs ≡ folder ∷ []) × HasNoVerify gs × GivesLoad l gs × HasNoRun gs
 
 -- the words spell the command: its own word, and then its parts in any order
 pub record IsSpelled (words : List (List ℕ)) (c : SeenCommand) : Type 0 where

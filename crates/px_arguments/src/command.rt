@@ -1,19 +1,23 @@
 // Commands.
-ghost use Rattle.std.specs.Prelude.{◌≡◌, map, option_map};
+ghost use Rattle.std.specs.Prelude.{◌≡◌, map, option_copied, option_map};
 ghost use Rattle.std.specs.String.{string_bytes};
 ghost use Rattle.px_arguments.specs.Arguments as spec;
 
-use crate::number::{number_named, rows_named};
+use crate::number::{lookback_named, number_named, rows_named};
 use crate::said::{Said, said_by};
 use px_load::Load;
 use px_verifying::VerifyKind;
 
+/// How long versions are kept, in milliseconds, where nothing else is said: three days.
+pub const LOOKBACK: u64 = 259_200_000;
+
 /// A command of the program. Its folder and names are as they were written.
 #[derive(Clone, Copy)]
 pub enum Command<'a> {
-    /// `run DIR`.
+    /// `run DIR`, or `run DIR --lookback N`.
     Run {
         folder: &'a str,
+        lookback: u64,
     },
     /// `verify DIR --table NAME --index NAME --kind KIND`.
     Verify {
@@ -35,7 +39,7 @@ impl<'a> Command<'a> {
         ensures { result.now ≡ spec.command_folder (spec.seen_command self.entry) }
     {
         match self {
-            Command::Run { folder } => folder,
+            Command::Run { folder, .. } => folder,
             Command::Verify { folder, .. } => folder,
             Command::Load { folder, .. } => folder,
         }
@@ -75,6 +79,23 @@ fn has_loaded(said: Said<'_>) -> bool
     said.number.is_some() || said.rows.is_some()
 }
 
+/// Whether an option of `run` was given.
+fn has_run(said: Said<'_>) -> bool
+    ensures { result ≡ spec.has_run (spec.seen_said said.entry) }
+{
+    said.lookback.is_some()
+}
+
+/// How long versions are kept, by the option's value where it was given.
+fn lookback_in(said: Option<&str>) -> Option<u64>
+    ensures { result ≡ spec.lookback_in (option_copied said.entry) }
+{
+    match said {
+        Some(number) => lookback_named(number),
+        None => Some(LOOKBACK),
+    }
+}
+
 fn run_of(said: Said<'_>) -> Option<Command<'_>>
     ensures { option_map spec.seen_command result ≡ spec.run_of (spec.seen_said said.entry) }
 {
@@ -82,13 +103,14 @@ fn run_of(said: Said<'_>) -> Option<Command<'_>>
         return None;
     }
     let folder = said.folder?;
-    Some(Command::Run { folder })
+    let lookback = lookback_in(said.lookback)?;
+    Some(Command::Run { folder, lookback })
 }
 
 fn verify_of(said: Said<'_>) -> Option<Command<'_>>
     ensures { option_map spec.seen_command result ≡ spec.verify_of (spec.seen_said said.entry) }
 {
-    if has_loaded(said) {
+    if has_loaded(said) || has_run(said) {
         return None;
     }
     let folder = said.folder?;
@@ -107,7 +129,7 @@ fn verify_of(said: Said<'_>) -> Option<Command<'_>>
 fn load_of(said: Said<'_>) -> Option<Command<'_>>
     ensures { option_map spec.seen_command result ≡ spec.load_of (spec.seen_said said.entry) }
 {
-    if has_verified(said) {
+    if has_verified(said) || has_run(said) {
         return None;
     }
     let folder = said.folder?;

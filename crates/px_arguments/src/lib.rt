@@ -9,5 +9,5 @@ mod laws;
 mod number;
 mod said;
 
-pub use command::{Command, command_in};
+pub use command::{Command, LOOKBACK, command_in};
 pub use laws::law_spelled;

@@ -4,6 +4,9 @@ ghost use Rattle.px_arguments.specs.Arguments as spec;
 
 use px_load::MOST_ROWS;
 
+/// The greatest lookback, which is the greatest stamp.
+const MOST_LOOKBACK: u64 = 9_223_372_036_854_775_807;
+
 /// The number that decimal digits alone spell, where it isn't above the greatest of 64 bits.
 pub(crate) fn number_named(word: &str) -> Option<u64>
     ensures { result ≡ spec.number_named word.now }
@@ -24,6 +27,18 @@ pub(crate) fn rows_named(word: &str) -> Option<u64>
     let rows = number_named(word)?;
     if 1 <= rows && rows <= MOST_ROWS {
         Some(rows)
+    } else {
+        None
+    }
+}
+
+/// How long versions are kept.
+pub(crate) fn lookback_named(word: &str) -> Option<u64>
+    ensures { result ≡ spec.lookback_named word.now }
+{
+    let lookback = number_named(word)?;
+    if lookback <= MOST_LOOKBACK {
+        Some(lookback)
     } else {
         None
     }

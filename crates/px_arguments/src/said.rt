@@ -12,6 +12,7 @@ pub(crate) enum Part {
     Kind,
     Number,
     Rows,
+    Lookback,
 }
 
 /// What the words so far gave.
@@ -23,6 +24,7 @@ pub(crate) struct Said<'a> {
     pub(crate) kind: Option<&'a str>,
     pub(crate) number: Option<&'a str>,
     pub(crate) rows: Option<&'a str>,
+    pub(crate) lookback: Option<&'a str>,
     /// The option whose value is the next word.
     awaits: Option<Part>,
 }
@@ -51,6 +53,8 @@ fn option_named(word: &str) -> Option<Part>
         Some(Part::Number)
     } else if word == "--rows" {
         Some(Part::Rows)
+    } else if word == "--lookback" {
+        Some(Part::Lookback)
     } else {
         None
     }
@@ -102,6 +106,13 @@ fn give<'a>(said: Said<'a>, part: Part, value: &'a str) -> Option<Said<'a>>
                 return None;
             }
             more.rows = Some(value);
+            Some(more)
+        }
+        Part::Lookback => {
+            if said.lookback.is_some() {
+                return None;
+            }
+            more.lookback = Some(value);
             Some(more)
         }
     }
@@ -163,6 +174,7 @@ pub(crate) fn said_by(words: &[String]) -> Option<Said<'_>>
         kind: None,
         number: None,
         rows: None,
+        lookback: None,
         awaits: None,
     };
     for word in words {

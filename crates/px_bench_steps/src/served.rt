@@ -107,6 +107,7 @@ fn over<
     requires premise { B.premise → ⊥ }
     requires began { BeginsAt ⟦<D as Disk>⟧ B.began disk }
     requires times { IsTrue C.tells → (n : ℕ) → C.times clock n ≡ B.times n }
+    requires lookback { B.lookback ≡ 259200000 }
 {
     match Server::<D, C, B>::over(alloc, disk, clock, LOOKBACK, opened) {
         Ok(server) => served(rt, alloc, server, script),

@@ -35,4 +35,6 @@ pub enum Work {
 pub enum Ordered {
     /// All that stands in the logs of the tables is to be flushed.
     FlushAll,
+    /// The horizon of each table is to rise as far as it may, and each of its regions is to forget at it.
+    CompactAll,
 }

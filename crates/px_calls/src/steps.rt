@@ -5,6 +5,7 @@ ghost use Rattle.px_trail.specs.declared.entry.Act.TheVariants.{Ended, Released}
 ghost use Rattle.px_values.specs.declared.name.IndexId.{IndexId as IndexNumber};
 ghost use Rattle.px_calls.specs.declared.query.By.TheVariants.{Index as ByIndex, Table as ByTable};
 ghost use Rattle.px_calls.specs.declared.query.Point.{Point as Points};
+ghost use Rattle.px_calls.specs.declared.status.Ordered.{Ordered as Orders};
 ghost use Rattle.px_calls.specs.declared.ticket.Ticket.{Ticket as Tickets};
 ghost use Rattle.px_calls.specs.Counts.{HasRisenBy};
 ghost use Rattle.px_calls.specs.Doubtful.{AreDoubtful, AreOthersDoubtful, AreStillDoubtful, IndexVersion, IsForRoom, version_of};
@@ -43,11 +44,12 @@ pub trait Steps {
     /// That what was opened is sound. What is told of rows and index rows rests on it; what is told of the trail doesn't.
     ghost sound: { Type 0 };
 
-    /// That all that stands in the logs of the tables was ordered to be flushed, when the seat had seen what it now has.
-    ghost ordered: { Self → Type 0 };
+    /// That this job was ordered of each table, when the seat had seen what it now has: that all which stands in the logs be flushed; or that the horizon
+    /// rise as far as it may, and each region forget at it.
+    ghost ordered: { Self → Orders → Type 0 };
 
-    /// That all that was ordered was flushed, when the seat had seen what it now has.
-    ghost done: { Self → Type 0 };
+    /// That all that was ordered by such a job was done, when the seat had seen what it now has.
+    ghost done: { Self → Orders → Type 0 };
 
     /// The table of a name, with its indexes.
     fn find(&mut self, name: &Name) -> Result<Found, StepFault>
@@ -179,7 +181,7 @@ pub trait Steps {
     fn order(&mut self, job: Ordered) -> Result<(), StepFault>
         ensures one_call { one_call self.old self.new }
         ensures ok { IfOk result (DidOrder (known self.old) (known self.new)) }
-        ensures ordered { IfOk result (λ _. ordered self.new) }
+        ensures ordered { IfOk result (λ _. ordered self.new job) }
         ensures refused { IfErr result (Refuses order_cause (known self.old) (known self.new)) };
 
     /// One step of one job of upkeep. It is Idle where no region of a table that stands has a step to make: then all that was ordered is done.
@@ -188,7 +190,7 @@ pub trait Steps {
         ensures ok { IfOk result (DidWork (known self.old) (known self.new)) }
         ensures unlooked { (known self.old).alone ≡ true → looked self.new ≡ looked self.old }
         ensures still { IfOk result (λ _. (known self.old).alone ≡ true → AreStillDoubtful (known self.old) (doubtful self.old) (doubtful self.new)) }
-        ensures done { IfOk result (λ work. IsIdleWork work → done self.new) }
+        ensures done { IfOk result (λ work. IsIdleWork work → (job : Orders) → done self.new job) }
         ensures refused { IfErr result (Refuses upkeep_cause (known self.old) (known self.new)) };
 
     /// The table's last stamp and horizon, and counts of its cells, files and index rows.

@@ -48,11 +48,11 @@ job_of (run.Ordering job) = job
 job_of (run.Working job) = job
 
 -- the run gives the order first, then steps upkeep, and is over only where that has nothing left to do, or a call is refused
-abbrev pub OrderLeads : (ordered done : Type 0) → OrderRun → OrderTurn → Type 0
-OrderLeads ordered done (run.Ordering job) (turn.Stepped r) = (r ≡ run.Working job) × ordered
+abbrev pub OrderLeads : (ordered done : Ordered → Type 0) → OrderRun → OrderTurn → Type 0
+OrderLeads ordered done (run.Ordering job) (turn.Stepped r) = (r ≡ run.Working job) × ordered job
 OrderLeads ordered done (run.Ordering job) (turn.Over (Ok u)) = ⊥
 OrderLeads ordered done (run.Working job) (turn.Stepped r) = r ≡ run.Working job
-OrderLeads ordered done (run.Working job) (turn.Over (Ok u)) = done
+OrderLeads ordered done (run.Working job) (turn.Over (Ok u)) = done job
 OrderLeads ordered done r (turn.Over (Err f)) = Unit {0}
 
 -- what the step adds to the trail: nothing but a horizon that rises, or what tells a failed device call

@@ -40,7 +40,6 @@ module _ (a : Answered) (st' : Settings) (once_more : a.after ≡ next_is.Again 
   not_at_once st p (right.is_wrong_table t fault read whole scn first says) = not_so st says.3
   not_at_once st p (right.is_no_command e read says) = not_so st says.3
   not_at_once st p (right.is_command c read says) = not_said st c says
-  not_at_once st p (right.is_command_not_built c read built says) = not_so st says.3
   not_at_once st p (right.is_lacking says) = not_so st says.3
 
   made_way : (again : Bool) (st : Settings) (h : HeldData) → st.held ≡ Some h → (n : ℕ) × (a.reply ≡ Rattle.px_reply.specs.declared.reply.Reply.TheVariants.Count n Rattle.px_values.specs.declared.print.CountWord.TheVariants.Affected) → a.after ≡ right.after_commit again (emptied st) → MadeWay st st' a.reply

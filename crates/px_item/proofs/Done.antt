@@ -40,10 +40,19 @@ use Rattle.px_item.specs.Turns.{FitsItem, FitsState, ItemTurns, TellsDone}
 
 abbrev pub is_order : Reply → Bool
 is_order reply.Flushed = true
+is_order reply.Compacted = true
 is_order r = false
 
 order_is : (job : Ordered) → is_order (order_reply job) ≡ true
 order_is jobs.FlushAll = refl
+order_is jobs.CompactAll = refl
+
+-- what is told of one job isn't told of another
+one_job : (job job' : Ordered) → order_reply job ≡ order_reply job' → job ≡ job'
+one_job jobs.FlushAll jobs.FlushAll e = refl
+one_job jobs.FlushAll jobs.CompactAll e = absurd (let z : ◌≡◌ {A = Reply} reply.Flushed reply.Compacted = e in cc)
+one_job jobs.CompactAll jobs.FlushAll e = absurd (let z : ◌≡◌ {A = Reply} reply.Compacted reply.Flushed = e in cc)
+one_job jobs.CompactAll jobs.CompactAll e = refl
 
 either : (b : Bool) (x y : Reply) → is_order x ≡ false → is_order y ≡ false → is_order (if b then x else y) ≡ false
 either true x y a c = a
@@ -107,7 +116,6 @@ module _ (a : Answered) (tells : is_order a.reply ≡ true) where
   not_at_once st p (right.is_wrong_table t fault read whole scn first says) = not_it _ says.0 refl
   not_at_once st p (right.is_no_command e read says) = not_it _ says.0 refl
   not_at_once st p (right.is_command c read says) = not_said st c says
-  not_at_once st p (right.is_command_not_built c read built says) = not_it _ says.0 refl
   not_at_once st p (right.is_lacking says) = not_it _ says.0 refl
 
   not_stopped : (name : List ℕ) (f : _) → right.StopsDelete a.reply name f → ⊥
@@ -175,12 +183,15 @@ other_command p c job r q differs = differs (one_command p c (command_of job) r 
 
 no_commit : (job : Ordered) → commands.Commit ≡ command_of job → ⊥
 no_commit jobs.FlushAll e = cc
+no_commit jobs.CompactAll e = cc
 
 no_switch : (job : Ordered) (on : Bool) → commands.Autocommit on ≡ command_of job → ⊥
 no_switch jobs.FlushAll on e = cc
+no_switch jobs.CompactAll on e = cc
 
 no_status : (job : Ordered) (name : List ℕ) → commands.Status name ≡ command_of job → ⊥
 no_status jobs.FlushAll name e = cc
+no_status jobs.CompactAll name e = cc
 
 no_ask : (k : Known) (first : ℕ) (st : Settings) (p : SeenPiece) (h : _) (again : Bool) (job : Ordered) → AsksToCommit k first st p h again → IsCommandRead p (Ok (command_of job)) → ⊥
 no_ask k first st p h true job (inl r) q = other_command p (commands.Autocommit true) job r q (no_switch job true)
@@ -207,16 +218,16 @@ module _ (sound : Type 0) (before : ℕ) (asked : Asked) (own : List Act) where
   no_order (state.Counting name run) k other f job q = other_command (seen_piece asked.piece) (commands.Status name) job f.read q (no_status job name)
   no_order (state.Ordering run) k other f job q = other
 
-  pub not_told : (st : ItemState) (k k' : Known) (t : ItemTurn) → IsOther st → FitsItem sound before asked own st k → ItemTurns sound before asked own k k' t → TellsDone t → ⊥
-  not_told st k k' (turn.Stepped r) other f turns tells = tells
-  not_told st k k' (turn.Waiting r) other f turns tells = tells
-  not_told st k k' (turn.Over a) other f turns tells =
-      let o = ordered_only a (ap is_order tells.1 ∙ order_is tells.0) sound _ before _ asked.settings (seen_piece asked.piece) turns.told.2 in
+  pub not_told : (st : ItemState) (k k' : Known) (t : ItemTurn) → IsOther st → FitsItem sound before asked own st k → ItemTurns sound before asked own k k' t → (job : Ordered) → TellsDone job t → ⊥
+  not_told st k k' (turn.Stepped r) other f turns job tells = tells
+  not_told st k k' (turn.Waiting r) other f turns job tells = tells
+  not_told st k k' (turn.Over a) other f turns job tells =
+      let o = ordered_only a (ap is_order tells ∙ order_is job) sound _ before _ asked.settings (seen_piece asked.piece) turns.told.2 in
       no_order st k other f.state o.0 o.1
 
 -- 5. An order on its way is told so where it is done
 
-pub done_then : (asked : Asked) (job : Ordered) (ordered done : Type 0) (r : OrderRun) (came : Result (Unit {0}) OrderFault) (a : Answered) → orders.OrderLeads ordered done r (ot.Over came) → IsOrdered asked job came a → TellsDone (turn.Over a) → done
-done_then asked job ordered done (run.Ordering x) (Ok u) a leads is tells = absurd leads
-done_then asked job ordered done (run.Working x) (Ok u) a leads is tells = leads
-done_then asked job ordered done r (Err f) a leads is tells = absurd (not_it a (ap is_order tells.1 ∙ order_is tells.0) _ is.1.0 refl)
+pub done_then : (asked : Asked) (ordered done : Ordered → Type 0) (r : OrderRun) (came : Result (Unit {0}) OrderFault) (a : Answered) → orders.OrderLeads ordered done r (ot.Over came) → IsOrdered asked (orders.job_of r) came a → (told : Ordered) → TellsDone told (turn.Over a) → done told
+done_then asked ordered done (run.Ordering x) (Ok u) a leads is told tells = absurd leads
+done_then asked ordered done (run.Working x) (Ok u) a leads is told tells = subst done (one_job x told (sym is.1.0 ∙ tells)) leads
+done_then asked ordered done r (Err f) a leads is told tells = absurd (not_it a (ap is_order tells ∙ order_is told) _ is.1.0 refl)

@@ -21,13 +21,13 @@ use Rattle.px_item.proofs.Plain.{order_since_plain, undone_plain}
 use Rattle.px_item.proofs.Passing.{longer, of_ran, first_low, first_within, and_then}
 
 -- the same is ordered in the next state
-same_job : (ordered done : Type 0) (old new : OrderRun) → orders.OrderLeads ordered done old (ot.Stepped new) → orders.job_of new ≡ orders.job_of old
+same_job : (ordered done : Ordered → Type 0) (old new : OrderRun) → orders.OrderLeads ordered done old (ot.Stepped new) → orders.job_of new ≡ orders.job_of old
 same_job ordered done (run.Ordering job) new l = ap orders.job_of l.0
 same_job ordered done (run.Working job) new l = ap orders.job_of l
 
 -- `mine` is what was done for the item so far
 module _ (sound : Type 0) (before : ℕ) (asked : Asked) (mine : List Act) where
-  pub order_goes_on : (ordered done : Type 0) (old new : OrderRun) (k k' : Known) → FitsItem sound before asked mine (state.Ordering old) k → orders.OrderTurns k k' (ot.Stepped new) → orders.OrderLeads ordered done old (ot.Stepped new)
+  pub order_goes_on : (ordered done : Ordered → Type 0) (old new : OrderRun) (k k' : Known) → FitsItem sound before asked mine (state.Ordering old) k → orders.OrderTurns k k' (ot.Stepped new) → orders.OrderLeads ordered done old (ot.Stepped new)
       → ItemTurns sound before asked mine k k' (turn.Stepped (record { asked = asked; state = state.Ordering new }))
   order_goes_on ordered done old new k k' f t l =
       let later = of_ran k k' t.acts t.ran in

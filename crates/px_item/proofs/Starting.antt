@@ -38,9 +38,6 @@ none_is (Some h) e = cc
 pub commanded_so : (st : Settings) (p : SeenPiece) (c d : Command) (a : Answered) (first : ℕ) → right.IsCommandRead p (Ok c) → c ≡ d → right.SaysOf st d a → a.first ≡ first → IsAtOnce st p a × (a.first ≡ first)
 commanded_so st p c d a first read is says here = (right.is_command c read (subst (λ (y : Command). right.SaysOf st y a) (sym is) says), here)
 
-pub uncommanded_so : (st : Settings) (p : SeenPiece) (c d : Command) (a : Answered) (first : ℕ) → right.IsCommandRead p (Ok c) → c ≡ d → right.is_command_built d ≡ false → SaysRefused a Rattle.px_reply.specs.declared.refusal.Refusal.TheVariants.Form st → a.first ≡ first → IsAtOnce st p a × (a.first ≡ first)
-uncommanded_so st p c d a first read is built says here = (right.is_command_not_built c read (ap right.is_command_built is ∙ built) says, here)
-
 -- why a command commits what is held
 asks_itself : (k : Known) (first : ℕ) (st : Settings) (p : SeenPiece) (h : HeldData) (again : Bool) → AsksCommit p again → AsksToCommit k first st p h again
 asks_itself k first st p h true a = inl a

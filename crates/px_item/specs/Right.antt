@@ -357,15 +357,6 @@ IsRead p r = (p.kind ≡ kinds.Statement) × ((xs : List Lexeme) × IsTextReadin
 abbrev pub IsCommandRead : SeenPiece → Result Command CommandFault → Type 0
 IsCommandRead p r = (p.kind ≡ kinds.Command) × ((text : List ℕ) × (p.text ≡ 33 ∷ text) × ((xs : List Lexeme) × IsTextReading text xs × said.AnswersCommand text xs r))
 
--- the commands whose answers are built
-abbrev pub is_command_built : Command → Bool
-is_command_built (commands.Scn n) = true
-is_command_built (commands.Autocommit on) = true
-is_command_built commands.Commit = true
-is_command_built (commands.Status name) = true
-is_command_built commands.Flush = true
-is_command_built c = false
-
 -- ---- answers
 
 -- it says this, rests on no receipt and no place, and leaves these settings to the next piece
@@ -391,9 +382,11 @@ AsksCommit p false = IsCommandRead p (Ok commands.Commit)
 -- the command that gives an order to upkeep, and what is told where it is done
 abbrev pub command_of : Ordered → Command
 command_of jobs.FlushAll = commands.Flush
+command_of jobs.CompactAll = commands.Compact
 
 abbrev pub order_reply : Ordered → Reply
 order_reply jobs.FlushAll = reply.Flushed
+order_reply jobs.CompactAll = reply.Compacted
 
 -- what is answered without a call
 pub data IsAtOnce (st : Settings) (p : SeenPiece) (a : Answered) : Type 0 where
@@ -405,7 +398,6 @@ pub data IsAtOnce (st : Settings) (p : SeenPiece) (a : Answered) : Type 0 where
   is_wrong_table : (t : CreateTable) (fault : BindFault) → IsRead p (Ok (s.CreateTable t)) → is_none_of t.splits ≡ true → st.scn ≡ None → IsFirstBindFault (table_faults t) fault → SaysRefused a (bind_refusal fault) st → IsAtOnce st p a
   is_no_command : (e : CommandFault) → IsCommandRead p (Err e) → SaysRefused a (command_refusal e) st → IsAtOnce st p a
   is_command : (c : Command) → IsCommandRead p (Ok c) → SaysOf st c a → IsAtOnce st p a
-  is_command_not_built : (c : Command) → IsCommandRead p (Ok c) → is_command_built c ≡ false → SaysRefused a refusal.Form st → IsAtOnce st p a
   is_lacking : SaysRefused a refusal.Memory st → IsAtOnce st p a
 
 -- a table of this name stood after some entry from `first` on, with its indexes

@@ -212,10 +212,10 @@ pub record ItemTurns (sound : Type 0) (before : ℕ) (asked : Asked) (own : List
   pub ran : Ran k k' acts
   pub told : Told sound before asked (own ++ outline acts) k' t
 
--- it is over, and told that an order is done
-abbrev pub TellsDone : ItemTurn → Type 0
-TellsDone (turn.Over a) = (job : Ordered) × (a.reply ≡ order_reply job)
-TellsDone t = ⊥
+-- it is over, and told that an order of this job is done
+abbrev pub TellsDone : Ordered → ItemTurn → Type 0
+TellsDone job (turn.Over a) = a.reply ≡ order_reply job
+TellsDone job t = ⊥
 
 -- the state before the first step: a CREATE TABLE is bound by then
 abbrev pub IsStart : Asked → ItemState → Type 0

@@ -2,6 +2,7 @@
 ghost use Rattle.std.specs.Prelude.{◌≡◌, ◌≢◌, ℕ, List, None};
 ghost use Rattle.px_trail.specs.declared.entry.Act.{Act};
 ghost use Rattle.px_item.specs.Right as spec;
+ghost use Rattle.px_calls.specs.declared.status.Ordered.{Ordered as Orders};
 ghost use Rattle.px_item.specs.Turns.{FitsItem, ItemTurns, TellsDone};
 
 use crate::answered::{After, Answered, Asked, Settings, told};
@@ -148,6 +149,7 @@ fn done(job: Ordered) -> Reply
 {
     match job {
         Ordered::FlushAll => Reply::Flushed,
+        Ordered::CompactAll => Reply::Compacted,
     }
 }
 
@@ -170,7 +172,7 @@ pub(crate) fn order<'a, S: Steps>(
     run: OrderRun,
 ) -> ItemTurn<'a>
     ensures turns { (before : ℕ) → (own : List Act) → FitsItem S.sound before asked.entry own (ItemState.Ordering run) (S.known s.old) → ItemTurns S.sound before asked.entry own (S.known s.old) (S.known s.new) result }
-    ensures done { TellsDone result → S.done s.new }
+    ensures done { (job : Orders) → TellsDone job result → S.done s.new job }
     ensures one_call { S.one_call s.old s.new }
 {
     let job = run.job();

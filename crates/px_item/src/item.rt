@@ -2,6 +2,7 @@
 ghost use Rattle.std.specs.Prelude.{◌≡◌, ℕ, true, false, List, Ok};
 ghost use Rattle.px_lex.specs.Script.{seen_piece};
 ghost use Rattle.px_trail.specs.declared.entry.Act.{Act};
+ghost use Rattle.px_calls.specs.declared.status.Ordered.{Ordered as Orders};
 ghost use Rattle.px_item.specs.Right as spec;
 ghost use Rattle.px_item.specs.Turns.{Begins, FitsItem, ItemTurns, TellsDone};
 
@@ -561,7 +562,7 @@ impl<'a> ItemRun<'a> {
         ensures turns { (before : ℕ) → (own : List Act) → FitsItem S.sound before self.entry.asked own self.entry.state (S.known s.old) → ItemTurns S.sound before self.entry.asked own (S.known s.old) (S.known s.new) result }
 
         // That an order is done is told only where it is.
-        ensures done { (before : ℕ) → (own : List Act) → FitsItem S.sound before self.entry.asked own self.entry.state (S.known s.old) → TellsDone result → S.done s.new }
+        ensures done { (before : ℕ) → (own : List Act) → FitsItem S.sound before self.entry.asked own self.entry.state (S.known s.old) → (job : Orders) → TellsDone job result → S.done s.new job }
         ensures one_call { S.one_call s.old s.new }
     {
         let ItemRun { asked, state } = self;

@@ -188,7 +188,14 @@ fn commanded<'a>(
             };
             Read::Orders(asked, Ordered::FlushAll)
         }
-        Command::Compact => Read::Told(refused(alloc, Refusal::Form, first, settings)),
+        Command::Compact => {
+            let asked = Asked {
+                piece,
+                settings,
+                first,
+            };
+            Read::Orders(asked, Ordered::CompactAll)
+        }
     }
 }
 

@@ -163,6 +163,7 @@ name_quiet x = refl
 
 order_quiet : (job : Ordered) → refused_by is_of_disk (right.order_reply job) ≡ false
 order_quiet jobs.FlushAll = refl
+order_quiet jobs.CompactAll = refl
 
 says_quiet : (st : Settings) (c : Command) (a : Answered) → SaysOf st c a → refused_by is_of_disk a.reply ≡ false
 says_quiet st (commands.Scn n) a says = ap (refused_by is_of_disk) says.0
@@ -179,7 +180,6 @@ at_once_quiet st p a (right.is_under_scn x read may scn says) = ap (refused_by i
 at_once_quiet st p a (right.is_wrong_table t fault read whole scn first says) = ap (refused_by is_of_disk) says.0 ∙ bind_quiet fault
 at_once_quiet st p a (right.is_no_command e read says) = ap (refused_by is_of_disk) says.0 ∙ command_quiet e
 at_once_quiet st p a (right.is_command c read says) = says_quiet st c a says
-at_once_quiet st p a (right.is_command_not_built c read built says) = ap (refused_by is_of_disk) says.0
 at_once_quiet st p a (right.is_lacking says) = ap (refused_by is_of_disk) says.0
 
 -- ---- 3. What a DELETE did

@@ -24,7 +24,7 @@ use Rattle.px_trail.specs.Trail.{Base}
 use Rattle.px_trail.specs.declared.entry.Entry.{Entry}
 use Rattle.px_server.specs.Others.{OthersStay, beginning_at, part_files}
 use Rattle.px_server.specs.Started.{IsOpenedOn, KeepsFolder, StartsSound}
-use Rattle.px_program.specs.Run.{AsksFor, HasRead, HasReadSome, IsRun, IsUnrun, Stops, known_over, most_read, run_given, run_left, ReadsSound}
+use Rattle.px_program.specs.Run.{AsksFor, HasRead, HasReadSome, IsRun, IsUnrun, Stops, known_over, lookback_of, most_read, run_given, run_left, ReadsSound}
 use Rattle.px_program.proofs.Stops.{starts_reads}
 use Rattle.px_program.specs.Status.{is_memory_status}
 use Rattle.px_arguments.specs.Arguments.{SeenCommand, Run, Verify, Load, command_in}
@@ -73,9 +73,9 @@ caused_by d old new fault.WriteFault read write damaged = write refl
 caused_by d old new (fault.Damaged file place) read write damaged = damaged file place refl
 caused_by d old new fault.Memory read write damaged = tt
 
-module _ {D C O : Type 0} (d : DiskGhosts D) (c : ClockGhosts C) (k : SinkGhosts O) (job : Job) (clock : C) (old new : D) (out out' : O) (o : Outcome D)
+module _ {D C O : Type 0} (d : DiskGhosts D) (c : ClockGhosts C) (k : SinkGhosts O) (lookback : ℕ) (job : Job) (clock : C) (old new : D) (out out' : O) (o : Outcome D)
     (law : (starts : StartsSound d old) (moment : ℕ) (image : Image) → IsLeft d new moment image → Recovers (base_of starts.sound.folder) [] None moment image) where
-  pub not_opened : (f : OpenFault) → o.disk ≡ new → o.status ≡ stopped_by f (d.first_fault new) → IsCausedBy d old new f → LeavesNothing out out' o → (IsTrue d.tells → TouchesOnly d old new catalogue_files) → RanOn d c k job clock old out out' o
+  pub not_opened : (f : OpenFault) → o.disk ≡ new → o.status ≡ stopped_by f (d.first_fault new) → IsCausedBy d old new f → LeavesNothing out out' o → (IsTrue d.tells → TouchesOnly d old new catalogue_files) → RanOn d c k lookback job clock old out out' o
   not_opened f same status caused nothing touches = inr (record {
     fault = f;
     status = subst (λ (x : D). o.status ≡ stopped_by f (d.first_fault x)) (sym same) status;
@@ -92,7 +92,7 @@ module _ {D C O : Type 0} (d : DiskGhosts D) (c : ClockGhosts C) (k : SinkGhosts
       → ((calls : ℕ → ℕ) → IsTrue d.tells → AreOpenedBy (d.seen old) (region_numbers (folder_in w).standing) calls → Passes d old new (17 + sum_by calls (region_numbers (folder_in w).standing))) → (IsTrue d.tells → TouchesOnly d old new catalogue_files)
       → (StartsSound d old → IsTrue d.tells → IsOpenedOn d new w) → (ReadsSound d old → IsTrue d.tells → IsOpenedNow d new w)
       → d.calls new ≤ d.calls o.disk → ((moment file : ℕ) (bytes : List ℕ) → moment < d.calls new → d.left o.disk moment file bytes → d.left new moment file bytes)
-      → RanOpened d c k (base_of (folder_in w)) (IsSoundFolder (folder_in w)) (IsTrue d.tells → IsOpenedNow d new w) (beginning_at d new) (IsLeftSince d (d.calls new) (StoodBefore d new w)) (c.times clock) job new out out' o → RanOn d c k job clock old out out' o
+      → RanOpened d c k (base_of (folder_in w)) (IsSoundFolder (folder_in w)) (IsTrue d.tells → IsOpenedNow d new w) (beginning_at d new) (IsLeftSince d (d.calls new) (StoodBefore d new w)) (c.times clock) lookback job new out out' o → RanOn d c k lookback job clock old out out' o
   opened_ran tells_left w stood sound passes touches opened now within past (inl r) = inl (record {
     folder = folder_in w;
     origin = record { stands = stood; sound = sound };
@@ -103,6 +103,7 @@ module _ {D C O : Type 0} (d : DiskGhosts D) (c : ClockGhosts C) (k : SinkGhosts
     over = record {
       legal = r.legal;
       stamped = r.stamped;
+      back = r.back;
       seat = r.seat;
       sink_failed = r.sink_failed;
       replied = r.replied;
@@ -134,7 +135,7 @@ module _ {D C O : Type 0} (d : DiskGhosts D) (c : ClockGhosts C) (k : SinkGhosts
 abbrev pub through : {D E : Type 0} → DiskGhosts D → (E → D) → DiskGhosts E
 through d of = record { tells = d.tells; seen = λ m. d.seen (of m); first = λ m. d.first (of m); left = λ m. d.left (of m); calls = λ m. d.calls (of m); faults = λ m. d.faults (of m); first_fault = λ m. d.first_fault (of m) }
 
-module _ {D E C O : Type 0} (d : DiskGhosts D) (of : E → D) (c : ClockGhosts C) (k : SinkGhosts O) (job : Job) (clock : C) (m : E) (out out' : O) (o : Outcome E) where
+module _ {D E C O : Type 0} (d : DiskGhosts D) (of : E → D) (c : ClockGhosts C) (k : SinkGhosts O) (lookback : ℕ) (job : Job) (clock : C) (m : E) (out out' : O) (o : Outcome E) where
   stands_through : (x : E) (f : FolderData) → StandsOn (through d of) x f → StandsOn d (of x) f
   stands_through x f s = record {
     parts = λ n kept. record { each = λ image left. (s.parts n kept).each image left };
@@ -152,7 +153,7 @@ module _ {D E C O : Type 0} (d : DiskGhosts D) (of : E → D) (c : ClockGhosts C
   told_through opened moment (inl starts) = inl (starts_through starts)
   told_through opened moment (inr since) = inr since
 
-  folder_through : RanFolder (through d of) c k job clock m out out' o → RanFolder d c k job clock (of m) out out' (with_disk (of o.disk) o)
+  folder_through : RanFolder (through d of) c k lookback job clock m out out' o → RanFolder d c k lookback job clock (of m) out out' (with_disk (of o.disk) o)
   folder_through r = record {
     folder = r.folder;
     origin = record { stands = r.origin.stands; sound = r.origin.sound };
@@ -163,6 +164,7 @@ module _ {D E C O : Type 0} (d : DiskGhosts D) (of : E → D) (c : ClockGhosts C
     over = record {
       legal = r.over.legal;
       stamped = r.over.stamped;
+      back = r.over.back;
       seat = r.over.seat;
       sink_failed = r.over.sink_failed;
       replied = r.over.replied;
@@ -197,14 +199,14 @@ module _ {D E C O : Type 0} (d : DiskGhosts D) (of : E → D) (c : ClockGhosts C
     recovers = λ starts moment image left. u.recovers (starts_through starts) moment image left;
   }
 
-  run_through : RanOn (through d of) c k job clock m out out' o → RanOn d c k job clock (of m) out out' (with_disk (of o.disk) o)
+  run_through : RanOn (through d of) c k lookback job clock m out out' o → RanOn d c k lookback job clock (of m) out out' (with_disk (of o.disk) o)
   run_through (inl r) = inl (folder_through r)
   run_through (inr u) = inr (unopened_through u)
 
   -- what a run on the disk leaves, where it began with this disk under its own
-  pub ran_through : (disk back : D) → of m ≡ disk → back ≡ of o.disk → RanOn (through d of) c k job clock m out out' o → RanOn d c k job clock disk out out' (with_disk back o)
+  pub ran_through : (disk back : D) → of m ≡ disk → back ≡ of o.disk → RanOn (through d of) c k lookback job clock m out out' o → RanOn d c k lookback job clock disk out out' (with_disk back o)
   ran_through disk back is end r =
-      subst (λ (x : D). RanOn d c k job clock x out out' (with_disk back o)) is (subst (λ (x : D). RanOn d c k job clock (of m) out out' (with_disk x o)) (sym end) (run_through r))
+      subst (λ (x : D). RanOn d c k lookback job clock x out out' (with_disk back o)) is (subst (λ (x : D). RanOn d c k lookback job clock (of m) out out' (with_disk x o)) (sym end) (run_through r))
 
 -- ---- the whole run
 
@@ -234,7 +236,7 @@ module _ {D C I O : Type 0} (d : DiskGhosts D) (c : ClockGhosts C) (s : SourceGh
 
 module _ {D C I O : Type 0} (d : DiskGhosts D) (c : ClockGhosts C) (s : SourceGhosts I) (k : SinkGhosts O) (disk : D) (clock : C) (input input' : I) (out out' : O) (words : List (List ℕ)) (command : SeenCommand) (named : command_in words ≡ Some command) (read : HasRead s command input input') (o : Outcome D) where
   some_read : (x : SeenCommand) → HasRead s x input input' → HasReadSome s x input input'
-  some_read (Run folder) r = λ tells. (most_read, omega arith, r tells)
+  some_read (Run folder lookback) r = λ tells. (most_read, omega arith, r tells)
   some_read (Verify folder table index kind) r = r
   some_read (Load folder load) r = r
 
@@ -247,7 +249,7 @@ module _ {D C I O : Type 0} (d : DiskGhosts D) (c : ClockGhosts C) (s : SourceGh
   stops_by fresh failed (fault.Damaged file place) zero is caused = (command, named, caused, read)
   stops_by fresh failed fault.Memory zero is caused = (command, named, tt, some_read command read)
 
-  pub run_of : (job : Job) → AsksFor s words input input' job → d.calls disk ≡ 0 → d.faults disk ≡ 0 → (0 < d.faults o.disk → 0 < d.first_fault o.disk) → (0 < d.first_fault o.disk → 0 < d.faults o.disk) → RanOn d c k job clock disk out out' o
+  pub run_of : (job : Job) → AsksFor s words input input' job → d.calls disk ≡ 0 → d.faults disk ≡ 0 → (0 < d.faults o.disk → 0 < d.first_fault o.disk) → (0 < d.first_fault o.disk → 0 < d.faults o.disk) → RanOn d c k (lookback_of command) job clock disk out out' o
       → IsUnrun d s (run_given disk clock input out words) (run_left o input' out') ⊎ IsRun d c s k (run_given disk clock input out words) (run_left o input' out')
   run_of job asks none fresh known failed (inl r) = inr (record {
     job = job;
@@ -256,6 +258,7 @@ module _ {D C I O : Type 0} (d : DiskGhosts D) (c : ClockGhosts C) (s : SourceGh
     origin_is_the_folder = r.origin;
     trail_is_legal = r.over.legal;
     stamps_are_by_the_clock = r.over.stamped;
+    horizons_are_by_the_lookback = (command, named, r.over.back);
     seat = r.over.seat;
     sink_failed = r.over.sink_failed;
     items_are_replied = r.over.replied;

@@ -105,11 +105,12 @@ module _ {D : Type 0} (d : DiskGhosts D) (up_to_now : (x : D) (moment file : ℕ
       each moment image (inr since) left = stands_left d up_to_now disk (folder_in o) k.stands moment image (omega (arith, now, since)) left
 
   -- what a run over it leaves of the disk itself
-  pub ran_later : {C O : Type 0} (c : ClockGhosts C) (k : SinkGhosts O) (base : Base) (sound premise : Type 0) (began : Beginning) (times : ℕ → ℕ) (job : Job) (disk : D) (out out' : O) (o : Outcome D) → at ≤ d.calls o.disk → at ≡ began.moment
-      → RanOpened (later d (at_least at all)) c k base sound premise began (IsLeft (later d (at_least at all))) times job disk out out' o → RanOpened d c k base sound premise began (IsLeftSince d at all) times job disk out out' o
-  ran_later c k base sound premise began times job disk out out' o within now (inl r) = inl (record {
+  pub ran_later : {C O : Type 0} (c : ClockGhosts C) (k : SinkGhosts O) (base : Base) (sound premise : Type 0) (began : Beginning) (times : ℕ → ℕ) (lookback : ℕ) (job : Job) (disk : D) (out out' : O) (o : Outcome D) → at ≤ d.calls o.disk → at ≡ began.moment
+      → RanOpened (later d (at_least at all)) c k base sound premise began (IsLeft (later d (at_least at all))) times lookback job disk out out' o → RanOpened d c k base sound premise began (IsLeftSince d at all) times lookback job disk out out' o
+  ran_later c k base sound premise began times lookback job disk out out' o within now (inl r) = inl (record {
     legal = r.legal;
     stamped = r.stamped;
+    back = r.back;
     seat = r.seat;
     sink_failed = r.sink_failed;
     replied = r.replied;
@@ -127,4 +128,4 @@ module _ {D : Type 0} (d : DiskGhosts D) (up_to_now : (x : D) (moment file : ℕ
         s = r.others given tells
         in record { later = s.later; left = λ moment file bytes since other is. s.left moment file bytes since other (inr (omega (arith, now, since)), is); seen = s.seen });
   })
-  ran_later c k base sound premise began times job disk out out' o within now (inr l) = inr (record { status = l.status; back = l.back; nothing = record { entries = l.nothing.entries; late = l.nothing.late; transcripts = l.nothing.transcripts; memory = l.nothing.memory; unwritten = l.nothing.unwritten } })
+  ran_later c k base sound premise began times lookback job disk out out' o within now (inr l) = inr (record { status = l.status; back = l.back; nothing = record { entries = l.nothing.entries; late = l.nothing.late; transcripts = l.nothing.transcripts; memory = l.nothing.memory; unwritten = l.nothing.unwritten } })

@@ -24,8 +24,8 @@ use Rattle.px_server.specs.Kept.{HasFailed, has_told}
 use Rattle.px_server.specs.Others.{part_files}
 use Rattle.px_server.specs.Started.{StartsSound, StandsBy}
 use Rattle.px_session.specs.Replies.{has_fatal}
-use Rattle.px_server.specs.Stamps.{AreStamped}
-use Rattle.px_arguments.specs.Arguments.{SeenCommand, Run, Verify, Load, command_in}
+use Rattle.px_server.specs.Stamps.{AreBack, AreStamped}
+use Rattle.px_arguments.specs.Arguments.{SeenCommand, Run, Verify, Load, command_in, usual_lookback}
 use Rattle.px_load.specs.declared.script.Load.{Load as Loads}
 use Rattle.px_verified.specs.declared.asked.Verification.{Verification}
 use Rattle.px_program.specs.Answers.{AnswersJob, printed_for}
@@ -74,22 +74,23 @@ ReadsSome s input input' = IsTrue s.tells → (n : ℕ) × (n ≤ most_read) × 
 
 -- a command's input was read: of a script all of it; for a verification and a load none
 abbrev pub HasRead : {I : Type 0} → SourceGhosts I → SeenCommand → I → I → Type 0
-HasRead s (Run folder) input input' = ReadsAll s input input'
+HasRead s (Run folder lookback) input input' = ReadsAll s input input'
 HasRead s (Verify folder table index kind) input input' = input' ≡ input
 HasRead s (Load folder load) input input' = input' ≡ input
 
 -- or some of it was, until the run was stopped
 abbrev pub HasReadSome : {I : Type 0} → SourceGhosts I → SeenCommand → I → I → Type 0
-HasReadSome s (Run folder) input input' = ReadsSome s input input'
+HasReadSome s (Run folder lookback) input input' = ReadsSome s input input'
 HasReadSome s (Verify folder table index kind) input input' = input' ≡ input
 HasReadSome s (Load folder load) input input' = input' ≡ input
 
 -- ---- the command
 
--- the words are `run DIR`, and the script is the input to its end, or to one byte past the greatest script
+-- the words are `run DIR`, with a lookback or none, and the script is the input to its end, or to one byte past the greatest script
 pub record RunsScript {I : Type 0} (s : SourceGhosts I) (words : List (List ℕ)) (input input' : I) (script : List ℕ) : Type 0 where
   pub folder : List ℕ
-  pub words_are_run : command_in words ≡ Some (Run folder)
+  pub lookback : ℕ
+  pub words_are_run : command_in words ≡ Some (Run folder lookback)
   pub script_is_the_input : IsTrue s.tells → script ≡ take most_read (s.remaining input)
   pub input_is_read : ReadsAll s input input'
 
@@ -104,6 +105,12 @@ pub record RunsLoad {I : Type 0} (words : List (List ℕ)) (input input' : I) (l
   pub folder : List ℕ
   pub words_are_load : command_in words ≡ Some (Load folder l)
   pub input_is_left : input' ≡ input
+
+-- how long the words have versions kept
+abbrev pub lookback_of : SeenCommand → ℕ
+lookback_of (Run folder lookback) = lookback
+lookback_of (Verify folder table index kind) = usual_lookback
+lookback_of (Load folder load) = usual_lookback
 
 -- the job is what the words ask for
 abbrev pub AsksFor : {I : Type 0} → SourceGhosts I → (words : List (List ℕ)) → I → I → Job → Type 0
@@ -144,7 +151,7 @@ StopsDisk d disk disk' status = ⊥
 -- why nothing was run, and what became of disk and input
 abbrev pub Stops : {D I : Type 0} → DiskGhosts D → SourceGhosts I → D → D → I → I → (words : List (List ℕ)) → Status → Type 0
 Stops d s disk disk' input input' words BadWords = (command_in words ≡ None) × (disk' ≡ disk) × (input' ≡ input)
-Stops d s disk disk' input input' words SourceFault = ((folder : List ℕ) × (command_in words ≡ Some (Run folder))) × (disk' ≡ disk) × FaultsRose (s.faults input) (s.faults input') × ReadsSome s input input'
+Stops d s disk disk' input input' words SourceFault = ((folder : List ℕ) × (lookback : ℕ) × (command_in words ≡ Some (Run folder lookback))) × (disk' ≡ disk) × FaultsRose (s.faults input) (s.faults input') × ReadsSome s input input'
 Stops d s disk disk' input input' words Memory = (c : SeenCommand) × (command_in words ≡ Some c) × StopsDisk d disk disk' Memory × HasReadSome s c input input'
 Stops d s disk disk' input input' words status = (c : SeenCommand) × (command_in words ≡ Some c) × StopsDisk d disk disk' status × HasRead s c input input'
 
@@ -172,6 +179,8 @@ pub record IsRun {D C I O : Type 0} (d : DiskGhosts D) (c : ClockGhosts C) (s : 
   pub trail_is_legal : IsLegal (base_of folder) left.outcome.trail.entries
   -- each stamp that was drawn is the one behind its table's last by a number that the clock told, each by a later one
   pub stamps_are_by_the_clock : IsTrue c.tells → (n : ℕ) × AreStamped (c.times given.clock) (base_of folder) [] 0 n left.outcome.trail.entries
+  -- each horizon that rises is at most its table's last stamp less the lookback of the words
+  pub horizons_are_by_the_lookback : (command : SeenCommand) × (command_in given.words ≡ Some command) × AreBack (lookback_of command) (base_of folder) [] left.outcome.trail.entries
   -- the sessions are answered, round by round, those of a load's script too, or the verification is; what is told of rows is told where the folder was sound
   pub seat : ℕ
   pub sink_failed : Bool

@@ -26,7 +26,7 @@ use crate::since::{Later, Since};
 use crate::status::Status;
 use crate::watched::Watched;
 use crate::words::verification;
-use px_arguments::{Command, command_in, law_spelled};
+use px_arguments::{Command, LOOKBACK, command_in, law_spelled};
 use px_load::Load;
 use px_loaded::run_load;
 use px_opening::{OpenFault, Opened, open};
@@ -43,9 +43,6 @@ use std::thread::Threads;
 
 /// The greatest length of a script that is read, and one byte more.
 const MOST_READ: usize = 67_108_865;
-
-/// How long versions are kept, in milliseconds: three days.
-const LOOKBACK: u64 = 259_200_000;
 
 /// The status where the folder wasn't opened, and this call of the disk was the first that failed, 0 where none has.
 fn status_unopened(fault: OpenFault, failed: u64) -> Status
@@ -86,15 +83,24 @@ fn serve<
     }
 }
 
-/// Does a job over a folder that was opened, and writes the replies. `B` tells the base, whether the folder is sound, the premise, and what
-/// the clock has to tell.
+/// Does a job over a folder that was opened, and writes the replies. `B` tells the base, whether the folder is sound, the premise, what the
+/// clock has to tell, and how long versions are kept.
 fn run_over<
     R: Threads + Wait + Sync,
     D: CountsCalls + Send,
     C: Clock + Drop + Send,
     O: Sink,
     B: Based + Founded + Send + Sync,
->(rt: &R, alloc: Global, job: Job, disk: D, opened: Opened, clock: C, out: &mut O) -> Outcome<D>
+>(
+    rt: &R,
+    alloc: Global,
+    job: Job,
+    disk: D,
+    opened: Opened,
+    clock: C,
+    lookback: u64,
+    out: &mut O,
+) -> Outcome<D>
     requires within { IsWithin job }
     requires right { IsOpenedRight opened }
     requires base { B.base ≡ base_of (folder_in opened) }
@@ -104,9 +110,10 @@ fn run_over<
     requires told { B.premise → IsTrue D.tells → B.sound }
     requires began { BeginsAt ⟦<D as Disk>⟧ B.began disk }
     requires times { IsTrue C.tells → (n : ℕ) → C.times clock n ≡ B.times n }
-    ensures { RanOpened ⟦<D as Disk>⟧ ⟦<C as Clock>⟧ ⟦<O as Sink>⟧ B.base B.sound B.premise B.began (IsLeft ⟦<D as Disk>⟧) B.times job disk out.old out.new result }
+    requires lookback { lookback ≡ B.lookback }
+    ensures { RanOpened ⟦<D as Disk>⟧ ⟦<C as Clock>⟧ ⟦<O as Sink>⟧ B.base B.sound B.premise B.began (IsLeft ⟦<D as Disk>⟧) B.times B.lookback job disk out.old out.new result }
 {
-    match Server::<D, C, B>::over(alloc, disk, clock, LOOKBACK, opened) {
+    match Server::<D, C, B>::over(alloc, disk, clock, lookback, opened) {
         Err(disk) => {
             drop(job);
             let status = status_unopened(OpenFault::Memory, disk.first_fault());
@@ -141,7 +148,16 @@ fn run_since<
     C: Clock + Drop + Send,
     O: Sink,
     B: Based + Founded + Since + Send + Sync,
->(rt: &R, alloc: Global, job: Job, disk: D, opened: Opened, clock: C, out: &mut O) -> Outcome<D>
+>(
+    rt: &R,
+    alloc: Global,
+    job: Job,
+    disk: D,
+    opened: Opened,
+    clock: C,
+    lookback: u64,
+    out: &mut O,
+) -> Outcome<D>
     requires within { IsWithin job }
     requires right { IsOpenedRight opened }
     requires base { B.base ≡ base_of (folder_in opened) }
@@ -154,14 +170,15 @@ fn run_since<
     requires all { B.all → StoodBefore ⟦<D as Disk>⟧ disk opened }
     requires was { (moment : ℕ) → (file : ℕ) → (bytes : List ℕ) → moment < B.from → D.left disk moment file bytes → B.was moment file bytes }
     requires times { IsTrue C.tells → (n : ℕ) → C.times clock n ≡ B.times n }
-    ensures ran { RanOpened ⟦<D as Disk>⟧ ⟦<C as Clock>⟧ ⟦<O as Sink>⟧ B.base B.sound B.premise B.began (IsLeftSince ⟦<D as Disk>⟧ B.from B.all) B.times job disk out.old out.new result }
+    requires lookback { lookback ≡ B.lookback }
+    ensures ran { RanOpened ⟦<D as Disk>⟧ ⟦<C as Clock>⟧ ⟦<O as Sink>⟧ B.base B.sound B.premise B.began (IsLeftSince ⟦<D as Disk>⟧ B.from B.all) B.times B.lookback job disk out.old out.new result }
     ensures begun { B.from ≤ D.calls result.disk }
     ensures past { (moment : ℕ) → (file : ℕ) → (bytes : List ℕ) → moment < B.from → D.left result.disk moment file bytes → B.was moment file bytes }
 {
     let later = Later::<D, B>::new(disk);
-    run_over::<R, Later<D, B>, C, O, B>(rt, alloc, job, later, opened, clock, out).map_disk(
-        Later::<D, B>::into_disk,
-    )
+    run_over::<R, Later<D, B>, C, O, B>(
+        rt, alloc, job, later, opened, clock, lookback, out,
+    ).map_disk(Later::<D, B>::into_disk)
 }
 
 /// Does a job over a folder that was opened.
@@ -172,15 +189,16 @@ fn run_opened<R: Threads + Wait + Sync, D: CountsCalls + Send, C: Clock + Drop +
     disk: D,
     opened: Opened,
     clock: C,
+    lookback: u64,
     out: &mut O,
 ) -> Outcome<D>
     requires within { IsWithin job }
     requires right { IsOpenedRight opened }
-    ensures ran { RanOpened ⟦<D as Disk>⟧ ⟦<C as Clock>⟧ ⟦<O as Sink>⟧ (base_of (folder_in opened)) (IsSoundFolder (folder_in opened)) (IsTrue D.tells → IsOpenedNow ⟦<D as Disk>⟧ disk opened) (beginning_at ⟦<D as Disk>⟧ disk) (IsLeftSince ⟦<D as Disk>⟧ (D.calls disk) (StoodBefore ⟦<D as Disk>⟧ disk opened)) (C.times clock) job disk out.old out.new result }
+    ensures ran { RanOpened ⟦<D as Disk>⟧ ⟦<C as Clock>⟧ ⟦<O as Sink>⟧ (base_of (folder_in opened)) (IsSoundFolder (folder_in opened)) (IsTrue D.tells → IsOpenedNow ⟦<D as Disk>⟧ disk opened) (beginning_at ⟦<D as Disk>⟧ disk) (IsLeftSince ⟦<D as Disk>⟧ (D.calls disk) (StoodBefore ⟦<D as Disk>⟧ disk opened)) (C.times clock) lookback job disk out.old out.new result }
     ensures begun { D.calls disk ≤ D.calls result.disk }
     ensures past { (moment : ℕ) → (file : ℕ) → (bytes : List ℕ) → moment < D.calls disk → D.left result.disk moment file bytes → D.left disk moment file bytes }
 {
-    run_since::<R, D, C, O, Brand>(rt, alloc, job, disk, opened, clock, out)
+    run_since::<R, D, C, O, Brand>(rt, alloc, job, disk, opened, clock, lookback, out)
 }
 
 /// Opens the folder, and does a job on its tables.
@@ -190,10 +208,11 @@ fn run_on<R: Threads + Wait + Sync, D: CountsCalls + Send, C: Clock + Drop + Sen
     job: Job,
     mut disk: D,
     clock: C,
+    lookback: u64,
     out: &mut O,
 ) -> Outcome<D>
     requires { IsWithin job }
-    ensures { RanOn ⟦<D as Disk>⟧ ⟦<C as Clock>⟧ ⟦<O as Sink>⟧ job clock disk out.old out.new result }
+    ensures { RanOn ⟦<D as Disk>⟧ ⟦<C as Clock>⟧ ⟦<O as Sink>⟧ lookback job clock disk out.old out.new result }
 {
     law_starts::<D>();
     match open(alloc, &mut disk) {
@@ -202,7 +221,7 @@ fn run_on<R: Threads + Wait + Sync, D: CountsCalls + Send, C: Clock + Drop + Sen
             let status = status_unopened(fault, disk.first_fault());
             unrun(alloc, disk, status)
         }
-        Ok(opened) => run_opened(rt, alloc, job, disk, opened, clock, out),
+        Ok(opened) => run_opened(rt, alloc, job, disk, opened, clock, lookback, out),
     }
 }
 
@@ -213,16 +232,17 @@ fn run_folder<R: Threads + Wait + Sync, D: Disk + Send, C: Clock + Drop + Send, 
     job: Job,
     disk: D,
     clock: C,
+    lookback: u64,
     out: &mut O,
 ) -> Outcome<D>
     requires fresh { (D.calls disk ≡ 0) × (D.faults disk ≡ 0) × (D.first_fault disk ≡ 0) }
     requires within { IsWithin job }
-    ensures run { RanOn ⟦<D as Disk>⟧ ⟦<C as Clock>⟧ ⟦<O as Sink>⟧ job clock disk out.old out.new result }
+    ensures run { RanOn ⟦<D as Disk>⟧ ⟦<C as Clock>⟧ ⟦<O as Sink>⟧ lookback job clock disk out.old out.new result }
     ensures known { 0 < D.faults result.disk → 0 < D.first_fault result.disk }
     ensures failed { 0 < D.first_fault result.disk → 0 < D.faults result.disk }
 {
     let counted = Metered::new(Watched::new(disk));
-    run_on(rt, alloc, job, counted, clock, out)
+    run_on(rt, alloc, job, counted, clock, lookback, out)
         .map_disk(Metered::<Watched<D>>::into_disk)
         .map_disk(Watched::<D>::into_disk)
 }
@@ -248,11 +268,12 @@ fn run_input<R: Threads + Wait + Sync, D: Disk + Send, C: Clock + Drop + Send, I
     words: &[String],
     disk: D,
     clock: C,
+    lookback: u64,
     input: &mut I,
     out: &mut O,
 ) -> Outcome<D>
     requires fresh { (D.calls disk ≡ 0) × (D.faults disk ≡ 0) × (D.first_fault disk ≡ 0) }
-    requires named { (folder : List ℕ) × (command_said (map string_bytes words.now) ≡ Some (Run folder)) }
+    requires named { (folder : List ℕ) × (command_said (map string_bytes words.now) ≡ Some (Run folder lookback)) }
     ensures run { IsUnrun ⟦<D as Disk>⟧ ⟦<I as Source>⟧ (run_given disk clock input.old out.old (map string_bytes words.now)) (run_left result input.new out.new)
         ⊎ IsRun ⟦<D as Disk>⟧ ⟦<C as Clock>⟧ ⟦<I as Source>⟧ ⟦<O as Sink>⟧ (run_given disk clock input.old out.old (map string_bytes words.now)) (run_left result input.new out.new) }
     ensures faults_are_told { FaultsAreTold ⟦<D as Disk>⟧ disk result.disk result.status }
@@ -260,7 +281,7 @@ fn run_input<R: Threads + Wait + Sync, D: Disk + Send, C: Clock + Drop + Send, I
     match read_all(alloc, input, MOST_READ) {
         Ok(script) => {
             let job = Job::Script(Items::of(script));
-            run_folder(rt, alloc, job, disk, clock, out)
+            run_folder(rt, alloc, job, disk, clock, lookback, out)
         }
         Err(InputFault::ReadFault) => untouched(alloc, disk, Status::SourceFault),
         Err(InputFault::Memory) => untouched(alloc, disk, Status::Memory),
@@ -293,7 +314,7 @@ fn run_verification<
     ensures faults_are_told { FaultsAreTold ⟦<D as Disk>⟧ disk result.disk result.status }
 {
     match verification(alloc, table, index, kind) {
-        Ok(asked) => run_folder(rt, alloc, Job::Verify(asked), disk, clock, out),
+        Ok(asked) => run_folder(rt, alloc, Job::Verify(asked), disk, clock, LOOKBACK, out),
         Err(_) => untouched(alloc, disk, Status::Memory),
     }
 }
@@ -322,7 +343,7 @@ fn run_loading<
     ensures faults_are_told { FaultsAreTold ⟦<D as Disk>⟧ disk result.disk result.status }
 {
     law_spelled();
-    run_folder(rt, alloc, Job::Load(load), disk, clock, out)
+    run_folder(rt, alloc, Job::Load(load), disk, clock, LOOKBACK, out)
 }
 
 /// Runs the program: reads a script from the input and runs its sessions on the tables in the folder that the disk holds, or verifies an
@@ -350,9 +371,12 @@ pub fn phoenix<
 {
     match command_in(words) {
         None => untouched(alloc, disk, Status::BadWords),
-        Some(Command::Run { folder: _folder }) => {
-            run_input(rt, alloc, words, disk, clock, input, out)
-        }
+        Some(
+            Command::Run {
+                folder: _folder,
+                lookback,
+            },
+        ) => run_input(rt, alloc, words, disk, clock, lookback, input, out),
         Some(
             Command::Verify {
                 folder: _folder,

@@ -8,7 +8,7 @@ use Rattle.px_group.specs.declared.group.Begun.{Begun}
 use Rattle.px_group.specs.declared.group.Group.{Group}
 use Rattle.px_group.specs.declared.group.OpenPoint.{OpenPoint}
 use Rattle.px_turns.specs.Turns.{IsAllowedHorizon, IsRaise}
-use Rattle.px_raising.specs.Turning.{below_batches, has_batch, points_at, to_points, turning_of}
+use Rattle.px_raising.specs.Turning.{below_batches, has_batch, points_at, to_points, turning_of_group}
 
 -- ---- batches
 
@@ -126,18 +126,18 @@ module _ (g : Group) (lookback : ℕ) where
   abbrev within : ℕ
   within = to_points g.points.items unclosed
 
-  within_allowed : g.horizon < within → IsAllowedHorizon (turning_of g) lookback within
+  within_allowed : g.horizon < within → IsAllowedHorizon (turning_of_group g) lookback within
   within_allowed above = record {
     back = (let k = to_most g.points.items unclosed in let n = below_most g.batches.items back in omega (arith, k, n));
     unclosed = λ s has. (let k = to_most g.points.items unclosed in let n = below_each g.batches.items back s has in omega (arith, k, n, above));
     points = λ s open_. to_each g.points.items unclosed s open_;
   }
 
-  pub is_raise : (r : ℕ) → r ≡ max within g.horizon → IsRaise (turning_of g) lookback r
+  pub is_raise : (r : ℕ) → r ≡ max within g.horizon → IsRaise (turning_of_group g) lookback r
   is_raise r is = record {
     stays = omega (arith, is);
     allowed = elim (cases_lt g.horizon within) [
-      | inl above ↦ (let e : r ≡ within = omega (arith, is, above) in inr (subst (IsAllowedHorizon (turning_of g) lookback) (sym e) (within_allowed above)))
+      | inl above ↦ (let e : r ≡ within = omega (arith, is, above) in inr (subst (IsAllowedHorizon (turning_of_group g) lookback) (sym e) (within_allowed above)))
       | inr low ↦ inl (omega (arith, is, low))
     ];
     greatest = λ h a. (let k = to_greatest g.points.items unclosed h (below_greatest g.batches.items back h a.back a.unclosed) a.points in omega (arith, is, k));

@@ -13,7 +13,7 @@ use Rattle.px_group.specs.declared.group.Begun.{Begun}
 use Rattle.px_group.specs.declared.group.Group.{Group}
 use Rattle.px_group.specs.declared.group.OpenPoint.{OpenPoint}
 use Rattle.px_turns.specs.Turns.{IsAllowedHorizon}
-use Rattle.px_raising.specs.Turning.{has_batch, points_at, turning_of}
+use Rattle.px_raising.specs.Turning.{has_batch, points_at, turning_of_group}
 
 -- the batches of the table are those that the trail has open
 has_held : (s : ℕ) (ms : List Begun) (hs : List HeldBatch) → AreHeldAs (map batch_in ms) hs → has_batch ms s ≡ is_in s hs
@@ -40,7 +40,7 @@ seat_below seat s (p ∷ ps) =
 some_is : (o : Option Table) (x : Table) → o ≡ Some x → IsSome o
 some_is o x is = subst (λ (p : Option Table). IsSome p) (sym is) refl
 
-pub may_raise : (b : Base) (es : List Entry) (g : Group) (hs : List HeldBatch) → IsTallied b es g hs → (lookback h : ℕ) → g.horizon < h → IsAllowedHorizon (turning_of g) lookback h → MayRaise b es g.table.id.0 h
+pub may_raise : (b : Base) (es : List Entry) (g : Group) (hs : List HeldBatch) → IsTallied b es g hs → (lookback h : ℕ) → g.horizon < h → IsAllowedHorizon (turning_of_group g) lookback h → MayRaise b es g.table.id.0 h
 may_raise b es g hs k lookback h above allowed = record {
   stands = some_is _ g.table k.standing.table;
   rises = (let e = k.horizon in omega (arith, e, above));

@@ -17,8 +17,8 @@ points_at points s = sum_by (λ p. one_if (p.stamp == s)) points
 
 -- Its last stamp and its horizon, the batches that have begun and not ended, and how many points are open at each stamp. What the
 -- batches are still to write is left out: no horizon depends on it.
-abbrev pub turning_of : Group → Turning
-turning_of g =
+abbrev pub turning_of_group : Group → Turning
+turning_of_group g =
     record {
       last = g.last;
       horizon = g.horizon;

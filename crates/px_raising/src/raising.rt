@@ -1,7 +1,7 @@
 // The horizon of a table.
 ghost use Rattle.std.specs.Prelude.{◌≡◌, ◌-◌};
 ghost use Rattle.px_turns.specs.Turns.{IsRaise};
-ghost use Rattle.px_raising.specs.Turning.{below_batches, to_points, turning_of};
+ghost use Rattle.px_raising.specs.Turning.{below_batches, to_points, turning_of_group};
 
 use px_group::{Begun, Group, OpenPoint};
 
@@ -29,7 +29,7 @@ fn to(points: &[OpenPoint], most: u64) -> u64
 
 /// The greatest horizon that is allowed where so many stamps are looked back on, and no less than the horizon.
 pub fn raise_to(group: &Group, lookback: u64) -> u64
-    ensures { IsRaise (turning_of group.now) lookback result }
+    ensures { IsRaise (turning_of_group group.now) lookback result }
 {
     let back = group.last.saturating_sub(lookback);
     let unclosed = below(group.batches.as_slice(), back);

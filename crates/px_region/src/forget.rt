@@ -111,6 +111,7 @@ impl Region {
         ensures done { (s : RegionData) (disk : D) → RegionHolds ⟦<D as Disk>⟧ self.old disk s → RegionHolds ⟦<D as Disk>⟧ self.new disk s }
         ensures begun { IsForgetting self.new horizon ⊎ (IsFlushOrdered self.new ⊎ HasForgotten self.new) }
         ensures wanted { self.new.wanted ≢ self.old.wanted → (read_of self.old ≡ []) ⊎ (horizon < (data_of self.old).horizon) }
+        ensures ordered { IsFlushOrdered self.old → IsFlushOrdered self.new }
         ensures promised { IsSamePromise self.old self.new }
         ensures read { read_of self.new ≡ read_of self.old }
         ensures number { self.new.number ≡ self.old.number }

@@ -7,6 +7,7 @@ ghost use Rattle.px_calls.specs.Known.{Known, Sees, Adds};
 ghost use Rattle.px_calls.specs.Requires.{AreFitting, CanAbandon, CanConsult, CanDefine, CanEnd, CanLook, HasOpen, IsScn, MayBase, TicketIn};
 ghost use Rattle.px_calls.specs.Causes.{Refuses, base_cause, begin_cause, define_cause, find_cause, fix_cause, open_cause, order_cause, read_cause, rows_cause, status_cause, upkeep_cause, write_cause};
 ghost use Rattle.px_calls.specs.Calls.{DidBase, DidBegin, DidConsult, DidCount, DidDefine, DidFind, DidFix, DidLook, DidMark, DidOpen, DidOrder, DidVerify, DidWork, DidWrite, IsIdleWork, IsReceipt};
+ghost use Rattle.px_calls.specs.declared.status.Ordered.{Ordered as Orders};
 ghost use Rattle.px_seat.specs.Grown.{Grew, IsOwned};
 
 use px_calls::{
@@ -293,7 +294,7 @@ impl<S: Single, B: Based> Owned<S, B> {
         ensures grew { Grew (S.known self.old) (S.known self.new) }
         ensures owned { IsOwned B.base B.damaged (S.known self.new) }
         ensures ok { IfOk result (DidOrder (S.known self.old) (S.known self.new)) }
-        ensures ordered { IfOk result (λ _. S.ordered self.new) }
+        ensures ordered { IfOk result (λ _. S.ordered self.new job) }
         ensures refused { IfErr result (Refuses order_cause (S.known self.old) (S.known self.new)) }
     {
         self.core.order(job)
@@ -304,7 +305,7 @@ impl<S: Single, B: Based> Owned<S, B> {
         ensures grew { Grew (S.known self.old) (S.known self.new) }
         ensures owned { IsOwned B.base B.damaged (S.known self.new) }
         ensures ok { IfOk result (DidWork (S.known self.old) (S.known self.new)) }
-        ensures done { IfOk result (λ work. IsIdleWork work → S.done self.new) }
+        ensures done { IfOk result (λ work. IsIdleWork work → (job : Orders) → S.done self.new job) }
         ensures refused { IfErr result (Refuses upkeep_cause (S.known self.old) (S.known self.new)) }
     {
         self.core.upkeep()

@@ -118,9 +118,9 @@ impl<'a, R: Wait, S: Single, N: LockNamed, B: Based> Steps for SeatAt<'a, R, S, 
 
     ghost sound = { S.sound };
 
-    ghost ordered = { λ s. WasSo S S.known S.ordered (seen_by_seat s.seat) };
+    ghost ordered = { λ s job. WasSo S S.known (λ owner. S.ordered owner job) (seen_by_seat s.seat) };
 
-    ghost done = { λ s. WasSo S S.known S.done (seen_by_seat s.seat) };
+    ghost done = { λ s job. WasSo S S.known (λ owner. S.done owner job) (seen_by_seat s.seat) };
 
     fn find(&mut self, name: &Name) -> Result<Found, StepFault> {
         let mut guard = self.lock.enter(self.rt, &mut self.seat);

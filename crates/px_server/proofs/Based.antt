@@ -64,7 +64,8 @@ use Rattle.px_server.proofs.Acted.{once_at, points_at, right_at, tallied_at}
 use Rattle.px_server.proofs.Built.{IsUnbased, run_at, same_ids, unbased}
 use Rattle.px_server.proofs.Elsewhere.{IsOfTable}
 use Rattle.px_server.proofs.Forms.{get_some}
-use Rattle.px_server.proofs.Handed.{IndexGoes, IndexShows, ToIndex, index_noted, index_shut}
+use Rattle.px_server.proofs.Handed.{IndexGoes, IndexShows, index_noted, index_shut}
+use Rattle.px_server.proofs.Regions.{ToIndex}
 use Rattle.px_server.proofs.IndexFound.{id_is, number_found}
 use Rattle.px_server.proofs.OpenBatches.{stamp_in}
 use Rattle.px_server.proofs.Seen.{one_more, stays}

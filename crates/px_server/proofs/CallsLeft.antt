@@ -1,5 +1,5 @@
 -- The calls that are left to a batch: few when it begins, and each leaves fewer.
-use Rattle.std.proofs.Common.{◌≡◌, ◌≢◌, ◌<◌, ◌≤◌, ◌+◌, ◌*◌, ◌==◌, ℕ, suc, zero, Bool, true, false, is_some, inl, inr, Option, None, Some, Result, Ok, Err, List, [], ◌∷◌, length, get_or, map, slice_get, set, refl, sym, ap, subst, ◌∙◌, arith, sum_by}
+use Rattle.std.proofs.Common.{◌≡◌, ◌≢◌, ◌<◌, ◌≤◌, ◌+◌, ◌*◌, ◌==◌, ℕ, suc, zero, Bool, true, false, is_some, inl, inr, Option, None, Some, Result, Ok, Err, List, [], ◌∷◌, length, get_or, slice_get, set, refl, sym, ap, subst, ◌∙◌, arith, sum_by}
 use Rattle.std.specs.Prelude.{if◌then◌else◌}
 use Rattle.std.specs.List.{AllByRecursion, slice_set}
 use Rattle.std.proofs.lemmas.Bool.{cases_eq, eq-eqb, ne_eqb}

@@ -1,4 +1,4 @@
--- Calls that leave the folder or another one that is told: a server goes on from there, with other parts of its own.
+-- Calls that leave the folder or another one that is told, or of which each image is told: a server goes on from there, with other parts of its own.
 use Rattle.std.proofs.Common.{◌≡◌, ◌<◌, ◌≤◌, ◌⊎◌, ◌+◌, inl, inr, ℕ, true, Option, Some, None, List, [], ◌∷◌, ◌++◌, false}
 use Rattle.std.specs.Prelude.{IsTrue}
 use Rattle.px_outside.specs.Disk.{Image, IsLeftBy}
@@ -61,6 +61,24 @@ module _ {D : Type 0} (d : Ghosts D) (tells_left : (x : D) (moment file : ℕ) (
       (kept_server d tells_left up_to_now b premise Given old es late closed given_server running new later past
       (λ goes moment image since is. one_of (left_then es (λ g. (moves g).left) goes moment image since is)) (given_then es moves))
       (λ open_ given tells. goes_then es moves given tells)
+
+  -- no entry, where each image that a stop may leave is told by itself
+  module _ (images : (goes : FolderGoesOn d b Has old es) → (moment : ℕ) (image : Image) → d.calls old ≤ moment → IsLeftBy d.left new moment image → StandsAfter b es image) where
+    each_image : FolderGoesOn d b Given old es → (moment : ℕ) (image : Image) → d.calls old ≤ moment → IsLeftBy d.left new moment image → StandsAfter b es image
+    each_image given moment image since is = images (goes_now given.has (tells_left new moment 0 (image 0) (is 0))) moment image since is
+
+    pub stepped_server : ((goes : FolderGoesOn d b Has old es) → FolderGoesOn d b Then new es) → IsServer d b premise Then new es late closed
+    stepped_server moves =
+        with_parts d b premise Given Then new es late closed
+        (kept_server d tells_left up_to_now b premise Given old es late closed given_server running new later past each_image
+        (λ given tells before. let m = moves (goes_now given tells) in record { folder = m.folder; groups = m.groups; stands = m.stands; explains = m.explains; has = given }))
+        (λ open_ given tells. moves (goes_now given tells))
+
+    -- or a call of which failed
+    pub halted_server : (shut : Entry) (call : ℕ) → shut.act ≡ Shut call → shut.calls ≡ d.calls new → IsServer d b premise Then new (es ++ shut ∷ []) None (Some call)
+    halted_server shut call shut-is shut_at =
+        with_parts d b premise Given Then new (es ++ shut ∷ []) None (Some call)
+        (stopped_server d tells_left up_to_now b premise Given old es late closed given_server running new later past shut call shut-is shut_at each_image) (λ none. absurd cc)
 
   -- an entry that lasts
   pub lasting_server : d.calls new ≤ d.calls old + 4 → (e : Entry) → lasting e ≡ true → e.calls ≡ d.calls new → MayCome b es e → closing_step None e.act ≡ None

@@ -1,41 +1,36 @@
 -- What stands at a key of an index goes on in doubt where its region is looked at or flushed, and where another key is repaired.
-use Rattle.std.proofs.Common.{◌≡◌, ◌≢◌, ◌<◌, ◌≤◌, ℕ, zero, suc, max, Bool, true, false, cond, ◌&&◌, ◌||◌, ◌⊎◌, Option, None, Some, List, [], ◌∷◌, ◌++◌, length, get_or, map, slice_get, set, refl, sym, ap, subst, ◌∙◌, inl, inr, arith}
-use Rattle.std.specs.Prelude.{nat_eq, nat_le, not, is_some}
-use Rattle.std.specs.List.{AllByRecursion, list_any, slice_set}
+use Rattle.std.proofs.Common.{◌≡◌, ◌≢◌, ◌<◌, ◌≤◌, ℕ, zero, suc, Bool, true, false, cond, ◌&&◌, ◌||◌, Option, None, Some, List, [], ◌∷◌, ◌++◌, length, get_or, slice_get, set, refl, sym, ap, ◌∙◌, inl, inr, arith}
+use Rattle.std.specs.Prelude.{nat_eq, not, is_some}
+use Rattle.std.specs.List.{list_any, slice_set}
 use Rattle.std.specs.Cmp.Lexicographic.{pointwise}
-use Rattle.std.proofs.lemmas.Bool.{cases_Bool, both_ways, eq-eqb, eqb-true}
+use Rattle.std.proofs.lemmas.Bool.{cases_Bool}
 use Rattle.std.proofs.lemmas.Bool.Decides.{nat_tests}
 use Rattle.px_cells.specs.CellData.{CellData}
-use Rattle.px_cells.specs.Contents.{Contents, cell_of, or_else, over_contents, value_at}
-use Rattle.px_cells.specs.Newest.{newest}
+use Rattle.px_cells.specs.Contents.{Contents, cell_of, or_else, value_at}
 use Rattle.px_cells.specs.Order.{ReadsSame}
-use Rattle.px_cells.specs.Sight.{puts_at, stops_at}
 use Rattle.px_cells.specs.declared.kind.CellKind.{CellKind}
 use Rattle.px_cells.specs.declared.kind.CellKind.TheVariants.{Put, DeleteFamilyVersion, DeleteColumn, DeleteFamily}
 use Rattle.px_cells.proofs.Contents.{same_values, values_put}
 use Rattle.px_cells.proofs.Keys.{keys_same}
 use Rattle.px_cells.proofs.Newest.{IsNewest, newest-at, newest-equal, newest-is}
-use Rattle.px_forms.specs.Indexes.{IndexForm, cells_if, status_in, verified_byte, view_at}
+use Rattle.px_forms.specs.Indexes.{IndexForm, cells_if, status_in, verified_byte}
 use Rattle.px_groupworld.specs.Asks.{CanFix}
-use Rattle.px_groupworld.specs.Group.{GroupData, TableForm, no_part, shape_in, world_in}
-use Rattle.px_indexed.specs.Kept.{AreIndexCells}
+use Rattle.px_groupworld.specs.Group.{GroupData, no_part, shape_in, world_in}
 use Rattle.px_indexrow.specs.Form.{index_form, row_of_index}
 use Rattle.px_looks.specs.Found.{RowContents, at_key}
 use Rattle.px_looks.specs.Versions.{is_verified, stamp_seen, version_at, version_of_stamp}
 use Rattle.px_openbatches.specs.Pending.{HeldBatch}
 use Rattle.px_region.specs.Region.{read_of}
-use Rattle.px_region.specs.declared.region.Region.{Region}
 use Rattle.px_shown.proofs.Owners.{owner_owns}
-use Rattle.px_tables.specs.declared.index.Index.{Index}
 use Rattle.px_trail.specs.Trail.{Base}
 use Rattle.px_trail.specs.declared.entry.Entry.{Entry}
 use Rattle.px_values.specs.declared.change.What.{What}
 use Rattle.px_values.specs.States.{RowState}
 use Rattle.px_values.specs.declared.row.Value.{Value}
 use Rattle.px_world.specs.Events.{Leave, ToErase, ToRetire, ToVerify, Verdict, due as due_of}
-use Rattle.px_world.specs.IndexCells.{IndexCells, fix_cells, no_cells}
+use Rattle.px_world.specs.IndexCells.{IndexCells, fix_cells}
 use Rattle.px_world.specs.Shape.{WorldShape}
-use Rattle.px_world.specs.World.{Absent, Status, Unverified, Verified, World, horizon, st}
+use Rattle.px_world.specs.World.{Absent, Unverified, Verified, World, horizon, st}
 use Rattle.px_group.specs.Group.{IsShownBy, IsTallied, form_of}
 use Rattle.px_group.specs.declared.group.Group.{Group}
 use Rattle.px_group.specs.declared.group.IndexRegion.{IndexRegion}

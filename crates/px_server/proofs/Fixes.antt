@@ -50,7 +50,8 @@ use Rattle.px_repairs.proofs.Shown.{repair_steps, repaired_shown, repaired_steps
 use Rattle.px_server.specs.Kept.{HasPoints, HasTallied, HasTrailRoom, IsKept, IsShutAt, owed, owed_by}
 use Rattle.px_server.specs.Others.{Beginning}
 use Rattle.px_server.proofs.Built.{built_step, run_at, same_ids}
-use Rattle.px_server.proofs.Handed.{IndexGoes, IndexShows, ToIndex, index_handed, index_shut}
+use Rattle.px_server.proofs.Handed.{IndexGoes, IndexShows, index_handed, index_shut}
+use Rattle.px_server.proofs.Regions.{ToIndex}
 use Rattle.px_server.proofs.Lists.{all_at}
 use Rattle.px_server.proofs.Looked.{looked_kept, looked_owed}
 use Rattle.px_server.proofs.OpenBatches.{stamp_in}

@@ -1,6 +1,6 @@
 -- A step hands cells to one region of one group: what is true of a server stays so.
 --
--- The region is that of the group's rows (`ToRows`) or that of the index at a place (`ToIndex`). A step owes facts of its group alone:
+-- The region is that of the group's rows or that of the index at a place (proofs/Regions). A step owes facts of its group alone:
 -- what its data become whatever is read of the region then (`RowsGo`, `IndexGoes`; after a failed call nothing more), and where all calls
 -- succeeded, that the group is right, tallied and shows these data. All the rest is the work of `rows_handed`, `index_handed` and so on:
 -- `.._handed` where no entry is added, `.._told` with an entry that lasts, `.._shut` where a call failed with nothing under way,
@@ -52,30 +52,14 @@ use Rattle.px_server.specs.Others.{Beginning, IsRegion}
 use Rattle.px_server.proofs.Beside.{own_shown}
 use Rattle.px_server.proofs.Built.{built_table}
 use Rattle.px_server.proofs.Elsewhere.{GoesOnIn, IsOfTable, no_entry, one_entry}
-use Rattle.px_server.proofs.Framed.{region_framed, region_here, rows_in_region}
+use Rattle.px_server.proofs.Framed.{rows_in_region}
 use Rattle.px_server.proofs.Lists.{all_at}
-use Rattle.px_server.proofs.Numbers.{HasPlace, IsStored, LacksNumber, has_place, index_lack, lacks_index, lacks_rows, part_at, rows_lack, rows_one, same_once, set_once, stored_index, stored_table}
+use Rattle.px_server.proofs.Numbers.{HasPlace, IsStored, LacksNumber, has_place, lacks_index, lacks_rows, part_at, rows_one, same_once, set_once, stored_index, stored_table}
 use Rattle.px_server.proofs.OpenBatches.{stamp_in}
+use Rattle.px_server.proofs.Regions.{ToIndex, ToRows, index_on, rows_on}
 use Rattle.px_server.proofs.Written.{MovesThen, ShowsThen, TellsThen, handed, handed_late, handed_noted, handed_shut, handed_told}
 
--- ---- 1. What becomes of the group
-
--- the region of the rows is another one; the table, the points, and all other regions stay
-pub record ToRows (g g' : Group) (new : Region) : Type 0 where
-  pub table : g'.table ≡ g.table
-  pub points : g'.points ≡ g.points
-  pub rows : g'.rows ≡ new
-  pub indexes : g'.indexes.items ≡ g.indexes.items
-
--- or that of the index at the place
-pub record ToIndex (g g' : Group) (i : ℕ) (x : IndexRegion) (new : Region) : Type 0 where
-  pub table : g'.table ≡ g.table
-  pub points : g'.points ≡ g.points
-  pub index : slice_get g.indexes.items i ≡ Some x
-  pub rows : g'.rows ≡ g.rows
-  pub indexes : g'.indexes.items ≡ set g.indexes.items i (record x { region = new })
-
--- ---- 2. What becomes of its data
+-- ---- 1. What becomes of its data
 
 -- after these entries, where these are read of the region of its rows
 pub record RowsThen (f : TableForm) (es' : List Entry) (v : GroupData) (new : List CellData) : Type 0 where
@@ -104,7 +88,7 @@ abbrev pub IndexGoes : Base → List Entry → List Entry → Group → ℕ → 
 IndexGoes b es es' g i x cells =
     (index : ℕ → IndexForm) (v : GroupData) (hs : List HeldBatch) → IsTallied b es g hs → IsShownBy b index es g v hs → IsToldBy b index es g v → (new : List CellData) → ReadsSame new (cells ++ read_of x.region) → IndexThen (form_of b index g) es' v i new
 
--- ---- 3. What the group shows where all calls succeeded
+-- ---- 2. What the group shows where all calls succeeded
 
 -- these data, of these open batches, and what a repair rests on but the horizon of a manifest
 pub record RowsShown (b : Base) (index : ℕ → IndexForm) (es' : List Entry) (g g' : Group) (v : GroupData) (hs' : List HeldBatch) (new : Region) : Type 0 where
@@ -129,7 +113,7 @@ IndexShows b es es' g g' next i new = (index : ℕ → IndexForm) (v : GroupData
 abbrev pub IsSameHorizon : Region → Region → Type 0
 IsSameHorizon old new = new.horizon ≡ old.horizon
 
--- ---- 4. The work
+-- ---- 3. The work
 
 -- what is shown of the group then, as the server keeps it
 has_shown : (b : Base) (es' : List Entry) (g g' : Group) → g'.table ≡ g.table → (indexes : List Index) (v : ℕ → GroupData) (w : GroupData) (hs' : List HeldBatch) → IsTallied b es' g' hs' → IsShownBy b (forms_in indexes g.table) es' g' w hs'
@@ -183,14 +167,8 @@ module _ {D : Type 0} (d : Ghosts D) (tells_left : (x : D) (moment file : ℕ) (
     rows_changed f = with_region g.rows.number (with_batch (f.regions g.rows.number) cells) f
 
     rows_on_disk : HasWritten d g.rows new disk disk' cells → (f : FolderData) → TellsCatalogue f.standing (catalogue_of b es) → AreNumbered f.standing → IsOnDisk d disk f g → IsOnDisk d disk' (rows_changed f) g'
-    rows_on_disk written f tells numbered on = (let
-        s = with_batch (f.regions g.rows.number) cells
-        in record {
-          rows = subst (λ (r : Region). RegionHolds d r disk' ((rows_changed f).regions r.number)) (sym to.rows) (region_here d disk' f g.rows.number s new writes.number (written.holds (f.regions g.rows.number) on.rows));
-          indexes = λ i x at. (let
-              there : slice_get g.indexes.items i ≡ Some x = ap (λ (xs : List IndexRegion). slice_get xs i) (sym to.indexes) ∙ at
-              in region_framed d disk disk' g.rows.number (writes.touches (f.regions g.rows.number) on.rows) f s x.region (rows_lack b es f.standing tells numbered g right_here standing_here i x there) (on.indexes i x there));
-        })
+    rows_on_disk written f tells numbered on =
+        rows_on d disk disk' b es f tells numbered g g' right_here standing_here (with_batch (f.regions g.rows.number) cells) on new to writes.number (writes.touches (f.regions g.rows.number) on.rows) (written.holds (f.regions g.rows.number) on.rows)
 
     rows_explain : (es' : List Entry) → GoesOnIn b es es' t → (f : FolderData) (v : ℕ → GroupData) → Explains b es f v → (hs : List HeldBatch) → IsShownBy b (forms_in f.standing.indexes g.table) es g (v t) hs → (read : List CellData) → ReadsSame read (cells ++ read_of g.rows)
         → (w : RowsThen (form_of b (forms_in f.standing.indexes g.table) g) es' (v t) read) → Explains b es' (rows_changed f) (with_part v t w.table_data)
@@ -229,8 +207,8 @@ module _ {D : Type 0} (d : Ghosts D) (tells_left : (x : D) (moment file : ℕ) (
     pub rows_handed : HasWritten d g.rows new disk disk' cells → IsSameHorizon g.rows new → IsRightGroup g' → (next : List HeldBatch → List HeldBatch) → ((hs : List HeldBatch) → IsTallied b es g hs → IsTallied b es g' (next hs)) → RowsShow b es es g g' next new → owed g' ≤ owed g
         → IsKept d b sound premise began disk' catalog standing then trail late closed
     rows_handed written horizons right next tallied show room =
-        handed d tells_left up_to_now b sound premise began disk catalog standing groups trail late closed k running place g g' l is to.table to.points disk' g.rows new cells writes rows_lacks rows_drawn rows_holds rows_stand
-        right next (same_once g g' to.indexes) written (rows_on_disk written) tallied
+        handed d tells_left up_to_now b sound premise began disk catalog standing groups trail late closed k running place g g' l is to.table to.points disk' g.rows new (λ s. with_batch s cells) writes.number writes.touches writes.counts rows_lacks rows_drawn rows_holds rows_stand
+        right next (same_once g g' to.indexes) written.holds (rows_on_disk written) writes.leaves tallied
         (λ given. rows_shows written horizons es (no_entry b es k.told.legal t) next tallied show) (λ given. rows_moves written horizons es (no_entry b es k.told.legal t) next tallied show) room
 
     -- with an entry that lasts
@@ -238,22 +216,22 @@ module _ {D : Type 0} (d : Ghosts D) (tells_left : (x : D) (moment file : ℕ) (
         → ((hs : List HeldBatch) → IsTallied b es g hs → IsTallied b (es ++ e ∷ []) g' (next hs)) → HasPoints (es ++ e ∷ []) g' → RowsShow b es (es ++ e ∷ []) g g' next new → (trail' : Recorded) → trail'.entries ≡ es ++ e ∷ [] → owed g' + trail.room ≤ owed g + trail'.room
         → IsKept d b sound premise began disk' catalog standing then trail' late closed
     rows_told written horizons right e lasts at of quiet next tallied points' show trail' entries room =
-        handed_told d tells_left up_to_now b sound premise began disk catalog standing groups trail late closed k running place g g' l is to.table to.points disk' g.rows new cells writes rows_lacks rows_drawn rows_holds rows_stand
-        right next (same_once g g' to.indexes) written (rows_on_disk written) e lasts at of quiet tallied points'
+        handed_told d tells_left up_to_now b sound premise began disk catalog standing groups trail late closed k running place g g' l is to.table to.points disk' g.rows new (λ s. with_batch s cells) writes.number writes.touches writes.counts rows_lacks rows_drawn rows_holds rows_stand
+        right next (same_once g g' to.indexes) written.holds (rows_on_disk written) e lasts at of quiet writes.leaves tallied points'
         (λ given. rows_shows written horizons (es ++ e ∷ []) (one_entry b es k.told.legal t e of) next tallied show) (λ given. rows_moves written horizons (es ++ e ∷ []) (one_entry b es k.told.legal t e of) next tallied show) trail' entries room
 
     -- a call failed: nothing was under way, or an entry
     pub rows_shut : (shut : Entry) (call : ℕ) → IsShutAt shut call → call ≡ d.calls disk' → Rose d disk disk' → (AreTraced es g → AreTraced es g') → map stamp_in g'.batches.items ≡ map stamp_in g.batches.items → RowsGo b es es g cells → (trail' : Recorded) → trail'.entries ≡ es ++ shut ∷ [] → owed g' + trail.room ≤ owed g + trail'.room + 1
         → IsKept d b sound premise began disk' catalog standing then trail' None (Some call)
     rows_shut shut call shut-is shut_at rose traced stamps go trail' entries room =
-        handed_shut d tells_left up_to_now b sound premise began disk catalog standing groups trail late closed k running place g g' l is to.table to.points disk' g.rows new cells writes rows_lacks rows_drawn rows_holds rows_stand
-        shut call shut-is shut_at rose traced stamps trail' entries room (λ given. rows_tells es (no_entry b es k.told.legal t) go)
+        handed_shut d tells_left up_to_now b sound premise began disk catalog standing groups trail late closed k running place g g' l is to.table to.points disk' g.rows new (λ s. with_batch s cells) writes.number writes.touches writes.counts rows_lacks rows_drawn rows_holds rows_stand
+        shut call shut-is shut_at rose traced stamps trail' entries room writes.leaves (λ given. rows_tells es (no_entry b es k.told.legal t) go)
 
     pub rows_late : (shut : Entry) (call : ℕ) → IsShutAt shut call → call ≡ d.calls disk' → Rose d disk disk' → (AreTraced es g → AreTraced es g') → map stamp_in g'.batches.items ≡ map stamp_in g.batches.items → (u : Entry) → lasting u ≡ true → u.calls ≡ d.calls disk' → IsOfTable b es t u → RowsGo b es (es ++ u ∷ []) g cells
         → (trail' : Recorded) → trail'.entries ≡ es ++ shut ∷ [] → owed g' + trail.room ≤ owed g + trail'.room + 1 → IsKept d b sound premise began disk' catalog standing then trail' (Some u) (Some call)
     rows_late shut call shut-is shut_at rose traced stamps u lasts at of go trail' entries room =
-        handed_late d tells_left up_to_now b sound premise began disk catalog standing groups trail late closed k running place g g' l is to.table to.points disk' g.rows new cells writes rows_lacks rows_drawn rows_holds rows_stand
-        shut call shut-is shut_at rose traced stamps trail' entries room u lasts at of.may (rows_tells (es ++ u ∷ []) (one_entry b es k.told.legal t u of) go)
+        handed_late d tells_left up_to_now b sound premise began disk catalog standing groups trail late closed k running place g g' l is to.table to.points disk' g.rows new (λ s. with_batch s cells) writes.number writes.touches writes.counts rows_lacks rows_drawn rows_holds rows_stand
+        shut call shut-is shut_at rose traced stamps trail' entries room writes.leaves u lasts at of.may (rows_tells (es ++ u ∷ []) (one_entry b es k.told.legal t u of) go)
 
   -- ---- the region of an index
 
@@ -291,17 +269,8 @@ module _ {D : Type 0} (d : Ghosts D) (tells_left : (x : D) (moment file : ℕ) (
     index_changed f = with_region n (with_batch (f.regions n) cells) f
 
     index_on_disk : HasWritten d x.region new disk disk' cells → (f : FolderData) → TellsCatalogue f.standing (catalogue_of b es) → AreNumbered f.standing → IsOnDisk d disk f g → IsOnDisk d disk' (index_changed f) g'
-    index_on_disk written f tells numbered on = (let
-        s = with_batch (f.regions n) cells
-        in let
-        touches = writes.touches (f.regions n) (index_holds f on)
-        in record {
-          rows = subst (λ (r : Region). RegionHolds d r disk' ((index_changed f).regions r.number)) (sym to.rows) (region_framed d disk disk' n touches f s g.rows (λ same. rows_lack b es f.standing tells numbered g right_here standing_here i x to.index (sym same)) on.rows);
-          indexes = λ j z at. elim (set_cases g.indexes.items i j (record x { region = new }) z (ap (λ (xs : List IndexRegion). slice_get xs j) (sym to.indexes) ∙ at)) [
-            | inl q ↦ subst (λ (w : IndexRegion). RegionHolds d w.region disk' ((index_changed f).regions w.region.number)) (sym q.1) (region_here d disk' f n s new writes.number (written.holds (f.regions n) (index_holds f on)))
-            | inr q ↦ region_framed d disk disk' n touches f s z.region (index_lack b es f.standing tells numbered g right_here standing_here once_here i x to.index j z q.1 q.0) (on.indexes j z q.1)
-          ];
-        })
+    index_on_disk written f tells numbered on =
+        index_on d disk disk' b es f tells numbered g g' right_here standing_here (with_batch (f.regions n) cells) on once_here i x new to writes.number (writes.touches (f.regions n) (index_holds f on)) (written.holds (f.regions n) (index_holds f on))
 
     index_explain : (es' : List Entry) → GoesOnIn b es es' t → (f : FolderData) (v : ℕ → GroupData) → Explains b es f v → IsOnDisk d disk f g → (hs : List HeldBatch) → IsShownBy b (forms_in f.standing.indexes g.table) es g (v t) hs → (read : List CellData) → ReadsSame read (cells ++ read_of x.region)
         → (w : IndexThen (form_of b (forms_in f.standing.indexes g.table) g) es' (v t) i read) → Explains b es' (index_changed f) (with_part v t w.table_data)
@@ -354,8 +323,8 @@ module _ {D : Type 0} (d : Ghosts D) (tells_left : (x : D) (moment file : ℕ) (
     pub index_handed : HasWritten d x.region new disk disk' cells → IsSameHorizon x.region new → IsRightGroup g' → (next : List HeldBatch → List HeldBatch) → ((hs : List HeldBatch) → IsTallied b es g hs → IsTallied b es g' (next hs)) → IndexShows b es es g g' next i new → owed g' ≤ owed g
         → IsKept d b sound premise began disk' catalog standing then trail late closed
     index_handed written horizons right next tallied show room =
-        handed d tells_left up_to_now b sound premise began disk catalog standing groups trail late closed k running place g g' l is to.table to.points disk' x.region new cells writes index_lacks index_drawn index_holds index_stands
-        right next (set_once g g' i x new to.index to.indexes) written (index_on_disk written) tallied
+        handed d tells_left up_to_now b sound premise began disk catalog standing groups trail late closed k running place g g' l is to.table to.points disk' x.region new (λ s. with_batch s cells) writes.number writes.touches writes.counts index_lacks index_drawn index_holds index_stands
+        right next (set_once g g' i x new to.index to.indexes) written.holds (index_on_disk written) writes.leaves tallied
         (λ given. index_show written horizons es (no_entry b es k.told.legal t) next tallied show) (λ given. index_moves written horizons es (no_entry b es k.told.legal t) next tallied show) room
 
     -- with an entry that doesn't last, which tells of them where what was opened is sound
@@ -363,8 +332,8 @@ module _ {D : Type 0} (d : Ghosts D) (tells_left : (x : D) (moment file : ℕ) (
         → ((hs : List HeldBatch) → IsTallied b es g hs → IsTallied b (es ++ e ∷ []) g' (next hs)) → HasPoints (es ++ e ∷ []) g' → (sound → IndexGoes b es es g i x cells) → (sound → IndexShows b es (es ++ e ∷ []) g g' next i new)
         → (trail' : Recorded) → trail'.entries ≡ es ++ e ∷ [] → owed g' + trail.room ≤ owed g + trail'.room → IsKept d b sound premise began disk' catalog standing then trail' late closed
     index_noted written horizons right e quiet at of calm next tallied points' go show trail' entries room =
-        handed_noted d tells_left up_to_now b sound premise began disk catalog standing groups trail late closed k running place g g' l is to.table to.points disk' x.region new cells writes index_lacks index_drawn index_holds index_stands
-        right next (set_once g g' i x new to.index to.indexes) written (index_on_disk written) e quiet at of calm tallied points'
+        handed_noted d tells_left up_to_now b sound premise began disk catalog standing groups trail late closed k running place g g' l is to.table to.points disk' x.region new (λ s. with_batch s cells) writes.number writes.touches writes.counts index_lacks index_drawn index_holds index_stands
+        right next (set_once g g' i x new to.index to.indexes) written.holds (index_on_disk written) e quiet at of calm writes.leaves tallied points'
         (λ given. index_show written horizons (es ++ e ∷ []) (one_entry b es k.told.legal t e of) next tallied (show given)) (λ given. index_tells es (no_entry b es k.told.legal t) (go given))
         (λ given. index_moves written horizons (es ++ e ∷ []) (one_entry b es k.told.legal t e of) next tallied (show given)) trail' entries room
 
@@ -372,5 +341,5 @@ module _ {D : Type 0} (d : Ghosts D) (tells_left : (x : D) (moment file : ℕ) (
     pub index_shut : (shut : Entry) (call : ℕ) → IsShutAt shut call → call ≡ d.calls disk' → Rose d disk disk' → (AreTraced es g → AreTraced es g') → map stamp_in g'.batches.items ≡ map stamp_in g.batches.items → (sound → IndexGoes b es es g i x cells) → (trail' : Recorded) → trail'.entries ≡ es ++ shut ∷ [] → owed g' + trail.room ≤ owed g + trail'.room + 1
         → IsKept d b sound premise began disk' catalog standing then trail' None (Some call)
     index_shut shut call shut-is shut_at rose traced stamps go trail' entries room =
-        handed_shut d tells_left up_to_now b sound premise began disk catalog standing groups trail late closed k running place g g' l is to.table to.points disk' x.region new cells writes index_lacks index_drawn index_holds index_stands
-        shut call shut-is shut_at rose traced stamps trail' entries room (λ given. index_tells es (no_entry b es k.told.legal t) (go given))
+        handed_shut d tells_left up_to_now b sound premise began disk catalog standing groups trail late closed k running place g g' l is to.table to.points disk' x.region new (λ s. with_batch s cells) writes.number writes.touches writes.counts index_lacks index_drawn index_holds index_stands
+        shut call shut-is shut_at rose traced stamps trail' entries room writes.leaves (λ given. index_tells es (no_entry b es k.told.legal t) (go given))

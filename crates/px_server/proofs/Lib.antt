@@ -72,6 +72,9 @@ pub mod Prepared
 pub mod QuietPlaces
 pub mod ReadAt
 pub mod ReadyKept
+pub mod Regions
+pub mod Forgot
+pub mod Raised
 pub mod Refusing
 pub mod Released
 pub mod Renewed
@@ -95,6 +98,7 @@ pub mod Ticketed
 pub mod Told
 pub mod Unbegun
 pub mod Unwritten
+pub mod Upkept
 pub mod Uses
 pub mod Verified
 pub mod Written

@@ -30,7 +30,8 @@ use Rattle.px_batching.proofs.May.{closes_at, marks_at}
 use Rattle.px_batching.proofs.Pairs.{tied_at, to_tied}
 use Rattle.px_batching.proofs.Shown.{closes_shown, closes_steps, marks_shown, marks_steps}
 use Rattle.px_server.proofs.Built.{built_step, run_at, run_change_at, same_ids}
-use Rattle.px_server.proofs.Handed.{IndexGoes, IndexShows, IndexThen, ToIndex}
+use Rattle.px_server.proofs.Handed.{IndexGoes, IndexShows, IndexThen}
+use Rattle.px_server.proofs.Regions.{ToIndex}
 
 -- what a repair rests on, where the cells of the rows stay
 told_still : (f : TableForm) (es : List Entry) (v w : GroupData) → GroupKept f es v → GroupKept f es w → AreTold f es v → w.low ≡ v.low → w.cells ≡ v.cells → AreTold f es w

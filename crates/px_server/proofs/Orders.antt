@@ -1,13 +1,15 @@
--- An order to flush: what is true of a server stays so, and what its flush leaves in the logs.
-use Rattle.std.proofs.Common.{◌≡◌, ◌<◌, ◌≤◌, ◌+◌, ℕ, zero, suc, Option, None, Some, List, [], ◌∷◌, length, get_or, slice_get, take, refl, sym, ap, subst, ◌∙◌, arith}
-use Rattle.std.specs.Prelude.{IsTrue, sum_by}
+-- An order to upkeep: what is true of a server stays so, and what it leaves where it is done.
+use Rattle.std.proofs.Common.{◌≡◌, inl, inr, false, ◌<◌, ◌≤◌, ◌+◌, ℕ, zero, suc, Option, None, Some, List, [], ◌∷◌, length, get_or, slice_get, take, refl, sym, ap, subst, ◌∙◌, arith}
+use Rattle.std.specs.Prelude.{IsTrue, ◌-◌, sum_by}
 use Rattle.std.specs.List.{AllByRecursion, slice_set}
+use Rattle.std.proofs.lemmas.Bool.{false≢true}
 use Rattle.std.proofs.lemmas.List.Sums.{sum_by-cons}
 use Rattle.px_outside.specs.declared.disk.Disk.{Ghosts}
 use Rattle.px_outside.proofs.Moments.{touches_none}
 use Rattle.px_trail.specs.declared.entry.Entry.{Entry}
 use Rattle.px_trail.specs.Legal.{IsLegal}
 use Rattle.px_trail.specs.Recorded.{Recorded}
+use Rattle.px_trail.specs.States.{greatest_stamp}
 use Rattle.px_trail.specs.Trail.{Base, closing_call}
 use Rattle.px_wal.specs.Files.{HasFile}
 use Rattle.px_region.specs.Ordered.{IsFlushOrdered, IsSameOrder}
@@ -18,9 +20,11 @@ use Rattle.px_region.proofs.Holding.{holds_alike, stands_now}
 use Rattle.px_region.proofs.Logged.{nothing_logged}
 use Rattle.px_schema.specs.declared.standing.Standing.{Standing}
 use Rattle.px_catalog.specs.declared.catalog.Catalog.{Catalog}
-use Rattle.px_group.specs.Writing.{HasWritten}
+use Rattle.px_group.specs.declared.group.Begun.{Begun}
 use Rattle.px_group.specs.declared.group.Group.{Group}
+use Rattle.px_group.specs.declared.group.OpenPoint.{OpenPoint}
 use Rattle.px_group.specs.declared.group.IndexRegion.{IndexRegion}
+use Rattle.px_raising.specs.Turning.{has_batch, points_at}
 use Rattle.px_recovery.specs.Folder.{FolderData}
 use Rattle.px_calls.specs.Calls.{DidOrder}
 use Rattle.px_calls.specs.Known.{Known}
@@ -28,24 +32,26 @@ use Rattle.px_server.specs.Kept.{IsKept, IsOnDisk}
 use Rattle.px_server.specs.Others.{Beginning}
 use Rattle.px_server.specs.Shown.{logged_at, logged_by}
 use Rattle.px_server.specs.Upkeep as upkeep
-use Rattle.px_server.specs.Upkeep.{AllSettle, AreOrdered, HasFlushedIndex, HaveFlushed, IsOrderedIndex, Settles, StepsFiles}
-use Rattle.px_server.proofs.Prepared.{steps_write, steps_written}
+use Rattle.px_server.specs.Upkeep.{AllSettle, AreCompacting, AreFree, AreOrdered, HasForgottenTo, HasIndexForgottenTo, HasRisen, HaveFlushed, HaveForgotten, IsCompacting, IsFreeIndex, IsIndexToForget, IsOrderedIndex, IsTableCompacted, IsToForget, IsWantedIndex, IsWantedTable, Settles, StaysOn, StepsFiles}
+use Rattle.px_server.specs.declared.upkeep.Chore.TheVariants as chore
 use Rattle.px_server.proofs.Seen.{stays}
 use Rattle.px_server.proofs.Stepped.{put_back, stepped}
+use Rattle.px_server.proofs.Lists.{all_weaker}
 
 -- 1. A region
 
-pub order_steps : {D : Type 0} (d : Ghosts D) (up_to_now : (x : D) (moment file : ℕ) (bytes : List ℕ) → d.left x moment file bytes → moment ≤ d.calls x) (disk : D) (old new : Region) → IsAlike old new → IsSamePromise old new → read_of new ≡ read_of old → StepsFiles d old new disk disk
-order_steps d up_to_now disk old new alike promised read = record {
-  writes =
-      steps_write d old new disk disk alike.number alike.horizon (λ s holds. stands_now d old disk s holds up_to_now) (λ s holds. touches_none d.calls d.left d.seen up_to_now disk (HasFile old.number))
-      (record { later = omega arith; at_most = omega arith; faults_later = omega arith; begun = refl });
-  read = read;
+-- no call is made, and the disk tells the same of the region
+pub still_steps : {D : Type 0} (d : Ghosts D) (up_to_now : (x : D) (moment file : ℕ) (bytes : List ℕ) → d.left x moment file bytes → moment ≤ d.calls x) (disk : D) (old new : Region) (horizon : ℕ) → new.number ≡ old.number → IsSamePromise old new → StepsFiles d old new disk disk horizon
+still_steps d up_to_now disk old new horizon number promised = record {
+  number = number;
+  leaves = λ s holds. record { each = λ moment image since left. inl ((stands_now d old disk s holds up_to_now).each moment image since left) };
+  touches = λ s holds. touches_none d.calls d.left d.seen up_to_now disk (HasFile old.number);
+  counts = record { later = omega arith; at_most = omega arith; faults_later = omega arith; begun = refl };
   promised = promised;
 }
 
-pub order_written : {D : Type 0} (d : Ghosts D) (disk : D) (old new : Region) → IsAlike old new → read_of new ≡ read_of old → HasWritten d old new disk disk []
-order_written d disk old new alike read = steps_written d old new disk disk (λ s holds. holds_alike d old disk s holds new alike) read
+pub order_stays : {D : Type 0} (d : Ghosts D) (disk : D) (old new : Region) → IsAlike old new → read_of new ≡ read_of old → StaysOn d old new disk disk
+order_stays d disk old new alike read = record { read = read; horizon = alike.horizon; holds = λ s holds. holds_alike d old disk s holds new alike }
 
 -- a step keeps that all is ordered
 pub ordered_on : (old new : Region) → IsSameOrder old new → IsFlushOrdered old → IsFlushOrdered new
@@ -58,12 +64,12 @@ set_length [] i x = refl
 set_length (y ∷ xs) zero x = refl
 set_length (y ∷ xs) (suc i) x = ap (λ n. suc n) (set_length xs i x)
 
-set_twice : {A : Type 0} (xs : List A) (i : ℕ) (x y : A) → slice_set (slice_set xs i x) i y ≡ slice_set xs i y
+pub set_twice : {A : Type 0} (xs : List A) (i : ℕ) (x y : A) → slice_set (slice_set xs i x) i y ≡ slice_set xs i y
 set_twice [] i x y = refl
 set_twice (z ∷ xs) zero x y = refl
 set_twice (z ∷ xs) (suc i) x y = ap (λ zs. z ∷ zs) (set_twice xs i x y)
 
-set_there : {A : Type 0} (xs : List A) (i : ℕ) (x d : A) → i < length xs → get_or (slice_set xs i x) i d ≡ x
+pub set_there : {A : Type 0} (xs : List A) (i : ℕ) (x d : A) → i < length xs → get_or (slice_set xs i x) i d ≡ x
 set_there [] i x d l = absurd (omega (arith, l))
 set_there (y ∷ xs) zero x d l = refl
 set_there (y ∷ xs) (suc i) x d l = set_there xs i x d (omega (arith, l))
@@ -81,6 +87,11 @@ pub taken_all : {A : Type 0} (P : A → Type 0) (xs : List A) (n : ℕ) → leng
 taken_all P [] n l all = tt
 taken_all P (x ∷ xs) zero l all = absurd (omega (arith, l))
 taken_all P (x ∷ xs) (suc n) l all = (all.0, taken_all P xs n (omega (arith, l)) all.1)
+
+-- none of the first none
+pub none_taken : {A : Type 0} (P : A → Type 0) (xs : List A) → AllByRecursion P (take 0 xs)
+none_taken P [] = tt
+none_taken P (x ∷ xs) = tt
 
 pub all_put : {A : Type 0} (P : A → Type 0) (xs : List A) (i : ℕ) (x : A) → AllByRecursion P xs → P x → AllByRecursion P (slice_set xs i x)
 all_put P [] i x all is = tt
@@ -124,7 +135,7 @@ did_order k legal open_ = record { sees = stays k legal; running = open_ }
 -- 5. What is left in the logs
 
 no_index : {D : Type 0} (d : Ghosts D) (disk : D) (f : FolderData) (xs : List IndexRegion) → ((i : ℕ) (x : IndexRegion) → slice_get xs i ≡ Some x → RegionHolds d x.region disk (f.regions x.region.number))
-    → AllByRecursion IsOrderedIndex xs → AllByRecursion HasFlushedIndex xs → sum_by logged_at xs ≡ 0
+    → AllByRecursion IsOrderedIndex xs → AllByRecursion (IsFreeIndex chore.Due) xs → sum_by logged_at xs ≡ 0
 no_index d disk f [] on ordered flushed = refl
 no_index d disk f (x ∷ xs) on ordered flushed = (let
     here = nothing_logged d x.region disk (f.regions x.region.number) (on 0 x refl) ordered.0 flushed.0
@@ -141,3 +152,51 @@ none_logged d disk f (g ∷ groups) on ordered flushed = (let
     in let
     rest = no_index d disk f g.indexes.items on.0.indexes ordered.0.indexes flushed.0.indexes
     in (omega (arith, here, rest), none_logged d disk f groups on.1 ordered.1 flushed.1))
+
+-- 6. What is left to forget
+
+-- the region was wanted, or has forgotten; and it isn't wanted any more
+forgotten_to : (horizon : ℕ) (r : Region) → IsToForget horizon r → r.wanted ≡ false → HasForgottenTo horizon r
+forgotten_to horizon r (inl wanted) none = absurd (false≢true (sym none ∙ wanted))
+forgotten_to horizon r (inr has) none = has
+
+indexes_forgotten : (horizon : ℕ) (xs : List IndexRegion) → AllByRecursion (IsIndexToForget horizon) xs → AllByRecursion (IsFreeIndex chore.Wanted) xs → AllByRecursion (HasIndexForgottenTo horizon) xs
+indexes_forgotten horizon [] to none = tt
+indexes_forgotten horizon (x ∷ xs) to none = (forgotten_to horizon x.region to.0 none.0, indexes_forgotten horizon xs to.1 none.1)
+
+all_compacted : (lookback : ℕ) (groups : List Group) → AllByRecursion (IsCompacting lookback) groups → AreFree chore.Wanted groups → AllByRecursion (IsTableCompacted lookback) groups
+all_compacted lookback [] to none = tt
+all_compacted lookback (g ∷ groups) to none = (
+  record { risen = to.0.risen; rows = forgotten_to g.horizon g.rows to.0.rows none.0.rows; indexes = indexes_forgotten g.horizon g.indexes.items to.0.indexes none.0.indexes },
+  all_compacted lookback groups to.1 none.1,
+)
+
+pub compacted : (lookback : ℕ) (raising : Option ℕ) (groups : List Group) → AreCompacting lookback raising groups → HaveForgotten raising groups → AllByRecursion (IsTableCompacted lookback) groups
+compacted lookback None groups to done = all_compacted lookback groups to done.none
+compacted lookback (Some place) groups to done = absurd (let z : Some place ≡ None = done.raised in cc)
+
+-- with no batch and no point, what isn't looked back on is allowed
+pub risen_back : (lookback : ℕ) (g : Group) → HasRisen lookback g → g.batches.items ≡ [] → g.points.items ≡ [] → g.last - lookback ≤ greatest_stamp → g.last - lookback ≤ g.horizon
+risen_back lookback g risen batches points within = risen (g.last - lookback) (record {
+  back = omega arith;
+  unclosed = λ s is. absurd (false≢true (sym (ap (λ (ms : List Begun). has_batch ms s) batches) ∙ is));
+  points = λ s some. absurd (let none = ap (λ (ps : List OpenPoint). points_at ps s) points in omega (arith, none, some));
+}) within
+
+-- ---- while horizons rise
+
+-- each region is wanted still, so each is to forget
+to_forget : (lookback : ℕ) (g : Group) → IsWantedTable g → HasRisen lookback g → IsCompacting lookback g
+to_forget lookback g wanted risen = record { risen = risen; rows = inl wanted.rows; indexes = all_weaker IsWantedIndex (IsIndexToForget g.horizon) (λ x w. inl w) g.indexes.items wanted.indexes }
+
+both_to : (lookback : ℕ) (groups : List Group) → AllByRecursion IsWantedTable groups → AllByRecursion (HasRisen lookback) groups → AllByRecursion (IsCompacting lookback) groups
+both_to lookback [] wanted risen = tt
+both_to lookback (g ∷ groups) wanted risen = (to_forget lookback g wanted.0 risen.0, both_to lookback groups wanted.1 risen.1)
+
+-- behind the last table
+pub all_risen : (lookback place : ℕ) (groups : List Group) → length groups ≤ place → AreCompacting lookback (Some place) groups → AreCompacting lookback None groups
+all_risen lookback place groups over to = both_to lookback groups to.0 (taken_all (HasRisen lookback) groups place over to.1)
+
+-- at the next table
+pub one_risen : (lookback place : ℕ) (groups : List Group) (g : Group) → place < length groups → (AllByRecursion IsWantedTable groups → IsWantedTable g) → HasRisen lookback g → AreCompacting lookback (Some place) groups → AreCompacting lookback (Some (place + 1)) (slice_set groups place g)
+one_risen lookback place groups g inside wanted risen to = (all_put IsWantedTable groups place g to.0 (wanted to.0), set_next (HasRisen lookback) groups place g inside to.1 risen)

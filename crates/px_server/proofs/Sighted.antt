@@ -1,16 +1,13 @@
 -- What is in doubt at a point stays so: where tables are looked at, where regions are flushed, and where other keys are repaired.
-use Rattle.std.proofs.Common.{◌≡◌, ◌≢◌, ◌<◌, ◌≤◌, ℕ, zero, suc, max, Bool, true, false, ◌&&◌, ◌||◌, Option, None, Some, Result, Ok, Err, List, [], ◌∷◌, length, get_or, map, slice_get, set, refl, sym, ap, subst, ◌∙◌, inl, inr, arith}
+use Rattle.std.proofs.Common.{◌≡◌, ◌≢◌, ◌<◌, ◌≤◌, ℕ, zero, suc, max, Bool, true, false, ◌&&◌, ◌||◌, Option, None, Some, Result, Ok, Err, List, [], ◌∷◌, length, get_or, slice_get, set, refl, sym, ap, subst, ◌∙◌, inl, inr, arith}
 use Rattle.std.specs.Prelude.{IfErr, IfOk, nat_eq, nat_le, not}
 use Rattle.std.proofs.lemmas.Bool.{eq-eqb, false≢true}
 use Rattle.std.proofs.lemmas.Bool.Decides.{nat_tests}
 use Rattle.std.specs.List.{AllByRecursion, list_any, slice_set}
-use Rattle.px_outside.specs.Parts.{AreDistinct}
 use Rattle.px_outside.specs.declared.disk.Disk.{Ghosts}
 use Rattle.px_tables.specs.declared.index.Index.{Index}
-use Rattle.px_tables.specs.declared.table.Table.{Table}
 use Rattle.px_values.specs.declared.name.IndexId.{IndexId}
 use Rattle.px_values.specs.declared.name.TableId.{TableId}
-use Rattle.px_cells.specs.CellData.{CellData}
 use Rattle.px_cells.specs.Contents.{value_at}
 use Rattle.px_trail.specs.Answers.{IsAmong}
 use Rattle.px_trail.specs.Recorded.{Recorded}
@@ -27,7 +24,7 @@ use Rattle.px_calls.specs.declared.query.Fixing.TheVariants as fixing
 use Rattle.px_calls.specs.declared.query.FoundKey.{FoundKey}
 use Rattle.px_calls.specs.declared.query.FoundKey.TheVariants.{InDoubt}
 use Rattle.px_calls.specs.declared.query.Point.{Point}
-use Rattle.px_looks.specs.Found.{RowContents, at_key}
+use Rattle.px_looks.specs.Found.{at_key}
 use Rattle.px_looks.specs.Versions.{version_at}
 use Rattle.px_looks.specs.declared.version.KeyVersion.{KeyVersion}
 use Rattle.px_region.specs.Region.{read_of}
@@ -38,26 +35,26 @@ use Rattle.px_shown.specs.Told.{reach_of}
 use Rattle.px_group.specs.Group.{IsRightGroup, IsRightPart}
 use Rattle.px_group.specs.declared.group.Group.{Group}
 use Rattle.px_group.specs.declared.group.IndexRegion.{IndexRegion}
-use Rattle.px_defined.specs.Defined.{AreOnceIn, HasOnce}
-use Rattle.px_reading.specs.Doubts.{version_seen}
-use Rattle.px_reading.specs.Looked.{AreLookedAt, HasLooked, IsLookedAt}
+use Rattle.px_merge.specs.Kept.{IsKeptList}
+use Rattle.px_forgotten.specs.Forgotten.{at_horizon}
+use Rattle.px_defined.specs.Defined.{HasOnce}
+use Rattle.px_reading.specs.Looked.{AreLookedAt, HasLooked}
 use Rattle.px_reading.specs.Versions.{IsOfVersion, version_to}
 use Rattle.px_reading.proofs.Looked.{looked_on, part_at}
 use Rattle.px_pointreads.specs.Points.{AreOfIndex, GroupLacksIndex, IsReadAt}
 use Rattle.px_pointreads.proofs.Asked.{there_is}
 use Rattle.px_recovery.proofs.Tables.{one_place}
-use Rattle.px_repairs.specs.Repairs.{Fixes, HasFixed, HasStayed, IsJudged, IsRegionStep, IsRepair, is_doubt, stands_in}
+use Rattle.px_repairs.specs.Repairs.{Fixes, HasFixed, HasStayed, IsJudged, is_doubt, stands_in}
 use Rattle.px_repairs.specs.declared.judging.Judged.TheVariants as judged
 use Rattle.px_repairs.specs.declared.repairing.RepairFault.{RepairFault}
 use Rattle.px_repairs.specs.declared.repairing.RepairFault.TheVariants.{Busy, NotReady, WriteFault, Memory}
-use Rattle.px_repairs.proofs.Handing.{got_some}
 use Rattle.px_server.specs.Kept.{AreShown, HasShown, HasTallied, IsKept, forms_in, number_in}
 use Rattle.px_server.specs.Others.{Beginning}
 use Rattle.px_server.specs.Repairs.{Answers, WritesNothing}
 use Rattle.px_server.specs.Sights.{has_doubt, have_doubt, is_seen_in, table_has_doubt}
-use Rattle.px_server.specs.Upkeep.{StepsIndex, SteppedIndex, SteppedRows, SteppedTable}
+use Rattle.px_server.specs.Upkeep.{HasStepped, SteppedTable}
 use Rattle.px_server.proofs.Doubted.{HasSameStatus, and_left, and_right, any_at, any_put, any_set, at_any, both, doubt_within, repaired_beside, same_doubt, seen_below, some_same}
-use Rattle.px_server.proofs.Fixes.{named_looked}
+use Rattle.px_server.proofs.Forgot.{kept_doubt}
 use Rattle.px_server.proofs.Lists.{all_at, got_set}
 use Rattle.px_server.proofs.Looked.{looked_kept}
 use Rattle.px_server.proofs.Numbers.{once_at}
@@ -89,18 +86,48 @@ module _ (p : Point) (v : IndexVersion) where
   looked_indexes (x ∷ xs) (y ∷ ys) l = (let one = same_index x y l.0.0 l.0.1.alike.store in let others = looked_indexes xs ys l.1 in (λ i. one i || others i))
 
   pub looked_table : (g g' : Group) → HasLooked g g' → table_has_doubt p v g' ≡ table_has_doubt p v g
-  looked_table g g' l = (let all = looked_indexes g.indexes.items g'.indexes.items l.indexes in (λ i. nat_le (l.horizon i) (reach_of p) && all i))
+  looked_table g g' l = (let all = looked_indexes g.indexes.items g'.indexes.items l.indexes in (λ i. nat_eq (l.table i).id.0 p.table.0 && (nat_le (l.horizon i) (reach_of p) && all i)))
 
   -- a region of an index goes on, of which the same tells whether it is in doubt
-  put_table : (g g' : Group) (place : ℕ) (x y : IndexRegion) → slice_get g.indexes.items place ≡ Some x → g'.indexes.items ≡ set g.indexes.items place y → g'.horizon ≡ g.horizon → has_doubt p v y ≡ has_doubt p v x → table_has_doubt p v g' ≡ table_has_doubt p v g
-  put_table g g' place x y at indexes horizon same = (let
-      all : list_any (has_doubt p v) g'.indexes.items ≡ list_any (has_doubt p v) g.indexes.items = ap (list_any (has_doubt p v)) indexes ∙ any_put (has_doubt p v) g.indexes.items place x y at same
-      in (λ i. nat_le (horizon i) (reach_of p) && all i))
+  put_table : (g g' : Group) (place : ℕ) (x y : IndexRegion) → slice_get g.indexes.items place ≡ Some x → g'.indexes.items ≡ set g.indexes.items place y → g'.table ≡ g.table → g'.horizon ≡ g.horizon → (g.horizon ≤ reach_of p → has_doubt p v y ≡ has_doubt p v x) → table_has_doubt p v g' ≡ table_has_doubt p v g
+  put_table g g' place x y at indexes table horizon same = (let
+      all : g.horizon ≤ reach_of p → list_any (has_doubt p v) g'.indexes.items ≡ list_any (has_doubt p v) g.indexes.items = (λ above. ap (list_any (has_doubt p v)) indexes ∙ any_put (has_doubt p v) g.indexes.items place x y at (same above))
+      in let
+      one : (nat_le g'.horizon (reach_of p) && list_any (has_doubt p v) g'.indexes.items) ≡ (nat_le g.horizon (reach_of p) && list_any (has_doubt p v) g.indexes.items) = ap (λ (h : ℕ). nat_le h (reach_of p) && list_any (has_doubt p v) g'.indexes.items) horizon ∙ under (nat_le g.horizon (reach_of p)) refl (λ above. all (le_of g.horizon (reach_of p) above))
+      in (λ i. nat_eq (table i).id.0 p.table.0 && one i))
+    where
+      under : (c : Bool) → nat_le g.horizon (reach_of p) ≡ c → (nat_le g.horizon (reach_of p) ≡ true → list_any (has_doubt p v) g'.indexes.items ≡ list_any (has_doubt p v) g.indexes.items)
+          → (c && list_any (has_doubt p v) g'.indexes.items) ≡ (c && list_any (has_doubt p v) g.indexes.items)
+      under true e same = same e
+      under false e same = refl
 
-  pub stepped_table : {D : Type 0} (d : Ghosts D) (g g' : Group) (disk disk' : D) → SteppedTable d g g' disk disk' → table_has_doubt p v g' ≡ table_has_doubt p v g
-  stepped_table d g g' disk disk' (inl r) = ap (table_has_doubt p v) r.rows.same
-  stepped_table d g g' disk disk' (inr r) = (let s = r.index in
-      put_table g g' s.place s.index (record s.index { region = s.region }) s.is s.indexes (ap (λ (h : Group). h.horizon) s.same) (same_index s.index (record s.index { region = s.region }) refl s.steps.read))
+  -- a step of the files of a region, which may forget at the table's horizon
+  forgot_index : (g : Group) → IsRightGroup g → (place : ℕ) (x : IndexRegion) → slice_get g.indexes.items place ≡ Some x → (new : Region) → IsKeptList (read_of x.region) g.horizon (read_of new) → g.horizon ≤ reach_of p → has_doubt p v (record x { region = new }) ≡ has_doubt p v x
+  forgot_index g right place x at new keeps above = (let
+      shape = (part_at (IsRightPart g.table) g.indexes.items right.parts place x at).keys
+      in let
+      one = kept_doubt g.table x.index (read_of x.region) shape g.horizon (read_of new) keeps (reach_of p) above v.key v.stamp x.index.included
+      in ap (λ (t : Bool). nat_eq x.index.id.0 v.index.0 && (nat_le x.index.birth (reach_of p) && t)) one)
+
+  stepped_index : {D : Type 0} (d : Ghosts D) (g : Group) → IsRightGroup g → (place : ℕ) (x : IndexRegion) → slice_get g.indexes.items place ≡ Some x → (new : Region) (disk disk' : D) → HasStepped d x.region new disk disk' g.horizon → g.horizon ≤ reach_of p → has_doubt p v (record x { region = new }) ≡ has_doubt p v x
+  stepped_index d g right place x at new disk disk' (inl st) above = same_index x (record x { region = new }) refl st.read
+  stepped_index d g right place x at new disk disk' (inr fo) above = forgot_index g right place x at new fo.forgotten.kept above
+
+  pub stepped_table : {D : Type 0} (d : Ghosts D) (g g' : Group) (disk disk' : D) → IsRightGroup g → SteppedTable d g g' disk disk' → table_has_doubt p v g' ≡ table_has_doubt p v g
+  stepped_table d g g' disk disk' right (inl r) = ap (table_has_doubt p v) r.rows.same
+  stepped_table d g g' disk disk' right (inr r) = (let s = r.index in
+      put_table g g' s.place s.index (record s.index { region = s.region }) s.is s.indexes (ap (λ (h : Group). h.table) s.same) (ap (λ (h : Group). h.horizon) s.same) (stepped_index d g right s.place s.index s.is s.region disk disk' r.stepped))
+
+  -- the horizon rises to where the point sees, if it is one of the table's
+  pub raised_table : (g g' : Group) (h : ℕ) → g' ≡ at_horizon h g → g.horizon < h → (g.table.id.0 ≡ p.table.0 → h ≤ reach_of p) → table_has_doubt p v g' ≡ table_has_doubt p v g
+  raised_table g g' h group above sees = ap (table_has_doubt p v) group ∙ by (nat_eq g.table.id.0 p.table.0) refl
+    where
+      both_above : h ≤ reach_of p → nat_le h (reach_of p) ≡ nat_le g.horizon (reach_of p)
+      both_above le = le_test h (reach_of p) le ∙ sym (le_test g.horizon (reach_of p) (omega (arith, le, above)))
+
+      by : (c : Bool) → nat_eq g.table.id.0 p.table.0 ≡ c → (c && (nat_le h (reach_of p) && list_any (has_doubt p v) g.indexes.items)) ≡ (c && (nat_le g.horizon (reach_of p) && list_any (has_doubt p v) g.indexes.items))
+      by true e = ap (λ (t : Bool). t && list_any (has_doubt p v) g.indexes.items) (both_above (sees (eq_of g.table.id.0 p.table.0 e)))
+      by false e = refl
 
   -- one table goes on so
   pub put_tables : (groups : List Group) (place : ℕ) (g g' : Group) → place < length groups → get_or groups place g ≡ g → table_has_doubt p v g' ≡ table_has_doubt p v g → have_doubt (slice_set groups place g') p v ≡ have_doubt groups p v
@@ -120,7 +147,8 @@ found_table p g d fs read of among = (let
     in let
     here : has_doubt p (version_of d) x ≡ true =
     both (nat_eq x.index.id.0 d.index.0) (nat_le x.index.birth (reach_of p) && is_doubt d.stamp (version_to x d.key (reach_of p))) (eq-eqb x.index.id.0 d.index.0 (ap (λ (i : IndexId). i.0) of.part.id)) (both (nat_le x.index.birth (reach_of p)) (is_doubt d.stamp (version_to x d.key (reach_of p))) (le_test x.index.birth (reach_of p) of.part.born) doubt)
-    in both (nat_le g.horizon (reach_of p)) (list_any (has_doubt p (version_of d)) g.indexes.items) (le_test g.horizon (reach_of p) read.above) (at_any (has_doubt p (version_of d)) g.indexes.items of.place x of.at here))
+    in both (nat_eq g.table.id.0 p.table.0) (nat_le g.horizon (reach_of p) && list_any (has_doubt p (version_of d)) g.indexes.items) (eq-eqb g.table.id.0 p.table.0 (ap (λ (i : TableId). i.0) (sym read.of.table)))
+    (both (nat_le g.horizon (reach_of p)) (list_any (has_doubt p (version_of d)) g.indexes.items) (le_test g.horizon (reach_of p) read.above) (at_any (has_doubt p (version_of d)) g.indexes.items of.place x of.at here)))
 
 pub found_doubts : (p : Point) (groups xs : List Group) (place : ℕ) (g d0 g' : Group) → xs ≡ groups → place < length xs → ((h : Group) → slice_get xs place ≡ Some h → IsReadAt h p) → g ≡ get_or groups place d0 → HasLooked g g'
     → (by : By) (found fs : List FoundKey) → fs ≡ found → AreDoubtsOf p.found by found → ((i : IndexId) → by ≡ ByIndex i → AreOfIndex g p i found) → AreDoubtful (have_doubt (slice_set groups place g')) p fs
@@ -153,7 +181,7 @@ places_of groups p v had = (let
     in let
     g = a.1.0
     in let
-    t = a.1.1.1
+    t : (nat_le g.horizon (reach_of p) && list_any (has_doubt p v) g.indexes.items) ≡ true = and_right (nat_eq g.table.id.0 p.table.0) (nat_le g.horizon (reach_of p) && list_any (has_doubt p v) g.indexes.items) a.1.1.1
     in let
     c = any_at (has_doubt p v) g.indexes.items (and_right (nat_le g.horizon (reach_of p)) (list_any (has_doubt p v) g.indexes.items) t)
     in let
@@ -316,7 +344,7 @@ module _ {D : Type 0} (d : Ghosts D) (b : Base) (sound premise : Type 0) (began 
 
     pub fixed_others : have_doubt (slice_set groups place g') p v ≡ have_doubt groups p v
     fixed_others = put_tables p v groups place g g' l is
-        (put_table p v f.looked g' at f.wrote.index (record f.wrote.index { region = f.wrote.region }) f.wrote.step.index f.wrote.step.indexes f.wrote.step.horizon repaired_index ∙ looked_table p v g f.looked f.has)
+        (put_table p v f.looked g' at f.wrote.index (record f.wrote.index { region = f.wrote.region }) f.wrote.step.index f.wrote.step.indexes f.wrote.step.table f.wrote.step.horizon (λ above. repaired_index) ∙ looked_table p v g f.looked f.has)
 
 -- ---- no doubt is of an index that no table has
 

@@ -1,16 +1,18 @@
--- Stamps by the clock, from entry to entry.
+-- Stamps by the clock, and horizons by the lookback, from entry to entry.
 use Rattle.std.proofs.Common.{◌≡◌, ◌≢◌, ◌≤◌, ◌+◌, ℕ, Option, None, Some, List, [], ◌∷◌, ◌++◌, refl, sym, ◌∙◌, ap, subst, arith, append_assoc, append-nil}
-use Rattle.std.specs.Prelude.{IsTrue}
+use Rattle.std.specs.Prelude.{IsTrue, ◌-◌}
 use Rattle.px_catalog.specs.declared.fault.CatalogFault.{CatalogFault}
 use Rattle.px_catalog.specs.declared.fault.CatalogFault.TheVariants.{Full, Memory, WriteFault}
 use Rattle.px_outside.specs.declared.clock.Clock.{Ghosts}
 use Rattle.px_trail.specs.Trail.{Base, last_of}
 use Rattle.px_trail.specs.declared.entry.Entry.{Entry}
-use Rattle.px_trail.specs.declared.entry.Act.TheVariants.{Shut}
+use Rattle.px_trail.specs.declared.entry.Act.{Act}
+use Rattle.px_trail.specs.declared.entry.Act.TheVariants.{Raised, Shut}
 use Rattle.px_calls.specs.declared.fault.StepFault.{StepFault}
 use Rattle.px_turns.specs.Turns.{drawn_stamp}
+use Rattle.px_values.specs.declared.name.TableId.{TableId}
 use Rattle.px_server.specs.inner.Entering.{IsUnwritten}
-use Rattle.px_server.specs.Stamps.{AreStamped, Draw, IsByClock, IsStamped, draw_of}
+use Rattle.px_server.specs.Stamps.{AreBack, AreStamped, Draw, IsBack, IsByClock, IsStamped, draw, draw_of}
 
 module _ (times : ℕ → ℕ) (base : Base) where
   act_le : (last : ℕ → ℕ) (from to : ℕ) (d : Option Draw) (rest : ℕ → Type 0) → ((n : ℕ) → rest n → n ≤ to) → IsStamped times last from to d rest → from ≤ to
@@ -62,46 +64,86 @@ module _ (times : ℕ → ℕ) (base : Base) where
   pub stamped_drawn : (to : ℕ) (es : List Entry) (e : Entry) (d : Draw) → draw_of e.act ≡ Some d → drawn_stamp (last_of base d.table es) (times to) ≡ Some d.stamp → AreStamped times base [] 0 to es → AreStamped times base [] 0 (to + 1) (es ++ e ∷ [])
   stamped_drawn to es e d some by is = stamped_join [] 0 to (to + 1) es (e ∷ []) is (omega arith) (λ n le. one_drawn es n to e d some le by)
 
+-- ---- horizons
+
+-- a stamp that is drawn, or a horizon
+abbrev pub marks_of : Act → Option Draw
+marks_of (Raised t h) = Some (draw t.0 h)
+marks_of act = draw_of act
+
+no_draw : (act : Act) → marks_of act ≡ None → draw_of act ≡ None
+no_draw (Raised t h) none = refl
+no_draw act none = none
+
+no_horizon : (lookback : ℕ) (last : ℕ → ℕ) (act : Act) → marks_of act ≡ None → IsBack lookback last act
+no_horizon lookback last (Raised t h) none = absurd (let z : Some (draw t.0 h) ≡ None = none in cc)
+no_horizon lookback last act none = tt
+
+drawn_back : (lookback : ℕ) (last : ℕ → ℕ) (act : Act) (d : Draw) → draw_of act ≡ Some d → IsBack lookback last act
+drawn_back lookback last (Raised t h) d some = absurd (let z : None ≡ Some d = some in cc)
+drawn_back lookback last act d some = tt
+
+-- an entry more
+pub back_more : (lookback : ℕ) (base : Base) (before es : List Entry) (e : Entry) → AreBack lookback base before es → IsBack lookback (λ t. last_of base t (before ++ es)) e.act → AreBack lookback base before (es ++ e ∷ [])
+unfolding AreBack
+back_more lookback base before [] e are one = (subst (λ (l : List Entry). IsBack lookback (λ t. last_of base t l) e.act) (append-nil before) one, tt)
+back_more lookback base before (x ∷ es) e are one = (are.0, back_more lookback base (before ++ x ∷ []) es e are.1 (subst (λ (l : List Entry). IsBack lookback (λ t. last_of base t l) e.act) (sym (append_assoc before (x ∷ []) es)) one))
+
 -- ---- of a server
 
-module _ {C : Type 0} (c : Ghosts C) (times : ℕ → ℕ) (base : Base) where
+module _ {C : Type 0} (c : Ghosts C) (times : ℕ → ℕ) (base : Base) (asked lookback : ℕ) where
   -- at the beginning
-  pub first_by_clock : (clock : C) → (IsTrue c.tells → (m : ℕ) → c.times clock m ≡ times m) → IsByClock c times base clock []
-  unfolding AreStamped
-  first_by_clock clock same = record { stamped = λ tells. (0, omega arith, λ m. same tells m ∙ ap times (omega arith)) }
+  pub first_by_clock : (clock : C) → (IsTrue c.tells → (m : ℕ) → c.times clock m ≡ times m) → lookback ≡ asked → IsByClock c times base asked lookback clock []
+  unfolding AreStamped AreBack
+  first_by_clock clock same as_asked = record { stamped = λ tells. (0, omega arith, λ m. same tells m ∙ ap times (omega arith)); back = tt; as_asked = as_asked }
 
-  module _ (clock : C) (es : List Entry) (is : IsByClock c times base clock es) where
+  module _ (clock : C) (es : List Entry) (is : IsByClock c times base asked lookback clock es) where
     -- where no entry came
-    pub same_by_clock : (es' : List Entry) → es' ≡ es → IsByClock c times base clock es'
-    same_by_clock es' same = subst (λ (l : List Entry). IsByClock c times base clock l) (sym same) is
+    pub same_by_clock : (es' : List Entry) → es' ≡ es → IsByClock c times base asked lookback clock es'
+    same_by_clock es' same = subst (λ (l : List Entry). IsByClock c times base asked lookback clock l) (sym same) is
+
+    back_then : (es' : List Entry) (e : Entry) → es' ≡ es ++ e ∷ [] → IsBack asked (λ t. last_of base t es) e.act → AreBack asked base [] es'
+    back_then es' e entries one = subst (λ (l : List Entry). AreBack asked base [] l) (sym entries) (back_more asked base [] es e is.back one)
 
     -- an entry came that draws no stamp
-    pub more_by_clock : (es' : List Entry) (e : Entry) → es' ≡ es ++ e ∷ [] → draw_of e.act ≡ None → IsByClock c times base clock es'
-    more_by_clock es' e entries none = record {
+    unmarked : (es' : List Entry) (e : Entry) → es' ≡ es ++ e ∷ [] → draw_of e.act ≡ None → IsBack asked (λ t. last_of base t es) e.act → IsByClock c times base asked lookback clock es'
+    unmarked es' e entries none one = record {
       stamped = λ tells. (let s = is.stamped tells in (s.0, subst (λ (l : List Entry). AreStamped times base [] 0 s.0 l) (sym entries) (stamped_more times base s.0 es e none s.1), s.2));
+      back = back_then es' e entries one;
+      as_asked = is.as_asked;
     }
 
+    -- and tells of no horizon
+    pub more_by_clock : (es' : List Entry) (e : Entry) → es' ≡ es ++ e ∷ [] → marks_of e.act ≡ None → IsByClock c times base asked lookback clock es'
+    more_by_clock es' e entries none = unmarked es' e entries (no_draw e.act none) (no_horizon asked (λ t. last_of base t es) e.act none)
+
+    -- or that one rose, within the lookback
+    pub raised_by_clock : (es' : List Entry) (seat calls : ℕ) (t : TableId) (h : ℕ) → es' ≡ es ++ record { seat = seat; calls = calls; act = Raised t h } ∷ [] → h ≤ last_of base t.0 es - lookback → IsByClock c times base asked lookback clock es'
+    raised_by_clock es' seat calls t h entries within = unmarked es' (record { seat = seat; calls = calls; act = Raised t h }) entries refl (let a = is.as_asked in omega (arith, within, a))
+
     -- where a definition wasn't written: no entry came, or the one that closes the server
-    pub unwritten_by_clock : (fault : CatalogFault) (es' : List Entry) (e : Entry) → (fault ≢ WriteFault → es' ≡ es) → (fault ≡ WriteFault → es' ≡ es ++ e ∷ []) → draw_of e.act ≡ None → IsByClock c times base clock es'
+    pub unwritten_by_clock : (fault : CatalogFault) (es' : List Entry) (e : Entry) → (fault ≢ WriteFault → es' ≡ es) → (fault ≡ WriteFault → es' ≡ es ++ e ∷ []) → marks_of e.act ≡ None → IsByClock c times base asked lookback clock es'
     unwritten_by_clock Full es' e kept shut none = same_by_clock es' (kept (λ is. absurd cc))
     unwritten_by_clock Memory es' e kept shut none = same_by_clock es' (kept (λ is. absurd cc))
     unwritten_by_clock WriteFault es' e kept shut none = more_by_clock es' e (shut refl) none
 
     -- the same behind a trail with more room
-    pub unwritten_entry_by_clock : (mid : List Entry) → mid ≡ es → (fault : CatalogFault) (e : Entry) (es' : List Entry) (late late' : Option Entry) (closed closed' : Option ℕ) (f : StepFault) → IsUnwritten fault e mid es' late late' closed closed' f → IsByClock c times base clock es'
+    pub unwritten_entry_by_clock : (mid : List Entry) → mid ≡ es → (fault : CatalogFault) (e : Entry) (es' : List Entry) (late late' : Option Entry) (closed closed' : Option ℕ) (f : StepFault) → IsUnwritten fault e mid es' late late' closed closed' f → IsByClock c times base asked lookback clock es'
     unwritten_entry_by_clock mid same fault e es' late late' closed closed' f u =
         let shut : Entry = record { seat = e.seat; calls = e.calls; act = Shut e.calls } in
         unwritten_by_clock fault es' shut (λ n. (u.kept n).0 ∙ same) (λ z. (u.shut z).0 ∙ ap (λ (xs : List Entry). xs ++ shut ∷ []) same) refl
 
     module _ (clock' : C) (rest : IsTrue c.tells → (m : ℕ) → c.times clock' m ≡ c.times clock (m + 1)) where
       -- the clock has told a number
-      pub read_by_clock : IsByClock c times base clock' es
+      pub read_by_clock : IsByClock c times base asked lookback clock' es
       read_by_clock = record {
         stamped = λ tells. (let s = is.stamped tells in (s.0 + 1, stamped_wider times base [] 0 s.0 (s.0 + 1) es (omega arith) s.1, λ m. rest tells m ∙ (s.2 (m + 1) ∙ ap times (omega arith))));
+        back = is.back;
+        as_asked = is.as_asked;
       }
 
       -- and by that a stamp was drawn
-      pub drawn_by_clock : (es' : List Entry) (e : Entry) (d : Draw) → es' ≡ es ++ e ∷ [] → draw_of e.act ≡ Some d → (IsTrue c.tells → drawn_stamp (last_of base d.table es) (c.times clock 0) ≡ Some d.stamp) → IsByClock c times base clock' es'
+      pub drawn_by_clock : (es' : List Entry) (e : Entry) (d : Draw) → es' ≡ es ++ e ∷ [] → draw_of e.act ≡ Some d → (IsTrue c.tells → drawn_stamp (last_of base d.table es) (c.times clock 0) ≡ Some d.stamp) → IsByClock c times base asked lookback clock' es'
       drawn_by_clock es' e d entries some by = record {
         stamped = λ tells.
             let s = is.stamped tells in
@@ -110,4 +152,6 @@ module _ {C : Type 0} (c : Ghosts C) (times : ℕ → ℕ) (base : Base) where
               subst (λ (l : List Entry). AreStamped times base [] 0 (s.0 + 1) l) (sym entries) (stamped_drawn times base s.0 es e d some at s.1),
               λ m. rest tells m ∙ (s.2 (m + 1) ∙ ap times (omega arith)),
             );
+        back = back_then es' e entries (drawn_back asked (λ t. last_of base t es) e.act d some);
+        as_asked = is.as_asked;
       }

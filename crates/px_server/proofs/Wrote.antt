@@ -39,7 +39,8 @@ use Rattle.px_batching.proofs.May.{stamp_is}
 use Rattle.px_batching.proofs.Pairs.{tied_at, to_tied}
 use Rattle.px_batching.proofs.Shown.{wrote_shown, wrote_steps}
 use Rattle.px_server.proofs.Built.{IsUnbased, built_told, run_row}
-use Rattle.px_server.proofs.Handed.{RowsGo, RowsShow, RowsThen, ToRows}
+use Rattle.px_server.proofs.Handed.{RowsGo, RowsShow, RowsThen}
+use Rattle.px_server.proofs.Regions.{ToRows}
 
 module _ {D : Type 0} (d : Ghosts D) (b : Base) (es : List Entry) (g g' : Group) (old new : D) (m : ℕ) (phase : Phase) (o : HandsPuts d g g' old new m phase) (e : Entry) (may : MayCome b es e) (act : e.act ≡ Wrote g.table.id o.batch.batch.stamp (rows_of o.batch.batch.changes)) where
   abbrev es' : List Entry

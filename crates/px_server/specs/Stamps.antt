@@ -1,9 +1,9 @@
--- The stamps of a trail, by the clock.
-use Rattle.std.specs.Prelude.{◌≡◌, ◌<◌, ◌≤◌, ◌+◌, ◌++◌, ◌∷◌, [], ℕ, IsTrue, if◌then◌else◌, List, Option, None, Some}
+-- The stamps of a trail, by the clock, and its horizons, by the lookback.
+use Rattle.std.specs.Prelude.{◌≡◌, ◌<◌, ◌≤◌, ◌-◌, ◌+◌, ◌++◌, ◌∷◌, [], ℕ, IsTrue, if◌then◌else◌, List, Option, None, Some}
 use Rattle.px_outside.specs.declared.clock.Clock.{Ghosts}
 use Rattle.px_trail.specs.Trail.{Base, draws, last_of}
 use Rattle.px_trail.specs.declared.entry.Act.{Act}
-use Rattle.px_trail.specs.declared.entry.Act.TheVariants.{Begun, IndexMade, IndexState}
+use Rattle.px_trail.specs.declared.entry.Act.TheVariants.{Begun, IndexMade, IndexState, Raised}
 use Rattle.px_trail.specs.declared.entry.Entry.{Entry}
 use Rattle.px_turns.specs.Turns.{drawn_stamp}
 
@@ -33,6 +33,19 @@ unfoldable pub AreStamped : (times : ℕ → ℕ) → Base → (before : List En
 AreStamped times base before from to [] = from ≤ to
 AreStamped times base before from to (e ∷ es) = IsStamped times (λ t. last_of base t before) from to (draw_of e.act) (λ n. AreStamped times base (before ++ e ∷ []) n to es)
 
--- So far all stamps are by the clock, which had these numbers to tell at the beginning, and has told some of them.
-pub record IsByClock {C : Type 0} (c : Ghosts C) (times : ℕ → ℕ) (base : Base) (clock : C) (es : List Entry) : Type 0 where
+-- A horizon that rises is at most the table's last stamp less the lookback
+abbrev pub IsBack : ℕ → (last : ℕ → ℕ) → Act → Type 0
+IsBack lookback last (Raised t h) = h ≤ last t.0 - lookback
+IsBack lookback last act = Unit {0}
+
+-- So is each of these entries, behind those before
+unfoldable pub AreBack : ℕ → Base → (before : List Entry) → List Entry → Type 0
+AreBack lookback base before [] = Unit {0}
+AreBack lookback base before (e ∷ es) = IsBack lookback (λ t. last_of base t before) e.act × AreBack lookback base (before ++ e ∷ []) es
+
+-- So far all stamps are by the clock, which had these numbers to tell at the beginning, and has told some of them; and all horizons are by the lookback
+-- that was asked for.
+pub record IsByClock {C : Type 0} (c : Ghosts C) (times : ℕ → ℕ) (base : Base) (asked lookback : ℕ) (clock : C) (es : List Entry) : Type 0 where
   pub stamped : IsTrue c.tells → (n : ℕ) × AreStamped times base [] 0 n es × ((m : ℕ) → c.times clock m ≡ times (m + n))
+  pub back : AreBack asked base [] es
+  pub as_asked : lookback ≡ asked

@@ -4,7 +4,7 @@ ghost use Rattle.px_server.specs.Others.{Beginning};
 
 use std::marker::Brand;
 
-/// That what was opened is sound, what the disk's promise rests on, and what the clock has to tell. Each call of a program picks them, beside
+/// That what was opened is sound, what the disk's promise rests on, what the clock has to tell, and how long versions are kept. Each call of a program picks them, beside
 /// `Based`.
 pub trait Founded {
     /// What was opened is sound.
@@ -18,6 +18,9 @@ pub trait Founded {
 
     /// The numbers that the clock would tell from the beginning on.
     ghost times: { ℕ → ℕ };
+
+    /// How long versions are kept.
+    ghost lookback: { ℕ };
 }
 
 impl Founded for Brand {
@@ -28,4 +31,6 @@ impl Founded for Brand {
     ghost began = { record { moment = 0; left = λ file bytes. Unit {0}; seen = λ file. [] } };
 
     ghost times = { λ n. 0 };
+
+    ghost lookback = { 0 };
 }

@@ -28,6 +28,6 @@ mod upkeep;
 mod writing;
 
 pub use founded::Founded;
-pub use laws::{law_flushed, law_points};
+pub use laws::{law_compacted, law_flushed, law_points};
 pub use opening::law_starts;
 pub use server::Server;

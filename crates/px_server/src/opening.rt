@@ -105,7 +105,8 @@ impl<D: CountsCalls, C: Clock + Drop, B: Based + Founded> Server<D, C, B> {
         requires told { B.premise → IsTrue D.tells → B.sound }
         requires began { BeginsAt ⟦<D as Disk>⟧ B.began disk }
         requires times { IsTrue C.tells → (n : ℕ) → C.times clock n ≡ B.times n }
-        ensures ok { IfOk result (λ s. s ≡ record { seat = 1; entries = []; late = None; closed = None; logged = map logged_in opened.groups.items; groups = opened.groups.items }) }
+        requires lookback { lookback ≡ B.lookback }
+        ensures ok { IfOk result (λ s. s ≡ record { seat = 1; entries = []; late = None; closed = None; logged = map logged_in opened.groups.items; groups = opened.groups.items; lookback = lookback; raising = None }) }
         ensures refused { IfErr result (λ back. back ≡ disk) }
     {
         let Opened {
@@ -127,6 +128,7 @@ impl<D: CountsCalls, C: Clock + Drop, B: Based + Founded> Server<D, C, B> {
                     disk,
                     clock,
                     lookback,
+                    raising: None,
                     catalog,
                     standing,
                     groups,

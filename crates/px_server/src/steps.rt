@@ -28,7 +28,7 @@ impl<D: CountsCalls, C: Clock, B: Based + Founded> Steps for Server<D, C, B> {
     ghost use Rattle.px_server.specs.CallsLeft.{calls_left};
     ghost use Rattle.px_server.specs.Shown.{known_by};
     ghost use Rattle.px_server.specs.Sights.{have_doubt};
-    ghost use Rattle.px_server.specs.Upkeep.{AreOrdered, HaveFlushed};
+    ghost use Rattle.px_server.specs.Upkeep.{IsDoneBy, IsOrderedBy};
 
     ghost known = { λ s. known_by B.base B.damaged s };
 
@@ -43,9 +43,9 @@ impl<D: CountsCalls, C: Clock, B: Based + Founded> Steps for Server<D, C, B> {
 
     ghost sound = { B.sound };
 
-    ghost ordered = { λ s. AreOrdered s.groups };
+    ghost ordered = { λ s job. IsOrderedBy s job };
 
-    ghost done = { λ s. HaveFlushed s.groups };
+    ghost done = { λ s job. IsDoneBy s job };
 
     fn find(&mut self, name: &Name) -> Result<Found, StepFault> {
         Server::find(self, name)

@@ -470,7 +470,7 @@ E05 no such table: T
 !autocommit maybe
 !commit now
 !flush now
-!compact
+!compact now
 =>E01 syntax at byte 7
 E05 no such table: NOPE
 E01 syntax at byte 11
@@ -478,7 +478,7 @@ E01 syntax at byte 11
 E01 syntax at byte 12
 E01 syntax at byte 8
 E01 syntax at byte 7
-E02 left out: FORM
+E01 syntax at byte 9
 ";
 
 /// Whether each script of a table ends so and prints its text.

@@ -1,10 +1,12 @@
 //! Tests of px_program over its one call, on disks in memory: what scripts print, each call of the disk, the input or the output
-//! failing, stops at each call, clocks that jump, folders that aren't of the format, sessions in rounds, and changes
-//! that are held.
+//! failing, stops at each call, clocks that jump, folders that aren't of the format, sessions in rounds, changes
+//! that are held, flushes, and compactions.
 #![tactic(auto)]
 
 #[cfg(test)]
 mod clocks;
+#[cfg(test)]
+mod compactions;
 #[cfg(test)]
 mod deletes;
 #[cfg(test)]

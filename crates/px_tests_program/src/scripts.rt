@@ -148,7 +148,8 @@ fn what_is_not_built_is_left_out_piece_by_piece(rt: HostRuntime) {
     let alloc = rt.alloc();
     let split = "CREATE TABLE T (A BIGINT PRIMARY KEY) SPLIT ON (5)";
     assert!(rt; is_refused(&rt, alloc, split, FORM) == Ok(true));
-    let script = "SELECT * FROM KV;\n  !compact\nSELECT * FROM KV;\n";
+    let script =
+        "SELECT * FROM KV;\nCREATE TABLE T (A BIGINT PRIMARY KEY) SPLIT ON (5);\nSELECT * FROM KV;\n";
     let text = "0 rows selected\nE02 left out: FORM\n0 rows selected\n";
     assert!(rt; ends(&rt, alloc, script, Status::Refused, text) == Ok(true));
 }

@@ -18,7 +18,7 @@ use std::marker::Brand;
 use std::sync::Wait;
 use std::thread::Threads;
 
-/// How long versions are kept, in milliseconds.
+/// How long versions are kept, in milliseconds, where nothing else is said.
 const LOOKBACK: u64 = 259_200_000;
 
 /// What a run left, and what its sessions were answered.
@@ -115,6 +115,7 @@ fn run_over<
     gate: &G,
     disk: D,
     clock: C,
+    lookback: u64,
     opened: Opened,
     script: &Script,
     schedule: Option<&[u32]>,
@@ -125,8 +126,9 @@ fn run_over<
     requires premise { B.premise → ⊥ }
     requires began { BeginsAt ⟦<D as Disk>⟧ B.began disk }
     requires times { IsTrue C.tells → (n : ℕ) → C.times clock n ≡ B.times n }
+    requires lookback { lookback ≡ B.lookback }
 {
-    match Server::<D, C, B>::over(alloc, disk, clock, LOOKBACK, opened) {
+    match Server::<D, C, B>::over(alloc, disk, clock, lookback, opened) {
         Ok(server) => Ok(served(rt, alloc, gate, server, script, schedule)),
         Err(disk) => Err(disk),
     }
@@ -144,13 +146,16 @@ fn run_opened<
     gate: &G,
     disk: D,
     clock: C,
+    lookback: u64,
     opened: Opened,
     script: &Script,
     schedule: Option<&[u32]>,
 ) -> Result<Ran<D>, D>
     requires right { IsOpenedRight opened }
 {
-    run_over::<R, G, D, C, Brand>(rt, alloc, gate, disk, clock, opened, script, schedule)
+    run_over::<R, G, D, C, Brand>(
+        rt, alloc, gate, disk, clock, lookback, opened, script, schedule,
+    )
 }
 
 /// Opens the folder, and runs a script on its tables. The disk comes back where a call of it failed.
@@ -159,6 +164,7 @@ fn run_on<R: Threads + Wait + Sync, G: Gate + Sync, D: CountsCalls + Send>(
     alloc: Global,
     gate: &G,
     mut disk: D,
+    lookback: u64,
     script: &Script,
     schedule: Option<&[u32]>,
 ) -> Result<Ran<D>, D> {
@@ -169,6 +175,7 @@ fn run_on<R: Threads + Wait + Sync, G: Gate + Sync, D: CountsCalls + Send>(
             gate,
             disk,
             FixedClock(0),
+            lookback,
             opened,
             script,
             schedule,
@@ -205,12 +212,21 @@ fn run_through<R: Threads + Wait + Sync, G: Gate + Sync>(
     alloc: Global,
     gate: &G,
     disk: MemDisk,
+    lookback: u64,
     script: &Script,
     schedule: Option<&[u32]>,
 ) -> Outcome
     requires fresh { (calls_of disk ≡ 0) × (faults_of disk ≡ 0) × (first_fault_of disk ≡ 0) }
 {
-    match run_on(rt, alloc, gate, Metered::new(disk), script, schedule) {
+    match run_on(
+        rt,
+        alloc,
+        gate,
+        Metered::new(disk),
+        lookback,
+        script,
+        schedule,
+    ) {
         Ok(
             Ran {
                 disk,
@@ -242,7 +258,7 @@ pub fn run_read<R: Threads + Wait + Sync>(
 ) -> Outcome
     requires fresh { (calls_of disk ≡ 0) × (faults_of disk ≡ 0) × (first_fault_of disk ≡ 0) }
 {
-    run_through(rt, alloc, &NoGate, disk, script, Some(schedule))
+    run_through(rt, alloc, &NoGate, disk, LOOKBACK, script, Some(schedule))
 }
 
 /// What a script prints on an empty folder in memory, if all of it is run: in threads through a gate, or by a schedule.
@@ -261,7 +277,16 @@ pub fn run_whole<R: Threads + Wait + Sync, G: Gate + Sync>(
         transcripts,
         printed,
         whole,
-    } = run_through(rt, alloc, gate, MemDisk::new(alloc), &script, schedule).ran()?;
+    } = run_through(
+        rt,
+        alloc,
+        gate,
+        MemDisk::new(alloc),
+        LOOKBACK,
+        &script,
+        schedule,
+    )
+    .ran()?;
     drop(disk);
     drop(trail);
     drop(late);
@@ -288,4 +313,22 @@ pub fn run<R: Threads + Wait + Sync>(
         return Outcome::Lacked;
     };
     run_read(rt, alloc, disk, &script, schedule)
+}
+
+/// A run of a script on a disk that had no call yet, in which versions are kept so long.
+pub fn run_back<R: Threads + Wait + Sync>(
+    rt: &R,
+    alloc: Global,
+    disk: MemDisk,
+    lookback: u64,
+    text: &str,
+    schedule: &[u32],
+) -> Outcome
+    requires fresh { (calls_of disk ≡ 0) × (faults_of disk ≡ 0) × (first_fault_of disk ≡ 0) }
+{
+    let Ok(script) = read_script(alloc, text.as_bytes()) else {
+        drop(disk);
+        return Outcome::Lacked;
+    };
+    run_through(rt, alloc, &NoGate, disk, lookback, &script, Some(schedule))
 }

@@ -43,9 +43,9 @@ impl Steps for Bare {
 
     ghost sound = { Unit {0} };
 
-    ghost ordered = { λ _. Unit {0} };
+    ghost ordered = { λ _ _. Unit {0} };
 
-    ghost done = { λ _. Unit {0} };
+    ghost done = { λ _ _. Unit {0} };
 
     fn find(&mut self, _name: &Name) -> Result<Found, StepFault> {
         self.count();

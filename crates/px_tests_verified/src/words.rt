@@ -57,7 +57,7 @@ fn other_words_are_no_command(rt: HostRuntime) {
         "verify d --tables ORDERS --index BY_CUST --kind ONLY",
         "VERIFY d --table ORDERS --index BY_CUST --kind ONLY",
         "run d --kind ONLY",
-        "run d --lookback 2",
+        "run d --lookback 9223372036854775808",
     ] {
         assert!(rt;
             say(&rt, alloc, words, Status::BadWords, "") == Ok(true),

@@ -1,10 +1,10 @@
 // Steps of a few batches and queries, in orders and with stops that were worked out by hand.
 use px_outside::{Choice, MemDisk};
 use px_reply::{Item, Transcript};
-use px_tests_runs::runs::{disk_of, run};
+use px_tests_runs::runs::{disk_of, run, run_back};
 use px_trail::{Act, Trail};
 use px_values::Value;
-use std::alloc::Global;
+use std::alloc::{AllocError, Global};
 use std::sync::Wait;
 use std::thread::Threads;
 
@@ -362,6 +362,92 @@ fn a_late_repair_brings_no_row_back(rt: HostRuntime) {
     let fixed = repairs(&ran.trail);
     drop(ran);
     assert!(rt; right && removed && fixed == 1, "{right} {removed} {fixed}");
+}
+
+/// The same, where the table is compacted as well before the repair comes; and then what is there, before and behind another compaction.
+const KEPT: &str = "UPSERT INTO ORDERS (ID, CUST, AMT) VALUES (1,'bo',5);
+@2 UPSERT INTO ORDERS (ID, CUST, AMT) VALUES (1,'al',7);
+---
+SELECT ID, CUST, AMT FROM ORDERS WHERE CUST = 'al';
+@2 DELETE FROM ORDERS WHERE ID = 1;
+@2 !compact
+---
+SELECT ID, CUST, AMT FROM ORDERS WHERE CUST = 'al';
+!scn 4
+SELECT ID, CUST, AMT FROM ORDERS WHERE CUST = 'al';
+!scn off
+!compact
+SELECT ID, CUST, AMT FROM ORDERS WHERE CUST = 'al';
+SELECT ID, CUST, AMT FROM ORDERS WHERE CUST = 'bo';
+!scn 4
+SELECT ID, CUST, AMT FROM ORDERS WHERE CUST = 'al';
+";
+
+const KEPT_PRINTED: &str = "1 row affected
+@2
+1 row affected
+1, 'al', 7
+1 row selected
+@2
+1 row affected
+compacted
+0 rows selected
+scn 4
+1, 'al', 7
+1 row selected
+scn off
+compacted
+0 rows selected
+0 rows selected
+scn 4
+E12 scn below horizon 4
+";
+
+/// The steps of a query's beginning, and then more of the other session than it has.
+fn late_steps(alloc: Global) -> Result<Vec<u32>, AllocError> {
+    let mut steps = Vec::new(alloc);
+    for session in [1, 1, 2, 2, 1, 1] {
+        steps.push(session)?;
+    }
+    for _step in 0..400 {
+        steps.push(2)?;
+    }
+    Ok(steps)
+}
+
+/// The horizons that rose in a run, and its repairs, in order: a repair has no horizon.
+fn rises(alloc: Global, trail: &Trail) -> Result<Vec<Option<u64>>, AllocError> {
+    let mut found = Vec::new(alloc);
+    for place in 0..trail.len() {
+        match &trail.entry(place).act {
+            Act::Raised { horizon, .. } => found.push(Some(*horizon))?,
+            Act::Fixed { .. } => found.push(None)?,
+            _ => {}
+        }
+    }
+    Ok(found)
+}
+
+// Nothing is kept but what is current, and what the query's point sees, at stamp 3: the horizon doesn't pass it. So the version that it repairs
+// is still there. Behind the second compaction the other version is repaired, of which no query asked before.
+#[test]
+fn a_compaction_keeps_what_a_query_is_to_repair(rt: HostRuntime) -> Result<(), AllocError> {
+    let alloc = rt.alloc();
+    let Some(disk) = prepared(&rt, alloc) else {
+        panic!(rt; "not prepared")
+    };
+    let steps = late_steps(alloc)?;
+    let Some(ran) = run_back(&rt, alloc, disk.image(), 0, KEPT, &steps).ran() else {
+        panic!(rt; "not run")
+    };
+    let right = ran.printed.held() == KEPT_PRINTED.as_bytes();
+    let rises = rises(alloc, &ran.trail)?;
+    drop(ran);
+    assert!(rt;
+        right && matches!(rises.as_slice(), [Some(3), None, Some(4), None]),
+        "{right}"
+    );
+    Ok(())
 }
 
 const DROPPING: &str = "SELECT ID, CUST, AMT FROM ORDERS WHERE CUST = 'al';

@@ -23,7 +23,7 @@ use Rattle.px_opening.specs.declared.fault.OpenFault.TheVariants as fault
 use Rattle.px_rounds.specs.Written.{IsTextWritten}
 use Rattle.px_server.specs.Kept.{HasFailed, has_told}
 use Rattle.px_server.specs.Others.{Beginning, OthersStay, beginning_at}
-use Rattle.px_server.specs.Stamps.{AreStamped}
+use Rattle.px_server.specs.Stamps.{AreBack, AreStamped}
 use Rattle.px_server.specs.Started.{HoldsOwn, StandsBy, StartsSound}
 use Rattle.px_program.specs.Answers.{AnswersJob, printed_for}
 use Rattle.px_program.specs.Run.{IsOrigin, ReadsSound, known_over}
@@ -56,10 +56,11 @@ pub record IsOpenedNow {D : Type 0} (d : DiskGhosts D) (disk : D) (o : Opened) :
 abbrev pub StoodBefore : {D : Type 0} → DiskGhosts D → D → Opened → Type 0
 StoodBefore d disk o = (moment : ℕ) (image : Image) → IsLeft d disk moment image → StandsFor image (folder_in o)
 
--- A job was done over this base, while the clock had these numbers to tell. It is told what some of the stops leave.
-pub record RanOver {D C O : Type 0} (d : DiskGhosts D) (c : ClockGhosts C) (k : SinkGhosts O) (base : Base) (sound premise : Type 0) (began : Beginning) (Left : D → ℕ → Image → Type 0) (times : ℕ → ℕ) (job : Job) (out out' : O) (outcome : Outcome D) : Type 0 where
+-- A job was done over this base, while the clock had these numbers to tell, and versions were kept so long. It is told what some of the stops leave.
+pub record RanOver {D C O : Type 0} (d : DiskGhosts D) (c : ClockGhosts C) (k : SinkGhosts O) (base : Base) (sound premise : Type 0) (began : Beginning) (Left : D → ℕ → Image → Type 0) (times : ℕ → ℕ) (lookback : ℕ) (job : Job) (out out' : O) (outcome : Outcome D) : Type 0 where
   pub legal : IsLegal base outcome.trail.entries
   pub stamped : IsTrue c.tells → (n : ℕ) × AreStamped times base [] 0 n outcome.trail.entries
+  pub back : AreBack lookback base [] outcome.trail.entries
   pub seat : ℕ
   pub sink_failed : Bool
   pub replied : AnswersJob sound (known_over base seat outcome.trail.entries) 0 job outcome.transcripts sink_failed outcome.memory
@@ -87,8 +88,8 @@ pub record LacksServer {D O : Type 0} (d : DiskGhosts D) (disk : D) (out out' : 
   pub back : outcome.disk ≡ disk
   pub nothing : LeavesNothing out out' outcome
 
-abbrev pub RanOpened : {D C O : Type 0} → DiskGhosts D → ClockGhosts C → SinkGhosts O → Base → (sound premise : Type 0) → Beginning → (D → ℕ → Image → Type 0) → (times : ℕ → ℕ) → Job → D → O → O → Outcome D → Type 0
-RanOpened d c k base sound premise began Left times job disk out out' outcome = RanOver d c k base sound premise began Left times job out out' outcome ⊎ LacksServer d disk out out' outcome
+abbrev pub RanOpened : {D C O : Type 0} → DiskGhosts D → ClockGhosts C → SinkGhosts O → Base → (sound premise : Type 0) → Beginning → (D → ℕ → Image → Type 0) → (times : ℕ → ℕ) → (lookback : ℕ) → Job → D → O → O → Outcome D → Type 0
+RanOpened d c k base sound premise began Left times lookback job disk out out' outcome = RanOver d c k base sound premise began Left times lookback job out out' outcome ⊎ LacksServer d disk out out' outcome
 
 -- a moment from this one on, and any one where that is true
 abbrev pub at_least : ℕ → (all : Type 0) → ℕ → Type 0
@@ -116,14 +117,14 @@ pub record Unopened {D O : Type 0} (d : DiskGhosts D) (disk : D) (out out' : O) 
   pub recovers : (starts : StartsSound d disk) → (moment : ℕ) (image : Image) → IsLeft d outcome.disk moment image → Recovers (base_of starts.sound.folder) [] None moment image
 
 -- a job was done over the folder that was there, which was opened with so many calls
-pub record RanFolder {D C O : Type 0} (d : DiskGhosts D) (c : ClockGhosts C) (k : SinkGhosts O) (job : Job) (clock : C) (disk : D) (out out' : O) (outcome : Outcome D) : Type 0 where
+pub record RanFolder {D C O : Type 0} (d : DiskGhosts D) (c : ClockGhosts C) (k : SinkGhosts O) (lookback : ℕ) (job : Job) (clock : C) (disk : D) (out out' : O) (outcome : Outcome D) : Type 0 where
   pub folder : FolderData
   pub origin : IsOrigin d disk folder
   pub opened : ℕ
   pub soon : IsTrue d.tells → (calls : ℕ → ℕ) → AreOpenedBy (d.seen disk) (region_numbers folder.standing) calls → opened ≤ d.calls disk + (17 + sum_by calls (region_numbers folder.standing))
   pub within : opened ≤ d.calls outcome.disk
   pub before : (moment file : ℕ) (bytes : List ℕ) → d.calls disk ≤ moment → moment < opened → ¬ catalogue_files file → d.left outcome.disk moment file bytes → d.left disk (d.calls disk) file bytes
-  pub over : RanOver d c k (base_of folder) (IsSoundFolder folder) (ReadsSound d disk) (beginning_at d disk) (IsLeftSince d opened (StartsSound d disk)) (c.times clock) job out out' outcome
+  pub over : RanOver d c k (base_of folder) (IsSoundFolder folder) (ReadsSound d disk) (beginning_at d disk) (IsLeftSince d opened (StartsSound d disk)) (c.times clock) lookback job out out' outcome
 
-abbrev pub RanOn : {D C O : Type 0} → DiskGhosts D → ClockGhosts C → SinkGhosts O → Job → C → D → O → O → Outcome D → Type 0
-RanOn d c k job clock disk out out' outcome = RanFolder d c k job clock disk out out' outcome ⊎ Unopened d disk out out' outcome
+abbrev pub RanOn : {D C O : Type 0} → DiskGhosts D → ClockGhosts C → SinkGhosts O → (lookback : ℕ) → Job → C → D → O → O → Outcome D → Type 0
+RanOn d c k lookback job clock disk out out' outcome = RanFolder d c k lookback job clock disk out out' outcome ⊎ Unopened d disk out out' outcome

@@ -9,4 +9,4 @@ pub returns-in-Over-clause-turns : goal.returns-in-Over-clause-turns
 returns-in-Over-clause-turns g c = λ before own f. order_is_over g.S.Steps.sound before c.args.asked own c.args.run _ _ _ c.ordered.result f c.in-Over.ensures.turns (rw c.job-job.ensures at c.ordered.ensures)
 
 pub returns-in-Over-clause-done : goal.returns-in-Over-clause-done
-returns-in-Over-clause-done g c = λ tells. done_then c.args.asked c.job-job.result (g.S.Steps.ordered c.step.new.s) (g.S.Steps.done c.step.new.s) c.args.run _ c.ordered.result c.in-Over.ensures.leads c.ordered.ensures tells
+returns-in-Over-clause-done g c = λ job tells. done_then c.args.asked (g.S.Steps.ordered c.step.new.s) (g.S.Steps.done c.step.new.s) c.args.run _ c.ordered.result c.in-Over.ensures.leads (rw c.job-job.ensures at c.ordered.ensures) job tells

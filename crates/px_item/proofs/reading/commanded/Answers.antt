@@ -1,7 +1,7 @@
 use Rattle.std.proofs.Common.{refl, ◌∙◌, ap, not, true, false}
 use Rattle.px_lex.specs.Script.{seen_piece}
 use Rattle.px_commands.specs.declared.command.Command.TheVariants as commands
-use Rattle.px_item.proofs.Starting.{commanded_so, none_is, uncommanded_so}
+use Rattle.px_item.proofs.Starting.{commanded_so, none_is}
 use Rattle.px_item.proofs.reading.commanded.Goals as goal
 
 pub returns-then-is_none : goal.returns-then-is_none
@@ -21,6 +21,3 @@ pub returns-in-Autocommit-false : goal.returns-in-Autocommit-false
 returns-in-Autocommit-false c =
     let s = c.switched-in-Autocommit-false in
     commanded_so c.args.settings (seen_piece c.args.piece) c.args.command (commands.Autocommit false) s.result c.args.first c.requires (c.in-Autocommit-false.is ∙ ap commands.Autocommit c.in-Autocommit-false.field-0-test) s.ensures.says s.ensures.first
-
-pub returns-in-Compact : goal.returns-in-Compact
-returns-in-Compact c = uncommanded_so c.args.settings (seen_piece c.args.piece) c.args.command commands.Compact c.refused.result c.args.first c.requires c.in-Compact.is refl c.refused.ensures.says c.refused.ensures.first

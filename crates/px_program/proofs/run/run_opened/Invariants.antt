@@ -10,7 +10,7 @@ abbrev pub ghosts-run_since-B-Based : goal.ghosts-run_since-B-Based
 ghosts-run_since-B-Based g a = record { base = base_of (folder_in a.opened); damaged = undamaged }
 
 abbrev pub ghosts-run_since-B-Founded : goal.ghosts-run_since-B-Founded
-ghosts-run_since-B-Founded g a = record { sound = IsSoundFolder (folder_in a.opened); premise = IsTrue g.D.Disk.tells → IsOpenedNow g.D.Disk a.disk a.opened; began = beginning_at g.D.Disk a.disk; times = g.C.Clock.times a.clock }
+ghosts-run_since-B-Founded g a = record { sound = IsSoundFolder (folder_in a.opened); premise = IsTrue g.D.Disk.tells → IsOpenedNow g.D.Disk a.disk a.opened; began = beginning_at g.D.Disk a.disk; times = g.C.Clock.times a.clock; lookback = a.lookback }
 
 abbrev pub ghosts-run_since-B-Since : goal.ghosts-run_since-B-Since
 ghosts-run_since-B-Since g a = record { from = g.D.Disk.calls a.disk; all = StoodBefore g.D.Disk a.disk a.opened; was = λ moment file bytes. g.D.Disk.left a.disk moment file bytes }

@@ -15,6 +15,7 @@ returns-in-Ok g c =
     inl (record {
       legal = subst (λ es. IsLegal b es) (sym f.entries) s.ensures.goes.single.legal;
       stamped = f.stamped;
+      back = f.back;
       seat = r.server.seat;
       sink_failed = r.sink_failed;
       replied = subst (λ es. AnswersJob sound (known_over b r.server.seat es) 0 job r.transcripts r.sink_failed r.memory) (sym f.entries)

@@ -30,6 +30,7 @@ returns-clause-ran g c =
     let k = g.O.Sink in
     let clock = g.C.Clock in
     let times = g.B.Founded.times in
+    let lookback = g.B.Founded.lookback in
     let s = g.B.Since in
     let b = g.B.Based.base in
     let sound = g.B.Founded.sound in
@@ -38,7 +39,7 @@ returns-clause-ran g c =
     let o = c.run_over.result in
     let back = c.map_disk.ensures.disk.0 in
     let within = subst (λ x. s.from ≤ d.calls x) back c.map_disk.ensures.disk.1.0 in
-    let ran = subst (λ x. RanOpened (later d (at_least s.from s.all)) clock k b sound given began (IsLeft (later d (at_least s.from s.all))) times c.args.job x c.args.out.now c.run_over.new.out o) c.new-later.ensures c.run_over.ensures in
+    let ran = subst (λ x. RanOpened (later d (at_least s.from s.all)) clock k b sound given began (IsLeft (later d (at_least s.from s.all))) times lookback c.args.job x c.args.out.now c.run_over.new.out o) c.new-later.ensures c.run_over.ensures in
     let same = c.map_disk.ensures.rest ∙ ap (λ x. with_disk x o) back in
-    subst (λ x. RanOpened d clock k b sound given began (IsLeftSince d s.from s.all) times c.args.job c.args.disk c.args.out.now c.run_over.new.out x) (sym same)
-    (ran_later d (g.met.D.Disk g.world.𝓛 g.world.𝓜 g.world.𝓡 ((λ s x. x), (λ x. x), (λ x. x), λ x. x)).up_to_now s.from s.all clock k b sound given began times c.args.job c.args.disk c.args.out.now c.run_over.new.out o within (c.requires.from ∙ sym c.requires.began.moment) ran)
+    subst (λ x. RanOpened d clock k b sound given began (IsLeftSince d s.from s.all) times lookback c.args.job c.args.disk c.args.out.now c.run_over.new.out x) (sym same)
+    (ran_later d (g.met.D.Disk g.world.𝓛 g.world.𝓜 g.world.𝓡 ((λ s x. x), (λ x. x), (λ x. x), λ x. x)).up_to_now s.from s.all clock k b sound given began times lookback c.args.job c.args.disk c.args.out.now c.run_over.new.out o within (c.requires.from ∙ sym c.requires.began.moment) ran)

@@ -48,7 +48,7 @@ returns-clause-refused g c =
     subst (λ (k : Known). IfErr c.upkeep-reply.result (Refuses (upkeep_cause) old k)) (sym new) (grows.if_err _ _ c.upkeep-reply.result (λ f h. grows.refuses-shared (upkeep_cause) old (g.S.Steps.known c.act_as.new.self) (g.S.Steps.known c.upkeep-reply.new.self) f (shares.upkeep_shared) refl e.passes h) c.upkeep-reply.ensures.refused)
 
 pub returns-clause-done : goal.returns-clause-done
-returns-clause-done g c = grows.if_ok _ _ c.upkeep-reply.result (λ work h idle. (c.upkeep-reply.new.self, h idle, sym c.leave.ensures.seen)) c.upkeep-reply.ensures.done
+returns-clause-done g c = grows.if_ok _ _ c.upkeep-reply.result (λ work h idle job. (c.upkeep-reply.new.self, h idle job, sym c.leave.ensures.seen)) c.upkeep-reply.ensures.done
 
 pub returns-clause-still : goal.returns-clause-still
 returns-clause-still g c = grows.if_ok _ _ c.upkeep-reply.result (λ x h alone. grows.not_alone alone) c.upkeep-reply.ensures.ok

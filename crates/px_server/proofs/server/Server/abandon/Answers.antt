@@ -15,7 +15,7 @@ unreachable-requires g c =
     let s = c.self.inside in
     let b = g.B.Based.base in
     let told = c.self.invariant.0.told in
-    let can : CanAbandon (known_by b g.B.Based.damaged (shown_of s.seat s.trail.entries s.late s.closed s.groups.items)) c.args.t = subst (λ (v : Shown). CanAbandon (known_by b g.B.Based.damaged v) c.args.t) (sym c.self.view_is) c.requires in
+    let can : CanAbandon (known_by b g.B.Based.damaged (shown_of s.seat s.trail.entries s.late s.closed s.groups.items s.lookback s.raising)) c.args.t = subst (λ (v : Shown). CanAbandon (known_by b g.B.Based.damaged v) c.args.t) (sym c.self.view_is) c.requires in
     let x = left_running s.trail.entries s.seat c.args.t.table.0 c.args.t.stamp can.1 in
     none_running b s.trail.entries told.legal c.args.t.table.0 c.args.t.stamp x.0 x.1.0 x.1.1 (lacks b s.trail.entries s.standing told.agrees c.args.t.table.0 c.in_default.ensures.none)
 
@@ -24,7 +24,7 @@ invariant_of-self g c =
     let s = c.self.inside in
     let b = g.B.Based.base in
     let kept = c.self.invariant.0 in
-    let can : CanAbandon (known_by b g.B.Based.damaged (shown_of s.seat s.trail.entries s.late s.closed s.groups.items)) c.args.t = subst (λ (v : Shown). CanAbandon (known_by b g.B.Based.damaged v) c.args.t) (sym c.self.view_is) c.requires in
+    let can : CanAbandon (known_by b g.B.Based.damaged (shown_of s.seat s.trail.entries s.late s.closed s.groups.items s.lookback s.raising)) c.args.t = subst (λ (v : Shown). CanAbandon (known_by b g.B.Based.damaged v) c.args.t) (sym c.self.view_is) c.requires in
     let shut = closed_some s.trail.entries s.closed kept.told.closing can.0 in
     let same : c.index.result.now ≡ c.index_mut.result.now = one_there s.groups.items c.in-Some.place c.index.result.now c.index_mut.result.now (place_in s.groups.items s.standing.tables kept.each.stand c.in-Some.place c.in-Some.ensures.found) (sym c.index.ensures) (sym c.index_mut.ensures.value) in
     let stamp = end_stamp c.index.result.now c.index_mut.result.now same c.in-Some-batch_place.batch c.args.t.stamp c.in-Some-batch_place.ensures.found c.abandon.ensures.batch c.abandon.ensures.goes.batch in (
@@ -36,11 +36,11 @@ invariant_of-self g c =
 pub returns-in-Some-batch_place : goal.returns-in-Some-batch_place
 returns-in-Some-batch_place g c =
     let s = c.self.inside in
-    let v : Shown = shown_of s.seat s.trail.entries s.late s.closed s.groups.items in
+    let v : Shown = shown_of s.seat s.trail.entries s.late s.closed s.groups.items s.lookback s.raising in
     subst (λ (w : Shown). Sees (known_by g.B.Based.base g.B.Based.damaged w) (known_by g.B.Based.base g.B.Based.damaged v)) c.self.view_is (stays (known_by g.B.Based.base g.B.Based.damaged v) c.self.invariant.0.told.legal)
 
 pub returns-in_default-batch_place : goal.returns-in_default-batch_place
 returns-in_default-batch_place g c =
     let s = c.self.inside in
-    let v : Shown = shown_of s.seat s.trail.entries s.late s.closed s.groups.items in
+    let v : Shown = shown_of s.seat s.trail.entries s.late s.closed s.groups.items s.lookback s.raising in
     subst (λ (w : Shown). Sees (known_by g.B.Based.base g.B.Based.damaged w) (known_by g.B.Based.base g.B.Based.damaged w)) c.self.view_is (stays (known_by g.B.Based.base g.B.Based.damaged v) c.self.invariant.0.told.legal)

@@ -35,7 +35,7 @@ returns-in-Some-clause-refused g c =
     let b = g.B.Based.base in
     let k = c.self.invariant.0 in
     let told = k.told in
-    let v : Shown = shown_of s.seat s.trail.entries s.late s.closed s.groups.items in
+    let v : Shown = shown_of s.seat s.trail.entries s.late s.closed s.groups.items s.lookback s.raising in
     subst (λ (w : Shown). Refuses base_cause (known_by b g.B.Based.damaged w) (known_by b g.B.Based.damaged w) (Closed c.in-Some.call)) c.self.view_is
     (closed_by (known_by b g.B.Based.damaged v) told.legal s.closed told.closing c.in-Some.call c.in-Some.is)
 
@@ -45,7 +45,7 @@ unreachable-requires g c =
     let b = g.B.Based.base in
     let k = c.self.invariant.0 in
     let told = k.told in
-    let v : Shown = shown_of s.seat s.trail.entries s.late s.closed s.groups.items in
+    let v : Shown = shown_of s.seat s.trail.entries s.late s.closed s.groups.items s.lookback s.raising in
     let may : MayBase g.B.Founded.sound (known_by b g.B.Based.damaged v) c.args.p.now c.args.index.0 c.args.rows.now = subst (λ (w : Shown). MayBase g.B.Founded.sound (known_by b g.B.Based.damaged w) c.args.p.now c.args.index.0 c.args.rows.now) (sym c.self.view_is) c.requires.rows in
     let none : table_of b s.trail.entries c.args.p.now.table.0 ≡ None = lacks b s.trail.entries s.standing told.agrees c.args.p.now.table.0 c.in_default-numbered_place.ensures.none in
     (let z : None ≡ Some may.table = sym none ∙ may.table_is in cc)
@@ -56,7 +56,7 @@ unreachable-requires-in_default-index_place g c =
     let b = g.B.Based.base in
     let k = c.self.invariant.0 in
     let told = k.told in
-    let v : Shown = shown_of s.seat s.trail.entries s.late s.closed s.groups.items in
+    let v : Shown = shown_of s.seat s.trail.entries s.late s.closed s.groups.items s.lookback s.raising in
     let running : s.closed ≡ None = none_of s.closed (λ x is. search rules) in
     let may : MayBase g.B.Founded.sound (known_by b g.B.Based.damaged v) c.args.p.now c.args.index.0 c.args.rows.now = subst (λ (w : Shown). MayBase g.B.Founded.sound (known_by b g.B.Based.damaged w) c.args.p.now c.args.index.0 c.args.rows.now) (sym c.self.view_is) c.requires.rows in
     let place = c.in-Some-numbered_place.place in
@@ -72,7 +72,7 @@ returns-then-is_err-clause-refused g c =
     let b = g.B.Based.base in
     let k = c.self.invariant.0 in
     let told = k.told in
-    let v : Shown = shown_of s.seat s.trail.entries s.late s.closed s.groups.items in
+    let v : Shown = shown_of s.seat s.trail.entries s.late s.closed s.groups.items s.lookback s.raising in
     let running : s.closed ≡ None = none_of s.closed (λ x is. search rules) in
     subst (λ (w : Shown). Refuses base_cause (known_by b g.B.Based.damaged w) (known_by b g.B.Based.damaged (record v { entries = c.reserve.new.self.entries })) Memory) c.self.view_is
     (subst (λ (es : List Entry). Refuses base_cause (known_by b g.B.Based.damaged v) (known_by b g.B.Based.damaged (record v { entries = es })) Memory) (sym c.reserve.ensures.same)
@@ -84,7 +84,7 @@ base-based-requires-clause-right g c =
     let b = g.B.Based.base in
     let k = c.self.invariant.0 in
     let told = k.told in
-    let v : Shown = shown_of s.seat s.trail.entries s.late s.closed s.groups.items in
+    let v : Shown = shown_of s.seat s.trail.entries s.late s.closed s.groups.items s.lookback s.raising in
     let running : s.closed ≡ None = none_of s.closed (λ x is. search rules) in
     let place = c.in-Some-numbered_place.place in
     let l : place < length s.groups.items = place_in s.groups.items s.standing.tables k.each.stand place c.in-Some-numbered_place.ensures.found in
@@ -99,7 +99,7 @@ base-based-requires-clause-there g c =
     let b = g.B.Based.base in
     let k = c.self.invariant.0 in
     let told = k.told in
-    let v : Shown = shown_of s.seat s.trail.entries s.late s.closed s.groups.items in
+    let v : Shown = shown_of s.seat s.trail.entries s.late s.closed s.groups.items s.lookback s.raising in
     let place = c.in-Some-numbered_place.place in
     let l : place < length s.groups.items = place_in s.groups.items s.standing.tables k.each.stand place c.in-Some-numbered_place.ensures.found in
     let h = c.index_mut.result.now in
@@ -116,7 +116,7 @@ base-based-requires-clause-rows g c =
     let b = g.B.Based.base in
     let k = c.self.invariant.0 in
     let told = k.told in
-    let v : Shown = shown_of s.seat s.trail.entries s.late s.closed s.groups.items in
+    let v : Shown = shown_of s.seat s.trail.entries s.late s.closed s.groups.items s.lookback s.raising in
     let running : s.closed ≡ None = none_of s.closed (λ x is. search rules) in
     let may : MayBase g.B.Founded.sound (known_by b g.B.Based.damaged v) c.args.p.now c.args.index.0 c.args.rows.now = subst (λ (w : Shown). MayBase g.B.Founded.sound (known_by b g.B.Based.damaged w) c.args.p.now c.args.index.0 c.args.rows.now) (sym c.self.view_is) c.requires.rows in
     let place = c.in-Some-numbered_place.place in
@@ -138,7 +138,7 @@ invariant_of-self-in-Ok g c =
     let b = g.B.Based.base in
     let k = c.self.invariant.0 in
     let told = k.told in
-    let v : Shown = shown_of s.seat s.trail.entries s.late s.closed s.groups.items in
+    let v : Shown = shown_of s.seat s.trail.entries s.late s.closed s.groups.items s.lookback s.raising in
     let running : s.closed ≡ None = none_of s.closed (λ x is. search rules) in
     let may : MayBase g.B.Founded.sound (known_by b g.B.Based.damaged v) c.args.p.now c.args.index.0 c.args.rows.now = subst (λ (w : Shown). MayBase g.B.Founded.sound (known_by b g.B.Based.damaged w) c.args.p.now c.args.index.0 c.args.rows.now) (sym c.self.view_is) c.requires.rows in
     let place = c.in-Some-numbered_place.place in
@@ -161,7 +161,7 @@ invariant_of-self-in-Ok g c =
     let q = c.push.ensures.room in
     let room : s.trail.room ≤ c.push.new.self.room = omega (arith, o, q) in (
       based_kept g.D.Disk g.met.D.Disk.told g.met.D.Disk.up_to_now b g.B.Founded.sound g.B.Founded.premise g.B.Founded.began s.disk s.catalog s.standing s.groups.items s.trail s.late s.closed k running place h l h_is s.seat g.B.Based.damaged c.args.p.now own c.args.index xs may' at named c.base-based.new.group c.base-based.new.disk w c.call_count-calls.result c.call_count-calls.ensures c.push.new.self pushed room,
-      (c.self.invariant.1.0, more_by_clock g.C.Clock g.B.Founded.times g.B.Based.base s.clock s.trail.entries c.self.invariant.1.1 c.push.new.self.entries (record { seat = s.seat; calls = c.call_count-calls.result; act = BasedAct c.args.index (owners_in h.table xs) }) pushed refl),
+      (c.self.invariant.1.0, more_by_clock g.C.Clock g.B.Founded.times g.B.Based.base g.B.Founded.lookback s.lookback s.clock s.trail.entries c.self.invariant.1.1 c.push.new.self.entries (record { seat = s.seat; calls = c.call_count-calls.result; act = BasedAct c.args.index (owners_in h.table xs) }) pushed refl),
     )
 
 pub returns-in-Ok-clause-ok : goal.returns-in-Ok-clause-ok
@@ -170,7 +170,7 @@ returns-in-Ok-clause-ok g c =
     let b = g.B.Based.base in
     let k = c.self.invariant.0 in
     let told = k.told in
-    let v : Shown = shown_of s.seat s.trail.entries s.late s.closed s.groups.items in
+    let v : Shown = shown_of s.seat s.trail.entries s.late s.closed s.groups.items s.lookback s.raising in
     let running : s.closed ≡ None = none_of s.closed (λ x is. search rules) in
     let may : MayBase g.B.Founded.sound (known_by b g.B.Based.damaged v) c.args.p.now c.args.index.0 c.args.rows.now = subst (λ (w : Shown). MayBase g.B.Founded.sound (known_by b g.B.Based.damaged w) c.args.p.now c.args.index.0 c.args.rows.now) (sym c.self.view_is) c.requires.rows in
     let place = c.in-Some-numbered_place.place in
@@ -203,7 +203,7 @@ invariant_of-self-in-Err-WriteFault g c =
     let b = g.B.Based.base in
     let k = c.self.invariant.0 in
     let told = k.told in
-    let v : Shown = shown_of s.seat s.trail.entries s.late s.closed s.groups.items in
+    let v : Shown = shown_of s.seat s.trail.entries s.late s.closed s.groups.items s.lookback s.raising in
     let running : s.closed ≡ None = none_of s.closed (λ x is. search rules) in
     let may : MayBase g.B.Founded.sound (known_by b g.B.Based.damaged v) c.args.p.now c.args.index.0 c.args.rows.now = subst (λ (w : Shown). MayBase g.B.Founded.sound (known_by b g.B.Based.damaged w) c.args.p.now c.args.index.0 c.args.rows.now) (sym c.self.view_is) c.requires.rows in
     let place = c.in-Some-numbered_place.place in
@@ -225,7 +225,7 @@ invariant_of-self-in-Err-WriteFault g c =
     let unlate : s.late ≡ None = k.server.unlate running in (
       subst (λ (la : Option Entry). IsKept g.D.Disk b g.B.Founded.sound g.B.Founded.premise g.B.Founded.began c.base-based.new.disk s.catalog s.standing (slice_set s.groups.items place c.base-based.new.group) c.shut.new.trail la (Some c.call_count-calls.result)) (sym unlate)
           (unbased_kept g.D.Disk g.met.D.Disk.told g.met.D.Disk.up_to_now b g.B.Founded.sound g.B.Founded.premise g.B.Founded.began s.disk s.catalog s.standing s.groups.items s.trail s.late s.closed k running place h l h_is s.seat g.B.Based.damaged c.args.p.now own c.args.index xs may' at named c.base-based.new.group c.base-based.new.disk (bases_failed g.D.Disk h c.base-based.new.group s.disk c.base-based.new.disk at xs c.base-based.result failed c.base-based.ensures.bases) shut c.call_count-calls.result refl c.call_count-calls.ensures (c.base-based.ensures.failed failed) c.shut.new.trail pushed (omega (arith, o, q))),
-      (c.self.invariant.1.0, more_by_clock g.C.Clock g.B.Founded.times g.B.Based.base s.clock s.trail.entries c.self.invariant.1.1 c.shut.new.trail.entries shut pushed refl),
+      (c.self.invariant.1.0, more_by_clock g.C.Clock g.B.Founded.times g.B.Based.base g.B.Founded.lookback s.lookback s.clock s.trail.entries c.self.invariant.1.1 c.shut.new.trail.entries shut pushed refl),
     )
 
 pub returns-in-Err-WriteFault-clause-refused : goal.returns-in-Err-WriteFault-clause-refused
@@ -234,7 +234,7 @@ returns-in-Err-WriteFault-clause-refused g c =
     let b = g.B.Based.base in
     let k = c.self.invariant.0 in
     let told = k.told in
-    let v : Shown = shown_of s.seat s.trail.entries s.late s.closed s.groups.items in
+    let v : Shown = shown_of s.seat s.trail.entries s.late s.closed s.groups.items s.lookback s.raising in
     let running : s.closed ≡ None = none_of s.closed (λ x is. search rules) in
     let shut : Entry = record { seat = s.seat; calls = c.call_count-calls.result; act = ShutAct c.call_count-calls.result } in
     let pushed : c.shut.new.trail.entries ≡ s.trail.entries ++ shut ∷ [] = c.shut.ensures.entries ∙ ap (λ (es : List Entry). es ++ shut ∷ []) c.reserve.ensures.same in
@@ -253,7 +253,7 @@ invariant_of-self-in-Err g c =
     let b = g.B.Based.base in
     let k = c.self.invariant.0 in
     let told = k.told in
-    let v : Shown = shown_of s.seat s.trail.entries s.late s.closed s.groups.items in
+    let v : Shown = shown_of s.seat s.trail.entries s.late s.closed s.groups.items s.lookback s.raising in
     let running : s.closed ≡ None = none_of s.closed (λ x is. search rules) in
     let place = c.in-Some-numbered_place.place in
     let l : place < length s.groups.items = place_in s.groups.items s.standing.tables k.each.stand place c.in-Some-numbered_place.ensures.found in
@@ -269,7 +269,7 @@ invariant_of-self-in-Err g c =
       roomy g.D.Disk b g.B.Founded.sound g.B.Founded.premise g.B.Founded.began c.base-based.new.disk s.catalog s.standing (slice_set s.groups.items place c.base-based.new.group) s.trail s.late s.closed
           (fix_stayed g.D.Disk g.met.D.Disk.told g.met.D.Disk.up_to_now b g.B.Founded.sound g.B.Founded.premise g.B.Founded.began s.disk s.catalog s.standing s.groups.items s.trail s.late s.closed k running place h c.base-based.new.group l h_is c.base-based.new.disk stayed)
           c.give_back.new.self (c.give_back.ensures.same ∙ c.reserve.ensures.same) (let r = c.give_back.ensures.room in let o : c.reserve.new.self.room ≡ s.trail.room + 1 = search rules in omega (arith, r, o)),
-      (c.self.invariant.1.0, same_by_clock g.C.Clock g.B.Founded.times g.B.Based.base s.clock s.trail.entries c.self.invariant.1.1 c.give_back.new.self.entries (c.give_back.ensures.same ∙ c.reserve.ensures.same)),
+      (c.self.invariant.1.0, same_by_clock g.C.Clock g.B.Founded.times g.B.Based.base g.B.Founded.lookback s.lookback s.clock s.trail.entries c.self.invariant.1.1 c.give_back.new.self.entries (c.give_back.ensures.same ∙ c.reserve.ensures.same)),
     )
 
 pub returns-in-Err : goal.returns-in-Err
@@ -278,7 +278,7 @@ returns-in-Err g c =
     let b = g.B.Based.base in
     let k = c.self.invariant.0 in
     let told = k.told in
-    let v : Shown = shown_of s.seat s.trail.entries s.late s.closed s.groups.items in
+    let v : Shown = shown_of s.seat s.trail.entries s.late s.closed s.groups.items s.lookback s.raising in
     let running : s.closed ≡ None = none_of s.closed (λ x is. search rules) in
     let other : c.in-Err.fault ≡ WriteFault → ⊥ = λ e. search rules in
     let place = c.in-Some-numbered_place.place in

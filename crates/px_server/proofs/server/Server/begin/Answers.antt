@@ -31,7 +31,7 @@ returns-in-Some-clause-refused g c =
     let s = c.self.inside in
     let b = g.B.Based.base in
     let told = c.self.invariant.0.told in
-    let v : Shown = shown_of s.seat s.trail.entries s.late s.closed s.groups.items in
+    let v : Shown = shown_of s.seat s.trail.entries s.late s.closed s.groups.items s.lookback s.raising in
     subst (λ (w : Shown). Refuses (begin_cause g.B.Founded.sound c.args.table.0 c.args.changes.now) (known_by b g.B.Based.damaged w) (known_by b g.B.Based.damaged w) (Closed c.in-Some.call)) c.self.view_is
     (closed_by (known_by b g.B.Based.damaged v) told.legal s.closed told.closing c.in-Some.call c.in-Some.is)
 
@@ -41,7 +41,7 @@ returns-in_default-numbered_place-clause-refused g c =
     let b = g.B.Based.base in
     let told = c.self.invariant.0.told in
     let running : s.closed ≡ None = none_of s.closed (λ x is. search rules) in
-    let v : Shown = shown_of s.seat s.trail.entries s.late s.closed s.groups.items in
+    let v : Shown = shown_of s.seat s.trail.entries s.late s.closed s.groups.items s.lookback s.raising in
     subst (λ (w : Shown). Refuses (begin_cause g.B.Founded.sound c.args.table.0 c.args.changes.now) (known_by b g.B.Based.damaged w) (known_by b g.B.Based.damaged w) NoTable) c.self.view_is
     (begun_no_table (known_by b g.B.Based.damaged v) told.legal (told.closing ∙ running) g.B.Founded.sound c.args.table.0 c.args.changes.now (lacks b s.trail.entries s.standing told.agrees c.args.table.0 c.in_default-numbered_place.ensures.none))
 
@@ -51,7 +51,7 @@ let_in-begun-requires-clause-fit g c =
     let b = g.B.Based.base in
     let told = c.self.invariant.0.told in
     let running : s.closed ≡ None = none_of s.closed (λ x is. search rules) in
-    let v : Shown = shown_of s.seat s.trail.entries s.late s.closed s.groups.items in
+    let v : Shown = shown_of s.seat s.trail.entries s.late s.closed s.groups.items s.lookback s.raising in
     let cs = c.args.changes.now in
     let fits : AreFitting (known_by b g.B.Based.damaged v) c.args.table.0 cs = subst (λ (w : Shown). AreFitting (known_by b g.B.Based.damaged w) c.args.table.0 cs) (sym c.self.view_is) c.requires.fits in
     let fit = fit_here g.D.Disk b g.B.Founded.sound g.B.Founded.premise g.B.Founded.began s.disk s.catalog s.standing s.groups.items s.trail s.late s.closed c.self.invariant.0 running c.args.table c.in-Some-numbered_place.place c.index_mut.result.now c.in-Some-numbered_place.ensures.found c.in-Some-numbered_place.ensures.numbered (sym c.index_mut.ensures.value) cs fits.each in
@@ -63,7 +63,7 @@ invariant_of-self g c =
     let b = g.B.Based.base in
     let told = c.self.invariant.0.told in
     let running : s.closed ≡ None = none_of s.closed (λ x is. search rules) in
-    let v : Shown = shown_of s.seat s.trail.entries s.late s.closed s.groups.items in
+    let v : Shown = shown_of s.seat s.trail.entries s.late s.closed s.groups.items s.lookback s.raising in
     let cs = c.args.changes.now in
     let fits : AreFitting (known_by b g.B.Based.damaged v) c.args.table.0 cs = subst (λ (w : Shown). AreFitting (known_by b g.B.Based.damaged w) c.args.table.0 cs) (sym c.self.view_is) c.requires.fits in
     let fit = fit_here g.D.Disk b g.B.Founded.sound g.B.Founded.premise g.B.Founded.began s.disk s.catalog s.standing s.groups.items s.trail s.late s.closed c.self.invariant.0 running c.args.table c.in-Some-numbered_place.place c.index_mut.result.now c.in-Some-numbered_place.ensures.found c.in-Some-numbered_place.ensures.numbered (sym c.index_mut.ensures.value) cs fits.each in
@@ -79,7 +79,7 @@ invariant_of-self g c =
           m.taken c.let_in-begun.new.group m.leaves m.batch m.is m.admits m.before m.after c.push.new.self entries (let less = c.push.ensures.room in let more = taken.room in omega (arith, less, more))),
       (
         c.self.invariant.1.0,
-        drawn_by_clock g.C.Clock g.B.Founded.times g.B.Based.base s.clock s.trail.entries c.self.invariant.1.1 c.now-clock.new.self c.now-clock.ensures.rest c.push.new.self.entries e (draw c.args.table.0 c.in-Ok.started.stamp) entries refl
+        drawn_by_clock g.C.Clock g.B.Founded.times g.B.Based.base g.B.Founded.lookback s.lookback s.clock s.trail.entries c.self.invariant.1.1 c.now-clock.new.self c.now-clock.ensures.rest c.push.new.self.entries e (draw c.args.table.0 c.in-Ok.started.stamp) entries refl
             (λ tells. ap (λ (n : ℕ). drawn_stamp (last_of b c.args.table.0 s.trail.entries) n) (sym (c.now-clock.ensures.time tells)) ∙ (ap (λ (n : ℕ). drawn_stamp n c.now-clock.result) last ∙ m.stamp)),
       ),
     )
@@ -95,8 +95,8 @@ invariant_of-self-in-Err g c =
           (left_kept g.D.Disk b g.B.Founded.sound g.B.Founded.premise g.B.Founded.began s.disk s.catalog s.standing s.groups.items s.trail s.late s.closed c.self.invariant.0 running c.args.table c.in-Some-numbered_place.place c.index_mut.result.now c.in-Some-numbered_place.ensures.found c.in-Some-numbered_place.ensures.numbered (sym c.index_mut.ensures.value) c.let_in-begun.new.group c.in-Err.ensures.leaves.0 c.in-Err.ensures.leaves.1)),
       (
         c.self.invariant.1.0,
-        same_by_clock g.C.Clock g.B.Founded.times b c.now-clock.new.self s.trail.entries
-            (read_by_clock g.C.Clock g.B.Founded.times g.B.Based.base s.clock s.trail.entries c.self.invariant.1.1 c.now-clock.new.self c.now-clock.ensures.rest)
+        same_by_clock g.C.Clock g.B.Founded.times b g.B.Founded.lookback s.lookback c.now-clock.new.self s.trail.entries
+            (read_by_clock g.C.Clock g.B.Founded.times g.B.Based.base g.B.Founded.lookback s.lookback s.clock s.trail.entries c.self.invariant.1.1 c.now-clock.new.self c.now-clock.ensures.rest)
             c.let_in-begun.new.trail.entries (ap (λ (t : Recorded). t.entries) c.in-Err.ensures.trail),
       ),
     )
@@ -107,7 +107,7 @@ returns-in-Ok-clause-ok g c =
     let b = g.B.Based.base in
     let told = c.self.invariant.0.told in
     let running : s.closed ≡ None = none_of s.closed (λ x is. search rules) in
-    let v : Shown = shown_of s.seat s.trail.entries s.late s.closed s.groups.items in
+    let v : Shown = shown_of s.seat s.trail.entries s.late s.closed s.groups.items s.lookback s.raising in
     let cs = c.args.changes.now in
     let fits : AreFitting (known_by b g.B.Based.damaged v) c.args.table.0 cs = subst (λ (w : Shown). AreFitting (known_by b g.B.Based.damaged w) c.args.table.0 cs) (sym c.self.view_is) c.requires.fits in
     let fit = fit_here g.D.Disk b g.B.Founded.sound g.B.Founded.premise g.B.Founded.began s.disk s.catalog s.standing s.groups.items s.trail s.late s.closed c.self.invariant.0 running c.args.table c.in-Some-numbered_place.place c.index_mut.result.now c.in-Some-numbered_place.ensures.found c.in-Some-numbered_place.ensures.numbered (sym c.index_mut.ensures.value) cs fits.each in
@@ -129,7 +129,7 @@ returns-in-Err-clause-refused g c =
     let b = g.B.Based.base in
     let told = c.self.invariant.0.told in
     let running : s.closed ≡ None = none_of s.closed (λ x is. search rules) in
-    let v : Shown = shown_of s.seat s.trail.entries s.late s.closed s.groups.items in
+    let v : Shown = shown_of s.seat s.trail.entries s.late s.closed s.groups.items s.lookback s.raising in
     let cs = c.args.changes.now in
     let fits : AreFitting (known_by b g.B.Based.damaged v) c.args.table.0 cs = subst (λ (w : Shown). AreFitting (known_by b g.B.Based.damaged w) c.args.table.0 cs) (sym c.self.view_is) c.requires.fits in
     let fit = fit_here g.D.Disk b g.B.Founded.sound g.B.Founded.premise g.B.Founded.began s.disk s.catalog s.standing s.groups.items s.trail s.late s.closed c.self.invariant.0 running c.args.table c.in-Some-numbered_place.place c.index_mut.result.now c.in-Some-numbered_place.ensures.found c.in-Some-numbered_place.ensures.numbered (sym c.index_mut.ensures.value) cs fits.each in

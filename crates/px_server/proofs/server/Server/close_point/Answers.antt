@@ -30,7 +30,7 @@ invariant_of-self g c =
       closes g.D.Disk g.met.D.Disk.told g.met.D.Disk.up_to_now g.B.Based.base g.B.Founded.sound g.B.Founded.premise g.B.Founded.began s.disk s.catalog s.standing s.groups.items s.trail s.late s.closed c.self.invariant.0
           s.seat c.call_count.result c.args.p.stamp c.args.p.table c.call_count.ensures open_ c.in-Some.place c.index_mut.result.now c.in-Some.ensures.found c.in-Some.ensures.numbered (sym c.index_mut.ensures.value)
           c.close_point.new.group c.close_point.ensures.released c.close_point.ensures.count c.push.new.self c.push.ensures.entries c.push.ensures.room,
-      (c.self.invariant.1.0, more_by_clock g.C.Clock g.B.Founded.times g.B.Based.base s.clock s.trail.entries c.self.invariant.1.1 c.push.new.self.entries (record { seat = s.seat; calls = c.call_count.result; act = ReleasedAct c.args.p.table c.args.p.stamp }) c.push.ensures.entries refl),
+      (c.self.invariant.1.0, more_by_clock g.C.Clock g.B.Founded.times g.B.Based.base g.B.Founded.lookback s.lookback s.clock s.trail.entries c.self.invariant.1.1 c.push.new.self.entries (record { seat = s.seat; calls = c.call_count.result; act = ReleasedAct c.args.p.table c.args.p.stamp }) c.push.ensures.entries refl),
     )
 
 pub unreachable-requires : goal.unreachable-requires
@@ -46,7 +46,7 @@ pub returns-clause-adds : goal.returns-clause-adds
 returns-clause-adds g c =
     let s = c.self.inside in
     let told = c.self.invariant.0.told in
-    let v : Shown = shown_of s.seat s.trail.entries s.late s.closed s.groups.items in
+    let v : Shown = shown_of s.seat s.trail.entries s.late s.closed s.groups.items s.lookback s.raising in
     let v' : Shown = record v { entries = c.push.new.self.entries } in
     subst (λ (w : Shown). Adds (known_by g.B.Based.base g.B.Based.damaged w) (known_by g.B.Based.base g.B.Based.damaged v') (ReleasedAct c.args.p.table c.args.p.stamp)) c.self.view_is
     (one_more (known_by g.B.Based.base g.B.Based.damaged v) c.push.new.self.entries c.call_count.result (ReleasedAct c.args.p.table c.args.p.stamp) told.legal c.push.ensures.entries (invariant_of-self g c).0.told.legal)

@@ -34,7 +34,7 @@ returns-in-Some-clause-refused g c = (let
     in let
     b = g.B.Based.base
     in let
-    v : Shown = shown_of s.seat s.trail.entries s.late s.closed s.groups.items
+    v : Shown = shown_of s.seat s.trail.entries s.late s.closed s.groups.items s.lookback s.raising
     in
     subst (λ (w : Shown). Refuses (define_cause (definition.Active c.args.table c.args.index)) (known_by b g.B.Based.damaged w) (known_by b g.B.Based.damaged w) (Closed c.in-Some.call)) c.self.view_is
     (closed_by (known_by b g.B.Based.damaged v) k.told.legal s.closed k.told.closing c.in-Some.call c.in-Some.is))
@@ -47,7 +47,7 @@ returns-in_default-numbered_place-clause-refused g c = (let
     in let
     b = g.B.Based.base
     in let
-    v : Shown = shown_of s.seat s.trail.entries s.late s.closed s.groups.items
+    v : Shown = shown_of s.seat s.trail.entries s.late s.closed s.groups.items s.lookback s.raising
     in let
     running : s.closed ≡ None = c.in_default.is
     in
@@ -62,7 +62,7 @@ returns-in_default-index_place-clause-refused g c = (let
     in let
     b = g.B.Based.base
     in let
-    v : Shown = shown_of s.seat s.trail.entries s.late s.closed s.groups.items
+    v : Shown = shown_of s.seat s.trail.entries s.late s.closed s.groups.items s.lookback s.raising
     in let
     running : s.closed ≡ None = c.in_default.is
     in let
@@ -87,7 +87,7 @@ returns-in_err-made-clause-refused g c = (let
     in let
     b = g.B.Based.base
     in let
-    v : Shown = shown_of s.seat s.trail.entries s.late s.closed s.groups.items
+    v : Shown = shown_of s.seat s.trail.entries s.late s.closed s.groups.items s.lookback s.raising
     in let
     running : s.closed ≡ None = c.in_default.is
     in let
@@ -105,7 +105,7 @@ invariant_of-self g c = (let
     in let
     b = g.B.Based.base
     in let
-    v : Shown = shown_of s.seat s.trail.entries s.late s.closed s.groups.items
+    v : Shown = shown_of s.seat s.trail.entries s.late s.closed s.groups.items s.lookback s.raising
     in let
     running : s.closed ≡ None = c.in_default.is
     in let
@@ -117,7 +117,7 @@ invariant_of-self g c = (let
     in let
     own : h.table.id ≡ c.args.table = group_of s.groups.items s.standing.tables k.each.stand c.in-Some-numbered_place.place h l h_is c.args.table c.in-Some-numbered_place.ensures.numbered
     in
-    (roomy g.D.Disk b g.B.Founded.sound g.B.Founded.premise g.B.Founded.began s.disk s.catalog s.standing s.groups.items s.trail s.late s.closed k c.take_entry.new.trail c.take_entry.ensures.same c.take_entry.ensures.least, (c.self.invariant.1.0, same_by_clock g.C.Clock g.B.Founded.times g.B.Based.base s.clock s.trail.entries c.self.invariant.1.1 c.take_entry.new.trail.entries c.take_entry.ensures.same)))
+    (roomy g.D.Disk b g.B.Founded.sound g.B.Founded.premise g.B.Founded.began s.disk s.catalog s.standing s.groups.items s.trail s.late s.closed k c.take_entry.new.trail c.take_entry.ensures.same c.take_entry.ensures.least, (c.self.invariant.1.0, same_by_clock g.C.Clock g.B.Founded.times g.B.Based.base g.B.Founded.lookback s.lookback s.clock s.trail.entries c.self.invariant.1.1 c.take_entry.new.trail.entries c.take_entry.ensures.same)))
 
 pub returns-in_default-take_entry-clause-refused : goal.returns-in_default-take_entry-clause-refused
 returns-in_default-take_entry-clause-refused g c = (let
@@ -127,7 +127,7 @@ returns-in_default-take_entry-clause-refused g c = (let
     in let
     b = g.B.Based.base
     in let
-    v : Shown = shown_of s.seat s.trail.entries s.late s.closed s.groups.items
+    v : Shown = shown_of s.seat s.trail.entries s.late s.closed s.groups.items s.lookback s.raising
     in let
     running : s.closed ≡ None = c.in_default.is
     in
@@ -143,7 +143,7 @@ append-requires g c = (let
     in let
     b = g.B.Based.base
     in let
-    v : Shown = shown_of s.seat s.trail.entries s.late s.closed s.groups.items
+    v : Shown = shown_of s.seat s.trail.entries s.late s.closed s.groups.items s.lookback s.raising
     in let
     running : s.closed ≡ None = c.in_default.is
     in let
@@ -177,7 +177,7 @@ make_active-requires g c = (let
     in let
     b = g.B.Based.base
     in let
-    v : Shown = shown_of s.seat s.trail.entries s.late s.closed s.groups.items
+    v : Shown = shown_of s.seat s.trail.entries s.late s.closed s.groups.items s.lookback s.raising
     in let
     running : s.closed ≡ None = c.in_default.is
     in let
@@ -211,7 +211,7 @@ invariant_of-self-in-Ok-entered g c = (let
     in let
     b = g.B.Based.base
     in let
-    v : Shown = shown_of s.seat s.trail.entries s.late s.closed s.groups.items
+    v : Shown = shown_of s.seat s.trail.entries s.late s.closed s.groups.items s.lookback s.raising
     in let
     running : s.closed ≡ None = c.in_default.is
     in let
@@ -233,7 +233,7 @@ invariant_of-self-in-Ok-entered g c = (let
     in (
       entered_kept g.D.Disk b g.B.Founded.sound g.B.Founded.premise g.B.Founded.began c.append.new.disk c.append.new.self _ _ c.entered.new.trail s.late c.entered.new.late s.closed c.entered.new.closed _ _ c.in-Ok-entered.ensures.ok.1
           (activating_kept g.D.Disk g.met.D.Disk.told g.met.D.Disk.up_to_now b g.B.Based.damaged g.B.Founded.sound g.B.Founded.premise g.B.Founded.began s.disk s.catalog s.standing s.groups.items s.trail s.late s.closed k running c.in-Some-numbered_place.place h l h_is s.seat c.args.table own c.args.index may c.in-Some-index_place.at x x_is id c.in_ok-made.made c.in_ok-made.ensures.ok c.take_entry.new.trail c.take_entry.ensures.same c.in-Ok.ensures.ok c.append.new.disk c.append.new.self c.append.ensures.counts c.append.ensures.touches c.append.ensures.any_moment (λ h. of_ok c.append.result tt _ c.in-Ok-entered.ensures.ok.0 (c.append.ensures.done h)) (of_ok c.append.result tt _ c.in-Ok-entered.ensures.ok.0 c.append.ensures.defined) c.index_mut.result.now (same_there s.groups.items c.in-Some-numbered_place.place c.index_mut.result.now h l (sym c.index_mut.ensures.value) h_is) c.make_active.new.group c.make_active.ensures c.replace-before.new.dest c.replace-before.ensures.after c.entered.new.trail (g.D.Disk.calls c.append.new.disk) refl c.in-Ok-entered.ensures.ok.1.entries c.entered.ensures.room),
-      (c.self.invariant.1.0, more_by_clock g.C.Clock g.B.Founded.times g.B.Based.base s.clock s.trail.entries c.self.invariant.1.1 c.entered.new.trail.entries (record { seat = s.seat; calls = g.D.Disk.calls c.append.new.disk; act = act.IndexState c.args.table c.args.index Active c.index-part.result.now.index.birth }) (c.in-Ok-entered.ensures.ok.1.entries ∙ ap (λ (es : List Entry). es ++ (record { seat = s.seat; calls = g.D.Disk.calls c.append.new.disk; act = act.IndexState c.args.table c.args.index Active c.index-part.result.now.index.birth }) ∷ []) c.take_entry.ensures.same) refl),
+      (c.self.invariant.1.0, more_by_clock g.C.Clock g.B.Founded.times g.B.Based.base g.B.Founded.lookback s.lookback s.clock s.trail.entries c.self.invariant.1.1 c.entered.new.trail.entries (record { seat = s.seat; calls = g.D.Disk.calls c.append.new.disk; act = act.IndexState c.args.table c.args.index Active c.index-part.result.now.index.birth }) (c.in-Ok-entered.ensures.ok.1.entries ∙ ap (λ (es : List Entry). es ++ (record { seat = s.seat; calls = g.D.Disk.calls c.append.new.disk; act = act.IndexState c.args.table c.args.index Active c.index-part.result.now.index.birth }) ∷ []) c.take_entry.ensures.same) refl),
     ))
 
 pub invariant_of-self-in-Err : goal.invariant_of-self-in-Err
@@ -244,7 +244,7 @@ invariant_of-self-in-Err g c = (let
     in let
     b = g.B.Based.base
     in let
-    v : Shown = shown_of s.seat s.trail.entries s.late s.closed s.groups.items
+    v : Shown = shown_of s.seat s.trail.entries s.late s.closed s.groups.items s.lookback s.raising
     in let
     running : s.closed ≡ None = c.in_default.is
     in let
@@ -264,7 +264,7 @@ invariant_of-self-in-Err g c = (let
     in let
     id : x.index.id ≡ c.args.index = c.in-Some-index_place.ensures.found.1 x x_is
     in
-    (activating_failed g.D.Disk g.met.D.Disk.told g.met.D.Disk.up_to_now b g.B.Based.damaged g.B.Founded.sound g.B.Founded.premise g.B.Founded.began s.disk s.catalog s.standing s.groups.items s.trail s.late s.closed k running c.in-Some-numbered_place.place h l h_is s.seat c.args.table own c.args.index may c.in-Some-index_place.at x x_is id c.in_ok-made.made c.in_ok-made.ensures.ok c.take_entry.new.trail c.take_entry.ensures.same c.in-Ok.ensures.ok c.append.new.disk c.append.new.self c.append.ensures.counts c.append.ensures.touches c.append.ensures.any_moment c.entered.new.trail c.entered.new.late c.entered.new.closed c.in-Err.ensures.refused.0 (λ e. c.append.ensures.untouched (elim e [ inl x ↦ inl (c.in-Err.ensures.refused.1 ∙ ap Err x) | inr x ↦ inr (c.in-Err.ensures.refused.1 ∙ ap Err x) ])) (λ e. c.append.ensures.failed (c.in-Err.ensures.refused.1 ∙ ap Err e)) c.in-Err.ensures.refused.2.kept c.in-Err.ensures.refused.2.shut c.entered.ensures.room, (c.self.invariant.1.0, unwritten_entry_by_clock g.C.Clock g.B.Founded.times g.B.Based.base s.clock s.trail.entries c.self.invariant.1.1 c.take_entry.new.trail.entries c.take_entry.ensures.same c.in-Err.ensures.refused.0 _ c.entered.new.trail.entries _ _ _ _ _ c.in-Err.ensures.refused.2)))
+    (activating_failed g.D.Disk g.met.D.Disk.told g.met.D.Disk.up_to_now b g.B.Based.damaged g.B.Founded.sound g.B.Founded.premise g.B.Founded.began s.disk s.catalog s.standing s.groups.items s.trail s.late s.closed k running c.in-Some-numbered_place.place h l h_is s.seat c.args.table own c.args.index may c.in-Some-index_place.at x x_is id c.in_ok-made.made c.in_ok-made.ensures.ok c.take_entry.new.trail c.take_entry.ensures.same c.in-Ok.ensures.ok c.append.new.disk c.append.new.self c.append.ensures.counts c.append.ensures.touches c.append.ensures.any_moment c.entered.new.trail c.entered.new.late c.entered.new.closed c.in-Err.ensures.refused.0 (λ e. c.append.ensures.untouched (elim e [ inl x ↦ inl (c.in-Err.ensures.refused.1 ∙ ap Err x) | inr x ↦ inr (c.in-Err.ensures.refused.1 ∙ ap Err x) ])) (λ e. c.append.ensures.failed (c.in-Err.ensures.refused.1 ∙ ap Err e)) c.in-Err.ensures.refused.2.kept c.in-Err.ensures.refused.2.shut c.entered.ensures.room, (c.self.invariant.1.0, unwritten_entry_by_clock g.C.Clock g.B.Founded.times g.B.Based.base g.B.Founded.lookback s.lookback s.clock s.trail.entries c.self.invariant.1.1 c.take_entry.new.trail.entries c.take_entry.ensures.same c.in-Err.ensures.refused.0 _ c.entered.new.trail.entries _ _ _ _ _ c.in-Err.ensures.refused.2)))
 
 pub returns-in-Ok-entered-clause-ok : goal.returns-in-Ok-entered-clause-ok
 returns-in-Ok-entered-clause-ok g c = (let
@@ -274,7 +274,7 @@ returns-in-Ok-entered-clause-ok g c = (let
     in let
     b = g.B.Based.base
     in let
-    v : Shown = shown_of s.seat s.trail.entries s.late s.closed s.groups.items
+    v : Shown = shown_of s.seat s.trail.entries s.late s.closed s.groups.items s.lookback s.raising
     in let
     running : s.closed ≡ None = c.in_default.is
     in let
@@ -309,7 +309,7 @@ returns-in-Err-clause-refused g c = (let
     in let
     b = g.B.Based.base
     in let
-    v : Shown = shown_of s.seat s.trail.entries s.late s.closed s.groups.items
+    v : Shown = shown_of s.seat s.trail.entries s.late s.closed s.groups.items s.lookback s.raising
     in let
     running : s.closed ≡ None = c.in_default.is
     in let

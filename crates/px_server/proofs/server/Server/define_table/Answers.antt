@@ -26,7 +26,7 @@ returns-in-Err-clause-refused g c =
     let s = c.self.inside in
     let b = g.B.Based.base in
     let told = c.self.invariant.0.told in
-    let v : Shown = shown_of s.seat s.trail.entries s.late s.closed s.groups.items in
+    let v : Shown = shown_of s.seat s.trail.entries s.late s.closed s.groups.items s.lookback s.raising in
     subst (λ (w : Shown). Refuses (define_cause (NewTableOf c.args.what.now)) (known_by b g.B.Based.damaged w) (known_by b g.B.Based.damaged w) c.in-Err.fault) c.self.view_is
     (refused_unmade (known_by b g.B.Based.damaged v) told.legal s.closed told.closing s.standing told.agrees c.args.what.now c.in-Err.fault c.in-Err.ensures.refused)
 
@@ -36,7 +36,7 @@ returns-in_default-parts_of-clause-refused g c =
     let b = g.B.Based.base in
     let told = c.self.invariant.0.told in
     let may : MayMake s.standing s.closed c.args.what.now = on_ok c.check_table.result (MayMake s.standing s.closed c.args.what.now) c.check_table.ensures.ok (λ e is. search rules) in
-    let v : Shown = shown_of s.seat s.trail.entries s.late s.closed s.groups.items in
+    let v : Shown = shown_of s.seat s.trail.entries s.late s.closed s.groups.items s.lookback s.raising in
     subst (λ (w : Shown). Refuses (define_cause (NewTableOf c.args.what.now)) (known_by b g.B.Based.damaged w) (known_by b g.B.Based.damaged w) Memory) c.self.view_is
     (refused_memory (known_by b g.B.Based.damaged v) told.legal s.closed told.closing may.running (NewTableOf c.args.what.now))
 
@@ -46,7 +46,7 @@ returns-in_default-take_room-clause-refused g c =
     let b = g.B.Based.base in
     let told = c.self.invariant.0.told in
     let may : MayMake s.standing s.closed c.args.what.now = on_ok c.check_table.result (MayMake s.standing s.closed c.args.what.now) c.check_table.ensures.ok (λ e is. search rules) in
-    let v : Shown = shown_of s.seat s.trail.entries s.late s.closed s.groups.items in
+    let v : Shown = shown_of s.seat s.trail.entries s.late s.closed s.groups.items s.lookback s.raising in
     subst (λ (w : Shown). Refuses (define_cause (NewTableOf c.args.what.now)) (known_by b g.B.Based.damaged w) (record (known_by b g.B.Based.damaged v) { seen = c.take_room.new.trail.entries }) Memory) c.self.view_is
     (subst (λ (es : List Entry). Refuses (define_cause (NewTableOf c.args.what.now)) (known_by b g.B.Based.damaged v) (record (known_by b g.B.Based.damaged v) { seen = es }) Memory) (sym c.take_room.ensures.same)
     (refused_memory (known_by b g.B.Based.damaged v) told.legal s.closed told.closing may.running (NewTableOf c.args.what.now)))
@@ -70,7 +70,7 @@ invariant_of-self-in-Ok-entered g c =
           c.args.what.now c.requires may c.in-Ok.parts.item c.in-Ok.parts.group c.in-Ok.parts.standing c.in-Ok.parts.copy c.in-Ok.ensures c.append.ensures.any_moment
           (λ h. of_ok c.append.result tt _ c.in-Ok-entered.ensures.ok.0 (c.append.ensures.done h)) (of_ok c.append.result tt _ c.in-Ok-entered.ensures.ok.0 c.append.ensures.defined) c.replace-before.new.dest c.replace-before.ensures.after c.push_reserved.new.self.items c.push_reserved.ensures.items
           c.entered.new.trail (g.D.Disk.calls c.append.new.disk) refl c.in-Ok-entered.ensures.ok.1.entries c.entered.ensures.room),
-      (c.self.invariant.1.0, more_by_clock g.C.Clock g.B.Founded.times g.B.Based.base s.clock s.trail.entries c.self.invariant.1.1 c.entered.new.trail.entries (record { seat = s.seat; calls = g.D.Disk.calls c.append.new.disk; act = MadeAct c.in-Ok.parts.group.table.id c.in-Ok.parts.copy }) (c.in-Ok-entered.ensures.ok.1.entries ∙ ap (λ (es : List Entry). es ++ (record { seat = s.seat; calls = g.D.Disk.calls c.append.new.disk; act = MadeAct c.in-Ok.parts.group.table.id c.in-Ok.parts.copy }) ∷ []) c.take_room.ensures.same) refl),
+      (c.self.invariant.1.0, more_by_clock g.C.Clock g.B.Founded.times g.B.Based.base g.B.Founded.lookback s.lookback s.clock s.trail.entries c.self.invariant.1.1 c.entered.new.trail.entries (record { seat = s.seat; calls = g.D.Disk.calls c.append.new.disk; act = MadeAct c.in-Ok.parts.group.table.id c.in-Ok.parts.copy }) (c.in-Ok-entered.ensures.ok.1.entries ∙ ap (λ (es : List Entry). es ++ (record { seat = s.seat; calls = g.D.Disk.calls c.append.new.disk; act = MadeAct c.in-Ok.parts.group.table.id c.in-Ok.parts.copy }) ∷ []) c.take_room.ensures.same) refl),
     )
 
 pub invariant_of-self-in-Err-entered : goal.invariant_of-self-in-Err-entered
@@ -82,7 +82,7 @@ invariant_of-self-in-Err-entered g c =
           c.args.what.now c.requires may c.in-Ok.parts.item c.in-Ok.parts.group c.in-Ok.parts.standing c.in-Ok.parts.copy c.in-Ok.ensures c.append.ensures.any_moment
           c.entered.new.trail c.entered.new.late c.entered.new.closed c.in-Err-entered.ensures.refused.0 (λ e. c.append.ensures.untouched (elim e [ inl x ↦ inl (c.in-Err-entered.ensures.refused.1 ∙ ap Err x) | inr x ↦ inr (c.in-Err-entered.ensures.refused.1 ∙ ap Err x) ])) (λ e. c.append.ensures.failed (c.in-Err-entered.ensures.refused.1 ∙ ap Err e))
           c.in-Err-entered.ensures.refused.2.kept c.in-Err-entered.ensures.refused.2.shut c.entered.ensures.room,
-      (c.self.invariant.1.0, unwritten_entry_by_clock g.C.Clock g.B.Founded.times g.B.Based.base s.clock s.trail.entries c.self.invariant.1.1 c.take_room.new.trail.entries c.take_room.ensures.same c.in-Err-entered.ensures.refused.0 _ c.entered.new.trail.entries _ _ _ _ _ c.in-Err-entered.ensures.refused.2),
+      (c.self.invariant.1.0, unwritten_entry_by_clock g.C.Clock g.B.Founded.times g.B.Based.base g.B.Founded.lookback s.lookback s.clock s.trail.entries c.self.invariant.1.1 c.take_room.new.trail.entries c.take_room.ensures.same c.in-Err-entered.ensures.refused.0 _ c.entered.new.trail.entries _ _ _ _ _ c.in-Err-entered.ensures.refused.2),
     )
 
 pub returns-in-Ok-entered-clause-ok : goal.returns-in-Ok-entered-clause-ok
@@ -90,7 +90,7 @@ returns-in-Ok-entered-clause-ok g c =
     let s = c.self.inside in
     let b = g.B.Based.base in
     let told = c.self.invariant.0.told in
-    let v : Shown = shown_of s.seat s.trail.entries s.late s.closed s.groups.items in
+    let v : Shown = shown_of s.seat s.trail.entries s.late s.closed s.groups.items s.lookback s.raising in
     let v' : Shown = record v { entries = c.entered.new.trail.entries } in
     let id = c.in-Ok.parts.group.table.id in
     let m : Answered = record { number = id.0; stamp = 0; at = c.len.result } in
@@ -105,7 +105,7 @@ returns-in-Err-entered-clause-refused g c =
     let b = g.B.Based.base in
     let told = c.self.invariant.0.told in
     let may : MayMake s.standing s.closed c.args.what.now = on_ok c.check_table.result (MayMake s.standing s.closed c.args.what.now) c.check_table.ensures.ok (λ e is. search rules) in
-    let v : Shown = shown_of s.seat s.trail.entries s.late s.closed s.groups.items in
+    let v : Shown = shown_of s.seat s.trail.entries s.late s.closed s.groups.items s.lookback s.raising in
     let v' : Shown = record v { entries = c.entered.new.trail.entries; late = c.entered.new.late; closed = c.entered.new.closed } in
     let calls = g.D.Disk.calls c.append.new.disk in
     subst (λ (w : Shown). Refuses (define_cause (NewTableOf c.args.what.now)) (known_by b g.B.Based.damaged w) (known_by b g.B.Based.damaged v') c.in-Err-entered.fault) c.self.view_is

@@ -34,7 +34,7 @@ returns-in_err-place-clause-refused g c = (let
     in let
     b = g.B.Based.base
     in let
-    v : Shown = shown_of s.seat s.trail.entries s.late s.closed s.groups.items
+    v : Shown = shown_of s.seat s.trail.entries s.late s.closed s.groups.items s.lookback s.raising
     in let
     f = c.in_err-place.field-0.0
     in let
@@ -54,7 +54,7 @@ returns-in_err-made-clause-refused g c = (let
     in let
     b = g.B.Based.base
     in let
-    v : Shown = shown_of s.seat s.trail.entries s.late s.closed s.groups.items
+    v : Shown = shown_of s.seat s.trail.entries s.late s.closed s.groups.items s.lookback s.raising
     in let
     p = c.in_ok-place.place
     in let
@@ -74,7 +74,7 @@ returns-in_default-clause-refused g c = (let
     in let
     b = g.B.Based.base
     in let
-    v : Shown = shown_of s.seat s.trail.entries s.late s.closed s.groups.items
+    v : Shown = shown_of s.seat s.trail.entries s.late s.closed s.groups.items s.lookback s.raising
     in let
     p = c.in_ok-place.place
     in let
@@ -92,7 +92,7 @@ append-requires g c = (let
     in let
     b = g.B.Based.base
     in let
-    v : Shown = shown_of s.seat s.trail.entries s.late s.closed s.groups.items
+    v : Shown = shown_of s.seat s.trail.entries s.late s.closed s.groups.items s.lookback s.raising
     in let
     p = c.in_ok-place.place
     in let
@@ -122,7 +122,7 @@ invariant_of-self-in-Ok-entered g c = (let
     in let
     b = g.B.Based.base
     in let
-    v : Shown = shown_of s.seat s.trail.entries s.late s.closed s.groups.items
+    v : Shown = shown_of s.seat s.trail.entries s.late s.closed s.groups.items s.lookback s.raising
     in let
     p = c.in_ok-place.place
     in let
@@ -146,7 +146,7 @@ invariant_of-self-in-Ok-entered g c = (let
           (disabling_kept g.D.Disk g.met.D.Disk.told g.met.D.Disk.up_to_now b g.B.Based.damaged g.B.Founded.sound g.B.Founded.premise g.B.Founded.began s.disk s.catalog s.standing s.groups.items s.trail s.late s.closed k s.seat c.args.table c.args.index p at x x_is h h_is c.in_ok-made.made put c.take_entry.new.trail c.take_entry.ensures.same c.in-Ok.ensures.ok c.append.new.disk c.append.new.self c.append.ensures.counts c.append.ensures.touches c.append.ensures.any_moment (λ h. of_ok c.append.result tt _ c.in-Ok-entered.ensures.ok.0 (c.append.ensures.done h)) (of_ok c.append.result tt _ c.in-Ok-entered.ensures.ok.0 c.append.ensures.defined) c.index_mut.result.now h2_is c.drop_index.new.group c.drop_index.ensures c.replace-before.new.dest c.replace-before.ensures.after c.entered.new.trail (g.D.Disk.calls c.append.new.disk) refl c.in-Ok-entered.ensures.ok.1.entries c.entered.ensures.room),
       (
         c.self.invariant.1.0,
-        more_by_clock g.C.Clock g.B.Founded.times b s.clock s.trail.entries c.self.invariant.1.1 c.entered.new.trail.entries e
+        more_by_clock g.C.Clock g.B.Founded.times b g.B.Founded.lookback s.lookback s.clock s.trail.entries c.self.invariant.1.1 c.entered.new.trail.entries e
             (c.in-Ok-entered.ensures.ok.1.entries ∙ ap (λ (es : List Entry). es ++ e ∷ []) c.take_entry.ensures.same) refl,
       ),
     ))
@@ -159,7 +159,7 @@ invariant_of-self-in-Err g c = (let
     in let
     b = g.B.Based.base
     in let
-    v : Shown = shown_of s.seat s.trail.entries s.late s.closed s.groups.items
+    v : Shown = shown_of s.seat s.trail.entries s.late s.closed s.groups.items s.lookback s.raising
     in let
     p = c.in_ok-place.place
     in let
@@ -178,7 +178,7 @@ invariant_of-self-in-Err g c = (let
       disabling_failed g.D.Disk g.met.D.Disk.told g.met.D.Disk.up_to_now b g.B.Based.damaged g.B.Founded.sound g.B.Founded.premise g.B.Founded.began s.disk s.catalog s.standing s.groups.items s.trail s.late s.closed k s.seat c.args.table c.args.index p at x x_is h h_is c.in_ok-made.made put c.take_entry.new.trail c.take_entry.ensures.same c.in-Ok.ensures.ok c.append.new.disk c.append.new.self c.append.ensures.counts c.append.ensures.touches c.append.ensures.any_moment c.entered.new.trail c.entered.new.late c.entered.new.closed c.in-Err.ensures.refused.0 (λ e. c.append.ensures.untouched (elim e [ inl z ↦ inl (c.in-Err.ensures.refused.1 ∙ ap Err z) | inr z ↦ inr (c.in-Err.ensures.refused.1 ∙ ap Err z) ])) (λ e. c.append.ensures.failed (c.in-Err.ensures.refused.1 ∙ ap Err e)) c.in-Err.ensures.refused.2.kept c.in-Err.ensures.refused.2.shut c.entered.ensures.room,
       (
         c.self.invariant.1.0,
-        unwritten_entry_by_clock g.C.Clock g.B.Founded.times b s.clock s.trail.entries c.self.invariant.1.1 c.take_entry.new.trail.entries c.take_entry.ensures.same c.in-Err.ensures.refused.0 _ c.entered.new.trail.entries _ _ _ _ _ c.in-Err.ensures.refused.2,
+        unwritten_entry_by_clock g.C.Clock g.B.Founded.times b g.B.Founded.lookback s.lookback s.clock s.trail.entries c.self.invariant.1.1 c.take_entry.new.trail.entries c.take_entry.ensures.same c.in-Err.ensures.refused.0 _ c.entered.new.trail.entries _ _ _ _ _ c.in-Err.ensures.refused.2,
       ),
     ))
 
@@ -190,7 +190,7 @@ returns-in-Ok-entered-clause-ok g c = (let
     in let
     b = g.B.Based.base
     in let
-    v : Shown = shown_of s.seat s.trail.entries s.late s.closed s.groups.items
+    v : Shown = shown_of s.seat s.trail.entries s.late s.closed s.groups.items s.lookback s.raising
     in let
     p = c.in_ok-place.place
     in let
@@ -223,7 +223,7 @@ returns-in-Err-clause-refused g c = (let
     in let
     b = g.B.Based.base
     in let
-    v : Shown = shown_of s.seat s.trail.entries s.late s.closed s.groups.items
+    v : Shown = shown_of s.seat s.trail.entries s.late s.closed s.groups.items s.lookback s.raising
     in let
     p = c.in_ok-place.place
     in let

@@ -30,7 +30,7 @@ returns-in_err-place-clause-refused g c = (let
     in let
     b = g.B.Based.base
     in let
-    v : Shown = shown_of s.seat s.trail.entries s.late s.closed s.groups.items
+    v : Shown = shown_of s.seat s.trail.entries s.late s.closed s.groups.items s.lookback s.raising
     in let
     f = c.in_err-place.field-0.0
     in let
@@ -50,7 +50,7 @@ returns-in_default-clause-refused g c = (let
     in let
     b = g.B.Based.base
     in let
-    v : Shown = shown_of s.seat s.trail.entries s.late s.closed s.groups.items
+    v : Shown = shown_of s.seat s.trail.entries s.late s.closed s.groups.items s.lookback s.raising
     in let
     p = c.in_ok-place.place
     in let
@@ -67,7 +67,7 @@ returns-in_default-take_entry-clause-refused g c = (let
     in let
     b = g.B.Based.base
     in let
-    v : Shown = shown_of s.seat s.trail.entries s.late s.closed s.groups.items
+    v : Shown = shown_of s.seat s.trail.entries s.late s.closed s.groups.items s.lookback s.raising
     in let
     p = c.in_ok-place.place
     in let
@@ -85,7 +85,7 @@ append-requires g c = (let
     in let
     b = g.B.Based.base
     in let
-    v : Shown = shown_of s.seat s.trail.entries s.late s.closed s.groups.items
+    v : Shown = shown_of s.seat s.trail.entries s.late s.closed s.groups.items s.lookback s.raising
     in let
     p = c.in_ok-place.place
     in let
@@ -105,7 +105,7 @@ invariant_of-self-in-Ok-entered g c = (let
     in let
     b = g.B.Based.base
     in let
-    v : Shown = shown_of s.seat s.trail.entries s.late s.closed s.groups.items
+    v : Shown = shown_of s.seat s.trail.entries s.late s.closed s.groups.items s.lookback s.raising
     in let
     p = c.in_ok-place.place
     in let
@@ -129,7 +129,7 @@ invariant_of-self-in-Ok-entered g c = (let
     in (
       entered_kept g.D.Disk b g.B.Founded.sound g.B.Founded.premise g.B.Founded.began c.append.new.disk c.append.new.self _ _ c.entered.new.trail s.late c.entered.new.late s.closed c.entered.new.closed _ _ c.in-Ok-entered.ensures.ok.1
           (dropping_kept g.D.Disk g.met.D.Disk.told g.met.D.Disk.up_to_now b g.B.Based.damaged g.B.Founded.sound g.B.Founded.premise g.B.Founded.began s.disk s.catalog s.standing s.groups.items s.trail s.late s.closed k at.running p.table h l h_is s.seat c.take_entry.new.trail c.take_entry.ensures.same c.in-Ok-take_entry.ensures.ok c.append.new.disk c.append.new.self c.append.ensures.counts c.append.ensures.touches c.args.table own c.args.index has unused c.append.ensures.any_moment (λ h. of_ok c.append.result tt _ c.in-Ok-entered.ensures.ok.0 (c.append.ensures.done h)) (of_ok c.append.result tt _ c.in-Ok-entered.ensures.ok.0 c.append.ensures.defined) c.index_mut.result.now h2_is c.drop_index.new.group c.drop_index.ensures c.replace-before.new.dest (c.replace-before.ensures.after ∙ c.in-Ok.ensures) c.entered.new.trail (g.D.Disk.calls c.append.new.disk) refl c.in-Ok-entered.ensures.ok.1.entries c.entered.ensures.room),
-      (c.self.invariant.1.0, more_by_clock g.C.Clock g.B.Founded.times g.B.Based.base s.clock s.trail.entries c.self.invariant.1.1 c.entered.new.trail.entries (record { seat = s.seat; calls = g.D.Disk.calls c.append.new.disk; act = act.Dropped c.args.table (Some c.args.index) }) (c.in-Ok-entered.ensures.ok.1.entries ∙ ap (λ (es : List Entry). es ++ (record { seat = s.seat; calls = g.D.Disk.calls c.append.new.disk; act = act.Dropped c.args.table (Some c.args.index) }) ∷ []) c.take_entry.ensures.same) refl),
+      (c.self.invariant.1.0, more_by_clock g.C.Clock g.B.Founded.times g.B.Based.base g.B.Founded.lookback s.lookback s.clock s.trail.entries c.self.invariant.1.1 c.entered.new.trail.entries (record { seat = s.seat; calls = g.D.Disk.calls c.append.new.disk; act = act.Dropped c.args.table (Some c.args.index) }) (c.in-Ok-entered.ensures.ok.1.entries ∙ ap (λ (es : List Entry). es ++ (record { seat = s.seat; calls = g.D.Disk.calls c.append.new.disk; act = act.Dropped c.args.table (Some c.args.index) }) ∷ []) c.take_entry.ensures.same) refl),
     ))
 
 pub invariant_of-self-in-Err : goal.invariant_of-self-in-Err
@@ -140,7 +140,7 @@ invariant_of-self-in-Err g c = (let
     in let
     b = g.B.Based.base
     in let
-    v : Shown = shown_of s.seat s.trail.entries s.late s.closed s.groups.items
+    v : Shown = shown_of s.seat s.trail.entries s.late s.closed s.groups.items s.lookback s.raising
     in let
     p = c.in_ok-place.place
     in let
@@ -160,7 +160,7 @@ invariant_of-self-in-Err g c = (let
     in let
     unused : length h.points.items + length h.batches.items ≡ 0 = at.unused h h_is
     in
-    (dropping_failed g.D.Disk g.met.D.Disk.told g.met.D.Disk.up_to_now b g.B.Based.damaged g.B.Founded.sound g.B.Founded.premise g.B.Founded.began s.disk s.catalog s.standing s.groups.items s.trail s.late s.closed k at.running p.table h l h_is s.seat c.take_entry.new.trail c.take_entry.ensures.same c.in-Ok-take_entry.ensures.ok c.append.new.disk c.append.new.self c.append.ensures.counts c.append.ensures.touches c.args.table own c.args.index has unused c.append.ensures.any_moment c.entered.new.trail c.entered.new.late c.entered.new.closed c.in-Err.ensures.refused.0 (λ e. c.append.ensures.untouched (elim e [ inl x ↦ inl (c.in-Err.ensures.refused.1 ∙ ap Err x) | inr x ↦ inr (c.in-Err.ensures.refused.1 ∙ ap Err x) ])) (λ e. c.append.ensures.failed (c.in-Err.ensures.refused.1 ∙ ap Err e)) c.in-Err.ensures.refused.2.kept c.in-Err.ensures.refused.2.shut c.entered.ensures.room, (c.self.invariant.1.0, unwritten_entry_by_clock g.C.Clock g.B.Founded.times g.B.Based.base s.clock s.trail.entries c.self.invariant.1.1 c.take_entry.new.trail.entries c.take_entry.ensures.same c.in-Err.ensures.refused.0 _ c.entered.new.trail.entries _ _ _ _ _ c.in-Err.ensures.refused.2)))
+    (dropping_failed g.D.Disk g.met.D.Disk.told g.met.D.Disk.up_to_now b g.B.Based.damaged g.B.Founded.sound g.B.Founded.premise g.B.Founded.began s.disk s.catalog s.standing s.groups.items s.trail s.late s.closed k at.running p.table h l h_is s.seat c.take_entry.new.trail c.take_entry.ensures.same c.in-Ok-take_entry.ensures.ok c.append.new.disk c.append.new.self c.append.ensures.counts c.append.ensures.touches c.args.table own c.args.index has unused c.append.ensures.any_moment c.entered.new.trail c.entered.new.late c.entered.new.closed c.in-Err.ensures.refused.0 (λ e. c.append.ensures.untouched (elim e [ inl x ↦ inl (c.in-Err.ensures.refused.1 ∙ ap Err x) | inr x ↦ inr (c.in-Err.ensures.refused.1 ∙ ap Err x) ])) (λ e. c.append.ensures.failed (c.in-Err.ensures.refused.1 ∙ ap Err e)) c.in-Err.ensures.refused.2.kept c.in-Err.ensures.refused.2.shut c.entered.ensures.room, (c.self.invariant.1.0, unwritten_entry_by_clock g.C.Clock g.B.Founded.times g.B.Based.base g.B.Founded.lookback s.lookback s.clock s.trail.entries c.self.invariant.1.1 c.take_entry.new.trail.entries c.take_entry.ensures.same c.in-Err.ensures.refused.0 _ c.entered.new.trail.entries _ _ _ _ _ c.in-Err.ensures.refused.2)))
 
 pub returns-in-Ok-entered-clause-ok : goal.returns-in-Ok-entered-clause-ok
 returns-in-Ok-entered-clause-ok g c = (let
@@ -170,7 +170,7 @@ returns-in-Ok-entered-clause-ok g c = (let
     in let
     b = g.B.Based.base
     in let
-    v : Shown = shown_of s.seat s.trail.entries s.late s.closed s.groups.items
+    v : Shown = shown_of s.seat s.trail.entries s.late s.closed s.groups.items s.lookback s.raising
     in let
     p = c.in_ok-place.place
     in let
@@ -207,7 +207,7 @@ returns-in-Err-clause-refused g c = (let
     in let
     b = g.B.Based.base
     in let
-    v : Shown = shown_of s.seat s.trail.entries s.late s.closed s.groups.items
+    v : Shown = shown_of s.seat s.trail.entries s.late s.closed s.groups.items s.lookback s.raising
     in let
     p = c.in_ok-place.place
     in let

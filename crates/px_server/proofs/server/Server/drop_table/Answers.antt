@@ -25,7 +25,7 @@ returns-in-Some-clause-refused g c =
     let s = c.self.inside in
     let b = g.B.Based.base in
     let told = c.self.invariant.0.told in
-    let v : Shown = shown_of s.seat s.trail.entries s.late s.closed s.groups.items in
+    let v : Shown = shown_of s.seat s.trail.entries s.late s.closed s.groups.items s.lookback s.raising in
     subst (λ (w : Shown). Refuses (define_cause (DropTableOf c.args.table)) (known_by b g.B.Based.damaged w) (known_by b g.B.Based.damaged w) (Closed c.in-Some.call)) c.self.view_is
     (refused_closed (known_by b g.B.Based.damaged v) told.legal s.closed told.closing (DropTableOf c.args.table) c.in-Some.call c.in-Some.is)
 
@@ -34,7 +34,7 @@ returns-in_default-numbered_place-clause-refused g c =
     let s = c.self.inside in
     let b = g.B.Based.base in
     let told = c.self.invariant.0.told in
-    let v : Shown = shown_of s.seat s.trail.entries s.late s.closed s.groups.items in
+    let v : Shown = shown_of s.seat s.trail.entries s.late s.closed s.groups.items s.lookback s.raising in
     let running : s.closed ≡ None = none_of s.closed (λ x is. search rules) in
     subst (λ (w : Shown). Refuses (define_cause (DropTableOf c.args.table)) (known_by b g.B.Based.damaged w) (known_by b g.B.Based.damaged w) (NoTable)) c.self.view_is
     (drop_no_table (known_by b g.B.Based.damaged v) told.legal s.closed told.closing s.standing told.agrees running c.args.table c.in_default-numbered_place.ensures.none)
@@ -44,7 +44,7 @@ returns-then-count-gt0-clause-refused g c =
     let s = c.self.inside in
     let b = g.B.Based.base in
     let told = c.self.invariant.0.told in
-    let v : Shown = shown_of s.seat s.trail.entries s.late s.closed s.groups.items in
+    let v : Shown = shown_of s.seat s.trail.entries s.late s.closed s.groups.items s.lookback s.raising in
     let running : s.closed ≡ None = none_of s.closed (λ x is. search rules) in
     subst (λ (w : Shown). Refuses (define_cause (DropTableOf c.args.table)) (known_by b g.B.Based.damaged w) (known_by b g.B.Based.damaged w) (InUse c.uses-count.result)) c.self.view_is
     (drop_in_use (known_by b g.B.Based.damaged v) told.legal s.closed told.closing running c.args.table c.uses-count.result (table_uses g.D.Disk b g.B.Founded.sound g.B.Founded.premise g.B.Founded.began s.disk s.catalog s.standing s.groups.items s.trail s.late s.closed c.self.invariant.0 running c.args.table c.in-Some-numbered_place.place c.in-Some-numbered_place.ensures.found c.in-Some-numbered_place.ensures.numbered c.index.result.now (sym c.index.ensures) ∙ sym c.uses-count.ensures) c.if-count-gt0.true)
@@ -54,7 +54,7 @@ returns-in_default-standing_after-clause-refused g c =
     let s = c.self.inside in
     let b = g.B.Based.base in
     let told = c.self.invariant.0.told in
-    let v : Shown = shown_of s.seat s.trail.entries s.late s.closed s.groups.items in
+    let v : Shown = shown_of s.seat s.trail.entries s.late s.closed s.groups.items s.lookback s.raising in
     let running : s.closed ≡ None = none_of s.closed (λ x is. search rules) in
     subst (λ (w : Shown). Refuses (define_cause (DropTableOf c.args.table)) (known_by b g.B.Based.damaged w) (known_by b g.B.Based.damaged w) (Memory)) c.self.view_is
     (refused_memory (known_by b g.B.Based.damaged v) told.legal s.closed told.closing running (DropTableOf c.args.table))
@@ -64,7 +64,7 @@ returns-in_default-take_entry-clause-refused g c =
     let s = c.self.inside in
     let b = g.B.Based.base in
     let told = c.self.invariant.0.told in
-    let v : Shown = shown_of s.seat s.trail.entries s.late s.closed s.groups.items in
+    let v : Shown = shown_of s.seat s.trail.entries s.late s.closed s.groups.items s.lookback s.raising in
     let running : s.closed ≡ None = none_of s.closed (λ x is. search rules) in
     subst (λ (w : Shown). Refuses (define_cause (DropTableOf c.args.table)) (known_by b g.B.Based.damaged w) (record (known_by b g.B.Based.damaged v) { seen = c.take_entry.new.trail.entries }) Memory) c.self.view_is
     (subst (λ (es : List Entry). Refuses (define_cause (DropTableOf c.args.table)) (known_by b g.B.Based.damaged v) (record (known_by b g.B.Based.damaged v) { seen = es }) Memory) (sym c.take_entry.ensures.same)
@@ -91,7 +91,7 @@ invariant_of-self-in-Ok-entered g c =
           (λ h. of_ok c.append.result tt _ c.in-Ok-entered.ensures.ok.0 (c.append.ensures.done h)) (of_ok c.append.result tt _ c.in-Ok-entered.ensures.ok.0 c.append.ensures.defined) c.replace-before.new.dest (c.replace-before.ensures.after ∙ c.in-Ok.ensures) c.retain.new.self.items
           (filter_same _ (λ (x : Group). not (x.table.id.0 == c.args.table.0)) _ (λ x v f' k. search rules) _ _ c.retain.ensures.filtered)
           c.entered.new.trail (g.D.Disk.calls c.append.new.disk) refl c.in-Ok-entered.ensures.ok.1.entries c.entered.ensures.room),
-      (c.self.invariant.1.0, more_by_clock g.C.Clock g.B.Founded.times g.B.Based.base s.clock s.trail.entries c.self.invariant.1.1 c.entered.new.trail.entries (record { seat = s.seat; calls = g.D.Disk.calls c.append.new.disk; act = Dropped c.args.table None }) (c.in-Ok-entered.ensures.ok.1.entries ∙ ap (λ (es : List Entry). es ++ (record { seat = s.seat; calls = g.D.Disk.calls c.append.new.disk; act = Dropped c.args.table None }) ∷ []) c.take_entry.ensures.same) refl),
+      (c.self.invariant.1.0, more_by_clock g.C.Clock g.B.Founded.times g.B.Based.base g.B.Founded.lookback s.lookback s.clock s.trail.entries c.self.invariant.1.1 c.entered.new.trail.entries (record { seat = s.seat; calls = g.D.Disk.calls c.append.new.disk; act = Dropped c.args.table None }) (c.in-Ok-entered.ensures.ok.1.entries ∙ ap (λ (es : List Entry). es ++ (record { seat = s.seat; calls = g.D.Disk.calls c.append.new.disk; act = Dropped c.args.table None }) ∷ []) c.take_entry.ensures.same) refl),
     )
 
 pub invariant_of-self-in-Err : goal.invariant_of-self-in-Err
@@ -104,7 +104,7 @@ invariant_of-self-in-Err g c =
           running c.args.table c.in-Some-numbered_place.place c.in-Some-numbered_place.ensures.found c.in-Some-numbered_place.ensures.numbered c.index.result.now (sym c.index.ensures) unused c.append.ensures.any_moment
           c.entered.new.trail c.entered.new.late c.entered.new.closed c.in-Err.ensures.refused.0 (λ e. c.append.ensures.untouched (elim e [ inl x ↦ inl (c.in-Err.ensures.refused.1 ∙ ap Err x) | inr x ↦ inr (c.in-Err.ensures.refused.1 ∙ ap Err x) ])) (λ e. c.append.ensures.failed (c.in-Err.ensures.refused.1 ∙ ap Err e))
           c.in-Err.ensures.refused.2.kept c.in-Err.ensures.refused.2.shut c.entered.ensures.room,
-      (c.self.invariant.1.0, unwritten_entry_by_clock g.C.Clock g.B.Founded.times g.B.Based.base s.clock s.trail.entries c.self.invariant.1.1 c.take_entry.new.trail.entries c.take_entry.ensures.same c.in-Err.ensures.refused.0 _ c.entered.new.trail.entries _ _ _ _ _ c.in-Err.ensures.refused.2),
+      (c.self.invariant.1.0, unwritten_entry_by_clock g.C.Clock g.B.Founded.times g.B.Based.base g.B.Founded.lookback s.lookback s.clock s.trail.entries c.self.invariant.1.1 c.take_entry.new.trail.entries c.take_entry.ensures.same c.in-Err.ensures.refused.0 _ c.entered.new.trail.entries _ _ _ _ _ c.in-Err.ensures.refused.2),
     )
 
 pub returns-in-Ok-entered-clause-ok : goal.returns-in-Ok-entered-clause-ok
@@ -112,7 +112,7 @@ returns-in-Ok-entered-clause-ok g c =
     let s = c.self.inside in
     let b = g.B.Based.base in
     let told = c.self.invariant.0.told in
-    let v : Shown = shown_of s.seat s.trail.entries s.late s.closed s.groups.items in
+    let v : Shown = shown_of s.seat s.trail.entries s.late s.closed s.groups.items s.lookback s.raising in
     let v' : Shown = record v { entries = c.entered.new.trail.entries } in
     let m : Answered = record { number = c.args.table.0; stamp = 0; at = c.len.result } in
     subst (λ (w : Shown). DidDefine (known_by b g.B.Based.damaged w) (known_by b g.B.Based.damaged v') (DropTableOf c.args.table) m) c.self.view_is
@@ -124,7 +124,7 @@ returns-in-Err-clause-refused g c =
     let s = c.self.inside in
     let b = g.B.Based.base in
     let told = c.self.invariant.0.told in
-    let v : Shown = shown_of s.seat s.trail.entries s.late s.closed s.groups.items in
+    let v : Shown = shown_of s.seat s.trail.entries s.late s.closed s.groups.items s.lookback s.raising in
     let running : s.closed ≡ None = none_of s.closed (λ x is. search rules) in
     let v' : Shown = record v { entries = c.entered.new.trail.entries; late = c.entered.new.late; closed = c.entered.new.closed } in
     let calls = g.D.Disk.calls c.append.new.disk in

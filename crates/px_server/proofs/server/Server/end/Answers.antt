@@ -20,7 +20,7 @@ unreachable-requires g c =
     let s = c.self.inside in
     let b = g.B.Based.base in
     let told = c.self.invariant.0.told in
-    let can : CanEnd (known_by b g.B.Based.damaged (shown_of s.seat s.trail.entries s.late s.closed s.groups.items)) c.args.t = subst (λ (v : Shown). CanEnd (known_by b g.B.Based.damaged v) c.args.t) (sym c.self.view_is) c.requires in
+    let can : CanEnd (known_by b g.B.Based.damaged (shown_of s.seat s.trail.entries s.late s.closed s.groups.items s.lookback s.raising)) c.args.t = subst (λ (v : Shown). CanEnd (known_by b g.B.Based.damaged v) c.args.t) (sym c.self.view_is) c.requires in
     let w = written_batch b s.trail.entries told.legal s.seat c.args.t.table.0 c.args.t.stamp can in
     none_running b s.trail.entries told.legal c.args.t.table.0 c.args.t.stamp w.batch w.is w.running (lacks b s.trail.entries s.standing told.agrees c.args.t.table.0 c.in_default.ensures.none)
 
@@ -28,7 +28,7 @@ pub unreachable-requires-in_default-batch_place : goal.unreachable-requires-in_d
 unreachable-requires-in_default-batch_place g c =
     let s = c.self.inside in
     let b = g.B.Based.base in
-    let can : CanEnd (known_by b g.B.Based.damaged (shown_of s.seat s.trail.entries s.late s.closed s.groups.items)) c.args.t = subst (λ (v : Shown). CanEnd (known_by b g.B.Based.damaged v) c.args.t) (sym c.self.view_is) c.requires in
+    let can : CanEnd (known_by b g.B.Based.damaged (shown_of s.seat s.trail.entries s.late s.closed s.groups.items s.lookback s.raising)) c.args.t = subst (λ (v : Shown). CanEnd (known_by b g.B.Based.damaged v) c.args.t) (sym c.self.view_is) c.requires in
     has_end g.D.Disk b g.B.Founded.sound g.B.Founded.premise g.B.Founded.began s.disk s.catalog s.standing s.groups.items s.trail s.late s.closed c.self.invariant.0 c.args.t.table c.in-Some.place c.index.result.now c.in-Some.ensures.found c.in-Some.ensures.numbered (sym c.index.ensures) c.args.t.stamp
     s.seat can c.in_default-batch_place.ensures.none
 
@@ -37,21 +37,21 @@ invariant_of-self g c =
     let s = c.self.inside in
     let b = g.B.Based.base in
     let kept = c.self.invariant.0 in
-    let can : CanEnd (known_by b g.B.Based.damaged (shown_of s.seat s.trail.entries s.late s.closed s.groups.items)) c.args.t = subst (λ (v : Shown). CanEnd (known_by b g.B.Based.damaged v) c.args.t) (sym c.self.view_is) c.requires in
+    let can : CanEnd (known_by b g.B.Based.damaged (shown_of s.seat s.trail.entries s.late s.closed s.groups.items s.lookback s.raising)) c.args.t = subst (λ (v : Shown). CanEnd (known_by b g.B.Based.damaged v) c.args.t) (sym c.self.view_is) c.requires in
     let place = c.in-Some in
     let same : c.index.result.now ≡ c.index_mut.result.now = one_there s.groups.items place.place c.index.result.now c.index_mut.result.now (place_in s.groups.items s.standing.tables kept.each.stand place.place place.ensures.found) (sym c.index.ensures) (sym c.index_mut.ensures.value) in
     let x = c.end-rows.ensures in
     let stamp = end_stamp c.index.result.now c.index_mut.result.now same c.in-Some-batch_place.batch c.args.t.stamp c.in-Some-batch_place.ensures.found x.batch x.goes.batch in (
       ends g.D.Disk b g.B.Founded.sound g.B.Founded.premise g.B.Founded.began s.disk s.catalog s.standing s.groups.items s.trail s.late s.closed kept c.args.t.table place.place c.index_mut.result.now place.ensures.found place.ensures.numbered (sym c.index_mut.ensures.value) c.args.t.stamp
           s.seat can c.in-Some-batch_place.batch x.batch x.goes.batch stamp c.call_count.result c.call_count.ensures g.met.D.Disk.told g.met.D.Disk.up_to_now c.end-rows.new.group x.goes c.push.new.self c.push.ensures.entries c.push.ensures.room,
-      (c.self.invariant.1.0, more_by_clock g.C.Clock g.B.Founded.times g.B.Based.base s.clock s.trail.entries c.self.invariant.1.1 c.push.new.self.entries (record { seat = s.seat; calls = c.call_count.result; act = EndedAct c.args.t.table c.args.t.stamp }) c.push.ensures.entries refl),
+      (c.self.invariant.1.0, more_by_clock g.C.Clock g.B.Founded.times g.B.Based.base g.B.Founded.lookback s.lookback s.clock s.trail.entries c.self.invariant.1.1 c.push.new.self.entries (record { seat = s.seat; calls = c.call_count.result; act = EndedAct c.args.t.table c.args.t.stamp }) c.push.ensures.entries refl),
     )
 
 pub returns-clause-adds : goal.returns-clause-adds
 returns-clause-adds g c =
     let s = c.self.inside in
     let told = c.self.invariant.0.told in
-    let v : Shown = shown_of s.seat s.trail.entries s.late s.closed s.groups.items in
+    let v : Shown = shown_of s.seat s.trail.entries s.late s.closed s.groups.items s.lookback s.raising in
     let v' : Shown = record v { entries = c.push.new.self.entries } in
     subst (λ (w : Shown). Adds (known_by g.B.Based.base g.B.Based.damaged w) (known_by g.B.Based.base g.B.Based.damaged v') (EndedAct c.args.t.table c.args.t.stamp)) c.self.view_is
     (one_more (known_by g.B.Based.base g.B.Based.damaged v) c.push.new.self.entries c.call_count.result (EndedAct c.args.t.table c.args.t.stamp) told.legal c.push.ensures.entries (invariant_of-self g c).0.told.legal)
@@ -62,7 +62,7 @@ returns-clause-receipt g c =
     let u = c.unfinished_by-unfinished in
     let b = g.B.Based.base in
     let kept = c.self.invariant.0 in
-    let can : CanEnd (known_by b g.B.Based.damaged (shown_of s.seat s.trail.entries s.late s.closed s.groups.items)) c.args.t = subst (λ (v : Shown). CanEnd (known_by b g.B.Based.damaged v) c.args.t) (sym c.self.view_is) c.requires in
+    let can : CanEnd (known_by b g.B.Based.damaged (shown_of s.seat s.trail.entries s.late s.closed s.groups.items s.lookback s.raising)) c.args.t = subst (λ (v : Shown). CanEnd (known_by b g.B.Based.damaged v) c.args.t) (sym c.self.view_is) c.requires in
     let place = c.in-Some in
     let same : c.index.result.now ≡ c.index_mut.result.now = one_there s.groups.items place.place c.index.result.now c.index_mut.result.now (place_in s.groups.items s.standing.tables kept.each.stand place.place place.ensures.found) (sym c.index.ensures) (sym c.index_mut.ensures.value) in
     let x = c.end-rows.ensures in

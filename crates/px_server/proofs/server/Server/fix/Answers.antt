@@ -12,7 +12,6 @@ use Rattle.px_pointreads.specs.Points.{GroupLacksIndex}
 use Rattle.px_server.specs.Looks.{rows_looked}
 use Rattle.px_server.specs.Sights.{have_doubt}
 use Rattle.px_calls.specs.Doubtful.{IndexVersion, IsForRoom, version_of}
-use Rattle.px_calls.specs.declared.fault.StepFault.{StepFault}
 use Rattle.px_calls.specs.declared.query.Point.{Point}
 use Rattle.px_server.specs.Repairs.{Mends, RefusesFix, WritesNothing}
 use Rattle.px_server.specs.Kept.{IsKept}
@@ -40,7 +39,7 @@ pub returns-in-Some-clause-refused : goal.returns-in-Some-clause-refused
 returns-in-Some-clause-refused g c =
     let s = c.self.inside in
     let told = c.self.invariant.0.told in
-    let v : Shown = shown_of s.seat s.trail.entries s.late s.closed s.groups.items in
+    let v : Shown = shown_of s.seat s.trail.entries s.late s.closed s.groups.items s.lookback s.raising in
     subst (λ (w : Shown). Refuses fix_cause (known_by g.B.Based.base g.B.Based.damaged w) (known_by g.B.Based.base g.B.Based.damaged w) (Closed c.in-Some.call)) c.self.view_is
     (closed_by (known_by g.B.Based.base g.B.Based.damaged v) told.legal s.closed told.closing c.in-Some.call c.in-Some.is)
 
@@ -48,7 +47,7 @@ pub returns-in_default-doubt_place-clause-ok : goal.returns-in_default-doubt_pla
 returns-in_default-doubt_place-clause-ok g c =
     let s = c.self.inside in
     let told = c.self.invariant.0.told in
-    let v : Shown = shown_of s.seat s.trail.entries s.late s.closed s.groups.items in
+    let v : Shown = shown_of s.seat s.trail.entries s.late s.closed s.groups.items s.lookback s.raising in
     let running : s.closed ≡ None = none_of s.closed (λ x is. search rules) in
     subst (λ (w : Shown). Finds (known_by g.B.Based.base g.B.Based.damaged w) (known_by g.B.Based.base g.B.Based.damaged w)) c.self.view_is
     (finds (known_by g.B.Based.base g.B.Based.damaged v) told.legal s.closed told.closing running)
@@ -60,7 +59,7 @@ pub returns-in_default-copied-clause-refused : goal.returns-in_default-copied-cl
 returns-in_default-copied-clause-refused g c =
     let s = c.self.inside in
     let told = c.self.invariant.0.told in
-    let v : Shown = shown_of s.seat s.trail.entries s.late s.closed s.groups.items in
+    let v : Shown = shown_of s.seat s.trail.entries s.late s.closed s.groups.items s.lookback s.raising in
     let running : s.closed ≡ None = none_of s.closed (λ x is. search rules) in
     subst (λ (w : Shown). Refuses fix_cause (known_by g.B.Based.base g.B.Based.damaged w) (known_by g.B.Based.base g.B.Based.damaged w) Memory) c.self.view_is
     (tt, stays (known_by g.B.Based.base g.B.Based.damaged v) told.legal, told.closing ∙ running)
@@ -77,7 +76,7 @@ returns-then-is_err-clause-refused g c =
     let b = g.B.Based.base in
     let k = c.self.invariant.0 in
     let told = k.told in
-    let v : Shown = shown_of s.seat s.trail.entries s.late s.closed s.groups.items in
+    let v : Shown = shown_of s.seat s.trail.entries s.late s.closed s.groups.items s.lookback s.raising in
     let running : s.closed ≡ None = none_of s.closed (λ x is. search rules) in
     subst (λ (w : Shown). Refuses fix_cause (known_by b g.B.Based.damaged w) (known_by b g.B.Based.damaged (record v { entries = c.reserve.new.self.entries })) Memory) c.self.view_is
     (subst (λ (es : List Entry). Refuses fix_cause (known_by b g.B.Based.damaged v) (known_by b g.B.Based.damaged (record v { entries = es })) Memory) (sym c.reserve.ensures.same)
@@ -89,7 +88,7 @@ invariant_of-self-then-has_stayed g c =
     let b = g.B.Based.base in
     let k = c.self.invariant.0 in
     let told = k.told in
-    let v : Shown = shown_of s.seat s.trail.entries s.late s.closed s.groups.items in
+    let v : Shown = shown_of s.seat s.trail.entries s.late s.closed s.groups.items s.lookback s.raising in
     let running : s.closed ≡ None = none_of s.closed (λ x is. search rules) in
     let l : c.in-Some-doubt_place.at.group < length s.groups.items = inside s.groups.items c.deref.result.now c.in-Some-doubt_place.at.group c.deref.ensures.value c.in-Some-doubt_place.ensures.within in
     let named = (doubt_at s.groups.items c.deref.result.now c.in-Some-doubt_place.at.group c.in-Some-doubt_place.at.index c.args.d.now.index c.index_mut-group.result.now _ c.deref.ensures.value c.in-Some-doubt_place.ensures.within c.in-Some-doubt_place.ensures.numbered c.index_mut-group.ensures.value).1 in
@@ -98,7 +97,7 @@ invariant_of-self-then-has_stayed g c =
       roomy g.D.Disk b g.B.Founded.sound g.B.Founded.premise g.B.Founded.began c.fix-fixed.new.disk s.catalog s.standing (slice_set s.groups.items c.in-Some-doubt_place.at.group c.fix-fixed.new.group) s.trail s.late s.closed
           (fix_stayed g.D.Disk g.met.D.Disk.told g.met.D.Disk.up_to_now b g.B.Founded.sound g.B.Founded.premise g.B.Founded.began s.disk s.catalog s.standing s.groups.items s.trail s.late s.closed k running c.in-Some-doubt_place.at.group c.index_mut-group.result.now c.fix-fixed.new.group l (sym c.index_mut-group.ensures.value) c.fix-fixed.new.disk h)
           c.give_back.new.self (c.give_back.ensures.same ∙ c.reserve.ensures.same) (let r = c.give_back.ensures.room in let o : c.reserve.new.self.room ≡ s.trail.room + 1 = search rules in omega (arith, r, o)),
-      (c.self.invariant.1.0, same_by_clock g.C.Clock g.B.Founded.times g.B.Based.base s.clock s.trail.entries c.self.invariant.1.1 c.give_back.new.self.entries (c.give_back.ensures.same ∙ c.reserve.ensures.same)),
+      (c.self.invariant.1.0, same_by_clock g.C.Clock g.B.Founded.times g.B.Based.base g.B.Founded.lookback s.lookback s.clock s.trail.entries c.self.invariant.1.1 c.give_back.new.self.entries (c.give_back.ensures.same ∙ c.reserve.ensures.same)),
     )
 
 pub returns-then-has_stayed-clause-ok : goal.returns-then-has_stayed-clause-ok
@@ -107,7 +106,7 @@ returns-then-has_stayed-clause-ok g c =
     let b = g.B.Based.base in
     let k = c.self.invariant.0 in
     let told = k.told in
-    let v : Shown = shown_of s.seat s.trail.entries s.late s.closed s.groups.items in
+    let v : Shown = shown_of s.seat s.trail.entries s.late s.closed s.groups.items s.lookback s.raising in
     let running : s.closed ≡ None = none_of s.closed (λ x is. search rules) in
     let l : c.in-Some-doubt_place.at.group < length s.groups.items = inside s.groups.items c.deref.result.now c.in-Some-doubt_place.at.group c.deref.ensures.value c.in-Some-doubt_place.ensures.within in
     let named = (doubt_at s.groups.items c.deref.result.now c.in-Some-doubt_place.at.group c.in-Some-doubt_place.at.index c.args.d.now.index c.index_mut-group.result.now _ c.deref.ensures.value c.in-Some-doubt_place.ensures.within c.in-Some-doubt_place.ensures.numbered c.index_mut-group.ensures.value).1 in
@@ -139,7 +138,7 @@ returns-then-has_stayed-clause-refused g c =
     let b = g.B.Based.base in
     let k = c.self.invariant.0 in
     let told = k.told in
-    let v : Shown = shown_of s.seat s.trail.entries s.late s.closed s.groups.items in
+    let v : Shown = shown_of s.seat s.trail.entries s.late s.closed s.groups.items s.lookback s.raising in
     let running : s.closed ≡ None = none_of s.closed (λ x is. search rules) in
     let l : c.in-Some-doubt_place.at.group < length s.groups.items = inside s.groups.items c.deref.result.now c.in-Some-doubt_place.at.group c.deref.ensures.value c.in-Some-doubt_place.ensures.within in
     let named = (doubt_at s.groups.items c.deref.result.now c.in-Some-doubt_place.at.group c.in-Some-doubt_place.at.index c.args.d.now.index c.index_mut-group.result.now _ c.deref.ensures.value c.in-Some-doubt_place.ensures.within c.in-Some-doubt_place.ensures.numbered c.index_mut-group.ensures.value).1 in
@@ -173,7 +172,7 @@ invariant_of-self-in-Ok-fixed g c =
     let b = g.B.Based.base in
     let k = c.self.invariant.0 in
     let told = k.told in
-    let v : Shown = shown_of s.seat s.trail.entries s.late s.closed s.groups.items in
+    let v : Shown = shown_of s.seat s.trail.entries s.late s.closed s.groups.items s.lookback s.raising in
     let running : s.closed ≡ None = none_of s.closed (λ x is. search rules) in
     let l : c.in-Some-doubt_place.at.group < length s.groups.items = inside s.groups.items c.deref.result.now c.in-Some-doubt_place.at.group c.deref.ensures.value c.in-Some-doubt_place.ensures.within in
     let named = (doubt_at s.groups.items c.deref.result.now c.in-Some-doubt_place.at.group c.in-Some-doubt_place.at.index c.args.d.now.index c.index_mut-group.result.now _ c.deref.ensures.value c.in-Some-doubt_place.ensures.within c.in-Some-doubt_place.ensures.numbered c.index_mut-group.ensures.value).1 in
@@ -183,7 +182,7 @@ invariant_of-self-in-Ok-fixed g c =
     let p = c.push.ensures.room in (
       fixed_kept g.D.Disk g.met.D.Disk.told g.met.D.Disk.up_to_now b g.B.Founded.sound g.B.Founded.premise g.B.Founded.began s.disk s.catalog s.standing s.groups.items s.trail s.late s.closed k running c.in-Some-doubt_place.at.group c.index_mut-group.result.now c.fix-fixed.new.group l (sym c.index_mut-group.ensures.value) c.fix-fixed.new.disk
           c.in-Some-doubt_place.at.index c.as_slice.result.now c.args.d.now.stamp f s.seat c.call_count-calls.result c.args.d.now.index c.in-Ok.key named c.call_count-calls.ensures c.push.new.self (c.push.ensures.entries ∙ ap (λ (es : List Entry). es ++ (record { seat = s.seat; calls = c.call_count-calls.result; act = FixedAct c.args.d.now.index c.in-Ok.key }) ∷ []) c.reserve.ensures.same) (omega (arith, o, p)),
-      (c.self.invariant.1.0, more_by_clock g.C.Clock g.B.Founded.times g.B.Based.base s.clock s.trail.entries c.self.invariant.1.1 c.push.new.self.entries (record { seat = s.seat; calls = c.call_count-calls.result; act = FixedAct c.args.d.now.index c.in-Ok.key }) (c.push.ensures.entries ∙ ap (λ (es : List Entry). es ++ (record { seat = s.seat; calls = c.call_count-calls.result; act = FixedAct c.args.d.now.index c.in-Ok.key }) ∷ []) c.reserve.ensures.same) refl),
+      (c.self.invariant.1.0, more_by_clock g.C.Clock g.B.Founded.times g.B.Based.base g.B.Founded.lookback s.lookback s.clock s.trail.entries c.self.invariant.1.1 c.push.new.self.entries (record { seat = s.seat; calls = c.call_count-calls.result; act = FixedAct c.args.d.now.index c.in-Ok.key }) (c.push.ensures.entries ∙ ap (λ (es : List Entry). es ++ (record { seat = s.seat; calls = c.call_count-calls.result; act = FixedAct c.args.d.now.index c.in-Ok.key }) ∷ []) c.reserve.ensures.same) refl),
     )
 
 pub returns-in-Ok-fixed-clause-ok : goal.returns-in-Ok-fixed-clause-ok
@@ -192,7 +191,7 @@ returns-in-Ok-fixed-clause-ok g c =
     let b = g.B.Based.base in
     let k = c.self.invariant.0 in
     let told = k.told in
-    let v : Shown = shown_of s.seat s.trail.entries s.late s.closed s.groups.items in
+    let v : Shown = shown_of s.seat s.trail.entries s.late s.closed s.groups.items s.lookback s.raising in
     let running : s.closed ≡ None = none_of s.closed (λ x is. search rules) in
     let l : c.in-Some-doubt_place.at.group < length s.groups.items = inside s.groups.items c.deref.result.now c.in-Some-doubt_place.at.group c.deref.ensures.value c.in-Some-doubt_place.ensures.within in
     let named = (doubt_at s.groups.items c.deref.result.now c.in-Some-doubt_place.at.group c.in-Some-doubt_place.at.index c.args.d.now.index c.index_mut-group.result.now _ c.deref.ensures.value c.in-Some-doubt_place.ensures.within c.in-Some-doubt_place.ensures.numbered c.index_mut-group.ensures.value).1 in
@@ -232,7 +231,7 @@ invariant_of-self-in-Err g c =
     let b = g.B.Based.base in
     let k = c.self.invariant.0 in
     let told = k.told in
-    let v : Shown = shown_of s.seat s.trail.entries s.late s.closed s.groups.items in
+    let v : Shown = shown_of s.seat s.trail.entries s.late s.closed s.groups.items s.lookback s.raising in
     let running : s.closed ≡ None = none_of s.closed (λ x is. search rules) in
     let l : c.in-Some-doubt_place.at.group < length s.groups.items = inside s.groups.items c.deref.result.now c.in-Some-doubt_place.at.group c.deref.ensures.value c.in-Some-doubt_place.ensures.within in
     let named = (doubt_at s.groups.items c.deref.result.now c.in-Some-doubt_place.at.group c.in-Some-doubt_place.at.index c.args.d.now.index c.index_mut-group.result.now _ c.deref.ensures.value c.in-Some-doubt_place.ensures.within c.in-Some-doubt_place.ensures.numbered c.index_mut-group.ensures.value).1 in
@@ -245,7 +244,7 @@ invariant_of-self-in-Err g c =
       subst (λ (la : Option Entry). IsKept g.D.Disk b g.B.Founded.sound g.B.Founded.premise g.B.Founded.began c.fix-fixed.new.disk s.catalog s.standing (slice_set s.groups.items c.in-Some-doubt_place.at.group c.fix-fixed.new.group) c.shut.new.trail la (Some c.call_count-calls.result)) (sym unlate)
           (failed_kept g.D.Disk g.met.D.Disk.told g.met.D.Disk.up_to_now b g.B.Founded.sound g.B.Founded.premise g.B.Founded.began s.disk s.catalog s.standing s.groups.items s.trail s.late s.closed k running c.in-Some-doubt_place.at.group c.index_mut-group.result.now c.fix-fixed.new.group l (sym c.index_mut-group.ensures.value) c.fix-fixed.new.disk
           c.in-Some-doubt_place.at.index c.as_slice.result.now c.args.d.now.stamp f.0.looked f.0.has f.0.kept f.0.due f.0.hands shut c.call_count-calls.result refl c.call_count-calls.ensures (c.fix-fixed.ensures.failed f.1) c.shut.new.trail (c.shut.ensures.entries ∙ ap (λ (es : List Entry). es ++ shut ∷ []) c.reserve.ensures.same) (omega (arith, o, p))),
-      (c.self.invariant.1.0, more_by_clock g.C.Clock g.B.Founded.times g.B.Based.base s.clock s.trail.entries c.self.invariant.1.1 c.shut.new.trail.entries shut (c.shut.ensures.entries ∙ ap (λ (es : List Entry). es ++ shut ∷ []) c.reserve.ensures.same) refl),
+      (c.self.invariant.1.0, more_by_clock g.C.Clock g.B.Founded.times g.B.Based.base g.B.Founded.lookback s.lookback s.clock s.trail.entries c.self.invariant.1.1 c.shut.new.trail.entries shut (c.shut.ensures.entries ∙ ap (λ (es : List Entry). es ++ shut ∷ []) c.reserve.ensures.same) refl),
     )
 
 pub returns-in-Err-clause-refused : goal.returns-in-Err-clause-refused
@@ -254,7 +253,7 @@ returns-in-Err-clause-refused g c =
     let b = g.B.Based.base in
     let k = c.self.invariant.0 in
     let told = k.told in
-    let v : Shown = shown_of s.seat s.trail.entries s.late s.closed s.groups.items in
+    let v : Shown = shown_of s.seat s.trail.entries s.late s.closed s.groups.items s.lookback s.raising in
     let running : s.closed ≡ None = none_of s.closed (λ x is. search rules) in
     let shut : Entry = record { seat = s.seat; calls = c.call_count-calls.result; act = ShutAct c.call_count-calls.result } in
     let pushed : c.shut.new.trail.entries ≡ s.trail.entries ++ shut ∷ [] = c.shut.ensures.entries ∙ ap (λ (es : List Entry). es ++ shut ∷ []) c.reserve.ensures.same in

@@ -25,7 +25,7 @@ pub returns-in-Some-clause-refused : goal.returns-in-Some-clause-refused
 returns-in-Some-clause-refused g c =
     let s = c.self.inside in
     let told = c.self.invariant.0.told in
-    let v : Shown = shown_of s.seat s.trail.entries s.late s.closed s.groups.items in
+    let v : Shown = shown_of s.seat s.trail.entries s.late s.closed s.groups.items s.lookback s.raising in
     subst (λ (w : Shown). Refuses read_cause (known_by g.B.Based.base g.B.Based.damaged w) (known_by g.B.Based.base g.B.Based.damaged w) (Closed c.in-Some.call)) c.self.view_is
     (closed_by (known_by g.B.Based.base g.B.Based.damaged v) told.legal s.closed told.closing c.in-Some.call c.in-Some.is)
 
@@ -33,7 +33,7 @@ pub returns-in_default-point_place-clause-refused : goal.returns-in_default-poin
 returns-in_default-point_place-clause-refused g c =
     let s = c.self.inside in
     let told = c.self.invariant.0.told in
-    let v : Shown = shown_of s.seat s.trail.entries s.late s.closed s.groups.items in
+    let v : Shown = shown_of s.seat s.trail.entries s.late s.closed s.groups.items s.lookback s.raising in
     let running : s.closed ≡ None = none_of s.closed (λ x is. search rules) in
     subst (λ (w : Shown). Refuses read_cause (known_by g.B.Based.base g.B.Based.damaged w) (known_by g.B.Based.base g.B.Based.damaged w) Memory) c.self.view_is
     (no_memory (known_by g.B.Based.base g.B.Based.damaged v) told.legal s.closed told.closing running)
@@ -56,7 +56,7 @@ returns-clause-ok g c =
     let b = g.B.Based.base in
     let k = c.self.invariant.0 in
     let told = k.told in
-    let v : Shown = shown_of s.seat s.trail.entries s.late s.closed s.groups.items in
+    let v : Shown = shown_of s.seat s.trail.entries s.late s.closed s.groups.items s.lookback s.raising in
     let running : s.closed ≡ None = none_of s.closed (λ x is. search rules) in
     let l : c.in-Some-point_place.place < length s.groups.items = inside s.groups.items c.deref.result.now c.in-Some-point_place.place c.deref.ensures.value c.in-Some-point_place.ensures.within in
     elim c.match-look.branch [
@@ -71,7 +71,7 @@ returns-clause-refused g c =
     let s = c.self.inside in
     let b = g.B.Based.base in
     let told = c.self.invariant.0.told in
-    let v : Shown = shown_of s.seat s.trail.entries s.late s.closed s.groups.items in
+    let v : Shown = shown_of s.seat s.trail.entries s.late s.closed s.groups.items s.lookback s.raising in
     let running : s.closed ≡ None = none_of s.closed (λ x is. search rules) in
     elim c.match-look.branch [
       | in-Ok w ↦ rw w.result-is tt

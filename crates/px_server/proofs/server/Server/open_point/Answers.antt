@@ -26,7 +26,7 @@ returns-in-Some-clause-refused g c =
     let s = c.self.inside in
     let b = g.B.Based.base in
     let told = c.self.invariant.0.told in
-    let v : Shown = shown_of s.seat s.trail.entries s.late s.closed s.groups.items in
+    let v : Shown = shown_of s.seat s.trail.entries s.late s.closed s.groups.items s.lookback s.raising in
     subst (λ (w : Shown). Refuses (open_cause c.args.table.0 c.args.scn) (known_by b g.B.Based.damaged w) (known_by b g.B.Based.damaged w) (Closed c.in-Some.call)) c.self.view_is
     (closed_by (known_by b g.B.Based.damaged v) told.legal s.closed told.closing c.in-Some.call c.in-Some.is)
 
@@ -35,7 +35,7 @@ returns-in_default-numbered_place-clause-refused g c =
     let s = c.self.inside in
     let b = g.B.Based.base in
     let told = c.self.invariant.0.told in
-    let v : Shown = shown_of s.seat s.trail.entries s.late s.closed s.groups.items in
+    let v : Shown = shown_of s.seat s.trail.entries s.late s.closed s.groups.items s.lookback s.raising in
     let running : s.closed ≡ None = none_of s.closed (λ x is. search rules) in
     subst (λ (w : Shown). Refuses (open_cause c.args.table.0 c.args.scn) (known_by b g.B.Based.damaged w) (known_by b g.B.Based.damaged w) NoTable) c.self.view_is
     (open_no_table (known_by b g.B.Based.damaged v) told.legal s.closed told.closing running c.args.table.0 c.args.scn (lacks b s.trail.entries s.standing told.agrees c.args.table.0 c.in_default-numbered_place.ensures.none))
@@ -46,7 +46,7 @@ returns-in_err-stamp-clause-refused g c =
     let b = g.B.Based.base in
     let kept = c.self.invariant.0 in
     let told = kept.told in
-    let v : Shown = shown_of s.seat s.trail.entries s.late s.closed s.groups.items in
+    let v : Shown = shown_of s.seat s.trail.entries s.late s.closed s.groups.items s.lookback s.raising in
     let running : s.closed ≡ None = none_of s.closed (λ x is. search rules) in
     let place = c.in-Some-numbered_place in
     let p = err_from_is_err_and c.from_residual.result c.from_residual.ensures.1 in
@@ -66,7 +66,7 @@ returns-in_default-found-clause-refused g c =
     let s = c.self.inside in
     let b = g.B.Based.base in
     let told = c.self.invariant.0.told in
-    let v : Shown = shown_of s.seat s.trail.entries s.late s.closed s.groups.items in
+    let v : Shown = shown_of s.seat s.trail.entries s.late s.closed s.groups.items s.lookback s.raising in
     let running : s.closed ≡ None = none_of s.closed (λ x is. search rules) in
     subst (λ (w : Shown). Refuses (open_cause c.args.table.0 c.args.scn) (known_by b g.B.Based.damaged w) (known_by b g.B.Based.damaged w) Memory) c.self.view_is
     (open_no_memory (known_by b g.B.Based.damaged v) told.legal s.closed told.closing running c.args.table.0 c.args.scn)
@@ -79,7 +79,7 @@ invariant_of-self g c =
     let place = c.in-Some-numbered_place in (
       opens_none g.D.Disk g.B.Based.base g.B.Founded.sound g.B.Founded.premise g.B.Founded.began s.disk s.catalog s.standing s.groups.items s.trail s.late s.closed c.self.invariant.0 running c.args.table place.place c.index_mut.result.now place.ensures.found place.ensures.numbered (sym c.index_mut.ensures.value)
           c.note_point.new.group c.in-Err.ensures.same (search rules) c.note_point.new.trail (search rules),
-      (c.self.invariant.1.0, same_by_clock g.C.Clock g.B.Founded.times g.B.Based.base s.clock s.trail.entries c.self.invariant.1.1 c.note_point.new.trail.entries (ap (λ (t : Recorded). t.entries) trail)),
+      (c.self.invariant.1.0, same_by_clock g.C.Clock g.B.Founded.times g.B.Based.base g.B.Founded.lookback s.lookback s.clock s.trail.entries c.self.invariant.1.1 c.note_point.new.trail.entries (ap (λ (t : Recorded). t.entries) trail)),
     )
 
 pub returns-in-Err-clause-refused : goal.returns-in-Err-clause-refused
@@ -87,7 +87,7 @@ returns-in-Err-clause-refused g c =
     let s = c.self.inside in
     let b = g.B.Based.base in
     let told = c.self.invariant.0.told in
-    let v : Shown = shown_of s.seat s.trail.entries s.late s.closed s.groups.items in
+    let v : Shown = shown_of s.seat s.trail.entries s.late s.closed s.groups.items s.lookback s.raising in
     let running : s.closed ≡ None = none_of s.closed (λ x is. search rules) in
     let trail : c.note_point.new.trail ≡ s.trail = search rules in
     subst (λ (f : StepFault). Refuses (open_cause c.args.table.0 c.args.scn) (known_by b g.B.Based.damaged c.args.self.now) (known_by b g.B.Based.damaged (record v { entries = c.note_point.new.trail.entries })) f) (sym c.in-Err.ensures.memory)
@@ -108,7 +108,7 @@ invariant_of-self-2 g c =
       opens g.D.Disk g.B.Based.base g.B.Founded.sound g.B.Founded.premise g.B.Founded.began s.disk s.catalog s.standing s.groups.items s.trail s.late s.closed kept running c.args.table place.place c.index_mut.result.now place.ensures.found place.ensures.numbered (sym c.index_mut.ensures.value)
           c.args.scn c.in_ok-stamp.stamp point g.met.D.Disk.told g.met.D.Disk.up_to_now s.seat c.call_count.result c.call_count.ensures c.note_point.new.group made.opened made.count c.note_point.new.trail
           (made.entries ∙ ap (λ (v : Bool). s.trail.entries ++ record { seat = s.seat; calls = c.call_count.result; act = OpenedAct c.args.table c.in_ok-stamp.stamp v } ∷ []) c.is_some-scn.ensures) made.room,
-      (c.self.invariant.1.0, more_by_clock g.C.Clock g.B.Founded.times g.B.Based.base s.clock s.trail.entries c.self.invariant.1.1 c.note_point.new.trail.entries (record { seat = s.seat; calls = c.call_count.result; act = OpenedAct c.args.table c.in_ok-stamp.stamp c.is_some-scn.result }) made.entries refl),
+      (c.self.invariant.1.0, more_by_clock g.C.Clock g.B.Founded.times g.B.Based.base g.B.Founded.lookback s.lookback s.clock s.trail.entries c.self.invariant.1.1 c.note_point.new.trail.entries (record { seat = s.seat; calls = c.call_count.result; act = OpenedAct c.args.table c.in_ok-stamp.stamp c.is_some-scn.result }) made.entries refl),
     )
 
 pub returns-clause-ok : goal.returns-clause-ok
@@ -123,7 +123,7 @@ returns-clause-ok g c =
     let same : c.index.result.now ≡ c.index_mut.result.now = one_there s.groups.items place.place c.index.result.now c.index_mut.result.now inside (sym c.index.ensures) (sym c.index_mut.ensures.value) in
     let point = subst (λ (x : Group). IsPointOf x c.args.scn c.in_ok-stamp.stamp) same c.in_ok-stamp.ensures.point in
     let f : Found = record { table = c.in-Ok.found.table; indexes = c.in-Ok.found.indexes; at = c.len-2.result } in
-    let v : Shown = shown_of s.seat s.trail.entries s.late s.closed s.groups.items in
+    let v : Shown = shown_of s.seat s.trail.entries s.late s.closed s.groups.items s.lookback s.raising in
     let v' : Shown = record v { entries = c.note_point.new.trail.entries } in
     subst (λ (w : Shown). DidOpen (known_by b g.B.Based.damaged w) (known_by b g.B.Based.damaged v') c.args.table c.args.scn (record { table = c.args.table; stamp = c.in_ok-stamp.stamp; scn = c.is_some-scn.result; found = f })) c.self.view_is
     (subst (λ (q : Bool). DidOpen (known_by b g.B.Based.damaged v) (known_by b g.B.Based.damaged v') c.args.table c.args.scn (record { table = c.args.table; stamp = c.in_ok-stamp.stamp; scn = q; found = f })) (sym c.is_some-scn.ensures)

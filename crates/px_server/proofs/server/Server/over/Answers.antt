@@ -12,6 +12,6 @@ invariant_of-result g c = (
       c.in-Some.beside.trail c.in-Some.ensures.trail.0 c.in-Some.ensures.trail.1,
   (
     c.in-Some.ensures.frame,
-    same_by_clock g.C.Clock g.B.Founded.times g.B.Based.base c.args.clock [] (first_by_clock g.C.Clock g.B.Founded.times g.B.Based.base c.args.clock c.requires.times) c.in-Some.beside.trail.entries c.in-Some.ensures.trail.0,
+    same_by_clock g.C.Clock g.B.Founded.times g.B.Based.base g.B.Founded.lookback c.args.lookback c.args.clock [] (first_by_clock g.C.Clock g.B.Founded.times g.B.Based.base g.B.Founded.lookback c.args.lookback c.args.clock c.requires.times c.requires.lookback) c.in-Some.beside.trail.entries c.in-Some.ensures.trail.0,
   ),
 )

@@ -29,7 +29,7 @@ returns-in-Some-clause-refused g c =
     let s = c.self.inside in
     let b = g.B.Based.base in
     let told = c.self.invariant.0.told in
-    let v : Shown = shown_of s.seat s.trail.entries s.late s.closed s.groups.items in
+    let v : Shown = shown_of s.seat s.trail.entries s.late s.closed s.groups.items s.lookback s.raising in
     subst (λ (w : Shown). Refuses write_cause (known_by b g.B.Based.damaged w) (known_by b g.B.Based.damaged w) (Closed c.in-Some.call)) c.self.view_is
     (closed_by (known_by b g.B.Based.damaged v) told.legal s.closed told.closing c.in-Some.call c.in-Some.is)
 
@@ -86,7 +86,7 @@ invariant_of-self-in-Done g c =
           (subst (λ (q : Group). (x : Begun) → slice_get q.batches.items c.in-Some-batch_place.batch ≡ Some x → x.batch.stamp ≡ c.args.t.now.stamp) same c.in-Some-batch_place.ensures.found.1)
           e c.call_count-calls.ensures c.push.new.self (subst (λ (x : Entry). c.push.new.self.entries ≡ s.trail.entries ++ x ∷ []) c.done.ensures c.push.ensures.entries) c.push.ensures.room all (λ o. o.hands.writes.horizon)
           (ap (λ (x : TableId). PhaseAct x c.args.t.now.stamp 3) (sym own)) phase,
-      ((let was = c.self.invariant.1.0 in let more = c.verify-outcome.ensures.frame in omega (arith, was, more)), more_by_clock g.C.Clock g.B.Founded.times g.B.Based.base s.clock s.trail.entries c.self.invariant.1.1 c.push.new.self.entries e (subst (λ (x : Entry). c.push.new.self.entries ≡ s.trail.entries ++ x ∷ []) c.done.ensures c.push.ensures.entries) refl),
+      ((let was = c.self.invariant.1.0 in let more = c.verify-outcome.ensures.frame in omega (arith, was, more)), more_by_clock g.C.Clock g.B.Founded.times g.B.Based.base g.B.Founded.lookback s.lookback s.clock s.trail.entries c.self.invariant.1.1 c.push.new.self.entries e (subst (λ (x : Entry). c.push.new.self.entries ≡ s.trail.entries ++ x ∷ []) c.done.ensures c.push.ensures.entries) refl),
     )
 
 pub invariant_of-self-in-Err : goal.invariant_of-self-in-Err
@@ -102,14 +102,14 @@ invariant_of-self-in-Err g c =
     shut c.call_count-calls.result refl c.call_count-calls.ensures (c.in-Err.ensures.failed refl) c.shut.new.trail c.shut.ensures.entries c.shut.ensures.room c.in-Err.ensures.steps in (
       subst (λ o. IsKept g.D.Disk g.B.Based.base g.B.Founded.sound g.B.Founded.premise g.B.Founded.began c.verify-outcome.new.disk s.catalog s.standing (Rattle.std.specs.List.slice_set s.groups.items place c.verify-outcome.new.group) c.shut.new.trail o (Some c.call_count-calls.result))
           (sym (c.self.invariant.0.server.unlate c.in_default.is)) kept,
-      ((let was = c.self.invariant.1.0 in let more = c.verify-outcome.ensures.frame in omega (arith, was, more)), more_by_clock g.C.Clock g.B.Founded.times g.B.Based.base s.clock s.trail.entries c.self.invariant.1.1 c.shut.new.trail.entries shut c.shut.ensures.entries refl),
+      ((let was = c.self.invariant.1.0 in let more = c.verify-outcome.ensures.frame in omega (arith, was, more)), more_by_clock g.C.Clock g.B.Founded.times g.B.Based.base g.B.Founded.lookback s.lookback s.clock s.trail.entries c.self.invariant.1.1 c.shut.new.trail.entries shut c.shut.ensures.entries refl),
     )
 
 pub returns-in-More-clause-ok : goal.returns-in-More-clause-ok
 returns-in-More-clause-ok g c =
     let s = c.self.inside in
     let told = c.self.invariant.0.told in
-    let v : Shown = shown_of s.seat s.trail.entries s.late s.closed s.groups.items in
+    let v : Shown = shown_of s.seat s.trail.entries s.late s.closed s.groups.items s.lookback s.raising in
     subst (λ (w : Shown). Finds (known_by g.B.Based.base g.B.Based.damaged w) (known_by g.B.Based.base g.B.Based.damaged v)) c.self.view_is
     (record { sees = stays (known_by g.B.Based.base g.B.Based.damaged v) told.legal; running = told.closing ∙ c.in_default.is })
 
@@ -117,7 +117,7 @@ pub returns-in-Done-clause-ok : goal.returns-in-Done-clause-ok
 returns-in-Done-clause-ok g c =
     let s = c.self.inside in
     let told = c.self.invariant.0.told in
-    let v : Shown = shown_of s.seat s.trail.entries s.late s.closed s.groups.items in
+    let v : Shown = shown_of s.seat s.trail.entries s.late s.closed s.groups.items s.lookback s.raising in
     let v' : Shown = record v { entries = c.push.new.self.entries } in
     let act = PhaseAct c.args.t.now.table c.args.t.now.stamp 3 in
     subst (λ (w : Shown). Adds (known_by g.B.Based.base g.B.Based.damaged w) (known_by g.B.Based.base g.B.Based.damaged v') act) c.self.view_is
@@ -128,7 +128,7 @@ pub returns-in-Err-clause-refused : goal.returns-in-Err-clause-refused
 returns-in-Err-clause-refused g c =
     let s = c.self.inside in
     let told = c.self.invariant.0.told in
-    let v : Shown = shown_of s.seat s.trail.entries s.late s.closed s.groups.items in
+    let v : Shown = shown_of s.seat s.trail.entries s.late s.closed s.groups.items s.lookback s.raising in
     let v' : Shown = record v { entries = c.shut.new.trail.entries; closed = Some c.call_count-calls.result } in
     let act = Shut c.call_count-calls.result in (
       tt,

@@ -30,7 +30,7 @@ returns-in-Some-clause-refused g c =
     let b = g.B.Based.base in
     let told = c.self.invariant.0.told in
     let t = c.args.t.now in
-    let v : Shown = shown_of s.seat s.trail.entries s.late s.closed s.groups.items in
+    let v : Shown = shown_of s.seat s.trail.entries s.late s.closed s.groups.items s.lookback s.raising in
     subst (λ (w : Shown). Refuses (rows_cause t.table.0 t.stamp) (known_by b g.B.Based.damaged w) (known_by b g.B.Based.damaged w) (Closed c.in-Some.call)) c.self.view_is
     (closed_by (known_by b g.B.Based.damaged v) told.legal s.closed told.closing c.in-Some.call c.in-Some.is)
 
@@ -39,7 +39,7 @@ unreachable-requires g c =
     let s = c.self.inside in
     let b = g.B.Based.base in
     let t = c.args.t.now in
-    let v : Shown = shown_of s.seat s.trail.entries s.late s.closed s.groups.items in
+    let v : Shown = shown_of s.seat s.trail.entries s.late s.closed s.groups.items s.lookback s.raising in
     let mine : IsBatchIn s.trail.entries s.seat t.table.0 t.stamp InWriting = ticket_in b g.B.Based.damaged t InWriting v c.args.self.now c.self.view_is c.requires in
     stands_somewhere g.D.Disk b g.B.Founded.sound g.B.Founded.premise g.B.Founded.began s.disk s.catalog s.standing s.groups.items s.trail s.late s.closed c.self.invariant.0 t s.seat Writing mine (in_writing mine.batch mine.phase).0 c.in_default-numbered_place.ensures.none
 
@@ -48,7 +48,7 @@ unreachable-requires-in_default-batch_place g c =
     let s = c.self.inside in
     let b = g.B.Based.base in
     let t = c.args.t.now in
-    let v : Shown = shown_of s.seat s.trail.entries s.late s.closed s.groups.items in
+    let v : Shown = shown_of s.seat s.trail.entries s.late s.closed s.groups.items s.lookback s.raising in
     let mine : IsBatchIn s.trail.entries s.seat t.table.0 t.stamp InWriting = ticket_in b g.B.Based.damaged t InWriting v c.args.self.now c.self.view_is c.requires in
     batch_somewhere g.D.Disk b g.B.Founded.sound g.B.Founded.premise g.B.Founded.began s.disk s.catalog s.standing s.groups.items s.trail s.late s.closed c.self.invariant.0 t s.seat Writing mine (in_writing mine.batch mine.phase).0
     c.in_default.is c.in-Some-numbered_place.place c.in-Some-numbered_place.ensures.found c.in-Some-numbered_place.ensures.numbered c.index.result.now c.index.ensures c.in_default-batch_place.ensures.none
@@ -59,7 +59,7 @@ returns-in-Some-blocker-clause-refused g c =
     let b = g.B.Based.base in
     let told = c.self.invariant.0.told in
     let t = c.args.t.now in
-    let v : Shown = shown_of s.seat s.trail.entries s.late s.closed s.groups.items in
+    let v : Shown = shown_of s.seat s.trail.entries s.late s.closed s.groups.items s.lookback s.raising in
     let mine : IsBatchIn s.trail.entries s.seat t.table.0 t.stamp InWriting = ticket_in b g.B.Based.damaged t InWriting v c.args.self.now c.self.view_is c.requires in
     let place = c.in-Some-numbered_place.place in
     let m = c.in-Some-batch_place.batch in
@@ -80,7 +80,7 @@ write-outcome-requires-clause-writing g c =
     let b = g.B.Based.base in
     let told = c.self.invariant.0.told in
     let t = c.args.t.now in
-    let v : Shown = shown_of s.seat s.trail.entries s.late s.closed s.groups.items in
+    let v : Shown = shown_of s.seat s.trail.entries s.late s.closed s.groups.items s.lookback s.raising in
     let mine : IsBatchIn s.trail.entries s.seat t.table.0 t.stamp InWriting = ticket_in b g.B.Based.damaged t InWriting v c.args.self.now c.self.view_is c.requires in
     let place = c.in-Some-numbered_place.place in
     let m = c.in-Some-batch_place.batch in
@@ -103,7 +103,7 @@ invariant_of-self g c =
     let b = g.B.Based.base in
     let told = c.self.invariant.0.told in
     let t = c.args.t.now in
-    let v : Shown = shown_of s.seat s.trail.entries s.late s.closed s.groups.items in
+    let v : Shown = shown_of s.seat s.trail.entries s.late s.closed s.groups.items s.lookback s.raising in
     let mine : IsBatchIn s.trail.entries s.seat t.table.0 t.stamp InWriting = ticket_in b g.B.Based.damaged t InWriting v c.args.self.now c.self.view_is c.requires in
     let place = c.in-Some-numbered_place.place in
     let m = c.in-Some-batch_place.batch in
@@ -120,7 +120,7 @@ invariant_of-self g c =
           c.in_default.is place c.in-Some-numbered_place.ensures.found c.in-Some-numbered_place.ensures.numbered y c.index_mut-group.ensures.value m l stamp
           c.write-outcome.new.group c.write-outcome.new.disk free c.in-Ok.rows c.in-Ok.ensures.rows c.call_count-calls.result c.call_count-calls.ensures c.in-Ok.ensures.written c.push.new.self
           (c.push.ensures.entries ∙ ap (λ (e : Entry). s.trail.entries ++ e ∷ []) c.wrote.ensures) c.push.ensures.room,
-      ((let f = c.write-outcome.ensures.frame in let w = c.self.invariant.1.0 in omega (arith, f, w)), more_by_clock g.C.Clock g.B.Founded.times g.B.Based.base s.clock s.trail.entries c.self.invariant.1.1 c.push.new.self.entries (record { seat = s.seat; calls = c.call_count-calls.result; act = Wrote t.table t.stamp c.in-Ok.rows }) (c.push.ensures.entries ∙ ap (λ (e : Entry). s.trail.entries ++ e ∷ []) c.wrote.ensures) refl),
+      ((let f = c.write-outcome.ensures.frame in let w = c.self.invariant.1.0 in omega (arith, f, w)), more_by_clock g.C.Clock g.B.Founded.times g.B.Based.base g.B.Founded.lookback s.lookback s.clock s.trail.entries c.self.invariant.1.1 c.push.new.self.entries (record { seat = s.seat; calls = c.call_count-calls.result; act = Wrote t.table t.stamp c.in-Ok.rows }) (c.push.ensures.entries ∙ ap (λ (e : Entry). s.trail.entries ++ e ∷ []) c.wrote.ensures) refl),
     )
 
 pub invariant_of-self-in-Err : goal.invariant_of-self-in-Err
@@ -129,7 +129,7 @@ invariant_of-self-in-Err g c =
     let b = g.B.Based.base in
     let told = c.self.invariant.0.told in
     let t = c.args.t.now in
-    let v : Shown = shown_of s.seat s.trail.entries s.late s.closed s.groups.items in
+    let v : Shown = shown_of s.seat s.trail.entries s.late s.closed s.groups.items s.lookback s.raising in
     let mine : IsBatchIn s.trail.entries s.seat t.table.0 t.stamp InWriting = ticket_in b g.B.Based.damaged t InWriting v c.args.self.now c.self.view_is c.requires in
     let place = c.in-Some-numbered_place.place in
     let m = c.in-Some-batch_place.batch in
@@ -148,7 +148,7 @@ invariant_of-self-in-Err g c =
           c.in_default.is place c.in-Some-numbered_place.ensures.found c.in-Some-numbered_place.ensures.numbered y c.index_mut-group.ensures.value m l stamp
           c.write-outcome.new.group c.write-outcome.new.disk free c.in-Err.field-0.rows c.in-Err.ensures.late c.call_count-calls.result c.call_count-calls.ensures c.in-Err.ensures.hands (c.in-Err.ensures.failed refl) c.shut.new.trail
           c.shut.ensures.entries c.shut.ensures.room),
-      ((let f = c.write-outcome.ensures.frame in let w = c.self.invariant.1.0 in omega (arith, f, w)), more_by_clock g.C.Clock g.B.Founded.times g.B.Based.base s.clock s.trail.entries c.self.invariant.1.1 c.shut.new.trail.entries (record { seat = s.seat; calls = c.call_count-calls.result; act = Shut c.call_count-calls.result }) c.shut.ensures.entries refl),
+      ((let f = c.write-outcome.ensures.frame in let w = c.self.invariant.1.0 in omega (arith, f, w)), more_by_clock g.C.Clock g.B.Founded.times g.B.Based.base g.B.Founded.lookback s.lookback s.clock s.trail.entries c.self.invariant.1.1 c.shut.new.trail.entries (record { seat = s.seat; calls = c.call_count-calls.result; act = Shut c.call_count-calls.result }) c.shut.ensures.entries refl),
     )
 
 pub returns-in-Ok-clause-ok : goal.returns-in-Ok-clause-ok
@@ -157,7 +157,7 @@ returns-in-Ok-clause-ok g c =
     let b = g.B.Based.base in
     let told = c.self.invariant.0.told in
     let t = c.args.t.now in
-    let v : Shown = shown_of s.seat s.trail.entries s.late s.closed s.groups.items in
+    let v : Shown = shown_of s.seat s.trail.entries s.late s.closed s.groups.items s.lookback s.raising in
     let mine : IsBatchIn s.trail.entries s.seat t.table.0 t.stamp InWriting = ticket_in b g.B.Based.damaged t InWriting v c.args.self.now c.self.view_is c.requires in
     let place = c.in-Some-numbered_place.place in
     let m = c.in-Some-batch_place.batch in
@@ -185,7 +185,7 @@ returns-in-Err-clause-refused g c =
     let b = g.B.Based.base in
     let told = c.self.invariant.0.told in
     let t = c.args.t.now in
-    let v : Shown = shown_of s.seat s.trail.entries s.late s.closed s.groups.items in
+    let v : Shown = shown_of s.seat s.trail.entries s.late s.closed s.groups.items s.lookback s.raising in
     let v' : Shown = record v { entries = c.shut.new.trail.entries; late = c.keep.new.late; closed = Some c.call_count-calls.result } in
     subst (λ (w : Shown). Refuses (rows_cause t.table.0 t.stamp) (known_by b g.B.Based.damaged w) (known_by b g.B.Based.damaged v') WriteFault) c.self.view_is
     (write_failed (known_by b g.B.Based.damaged v) told.legal t c.shut.new.trail.entries c.call_count-calls.result c.call_count-calls.result c.shut.ensures.entries (invariant_of-self-in-Err g c).0.told.legal)
@@ -204,7 +204,7 @@ returns-in-Ok-clause-fewer g c =
     let s = c.self.inside in
     let b = g.B.Based.base in
     let t = c.args.t.now in
-    let v : Shown = shown_of s.seat s.trail.entries s.late s.closed s.groups.items in
+    let v : Shown = shown_of s.seat s.trail.entries s.late s.closed s.groups.items s.lookback s.raising in
     let mine : IsBatchIn s.trail.entries s.seat t.table.0 t.stamp InWriting = ticket_in b g.B.Based.damaged t InWriting v c.args.self.now c.self.view_is c.requires in
     let place = c.in-Some-numbered_place.place in
     let m = c.in-Some-batch_place.batch in
