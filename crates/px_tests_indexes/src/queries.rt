@@ -31,6 +31,17 @@ SELECT ID, CUST, AMT FROM ORDERS WHERE CUST IS NULL; SELECT ID, CUST FROM ORDERS
             "1 row affected\n2, null, null\n1 row selected\n2, null\n1, 'bo'\n2 rows selected\n",
         ),
         (
+            "UPSERT INTO ORDERS (ID, CUST) VALUES (1,'zed'); UPSERT INTO ORDERS (ID, CUST, AMT) VALUES (2,'',NULL);
+SELECT ID, CUST, AMT FROM ORDERS WHERE CUST IS NULL; SELECT ID, CUST FROM ORDERS ORDER BY CUST;",
+            "1 row affected\n1 row affected\n2, null, null\n1 row selected\n2, null\n1, 'zed'\n2 rows selected\n",
+        ),
+        (
+            "DELETE FROM ORDERS; SELECT ID, CUST, AMT FROM ORDERS WHERE CUST = 'al';
+!scn 4
+SELECT ID, CUST, AMT FROM ORDERS WHERE CUST = 'al';",
+            "2 rows affected\n0 rows selected\nscn 4\n2, 'al', 7\n1 row selected\n",
+        ),
+        (
             "SELECT CUST FROM ORDERS; SELECT CUST FROM ORDERS WHERE AMT > 5;",
             "'bo'\n'al'\n2 rows selected\n'al'\n1 row selected\n",
         ),

@@ -1,0 +1,10 @@
+use Rattle.px_batch.specs.Turns.{FitsBatch, IsBatchGoing}
+use Rattle.px_tests_served.proofs.stepping.make_fitting.Given as goal
+
+-- the run is as the trail tells
+abbrev pub invariant-steps : goal.invariant-steps
+invariant-steps g l =
+    record {
+      fits : FitsBatch l.run.table l.run.changes l.run.state (g.S.Steps.known l.s);
+      going : IsBatchGoing l.run.state;
+    }

@@ -1,0 +1,105 @@
+// Calls of steps.
+ghost use Rattle.std.specs.Prelude.{◌≡◌, ◌≢◌, ◌≤◌, [], true, length};
+ghost use Rattle.px_trail.specs.Batches.{is_distinct, rows_of};
+ghost use Rattle.px_calls.specs.Requires.{AreFitting};
+
+use crate::making::{Batch, are_fitting};
+use px_batch::{BatchRun, BatchTurn};
+use px_calls::{Receipt, StepFault, Steps, Ticket, Work};
+use px_values::{Changes, Name, TableId};
+use std::sync::Wait;
+
+/// A batch that was made, and in how many calls.
+#[derive(Drop)]
+pub struct Made {
+    pub receipt: Receipt,
+    pub calls: u64,
+}
+
+/// Makes upkeep until it is idle. Answers whether it came to be so.
+pub fn settle<S: Steps>(s: &mut S) -> bool {
+    for _ in 0..100_000 {
+        match s.upkeep() {
+            Ok(Work::Did) => {}
+            Ok(Work::Idle) => return true,
+            Err(_) => return false,
+        }
+    }
+    false
+}
+
+/// Makes a batch, if nothing is refused and it needn't wait.
+fn make_fitting<R: Wait, S: Steps>(
+    rt: &R,
+    s: &mut S,
+    table: TableId,
+    changes: Changes,
+) -> Option<Made>
+    requires some { changes ≢ [] }
+    requires rows { length changes ≤ 1000 }
+    requires distinct { is_distinct (rows_of changes) ≡ true }
+    requires fits { AreFitting (S.known s.old) table.0 changes }
+{
+    let mut run = BatchRun::new(table, changes);
+    let mut calls: u64 = 0;
+    'steps: for _ in rt.forever() {
+        calls = calls.saturating_add(1);
+        match run.step(s) {
+            BatchTurn::Stepped => {}
+            BatchTurn::Waiting { .. } => {}
+            BatchTurn::Over(result) => {
+                run.finish();
+                return match result {
+                    Ok(receipt) => Some(Made { receipt, calls }),
+                    Err(_) => None,
+                };
+            }
+        }
+    }
+    unreachable!()
+}
+
+/// Makes a batch of the table that has the name.
+#[tactic(auto, using(crate::proofs::Fitting::fitting))]
+pub fn make<R: Wait, S: Steps>(rt: &R, s: &mut S, name: &Name, batch: Batch) -> Option<Made> {
+    let Batch { changes } = batch;
+    let Ok(found) = s.find(name) else {
+        drop(changes);
+        return None;
+    };
+    let table = found.table.id;
+    let is_fitting = are_fitting(&found.table, changes.as_slice());
+    drop(found);
+    if is_fitting {
+        make_fitting(rt, s, table, changes)
+    } else {
+        drop(changes);
+        None
+    }
+}
+
+/// Why a batch of the table that has the name doesn't begin.
+#[tactic(auto, using(crate::proofs::Fitting::fitting))]
+pub fn refusal<S: Steps>(s: &mut S, name: &Name, batch: Batch) -> Option<StepFault> {
+    let Batch { changes } = batch;
+    let Ok(found) = s.find(name) else {
+        drop(changes);
+        return None;
+    };
+    let table = found.table.id;
+    let is_fitting = are_fitting(&found.table, changes.as_slice());
+    drop(found);
+    if !is_fitting {
+        drop(changes);
+        return None;
+    }
+    let begun = s.begin(table, &changes);
+    drop(changes);
+    match begun {
+        Ok(ticket) => {
+            let Ticket { table: _, stamp: _ } = ticket;
+            None
+        }
+        Err(fault) => Some(fault),
+    }
+}
