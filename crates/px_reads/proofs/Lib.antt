@@ -1,0 +1,10 @@
+pub mod KeyOrder
+pub mod Shapes
+pub mod Counts
+pub mod Rows
+pub mod Lists
+pub mod Ends
+pub mod Cut
+pub mod First
+pub mod Fronts
+pub mod Bounds
