@@ -1,6 +1,6 @@
 #!/usr/bin/env python3
 """The reading cone of a call: all definitions of the project that its contract rests on, in an order in which they can
-be read, each after those that it names.
+be read, each after those that it names. It ends with an error where one that is named isn't found.
 
 usage: tools/cone.py FILE FUNCTION     (at the top of the repository)
 
@@ -12,11 +12,13 @@ import re
 import sys
 
 NAME = r"[A-Za-z_][\w'\-≤≡]*"
-USE = re.compile(r"^\s*(?:ghost )?use Rattle\.(px_\w+\.specs\.[\w.]+?)(?:\.\{(.*)\})?(?: as (\w+))?;?$")
-# A definition begins at the margin, or in a module with arguments two blanks behind it.
+USE = re.compile(r"^\s*(?:ghost |pub )?use Rattle\.(px_\w+\.specs\.[\w.]+?)(?:\.\{(.*)\})?(?: as (\w+))?;?$")
+# A definition begins at the margin, or within a module with arguments or a `mutual` two blanks behind that.
 BEGINS = re.compile(
-    r"^(?:  )?(?:(?:abbrev|unfoldable|opaque|irreducible|mutual)\s+)*(?:pub\s+)?(?:(record|data)\s+)?(" + NAME + r")(.*)$"
+    r"^ *(?:(?:abbrev|unfoldable|opaque|irreducible|mutual)\s+)*(?:pub\s+)?(?:(record|data)\s+)?(" + NAME + r")(.*)$"
 )
+WITHIN = re.compile(r"^ *(?:module\b.*\bwhere|(?:(?:abbrev|unfoldable|opaque|irreducible) )*mutual)$")
+CONSTRUCTOR = re.compile(r"^ *(" + NAME + r") :(?: |$)")
 
 
 class Module:
@@ -24,6 +26,7 @@ class Module:
         self.name = name
         self.file = os.path.join("crates", *name.split(".")) + ".antt"
         self.texts = collections.OrderedDict()
+        self.constructors = {}
         self.imports = {}
         self.aliases = {}
         self.exists = os.path.exists(self.file)
@@ -31,8 +34,8 @@ class Module:
             self.read()
 
     def read(self):
-        current = None
-        in_record = False
+        current, is_data = None, False
+        margins = [0]
         for line in open(self.file, encoding="utf-8"):
             line = line.rstrip("\n")
             use = USE.match(line)
@@ -40,19 +43,25 @@ class Module:
                 take_imports(use, self.imports, self.aliases)
                 continue
             text = line.strip()
-            if not text or text.startswith("--") or re.match(r"(use|module|unfolding|pub use|pub mod|mod)\b", text):
-                if not text:
-                    in_record = False
+            if not text or text.startswith("--"):
+                continue
+            indent = len(line) - len(line.lstrip())
+            while indent < margins[-1]:
+                margins.pop()
+            if WITHIN.match(line):
+                margins.append(indent + 2)
+                continue
+            if re.match(r"(use|module|unfolding|pub use|pub mod|mod)\b", text):
                 continue
             begins = BEGINS.match(line)
-            is_field = in_record and line.startswith("  ")
-            if begins and not is_field:
+            if begins and indent == margins[-1]:
                 word, name, rest = begins.groups()
                 if word or re.match(r"\s*:\s", rest) or re.match(r"\s*:$", rest) or "pub" in line.split(name)[0].split():
                     if name not in self.texts:
                         self.texts[name] = ""
-                    current = name
-                    in_record = word == "record"
+                    current, is_data = name, word == "data"
+            elif is_data and indent == margins[-1] + 2 and CONSTRUCTOR.match(line):
+                self.constructors[CONSTRUCTOR.match(line).group(1)] = current
             if current:
                 self.texts[current] += line + "\n"
 
@@ -91,8 +100,12 @@ class Cone:
             if ".declared." in wanted:
                 self.types.add(type_of(wanted))
             return
+        name = module.constructors.get(name, name)
+        if name not in module.texts and name in module.imports:
+            # It is passed on by a `pub use`.
+            return self.visit(*module.imports[name], frm)
         if name not in module.texts:
-            return
+            sys.exit(f"cone.py: {module.file} has no definition {name}")
         if frm and frm != wanted:
             self.edges[frm].add(wanted)
         if name in self.found[wanted]:
@@ -102,7 +115,7 @@ class Cone:
         for word in set(re.findall(NAME, text)):
             if word == name:
                 continue
-            if word in module.texts:
+            if word in module.texts or word in module.constructors:
                 self.visit(wanted, word, wanted)
             elif word in module.imports:
                 self.visit(*module.imports[word], wanted)
@@ -158,16 +171,19 @@ def contract_of(file, function):
     if start is None:
         sys.exit(f"cone.py: no function {function} in {file}")
     end = next(i for i in range(start, len(lines)) if lines[i] in ("{", "    {"))
-    return "\n".join(lines[start:end]), imports
+    return "\n".join(lines[start:end]), imports, aliases
 
 
 def main():
     file, function = sys.argv[1], sys.argv[2]
-    text, imports = contract_of(file, function)
+    text, imports, aliases = contract_of(file, function)
     cone = Cone()
     for word in sorted(set(re.findall(NAME, text))):
         if word in imports:
             cone.visit(*imports[word])
+    for alias, word in sorted(set(re.findall(r"\b(\w+)\.(" + NAME + ")", text))):
+        if alias in aliases:
+            cone.visit(aliases[alias], word)
     count = sum(len(names) for names in cone.found.values())
     lines = 0
     print("| # | File | Definitions, in the order of the file |")

@@ -1,6 +1,6 @@
 #!/usr/bin/env python3
 """Tests the crates' README.md against their sources, and makes docs/index/ and the reading list of docs/HEADLINE.md. It also tests
-that a definition of specs/ which another crate cites has a name of its own.
+that a definition of specs/ which another crate cites has a name of its own, and docs/ARCHITECTURE.md against crates.txt.
 
 usage: tools/docs.py [--check]    (tools/docs.sh calls it at the top of the repository)
 
@@ -15,6 +15,9 @@ import sys
 HEADINGS = ["Promises", "Words", "Only tested and open", "Why so", "Where to add things"]
 MADE = "<!-- Made by tools/docs.sh from the README.md of each crate. Edit those, and run it again. -->\n"
 HEADLINE = "docs/HEADLINE.md"
+ARCHITECTURE = "docs/ARCHITECTURE.md"
+# How many lines a page has at most.
+LONGEST = {"README.md": 90, ARCHITECTURE: 150}
 LIST_BEGINS = "<!-- reading list: made by tools/docs.sh -->"
 LIST_ENDS = "<!-- end of the reading list -->"
 # A crate of tests or of a benchmark promises nothing, and its head comment tells what it is.
@@ -282,6 +285,33 @@ def own_names(names):
             fault(f"tools/docs.py excuses {name}, which has a name of its own")
 
 
+def architecture():
+    """Each library stands in the picture and in the table, and in the picture on no line above one that stands on it."""
+    stands_on = {}
+    for line in open("crates.txt", encoding="utf-8"):
+        found = re.match(r"(px_[a-z0-9_]+)[^:#]*:(.*)", line)
+        if found and not found.group(1).startswith(WITHOUT_README):
+            stands_on[found.group(1)] = [name for name in found.group(2).split() if name.startswith("px_")]
+    text = open(ARCHITECTURE, encoding="utf-8").read()
+    line_of = {}
+    for number, line in enumerate(text.split("```")[1].split("\n")):
+        for name in re.findall(r"\bpx_\w+", line):
+            line_of.setdefault(name, number)
+    table = {name for line in text.split("\n") if line.startswith("| px_") for name in re.findall(r"\bpx_\w+", line.split("|")[1])}
+    for name, below in stands_on.items():
+        if name not in line_of:
+            fault(f"{ARCHITECTURE}: the picture lacks {name}")
+        if name not in table:
+            fault(f"{ARCHITECTURE}: the table lacks {name}")
+        for one in below:
+            if line_of.get(one, len(text)) < line_of.get(name, 0):
+                fault(f"{ARCHITECTURE}: {one} stands above {name} in the picture, which stands on it")
+    for path, most in LONGEST.items():
+        lines = open(path, encoding="utf-8").read().count("\n")
+        if lines > most:
+            fault(f"{path} has {lines} lines, and may have {most}")
+
+
 def links():
     """Each link of a document, and each path that it names from the top of the repository, leads somewhere."""
     listed = subprocess.run(["git", "ls-files", "*.md"], capture_output=True, text=True, check=True).stdout.split()
@@ -315,6 +345,7 @@ def main():
                 out.write(text)
     links()
     own_names(crates())
+    architecture()
     sys.exit(1 if faults else 0)
 
 
