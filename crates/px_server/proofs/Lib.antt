@@ -108,3 +108,4 @@ pub mod Answered
 pub mod RowsLooked
 pub mod Doubted
 pub mod Sighted
+pub mod DeviceCalls

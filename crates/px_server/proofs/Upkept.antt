@@ -120,9 +120,9 @@ module _ {D : Type 0} (d : Ghosts D) (tells_left : (x : D) (moment file : ℕ) (
   ordered_mid : AreOrdered groups → AreOrdered (slice_set groups place mid)
   ordered_mid was = all_put IsOrderedTable groups place mid was (mid_ordered (all_at IsOrderedTable groups place g l is was))
 
-  pub raised_ordered : HasRisen lookback mid → (job : Ordered) → IsOrderedBy (shown_of seat es late closed groups lookback (Some place)) job → IsOrderedBy (shown_of seat trail'.entries late closed (slice_set groups place mid) lookback (Some (place + 1))) job
-  raised_ordered risen jobs.FlushAll was = ordered_mid was
-  raised_ordered risen jobs.CompactAll was = (ordered_mid was.0, raising_on risen was.1)
+  pub raised_ordered : HasRisen lookback mid → (made failed : ℕ) (job : Ordered) → IsOrderedBy (shown_of seat es late closed groups lookback (Some place) made failed) job → IsOrderedBy (shown_of seat trail'.entries late closed (slice_set groups place mid) lookback (Some (place + 1)) made failed) job
+  raised_ordered risen made failed jobs.FlushAll was = ordered_mid was
+  raised_ordered risen made failed jobs.CompactAll was = (ordered_mid was.0, raising_on risen was.1)
 
   -- ---- a compaction that is begun behind it, with no call
 
@@ -145,9 +145,9 @@ module _ {D : Type 0} (d : Ghosts D) (tells_left : (x : D) (moment file : ℕ) (
       compacting_begun : AreCompacting lookback None groups → AreCompacting lookback None (slice_set groups place g')
       compacting_begun was = all_put (IsCompacting lookback) groups place g' was (to_forget lookback (mid_compacting (all_at (IsCompacting lookback) groups place g l is was)))
 
-      pub begun_ordered : (job : Ordered) → IsOrderedBy (shown_of seat es late closed groups lookback None) job → IsOrderedBy (shown_of seat trail'.entries late closed (slice_set groups place g') lookback None) job
-      begun_ordered jobs.FlushAll was = ordered_begun was
-      begun_ordered jobs.CompactAll was = (ordered_begun was.0, compacting_begun was.1)
+      pub begun_ordered : (made failed : ℕ) (job : Ordered) → IsOrderedBy (shown_of seat es late closed groups lookback None made failed) job → IsOrderedBy (shown_of seat trail'.entries late closed (slice_set groups place g') lookback None made failed) job
+      begun_ordered made failed jobs.FlushAll was = ordered_begun was
+      begun_ordered made failed jobs.CompactAll was = (ordered_begun was.0, compacting_begun was.1)
 
 -- ---- nothing is left to do
 
@@ -155,11 +155,17 @@ pub idle_done : (s : Shown) → AreFree chore.Due s.groups → AreFree chore.Wan
 idle_done s due wanted raised jobs.FlushAll = due
 idle_done s due wanted raised jobs.CompactAll = (due, record { raised = raised; none = wanted })
 
+-- ---- calls of the disk that touch no table
+
+pub same_ordered : (s s' : Shown) → s' ≡ record s { calls = s'.calls; faults = s'.faults } → (job : Ordered) → IsOrderedBy s job → IsOrderedBy s' job
+same_ordered s s' same jobs.FlushAll was = subst (λ (w : Shown). IsOrderedBy w jobs.FlushAll) (sym same) was
+same_ordered s s' same jobs.CompactAll was = subst (λ (w : Shown). IsOrderedBy w jobs.CompactAll) (sym same) was
+
 -- ---- all horizons have risen
 
-pub behind_ordered : (seat : ℕ) (es : List Entry) (late : Option Entry) (closed : Option ℕ) (groups : List Group) (lookback place : ℕ) → length groups ≤ place → (job : Ordered) → IsOrderedBy (shown_of seat es late closed groups lookback (Some place)) job → IsOrderedBy (shown_of seat es late closed groups lookback None) job
-behind_ordered seat entries late closed groups lookback place over jobs.FlushAll was = was
-behind_ordered seat entries late closed groups lookback place over jobs.CompactAll was = (was.0, all_risen lookback place groups over was.1)
+pub behind_ordered : (seat : ℕ) (es : List Entry) (late : Option Entry) (closed : Option ℕ) (groups : List Group) (lookback place made failed : ℕ) → length groups ≤ place → (job : Ordered) → IsOrderedBy (shown_of seat es late closed groups lookback (Some place) made failed) job → IsOrderedBy (shown_of seat es late closed groups lookback None made failed) job
+behind_ordered seat entries late closed groups lookback place made failed over jobs.FlushAll was = was
+behind_ordered seat entries late closed groups lookback place made failed over jobs.CompactAll was = (was.0, all_risen lookback place groups over was.1)
 
 -- ---- a step of a region
 
@@ -167,6 +173,6 @@ module _ {D : Type 0} (d : Ghosts D) (groups : List Group) (place : ℕ) (g g' :
   ordered_step : AreOrdered groups → AreOrdered (slice_set groups place g')
   ordered_step was = all_put IsOrderedTable groups place g' was (ordered (all_at IsOrderedTable groups place g l is was))
 
-  pub stepped_ordered : (job : Ordered) → IsOrderedBy (shown_of seat es late closed groups lookback None) job → IsOrderedBy (shown_of seat es' late closed (slice_set groups place g') lookback None) job
-  stepped_ordered jobs.FlushAll was = ordered_step was
-  stepped_ordered jobs.CompactAll was = (ordered_step was.0, all_put (IsCompacting lookback) groups place g' was.1 (to_forget lookback (all_at (IsCompacting lookback) groups place g l is was.1)))
+  pub stepped_ordered : (made failed made' failed' : ℕ) (job : Ordered) → IsOrderedBy (shown_of seat es late closed groups lookback None made failed) job → IsOrderedBy (shown_of seat es' late closed (slice_set groups place g') lookback None made' failed') job
+  stepped_ordered made failed made' failed' jobs.FlushAll was = ordered_step was
+  stepped_ordered made failed made' failed' jobs.CompactAll was = (ordered_step was.0, all_put (IsCompacting lookback) groups place g' was.1 (to_forget lookback (all_at (IsCompacting lookback) groups place g l is was.1)))

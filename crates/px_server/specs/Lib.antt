@@ -1,6 +1,7 @@
 pub mod Bases
 pub mod Beginning
 pub mod Counts
+pub mod DeviceCalls
 pub mod Ending
 pub mod Kept
 pub mod Logged

@@ -15,7 +15,7 @@ pub record LoggedCells : Type 0 where
 
 -- the seat that acts next, the trail's entries, what the failed step would have added that closed the server, the device call that closed it, the
 -- cells in the logs of each table, and each table that stands with its regions; how long versions are kept, and the place of the next table whose horizon
--- is to rise, where that was ordered
+-- is to rise, where that was ordered; how many calls of the disk were made, and how many of them have failed
 pub record Shown : Type 0 where
   pub seat : ℕ
   pub entries : List Entry
@@ -25,6 +25,8 @@ pub record Shown : Type 0 where
   pub groups : List Group
   pub lookback : ℕ
   pub raising : Option ℕ
+  pub calls : ℕ
+  pub faults : ℕ
 
 abbrev pub logged_at : IndexRegion → ℕ
 logged_at x = logged_of x.region
@@ -37,8 +39,8 @@ abbrev pub logged_in : Group → LoggedCells
 logged_in g = record { table = g.table.id.0; cells = logged_by g }
 
 -- what a server with these parts shows
-abbrev pub shown_of : ℕ → List Entry → Option Entry → Option ℕ → List Group → ℕ → Option ℕ → Shown
-shown_of seat entries late closed groups lookback raising = record { seat = seat; entries = entries; late = late; closed = closed; logged = map logged_in groups; groups = groups; lookback = lookback; raising = raising }
+abbrev pub shown_of : ℕ → List Entry → Option Entry → Option ℕ → List Group → ℕ → Option ℕ → ℕ → ℕ → Shown
+shown_of seat entries late closed groups lookback raising calls faults = record { seat = seat; entries = entries; late = late; closed = closed; logged = map logged_in groups; groups = groups; lookback = lookback; raising = raising; calls = calls; faults = faults }
 
 -- the table's logs have n cells, or more than a number of 64 bits tells, and n is the greatest of those
 abbrev pub HasLogged : List LoggedCells → ℕ → ℕ → Type 0

@@ -27,8 +27,8 @@ abbrev pub IsStamped : (times : ℕ → ℕ) → (last : ℕ → ℕ) → (from 
 IsStamped times last from to None rest = rest from
 IsStamped times last from to (Some d) rest = (i : ℕ) × (from ≤ i) × (i < to) × (drawn_stamp (last d.table) (times i) ≡ Some d.stamp) × rest (i + 1)
 
--- Each stamp that these entries draw, behind those before, is the one behind its table's last by a number that the clock told: each by a later one, of those at the places from
--- one up to below another. A batch that is refused may have used up a number, so some are skipped.
+-- Each stamp that these entries draw, behind those before, is the one behind its table's last by a number that the clock told: each by a later one, of
+-- those at the places from one up to below another. A batch that is refused may have used up a number, so some are skipped.
 unfoldable pub AreStamped : (times : ℕ → ℕ) → Base → (before : List Entry) → (from to : ℕ) → List Entry → Type 0
 AreStamped times base before from to [] = from ≤ to
 AreStamped times base before from to (e ∷ es) = IsStamped times (λ t. last_of base t before) from to (draw_of e.act) (λ n. AreStamped times base (before ++ e ∷ []) n to es)

@@ -5,6 +5,7 @@ ghost use Rattle.px_calls.specs.Calls.{DidBase};
 ghost use Rattle.px_calls.specs.Causes.{Refuses, base_cause};
 ghost use Rattle.px_calls.specs.Requires.{HasOpen, MayBase};
 ghost use Rattle.px_server.specs.Bases.{AnswersBase, RefusesBases};
+ghost use Rattle.px_server.specs.DeviceCalls.{Blames, MakesAtMost};
 ghost use Rattle.px_server.specs.Shown.{known_by};
 
 use crate::shutting::shut;
@@ -48,6 +49,8 @@ impl<D: CountsCalls, C: Clock, B: Based + Founded> Server<D, C, B> {
         ensures ok { IfOk result (DidBase (known_by B.base B.damaged self.old) (known_by B.base B.damaged self.new) p.now index rows.now) }
         ensures caused { IfErr result (RefusesBases self.old.groups p.now index rows.now) }
         ensures refused { IfErr result (Refuses base_cause (known_by B.base B.damaged self.old) (known_by B.base B.damaged self.new)) }
+        ensures counts { MakesAtMost 4 self.old self.new }
+        ensures blames { IfErr result (Blames self.old self.new) }
     {
         if let Some(call) = self.closed {
             return Err(StepFault::Closed { call });

@@ -9,6 +9,7 @@ ghost use Rattle.px_trail.specs.Batches.{is_distinct, rows_of};
 ghost use Rattle.px_beginning.specs.Leaves.{KeepsRooms, LeavesGroup};
 ghost use Rattle.px_server.specs.Beginning.{HasTaken, IsUnbegun, LetsIn, RefusesBatch};
 ghost use Rattle.px_server.specs.CallsLeft.{calls_left};
+ghost use Rattle.px_server.specs.DeviceCalls.{Blames, MakesNoCall};
 ghost use Rattle.px_server.specs.Shown.{known_by};
 
 use crate::readying::{Ready, Started, ready_of};
@@ -72,6 +73,8 @@ impl<D: CountsCalls, C: Clock, B: Based + Founded> Server<D, C, B> {
         ensures ok { IfOk result (DidBegin B.sound (known_by B.base B.damaged self.old) (known_by B.base B.damaged self.new) table changes.now) }
         ensures refused { IfErr result (Refuses (begin_cause B.sound table.0 changes.now) (known_by B.base B.damaged self.old) (known_by B.base B.damaged self.new)) }
         ensures caused { IfErr result (RefusesBatch self.old.groups table self.old.entries changes.now) }
+        ensures counts { MakesNoCall self.old self.new }
+        ensures blames { IfErr result (Blames self.old self.new) }
     {
         if let Some(call) = self.closed {
             return Err(StepFault::Closed { call });

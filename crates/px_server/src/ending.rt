@@ -5,6 +5,7 @@ ghost use Rattle.px_trail.specs.declared.entry.Act.TheVariants.{Ended as EndedAc
 ghost use Rattle.px_calls.specs.Calls.{IsReceipt};
 ghost use Rattle.px_calls.specs.Known.{Adds, Sees};
 ghost use Rattle.px_calls.specs.Requires.{CanAbandon, CanEnd};
+ghost use Rattle.px_server.specs.DeviceCalls.{MakesNoCall};
 ghost use Rattle.px_server.specs.Shown.{known_by};
 
 use crate::{Founded, Server};
@@ -62,6 +63,7 @@ impl<D: CountsCalls, C: Clock, B: Based + Founded> Server<D, C, B> {
         requires { CanEnd (known_by B.base B.damaged self.old) t }
         ensures adds { Adds (known_by B.base B.damaged self.old) (known_by B.base B.damaged self.new) (EndedAct t.table t.stamp) }
         ensures receipt { IsReceipt (known_by B.base B.damaged self.new) t result }
+        ensures counts { MakesNoCall self.old self.new }
     {
         let unfinished = unfinished_by(self.closed, &self.trail, &t);
         let Ticket { table, stamp } = t;
@@ -90,7 +92,8 @@ impl<D: CountsCalls, C: Clock, B: Based + Founded> Server<D, C, B> {
     /// Gives up a batch that can't go on, since the server is closed.
     pub fn abandon(&mut self, t: Ticket)
         requires { CanAbandon (known_by B.base B.damaged self.old) t }
-        ensures { Sees (known_by B.base B.damaged self.old) (known_by B.base B.damaged self.new) }
+        ensures sees { Sees (known_by B.base B.damaged self.old) (known_by B.base B.damaged self.new) }
+        ensures counts { MakesNoCall self.old self.new }
     {
         let Ticket { table, stamp } = t;
         let Some(place) = numbered_place(&self.standing, table) else {

@@ -2,6 +2,7 @@
 ghost use Rattle.std.specs.Prelude.{◌≡◌, IfOk, IfErr};
 ghost use Rattle.px_calls.specs.Calls.{DidFind};
 ghost use Rattle.px_calls.specs.Causes.{Refuses, find_cause};
+ghost use Rattle.px_server.specs.DeviceCalls.{Blames, MakesNoCall};
 ghost use Rattle.px_server.specs.Shown.{known_by};
 
 use crate::{Founded, Server};
@@ -17,6 +18,8 @@ impl<D: CountsCalls, C: Clock, B: Based + Founded> Server<D, C, B> {
     pub fn find(&mut self, name: &Name) -> Result<Found, StepFault>
         ensures ok { IfOk result (DidFind (known_by B.base B.damaged self.old) (known_by B.base B.damaged self.new) name.now) }
         ensures refused { IfErr result (Refuses (find_cause name.now) (known_by B.base B.damaged self.old) (known_by B.base B.damaged self.new)) }
+        ensures counts { MakesNoCall self.old self.new }
+        ensures blames { IfErr result (Blames self.old self.new) }
     {
         if let Some(call) = self.closed {
             return Err(StepFault::Closed { call });

@@ -5,6 +5,7 @@ ghost use Rattle.px_calls.specs.Causes.{Refuses, fix_cause};
 ghost use Rattle.px_calls.specs.Doubtful.{IndexVersion, IsForRoom, version_of};
 ghost use Rattle.px_calls.specs.declared.query.Point.{Point as Points};
 ghost use Rattle.px_server.specs.Looks.{rows_looked};
+ghost use Rattle.px_server.specs.DeviceCalls.{Blames, MakesAtMost};
 ghost use Rattle.px_server.specs.Shown.{known_by};
 ghost use Rattle.px_server.specs.Sights.{have_doubt};
 ghost use Rattle.px_server.specs.Repairs.{Answers, Mends, RefusesFix, WritesNothing};
@@ -70,6 +71,8 @@ impl<D: CountsCalls, C: Clock, B: Based + Founded> Server<D, C, B> {
         ensures still { IfErr result (λ f. IsForRoom f → (p : Points) → (v : IndexVersion) → have_doubt self.new.groups p v ≡ have_doubt self.old.groups p v) }
         ensures refused { IfErr result (Refuses fix_cause (known_by B.base B.damaged self.old) (known_by B.base B.damaged self.new)) }
         ensures caused { IfErr result (RefusesFix self.old.groups d.now) }
+        ensures counts { MakesAtMost 4 self.old self.new }
+        ensures blames { IfErr result (Blames self.old self.new) }
     {
         if let Some(call) = self.closed {
             return Err(StepFault::Closed { call });

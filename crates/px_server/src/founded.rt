@@ -4,8 +4,8 @@ ghost use Rattle.px_server.specs.Others.{Beginning};
 
 use std::marker::Brand;
 
-/// That what was opened is sound, what the disk's promise rests on, what the clock has to tell, and how long versions are kept. Each call of a program picks them, beside
-/// `Based`.
+/// That what was opened is sound, what the disk's promise rests on, what the clock has to tell, and how long versions are kept. Each call of a
+/// program picks them, beside `Based`.
 pub trait Founded {
     /// What was opened is sound.
     ghost sound: { Type 0 };

@@ -6,6 +6,7 @@ ghost use Rattle.px_calls.specs.Calls.{DidMark, DidVerify};
 ghost use Rattle.px_calls.specs.Causes.{Refuses, write_cause};
 ghost use Rattle.px_calls.specs.Requires.{TicketIn};
 ghost use Rattle.px_server.specs.CallsLeft.{calls_left};
+ghost use Rattle.px_server.specs.DeviceCalls.{Blames, MakesAtMost};
 ghost use Rattle.px_server.specs.Shown.{known_by};
 
 use crate::shutting::shut;
@@ -39,6 +40,8 @@ impl<D: CountsCalls, C: Clock, B: Based + Founded> Server<D, C, B> {
         ensures fewer { IfOk result (λ _. calls_left self.new.groups t.old < calls_left self.old.groups t.old) }
         ensures ok { IfOk result (DidMark (known_by B.base B.damaged self.old) (known_by B.base B.damaged self.new) t.old) }
         ensures refused { IfErr result (Refuses write_cause (known_by B.base B.damaged self.old) (known_by B.base B.damaged self.new)) }
+        ensures counts { MakesAtMost 4 self.old self.new }
+        ensures blames { IfErr result (Blames self.old self.new) }
     {
         if let Some(call) = self.closed {
             return Err(StepFault::Closed { call });
@@ -76,6 +79,8 @@ impl<D: CountsCalls, C: Clock, B: Based + Founded> Server<D, C, B> {
         ensures fewer { IfOk result (λ _. calls_left self.new.groups t.old < calls_left self.old.groups t.old) }
         ensures ok { IfOk result (DidVerify (known_by B.base B.damaged self.old) (known_by B.base B.damaged self.new) t.old) }
         ensures refused { IfErr result (Refuses write_cause (known_by B.base B.damaged self.old) (known_by B.base B.damaged self.new)) }
+        ensures counts { MakesAtMost 4 self.old self.new }
+        ensures blames { IfErr result (Blames self.old self.new) }
     {
         if let Some(call) = self.closed {
             return Err(StepFault::Closed { call });

@@ -106,7 +106,7 @@ impl<D: CountsCalls, C: Clock + Drop, B: Based + Founded> Server<D, C, B> {
         requires began { BeginsAt ⟦<D as Disk>⟧ B.began disk }
         requires times { IsTrue C.tells → (n : ℕ) → C.times clock n ≡ B.times n }
         requires lookback { lookback ≡ B.lookback }
-        ensures ok { IfOk result (λ s. s ≡ record { seat = 1; entries = []; late = None; closed = None; logged = map logged_in opened.groups.items; groups = opened.groups.items; lookback = lookback; raising = None }) }
+        ensures ok { IfOk result (λ s. s ≡ record { seat = 1; entries = []; late = None; closed = None; logged = map logged_in opened.groups.items; groups = opened.groups.items; lookback = lookback; raising = None; calls = D.calls disk; faults = D.faults disk }) }
         ensures refused { IfErr result (λ back. back ≡ disk) }
     {
         let Opened {
@@ -129,6 +129,7 @@ impl<D: CountsCalls, C: Clock + Drop, B: Based + Founded> Server<D, C, B> {
                     clock,
                     lookback,
                     raising: None,
+                    in_vain: false,
                     catalog,
                     standing,
                     groups,

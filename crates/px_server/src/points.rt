@@ -11,6 +11,7 @@ ghost use Rattle.px_trail.specs.declared.entry.Act.TheVariants.{Released as Rele
 ghost use Rattle.px_calls.specs.declared.fault.StepFault.TheVariants.{Memory};
 ghost use Rattle.px_server.specs.Looks.{rows_looked};
 ghost use Rattle.px_server.specs.Points.{HasBatchLeft, HasNoneLeft, IsNoPointOf, IsPointOf, is_left_at};
+ghost use Rattle.px_server.specs.DeviceCalls.{Blames, MakesNoCall};
 ghost use Rattle.px_server.specs.Shown.{known_by};
 
 use crate::{Founded, Server};
@@ -97,6 +98,8 @@ impl<D: CountsCalls, C: Clock, B: Based + Founded> Server<D, C, B> {
         ensures unlooked { rows_looked self.new.groups ≡ rows_looked self.old.groups }
         ensures ok { IfOk result (DidOpen (known_by B.base B.damaged self.old) (known_by B.base B.damaged self.new) table scn) }
         ensures refused { IfErr result (Refuses (open_cause table.0 scn) (known_by B.base B.damaged self.old) (known_by B.base B.damaged self.new)) }
+        ensures counts { MakesNoCall self.old self.new }
+        ensures blames { IfErr result (Blames self.old self.new) }
     {
         if let Some(call) = self.closed {
             return Err(StepFault::Closed { call });
@@ -132,6 +135,7 @@ impl<D: CountsCalls, C: Clock, B: Based + Founded> Server<D, C, B> {
         requires { HasOpen (known_by B.base B.damaged self.old) p }
         ensures unlooked { rows_looked self.new.groups ≡ rows_looked self.old.groups }
         ensures adds { Adds (known_by B.base B.damaged self.old) (known_by B.base B.damaged self.new) (ReleasedAct p.table p.stamp) }
+        ensures counts { MakesNoCall self.old self.new }
     {
         let Point {
             table,

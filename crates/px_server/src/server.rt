@@ -26,6 +26,8 @@ pub struct Server<D: CountsCalls, C: Clock, B: Based + Founded> {
     pub(crate) lookback: u64,
     /// The place of the next table whose horizon is to rise, where that was ordered of all tables.
     pub(crate) raising: Option<usize>,
+    /// The last step of upkeep was the last of a renewal of the catalogue that gave it no room.
+    pub(crate) in_vain: bool,
     /// The definitions on the disk.
     pub(crate) catalog: Catalog,
     /// The same as the trail tells them: an index that was building when the folder was opened is disabled.
@@ -49,7 +51,7 @@ impl<D: CountsCalls, C: Clock, B: Based + Founded> Model for Server<D, C, B> {
 
     ghost Value = { Shown };
 
-    ghost view = { λ s. shown_of s.seat s.trail.entries s.late s.closed s.groups.items s.lookback s.raising };
+    ghost view = { λ s. shown_of s.seat s.trail.entries s.late s.closed s.groups.items s.lookback s.raising (D.calls s.disk) (D.faults s.disk) };
 
     ghost invariant = { λ s. IsKept ⟦<D as Disk>⟧ B.base B.sound B.premise B.began s.disk s.catalog s.standing s.groups.items s.trail s.late s.closed × ((8388620 ≤ s.frame.room) × IsByClock ⟦<C as Clock>⟧ B.times B.base B.lookback s.lookback s.clock s.trail.entries) };
 }
@@ -84,8 +86,9 @@ impl<D: CountsCalls, C: Clock + Drop, B: Based + Founded> Server<D, C, B> {
 
     /// The disk, what was done, and what is late. Each image that a stop may leave at a moment of the run recovers, and where an entry tells
     /// that a call of the disk failed, one has. Unless a failed write closed the server, no entry is late, the disk stands for what base and
-    /// trail give, and the cells shown of each table are those of the logs there; the call that closed it is the last that was made. Each stamp that was drawn is by a number that the clock told, and no horizon is above what isn't looked back on. Files
-    /// of no part stay as they were.
+    /// trail give, and the cells shown of each table are those of the logs there; the call that closed it is the last that was made. Each stamp
+    /// that was drawn is by a number that the clock told, and no horizon that rose is above its table's last stamp less the lookback. Files of no
+    /// part stay as they were.
     pub fn finish(self) -> (D, Trail, Option<Entry>)
         ensures entries { result.1.entries ≡ self.entries }
         ensures late { result.2 ≡ self.late }
@@ -97,6 +100,7 @@ impl<D: CountsCalls, C: Clock + Drop, B: Based + Founded> Server<D, C, B> {
         ensures late_is { (u : Entries) → result.2 ≡ Some u → B.premise → IsTrue D.tells → IsLate B.base result.1.entries u }
         ensures closed_at { (call : ℕ) → closing_call result.1.entries ≡ Some call → call ≡ D.calls result.0 }
         ensures blamed { has_told result.1.entries ≡ true → HasFailed ⟦<D as Disk>⟧ result.0 }
+        ensures counted { (self.calls ≡ D.calls result.0) × (self.faults ≡ D.faults result.0) }
         ensures others { B.premise → IsTrue D.tells → OthersStay ⟦<D as Disk>⟧ B.base B.began result.0 result.1.entries }
         ensures stamped { IsTrue C.tells → (n : ℕ) × AreStamped B.times B.base [] 0 n result.1.entries }
         ensures back { AreBack B.lookback B.base [] result.1.entries }
@@ -108,6 +112,7 @@ impl<D: CountsCalls, C: Clock + Drop, B: Based + Founded> Server<D, C, B> {
             clock,
             lookback: _,
             raising: _,
+            in_vain: _,
             catalog,
             standing,
             groups,

@@ -9,6 +9,7 @@ ghost use Rattle.px_group.specs.Group.{IsRightGroup};
 ghost use Rattle.px_recovery.specs.Tables.{indexes_of};
 ghost use Rattle.px_region.specs.Region.{read_of};
 ghost use Rattle.px_server.specs.Counts.{AreUnverified, CountKeys, CountsKeys, bare, count_as, is_unverified};
+ghost use Rattle.px_server.specs.DeviceCalls.{Blames, MakesNoCall};
 ghost use Rattle.px_server.specs.Shown.{HasLogged, known_by, logged_by};
 
 use crate::{Founded, Server};
@@ -134,6 +135,8 @@ impl<D: CountsCalls, C: Clock, B: Based + Founded> Server<D, C, B> {
         ensures counted { IfOk result (λ s. HasLogged self.old.logged table.0 s.cells) }
         ensures keys { IfOk result (λ s. CountKeys self.old.groups table s.indexes) }
         ensures refused { IfErr result (Refuses (status_cause table.0) (known_by B.base B.damaged self.old) (known_by B.base B.damaged self.new)) }
+        ensures counts { MakesNoCall self.old self.new }
+        ensures blames { IfErr result (Blames self.old self.new) }
     {
         if let Some(call) = self.closed {
             return Err(StepFault::Closed { call });

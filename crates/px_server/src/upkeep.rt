@@ -16,6 +16,7 @@ ghost use Rattle.px_region.specs.Promise.{IsAlike, IsSamePromise};
 ghost use Rattle.px_region.specs.Region.{read_of};
 ghost use Rattle.px_region.specs.declared.fault.JobFault.TheVariants.{Memory, WriteFault};
 ghost use Rattle.px_server.specs.Looks.{rows_looked};
+ghost use Rattle.px_server.specs.DeviceCalls.{Blames, MakesAtMost, MakesNoCall};
 ghost use Rattle.px_server.specs.Shown.{known_by};
 ghost use Rattle.px_server.specs.Sights.{have_doubt};
 ghost use Rattle.px_server.specs.Upkeep.{AllSettle, AreFree, AreOrdered, HasRaised, HasRisen, HasStepped, IsDoneBy, IsDueIn, IsFree, IsFreeIndex, IsFreeTable, IsOrderedBy, IsOrderedTable, IsToForget, IsUnraised, IsWantedTable, Settles, StaysOn, SteppedTable, StepsFiles, StepsTable, StaysCompacting};
@@ -241,6 +242,8 @@ impl<D: CountsCalls, C: Clock, B: Based + Founded> Server<D, C, B> {
         ensures done { IfOk result (λ work. IsIdleWork work → (job : Orders) → IsDoneBy self.new job) }
         ensures ordered { IfOk result (λ work. (job : Orders) → IsOrderedBy self.old job → IsOrderedBy self.new job) }
         ensures refused { IfErr result (Refuses upkeep_cause (known_by B.base B.damaged self.old) (known_by B.base B.damaged self.new)) }
+        ensures counts { MakesAtMost 4 self.old self.new }
+        ensures blames { IfErr result (Blames self.old self.new) }
     {
         match step_table(&mut self.groups[place], region, &mut self.disk) {
             Ok(_) => Ok(Work::Did),
@@ -266,6 +269,8 @@ impl<D: CountsCalls, C: Clock, B: Based + Founded> Server<D, C, B> {
         ensures done { IfOk result (λ work. IsIdleWork work → (job : Orders) → IsDoneBy self.new job) }
         ensures ordered { IfOk result (λ work. (job : Orders) → IsOrderedBy self.old job → IsOrderedBy self.new job) }
         ensures refused { IfErr result (Refuses upkeep_cause (known_by B.base B.damaged self.old) (known_by B.base B.damaged self.new)) }
+        ensures counts { MakesNoCall self.old self.new }
+        ensures blames { IfErr result (Blames self.old self.new) }
     {
         let calls = self.disk.call_count();
         let group = &mut self.groups[place];
@@ -285,6 +290,8 @@ impl<D: CountsCalls, C: Clock, B: Based + Founded> Server<D, C, B> {
         ensures done { IfOk result (λ work. IsIdleWork work → (job : Orders) → IsDoneBy self.new job) }
         ensures ordered { IfOk result (λ work. (job : Orders) → IsOrderedBy self.old job → IsOrderedBy self.new job) }
         ensures refused { IfErr result (Refuses upkeep_cause (known_by B.base B.damaged self.old) (known_by B.base B.damaged self.new)) }
+        ensures counts { MakesAtMost 4 self.old self.new }
+        ensures blames { IfErr result (Blames self.old self.new) }
     {
         if let Some((place, region)) = busy_table(self.groups.as_slice(), Chore::Due) {
             return self.step_at(place, region);
@@ -305,6 +312,8 @@ impl<D: CountsCalls, C: Clock, B: Based + Founded> Server<D, C, B> {
         ensures done { IfOk result (λ work. IsIdleWork work → (job : Orders) → IsDoneBy self.new job) }
         ensures ordered { IfOk result (λ work. (job : Orders) → IsOrderedBy self.old job → IsOrderedBy self.new job) }
         ensures refused { IfErr result (Refuses upkeep_cause (known_by B.base B.damaged self.old) (known_by B.base B.damaged self.new)) }
+        ensures counts { MakesNoCall self.old self.new }
+        ensures blames { IfErr result (Blames self.old self.new) }
     {
         if place >= self.groups.len() {
             self.raising = None;
@@ -332,6 +341,8 @@ impl<D: CountsCalls, C: Clock, B: Based + Founded> Server<D, C, B> {
         ensures done { IfOk result (λ work. IsIdleWork work → (job : Orders) → IsDoneBy self.new job) }
         ensures ordered { IfOk result (λ work. (job : Orders) → IsOrderedBy self.old job → IsOrderedBy self.new job) }
         ensures refused { IfErr result (Refuses upkeep_cause (known_by B.base B.damaged self.old) (known_by B.base B.damaged self.new)) }
+        ensures counts { MakesAtMost 4 self.old self.new }
+        ensures blames { IfErr result (Blames self.old self.new) }
     {
         let renewed = self.renew_catalog()?;
         if renewed {
@@ -349,6 +360,8 @@ impl<D: CountsCalls, C: Clock, B: Based + Founded> Server<D, C, B> {
         ensures ok { IfOk result (DidOrder (known_by B.base B.damaged self.old) (known_by B.base B.damaged self.new)) }
         ensures ordered { IfOk result (λ _. IsOrderedBy self.new job) }
         ensures refused { IfErr result (Refuses order_cause (known_by B.base B.damaged self.old) (known_by B.base B.damaged self.new)) }
+        ensures counts { MakesNoCall self.old self.new }
+        ensures blames { IfErr result (Blames self.old self.new) }
     {
         if let Some(call) = self.closed {
             return Err(StepFault::Closed { call });

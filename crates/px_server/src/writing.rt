@@ -6,6 +6,7 @@ ghost use Rattle.px_calls.specs.Causes.{Refuses, rows_cause};
 ghost use Rattle.px_calls.specs.Requires.{TicketIn};
 ghost use Rattle.px_trail.specs.declared.entry.Act.TheVariants.{Wrote as WroteAct};
 ghost use Rattle.px_server.specs.CallsLeft.{calls_left};
+ghost use Rattle.px_server.specs.DeviceCalls.{Blames, MakesAtMost};
 ghost use Rattle.px_server.specs.Shown.{known_by};
 
 use crate::shutting::shut;
@@ -49,6 +50,8 @@ impl<D: CountsCalls, C: Clock, B: Based + Founded> Server<D, C, B> {
         ensures no_more { IfErr result (λ f. (stamp : ℕ) → f ≡ StepFault.NotYet stamp → calls_left self.new.groups t.old ≤ calls_left self.old.groups t.old) }
         ensures ok { IfOk result (DidWrite (known_by B.base B.damaged self.old) (known_by B.base B.damaged self.new) t.old) }
         ensures refused { IfErr result (Refuses (rows_cause t.old.table.0 t.old.stamp) (known_by B.base B.damaged self.old) (known_by B.base B.damaged self.new)) }
+        ensures counts { MakesAtMost 4 self.old self.new }
+        ensures blames { IfErr result (Blames self.old self.new) }
     {
         if let Some(call) = self.closed {
             return Err(StepFault::Closed { call });

@@ -3,6 +3,7 @@ ghost use Rattle.std.specs.Prelude.{◌≡◌, IfErr, IfOk};
 ghost use Rattle.px_calls.specs.Calls.{DidDefine};
 ghost use Rattle.px_calls.specs.Causes.{Refuses, define_cause};
 ghost use Rattle.px_calls.specs.declared.definition.Definition.TheVariants.{DropIndex as DropDefinition};
+ghost use Rattle.px_server.specs.DeviceCalls.{Blames, MakesAtMost};
 ghost use Rattle.px_server.specs.Shown.{known_by};
 
 use crate::defining::failing::{entered, take_entry};
@@ -22,6 +23,8 @@ impl<D: CountsCalls, C: Clock, B: Based + Founded> Server<D, C, B> {
     pub fn drop_index(&mut self, table: TableId, index: IndexId) -> Result<Made, StepFault>
         ensures ok { IfOk result (DidDefine (known_by B.base B.damaged self.old) (known_by B.base B.damaged self.new) (DropDefinition table index)) }
         ensures refused { IfErr result (Refuses (define_cause (DropDefinition table index)) (known_by B.base B.damaged self.old) (known_by B.base B.damaged self.new)) }
+        ensures counts { MakesAtMost 4 self.old self.new }
+        ensures blames { IfErr result (Blames self.old self.new) }
     {
         let place = quiet_place(
             self.closed,

@@ -5,6 +5,7 @@ ghost use Rattle.px_calls.specs.Causes.{Refuses, define_cause};
 ghost use Rattle.px_calls.specs.Requires.{IsIndexFit};
 ghost use Rattle.px_calls.specs.declared.definition.Definition.TheVariants.{Index as IndexDefinition};
 ghost use Rattle.px_server.specs.inner.Indexing.{MayMakeIndex};
+ghost use Rattle.px_server.specs.DeviceCalls.{Blames, MakesAtMost};
 ghost use Rattle.px_server.specs.Shown.{known_by};
 
 use crate::defining::failing::{entered, take_entry};
@@ -27,6 +28,8 @@ impl<D: CountsCalls, C: Clock, B: Based + Founded> Server<D, C, B> {
         requires { IsIndexFit (known_by B.base B.damaged self.old) what.now }
         ensures ok { IfOk result (DidDefine (known_by B.base B.damaged self.old) (known_by B.base B.damaged self.new) (IndexDefinition what.now)) }
         ensures refused { IfErr result (Refuses (define_cause (IndexDefinition what.now)) (known_by B.base B.damaged self.old) (known_by B.base B.damaged self.new)) }
+        ensures counts { MakesAtMost 4 self.old self.new }
+        ensures blames { IfErr result (Blames self.old self.new) }
     {
         if let Some(fault) = self.index_refusal(what) {
             return Err(fault);
@@ -40,6 +43,8 @@ impl<D: CountsCalls, C: Clock, B: Based + Founded> Server<D, C, B> {
         requires fits { IsIndexFit (known_by B.base B.damaged self.old) what.now }
         ensures ok { IfOk result (DidDefine (known_by B.base B.damaged self.old) (known_by B.base B.damaged self.new) (IndexDefinition what.now)) }
         ensures refused { IfErr result (Refuses (define_cause (IndexDefinition what.now)) (known_by B.base B.damaged self.old) (known_by B.base B.damaged self.new)) }
+        ensures counts { MakesAtMost 4 self.old self.new }
+        ensures blames { IfErr result (Blames self.old self.new) }
     {
         let Some(place) = numbered_place(&self.standing, what.table) else {
             unreachable!()

@@ -4,6 +4,7 @@ ghost use Rattle.px_calls.specs.Calls.{DidDefine};
 ghost use Rattle.px_calls.specs.Causes.{Refuses, define_cause};
 ghost use Rattle.px_calls.specs.Requires.{MayActivate};
 ghost use Rattle.px_calls.specs.declared.definition.Definition.TheVariants.{Active as ActiveDefinition};
+ghost use Rattle.px_server.specs.DeviceCalls.{Blames, MakesAtMost};
 ghost use Rattle.px_server.specs.Shown.{known_by};
 
 use crate::defining::failing::{entered, take_entry};
@@ -26,6 +27,8 @@ impl<D: CountsCalls, C: Clock, B: Based + Founded> Server<D, C, B> {
         requires { MayActivate B.sound (known_by B.base B.damaged self.old) table.0 index.0 }
         ensures ok { IfOk result (DidDefine (known_by B.base B.damaged self.old) (known_by B.base B.damaged self.new) (ActiveDefinition table index)) }
         ensures refused { IfErr result (Refuses (define_cause (ActiveDefinition table index)) (known_by B.base B.damaged self.old) (known_by B.base B.damaged self.new)) }
+        ensures counts { MakesAtMost 4 self.old self.new }
+        ensures blames { IfErr result (Blames self.old self.new) }
     {
         if let Some(call) = self.closed {
             return Err(StepFault::Closed { call });

@@ -11,6 +11,7 @@ ghost use Rattle.px_trail.specs.Trail.{made_table as table_of_definition};
 ghost use Rattle.px_values.specs.Limits.{most_of};
 ghost use Rattle.px_schema.specs.declared.item.CatalogItem.TheVariants.{TableIs};
 ghost use Rattle.px_schema.specs.Stands.{drawn_by, stands_after};
+ghost use Rattle.px_server.specs.DeviceCalls.{Blames, MakesAtMost};
 ghost use Rattle.px_server.specs.Shown.{known_by};
 ghost use Rattle.px_server.specs.inner.Making.{AreParts, IsUnmade, MayMake, table_made};
 
@@ -187,6 +188,8 @@ impl<D: CountsCalls, C: Clock, B: Based + Founded> Server<D, C, B> {
         requires { IsNewTable what.now }
         ensures ok { IfOk result (DidDefine (known_by B.base B.damaged self.old) (known_by B.base B.damaged self.new) (NewTableOf what.now)) }
         ensures refused { IfErr result (Refuses (define_cause (NewTableOf what.now)) (known_by B.base B.damaged self.old) (known_by B.base B.damaged self.new)) }
+        ensures counts { MakesAtMost 4 self.old self.new }
+        ensures blames { IfErr result (Blames self.old self.new) }
     {
         if let Err(fault) = check_table(self.closed, &self.standing, what) {
             return Err(fault);
@@ -241,6 +244,8 @@ impl<D: CountsCalls, C: Clock, B: Based + Founded> Server<D, C, B> {
     pub fn drop_table(&mut self, table: TableId) -> Result<Made, StepFault>
         ensures ok { IfOk result (DidDefine (known_by B.base B.damaged self.old) (known_by B.base B.damaged self.new) (DropTableOf table)) }
         ensures refused { IfErr result (Refuses (define_cause (DropTableOf table)) (known_by B.base B.damaged self.old) (known_by B.base B.damaged self.new)) }
+        ensures counts { MakesAtMost 4 self.old self.new }
+        ensures blames { IfErr result (Blames self.old self.new) }
     {
         if let Some(call) = self.closed {
             return Err(StepFault::Closed { call });

@@ -1,5 +1,4 @@
-use Rattle.std.proofs.Common.{rules, ◌≡◌, ◌<◌, ◌-◌, ◌+◌, ◌⊎◌, inl, inr, ℕ, Bool, true, false, length, refl, sym, subst, arith}
-use Rattle.std.specs.Prelude.{not}
+use Rattle.std.proofs.Common.{rules, ◌≡◌, ◌<◌, ◌-◌, ◌+◌, ◌⊎◌, inl, inr, ℕ, length, sym, subst, arith}
 use Rattle.px_schema.specs.Spelled.{standing_bytes}
 use Rattle.px_schema.specs.declared.standing.Standing.{Standing}
 use Rattle.px_catalog.specs.Catalogue.{IsCatalogueFull, catalogue_steps_left, generation_of, room_of_catalogue, standing_of}
@@ -22,13 +21,9 @@ stays_filled : (c : Catalog) → (generation_of c ≡ 18446744073709551615) ⊎ 
 stays_filled c (inl none) = inl none
 stays_filled c (inr more) = inr (longer (length (standing_bytes (standing_of c))) more)
 
-not_false : (b : Bool) → not b ≡ false → b ≡ true
-not_false true e = refl
-not_false false e = sym e
-
-pub returns-in-Ok-Rolled-clause-undone : goal.returns-in-Ok-Rolled-clause-undone
-returns-in-Ok-Rolled-clause-undone g c = λ no has.
-    filled c.args.catalog.now c.roll_step.new.self c.roll_step.ensures.same (c.in-Ok-Rolled.ensures.opened (search rules)).1 (c.in-Ok-Rolled.ensures.room has (search rules)) (c.is_full.ensures.0 (not_false c.is_full.result no))
+pub returns-then-is_full-clause-undone : goal.returns-then-is_full-clause-undone
+returns-then-is_full-clause-undone g c = λ no has.
+    filled c.args.catalog.now c.roll_step.new.self c.roll_step.ensures.same (c.in-Ok-Rolled.ensures.opened (search rules)).1 (c.in-Ok-Rolled.ensures.room has (search rules)) (c.is_full.ensures.0 (search rules))
 
 pub returns-in-Err-Full-clause-undone : goal.returns-in-Err-Full-clause-undone
 returns-in-Err-Full-clause-undone g c = λ no has. subst IsFilled (sym (c.in-Err-Full.ensures.untouched (inl (search rules))).1) (stays_filled c.args.catalog.now (c.in-Err-Full.ensures.full (search rules)))

@@ -27,6 +27,7 @@ use Rattle.px_server.proofs.Released.{group_of, none_of, place_in}
 use Rattle.px_server.proofs.Reserved.{roomy, same_there}
 use Rattle.px_server.proofs.Seen.{one_more, stays}
 use Rattle.px_server.proofs.Stamping.{more_by_clock, same_by_clock}
+use Rattle.px_server.proofs.DeviceCalls.{unbased_blames, made_by, rose_by, based_passes}
 use Rattle.px_server.proofs.server.Server.base.Goals as goal
 
 pub returns-in-Some-clause-refused : goal.returns-in-Some-clause-refused
@@ -35,7 +36,7 @@ returns-in-Some-clause-refused g c =
     let b = g.B.Based.base in
     let k = c.self.invariant.0 in
     let told = k.told in
-    let v : Shown = shown_of s.seat s.trail.entries s.late s.closed s.groups.items s.lookback s.raising in
+    let v : Shown = shown_of s.seat s.trail.entries s.late s.closed s.groups.items s.lookback s.raising (g.D.Disk.calls s.disk) (g.D.Disk.faults s.disk) in
     subst (λ (w : Shown). Refuses base_cause (known_by b g.B.Based.damaged w) (known_by b g.B.Based.damaged w) (Closed c.in-Some.call)) c.self.view_is
     (closed_by (known_by b g.B.Based.damaged v) told.legal s.closed told.closing c.in-Some.call c.in-Some.is)
 
@@ -45,7 +46,7 @@ unreachable-requires g c =
     let b = g.B.Based.base in
     let k = c.self.invariant.0 in
     let told = k.told in
-    let v : Shown = shown_of s.seat s.trail.entries s.late s.closed s.groups.items s.lookback s.raising in
+    let v : Shown = shown_of s.seat s.trail.entries s.late s.closed s.groups.items s.lookback s.raising (g.D.Disk.calls s.disk) (g.D.Disk.faults s.disk) in
     let may : MayBase g.B.Founded.sound (known_by b g.B.Based.damaged v) c.args.p.now c.args.index.0 c.args.rows.now = subst (λ (w : Shown). MayBase g.B.Founded.sound (known_by b g.B.Based.damaged w) c.args.p.now c.args.index.0 c.args.rows.now) (sym c.self.view_is) c.requires.rows in
     let none : table_of b s.trail.entries c.args.p.now.table.0 ≡ None = lacks b s.trail.entries s.standing told.agrees c.args.p.now.table.0 c.in_default-numbered_place.ensures.none in
     (let z : None ≡ Some may.table = sym none ∙ may.table_is in cc)
@@ -56,7 +57,7 @@ unreachable-requires-in_default-index_place g c =
     let b = g.B.Based.base in
     let k = c.self.invariant.0 in
     let told = k.told in
-    let v : Shown = shown_of s.seat s.trail.entries s.late s.closed s.groups.items s.lookback s.raising in
+    let v : Shown = shown_of s.seat s.trail.entries s.late s.closed s.groups.items s.lookback s.raising (g.D.Disk.calls s.disk) (g.D.Disk.faults s.disk) in
     let running : s.closed ≡ None = none_of s.closed (λ x is. search rules) in
     let may : MayBase g.B.Founded.sound (known_by b g.B.Based.damaged v) c.args.p.now c.args.index.0 c.args.rows.now = subst (λ (w : Shown). MayBase g.B.Founded.sound (known_by b g.B.Based.damaged w) c.args.p.now c.args.index.0 c.args.rows.now) (sym c.self.view_is) c.requires.rows in
     let place = c.in-Some-numbered_place.place in
@@ -72,7 +73,7 @@ returns-then-is_err-clause-refused g c =
     let b = g.B.Based.base in
     let k = c.self.invariant.0 in
     let told = k.told in
-    let v : Shown = shown_of s.seat s.trail.entries s.late s.closed s.groups.items s.lookback s.raising in
+    let v : Shown = shown_of s.seat s.trail.entries s.late s.closed s.groups.items s.lookback s.raising (g.D.Disk.calls s.disk) (g.D.Disk.faults s.disk) in
     let running : s.closed ≡ None = none_of s.closed (λ x is. search rules) in
     subst (λ (w : Shown). Refuses base_cause (known_by b g.B.Based.damaged w) (known_by b g.B.Based.damaged (record v { entries = c.reserve.new.self.entries })) Memory) c.self.view_is
     (subst (λ (es : List Entry). Refuses base_cause (known_by b g.B.Based.damaged v) (known_by b g.B.Based.damaged (record v { entries = es })) Memory) (sym c.reserve.ensures.same)
@@ -84,7 +85,7 @@ base-based-requires-clause-right g c =
     let b = g.B.Based.base in
     let k = c.self.invariant.0 in
     let told = k.told in
-    let v : Shown = shown_of s.seat s.trail.entries s.late s.closed s.groups.items s.lookback s.raising in
+    let v : Shown = shown_of s.seat s.trail.entries s.late s.closed s.groups.items s.lookback s.raising (g.D.Disk.calls s.disk) (g.D.Disk.faults s.disk) in
     let running : s.closed ≡ None = none_of s.closed (λ x is. search rules) in
     let place = c.in-Some-numbered_place.place in
     let l : place < length s.groups.items = place_in s.groups.items s.standing.tables k.each.stand place c.in-Some-numbered_place.ensures.found in
@@ -99,7 +100,7 @@ base-based-requires-clause-there g c =
     let b = g.B.Based.base in
     let k = c.self.invariant.0 in
     let told = k.told in
-    let v : Shown = shown_of s.seat s.trail.entries s.late s.closed s.groups.items s.lookback s.raising in
+    let v : Shown = shown_of s.seat s.trail.entries s.late s.closed s.groups.items s.lookback s.raising (g.D.Disk.calls s.disk) (g.D.Disk.faults s.disk) in
     let place = c.in-Some-numbered_place.place in
     let l : place < length s.groups.items = place_in s.groups.items s.standing.tables k.each.stand place c.in-Some-numbered_place.ensures.found in
     let h = c.index_mut.result.now in
@@ -116,7 +117,7 @@ base-based-requires-clause-rows g c =
     let b = g.B.Based.base in
     let k = c.self.invariant.0 in
     let told = k.told in
-    let v : Shown = shown_of s.seat s.trail.entries s.late s.closed s.groups.items s.lookback s.raising in
+    let v : Shown = shown_of s.seat s.trail.entries s.late s.closed s.groups.items s.lookback s.raising (g.D.Disk.calls s.disk) (g.D.Disk.faults s.disk) in
     let running : s.closed ≡ None = none_of s.closed (λ x is. search rules) in
     let may : MayBase g.B.Founded.sound (known_by b g.B.Based.damaged v) c.args.p.now c.args.index.0 c.args.rows.now = subst (λ (w : Shown). MayBase g.B.Founded.sound (known_by b g.B.Based.damaged w) c.args.p.now c.args.index.0 c.args.rows.now) (sym c.self.view_is) c.requires.rows in
     let place = c.in-Some-numbered_place.place in
@@ -138,7 +139,7 @@ invariant_of-self-in-Ok g c =
     let b = g.B.Based.base in
     let k = c.self.invariant.0 in
     let told = k.told in
-    let v : Shown = shown_of s.seat s.trail.entries s.late s.closed s.groups.items s.lookback s.raising in
+    let v : Shown = shown_of s.seat s.trail.entries s.late s.closed s.groups.items s.lookback s.raising (g.D.Disk.calls s.disk) (g.D.Disk.faults s.disk) in
     let running : s.closed ≡ None = none_of s.closed (λ x is. search rules) in
     let may : MayBase g.B.Founded.sound (known_by b g.B.Based.damaged v) c.args.p.now c.args.index.0 c.args.rows.now = subst (λ (w : Shown). MayBase g.B.Founded.sound (known_by b g.B.Based.damaged w) c.args.p.now c.args.index.0 c.args.rows.now) (sym c.self.view_is) c.requires.rows in
     let place = c.in-Some-numbered_place.place in
@@ -170,7 +171,7 @@ returns-in-Ok-clause-ok g c =
     let b = g.B.Based.base in
     let k = c.self.invariant.0 in
     let told = k.told in
-    let v : Shown = shown_of s.seat s.trail.entries s.late s.closed s.groups.items s.lookback s.raising in
+    let v : Shown = shown_of s.seat s.trail.entries s.late s.closed s.groups.items s.lookback s.raising (g.D.Disk.calls s.disk) (g.D.Disk.faults s.disk) in
     let running : s.closed ≡ None = none_of s.closed (λ x is. search rules) in
     let may : MayBase g.B.Founded.sound (known_by b g.B.Based.damaged v) c.args.p.now c.args.index.0 c.args.rows.now = subst (λ (w : Shown). MayBase g.B.Founded.sound (known_by b g.B.Based.damaged w) c.args.p.now c.args.index.0 c.args.rows.now) (sym c.self.view_is) c.requires.rows in
     let place = c.in-Some-numbered_place.place in
@@ -203,7 +204,7 @@ invariant_of-self-in-Err-WriteFault g c =
     let b = g.B.Based.base in
     let k = c.self.invariant.0 in
     let told = k.told in
-    let v : Shown = shown_of s.seat s.trail.entries s.late s.closed s.groups.items s.lookback s.raising in
+    let v : Shown = shown_of s.seat s.trail.entries s.late s.closed s.groups.items s.lookback s.raising (g.D.Disk.calls s.disk) (g.D.Disk.faults s.disk) in
     let running : s.closed ≡ None = none_of s.closed (λ x is. search rules) in
     let may : MayBase g.B.Founded.sound (known_by b g.B.Based.damaged v) c.args.p.now c.args.index.0 c.args.rows.now = subst (λ (w : Shown). MayBase g.B.Founded.sound (known_by b g.B.Based.damaged w) c.args.p.now c.args.index.0 c.args.rows.now) (sym c.self.view_is) c.requires.rows in
     let place = c.in-Some-numbered_place.place in
@@ -234,7 +235,7 @@ returns-in-Err-WriteFault-clause-refused g c =
     let b = g.B.Based.base in
     let k = c.self.invariant.0 in
     let told = k.told in
-    let v : Shown = shown_of s.seat s.trail.entries s.late s.closed s.groups.items s.lookback s.raising in
+    let v : Shown = shown_of s.seat s.trail.entries s.late s.closed s.groups.items s.lookback s.raising (g.D.Disk.calls s.disk) (g.D.Disk.faults s.disk) in
     let running : s.closed ≡ None = none_of s.closed (λ x is. search rules) in
     let shut : Entry = record { seat = s.seat; calls = c.call_count-calls.result; act = ShutAct c.call_count-calls.result } in
     let pushed : c.shut.new.trail.entries ≡ s.trail.entries ++ shut ∷ [] = c.shut.ensures.entries ∙ ap (λ (es : List Entry). es ++ shut ∷ []) c.reserve.ensures.same in
@@ -253,7 +254,7 @@ invariant_of-self-in-Err g c =
     let b = g.B.Based.base in
     let k = c.self.invariant.0 in
     let told = k.told in
-    let v : Shown = shown_of s.seat s.trail.entries s.late s.closed s.groups.items s.lookback s.raising in
+    let v : Shown = shown_of s.seat s.trail.entries s.late s.closed s.groups.items s.lookback s.raising (g.D.Disk.calls s.disk) (g.D.Disk.faults s.disk) in
     let running : s.closed ≡ None = none_of s.closed (λ x is. search rules) in
     let place = c.in-Some-numbered_place.place in
     let l : place < length s.groups.items = place_in s.groups.items s.standing.tables k.each.stand place c.in-Some-numbered_place.ensures.found in
@@ -278,7 +279,7 @@ returns-in-Err g c =
     let b = g.B.Based.base in
     let k = c.self.invariant.0 in
     let told = k.told in
-    let v : Shown = shown_of s.seat s.trail.entries s.late s.closed s.groups.items s.lookback s.raising in
+    let v : Shown = shown_of s.seat s.trail.entries s.late s.closed s.groups.items s.lookback s.raising (g.D.Disk.calls s.disk) (g.D.Disk.faults s.disk) in
     let running : s.closed ≡ None = none_of s.closed (λ x is. search rules) in
     let other : c.in-Err.fault ≡ WriteFault → ⊥ = λ e. search rules in
     let place = c.in-Some-numbered_place.place in
@@ -312,4 +313,17 @@ returns-in-Err g c =
           subst (λ (w : Shown). Refuses base_cause (known_by b g.B.Based.damaged w) (known_by b g.B.Based.damaged (record v { entries = c.give_back.new.self.entries })) c.unbased.result) c.self.view_is
           (subst (λ (es : List Entry). Refuses base_cause (known_by b g.B.Based.damaged v) (known_by b g.B.Based.damaged (record v { entries = es })) c.unbased.result) (sym (c.give_back.ensures.same ∙ c.reserve.ensures.same))
           (unbased_refused (known_by b g.B.Based.damaged v) told.legal (told.closing ∙ running) c.in-Err.fault c.unbased.result c.unbased.ensures other));
+      counts = made_by g.D.Disk c.self.inside.disk c.base-based.new.disk (based_passes g.D.Disk c.self.inside.disk c.base-based.new.disk c.index_mut.result.now c.base-based.new.group c.in-Some-index_place.at c.as_slice.result.now c.base-based.result c.base-based.ensures.bases) (omega arith) c.self.view_is refl refl refl refl;
+      blames = unbased_blames c.args.self.now (record c.args.self.now { calls = g.D.Disk.calls c.base-based.new.disk; faults = g.D.Disk.faults c.base-based.new.disk }) c.in-Err.fault c.unbased.result c.unbased.ensures other;
     }
+
+-- ---- the calls of the disk
+
+pub returns-in-Ok-clause-counts : goal.returns-in-Ok-clause-counts
+returns-in-Ok-clause-counts g c = made_by g.D.Disk c.self.inside.disk c.base-based.new.disk (based_passes g.D.Disk c.self.inside.disk c.base-based.new.disk c.index_mut.result.now c.base-based.new.group c.in-Some-index_place.at c.as_slice.result.now c.base-based.result c.base-based.ensures.bases) (omega arith) c.self.view_is refl refl refl refl
+
+pub returns-in-Err-WriteFault-clause-counts : goal.returns-in-Err-WriteFault-clause-counts
+returns-in-Err-WriteFault-clause-counts g c = made_by g.D.Disk c.self.inside.disk c.base-based.new.disk (based_passes g.D.Disk c.self.inside.disk c.base-based.new.disk c.index_mut.result.now c.base-based.new.group c.in-Some-index_place.at c.as_slice.result.now c.base-based.result c.base-based.ensures.bases) (omega arith) c.self.view_is refl refl refl refl
+
+pub returns-in-Err-WriteFault-clause-blames : goal.returns-in-Err-WriteFault-clause-blames
+returns-in-Err-WriteFault-clause-blames g c = rose_by g.D.Disk c.self.inside.disk c.base-based.new.disk (c.base-based.ensures.failed (search rules)) c.self.view_is refl

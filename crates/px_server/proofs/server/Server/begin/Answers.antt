@@ -24,6 +24,7 @@ use Rattle.px_server.proofs.CallsLeft.{few}
 use Rattle.px_server.proofs.Refusing.{begun_no_table, did_begin, refuses_batch, unbegun}
 use Rattle.px_server.proofs.Released.{group_of, none_of, place_in}
 use Rattle.px_server.proofs.Stamping.{drawn_by_clock, read_by_clock, same_by_clock}
+use Rattle.px_server.proofs.DeviceCalls.{none_by, unbegun_blames}
 use Rattle.px_server.proofs.server.Server.begin.Goals as goal
 
 pub returns-in-Some-clause-refused : goal.returns-in-Some-clause-refused
@@ -31,7 +32,7 @@ returns-in-Some-clause-refused g c =
     let s = c.self.inside in
     let b = g.B.Based.base in
     let told = c.self.invariant.0.told in
-    let v : Shown = shown_of s.seat s.trail.entries s.late s.closed s.groups.items s.lookback s.raising in
+    let v : Shown = shown_of s.seat s.trail.entries s.late s.closed s.groups.items s.lookback s.raising (g.D.Disk.calls s.disk) (g.D.Disk.faults s.disk) in
     subst (λ (w : Shown). Refuses (begin_cause g.B.Founded.sound c.args.table.0 c.args.changes.now) (known_by b g.B.Based.damaged w) (known_by b g.B.Based.damaged w) (Closed c.in-Some.call)) c.self.view_is
     (closed_by (known_by b g.B.Based.damaged v) told.legal s.closed told.closing c.in-Some.call c.in-Some.is)
 
@@ -41,7 +42,7 @@ returns-in_default-numbered_place-clause-refused g c =
     let b = g.B.Based.base in
     let told = c.self.invariant.0.told in
     let running : s.closed ≡ None = none_of s.closed (λ x is. search rules) in
-    let v : Shown = shown_of s.seat s.trail.entries s.late s.closed s.groups.items s.lookback s.raising in
+    let v : Shown = shown_of s.seat s.trail.entries s.late s.closed s.groups.items s.lookback s.raising (g.D.Disk.calls s.disk) (g.D.Disk.faults s.disk) in
     subst (λ (w : Shown). Refuses (begin_cause g.B.Founded.sound c.args.table.0 c.args.changes.now) (known_by b g.B.Based.damaged w) (known_by b g.B.Based.damaged w) NoTable) c.self.view_is
     (begun_no_table (known_by b g.B.Based.damaged v) told.legal (told.closing ∙ running) g.B.Founded.sound c.args.table.0 c.args.changes.now (lacks b s.trail.entries s.standing told.agrees c.args.table.0 c.in_default-numbered_place.ensures.none))
 
@@ -51,7 +52,7 @@ let_in-begun-requires-clause-fit g c =
     let b = g.B.Based.base in
     let told = c.self.invariant.0.told in
     let running : s.closed ≡ None = none_of s.closed (λ x is. search rules) in
-    let v : Shown = shown_of s.seat s.trail.entries s.late s.closed s.groups.items s.lookback s.raising in
+    let v : Shown = shown_of s.seat s.trail.entries s.late s.closed s.groups.items s.lookback s.raising (g.D.Disk.calls s.disk) (g.D.Disk.faults s.disk) in
     let cs = c.args.changes.now in
     let fits : AreFitting (known_by b g.B.Based.damaged v) c.args.table.0 cs = subst (λ (w : Shown). AreFitting (known_by b g.B.Based.damaged w) c.args.table.0 cs) (sym c.self.view_is) c.requires.fits in
     let fit = fit_here g.D.Disk b g.B.Founded.sound g.B.Founded.premise g.B.Founded.began s.disk s.catalog s.standing s.groups.items s.trail s.late s.closed c.self.invariant.0 running c.args.table c.in-Some-numbered_place.place c.index_mut.result.now c.in-Some-numbered_place.ensures.found c.in-Some-numbered_place.ensures.numbered (sym c.index_mut.ensures.value) cs fits.each in
@@ -63,7 +64,7 @@ invariant_of-self g c =
     let b = g.B.Based.base in
     let told = c.self.invariant.0.told in
     let running : s.closed ≡ None = none_of s.closed (λ x is. search rules) in
-    let v : Shown = shown_of s.seat s.trail.entries s.late s.closed s.groups.items s.lookback s.raising in
+    let v : Shown = shown_of s.seat s.trail.entries s.late s.closed s.groups.items s.lookback s.raising (g.D.Disk.calls s.disk) (g.D.Disk.faults s.disk) in
     let cs = c.args.changes.now in
     let fits : AreFitting (known_by b g.B.Based.damaged v) c.args.table.0 cs = subst (λ (w : Shown). AreFitting (known_by b g.B.Based.damaged w) c.args.table.0 cs) (sym c.self.view_is) c.requires.fits in
     let fit = fit_here g.D.Disk b g.B.Founded.sound g.B.Founded.premise g.B.Founded.began s.disk s.catalog s.standing s.groups.items s.trail s.late s.closed c.self.invariant.0 running c.args.table c.in-Some-numbered_place.place c.index_mut.result.now c.in-Some-numbered_place.ensures.found c.in-Some-numbered_place.ensures.numbered (sym c.index_mut.ensures.value) cs fits.each in
@@ -107,7 +108,7 @@ returns-in-Ok-clause-ok g c =
     let b = g.B.Based.base in
     let told = c.self.invariant.0.told in
     let running : s.closed ≡ None = none_of s.closed (λ x is. search rules) in
-    let v : Shown = shown_of s.seat s.trail.entries s.late s.closed s.groups.items s.lookback s.raising in
+    let v : Shown = shown_of s.seat s.trail.entries s.late s.closed s.groups.items s.lookback s.raising (g.D.Disk.calls s.disk) (g.D.Disk.faults s.disk) in
     let cs = c.args.changes.now in
     let fits : AreFitting (known_by b g.B.Based.damaged v) c.args.table.0 cs = subst (λ (w : Shown). AreFitting (known_by b g.B.Based.damaged w) c.args.table.0 cs) (sym c.self.view_is) c.requires.fits in
     let fit = fit_here g.D.Disk b g.B.Founded.sound g.B.Founded.premise g.B.Founded.began s.disk s.catalog s.standing s.groups.items s.trail s.late s.closed c.self.invariant.0 running c.args.table c.in-Some-numbered_place.place c.index_mut.result.now c.in-Some-numbered_place.ensures.found c.in-Some-numbered_place.ensures.numbered (sym c.index_mut.ensures.value) cs fits.each in
@@ -129,7 +130,7 @@ returns-in-Err-clause-refused g c =
     let b = g.B.Based.base in
     let told = c.self.invariant.0.told in
     let running : s.closed ≡ None = none_of s.closed (λ x is. search rules) in
-    let v : Shown = shown_of s.seat s.trail.entries s.late s.closed s.groups.items s.lookback s.raising in
+    let v : Shown = shown_of s.seat s.trail.entries s.late s.closed s.groups.items s.lookback s.raising (g.D.Disk.calls s.disk) (g.D.Disk.faults s.disk) in
     let cs = c.args.changes.now in
     let fits : AreFitting (known_by b g.B.Based.damaged v) c.args.table.0 cs = subst (λ (w : Shown). AreFitting (known_by b g.B.Based.damaged w) c.args.table.0 cs) (sym c.self.view_is) c.requires.fits in
     let fit = fit_here g.D.Disk b g.B.Founded.sound g.B.Founded.premise g.B.Founded.began s.disk s.catalog s.standing s.groups.items s.trail s.late s.closed c.self.invariant.0 running c.args.table c.in-Some-numbered_place.place c.index_mut.result.now c.in-Some-numbered_place.ensures.found c.in-Some-numbered_place.ensures.numbered (sym c.index_mut.ensures.value) cs fits.each in
@@ -164,3 +165,14 @@ returns-in-Ok-clause-few g c =
     let running : s.closed ≡ None = none_of s.closed (λ x is. search rules) in
     few g.D.Disk g.B.Based.base g.B.Founded.sound g.B.Founded.premise g.B.Founded.began c.let_in-begun.new.disk s.catalog s.standing (slice_set s.groups.items c.in-Some-numbered_place.place c.let_in-begun.new.group) c.push.new.self s.late s.closed (invariant_of-self g c).0 running
     (record { table = c.args.table; stamp = c.in-Ok.started.stamp })
+
+-- ---- the calls of the disk
+
+pub returns-in-Ok-clause-counts : goal.returns-in-Ok-clause-counts
+returns-in-Ok-clause-counts g c = none_by c.self.view_is (ap g.D.Disk.calls c.let_in-begun.ensures.untouched) (ap g.D.Disk.faults c.let_in-begun.ensures.untouched)
+
+pub returns-in-Err-clause-counts : goal.returns-in-Err-clause-counts
+returns-in-Err-clause-counts g c = none_by c.self.view_is (ap g.D.Disk.calls c.let_in-begun.ensures.untouched) (ap g.D.Disk.faults c.let_in-begun.ensures.untouched)
+
+pub returns-in-Err-clause-blames : goal.returns-in-Err-clause-blames
+returns-in-Err-clause-blames g c = unbegun_blames c.args.self.now (record c.args.self.now { calls = g.D.Disk.calls c.let_in-begun.new.disk; faults = g.D.Disk.faults c.let_in-begun.new.disk }) c.index_mut.result.now c.self.inside.trail.entries c.args.changes.now c.now-clock.result c.in-Err.fault c.in-Err.ensures.refused

@@ -1,4 +1,4 @@
-use Rattle.std.proofs.Common.{◌≡◌, ◌<◌, ◌∙◌, None, List, get_or, length, sym, ap, subst, arith}
+use Rattle.std.proofs.Common.{◌≡◌, ◌<◌, ◌∙◌, None, List, get_or, length, sym, ap, subst, arith, refl}
 use Rattle.std.specs.List.{slice_set}
 use Rattle.std.proofs.lemmas.Result.{err_from_is_err_and}
 use Rattle.px_trail.specs.Recorded.{Recorded}
@@ -18,6 +18,7 @@ use Rattle.px_server.proofs.Lists.{sum_kept}
 use Rattle.px_server.proofs.Stamping.{same_by_clock}
 use Rattle.px_server.proofs.Stepped.{put_back, work_no_memory}
 use Rattle.px_server.proofs.Upkept.{begun_doubts, begun_kept, begun_ordered, mid_clock, mid_did, mid_looked, unraised_due}
+use Rattle.px_server.proofs.DeviceCalls.{none_by}
 use Rattle.px_server.proofs.server.Server.begin_at.Goals as goal
 
 pub index_mut-group-requires : goal.index_mut-group-requires
@@ -49,7 +50,7 @@ returns-clause-ok g c =
     let b = g.B.Based.base in
     let running : s.closed ≡ None = ap (λ (w : Shown). w.closed) c.self.view_is ∙ c.requires.running in
     let inside : c.args.place < length s.groups.items = subst (λ (w : Shown). c.args.place < length w.groups) (sym c.self.view_is) c.requires.place in
-    let v : Shown = shown_of s.seat s.trail.entries s.late s.closed s.groups.items s.lookback s.raising in
+    let v : Shown = shown_of s.seat s.trail.entries s.late s.closed s.groups.items s.lookback s.raising (g.D.Disk.calls s.disk) (g.D.Disk.faults s.disk) in
     let v' : Shown = record v { entries = c.raise_table.new.trail.entries } in
     subst (λ (w : Shown). DidWork (known_by b g.B.Based.damaged w) (known_by b g.B.Based.damaged v') Did) c.self.view_is
     (mid_did g.D.Disk g.met.D.Disk.told g.met.D.Disk.up_to_now b g.B.Founded.sound g.B.Founded.premise g.B.Founded.began s.disk s.catalog s.standing s.groups.items s.trail s.late s.closed c.self.invariant.0 running
@@ -84,12 +85,12 @@ returns-clause-ordered g c =
     let inside : c.args.place < length s.groups.items = subst (λ (w : Shown). c.args.place < length w.groups) (sym c.self.view_is) c.requires.place in
     let then = slice_set s.groups.items c.args.place c.begin_table.new.group in
     λ job was.
-    let was_here : IsOrderedBy (shown_of s.seat s.trail.entries s.late s.closed s.groups.items s.lookback None) job =
-    subst (λ o. IsOrderedBy (shown_of s.seat s.trail.entries s.late s.closed s.groups.items s.lookback o) job) raised (subst (λ (w : Shown). IsOrderedBy w job) (sym c.self.view_is) was) in
-    subst (λ o. IsOrderedBy (shown_of s.seat c.raise_table.new.trail.entries s.late s.closed then s.lookback o) job) (sym raised)
+    let was_here : IsOrderedBy (shown_of s.seat s.trail.entries s.late s.closed s.groups.items s.lookback None (g.D.Disk.calls s.disk) (g.D.Disk.faults s.disk)) job =
+    subst (λ o. IsOrderedBy (shown_of s.seat s.trail.entries s.late s.closed s.groups.items s.lookback o (g.D.Disk.calls s.disk) (g.D.Disk.faults s.disk)) job) raised (subst (λ (w : Shown). IsOrderedBy w job) (sym c.self.view_is) was) in
+    subst (λ o. IsOrderedBy (shown_of s.seat c.raise_table.new.trail.entries s.late s.closed then s.lookback o (g.D.Disk.calls s.disk) (g.D.Disk.faults s.disk)) job) (sym raised)
     (begun_ordered g.D.Disk g.met.D.Disk.told g.met.D.Disk.up_to_now g.B.Based.base g.B.Founded.sound g.B.Founded.premise g.B.Founded.began s.disk s.catalog s.standing s.groups.items s.trail s.late s.closed c.self.invariant.0 running
     c.args.place c.index_mut-group.result.now c.raise_table.new.group inside (sym c.index_mut-group.ensures.value) s.lookback s.seat c.call_count-calls.result c.call_count-calls.ensures c.raise_table.new.trail c.in_ok-raise_table.ensures.raises c.begin_table.new.group (c.begin_table.ensures.steps s.disk)
-    c.begin_table.ensures.ordered c.begin_table.ensures.to_forget job was_here)
+    c.begin_table.ensures.ordered c.begin_table.ensures.to_forget (g.D.Disk.calls s.disk) (g.D.Disk.faults s.disk) job was_here)
 
 pub invariant_of-self : goal.invariant_of-self
 invariant_of-self g c =
@@ -106,7 +107,7 @@ returns-in_err-raise_table-clause-refused g c =
     let s = c.self.inside in
     let b = g.B.Based.base in
     let told = c.self.invariant.0.told in
-    let v : Shown = shown_of s.seat s.trail.entries s.late s.closed s.groups.items s.lookback s.raising in
+    let v : Shown = shown_of s.seat s.trail.entries s.late s.closed s.groups.items s.lookback s.raising (g.D.Disk.calls s.disk) (g.D.Disk.faults s.disk) in
     let running : s.closed ≡ None = ap (λ (w : Shown). w.closed) c.self.view_is ∙ c.requires.running in
     let r = c.in_err-raise_table.ensures.refused in
     let p = err_from_is_err_and c.from_residual.result c.from_residual.ensures.1 in
@@ -120,3 +121,11 @@ returns-in_err-raise_table-clause-unlooked g c =
     let inside : c.args.place < length s.groups.items = subst (λ (w : Shown). c.args.place < length w.groups) (sym c.self.view_is) c.requires.place in
     subst (λ (w : Shown). rows_looked (slice_set s.groups.items c.args.place c.raise_table.new.group) ≡ rows_looked w.groups) c.self.view_is
     (sum_kept (λ (h : Group). h.rows.looked) s.groups.items c.args.place c.index_mut-group.result.now c.raise_table.new.group inside (sym c.index_mut-group.ensures.value) (ap (λ (h : Group). h.rows.looked) c.in_err-raise_table.ensures.refused.1.0))
+
+-- ---- the calls of the disk
+
+pub returns-clause-counts : goal.returns-clause-counts
+returns-clause-counts g c = none_by c.self.view_is refl refl
+
+pub returns-in_err-raise_table-clause-counts : goal.returns-in_err-raise_table-clause-counts
+returns-in_err-raise_table-clause-counts g c = none_by c.self.view_is refl refl

@@ -14,6 +14,7 @@ use Rattle.px_server.proofs.Opened.{none_open}
 use Rattle.px_server.proofs.Released.{closes, has_point, place_in}
 use Rattle.px_server.proofs.Seen.{one_more}
 use Rattle.px_server.proofs.Stamping.{more_by_clock}
+use Rattle.px_server.proofs.DeviceCalls.{none_by}
 use Rattle.px_server.proofs.server.Server.close_point.Goals as goal
 
 pub close_point-requires : goal.close_point-requires
@@ -46,7 +47,7 @@ pub returns-clause-adds : goal.returns-clause-adds
 returns-clause-adds g c =
     let s = c.self.inside in
     let told = c.self.invariant.0.told in
-    let v : Shown = shown_of s.seat s.trail.entries s.late s.closed s.groups.items s.lookback s.raising in
+    let v : Shown = shown_of s.seat s.trail.entries s.late s.closed s.groups.items s.lookback s.raising (g.D.Disk.calls s.disk) (g.D.Disk.faults s.disk) in
     let v' : Shown = record v { entries = c.push.new.self.entries } in
     subst (λ (w : Shown). Adds (known_by g.B.Based.base g.B.Based.damaged w) (known_by g.B.Based.base g.B.Based.damaged v') (ReleasedAct c.args.p.table c.args.p.stamp)) c.self.view_is
     (one_more (known_by g.B.Based.base g.B.Based.damaged v) c.push.new.self.entries c.call_count.result (ReleasedAct c.args.p.table c.args.p.stamp) told.legal c.push.ensures.entries (invariant_of-self g c).0.told.legal)
@@ -57,3 +58,8 @@ returns-clause-unlooked g c =
     let l = place_in s.groups.items s.standing.tables c.self.invariant.0.each.stand c.in-Some.place c.in-Some.ensures.found in
     subst (λ (w : Shown). rows_looked (slice_set s.groups.items c.in-Some.place c.close_point.new.group) ≡ rows_looked w.groups) c.self.view_is
     (sum_kept (λ (h : Group). h.rows.looked) s.groups.items c.in-Some.place c.index_mut.result.now c.close_point.new.group l (sym c.index_mut.ensures.value) (ap (λ (r : Region). r.looked) c.close_point.ensures.released.same.rows))
+
+-- ---- the calls of the disk
+
+pub returns-clause-counts : goal.returns-clause-counts
+returns-clause-counts g c = none_by c.self.view_is refl refl

@@ -14,6 +14,7 @@ use Rattle.px_server.proofs.Looked.{looked_kept}
 use Rattle.px_server.proofs.ReadAt.{did_consult, inside, no_memory, read_at}
 use Rattle.px_server.proofs.Released.{none_of}
 use Rattle.px_server.proofs.Sighted.{looked_table, put_tables}
+use Rattle.px_server.proofs.DeviceCalls.{none_by}
 use Rattle.px_server.proofs.server.Server.consult.Goals.{in-Ok, in-Err}
 use Rattle.px_server.proofs.server.Server.consult.Goals as goal
 
@@ -21,7 +22,7 @@ pub returns-in-Some-clause-refused : goal.returns-in-Some-clause-refused
 returns-in-Some-clause-refused g c =
     let s = c.self.inside in
     let told = c.self.invariant.0.told in
-    let v : Shown = shown_of s.seat s.trail.entries s.late s.closed s.groups.items s.lookback s.raising in
+    let v : Shown = shown_of s.seat s.trail.entries s.late s.closed s.groups.items s.lookback s.raising (g.D.Disk.calls s.disk) (g.D.Disk.faults s.disk) in
     subst (λ (w : Shown). Refuses read_cause (known_by g.B.Based.base g.B.Based.damaged w) (known_by g.B.Based.base g.B.Based.damaged w) (Closed c.in-Some.call)) c.self.view_is
     (closed_by (known_by g.B.Based.base g.B.Based.damaged v) told.legal s.closed told.closing c.in-Some.call c.in-Some.is)
 
@@ -29,7 +30,7 @@ pub returns-in_default-point_place-clause-refused : goal.returns-in_default-poin
 returns-in_default-point_place-clause-refused g c =
     let s = c.self.inside in
     let told = c.self.invariant.0.told in
-    let v : Shown = shown_of s.seat s.trail.entries s.late s.closed s.groups.items s.lookback s.raising in
+    let v : Shown = shown_of s.seat s.trail.entries s.late s.closed s.groups.items s.lookback s.raising (g.D.Disk.calls s.disk) (g.D.Disk.faults s.disk) in
     let running : s.closed ≡ None = none_of s.closed (λ x is. search rules) in
     subst (λ (w : Shown). Refuses read_cause (known_by g.B.Based.base g.B.Based.damaged w) (known_by g.B.Based.base g.B.Based.damaged w) Memory) c.self.view_is
     (no_memory (known_by g.B.Based.base g.B.Based.damaged v) told.legal s.closed told.closing running)
@@ -52,7 +53,7 @@ returns-clause-ok g c =
     let b = g.B.Based.base in
     let k = c.self.invariant.0 in
     let told = k.told in
-    let v : Shown = shown_of s.seat s.trail.entries s.late s.closed s.groups.items s.lookback s.raising in
+    let v : Shown = shown_of s.seat s.trail.entries s.late s.closed s.groups.items s.lookback s.raising (g.D.Disk.calls s.disk) (g.D.Disk.faults s.disk) in
     let running : s.closed ≡ None = none_of s.closed (λ x is. search rules) in
     let l : c.in-Some-point_place.place < length s.groups.items = inside s.groups.items c.deref.result.now c.in-Some-point_place.place c.deref.ensures.value c.in-Some-point_place.ensures.within in
     elim c.match-consult.branch [
@@ -69,7 +70,7 @@ returns-clause-refused g c =
     let s = c.self.inside in
     let b = g.B.Based.base in
     let told = c.self.invariant.0.told in
-    let v : Shown = shown_of s.seat s.trail.entries s.late s.closed s.groups.items s.lookback s.raising in
+    let v : Shown = shown_of s.seat s.trail.entries s.late s.closed s.groups.items s.lookback s.raising (g.D.Disk.calls s.disk) (g.D.Disk.faults s.disk) in
     let running : s.closed ≡ None = none_of s.closed (λ x is. search rules) in
     elim c.match-consult.branch [
       | in-Ok w ↦ rw w.result-is tt
@@ -96,3 +97,8 @@ returns-clause-doubts g c = λ q v.
     let l : c.in-Some-point_place.place < length s.groups.items = inside s.groups.items c.deref.result.now c.in-Some-point_place.place c.deref.ensures.value c.in-Some-point_place.ensures.within in
     subst (λ (u : Shown). have_doubt (slice_set s.groups.items c.in-Some-point_place.place c.consult.new.group) q v ≡ have_doubt u.groups q v) c.self.view_is
     (put_tables q v s.groups.items c.in-Some-point_place.place c.index_mut-group.result.now c.consult.new.group l (sym c.index_mut-group.ensures.value) (looked_table q v c.index_mut-group.result.now c.consult.new.group c.consult.ensures.looked))
+
+-- ---- the calls of the disk
+
+pub returns-clause-counts : goal.returns-clause-counts
+returns-clause-counts g c = none_by c.self.view_is (ap g.D.Disk.calls c.consult.ensures.untouched) (ap g.D.Disk.faults c.consult.ensures.untouched)

@@ -1,4 +1,4 @@
-use Rattle.std.proofs.Common.{rules, inl, inr, ◌++◌, ◌∷◌, ◌∙◌, [], List, Err, refl, sym, ap, subst}
+use Rattle.std.proofs.Common.{rules, inl, inr, ◌++◌, ◌∷◌, ◌∙◌, [], List, Err, refl, sym, ap, subst, arith}
 use Rattle.px_tables.specs.declared.table.NewTable.{NewTable}
 use Rattle.px_tables.specs.declared.table.Table.{Table}
 use Rattle.px_trail.specs.declared.entry.Act.TheVariants.{Made as MadeAct, Shut}
@@ -19,6 +19,7 @@ use Rattle.px_server.proofs.Stamping.{more_by_clock, unwritten_entry_by_clock}
 use Rattle.px_server.proofs.TableCauses.{did_make, refused_memory, refused_unmade, table_full}
 use Rattle.px_server.proofs.TableRecord.{made_right}
 use Rattle.px_server.proofs.TableSteps.{making_failed, making_kept, on_ok, unwritten_refused}
+use Rattle.px_server.proofs.DeviceCalls.{few_by, made_by, rose_by, unwritten_blames, unmade_blames}
 use Rattle.px_server.proofs.server.Server.define_table.Goals as goal
 
 pub returns-in-Err-clause-refused : goal.returns-in-Err-clause-refused
@@ -26,7 +27,7 @@ returns-in-Err-clause-refused g c =
     let s = c.self.inside in
     let b = g.B.Based.base in
     let told = c.self.invariant.0.told in
-    let v : Shown = shown_of s.seat s.trail.entries s.late s.closed s.groups.items s.lookback s.raising in
+    let v : Shown = shown_of s.seat s.trail.entries s.late s.closed s.groups.items s.lookback s.raising (g.D.Disk.calls s.disk) (g.D.Disk.faults s.disk) in
     subst (λ (w : Shown). Refuses (define_cause (NewTableOf c.args.what.now)) (known_by b g.B.Based.damaged w) (known_by b g.B.Based.damaged w) c.in-Err.fault) c.self.view_is
     (refused_unmade (known_by b g.B.Based.damaged v) told.legal s.closed told.closing s.standing told.agrees c.args.what.now c.in-Err.fault c.in-Err.ensures.refused)
 
@@ -36,7 +37,7 @@ returns-in_default-parts_of-clause-refused g c =
     let b = g.B.Based.base in
     let told = c.self.invariant.0.told in
     let may : MayMake s.standing s.closed c.args.what.now = on_ok c.check_table.result (MayMake s.standing s.closed c.args.what.now) c.check_table.ensures.ok (λ e is. search rules) in
-    let v : Shown = shown_of s.seat s.trail.entries s.late s.closed s.groups.items s.lookback s.raising in
+    let v : Shown = shown_of s.seat s.trail.entries s.late s.closed s.groups.items s.lookback s.raising (g.D.Disk.calls s.disk) (g.D.Disk.faults s.disk) in
     subst (λ (w : Shown). Refuses (define_cause (NewTableOf c.args.what.now)) (known_by b g.B.Based.damaged w) (known_by b g.B.Based.damaged w) Memory) c.self.view_is
     (refused_memory (known_by b g.B.Based.damaged v) told.legal s.closed told.closing may.running (NewTableOf c.args.what.now))
 
@@ -46,7 +47,7 @@ returns-in_default-take_room-clause-refused g c =
     let b = g.B.Based.base in
     let told = c.self.invariant.0.told in
     let may : MayMake s.standing s.closed c.args.what.now = on_ok c.check_table.result (MayMake s.standing s.closed c.args.what.now) c.check_table.ensures.ok (λ e is. search rules) in
-    let v : Shown = shown_of s.seat s.trail.entries s.late s.closed s.groups.items s.lookback s.raising in
+    let v : Shown = shown_of s.seat s.trail.entries s.late s.closed s.groups.items s.lookback s.raising (g.D.Disk.calls s.disk) (g.D.Disk.faults s.disk) in
     subst (λ (w : Shown). Refuses (define_cause (NewTableOf c.args.what.now)) (known_by b g.B.Based.damaged w) (record (known_by b g.B.Based.damaged v) { seen = c.take_room.new.trail.entries }) Memory) c.self.view_is
     (subst (λ (es : List Entry). Refuses (define_cause (NewTableOf c.args.what.now)) (known_by b g.B.Based.damaged v) (record (known_by b g.B.Based.damaged v) { seen = es }) Memory) (sym c.take_room.ensures.same)
     (refused_memory (known_by b g.B.Based.damaged v) told.legal s.closed told.closing may.running (NewTableOf c.args.what.now)))
@@ -90,7 +91,7 @@ returns-in-Ok-entered-clause-ok g c =
     let s = c.self.inside in
     let b = g.B.Based.base in
     let told = c.self.invariant.0.told in
-    let v : Shown = shown_of s.seat s.trail.entries s.late s.closed s.groups.items s.lookback s.raising in
+    let v : Shown = shown_of s.seat s.trail.entries s.late s.closed s.groups.items s.lookback s.raising (g.D.Disk.calls s.disk) (g.D.Disk.faults s.disk) in
     let v' : Shown = record v { entries = c.entered.new.trail.entries } in
     let id = c.in-Ok.parts.group.table.id in
     let m : Answered = record { number = id.0; stamp = 0; at = c.len.result } in
@@ -105,7 +106,7 @@ returns-in-Err-entered-clause-refused g c =
     let b = g.B.Based.base in
     let told = c.self.invariant.0.told in
     let may : MayMake s.standing s.closed c.args.what.now = on_ok c.check_table.result (MayMake s.standing s.closed c.args.what.now) c.check_table.ensures.ok (λ e is. search rules) in
-    let v : Shown = shown_of s.seat s.trail.entries s.late s.closed s.groups.items s.lookback s.raising in
+    let v : Shown = shown_of s.seat s.trail.entries s.late s.closed s.groups.items s.lookback s.raising (g.D.Disk.calls s.disk) (g.D.Disk.faults s.disk) in
     let v' : Shown = record v { entries = c.entered.new.trail.entries; late = c.entered.new.late; closed = c.entered.new.closed } in
     let calls = g.D.Disk.calls c.append.new.disk in
     subst (λ (w : Shown). Refuses (define_cause (NewTableOf c.args.what.now)) (known_by b g.B.Based.damaged w) (known_by b g.B.Based.damaged v') c.in-Err-entered.fault) c.self.view_is
@@ -115,3 +116,20 @@ returns-in-Err-entered-clause-refused g c =
     c.in-Err-entered.fault c.entered.new.trail.entries calls (invariant_of-self-in-Err-entered g c).0.told.legal c.in-Err-entered.ensures.refused.0 c.in-Err-entered.ensures.refused.2.full c.in-Err-entered.ensures.refused.2.memory c.in-Err-entered.ensures.refused.2.failed
     (λ n. (c.in-Err-entered.ensures.refused.2.kept n).0 ∙ c.take_room.ensures.same)
     (λ e. (c.in-Err-entered.ensures.refused.2.shut e).0 ∙ ap (λ (es : List Entry). es ++ record { seat = s.seat; calls = calls; act = Shut calls } ∷ []) c.take_room.ensures.same))
+
+-- ---- the calls of the disk
+
+pub returns-in_default-take_room-clause-counts : goal.returns-in_default-take_room-clause-counts
+returns-in_default-take_room-clause-counts g c = few_by c.self.view_is refl refl
+
+pub returns-in-Ok-entered-clause-counts : goal.returns-in-Ok-entered-clause-counts
+returns-in-Ok-entered-clause-counts g c = made_by g.D.Disk c.self.inside.disk c.append.new.disk (c.append.ensures.counts) (omega arith) c.self.view_is refl refl refl refl
+
+pub returns-in-Err-entered-clause-counts : goal.returns-in-Err-entered-clause-counts
+returns-in-Err-entered-clause-counts g c = made_by g.D.Disk c.self.inside.disk c.append.new.disk (c.append.ensures.counts) (omega arith) c.self.view_is refl refl refl refl
+
+pub returns-in-Err-entered-clause-blames : goal.returns-in-Err-entered-clause-blames
+returns-in-Err-entered-clause-blames g c = (let u = c.in-Err-entered.ensures.refused in unwritten_blames c.args.self.now (record c.args.self.now { calls = g.D.Disk.calls c.append.new.disk; faults = g.D.Disk.faults c.append.new.disk }) u.0 _ _ _ _ _ _ _ c.in-Err-entered.fault u.2 (λ failed. rose_by g.D.Disk c.self.inside.disk c.append.new.disk (c.append.ensures.failed (u.1 ∙ ap Err failed)) c.self.view_is refl))
+
+pub returns-in-Err-clause-blames : goal.returns-in-Err-clause-blames
+returns-in-Err-clause-blames g c = unmade_blames c.args.self.now c.args.self.now c.self.inside.standing c.self.inside.closed c.args.what.now c.in-Err.fault c.in-Err.ensures.refused

@@ -1,4 +1,4 @@
-use Rattle.std.proofs.Common.{rules, ◌≡◌, ◌<◌, ◌^◌, inl, inr, Err, List, [], ◌∷◌, ◌++◌, get_or, refl, sym, ap, subst, ◌∙◌}
+use Rattle.std.proofs.Common.{rules, ◌≡◌, ◌<◌, ◌^◌, inl, inr, Err, List, [], ◌∷◌, ◌++◌, get_or, refl, sym, ap, subst, ◌∙◌, arith}
 use Rattle.std.proofs.lemmas.Result.{err_from_is_err_and}
 use Rattle.px_values.specs.declared.name.TableId.{TableId}
 use Rattle.px_tables.specs.declared.index.Index.{Index}
@@ -24,6 +24,8 @@ use Rattle.px_server.proofs.QuietPlaces.{fits_put, low, own, unquiet_disabled}
 use Rattle.px_server.proofs.Reserved.{same_there}
 use Rattle.px_server.proofs.Stamping.{more_by_clock, unwritten_entry_by_clock}
 use Rattle.px_server.proofs.Unwritten.{no_memory}
+use Rattle.px_server.specs.DeviceCalls.{Blames}
+use Rattle.px_server.proofs.DeviceCalls.{few_by, made_by, rose_by, unwritten_blames, unquiet_blames}
 use Rattle.px_server.proofs.server.Server.disable_index.Goals as goal
 
 pub returns-in_err-place-clause-refused : goal.returns-in_err-place-clause-refused
@@ -34,7 +36,7 @@ returns-in_err-place-clause-refused g c = (let
     in let
     b = g.B.Based.base
     in let
-    v : Shown = shown_of s.seat s.trail.entries s.late s.closed s.groups.items s.lookback s.raising
+    v : Shown = shown_of s.seat s.trail.entries s.late s.closed s.groups.items s.lookback s.raising (g.D.Disk.calls s.disk) (g.D.Disk.faults s.disk)
     in let
     f = c.in_err-place.field-0.0
     in let
@@ -54,7 +56,7 @@ returns-in_err-made-clause-refused g c = (let
     in let
     b = g.B.Based.base
     in let
-    v : Shown = shown_of s.seat s.trail.entries s.late s.closed s.groups.items s.lookback s.raising
+    v : Shown = shown_of s.seat s.trail.entries s.late s.closed s.groups.items s.lookback s.raising (g.D.Disk.calls s.disk) (g.D.Disk.faults s.disk)
     in let
     p = c.in_ok-place.place
     in let
@@ -74,7 +76,7 @@ returns-in_default-clause-refused g c = (let
     in let
     b = g.B.Based.base
     in let
-    v : Shown = shown_of s.seat s.trail.entries s.late s.closed s.groups.items s.lookback s.raising
+    v : Shown = shown_of s.seat s.trail.entries s.late s.closed s.groups.items s.lookback s.raising (g.D.Disk.calls s.disk) (g.D.Disk.faults s.disk)
     in let
     p = c.in_ok-place.place
     in let
@@ -92,7 +94,7 @@ append-requires g c = (let
     in let
     b = g.B.Based.base
     in let
-    v : Shown = shown_of s.seat s.trail.entries s.late s.closed s.groups.items s.lookback s.raising
+    v : Shown = shown_of s.seat s.trail.entries s.late s.closed s.groups.items s.lookback s.raising (g.D.Disk.calls s.disk) (g.D.Disk.faults s.disk)
     in let
     p = c.in_ok-place.place
     in let
@@ -122,7 +124,7 @@ invariant_of-self-in-Ok-entered g c = (let
     in let
     b = g.B.Based.base
     in let
-    v : Shown = shown_of s.seat s.trail.entries s.late s.closed s.groups.items s.lookback s.raising
+    v : Shown = shown_of s.seat s.trail.entries s.late s.closed s.groups.items s.lookback s.raising (g.D.Disk.calls s.disk) (g.D.Disk.faults s.disk)
     in let
     p = c.in_ok-place.place
     in let
@@ -159,7 +161,7 @@ invariant_of-self-in-Err g c = (let
     in let
     b = g.B.Based.base
     in let
-    v : Shown = shown_of s.seat s.trail.entries s.late s.closed s.groups.items s.lookback s.raising
+    v : Shown = shown_of s.seat s.trail.entries s.late s.closed s.groups.items s.lookback s.raising (g.D.Disk.calls s.disk) (g.D.Disk.faults s.disk)
     in let
     p = c.in_ok-place.place
     in let
@@ -190,7 +192,7 @@ returns-in-Ok-entered-clause-ok g c = (let
     in let
     b = g.B.Based.base
     in let
-    v : Shown = shown_of s.seat s.trail.entries s.late s.closed s.groups.items s.lookback s.raising
+    v : Shown = shown_of s.seat s.trail.entries s.late s.closed s.groups.items s.lookback s.raising (g.D.Disk.calls s.disk) (g.D.Disk.faults s.disk)
     in let
     p = c.in_ok-place.place
     in let
@@ -223,7 +225,7 @@ returns-in-Err-clause-refused g c = (let
     in let
     b = g.B.Based.base
     in let
-    v : Shown = shown_of s.seat s.trail.entries s.late s.closed s.groups.items s.lookback s.raising
+    v : Shown = shown_of s.seat s.trail.entries s.late s.closed s.groups.items s.lookback s.raising (g.D.Disk.calls s.disk) (g.D.Disk.faults s.disk)
     in let
     p = c.in_ok-place.place
     in let
@@ -243,3 +245,23 @@ returns-in-Err-clause-refused g c = (let
     in
     subst (λ (w : Shown). Refuses (define_cause (definition.Disabled c.args.table c.args.index)) (known_by b g.B.Based.damaged w) (known_by b g.B.Based.damaged v') c.in-Err.fault) c.self.view_is
     (disabling_refused g.D.Disk g.met.D.Disk.told g.met.D.Disk.up_to_now b g.B.Based.damaged g.B.Founded.sound g.B.Founded.premise g.B.Founded.began s.disk s.catalog s.standing s.groups.items s.trail s.late s.closed k s.seat c.args.table c.args.index p at x x_is h h_is c.in_ok-made.made put c.take_entry.new.trail c.take_entry.ensures.same c.in-Ok.ensures.ok c.append.new.disk c.append.new.self c.append.ensures.counts c.append.ensures.touches c.append.ensures.any_moment c.entered.new.trail c.entered.new.late c.entered.new.closed c.in-Err.ensures.refused.0 (λ e. c.append.ensures.untouched (elim e [ inl z ↦ inl (c.in-Err.ensures.refused.1 ∙ ap Err z) | inr z ↦ inr (c.in-Err.ensures.refused.1 ∙ ap Err z) ])) (λ e. c.append.ensures.failed (c.in-Err.ensures.refused.1 ∙ ap Err e)) c.in-Err.ensures.refused.2.kept c.in-Err.ensures.refused.2.shut c.entered.ensures.room c.in-Err.fault c.in-Err.ensures.refused.2.full c.in-Err.ensures.refused.2.memory c.in-Err.ensures.refused.2.failed))
+
+-- ---- the calls of the disk
+
+pub returns-in_default-clause-counts : goal.returns-in_default-clause-counts
+returns-in_default-clause-counts g c = few_by c.self.view_is refl refl
+
+pub returns-in-Ok-entered-clause-counts : goal.returns-in-Ok-entered-clause-counts
+returns-in-Ok-entered-clause-counts g c = made_by g.D.Disk c.self.inside.disk c.append.new.disk (c.append.ensures.counts) (omega arith) c.self.view_is refl refl refl refl
+
+pub returns-in-Err-clause-counts : goal.returns-in-Err-clause-counts
+returns-in-Err-clause-counts g c = made_by g.D.Disk c.self.inside.disk c.append.new.disk (c.append.ensures.counts) (omega arith) c.self.view_is refl refl refl refl
+
+pub returns-in-Err-clause-blames : goal.returns-in-Err-clause-blames
+returns-in-Err-clause-blames g c = (let u = c.in-Err.ensures.refused in unwritten_blames c.args.self.now (record c.args.self.now { calls = g.D.Disk.calls c.append.new.disk; faults = g.D.Disk.faults c.append.new.disk }) u.0 _ _ _ _ _ _ _ c.in-Err.fault u.2 (λ failed. rose_by g.D.Disk c.self.inside.disk c.append.new.disk (c.append.ensures.failed (u.1 ∙ ap Err failed)) c.self.view_is refl))
+
+pub returns-in_err-place-clause-blames : goal.returns-in_err-place-clause-blames
+returns-in_err-place-clause-blames g c = (let e = err_from_is_err_and c.from_residual.result c.from_residual.ensures.1 in rw e.1 (subst (Blames c.args.self.now c.args.self.now) (sym e.2) (unquiet_blames c.args.self.now c.args.self.now c.self.inside.standing c.as_slice.result.now c.self.inside.closed c.args.table c.args.index c.in_err-place.field-0.0 c.in_err-place.ensures.refused)))
+
+pub returns-in_err-made-clause-blames : goal.returns-in_err-made-clause-blames
+returns-in_err-made-clause-blames g c = (let e = err_from_is_err_and c.from_residual-in_err-made.result c.from_residual-in_err-made.ensures.1 in rw e.1 (subst (Blames c.args.self.now c.args.self.now) (sym (e.2 ∙ c.in_err-made.ensures.refused)) tt))

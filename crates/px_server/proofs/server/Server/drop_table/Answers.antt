@@ -18,6 +18,7 @@ use Rattle.px_server.proofs.Stamping.{more_by_clock, unwritten_entry_by_clock}
 use Rattle.px_server.proofs.TableCauses.{did_drop, drop_full, drop_in_use, drop_no_table, refused_closed, refused_memory}
 use Rattle.px_server.proofs.TableRecord.{gone_right}
 use Rattle.px_server.proofs.TableSteps.{dropping_failed, dropping_kept, table_uses, unwritten_refused}
+use Rattle.px_server.proofs.DeviceCalls.{few_by, made_by, rose_by, unwritten_blames}
 use Rattle.px_server.proofs.server.Server.drop_table.Goals as goal
 
 pub returns-in-Some-clause-refused : goal.returns-in-Some-clause-refused
@@ -25,7 +26,7 @@ returns-in-Some-clause-refused g c =
     let s = c.self.inside in
     let b = g.B.Based.base in
     let told = c.self.invariant.0.told in
-    let v : Shown = shown_of s.seat s.trail.entries s.late s.closed s.groups.items s.lookback s.raising in
+    let v : Shown = shown_of s.seat s.trail.entries s.late s.closed s.groups.items s.lookback s.raising (g.D.Disk.calls s.disk) (g.D.Disk.faults s.disk) in
     subst (λ (w : Shown). Refuses (define_cause (DropTableOf c.args.table)) (known_by b g.B.Based.damaged w) (known_by b g.B.Based.damaged w) (Closed c.in-Some.call)) c.self.view_is
     (refused_closed (known_by b g.B.Based.damaged v) told.legal s.closed told.closing (DropTableOf c.args.table) c.in-Some.call c.in-Some.is)
 
@@ -34,7 +35,7 @@ returns-in_default-numbered_place-clause-refused g c =
     let s = c.self.inside in
     let b = g.B.Based.base in
     let told = c.self.invariant.0.told in
-    let v : Shown = shown_of s.seat s.trail.entries s.late s.closed s.groups.items s.lookback s.raising in
+    let v : Shown = shown_of s.seat s.trail.entries s.late s.closed s.groups.items s.lookback s.raising (g.D.Disk.calls s.disk) (g.D.Disk.faults s.disk) in
     let running : s.closed ≡ None = none_of s.closed (λ x is. search rules) in
     subst (λ (w : Shown). Refuses (define_cause (DropTableOf c.args.table)) (known_by b g.B.Based.damaged w) (known_by b g.B.Based.damaged w) (NoTable)) c.self.view_is
     (drop_no_table (known_by b g.B.Based.damaged v) told.legal s.closed told.closing s.standing told.agrees running c.args.table c.in_default-numbered_place.ensures.none)
@@ -44,7 +45,7 @@ returns-then-count-gt0-clause-refused g c =
     let s = c.self.inside in
     let b = g.B.Based.base in
     let told = c.self.invariant.0.told in
-    let v : Shown = shown_of s.seat s.trail.entries s.late s.closed s.groups.items s.lookback s.raising in
+    let v : Shown = shown_of s.seat s.trail.entries s.late s.closed s.groups.items s.lookback s.raising (g.D.Disk.calls s.disk) (g.D.Disk.faults s.disk) in
     let running : s.closed ≡ None = none_of s.closed (λ x is. search rules) in
     subst (λ (w : Shown). Refuses (define_cause (DropTableOf c.args.table)) (known_by b g.B.Based.damaged w) (known_by b g.B.Based.damaged w) (InUse c.uses-count.result)) c.self.view_is
     (drop_in_use (known_by b g.B.Based.damaged v) told.legal s.closed told.closing running c.args.table c.uses-count.result (table_uses g.D.Disk b g.B.Founded.sound g.B.Founded.premise g.B.Founded.began s.disk s.catalog s.standing s.groups.items s.trail s.late s.closed c.self.invariant.0 running c.args.table c.in-Some-numbered_place.place c.in-Some-numbered_place.ensures.found c.in-Some-numbered_place.ensures.numbered c.index.result.now (sym c.index.ensures) ∙ sym c.uses-count.ensures) c.if-count-gt0.true)
@@ -54,7 +55,7 @@ returns-in_default-standing_after-clause-refused g c =
     let s = c.self.inside in
     let b = g.B.Based.base in
     let told = c.self.invariant.0.told in
-    let v : Shown = shown_of s.seat s.trail.entries s.late s.closed s.groups.items s.lookback s.raising in
+    let v : Shown = shown_of s.seat s.trail.entries s.late s.closed s.groups.items s.lookback s.raising (g.D.Disk.calls s.disk) (g.D.Disk.faults s.disk) in
     let running : s.closed ≡ None = none_of s.closed (λ x is. search rules) in
     subst (λ (w : Shown). Refuses (define_cause (DropTableOf c.args.table)) (known_by b g.B.Based.damaged w) (known_by b g.B.Based.damaged w) (Memory)) c.self.view_is
     (refused_memory (known_by b g.B.Based.damaged v) told.legal s.closed told.closing running (DropTableOf c.args.table))
@@ -64,7 +65,7 @@ returns-in_default-take_entry-clause-refused g c =
     let s = c.self.inside in
     let b = g.B.Based.base in
     let told = c.self.invariant.0.told in
-    let v : Shown = shown_of s.seat s.trail.entries s.late s.closed s.groups.items s.lookback s.raising in
+    let v : Shown = shown_of s.seat s.trail.entries s.late s.closed s.groups.items s.lookback s.raising (g.D.Disk.calls s.disk) (g.D.Disk.faults s.disk) in
     let running : s.closed ≡ None = none_of s.closed (λ x is. search rules) in
     subst (λ (w : Shown). Refuses (define_cause (DropTableOf c.args.table)) (known_by b g.B.Based.damaged w) (record (known_by b g.B.Based.damaged v) { seen = c.take_entry.new.trail.entries }) Memory) c.self.view_is
     (subst (λ (es : List Entry). Refuses (define_cause (DropTableOf c.args.table)) (known_by b g.B.Based.damaged v) (record (known_by b g.B.Based.damaged v) { seen = es }) Memory) (sym c.take_entry.ensures.same)
@@ -112,7 +113,7 @@ returns-in-Ok-entered-clause-ok g c =
     let s = c.self.inside in
     let b = g.B.Based.base in
     let told = c.self.invariant.0.told in
-    let v : Shown = shown_of s.seat s.trail.entries s.late s.closed s.groups.items s.lookback s.raising in
+    let v : Shown = shown_of s.seat s.trail.entries s.late s.closed s.groups.items s.lookback s.raising (g.D.Disk.calls s.disk) (g.D.Disk.faults s.disk) in
     let v' : Shown = record v { entries = c.entered.new.trail.entries } in
     let m : Answered = record { number = c.args.table.0; stamp = 0; at = c.len.result } in
     subst (λ (w : Shown). DidDefine (known_by b g.B.Based.damaged w) (known_by b g.B.Based.damaged v') (DropTableOf c.args.table) m) c.self.view_is
@@ -124,7 +125,7 @@ returns-in-Err-clause-refused g c =
     let s = c.self.inside in
     let b = g.B.Based.base in
     let told = c.self.invariant.0.told in
-    let v : Shown = shown_of s.seat s.trail.entries s.late s.closed s.groups.items s.lookback s.raising in
+    let v : Shown = shown_of s.seat s.trail.entries s.late s.closed s.groups.items s.lookback s.raising (g.D.Disk.calls s.disk) (g.D.Disk.faults s.disk) in
     let running : s.closed ≡ None = none_of s.closed (λ x is. search rules) in
     let v' : Shown = record v { entries = c.entered.new.trail.entries; late = c.entered.new.late; closed = c.entered.new.closed } in
     let calls = g.D.Disk.calls c.append.new.disk in
@@ -133,3 +134,17 @@ returns-in-Err-clause-refused g c =
     c.in-Err.fault c.entered.new.trail.entries calls (invariant_of-self-in-Err g c).0.told.legal c.in-Err.ensures.refused.0 c.in-Err.ensures.refused.2.full c.in-Err.ensures.refused.2.memory c.in-Err.ensures.refused.2.failed
     (λ n. (c.in-Err.ensures.refused.2.kept n).0 ∙ c.take_entry.ensures.same)
     (λ e. (c.in-Err.ensures.refused.2.shut e).0 ∙ ap (λ (es : List Entry). es ++ record { seat = s.seat; calls = calls; act = Shut calls } ∷ []) c.take_entry.ensures.same))
+
+-- ---- the calls of the disk
+
+pub returns-in_default-take_entry-clause-counts : goal.returns-in_default-take_entry-clause-counts
+returns-in_default-take_entry-clause-counts g c = few_by c.self.view_is refl refl
+
+pub returns-in-Ok-entered-clause-counts : goal.returns-in-Ok-entered-clause-counts
+returns-in-Ok-entered-clause-counts g c = made_by g.D.Disk c.self.inside.disk c.append.new.disk (c.append.ensures.counts) (omega arith) c.self.view_is refl refl refl refl
+
+pub returns-in-Err-clause-counts : goal.returns-in-Err-clause-counts
+returns-in-Err-clause-counts g c = made_by g.D.Disk c.self.inside.disk c.append.new.disk (c.append.ensures.counts) (omega arith) c.self.view_is refl refl refl refl
+
+pub returns-in-Err-clause-blames : goal.returns-in-Err-clause-blames
+returns-in-Err-clause-blames g c = (let u = c.in-Err.ensures.refused in unwritten_blames c.args.self.now (record c.args.self.now { calls = g.D.Disk.calls c.append.new.disk; faults = g.D.Disk.faults c.append.new.disk }) u.0 _ _ _ _ _ _ _ c.in-Err.fault u.2 (λ failed. rose_by g.D.Disk c.self.inside.disk c.append.new.disk (c.append.ensures.failed (u.1 ∙ ap Err failed)) c.self.view_is refl))

@@ -13,6 +13,7 @@ use Rattle.px_server.proofs.PointOpened.{one_there}
 use Rattle.px_server.proofs.Running.{none_running}
 use Rattle.px_server.proofs.Seen.{one_more}
 use Rattle.px_server.proofs.Stamping.{more_by_clock}
+use Rattle.px_server.proofs.DeviceCalls.{none_by}
 use Rattle.px_server.proofs.server.Server.end.Goals as goal
 
 pub unreachable-requires : goal.unreachable-requires
@@ -20,7 +21,7 @@ unreachable-requires g c =
     let s = c.self.inside in
     let b = g.B.Based.base in
     let told = c.self.invariant.0.told in
-    let can : CanEnd (known_by b g.B.Based.damaged (shown_of s.seat s.trail.entries s.late s.closed s.groups.items s.lookback s.raising)) c.args.t = subst (λ (v : Shown). CanEnd (known_by b g.B.Based.damaged v) c.args.t) (sym c.self.view_is) c.requires in
+    let can : CanEnd (known_by b g.B.Based.damaged (shown_of s.seat s.trail.entries s.late s.closed s.groups.items s.lookback s.raising (g.D.Disk.calls s.disk) (g.D.Disk.faults s.disk))) c.args.t = subst (λ (v : Shown). CanEnd (known_by b g.B.Based.damaged v) c.args.t) (sym c.self.view_is) c.requires in
     let w = written_batch b s.trail.entries told.legal s.seat c.args.t.table.0 c.args.t.stamp can in
     none_running b s.trail.entries told.legal c.args.t.table.0 c.args.t.stamp w.batch w.is w.running (lacks b s.trail.entries s.standing told.agrees c.args.t.table.0 c.in_default.ensures.none)
 
@@ -28,7 +29,7 @@ pub unreachable-requires-in_default-batch_place : goal.unreachable-requires-in_d
 unreachable-requires-in_default-batch_place g c =
     let s = c.self.inside in
     let b = g.B.Based.base in
-    let can : CanEnd (known_by b g.B.Based.damaged (shown_of s.seat s.trail.entries s.late s.closed s.groups.items s.lookback s.raising)) c.args.t = subst (λ (v : Shown). CanEnd (known_by b g.B.Based.damaged v) c.args.t) (sym c.self.view_is) c.requires in
+    let can : CanEnd (known_by b g.B.Based.damaged (shown_of s.seat s.trail.entries s.late s.closed s.groups.items s.lookback s.raising (g.D.Disk.calls s.disk) (g.D.Disk.faults s.disk))) c.args.t = subst (λ (v : Shown). CanEnd (known_by b g.B.Based.damaged v) c.args.t) (sym c.self.view_is) c.requires in
     has_end g.D.Disk b g.B.Founded.sound g.B.Founded.premise g.B.Founded.began s.disk s.catalog s.standing s.groups.items s.trail s.late s.closed c.self.invariant.0 c.args.t.table c.in-Some.place c.index.result.now c.in-Some.ensures.found c.in-Some.ensures.numbered (sym c.index.ensures) c.args.t.stamp
     s.seat can c.in_default-batch_place.ensures.none
 
@@ -37,7 +38,7 @@ invariant_of-self g c =
     let s = c.self.inside in
     let b = g.B.Based.base in
     let kept = c.self.invariant.0 in
-    let can : CanEnd (known_by b g.B.Based.damaged (shown_of s.seat s.trail.entries s.late s.closed s.groups.items s.lookback s.raising)) c.args.t = subst (λ (v : Shown). CanEnd (known_by b g.B.Based.damaged v) c.args.t) (sym c.self.view_is) c.requires in
+    let can : CanEnd (known_by b g.B.Based.damaged (shown_of s.seat s.trail.entries s.late s.closed s.groups.items s.lookback s.raising (g.D.Disk.calls s.disk) (g.D.Disk.faults s.disk))) c.args.t = subst (λ (v : Shown). CanEnd (known_by b g.B.Based.damaged v) c.args.t) (sym c.self.view_is) c.requires in
     let place = c.in-Some in
     let same : c.index.result.now ≡ c.index_mut.result.now = one_there s.groups.items place.place c.index.result.now c.index_mut.result.now (place_in s.groups.items s.standing.tables kept.each.stand place.place place.ensures.found) (sym c.index.ensures) (sym c.index_mut.ensures.value) in
     let x = c.end-rows.ensures in
@@ -51,7 +52,7 @@ pub returns-clause-adds : goal.returns-clause-adds
 returns-clause-adds g c =
     let s = c.self.inside in
     let told = c.self.invariant.0.told in
-    let v : Shown = shown_of s.seat s.trail.entries s.late s.closed s.groups.items s.lookback s.raising in
+    let v : Shown = shown_of s.seat s.trail.entries s.late s.closed s.groups.items s.lookback s.raising (g.D.Disk.calls s.disk) (g.D.Disk.faults s.disk) in
     let v' : Shown = record v { entries = c.push.new.self.entries } in
     subst (λ (w : Shown). Adds (known_by g.B.Based.base g.B.Based.damaged w) (known_by g.B.Based.base g.B.Based.damaged v') (EndedAct c.args.t.table c.args.t.stamp)) c.self.view_is
     (one_more (known_by g.B.Based.base g.B.Based.damaged v) c.push.new.self.entries c.call_count.result (EndedAct c.args.t.table c.args.t.stamp) told.legal c.push.ensures.entries (invariant_of-self g c).0.told.legal)
@@ -62,7 +63,7 @@ returns-clause-receipt g c =
     let u = c.unfinished_by-unfinished in
     let b = g.B.Based.base in
     let kept = c.self.invariant.0 in
-    let can : CanEnd (known_by b g.B.Based.damaged (shown_of s.seat s.trail.entries s.late s.closed s.groups.items s.lookback s.raising)) c.args.t = subst (λ (v : Shown). CanEnd (known_by b g.B.Based.damaged v) c.args.t) (sym c.self.view_is) c.requires in
+    let can : CanEnd (known_by b g.B.Based.damaged (shown_of s.seat s.trail.entries s.late s.closed s.groups.items s.lookback s.raising (g.D.Disk.calls s.disk) (g.D.Disk.faults s.disk))) c.args.t = subst (λ (v : Shown). CanEnd (known_by b g.B.Based.damaged v) c.args.t) (sym c.self.view_is) c.requires in
     let place = c.in-Some in
     let same : c.index.result.now ≡ c.index_mut.result.now = one_there s.groups.items place.place c.index.result.now c.index_mut.result.now (place_in s.groups.items s.standing.tables kept.each.stand place.place place.ensures.found) (sym c.index.ensures) (sym c.index_mut.ensures.value) in
     let x = c.end-rows.ensures in
@@ -71,3 +72,8 @@ returns-clause-receipt g c =
     (receipt g.D.Disk b g.B.Founded.sound g.B.Founded.premise g.B.Founded.began s.disk s.catalog s.standing s.groups.items s.trail s.late s.closed kept c.args.t.table place.place c.index_mut.result.now place.ensures.found place.ensures.numbered (sym c.index_mut.ensures.value) c.args.t.stamp
     s.seat can c.in-Some-batch_place.batch x.batch x.goes.batch stamp c.call_count.result c.call_count.ensures g.B.Based.damaged c.end-rows.new.group c.end-rows.result x refl c.push.new.self c.push.ensures.entries (invariant_of-self g c).0.told.closing u.result
     (if_none ((s.closed ≡ None) ⊎ HasVerifiedEntry s.trail.entries c.args.t.table.0 c.args.t.stamp) u.result u.ensures.none) (λ call named. (if_some (λ (n : ℕ). (s.closed ≡ Some n) × (HasVerifiedEntry s.trail.entries c.args.t.table.0 c.args.t.stamp → ⊥)) u.result u.ensures.some call named).0))
+
+-- ---- the calls of the disk
+
+pub returns-clause-counts : goal.returns-clause-counts
+returns-clause-counts g c = none_by c.self.view_is refl refl

@@ -33,13 +33,14 @@ use Rattle.px_server.proofs.Reserved.{roomy}
 use Rattle.px_server.proofs.Seen.{stays}
 use Rattle.px_server.proofs.Sighted.{answers_there, fixed_others, none_there, others_told, stayed_doubts, still_told}
 use Rattle.px_server.proofs.Stamping.{more_by_clock, same_by_clock}
+use Rattle.px_server.proofs.DeviceCalls.{few_by, made_by, rose_by, fixed_passes, answered_blames}
 use Rattle.px_server.proofs.server.Server.fix.Goals as goal
 
 pub returns-in-Some-clause-refused : goal.returns-in-Some-clause-refused
 returns-in-Some-clause-refused g c =
     let s = c.self.inside in
     let told = c.self.invariant.0.told in
-    let v : Shown = shown_of s.seat s.trail.entries s.late s.closed s.groups.items s.lookback s.raising in
+    let v : Shown = shown_of s.seat s.trail.entries s.late s.closed s.groups.items s.lookback s.raising (g.D.Disk.calls s.disk) (g.D.Disk.faults s.disk) in
     subst (λ (w : Shown). Refuses fix_cause (known_by g.B.Based.base g.B.Based.damaged w) (known_by g.B.Based.base g.B.Based.damaged w) (Closed c.in-Some.call)) c.self.view_is
     (closed_by (known_by g.B.Based.base g.B.Based.damaged v) told.legal s.closed told.closing c.in-Some.call c.in-Some.is)
 
@@ -47,7 +48,7 @@ pub returns-in_default-doubt_place-clause-ok : goal.returns-in_default-doubt_pla
 returns-in_default-doubt_place-clause-ok g c =
     let s = c.self.inside in
     let told = c.self.invariant.0.told in
-    let v : Shown = shown_of s.seat s.trail.entries s.late s.closed s.groups.items s.lookback s.raising in
+    let v : Shown = shown_of s.seat s.trail.entries s.late s.closed s.groups.items s.lookback s.raising (g.D.Disk.calls s.disk) (g.D.Disk.faults s.disk) in
     let running : s.closed ≡ None = none_of s.closed (λ x is. search rules) in
     subst (λ (w : Shown). Finds (known_by g.B.Based.base g.B.Based.damaged w) (known_by g.B.Based.base g.B.Based.damaged w)) c.self.view_is
     (finds (known_by g.B.Based.base g.B.Based.damaged v) told.legal s.closed told.closing running)
@@ -59,7 +60,7 @@ pub returns-in_default-copied-clause-refused : goal.returns-in_default-copied-cl
 returns-in_default-copied-clause-refused g c =
     let s = c.self.inside in
     let told = c.self.invariant.0.told in
-    let v : Shown = shown_of s.seat s.trail.entries s.late s.closed s.groups.items s.lookback s.raising in
+    let v : Shown = shown_of s.seat s.trail.entries s.late s.closed s.groups.items s.lookback s.raising (g.D.Disk.calls s.disk) (g.D.Disk.faults s.disk) in
     let running : s.closed ≡ None = none_of s.closed (λ x is. search rules) in
     subst (λ (w : Shown). Refuses fix_cause (known_by g.B.Based.base g.B.Based.damaged w) (known_by g.B.Based.base g.B.Based.damaged w) Memory) c.self.view_is
     (tt, stays (known_by g.B.Based.base g.B.Based.damaged v) told.legal, told.closing ∙ running)
@@ -76,7 +77,7 @@ returns-then-is_err-clause-refused g c =
     let b = g.B.Based.base in
     let k = c.self.invariant.0 in
     let told = k.told in
-    let v : Shown = shown_of s.seat s.trail.entries s.late s.closed s.groups.items s.lookback s.raising in
+    let v : Shown = shown_of s.seat s.trail.entries s.late s.closed s.groups.items s.lookback s.raising (g.D.Disk.calls s.disk) (g.D.Disk.faults s.disk) in
     let running : s.closed ≡ None = none_of s.closed (λ x is. search rules) in
     subst (λ (w : Shown). Refuses fix_cause (known_by b g.B.Based.damaged w) (known_by b g.B.Based.damaged (record v { entries = c.reserve.new.self.entries })) Memory) c.self.view_is
     (subst (λ (es : List Entry). Refuses fix_cause (known_by b g.B.Based.damaged v) (known_by b g.B.Based.damaged (record v { entries = es })) Memory) (sym c.reserve.ensures.same)
@@ -88,7 +89,7 @@ invariant_of-self-then-has_stayed g c =
     let b = g.B.Based.base in
     let k = c.self.invariant.0 in
     let told = k.told in
-    let v : Shown = shown_of s.seat s.trail.entries s.late s.closed s.groups.items s.lookback s.raising in
+    let v : Shown = shown_of s.seat s.trail.entries s.late s.closed s.groups.items s.lookback s.raising (g.D.Disk.calls s.disk) (g.D.Disk.faults s.disk) in
     let running : s.closed ≡ None = none_of s.closed (λ x is. search rules) in
     let l : c.in-Some-doubt_place.at.group < length s.groups.items = inside s.groups.items c.deref.result.now c.in-Some-doubt_place.at.group c.deref.ensures.value c.in-Some-doubt_place.ensures.within in
     let named = (doubt_at s.groups.items c.deref.result.now c.in-Some-doubt_place.at.group c.in-Some-doubt_place.at.index c.args.d.now.index c.index_mut-group.result.now _ c.deref.ensures.value c.in-Some-doubt_place.ensures.within c.in-Some-doubt_place.ensures.numbered c.index_mut-group.ensures.value).1 in
@@ -106,7 +107,7 @@ returns-then-has_stayed-clause-ok g c =
     let b = g.B.Based.base in
     let k = c.self.invariant.0 in
     let told = k.told in
-    let v : Shown = shown_of s.seat s.trail.entries s.late s.closed s.groups.items s.lookback s.raising in
+    let v : Shown = shown_of s.seat s.trail.entries s.late s.closed s.groups.items s.lookback s.raising (g.D.Disk.calls s.disk) (g.D.Disk.faults s.disk) in
     let running : s.closed ≡ None = none_of s.closed (λ x is. search rules) in
     let l : c.in-Some-doubt_place.at.group < length s.groups.items = inside s.groups.items c.deref.result.now c.in-Some-doubt_place.at.group c.deref.ensures.value c.in-Some-doubt_place.ensures.within in
     let named = (doubt_at s.groups.items c.deref.result.now c.in-Some-doubt_place.at.group c.in-Some-doubt_place.at.index c.args.d.now.index c.index_mut-group.result.now _ c.deref.ensures.value c.in-Some-doubt_place.ensures.within c.in-Some-doubt_place.ensures.numbered c.index_mut-group.ensures.value).1 in
@@ -138,7 +139,7 @@ returns-then-has_stayed-clause-refused g c =
     let b = g.B.Based.base in
     let k = c.self.invariant.0 in
     let told = k.told in
-    let v : Shown = shown_of s.seat s.trail.entries s.late s.closed s.groups.items s.lookback s.raising in
+    let v : Shown = shown_of s.seat s.trail.entries s.late s.closed s.groups.items s.lookback s.raising (g.D.Disk.calls s.disk) (g.D.Disk.faults s.disk) in
     let running : s.closed ≡ None = none_of s.closed (λ x is. search rules) in
     let l : c.in-Some-doubt_place.at.group < length s.groups.items = inside s.groups.items c.deref.result.now c.in-Some-doubt_place.at.group c.deref.ensures.value c.in-Some-doubt_place.ensures.within in
     let named = (doubt_at s.groups.items c.deref.result.now c.in-Some-doubt_place.at.group c.in-Some-doubt_place.at.index c.args.d.now.index c.index_mut-group.result.now _ c.deref.ensures.value c.in-Some-doubt_place.ensures.within c.in-Some-doubt_place.ensures.numbered c.index_mut-group.ensures.value).1 in
@@ -172,7 +173,7 @@ invariant_of-self-in-Ok-fixed g c =
     let b = g.B.Based.base in
     let k = c.self.invariant.0 in
     let told = k.told in
-    let v : Shown = shown_of s.seat s.trail.entries s.late s.closed s.groups.items s.lookback s.raising in
+    let v : Shown = shown_of s.seat s.trail.entries s.late s.closed s.groups.items s.lookback s.raising (g.D.Disk.calls s.disk) (g.D.Disk.faults s.disk) in
     let running : s.closed ≡ None = none_of s.closed (λ x is. search rules) in
     let l : c.in-Some-doubt_place.at.group < length s.groups.items = inside s.groups.items c.deref.result.now c.in-Some-doubt_place.at.group c.deref.ensures.value c.in-Some-doubt_place.ensures.within in
     let named = (doubt_at s.groups.items c.deref.result.now c.in-Some-doubt_place.at.group c.in-Some-doubt_place.at.index c.args.d.now.index c.index_mut-group.result.now _ c.deref.ensures.value c.in-Some-doubt_place.ensures.within c.in-Some-doubt_place.ensures.numbered c.index_mut-group.ensures.value).1 in
@@ -191,7 +192,7 @@ returns-in-Ok-fixed-clause-ok g c =
     let b = g.B.Based.base in
     let k = c.self.invariant.0 in
     let told = k.told in
-    let v : Shown = shown_of s.seat s.trail.entries s.late s.closed s.groups.items s.lookback s.raising in
+    let v : Shown = shown_of s.seat s.trail.entries s.late s.closed s.groups.items s.lookback s.raising (g.D.Disk.calls s.disk) (g.D.Disk.faults s.disk) in
     let running : s.closed ≡ None = none_of s.closed (λ x is. search rules) in
     let l : c.in-Some-doubt_place.at.group < length s.groups.items = inside s.groups.items c.deref.result.now c.in-Some-doubt_place.at.group c.deref.ensures.value c.in-Some-doubt_place.ensures.within in
     let named = (doubt_at s.groups.items c.deref.result.now c.in-Some-doubt_place.at.group c.in-Some-doubt_place.at.index c.args.d.now.index c.index_mut-group.result.now _ c.deref.ensures.value c.in-Some-doubt_place.ensures.within c.in-Some-doubt_place.ensures.numbered c.index_mut-group.ensures.value).1 in
@@ -231,7 +232,7 @@ invariant_of-self-in-Err g c =
     let b = g.B.Based.base in
     let k = c.self.invariant.0 in
     let told = k.told in
-    let v : Shown = shown_of s.seat s.trail.entries s.late s.closed s.groups.items s.lookback s.raising in
+    let v : Shown = shown_of s.seat s.trail.entries s.late s.closed s.groups.items s.lookback s.raising (g.D.Disk.calls s.disk) (g.D.Disk.faults s.disk) in
     let running : s.closed ≡ None = none_of s.closed (λ x is. search rules) in
     let l : c.in-Some-doubt_place.at.group < length s.groups.items = inside s.groups.items c.deref.result.now c.in-Some-doubt_place.at.group c.deref.ensures.value c.in-Some-doubt_place.ensures.within in
     let named = (doubt_at s.groups.items c.deref.result.now c.in-Some-doubt_place.at.group c.in-Some-doubt_place.at.index c.args.d.now.index c.index_mut-group.result.now _ c.deref.ensures.value c.in-Some-doubt_place.ensures.within c.in-Some-doubt_place.ensures.numbered c.index_mut-group.ensures.value).1 in
@@ -253,7 +254,7 @@ returns-in-Err-clause-refused g c =
     let b = g.B.Based.base in
     let k = c.self.invariant.0 in
     let told = k.told in
-    let v : Shown = shown_of s.seat s.trail.entries s.late s.closed s.groups.items s.lookback s.raising in
+    let v : Shown = shown_of s.seat s.trail.entries s.late s.closed s.groups.items s.lookback s.raising (g.D.Disk.calls s.disk) (g.D.Disk.faults s.disk) in
     let running : s.closed ≡ None = none_of s.closed (λ x is. search rules) in
     let shut : Entry = record { seat = s.seat; calls = c.call_count-calls.result; act = ShutAct c.call_count-calls.result } in
     let pushed : c.shut.new.trail.entries ≡ s.trail.entries ++ shut ∷ [] = c.shut.ensures.entries ∙ ap (λ (es : List Entry). es ++ shut ∷ []) c.reserve.ensures.same in
@@ -393,3 +394,23 @@ returns-in-Ok-fixed-clause-others g c =
     let f = fixed_of g.D.Disk h h' s.disk c.fix-fixed.new.disk at c.args.d.now.key c.args.d.now.stamp c.fix-fixed.result c.in-Ok-fixed.fixing never c.in-Ok-fixed.is fixes in
     subst (λ (w : Shown). g.B.Founded.sound → (p : Point) (v : IndexVersion) → v.key ≢ c.args.d.now.key → have_doubt (slice_set s.groups.items place h') p v ≡ have_doubt w.groups p v) c.self.view_is
     (λ given p v apart. fixed_others g.D.Disk b g.B.Founded.sound g.B.Founded.premise g.B.Founded.began s.disk s.catalog s.standing s.groups.items s.trail s.late s.closed k running place h h' l (sym c.index_mut-group.ensures.value) given c.fix-fixed.new.disk at c.args.d.now.key c.args.d.now.stamp f.0 p v apart)
+
+-- ---- the calls of the disk
+
+pub returns-then-has_stayed-clause-counts : goal.returns-then-has_stayed-clause-counts
+returns-then-has_stayed-clause-counts g c = made_by g.D.Disk c.self.inside.disk c.fix-fixed.new.disk (fixed_passes g.D.Disk c.self.inside.disk c.fix-fixed.new.disk c.index_mut-group.result.now c.fix-fixed.new.group c.in-Some-doubt_place.at.index c.as_slice.result.now c.args.d.now.stamp c.fix-fixed.result c.fix-fixed.ensures.fixes) (omega arith) c.self.view_is refl refl refl refl
+
+pub returns-in-Ok-fixed-clause-counts : goal.returns-in-Ok-fixed-clause-counts
+returns-in-Ok-fixed-clause-counts g c = made_by g.D.Disk c.self.inside.disk c.fix-fixed.new.disk (fixed_passes g.D.Disk c.self.inside.disk c.fix-fixed.new.disk c.index_mut-group.result.now c.fix-fixed.new.group c.in-Some-doubt_place.at.index c.as_slice.result.now c.args.d.now.stamp c.fix-fixed.result c.fix-fixed.ensures.fixes) (omega arith) c.self.view_is refl refl refl refl
+
+pub returns-in-Err-clause-counts : goal.returns-in-Err-clause-counts
+returns-in-Err-clause-counts g c = made_by g.D.Disk c.self.inside.disk c.fix-fixed.new.disk (fixed_passes g.D.Disk c.self.inside.disk c.fix-fixed.new.disk c.index_mut-group.result.now c.fix-fixed.new.group c.in-Some-doubt_place.at.index c.as_slice.result.now c.args.d.now.stamp c.fix-fixed.result c.fix-fixed.ensures.fixes) (omega arith) c.self.view_is refl refl refl refl
+
+pub returns-then-is_err-clause-counts : goal.returns-then-is_err-clause-counts
+returns-then-is_err-clause-counts g c = few_by c.self.view_is refl refl
+
+pub returns-then-has_stayed-clause-blames : goal.returns-then-has_stayed-clause-blames
+returns-then-has_stayed-clause-blames g c = answered_blames c.args.self.now (record c.args.self.now { calls = g.D.Disk.calls c.fix-fixed.new.disk; faults = g.D.Disk.faults c.fix-fixed.new.disk }) c.number-region.result c.fix-fixed.result c.answered.result (search rules) c.answered.ensures
+
+pub returns-in-Err-clause-blames : goal.returns-in-Err-clause-blames
+returns-in-Err-clause-blames g c = rose_by g.D.Disk c.self.inside.disk c.fix-fixed.new.disk (c.fix-fixed.ensures.failed (failed_of g.D.Disk c.index_mut-group.result.now c.fix-fixed.new.group c.self.inside.disk c.fix-fixed.new.disk c.in-Some-doubt_place.at.index c.as_slice.result.now c.args.d.now.stamp c.fix-fixed.result c.in-Err.field-0 (λ st. search rules) c.in-Err.is c.fix-fixed.ensures.fixes).1) c.self.view_is refl

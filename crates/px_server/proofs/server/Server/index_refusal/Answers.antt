@@ -23,7 +23,7 @@ returns-in-Some-clause-refused g c = (let
     in let
     told = c.self.invariant.0.told
     in let
-    v : Shown = shown_of s.seat s.trail.entries s.late s.closed s.groups.items s.lookback s.raising
+    v : Shown = shown_of s.seat s.trail.entries s.late s.closed s.groups.items s.lookback s.raising (g.D.Disk.calls s.disk) (g.D.Disk.faults s.disk)
     in
     subst (λ (w : Shown). Refuses (define_cause (IndexDefinition c.args.what.now)) (known_by g.B.Based.base g.B.Based.damaged w) (known_by g.B.Based.base g.B.Based.damaged w) (Closed c.in-Some.call)) c.self.view_is
     (when_closed (known_by g.B.Based.base g.B.Based.damaged v) told.legal s.closed told.closing c.args.what.now c.in-Some.call c.in-Some.is))
@@ -34,7 +34,7 @@ returns-in_default-numbered_place-clause-refused g c = (let
     in let
     told = c.self.invariant.0.told
     in let
-    v : Shown = shown_of s.seat s.trail.entries s.late s.closed s.groups.items s.lookback s.raising
+    v : Shown = shown_of s.seat s.trail.entries s.late s.closed s.groups.items s.lookback s.raising (g.D.Disk.calls s.disk) (g.D.Disk.faults s.disk)
     in
     subst (λ (w : Shown). Refuses (define_cause (IndexDefinition c.args.what.now)) (known_by g.B.Based.base g.B.Based.damaged w) (known_by g.B.Based.base g.B.Based.damaged w) NoTable) c.self.view_is
     (no_table (known_by g.B.Based.base g.B.Based.damaged v) told.legal s.closed told.closing c.args.what.now s.standing told.agrees c.in_default.is c.in_default-numbered_place.ensures.none))
@@ -45,7 +45,7 @@ returns-then-not-is_free-clause-refused g c = (let
     in let
     told = c.self.invariant.0.told
     in let
-    v : Shown = shown_of s.seat s.trail.entries s.late s.closed s.groups.items s.lookback s.raising
+    v : Shown = shown_of s.seat s.trail.entries s.late s.closed s.groups.items s.lookback s.raising (g.D.Disk.calls s.disk) (g.D.Disk.faults s.disk)
     in
     subst (λ (w : Shown). Refuses (define_cause (IndexDefinition c.args.what.now)) (known_by g.B.Based.base g.B.Based.damaged w) (known_by g.B.Based.base g.B.Based.damaged w) NameExists) c.self.view_is
     (name_taken (known_by g.B.Based.base g.B.Based.damaged v) told.legal s.closed told.closing c.args.what.now s.standing told.agrees c.in_default.is
@@ -57,7 +57,7 @@ returns-then-not-has_room_for_index-clause-refused g c = (let
     in let
     told = c.self.invariant.0.told
     in let
-    v : Shown = shown_of s.seat s.trail.entries s.late s.closed s.groups.items s.lookback s.raising
+    v : Shown = shown_of s.seat s.trail.entries s.late s.closed s.groups.items s.lookback s.raising (g.D.Disk.calls s.disk) (g.D.Disk.faults s.disk)
     in
     subst (λ (f : StepFault). Refuses (define_cause (IndexDefinition c.args.what.now)) (known_by g.B.Based.base g.B.Based.damaged c.args.self.now) (known_by g.B.Based.base g.B.Based.damaged c.args.self.now) f) (sym c.limit.ensures)
     (subst (λ (w : Shown). Refuses (define_cause (IndexDefinition c.args.what.now)) (known_by g.B.Based.base g.B.Based.damaged w) (known_by g.B.Based.base g.B.Based.damaged w) (Limit bound.Indexes (most_of bound.Indexes))) c.self.view_is
@@ -72,7 +72,7 @@ returns-then-index-most-clause-refused g c = (let
     in let
     told = k.told
     in let
-    v : Shown = shown_of s.seat s.trail.entries s.late s.closed s.groups.items s.lookback s.raising
+    v : Shown = shown_of s.seat s.trail.entries s.late s.closed s.groups.items s.lookback s.raising (g.D.Disk.calls s.disk) (g.D.Disk.faults s.disk)
     in let
     l = place_in s.groups.items s.standing.tables k.each.stand c.in-Some-numbered_place.place c.in-Some-numbered_place.ensures.found
     in let
@@ -93,7 +93,7 @@ returns-then-not-has_numbers-clause-refused g c = (let
     in let
     told = c.self.invariant.0.told
     in let
-    v : Shown = shown_of s.seat s.trail.entries s.late s.closed s.groups.items s.lookback s.raising
+    v : Shown = shown_of s.seat s.trail.entries s.late s.closed s.groups.items s.lookback s.raising (g.D.Disk.calls s.disk) (g.D.Disk.faults s.disk)
     in
     subst (λ (f : StepFault). Refuses (define_cause (IndexDefinition c.args.what.now)) (known_by g.B.Based.base g.B.Based.damaged c.args.self.now) (known_by g.B.Based.base g.B.Based.damaged c.args.self.now) f) (sym c.limit-then-not-has_numbers.ensures)
     (subst (λ (w : Shown). Refuses (define_cause (IndexDefinition c.args.what.now)) (known_by g.B.Based.base g.B.Based.damaged w) (known_by g.B.Based.base g.B.Based.damaged w) (Limit bound.Ids (most_of bound.Ids))) c.self.view_is
@@ -108,7 +108,7 @@ returns-clause-may g c = (let
     in let
     told = k.told
     in let
-    v : Shown = shown_of s.seat s.trail.entries s.late s.closed s.groups.items s.lookback s.raising
+    v : Shown = shown_of s.seat s.trail.entries s.late s.closed s.groups.items s.lookback s.raising (g.D.Disk.calls s.disk) (g.D.Disk.faults s.disk)
     in let
     l = place_in s.groups.items s.standing.tables k.each.stand c.in-Some-numbered_place.place c.in-Some-numbered_place.ensures.found
     in let

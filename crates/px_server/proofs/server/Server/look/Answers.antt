@@ -1,4 +1,4 @@
-use Rattle.std.proofs.Common.{rules, ◌≡◌, ◌∙◌, ◌<◌, None, List, length, map, sym, subst}
+use Rattle.std.proofs.Common.{rules, ◌≡◌, ◌∙◌, ◌<◌, None, List, length, map, sym, subst, ap}
 use Rattle.std.specs.List.{slice_set}
 use Rattle.px_calls.specs.Calls.{DidLook}
 use Rattle.px_calls.specs.Causes.{Refuses, read_cause}
@@ -18,6 +18,7 @@ use Rattle.px_server.proofs.ReadAt.{counted_at, did_look, inside, no_memory, rea
 use Rattle.px_server.proofs.Released.{none_of}
 use Rattle.px_server.proofs.RowsLooked.{risen_at}
 use Rattle.px_server.proofs.Sighted.{found_doubts}
+use Rattle.px_server.proofs.DeviceCalls.{none_by}
 use Rattle.px_server.proofs.server.Server.look.Goals.{in-Ok, in-Err}
 use Rattle.px_server.proofs.server.Server.look.Goals as goal
 
@@ -25,7 +26,7 @@ pub returns-in-Some-clause-refused : goal.returns-in-Some-clause-refused
 returns-in-Some-clause-refused g c =
     let s = c.self.inside in
     let told = c.self.invariant.0.told in
-    let v : Shown = shown_of s.seat s.trail.entries s.late s.closed s.groups.items s.lookback s.raising in
+    let v : Shown = shown_of s.seat s.trail.entries s.late s.closed s.groups.items s.lookback s.raising (g.D.Disk.calls s.disk) (g.D.Disk.faults s.disk) in
     subst (λ (w : Shown). Refuses read_cause (known_by g.B.Based.base g.B.Based.damaged w) (known_by g.B.Based.base g.B.Based.damaged w) (Closed c.in-Some.call)) c.self.view_is
     (closed_by (known_by g.B.Based.base g.B.Based.damaged v) told.legal s.closed told.closing c.in-Some.call c.in-Some.is)
 
@@ -33,7 +34,7 @@ pub returns-in_default-point_place-clause-refused : goal.returns-in_default-poin
 returns-in_default-point_place-clause-refused g c =
     let s = c.self.inside in
     let told = c.self.invariant.0.told in
-    let v : Shown = shown_of s.seat s.trail.entries s.late s.closed s.groups.items s.lookback s.raising in
+    let v : Shown = shown_of s.seat s.trail.entries s.late s.closed s.groups.items s.lookback s.raising (g.D.Disk.calls s.disk) (g.D.Disk.faults s.disk) in
     let running : s.closed ≡ None = none_of s.closed (λ x is. search rules) in
     subst (λ (w : Shown). Refuses read_cause (known_by g.B.Based.base g.B.Based.damaged w) (known_by g.B.Based.base g.B.Based.damaged w) Memory) c.self.view_is
     (no_memory (known_by g.B.Based.base g.B.Based.damaged v) told.legal s.closed told.closing running)
@@ -56,7 +57,7 @@ returns-clause-ok g c =
     let b = g.B.Based.base in
     let k = c.self.invariant.0 in
     let told = k.told in
-    let v : Shown = shown_of s.seat s.trail.entries s.late s.closed s.groups.items s.lookback s.raising in
+    let v : Shown = shown_of s.seat s.trail.entries s.late s.closed s.groups.items s.lookback s.raising (g.D.Disk.calls s.disk) (g.D.Disk.faults s.disk) in
     let running : s.closed ≡ None = none_of s.closed (λ x is. search rules) in
     let l : c.in-Some-point_place.place < length s.groups.items = inside s.groups.items c.deref.result.now c.in-Some-point_place.place c.deref.ensures.value c.in-Some-point_place.ensures.within in
     elim c.match-look.branch [
@@ -71,7 +72,7 @@ returns-clause-refused g c =
     let s = c.self.inside in
     let b = g.B.Based.base in
     let told = c.self.invariant.0.told in
-    let v : Shown = shown_of s.seat s.trail.entries s.late s.closed s.groups.items s.lookback s.raising in
+    let v : Shown = shown_of s.seat s.trail.entries s.late s.closed s.groups.items s.lookback s.raising (g.D.Disk.calls s.disk) (g.D.Disk.faults s.disk) in
     let running : s.closed ≡ None = none_of s.closed (λ x is. search rules) in
     elim c.match-look.branch [
       | in-Ok w ↦ rw w.result-is tt
@@ -127,3 +128,8 @@ returns-clause-doubts g c =
           c.args.path.now.by w.in-Ok.next.found w.chunk.result.found w.chunk.ensures.0 w.in-Ok.ensures.keys.doubts w.in-Ok.ensures.versions)
       | in-Err w ↦ rw w.result-is tt
     ]
+
+-- ---- the calls of the disk
+
+pub returns-clause-counts : goal.returns-clause-counts
+returns-clause-counts g c = none_by c.self.view_is (ap g.D.Disk.calls c.look.ensures.untouched) (ap g.D.Disk.faults c.look.ensures.untouched)

@@ -28,6 +28,8 @@ use Rattle.px_server.specs.inner.Indexing.{MayMakeIndex}
 use Rattle.px_server.proofs.IndexFits.{fits_made}
 use Rattle.px_server.proofs.IndexSteps.{making_did, making_failed, making_kept, making_refused}
 use Rattle.px_server.proofs.Reserved.{roomy, same_there}
+use Rattle.px_server.specs.DeviceCalls.{Blames}
+use Rattle.px_server.proofs.DeviceCalls.{few_by, made_by, rose_by, unwritten_blames}
 use Rattle.px_server.proofs.server.Server.make_index.Goals as goal
 
 pub unreachable-requires : goal.unreachable-requires
@@ -38,7 +40,7 @@ unreachable-requires g c = (let
     in let
     b = g.B.Based.base
     in let
-    v : Shown = shown_of s.seat s.trail.entries s.late s.closed s.groups.items s.lookback s.raising
+    v : Shown = shown_of s.seat s.trail.entries s.late s.closed s.groups.items s.lookback s.raising (g.D.Disk.calls s.disk) (g.D.Disk.faults s.disk)
     in let
     may : MayMakeIndex (known_by b g.B.Based.damaged v) c.args.what.now = subst (λ (w : Shown). MayMakeIndex (known_by b g.B.Based.damaged w) c.args.what.now) (sym c.self.view_is) c.requires.may
     in let
@@ -54,7 +56,7 @@ next_stamp-stamp-requires g c = (let
     in let
     b = g.B.Based.base
     in let
-    v : Shown = shown_of s.seat s.trail.entries s.late s.closed s.groups.items s.lookback s.raising
+    v : Shown = shown_of s.seat s.trail.entries s.late s.closed s.groups.items s.lookback s.raising (g.D.Disk.calls s.disk) (g.D.Disk.faults s.disk)
     in let
     may : MayMakeIndex (known_by b g.B.Based.damaged v) c.args.what.now = subst (λ (w : Shown). MayMakeIndex (known_by b g.B.Based.damaged w) c.args.what.now) (sym c.self.view_is) c.requires.may
     in let
@@ -92,7 +94,7 @@ returns-in_err-made-clause-refused g c = (let
     in let
     b = g.B.Based.base
     in let
-    v : Shown = shown_of s.seat s.trail.entries s.late s.closed s.groups.items s.lookback s.raising
+    v : Shown = shown_of s.seat s.trail.entries s.late s.closed s.groups.items s.lookback s.raising (g.D.Disk.calls s.disk) (g.D.Disk.faults s.disk)
     in let
     may : MayMakeIndex (known_by b g.B.Based.damaged v) c.args.what.now = subst (λ (w : Shown). MayMakeIndex (known_by b g.B.Based.damaged w) c.args.what.now) (sym c.self.view_is) c.requires.may
     in let
@@ -122,7 +124,7 @@ returns-in_default-take_entry-clause-refused g c = (let
     in let
     b = g.B.Based.base
     in let
-    v : Shown = shown_of s.seat s.trail.entries s.late s.closed s.groups.items s.lookback s.raising
+    v : Shown = shown_of s.seat s.trail.entries s.late s.closed s.groups.items s.lookback s.raising (g.D.Disk.calls s.disk) (g.D.Disk.faults s.disk)
     in let
     may : MayMakeIndex (known_by b g.B.Based.damaged v) c.args.what.now = subst (λ (w : Shown). MayMakeIndex (known_by b g.B.Based.damaged w) c.args.what.now) (sym c.self.view_is) c.requires.may
     in let
@@ -158,7 +160,7 @@ returns-in_default-reserve_index-clause-refused g c = (let
     in let
     b = g.B.Based.base
     in let
-    v : Shown = shown_of s.seat s.trail.entries s.late s.closed s.groups.items s.lookback s.raising
+    v : Shown = shown_of s.seat s.trail.entries s.late s.closed s.groups.items s.lookback s.raising (g.D.Disk.calls s.disk) (g.D.Disk.faults s.disk)
     in let
     may : MayMakeIndex (known_by b g.B.Based.damaged v) c.args.what.now = subst (λ (w : Shown). MayMakeIndex (known_by b g.B.Based.damaged w) c.args.what.now) (sym c.self.view_is) c.requires.may
     in let
@@ -176,7 +178,7 @@ append-requires g c = (let
     in let
     b = g.B.Based.base
     in let
-    v : Shown = shown_of s.seat s.trail.entries s.late s.closed s.groups.items s.lookback s.raising
+    v : Shown = shown_of s.seat s.trail.entries s.late s.closed s.groups.items s.lookback s.raising (g.D.Disk.calls s.disk) (g.D.Disk.faults s.disk)
     in let
     may : MayMakeIndex (known_by b g.B.Based.damaged v) c.args.what.now = subst (λ (w : Shown). MayMakeIndex (known_by b g.B.Based.damaged w) c.args.what.now) (sym c.self.view_is) c.requires.may
     in let
@@ -208,7 +210,7 @@ invariant_of-self-in-Ok-entered g c = (let
     in let
     b = g.B.Based.base
     in let
-    v : Shown = shown_of s.seat s.trail.entries s.late s.closed s.groups.items s.lookback s.raising
+    v : Shown = shown_of s.seat s.trail.entries s.late s.closed s.groups.items s.lookback s.raising (g.D.Disk.calls s.disk) (g.D.Disk.faults s.disk)
     in let
     may : MayMakeIndex (known_by b g.B.Based.damaged v) c.args.what.now = subst (λ (w : Shown). MayMakeIndex (known_by b g.B.Based.damaged w) c.args.what.now) (sym c.self.view_is) c.requires.may
     in let
@@ -251,7 +253,7 @@ invariant_of-self-in-Err g c = (let
     in let
     b = g.B.Based.base
     in let
-    v : Shown = shown_of s.seat s.trail.entries s.late s.closed s.groups.items s.lookback s.raising
+    v : Shown = shown_of s.seat s.trail.entries s.late s.closed s.groups.items s.lookback s.raising (g.D.Disk.calls s.disk) (g.D.Disk.faults s.disk)
     in let
     may : MayMakeIndex (known_by b g.B.Based.damaged v) c.args.what.now = subst (λ (w : Shown). MayMakeIndex (known_by b g.B.Based.damaged w) c.args.what.now) (sym c.self.view_is) c.requires.may
     in let
@@ -284,7 +286,7 @@ returns-in-Ok-entered-clause-ok g c = (let
     in let
     b = g.B.Based.base
     in let
-    v : Shown = shown_of s.seat s.trail.entries s.late s.closed s.groups.items s.lookback s.raising
+    v : Shown = shown_of s.seat s.trail.entries s.late s.closed s.groups.items s.lookback s.raising (g.D.Disk.calls s.disk) (g.D.Disk.faults s.disk)
     in let
     may : MayMakeIndex (known_by b g.B.Based.damaged v) c.args.what.now = subst (λ (w : Shown). MayMakeIndex (known_by b g.B.Based.damaged w) c.args.what.now) (sym c.self.view_is) c.requires.may
     in let
@@ -317,7 +319,7 @@ returns-in-Err-clause-refused g c = (let
     in let
     b = g.B.Based.base
     in let
-    v : Shown = shown_of s.seat s.trail.entries s.late s.closed s.groups.items s.lookback s.raising
+    v : Shown = shown_of s.seat s.trail.entries s.late s.closed s.groups.items s.lookback s.raising (g.D.Disk.calls s.disk) (g.D.Disk.faults s.disk)
     in let
     may : MayMakeIndex (known_by b g.B.Based.damaged v) c.args.what.now = subst (λ (w : Shown). MayMakeIndex (known_by b g.B.Based.damaged w) c.args.what.now) (sym c.self.view_is) c.requires.may
     in let
@@ -339,3 +341,23 @@ returns-in-Err-clause-refused g c = (let
     in
     subst (λ (w : Shown). Refuses (define_cause (definition.Index c.args.what.now)) (known_by b g.B.Based.damaged w) (known_by b g.B.Based.damaged v') c.in-Err.fault) c.self.view_is
     (making_refused g.D.Disk g.met.D.Disk.told g.met.D.Disk.up_to_now b g.B.Based.damaged g.B.Founded.sound g.B.Founded.premise g.B.Founded.began s.disk s.catalog s.standing s.groups.items s.trail s.late s.closed k running c.in-Some.place h l h_is s.seat c.take_entry.new.trail c.take_entry.ensures.same c.in-Ok.ensures.ok c.append.new.disk c.append.new.self c.append.ensures.counts c.append.ensures.touches c.args.what.now own may fit c.next_stamp-stamp.result above c.next_stamp-stamp.ensures.most c.in_ok-made.made c.in_ok-made.ensures.ok c.reserve_index.new.group c.reserve_index.ensures.same c.append.ensures.any_moment c.entered.new.trail c.entered.new.late c.entered.new.closed c.in-Err.ensures.refused.0 (λ e. c.append.ensures.untouched (elim e [ inl x ↦ inl (c.in-Err.ensures.refused.1 ∙ ap Err x) | inr x ↦ inr (c.in-Err.ensures.refused.1 ∙ ap Err x) ])) (λ e. c.append.ensures.failed (c.in-Err.ensures.refused.1 ∙ ap Err e)) c.in-Err.ensures.refused.2.kept c.in-Err.ensures.refused.2.shut c.entered.ensures.room c.in-Err.fault c.in-Err.ensures.refused.2.full c.in-Err.ensures.refused.2.memory c.in-Err.ensures.refused.2.failed))
+
+-- ---- the calls of the disk
+
+pub returns-in_default-take_entry-clause-counts : goal.returns-in_default-take_entry-clause-counts
+returns-in_default-take_entry-clause-counts g c = few_by c.self.view_is refl refl
+
+pub returns-in_default-reserve_index-clause-counts : goal.returns-in_default-reserve_index-clause-counts
+returns-in_default-reserve_index-clause-counts g c = few_by c.self.view_is refl refl
+
+pub returns-in-Ok-entered-clause-counts : goal.returns-in-Ok-entered-clause-counts
+returns-in-Ok-entered-clause-counts g c = made_by g.D.Disk c.self.inside.disk c.append.new.disk (c.append.ensures.counts) (omega arith) c.self.view_is refl refl refl refl
+
+pub returns-in-Err-clause-counts : goal.returns-in-Err-clause-counts
+returns-in-Err-clause-counts g c = made_by g.D.Disk c.self.inside.disk c.append.new.disk (c.append.ensures.counts) (omega arith) c.self.view_is refl refl refl refl
+
+pub returns-in-Err-clause-blames : goal.returns-in-Err-clause-blames
+returns-in-Err-clause-blames g c = (let u = c.in-Err.ensures.refused in unwritten_blames c.args.self.now (record c.args.self.now { calls = g.D.Disk.calls c.append.new.disk; faults = g.D.Disk.faults c.append.new.disk }) u.0 _ _ _ _ _ _ _ c.in-Err.fault u.2 (λ failed. rose_by g.D.Disk c.self.inside.disk c.append.new.disk (c.append.ensures.failed (u.1 ∙ ap Err failed)) c.self.view_is refl))
+
+pub returns-in_err-made-clause-blames : goal.returns-in_err-made-clause-blames
+returns-in_err-made-clause-blames g c = (let e = err_from_is_err_and c.from_residual.result c.from_residual.ensures.1 in rw e.1 (subst (Blames c.args.self.now (record c.args.self.now { calls = g.D.Disk.calls c.self.inside.disk; faults = g.D.Disk.faults c.self.inside.disk })) (sym (e.2 ∙ c.in_err-made.ensures.refused)) tt))

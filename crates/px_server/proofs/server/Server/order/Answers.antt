@@ -1,4 +1,4 @@
-use Rattle.std.proofs.Common.{◌≡◌, ◌∙◌, List, length, take, subst, sym}
+use Rattle.std.proofs.Common.{◌≡◌, ◌∙◌, List, length, take, subst, sym, refl}
 use Rattle.std.proofs.lemmas.List.{with_items_is}
 use Rattle.std.specs.List.{AllByRecursion}
 use Rattle.px_calls.specs.Calls.{DidOrder}
@@ -10,6 +10,7 @@ use Rattle.px_server.specs.Kept.{IsKept}
 use Rattle.px_server.specs.Upkeep.{AllSettle, AreOrdered, HasRisen, IsWantedTable}
 use Rattle.px_server.proofs.Found.{closed_by}
 use Rattle.px_server.proofs.Orders.{all_settled, did_order, none_taken, settle_length}
+use Rattle.px_server.proofs.DeviceCalls.{none_by}
 use Rattle.px_server.proofs.server.Server.order.Goals as goal
 
 pub returns-in-Some-clause-refused : goal.returns-in-Some-clause-refused
@@ -17,7 +18,7 @@ returns-in-Some-clause-refused g c =
     let s = c.self.inside in
     let b = g.B.Based.base in
     let told = c.self.invariant.0.told in
-    let v : Shown = shown_of s.seat s.trail.entries s.late s.closed s.groups.items s.lookback s.raising in
+    let v : Shown = shown_of s.seat s.trail.entries s.late s.closed s.groups.items s.lookback s.raising (g.D.Disk.calls s.disk) (g.D.Disk.faults s.disk) in
     subst (λ (w : Shown). Refuses order_cause (known_by b g.B.Based.damaged w) (known_by b g.B.Based.damaged w) (Closed c.in-Some.call)) c.self.view_is
     (closed_by (known_by b g.B.Based.damaged v) told.legal s.closed told.closing c.in-Some.call c.in-Some.is)
 
@@ -64,7 +65,7 @@ returns-in-FlushAll-clause-ok g c =
     let s = c.self.inside in
     let b = g.B.Based.base in
     let told = c.self.invariant.0.told in
-    let v : Shown = shown_of s.seat s.trail.entries s.late s.closed s.groups.items s.lookback s.raising in
+    let v : Shown = shown_of s.seat s.trail.entries s.late s.closed s.groups.items s.lookback s.raising (g.D.Disk.calls s.disk) (g.D.Disk.faults s.disk) in
     subst (λ (w : Shown). DidOrder (known_by b g.B.Based.damaged w) (known_by b g.B.Based.damaged v) tt) c.self.view_is (did_order (known_by b g.B.Based.damaged v) told.legal (told.closing ∙ c.in_default.is))
 
 pub returns-in-CompactAll-clause-ok : goal.returns-in-CompactAll-clause-ok
@@ -72,5 +73,13 @@ returns-in-CompactAll-clause-ok g c =
     let s = c.self.inside in
     let b = g.B.Based.base in
     let told = c.self.invariant.0.told in
-    let v : Shown = shown_of s.seat s.trail.entries s.late s.closed s.groups.items s.lookback s.raising in
+    let v : Shown = shown_of s.seat s.trail.entries s.late s.closed s.groups.items s.lookback s.raising (g.D.Disk.calls s.disk) (g.D.Disk.faults s.disk) in
     subst (λ (w : Shown). DidOrder (known_by b g.B.Based.damaged w) (known_by b g.B.Based.damaged v) tt) c.self.view_is (did_order (known_by b g.B.Based.damaged v) told.legal (told.closing ∙ c.in_default.is))
+
+-- ---- the calls of the disk
+
+pub returns-in-FlushAll-clause-counts : goal.returns-in-FlushAll-clause-counts
+returns-in-FlushAll-clause-counts g c = none_by c.self.view_is refl refl
+
+pub returns-in-CompactAll-clause-counts : goal.returns-in-CompactAll-clause-counts
+returns-in-CompactAll-clause-counts g c = none_by c.self.view_is refl refl

@@ -33,6 +33,8 @@ use Rattle.px_server.proofs.Released.{place_in}
 use Rattle.px_server.proofs.Reserved.{roomy, same_there, some_there}
 use Rattle.px_server.proofs.Stamping.{drawn_by_clock, read_by_clock, same_by_clock, unwritten_entry_by_clock}
 use Rattle.px_server.proofs.Unwritten.{no_memory, reserved}
+use Rattle.px_server.specs.DeviceCalls.{Blames}
+use Rattle.px_server.proofs.DeviceCalls.{few_by, made_by, rose_by, unwritten_blames, unquiet_blames}
 use Rattle.px_server.proofs.server.Server.rebuild_index.Goals as goal
 
 pub returns-in_err-place-clause-refused : goal.returns-in_err-place-clause-refused
@@ -43,7 +45,7 @@ returns-in_err-place-clause-refused g c = (let
     in let
     b = g.B.Based.base
     in let
-    v : Shown = shown_of s.seat s.trail.entries s.late s.closed s.groups.items s.lookback s.raising
+    v : Shown = shown_of s.seat s.trail.entries s.late s.closed s.groups.items s.lookback s.raising (g.D.Disk.calls s.disk) (g.D.Disk.faults s.disk)
     in let
     f = c.in_err-place.field-0.0
     in let
@@ -63,7 +65,7 @@ returns-then-index-most-clause-refused g c = (let
     in let
     b = g.B.Based.base
     in let
-    v : Shown = shown_of s.seat s.trail.entries s.late s.closed s.groups.items s.lookback s.raising
+    v : Shown = shown_of s.seat s.trail.entries s.late s.closed s.groups.items s.lookback s.raising (g.D.Disk.calls s.disk) (g.D.Disk.faults s.disk)
     in let
     p = c.in_ok-place.place
     in let
@@ -89,7 +91,7 @@ returns-then-not-has_numbers-clause-refused g c = (let
     in let
     b = g.B.Based.base
     in let
-    v : Shown = shown_of s.seat s.trail.entries s.late s.closed s.groups.items s.lookback s.raising
+    v : Shown = shown_of s.seat s.trail.entries s.late s.closed s.groups.items s.lookback s.raising (g.D.Disk.calls s.disk) (g.D.Disk.faults s.disk)
     in let
     p = c.in_ok-place.place
     in let
@@ -123,7 +125,7 @@ returns-in_err-made-clause-refused g c = (let
     in let
     b = g.B.Based.base
     in let
-    v : Shown = shown_of s.seat s.trail.entries s.late s.closed s.groups.items s.lookback s.raising
+    v : Shown = shown_of s.seat s.trail.entries s.late s.closed s.groups.items s.lookback s.raising (g.D.Disk.calls s.disk) (g.D.Disk.faults s.disk)
     in let
     p = c.in_ok-place.place
     in let
@@ -151,7 +153,7 @@ returns-in_default-clause-refused g c = (let
     in let
     b = g.B.Based.base
     in let
-    v : Shown = shown_of s.seat s.trail.entries s.late s.closed s.groups.items s.lookback s.raising
+    v : Shown = shown_of s.seat s.trail.entries s.late s.closed s.groups.items s.lookback s.raising (g.D.Disk.calls s.disk) (g.D.Disk.faults s.disk)
     in let
     p = c.in_ok-place.place
     in let
@@ -189,7 +191,7 @@ returns-in_default-reserve_index-clause-refused g c = (let
     in let
     b = g.B.Based.base
     in let
-    v : Shown = shown_of s.seat s.trail.entries s.late s.closed s.groups.items s.lookback s.raising
+    v : Shown = shown_of s.seat s.trail.entries s.late s.closed s.groups.items s.lookback s.raising (g.D.Disk.calls s.disk) (g.D.Disk.faults s.disk)
     in let
     p = c.in_ok-place.place
     in let
@@ -303,7 +305,7 @@ returns-in-Ok-entered-clause-ok g c = (let
     in let
     b = g.B.Based.base
     in let
-    v : Shown = shown_of s.seat s.trail.entries s.late s.closed s.groups.items s.lookback s.raising
+    v : Shown = shown_of s.seat s.trail.entries s.late s.closed s.groups.items s.lookback s.raising (g.D.Disk.calls s.disk) (g.D.Disk.faults s.disk)
     in let
     p = c.in_ok-place.place
     in let
@@ -336,7 +338,7 @@ returns-in-Err-clause-refused g c = (let
     in let
     b = g.B.Based.base
     in let
-    v : Shown = shown_of s.seat s.trail.entries s.late s.closed s.groups.items s.lookback s.raising
+    v : Shown = shown_of s.seat s.trail.entries s.late s.closed s.groups.items s.lookback s.raising (g.D.Disk.calls s.disk) (g.D.Disk.faults s.disk)
     in let
     p = c.in_ok-place.place
     in let
@@ -358,3 +360,26 @@ returns-in-Err-clause-refused g c = (let
     in
     subst (λ (w : Shown). Refuses (define_cause (definition.Rebuilding c.args.table c.args.index)) (known_by b g.B.Based.damaged w) (known_by b g.B.Based.damaged v') c.in-Err.fault) {x = v} c.self.view_is
     (rebuilding_refused g.D.Disk g.met.D.Disk.told g.met.D.Disk.up_to_now b g.B.Based.damaged g.B.Founded.sound g.B.Founded.premise g.B.Founded.began s.disk s.catalog s.standing s.groups.items s.trail s.late s.closed k s.seat c.args.table c.args.index p at one.0 one.1 h h_is c.next_stamp-stamp.result above c.next_stamp-stamp.ensures.most c.in_ok-made.made put c.reserve_index.new.group c.reserve_index.ensures.same c.take_entry.new.trail c.take_entry.ensures.same c.in-Ok.ensures.ok c.append.new.disk c.append.new.self c.append.ensures.counts c.append.ensures.touches c.append.ensures.any_moment c.entered.new.trail c.entered.new.late c.entered.new.closed c.in-Err.ensures.refused.0 (λ e. c.append.ensures.untouched (elim e [ inl x ↦ inl (c.in-Err.ensures.refused.1 ∙ ap Err x) | inr x ↦ inr (c.in-Err.ensures.refused.1 ∙ ap Err x) ])) (λ e. c.append.ensures.failed (c.in-Err.ensures.refused.1 ∙ ap Err e)) c.in-Err.ensures.refused.2.kept c.in-Err.ensures.refused.2.shut c.entered.ensures.room c.in-Err.fault c.in-Err.ensures.refused.2.full c.in-Err.ensures.refused.2.memory c.in-Err.ensures.refused.2.failed))
+
+-- ---- the calls of the disk
+
+pub returns-in_default-clause-counts : goal.returns-in_default-clause-counts
+returns-in_default-clause-counts g c = few_by c.self.view_is refl refl
+
+pub returns-in_default-reserve_index-clause-counts : goal.returns-in_default-reserve_index-clause-counts
+returns-in_default-reserve_index-clause-counts g c = few_by c.self.view_is refl refl
+
+pub returns-in-Ok-entered-clause-counts : goal.returns-in-Ok-entered-clause-counts
+returns-in-Ok-entered-clause-counts g c = made_by g.D.Disk c.self.inside.disk c.append.new.disk (c.append.ensures.counts) (omega arith) c.self.view_is refl refl refl refl
+
+pub returns-in-Err-clause-counts : goal.returns-in-Err-clause-counts
+returns-in-Err-clause-counts g c = made_by g.D.Disk c.self.inside.disk c.append.new.disk (c.append.ensures.counts) (omega arith) c.self.view_is refl refl refl refl
+
+pub returns-in-Err-clause-blames : goal.returns-in-Err-clause-blames
+returns-in-Err-clause-blames g c = (let u = c.in-Err.ensures.refused in unwritten_blames c.args.self.now (record c.args.self.now { calls = g.D.Disk.calls c.append.new.disk; faults = g.D.Disk.faults c.append.new.disk }) u.0 _ _ _ _ _ _ _ c.in-Err.fault u.2 (λ failed. rose_by g.D.Disk c.self.inside.disk c.append.new.disk (c.append.ensures.failed (u.1 ∙ ap Err failed)) c.self.view_is refl))
+
+pub returns-in_err-place-clause-blames : goal.returns-in_err-place-clause-blames
+returns-in_err-place-clause-blames g c = (let e = err_from_is_err_and c.from_residual.result c.from_residual.ensures.1 in rw e.1 (subst (Blames c.args.self.now c.args.self.now) (sym e.2) (unquiet_blames c.args.self.now c.args.self.now c.self.inside.standing c.as_slice.result.now c.self.inside.closed c.args.table c.args.index c.in_err-place.field-0.0 c.in_err-place.ensures.refused)))
+
+pub returns-in_err-made-clause-blames : goal.returns-in_err-made-clause-blames
+returns-in_err-made-clause-blames g c = (let e = err_from_is_err_and c.from_residual-in_err-made.result c.from_residual-in_err-made.ensures.1 in rw e.1 (subst (Blames c.args.self.now (record c.args.self.now { calls = g.D.Disk.calls c.self.inside.disk; faults = g.D.Disk.faults c.self.inside.disk })) (sym (e.2 ∙ c.in_err-made.ensures.refused)) tt))

@@ -8,6 +8,7 @@ use Rattle.px_server.specs.declared.upkeep.Chore.TheVariants as chore
 use Rattle.px_server.proofs.Answered.{if_ok}
 use Rattle.px_server.proofs.Stepped.{did_work}
 use Rattle.px_server.proofs.Upkept.{idle_done}
+use Rattle.px_server.proofs.DeviceCalls.{quiet_by}
 use Rattle.px_server.proofs.server.Server.upkeep_regions.Goals as goal
 
 -- the first step that is due
@@ -36,7 +37,7 @@ returns-in-None-clause-ok g c =
     let s = c.self.inside in
     let b = g.B.Based.base in
     let told = c.self.invariant.0.told in
-    let v : Shown = shown_of s.seat s.trail.entries s.late s.closed s.groups.items s.lookback s.raising in
+    let v : Shown = shown_of s.seat s.trail.entries s.late s.closed s.groups.items s.lookback s.raising (g.D.Disk.calls s.disk) (g.D.Disk.faults s.disk) in
     let running : s.closed ≡ _ = ap (λ (w : Shown). w.closed) c.self.view_is ∙ c.requires.running in
     subst (λ (w : Shown). DidWork (known_by b g.B.Based.damaged w) (known_by b g.B.Based.damaged w) Idle) c.self.view_is (did_work (known_by b g.B.Based.damaged v) told.legal (told.closing ∙ running) Idle)
 
@@ -45,3 +46,8 @@ returns-in-None-clause-done g c = λ idle job.
     let due = subst (λ (w : Shown). AreFree chore.Due w.groups) c.self.view_is (subst (AreFree chore.Due) c.as_slice.ensures.value c.in_default.ensures.none) in
     let wanted = subst (λ (w : Shown). AreFree chore.Wanted w.groups) c.self.view_is (subst (AreFree chore.Wanted) c.as_slice-2.ensures.value c.in-None.ensures.none) in
     idle_done c.args.self.now due wanted c.requires.raised job
+
+-- ---- the calls of the disk
+
+pub returns-in-Some-busy_table-clause-counts : goal.returns-in-Some-busy_table-clause-counts
+returns-in-Some-busy_table-clause-counts g c = quiet_by c.begin_at.ensures.counts

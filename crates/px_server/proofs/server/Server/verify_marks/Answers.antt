@@ -22,6 +22,7 @@ use Rattle.px_server.proofs.MarkSteps.{closes_all, closes_kept, closes_shut, ver
 use Rattle.px_server.proofs.Seen.{one_more, stays}
 use Rattle.px_server.proofs.Stamping.{more_by_clock}
 use Rattle.px_server.proofs.Ticketed.{batch_is, batch_somewhere, own_table, same_read, stands_somewhere, there}
+use Rattle.px_server.proofs.DeviceCalls.{made_by, rose_by, verified_passes}
 use Rattle.px_server.proofs.server.Server.verify_marks.Goals as goal
 
 pub returns-in-Some-clause-refused : goal.returns-in-Some-clause-refused
@@ -29,7 +30,7 @@ returns-in-Some-clause-refused g c =
     let s = c.self.inside in
     let b = g.B.Based.base in
     let told = c.self.invariant.0.told in
-    let v : Shown = shown_of s.seat s.trail.entries s.late s.closed s.groups.items s.lookback s.raising in
+    let v : Shown = shown_of s.seat s.trail.entries s.late s.closed s.groups.items s.lookback s.raising (g.D.Disk.calls s.disk) (g.D.Disk.faults s.disk) in
     subst (λ (w : Shown). Refuses write_cause (known_by b g.B.Based.damaged w) (known_by b g.B.Based.damaged w) (Closed c.in-Some.call)) c.self.view_is
     (closed_by (known_by b g.B.Based.damaged v) told.legal s.closed told.closing c.in-Some.call c.in-Some.is)
 
@@ -109,7 +110,7 @@ pub returns-in-More-clause-ok : goal.returns-in-More-clause-ok
 returns-in-More-clause-ok g c =
     let s = c.self.inside in
     let told = c.self.invariant.0.told in
-    let v : Shown = shown_of s.seat s.trail.entries s.late s.closed s.groups.items s.lookback s.raising in
+    let v : Shown = shown_of s.seat s.trail.entries s.late s.closed s.groups.items s.lookback s.raising (g.D.Disk.calls s.disk) (g.D.Disk.faults s.disk) in
     subst (λ (w : Shown). Finds (known_by g.B.Based.base g.B.Based.damaged w) (known_by g.B.Based.base g.B.Based.damaged v)) c.self.view_is
     (record { sees = stays (known_by g.B.Based.base g.B.Based.damaged v) told.legal; running = told.closing ∙ c.in_default.is })
 
@@ -117,7 +118,7 @@ pub returns-in-Done-clause-ok : goal.returns-in-Done-clause-ok
 returns-in-Done-clause-ok g c =
     let s = c.self.inside in
     let told = c.self.invariant.0.told in
-    let v : Shown = shown_of s.seat s.trail.entries s.late s.closed s.groups.items s.lookback s.raising in
+    let v : Shown = shown_of s.seat s.trail.entries s.late s.closed s.groups.items s.lookback s.raising (g.D.Disk.calls s.disk) (g.D.Disk.faults s.disk) in
     let v' : Shown = record v { entries = c.push.new.self.entries } in
     let act = PhaseAct c.args.t.now.table c.args.t.now.stamp 3 in
     subst (λ (w : Shown). Adds (known_by g.B.Based.base g.B.Based.damaged w) (known_by g.B.Based.base g.B.Based.damaged v') act) c.self.view_is
@@ -128,7 +129,7 @@ pub returns-in-Err-clause-refused : goal.returns-in-Err-clause-refused
 returns-in-Err-clause-refused g c =
     let s = c.self.inside in
     let told = c.self.invariant.0.told in
-    let v : Shown = shown_of s.seat s.trail.entries s.late s.closed s.groups.items s.lookback s.raising in
+    let v : Shown = shown_of s.seat s.trail.entries s.late s.closed s.groups.items s.lookback s.raising (g.D.Disk.calls s.disk) (g.D.Disk.faults s.disk) in
     let v' : Shown = record v { entries = c.shut.new.trail.entries; closed = Some c.call_count-calls.result } in
     let act = Shut c.call_count-calls.result in (
       tt,
@@ -168,3 +169,17 @@ returns-in-Done-clause-fewer g c =
     subst (λ (w : Shown). calls_left (slice_set s.groups.items place c.verify-outcome.new.group) t < calls_left w.groups t) c.self.view_is
     (fewer s.groups.items place h c.verify-outcome.new.group inside (sym c.index_mut-group.ensures.value) t
     (verify_less g.D.Disk c.in-Some-batch_place.batch t.table.0 t.stamp h c.verify-outcome.new.group s.disk c.verify-outcome.new.disk c.verify-outcome.result c.in-Ok.verified c.in-Ok.is c.verify-outcome.ensures.steps stamp (ap (λ (x : TableId). x.0) own)))
+
+-- ---- the calls of the disk
+
+pub returns-in-More-clause-counts : goal.returns-in-More-clause-counts
+returns-in-More-clause-counts g c = made_by g.D.Disk c.self.inside.disk c.verify-outcome.new.disk (verified_passes g.D.Disk c.self.inside.disk c.verify-outcome.new.disk c.index_mut-group.result.now c.verify-outcome.new.group c.in-Some-batch_place.batch c.verify-outcome.result c.verify-outcome.ensures.steps) (omega arith) c.self.view_is refl refl refl refl
+
+pub returns-in-Done-clause-counts : goal.returns-in-Done-clause-counts
+returns-in-Done-clause-counts g c = made_by g.D.Disk c.self.inside.disk c.verify-outcome.new.disk (verified_passes g.D.Disk c.self.inside.disk c.verify-outcome.new.disk c.index_mut-group.result.now c.verify-outcome.new.group c.in-Some-batch_place.batch c.verify-outcome.result c.verify-outcome.ensures.steps) (omega arith) c.self.view_is refl refl refl refl
+
+pub returns-in-Err-clause-counts : goal.returns-in-Err-clause-counts
+returns-in-Err-clause-counts g c = made_by g.D.Disk c.self.inside.disk c.verify-outcome.new.disk (verified_passes g.D.Disk c.self.inside.disk c.verify-outcome.new.disk c.index_mut-group.result.now c.verify-outcome.new.group c.in-Some-batch_place.batch c.verify-outcome.result c.verify-outcome.ensures.steps) (omega arith) c.self.view_is refl refl refl refl
+
+pub returns-in-Err-clause-blames : goal.returns-in-Err-clause-blames
+returns-in-Err-clause-blames g c = rose_by g.D.Disk c.self.inside.disk c.verify-outcome.new.disk (c.in-Err.ensures.failed refl) c.self.view_is refl

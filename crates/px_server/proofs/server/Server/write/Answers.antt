@@ -22,6 +22,7 @@ use Rattle.px_server.proofs.Found.{closed_by}
 use Rattle.px_server.proofs.RowsTold.{blocked_waits, did_write, not_yet, unwritten_kept, write_failed, writing_there, wrote_in, wrote_kept}
 use Rattle.px_server.proofs.Stamping.{more_by_clock}
 use Rattle.px_server.proofs.Ticketed.{batch_somewhere, own_table, same_read, stands_somewhere, there, ticket_in}
+use Rattle.px_server.proofs.DeviceCalls.{made_by, rose_by}
 use Rattle.px_server.proofs.server.Server.write.Goals as goal
 
 pub returns-in-Some-clause-refused : goal.returns-in-Some-clause-refused
@@ -30,7 +31,7 @@ returns-in-Some-clause-refused g c =
     let b = g.B.Based.base in
     let told = c.self.invariant.0.told in
     let t = c.args.t.now in
-    let v : Shown = shown_of s.seat s.trail.entries s.late s.closed s.groups.items s.lookback s.raising in
+    let v : Shown = shown_of s.seat s.trail.entries s.late s.closed s.groups.items s.lookback s.raising (g.D.Disk.calls s.disk) (g.D.Disk.faults s.disk) in
     subst (λ (w : Shown). Refuses (rows_cause t.table.0 t.stamp) (known_by b g.B.Based.damaged w) (known_by b g.B.Based.damaged w) (Closed c.in-Some.call)) c.self.view_is
     (closed_by (known_by b g.B.Based.damaged v) told.legal s.closed told.closing c.in-Some.call c.in-Some.is)
 
@@ -39,7 +40,7 @@ unreachable-requires g c =
     let s = c.self.inside in
     let b = g.B.Based.base in
     let t = c.args.t.now in
-    let v : Shown = shown_of s.seat s.trail.entries s.late s.closed s.groups.items s.lookback s.raising in
+    let v : Shown = shown_of s.seat s.trail.entries s.late s.closed s.groups.items s.lookback s.raising (g.D.Disk.calls s.disk) (g.D.Disk.faults s.disk) in
     let mine : IsBatchIn s.trail.entries s.seat t.table.0 t.stamp InWriting = ticket_in b g.B.Based.damaged t InWriting v c.args.self.now c.self.view_is c.requires in
     stands_somewhere g.D.Disk b g.B.Founded.sound g.B.Founded.premise g.B.Founded.began s.disk s.catalog s.standing s.groups.items s.trail s.late s.closed c.self.invariant.0 t s.seat Writing mine (in_writing mine.batch mine.phase).0 c.in_default-numbered_place.ensures.none
 
@@ -48,7 +49,7 @@ unreachable-requires-in_default-batch_place g c =
     let s = c.self.inside in
     let b = g.B.Based.base in
     let t = c.args.t.now in
-    let v : Shown = shown_of s.seat s.trail.entries s.late s.closed s.groups.items s.lookback s.raising in
+    let v : Shown = shown_of s.seat s.trail.entries s.late s.closed s.groups.items s.lookback s.raising (g.D.Disk.calls s.disk) (g.D.Disk.faults s.disk) in
     let mine : IsBatchIn s.trail.entries s.seat t.table.0 t.stamp InWriting = ticket_in b g.B.Based.damaged t InWriting v c.args.self.now c.self.view_is c.requires in
     batch_somewhere g.D.Disk b g.B.Founded.sound g.B.Founded.premise g.B.Founded.began s.disk s.catalog s.standing s.groups.items s.trail s.late s.closed c.self.invariant.0 t s.seat Writing mine (in_writing mine.batch mine.phase).0
     c.in_default.is c.in-Some-numbered_place.place c.in-Some-numbered_place.ensures.found c.in-Some-numbered_place.ensures.numbered c.index.result.now c.index.ensures c.in_default-batch_place.ensures.none
@@ -59,7 +60,7 @@ returns-in-Some-blocker-clause-refused g c =
     let b = g.B.Based.base in
     let told = c.self.invariant.0.told in
     let t = c.args.t.now in
-    let v : Shown = shown_of s.seat s.trail.entries s.late s.closed s.groups.items s.lookback s.raising in
+    let v : Shown = shown_of s.seat s.trail.entries s.late s.closed s.groups.items s.lookback s.raising (g.D.Disk.calls s.disk) (g.D.Disk.faults s.disk) in
     let mine : IsBatchIn s.trail.entries s.seat t.table.0 t.stamp InWriting = ticket_in b g.B.Based.damaged t InWriting v c.args.self.now c.self.view_is c.requires in
     let place = c.in-Some-numbered_place.place in
     let m = c.in-Some-batch_place.batch in
@@ -80,7 +81,7 @@ write-outcome-requires-clause-writing g c =
     let b = g.B.Based.base in
     let told = c.self.invariant.0.told in
     let t = c.args.t.now in
-    let v : Shown = shown_of s.seat s.trail.entries s.late s.closed s.groups.items s.lookback s.raising in
+    let v : Shown = shown_of s.seat s.trail.entries s.late s.closed s.groups.items s.lookback s.raising (g.D.Disk.calls s.disk) (g.D.Disk.faults s.disk) in
     let mine : IsBatchIn s.trail.entries s.seat t.table.0 t.stamp InWriting = ticket_in b g.B.Based.damaged t InWriting v c.args.self.now c.self.view_is c.requires in
     let place = c.in-Some-numbered_place.place in
     let m = c.in-Some-batch_place.batch in
@@ -103,7 +104,7 @@ invariant_of-self g c =
     let b = g.B.Based.base in
     let told = c.self.invariant.0.told in
     let t = c.args.t.now in
-    let v : Shown = shown_of s.seat s.trail.entries s.late s.closed s.groups.items s.lookback s.raising in
+    let v : Shown = shown_of s.seat s.trail.entries s.late s.closed s.groups.items s.lookback s.raising (g.D.Disk.calls s.disk) (g.D.Disk.faults s.disk) in
     let mine : IsBatchIn s.trail.entries s.seat t.table.0 t.stamp InWriting = ticket_in b g.B.Based.damaged t InWriting v c.args.self.now c.self.view_is c.requires in
     let place = c.in-Some-numbered_place.place in
     let m = c.in-Some-batch_place.batch in
@@ -129,7 +130,7 @@ invariant_of-self-in-Err g c =
     let b = g.B.Based.base in
     let told = c.self.invariant.0.told in
     let t = c.args.t.now in
-    let v : Shown = shown_of s.seat s.trail.entries s.late s.closed s.groups.items s.lookback s.raising in
+    let v : Shown = shown_of s.seat s.trail.entries s.late s.closed s.groups.items s.lookback s.raising (g.D.Disk.calls s.disk) (g.D.Disk.faults s.disk) in
     let mine : IsBatchIn s.trail.entries s.seat t.table.0 t.stamp InWriting = ticket_in b g.B.Based.damaged t InWriting v c.args.self.now c.self.view_is c.requires in
     let place = c.in-Some-numbered_place.place in
     let m = c.in-Some-batch_place.batch in
@@ -157,7 +158,7 @@ returns-in-Ok-clause-ok g c =
     let b = g.B.Based.base in
     let told = c.self.invariant.0.told in
     let t = c.args.t.now in
-    let v : Shown = shown_of s.seat s.trail.entries s.late s.closed s.groups.items s.lookback s.raising in
+    let v : Shown = shown_of s.seat s.trail.entries s.late s.closed s.groups.items s.lookback s.raising (g.D.Disk.calls s.disk) (g.D.Disk.faults s.disk) in
     let mine : IsBatchIn s.trail.entries s.seat t.table.0 t.stamp InWriting = ticket_in b g.B.Based.damaged t InWriting v c.args.self.now c.self.view_is c.requires in
     let place = c.in-Some-numbered_place.place in
     let m = c.in-Some-batch_place.batch in
@@ -185,7 +186,7 @@ returns-in-Err-clause-refused g c =
     let b = g.B.Based.base in
     let told = c.self.invariant.0.told in
     let t = c.args.t.now in
-    let v : Shown = shown_of s.seat s.trail.entries s.late s.closed s.groups.items s.lookback s.raising in
+    let v : Shown = shown_of s.seat s.trail.entries s.late s.closed s.groups.items s.lookback s.raising (g.D.Disk.calls s.disk) (g.D.Disk.faults s.disk) in
     let v' : Shown = record v { entries = c.shut.new.trail.entries; late = c.keep.new.late; closed = Some c.call_count-calls.result } in
     subst (λ (w : Shown). Refuses (rows_cause t.table.0 t.stamp) (known_by b g.B.Based.damaged w) (known_by b g.B.Based.damaged v') WriteFault) c.self.view_is
     (write_failed (known_by b g.B.Based.damaged v) told.legal t c.shut.new.trail.entries c.call_count-calls.result c.call_count-calls.result c.shut.ensures.entries (invariant_of-self-in-Err g c).0.told.legal)
@@ -204,7 +205,7 @@ returns-in-Ok-clause-fewer g c =
     let s = c.self.inside in
     let b = g.B.Based.base in
     let t = c.args.t.now in
-    let v : Shown = shown_of s.seat s.trail.entries s.late s.closed s.groups.items s.lookback s.raising in
+    let v : Shown = shown_of s.seat s.trail.entries s.late s.closed s.groups.items s.lookback s.raising (g.D.Disk.calls s.disk) (g.D.Disk.faults s.disk) in
     let mine : IsBatchIn s.trail.entries s.seat t.table.0 t.stamp InWriting = ticket_in b g.B.Based.damaged t InWriting v c.args.self.now c.self.view_is c.requires in
     let place = c.in-Some-numbered_place.place in
     let m = c.in-Some-batch_place.batch in
@@ -219,3 +220,14 @@ returns-in-Ok-clause-fewer g c =
     subst (λ (w : Shown). calls_left (slice_set s.groups.items place c.write-outcome.new.group) t < calls_left w.groups t) c.self.view_is
     (fewer s.groups.items place y c.write-outcome.new.group inside (sym c.index_mut-group.ensures.value) t
     (write_less g.D.Disk m t.table.0 t.stamp y c.write-outcome.new.group s.disk c.write-outcome.new.disk c.in-Ok.ensures.written stamp (ap (λ (x : TableId). x.0) own)))
+
+-- ---- the calls of the disk
+
+pub returns-in-Ok-clause-counts : goal.returns-in-Ok-clause-counts
+returns-in-Ok-clause-counts g c = made_by g.D.Disk c.self.inside.disk c.write-outcome.new.disk (c.in-Ok.ensures.written.hands.writes.counts) (omega arith) c.self.view_is refl refl refl refl
+
+pub returns-in-Err-clause-counts : goal.returns-in-Err-clause-counts
+returns-in-Err-clause-counts g c = made_by g.D.Disk c.self.inside.disk c.write-outcome.new.disk (c.in-Err.ensures.hands.writes.counts) (omega arith) c.self.view_is refl refl refl refl
+
+pub returns-in-Err-clause-blames : goal.returns-in-Err-clause-blames
+returns-in-Err-clause-blames g c = rose_by g.D.Disk c.self.inside.disk c.write-outcome.new.disk (c.in-Err.ensures.failed refl) c.self.view_is refl
