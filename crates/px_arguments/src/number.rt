@@ -3,9 +3,7 @@ ghost use Rattle.std.specs.Prelude.{◌≡◌};
 ghost use Rattle.px_arguments.specs.Arguments as spec;
 
 use px_load::MOST_ROWS;
-
-/// The greatest lookback, which is the greatest stamp.
-const MOST_LOOKBACK: u64 = 9_223_372_036_854_775_807;
+use px_values::Limit;
 
 /// The number that decimal digits alone spell, where it isn't above the greatest of 64 bits.
 pub(crate) fn number_named(word: &str) -> Option<u64>
@@ -32,12 +30,12 @@ pub(crate) fn rows_named(word: &str) -> Option<u64>
     }
 }
 
-/// How long versions are kept.
+/// How long versions are kept, which is at most the greatest stamp.
 pub(crate) fn lookback_named(word: &str) -> Option<u64>
     ensures { result ≡ spec.lookback_named word.now }
 {
     let lookback = number_named(word)?;
-    if lookback <= MOST_LOOKBACK {
+    if lookback <= Limit::Stamps.most() {
         Some(lookback)
     } else {
         None

@@ -10,8 +10,9 @@ use crate::pieces::Pieces;
 use crate::placing::{place_for, stands_at};
 use px_cells::Cell;
 
-/// Whether a cell stays: it is above the horizon, or one of those that are kept has its place.
-fn is_left(kept: &[Cell], cell: &Cell, horizon: u64) -> bool
+/// Whether a cell stays where cells go at or below a horizon, a stamp: it is above it, or one of those that are kept, which are
+/// sorted, has its place.
+pub fn is_left(kept: &[Cell], cell: &Cell, horizon: u64) -> bool
     requires { IsAscending kept.now }
     ensures { result ≡ cell_stays kept.now horizon cell.now }
 {

@@ -21,6 +21,6 @@ mod turns;
 pub use desks::Told;
 pub use gate::{Gate, NoGate};
 pub use one::in_turns;
-pub use rounds::{Rounds, run_rounds};
+pub use rounds::{Rounds, run_rounds, write_round};
 pub use threads::in_threads;
 pub use turns::run_turns;

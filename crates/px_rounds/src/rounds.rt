@@ -42,7 +42,7 @@ struct Way<S> {
 }
 
 /// Writes the replies of a round. Answers whether the sink failed, and whether no memory was found to print them.
-fn write_round<O: Sink>(alloc: Global, answers: &Transcripts, out: &mut O) -> (bool, bool)
+pub fn write_round<O: Sink>(alloc: Global, answers: &Transcripts, out: &mut O) -> (bool, bool)
     ensures { WritesRound ⟦<O as Sink>⟧ out.old out.new (printed answers.now) result.0 result.1 }
 {
     let mut line = Line::new(alloc);
